@@ -1,0 +1,5 @@
+//! What the bins ask of their allocator: a node asks once, and no other call asks at all.
+#![tactic(auto)]
+
+#[cfg(test)]
+mod tests;

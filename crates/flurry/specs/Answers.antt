@@ -1,0 +1,61 @@
+-- What is written for the lines of an input.
+use Rattle.std.specs.Prelude.{◌≡◌, ℕ, ◌+◌, ◌⊎◌, List, [], ◌∷◌, ◌++◌, length, codes, Option, None, Some, MatchOption}
+use Rattle.std.specs.Fmt.{decimal}
+use Rattle.std.specs.Ordering.{nat_cmp}
+use Rattle.flurry_bins.specs.FiniteMap.{value_at, with_pair, without}
+use Rattle.flurry.specs.declared.program.command.Command.{Command}
+use Rattle.flurry.specs.declared.program.command.Command.TheVariants.{Insert, Try, Get, Remove, Len, Bins}
+use Rattle.flurry.specs.Commands.{text_of, IsCommand, IsNoCommand}
+
+-- a finite map of numbers
+abbrev pub Numbers : Type 0
+Numbers = List (ℕ × ℕ)
+
+-- a value, or that there is none
+abbrev pub option_text : Option ℕ → List ℕ
+option_text None = codes "none"
+option_text (Some v) = codes "some " ++ decimal v
+
+-- that a key is present with the value c, so that v was not put
+abbrev pub present_text : ℕ → ℕ → List ℕ
+present_text v c = codes "Insert of \"" ++ (decimal v ++ (codes "\" failed as key was already present with value \"" ++ (decimal c ++ codes "\"")))
+
+-- that the line n is no command, with its line feed
+abbrev pub bad_line_text : ℕ → List ℕ
+bad_line_text n = codes "bad line " ++ (decimal n ++ 10 ∷ [])
+
+-- that a read failed, with its line feed
+abbrev pub input_failed_text : List ℕ
+input_failed_text = codes "input failed" ++ 10 ∷ []
+
+-- what an insertion at an absent key alone answers, and the map after it
+abbrev pub Tries : ℕ → ℕ → Numbers → List ℕ → Numbers → Type 0
+Tries k v map answer after =
+    MatchOption (value_at nat_cmp map k)
+    ((answer ≡ codes "new " ++ decimal v) × (after ≡ with_pair nat_cmp map k v))
+    (λ c. (answer ≡ present_text v c) × (after ≡ map))
+
+-- what the command may answer on the map, and the map after it. Want of memory may refuse an insertion, and the number of bins is
+-- left open
+abbrev pub Answers : Command → Numbers → List ℕ → Numbers → Type 0
+Answers (Insert k v) map answer after =
+    ((answer ≡ option_text (value_at nat_cmp map k)) × (after ≡ with_pair nat_cmp map k v)) ⊎ ((answer ≡ codes "refused") × (after ≡ map))
+Answers (Try k v) map answer after = Tries k v map answer after ⊎ ((answer ≡ codes "refused") × (after ≡ map))
+Answers (Get k) map answer after = (answer ≡ option_text (value_at nat_cmp map k)) × (after ≡ map)
+Answers (Remove k) map answer after = (answer ≡ option_text (value_at nat_cmp map k)) × (after ≡ without nat_cmp map k)
+Answers Len map answer after = (answer ≡ decimal (length map)) × (after ≡ map)
+Answers Bins map answer after = (n : ℕ) × (answer ≡ decimal n) × (after ≡ map)
+
+-- a read failed
+abbrev pub EndsByRead : List ℕ → ℕ → Type 0
+EndsByRead out status = (out ≡ input_failed_text) × (status ≡ 1)
+
+-- from this map on, and with lines numbered from n, so much is written for the lines, and the status is so:
+-- an answer to each line, up to the first that is no command or to a read that failed
+abbrev pub Writes : Numbers → ℕ → List (List ℕ) → List ℕ → ℕ → Type 0
+Writes map n [] out status = EndsByRead out status ⊎ ((out ≡ []) × (status ≡ 0))
+Writes map n (line ∷ lines) out status =
+    EndsByRead out status
+    ⊎ (IsNoCommand line × (out ≡ bad_line_text n) × (status ≡ 2))
+    ⊎ ((c : Command) × (answer : List ℕ) × (after : Numbers) × (rest : List ℕ)
+    × IsCommand c × (line ≡ text_of c) × Answers c map answer after × (out ≡ answer ++ 10 ∷ rest) × Writes after (n + 1) lines rest status)

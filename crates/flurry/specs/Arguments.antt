@@ -1,0 +1,20 @@
+-- The program's words.
+use Rattle.std.specs.Prelude.{◌≡◌, ℕ, List, [], ◌∷◌, ◌++◌, codes, map, Option}
+use Rattle.std.specs.Borrow.{Bor}
+use Rattle.std.specs.Io.KnownBytes.{Appends}
+
+-- the texts of a `&[&str]`
+abbrev pub texts : List (Bor (List ℕ)) → List (List ℕ)
+texts words = map (λ (word : Bor (List ℕ)). word.now) words
+
+-- they ask for the lines of one owned map
+abbrev pub IsSeq : List (Bor (List ℕ)) → Type 0
+IsSeq words = texts words ≡ codes "seq" ∷ []
+
+-- what the program can be asked for, with its line feed
+abbrev pub usage_text : List ℕ
+usage_text = codes "usage: flurry-run seq | world | threads N M" ++ 10 ∷ []
+
+-- the usage was written, with status 2
+abbrev pub TellsUsage : Option (List ℕ) → Option (List ℕ) → ℕ → Type 0
+TellsUsage held flushed status = Appends held flushed usage_text × (status ≡ 2)

@@ -1,0 +1,11 @@
+//! The program: its words, its lines, and the streams that it reads and writes.
+
+pub mod buffers;
+pub mod command;
+pub mod input;
+pub mod parse;
+pub mod run_words;
+pub mod seq_lines;
+pub mod streams;
+#[cfg(test)]
+mod tests;

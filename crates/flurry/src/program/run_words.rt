@@ -1,0 +1,43 @@
+//! The words of the program.
+ghost use Rattle.std.specs.Prelude.{◌≡◌, ◌≢◌};
+ghost use Rattle.flurry.specs.Arguments.{IsSeq, TellsUsage};
+ghost use Rattle.flurry.specs.Runs.{UnlessWriteFailed, RunsLines, FailsForCause};
+
+use crate::program::seq_lines::seq_lines;
+use crate::program::streams::{Sink, Source};
+use std::alloc::Global;
+
+/// Does what the words ask for, and answers the program's status.
+///
+/// `["seq"]` runs [`seq_lines`]. Other words write a line of usage, with status 2, or 1 where the write fails.
+pub fn run_words<R: Source, W: Sink>(
+    alloc: Global,
+    words: &[&str],
+    reader: &mut R,
+    writer: &mut W,
+) -> u8
+    ensures seq { IsSeq words.now → RunsLines (R.remaining reader.old) (W.contents writer.old) (W.flushed writer.new) (W.has_failed writer.new) result }
+    ensures cause { IsSeq words.now → FailsForCause (R.remaining reader.old) (R.has_failed reader.new) (W.has_failed writer.new) result }
+    ensures other { ¬ IsSeq words.now → UnlessWriteFailed (W.has_failed writer.new) result (TellsUsage (W.contents writer.old) (W.flushed writer.new) result) }
+{
+    match *words {
+        ["seq"] => seq_lines(alloc, reader, writer),
+        _ => tell_usage(writer),
+    }
+}
+
+// Says what the words may be.
+fn tell_usage<W: Sink>(writer: &mut W) -> u8
+    ensures { UnlessWriteFailed (W.has_failed writer.new) result (TellsUsage (W.contents writer.old) (W.flushed writer.new) result) }
+{
+    if writer
+        .write_line("usage: flurry-run seq | world | threads N M")
+        .is_err()
+    {
+        return 1;
+    }
+    match writer.flush() {
+        Ok(()) => 2,
+        Err(_) => 1,
+    }
+}

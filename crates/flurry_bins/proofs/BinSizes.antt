@@ -1,0 +1,27 @@
+-- The kind of a bin, and how many entries it has.
+use Rattle.std.proofs.Common.{◌≡◌, ℕ, ◌+◌, ◌≤◌, arith, Bool, true, false, ◌&&◌, ◌||◌, nat_le, inl, inr, List, length}
+use Rattle.std.proofs.lemmas.Bool.Decides.{leb_tells}
+use Rattle.std.specs.List.{filter}
+use Rattle.std.proofs.lemmas.List.Sums.{length-filter, count_by-le-length}
+use Rattle.flurry_bins.specs.Kind.{IsSized}
+
+-- one more entry, where a list of nine is made a tree first
+pub IsSized-grown : (tree : Bool) (n m : ℕ) → IsSized tree n → m ≡ n + 1 → IsSized (tree || nat_le 9 n) m
+IsSized-grown true n m h e = omega arith
+IsSized-grown false n m h e =
+    elim (leb_tells 9 n) [
+      | inl t ↦ rw t.0 (omega arith)
+      | inr f ↦ rw f.0 (omega arith)
+    ]
+
+-- no more entries, where a tree of six is a list
+pub IsSized-kept : (tree : Bool) (n m : ℕ) → IsSized tree n → m ≤ n → IsSized (tree && nat_le 7 m) m
+IsSized-kept true n m h le =
+    elim (leb_tells 7 m) [
+      | inl t ↦ rw t.0 (omega arith)
+      | inr f ↦ rw f.0 (omega arith)
+    ]
+IsSized-kept false n m h le = omega arith
+
+pub filter_no_longer : {X : Type 0} (p : X → Bool) (xs : List X) → length (filter p xs) ≤ length xs
+filter_no_longer p xs = omega (arith, length-filter p xs, count_by-le-length p xs)

@@ -1,0 +1,32 @@
+use Rattle.std.proofs.Common.{◌≡◌, ◌∷◌, ap, ◌∙◌, length, of_calls, arith}
+use Rattle.flurry_bins.specs.Chain.{chain, node_chain, entry_of}
+use Rattle.flurry_bins.specs.Keeping.{CalledAtEntry}
+use Rattle.flurry_bins.proofs.KeepingLaws.{KeepsOn-true, KeepsOn-false, CalledAtEntry-from}
+use Rattle.flurry_bins.proofs.bin.list.keeping.kept_of.Goals as goal
+
+pub loop-rest-preserved-then-keep : goal.loop-rest-preserved-then-keep
+loop-rest-preserved-then-keep g c =
+    let i = c.loop-rest.invariant in
+    let is : chain c.loop-rest.rest ≡ entry_of c.in-Some.node.value ∷ chain c.alone-node.result.1 = ap chain c.in-Some.is ∙ c.alone-node.ensures.behind in
+    let put : node_chain c.followed_by.result.value ≡ entry_of c.in-Some.node.value ∷ chain c.loop-rest.kept = c.followed_by.ensures ∙ ap (λ e. e ∷ chain c.loop-rest.kept) c.alone-node.ensures.entry in
+    let shown : c.entry-entry.result.now ≡ entry_of c.in-Some.node.value = c.entry-entry.ensures ∙ ap entry_of c.deref.ensures ∙ c.alone-node.ensures.entry in
+    let called = CalledAtEntry-from (goal.F-step g) _ _ _ _ _ _ _ _ shown c.as_ref.ensures c.as_ref-in-Some.ensures c.if-keep.true c.keep.ensures in
+    record {
+      callable = search of_calls;
+      kept = KeepsOn-true (CalledAtEntry (goal.F-step g)) is put i.kept called;
+      len = omega (arith, ap length put, i.len);
+      short = omega (arith, ap length is, i.short);
+    }
+
+pub loop-rest-preserved : goal.loop-rest-preserved
+loop-rest-preserved g c =
+    let i = c.loop-rest.invariant in
+    let is : chain c.loop-rest.rest ≡ entry_of c.in-Some.node.value ∷ chain c.alone-node.result.1 = ap chain c.in-Some.is ∙ c.alone-node.ensures.behind in
+    let shown : c.entry-entry.result.now ≡ entry_of c.in-Some.node.value = c.entry-entry.ensures ∙ ap entry_of c.deref.ensures ∙ c.alone-node.ensures.entry in
+    let called = CalledAtEntry-from (goal.F-step g) _ _ _ _ _ _ _ _ shown c.as_ref.ensures c.as_ref-in-Some.ensures c.if-keep.false c.keep.ensures in
+    record {
+      callable = search of_calls;
+      kept = KeepsOn-false (CalledAtEntry (goal.F-step g)) is i.kept called;
+      len = i.len;
+      short = omega (arith, ap length is, i.short);
+    }

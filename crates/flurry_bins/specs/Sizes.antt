@@ -1,0 +1,24 @@
+-- The sizes of tables.
+use Rattle.std.specs.Prelude.{◌≡◌, ℕ, ◌+◌, ◌-◌, ◌*◌, ◌/◌, ◌^◌, ◌<◌, ◌≤◌, ◌⊎◌, nat_le, length, if◌then◌else◌}
+use Rattle.std.specs.Int.Digits.{digits_of}
+
+-- a table of n bins is doubled once it has this many pairs
+abbrev pub threshold_of : ℕ → ℕ
+threshold_of n = n - n / 4
+
+-- the bins of a table for s pairs: 2^30 for s from 2^29 on, and else the least power of two above s + s / 2, which is 2 to the
+-- number of that number's binary digits
+unfoldable pub wanted_of : ℕ → ℕ
+wanted_of s = if nat_le (2 ^ 29) s then 2 ^ 30 else 2 ^ length (digits_of 2 (s + s / 2))
+
+-- a table of n bins is doubled on the way to room for w pairs below the threshold
+abbrev pub IsTooSmall : ℕ → ℕ → Type 0
+IsTooSmall n w = (threshold_of n < w) × (n < 2 ^ 30)
+
+-- m is n, doubled some times, and each doubling was one on the way to w
+abbrev pub IsOnTheWay : ℕ → ℕ → ℕ → Type 0
+IsOnTheWay n w m = (j : ℕ) × (m ≡ n * 2 ^ j) × ((i : ℕ) → i < j → IsTooSmall (n * 2 ^ i) w)
+
+-- m is the least of n, 2 * n, 4 * n and so on that is 2^30 or whose threshold is at least w
+abbrev pub IsGrown : ℕ → ℕ → ℕ → Type 0
+IsGrown n w m = IsOnTheWay n w m × ((w ≤ threshold_of m) ⊎ (2 ^ 30 ≤ m))

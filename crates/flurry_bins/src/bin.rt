@@ -1,0 +1,18 @@
+//! A bin: the entries of one place of a table, in strictly ascending order of hash and key.
+//!
+//! A bin is a [`ListBin`], a [`TreeBin`], or a [`Bin`], which is whichever of the two fits its size. All three meet the trait
+//! [`Ordered`], and their nodes are the same boxes, so a list turns into a tree and back without taking memory.
+pub mod choice;
+pub mod entry;
+pub mod list;
+pub mod node;
+pub mod ordered;
+pub(crate) mod removal;
+pub mod tree;
+
+pub use choice::{Bin, Shape};
+pub use entry::Entry;
+pub use list::ListBin;
+pub use node::Node;
+pub use ordered::Ordered;
+pub use tree::TreeBin;

@@ -1,0 +1,53 @@
+//! Keeping some of the entries of a bin.
+ghost use Rattle.std.specs.Prelude.{◌≡◌, ◌&&◌, nat_le, length};
+ghost use Rattle.flurry_bins.specs.Keeping.{Keeps, CalledAtEntry};
+ghost use Rattle.flurry_bins.specs.Kind.{kind_entries, kind_is_tree};
+
+use super::{Bin, Kind, kind_from};
+use crate::bin::list::ListBin;
+use crate::bin::ordered::Ordered;
+use std::alloc::Allocator;
+use std::mem;
+
+// Keeps the entries at which the function answers true; a tree that is left with fewer than seven nodes is a list then.
+fn kept_of<K: Ord + Drop, V: Drop, A: Allocator, F: FnMut(&K, &V) -> bool>(
+    kind: Kind<K, V, A>,
+    keep: &mut F,
+) -> Kind<K, V, A>
+    requires { F.IsAlwaysCallable keep.old }
+    ensures kept { Keeps (CalledAtEntry F.step) keep.old (kind_entries kind) (kind_entries result) keep.new }
+    ensures kind { kind_is_tree result ≡ (kind_is_tree kind && nat_le 7 (length (kind_entries result))) }
+    ensures callable { F.IsAlwaysCallable keep.new }
+{
+    match kind {
+        Kind::Few(mut list) => {
+            list.retain(keep);
+            Kind::Few(list)
+        }
+        Kind::Many(tree) => {
+            let mut list = tree.into_list();
+            list.retain(keep);
+            kind_from(list, 7)
+        }
+    }
+}
+
+impl<K: Ord + Drop, V: Drop, A: Allocator> Bin<K, V, A> {
+    ghost use Rattle.flurry_bins.specs.Bin.{entries_of_bin, is_tree};
+
+    #[tactic(auto, unfolding(crate::specs::Bin::entries_of_bin, crate::specs::Bin::is_tree))]
+    /// Calls a function once on the key and the value of each entry, in the order of the entries, and keeps the entries at which
+    /// it answers true.
+    ///
+    /// A list stays a list. A tree stays a tree if it keeps at least seven entries, and becomes a list else. As many calls as
+    /// there are entries; takes no memory.
+    pub fn retain<F: FnMut(&K, &V) -> bool>(&mut self, keep: &mut F)
+        requires { F.IsAlwaysCallable keep.old }
+        ensures kept { Keeps (CalledAtEntry F.step) keep.old (entries_of_bin self.old) (entries_of_bin self.new) keep.new }
+        ensures kind { is_tree self.new ≡ (is_tree self.old && nat_le 7 (length (entries_of_bin self.new))) }
+        ensures callable { F.IsAlwaysCallable keep.new }
+    {
+        let kind = mem::replace(&mut self.kind, Kind::Few(ListBin::new()));
+        self.kind = kept_of(kind, keep);
+    }
+}

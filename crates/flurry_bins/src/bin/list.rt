@@ -1,0 +1,291 @@
+//! A bin that is a list.
+ghost use Rattle.std.specs.Prelude.{◌≡◌, ◌^◌, ◌+◌, ◌<◌, ◌≤◌, ◌++◌, ◌∷◌, [], length, reverse, Option, Some, None, IsSome, IsNone};
+ghost use Rattle.std.specs.Option.{option_map, option_copied};
+ghost use Rattle.std.specs.Arc.{arc_value};
+ghost use Rattle.flurry_bins.specs.Entries.{IsAscending, IsAscending-prop, AllBefore, NotBefore, list_way, entry_at, first_past, lent_bound, placed, replaced};
+ghost use Rattle.flurry_bins.specs.Short.{list_way-short};
+ghost use Rattle.flurry_bins.specs.Chain.{chain, node_chain, entry_of};
+
+mod keeping;
+
+use super::entry::Entry;
+use super::node::Node;
+use super::ordered::Ordered;
+use std::alloc::{Allocator, Global};
+use std::cmp::Ordering;
+use std::mem;
+use std::sync::Arc;
+
+/// The entries of a bin as a chain of nodes. It suits a few entries: a look-up visits each node before its place.
+///
+/// A drop walks the chain, so a long one does not run out of stack.
+pub struct ListBin<K: Ord, V, A: Allocator = Global> {
+    pub(crate) head: Option<Box<Node<K, V, A>, A>>,
+    len: usize,
+    ghost ascending: { IsAscending K.cmp (chain head) } by { IsAscending-prop K.cmp (chain head) },
+    ghost counted: { len ≡ length (chain head) },
+    ghost short: { len ≤ 2 ^ 62 },
+}
+
+impl<K: Ord, V, A: Allocator> ListBin<K, V, A> {
+    ghost use Rattle.flurry_bins.specs.Bin.{entries_of_list};
+
+    /// A bin with no entry. Constant time.
+    pub fn new() -> Self
+        ensures { entries_of_list result ≡ [] }
+    {
+        ListBin { head: None, len: 0 }
+    }
+
+    pub(crate) fn from_chain(head: Option<Box<Node<K, V, A>, A>>, len: usize) -> Self
+        requires ascending { IsAscending K.cmp (chain head) }
+        requires counted { len ≡ length (chain head) }
+        requires short { len ≤ 2 ^ 62 }
+        ensures { chain result.head ≡ chain head }
+    {
+        ListBin { head, len }
+    }
+
+    pub(crate) fn into_chain(self) -> (Option<Box<Node<K, V, A>, A>>, usize)
+        ensures head { chain result.0 ≡ chain self.head }
+        ensures len { result.1 ≡ length (chain self.head) }
+        ensures short { result.1 ≤ 2 ^ 62 }
+        ensures ascending { IsAscending K.cmp (chain self.head) }
+    {
+        let ListBin { head, len } = self;
+        (head, len)
+    }
+}
+
+// The node in front of a chain.
+pub(crate) fn followed_by<K: Drop, V: Drop, A: Allocator>(
+    mut node: Box<Node<K, V, A>, A>,
+    behind: Option<Box<Node<K, V, A>, A>>,
+) -> Box<Node<K, V, A>, A>
+    ensures { node_chain result.value ≡ entry_of node.value ∷ chain behind }
+{
+    node.right = behind;
+    node
+}
+
+// The first node of a chain, and those behind it.
+pub(crate) fn alone<K, V, A: Allocator>(
+    mut node: Box<Node<K, V, A>, A>,
+) -> (Box<Node<K, V, A>, A>, Option<Box<Node<K, V, A>, A>>)
+    ensures entry { entry_of result.0.value ≡ entry_of node.value }
+    ensures behind { node_chain node.value ≡ entry_of node.value ∷ chain result.1 }
+{
+    let behind = node.right.take();
+    (node, behind)
+}
+
+// The nodes before a place, turned round, and those from it on.
+fn cut<K: Ord, V, A: Allocator>(
+    head: Option<Box<Node<K, V, A>, A>>,
+    hash: u64,
+    key: &K,
+) -> (Option<Box<Node<K, V, A>, A>>, Option<Box<Node<K, V, A>, A>>)
+    ensures whole { reverse (chain result.0) ++ chain result.1 ≡ chain head }
+    ensures before { AllBefore K.cmp hash key.now (chain result.0) }
+    ensures stops { NotBefore K.cmp hash key.now (chain result.1) }
+{
+    let mut rest = head;
+    let mut front = None;
+    while let Some(mut node) = rest {
+        if node.entry.compare_place(hash, key) != Ordering::Greater {
+            return (front, Some(node));
+        }
+        rest = mem::replace(&mut node.right, front);
+        front = Some(node);
+    }
+    (front, None)
+}
+
+// The nodes of the first chain, turned round, and then those of the second.
+fn join<K, V, A: Allocator>(
+    front: Option<Box<Node<K, V, A>, A>>,
+    back: Option<Box<Node<K, V, A>, A>>,
+) -> Option<Box<Node<K, V, A>, A>>
+    ensures { chain result ≡ reverse (chain front) ++ chain back }
+{
+    let mut from = front;
+    let mut to = back;
+    while let Some(mut node) = from {
+        from = mem::replace(&mut node.right, to);
+        to = Some(node);
+    }
+    to
+}
+
+// The entry of a place in a chain, and how many nodes were visited.
+fn find_in<'a, K: Ord, V, A: Allocator>(
+    head: &'a Option<Box<Node<K, V, A>, A>>,
+    hash: u64,
+    key: &K,
+) -> (Option<&'a Entry<K, V, A>>, u64)
+    requires ascending { IsAscending K.cmp (chain head.now) }
+    requires short { length (chain head.now) ≤ 2 ^ 62 }
+    ensures found { option_copied result.0 ≡ entry_at K.cmp hash key.now (chain head.now) }
+    ensures visits { result.1 ≡ length (list_way K.cmp hash key.now (chain head.now)) }
+{
+    let mut visits = 0;
+    let mut link = head;
+    while let Some(node) = link {
+        let node = node.as_ref();
+        visits += 1;
+        match node.entry.compare_place(hash, key) {
+            Ordering::Less => return (None, visits),
+            Ordering::Equal => return (Some(&node.entry), visits),
+            Ordering::Greater => link = &node.right,
+        }
+    }
+    (None, visits)
+}
+
+// The first entry of a chain that is past a bound.
+fn next_in<'a, K: Ord, V, A: Allocator>(
+    head: &'a Option<Box<Node<K, V, A>, A>>,
+    bound: Option<(u64, &K)>,
+) -> Option<&'a Entry<K, V, A>>
+    ensures { option_copied result ≡ first_past K.cmp (lent_bound bound.entry) (chain head.now) }
+{
+    let mut link = head;
+    while let Some(node) = link {
+        let node = node.as_ref();
+        if node.entry.is_past(bound) {
+            return Some(&node.entry);
+        }
+        link = &node.right;
+    }
+    None
+}
+
+impl<K: Ord + Drop, V: Drop, A: Allocator> Drop for ListBin<K, V, A> {
+    // A long chain is walked, so that it does not run out of stack.
+    fn drop(self) {
+        let ListBin { head, len: _ } = self;
+        let mut rest = head;
+        while let Some(mut node) = rest {
+            rest = node.right.take();
+        }
+    }
+}
+
+impl<K: Ord + Drop, V: Drop, A: Allocator> Ordered<K, V, A> for ListBin<K, V, A> {
+    ghost use Rattle.flurry_bins.specs.Bin.{entries_of_list, ascending_of_list, short_of_list};
+
+    type Boxed = Box<Node<K, V, A>, A>;
+
+    type Shared = Arc<V, A>;
+
+    type List = ListBin<K, V, A>;
+
+    ghost entry_in = { λ b. entry_of b.value };
+
+    ghost shared = { λ v. v };
+
+    ghost listed = { λ b. entries_of_list b };
+
+    ghost entries = { λ b. entries_of_list b };
+
+    ghost way = { λ b h k. list_way K.cmp h k (entries_of_list b) };
+
+    ghost most_met = { λ n. n };
+
+    ghost ascending = { λ b. ascending_of_list b };
+
+    ghost short = { λ b. short_of_list b };
+
+    ghost met_bounded = { λ b h k. list_way-short K.cmp h k (entries_of_list b) };
+
+    fn len(&self) -> usize {
+        self.len
+    }
+
+    fn find(&self, hash: u64, key: &K) -> (Option<&Entry<K, V, A>>, u64) {
+        find_in(&self.head, hash, key)
+    }
+
+    fn next_after(&self, bound: Option<(u64, &K)>) -> Option<&Entry<K, V, A>> {
+        next_in(&self.head, bound)
+    }
+
+    fn replace(&mut self, hash: u64, key: &K, value: Arc<V, A>, number: u64) -> Arc<V, A>
+        requires { IsSome (entry_at K.cmp hash key.now (entries_of_list self.old)) }
+        ensures old { option_map (λ e. e.value) (entry_at K.cmp hash key.now (entries_of_list self.old)) ≡ Some result }
+        ensures after { entries_of_list self.new ≡ replaced K.cmp hash key.now value number (entries_of_list self.old) }
+    {
+        let (front, rest) = cut(self.head.take(), hash, key);
+        let Some(mut node) = rest else { unreachable!() };
+        let old = node.write(value, number);
+        self.head = join(front, Some(node));
+        old
+    }
+
+    fn put_node(&mut self, node: Box<Node<K, V, A>, A>)
+        requires absent { let e = entry_of node.value in
+            IsNone (entry_at K.cmp e.hash (arc_value e.key) (entries_of_list self.old)) }
+        requires room { length (entries_of_list self.old) < 2 ^ 62 }
+        ensures { entries_of_list self.new ≡ placed K.cmp (entry_of node.value) (entries_of_list self.old) }
+    {
+        let entry = node.entry();
+        let (front, rest) = cut(self.head.take(), entry.hash, entry.key.as_ref());
+        self.head = join(front, Some(followed_by(node, rest)));
+        self.len += 1;
+    }
+
+    fn remove(&mut self, hash: u64, key: &K) -> Option<Box<Node<K, V, A>, A>> {
+        let (front, rest) = cut(self.head.take(), hash, key);
+        let Some(node) = rest else {
+            self.head = join(front, None);
+            return None;
+        };
+        if !node.entry.is_at(hash, key) {
+            self.head = join(front, Some(node));
+            return None;
+        }
+        let (node, behind) = alone(node);
+        self.head = join(front, behind);
+        self.len -= 1;
+        Some(node)
+    }
+
+    fn split(self, bit: u8) -> (Self, Self) {
+        let ListBin { head, len: _ } = self;
+        let mut rest = head;
+        let mut low = None;
+        let mut high = None;
+        let mut low_len = 0;
+        let mut high_len = 0;
+        while let Some(mut node) = rest {
+            if (node.entry.hash >> bit) & 1 == 0 {
+                rest = mem::replace(&mut node.right, low);
+                low = Some(node);
+                low_len += 1;
+            } else {
+                rest = mem::replace(&mut node.right, high);
+                high = Some(node);
+                high_len += 1;
+            }
+        }
+        let low = ListBin {
+            head: join(low, None),
+            len: low_len,
+        };
+        let high = ListBin {
+            head: join(high, None),
+            len: high_len,
+        };
+        (low, high)
+    }
+
+    fn into_list(self) -> ListBin<K, V, A> {
+        self
+    }
+
+    fn from_list(list: ListBin<K, V, A>) -> Self
+        ensures { entries_of_list result ≡ entries_of_list list }
+    {
+        list
+    }
+}

@@ -1,0 +1,68 @@
+//! A boxed entry, with room for two links and a colour, so that the same node serves in a list and in a tree.
+ghost use Rattle.std.specs.Prelude.{◌≡◌, IfOk};
+ghost use Rattle.flurry_bins.specs.Chain.{entry_of, with_entry};
+ghost use Rattle.flurry_bins.specs.Entries.{with_value};
+
+use super::entry::Entry;
+use std::alloc::{AllocError, Allocator, Global};
+use std::mem;
+use std::sync::Arc;
+
+/// The colour of a node in a red-black tree.
+#[derive(Clone, Copy, Debug, PartialEq, Eq)]
+pub enum Colour {
+    /// No child of it is red.
+    Red,
+    /// It counts for the height of the tree.
+    Black,
+}
+
+/// An entry in a box of its own, linked into at most one bin.
+#[derive(Drop)]
+pub struct Node<K, V, A: Allocator = Global> {
+    pub(crate) entry: Entry<K, V, A>,
+    pub(crate) left: Option<Box<Node<K, V, A>, A>>,
+    pub(crate) right: Option<Box<Node<K, V, A>, A>>,
+    pub(crate) colour: Colour,
+}
+
+impl<K: Drop, V: Drop, A: Allocator> Node<K, V, A> {
+    /// A node that is in no bin yet. Constant time; takes memory for one node, and an error says that there was none.
+    pub fn new(alloc: A, entry: Entry<K, V, A>) -> Result<Box<Node<K, V, A>, A>, AllocError>
+        ensures { IfOk result (λ b. entry_of b.value ≡ entry) }
+    {
+        Ok(Box::new(
+            alloc,
+            Node {
+                entry,
+                left: None,
+                right: None,
+                colour: Colour::Red,
+            },
+        )?)
+    }
+
+    /// The entry. Constant time.
+    pub fn entry(&self) -> &Entry<K, V, A>
+        ensures { result.now ≡ entry_of self.now }
+    {
+        &self.entry
+    }
+
+    // Writes another value, and hands out the old one.
+    pub(crate) fn write(&mut self, value: Arc<V, A>, number: u64) -> Arc<V, A>
+        ensures old { result ≡ (entry_of self.old).value }
+        ensures after { self.new ≡ with_entry self.old (with_value (entry_of self.old) value number) }
+    {
+        let entry = &mut self.entry;
+        entry.number = number;
+        mem::replace(&mut entry.value, value)
+    }
+
+    /// The entry, out of its node. Constant time.
+    pub fn into_entry(self) -> Entry<K, V, A>
+        ensures { result ≡ entry_of self }
+    {
+        self.entry
+    }
+}

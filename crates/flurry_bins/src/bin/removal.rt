@@ -1,0 +1,230 @@
+//! Removal from a red-black tree.
+ghost use Rattle.std.specs.Prelude.{◌≡◌, Option};
+ghost use Rattle.std.specs.Option.{option_map};
+ghost use Rattle.flurry_bins.specs.Chain.{entry_of};
+ghost use Rattle.flurry_bins.specs.Tree.{shape, node_shape};
+ghost use Rattle.flurry_bins.specs.Removal.{short_left, fix_left, short_right, fix_right, settled_left, settled_right, IsOutOf, joined, removed, tree_entry};
+
+use super::node::{Colour, Node};
+use super::tree::{apart, blacken, fork, has_red_root};
+use std::alloc::Allocator;
+use std::cmp::Ordering;
+
+// A node with a short left side, and right of it a black node with these sides.
+fn with_short_left<K: Drop, V: Drop, A: Allocator>(
+    colour: Colour,
+    left: Option<Box<Node<K, V, A>, A>>,
+    node: Box<Node<K, V, A>, A>,
+    near: Option<Box<Node<K, V, A>, A>>,
+    other: Box<Node<K, V, A>, A>,
+    far: Option<Box<Node<K, V, A>, A>>,
+) -> (Box<Node<K, V, A>, A>, bool)
+    ensures { (node_shape result.0.value, result.1)
+        ≡ short_left colour (shape left) (entry_of node.value) (shape near) (entry_of other.value) (shape far) }
+{
+    if has_red_root(&far) {
+        let node = fork(Colour::Black, left, node, near);
+        return (fork(colour, Some(node), other, blacken(far)), false);
+    }
+    if has_red_root(&near) {
+        let Some(near) = near else { unreachable!() };
+        let (a, near, b) = apart(near);
+        let node = fork(Colour::Black, left, node, a);
+        let other = fork(Colour::Black, b, other, far);
+        return (fork(colour, Some(node), near, Some(other)), false);
+    }
+    let other = fork(Colour::Red, near, other, far);
+    (
+        fork(Colour::Black, left, node, Some(other)),
+        colour == Colour::Black,
+    )
+}
+
+// A node with a short left side, and whether it is short itself.
+fn fixed_left<K: Drop, V: Drop, A: Allocator>(
+    colour: Colour,
+    left: Option<Box<Node<K, V, A>, A>>,
+    node: Box<Node<K, V, A>, A>,
+    right: Option<Box<Node<K, V, A>, A>>,
+) -> (Box<Node<K, V, A>, A>, bool)
+    ensures { (node_shape result.0.value, result.1) ≡ fix_left colour (shape left) (entry_of node.value) (shape right) }
+{
+    let Some(right) = right else {
+        return (fork(colour, left, node, None), false);
+    };
+    let right_colour = right.colour;
+    let (near, right, far) = apart(right);
+    if right_colour == Colour::Black {
+        return with_short_left(colour, left, node, near, right, far);
+    }
+    let Some(near) = near else {
+        let right = fork(Colour::Red, None, right, far);
+        return (fork(colour, left, node, Some(right)), false);
+    };
+    let (a, near, b) = apart(near);
+    let (low, _) = with_short_left(Colour::Red, left, node, a, near, b);
+    (fork(Colour::Black, Some(low), right, far), false)
+}
+
+// A node with a short right side, and left of it a black node with these sides.
+fn with_short_right<K: Drop, V: Drop, A: Allocator>(
+    colour: Colour,
+    far: Option<Box<Node<K, V, A>, A>>,
+    other: Box<Node<K, V, A>, A>,
+    near: Option<Box<Node<K, V, A>, A>>,
+    node: Box<Node<K, V, A>, A>,
+    right: Option<Box<Node<K, V, A>, A>>,
+) -> (Box<Node<K, V, A>, A>, bool)
+    ensures { (node_shape result.0.value, result.1)
+        ≡ short_right colour (shape far) (entry_of other.value) (shape near) (entry_of node.value) (shape right) }
+{
+    if has_red_root(&far) {
+        let node = fork(Colour::Black, near, node, right);
+        return (fork(colour, blacken(far), other, Some(node)), false);
+    }
+    if has_red_root(&near) {
+        let Some(near) = near else { unreachable!() };
+        let (a, near, b) = apart(near);
+        let node = fork(Colour::Black, b, node, right);
+        let other = fork(Colour::Black, far, other, a);
+        return (fork(colour, Some(other), near, Some(node)), false);
+    }
+    let other = fork(Colour::Red, far, other, near);
+    (
+        fork(Colour::Black, Some(other), node, right),
+        colour == Colour::Black,
+    )
+}
+
+// A node with a short right side, and whether it is short itself.
+fn fixed_right<K: Drop, V: Drop, A: Allocator>(
+    colour: Colour,
+    left: Option<Box<Node<K, V, A>, A>>,
+    node: Box<Node<K, V, A>, A>,
+    right: Option<Box<Node<K, V, A>, A>>,
+) -> (Box<Node<K, V, A>, A>, bool)
+    ensures { (node_shape result.0.value, result.1) ≡ fix_right colour (shape left) (entry_of node.value) (shape right) }
+{
+    let Some(left) = left else {
+        return (fork(colour, None, node, right), false);
+    };
+    let left_colour = left.colour;
+    let (far, left, near) = apart(left);
+    if left_colour == Colour::Black {
+        return with_short_right(colour, far, left, near, node, right);
+    }
+    let Some(near) = near else {
+        let left = fork(Colour::Red, far, left, None);
+        return (fork(colour, Some(left), node, right), false);
+    };
+    let (a, near, b) = apart(near);
+    let (low, _) = with_short_right(Colour::Red, a, near, b, node, right);
+    (fork(Colour::Black, far, left, Some(low)), false)
+}
+
+// A node with these sides, of which the left one may be short, and whether it is short itself.
+fn settle_left<K: Drop, V: Drop, A: Allocator>(
+    short: bool,
+    colour: Colour,
+    left: Option<Box<Node<K, V, A>, A>>,
+    node: Box<Node<K, V, A>, A>,
+    right: Option<Box<Node<K, V, A>, A>>,
+) -> (Box<Node<K, V, A>, A>, bool)
+    ensures { (node_shape result.0.value, result.1)
+        ≡ settled_left short colour (shape left) (entry_of node.value) (shape right) }
+{
+    if short {
+        fixed_left(colour, left, node, right)
+    } else {
+        (fork(colour, left, node, right), false)
+    }
+}
+
+// The same, where the right one may be short.
+fn settle_right<K: Drop, V: Drop, A: Allocator>(
+    short: bool,
+    colour: Colour,
+    left: Option<Box<Node<K, V, A>, A>>,
+    node: Box<Node<K, V, A>, A>,
+    right: Option<Box<Node<K, V, A>, A>>,
+) -> (Box<Node<K, V, A>, A>, bool)
+    ensures { (node_shape result.0.value, result.1)
+        ≡ settled_right short colour (shape left) (entry_of node.value) (shape right) }
+{
+    if short {
+        fixed_right(colour, left, node, right)
+    } else {
+        (fork(colour, left, node, right), false)
+    }
+}
+
+// A tree without its first node, that node, and whether the tree is short.
+fn take_least<K: Drop, V: Drop, A: Allocator>(
+    root: Box<Node<K, V, A>, A>,
+) -> (Option<Box<Node<K, V, A>, A>>, Box<Node<K, V, A>, A>, bool)
+    ensures { IsOutOf (node_shape root.value)
+        (record { rest = shape result.0; least = entry_of result.1.value; short = result.2 }) }
+{
+    let colour = root.colour;
+    let (left, root, right) = apart(root);
+    let Some(left) = left else {
+        let short = colour == Colour::Black && !has_red_root(&right);
+        return (blacken(right), root, short);
+    };
+    let (left, least, short) = take_least(left);
+    let (rest, short) = settle_left(short, colour, left, root, right);
+    (Some(rest), least, short)
+}
+
+// What stood left and right of a node, as one tree, and whether it is short.
+fn join_sides<K: Drop, V: Drop, A: Allocator>(
+    colour: Colour,
+    left: Option<Box<Node<K, V, A>, A>>,
+    right: Option<Box<Node<K, V, A>, A>>,
+) -> (Option<Box<Node<K, V, A>, A>>, bool)
+    ensures { (shape result.0, result.1) ≡ joined colour (shape left) (shape right) }
+{
+    let Some(right) = right else {
+        let short = colour == Colour::Black && !has_red_root(&left);
+        return (blacken(left), short);
+    };
+    let (right, least, short) = take_least(right);
+    let (root, short) = settle_right(short, colour, left, least, right);
+    (Some(root), short)
+}
+
+// A tree without what stands at a place, the node from there, and whether the tree is short.
+pub(crate) fn remove_in<K: Ord + Drop, V: Drop, A: Allocator>(
+    root: Option<Box<Node<K, V, A>, A>>,
+    hash: u64,
+    key: &K,
+) -> (
+    Option<Box<Node<K, V, A>, A>>,
+    Option<Box<Node<K, V, A>, A>>,
+    bool,
+)
+    ensures tree { (shape result.0, result.2) ≡ removed K.cmp hash key.now (shape root) }
+    ensures node { option_map (λ b. entry_of b.value) result.1 ≡ tree_entry K.cmp hash key.now (shape root) }
+{
+    let Some(root) = root else {
+        return (None, None, false);
+    };
+    let colour = root.colour;
+    let (left, root, right) = apart(root);
+    match root.entry().compare_place(hash, key) {
+        Ordering::Less => {
+            let (left, node, short) = remove_in(left, hash, key);
+            let (root, short) = settle_left(short, colour, left, root, right);
+            (Some(root), node, short)
+        }
+        Ordering::Equal => {
+            let (rest, short) = join_sides(colour, left, right);
+            (rest, Some(root), short)
+        }
+        Ordering::Greater => {
+            let (right, node, short) = remove_in(right, hash, key);
+            let (root, short) = settle_right(short, colour, left, root, right);
+            (Some(root), node, short)
+        }
+    }
+}

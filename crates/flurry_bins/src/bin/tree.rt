@@ -1,0 +1,369 @@
+//! A bin that is a red-black tree.
+ghost use Rattle.std.specs.Prelude.{◌≡◌, ◌^◌, ◌*◌, ◌+◌, ◌<◌, ◌≤◌, ◌++◌, length, Option, Some, None, IsSome, IsNone};
+ghost use Rattle.std.specs.Option.{option_map, option_copied};
+ghost use Rattle.std.specs.Arc.{arc_value};
+ghost use Rattle.flurry_bins.specs.Entries.{IsAscending, IsAscending-prop, entry_at, first_past, lent_bound, placed, replaced};
+ghost use Rattle.flurry_bins.specs.Chain.{chain, entry_of, colour_of};
+ghost use Rattle.flurry_bins.specs.Balance.{red_root, blackened, leaned_left, leaned_right, put_tree};
+ghost use Rattle.flurry_bins.specs.Tree as tree;
+ghost use Rattle.flurry_bins.specs.Tree.{shape, node_shape, inorder, IsRedBlack, IsRedBlack-prop, black_height, tree_way};
+ghost use Rattle.flurry_bins.specs.WayBound.{way_bound, way_within};
+ghost use Rattle.flurry_bins.specs.Rewrite.{rewritten, tree_value};
+
+use super::entry::Entry;
+use super::list::{ListBin, alone, followed_by};
+use super::node::{Colour, Node};
+use super::ordered::Ordered;
+use super::removal::remove_in;
+use std::alloc::{Allocator, Global};
+use std::cmp::Ordering;
+use std::sync::Arc;
+
+/// The entries of a bin as a red-black tree. A look-up among `n` entries visits at most twice as many nodes as `n + 1` has
+/// binary digits.
+///
+/// Its calls recurse along the height alone.
+#[derive(Drop)]
+pub struct TreeBin<K: Ord, V, A: Allocator = Global> {
+    root: Option<Box<Node<K, V, A>, A>>,
+    len: usize,
+    ghost ascending: { IsAscending K.cmp (inorder (shape root)) } by { IsAscending-prop K.cmp (inorder (shape root)) },
+    ghost balanced: { IsRedBlack (shape root) } by { IsRedBlack-prop (shape root) },
+    ghost counted: { len ≡ length (inorder (shape root)) },
+    ghost short: { len ≤ 2 ^ 62 },
+}
+
+// The entry of a place in a tree, and how many nodes were visited.
+fn find_in<'a, K: Ord, V, A: Allocator>(
+    root: &'a Option<Box<Node<K, V, A>, A>>,
+    hash: u64,
+    key: &K,
+) -> (Option<&'a Entry<K, V, A>>, u64)
+    requires ascending { IsAscending K.cmp (inorder (shape root.now)) }
+    requires short { length (inorder (shape root.now)) ≤ 2 ^ 62 }
+    ensures found { option_copied result.0 ≡ entry_at K.cmp hash key.now (inorder (shape root.now)) }
+    ensures visits { result.1 ≡ length (tree_way K.cmp hash key.now (shape root.now)) }
+{
+    let mut visits = 0;
+    let mut link = root;
+    while let Some(node) = link {
+        let node = node.as_ref();
+        visits += 1;
+        match node.entry.compare_place(hash, key) {
+            Ordering::Less => link = &node.left,
+            Ordering::Equal => return (Some(&node.entry), visits),
+            Ordering::Greater => link = &node.right,
+        }
+    }
+    (None, visits)
+}
+
+// A node with these sides.
+pub(crate) fn fork<K: Drop, V: Drop, A: Allocator>(
+    colour: Colour,
+    left: Option<Box<Node<K, V, A>, A>>,
+    mut node: Box<Node<K, V, A>, A>,
+    right: Option<Box<Node<K, V, A>, A>>,
+) -> Box<Node<K, V, A>, A>
+    ensures { node_shape result.value ≡ tree.fork colour (shape left) (entry_of node.value) (shape right) }
+{
+    node.colour = colour;
+    node.left = left;
+    node.right = right;
+    node
+}
+
+// A node, and what was left and right of it.
+pub(crate) fn apart<K, V, A: Allocator>(
+    mut node: Box<Node<K, V, A>, A>,
+) -> (
+    Option<Box<Node<K, V, A>, A>>,
+    Box<Node<K, V, A>, A>,
+    Option<Box<Node<K, V, A>, A>>,
+)
+    ensures entry { entry_of result.1.value ≡ entry_of node.value }
+    ensures colour { colour_of result.1.value ≡ colour_of node.value }
+    ensures sides { node_shape node.value
+        ≡ tree.fork (colour_of node.value) (shape result.0) (entry_of node.value) (shape result.2) }
+{
+    let left = node.left.take();
+    let right = node.right.take();
+    (left, node, right)
+}
+
+pub(crate) fn has_red_root<K, V, A: Allocator>(link: &Option<Box<Node<K, V, A>, A>>) -> bool
+    ensures { result ≡ red_root (shape link.now) }
+{
+    match link {
+        None => false,
+        Some(node) => node.colour == Colour::Red,
+    }
+}
+
+// The same tree with a black root.
+pub(crate) fn blacken<K, V, A: Allocator>(
+    link: Option<Box<Node<K, V, A>, A>>,
+) -> Option<Box<Node<K, V, A>, A>>
+    ensures { shape result ≡ blackened (shape link) }
+{
+    match link {
+        None => None,
+        Some(mut node) => {
+            node.colour = Colour::Black;
+            Some(node)
+        }
+    }
+}
+
+// A node with a left side that may have a red root over a red child.
+fn lean_left<K: Drop, V: Drop, A: Allocator>(
+    left: Box<Node<K, V, A>, A>,
+    node: Box<Node<K, V, A>, A>,
+    right: Option<Box<Node<K, V, A>, A>>,
+) -> Box<Node<K, V, A>, A>
+    ensures { node_shape result.value
+        ≡ leaned_left (colour_of node.value) (node_shape left.value) (entry_of node.value) (shape right) }
+{
+    let colour = node.colour;
+    let left_colour = left.colour;
+    let (a, left, b) = apart(left);
+    if colour == Colour::Black && left_colour == Colour::Red {
+        if has_red_root(&a) {
+            let node = fork(Colour::Black, b, node, right);
+            return fork(Colour::Red, blacken(a), left, Some(node));
+        }
+        if has_red_root(&b) {
+            let Some(inner) = b else { unreachable!() };
+            let (b, inner, d) = apart(inner);
+            let left = fork(Colour::Black, a, left, b);
+            let node = fork(Colour::Black, d, node, right);
+            return fork(Colour::Red, Some(left), inner, Some(node));
+        }
+    }
+    let left = fork(left_colour, a, left, b);
+    fork(colour, Some(left), node, right)
+}
+
+// A node with a right side that may have a red root over a red child.
+fn lean_right<K: Drop, V: Drop, A: Allocator>(
+    left: Option<Box<Node<K, V, A>, A>>,
+    node: Box<Node<K, V, A>, A>,
+    right: Box<Node<K, V, A>, A>,
+) -> Box<Node<K, V, A>, A>
+    ensures { node_shape result.value
+        ≡ leaned_right (colour_of node.value) (shape left) (entry_of node.value) (node_shape right.value) }
+{
+    let colour = node.colour;
+    let right_colour = right.colour;
+    let (b, right, a) = apart(right);
+    if colour == Colour::Black && right_colour == Colour::Red {
+        if has_red_root(&a) {
+            let node = fork(Colour::Black, left, node, b);
+            return fork(Colour::Red, Some(node), right, blacken(a));
+        }
+        if has_red_root(&b) {
+            let Some(inner) = b else { unreachable!() };
+            let (d, inner, b) = apart(inner);
+            let node = fork(Colour::Black, left, node, d);
+            let right = fork(Colour::Black, b, right, a);
+            return fork(Colour::Red, Some(node), inner, Some(right));
+        }
+    }
+    let right = fork(right_colour, b, right, a);
+    fork(colour, left, node, Some(right))
+}
+
+// Puts a node into a tree. Where the root was red, the new one may be red over a red child.
+fn put_in<K: Ord + Drop, V: Drop, A: Allocator>(
+    root: Option<Box<Node<K, V, A>, A>>,
+    node: Box<Node<K, V, A>, A>,
+) -> Box<Node<K, V, A>, A>
+    ensures { node_shape result.value ≡ put_tree K.cmp (entry_of node.value) (shape root) }
+{
+    let Some(root) = root else {
+        return fork(Colour::Red, None, node, None);
+    };
+    let (left, root, right) = apart(root);
+    let entry = node.entry();
+    if root.entry().compare_place(entry.hash, entry.key.as_ref()) == Ordering::Less {
+        lean_left(put_in(left, node), root, right)
+    } else {
+        lean_right(left, root, put_in(right, node))
+    }
+}
+
+// Writes another value at a place, and hands out the old one.
+fn write_in<K: Ord + Drop, V: Drop, A: Allocator>(
+    root: &mut Option<Box<Node<K, V, A>, A>>,
+    hash: u64,
+    key: &K,
+    value: Arc<V, A>,
+    number: u64,
+) -> Option<Arc<V, A>>
+    ensures old { result ≡ tree_value K.cmp hash key.now (shape root.old) }
+    ensures after { shape root.new ≡ rewritten K.cmp hash key.now value number (shape root.old) }
+{
+    let Some(node) = root else { return None };
+    match node.entry.compare_place(hash, key) {
+        Ordering::Less => write_in(&mut node.left, hash, key, value, number),
+        Ordering::Equal => Some(node.write(value, number)),
+        Ordering::Greater => write_in(&mut node.right, hash, key, value, number),
+    }
+}
+
+// The first entry of a tree that is past a bound.
+fn next_in<'a, K: Ord, V, A: Allocator>(
+    root: &'a Option<Box<Node<K, V, A>, A>>,
+    bound: Option<(u64, &K)>,
+) -> Option<&'a Entry<K, V, A>>
+    requires { IsAscending K.cmp (inorder (shape root.now)) }
+    ensures { option_copied result ≡ first_past K.cmp (lent_bound bound.entry) (inorder (shape root.now)) }
+{
+    let mut link = root;
+    let mut best = None;
+    while let Some(node) = link {
+        let node = node.as_ref();
+        if node.entry.is_past(bound) {
+            best = Some(&node.entry);
+            link = &node.left;
+        } else {
+            link = &node.right;
+        }
+    }
+    best
+}
+
+// The nodes of a tree as a chain, in front of another chain.
+fn unfolded<K: Drop, V: Drop, A: Allocator>(
+    root: Option<Box<Node<K, V, A>, A>>,
+    behind: Option<Box<Node<K, V, A>, A>>,
+) -> Option<Box<Node<K, V, A>, A>>
+    ensures { chain result ≡ inorder (shape root) ++ chain behind }
+{
+    let Some(root) = root else {
+        return behind;
+    };
+    let (left, root, right) = apart(root);
+    let behind = unfolded(right, behind);
+    unfolded(left, Some(followed_by(root, behind)))
+}
+
+// A tree of so many nodes from the front of a chain, with so many black nodes on each way, and the rest of the chain.
+fn folded<K: Drop, V: Drop, A: Allocator>(
+    count: usize,
+    blacks: u32,
+    from: Option<Box<Node<K, V, A>, A>>,
+) -> (Option<Box<Node<K, V, A>, A>>, Option<Box<Node<K, V, A>, A>>)
+    requires enough { count ≤ length (chain from) }
+    requires low { 2 ^ blacks ≤ count + 1 }
+    requires high { count + 1 ≤ 2 * 2 ^ blacks }
+    requires fits { count < 2 ^ 63 }
+    ensures whole { inorder (shape result.0) ++ chain result.1 ≡ chain from }
+    ensures counted { length (inorder (shape result.0)) ≡ count }
+    ensures balanced { IsRedBlack (shape result.0) }
+    ensures blacks { black_height (shape result.0) ≡ blacks }
+{
+    if count == 0 {
+        return (None, from);
+    }
+    let before = count / 2;
+    if blacks == 0 {
+        let Some(node) = from else { unreachable!() };
+        let (node, from) = alone(node);
+        return (Some(fork(Colour::Red, None, node, None)), from);
+    }
+    let (left, from) = folded(before, blacks - 1, from);
+    let Some(node) = from else { unreachable!() };
+    let (node, from) = alone(node);
+    let (right, from) = folded(count - 1 - before, blacks - 1, from);
+    (Some(fork(Colour::Black, left, node, right)), from)
+}
+
+impl<K: Ord + Drop, V: Drop, A: Allocator> Ordered<K, V, A> for TreeBin<K, V, A> {
+    ghost use Rattle.flurry_bins.specs.Bin.{entries_of_list, entries_of_tree, ascending_of_tree, short_of_tree};
+
+    type Boxed = Box<Node<K, V, A>, A>;
+
+    type Shared = Arc<V, A>;
+
+    type List = ListBin<K, V, A>;
+
+    ghost entry_in = { λ b. entry_of b.value };
+
+    ghost shared = { λ v. v };
+
+    ghost listed = { λ b. entries_of_list b };
+
+    ghost entries = { λ b. entries_of_tree b };
+
+    ghost way = { λ b h k. tree_way K.cmp h k (shape b.root) };
+
+    ghost most_met = { way_bound };
+
+    ghost ascending = { λ b. ascending_of_tree b };
+
+    ghost short = { λ b. short_of_tree b };
+
+    ghost met_bounded = { λ b h k. way_within K.cmp h k (shape b.root) b.balanced };
+
+    fn len(&self) -> usize {
+        self.len
+    }
+
+    fn find(&self, hash: u64, key: &K) -> (Option<&Entry<K, V, A>>, u64) {
+        find_in(&self.root, hash, key)
+    }
+
+    fn next_after(&self, bound: Option<(u64, &K)>) -> Option<&Entry<K, V, A>> {
+        next_in(&self.root, bound)
+    }
+
+    fn replace(&mut self, hash: u64, key: &K, value: Arc<V, A>, number: u64) -> Arc<V, A>
+        requires { IsSome (entry_at K.cmp hash key.now (entries_of_tree self.old)) }
+        ensures old { option_map (λ e. e.value) (entry_at K.cmp hash key.now (entries_of_tree self.old)) ≡ Some result }
+        ensures after { entries_of_tree self.new ≡ replaced K.cmp hash key.now value number (entries_of_tree self.old) }
+    {
+        let Some(old) = write_in(&mut self.root, hash, key, value, number) else {
+            unreachable!()
+        };
+        old
+    }
+
+    fn put_node(&mut self, node: Box<Node<K, V, A>, A>)
+        requires absent { let e = entry_of node.value in
+            IsNone (entry_at K.cmp e.hash (arc_value e.key) (entries_of_tree self.old)) }
+        requires room { length (entries_of_tree self.old) < 2 ^ 62 }
+        ensures { entries_of_tree self.new ≡ placed K.cmp (entry_of node.value) (entries_of_tree self.old) }
+    {
+        let root = put_in(self.root.take(), node);
+        self.root = blacken(Some(root));
+        self.len += 1;
+    }
+
+    fn remove(&mut self, hash: u64, key: &K) -> Option<Box<Node<K, V, A>, A>> {
+        let (root, node, _) = remove_in(self.root.take(), hash, key);
+        self.root = root;
+        if node.is_some() {
+            self.len -= 1;
+        }
+        node
+    }
+
+    fn split(self, bit: u8) -> (Self, Self) {
+        let (low, high) = self.into_list().split(bit);
+        (Self::from_list(low), Self::from_list(high))
+    }
+
+    fn into_list(self) -> ListBin<K, V, A> {
+        let TreeBin { root, len } = self;
+        ListBin::from_chain(unfolded(root, None), len)
+    }
+
+    fn from_list(list: ListBin<K, V, A>) -> Self
+        ensures { entries_of_tree result ≡ entries_of_list list }
+    {
+        let (head, len) = list.into_chain();
+        let (root, _) = folded(len, (len + 1).ilog2(), head);
+        TreeBin { root, len }
+    }
+}

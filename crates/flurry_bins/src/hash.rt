@@ -1,0 +1,101 @@
+//! The number of a key.
+ghost use Rattle.std.specs.Prelude.{◌≡◌, ℕ, refl};
+ghost use Rattle.std.specs.declared.cmp.Ordering.TheVariants.{Equal};
+ghost use Rattle.flurry_bins.specs.Hashing.{seed_of, seeded, hash_with_seed, hash_with_seed-alike, equal_from_tie};
+
+pub use std::hash::DefaultHasher;
+use std::hash::{Hash, Hasher};
+
+/// Gives each key a number, and equal keys one number.
+pub trait KeyHasher<K: Ord> {
+    // The number of the key.
+    ghost hash_of: { Self → K → ℕ };
+
+    /// The number of a key.
+    fn hash_one(&self, key: &K) -> u64
+        ensures { result ≡ hash_of self.now key.now };
+
+    ghost alike: { (s : Self) (x y : K) → K.cmp x y ≡ Equal → hash_of s x ≡ hash_of s y };
+}
+
+/// Gives each key the least number, 0.
+#[derive(Clone, Copy, Debug, Default)]
+pub struct ZeroHashBuilder;
+
+impl<K: Ord> KeyHasher<K> for ZeroHashBuilder {
+    ghost hash_of = { λ s k. 0 };
+
+    ghost alike = { λ s x y e. refl };
+
+    fn hash_one(&self, _key: &K) -> u64 {
+        u64::MIN
+    }
+}
+
+/// Gives each key the greatest number.
+#[derive(Clone, Copy, Debug, Default)]
+pub struct MaxHashBuilder;
+
+impl<K: Ord> KeyHasher<K> for MaxHashBuilder {
+    ghost use Rattle.std.specs.Prelude.{◌-◌, ◌^◌, refl};
+
+    ghost hash_of = { λ s k. 2 ^ 64 - 1 };
+
+    ghost alike = { λ s x y e. refl };
+
+    fn hash_one(&self, _key: &K) -> u64 {
+        u64::MAX
+    }
+}
+
+/// Gives each key itself.
+#[derive(Clone, Copy, Debug, Default)]
+pub struct LowHashBuilder;
+
+impl KeyHasher<u64> for LowHashBuilder {
+    ghost use Rattle.flurry_bins.specs.Hashing.{same_number};
+
+    ghost hash_of = { λ s k. k };
+
+    ghost alike = { λ s x y e. same_number x y e };
+
+    fn hash_one(&self, key: &u64) -> u64 {
+        *key
+    }
+}
+
+/// Gives each key the number that std's hasher gives it after a seed.
+#[derive(Clone, Copy, Debug, Default)]
+pub struct DefaultHashBuilder {
+    seed: u64,
+}
+
+impl DefaultHashBuilder {
+    /// The builder with this seed.
+    pub fn with_seed(seed: u64) -> Self
+        ensures { seed_of result ≡ seed }
+    {
+        DefaultHashBuilder { seed }
+    }
+
+    /// A hasher that was fed the seed.
+    pub fn build_hasher(&self) -> DefaultHasher
+        ensures { result ≡ seeded (seed_of self.now) }
+    {
+        let mut hasher = DefaultHasher::new();
+        hasher.write_u64(self.seed);
+        hasher
+    }
+}
+
+impl<K: Hash + Ord> KeyHasher<K> for DefaultHashBuilder {
+    ghost hash_of = { λ s k. hash_with_seed (seed_of s) (K.hash_input k) };
+
+    ghost alike = { λ s x y e. hash_with_seed-alike (seed_of s) (K.respects_eq x y (equal_from_tie (K.matches_eq x y) e)) };
+
+    fn hash_one(&self, key: &K) -> u64 {
+        let mut hasher = self.build_hasher();
+        key.hash(&mut hasher);
+        hasher.finish()
+    }
+}

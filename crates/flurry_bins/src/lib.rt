@@ -1,0 +1,8 @@
+//! The bins of a hash map: the numbers of keys, and the lists and trees of entries that stand at one place of a table.
+#![tactic(auto)]
+
+pub mod bin;
+pub mod hash;
+pub mod table;
+#[cfg(test)]
+mod tests;

@@ -1,0 +1,37 @@
+//! The error of an insertion that finds its key present.
+ghost use Rattle.std.specs.Prelude.{codes, Some, None};
+ghost use Rattle.flurry_bins.specs.TryInsert.{try_insert_text};
+
+use std::alloc::{Allocator, Global};
+use std::error::Error;
+use std::fmt;
+use std::sync::Arc;
+
+/// What `try_insert` answers where the key is present: the value that stands, and the one that was not put.
+///
+/// It prints `Insert of "A" failed as key was already present with value "B"`, where A and B are the debug forms of
+/// `not_inserted` and `current`.
+#[derive(Drop)]
+#[derive_where(Debug, PartialEq, Eq; V)]
+pub struct TryInsertError<V, A: Allocator = Global> {
+    /// The value that stands at the key.
+    pub current: Arc<V, A>,
+    /// The value that was handed in.
+    pub not_inserted: V,
+}
+
+impl<V: fmt::Debug, A: Allocator> fmt::Display for TryInsertError<V, A> {
+    ghost use Rattle.std.specs.Arc.{arc_value};
+
+    ghost output = { λ e. try_insert_text (V.debug_output e.not_inserted) (V.debug_output (arc_value e.current)) };
+
+    fn fmt<W: fmt::Write>(&self, f: &mut fmt::Formatter<W>) -> fmt::Result {
+        write!(
+            f,
+            "Insert of \"{:?}\" failed as key was already present with value \"{:?}\"",
+            self.not_inserted, self.current
+        )
+    }
+}
+
+impl<V: fmt::Debug + Drop, A: Allocator> Error for TryInsertError<V, A> {}

@@ -1,0 +1,184 @@
+//! The calls that no row names, and the calls as values.
+
+use super::{insert_new, lent, taken};
+use flurry_bins::bin::{Ordered, Shape};
+use flurry_bins::hash::LowHashBuilder;
+use flurry_seq::SeqMap;
+use flurry_seq::calls::{Call, Reply};
+use std::alloc::Global;
+use std::collections::VecDeque;
+use std::test::Fail;
+
+fn three_pairs(alloc: Global) -> Result<SeqMap<u64, u64, LowHashBuilder>, Fail> {
+    let list = Vec::from_array(alloc, [(1, 10), (2, 20), (3, 30)])?;
+    Ok(SeqMap::from_list(alloc, list, LowHashBuilder)?)
+}
+
+#[test]
+fn calls_of_a_present_and_an_absent_key(rt: HostRuntime) -> Result<(), Fail> {
+    let mut map = three_pairs(rt.alloc())?;
+    assert!(rt; map.contains_key(&2) && !map.contains_key(&4));
+    assert!(rt; map.get_key_value(&4).is_none());
+    let Ok(value) = map.try_insert(4, 40)? else {
+        return Err(Fail::from("the key is absent"));
+    };
+    assert_eq!(rt; *value, 40);
+    let Err(error) = map.try_insert(4, 41)? else {
+        return Err(Fail::from("the key is present"));
+    };
+    assert_eq!(rt; (*error.current, error.not_inserted), (40, 41));
+    assert_eq!(rt;
+        taken(map.compute_if_present(&4, |key, value| Some(*value % 7 + *key % 7))?),
+        Some(9)
+    );
+    assert_eq!(rt; taken(map.compute_if_present(&5, |_, _| Some(1))?), None);
+    assert_eq!(rt; taken(map.remove(&4)), Some(9));
+    assert!(rt; map.remove_entry(&4).is_none());
+    assert_eq!(rt; map.len(), 3);
+    Ok(())
+}
+
+#[test]
+fn pairs_keys_and_values(rt: HostRuntime) -> Result<(), Fail> {
+    let map = three_pairs(rt.alloc())?;
+    let mut seen = [false; 4];
+    for (key, value) in map.iter() {
+        assert_eq!(rt; **value % 100, **key % 10 * 10);
+        seen[(**key % 4) as usize] = true;
+    }
+    assert_eq!(rt; seen, [false, true, true, true]);
+    assert_eq!(rt; map.keys().map(|key| **key % 8).max(), Some(3));
+    assert_eq!(rt; map.values().map(|value| **value % 64).min(), Some(10));
+    Ok(())
+}
+
+#[test]
+fn equality(rt: HostRuntime) -> Result<(), Fail> {
+    let map = three_pairs(rt.alloc())?;
+    let mut other = SeqMap::with_capacity_and_hasher(rt.alloc(), 100, LowHashBuilder)?;
+    assert!(rt; map != other);
+    other.extend(Vec::from_array(rt.alloc(), [(3, 30), (1, 11), (2, 20)])?)?;
+    assert!(rt; map != other);
+    assert_eq!(rt; taken(other.insert(1, 10)?), Some(11));
+    assert!(rt; map == other);
+    Ok(())
+}
+
+#[test]
+fn clear_and_into_bins(rt: HostRuntime) -> Result<(), Fail> {
+    let mut map = three_pairs(rt.alloc())?;
+    map.clear();
+    assert!(rt; map.is_empty());
+    assert_eq!(rt; map.capacity(), 8);
+    insert_new(&rt, &mut map, 0, 2)?;
+    let (bins, _) = map.into_bins();
+    assert_eq!(rt; bins.len(), 8);
+    assert_eq!(rt; bins[1].shape(), Shape::List(1));
+    assert_eq!(rt; bins[2].len(), 0);
+    Ok(())
+}
+
+// What the calls as values pass to `compute_if_present`.
+fn up_to_nine(_key: &u64, value: &u64) -> Option<u64> {
+    if *value < 9 { Some(*value + 1) } else { None }
+}
+
+// What the calls as values pass to `retain` and `retain_force`.
+fn is_nine_or_more(_key: &u64, value: &u64) -> bool {
+    *value >= 9
+}
+
+// One line for each reply.
+fn text_of(alloc: Global, replies: &[Reply<u64, u64>]) -> Result<String, Fail> {
+    let mut text = String::new(alloc);
+    for reply in replies {
+        match reply {
+            Reply::Value(Some(value)) => text.push_str(format!(in alloc;
+                "value {}\n",
+                **value
+            )?.as_str())?,
+            Reply::Value(None) => text.push_str("no value\n")?,
+            Reply::Pair(Some((key, value))) => {
+                text.push_str(format!(in alloc; "pair {} {}\n", **key, **value)?.as_str())?;
+            }
+            Reply::Pair(None) => text.push_str("no pair\n")?,
+            Reply::Truth(truth) => text.push_str(format!(in alloc; "{truth}\n")?.as_str())?,
+            Reply::New(value) => text.push_str(format!(in alloc; "new {}\n", **value)?.as_str())?,
+            Reply::Exists(error) => text.push_str(format!(in alloc; "{error}\n")?.as_str())?,
+            Reply::Number(number) => text.push_str(format!(in alloc; "{number}\n")?.as_str())?,
+            Reply::Done => text.push_str("done\n")?,
+        }
+    }
+    Ok(text)
+}
+
+#[test]
+fn calls_as_values(rt: HostRuntime) -> Result<(), Fail> {
+    let mut calls = VecDeque::new(rt.alloc());
+    for call in [
+        Call::IsEmpty,
+        Call::Insert(7, 8),
+        Call::TryInsert(7, 1),
+        Call::TryInsert(8, 2),
+        Call::ComputeIfPresent(7, up_to_nine),
+        Call::ComputeIfPresent(7, up_to_nine),
+        Call::Get(7),
+        Call::Get(8),
+        Call::GetKeyValue(8),
+        Call::ContainsKey(8),
+        Call::Len,
+        Call::Capacity,
+        Call::Retain(is_nine_or_more),
+        Call::Len,
+    ] {
+        calls.push_back(call)?;
+    }
+    let mut map: SeqMap<u64, u64, LowHashBuilder> = SeqMap::with_hasher(rt.alloc(), LowHashBuilder);
+    let replies = map.run(rt.alloc(), calls)?;
+    let want =
+        "true\nno value\nInsert of \"1\" failed as key was already present with value \"8\"\nnew 2\nvalue 9\nno value\n\
+        no value\nvalue 2\npair 8 2\ntrue\n1\n16\ndone\n0\n";
+    assert_eq!(rt; text_of(rt.alloc(), replies.as_slice())?.as_str(), want);
+    Ok(())
+}
+
+#[test]
+fn one_call_as_a_value(rt: HostRuntime) -> Result<(), Fail> {
+    let mut map = three_pairs(rt.alloc())?;
+    assert_eq!(rt; taken(map.insert(3, 8)?), Some(30));
+    for call in [
+        Call::ComputeIfPresent(3, up_to_nine),
+        Call::RetainForce(is_nine_or_more),
+    ] {
+        let _ = map.call(call)?;
+    }
+    assert_eq!(rt; lent(map.get(&3)), Some(9));
+    assert_eq!(rt; map.len(), 3);
+    Ok(())
+}
+
+#[test]
+fn removing_calls_as_values(rt: HostRuntime) -> Result<(), Fail> {
+    let mut calls = VecDeque::new(rt.alloc());
+    for call in [
+        Call::Remove(1),
+        Call::RemoveEntry(2),
+        Call::RemoveEntry(2),
+        Call::Clear,
+        Call::Len,
+        Call::Reserve(32),
+        Call::Capacity,
+        Call::Extend(Vec::from_array(rt.alloc(), [(5, 50)])?),
+        Call::Get(5),
+        Call::RetainForce(is_nine_or_more),
+        Call::ComputeIfPresent(6, up_to_nine),
+    ] {
+        calls.push_back(call)?;
+    }
+    let mut map = three_pairs(rt.alloc())?;
+    let replies = map.run(rt.alloc(), calls)?;
+    let want = "value 10\npair 2 20\nno pair\ndone\n0\ndone\n128\ndone\nvalue 50\ndone\nno value\n";
+    assert_eq!(rt; text_of(rt.alloc(), replies.as_slice())?.as_str(), want);
+    assert_eq!(rt; lent(map.get(&5)), Some(50));
+    Ok(())
+}

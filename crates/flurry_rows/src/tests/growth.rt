@@ -1,0 +1,111 @@
+//! The number of bins.
+
+use super::{insert_new, taken};
+use flurry_bins::bin::Shape;
+use flurry_bins::hash::{LowHashBuilder, ZeroHashBuilder};
+use flurry_bins::table::{threshold, wanted};
+use flurry_seq::SeqMap;
+use std::test::Fail;
+
+// The twelfth pair, key 10, fills three quarters of 16 bins.
+#[test]
+fn row_03(rt: HostRuntime) -> Result<(), Fail> {
+    let mut map: SeqMap<u64, u64, LowHashBuilder> = SeqMap::with_hasher(rt.alloc(), LowHashBuilder);
+    assert_eq!(rt; taken(map.insert(42, 0)?), None);
+    assert_eq!(rt; map.capacity(), 16);
+    for key in 0..16u64 {
+        assert_eq!(rt; taken(map.insert(key, 42)?), None);
+        let bins = if key < 10 { 16 } else { 32 };
+        assert_eq!(rt; map.capacity(), bins, "after {key}");
+    }
+    assert_eq!(rt; (map.capacity(), map.len()), (32, 17));
+    Ok(())
+}
+
+// The bins for a capacity, and those of room that is made in a new map: 64 bins hold 48 pairs, and 64 were asked for.
+#[test]
+fn row_04(rt: HostRuntime) -> Result<(), Fail> {
+    for (pairs, bins) in [(0, 0), (1, 2), (5, 8), (16, 32)] {
+        let map: SeqMap<u64, u64, LowHashBuilder> = SeqMap::with_capacity_and_hasher(
+            rt.alloc(),
+            pairs,
+            LowHashBuilder,
+        )?;
+        assert_eq!(rt; map.capacity(), bins, "for {pairs}");
+    }
+    for (additional, bins) in [(0, 1), (32, 128)] {
+        let mut map: SeqMap<u64, u64> = SeqMap::new(rt.alloc());
+        map.reserve(additional)?;
+        assert_eq!(rt; map.capacity(), bins, "for {additional}");
+    }
+    Ok(())
+}
+
+// A table that is full is doubled.
+#[test]
+fn row_05(rt: HostRuntime) -> Result<(), Fail> {
+    let mut map: SeqMap<u64, u64, LowHashBuilder> = SeqMap::with_hasher(rt.alloc(), LowHashBuilder);
+    map.reserve(0)?;
+    assert_eq!(rt; map.capacity(), 1);
+    insert_new(&rt, &mut map, 0, 1)?;
+    assert_eq!(rt; map.capacity(), 2);
+    insert_new(&rt, &mut map, 1, 2)?;
+    assert_eq!(rt; map.capacity(), 4);
+    Ok(())
+}
+
+// The sizes of tables.
+#[test]
+fn row_19(rt: HostRuntime) {
+    let most = 1 << 30;
+    for (pairs, bins) in [
+        (0, 1),
+        (10, 16),
+        (11, 32),
+        ((1 << 29) - 1, most),
+        (usize::MAX, most),
+    ] {
+        assert_eq!(rt; wanted(pairs), bins, "for {pairs}");
+    }
+    for (bins, pairs) in [
+        (1, 1),
+        (2, 2),
+        (4, 3),
+        (8, 6),
+        (16, 12),
+        (most, 805_306_368),
+    ] {
+        assert_eq!(rt; threshold(bins), pairs, "of {bins}");
+    }
+}
+
+// The ninth key of one bin asks for 64 pairs' room, and the tenth makes its list a tree.
+#[test]
+fn owned_growth_table(rt: HostRuntime) -> Result<(), Fail> {
+    let mut map: SeqMap<u64, u64, ZeroHashBuilder> = SeqMap::with_hasher(
+        rt.alloc(),
+        ZeroHashBuilder,
+    );
+    insert_new(&rt, &mut map, 0, 8)?;
+    assert_eq!(rt; (map.capacity(), map.shape_of(0)), (16, Shape::List(8)));
+    insert_new(&rt, &mut map, 8, 9)?;
+    assert_eq!(rt; (map.capacity(), map.shape_of(0)), (128, Shape::List(9)));
+    insert_new(&rt, &mut map, 9, 10)?;
+    assert_eq!(rt; (map.capacity(), map.shape_of(0)), (128, Shape::Tree(10)));
+    Ok(())
+}
+
+// A table for six pairs has 16 bins, and the twelfth pair doubles it.
+#[test]
+fn owned_growth_table_by_the_count(rt: HostRuntime) -> Result<(), Fail> {
+    let mut map: SeqMap<u64, u64, LowHashBuilder> = SeqMap::with_capacity_and_hasher(
+        rt.alloc(),
+        6,
+        LowHashBuilder,
+    )?;
+    insert_new(&rt, &mut map, 0, 11)?;
+    assert_eq!(rt; map.capacity(), 16);
+    insert_new(&rt, &mut map, 11, 12)?;
+    assert_eq!(rt; map.capacity(), 32);
+    Ok(())
+}

@@ -1,0 +1,20 @@
+//! Runs the program on its words, standard input and standard output.
+#![tactic(auto)]
+
+use flurry::{Input, Output, run_words};
+use std::process::ExitCode;
+use std::{env, io};
+
+fn main(rt: HostRuntime) -> io::Result<ExitCode> {
+    let args: Vec<String> = match env::args(&rt) {
+        Ok(args) => args.skip(1).collect(rt.alloc())?,
+        // A word that is no text asks for nothing.
+        Err(error) if error.kind() == io::ErrorKind::InvalidData => Vec::new(rt.alloc()),
+        Err(error) => return Err(error),
+    };
+    let words: Vec<&str> = args.iter().map(|word| word.as_str()).collect(rt.alloc())?;
+    let mut reader = Input::new(rt.alloc(), rt.reader())?;
+    let mut writer = Output::new(rt.alloc(), io::writer(&rt))?;
+    let status = run_words(rt.alloc(), &words, &mut reader, &mut writer);
+    Ok(ExitCode::from(status))
+}

@@ -1,0 +1,12 @@
+pub mod CallLemmas
+pub mod CloneLemmas
+pub mod EqualityLemmas
+pub mod GrowthLemmas
+pub mod HalvingLemmas
+pub mod IterLemmas
+pub mod KeepingLemmas
+pub mod LeftLemmas
+pub mod RunLemmas
+pub mod SeenLemmas
+pub mod SetLemmas
+pub mod TableLemmas

@@ -1,0 +1,34 @@
+use Rattle.std.proofs.Common.{◌≡◌}
+use Rattle.std.specs.Borrow.{Bor}
+use Rattle.flurry_seq.proofs.CallLemmas.{try_put, try_met, try_stays, computed, compute_stays}
+use Rattle.flurry_seq.proofs.seq_map.SeqMap.call.Goals as goal
+
+pub returns-in-Ok-clause-ok : goal.returns-in-Ok-clause-ok
+returns-in-Ok-clause-ok g c =
+    rw c.in-TryInsert.is (
+      try_put {F = g.row.F.Denot} g.K.Ord.cmp (λ f k v o. (x : Bor g.row.K.Denot) × (y : Bor g.row.V.Denot) × (x.now ≡ k) × (y.now ≡ v) × goal.F-post g f x y o) c.in-TryInsert.key c.args.self.now c.try_insert.new.self c.in-TryInsert.value c.in-Ok.value (rw c.in-Ok.is at c.in_ok-value-in-TryInsert.ensures.reply) c.in_ok-value-in-TryInsert.ensures.hasher,
+      try_stays {F = g.row.F.Denot} g.K.Ord.cmp (λ f k v o. (x : Bor g.row.K.Denot) × (y : Bor g.row.V.Denot) × (x.now ≡ k) × (y.now ≡ v) × goal.F-post g f x y o) c.in-TryInsert.key c.args.self.now c.try_insert.new.self c.in-TryInsert.value _ c.in_ok-value-in-TryInsert.ensures.reply,
+    )
+
+pub returns-in-TryInsert-clause-ok : goal.returns-in-TryInsert-clause-ok
+returns-in-TryInsert-clause-ok g c =
+    rw c.in-TryInsert.is (
+      try_met {F = g.row.F.Denot} g.K.Ord.cmp (λ f k v o. (x : Bor g.row.K.Denot) × (y : Bor g.row.V.Denot) × (x.now ≡ k) × (y.now ≡ v) × goal.F-post g f x y o) c.in-TryInsert.key c.args.self.now c.try_insert.new.self c.in-TryInsert.value c.in-Err.error (rw c.in-Err.is at c.in_ok-value-in-TryInsert.ensures.reply) c.in_ok-value-in-TryInsert.ensures.hasher,
+      try_stays {F = g.row.F.Denot} g.K.Ord.cmp (λ f k v o. (x : Bor g.row.K.Denot) × (y : Bor g.row.V.Denot) × (x.now ≡ k) × (y.now ≡ v) × goal.F-post g f x y o) c.in-TryInsert.key c.args.self.now c.try_insert.new.self c.in-TryInsert.value _ c.in_ok-value-in-TryInsert.ensures.reply,
+    )
+
+pub returns-in-ComputeIfPresent-clause-ok : goal.returns-in-ComputeIfPresent-clause-ok
+returns-in-ComputeIfPresent-clause-ok g c =
+    rw c.in-ComputeIfPresent.is (
+      computed {F = g.row.F.Denot} g.K.Ord.cmp (λ f k v o. (x : Bor g.row.K.Denot) × (y : Bor g.row.V.Denot) × (x.now ≡ k) × (y.now ≡ v) × goal.F-post g f x y o) c.in-ComputeIfPresent.key c.args.self.now c.compute_if_present.new.self c.in-ComputeIfPresent.f c.in_ok-compute_if_present-in-ComputeIfPresent.field-0 c.in_ok-compute_if_present-in-ComputeIfPresent.ensures.absent c.in_ok-compute_if_present-in-ComputeIfPresent.ensures.present c.in_ok-compute_if_present-in-ComputeIfPresent.ensures.hasher,
+      compute_stays {F = g.row.F.Denot} g.K.Ord.cmp (λ f k v o. (x : Bor g.row.K.Denot) × (y : Bor g.row.V.Denot) × (x.now ≡ k) × (y.now ≡ v) × goal.F-post g f x y o) c.in-ComputeIfPresent.key c.args.self.now c.compute_if_present.new.self c.in-ComputeIfPresent.f c.in_ok-compute_if_present-in-ComputeIfPresent.field-0 c.in_ok-compute_if_present-in-ComputeIfPresent.ensures.absent c.in_ok-compute_if_present-in-ComputeIfPresent.ensures.present,
+    )
+
+pub compute_if_present-requires : goal.compute_if_present-requires
+compute_if_present-requires g c = c.requires.computes c.in-ComputeIfPresent.f
+
+pub retain-requires : goal.retain-requires
+retain-requires g c = c.requires.tests c.in-Retain.test
+
+pub retain_force-requires : goal.retain_force-requires
+retain_force-requires g c = c.requires.tests c.in-RetainForce.test

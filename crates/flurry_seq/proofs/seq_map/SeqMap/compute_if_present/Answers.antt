@@ -1,0 +1,20 @@
+use Rattle.std.proofs.Common.{Some, None, ap, refl}
+use Rattle.flurry_seq.proofs.seq_map.SeqMap.compute_if_present.Goals as goal
+
+pub returns-in-Ok-clause-present : goal.returns-in-Ok-clause-present
+returns-in-Ok-clause-present g c =
+    rw (← c.in-Some.ensures) (
+      Some c.in-Some-computed.value,
+      (c.deref.result, c.deref-in-Some.result, c.deref.ensures, c.deref-in-Some.ensures, c.in-Some-computed.ensures),
+      (ap Some c.in-Ok.ensures.1, rw c.in-Ok.ensures.0 at c.swap_value.ensures.after),
+    )
+
+pub returns-in-Err-clause-present : goal.returns-in-Err-clause-present
+returns-in-Err-clause-present g c =
+    rw (← c.in-Some.ensures)
+    (Some c.in-Some-computed.value, (c.deref.result, c.deref-in-Some.result, c.deref.ensures, c.deref-in-Some.ensures, c.in-Some-computed.ensures), refl)
+
+pub returns-in-None-computed-clause-present : goal.returns-in-None-computed-clause-present
+returns-in-None-computed-clause-present g c =
+    rw (← c.in-Some.ensures)
+    (None, (c.deref.result, c.deref-in-Some.result, c.deref.ensures, c.deref-in-Some.ensures, c.in-None-computed.ensures), (refl, c.take.ensures.after))

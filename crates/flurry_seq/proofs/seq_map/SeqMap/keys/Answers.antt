@@ -1,0 +1,6 @@
+use Rattle.std.proofs.lemmas.List.Sorted.{IsPermutation-map}
+use Rattle.std.proofs.lemmas.Simd.{map-map}
+use Rattle.flurry_seq.proofs.seq_map.SeqMap.keys.Goals as goal
+
+pub returns-clause-keys : goal.returns-clause-keys
+returns-clause-keys g c = rw map-map at (IsPermutation-map (λ p. p.0) c.args.self.now.pairs _ c.entries.ensures.permuted)

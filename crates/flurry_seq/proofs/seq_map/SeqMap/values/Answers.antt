@@ -1,0 +1,6 @@
+use Rattle.std.proofs.lemmas.List.Sorted.{IsPermutation-map}
+use Rattle.std.proofs.lemmas.Simd.{map-map}
+use Rattle.flurry_seq.proofs.seq_map.SeqMap.values.Goals as goal
+
+pub returns-clause-values : goal.returns-clause-values
+returns-clause-values g c = rw map-map at (IsPermutation-map (λ p. p.1) c.args.self.now.pairs _ c.entries.ensures.permuted)

@@ -1,0 +1,21 @@
+use Rattle.std.proofs.Common.{Some, refl, ap, ◌∙◌}
+use Rattle.flurry_bins.specs.Chain.{entry_of}
+use Rattle.flurry_bins.specs.PlainEntries.{plain}
+use Rattle.flurry_seq.proofs.SeenLemmas.{entry_here, removed_here}
+use Rattle.flurry_seq.proofs.table.Table.remove.Goals as goal
+use Rattle.flurry_seq.proofs.table.Table.remove.Goals.{in-Some, in-None}
+
+pub returns-clause-entry : goal.returns-clause-entry
+returns-clause-entry g c =
+    let here = entry_here c.self.inside.bins.items c.args.hash c.place-at.result c.index_mut-bin.result.now c.place-at.ensures.below c.index_mut-bin.ensures.value c.place-at.ensures.place c.args.key.now in
+    rw (← c.self.view_is, here, ← c.remove.ensures.removed)
+    (elim c.match-remove.branch [
+      | in-Some w ↦ rw (w.result-is, w.in-Some.is) (ap (λ e. Some (plain e)) (w.into_entry.ensures ∙ ap entry_of w.into_inner.ensures))
+      | in-None w ↦ rw (w.result-is, w.in-None.is) refl
+    ])
+
+pub returns-clause-after : goal.returns-clause-after
+returns-clause-after g c =
+    rw (← c.self.view_is)
+    (removed_here c.self.inside.bins.items c.args.hash c.place-at.result c.index_mut-bin.result.now c.place-at.ensures.below c.index_mut-bin.ensures.value c.place-at.ensures.place
+    g.met.K.Ord.total c.args.key.now c.remove.new.self c.remove.ensures.after)

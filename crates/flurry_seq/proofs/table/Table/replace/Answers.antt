@@ -1,0 +1,26 @@
+use Rattle.flurry_bins.specs.Bin.{entries_of_bin}
+use Rattle.flurry_bins.specs.Entries.{entry_at}
+use Rattle.flurry_bins.specs.PlainEntries.{plain}
+use Rattle.flurry_seq.proofs.SeenLemmas.{entry_here, replaced_here, some_mapped, value_mapped, entry_some}
+use Rattle.flurry_seq.proofs.table.Table.replace.Goals as goal
+
+pub place-at-requires-clause-some : goal.place-at-requires-clause-some
+place-at-requires-clause-some g c = entry_some c.self.inside.bins.items c.args.hash c.args.key.now (rw (← c.self.view_is) at c.requires)
+
+pub replace-requires : goal.replace-requires
+replace-requires g c =
+    let here = entry_here c.self.inside.bins.items c.args.hash c.place-at.result c.index_mut-bin.result.now c.place-at.ensures.below c.index_mut-bin.ensures.value c.place-at.ensures.place c.args.key.now in
+    some_mapped plain (entry_at g.K.Ord.cmp c.args.hash c.args.key.now (entries_of_bin c.index_mut-bin.result.now)) (rw (← c.self.view_is, here) at c.requires)
+
+pub returns-clause-old : goal.returns-clause-old
+returns-clause-old g c =
+    let here = entry_here c.self.inside.bins.items c.args.hash c.place-at.result c.index_mut-bin.result.now c.place-at.ensures.below c.index_mut-bin.ensures.value c.place-at.ensures.place c.args.key.now in
+    rw (← c.self.view_is, here) (value_mapped (entry_at g.K.Ord.cmp c.args.hash c.args.key.now (entries_of_bin c.index_mut-bin.result.now)) c.replace.result c.replace.ensures.old)
+
+pub returns-clause-after : goal.returns-clause-after
+returns-clause-after g c =
+    let here = entry_here c.self.inside.bins.items c.args.hash c.place-at.result c.index_mut-bin.result.now c.place-at.ensures.below c.index_mut-bin.ensures.value c.place-at.ensures.place c.args.key.now in
+    let some = some_mapped plain (entry_at g.K.Ord.cmp c.args.hash c.args.key.now (entries_of_bin c.index_mut-bin.result.now)) (rw (← c.self.view_is, here) at c.requires) in
+    rw (← c.self.view_is)
+    (replaced_here c.self.inside.bins.items c.args.hash c.place-at.result c.index_mut-bin.result.now c.place-at.ensures.below c.index_mut-bin.ensures.value c.place-at.ensures.place
+    g.met.K.Ord.total c.args.key.now c.args.value 0 c.replace.new.self some c.replace.ensures.after)

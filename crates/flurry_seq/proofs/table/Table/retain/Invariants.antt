@@ -1,0 +1,11 @@
+use Rattle.std.proofs.Common.{◌≡◌}
+use Rattle.flurry_seq.specs.Seen.{seen}
+use Rattle.flurry_seq.proofs.KeepingLemmas.{KeepsBefore, front_len}
+use Rattle.flurry_seq.proofs.table.Table.retain.Given as goal
+
+abbrev pub invariant-loop-at : goal.invariant-loop-at
+invariant-loop-at g l = record {
+  callable : goal.F-IsAlwaysCallable g l.keep;
+  kept : KeepsBefore (goal.F-step g) l.at l.initial.keep (seen l.initial.self-inside.bins.items) (seen l.self-inside.bins.items) l.keep;
+  len : l.len ≡ front_len l.at (seen l.self-inside.bins.items);
+}

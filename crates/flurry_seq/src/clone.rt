@@ -1,0 +1,58 @@
+//! A further map of the same keys and values.
+ghost use Rattle.std.specs.Prelude.{◌≡◌, IfOk};
+ghost use Rattle.std.specs.Arc.{arc_value};
+ghost use Rattle.flurry_bins.specs.Chain.{entry_of};
+
+use crate::seq_map::SeqMap;
+use flurry_bins::bin::{Entry, Node};
+use flurry_bins::hash::KeyHasher;
+use std::alloc::{AllocError, Allocator};
+use std::sync::Arc;
+
+// A node that owns an entry's key and value too, under its hash.
+fn shared_node<K: Drop, V: Drop, A: Allocator + Copy>(
+    alloc: A,
+    entry: &Entry<K, V, A>,
+) -> Result<Box<Node<K, V, A>, A>, AllocError>
+    ensures hash { IfOk result (λ b. (entry_of b.value).hash ≡ entry.now.hash) }
+    ensures key { IfOk result (λ b. arc_value (entry_of b.value).key ≡ arc_value entry.now.key) }
+    ensures value { IfOk result (λ b. arc_value (entry_of b.value).value ≡ arc_value entry.now.value) }
+{
+    let key = Arc::try_clone(&entry.key)?;
+    let value = Arc::try_clone(&entry.value)?;
+    let entry = Entry {
+        hash: entry.hash,
+        key,
+        value,
+        number: entry.number,
+    };
+    Node::new(alloc, entry)
+}
+
+impl<K: Ord + Drop, V: Drop, S: KeyHasher<K>, A: Allocator + Copy> SeqMap<K, V, S, A> {
+    /// A further map of the same pairs over the same hasher. It has a table of its own for so many pairs, and shares the stored keys
+    /// and the values, of which none is copied or hashed again.
+    ///
+    /// One insertion for each pair.
+    ///
+    /// # Errors
+    ///
+    /// [`AllocError`], where memory is wanting, or where a key or a value has as many owners as can be counted.
+    pub fn try_clone(&self) -> Result<Self, AllocError>
+    where
+        S: Copy + Drop,
+        ensures pairs { IfOk result (λ m. m.pairs ≡ self.now.pairs) }
+        ensures hasher { IfOk result (λ m. m.hasher ≡ self.now.hasher) }
+    {
+        let mut copy = SeqMap::with_capacity_and_hasher(
+            *self.table.allocator(),
+            self.len(),
+            self.hasher,
+        )?;
+        for entry in self.entries() {
+            let node = shared_node(*self.table.allocator(), entry)?;
+            copy.add(node)?;
+        }
+        Ok(copy)
+    }
+}

@@ -1,0 +1,55 @@
+//! Equality of owned maps.
+ghost use Rattle.std.specs.Prelude.{◌≡◌, ◌↔◌, IsTrue};
+ghost use Rattle.std.specs.Arc.{arc_value};
+ghost use Rattle.std.specs.Option.{option_eq};
+ghost use Rattle.flurry_bins.specs.FiniteMap.{value_at};
+ghost use Rattle.flurry_seq.specs.Equality.{maps_eq, maps_eq_per, maps_eq_equiv, has_pair};
+
+use crate::seq_map::SeqMap;
+use flurry_bins::hash::KeyHasher;
+use std::alloc::Allocator;
+
+// Whether the map has an equal value at the key.
+fn has<K: Ord + Drop, V: PartialEq + Drop, S: KeyHasher<K>, A: Allocator>(
+    map: &SeqMap<K, V, S, A>,
+    key: &K,
+    value: &V,
+) -> bool
+    ensures { result ≡ has_pair K.cmp V.eq map.now.pairs (key.now, value.now) }
+{
+    match map.get(key) {
+        Some(found) => *value == *found.as_ref(),
+        None => false,
+    }
+}
+
+/// Two maps are equal where they have the same classes of keys, and equal values there. Which key of a class was stored, in which
+/// order the pairs were put, the tables and the hashers tell nothing.
+///
+/// One look-up for each pair, where the maps are as long.
+impl<K: Ord + Drop, V: PartialEq + Drop, S: KeyHasher<K>, A: Allocator> PartialEq
+    for SeqMap<K, V, S, A> {
+    ghost eq = { maps_eq K.cmp V.eq };
+
+    ghost laws = { maps_eq_per K.total V.laws };
+
+    fn eq(&self, other: &Self) -> bool
+        ensures value { result ≡ maps_eq K.cmp V.eq self.now other.now }
+        ensures keys { IsTrue result
+            ↔ ((k : K) → IsTrue (option_eq V.eq (value_at K.cmp self.now.pairs k) (value_at K.cmp other.now.pairs k))) }
+    {
+        if self.len() != other.len() {
+            return false;
+        }
+        for (key, value) in self.iter() {
+            if !has(other, key.as_ref(), value.as_ref()) {
+                return false;
+            }
+        }
+        true
+    }
+}
+
+impl<K: Ord + Drop, V: Eq + Drop, S: KeyHasher<K>, A: Allocator> Eq for SeqMap<K, V, S, A> {
+    ghost laws = { maps_eq_equiv K.total V.Eq.laws };
+}

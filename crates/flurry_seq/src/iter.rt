@@ -1,0 +1,269 @@
+//! The iterators of an owned map. None of them takes memory.
+ghost use Rattle.std.specs.Prelude.{◌≡◌, length, map, IfSome, IsPermutation};
+ghost use Rattle.std.specs.Iterator.{YieldsFirstBy, UpTo, at_most, item_count};
+ghost use Rattle.std.specs.Iterator.SizeHint.{IsWithinCount};
+ghost use Rattle.flurry_bins.specs.Entries.{lent_bound};
+ghost use Rattle.flurry_bins.specs.FiniteMap.{gathered};
+ghost use Rattle.flurry_bins.specs.PlainEntries.{plain};
+ghost use Rattle.flurry_seq.specs.Iter.{pair_of_item, value_of_item, place_of};
+ghost use Rattle.flurry_seq.specs.Table.{all_entries, pair_of};
+ghost use Rattle.flurry_seq.specs.Apart.{AreApart, AreHashed};
+ghost use Rattle.flurry_seq.specs.Seen.{seen};
+
+use crate::seq_map::SeqMap;
+use flurry_bins::bin::{Bin, Entry, Ordered};
+use flurry_bins::hash::KeyHasher;
+use std::alloc::{Allocator, Global};
+use std::marker::Model;
+use std::sync::Arc;
+
+// The entries of a table, in its order. They are seen as the list of those that are left.
+#[derive(Drop)]
+pub(crate) struct Entries<'a, K: Ord, V, A: Allocator> {
+    // The first of these bins is passed up to and with the last entry.
+    bins: &'a [Bin<K, V, A>],
+    last: Option<&'a Entry<K, V, A>>,
+    left: usize,
+}
+
+impl<'a, K: Ord, V, A: Allocator> Model for Entries<'a, K, V, A> {
+    ghost use Rattle.std.specs.Prelude.{◌≡◌, ℕ, List, length};
+    ghost use Rattle.flurry_seq.specs.Iter.{entries_left};
+
+    ghost Value = { List ((ℕ × K) × V) };
+
+    ghost view = { λ it. entries_left K.cmp it.bins.now it.last };
+
+    ghost invariant = { λ it. it.left ≡ length (entries_left K.cmp it.bins.now it.last) };
+}
+
+// The place of an entry.
+fn place_of_last<'a, K, V, A: Allocator>(last: Option<&'a Entry<K, V, A>>) -> Option<(u64, &'a K)>
+    ensures { lent_bound result ≡ place_of last.entry }
+{
+    match last {
+        Some(entry) => Some((entry.hash, entry.key.as_ref())),
+        None => None,
+    }
+}
+
+impl<'a, K: Ord, V, A: Allocator> Entries<'a, K, V, A> {
+    fn new(bins: &'a [Bin<K, V, A>], left: usize) -> Entries<'a, K, V, A>
+        requires { left ≡ length (all_entries (seen bins.now)) }
+        ensures { result ≡ all_entries (seen bins.now) }
+    {
+        Entries {
+            bins,
+            last: None,
+            left,
+        }
+    }
+}
+
+impl<'a, K: Ord + Drop, V: Drop, A: Allocator> Iterator for Entries<'a, K, V, A> {
+    type Item = &'a Entry<K, V, A>;
+
+    ghost next_gives = { YieldsFirstBy (λ e. plain e.now) (λ it. it) };
+
+    ghost remaining = { item_count (λ it. it) };
+
+    fn next(&mut self) -> Option<&'a Entry<K, V, A>> {
+        while let Some((bin, bins)) = self.bins.split_first() {
+            if let Some(entry) = bin.next_after(place_of_last(self.last)) {
+                self.last = Some(entry);
+                self.left -= 1;
+                return Some(entry);
+            }
+            self.bins = bins;
+            self.last = None;
+        }
+        None
+    }
+
+    fn size_hint(&self) -> (usize, Option<usize>)
+        ensures lower { IsWithinCount result.0 (at_most (length self.now)) }
+        ensures upper { IfSome result.1 (UpTo (at_most (length self.now))) }
+        ensures least { result.0 ≡ length self.now }
+        ensures most { result.1 ≡ Some (length self.now) }
+    {
+        (self.left, Some(self.left))
+    }
+}
+
+impl<'a, K: Ord + Drop, V: Drop, A: Allocator> ExactSizeIterator for Entries<'a, K, V, A> {
+    fn len(&self) -> usize {
+        self.left
+    }
+}
+
+/// The pairs of a map, each once, in an open order. It is seen as the list of the pairs that are left.
+#[derive(Drop)]
+pub struct Iter<'a, K: Ord, V, A: Allocator = Global> {
+    entries: Entries<'a, K, V, A>,
+}
+
+impl<'a, K: Ord, V, A: Allocator> Model for Iter<'a, K, V, A> {
+    ghost use Rattle.std.specs.Prelude.{List, map};
+    ghost use Rattle.flurry_seq.specs.Table.{pair_of};
+
+    ghost Value = { List (K × V) };
+
+    ghost view = { λ it. map pair_of it.entries };
+}
+
+impl<'a, K: Ord + Drop, V: Drop, A: Allocator> Iterator for Iter<'a, K, V, A> {
+    type Item = (&'a Arc<K, A>, &'a Arc<V, A>);
+
+    ghost next_gives = { YieldsFirstBy pair_of_item (λ it. it) };
+
+    ghost remaining = { item_count (λ it. it) };
+
+    fn next(&mut self) -> Option<(&'a Arc<K, A>, &'a Arc<V, A>)> {
+        let entry = self.entries.next()?;
+        Some((&entry.key, &entry.value))
+    }
+
+    fn size_hint(&self) -> (usize, Option<usize>)
+        ensures lower { IsWithinCount result.0 (at_most (length self.now)) }
+        ensures upper { IfSome result.1 (UpTo (at_most (length self.now))) }
+        ensures least { result.0 ≡ length self.now }
+        ensures most { result.1 ≡ Some (length self.now) }
+    {
+        self.entries.size_hint()
+    }
+}
+
+impl<'a, K: Ord + Drop, V: Drop, A: Allocator> ExactSizeIterator for Iter<'a, K, V, A> {
+    fn len(&self) -> usize {
+        self.entries.len()
+    }
+}
+
+/// The keys of a map, one of each class, in an open order. It is seen as the list of the keys that are left.
+#[derive(Drop)]
+pub struct Keys<'a, K: Ord, V, A: Allocator = Global> {
+    entries: Entries<'a, K, V, A>,
+}
+
+impl<'a, K: Ord, V, A: Allocator> Model for Keys<'a, K, V, A> {
+    ghost use Rattle.std.specs.Prelude.{List, map};
+
+    ghost Value = { List K };
+
+    ghost view = { λ it. map (λ e. e.0.1) it.entries };
+}
+
+impl<'a, K: Ord + Drop, V: Drop, A: Allocator> Iterator for Keys<'a, K, V, A> {
+    type Item = &'a Arc<K, A>;
+
+    ghost next_gives = { YieldsFirstBy value_of_item (λ it. it) };
+
+    ghost remaining = { item_count (λ it. it) };
+
+    fn next(&mut self) -> Option<&'a Arc<K, A>> {
+        let entry = self.entries.next()?;
+        Some(&entry.key)
+    }
+
+    fn size_hint(&self) -> (usize, Option<usize>)
+        ensures lower { IsWithinCount result.0 (at_most (length self.now)) }
+        ensures upper { IfSome result.1 (UpTo (at_most (length self.now))) }
+        ensures least { result.0 ≡ length self.now }
+        ensures most { result.1 ≡ Some (length self.now) }
+    {
+        self.entries.size_hint()
+    }
+}
+
+impl<'a, K: Ord + Drop, V: Drop, A: Allocator> ExactSizeIterator for Keys<'a, K, V, A> {
+    fn len(&self) -> usize {
+        self.entries.len()
+    }
+}
+
+/// The values of a map, one of each pair, in an open order. It is seen as the list of the values that are left.
+#[derive(Drop)]
+pub struct Values<'a, K: Ord, V, A: Allocator = Global> {
+    entries: Entries<'a, K, V, A>,
+}
+
+impl<'a, K: Ord, V, A: Allocator> Model for Values<'a, K, V, A> {
+    ghost use Rattle.std.specs.Prelude.{List, map};
+
+    ghost Value = { List V };
+
+    ghost view = { λ it. map (λ e. e.1) it.entries };
+}
+
+impl<'a, K: Ord + Drop, V: Drop, A: Allocator> Iterator for Values<'a, K, V, A> {
+    type Item = &'a Arc<V, A>;
+
+    ghost next_gives = { YieldsFirstBy value_of_item (λ it. it) };
+
+    ghost remaining = { item_count (λ it. it) };
+
+    fn next(&mut self) -> Option<&'a Arc<V, A>> {
+        let entry = self.entries.next()?;
+        Some(&entry.value)
+    }
+
+    fn size_hint(&self) -> (usize, Option<usize>)
+        ensures lower { IsWithinCount result.0 (at_most (length self.now)) }
+        ensures upper { IfSome result.1 (UpTo (at_most (length self.now))) }
+        ensures least { result.0 ≡ length self.now }
+        ensures most { result.1 ≡ Some (length self.now) }
+    {
+        self.entries.size_hint()
+    }
+}
+
+impl<'a, K: Ord + Drop, V: Drop, A: Allocator> ExactSizeIterator for Values<'a, K, V, A> {
+    fn len(&self) -> usize {
+        self.entries.len()
+    }
+}
+
+impl<K: Ord + Drop, V: Drop, S: KeyHasher<K>, A: Allocator> SeqMap<K, V, S, A> {
+    // The entries, in the order of the table.
+    pub(crate) fn entries(&self) -> Entries<'_, K, V, A>
+        ensures pairs { gathered K.cmp (map pair_of result) ≡ self.now.pairs }
+        ensures apart { AreApart K.cmp (map pair_of result) }
+        ensures hashed { AreHashed (S.hash_of self.now.hasher) result }
+        ensures permuted { IsPermutation self.now.pairs (map pair_of result) }
+        ensures count { length result ≡ length self.now.pairs }
+    {
+        Entries::new(self.table.bins(), self.len())
+    }
+
+    /// The pairs of a stored key and its value, each once, in an open order.
+    ///
+    /// A step takes at most as many steps as a look-up and the empty bins that it passes; a whole run passes each bin once.
+    pub fn iter(&self) -> Iter<'_, K, V, A>
+        ensures pairs { IsPermutation self.now.pairs result }
+        ensures count { length result ≡ length self.now.pairs }
+    {
+        Iter {
+            entries: self.entries(),
+        }
+    }
+
+    /// The stored keys, one of each class, in an open order; as fast as [`SeqMap::iter`].
+    pub fn keys(&self) -> Keys<'_, K, V, A>
+        ensures keys { IsPermutation (map (λ p. p.0) self.now.pairs) result }
+        ensures count { length result ≡ length self.now.pairs }
+    {
+        Keys {
+            entries: self.entries(),
+        }
+    }
+
+    /// The values, one of each pair, in an open order; as fast as [`SeqMap::iter`].
+    pub fn values(&self) -> Values<'_, K, V, A>
+        ensures values { IsPermutation (map (λ p. p.1) self.now.pairs) result }
+        ensures count { length result ≡ length self.now.pairs }
+    {
+        Values {
+            entries: self.entries(),
+        }
+    }
+}

@@ -1,0 +1,574 @@
+//! The owned map.
+ghost use Rattle.std.specs.Prelude.{◌≡◌, ◌⊎◌, [], ◌<◌, ◌≤◌, ◌*◌, ◌^◌, ◌++◌, List, length, count_by, OnOk, OnErr, IfOk, IfSome, IsOkAnd, IsErrAnd, MatchOption, MatchResult, Option, Some, None, Ok, IsSome, is_some, ◌==◌, if◌then◌else◌};
+ghost use Rattle.std.specs.Option.{option_map};
+ghost use Rattle.std.specs.Arc.{arc_value};
+ghost use Rattle.std.specs.Borrow.{Bor};
+ghost use Rattle.flurry_bins.specs.Chain.{entry_of};
+ghost use Rattle.flurry_bins.specs.FiniteMap.{IsFiniteMap, pair_at, value_at, with_pair, with_all, without};
+ghost use Rattle.flurry_bins.specs.Hashing.{seed_of};
+ghost use Rattle.flurry_bins.specs.Sizes.{wanted_of, threshold_of, IsOnTheWay, IsGrown};
+ghost use Rattle.flurry_seq.specs.HandedOut.{AreBinsOf};
+ghost use Rattle.flurry_seq.specs.Invariant.{IsTableSize};
+ghost use Rattle.flurry_seq.specs.Seen.{seen};
+ghost use Rattle.flurry_seq.specs.Shapes.{count_in, IsFit};
+ghost use Rattle.flurry_seq.specs.Table.{bin_of};
+ghost use Rattle.flurry_seq.specs.Contents.{contents, with_pairs, SamePairs, asked_for, first_bins};
+
+mod keeping;
+
+use crate::table::Table;
+use flurry_bins::bin::{Bin, Entry, Node, Shape};
+use flurry_bins::hash::{DefaultHashBuilder, KeyHasher};
+use flurry_bins::table::{MOST_BINS, TryInsertError, threshold, wanted};
+use std::alloc::{AllocError, Allocator, Global};
+use std::hash::Hash;
+use std::marker::Model;
+use std::sync::Arc;
+
+/// The most pairs of a map. A further new key is refused as if memory were wanting.
+pub const MOST_PAIRS: usize = 1 << 62;
+
+// The bins of the table that a first insertion makes.
+const FIRST_BINS: usize = 16;
+
+/// A map that one owner has.
+///
+/// Its pairs are a finite map: of each class of equal keys it has the key that was stored first, and a value.
+///
+/// A call of one key gives the key one hash and looks into one bin. Where that has n pairs, it visits at most as many as the greater
+/// of 9 and twice the binary digits of n + 1, though all hashes are equal. Hashes that spread keep bins short: a table is doubled when
+/// it has three pairs for four bins, while there is memory and it has fewer than 2^30 bins. That moves every pair.
+#[derive(Drop)]
+pub struct SeqMap<K: Ord, V, S: KeyHasher<K> = DefaultHashBuilder, A: Allocator = Global> {
+    pub(crate) table: Table<K, V, A>,
+    len: usize,
+    pub(crate) hasher: S,
+}
+
+impl<K: Ord, V, S: KeyHasher<K>, A: Allocator> Model for SeqMap<K, V, S, A> {
+    ghost use Rattle.std.specs.Prelude.{length};
+    ghost use Rattle.flurry_bins.specs.FiniteMap.{gathered};
+    ghost use Rattle.flurry_seq.specs.Contents.{Contents, contents, contents_code};
+    ghost use Rattle.flurry_seq.specs.Table.{all_pairs};
+    ghost use Rattle.flurry_seq.specs.Invariant.{IsTable};
+
+    ghost Value = { Contents K V S };
+
+    ghost coded = { contents_code K.code V.code S.code };
+
+    ghost view = { λ m. contents (gathered K.cmp (all_pairs m.table)) (length m.table) m.hasher };
+
+    ghost invariant = { λ m. IsTable K.cmp (S.hash_of m.hasher) m.table m.len };
+}
+
+impl<K: Hash + Ord + Drop, V: Drop, A: Allocator> SeqMap<K, V, DefaultHashBuilder, A> {
+    /// An empty map without a table, over the default hasher whose seed is zero. It takes no memory.
+    pub fn new(alloc: A) -> Self
+        ensures pairs { result.pairs ≡ [] }
+        ensures bins { result.bins ≡ 0 }
+        ensures seed { seed_of result.hasher ≡ 0 }
+    {
+        SeqMap::with_hasher(alloc, DefaultHashBuilder::default())
+    }
+
+    /// An empty map with a table for so many pairs, without one for 0. It is over the default hasher whose seed is zero.
+    ///
+    /// # Errors
+    ///
+    /// [`AllocError`], where memory for the table is wanting.
+    pub fn with_capacity(alloc: A, capacity: usize) -> Result<Self, AllocError>
+    where
+        A: Copy,
+        ensures pairs { IfOk result (λ m. m.pairs ≡ []) }
+        ensures bins { IfOk result (λ m. m.bins ≡ (if capacity == 0 then 0 else wanted_of capacity)) }
+        ensures seed { IfOk result (λ m. seed_of m.hasher ≡ 0) }
+    {
+        SeqMap::with_capacity_and_hasher(alloc, capacity, DefaultHashBuilder::default())
+    }
+}
+
+impl<K: Ord + Drop, V: Drop, S: KeyHasher<K>, A: Allocator> SeqMap<K, V, S, A> {
+    /// An empty map without a table, over a hasher. It takes no memory.
+    pub fn with_hasher(alloc: A, hasher: S) -> Self
+        ensures { result ≡ contents [] 0 hasher }
+    {
+        SeqMap {
+            table: Table::new(alloc),
+            len: 0,
+            hasher,
+        }
+    }
+
+    /// The number of pairs.
+    ///
+    /// Constant time.
+    pub fn len(&self) -> usize
+        ensures pairs { result ≡ length self.now.pairs }
+        ensures ascend { IsFiniteMap K.cmp self.now.pairs }
+        ensures few { result ≤ 2 ^ 62 }
+    {
+        self.len
+    }
+
+    /// Whether the map has no pair.
+    ///
+    /// Constant time.
+    pub fn is_empty(&self) -> bool
+        ensures { result ≡ (length self.now.pairs == 0) }
+    {
+        self.len == 0
+    }
+
+    /// The number of bins of the table, 0 without one.
+    ///
+    /// Constant time.
+    pub fn capacity(&self) -> usize
+        ensures bins { result ≡ self.now.bins }
+        ensures most { result ≤ 2 ^ 30 }
+    {
+        self.table.len()
+    }
+
+    /// The value of a key.
+    pub fn get(&self, key: &K) -> Option<&Arc<V, A>>
+        ensures { option_map (λ v. arc_value v.now) result ≡ value_at K.cmp self.now.pairs key.now }
+    {
+        match self.find(self.hash_of(key), key) {
+            Some(entry) => Some(&entry.value),
+            None => None,
+        }
+    }
+
+    /// The stored key and its value.
+    pub fn get_key_value(&self, key: &K) -> Option<(&Arc<K, A>, &Arc<V, A>)>
+        ensures { option_map (λ p. (arc_value p.0.now, arc_value p.1.now)) result
+            ≡ pair_at K.cmp self.now.pairs key.now }
+    {
+        match self.find(self.hash_of(key), key) {
+            Some(entry) => Some((&entry.key, &entry.value)),
+            None => None,
+        }
+    }
+
+    /// Whether the map has the key.
+    pub fn contains_key(&self, key: &K) -> bool
+        ensures { result ≡ is_some (pair_at K.cmp self.now.pairs key.now) }
+    {
+        self.find(self.hash_of(key), key).is_some()
+    }
+
+    /// Takes the pair of a key out, and answers its value. The table stays as large as it is.
+    pub fn remove(&mut self, key: &K) -> Option<Arc<V, A>>
+        ensures value { option_map arc_value result ≡ value_at K.cmp self.old.pairs key.now }
+        ensures after { self.new ≡ with_pairs self.old (without K.cmp self.old.pairs key.now) }
+    {
+        let (_, value) = self.remove_entry(key)?;
+        Some(value)
+    }
+
+    /// Takes the pair of a key out, and answers the stored key and the value. The table stays as large as it is.
+    pub fn remove_entry(&mut self, key: &K) -> Option<(Arc<K, A>, Arc<V, A>)>
+        ensures pair { option_map (λ p. (arc_value p.0, arc_value p.1)) result ≡ pair_at K.cmp self.old.pairs key.now }
+        ensures after { self.new ≡ with_pairs self.old (without K.cmp self.old.pairs key.now) }
+    {
+        let hash = self.hash_of(key);
+        self.take(hash, key)
+    }
+
+    /// Takes all pairs out. The table stays as large as it is.
+    pub fn clear(&mut self)
+        ensures { self.new ≡ with_pairs self.old [] }
+    {
+        self.table.clear();
+        self.len = 0;
+    }
+
+    /// The shape of the bin of a hash; empty without a table.
+    ///
+    /// Constant time.
+    pub fn shape_of(&self, hash: u64) -> Shape
+        ensures count { count_in result
+            ≡ count_by (λ p. bin_of self.now.bins (S.hash_of self.now.hasher p.0) == bin_of self.now.bins hash) self.now.pairs }
+        ensures fit { IsFit result }
+    {
+        self.table.shape_of(hash)
+    }
+
+    /// Hands out the bins, by their index, and the hasher; no bins without a table. It takes no memory.
+    pub fn into_bins(self) -> (Vec<Bin<K, V, A>, A>, S)
+        ensures bins { AreBinsOf K.cmp (S.hash_of self.hasher) self (seen result.0.items) }
+        ensures hasher { result.1 ≡ self.hasher }
+    {
+        let SeqMap {
+            table,
+            len: _,
+            hasher,
+        } = self;
+        (table.into_bins(), hasher)
+    }
+
+    // The number that the hasher gives a key.
+    fn hash_of(&self, key: &K) -> u64
+        ensures { result ≡ S.hash_of self.now.hasher key.now }
+    {
+        self.hasher.hash_one(key)
+    }
+
+    // The entry of a key with this hash.
+    fn find(&self, hash: u64, key: &K) -> Option<&Entry<K, V, A>>
+        requires { hash ≡ S.hash_of self.now.hasher key.now }
+        ensures { option_map (λ e. (arc_value e.now.key, arc_value e.now.value)) result
+            ≡ pair_at K.cmp self.now.pairs key.now }
+    {
+        self.table.find(hash, key)
+    }
+
+    // Takes the pair of a key with this hash out.
+    fn take(&mut self, hash: u64, key: &K) -> Option<(Arc<K, A>, Arc<V, A>)>
+        requires { hash ≡ S.hash_of self.old.hasher key.now }
+        ensures pair { option_map (λ p. (arc_value p.0, arc_value p.1)) result ≡ pair_at K.cmp self.old.pairs key.now }
+        ensures after { self.new ≡ with_pairs self.old (without K.cmp self.old.pairs key.now) }
+    {
+        match self.table.remove(hash, key) {
+            Some(entry) => {
+                self.len -= 1;
+                let Entry { key, value, .. } = entry;
+                Some((key, value))
+            }
+            None => None,
+        }
+    }
+
+    // Swaps the value of a key with this hash that is there.
+    fn swap_value(&mut self, hash: u64, key: &K, value: Arc<V, A>) -> Arc<V, A>
+        requires hash { hash ≡ S.hash_of self.old.hasher key.now }
+        requires present { IsSome (pair_at K.cmp self.old.pairs key.now) }
+        ensures old { value_at K.cmp self.old.pairs key.now ≡ Some (arc_value result) }
+        ensures after { self.new ≡ with_pairs self.old (with_pair K.cmp self.old.pairs key.now (arc_value value)) }
+    {
+        self.table.replace(hash, key, value)
+    }
+}
+
+impl<K: Ord + Drop, V: Drop, S: KeyHasher<K>, A: Allocator + Copy> SeqMap<K, V, S, A> {
+    /// Sets the value of a key, and answers the old one. A key that is stored stays, and the one that was handed in is dropped.
+    /// A new key may make the table larger; where the larger table finds no memory, the map stays in the old one.
+    ///
+    /// # Errors
+    ///
+    /// [`AllocError`], where memory for the pair or for a first table is wanting, or where the map has [`MOST_PAIRS`] pairs. The
+    /// map is then as it was, and the key and the value are dropped.
+    pub fn insert(&mut self, key: K, value: V) -> Result<Option<Arc<V, A>>, AllocError>
+        ensures old { IfOk result (λ old. option_map arc_value old ≡ value_at K.cmp self.old.pairs key) }
+        ensures pairs { OnOk result (self.new.pairs ≡ with_pair K.cmp self.old.pairs key value) }
+        ensures hasher { self.new.hasher ≡ self.old.hasher }
+        ensures bins { IfOk result (λ old. IsSome old → self.new.bins ≡ self.old.bins) }
+        ensures err { OnErr result (self.new ≡ self.old) }
+    {
+        let hash = self.hash_of(&key);
+        if self.find(hash, &key).is_some() {
+            let value = Arc::new(*self.table.allocator(), value)?;
+            return Ok(Some(self.swap_value(hash, &key, value)));
+        }
+        let node = new_node(*self.table.allocator(), hash, key, value)?;
+        self.add(node)?;
+        Ok(None)
+    }
+
+    /// Puts a value at an absent key, and answers it. At a present key nothing changes: the error has the value that stands and
+    /// the one that was handed in, and the key is dropped.
+    ///
+    /// # Errors
+    ///
+    /// [`AllocError`], as of [`SeqMap::insert`], and also where a further owner of the answered value is refused. The map is then
+    /// as it was, and the key and the value are dropped.
+    pub fn try_insert(
+        &mut self,
+        key: K,
+        value: V,
+    ) -> Result<Result<Arc<V, A>, TryInsertError<V, A>>, AllocError>
+        ensures reply { IfOk result (λ reply. MatchOption (value_at K.cmp self.old.pairs key)
+            (IsOkAnd reply (λ new. arc_value new ≡ value) × (self.new.pairs ≡ with_pair K.cmp self.old.pairs key value))
+            (λ current. IsErrAnd reply (λ e. (arc_value e.current ≡ current) × (e.not_inserted ≡ value)) × (self.new ≡ self.old))) }
+        ensures hasher { self.new.hasher ≡ self.old.hasher }
+        ensures err { OnErr result (self.new ≡ self.old) }
+    {
+        let hash = self.hash_of(&key);
+        if let Some(entry) = self.find(hash, &key) {
+            let current = Arc::try_clone(&entry.value)?;
+            return Ok(Err(TryInsertError {
+                current,
+                not_inserted: value,
+            }));
+        }
+        let node = new_node(*self.table.allocator(), hash, key, value)?;
+        let value = Arc::try_clone(&node.entry().value)?;
+        self.add(node)?;
+        Ok(Ok(value))
+    }
+
+    /// Calls a function on the stored key and the value of a key, if it is present; else it does nothing, asks for no memory and
+    /// answers none. What the function answers is the new value, and is answered; where it answers none, the pair is taken out.
+    /// The table stays as large as it is.
+    ///
+    /// # Errors
+    ///
+    /// [`AllocError`], where memory for the new value, or for its further owner, is wanting. The function was called then; the
+    /// value that it computed is dropped, and the map is as it was.
+    pub fn compute_if_present<F: FnOnce(&K, &V) -> Option<V>>(
+        &mut self,
+        key: &K,
+        f: F,
+    ) -> Result<Option<Arc<V, A>>, AllocError>
+    where
+        F: Drop,
+        requires { F.IsAlwaysCallable f }
+        ensures absent { pair_at K.cmp self.old.pairs key.now ≡ None → (result ≡ Ok None) × (self.new ≡ self.old) }
+        ensures present { IfSome (pair_at K.cmp self.old.pairs key.now) (λ p.
+            (answer : Option V) × ((k : Bor K) × (v : Bor V) × (k.now ≡ p.0) × (v.now ≡ p.1) × F.post f k v answer)
+            × MatchOption answer
+            ((result ≡ Ok None) × (self.new ≡ with_pairs self.old (without K.cmp self.old.pairs key.now)))
+            (λ w. MatchResult result
+            (λ r. (option_map arc_value r ≡ Some w) × (self.new ≡ with_pairs self.old (with_pair K.cmp self.old.pairs key.now w)))
+            (λ _. self.new ≡ self.old))) }
+        ensures hasher { self.new.hasher ≡ self.old.hasher }
+        ensures err { OnErr result (self.new ≡ self.old) }
+    {
+        let hash = self.hash_of(key);
+        let computed = match self.find(hash, key) {
+            Some(entry) => f(&entry.key, &entry.value),
+            None => return Ok(None),
+        };
+        match computed {
+            Some(value) => match two_owners(*self.table.allocator(), value) {
+                Ok((value, answer)) => {
+                    let _ = self.swap_value(hash, key, value);
+                    Ok(Some(answer))
+                }
+                Err(e) => Err(e),
+            },
+            None => {
+                let _ = self.take(hash, key);
+                Ok(None)
+            }
+        }
+    }
+
+    /// Inserts pairs in their order: of a key that comes twice the last value stands. Room is made first, for as many pairs as the
+    /// list has where the map is empty, and else for half as many, rounded up.
+    ///
+    /// # Errors
+    ///
+    /// [`AllocError`], where a table or an insertion is refused. The pairs that were inserted before stay, and the rest is dropped.
+    pub fn extend(&mut self, list: Vec<(K, V), A>) -> Result<(), AllocError>
+        ensures ok { OnOk result (self.new.pairs ≡ with_all K.cmp self.old.pairs list.items) }
+        ensures hasher { self.new.hasher ≡ self.old.hasher }
+        ensures err { OnErr result ((front rest : List (K × V)) × (list.items ≡ front ++ rest)
+            × (self.new.pairs ≡ with_all K.cmp self.old.pairs front)) }
+    {
+        let count = list.len();
+        let room = if self.is_empty() {
+            count
+        } else {
+            count.div_ceil(2)
+        };
+        self.reserve(room)?;
+        self.insert_all(list)
+    }
+
+    /// A map of pairs, inserted in their order, over a hasher. It begins as one with room for as many pairs as the list has.
+    ///
+    /// # Errors
+    ///
+    /// [`AllocError`], where memory is wanting. The list is dropped.
+    pub fn from_list(alloc: A, list: Vec<(K, V), A>, hasher: S) -> Result<Self, AllocError>
+    where
+        S: Drop,
+        ensures { IfOk result (λ m. (m.pairs ≡ with_all K.cmp [] list.items) × (m.hasher ≡ hasher)) }
+    {
+        let mut map = SeqMap::with_capacity_and_hasher(alloc, list.len(), hasher)?;
+        map.insert_all(list)?;
+        Ok(map)
+    }
+
+    // Inserts pairs in their order.
+    fn insert_all(&mut self, list: Vec<(K, V), A>) -> Result<(), AllocError>
+        ensures ok { OnOk result (self.new.pairs ≡ with_all K.cmp self.old.pairs list.items) }
+        ensures hasher { self.new.hasher ≡ self.old.hasher }
+        ensures err { OnErr result ((front rest : List (K × V)) × (list.items ≡ front ++ rest)
+            × (self.new.pairs ≡ with_all K.cmp self.old.pairs front)) }
+    {
+        for (key, value) in list {
+            self.insert(key, value)?;
+        }
+        Ok(())
+    }
+
+    // Adds a node of a new key, and makes the table larger where that is due.
+    pub(crate) fn add(&mut self, node: Box<Node<K, V, A>, A>) -> Result<(), AllocError>
+        requires hash { let e = entry_of node.value in e.hash ≡ S.hash_of self.old.hasher (arc_value e.key) }
+        requires absent { pair_at K.cmp self.old.pairs (arc_value (entry_of node.value).key) ≡ None }
+        ensures pairs { let e = entry_of node.value in
+            OnOk result (self.new.pairs ≡ with_pair K.cmp self.old.pairs (arc_value e.key) (arc_value e.value)) }
+        ensures hasher { self.new.hasher ≡ self.old.hasher }
+        ensures err { OnErr result (self.new ≡ self.old) }
+    {
+        if self.put(node)? {
+            let _ = self.grow_to(wanted(2 * self.capacity()));
+        }
+        self.grow_while_full();
+        Ok(())
+    }
+
+    // Puts a node of a new key into its bin. Answers whether the bin asks for a larger table.
+    fn put(&mut self, node: Box<Node<K, V, A>, A>) -> Result<bool, AllocError>
+        requires hash { let e = entry_of node.value in e.hash ≡ S.hash_of self.old.hasher (arc_value e.key) }
+        requires absent { pair_at K.cmp self.old.pairs (arc_value (entry_of node.value).key) ≡ None }
+        ensures pairs { let e = entry_of node.value in
+            OnOk result (self.new.pairs ≡ with_pair K.cmp self.old.pairs (arc_value e.key) (arc_value e.value)) }
+        ensures table { OnOk result (0 < self.new.bins) }
+        ensures hasher { self.new.hasher ≡ self.old.hasher }
+        ensures err { OnErr result (self.new ≡ self.old) }
+    {
+        if self.len == MOST_PAIRS {
+            return Err(AllocError);
+        }
+        self.ensure_table(FIRST_BINS)?;
+        let asks = self.table.put(node);
+        self.len += 1;
+        Ok(asks)
+    }
+
+    // Doubles the table on the way to so many bins.
+    fn grow_to(&mut self, least: usize) -> Result<(), AllocError>
+        requires { 0 < self.old.bins }
+        ensures same { SamePairs self.old self.new }
+        ensures way { IsOnTheWay self.old.bins least self.new.bins }
+        ensures ok { OnOk result ((least ≤ threshold_of self.new.bins) ⊎ (2 ^ 30 ≤ self.new.bins)) }
+    {
+        while threshold(self.capacity()) < least && self.capacity() < MOST_BINS {
+            self.double()?;
+        }
+        Ok(())
+    }
+
+    // Doubles the table while it has as many pairs as its threshold. Where memory is wanting, it stays as it is.
+    fn grow_while_full(&mut self)
+        requires { 0 < self.old.bins }
+        ensures { SamePairs self.old self.new }
+    {
+        while self.len() >= threshold(self.capacity()) && self.capacity() < MOST_BINS {
+            if self.double().is_err() {
+                return;
+            }
+        }
+    }
+
+    // Moves the pairs to a table of twice as many bins.
+    fn double(&mut self) -> Result<(), AllocError>
+        requires table { 0 < self.old.bins }
+        requires less { self.old.bins < 2 ^ 30 }
+        ensures ok { OnOk result (self.new ≡ contents self.old.pairs (2 * self.old.bins) self.old.hasher) }
+        ensures err { OnErr result (self.new ≡ self.old) }
+    {
+        self.table.double()?;
+        Ok(())
+    }
+
+    /// An empty map over a hasher, with a table for so many pairs; without one for 0.
+    ///
+    /// # Errors
+    ///
+    /// [`AllocError`], where memory for the table is wanting.
+    pub fn with_capacity_and_hasher(
+        alloc: A,
+        capacity: usize,
+        hasher: S,
+    ) -> Result<Self, AllocError>
+    where
+        S: Drop,
+        ensures { IfOk result (λ m. m ≡ contents [] (if capacity == 0 then 0 else wanted_of capacity) hasher) }
+    {
+        let mut map = SeqMap::with_hasher(alloc, hasher);
+        if capacity > 0 {
+            map.begin(wanted(capacity))?;
+        }
+        Ok(map)
+    }
+
+    // Makes a table of so many bins, if there is none.
+    fn ensure_table(&mut self, bins: usize) -> Result<(), AllocError>
+        requires { IsTableSize bins }
+        ensures ok { OnOk result (self.new ≡ contents self.old.pairs (first_bins self.old.bins bins) self.old.hasher) }
+        ensures err { OnErr result (self.new ≡ self.old) }
+    {
+        if self.capacity() == 0 {
+            self.begin(bins)?;
+        }
+        Ok(())
+    }
+
+    // Makes a first table of so many bins.
+    fn begin(&mut self, bins: usize) -> Result<(), AllocError>
+        requires none { self.old.bins ≡ 0 }
+        requires size { IsTableSize bins }
+        ensures ok { OnOk result (self.new ≡ contents self.old.pairs bins self.old.hasher) }
+        ensures err { OnErr result (self.new ≡ self.old) }
+    {
+        self.table.begin(bins)?;
+        Ok(())
+    }
+
+    /// Makes the table large enough for so many more pairs. The number of bins that are asked for is [`wanted`] of the length and
+    /// `additional`, whose sum stops at `usize::MAX`; a table is doubled until its [`threshold`] is at least that, or it has
+    /// [`MOST_BINS`] bins. Without a table, one of so many bins is made first.
+    ///
+    /// # Errors
+    ///
+    /// [`AllocError`], where memory for a table is wanting. The pairs stay, and so do the doublings that were done.
+    pub fn reserve(&mut self, additional: usize) -> Result<(), AllocError>
+        ensures same { SamePairs self.old self.new }
+        ensures ok { let w = asked_for self.old additional in
+            OnOk result (IsGrown (first_bins self.old.bins w) w self.new.bins) }
+        ensures err { let w = asked_for self.old additional in
+            OnErr result ((self.new.bins ≡ self.old.bins) ⊎ IsOnTheWay (first_bins self.old.bins w) w self.new.bins) }
+    {
+        let least = wanted(self.len().saturating_add(additional));
+        self.ensure_table(least)?;
+        self.grow_to(least)
+    }
+}
+
+// The node of a pair.
+fn new_node<K: Drop, V: Drop, A: Allocator + Copy>(
+    alloc: A,
+    hash: u64,
+    key: K,
+    value: V,
+) -> Result<Box<Node<K, V, A>, A>, AllocError>
+    ensures hash { IfOk result (λ b. (entry_of b.value).hash ≡ hash) }
+    ensures key { IfOk result (λ b. arc_value (entry_of b.value).key ≡ key) }
+    ensures value { IfOk result (λ b. arc_value (entry_of b.value).value ≡ value) }
+{
+    let key = Arc::new(alloc, key)?;
+    let value = Arc::new(alloc, value)?;
+    let entry = Entry {
+        hash,
+        key,
+        value,
+        number: 0,
+    };
+    Node::new(alloc, entry)
+}
+
+// Two owners of a value.
+fn two_owners<V: Drop, A: Allocator>(
+    alloc: A,
+    value: V,
+) -> Result<(Arc<V, A>, Arc<V, A>), AllocError>
+    ensures { IfOk result (λ p. (arc_value p.0 ≡ value) × (arc_value p.1 ≡ value)) }
+{
+    let first = Arc::new(alloc, value)?;
+    let second = Arc::try_clone(&first)?;
+    Ok((first, second))
+}

@@ -1,0 +1,37 @@
+//! Keeping some of the pairs of an owned map.
+ghost use Rattle.std.specs.Prelude.{◌≡◌};
+ghost use Rattle.flurry_seq.specs.Retain.{Retains};
+
+#[cfg(test)]
+mod tests;
+
+use super::SeqMap;
+use flurry_bins::hash::KeyHasher;
+use std::alloc::Allocator;
+
+impl<K: Ord + Drop, V: Drop, S: KeyHasher<K>, A: Allocator> SeqMap<K, V, S, A> {
+    /// Calls a function once on the stored key and the value of each pair, and keeps the pairs at which it answers true. The order
+    /// of the calls is open.
+    ///
+    /// As many calls as there are pairs, and as many steps again as the table has bins; takes no memory. The table stays as large
+    /// as it is.
+    pub fn retain<F: FnMut(&K, &V) -> bool>(&mut self, f: F)
+    where
+        F: Drop,
+        requires { F.IsAlwaysCallable f }
+        ensures { Retains F.step K.cmp f self.old self.new }
+    {
+        let mut keep = f;
+        self.len = self.table.retain(&mut keep);
+    }
+
+    /// The same as [`SeqMap::retain`]: no other owner can change a value between a call and the removal.
+    pub fn retain_force<F: FnMut(&K, &V) -> bool>(&mut self, f: F)
+    where
+        F: Drop,
+        requires { F.IsAlwaysCallable f }
+        ensures { Retains F.step K.cmp f self.old self.new }
+    {
+        self.retain(f);
+    }
+}

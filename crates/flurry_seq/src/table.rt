@@ -1,0 +1,229 @@
+//! The table of an owned map: a power of two of bins, or none.
+ghost use Rattle.std.specs.Prelude.{◌≡◌, ℕ, [], ◌*◌, ◌<◌, ◌≤◌, ◌^◌, length, replicate, OnOk, OnErr, None, IsSome, IsNone, Some};
+ghost use Rattle.std.specs.Vec.{vec_capacity};
+ghost use Rattle.std.specs.Option.{option_map};
+ghost use Rattle.std.specs.Arc.{arc_value};
+ghost use Rattle.flurry_bins.specs.Chain.{entry_of};
+ghost use Rattle.flurry_bins.specs.Bin.{entries_of_bin};
+ghost use Rattle.flurry_bins.specs.Entries.{entry_at, placed};
+ghost use Rattle.flurry_bins.specs.PlainEntries.{plain};
+ghost use Rattle.flurry_seq.specs.Invariant.{IsTableSize};
+ghost use Rattle.flurry_seq.specs.Seen.{seen};
+ghost use Rattle.flurry_seq.specs.Shapes.{count_in, IsFit};
+ghost use Rattle.flurry_seq.specs.Table.{bin_of, bin_at, entry_in, bins_with, bins_without, bins_doubled};
+
+mod keeping;
+
+use flurry_bins::bin::{Bin, Entry, Node, Ordered, Shape};
+use flurry_bins::table::bin_index;
+use std::alloc::{AllocError, Allocator};
+use std::marker::Model;
+use std::mem;
+use std::sync::Arc;
+
+/// A list of so many nodes becomes a tree when one more is put in, or asks for a larger table.
+const LONG_LIST: usize = 8;
+
+/// A table of fewer bins grows before it makes trees.
+const LEAST_FOR_TREES: usize = 64;
+
+#[derive(Drop)]
+pub(crate) struct Table<K: Ord, V, A: Allocator> {
+    bins: Vec<Bin<K, V, A>, A>,
+}
+
+impl<K: Ord, V, A: Allocator> Model for Table<K, V, A> {
+    ghost use Rattle.std.specs.Prelude.{ℕ, List, length};
+    ghost use Rattle.flurry_seq.specs.Seen.{seen};
+    ghost use Rattle.flurry_seq.specs.Invariant.{IsTableSize};
+
+    ghost Value = { List (List ((ℕ × K) × V)) };
+
+    ghost view = { λ t. seen t.bins.items };
+
+    ghost invariant = { λ t. IsTableSize (length t.bins.items) };
+}
+
+// The index of a hash's bin.
+#[inline]
+fn place<K: Ord, V, A: Allocator>(bins: &Vec<Bin<K, V, A>, A>, hash: u64) -> usize
+    requires size { IsTableSize (length bins.now.items) }
+    requires some { 0 < length bins.now.items }
+    ensures place { result ≡ bin_of (length bins.now.items) hash }
+    ensures below { result < length bins.now.items }
+{
+    bin_index(hash, bins.len().ilog2() as u8)
+}
+
+// Puts a node into its bin in a table of so many bins. Answers whether a larger table is asked for.
+fn put_into<K: Ord + Drop, V: Drop, A: Allocator>(
+    bin: &mut Bin<K, V, A>,
+    node: Box<Node<K, V, A>, A>,
+    bins: usize,
+) -> bool
+    requires absent { let e = entry_of node.value in
+        IsNone (entry_at K.cmp e.hash (arc_value e.key) (entries_of_bin bin.old)) }
+    requires room { length (entries_of_bin bin.old) < 2 ^ 62 }
+    ensures { entries_of_bin bin.new ≡ placed K.cmp (entry_of node.value) (entries_of_bin bin.old) }
+{
+    let is_long = bin.shape() == Shape::List(LONG_LIST);
+    bin.put_node(node);
+    if is_long && bins >= LEAST_FOR_TREES {
+        bin.plant();
+    }
+    is_long && bins < LEAST_FOR_TREES
+}
+
+impl<K: Ord + Drop, V: Drop, A: Allocator> Table<K, V, A> {
+    pub(crate) fn new(alloc: A) -> Self
+        ensures { result ≡ [] }
+    {
+        Table {
+            bins: Vec::new(alloc),
+        }
+    }
+
+    pub(crate) fn allocator(&self) -> &A {
+        self.bins.allocator()
+    }
+
+    // The bins in their order.
+    pub(crate) fn bins(&self) -> &[Bin<K, V, A>]
+        ensures { seen result.now ≡ self.now }
+    {
+        self.bins.as_slice()
+    }
+
+    pub(crate) fn len(&self) -> usize
+        ensures len { result ≡ length self.now }
+        ensures size { IsTableSize result }
+    {
+        self.bins.len()
+    }
+
+    // The entry of a hash and a key.
+    pub(crate) fn find(&self, hash: u64, key: &K) -> Option<&Entry<K, V, A>>
+        ensures { option_map (λ e. plain e.now) result ≡ entry_in K.cmp self.now hash key.now }
+    {
+        if self.bins.is_empty() {
+            return None;
+        }
+        let bin = &self.bins[place(&self.bins, hash)];
+        bin.find(hash, key).0
+    }
+
+    // The shape of a hash's bin.
+    pub(crate) fn shape_of(&self, hash: u64) -> Shape
+        ensures count { count_in result ≡ length (bin_at self.now hash) }
+        ensures fit { IsFit result }
+    {
+        if self.bins.is_empty() {
+            return Shape::Empty;
+        }
+        let bin = &self.bins[place(&self.bins, hash)];
+        bin.shape()
+    }
+
+    // Hands out the bins.
+    pub(crate) fn into_bins(self) -> Vec<Bin<K, V, A>, A>
+        ensures { seen result.items ≡ self }
+    {
+        let Table { bins } = self;
+        bins
+    }
+
+    // Swaps the value of a hash and a key that are there.
+    pub(crate) fn replace(&mut self, hash: u64, key: &K, value: Arc<V, A>) -> Arc<V, A>
+        requires { IsSome (entry_in K.cmp self.old hash key.now) }
+        ensures old { option_map (λ e. e.1) (entry_in K.cmp self.old hash key.now) ≡ Some (arc_value result) }
+        ensures after { self.new ≡ bins_with K.cmp self.old hash key.now (arc_value value) }
+    {
+        let at = place(&self.bins, hash);
+        let bin = &mut self.bins[at];
+        bin.replace(hash, key, value, 0)
+    }
+
+    // Puts a node in whose hash and key are not there. Answers whether the bin asks for a larger table.
+    pub(crate) fn put(&mut self, node: Box<Node<K, V, A>, A>) -> bool
+        requires table { 0 < length self.old }
+        requires room { length (bin_at self.old (entry_of node.value).hash) < 2 ^ 62 }
+        requires absent { let e = entry_of node.value in entry_in K.cmp self.old e.hash (arc_value e.key) ≡ None }
+        ensures { let e = entry_of node.value in self.new ≡ bins_with K.cmp self.old e.hash (arc_value e.key) (arc_value e.value) }
+    {
+        let count = self.bins.len();
+        let at = place(&self.bins, node.entry().hash);
+        let bin = &mut self.bins[at];
+        put_into(bin, node, count)
+    }
+
+    // Takes a key's entry out of its bin.
+    pub(crate) fn remove(&mut self, hash: u64, key: &K) -> Option<Entry<K, V, A>>
+        ensures entry { option_map plain result ≡ entry_in K.cmp self.old hash key.now }
+        ensures after { self.new ≡ bins_without K.cmp self.old hash key.now }
+    {
+        if self.bins.is_empty() {
+            return None;
+        }
+        let at = place(&self.bins, hash);
+        let bin = &mut self.bins[at];
+        match bin.remove(hash, key) {
+            Some(node) => Some(Box::into_inner(node).into_entry()),
+            None => None,
+        }
+    }
+
+    // Takes all entries out.
+    pub(crate) fn clear(&mut self)
+        ensures { self.new ≡ replicate (length self.old) [] }
+    {
+        for at in 0..self.bins.len() {
+            let bin = &mut self.bins[at];
+            *bin = Bin::new();
+        }
+    }
+}
+
+impl<K: Ord + Drop, V: Drop, A: Allocator + Copy> Table<K, V, A> {
+    // Makes so many empty bins.
+    pub(crate) fn begin(&mut self, bins: usize) -> Result<(), AllocError>
+        requires { IsTableSize bins }
+        ensures ok { OnOk result (self.new ≡ replicate bins []) }
+        ensures err { OnErr result (self.new ≡ self.old) }
+    {
+        let mut table = Vec::with_capacity(*self.bins.allocator(), bins)?;
+        for _ in 0..bins {
+            table.push(Bin::new())?;
+        }
+        self.bins = table;
+        Ok(())
+    }
+
+    // Makes twice as many bins, and moves each entry to its own.
+    pub(crate) fn double(&mut self) -> Result<(), AllocError>
+        requires some { 0 < length self.old }
+        requires less { length self.old < 2 ^ 30 }
+        ensures ok { OnOk result (self.new ≡ bins_doubled self.old) }
+        ensures err { OnErr result (self.new ≡ self.old) }
+    {
+        self.bins.reserve_exact(self.bins.len())?;
+        halve(&mut self.bins);
+        Ok(())
+    }
+}
+
+// Leaves the low half of each bin in its place, and puts the high halves behind them.
+fn halve<K: Ord + Drop, V: Drop, A: Allocator>(bins: &mut Vec<Bin<K, V, A>, A>)
+    requires size { IsTableSize (length bins.old.items) }
+    requires some { 0 < length bins.old.items }
+    requires room { 2 * length bins.old.items ≤ vec_capacity bins.old }
+    ensures { seen bins.new.items ≡ bins_doubled (seen bins.old.items) }
+{
+    let count = bins.len();
+    let bit = count.ilog2() as u8;
+    for at in 0..count {
+        let bin = &mut bins[at];
+        let (low, high) = mem::replace(bin, Bin::new()).split(bit);
+        *bin = low;
+        bins.push_reserved(high);
+    }
+}

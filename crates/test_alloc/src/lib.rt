@@ -1,0 +1,316 @@
+//! An allocator for tests. It numbers the requests for memory, and refuses some of them.
+//!
+//! Its numbers are atomics, which other owners may change at any time, so a contract can say nothing of them: its calls are proved
+//! safe, and what they count is only tested.
+#![tactic(auto)]
+
+use std::alloc::{AllocError, Allocator, Global};
+use std::sync::atomic::{AtomicU64, Ordering};
+
+// How many requests were made, which ones are refused (those from `first` to `last`), and how many blocks are out.
+#[derive(Drop)]
+struct Budget {
+    asked: AtomicU64,
+    first: AtomicU64,
+    last: AtomicU64,
+    blocks: AtomicU64,
+}
+
+impl Budget {
+    fn new() -> Budget {
+        Budget {
+            asked: AtomicU64::new(0),
+            first: AtomicU64::new(u64::MAX),
+            last: AtomicU64::new(0),
+            blocks: AtomicU64::new(0),
+        }
+    }
+
+    fn start(&self, first: u64, last: u64) {
+        self.first.store(u64::MAX, Ordering::SeqCst);
+        self.last.store(last, Ordering::SeqCst);
+        self.asked.store(0, Ordering::SeqCst);
+        self.first.store(first, Ordering::SeqCst);
+    }
+
+    // Counts the request that is now made, and says whether it is refused.
+    fn refuses(&self) -> bool {
+        let number = self.asked.fetch_add(1, Ordering::SeqCst);
+        let refused = self.first.load(Ordering::SeqCst) <= number
+            && number <= self.last.load(Ordering::SeqCst);
+        if !refused {
+            self.blocks.fetch_add(1, Ordering::SeqCst);
+        }
+        refused
+    }
+
+    // Counts a block that comes back.
+    fn takes_back(&self) {
+        self.blocks.fetch_sub(1, Ordering::SeqCst);
+    }
+}
+
+/// An allocator that passes each request on to another, but for those that it refuses.
+///
+/// A test lends it: `&Refusing<Global>` is an allocator too, and `Copy`.
+#[derive(Drop)]
+pub struct Refusing<A: Allocator> {
+    inner: A,
+    budget: Budget,
+}
+
+impl<A: Allocator> Refusing<A> {
+    /// It refuses nothing until it is told to.
+    pub fn new(inner: A) -> Refusing<A> {
+        Refusing {
+            inner,
+            budget: Budget::new(),
+        }
+    }
+
+    /// From now on it counts anew, and refuses the request numbered `k` alone.
+    pub fn refuse_at(&self, k: u64) {
+        self.budget.start(k, k);
+    }
+
+    /// From now on it counts anew, and refuses the request numbered `k` and all that follow it.
+    pub fn refuse_from(&self, k: u64) {
+        self.budget.start(k, u64::MAX);
+    }
+
+    /// From now on it counts anew, and refuses nothing.
+    pub fn refuse_nothing(&self) {
+        self.budget.start(u64::MAX, 0);
+    }
+
+    /// Makes a call in which the request numbered `k` is refused, and says whether the call made that request.
+    pub fn refuse_during<T, F: FnOnce() -> T>(&self, k: u64, call: F) -> (T, bool)
+        requires { F.pre call }
+        ensures { F.post call result.0 }
+    {
+        self.refuse_at(k);
+        let answer = call();
+        let refused = self.refused();
+        self.refuse_nothing();
+        (answer, refused)
+    }
+
+    /// The number of requests since it began to count.
+    pub fn asked(&self) -> u64 {
+        self.budget.asked.load(Ordering::SeqCst)
+    }
+
+    /// Whether it has refused a request since it began to count.
+    pub fn refused(&self) -> bool {
+        self.budget.first.load(Ordering::SeqCst) < self.asked()
+    }
+
+    /// The number of blocks that it gave and that have not come back, where the inner allocator never refuses.
+    pub fn blocks(&self) -> u64 {
+        self.budget.blocks.load(Ordering::SeqCst)
+    }
+}
+
+impl Refusing<Global> {
+    /// One that lives to the end of the process, so that a test names no lifetime.
+    pub fn leaked(inner: Global) -> Result<&'static Refusing<Global>, AllocError> {
+        let boxed = Box::new(inner, Refusing::new(inner))?;
+        let leaked: &'static Refusing<Global> = Box::leak(boxed);
+        Ok(leaked)
+    }
+}
+
+unsafe impl<A: Allocator> Allocator for Refusing<A> {
+    ghost dealloc_token = { λ heap ty ptr. A.dealloc_token heap.inner ty ptr };
+
+    fn allocate(&self, size: usize, align: usize) -> Result<*mut u8, AllocError> {
+        if self.budget.refuses() {
+            return Err(AllocError);
+        }
+        self.inner.allocate(size, align)
+    }
+
+    unsafe fn deallocate(&self, ptr: *mut u8, size: usize, align: usize) {
+        self.budget.takes_back();
+        self.inner.deallocate(ptr, size, align);
+    }
+}
+
+#[cfg(test)]
+mod tests {
+    use super::*;
+    use std::sync::{Arc, RwLock, Wait};
+    use std::test::Fail;
+    use std::thread;
+    use std::thread::Threads;
+
+    // A type of a crate's own, generic in the allocator.
+    #[derive(Drop)]
+    struct Link<K, A: Allocator> {
+        key: Arc<K, A>,
+        next: Option<Box<Arc<K, A>, A>>,
+    }
+
+    impl<K: Drop, A: Allocator + Copy> Link<K, A> {
+        fn new(memory: A, key: K) -> Result<Link<K, A>, AllocError> {
+            let key = Arc::new(memory, key)?;
+            let again = Arc::try_clone(&key)?;
+            let next = Box::new(memory, again)?;
+            Ok(Link {
+                key,
+                next: Some(next),
+            })
+        }
+    }
+
+    fn three<A: Allocator + Copy>(memory: A) -> Result<usize, AllocError> {
+        let mut numbers = Vec::new(memory);
+        for i in 0..9u8 {
+            numbers.push(i)?;
+        }
+        let boxed = Box::new(memory, 7u8)?;
+        let shared = Arc::new(memory, *boxed)?;
+        numbers.push(*shared)?;
+        Ok(numbers.len())
+    }
+
+    #[test]
+    fn each_request_is_refused_in_turn(rt: HostRuntime) {
+        let memory = Refusing::new(rt.alloc());
+        let mut requests = None;
+        for k in 0..100u64 {
+            let (answer, refused) = memory.refuse_during(k, || three(&memory));
+            if !refused {
+                assert_eq!(rt; answer, Ok(10));
+                requests = Some(k);
+                break;
+            }
+            assert_eq!(rt; answer, Err(AllocError), "at {k}");
+            assert_eq!(rt; memory.blocks(), 0);
+        }
+        assert_eq!(rt; requests, Some(4));
+    }
+
+    #[test]
+    fn all_from_one_on_are_refused(rt: HostRuntime) -> Result<(), Fail> {
+        let memory = Refusing::new(rt.alloc());
+        memory.refuse_from(2);
+        let mut numbers = Vec::new(&memory);
+        for i in 0..9u8 {
+            numbers.push(i)?;
+        }
+        assert_eq!(rt; memory.asked(), 2);
+        assert!(rt; !memory.refused());
+        assert!(rt; Box::new(&memory, 1u8).is_err());
+        assert!(rt; Box::new(&memory, 1u8).is_err());
+        assert!(rt; numbers.reserve(100).is_err());
+        assert_eq!(rt; numbers.len(), 9);
+        assert!(rt; memory.refused());
+        memory.refuse_nothing();
+        numbers.reserve(100)?;
+        assert_eq!(rt; memory.asked(), 1);
+        Ok(())
+    }
+
+    #[test]
+    fn a_type_of_ones_own(rt: HostRuntime) -> Result<(), Fail> {
+        let memory = Refusing::new(rt.alloc());
+        for k in 0..3u64 {
+            let (answer, refused) = memory.refuse_during(k, || Link::new(&memory, 7u64));
+            assert_eq!(rt; refused, k < 2);
+            assert_eq!(rt; answer.is_err(), refused);
+            if let Ok(link) = answer {
+                assert_eq!(rt; memory.blocks(), 2);
+                assert_eq!(rt; *link.key, 7);
+                assert!(rt; link.next.is_some());
+            }
+        }
+        assert_eq!(rt; memory.blocks(), 0);
+        Ok(())
+    }
+
+    fn on_two<A: Allocator + Copy + Send + Sync>(
+        rt: &impl Threads,
+        memory: A,
+    ) -> Result<(u64, u64), AllocError> {
+        let shared = Arc::new(memory, 3u64)?;
+        let theirs = Arc::try_clone(&shared)?;
+        let (one, two) = thread::join(rt, || boxed(memory, *theirs), || boxed(memory, *shared));
+        Ok((one?, two?))
+    }
+
+    fn boxed<A: Allocator + Copy>(memory: A, number: u64) -> Result<u64, AllocError> {
+        Ok(*Box::new(memory, number)?)
+    }
+
+    #[test]
+    fn threads_share_it(rt: HostRuntime) {
+        let memory = Refusing::new(rt.alloc());
+        for k in 0..100u64 {
+            let (answer, refused) = memory.refuse_during(k, || on_two(&rt, &memory));
+            if !refused {
+                assert_eq!(rt; answer, Ok((3, 3)));
+                assert_eq!(rt; k, 3);
+                break;
+            }
+            assert_eq!(rt; answer, Err(AllocError), "at {k}");
+        }
+    }
+
+    #[test]
+    fn a_leaked_one_goes_to_a_spawned_thread(rt: HostRuntime) -> Result<(), Fail> {
+        let memory = Refusing::leaked(rt.alloc())?;
+        memory.refuse_at(1);
+        let child = thread::spawn(&rt, move || (boxed(memory, 1), boxed(memory, 2)))?;
+        assert_eq!(rt; child.join(&rt), (Ok(1), Err(AllocError)));
+        Ok(())
+    }
+
+    // A shared type of a crate's own: its lock and its keys come from one allocator.
+    #[derive(Drop)]
+    struct Shelf<K, A: Allocator> {
+        keys: RwLock<Vec<Arc<K, A>, A>>,
+        memory: A,
+    }
+
+    impl<K: Drop, A: Allocator + Copy> Shelf<K, A> {
+        fn new(memory: A) -> Shelf<K, A> {
+            Shelf {
+                keys: RwLock::new(Vec::new(memory)),
+                memory,
+            }
+        }
+
+        fn put(&self, rt: &impl Wait, key: K) -> Result<usize, AllocError> {
+            let key = Arc::new(self.memory, key)?;
+            let mut keys = self.keys.write(rt);
+            keys.push(key)?;
+            Ok(keys.len())
+        }
+    }
+
+    fn one_put<A: Allocator + Copy + Send + Sync, R: Threads + Wait + Sync>(
+        rt: &R,
+        shelf: &Shelf<u64, A>,
+    ) -> Result<usize, AllocError> {
+        thread::scope(thread::scope_env(), rt, |s| {
+            let child = s.spawn(|| shelf.put(rt, 3));
+            match child {
+                Ok(child) => child.join(rt),
+                Err(_) => Err(AllocError),
+            }
+        })
+    }
+
+    #[test]
+    fn threads_share_a_type_over_it(rt: HostRuntime) -> Result<(), Fail> {
+        let memory = Refusing::leaked(rt.alloc())?;
+        let shelf: Shelf<u64, &'static Refusing<Global>> = Shelf::new(memory);
+        memory.refuse_at(2);
+        let (one, two) = thread::join(&rt, || shelf.put(&rt, 1), || shelf.put(&rt, 2));
+        assert!(rt; one.is_err() != two.is_err());
+        assert!(rt; memory.refused());
+        assert_eq!(rt; one_put(&rt, &shelf), Ok(2));
+        Ok(())
+    }
+}
