@@ -88,7 +88,7 @@ fn row_15(rt: HostRuntime) -> Result<(), Fail> {
     assert!(rt; refused);
     assert!(rt; answer?.is_none());
     assert_eq!(rt; (map.capacity(), map.len()), (16, 12));
-    assert_eq!(rt; memory.blocks(), before + 3);
+    assert_eq!(rt; memory.blocks().checked_sub(before), Some(3));
     assert_eq!(rt; lent(map.get(&10)), Some(42));
     assert!(rt; map.insert(11, 42)?.is_none());
     assert_eq!(rt; (map.capacity(), map.len()), (32, 13));
