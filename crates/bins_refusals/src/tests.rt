@@ -1,5 +1,7 @@
 //! Each request of a node refused in turn, and the calls of bins while each request is refused.
 
+mod slot;
+
 use flurry_bins::bin::{Bin, Entry, ListBin, Node, Ordered, Shape, TreeBin};
 use std::alloc::{AllocError, Global};
 use std::sync::Arc;

@@ -1,9 +1,11 @@
 -- The kind of a bin, and how many entries it has.
-use Rattle.std.proofs.Common.{◌≡◌, ℕ, ◌+◌, ◌≤◌, arith, Bool, true, false, ◌&&◌, ◌||◌, nat_le, inl, inr, List, length}
-use Rattle.std.proofs.lemmas.Bool.Decides.{leb_tells}
+use Rattle.std.proofs.Common.{◌≡◌, ℕ, ◌+◌, ◌<◌, ◌≤◌, arith, refl, ◌∙◌, Bool, true, false, not, ◌&&◌, ◌||◌, nat_le, inl, inr, List, length}
+use Rattle.std.specs.Prelude.{◌==◌}
+use Rattle.std.proofs.lemmas.Bool.{eqb-true}
+use Rattle.std.proofs.lemmas.Bool.Decides.{leb_tells, nat_tests}
 use Rattle.std.specs.List.{filter}
 use Rattle.std.proofs.lemmas.List.Sums.{length-filter, count_by-le-length}
-use Rattle.flurry_bins.specs.Kind.{IsSized}
+use Rattle.flurry_bins.specs.Kind.{IsSized, grows_into_tree}
 
 -- one more entry, where a list of nine is made a tree first
 pub IsSized-grown : (tree : Bool) (n m : ℕ) → IsSized tree n → m ≡ n + 1 → IsSized (tree || nat_le 9 n) m
@@ -25,3 +27,34 @@ IsSized-kept false n m h le = omega arith
 
 pub filter_no_longer : {X : Type 0} (p : X → Bool) (xs : List X) → length (filter p xs) ≤ length xs
 filter_no_longer p xs = omega (arith, length-filter p xs, count_by-le-length p xs)
+
+-- one more entry in a bin of a table
+pub IsSized-put : (bins : ℕ) (tree : Bool) (n m : ℕ) → IsSized tree n → m ≡ n + 1 → IsSized (grows_into_tree bins tree n) m
+IsSized-put bins true n m h e = omega arith
+IsSized-put bins false n m h e = elim (leb_tells 9 n) [
+  | inl t ↦ rw t.0 (omega arith)
+  | inr f ↦ rw f.0 (by_eight f.1 (n == 8) refl (nat_le 64 bins))
+]
+  where
+    by_eight : n < 9 → (b : Bool) → (n == 8) ≡ b → (c : Bool) → IsSized (b && c) m
+    by_eight few true p true = let same : n ≡ 8 = grind (arith, nat_tests) in omega arith
+    by_eight few true p false = omega arith
+    by_eight few false p c = omega arith
+
+-- a list of eight takes one more
+pub long_facts : (tree : Bool) (n : ℕ) → (not tree && (n == 8)) ≡ true → (tree ≡ false) × (n ≡ 8)
+long_facts true n h = cc
+long_facts false n h = (refl, eqb-true _ _ h)
+
+pub long_in_large : (bins : ℕ) (old put new : Bool) (n m : ℕ) → (not old && (n == 8)) ≡ true → put ≡ (old || nat_le 9 n) → m ≡ n + 1 → new ≡ (put || nat_le 9 m) → 64 ≤ bins → new ≡ grows_into_tree bins old n
+long_in_large bins old put new n m long p l k big =
+    let facts = long_facts old n long in
+    let large : nat_le 64 bins ≡ true = grind (arith, nat_tests) in
+    let nine : m ≡ 9 = omega (arith, facts.1) in
+    k ∙ rw (p, nine, facts.0, facts.1, large) refl
+
+pub long_in_small : (bins : ℕ) (old new : Bool) (n : ℕ) → (not old && (n == 8)) ≡ true → new ≡ (old || nat_le 9 n) → bins < 64 → new ≡ grows_into_tree bins old n
+long_in_small bins old new n long k small =
+    let facts = long_facts old n long in
+    let few : nat_le 64 bins ≡ false = grind (arith, nat_tests) in
+    k ∙ rw (facts.0, facts.1, few) refl

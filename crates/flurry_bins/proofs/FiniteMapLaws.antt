@@ -104,12 +104,12 @@ module _ {K V : Type 0} {cmp : K → K → Ordering} (o : IsTotalOrder cmp) wher
           (λ a. pair_at_below m q (alike_all o (keys_of m) q e.0 (o.congr q k e.0 (eq_of _ a) ∙ p) (sorted_head cmp e.0 (keys_of m) s))))
       by_order Greater p ih = rw (p, ih) (apart_tests _ _ _ _ _ (λ a b. let x = sym p ∙ both_alike o q k e.0 a b in cc))
 
-  -- what is below all keys stays so
-  below_with_pair : (x : K) (m : List (K × V)) (k : K) (v : V) → cmp x k ≡ Less → AllByRecursion (λ y. cmp x y ≡ Less) (keys_of m) → AllByRecursion (λ y. cmp x y ≡ Less) (keys_of (with_pair cmp m k v))
-  below_with_pair x [] k v p h = (p, tt)
-  below_with_pair x (e ∷ m) k v p h = by_order (cmp k e.0) refl (below_with_pair x m k v p h.1)
+  -- what holds of each key, and of the new one, holds of each key after it is put
+  pub all_with_pair : (P : K → Type 0) (m : List (K × V)) (k : K) (v : V) → P k → AllByRecursion P (keys_of m) → AllByRecursion P (keys_of (with_pair cmp m k v))
+  all_with_pair P [] k v p h = (p, tt)
+  all_with_pair P (e ∷ m) k v p h = by_order (cmp k e.0) refl (all_with_pair P m k v p h.1)
     where
-      by_order : (r : Ordering) → cmp k e.0 ≡ r → AllByRecursion (λ y. cmp x y ≡ Less) (keys_of (with_pair cmp m k v)) → AllByRecursion (λ y. cmp x y ≡ Less) (keys_of (with_pair cmp (e ∷ m) k v))
+      by_order : (r : Ordering) → cmp k e.0 ≡ r → AllByRecursion P (keys_of (with_pair cmp m k v)) → AllByRecursion P (keys_of (with_pair cmp (e ∷ m) k v))
       by_order Less a ih = rw a (p, h)
       by_order Equal a ih = rw a h
       by_order Greater a ih = rw a (h.0, ih)
@@ -122,13 +122,14 @@ module _ {K V : Type 0} {cmp : K → K → Ordering} (o : IsTotalOrder cmp) wher
       by_order : (r : Ordering) → cmp k e.0 ≡ r → IsFiniteMap cmp (with_pair cmp m k v) → IsFiniteMap cmp (with_pair cmp (e ∷ m) k v)
       by_order Less a ih = rw a ((a, below_all o k e.0 (keys_of m) a s.0), s)
       by_order Equal a ih = rw a s
-      by_order Greater a ih = rw a (below_with_pair e.0 m k v (turned o k e.0 a) s.0, ih)
+      by_order Greater a ih = rw a (all_with_pair (λ y. cmp e.0 y ≡ Less) m k v (turned o k e.0 a) s.0, ih)
 
-  below_without : (x : K) (m : List (K × V)) (k : K) → AllByRecursion (λ y. cmp x y ≡ Less) (keys_of m) → AllByRecursion (λ y. cmp x y ≡ Less) (keys_of (without cmp m k))
-  below_without x [] k h = tt
-  below_without x (e ∷ m) k h = by_test (is_eq (cmp k e.0)) refl (below_without x m k h.1)
+  -- and of each key that is left
+  pub all_without : (P : K → Type 0) (m : List (K × V)) (k : K) → AllByRecursion P (keys_of m) → AllByRecursion P (keys_of (without cmp m k))
+  all_without P [] k h = tt
+  all_without P (e ∷ m) k h = by_test (is_eq (cmp k e.0)) refl (all_without P m k h.1)
     where
-      by_test : (b : Bool) → is_eq (cmp k e.0) ≡ b → AllByRecursion (λ y. cmp x y ≡ Less) (keys_of (without cmp m k)) → AllByRecursion (λ y. cmp x y ≡ Less) (keys_of (without cmp (e ∷ m) k))
+      by_test : (b : Bool) → is_eq (cmp k e.0) ≡ b → AllByRecursion P (keys_of (without cmp m k)) → AllByRecursion P (keys_of (without cmp (e ∷ m) k))
       by_test true a ih = rw a h.1
       by_test false a ih = rw a (h.0, ih)
 
@@ -139,7 +140,7 @@ module _ {K V : Type 0} {cmp : K → K → Ordering} (o : IsTotalOrder cmp) wher
     where
       by_test : (b : Bool) → is_eq (cmp k e.0) ≡ b → IsFiniteMap cmp (without cmp m k) → IsFiniteMap cmp (without cmp (e ∷ m) k)
       by_test true a ih = rw a s.1
-      by_test false a ih = rw a (below_without e.0 m k s.0, ih)
+      by_test false a ih = rw a (all_without (λ y. cmp e.0 y ≡ Less) m k s.0, ih)
 
   pair_at_head : (x : K × V) (m : List (K × V)) (q : K) → cmp q x.0 ≡ Equal → pair_at cmp (x ∷ m) q ≡ Some x
   pair_at_head x m q p = rw p refl
@@ -198,11 +199,11 @@ module _ {K V : Type 0} {cmp : K → K → Ordering} (o : IsTotalOrder cmp) wher
       by_test false p None h ih = rw (p, h) (let x = rw h at ih in omega arith)
       by_test false p (Some f) h ih = rw (p, h) (let x = rw h at ih in let y = found_in m k f h in omega arith)
 
-  below_filter : (x : K) (test : K × V → Bool) (m : List (K × V)) → AllByRecursion (λ y. cmp x y ≡ Less) (keys_of m) → AllByRecursion (λ y. cmp x y ≡ Less) (keys_of (filter test m))
-  below_filter x test [] h = tt
-  below_filter x test (e ∷ m) h = by_test (test e) refl (below_filter x test m h.1)
+  pub all_filter : (P : K → Type 0) (test : K × V → Bool) (m : List (K × V)) → AllByRecursion P (keys_of m) → AllByRecursion P (keys_of (filter test m))
+  all_filter P test [] h = tt
+  all_filter P test (e ∷ m) h = by_test (test e) refl (all_filter P test m h.1)
     where
-      by_test : (b : Bool) → test e ≡ b → AllByRecursion (λ y. cmp x y ≡ Less) (keys_of (filter test m)) → AllByRecursion (λ y. cmp x y ≡ Less) (keys_of (filter test (e ∷ m)))
+      by_test : (b : Bool) → test e ≡ b → AllByRecursion P (keys_of (filter test m)) → AllByRecursion P (keys_of (filter test (e ∷ m)))
       by_test true p ih = rw p (h.0, ih)
       by_test false p ih = rw p ih
 
@@ -213,7 +214,7 @@ module _ {K V : Type 0} {cmp : K → K → Ordering} (o : IsTotalOrder cmp) wher
   IsFiniteMap-filter test (e ∷ m) s = by_test (test e) refl (IsFiniteMap-filter test m s.1)
     where
       by_test : (b : Bool) → test e ≡ b → IsFiniteMap cmp (filter test m) → IsFiniteMap cmp (filter test (e ∷ m))
-      by_test true p ih = rw p (below_filter e.0 test m s.0, ih)
+      by_test true p ih = rw p (all_filter (λ y. cmp e.0 y ≡ Less) test m s.0, ih)
       by_test false p ih = rw p ih
 
   pub IsFiniteMap-gathered : (ps : List (K × V)) → IsFiniteMap cmp (gathered cmp ps)

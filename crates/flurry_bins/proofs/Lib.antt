@@ -1,6 +1,7 @@
 pub mod BinSizes
 pub mod Chains
 pub mod Edits
+pub mod GreatestLaws
 pub mod Insertion
 pub mod Outs
 pub mod FiniteMapLaws
@@ -10,6 +11,7 @@ pub mod PlainEntryLaws
 pub mod SizeLaws
 pub mod Powers
 pub mod RedBlack
+pub mod RegionLaws
 pub mod Removals
 pub mod Rewriting
 pub mod Shortness

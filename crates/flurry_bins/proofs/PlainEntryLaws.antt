@@ -4,15 +4,23 @@ use Rattle.std.specs.Ordering.{is_eq, is_lt, is_gt}
 use Rattle.std.specs.Cmp.{IsTotalOrder}
 use Rattle.std.specs.Int.{bit_at}
 use Rattle.std.specs.Prelude.{◌==◌}
-use Rattle.std.specs.Option.{option_map, IsNone, IsSome}
+use Rattle.std.proofs.Common.{◌+◌, length}
+use Rattle.std.proofs.lemmas.List.{length-map}
+use Rattle.flurry_bins.proofs.FiniteMapLaws.{length-with_pair}
+use Rattle.std.specs.List.{find, AllByRecursion}
+use Rattle.std.specs.List.Sorted.{IsStrictlySortedBy}
+use Rattle.std.specs.Map.{keys_of}
+use Rattle.flurry_bins.specs.Region.{InRegion, AllInRegion}
+use Rattle.std.specs.Option.{option_map, option_copied, IsNone, IsSome}
+use Rattle.std.specs.Borrow.{Bor}
 use Rattle.std.specs.Arc.{arc_value}
 use Rattle.std.specs.declared.sync.Arc.{Arc}
 use Rattle.flurry_bins.specs.declared.bin.entry.Entry.{Entry}
 use Rattle.flurry_bins.specs.Entries.{place_cmp, entry_cmp, IsAscending, is_at, is_before, is_past, entry_at, first_past, is_past_bound, placed, replaced, without as without_place, with_value, with_bit}
-use Rattle.flurry_bins.specs.FiniteMap.{pair_at, with_pair, without}
-use Rattle.flurry_bins.specs.PlainEntries.{hash_then_key, plain, plain_all, plain_with_bit}
+use Rattle.flurry_bins.specs.FiniteMap.{IsFiniteMap, pair_at, with_pair, without}
+use Rattle.flurry_bins.specs.PlainEntries.{hash_then_key, is_held_past, pair_with, plain, plain_all, plain_with_bit}
 use Rattle.flurry_bins.proofs.Sides.{sorted_tail}
-use Rattle.flurry_bins.proofs.Places.{AllPast, past_rest, none_there, entry_further, without-back, before-back, past-back, replaced-back}
+use Rattle.flurry_bins.proofs.Places.{hash_then_key_total, AllPast, past_rest, none_there, entry_further, without-back, before-back, past-back, replaced-back}
 
 mapped : {A B : Type 0} (f : A → B) (b : Bool) (x : A) (o : Option A) (p : Option B) → p ≡ option_map f o → cond b (Some (f x)) p ≡ option_map f (cond b (Some x) o)
 mapped f true x o p h = refl
@@ -22,25 +30,47 @@ mapped_list : {A B : Type 0} (f : A → B) (b : Bool) (x : A) (xs : List A) (ys 
 mapped_list f true x xs ys h = ap (λ l. f x ∷ l) h
 mapped_list f false x xs ys h = h
 
-module _ {K V A : Type 0} (cmp : K → K → Ordering) where
-  pub plain-entry_at : (h : ℕ) (k : K) (es : List (Entry K V A)) → pair_at (hash_then_key cmp) (plain_all es) (h, k) ≡ option_map plain (entry_at cmp h k es)
-  plain-entry_at h k [] = refl
-  plain-entry_at h k (e ∷ es) = mapped plain (is_at cmp h k e) e _ _ (plain-entry_at h k es)
+module _ {K V A W : Type 0} (cmp : K → K → Ordering) (f : Entry K V A → W) where
+  pub paired-entry_at : (h : ℕ) (k : K) (es : List (Entry K V A)) → pair_at (hash_then_key cmp) (map (pair_with f) es) (h, k) ≡ option_map (pair_with f) (entry_at cmp h k es)
+  paired-entry_at h k [] = refl
+  paired-entry_at h k (e ∷ es) = mapped (pair_with f) (is_at cmp h k e) e _ _ (paired-entry_at h k es)
 
-  pub plain-with_bit : (place bit : ℕ) (es : List (Entry K V A)) → plain_all (with_bit place bit es) ≡ plain_with_bit place bit (plain_all es)
-  plain-with_bit place bit [] = refl
-  plain-with_bit place bit (e ∷ es) = mapped_list plain (bit_at e.hash place == bit) e _ _ (plain-with_bit place bit es)
+  -- the first entry past a bound
+  pub paired-first_past : (bound : Option (ℕ × K)) (es : List (Entry K V A)) → find (is_held_past cmp bound) (map (pair_with f) es) ≡ option_map (pair_with f) (first_past cmp bound es)
+  paired-first_past None [] = refl
+  paired-first_past None (e ∷ es) = refl
+  paired-first_past (Some b) [] = refl
+  paired-first_past (Some b) (e ∷ es) = mapped (pair_with f) (is_past cmp b.0 b.1 e) e _ _ (paired-first_past (Some b) es)
 
-module _ {K V A : Type 0} {cmp : K → K → Ordering} (o : IsTotalOrder cmp) where
-  pub plain-without : (h : ℕ) (k : K) (es : List (Entry K V A)) → IsAscending cmp es → plain_all (without_place cmp h k es) ≡ without (hash_then_key cmp) (plain_all es) (h, k)
-  plain-without h k [] up = refl
-  plain-without h k (e ∷ es) up = by_order (place_cmp cmp h k e) refl (plain-without h k es (sorted_tail (entry_cmp cmp) e es up))
+  -- they ascend as the entries do
+  all_further : (d : Entry K V A) (es : List (Entry K V A)) → AllByRecursion (λ e. entry_cmp cmp d e ≡ Less) es → AllByRecursion (λ q. hash_then_key cmp (d.hash, arc_value d.key) q ≡ Less) (keys_of (map (pair_with f) es))
+  all_further d [] h = tt
+  all_further d (e ∷ es) h = (h.0, all_further d es h.1)
+
+  pub paired-ascending : (es : List (Entry K V A)) → IsAscending cmp es → IsFiniteMap (hash_then_key cmp) (map (pair_with f) es)
+  unfolding IsStrictlySortedBy
+  paired-ascending [] up = tt
+  paired-ascending (e ∷ es) up = (all_further e es up.0, paired-ascending es up.1)
+
+  -- and lie in the same region
+  pub paired-region : (table index : ℕ) (es : List (Entry K V A)) → AllInRegion table index es → AllByRecursion (λ (q : ℕ × K). InRegion table index q.0) (keys_of (map (pair_with f) es))
+  paired-region table index [] h = tt
+  paired-region table index (e ∷ es) h = (h.0, paired-region table index es h.1)
+
+  pub paired-with_bit : (place bit : ℕ) (es : List (Entry K V A)) → map (pair_with f) (with_bit place bit es) ≡ plain_with_bit place bit (map (pair_with f) es)
+  paired-with_bit place bit [] = refl
+  paired-with_bit place bit (e ∷ es) = mapped_list (pair_with f) (bit_at e.hash place == bit) e _ _ (paired-with_bit place bit es)
+
+module _ {K V A W : Type 0} {cmp : K → K → Ordering} (o : IsTotalOrder cmp) (f : Entry K V A → W) where
+  pub paired-without : (h : ℕ) (k : K) (es : List (Entry K V A)) → IsAscending cmp es → map (pair_with f) (without_place cmp h k es) ≡ without (hash_then_key cmp) (map (pair_with f) es) (h, k)
+  paired-without h k [] up = refl
+  paired-without h k (e ∷ es) up = by_order (place_cmp cmp h k e) refl (paired-without h k es (sorted_tail (entry_cmp cmp) e es up))
     where
-      by_order : (r : Ordering) → place_cmp cmp h k e ≡ r → plain_all (without_place cmp h k es) ≡ without (hash_then_key cmp) (plain_all es) (h, k)
-          → plain_all (without_place cmp h k (e ∷ es)) ≡ without (hash_then_key cmp) (plain_all (e ∷ es)) (h, k)
-      by_order Less p ih = rw p (ap (λ l. plain e ∷ l) ih)
-      by_order Greater p ih = rw p (ap (λ l. plain e ∷ l) ih)
-      by_order Equal p ih = rw p (ap plain_all (without-back cmp h k [] es (past_rest o h k e es up (ap is_gt p))))
+      by_order : (r : Ordering) → place_cmp cmp h k e ≡ r → map (pair_with f) (without_place cmp h k es) ≡ without (hash_then_key cmp) (map (pair_with f) es) (h, k)
+          → map (pair_with f) (without_place cmp h k (e ∷ es)) ≡ without (hash_then_key cmp) (map (pair_with f) (e ∷ es)) (h, k)
+      by_order Less p ih = rw p (ap (λ l. pair_with f e ∷ l) ih)
+      by_order Greater p ih = rw p (ap (λ l. pair_with f e ∷ l) ih)
+      by_order Equal p ih = rw p (ap (map (pair_with f)) (without-back cmp h k [] es (past_rest o h k e es up (ap is_gt p))))
 
   placed_first : (x e : Entry K V A) (es : List (Entry K V A)) → IsAscending cmp (e ∷ es) → place_cmp cmp x.hash (arc_value x.key) e ≡ Less → placed cmp x (e ∷ es) ≡ x ∷ e ∷ es
   placed_first x e es up l =
@@ -49,26 +79,76 @@ module _ {K V A : Type 0} {cmp : K → K → Ordering} (o : IsTotalOrder cmp) wh
       let all : AllPast cmp h k (e ∷ es) = (l, past_rest o h k e es up (ap is_gt l)) in
       ap (λ t. t ++ x ∷ filter (is_past cmp h k) (e ∷ es)) (before-back cmp h k [] (e ∷ es) all) ∙ ap (λ t. x ∷ t) (past-back cmp h k [] (e ∷ es) all)
 
-  pub plain-placed : (x : Entry K V A) (es : List (Entry K V A)) → IsAscending cmp es → IsNone (entry_at cmp x.hash (arc_value x.key) es)
-      → plain_all (placed cmp x es) ≡ with_pair (hash_then_key cmp) (plain_all es) (x.hash, arc_value x.key) (arc_value x.value)
-  plain-placed x [] up none = refl
-  plain-placed x (e ∷ es) up none = by_order (place_cmp cmp x.hash (arc_value x.key) e) refl (plain-placed x es (sorted_tail (entry_cmp cmp) e es up))
+  pub paired-placed : (x : Entry K V A) (es : List (Entry K V A)) → IsAscending cmp es → IsNone (entry_at cmp x.hash (arc_value x.key) es)
+      → map (pair_with f) (placed cmp x es) ≡ with_pair (hash_then_key cmp) (map (pair_with f) es) (x.hash, arc_value x.key) (f x)
+  paired-placed x [] up none = refl
+  paired-placed x (e ∷ es) up none = by_order (place_cmp cmp x.hash (arc_value x.key) e) refl (paired-placed x es (sorted_tail (entry_cmp cmp) e es up))
     where
       by_order : (r : Ordering) → place_cmp cmp x.hash (arc_value x.key) e ≡ r
-          → (IsNone (entry_at cmp x.hash (arc_value x.key) es) → plain_all (placed cmp x es) ≡ with_pair (hash_then_key cmp) (plain_all es) (x.hash, arc_value x.key) (arc_value x.value))
-          → plain_all (placed cmp x (e ∷ es)) ≡ with_pair (hash_then_key cmp) (plain_all (e ∷ es)) (x.hash, arc_value x.key) (arc_value x.value)
-      by_order Less p ih = ap plain_all (placed_first x e es up p) ∙ rw p refl
+          → (IsNone (entry_at cmp x.hash (arc_value x.key) es) → map (pair_with f) (placed cmp x es) ≡ with_pair (hash_then_key cmp) (map (pair_with f) es) (x.hash, arc_value x.key) (f x))
+          → map (pair_with f) (placed cmp x (e ∷ es)) ≡ with_pair (hash_then_key cmp) (map (pair_with f) (e ∷ es)) (x.hash, arc_value x.key) (f x)
+      by_order Less p ih = ap (map (pair_with f)) (placed_first x e es up p) ∙ rw p refl
       by_order Equal p ih = let there = rw p at none in cc
-      by_order Greater p ih = let further = rw p at none in rw p (ap (λ l. plain e ∷ l) (ih further))
+      by_order Greater p ih = let further = rw p at none in rw p (ap (λ l. pair_with f e ∷ l) (ih further))
+
+  -- the value and the number that are written make w of each entry
+  pub paired-replaced : (h : ℕ) (k : K) (v : Arc V A) (n : ℕ) (w : W) (es : List (Entry K V A)) → ((e : Entry K V A) → f (with_value e v n) ≡ w) → IsAscending cmp es → IsSome (entry_at cmp h k es)
+      → map (pair_with f) (replaced cmp h k v n es) ≡ with_pair (hash_then_key cmp) (map (pair_with f) es) (h, k) w
+  paired-replaced h k v n w [] alike up some = cc
+  paired-replaced h k v n w (e ∷ es) alike up some = by_order (place_cmp cmp h k e) refl (paired-replaced h k v n w es alike (sorted_tail (entry_cmp cmp) e es up))
+    where
+      by_order : (r : Ordering) → place_cmp cmp h k e ≡ r
+          → (IsSome (entry_at cmp h k es) → map (pair_with f) (replaced cmp h k v n es) ≡ with_pair (hash_then_key cmp) (map (pair_with f) es) (h, k) w)
+          → map (pair_with f) (replaced cmp h k v n (e ∷ es)) ≡ with_pair (hash_then_key cmp) (map (pair_with f) (e ∷ es)) (h, k) w
+      by_order Less p ih = let none = rw (none_there o h k e es up p) at some in cc
+      by_order Equal p ih =
+          rw p
+          (ap (λ l. pair_with f (with_value e v n) ∷ map (pair_with f) l) (replaced-back cmp h k [] es (past_rest o h k e es up (ap is_gt p)) v n)
+          ∙ ap (λ x. ((e.hash, arc_value e.key), x) ∷ map (pair_with f) es) (alike e))
+      by_order Greater p ih = let further = rw p at some in rw p (ap (λ l. pair_with f e ∷ l) (ih further))
+
+-- ---- what a bin answers, seen through f
+
+pub copied : {A B : Type 0} (f : A → B) (w : Option (Bor A)) → option_map (λ (x : Bor A). f x.now) w ≡ option_map f (option_copied w)
+copied f None = refl
+copied f (Some x) = refl
+
+pub some_mapped : {A B : Type 0} (f : A → B) (w : Option A) → IsSome (option_map f w) → IsSome w
+some_mapped f None h = cc
+some_mapped f (Some x) h = refl
+
+pub none_mapped : {A B : Type 0} (f : A → B) (w : Option A) → option_map f w ≡ None → IsNone w
+none_mapped f None h = refl
+none_mapped f (Some x) h = cc
+
+-- ---- with the value alone
+
+module _ {K V A : Type 0} (cmp : K → K → Ordering) where
+  pub plain-entry_at : (h : ℕ) (k : K) (es : List (Entry K V A)) → pair_at (hash_then_key cmp) (plain_all es) (h, k) ≡ option_map plain (entry_at cmp h k es)
+  plain-entry_at h k es = paired-entry_at cmp (λ (d : Entry K V A). arc_value d.value) h k es
+
+  pub plain-with_bit : (place bit : ℕ) (es : List (Entry K V A)) → plain_all (with_bit place bit es) ≡ plain_with_bit place bit (plain_all es)
+  plain-with_bit place bit es = paired-with_bit cmp (λ (d : Entry K V A). arc_value d.value) place bit es
+
+module _ {K V A : Type 0} {cmp : K → K → Ordering} (o : IsTotalOrder cmp) where
+  pub plain-without : (h : ℕ) (k : K) (es : List (Entry K V A)) → IsAscending cmp es → plain_all (without_place cmp h k es) ≡ without (hash_then_key cmp) (plain_all es) (h, k)
+  plain-without h k es up = paired-without o (λ (d : Entry K V A). arc_value d.value) h k es up
+
+  pub plain-placed : (x : Entry K V A) (es : List (Entry K V A)) → IsAscending cmp es → IsNone (entry_at cmp x.hash (arc_value x.key) es)
+      → plain_all (placed cmp x es) ≡ with_pair (hash_then_key cmp) (plain_all es) (x.hash, arc_value x.key) (arc_value x.value)
+  plain-placed x es up none = paired-placed o (λ (d : Entry K V A). arc_value d.value) x es up none
 
   pub plain-replaced : (h : ℕ) (k : K) (v : Arc V A) (n : ℕ) (es : List (Entry K V A)) → IsAscending cmp es → IsSome (entry_at cmp h k es)
       → plain_all (replaced cmp h k v n es) ≡ with_pair (hash_then_key cmp) (plain_all es) (h, k) (arc_value v)
-  plain-replaced h k v n [] up some = cc
-  plain-replaced h k v n (e ∷ es) up some = by_order (place_cmp cmp h k e) refl (plain-replaced h k v n es (sorted_tail (entry_cmp cmp) e es up))
-    where
-      by_order : (r : Ordering) → place_cmp cmp h k e ≡ r
-          → (IsSome (entry_at cmp h k es) → plain_all (replaced cmp h k v n es) ≡ with_pair (hash_then_key cmp) (plain_all es) (h, k) (arc_value v))
-          → plain_all (replaced cmp h k v n (e ∷ es)) ≡ with_pair (hash_then_key cmp) (plain_all (e ∷ es)) (h, k) (arc_value v)
-      by_order Less p ih = let none = rw (none_there o h k e es up p) at some in cc
-      by_order Equal p ih = rw p (ap (λ l. plain (with_value e v n) ∷ plain_all l) (replaced-back cmp h k [] es (past_rest o h k e es up (ap is_gt p)) v n))
-      by_order Greater p ih = let further = rw p at some in rw p (ap (λ l. plain e ∷ l) (ih further))
+  plain-replaced h k v n es up some = paired-replaced o (λ (d : Entry K V A). arc_value d.value) h k v n (arc_value v) es (λ e. refl) up some
+
+pub absent_is : {X : Type 0} (w : Option X) → IsNone w → w ≡ None
+absent_is None h = refl
+absent_is (Some x) h = cc
+
+-- one more entry
+pub length-placed : {K V A : Type 0} {cmp : _} (o : IsTotalOrder {K = K} cmp) (x : Entry K V A) (es : List (Entry K V A)) → IsAscending cmp es → IsNone (entry_at cmp x.hash (arc_value x.key) es) → length (placed cmp x es) ≡ length es + 1
+length-placed {K = K} {V = V} {A = A} {cmp = cmp} o x es up none =
+    let at : pair_at (hash_then_key cmp) (plain_all es) (x.hash, arc_value x.key) ≡ None = paired-entry_at cmp (λ (d : Entry K V A). arc_value d.value) x.hash (arc_value x.key) es ∙ ap (option_map plain) (absent_is _ none) in
+    sym (length-map (placed cmp x es) plain) ∙ ap length (paired-placed o (λ (d : Entry K V A). arc_value d.value) x es up none)
+    ∙ rw at at (length-with_pair (hash_then_key_total o) (plain_all es) (x.hash, arc_value x.key) (arc_value x.value) (paired-ascending cmp (λ (d : Entry K V A). arc_value d.value) es up)) ∙ ap (λ n. n + 1) (length-map es plain)

@@ -17,3 +17,4 @@ pub mod Sizes
 pub mod Tree
 pub mod TryInsert
 pub mod WayBound
+pub mod Greatest

@@ -1,5 +1,5 @@
 -- The sizes of tables.
-use Rattle.std.specs.Prelude.{◌≡◌, ℕ, ◌+◌, ◌-◌, ◌*◌, ◌/◌, ◌^◌, ◌<◌, ◌≤◌, ◌⊎◌, nat_le, length, if◌then◌else◌}
+use Rattle.std.specs.Prelude.{◌≡◌, ℕ, ◌+◌, ◌-◌, ◌*◌, ◌/◌, ◌^◌, ◌<◌, ◌≤◌, ◌⊎◌, nat_le, max, length, if◌then◌else◌}
 use Rattle.std.specs.Int.Digits.{digits_of}
 
 -- a table of n bins is doubled once it has this many pairs
@@ -10,6 +10,10 @@ threshold_of n = n - n / 4
 -- number of that number's binary digits
 unfoldable pub wanted_of : ℕ → ℕ
 wanted_of s = if nat_le (2 ^ 29) s then 2 ^ 30 else 2 ^ length (digits_of 2 (s + s / 2))
+
+-- how many bins of n one of p processors claims at once
+abbrev pub stride_of : ℕ → ℕ → ℕ
+stride_of n p = if nat_le p 1 then max 16 n else max 16 ((n / 8) / p)
 
 -- a table of n bins is doubled on the way to room for w pairs below the threshold
 abbrev pub IsTooSmall : ℕ → ℕ → Type 0

@@ -13,6 +13,6 @@ pub mod tree;
 pub use choice::{Bin, Shape};
 pub use entry::Entry;
 pub use list::ListBin;
-pub use node::Node;
+pub use node::{BoxedNode, Node};
 pub use ordered::Ordered;
 pub use tree::TreeBin;

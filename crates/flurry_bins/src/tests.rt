@@ -5,6 +5,7 @@ ghost use Rattle.flurry_bins.specs.Chain.{entry_of};
 
 use crate::bin::{Bin, Entry, ListBin, Node, Ordered, Shape, TreeBin};
 use crate::hash::{DefaultHashBuilder, KeyHasher, LowHashBuilder, MaxHashBuilder, ZeroHashBuilder};
+use crate::table::stride;
 use std::alloc::Global;
 use std::hash::{Hash, Hasher};
 use std::sync::Arc;
@@ -250,5 +251,28 @@ fn hashes(rt: HostRuntime) -> Result<(), Fail> {
     let mut hasher = builder.build_hasher();
     5u32.hash(&mut hasher);
     assert_eq!(rt; builder.hash_one(&5u32), hasher.finish());
+    Ok(())
+}
+
+#[test]
+fn the_greatest_number_of_a_bin(rt: HostRuntime) -> Result<(), Fail> {
+    let mut bin: Bin<u64, u64> = Bin::new();
+    for key in 0u64..20 {
+        if bin.find(3, &key).0.is_none() && bin.len() < 100 {
+            bin.put_node(Node::of_pair(rt.alloc(), 3, key, key, (key * 7) % 20)?);
+        }
+    }
+    assert_eq!(rt; bin.greatest_number(), 19);
+    let empty: Bin<u64, u64> = Bin::new();
+    assert_eq!(rt; empty.greatest_number(), 0);
+    Ok(())
+}
+
+#[test]
+fn strides(rt: HostRuntime) -> Result<(), Fail> {
+    assert_eq!(rt; stride(1024, 4), 32);
+    assert_eq!(rt; stride(1024, 1), 1024);
+    assert_eq!(rt; stride(1024, 0), 1024);
+    assert_eq!(rt; stride(8, 1), 16);
     Ok(())
 }

@@ -77,21 +77,9 @@ module _ {K V A : Type 0} {o : _} {e : _} {p : _} (xs : List (Bin K V A o e p)) 
       (with_here lt is at (arc_value x.key) (arc_value x.value) c
       (ap plain_all e ∙ plain-placed total x (entries_of_bin b) (ascending_of_bin b) none ∙ ap (λ y. with_pair (hash_then_key o.cmp) (plain_bin b) (y, arc_value x.key) (arc_value x.value)) same))
 
-pub some_mapped : {A B : Type 0} (f : A → B) (w : Option A) → IsSome (option_map f w) → IsSome w
-some_mapped f None h = cc
-some_mapped f (Some x) h = refl
-
-pub none_mapped : {A B : Type 0} (f : A → B) (w : Option A) → option_map f w ≡ None → IsNone w
-none_mapped f None h = refl
-none_mapped f (Some x) h = cc
-
 pub value_mapped : {K V A : Type 0} (w : Option (Entry K V A)) (v : Arc V A) → option_map (λ (e : Entry K V A). e.value) w ≡ Some v → option_map (λ (e : (ℕ × K) × V). e.1) (option_map plain w) ≡ Some (arc_value v)
 value_mapped None v h = cc
 value_mapped (Some x) v h = let same : x.value ≡ v = cc in ap (λ y. Some (arc_value y)) same
-
-pub copied : {A B : Type 0} (f : A → B) (w : Option (Bor A)) → option_map (λ (x : Bor A). f x.now) w ≡ option_map f (option_copied w)
-copied f None = refl
-copied f (Some x) = refl
 
 -- where something stands, there is a table
 pub entry_some : {K V A : Type 0} {o : _} {e : _} {p : _} (xs : List (Bin K V A o e p)) (h : ℕ) (k : K) → IsSome (entry_in o.cmp (seen xs) h k) → 0 < length xs

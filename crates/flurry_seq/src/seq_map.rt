@@ -19,7 +19,7 @@ mod keeping;
 use crate::table::Table;
 use flurry_bins::bin::{Bin, Entry, Node, Shape};
 use flurry_bins::hash::{DefaultHashBuilder, KeyHasher};
-use flurry_bins::table::{MOST_BINS, TryInsertError, threshold, wanted};
+use flurry_bins::table::{MOST_BINS, TryInsertError, threshold, two_owners, wanted};
 use std::alloc::{AllocError, Allocator, Global};
 use std::hash::Hash;
 use std::marker::Model;
@@ -270,7 +270,7 @@ impl<K: Ord + Drop, V: Drop, S: KeyHasher<K>, A: Allocator + Copy> SeqMap<K, V, 
             let value = Arc::new(*self.table.allocator(), value)?;
             return Ok(Some(self.swap_value(hash, &key, value)));
         }
-        let node = new_node(*self.table.allocator(), hash, key, value)?;
+        let node = Node::of_pair(*self.table.allocator(), hash, key, value, 0)?;
         self.add(node)?;
         Ok(None)
     }
@@ -301,7 +301,7 @@ impl<K: Ord + Drop, V: Drop, S: KeyHasher<K>, A: Allocator + Copy> SeqMap<K, V, 
                 not_inserted: value,
             }));
         }
-        let node = new_node(*self.table.allocator(), hash, key, value)?;
+        let node = Node::of_pair(*self.table.allocator(), hash, key, value, 0)?;
         let value = Arc::try_clone(&node.entry().value)?;
         self.add(node)?;
         Ok(Ok(value))
@@ -537,38 +537,4 @@ impl<K: Ord + Drop, V: Drop, S: KeyHasher<K>, A: Allocator + Copy> SeqMap<K, V, 
         self.ensure_table(least)?;
         self.grow_to(least)
     }
-}
-
-// The node of a pair.
-fn new_node<K: Drop, V: Drop, A: Allocator + Copy>(
-    alloc: A,
-    hash: u64,
-    key: K,
-    value: V,
-) -> Result<Box<Node<K, V, A>, A>, AllocError>
-    ensures hash { IfOk result (λ b. (entry_of b.value).hash ≡ hash) }
-    ensures key { IfOk result (λ b. arc_value (entry_of b.value).key ≡ key) }
-    ensures value { IfOk result (λ b. arc_value (entry_of b.value).value ≡ value) }
-{
-    let key = Arc::new(alloc, key)?;
-    let value = Arc::new(alloc, value)?;
-    let entry = Entry {
-        hash,
-        key,
-        value,
-        number: 0,
-    };
-    Node::new(alloc, entry)
-}
-
-// Two owners of a value.
-fn two_owners<V: Drop, A: Allocator>(
-    alloc: A,
-    value: V,
-) -> Result<(Arc<V, A>, Arc<V, A>), AllocError>
-    ensures { IfOk result (λ p. (arc_value p.0 ≡ value) × (arc_value p.1 ≡ value)) }
-{
-    let first = Arc::new(alloc, value)?;
-    let second = Arc::try_clone(&first)?;
-    Ok((first, second))
 }

@@ -15,17 +15,11 @@ ghost use Rattle.flurry_seq.specs.Table.{bin_of, bin_at, entry_in, bins_with, bi
 mod keeping;
 
 use flurry_bins::bin::{Bin, Entry, Node, Ordered, Shape};
-use flurry_bins::table::bin_index;
+use flurry_bins::table::{bin_index, put_in_table};
 use std::alloc::{AllocError, Allocator};
 use std::marker::Model;
 use std::mem;
 use std::sync::Arc;
-
-/// A list of so many nodes becomes a tree when one more is put in, or asks for a larger table.
-const LONG_LIST: usize = 8;
-
-/// A table of fewer bins grows before it makes trees.
-const LEAST_FOR_TREES: usize = 64;
 
 #[derive(Drop)]
 pub(crate) struct Table<K: Ord, V, A: Allocator> {
@@ -53,25 +47,6 @@ fn place<K: Ord, V, A: Allocator>(bins: &Vec<Bin<K, V, A>, A>, hash: u64) -> usi
     ensures below { result < length bins.now.items }
 {
     bin_index(hash, bins.len().ilog2() as u8)
-}
-
-// Puts a node into its bin in a table of so many bins. Answers whether a larger table is asked for.
-fn put_into<K: Ord + Drop, V: Drop, A: Allocator>(
-    bin: &mut Bin<K, V, A>,
-    node: Box<Node<K, V, A>, A>,
-    bins: usize,
-) -> bool
-    requires absent { let e = entry_of node.value in
-        IsNone (entry_at K.cmp e.hash (arc_value e.key) (entries_of_bin bin.old)) }
-    requires room { length (entries_of_bin bin.old) < 2 ^ 62 }
-    ensures { entries_of_bin bin.new ≡ placed K.cmp (entry_of node.value) (entries_of_bin bin.old) }
-{
-    let is_long = bin.shape() == Shape::List(LONG_LIST);
-    bin.put_node(node);
-    if is_long && bins >= LEAST_FOR_TREES {
-        bin.plant();
-    }
-    is_long && bins < LEAST_FOR_TREES
 }
 
 impl<K: Ord + Drop, V: Drop, A: Allocator> Table<K, V, A> {
@@ -153,7 +128,7 @@ impl<K: Ord + Drop, V: Drop, A: Allocator> Table<K, V, A> {
         let count = self.bins.len();
         let at = place(&self.bins, node.entry().hash);
         let bin = &mut self.bins[at];
-        put_into(bin, node, count)
+        put_in_table(bin, node, count)
     }
 
     // Takes a key's entry out of its bin.

@@ -1,9 +1,10 @@
 //! A bin that is a list while it is small, and a tree else.
-ghost use Rattle.std.specs.Prelude.{◌≡◌, ◌<◌, ◌^◌, ◌||◌, ◌&&◌, nat_le, [], length, false, Some, IsSome, IsNone};
+ghost use Rattle.std.specs.Prelude.{◌≡◌, ◌<◌, ◌^◌, ◌||◌, ◌&&◌, nat_le, [], length, map, false, Some, IsSome, IsNone};
 ghost use Rattle.std.specs.Option.{option_map};
 ghost use Rattle.std.specs.Arc.{arc_value};
 ghost use Rattle.flurry_bins.specs.Chain.{chain, entry_of};
 ghost use Rattle.flurry_bins.specs.Entries.{entry_at, placed, replaced, without, with_bit};
+ghost use Rattle.flurry_bins.specs.Greatest.{greatest};
 ghost use Rattle.flurry_bins.specs.WayBound.{way_bound};
 ghost use Rattle.flurry_bins.specs.Kind.{kind_entries, kind_is_tree, IsSized, IsSized-prop};
 
@@ -11,7 +12,7 @@ mod keeping;
 
 use super::entry::Entry;
 use super::list::ListBin;
-use super::node::Node;
+use super::node::{BoxedNode, Link, Node};
 use super::ordered::Ordered;
 use super::tree::TreeBin;
 use std::alloc::{Allocator, Global};
@@ -79,7 +80,7 @@ fn planted<K: Ord + Drop, V: Drop, A: Allocator>(kind: Kind<K, V, A>) -> Kind<K,
 // Puts in a node whose place is free.
 fn put_into<K: Ord + Drop, V: Drop, A: Allocator>(
     kind: Kind<K, V, A>,
-    node: Box<Node<K, V, A>, A>,
+    node: BoxedNode<K, V, A>,
 ) -> Kind<K, V, A>
     requires absent { let e = entry_of node.value in
         IsNone (entry_at K.cmp e.hash (arc_value e.key) (kind_entries kind)) }
@@ -104,7 +105,7 @@ fn taken_from<K: Ord + Drop, V: Drop, A: Allocator>(
     kind: Kind<K, V, A>,
     hash: u64,
     key: &K,
-) -> (Kind<K, V, A>, Option<Box<Node<K, V, A>, A>>)
+) -> (Kind<K, V, A>, Link<K, V, A>)
     ensures removed { option_map (λ b. entry_of b.value) result.1 ≡ entry_at K.cmp hash key.now (kind_entries kind) }
     ensures entries { kind_entries result.0 ≡ without K.cmp hash key.now (kind_entries kind) }
     ensures kind { kind_is_tree result.0 ≡ (kind_is_tree kind && nat_le 7 (length (kind_entries result.0))) }
@@ -186,6 +187,16 @@ impl<K: Ord + Drop, V: Drop, A: Allocator> Bin<K, V, A> {
         }
     }
 
+    /// The greatest write number of the entries, 0 where there is none. Linear time.
+    pub fn greatest_number(&self) -> u64
+        ensures { result ≡ greatest (map (λ e. e.number) (entries_of_bin self.now)) }
+    {
+        match &self.kind {
+            Kind::Few(list) => list.greatest_number(),
+            Kind::Many(tree) => tree.greatest_number(),
+        }
+    }
+
     /// Makes a tree of a list of nine nodes, and leaves any other bin as it is. Constant time; takes no memory.
     pub fn plant(&mut self)
         ensures entries { entries_of_bin self.new ≡ entries_of_bin self.old }
@@ -258,7 +269,7 @@ impl<K: Ord + Drop, V: Drop, A: Allocator> Ordered<K, V, A> for Bin<K, V, A> {
     }
 
     // A list of nine nodes is made a tree first.
-    fn put_node(&mut self, node: Box<Node<K, V, A>, A>)
+    fn put_node(&mut self, node: BoxedNode<K, V, A>)
         requires absent { let e = entry_of node.value in
             IsNone (entry_at K.cmp e.hash (arc_value e.key) (entries_of_bin self.old)) }
         requires room { length (entries_of_bin self.old) < 2 ^ 62 }
@@ -270,7 +281,7 @@ impl<K: Ord + Drop, V: Drop, A: Allocator> Ordered<K, V, A> for Bin<K, V, A> {
     }
 
     // A tree that is left with six nodes is made a list.
-    fn remove(&mut self, hash: u64, key: &K) -> Option<Box<Node<K, V, A>, A>>
+    fn remove(&mut self, hash: u64, key: &K) -> Link<K, V, A>
         ensures removed { option_map (λ b. entry_of b.value) result ≡ entry_at K.cmp hash key.now (entries_of_bin self.old) }
         ensures after { entries_of_bin self.new ≡ without K.cmp hash key.now (entries_of_bin self.old) }
         ensures kind { is_tree self.new ≡ (is_tree self.old && nat_le 7 (length (entries_of_bin self.new))) }

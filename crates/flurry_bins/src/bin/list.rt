@@ -1,15 +1,16 @@
 //! A bin that is a list.
-ghost use Rattle.std.specs.Prelude.{◌≡◌, ◌^◌, ◌+◌, ◌<◌, ◌≤◌, ◌++◌, ◌∷◌, [], length, reverse, Option, Some, None, IsSome, IsNone};
+ghost use Rattle.std.specs.Prelude.{◌≡◌, ◌^◌, ◌+◌, ◌<◌, ◌≤◌, ◌++◌, ◌∷◌, [], length, map, reverse, Option, Some, None, IsSome, IsNone};
 ghost use Rattle.std.specs.Option.{option_map, option_copied};
 ghost use Rattle.std.specs.Arc.{arc_value};
 ghost use Rattle.flurry_bins.specs.Entries.{IsAscending, IsAscending-prop, AllBefore, NotBefore, list_way, entry_at, first_past, lent_bound, placed, replaced};
+ghost use Rattle.flurry_bins.specs.Greatest.{greatest};
 ghost use Rattle.flurry_bins.specs.Short.{list_way-short};
 ghost use Rattle.flurry_bins.specs.Chain.{chain, node_chain, entry_of};
 
 mod keeping;
 
 use super::entry::Entry;
-use super::node::Node;
+use super::node::{BoxedNode, Link, Node};
 use super::ordered::Ordered;
 use std::alloc::{Allocator, Global};
 use std::cmp::Ordering;
@@ -20,7 +21,7 @@ use std::sync::Arc;
 ///
 /// A drop walks the chain, so a long one does not run out of stack.
 pub struct ListBin<K: Ord, V, A: Allocator = Global> {
-    pub(crate) head: Option<Box<Node<K, V, A>, A>>,
+    pub(crate) head: Link<K, V, A>,
     len: usize,
     ghost ascending: { IsAscending K.cmp (chain head) } by { IsAscending-prop K.cmp (chain head) },
     ghost counted: { len ≡ length (chain head) },
@@ -37,7 +38,21 @@ impl<K: Ord, V, A: Allocator> ListBin<K, V, A> {
         ListBin { head: None, len: 0 }
     }
 
-    pub(crate) fn from_chain(head: Option<Box<Node<K, V, A>, A>>, len: usize) -> Self
+    /// The greatest write number of the entries, 0 where there is none. Linear time.
+    pub fn greatest_number(&self) -> u64
+        ensures { result ≡ greatest (map (λ e. e.number) (entries_of_list self.now)) }
+    {
+        let mut greatest = 0;
+        let mut link = &self.head;
+        while let Some(node) = link {
+            let node = node.as_ref();
+            greatest = node.entry.number.max(greatest);
+            link = &node.right;
+        }
+        greatest
+    }
+
+    pub(crate) fn from_chain(head: Link<K, V, A>, len: usize) -> Self
         requires ascending { IsAscending K.cmp (chain head) }
         requires counted { len ≡ length (chain head) }
         requires short { len ≤ 2 ^ 62 }
@@ -46,7 +61,7 @@ impl<K: Ord, V, A: Allocator> ListBin<K, V, A> {
         ListBin { head, len }
     }
 
-    pub(crate) fn into_chain(self) -> (Option<Box<Node<K, V, A>, A>>, usize)
+    pub(crate) fn into_chain(self) -> (Link<K, V, A>, usize)
         ensures head { chain result.0 ≡ chain self.head }
         ensures len { result.1 ≡ length (chain self.head) }
         ensures short { result.1 ≤ 2 ^ 62 }
@@ -59,9 +74,9 @@ impl<K: Ord, V, A: Allocator> ListBin<K, V, A> {
 
 // The node in front of a chain.
 pub(crate) fn followed_by<K: Drop, V: Drop, A: Allocator>(
-    mut node: Box<Node<K, V, A>, A>,
-    behind: Option<Box<Node<K, V, A>, A>>,
-) -> Box<Node<K, V, A>, A>
+    mut node: BoxedNode<K, V, A>,
+    behind: Link<K, V, A>,
+) -> BoxedNode<K, V, A>
     ensures { node_chain result.value ≡ entry_of node.value ∷ chain behind }
 {
     node.right = behind;
@@ -70,8 +85,8 @@ pub(crate) fn followed_by<K: Drop, V: Drop, A: Allocator>(
 
 // The first node of a chain, and those behind it.
 pub(crate) fn alone<K, V, A: Allocator>(
-    mut node: Box<Node<K, V, A>, A>,
-) -> (Box<Node<K, V, A>, A>, Option<Box<Node<K, V, A>, A>>)
+    mut node: BoxedNode<K, V, A>,
+) -> (BoxedNode<K, V, A>, Link<K, V, A>)
     ensures entry { entry_of result.0.value ≡ entry_of node.value }
     ensures behind { node_chain node.value ≡ entry_of node.value ∷ chain result.1 }
 {
@@ -81,10 +96,10 @@ pub(crate) fn alone<K, V, A: Allocator>(
 
 // The nodes before a place, turned round, and those from it on.
 fn cut<K: Ord, V, A: Allocator>(
-    head: Option<Box<Node<K, V, A>, A>>,
+    head: Link<K, V, A>,
     hash: u64,
     key: &K,
-) -> (Option<Box<Node<K, V, A>, A>>, Option<Box<Node<K, V, A>, A>>)
+) -> (Link<K, V, A>, Link<K, V, A>)
     ensures whole { reverse (chain result.0) ++ chain result.1 ≡ chain head }
     ensures before { AllBefore K.cmp hash key.now (chain result.0) }
     ensures stops { NotBefore K.cmp hash key.now (chain result.1) }
@@ -102,10 +117,7 @@ fn cut<K: Ord, V, A: Allocator>(
 }
 
 // The nodes of the first chain, turned round, and then those of the second.
-fn join<K, V, A: Allocator>(
-    front: Option<Box<Node<K, V, A>, A>>,
-    back: Option<Box<Node<K, V, A>, A>>,
-) -> Option<Box<Node<K, V, A>, A>>
+fn join<K, V, A: Allocator>(front: Link<K, V, A>, back: Link<K, V, A>) -> Link<K, V, A>
     ensures { chain result ≡ reverse (chain front) ++ chain back }
 {
     let mut from = front;
@@ -119,7 +131,7 @@ fn join<K, V, A: Allocator>(
 
 // The entry of a place in a chain, and how many nodes were visited.
 fn find_in<'a, K: Ord, V, A: Allocator>(
-    head: &'a Option<Box<Node<K, V, A>, A>>,
+    head: &'a Link<K, V, A>,
     hash: u64,
     key: &K,
 ) -> (Option<&'a Entry<K, V, A>>, u64)
@@ -144,7 +156,7 @@ fn find_in<'a, K: Ord, V, A: Allocator>(
 
 // The first entry of a chain that is past a bound.
 fn next_in<'a, K: Ord, V, A: Allocator>(
-    head: &'a Option<Box<Node<K, V, A>, A>>,
+    head: &'a Link<K, V, A>,
     bound: Option<(u64, &K)>,
 ) -> Option<&'a Entry<K, V, A>>
     ensures { option_copied result ≡ first_past K.cmp (lent_bound bound.entry) (chain head.now) }
@@ -222,7 +234,7 @@ impl<K: Ord + Drop, V: Drop, A: Allocator> Ordered<K, V, A> for ListBin<K, V, A>
         old
     }
 
-    fn put_node(&mut self, node: Box<Node<K, V, A>, A>)
+    fn put_node(&mut self, node: BoxedNode<K, V, A>)
         requires absent { let e = entry_of node.value in
             IsNone (entry_at K.cmp e.hash (arc_value e.key) (entries_of_list self.old)) }
         requires room { length (entries_of_list self.old) < 2 ^ 62 }
@@ -234,7 +246,7 @@ impl<K: Ord + Drop, V: Drop, A: Allocator> Ordered<K, V, A> for ListBin<K, V, A>
         self.len += 1;
     }
 
-    fn remove(&mut self, hash: u64, key: &K) -> Option<Box<Node<K, V, A>, A>> {
+    fn remove(&mut self, hash: u64, key: &K) -> Link<K, V, A> {
         let (front, rest) = cut(self.head.take(), hash, key);
         let Some(node) = rest else {
             self.head = join(front, None);

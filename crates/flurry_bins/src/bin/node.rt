@@ -1,5 +1,6 @@
 //! A boxed entry, with room for two links and a colour, so that the same node serves in a list and in a tree.
 ghost use Rattle.std.specs.Prelude.{◌≡◌, IfOk};
+ghost use Rattle.std.specs.Arc.{arc_value};
 ghost use Rattle.flurry_bins.specs.Chain.{entry_of, with_entry};
 ghost use Rattle.flurry_bins.specs.Entries.{with_value};
 
@@ -17,6 +18,12 @@ pub enum Colour {
     Black,
 }
 
+/// A node in a box of its own.
+pub type BoxedNode<K, V, A = Global> = Box<Node<K, V, A>, A>;
+
+/// What leads to a node, if there is one.
+pub(crate) type Link<K, V, A> = Option<Box<Node<K, V, A>, A>>;
+
 /// An entry in a box of its own, linked into at most one bin.
 #[derive(Drop)]
 pub struct Node<K, V, A: Allocator = Global> {
@@ -28,7 +35,7 @@ pub struct Node<K, V, A: Allocator = Global> {
 
 impl<K: Drop, V: Drop, A: Allocator> Node<K, V, A> {
     /// A node that is in no bin yet. Constant time; takes memory for one node, and an error says that there was none.
-    pub fn new(alloc: A, entry: Entry<K, V, A>) -> Result<Box<Node<K, V, A>, A>, AllocError>
+    pub fn new(alloc: A, entry: Entry<K, V, A>) -> Result<BoxedNode<K, V, A>, AllocError>
         ensures { IfOk result (λ b. entry_of b.value ≡ entry) }
     {
         Ok(Box::new(
@@ -40,6 +47,36 @@ impl<K: Drop, V: Drop, A: Allocator> Node<K, V, A> {
                 colour: Colour::Red,
             },
         )?)
+    }
+
+    /// A node of a pair that is in no bin yet. Constant time; takes memory for the key, the value and the node.
+    ///
+    /// # Errors
+    ///
+    /// [`AllocError`], where memory is wanting; the key and the value are dropped.
+    pub fn of_pair(
+        alloc: A,
+        hash: u64,
+        key: K,
+        value: V,
+        number: u64,
+    ) -> Result<BoxedNode<K, V, A>, AllocError>
+    where
+        A: Copy,
+        ensures hash { IfOk result (λ b. (entry_of b.value).hash ≡ hash) }
+        ensures key { IfOk result (λ b. arc_value (entry_of b.value).key ≡ key) }
+        ensures value { IfOk result (λ b. arc_value (entry_of b.value).value ≡ value) }
+        ensures number { IfOk result (λ b. (entry_of b.value).number ≡ number) }
+    {
+        let key = Arc::new(alloc, key)?;
+        let value = Arc::new(alloc, value)?;
+        let entry = Entry {
+            hash,
+            key,
+            value,
+            number,
+        };
+        Node::new(alloc, entry)
     }
 
     /// The entry. Constant time.

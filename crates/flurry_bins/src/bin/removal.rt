@@ -5,7 +5,7 @@ ghost use Rattle.flurry_bins.specs.Chain.{entry_of};
 ghost use Rattle.flurry_bins.specs.Tree.{shape, node_shape};
 ghost use Rattle.flurry_bins.specs.Removal.{short_left, fix_left, short_right, fix_right, settled_left, settled_right, IsOutOf, joined, removed, tree_entry};
 
-use super::node::{Colour, Node};
+use super::node::{BoxedNode, Colour, Link, Node};
 use super::tree::{apart, blacken, fork, has_red_root};
 use std::alloc::Allocator;
 use std::cmp::Ordering;
@@ -13,12 +13,12 @@ use std::cmp::Ordering;
 // A node with a short left side, and right of it a black node with these sides.
 fn with_short_left<K: Drop, V: Drop, A: Allocator>(
     colour: Colour,
-    left: Option<Box<Node<K, V, A>, A>>,
-    node: Box<Node<K, V, A>, A>,
-    near: Option<Box<Node<K, V, A>, A>>,
-    other: Box<Node<K, V, A>, A>,
-    far: Option<Box<Node<K, V, A>, A>>,
-) -> (Box<Node<K, V, A>, A>, bool)
+    left: Link<K, V, A>,
+    node: BoxedNode<K, V, A>,
+    near: Link<K, V, A>,
+    other: BoxedNode<K, V, A>,
+    far: Link<K, V, A>,
+) -> (BoxedNode<K, V, A>, bool)
     ensures { (node_shape result.0.value, result.1)
         ≡ short_left colour (shape left) (entry_of node.value) (shape near) (entry_of other.value) (shape far) }
 {
@@ -43,10 +43,10 @@ fn with_short_left<K: Drop, V: Drop, A: Allocator>(
 // A node with a short left side, and whether it is short itself.
 fn fixed_left<K: Drop, V: Drop, A: Allocator>(
     colour: Colour,
-    left: Option<Box<Node<K, V, A>, A>>,
-    node: Box<Node<K, V, A>, A>,
-    right: Option<Box<Node<K, V, A>, A>>,
-) -> (Box<Node<K, V, A>, A>, bool)
+    left: Link<K, V, A>,
+    node: BoxedNode<K, V, A>,
+    right: Link<K, V, A>,
+) -> (BoxedNode<K, V, A>, bool)
     ensures { (node_shape result.0.value, result.1) ≡ fix_left colour (shape left) (entry_of node.value) (shape right) }
 {
     let Some(right) = right else {
@@ -69,12 +69,12 @@ fn fixed_left<K: Drop, V: Drop, A: Allocator>(
 // A node with a short right side, and left of it a black node with these sides.
 fn with_short_right<K: Drop, V: Drop, A: Allocator>(
     colour: Colour,
-    far: Option<Box<Node<K, V, A>, A>>,
-    other: Box<Node<K, V, A>, A>,
-    near: Option<Box<Node<K, V, A>, A>>,
-    node: Box<Node<K, V, A>, A>,
-    right: Option<Box<Node<K, V, A>, A>>,
-) -> (Box<Node<K, V, A>, A>, bool)
+    far: Link<K, V, A>,
+    other: BoxedNode<K, V, A>,
+    near: Link<K, V, A>,
+    node: BoxedNode<K, V, A>,
+    right: Link<K, V, A>,
+) -> (BoxedNode<K, V, A>, bool)
     ensures { (node_shape result.0.value, result.1)
         ≡ short_right colour (shape far) (entry_of other.value) (shape near) (entry_of node.value) (shape right) }
 {
@@ -99,10 +99,10 @@ fn with_short_right<K: Drop, V: Drop, A: Allocator>(
 // A node with a short right side, and whether it is short itself.
 fn fixed_right<K: Drop, V: Drop, A: Allocator>(
     colour: Colour,
-    left: Option<Box<Node<K, V, A>, A>>,
-    node: Box<Node<K, V, A>, A>,
-    right: Option<Box<Node<K, V, A>, A>>,
-) -> (Box<Node<K, V, A>, A>, bool)
+    left: Link<K, V, A>,
+    node: BoxedNode<K, V, A>,
+    right: Link<K, V, A>,
+) -> (BoxedNode<K, V, A>, bool)
     ensures { (node_shape result.0.value, result.1) ≡ fix_right colour (shape left) (entry_of node.value) (shape right) }
 {
     let Some(left) = left else {
@@ -126,10 +126,10 @@ fn fixed_right<K: Drop, V: Drop, A: Allocator>(
 fn settle_left<K: Drop, V: Drop, A: Allocator>(
     short: bool,
     colour: Colour,
-    left: Option<Box<Node<K, V, A>, A>>,
-    node: Box<Node<K, V, A>, A>,
-    right: Option<Box<Node<K, V, A>, A>>,
-) -> (Box<Node<K, V, A>, A>, bool)
+    left: Link<K, V, A>,
+    node: BoxedNode<K, V, A>,
+    right: Link<K, V, A>,
+) -> (BoxedNode<K, V, A>, bool)
     ensures { (node_shape result.0.value, result.1)
         ≡ settled_left short colour (shape left) (entry_of node.value) (shape right) }
 {
@@ -144,10 +144,10 @@ fn settle_left<K: Drop, V: Drop, A: Allocator>(
 fn settle_right<K: Drop, V: Drop, A: Allocator>(
     short: bool,
     colour: Colour,
-    left: Option<Box<Node<K, V, A>, A>>,
-    node: Box<Node<K, V, A>, A>,
-    right: Option<Box<Node<K, V, A>, A>>,
-) -> (Box<Node<K, V, A>, A>, bool)
+    left: Link<K, V, A>,
+    node: BoxedNode<K, V, A>,
+    right: Link<K, V, A>,
+) -> (BoxedNode<K, V, A>, bool)
     ensures { (node_shape result.0.value, result.1)
         ≡ settled_right short colour (shape left) (entry_of node.value) (shape right) }
 {
@@ -160,8 +160,8 @@ fn settle_right<K: Drop, V: Drop, A: Allocator>(
 
 // A tree without its first node, that node, and whether the tree is short.
 fn take_least<K: Drop, V: Drop, A: Allocator>(
-    root: Box<Node<K, V, A>, A>,
-) -> (Option<Box<Node<K, V, A>, A>>, Box<Node<K, V, A>, A>, bool)
+    root: BoxedNode<K, V, A>,
+) -> (Link<K, V, A>, BoxedNode<K, V, A>, bool)
     ensures { IsOutOf (node_shape root.value)
         (record { rest = shape result.0; least = entry_of result.1.value; short = result.2 }) }
 {
@@ -179,9 +179,9 @@ fn take_least<K: Drop, V: Drop, A: Allocator>(
 // What stood left and right of a node, as one tree, and whether it is short.
 fn join_sides<K: Drop, V: Drop, A: Allocator>(
     colour: Colour,
-    left: Option<Box<Node<K, V, A>, A>>,
-    right: Option<Box<Node<K, V, A>, A>>,
-) -> (Option<Box<Node<K, V, A>, A>>, bool)
+    left: Link<K, V, A>,
+    right: Link<K, V, A>,
+) -> (Link<K, V, A>, bool)
     ensures { (shape result.0, result.1) ≡ joined colour (shape left) (shape right) }
 {
     let Some(right) = right else {
@@ -195,14 +195,10 @@ fn join_sides<K: Drop, V: Drop, A: Allocator>(
 
 // A tree without what stands at a place, the node from there, and whether the tree is short.
 pub(crate) fn remove_in<K: Ord + Drop, V: Drop, A: Allocator>(
-    root: Option<Box<Node<K, V, A>, A>>,
+    root: Link<K, V, A>,
     hash: u64,
     key: &K,
-) -> (
-    Option<Box<Node<K, V, A>, A>>,
-    Option<Box<Node<K, V, A>, A>>,
-    bool,
-)
+) -> (Link<K, V, A>, Link<K, V, A>, bool)
     ensures tree { (shape result.0, result.2) ≡ removed K.cmp hash key.now (shape root) }
     ensures node { option_map (λ b. entry_of b.value) result.1 ≡ tree_entry K.cmp hash key.now (shape root) }
 {

@@ -1,9 +1,10 @@
 //! A bin that is a red-black tree.
-ghost use Rattle.std.specs.Prelude.{◌≡◌, ◌^◌, ◌*◌, ◌+◌, ◌<◌, ◌≤◌, ◌++◌, length, Option, Some, None, IsSome, IsNone};
+ghost use Rattle.std.specs.Prelude.{◌≡◌, ◌^◌, ◌*◌, ◌+◌, ◌<◌, ◌≤◌, ◌++◌, length, map, Option, Some, None, IsSome, IsNone};
 ghost use Rattle.std.specs.Option.{option_map, option_copied};
 ghost use Rattle.std.specs.Arc.{arc_value};
 ghost use Rattle.flurry_bins.specs.Entries.{IsAscending, IsAscending-prop, entry_at, first_past, lent_bound, placed, replaced};
 ghost use Rattle.flurry_bins.specs.Chain.{chain, entry_of, colour_of};
+ghost use Rattle.flurry_bins.specs.Greatest.{greatest};
 ghost use Rattle.flurry_bins.specs.Balance.{red_root, blackened, leaned_left, leaned_right, put_tree};
 ghost use Rattle.flurry_bins.specs.Tree as tree;
 ghost use Rattle.flurry_bins.specs.Tree.{shape, node_shape, inorder, IsRedBlack, IsRedBlack-prop, black_height, tree_way};
@@ -12,7 +13,7 @@ ghost use Rattle.flurry_bins.specs.Rewrite.{rewritten, tree_value};
 
 use super::entry::Entry;
 use super::list::{ListBin, alone, followed_by};
-use super::node::{Colour, Node};
+use super::node::{BoxedNode, Colour, Link, Node};
 use super::ordered::Ordered;
 use super::removal::remove_in;
 use std::alloc::{Allocator, Global};
@@ -25,7 +26,7 @@ use std::sync::Arc;
 /// Its calls recurse along the height alone.
 #[derive(Drop)]
 pub struct TreeBin<K: Ord, V, A: Allocator = Global> {
-    root: Option<Box<Node<K, V, A>, A>>,
+    root: Link<K, V, A>,
     len: usize,
     ghost ascending: { IsAscending K.cmp (inorder (shape root)) } by { IsAscending-prop K.cmp (inorder (shape root)) },
     ghost balanced: { IsRedBlack (shape root) } by { IsRedBlack-prop (shape root) },
@@ -35,7 +36,7 @@ pub struct TreeBin<K: Ord, V, A: Allocator = Global> {
 
 // The entry of a place in a tree, and how many nodes were visited.
 fn find_in<'a, K: Ord, V, A: Allocator>(
-    root: &'a Option<Box<Node<K, V, A>, A>>,
+    root: &'a Link<K, V, A>,
     hash: u64,
     key: &K,
 ) -> (Option<&'a Entry<K, V, A>>, u64)
@@ -61,10 +62,10 @@ fn find_in<'a, K: Ord, V, A: Allocator>(
 // A node with these sides.
 pub(crate) fn fork<K: Drop, V: Drop, A: Allocator>(
     colour: Colour,
-    left: Option<Box<Node<K, V, A>, A>>,
-    mut node: Box<Node<K, V, A>, A>,
-    right: Option<Box<Node<K, V, A>, A>>,
-) -> Box<Node<K, V, A>, A>
+    left: Link<K, V, A>,
+    mut node: BoxedNode<K, V, A>,
+    right: Link<K, V, A>,
+) -> BoxedNode<K, V, A>
     ensures { node_shape result.value ≡ tree.fork colour (shape left) (entry_of node.value) (shape right) }
 {
     node.colour = colour;
@@ -75,12 +76,8 @@ pub(crate) fn fork<K: Drop, V: Drop, A: Allocator>(
 
 // A node, and what was left and right of it.
 pub(crate) fn apart<K, V, A: Allocator>(
-    mut node: Box<Node<K, V, A>, A>,
-) -> (
-    Option<Box<Node<K, V, A>, A>>,
-    Box<Node<K, V, A>, A>,
-    Option<Box<Node<K, V, A>, A>>,
-)
+    mut node: BoxedNode<K, V, A>,
+) -> (Link<K, V, A>, BoxedNode<K, V, A>, Link<K, V, A>)
     ensures entry { entry_of result.1.value ≡ entry_of node.value }
     ensures colour { colour_of result.1.value ≡ colour_of node.value }
     ensures sides { node_shape node.value
@@ -91,7 +88,7 @@ pub(crate) fn apart<K, V, A: Allocator>(
     (left, node, right)
 }
 
-pub(crate) fn has_red_root<K, V, A: Allocator>(link: &Option<Box<Node<K, V, A>, A>>) -> bool
+pub(crate) fn has_red_root<K, V, A: Allocator>(link: &Link<K, V, A>) -> bool
     ensures { result ≡ red_root (shape link.now) }
 {
     match link {
@@ -101,9 +98,7 @@ pub(crate) fn has_red_root<K, V, A: Allocator>(link: &Option<Box<Node<K, V, A>, 
 }
 
 // The same tree with a black root.
-pub(crate) fn blacken<K, V, A: Allocator>(
-    link: Option<Box<Node<K, V, A>, A>>,
-) -> Option<Box<Node<K, V, A>, A>>
+pub(crate) fn blacken<K, V, A: Allocator>(link: Link<K, V, A>) -> Link<K, V, A>
     ensures { shape result ≡ blackened (shape link) }
 {
     match link {
@@ -117,10 +112,10 @@ pub(crate) fn blacken<K, V, A: Allocator>(
 
 // A node with a left side that may have a red root over a red child.
 fn lean_left<K: Drop, V: Drop, A: Allocator>(
-    left: Box<Node<K, V, A>, A>,
-    node: Box<Node<K, V, A>, A>,
-    right: Option<Box<Node<K, V, A>, A>>,
-) -> Box<Node<K, V, A>, A>
+    left: BoxedNode<K, V, A>,
+    node: BoxedNode<K, V, A>,
+    right: Link<K, V, A>,
+) -> BoxedNode<K, V, A>
     ensures { node_shape result.value
         ≡ leaned_left (colour_of node.value) (node_shape left.value) (entry_of node.value) (shape right) }
 {
@@ -146,10 +141,10 @@ fn lean_left<K: Drop, V: Drop, A: Allocator>(
 
 // A node with a right side that may have a red root over a red child.
 fn lean_right<K: Drop, V: Drop, A: Allocator>(
-    left: Option<Box<Node<K, V, A>, A>>,
-    node: Box<Node<K, V, A>, A>,
-    right: Box<Node<K, V, A>, A>,
-) -> Box<Node<K, V, A>, A>
+    left: Link<K, V, A>,
+    node: BoxedNode<K, V, A>,
+    right: BoxedNode<K, V, A>,
+) -> BoxedNode<K, V, A>
     ensures { node_shape result.value
         ≡ leaned_right (colour_of node.value) (shape left) (entry_of node.value) (node_shape right.value) }
 {
@@ -175,9 +170,9 @@ fn lean_right<K: Drop, V: Drop, A: Allocator>(
 
 // Puts a node into a tree. Where the root was red, the new one may be red over a red child.
 fn put_in<K: Ord + Drop, V: Drop, A: Allocator>(
-    root: Option<Box<Node<K, V, A>, A>>,
-    node: Box<Node<K, V, A>, A>,
-) -> Box<Node<K, V, A>, A>
+    root: Link<K, V, A>,
+    node: BoxedNode<K, V, A>,
+) -> BoxedNode<K, V, A>
     ensures { node_shape result.value ≡ put_tree K.cmp (entry_of node.value) (shape root) }
 {
     let Some(root) = root else {
@@ -194,7 +189,7 @@ fn put_in<K: Ord + Drop, V: Drop, A: Allocator>(
 
 // Writes another value at a place, and hands out the old one.
 fn write_in<K: Ord + Drop, V: Drop, A: Allocator>(
-    root: &mut Option<Box<Node<K, V, A>, A>>,
+    root: &mut Link<K, V, A>,
     hash: u64,
     key: &K,
     value: Arc<V, A>,
@@ -213,7 +208,7 @@ fn write_in<K: Ord + Drop, V: Drop, A: Allocator>(
 
 // The first entry of a tree that is past a bound.
 fn next_in<'a, K: Ord, V, A: Allocator>(
-    root: &'a Option<Box<Node<K, V, A>, A>>,
+    root: &'a Link<K, V, A>,
     bound: Option<(u64, &K)>,
 ) -> Option<&'a Entry<K, V, A>>
     requires { IsAscending K.cmp (inorder (shape root.now)) }
@@ -233,11 +228,33 @@ fn next_in<'a, K: Ord, V, A: Allocator>(
     best
 }
 
+// The greatest write number of a tree's entries.
+fn greatest_in<K: Ord, V, A: Allocator>(root: &Link<K, V, A>) -> u64
+    ensures { result ≡ greatest (map (λ e. e.number) (inorder (shape root.now))) }
+{
+    let Some(node) = root else { return 0 };
+    let node = node.as_ref();
+    let left = greatest_in(&node.left);
+    let right = greatest_in(&node.right);
+    left.max(node.entry.number.max(right))
+}
+
+impl<K: Ord, V, A: Allocator> TreeBin<K, V, A> {
+    ghost use Rattle.flurry_bins.specs.Bin.{entries_of_tree};
+
+    /// The greatest write number of the entries, 0 where there is none. Linear time.
+    pub fn greatest_number(&self) -> u64
+        ensures { result ≡ greatest (map (λ e. e.number) (entries_of_tree self.now)) }
+    {
+        greatest_in(&self.root)
+    }
+}
+
 // The nodes of a tree as a chain, in front of another chain.
 fn unfolded<K: Drop, V: Drop, A: Allocator>(
-    root: Option<Box<Node<K, V, A>, A>>,
-    behind: Option<Box<Node<K, V, A>, A>>,
-) -> Option<Box<Node<K, V, A>, A>>
+    root: Link<K, V, A>,
+    behind: Link<K, V, A>,
+) -> Link<K, V, A>
     ensures { chain result ≡ inorder (shape root) ++ chain behind }
 {
     let Some(root) = root else {
@@ -252,8 +269,8 @@ fn unfolded<K: Drop, V: Drop, A: Allocator>(
 fn folded<K: Drop, V: Drop, A: Allocator>(
     count: usize,
     blacks: u32,
-    from: Option<Box<Node<K, V, A>, A>>,
-) -> (Option<Box<Node<K, V, A>, A>>, Option<Box<Node<K, V, A>, A>>)
+    from: Link<K, V, A>,
+) -> (Link<K, V, A>, Link<K, V, A>)
     requires enough { count ≤ length (chain from) }
     requires low { 2 ^ blacks ≤ count + 1 }
     requires high { count + 1 ≤ 2 * 2 ^ blacks }
@@ -329,7 +346,7 @@ impl<K: Ord + Drop, V: Drop, A: Allocator> Ordered<K, V, A> for TreeBin<K, V, A>
         old
     }
 
-    fn put_node(&mut self, node: Box<Node<K, V, A>, A>)
+    fn put_node(&mut self, node: BoxedNode<K, V, A>)
         requires absent { let e = entry_of node.value in
             IsNone (entry_at K.cmp e.hash (arc_value e.key) (entries_of_tree self.old)) }
         requires room { length (entries_of_tree self.old) < 2 ^ 62 }
@@ -340,7 +357,7 @@ impl<K: Ord + Drop, V: Drop, A: Allocator> Ordered<K, V, A> for TreeBin<K, V, A>
         self.len += 1;
     }
 
-    fn remove(&mut self, hash: u64, key: &K) -> Option<Box<Node<K, V, A>, A>> {
+    fn remove(&mut self, hash: u64, key: &K) -> Link<K, V, A> {
         let (root, node, _) = remove_in(self.root.take(), hash, key);
         self.root = root;
         if node.is_some() {

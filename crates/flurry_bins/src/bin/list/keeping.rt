@@ -4,15 +4,15 @@ ghost use Rattle.flurry_bins.specs.Chain.{chain};
 ghost use Rattle.flurry_bins.specs.Keeping.{Keeps, CalledAtEntry};
 
 use super::{ListBin, alone, followed_by, join};
-use crate::bin::node::Node;
+use crate::bin::node::{Link, Node};
 use std::alloc::Allocator;
 use std::mem;
 
 // The nodes of a chain at whose entries the function answers true, in their order, and how many they are.
 fn kept_of<K: Drop, V: Drop, A: Allocator, F: FnMut(&K, &V) -> bool>(
-    head: Option<Box<Node<K, V, A>, A>>,
+    head: Link<K, V, A>,
     keep: &mut F,
-) -> (Option<Box<Node<K, V, A>, A>>, usize)
+) -> (Link<K, V, A>, usize)
     requires callable { F.IsAlwaysCallable keep.old }
     requires short { length (chain head) ≤ 2 ^ 62 }
     ensures kept { Keeps (CalledAtEntry F.step) keep.old (chain head) (chain result.0) keep.new }

@@ -5,17 +5,18 @@ use Rattle.flurry_bins.specs.Chain.{entry_of}
 use Rattle.flurry_bins.specs.Bin.{entries_of_bin}
 use Rattle.flurry_bins.specs.Entries.{entry_at}
 use Rattle.flurry_bins.specs.PlainEntries.{plain}
-use Rattle.flurry_seq.proofs.SeenLemmas.{bin_here, entry_here, placed_here, none_mapped}
+use Rattle.flurry_seq.proofs.SeenLemmas.{bin_here, entry_here, placed_here}
+use Rattle.flurry_bins.proofs.PlainEntryLaws.{none_mapped}
 use Rattle.flurry_seq.proofs.table.Table.put.Goals as goal
 
-pub put_into-requires-clause-absent : goal.put_into-requires-clause-absent
-put_into-requires-clause-absent g c =
+pub put_in_table-requires-clause-absent : goal.put_in_table-requires-clause-absent
+put_in_table-requires-clause-absent g c =
     let at = rw (c.entry.ensures, c.deref.ensures) at c.place-at.ensures.place in
     let here = entry_here c.self.inside.bins.items (entry_of c.args.node.value).hash c.place-at.result c.index_mut-bin.result.now c.place-at.ensures.below c.index_mut-bin.ensures.value at (arc_value (entry_of c.args.node.value).key) in
     none_mapped plain (entry_at g.K.Ord.cmp (entry_of c.args.node.value).hash (arc_value (entry_of c.args.node.value).key) (entries_of_bin c.index_mut-bin.result.now)) (rw (← c.self.view_is, here) at c.requires.absent)
 
-pub put_into-requires-clause-room : goal.put_into-requires-clause-room
-put_into-requires-clause-room g c =
+pub put_in_table-requires-clause-room : goal.put_in_table-requires-clause-room
+put_in_table-requires-clause-room g c =
     let at = rw (c.entry.ensures, c.deref.ensures) at c.place-at.ensures.place in
     let here = bin_here c.self.inside.bins.items (entry_of c.args.node.value).hash c.place-at.result c.index_mut-bin.result.now c.place-at.ensures.below c.index_mut-bin.ensures.value at in
     rw (← c.self.view_is, here, length-map) at c.requires.room
@@ -26,5 +27,5 @@ returns g c =
     let here = entry_here c.self.inside.bins.items (entry_of c.args.node.value).hash c.place-at.result c.index_mut-bin.result.now c.place-at.ensures.below c.index_mut-bin.ensures.value at (arc_value (entry_of c.args.node.value).key) in
     let absent = none_mapped plain (entry_at g.K.Ord.cmp (entry_of c.args.node.value).hash (arc_value (entry_of c.args.node.value).key) (entries_of_bin c.index_mut-bin.result.now)) (rw (← c.self.view_is, here) at c.requires.absent) in
     rw (← c.self.view_is)
-    (placed_here c.self.inside.bins.items (entry_of c.args.node.value).hash c.place-at.result c.index_mut-bin.result.now (entry_of c.args.node.value) c.put_into.new.bin c.place-at.ensures.below c.index_mut-bin.ensures.value at
-    g.met.K.Ord.total refl absent c.put_into.ensures)
+    (placed_here c.self.inside.bins.items (entry_of c.args.node.value).hash c.place-at.result c.index_mut-bin.result.now (entry_of c.args.node.value) c.put_in_table.new.bin c.place-at.ensures.below c.index_mut-bin.ensures.value at
+    g.met.K.Ord.total refl absent c.put_in_table.ensures.entries)

@@ -1,7 +1,8 @@
 use Rattle.flurry_bins.specs.Bin.{entries_of_bin}
 use Rattle.flurry_bins.specs.Entries.{entry_at}
 use Rattle.flurry_bins.specs.PlainEntries.{plain}
-use Rattle.flurry_seq.proofs.SeenLemmas.{entry_here, replaced_here, some_mapped, value_mapped, entry_some}
+use Rattle.flurry_seq.proofs.SeenLemmas.{entry_here, replaced_here, value_mapped, entry_some}
+use Rattle.flurry_bins.proofs.PlainEntryLaws.{some_mapped}
 use Rattle.flurry_seq.proofs.table.Table.replace.Goals as goal
 
 pub place-at-requires-clause-some : goal.place-at-requires-clause-some

@@ -1,0 +1,2 @@
+pub mod LiveLaws
+pub mod SlotLaws

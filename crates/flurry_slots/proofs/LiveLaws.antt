@@ -1,0 +1,74 @@
+-- A call of a bin as a step at the live bin that it is.
+use Rattle.std.proofs.Common.{◌≡◌, ℕ, ◌+◌, Bool, true, false, cond, ◌&&◌, nat_le, List, [], ◌∷◌, length, map, Option, None, Some, option_map, is_none, refl, sym, ap, ◌∙◌, subst, arith}
+use Rattle.std.specs.Option.{IsNone, IsSome}
+use Rattle.std.specs.Arc.{arc_value}
+use Rattle.std.specs.declared.sync.Arc.{Arc}
+use Rattle.std.specs.Cmp.{IsTotalOrder}
+use Rattle.std.proofs.lemmas.List.{length-map}
+use Rattle.flurry_bins.specs.declared.bin.choice.Bin.{Bin}
+use Rattle.flurry_bins.specs.declared.bin.entry.Entry.{Entry}
+use Rattle.flurry_bins.specs.Bin.{entries_of_bin, ascending_of_bin, sized_of_bin, is_tree}
+use Rattle.flurry_bins.specs.Kind.{IsSized, grows_into_tree}
+use Rattle.flurry_bins.specs.Entries.{entry_at, IsAscending, placed, replaced, without as without_place, with_bit}
+use Rattle.flurry_bins.specs.FiniteMap.{pair_at, with_pair, without}
+use Rattle.flurry_slots.specs.LiveView.{live_of}
+use Rattle.flurry_bins.specs.PlainEntries.{hash_then_key, pair_with, numbered, numbered_all}
+use Rattle.flurry_bins.specs.Region.{AllInRegion}
+use Rattle.flurry_slots.specs.Slot.{Held, Live, IsLiveIn, entry_of_live, written, taken, half, next_number}
+use Rattle.flurry_bins.proofs.PlainEntryLaws.{absent_is, paired-entry_at, paired-without, paired-placed, paired-replaced, paired-with_bit, paired-ascending, paired-region}
+
+-- what a slot sees of an entry beside its place
+abbrev pub value_and_number : {K V A : Type 0} → Entry K V A → V × ℕ
+value_and_number d = (arc_value d.value, d.number)
+
+live_alike : {K V : Type 0} {held held' : List (Held K V)} {tree tree' : Bool} (writes : ℕ) → held ≡ held' → tree ≡ tree'
+    → ◌≡◌ {A = Live K V} (record { held = held; tree = tree; writes = writes }) (record { held = held'; tree = tree'; writes = writes })
+live_alike {held = held} {held' = held'} {tree = tree} writes e f = ap (λ x. record { held = x; tree = tree; writes = writes }) e ∙ ap (λ x. record { held = held'; tree = x; writes = writes }) f
+
+module _ {K V A : Type 0} {o : _} {e : _} {p : _} (b : Bin K V A o e p) (n : ℕ) where
+  pub live_found : (h : ℕ) (k : K) → entry_of_live o.cmp (live_of b n) h k ≡ option_map numbered (entry_at o.cmp h k (entries_of_bin b))
+  live_found h k = paired-entry_at o.cmp value_and_number h k (entries_of_bin b)
+
+  pub IsLiveIn-bin : (table index : ℕ) → AllInRegion table index (entries_of_bin b) → IsLiveIn o.cmp table index (live_of b n)
+  IsLiveIn-bin table index all = record {
+    ascends = paired-ascending o.cmp value_and_number (entries_of_bin b) (ascending_of_bin b);
+    sized = subst (IsSized (is_tree b)) (sym (length-map (entries_of_bin b) numbered)) (sized_of_bin b);
+    region = paired-region o.cmp value_and_number table index (entries_of_bin b) all;
+  }
+
+  module _ (total : IsTotalOrder o.cmp) (c : Bin K V A o e p) where
+    pub live_rewritten : (bins h : ℕ) (k : K) (v : Arc V A) → IsSome (entry_at o.cmp h k (entries_of_bin b)) → entries_of_bin c ≡ replaced o.cmp h k v (next_number n) (entries_of_bin b) → is_tree c ≡ is_tree b
+        → live_of c (next_number n) ≡ written o.cmp bins (live_of b n) h k (arc_value v)
+    live_rewritten bins h k v some is kind =
+        let there : is_none (entry_of_live o.cmp (live_of b n) h k) ≡ false = ap is_none (live_found h k) ∙ here (entry_at o.cmp h k (entries_of_bin b)) some in
+        live_alike (next_number n)
+        (ap numbered_all is ∙ paired-replaced total value_and_number h k v (next_number n) (arc_value v, next_number n) (entries_of_bin b) (λ d. refl) (ascending_of_bin b) some)
+        (rw there kind)
+      where
+        here : (w : Option (Entry K V A)) → IsSome w → is_none (option_map numbered w) ≡ false
+        here None s = cc
+        here (Some x) s = refl
+
+    pub live_added : (bins : ℕ) (x : Entry K V A) → x.number ≡ next_number n → IsNone (entry_at o.cmp x.hash (arc_value x.key) (entries_of_bin b)) → entries_of_bin c ≡ placed o.cmp x (entries_of_bin b)
+        → is_tree c ≡ grows_into_tree bins (is_tree b) (length (entries_of_bin b)) → live_of c (next_number n) ≡ written o.cmp bins (live_of b n) x.hash (arc_value x.key) (arc_value x.value)
+    live_added bins x number none is kind =
+        let absent : entry_of_live o.cmp (live_of b n) x.hash (arc_value x.key) ≡ None = live_found x.hash (arc_value x.key) ∙ ap (option_map numbered) (absent_is _ none) in
+        live_alike (next_number n)
+        (ap numbered_all is ∙ paired-placed total value_and_number x (entries_of_bin b) (ascending_of_bin b) none
+        ∙ ap (λ m. with_pair (hash_then_key o.cmp) (numbered_all (entries_of_bin b)) (x.hash, arc_value x.key) (arc_value x.value, m)) number)
+        (rw absent (kind ∙ ap (grows_into_tree bins (is_tree b)) (sym (length-map (entries_of_bin b) numbered))))
+
+    pub live_taken : (h : ℕ) (k : K) → entries_of_bin c ≡ without_place o.cmp h k (entries_of_bin b) → is_tree c ≡ (is_tree b && nat_le 7 (length (entries_of_bin c))) → live_of c n ≡ taken o.cmp (live_of b n) h k
+    live_taken h k is kind =
+        let same : numbered_all (entries_of_bin c) ≡ without (hash_then_key o.cmp) (numbered_all (entries_of_bin b)) (h, k) = ap numbered_all is ∙ paired-without total value_and_number h k (entries_of_bin b) (ascending_of_bin b) in
+        live_alike n same (kind ∙ ap (λ m. is_tree b && nat_le 7 m) (sym (length-map (entries_of_bin c) numbered) ∙ ap length same))
+
+  pub live_half : (c : Bin K V A o e p) (place bit : ℕ) → entries_of_bin c ≡ with_bit place bit (entries_of_bin b) → is_tree c ≡ (is_tree b && nat_le 7 (length (entries_of_bin c))) → live_of c n ≡ half place bit (live_of b n)
+  live_half c place bit is kind =
+      let same = ap numbered_all is ∙ paired-with_bit o.cmp value_and_number place bit (entries_of_bin b) in
+      live_alike n same (kind ∙ ap (λ m. is_tree b && nat_le 7 m) (sym (length-map (entries_of_bin c) numbered) ∙ ap length same))
+
+-- the old value of an entry that is there
+pub value_of_entry : {K V A : Type 0} (w : Option (Entry K V A)) (v : Arc V A) → option_map (λ (d : Entry K V A). d.value) w ≡ Some v → option_map (λ (d : Held K V). d.1.0) (option_map numbered w) ≡ Some (arc_value v)
+value_of_entry None v h = cc
+value_of_entry (Some x) v h = let same : x.value ≡ v = cc in ap (λ y. Some (arc_value y)) same

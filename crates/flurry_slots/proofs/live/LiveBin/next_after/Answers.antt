@@ -1,0 +1,13 @@
+use Rattle.std.proofs.Common.{sym, ap, ◌∙◌, option_map}
+use Rattle.flurry_bins.specs.Bin.{entries_of_bin}
+use Rattle.flurry_bins.specs.Entries.{lent_bound}
+use Rattle.flurry_bins.specs.PlainEntries.{numbered}
+use Rattle.flurry_slots.proofs.LiveLaws.{value_and_number}
+use Rattle.flurry_bins.proofs.PlainEntryLaws.{copied, paired-first_past}
+use Rattle.flurry_slots.proofs.live.LiveBin.next_after.Goals as goal
+
+pub returns : goal.returns
+returns g c =
+    rw (← c.self.view_is)
+    (copied numbered c.next_after.result ∙ ap (option_map numbered) c.next_after.ensures
+    ∙ sym (paired-first_past g.K.Ord.cmp value_and_number (lent_bound c.args.bound) (entries_of_bin c.self.inside.bin)))

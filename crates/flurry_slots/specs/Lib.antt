@@ -1,0 +1,4 @@
+pub mod Change
+pub mod LiveView
+pub mod Slot
+pub mod SlotView

@@ -1,0 +1,181 @@
+-- A slot of a table as plain data, and what each step at it is.
+use Rattle.std.specs.Prelude.{◌≡◌, ℕ, ◌+◌, ◌-◌, ◌^◌, ◌<◌, ◌≤◌, ◌==◌, nat_le, nat_lt, min, length, Bool, true, false, not, ◌&&◌, ◌||◌, List, [], Option, Some, None, is_none, IsSome, MatchOption, Result, Ok, Err, ⊤, ◌⊎◌, if◌then◌else◌}
+use Rattle.std.specs.declared.cmp.Ordering.{Ordering}
+use Rattle.std.specs.Option.{option_map, option_map_or}
+use Rattle.std.specs.List.{AllByRecursion, find, filter}
+use Rattle.std.specs.Map.{keys_of}
+use Rattle.std.specs.Int.{bit_at}
+use Rattle.flurry_bins.specs.FiniteMap.{IsFiniteMap, pair_at, with_pair, without}
+use Rattle.flurry_bins.specs.PlainEntries.{hash_then_key, is_held_past}
+use Rattle.flurry_bins.specs.Kind.{IsSized, grows_into_tree, asks_for_growth}
+use Rattle.flurry_bins.specs.Region.{InRegion}
+
+-- an entry: at a hash and a key, the value and the number of its write
+abbrev pub Held : Type 0 → Type 0 → Type 0
+Held K V = (ℕ × K) × (V × ℕ)
+
+-- a bin that is live: its entries are a finite map whose key is the hash and the key; it is a list or a tree; and so many values
+-- were written to it
+pub record Live (K V : Type 0) : Type 0 where
+  pub held : List (Held K V)
+  pub tree : Bool
+  pub writes : ℕ
+
+-- what stands at a slot: a bin, the note that it moved to the next larger table, or nothing yet
+pub data Content (K V : Type 0) : Type 0 where
+  IsLive : Live K V → Content K V
+  HasMoved : Content K V
+  IsUnborn : Content K V
+
+-- a slot: bin `index` of table `table`, which has 2^table bins
+pub record Place (K V : Type 0) : Type 0 where
+  pub table : ℕ
+  pub index : ℕ
+  pub content : Content K V
+
+-- what a computation at a live bin did
+pub data Outcome (V : Type 0) : Type 0 where
+  WasAbsent : Outcome V
+  WasRemoved : Outcome V
+  WasChanged : V → Outcome V
+
+-- the number of the next write: one more, up to the greatest number
+abbrev pub next_number : ℕ → ℕ
+next_number n = min (n + 1) (2 ^ 64 - 1)
+
+module _ {K V : Type 0} where
+  -- the bin with other entries, fewer: a tree of fewer than seven is a list
+  abbrev pub shrunk : Live K V → List (Held K V) → Live K V
+  shrunk b held = record { held = held; tree = b.tree && nat_le 7 (length held); writes = b.writes }
+
+  -- the entries whose hash has this bit at this place, as a bin with the same count of writes
+  abbrev pub half : ℕ → ℕ → Live K V → Live K V
+  half place bit b = shrunk b (filter (λ e. bit_at e.0.0 place == bit) b.held)
+
+  -- no entry is left; the count of writes stays
+  abbrev pub wiped : Live K V → Live K V
+  wiped b = record { held = []; tree = false; writes = b.writes }
+
+  module _ (cmp : K → K → Ordering) where
+    -- the entry of a hash and a key
+    abbrev pub entry_of_live : Live K V → ℕ → K → Option (Held K V)
+    entry_of_live b h k = pair_at (hash_then_key cmp) b.held (h, k)
+
+    -- its value
+    abbrev pub value_of_live : Live K V → ℕ → K → Option V
+    value_of_live b h k = option_map (λ (e : Held K V). e.1.0) (entry_of_live b h k)
+
+    -- the first entry past a bound, or with no bound the first
+    abbrev pub next_of_live : Option (ℕ × K) → Live K V → Option (Held K V)
+    next_of_live bound b = find (is_held_past cmp bound) b.held
+
+    -- in a table of so many bins: a value is written; the key that is stored stays, and a new one comes to its place
+    abbrev pub written : ℕ → Live K V → ℕ → K → V → Live K V
+    written bins b h k v = record {
+      held = with_pair (hash_then_key cmp) b.held (h, k) (v, next_number b.writes);
+      tree = if is_none (entry_of_live b h k) then grows_into_tree bins b.tree (length b.held) else b.tree;
+      writes = next_number b.writes;
+    }
+
+    -- whether that asks for a larger table
+    abbrev pub asks : ℕ → Live K V → ℕ → K → Bool
+    asks bins b h k = is_none (entry_of_live b h k) && asks_for_growth bins b.tree (length b.held)
+
+    -- what a write answers: the value before, and that
+    abbrev pub written_reply : ℕ → Live K V → ℕ → K → Option V × Bool
+    written_reply bins b h k = (value_of_live b h k, asks bins b h k)
+
+    -- the bin without the entry of a hash and a key
+    abbrev pub taken : Live K V → ℕ → K → Live K V
+    taken b h k = shrunk b (without (hash_then_key cmp) b.held (h, k))
+
+    -- a value is written where the key is absent
+    abbrev pub added : ℕ → Live K V → ℕ → K → V → Live K V
+    added bins b h k v = if is_none (entry_of_live b h k) then written bins b h k v else b
+
+    -- what that answers: the new value, and whether a larger table is asked for; or the value that stands, and the new one
+    abbrev pub added_reply : ℕ → Live K V → ℕ → K → V → Result (V × Bool) (V × V)
+    added_reply bins b h k v = option_map_or (λ current. Err (current, v)) (value_of_live b h k) (Ok (v, asks bins b h k))
+
+    -- the entry bears this number, which is below the greatest: its value is the one that was seen with the number
+    abbrev pub is_unwritten_since : ℕ → Live K V → ℕ → K → Bool
+    is_unwritten_since n b h k = option_map_or (λ (e : Held K V). e.1.1 == n && nat_lt n (2 ^ 64 - 1)) (entry_of_live b h k) false
+
+    -- it is taken exactly then
+    abbrev pub taken_if : ℕ → Live K V → ℕ → K → Live K V
+    taken_if n b h k = if is_unwritten_since n b h k then taken b h k else b
+
+    abbrev pub taken_if_reply : ℕ → Live K V → ℕ → K → Option (Held K V)
+    taken_if_reply n b h k = if is_unwritten_since n b h k then entry_of_live b h k else None
+
+    -- `changes k v o` says that the function may answer o at the pair of k and v. It is called once, on a pair that is there; what
+    -- it answers is written, and where it answers none the pair is taken out.
+    module _ (changes : K → V → Option V → Type 0) where
+      abbrev pub Computes : ℕ → Live K V → ℕ → K → Outcome V → Live K V → Type 0
+      Computes bins b h k WasAbsent c = (entry_of_live b h k ≡ None) × (c ≡ b)
+      Computes bins b h k WasRemoved c = (e : Held K V) × (entry_of_live b h k ≡ Some e) × changes e.0.1 e.1.0 None × (c ≡ taken b h k)
+      Computes bins b h k (WasChanged w) c = (e : Held K V) × (entry_of_live b h k ≡ Some e) × changes e.0.1 e.1.0 (Some w) × (c ≡ written bins b h k w)
+
+      -- memory was wanting for what the function answered
+      abbrev pub ComputesInVain : Live K V → ℕ → K → Type 0
+      ComputesInVain b h k = (e : Held K V) × (w : V) × (entry_of_live b h k ≡ Some e) × changes e.0.1 e.1.0 (Some w)
+
+  -- a hash lies in the region of the slot
+  abbrev pub LiesIn : ℕ → Place K V → Type 0
+  LiesIn h p = InRegion p.table p.index h
+
+  -- the slot with its live bin changed
+  abbrev pub content_with : (Live K V → Live K V) → Content K V → Content K V
+  content_with f (IsLive b) = IsLive (f b)
+  content_with f HasMoved = HasMoved
+  content_with f IsUnborn = IsUnborn
+
+  abbrev pub place_with : (Live K V → Live K V) → Place K V → Place K V
+  place_with f p = record p { content = content_with f p.content }
+
+  -- the bin at the slot is live, and this holds of it
+  abbrev pub IfLive : Content K V → (Live K V → Type 0) → Type 0
+  IfLive (IsLive b) P = P b
+  IfLive HasMoved P = ⊥
+  IfLive IsUnborn P = ⊥
+
+  -- low and high are the halves of p in the next larger table, and no bin is there yet
+  pub record AreHalves (p low high : Place K V) : Type 0 where
+    pub low_table : low.table ≡ p.table + 1
+    pub high_table : high.table ≡ p.table + 1
+    pub low_index : low.index ≡ p.index
+    pub high_index : high.index ≡ p.index + 2 ^ p.table
+    pub low_unborn : low.content ≡ IsUnborn
+    pub high_unborn : high.content ≡ IsUnborn
+
+  -- the live bin of p has moved: the entries whose hash has bit `table` 0 stand in the low half, and the others in the high one
+  abbrev pub HasMovedInto : Place K V → Place K V → Place K V → Place K V → Place K V → Place K V → Type 0
+  HasMovedInto p low high p' low' high' =
+      AreHalves p low high
+      × IfLive p.content
+      (λ b. (p' ≡ record p { content = HasMoved })
+      × (low' ≡ record low { content = IsLive (half p.table 0 b) })
+      × (high' ≡ record high { content = IsLive (half p.table 1 b) }))
+
+  -- nothing can be moved: no bin is there yet, or a slot lent in is not a half that has no bin yet
+  abbrev pub Clashes : Place K V → Place K V → Place K V → Type 0
+  Clashes p low high = (p.content ≡ IsUnborn) ⊎ IfLive p.content (λ b. AreHalves p low high → ⊥)
+
+  -- What each live bin keeps: its entries ascend strictly by hash and key, a tree has at least seven and a list at most nine, and
+  -- the hashes lie in the bin's region.
+  pub record IsLiveIn (cmp : K → K → Ordering) (table index : ℕ) (b : Live K V) : Type 0 where
+    pub ascends : IsFiniteMap (hash_then_key cmp) b.held
+    pub sized : IsSized b.tree (length b.held)
+    pub region : AllByRecursion (λ (k : ℕ × K). InRegion table index k.0) (keys_of b.held)
+
+  -- the largest table moves no bin
+  abbrev pub IsContent : (K → K → Ordering) → ℕ → ℕ → Content K V → Type 0
+  IsContent cmp table index (IsLive b) = IsLiveIn cmp table index b
+  IsContent cmp table index HasMoved = table < 30
+  IsContent cmp table index IsUnborn = ⊤
+
+  -- what each slot keeps
+  pub record IsSlot (cmp : K → K → Ordering) (p : Place K V) : Type 0 where
+    pub table : p.table ≤ 30
+    pub index : p.index < 2 ^ p.table
+    pub content : IsContent cmp p.table p.index p.content

@@ -1,0 +1,266 @@
+//! A live bin of a table, and the steps at it.
+ghost use Rattle.std.specs.Prelude.{◌≡◌, ◌^◌, ◌<◌, ◌≤◌, [], map, length, true, false, IfOk, OnOk, OnErr, IfSome, IsSome, IsNone, Some, None};
+ghost use Rattle.std.specs.Option.{option_map};
+ghost use Rattle.std.specs.Arc.{arc_value};
+ghost use Rattle.flurry_bins.specs.Bin.{entries_of_bin, is_tree};
+ghost use Rattle.flurry_bins.specs.Chain.{entry_of};
+ghost use Rattle.flurry_bins.specs.Entries.{lent_bound};
+ghost use Rattle.flurry_bins.specs.Greatest.{greatest};
+ghost use Rattle.flurry_bins.specs.PlainEntries.{numbered, numbered_all};
+ghost use Rattle.flurry_slots.specs.Slot.{half, wiped, next_number, entry_of_live, value_of_live, next_of_live, written, written_reply, asks, taken, added, added_reply, taken_if, taken_if_reply, Computes, ComputesInVain};
+ghost use Rattle.flurry_slots.specs.LiveView.{live_of, written_view, added_view, outcome};
+
+use crate::change::Change;
+use flurry_bins::bin::{Bin, BoxedNode, Entry, Node, Ordered};
+use flurry_bins::table::{TryInsertError, put_in_table, two_owners};
+use std::alloc::{AllocError, Allocator};
+use std::marker::Model;
+use std::sync::Arc;
+
+// No bin has more entries. A further one is refused as if memory were wanting, which no memory reaches.
+const MOST_ENTRIES: usize = 1 << 62;
+
+/// What a write did.
+#[derive(Drop)]
+pub struct Written<V, A: Allocator> {
+    /// The value that stood before, or none where the key is new.
+    pub old: Option<Arc<V, A>>,
+    /// Whether a larger table is asked for.
+    pub asks_for_growth: bool,
+}
+
+/// What an addition did.
+#[derive(Drop)]
+pub struct Added<V, A: Allocator> {
+    /// The new value.
+    pub value: Arc<V, A>,
+    /// Whether a larger table is asked for.
+    pub asks_for_growth: bool,
+}
+
+/// What a computation did.
+#[derive(Drop)]
+pub enum Computed<V, A: Allocator> {
+    /// The key is absent; the function was not called.
+    Absent,
+    /// The function answered none, and the pair was taken out.
+    Removed,
+    /// The function answered this value, which stands now.
+    Changed(Arc<V, A>),
+}
+
+#[derive(Drop)]
+pub(crate) struct LiveBin<K: Ord, V, A: Allocator> {
+    bin: Bin<K, V, A>,
+    writes: u64,
+}
+
+impl<K: Ord, V, A: Allocator> Model for LiveBin<K, V, A> {
+    ghost use Rattle.flurry_slots.specs.Slot.{Live};
+    ghost use Rattle.flurry_slots.specs.LiveView.{live_of};
+
+    ghost Value = { Live K V };
+
+    ghost view = { λ b. live_of b.bin b.writes };
+}
+
+impl<K: Ord + Drop, V: Drop, A: Allocator> LiveBin<K, V, A> {
+    // Counts as many writes as were made.
+    pub(crate) fn new(bin: Bin<K, V, A>, writes: u64) -> Self
+        ensures { result ≡ live_of bin writes }
+    {
+        LiveBin { bin, writes }
+    }
+
+    pub(crate) fn len(&self) -> usize
+        ensures { result ≡ length self.now.held }
+    {
+        self.bin.len()
+    }
+
+    pub(crate) fn find(&self, hash: u64, key: &K) -> Option<&Entry<K, V, A>>
+        ensures { option_map (λ e. numbered e.now) result ≡ entry_of_live K.cmp self.now hash key.now }
+    {
+        self.bin.find(hash, key).0
+    }
+
+    pub(crate) fn next_after(&self, bound: Option<(u64, &K)>) -> Option<&Entry<K, V, A>>
+        ensures { option_map (λ e. numbered e.now) result ≡ next_of_live K.cmp (lent_bound bound.entry) self.now }
+    {
+        self.bin.next_after(bound)
+    }
+
+    // Writes another value at a hash and a key that are there.
+    fn rewrite(&mut self, bins: usize, hash: u64, key: &K, value: Arc<V, A>) -> Arc<V, A>
+        requires { IsSome (entry_of_live K.cmp self.old hash key.now) }
+        ensures old { value_of_live K.cmp self.old hash key.now ≡ Some (arc_value result) }
+        ensures after { self.new ≡ written K.cmp bins self.old hash key.now (arc_value value) }
+    {
+        self.writes = self.writes.saturating_add(1);
+        self.bin.replace(hash, key, value, self.writes)
+    }
+
+    // Puts in a node, of the next number, whose hash and key are not there. Answers whether a larger table is asked for.
+    fn add(&mut self, bins: usize, node: BoxedNode<K, V, A>) -> bool
+        requires absent { let e = entry_of node.value in entry_of_live K.cmp self.old e.hash (arc_value e.key) ≡ None }
+        requires room { length self.old.held < 2 ^ 62 }
+        requires number { (entry_of node.value).number ≡ next_number self.old.writes }
+        ensures asks { let e = entry_of node.value in
+            result ≡ asks K.cmp bins self.old e.hash (arc_value e.key) }
+        ensures after { let e = entry_of node.value in
+            self.new ≡ written K.cmp bins self.old e.hash (arc_value e.key) (arc_value e.value) }
+    {
+        self.writes = self.writes.saturating_add(1);
+        put_in_table(&mut self.bin, node, bins)
+    }
+
+    pub(crate) fn take(&mut self, hash: u64, key: &K) -> Option<Entry<K, V, A>>
+        ensures entry { option_map numbered result ≡ entry_of_live K.cmp self.old hash key.now }
+        ensures after { self.new ≡ taken K.cmp self.old hash key.now }
+    {
+        match self.bin.remove(hash, key) {
+            Some(node) => Some(Box::into_inner(node).into_entry()),
+            None => None,
+        }
+    }
+
+    pub(crate) fn take_if(&mut self, hash: u64, key: &K, number: u64) -> Option<Entry<K, V, A>>
+        ensures entry { option_map numbered result ≡ taken_if_reply K.cmp number self.old hash key.now }
+        ensures after { self.new ≡ taken_if K.cmp number self.old hash key.now }
+    {
+        let entry = self.find(hash, key)?;
+        if entry.number == number && number < u64::MAX {
+            self.take(hash, key)
+        } else {
+            None
+        }
+    }
+
+    pub(crate) fn wipe(&mut self) -> usize
+        ensures count { result ≡ length self.old.held }
+        ensures after { self.new ≡ wiped self.old }
+    {
+        let count = self.len();
+        self.bin = Bin::new();
+        count
+    }
+
+    // The entries whose hash has this bit 0, and the others, each with the count of writes.
+    pub(crate) fn split(self, bit: u8) -> (Self, Self)
+        requires { bit < 64 }
+        ensures low { result.0 ≡ half bit 0 self }
+        ensures high { result.1 ≡ half bit 1 self }
+    {
+        let LiveBin { bin, writes } = self;
+        let (low, high) = bin.split(bit);
+        (LiveBin { bin: low, writes }, LiveBin { bin: high, writes })
+    }
+}
+
+impl<K: Ord + Drop, V: Drop, A: Allocator + Copy> LiveBin<K, V, A> {
+    // The node of a new key, for the next write.
+    fn new_node(
+        &self,
+        alloc: A,
+        hash: u64,
+        key: K,
+        value: V,
+    ) -> Result<BoxedNode<K, V, A>, AllocError>
+        ensures hash { IfOk result (λ b. (entry_of b.value).hash ≡ hash) }
+        ensures key { IfOk result (λ b. arc_value (entry_of b.value).key ≡ key) }
+        ensures value { IfOk result (λ b. arc_value (entry_of b.value).value ≡ value) }
+        ensures number { IfOk result (λ b. (entry_of b.value).number ≡ next_number self.now.writes) }
+        ensures room { IfOk result (λ b. length self.now.held < 2 ^ 62) }
+    {
+        if self.len() >= MOST_ENTRIES {
+            return Err(AllocError);
+        }
+        Node::of_pair(alloc, hash, key, value, self.writes.saturating_add(1))
+    }
+
+    pub(crate) fn put(
+        &mut self,
+        alloc: A,
+        bins: usize,
+        hash: u64,
+        key: K,
+        value: V,
+    ) -> Result<Written<V, A>, AllocError>
+        ensures reply { IfOk result (λ w. written_view w ≡ written_reply K.cmp bins self.old hash key) }
+        ensures after { OnOk result (self.new ≡ written K.cmp bins self.old hash key value) }
+        ensures refused { OnErr result (self.new ≡ self.old) }
+    {
+        if self.find(hash, &key).is_some() {
+            let value = Arc::new(alloc, value)?;
+            return Ok(Written {
+                old: Some(self.rewrite(bins, hash, &key, value)),
+                asks_for_growth: false,
+            });
+        }
+        let node = self.new_node(alloc, hash, key, value)?;
+        Ok(Written {
+            old: None,
+            asks_for_growth: self.add(bins, node),
+        })
+    }
+
+    pub(crate) fn put_absent(
+        &mut self,
+        alloc: A,
+        bins: usize,
+        hash: u64,
+        key: K,
+        value: V,
+    ) -> Result<Result<Added<V, A>, TryInsertError<V, A>>, AllocError>
+        ensures reply { IfOk result (λ r. added_view r ≡ added_reply K.cmp bins self.old hash key value) }
+        ensures after { OnOk result (self.new ≡ added K.cmp bins self.old hash key value) }
+        ensures refused { OnErr result (self.new ≡ self.old) }
+    {
+        if let Some(entry) = self.find(hash, &key) {
+            let current = Arc::try_clone(&entry.value)?;
+            return Ok(Err(TryInsertError {
+                current,
+                not_inserted: value,
+            }));
+        }
+        let node = self.new_node(alloc, hash, key, value)?;
+        let value = Arc::try_clone(&node.entry().value)?;
+        let asks_for_growth = self.add(bins, node);
+        Ok(Ok(Added {
+            value,
+            asks_for_growth,
+        }))
+    }
+
+    pub(crate) fn compute<F: Change<K, V>>(
+        &mut self,
+        alloc: A,
+        bins: usize,
+        hash: u64,
+        key: &K,
+        f: F,
+    ) -> Result<Computed<V, A>, AllocError>
+        requires { F.can_change f }
+        ensures done { IfOk result (λ c. Computes K.cmp (F.changes f) bins self.old hash key.now (outcome c) self.new) }
+        ensures refused { OnErr result (self.new ≡ self.old) }
+        ensures in_vain { OnErr result (ComputesInVain K.cmp (F.changes f) self.old hash key.now) }
+    {
+        let computed = match self.find(hash, key) {
+            Some(entry) => f.change(&entry.key, &entry.value),
+            None => return Ok(Computed::Absent),
+        };
+        match computed {
+            Some(value) => match two_owners(alloc, value) {
+                Ok((value, answer)) => {
+                    let _ = self.rewrite(bins, hash, key, value);
+                    Ok(Computed::Changed(answer))
+                }
+                Err(e) => Err(e),
+            },
+            None => {
+                let _ = self.take(hash, key);
+                Ok(Computed::Removed)
+            }
+        }
+    }
+}

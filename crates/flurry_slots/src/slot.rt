@@ -1,0 +1,364 @@
+//! A slot of a table, where one bin stands, and the steps that are done at one slot.
+ghost use Rattle.std.specs.Prelude.{◌≡◌, ℕ, ◌+◌, ◌^◌, ◌<◌, ◌≤◌, ⊤, length, map, IfOk, OnErr, OnOk, IsTrue, ◌↔◌};
+ghost use Rattle.std.specs.Option.{option_map};
+ghost use Rattle.flurry_bins.specs.Bin.{entries_of_bin};
+ghost use Rattle.flurry_bins.specs.Entries.{lent_bound};
+ghost use Rattle.flurry_bins.specs.Greatest.{greatest};
+ghost use Rattle.flurry_slots.specs.LiveView.{live_of, written_view, added_view, outcome};
+ghost use Rattle.flurry_bins.specs.PlainEntries.{numbered};
+ghost use Rattle.flurry_bins.specs.Region.{AllInRegion};
+ghost use Rattle.flurry_slots.specs.Slot.{Place, IsLive, HasMoved, IsUnborn, IsSlot, LiesIn, IfLive, place_with, entry_of_live, next_of_live, written, written_reply, added, added_reply, taken, taken_if, taken_if_reply, wiped, Computes, ComputesInVain, HasMovedInto, Clashes};
+ghost use Rattle.flurry_slots.specs.SlotView.{place_of, answer_with, answer_map, IfHere, IfAway, IsAway, IfDone, IfAlready, IfClash, IfNotDone};
+
+use crate::change::Change;
+use crate::live::{Added, Computed, LiveBin, Written};
+use flurry_bins::bin::{Bin, Entry};
+use flurry_bins::table::TryInsertError;
+use std::alloc::{AllocError, Allocator, Global};
+use std::marker::Model;
+use std::mem;
+
+/// What a step at a slot answers.
+#[derive(Drop)]
+pub enum Answer<T, B> {
+    /// The bin is live: the step was done there, and answered this.
+    Here(T),
+    /// The bin moved to the next larger table. Nothing was changed, and what was lent in comes back.
+    Moved(B),
+    /// No bin is there yet. Nothing was changed, and what was lent in comes back.
+    Unborn(B),
+}
+
+/// The note that the bin of a slot was moved. [`Slot::move_into`] alone makes it.
+#[derive(Drop)]
+pub struct Receipt {
+    at: (u8, usize),
+}
+
+impl Model for Receipt {
+    ghost use Rattle.std.specs.Prelude.{ℕ};
+
+    ghost Value = { ℕ × ℕ };
+
+    ghost view = { λ r. r.at };
+}
+
+impl Receipt {
+    /// The table and the index of the slot.
+    pub fn at(&self) -> (u8, usize)
+        ensures { result ≡ self.now }
+    {
+        self.at
+    }
+}
+
+/// What [`Slot::move_into`] answers.
+#[derive(Drop)]
+pub enum MoveAnswer {
+    /// The bin was moved.
+    Done(Receipt),
+    /// The bin had moved before.
+    Already(Receipt),
+    /// No bin is there yet, or a slot that was lent in is not the half where it goes, or already has a bin. Nothing was changed.
+    Clash,
+}
+
+#[derive(Drop)]
+enum State<K: Ord, V, A: Allocator> {
+    Live(LiveBin<K, V, A>),
+    Moved,
+    Unborn,
+}
+
+/// The place of one bin in a table of 2^table bins, with the count of the values that were written to the bin.
+///
+/// A value that is written bears the count after it, its write number. The count goes with a bin that moves, and stays at
+/// `u64::MAX`.
+#[derive(Drop)]
+pub struct Slot<K: Ord, V, A: Allocator = Global> {
+    table: u8,
+    index: usize,
+    state: State<K, V, A>,
+}
+
+impl<K: Ord, V, A: Allocator> Model for Slot<K, V, A> {
+    ghost use Rattle.flurry_slots.specs.Slot.{Place, IsSlot};
+    ghost use Rattle.flurry_slots.specs.SlotView.{place_of};
+
+    ghost Value = { Place K V };
+
+    ghost view = { place_of };
+
+    ghost invariant = { λ s. IsSlot K.cmp (place_of s) };
+}
+
+impl<K: Ord + Drop, V: Drop, A: Allocator> Slot<K, V, A> {
+    /// The slot of a bin whose hashes lie in its region. Its count of writes is the greatest write number in the bin, 0 for an
+    /// empty one. Linear time.
+    pub fn live(table: u8, index: usize, bin: Bin<K, V, A>) -> Self
+        requires table { table ≤ 30 }
+        requires index { index < 2 ^ table }
+        requires region { AllInRegion table index (entries_of_bin bin) }
+        ensures { result ≡ record { table = table; index = index; content = IsLive (live_of bin (greatest (map (λ e. e.number) (entries_of_bin bin)))) } }
+    {
+        let writes = bin.greatest_number();
+        Slot::live_at(table, index, bin, writes)
+    }
+
+    /// The slot of a bin whose hashes lie in its region, with a count of writes. Constant time.
+    pub fn live_at(table: u8, index: usize, bin: Bin<K, V, A>, writes: u64) -> Self
+        requires table { table ≤ 30 }
+        requires index { index < 2 ^ table }
+        requires region { AllInRegion table index (entries_of_bin bin) }
+        ensures { result ≡ record { table = table; index = index; content = IsLive (live_of bin writes) } }
+    {
+        Slot {
+            table,
+            index,
+            state: State::Live(LiveBin::new(bin, writes)),
+        }
+    }
+
+    /// A slot that waits for its bin. Constant time.
+    pub fn unborn(table: u8, index: usize) -> Self
+        requires table { table ≤ 30 }
+        requires index { index < 2 ^ table }
+        ensures { result ≡ record { table = table; index = index; content = IsUnborn } }
+    {
+        Slot {
+            table,
+            index,
+            state: State::Unborn,
+        }
+    }
+
+    /// The number of the table, which has 2 to that power bins, and the index there. Constant time.
+    pub fn at(&self) -> (u8, usize)
+        ensures at { (result.0 ≡ self.now.table) × (result.1 ≡ self.now.index) }
+        ensures within { IsSlot K.cmp self.now }
+    {
+        (self.table, self.index)
+    }
+
+    /// The entry of a hash and a key, if there is one. As many steps as a look-up in the bin.
+    pub fn find(&self, hash: u64, key: &K) -> Answer<Option<&Entry<K, V, A>>, ()>
+        requires { LiesIn hash self.now }
+        ensures reply { answer_map (option_map (λ e. numbered e.now)) result ≡ answer_with self.now.content (λ b. entry_of_live K.cmp b hash key.now) tt }
+        ensures within { IsSlot K.cmp self.now }
+    {
+        match &self.state {
+            State::Live(live) => Answer::Here(live.find(hash, key)),
+            State::Moved => Answer::Moved(()),
+            State::Unborn => Answer::Unborn(()),
+        }
+    }
+
+    /// The first entry past a bound, or with no bound the first. As many steps as a look-up in the bin.
+    pub fn next_after(&self, bound: Option<(u64, &K)>) -> Answer<Option<&Entry<K, V, A>>, ()>
+        ensures reply { answer_map (option_map (λ e. numbered e.now)) result ≡ answer_with self.now.content (λ b. next_of_live K.cmp (lent_bound bound.entry) b) tt }
+        ensures within { IsSlot K.cmp self.now }
+    {
+        match &self.state {
+            State::Live(live) => Answer::Here(live.next_after(bound)),
+            State::Moved => Answer::Moved(()),
+            State::Unborn => Answer::Unborn(()),
+        }
+    }
+
+    #[tactic(auto, using(crate::proofs::SlotLaws::live_in_taken))]
+    /// Takes the entry of a hash and a key out, if there is one. As many steps as a look-up in the bin; takes no memory.
+    pub fn take(&mut self, hash: u64, key: &K) -> Answer<Option<Entry<K, V, A>>, ()>
+        requires { LiesIn hash self.old }
+        ensures reply { answer_map (option_map numbered) result ≡ answer_with self.old.content (λ b. entry_of_live K.cmp b hash key.now) tt }
+        ensures after { self.new ≡ place_with (λ b. taken K.cmp b hash key.now) self.old }
+        ensures within { IsSlot K.cmp self.old }
+    {
+        match &mut self.state {
+            State::Live(live) => Answer::Here(live.take(hash, key)),
+            State::Moved => Answer::Moved(()),
+            State::Unborn => Answer::Unborn(()),
+        }
+    }
+
+    #[tactic(auto, using(crate::proofs::SlotLaws::live_in_taken_if))]
+    /// Takes the entry of a hash and a key out exactly if its value still bears this write number, which is below `u64::MAX`. As
+    /// many steps as a look-up in the bin; takes no memory.
+    pub fn take_if(&mut self, hash: u64, key: &K, number: u64) -> Answer<Option<Entry<K, V, A>>, ()>
+        requires { LiesIn hash self.old }
+        ensures reply { answer_map (option_map numbered) result ≡ answer_with self.old.content (λ b. taken_if_reply K.cmp number b hash key.now) tt }
+        ensures after { self.new ≡ place_with (λ b. taken_if K.cmp number b hash key.now) self.old }
+        ensures within { IsSlot K.cmp self.old }
+    {
+        match &mut self.state {
+            State::Live(live) => Answer::Here(live.take_if(hash, key, number)),
+            State::Moved => Answer::Moved(()),
+            State::Unborn => Answer::Unborn(()),
+        }
+    }
+
+    #[tactic(auto, using(crate::proofs::SlotLaws::live_in_wiped))]
+    /// Takes all entries out, and answers how many there were. Linear time; takes no memory.
+    pub fn wipe(&mut self) -> Answer<usize, ()>
+        ensures reply { result ≡ answer_with self.old.content (λ b. length b.held) tt }
+        ensures after { self.new ≡ place_with wiped self.old }
+        ensures within { IsSlot K.cmp self.old }
+    {
+        match &mut self.state {
+            State::Live(live) => Answer::Here(live.wipe()),
+            State::Moved => Answer::Moved(()),
+            State::Unborn => Answer::Unborn(()),
+        }
+    }
+
+    #[tactic(auto, using(crate::proofs::SlotLaws::live_in_low, crate::proofs::SlotLaws::live_in_high))]
+    /// Moves the live bin into its two halves in the next larger table: the entries whose hash has bit `table` 0 into the low half
+    /// at the same index, and the others into the high half, as many bins further on as this table has. Both take the count of
+    /// writes over. Linear time; takes no memory.
+    pub fn move_into(&mut self, low: &mut Self, high: &mut Self) -> MoveAnswer
+        ensures done { IfDone result (λ r. (r ≡ (self.old.table, self.old.index)) × HasMovedInto self.old low.old high.old self.new low.new high.new) }
+        ensures already { IfAlready result (λ r. (r ≡ (self.old.table, self.old.index)) × (self.old.content ≡ HasMoved)) }
+        ensures clash { IfClash result (Clashes self.old low.old high.old) }
+        ensures same { IfNotDone result ((self.new ≡ self.old) × ((low.new ≡ low.old) × (high.new ≡ high.old))) }
+        ensures within { IsSlot K.cmp self.old }
+    {
+        if let State::Moved = &self.state {
+            return MoveAnswer::Already(self.receipt());
+        }
+        if !self.has_halves(low, high) {
+            return MoveAnswer::Clash;
+        }
+        match mem::replace(&mut self.state, State::Moved) {
+            State::Live(live) => {
+                let (lows, highs) = live.split(self.table);
+                low.state = State::Live(lows);
+                high.state = State::Live(highs);
+                MoveAnswer::Done(self.receipt())
+            }
+            other => {
+                self.state = other;
+                MoveAnswer::Clash
+            }
+        }
+    }
+}
+
+impl<K: Ord + Drop, V: Drop, A: Allocator> Slot<K, V, A> {
+    ghost use Rattle.flurry_slots.specs.Slot.{AreHalves};
+
+    // The note of a slot that was moved.
+    fn receipt(&self) -> Receipt
+        ensures { result ≡ (self.now.table, self.now.index) }
+    {
+        Receipt { at: self.at() }
+    }
+
+    // Whether these slots are the halves of the bin, and have no bin yet.
+    fn has_halves(&self, low: &Self, high: &Self) -> bool
+        ensures { IsTrue result ↔ AreHalves self.now low.now high.now }
+    {
+        let unborn = match (&low.state, &high.state) {
+            (State::Unborn, State::Unborn) => true,
+            _ => false,
+        };
+        unborn
+            && low.table == self.table + 1
+            && high.table == self.table + 1
+            && low.index == self.index
+            && high.index == self.index + (1usize << self.table)
+    }
+}
+
+impl<K: Ord + Drop, V: Drop, A: Allocator + Copy> Slot<K, V, A> {
+    #[tactic(auto, using(crate::proofs::SlotLaws::live_in_written))]
+    /// Writes a value: at a key that is there it takes the place of the old one, which is answered, and the stored key stays; else
+    /// the pair is put in. The answer says too whether a larger table is asked for. As many steps as a look-up in the bin.
+    ///
+    /// # Errors
+    ///
+    /// [`AllocError`], where memory for the pair is wanting, or where the bin has 2^62 entries. The bin is then as it was, and the
+    /// key and the value are dropped.
+    pub fn put(
+        &mut self,
+        alloc: A,
+        hash: u64,
+        key: K,
+        value: V,
+    ) -> Result<Answer<Written<V, A>, (K, V)>, AllocError>
+        requires { LiesIn hash self.old }
+        ensures reply { IfOk result (λ a. answer_map written_view a ≡ answer_with self.old.content (λ b. written_reply K.cmp (2 ^ self.old.table) b hash key) (key, value)) }
+        ensures after { OnOk result (self.new ≡ place_with (λ b. written K.cmp (2 ^ self.old.table) b hash key value) self.old) }
+        ensures refused { OnErr result (self.new ≡ self.old) }
+        ensures only_live { OnErr result (IfLive self.old.content (λ _. ⊤)) }
+        ensures within { IsSlot K.cmp self.old }
+    {
+        let bins = 1usize << self.table;
+        match &mut self.state {
+            State::Live(live) => Ok(Answer::Here(live.put(alloc, bins, hash, key, value)?)),
+            State::Moved => Ok(Answer::Moved((key, value))),
+            State::Unborn => Ok(Answer::Unborn((key, value))),
+        }
+    }
+
+    #[tactic(auto, using(crate::proofs::SlotLaws::live_in_added))]
+    /// Puts a pair in whose key is absent, and answers its value, and whether a larger table is asked for. At a key that is there
+    /// nothing changes; the answer has the value that stands and the one that was not put. As many steps as a look-up in the bin.
+    ///
+    /// # Errors
+    ///
+    /// [`AllocError`], as of [`Slot::put`], and also where a further owner of the value is refused. The bin is then as it was, and
+    /// the key and the value are dropped.
+    pub fn put_absent(
+        &mut self,
+        alloc: A,
+        hash: u64,
+        key: K,
+        value: V,
+    ) -> Result<Answer<Result<Added<V, A>, TryInsertError<V, A>>, (K, V)>, AllocError>
+        requires { LiesIn hash self.old }
+        ensures reply { IfOk result (λ a. answer_map added_view a ≡ answer_with self.old.content (λ b. added_reply K.cmp (2 ^ self.old.table) b hash key value) (key, value)) }
+        ensures after { OnOk result (self.new ≡ place_with (λ b. added K.cmp (2 ^ self.old.table) b hash key value) self.old) }
+        ensures refused { OnErr result (self.new ≡ self.old) }
+        ensures only_live { OnErr result (IfLive self.old.content (λ _. ⊤)) }
+        ensures within { IsSlot K.cmp self.old }
+    {
+        let bins = 1usize << self.table;
+        match &mut self.state {
+            State::Live(live) => Ok(Answer::Here(live.put_absent(alloc, bins, hash, key, value)?)),
+            State::Moved => Ok(Answer::Moved((key, value))),
+            State::Unborn => Ok(Answer::Unborn((key, value))),
+        }
+    }
+
+    #[tactic(auto, using(crate::proofs::SlotLaws::live_in_written, crate::proofs::SlotLaws::live_in_taken))]
+    /// Calls a function once on the stored key and the value of a key that is there, and on nothing else. Its answer is the new
+    /// value; where it answers none, the pair is taken out. As many steps as a look-up in the bin.
+    ///
+    /// # Errors
+    ///
+    /// [`AllocError`], where memory for the new value, or for its further owner, is wanting. The function was called; the value that
+    /// it computed is dropped, and the bin is as it was.
+    pub fn compute<F: Change<K, V>>(
+        &mut self,
+        alloc: A,
+        hash: u64,
+        key: &K,
+        f: F,
+    ) -> Result<Answer<Computed<V, A>, F>, AllocError>
+        requires region { LiesIn hash self.old }
+        requires callable { F.can_change f }
+        ensures back { IfOk result (λ a. IsAway a self.old.content f) }
+        ensures here { IfOk result (λ a. IfHere a (λ c. IfLive self.old.content (λ b. IfLive self.new.content (λ d.
+            Computes K.cmp (F.changes f) (2 ^ self.old.table) b hash key.now (outcome c) d × (self.new ≡ place_with (λ _. d) self.old))))) }
+        ensures same { IfOk result (λ a. IfAway a (self.new ≡ self.old)) }
+        ensures refused { OnErr result (self.new ≡ self.old) }
+        ensures in_vain { OnErr result (IfLive self.old.content (λ b. ComputesInVain K.cmp (F.changes f) b hash key.now)) }
+        ensures within { IsSlot K.cmp self.old }
+    {
+        let bins = 1usize << self.table;
+        match &mut self.state {
+            State::Live(live) => Ok(Answer::Here(live.compute(alloc, bins, hash, key, f)?)),
+            State::Moved => Ok(Answer::Moved(f)),
+            State::Unborn => Ok(Answer::Unborn(f)),
+        }
+    }
+}
