@@ -1,3 +1,7 @@
 pub mod Claim
 pub mod Control
 pub mod ControlView
+pub mod Party
+pub mod PartyView
+pub mod PartySlots
+pub mod PartyControl

@@ -2,11 +2,16 @@
 //!
 //! A shared map is read and written by many calls at once. What they agree upon is the [`Control`]: which table is published, whether
 //! a larger one is being filled and who moves which of its bins, and how many pairs there are. Each of its calls is one step, which a
-//! caller does alone, as under a lock. Contracts see it as plain data.
+//! caller does alone, as under a lock.
+//!
+//! A [`Party`] is one call. It names the part of the map that its next step needs, is lent it, and does that step alone. Contracts see
+//! parts and calls as plain data.
 #![tactic(auto)]
 
 pub mod control;
+pub mod party;
 #[cfg(test)]
 mod tests;
 
 pub use control::Control;
+pub use party::Party;

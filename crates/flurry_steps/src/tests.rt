@@ -1,6 +1,8 @@
 //! The control: each row of what its calls answer and change, with tables that can be refused.
 ghost use Rattle.std.specs.Prelude.{◌<◌, ◌≡◌, ◌++◌, ◌∷◌, [], if◌then◌else◌};
 
+mod party;
+
 use crate::control::{Advice, Claim, Control, Room, Started, wanted_table};
 use flurry_bins::bin::Bin;
 use flurry_bins::table::stride;

@@ -1,0 +1,273 @@
+-- A call of a shared map in progress, as plain data.
+use Rattle.std.specs.Prelude.{◌≡◌, ℕ, ◌-◌, ◌%◌, ◌^◌, ◌≤◌, Bool, true, false, Option, Some, None, is_some, ⊤}
+use Rattle.std.specs.Option.{option_map}
+use Rattle.flurry_bins.specs.Sizes.{wanted_of}
+use Rattle.flurry_slots.specs.Slot.{Held}
+use Rattle.flurry_bins.specs.declared.table.reply.KeptReply.{KeptReply}
+use Rattle.flurry_bins.specs.declared.table.reply.KeptReply.TheVariants.{Value, Pair, Contains}
+use Rattle.flurry_steps.specs.Claim.{Range, next_of}
+
+-- what of the entry of a key a call answers: its value, the stored key and the value, or whether there is one
+pub data Sought : Type 0 where
+  TheValue : Sought
+  ThePair : Sought
+  Presence : Sought
+
+-- a call of one key that did not decide yet
+pub data Task (K V F : Type 0) : Type 0 where
+  Finds : Sought → K → Task K V F
+  Removes : Sought → K → Task K V F
+  Inserts : K → V → Task K V F
+  Adds : K → V → Task K V F
+  Computes : K → F → Task K V F
+
+-- what a call answers: the reply of a call of one key, the end of another call, or that memory was wanting
+pub data Said (K V : Type 0) : Type 0 where
+  Says : KeptReply K V → Said K V
+  SaysEnded : Said K V
+  SaysRefused : Said K V
+
+-- what a table is made larger for: an insertion that has its reply, or a reserve
+pub data Growing (K V : Type 0) : Type 0 where
+  ForInsert : Said K V → Growing K V
+  ForReserve : Growing K V
+
+-- what a call goes on with when it stops helping: its bin in that table, another look at the count, or growing to that table
+pub data After (K V F : Type 0) : Type 0 where
+  ThenBin : Task K V F → ℕ → After K V F
+  ThenRecount : Said K V → After K V F
+  ThenGrow : ℕ → Growing K V → After K V F
+
+-- where a call stands
+pub data Stage (K V F : Type 0) : Type 0 where
+  -- it asks for the published table
+  AtLocate : Task K V F → Stage K V F
+  -- it goes to its bin in that table
+  AtBin : Task K V F → ℕ → Stage K V F
+  -- it claims bins to move
+  AtClaim : After K V F → Stage K V F
+  -- it moves those bins, and reports once all have moved
+  AtMove : Range → After K V F → Stage K V F
+  -- it counts the pair that it removed
+  AtUncount : Said K V → Stage K V F
+  -- it counts the pair that it put
+  AtCount : Said K V → Stage K V F
+  -- it counts nothing, and hears what is to be done
+  AtRecount : Said K V → Stage K V F
+  -- it begins a growth from that table
+  AtBegin : ℕ → Said K V → Stage K V F
+  -- it begins a growth on the way to that table
+  AtGrow : ℕ → Growing K V → Stage K V F
+  -- it makes room for so many pairs more
+  AtReserve : ℕ → Stage K V F
+  -- it has ended, and its reply was not taken yet
+  AtDone : Said K V → Stage K V F
+  -- its reply was taken
+  AtTaken : Stage K V F
+
+-- a call in progress: the hash of its key, how many processors share the work of a growth, and where it stands
+pub record Course (K V F : Type 0) : Type 0 where
+  pub hash : ℕ
+  pub processors : ℕ
+  pub stage : Stage K V F
+
+-- the part of the map that a call needs next
+pub data Part : Type 0 where
+  ControlPart : Part
+  LookPart : ℕ → ℕ → Part
+  BinPart : ℕ → ℕ → Part
+  MovePart : ℕ → ℕ → Part
+  NoPart : Part
+
+-- ---- what a call wants
+
+abbrev pub bin_part : {K V F : Type 0} → Task K V F → ℕ → ℕ → Part
+bin_part (Finds w k) e i = LookPart e i
+bin_part (Removes w k) e i = BinPart e i
+bin_part (Inserts k v) e i = BinPart e i
+bin_part (Adds k v) e i = BinPart e i
+bin_part (Computes k f) e i = BinPart e i
+
+abbrev pub move_part : Option (ℕ × ℕ) → Part
+move_part None = ControlPart
+move_part (Some b) = MovePart b.0 b.1
+
+abbrev pub part_of : {K V F : Type 0} → ℕ → Stage K V F → Part
+part_of h (AtLocate t) = ControlPart
+part_of h (AtBin t e) = bin_part t e (h % 2 ^ e)
+part_of h (AtClaim a) = ControlPart
+part_of h (AtMove c a) = move_part (next_of c)
+part_of h (AtUncount r) = ControlPart
+part_of h (AtCount r) = ControlPart
+part_of h (AtRecount r) = ControlPart
+part_of h (AtBegin e r) = ControlPart
+part_of h (AtGrow w g) = ControlPart
+part_of h (AtReserve a) = ControlPart
+part_of h (AtDone r) = NoPart
+part_of h AtTaken = NoPart
+
+abbrev pub wanted_part : {K V F : Type 0} → Course K V F → Part
+wanted_part p = part_of p.hash p.stage
+
+abbrev pub with_stage : {K V F : Type 0} → Course K V F → Stage K V F → Course K V F
+with_stage p s = record { hash = p.hash; processors = p.processors; stage = s }
+
+-- ---- what each call in progress keeps: tables up to the greatest, a function that may be called, and the reply of its decision
+
+-- the reply of a call of one key, which decided
+abbrev pub IsDecided : {K V : Type 0} → Said K V → Type 0
+IsDecided (Says r) = ⊤
+IsDecided SaysEnded = ⊥
+IsDecided SaysRefused = ⊥
+
+abbrev pub GrowingIsReady : {K V : Type 0} → Growing K V → Type 0
+GrowingIsReady (ForInsert r) = IsDecided r
+GrowingIsReady ForReserve = ⊤
+
+module _ {K V F : Type 0} (ready : F → Type 0) where
+  abbrev pub TaskIsReady : Task K V F → Type 0
+  TaskIsReady (Finds w k) = ⊤
+  TaskIsReady (Removes w k) = ⊤
+  TaskIsReady (Inserts k v) = ⊤
+  TaskIsReady (Adds k v) = ⊤
+  TaskIsReady (Computes k f) = ready f
+
+  abbrev pub AfterIsReady : After K V F → Type 0
+  AfterIsReady (ThenBin t e) = TaskIsReady t × (e ≤ 30)
+  AfterIsReady (ThenRecount r) = IsDecided r
+  AfterIsReady (ThenGrow w g) = (w ≤ 30) × GrowingIsReady g
+
+  abbrev pub StageIsReady : Stage K V F → Type 0
+  StageIsReady (AtLocate t) = TaskIsReady t
+  StageIsReady (AtBin t e) = TaskIsReady t × (e ≤ 30)
+  StageIsReady (AtClaim a) = AfterIsReady a
+  StageIsReady (AtMove c a) = AfterIsReady a
+  StageIsReady (AtUncount r) = IsDecided r
+  StageIsReady (AtCount r) = IsDecided r
+  StageIsReady (AtRecount r) = IsDecided r
+  StageIsReady (AtBegin e r) = (e ≤ 30) × IsDecided r
+  StageIsReady (AtGrow w g) = (w ≤ 30) × GrowingIsReady g
+  StageIsReady (AtReserve a) = ⊤
+  StageIsReady (AtDone r) = ⊤
+  StageIsReady AtTaken = ⊤
+
+-- ---- replies
+
+module _ {K V : Type 0} where
+  -- what a call that seeks this answers of an entry, or of an absent key
+  abbrev pub told : Sought → Option (Held K V) → KeptReply K V
+  told TheValue e = Value (option_map (λ (x : Held K V). x.1.0) e)
+  told ThePair e = Pair (option_map (λ (x : Held K V). (x.0.1, x.1.0)) e)
+  told Presence e = Contains (is_some e)
+
+  abbrev pub said_by_growing : Growing K V → Option (Said K V)
+  said_by_growing (ForInsert r) = Some r
+  said_by_growing ForReserve = None
+
+module _ {K V F : Type 0} where
+  abbrev pub said_after : After K V F → Option (Said K V)
+  said_after (ThenBin t e) = None
+  said_after (ThenRecount r) = Some r
+  said_after (ThenGrow w g) = said_by_growing g
+
+  -- the reply, from the decision or the end on until it is taken
+  abbrev pub said_in : Stage K V F → Option (Said K V)
+  said_in (AtLocate t) = None
+  said_in (AtBin t e) = None
+  said_in (AtClaim a) = said_after a
+  said_in (AtMove c a) = said_after a
+  said_in (AtUncount r) = Some r
+  said_in (AtCount r) = Some r
+  said_in (AtRecount r) = Some r
+  said_in (AtBegin e r) = Some r
+  said_in (AtGrow w g) = said_by_growing g
+  said_in (AtReserve a) = None
+  said_in (AtDone r) = Some r
+  said_in AtTaken = None
+
+  -- the reply of a call that is done, until it is taken
+  abbrev pub done_with : Stage K V F → Option (Said K V)
+  done_with (AtLocate t) = None
+  done_with (AtBin t e) = None
+  done_with (AtClaim a) = None
+  done_with (AtMove c a) = None
+  done_with (AtUncount r) = None
+  done_with (AtCount r) = None
+  done_with (AtRecount r) = None
+  done_with (AtBegin e r) = None
+  done_with (AtGrow w g) = None
+  done_with (AtReserve a) = None
+  done_with (AtDone r) = Some r
+  done_with AtTaken = None
+
+  -- a call that stops helping goes on there
+  abbrev pub resumed : After K V F → Stage K V F
+  resumed (ThenBin t e) = AtBin t e
+  resumed (ThenRecount r) = AtRecount r
+  resumed (ThenGrow w g) = AtGrow w g
+
+-- how many steps a look-up has left at most, where no bin that it meets is unborn: one at the control, and one in each of 31 tables
+abbrev pub steps_left : {K V F : Type 0} → Stage K V F → ℕ
+steps_left (AtLocate t) = 32
+steps_left (AtBin t e) = 31 - e
+steps_left _ = 0
+
+-- a call that may change its bin
+abbrev pub IsWriter : {K V F : Type 0} → Task K V F → Type 0
+IsWriter (Finds w k) = ⊥
+IsWriter (Removes w k) = ⊤
+IsWriter (Inserts k v) = ⊤
+IsWriter (Adds k v) = ⊤
+IsWriter (Computes k f) = ⊤
+
+-- ---- steps at the control
+
+-- the next step is at the control
+abbrev pub IsAtControl : {K V F : Type 0} → Stage K V F → Type 0
+IsAtControl (AtLocate t) = ⊤
+IsAtControl (AtBin t e) = ⊥
+IsAtControl (AtClaim a) = ⊤
+IsAtControl (AtMove c a) = ⊤
+IsAtControl (AtUncount r) = ⊤
+IsAtControl (AtCount r) = ⊤
+IsAtControl (AtRecount r) = ⊤
+IsAtControl (AtBegin e r) = ⊤
+IsAtControl (AtGrow w g) = ⊤
+IsAtControl (AtReserve a) = ⊤
+IsAtControl (AtDone r) = ⊥
+IsAtControl AtTaken = ⊥
+
+-- the next step only asks the control for the published table
+abbrev pub locates : {K V F : Type 0} → Stage K V F → Bool
+locates (AtLocate t) = true
+locates (AtBin t e) = false
+locates (AtClaim a) = false
+locates (AtMove c a) = false
+locates (AtUncount r) = false
+locates (AtCount r) = false
+locates (AtRecount r) = false
+locates (AtBegin e r) = false
+locates (AtGrow w g) = false
+locates (AtReserve a) = false
+locates (AtDone r) = false
+locates AtTaken = false
+
+-- that step, at a table that is published
+abbrev pub started : {K V F : Type 0} → ℕ → Stage K V F → Stage K V F
+started d (AtLocate t) = AtBin t d
+started d (AtBin t e) = AtBin t e
+started d (AtClaim a) = AtClaim a
+started d (AtMove c a) = AtMove c a
+started d (AtUncount r) = AtUncount r
+started d (AtCount r) = AtCount r
+started d (AtRecount r) = AtRecount r
+started d (AtBegin e r) = AtBegin e r
+started d (AtGrow w g) = AtGrow w g
+started d (AtReserve a) = AtReserve a
+started d (AtDone r) = AtDone r
+started d AtTaken = AtTaken
+
+-- the number w of the table that is made for so many pairs
+pub record IsTableFor (pairs w : ℕ) : Type 0 where
+  pub bins : 2 ^ w ≡ wanted_of pairs
+  pub within : w ≤ 30

@@ -1,0 +1,117 @@
+-- What contracts see of a call in progress.
+use Rattle.std.specs.Prelude.{⊤}
+use Rattle.std.specs.Option.{option_map}
+use Rattle.std.specs.Arc.{arc_value}
+use Rattle.std.specs.declared.sync.Arc.{Arc}
+use Rattle.flurry_bins.specs.declared.table.reply.KeptReply.TheVariants as kept
+use Rattle.flurry_steps.specs.Party as abstract
+use Rattle.flurry_steps.specs.Party.{Course, Part, ControlPart, LookPart, BinPart, MovePart, NoPart, Said, Says, SaysEnded, SaysRefused}
+use Rattle.flurry_steps.specs.declared.party.call.Key.{Key}
+use Rattle.flurry_steps.specs.declared.party.call.Key.TheVariants as key
+use Rattle.flurry_steps.specs.declared.party.call.Call.{Call}
+use Rattle.flurry_steps.specs.declared.party.call.Call.TheVariants as call
+use Rattle.flurry_steps.specs.declared.party.call.Sought.{Sought}
+use Rattle.flurry_steps.specs.declared.party.call.Sought.TheVariants as sought
+use Rattle.flurry_steps.specs.declared.party.call.Task.{Task}
+use Rattle.flurry_steps.specs.declared.party.call.Task.TheVariants as task
+use Rattle.flurry_steps.specs.declared.party.reply.Reply.{Reply}
+use Rattle.flurry_steps.specs.declared.party.reply.Reply.TheVariants as reply
+use Rattle.flurry_steps.specs.declared.party.stage.Growing.{Growing}
+use Rattle.flurry_steps.specs.declared.party.stage.Growing.TheVariants as growing
+use Rattle.flurry_steps.specs.declared.party.stage.After.{After}
+use Rattle.flurry_steps.specs.declared.party.stage.After.TheVariants as after
+use Rattle.flurry_steps.specs.declared.party.stage.Stage.{Stage}
+use Rattle.flurry_steps.specs.declared.party.stage.Stage.TheVariants as stage
+use Rattle.flurry_steps.specs.declared.party.Want.{Want}
+use Rattle.flurry_steps.specs.declared.party.Want.TheVariants as want
+use Rattle.flurry_steps.specs.declared.party.Party.TheInside.{Inside}
+
+module _ {K V A : Type 0} where
+  -- the stored key and its value, out of what owns them
+  abbrev pub pair_value : Arc K A × Arc V A → K × V
+  pair_value p = (arc_value p.0, arc_value p.1)
+
+  abbrev pub said_of : Reply K V A → Said K V
+  said_of (reply.Value v) = Says (kept.Value (option_map arc_value v))
+  said_of (reply.Pair p) = Says (kept.Pair (option_map pair_value p))
+  said_of (reply.Contains b) = Says (kept.Contains b)
+  said_of (reply.New v) = Says (kept.New (arc_value v))
+  said_of (reply.Exists e) = Says (kept.Exists (arc_value e.current) e.not_inserted)
+  said_of reply.Ended = SaysEnded
+  said_of reply.Refused = SaysRefused
+
+abbrev pub part_of_want : Want → Part
+part_of_want want.Control = ControlPart
+part_of_want (want.Look e i) = LookPart e i
+part_of_want (want.Bin e i) = BinPart e i
+part_of_want (want.Move e i) = MovePart e i
+part_of_want want.Done = NoPart
+
+abbrev pub key_of : {K : Type 0} → Key K → K
+key_of (key.Lent k) = k.now
+key_of (key.Own k) = k
+
+abbrev pub sought_of : Sought → abstract.Sought
+sought_of sought.Value = abstract.TheValue
+sought_of sought.Pair = abstract.ThePair
+sought_of sought.Presence = abstract.Presence
+
+module _ {K V F : Type 0} where
+  abbrev pub task_of : Task K V F → abstract.Task K V F
+  task_of (task.Find w k) = abstract.Finds (sought_of w) (key_of k)
+  task_of (task.Remove w k) = abstract.Removes (sought_of w) (key_of k)
+  task_of (task.Insert k v) = abstract.Inserts k v
+  task_of (task.Add k v) = abstract.Adds k v
+  task_of (task.Compute k f) = abstract.Computes (key_of k) f
+
+  -- the stage before the first step
+  abbrev pub first_stage : Call K V F → abstract.Stage K V F
+  first_stage (call.Get k) = abstract.AtLocate (abstract.Finds abstract.TheValue k.now)
+  first_stage (call.GetKeyValue k) = abstract.AtLocate (abstract.Finds abstract.ThePair k.now)
+  first_stage (call.ContainsKey k) = abstract.AtLocate (abstract.Finds abstract.Presence k.now)
+  first_stage (call.Remove k) = abstract.AtLocate (abstract.Removes abstract.TheValue k.now)
+  first_stage (call.RemoveEntry k) = abstract.AtLocate (abstract.Removes abstract.ThePair k.now)
+  first_stage (call.Insert k v) = abstract.AtLocate (abstract.Inserts k v)
+  first_stage (call.TryInsert k v) = abstract.AtLocate (abstract.Adds k v)
+  first_stage (call.Compute k f) = abstract.AtLocate (abstract.Computes k.now f)
+  first_stage (call.Reserve a) = abstract.AtReserve a
+
+  -- its function, if it has one, may be called
+  abbrev pub CallIsReady : (F → Type 0) → Call K V F → Type 0
+  CallIsReady ready (call.Get k) = ⊤
+  CallIsReady ready (call.GetKeyValue k) = ⊤
+  CallIsReady ready (call.ContainsKey k) = ⊤
+  CallIsReady ready (call.Remove k) = ⊤
+  CallIsReady ready (call.RemoveEntry k) = ⊤
+  CallIsReady ready (call.Insert k v) = ⊤
+  CallIsReady ready (call.TryInsert k v) = ⊤
+  CallIsReady ready (call.Compute k f) = ready f
+  CallIsReady ready (call.Reserve a) = ⊤
+
+module _ {K V A : Type 0} where
+  abbrev pub growing_of : Growing K V A → abstract.Growing K V
+  growing_of (growing.Insert r) = abstract.ForInsert (said_of r)
+  growing_of growing.Reserve = abstract.ForReserve
+
+module _ {K V F A : Type 0} where
+  abbrev pub after_of : After K V F A → abstract.After K V F
+  after_of (after.Bin t e) = abstract.ThenBin (task_of t) e
+  after_of (after.Recount r) = abstract.ThenRecount (said_of r)
+  after_of (after.Grow w g) = abstract.ThenGrow w (growing_of g)
+
+  abbrev pub stage_of : Stage K V F A → abstract.Stage K V F
+  stage_of (stage.Locate t) = abstract.AtLocate (task_of t)
+  stage_of (stage.Bin t e) = abstract.AtBin (task_of t) e
+  stage_of (stage.Claim a) = abstract.AtClaim (after_of a)
+  stage_of (stage.Move c a) = abstract.AtMove c (after_of a)
+  stage_of (stage.Uncount r) = abstract.AtUncount (said_of r)
+  stage_of (stage.Count r) = abstract.AtCount (said_of r)
+  stage_of (stage.Recount r) = abstract.AtRecount (said_of r)
+  stage_of (stage.Begin e r) = abstract.AtBegin e (said_of r)
+  stage_of (stage.Grow w g) = abstract.AtGrow w (growing_of g)
+  stage_of (stage.Reserve a) = abstract.AtReserve a
+  stage_of (stage.Done r) = abstract.AtDone (said_of r)
+  stage_of stage.Taken = abstract.AtTaken
+
+  abbrev pub course_of : Inside K V F A → Course K V F
+  course_of p = record { hash = p.hash; processors = p.processors; stage = stage_of p.stage }

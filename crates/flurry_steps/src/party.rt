@@ -1,0 +1,305 @@
+//! One call of a shared map in progress, as a machine whose steps each need one part of the map.
+//!
+//! A caller asks a [`Party`] what it wants, lends it that part, and so on until the party is done. What it does to the part, and what
+//! it becomes, are plain data in contracts; each step is one line of what a call does, whichever steps of other calls come between.
+ghost use Rattle.std.specs.Prelude.{◌≡◌, ◌<◌, ◌⊎◌, IfNone, IfSome, true};
+ghost use Rattle.std.specs.Option.{option_map, option_copied};
+ghost use Rattle.flurry_slots.specs.Slot.{IsSlot, IsUnborn};
+ghost use Rattle.flurry_steps.specs.Party.{Course, locates, started, wanted_part, with_stage, said_in, done_with, steps_left, LookPart, BinPart, MovePart, ControlPart, AtTaken, AtLocate, TaskIsReady};
+ghost use Rattle.flurry_steps.specs.PartyControl.{ControlStep};
+ghost use Rattle.flurry_steps.specs.PartySlots.{SlotStep, MoveStep};
+ghost use Rattle.flurry_steps.specs.PartyView.{part_of_want, first_stage, said_of, task_of, CallIsReady};
+
+mod at_control;
+mod at_slot;
+mod call;
+mod reply;
+mod stage;
+
+use crate::control::{Control, Room, Start};
+use at_control::controlled;
+use at_slot::{changed, looked};
+pub use call::Call;
+use call::{Key, Sought, Task};
+use flurry_bins::table::bin_index;
+use flurry_slots::{Change, MoveAnswer, Slot};
+pub use reply::Reply;
+use stage::{After, Growing, Stage};
+use std::alloc::{Allocator, Global};
+use std::marker::Model;
+use std::mem;
+
+/// The part of a shared map that the next step of a call needs.
+#[derive(Clone, Copy, Debug, PartialEq, Eq)]
+pub enum Want {
+    /// The control, and the room where tables are made.
+    Control,
+    /// The slot of that table and index, to read.
+    Look(u8, usize),
+    /// The slot of that table and index, to write.
+    Bin(u8, usize),
+    /// The slot of that table and index, and its two halves in the next table, to move.
+    Move(u8, usize),
+    /// Nothing: the call is done.
+    Done,
+}
+
+/// What a step of a call was.
+#[derive(Clone, Copy, Debug, PartialEq, Eq)]
+pub enum Event {
+    /// A call of one key decided: it has its reply, and changed the map.
+    Decide,
+    /// The call was refused for memory, and is done.
+    Refused,
+    /// The first table, of that number, was made and published.
+    Opened(u8),
+    /// The table of that number was made, and its growth began.
+    Placed(u8),
+    /// The bin of that table and index was moved.
+    Moved(u8, usize),
+    /// The table of that number was published.
+    Published(u8),
+    /// Any other step.
+    Silent,
+}
+
+/// One call of a shared map in progress.
+///
+/// It goes on by its steps alone, each of which takes the part that [`Party::want`] names. A look-up makes at most 32 steps where no bin
+/// that it meets is unborn: one at the control, and one in each of 31 tables.
+#[derive(Drop)]
+pub struct Party<'k, K, V, F: Change<K, V>, A: Allocator = Global> {
+    hash: u64,
+    processors: usize,
+    stage: Stage<'k, K, V, F, A>,
+}
+
+impl<'k, K, V, F: Change<K, V>, A: Allocator> Model for Party<'k, K, V, F, A> {
+    ghost use Rattle.flurry_steps.specs.Party.{Course, StageIsReady};
+    ghost use Rattle.flurry_steps.specs.PartyView.{course_of, stage_of};
+
+    ghost Value = { Course K V F };
+
+    ghost view = { course_of };
+
+    ghost invariant = { λ p. StageIsReady F.can_change (stage_of p.stage) };
+}
+
+impl<'k, K: Drop, V: Drop, F: Change<K, V>, A: Allocator> Party<'k, K, V, F, A> {
+    /// A call before its first step, by the hash of its key and the number of processors that share the work of a growth; 0 counts
+    /// as 1. A reserve does not read the hash.
+    ///
+    /// Constant time; takes no memory.
+    pub fn new(call: Call<'k, K, V, F>, hash: u64, processors: usize) -> Self
+        requires { CallIsReady F.can_change call }
+        ensures { result ≡ record { hash = hash; processors = processors; stage = first_stage call.entry } }
+    {
+        let task = match call {
+            Call::Get(key) => Task::Find(Sought::Value, Key::Lent(key)),
+            Call::GetKeyValue(key) => Task::Find(Sought::Pair, Key::Lent(key)),
+            Call::ContainsKey(key) => Task::Find(Sought::Presence, Key::Lent(key)),
+            Call::Remove(key) => Task::Remove(Sought::Value, Key::Lent(key)),
+            Call::RemoveEntry(key) => Task::Remove(Sought::Pair, Key::Lent(key)),
+            Call::Insert(key, value) => Task::Insert(key, value),
+            Call::TryInsert(key, value) => Task::Add(key, value),
+            Call::Compute(key, f) => Task::Compute(Key::Lent(key), f),
+            Call::Reserve(more) => {
+                return Party {
+                    hash,
+                    processors,
+                    stage: Stage::Reserve(more),
+                };
+            }
+        };
+        Party::of_task(task, hash, processors)
+    }
+
+    // The same of a call of one key, whose key may be its own.
+    pub(crate) fn of_task(task: Task<'k, K, V, F>, hash: u64, processors: usize) -> Self
+        requires { TaskIsReady F.can_change (task_of task) }
+        ensures { result ≡ record { hash = hash; processors = processors; stage = AtLocate (task_of task.entry) } }
+    {
+        Party {
+            hash,
+            processors,
+            stage: Stage::Locate(task),
+        }
+    }
+
+    /// The part that the next step needs.
+    ///
+    /// Constant time.
+    #[inline]
+    pub fn want(&self) -> Want
+        ensures { part_of_want result ≡ wanted_part self.now }
+    {
+        match &self.stage {
+            Stage::Bin(task, table) => {
+                let index = bin_index(self.hash, *table);
+                match task {
+                    Task::Find(_, _) => Want::Look(*table, index),
+                    _ => Want::Bin(*table, index),
+                }
+            }
+            Stage::Move(claim, _) => match claim.next() {
+                Some((table, index)) => Want::Move(table, index),
+                None => Want::Control,
+            },
+            Stage::Done(_) | Stage::Taken => Want::Done,
+            _ => Want::Control,
+        }
+    }
+
+    /// The reply, from the decision or the end on until it is taken.
+    ///
+    /// Constant time.
+    pub fn reply(&self) -> Option<&Reply<K, V, A>>
+        ensures { option_map said_of (option_copied result) ≡ said_in self.now.stage }
+    {
+        match &self.stage {
+            Stage::Done(reply)
+            | Stage::Uncount(reply)
+            | Stage::Count(reply)
+            | Stage::Recount(reply)
+            | Stage::Begin(_, reply)
+            | Stage::Claim(After::Recount(reply))
+            | Stage::Claim(After::Grow(_, Growing::Insert(reply)))
+            | Stage::Move(_, After::Recount(reply))
+            | Stage::Move(_, After::Grow(_, Growing::Insert(reply)))
+            | Stage::Grow(_, Growing::Insert(reply)) => Some(reply),
+            _ => None,
+        }
+    }
+
+    /// Moves the reply out of a call that is done, which stays done. Answers none exactly where the call is not done, or its reply was
+    /// taken before; the call is then as it was.
+    ///
+    /// Constant time.
+    pub fn take_reply(&mut self) -> Option<Reply<K, V, A>>
+        ensures value { option_map said_of result ≡ done_with self.old.stage }
+        ensures none { IfNone result (self.new ≡ self.old) }
+        ensures some { IfSome result (λ _. self.new ≡ with_stage self.old AtTaken) }
+    {
+        match mem::replace(&mut self.stage, Stage::Taken) {
+            Stage::Done(reply) => Some(reply),
+            other => {
+                self.stage = other;
+                None
+            }
+        }
+    }
+
+    /// The step at the control, with the room where tables are made.
+    ///
+    /// Constant time, but for the making of a table.
+    pub fn on_control<R: Room>(&mut self, control: &mut Control, room: &mut R) -> Event
+        requires { wanted_part self.old ≡ ControlPart }
+        ensures { ControlStep R.place_gives self.old control.old room.old result self.new control.new room.new }
+    {
+        let stage = mem::replace(&mut self.stage, Stage::Taken);
+        let (stage, event) = controlled(stage, self.processors, control, room);
+        self.stage = stage;
+        event
+    }
+
+    /// Whether the next step only asks the control for the published table.
+    ///
+    /// Constant time.
+    #[inline]
+    pub fn locates(&self) -> bool
+        ensures { result ≡ locates self.now.stage }
+    {
+        matches!(self.stage, Stage::Locate(_))
+    }
+
+    /// That step, at a table that a control has published: the call goes on to its bin there.
+    ///
+    /// Constant time.
+    #[inline]
+    pub fn on_start(&mut self, start: &Start) -> Event
+        requires { locates self.old.stage ≡ true }
+        ensures silent { result ≡ Event.Silent }
+        ensures at { self.new ≡ with_stage self.old (started start.now self.old.stage) }
+    {
+        match mem::replace(&mut self.stage, Stage::Taken) {
+            Stage::Locate(task) => {
+                self.stage = Stage::Bin(task, start.table());
+                Event::Silent
+            }
+            _ => unreachable!(),
+        }
+    }
+}
+
+impl<'k, K: Ord + Drop, V: Drop, F: Change<K, V>, A: Allocator> Party<'k, K, V, F, A> {
+    /// The step of a look-up at its slot. Unless the bin is unborn, fewer steps are left than before.
+    ///
+    /// As many steps as a look-up in the bin.
+    pub fn on_look(&mut self, slot: &Slot<K, V, A>) -> Event
+        requires { wanted_part self.old ≡ LookPart slot.now.table slot.now.index }
+        ensures within { IsSlot K.cmp slot.now }
+        ensures nearer { (slot.now.content ≡ IsUnborn) ⊎ (steps_left self.new.stage < steps_left self.old.stage) }
+        ensures step { SlotStep K.cmp F.changes self.old slot.now result self.new slot.now }
+    {
+        let stage = mem::replace(&mut self.stage, Stage::Taken);
+        let Stage::Bin(task, table) = stage else {
+            unreachable!()
+        };
+        let Task::Find(sought, key) = task else {
+            unreachable!()
+        };
+        let (stage, event) = looked(self.hash, sought, key, table, slot);
+        self.stage = stage;
+        event
+    }
+
+    /// The step of a helper at a slot and its two halves in the next table.
+    ///
+    /// Linear time in the bin; takes no memory.
+    pub fn on_move(
+        &mut self,
+        old: &mut Slot<K, V, A>,
+        low: &mut Slot<K, V, A>,
+        high: &mut Slot<K, V, A>,
+    ) -> Event
+        requires { wanted_part self.old ≡ MovePart old.old.table old.old.index }
+        ensures within { IsSlot K.cmp old.old }
+        ensures step { MoveStep self.old old.old low.old high.old result self.new old.new low.new high.new }
+    {
+        let Stage::Move(claim, _) = &mut self.stage else {
+            unreachable!()
+        };
+        match old.move_into(low, high) {
+            MoveAnswer::Done(receipt) => {
+                let (table, index) = receipt.at();
+                claim.advance(receipt);
+                Event::Moved(table, index)
+            }
+            MoveAnswer::Already(receipt) => {
+                claim.advance(receipt);
+                Event::Silent
+            }
+            MoveAnswer::Clash => Event::Silent,
+        }
+    }
+}
+
+impl<'k, K: Ord + Drop, V: Drop, F: Change<K, V>, A: Allocator + Copy> Party<'k, K, V, F, A> {
+    /// The step at its slot of a call that may change it.
+    ///
+    /// As many steps as a look-up in the bin.
+    pub fn on_bin(&mut self, alloc: A, slot: &mut Slot<K, V, A>) -> Event
+        requires { wanted_part self.old ≡ BinPart slot.old.table slot.old.index }
+        ensures within { IsSlot K.cmp slot.old }
+        ensures step { SlotStep K.cmp F.changes self.old slot.old result self.new slot.new }
+    {
+        match mem::replace(&mut self.stage, Stage::Taken) {
+            Stage::Bin(task, table) => {
+                let (stage, event) = changed(alloc, self.hash, task, table, slot);
+                self.stage = stage;
+                event
+            }
+            _ => unreachable!(),
+        }
+    }
+}
