@@ -1,0 +1,230 @@
+-- The count and what the parties owe.
+use Rattle.std.specs.Prelude.{length, ℕ, pos, neg_ℤ, ◌≤ℤ◌, ◌+ℤ◌, ◌-ℤ◌, suc, Some, ◌+◌, ◌-◌, ◌%◌, ◌^◌, ◌<◌, ◌≤◌, nat_lt, cond, Bool, true, false, not, List, [], ◌∷◌, Option, None, ◌≡◌, ◌⊎◌}
+use Rattle.std.specs.declared.cmp.Ordering.{Ordering}
+use Rattle.std.specs.Cmp.{IsTotalOrder}
+use Rattle.std.proofs.Common.{arith, refl, sym, ◌∙◌, ap, subst, inl, inr}
+use Rattle.std.proofs.lemmas.Int.{ints}
+use Rattle.std.proofs.lemmas.Bool.{eq-eqb, ne_eqb, cases_lt, cond-false, false_from_ne_true}
+use Rattle.flurry_theory.specs.Map.{Unique, same, find, after}
+use Rattle.flurry_theory.specs.Trace.{decided, in_region, pairs, at}
+use Rattle.flurry_theory.specs.Bin.{Entry}
+use Rattle.flurry_theory.specs.Machine.{RefusedAt, Mode, Locating, Looking, Walking, Clearing, Done, halves, onward, found_by, owes_added, owes_removed, State, Line, Can, does, at_bin, at_place, Live, Finished, Frame, Begins, Quiet, Counts, Finds, Opens, FindsNothing, IsRefused, DecidesEmpty, Passes, Decides, Places, Claims, Moves, Reports, Publishes, Reads, Leaves, Splits, Wipes, SplitsClear, Replies, Ends}
+use Rattle.flurry_theory.specs.Machine.{total}
+use Rattle.flurry_theory.specs.Invariant.{PartyOk, Tables, home_after, Counted}
+use Rattle.flurry_theory.proofs.Bins.{find-after_other, find-wiped}
+use Rattle.flurry_theory.proofs.Ranges.{place_here, place_other, total-change, total-same, total-zero}
+use Rattle.flurry_theory.proofs.Count.{length-after, unique-filter, unique-after, same_length, balance}
+use Rattle.flurry_theory.specs.declared.Call.{Call}
+use Rattle.flurry_theory.specs.declared.Reply.{Reply}
+use Rattle.flurry_theory.specs.declared.Label.TheVariants.{Decide, Wipe}
+use Rattle.flurry_theory.proofs.Walks.{held}
+use Rattle.flurry_theory.proofs.Refusals.{refused_at_work}
+use Rattle.flurry_theory.specs.declared.Call.TheVariants.{Get, GetKeyValue, ContainsKey, Insert, TryInsert, Compute, Remove, RemoveEntry, RemoveSeen, Reserve, Clear, Walk}
+
+-- what is owed after one party's mode was changed
+placed_owed : {K V : Type 0} (owes : Mode K V → ℕ) (modes : ℕ → Mode K V) (p n : ℕ) (m : Mode K V) → p < n → total (λ q. owes (at_place modes p m q)) n + owes (modes p) ≡ total (λ q. owes (modes q)) n + owes m
+placed_owed owes modes p n m l = omega (arith, total-change (λ q. owes (at_place modes p m q)) (λ q. owes (modes q)) p n l (λ q ne. ap owes (place_other modes p q m ne)), ap owes (place_here modes p m))
+
+-- one more party, that owes nothing
+begun_owed : {K V : Type 0} (owes : Mode K V → ℕ) (modes : ℕ → Mode K V) (n : ℕ) (m : Mode K V) → owes m ≡ 0 → total (λ q. owes (at_place modes n m q)) (suc n) ≡ total (λ q. owes (modes q)) n
+begun_owed owes modes n m z = omega (arith, z, total-same (λ q. owes (at_place modes n m q)) (λ q. owes (modes q)) n (λ q l. ap owes (place_other modes n q m (λ e. omega (arith, e, l)))), ap owes (place_here modes n m))
+
+-- a walk or a clear owes the same behind a frame that is done
+onward_owed : {K V : Type 0} (owes : Mode K V → ℕ) (n : ℕ) (to : ℕ → ℕ → List (Frame K) → Mode K V) (end : Mode K V) (e i : ℕ) (fs : List (Frame K)) → ((d j : ℕ) (gs : List (Frame K)) → owes (to d j gs) ≡ n) → owes end ≡ n → owes (onward to end e i fs) ≡ n
+onward_owed owes n to end e i (f ∷ fs) h z = h e i (f ∷ fs)
+onward_owed owes n to end e i [] h z = go (nat_lt (suc i) (2 ^ e))
+  where
+    go : (b : Bool) → owes (cond b (to e (suc i) (record { table = e; index = suc i; bound = None } ∷ [])) end) ≡ n
+    go true = h e (suc i) (record { table = e; index = suc i; bound = None } ∷ [])
+    go false = z
+
+module _ {K V F : Type 0} (cmp : K → K → Ordering) (total_order : IsTotalOrder cmp) (hash : K → ℕ) (lawful : (j k : K) → same cmp j k ≡ true → hash j ≡ hash k) (gives : F → K → V → Option V → Type 0) where
+  known : (s : State K V F) (p : ℕ) → PartyOk s p → (s.mode p ≡ Finished → ⊥) → p < s.parties
+  known s p o h = go (cases_lt p s.parties)
+    where
+      go : (p < s.parties) ⊎ (s.parties ≤ p) → p < s.parties
+      go (inl l) = l
+      go (inr l) = absurd (h (o.unknown l).1)
+
+  -- a table that is found leaves nothing owed
+  found_owed : (call : Option (Call K V F)) (e : ℕ) → (owes_added (found_by cmp hash gives call e) ≡ 0) × (owes_removed (found_by cmp hash gives call e) ≡ 0)
+  found_owed None e = (refl, refl)
+  found_owed (Some (Get k)) e = (refl, refl)
+  found_owed (Some (GetKeyValue k)) e = (refl, refl)
+  found_owed (Some (ContainsKey k)) e = (refl, refl)
+  found_owed (Some (Insert k v)) e = (refl, refl)
+  found_owed (Some (TryInsert k v)) e = (refl, refl)
+  found_owed (Some (Compute k f)) e = (refl, refl)
+  found_owed (Some (Remove k)) e = (refl, refl)
+  found_owed (Some (RemoveEntry k)) e = (refl, refl)
+  found_owed (Some (RemoveSeen z)) e = (refl, refl)
+  found_owed (Some (Reserve n)) e = (refl, refl)
+  found_owed (Some Clear) e = (refl, refl)
+  found_owed (Some Walk) e = (refl, refl)
+
+  -- and so does a refusal
+  refused_owed : (s : State K V F) (c : Call K V F) (m : Mode K V) → RefusedAt cmp hash gives s c m → (owes_added m ≡ 0) × (owes_removed m ≡ 0)
+  refused_owed s c Locating h = (refl, refl)
+  refused_owed s c (Looking e) h = (refl, refl)
+  refused_owed s c (Walking e i fs) h = (refl, refl)
+  refused_owed s c (Clearing wiped e i fs) h = absurd h
+  refused_owed s c (Done None x y) h = (h.3, h.4)
+  refused_owed s c (Done (Some r) x y) h = absurd h
+  refused_owed s c Finished h = absurd h
+
+  -- where a party's mode changes, and not what it owes, nor the map
+  moves_on : (s : State K V F) (p : ℕ) (m : Mode K V) → PartyOk s p → (s.mode p ≡ Finished → ⊥) → owes_added m ≡ owes_added (s.mode p) → owes_removed m ≡ owes_removed (s.mode p) → Counted cmp hash s
+      → (pos (length (pairs cmp hash s.trace)) ≡ s.count +ℤ pos (total (λ q. owes_added (at_place s.mode p m q)) s.parties) -ℤ pos (total (λ q. owes_removed (at_place s.mode p m q)) s.parties))
+      × (length (pairs cmp hash s.trace) + total (λ q. owes_removed (at_place s.mode p m q)) s.parties ≤ suc (length s.trace)) × (total (λ q. owes_added (at_place s.mode p m q)) s.parties ≤ suc (length s.trace))
+  moves_on s p m o f a b v =
+      let x : total (λ q. owes_added (at_place s.mode p m q)) s.parties ≡ total (λ q. owes_added (s.mode q)) s.parties = omega (arith, a, placed_owed owes_added s.mode p s.parties m (known s p o f)) in
+      let y : total (λ q. owes_removed (at_place s.mode p m q)) s.parties ≡ total (λ q. owes_removed (s.mode q)) s.parties = omega (arith, b, placed_owed owes_removed s.mode p s.parties m (known s p o f)) in
+      (omega (arith, ints, v.balance, x, y), omega (arith, v.held, y), omega (arith, v.owed, x))
+
+  counts_counted : (s : State K V F) (p : ℕ) (r : Option (Reply K V)) (x y : ℕ) → Can cmp hash gives s p (Counts r x y) → PartyOk s p → Counted cmp hash s → Counted cmp hash (does cmp hash gives s p (Counts r x y))
+  counts_counted s p r x y can o v =
+      let l : p < s.parties = known s p o (λ h. grind (arith, h, can.0)) in
+      let more : total (λ q. owes_added (at_place s.mode p (Done r 0 0) q)) s.parties + x ≡ total (λ q. owes_added (s.mode q)) s.parties = omega (arith, ap owes_added can.0, placed_owed owes_added s.mode p s.parties (Done r 0 0) l) in
+      let less : total (λ q. owes_removed (at_place s.mode p (Done r 0 0) q)) s.parties + y ≡ total (λ q. owes_removed (s.mode q)) s.parties = omega (arith, ap owes_removed can.0, placed_owed owes_removed s.mode p s.parties (Done r 0 0) l) in
+      record { unique = v.unique; balance = omega (arith, ints, v.balance, more, less); held = omega (arith, v.held, less); owed = omega (arith, v.owed, more) }
+
+  begins_counted : (s : State K V F) (p : ℕ) (c : Call K V F) (y : Option ℕ) → Can cmp hash gives s p (Begins c y) → Counted cmp hash s → Counted cmp hash (does cmp hash gives s p (Begins c y))
+  begins_counted s p c y can v = record {
+    unique = v.unique;
+    balance = omega (arith, ints, v.balance, begun_owed owes_added s.mode p Locating refl, begun_owed owes_removed s.mode p Locating refl, ap (total (λ q. owes_added (s.mode q))) can.0, ap (total (λ q. owes_removed (s.mode q))) can.0);
+    held = omega (arith, v.held, begun_owed owes_added s.mode p Locating refl, begun_owed owes_removed s.mode p Locating refl, ap (total (λ q. owes_added (s.mode q))) can.0, ap (total (λ q. owes_removed (s.mode q))) can.0);
+    owed = omega (arith, v.owed, begun_owed owes_added s.mode p Locating refl, begun_owed owes_removed s.mode p Locating refl, ap (total (λ q. owes_added (s.mode q))) can.0, ap (total (λ q. owes_removed (s.mode q))) can.0);
+  }
+
+  decides_counted : (home : ℕ → ℕ) (s : State K V F) (p : ℕ) (c : Call K V F) (k : K) (e : ℕ) (es : List (Entry K V)) (n : ℕ) (r : Reply K V) (fs : List (Entry K V)) (m : ℕ) → Can cmp hash gives s p (Decides c k e es n r fs m) → PartyOk s p → Tables cmp hash home s → Tables cmp hash home (does cmp hash gives s p (Decides c k e es n r fs m)) → Counted cmp hash s → Counted cmp hash (does cmp hash gives s p (Decides c k e es n r fs m))
+  decides_counted home s p c k e es n r fs m can o t t' v = record {
+    unique = unique;
+    balance = omega (arith, ints, v.balance, moves, ap owes_added can.2, ap owes_removed can.2, placed_owed owes_added s.mode p s.parties (Done (Some r) (length fs - length es) (length es - length fs)) l, placed_owed owes_removed s.mode p s.parties (Done (Some r) (length fs - length es) (length es - length fs)) l);
+    held = omega (arith, v.held, one, moves, ap owes_added can.2, ap owes_removed can.2, placed_owed owes_added s.mode p s.parties (Done (Some r) (length fs - length es) (length es - length fs)) l, placed_owed owes_removed s.mode p s.parties (Done (Some r) (length fs - length es) (length es - length fs)) l);
+    owed = omega (arith, v.owed, one, moves, ap owes_added can.2, ap owes_removed can.2, placed_owed owes_added s.mode p s.parties (Done (Some r) (length fs - length es) (length es - length fs)) l, placed_owed owes_removed s.mode p s.parties (Done (Some r) (length fs - length es) (length es - length fs)) l);
+  }
+    where
+      l : p < s.parties
+      l = known s p o (λ h. grind (arith, h, can.2))
+
+      is : pairs cmp hash (Decide p r ∷ s.trace) ≡ after cmp c r (pairs cmp hash s.trace)
+      is = ap (λ u. decided cmp hash u r (pairs cmp hash s.trace)) (o.call ∙ can.0)
+
+      one : length (pairs cmp hash (Decide p r ∷ s.trace)) ≤ suc (length (pairs cmp hash s.trace))
+      one = subst (λ m. length m ≤ suc (length (pairs cmp hash s.trace))) (sym is) (length-after cmp total_order c r (pairs cmp hash s.trace))
+
+      unique : Unique cmp (pairs cmp hash (Decide p r ∷ s.trace))
+      unique = subst (Unique cmp) (sym is) (unique-after cmp total_order c r (pairs cmp hash s.trace) v.unique)
+
+      now : at_bin s.slot e (hash k % 2 ^ e) (Live fs m) e (hash k % 2 ^ e) ≡ Live fs m
+      now = grind (arith, eq-eqb e e refl, eq-eqb (hash k % 2 ^ e) (hash k % 2 ^ e) refl)
+
+      moves : length (pairs cmp hash s.trace) + length fs ≡ length (pairs cmp hash (Decide p r ∷ s.trace)) + length es
+      moves = balance cmp total_order hash lawful e (hash k % 2 ^ e) (pairs cmp hash s.trace) (pairs cmp hash (Decide p r ∷ s.trace)) es fs v.unique unique (t.ascending e (hash k % 2 ^ e) es n can.4).0 can.5.ascending (t.ascending e (hash k % 2 ^ e) es n can.4).1 can.6
+          (λ j g. held cmp total_order hash lawful gives home s e (hash k % 2 ^ e) es n j t can.4 g)
+          (λ j g. held cmp total_order hash lawful gives home (does cmp hash gives s p (Decides c k e es n r fs m)) e (hash k % 2 ^ e) fs m j t' now g)
+          (λ j g. sym (ap (λ u. find cmp u j) is ∙ find-after_other cmp total_order c r (pairs cmp hash s.trace) k j can.1 (false_from_ne_true (same cmp k j) (λ y. g (ap (λ h. h % 2 ^ e) (sym (lawful k j y)))))))
+
+  wipes_counted : (home : ℕ → ℕ) (s : State K V F) (p wiped e i : ℕ) (f : Frame K) (fs : List (Frame K)) (es : List (Entry K V)) (n : ℕ) → Can cmp hash gives s p (Wipes wiped e i f fs es n) → PartyOk s p → Tables cmp hash home s → Tables cmp hash home (does cmp hash gives s p (Wipes wiped e i f fs es n)) → Counted cmp hash s → Counted cmp hash (does cmp hash gives s p (Wipes wiped e i f fs es n))
+  wipes_counted home s p wiped e i f fs es n can o t t' v = record {
+    unique = unique;
+    balance = omega (
+      arith,
+      ints,
+      v.balance,
+      moves,
+      ap owes_added can.0,
+      ap owes_removed can.0,
+      placed_owed owes_added s.mode p s.parties (onward (Clearing (wiped + length es)) (Done None 0 (wiped + length es)) e i fs) l,
+      placed_owed owes_removed s.mode p s.parties (onward (Clearing (wiped + length es)) (Done None 0 (wiped + length es)) e i fs) l,
+      onward_owed {V = V} owes_added 0 (Clearing (wiped + length es)) (Done None 0 (wiped + length es)) e i fs (λ _ _ _. refl) refl,
+      onward_owed {V = V} owes_removed (wiped + length es) (Clearing (wiped + length es)) (Done None 0 (wiped + length es)) e i fs (λ _ _ _. refl) refl,
+    );
+    held = omega (
+      arith,
+      v.held,
+      moves,
+      ap owes_added can.0,
+      ap owes_removed can.0,
+      placed_owed owes_added s.mode p s.parties (onward (Clearing (wiped + length es)) (Done None 0 (wiped + length es)) e i fs) l,
+      placed_owed owes_removed s.mode p s.parties (onward (Clearing (wiped + length es)) (Done None 0 (wiped + length es)) e i fs) l,
+      onward_owed {V = V} owes_added 0 (Clearing (wiped + length es)) (Done None 0 (wiped + length es)) e i fs (λ _ _ _. refl) refl,
+      onward_owed {V = V} owes_removed (wiped + length es) (Clearing (wiped + length es)) (Done None 0 (wiped + length es)) e i fs (λ _ _ _. refl) refl,
+    );
+    owed = omega (
+      arith,
+      v.owed,
+      moves,
+      ap owes_added can.0,
+      ap owes_removed can.0,
+      placed_owed owes_added s.mode p s.parties (onward (Clearing (wiped + length es)) (Done None 0 (wiped + length es)) e i fs) l,
+      placed_owed owes_removed s.mode p s.parties (onward (Clearing (wiped + length es)) (Done None 0 (wiped + length es)) e i fs) l,
+      onward_owed {V = V} owes_added 0 (Clearing (wiped + length es)) (Done None 0 (wiped + length es)) e i fs (λ _ _ _. refl) refl,
+      onward_owed {V = V} owes_removed (wiped + length es) (Clearing (wiped + length es)) (Done None 0 (wiped + length es)) e i fs (λ _ _ _. refl) refl,
+    );
+  }
+    where
+      l : p < s.parties
+      l = known s p o (λ h. grind (arith, h, can.0))
+
+      unique : Unique cmp (pairs cmp hash (Wipe p f.table f.index ∷ s.trace))
+      unique = unique-filter cmp total_order (λ x. not (in_region f.table f.index (hash x.0))) (pairs cmp hash s.trace) v.unique
+
+      now : at_bin s.slot f.table f.index (Live [] n) f.table f.index ≡ Live [] n
+      now = grind (arith, eq-eqb f.table f.table refl, eq-eqb f.index f.index refl)
+
+      moves : length (pairs cmp hash s.trace) + 0 ≡ length (pairs cmp hash (Wipe p f.table f.index ∷ s.trace)) + length es
+      moves = balance cmp total_order hash lawful f.table f.index (pairs cmp hash s.trace) (pairs cmp hash (Wipe p f.table f.index ∷ s.trace)) es [] v.unique unique (t.ascending f.table f.index es n can.1).0 tt (t.ascending f.table f.index es n can.1).1 tt
+          (λ j g. held cmp total_order hash lawful gives home s f.table f.index es n j t can.1 g)
+          (λ j g. held cmp total_order hash lawful gives home (does cmp hash gives s p (Wipes wiped e i f fs es n)) f.table f.index [] n j t' now g)
+          (λ j g. sym (find-wiped cmp total_order hash lawful f.table f.index (pairs cmp hash s.trace) j ∙ cond-false (in_region f.table f.index (hash j)) None (at cmp hash s.trace j) (ne_eqb _ _ g)))
+
+  empty_counted : (home : ℕ → ℕ) (s : State K V F) (p : ℕ) (c : Call K V F) (r : Reply K V) → Can cmp hash gives s p (DecidesEmpty c r) → PartyOk s p → Tables cmp hash home s → Tables cmp hash home (does cmp hash gives s p (DecidesEmpty c r)) → Counted cmp hash s → Counted cmp hash (does cmp hash gives s p (DecidesEmpty c r))
+  empty_counted home s p c r can o t t' v = record {
+    unique = unique;
+    balance = omega (arith, ints, same.0, same_length cmp total_order (pairs cmp hash s.trace) [] v.unique tt (t.empty can.2), same_length cmp total_order (pairs cmp hash (Decide p r ∷ s.trace)) [] unique tt (t'.empty can.2));
+    held = omega (arith, same.1, same_length cmp total_order (pairs cmp hash s.trace) [] v.unique tt (t.empty can.2), same_length cmp total_order (pairs cmp hash (Decide p r ∷ s.trace)) [] unique tt (t'.empty can.2));
+    owed = same.2;
+  }
+    where
+      same : (pos (length (pairs cmp hash s.trace)) ≡ s.count +ℤ pos (total (λ q. owes_added (at_place s.mode p (Done (Some r) 0 0) q)) s.parties) -ℤ pos (total (λ q. owes_removed (at_place s.mode p (Done (Some r) 0 0) q)) s.parties))
+          × (length (pairs cmp hash s.trace) + total (λ q. owes_removed (at_place s.mode p (Done (Some r) 0 0) q)) s.parties ≤ suc (length s.trace)) × (total (λ q. owes_added (at_place s.mode p (Done (Some r) 0 0) q)) s.parties ≤ suc (length s.trace))
+      same = moves_on s p (Done (Some r) 0 0) o (λ h. grind (arith, h, can.1)) (sym (ap owes_added can.1)) (sym (ap owes_removed can.1)) v
+
+      unique : Unique cmp (pairs cmp hash (Decide p r ∷ s.trace))
+      unique = subst (Unique cmp) (sym (ap (λ u. decided cmp hash u r (pairs cmp hash s.trace)) (o.call ∙ can.0))) (unique-after cmp total_order c r (pairs cmp hash s.trace) v.unique)
+
+  pub counted_ok : (home : ℕ → ℕ) (s : State K V F) (p : ℕ) (l : Line K V F) → Can cmp hash gives s p l → PartyOk s p → Tables cmp hash home s → Tables cmp hash (home_after home l) (does cmp hash gives s p l) → Counted cmp hash s → Counted cmp hash (does cmp hash gives s p l)
+  counted_ok home s p (Begins c y) can o t u v = begins_counted s p c y can v
+  counted_ok home s p Quiet can o t u v = record { unique = v.unique; balance = v.balance; held = omega (arith, v.held); owed = omega (arith, v.owed) }
+  counted_ok home s p (Counts reply x y) can o t u v = counts_counted s p reply x y can o v
+  counted_ok home s p (Finds e) can o t u v = let b = moves_on s p (found_by cmp hash gives (s.call p) e) o (λ h. grind (arith, h, can.2)) ((found_owed (s.call p) e).0 ∙ sym (ap owes_added can.2)) ((found_owed (s.call p) e).1 ∙ sym (ap owes_removed can.2)) v in record { unique = v.unique; balance = b.0; held = b.1; owed = b.2 }
+  counted_ok home s p (Opens e) can o t u v = let b = moves_on s p (found_by cmp hash gives (s.call p) e) o (λ h. grind (arith, h, can.2)) ((found_owed (s.call p) e).0 ∙ sym (ap owes_added can.2)) ((found_owed (s.call p) e).1 ∙ sym (ap owes_removed can.2)) v in record { unique = v.unique; balance = b.0; held = b.1; owed = b.2 }
+  counted_ok home s p FindsNothing can o t u v = let b = moves_on s p (Done None 0 0) o (λ h. grind (arith, h, can.2)) (sym (ap owes_added can.2)) (sym (ap owes_removed can.2)) v in record { unique = v.unique; balance = b.0; held = b.1; owed = b.2 }
+  counted_ok home s p IsRefused can o t u v = let b = moves_on s p Finished o (refused_at_work cmp hash gives s p can).0 (sym (refused_owed s can.0 (s.mode p) can.3).0) (sym (refused_owed s can.0 (s.mode p) can.3).1) v in record { unique = v.unique; balance = b.0; held = b.1; owed = b.2 }
+  counted_ok home s p (DecidesEmpty c r) can o t u v = empty_counted home s p c r can o t u v
+  counted_ok home s p (Passes e) can o t u v = let b = moves_on s p (Looking (suc e)) o (λ h. grind (arith, h, can.4)) (sym (ap owes_added can.4)) (sym (ap owes_removed can.4)) v in record { unique = v.unique; balance = b.0; held = b.1; owed = b.2 }
+  counted_ok home s p (Decides c k e es n r fs m) can o t u v = decides_counted home s p c k e es n r fs m can o t u v
+  counted_ok home s p (Places e) can o t u v = record { unique = v.unique; balance = v.balance; held = omega (arith, v.held); owed = omega (arith, v.owed) }
+  counted_ok home s p (Claims e gr low) can o t u v = record { unique = v.unique; balance = v.balance; held = omega (arith, v.held); owed = omega (arith, v.owed) }
+  counted_ok home s p (Moves a i es n) can o t u v = record { unique = v.unique; balance = v.balance; held = omega (arith, v.held); owed = omega (arith, v.owed) }
+  counted_ok home s p (Reports a gr) can o t u v = record { unique = v.unique; balance = v.balance; held = omega (arith, v.held); owed = omega (arith, v.owed) }
+  counted_ok home s p (Publishes a gr) can o t u v = record { unique = v.unique; balance = v.balance; held = omega (arith, v.held); owed = omega (arith, v.owed) }
+  counted_ok home s p (Reads e i f fs es n x) can o t u v = let b = moves_on s p (Walking e i (record { table = f.table; index = f.index; bound = Some x.key } ∷ fs)) o (λ h. grind (arith, h, can.0)) (sym (ap owes_added can.0)) (sym (ap owes_removed can.0)) v in record { unique = v.unique; balance = b.0; held = b.1; owed = b.2 }
+  counted_ok home s p (Leaves e i f fs es n) can o t u v = let b = moves_on s p (onward Walking (Done None 0 0) e i fs) o (λ h. grind (arith, h, can.0)) (onward_owed owes_added 0 Walking (Done None 0 0) e i fs (λ _ _ _. refl) refl ∙ sym (ap owes_added can.0)) (onward_owed owes_removed 0 Walking (Done None 0 0) e i fs (λ _ _ _. refl) refl ∙ sym (ap owes_removed can.0)) v in record { unique = v.unique; balance = b.0; held = b.1; owed = b.2 }
+  counted_ok home s p (Splits e i f fs) can o t u v = let b = moves_on s p (Walking e i (halves f fs)) o (λ h. grind (arith, h, can.0)) (sym (ap owes_added can.0)) (sym (ap owes_removed can.0)) v in record { unique = v.unique; balance = b.0; held = b.1; owed = b.2 }
+  counted_ok home s p (Wipes wiped e i f fs es n) can o t u v = wipes_counted home s p wiped e i f fs es n can o t u v
+  counted_ok home s p (SplitsClear wiped e i f fs) can o t u v = let b = moves_on s p (Clearing wiped e i (halves f fs)) o (λ h. grind (arith, h, can.0)) (sym (ap owes_added can.0)) (sym (ap owes_removed can.0)) v in record { unique = v.unique; balance = b.0; held = b.1; owed = b.2 }
+  counted_ok home s p (Replies r) can o t u v = let b = moves_on s p (Finished) o (λ h. grind (arith, h, can.3)) (sym (ap owes_added can.3)) (sym (ap owes_removed can.3)) v in record { unique = v.unique; balance = b.0; held = b.1; owed = b.2 }
+  counted_ok home s p Ends can o t u v = let b = moves_on s p (Finished) o (λ h. grind (arith, h, can.3)) (sym (ap owes_added can.3)) (sym (ap owes_removed can.3)) v in record { unique = v.unique; balance = b.0; held = b.1; owed = b.2 }
+
+  -- once every party is finished, nobody owes, and the count is the number of pairs
+  pub nothing_owed : (s : State K V F) → Counted cmp hash s → ((p : ℕ) → p < s.parties → s.mode p ≡ Finished) → pos (length (pairs cmp hash s.trace)) ≡ s.count
+  nothing_owed s v f = omega (arith, ints, v.balance, none owes_added (λ p l. ap owes_added (f p l)), none owes_removed (λ p l. ap owes_removed (f p l)))
+    where
+      none : (owes : Mode K V → ℕ) → ((p : ℕ) → p < s.parties → owes (s.mode p) ≡ 0) → total (λ q. owes (s.mode q)) s.parties ≡ 0
+      none owes h = total-same (λ q. owes (s.mode q)) (λ _. 0) s.parties h ∙ total-zero (λ _. 0) s.parties (λ _. refl)
+
+  -- so the count stays within the number of labels
+  pub count_within : (s : State K V F) → Counted cmp hash s → (s.count ≤ℤ pos (length s.trace)) × (neg_ℤ (pos (length s.trace)) ≤ℤ s.count)
+  count_within s v = (omega (arith, ints, v.balance, v.held), omega (arith, ints, v.balance, v.owed))

@@ -1,0 +1,328 @@
+-- The ranges of a growth.
+use Rattle.std.specs.Prelude.{ℕ, suc, zero, ◌+◌, ◌-◌, ◌%◌, ◌^◌, ◌<◌, ◌≤◌, true, List, Option, Some, None, is_some, ◌≡◌, ◌⊎◌}
+use Rattle.std.specs.declared.cmp.Ordering.{Ordering}
+use Rattle.std.proofs.Common.{arith, refl, sym, ◌∙◌, ap, inl, inr}
+use Rattle.std.proofs.lemmas.Bool.{eqb-true, eqb-false, eq-eqb, ne_eqb, cases_order, cases_lt, cases_eq, and_parts, and_from, and_cases, lt-ltb, ltb-true, ltb-false, leb-true, le-leb}
+use Rattle.std.proofs.lemmas.Nat.{mod_below, pow_pos}
+use Rattle.flurry_theory.specs.Bin.{Entry}
+use Rattle.flurry_theory.specs.Machine.{State, Claim, Growth, Line, Opening, Can, does, at_place, Moved, Frame, Begins, Quiet, Counts, Finds, Opens, FindsNothing, IsRefused, DecidesEmpty, Passes, Decides, Places, Claims, Moves, Reports, Publishes, Reads, Leaves, Splits, Wipes, SplitsClear, Replies, Ends}
+use Rattle.flurry_theory.specs.Machine.{total}
+use Rattle.flurry_theory.specs.Invariant.{PartyOk, Tables, size, holds, Cut}
+use Rattle.flurry_theory.proofs.Bins.{small_mod}
+use Rattle.flurry_theory.specs.declared.Call.{Call}
+use Rattle.flurry_theory.specs.declared.Call.TheVariants.{Get, GetKeyValue, ContainsKey, Insert, TryInsert, Compute, Remove, RemoveEntry, RemoveSeen, Reserve, Clear, Walk}
+use Rattle.flurry_theory.specs.declared.Reply.{Reply}
+
+pub place_here : {X : Type 0} (f : ℕ → X) (p : ℕ) (x : X) → at_place f p x p ≡ x
+place_here f p x = grind (arith, eq-eqb p p refl)
+
+pub place_other : {X : Type 0} (f : ℕ → X) (p q : ℕ) (x : X) → (q ≡ p → ⊥) → at_place f p x q ≡ f q
+place_other f p q x ne = grind (arith, eqb-true p q, ne)
+
+pub total-same : (f g : ℕ → ℕ) (n : ℕ) → ((q : ℕ) → q < n → f q ≡ g q) → total f n ≡ total g n
+total-same f g zero h = refl
+total-same f g (suc n) h = omega (arith, total-same f g n (λ q l. h q (omega (arith, l))), h n (omega arith))
+
+pub total-change : (f g : ℕ → ℕ) (p n : ℕ) → p < n → ((q : ℕ) → (q ≡ p → ⊥) → f q ≡ g q) → total f n + g p ≡ total g n + f p
+total-change f g p zero l h = absurd (omega (arith, l))
+total-change f g p (suc n) l h = go (λ m. total-change f g p n m h) (cases_order n p)
+  where
+    go : (p < n → total f n + g p ≡ total g n + f p) → (n ≡ p) ⊎ ((n < p) ⊎ (p < n)) → total f (suc n) + g p ≡ total g (suc n) + f p
+    go more (inl e) = let w : total f n ≡ total g n = total-same f g n (λ q m. h q (omega (arith, m, e))) in omega (arith, w, ap f e, ap g e)
+    go more (inr (inl e)) = absurd (omega (arith, l, e))
+    go more (inr (inr e)) = omega (arith, more e, h n (omega (arith, e)))
+
+pub total-zero : (f : ℕ → ℕ) (n : ℕ) → ((q : ℕ) → f q ≡ 0) → total f n ≡ 0
+total-zero f zero h = refl
+total-zero f (suc n) h = omega (arith, total-zero f n h, h n)
+
+pub part-total : (f : ℕ → ℕ) (p n : ℕ) → p < n → f p ≤ total f n
+part-total f p zero l = absurd (omega (arith, l))
+part-total f p (suc n) l = go (part-total f p n) (cases_order n p)
+  where
+    go : (p < n → f p ≤ total f n) → (n ≡ p) ⊎ ((n < p) ⊎ (p < n)) → f p ≤ total f (suc n)
+    go more (inl e) = omega (arith, ap f e)
+    go more (inr (inl e)) = absurd (omega (arith, l, e))
+    go more (inr (inr e)) = omega (arith, more e)
+
+module _ {K V F : Type 0} (cmp : K → K → Ordering) (hash : K → ℕ) (gives : F → K → V → Option V → Type 0) where
+  -- a party that holds a claim has begun
+  claims_known : (s : State K V F) (p : ℕ) (a : Claim) → PartyOk s p → s.claim p ≡ Some a → p < s.parties
+  claims_known s p a o h = go (cases_lt p s.parties)
+    where
+      go : (p < s.parties) ⊎ (s.parties ≤ p) → p < s.parties
+      go (inl l) = l
+      go (inr l) = grind (arith, o.unknown l, h)
+
+  claims_cover : (s : State K V F) (p e : ℕ) (g : Growth) (low : ℕ) → Can cmp hash gives s p (Claims e g low) → Cut s → (d j : ℕ) → s.published ≡ Some d → j < 2 ^ d → (z : Growth) → Some (record { unclaimed = low; reported = g.reported }) ≡ Some z
+      → (s.slot d j ≡ Moved) ⊎ ((j < z.unclaimed) ⊎ ((q : ℕ) × (holds ((does cmp hash gives s p (Claims e g low)).claim q) j ≡ true)))
+  claims_cover s p e g low can u d j h l z y = go (cases_lt j low) (u.cover d j g h can.3 l)
+    where
+      go : (j < low) ⊎ (low ≤ j) → (s.slot d j ≡ Moved) ⊎ ((j < g.unclaimed) ⊎ ((q : ℕ) × (holds (s.claim q) j ≡ true))) → (s.slot d j ≡ Moved) ⊎ ((j < z.unclaimed) ⊎ ((q : ℕ) × (holds ((does cmp hash gives s p (Claims e g low)).claim q) j ≡ true)))
+      go (inl m) w = inr (inl (grind (arith, m, y)))
+      go (inr m) (inl w) = inl w
+      go (inr m) (inr (inl w)) = inr (inr (p, rw (place_here s.claim p (Some (record { table = e; low = low; left = g.unclaimed; high = g.unclaimed }))) (and_from _ _ (le-leb _ _ m) (lt-ltb _ _ w))))
+      go (inr m) (inr (inr w)) = inr (inr (w.0, grind (arith, w.1, can.0, eqb-true)))
+
+  reports_cover : (s : State K V F) (p : ℕ) (a : Claim) (g : Growth) → Can cmp hash gives s p (Reports a g) → Cut s → (d j : ℕ) → s.published ≡ Some d → j < 2 ^ d → (z : Growth) → Some (record { unclaimed = g.unclaimed; reported = g.reported + (a.high - a.low) }) ≡ Some z
+      → (s.slot d j ≡ Moved) ⊎ ((j < z.unclaimed) ⊎ ((q : ℕ) × (holds ((does cmp hash gives s p (Reports a g)).claim q) j ≡ true)))
+  reports_cover s p a g can u d j h l z y = go (u.cover d j g h can.2 l)
+    where
+      here : (q : ℕ) → holds (s.claim q) j ≡ true → (q ≡ p) ⊎ ((q < p) ⊎ (p < q)) → (s.slot d j ≡ Moved) ⊎ ((j < z.unclaimed) ⊎ ((q : ℕ) × (holds ((does cmp hash gives s p (Reports a g)).claim q) j ≡ true)))
+      here q w (inl e) = inl (grind (arith, e, w, h, can, u.claims p a can.0, u.rest_moved p a j can.0, and_parts, leb-true, ltb-true))
+      here q w (inr (inl e)) = inr (inr (q, rw (place_other s.claim p q None (λ x. omega (arith, x, e))) w))
+      here q w (inr (inr e)) = inr (inr (q, rw (place_other s.claim p q None (λ x. omega (arith, x, e))) w))
+
+      go : (s.slot d j ≡ Moved) ⊎ ((j < g.unclaimed) ⊎ ((q : ℕ) × (holds (s.claim q) j ≡ true))) → (s.slot d j ≡ Moved) ⊎ ((j < z.unclaimed) ⊎ ((q : ℕ) × (holds ((does cmp hash gives s p (Reports a g)).claim q) j ≡ true)))
+      go (inl w) = inl w
+      go (inr (inl w)) = inr (inl (grind (arith, w, y)))
+      go (inr (inr w)) = here w.0 w.1 (cases_order w.0 p)
+
+  none_left : (b : Option Claim) → size b ≡ 0 → ((a : Claim) → b ≡ Some a → a.low < a.high) → b ≡ None
+  none_left None h l = refl
+  none_left (Some a) h l = absurd (omega (arith, h, l a refl))
+
+  -- the report that completes the growth finds no other claim, and every bin moved
+  counts : (s : State K V F) (p : ℕ) (a : Claim) (g : Growth) → Can cmp hash gives s p (Publishes a g) → PartyOk s p → Cut s → (g.unclaimed ≡ 0) × (total (λ q. size (at_place s.claim p None q)) s.parties ≡ 0)
+  counts s p a g can o u =
+      let l : p < s.parties = claims_known s p a o can.0 in
+      let w : g.unclaimed + g.reported + total (λ q. size (s.claim q)) s.parties ≡ 2 ^ a.table = u.sum a.table g (u.claims p a can.0).0 can.2 in
+      let z : size (s.claim p) ≡ a.high - a.low = ap size can.0 in
+      let v : total (λ q. size (at_place s.claim p None q)) s.parties + size (s.claim p) ≡ total (λ q. size (s.claim q)) s.parties + size (at_place s.claim p None p) = total-change (λ q. size (at_place s.claim p None q)) (λ q. size (s.claim q)) p s.parties l (λ q ne. ap size (place_other s.claim p q None ne)) in
+      let y : size (at_place s.claim p None p) ≡ 0 = ap size (place_here s.claim p None) in
+      (omega (arith, w, v, y, z, can.3), omega (arith, w, v, y, z, can.3))
+
+  pub no_other : (s : State K V F) (p : ℕ) (a : Claim) (g : Growth) → Can cmp hash gives s p (Publishes a g) → ((q : ℕ) → PartyOk s q) → Cut s → (q : ℕ) → (q ≡ p → ⊥) → s.claim q ≡ None
+  no_other s p a g can o u q ne = go (cases_lt q s.parties)
+    where
+      go : (q < s.parties) ⊎ (s.parties ≤ q) → s.claim q ≡ None
+      go (inl l) = none_left (s.claim q) (sym (ap size (place_other s.claim p q None ne)) ∙ (let w : size (at_place s.claim p None q) ≤ total (λ q. size (at_place s.claim p None q)) s.parties = part-total (λ q. size (at_place s.claim p None q)) q s.parties l in omega (arith, w, (counts s p a g can (o p) u).1))) (λ b h. (u.claims q b h).1)
+      go (inr l) = ((o q).unknown l).2
+
+  pub all_moved : (s : State K V F) (p : ℕ) (a : Claim) (g : Growth) → Can cmp hash gives s p (Publishes a g) → ((q : ℕ) → PartyOk s q) → Cut s → (s.published ≡ Some a.table) × ((i : ℕ) → i < 2 ^ a.table → s.slot a.table i ≡ Moved)
+  all_moved s p a g can o u = ((u.claims p a can.0).0, λ i l. go i (u.cover a.table i g (u.claims p a can.0).0 can.2 l))
+    where
+      here : (i q : ℕ) → holds (s.claim q) i ≡ true → (q ≡ p) ⊎ ((q < p) ⊎ (p < q)) → s.slot a.table i ≡ Moved
+      here i q w (inl e) = grind (arith, e, w, can, u.rest_moved p a i can.0, and_parts, leb-true, ltb-true)
+      here i q w (inr e) = grind (arith, w, no_other s p a g can o u q, e)
+
+      go : (i : ℕ) → (s.slot a.table i ≡ Moved) ⊎ ((i < g.unclaimed) ⊎ ((q : ℕ) × (holds (s.claim q) i ≡ true))) → s.slot a.table i ≡ Moved
+      go i (inl w) = w
+      go i (inr (inl w)) = absurd (omega (arith, w, (counts s p a g can (o p) u).0))
+      go i (inr (inr w)) = here i w.0 w.1 (cases_order w.0 p)
+
+  none_after : (s : State K V F) (p : ℕ) (a : Claim) (g : Growth) → Can cmp hash gives s p (Publishes a g) → ((q : ℕ) → PartyOk s q) → Cut s → (q : ℕ) → at_place s.claim p None q ≡ None
+  none_after s p a g can o u q = go (cases_eq q p)
+    where
+      go : (q ≡ p) ⊎ (q ≡ p → ⊥) → at_place s.claim p None q ≡ None
+      go (inl e) = rw e (place_here s.claim p None)
+      go (inr ne) = place_other s.claim p q None ne ∙ no_other s p a g can o u q ne
+
+  opening_limit : (c : Call K V F) (e : ℕ) → Opening c e → e ≤ 30
+  opening_limit (Get k) e h = absurd h
+  opening_limit (GetKeyValue k) e h = absurd h
+  opening_limit (ContainsKey k) e h = absurd h
+  opening_limit (Insert k v) e h = omega (arith, h)
+  opening_limit (TryInsert k v) e h = omega (arith, h)
+  opening_limit (Compute k f) e h = absurd h
+  opening_limit (Remove k) e h = absurd h
+  opening_limit (RemoveEntry k) e h = absurd h
+  opening_limit (RemoveSeen z) e h = absurd h
+  opening_limit (Reserve n) e h = h
+  opening_limit Clear e h = absurd h
+  opening_limit Walk e h = absurd h
+
+  cut_begins : (home : ℕ → ℕ) (s : State K V F) (p : ℕ) (c : Call K V F) (w : Option ℕ) → Can cmp hash gives s p (Begins c w) → ((q : ℕ) → PartyOk s q) → Tables cmp hash home s → Cut s → Cut (does cmp hash gives s p (Begins c w))
+  cut_begins home s p c w can o t u = record {
+    made = u.made;
+    idle = λ h q. grind (arith, h, can, o p, u.idle, eqb-true, eqb-false, eq-eqb, ne_eqb, and_parts, and_cases);
+    near = u.near;
+    idle_live = u.idle_live;
+    claims = λ q w h. grind (arith, h, can, o p, u.claims q w, eqb-true, eqb-false, eq-eqb, ne_eqb, and_parts, and_cases);
+    above_unclaimed = λ q w z h y. grind (arith, h, y, can, o p, u.above_unclaimed q w z, eqb-true, eqb-false, eq-eqb, ne_eqb, and_parts, and_cases);
+    left_live = λ q w j h x y. grind (arith, h, x, y, can, o p, u.left_live q w j, u.claims q w, eqb-true, eqb-false, eq-eqb, ne_eqb, and_parts, and_cases);
+    rest_moved = λ q w j h x y. grind (arith, h, x, y, can, o p, u.rest_moved q w j, u.claims q w, eqb-true, eqb-false, eq-eqb, ne_eqb, and_parts, and_cases);
+    unclaimed_live = u.unclaimed_live;
+    apart = λ q v w z ne h y. grind (arith, h, y, ne, can, o p, u.apart q v w z ne, eqb-true, eqb-false, eq-eqb, ne_eqb, and_parts, and_cases);
+    cover = λ d j z h y l. grind (arith, h, y, l, can, o p, u.cover d j z, eqb-true, eqb-false, eq-eqb, ne_eqb, and_parts, and_cases);
+    sum = λ d z h y. grind (arith, h, y, can, o p, u.sum d z, eqb-true, eqb-false, eq-eqb, ne_eqb, and_parts, and_cases);
+    limit = u.limit;
+    growth_limit = u.growth_limit;
+  }
+
+  cut_opens : (home : ℕ → ℕ) (s : State K V F) (p : ℕ) (e : ℕ) → Can cmp hash gives s p (Opens e) → ((q : ℕ) → PartyOk s q) → Tables cmp hash home s → Cut s → Cut (does cmp hash gives s p (Opens e))
+  cut_opens home s p e can o t u = record {
+    made = λ z h. grind (arith, h, can, u.made, u.idle, mod_below, lt-ltb, ltb-true, ltb-false, u.made z, eqb-true, eqb-false, eq-eqb, ne_eqb, and_parts, and_cases);
+    idle = λ h q. grind (arith, h, can, u.made, u.idle, mod_below, lt-ltb, ltb-true, ltb-false, u.idle, eqb-true, eqb-false, eq-eqb, ne_eqb, and_parts, and_cases);
+    near = λ z d j h l. grind (arith, h, l, can, u.made, u.idle, mod_below, lt-ltb, ltb-true, ltb-false, u.near z d j, eqb-true, eqb-false, eq-eqb, ne_eqb, and_parts, and_cases);
+    idle_live = λ h d j y l. grind (arith, h, y, l, can, u.made, u.idle, mod_below, lt-ltb, ltb-true, ltb-false, u.idle_live, u.idle h p, eqb-true, eqb-false, eq-eqb, ne_eqb, and_parts, and_cases);
+    claims = λ q w h. grind (arith, h, can, u.made, u.idle, mod_below, lt-ltb, ltb-true, ltb-false, u.claims q w, eqb-true, eqb-false, eq-eqb, ne_eqb, and_parts, and_cases);
+    above_unclaimed = λ q w z h y. grind (arith, h, y, can, u.made, u.idle, mod_below, lt-ltb, ltb-true, ltb-false, u.above_unclaimed q w z, eqb-true, eqb-false, eq-eqb, ne_eqb, and_parts, and_cases);
+    left_live = λ q w j h x y. grind (arith, h, x, y, can, u.made, u.idle, mod_below, lt-ltb, ltb-true, ltb-false, u.left_live q w j, u.claims q w, eqb-true, eqb-false, eq-eqb, ne_eqb, and_parts, and_cases);
+    rest_moved = λ q w j h x y. grind (arith, h, x, y, can, u.made, u.idle, mod_below, lt-ltb, ltb-true, ltb-false, u.rest_moved q w j, u.claims q w, eqb-true, eqb-false, eq-eqb, ne_eqb, and_parts, and_cases);
+    unclaimed_live = λ d j z h y. grind (arith, h, y, can, u.made, u.idle, mod_below, lt-ltb, ltb-true, ltb-false, u.unclaimed_live d j z, eqb-true, eqb-false, eq-eqb, ne_eqb, and_parts, and_cases);
+    apart = u.apart;
+    cover = λ d j z h y l. grind (arith, h, y, l, can, u.made, u.idle, mod_below, lt-ltb, ltb-true, ltb-false, u.cover d j z, eqb-true, eqb-false, eq-eqb, ne_eqb, and_parts, and_cases);
+    sum = λ d z h y. grind (arith, h, y, can, u.made, u.idle, mod_below, lt-ltb, ltb-true, ltb-false, u.sum d z, eqb-true, eqb-false, eq-eqb, ne_eqb, and_parts, and_cases);
+    limit = λ d h. grind (arith, h, opening_limit (can.0) e can.4);
+    growth_limit = λ d z h y. grind (arith, y, can.3, u.made z);
+  }
+
+  cut_decides : (home : ℕ → ℕ) (s : State K V F) (p : ℕ) (c : Call K V F) (k : K) (e : ℕ) (es : List (Entry K V)) (n : ℕ) (r : Reply K V) (fs : List (Entry K V)) (m : ℕ) → Can cmp hash gives s p (Decides c k e es n r fs m) → ((q : ℕ) → PartyOk s q) → Tables cmp hash home s → Cut s → Cut (does cmp hash gives s p (Decides c k e es n r fs m))
+  cut_decides home s p c k e es n r fs m can o t u = record {
+    made = u.made;
+    idle = u.idle;
+    near = λ z d j h l. grind (arith, h, l, can, u.near z d j, eqb-true, eqb-false, eq-eqb, ne_eqb, and_parts, and_cases);
+    idle_live = λ h d j y l. grind (arith, h, y, l, can, u.idle_live, u.idle h p, eqb-true, eqb-false, eq-eqb, ne_eqb, and_parts, and_cases);
+    claims = u.claims;
+    above_unclaimed = u.above_unclaimed;
+    left_live = λ q w j h x y. grind (arith, h, x, y, can, u.left_live q w j, u.claims q w, eqb-true, eqb-false, eq-eqb, ne_eqb, and_parts, and_cases);
+    rest_moved = λ q w j h x y. grind (arith, h, x, y, can, u.rest_moved q w j, u.claims q w, eqb-true, eqb-false, eq-eqb, ne_eqb, and_parts, and_cases);
+    unclaimed_live = λ d j z h y. grind (arith, h, y, can, u.unclaimed_live d j z, eqb-true, eqb-false, eq-eqb, ne_eqb, and_parts, and_cases);
+    apart = u.apart;
+    cover = λ d j z h y l. grind (arith, h, y, l, can, u.cover d j z, eqb-true, eqb-false, eq-eqb, ne_eqb, and_parts, and_cases);
+    sum = u.sum;
+    limit = u.limit;
+    growth_limit = u.growth_limit;
+  }
+
+  cut_places : (home : ℕ → ℕ) (s : State K V F) (p : ℕ) (e : ℕ) → Can cmp hash gives s p (Places e) → ((q : ℕ) → PartyOk s q) → Tables cmp hash home s → Cut s → Cut (does cmp hash gives s p (Places e))
+  cut_places home s p e can o t u = record {
+    made = λ z h. grind (arith, h, can, u.made, u.idle, u.made z, eqb-true, eqb-false, eq-eqb, ne_eqb, and_parts, and_cases);
+    idle = λ h q. grind (arith, h, can, u.made, u.idle, u.idle, eqb-true, eqb-false, eq-eqb, ne_eqb, and_parts, and_cases);
+    near = u.near;
+    idle_live = λ h. grind (arith, h);
+    claims = λ q w h. grind (arith, h, can, u.made, u.idle, u.claims q w, eqb-true, eqb-false, eq-eqb, ne_eqb, and_parts, and_cases);
+    above_unclaimed = λ q w z h y. grind (arith, h, y, can, u.made, u.idle, u.above_unclaimed q w z, eqb-true, eqb-false, eq-eqb, ne_eqb, and_parts, and_cases);
+    left_live = λ q w j h x y. grind (arith, h, x, y, can, u.made, u.idle, u.left_live q w j, u.claims q w, eqb-true, eqb-false, eq-eqb, ne_eqb, and_parts, and_cases);
+    rest_moved = λ q w j h x y. grind (arith, h, x, y, can, u.made, u.idle, u.rest_moved q w j, u.claims q w, eqb-true, eqb-false, eq-eqb, ne_eqb, and_parts, and_cases);
+    unclaimed_live = λ d j z h y. grind (arith, h, y, can, u.made, u.idle, u.unclaimed_live d j z, eqb-true, eqb-false, eq-eqb, ne_eqb, and_parts, and_cases);
+    apart = λ q v w z ne h y. grind (arith, h, y, ne, can, u.made, u.idle, u.apart q v w z ne, eqb-true, eqb-false, eq-eqb, ne_eqb, and_parts, and_cases);
+    cover = λ d j z h y l. grind (arith, h, y, l, can, u.made, u.idle, u.cover d j z, eqb-true, eqb-false, eq-eqb, ne_eqb, and_parts, and_cases);
+    sum = λ d z h y. grind (arith, h, y, can, total-zero (λ q. size (s.claim q)) s.parties (λ q. ap size (u.idle can.1 q)));
+    limit = u.limit;
+    growth_limit = λ d z h y. grind (arith, h, can);
+  }
+
+  cut_claims : (home : ℕ → ℕ) (s : State K V F) (p : ℕ) (e : ℕ) (g : Growth) (low : ℕ) → Can cmp hash gives s p (Claims e g low) → ((q : ℕ) → PartyOk s q) → Tables cmp hash home s → Cut s → Cut (does cmp hash gives s p (Claims e g low))
+  cut_claims home s p e g low can o t u = record {
+    made = λ z h. grind (arith, h, can, u.made z, eqb-true, eqb-false, eq-eqb, ne_eqb, and_parts, and_cases);
+    idle = λ h q. grind (arith, h, can, u.idle, eqb-true, eqb-false, eq-eqb, ne_eqb, and_parts, and_cases);
+    near = u.near;
+    idle_live = λ h. grind (arith, h);
+    claims = λ q w h. grind (arith, h, can, u.claims q w, eqb-true, eqb-false, eq-eqb, ne_eqb, and_parts, and_cases);
+    above_unclaimed = λ q w z h y. grind (arith, h, y, can, u.above_unclaimed q w z, eqb-true, eqb-false, eq-eqb, ne_eqb, and_parts, and_cases);
+    left_live = λ q w j h x y. grind (arith, h, x, y, can, u.left_live q w j, u.claims q w, eqb-true, eqb-false, eq-eqb, ne_eqb, and_parts, and_cases);
+    rest_moved = λ q w j h x y. grind (arith, h, x, y, can, u.rest_moved q w j, u.claims q w, eqb-true, eqb-false, eq-eqb, ne_eqb, and_parts, and_cases);
+    unclaimed_live = λ d j z h y. grind (arith, h, y, can, u.unclaimed_live d j z, eqb-true, eqb-false, eq-eqb, ne_eqb, and_parts, and_cases);
+    apart = λ q v w z ne h y. grind (arith, h, y, ne, can, u.apart q v w z ne, eqb-true, eqb-false, eq-eqb, ne_eqb, and_parts, and_cases);
+    cover = λ d j z h y l. claims_cover s p e g low can u d j h l z y;
+    sum = λ d z h y. grind (arith, h, y, can, u.sum d g, u.above_unclaimed, total-change (λ q. size ((does cmp hash gives s p (Claims e g low)).claim q)) (λ q. size (s.claim q)) p s.parties can.1 (λ q ne. ap size (place_other s.claim p q _ ne)), place_here s.claim p (Some (record { table = e; low = low; left = g.unclaimed; high = g.unclaimed })));
+    limit = u.limit;
+    growth_limit = λ d z h y. u.growth_limit d g h can.3;
+  }
+
+  cut_moves : (home : ℕ → ℕ) (s : State K V F) (p : ℕ) (a : Claim) (i : ℕ) (es : List (Entry K V)) (n : ℕ) → Can cmp hash gives s p (Moves a i es n) → ((q : ℕ) → PartyOk s q) → Tables cmp hash home s → Cut s → Cut (does cmp hash gives s p (Moves a i es n))
+  cut_moves home s p a i es n can o t u = record {
+    made = u.made;
+    idle = λ h q. grind (arith, h, can, u.claims p a can.0, u.idle, eqb-true, eqb-false, eq-eqb, ne_eqb, and_parts, and_cases);
+    near = λ z d j h l. grind (arith, h, l, can, u.claims p a can.0, u.near z d j, eqb-true, eqb-false, eq-eqb, ne_eqb, and_parts, and_cases);
+    idle_live = λ h d j y l. grind (arith, h, y, l, can, u.claims p a can.0, u.idle_live, u.idle h p, eqb-true, eqb-false, eq-eqb, ne_eqb, and_parts, and_cases);
+    claims = λ q w h. grind (arith, h, can, u.claims p a can.0, u.claims q w, eqb-true, eqb-false, eq-eqb, ne_eqb, and_parts, and_cases);
+    above_unclaimed = λ q w z h y. grind (arith, h, y, can, u.claims p a can.0, u.above_unclaimed q w z, eqb-true, eqb-false, eq-eqb, ne_eqb, and_parts, and_cases);
+    left_live = λ q w j h x y. grind (arith, h, x, y, can, u.claims p a can.0, u.left_live q w j, u.claims q w, eqb-true, eqb-false, eq-eqb, ne_eqb, and_parts, and_cases);
+    rest_moved = λ q w j h x y. grind (arith, h, x, y, can, u.claims p a can.0, u.rest_moved q w j, u.claims q w, eqb-true, eqb-false, eq-eqb, ne_eqb, and_parts, and_cases);
+    unclaimed_live = λ d j z h y. grind (arith, h, y, can, u.claims p a can.0, u.unclaimed_live d j z, eqb-true, eqb-false, eq-eqb, ne_eqb, and_parts, and_cases);
+    apart = λ q v w z ne h y. grind (arith, h, y, ne, can, u.claims p a can.0, u.apart q v w z ne, eqb-true, eqb-false, eq-eqb, ne_eqb, and_parts, and_cases);
+    cover = λ d j z h y l. grind (arith, h, y, l, can, u.claims p a can.0, u.cover d j z, eqb-true, eqb-false, eq-eqb, ne_eqb, and_parts, and_cases);
+    sum = λ d z h y. grind (arith, h, y, can, u.claims p a can.0, u.sum d z, eqb-true, eqb-false, eq-eqb, ne_eqb, and_parts, and_cases);
+    limit = u.limit;
+    growth_limit = u.growth_limit;
+  }
+
+  cut_reports : (home : ℕ → ℕ) (s : State K V F) (p : ℕ) (a : Claim) (g : Growth) → Can cmp hash gives s p (Reports a g) → ((q : ℕ) → PartyOk s q) → Tables cmp hash home s → Cut s → Cut (does cmp hash gives s p (Reports a g))
+  cut_reports home s p a g can o t u = record {
+    made = λ z h. grind (arith, h, can, u.claims p a can.0, u.made z, eqb-true, eqb-false, eq-eqb, ne_eqb, and_parts, and_cases);
+    idle = λ h q. grind (arith, h, can, u.claims p a can.0, u.idle, eqb-true, eqb-false, eq-eqb, ne_eqb, and_parts, and_cases);
+    near = u.near;
+    idle_live = λ h. grind (arith, h);
+    claims = λ q w h. grind (arith, h, can, u.claims p a can.0, u.claims q w, eqb-true, eqb-false, eq-eqb, ne_eqb, and_parts, and_cases);
+    above_unclaimed = λ q w z h y. grind (arith, h, y, can, u.claims p a can.0, u.above_unclaimed q w z, eqb-true, eqb-false, eq-eqb, ne_eqb, and_parts, and_cases);
+    left_live = λ q w j h x y. grind (arith, h, x, y, can, u.claims p a can.0, u.left_live q w j, u.claims q w, eqb-true, eqb-false, eq-eqb, ne_eqb, and_parts, and_cases);
+    rest_moved = λ q w j h x y. grind (arith, h, x, y, can, u.claims p a can.0, u.rest_moved q w j, u.claims q w, eqb-true, eqb-false, eq-eqb, ne_eqb, and_parts, and_cases);
+    unclaimed_live = λ d j z h y. grind (arith, h, y, can, u.claims p a can.0, u.unclaimed_live d j z, eqb-true, eqb-false, eq-eqb, ne_eqb, and_parts, and_cases);
+    apart = λ q v w z ne h y. grind (arith, h, y, ne, can, u.claims p a can.0, u.apart q v w z ne, eqb-true, eqb-false, eq-eqb, ne_eqb, and_parts, and_cases);
+    cover = λ d j z h y l. reports_cover s p a g can u d j h l z y;
+    sum = λ d z h y. grind (arith, h, y, can, u.claims p a can.0, u.sum d g, total-change (λ q. size ((does cmp hash gives s p (Reports a g)).claim q)) (λ q. size (s.claim q)) p s.parties (claims_known s p a (o p) can.0) (λ q ne. ap size (place_other s.claim p q _ ne)), place_here s.claim p None);
+    limit = u.limit;
+    growth_limit = λ d z h y. u.growth_limit d g h can.2;
+  }
+
+  cut_publishes : (home : ℕ → ℕ) (s : State K V F) (p : ℕ) (a : Claim) (g : Growth) → Can cmp hash gives s p (Publishes a g) → ((q : ℕ) → PartyOk s q) → Tables cmp hash home s → Cut s → Cut (does cmp hash gives s p (Publishes a g))
+  cut_publishes home s p a g can o t u = record {
+    made = λ z h. grind (arith, h, can, u.claims p a can.0, u.made z, eqb-true, eqb-false, eq-eqb, ne_eqb, and_parts, and_cases);
+    idle = λ h q. none_after s p a g can o u q;
+    near = λ z d j h l. grind (arith, h, l, can, u.claims p a can.0, u.near a.table d j);
+    idle_live = λ h d j y l. grind (arith, y, l, small_mod d j l, (all_moved s p a g can o u).0, (all_moved s p a g can o u).1 (j % 2 ^ a.table) (mod_below j (2 ^ a.table) (pow_pos a.table)), t.live (grind (arith, (all_moved s p a g can o u).0)) j, (t.from a.table (all_moved s p a g can o u).0).1 j, u.near a.table (home j) (j % 2 ^ home j), cases_order (home j) (suc a.table));
+    claims = λ q w h. grind (arith, h, none_after s p a g can o u q);
+    above_unclaimed = λ q w z h y. grind (arith, h, none_after s p a g can o u q);
+    left_live = λ q w j h x y. grind (arith, h, none_after s p a g can o u q);
+    rest_moved = λ q w j h x y. grind (arith, h, none_after s p a g can o u q);
+    unclaimed_live = λ d j z h y. grind (arith, h, y, can, u.claims p a can.0, u.unclaimed_live d j z, eqb-true, eqb-false, eq-eqb, ne_eqb, and_parts, and_cases);
+    apart = λ q v w z ne h y. grind (arith, h, none_after s p a g can o u q);
+    cover = λ d j z h y l. grind (arith, h, y, l, can, u.claims p a can.0, u.cover d j z, eqb-true, eqb-false, eq-eqb, ne_eqb, and_parts, and_cases);
+    sum = λ d z h y. grind (arith, h, y, can, u.claims p a can.0, u.sum d z, eqb-true, eqb-false, eq-eqb, ne_eqb, and_parts, and_cases);
+    limit = λ d h. grind (arith, h, u.growth_limit a.table g (u.claims p a can.0).0 can.2);
+    growth_limit = λ d z h y. grind (arith, y);
+  }
+
+  cut_wipes : (home : ℕ → ℕ) (s : State K V F) (p wiped e i : ℕ) (f : Frame K) (fs : List (Frame K)) (es : List (Entry K V)) (n : ℕ) → Can cmp hash gives s p (Wipes wiped e i f fs es n) → ((q : ℕ) → PartyOk s q) → Tables cmp hash home s → Cut s → Cut (does cmp hash gives s p (Wipes wiped e i f fs es n))
+  cut_wipes home s p wiped e i f fs es n can o t u = record {
+    made = u.made;
+    idle = u.idle;
+    near = λ z d j h l. grind (arith, h, l, can, u.near z d j, eqb-true, eqb-false, eq-eqb, ne_eqb, and_parts, and_cases);
+    idle_live = λ h d j y l. grind (arith, h, y, l, can, u.idle_live, u.idle h p, eqb-true, eqb-false, eq-eqb, ne_eqb, and_parts, and_cases);
+    claims = u.claims;
+    above_unclaimed = u.above_unclaimed;
+    left_live = λ q w j h x y. grind (arith, h, x, y, can, u.left_live q w j, u.claims q w, eqb-true, eqb-false, eq-eqb, ne_eqb, and_parts, and_cases);
+    rest_moved = λ q w j h x y. grind (arith, h, x, y, can, u.rest_moved q w j, u.claims q w, eqb-true, eqb-false, eq-eqb, ne_eqb, and_parts, and_cases);
+    unclaimed_live = λ d j z h y. grind (arith, h, y, can, u.unclaimed_live d j z, eqb-true, eqb-false, eq-eqb, ne_eqb, and_parts, and_cases);
+    apart = u.apart;
+    cover = λ d j z h y l. grind (arith, h, y, l, can, u.cover d j z, eqb-true, eqb-false, eq-eqb, ne_eqb, and_parts, and_cases);
+    sum = u.sum;
+    limit = u.limit;
+    growth_limit = u.growth_limit;
+  }
+
+  pub cut_ok : (home : ℕ → ℕ) (s : State K V F) (p : ℕ) (l : Line K V F) → Can cmp hash gives s p l → ((q : ℕ) → PartyOk s q) → Tables cmp hash home s → Cut s → Cut (does cmp hash gives s p l)
+  cut_ok home s p (Begins c w) can o t u = cut_begins home s p c w can o t u
+  cut_ok home s p Quiet can o t u = record { made = u.made; idle = u.idle; limit = u.limit; growth_limit = u.growth_limit; near = u.near; idle_live = u.idle_live; claims = u.claims; above_unclaimed = u.above_unclaimed; left_live = u.left_live; rest_moved = u.rest_moved; unclaimed_live = u.unclaimed_live; apart = u.apart; cover = u.cover; sum = u.sum }
+  cut_ok home s p (Counts reply x y) can o t u = record { made = u.made; idle = u.idle; limit = u.limit; growth_limit = u.growth_limit; near = u.near; idle_live = u.idle_live; claims = u.claims; above_unclaimed = u.above_unclaimed; left_live = u.left_live; rest_moved = u.rest_moved; unclaimed_live = u.unclaimed_live; apart = u.apart; cover = u.cover; sum = u.sum }
+  cut_ok home s p (Finds e) can o t u = record { made = u.made; idle = u.idle; limit = u.limit; growth_limit = u.growth_limit; near = u.near; idle_live = u.idle_live; claims = u.claims; above_unclaimed = u.above_unclaimed; left_live = u.left_live; rest_moved = u.rest_moved; unclaimed_live = u.unclaimed_live; apart = u.apart; cover = u.cover; sum = u.sum }
+  cut_ok home s p (Opens e) can o t u = cut_opens home s p e can o t u
+  cut_ok home s p FindsNothing can o t u = record { made = u.made; idle = u.idle; limit = u.limit; growth_limit = u.growth_limit; near = u.near; idle_live = u.idle_live; claims = u.claims; above_unclaimed = u.above_unclaimed; left_live = u.left_live; rest_moved = u.rest_moved; unclaimed_live = u.unclaimed_live; apart = u.apart; cover = u.cover; sum = u.sum }
+  cut_ok home s p IsRefused can o t u = record { made = u.made; idle = u.idle; limit = u.limit; growth_limit = u.growth_limit; near = u.near; idle_live = u.idle_live; claims = u.claims; above_unclaimed = u.above_unclaimed; left_live = u.left_live; rest_moved = u.rest_moved; unclaimed_live = u.unclaimed_live; apart = u.apart; cover = u.cover; sum = u.sum }
+  cut_ok home s p (DecidesEmpty c r) can o t u = record { made = u.made; idle = u.idle; limit = u.limit; growth_limit = u.growth_limit; near = u.near; idle_live = u.idle_live; claims = u.claims; above_unclaimed = u.above_unclaimed; left_live = u.left_live; rest_moved = u.rest_moved; unclaimed_live = u.unclaimed_live; apart = u.apart; cover = u.cover; sum = u.sum }
+  cut_ok home s p (Passes e) can o t u = record { made = u.made; idle = u.idle; limit = u.limit; growth_limit = u.growth_limit; near = u.near; idle_live = u.idle_live; claims = u.claims; above_unclaimed = u.above_unclaimed; left_live = u.left_live; rest_moved = u.rest_moved; unclaimed_live = u.unclaimed_live; apart = u.apart; cover = u.cover; sum = u.sum }
+  cut_ok home s p (Decides c k e es n r fs m) can o t u = cut_decides home s p c k e es n r fs m can o t u
+  cut_ok home s p (Places e) can o t u = cut_places home s p e can o t u
+  cut_ok home s p (Claims e g low) can o t u = cut_claims home s p e g low can o t u
+  cut_ok home s p (Moves a i es n) can o t u = cut_moves home s p a i es n can o t u
+  cut_ok home s p (Reports a g) can o t u = cut_reports home s p a g can o t u
+  cut_ok home s p (Publishes a g) can o t u = cut_publishes home s p a g can o t u
+  cut_ok home s p (Reads e i f fs es n x) can o t u = record { made = u.made; idle = u.idle; limit = u.limit; growth_limit = u.growth_limit; near = u.near; idle_live = u.idle_live; claims = u.claims; above_unclaimed = u.above_unclaimed; left_live = u.left_live; rest_moved = u.rest_moved; unclaimed_live = u.unclaimed_live; apart = u.apart; cover = u.cover; sum = u.sum }
+  cut_ok home s p (Leaves e i f fs es n) can o t u = record { made = u.made; idle = u.idle; limit = u.limit; growth_limit = u.growth_limit; near = u.near; idle_live = u.idle_live; claims = u.claims; above_unclaimed = u.above_unclaimed; left_live = u.left_live; rest_moved = u.rest_moved; unclaimed_live = u.unclaimed_live; apart = u.apart; cover = u.cover; sum = u.sum }
+  cut_ok home s p (Splits e i f fs) can o t u = record { made = u.made; idle = u.idle; limit = u.limit; growth_limit = u.growth_limit; near = u.near; idle_live = u.idle_live; claims = u.claims; above_unclaimed = u.above_unclaimed; left_live = u.left_live; rest_moved = u.rest_moved; unclaimed_live = u.unclaimed_live; apart = u.apart; cover = u.cover; sum = u.sum }
+  cut_ok home s p (Wipes wiped e i f fs es n) can o t u = cut_wipes home s p wiped e i f fs es n can o t u
+  cut_ok home s p (SplitsClear wiped e i f fs) can o t u = record { made = u.made; idle = u.idle; limit = u.limit; growth_limit = u.growth_limit; near = u.near; idle_live = u.idle_live; claims = u.claims; above_unclaimed = u.above_unclaimed; left_live = u.left_live; rest_moved = u.rest_moved; unclaimed_live = u.unclaimed_live; apart = u.apart; cover = u.cover; sum = u.sum }
+  cut_ok home s p (Replies r) can o t u = record { made = u.made; idle = u.idle; limit = u.limit; growth_limit = u.growth_limit; near = u.near; idle_live = u.idle_live; claims = u.claims; above_unclaimed = u.above_unclaimed; left_live = u.left_live; rest_moved = u.rest_moved; unclaimed_live = u.unclaimed_live; apart = u.apart; cover = u.cover; sum = u.sum }
+  cut_ok home s p Ends can o t u = record { made = u.made; idle = u.idle; limit = u.limit; growth_limit = u.growth_limit; near = u.near; idle_live = u.idle_live; claims = u.claims; above_unclaimed = u.above_unclaimed; left_live = u.left_live; rest_moved = u.rest_moved; unclaimed_live = u.unclaimed_live; apart = u.apart; cover = u.cover; sum = u.sum }
+
+  -- no table has a number above 30
+  pub home_limit : (home : ℕ → ℕ) (s : State K V F) (h : ℕ) → Tables cmp hash home s → Cut s → is_some s.published ≡ true → home h ≤ 30
+  home_limit home s h t u m = go s.published refl s.growth refl
+    where
+      go : (o : Option ℕ) → s.published ≡ o → (b : Option Growth) → s.growth ≡ b → home h ≤ 30
+      go None e b g = absurd (grind (arith, e, m))
+      go (Some f) e (Some g) y = grind (arith, u.growth_limit f g e y, u.near f (home h) (h % 2 ^ home h) e, t.live m h)
+      go (Some f) e None y = grind (arith, u.limit f e, (t.from f e).1 h, u.idle_live y f (h % 2 ^ f) e (mod_below h (2 ^ f) (pow_pos f)), t.below m h f (t.from f e).0, cases_order f (home h))

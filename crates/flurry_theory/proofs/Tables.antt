@@ -1,0 +1,469 @@
+-- Which bins are live, and that they hold the map.
+use Rattle.std.specs.Prelude.{unwrap_or, ℕ, suc, ◌+◌, ◌%◌, ◌^◌, ◌<◌, ◌≤◌, ◌==◌, Bool, true, false, cond, ◌&&◌, List, [], ◌∷◌, Option, Some, None, is_some, ◌≡◌}
+use Rattle.std.specs.declared.cmp.Ordering.{Ordering}
+use Rattle.std.specs.Cmp.{IsTotalOrder}
+use Rattle.std.proofs.Common.{arith, refl, sym, ◌∙◌, ap, subst}
+use Rattle.std.proofs.lemmas.Bool.{eqb-true, eqb-false, eq-eqb, ne_eqb, cases_order, cond-true, cond-false, false_from_ne_true, and_parts, or_cases, and_from, and_cases, lt-ltb, ltb-true, ltb-false}
+use Rattle.std.proofs.lemmas.Nat.{mod_below, pow_pos}
+use Rattle.flurry_theory.specs.Map.{same, find, after, key_of, Allows}
+use Rattle.flurry_theory.specs.Trace.{decided, in_region, pairs, at}
+use Rattle.flurry_theory.specs.Bin.{Entry, pairs_of, Ascending, InRegion, half}
+use Rattle.flurry_theory.specs.Machine.{State, Slot, Claim, Growth, Line, Adds, Can, does, at_bin, Live, Moved, Unborn, Frame, Begins, Quiet, Counts, Finds, Opens, FindsNothing, IsRefused, DecidesEmpty, Passes, Decides, Places, Claims, Moves, Reports, Publishes, Reads, Leaves, Splits, Wipes, SplitsClear, Replies, Ends}
+use Rattle.flurry_theory.specs.Invariant.{PartyOk, is_live, Tables, home_after}
+use Rattle.flurry_theory.proofs.Bins.{find-after, find-after_other, find-half, ascending-half, region-half, find-wiped, in_a_half, in_low_half, in_high_half, small_mod, high_mod, double}
+use Rattle.flurry_theory.specs.declared.Call.{Call}
+use Rattle.flurry_theory.specs.declared.Call.TheVariants.{Get, GetKeyValue, ContainsKey, Insert, TryInsert, Compute, Remove, RemoveEntry, RemoveSeen, Reserve, Clear, Walk}
+use Rattle.flurry_theory.specs.declared.Reply.{Reply}
+use Rattle.flurry_theory.specs.declared.Reply.TheVariants.{Value, Pair, Contains, New, Exists}
+use Rattle.flurry_theory.specs.declared.Label.TheVariants.{Decide, Wipe}
+
+pub same_some : {X : Type 0} {x y : X} → Some x ≡ Some y → x ≡ y
+same_some {X} {x} h = ap (λ o. unwrap_or o x) h
+
+pub same_live : {K V : Type 0} {es fs : List (Entry K V)} {n m : ℕ} → Live es n ≡ Live fs m → es ≡ fs
+same_live h = ap entries_of h
+  where
+    entries_of : {K V : Type 0} → Slot K V → List (Entry K V)
+    entries_of (Live es n) = es
+    entries_of Moved = []
+    entries_of Unborn = []
+
+-- what a function has at a bin, after one bin was changed
+pub at_bin_elim : {X : Type 0} (f : ℕ → ℕ → X) (e i : ℕ) (x : X) (Q : ℕ → ℕ → X → Type 0) (d j : ℕ) → Q e i x → ((e ≡ d → i ≡ j → ⊥) → Q d j (f d j)) → Q d j (at_bin f e i x d j)
+at_bin_elim {X} f e i x Q d j h k = go (e == d) refl (i == j) refl
+  where
+    go : (b : Bool) → (e == d) ≡ b → (c : Bool) → (i == j) ≡ c → Q d j (cond (b && c) x (f d j))
+    go true u true v = subst (λ n. Q n j x) (eqb-true e d u) (subst (λ n. Q e n x) (eqb-true i j v) h)
+    go true u false v = k (λ a b. eqb-false i j v b)
+    go false u true v = k (λ a b. eqb-false e d u a)
+    go false u false v = k (λ a b. eqb-false e d u a)
+
+module _ {K V F : Type 0} (cmp : K → K → Ordering) (total : IsTotalOrder cmp) (hash : K → ℕ) (lawful : (j k : K) → same cmp j k ≡ true → hash j ≡ hash k) (gives : F → K → V → Option V → Type 0) where
+  -- a hash has one live bin
+  pub only : (home : ℕ → ℕ) (s : State K V F) (h d : ℕ) → Tables cmp hash home s → is_live (s.slot d (h % 2 ^ d)) ≡ true → home h ≡ d
+  only home s h d t l = grind (arith, l, t.unmade, t.below, t.above, t.early, cases_order (home h) d)
+
+  -- what a move needs to know
+  below_size : (home : ℕ → ℕ) (s : State K V F) (e i : ℕ) (es : List (Entry K V)) (n : ℕ) → Tables cmp hash home s → s.slot e i ≡ Live es n → i < 2 ^ e
+  below_size home s e i es n t l = grind (arith, l, t.outside)
+
+  pub homes : (home : ℕ → ℕ) (s : State K V F) (e i : ℕ) (es : List (Entry K V)) (n h : ℕ) → Tables cmp hash home s → s.slot e i ≡ Live es n → h % 2 ^ e ≡ i → home h ≡ e
+  homes home s e i es n h t l g = only home s h e t (grind (arith, l, g))
+
+  made : (home : ℕ → ℕ) (s : State K V F) (e i : ℕ) (es : List (Entry K V)) (n : ℕ) → Tables cmp hash home s → s.slot e i ≡ Live es n → is_some s.published ≡ true
+  made home s e i es n t l = grind (arith, l, t.unmade)
+
+  from_start : (home : ℕ → ℕ) (s : State K V F) (e i : ℕ) (es : List (Entry K V)) (n : ℕ) → Tables cmp hash home s → s.slot e i ≡ Live es n → s.start ≤ e
+  from_start home s e i es n t l = grind (arith, l, t.early)
+
+  halves_unborn : (home : ℕ → ℕ) (s : State K V F) (e i : ℕ) (es : List (Entry K V)) (n : ℕ) → Tables cmp hash home s → s.slot e i ≡ Live es n → (s.slot (suc e) i ≡ Unborn) × (s.slot (suc e) (i + 2 ^ e) ≡ Unborn)
+  halves_unborn home s e i es n t l =
+      let lt : i < 2 ^ e = below_size home s e i es n t l in
+      let low : i % 2 ^ e ≡ i = small_mod e i lt in
+      let low' : i % 2 ^ suc e ≡ i = small_mod (suc e) i (omega (arith, lt, double e)) in
+      let high : (i + 2 ^ e) % 2 ^ e ≡ i = high_mod e i lt in
+      let high' : (i + 2 ^ e) % 2 ^ suc e ≡ i + 2 ^ e = small_mod (suc e) (i + 2 ^ e) (omega (arith, lt, double e)) in
+      let m : is_some s.published ≡ true = made home s e i es n t l in
+      (grind (arith, low', t.above m i (suc e), homes home s e i es n i t l low), grind (arith, high', t.above m (i + 2 ^ e) (suc e), homes home s e i es n (i + 2 ^ e) t l high))
+
+  pub content_at : (home : ℕ → ℕ) (s : State K V F) (k : K) (d j : ℕ) (es : List (Entry K V)) (n : ℕ) → Tables cmp hash home s → home (hash k) ≡ d → hash k % 2 ^ d ≡ j → s.slot d j ≡ Live es n → find cmp (pairs_of es) k ≡ at cmp hash s.trace k
+  content_at home s k d j es n t hd hj l = t.content k es n (grind (arith, hd, hj, l))
+
+  moves_content : (home : ℕ → ℕ) (s : State K V F) (p : ℕ) (a : Claim) (i : ℕ) (es : List (Entry K V)) (n : ℕ) → Can cmp hash gives s p (Moves a i es n) → Tables cmp hash home s → (home' : ℕ → ℕ) → ((h : ℕ) → home' h ≡ cond (h % 2 ^ a.table == i) (suc a.table) (home h))
+      → (k : K) (fs : List (Entry K V)) (m d j : ℕ) → home' (hash k) ≡ d → hash k % 2 ^ d ≡ j → (does cmp hash gives s p (Moves a i es n)).slot d j ≡ Live fs m → find cmp (pairs_of fs) k ≡ at cmp hash s.trace k
+  moves_content home s p a i es n can t home' is k fs m d j =
+      let l : s.slot a.table i ≡ Live es n = can.3 in
+      let lt : i < 2 ^ a.table = below_size home s a.table i es n t l in
+      at_bin_elim (at_bin (at_bin s.slot a.table i Moved) (suc a.table) i (Live (half hash (suc a.table) i es) n)) (suc a.table) (i + 2 ^ a.table) (Live (half hash (suc a.table) (i + 2 ^ a.table) es) n)
+      (λ d j v. home' (hash k) ≡ d → hash k % 2 ^ d ≡ j → v ≡ Live fs m → find cmp (pairs_of fs) k ≡ at cmp hash s.trace k) d j
+      (λ hd hj u. ap (λ es. find cmp (pairs_of es) k) (sym (same_live u)) ∙ find-half cmp total hash lawful (suc a.table) (i + 2 ^ a.table) es k hj ∙ content_at home s k a.table i es n t (homes home s a.table i es n (hash k) t l (in_high_half (hash k) a.table i lt hj)) (in_high_half (hash k) a.table i lt hj) l)
+      (λ ne. at_bin_elim (at_bin s.slot a.table i Moved) (suc a.table) i (Live (half hash (suc a.table) i es) n)
+      (λ d j v. home' (hash k) ≡ d → hash k % 2 ^ d ≡ j → v ≡ Live fs m → find cmp (pairs_of fs) k ≡ at cmp hash s.trace k) d j
+      (λ hd hj u. ap (λ es. find cmp (pairs_of es) k) (sym (same_live u)) ∙ find-half cmp total hash lawful (suc a.table) i es k hj ∙ content_at home s k a.table i es n t (homes home s a.table i es n (hash k) t l (in_low_half (hash k) a.table i lt hj)) (in_low_half (hash k) a.table i lt hj) l)
+      (λ ne'. at_bin_elim s.slot a.table i Moved
+      (λ d j v. (suc a.table ≡ d → i ≡ j → ⊥) → (suc a.table ≡ d → i + 2 ^ a.table ≡ j → ⊥) → home' (hash k) ≡ d → hash k % 2 ^ d ≡ j → v ≡ Live fs m → find cmp (pairs_of fs) k ≡ at cmp hash s.trace k) d j
+      (λ _ _ _ _ u. grind (arith, u))
+      (λ ne'' b c hd hj u. content_at home s k d j fs m t (grind (arith, is (hash k), hd, hj, b, c, eqb-true, eqb-false, in_a_half (hash k) a.table i)) hj u) ne' ne))
+
+  moves_ascending : (home : ℕ → ℕ) (s : State K V F) (p : ℕ) (a : Claim) (i : ℕ) (es : List (Entry K V)) (n : ℕ) → Can cmp hash gives s p (Moves a i es n) → Tables cmp hash home s
+      → (d j : ℕ) (fs : List (Entry K V)) (m : ℕ) → (does cmp hash gives s p (Moves a i es n)).slot d j ≡ Live fs m → Ascending cmp hash fs × InRegion hash d j fs
+  moves_ascending home s p a i es n can t d j fs m =
+      let l : s.slot a.table i ≡ Live es n = can.3 in
+      let asc : Ascending cmp hash es × InRegion hash a.table i es = t.ascending a.table i es n l in
+      at_bin_elim (at_bin (at_bin s.slot a.table i Moved) (suc a.table) i (Live (half hash (suc a.table) i es) n)) (suc a.table) (i + 2 ^ a.table) (Live (half hash (suc a.table) (i + 2 ^ a.table) es) n)
+      (λ d j v. v ≡ Live fs m → Ascending cmp hash fs × InRegion hash d j fs) d j
+      (λ u. subst (λ fs. Ascending cmp hash fs × InRegion hash (suc a.table) (i + 2 ^ a.table) fs) (same_live u) (ascending-half cmp total hash lawful (suc a.table) (i + 2 ^ a.table) es asc.0, region-half cmp total hash lawful (suc a.table) (i + 2 ^ a.table) es))
+      (λ _. at_bin_elim (at_bin s.slot a.table i Moved) (suc a.table) i (Live (half hash (suc a.table) i es) n)
+      (λ d j v. v ≡ Live fs m → Ascending cmp hash fs × InRegion hash d j fs) d j
+      (λ u. subst (λ fs. Ascending cmp hash fs × InRegion hash (suc a.table) i fs) (same_live u) (ascending-half cmp total hash lawful (suc a.table) i es asc.0, region-half cmp total hash lawful (suc a.table) i es))
+      (λ _. at_bin_elim s.slot a.table i Moved
+      (λ d j v. v ≡ Live fs m → Ascending cmp hash fs × InRegion hash d j fs) d j
+      (λ u. absurd (grind (arith, u)))
+      (λ _ u. t.ascending d j fs m u)))
+
+  moves_ok : (home : ℕ → ℕ) (s : State K V F) (p : ℕ) (a : Claim) (i : ℕ) (es : List (Entry K V)) (n : ℕ) → Can cmp hash gives s p (Moves a i es n) → Tables cmp hash home s → Tables cmp hash (home_after {K = K} {V = V} {F = F} home (Moves a i es n)) (does cmp hash gives s p (Moves a i es n))
+  moves_ok home s p a i es n can t =
+      let l : s.slot a.table i ≡ Live es n = can.3 in
+      let lt : i < 2 ^ a.table = below_size home s a.table i es n t l in
+      let m : is_some s.published ≡ true = made home s a.table i es n t l in
+      let st : s.start ≤ a.table = from_start home s a.table i es n t l in
+      let u : (s.slot (suc a.table) i ≡ Unborn) × (s.slot (suc a.table) (i + 2 ^ a.table) ≡ Unborn) = halves_unborn home s a.table i es n t l in
+      record {
+        unmade = grind (arith, m);
+        from = λ f e. (grind (arith, t.from, e), λ h. grind (arith, t.from, e, homes home s a.table i es n h t l, eqb-true));
+        live = λ _ h. grind (arith, t.live m h, homes home s a.table i es n h t l, eqb-true, eqb-false, eq-eqb, ne_eqb, and_parts, and_cases, in_a_half h a.table i, in_low_half h a.table i lt, in_high_half h a.table i lt, l);
+        below = λ _ h d. grind (arith, m, t.below m h d, st, homes home s a.table i es n h t l, eqb-true, eqb-false, and_parts, and_cases, eq-eqb, ne_eqb, in_low_half h a.table i lt, in_high_half h a.table i lt);
+        above = λ _ h d. grind (arith, m, t.above m h d, homes home s a.table i es n h t l, eqb-true, eqb-false, and_parts, and_cases, eq-eqb, ne_eqb, in_a_half h a.table i, in_low_half h a.table i lt, in_high_half h a.table i lt);
+        early = λ d j. grind (arith, t.early d j, st, eqb-true, eqb-false, and_parts, and_cases);
+        outside = λ d j. grind (arith, t.outside d j, lt, double a.table, eqb-true, eqb-false, and_parts, and_cases);
+        ascending = moves_ascending home s p a i es n can t;
+        empty = grind (arith, m);
+        content = λ k fs m u. moves_content home s p a i es n can t (home_after {K = K} {V = V} {F = F} home (Moves a i es n)) (λ _. refl) k fs m _ _ refl refl u;
+        was_moved = λ d j. grind (arith, t.was_moved d j, eqb-true, eqb-false, and_parts, and_cases);
+        is_moved = λ d j. grind (arith, t.is_moved d j, u, eqb-true, eqb-false, and_parts, and_cases, eq-eqb, and_from, or_cases);
+      }
+
+  empty_after : (c : Call K V F) (r : Reply K V) (k : K) → (Adds c → ⊥) → Allows cmp gives c [] r → find cmp (after cmp c r []) k ≡ None
+  empty_after (Insert i v) r k h a = absurd (h tt)
+  empty_after (TryInsert i v) r k h a = absurd (h tt)
+  empty_after (Compute i g) (Value None) k h a = refl
+  empty_after (Compute i g) (Value (Some w)) k h a = grind (arith, a)
+  empty_after (Compute i g) (Pair o) k h a = refl
+  empty_after (Compute i g) (Contains o) k h a = refl
+  empty_after (Compute i g) (New o) k h a = refl
+  empty_after (Compute i g) (Exists o q) k h a = refl
+  empty_after (Remove i) r k h a = refl
+  empty_after (RemoveEntry i) r k h a = refl
+  empty_after (RemoveSeen u) (Value None) k h a = refl
+  empty_after (RemoveSeen u) (Value (Some w)) k h a = refl
+  empty_after (RemoveSeen u) (Pair o) k h a = refl
+  empty_after (RemoveSeen u) (Contains o) k h a = refl
+  empty_after (RemoveSeen u) (New o) k h a = refl
+  empty_after (RemoveSeen u) (Exists o q) k h a = refl
+  empty_after (Get i) r k h a = refl
+  empty_after (GetKeyValue i) r k h a = refl
+  empty_after (ContainsKey i) r k h a = refl
+  empty_after (Reserve i) r k h a = refl
+  empty_after Clear r k h a = refl
+  empty_after Walk r k h a = refl
+
+  -- the map after a decision
+  at-decide : (s : State K V F) (p : ℕ) (c : Call K V F) (r : Reply K V) (k : K) → PartyOk s p → s.call p ≡ Some c → at cmp hash (Decide p r ∷ s.trace) k ≡ find cmp (after cmp c r (pairs cmp hash s.trace)) k
+  at-decide s p c r k o h = ap (λ u. find cmp (decided cmp hash u r (pairs cmp hash s.trace)) k) (o.call ∙ h)
+
+  decides_content : (home : ℕ → ℕ) (s : State K V F) (p : ℕ) (c : Call K V F) (k : K) (e : ℕ) (es : List (Entry K V)) (n : ℕ) (r : Reply K V) (fs : List (Entry K V)) (m : ℕ) → Can cmp hash gives s p (Decides c k e es n r fs m) → PartyOk s p → Tables cmp hash home s
+      → (q : K) (gs : List (Entry K V)) (u : ℕ) → at_bin s.slot e (hash k % 2 ^ e) (Live fs m) (home (hash q)) (hash q % 2 ^ home (hash q)) ≡ Live gs u → find cmp (pairs_of gs) q ≡ at cmp hash (Decide p r ∷ s.trace) q
+  decides_content home s p c k e es n r fs m can o t q gs u =
+      let l : s.slot e (hash k % 2 ^ e) ≡ Live es n = can.4 in
+      let hk : home (hash k) ≡ e = homes home s e (hash k % 2 ^ e) es n (hash k) t l refl in
+      let here : (i : K) → key_of c ≡ Some i → find cmp (pairs_of es) i ≡ find cmp (pairs cmp hash s.trace) i = λ i g. subst (λ i. find cmp (pairs_of es) i ≡ find cmp (pairs cmp hash s.trace) i) (same_some (sym can.1 ∙ g)) (content_at home s k e (hash k % 2 ^ e) es n t hk refl l) in
+      at_bin_elim s.slot e (hash k % 2 ^ e) (Live fs m) (λ d j v. home (hash q) ≡ d → hash q % 2 ^ d ≡ j → v ≡ Live gs u → find cmp (pairs_of gs) q ≡ at cmp hash (Decide p r ∷ s.trace) q) (home (hash q)) (hash q % 2 ^ home (hash q))
+      (λ hd hj w. ap (λ es. find cmp (pairs_of es) q) (sym (same_live w)) ∙ can.5.after q ∙ find-after cmp total c r (pairs_of es) (pairs cmp hash s.trace) q here (content_at home s q e (hash k % 2 ^ e) es n t hd hj l) ∙ sym (at-decide s p c r q o can.0))
+      (λ ne hd hj w. content_at home s q (home (hash q)) (hash q % 2 ^ home (hash q)) gs u t refl refl w ∙ sym (at-decide s p c r q o can.0 ∙ find-after_other cmp total c r (pairs cmp hash s.trace) k q can.1 (false_from_ne_true (same cmp k q) (λ y. ne (grind (arith, hk, lawful k q y)) (grind (arith, hk, lawful k q y))))))
+      refl refl
+
+  wipes_content : (home : ℕ → ℕ) (s : State K V F) (p wiped e i : ℕ) (f : Frame K) (fs : List (Frame K)) (es : List (Entry K V)) (n : ℕ) → Can cmp hash gives s p (Wipes wiped e i f fs es n) → Tables cmp hash home s
+      → (q : K) (gs : List (Entry K V)) (u : ℕ) → at_bin s.slot f.table f.index (Live [] n) (home (hash q)) (hash q % 2 ^ home (hash q)) ≡ Live gs u → find cmp (pairs_of gs) q ≡ at cmp hash (Wipe p f.table f.index ∷ s.trace) q
+  wipes_content home s p wiped e i f fs es n can t q gs u =
+      let l : s.slot f.table f.index ≡ Live es n = can.1 in
+      at_bin_elim s.slot f.table f.index (Live [] n) (λ d j v. home (hash q) ≡ d → hash q % 2 ^ d ≡ j → v ≡ Live gs u → find cmp (pairs_of gs) q ≡ at cmp hash (Wipe p f.table f.index ∷ s.trace) q) (home (hash q)) (hash q % 2 ^ home (hash q))
+      (λ hd hj w. ap (λ es. find cmp (pairs_of es) q) (sym (same_live w)) ∙ sym (find-wiped cmp total hash lawful f.table f.index (pairs cmp hash s.trace) q ∙ cond-true (in_region f.table f.index (hash q)) None (at cmp hash s.trace q) (eq-eqb _ _ hj)))
+      (λ ne hd hj w. content_at home s q (home (hash q)) (hash q % 2 ^ home (hash q)) gs u t refl refl w ∙ sym (find-wiped cmp total hash lawful f.table f.index (pairs cmp hash s.trace) q ∙ cond-false (in_region f.table f.index (hash q)) None (at cmp hash s.trace q) (ne_eqb _ _ (λ y. ne (sym (homes home s f.table f.index es n (hash q) t l y)) (grind (arith, homes home s f.table f.index es n (hash q) t l y, y))))))
+      refl refl
+
+  pub tables_ok : (home : ℕ → ℕ) (s : State K V F) (p : ℕ) (l : Line K V F) → Can cmp hash gives s p l → PartyOk s p → ((a : Claim) (g : Growth) → l ≡ Publishes a g → (s.published ≡ Some a.table) × ((i : ℕ) → i < 2 ^ a.table → s.slot a.table i ≡ Moved)) → Tables cmp hash home s → Tables cmp hash (home_after home l) (does cmp hash gives s p l)
+  tables_ok home s p (Begins c w) can o ready t = record {
+    unmade = t.unmade;
+    from = t.from;
+    live = t.live;
+    below = t.below;
+    above = t.above;
+    early = t.early;
+    outside = t.outside;
+    ascending = t.ascending;
+    empty = t.empty;
+    content = t.content;
+    was_moved = t.was_moved;
+    is_moved = t.is_moved;
+  }
+  tables_ok home s p Quiet can o ready t = record {
+    unmade = t.unmade;
+    from = t.from;
+    live = t.live;
+    below = t.below;
+    above = t.above;
+    early = t.early;
+    outside = t.outside;
+    ascending = t.ascending;
+    empty = t.empty;
+    content = t.content;
+    was_moved = t.was_moved;
+    is_moved = t.is_moved;
+  }
+  tables_ok home s p (Counts reply x y) can o ready t = record {
+    unmade = t.unmade;
+    from = t.from;
+    live = t.live;
+    below = t.below;
+    above = t.above;
+    early = t.early;
+    outside = t.outside;
+    ascending = t.ascending;
+    empty = t.empty;
+    content = t.content;
+    was_moved = t.was_moved;
+    is_moved = t.is_moved;
+  }
+  tables_ok home s p (Finds e) can o ready t = record {
+    unmade = t.unmade;
+    from = t.from;
+    live = t.live;
+    below = t.below;
+    above = t.above;
+    early = t.early;
+    outside = t.outside;
+    ascending = t.ascending;
+    empty = t.empty;
+    content = t.content;
+    was_moved = t.was_moved;
+    is_moved = t.is_moved;
+  }
+  tables_ok home s p (Opens e) can o ready t = record {
+    unmade = grind (arith, can, t.unmade, t.early, t.outside, mod_below, pow_pos, lt-ltb, ltb-true, ltb-false, t.unmade, eqb-true, eqb-false, eq-eqb, ne_eqb, and_parts, and_cases);
+    from = grind (arith, can, t.unmade, t.early, t.outside, mod_below, pow_pos, lt-ltb, ltb-true, ltb-false, t.from, eqb-true, eqb-false, eq-eqb, ne_eqb, and_parts, and_cases);
+    live = grind (arith, can, t.unmade, t.early, t.outside, mod_below, pow_pos, lt-ltb, ltb-true, ltb-false, t.live, eqb-true, eqb-false, eq-eqb, ne_eqb, and_parts, and_cases);
+    below = grind (arith, can, t.unmade, t.early, t.outside, mod_below, pow_pos, lt-ltb, ltb-true, ltb-false, t.below, eqb-true, eqb-false, eq-eqb, ne_eqb, and_parts, and_cases);
+    above = grind (arith, can, t.unmade, t.early, t.outside, mod_below, pow_pos, lt-ltb, ltb-true, ltb-false, t.above, eqb-true, eqb-false, eq-eqb, ne_eqb, and_parts, and_cases);
+    early = grind (arith, can, t.unmade, t.early, t.outside, mod_below, pow_pos, lt-ltb, ltb-true, ltb-false, t.early, eqb-true, eqb-false, eq-eqb, ne_eqb, and_parts, and_cases);
+    outside = grind (arith, can, t.unmade, t.early, t.outside, mod_below, pow_pos, lt-ltb, ltb-true, ltb-false, t.outside, eqb-true, eqb-false, eq-eqb, ne_eqb, and_parts, and_cases);
+    ascending = grind (arith, can, t.unmade, t.early, t.outside, mod_below, pow_pos, lt-ltb, ltb-true, ltb-false, t.ascending, eqb-true, eqb-false, eq-eqb, ne_eqb, and_parts, and_cases);
+    empty = grind (arith, can, t.unmade, t.early, t.outside, mod_below, pow_pos, lt-ltb, ltb-true, ltb-false, t.empty, eqb-true, eqb-false, eq-eqb, ne_eqb, and_parts, and_cases);
+    content = grind (arith, can, t.unmade, t.early, t.outside, mod_below, pow_pos, lt-ltb, ltb-true, ltb-false, t.content, eqb-true, eqb-false, eq-eqb, ne_eqb, and_parts, and_cases);
+    was_moved = grind (arith, can, t.unmade, t.early, t.outside, mod_below, pow_pos, lt-ltb, ltb-true, ltb-false, t.was_moved, eqb-true, eqb-false, eq-eqb, ne_eqb, and_parts, and_cases);
+    is_moved = grind (arith, can, t.unmade, t.early, t.outside, mod_below, pow_pos, lt-ltb, ltb-true, ltb-false, t.is_moved, eqb-true, eqb-false, eq-eqb, ne_eqb, and_parts, and_cases);
+  }
+  tables_ok home s p FindsNothing can o ready t = record {
+    unmade = t.unmade;
+    from = t.from;
+    live = t.live;
+    below = t.below;
+    above = t.above;
+    early = t.early;
+    outside = t.outside;
+    ascending = t.ascending;
+    empty = t.empty;
+    content = t.content;
+    was_moved = t.was_moved;
+    is_moved = t.is_moved;
+  }
+  tables_ok home s p IsRefused can o ready t = record {
+    unmade = t.unmade;
+    from = t.from;
+    live = t.live;
+    below = t.below;
+    above = t.above;
+    early = t.early;
+    outside = t.outside;
+    ascending = t.ascending;
+    empty = t.empty;
+    content = t.content;
+    was_moved = t.was_moved;
+    is_moved = t.is_moved;
+  }
+  tables_ok home s p (DecidesEmpty c r) can o ready t = record {
+    unmade = t.unmade;
+    from = t.from;
+    live = t.live;
+    below = t.below;
+    above = t.above;
+    early = t.early;
+    outside = t.outside;
+    ascending = t.ascending;
+    empty = λ e k. at-decide s p c r k o can.0 ∙ find-after cmp total c r (pairs cmp hash s.trace) [] k (λ j _. t.empty e j) (t.empty e k) ∙ empty_after c r k can.3 can.4;
+    content = grind (arith, can, t.unmade);
+    was_moved = t.was_moved;
+    is_moved = t.is_moved;
+  }
+  tables_ok home s p (Passes e) can o ready t = record {
+    unmade = t.unmade;
+    from = t.from;
+    live = t.live;
+    below = t.below;
+    above = t.above;
+    early = t.early;
+    outside = t.outside;
+    ascending = t.ascending;
+    empty = t.empty;
+    content = t.content;
+    was_moved = t.was_moved;
+    is_moved = t.is_moved;
+  }
+  tables_ok home s p (Decides c k e es n r fs m) can o ready t = record {
+    unmade = grind (arith, can, o.call, t.unmade, t.live, t.above, t.below, t.early, t.outside, mod_below, pow_pos, t.empty, t.is_moved, t.was_moved, t.unmade, eqb-true, eqb-false, eq-eqb, ne_eqb, and_parts, and_cases);
+    from = t.from;
+    live = grind (arith, can, o.call, t.unmade, t.live, t.above, t.below, t.early, t.outside, mod_below, pow_pos, t.empty, t.is_moved, t.was_moved, t.live, eqb-true, eqb-false, eq-eqb, ne_eqb, and_parts, and_cases);
+    below = grind (arith, can, o.call, t.unmade, t.live, t.above, t.below, t.early, t.outside, mod_below, pow_pos, t.empty, t.is_moved, t.was_moved, t.below, eqb-true, eqb-false, eq-eqb, ne_eqb, and_parts, and_cases);
+    above = grind (arith, can, o.call, t.unmade, t.live, t.above, t.below, t.early, t.outside, mod_below, pow_pos, t.empty, t.is_moved, t.was_moved, t.above, eqb-true, eqb-false, eq-eqb, ne_eqb, and_parts, and_cases);
+    early = grind (arith, can, o.call, t.unmade, t.live, t.above, t.below, t.early, t.outside, mod_below, pow_pos, t.empty, t.is_moved, t.was_moved, t.early, eqb-true, eqb-false, eq-eqb, ne_eqb, and_parts, and_cases);
+    outside = grind (arith, can, o.call, t.unmade, t.live, t.above, t.below, t.early, t.outside, mod_below, pow_pos, t.empty, t.is_moved, t.was_moved, t.outside, eqb-true, eqb-false, eq-eqb, ne_eqb, and_parts, and_cases);
+    ascending = λ d j es' n'. at_bin_elim s.slot e (hash k % 2 ^ e) (Live fs m) (λ d j v. v ≡ Live es' n' → Ascending cmp hash es' × InRegion hash d j es') d j (λ u. subst (λ es. Ascending cmp hash es × InRegion hash e (hash k % 2 ^ e) es) (same_live u) (can.5.ascending, can.6)) (λ _. t.ascending d j es' n');
+    empty = grind (arith, can, t.unmade);
+    content = decides_content home s p c k e es n r fs m can o t;
+    was_moved = grind (arith, can, o.call, t.unmade, t.live, t.above, t.below, t.early, t.outside, mod_below, pow_pos, t.empty, t.is_moved, t.was_moved, t.was_moved, eqb-true, eqb-false, eq-eqb, ne_eqb, and_parts, and_cases);
+    is_moved = grind (arith, can, o.call, t.unmade, t.live, t.above, t.below, t.early, t.outside, mod_below, pow_pos, t.empty, t.is_moved, t.was_moved, t.is_moved, eqb-true, eqb-false, eq-eqb, ne_eqb, and_parts, and_cases);
+  }
+  tables_ok home s p (Places e) can o ready t = record {
+    unmade = t.unmade;
+    from = t.from;
+    live = t.live;
+    below = t.below;
+    above = t.above;
+    early = t.early;
+    outside = t.outside;
+    ascending = t.ascending;
+    empty = t.empty;
+    content = t.content;
+    was_moved = t.was_moved;
+    is_moved = t.is_moved;
+  }
+  tables_ok home s p (Claims e g low) can o ready t = record {
+    unmade = t.unmade;
+    from = t.from;
+    live = t.live;
+    below = t.below;
+    above = t.above;
+    early = t.early;
+    outside = t.outside;
+    ascending = t.ascending;
+    empty = t.empty;
+    content = t.content;
+    was_moved = t.was_moved;
+    is_moved = t.is_moved;
+  }
+  tables_ok home s p (Moves a i es n) can o ready t = moves_ok home s p a i es n can t
+  tables_ok home s p (Reports a g) can o ready t = record {
+    unmade = t.unmade;
+    from = t.from;
+    live = t.live;
+    below = t.below;
+    above = t.above;
+    early = t.early;
+    outside = t.outside;
+    ascending = t.ascending;
+    empty = t.empty;
+    content = t.content;
+    was_moved = t.was_moved;
+    is_moved = t.is_moved;
+  }
+  tables_ok home s p (Publishes a g) can o ready t = record {
+    unmade = grind (arith, can, t.live, t.from, t.unmade, eqb-true, eqb-false, eq-eqb, ne_eqb, and_parts, and_cases);
+    from = λ f e. let w : (s.start ≤ a.table) × ((h : ℕ) → a.table ≤ home h) = t.from a.table (ready a g refl).0 in (grind (arith, e, w.0), λ h. grind (arith, e, w.1 h, (ready a g refl).1 (h % 2 ^ a.table) (mod_below h (2 ^ a.table) (pow_pos a.table)), t.live (grind (arith, (ready a g refl).0)) h));
+    live = λ _. t.live (grind (arith, (ready a g refl).0));
+    below = λ _. t.below (grind (arith, (ready a g refl).0));
+    above = λ _. t.above (grind (arith, (ready a g refl).0));
+    early = t.early;
+    outside = t.outside;
+    ascending = t.ascending;
+    empty = grind (arith, can, t.live, t.from, t.empty, eqb-true, eqb-false, eq-eqb, ne_eqb, and_parts, and_cases);
+    content = t.content;
+    was_moved = t.was_moved;
+    is_moved = t.is_moved;
+  }
+  tables_ok home s p (Reads e i f fs es n x) can o ready t = record {
+    unmade = t.unmade;
+    from = t.from;
+    live = t.live;
+    below = t.below;
+    above = t.above;
+    early = t.early;
+    outside = t.outside;
+    ascending = t.ascending;
+    empty = t.empty;
+    content = t.content;
+    was_moved = t.was_moved;
+    is_moved = t.is_moved;
+  }
+  tables_ok home s p (Leaves e i f fs es n) can o ready t = record {
+    unmade = t.unmade;
+    from = t.from;
+    live = t.live;
+    below = t.below;
+    above = t.above;
+    early = t.early;
+    outside = t.outside;
+    ascending = t.ascending;
+    empty = t.empty;
+    content = t.content;
+    was_moved = t.was_moved;
+    is_moved = t.is_moved;
+  }
+  tables_ok home s p (Splits e i f fs) can o ready t = record {
+    unmade = t.unmade;
+    from = t.from;
+    live = t.live;
+    below = t.below;
+    above = t.above;
+    early = t.early;
+    outside = t.outside;
+    ascending = t.ascending;
+    empty = t.empty;
+    content = t.content;
+    was_moved = t.was_moved;
+    is_moved = t.is_moved;
+  }
+  tables_ok home s p (Wipes wiped e i f fs es n) can o ready t = record {
+    unmade = grind (arith, can, t.unmade, t.live, t.above, t.below, t.early, t.outside, mod_below, pow_pos, t.empty, t.is_moved, t.was_moved, t.unmade, eqb-true, eqb-false, eq-eqb, ne_eqb, and_parts, and_cases);
+    from = t.from;
+    live = grind (arith, can, t.unmade, t.live, t.above, t.below, t.early, t.outside, mod_below, pow_pos, t.empty, t.is_moved, t.was_moved, t.live, eqb-true, eqb-false, eq-eqb, ne_eqb, and_parts, and_cases);
+    below = grind (arith, can, t.unmade, t.live, t.above, t.below, t.early, t.outside, mod_below, pow_pos, t.empty, t.is_moved, t.was_moved, t.below, eqb-true, eqb-false, eq-eqb, ne_eqb, and_parts, and_cases);
+    above = grind (arith, can, t.unmade, t.live, t.above, t.below, t.early, t.outside, mod_below, pow_pos, t.empty, t.is_moved, t.was_moved, t.above, eqb-true, eqb-false, eq-eqb, ne_eqb, and_parts, and_cases);
+    early = grind (arith, can, t.unmade, t.live, t.above, t.below, t.early, t.outside, mod_below, pow_pos, t.empty, t.is_moved, t.was_moved, t.early, eqb-true, eqb-false, eq-eqb, ne_eqb, and_parts, and_cases);
+    outside = grind (arith, can, t.unmade, t.live, t.above, t.below, t.early, t.outside, mod_below, pow_pos, t.empty, t.is_moved, t.was_moved, t.outside, eqb-true, eqb-false, eq-eqb, ne_eqb, and_parts, and_cases);
+    ascending = grind (arith, can, t.unmade, t.live, t.above, t.below, t.early, t.outside, mod_below, pow_pos, t.empty, t.is_moved, t.was_moved, t.ascending, eqb-true, eqb-false, eq-eqb, ne_eqb, and_parts, and_cases);
+    empty = grind (arith, can, t.unmade, t.live, t.above, t.below, t.early, t.outside, mod_below, pow_pos, t.empty, t.is_moved, t.was_moved, t.empty, eqb-true, eqb-false, eq-eqb, ne_eqb, and_parts, and_cases);
+    content = wipes_content home s p wiped e i f fs es n can t;
+    was_moved = grind (arith, can, t.unmade, t.live, t.above, t.below, t.early, t.outside, mod_below, pow_pos, t.empty, t.is_moved, t.was_moved, t.was_moved, eqb-true, eqb-false, eq-eqb, ne_eqb, and_parts, and_cases);
+    is_moved = grind (arith, can, t.unmade, t.live, t.above, t.below, t.early, t.outside, mod_below, pow_pos, t.empty, t.is_moved, t.was_moved, t.is_moved, eqb-true, eqb-false, eq-eqb, ne_eqb, and_parts, and_cases);
+  }
+  tables_ok home s p (SplitsClear wiped e i f fs) can o ready t = record {
+    unmade = t.unmade;
+    from = t.from;
+    live = t.live;
+    below = t.below;
+    above = t.above;
+    early = t.early;
+    outside = t.outside;
+    ascending = t.ascending;
+    empty = t.empty;
+    content = t.content;
+    was_moved = t.was_moved;
+    is_moved = t.is_moved;
+  }
+  tables_ok home s p (Replies r) can o ready t = record {
+    unmade = t.unmade;
+    from = t.from;
+    live = t.live;
+    below = t.below;
+    above = t.above;
+    early = t.early;
+    outside = t.outside;
+    ascending = t.ascending;
+    empty = t.empty;
+    content = t.content;
+    was_moved = t.was_moved;
+    is_moved = t.is_moved;
+  }
+  tables_ok home s p Ends can o ready t = record {
+    unmade = t.unmade;
+    from = t.from;
+    live = t.live;
+    below = t.below;
+    above = t.above;
+    early = t.early;
+    outside = t.outside;
+    ascending = t.ascending;
+    empty = t.empty;
+    content = t.content;
+    was_moved = t.was_moved;
+    is_moved = t.is_moved;
+  }

@@ -1,0 +1,117 @@
+-- What can be read off a trace. The list of labels has the newest first.
+use Rattle.std.specs.Prelude.{ℕ, true, Bool, false, not, ◌&&◌, ◌||◌, List, [], ◌∷◌, filter, Option, Some, None, if◌then◌else◌, ◌==◌, ◌%◌, ◌^◌}
+use Rattle.std.specs.declared.cmp.Ordering.{Ordering}
+use Rattle.flurry_theory.specs.Map.{Pairs, find, after}
+use Rattle.flurry_theory.specs.declared.Call.{Call}
+use Rattle.flurry_theory.specs.declared.Call.TheVariants.{Get, GetKeyValue, ContainsKey}
+use Rattle.flurry_theory.specs.declared.Reply.{Reply}
+use Rattle.flurry_theory.specs.declared.Label.{Label}
+use Rattle.flurry_theory.specs.declared.Label.TheVariants.{Begin, Decide, Reply as Replied, Refused, Wipe, Read, End, Opened, Placed, Moved, Published, Silent}
+
+-- the hashes h with h mod 2^e = i
+abbrev pub in_region : ℕ → ℕ → ℕ → Bool
+in_region e i h = h % 2 ^ e == i
+
+-- labels, the newest first
+abbrev pub Trace : Type 0 → Type 0 → Type 0 → Type 0
+Trace K V F = List (Label K V F)
+
+module _ {K V F : Type 0} where
+  -- the call that began party p
+  abbrev pub begun : Trace K V F → ℕ → Option (Call K V F)
+  begun [] p = None
+  begun (Begin q c ∷ t) p = if q == p then Some c else begun t p
+  begun (l ∷ t) p = begun t p
+
+  -- the decision of party p
+  abbrev pub decision : Trace K V F → ℕ → Option (Reply K V)
+  decision [] p = None
+  decision (Decide q r ∷ t) p = if q == p then Some r else decision t p
+  decision (l ∷ t) p = decision t p
+
+  -- party p has replied
+  abbrev pub replied : Trace K V F → ℕ → Bool
+  replied [] p = false
+  replied (Replied q r ∷ t) p = q == p || replied t p
+  replied (l ∷ t) p = replied t p
+
+  -- party p has ended, or was refused
+  abbrev pub closed : Trace K V F → ℕ → Bool
+  closed [] p = false
+  closed (End q ∷ t) p = q == p || closed t p
+  closed (Refused q ∷ t) p = q == p || closed t p
+  closed (l ∷ t) p = closed t p
+
+  -- the label is this party's Begin
+  abbrev pub begins : ℕ → Label K V F → Bool
+  begins p (Begin q c) = q == p
+  begins p l = false
+
+  -- the label names this party
+  abbrev pub names : ℕ → Label K V F → Bool
+  names p (Begin q c) = q == p
+  names p (Decide q r) = q == p
+  names p (Replied q r) = q == p
+  names p (Refused q) = q == p
+  names p (Wipe q e i) = q == p
+  names p (Read q k v) = q == p
+  names p (End q) = q == p
+  names p (Silent q) = q == p
+  names p (Opened e) = false
+  names p (Placed e) = false
+  names p (Moved e i) = false
+  names p (Published e) = false
+
+  -- the pair that party w read last
+  abbrev pub last_read : Trace K V F → ℕ → Option (K × V)
+  last_read [] w = None
+  last_read (Read q k v ∷ t) w = if q == w then Some (k, v) else last_read t w
+  last_read (l ∷ t) w = last_read t w
+
+  -- the pair that party w had read last when party p began
+  abbrev pub read_before : Trace K V F → ℕ → ℕ → Option (K × V)
+  read_before [] p w = None
+  read_before (l ∷ t) p w = if begins p l then last_read t w else read_before t p w
+
+  -- the published number; first is that of the table which the world began with
+  abbrev pub published : Option ℕ → Trace K V F → Option ℕ
+  published first [] = first
+  published first (Opened e ∷ t) = Some e
+  published first (Published e ∷ t) = Some e
+  published first (l ∷ t) = published first t
+
+  -- table e was made by a growth
+  abbrev pub placed : Trace K V F → ℕ → Bool
+  placed [] e = false
+  placed (Placed d ∷ t) e = d == e || placed t e
+  placed (l ∷ t) e = placed t e
+
+  -- bin i of table e was moved
+  abbrev pub moved : Trace K V F → ℕ → ℕ → Bool
+  moved [] e i = false
+  moved (Moved d j ∷ t) e i = d == e && j == i || moved t e i
+  moved (l ∷ t) e i = moved t e i
+
+  module _ (cmp : K → K → Ordering) (hash : K → ℕ) where
+    -- the map after this party's call decided; a party that did not begin changes nothing
+    abbrev pub decided : Option (Call K V F) → Reply K V → Pairs K V → Pairs K V
+    decided None r m = m
+    decided (Some c) r m = after cmp c r m
+
+    -- The map after the labels. No label but a decision and a wipe changes it.
+    abbrev pub pairs : Trace K V F → Pairs K V
+    pairs [] = []
+    pairs (Decide p r ∷ t) = decided (begun t p) r (pairs t)
+    pairs (Wipe p e i ∷ t) = filter (λ x. not (in_region e i (hash x.0))) (pairs t)
+    pairs (l ∷ t) = pairs t
+
+    -- the pair that the map has at k's class, after the labels
+    abbrev pub at : Trace K V F → K → Option (K × V)
+    at t k = find cmp (pairs t) k
+
+-- LOOK-UPS
+abbrev pub is_lookup : {K V F : Type 0} → Option (Call K V F) → Bool
+is_lookup (Some (Get k)) = true
+is_lookup (Some (GetKeyValue k)) = true
+is_lookup (Some (ContainsKey k)) = true
+is_lookup c = false

@@ -1,0 +1,42 @@
+//! The laws over every run.
+ghost use Rattle.std.specs.Prelude.{◌≡◌, ℕ, pos, neg_ℤ, ◌≤ℤ◌, Bool, true, ◌<◌, ◌≤◌, List, ◌++◌, length, Option, Some, None, if◌then◌else◌};
+ghost use Rattle.flurry_theory.specs.Map.{same, answers};
+ghost use Rattle.flurry_theory.specs.Trace.{pairs};
+ghost use Rattle.flurry_theory.specs.Machine.{Finished, Line, WasPublished};
+ghost use Rattle.flurry_theory.specs.Invariant.{Inv, CanAll, after_all, new_world};
+
+/// Whatever steps any parties do, in any order, the trace is lawful: each reply is the finite map's at its decision, growths
+/// move each bin once and publish complete tables, and walks give present pairs, no class twice, and miss none that stayed.
+/// The bins that are live hold the map, and the claims cut the growing table. A conditional removal removes only what nobody
+/// has touched since its walk read it, and, within the first 2^62 labels, all of that. Memory is refused only where the map lets
+/// it be. A look-up decides or is refused by its 32nd step, and replies at the next. The pairs are the count and what is owed.
+pub fn every_interleaving<K: Ord, V, F: Fn(&K, &V) -> Option<V>>()
+    ensures { (hash : K → ℕ) → ((j k : K) → same K.cmp j k ≡ true → hash j ≡ hash k)
+        → (e : ℕ) (b : Bool) → e ≤ 30 → (steps : List (ℕ × Line K V F)) → CanAll K.cmp hash (answers F.Fn) (new_world e b) steps
+        → (home : ℕ → ℕ) × Inv K.cmp hash (answers F.Fn) (if b then Some e else None) home (after_all K.cmp hash (answers F.Fn) (new_world e b) steps) }
+{}
+
+/// A number that was published after some steps of a run is one at which a call may begin after any further steps. So a party
+/// may take it from wherever it was written down, without the control's lock.
+pub fn numbers_stay_published<K: Ord, V, F: Fn(&K, &V) -> Option<V>>()
+    ensures { (hash : K → ℕ) → ((j k : K) → same K.cmp j k ≡ true → hash j ≡ hash k)
+        → (e : ℕ) (b : Bool) → e ≤ 30 → (more steps : List (ℕ × Line K V F)) → CanAll K.cmp hash (answers F.Fn) (new_world e b) (more ++ steps)
+        → (x : ℕ) → (after_all K.cmp hash (answers F.Fn) (new_world e b) steps).published ≡ Some x
+        → WasPublished K.cmp hash (answers F.Fn) (after_all K.cmp hash (answers F.Fn) (new_world e b) (more ++ steps)) x }
+{}
+
+/// Once every party that began has finished, the count is the number of pairs: nobody replies, ends or is refused while it owes.
+pub fn count_is_exact<K: Ord, V, F: Fn(&K, &V) -> Option<V>>()
+    ensures { (hash : K → ℕ) → ((j k : K) → same K.cmp j k ≡ true → hash j ≡ hash k)
+        → (e : ℕ) (b : Bool) → e ≤ 30 → (steps : List (ℕ × Line K V F)) → CanAll K.cmp hash (answers F.Fn) (new_world e b) steps
+        → ((p : ℕ) → p < (after_all K.cmp hash (answers F.Fn) (new_world e b) steps).parties → (after_all K.cmp hash (answers F.Fn) (new_world e b) steps).mode p ≡ Finished)
+        → pos (length (pairs K.cmp hash (after_all K.cmp hash (answers F.Fn) (new_world e b) steps).trace)) ≡ (after_all K.cmp hash (answers F.Fn) (new_world e b) steps).count }
+{}
+
+/// The count is never further from 0 than there were labels, so that 64 bits hold it in any run of fewer than 2^63 steps.
+pub fn count_stays_within_labels<K: Ord, V, F: Fn(&K, &V) -> Option<V>>()
+    ensures { (hash : K → ℕ) → ((j k : K) → same K.cmp j k ≡ true → hash j ≡ hash k)
+        → (e : ℕ) (b : Bool) → e ≤ 30 → (steps : List (ℕ × Line K V F)) → CanAll K.cmp hash (answers F.Fn) (new_world e b) steps
+        → ((after_all K.cmp hash (answers F.Fn) (new_world e b) steps).count ≤ℤ pos (length (after_all K.cmp hash (answers F.Fn) (new_world e b) steps).trace))
+        × (neg_ℤ (pos (length (after_all K.cmp hash (answers F.Fn) (new_world e b) steps).trace)) ≤ℤ (after_all K.cmp hash (answers F.Fn) (new_world e b) steps).count) }
+{}

@@ -1,0 +1,94 @@
+//! Every interleaving of the steps of calls on a concurrent map, as a machine over plain data, and what holds of it.
+//!
+//! A run is a list of steps of any parties, in any order; any of them may stop for good. Each step is one line of the machine
+//! (`specs/Machine.antt`) and adds one label to the trace. The laws of a trace (`specs/Legal.antt`) say of each label what has to hold
+//! of the labels before it, and name no table, bin or claim. [`laws`] states that each trace of the machine keeps them.
+//!
+//! No code runs here. The machine leaves open what no law hangs on: when a party counts, helps or begins a growth.
+#![tactic(auto)]
+
+pub mod laws;
+
+/// What a walk's read knows of a pair.
+#[derive(Clone, Copy, Debug)]
+pub struct Seen<K, V> {
+    /// The stored key.
+    pub key: K,
+    /// The value.
+    pub value: V,
+    /// The number of the write that put the value.
+    pub number: u64,
+}
+
+/// A call, with its key and value.
+#[derive(Clone, Copy, Debug)]
+pub enum Call<K, V, F> {
+    /// The value of a key.
+    Get(K),
+    /// The stored key and the value of a key.
+    GetKeyValue(K),
+    /// Whether a key is present.
+    ContainsKey(K),
+    /// Writes a value.
+    Insert(K, V),
+    /// Writes a value where the key is absent.
+    TryInsert(K, V),
+    /// Calls a function on the pair of a key, and writes what it answers, or removes the pair.
+    Compute(K, F),
+    /// Removes the pair of a key, and answers its value.
+    Remove(K),
+    /// Removes the pair of a key, and answers the stored key too.
+    RemoveEntry(K),
+    /// Removes a pair that was read, if it still stands as it was read.
+    RemoveSeen(Seen<K, V>),
+    /// Makes room for so many pairs more.
+    Reserve(usize),
+    /// Removes all pairs, one bin after another.
+    Clear,
+    /// Reads all pairs, one bin after another.
+    Walk,
+}
+
+/// A reply of a one-key call.
+#[derive(Clone, Copy, Debug)]
+pub enum Reply<K, V> {
+    /// Of `Get`, `Insert`, `Compute`, `Remove` and `RemoveSeen`.
+    Value(Option<V>),
+    /// Of `GetKeyValue` and `RemoveEntry`.
+    Pair(Option<(K, V)>),
+    /// Of `ContainsKey`.
+    Contains(bool),
+    /// Of `TryInsert`, on an absent key.
+    New(V),
+    /// Of `TryInsert`, on a present key: the current value, and the one not inserted.
+    Exists(V, V),
+}
+
+/// What one step did.
+#[derive(Clone, Copy, Debug)]
+pub enum Label<K, V, F> {
+    /// The party began with this call.
+    Begin(usize, Call<K, V, F>),
+    /// The call of one key of the party decided, with this reply.
+    Decide(usize, Reply<K, V>),
+    /// The party replied.
+    Reply(usize, Reply<K, V>),
+    /// The party was refused for memory, and is done.
+    Refused(usize),
+    /// The clear of the party emptied the bin of this table and index.
+    Wipe(usize, u8, usize),
+    /// The walk of the party read this pair.
+    Read(usize, K, V),
+    /// The reserve, clear or walk of the party ended.
+    End(usize),
+    /// The first table, of this number, was made and published.
+    Opened(u8),
+    /// The table of this number was made, and its growth began.
+    Placed(u8),
+    /// The bin of this table and index moved to its halves.
+    Moved(u8, usize),
+    /// The table of this number was published.
+    Published(u8),
+    /// Any other step of the party.
+    Silent(usize),
+}
