@@ -1,19 +1,32 @@
 //! Each request of a slot's steps, refused in turn.
+ghost use Rattle.std.specs.Prelude.{OnOk};
+ghost use Rattle.flurry_slots.specs.Slot.{LiesIn};
 
 use super::Memory;
 use flurry_bins::bin::Bin;
+use flurry_bins::table::bin_index;
 use flurry_slots::{Answer, Computed, Slot};
 use std::test::Fail;
 use test_alloc::Refusing;
 
-// The value of a key and the number of its write, at a slot whose bin is live.
-fn found(slot: &Slot<u64, u64, Memory>) -> Option<(u64, u64)>
-    requires table { slot.now.table ≡ 4 }
-    requires index { slot.now.index ≡ 3 }
+// Whether the hash of the tests lies in the region of the slot.
+fn lies_in(slot: &Slot<u64, u64, Memory>) -> Result<(), Fail>
+    ensures { OnOk result (LiesIn 3 slot.now) }
 {
+    let (table, index) = slot.at();
+    if bin_index(3, table) == index {
+        Ok(())
+    } else {
+        Err(Fail::from("the hash lies elsewhere"))
+    }
+}
+
+// The value of the key of the tests and the number of its write, where the bin is live.
+fn found(slot: &Slot<u64, u64, Memory>) -> Result<Option<(u64, u64)>, Fail> {
+    lies_in(slot)?;
     match slot.find(3, &3) {
-        Answer::Here(entry) => entry.map(|entry| (*entry.value, entry.number)),
-        _ => None,
+        Answer::Here(entry) => Ok(entry.map(|entry| (*entry.value, entry.number))),
+        _ => Ok(None),
     }
 }
 
@@ -24,13 +37,14 @@ fn put_of_a_new_key(rt: HostRuntime) -> Result<(), Fail> {
     for k in 0..4u64 {
         let mut slot: Slot<u64, u64, Memory> = Slot::live(4, 3, Bin::new());
         memory.refuse_at(k);
+        lies_in(&slot)?;
         let answer = slot.put(memory, 3, 3, 10);
         let refused = memory.refused();
         memory.refuse_nothing();
         assert_eq!(rt; refused, k < 3, "at {k}");
         assert_eq!(rt; answer.is_err(), refused, "at {k}");
         let stands = if refused { None } else { Some((10, 1)) };
-        assert_eq!(rt; found(&slot), stands, "at {k}");
+        assert_eq!(rt; found(&slot)?, stands, "at {k}");
         drop(answer);
         drop(slot);
         assert_eq!(rt; memory.blocks(), 0, "at {k}");
@@ -44,15 +58,17 @@ fn put_of_a_present_key(rt: HostRuntime) -> Result<(), Fail> {
     let memory = Refusing::leaked(rt.alloc())?;
     for k in 0..2u64 {
         let mut slot: Slot<u64, u64, Memory> = Slot::live(4, 3, Bin::new());
+        lies_in(&slot)?;
         drop(slot.put(memory, 3, 3, 10)?);
         memory.refuse_at(k);
+        lies_in(&slot)?;
         let answer = slot.put(memory, 3, 3, 11);
         let refused = memory.refused();
         memory.refuse_nothing();
         assert_eq!(rt; refused, k < 1, "at {k}");
         assert_eq!(rt; answer.is_err(), refused, "at {k}");
         let stands = if refused { (10, 1) } else { (11, 2) };
-        assert_eq!(rt; found(&slot), Some(stands), "at {k}");
+        assert_eq!(rt; found(&slot)?, Some(stands), "at {k}");
         drop(answer);
         drop(slot);
         assert_eq!(rt; memory.blocks(), 0, "at {k}");
@@ -67,6 +83,7 @@ fn put_absent(rt: HostRuntime) -> Result<(), Fail> {
     for k in 0..4u64 {
         let mut slot: Slot<u64, u64, Memory> = Slot::live(4, 3, Bin::new());
         memory.refuse_at(k);
+        lies_in(&slot)?;
         let answer = slot.put_absent(memory, 3, 3, 10);
         let refused = memory.refused();
         memory.refuse_nothing();
@@ -75,13 +92,14 @@ fn put_absent(rt: HostRuntime) -> Result<(), Fail> {
         drop(answer);
         if !refused {
             memory.refuse_from(0);
+            lies_in(&slot)?;
             let present = slot.put_absent(memory, 3, 3, 11);
             let asked = memory.asked();
             memory.refuse_nothing();
             assert_eq!(rt; asked, 0);
             assert!(rt; present.is_ok());
             drop(present);
-            assert_eq!(rt; found(&slot), Some((10, 1)));
+            assert_eq!(rt; found(&slot)?, Some((10, 1)));
         }
         drop(slot);
         assert_eq!(rt; memory.blocks(), 0, "at {k}");
@@ -95,18 +113,22 @@ fn compute(rt: HostRuntime) -> Result<(), Fail> {
     let memory = Refusing::leaked(rt.alloc())?;
     for k in 0..2u64 {
         let mut slot: Slot<u64, u64, Memory> = Slot::live(4, 3, Bin::new());
+        lies_in(&slot)?;
         drop(slot.put(memory, 3, 3, 10)?);
         memory.refuse_at(k);
+        lies_in(&slot)?;
         let answer = slot.compute(memory, 3, &3, |_: &u64, value: &u64| Some(*value / 2));
         let refused = memory.refused();
         memory.refuse_nothing();
         assert_eq!(rt; refused, k < 1, "at {k}");
         assert_eq!(rt; answer.is_err(), refused, "at {k}");
         let stands = if refused { (10, 1) } else { (5, 2) };
-        assert_eq!(rt; found(&slot), Some(stands), "at {k}");
+        assert_eq!(rt; found(&slot)?, Some(stands), "at {k}");
         drop(answer);
         memory.refuse_from(0);
+        lies_in(&slot)?;
         let removed = slot.compute(memory, 3, &3, |_: &u64, _: &u64| None);
+        lies_in(&slot)?;
         let absent = slot.compute(memory, 3, &3, |_: &u64, _: &u64| Some(0));
         memory.refuse_nothing();
         match (removed, absent) {
