@@ -1,6 +1,7 @@
-//! Each request of a node refused in turn, and the calls of bins while each request is refused.
+//! Each request of a node refused in turn, and the calls of bins while each request is refused; the same of slots and of worlds.
 
 mod slot;
+mod world;
 
 use flurry_bins::bin::{Bin, Entry, ListBin, Node, Ordered, Shape, TreeBin};
 use std::alloc::{AllocError, Global};

@@ -28,6 +28,10 @@ bad_line_text n = codes "bad line " ++ (decimal n ++ 10 ∷ [])
 abbrev pub input_failed_text : List ℕ
 input_failed_text = codes "input failed" ++ 10 ∷ []
 
+-- that memory is wanting, with its line feed
+abbrev pub out_of_memory_text : List ℕ
+out_of_memory_text = codes "out of memory" ++ 10 ∷ []
+
 -- what an insertion at an absent key alone answers, and the map after it
 abbrev pub Tries : ℕ → ℕ → Numbers → List ℕ → Numbers → Type 0
 Tries k v map answer after =

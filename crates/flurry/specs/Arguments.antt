@@ -11,6 +11,10 @@ texts words = map (λ (word : Bor (List ℕ)). word.now) words
 abbrev pub IsSeq : List (Bor (List ℕ)) → Type 0
 IsSeq words = texts words ≡ codes "seq" ∷ []
 
+-- they ask for the steps of a world
+abbrev pub IsWorld : List (Bor (List ℕ)) → Type 0
+IsWorld words = texts words ≡ codes "world" ∷ []
+
 -- what the program can be asked for, with its line feed
 abbrev pub usage_text : List ℕ
 usage_text = codes "usage: flurry-run seq | world | threads N M" ++ 10 ∷ []

@@ -3,9 +3,11 @@ pub mod Arguments
 pub mod Buffers
 pub mod Bytes
 pub mod Commands
+pub mod Labels
 pub mod LineEnds
 pub mod Lines
 pub mod Runs
+pub mod Schedules
 pub mod Words
 pub use Rattle.flurry_bins.specs.Bin
 pub use Rattle.flurry_bins.specs.FiniteMap

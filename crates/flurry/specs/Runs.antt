@@ -1,6 +1,6 @@
 -- A part of a run, its end, and the whole.
-use Rattle.std.specs.Prelude.{◌≡◌, ℕ, ◌+◌, ◌≤◌, ◌^◌, ◌⊎◌, ◌++◌, [], ◌∷◌, length, List, Bool, IsTrue, Option, Some, IfSome}
-use Rattle.std.specs.Io.KnownBytes.{Appends}
+use Rattle.std.specs.Prelude.{◌≡◌, ℕ, ◌+◌, ◌<◌, ◌≤◌, ◌^◌, ◌⊎◌, ◌++◌, [], ◌∷◌, length, List, Bool, IsTrue, Option, Some, IfSome}
+use Rattle.std.specs.Io.KnownBytes.{Appends, Keeps}
 use Rattle.flurry.specs.declared.program.command.Command.{Command}
 use Rattle.flurry.specs.Commands.{text_of, IsCommand, IsNoCommand}
 use Rattle.flurry.specs.Lines.{lines_of}
@@ -39,3 +39,11 @@ RunsLines remaining held flushed write_failed status =
 abbrev pub FailsForCause : Option (List ℕ) → Bool → Bool → ℕ → Type 0
 FailsForCause remaining read_failed write_failed status =
     status ≡ 1 → IfSome remaining (λ input. IsTrue read_failed ⊎ IsTrue write_failed ⊎ (2 ^ 62 ≤ length input))
+
+-- one of the known bytes was read at least
+abbrev pub TakesByte : Option (List ℕ) → Option (List ℕ) → Type 0
+TakesByte old new = IfSome old (λ input. (left : List ℕ) × (new ≡ Some left) × (length left < length input))
+
+-- an input of no bytes ends the run with status 0, and nothing is written, unless a read failed
+abbrev pub EndsAtOnce : Option (List ℕ) → Bool → Option (List ℕ) → Option (List ℕ) → ℕ → Type 0
+EndsAtOnce remaining read_failed held holds status = remaining ≡ Some [] → IsTrue read_failed ⊎ (Keeps held holds × (status ≡ 0))

@@ -2,10 +2,14 @@
 
 pub mod buffers;
 pub mod command;
+mod ends;
 pub mod input;
+pub mod labels;
 pub mod parse;
 pub mod run_words;
+pub mod schedule;
 pub mod seq_lines;
 pub mod streams;
 #[cfg(test)]
 mod tests;
+pub mod world_lines;

@@ -16,7 +16,7 @@ use Rattle.flurry_bins.specs.OneKey as one
 use Rattle.flurry_seq.specs.Contents.{Contents, with_pairs}
 use Rattle.flurry_seq.specs.Calls.{OneKeyAnswers, CallRefused}
 use Rattle.flurry_seq.specs.declared.calls.Call.{Call}
-use Rattle.flurry_seq.specs.declared.calls.Call.TheVariants.{Get, GetKeyValue, ContainsKey, Len, IsEmpty, Capacity, Insert, TryInsert, ComputeIfPresent, Remove, RemoveEntry, Retain, RetainForce, Clear, Reserve, Extend}
+use Rattle.flurry_seq.specs.declared.calls.Call.TheVariants.{Get, GetKeyValue, ContainsKey, Len, IsEmpty, Capacity, ShapeOf, Pairs, Keys, Values, Equals, TryClone, Insert, TryInsert, ComputeIfPresent, Remove, RemoveEntry, Retain, RetainForce, Clear, Reserve, Extend}
 use Rattle.flurry_seq.specs.declared.calls.Reply.TheVariants.{Value, New, Exists}
 
 pub on_err : {T E : Type 0} (r : Result T E) (P : Type 0) → P → OnErr r P
@@ -98,8 +98,8 @@ module _ {K V A S F : Type 0} (cmp : K → K → Ordering) (gives : F → K → 
       by_pair None a h = ap (λ x. x.bins) (a refl).1
       by_pair (Some p) a h = by_answer h.0 h.2
 
-module _ {K V A S F P : Type 0} (cmp : K → K → Ordering) (gives : F → K → V → Option V → Type 0) (tests : P → Bor K → Bor V → Bool → P → Type 0) where
-  pub same_refused : (call : Call K V F P A) (m : Contents K V S) → CallRefused cmp gives tests call m m
+module _ {K V A S F P : Type 0} (cmp : K → K → Ordering) where
+  pub same_refused : (call : Call K V S F P A) (m : Contents K V S) → CallRefused cmp call m m
   same_refused (Reserve a) m = (refl, refl)
   same_refused (Extend list) m = ([], list.items, refl, refl, refl)
   same_refused (Get k) m = refl
@@ -108,6 +108,12 @@ module _ {K V A S F P : Type 0} (cmp : K → K → Ordering) (gives : F → K �
   same_refused Len m = refl
   same_refused IsEmpty m = refl
   same_refused Capacity m = refl
+  same_refused (ShapeOf h) m = refl
+  same_refused Pairs m = refl
+  same_refused Keys m = refl
+  same_refused Values m = refl
+  same_refused (Equals other) m = refl
+  same_refused TryClone m = refl
   same_refused (Insert k v) m = refl
   same_refused (TryInsert k v) m = refl
   same_refused (ComputeIfPresent k f) m = refl

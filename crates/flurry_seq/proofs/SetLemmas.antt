@@ -1,5 +1,5 @@
 -- A set is the keys of a map.
-use Rattle.std.proofs.Common.{◌≡◌, Bool, true, false, cond, not, ◌&&◌, List, [], ◌∷◌, ◌++◌, Option, Some, None, is_some, option_map, Result, Ok, Err, refl, sym, ap, ◌∙◌, Ordering, Less, Equal, Greater}
+use Rattle.std.proofs.Common.{◌≡◌, ℕ, Bool, true, false, cond, not, ◌&&◌, List, [], ◌∷◌, ◌++◌, Option, Some, None, is_some, option_map, Result, Ok, Err, refl, sym, ap, ◌∙◌, Ordering, Less, Equal, Greater}
 use Rattle.std.specs.Prelude.{IsTrue, IsSome, ◌↔◌, is_none, is_ok, if◌then◌else◌}
 use Rattle.std.specs.Borrow.{Bor}
 use Rattle.std.specs.Ordering.{is_eq, eq_by_cmp}
@@ -22,7 +22,8 @@ use Rattle.flurry_seq.specs.SetContents.{SetContents, keys_in, set_contents}
 use Rattle.flurry_seq.specs.SetRetain.{CalledAtElement, RetainsElements}
 use Rattle.flurry_seq.specs.SetCalls.{SetCallRefused}
 use Rattle.flurry_seq.specs.declared.set_calls.SetCall.{SetCall}
-use Rattle.flurry_seq.specs.declared.set_calls.SetCall.TheVariants.{Contains, Get, Insert, Remove, Take, Retain, Len, IsEmpty, Clear, Reserve, Extend}
+use Rattle.flurry_seq.specs.declared.set_calls.SetCall.TheVariants.{Contains, Get, Insert, Remove, Take, Retain, Len, IsEmpty, Elements, IsDisjoint, IsSuperset, Equals, TryClone, Clear, Reserve, Extend}
+use Rattle.flurry_seq.specs.declared.set_calls.SetCall.TheVariants as call
 
 eq_of : (r : Ordering) → is_eq r ≡ true → r ≡ Equal
 eq_of Less e = cc
@@ -188,19 +189,30 @@ put_key {K} {V} {S} {X} {E} {cmp} o m n x v P Q r h s = by_value (value_at cmp m
       rw h.1 s,
     )
 
+-- what stays where an element is not new stays where its class is present
+pub stays_at_present : {X : Type 0} (o : Option X) (new : Bool) (m n : ℕ) → new ≡ is_none o → (IsTrue (not new) → n ≡ m) → IsSome o → n ≡ m
+stays_at_present None new m n e h some = let no = some in cc
+stays_at_present (Some x) new m n e h some = h (ap not e)
+
 -- a call that was refused may leave the set as it was
-pub same_set_refused : {T S P A : Type 0} (cmp : T → T → Ordering) (tests : P → Bor T → Bool → P → Type 0) (call : SetCall T P A) (s : SetContents T S) → SetCallRefused cmp tests call s s
-same_set_refused cmp tests (Extend list) s = ([], list.items, refl, refl, refl)
-same_set_refused cmp tests (Contains x) s = refl
-same_set_refused cmp tests (Get x) s = refl
-same_set_refused cmp tests (Insert x) s = refl
-same_set_refused cmp tests (Remove x) s = refl
-same_set_refused cmp tests (Take x) s = refl
-same_set_refused cmp tests (Retain p) s = refl
-same_set_refused cmp tests Len s = refl
-same_set_refused cmp tests IsEmpty s = refl
-same_set_refused cmp tests Clear s = refl
-same_set_refused cmp tests (Reserve a) s = (refl, refl)
+pub same_set_refused : {T S P A : Type 0} (cmp : T → T → Ordering) (call : SetCall T S P A) (s : SetContents T S) → SetCallRefused cmp call s s
+same_set_refused cmp (Extend list) s = ([], list.items, refl, refl, refl)
+same_set_refused cmp (Contains x) s = refl
+same_set_refused cmp (Get x) s = refl
+same_set_refused cmp (Insert x) s = refl
+same_set_refused cmp (Remove x) s = refl
+same_set_refused cmp (Take x) s = refl
+same_set_refused cmp (Retain p) s = refl
+same_set_refused cmp Len s = refl
+same_set_refused cmp IsEmpty s = refl
+same_set_refused cmp Elements s = refl
+same_set_refused cmp (IsDisjoint other) s = refl
+same_set_refused cmp (call.IsSubset other) s = refl
+same_set_refused cmp (IsSuperset other) s = refl
+same_set_refused cmp (Equals other) s = refl
+same_set_refused cmp TryClone s = refl
+same_set_refused cmp Clear s = refl
+same_set_refused cmp (Reserve a) s = (refl, refl)
 
 pub gathered_elements-keys : {K V : Type 0} {cmp : K → K → Ordering} (o : IsTotalOrder cmp) (ps : List (K × V)) → gathered_elements cmp (keys_of ps) ≡ keys_of (gathered cmp ps)
 gathered_elements-keys o [] = refl

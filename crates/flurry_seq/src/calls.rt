@@ -2,16 +2,21 @@
 ghost use Rattle.std.specs.Prelude.{◌≡◌, ◌++◌, ◌∷◌, List, Option, OnErr, IfOk};
 ghost use Rattle.std.specs.Borrow.{Bor};
 
+use crate::owners::{owner_of, owners_of_keys, owners_of_pair, owners_of_pairs, owners_of_values};
 use crate::seq_map::SeqMap;
-use flurry_bins::hash::KeyHasher;
+use flurry_bins::bin::Shape;
+use flurry_bins::hash::{DefaultHashBuilder, KeyHasher};
 use flurry_bins::table::TryInsertError;
 use std::alloc::{AllocError, Allocator, Global};
 use std::collections::VecDeque;
 use std::sync::Arc;
 
 /// A call of an owned map. `F` is the type of the function that `ComputeIfPresent` calls, and `P` that of the tests of `Retain`.
+///
+/// The constructors and [`SeqMap::from_list`] make the map that a list of calls begins with, and [`SeqMap::into_bins`] uses up the one
+/// that a list leaves, so none of these is a call on a map; every other public call of [`SeqMap`] is here.
 #[derive(Drop)]
-pub enum Call<K, V, F, P, A: Allocator = Global> {
+pub enum Call<K: Ord, V, S: KeyHasher<K>, F, P, A: Allocator = Global> {
     /// [`SeqMap::get`].
     Get(K),
     /// [`SeqMap::get_key_value`].
@@ -24,6 +29,18 @@ pub enum Call<K, V, F, P, A: Allocator = Global> {
     IsEmpty,
     /// [`SeqMap::capacity`].
     Capacity,
+    /// [`SeqMap::shape_of`].
+    ShapeOf(u64),
+    /// [`SeqMap::iter`], to its end.
+    Pairs,
+    /// [`SeqMap::keys`], to its end.
+    Keys,
+    /// [`SeqMap::values`], to its end.
+    Values,
+    /// `==` with another map, which is dropped.
+    Equals(SeqMap<K, V, S, A>),
+    /// [`SeqMap::try_clone`].
+    TryClone,
     /// [`SeqMap::insert`].
     Insert(K, V),
     /// [`SeqMap::try_insert`].
@@ -48,7 +65,7 @@ pub enum Call<K, V, F, P, A: Allocator = Global> {
 
 /// What a call replied. It has further owners of what the map lends.
 #[derive(Drop)]
-pub enum Reply<K, V, A: Allocator = Global> {
+pub enum Reply<K: Ord, V, S: KeyHasher<K> = DefaultHashBuilder, A: Allocator = Global> {
     /// A value, or none.
     Value(Option<Arc<V, A>>),
     /// A stored key and its value, or none.
@@ -61,6 +78,16 @@ pub enum Reply<K, V, A: Allocator = Global> {
     Exists(TryInsertError<V, A>),
     /// A number of pairs or of bins.
     Number(usize),
+    /// The shape of a bin.
+    Shape(Shape),
+    /// All pairs, each once, in the order of the iterator.
+    Pairs(Vec<(Arc<K, A>, Arc<V, A>), A>),
+    /// All stored keys, one of each class, in the order of the iterator.
+    Keys(Vec<Arc<K, A>, A>),
+    /// All values, one of each pair, in the order of the iterator.
+    Values(Vec<Arc<V, A>, A>),
+    /// A further map.
+    Map(SeqMap<K, V, S, A>),
     /// A call that answers nothing was done.
     Done,
 }
@@ -79,34 +106,35 @@ impl<K: Ord + Drop, V: Drop, S: KeyHasher<K>, A: Allocator + Copy> SeqMap<K, V, 
     /// [`AllocError`], where the call was refused, or a further owner of what it answers.
     pub fn call<F: FnOnce(&K, &V) -> Option<V>, P: FnMut(&K, &V) -> bool>(
         &mut self,
-        call: Call<K, V, F, P, A>,
-    ) -> Result<Reply<K, V, A>, AllocError>
+        call: Call<K, V, S, F, P, A>,
+    ) -> Result<Reply<K, V, S, A>, AllocError>
     where
+        V: PartialEq,
+        S: Copy + Drop,
         F: Drop,
         P: Drop,
         requires computes { (f : F) → F.IsAlwaysCallable f }
         requires tests { (p : P) → P.IsAlwaysCallable p }
-        ensures ok { IfOk result (λ reply. CallAnswers K.cmp
+        ensures ok { IfOk result (λ reply. CallAnswers K.cmp V.eq S.hash_of
             (λ f k v o. (x : Bor K) × (y : Bor V) × (x.now ≡ k) × (y.now ≡ v) × F.post f x y o) P.step call self.old reply self.new) }
-        ensures err { OnErr result (CallRefused K.cmp
-            (λ f k v o. (x : Bor K) × (y : Bor V) × (x.now ≡ k) × (y.now ≡ v) × F.post f x y o) P.step call self.old self.new) }
+        ensures err { OnErr result (CallRefused K.cmp call self.old self.new) }
     {
         match call {
-            Call::Get(key) => match self.get(&key) {
-                Some(value) => Ok(Reply::Value(Some(Arc::try_clone(value)?))),
-                None => Ok(Reply::Value(None)),
-            },
-            Call::GetKeyValue(key) => match self.get_key_value(&key) {
-                Some((key, value)) => {
-                    let pair = (Arc::try_clone(key)?, Arc::try_clone(value)?);
-                    Ok(Reply::Pair(Some(pair)))
-                }
-                None => Ok(Reply::Pair(None)),
-            },
+            Call::Get(key) => Ok(Reply::Value(owner_of(self.get(&key))?)),
+            Call::GetKeyValue(key) => Ok(Reply::Pair(owners_of_pair(self.get_key_value(&key))?)),
             Call::ContainsKey(key) => Ok(Reply::Truth(self.contains_key(&key))),
             Call::Len => Ok(Reply::Number(self.len())),
             Call::IsEmpty => Ok(Reply::Truth(self.is_empty())),
             Call::Capacity => Ok(Reply::Number(self.capacity())),
+            Call::ShapeOf(hash) => Ok(Reply::Shape(self.shape_of(hash))),
+            Call::Pairs => Ok(Reply::Pairs(owners_of_pairs(*self.table.allocator(), self.iter())?)),
+            Call::Keys => Ok(Reply::Keys(owners_of_keys(*self.table.allocator(), self.keys())?)),
+            Call::Values => Ok(Reply::Values(owners_of_values(
+                *self.table.allocator(),
+                self.values(),
+            )?)),
+            Call::Equals(other) => Ok(Reply::Truth(*self == other)),
+            Call::TryClone => Ok(Reply::Map(self.try_clone()?)),
             Call::Insert(key, value) => Ok(Reply::Value(self.insert(key, value)?)),
             Call::TryInsert(key, value) => match self.try_insert(key, value)? {
                 Ok(value) => Ok(Reply::New(value)),
@@ -146,20 +174,21 @@ impl<K: Ord + Drop, V: Drop, S: KeyHasher<K>, A: Allocator + Copy> SeqMap<K, V, 
     pub fn run<F: FnOnce(&K, &V) -> Option<V>, P: FnMut(&K, &V) -> bool>(
         &mut self,
         alloc: A,
-        mut calls: VecDeque<Call<K, V, F, P, A>, A>,
-    ) -> Result<Vec<Reply<K, V, A>, A>, AllocError>
+        mut calls: VecDeque<Call<K, V, S, F, P, A>, A>,
+    ) -> Result<Vec<Reply<K, V, S, A>, A>, AllocError>
     where
+        V: PartialEq,
+        S: Copy + Drop,
         F: Drop,
         P: Drop,
         requires computes { (f : F) → F.IsAlwaysCallable f }
         requires tests { (p : P) → P.IsAlwaysCallable p }
-        ensures ok { IfOk result (λ replies. RunsTo (CallAnswers K.cmp
+        ensures ok { IfOk result (λ replies. RunsTo (CallAnswers K.cmp V.eq S.hash_of
             (λ f k v o. (x : Bor K) × (y : Bor V) × (x.now ≡ k) × (y.now ≡ v) × F.post f x y o) P.step)
             calls.items self.old replies.items self.new) }
         ensures err { OnErr result (EndsEarly
-            (CallAnswers K.cmp (λ f k v o. (x : Bor K) × (y : Bor V) × (x.now ≡ k) × (y.now ≡ v) × F.post f x y o) P.step)
-            (CallRefused K.cmp (λ f k v o. (x : Bor K) × (y : Bor V) × (x.now ≡ k) × (y.now ≡ v) × F.post f x y o) P.step)
-            calls.items self.old self.new) }
+            (CallAnswers K.cmp V.eq S.hash_of (λ f k v o. (x : Bor K) × (y : Bor V) × (x.now ≡ k) × (y.now ≡ v) × F.post f x y o) P.step)
+            (CallRefused K.cmp) calls.items self.old self.new) }
     {
         let mut replies = Vec::with_capacity(alloc, calls.len())?;
         while let Some(call) = calls.pop_front() {

@@ -10,6 +10,7 @@ pub mod calls;
 mod clone;
 mod equality;
 pub mod iter;
+mod owners;
 pub mod seq_map;
 pub mod seq_set;
 pub mod set_calls;

@@ -76,6 +76,10 @@ impl<T: Ord + Drop, S: KeyHasher<T>, A: Allocator> SeqSet<T, S, A> {
         }
     }
 
+    pub(crate) fn allocator(&self) -> &A {
+        self.map.table.allocator()
+    }
+
     /// The number of elements.
     ///
     /// Constant time.

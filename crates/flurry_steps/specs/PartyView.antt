@@ -10,6 +10,8 @@ use Rattle.flurry_steps.specs.declared.party.call.Key.{Key}
 use Rattle.flurry_steps.specs.declared.party.call.Key.TheVariants as key
 use Rattle.flurry_steps.specs.declared.party.call.Call.{Call}
 use Rattle.flurry_steps.specs.declared.party.call.Call.TheVariants as call
+use Rattle.flurry_steps.specs.declared.party.call.KeptCall.{KeptCall}
+use Rattle.flurry_steps.specs.declared.party.call.KeptCall.TheVariants as kept_call
 use Rattle.flurry_steps.specs.declared.party.call.Sought.{Sought}
 use Rattle.flurry_steps.specs.declared.party.call.Sought.TheVariants as sought
 use Rattle.flurry_steps.specs.declared.party.call.Task.{Task}
@@ -76,6 +78,18 @@ module _ {K V F : Type 0} where
   first_stage (call.Compute k f) = abstract.AtLocate (abstract.Computes k.now f)
   first_stage (call.Reserve a) = abstract.AtReserve a
 
+  -- and of a call that has its key
+  abbrev pub kept_stage : KeptCall K V F → abstract.Stage K V F
+  kept_stage (kept_call.Get k) = abstract.AtLocate (abstract.Finds abstract.TheValue k)
+  kept_stage (kept_call.GetKeyValue k) = abstract.AtLocate (abstract.Finds abstract.ThePair k)
+  kept_stage (kept_call.ContainsKey k) = abstract.AtLocate (abstract.Finds abstract.Presence k)
+  kept_stage (kept_call.Remove k) = abstract.AtLocate (abstract.Removes abstract.TheValue k)
+  kept_stage (kept_call.RemoveEntry k) = abstract.AtLocate (abstract.Removes abstract.ThePair k)
+  kept_stage (kept_call.Insert k v) = abstract.AtLocate (abstract.Inserts k v)
+  kept_stage (kept_call.TryInsert k v) = abstract.AtLocate (abstract.Adds k v)
+  kept_stage (kept_call.Compute k f) = abstract.AtLocate (abstract.Computes k f)
+  kept_stage (kept_call.Reserve a) = abstract.AtReserve a
+
   -- its function, if it has one, may be called
   abbrev pub CallIsReady : (F → Type 0) → Call K V F → Type 0
   CallIsReady ready (call.Get k) = ⊤
@@ -87,6 +101,17 @@ module _ {K V F : Type 0} where
   CallIsReady ready (call.TryInsert k v) = ⊤
   CallIsReady ready (call.Compute k f) = ready f
   CallIsReady ready (call.Reserve a) = ⊤
+
+  abbrev pub KeptIsReady : (F → Type 0) → KeptCall K V F → Type 0
+  KeptIsReady ready (kept_call.Get k) = ⊤
+  KeptIsReady ready (kept_call.GetKeyValue k) = ⊤
+  KeptIsReady ready (kept_call.ContainsKey k) = ⊤
+  KeptIsReady ready (kept_call.Remove k) = ⊤
+  KeptIsReady ready (kept_call.RemoveEntry k) = ⊤
+  KeptIsReady ready (kept_call.Insert k v) = ⊤
+  KeptIsReady ready (kept_call.TryInsert k v) = ⊤
+  KeptIsReady ready (kept_call.Compute k f) = ready f
+  KeptIsReady ready (kept_call.Reserve a) = ⊤
 
 module _ {K V A : Type 0} where
   abbrev pub growing_of : Growing K V A → abstract.Growing K V

@@ -8,7 +8,7 @@ ghost use Rattle.flurry_slots.specs.Slot.{IsSlot, IsUnborn};
 ghost use Rattle.flurry_steps.specs.Party.{Course, locates, started, wanted_part, with_stage, said_in, done_with, steps_left, LookPart, BinPart, MovePart, ControlPart, AtTaken, AtLocate, TaskIsReady};
 ghost use Rattle.flurry_steps.specs.PartyControl.{ControlStep};
 ghost use Rattle.flurry_steps.specs.PartySlots.{SlotStep, MoveStep};
-ghost use Rattle.flurry_steps.specs.PartyView.{part_of_want, first_stage, said_of, task_of, CallIsReady};
+ghost use Rattle.flurry_steps.specs.PartyView.{part_of_want, first_stage, kept_stage, said_of, task_of, CallIsReady, KeptIsReady};
 
 mod at_control;
 mod at_slot;
@@ -19,8 +19,8 @@ mod stage;
 use crate::control::{Control, Room, Start};
 use at_control::controlled;
 use at_slot::{changed, looked};
-pub use call::Call;
 use call::{Key, Sought, Task};
+pub use call::{Call, KeptCall};
 use flurry_bins::table::bin_index;
 use flurry_slots::{Change, MoveAnswer, Slot};
 pub use reply::Reply;
@@ -114,8 +114,35 @@ impl<'k, K: Drop, V: Drop, F: Change<K, V>, A: Allocator> Party<'k, K, V, F, A> 
         Party::of_task(task, hash, processors)
     }
 
-    // The same of a call of one key, whose key may be its own.
-    pub(crate) fn of_task(task: Task<'k, K, V, F>, hash: u64, processors: usize) -> Self
+    /// The same of a call that has its key.
+    ///
+    /// Constant time; takes no memory.
+    pub fn kept(call: KeptCall<K, V, F>, hash: u64, processors: usize) -> Self
+        requires { KeptIsReady F.can_change call }
+        ensures { result ≡ record { hash = hash; processors = processors; stage = kept_stage call } }
+    {
+        let task = match call {
+            KeptCall::Get(key) => Task::Find(Sought::Value, Key::Own(key)),
+            KeptCall::GetKeyValue(key) => Task::Find(Sought::Pair, Key::Own(key)),
+            KeptCall::ContainsKey(key) => Task::Find(Sought::Presence, Key::Own(key)),
+            KeptCall::Remove(key) => Task::Remove(Sought::Value, Key::Own(key)),
+            KeptCall::RemoveEntry(key) => Task::Remove(Sought::Pair, Key::Own(key)),
+            KeptCall::Insert(key, value) => Task::Insert(key, value),
+            KeptCall::TryInsert(key, value) => Task::Add(key, value),
+            KeptCall::Compute(key, f) => Task::Compute(Key::Own(key), f),
+            KeptCall::Reserve(more) => {
+                return Party {
+                    hash,
+                    processors,
+                    stage: Stage::Reserve(more),
+                };
+            }
+        };
+        Party::of_task(task, hash, processors)
+    }
+
+    // The same of a call of one key.
+    fn of_task(task: Task<'k, K, V, F>, hash: u64, processors: usize) -> Self
         requires { TaskIsReady F.can_change (task_of task) }
         ensures { result ≡ record { hash = hash; processors = processors; stage = AtLocate (task_of task.entry) } }
     {

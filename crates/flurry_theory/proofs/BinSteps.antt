@@ -10,8 +10,8 @@ use Rattle.flurry_theory.specs.Map.{same, find, write, Allows}
 use Rattle.flurry_theory.specs.Bin.{place, rewrite, leave_out, write_entry, bin_after, number_of, bump, has_number, Entry, pairs_of, order, Above, Ascending}
 use Rattle.flurry_theory.specs.declared.Call.{Call}
 use Rattle.flurry_theory.specs.declared.Call.TheVariants.{Get, GetKeyValue, ContainsKey, Insert, TryInsert, Compute, Remove, RemoveEntry, RemoveSeen, Reserve, Clear, Walk}
-use Rattle.flurry_theory.specs.declared.Reply.{Reply}
-use Rattle.flurry_theory.specs.declared.Reply.TheVariants.{Value, Pair, Contains, New, Exists}
+use Rattle.flurry_bins.specs.declared.table.reply.KeptReply.{KeptReply}
+use Rattle.flurry_bins.specs.declared.table.reply.KeptReply.TheVariants.{Value, Pair, Contains, New, Exists}
 use Rattle.flurry_theory.specs.Machine.{BinDid}
 use Rattle.flurry_theory.specs.Legal.{removes}
 use Rattle.flurry_theory.specs.declared.Seen.{Seen}
@@ -150,7 +150,7 @@ module _ {K V : Type 0} (cmp : K → K → Ordering) (total : IsTotalOrder cmp) 
     try_did k v w es n s a q = go (find cmp (pairs_of es) k) refl
       where
         go : (o : Option (K × V)) → find cmp (pairs_of es) k ≡ o → BinDid cmp hash gives (TryInsert k v) (New w) es n (place cmp hash (record { key = k; value = v; number = bump n }) es) (bump n)
-        go (Some x) e = absurd (grind (arith, subst (λ o. MatchOption o (◌≡◌ {A = Reply K V} (New w) (New v)) (λ x. ◌≡◌ {A = Reply K V} (New w) (Exists x.1 v))) e a))
+        go (Some x) e = absurd (grind (arith, subst (λ o. MatchOption o (◌≡◌ {A = KeptReply K V} (New w) (New v)) (λ x. ◌≡◌ {A = KeptReply K V} (New w) (Exists x.1 v))) e a))
         go None e =
             let h : number_of cmp es k ≡ None = grind (arith, e, number-find es k) in
             record {
@@ -168,7 +168,7 @@ module _ {K V : Type 0} (cmp : K → K → Ordering) (total : IsTotalOrder cmp) 
     compute_did k f w es n s a q = go (find cmp (pairs_of es) k) refl
       where
         go : (o : Option (K × V)) → find cmp (pairs_of es) k ≡ o → BinDid cmp hash gives (Compute k f) (Value (Some w)) es n (rewrite cmp hash k w (bump n) es) (bump n)
-        go None e = absurd (grind (arith, subst (λ o. MatchOption o (◌≡◌ {A = Reply K V} (Value (Some w)) (Value None)) (λ x. (u : Option V) × gives f x.0 x.1 u × (◌≡◌ {A = Reply K V} (Value (Some w)) (Value u)))) e a))
+        go None e = absurd (grind (arith, subst (λ o. MatchOption o (◌≡◌ {A = KeptReply K V} (Value (Some w)) (Value None)) (λ x. (u : Option V) × gives f x.0 x.1 u × (◌≡◌ {A = KeptReply K V} (Value (Some w)) (Value u)))) e a))
         go (Some x) e = record {
           allowed = a;
           ascending = ascending-rewrite k w (bump n) es s;
@@ -181,7 +181,7 @@ module _ {K V : Type 0} (cmp : K → K → Ordering) (total : IsTotalOrder cmp) 
         }
 
     -- each call does at a bin what the machine says
-    pub bin_did : (c : Call K V F) (r : Reply K V) (es : List (Entry K V)) (n : ℕ) → Ascending cmp hash es → Allows cmp gives c (pairs_of es) r → ((z : Seen K V) → c ≡ RemoveSeen z → removes cmp hash gives r ≡ has_number (number_of cmp es z.key) z.number) → BinDid cmp hash gives c r es n (bin_after cmp hash c r es n).0 (bin_after cmp hash c r es n).1
+    pub bin_did : (c : Call K V F) (r : KeptReply K V) (es : List (Entry K V)) (n : ℕ) → Ascending cmp hash es → Allows cmp gives c (pairs_of es) r → ((z : Seen K V) → c ≡ RemoveSeen z → removes cmp hash gives r ≡ has_number (number_of cmp es z.key) z.number) → BinDid cmp hash gives c r es n (bin_after cmp hash c r es n).0 (bin_after cmp hash c r es n).1
     bin_did (Insert k v) r es n s a q = record { allowed = a; ascending = ascending-write es k v (bump n) s; after = λ j. writes es k v (bump n) j; count = inr refl; other_numbers = λ i j h g. grind (arith, key_is h, g, number-write es k v (bump n) j); kept_numbers = λ h. absurd (grind (arith, h)); new_number = λ _ i h. inr (grind (arith, key_is h, number-write es k v (bump n) i, (one_class cmp total).refl i), refl); conditional = q }
     bin_did (TryInsert k v) (Value None) es n s a q = record { allowed = a; ascending = s; after = λ j. refl; count = inl refl; other_numbers = λ k j _ _. refl; kept_numbers = λ _ j. refl; new_number = λ h. absurd (grind (arith, h)); conditional = q }
     bin_did (TryInsert k v) (Value (Some w)) es n s a q = record { allowed = a; ascending = s; after = λ j. refl; count = inl refl; other_numbers = λ k j _ _. refl; kept_numbers = λ _ j. refl; new_number = λ h. absurd (grind (arith, h)); conditional = q }

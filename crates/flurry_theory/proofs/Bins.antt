@@ -14,8 +14,8 @@ use Rattle.flurry_theory.specs.Trace.{in_region}
 use Rattle.flurry_theory.specs.Bin.{Entry, pairs_of, order, past, first_past, Above, Ascending, InRegion, half}
 use Rattle.flurry_theory.specs.declared.Call.{Call}
 use Rattle.flurry_theory.specs.declared.Call.TheVariants.{Get, GetKeyValue, ContainsKey, Insert, TryInsert, Compute, Remove, RemoveEntry, RemoveSeen, Reserve, Clear, Walk}
-use Rattle.flurry_theory.specs.declared.Reply.{Reply}
-use Rattle.flurry_theory.specs.declared.Reply.TheVariants.{Value, Pair, Contains, New, Exists}
+use Rattle.flurry_bins.specs.declared.table.reply.KeptReply.{KeptReply}
+use Rattle.flurry_bins.specs.declared.table.reply.KeptReply.TheVariants.{Value, Pair, Contains, New, Exists}
 
 pub one_class : {K : Type 0} (cmp : K → K → Ordering) → IsTotalOrder cmp → IsEquivalence (same cmp)
 one_class cmp total = eq_by_cmp_equiv total
@@ -39,7 +39,7 @@ module _ {K V : Type 0} (cmp : K → K → Ordering) (total : IsTotalOrder cmp) 
   stored_class (x ∷ m) k = grind (arith, stored_class m k)
 
   -- what a call leaves hangs on what the map has at each class
-  pub find-after : {F : Type 0} (c : Call K V F) (r : Reply K V) (m n : Pairs K V) (j : K) → ((k : K) → key_of c ≡ Some k → find cmp m k ≡ find cmp n k) → find cmp m j ≡ find cmp n j → find cmp (after cmp c r m) j ≡ find cmp (after cmp c r n) j
+  pub find-after : {F : Type 0} (c : Call K V F) (r : KeptReply K V) (m n : Pairs K V) (j : K) → ((k : K) → key_of c ≡ Some k → find cmp m k ≡ find cmp n k) → find cmp m j ≡ find cmp n j → find cmp (after cmp c r m) j ≡ find cmp (after cmp c r n) j
   find-after (Insert k v) r m n j g h = grind (arith, h, g k refl, find-without m k j, find-without n k j)
   find-after (TryInsert k v) (New w) m n j g h = grind (arith, h, g k refl, find-without m k j, find-without n k j)
   find-after (TryInsert k v) (Value o) m n j g h = h
@@ -68,7 +68,7 @@ module _ {K V : Type 0} (cmp : K → K → Ordering) (total : IsTotalOrder cmp) 
   find-after Walk r m n j g h = h
 
   -- a call changes no class but its own
-  pub find-after_other : {F : Type 0} (c : Call K V F) (r : Reply K V) (m : Pairs K V) (k j : K) → key_of c ≡ Some k → same cmp k j ≡ false → find cmp (after cmp c r m) j ≡ find cmp m j
+  pub find-after_other : {F : Type 0} (c : Call K V F) (r : KeptReply K V) (m : Pairs K V) (k j : K) → key_of c ≡ Some k → same cmp k j ≡ false → find cmp (after cmp c r m) j ≡ find cmp m j
   find-after_other (Insert i v) r m k j e f = grind (arith, find-without m i j, (one_class cmp total).congr _ i j (stored_class m i), e, f)
   find-after_other (TryInsert i v) (New w) m k j e f = grind (arith, find-without m i j, e, f)
   find-after_other (TryInsert i v) (Value o) m k j e f = refl
@@ -112,7 +112,7 @@ module _ {K V : Type 0} (cmp : K → K → Ordering) (total : IsTotalOrder cmp) 
   CanBeRefused-same gives Walk m n k e h a = tt
 
   -- what may be replied hangs on what the map has at the key's class
-  pub Allows-same : {F : Type 0} (gives : F → K → V → Option V → Type 0) (c : Call K V F) (r : Reply K V) (m n : Pairs K V) (k : K) → key_of c ≡ Some k → find cmp m k ≡ find cmp n k → Allows cmp gives c m r → Allows cmp gives c n r
+  pub Allows-same : {F : Type 0} (gives : F → K → V → Option V → Type 0) (c : Call K V F) (r : KeptReply K V) (m n : Pairs K V) (k : K) → key_of c ≡ Some k → find cmp m k ≡ find cmp n k → Allows cmp gives c m r → Allows cmp gives c n r
   Allows-same gives (Get j) r m n k e h a = grind (arith, e, h, a)
   Allows-same gives (GetKeyValue j) r m n k e h a = grind (arith, e, h, a)
   Allows-same gives (ContainsKey j) r m n k e h a = grind (arith, e, h, a)

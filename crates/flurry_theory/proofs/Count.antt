@@ -12,8 +12,8 @@ use Rattle.flurry_theory.specs.Bin.{Entry, pairs_of, Ascending, InRegion}
 use Rattle.flurry_theory.proofs.Bins.{one_class, find-class, find-without, absent_below, absent_elsewhere}
 use Rattle.flurry_theory.specs.declared.Call.{Call}
 use Rattle.flurry_theory.specs.declared.Call.TheVariants.{Get, GetKeyValue, ContainsKey, Insert, TryInsert, Compute, Remove, RemoveEntry, RemoveSeen, Reserve, Clear, Walk}
-use Rattle.flurry_theory.specs.declared.Reply.{Reply}
-use Rattle.flurry_theory.specs.declared.Reply.TheVariants.{Value, Pair, Contains, New, Exists}
+use Rattle.flurry_bins.specs.declared.table.reply.KeptReply.{KeptReply}
+use Rattle.flurry_bins.specs.declared.table.reply.KeptReply.TheVariants.{Value, Pair, Contains, New, Exists}
 
 module _ {K V : Type 0} (cmp : K → K → Ordering) (total : IsTotalOrder cmp) where
   none-filter : (p : K × V → Bool) (m : Pairs K V) (k : K) → find cmp m k ≡ None → find cmp (filter p m) k ≡ None
@@ -64,7 +64,7 @@ module _ {K V : Type 0} (cmp : K → K → Ordering) (total : IsTotalOrder cmp) 
   fewer-without (x ∷ m) k = grind (arith, fewer-without m k)
 
   -- a call adds one pair at most
-  pub length-after : {F : Type 0} (c : Call K V F) (r : Reply K V) (m : Pairs K V) → length (after cmp c r m) ≤ suc (length m)
+  pub length-after : {F : Type 0} (c : Call K V F) (r : KeptReply K V) (m : Pairs K V) → length (after cmp c r m) ≤ suc (length m)
   length-after (Insert k v) r m = omega (arith, fewer-without m k)
   length-after (TryInsert k v) (Value o) m = omega arith
   length-after (TryInsert k v) (Pair o) m = omega arith
@@ -92,7 +92,7 @@ module _ {K V : Type 0} (cmp : K → K → Ordering) (total : IsTotalOrder cmp) 
   length-after Clear r m = omega arith
   length-after Walk r m = omega arith
 
-  pub unique-after : {F : Type 0} (c : Call K V F) (r : Reply K V) (m : Pairs K V) → Unique cmp m → Unique cmp (after cmp c r m)
+  pub unique-after : {F : Type 0} (c : Call K V F) (r : KeptReply K V) (m : Pairs K V) → Unique cmp m → Unique cmp (after cmp c r m)
   unique-after (Insert k v) r m u = unique-write m k v u
   unique-after (TryInsert k v) (Value None) m u = u
   unique-after (TryInsert k v) (Value (Some w)) m u = u

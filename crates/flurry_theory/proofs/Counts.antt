@@ -15,7 +15,7 @@ use Rattle.flurry_theory.proofs.Bins.{find-after_other, find-wiped}
 use Rattle.flurry_theory.proofs.Ranges.{place_here, place_other, total-change, total-same, total-zero}
 use Rattle.flurry_theory.proofs.Count.{length-after, unique-filter, unique-after, same_length, balance}
 use Rattle.flurry_theory.specs.declared.Call.{Call}
-use Rattle.flurry_theory.specs.declared.Reply.{Reply}
+use Rattle.flurry_bins.specs.declared.table.reply.KeptReply.{KeptReply}
 use Rattle.flurry_theory.specs.declared.Label.TheVariants.{Decide, Wipe}
 use Rattle.flurry_theory.proofs.Walks.{held}
 use Rattle.flurry_theory.proofs.Refusals.{refused_at_work}
@@ -81,7 +81,7 @@ module _ {K V F : Type 0} (cmp : K → K → Ordering) (total_order : IsTotalOrd
       let y : total (λ q. owes_removed (at_place s.mode p m q)) s.parties ≡ total (λ q. owes_removed (s.mode q)) s.parties = omega (arith, b, placed_owed owes_removed s.mode p s.parties m (known s p o f)) in
       (omega (arith, ints, v.balance, x, y), omega (arith, v.held, y), omega (arith, v.owed, x))
 
-  counts_counted : (s : State K V F) (p : ℕ) (r : Option (Reply K V)) (x y : ℕ) → Can cmp hash gives s p (Counts r x y) → PartyOk s p → Counted cmp hash s → Counted cmp hash (does cmp hash gives s p (Counts r x y))
+  counts_counted : (s : State K V F) (p : ℕ) (r : Option (KeptReply K V)) (x y : ℕ) → Can cmp hash gives s p (Counts r x y) → PartyOk s p → Counted cmp hash s → Counted cmp hash (does cmp hash gives s p (Counts r x y))
   counts_counted s p r x y can o v =
       let l : p < s.parties = known s p o (λ h. grind (arith, h, can.0)) in
       let more : total (λ q. owes_added (at_place s.mode p (Done r 0 0) q)) s.parties + x ≡ total (λ q. owes_added (s.mode q)) s.parties = omega (arith, ap owes_added can.0, placed_owed owes_added s.mode p s.parties (Done r 0 0) l) in
@@ -96,7 +96,7 @@ module _ {K V F : Type 0} (cmp : K → K → Ordering) (total_order : IsTotalOrd
     owed = omega (arith, v.owed, begun_owed owes_added s.mode p Locating refl, begun_owed owes_removed s.mode p Locating refl, ap (total (λ q. owes_added (s.mode q))) can.0, ap (total (λ q. owes_removed (s.mode q))) can.0);
   }
 
-  decides_counted : (home : ℕ → ℕ) (s : State K V F) (p : ℕ) (c : Call K V F) (k : K) (e : ℕ) (es : List (Entry K V)) (n : ℕ) (r : Reply K V) (fs : List (Entry K V)) (m : ℕ) → Can cmp hash gives s p (Decides c k e es n r fs m) → PartyOk s p → Tables cmp hash home s → Tables cmp hash home (does cmp hash gives s p (Decides c k e es n r fs m)) → Counted cmp hash s → Counted cmp hash (does cmp hash gives s p (Decides c k e es n r fs m))
+  decides_counted : (home : ℕ → ℕ) (s : State K V F) (p : ℕ) (c : Call K V F) (k : K) (e : ℕ) (es : List (Entry K V)) (n : ℕ) (r : KeptReply K V) (fs : List (Entry K V)) (m : ℕ) → Can cmp hash gives s p (Decides c k e es n r fs m) → PartyOk s p → Tables cmp hash home s → Tables cmp hash home (does cmp hash gives s p (Decides c k e es n r fs m)) → Counted cmp hash s → Counted cmp hash (does cmp hash gives s p (Decides c k e es n r fs m))
   decides_counted home s p c k e es n r fs m can o t t' v = record {
     unique = unique;
     balance = omega (arith, ints, v.balance, moves, ap owes_added can.2, ap owes_removed can.2, placed_owed owes_added s.mode p s.parties (Done (Some r) (length fs - length es) (length es - length fs)) l, placed_owed owes_removed s.mode p s.parties (Done (Some r) (length fs - length es) (length es - length fs)) l);
@@ -179,7 +179,7 @@ module _ {K V F : Type 0} (cmp : K → K → Ordering) (total_order : IsTotalOrd
           (λ j g. held cmp total_order hash lawful gives home (does cmp hash gives s p (Wipes wiped e i f fs es n)) f.table f.index [] n j t' now g)
           (λ j g. sym (find-wiped cmp total_order hash lawful f.table f.index (pairs cmp hash s.trace) j ∙ cond-false (in_region f.table f.index (hash j)) None (at cmp hash s.trace j) (ne_eqb _ _ g)))
 
-  empty_counted : (home : ℕ → ℕ) (s : State K V F) (p : ℕ) (c : Call K V F) (r : Reply K V) → Can cmp hash gives s p (DecidesEmpty c r) → PartyOk s p → Tables cmp hash home s → Tables cmp hash home (does cmp hash gives s p (DecidesEmpty c r)) → Counted cmp hash s → Counted cmp hash (does cmp hash gives s p (DecidesEmpty c r))
+  empty_counted : (home : ℕ → ℕ) (s : State K V F) (p : ℕ) (c : Call K V F) (r : KeptReply K V) → Can cmp hash gives s p (DecidesEmpty c r) → PartyOk s p → Tables cmp hash home s → Tables cmp hash home (does cmp hash gives s p (DecidesEmpty c r)) → Counted cmp hash s → Counted cmp hash (does cmp hash gives s p (DecidesEmpty c r))
   empty_counted home s p c r can o t t' v = record {
     unique = unique;
     balance = omega (arith, ints, same.0, same_length cmp total_order (pairs cmp hash s.trace) [] v.unique tt (t.empty can.2), same_length cmp total_order (pairs cmp hash (Decide p r ∷ s.trace)) [] unique tt (t'.empty can.2));

@@ -13,7 +13,7 @@ use Rattle.flurry_theory.proofs.Refusals.{refused_at_work}
 use Rattle.flurry_theory.specs.Legal.{CallMay, GrowthMay}
 use Rattle.flurry_theory.specs.declared.Call.{Call}
 use Rattle.flurry_theory.specs.declared.Call.TheVariants.{Clear, Walk}
-use Rattle.flurry_theory.specs.declared.Reply.{Reply}
+use Rattle.flurry_bins.specs.declared.table.reply.KeptReply.{KeptReply}
 use Rattle.flurry_theory.specs.declared.Label.TheVariants.{Refused}
 
 module _ {K V F : Type 0} (cmp : K → K → Ordering) (hash : K → ℕ) (gives : F → K → V → Option V → Type 0) where
@@ -115,7 +115,7 @@ module _ {K V F : Type 0} (cmp : K → K → Ordering) (hash : K → ℕ) (gives
 
   refused_lawful : (s : State K V F) (p : ℕ) → Can cmp hash gives s p IsRefused → PartyOk s p → AllowsNow s p IsRefused → CallMay cmp hash gives s.trace (Refused p)
   refused_lawful s p can o a =
-      let f : (s.mode p ≡ Finished → ⊥) × ((r : Reply K V) (a b : ℕ) → s.mode p ≡ Done (Some r) a b → ⊥) = refused_at_work cmp hash gives s p can in
+      let f : (s.mode p ≡ Finished → ⊥) × ((r : KeptReply K V) (a b : ℕ) → s.mode p ≡ Done (Some r) a b → ⊥) = refused_at_work cmp hash gives s p can in
       ((a.0, o.call ∙ a.1, a.2), o.undecided f.1 f.0, (o.going f.0).1)
 
   -- each label of a call is lawful

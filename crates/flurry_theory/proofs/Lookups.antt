@@ -15,7 +15,7 @@ use Rattle.flurry_theory.proofs.Tables.{same_some}
 use Rattle.flurry_theory.proofs.Own.{next_mode, next_call, mode_after, call_after}
 use Rattle.flurry_theory.specs.declared.Call.{Call}
 use Rattle.flurry_theory.specs.declared.Call.TheVariants.{Get, GetKeyValue, ContainsKey, Insert, TryInsert, Compute, Remove, RemoveEntry, RemoveSeen, Reserve, Clear, Walk}
-use Rattle.flurry_theory.specs.declared.Reply.{Reply}
+use Rattle.flurry_bins.specs.declared.table.reply.KeptReply.{KeptReply}
 
 module _ {K V F : Type 0} (cmp : K → K → Ordering) (total : IsTotalOrder cmp) (hash : K → ℕ) (lawful : (j k : K) → same cmp j k ≡ true → hash j ≡ hash k) (gives : F → K → V → Option V → Type 0) where
   -- a look-up has a key, and goes on where it found a table
@@ -155,7 +155,7 @@ module _ {K V F : Type 0} (cmp : K → K → Ordering) (total : IsTotalOrder cmp
       go (Done (Some r) x y) e = absurd (grind (arith, d, o.decided r x y e))
       go Finished e = absurd (over (o.finished e (lookup_begun (s.call p) h)))
 
-  next_reply : (s : State K V F) (p : ℕ) → PartyOk s p → is_lookup (s.call p) ≡ true → (r : Reply K V) → decision s.trace p ≡ Some r → replied s.trace p ≡ false → (l : Line K V F) → Can cmp hash gives s p l → l ≡ Replies r
+  next_reply : (s : State K V F) (p : ℕ) → PartyOk s p → is_lookup (s.call p) ≡ true → (r : KeptReply K V) → decision s.trace p ≡ Some r → replied s.trace p ≡ false → (l : Line K V F) → Can cmp hash gives s p l → l ≡ Replies r
   next_reply s p o h r d rp (Begins c y) can = absurd (grind (arith, h, (o.unknown (omega (arith, can.0))).0))
   next_reply s p o h r d rp Quiet can = absurd (over (o.finished (can h) (lookup_begun (s.call p) h)))
     where

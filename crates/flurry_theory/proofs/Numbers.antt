@@ -20,7 +20,7 @@ use Rattle.flurry_theory.specs.Legal.{touches, changed_by, is_class, changes, re
 use Rattle.flurry_theory.specs.declared.Seen.{Seen}
 use Rattle.flurry_theory.specs.declared.Call.{Call}
 use Rattle.flurry_theory.specs.declared.Call.TheVariants.{RemoveSeen}
-use Rattle.flurry_theory.specs.declared.Reply.{Reply}
+use Rattle.flurry_bins.specs.declared.table.reply.KeptReply.{KeptReply}
 use Rattle.flurry_theory.specs.declared.Label.{Label}
 use Rattle.flurry_theory.specs.declared.Label.TheVariants.{Begin, Decide, Wipe, Refused, Read, End, Opened, Placed, Published, Silent, Moved as MovedBin, Reply as Replied}
 
@@ -62,10 +62,10 @@ module _ {K V F : Type 0} (cmp : K → K → Ordering) (total : IsTotalOrder cmp
     kept : (k : K) → touches cmp hash gives t l k ≡ false → number' k ≡ number k
     new : (k : K) → touches cmp hash gives t l k ≡ true → (number' k ≡ None) ⊎ ((number' k ≡ Some (writes' k)) × (writes' k ≡ bump (writes k)))
 
-  touch_decide : (s : State K V F) (p : ℕ) (c : Call K V F) (k : K) (r : Reply K V) (j : K) → PartyOk s p → s.call p ≡ Some c → key_of c ≡ Some k → touches cmp hash gives s.trace (Decide p r) j ≡ (changes cmp hash gives c r && same cmp k j)
+  touch_decide : (s : State K V F) (p : ℕ) (c : Call K V F) (k : K) (r : KeptReply K V) (j : K) → PartyOk s p → s.call p ≡ Some c → key_of c ≡ Some k → touches cmp hash gives s.trace (Decide p r) j ≡ (changes cmp hash gives c r && same cmp k j)
   touch_decide s p c k r j o h e = ap (λ b. changed_by cmp hash gives b r j) (o.call ∙ h) ∙ ap (λ b. changes cmp hash gives c r && is_class cmp hash gives b j) e
 
-  decides_change : (home : ℕ → ℕ) (s : State K V F) (p : ℕ) (c : Call K V F) (k : K) (e : ℕ) (es : List (Entry K V)) (n : ℕ) (r : Reply K V) (fs : List (Entry K V)) (m : ℕ) → Can cmp hash gives s p (Decides c k e es n r fs m) → PartyOk s p → Tables cmp hash home s
+  decides_change : (home : ℕ → ℕ) (s : State K V F) (p : ℕ) (c : Call K V F) (k : K) (e : ℕ) (es : List (Entry K V)) (n : ℕ) (r : KeptReply K V) (fs : List (Entry K V)) (m : ℕ) → Can cmp hash gives s p (Decides c k e es n r fs m) → PartyOk s p → Tables cmp hash home s
       → Change s.trace (Decide p r) (number_at cmp hash gives home s) (number_at cmp hash gives home (does cmp hash gives s p (Decides c k e es n r fs m))) (writes_at cmp hash gives home s) (writes_at cmp hash gives home (does cmp hash gives s p (Decides c k e es n r fs m)))
   decides_change home s p c k e es n r fs m can o t = record {
     grows = λ j. grind (arith, place j, can.4, can.5.count, bump_rises n);
@@ -298,7 +298,7 @@ module _ {K V F : Type 0} (cmp : K → K → Ordering) (total : IsTotalOrder cmp
   untouched_removed : (b : Bool) (z : Seen K V) (number : Option ℕ) (writes : ℕ) → writes < 2 ^ 64 - 1 → Judged cmp hash gives b z number writes → b ≡ true → has_number number z.number ≡ true
   untouched_removed b z number writes l j h = rw (j.same_number h) (grind (arith, j.known, l, eq-eqb, lt-ltb))
 
-  removal : (home : ℕ → ℕ) (s : State K V F) (p : ℕ) (c : Call K V F) (k : K) (e : ℕ) (es : List (Entry K V)) (n : ℕ) (r : Reply K V) (fs : List (Entry K V)) (m w : ℕ) → Can cmp hash gives s p (Decides c k e es n r fs m) → PartyOk s p → Tables cmp hash home s → Origins s → Numbers cmp hash gives home s
+  removal : (home : ℕ → ℕ) (s : State K V F) (p : ℕ) (c : Call K V F) (k : K) (e : ℕ) (es : List (Entry K V)) (n : ℕ) (r : KeptReply K V) (fs : List (Entry K V)) (m w : ℕ) → Can cmp hash gives s p (Decides c k e es n r fs m) → PartyOk s p → Tables cmp hash home s → Origins s → Numbers cmp hash gives home s
       → s.began_from p ≡ Some w → (x : K × V) × (read_before s.trace p w ≡ Some x) × (removes cmp hash gives r ≡ true → untouched_for cmp hash gives s.trace p w x.0 ≡ true) × (length s.trace < 2 ^ 62 → untouched_for cmp hash gives s.trace p w x.0 ≡ true → removes cmp hash gives r ≡ true)
   removal home s p c k e es n r fs m w can o t u v b =
       let z : (z : Seen K V) × (s.call p ≡ Some (RemoveSeen z)) = u.origin p w b in
@@ -313,7 +313,7 @@ module _ {K V F : Type 0} (cmp : K → K → Ordering) (total : IsTotalOrder cmp
         λ short h. found ∙ untouched_removed (untouched_for cmp hash gives s.trace p w z.0.key) z.0 (number_at cmp hash gives home s z.0.key) (writes_at cmp hash gives home s z.0.key) (omega (arith, v.small z.0.key, short)) judged h,
       )
 
-  empty_removal : (home : ℕ → ℕ) (s : State K V F) (p : ℕ) (c : Call K V F) (r : Reply K V) (w : ℕ) → Can cmp hash gives s p (DecidesEmpty c r) → PartyOk s p → Tables cmp hash home s → Origins s → Numbers cmp hash gives home s
+  empty_removal : (home : ℕ → ℕ) (s : State K V F) (p : ℕ) (c : Call K V F) (r : KeptReply K V) (w : ℕ) → Can cmp hash gives s p (DecidesEmpty c r) → PartyOk s p → Tables cmp hash home s → Origins s → Numbers cmp hash gives home s
       → s.began_from p ≡ Some w → (x : K × V) × (read_before s.trace p w ≡ Some x) × (removes cmp hash gives r ≡ true → untouched_for cmp hash gives s.trace p w x.0 ≡ true) × (length s.trace < 2 ^ 62 → untouched_for cmp hash gives s.trace p w x.0 ≡ true → removes cmp hash gives r ≡ true)
   empty_removal home s p c r w can o t u v b =
       let z : (z : Seen K V) × (s.call p ≡ Some (RemoveSeen z)) = u.origin p w b in
@@ -322,7 +322,7 @@ module _ {K V F : Type 0} (cmp : K → K → Ordering) (total : IsTotalOrder cmp
       let found : removes cmp hash gives r ≡ false = nothing_removed z.0 r (subst (λ c. Allows cmp gives c [] r) is can.4) in
       (pair_seen z.0, u.before p w z.0 b z.1, λ h. absurd (grind (arith, found, h)), λ short h. absurd (grind (arith, none, (v.pending p w z.0 b z.1).same_number h)))
     where
-      nothing_removed : (z : Seen K V) (r : Reply K V) → Allows cmp gives (RemoveSeen z) [] r → removes cmp hash gives r ≡ false
+      nothing_removed : (z : Seen K V) (r : KeptReply K V) → Allows cmp gives (RemoveSeen z) [] r → removes cmp hash gives r ≡ false
       nothing_removed z r (inl h) = ap (removes cmp hash gives) h
       nothing_removed z r (inr h) = ap (removes cmp hash gives) h
 

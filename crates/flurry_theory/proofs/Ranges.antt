@@ -11,7 +11,7 @@ use Rattle.flurry_theory.specs.Invariant.{PartyOk, Tables, size, holds, Cut}
 use Rattle.flurry_theory.proofs.Bins.{small_mod}
 use Rattle.flurry_theory.specs.declared.Call.{Call}
 use Rattle.flurry_theory.specs.declared.Call.TheVariants.{Get, GetKeyValue, ContainsKey, Insert, TryInsert, Compute, Remove, RemoveEntry, RemoveSeen, Reserve, Clear, Walk}
-use Rattle.flurry_theory.specs.declared.Reply.{Reply}
+use Rattle.flurry_bins.specs.declared.table.reply.KeptReply.{KeptReply}
 
 pub place_here : {X : Type 0} (f : ℕ → X) (p : ℕ) (x : X) → at_place f p x p ≡ x
 place_here f p x = grind (arith, eq-eqb p p refl)
@@ -168,7 +168,7 @@ module _ {K V F : Type 0} (cmp : K → K → Ordering) (hash : K → ℕ) (gives
     growth_limit = λ d z h y. grind (arith, y, can.3, u.made z);
   }
 
-  cut_decides : (home : ℕ → ℕ) (s : State K V F) (p : ℕ) (c : Call K V F) (k : K) (e : ℕ) (es : List (Entry K V)) (n : ℕ) (r : Reply K V) (fs : List (Entry K V)) (m : ℕ) → Can cmp hash gives s p (Decides c k e es n r fs m) → ((q : ℕ) → PartyOk s q) → Tables cmp hash home s → Cut s → Cut (does cmp hash gives s p (Decides c k e es n r fs m))
+  cut_decides : (home : ℕ → ℕ) (s : State K V F) (p : ℕ) (c : Call K V F) (k : K) (e : ℕ) (es : List (Entry K V)) (n : ℕ) (r : KeptReply K V) (fs : List (Entry K V)) (m : ℕ) → Can cmp hash gives s p (Decides c k e es n r fs m) → ((q : ℕ) → PartyOk s q) → Tables cmp hash home s → Cut s → Cut (does cmp hash gives s p (Decides c k e es n r fs m))
   cut_decides home s p c k e es n r fs m can o t u = record {
     made = u.made;
     idle = u.idle;

@@ -13,11 +13,11 @@ use Rattle.flurry_theory.proofs.Tables.{same_some}
 use Rattle.flurry_theory.proofs.Walks.{held}
 use Rattle.flurry_theory.specs.declared.Call.{Call}
 use Rattle.flurry_theory.specs.declared.Call.TheVariants.{Get, GetKeyValue, ContainsKey, Insert, TryInsert, Compute, Remove, RemoveEntry, RemoveSeen, Reserve, Clear, Walk}
-use Rattle.flurry_theory.specs.declared.Reply.{Reply}
+use Rattle.flurry_bins.specs.declared.table.reply.KeptReply.{KeptReply}
 
 module _ {K V F : Type 0} (cmp : K → K → Ordering) (hash : K → ℕ) (gives : F → K → V → Option V → Type 0) where
   -- a party that is refused is neither finished nor decided
-  at_work : (s : State K V F) (c : Call K V F) (m : Mode K V) → RefusedAt cmp hash gives s c m → (m ≡ Finished → ⊥) × ((r : Reply K V) (a b : ℕ) → m ≡ Done (Some r) a b → ⊥)
+  at_work : (s : State K V F) (c : Call K V F) (m : Mode K V) → RefusedAt cmp hash gives s c m → (m ≡ Finished → ⊥) × ((r : KeptReply K V) (a b : ℕ) → m ≡ Done (Some r) a b → ⊥)
   at_work s c Locating h = (λ e. grind (arith, e), λ r a b e. grind (arith, e))
   at_work s c (Looking d) h = (λ e. grind (arith, e), λ r a b e. grind (arith, e))
   at_work s c (Walking d i fs) h = (λ e. grind (arith, e), λ r a b e. grind (arith, e))
@@ -26,7 +26,7 @@ module _ {K V F : Type 0} (cmp : K → K → Ordering) (hash : K → ℕ) (gives
   at_work s c (Done (Some r) x y) h = absurd h
   at_work s c Finished h = absurd h
 
-  pub refused_at_work : (s : State K V F) (p : ℕ) → Can cmp hash gives s p IsRefused → (s.mode p ≡ Finished → ⊥) × ((r : Reply K V) (a b : ℕ) → s.mode p ≡ Done (Some r) a b → ⊥)
+  pub refused_at_work : (s : State K V F) (p : ℕ) → Can cmp hash gives s p IsRefused → (s.mode p ≡ Finished → ⊥) × ((r : KeptReply K V) (a b : ℕ) → s.mode p ≡ Done (Some r) a b → ⊥)
   refused_at_work s p can = at_work s can.0 (s.mode p) can.3
 
   -- a call that may open the first table may be refused

@@ -14,7 +14,7 @@ use Rattle.flurry_theory.proofs.Origins.{same_seen}
 use Rattle.flurry_theory.proofs.Tables.{same_some}
 use Rattle.flurry_theory.specs.declared.Seen.{Seen}
 use Rattle.flurry_theory.specs.declared.Call.TheVariants.{Get, Insert, RemoveSeen, Walk}
-use Rattle.flurry_theory.specs.declared.Reply.TheVariants.{Value}
+use Rattle.flurry_bins.specs.declared.table.reply.KeptReply.TheVariants.{Value}
 
 abbrev its_own : ℕ → ℕ
 its_own k = k

@@ -16,7 +16,7 @@ use Rattle.flurry_theory.proofs.Ranges.{all_moved}
 use Rattle.flurry_theory.specs.Legal.{HasRead, Lacked, WalkMay, ClearMay, IsWalk, IsClear}
 use Rattle.flurry_theory.specs.declared.Call.{Call}
 use Rattle.flurry_theory.specs.declared.Call.TheVariants.{Get, GetKeyValue, ContainsKey, Insert, TryInsert, Compute, Remove, RemoveEntry, RemoveSeen, Reserve, Clear, Walk}
-use Rattle.flurry_theory.specs.declared.Reply.{Reply}
+use Rattle.flurry_bins.specs.declared.table.reply.KeptReply.{KeptReply}
 use Rattle.flurry_theory.specs.declared.Label.TheVariants.{Decide, Refused, End, Opened, Placed, Published, Silent, Moved as MovedBin, Reply as Replied}
 use Rattle.flurry_theory.proofs.Calls.{party_ok}
 use Rattle.flurry_theory.proofs.Tables.{tables_ok}
@@ -172,7 +172,7 @@ module _ {K V F : Type 0} (cmp : K → K → Ordering) (total : IsTotalOrder cmp
   clears_lawful s p Ends can o g = clear_lawful s p can o g
 
   -- ALL OF IT
-  one_key_allows : (c : Call K V F) (m : Pairs K V) (r : Reply K V) → Allows cmp gives c m r → (k : K) × (key_of c ≡ Some k)
+  one_key_allows : (c : Call K V F) (m : Pairs K V) (r : KeptReply K V) → Allows cmp gives c m r → (k : K) × (key_of c ≡ Some k)
   one_key_allows (Get k) m r h = (k, refl)
   one_key_allows (GetKeyValue k) m r h = (k, refl)
   one_key_allows (ContainsKey k) m r h = (k, refl)

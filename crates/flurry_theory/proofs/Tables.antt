@@ -13,8 +13,8 @@ use Rattle.flurry_theory.specs.Invariant.{PartyOk, is_live, Tables, home_after}
 use Rattle.flurry_theory.proofs.Bins.{find-after, find-after_other, find-half, ascending-half, region-half, find-wiped, in_a_half, in_low_half, in_high_half, small_mod, high_mod, double}
 use Rattle.flurry_theory.specs.declared.Call.{Call}
 use Rattle.flurry_theory.specs.declared.Call.TheVariants.{Get, GetKeyValue, ContainsKey, Insert, TryInsert, Compute, Remove, RemoveEntry, RemoveSeen, Reserve, Clear, Walk}
-use Rattle.flurry_theory.specs.declared.Reply.{Reply}
-use Rattle.flurry_theory.specs.declared.Reply.TheVariants.{Value, Pair, Contains, New, Exists}
+use Rattle.flurry_bins.specs.declared.table.reply.KeptReply.{KeptReply}
+use Rattle.flurry_bins.specs.declared.table.reply.KeptReply.TheVariants.{Value, Pair, Contains, New, Exists}
 use Rattle.flurry_theory.specs.declared.Label.TheVariants.{Decide, Wipe}
 
 pub same_some : {X : Type 0} {x y : X} → Some x ≡ Some y → x ≡ y
@@ -123,7 +123,7 @@ module _ {K V F : Type 0} (cmp : K → K → Ordering) (total : IsTotalOrder cmp
         is_moved = λ d j. grind (arith, t.is_moved d j, u, eqb-true, eqb-false, and_parts, and_cases, eq-eqb, and_from, or_cases);
       }
 
-  empty_after : (c : Call K V F) (r : Reply K V) (k : K) → (Adds c → ⊥) → Allows cmp gives c [] r → find cmp (after cmp c r []) k ≡ None
+  empty_after : (c : Call K V F) (r : KeptReply K V) (k : K) → (Adds c → ⊥) → Allows cmp gives c [] r → find cmp (after cmp c r []) k ≡ None
   empty_after (Insert i v) r k h a = absurd (h tt)
   empty_after (TryInsert i v) r k h a = absurd (h tt)
   empty_after (Compute i g) (Value None) k h a = refl
@@ -148,10 +148,10 @@ module _ {K V F : Type 0} (cmp : K → K → Ordering) (total : IsTotalOrder cmp
   empty_after Walk r k h a = refl
 
   -- the map after a decision
-  at-decide : (s : State K V F) (p : ℕ) (c : Call K V F) (r : Reply K V) (k : K) → PartyOk s p → s.call p ≡ Some c → at cmp hash (Decide p r ∷ s.trace) k ≡ find cmp (after cmp c r (pairs cmp hash s.trace)) k
+  at-decide : (s : State K V F) (p : ℕ) (c : Call K V F) (r : KeptReply K V) (k : K) → PartyOk s p → s.call p ≡ Some c → at cmp hash (Decide p r ∷ s.trace) k ≡ find cmp (after cmp c r (pairs cmp hash s.trace)) k
   at-decide s p c r k o h = ap (λ u. find cmp (decided cmp hash u r (pairs cmp hash s.trace)) k) (o.call ∙ h)
 
-  decides_content : (home : ℕ → ℕ) (s : State K V F) (p : ℕ) (c : Call K V F) (k : K) (e : ℕ) (es : List (Entry K V)) (n : ℕ) (r : Reply K V) (fs : List (Entry K V)) (m : ℕ) → Can cmp hash gives s p (Decides c k e es n r fs m) → PartyOk s p → Tables cmp hash home s
+  decides_content : (home : ℕ → ℕ) (s : State K V F) (p : ℕ) (c : Call K V F) (k : K) (e : ℕ) (es : List (Entry K V)) (n : ℕ) (r : KeptReply K V) (fs : List (Entry K V)) (m : ℕ) → Can cmp hash gives s p (Decides c k e es n r fs m) → PartyOk s p → Tables cmp hash home s
       → (q : K) (gs : List (Entry K V)) (u : ℕ) → at_bin s.slot e (hash k % 2 ^ e) (Live fs m) (home (hash q)) (hash q % 2 ^ home (hash q)) ≡ Live gs u → find cmp (pairs_of gs) q ≡ at cmp hash (Decide p r ∷ s.trace) q
   decides_content home s p c k e es n r fs m can o t q gs u =
       let l : s.slot e (hash k % 2 ^ e) ≡ Live es n = can.4 in

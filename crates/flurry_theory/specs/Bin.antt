@@ -7,8 +7,8 @@ use Rattle.flurry_theory.specs.Map.{Pairs, same}
 use Rattle.flurry_theory.specs.Trace.{in_region}
 use Rattle.flurry_theory.specs.declared.Call.{Call}
 use Rattle.flurry_theory.specs.declared.Call.TheVariants.{Insert, TryInsert, Compute, Remove, RemoveEntry, RemoveSeen}
-use Rattle.flurry_theory.specs.declared.Reply.{Reply}
-use Rattle.flurry_theory.specs.declared.Reply.TheVariants.{Value, New}
+use Rattle.flurry_bins.specs.declared.table.reply.KeptReply.{KeptReply}
+use Rattle.flurry_bins.specs.declared.table.reply.KeptReply.TheVariants.{Value, New}
 
 -- a key and its value, with the number of the write that put the value there
 pub record Entry (K V : Type 0) : Type 0 where
@@ -92,7 +92,7 @@ module _ {K V : Type 0} (cmp : K → K → Ordering) (hash : K → ℕ) where
   write_entry k v n es = if is_some (number_of cmp es k) then rewrite k v n es else place (record { key = k; value = v; number = n }) es
 
   -- the bin and its count of writes after a call with this reply
-  abbrev pub bin_after : {F : Type 0} → Call K V F → Reply K V → List (Entry K V) → ℕ → List (Entry K V) × ℕ
+  abbrev pub bin_after : {F : Type 0} → Call K V F → KeptReply K V → List (Entry K V) → ℕ → List (Entry K V) × ℕ
   bin_after (Insert k v) r es n = (write_entry k v (bump n) es, bump n)
   bin_after (TryInsert k v) (New w) es n = (place (record { key = k; value = v; number = bump n }) es, bump n)
   bin_after (Compute k f) (Value (Some w)) es n = (rewrite k w (bump n) es, bump n)

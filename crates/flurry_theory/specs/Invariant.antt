@@ -9,7 +9,7 @@ use Rattle.flurry_theory.specs.Machine.{total, owes_added, owes_removed, State, 
 use Rattle.flurry_theory.specs.declared.Call.{Call}
 use Rattle.flurry_theory.specs.declared.Call.TheVariants.{RemoveSeen, Walk, Clear}
 use Rattle.flurry_theory.specs.declared.Seen.{Seen}
-use Rattle.flurry_theory.specs.declared.Reply.{Reply}
+use Rattle.flurry_bins.specs.declared.table.reply.KeptReply.{KeptReply}
 
 -- the call is one of these
 abbrev pub one_key : {K V F : Type 0} → Option (Call K V F) → Bool
@@ -22,8 +22,8 @@ module _ {K V F : Type 0} where
     pub call : begun s.trace p ≡ s.call p
     pub unknown : s.parties ≤ p → (s.call p ≡ None) × (s.mode p ≡ Finished) × (s.claim p ≡ None) × (decision s.trace p ≡ None) × (replied s.trace p ≡ false) × (closed s.trace p ≡ false)
     pub going : (s.mode p ≡ Finished → ⊥) → (replied s.trace p ≡ false) × (closed s.trace p ≡ false) × (is_some (s.call p) ≡ true)
-    pub undecided : ((r : Reply K V) (added removed : ℕ) → s.mode p ≡ Done (Some r) added removed → ⊥) → (s.mode p ≡ Finished → ⊥) → decision s.trace p ≡ None
-    pub decided : (r : Reply K V) (added removed : ℕ) → s.mode p ≡ Done (Some r) added removed → decision s.trace p ≡ Some r
+    pub undecided : ((r : KeptReply K V) (added removed : ℕ) → s.mode p ≡ Done (Some r) added removed → ⊥) → (s.mode p ≡ Finished → ⊥) → decision s.trace p ≡ None
+    pub decided : (r : KeptReply K V) (added removed : ℕ) → s.mode p ≡ Done (Some r) added removed → decision s.trace p ≡ Some r
     pub looking : (e : ℕ) → s.mode p ≡ Looking e → one_key (s.call p) ≡ true
     pub walking : (e i : ℕ) (fs : List (Frame K)) → s.mode p ≡ Walking e i fs → s.call p ≡ Some Walk
     pub finished : s.mode p ≡ Finished → is_some (s.call p) ≡ true → (replied s.trace p ≡ true) ⊎ (closed s.trace p ≡ true)
@@ -235,7 +235,7 @@ module _ {K V F : Type 0} (cmp : K → K → Ordering) (hash : K → ℕ) (gives
   -- a look-up has decided or was refused by its 32nd step, and its step after the decision is its reply
   pub record LooksUp (s : State K V F) (p : ℕ) : Type 0 where
     pub in_time : is_lookup (s.call p) ≡ true → decision s.trace p ≡ None → closed s.trace p ≡ false → s.steps p < 32
-    pub replies_next : is_lookup (s.call p) ≡ true → (r : Reply K V) → decision s.trace p ≡ Some r → replied s.trace p ≡ false → (l : Line K V F) → Can cmp hash gives s p l → l ≡ Replies r
+    pub replies_next : is_lookup (s.call p) ≡ true → (r : KeptReply K V) → decision s.trace p ≡ Some r → replied s.trace p ≡ false → (l : Line K V F) → Can cmp hash gives s p l → l ≡ Replies r
 
 -- ALL OF IT
 module _ {K V F : Type 0} (cmp : K → K → Ordering) (hash : K → ℕ) (gives : F → K → V → Option V → Type 0) where

@@ -5,8 +5,8 @@ use Rattle.flurry_theory.specs.Map.{same, key_of, Allows, CanBeRefused}
 use Rattle.flurry_theory.specs.Trace.{Trace, in_region, begun, decision, replied, closed, begins, names, last_read, read_before, published, placed, moved, pairs, at}
 use Rattle.flurry_theory.specs.declared.Call.{Call}
 use Rattle.flurry_theory.specs.declared.Call.TheVariants.{Insert, TryInsert, Compute, Remove, RemoveEntry, RemoveSeen, Clear, Walk}
-use Rattle.flurry_theory.specs.declared.Reply.{Reply}
-use Rattle.flurry_theory.specs.declared.Reply.TheVariants.{Value, New}
+use Rattle.flurry_bins.specs.declared.table.reply.KeptReply.{KeptReply}
+use Rattle.flurry_bins.specs.declared.table.reply.KeptReply.TheVariants.{Value, New}
 use Rattle.flurry_theory.specs.declared.Label.{Label}
 use Rattle.flurry_theory.specs.declared.Label.TheVariants.{Begin, Decide, Reply as Replied, Refused, Wipe, Read, End, Opened, Placed, Moved, Published}
 
@@ -84,7 +84,7 @@ module _ {K V F : Type 0} where
 
     -- CONDITIONAL REMOVALS
     -- the call, with this reply, writes or removes the class of its key
-    abbrev pub changes : Call K V F → Reply K V → Bool
+    abbrev pub changes : Call K V F → KeptReply K V → Bool
     changes (Insert k v) r = true
     changes (TryInsert k v) (New w) = true
     changes (Compute k f) (Value o) = true
@@ -99,7 +99,7 @@ module _ {K V F : Type 0} where
     is_class (Some j) k = same cmp j k
 
     -- the label writes or removes k's class, if the map has it
-    abbrev pub changed_by : Option (Call K V F) → Reply K V → K → Bool
+    abbrev pub changed_by : Option (Call K V F) → KeptReply K V → K → Bool
     changed_by None r k = false
     changed_by (Some c) r k = changes c r && is_class (key_of c) k
 
@@ -125,7 +125,7 @@ module _ {K V F : Type 0} where
     untouched_for (l ∷ t) p w k = if begins p l then untouched t w k else not (touches t l k) && untouched_for t p w k
 
     -- the reply is that of a removal
-    abbrev pub removes : Reply K V → Bool
+    abbrev pub removes : KeptReply K V → Bool
     removes (Value (Some v)) = true
     removes r = false
 

@@ -9,7 +9,7 @@ use Rattle.flurry_theory.specs.Legal.{IsOneKey, IsWalk, IsClear, changes, remove
 use Rattle.flurry_theory.specs.declared.Seen.{Seen}
 use Rattle.flurry_theory.specs.declared.Call.{Call}
 use Rattle.flurry_theory.specs.declared.Call.TheVariants.{RemoveSeen, Insert, TryInsert, Reserve, Clear, Walk}
-use Rattle.flurry_theory.specs.declared.Reply.{Reply}
+use Rattle.flurry_bins.specs.declared.table.reply.KeptReply.{KeptReply}
 use Rattle.flurry_theory.specs.declared.Label.{Label}
 use Rattle.flurry_theory.specs.declared.Label.TheVariants.{Begin, Decide, Reply as Replied, Refused, Wipe, Read, End, Opened, Placed, Moved as MovedBin, Published, Silent}
 
@@ -43,7 +43,7 @@ pub data Mode (K V : Type 0) : Type 0 where
   Clearing : (wiped e i : ℕ) (frames : List (Frame K)) → Mode K V
   -- Its own work is done, for a one-key call with this decision. It owes the control the count of the pairs that it added and removed,
   -- and may grow and help before its closing label.
-  Done : (reply : Option (Reply K V)) (added removed : ℕ) → Mode K V
+  Done : (reply : Option (KeptReply K V)) (added removed : ℕ) → Mode K V
   Finished : Mode K V
 
 -- a growth of the published table: bins below unclaimed are unclaimed
@@ -86,14 +86,14 @@ pub data Line (K V F : Type 0) : Type 0 where
   -- changes nothing
   Quiet : Line K V F
   -- counts what it owes
-  Counts : (reply : Option (Reply K V)) (added removed : ℕ) → Line K V F
+  Counts : (reply : Option (KeptReply K V)) (added removed : ℕ) → Line K V F
   Finds : (e : ℕ) → Line K V F
   Opens : (e : ℕ) → Line K V F
   FindsNothing : Line K V F
   IsRefused : Line K V F
-  DecidesEmpty : (c : Call K V F) (r : Reply K V) → Line K V F
+  DecidesEmpty : (c : Call K V F) (r : KeptReply K V) → Line K V F
   Passes : (e : ℕ) → Line K V F
-  Decides : (c : Call K V F) (k : K) (e : ℕ) (es : List (Entry K V)) (n : ℕ) (r : Reply K V) (fs : List (Entry K V)) (m : ℕ) → Line K V F
+  Decides : (c : Call K V F) (k : K) (e : ℕ) (es : List (Entry K V)) (n : ℕ) (r : KeptReply K V) (fs : List (Entry K V)) (m : ℕ) → Line K V F
   Places : (e : ℕ) → Line K V F
   Claims : (e : ℕ) (g : Growth) (low : ℕ) → Line K V F
   Moves : (a : Claim) (i : ℕ) (es : List (Entry K V)) (n : ℕ) → Line K V F
@@ -104,7 +104,7 @@ pub data Line (K V F : Type 0) : Type 0 where
   Splits : (e i : ℕ) (f : Frame K) (fs : List (Frame K)) → Line K V F
   Wipes : (wiped e i : ℕ) (f : Frame K) (fs : List (Frame K)) (es : List (Entry K V)) (n : ℕ) → Line K V F
   SplitsClear : (wiped e i : ℕ) (f : Frame K) (fs : List (Frame K)) → Line K V F
-  Replies : (r : Reply K V) → Line K V F
+  Replies : (r : KeptReply K V) → Line K V F
   Ends : Line K V F
 
 -- the walk, or the clear, goes on behind a frame that is done, or is at its end
@@ -151,7 +151,7 @@ module _ {K V F : Type 0} where
   module _ (cmp : K → K → Ordering) (hash : K → ℕ) (gives : F → K → V → Option V → Type 0) where
     -- A call's step at a live bin, with this reply: the bin's pairs become what the call leaves of them. A written value bears the
     -- count of writes after it; a conditional removal removes exactly if the number is the one seen, below the greatest.
-    pub record BinDid (c : Call K V F) (r : Reply K V) (es : List (Entry K V)) (n : ℕ) (fs : List (Entry K V)) (m : ℕ) : Type 0 where
+    pub record BinDid (c : Call K V F) (r : KeptReply K V) (es : List (Entry K V)) (n : ℕ) (fs : List (Entry K V)) (m : ℕ) : Type 0 where
       pub allowed : Allows cmp gives c (pairs_of es) r
       pub ascending : Ascending cmp hash fs
       pub after : (j : K) → find cmp (pairs_of fs) j ≡ find cmp (after cmp c r (pairs_of es)) j

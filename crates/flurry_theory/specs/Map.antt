@@ -6,8 +6,8 @@ use denote.Param.Members.{Shared}
 use denote.Ref.{Bor}
 use Rattle.flurry_theory.specs.declared.Call.{Call}
 use Rattle.flurry_theory.specs.declared.Call.TheVariants.{Get, GetKeyValue, ContainsKey, Insert, TryInsert, Compute, Remove, RemoveEntry, RemoveSeen, Reserve, Clear, Walk}
-use Rattle.flurry_theory.specs.declared.Reply.{Reply}
-use Rattle.flurry_theory.specs.declared.Reply.TheVariants.{Value, Pair, Contains, New, Exists}
+use Rattle.flurry_bins.specs.declared.table.reply.KeptReply.{KeptReply}
+use Rattle.flurry_bins.specs.declared.table.reply.KeptReply.TheVariants.{Value, Pair, Contains, New, Exists}
 
 -- the function f, called on a key and a value, may answer o
 abbrev pub answers : {K V F : Type 0} → Shared F (Bor K × (Bor V × Unit {0})) (Option V) → F → K → V → Option V → Type 0
@@ -65,7 +65,7 @@ module _ {K : Type 0} (cmp : K → K → Ordering) where
     value_at m k = option_map (λ x. x.1) (find m k)
 
     -- The map after a one-key call with this reply.
-    abbrev pub after : {F : Type 0} → Call K V F → Reply K V → Pairs K V → Pairs K V
+    abbrev pub after : {F : Type 0} → Call K V F → KeptReply K V → Pairs K V → Pairs K V
     after (Insert k v) r m = write m k v
     after (TryInsert k v) (New w) m = put m k v
     after (Compute k f) (Value (Some w)) m = write m k w
@@ -76,7 +76,7 @@ module _ {K : Type 0} (cmp : K → K → Ordering) where
     after c r m = m
 
     -- The replies that a one-key call may give on m. gives f k v o: the function f, called on k and v, may answer o.
-    abbrev pub Allows : {F : Type 0} (gives : F → K → V → Option V → Type 0) → Call K V F → Pairs K V → Reply K V → Type 0
+    abbrev pub Allows : {F : Type 0} (gives : F → K → V → Option V → Type 0) → Call K V F → Pairs K V → KeptReply K V → Type 0
     Allows gives (Get k) m r = r ≡ Value (value_at m k)
     Allows gives (GetKeyValue k) m r = r ≡ Pair (find m k)
     Allows gives (ContainsKey k) m r = r ≡ Contains (is_some (find m k))

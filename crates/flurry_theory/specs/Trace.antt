@@ -4,7 +4,7 @@ use Rattle.std.specs.declared.cmp.Ordering.{Ordering}
 use Rattle.flurry_theory.specs.Map.{Pairs, find, after}
 use Rattle.flurry_theory.specs.declared.Call.{Call}
 use Rattle.flurry_theory.specs.declared.Call.TheVariants.{Get, GetKeyValue, ContainsKey}
-use Rattle.flurry_theory.specs.declared.Reply.{Reply}
+use Rattle.flurry_bins.specs.declared.table.reply.KeptReply.{KeptReply}
 use Rattle.flurry_theory.specs.declared.Label.{Label}
 use Rattle.flurry_theory.specs.declared.Label.TheVariants.{Begin, Decide, Reply as Replied, Refused, Wipe, Read, End, Opened, Placed, Moved, Published, Silent}
 
@@ -24,7 +24,7 @@ module _ {K V F : Type 0} where
   begun (l ∷ t) p = begun t p
 
   -- the decision of party p
-  abbrev pub decision : Trace K V F → ℕ → Option (Reply K V)
+  abbrev pub decision : Trace K V F → ℕ → Option (KeptReply K V)
   decision [] p = None
   decision (Decide q r ∷ t) p = if q == p then Some r else decision t p
   decision (l ∷ t) p = decision t p
@@ -94,7 +94,7 @@ module _ {K V F : Type 0} where
 
   module _ (cmp : K → K → Ordering) (hash : K → ℕ) where
     -- the map after this party's call decided; a party that did not begin changes nothing
-    abbrev pub decided : Option (Call K V F) → Reply K V → Pairs K V → Pairs K V
+    abbrev pub decided : Option (Call K V F) → KeptReply K V → Pairs K V → Pairs K V
     decided None r m = m
     decided (Some c) r m = after cmp c r m
 

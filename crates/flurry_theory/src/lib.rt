@@ -9,6 +9,8 @@
 
 pub mod laws;
 
+use flurry_bins::table::KeptReply;
+
 /// What a walk's read knows of a pair.
 #[derive(Clone, Copy, Debug)]
 pub struct Seen<K, V> {
@@ -49,30 +51,15 @@ pub enum Call<K, V, F> {
     Walk,
 }
 
-/// A reply of a one-key call.
-#[derive(Clone, Copy, Debug)]
-pub enum Reply<K, V> {
-    /// Of `Get`, `Insert`, `Compute`, `Remove` and `RemoveSeen`.
-    Value(Option<V>),
-    /// Of `GetKeyValue` and `RemoveEntry`.
-    Pair(Option<(K, V)>),
-    /// Of `ContainsKey`.
-    Contains(bool),
-    /// Of `TryInsert`, on an absent key.
-    New(V),
-    /// Of `TryInsert`, on a present key: the current value, and the one not inserted.
-    Exists(V, V),
-}
-
 /// What one step did.
 #[derive(Clone, Copy, Debug)]
 pub enum Label<K, V, F> {
     /// The party began with this call.
     Begin(usize, Call<K, V, F>),
     /// The call of one key of the party decided, with this reply.
-    Decide(usize, Reply<K, V>),
+    Decide(usize, KeptReply<K, V>),
     /// The party replied.
-    Reply(usize, Reply<K, V>),
+    Reply(usize, KeptReply<K, V>),
     /// The party was refused for memory, and is done.
     Refused(usize),
     /// The clear of the party emptied the bin of this table and index.

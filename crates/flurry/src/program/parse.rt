@@ -41,14 +41,14 @@ pub fn parse(line: &[u8]) -> Option<Command>
 }
 
 // What follows the front, if the line begins with it.
-fn strip<'a>(line: &'a [u8], front: &[u8]) -> Option<&'a [u8]>
+pub(crate) fn strip<'a>(line: &'a [u8], front: &[u8]) -> Option<&'a [u8]>
     ensures { MatchOption result ((rest : List ℕ) → line.now ≢ front.now ++ rest) (λ rest. line.now ≡ front.now ++ rest.now) }
 {
     line.strip_prefix(front)
 }
 
 // Two numbers with a space between them.
-fn two_numbers(words: &[u8]) -> Option<(u64, u64)>
+pub(crate) fn two_numbers(words: &[u8]) -> Option<(u64, u64)>
     ensures { MatchOption result ((k v : ℕ) → k < 2 ^ 64 → v < 2 ^ 64 → words.now ≢ decimal k ++ 32 ∷ decimal v)
         (λ p. (p.0 < 2 ^ 64) × (p.1 < 2 ^ 64) × (words.now ≡ decimal p.0 ++ 32 ∷ decimal p.1)) }
 {
@@ -77,7 +77,7 @@ fn split_at_space(words: &[u8]) -> Option<(&[u8], &[u8])>
 }
 
 // A number of 64 bits in digits, without a sign or leading zeros.
-fn number(word: &[u8]) -> Option<u64>
+pub(crate) fn number(word: &[u8]) -> Option<u64>
     ensures { MatchOption result ((n : ℕ) → n < 2 ^ 64 → word.now ≢ decimal n) (λ n. (n < 2 ^ 64) × (word.now ≡ decimal n)) }
 {
     if word.len() > 1 && word[0] == b'0' {

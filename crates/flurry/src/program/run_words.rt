@@ -1,15 +1,17 @@
 //! The words of the program.
-ghost use Rattle.std.specs.Prelude.{◌≡◌, ◌≢◌};
-ghost use Rattle.flurry.specs.Arguments.{IsSeq, TellsUsage};
-ghost use Rattle.flurry.specs.Runs.{UnlessWriteFailed, RunsLines, FailsForCause};
+ghost use Rattle.std.specs.Prelude.{◌≡◌, ◌≢◌, ◌≤◌};
+ghost use Rattle.flurry.specs.Arguments.{IsSeq, IsWorld, TellsUsage};
+ghost use Rattle.flurry.specs.Runs.{EndsAtOnce, UnlessWriteFailed, RunsLines, FailsForCause};
 
 use crate::program::seq_lines::seq_lines;
 use crate::program::streams::{Sink, Source};
+use crate::program::world_lines::world_lines;
 use std::alloc::Global;
 
 /// Does what the words ask for, and answers the program's status.
 ///
-/// `["seq"]` runs [`seq_lines`]. Other words write a line of usage, with status 2, or 1 where the write fails.
+/// `["seq"]` runs [`seq_lines`], and `["world"]` runs [`world_lines`]. Other words write a line of usage, with status 2, or 1 where
+/// the write fails.
 pub fn run_words<R: Source, W: Sink>(
     alloc: Global,
     words: &[&str],
@@ -18,10 +20,15 @@ pub fn run_words<R: Source, W: Sink>(
 ) -> u8
     ensures seq { IsSeq words.now → RunsLines (R.remaining reader.old) (W.contents writer.old) (W.flushed writer.new) (W.has_failed writer.new) result }
     ensures cause { IsSeq words.now → FailsForCause (R.remaining reader.old) (R.has_failed reader.new) (W.has_failed writer.new) result }
-    ensures other { ¬ IsSeq words.now → UnlessWriteFailed (W.has_failed writer.new) result (TellsUsage (W.contents writer.old) (W.flushed writer.new) result) }
+    ensures world_status { IsWorld words.now → result ≤ 3 }
+    ensures world_cause { IsWorld words.now → FailsForCause (R.remaining reader.old) (R.has_failed reader.new) (W.has_failed writer.new) result }
+    ensures world_empty { IsWorld words.now → UnlessWriteFailed (W.has_failed writer.new) result
+        (EndsAtOnce (R.remaining reader.old) (R.has_failed reader.new) (W.contents writer.old) (W.flushed writer.new) result) }
+    ensures other { ¬ IsSeq words.now → ¬ IsWorld words.now → UnlessWriteFailed (W.has_failed writer.new) result (TellsUsage (W.contents writer.old) (W.flushed writer.new) result) }
 {
     match *words {
         ["seq"] => seq_lines(alloc, reader, writer),
+        ["world"] => world_lines(alloc, reader, writer),
         _ => tell_usage(writer),
     }
 }

@@ -1,10 +1,11 @@
 //! The lines of one owned map.
 ghost use Rattle.std.specs.Prelude.{◌≡◌, ℕ, ◌+◌, ◌≤◌, ◌^◌, ◌⊎◌, [], ◌∷◌, ◌++◌, List, length, OnOk, OnErr, IfOk, IfSome, MatchOption, IsTrue};
 ghost use Rattle.std.specs.Io.KnownBytes.{Appends};
-ghost use Rattle.flurry.specs.Answers.{option_text, bad_line_text, input_failed_text, Answers};
+ghost use Rattle.flurry.specs.Answers.{option_text, Answers};
 ghost use Rattle.flurry.specs.Runs.{AnswersLine, RefusesLine, Goes, Ends, RunsLines, FailsForCause};
 
 use crate::program::command::Command;
+use crate::program::ends::{MOST_READS, bad_line, input_failed};
 use crate::program::input::{LineEnd, read_line};
 use crate::program::parse::parse;
 use crate::program::streams::{Sink, Source};
@@ -15,9 +16,6 @@ use std::io;
 
 // The map that the lines speak of.
 type Numbers = SeqMap<u64, u64, LowHashBuilder>;
-
-// A run makes so many reads of a line at most. A further one counts as failed.
-const MOST_READS: u64 = 1 << 62;
 
 /// Answers the lines of a reader, from an empty map on. Answers the program's status.
 ///
@@ -186,24 +184,4 @@ fn write_value<W: Sink>(writer: &mut W, value: Option<u64>) -> io::Result<()>
         Some(value) => writer.write_line(format_args!("some {value}")),
         None => writer.write_line("none"),
     }
-}
-
-// Says that the line of this number is bad, with status 2.
-fn bad_line<W: Sink>(number: u64, writer: &mut W) -> io::Result<u8>
-    ensures failed { OnErr result (IsTrue (W.has_failed writer.new)) }
-    ensures bytes { OnOk result (Appends (W.contents writer.old) (W.contents writer.new) (bad_line_text number)) }
-    ensures status { IfOk result (λ status. status ≡ 2) }
-{
-    writer.write_line(format_args!("bad line {number}"))?;
-    Ok(2)
-}
-
-// Says that a read failed, with status 1.
-fn input_failed<W: Sink>(writer: &mut W) -> io::Result<u8>
-    ensures failed { OnErr result (IsTrue (W.has_failed writer.new)) }
-    ensures bytes { OnOk result (Appends (W.contents writer.old) (W.contents writer.new) input_failed_text) }
-    ensures status { IfOk result (λ status. status ≡ 1) }
-{
-    writer.write_line("input failed")?;
-    Ok(1)
 }

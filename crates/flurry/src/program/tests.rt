@@ -1,5 +1,7 @@
 //! The program over bytes in memory, and over streams that fail.
 
+mod world;
+
 use super::buffers::{Input, Output};
 use super::run_words::run_words;
 use super::seq_lines::seq_lines;
@@ -161,7 +163,7 @@ fn tells_usage(rt: &(impl Abort + AllocGlobal), words: &[&str]) -> Result<(), Fa
 #[test]
 fn other_words(rt: HostRuntime) -> Result<(), Fail> {
     tells_usage(&rt, &[])?;
-    tells_usage(&rt, &["world"])?;
+    tells_usage(&rt, &["world", "1"])?;
     tells_usage(&rt, &["threads", "4", "9"])?;
     tells_usage(&rt, &["seq", "seq"])
 }

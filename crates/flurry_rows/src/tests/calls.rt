@@ -7,6 +7,7 @@ use flurry_seq::SeqMap;
 use flurry_seq::calls::{Call, Reply};
 use std::alloc::Global;
 use std::collections::VecDeque;
+use std::sync::Arc;
 use std::test::Fail;
 
 fn three_pairs(alloc: Global) -> Result<SeqMap<u64, u64, LowHashBuilder>, Fail> {
@@ -88,8 +89,26 @@ fn is_nine_or_more(_key: &u64, value: &u64) -> bool {
     *value >= 9
 }
 
+// The pairs in their order.
+fn text_of_pairs(alloc: Global, pairs: &[(Arc<u64>, Arc<u64>)]) -> Result<String, Fail> {
+    let mut text = String::new(alloc);
+    for (key, value) in pairs {
+        text.push_str(format!(in alloc; " {} {}", **key, **value)?.as_str())?;
+    }
+    Ok(text)
+}
+
+// The numbers in their order.
+pub(super) fn text_of_numbers(alloc: Global, numbers: &[Arc<u64>]) -> Result<String, Fail> {
+    let mut text = String::new(alloc);
+    for number in numbers {
+        text.push_str(format!(in alloc; " {}", **number)?.as_str())?;
+    }
+    Ok(text)
+}
+
 // One line for each reply.
-fn text_of(alloc: Global, replies: &[Reply<u64, u64>]) -> Result<String, Fail> {
+fn text_of(alloc: Global, replies: &[Reply<u64, u64, LowHashBuilder>]) -> Result<String, Fail> {
     let mut text = String::new(alloc);
     for reply in replies {
         match reply {
@@ -106,6 +125,22 @@ fn text_of(alloc: Global, replies: &[Reply<u64, u64>]) -> Result<String, Fail> {
             Reply::New(value) => text.push_str(format!(in alloc; "new {}\n", **value)?.as_str())?,
             Reply::Exists(error) => text.push_str(format!(in alloc; "{error}\n")?.as_str())?,
             Reply::Number(number) => text.push_str(format!(in alloc; "{number}\n")?.as_str())?,
+            Reply::Shape(shape) => text.push_str(format!(in alloc; "{shape:?}\n")?.as_str())?,
+            Reply::Pairs(pairs) => {
+                let pairs = text_of_pairs(alloc, pairs.as_slice())?;
+                text.push_str(format!(in alloc; "pairs{pairs}\n")?.as_str())?;
+            }
+            Reply::Keys(keys) => {
+                let keys = text_of_numbers(alloc, keys.as_slice())?;
+                text.push_str(format!(in alloc; "keys{keys}\n")?.as_str())?;
+            }
+            Reply::Values(values) => {
+                let values = text_of_numbers(alloc, values.as_slice())?;
+                text.push_str(format!(in alloc; "values{values}\n")?.as_str())?;
+            }
+            Reply::Map(map) => {
+                text.push_str(format!(in alloc; "map of {}\n", map.len())?.as_str())?
+            }
             Reply::Done => text.push_str("done\n")?,
         }
     }
@@ -180,5 +215,38 @@ fn removing_calls_as_values(rt: HostRuntime) -> Result<(), Fail> {
     let want = "value 10\npair 2 20\nno pair\ndone\n0\ndone\n128\ndone\nvalue 50\ndone\nno value\n";
     assert_eq!(rt; text_of(rt.alloc(), replies.as_slice())?.as_str(), want);
     assert_eq!(rt; lent(map.get(&5)), Some(50));
+    Ok(())
+}
+
+#[test]
+fn reading_calls_as_values(rt: HostRuntime) -> Result<(), Fail> {
+    let mut other = three_pairs(rt.alloc())?;
+    assert_eq!(rt; taken(other.insert(3, 8)?), Some(30));
+    let mut calls = VecDeque::new(rt.alloc());
+    for call in [
+        Call::ShapeOf(9),
+        Call::ShapeOf(4),
+        Call::Pairs,
+        Call::Keys,
+        Call::Values,
+        Call::Equals(three_pairs(rt.alloc())?),
+        Call::Equals(other),
+        Call::TryClone,
+        Call::Remove(2),
+        Call::Len,
+        Call::Retain(is_nine_or_more),
+        Call::ComputeIfPresent(4, up_to_nine),
+    ] {
+        calls.push_back(call)?;
+    }
+    let mut map = three_pairs(rt.alloc())?;
+    let replies = map.run(rt.alloc(), calls)?;
+    let want =
+        "List(1)\nEmpty\npairs 1 10 2 20 3 30\nkeys 1 2 3\nvalues 10 20 30\ntrue\nfalse\nmap of 3\nvalue 20\n2\ndone\nno value\n";
+    assert_eq!(rt; text_of(rt.alloc(), replies.as_slice())?.as_str(), want);
+    let Some(Reply::Map(copy)) = replies.get(7) else {
+        return Err(Fail::from("the eighth reply is a map"));
+    };
+    assert!(rt; *copy == three_pairs(rt.alloc())?);
     Ok(())
 }

@@ -1,7 +1,8 @@
 //! What the calls of an owned set answer, and what stands after them.
 
+use super::calls::text_of_numbers;
 use super::keys::Tagged;
-use flurry_bins::hash::{LowHashBuilder, ZeroHashBuilder};
+use flurry_bins::hash::{KeyHasher, LowHashBuilder, ZeroHashBuilder};
 use flurry_seq::SeqSet;
 use flurry_seq::set_calls::{SetCall, SetReply};
 use std::alloc::Global;
@@ -78,7 +79,10 @@ fn is_even(element: &u64) -> bool {
 }
 
 // One word for each reply.
-fn words_of(alloc: Global, replies: &[SetReply<u64>]) -> Result<String, Fail> {
+fn words_of<S: KeyHasher<u64>>(
+    alloc: Global,
+    replies: &[SetReply<u64, S>],
+) -> Result<String, Fail> {
     let mut text = String::new(alloc);
     for reply in replies {
         match reply {
@@ -88,6 +92,14 @@ fn words_of(alloc: Global, replies: &[SetReply<u64>]) -> Result<String, Fail> {
             SetReply::Element(None) => text.push_str("none ")?,
             SetReply::Truth(truth) => text.push_str(format!(in alloc; "{truth} ")?.as_str())?,
             SetReply::Number(number) => text.push_str(format!(in alloc; "{number} ")?.as_str())?,
+            SetReply::Elements(elements) => {
+                let numbers = text_of_numbers(alloc, elements.as_slice())?;
+                text.push_str(format!(in alloc; "[{numbers} ] ")?.as_str())?;
+            }
+            SetReply::Set(set) => text.push_str(format!(in alloc;
+                "set of {} ",
+                set.len()
+            )?.as_str())?,
             SetReply::Done => text.push_str("done ")?,
         }
     }
@@ -117,6 +129,55 @@ fn set_calls_as_values(rt: HostRuntime) -> Result<(), Fail> {
     let mut set: SeqSet<u64> = SeqSet::new(rt.alloc());
     let replies = set.run(rt.alloc(), calls)?;
     let want = "true done true false done true none done 2 4 false done 0 ";
+    assert_eq!(rt; words_of(rt.alloc(), replies.as_slice())?.as_str(), want);
+    Ok(())
+}
+
+// The numbers, in bins of their own.
+fn low_set_of<const N: usize>(
+    alloc: Global,
+    numbers: [u64; N],
+) -> Result<SeqSet<u64, LowHashBuilder>, Fail> {
+    Ok(SeqSet::from_list(alloc, Vec::from_array(alloc, numbers)?, LowHashBuilder)?)
+}
+
+#[test]
+fn relations_of_sets_as_values(rt: HostRuntime) -> Result<(), Fail> {
+    let mut calls = VecDeque::new(rt.alloc());
+    for call in [
+        SetCall::IsDisjoint(low_set_of(rt.alloc(), [4, 5])?),
+        SetCall::IsDisjoint(low_set_of(rt.alloc(), [3, 5])?),
+        SetCall::IsSubset(low_set_of(rt.alloc(), [1, 2, 3, 4])?),
+        SetCall::IsSuperset(low_set_of(rt.alloc(), [3, 4])?),
+        SetCall::Retain(is_even),
+    ] {
+        calls.push_back(call)?;
+    }
+    let mut set = low_set_of(rt.alloc(), [1, 2, 3])?;
+    let replies = set.run(rt.alloc(), calls)?;
+    let want = "true false true false done ";
+    assert_eq!(rt; words_of(rt.alloc(), replies.as_slice())?.as_str(), want);
+    Ok(())
+}
+
+#[test]
+fn equal_sets_and_copies_as_values(rt: HostRuntime) -> Result<(), Fail> {
+    let mut calls = VecDeque::new(rt.alloc());
+    for call in [
+        SetCall::Elements,
+        SetCall::IsSubset(low_set_of(rt.alloc(), [1, 2, 4])?),
+        SetCall::IsSuperset(low_set_of(rt.alloc(), [3, 1])?),
+        SetCall::Equals(low_set_of(rt.alloc(), [3, 2, 1])?),
+        SetCall::Equals(low_set_of(rt.alloc(), [1, 2, 4])?),
+        SetCall::TryClone,
+        SetCall::Retain(is_even),
+        SetCall::Len,
+    ] {
+        calls.push_back(call)?;
+    }
+    let mut set = low_set_of(rt.alloc(), [1, 2, 3])?;
+    let replies = set.run(rt.alloc(), calls)?;
+    let want = "[ 1 2 3 ] false true true false set of 3 done 1 ";
     assert_eq!(rt; words_of(rt.alloc(), replies.as_slice())?.as_str(), want);
     Ok(())
 }

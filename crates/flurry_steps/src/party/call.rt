@@ -26,6 +26,29 @@ pub enum Call<'k, K, V, F> {
     Reserve(usize),
 }
 
+/// A call of a shared map that has its key, as a list of calls keeps it.
+#[derive(Clone, Copy, Debug)]
+pub enum KeptCall<K, V, F> {
+    /// [`Call::Get`].
+    Get(K),
+    /// [`Call::GetKeyValue`].
+    GetKeyValue(K),
+    /// [`Call::ContainsKey`].
+    ContainsKey(K),
+    /// [`Call::Remove`].
+    Remove(K),
+    /// [`Call::RemoveEntry`].
+    RemoveEntry(K),
+    /// [`Call::Insert`].
+    Insert(K, V),
+    /// [`Call::TryInsert`].
+    TryInsert(K, V),
+    /// [`Call::Compute`].
+    Compute(K, F),
+    /// [`Call::Reserve`].
+    Reserve(usize),
+}
+
 /// A key that is lent for the time of a call, or is the call's own.
 #[derive(Drop)]
 pub(crate) enum Key<'k, K> {

@@ -136,6 +136,10 @@ fn calls_in_their_order(rt: HostRuntime) -> Result<(), Fail> {
             Call::ComputeIfPresent(6, same),
             Call::Retain(is_own_value),
             Call::Insert(7, 7),
+            Call::Pairs,
+            Call::Keys,
+            Call::Values,
+            Call::TryClone,
         ] {
             calls.push_back(call)?;
         }

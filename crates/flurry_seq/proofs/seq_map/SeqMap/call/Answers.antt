@@ -1,7 +1,12 @@
-use Rattle.std.proofs.Common.{◌≡◌}
+use Rattle.std.proofs.Common.{◌≡◌, refl}
 use Rattle.std.specs.Borrow.{Bor}
 use Rattle.flurry_seq.proofs.CallLemmas.{try_put, try_met, try_stays, computed, compute_stays}
 use Rattle.flurry_seq.proofs.seq_map.SeqMap.call.Goals as goal
+
+pub returns-in_ok-try_clone-in-TryClone-clause-ok : goal.returns-in_ok-try_clone-in-TryClone-clause-ok
+returns-in_ok-try_clone-in-TryClone-clause-ok g c =
+    let copy = c.in_ok-try_clone-in-TryClone in
+    rw c.in-TryClone.is (copy.field-0, refl, (copy.ensures.pairs, copy.ensures.hasher), refl)
 
 pub returns-in-Ok-clause-ok : goal.returns-in-Ok-clause-ok
 returns-in-Ok-clause-ok g c =
@@ -10,15 +15,15 @@ returns-in-Ok-clause-ok g c =
       try_stays {F = g.row.F.Denot} g.K.Ord.cmp (λ f k v o. (x : Bor g.row.K.Denot) × (y : Bor g.row.V.Denot) × (x.now ≡ k) × (y.now ≡ v) × goal.F-post g f x y o) c.in-TryInsert.key c.args.self.now c.try_insert.new.self c.in-TryInsert.value _ c.in_ok-value-in-TryInsert.ensures.reply,
     )
 
-pub returns-in-TryInsert-clause-ok : goal.returns-in-TryInsert-clause-ok
-returns-in-TryInsert-clause-ok g c =
+pub returns-in-Err-clause-ok : goal.returns-in-Err-clause-ok
+returns-in-Err-clause-ok g c =
     rw c.in-TryInsert.is (
       try_met {F = g.row.F.Denot} g.K.Ord.cmp (λ f k v o. (x : Bor g.row.K.Denot) × (y : Bor g.row.V.Denot) × (x.now ≡ k) × (y.now ≡ v) × goal.F-post g f x y o) c.in-TryInsert.key c.args.self.now c.try_insert.new.self c.in-TryInsert.value c.in-Err.error (rw c.in-Err.is at c.in_ok-value-in-TryInsert.ensures.reply) c.in_ok-value-in-TryInsert.ensures.hasher,
       try_stays {F = g.row.F.Denot} g.K.Ord.cmp (λ f k v o. (x : Bor g.row.K.Denot) × (y : Bor g.row.V.Denot) × (x.now ≡ k) × (y.now ≡ v) × goal.F-post g f x y o) c.in-TryInsert.key c.args.self.now c.try_insert.new.self c.in-TryInsert.value _ c.in_ok-value-in-TryInsert.ensures.reply,
     )
 
-pub returns-in-ComputeIfPresent-clause-ok : goal.returns-in-ComputeIfPresent-clause-ok
-returns-in-ComputeIfPresent-clause-ok g c =
+pub returns-in_ok-compute_if_present-in-ComputeIfPresent-clause-ok : goal.returns-in_ok-compute_if_present-in-ComputeIfPresent-clause-ok
+returns-in_ok-compute_if_present-in-ComputeIfPresent-clause-ok g c =
     rw c.in-ComputeIfPresent.is (
       computed {F = g.row.F.Denot} g.K.Ord.cmp (λ f k v o. (x : Bor g.row.K.Denot) × (y : Bor g.row.V.Denot) × (x.now ≡ k) × (y.now ≡ v) × goal.F-post g f x y o) c.in-ComputeIfPresent.key c.args.self.now c.compute_if_present.new.self c.in-ComputeIfPresent.f c.in_ok-compute_if_present-in-ComputeIfPresent.field-0 c.in_ok-compute_if_present-in-ComputeIfPresent.ensures.absent c.in_ok-compute_if_present-in-ComputeIfPresent.ensures.present c.in_ok-compute_if_present-in-ComputeIfPresent.ensures.hasher,
       compute_stays {F = g.row.F.Denot} g.K.Ord.cmp (λ f k v o. (x : Bor g.row.K.Denot) × (y : Bor g.row.V.Denot) × (x.now ≡ k) × (y.now ≡ v) × goal.F-post g f x y o) c.in-ComputeIfPresent.key c.args.self.now c.compute_if_present.new.self c.in-ComputeIfPresent.f c.in_ok-compute_if_present-in-ComputeIfPresent.field-0 c.in_ok-compute_if_present-in-ComputeIfPresent.ensures.absent c.in_ok-compute_if_present-in-ComputeIfPresent.ensures.present,

@@ -9,7 +9,7 @@ use Rattle.flurry_seq.proofs.seq_set.SeqSet.run.Goals as goal
 
 pub returns-in_err-replies-clause-err : goal.returns-in_err-replies-clause-err
 returns-in_err-replies-clause-err g c =
-    on_err c.from_residual.result _ (ends_before_all (SetCallAnswers g.T.Ord.cmp (λ p x b q. goal.P-step g p x b q)) (SetCallRefused g.T.Ord.cmp (λ p x b q. goal.P-step g p x b q)) (same_set_refused g.T.Ord.cmp (λ p x b q. goal.P-step g p x b q)) c.args.calls.items c.args.self.now)
+    on_err c.from_residual.result _ (ends_before_all (SetCallAnswers g.T.Ord.cmp (λ p x b q. goal.P-step g p x b q)) (SetCallRefused g.T.Ord.cmp) (same_set_refused g.T.Ord.cmp) c.args.calls.items c.args.self.now)
 
 pub loop-call-init : goal.loop-call-init
 loop-call-init g c = record {

@@ -8,7 +8,7 @@ use Rattle.flurry_seq.proofs.seq_set.SeqSet.run.Given as goal
 
 abbrev pub invariant-loop-call : goal.invariant-loop-call
 invariant-loop-call g l = record {
-  ran : (done : List (SetCall g.row.T.Denot g.row.P.Denot g.row.A.Denot)) × (l.initial.calls.items ≡ done ++ l.calls.items) × RunsTo (SetCallAnswers g.T.Ord.cmp (λ p x b q. goal.P-step g p x b q)) done l.initial.self l.replies.items l.self;
+  ran : (done : List (SetCall g.row.T.Denot g.row.S.Denot g.row.P.Denot g.row.A.Denot)) × (l.initial.calls.items ≡ done ++ l.calls.items) × RunsTo (SetCallAnswers g.T.Ord.cmp (λ p x b q. goal.P-step g p x b q)) done l.initial.self l.replies.items l.self;
   room : vec_len l.replies + deque_len l.calls ≤ vec_capacity l.replies;
 }
 

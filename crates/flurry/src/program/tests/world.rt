@@ -1,0 +1,176 @@
+//! Schedules over bytes in memory, and over streams that fail.
+
+use super::{FailsAfter, FailsFirst, output};
+use crate::program::buffers::{Input, Output};
+use crate::program::run_words::run_words;
+use crate::program::world_lines::world_lines;
+use std::process::Abort;
+use std::test::Fail;
+
+// The lines end in the status, and are answered by so much.
+fn answers(
+    rt: &(impl Abort + AllocGlobal),
+    lines: &[u8],
+    status: u8,
+    want: &[u8],
+) -> Result<(), Fail> {
+    let mut lines = lines;
+    let mut output = output(rt.alloc())?;
+    assert_eq!(rt; world_lines(rt.alloc(), &mut lines, &mut output), status);
+    assert_eq!(rt; output.get_ref().as_slice(), want);
+    Ok(())
+}
+
+#[test]
+fn insert_and_get(rt: HostRuntime) -> Result<(), Fail> {
+    let lines = b"world 1 0\nbegin insert 3 4\nstep 0 5\nbegin get 3\nstep 1 4\n".as_slice();
+    let want =
+        b"begin 0\nopened 4\ndecide 0 none\nsilent 0\nreply 0 none\nsilent 0\nbegin 1\nsilent 1\ndecide 1 some 4\nreply 1 some 4\nsilent 1\n".as_slice();
+    answers(&rt, lines, 0, want)
+}
+
+#[test]
+fn reserve_of_nothing(rt: HostRuntime) -> Result<(), Fail> {
+    let lines = b"world 1 0\nbegin reserve 0\nstep 0 3\n".as_slice();
+    let want = b"begin 0\nopened 0\nsilent 0\nend 0\n".as_slice();
+    answers(&rt, lines, 0, want)
+}
+
+#[test]
+fn row_14(rt: HostRuntime) -> Result<(), Fail> {
+    let lines = b"world 2 32\n\
+        begin insert 50 50\nstep 0 4\n\
+        begin reserve 30\nstep 1 3\n\
+        begin insert 2 2\nstep 2 60\n\
+        begin get 50\nstep 3 3\n\
+        begin get 2\nstep 4 4\n\
+        step 1 20\n"
+        .as_slice();
+    let want = b"begin 0\nsilent 0\ndecide 0 none\nsilent 0\nreply 0 none\n\
+        begin 1\nsilent 1\nplaced 7\nsilent 1\n\
+        begin 2\nsilent 2\ndecide 2 none\nsilent 2\nsilent 2\n\
+        moved 6 47\nmoved 6 46\nmoved 6 45\nmoved 6 44\nmoved 6 43\nmoved 6 42\nmoved 6 41\nmoved 6 40\n\
+        moved 6 39\nmoved 6 38\nmoved 6 37\nmoved 6 36\nmoved 6 35\nmoved 6 34\nmoved 6 33\nmoved 6 32\n\
+        silent 2\nsilent 2\n\
+        moved 6 31\nmoved 6 30\nmoved 6 29\nmoved 6 28\nmoved 6 27\nmoved 6 26\nmoved 6 25\nmoved 6 24\n\
+        moved 6 23\nmoved 6 22\nmoved 6 21\nmoved 6 20\nmoved 6 19\nmoved 6 18\nmoved 6 17\nmoved 6 16\n\
+        silent 2\nsilent 2\n\
+        moved 6 15\nmoved 6 14\nmoved 6 13\nmoved 6 12\nmoved 6 11\nmoved 6 10\nmoved 6 9\nmoved 6 8\n\
+        moved 6 7\nmoved 6 6\nmoved 6 5\nmoved 6 4\nmoved 6 3\nmoved 6 2\nmoved 6 1\nmoved 6 0\n\
+        silent 2\nsilent 2\nsilent 2\nreply 2 none\n\
+        begin 3\nsilent 3\ndecide 3 some 50\nreply 3 some 50\n\
+        begin 4\nsilent 4\nsilent 4\ndecide 4 some 2\nreply 4 some 2\n\
+        moved 6 63\nmoved 6 62\nmoved 6 61\nmoved 6 60\nmoved 6 59\nmoved 6 58\nmoved 6 57\nmoved 6 56\n\
+        moved 6 55\nmoved 6 54\nmoved 6 53\nmoved 6 52\nmoved 6 51\nmoved 6 50\nmoved 6 49\nmoved 6 48\n\
+        published 7\nsilent 1\nsilent 1\nend 1\n"
+        .as_slice();
+    answers(&rt, lines, 0, want)
+}
+
+#[test]
+fn try_and_remove(rt: HostRuntime) -> Result<(), Fail> {
+    let lines = b"world 1 1\n\
+        begin try 3 4\nstep 0 4\n\
+        begin try 3 5\nstep 1 3\n\
+        begin remove 3\nstep 2 4\n\
+        begin remove 3\nstep 3 3\n"
+        .as_slice();
+    let want = b"begin 0\nsilent 0\ndecide 0 new 4\nsilent 0\nreply 0 new 4\n\
+        begin 1\nsilent 1\ndecide 1 exists 4\nreply 1 exists 4\n\
+        begin 2\nsilent 2\ndecide 2 some 4\nsilent 2\nreply 2 some 4\n\
+        begin 3\nsilent 3\ndecide 3 none\nreply 3 none\n"
+        .as_slice();
+    answers(&rt, lines, 0, want)
+}
+
+#[test]
+fn no_lines(rt: HostRuntime) -> Result<(), Fail> {
+    answers(&rt, b"".as_slice(), 0, b"".as_slice())?;
+    answers(&rt, b"world 1 0".as_slice(), 0, b"".as_slice())
+}
+
+#[test]
+fn no_steps_and_unknown_parties(rt: HostRuntime) -> Result<(), Fail> {
+    let lines = b"world 1 0\nstep 0 0\nstep 7 1\nbegin get 0\nstep 1 2".as_slice();
+    let want = b"silent 7\nbegin 0\nsilent 1\nsilent 1\n".as_slice();
+    answers(&rt, lines, 0, want)
+}
+
+#[test]
+fn bad_first_lines(rt: HostRuntime) -> Result<(), Fail> {
+    for line in [
+        b"world 1\n".as_slice(),
+        b"world 1 0 0\n".as_slice(),
+        b"world 01 0\n".as_slice(),
+        b"begin get 3\n".as_slice(),
+        b"step 0 1\n".as_slice(),
+        b"\n".as_slice(),
+    ] {
+        answers(&rt, line, 2, b"bad line 1\n".as_slice())?;
+    }
+    Ok(())
+}
+
+// The line is bad after a call began.
+fn is_bad(rt: &(impl Abort + AllocGlobal), line: &[u8]) -> Result<(), Fail> {
+    let mut lines = Vec::new(rt.alloc());
+    lines.extend_from_slice(b"world 1 0\nbegin get 3\n".as_slice())?;
+    lines.extend_from_slice(line)?;
+    lines.extend_from_slice(b"\nstep 0 1\n".as_slice())?;
+    answers(rt, lines.as_slice(), 2, b"begin 0\nbad line 3\n".as_slice())
+}
+
+#[test]
+fn bad_lines(rt: HostRuntime) -> Result<(), Fail> {
+    for line in [
+        b"world 1".as_slice(),
+        b"world 1 0".as_slice(),
+        b"step 0".as_slice(),
+        b"step 0 100001".as_slice(),
+        b"step 0 1 1".as_slice(),
+        b"begin clear".as_slice(),
+        b"begin walk".as_slice(),
+        b"begin drop 0".as_slice(),
+        b"begin get 07".as_slice(),
+        b"begin get  7".as_slice(),
+        b"begin insert 7".as_slice(),
+        b"begin insert 7 18446744073709551616".as_slice(),
+        b"begin reserve".as_slice(),
+        b"begin".as_slice(),
+        b"get 3".as_slice(),
+        b"".as_slice(),
+        b"begin get 0000000000000000000000000000000000000000000000000000001".as_slice(),
+    ] {
+        is_bad(&rt, line)?;
+    }
+    Ok(())
+}
+
+#[test]
+fn failed_read(rt: HostRuntime) -> Result<(), Fail> {
+    let lines = b"world 1 0\nbegin get 3\n".as_slice();
+    let mut input = Input::new(rt.alloc(), FailsAfter(lines))?;
+    let mut output = output(rt.alloc())?;
+    assert_eq!(rt; world_lines(rt.alloc(), &mut input, &mut output), 1);
+    let want = b"begin 0\ninput failed\n".as_slice();
+    assert_eq!(rt; output.get_ref().as_slice(), want);
+    Ok(())
+}
+
+#[test]
+fn failed_write(rt: HostRuntime) -> Result<(), Fail> {
+    let mut lines = b"world 1 0\nbegin get 3\n".as_slice();
+    let mut writer = FailsFirst {
+        failed: false,
+        taken: Vec::new(rt.alloc()),
+    };
+    let mut output = Output::new(rt.alloc(), &mut writer)?;
+    assert_eq!(rt;
+        run_words(rt.alloc(), &["world"], &mut lines, &mut output),
+        1
+    );
+    drop(output);
+    assert!(rt; writer.failed);
+    assert_eq!(rt; writer.taken.as_slice(), b"".as_slice());
+    Ok(())
+}

@@ -1,0 +1,261 @@
+//! The lines of a world.
+ghost use Rattle.std.specs.Prelude.{◌≡◌, ◌≤◌, ◌^◌, ◌⊎◌, length, OnErr, IfOk, IfSome, IfNone, IsTrue};
+ghost use Rattle.flurry.specs.Runs.{EndsAtOnce, FailsForCause, TakesByte, UnlessWriteFailed};
+ghost use Rattle.flurry_steps.specs.PartyView.{KeptIsReady};
+
+use crate::program::ends::{MOST_READS, bad_line, input_failed, out_of_memory};
+use crate::program::input::{LineEnd, read_line};
+use crate::program::labels::write_label;
+use crate::program::schedule::{Line, parse_line};
+use crate::program::streams::{Sink, Source};
+use flurry_bins::hash::LowHashBuilder;
+use flurry_slots::{Change, NoChange};
+use flurry_steps::party::KeptCall;
+use flurry_world::World;
+use std::alloc::Global;
+use std::io;
+
+// The world that the lines speak of. No line begins a call that has a function.
+type Numbers<'k, F> = World<'k, u64, u64, F, LowHashBuilder>;
+
+/// Makes the calls of a reader's lines, in the order of steps that they ask for, and writes each label. Answers the program's status.
+///
+/// | Line | What it does | Answer |
+/// |---|---|---|
+/// | `world P C` | a world of P processors for C pairs, over the hasher that gives each key itself | none |
+/// | `begin insert K V`, `begin try K V`, `begin get K`, `begin remove K` | a call of one key begins; the first is party 0, the next party 1 | `begin P` |
+/// | `begin reserve N` | a call that makes room for N pairs more begins | `begin P` |
+/// | `step P N` | N steps of party P, at most 100000 | the label of each step |
+///
+/// A label has a line of its own.
+///
+/// | Label | What the step did |
+/// |---|---|
+/// | `decide P R` | party P decided on this reply |
+/// | `reply P R`, `end P` | the party is done, with a reply if it is a call of one key |
+/// | `refused P` | it was refused for memory, and is done |
+/// | `opened E` | the first table was made, of 2^E bins |
+/// | `placed E`, `moved E I`, `published E` | the table E was made, and a growth to it began; bin I of the table E moved to the next one; the table E was published, and the growth to it ended |
+/// | `silent P` | anything else. Nothing at all where the party is done, or no party has this number |
+///
+/// A reply R is `some V` or `none`, and to a `try` `new V`, or `exists V` with the value that stands. `wipe P E I` and `read P K V`
+/// are labels of calls that no line begins.
+///
+/// The first line has to be a `world`, and no other line may be one. The form of lines, the end at the first bad line with status 2
+/// and those after the input, a failed read or a failed write are those of [`seq_lines`](crate::seq_lines). An input with no line is
+/// answered by nothing. Where memory for the world, a party or a label is wanting, `out of memory` is the run's end, with status 3.
+///
+/// A line costs what its calls of the world do.
+pub fn world_lines<R: Source, W: Sink>(alloc: Global, reader: &mut R, writer: &mut W) -> u8
+    ensures status { result ≤ 3 }
+    // Over a reader and a writer that tell their bytes.
+    ensures cause { FailsForCause (R.remaining reader.old) (R.has_failed reader.new) (W.has_failed writer.new) result }
+    ensures empty { UnlessWriteFailed (W.has_failed writer.new) result
+        (EndsAtOnce (R.remaining reader.old) (R.has_failed reader.new) (W.contents writer.old) (W.flushed writer.new) result) }
+{
+    match answer_lines::<NoChange, R, W>(alloc, reader, writer) {
+        Ok(status) => match writer.flush() {
+            Ok(()) => status,
+            Err(_) => 1,
+        },
+        Err(_) => 1,
+    }
+}
+
+// Does what the lines ask for, and answers what they end in. A failed write is an error.
+fn answer_lines<F: Change<u64, u64> + Copy, R: Source, W: Sink>(
+    alloc: Global,
+    reader: &mut R,
+    writer: &mut W,
+) -> io::Result<u8>
+    ensures failed { OnErr result (IsTrue (W.has_failed writer.new)) }
+    ensures status { IfOk result (λ status. status ≤ 3) }
+    ensures cause { IfOk result (λ status. status ≡ 1 → IfSome (R.remaining reader.old) (λ input.
+        IsTrue (R.has_failed reader.new) ⊎ (2 ^ 62 ≤ length input))) }
+    ensures empty { IfOk result (EndsAtOnce (R.remaining reader.old) (R.has_failed reader.new) (W.contents writer.old) (W.contents writer.new)) }
+{
+    let mut world: Option<Numbers<'_, F>> = None;
+    for number in 1..=MOST_READS {
+        if let Some(status) = step(alloc, &mut world, number, reader, writer)? {
+            return Ok(status);
+        }
+    }
+    input_failed(writer)
+}
+
+// Reads a line and does what it asks for. Some status is the program's end. What was written goes out before a wait.
+fn step<F: Change<u64, u64> + Copy, R: Source, W: Sink>(
+    alloc: Global,
+    world: &mut Option<Numbers<'_, F>>,
+    number: u64,
+    reader: &mut R,
+    writer: &mut W,
+) -> io::Result<Option<u8>>
+    ensures failed { OnErr result (IsTrue (W.has_failed writer.new)) }
+    ensures status { IfOk result (λ ended. IfSome ended (λ status. status ≤ 3)) }
+    ensures cause { IfOk result (λ ended. IfSome ended (λ status. status ≡ 1 → IsTrue (R.has_failed reader.new))) }
+    ensures took { IfOk result (λ ended. IfNone ended (TakesByte (R.remaining reader.old) (R.remaining reader.new))) }
+    ensures empty { IfOk result (λ ended. IfSome ended
+        (EndsAtOnce (R.remaining reader.old) (R.has_failed reader.new) (W.contents writer.old) (W.contents writer.new))) }
+{
+    if reader.may_wait() {
+        writer.flush()?;
+    }
+    answer_next(alloc, world, number, reader, writer)
+}
+
+// Reads a line and does what it asks for. Some status is the program's end.
+fn answer_next<F: Change<u64, u64> + Copy, R: Source, W: Sink>(
+    alloc: Global,
+    world: &mut Option<Numbers<'_, F>>,
+    number: u64,
+    reader: &mut R,
+    writer: &mut W,
+) -> io::Result<Option<u8>>
+    ensures failed { OnErr result (IsTrue (W.has_failed writer.new)) }
+    ensures status { IfOk result (λ ended. IfSome ended (λ status. status ≤ 3)) }
+    ensures cause { IfOk result (λ ended. IfSome ended (λ status. status ≡ 1 → IsTrue (R.has_failed reader.new))) }
+    ensures took { IfOk result (λ ended. IfNone ended (TakesByte (R.remaining reader.old) (R.remaining reader.new))) }
+    ensures empty { IfOk result (λ ended. IfSome ended
+        (EndsAtOnce (R.remaining reader.old) (R.has_failed reader.new) (W.contents writer.old) (W.contents writer.new))) }
+{
+    match read_line(reader) {
+        Ok((line, end)) => match end {
+            LineEnd::Break => answer_line(alloc, world, number, line.as_slice(), writer),
+            LineEnd::Long => Ok(Some(bad_line(number, writer)?)),
+            LineEnd::End => {
+                if line.is_empty() {
+                    return Ok(Some(0));
+                }
+                match answer_line(alloc, world, number, line.as_slice(), writer)? {
+                    None => Ok(Some(0)),
+                    Some(status) => Ok(Some(status)),
+                }
+            }
+        },
+        Err(_) => Ok(Some(input_failed(writer)?)),
+    }
+}
+
+// Does what a line asks for. Some status is the program's end.
+fn answer_line<F: Change<u64, u64> + Copy, W: Sink>(
+    alloc: Global,
+    world: &mut Option<Numbers<'_, F>>,
+    number: u64,
+    line: &[u8],
+    writer: &mut W,
+) -> io::Result<Option<u8>>
+    ensures failed { OnErr result (IsTrue (W.has_failed writer.new)) }
+    ensures status { IfOk result (λ ended. IfSome ended (λ status. (2 ≤ status) × (status ≤ 3))) }
+{
+    let line = match parse_line(line) {
+        Some(line) => line,
+        None => return Ok(Some(bad_line(number, writer)?)),
+    };
+    match world {
+        Some(world) => answer(world, number, line, writer),
+        None => make_world(alloc, world, number, line, writer),
+    }
+}
+
+// Makes the world that the first line asks for. Some status is the program's end.
+fn make_world<F: Change<u64, u64> + Copy, W: Sink>(
+    alloc: Global,
+    world: &mut Option<Numbers<'_, F>>,
+    number: u64,
+    line: Line,
+    writer: &mut W,
+) -> io::Result<Option<u8>>
+    ensures failed { OnErr result (IsTrue (W.has_failed writer.new)) }
+    ensures status { IfOk result (λ ended. IfSome ended (λ status. (2 ≤ status) × (status ≤ 3))) }
+{
+    match line {
+        Line::World(processors, capacity) => {
+            match World::new(
+                alloc,
+                capacity as usize,
+                LowHashBuilder,
+                processors as usize,
+            ) {
+                Ok(new) => {
+                    *world = Some(new);
+                    Ok(None)
+                }
+                Err(_) => Ok(Some(out_of_memory(writer)?)),
+            }
+        }
+        _ => Ok(Some(bad_line(number, writer)?)),
+    }
+}
+
+// Does in the world what a line asks for. Some status is the program's end.
+fn answer<F: Change<u64, u64> + Copy, W: Sink>(
+    world: &mut Numbers<'_, F>,
+    number: u64,
+    line: Line,
+    writer: &mut W,
+) -> io::Result<Option<u8>>
+    ensures failed { OnErr result (IsTrue (W.has_failed writer.new)) }
+    ensures status { IfOk result (λ ended. IfSome ended (λ status. (2 ≤ status) × (status ≤ 3))) }
+{
+    match line {
+        Line::World(_, _) => Ok(Some(bad_line(number, writer)?)),
+        Line::Insert(key, value) => begin(world, KeptCall::Insert(key, value), writer),
+        Line::Try(key, value) => begin(world, KeptCall::TryInsert(key, value), writer),
+        Line::Get(key) => begin(world, KeptCall::Get(key), writer),
+        Line::Remove(key) => begin(world, KeptCall::Remove(key), writer),
+        Line::Reserve(more) => begin(world, KeptCall::Reserve(more as usize), writer),
+        Line::Step(party, steps) => do_steps(world, party as usize, steps, writer),
+    }
+}
+
+// Begins a call, and writes its label. Some status is the program's end.
+fn begin<F: Change<u64, u64> + Copy, W: Sink>(
+    world: &mut Numbers<'_, F>,
+    call: KeptCall<u64, u64, F>,
+    writer: &mut W,
+) -> io::Result<Option<u8>>
+    requires { KeptIsReady F.can_change call }
+    ensures failed { OnErr result (IsTrue (W.has_failed writer.new)) }
+    ensures status { IfOk result (λ ended. IfSome ended (λ status. (2 ≤ status) × (status ≤ 3))) }
+{
+    match world.begin(call) {
+        Ok(_) => {
+            write_last(world, writer)?;
+            Ok(None)
+        }
+        Err(_) => Ok(Some(out_of_memory(writer)?)),
+    }
+}
+
+// Does so many steps of a party, and writes the label of each. Some status is the program's end.
+fn do_steps<F: Change<u64, u64> + Copy, W: Sink>(
+    world: &mut Numbers<'_, F>,
+    party: usize,
+    steps: u64,
+    writer: &mut W,
+) -> io::Result<Option<u8>>
+    ensures failed { OnErr result (IsTrue (W.has_failed writer.new)) }
+    ensures status { IfOk result (λ ended. IfSome ended (λ status. (2 ≤ status) × (status ≤ 3))) }
+{
+    for _ in 0..steps {
+        if world.step(party).is_err() {
+            return Ok(Some(out_of_memory(writer)?));
+        }
+        write_last(world, writer)?;
+    }
+    Ok(None)
+}
+
+// Writes the newest label of a world.
+fn write_last<F: Change<u64, u64> + Copy, W: Sink>(
+    world: &Numbers<'_, F>,
+    writer: &mut W,
+) -> io::Result<()>
+    ensures failed { OnErr result (IsTrue (W.has_failed writer.new)) }
+{
+    match world.trace().last() {
+        Some(label) => write_label(label, writer),
+        None => Ok(()),
+    }
+}

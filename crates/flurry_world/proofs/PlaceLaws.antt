@@ -1,0 +1,28 @@
+-- What a place of tables is after a table was asked for there.
+use Rattle.std.specs.Prelude.{ℕ, Bool, true, false, List, [], ◌∷◌, ◌≡◌}
+use Rattle.std.proofs.Common.{refl, ap}
+use Rattle.flurry_slots.specs.Slot.{Live, Content, IsLive, HasMoved, IsUnborn, Place}
+use Rattle.flurry_world.specs.Tables.{Tables, slots_of, is_made, MadeGives, PlaceGives}
+
+module _ {K V : Type 0} where
+  -- a table that was not made has no slots
+  pub unmade_empty : (s : List (Place K V)) → is_made s ≡ false → s ≡ []
+  unmade_empty [] h = refl
+  unmade_empty (q ∷ s) h = cc
+
+  -- a table that is refused leaves the tables
+  pub refused_place : (t : Tables K V) (e : ℕ) (live : Bool) (t' : Tables K V) → PlaceGives t e live false t' → t' ≡ t
+  refused_place t e live t' h = by_made (is_made (slots_of t e)) h
+    where
+      by_made : (b : Bool) → MadeGives b t e live false t' → t' ≡ t
+      by_made true g = cc
+      by_made false g = g
+
+  -- equal contents hold equal bins
+  pub same_live : {a b : Live K V} → IsLive a ≡ IsLive b → a ≡ b
+  same_live {a} h = ap live_or h
+    where
+      live_or : Content K V → Live K V
+      live_or (IsLive z) = z
+      live_or HasMoved = a
+      live_or IsUnborn = a

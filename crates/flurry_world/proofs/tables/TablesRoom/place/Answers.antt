@@ -1,0 +1,23 @@
+use Rattle.std.proofs.Common.{◌≡◌, length, sym, subst, arith}
+use Rattle.std.proofs.lemmas.Bool.{eqb-true}
+use Rattle.flurry_world.specs.Tables.{AreTables}
+use Rattle.flurry_world.proofs.TableLaws.{AreTables-made}
+use Rattle.flurry_world.proofs.ViewLemmas.{seen, number_within, made_here, none_here, gives_new}
+use Rattle.flurry_world.proofs.tables.TablesRoom.place.Goals as goal
+
+pub invariant_of-self-2 : goal.invariant_of-self-2
+invariant_of-self-2 g c =
+    let xs = c.self.inside.tables.items in
+    let lt = number_within xs c.args.table c.self.invariant c.requires in
+    subst AreTables (sym (made_here xs c.args.table c.index_mut-place.result.now lt c.index_mut-place.ensures.value c.args.live c.in_ok-place.field-0 c.in_ok-place.ensures))
+    (AreTables-made (seen xs) c.args.table c.args.live c.self.invariant c.requires)
+
+pub returns : goal.returns
+returns g c =
+    let xs = c.self.inside.tables.items in
+    let v = c.index_mut-place.result.now in
+    let lt = number_within xs c.args.table c.self.invariant c.requires in
+    let empty : length v.items ≡ 0 = omega (arith, v.ok.0, eqb-true _ _ (sym c.if-not-is_empty.ensures)) in
+    rw (← c.self.view_is)
+    (gives_new (seen xs) _ c.args.table c.args.live (none_here xs c.args.table v lt c.index_mut-place.ensures.value empty)
+    (made_here xs c.args.table v lt c.index_mut-place.ensures.value c.args.live c.in_ok-place.field-0 c.in_ok-place.ensures))

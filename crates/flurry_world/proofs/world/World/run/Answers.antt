@@ -1,0 +1,28 @@
+use Rattle.std.proofs.Common.{◌∷◌, [], ◌++◌, refl, sym, ap, ◌∙◌, subst, append_assoc}
+use Rattle.std.specs.Vec.Iter.{into_iter_items}
+use Rattle.flurry_world.specs.Runs.{DoesStep, Runs}
+use Rattle.flurry_world.proofs.RunLaws.{on_err, runs_more}
+use Rattle.flurry_world.proofs.world.World.run.Goals as goal
+
+pub loop-step-init : goal.loop-step-init
+loop-step-init g c = record { ran = refl; hasher = refl; split = c.into_iter-step-iterator.ensures.into_iter_gives.0 }
+
+pub loop-step-preserved : goal.loop-step-preserved
+loop-step-preserved g c = record {
+  ran =
+      runs_more g.K.Ord.cmp (g.S.KeyHasher.hash_of c.args.self.now.hasher) g.F.Change.changes c.loop-step.yielded c.args.self.now c.loop-step.self c.do_step.new.self c.in-Some.step c.loop-step.invariant.ran
+      (subst (λ h. DoesStep g.K.Ord.cmp (g.S.KeyHasher.hash_of h) g.F.Change.changes c.in-Some.step c.loop-step.self c.do_step.new.self) c.loop-step.invariant.hasher c.in_ok-do_step.ensures.ok);
+  hasher = c.in_ok-do_step.ensures.hasher ∙ c.loop-step.invariant.hasher;
+  split =
+      append_assoc c.loop-step.yielded (c.in-Some.step ∷ []) (into_iter_items c.next.new.self)
+      ∙ ap (λ l. c.loop-step.yielded ++ l) (sym c.in-Some.ensures.steps.0) ∙ c.loop-step.invariant.split;
+}
+
+pub returns-in_err-do_step-clause-err : goal.returns-in_err-do_step-clause-err
+returns-in_err-do_step-clause-err g c =
+    on_err c.from_residual.result _ (
+      c.loop-step.yielded,
+      into_iter_items c.loop-step.step-iterator,
+      sym c.loop-step.invariant.split,
+      subst (λ v. Runs g.K.Ord.cmp (g.S.KeyHasher.hash_of c.args.self.now.hasher) g.F.Change.changes c.loop-step.yielded c.args.self.now v) (sym c.in_err-do_step.ensures.err) c.loop-step.invariant.ran,
+    )

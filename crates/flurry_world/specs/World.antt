@@ -1,0 +1,197 @@
+-- What a world shows, and the state of the machine that it is.
+use Rattle.std.specs.Prelude.{◌≡◌, ℕ, suc, ◌≤◌, ◌^◌, false, List, [], ◌∷◌, length, reverse, slice_get, Option, Some, None, option_map, unwrap_or, IsSome, ⊤}
+use Rattle.std.specs.declared.cmp.Ordering.{Ordering}
+use Rattle.flurry_bins.specs.declared.table.reply.KeptReply.{KeptReply}
+use Rattle.flurry_slots.specs.Slot.{Live, IsLive}
+use Rattle.flurry_steps.specs.Control as control
+use Rattle.flurry_steps.specs.Control.{Board, IsControl, IsIdle, Grows}
+use Rattle.flurry_steps.specs.Party.{TheValue, ThePair, Presence, Task, Finds, Removes, Inserts, Adds, Computes, Said, Says, SaysEnded, SaysRefused, Growing, ForInsert, ForReserve, After, ThenBin, ThenRecount, ThenGrow, Stage, AtLocate, AtBin, AtClaim, AtMove, AtUncount, AtCount, AtRecount, AtBegin, AtGrow, AtReserve, AtDone, AtTaken, Course}
+use Rattle.flurry_theory.specs.Machine as machine
+use Rattle.flurry_theory.specs.Machine.{State, Mode, Locating, Looking, Done, Finished}
+use Rattle.flurry_theory.specs.Map.{key_of}
+use Rattle.flurry_theory.specs.Trace.{is_lookup}
+use Rattle.flurry_theory.specs.Invariant.{Inv}
+use Rattle.flurry_theory.specs.declared.Call.{Call}
+use Rattle.flurry_theory.specs.declared.Call.TheVariants as call
+use Rattle.flurry_theory.specs.declared.Label.{Label}
+use Rattle.flurry_theory.specs.declared.Label.TheVariants as label
+use Rattle.flurry_world.specs.Entries.{slot_of, Hashed}
+use Rattle.flurry_world.specs.Tables.{Tables, AreTables, slots_of, content_at}
+
+-- a call that began, where it stands, and how many steps it has done
+pub record Caller (K V F : Type 0) : Type 0 where
+  pub call : Call K V F
+  pub course : Course K V F
+  pub steps : ℕ
+
+-- the hasher, the processors that share the work of a growth, the table that the world began with, the control's board, the tables,
+-- the calls in the order of their beginning, and the labels, the oldest first
+pub record Shown (K V F S : Type 0) : Type 0 where
+  pub hasher : S
+  pub processors : ℕ
+  pub first : Option ℕ
+  pub board : Board
+  pub tables : Tables K V
+  pub callers : List (Caller K V F)
+  pub trace : List (Label K V F)
+
+-- ---- the machine's view of a call in progress
+
+module _ {K V F : Type 0} where
+  -- what a call of one key has to do
+  abbrev pub task_of_call : Call K V F → Option (Task K V F)
+  task_of_call (call.Get k) = Some (Finds TheValue k)
+  task_of_call (call.GetKeyValue k) = Some (Finds ThePair k)
+  task_of_call (call.ContainsKey k) = Some (Finds Presence k)
+  task_of_call (call.Insert k v) = Some (Inserts k v)
+  task_of_call (call.TryInsert k v) = Some (Adds k v)
+  task_of_call (call.Compute k f) = Some (Computes k f)
+  task_of_call (call.Remove k) = Some (Removes TheValue k)
+  task_of_call (call.RemoveEntry k) = Some (Removes ThePair k)
+  task_of_call (call.RemoveSeen z) = None
+  task_of_call (call.Reserve n) = None
+  task_of_call call.Clear = None
+  task_of_call call.Walk = None
+
+module _ {K V : Type 0} where
+  -- the reply of a decision
+  abbrev pub reply_in : Said K V → Option (KeptReply K V)
+  reply_in (Says r) = Some r
+  reply_in SaysEnded = None
+  reply_in SaysRefused = None
+
+  -- an insertion that makes the table larger has yet to count its pair
+  abbrev pub mode_of_growing : Growing K V → Mode K V
+  mode_of_growing (ForInsert r) = Done (reply_in r) 1 0
+  mode_of_growing ForReserve = Done None 0 0
+
+  abbrev pub mode_of_end : Said K V → Mode K V
+  mode_of_end (Says r) = Done (Some r) 0 0
+  mode_of_end SaysEnded = Done None 0 0
+  mode_of_end SaysRefused = Finished
+
+module _ {K V F : Type 0} where
+  abbrev pub mode_of_after : After K V F → Mode K V
+  mode_of_after (ThenBin t e) = Looking e
+  mode_of_after (ThenRecount r) = Done (reply_in r) 0 0
+  mode_of_after (ThenGrow w g) = mode_of_growing g
+
+  abbrev pub mode_of_stage : Stage K V F → Mode K V
+  mode_of_stage (AtLocate t) = Locating
+  mode_of_stage (AtBin t e) = Looking e
+  mode_of_stage (AtClaim a) = mode_of_after a
+  mode_of_stage (AtMove c a) = mode_of_after a
+  mode_of_stage (AtUncount r) = Done (reply_in r) 0 1
+  mode_of_stage (AtCount r) = Done (reply_in r) 1 0
+  mode_of_stage (AtRecount r) = Done (reply_in r) 0 0
+  mode_of_stage (AtBegin e r) = Done (reply_in r) 0 0
+  mode_of_stage (AtGrow w g) = mode_of_growing g
+  mode_of_stage (AtReserve a) = Locating
+  mode_of_stage (AtDone r) = mode_of_end r
+  mode_of_stage AtTaken = Finished
+
+  -- the bins that it holds to move them
+  abbrev pub claim_of_stage : Stage K V F → Option machine.Claim
+  claim_of_stage (AtMove c a) = Some (record { table = c.table; low = c.low; left = c.left; high = c.high })
+  claim_of_stage s = None
+
+-- ---- the machine's state
+
+abbrev pub growth_of : control.Growth → Option machine.Growth
+growth_of IsIdle = None
+growth_of (Grows u r) = Some (record { unclaimed = u; reported = r })
+
+module _ {K V F : Type 0} where
+  -- the number of the table that was opened first
+  abbrev pub opened_in : List (Label K V F) → ℕ
+  opened_in [] = 0
+  opened_in (label.Opened e ∷ t) = e
+  opened_in (l ∷ t) = opened_in t
+
+  -- the number of the first table
+  abbrev pub start_of : Option ℕ → List (Label K V F) → ℕ
+  start_of first t = unwrap_or first (opened_in t)
+
+  abbrev pub mode_in : Option (Caller K V F) → Mode K V
+  mode_in None = Finished
+  mode_in (Some x) = mode_of_stage x.course.stage
+
+  abbrev pub claim_in : Option (Caller K V F) → Option machine.Claim
+  claim_in None = None
+  claim_in (Some x) = claim_of_stage x.course.stage
+
+  abbrev pub steps_in : Option (Caller K V F) → ℕ
+  steps_in None = 0
+  steps_in (Some x) = x.steps
+
+  abbrev pub state_of : {S : Type 0} → Shown K V F S → State K V F
+  state_of w = record {
+    start = start_of w.first (reverse w.trace);
+    published = w.board.published;
+    growth = growth_of w.board.growth;
+    slot = λ d j. slot_of (content_at w.tables d j);
+    parties = length w.callers;
+    call = λ p. option_map (λ (x : Caller K V F). x.call) (slice_get w.callers p);
+    mode = λ p. mode_in (slice_get w.callers p);
+    claim = λ p. claim_in (slice_get w.callers p);
+    count = w.board.count;
+    seen = λ _. None;
+    began_from = λ _. None;
+    steps = λ p. steps_in (slice_get w.callers p);
+    trace = reverse w.trace;
+  }
+
+  -- ---- what a world keeps
+
+  -- a call of one key that may change the map, and has this reply
+  pub record HasDecided (c : Call K V F) (r : Said K V) : Type 0 where
+    pub one_key : IsSome (key_of c)
+    pub writes : is_lookup (Some c) ≡ false
+    pub reply : IsSome (reply_in r)
+
+  abbrev pub FollowsGrowing : Call K V F → Growing K V → Type 0
+  FollowsGrowing c (ForInsert r) = HasDecided c r
+  FollowsGrowing c ForReserve = (n : ℕ) × (c ≡ call.Reserve n)
+
+  abbrev pub FollowsAfter : Call K V F → After K V F → Type 0
+  FollowsAfter c (ThenBin t e) = (task_of_call c ≡ Some t) × (is_lookup (Some c) ≡ false)
+  FollowsAfter c (ThenRecount r) = HasDecided c r
+  FollowsAfter c (ThenGrow w g) = FollowsGrowing c g
+
+  abbrev pub FollowsEnd : Call K V F → Said K V → Type 0
+  FollowsEnd c (Says r) = IsSome (key_of c)
+  FollowsEnd c SaysEnded = (n : ℕ) × (c ≡ call.Reserve n)
+  FollowsEnd c SaysRefused = ⊤
+
+  -- the stage is one of this call
+  abbrev pub FollowsStage : Call K V F → Stage K V F → Type 0
+  FollowsStage c (AtLocate t) = task_of_call c ≡ Some t
+  FollowsStage c (AtBin t e) = task_of_call c ≡ Some t
+  FollowsStage c (AtClaim a) = FollowsAfter c a
+  FollowsStage c (AtMove r a) = FollowsAfter c a
+  FollowsStage c (AtUncount r) = HasDecided c r
+  FollowsStage c (AtCount r) = HasDecided c r
+  FollowsStage c (AtRecount r) = HasDecided c r
+  FollowsStage c (AtBegin e r) = HasDecided c r
+  FollowsStage c (AtGrow w g) = FollowsGrowing c g
+  FollowsStage c (AtReserve a) = c ≡ call.Reserve a
+  FollowsStage c (AtDone r) = FollowsEnd c r
+  FollowsStage c AtTaken = ⊤
+
+  -- a call in progress goes by the hash of its key, and its stage is one of its call
+  pub record Follows (hash : K → ℕ) (x : Caller K V F) : Type 0 where
+    pub own_hash : (k : K) → key_of x.call ≡ Some k → x.course.hash ≡ hash k
+    pub stage : FollowsStage x.call x.course.stage
+
+  module _ {S : Type 0} (cmp : K → K → Ordering) (hash : K → ℕ) (gives : F → K → V → Option V → Type 0) where
+    -- The machine's invariant holds of it; its calls stand where calls of their kind can stand; each entry has its key's hash; and
+    -- there is no table before one is published, and the next one while the published one is moved.
+    pub record IsWorld (w : Shown K V F S) : Type 0 where
+      pub state : (home : ℕ → ℕ) × Inv cmp hash gives w.first home (state_of w)
+      pub callers : (p : ℕ) (x : Caller K V F) → slice_get w.callers p ≡ Some x → Follows hash x
+      pub hashed : (e i : ℕ) (b : Live K V) → content_at w.tables e i ≡ IsLive b → Hashed hash b.held
+      pub board : IsControl w.board
+      pub tables : AreTables w.tables
+      pub unmade : w.board.published ≡ None → (e : ℕ) → slots_of w.tables e ≡ []
+      pub next : (e u r : ℕ) → w.board.published ≡ Some e → w.board.growth ≡ Grows u r → (slots_of w.tables (suc e) ≡ [] → ⊥)
+      pub few : length w.trace ≤ 2 ^ 62

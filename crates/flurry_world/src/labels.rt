@@ -1,0 +1,105 @@
+//! The labels of steps.
+ghost use Rattle.std.specs.Prelude.{◌≡◌};
+ghost use Rattle.flurry_steps.specs.Party.{wanted_part};
+ghost use Rattle.flurry_steps.specs.PartyView.{said_of};
+ghost use Rattle.flurry_world.specs.Parts.{IsGoing, IsThere};
+ghost use Rattle.flurry_world.specs.Steps.{CourseStep, closing_label, label_of};
+ghost use Rattle.flurry_world.specs.World.{reply_in};
+
+use crate::parts::advance;
+use crate::tables::Tables;
+use flurry_bins::table::KeptReply;
+use flurry_slots::Change;
+use flurry_steps::party::{Event, Reply, Want};
+use flurry_steps::{Control, Party};
+use flurry_theory::Label;
+use std::alloc::Allocator;
+
+// The reply of a call of one key, with plain keys and values.
+fn kept<K: Copy + Drop, V: Copy + Drop, A: Allocator>(
+    reply: &Reply<K, V, A>,
+) -> Option<KeptReply<K, V>>
+    ensures { result ≡ reply_in (said_of reply.now) }
+{
+    match reply {
+        Reply::Value(None) => Some(KeptReply::Value(None)),
+        Reply::Value(Some(value)) => Some(KeptReply::Value(Some(**value))),
+        Reply::Pair(None) => Some(KeptReply::Pair(None)),
+        Reply::Pair(Some((key, value))) => Some(KeptReply::Pair(Some((**key, **value)))),
+        Reply::Contains(there) => Some(KeptReply::Contains(*there)),
+        Reply::New(value) => Some(KeptReply::New(**value)),
+        Reply::Exists(error) => Some(KeptReply::Exists {
+            current: *error.current,
+            not_inserted: error.not_inserted,
+        }),
+        Reply::Ended | Reply::Refused => None,
+    }
+}
+
+// The closing label of a call that is done.
+fn closing<K: Copy + Drop, V: Copy + Drop, F, A: Allocator>(
+    party: usize,
+    reply: &Reply<K, V, A>,
+) -> Label<K, V, F>
+    ensures { result ≡ closing_label party (said_of reply.now) }
+{
+    match kept(reply) {
+        Some(reply) => Label::Reply(party, reply),
+        None => match reply {
+            Reply::Ended => Label::End(party),
+            _ => Label::Silent(party),
+        },
+    }
+}
+
+// The label of a step with that event, after which the call stands as it does.
+fn label_of<'k, K: Copy + Drop, V: Copy + Drop, F: Change<K, V>, A: Allocator>(
+    party: usize,
+    event: Event,
+    call: &Party<'k, K, V, F, A>,
+) -> Label<K, V, F>
+    ensures { result ≡ label_of party event call.now.stage }
+{
+    match event {
+        Event::Decide => match call.reply() {
+            Some(reply) => match kept(reply) {
+                Some(reply) => Label::Decide(party, reply),
+                None => Label::Silent(party),
+            },
+            None => Label::Silent(party),
+        },
+        Event::Refused => Label::Refused(party),
+        Event::Opened(table) => Label::Opened(table),
+        Event::Placed(table) => Label::Placed(table),
+        Event::Moved(table, index) => Label::Moved(table, index),
+        Event::Published(table) => Label::Published(table),
+        Event::Silent => Label::Silent(party),
+    }
+}
+
+// One step of a party, and its label.
+pub(crate) fn step_of<
+    'k,
+    K: Ord + Copy + Drop,
+    V: Copy + Drop,
+    F: Change<K, V>,
+    A: Allocator + Copy,
+>(
+    alloc: A,
+    party: usize,
+    call: &mut Party<'k, K, V, F, A>,
+    control: &mut Control,
+    tables: &mut Tables<K, V, A>,
+) -> Label<K, V, F>
+    requires { IsGoing call.old.stage → IsThere tables.old (wanted_part call.old) }
+    ensures { CourseStep K.cmp F.changes party call.old.stage call.old control.old tables.old result call.new control.new tables.new }
+{
+    if let Want::Done = call.want() {
+        return match call.take_reply() {
+            Some(reply) => closing(party, &reply),
+            None => Label::Silent(party),
+        };
+    }
+    let event = advance(alloc, call, control, tables);
+    label_of(party, event, call)
+}

@@ -1,0 +1,203 @@
+//! The tables of a map, each at the place of its number.
+ghost use Rattle.std.specs.Prelude.{◌≡◌, ◌+◌, ◌<◌, ◌≤◌, ◌^◌, length, Some, IsSome, IfOk};
+ghost use Rattle.flurry_slots.specs.Slot.{IsSlot};
+ghost use Rattle.flurry_steps.specs.Control.{Board};
+ghost use Rattle.flurry_steps.specs.Party.{wanted_part, ControlPart, LookPart, BinPart, MovePart};
+ghost use Rattle.flurry_world.specs.Parts.{HalvesStep, IsThere, PartStep};
+ghost use Rattle.flurry_world.specs.Tables.{AreTables, PlaceGives, fresh, new_slots, no_tables, place_at};
+
+use flurry_bins::bin::Bin;
+use flurry_slots::{Change, Slot};
+use flurry_steps::control::Room;
+use flurry_steps::party::Event;
+use flurry_steps::{Control, Party};
+use std::alloc::{AllocError, Allocator};
+use std::marker::Model;
+use std::mem;
+
+/// The tables of a map, by their numbers: the table of number e has `2^e` slots, and a table that was not made has none.
+#[derive(Drop)]
+pub(crate) struct Tables<K: Ord, V, A: Allocator> {
+    tables: Vec<Vec<Slot<K, V, A>, A>, A>,
+}
+
+impl<K: Ord, V, A: Allocator> Model for Tables<K, V, A> {
+    ghost use Rattle.std.specs.Prelude.{List, map};
+    ghost use Rattle.flurry_slots.specs.Slot.{Place};
+    ghost use Rattle.flurry_world.specs.Tables.{AreTables};
+
+    ghost Value = { List (List (Place K V)) };
+
+    ghost view = { λ t. map (λ v. v.items) t.tables.items };
+
+    ghost invariant = { λ t. AreTables (map (λ v. v.items) t.tables.items) };
+}
+
+impl<K: Ord + Drop, V: Drop, A: Allocator + Copy> Tables<K, V, A> {
+    /// No table at any place.
+    ///
+    /// # Errors
+    ///
+    /// [`AllocError`], where memory for the places is wanting.
+    pub(crate) fn new(alloc: A) -> Result<Self, AllocError>
+        ensures { IfOk result (λ t. t ≡ no_tables) }
+    {
+        let mut tables = Vec::with_capacity(alloc, 31)?;
+        for _ in 0..31usize {
+            tables.push_reserved(Vec::new(alloc));
+        }
+        Ok(Tables { tables })
+    }
+}
+
+impl<K: Ord + Drop, V: Drop, A: Allocator + Copy> Room for Tables<K, V, A> {
+    ghost place_gives = { PlaceGives };
+
+    fn place(&mut self, table: u8, live: bool) -> Result<(), AllocError> {
+        let place = &mut self.tables[table as usize];
+        if !place.is_empty() {
+            return Ok(());
+        }
+        *place = new_slots(*place.allocator(), table, live)?;
+        Ok(())
+    }
+}
+
+impl<K: Ord + Drop, V: Drop, A: Allocator> Tables<K, V, A> {
+    // The slot of that table and index.
+    pub(crate) fn slot(&self, table: u8, index: usize) -> &Slot<K, V, A>
+        requires { IsSome (place_at self.now table index) }
+        ensures slot { place_at self.now table index ≡ Some result.now }
+        ensures table { result.now.table ≡ table }
+        ensures index { result.now.index ≡ index }
+    {
+        &self.tables[table as usize][index]
+    }
+
+    // The step of a look-up at the slot there.
+    pub(crate) fn on_look<'k, F: Change<K, V>>(
+        &self,
+        party: &mut Party<'k, K, V, F, A>,
+        table: u8,
+        index: usize,
+    ) -> Event
+        requires wants { wanted_part party.old ≡ LookPart table index }
+        requires there { IsThere self.now (LookPart table index) }
+        ensures step { (b : Board) → PartStep K.cmp F.changes (LookPart table index) party.old b self.now result party.new b self.now }
+        ensures within { AreTables self.now }
+    {
+        let _ = &self.tables;
+        party.on_look(self.slot(table, index))
+    }
+}
+
+impl<K: Ord + Drop, V: Drop, A: Allocator + Copy> Tables<K, V, A> {
+    // The step of a call at the control, where a table may be made.
+    pub(crate) fn on_control<'k, F: Change<K, V>>(
+        &mut self,
+        party: &mut Party<'k, K, V, F, A>,
+        control: &mut Control,
+    ) -> Event
+        requires { wanted_part party.old ≡ ControlPart }
+        ensures step { PartStep K.cmp F.changes ControlPart party.old control.old self.old result party.new control.new self.new }
+        ensures within { AreTables self.new }
+    {
+        let event = party.on_control(control, self);
+        let _ = &self.tables;
+        event
+    }
+
+    // The step of a call that may change the bin there.
+    pub(crate) fn on_bin<'k, F: Change<K, V>>(
+        &mut self,
+        alloc: A,
+        party: &mut Party<'k, K, V, F, A>,
+        table: u8,
+        index: usize,
+    ) -> Event
+        requires wants { wanted_part party.old ≡ BinPart table index }
+        requires there { IsThere self.old (BinPart table index) }
+        ensures step { (b : Board) → PartStep K.cmp F.changes (BinPart table index) party.old b self.old result party.new b self.new }
+        ensures within { AreTables self.new }
+    {
+        let slots = &mut self.tables[table as usize];
+        party.on_bin(alloc, &mut slots[index])
+    }
+}
+
+impl<K: Ord + Drop, V: Drop, A: Allocator> Tables<K, V, A> {
+    // The step of a helper at the slot there and its two halves in the next table.
+    pub(crate) fn on_move<'k, F: Change<K, V>>(
+        &mut self,
+        party: &mut Party<'k, K, V, F, A>,
+        table: u8,
+        index: usize,
+    ) -> Event
+        requires wants { wanted_part party.old ≡ MovePart table index }
+        requires there { IsThere self.old (MovePart table index) }
+        ensures step { (b : Board) → PartStep K.cmp F.changes (MovePart table index) party.old b self.old result party.new b self.new }
+        ensures within { AreTables self.new }
+    {
+        let (front, back) = self.tables.split_at_mut(table as usize + 1);
+        let olds = &mut front[table as usize];
+        let news = &mut back[0];
+        move_between(party, &mut olds[index], news, table, index)
+    }
+}
+
+// The same, with the slot and the next table. Its low half is taken out of there for the step, since both halves are lent at once.
+fn move_between<'k, K: Ord + Drop, V: Drop, F: Change<K, V>, A: Allocator>(
+    party: &mut Party<'k, K, V, F, A>,
+    old: &mut Slot<K, V, A>,
+    news: &mut Vec<Slot<K, V, A>, A>,
+    table: u8,
+    index: usize,
+) -> Event
+    requires wants { wanted_part party.old ≡ MovePart old.old.table old.old.index }
+    requires table { table < 30 }
+    requires low { index < 2 ^ table }
+    requires high { index + 2 ^ table < length news.old.items }
+    ensures within { IsSlot K.cmp old.old }
+    ensures step { HalvesStep party.old old.old index (index + 2 ^ table) news.old.items result party.new old.new news.new.items }
+{
+    let place = index + (1usize << table);
+    let mut low = mem::replace(&mut news[index], Slot::unborn(table + 1, index));
+    let high = &mut news[place];
+    let event = party.on_move(old, &mut low, high);
+    news[index] = low;
+    event
+}
+
+// The slots of a new table, with live and empty bins, or with bins that are not born yet.
+fn new_slots<K: Ord + Drop, V: Drop, A: Allocator>(
+    alloc: A,
+    table: u8,
+    live: bool,
+) -> Result<Vec<Slot<K, V, A>, A>, AllocError>
+    requires { table ≤ 30 }
+    ensures { IfOk result (λ v. v.items ≡ new_slots table live (2 ^ table)) }
+{
+    let bins = 1usize << table;
+    let mut slots = Vec::with_capacity(alloc, bins)?;
+    for index in 0..bins {
+        slots.push_reserved(new_slot(table, index, live));
+    }
+    Ok(slots)
+}
+
+// One of them.
+fn new_slot<K: Ord + Drop, V: Drop, A: Allocator>(
+    table: u8,
+    index: usize,
+    live: bool,
+) -> Slot<K, V, A>
+    requires table { table ≤ 30 }
+    requires index { index < 2 ^ table }
+    ensures { result ≡ record { table = table; index = index; content = fresh live } }
+{
+    if live {
+        Slot::live_at(table, index, Bin::new(), 0)
+    } else {
+        Slot::unborn(table, index)
+    }
+}

@@ -1,0 +1,224 @@
+//! Each call once, a list of steps, and the first table of a new world.
+
+use super::{Line, Numbers, assert_call, assert_reply, begin, end_of, line_of, value};
+use crate::world::Step;
+use flurry_bins::hash::LowHashBuilder;
+use flurry_bins::table::KeptReply;
+use flurry_slots::{Change, NoChange};
+use flurry_steps::party::KeptCall;
+use std::alloc::Global;
+use std::process::Abort;
+use std::test::Fail;
+
+// Adds 2 to a value, and takes out the pair of one that would be 10 or more.
+fn two_more(value: u64) -> Option<u64> {
+    value.checked_add(2).filter(|sum| *sum < 10)
+}
+
+#[test]
+fn calls_without_a_table(rt: HostRuntime) -> Result<(), Fail> {
+    absent_key(&rt, rt.alloc(), |_key: &u64, value: &u64| two_more(*value))
+}
+
+fn absent_key<F: Change<u64, u64> + Copy>(
+    rt: &impl Abort,
+    alloc: Global,
+    change: F,
+) -> Result<(), Fail>
+    requires { (f : F) → F.can_change f }
+{
+    let mut world = Numbers::new(alloc, 0, LowHashBuilder, 1)?;
+    let none = value(None);
+    let absent = KeptReply::Contains(false);
+    assert_reply(rt, &mut world, KeptCall::Get(3), none)?;
+    assert_reply(
+        rt,
+        &mut world,
+        KeptCall::GetKeyValue(3),
+        KeptReply::Pair(None),
+    )?;
+    assert_reply(rt, &mut world, KeptCall::ContainsKey(3), absent)?;
+    assert_reply(rt, &mut world, KeptCall::Remove(3), none)?;
+    assert_reply(
+        rt,
+        &mut world,
+        KeptCall::RemoveEntry(3),
+        KeptReply::Pair(None),
+    )?;
+    assert_reply(rt, &mut world, KeptCall::Compute(3, change), none)?;
+    let party = begin(&mut world, KeptCall::Reserve(40))?;
+    assert_eq!(rt; end_of(&mut world, party)?, Line::End(party));
+    Ok(())
+}
+
+#[test]
+fn calls_of_one_key(rt: HostRuntime) -> Result<(), Fail> {
+    one_key(&rt, rt.alloc(), |_key: &u64, value: &u64| two_more(*value))
+}
+
+fn one_key<F: Change<u64, u64> + Copy>(
+    rt: &impl Abort,
+    alloc: Global,
+    change: F,
+) -> Result<(), Fail>
+    requires { (f : F) → F.can_change f }
+{
+    let mut world = Numbers::new(alloc, 0, LowHashBuilder, 1)?;
+    puts(rt, &mut world)?;
+    assert_reply(rt, &mut world, KeptCall::Compute(3, change), value(Some(7)))?;
+    assert_reply(
+        rt,
+        &mut world,
+        KeptCall::Compute(19, change),
+        value(Some(8)),
+    )?;
+    assert_reply(rt, &mut world, KeptCall::Compute(19, change), value(None))?;
+    removes(rt, &mut world)
+}
+
+// Puts 5 at key 3, and 6 at key 19.
+fn puts<'k, F: Change<u64, u64> + Copy>(
+    rt: &impl Abort,
+    world: &mut Numbers<'k, F>,
+) -> Result<(), Fail>
+    requires { (f : F) → F.can_change f }
+{
+    let exists = KeptReply::Exists {
+        current: 6,
+        not_inserted: 7,
+    };
+    assert_reply(rt, world, KeptCall::Insert(3, 4), value(None))?;
+    assert_reply(rt, world, KeptCall::Insert(3, 5), value(Some(4)))?;
+    assert_reply(rt, world, KeptCall::TryInsert(19, 6), KeptReply::New(6))?;
+    assert_reply(rt, world, KeptCall::TryInsert(19, 7), exists)?;
+    assert_reply(rt, world, KeptCall::Get(3), value(Some(5)))
+}
+
+// Removes key 3, whose value is 7, while key 19 is absent.
+fn removes<'k, F: Change<u64, u64> + Copy>(
+    rt: &impl Abort,
+    world: &mut Numbers<'k, F>,
+) -> Result<(), Fail>
+    requires { (f : F) → F.can_change f }
+{
+    let pair = KeptReply::Pair(Some((3, 7)));
+    assert_reply(
+        rt,
+        world,
+        KeptCall::ContainsKey(19),
+        KeptReply::Contains(false),
+    )?;
+    assert_reply(
+        rt,
+        world,
+        KeptCall::ContainsKey(3),
+        KeptReply::Contains(true),
+    )?;
+    assert_reply(rt, world, KeptCall::GetKeyValue(3), pair)?;
+    assert_reply(rt, world, KeptCall::RemoveEntry(3), pair)?;
+    assert_reply(rt, world, KeptCall::Insert(35, 1), value(None))?;
+    assert_reply(rt, world, KeptCall::Remove(35), value(Some(1)))
+}
+
+#[test]
+fn list_of_steps(rt: HostRuntime) -> Result<(), Fail> {
+    runs_a_list::<NoChange>(&rt, rt.alloc())
+}
+
+// The steps, each by the call that does it.
+fn does_singly<'k, F: Change<u64, u64> + Copy>(
+    world: &mut Numbers<'k, F>,
+    steps: &[Step<u64, u64, F>],
+) -> Result<(), Fail>
+    requires { (f : F) → F.can_change f }
+{
+    for step in steps {
+        match step {
+            Step::Begin(call) => {
+                let _ = begin(world, *call)?;
+            }
+            Step::Step(party) => world.step(*party)?,
+        }
+    }
+    Ok(())
+}
+
+// A list of steps and the same steps one by one have the same labels.
+fn runs_a_list<F: Change<u64, u64> + Copy>(rt: &impl Abort, alloc: Global) -> Result<(), Fail>
+    requires { (f : F) → F.can_change f }
+{
+    let mut list = Vec::new(alloc);
+    list.push(Step::Begin(KeptCall::TryInsert(3, 4)))?;
+    list.push(Step::Begin(KeptCall::TryInsert(19, 4)))?;
+    for party in [0, 1, 1, 0, 7, 0] {
+        list.push(Step::Step(party))?;
+    }
+    let mut single: Numbers<'_, F> = Numbers::new(alloc, 0, LowHashBuilder, 1)?;
+    does_singly(&mut single, list.as_slice())?;
+    let mut listed: Numbers<'_, F> = Numbers::new(alloc, 0, LowHashBuilder, 1)?;
+    listed.run(list)?;
+    let lines = [
+        Line::Begin(0),
+        Line::Begin(1),
+        Line::Opened(4),
+        Line::Silent(1),
+        Line::Decide(1, KeptReply::New(4)),
+        Line::Decide(0, KeptReply::New(4)),
+        Line::Silent(7),
+        Line::Silent(0),
+    ];
+    assert_trace(rt, &listed, &lines)?;
+    assert_trace(rt, &single, &lines)
+}
+
+// The labels of a world are these.
+fn assert_trace<'k, F: Change<u64, u64> + Copy>(
+    rt: &impl Abort,
+    world: &Numbers<'k, F>,
+    lines: &[Line],
+) -> Result<(), Fail> {
+    assert_eq!(rt; world.trace().len(), lines.len());
+    for (label, line) in world.trace().iter().zip(lines) {
+        assert_eq!(rt; line_of(label)?, *line);
+    }
+    Ok(())
+}
+
+#[test]
+fn first_table(rt: HostRuntime) -> Result<(), Fail> {
+    first_tables::<NoChange>(&rt, rt.alloc())
+}
+
+// The table for 1 pair has 2 bins, for 5 pairs 8, and for 16 pairs 32.
+fn first_tables<F: Change<u64, u64> + Copy>(rt: &impl Abort, alloc: Global) -> Result<(), Fail>
+    requires { (f : F) → F.can_change f }
+{
+    let mut empty: Numbers<'_, F> = Numbers::new(alloc, 0, LowHashBuilder, 1)?;
+    assert_call(
+        rt,
+        &mut empty,
+        0,
+        KeptCall::Insert(0, 0),
+        &[Line::Opened(4)],
+    )?;
+    for (capacity, table) in [(1, 1), (5, 3), (16, 5)] {
+        let world: Numbers<'_, F> = Numbers::new(alloc, capacity, LowHashBuilder, 1)?;
+        begins_with(rt, world, table)?;
+    }
+    Ok(())
+}
+
+// An insertion decides in the first table, and the next one that a reserve makes tells which one it is.
+fn begins_with<'k, F: Change<u64, u64> + Copy>(
+    rt: &impl Abort,
+    mut world: Numbers<'k, F>,
+    table: u8,
+) -> Result<(), Fail>
+    requires { (f : F) → F.can_change f }
+{
+    let lines = [Line::Silent(0), Line::Decide(0, value(None))];
+    assert_call(rt, &mut world, 0, KeptCall::Insert(0, 0), &lines)?;
+    assert_eq!(rt; end_of(&mut world, 0)?, Line::Reply(0, value(None)));
+    let lines = [Line::Silent(1), Line::Placed(table.saturating_add(1))];
+    assert_call(rt, &mut world, 1, KeptCall::Reserve(64), &lines)
+}

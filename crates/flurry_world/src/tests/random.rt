@@ -1,0 +1,219 @@
+//! Random schedules, each label of which is checked.
+ghost use Rattle.std.specs.Prelude.{◌<◌};
+
+use super::checker::{Checker, KEYS};
+use super::{Numbers, begin};
+use flurry_bins::hash::LowHashBuilder;
+use flurry_slots::Change;
+use flurry_steps::control::wanted_table;
+use flurry_steps::party::KeptCall;
+use std::alloc::Global;
+use std::test::Fail;
+
+// A generator of numbers, `xorshift64*`.
+#[derive(Drop)]
+struct Random {
+    state: u64,
+}
+
+impl Random {
+    // A number below the bound.
+    fn below(&mut self, bound: u64) -> u64
+        requires { 0 < bound }
+        ensures { result < bound }
+    {
+        let mut state = self.state;
+        state ^= state >> 12;
+        state ^= state << 25;
+        state ^= state >> 27;
+        self.state = state;
+        (state.wrapping_mul(0x2545_f491_4f6c_dd1d) >> 33) % bound
+    }
+}
+
+// A call of one of the few keys, or a reserve of up to 64.
+fn random_call<F: Change<u64, u64>>(random: &mut Random, change: F) -> KeptCall<u64, u64, F> {
+    let key = random.below(KEYS);
+    let value = random.below(1000);
+    match random.below(16) {
+        0 | 1 => KeptCall::Get(key),
+        2 => KeptCall::GetKeyValue(key),
+        3 => KeptCall::ContainsKey(key),
+        4 | 5 => KeptCall::Remove(key),
+        6 => KeptCall::RemoveEntry(key),
+        7 | 8 | 9 | 10 => KeptCall::Insert(key, value),
+        11 | 12 => KeptCall::TryInsert(key, value),
+        13 | 14 => KeptCall::Compute(key, change),
+        _ => KeptCall::Reserve(random.below(65) as usize),
+    }
+}
+
+// A world, the checker of its labels, the number of steps of each party, and how many calls have closed.
+#[derive(Drop)]
+struct Checked<'k, F: Change<u64, u64> + Copy> {
+    world: Numbers<'k, F>,
+    checker: Checker<F>,
+    steps: Vec<u64>,
+    closed: u64,
+}
+
+impl<'k, F: Change<u64, u64> + Copy> Checked<'k, F> {
+    // A world for up to 16 pairs and of up to 4 processors, where no call has begun.
+    fn new(alloc: Global, random: &mut Random) -> Result<Self, Fail> {
+        let capacity = random.below(17) as usize;
+        let processors = random.below(4) as usize + 1;
+        let first = if capacity == 0 {
+            None
+        } else {
+            Some(wanted_table(capacity))
+        };
+        Ok(Checked {
+            world: Numbers::new(alloc, capacity, LowHashBuilder, processors)?,
+            checker: Checker::new(alloc, first)?,
+            steps: Vec::new(alloc),
+            closed: 0,
+        })
+    }
+
+    fn check_last(&mut self) -> Result<(), Fail>
+        requires { (f : F) → F.can_change f }
+    {
+        match self.world.trace().last() {
+            Some(label) => self.checker.check(label),
+            None => Err(Fail::from("a label was added")),
+        }
+    }
+
+    fn begin(&mut self, call: KeptCall<u64, u64, F>) -> Result<usize, Fail>
+        requires { (f : F) → F.can_change f }
+    {
+        let party = begin(&mut self.world, call)?;
+        self.check_last()?;
+        self.steps.push(0)?;
+        Ok(party)
+    }
+
+    // A look-up has decided after 32 steps.
+    fn step(&mut self, party: usize) -> Result<(), Fail>
+        requires { (f : F) → F.can_change f }
+    {
+        self.world.step(party)?;
+        let was_closed = self.checker.is_closed(party);
+        self.check_last()?;
+        if !was_closed && self.checker.is_closed(party) {
+            self.closed = self.closed.wrapping_add(1);
+        }
+        let Some(steps) = self.steps.get_mut(party) else {
+            return Err(Fail::from("the party began"));
+        };
+        *steps = steps.wrapping_add(1);
+        if *steps >= 32 && self.checker.looks_up(party) {
+            return Err(Fail::from("a look-up decides within 32 steps"));
+        }
+        Ok(())
+    }
+
+    // Looks each key up. What each call answers is checked with its labels.
+    fn look_all_up(&mut self) -> Result<(), Fail>
+        requires { (f : F) → F.can_change f }
+    {
+        for key in 0..KEYS {
+            let party = self.begin(KeptCall::Get(key))?;
+            self.close(party)?;
+        }
+        Ok(())
+    }
+
+    // Steps a look-up to its reply.
+    fn close(&mut self, party: usize) -> Result<(), Fail>
+        requires { (f : F) → F.can_change f }
+    {
+        for _ in 0..33u64 {
+            self.step(party)?;
+            if self.checker.is_closed(party) {
+                return Ok(());
+            }
+        }
+        Err(Fail::from("a look-up has replied after 33 steps"))
+    }
+}
+
+// One of so many parties: mostly one of the latest five.
+fn random_party(random: &mut Random, parties: u64) -> usize {
+    let among = if random.below(4) == 0 {
+        parties
+    } else {
+        parties.min(5)
+    };
+    let back = random.below(among.max(1)).saturating_add(1);
+    parties.saturating_sub(back) as usize
+}
+
+// 200 steps, of which every sixth or so is the beginning of a call. A party that is stepped is likely to be stepped again.
+fn random_steps<'k, F: Change<u64, u64> + Copy>(
+    checked: &mut Checked<'k, F>,
+    random: &mut Random,
+    change: F,
+) -> Result<(), Fail>
+    requires { (f : F) → F.can_change f }
+{
+    let mut going = checked.begin(random_call(random, change))?;
+    let mut parties = 1u64;
+    for _ in 1..200u64 {
+        if random.below(6) == 0 {
+            let _ = checked.begin(random_call(random, change))?;
+            parties = parties.saturating_add(1);
+        } else {
+            if checked.checker.is_closed(going) || random.below(8) == 0 {
+                going = random_party(random, parties);
+            }
+            checked.step(going)?;
+        }
+    }
+    Ok(())
+}
+
+// So many schedules, from a seed on. Answers how many calls have replied or ended in them, and how many growths were published.
+fn schedules<F: Change<u64, u64> + Copy>(
+    alloc: Global,
+    seed: u64,
+    count: u64,
+    change: F,
+) -> Result<(u64, u64), Fail>
+    requires { (f : F) → F.can_change f }
+{
+    let mut random = Random { state: seed };
+    let mut closed = 0u64;
+    let mut growths = 0u64;
+    for _ in 0..count {
+        let mut checked = Checked::new(alloc, &mut random)?;
+        random_steps(&mut checked, &mut random, change)?;
+        closed = closed.wrapping_add(checked.closed);
+        growths = growths.wrapping_add(checked.checker.growths());
+        checked.look_all_up()?;
+    }
+    Ok((closed, growths))
+}
+
+// 1000 schedules of 200 steps each. About one step in six begins a call, so that some 34,000 calls begin. Most of them reply or end,
+// and some hundred growths are published.
+#[test]
+fn random_schedules(rt: HostRuntime) -> Result<(), Fail> {
+    let (closed, growths) = schedules(
+        rt.alloc(),
+        88_172_645_463_325_252,
+        1000,
+        |_key: &u64, value: &u64| {
+            if *value % 2 == 0 {
+                Some(value.wrapping_mul(2))
+            } else {
+                None
+            }
+        },
+    )?;
+    assert!(rt;
+        closed >= 20_000 && growths >= 300,
+        "{closed} and {growths}"
+    );
+    Ok(())
+}

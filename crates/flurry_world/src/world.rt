@@ -1,0 +1,229 @@
+//! A world: calls of a map in any order of steps.
+ghost use Rattle.std.specs.Prelude.{◌≡◌, ◌<◌, ◌^◌, length, pos, OnOk, OnErr, IfOk};
+ghost use Rattle.std.specs.Vec.{vec_len, vec_capacity};
+ghost use Rattle.flurry_steps.specs.Control.{IsIdle};
+ghost use Rattle.flurry_steps.specs.PartyView.{KeptIsReady};
+ghost use Rattle.flurry_world.specs.Lawful.{IsLawful};
+ghost use Rattle.flurry_world.specs.Runs.{DoesStep, NewGives, Runs, RunsFront, begun_with};
+ghost use Rattle.flurry_world.specs.Steps.{WorldStep, fresh_world};
+ghost use Rattle.flurry_world.specs.World.{IsWorld};
+
+use crate::caller::{Caller, hash_for, labelled};
+use crate::labels::step_of;
+use crate::tables::Tables;
+use flurry_bins::hash::KeyHasher;
+use flurry_slots::Change;
+use flurry_steps::control::wanted_table;
+use flurry_steps::party::KeptCall;
+use flurry_steps::{Control, Party};
+use flurry_theory::Label;
+use std::alloc::{AllocError, Allocator, Global};
+use std::marker::Model;
+
+/// The most labels of a world. A further one is refused as if memory were wanting, which no memory reaches.
+pub const MOST_LABELS: usize = 1 << 62;
+
+/// One step of a list that a world runs.
+#[derive(Clone, Copy, Debug)]
+pub enum Step<K, V, F> {
+    /// A call begins.
+    Begin(KeptCall<K, V, F>),
+    /// The party of that number does its next step.
+    Step(usize),
+}
+
+#[derive(Drop)]
+pub struct World<
+    'k,
+    K: Ord + Copy,
+    V: Copy,
+    F: Change<K, V> + Copy,
+    S: KeyHasher<K>,
+    A: Allocator + Copy = Global,
+> {
+    alloc: A,
+    hasher: S,
+    processors: usize,
+    first: Option<u8>,
+    control: Control,
+    tables: Tables<K, V, A>,
+    callers: Vec<Caller<'k, K, V, F, A>, A>,
+    trace: Vec<Label<K, V, F>, A>,
+}
+
+impl<'k, K: Ord + Copy, V: Copy, F: Change<K, V> + Copy, S: KeyHasher<K>, A: Allocator + Copy> Model
+    for World<'k, K, V, F, S, A> {
+    ghost use Rattle.flurry_world.specs.World.{Shown, IsWorld};
+    ghost use Rattle.flurry_world.specs.WorldView.{shown_of};
+
+    ghost Value = { Shown K V F S };
+
+    ghost view = { shown_of };
+
+    ghost invariant = { λ w. IsWorld K.cmp (S.hash_of w.hasher) F.changes (shown_of w) };
+}
+
+impl<
+    'k,
+    K: Ord + Copy + Drop,
+    V: Copy + Drop,
+    F: Change<K, V> + Copy,
+    S: KeyHasher<K> + Drop,
+    A: Allocator + Copy,
+> World<'k, K, V, F, S, A> {
+    /// A world where no call has begun, for so many pairs: with 0 it has no table, and else a table of as many bins as a map of that
+    /// capacity. The processors share the work of a growth; 0 counts as 1.
+    ///
+    /// Linear time in the bins.
+    ///
+    /// # Errors
+    ///
+    /// [`AllocError`], where memory for the table is wanting, or for the places of tables.
+    pub fn new(alloc: A, capacity: usize, hasher: S, processors: usize) -> Result<Self, AllocError>
+        ensures { IfOk result (NewGives capacity hasher processors) }
+    {
+        let mut control = Control::new();
+        let mut tables = Tables::new(alloc)?;
+        if capacity == 0 {
+            return Ok(World::of(alloc, hasher, processors, None, control, tables));
+        }
+        let first = control.open(wanted_table(capacity), &mut tables)?;
+        Ok(World::of(alloc, hasher, processors, Some(first), control, tables))
+    }
+
+    // A world where no call has begun, that begins with this table.
+    fn of(
+        alloc: A,
+        hasher: S,
+        processors: usize,
+        first: Option<u8>,
+        control: Control,
+        tables: Tables<K, V, A>,
+    ) -> Self
+        requires board { control ≡ record { published = first; growth = IsIdle; count = pos 0 } }
+        requires world { IsWorld K.cmp (S.hash_of hasher) F.changes (fresh_world {K = K} {V = V} {F = F} hasher processors first tables) }
+        ensures { result ≡ fresh_world hasher processors first tables }
+    {
+        World {
+            alloc,
+            hasher,
+            processors,
+            first,
+            control,
+            tables,
+            callers: Vec::new(alloc),
+            trace: Vec::new(alloc),
+        }
+    }
+
+    /// Begins a call, and answers the number of its party: parties are numbered from 0 in the order in which they begin. The call has
+    /// done no step yet.
+    ///
+    /// Constant time, but that the lists of parties and labels grow.
+    ///
+    /// # Errors
+    ///
+    /// [`AllocError`], where memory for the party or its label is wanting. The world is then as before, and the call is dropped.
+    pub fn begin(&mut self, call: KeptCall<K, V, F>) -> Result<usize, AllocError>
+        requires { KeptIsReady F.can_change call }
+        ensures party { IfOk result (λ p. p ≡ length self.old.callers) }
+        ensures ok { OnOk result (self.new ≡ begun_with (S.hash_of self.old.hasher) self.old call) }
+        ensures err { OnErr result (self.new ≡ self.old) }
+    {
+        make_room(&mut self.trace)?;
+        make_room(&mut self.callers)?;
+        let party = self.callers.len();
+        let hash = hash_for(&self.hasher, &call);
+        let kept = labelled(call);
+        self.callers.push_reserved(Caller {
+            call: kept,
+            party: Party::kept(call, hash, self.processors),
+            steps: 0,
+        });
+        self.trace.push_reserved(Label::Begin(party, kept));
+        Ok(party)
+    }
+
+    /// Does one step of a party, and adds its label. A party that has finished, and one that never began, does nothing, and its label
+    /// is silent.
+    ///
+    /// As many steps as the party's step takes, which makes a table, moves a bin or looks into one at most.
+    ///
+    /// # Errors
+    ///
+    /// [`AllocError`], where memory for the label is wanting. The world is then as before. (Where memory is wanting for what the step
+    /// itself needs, the step is done, and its label or the party's later ones say so.)
+    pub fn step(&mut self, party: usize) -> Result<(), AllocError>
+        ensures ok { OnOk result (WorldStep K.cmp F.changes self.old party self.new) }
+        ensures err { OnErr result (self.new ≡ self.old) }
+    {
+        make_room(&mut self.trace)?;
+        if party >= self.callers.len() {
+            self.trace.push_reserved(Label::Silent(party));
+            return Ok(());
+        }
+        let caller = &mut self.callers[party];
+        caller.steps += 1;
+        let call = &mut caller.party;
+        let label = step_of(self.alloc, party, call, &mut self.control, &mut self.tables);
+        self.trace.push_reserved(label);
+        Ok(())
+    }
+
+    /// Does the steps of a list, one after another. [`World::trace`] has their labels then.
+    ///
+    /// As many steps as those of the list take.
+    ///
+    /// # Errors
+    ///
+    /// [`AllocError`], where memory for a party or a label is wanting. A front of the list is done then, and the world is as after its
+    /// last label.
+    pub fn run(&mut self, steps: Vec<Step<K, V, F>, A>) -> Result<(), AllocError>
+        requires { (f : F) → F.can_change f }
+        ensures ok { OnOk result (Runs K.cmp (S.hash_of self.old.hasher) F.changes steps.items self.old self.new) }
+        ensures err { OnErr result (RunsFront K.cmp (S.hash_of self.old.hasher) F.changes steps.items self.old self.new) }
+    {
+        for step in steps {
+            self.do_step(step)?;
+        }
+        Ok(())
+    }
+
+    fn do_step(&mut self, step: Step<K, V, F>) -> Result<(), AllocError>
+        requires { (f : F) → F.can_change f }
+        ensures ok { OnOk result (DoesStep K.cmp (S.hash_of self.old.hasher) F.changes step self.old self.new) }
+        ensures hasher { self.new.hasher ≡ self.old.hasher }
+        ensures err { OnErr result (self.new ≡ self.old) }
+    {
+        match step {
+            Step::Begin(call) => {
+                self.begin(call)?;
+                Ok(())
+            }
+            Step::Step(party) => self.step(party),
+        }
+    }
+
+    /// The labels since the world was made, the oldest first.
+    ///
+    /// Constant time.
+    pub fn trace(&self) -> &[Label<K, V, F>]
+        ensures labels { result.now ≡ self.now.trace }
+        ensures lawful { IsLawful K.cmp (S.hash_of self.now.hasher) F.changes self.now }
+        ensures world { IsWorld K.cmp (S.hash_of self.now.hasher) F.changes self.now }
+    {
+        self.trace.as_slice()
+    }
+}
+
+// Room for one more in a list that has less than the most.
+fn make_room<T, A: Allocator>(list: &mut Vec<T, A>) -> Result<(), AllocError>
+    ensures same { list.new.items ≡ list.old.items }
+    ensures few { OnOk result (length list.new.items < 2 ^ 62) }
+    ensures room { OnOk result (vec_len list.new < vec_capacity list.new) }
+{
+    if list.len() >= MOST_LABELS {
+        return Err(AllocError);
+    }
+    list.reserve(1)
+}
