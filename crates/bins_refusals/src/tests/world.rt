@@ -419,7 +419,10 @@ fn refusals_of_a_reserve<F: Change<u64, u64> + Copy>(
 const STEPS: usize = 9;
 
 // The list's steps from that one on.
-fn steps_from<F>(memory: Memory, first: usize) -> Result<Vec<Step<u64, u64, F>, Memory>, Fail> {
+fn steps_from<F: Change<u64, u64> + Copy>(
+    memory: Memory,
+    first: usize,
+) -> Result<Vec<Step<u64, u64, F>, Memory>, Fail> {
     let mut steps = Vec::new(memory);
     for at in first..STEPS {
         let step = match at {
