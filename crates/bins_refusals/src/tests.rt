@@ -2,6 +2,7 @@
 
 mod slot;
 mod world;
+mod world_rows;
 
 use flurry_bins::bin::{Bin, Entry, ListBin, Node, Ordered, Shape, TreeBin};
 use std::alloc::{AllocError, Global};

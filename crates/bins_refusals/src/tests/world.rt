@@ -15,7 +15,7 @@ use std::test::Fail;
 use test_alloc::Refusing;
 
 // A world whose hashes are its keys.
-type Numbers<F> = World<'static, u64, u64, F, LowHashBuilder, Memory>;
+pub(super) type Numbers<F> = World<'static, u64, u64, F, LowHashBuilder, Memory>;
 
 // No call makes so many requests, and none needs so many steps.
 const MOST: u64 = 1000;
@@ -94,6 +94,30 @@ fn text<F: Change<u64, u64> + Copy + Debug>(
     world: &Numbers<F>,
 ) -> Result<String, Fail> {
     Ok(format!(in alloc; "{:?}", world.trace())?)
+}
+
+// The labels from that one on as text.
+pub(super) fn labels_from<F: Change<u64, u64> + Copy + Debug>(
+    alloc: Global,
+    world: &Numbers<F>,
+    first: usize,
+) -> Result<String, Fail> {
+    let Some(labels) = world.trace().get(first..) else {
+        return Err(Fail::from("so many labels are there"));
+    };
+    Ok(format!(in alloc; "{labels:?}")?)
+}
+
+// The next steps of a party, until the world has so many labels.
+pub(super) fn step_to<F: Change<u64, u64> + Copy>(
+    world: &mut Numbers<F>,
+    party: usize,
+    labels: usize,
+) -> Result<(), Fail> {
+    for _ in world.trace().len()..labels {
+        world.step(party)?;
+    }
+    Ok(())
 }
 
 // A world of the keys from 0 on, each its own value.
