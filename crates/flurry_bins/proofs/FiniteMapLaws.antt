@@ -1,14 +1,12 @@
 -- Laws of finite maps.
-use Rattle.std.proofs.Common.{◌≡◌, ℕ, ◌+◌, ◌-◌, ◌<◌, Bool, true, false, cond, suc, List, [], ◌∷◌, ◌++◌, length, Option, Some, None, is_some, refl, sym, ap, ◌∙◌, subst, arith, Ordering, Less, Equal, Greater}
-use Rattle.std.specs.Ordering.{is_eq, match_ordering, ordering_reverse}
-use Rattle.std.specs.Cmp.{IsTotalOrder, alike_right, tied_back, tied_itself}
+use Rattle.std.proofs.Common.{◌≡◌, ℕ, ◌+◌, ◌-◌, ◌<◌, Bool, true, false, cond, suc, List, [], ◌∷◌, ◌++◌, length, Option, Some, None, is_some, refl, sym, ap, ◌∙◌, arith, Ordering, Less, Equal, Greater}
+use Rattle.std.specs.Ordering.{is_eq, ordering_reverse}
+use Rattle.std.specs.Cmp.{IsTotalOrder, alike_right, tied_itself}
 use Rattle.std.specs.Option.{option_map_or}
 use Rattle.std.specs.List.{AllByRecursion, filter}
 use Rattle.std.specs.List.Sorted.{IsStrictlySortedBy}
 use Rattle.std.specs.Map.{keys_of}
-use Rattle.std.specs.BTreeMap.{insert_entry}
 use Rattle.std.proofs.lemmas.Map.Keys.{sorted_head, sorted_tail}
-use Rattle.std.proofs.lemmas.Grind.{common_steps}
 use Rattle.flurry_bins.specs.FiniteMap.{IsFiniteMap, pair_at, with_pair, with_all, without, stored_key, gathered}
 
 same_test : {X : Type 0} (b c : Bool) (x y z : X) → b ≡ c → cond c x z ≡ cond b x (cond c y z)

@@ -1,5 +1,5 @@
 -- Laws of the greatest of some numbers.
-use Rattle.std.proofs.Common.{◌≡◌, ℕ, max, List, [], ◌∷◌, ◌++◌, map, refl, sym, ap, ◌∙◌, arith}
+use Rattle.std.proofs.Common.{◌≡◌, ℕ, max, List, [], ◌∷◌, ◌++◌, map, sym, ap, ◌∙◌, arith}
 use Rattle.std.proofs.lemmas.List.{map-append}
 use Rattle.flurry_bins.specs.declared.bin.node.Colour.{Colour}
 use Rattle.flurry_bins.specs.Greatest.{greatest}

@@ -1,6 +1,6 @@
 -- An edit of a bin's entries is the edit of the finite map that they make.
-use Rattle.std.proofs.Common.{◌≡◌, ℕ, Bool, true, false, not, cond, List, [], ◌∷◌, ◌++◌, map, filter, Option, Some, None, refl, sym, ap, ◌∙◌, Ordering, Less, Equal, Greater}
-use Rattle.std.specs.Ordering.{is_eq, is_lt, is_gt}
+use Rattle.std.proofs.Common.{◌≡◌, ℕ, Bool, true, false, cond, List, [], ◌∷◌, ◌++◌, map, filter, Option, Some, None, refl, sym, ap, ◌∙◌, Ordering, Less, Equal, Greater}
+use Rattle.std.specs.Ordering.{is_gt}
 use Rattle.std.specs.Cmp.{IsTotalOrder}
 use Rattle.std.specs.Int.{bit_at}
 use Rattle.std.specs.Prelude.{◌==◌}
@@ -16,11 +16,11 @@ use Rattle.std.specs.Borrow.{Bor}
 use Rattle.std.specs.Arc.{arc_value}
 use Rattle.std.specs.declared.sync.Arc.{Arc}
 use Rattle.flurry_bins.specs.declared.bin.entry.Entry.{Entry}
-use Rattle.flurry_bins.specs.Entries.{place_cmp, entry_cmp, IsAscending, is_at, is_before, is_past, entry_at, first_past, is_past_bound, placed, replaced, without as without_place, with_value, with_bit}
+use Rattle.flurry_bins.specs.Entries.{place_cmp, entry_cmp, IsAscending, is_at, is_past, entry_at, first_past, placed, replaced, without as without_place, with_value, with_bit}
 use Rattle.flurry_bins.specs.FiniteMap.{IsFiniteMap, pair_at, with_pair, without}
 use Rattle.flurry_bins.specs.PlainEntries.{hash_then_key, is_held_past, pair_with, plain, plain_all, plain_with_bit}
 use Rattle.flurry_bins.proofs.Sides.{sorted_tail}
-use Rattle.flurry_bins.proofs.Places.{hash_then_key_total, AllPast, past_rest, none_there, entry_further, without-back, before-back, past-back, replaced-back}
+use Rattle.flurry_bins.proofs.Places.{hash_then_key_total, AllPast, past_rest, none_there, without-back, before-back, past-back, replaced-back}
 
 mapped : {A B : Type 0} (f : A → B) (b : Bool) (x : A) (o : Option A) (p : Option B) → p ≡ option_map f o → cond b (Some (f x)) p ≡ option_map f (cond b (Some x) o)
 mapped f true x o p h = refl

@@ -1,5 +1,5 @@
 -- The calls of one key: what each replies on a finite map, and the map after it.
-use Rattle.std.specs.Prelude.{◌≡◌, ◌⊎◌, List, Option, Some, None, is_some, MatchOption}
+use Rattle.std.specs.Prelude.{◌≡◌, ◌⊎◌, List, Option, None, is_some, MatchOption}
 use Rattle.std.specs.declared.cmp.Ordering.{Ordering}
 use Rattle.flurry_bins.specs.FiniteMap.{pair_at, value_at, with_pair, without}
 use Rattle.flurry_bins.specs.declared.table.reply.KeptReply.{KeptReply}

@@ -1,5 +1,5 @@
 -- A call of a bin as a step at the live bin that it is.
-use Rattle.std.proofs.Common.{◌≡◌, ℕ, ◌+◌, Bool, true, false, cond, ◌&&◌, nat_le, List, [], ◌∷◌, length, map, Option, None, Some, option_map, is_none, refl, sym, ap, ◌∙◌, subst, arith}
+use Rattle.std.proofs.Common.{◌≡◌, ℕ, Bool, false, ◌&&◌, nat_le, List, length, Option, None, Some, option_map, is_none, refl, sym, ap, ◌∙◌, subst}
 use Rattle.std.specs.Option.{IsNone, IsSome}
 use Rattle.std.specs.Arc.{arc_value}
 use Rattle.std.specs.declared.sync.Arc.{Arc}
@@ -9,10 +9,10 @@ use Rattle.flurry_bins.specs.declared.bin.choice.Bin.{Bin}
 use Rattle.flurry_bins.specs.declared.bin.entry.Entry.{Entry}
 use Rattle.flurry_bins.specs.Bin.{entries_of_bin, ascending_of_bin, sized_of_bin, is_tree}
 use Rattle.flurry_bins.specs.Kind.{IsSized, grows_into_tree}
-use Rattle.flurry_bins.specs.Entries.{entry_at, IsAscending, placed, replaced, without as without_place, with_bit}
-use Rattle.flurry_bins.specs.FiniteMap.{pair_at, with_pair, without}
+use Rattle.flurry_bins.specs.Entries.{entry_at, placed, replaced, without as without_place, with_bit}
+use Rattle.flurry_bins.specs.FiniteMap.{with_pair, without}
 use Rattle.flurry_slots.specs.LiveView.{live_of}
-use Rattle.flurry_bins.specs.PlainEntries.{hash_then_key, pair_with, numbered, numbered_all}
+use Rattle.flurry_bins.specs.PlainEntries.{hash_then_key, numbered, numbered_all}
 use Rattle.flurry_bins.specs.Region.{AllInRegion}
 use Rattle.flurry_slots.specs.Slot.{Held, Live, IsLiveIn, entry_of_live, written, taken, half, next_number}
 use Rattle.flurry_bins.proofs.PlainEntryLaws.{absent_is, paired-entry_at, paired-without, paired-placed, paired-replaced, paired-with_bit, paired-ascending, paired-region}

@@ -1,4 +1,3 @@
-use Rattle.flurry_slots.specs.LiveView.{live_of}
 use Rattle.flurry_slots.proofs.LiveLaws.{IsLiveIn-bin}
 use Rattle.flurry_slots.proofs.slot.Slot.live_at.Goals as goal
 
