@@ -1,5 +1,5 @@
 -- The count and what the parties owe.
-use Rattle.std.specs.Prelude.{length, ℕ, pos, neg_ℤ, ◌≤ℤ◌, ◌+ℤ◌, ◌-ℤ◌, suc, Some, ◌+◌, ◌-◌, ◌%◌, ◌^◌, ◌<◌, ◌≤◌, nat_lt, cond, Bool, true, false, not, List, [], ◌∷◌, Option, None, ◌≡◌, ◌⊎◌}
+use Rattle.std.specs.Prelude.{length, ℕ, pos, neg_ℤ, ◌≤ℤ◌, ◌+ℤ◌, ◌-ℤ◌, zero, suc, Some, ◌+◌, ◌-◌, ◌%◌, ◌^◌, ◌<◌, ◌≤◌, nat_lt, cond, if◌then◌else◌, Bool, true, false, not, List, [], ◌∷◌, Option, None, ◌≡◌, ◌⊎◌}
 use Rattle.std.specs.declared.cmp.Ordering.{Ordering}
 use Rattle.std.specs.Cmp.{IsTotalOrder}
 use Rattle.std.proofs.Common.{arith, refl, sym, ◌∙◌, ap, subst, inl, inr}
@@ -8,7 +8,7 @@ use Rattle.std.proofs.lemmas.Bool.{eq-eqb, ne_eqb, cases_lt, cond-false, false_f
 use Rattle.flurry_theory.specs.Map.{Unique, same, find, after}
 use Rattle.flurry_theory.specs.Trace.{decided, in_region, pairs, at}
 use Rattle.flurry_theory.specs.Bin.{Entry}
-use Rattle.flurry_theory.specs.Machine.{RefusedAt, Mode, Locating, Looking, Walking, Clearing, Done, halves, onward, found_by, owes_added, owes_removed, State, Line, Can, does, at_bin, at_place, Live, Finished, Frame, Begins, Quiet, Counts, Finds, Opens, FindsNothing, IsRefused, DecidesEmpty, Passes, Decides, Places, Claims, Moves, Reports, Publishes, Reads, Leaves, Splits, Wipes, SplitsClear, Replies, Ends}
+use Rattle.flurry_theory.specs.Machine.{RefusedAt, Mode, Locating, Looking, Walking, Clearing, Done, halves, onward, found_by, owes_added, owes_removed, settled, State, Line, Can, does, at_bin, at_place, Live, Finished, Frame, Begins, Quiet, Counts, Finds, Opens, FindsNothing, IsRefused, DecidesEmpty, Passes, Decides, Places, Claims, Moves, Reports, Publishes, Reads, Leaves, Splits, Wipes, SplitsClear, Replies, Ends}
 use Rattle.flurry_theory.specs.Machine.{total}
 use Rattle.flurry_theory.specs.Invariant.{PartyOk, Tables, home_after, Counted}
 use Rattle.flurry_theory.proofs.Bins.{find-after_other, find-wiped}
@@ -24,6 +24,31 @@ use Rattle.flurry_theory.specs.declared.Call.TheVariants.{Get, GetKeyValue, Cont
 -- what is owed after one party's mode was changed
 placed_owed : {K V : Type 0} (owes : Mode K V → ℕ) (modes : ℕ → Mode K V) (p n : ℕ) (m : Mode K V) → p < n → total (λ q. owes (at_place modes p m q)) n + owes (modes p) ≡ total (λ q. owes (modes q)) n + owes m
 placed_owed owes modes p n m l = omega (arith, total-change (λ q. owes (at_place modes p m q)) (λ q. owes (modes q)) p n l (λ q ne. ap owes (place_other modes p q m ne)), ap owes (place_here modes p m))
+
+-- what the parties that pass a test owe, and what is owed once theirs is counted, are all that was owed
+still_owed : {K V : Type 0} (owes : Mode K V → ℕ) (modes : ℕ → Mode K V) (whose : ℕ → Bool) (n : ℕ) → ((m : Mode K V) → owes (settled m) ≡ 0) → total (λ q. if whose q then owes (modes q) else 0) n + total (λ q. owes (cond (whose q) (settled (modes q)) (modes q))) n ≡ total (λ q. owes (modes q)) n
+still_owed owes modes whose zero z = refl
+still_owed {K = K} {V = V} owes modes whose (suc n) z = omega (arith, still_owed owes modes whose n z, one (whose n) (modes n))
+  where
+    one : (b : Bool) (m : Mode K V) → (if b then owes m else 0) + owes (cond b (settled m) m) ≡ owes m
+    one true m = omega (arith, z m)
+    one false m = omega arith
+
+settled_added : {K V : Type 0} (m : Mode K V) → owes_added (settled m) ≡ 0
+settled_added Locating = refl
+settled_added (Looking e) = refl
+settled_added (Walking e i fs) = refl
+settled_added (Clearing wiped e i fs) = refl
+settled_added (Done r x y) = refl
+settled_added Finished = refl
+
+settled_removed : {K V : Type 0} (m : Mode K V) → owes_removed (settled m) ≡ 0
+settled_removed Locating = refl
+settled_removed (Looking e) = refl
+settled_removed (Walking e i fs) = refl
+settled_removed (Clearing wiped e i fs) = refl
+settled_removed (Done r x y) = refl
+settled_removed Finished = refl
 
 -- one more party, that owes nothing
 begun_owed : {K V : Type 0} (owes : Mode K V → ℕ) (modes : ℕ → Mode K V) (n : ℕ) (m : Mode K V) → owes m ≡ 0 → total (λ q. owes (at_place modes n m q)) (suc n) ≡ total (λ q. owes (modes q)) n
@@ -81,12 +106,13 @@ module _ {K V F : Type 0} (cmp : K → K → Ordering) (total_order : IsTotalOrd
       let y : total (λ q. owes_removed (at_place s.mode p m q)) s.parties ≡ total (λ q. owes_removed (s.mode q)) s.parties = omega (arith, b, placed_owed owes_removed s.mode p s.parties m (known s p o f)) in
       (omega (arith, ints, v.balance, x, y), omega (arith, v.held, y), omega (arith, v.owed, x))
 
-  counts_counted : (s : State K V F) (p : ℕ) (r : Option (KeptReply K V)) (x y : ℕ) → Can cmp hash gives s p (Counts r x y) → PartyOk s p → Counted cmp hash s → Counted cmp hash (does cmp hash gives s p (Counts r x y))
-  counts_counted s p r x y can o v =
-      let l : p < s.parties = known s p o (λ h. grind (arith, h, can.0)) in
-      let more : total (λ q. owes_added (at_place s.mode p (Done r 0 0) q)) s.parties + x ≡ total (λ q. owes_added (s.mode q)) s.parties = omega (arith, ap owes_added can.0, placed_owed owes_added s.mode p s.parties (Done r 0 0) l) in
-      let less : total (λ q. owes_removed (at_place s.mode p (Done r 0 0) q)) s.parties + y ≡ total (λ q. owes_removed (s.mode q)) s.parties = omega (arith, ap owes_removed can.0, placed_owed owes_removed s.mode p s.parties (Done r 0 0) l) in
-      record { unique = v.unique; balance = omega (arith, ints, v.balance, more, less); held = omega (arith, v.held, less); owed = omega (arith, v.owed, more) }
+  counts_counted : (s : State K V F) (p : ℕ) (whose : ℕ → Bool) → Counted cmp hash s → Counted cmp hash (does cmp hash gives s p (Counts whose))
+  counts_counted s p whose v = record {
+    unique = v.unique;
+    balance = omega (arith, ints, v.balance, still_owed owes_added s.mode whose s.parties settled_added, still_owed owes_removed s.mode whose s.parties settled_removed);
+    held = omega (arith, v.held, still_owed owes_removed s.mode whose s.parties settled_removed);
+    owed = omega (arith, v.owed, still_owed owes_added s.mode whose s.parties settled_added);
+  }
 
   begins_counted : (s : State K V F) (p : ℕ) (c : Call K V F) (y : Option ℕ) → Can cmp hash gives s p (Begins c y) → Counted cmp hash s → Counted cmp hash (does cmp hash gives s p (Begins c y))
   begins_counted s p c y can v = record {
@@ -197,7 +223,7 @@ module _ {K V F : Type 0} (cmp : K → K → Ordering) (total_order : IsTotalOrd
   pub counted_ok : (home : ℕ → ℕ) (s : State K V F) (p : ℕ) (l : Line K V F) → Can cmp hash gives s p l → PartyOk s p → Tables cmp hash home s → Tables cmp hash (home_after home l) (does cmp hash gives s p l) → Counted cmp hash s → Counted cmp hash (does cmp hash gives s p l)
   counted_ok home s p (Begins c y) can o t u v = begins_counted s p c y can v
   counted_ok home s p Quiet can o t u v = record { unique = v.unique; balance = v.balance; held = omega (arith, v.held); owed = omega (arith, v.owed) }
-  counted_ok home s p (Counts reply x y) can o t u v = counts_counted s p reply x y can o v
+  counted_ok home s p (Counts whose) can o t u v = counts_counted s p whose v
   counted_ok home s p (Finds e) can o t u v = let b = moves_on s p (found_by cmp hash gives (s.call p) e) o (λ h. grind (arith, h, can.2)) ((found_owed (s.call p) e).0 ∙ sym (ap owes_added can.2)) ((found_owed (s.call p) e).1 ∙ sym (ap owes_removed can.2)) v in record { unique = v.unique; balance = b.0; held = b.1; owed = b.2 }
   counted_ok home s p (Opens e) can o t u v = let b = moves_on s p (found_by cmp hash gives (s.call p) e) o (λ h. grind (arith, h, can.2)) ((found_owed (s.call p) e).0 ∙ sym (ap owes_added can.2)) ((found_owed (s.call p) e).1 ∙ sym (ap owes_removed can.2)) v in record { unique = v.unique; balance = b.0; held = b.1; owed = b.2 }
   counted_ok home s p FindsNothing can o t u v = let b = moves_on s p (Done None 0 0) o (λ h. grind (arith, h, can.2)) (sym (ap owes_added can.2)) (sym (ap owes_removed can.2)) v in record { unique = v.unique; balance = b.0; held = b.1; owed = b.2 }

@@ -20,7 +20,7 @@ module _ {K V F : Type 0} (cmp : K → K → Ordering) (hash : K → ℕ) (gives
   pub grown_ok : (first : Option ℕ) (s : State K V F) (p : ℕ) (l : Line K V F) → Can cmp hash gives s p l → Cut s → Grown first s → Grown first (does cmp hash gives s p l)
   grown_ok first s p (Begins c z) can u w = record { number = w.number; placed_next = w.placed_next; unplaced = w.unplaced; unplaced_idle = w.unplaced_idle; unplaced_above = w.unplaced_above }
   grown_ok first s p Quiet can u w = record { number = w.number; placed_next = w.placed_next; unplaced = w.unplaced; unplaced_idle = w.unplaced_idle; unplaced_above = w.unplaced_above }
-  grown_ok first s p (Counts reply x y) can u w = record { number = w.number; placed_next = w.placed_next; unplaced = w.unplaced; unplaced_idle = w.unplaced_idle; unplaced_above = w.unplaced_above }
+  grown_ok first s p (Counts whose) can u w = record { number = w.number; placed_next = w.placed_next; unplaced = w.unplaced; unplaced_idle = w.unplaced_idle; unplaced_above = w.unplaced_above }
   grown_ok first s p (Finds e) can u w = record { number = w.number; placed_next = w.placed_next; unplaced = w.unplaced; unplaced_idle = w.unplaced_idle; unplaced_above = w.unplaced_above }
   grown_ok first s p (Opens e) can u w = record {
     number = grind (arith, can, w.number);
@@ -85,7 +85,7 @@ module _ {K V F : Type 0} (cmp : K → K → Ordering) (hash : K → ℕ) (gives
   pub growth_lawful : (first : Option ℕ) (home : ℕ → ℕ) (s : State K V F) (p : ℕ) (l : Line K V F) → Can cmp hash gives s p l → ((q : ℕ) → PartyOk s q) → Tables cmp hash home s → Cut s → Grown first s → GrowthMay first s.trace (label cmp hash gives p l)
   growth_lawful first home s p (Begins c z) can o t u w = tt
   growth_lawful first home s p Quiet can o t u w = tt
-  growth_lawful first home s p (Counts reply x y) can o t u w = tt
+  growth_lawful first home s p (Counts whose) can o t u w = tt
   growth_lawful first home s p (Finds e) can o t u w = tt
   growth_lawful first home s p (Opens e) can o t u w = w.number ∙ can.3
   growth_lawful first home s p FindsNothing can o t u w = tt
@@ -122,7 +122,7 @@ module _ {K V F : Type 0} (cmp : K → K → Ordering) (hash : K → ℕ) (gives
   pub calls_lawful : (s : State K V F) (p : ℕ) (l : Line K V F) → Can cmp hash gives s p l → PartyOk s p → AllowsNow s p l → CallMay cmp hash gives s.trace (label cmp hash gives p l)
   calls_lawful s p (Begins c w) can o a = o.call ∙ (o.unknown (omega (arith, can.0))).0
   calls_lawful s p Quiet can o a = tt
-  calls_lawful s p (Counts reply x y) can o a = tt
+  calls_lawful s p (Counts whose) can o a = tt
   calls_lawful s p (Finds e) can o a = tt
   calls_lawful s p (Opens e) can o a = tt
   calls_lawful s p FindsNothing can o a = tt

@@ -9,6 +9,7 @@ pub mod Counts
 pub mod Origins
 pub mod Numbers
 pub mod Own
+pub mod Settled
 pub mod Refusals
 pub mod Named
 pub mod Lookups

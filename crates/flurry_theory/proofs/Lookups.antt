@@ -12,7 +12,8 @@ use Rattle.flurry_theory.specs.Invariant.{PartyOk, Tables, Cut, Named, key_in, o
 use Rattle.flurry_theory.proofs.Refusals.{refused_at_work}
 use Rattle.flurry_theory.proofs.Ranges.{home_limit, place_here, place_other}
 use Rattle.flurry_theory.proofs.Tables.{same_some}
-use Rattle.flurry_theory.proofs.Own.{next_mode, next_call, mode_after, call_after}
+use Rattle.flurry_theory.proofs.Settled.{waits_settled}
+use Rattle.flurry_theory.proofs.Own.{next_mode, next_call, other_mode, other_keeps, mode_after, call_after}
 use Rattle.flurry_theory.specs.declared.Call.{Call}
 use Rattle.flurry_theory.specs.declared.Call.TheVariants.{Get, GetKeyValue, ContainsKey, Insert, TryInsert, Compute, Remove, RemoveEntry, RemoveSeen, Reserve, Clear, Walk}
 use Rattle.flurry_bins.specs.declared.table.reply.KeptReply.{KeptReply}
@@ -66,7 +67,7 @@ module _ {K V F : Type 0} (cmp : K → K → Ordering) (total : IsTotalOrder cmp
   unfolding next_mode next_call
   own_waits s p (Begins c y) can o w = λ h. (λ m. refl, λ d m. absurd (grind (arith, m)), λ a b m. grind (arith, m))
   own_waits s p Quiet can o w = λ h. (λ m. absurd (grind (arith, m, can h)), λ d m. absurd (grind (arith, m, can h)), λ a b m. grind (arith, m, can h))
-  own_waits s p (Counts reply x y) can o w = λ h. absurd (grind (arith, h, can.1))
+  own_waits s p (Counts whose) can o w = λ h. absurd (grind (arith, h, can))
   own_waits s p (Finds e) can o w = λ h. (λ m. absurd (grind (arith, m, (lookup_key (s.call p) h).2 e)), λ d m. omega (arith, (w h).0 can.2, raised (s.call p) (s.steps p) h), λ a b m. grind (arith, m, (lookup_key (s.call p) h).2 e))
   own_waits s p (Opens e) can o w = λ h. (λ m. absurd (grind (arith, m, (lookup_key (s.call p) h).2 e)), λ d m. omega (arith, (w h).0 can.2, raised (s.call p) (s.steps p) h), λ a b m. grind (arith, m, (lookup_key (s.call p) h).2 e))
   own_waits s p FindsNothing can o w = λ h. absurd (lookup_other can.0 (subst (λ c. is_lookup c ≡ true) can.1 h) can.4)
@@ -92,11 +93,12 @@ module _ {K V F : Type 0} (cmp : K → K → Ordering) (total : IsTotalOrder cmp
     where
       go : (q ≡ p) ⊎ (q ≡ p → ⊥) → Waits ((does cmp hash gives s p l).call q) ((does cmp hash gives s p l).mode q) ((does cmp hash gives s p l).steps q)
       go (inl e) = subst₂ (λ c m. Waits c m (at_place s.steps p (steps_after cmp hash gives s p l) q))
-          (sym (call_after cmp total hash lawful gives s p q l ∙ cond-true (p == q) (next_call cmp total hash lawful gives s p l) (s.call q) (eq-eqb p q (sym e)))) (sym (mode_after cmp total hash lawful gives s p q l ∙ cond-true (p == q) (next_mode cmp total hash lawful gives s p l) (s.mode q) (eq-eqb p q (sym e))))
+          (sym (call_after cmp total hash lawful gives s p q l ∙ cond-true (p == q) (next_call cmp total hash lawful gives s p l) (s.call q) (eq-eqb p q (sym e)))) (sym (mode_after cmp total hash lawful gives s p q l ∙ cond-true (p == q) (next_mode cmp total hash lawful gives s p l) (other_mode cmp total hash lawful gives l q (s.mode q)) (eq-eqb p q (sym e))))
           (subst (λ n. Waits (next_call cmp total hash lawful gives s p l) (next_mode cmp total hash lawful gives s p l) n) (sym (ap (at_place s.steps p (steps_after cmp hash gives s p l)) e ∙ place_here s.steps p (steps_after cmp hash gives s p l))) (own_waits s p l can o (w p)))
       go (inr ne) = subst₂ (λ c m. Waits c m (at_place s.steps p (steps_after cmp hash gives s p l) q))
-          (sym (call_after cmp total hash lawful gives s p q l ∙ cond-false (p == q) (next_call cmp total hash lawful gives s p l) (s.call q) (ne_eqb p q (λ h. ne (sym h))))) (sym (mode_after cmp total hash lawful gives s p q l ∙ cond-false (p == q) (next_mode cmp total hash lawful gives s p l) (s.mode q) (ne_eqb p q (λ h. ne (sym h)))))
-          (subst (λ n. Waits (s.call q) (s.mode q) n) (sym (place_other s.steps p q (steps_after cmp hash gives s p l) ne)) (w q))
+          (sym (call_after cmp total hash lawful gives s p q l ∙ cond-false (p == q) (next_call cmp total hash lawful gives s p l) (s.call q) (ne_eqb p q (λ h. ne (sym h))))) (sym (mode_after cmp total hash lawful gives s p q l ∙ cond-false (p == q) (next_mode cmp total hash lawful gives s p l) (other_mode cmp total hash lawful gives l q (s.mode q)) (ne_eqb p q (λ h. ne (sym h)))))
+          (other_keeps cmp total hash lawful gives (λ m. Waits (s.call q) m (at_place s.steps p (steps_after cmp hash gives s p l) q)) (waits_settled (s.call q) (at_place s.steps p (steps_after cmp hash gives s p l) q)) l q (s.mode q)
+          (subst (λ n. Waits (s.call q) (s.mode q) n) (sym (place_other s.steps p q (steps_after cmp hash gives s p l) ne)) (w q)))
 
   -- a line is one step at most
   by_call : (call : Option (Call K V F)) (n : ℕ) → (if is_some call then suc n else n) ≤ suc n
@@ -106,7 +108,7 @@ module _ {K V F : Type 0} (cmp : K → K → Ordering) (total : IsTotalOrder cmp
   one_step : (s : State K V F) (p : ℕ) (l : Line K V F) → steps_after cmp hash gives s p l ≤ suc (s.steps p)
   one_step s p (Begins c y) = omega arith
   one_step s p Quiet = by_call (s.call p) (s.steps p)
-  one_step s p (Counts reply x y) = by_call (s.call p) (s.steps p)
+  one_step s p (Counts whose) = by_call (s.call p) (s.steps p)
   one_step s p (Finds e) = by_call (s.call p) (s.steps p)
   one_step s p (Opens e) = by_call (s.call p) (s.steps p)
   one_step s p FindsNothing = by_call (s.call p) (s.steps p)
@@ -162,7 +164,7 @@ module _ {K V F : Type 0} (cmp : K → K → Ordering) (total : IsTotalOrder cmp
       over : (replied s.trace p ≡ true) ⊎ (closed s.trace p ≡ true) → ⊥
       over (inl q) = grind (arith, rp, q)
       over (inr q) = grind (arith, d, o.refused q (lookup_one_key (s.call p) h))
-  next_reply s p o h r d rp (Counts reply x y) can = absurd (grind (arith, h, can.1))
+  next_reply s p o h r d rp (Counts whose) can = absurd (grind (arith, h, can))
   next_reply s p o h r d rp (Finds e) can = absurd (grind (arith, d, o.undecided (λ _ _ _ z. grind (arith, z, can.2)) (λ z. grind (arith, z, can.2))))
   next_reply s p o h r d rp (Opens e) can = absurd (grind (arith, d, o.undecided (λ _ _ _ z. grind (arith, z, can.2)) (λ z. grind (arith, z, can.2))))
   next_reply s p o h r d rp FindsNothing can = absurd (grind (arith, d, o.undecided (λ _ _ _ z. grind (arith, z, can.2)) (λ z. grind (arith, z, can.2))))

@@ -12,14 +12,15 @@ use Rattle.flurry_theory.proofs.Bins.{in_low_half, in_high_half, double}
 use Rattle.flurry_theory.proofs.Tables.{same_some, homes}
 use Rattle.flurry_theory.specs.declared.Call.{Call}
 use Rattle.flurry_theory.specs.declared.Call.TheVariants.{Get, GetKeyValue, ContainsKey, Insert, TryInsert, Compute, Remove, RemoveEntry, RemoveSeen, Reserve, Clear, Walk}
-use Rattle.flurry_theory.proofs.Own.{next_mode, next_call, mode_after, call_after}
+use Rattle.flurry_theory.proofs.Settled.{named_settled}
+use Rattle.flurry_theory.proofs.Own.{next_mode, next_call, other_mode, other_keeps, if_settled, mode_after, call_after}
 
 module _ {K V F : Type 0} (cmp : K → K → Ordering) (total : IsTotalOrder cmp) (hash : K → ℕ) (lawful : (j k : K) → same cmp j k ≡ true → hash j ≡ hash k) (gives : F → K → V → Option V → Type 0) where
   -- homes only rise
   risen : (home : ℕ → ℕ) (s : State K V F) (p : ℕ) (l : Line K V F) → Can cmp hash gives s p l → Tables cmp hash home s → is_some s.published ≡ true → (h : ℕ) → home h ≤ home_after home l h
   risen home s p (Begins c y) can t md h = omega arith
   risen home s p Quiet can t md h = omega arith
-  risen home s p (Counts reply x y) can t md h = omega arith
+  risen home s p (Counts whose) can t md h = omega arith
   risen home s p (Finds e) can t md h = omega arith
   risen home s p (Opens e) can t md h = absurd (grind (arith, md, can.3))
   risen home s p FindsNothing can t md h = omega arith
@@ -43,7 +44,7 @@ module _ {K V F : Type 0} (cmp : K → K → Ordering) (total : IsTotalOrder cmp
   same_start : (s : State K V F) (p : ℕ) (l : Line K V F) → Can cmp hash gives s p l → is_some s.published ≡ true → ((does cmp hash gives s p l).start ≡ s.start) × (is_some (does cmp hash gives s p l).published ≡ true)
   same_start s p (Begins c y) can md = (refl, md)
   same_start s p Quiet can md = (refl, md)
-  same_start s p (Counts reply x y) can md = (refl, md)
+  same_start s p (Counts whose) can md = (refl, md)
   same_start s p (Finds e) can md = (refl, md)
   same_start s p (Opens e) can md = absurd (grind (arith, md, can.3))
   same_start s p FindsNothing can md = (refl, md)
@@ -130,7 +131,7 @@ module _ {K V F : Type 0} (cmp : K → K → Ordering) (total : IsTotalOrder cmp
   unfolding next_mode next_call
   own_named home s p (Begins c y) can t nm = tt
   own_named home s p Quiet can t nm = stays_named home s p Quiet can t (s.call p) (s.mode p) nm
-  own_named home s p (Counts reply x y) can t nm = tt
+  own_named home s p (Counts whose) can t nm = if_settled (Named hash (is_some s.published) home s.start (s.call p)) (named_settled hash (is_some s.published) home s.start (s.call p)) (whose p) (s.mode p) nm
   own_named home s p (Finds e) can t nm = subst (λ b. Named hash (is_some b) home s.start (s.call p) (found_by cmp hash gives (s.call p) e)) (sym can.3.2) (finds_named home s.start e (s.call p) can.3.0 (λ h. omega (arith, can.3.3, (t.from can.3.1 can.3.2).1 h)))
   own_named home s p (Opens e) can t nm = finds_named (λ _. e) e e (s.call p) (omega arith) (λ _. omega arith)
   own_named home s p FindsNothing can t nm = tt
@@ -157,11 +158,11 @@ module _ {K V F : Type 0} (cmp : K → K → Ordering) (total : IsTotalOrder cmp
     where
       go : (q ≡ p) ⊎ (q ≡ p → ⊥) → Named hash (is_some (does cmp hash gives s p l).published) (home_after home l) (does cmp hash gives s p l).start ((does cmp hash gives s p l).call q) ((does cmp hash gives s p l).mode q)
       go (inl e) = subst₂ (λ c m. Named hash (is_some (does cmp hash gives s p l).published) (home_after home l) (does cmp hash gives s p l).start c m)
-          (sym (call_after cmp total hash lawful gives s p q l ∙ cond-true (p == q) (next_call cmp total hash lawful gives s p l) (s.call q) (eq-eqb p q (sym e)))) (sym (mode_after cmp total hash lawful gives s p q l ∙ cond-true (p == q) (next_mode cmp total hash lawful gives s p l) (s.mode q) (eq-eqb p q (sym e))))
+          (sym (call_after cmp total hash lawful gives s p q l ∙ cond-true (p == q) (next_call cmp total hash lawful gives s p l) (s.call q) (eq-eqb p q (sym e)))) (sym (mode_after cmp total hash lawful gives s p q l ∙ cond-true (p == q) (next_mode cmp total hash lawful gives s p l) (other_mode cmp total hash lawful gives l q (s.mode q)) (eq-eqb p q (sym e))))
           (own_named home s p l can t (n p))
       go (inr ne) = subst₂ (λ c m. Named hash (is_some (does cmp hash gives s p l).published) (home_after home l) (does cmp hash gives s p l).start c m)
-          (sym (call_after cmp total hash lawful gives s p q l ∙ cond-false (p == q) (next_call cmp total hash lawful gives s p l) (s.call q) (ne_eqb p q (λ h. ne (sym h))))) (sym (mode_after cmp total hash lawful gives s p q l ∙ cond-false (p == q) (next_mode cmp total hash lawful gives s p l) (s.mode q) (ne_eqb p q (λ h. ne (sym h)))))
-          (stays_named home s p l can t (s.call q) (s.mode q) (n q))
+          (sym (call_after cmp total hash lawful gives s p q l ∙ cond-false (p == q) (next_call cmp total hash lawful gives s p l) (s.call q) (ne_eqb p q (λ h. ne (sym h))))) (sym (mode_after cmp total hash lawful gives s p q l ∙ cond-false (p == q) (next_mode cmp total hash lawful gives s p l) (other_mode cmp total hash lawful gives l q (s.mode q)) (ne_eqb p q (λ h. ne (sym h)))))
+          (other_keeps cmp total hash lawful gives (Named hash (is_some (does cmp hash gives s p l).published) (home_after home l) (does cmp hash gives s p l).start (s.call q)) (named_settled hash (is_some (does cmp hash gives s p l).published) (home_after home l) (does cmp hash gives s p l).start (s.call q)) l q (s.mode q) (stays_named home s p l can t (s.call q) (s.mode q) (n q)))
 
   -- so the bin that a party looks at is there
   pub looks_at : (home : ℕ → ℕ) (s : State K V F) (p e : ℕ) (k : K) → Tables cmp hash home s → Named hash (is_some s.published) home s.start (s.call p) (s.mode p) → s.mode p ≡ Looking e → key_in (s.call p) ≡ Some k → s.slot e (hash k % 2 ^ e) ≡ Unborn → ⊥

@@ -140,7 +140,7 @@ module _ {K V F : Type 0} (cmp : K → K → Ordering) (total : IsTotalOrder cmp
       → Change s.trace (label cmp hash gives p l) (number_at cmp hash gives home s) (number_at cmp hash gives (home_after home l) (does cmp hash gives s p l)) (writes_at cmp hash gives home s) (writes_at cmp hash gives (home_after home l) (does cmp hash gives s p l))
   change home s p (Begins c y) can o t = record { grows = λ k. (omega arith, omega arith); limit = λ k l. l; kept = λ k _. refl; new = λ k h. absurd (grind (arith, h)) }
   change home s p Quiet can o t = record { grows = λ k. (omega arith, omega arith); limit = λ k l. l; kept = λ k _. refl; new = λ k h. absurd (grind (arith, h)) }
-  change home s p (Counts reply x y) can o t = record { grows = λ k. (omega arith, omega arith); limit = λ k l. l; kept = λ k _. refl; new = λ k h. absurd (grind (arith, h)) }
+  change home s p (Counts whose) can o t = record { grows = λ k. (omega arith, omega arith); limit = λ k l. l; kept = λ k _. refl; new = λ k h. absurd (grind (arith, h)) }
   change home s p (Finds e) can o t = record { grows = λ k. (omega arith, omega arith); limit = λ k l. l; kept = λ k _. refl; new = λ k h. absurd (grind (arith, h)) }
   change home s p (Opens e) can o t = opens_change home s p e can t
   change home s p FindsNothing can o t = record { grows = λ k. (omega arith, omega arith); limit = λ k l. l; kept = λ k _. refl; new = λ k h. absurd (grind (arith, h)) }
@@ -240,7 +240,7 @@ module _ {K V F : Type 0} (cmp : K → K → Ordering) (total : IsTotalOrder cmp
       → ((s.seen w ≡ Some z) × (Legal.reads cmp hash gives w (label cmp hash gives p l) ≡ false)) ⊎ ((Legal.reads cmp hash gives w (label cmp hash gives p l) ≡ true) × (number_at cmp hash gives home s z.key ≡ Some z.number))
   seen_after home s p (Begins c y) can t w z h = inl (grind (arith, h, eqb-true), refl)
   seen_after home s p Quiet can t w z h = inl (h, refl)
-  seen_after home s p (Counts reply x y) can t w z h = inl (h, refl)
+  seen_after home s p (Counts whose) can t w z h = inl (h, refl)
   seen_after home s p (Finds e) can t w z h = inl (h, refl)
   seen_after home s p (Opens e) can t w z h = inl (h, refl)
   seen_after home s p FindsNothing can t w z h = inl (h, refl)
@@ -338,7 +338,7 @@ module _ {K V F : Type 0} (cmp : K → K → Ordering) (total : IsTotalOrder cmp
   removal_lawful : (home : ℕ → ℕ) (s : State K V F) (p : ℕ) (l : Line K V F) → Can cmp hash gives s p l → PartyOk s p → Tables cmp hash home s → Origins s → Numbers cmp hash gives home s → RemovalMay cmp hash gives (does cmp hash gives s p l).began_from s.trace (label cmp hash gives p l)
   removal_lawful home s p (Begins c y) can o t u v = begins_removal s p c y can u
   removal_lawful home s p Quiet can o t u v = tt
-  removal_lawful home s p (Counts reply x y) can o t u v = tt
+  removal_lawful home s p (Counts whose) can o t u v = tt
   removal_lawful home s p (Finds e) can o t u v = tt
   removal_lawful home s p (Opens e) can o t u v = tt
   removal_lawful home s p FindsNothing can o t u v = tt
@@ -380,7 +380,7 @@ module _ {K V F : Type 0} (cmp : K → K → Ordering) (total : IsTotalOrder cmp
       → EachMay (RemovalMay cmp hash gives s.began_from) s.trace → EachMay (RemovalMay cmp hash gives (does cmp hash gives s p l).began_from) (label cmp hash gives p l ∷ s.trace)
   removals_ok home s p (Begins c y) can o t u v h = let k : s.parties ≤ p = omega (arith, can.0) in (removal_lawful home s p (Begins c y) can o t u v, other_origin s.began_from p y s.trace (o.call ∙ (o.unknown k).0) (o.unknown k).3 h)
   removals_ok home s p Quiet can o t u v h = (removal_lawful home s p Quiet can o t u v, h)
-  removals_ok home s p (Counts reply x y) can o t u v h = (removal_lawful home s p (Counts reply x y) can o t u v, h)
+  removals_ok home s p (Counts whose) can o t u v h = (removal_lawful home s p (Counts whose) can o t u v, h)
   removals_ok home s p (Finds e) can o t u v h = (removal_lawful home s p (Finds e) can o t u v, h)
   removals_ok home s p (Opens e) can o t u v h = (removal_lawful home s p (Opens e) can o t u v, h)
   removals_ok home s p FindsNothing can o t u v h = (removal_lawful home s p FindsNothing can o t u v, h)

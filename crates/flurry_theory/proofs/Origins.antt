@@ -39,7 +39,7 @@ module _ {K V F : Type 0} (cmp : K → K → Ordering) (hash : K → ℕ) (gives
       → ((s.began_from q ≡ Some w) × (s.call q ≡ Some (RemoveSeen z)) × (begins q (label cmp hash gives p l) ≡ false)) ⊎ ((begins q (label cmp hash gives p l) ≡ true) × (s.seen w ≡ Some z))
   begun_after s p (Begins c y) can q w z h g = begins_after s p c y can q w z h g
   begun_after s p Quiet can q w z h g = inl (h, g, refl)
-  begun_after s p (Counts reply x y) can q w z h g = inl (h, g, refl)
+  begun_after s p (Counts whose) can q w z h g = inl (h, g, refl)
   begun_after s p (Finds e) can q w z h g = inl (h, g, refl)
   begun_after s p (Opens e) can q w z h g = inl (h, g, refl)
   begun_after s p FindsNothing can q w z h g = inl (h, g, refl)
@@ -63,7 +63,7 @@ module _ {K V F : Type 0} (cmp : K → K → Ordering) (hash : K → ℕ) (gives
   origin_after : (s : State K V F) (p : ℕ) (l : Line K V F) → Can cmp hash gives s p l → ((q w : ℕ) → s.began_from q ≡ Some w → (z : Seen K V) × (s.call q ≡ Some (RemoveSeen z))) → (q w : ℕ) → (does cmp hash gives s p l).began_from q ≡ Some w → (z : Seen K V) × ((does cmp hash gives s p l).call q ≡ Some (RemoveSeen z))
   origin_after s p (Begins c y) can old q w h = begins_origin s p c y can old q w h
   origin_after s p Quiet can old q w h = old q w h
-  origin_after s p (Counts reply x y) can old q w h = old q w h
+  origin_after s p (Counts whose) can old q w h = old q w h
   origin_after s p (Finds e) can old q w h = old q w h
   origin_after s p (Opens e) can old q w h = old q w h
   origin_after s p FindsNothing can old q w h = old q w h
@@ -87,7 +87,7 @@ module _ {K V F : Type 0} (cmp : K → K → Ordering) (hash : K → ℕ) (gives
   unread_after : (s : State K V F) (p : ℕ) (l : Line K V F) → Can cmp hash gives s p l → PartyOk s p → Origins s → (w : ℕ) → (does cmp hash gives s p l).parties ≤ w → (does cmp hash gives s p l).seen w ≡ None
   unread_after s p (Begins c y) can o v w h = grind (arith, h, can.0, v.unread w, eqb-true)
   unread_after s p Quiet can o v w h = v.unread w h
-  unread_after s p (Counts reply x y) can o v w h = v.unread w h
+  unread_after s p (Counts whose) can o v w h = v.unread w h
   unread_after s p (Finds e) can o v w h = v.unread w h
   unread_after s p (Opens e) can o v w h = v.unread w h
   unread_after s p FindsNothing can o v w h = v.unread w h
@@ -111,7 +111,7 @@ module _ {K V F : Type 0} (cmp : K → K → Ordering) (hash : K → ℕ) (gives
   last_after : (s : State K V F) (p : ℕ) (l : Line K V F) → Can cmp hash gives s p l → Origins s → (w : ℕ) → last_read (label cmp hash gives p l ∷ s.trace) w ≡ option_map pair_seen ((does cmp hash gives s p l).seen w)
   last_after s p (Begins c y) can v w = grind (arith, can.0, v.last w, v.unread w, eqb-true p w)
   last_after s p Quiet can v w = v.last w
-  last_after s p (Counts reply x y) can v w = v.last w
+  last_after s p (Counts whose) can v w = v.last w
   last_after s p (Finds e) can v w = v.last w
   last_after s p (Opens e) can v w = v.last w
   last_after s p FindsNothing can v w = v.last w

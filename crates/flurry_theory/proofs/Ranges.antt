@@ -297,7 +297,7 @@ module _ {K V F : Type 0} (cmp : K → K → Ordering) (hash : K → ℕ) (gives
   pub cut_ok : (home : ℕ → ℕ) (s : State K V F) (p : ℕ) (l : Line K V F) → Can cmp hash gives s p l → ((q : ℕ) → PartyOk s q) → Tables cmp hash home s → Cut s → Cut (does cmp hash gives s p l)
   cut_ok home s p (Begins c w) can o t u = cut_begins home s p c w can o t u
   cut_ok home s p Quiet can o t u = record { made = u.made; idle = u.idle; limit = u.limit; growth_limit = u.growth_limit; near = u.near; idle_live = u.idle_live; claims = u.claims; above_unclaimed = u.above_unclaimed; left_live = u.left_live; rest_moved = u.rest_moved; unclaimed_live = u.unclaimed_live; apart = u.apart; cover = u.cover; sum = u.sum }
-  cut_ok home s p (Counts reply x y) can o t u = record { made = u.made; idle = u.idle; limit = u.limit; growth_limit = u.growth_limit; near = u.near; idle_live = u.idle_live; claims = u.claims; above_unclaimed = u.above_unclaimed; left_live = u.left_live; rest_moved = u.rest_moved; unclaimed_live = u.unclaimed_live; apart = u.apart; cover = u.cover; sum = u.sum }
+  cut_ok home s p (Counts whose) can o t u = record { made = u.made; idle = u.idle; limit = u.limit; growth_limit = u.growth_limit; near = u.near; idle_live = u.idle_live; claims = u.claims; above_unclaimed = u.above_unclaimed; left_live = u.left_live; rest_moved = u.rest_moved; unclaimed_live = u.unclaimed_live; apart = u.apart; cover = u.cover; sum = u.sum }
   cut_ok home s p (Finds e) can o t u = record { made = u.made; idle = u.idle; limit = u.limit; growth_limit = u.growth_limit; near = u.near; idle_live = u.idle_live; claims = u.claims; above_unclaimed = u.above_unclaimed; left_live = u.left_live; rest_moved = u.rest_moved; unclaimed_live = u.unclaimed_live; apart = u.apart; cover = u.cover; sum = u.sum }
   cut_ok home s p (Opens e) can o t u = cut_opens home s p e can o t u
   cut_ok home s p FindsNothing can o t u = record { made = u.made; idle = u.idle; limit = u.limit; growth_limit = u.growth_limit; near = u.near; idle_live = u.idle_live; claims = u.claims; above_unclaimed = u.above_unclaimed; left_live = u.left_live; rest_moved = u.rest_moved; unclaimed_live = u.unclaimed_live; apart = u.apart; cover = u.cover; sum = u.sum }

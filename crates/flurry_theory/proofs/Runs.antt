@@ -1,11 +1,12 @@
 -- A run by hand: what the machine can do, step by step, and what it refuses. Keys and values are numbers, and a key is its own hash.
-use Rattle.std.specs.Prelude.{⊤, ℕ, true, false, List, [], ◌∷◌, Option, Some, None, ◌≡◌}
+use Rattle.std.specs.Prelude.{⊤, ℕ, pos, ◌==◌, true, false, List, [], ◌∷◌, Option, Some, None, ◌≡◌}
 use Rattle.std.specs.Ordering.{nat_cmp}
 use Rattle.std.specs.Cmp.{unsigned_tied}
 use Rattle.std.proofs.Common.{arith, refl, sym, ◌∙◌, subst, inr}
 use Rattle.std.proofs.lemmas.Cmp.{nat_cmp_total}
 use Rattle.std.proofs.lemmas.Bool.{eqb-true}
 use Rattle.flurry_theory.specs.Map.{same}
+use Rattle.flurry_theory.specs.Trace.{pairs}
 use Rattle.flurry_theory.specs.Bin.{Entry, number_of, has_number}
 use Rattle.flurry_theory.specs.Machine.{State, Line, Can, BinDid, Frame, Begins, Counts, Finds, Opens, IsRefused, Decides, Places, Reads, Leaves, Replies}
 use Rattle.flurry_theory.specs.Invariant.{new_world, after_all, CanAll}
@@ -50,17 +51,38 @@ abbrev decided : Steps
 decided = (0, Decides (Insert 3 4) 3 4 [] 0 (Value None) (written ∷ []) 1) ∷ (0, Opens 4) ∷ (0, Begins (Insert 3 4) None) ∷ []
 
 abbrev inserted : Steps
-inserted = (0, Replies (Value None)) ∷ (0, Counts (Some (Value None)) 1 0) ∷ decided
+inserted = (0, Replies (Value None)) ∷ (0, Counts (λ q. q == 0)) ∷ decided
 
 insert_decides : CanDo decided
 insert_decides = (refl, refl, refl, refl, refl, bin_did nat_cmp nat_cmp_total its_own its_own_lawful none_given (Insert 3 4) (Value None) [] 0 tt refl (λ z h. absurd (grind (arith, h))), (refl, tt)) ⊗ (Insert 3 4, refl, refl, refl, refl) ⊗ (refl, λ w h. absurd (grind (arith, h))) ⊗ tt
 
 insert_replies : CanDo inserted
-insert_replies = (Insert 3 4, refl, refl, refl, refl) ⊗ (refl, refl) ⊗ insert_decides
+insert_replies = (Insert 3 4, refl, refl, refl, refl) ⊗ refl ⊗ insert_decides
 
--- it does not reply before it has counted
+-- it does not reply before what it owes is counted
 no_early_reply : Can nat_cmp its_own none_given (after_steps decided) 0 (Replies (Value None)) → ⊥
 no_early_reply h = grind (arith, h.3)
+
+-- COUNTED BY ANOTHER: party 1 inserts 5 6 while party 0 has decided and not counted. It counts what party 0 owes, which then replies.
+abbrev counted_for : Steps
+counted_for = (0, Replies (Value None)) ∷ (1, Counts (λ q. q == 0)) ∷ (1, Decides (Insert 5 6) 5 4 [] 0 (Value None) (record { key = 5; value = 6; number = 1 } ∷ []) 1) ∷ (1, Finds 4) ∷ (1, Begins (Insert 5 6) None) ∷ decided
+
+other_replies : CanDo counted_for
+other_replies = (Insert 3 4, refl, refl, refl, refl) ⊗ refl ⊗ (refl, refl, refl, refl, refl, bin_did nat_cmp nat_cmp_total its_own its_own_lawful none_given (Insert 5 6) (Value None) [] 0 tt refl (λ z h. absurd (grind (arith, h))), (refl, tt)) ⊗ (Insert 5 6, refl, refl, (omega arith, 4, refl, omega arith)) ⊗ (refl, λ w h. absurd (grind (arith, h))) ⊗ insert_decides
+
+-- it still owes its own pair, and does not reply
+still_owes : Can nat_cmp its_own none_given (after_steps counted_for) 1 (Replies (Value None)) → ⊥
+still_owes h = grind (arith, h.3)
+
+-- Once its own is counted too, it replies, and the count is the number of pairs.
+abbrev counted_both : Steps
+counted_both = (1, Replies (Value None)) ∷ (1, Counts (λ _. true)) ∷ counted_for
+
+both_reply : CanDo counted_both
+both_reply = (Insert 5 6, refl, refl, refl, refl) ⊗ refl ⊗ other_replies
+
+both_counted : ((after_steps counted_both).count ≡ pos 2) × (pairs nat_cmp its_own (after_steps counted_both).trace ≡ (5, 6) ∷ (3, 4) ∷ [])
+both_counted = (refl, refl)
 
 -- WALK: it finds table 4, leaves the bins 0 to 2, and reads the pair in bin 3.
 abbrev frame : ℕ → Frame ℕ
@@ -93,10 +115,10 @@ abbrev read : Seen ℕ ℕ
 read = record { key = 3; value = 4; number = 1 }
 
 abbrev removed : Steps
-removed = (2, Replies (Value (Some 4))) ∷ (2, Counts (Some (Value (Some 4))) 0 1) ∷ (2, Decides (RemoveSeen read) 3 4 (written ∷ []) 1 (Value (Some 4)) [] 1) ∷ (2, Finds 4) ∷ (2, Begins (RemoveSeen read) (Some 1)) ∷ walked
+removed = (2, Replies (Value (Some 4))) ∷ (2, Counts (λ q. q == 2)) ∷ (2, Decides (RemoveSeen read) 3 4 (written ∷ []) 1 (Value (Some 4)) [] 1) ∷ (2, Finds 4) ∷ (2, Begins (RemoveSeen read) (Some 1)) ∷ walked
 
 removal_replies : CanDo removed
-removal_replies = (RemoveSeen read, refl, refl, refl, refl) ⊗ (refl, refl) ⊗ (refl, refl, refl, refl, refl, removal, tt) ⊗ (RemoveSeen read, refl, refl, (omega arith, 4, refl, omega arith)) ⊗ (refl, λ w h. (read, from_walk w h, refl)) ⊗ walk_reads
+removal_replies = (RemoveSeen read, refl, refl, refl, refl) ⊗ refl ⊗ (refl, refl, refl, refl, refl, removal, tt) ⊗ (RemoveSeen read, refl, refl, (omega arith, 4, refl, omega arith)) ⊗ (refl, λ w h. (read, from_walk w h, refl)) ⊗ walk_reads
   where
     removal : BinDid nat_cmp its_own none_given (RemoveSeen read) (Value (Some 4)) (written ∷ []) 1 [] 1
     removal = bin_did nat_cmp nat_cmp_total its_own its_own_lawful none_given (RemoveSeen read) (Value (Some 4)) (written ∷ []) 1 (tt, tt) (inr refl) (λ z h. subst (λ z. true ≡ has_number (number_of nat_cmp (written ∷ []) z.key) z.number) (same_seen nat_cmp its_own none_given h) refl)

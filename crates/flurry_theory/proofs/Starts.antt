@@ -13,7 +13,7 @@ module _ {K V F : Type 0} (cmp : K → K → Ordering) (total : IsTotalOrder cmp
   was_step : (s : State K V F) (p : ℕ) (l : Line K V F) (e : ℕ) → Can cmp hash gives s p l → Cut s → WasPublished cmp hash gives s e → WasPublished cmp hash gives (does cmp hash gives s p l) e
   was_step s p (Begins c y) e can u o = o
   was_step s p Quiet e can u o = o
-  was_step s p (Counts reply x y) e can u o = o
+  was_step s p (Counts whose) e can u o = o
   was_step s p (Finds d) e can u o = o
   was_step s p (Opens d) e can u o = absurd (grind (arith, can.3, o.2))
   was_step s p FindsNothing e can u o = o

@@ -29,7 +29,8 @@ use Rattle.flurry_theory.proofs.Refusals.{refused_now}
 use Rattle.flurry_theory.proofs.Named.{named_ok}
 use Rattle.flurry_theory.proofs.Lookups.{waits_ok, looks_up, steps_ok}
 use Rattle.flurry_theory.proofs.Counts.{counted_ok}
-use Rattle.flurry_theory.proofs.Own.{next_mode, next_call, mode_after, call_after, names_own}
+use Rattle.flurry_theory.proofs.Settled.{progress_settled}
+use Rattle.flurry_theory.proofs.Own.{next_mode, next_call, other_mode, other_keeps, if_settled, mode_after, call_after, names_own}
 
 module _ {K V F : Type 0} (cmp : K → K → Ordering) (total : IsTotalOrder cmp) (hash : K → ℕ) (lawful : (j k : K) → same cmp j k ≡ true → hash j ≡ hash k) (gives : F → K → V → Option V → Type 0) where
   no_key : (c : Call K V F) (k : K) (w : Call K V F) → key_of w ≡ None → key_of c ≡ Some k → (call : Option (Call K V F)) → call ≡ Some c → call ≡ Some w → ⊥
@@ -40,7 +41,7 @@ module _ {K V F : Type 0} (cmp : K → K → Ordering) (total : IsTotalOrder cmp
   unfolding next_mode next_call
   own home s p (Begins c w) can o t g = record { unbegun = λ h. absurd (grind (arith, h)); seen = λ _ _ k. inr (inr tt); unread = λ _ _ k _ h. g.unbegun (o.unknown (omega (arith, can.0))).0 k h; cleared = λ _ _ k. inr tt; frames = tt }
   own home s p Quiet can o t g = keeps cmp hash gives (s.call p) (s.mode p) s.trace (Silent p) p refl (λ k h. h) g
-  own home s p (Counts reply x y) can o t g = advance cmp hash gives (s.call p) (Done reply x y) (Done reply 0 0) s.trace (Silent p) p refl (λ k h. h) (λ h. grind (arith, h)) (λ _ k r. absurd r) (λ _ k r. absurd r) (λ k r. r) tt (subst (λ m. Progress cmp hash gives (s.call p) m s.trace p) can.0 g)
+  own home s p (Counts whose) can o t g = if_settled (λ m. Progress cmp hash gives (s.call p) m (Silent p ∷ s.trace) p) (progress_settled cmp hash gives (s.call p) (Silent p ∷ s.trace) p) (whose p) (s.mode p) (keeps cmp hash gives (s.call p) (s.mode p) s.trace (Silent p) p refl (λ k h. h) g)
   own home s p (Finds e) can o t g = finds cmp hash gives (s.call p) s.trace (Silent p) p e refl (λ k h. h) (subst (λ m. Progress cmp hash gives (s.call p) m s.trace p) can.2 g)
   own home s p (Opens e) can o t g = finds cmp hash gives (s.call p) s.trace (Opened e) p e refl (λ k h. h) (subst (λ m. Progress cmp hash gives (s.call p) m s.trace p) can.2 g)
   own home s p FindsNothing can o t g = advance cmp hash gives (s.call p) Locating (Done None 0 0) s.trace (Silent p) p refl (λ k h. h) (λ h. grind (arith, h)) (λ _ k _. inr (inl (missing_now cmp hash gives (λ _. true) s.trace (Silent p) p k refl refl (t.empty can.3 k)))) (λ _ k _. inl (missing_now cmp hash gives (names p) s.trace (Silent p) p k refl (eq-eqb p p refl) (t.empty can.3 k))) (λ k r. absurd r) tt (subst (λ m. Progress cmp hash gives (s.call p) m s.trace p) can.2 g)
@@ -67,11 +68,12 @@ module _ {K V F : Type 0} (cmp : K → K → Ordering) (total : IsTotalOrder cmp
     where
       go : (q ≡ p) ⊎ (q ≡ p → ⊥) → Progress cmp hash gives ((does cmp hash gives s p l).call q) ((does cmp hash gives s p l).mode q) (label cmp hash gives p l ∷ s.trace) q
       go (inl e) = subst₂ (λ c m. Progress cmp hash gives c m (label cmp hash gives p l ∷ s.trace) q)
-          (sym (call_after cmp total hash lawful gives s p q l ∙ cond-true (p == q) (next_call cmp total hash lawful gives s p l) (s.call q) (eq-eqb p q (sym e)))) (sym (mode_after cmp total hash lawful gives s p q l ∙ cond-true (p == q) (next_mode cmp total hash lawful gives s p l) (s.mode q) (eq-eqb p q (sym e))))
+          (sym (call_after cmp total hash lawful gives s p q l ∙ cond-true (p == q) (next_call cmp total hash lawful gives s p l) (s.call q) (eq-eqb p q (sym e)))) (sym (mode_after cmp total hash lawful gives s p q l ∙ cond-true (p == q) (next_mode cmp total hash lawful gives s p l) (other_mode cmp total hash lawful gives l q (s.mode q)) (eq-eqb p q (sym e))))
           (subst (λ q. Progress cmp hash gives (next_call cmp total hash lawful gives s p l) (next_mode cmp total hash lawful gives s p l) (label cmp hash gives p l ∷ s.trace) q) (sym e) (own home s p l can o t (g p)))
       go (inr ne) = subst₂ (λ c m. Progress cmp hash gives c m (label cmp hash gives p l ∷ s.trace) q)
-          (sym (call_after cmp total hash lawful gives s p q l ∙ cond-false (p == q) (next_call cmp total hash lawful gives s p l) (s.call q) (ne_eqb p q (λ h. ne (sym h))))) (sym (mode_after cmp total hash lawful gives s p q l ∙ cond-false (p == q) (next_mode cmp total hash lawful gives s p l) (s.mode q) (ne_eqb p q (λ h. ne (sym h)))))
-          (keeps cmp hash gives (s.call q) (s.mode q) s.trace (label cmp hash gives p l) q (not_begun cmp hash gives (label cmp hash gives p l) q (names_own cmp total hash lawful gives p q l ne)) (λ k h. read_back cmp hash gives s.trace (label cmp hash gives p l) q k (names_own cmp total hash lawful gives p q l ne) h) (g q))
+          (sym (call_after cmp total hash lawful gives s p q l ∙ cond-false (p == q) (next_call cmp total hash lawful gives s p l) (s.call q) (ne_eqb p q (λ h. ne (sym h))))) (sym (mode_after cmp total hash lawful gives s p q l ∙ cond-false (p == q) (next_mode cmp total hash lawful gives s p l) (other_mode cmp total hash lawful gives l q (s.mode q)) (ne_eqb p q (λ h. ne (sym h)))))
+          (other_keeps cmp total hash lawful gives (λ m. Progress cmp hash gives (s.call q) m (label cmp hash gives p l ∷ s.trace) q) (progress_settled cmp hash gives (s.call q) (label cmp hash gives p l ∷ s.trace) q) l q (s.mode q)
+          (keeps cmp hash gives (s.call q) (s.mode q) s.trace (label cmp hash gives p l) q (not_begun cmp hash gives (label cmp hash gives p l) q (names_own cmp total hash lawful gives p q l ne)) (λ k h. read_back cmp hash gives s.trace (label cmp hash gives p l) q k (names_own cmp total hash lawful gives p q l ne) h) (g q)))
 
   walk_is : (c : Call K V F) → IsWalk c → c ≡ Walk
   walk_is Walk h = refl
@@ -126,7 +128,7 @@ module _ {K V F : Type 0} (cmp : K → K → Ordering) (total : IsTotalOrder cmp
   walks_lawful : (home : ℕ → ℕ) (s : State K V F) (p : ℕ) (l : Line K V F) → Can cmp hash gives s p l → PartyOk s p → Tables cmp hash home s → Progress cmp hash gives (s.call p) (s.mode p) s.trace p → WalkMay cmp hash gives s.trace (label cmp hash gives p l)
   walks_lawful home s p (Begins c w) can o t g = tt
   walks_lawful home s p Quiet can o t g = tt
-  walks_lawful home s p (Counts reply x y) can o t g = tt
+  walks_lawful home s p (Counts whose) can o t g = tt
   walks_lawful home s p (Finds e) can o t g = tt
   walks_lawful home s p (Opens e) can o t g = tt
   walks_lawful home s p FindsNothing can o t g = tt
@@ -150,7 +152,7 @@ module _ {K V F : Type 0} (cmp : K → K → Ordering) (total : IsTotalOrder cmp
   clears_lawful : (s : State K V F) (p : ℕ) (l : Line K V F) → Can cmp hash gives s p l → PartyOk s p → Progress cmp hash gives (s.call p) (s.mode p) s.trace p → ClearMay cmp hash gives s.trace (label cmp hash gives p l)
   clears_lawful s p (Begins c w) can o g = tt
   clears_lawful s p Quiet can o g = tt
-  clears_lawful s p (Counts reply x y) can o g = tt
+  clears_lawful s p (Counts whose) can o g = tt
   clears_lawful s p (Finds e) can o g = tt
   clears_lawful s p (Opens e) can o g = tt
   clears_lawful s p FindsNothing can o g = tt
@@ -189,7 +191,7 @@ module _ {K V F : Type 0} (cmp : K → K → Ordering) (total : IsTotalOrder cmp
   allows_now : (home : ℕ → ℕ) (s : State K V F) (p : ℕ) (l : Line K V F) → Can cmp hash gives s p l → PartyOk s p → Tables cmp hash home s → AllowsNow cmp hash gives s p l
   allows_now home s p (Begins c w) can o t = tt
   allows_now home s p Quiet can o t = tt
-  allows_now home s p (Counts reply x y) can o t = tt
+  allows_now home s p (Counts whose) can o t = tt
   allows_now home s p (Finds e) can o t = tt
   allows_now home s p (Opens e) can o t = tt
   allows_now home s p FindsNothing can o t = tt

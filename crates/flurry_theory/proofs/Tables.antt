@@ -200,7 +200,7 @@ module _ {K V F : Type 0} (cmp : K → K → Ordering) (total : IsTotalOrder cmp
     was_moved = t.was_moved;
     is_moved = t.is_moved;
   }
-  tables_ok home s p (Counts reply x y) can o ready t = record {
+  tables_ok home s p (Counts whose) can o ready t = record {
     unmade = t.unmade;
     from = t.from;
     live = t.live;

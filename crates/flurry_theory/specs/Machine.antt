@@ -1,6 +1,6 @@
 -- The machine: its state, the lines that one step may be, and what each does. It leaves open what no law hangs on: when a
--- party counts, helps or begins a growth, and whether memory is refused where it may be.
-use Rattle.std.specs.Prelude.{⊤, length, ℕ, ℤ, pos, ◌+ℤ◌, ◌-ℤ◌, zero, suc, ◌+◌, ◌-◌, ◌%◌, ◌^◌, ◌<◌, ◌≤◌, ◌==◌, nat_lt, true, false, ◌&&◌, List, [], ◌∷◌, Option, Some, None, is_some, IsSome, IsNone, if◌then◌else◌, ◌≡◌, ◌⊎◌}
+-- party counts, and for whom, when it helps or begins a growth, and whether memory is refused where it may be.
+use Rattle.std.specs.Prelude.{⊤, length, ℕ, ℤ, pos, ◌+ℤ◌, ◌-ℤ◌, zero, suc, ◌+◌, ◌-◌, ◌%◌, ◌^◌, ◌<◌, ◌≤◌, ◌==◌, nat_lt, Bool, true, false, ◌&&◌, List, [], ◌∷◌, Option, Some, None, is_some, IsSome, IsNone, if◌then◌else◌, ◌≡◌, ◌⊎◌}
 use Rattle.std.specs.declared.cmp.Ordering.{Ordering}
 use Rattle.flurry_theory.specs.Map.{same, find, key_of, after, Allows, CanBeRefused}
 use Rattle.flurry_theory.specs.Trace.{is_lookup, Trace}
@@ -42,7 +42,7 @@ pub data Mode (K V : Type 0) : Type 0 where
   -- and how many pairs the clear has removed
   Clearing : (wiped e i : ℕ) (frames : List (Frame K)) → Mode K V
   -- Its own work is done, for a one-key call with this decision. It owes the control the count of the pairs that it added and removed,
-  -- and may grow and help before its closing label.
+  -- until some party has counted them, and may grow and help before its closing label.
   Done : (reply : Option (KeptReply K V)) (added removed : ℕ) → Mode K V
   Finished : Mode K V
 
@@ -85,8 +85,8 @@ pub data Line (K V F : Type 0) : Type 0 where
   Begins : (c : Call K V F) (from : Option ℕ) → Line K V F
   -- changes nothing
   Quiet : Line K V F
-  -- counts what it owes
-  Counts : (reply : Option (KeptReply K V)) (added removed : ℕ) → Line K V F
+  -- counts what the parties that pass the test owe, its own or others'
+  Counts : (whose : ℕ → Bool) → Line K V F
   Finds : (e : ℕ) → Line K V F
   Opens : (e : ℕ) → Line K V F
   FindsNothing : Line K V F
@@ -112,16 +112,22 @@ abbrev pub onward : {K V : Type 0} → (ℕ → ℕ → List (Frame K) → Mode 
 onward to end e i (f ∷ fs) = to e i (f ∷ fs)
 onward to end e i [] = if nat_lt (suc i) (2 ^ e) then to e (suc i) (record { table = e; index = suc i; bound = None } ∷ []) else end
 
--- what a party owes in this mode: the pairs that it has added, and not counted
+-- what a party owes in this mode: the pairs that it has added, and nobody has counted
 abbrev pub owes_added : {K V : Type 0} → Mode K V → ℕ
 owes_added (Done r added removed) = added
 owes_added m = 0
 
--- and the pairs that it has removed, and not counted
+-- and the pairs that it has removed, and nobody has counted
 abbrev pub owes_removed : {K V : Type 0} → Mode K V → ℕ
 owes_removed (Clearing wiped e i fs) = wiped
 owes_removed (Done r added removed) = removed
 owes_removed m = 0
+
+-- the mode once what it owes is counted
+abbrev pub settled : {K V : Type 0} → Mode K V → Mode K V
+settled (Clearing wiped e i fs) = Clearing 0 e i fs
+settled (Done r added removed) = Done r 0 0
+settled m = m
 
 -- the two halves of a frame whose bin has moved
 abbrev pub halves : {K : Type 0} → Frame K → List (Frame K) → List (Frame K)
@@ -141,6 +147,13 @@ module _ {K V F : Type 0} where
   Opening (TryInsert k v) e = e ≡ 4
   Opening (Reserve n) e = e ≤ 30
   Opening c e = ⊥
+
+  -- what the parties that pass the test owe is counted, and they owe nothing more
+  abbrev pub settle : (ℕ → Bool) → State K V F → State K V F
+  settle whose s = record s {
+    count = s.count +ℤ pos (total (λ q. if whose q then owes_added (s.mode q) else 0) s.parties) -ℤ pos (total (λ q. if whose q then owes_removed (s.mode q) else 0) s.parties);
+    mode = λ q. if whose q then settled (s.mode q) else s.mode q;
+  }
 
   -- a call that adds nothing to an empty map
   abbrev pub Adds : Call K V F → Type 0
@@ -179,7 +192,7 @@ module _ {K V F : Type 0} where
     abbrev pub Can : State K V F → ℕ → Line K V F → Type 0
     Can s p (Begins c from) = (p ≡ s.parties) × ((w : ℕ) → from ≡ Some w → (z : Seen K V) × (s.seen w ≡ Some z) × (c ≡ RemoveSeen z))
     Can s p Quiet = is_lookup (s.call p) ≡ true → s.mode p ≡ Finished
-    Can s p (Counts r added removed) = (s.mode p ≡ Done r added removed) × (is_lookup (s.call p) ≡ false)
+    Can s p (Counts whose) = is_lookup (s.call p) ≡ false
     Can s p (Finds e) = (c : Call K V F) × (s.call p ≡ Some c) × (s.mode p ≡ Locating) × WasPublished s e
     Can s p (Opens e) = (c : Call K V F) × (s.call p ≡ Some c) × (s.mode p ≡ Locating) × (s.published ≡ None) × Opening c e
     Can s p FindsNothing = (c : Call K V F) × (s.call p ≡ Some c) × (s.mode p ≡ Locating) × (s.published ≡ None) × (IsWalk c ⊎ IsClear c)
@@ -213,7 +226,7 @@ module _ {K V F : Type 0} where
     abbrev pub effect : State K V F → ℕ → Line K V F → State K V F
     effect s p (Begins c from) = record s { seen = at_place s.seen p None; began_from = at_place s.began_from p from; parties = suc p; call = at_place s.call p (Some c); mode = at_place s.mode p Locating; claim = at_place s.claim p None }
     effect s p Quiet = s
-    effect s p (Counts r added removed) = record s { count = s.count +ℤ pos added -ℤ pos removed; mode = at_place s.mode p (Done r 0 0) }
+    effect s p (Counts whose) = settle whose s
     effect s p (Finds e) = goes s p (found_by (s.call p) e)
     effect s p (Opens e) = record s { start = e; published = Some e; slot = λ d j. if e == d && nat_lt j (2 ^ e) then Live [] 0 else s.slot d j; mode = at_place s.mode p (found_by (s.call p) e) }
     effect s p FindsNothing = goes s p (Done None 0 0)

@@ -25,7 +25,8 @@ pub fn numbers_stay_published<K: Ord, V, F: Fn(&K, &V) -> Option<V>>()
         → WasPublished K.cmp hash (answers F.Fn) (after_all K.cmp hash (answers F.Fn) (new_world e b) (more ++ steps)) x }
 {}
 
-/// Once every party that began has finished, the count is the number of pairs: nobody replies, ends or is refused while it owes.
+/// Once every party that began has finished, the count is the number of pairs, whoever counted for whom: nobody replies, ends or
+/// is refused while it owes.
 pub fn count_is_exact<K: Ord, V, F: Fn(&K, &V) -> Option<V>>()
     ensures { (hash : K → ℕ) → ((j k : K) → same K.cmp j k ≡ true → hash j ≡ hash k)
         → (e : ℕ) (b : Bool) → e ≤ 30 → (steps : List (ℕ × Line K V F)) → CanAll K.cmp hash (answers F.Fn) (new_world e b) steps

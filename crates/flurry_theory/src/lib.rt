@@ -4,7 +4,8 @@
 //! (`specs/Machine.antt`) and adds one label to the trace. The laws of a trace (`specs/Legal.antt`) say of each label what has to hold
 //! of the labels before it, and name no table, bin or claim. [`laws`] states that each trace of the machine keeps them.
 //!
-//! No code runs here. The machine leaves open what no law hangs on: when a party counts, helps or begins a growth.
+//! No code runs here. The machine leaves open what no law hangs on: when a party counts, and for whom, and when it helps or
+//! begins a growth.
 #![tactic(auto)]
 
 pub mod laws;

@@ -1,5 +1,5 @@
 -- What the cases of a party's step share.
-use Rattle.std.specs.Prelude.{ℕ, ℤ, pos, neg_ℤ, ◌≤ℤ◌, ◌+ℤ◌, ◌-ℤ◌, ◌+◌, ◌≤◌, true, false, length, slice_get, Option, Some, None, option_map, ◌≡◌}
+use Rattle.std.specs.Prelude.{ℕ, ℤ, pos, neg_ℤ, ◌≤ℤ◌, ◌+ℤ◌, ◌-ℤ◌, ◌+◌, ◌≤◌, ◌==◌, true, false, length, slice_get, Option, Some, None, option_map, ◌≡◌}
 use Rattle.std.specs.declared.cmp.Ordering.{Ordering}
 use Rattle.std.specs.Int.{saturate_signed, w64}
 use Rattle.std.specs.Cmp.{IsTotalOrder}
@@ -60,9 +60,9 @@ module _ {K V F S : Type 0} (cmp : K → K → Ordering) (total : IsTotalOrder c
       → mode_of_stage c.stage ≡ Done (reply_in r) 0 0 → claim_of_stage c.stage ≡ None → is_lookup (Some x.call) ≡ false → FollowsStage x.call c.stage
       → IsStep cmp hash gives w p x (control.counted d w.board) w.tables c (label.Silent p)
   counts s r added removed d e before none delta small mode claim lookup follows = record {
-    line = Counts (reply_in r) added removed;
-    can = (in_mode s e ∙ before, no_lookup lookup);
-    is = is_counted cmp hash gives w p x at c (reply_in r) added removed _ summed mode (claim ∙ sym (ap claim_of_stage e ∙ none));
+    line = Counts (λ q. p == q);
+    can = no_lookup lookup;
+    is = is_counted cmp hash gives w p x at c (reply_in r) added removed _ (in_mode s e ∙ before) summed mode (claim ∙ sym (ap claim_of_stage e ∙ none));
     follows = follows;
     frame = record { hashed = k.hashed; board = record { published = k.board.published; growth = k.board.growth }; tables = k.tables; unmade = k.unmade; next = k.next };
   }

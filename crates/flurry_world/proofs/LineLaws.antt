@@ -1,11 +1,15 @@
 -- The lines of the machine, as steps of a world.
-use Rattle.std.specs.Prelude.{ℕ, ℤ, pos, ◌+ℤ◌, ◌-ℤ◌, suc, ◌+◌, ◌-◌, ◌^◌, ◌%◌, ◌==◌, ◌&&◌, nat_lt, List, [], ◌∷◌, length, reverse, slice_get, Option, Some, None, option_map, if◌then◌else◌, unwrap_or, ◌≡◌}
+use Rattle.std.specs.Prelude.{ℕ, ℤ, pos, ◌+ℤ◌, ◌-ℤ◌, suc, ◌+◌, ◌-◌, ◌^◌, ◌%◌, ◌<◌, ◌==◌, Bool, true, false, cond, ◌&&◌, nat_lt, List, [], ◌∷◌, length, reverse, slice_get, Option, Some, None, option_map, if◌then◌else◌, unwrap_or, ◌≡◌}
 use Rattle.std.specs.declared.cmp.Ordering.{Ordering}
 use Rattle.std.proofs.Common.{arith, refl, sym, ◌∙◌, ap}
+use Rattle.std.proofs.lemmas.Bool.{eqb-true}
+use Rattle.std.proofs.lemmas.Int.{ints}
+use Rattle.std.proofs.lemmas.Option.{slice_get_within}
+use Rattle.flurry_theory.proofs.Ranges.{place_here, total-change, total-zero}
 use Rattle.flurry_bins.specs.declared.table.reply.KeptReply.{KeptReply}
 use Rattle.flurry_theory.specs.Bin.{Entry, half}
 use Rattle.flurry_theory.specs.Machine as machine
-use Rattle.flurry_theory.specs.Machine.{State, Mode, Done, Slot, Live, Moved, Line, at_place, at_bin, effect, does, goes, label, Begins, Quiet, Counts, Finds, Opens, FindsNothing, IsRefused, DecidesEmpty, Passes, Decides, Places, Claims, Moves, Reports, Publishes, Replies, Ends, found_by}
+use Rattle.flurry_theory.specs.Machine.{State, Mode, Done, Slot, Live, Moved, Line, total, owes_added, owes_removed, settled, at_place, at_bin, effect, does, goes, label, Begins, Quiet, Counts, Finds, Opens, FindsNothing, IsRefused, DecidesEmpty, Passes, Decides, Places, Claims, Moves, Reports, Publishes, Replies, Ends, found_by}
 use Rattle.flurry_theory.specs.declared.Call.{Call}
 use Rattle.flurry_theory.specs.declared.Label.{Label}
 use Rattle.flurry_theory.specs.declared.Label.TheVariants as label
@@ -16,9 +20,24 @@ use Rattle.flurry_world.specs.Tables.{Tables, content_at}
 use Rattle.flurry_world.specs.World.{Caller, Shown, state_of, start_of, mode_of_stage, claim_of_stage, claim_in}
 use Rattle.flurry_world.proofs.StateLaws.{IsLine, one_more_step, same_place}
 
+-- the sum at one number alone
+total-own : (f : ℕ → ℕ) (p n : ℕ) → p < n → total (λ q. if p == q then f q else 0) n ≡ f p
+total-own f p n l = omega (arith, total-change (λ q. if p == q then f q else 0) (λ _. 0) p n l (λ q ne. grind (arith, eqb-true p q, ne)), total-zero (λ _. 0) n (λ _. refl), place_here (λ _. 0) p (f p))
+
+-- the mode of one party alone is settled
+own_settled : {K V : Type 0} (f : ℕ → Mode K V) (p : ℕ) (m : Mode K V) → settled (f p) ≡ m → (q : ℕ) → at_place f p m q ≡ cond (p == q) (settled (f q)) (f q)
+own_settled f p m h q = through (p == q) refl
+  where
+    through : (b : Bool) → (p == q) ≡ b → cond b m (f q) ≡ cond b (settled (f q)) (f q)
+    through true e = sym h ∙ ap (λ n. settled (f n)) (eqb-true p q e)
+    through false e = refl
+
 module _ {K V F S : Type 0} (cmp : K → K → Ordering) (hash : K → ℕ) (gives : F → K → V → Option V → Type 0) (w : Shown K V F S) (p : ℕ) (x : Caller K V F) (at : slice_get w.callers p ≡ Some x) (c : Course K V F) where
   begun : (state_of w).call p ≡ Some x.call
   begun = ap (option_map (λ (z : Caller K V F). z.call)) at
+
+  below : p < length w.callers
+  below = slice_get_within w.callers p x at
 
   holds : (state_of w).claim p ≡ claim_of_stage x.course.stage
   holds = ap claim_in at
@@ -67,20 +86,20 @@ module _ {K V F S : Type 0} (cmp : K → K → Ordering) (hash : K → ℕ) (giv
   is_ended mode claim = is_goes (label.End p) Ends _ refl refl (λ d f h. grind (arith, h)) refl mode claim
 
   -- the pairs that it added or removed are counted
-  pub is_counted : (r : Option (KeptReply K V)) (added removed : ℕ) (n : ℤ) → n ≡ w.board.count +ℤ pos added -ℤ pos removed → mode_of_stage c.stage ≡ Done r 0 0 → claim_of_stage c.stage ≡ claim_of_stage x.course.stage
-      → IsLine cmp hash gives w p (record { published = w.board.published; growth = w.board.growth; count = n }) w.tables c (label.Silent p) (Counts r added removed)
-  is_counted r added removed n count mode claim = record {
+  pub is_counted : (r : Option (KeptReply K V)) (added removed : ℕ) (n : ℤ) → (state_of w).mode p ≡ Done r added removed → n ≡ w.board.count +ℤ pos added -ℤ pos removed → mode_of_stage c.stage ≡ Done r 0 0 → claim_of_stage c.stage ≡ claim_of_stage x.course.stage
+      → IsLine cmp hash gives w p (record { published = w.board.published; growth = w.board.growth; count = n }) w.tables c (label.Silent p) (Counts (λ q. p == q))
+  is_counted r added removed n before count mode claim = record {
     label_is = refl;
-    steps_are = stepped (Counts r added removed) (λ d f h. grind (arith, h));
+    steps_are = stepped (Counts (λ q. p == q)) (λ d f h. grind (arith, h));
     start = refl;
     published = refl;
     growth = refl;
     slot = λ d j. refl;
     parties = refl;
     call = λ q. refl;
-    mode = λ q. ap (λ m. at_place (state_of w).mode p m q) mode;
+    mode = λ q. own_settled (state_of w).mode p (mode_of_stage c.stage) (ap settled before ∙ sym mode) q;
     claim = λ q. same_place (state_of w).claim p (claim_of_stage c.stage) (holds ∙ sym claim) q;
-    count = count;
+    count = omega (arith, ints, count, total-own (λ q. owes_added ((state_of w).mode q)) p (length w.callers) below, total-own (λ q. owes_removed ((state_of w).mode q)) p (length w.callers) below, ap owes_added before, ap owes_removed before);
     seen = λ q. refl;
     began_from = λ q. refl;
   }

@@ -50,7 +50,7 @@ module _ {K V F : Type 0} (cmp : K → K → Ordering) (hash : K → ℕ) (gives
   pub one_more_step : (s : State K V F) (p n : ℕ) (c : Call K V F) (l : Line K V F) → s.call p ≡ Some c → s.steps p ≡ n → ((d : Call K V F) (f : Option ℕ) → l ≡ Begins d f → ⊥) → steps_after cmp hash gives s p l ≡ suc n
   one_more_step s p n c (Begins d f) h k other = absurd (other d f refl)
   one_more_step s p n c Quiet h k other = grind (arith, h, k)
-  one_more_step s p n c (Counts r a b) h k other = grind (arith, h, k)
+  one_more_step s p n c (Counts whose) h k other = grind (arith, h, k)
   one_more_step s p n c (Finds e) h k other = grind (arith, h, k)
   one_more_step s p n c (Opens e) h k other = grind (arith, h, k)
   one_more_step s p n c FindsNothing h k other = grind (arith, h, k)
