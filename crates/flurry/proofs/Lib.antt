@@ -1,3 +1,5 @@
+pub mod Lengths
 pub mod Numbers
 pub mod Results
 pub mod RunLemmas
+pub mod ScheduleLemmas

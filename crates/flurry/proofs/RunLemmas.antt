@@ -1,18 +1,13 @@
 -- The lines of an input, and runs over them.
 use Rattle.std.proofs.Common.{◌≡◌, ◌≢◌, ℕ, ◌+◌, ◌<◌, ◌≤◌, ◌^◌, Bool, true, false, List, [], ◌∷◌, ◌++◌, length, Option, None, Some, Result, Ok, Err, IfSome, IfOk, OnOk, MatchOption, refl, sym, ap, ◌∙◌, subst, inl, inr, append_assoc, append-nil, length-append, arith}
 use Rattle.std.specs.Prelude.{◌==◌}
-use Rattle.std.specs.Fmt.{decimal}
 use Rattle.std.specs.Io.KnownBytes.{Appends, Consumes, IsAtEnd}
 use Rattle.std.proofs.KnownBytes.{Appends-trans, Appends-nil}
-use Rattle.std.proofs.lemmas.Fmt.{length-decimal-le}
 use borrow.Author.Tests.{eqb-true}
-use Rattle.flurry.specs.declared.program.command.Command.{Command}
-use Rattle.flurry.specs.declared.program.command.Command.TheVariants.{Insert, Try, Get, Remove, Len, Bins}
-use Rattle.flurry.specs.Commands.{text_of, IsCommand, IsNoCommand}
 use Rattle.flurry.specs.Lines.{lines_of, onto_first}
-use Rattle.flurry.specs.Answers.{Numbers, Answers, Writes, bad_line_text, input_failed_text}
+use Rattle.flurry.specs.Endings.{bad_line_text, input_failed_text}
 use Rattle.flurry.specs.LineEnds.{HasNoBreak}
-use Rattle.flurry.specs.Runs.{AnswersLine, RefusesLine, Goes, Ends}
+use Rattle.flurry.specs.Runs.{Script, IsNoCommand, EndsAtLine, Writes, AnswersLine, RefusesLine, Goes, Ends}
 
 not_ten : (b : ℕ) → b ≢ 10 → (b == 10) ≡ false
 not_ten b h = by_test (b == 10) refl
@@ -43,40 +38,7 @@ lines_front (b ∷ c ∷ line) rest h some =
     let p = lines_front (c ∷ line) rest h.1 (omega arith) in
     (p.0, p.1, rw (not_ten b h.0) (ap (onto_first b) p.2))
 
-short : (n : ℕ) → n < 2 ^ 64 → length (decimal n) ≤ 20
-short n h = length-decimal-le 20 n (omega arith) (omega arith) h
-
-length-text_of : (c : Command) → IsCommand c → length (text_of c) ≤ 64
-length-text_of (Insert k v) h = let a = short k h.0 in let b = short v h.1 in simp length-append (omega arith)
-length-text_of (Try k v) h = let a = short k h.0 in let b = short v h.1 in simp length-append (omega arith)
-length-text_of (Get k) h = let a = short k h in simp length-append (omega arith)
-length-text_of (Remove k) h = let a = short k h in simp length-append (omega arith)
-length-text_of Len h = omega arith
-length-text_of Bins h = omega arith
-
--- a line that is too long is no command
-long_line : (line : List ℕ) → 64 < length line → IsNoCommand line
-long_line line long c h e = let n = length-text_of c h in let m = ap length e in omega arith
-
 -- ---- runs
-
--- a read failed
-writes_failed : (map : Numbers) (n : ℕ) (lines : List (List ℕ)) → Writes map n lines input_failed_text 1
-writes_failed map n [] = inl (refl, refl)
-writes_failed map n (line ∷ lines) = inl (refl, refl)
-
--- the lines are done
-writes_none : (map : Numbers) (n : ℕ) → Writes map n [] [] 0
-writes_none map n = inr (refl, refl)
-
--- a line is no command
-writes_bad : (map : Numbers) (n : ℕ) (line : List ℕ) (lines : List (List ℕ)) → IsNoCommand line → Writes map n (line ∷ lines) (bad_line_text n) 2
-writes_bad map n line lines bad = inr (inl (bad, refl, refl))
-
--- a line is answered
-writes_answer : (map after : Numbers) (n : ℕ) (line : List ℕ) (lines : List (List ℕ)) (c : Command) (answer rest : List ℕ) (status : ℕ)
-    → IsCommand c → line ≡ text_of c → Answers c map answer after → Writes after (n + 1) lines rest status → Writes map n (line ∷ lines) ((answer ++ 10 ∷ []) ++ rest) status
-writes_answer map after n line lines c answer rest status fits is answers w = inr (inr (c, answer, after, rest, fits, is, answers, append_assoc answer (10 ∷ []) rest, w))
 
 -- a line and its end are a byte at least
 line_takes : (n : ℕ) (line input left : List ℕ) → input ≡ (line ++ 10 ∷ []) ++ left → n + 1 + length left ≤ n + length input
@@ -84,119 +46,140 @@ line_takes n line input left e =
     let whole : length input ≡ length line + 1 + length left = ap length e ∙ simp (length-append) (omega arith) in
     omega arith
 
--- what a line's end makes of its answer
-abbrev AnsweredLine : Option ℕ → Numbers → Numbers → ℕ → List ℕ → Option (List ℕ) → Option (List ℕ) → Type 0
-AnsweredLine ended map after n line held holds = MatchOption ended (AnswersLine map line after held holds) (λ status. RefusesLine n line status held holds)
+module _ {M C : Type 0} (s : Script M C) where
+  -- a read failed
+  writes_failed : (m : M) (n : ℕ) (lines : List (List ℕ)) → Writes s m n lines input_failed_text 1
+  writes_failed m n [] = inl (refl, refl)
+  writes_failed m n (line ∷ lines) = inl (refl, refl)
 
-abbrev pub GoesOrEnds : Option ℕ → Numbers → ℕ → Numbers → Option (List ℕ) → Option (List ℕ) → Option (List ℕ) → Option (List ℕ) → Type 0
-GoesOrEnds ended map n after old new held holds =
-    IfSome old (λ input. MatchOption ended (Goes map n input after (n + 1) new held holds) (Ends map n input held holds))
+  -- the lines are done
+  writes_none : (m : M) (n : ℕ) → Writes s m n [] [] 0
+  writes_none m n = inr (refl, refl)
 
-module _ (map after : Numbers) (n : ℕ) (line : List ℕ) (held holds : Option (List ℕ)) where
-  break_ends : (old new : Option (List ℕ)) (ended : Option ℕ) → Consumes old new (line ++ 10 ∷ []) → HasNoBreak line → AnsweredLine ended map after n line held holds → GoesOrEnds ended map n after old new held holds
-  break_ends None new ended gave none answered = tt
-  break_ends (Some input) None ended gave none answered = absurd gave
-  break_ends (Some input) (Some left) None gave none goes =
-      let lines : lines_of input ≡ line ∷ lines_of left = ap lines_of (gave ∙ append_assoc line (10 ∷ []) left) ∙ lines_break line left none in
-      (goes.1 ++ 10 ∷ [], left, refl, goes.5, line_takes n line input left gave, λ rest status w. rw lines (writes_answer map after n line (lines_of left) goes.0 goes.1 rest status goes.2 goes.3 goes.4 w))
-  break_ends (Some input) (Some left) (Some status) gave none end =
-      let lines : lines_of input ≡ line ∷ lines_of left = ap lines_of (gave ∙ append_assoc line (10 ∷ []) left) ∙ lines_break line left none in
-      (bad_line_text n, end.2, rw (lines, end.1) (writes_bad map n line (lines_of left) end.0))
+  -- a line ends the run
+  writes_end : (m : M) (n : ℕ) (line : List ℕ) (lines : List (List ℕ)) (out : List ℕ) (status : ℕ) → EndsAtLine s m n line out status → Writes s m n (line ∷ lines) out status
+  writes_end m n line lines out status end = inr (inl end)
 
-  pub step_break : {E : Type 0} (old new : Option (List ℕ)) (r : Result (Option ℕ) E) → Consumes old new (line ++ 10 ∷ []) → HasNoBreak line
-      → IfOk r (λ ended. AnsweredLine ended map after n line held holds) → IfOk r (λ ended. GoesOrEnds ended map n after old new held holds)
-  step_break old new (Ok ended) gave none answered = break_ends old new ended gave none answered
-  step_break old new (Err e) gave none answered = tt
+  -- a line is answered
+  writes_answer : (m after : M) (n : ℕ) (line : List ℕ) (lines : List (List ℕ)) (c : C) (printed rest : List ℕ) (status : ℕ)
+      → s.IsCommand c → line ≡ s.text_of c → s.Does c m printed after → Writes s after (n + 1) lines rest status → Writes s m n (line ∷ lines) (printed ++ rest) status
+  writes_answer m after n line lines c printed rest status fits is does w = inr (inr (c, printed, after, rest, fits, is, does, refl, w))
 
-  pub step_long : (old new : Option (List ℕ)) (status : ℕ) → Consumes old new line → HasNoBreak line → 64 < length line → status ≡ 2 → Appends held holds (bad_line_text n)
-      → IfSome old (λ input. Ends map n input held holds status)
-  step_long None new status gave none long is bytes = tt
-  step_long (Some input) None status gave none long is bytes = absurd gave
-  step_long (Some input) (Some left) status gave none long is bytes =
-      let front = lines_front line left none (omega arith) in
-      let lines : lines_of input ≡ (line ++ front.0) ∷ front.1 = ap lines_of gave ∙ front.2 in
-      let longer : 64 < length (line ++ front.0) = simp length-append (omega arith) in
-      (bad_line_text n, bytes, rw (lines, is) (writes_bad map n (line ++ front.0) front.1 (long_line (line ++ front.0) longer)))
+  -- what a line's end makes of its answer
+  abbrev AnsweredLine : Option ℕ → M → M → ℕ → List ℕ → Option (List ℕ) → Option (List ℕ) → Type 0
+  AnsweredLine ended m after n line held holds = MatchOption ended (AnswersLine s m line after held holds) (RefusesLine s m n line held holds)
 
-  lines_last : (input left : List ℕ) → input ≡ line ++ left → left ≡ [] → HasNoBreak line → 0 < length line → lines_of input ≡ line ∷ []
-  lines_last input left e end none some = ap lines_of (e ∙ ap (λ l. line ++ l) end ∙ append-nil line) ∙ lines_end line none some
+  abbrev pub GoesOrEnds : Option ℕ → M → ℕ → M → Option (List ℕ) → Option (List ℕ) → Option (List ℕ) → Option (List ℕ) → Type 0
+  GoesOrEnds ended m n after old new held holds =
+      IfSome old (λ input. MatchOption ended (Goes s m n input after (n + 1) new held holds) (Ends s m n input held holds))
 
-  pub step_last : (old new : Option (List ℕ)) → Consumes old new line → IsAtEnd new → HasNoBreak line → 0 < length line → AnswersLine map line after held holds
-      → IfSome old (λ input. Ends map n input held holds 0)
-  step_last None new gave end none some goes = tt
-  step_last (Some input) None gave end none some goes = absurd gave
-  step_last (Some input) (Some left) gave end none some goes =
-      let written : Writes map n (line ∷ []) ((goes.1 ++ 10 ∷ []) ++ []) 0 = writes_answer map after n line [] goes.0 goes.1 [] 0 goes.2 goes.3 goes.4 (writes_none after (n + 1)) in
-      (goes.1 ++ 10 ∷ [], goes.5, rw (lines_last input left gave end none some) (rw append-nil at written))
+  module _ (m after : M) (n : ℕ) (line : List ℕ) (held holds : Option (List ℕ)) where
+    break_ends : (old new : Option (List ℕ)) (ended : Option ℕ) → Consumes old new (line ++ 10 ∷ []) → HasNoBreak line → AnsweredLine ended m after n line held holds → GoesOrEnds ended m n after old new held holds
+    break_ends None new ended gave none answered = tt
+    break_ends (Some input) None ended gave none answered = absurd gave
+    break_ends (Some input) (Some left) None gave none goes =
+        let lines : lines_of input ≡ line ∷ lines_of left = ap lines_of (gave ∙ append_assoc line (10 ∷ []) left) ∙ lines_break line left none in
+        (goes.1, left, refl, goes.5, line_takes n line input left gave, λ rest status w. rw lines (writes_answer m after n line (lines_of left) goes.0 goes.1 rest status goes.2 goes.3 goes.4 w))
+    break_ends (Some input) (Some left) (Some status) gave none end =
+        let lines : lines_of input ≡ line ∷ lines_of left = ap lines_of (gave ∙ append_assoc line (10 ∷ []) left) ∙ lines_break line left none in
+        (end.0, end.2, rw lines (writes_end m n line (lines_of left) end.0 status end.1))
 
-  pub step_last_bad : (old new : Option (List ℕ)) (status : ℕ) → Consumes old new line → IsAtEnd new → HasNoBreak line → 0 < length line → RefusesLine n line status held holds
-      → IfSome old (λ input. Ends map n input held holds status)
-  step_last_bad None new status gave end none some bad = tt
-  step_last_bad (Some input) None status gave end none some bad = absurd gave
-  step_last_bad (Some input) (Some left) status gave end none some bad =
-      (bad_line_text n, bad.2, rw (lines_last input left gave end none some, bad.1) (writes_bad map n line [] bad.0))
+    pub step_break : {E : Type 0} (old new : Option (List ℕ)) (r : Result (Option ℕ) E) → Consumes old new (line ++ 10 ∷ []) → HasNoBreak line
+        → IfOk r (λ ended. AnsweredLine ended m after n line held holds) → IfOk r (λ ended. GoesOrEnds ended m n after old new held holds)
+    step_break old new (Ok ended) gave none answered = break_ends old new ended gave none answered
+    step_break old new (Err e) gave none answered = tt
 
--- a read failed
-pub step_failed : (map : Numbers) (n status : ℕ) (old held holds : Option (List ℕ)) → status ≡ 1 → Appends held holds input_failed_text
-    → IfSome old (λ input. Ends map n input held holds status)
-step_failed map n status None held holds is bytes = tt
-step_failed map n status (Some input) held holds is bytes = (input_failed_text, bytes, rw is (writes_failed map n (lines_of input)))
+    -- a line is longer than any command
+    pub step_long : ((c : C) → s.IsCommand c → length (s.text_of c) ≤ 64) → (old new : Option (List ℕ)) (status : ℕ) → Consumes old new line → HasNoBreak line → 64 < length line
+        → status ≡ 2 → Appends held holds (bad_line_text n) → IfSome old (λ input. Ends s m n input held holds status)
+    step_long short None new status gave none long is bytes = tt
+    step_long short (Some input) None status gave none long is bytes = absurd gave
+    step_long short (Some input) (Some left) status gave none long is bytes =
+        let front = lines_front line left none (omega arith) in
+        let lines : lines_of input ≡ (line ++ front.0) ∷ front.1 = ap lines_of gave ∙ front.2 in
+        let longer : 64 < length (line ++ front.0) = simp length-append (omega arith) in
+        let bad : IsNoCommand s (line ++ front.0) = λ c h e. let a = short c h in let b = ap length e in omega arith in
+        (bad_line_text n, bytes, rw (lines, is) (writes_end m n (line ++ front.0) front.1 (bad_line_text n) 2 (inl (bad, refl, refl))))
 
--- the input is at its end
-pub step_end : (map : Numbers) (n : ℕ) (old new held : Option (List ℕ)) → Consumes old new [] → IsAtEnd new → IfSome old (λ input. Ends map n input held held 0)
-step_end map n None new held gave end = tt
-step_end map n (Some input) None held gave end = absurd gave
-step_end map n (Some input) (Some left) held gave end =
-    let none : input ≡ [] = gave ∙ end in
-    ([], Appends-nil held, rw none (writes_none map n))
+    lines_last : (input left : List ℕ) → input ≡ line ++ left → left ≡ [] → HasNoBreak line → 0 < length line → lines_of input ≡ line ∷ []
+    lines_last input left e end none some = ap lines_of (e ∙ ap (λ l. line ++ l) end ∙ append-nil line) ∙ lines_end line none some
 
--- ---- one part after another
+    pub step_last : (old new : Option (List ℕ)) → Consumes old new line → IsAtEnd new → HasNoBreak line → 0 < length line → AnswersLine s m line after held holds
+        → IfSome old (λ input. Ends s m n input held holds 0)
+    step_last None new gave end none some goes = tt
+    step_last (Some input) None gave end none some goes = absurd gave
+    step_last (Some input) (Some left) gave end none some goes =
+        let written : Writes s m n (line ∷ []) (goes.1 ++ []) 0 = writes_answer m after n line [] goes.0 goes.1 [] 0 goes.2 goes.3 goes.4 (writes_none after (n + 1)) in
+        (goes.1, goes.5, rw (lines_last input left gave end none some) (rw append-nil at written))
 
-pub goes_none : (map : Numbers) (n : ℕ) (old held : Option (List ℕ)) → IfSome old (λ input. Goes map n input map n old held held)
-goes_none map n None held = tt
-goes_none map n (Some input) held = ([], input, refl, Appends-nil held, omega arith, λ rest status w. w)
+    pub step_last_bad : (old new : Option (List ℕ)) (status : ℕ) → Consumes old new line → IsAtEnd new → HasNoBreak line → 0 < length line → RefusesLine s m n line held holds status
+        → IfSome old (λ input. Ends s m n input held holds status)
+    step_last_bad None new status gave end none some bad = tt
+    step_last_bad (Some input) None status gave end none some bad = absurd gave
+    step_last_bad (Some input) (Some left) status gave end none some bad =
+        (bad.0, bad.2, rw (lines_last input left gave end none some) (writes_end m n line [] bad.0 status bad.1))
 
-module _ (map mid : Numbers) (n m : ℕ) (first : List ℕ) (now : Option (List ℕ)) (held holds later : Option (List ℕ)) where
-  goes_goes : (after : Numbers) (k : ℕ) (new : Option (List ℕ)) → Goes map n first mid m now held holds → IfSome now (λ input. Goes mid m input after k new holds later) → Goes map n first after k new held later
-  goes_goes after k new p q =
-      let q' : Goes mid m p.1 after k new holds later = subst (λ r. IfSome r (λ input. Goes mid m input after k new holds later)) p.2 q in (
-        p.0 ++ q'.0,
-        q'.1,
-        q'.2,
-        Appends-trans held holds later p.0 q'.0 p.3 q'.3,
-        omega (arith, p.4, q'.4),
-        λ rest status w. subst (λ out. Writes map n (lines_of first) out status) (sym (append_assoc p.0 q'.0 rest)) (p.5 (q'.0 ++ rest) status (q'.5 rest status w)),
-      )
+  -- a read failed
+  pub step_failed : (m : M) (n status : ℕ) (old held holds : Option (List ℕ)) → status ≡ 1 → Appends held holds input_failed_text
+      → IfSome old (λ input. Ends s m n input held holds status)
+  step_failed m n status None held holds is bytes = tt
+  step_failed m n status (Some input) held holds is bytes = (input_failed_text, bytes, rw is (writes_failed m n (lines_of input)))
 
-  goes_ends : (status : ℕ) → Goes map n first mid m now held holds → IfSome now (λ input. Ends mid m input holds later status) → Ends map n first held later status
-  goes_ends status p q =
-      let q' = subst (λ r. IfSome r (λ input. Ends mid m input holds later status)) p.2 q in
-      (p.0 ++ q'.0, Appends-trans held holds later p.0 q'.0 p.3 q'.1, p.5 q'.0 status q'.2)
+  -- the input is at its end
+  pub step_end : (m : M) (n : ℕ) (old new held : Option (List ℕ)) → Consumes old new [] → IsAtEnd new → IfSome old (λ input. Ends s m n input held held 0)
+  step_end m n None new held gave end = tt
+  step_end m n (Some input) None held gave end = absurd gave
+  step_end m n (Some input) (Some left) held gave end =
+      let none : input ≡ [] = gave ∙ end in
+      ([], Appends-nil held, rw none (writes_none m n))
 
--- the same, where the bytes of the first reader are known
-module _ (map mid : Numbers) (n m : ℕ) (old now held holds later : Option (List ℕ)) where
-  pub known_goes : (after : Numbers) (k : ℕ) (new : Option (List ℕ)) → IfSome old (λ first. Goes map n first mid m now held holds) → IfSome now (λ input. Goes mid m input after k new holds later)
-      → IfSome old (λ first. Goes map n first after k new held later)
-  known_goes after k new p q = by_old old p
-    where
-      by_old : (o : Option (List ℕ)) → IfSome o (λ first. Goes map n first mid m now held holds) → IfSome o (λ first. Goes map n first after k new held later)
-      by_old None p = tt
-      by_old (Some first) p = goes_goes map mid n m first now held holds later after k new p q
+  -- ---- one part after another
 
-  pub known_ends : (status : ℕ) → IfSome old (λ first. Goes map n first mid m now held holds) → IfSome now (λ input. Ends mid m input holds later status) → IfSome old (λ first. Ends map n first held later status)
-  known_ends status p q = by_old old p
-    where
-      by_old : (o : Option (List ℕ)) → IfSome o (λ first. Goes map n first mid m now held holds) → IfSome o (λ first. Ends map n first held later status)
-      by_old None p = tt
-      by_old (Some first) p = goes_ends map mid n m first now held holds later status p q
+  pub goes_none : (m : M) (n : ℕ) (old held : Option (List ℕ)) → IfSome old (λ input. Goes s m n input m n old held held)
+  goes_none m n None held = tt
+  goes_none m n (Some input) held = ([], input, refl, Appends-nil held, omega arith, λ rest status w. w)
 
--- the next read counts as failed
-pub stops_failed : {E : Type 0} (r : Result ℕ E) (map mid : Numbers) (n m : ℕ) (old now held holds later : Option (List ℕ)) → IfSome old (λ first. Goes map n first mid m now held holds)
-    → IfOk r (λ status. status ≡ 1) → OnOk r (Appends holds later input_failed_text) → IfOk r (λ status. IfSome old (λ first. Ends map n first held later status))
-stops_failed (Err e) map mid n m old now held holds later told is bytes = tt
-stops_failed (Ok status) map mid n m old now held holds later told is bytes = known_ends map mid n m old now held holds later status told (step_failed mid m status now holds later is bytes)
+  module _ (m mid : M) (n n' : ℕ) (first : List ℕ) (now : Option (List ℕ)) (held holds later : Option (List ℕ)) where
+    goes_goes : (after : M) (k : ℕ) (new : Option (List ℕ)) → Goes s m n first mid n' now held holds → IfSome now (λ input. Goes s mid n' input after k new holds later) → Goes s m n first after k new held later
+    goes_goes after k new p q =
+        let q' : Goes s mid n' p.1 after k new holds later = subst (λ r. IfSome r (λ input. Goes s mid n' input after k new holds later)) p.2 q in (
+          p.0 ++ q'.0,
+          q'.1,
+          q'.2,
+          Appends-trans held holds later p.0 q'.0 p.3 q'.3,
+          omega (arith, p.4, q'.4),
+          λ rest status w. subst (λ out. Writes s m n (lines_of first) out status) (sym (append_assoc p.0 q'.0 rest)) (p.5 (q'.0 ++ rest) status (q'.5 rest status w)),
+        )
 
--- a run that went on for so many lines had so many bytes
-pub known_long : (map mid : Numbers) (m : ℕ) (old now held holds : Option (List ℕ)) → IfSome old (λ first. Goes map 1 first mid m now held holds) → 2 ^ 62 < m → IfSome old (λ first. 2 ^ 62 ≤ length first)
-known_long map mid m None now held holds p h = tt
-known_long map mid m (Some first) now held holds p h = omega (arith, p.4)
+    goes_ends : (status : ℕ) → Goes s m n first mid n' now held holds → IfSome now (λ input. Ends s mid n' input holds later status) → Ends s m n first held later status
+    goes_ends status p q =
+        let q' = subst (λ r. IfSome r (λ input. Ends s mid n' input holds later status)) p.2 q in
+        (p.0 ++ q'.0, Appends-trans held holds later p.0 q'.0 p.3 q'.1, p.5 q'.0 status q'.2)
+
+  -- the same, where the bytes of the first reader are known
+  module _ (m mid : M) (n n' : ℕ) (old now held holds later : Option (List ℕ)) where
+    pub known_goes : (after : M) (k : ℕ) (new : Option (List ℕ)) → IfSome old (λ first. Goes s m n first mid n' now held holds) → IfSome now (λ input. Goes s mid n' input after k new holds later)
+        → IfSome old (λ first. Goes s m n first after k new held later)
+    known_goes after k new p q = by_old old p
+      where
+        by_old : (o : Option (List ℕ)) → IfSome o (λ first. Goes s m n first mid n' now held holds) → IfSome o (λ first. Goes s m n first after k new held later)
+        by_old None p = tt
+        by_old (Some first) p = goes_goes m mid n n' first now held holds later after k new p q
+
+    pub known_ends : (status : ℕ) → IfSome old (λ first. Goes s m n first mid n' now held holds) → IfSome now (λ input. Ends s mid n' input holds later status) → IfSome old (λ first. Ends s m n first held later status)
+    known_ends status p q = by_old old p
+      where
+        by_old : (o : Option (List ℕ)) → IfSome o (λ first. Goes s m n first mid n' now held holds) → IfSome o (λ first. Ends s m n first held later status)
+        by_old None p = tt
+        by_old (Some first) p = goes_ends m mid n n' first now held holds later status p q
+
+  -- the next read counts as failed
+  pub stops_failed : {E : Type 0} (r : Result ℕ E) (m mid : M) (n n' : ℕ) (old now held holds later : Option (List ℕ)) → IfSome old (λ first. Goes s m n first mid n' now held holds)
+      → IfOk r (λ status. status ≡ 1) → OnOk r (Appends holds later input_failed_text) → IfOk r (λ status. IfSome old (λ first. Ends s m n first held later status))
+  stops_failed (Err e) m mid n n' old now held holds later told is bytes = tt
+  stops_failed (Ok status) m mid n n' old now held holds later told is bytes = known_ends m mid n n' old now held holds later status told (step_failed mid n' status now holds later is bytes)
+
+  -- a run that went on for so many lines had so many bytes
+  pub known_long : (m mid : M) (n' : ℕ) (old now held holds : Option (List ℕ)) → IfSome old (λ first. Goes s m 1 first mid n' now held holds) → 2 ^ 62 < n' → IfSome old (λ first. 2 ^ 62 ≤ length first)
+  known_long m mid n' None now held holds p h = tt
+  known_long m mid n' (Some first) now held holds p h = omega (arith, p.4)

@@ -1,11 +1,12 @@
 -- What is written for the lines of an input.
-use Rattle.std.specs.Prelude.{◌≡◌, ℕ, ◌+◌, ◌⊎◌, List, [], ◌∷◌, ◌++◌, length, codes, Option, None, Some, MatchOption}
+use Rattle.std.specs.Prelude.{◌≡◌, ℕ, ◌⊎◌, List, [], ◌∷◌, ◌++◌, length, codes, Option, None, Some, MatchOption}
 use Rattle.std.specs.Fmt.{decimal}
 use Rattle.std.specs.Ordering.{nat_cmp}
 use Rattle.flurry_bins.specs.FiniteMap.{value_at, with_pair, without}
 use Rattle.flurry.specs.declared.program.command.Command.{Command}
 use Rattle.flurry.specs.declared.program.command.Command.TheVariants.{Insert, Try, Get, Remove, Len, Bins}
-use Rattle.flurry.specs.Commands.{text_of, IsCommand, IsNoCommand}
+use Rattle.flurry.specs.Commands.{text_of, IsCommand}
+use Rattle.flurry.specs.Runs.{Script}
 
 -- a finite map of numbers
 abbrev pub Numbers : Type 0
@@ -19,18 +20,6 @@ option_text (Some v) = codes "some " ++ decimal v
 -- that a key is present with the value c, so that v was not put
 abbrev pub present_text : ℕ → ℕ → List ℕ
 present_text v c = codes "Insert of \"" ++ (decimal v ++ (codes "\" failed as key was already present with value \"" ++ (decimal c ++ codes "\"")))
-
--- that the line n is no command, with its line feed
-abbrev pub bad_line_text : ℕ → List ℕ
-bad_line_text n = codes "bad line " ++ (decimal n ++ 10 ∷ [])
-
--- that a read failed, with its line feed
-abbrev pub input_failed_text : List ℕ
-input_failed_text = codes "input failed" ++ 10 ∷ []
-
--- that memory is wanting, with its line feed
-abbrev pub out_of_memory_text : List ℕ
-out_of_memory_text = codes "out of memory" ++ 10 ∷ []
 
 -- what an insertion at an absent key alone answers, and the map after it
 abbrev pub Tries : ℕ → ℕ → Numbers → List ℕ → Numbers → Type 0
@@ -50,16 +39,10 @@ Answers (Remove k) map answer after = (answer ≡ option_text (value_at nat_cmp 
 Answers Len map answer after = (answer ≡ decimal (length map)) × (after ≡ map)
 Answers Bins map answer after = (n : ℕ) × (answer ≡ decimal n) × (after ≡ map)
 
--- a read failed
-abbrev pub EndsByRead : List ℕ → ℕ → Type 0
-EndsByRead out status = (out ≡ input_failed_text) × (status ≡ 1)
+-- the command writes its answer, on a line of its own
+abbrev pub Says : Command → Numbers → List ℕ → Numbers → Type 0
+Says c map printed after = (answer : List ℕ) × Answers c map answer after × (printed ≡ answer ++ 10 ∷ [])
 
--- from this map on, and with lines numbered from n, so much is written for the lines, and the status is so:
--- an answer to each line, up to the first that is no command or to a read that failed
-abbrev pub Writes : Numbers → ℕ → List (List ℕ) → List ℕ → ℕ → Type 0
-Writes map n [] out status = EndsByRead out status ⊎ ((out ≡ []) × (status ≡ 0))
-Writes map n (line ∷ lines) out status =
-    EndsByRead out status
-    ⊎ (IsNoCommand line × (out ≡ bad_line_text n) × (status ≡ 2))
-    ⊎ ((c : Command) × (answer : List ℕ) × (after : Numbers) × (rest : List ℕ)
-    × IsCommand c × (line ≡ text_of c) × Answers c map answer after × (out ≡ answer ++ 10 ∷ rest) × Writes after (n + 1) lines rest status)
+-- the lines of one owned map; none of its commands ends the run
+abbrev pub of_one_map : Script Numbers Command
+of_one_map = record { text_of = text_of; IsCommand = IsCommand; Does = Says; Stops = λ _ _ _ _ _. ⊥ }

@@ -3,10 +3,12 @@ pub mod Arguments
 pub mod Buffers
 pub mod Bytes
 pub mod Commands
+pub mod Endings
 pub mod Labels
 pub mod LineEnds
 pub mod Lines
 pub mod Runs
+pub mod ScheduleRuns
 pub mod Schedules
 pub mod Words
 pub use Rattle.flurry_bins.specs.Bin

@@ -1,7 +1,7 @@
 //! How a run of lines ends early.
 ghost use Rattle.std.specs.Prelude.{◌≡◌, OnOk, OnErr, IfOk, IsTrue};
 ghost use Rattle.std.specs.Io.KnownBytes.{Appends};
-ghost use Rattle.flurry.specs.Answers.{bad_line_text, input_failed_text, out_of_memory_text};
+ghost use Rattle.flurry.specs.Endings.{bad_line_text, input_failed_text, out_of_memory_text};
 
 use crate::program::streams::Sink;
 use std::io;

@@ -1,7 +1,9 @@
 //! The words of the program.
-ghost use Rattle.std.specs.Prelude.{◌≡◌, ◌≢◌, ◌≤◌};
+ghost use Rattle.std.specs.Prelude.{◌≡◌, ◌≢◌, ◌≤◌, [], None};
 ghost use Rattle.flurry.specs.Arguments.{IsSeq, IsWorld, TellsUsage};
-ghost use Rattle.flurry.specs.Runs.{EndsAtOnce, UnlessWriteFailed, RunsLines, FailsForCause};
+ghost use Rattle.flurry.specs.Answers.{of_one_map};
+ghost use Rattle.flurry.specs.Runs.{UnlessWriteFailed, RunsLines, FailsForCause};
+ghost use Rattle.flurry.specs.ScheduleRuns.{of_a_schedule};
 
 use crate::program::seq_lines::seq_lines;
 use crate::program::streams::{Sink, Source};
@@ -18,12 +20,12 @@ pub fn run_words<R: Source, W: Sink>(
     reader: &mut R,
     writer: &mut W,
 ) -> u8
-    ensures seq { IsSeq words.now → RunsLines (R.remaining reader.old) (W.contents writer.old) (W.flushed writer.new) (W.has_failed writer.new) result }
+    ensures seq { IsSeq words.now → RunsLines of_one_map [] (R.remaining reader.old) (W.contents writer.old) (W.flushed writer.new) (W.has_failed writer.new) result }
     ensures cause { IsSeq words.now → FailsForCause (R.remaining reader.old) (R.has_failed reader.new) (W.has_failed writer.new) result }
     ensures world_status { IsWorld words.now → result ≤ 3 }
+    ensures world { IsWorld words.now → RunsLines of_a_schedule None
+        (R.remaining reader.old) (W.contents writer.old) (W.flushed writer.new) (W.has_failed writer.new) result }
     ensures world_cause { IsWorld words.now → FailsForCause (R.remaining reader.old) (R.has_failed reader.new) (W.has_failed writer.new) result }
-    ensures world_empty { IsWorld words.now → UnlessWriteFailed (W.has_failed writer.new) result
-        (EndsAtOnce (R.remaining reader.old) (R.has_failed reader.new) (W.contents writer.old) (W.flushed writer.new) result) }
     ensures other { ¬ IsSeq words.now → ¬ IsWorld words.now → UnlessWriteFailed (W.has_failed writer.new) result (TellsUsage (W.contents writer.old) (W.flushed writer.new) result) }
 {
     match *words {

@@ -1,7 +1,7 @@
 //! The lines of one owned map.
 ghost use Rattle.std.specs.Prelude.{◌≡◌, ℕ, ◌+◌, ◌≤◌, ◌^◌, ◌⊎◌, [], ◌∷◌, ◌++◌, List, length, OnOk, OnErr, IfOk, IfSome, MatchOption, IsTrue};
 ghost use Rattle.std.specs.Io.KnownBytes.{Appends};
-ghost use Rattle.flurry.specs.Answers.{option_text, Answers};
+ghost use Rattle.flurry.specs.Answers.{option_text, of_one_map, Answers};
 ghost use Rattle.flurry.specs.Runs.{AnswersLine, RefusesLine, Goes, Ends, RunsLines, FailsForCause};
 
 use crate::program::command::Command;
@@ -40,7 +40,7 @@ type Numbers = SeqMap<u64, u64, LowHashBuilder>;
 /// A line costs what the map's call does.
 pub fn seq_lines<R: Source, W: Sink>(alloc: Global, reader: &mut R, writer: &mut W) -> u8
     // Over a reader and a writer that tell their bytes.
-    ensures run { RunsLines (R.remaining reader.old) (W.contents writer.old) (W.flushed writer.new) (W.has_failed writer.new) result }
+    ensures run { RunsLines of_one_map [] (R.remaining reader.old) (W.contents writer.old) (W.flushed writer.new) (W.has_failed writer.new) result }
     ensures cause { FailsForCause (R.remaining reader.old) (R.has_failed reader.new) (W.has_failed writer.new) result }
 {
     match answer_lines(alloc, reader, writer) {
@@ -56,7 +56,7 @@ pub fn seq_lines<R: Source, W: Sink>(alloc: Global, reader: &mut R, writer: &mut
 fn answer_lines<R: Source, W: Sink>(alloc: Global, reader: &mut R, writer: &mut W) -> io::Result<u8>
     ensures failed { OnErr result (IsTrue (W.has_failed writer.new)) }
     ensures run { IfOk result (λ status. IfSome (R.remaining reader.old) (λ input.
-        Ends [] 1 input (W.contents writer.old) (W.contents writer.new) status)) }
+        Ends of_one_map [] 1 input (W.contents writer.old) (W.contents writer.new) status)) }
     ensures cause { IfOk result (λ status. status ≡ 1 → IfSome (R.remaining reader.old) (λ input.
         IsTrue (R.has_failed reader.new) ⊎ (2 ^ 62 ≤ length input))) }
 {
@@ -78,8 +78,8 @@ fn step<R: Source, W: Sink>(
 ) -> io::Result<Option<u8>>
     ensures failed { OnErr result (IsTrue (W.has_failed writer.new)) }
     ensures run { IfOk result (λ ended. IfSome (R.remaining reader.old) (λ input. MatchOption ended
-        (Goes map.old.pairs number input map.new.pairs (number + 1) (R.remaining reader.new) (W.contents writer.old) (W.contents writer.new))
-        (Ends map.old.pairs number input (W.contents writer.old) (W.contents writer.new)))) }
+        (Goes of_one_map map.old.pairs number input map.new.pairs (number + 1) (R.remaining reader.new) (W.contents writer.old) (W.contents writer.new))
+        (Ends of_one_map map.old.pairs number input (W.contents writer.old) (W.contents writer.new)))) }
     ensures cause { IfOk result (λ ended. IfSome ended (λ status. status ≡ 1 → IsTrue (R.has_failed reader.new))) }
 {
     if reader.may_wait() {
@@ -97,8 +97,8 @@ fn answer_next<R: Source, W: Sink>(
 ) -> io::Result<Option<u8>>
     ensures failed { OnErr result (IsTrue (W.has_failed writer.new)) }
     ensures run { IfOk result (λ ended. IfSome (R.remaining reader.old) (λ input. MatchOption ended
-        (Goes map.old.pairs number input map.new.pairs (number + 1) (R.remaining reader.new) (W.contents writer.old) (W.contents writer.new))
-        (Ends map.old.pairs number input (W.contents writer.old) (W.contents writer.new)))) }
+        (Goes of_one_map map.old.pairs number input map.new.pairs (number + 1) (R.remaining reader.new) (W.contents writer.old) (W.contents writer.new))
+        (Ends of_one_map map.old.pairs number input (W.contents writer.old) (W.contents writer.new)))) }
     ensures cause { IfOk result (λ ended. IfSome ended (λ status. status ≡ 1 → IsTrue (R.has_failed reader.new))) }
 {
     match read_line(reader) {
@@ -128,8 +128,8 @@ fn answer_line<W: Sink>(
 ) -> io::Result<Option<u8>>
     ensures failed { OnErr result (IsTrue (W.has_failed writer.new)) }
     ensures answer { IfOk result (λ ended. MatchOption ended
-        (AnswersLine map.old.pairs line.now map.new.pairs (W.contents writer.old) (W.contents writer.new))
-        (λ status. RefusesLine number line.now status (W.contents writer.old) (W.contents writer.new))) }
+        (AnswersLine of_one_map map.old.pairs line.now map.new.pairs (W.contents writer.old) (W.contents writer.new))
+        (RefusesLine of_one_map map.old.pairs number line.now (W.contents writer.old) (W.contents writer.new))) }
 {
     match parse(line) {
         Some(command) => {

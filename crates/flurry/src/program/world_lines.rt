@@ -1,7 +1,12 @@
 //! The lines of a world.
-ghost use Rattle.std.specs.Prelude.{◌≡◌, ◌≤◌, ◌^◌, ◌⊎◌, length, OnErr, IfOk, IfSome, IfNone, IsTrue};
-ghost use Rattle.flurry.specs.Runs.{EndsAtOnce, FailsForCause, TakesByte, UnlessWriteFailed};
+ghost use Rattle.std.specs.Prelude.{◌≡◌, ℕ, ◌+◌, ◌≤◌, ◌^◌, ◌⊎◌, [], ◌∷◌, ◌++◌, None, Some, List, replicate, length, OnOk, OnErr, IfOk, IfSome, MatchOption, IsTrue};
+ghost use Rattle.std.specs.Io.KnownBytes.{Appends};
 ghost use Rattle.flurry_steps.specs.PartyView.{KeptIsReady};
+ghost use Rattle.flurry_theory.specs.declared.Label.{Label};
+ghost use Rattle.flurry_world.specs.declared.world.Step.TheVariants as step;
+ghost use Rattle.flurry.specs.Labels.{label_text};
+ghost use Rattle.flurry.specs.Runs.{AnswersLine, RefusesLine, Answered, Goes, Ends, RunsLines, FailsForCause};
+ghost use Rattle.flurry.specs.ScheduleRuns.{of_a_schedule, of_a_world, AnswersSteps};
 
 use crate::program::ends::{MOST_READS, bad_line, input_failed, out_of_memory};
 use crate::program::input::{LineEnd, read_line};
@@ -49,9 +54,9 @@ type Numbers<'k, F> = World<'k, u64, u64, F, LowHashBuilder>;
 pub fn world_lines<R: Source, W: Sink>(alloc: Global, reader: &mut R, writer: &mut W) -> u8
     ensures status { result ≤ 3 }
     // Over a reader and a writer that tell their bytes.
+    ensures run { RunsLines of_a_schedule None
+        (R.remaining reader.old) (W.contents writer.old) (W.flushed writer.new) (W.has_failed writer.new) result }
     ensures cause { FailsForCause (R.remaining reader.old) (R.has_failed reader.new) (W.has_failed writer.new) result }
-    ensures empty { UnlessWriteFailed (W.has_failed writer.new) result
-        (EndsAtOnce (R.remaining reader.old) (R.has_failed reader.new) (W.contents writer.old) (W.flushed writer.new) result) }
 {
     match answer_lines::<NoChange, R, W>(alloc, reader, writer) {
         Ok(status) => match writer.flush() {
@@ -70,9 +75,10 @@ fn answer_lines<F: Change<u64, u64> + Copy, R: Source, W: Sink>(
 ) -> io::Result<u8>
     ensures failed { OnErr result (IsTrue (W.has_failed writer.new)) }
     ensures status { IfOk result (λ status. status ≤ 3) }
+    ensures run { IfOk result (λ status. IfSome (R.remaining reader.old) (λ input.
+        Ends (of_a_world {F = F} {S = LowHashBuilder} F.changes) None 1 input (W.contents writer.old) (W.contents writer.new) status)) }
     ensures cause { IfOk result (λ status. status ≡ 1 → IfSome (R.remaining reader.old) (λ input.
         IsTrue (R.has_failed reader.new) ⊎ (2 ^ 62 ≤ length input))) }
-    ensures empty { IfOk result (EndsAtOnce (R.remaining reader.old) (R.has_failed reader.new) (W.contents writer.old) (W.contents writer.new)) }
 {
     let mut world: Option<Numbers<'_, F>> = None;
     for number in 1..=MOST_READS {
@@ -93,10 +99,10 @@ fn step<F: Change<u64, u64> + Copy, R: Source, W: Sink>(
 ) -> io::Result<Option<u8>>
     ensures failed { OnErr result (IsTrue (W.has_failed writer.new)) }
     ensures status { IfOk result (λ ended. IfSome ended (λ status. status ≤ 3)) }
+    ensures run { IfOk result (λ ended. IfSome (R.remaining reader.old) (λ input. MatchOption ended
+        (Goes (of_a_world F.changes) world.old number input world.new (number + 1) (R.remaining reader.new) (W.contents writer.old) (W.contents writer.new))
+        (Ends (of_a_world F.changes) world.old number input (W.contents writer.old) (W.contents writer.new)))) }
     ensures cause { IfOk result (λ ended. IfSome ended (λ status. status ≡ 1 → IsTrue (R.has_failed reader.new))) }
-    ensures took { IfOk result (λ ended. IfNone ended (TakesByte (R.remaining reader.old) (R.remaining reader.new))) }
-    ensures empty { IfOk result (λ ended. IfSome ended
-        (EndsAtOnce (R.remaining reader.old) (R.has_failed reader.new) (W.contents writer.old) (W.contents writer.new))) }
 {
     if reader.may_wait() {
         writer.flush()?;
@@ -114,10 +120,10 @@ fn answer_next<F: Change<u64, u64> + Copy, R: Source, W: Sink>(
 ) -> io::Result<Option<u8>>
     ensures failed { OnErr result (IsTrue (W.has_failed writer.new)) }
     ensures status { IfOk result (λ ended. IfSome ended (λ status. status ≤ 3)) }
+    ensures run { IfOk result (λ ended. IfSome (R.remaining reader.old) (λ input. MatchOption ended
+        (Goes (of_a_world F.changes) world.old number input world.new (number + 1) (R.remaining reader.new) (W.contents writer.old) (W.contents writer.new))
+        (Ends (of_a_world F.changes) world.old number input (W.contents writer.old) (W.contents writer.new)))) }
     ensures cause { IfOk result (λ ended. IfSome ended (λ status. status ≡ 1 → IsTrue (R.has_failed reader.new))) }
-    ensures took { IfOk result (λ ended. IfNone ended (TakesByte (R.remaining reader.old) (R.remaining reader.new))) }
-    ensures empty { IfOk result (λ ended. IfSome ended
-        (EndsAtOnce (R.remaining reader.old) (R.has_failed reader.new) (W.contents writer.old) (W.contents writer.new))) }
 {
     match read_line(reader) {
         Ok((line, end)) => match end {
@@ -147,13 +153,30 @@ fn answer_line<F: Change<u64, u64> + Copy, W: Sink>(
 ) -> io::Result<Option<u8>>
     ensures failed { OnErr result (IsTrue (W.has_failed writer.new)) }
     ensures status { IfOk result (λ ended. IfSome ended (λ status. (2 ≤ status) × (status ≤ 3))) }
+    ensures answer { IfOk result (λ ended. MatchOption ended
+        (AnswersLine (of_a_world F.changes) world.old line.now world.new (W.contents writer.old) (W.contents writer.new))
+        (RefusesLine (of_a_world F.changes) world.old number line.now (W.contents writer.old) (W.contents writer.new))) }
 {
-    let line = match parse_line(line) {
-        Some(line) => line,
-        None => return Ok(Some(bad_line(number, writer)?)),
-    };
+    match parse_line(line) {
+        Some(line) => answer(alloc, world, number, line, writer),
+        None => Ok(Some(bad_line(number, writer)?)),
+    }
+}
+
+// Does what a line of a schedule asks for. Some status is the program's end.
+fn answer<F: Change<u64, u64> + Copy, W: Sink>(
+    alloc: Global,
+    world: &mut Option<Numbers<'_, F>>,
+    number: u64,
+    line: Line,
+    writer: &mut W,
+) -> io::Result<Option<u8>>
+    ensures failed { OnErr result (IsTrue (W.has_failed writer.new)) }
+    ensures status { IfOk result (λ ended. IfSome ended (λ status. (2 ≤ status) × (status ≤ 3))) }
+    ensures answer { IfOk result (Answered (of_a_world F.changes) line world.old world.new number (W.contents writer.old) (W.contents writer.new)) }
+{
     match world {
-        Some(world) => answer(world, number, line, writer),
+        Some(world) => answer_in(world, number, line, writer),
         None => make_world(alloc, world, number, line, writer),
     }
 }
@@ -166,8 +189,10 @@ fn make_world<F: Change<u64, u64> + Copy, W: Sink>(
     line: Line,
     writer: &mut W,
 ) -> io::Result<Option<u8>>
+    requires { world.old ≡ None }
     ensures failed { OnErr result (IsTrue (W.has_failed writer.new)) }
     ensures status { IfOk result (λ ended. IfSome ended (λ status. (2 ≤ status) × (status ≤ 3))) }
+    ensures answer { IfOk result (Answered (of_a_world F.changes) line None world.new number (W.contents writer.old) (W.contents writer.new)) }
 {
     match line {
         Line::World(processors, capacity) => {
@@ -189,7 +214,7 @@ fn make_world<F: Change<u64, u64> + Copy, W: Sink>(
 }
 
 // Does in the world what a line asks for. Some status is the program's end.
-fn answer<F: Change<u64, u64> + Copy, W: Sink>(
+fn answer_in<F: Change<u64, u64> + Copy, W: Sink>(
     world: &mut Numbers<'_, F>,
     number: u64,
     line: Line,
@@ -197,6 +222,7 @@ fn answer<F: Change<u64, u64> + Copy, W: Sink>(
 ) -> io::Result<Option<u8>>
     ensures failed { OnErr result (IsTrue (W.has_failed writer.new)) }
     ensures status { IfOk result (λ ended. IfSome ended (λ status. (2 ≤ status) × (status ≤ 3))) }
+    ensures answer { IfOk result (Answered (of_a_world F.changes) line (Some world.old) (Some world.new) number (W.contents writer.old) (W.contents writer.new)) }
 {
     match line {
         Line::World(_, _) => Ok(Some(bad_line(number, writer)?)),
@@ -217,7 +243,8 @@ fn begin<F: Change<u64, u64> + Copy, W: Sink>(
 ) -> io::Result<Option<u8>>
     requires { KeptIsReady F.can_change call }
     ensures failed { OnErr result (IsTrue (W.has_failed writer.new)) }
-    ensures status { IfOk result (λ ended. IfSome ended (λ status. (2 ≤ status) × (status ≤ 3))) }
+    ensures status { IfOk result (λ ended. IfSome ended (λ status. status ≡ 3)) }
+    ensures answer { IfOk result (AnswersSteps F.changes (step.Begin call ∷ []) world.old world.new (W.contents writer.old) (W.contents writer.new)) }
 {
     match world.begin(call) {
         Ok(_) => {
@@ -236,13 +263,14 @@ fn do_steps<F: Change<u64, u64> + Copy, W: Sink>(
     writer: &mut W,
 ) -> io::Result<Option<u8>>
     ensures failed { OnErr result (IsTrue (W.has_failed writer.new)) }
-    ensures status { IfOk result (λ ended. IfSome ended (λ status. (2 ≤ status) × (status ≤ 3))) }
+    ensures status { IfOk result (λ ended. IfSome ended (λ status. status ≡ 3)) }
+    ensures answer { IfOk result (AnswersSteps F.changes (replicate steps (step.Step party)) world.old world.new (W.contents writer.old) (W.contents writer.new)) }
 {
     for _ in 0..steps {
-        if world.step(party).is_err() {
-            return Ok(Some(out_of_memory(writer)?));
+        match world.step(party) {
+            Ok(()) => write_last(world, writer)?,
+            Err(_) => return Ok(Some(out_of_memory(writer)?)),
         }
-        write_last(world, writer)?;
     }
     Ok(None)
 }
@@ -253,6 +281,8 @@ fn write_last<F: Change<u64, u64> + Copy, W: Sink>(
     writer: &mut W,
 ) -> io::Result<()>
     ensures failed { OnErr result (IsTrue (W.has_failed writer.new)) }
+    ensures bytes { OnOk result ((older : List (Label ℕ ℕ F)) (label : Label ℕ ℕ F) → world.now.trace ≡ older ++ label ∷ [] →
+        Appends (W.contents writer.old) (W.contents writer.new) (label_text label ++ 10 ∷ [])) }
 {
     match world.trace().last() {
         Some(label) => write_label(label, writer),
