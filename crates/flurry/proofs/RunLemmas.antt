@@ -1,5 +1,5 @@
 -- The lines of an input, and runs over them.
-use Rattle.std.proofs.Common.{◌≡◌, ◌≢◌, ℕ, ◌+◌, ◌<◌, ◌≤◌, ◌^◌, Bool, true, false, List, [], ◌∷◌, ◌++◌, length, Option, None, Some, Result, Ok, Err, IfSome, IfOk, OnOk, MatchOption, refl, sym, ap, ◌∙◌, subst, inl, inr, append_assoc, append-nil, length-append, arith}
+use Rattle.std.proofs.Common.{◌≡◌, ◌≢◌, ℕ, ◌+◌, ◌<◌, ◌≤◌, Bool, true, false, List, [], ◌∷◌, ◌++◌, length, Option, None, Some, Result, Ok, Err, IfSome, IfOk, OnOk, MatchOption, refl, sym, ap, ◌∙◌, subst, inl, inr, append_assoc, append-nil, length-append, arith}
 use Rattle.std.specs.Prelude.{◌==◌}
 use Rattle.std.specs.Io.KnownBytes.{Appends, Consumes, IsAtEnd}
 use Rattle.std.proofs.KnownBytes.{Appends-trans, Appends-nil}
@@ -125,14 +125,6 @@ module _ {M C : Type 0} (s : Script M C) where
   step_failed m n status None held holds is bytes = tt
   step_failed m n status (Some input) held holds is bytes = (input_failed_text, bytes, rw is (writes_failed m n (lines_of input)))
 
-  -- the input is at its end
-  pub step_end : (m : M) (n : ℕ) (old new held : Option (List ℕ)) → Consumes old new [] → IsAtEnd new → IfSome old (λ input. Ends s m n input held held 0)
-  step_end m n None new held gave end = tt
-  step_end m n (Some input) None held gave end = absurd gave
-  step_end m n (Some input) (Some left) held gave end =
-      let none : input ≡ [] = gave ∙ end in
-      ([], Appends-nil held, rw none (writes_none m n))
-
   -- ---- one part after another
 
   pub goes_none : (m : M) (n : ℕ) (old held : Option (List ℕ)) → IfSome old (λ input. Goes s m n input m n old held held)
@@ -178,8 +170,3 @@ module _ {M C : Type 0} (s : Script M C) where
       → IfOk r (λ status. status ≡ 1) → OnOk r (Appends holds later input_failed_text) → IfOk r (λ status. IfSome old (λ first. Ends s m n first held later status))
   stops_failed (Err e) m mid n n' old now held holds later told is bytes = tt
   stops_failed (Ok status) m mid n n' old now held holds later told is bytes = known_ends m mid n n' old now held holds later status told (step_failed mid n' status now holds later is bytes)
-
-  -- a run that went on for so many lines had so many bytes
-  pub known_long : (m mid : M) (n' : ℕ) (old now held holds : Option (List ℕ)) → IfSome old (λ first. Goes s m 1 first mid n' now held holds) → 2 ^ 62 < n' → IfSome old (λ first. 2 ^ 62 ≤ length first)
-  known_long m mid n' None now held holds p h = tt
-  known_long m mid n' (Some first) now held holds p h = omega (arith, p.4)

@@ -1,5 +1,5 @@
 -- Labels of a world, as text.
-use Rattle.std.specs.Prelude.{ℕ, Bool, true, false, List, ◌∷◌, ◌++◌, codes, None, Some}
+use Rattle.std.specs.Prelude.{ℕ, true, false, List, ◌∷◌, ◌++◌, codes, None, Some}
 use Rattle.std.specs.Fmt.{decimal}
 use Rattle.flurry_bins.specs.declared.table.reply.KeptReply.{KeptReply}
 use Rattle.flurry_bins.specs.declared.table.reply.KeptReply.TheVariants.{Value, Pair, Contains, New, Exists}
