@@ -11,6 +11,9 @@ mod shapes;
 use flurry_bins::hash::KeyHasher;
 use flurry_seq::SeqMap;
 use keys::Number;
+use std::alloc::Global;
+use std::collections::VecDeque;
+use std::fmt::Debug;
 use std::process::Abort;
 use std::sync::Arc;
 use std::test::Fail;
@@ -36,4 +39,19 @@ fn insert_new<K: Number, S: KeyHasher<K>>(
         assert!(rt; map.insert(K::of(number), number)?.is_none(), "at {number}");
     }
     Ok(())
+}
+
+// Sees that a value is the one that is wanted. A test of many assertions calls this, since each `assert_eq!` that stands in it makes
+// its proof longer. The proof of the caller does not learn of the value.
+fn same<T: PartialEq + Debug + Drop>(rt: &impl Abort, seen: T, wanted: T) {
+    assert_eq!(rt; seen, wanted);
+}
+
+// Calls as values, in their order.
+fn queue_of<T: Drop, const N: usize>(alloc: Global, calls: [T; N]) -> Result<VecDeque<T>, Fail> {
+    let mut queue = VecDeque::new(alloc);
+    for call in Vec::from_array(alloc, calls)? {
+        queue.push_back(call)?;
+    }
+    Ok(queue)
 }

@@ -1,12 +1,11 @@
 //! The calls that no row names, and the calls as values.
 
-use super::{insert_new, lent, taken};
+use super::{insert_new, lent, queue_of, same, taken};
 use flurry_bins::bin::{Ordered, Shape};
 use flurry_bins::hash::LowHashBuilder;
 use flurry_seq::SeqMap;
 use flurry_seq::calls::{Call, Reply};
 use std::alloc::Global;
-use std::collections::VecDeque;
 use std::sync::Arc;
 use std::test::Fail;
 
@@ -16,26 +15,37 @@ fn three_pairs(alloc: Global) -> Result<SeqMap<u64, u64, LowHashBuilder>, Fail> 
 }
 
 #[test]
-fn calls_of_a_present_and_an_absent_key(rt: HostRuntime) -> Result<(), Fail> {
+fn insertions_at_an_absent_and_a_present_key(rt: HostRuntime) -> Result<(), Fail> {
     let mut map = three_pairs(rt.alloc())?;
-    assert!(rt; map.contains_key(&2) && !map.contains_key(&4));
-    assert!(rt; map.get_key_value(&4).is_none());
     let Ok(value) = map.try_insert(4, 40)? else {
         return Err(Fail::from("the key is absent"));
     };
-    assert_eq!(rt; *value, 40);
+    same(&rt, *value, 40);
     let Err(error) = map.try_insert(4, 41)? else {
         return Err(Fail::from("the key is present"));
     };
-    assert_eq!(rt; (*error.current, error.not_inserted), (40, 41));
-    assert_eq!(rt;
-        taken(map.compute_if_present(&4, |key, value| Some(*value % 7 + *key % 7))?),
-        Some(9)
+    same(&rt, (*error.current, error.not_inserted), (40, 41));
+    same(&rt, map.len(), 4);
+    Ok(())
+}
+
+#[test]
+fn calls_of_a_present_and_an_absent_key(rt: HostRuntime) -> Result<(), Fail> {
+    let mut map = three_pairs(rt.alloc())?;
+    same(
+        &rt,
+        (map.contains_key(&2), map.contains_key(&4)),
+        (true, false),
     );
-    assert_eq!(rt; taken(map.compute_if_present(&5, |_, _| Some(1))?), None);
-    assert_eq!(rt; taken(map.remove(&4)), Some(9));
-    assert!(rt; map.remove_entry(&4).is_none());
-    assert_eq!(rt; map.len(), 3);
+    same(&rt, map.get_key_value(&4).is_none(), true);
+    same(&rt, taken(map.insert(4, 40)?), None);
+    let present = map.compute_if_present(&4, |key, value| Some(*value % 7 + *key % 7))?;
+    same(&rt, taken(present), Some(9));
+    let absent = map.compute_if_present(&5, |_, _| Some(1))?;
+    same(&rt, taken(absent), None);
+    same(&rt, taken(map.remove(&4)), Some(9));
+    same(&rt, map.remove_entry(&4).is_none(), true);
+    same(&rt, map.len(), 3);
     Ok(())
 }
 
@@ -44,10 +54,10 @@ fn pairs_keys_and_values(rt: HostRuntime) -> Result<(), Fail> {
     let map = three_pairs(rt.alloc())?;
     let mut seen = [false; 4];
     for (key, value) in map.iter() {
-        assert_eq!(rt; **value % 100, **key % 10 * 10);
+        same(&rt, **value % 100, **key % 10 * 10);
         seen[(**key % 4) as usize] = true;
     }
-    assert_eq!(rt; seen, [false, true, true, true]);
+    same(&rt, seen, [false, true, true, true]);
     assert_eq!(rt; map.keys().map(|key| **key % 8).max(), Some(3));
     assert_eq!(rt; map.values().map(|value| **value % 64).min(), Some(10));
     Ok(())
@@ -60,7 +70,7 @@ fn equality(rt: HostRuntime) -> Result<(), Fail> {
     assert!(rt; map != other);
     other.extend(Vec::from_array(rt.alloc(), [(3, 30), (1, 11), (2, 20)])?)?;
     assert!(rt; map != other);
-    assert_eq!(rt; taken(other.insert(1, 10)?), Some(11));
+    same(&rt, taken(other.insert(1, 10)?), Some(11));
     assert!(rt; map == other);
     Ok(())
 }
@@ -70,12 +80,12 @@ fn clear_and_into_bins(rt: HostRuntime) -> Result<(), Fail> {
     let mut map = three_pairs(rt.alloc())?;
     map.clear();
     assert!(rt; map.is_empty());
-    assert_eq!(rt; map.capacity(), 8);
+    same(&rt, map.capacity(), 8);
     insert_new(&rt, &mut map, 0, 2)?;
     let (bins, _) = map.into_bins();
     assert_eq!(rt; bins.len(), 8);
-    assert_eq!(rt; bins[1].shape(), Shape::List(1));
-    assert_eq!(rt; bins[2].len(), 0);
+    same(&rt, bins[1].shape(), Shape::List(1));
+    same(&rt, bins[2].len(), 0);
     Ok(())
 }
 
@@ -107,143 +117,144 @@ pub(super) fn text_of_numbers(alloc: Global, numbers: &[Arc<u64>]) -> Result<Str
     Ok(text)
 }
 
+// The line of one reply.
+fn line_of(alloc: Global, reply: &Reply<u64, u64, LowHashBuilder>) -> Result<String, Fail> {
+    let line = match reply {
+        Reply::Value(Some(value)) => format!(in alloc; "value {}\n", **value)?,
+        Reply::Value(None) => "no value\n".to_string(alloc)?,
+        Reply::Pair(Some((key, value))) => format!(in alloc; "pair {} {}\n", **key, **value)?,
+        Reply::Pair(None) => "no pair\n".to_string(alloc)?,
+        Reply::Truth(truth) => format!(in alloc; "{truth}\n")?,
+        Reply::New(value) => format!(in alloc; "new {}\n", **value)?,
+        Reply::Exists(error) => format!(in alloc; "{error}\n")?,
+        Reply::Number(number) => format!(in alloc; "{number}\n")?,
+        Reply::Shape(shape) => format!(in alloc; "{shape:?}\n")?,
+        Reply::Pairs(pairs) => format!(in alloc;
+            "pairs{}\n",
+            text_of_pairs(alloc, pairs.as_slice())?
+        )?,
+        Reply::Keys(keys) => format!(in alloc;
+            "keys{}\n",
+            text_of_numbers(alloc, keys.as_slice())?
+        )?,
+        Reply::Values(values) => format!(in alloc;
+            "values{}\n",
+            text_of_numbers(alloc, values.as_slice())?
+        )?,
+        Reply::Map(map) => format!(in alloc; "map of {}\n", map.len())?,
+        Reply::Done => "done\n".to_string(alloc)?,
+    };
+    Ok(line)
+}
+
 // One line for each reply.
 fn text_of(alloc: Global, replies: &[Reply<u64, u64, LowHashBuilder>]) -> Result<String, Fail> {
     let mut text = String::new(alloc);
     for reply in replies {
-        match reply {
-            Reply::Value(Some(value)) => text.push_str(format!(in alloc;
-                "value {}\n",
-                **value
-            )?.as_str())?,
-            Reply::Value(None) => text.push_str("no value\n")?,
-            Reply::Pair(Some((key, value))) => {
-                text.push_str(format!(in alloc; "pair {} {}\n", **key, **value)?.as_str())?;
-            }
-            Reply::Pair(None) => text.push_str("no pair\n")?,
-            Reply::Truth(truth) => text.push_str(format!(in alloc; "{truth}\n")?.as_str())?,
-            Reply::New(value) => text.push_str(format!(in alloc; "new {}\n", **value)?.as_str())?,
-            Reply::Exists(error) => text.push_str(format!(in alloc; "{error}\n")?.as_str())?,
-            Reply::Number(number) => text.push_str(format!(in alloc; "{number}\n")?.as_str())?,
-            Reply::Shape(shape) => text.push_str(format!(in alloc; "{shape:?}\n")?.as_str())?,
-            Reply::Pairs(pairs) => {
-                let pairs = text_of_pairs(alloc, pairs.as_slice())?;
-                text.push_str(format!(in alloc; "pairs{pairs}\n")?.as_str())?;
-            }
-            Reply::Keys(keys) => {
-                let keys = text_of_numbers(alloc, keys.as_slice())?;
-                text.push_str(format!(in alloc; "keys{keys}\n")?.as_str())?;
-            }
-            Reply::Values(values) => {
-                let values = text_of_numbers(alloc, values.as_slice())?;
-                text.push_str(format!(in alloc; "values{values}\n")?.as_str())?;
-            }
-            Reply::Map(map) => {
-                text.push_str(format!(in alloc; "map of {}\n", map.len())?.as_str())?
-            }
-            Reply::Done => text.push_str("done\n")?,
-        }
+        text.push_str(line_of(alloc, reply)?.as_str())?;
     }
     Ok(text)
 }
 
 #[test]
 fn calls_as_values(rt: HostRuntime) -> Result<(), Fail> {
-    let mut calls = VecDeque::new(rt.alloc());
-    for call in [
-        Call::IsEmpty,
-        Call::Insert(7, 8),
-        Call::TryInsert(7, 1),
-        Call::TryInsert(8, 2),
-        Call::ComputeIfPresent(7, up_to_nine),
-        Call::ComputeIfPresent(7, up_to_nine),
-        Call::Get(7),
-        Call::Get(8),
-        Call::GetKeyValue(8),
-        Call::ContainsKey(8),
-        Call::Len,
-        Call::Capacity,
-        Call::Retain(is_nine_or_more),
-        Call::Len,
-    ] {
-        calls.push_back(call)?;
-    }
+    let calls = queue_of(
+        rt.alloc(),
+        [
+            Call::IsEmpty,
+            Call::Insert(7, 8),
+            Call::TryInsert(7, 1),
+            Call::TryInsert(8, 2),
+            Call::ComputeIfPresent(7, up_to_nine),
+            Call::ComputeIfPresent(7, up_to_nine),
+            Call::Get(7),
+            Call::Get(8),
+            Call::GetKeyValue(8),
+            Call::ContainsKey(8),
+            Call::Len,
+            Call::Capacity,
+            Call::Retain(is_nine_or_more),
+            Call::Len,
+        ],
+    )?;
     let mut map: SeqMap<u64, u64, LowHashBuilder> = SeqMap::with_hasher(rt.alloc(), LowHashBuilder);
     let replies = map.run(rt.alloc(), calls)?;
     let want =
         "true\nno value\nInsert of \"1\" failed as key was already present with value \"8\"\nnew 2\nvalue 9\nno value\n\
         no value\nvalue 2\npair 8 2\ntrue\n1\n16\ndone\n0\n";
-    assert_eq!(rt; text_of(rt.alloc(), replies.as_slice())?.as_str(), want);
+    same(&rt, text_of(rt.alloc(), replies.as_slice())?.as_str(), want);
     Ok(())
 }
 
 #[test]
 fn one_call_as_a_value(rt: HostRuntime) -> Result<(), Fail> {
     let mut map = three_pairs(rt.alloc())?;
-    assert_eq!(rt; taken(map.insert(3, 8)?), Some(30));
+    same(&rt, taken(map.insert(3, 8)?), Some(30));
     for call in [
         Call::ComputeIfPresent(3, up_to_nine),
         Call::RetainForce(is_nine_or_more),
     ] {
         let _ = map.call(call)?;
     }
-    assert_eq!(rt; lent(map.get(&3)), Some(9));
-    assert_eq!(rt; map.len(), 3);
+    same(&rt, lent(map.get(&3)), Some(9));
+    same(&rt, map.len(), 3);
     Ok(())
 }
 
 #[test]
 fn removing_calls_as_values(rt: HostRuntime) -> Result<(), Fail> {
-    let mut calls = VecDeque::new(rt.alloc());
-    for call in [
-        Call::Remove(1),
-        Call::RemoveEntry(2),
-        Call::RemoveEntry(2),
-        Call::Clear,
-        Call::Len,
-        Call::Reserve(32),
-        Call::Capacity,
-        Call::Extend(Vec::from_array(rt.alloc(), [(5, 50)])?),
-        Call::Get(5),
-        Call::RetainForce(is_nine_or_more),
-        Call::ComputeIfPresent(6, up_to_nine),
-    ] {
-        calls.push_back(call)?;
-    }
+    let more = Vec::from_array(rt.alloc(), [(5, 50)])?;
+    let calls = queue_of(
+        rt.alloc(),
+        [
+            Call::Remove(1),
+            Call::RemoveEntry(2),
+            Call::RemoveEntry(2),
+            Call::Clear,
+            Call::Len,
+            Call::Reserve(32),
+            Call::Capacity,
+            Call::Extend(more),
+            Call::Get(5),
+            Call::RetainForce(is_nine_or_more),
+            Call::ComputeIfPresent(6, up_to_nine),
+        ],
+    )?;
     let mut map = three_pairs(rt.alloc())?;
     let replies = map.run(rt.alloc(), calls)?;
     let want = "value 10\npair 2 20\nno pair\ndone\n0\ndone\n128\ndone\nvalue 50\ndone\nno value\n";
-    assert_eq!(rt; text_of(rt.alloc(), replies.as_slice())?.as_str(), want);
-    assert_eq!(rt; lent(map.get(&5)), Some(50));
+    same(&rt, text_of(rt.alloc(), replies.as_slice())?.as_str(), want);
+    same(&rt, lent(map.get(&5)), Some(50));
     Ok(())
 }
 
 #[test]
 fn reading_calls_as_values(rt: HostRuntime) -> Result<(), Fail> {
     let mut other = three_pairs(rt.alloc())?;
-    assert_eq!(rt; taken(other.insert(3, 8)?), Some(30));
-    let mut calls = VecDeque::new(rt.alloc());
-    for call in [
-        Call::ShapeOf(9),
-        Call::ShapeOf(4),
-        Call::Pairs,
-        Call::Keys,
-        Call::Values,
-        Call::Equals(three_pairs(rt.alloc())?),
-        Call::Equals(other),
-        Call::TryClone,
-        Call::Remove(2),
-        Call::Len,
-        Call::Retain(is_nine_or_more),
-        Call::ComputeIfPresent(4, up_to_nine),
-    ] {
-        calls.push_back(call)?;
-    }
+    same(&rt, taken(other.insert(3, 8)?), Some(30));
+    let equal = three_pairs(rt.alloc())?;
+    let calls = queue_of(
+        rt.alloc(),
+        [
+            Call::ShapeOf(9),
+            Call::ShapeOf(4),
+            Call::Pairs,
+            Call::Keys,
+            Call::Values,
+            Call::Equals(equal),
+            Call::Equals(other),
+            Call::TryClone,
+            Call::Remove(2),
+            Call::Len,
+            Call::Retain(is_nine_or_more),
+            Call::ComputeIfPresent(4, up_to_nine),
+        ],
+    )?;
     let mut map = three_pairs(rt.alloc())?;
     let replies = map.run(rt.alloc(), calls)?;
     let want =
         "List(1)\nEmpty\npairs 1 10 2 20 3 30\nkeys 1 2 3\nvalues 10 20 30\ntrue\nfalse\nmap of 3\nvalue 20\n2\ndone\nno value\n";
-    assert_eq!(rt; text_of(rt.alloc(), replies.as_slice())?.as_str(), want);
+    same(&rt, text_of(rt.alloc(), replies.as_slice())?.as_str(), want);
     let Some(Reply::Map(copy)) = replies.get(7) else {
         return Err(Fail::from("the eighth reply is a map"));
     };

@@ -1,6 +1,6 @@
 //! The number of bins.
 
-use super::{insert_new, taken};
+use super::{insert_new, same, taken};
 use flurry_bins::bin::Shape;
 use flurry_bins::hash::{LowHashBuilder, ZeroHashBuilder};
 use flurry_bins::table::{threshold, wanted};
@@ -11,14 +11,14 @@ use std::test::Fail;
 #[test]
 fn row_03(rt: HostRuntime) -> Result<(), Fail> {
     let mut map: SeqMap<u64, u64, LowHashBuilder> = SeqMap::with_hasher(rt.alloc(), LowHashBuilder);
-    assert_eq!(rt; taken(map.insert(42, 0)?), None);
-    assert_eq!(rt; map.capacity(), 16);
+    same(&rt, taken(map.insert(42, 0)?), None);
+    same(&rt, map.capacity(), 16);
     for key in 0..16u64 {
-        assert_eq!(rt; taken(map.insert(key, 42)?), None);
+        same(&rt, taken(map.insert(key, 42)?), None);
         let bins = if key < 10 { 16 } else { 32 };
         assert_eq!(rt; map.capacity(), bins, "after {key}");
     }
-    assert_eq!(rt; (map.capacity(), map.len()), (32, 17));
+    same(&rt, (map.capacity(), map.len()), (32, 17));
     Ok(())
 }
 
@@ -46,11 +46,11 @@ fn row_04(rt: HostRuntime) -> Result<(), Fail> {
 fn row_05(rt: HostRuntime) -> Result<(), Fail> {
     let mut map: SeqMap<u64, u64, LowHashBuilder> = SeqMap::with_hasher(rt.alloc(), LowHashBuilder);
     map.reserve(0)?;
-    assert_eq!(rt; map.capacity(), 1);
+    same(&rt, map.capacity(), 1);
     insert_new(&rt, &mut map, 0, 1)?;
-    assert_eq!(rt; map.capacity(), 2);
+    same(&rt, map.capacity(), 2);
     insert_new(&rt, &mut map, 1, 2)?;
-    assert_eq!(rt; map.capacity(), 4);
+    same(&rt, map.capacity(), 4);
     Ok(())
 }
 
@@ -87,11 +87,19 @@ fn owned_growth_table(rt: HostRuntime) -> Result<(), Fail> {
         ZeroHashBuilder,
     );
     insert_new(&rt, &mut map, 0, 8)?;
-    assert_eq!(rt; (map.capacity(), map.shape_of(0)), (16, Shape::List(8)));
+    same(&rt, (map.capacity(), map.shape_of(0)), (16, Shape::List(8)));
     insert_new(&rt, &mut map, 8, 9)?;
-    assert_eq!(rt; (map.capacity(), map.shape_of(0)), (128, Shape::List(9)));
+    same(
+        &rt,
+        (map.capacity(), map.shape_of(0)),
+        (128, Shape::List(9)),
+    );
     insert_new(&rt, &mut map, 9, 10)?;
-    assert_eq!(rt; (map.capacity(), map.shape_of(0)), (128, Shape::Tree(10)));
+    same(
+        &rt,
+        (map.capacity(), map.shape_of(0)),
+        (128, Shape::Tree(10)),
+    );
     Ok(())
 }
 
@@ -104,8 +112,8 @@ fn owned_growth_table_by_the_count(rt: HostRuntime) -> Result<(), Fail> {
         LowHashBuilder,
     )?;
     insert_new(&rt, &mut map, 0, 11)?;
-    assert_eq!(rt; map.capacity(), 16);
+    same(&rt, map.capacity(), 16);
     insert_new(&rt, &mut map, 11, 12)?;
-    assert_eq!(rt; map.capacity(), 32);
+    same(&rt, map.capacity(), 32);
     Ok(())
 }

@@ -1,5 +1,6 @@
 //! Many keys.
 
+use super::same;
 use flurry_bins::hash::{DefaultHashBuilder, KeyHasher, MaxHashBuilder, ZeroHashBuilder};
 use flurry_seq::SeqMap;
 use std::process::Abort;
@@ -13,7 +14,7 @@ fn row_08_with<S: KeyHasher<i32> + Drop>(
     for key in 0..1000i32 {
         assert!(rt; map.insert(key, key)?.is_none(), "at {key}");
     }
-    assert_eq!(rt; map.len(), 1000);
+    same(rt, map.len(), 1000);
     for key in 0..1000i32 {
         assert!(rt; map.contains_key(&key), "at {key}");
     }
@@ -59,12 +60,12 @@ fn remove_half(map: &mut SeqMap<u64, u64>) -> u64 {
 #[test]
 fn row_09(rt: HostRuntime) -> Result<(), Fail> {
     let mut map = SeqMap::new(rt.alloc());
-    assert_eq!(rt; insert_all(&mut map)?, 50_000);
-    assert_eq!(rt; insert_all(&mut map)?, 0);
-    assert_eq!(rt; remove_half(&mut map), 25_000);
-    assert_eq!(rt; insert_all(&mut map)?, 25_000);
-    assert_eq!(rt; map.iter().count(), 50_000);
-    assert_eq!(rt; map.keys().count(), 50_000);
-    assert_eq!(rt; map.values().count(), 50_000);
+    same(&rt, insert_all(&mut map)?, 50_000);
+    same(&rt, insert_all(&mut map)?, 0);
+    same(&rt, remove_half(&mut map), 25_000);
+    same(&rt, insert_all(&mut map)?, 25_000);
+    same(&rt, map.iter().count(), 50_000);
+    same(&rt, map.keys().count(), 50_000);
+    same(&rt, map.values().count(), 50_000);
     Ok(())
 }

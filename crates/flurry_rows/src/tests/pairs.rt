@@ -1,7 +1,7 @@
 //! What the calls of one key answer, and what stands after them.
 
 use super::keys::{Backward, Number, Tagged};
-use super::{insert_new, lent, taken};
+use super::{insert_new, lent, same, taken};
 use flurry_bins::hash::{LowHashBuilder, ZeroHashBuilder};
 use flurry_seq::SeqMap;
 use std::process::Abort;
@@ -11,19 +11,19 @@ use std::test::Fail;
 #[test]
 fn row_01(rt: HostRuntime) -> Result<(), Fail> {
     let mut map: SeqMap<&'static str, u64> = SeqMap::new(rt.alloc());
-    assert_eq!(rt; taken(map.insert("foo", 0)?), None);
-    assert_eq!(rt; taken(map.insert("foo", 1)?), Some(0));
-    assert_eq!(rt; lent(map.get(&"foo")), Some(1));
-    assert_eq!(rt; map.len(), 1);
+    same(&rt, taken(map.insert("foo", 0)?), None);
+    same(&rt, taken(map.insert("foo", 1)?), Some(0));
+    same(&rt, lent(map.get(&"foo")), Some(1));
+    same(&rt, map.len(), 1);
     Ok(())
 }
 
 fn row_01_with<K: Number>(rt: &(impl Abort + AllocGlobal)) -> Result<(), Fail> {
     let mut map: SeqMap<K, u64> = SeqMap::new(rt.alloc());
-    assert_eq!(rt; taken(map.insert(K::of(1), 0)?), None);
-    assert_eq!(rt; taken(map.insert(K::of(1), 1)?), Some(0));
-    assert_eq!(rt; lent(map.get(&K::of(1))), Some(1));
-    assert_eq!(rt; map.len(), 1);
+    same(rt, taken(map.insert(K::of(1), 0)?), None);
+    same(rt, taken(map.insert(K::of(1), 1)?), Some(0));
+    same(rt, lent(map.get(&K::of(1))), Some(1));
+    same(rt, map.len(), 1);
     Ok(())
 }
 
@@ -37,9 +37,9 @@ fn row_01_backward_and_tagged(rt: HostRuntime) -> Result<(), Fail> {
 #[test]
 fn row_02(rt: HostRuntime) -> Result<(), Fail> {
     let mut map: SeqMap<&'static str, u64> = SeqMap::new(rt.alloc());
-    assert_eq!(rt; lent(map.get(&"foo")), None);
-    assert_eq!(rt; taken(map.remove(&"foo")), None);
-    assert_eq!(rt; map.capacity(), 0);
+    same(&rt, lent(map.get(&"foo")), None);
+    same(&rt, taken(map.remove(&"foo")), None);
+    same(&rt, map.capacity(), 0);
     Ok(())
 }
 
@@ -49,7 +49,7 @@ fn row_16(rt: HostRuntime) -> Result<(), Fail> {
     let mut map: SeqMap<u64, u64, LowHashBuilder> = SeqMap::with_hasher(rt.alloc(), LowHashBuilder);
     insert_new(&rt, &mut map, 0, 11)?;
     assert_eq!(rt; taken(map.compute_if_present(&0, |_, _| None)?), None);
-    assert_eq!(rt; (map.len(), map.capacity()), (10, 16));
+    same(&rt, (map.len(), map.capacity()), (10, 16));
     Ok(())
 }
 
@@ -57,14 +57,14 @@ fn row_16(rt: HostRuntime) -> Result<(), Fail> {
 #[test]
 fn row_16_text(rt: HostRuntime) -> Result<(), Fail> {
     let mut map: SeqMap<u64, u64> = SeqMap::new(rt.alloc());
-    assert_eq!(rt; taken(map.insert(7, 0)?), None);
+    same(&rt, taken(map.insert(7, 0)?), None);
     let Err(error) = map.try_insert(7, 1)? else {
         return Err(Fail::from("the key is present"));
     };
     let text = format!(in rt.alloc(); "{error}")?;
     let want = "Insert of \"1\" failed as key was already present with value \"0\"";
-    assert_eq!(rt; text.as_str(), want);
-    assert_eq!(rt; lent(map.get(&7)), Some(0));
+    same(&rt, text.as_str(), want);
+    same(&rt, lent(map.get(&7)), Some(0));
     Ok(())
 }
 
@@ -77,35 +77,47 @@ fn whole_owned_table(rt: HostRuntime) -> Result<(), Fail> {
     );
     let first = Tagged { id: 1, tag: 10 };
     let second = Tagged { id: 1, tag: 20 };
-    assert_eq!(rt; taken(map.insert(first, 0)?), None);
-    assert_eq!(rt; taken(map.insert(second, 5)?), Some(0));
+    same(&rt, taken(map.insert(first, 0)?), None);
+    same(&rt, taken(map.insert(second, 5)?), Some(0));
     let Some((key, value)) = map.get_key_value(&second) else {
         return Err(Fail::from("the key is present"));
     };
-    assert_eq!(rt; (key.tag, **value), (10, 5));
+    same(&rt, (key.tag, **value), (10, 5));
     let Some((key, value)) = map.remove_entry(&second) else {
         return Err(Fail::from("the key is present"));
     };
-    assert_eq!(rt; (key.tag, *value), (10, 5));
+    same(&rt, (key.tag, *value), (10, 5));
     assert!(rt; map.is_empty());
     Ok(())
 }
 
-// Room is made first: for each pair where the map is empty, and else for half as many as the list has.
+// A map without pairs makes room for each pair of the list, and at least one bin.
 #[test]
-fn whole_owned_table_of_lists(rt: HostRuntime) -> Result<(), Fail> {
+fn whole_owned_table_of_no_pairs(rt: HostRuntime) -> Result<(), Fail> {
     let mut map: SeqMap<u64, u64> = SeqMap::new(rt.alloc());
     map.extend(Vec::new(rt.alloc()))?;
-    assert_eq!(rt; (map.capacity(), map.len()), (1, 0));
+    same(&rt, (map.capacity(), map.len()), (1, 0));
+    Ok(())
+}
+
+// Where there are pairs, room is made for half as many as the list has.
+#[test]
+fn whole_owned_table_of_more_pairs(rt: HostRuntime) -> Result<(), Fail> {
     let mut map: SeqMap<u64, u64> = SeqMap::new(rt.alloc());
     insert_new(&rt, &mut map, 1, 2)?;
     map.extend(Vec::from_array(rt.alloc(), [(2, 20), (3, 30), (4, 40)])?)?;
-    assert_eq!(rt; (map.capacity(), map.len()), (16, 4));
-    assert_eq!(rt; lent(map.get(&3)), Some(30));
+    same(&rt, (map.capacity(), map.len()), (16, 4));
+    same(&rt, lent(map.get(&3)), Some(30));
+    Ok(())
+}
+
+// A map that is made of a list has room for each pair.
+#[test]
+fn whole_owned_table_of_lists(rt: HostRuntime) -> Result<(), Fail> {
     let list = Vec::from_array(rt.alloc(), [(1, 10), (2, 20), (3, 30)])?;
     let map = SeqMap::from_list(rt.alloc(), list, LowHashBuilder)?;
-    assert_eq!(rt; (map.capacity(), map.len()), (8, 3));
-    assert_eq!(rt; lent(map.get(&2)), Some(20));
+    same(&rt, (map.capacity(), map.len()), (8, 3));
+    same(&rt, lent(map.get(&2)), Some(20));
     Ok(())
 }
 
@@ -114,12 +126,12 @@ fn whole_owned_table_of_lists(rt: HostRuntime) -> Result<(), Fail> {
 fn whole_owned_table_of_clones(rt: HostRuntime) -> Result<(), Fail> {
     let mut map: SeqMap<u64, u64> = SeqMap::new(rt.alloc());
     insert_new(&rt, &mut map, 0, 1)?;
-    assert_eq!(rt; taken(map.remove(&0)), Some(0));
-    assert_eq!(rt; map.capacity(), 16);
+    same(&rt, taken(map.remove(&0)), Some(0));
+    same(&rt, map.capacity(), 16);
     let copy = map.try_clone()?;
-    assert_eq!(rt; copy.capacity(), 0);
+    same(&rt, copy.capacity(), 0);
     assert!(rt; copy == map);
     let map: SeqMap<u64, u64> = SeqMap::with_capacity(rt.alloc(), 5)?;
-    assert_eq!(rt; (map.capacity(), map.len()), (8, 0));
+    same(&rt, (map.capacity(), map.len()), (8, 0));
     Ok(())
 }

@@ -1,7 +1,7 @@
 //! Lists and trees of keys of one bin.
 
 use super::keys::{Backward, Number, Tagged};
-use super::{insert_new, taken};
+use super::{insert_new, lent, same, taken};
 use flurry_bins::bin::Shape;
 use flurry_bins::hash::{LowHashBuilder, ZeroHashBuilder};
 use flurry_seq::SeqMap;
@@ -13,30 +13,34 @@ type OneHash<K> = SeqMap<K, u64, ZeroHashBuilder>;
 fn row_06_map<K: Number>(rt: &(impl Abort + AllocGlobal)) -> Result<OneHash<K>, Fail> {
     let mut map = SeqMap::with_hasher(rt.alloc(), ZeroHashBuilder);
     insert_new(rt, &mut map, 0, 8)?;
-    assert_eq!(rt; (map.capacity(), map.shape_of(0)), (16, Shape::List(8)));
+    same(rt, (map.capacity(), map.shape_of(0)), (16, Shape::List(8)));
     insert_new(rt, &mut map, 8, 9)?;
-    assert_eq!(rt; (map.capacity(), map.shape_of(0)), (128, Shape::List(9)));
+    same(rt, (map.capacity(), map.shape_of(0)), (128, Shape::List(9)));
     insert_new(rt, &mut map, 9, 10)?;
-    assert_eq!(rt; (map.capacity(), map.shape_of(0)), (128, Shape::Tree(10)));
+    same(
+        rt,
+        (map.capacity(), map.shape_of(0)),
+        (128, Shape::Tree(10)),
+    );
     Ok(map)
 }
 
 // Removes keys, each of which gives its number.
 fn remove_numbers<K: Number>(rt: &impl Abort, map: &mut OneHash<K>, first: u64, end: u64) {
     for number in first..end {
-        assert_eq!(rt; taken(map.remove(&K::of(number))), Some(number));
+        same(rt, taken(map.remove(&K::of(number))), Some(number));
     }
 }
 
 fn row_07_by_remove_with<K: Number>(rt: &(impl Abort + AllocGlobal)) -> Result<(), Fail> {
     let mut map = row_06_map::<K>(rt)?;
     remove_numbers(rt, &mut map, 0, 3);
-    assert_eq!(rt; map.shape_of(0), Shape::Tree(7));
+    same(rt, map.shape_of(0), Shape::Tree(7));
     remove_numbers(rt, &mut map, 3, 4);
-    assert_eq!(rt; map.shape_of(0), Shape::List(6));
+    same(rt, map.shape_of(0), Shape::List(6));
     remove_numbers(rt, &mut map, 4, 9);
-    assert_eq!(rt; (map.len(), map.capacity()), (1, 128));
-    assert_eq!(rt; super::lent(map.get(&K::of(9))), Some(9));
+    same(rt, (map.len(), map.capacity()), (1, 128));
+    same(rt, lent(map.get(&K::of(9))), Some(9));
     Ok(())
 }
 
@@ -61,12 +65,12 @@ fn compute_none<K: Number>(
 fn row_07_by_compute_with<K: Number>(rt: &(impl Abort + AllocGlobal)) -> Result<(), Fail> {
     let mut map = row_06_map::<K>(rt)?;
     compute_none(rt, &mut map, 0, 3)?;
-    assert_eq!(rt; map.shape_of(0), Shape::Tree(7));
+    same(rt, map.shape_of(0), Shape::Tree(7));
     compute_none(rt, &mut map, 3, 4)?;
-    assert_eq!(rt; map.shape_of(0), Shape::List(6));
+    same(rt, map.shape_of(0), Shape::List(6));
     compute_none(rt, &mut map, 4, 9)?;
-    assert_eq!(rt; (map.len(), map.capacity()), (1, 128));
-    assert_eq!(rt; super::lent(map.get(&K::of(9))), Some(9));
+    same(rt, (map.len(), map.capacity()), (1, 128));
+    same(rt, lent(map.get(&K::of(9))), Some(9));
     Ok(())
 }
 
@@ -74,11 +78,11 @@ fn row_07_by_compute_with<K: Number>(rt: &(impl Abort + AllocGlobal)) -> Result<
 #[test]
 fn row_06(rt: HostRuntime) -> Result<(), Fail> {
     let map = row_06_map::<u64>(&rt)?;
-    assert_eq!(rt; map.len(), 10);
+    same(&rt, map.len(), 10);
     let map = row_06_map::<Backward>(&rt)?;
-    assert_eq!(rt; map.len(), 10);
+    same(&rt, map.len(), 10);
     let map = row_06_map::<Tagged>(&rt)?;
-    assert_eq!(rt; map.len(), 10);
+    same(&rt, map.len(), 10);
     Ok(())
 }
 
@@ -106,9 +110,9 @@ fn shapes_row(rt: HostRuntime) -> Result<(), Fail> {
         32,
         LowHashBuilder,
     )?;
-    assert_eq!(rt; (map.capacity(), map.shape_of(0)), (64, Shape::Empty));
+    same(&rt, (map.capacity(), map.shape_of(0)), (64, Shape::Empty));
     for k in 0..9u64 {
-        assert_eq!(rt; taken(map.insert(64 * k, k)?), None);
+        same(&rt, taken(map.insert(64 * k, k)?), None);
         let count = map.len();
         let shape = if k < 8 {
             Shape::List(count)
@@ -118,6 +122,10 @@ fn shapes_row(rt: HostRuntime) -> Result<(), Fail> {
         assert_eq!(rt; (map.capacity(), map.shape_of(0)), (64, shape), "after {k}");
     }
     map.reserve(65)?;
-    assert_eq!(rt; (map.capacity(), map.shape_of(0)), (256, Shape::List(3)));
+    same(
+        &rt,
+        (map.capacity(), map.shape_of(0)),
+        (256, Shape::List(3)),
+    );
     Ok(())
 }
