@@ -10,8 +10,6 @@
 
 pub mod control;
 pub mod party;
-#[cfg(test)]
-mod tests;
 
 pub use control::Control;
 pub use party::Party;

@@ -87,17 +87,3 @@ impl Claim {
         }
     }
 }
-
-#[cfg(test)]
-impl Claim {
-    // The range's lowest bin, and the first one above it.
-    pub(crate) fn ends(&self) -> (usize, usize) {
-        (self.low, self.high)
-    }
-
-    // The claim as it is once all its bins have moved.
-    pub(crate) fn moved(mut self) -> Self {
-        self.left = self.low;
-        self
-    }
-}

@@ -1,0 +1,5 @@
+//! The control and single calls of a shared map, as tests over tables that can be refused.
+#![tactic(auto)]
+
+#[cfg(test)]
+mod tests;

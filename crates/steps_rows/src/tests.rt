@@ -1,0 +1,13 @@
+//! The control, and calls in steps.
+
+mod control;
+mod party;
+
+use std::fmt::Debug;
+use std::process::Abort;
+
+// Sees that a value is the one that is wanted. A test of many assertions calls this, since each `assert_eq!` that stands in it makes
+// its proof longer. The proof of the caller does not learn of the value.
+fn same<T: PartialEq + Debug + Drop>(rt: &impl Abort, seen: T, wanted: T) {
+    assert_eq!(rt; seen, wanted);
+}

@@ -1,0 +1,221 @@
+//! Calls that make the table larger.
+
+use super::super::same;
+use super::{Map, Told, answers, call, empty_map, goes_on, insert, reply_of, step, steps, value};
+use flurry_bins::table::KeptReply;
+use flurry_slots::{Change, NoChange};
+use flurry_steps::party::{Call, Event, Party, Want};
+use std::process::Abort;
+use std::test::Fail;
+
+// A map with the keys below a count, each under its own hash, whose table was not grown.
+fn map_of(rt: &(impl Abort + AllocGlobal), count: u64) -> Result<Map, Fail> {
+    let mut map = empty_map(rt.alloc(), 1, 0);
+    for key in 0..count {
+        same(rt, insert(rt.alloc(), &mut map, key, key)?, 3);
+    }
+    Ok(map)
+}
+
+// Moves the 16 bins of a table from the last one down.
+fn moves_sixteen<'k, F: Change<u64, u64>>(
+    rt: &(impl Abort + AllocGlobal),
+    party: &mut Party<'k, u64, u64, F>,
+    map: &mut Map,
+) -> Result<(), Fail> {
+    for index in 0..16usize {
+        same(rt, party.want(), Want::Move(4, 15 - index));
+        same(
+            rt,
+            step(rt.alloc(), party, map)?,
+            Event::Moved(4, 15 - index),
+        );
+    }
+    Ok(())
+}
+
+// The steps of the insertion of the twelfth key, until it has moved each bin of the table.
+fn twelfth_key_moves<'k, F: Change<u64, u64>>(
+    rt: &(impl Abort + AllocGlobal),
+    party: &mut Party<'k, u64, u64, F>,
+    map: &mut Map,
+) -> Result<(), Fail> {
+    goes_on(
+        rt,
+        party,
+        map,
+        5,
+        &[
+            Event::Silent,
+            Event::Decide,
+            Event::Silent,
+            Event::Placed(5),
+            Event::Silent,
+        ],
+    )?;
+    same(rt, party.reply().is_some(), true);
+    same(rt, party.take_reply().is_none(), true);
+    moves_sixteen(rt, party, map)?;
+    same(rt, map.control.locate(), Some(4));
+    Ok(())
+}
+
+// Its last steps. Before the larger table is published, a look-up follows the bin that has moved.
+fn twelfth_key_ends<'k, F: Change<u64, u64>>(
+    rt: &(impl Abort + AllocGlobal),
+    party: &mut Party<'k, u64, u64, F>,
+    map: &mut Map,
+) -> Result<(), Fail> {
+    twelfth_key_moves(rt, party, map)?;
+    answers(
+        rt,
+        map,
+        7,
+        Call::Get(&7),
+        &[Event::Silent, Event::Silent, Event::Decide],
+        value(Some(0)),
+    )?;
+    goes_on(
+        rt,
+        party,
+        map,
+        100,
+        &[Event::Published(5), Event::Silent, Event::Silent],
+    )?;
+    same(rt, map.control.locate(), Some(5));
+    Ok(())
+}
+
+fn twelfth_key<F: Change<u64, u64>>(
+    rt: &(impl Abort + AllocGlobal),
+    map: &mut Map,
+) -> Result<(), Fail> {
+    let mut party: Party<'_, u64, u64, F> = Party::new(Call::Insert(11, 0), 11, 1);
+    let seen = twelfth_key_ends(rt, &mut party, map);
+    drop(party);
+    seen
+}
+
+// Removes the keys below 12, and sees to their values.
+fn removes_twelve(rt: &(impl Abort + AllocGlobal), map: &mut Map) -> Result<(), Fail> {
+    same(rt, map.control.len(), 12);
+    for key in 0..12 {
+        let (_events, answer) = call(rt.alloc(), map, key, Call::Remove(&key))?;
+        same(rt, answer, value(Some(0)));
+    }
+    same(rt, map.control.len(), 0);
+    Ok(())
+}
+
+#[test]
+fn twelfth_key_doubles_the_table(rt: HostRuntime) -> Result<(), Fail> {
+    let mut map = map_of(&rt, 11)?;
+    twelfth_key::<NoChange>(&rt, &mut map)?;
+    removes_twelve(&rt, &mut map)
+}
+
+#[test]
+fn reserve_of_nothing_opens_one_bin(rt: HostRuntime) -> Result<(), Fail> {
+    let mut map = empty_map(rt.alloc(), 1, 0);
+    answers(
+        &rt,
+        &mut map,
+        0,
+        Call::Reserve(0),
+        &[Event::Opened(0), Event::Silent],
+        Told::Ended,
+    )
+}
+
+// The steps of the reserve for 32 pairs. Their table has 64 bins, whose threshold is below 64: it is doubled once.
+fn reserve_ends<'k, F: Change<u64, u64>>(
+    rt: &(impl Abort + AllocGlobal),
+    party: &mut Party<'k, u64, u64, F>,
+    map: &mut Map,
+) -> Result<(), Fail> {
+    goes_on(
+        rt,
+        party,
+        map,
+        3,
+        &[Event::Opened(6), Event::Placed(7), Event::Silent],
+    )?;
+    let moves = steps(rt.alloc(), party, map, 64)?;
+    same(rt, moves.last(), Some(&Event::Moved(6, 0)));
+    goes_on(
+        rt,
+        party,
+        map,
+        100,
+        &[Event::Published(7), Event::Silent, Event::Silent],
+    )?;
+    same(rt, reply_of(party)?, Told::Ended);
+    same(rt, map.control.locate(), Some(7));
+    Ok(())
+}
+
+fn reserve<F: Change<u64, u64>>(
+    rt: &(impl Abort + AllocGlobal),
+    map: &mut Map,
+) -> Result<(), Fail> {
+    let mut party: Party<'_, u64, u64, F> = Party::new(Call::Reserve(32), 0, 1);
+    let seen = reserve_ends(rt, &mut party, map);
+    drop(party);
+    seen
+}
+
+#[test]
+fn reserves(rt: HostRuntime) -> Result<(), Fail> {
+    let mut map = empty_map(rt.alloc(), 1, 0);
+    reserve::<NoChange>(&rt, &mut map)?;
+    // There is room already.
+    answers(
+        &rt,
+        &mut map,
+        0,
+        Call::Reserve(40),
+        &[Event::Silent, Event::Silent],
+        Told::Ended,
+    )
+}
+
+// The steps of the insertion of a ninth key of one hash.
+fn ninth_key_ends<'k, F: Change<u64, u64>>(
+    rt: &(impl Abort + AllocGlobal),
+    party: &mut Party<'k, u64, u64, F>,
+    map: &mut Map,
+) -> Result<(), Fail> {
+    goes_on(
+        rt,
+        party,
+        map,
+        3,
+        &[Event::Silent, Event::Decide, Event::Placed(5)],
+    )?;
+    same(rt, map.control.len(), 8);
+    let after = steps(rt.alloc(), party, map, 1000)?;
+    same(rt, after.last(), Some(&Event::Silent));
+    same(rt, map.control.locate(), Some(7));
+    same(rt, map.control.len(), 9);
+    same(rt, reply_of(party)?, Told::Key(KeptReply::New(1)));
+    Ok(())
+}
+
+fn ninth_key<F: Change<u64, u64>>(
+    rt: &(impl Abort + AllocGlobal),
+    map: &mut Map,
+) -> Result<(), Fail> {
+    let mut party: Party<'_, u64, u64, F> = Party::new(Call::TryInsert(8, 1), 0, 1);
+    let seen = ninth_key_ends(rt, &mut party, map);
+    drop(party);
+    seen
+}
+
+#[test]
+fn list_of_eight_grows_before_the_count(rt: HostRuntime) -> Result<(), Fail> {
+    let mut map = empty_map(rt.alloc(), 1, 0);
+    for key in 0..8 {
+        same(&rt, insert(rt.alloc(), &mut map, 0, key)?, 3);
+    }
+    ninth_key::<NoChange>(&rt, &mut map)
+}

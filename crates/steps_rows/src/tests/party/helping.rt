@@ -1,0 +1,77 @@
+//! Calls that meet the growth of another call.
+
+use super::super::same;
+use super::{Map, answers, call, empty_map, goes_on, insert, steps, value};
+use flurry_slots::{Change, NoChange};
+use flurry_steps::party::{Call, Event, Party};
+use std::process::Abort;
+use std::test::Fail;
+
+// The first steps of a reserve, which moves one bin of a table of 64.
+fn reserve_begins<'k, F: Change<u64, u64>>(
+    rt: &(impl Abort + AllocGlobal),
+    reserve: &mut Party<'k, u64, u64, F>,
+    map: &mut Map,
+) -> Result<(), Fail> {
+    same(rt, map.control.open(6, &mut map.tables)?, 6);
+    goes_on(
+        rt,
+        reserve,
+        map,
+        4,
+        &[
+            Event::Silent,
+            Event::Placed(7),
+            Event::Silent,
+            Event::Moved(6, 63),
+        ],
+    )
+}
+
+// Calls that meet that growth.
+fn others_meet_the_growth(rt: &(impl Abort + AllocGlobal), map: &mut Map) -> Result<(), Fail> {
+    // Its bin has not moved: it decides, counts and then moves the three lower ranges.
+    same(rt, insert(rt.alloc(), map, 2, 2)?, 59);
+    same(rt, map.control.locate(), Some(6));
+    // Its bin has moved: it finds nothing to help with, and goes on to the next table.
+    answers(
+        rt,
+        map,
+        63,
+        Call::Remove(&63),
+        &[Event::Silent, Event::Silent, Event::Silent, Event::Decide],
+        value(None),
+    )
+}
+
+// The steps of the reserve, which those of the others stand between.
+fn reserve_ends<'k, F: Change<u64, u64>>(
+    rt: &(impl Abort + AllocGlobal),
+    reserve: &mut Party<'k, u64, u64, F>,
+    map: &mut Map,
+) -> Result<(), Fail> {
+    reserve_begins(rt, reserve, map)?;
+    others_meet_the_growth(rt, map)?;
+    let rest = steps(rt.alloc(), reserve, map, 1000)?;
+    same(rt, rest.len(), 18);
+    same(rt, map.control.locate(), Some(7));
+    let (_events, answer) = call(rt.alloc(), map, 2, Call::Get(&2))?;
+    same(rt, answer, value(Some(0)));
+    Ok(())
+}
+
+fn helping<F: Change<u64, u64>>(
+    rt: &(impl Abort + AllocGlobal),
+    map: &mut Map,
+) -> Result<(), Fail> {
+    let mut reserve: Party<'_, u64, u64, F> = Party::new(Call::Reserve(31), 0, 2);
+    let seen = reserve_ends(rt, &mut reserve, map);
+    drop(reserve);
+    seen
+}
+
+#[test]
+fn insertion_helps(rt: HostRuntime) -> Result<(), Fail> {
+    let mut map = empty_map(rt.alloc(), 2, 0);
+    helping::<NoChange>(&rt, &mut map)
+}
