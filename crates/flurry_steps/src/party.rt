@@ -71,6 +71,8 @@ pub enum Event {
 pub struct Party<'k, K, V, F: Change<K, V>, A: Allocator = Global> {
     hash: u64,
     processors: usize,
+    // A stage is put in its place by `mem::replace`, and the one before goes to `drop`: at an assignment the proof would go through all
+    // that a stage can hold.
     stage: Stage<'k, K, V, F, A>,
 }
 
@@ -210,7 +212,7 @@ impl<'k, K: Drop, V: Drop, F: Change<K, V>, A: Allocator> Party<'k, K, V, F, A> 
         match mem::replace(&mut self.stage, Stage::Taken) {
             Stage::Done(reply) => Some(reply),
             other => {
-                self.stage = other;
+                drop(mem::replace(&mut self.stage, other));
                 None
             }
         }
@@ -225,7 +227,7 @@ impl<'k, K: Drop, V: Drop, F: Change<K, V>, A: Allocator> Party<'k, K, V, F, A> 
     {
         let stage = mem::replace(&mut self.stage, Stage::Taken);
         let (stage, event) = controlled(stage, self.processors, control, room);
-        self.stage = stage;
+        drop(mem::replace(&mut self.stage, stage));
         event
     }
 
@@ -250,7 +252,8 @@ impl<'k, K: Drop, V: Drop, F: Change<K, V>, A: Allocator> Party<'k, K, V, F, A> 
     {
         match mem::replace(&mut self.stage, Stage::Taken) {
             Stage::Locate(task) => {
-                self.stage = Stage::Bin(task, start.table());
+                let stage = Stage::Bin(task, start.table());
+                drop(mem::replace(&mut self.stage, stage));
                 Event::Silent
             }
             _ => unreachable!(),
@@ -276,7 +279,7 @@ impl<'k, K: Ord + Drop, V: Drop, F: Change<K, V>, A: Allocator> Party<'k, K, V, 
             unreachable!()
         };
         let (stage, event) = looked(self.hash, sought, key, table, slot);
-        self.stage = stage;
+        drop(mem::replace(&mut self.stage, stage));
         event
     }
 
@@ -323,7 +326,7 @@ impl<'k, K: Ord + Drop, V: Drop, F: Change<K, V>, A: Allocator + Copy> Party<'k,
         match mem::replace(&mut self.stage, Stage::Taken) {
             Stage::Bin(task, table) => {
                 let (stage, event) = changed(alloc, self.hash, task, table, slot);
-                self.stage = stage;
+                drop(mem::replace(&mut self.stage, stage));
                 event
             }
             _ => unreachable!(),
