@@ -6,6 +6,7 @@ use flurry_bins::hash::LowHashBuilder;
 use flurry_seq::SeqMap;
 use flurry_seq::calls::{Call, Reply};
 use std::alloc::Global;
+use std::fmt::Display;
 use std::sync::Arc;
 use std::test::Fail;
 
@@ -117,34 +118,29 @@ pub(super) fn text_of_numbers(alloc: Global, numbers: &[Arc<u64>]) -> Result<Str
     Ok(text)
 }
 
+// A line of two parts.
+fn line(alloc: Global, name: &str, told: impl Display + Drop) -> Result<String, Fail> {
+    Ok(format!(in alloc; "{name}{told}\n")?)
+}
+
 // The line of one reply.
 fn line_of(alloc: Global, reply: &Reply<u64, u64, LowHashBuilder>) -> Result<String, Fail> {
-    let line = match reply {
-        Reply::Value(Some(value)) => format!(in alloc; "value {}\n", **value)?,
-        Reply::Value(None) => "no value\n".to_string(alloc)?,
-        Reply::Pair(Some((key, value))) => format!(in alloc; "pair {} {}\n", **key, **value)?,
-        Reply::Pair(None) => "no pair\n".to_string(alloc)?,
-        Reply::Truth(truth) => format!(in alloc; "{truth}\n")?,
-        Reply::New(value) => format!(in alloc; "new {}\n", **value)?,
-        Reply::Exists(error) => format!(in alloc; "{error}\n")?,
-        Reply::Number(number) => format!(in alloc; "{number}\n")?,
-        Reply::Shape(shape) => format!(in alloc; "{shape:?}\n")?,
-        Reply::Pairs(pairs) => format!(in alloc;
-            "pairs{}\n",
-            text_of_pairs(alloc, pairs.as_slice())?
-        )?,
-        Reply::Keys(keys) => format!(in alloc;
-            "keys{}\n",
-            text_of_numbers(alloc, keys.as_slice())?
-        )?,
-        Reply::Values(values) => format!(in alloc;
-            "values{}\n",
-            text_of_numbers(alloc, values.as_slice())?
-        )?,
-        Reply::Map(map) => format!(in alloc; "map of {}\n", map.len())?,
-        Reply::Done => "done\n".to_string(alloc)?,
-    };
-    Ok(line)
+    match reply {
+        Reply::Value(Some(value)) => line(alloc, "value ", **value),
+        Reply::Value(None) => line(alloc, "no value", ""),
+        Reply::Pair(Some((key, value))) => Ok(format!(in alloc; "pair {} {}\n", **key, **value)?),
+        Reply::Pair(None) => line(alloc, "no pair", ""),
+        Reply::Truth(truth) => line(alloc, "", *truth),
+        Reply::New(value) => line(alloc, "new ", **value),
+        Reply::Exists(error) => line(alloc, "", error),
+        Reply::Number(number) => line(alloc, "", *number),
+        Reply::Shape(shape) => Ok(format!(in alloc; "{shape:?}\n")?),
+        Reply::Pairs(pairs) => line(alloc, "pairs", text_of_pairs(alloc, pairs.as_slice())?),
+        Reply::Keys(keys) => line(alloc, "keys", text_of_numbers(alloc, keys.as_slice())?),
+        Reply::Values(values) => line(alloc, "values", text_of_numbers(alloc, values.as_slice())?),
+        Reply::Map(map) => line(alloc, "map of ", map.len()),
+        Reply::Done => line(alloc, "done", ""),
+    }
 }
 
 // One line for each reply.

@@ -7,6 +7,7 @@ use flurry_bins::hash::{KeyHasher, LowHashBuilder, ZeroHashBuilder};
 use flurry_seq::SeqSet;
 use flurry_seq::set_calls::{SetCall, SetReply};
 use std::alloc::Global;
+use std::fmt::Display;
 use std::test::Fail;
 
 // The numbers from a first one up to an end.
@@ -96,21 +97,25 @@ fn is_even(element: &u64) -> bool {
     *element % 2 == 0
 }
 
+// A word, and a space after it.
+fn word(alloc: Global, told: impl Display + Drop) -> Result<String, Fail> {
+    Ok(format!(in alloc; "{told} ")?)
+}
+
 // The word of one reply.
 fn word_of<S: KeyHasher<u64>>(alloc: Global, reply: &SetReply<u64, S>) -> Result<String, Fail> {
-    let word = match reply {
-        SetReply::Element(Some(element)) => format!(in alloc; "{} ", **element)?,
-        SetReply::Element(None) => "none ".to_string(alloc)?,
-        SetReply::Truth(truth) => format!(in alloc; "{truth} ")?,
-        SetReply::Number(number) => format!(in alloc; "{number} ")?,
-        SetReply::Elements(elements) => format!(in alloc;
+    match reply {
+        SetReply::Element(Some(element)) => word(alloc, **element),
+        SetReply::Element(None) => word(alloc, "none"),
+        SetReply::Truth(truth) => word(alloc, *truth),
+        SetReply::Number(number) => word(alloc, *number),
+        SetReply::Elements(elements) => Ok(format!(in alloc;
             "[{} ] ",
             text_of_numbers(alloc, elements.as_slice())?
-        )?,
-        SetReply::Set(set) => format!(in alloc; "set of {} ", set.len())?,
-        SetReply::Done => "done ".to_string(alloc)?,
-    };
-    Ok(word)
+        )?),
+        SetReply::Set(set) => Ok(format!(in alloc; "set of {} ", set.len())?),
+        SetReply::Done => word(alloc, "done"),
+    }
 }
 
 // One word for each reply.
@@ -127,6 +132,7 @@ fn words_of<S: KeyHasher<u64>>(
 
 #[test]
 fn set_calls_as_values(rt: HostRuntime) -> Result<(), Fail> {
+    let more = Vec::from_array(rt.alloc(), [2, 3, 4])?;
     let calls = queue_of(
         rt.alloc(),
         [
@@ -134,7 +140,7 @@ fn set_calls_as_values(rt: HostRuntime) -> Result<(), Fail> {
             SetCall::Reserve(3),
             SetCall::Insert(1),
             SetCall::Insert(1),
-            SetCall::Extend(Vec::from_array(rt.alloc(), [2, 3, 4])?),
+            SetCall::Extend(more),
             SetCall::Contains(3),
             SetCall::Get(5),
             SetCall::Retain(is_even),
