@@ -8,6 +8,7 @@ mod pairs;
 mod sets;
 mod shapes;
 
+use flurry_bins::bin::Shape;
 use flurry_bins::hash::KeyHasher;
 use flurry_seq::SeqMap;
 use keys::Number;
@@ -45,6 +46,38 @@ fn insert_new<K: Number, S: KeyHasher<K>>(
 // its proof longer. The proof of the caller does not learn of the value.
 fn same<T: PartialEq + Debug + Drop>(rt: &impl Abort, seen: T, wanted: T) {
     assert_eq!(rt; seen, wanted);
+}
+
+// Inserts a pair, and sees to the value that stood there.
+fn puts<K: Ord + Drop, S: KeyHasher<K>>(
+    rt: &impl Abort,
+    map: &mut SeqMap<K, u64, S>,
+    key: K,
+    value: u64,
+    old: Option<u64>,
+) -> Result<(), Fail> {
+    same(rt, taken(map.insert(key, value)?), old);
+    Ok(())
+}
+
+// Sees to the number of bins and of pairs.
+fn holds<K: Ord + Drop, S: KeyHasher<K>>(
+    rt: &impl Abort,
+    map: &SeqMap<K, u64, S>,
+    bins: usize,
+    pairs: usize,
+) {
+    same(rt, (map.capacity(), map.len()), (bins, pairs));
+}
+
+// Sees to the number of bins, and to the shape of the bin of hash 0.
+fn stands<K: Ord + Drop, S: KeyHasher<K>>(
+    rt: &impl Abort,
+    map: &SeqMap<K, u64, S>,
+    bins: usize,
+    shape: Shape,
+) {
+    same(rt, (map.capacity(), map.shape_of(0)), (bins, shape));
 }
 
 // Calls as values, in their order.

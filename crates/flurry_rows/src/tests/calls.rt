@@ -1,6 +1,6 @@
 //! The calls that no row names, and the calls as values.
 
-use super::{insert_new, lent, queue_of, same, taken};
+use super::{insert_new, lent, puts, queue_of, same, taken};
 use flurry_bins::bin::{Ordered, Shape};
 use flurry_bins::hash::LowHashBuilder;
 use flurry_seq::SeqMap;
@@ -39,7 +39,7 @@ fn calls_of_a_present_and_an_absent_key(rt: HostRuntime) -> Result<(), Fail> {
         (true, false),
     );
     same(&rt, map.get_key_value(&4).is_none(), true);
-    same(&rt, taken(map.insert(4, 40)?), None);
+    puts(&rt, &mut map, 4, 40, None)?;
     let present = map.compute_if_present(&4, |key, value| Some(*value % 7 + *key % 7))?;
     same(&rt, taken(present), Some(9));
     let absent = map.compute_if_present(&5, |_, _| Some(1))?;
@@ -71,7 +71,7 @@ fn equality(rt: HostRuntime) -> Result<(), Fail> {
     assert!(rt; map != other);
     other.extend(Vec::from_array(rt.alloc(), [(3, 30), (1, 11), (2, 20)])?)?;
     assert!(rt; map != other);
-    same(&rt, taken(other.insert(1, 10)?), Some(11));
+    puts(&rt, &mut other, 1, 10, Some(11))?;
     assert!(rt; map == other);
     Ok(())
 }
@@ -185,7 +185,7 @@ fn calls_as_values(rt: HostRuntime) -> Result<(), Fail> {
 #[test]
 fn one_call_as_a_value(rt: HostRuntime) -> Result<(), Fail> {
     let mut map = three_pairs(rt.alloc())?;
-    same(&rt, taken(map.insert(3, 8)?), Some(30));
+    puts(&rt, &mut map, 3, 8, Some(30))?;
     for call in [
         Call::ComputeIfPresent(3, up_to_nine),
         Call::RetainForce(is_nine_or_more),
@@ -227,7 +227,7 @@ fn removing_calls_as_values(rt: HostRuntime) -> Result<(), Fail> {
 #[test]
 fn reading_calls_as_values(rt: HostRuntime) -> Result<(), Fail> {
     let mut other = three_pairs(rt.alloc())?;
-    same(&rt, taken(other.insert(3, 8)?), Some(30));
+    puts(&rt, &mut other, 3, 8, Some(30))?;
     let equal = three_pairs(rt.alloc())?;
     let calls = queue_of(
         rt.alloc(),

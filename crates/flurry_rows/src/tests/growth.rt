@@ -1,6 +1,6 @@
 //! The number of bins.
 
-use super::{insert_new, same, taken};
+use super::{holds, insert_new, puts, same, stands};
 use flurry_bins::bin::Shape;
 use flurry_bins::hash::{LowHashBuilder, ZeroHashBuilder};
 use flurry_bins::table::{threshold, wanted};
@@ -11,14 +11,14 @@ use std::test::Fail;
 #[test]
 fn row_03(rt: HostRuntime) -> Result<(), Fail> {
     let mut map: SeqMap<u64, u64, LowHashBuilder> = SeqMap::with_hasher(rt.alloc(), LowHashBuilder);
-    same(&rt, taken(map.insert(42, 0)?), None);
+    puts(&rt, &mut map, 42, 0, None)?;
     same(&rt, map.capacity(), 16);
     for key in 0..16u64 {
-        same(&rt, taken(map.insert(key, 42)?), None);
+        puts(&rt, &mut map, key, 42, None)?;
         let bins = if key < 10 { 16 } else { 32 };
         assert_eq!(rt; map.capacity(), bins, "after {key}");
     }
-    same(&rt, (map.capacity(), map.len()), (32, 17));
+    holds(&rt, &map, 32, 17);
     Ok(())
 }
 
@@ -87,19 +87,11 @@ fn owned_growth_table(rt: HostRuntime) -> Result<(), Fail> {
         ZeroHashBuilder,
     );
     insert_new(&rt, &mut map, 0, 8)?;
-    same(&rt, (map.capacity(), map.shape_of(0)), (16, Shape::List(8)));
+    stands(&rt, &map, 16, Shape::List(8));
     insert_new(&rt, &mut map, 8, 9)?;
-    same(
-        &rt,
-        (map.capacity(), map.shape_of(0)),
-        (128, Shape::List(9)),
-    );
+    stands(&rt, &map, 128, Shape::List(9));
     insert_new(&rt, &mut map, 9, 10)?;
-    same(
-        &rt,
-        (map.capacity(), map.shape_of(0)),
-        (128, Shape::Tree(10)),
-    );
+    stands(&rt, &map, 128, Shape::Tree(10));
     Ok(())
 }
 

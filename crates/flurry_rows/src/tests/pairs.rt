@@ -1,7 +1,7 @@
 //! What the calls of one key answer, and what stands after them.
 
 use super::keys::{Backward, Number, Tagged};
-use super::{insert_new, lent, same, taken};
+use super::{holds, insert_new, lent, puts, same, taken};
 use flurry_bins::hash::{LowHashBuilder, ZeroHashBuilder};
 use flurry_seq::SeqMap;
 use std::process::Abort;
@@ -11,8 +11,8 @@ use std::test::Fail;
 #[test]
 fn row_01(rt: HostRuntime) -> Result<(), Fail> {
     let mut map: SeqMap<&'static str, u64> = SeqMap::new(rt.alloc());
-    same(&rt, taken(map.insert("foo", 0)?), None);
-    same(&rt, taken(map.insert("foo", 1)?), Some(0));
+    puts(&rt, &mut map, "foo", 0, None)?;
+    puts(&rt, &mut map, "foo", 1, Some(0))?;
     same(&rt, lent(map.get(&"foo")), Some(1));
     same(&rt, map.len(), 1);
     Ok(())
@@ -20,8 +20,8 @@ fn row_01(rt: HostRuntime) -> Result<(), Fail> {
 
 fn row_01_with<K: Number>(rt: &(impl Abort + AllocGlobal)) -> Result<(), Fail> {
     let mut map: SeqMap<K, u64> = SeqMap::new(rt.alloc());
-    same(rt, taken(map.insert(K::of(1), 0)?), None);
-    same(rt, taken(map.insert(K::of(1), 1)?), Some(0));
+    puts(rt, &mut map, K::of(1), 0, None)?;
+    puts(rt, &mut map, K::of(1), 1, Some(0))?;
     same(rt, lent(map.get(&K::of(1))), Some(1));
     same(rt, map.len(), 1);
     Ok(())
@@ -49,7 +49,7 @@ fn row_16(rt: HostRuntime) -> Result<(), Fail> {
     let mut map: SeqMap<u64, u64, LowHashBuilder> = SeqMap::with_hasher(rt.alloc(), LowHashBuilder);
     insert_new(&rt, &mut map, 0, 11)?;
     assert_eq!(rt; taken(map.compute_if_present(&0, |_, _| None)?), None);
-    same(&rt, (map.len(), map.capacity()), (10, 16));
+    holds(&rt, &map, 16, 10);
     Ok(())
 }
 
@@ -57,7 +57,7 @@ fn row_16(rt: HostRuntime) -> Result<(), Fail> {
 #[test]
 fn row_16_text(rt: HostRuntime) -> Result<(), Fail> {
     let mut map: SeqMap<u64, u64> = SeqMap::new(rt.alloc());
-    same(&rt, taken(map.insert(7, 0)?), None);
+    puts(&rt, &mut map, 7, 0, None)?;
     let Err(error) = map.try_insert(7, 1)? else {
         return Err(Fail::from("the key is present"));
     };
@@ -77,8 +77,8 @@ fn whole_owned_table(rt: HostRuntime) -> Result<(), Fail> {
     );
     let first = Tagged { id: 1, tag: 10 };
     let second = Tagged { id: 1, tag: 20 };
-    same(&rt, taken(map.insert(first, 0)?), None);
-    same(&rt, taken(map.insert(second, 5)?), Some(0));
+    puts(&rt, &mut map, first, 0, None)?;
+    puts(&rt, &mut map, second, 5, Some(0))?;
     let Some((key, value)) = map.get_key_value(&second) else {
         return Err(Fail::from("the key is present"));
     };
@@ -96,7 +96,7 @@ fn whole_owned_table(rt: HostRuntime) -> Result<(), Fail> {
 fn whole_owned_table_of_no_pairs(rt: HostRuntime) -> Result<(), Fail> {
     let mut map: SeqMap<u64, u64> = SeqMap::new(rt.alloc());
     map.extend(Vec::new(rt.alloc()))?;
-    same(&rt, (map.capacity(), map.len()), (1, 0));
+    holds(&rt, &map, 1, 0);
     Ok(())
 }
 
@@ -106,7 +106,7 @@ fn whole_owned_table_of_more_pairs(rt: HostRuntime) -> Result<(), Fail> {
     let mut map: SeqMap<u64, u64> = SeqMap::new(rt.alloc());
     insert_new(&rt, &mut map, 1, 2)?;
     map.extend(Vec::from_array(rt.alloc(), [(2, 20), (3, 30), (4, 40)])?)?;
-    same(&rt, (map.capacity(), map.len()), (16, 4));
+    holds(&rt, &map, 16, 4);
     same(&rt, lent(map.get(&3)), Some(30));
     Ok(())
 }
@@ -116,7 +116,7 @@ fn whole_owned_table_of_more_pairs(rt: HostRuntime) -> Result<(), Fail> {
 fn whole_owned_table_of_lists(rt: HostRuntime) -> Result<(), Fail> {
     let list = Vec::from_array(rt.alloc(), [(1, 10), (2, 20), (3, 30)])?;
     let map = SeqMap::from_list(rt.alloc(), list, LowHashBuilder)?;
-    same(&rt, (map.capacity(), map.len()), (8, 3));
+    holds(&rt, &map, 8, 3);
     same(&rt, lent(map.get(&2)), Some(20));
     Ok(())
 }
@@ -132,6 +132,6 @@ fn whole_owned_table_of_clones(rt: HostRuntime) -> Result<(), Fail> {
     same(&rt, copy.capacity(), 0);
     assert!(rt; copy == map);
     let map: SeqMap<u64, u64> = SeqMap::with_capacity(rt.alloc(), 5)?;
-    same(&rt, (map.capacity(), map.len()), (8, 0));
+    holds(&rt, &map, 8, 0);
     Ok(())
 }

@@ -1,7 +1,7 @@
 //! Lists and trees of keys of one bin.
 
 use super::keys::{Backward, Number, Tagged};
-use super::{insert_new, lent, same, taken};
+use super::{holds, insert_new, lent, puts, same, stands, taken};
 use flurry_bins::bin::Shape;
 use flurry_bins::hash::{LowHashBuilder, ZeroHashBuilder};
 use flurry_seq::SeqMap;
@@ -13,15 +13,11 @@ type OneHash<K> = SeqMap<K, u64, ZeroHashBuilder>;
 fn row_06_map<K: Number>(rt: &(impl Abort + AllocGlobal)) -> Result<OneHash<K>, Fail> {
     let mut map = SeqMap::with_hasher(rt.alloc(), ZeroHashBuilder);
     insert_new(rt, &mut map, 0, 8)?;
-    same(rt, (map.capacity(), map.shape_of(0)), (16, Shape::List(8)));
+    stands(rt, &map, 16, Shape::List(8));
     insert_new(rt, &mut map, 8, 9)?;
-    same(rt, (map.capacity(), map.shape_of(0)), (128, Shape::List(9)));
+    stands(rt, &map, 128, Shape::List(9));
     insert_new(rt, &mut map, 9, 10)?;
-    same(
-        rt,
-        (map.capacity(), map.shape_of(0)),
-        (128, Shape::Tree(10)),
-    );
+    stands(rt, &map, 128, Shape::Tree(10));
     Ok(map)
 }
 
@@ -39,7 +35,7 @@ fn row_07_by_remove_with<K: Number>(rt: &(impl Abort + AllocGlobal)) -> Result<(
     remove_numbers(rt, &mut map, 3, 4);
     same(rt, map.shape_of(0), Shape::List(6));
     remove_numbers(rt, &mut map, 4, 9);
-    same(rt, (map.len(), map.capacity()), (1, 128));
+    holds(rt, &map, 128, 1);
     same(rt, lent(map.get(&K::of(9))), Some(9));
     Ok(())
 }
@@ -69,7 +65,7 @@ fn row_07_by_compute_with<K: Number>(rt: &(impl Abort + AllocGlobal)) -> Result<
     compute_none(rt, &mut map, 3, 4)?;
     same(rt, map.shape_of(0), Shape::List(6));
     compute_none(rt, &mut map, 4, 9)?;
-    same(rt, (map.len(), map.capacity()), (1, 128));
+    holds(rt, &map, 128, 1);
     same(rt, lent(map.get(&K::of(9))), Some(9));
     Ok(())
 }
@@ -110,9 +106,9 @@ fn shapes_row(rt: HostRuntime) -> Result<(), Fail> {
         32,
         LowHashBuilder,
     )?;
-    same(&rt, (map.capacity(), map.shape_of(0)), (64, Shape::Empty));
+    stands(&rt, &map, 64, Shape::Empty);
     for k in 0..9u64 {
-        same(&rt, taken(map.insert(64 * k, k)?), None);
+        puts(&rt, &mut map, 64 * k, k, None)?;
         let count = map.len();
         let shape = if k < 8 {
             Shape::List(count)
@@ -122,10 +118,6 @@ fn shapes_row(rt: HostRuntime) -> Result<(), Fail> {
         assert_eq!(rt; (map.capacity(), map.shape_of(0)), (64, shape), "after {k}");
     }
     map.reserve(65)?;
-    same(
-        &rt,
-        (map.capacity(), map.shape_of(0)),
-        (256, Shape::List(3)),
-    );
+    stands(&rt, &map, 256, Shape::List(3));
     Ok(())
 }
