@@ -1,5 +1,5 @@
 -- A new world is one.
-use Rattle.std.specs.Prelude.{ℕ, zero, suc, pos, ◌^◌, ◌≤◌, ◌==◌, ◌&&◌, nat_lt, Bool, true, false, [], ◌∷◌, length, replicate, slice_get, Option, Some, None, MatchOption, Result, Ok, MatchResult, if◌then◌else◌, ◌≡◌}
+use Rattle.std.specs.Prelude.{ℕ, zero, suc, pos, ◌^◌, ◌≤◌, ◌==◌, ◌&&◌, nat_lt, Bool, true, false, [], replicate, slice_get, Option, Some, None, MatchOption, Result, Ok, MatchResult, if◌then◌else◌, ◌≡◌}
 use Rattle.std.specs.declared.cmp.Ordering.{Ordering}
 use Rattle.std.specs.Cmp.{IsTotalOrder}
 use Rattle.std.specs.Option.{option_map_or}
