@@ -102,6 +102,7 @@ module _ {K V F : Type 0} where
   CallIsReady ready (call.Compute k f) = ready f
   CallIsReady ready (call.Reserve a) = ⊤
 
+  -- its function, if it has one, may be called
   abbrev pub KeptIsReady : (F → Type 0) → KeptCall K V F → Type 0
   KeptIsReady ready (kept_call.Get k) = ⊤
   KeptIsReady ready (kept_call.GetKeyValue k) = ⊤

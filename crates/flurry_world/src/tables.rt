@@ -86,6 +86,7 @@ impl<K: Ord + Drop, V: Drop, A: Allocator> Tables<K, V, A> {
         ensures step { (b : Board) → PartStep K.cmp F.changes (LookPart table index) party.old b self.now result party.new b self.now }
         ensures within { AreTables self.now }
     {
+        // The proof learns here what the type keeps.
         let _ = &self.tables;
         party.on_look(self.slot(table, index))
     }
@@ -103,6 +104,7 @@ impl<K: Ord + Drop, V: Drop, A: Allocator + Copy> Tables<K, V, A> {
         ensures within { AreTables self.new }
     {
         let event = party.on_control(control, self);
+        // The proof learns here what the type keeps.
         let _ = &self.tables;
         event
     }

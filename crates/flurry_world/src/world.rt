@@ -32,6 +32,12 @@ pub enum Step<K, V, F> {
     Step(usize),
 }
 
+/// A map and any number of calls on it, each of which is a party, whose steps are done one at a time, in the order that its owner gives.
+/// Any party may be left where it stands for good.
+///
+/// A key, a value and a function are `Copy`, since the labels keep the calls. The contracts see a world as plain data
+/// (`specs/World.antt`): its hasher and processors, the table that it began with, the control, the tables, the calls and the labels.
+/// Whatever steps it ran, its labels are lawful, which [`World::trace`] says.
 #[derive(Drop)]
 pub struct World<
     'k,
