@@ -1,1 +1,2 @@
 pub mod WantedTables
+pub mod Rooms

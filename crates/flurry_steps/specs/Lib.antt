@@ -5,3 +5,4 @@ pub mod Party
 pub mod PartyView
 pub mod PartySlots
 pub mod PartyControl
+pub mod Field

@@ -1,11 +1,10 @@
 -- What the cases of a party's step share.
-use Rattle.std.specs.Prelude.{ℕ, ℤ, pos, neg_ℤ, ◌≤ℤ◌, ◌+ℤ◌, ◌-ℤ◌, ◌+◌, ◌≤◌, ◌==◌, true, false, length, slice_get, Option, Some, None, option_map, ◌≡◌}
+use Rattle.std.specs.Prelude.{ℕ, ℤ, pos, ◌+ℤ◌, ◌-ℤ◌, ◌+◌, ◌^◌, ◌≤◌, ◌==◌, true, false, slice_get, Option, Some, None, option_map, ◌≡◌}
 use Rattle.std.specs.declared.cmp.Ordering.{Ordering}
 use Rattle.std.specs.Int.{saturate_signed, w64}
 use Rattle.std.specs.Cmp.{IsTotalOrder}
 use Rattle.std.proofs.Common.{arith, sym, ◌∙◌, ap, subst}
 use Rattle.std.proofs.lemmas.Int.{ints}
-use Rattle.std.proofs.lemmas.List.{length-reverse}
 use Rattle.flurry_steps.specs.Control as control
 use Rattle.flurry_steps.specs.Control.{Board, IsIdle, Grows}
 use Rattle.flurry_steps.specs.Party.{Said, Stage, Course}
@@ -14,9 +13,8 @@ use Rattle.flurry_theory.specs.Machine.{Done, Quiet, Counts}
 use Rattle.flurry_theory.specs.Map.{same}
 use Rattle.flurry_theory.specs.Trace.{is_lookup}
 use Rattle.flurry_theory.specs.declared.Label.TheVariants as label
-use Rattle.flurry_theory.proofs.Counts.{count_within}
 use Rattle.flurry_world.specs.Tables.{Tables}
-use Rattle.flurry_world.specs.World.{Caller, Shown, state_of, mode_in, claim_in, reply_in, mode_of_stage, claim_of_stage, FollowsStage, IsWorld}
+use Rattle.flurry_world.specs.World.{Caller, Shown, Near, state_of, mode_in, claim_in, reply_in, mode_of_stage, claim_of_stage, FollowsStage, IsWorld}
 use Rattle.flurry_world.specs.Steps.{label_of}
 use Rattle.flurry_world.proofs.LineLaws.{is_quiet, is_counted}
 use Rattle.flurry_world.proofs.Frames.{same_frame, IsStep, in_range}
@@ -56,10 +54,10 @@ module _ {K V F S : Type 0} (cmp : K → K → Ordering) (total : IsTotalOrder c
   }
 
   -- a step that counts
-  pub counts : (s : Stage K V F) (r : Said K V) (added removed : ℕ) (d : ℤ) → x.course.stage ≡ s → mode_of_stage s ≡ Done (reply_in r) added removed → claim_of_stage s ≡ None → d ≡ pos added -ℤ pos removed → added + removed ≤ 1
+  pub counts : (s : Stage K V F) (r : Said K V) (added removed : ℕ) (d : ℤ) → x.course.stage ≡ s → mode_of_stage s ≡ Done (reply_in r) added removed → claim_of_stage s ≡ None → Near (2 ^ 62) w.board.count → d ≡ pos added -ℤ pos removed → added + removed ≤ 1
       → mode_of_stage c.stage ≡ Done (reply_in r) 0 0 → claim_of_stage c.stage ≡ None → is_lookup (Some x.call) ≡ false → FollowsStage x.call c.stage
       → IsStep cmp hash gives w p x (control.counted d w.board) w.tables c (label.Silent p)
-  counts s r added removed d e before none delta small mode claim lookup follows = record {
+  counts s r added removed d e before none near delta small mode claim lookup follows = record {
     line = Counts (λ q. p == q);
     can = no_lookup lookup;
     is = is_counted cmp hash gives w p x at c (reply_in r) added removed _ (in_mode s e ∙ before) summed mode (claim ∙ sym (ap claim_of_stage e ∙ none));
@@ -67,11 +65,5 @@ module _ {K V F S : Type 0} (cmp : K → K → Ordering) (total : IsTotalOrder c
     frame = record { hashed = k.hashed; board = record { published = k.board.published; growth = k.board.growth }; tables = k.tables; unmade = k.unmade; next = k.next };
   }
     where
-      bounds : ((state_of w).count ≤ℤ pos (length (state_of w).trace)) × (neg_ℤ (pos (length (state_of w).trace)) ≤ℤ (state_of w).count)
-      bounds = count_within cmp total hash lawful gives (state_of w) k.state.1.counted
-
-      long : length (state_of w).trace ≡ length w.trace
-      long = length-reverse w.trace
-
       summed : saturate_signed w64 (w.board.count +ℤ d) ≡ w.board.count +ℤ pos added -ℤ pos removed
-      summed = in_range (w.board.count +ℤ d) (length w.trace) k.few (omega (arith, ints, bounds.0, long, delta, small)) (omega (arith, ints, bounds.1, long, delta, small)) ∙ omega (arith, ints, delta)
+      summed = in_range (w.board.count +ℤ d) (2 ^ 62) (omega arith) (omega (arith, ints, near.most, delta, small)) (omega (arith, ints, near.least, delta, small)) ∙ omega (arith, ints, delta)

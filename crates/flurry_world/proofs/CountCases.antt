@@ -21,7 +21,7 @@ use Rattle.flurry_theory.specs.Machine.{Done, Places, IsRefused, RefusedAt}
 use Rattle.flurry_theory.specs.declared.Call.{Call}
 use Rattle.flurry_theory.specs.declared.Label.TheVariants as label
 use Rattle.flurry_world.specs.Tables.{Tables, slots_of, content_at, PlaceGives}
-use Rattle.flurry_world.specs.World.{Caller, Shown, state_of, growth_of, reply_in, mode_of_growing, mode_of_stage, claim_of_stage, HasDecided, FollowsGrowing, FollowsStage, IsWorld}
+use Rattle.flurry_world.specs.World.{Caller, Shown, Near, state_of, growth_of, reply_in, mode_of_growing, mode_of_stage, claim_of_stage, HasDecided, FollowsGrowing, FollowsStage, IsWorld}
 use Rattle.flurry_world.specs.Steps.{label_of}
 use Rattle.flurry_world.proofs.StateLaws.{same_some}
 use Rattle.flurry_world.proofs.LineLaws.{is_placed, is_refused}
@@ -90,24 +90,24 @@ module _ {K V F S : Type 0} (cmp : K → K → Ordering) (total : IsTotalOrder c
       contents d j = content_at-placed w.tables (e + 1) true t k.tables (let (there, idle, below) = can_begin_is e w.board.published w.board.growth can in omega (arith, below)) made d j
 
   module _ (ev : Event) (b : Board) (t' : Tables K V) where
-    pub uncounts : (r : Said K V) → x.course.stage ≡ AtUncount r → HasDecided x.call r → (ev ≡ event.Silent) × (c.stage ≡ AtDone r) × (b ≡ counted (negsuc 0) w.board) × (t' ≡ w.tables) → IsStep cmp hash gives w p x b t' c (label_of p ev c.stage)
-    uncounts r f had h =
+    pub uncounts : (r : Said K V) → x.course.stage ≡ AtUncount r → HasDecided x.call r → Near (2 ^ 62) w.board.count → (ev ≡ event.Silent) × (c.stage ≡ AtDone r) × (b ≡ counted (negsuc 0) w.board) × (t' ≡ w.tables) → IsStep cmp hash gives w p x b t' c (label_of p ev c.stage)
+    uncounts r f had near h =
         settled cmp total hash lawful gives w k p x at c ev event.Silent (AtDone r) b (counted (negsuc 0) w.board) t' w.tables h.0 h.1 h.2 h.3
-        (counts cmp total hash lawful gives w k p x at c (AtUncount r) r 0 1 (negsuc 0) f refl refl refl (omega arith) (ap mode_of_stage h.1 ∙ done_mode x.call r had.reply) (ap claim_of_stage h.1) had.writes (subst (FollowsStage x.call) (sym h.1) (done_follows x.call r had)))
+        (counts cmp total hash lawful gives w k p x at c (AtUncount r) r 0 1 (negsuc 0) f refl refl near refl (omega arith) (ap mode_of_stage h.1 ∙ done_mode x.call r had.reply) (ap claim_of_stage h.1) had.writes (subst (FollowsStage x.call) (sym h.1) (done_follows x.call r had)))
 
-    pub counts_one : (r : Said K V) → x.course.stage ≡ AtCount r → HasDecided x.call r → (ev ≡ event.Silent) × (c.stage ≡ stage_advised w.board.published r (control.advice_of (counted (pos 1) w.board))) × (b ≡ counted (pos 1) w.board) × (t' ≡ w.tables)
+    pub counts_one : (r : Said K V) → x.course.stage ≡ AtCount r → HasDecided x.call r → Near (2 ^ 62) w.board.count → (ev ≡ event.Silent) × (c.stage ≡ stage_advised w.board.published r (control.advice_of (counted (pos 1) w.board))) × (b ≡ counted (pos 1) w.board) × (t' ≡ w.tables)
         → IsStep cmp hash gives w p x b t' c (label_of p ev c.stage)
-    counts_one r f had h =
+    counts_one r f had near h =
         let (mode, claim, follows) = advised x.call w.board.published r (control.advice_of (counted (pos 1) w.board)) had in
         settled cmp total hash lawful gives w k p x at c ev event.Silent _ b (counted (pos 1) w.board) t' w.tables h.0 h.1 h.2 h.3
-        (counts cmp total hash lawful gives w k p x at c (AtCount r) r 1 0 (pos 1) f refl refl refl (omega arith) (ap mode_of_stage h.1 ∙ mode) (ap claim_of_stage h.1 ∙ claim) had.writes (subst (FollowsStage x.call) (sym h.1) follows))
+        (counts cmp total hash lawful gives w k p x at c (AtCount r) r 1 0 (pos 1) f refl refl near refl (omega arith) (ap mode_of_stage h.1 ∙ mode) (ap claim_of_stage h.1 ∙ claim) had.writes (subst (FollowsStage x.call) (sym h.1) follows))
 
-    pub recounts : (r : Said K V) → x.course.stage ≡ AtRecount r → HasDecided x.call r → (ev ≡ event.Silent) × (c.stage ≡ stage_advised w.board.published r (control.advice_of (counted (pos 0) w.board))) × (b ≡ counted (pos 0) w.board) × (t' ≡ w.tables)
+    pub recounts : (r : Said K V) → x.course.stage ≡ AtRecount r → HasDecided x.call r → Near (2 ^ 62) w.board.count → (ev ≡ event.Silent) × (c.stage ≡ stage_advised w.board.published r (control.advice_of (counted (pos 0) w.board))) × (b ≡ counted (pos 0) w.board) × (t' ≡ w.tables)
         → IsStep cmp hash gives w p x b t' c (label_of p ev c.stage)
-    recounts r f had h =
+    recounts r f had near h =
         let (mode, claim, follows) = advised x.call w.board.published r (control.advice_of (counted (pos 0) w.board)) had in
         settled cmp total hash lawful gives w k p x at c ev event.Silent _ b (counted (pos 0) w.board) t' w.tables h.0 h.1 h.2 h.3
-        (counts cmp total hash lawful gives w k p x at c (AtRecount r) r 0 0 (pos 0) f refl refl refl (omega arith) (ap mode_of_stage h.1 ∙ mode) (ap claim_of_stage h.1 ∙ claim) had.writes (subst (FollowsStage x.call) (sym h.1) follows))
+        (counts cmp total hash lawful gives w k p x at c (AtRecount r) r 0 0 (pos 0) f refl refl near refl (omega arith) (ap mode_of_stage h.1 ∙ mode) (ap claim_of_stage h.1 ∙ claim) had.writes (subst (FollowsStage x.call) (sym h.1) follows))
 
     -- a growth that was advised
     pub begins : (e : ℕ) (r : Said K V) → x.course.stage ≡ AtBegin e r → HasDecided x.call r → (a : Started) × BeginGives PlaceGives e w.board w.tables a b t' × (ev ≡ event_begun e a) × (c.stage ≡ stage_begun r a) → IsStep cmp hash gives w p x b t' c (label_of p ev c.stage)

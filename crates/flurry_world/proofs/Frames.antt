@@ -49,8 +49,8 @@ module _ {K V F S : Type 0} (cmp : K → K → Ordering) (hash : K → ℕ) (giv
 
   -- a world that such a step leaves
   pub kept : (total : IsTotalOrder cmp) (lawful : (j k : K) → same cmp j k ≡ true → hash j ≡ hash k) (w : Shown K V F S) (p : ℕ) (x : Caller K V F) (b : Board) (t : Tables K V) (c : Course K V F) (lab : Label K V F)
-      → IsWorld cmp hash gives w → slice_get w.callers p ≡ Some x → length w.trace < 2 ^ 62 → c.hash ≡ x.course.hash → IsStep w p x b t c lab → IsWorld cmp hash gives (with_step w p x b t c lab)
-  kept total lawful w p x b t c lab k at few hashed s = record {
+      → IsWorld cmp hash gives w → slice_get w.callers p ≡ Some x → c.hash ≡ x.course.hash → IsStep w p x b t c lab → IsWorld cmp hash gives (with_step w p x b t c lab)
+  kept total lawful w p x b t c lab k at hashed s = record {
     state = (home_after k.state.0 s.line, subst (λ z. Inv cmp hash gives w.first (home_after k.state.0 s.line) z) (sym (does_line cmp hash gives w p x b t c lab s.line at s.is)) (inv_step cmp total hash lawful gives w.first k.state.0 (state_of w) p s.line s.can k.state.1));
     callers = λ q y h. caller q y (p == q) refl (sym (get_set w.callers p q stepped (slice_get_within w.callers p x at)) ∙ h);
     hashed = s.frame.hashed;
@@ -58,7 +58,6 @@ module _ {K V F S : Type 0} (cmp : K → K → Ordering) (hash : K → ℕ) (giv
     tables = s.frame.tables;
     unmade = s.frame.unmade;
     next = s.frame.next;
-    few = omega (arith, length-append w.trace (lab ∷ []), few);
   }
     where
       stepped : Caller K V F

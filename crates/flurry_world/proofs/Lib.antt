@@ -19,6 +19,7 @@ pub mod ThereLaws
 pub mod NewLaws
 mod ViewLemmas
 mod MoveLemmas
+pub mod PartsLaws
 pub mod WorldSteps
 pub mod RunLaws
 pub mod LawfulLaws

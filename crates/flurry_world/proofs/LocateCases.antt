@@ -52,7 +52,7 @@ idle_without (Some e) g h i = cc
 
 module _ {K V F S : Type 0} (cmp : K → K → Ordering) (total : IsTotalOrder cmp) (hash : K → ℕ) (lawful : (j k : K) → same cmp j k ≡ true → hash j ≡ hash k) (gives : F → K → V → Option V → Type 0) (w : Shown K V F S) (k : IsWorld cmp hash gives w) (p : ℕ) (x : Caller K V F) (at : slice_get w.callers p ≡ Some x) (c : Course K V F) where
   -- a party that locates goes on at the published table
-  finds : (s : Stage K V F) (e : ℕ) → x.course.stage ≡ s → mode_of_stage s ≡ Locating → claim_of_stage s ≡ None → w.board.published ≡ Some e → mode_of_stage c.stage ≡ found e x.call → claim_of_stage c.stage ≡ None → FollowsStage x.call c.stage
+  pub finds : (s : Stage K V F) (e : ℕ) → x.course.stage ≡ s → mode_of_stage s ≡ Locating → claim_of_stage s ≡ None → w.board.published ≡ Some e → mode_of_stage c.stage ≡ found e x.call → claim_of_stage c.stage ≡ None → FollowsStage x.call c.stage
       → IsStep cmp hash gives w p x w.board w.tables c (label.Silent p)
   finds s e f locating none there mode claim follows = record {
     line = FindsTable e;

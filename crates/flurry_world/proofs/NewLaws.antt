@@ -52,7 +52,6 @@ module _ {K V F S : Type 0} (cmp : K → K → Ordering) (total : IsTotalOrder c
     tables = AreTables-no_tables;
     unmade = λ _ e. slots_of-none 31 e;
     next = λ e u r h. cc;
-    few = omega arith;
   }
     where
       unborn : {b : slots.Live K V} → IsUnborn ≡ IsLive b → ⊥
@@ -85,7 +84,6 @@ module _ {K V F S : Type 0} (cmp : K → K → Ordering) (total : IsTotalOrder c
     tables = AreTables-made no_tables e true AreTables-no_tables le;
     unmade = λ h. cc;
     next = λ d u r _ h. cc;
-    few = omega arith;
   }
     where
       contents : (d j : ℕ) → content_at (with_table (no_tables {K = K} {V = V}) e true) d j ≡ (if e == d && nat_lt j (2 ^ e) then fresh true else IsUnborn)

@@ -15,7 +15,7 @@ use Rattle.flurry_steps.specs.declared.party.Event.TheVariants as event
 use Rattle.flurry_theory.specs.Map.{same}
 use Rattle.flurry_world.specs.Tables.{Tables, AreTables, place_at, content_at, put_place, PlaceGives}
 use Rattle.flurry_world.specs.Parts.{PartStep}
-use Rattle.flurry_world.specs.World.{Caller, Shown, FollowsStage, IsWorld}
+use Rattle.flurry_world.specs.World.{Caller, Shown, Near, FollowsStage, IsWorld}
 use Rattle.flurry_world.specs.Steps.{label_of}
 use Rattle.flurry_world.proofs.TableLaws.{content_of_place, AreTables-put, length_of_put_slots}
 use Rattle.flurry_world.proofs.HomeLaws.{put_content}
@@ -44,7 +44,7 @@ module _ {K V : Type 0} where
     unmade = λ d h. no_slots _ _ (sym (length_of_put_slots t e i q' d)) h;
   }
 
-module _ {K V F S : Type 0} (cmp : K → K → Ordering) (total : IsTotalOrder cmp) (hash : K → ℕ) (lawful : (j k : K) → same cmp j k ≡ true → hash j ≡ hash k) (gives : F → K → V → Option V → Type 0) (w : Shown K V F S) (k : IsWorld cmp hash gives w) (p : ℕ) (x : Caller K V F) (at : slice_get w.callers p ≡ Some x) (c : Course K V F) (ev : Event) (b : Board) (t' : Tables K V) where
+module _ {K V F S : Type 0} (cmp : K → K → Ordering) (total : IsTotalOrder cmp) (hash : K → ℕ) (lawful : (j k : K) → same cmp j k ≡ true → hash j ≡ hash k) (gives : F → K → V → Option V → Type 0) (w : Shown K V F S) (k : IsWorld cmp hash gives w) (near : Near (2 ^ 62) w.board.count) (p : ℕ) (x : Caller K V F) (at : slice_get w.callers p ≡ Some x) (c : Course K V F) (ev : Event) (b : Board) (t' : Tables K V) where
   -- the step, and that the hash stays
   pub record Taken : Type 0 where
     pub hash_stays : c.hash ≡ x.course.hash
@@ -62,9 +62,9 @@ module _ {K V F S : Type 0} (cmp : K → K → Ordering) (total : IsTotalOrder c
       none_left : (o : Option (ℕ × ℕ)) → move_part o ≡ ControlPart → o ≡ None
       none_left None z = refl
       none_left (Some z) y = cc
-  at_control (AtUncount r) e q h = uncounts cmp total hash lawful gives w k p x at c ev b t' r e (subst (FollowsStage x.call) e follows) h
-  at_control (AtCount r) e q h = counts_one cmp total hash lawful gives w k p x at c ev b t' r e (subst (FollowsStage x.call) e follows) h
-  at_control (AtRecount r) e q h = recounts cmp total hash lawful gives w k p x at c ev b t' r e (subst (FollowsStage x.call) e follows) h
+  at_control (AtUncount r) e q h = uncounts cmp total hash lawful gives w k p x at c ev b t' r e (subst (FollowsStage x.call) e follows) near h
+  at_control (AtCount r) e q h = counts_one cmp total hash lawful gives w k p x at c ev b t' r e (subst (FollowsStage x.call) e follows) near h
+  at_control (AtRecount r) e q h = recounts cmp total hash lawful gives w k p x at c ev b t' r e (subst (FollowsStage x.call) e follows) near h
   at_control (AtBegin n r) e q h = begins cmp total hash lawful gives w k p x at c ev b t' n r e (subst (FollowsStage x.call) e follows) h
   at_control (AtGrow n g) e q h = grows cmp total hash lawful gives w k p x at c ev b t' n g e (subst (FollowsStage x.call) e follows) h
   at_control (AtReserve a) e q (n, sized, h) = reserves cmp total hash lawful gives w k p x at c ev b t' a n e (subst (FollowsStage x.call) e follows) sized.within h

@@ -15,7 +15,7 @@ use Rattle.flurry_theory.specs.declared.Label.{Label}
 use Rattle.flurry_theory.specs.declared.Label.TheVariants as label
 use Rattle.flurry_theory.proofs.Step.{inv_step}
 use Rattle.flurry_world.specs.Tables.{Tables}
-use Rattle.flurry_world.specs.World.{Caller, Shown, state_of, start_of, mode_in, claim_in, steps_in, mode_of_stage, claim_of_stage, FollowsStage, Follows, IsWorld}
+use Rattle.flurry_world.specs.World.{Caller, Shown, Near, state_of, start_of, mode_in, claim_in, steps_in, mode_of_stage, claim_of_stage, FollowsStage, Follows, IsWorld}
 use Rattle.flurry_world.specs.Steps.{with_label, with_step, with_caller, label_of, closing_label, GoesOn, CourseStep}
 use Rattle.flurry_world.proofs.StateLaws.{same_place, same_some}
 use Rattle.flurry_world.proofs.LineLaws.{is_quiet, is_replied, is_ended}
@@ -23,7 +23,7 @@ use Rattle.flurry_world.proofs.Frames.{same_frame, kept}
 use Rattle.flurry_world.proofs.Cases.{calls, in_mode, in_claim}
 use Rattle.flurry_world.proofs.PartyCases.{taken}
 
-get_append : {X : Type 0} (xs : List X) (y : X) (q : ℕ) → slice_get (xs ++ y ∷ []) q ≡ cond (length xs == q) (Some y) (slice_get xs q)
+pub get_append : {X : Type 0} (xs : List X) (y : X) (q : ℕ) → slice_get (xs ++ y ∷ []) q ≡ cond (length xs == q) (Some y) (slice_get xs q)
 get_append [] y zero = refl
 get_append [] y (suc q) = grind arith
 get_append (x ∷ xs) y zero = grind (arith, eqb-true (suc (length xs)) zero)
@@ -41,7 +41,7 @@ read_append f xs y q = ap f (get_append xs y q) ∙ through (length xs == q)
     through true = refl
     through false = refl
 
-module _ {K V F S : Type 0} (cmp : K → K → Ordering) (total : IsTotalOrder cmp) (hash : K → ℕ) (lawful : (j k : K) → same cmp j k ≡ true → hash j ≡ hash k) (gives : F → K → V → Option V → Type 0) (w : Shown K V F S) (k : IsWorld cmp hash gives w) (few : length w.trace < 2 ^ 62) where
+module _ {K V F S : Type 0} (cmp : K → K → Ordering) (total : IsTotalOrder cmp) (hash : K → ℕ) (lawful : (j k : K) → same cmp j k ≡ true → hash j ≡ hash k) (gives : F → K → V → Option V → Type 0) (w : Shown K V F S) (k : IsWorld cmp hash gives w) (near : Near (2 ^ 62) w.board.count) where
   -- an unknown party's step
   pub silent : (p : ℕ) → slice_get w.callers p ≡ None → IsWorld cmp hash gives (with_label w (label.Silent p))
   silent p unknown = record {
@@ -52,7 +52,6 @@ module _ {K V F S : Type 0} (cmp : K → K → Ordering) (total : IsTotalOrder c
     tables = k.tables;
     unmade = k.unmade;
     next = k.next;
-    few = omega (arith, length-append w.trace (label.Silent p ∷ []), few);
   }
     where
       turned : reverse (w.trace ++ label.Silent p ∷ []) ≡ label.Silent p ∷ reverse w.trace
@@ -88,7 +87,6 @@ module _ {K V F S : Type 0} (cmp : K → K → Ordering) (total : IsTotalOrder c
     tables = k.tables;
     unmade = k.unmade;
     next = k.next;
-    few = omega (arith, length-append w.trace (label.Begin (length w.callers) d ∷ []), few);
   }
     where
       new : Caller K V F
@@ -120,14 +118,14 @@ module _ {K V F S : Type 0} (cmp : K → K → Ordering) (total : IsTotalOrder c
 
   module _ (p : ℕ) (x : Caller K V F) (at : slice_get w.callers p ≡ Some x) where
     -- a party's step at the part that it wants
-    goes_on : (l : Label K V F) (c : Course K V F) (b : Board) (t : Tables K V) → GoesOn cmp gives p x.course w.board w.tables l c b t → IsWorld cmp hash gives (with_step w p x b t c l)
+    pub goes_on : (l : Label K V F) (c : Course K V F) (b : Board) (t : Tables K V) → GoesOn cmp gives p x.course w.board w.tables l c b t → IsWorld cmp hash gives (with_step w p x b t c l)
     goes_on l c b t s =
-        let step = taken cmp total hash lawful gives w k p x at c s.event b t s.part in
-        subst (λ m. IsWorld cmp hash gives (with_step w p x b t c m)) (sym s.label_is) (kept cmp hash gives total lawful w p x b t c (label_of p s.event c.stage) k at few step.hash_stays step.step)
+        let step = taken cmp total hash lawful gives w k near p x at c s.event b t s.part in
+        subst (λ m. IsWorld cmp hash gives (with_step w p x b t c m)) (sym s.label_is) (kept cmp hash gives total lawful w p x b t c (label_of p s.event c.stage) k at step.hash_stays step.step)
 
     -- a party that has finished does nothing
     finished : (s : Stage K V F) → x.course.stage ≡ s → mode_of_stage s ≡ Finished → claim_of_stage s ≡ None → (c : Course K V F) → c.hash ≡ x.course.hash → mode_of_stage c.stage ≡ Finished → claim_of_stage c.stage ≡ None → FollowsStage x.call c.stage → IsWorld cmp hash gives (with_step w p x w.board w.tables c (label.Silent p))
-    finished s e over none c h mode claim follows = kept cmp hash gives total lawful w p x w.board w.tables c (label.Silent p) k at few h (record {
+    finished s e over none c h mode claim follows = kept cmp hash gives total lawful w p x w.board w.tables c (label.Silent p) k at h (record {
       line = Quiet;
       can = λ _. in_mode cmp total hash lawful gives w k p x at c s e ∙ over;
       is = is_quiet cmp hash gives w p x at c (mode ∙ sym (in_mode cmp total hash lawful gives w k p x at c s e ∙ over)) (claim ∙ sym (ap claim_of_stage e ∙ none));
@@ -137,14 +135,14 @@ module _ {K V F S : Type 0} (cmp : K → K → Ordering) (total : IsTotalOrder c
 
     -- the step of a call that is done
     closes : (r : Said K V) → x.course.stage ≡ AtDone r → IsWorld cmp hash gives (with_step w p x w.board w.tables (with_stage x.course AtTaken) (closing_label p r))
-    closes (Says r) e = kept cmp hash gives total lawful w p x w.board w.tables (with_stage x.course AtTaken) (label.Reply p r) k at few refl (record {
+    closes (Says r) e = kept cmp hash gives total lawful w p x w.board w.tables (with_stage x.course AtTaken) (label.Reply p r) k at refl (record {
       line = Replies r;
       can = (x.call, calls cmp total hash lawful gives w k p x at x.course, subst (FollowsStage x.call) e (k.callers p x at).stage, in_mode cmp total hash lawful gives w k p x at x.course (AtDone (Says r)) e, in_claim cmp total hash lawful gives w k p x at x.course (AtDone (Says r)) e);
       is = is_replied cmp hash gives w p x at (with_stage x.course AtTaken) r refl (sym (ap claim_of_stage e));
       follows = tt;
       frame = same_frame cmp hash gives w k;
     })
-    closes SaysEnded e = kept cmp hash gives total lawful w p x w.board w.tables (with_stage x.course AtTaken) (label.End p) k at few refl (record {
+    closes SaysEnded e = kept cmp hash gives total lawful w p x w.board w.tables (with_stage x.course AtTaken) (label.End p) k at refl (record {
       line = Ends;
       can = (x.call, calls cmp total hash lawful gives w k p x at x.course, no_key, in_mode cmp total hash lawful gives w k p x at x.course (AtDone SaysEnded) e, in_claim cmp total hash lawful gives w k p x at x.course (AtDone SaysEnded) e);
       is = is_ended cmp hash gives w p x at (with_stage x.course AtTaken) refl (sym (ap claim_of_stage e));

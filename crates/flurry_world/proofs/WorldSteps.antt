@@ -1,10 +1,12 @@
 -- The steps of a world, as its code does them.
-use Rattle.std.specs.Prelude.{ℕ, suc, ◌^◌, ◌≤◌, ◌<◌, ◌+◌, true, false, List, [], ◌∷◌, ◌++◌, length, reverse, slice_get, slice_index_or, slice_set, Option, Some, None, MatchOption, ◌≡◌}
+use Rattle.std.specs.Prelude.{ℕ, ℤ, pos, neg_ℤ, ◌≤ℤ◌, suc, ◌^◌, ◌≤◌, ◌<◌, ◌+◌, true, false, List, [], ◌∷◌, ◌++◌, length, reverse, slice_get, slice_index_or, slice_set, Option, Some, None, MatchOption, ◌≡◌}
 use Rattle.std.specs.declared.cmp.Ordering.{Ordering}
 use Rattle.std.specs.declared.cmp.Ordering.TheVariants.{Less, Equal, Greater}
 use Rattle.std.specs.Cmp.{IsTotalOrder}
 use Rattle.std.proofs.Common.{arith, refl, sym, ◌∙◌, ap, subst}
-use Rattle.std.proofs.lemmas.List.{length-reverse}
+use Rattle.std.proofs.lemmas.Int.{ints}
+use Rattle.std.proofs.lemmas.List.{length-append, length-reverse}
+use Rattle.flurry_theory.proofs.Counts.{count_within}
 use Rattle.std.proofs.lemmas.Option.{slice_get_past, slice_get-get_or}
 use Rattle.flurry_steps.specs.Control.{Board}
 use Rattle.flurry_steps.specs.Party.{Course, wanted_part}
@@ -16,7 +18,7 @@ use Rattle.flurry_theory.specs.declared.Label.{Label}
 use Rattle.flurry_theory.specs.declared.Label.TheVariants as label
 use Rattle.flurry_world.specs.Tables.{Tables}
 use Rattle.flurry_world.specs.Parts.{IsGoing, IsThere}
-use Rattle.flurry_world.specs.World.{Caller, Shown, state_of, steps_in, IsWorld}
+use Rattle.flurry_world.specs.World.{Caller, Shown, Near, state_of, steps_in, IsWorld, IsBounded}
 use Rattle.flurry_world.specs.Steps.{with_label, with_step, CourseStep, CallerStep, WorldStep}
 use Rattle.flurry_world.specs.Runs.{labelled, hash_for, begun_with}
 use Rattle.flurry_world.proofs.StateLaws.{same_some}
@@ -36,13 +38,20 @@ alike_class cmp hash alike j k h = by_order (cmp j k) refl
 pub lent_at : {X : Type 0} (xs : List X) (p : ℕ) (x y : X) → p < length xs → x ≡ slice_index_or xs p x → y ≡ x → slice_get xs p ≡ Some y
 lent_at xs p x y l is shows = slice_get-get_or xs p x l ∙ ap Some (sym is ∙ sym shows)
 
-module _ {K V F S : Type 0} (cmp : K → K → Ordering) (total : IsTotalOrder cmp) (hash : K → ℕ) (alike : (j k : K) → cmp j k ≡ Equal → hash j ≡ hash k) (gives : F → K → V → Option V → Type 0) (w : Shown K V F S) (k : IsWorld cmp hash gives w) where
+module _ {K V F S : Type 0} (cmp : K → K → Ordering) (total : IsTotalOrder cmp) (hash : K → ℕ) (alike : (j k : K) → cmp j k ≡ Equal → hash j ≡ hash k) (gives : F → K → V → Option V → Type 0) (w : Shown K V F S) (k : IsBounded cmp hash gives w) where
+  -- the count is at most as far from 0 as there are labels
+  pub near : Near (2 ^ 62) w.board.count
+  near =
+      let bounds = count_within cmp total hash (alike_class cmp hash alike) gives (state_of w) k.world.state.1.counted in
+      let long : length (state_of w).trace ≡ length w.trace = length-reverse w.trace in
+      record { most = omega (arith, ints, bounds.0, long, k.few); least = omega (arith, ints, bounds.1, long, k.few) }
+
   -- an unknown party's step
   pub unknown_step : (before : List (Label K V F)) → before ≡ w.trace → length before < 2 ^ 62 → (p : ℕ) → length w.callers ≤ p → (t : List (Label K V F)) → t ≡ before ++ label.Silent p ∷ []
-      → IsWorld cmp hash gives (record { hasher = w.hasher; processors = w.processors; first = w.first; board = w.board; tables = w.tables; callers = w.callers; trace = t })
+      → IsBounded cmp hash gives (record { hasher = w.hasher; processors = w.processors; first = w.first; board = w.board; tables = w.tables; callers = w.callers; trace = t })
       × WorldStep cmp gives w p (record { hasher = w.hasher; processors = w.processors; first = w.first; board = w.board; tables = w.tables; callers = w.callers; trace = t })
   unknown_step before is short p past t added = (
-    subst (λ u. IsWorld cmp hash gives (record { hasher = w.hasher; processors = w.processors; first = w.first; board = w.board; tables = w.tables; callers = w.callers; trace = u })) (sym e) (silent cmp total hash (alike_class cmp hash alike) gives w k few p unknown),
+    subst (λ u. IsBounded cmp hash gives (record { hasher = w.hasher; processors = w.processors; first = w.first; board = w.board; tables = w.tables; callers = w.callers; trace = u })) (sym e) (record { world = silent cmp total hash (alike_class cmp hash alike) gives w k.world near p unknown; few = omega (arith, length-append w.trace (label.Silent p ∷ []), few) }),
     subst (λ o. MatchOption o (shown ≡ with_label w (label.Silent p)) (λ x. CallerStep cmp gives w p x shown)) (sym unknown) (ap (λ u. record { hasher = w.hasher; processors = w.processors; first = w.first; board = w.board; tables = w.tables; callers = w.callers; trace = u }) e),
   )
     where
@@ -62,20 +71,20 @@ module _ {K V F S : Type 0} (cmp : K → K → Ordering) (total : IsTotalOrder c
   pub steps_within : (p : ℕ) (x : Caller K V F) → slice_get w.callers p ≡ Some x → x.steps ≤ 2 ^ 62
   steps_within p x at =
       let own : (state_of w).steps p ≡ x.steps = ap steps_in at in
-      let most : (state_of w).steps p ≤ length (reverse w.trace) = k.state.1.few_steps p in
+      let most : (state_of w).steps p ≤ length (reverse w.trace) = k.world.state.1.few_steps p in
       omega (arith, own, most, length-reverse w.trace, k.few)
 
   -- the part that a party wants is there
   pub part_there : (p : ℕ) (x : Caller K V F) → slice_get w.callers p ≡ Some x → IsGoing x.course.stage → IsThere w.tables (wanted_part x.course)
-  part_there p x at g = is_there cmp total hash (alike_class cmp hash alike) gives w k p x at g
+  part_there p x at g = is_there cmp total hash (alike_class cmp hash alike) gives w k.world p x at g
 
   -- a party's step
   pub party_step : (before : List (Label K V F)) → before ≡ w.trace → length before < 2 ^ 62 → (p : ℕ) (x : Caller K V F) → slice_get w.callers p ≡ Some x → (c : Course K V F) (b : Board) (t : Tables K V) (l : Label K V F) → CourseStep cmp gives p x.course.stage x.course w.board w.tables l c b t
       → (callers : List (Caller K V F)) → callers ≡ slice_set w.callers p (record { call = x.call; course = c; steps = x.steps + 1 }) → (trace : List (Label K V F)) → trace ≡ before ++ l ∷ []
-      → IsWorld cmp hash gives (record { hasher = w.hasher; processors = w.processors; first = w.first; board = b; tables = t; callers = callers; trace = trace })
+      → IsBounded cmp hash gives (record { hasher = w.hasher; processors = w.processors; first = w.first; board = b; tables = t; callers = callers; trace = trace })
       × WorldStep cmp gives w p (record { hasher = w.hasher; processors = w.processors; first = w.first; board = b; tables = t; callers = callers; trace = trace })
   party_step before is short p x at c b t l does callers d trace added = (
-    subst (IsWorld cmp hash gives) (sym after) (stepped cmp total hash (alike_class cmp hash alike) gives w k few p x at l c b t does),
+    subst (IsBounded cmp hash gives) (sym after) (record { world = stepped cmp total hash (alike_class cmp hash alike) gives w k.world near p x at l c b t does; few = omega (arith, length-append w.trace (l ∷ []), few) }),
     subst (λ o. MatchOption o (shown ≡ with_label w (label.Silent p)) (λ x. CallerStep cmp gives w p x shown)) (sym at) (record { step_label = l; course = c; board = b; tables = t; does = does; after = after }),
   )
     where
@@ -99,9 +108,9 @@ module _ {K V F S : Type 0} (cmp : K → K → Ordering) (total : IsTotalOrder c
   pub call_begins : (before : List (Label K V F)) → before ≡ w.trace → length before < 2 ^ 62 → (parties : List (Caller K V F)) → parties ≡ w.callers → (d : KeptCall K V F) (callers : List (Caller K V F))
       → callers ≡ parties ++ record { call = labelled d; course = record { hash = hash_for hash d; processors = w.processors; stage = kept_stage d }; steps = 0 } ∷ [] → (n : ℕ) → n ≡ length w.callers
       → (trace : List (Label K V F)) → trace ≡ before ++ label.Begin n (labelled d) ∷ []
-      → IsWorld cmp hash gives (record { hasher = w.hasher; processors = w.processors; first = w.first; board = w.board; tables = w.tables; callers = callers; trace = trace })
+      → IsBounded cmp hash gives (record { hasher = w.hasher; processors = w.processors; first = w.first; board = w.board; tables = w.tables; callers = callers; trace = trace })
       × (◌≡◌ {A = Shown K V F S} (record { hasher = w.hasher; processors = w.processors; first = w.first; board = w.board; tables = w.tables; callers = callers; trace = trace }) (begun_with hash w d))
-  call_begins before is short parties are d callers put n number trace added = (subst (IsWorld cmp hash gives) (sym after) (begins d), after)
+  call_begins before is short parties are d callers put n number trace added = (subst (IsBounded cmp hash gives) (sym after) (record { world = begins d; few = omega (arith, length-append w.trace (label.Begin (length w.callers) (labelled d) ∷ []), few) }), after)
     where
       few : length w.trace < 2 ^ 62
       few = subst (λ u. length u < 2 ^ 62) is short
@@ -112,12 +121,12 @@ module _ {K V F S : Type 0} (cmp : K → K → Ordering) (total : IsTotalOrder c
           (added ∙ ap (λ u. u ++ label.Begin n (labelled d) ∷ []) is ∙ ap (λ m. w.trace ++ label.Begin m (labelled d) ∷ []) number)
 
       begins : (e : KeptCall K V F) → IsWorld cmp hash gives (begun_with hash w e)
-      begins (kept.Get j) = began cmp total hash (alike_class cmp hash alike) gives w k few _ _ (λ i h. ap hash (same_some h)) refl refl refl
-      begins (kept.GetKeyValue j) = began cmp total hash (alike_class cmp hash alike) gives w k few _ _ (λ i h. ap hash (same_some h)) refl refl refl
-      begins (kept.ContainsKey j) = began cmp total hash (alike_class cmp hash alike) gives w k few _ _ (λ i h. ap hash (same_some h)) refl refl refl
-      begins (kept.Remove j) = began cmp total hash (alike_class cmp hash alike) gives w k few _ _ (λ i h. ap hash (same_some h)) refl refl refl
-      begins (kept.RemoveEntry j) = began cmp total hash (alike_class cmp hash alike) gives w k few _ _ (λ i h. ap hash (same_some h)) refl refl refl
-      begins (kept.Insert j v) = began cmp total hash (alike_class cmp hash alike) gives w k few _ _ (λ i h. ap hash (same_some h)) refl refl refl
-      begins (kept.TryInsert j v) = began cmp total hash (alike_class cmp hash alike) gives w k few _ _ (λ i h. ap hash (same_some h)) refl refl refl
-      begins (kept.Compute j f) = began cmp total hash (alike_class cmp hash alike) gives w k few _ _ (λ i h. ap hash (same_some h)) refl refl refl
-      begins (kept.Reserve m) = began cmp total hash (alike_class cmp hash alike) gives w k few _ _ (λ i h. cc) refl refl refl
+      begins (kept.Get j) = began cmp total hash (alike_class cmp hash alike) gives w k.world near _ _ (λ i h. ap hash (same_some h)) refl refl refl
+      begins (kept.GetKeyValue j) = began cmp total hash (alike_class cmp hash alike) gives w k.world near _ _ (λ i h. ap hash (same_some h)) refl refl refl
+      begins (kept.ContainsKey j) = began cmp total hash (alike_class cmp hash alike) gives w k.world near _ _ (λ i h. ap hash (same_some h)) refl refl refl
+      begins (kept.Remove j) = began cmp total hash (alike_class cmp hash alike) gives w k.world near _ _ (λ i h. ap hash (same_some h)) refl refl refl
+      begins (kept.RemoveEntry j) = began cmp total hash (alike_class cmp hash alike) gives w k.world near _ _ (λ i h. ap hash (same_some h)) refl refl refl
+      begins (kept.Insert j v) = began cmp total hash (alike_class cmp hash alike) gives w k.world near _ _ (λ i h. ap hash (same_some h)) refl refl refl
+      begins (kept.TryInsert j v) = began cmp total hash (alike_class cmp hash alike) gives w k.world near _ _ (λ i h. ap hash (same_some h)) refl refl refl
+      begins (kept.Compute j f) = began cmp total hash (alike_class cmp hash alike) gives w k.world near _ _ (λ i h. ap hash (same_some h)) refl refl refl
+      begins (kept.Reserve m) = began cmp total hash (alike_class cmp hash alike) gives w k.world near _ _ (λ i h. cc) refl refl refl

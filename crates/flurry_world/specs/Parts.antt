@@ -1,13 +1,23 @@
--- One step of a call in progress, at the part of a map that it wants: the control, and the tables.
-use Rattle.std.specs.Prelude.{◌≡◌, ℕ, ◌+◌, ◌^◌, List, slice_get, slice_set, Option, Some, IsSome, ⊤}
+-- The parts of a map, and one step of a call in progress at the part that it wants: the control, and the tables.
+use Rattle.std.specs.Prelude.{◌≡◌, ℕ, pos, ◌+◌, ◌^◌, ◌≤◌, List, slice_get, slice_set, Option, Some, None, IsSome, ⊤}
 use Rattle.std.specs.declared.cmp.Ordering.{Ordering}
-use Rattle.flurry_slots.specs.Slot.{Place, IsSlot}
-use Rattle.flurry_steps.specs.Control.{Board}
+use Rattle.flurry_slots.specs.Slot.{Place, IsSlot, IsUnborn}
+use Rattle.flurry_steps.specs.Control.{Board, IsIdle}
+use Rattle.flurry_steps.specs.Field.{Loan, ControlLoan, StartLoan, LookLoan, BinLoan, MoveLoan}
 use Rattle.flurry_steps.specs.Party.{Stage, AtLocate, AtBin, AtClaim, AtMove, AtUncount, AtCount, AtRecount, AtBegin, AtGrow, AtReserve, AtDone, AtTaken, Course, Part, ControlPart, LookPart, BinPart, MovePart, NoPart}
 use Rattle.flurry_steps.specs.PartyControl.{ControlStep}
 use Rattle.flurry_steps.specs.PartySlots.{SlotStep, MoveStep}
 use Rattle.flurry_steps.specs.declared.party.Event.{Event}
-use Rattle.flurry_world.specs.Tables.{Tables, place_at, put_place, PlaceGives}
+use Rattle.flurry_world.specs.Tables.{Tables, no_tables, place_at, content_at, put_place, PlaceGives}
+
+-- all parts of a map
+pub record Parts (K V : Type 0) : Type 0 where
+  pub board : Board
+  pub tables : Tables K V
+
+-- without a table
+abbrev pub no_parts : {K V : Type 0} → Parts K V
+no_parts = record { board = record { published = None; growth = IsIdle; count = pos 0 }; tables = no_tables }
 
 -- the call is not done
 abbrev pub IsGoing : {K V F : Type 0} → Stage K V F → Type 0
@@ -54,3 +64,45 @@ HalvesStep {K} {V} c q i j ps ev c' q' ps' =
     × (slice_get ps i ≡ Some low) × (slice_get ps j ≡ Some high)
     × MoveStep c q low high ev c' q' low' high'
     × (ps' ≡ slice_set (slice_set ps i low') j high')
+
+-- ---- loans of parts
+
+module _ {K V : Type 0} where
+  -- a call may begin at table d: its number is at most the published one, and its bins have come to be
+  pub record IsStart (s : Parts K V) (d : ℕ) : Type 0 where
+    pub newest : ℕ
+    pub published : s.board.published ≡ Some newest
+    pub within : d ≤ newest
+    pub born : content_at s.tables d 0 ≡ IsUnborn → ⊥
+
+  -- What is lent stands among the parts, whose tables are those of the room, and what the step leaves of it is put back in its place;
+  -- every other part stays. A table that is told in the control's place is one where a call may begin.
+  module _ {R : Type 0} (room : R → Tables K V) where
+    abbrev pub IsOwn : Parts K V → Loan K V R → Parts K V → Type 0
+    IsOwn s (ControlLoan b r b' r') s' = (s ≡ record { board = b; tables = room r }) × (s' ≡ record { board = b'; tables = room r' })
+    IsOwn s (StartLoan d) s' = IsStart s d × (s' ≡ s)
+    IsOwn s (LookLoan q) s' = (place_at s.tables q.table q.index ≡ Some q) × (s' ≡ s)
+    IsOwn s (BinLoan q q') s' =
+        (place_at s.tables q.table q.index ≡ Some q) × (s' ≡ record { board = s.board; tables = put_place s.tables q.table q.index q' })
+    IsOwn s (MoveLoan q low high q' low' high') s' =
+        (place_at s.tables q.table q.index ≡ Some q)
+        × (place_at s.tables (q.table + 1) q.index ≡ Some low) × (place_at s.tables (q.table + 1) (q.index + 2 ^ q.table) ≡ Some high)
+        × (s' ≡ record {
+          board = s.board;
+          tables = put_place (put_place (put_place s.tables q.table q.index q') (q.table + 1) q.index low') (q.table + 1) (q.index + 2 ^ q.table) high';
+        })
+
+  -- a part itself is lent, and no table told in its place
+  abbrev pub IsPart : {R : Type 0} → Loan K V R → Type 0
+  IsPart (ControlLoan b r b' r') = ⊤
+  IsPart (StartLoan d) = ⊥
+  IsPart (LookLoan q) = ⊤
+  IsPart (BinLoan q q') = ⊤
+  IsPart (MoveLoan q low high q' low' high') = ⊤
+
+  -- what one owner lends is a part of its own, and what it does not lend is not there
+  abbrev pub OwnLends : Parts K V → Loan K V (Tables K V) → Parts K V → Type 0
+  OwnLends s l s' = IsPart l × IsOwn (λ r. r) s l s'
+
+  abbrev pub OwnLacks : Parts K V → Part → Type 0
+  OwnLacks s p = IsThere s.tables p → ⊥

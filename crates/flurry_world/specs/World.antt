@@ -1,5 +1,5 @@
 -- What a world shows, and the state of the machine that it is.
-use Rattle.std.specs.Prelude.{◌≡◌, ℕ, suc, ◌≤◌, ◌^◌, false, List, [], ◌∷◌, length, reverse, slice_get, Option, Some, None, option_map, unwrap_or, IsSome, ⊤}
+use Rattle.std.specs.Prelude.{◌≡◌, ℕ, ℤ, pos, neg_ℤ, ◌≤ℤ◌, suc, ◌≤◌, ◌^◌, false, List, [], ◌∷◌, length, reverse, slice_get, Option, Some, None, option_map, unwrap_or, IsSome, ⊤}
 use Rattle.std.specs.declared.cmp.Ordering.{Ordering}
 use Rattle.flurry_bins.specs.declared.table.reply.KeptReply.{KeptReply}
 use Rattle.flurry_slots.specs.Slot.{Live, IsLive}
@@ -96,6 +96,11 @@ module _ {K V F : Type 0} where
   claim_of_stage s = None
 
 -- ---- the machine's state
+
+-- a count of pairs that is at most so far from 0
+pub record Near (n : ℕ) (count : ℤ) : Type 0 where
+  pub most : count ≤ℤ pos n
+  pub least : neg_ℤ (pos n) ≤ℤ count
 
 abbrev pub growth_of : control.Growth → Option machine.Growth
 growth_of IsIdle = None
@@ -194,4 +199,8 @@ module _ {K V F : Type 0} where
       pub tables : AreTables w.tables
       pub unmade : w.board.published ≡ None → (e : ℕ) → slots_of w.tables e ≡ []
       pub next : (e u r : ℕ) → w.board.published ≡ Some e → w.board.growth ≡ Grows u r → (slots_of w.tables (suc e) ≡ [] → ⊥)
+
+    -- and there are so few labels that no number which counts them, or pairs, is cut off
+    pub record IsBounded (w : Shown K V F S) : Type 0 where
+      pub world : IsWorld w
       pub few : length w.trace ≤ 2 ^ 62

@@ -7,8 +7,8 @@ shown_of w = record {
   hasher = w.hasher;
   processors = w.processors;
   first = w.first;
-  board = w.control;
-  tables = w.tables;
+  board = w.parts.board;
+  tables = w.parts.tables;
   callers = w.callers.items;
   trace = w.trace.items;
 }

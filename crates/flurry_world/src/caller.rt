@@ -44,8 +44,10 @@ pub(crate) fn labelled<K, V, F>(call: KeptCall<K, V, F>) -> Call<K, V, F>
     }
 }
 
-// The hash by which it goes: that of its key, and 0 of a reserve.
-pub(crate) fn hash_for<K: Ord, V, F, S: KeyHasher<K>>(hasher: &S, call: &KeptCall<K, V, F>) -> u64
+/// The hash by which a call goes: that of its key, and 0 of a call that has no key.
+///
+/// One hash of a key.
+pub fn hash_for<K: Ord, V, F, S: KeyHasher<K>>(hasher: &S, call: &KeptCall<K, V, F>) -> u64
     ensures { result ≡ hash_for (S.hash_of hasher.now) call.now }
 {
     match call {

@@ -6,12 +6,11 @@ ghost use Rattle.flurry_world.specs.Parts.{IsGoing, IsThere};
 ghost use Rattle.flurry_world.specs.Steps.{CourseStep, closing_label, label_of};
 ghost use Rattle.flurry_world.specs.World.{reply_in};
 
-use crate::parts::advance;
-use crate::tables::Tables;
+use crate::parts::Parts;
 use flurry_bins::table::KeptReply;
 use flurry_slots::Change;
-use flurry_steps::party::{Event, Reply, Want};
-use flurry_steps::{Control, Party};
+use flurry_steps::party::{Event, Reply};
+use flurry_steps::{Party, act};
 use flurry_theory::Label;
 use std::alloc::Allocator;
 
@@ -78,28 +77,19 @@ fn label_of<'k, K: Copy + Drop, V: Copy + Drop, F: Change<K, V>, A: Allocator>(
 }
 
 // One step of a party, and its label.
-pub(crate) fn step_of<
-    'k,
-    K: Ord + Copy + Drop,
-    V: Copy + Drop,
-    F: Change<K, V>,
-    A: Allocator + Copy,
->(
-    alloc: A,
+pub(crate) fn step_of<K: Ord + Copy + Drop, V: Copy + Drop, F: Change<K, V>, A: Allocator + Copy>(
     party: usize,
-    call: &mut Party<'k, K, V, F, A>,
-    control: &mut Control,
-    tables: &mut Tables<K, V, A>,
+    call: &mut Party<'_, K, V, F, A>,
+    parts: &mut Parts<K, V, A>,
 ) -> Label<K, V, F>
-    requires { IsGoing call.old.stage → IsThere tables.old (wanted_part call.old) }
-    ensures { CourseStep K.cmp F.changes party call.old.stage call.old control.old tables.old result call.new control.new tables.new }
+    requires { IsGoing call.old.stage → IsThere parts.old.tables (wanted_part call.old) }
+    ensures { CourseStep K.cmp F.changes party call.old.stage call.old parts.old.board parts.old.tables result call.new parts.new.board parts.new.tables }
 {
-    if let Want::Done = call.want() {
-        return match call.take_reply() {
+    match act(call, parts) {
+        Some(event) => label_of(party, event, call),
+        None => match call.take_reply() {
             Some(reply) => closing(party, &reply),
             None => Label::Silent(party),
-        };
+        },
     }
-    let event = advance(alloc, call, control, tables);
-    label_of(party, event, call)
 }

@@ -3,10 +3,12 @@
 
 mod caller;
 mod labels;
-mod parts;
-mod tables;
+pub mod parts;
+pub mod tables;
 #[cfg(test)]
 mod tests;
 pub mod world;
 
+pub use caller::hash_for;
+pub use parts::Parts;
 pub use world::World;

@@ -1,30 +1,128 @@
-//! One step of a call in progress, at the part of a map that it wants.
-ghost use Rattle.flurry_steps.specs.Party.{wanted_part};
-ghost use Rattle.flurry_world.specs.Parts.{IsThere, PartStep};
-ghost use Rattle.flurry_world.specs.Tables.{AreTables};
+//! The parts of a map that one owner has: its control and its tables.
+ghost use Rattle.std.specs.Prelude.{◌≡◌, ◌≤◌, IfOk};
+ghost use Rattle.flurry_steps.specs.Control.{OpenGives};
+ghost use Rattle.flurry_world.specs.Parts.{no_parts};
+ghost use Rattle.flurry_world.specs.Tables.{AreTables, PlaceGives};
 
 use crate::tables::Tables;
 use flurry_slots::Change;
-use flurry_steps::party::{Event, Want};
-use flurry_steps::{Control, Party};
-use std::alloc::Allocator;
+use flurry_steps::party::Event;
+use flurry_steps::{Control, Field, Party};
+use std::alloc::{AllocError, Allocator, Global};
+use std::marker::Model;
 
-// The next step of a call that is not done.
-pub(crate) fn advance<'k, K: Ord + Drop, V: Drop, F: Change<K, V>, A: Allocator + Copy>(
+/// The control and the tables of a map, of one owner, who lends each of them to the steps of calls.
+#[derive(Drop)]
+pub struct Parts<K: Ord, V, A: Allocator = Global> {
     alloc: A,
-    party: &mut Party<'k, K, V, F, A>,
-    control: &mut Control,
-    tables: &mut Tables<K, V, A>,
-) -> Event
-    requires { IsThere tables.old (wanted_part party.old) }
-    ensures step { PartStep K.cmp F.changes (wanted_part party.old) party.old control.old tables.old result party.new control.new tables.new }
-    ensures within { AreTables tables.new }
-{
-    match party.want() {
-        Want::Control => tables.on_control(party, control),
-        Want::Look(table, index) => tables.on_look(party, table, index),
-        Want::Bin(table, index) => tables.on_bin(alloc, party, table, index),
-        Want::Move(table, index) => tables.on_move(party, table, index),
-        Want::Done => unreachable!(),
+    control: Control,
+    tables: Tables<K, V, A>,
+}
+
+impl<K: Ord, V, A: Allocator> Model for Parts<K, V, A> {
+    ghost use Rattle.flurry_world.specs.Parts.{Parts};
+
+    ghost Value = { Parts K V };
+
+    ghost view = { λ p. record { board = p.control; tables = p.tables } };
+}
+
+impl<K: Ord + Drop, V: Drop, A: Allocator + Copy> Parts<K, V, A> {
+    /// A map without a table.
+    ///
+    /// # Errors
+    ///
+    /// [`AllocError`], where memory for the places of tables is wanting.
+    pub fn new(alloc: A) -> Result<Self, AllocError>
+        ensures { IfOk result (λ s. s ≡ no_parts) }
+    {
+        Ok(Parts {
+            alloc,
+            control: Control::new(),
+            tables: Tables::new(alloc)?,
+        })
+    }
+
+    /// The number of the published table. Where there is none, this table is made, with live and empty bins, and published.
+    ///
+    /// Constant time, but for the making of a table.
+    ///
+    /// # Errors
+    ///
+    /// [`AllocError`], where memory for the table is wanting. The parts are then as before.
+    pub fn open(&mut self, table: u8) -> Result<u8, AllocError>
+        requires { table ≤ 30 }
+        ensures gives { OpenGives PlaceGives table self.old.board self.old.tables result self.new.board self.new.tables }
+        ensures within { IfOk result (λ e. e ≤ 30) }
+    {
+        self.control.open(table, &mut self.tables)
+    }
+
+    /// The control.
+    ///
+    /// Constant time.
+    pub fn control(&self) -> &Control
+        ensures { result.now ≡ self.now.board }
+    {
+        &self.control
+    }
+
+    /// The tables.
+    ///
+    /// Constant time.
+    pub fn tables(&self) -> &Tables<K, V, A>
+        ensures { result.now ≡ self.now.tables }
+    {
+        &self.tables
+    }
+}
+
+impl<K: Ord + Drop, V: Drop, A: Allocator + Copy> Field<K, V, A> for Parts<K, V, A> {
+    ghost use Rattle.flurry_world.specs.Parts.{OwnLends, OwnLacks};
+
+    type Room = Tables<K, V, A>;
+
+    ghost lends = { OwnLends };
+
+    ghost lacks = { OwnLacks };
+
+    fn at_control<F: Change<K, V>>(&mut self, party: &mut Party<'_, K, V, F, A>) -> Option<Event> {
+        Some(party.on_control(&mut self.control, &mut self.tables))
+    }
+
+    fn at_look<F: Change<K, V>>(
+        &mut self,
+        table: u8,
+        index: usize,
+        party: &mut Party<'_, K, V, F, A>,
+    ) -> Option<Event> {
+        if !self.tables.has(table, index) {
+            return None;
+        }
+        Some(party.on_look(self.tables.slot(table, index)))
+    }
+
+    fn at_bin<F: Change<K, V>>(
+        &mut self,
+        table: u8,
+        index: usize,
+        party: &mut Party<'_, K, V, F, A>,
+    ) -> Option<Event> {
+        if !self.tables.has(table, index) {
+            return None;
+        }
+        Some(self.tables.lend_bin(self.alloc, table, index, party))
+    }
+
+    fn at_move<F: Change<K, V>>(
+        &mut self,
+        table: u8,
+        index: usize,
+        party: &mut Party<'_, K, V, F, A>,
+    ) -> Option<Event> {
+        if !self.tables.has_halves(table, index) {
+            return None;
+        }
+        Some(self.tables.lend_halves(table, index, party))
     }
 }

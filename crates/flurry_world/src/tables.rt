@@ -1,23 +1,23 @@
 //! The tables of a map, each at the place of its number.
-ghost use Rattle.std.specs.Prelude.{◌≡◌, ◌+◌, ◌<◌, ◌≤◌, ◌^◌, length, Some, IsSome, IfOk};
+ghost use Rattle.std.specs.Prelude.{◌≡◌, ◌+◌, ◌<◌, ◌≤◌, ◌^◌, ◌↔◌, length, Some, IsSome, IsTrue, IfOk, is_some};
 ghost use Rattle.flurry_slots.specs.Slot.{IsSlot};
 ghost use Rattle.flurry_steps.specs.Control.{Board};
-ghost use Rattle.flurry_steps.specs.Party.{wanted_part, ControlPart, LookPart, BinPart, MovePart};
+ghost use Rattle.flurry_steps.specs.Party.{wanted_part, BinPart, MovePart};
 ghost use Rattle.flurry_world.specs.Parts.{HalvesStep, IsThere, PartStep};
 ghost use Rattle.flurry_world.specs.Tables.{AreTables, PlaceGives, fresh, new_slots, no_tables, place_at};
 
 use flurry_bins::bin::Bin;
 use flurry_slots::{Change, Slot};
-use flurry_steps::control::Room;
+use flurry_steps::Party;
+use flurry_steps::control::{GREATEST_TABLE, Room};
 use flurry_steps::party::Event;
-use flurry_steps::{Control, Party};
 use std::alloc::{AllocError, Allocator};
 use std::marker::Model;
 use std::mem;
 
 /// The tables of a map, by their numbers: the table of number e has `2^e` slots, and a table that was not made has none.
 #[derive(Drop)]
-pub(crate) struct Tables<K: Ord, V, A: Allocator> {
+pub struct Tables<K: Ord, V, A: Allocator> {
     tables: Vec<Vec<Slot<K, V, A>, A>, A>,
 }
 
@@ -39,7 +39,7 @@ impl<K: Ord + Drop, V: Drop, A: Allocator + Copy> Tables<K, V, A> {
     /// # Errors
     ///
     /// [`AllocError`], where memory for the places is wanting.
-    pub(crate) fn new(alloc: A) -> Result<Self, AllocError>
+    pub fn new(alloc: A) -> Result<Self, AllocError>
         ensures { IfOk result (λ t. t ≡ no_tables) }
     {
         let mut tables = Vec::with_capacity(alloc, 31)?;
@@ -64,8 +64,10 @@ impl<K: Ord + Drop, V: Drop, A: Allocator + Copy> Room for Tables<K, V, A> {
 }
 
 impl<K: Ord + Drop, V: Drop, A: Allocator> Tables<K, V, A> {
-    // The slot of that table and index.
-    pub(crate) fn slot(&self, table: u8, index: usize) -> &Slot<K, V, A>
+    /// The slot of that table and index.
+    ///
+    /// Constant time.
+    pub fn slot(&self, table: u8, index: usize) -> &Slot<K, V, A>
         requires { IsSome (place_at self.now table index) }
         ensures slot { place_at self.now table index ≡ Some result.now }
         ensures table { result.now.table ≡ table }
@@ -74,48 +76,45 @@ impl<K: Ord + Drop, V: Drop, A: Allocator> Tables<K, V, A> {
         &self.tables[table as usize][index]
     }
 
-    // The step of a look-up at the slot there.
-    pub(crate) fn on_look<'k, F: Change<K, V>>(
-        &self,
-        party: &mut Party<'k, K, V, F, A>,
-        table: u8,
-        index: usize,
-    ) -> Event
-        requires wants { wanted_part party.old ≡ LookPart table index }
-        requires there { IsThere self.now (LookPart table index) }
-        ensures step { (b : Board) → PartStep K.cmp F.changes (LookPart table index) party.old b self.now result party.new b self.now }
+    /// Whether there is a slot of that table and index.
+    ///
+    /// Constant time.
+    pub fn has(&self, table: u8, index: usize) -> bool
+        ensures there { result ≡ is_some (place_at self.now table index) }
         ensures within { AreTables self.now }
     {
-        // The proof learns here what the type keeps.
-        let _ = &self.tables;
-        party.on_look(self.slot(table, index))
+        match self.tables.get(table as usize) {
+            Some(slots) => index < slots.len(),
+            None => false,
+        }
+    }
+
+    /// Whether there is a slot of that table and index, and its two halves in the next table.
+    ///
+    /// Constant time.
+    pub fn has_halves(&self, table: u8, index: usize) -> bool
+        ensures there { IsTrue result ↔ (IsThere self.now (MovePart table index)) }
+        ensures within { AreTables self.now }
+    {
+        if !self.has(table, index) {
+            return false;
+        }
+        if table >= GREATEST_TABLE {
+            return false;
+        }
+        let high = index + (1usize << table);
+        self.has(table + 1, index) && self.has(table + 1, high)
     }
 }
 
 impl<K: Ord + Drop, V: Drop, A: Allocator + Copy> Tables<K, V, A> {
-    // The step of a call at the control, where a table may be made.
-    pub(crate) fn on_control<'k, F: Change<K, V>>(
-        &mut self,
-        party: &mut Party<'k, K, V, F, A>,
-        control: &mut Control,
-    ) -> Event
-        requires { wanted_part party.old ≡ ControlPart }
-        ensures step { PartStep K.cmp F.changes ControlPart party.old control.old self.old result party.new control.new self.new }
-        ensures within { AreTables self.new }
-    {
-        let event = party.on_control(control, self);
-        // The proof learns here what the type keeps.
-        let _ = &self.tables;
-        event
-    }
-
-    // The step of a call that may change the bin there.
-    pub(crate) fn on_bin<'k, F: Change<K, V>>(
+    // Lends the slot there to the step of a call that may change its bin.
+    pub(crate) fn lend_bin<F: Change<K, V>>(
         &mut self,
         alloc: A,
-        party: &mut Party<'k, K, V, F, A>,
         table: u8,
         index: usize,
+        party: &mut Party<'_, K, V, F, A>,
     ) -> Event
         requires wants { wanted_part party.old ≡ BinPart table index }
         requires there { IsThere self.old (BinPart table index) }
@@ -128,12 +127,12 @@ impl<K: Ord + Drop, V: Drop, A: Allocator + Copy> Tables<K, V, A> {
 }
 
 impl<K: Ord + Drop, V: Drop, A: Allocator> Tables<K, V, A> {
-    // The step of a helper at the slot there and its two halves in the next table.
-    pub(crate) fn on_move<'k, F: Change<K, V>>(
+    // Lends the slot there and its two halves in the next table to the step of a helper.
+    pub(crate) fn lend_halves<F: Change<K, V>>(
         &mut self,
-        party: &mut Party<'k, K, V, F, A>,
         table: u8,
         index: usize,
+        party: &mut Party<'_, K, V, F, A>,
     ) -> Event
         requires wants { wanted_part party.old ≡ MovePart table index }
         requires there { IsThere self.old (MovePart table index) }

@@ -6,16 +6,16 @@ ghost use Rattle.flurry_steps.specs.PartyView.{KeptIsReady};
 ghost use Rattle.flurry_world.specs.Lawful.{IsLawful};
 ghost use Rattle.flurry_world.specs.Runs.{DoesStep, NewGives, Runs, RunsFront, begun_with};
 ghost use Rattle.flurry_world.specs.Steps.{WorldStep, fresh_world};
-ghost use Rattle.flurry_world.specs.World.{IsWorld};
+ghost use Rattle.flurry_world.specs.World.{IsWorld, IsBounded};
 
 use crate::caller::{Caller, hash_for, labelled};
 use crate::labels::step_of;
-use crate::tables::Tables;
+use crate::parts::Parts;
 use flurry_bins::hash::KeyHasher;
 use flurry_slots::Change;
+use flurry_steps::Party;
 use flurry_steps::control::wanted_table;
 use flurry_steps::party::KeptCall;
-use flurry_steps::{Control, Party};
 use flurry_theory::Label;
 use std::alloc::{AllocError, Allocator, Global};
 use std::marker::Model;
@@ -47,26 +47,24 @@ pub struct World<
     S: KeyHasher<K>,
     A: Allocator + Copy = Global,
 > {
-    alloc: A,
     hasher: S,
     processors: usize,
     first: Option<u8>,
-    control: Control,
-    tables: Tables<K, V, A>,
+    parts: Parts<K, V, A>,
     callers: Vec<Caller<'k, K, V, F, A>, A>,
     trace: Vec<Label<K, V, F>, A>,
 }
 
 impl<'k, K: Ord + Copy, V: Copy, F: Change<K, V> + Copy, S: KeyHasher<K>, A: Allocator + Copy> Model
     for World<'k, K, V, F, S, A> {
-    ghost use Rattle.flurry_world.specs.World.{Shown, IsWorld};
+    ghost use Rattle.flurry_world.specs.World.{Shown, IsBounded};
     ghost use Rattle.flurry_world.specs.WorldView.{shown_of};
 
     ghost Value = { Shown K V F S };
 
     ghost view = { shown_of };
 
-    ghost invariant = { λ w. IsWorld K.cmp (S.hash_of w.hasher) F.changes (shown_of w) };
+    ghost invariant = { λ w. IsBounded K.cmp (S.hash_of w.hasher) F.changes (shown_of w) };
 }
 
 impl<
@@ -88,13 +86,12 @@ impl<
     pub fn new(alloc: A, capacity: usize, hasher: S, processors: usize) -> Result<Self, AllocError>
         ensures { IfOk result (NewGives capacity hasher processors) }
     {
-        let mut control = Control::new();
-        let mut tables = Tables::new(alloc)?;
+        let mut parts = Parts::new(alloc)?;
         if capacity == 0 {
-            return Ok(World::of(alloc, hasher, processors, None, control, tables));
+            return Ok(World::of(alloc, hasher, processors, None, parts));
         }
-        let first = control.open(wanted_table(capacity), &mut tables)?;
-        Ok(World::of(alloc, hasher, processors, Some(first), control, tables))
+        let first = parts.open(wanted_table(capacity))?;
+        Ok(World::of(alloc, hasher, processors, Some(first), parts))
     }
 
     // A world where no call has begun, that begins with this table.
@@ -103,20 +100,17 @@ impl<
         hasher: S,
         processors: usize,
         first: Option<u8>,
-        control: Control,
-        tables: Tables<K, V, A>,
+        parts: Parts<K, V, A>,
     ) -> Self
-        requires board { control ≡ record { published = first; growth = IsIdle; count = pos 0 } }
-        requires world { IsWorld K.cmp (S.hash_of hasher) F.changes (fresh_world {K = K} {V = V} {F = F} hasher processors first tables) }
-        ensures { result ≡ fresh_world hasher processors first tables }
+        requires board { parts.board ≡ record { published = first; growth = IsIdle; count = pos 0 } }
+        requires world { IsBounded K.cmp (S.hash_of hasher) F.changes (fresh_world {K = K} {V = V} {F = F} hasher processors first parts.tables) }
+        ensures { result ≡ fresh_world hasher processors first parts.tables }
     {
         World {
-            alloc,
             hasher,
             processors,
             first,
-            control,
-            tables,
+            parts,
             callers: Vec::new(alloc),
             trace: Vec::new(alloc),
         }
@@ -170,8 +164,7 @@ impl<
         }
         let caller = &mut self.callers[party];
         caller.steps += 1;
-        let call = &mut caller.party;
-        let label = step_of(self.alloc, party, call, &mut self.control, &mut self.tables);
+        let label = step_of(party, &mut caller.party, &mut self.parts);
         self.trace.push_reserved(label);
         Ok(())
     }

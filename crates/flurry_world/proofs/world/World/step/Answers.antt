@@ -25,7 +25,7 @@ invariant_of-self-2 g c =
     (party_step g.K.Ord.cmp g.met.K.Ord.total (g.S.KeyHasher.hash_of c.self.inside.hasher) (g.met.S.KeyHasher.alike c.self.inside.hasher) g.F.Change.changes (shown_of c.self.inside) c.self.invariant
     c.make_room.new.list.items c.in_ok-make_room.ensures.same c.in_ok-make_room.ensures.few c.args.party _
     (lent_at c.self.inside.callers.items c.args.party c.index_mut-caller.result.now _ (grind (arith, common_steps, c.if-party-len.false, c.len.ensures)) c.index_mut-caller.ensures.value c.caller.view_is)
-    c.step_of-label.new.call c.step_of-label.new.control c.step_of-label.new.tables c.step_of-label.result c.step_of-label.ensures _ refl c.push_reserved-2.new.self.items c.push_reserved-2.ensures.items).0
+    c.step_of-label.new.call c.step_of-label.new.parts.board c.step_of-label.new.parts.tables c.step_of-label.result c.step_of-label.ensures _ refl c.push_reserved-2.new.self.items c.push_reserved-2.ensures.items).0
 
 pub returns-clause-ok : goal.returns-clause-ok
 returns-clause-ok g c =
@@ -33,4 +33,4 @@ returns-clause-ok g c =
     (party_step g.K.Ord.cmp g.met.K.Ord.total (g.S.KeyHasher.hash_of c.self.inside.hasher) (g.met.S.KeyHasher.alike c.self.inside.hasher) g.F.Change.changes (shown_of c.self.inside) c.self.invariant
     c.make_room.new.list.items c.in_ok-make_room.ensures.same c.in_ok-make_room.ensures.few c.args.party _
     (lent_at c.self.inside.callers.items c.args.party c.index_mut-caller.result.now _ (grind (arith, common_steps, c.if-party-len.false, c.len.ensures)) c.index_mut-caller.ensures.value c.caller.view_is)
-    c.step_of-label.new.call c.step_of-label.new.control c.step_of-label.new.tables c.step_of-label.result c.step_of-label.ensures _ refl c.push_reserved-2.new.self.items c.push_reserved-2.ensures.items).1
+    c.step_of-label.new.call c.step_of-label.new.parts.board c.step_of-label.new.parts.tables c.step_of-label.result c.step_of-label.ensures _ refl c.push_reserved-2.new.self.items c.push_reserved-2.ensures.items).1

@@ -1,6 +1,6 @@
 use Rattle.std.proofs.Common.{refl, arith}
 use Rattle.flurry_world.proofs.ViewLemmas.{table_within, slot_within, place_here, put_here, kept_here}
-use Rattle.flurry_world.proofs.tables.Tables.on_bin.Goals as goal
+use Rattle.flurry_world.proofs.tables.Tables.lend_bin.Goals as goal
 
 pub index_mut-requires : goal.index_mut-requires
 index_mut-requires g c =

@@ -4,7 +4,7 @@ use Rattle.flurry_world.specs.Tables.{AreTables}
 use Rattle.flurry_world.proofs.TableLaws.{index_within}
 use Rattle.flurry_world.proofs.ViewLemmas.{seen, number_places}
 use Rattle.flurry_world.proofs.MoveLemmas.{old_at, new_at, as_many, moved, take_front}
-use Rattle.flurry_world.proofs.tables.Tables.on_move.Goals as goal
+use Rattle.flurry_world.proofs.tables.Tables.lend_halves.Goals as goal
 
 pub move_between-requires-clause-wants : goal.move_between-requires-clause-wants
 move_between-requires-clause-wants g c =

@@ -1,0 +1,85 @@
+//! Calls, driven to their end.
+ghost use Rattle.std.specs.Prelude.{◌≡◌, ◌<◌, ◌^◌, ℕ, []};
+ghost use Rattle.std.specs.declared.cmp.Ordering.TheVariants.{Equal};
+ghost use Rattle.flurry_drive.specs.Exact.{Holds, DrivesTo, IsExact};
+ghost use Rattle.flurry_drive.specs.Tells.{Tells};
+ghost use Rattle.flurry_drive.specs.Turns.{TurnsTo};
+ghost use Rattle.flurry_steps.specs.Field.{Turn};
+ghost use Rattle.flurry_steps.specs.Party.{AtTaken};
+ghost use Rattle.flurry_steps.specs.PartyView.{said_of, KeptIsReady};
+ghost use Rattle.flurry_theory.specs.Map.{Pairs};
+ghost use Rattle.flurry_world.specs.Parts.{OwnLends, OwnLacks, no_parts};
+ghost use Rattle.flurry_world.specs.Tables.{PlaceGives};
+
+use flurry_bins::hash::KeyHasher;
+use flurry_slots::Change;
+use flurry_steps::party::{KeptCall, Reply};
+use flurry_steps::{Field, Party, act};
+use flurry_world::{Parts, hash_for};
+use std::alloc::Allocator;
+use std::sync::Wait;
+
+/// Does the steps of a call until it is done, and answers its reply, which is then taken. A step whose part the field does not lend is
+/// tried again, so a call whose part never comes does not end.
+///
+/// As many steps as the call needs, and whatever the field takes to lend its parts.
+pub fn drive<
+    K: Ord + Drop,
+    V: Drop,
+    A: Allocator + Copy,
+    F: Change<K, V>,
+    X: Field<K, V, A>,
+    R: Wait,
+>(rt: &R, party: &mut Party<'_, K, V, F, A>, field: &mut X) -> Reply<K, V, A>
+    requires { party.old.stage ≡ AtTaken → ⊥ }
+    ensures turns { TurnsTo (Turn X.Room.place_gives K.cmp F.changes X.lends) field.old party.old (said_of result) field.new party.new }
+    ensures exact { IsExact X.Room.place_gives K.cmp F.changes X.lends X.lacks field.old party.old (said_of result) field.new }
+{
+    for _ in rt.forever() {
+        if act(party, field).is_some() {
+            continue;
+        }
+        if let Some(reply) = party.take_reply() {
+            return reply;
+        }
+    }
+    unreachable!()
+}
+
+/// Does all steps of a call over parts that nobody else changes, and answers its reply: that of the finite map which the parts hold, and
+/// they hold the map after the call then; or the call is refused for memory, and they hold the same map.
+///
+/// As many steps as the call needs.
+pub fn drive_alone<
+    K: Ord + Drop,
+    V: Drop,
+    A: Allocator + Copy,
+    F: Change<K, V>,
+    S: KeyHasher<K>,
+    R: Wait,
+>(
+    rt: &R,
+    call: KeptCall<K, V, F>,
+    hasher: &S,
+    processors: usize,
+    parts: &mut Parts<K, V, A>,
+) -> Reply<K, V, A>
+    requires { KeptIsReady F.can_change call }
+    ensures { (n : ℕ) (m : Pairs K V) → n < 2 ^ 62 → Holds K.cmp (S.hash_of hasher.now) F.changes n parts.old m → DrivesTo K.cmp (S.hash_of hasher.now) F.changes call n parts.old m (said_of result) parts.new }
+{
+    let hash = hash_for(hasher, &call);
+    let mut party = Party::kept(call, hash, processors);
+    let reply = drive(rt, &mut party, parts);
+    drop(party);
+    reply
+}
+
+/// The parts of one owner are a field that tells its parts. This does nothing: its contract is a law.
+pub fn own_parts_tell<K: Ord, V>()
+    ensures { Tells {K = K} {V = V} (λ s. s) (λ r. r) PlaceGives OwnLends OwnLacks }
+{}
+
+/// Parts without a table hold no pair. This does nothing: its contract is a law.
+pub fn no_parts_hold_nothing<K: Ord, V, F: Change<K, V>>()
+    ensures { (hash : K → ℕ) → ((j k : K) → K.cmp j k ≡ Equal → hash j ≡ hash k) → Holds {V = V} K.cmp hash F.changes 0 no_parts [] }
+{}

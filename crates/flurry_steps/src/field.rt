@@ -1,0 +1,78 @@
+//! Where a call finds the parts of a map that its steps need.
+ghost use Rattle.std.specs.Prelude.{◌≡◌, MatchOption};
+ghost use Rattle.flurry_steps.specs.Party.{Part, ControlPart, LookPart, BinPart, MovePart, wanted_part};
+ghost use Rattle.flurry_steps.specs.Field.{Loan, Turn, Stays, StaysOrDone};
+
+use crate::control::Room;
+use crate::party::{Event, Party, Want};
+use flurry_slots::Change;
+use std::alloc::Allocator;
+
+/// Lends the part of a map that a call wants to exactly one step of that call, and answers what the step was. A part that is not there,
+/// or a slot that stands elsewhere, is not lent; the answer is then none, and the call and the field are as they were.
+pub trait Field<K: Ord + Drop, V: Drop, A: Allocator + Copy> {
+    /// Where the control makes tables.
+    type Room: Room;
+
+    /// What is known of a loan: the field before, what was lent as it stood before and after the step, and the field after.
+    ghost lends: { Self → Loan K V Self.Room → Self → Type 0 };
+
+    /// What is known where a part was not lent.
+    ghost lacks: { Self → Part → Type 0 };
+
+    /// Lends the control with the room where it makes tables. To a call that only asks for the published table it may lend a table
+    /// that was published in its place.
+    fn at_control<F: Change<K, V>>(&mut self, party: &mut Party<'_, K, V, F, A>) -> Option<Event>
+        requires { wanted_part party.old ≡ ControlPart }
+        ensures { MatchOption result (Stays lacks self.old party.old self.new party.new) (λ ev. Turn Self.Room.place_gives K.cmp F.changes lends self.old party.old ev self.new party.new) };
+
+    /// Lends the slot of that table and index, to read it.
+    fn at_look<F: Change<K, V>>(
+        &mut self,
+        table: u8,
+        index: usize,
+        party: &mut Party<'_, K, V, F, A>,
+    ) -> Option<Event>
+        requires { wanted_part party.old ≡ LookPart table index }
+        ensures { MatchOption result (Stays lacks self.old party.old self.new party.new) (λ ev. Turn Self.Room.place_gives K.cmp F.changes lends self.old party.old ev self.new party.new) };
+
+    /// Lends the slot of that table and index, to write it.
+    fn at_bin<F: Change<K, V>>(
+        &mut self,
+        table: u8,
+        index: usize,
+        party: &mut Party<'_, K, V, F, A>,
+    ) -> Option<Event>
+        requires { wanted_part party.old ≡ BinPart table index }
+        ensures { MatchOption result (Stays lacks self.old party.old self.new party.new) (λ ev. Turn Self.Room.place_gives K.cmp F.changes lends self.old party.old ev self.new party.new) };
+
+    /// Lends the slot of that table and index, and its two halves in the next table, to move its bin into these.
+    fn at_move<F: Change<K, V>>(
+        &mut self,
+        table: u8,
+        index: usize,
+        party: &mut Party<'_, K, V, F, A>,
+    ) -> Option<Event>
+        requires { wanted_part party.old ≡ MovePart table index }
+        ensures { MatchOption result (Stays lacks self.old party.old self.new party.new) (λ ev. Turn Self.Room.place_gives K.cmp F.changes lends self.old party.old ev self.new party.new) };
+}
+
+/// Does the next step of a call over a field, and answers what it was. Where the call is done, or the field did not lend the part, the
+/// answer is none, and both are as they were.
+///
+/// As many steps as the call's step takes, and whatever the field takes to lend the part.
+#[inline]
+pub fn act<K: Ord + Drop, V: Drop, A: Allocator + Copy, F: Change<K, V>, X: Field<K, V, A>>(
+    party: &mut Party<'_, K, V, F, A>,
+    field: &mut X,
+) -> Option<Event>
+    ensures { MatchOption result (StaysOrDone X.lacks field.old party.old field.new party.new) (λ ev. Turn X.Room.place_gives K.cmp F.changes X.lends field.old party.old ev field.new party.new) }
+{
+    match party.want() {
+        Want::Control => field.at_control(party),
+        Want::Look(table, index) => field.at_look(table, index, party),
+        Want::Bin(table, index) => field.at_bin(table, index, party),
+        Want::Move(table, index) => field.at_move(table, index, party),
+        Want::Done => None,
+    }
+}

@@ -1,0 +1,113 @@
+-- A step at the parts of one owner, as a turn over them.
+use Rattle.std.specs.Prelude.{◌≡◌, ◌⊎◌, ℕ, ◌+◌, ◌^◌, ◌≤◌, ◌<◌, Bool, true, Option, Some, None, IsSome, is_some}
+use Rattle.std.specs.declared.cmp.Ordering.{Ordering}
+use Rattle.std.proofs.Common.{arith, inl, inr, refl, sym, ◌∙◌, ap, subst}
+use Rattle.flurry_slots.specs.Slot.{Place}
+use Rattle.flurry_steps.specs.Control.{Board}
+use Rattle.flurry_steps.specs.Party.{Stage, AtLocate, AtBin, AtClaim, AtMove, AtUncount, AtCount, AtRecount, AtBegin, AtGrow, AtReserve, AtDone, AtTaken, Course, Part, ControlPart, LookPart, BinPart, MovePart, NoPart, part_of, wanted_part}
+use Rattle.flurry_steps.specs.PartyControl.{ControlStep}
+use Rattle.flurry_steps.specs.Field.{Loan, ControlLoan, StartLoan, LookLoan, BinLoan, MoveLoan, StepWith, Turn}
+use Rattle.flurry_steps.specs.declared.party.Event.{Event}
+use Rattle.flurry_steps.proofs.Rooms.{control_in}
+use Rattle.flurry_world.specs.Tables.{Tables, AreTables, place_at, put_place, PlaceGives}
+use Rattle.flurry_world.specs.Parts.{Parts, IsOwn, IsPart, OwnLends, PartStep, IsThere}
+use Rattle.flurry_world.specs.Steps.{label_of, GoesOn, CourseStep}
+use Rattle.flurry_world.proofs.TableLaws.{place_in, index_within}
+
+module _ {K V F : Type 0} (cmp : K → K → Ordering) (changes : F → K → V → Option V → Type 0) (c : Course K V F) (b : Board) (t : Tables K V) (are : AreTables t) (ev : Event) (c' : Course K V F) (b' : Board) (t' : Tables K V) where
+  abbrev pub PartTurn : Type 0
+  PartTurn = Turn PlaceGives cmp changes OwnLends (record { board = b; tables = t }) c ev (record { board = b'; tables = t' }) c'
+
+  pub turn_of : (a : Part) → wanted_part c ≡ a → PartStep cmp changes a c b t ev c' b' t' → PartTurn
+  turn_of ControlPart want h = record { loan = ControlLoan b t b' t'; lent = (tt, (refl, refl)); step = (want, h) }
+  turn_of (LookPart e i) want (q, there, inside, h, y, z) = record {
+    loan = LookLoan q;
+    lent = (tt, (there_own e i q there, λ j. record { board = y j; tables = z j }));
+    step = (want ∙ (λ j. LookPart (sym (are.order e i q there).0 j) (sym (are.order e i q there).1 j)), inside, h);
+  }
+    where
+      there_own : (e i : ℕ) (q : Place K V) → place_at t e i ≡ Some q → place_at t q.table q.index ≡ Some q
+      there_own e i q there = let is = are.order e i q there in subst (λ n. place_at t n q.index ≡ Some q) (sym is.0) (subst (λ n. place_at t e n ≡ Some q) (sym is.1) there)
+  turn_of (BinPart e i) want (q, q', there, inside, h, y, z) = by_place (are.order e i q there)
+    where
+      by_place : (q.table ≡ e) × (q.index ≡ i) → PartTurn
+      by_place (f, g) = record {
+        loan = BinLoan q q';
+        lent = (tt, (subst (λ n. place_at t n q.index ≡ Some q) (sym f) (subst (λ n. place_at t e n ≡ Some q) (sym g) there), λ j. record { board = y j; tables = (z ∙ (λ k. put_place t (sym f k) (sym g k) q')) j }));
+        step = (want ∙ (λ j. BinPart (sym f j) (sym g j)), inside, h);
+      }
+  turn_of (MovePart e i) want (q, low, high, q', low', high', there, low_at, high_at, inside, h, y, z) = by_place (are.order e i q there)
+    where
+      by_place : (q.table ≡ e) × (q.index ≡ i) → PartTurn
+      by_place (f, g) = record {
+        loan = MoveLoan q low high q' low' high';
+        lent = (
+          tt,
+          (
+            subst (λ n. place_at t n q.index ≡ Some q) (sym f) (subst (λ n. place_at t e n ≡ Some q) (sym g) there),
+            subst (λ n. place_at t (n + 1) q.index ≡ Some low) (sym f) (subst (λ n. place_at t (e + 1) n ≡ Some low) (sym g) low_at),
+            subst (λ n. place_at t (n + 1) (q.index + 2 ^ n) ≡ Some high) (sym f) (subst (λ n. place_at t (e + 1) (n + 2 ^ e) ≡ Some high) (sym g) high_at),
+            λ j. record { board = y j; tables = (z ∙ (λ k. put_place (put_place (put_place t (sym f k) (sym g k) q') (sym f k + 1) (sym g k) low') (sym f k + 1) (sym g k + 2 ^ sym f k) high')) j },
+          ),
+        );
+        step = (want ∙ (λ j. MovePart (sym f j) (sym g j)), inside, h);
+      }
+  turn_of NoPart want h = absurd h
+
+-- the greatest table has no halves, and neither has a slot past the table's end
+pub no_halves : {K V : Type 0} (t : Tables K V) (e i : ℕ) → AreTables t → (30 ≤ e) ⊎ (2 ^ e ≤ i) → IsThere t (MovePart e i) → ⊥
+no_halves {K} {V} t e i are (inl far) (here, low, high) = by_place (place_at t (e + 1) i) refl low
+  where
+    by_place : (o : Option (Place K V)) → place_at t (e + 1) i ≡ o → IsSome o → ⊥
+    by_place None is some = cc
+    by_place (Some q) is some = let (lt, below) = place_in t (e + 1) i q is in omega (arith, lt, far, are.places)
+no_halves {K} {V} t e i are (inr past) (here, low, high) = by_place (place_at t e i) refl here
+  where
+    by_place : (o : Option (Place K V)) → place_at t e i ≡ o → IsSome o → ⊥
+    by_place None is some = cc
+    by_place (Some q) is some = let below = index_within t e i q are is in omega (arith, below, past)
+
+-- ---- a turn over parts, as a step at these
+
+module _ {K V F R : Type 0} (place : R → ℕ → Bool → Bool → R → Type 0) (cmp : K → K → Ordering) (changes : F → K → V → Option V → Type 0) (room : R → Tables K V) (places : (r : R) (e : ℕ) (live ok : Bool) (r' : R) → place r e live ok r' → PlaceGives (room r) e live ok (room r')) (s s' : Parts K V) (c c' : Course K V F) (ev : Event) where
+  -- a step with the loan of a part that is one of these
+  pub own_part : (l : Loan K V R) → IsPart l → IsOwn room s l s' → StepWith place cmp changes l c ev c' → PartStep cmp changes (wanted_part c) c s.board s.tables ev c' s'.board s'.tables
+  own_part (ControlLoan b r b' r') i (x, y) (want, h) = subst (λ z. PartStep cmp changes z c s.board s.tables ev c' s'.board s'.tables) (sym want)
+      (subst (λ z. ControlStep PlaceGives c z.board z.tables ev c' s'.board s'.tables) (sym x) (subst (λ z. ControlStep PlaceGives c b (room r) ev c' z.board z.tables) (sym y) (control_in place PlaceGives room places c b r ev c' b' r' h)))
+  own_part (StartLoan d) i x h = absurd i
+  own_part (LookLoan q) i (x, y) (want, inside, h) = subst (λ z. PartStep cmp changes z c s.board s.tables ev c' s'.board s'.tables) (sym want) (q, x, inside, h, ap (λ z. z.board) y, ap (λ z. z.tables) y)
+  own_part (BinLoan q q') i (x, y) (want, inside, h) = subst (λ z. PartStep cmp changes z c s.board s.tables ev c' s'.board s'.tables) (sym want) (q, q', x, inside, h, ap (λ z. z.board) y, ap (λ z. z.tables) y)
+  own_part (MoveLoan q low high q' low' high') i (x, xl, xh, y) (want, inside, h) = subst (λ z. PartStep cmp changes z c s.board s.tables ev c' s'.board s'.tables) (sym want) (q, low, high, q', low', high', x, xl, xh, inside, h, ap (λ z. z.board) y, ap (λ z. z.tables) y)
+
+module _ {K V F : Type 0} (cmp : K → K → Ordering) (changes : F → K → V → Option V → Type 0) (p : ℕ) (c : Course K V F) (s : Parts K V) (ev : Event) (s' : Parts K V) (c' : Course K V F) where
+  -- a turn over one owner's parts is what a world does in one step of a party
+  pub course_step : Turn PlaceGives cmp changes OwnLends s c ev s' c' → CourseStep cmp changes p c.stage c s.board s.tables (label_of p ev c'.stage) c' s'.board s'.tables
+  course_step turn = by_stage c.stage refl
+    where
+      part : PartStep cmp changes (wanted_part c) c s.board s.tables ev c' s'.board s'.tables
+      part = own_part PlaceGives cmp changes (λ r. r) (λ r e live ok r' h. h) s s' c c' ev turn.loan turn.lent.0 turn.lent.1 turn.step
+
+      going : GoesOn cmp changes p c s.board s.tables (label_of p ev c'.stage) c' s'.board s'.tables
+      going = record { event = ev; part = part; label_is = refl }
+
+      by_stage : (u : Stage K V F) → c.stage ≡ u → CourseStep cmp changes p u c s.board s.tables (label_of p ev c'.stage) c' s'.board s'.tables
+      by_stage (AtLocate t) e = going
+      by_stage (AtBin t n) e = going
+      by_stage (AtClaim a) e = going
+      by_stage (AtMove m a) e = going
+      by_stage (AtUncount r) e = going
+      by_stage (AtCount r) e = going
+      by_stage (AtRecount r) e = going
+      by_stage (AtBegin n r) e = going
+      by_stage (AtGrow w g) e = going
+      by_stage (AtReserve a) e = going
+      by_stage (AtDone r) e = absurd (subst (λ z. PartStep cmp changes (part_of c.hash z) c s.board s.tables ev c' s'.board s'.tables) e part)
+      by_stage AtTaken e = absurd (subst (λ z. PartStep cmp changes (part_of c.hash z) c s.board s.tables ev c' s'.board s'.tables) e part)
+
+-- the index of a slot that is there
+pub index_there : {K V : Type 0} (t : Tables K V) (e i : ℕ) → AreTables t → is_some (place_at t e i) ≡ true → i < 2 ^ e
+index_there {K} {V} t e i are there = by_place (place_at t e i) refl there
+  where
+    by_place : (o : Option (Place K V)) → place_at t e i ≡ o → is_some o ≡ true → i < 2 ^ e
+    by_place None is some = cc
+    by_place (Some q) is some = index_within t e i q are is

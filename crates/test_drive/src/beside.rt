@@ -1,0 +1,99 @@
+//! Parts of one owner, beside a table that was published, where calls begin without asking the control.
+ghost use Rattle.std.specs.Prelude.{◌≡◌, true};
+ghost use Rattle.flurry_drive.specs.Tells.{Tells};
+ghost use Rattle.flurry_world.specs.Parts.{IsStart};
+ghost use Rattle.flurry_world.specs.Tables.{PlaceGives};
+ghost use Rattle.test_drive.specs.Beside.{parts_of, BesideLends, BesideLacks};
+
+use flurry_slots::{Answer, Change};
+use flurry_steps::control::Start;
+use flurry_steps::party::Event;
+use flurry_steps::{Field, Party};
+use flurry_world::Parts;
+use flurry_world::tables::Tables;
+use std::alloc::{Allocator, Global};
+
+/// Parts, and a number that some control has published, which may be far behind.
+#[derive(Drop)]
+pub struct Beside<K: Ord, V, A: Allocator = Global> {
+    parts: Parts<K, V, A>,
+    start: Start,
+}
+
+impl<K: Ord + Drop, V: Drop, A: Allocator + Copy> Beside<K, V, A> {
+    /// These parts, beside that number.
+    pub fn new(parts: Parts<K, V, A>, start: Start) -> Self
+        ensures { parts_of result ≡ parts }
+    {
+        Beside { parts, start }
+    }
+}
+
+// Whether a call may begin at that table: it was published, and its bins have come to be.
+fn is_start<'s, K: Ord + Drop + 's, V: Drop, A: Allocator + Copy>(
+    parts: &'s Parts<K, V, A>,
+    table: u8,
+) -> bool
+    ensures { result ≡ true → IsStart parts.now table }
+{
+    let Some(newest) = parts.control().locate() else {
+        return false;
+    };
+    if table > newest || !parts.tables().has(table, 0) {
+        return false;
+    }
+    let bound: Option<(u64, &'s K)> = None;
+    match parts.tables().slot(table, 0).next_after(bound) {
+        Answer::Unborn(_) => false,
+        _ => true,
+    }
+}
+
+impl<K: Ord + Drop, V: Drop, A: Allocator + Copy> Field<K, V, A> for Beside<K, V, A> {
+    ghost use Rattle.test_drive.specs.Beside.{BesideLends, BesideLacks};
+
+    type Room = Tables<K, V, A>;
+
+    ghost lends = { BesideLends };
+
+    ghost lacks = { BesideLacks };
+
+    fn at_control<F: Change<K, V>>(&mut self, party: &mut Party<'_, K, V, F, A>) -> Option<Event> {
+        if party.locates() && is_start(&self.parts, self.start.table()) {
+            return Some(party.on_start(&self.start));
+        }
+        self.parts.at_control(party)
+    }
+
+    fn at_look<F: Change<K, V>>(
+        &mut self,
+        table: u8,
+        index: usize,
+        party: &mut Party<'_, K, V, F, A>,
+    ) -> Option<Event> {
+        self.parts.at_look(table, index, party)
+    }
+
+    fn at_bin<F: Change<K, V>>(
+        &mut self,
+        table: u8,
+        index: usize,
+        party: &mut Party<'_, K, V, F, A>,
+    ) -> Option<Event> {
+        self.parts.at_bin(table, index, party)
+    }
+
+    fn at_move<F: Change<K, V>>(
+        &mut self,
+        table: u8,
+        index: usize,
+        party: &mut Party<'_, K, V, F, A>,
+    ) -> Option<Event> {
+        self.parts.at_move(table, index, party)
+    }
+}
+
+/// Parts beside a number are a field that tells its parts. This does nothing: its contract is a law.
+pub fn beside_tells<K: Ord, V, A: Allocator>()
+    ensures { Tells (parts_of {K = K} {V = V} {A = A}) (λ r. r) PlaceGives BesideLends BesideLacks }
+{}

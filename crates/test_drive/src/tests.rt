@@ -1,0 +1,81 @@
+//! Calls that are driven to their end.
+
+mod each_call;
+mod growth;
+mod refused;
+
+use flurry_bins::hash::LowHashBuilder;
+use flurry_bins::table::KeptReply;
+use flurry_drive::drive;
+use flurry_slots::Change;
+use flurry_steps::party::{KeptCall, Reply};
+use flurry_steps::{Field, Party};
+use flurry_world::hash_for;
+use std::alloc::Allocator;
+use std::fmt::Debug;
+use std::process::Abort;
+use std::sync::Wait;
+
+// What a call answers, without the owners of its keys and values.
+#[derive(Clone, Copy, Debug, PartialEq, Eq)]
+enum Plain {
+    Says(KeptReply<u64, u64>),
+    Ended,
+    Refused,
+}
+
+// Sees that a value is the one that is wanted. The proof of the caller does not learn of the value, so it stays short.
+fn same<T: PartialEq + Debug + Drop>(rt: &impl Abort, seen: T, wanted: T) {
+    assert_eq!(rt; seen, wanted);
+}
+
+// The reply of a value, or of none.
+fn value(value: Option<u64>) -> Plain {
+    Plain::Says(KeptReply::Value(value))
+}
+
+// The reply without owners.
+fn plain<A: Allocator>(reply: Reply<u64, u64, A>) -> Plain {
+    let reply = match reply {
+        Reply::Value(None) => KeptReply::Value(None),
+        Reply::Value(Some(value)) => KeptReply::Value(Some(*value)),
+        Reply::Pair(None) => KeptReply::Pair(None),
+        Reply::Pair(Some((key, value))) => KeptReply::Pair(Some((*key, *value))),
+        Reply::Contains(there) => KeptReply::Contains(there),
+        Reply::New(value) => KeptReply::New(*value),
+        Reply::Exists(error) => KeptReply::Exists {
+            current: *error.current,
+            not_inserted: error.not_inserted,
+        },
+        Reply::Ended => return Plain::Ended,
+        Reply::Refused => return Plain::Refused,
+    };
+    Plain::Says(reply)
+}
+
+// Drives a call whose key is its hash, and answers its reply.
+fn reply_of<F: Change<u64, u64>, A: Allocator + Copy, X: Field<u64, u64, A>, R: Wait>(
+    rt: &R,
+    field: &mut X,
+    call: KeptCall<u64, u64, F>,
+) -> Plain
+    requires { (f : F) → F.can_change f }
+{
+    let hash = hash_for(&LowHashBuilder, &call);
+    let mut party = Party::kept(call, hash, 1);
+    let reply = drive(rt, &mut party, field);
+    drop(party);
+    without_owners(reply)
+}
+
+// Drives a call, and sees that it answers what is wanted.
+fn answers<F: Change<u64, u64>, A: Allocator + Copy, X: Field<u64, u64, A>, R: Wait + Abort>(
+    rt: &R,
+    field: &mut X,
+    call: KeptCall<u64, u64, F>,
+    wanted: Plain,
+)
+    requires { (f : F) → F.can_change f }
+{
+    same(rt, reply_of(rt, field, call), wanted);
+}

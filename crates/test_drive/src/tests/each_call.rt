@@ -1,0 +1,134 @@
+//! Each kind of call, driven over both fields, with its reply and the map that it leaves.
+
+use super::{Plain, answers, value};
+use crate::Beside;
+use flurry_bins::table::KeptReply;
+use flurry_slots::Change;
+use flurry_steps::Field;
+use flurry_steps::party::KeptCall;
+use flurry_world::Parts;
+use std::alloc::Global;
+use std::process::Abort;
+use std::sync::Wait;
+use std::test::Fail;
+
+// Adds 2 to a value, and takes out the pair of one that would be 10 or more.
+fn two_more(value: u64) -> Option<u64> {
+    value.checked_add(2).filter(|sum| *sum < 10)
+}
+
+// Parts with a table of 16 bins, beside its number.
+pub(super) fn beside_sixteen(alloc: Global) -> Result<Beside<u64, u64>, Fail> {
+    let mut parts = Parts::new(alloc)?;
+    parts.open(4)?;
+    let Some(start) = parts.control().start() else {
+        return Err(Fail::from("a table is published"));
+    };
+    Ok(Beside::new(parts, start))
+}
+
+#[test]
+fn each_call_over_own_parts(rt: HostRuntime) -> Result<(), Fail> {
+    let mut parts: Parts<u64, u64> = Parts::new(rt.alloc())?;
+    each_call(&rt, &mut parts, |_key: &u64, value: &u64| two_more(*value));
+    Ok(())
+}
+
+#[test]
+fn each_call_beside_a_start(rt: HostRuntime) -> Result<(), Fail> {
+    let mut field = beside_sixteen(rt.alloc())?;
+    each_call(&rt, &mut field, |_key: &u64, value: &u64| two_more(*value));
+    Ok(())
+}
+
+// Each of the nine kinds of call, on an empty map.
+fn each_call<F: Change<u64, u64> + Copy, X: Field<u64, u64, Global>, R: Wait + Abort>(
+    rt: &R,
+    field: &mut X,
+    change: F,
+)
+    requires { (f : F) → F.can_change f }
+{
+    absent_key(rt, field, change);
+    present_key(rt, field, change);
+    removals(rt, field, change);
+}
+
+// No call finds the key 3, and none of these puts it.
+fn absent_key<F: Change<u64, u64> + Copy, X: Field<u64, u64, Global>, R: Wait + Abort>(
+    rt: &R,
+    field: &mut X,
+    change: F,
+)
+    requires { (f : F) → F.can_change f }
+{
+    let no_pair = Plain::Says(KeptReply::Pair(None));
+    let absent = Plain::Says(KeptReply::Contains(false));
+    answers(rt, field, KeptCall::Compute(3, change), value(None));
+    answers::<F, _, _, _>(rt, field, KeptCall::Remove(3), value(None));
+    answers::<F, _, _, _>(rt, field, KeptCall::RemoveEntry(3), no_pair);
+    answers::<F, _, _, _>(rt, field, KeptCall::ContainsKey(3), absent);
+    answers::<F, _, _, _>(rt, field, KeptCall::GetKeyValue(3), no_pair);
+    answers::<F, _, _, _>(rt, field, KeptCall::Get(3), value(None));
+}
+
+// The keys 3 and 19, which share a bin of 16, have the values 8 and 7 then.
+fn present_key<F: Change<u64, u64> + Copy, X: Field<u64, u64, Global>, R: Wait + Abort>(
+    rt: &R,
+    field: &mut X,
+    change: F,
+)
+    requires { (f : F) → F.can_change f }
+{
+    let exists = KeptReply::Exists {
+        current: 6,
+        not_inserted: 9,
+    };
+    answers::<F, _, _, _>(rt, field, KeptCall::Insert(3, 5), value(None));
+    answers::<F, _, _, _>(rt, field, KeptCall::Insert(3, 6), value(Some(5)));
+    answers::<F, _, _, _>(rt, field, KeptCall::TryInsert(3, 9), Plain::Says(exists));
+    answers::<F, _, _, _>(
+        rt,
+        field,
+        KeptCall::TryInsert(19, 7),
+        Plain::Says(KeptReply::New(7)),
+    );
+    answers(rt, field, KeptCall::Compute(3, change), value(Some(8)));
+    answers::<F, _, _, _>(rt, field, KeptCall::Reserve(40), Plain::Ended);
+    answers::<F, _, _, _>(
+        rt,
+        field,
+        KeptCall::GetKeyValue(3),
+        Plain::Says(KeptReply::Pair(Some((3, 8)))),
+    );
+    answers::<F, _, _, _>(rt, field, KeptCall::Get(19), value(Some(7)));
+}
+
+// Both are taken out again, the one by its function.
+fn removals<F: Change<u64, u64> + Copy, X: Field<u64, u64, Global>, R: Wait + Abort>(
+    rt: &R,
+    field: &mut X,
+    change: F,
+)
+    requires { (f : F) → F.can_change f }
+{
+    let pair = KeptReply::Pair(Some((19, 7)));
+    answers(rt, field, KeptCall::Compute(3, change), value(None));
+    answers::<F, _, _, _>(
+        rt,
+        field,
+        KeptCall::ContainsKey(3),
+        Plain::Says(KeptReply::Contains(false)),
+    );
+    answers::<F, _, _, _>(
+        rt,
+        field,
+        KeptCall::ContainsKey(19),
+        Plain::Says(KeptReply::Contains(true)),
+    );
+    answers::<F, _, _, _>(rt, field, KeptCall::RemoveEntry(19), Plain::Says(pair));
+    answers::<F, _, _, _>(rt, field, KeptCall::Get(19), value(None));
+    answers::<F, _, _, _>(rt, field, KeptCall::Insert(19, 1), value(None));
+    answers::<F, _, _, _>(rt, field, KeptCall::Remove(19), value(Some(1)));
+    answers::<F, _, _, _>(rt, field, KeptCall::Get(19), value(None));
+}
