@@ -95,13 +95,7 @@ impl<
     }
 
     // A world where no call has begun, that begins with this table.
-    fn of(
-        alloc: A,
-        hasher: S,
-        processors: usize,
-        first: Option<u8>,
-        parts: Parts<K, V, A>,
-    ) -> Self
+    fn of(alloc: A, hasher: S, processors: usize, first: Option<u8>, parts: Parts<K, V, A>) -> Self
         requires board { parts.board ≡ record { published = first; growth = IsIdle; count = pos 0 } }
         requires world { IsBounded K.cmp (S.hash_of hasher) F.changes (fresh_world {K = K} {V = V} {F = F} hasher processors first parts.tables) }
         ensures { result ≡ fresh_world hasher processors first parts.tables }

@@ -35,7 +35,7 @@ fn value(value: Option<u64>) -> Plain {
 }
 
 // The reply without owners.
-fn plain<A: Allocator>(reply: Reply<u64, u64, A>) -> Plain {
+fn without_owners<A: Allocator>(reply: Reply<u64, u64, A>) -> Plain {
     let reply = match reply {
         Reply::Value(None) => KeptReply::Value(None),
         Reply::Value(Some(value)) => KeptReply::Value(Some(*value)),
