@@ -1,23 +1,21 @@
 -- Parts that hold a map, and calls before their first step.
-use Rattle.std.specs.Prelude.{◌≡◌, ℕ, [], reverse, Option, Some, None}
+use Rattle.std.specs.Prelude.{◌≡◌, ℕ, [], reverse, Option, None}
 use Rattle.std.specs.Cmp.{IsTotalOrder}
 use Rattle.std.specs.declared.cmp.Ordering.{Ordering}
 use Rattle.std.specs.declared.cmp.Ordering.TheVariants.{Equal}
-use Rattle.std.proofs.Common.{arith, refl, ap, ◌∙◌}
+use Rattle.std.proofs.Common.{arith, refl, ◌∙◌}
 use Rattle.std.proofs.lemmas.Int.{ints}
 use Rattle.flurry_steps.specs.Party.{Course}
 use Rattle.flurry_steps.specs.PartyView.{kept_stage}
 use Rattle.flurry_steps.specs.declared.party.call.KeptCall.{KeptCall}
-use Rattle.flurry_steps.specs.declared.party.call.KeptCall.TheVariants as kept
-use Rattle.flurry_theory.specs.Map.{key_of}
 use Rattle.flurry_theory.specs.Trace.{pairs}
 use Rattle.flurry_world.specs.Parts.{OwnLends, OwnLacks, no_parts}
-use Rattle.flurry_world.specs.Runs.{labelled, hash_for}
+use Rattle.flurry_world.specs.Runs.{hash_for}
 use Rattle.flurry_world.specs.Steps.{fresh_world}
 use Rattle.flurry_world.specs.Tables.{PlaceGives, no_tables}
 use Rattle.flurry_world.specs.World.{Shown, Near, IsWorld}
+use Rattle.flurry_world.proofs.BeginLaws.{own_hash}
 use Rattle.flurry_world.proofs.NewLaws.{new_without}
-use Rattle.flurry_world.proofs.StateLaws.{same_some}
 use Rattle.flurry_world.proofs.WorldSteps.{alike_class}
 use Rattle.flurry_drive.specs.Exact.{Holds, IsFresh}
 use Rattle.flurry_drive.specs.Tells.{Tells}
@@ -27,20 +25,9 @@ pub own_tells : {K V : Type 0} → Tells {K = K} {V = V} (λ s. s) (λ r. r) Pla
 own_tells = record { places = λ r e live ok r' h. h; lends_own = λ s l s' h. h.1; lacks_only = λ s p h. h }
 
 module _ {K V F : Type 0} (cmp : K → K → Ordering) (hash : K → ℕ) (changes : F → K → V → Option V → Type 0) where
-  -- a call that has its key goes by that key's hash
-  hash_is : (c : KeptCall K V F) (k : K) → key_of (labelled c) ≡ Some k → hash_for hash c ≡ hash k
-  hash_is (kept.Get j) k h = ap hash (same_some h)
-  hash_is (kept.GetKeyValue j) k h = ap hash (same_some h)
-  hash_is (kept.ContainsKey j) k h = ap hash (same_some h)
-  hash_is (kept.Remove j) k h = ap hash (same_some h)
-  hash_is (kept.RemoveEntry j) k h = ap hash (same_some h)
-  hash_is (kept.Insert j v) k h = ap hash (same_some h)
-  hash_is (kept.TryInsert j v) k h = ap hash (same_some h)
-  hash_is (kept.Compute j f) k h = ap hash (same_some h)
-  hash_is (kept.Reserve n) k h = cc
-
+  -- a call that has its key, before its first step
   pub fresh : (c : KeptCall K V F) (p : Course K V F) → p.stage ≡ kept_stage c → p.hash ≡ hash_for hash c → IsFresh cmp hash changes c p
-  fresh c p stage hashed = record { stage = stage; hash_is = λ k h. hashed ∙ hash_is c k h }
+  fresh c p stage hashed = record { stage = stage; hash_is = λ k h. hashed ∙ own_hash hash c k h }
 
   -- the parts of a world hold its map
   pub holds_world : {S : Type 0} (w : Shown K V F S) (n : ℕ) → IsWorld cmp hash changes w → Near n w.board.count → Holds cmp hash changes n (record { board = w.board; tables = w.tables }) (pairs cmp hash (reverse w.trace))

@@ -14,7 +14,6 @@ use Rattle.flurry_steps.specs.PartyView.{kept_stage}
 use Rattle.flurry_steps.specs.declared.party.Event.{Event}
 use Rattle.flurry_steps.specs.declared.party.Event.TheVariants as event
 use Rattle.flurry_steps.specs.declared.party.call.KeptCall.{KeptCall}
-use Rattle.flurry_steps.specs.declared.party.call.KeptCall.TheVariants as kept_call
 use Rattle.flurry_bins.specs.declared.table.reply.KeptReply.{KeptReply}
 use Rattle.flurry_theory.specs.Map.{Pairs, same, after, Allows, CanBeRefused}
 use Rattle.flurry_theory.specs.Machine as machine
@@ -36,6 +35,7 @@ use Rattle.flurry_world.proofs.CallLaws.{found_task}
 use Rattle.flurry_world.proofs.LineLaws.{is_finds}
 use Rattle.flurry_world.proofs.Frames.{same_frame, kept, IsStep}
 use Rattle.flurry_world.proofs.Cases.{calls, in_mode}
+use Rattle.flurry_world.proofs.BeginLaws.{fresh_stage}
 use Rattle.flurry_world.proofs.WorldLaws.{began, goes_on, get_append}
 use Rattle.flurry_world.specs.Parts.{Parts, IsStart}
 use Rattle.flurry_drive.specs.Exact.{Holds, Answers, IsFresh}
@@ -229,18 +229,6 @@ module _ {K V F : Type 0} (cmp : K → K → Ordering) (total : IsTotalOrder cmp
                 by_kind false h = no_reply d q m h allowed
 
 module _ {K V F : Type 0} (cmp : K → K → Ordering) (total : IsTotalOrder cmp) (hash : K → ℕ) (lawful : (j k : K) → same cmp j k ≡ true → hash j ≡ hash k) (gives : F → K → V → Option V → Type 0) where
-  -- the stage of a call before its first step
-  fresh_stage : (c : KeptCall K V F) → FollowsStage (labelled c) (kept_stage c) × (mode_of_stage (kept_stage c) ≡ Locating) × (claim_of_stage (kept_stage c) ≡ None)
-  fresh_stage (kept_call.Get j) = (refl, refl, refl)
-  fresh_stage (kept_call.GetKeyValue j) = (refl, refl, refl)
-  fresh_stage (kept_call.ContainsKey j) = (refl, refl, refl)
-  fresh_stage (kept_call.Remove j) = (refl, refl, refl)
-  fresh_stage (kept_call.RemoveEntry j) = (refl, refl, refl)
-  fresh_stage (kept_call.Insert j v) = (refl, refl, refl)
-  fresh_stage (kept_call.TryInsert j v) = (refl, refl, refl)
-  fresh_stage (kept_call.Compute j f) = (refl, refl, refl)
-  fresh_stage (kept_call.Reserve a) = (refl, refl, refl)
-
   module _ (n : ℕ) (few : n < 2 ^ 62) (m : Pairs K V) (s : Parts K V) (h : Holds cmp hash gives n s m) (c : KeptCall K V F) (q : Course K V F) (fresh : IsFresh cmp hash gives c q) where
     pub small : n + 1 ≤ 2 ^ 62
     small = omega (arith, few)
@@ -249,7 +237,7 @@ module _ {K V F : Type 0} (cmp : K → K → Ordering) (total : IsTotalOrder cmp
     pub begins : InWorld cmp total hash lawful gives (n + 1) small (length h.world.callers) (labelled c) m s q
     begins = record {
       world = with_caller h.world (labelled c) q;
-      is_world = began cmp total hash lawful gives h.world h.is_world near (labelled c) q fresh.hash_is (subst (FollowsStage (labelled c)) (sym fresh.stage) (fresh_stage c).0) (ap mode_of_stage fresh.stage ∙ (fresh_stage c).1) (ap claim_of_stage fresh.stage ∙ (fresh_stage c).2);
+      is_world = began cmp total hash lawful gives h.world h.is_world near (labelled c) q (ap mode_of_stage fresh.stage ∙ (fresh_stage c).1) (ap claim_of_stage fresh.stage ∙ (fresh_stage c).2) fresh.hash_is (subst (FollowsStage (labelled c)) (sym fresh.stage) (fresh_stage c).0);
       caller = new;
       at = get_append h.world.callers new (length h.world.callers) ∙ ap (λ z. cond z (Some new) (slice_get h.world.callers (length h.world.callers))) (itself (length h.world.callers));
       call = refl;

@@ -16,7 +16,7 @@ use Rattle.flurry_theory.specs.declared.Label.{Label}
 use Rattle.flurry_theory.proofs.Step.{inv_step}
 use Rattle.flurry_world.specs.Entries.{Hashed}
 use Rattle.flurry_world.specs.Tables.{Tables, AreTables, slots_of, content_at}
-use Rattle.flurry_world.specs.World.{Caller, Shown, state_of, FollowsStage, Follows, IsWorld}
+use Rattle.flurry_world.specs.World.{Caller, Shown, state_of, FollowsStage, Follows, IsWorld, DoesLine}
 use Rattle.flurry_world.specs.Steps.{with_step}
 use Rattle.flurry_world.proofs.StateLaws.{IsLine, does_line, get_set, same_some}
 use Rattle.std.proofs.lemmas.Option.{slice_get_within}
@@ -46,6 +46,15 @@ module _ {K V F S : Type 0} (cmp : K → K → Ordering) (hash : K → ℕ) (giv
     pub is : IsLine cmp hash gives w p b t c lab line
     pub follows : FollowsStage x.call c.stage
     pub frame : Frame hash b t
+
+  -- such a step, in which the hash of the party stays
+  pub record StepOf (w : Shown K V F S) (p : ℕ) (x : Caller K V F) (b : Board) (t : Tables K V) (c : Course K V F) (lab : Label K V F) : Type 0 where
+    pub hash_stays : c.hash ≡ x.course.hash
+    pub step : IsStep w p x b t c lab
+
+  -- is a line of the machine
+  pub does_one : (w : Shown K V F S) (p : ℕ) (x : Caller K V F) (b : Board) (t : Tables K V) (c : Course K V F) (lab : Label K V F) → slice_get w.callers p ≡ Some x → StepOf w p x b t c lab → DoesLine cmp hash gives w p (with_step w p x b t c lab)
+  does_one w p x b t c lab at s = (s.step.line, s.step.can, does_line cmp hash gives w p x b t c lab s.step.line at s.step.is)
 
   -- a world that such a step leaves
   pub kept : (total : IsTotalOrder cmp) (lawful : (j k : K) → same cmp j k ≡ true → hash j ≡ hash k) (w : Shown K V F S) (p : ℕ) (x : Caller K V F) (b : Board) (t : Tables K V) (c : Course K V F) (lab : Label K V F)

@@ -20,6 +20,7 @@ pub mod NewLaws
 mod ViewLemmas
 mod MoveLemmas
 pub mod PartsLaws
+pub mod BeginLaws
 pub mod WorldSteps
 pub mod RunLaws
 pub mod LawfulLaws

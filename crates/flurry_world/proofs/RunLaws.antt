@@ -1,10 +1,14 @@
 -- Lists of steps, one after another.
-use Rattle.std.specs.Prelude.{ℕ, List, [], ◌∷◌, ◌++◌, Option, Result, Ok, Err, OnErr}
+use Rattle.std.specs.Prelude.{ℕ, zero, suc, ◌<◌, List, [], ◌∷◌, ◌++◌, length, slice_index_or, All, Option, Result, Ok, Err, OnErr}
 use Rattle.std.specs.declared.cmp.Ordering.{Ordering}
-use Rattle.std.proofs.Common.{refl, subst}
+use Rattle.std.proofs.Common.{arith, refl, subst}
 use Rattle.flurry_world.specs.World.{Shown}
-use Rattle.flurry_world.specs.Runs.{DoesStep, Runs}
+use Rattle.flurry_steps.specs.PartyView.{KeptIsReady}
+use Rattle.flurry_steps.specs.declared.party.call.KeptCall.{KeptCall}
+use Rattle.flurry_steps.specs.declared.party.call.KeptCall.TheVariants as kept
+use Rattle.flurry_world.specs.Runs.{DoesStep, Runs, StepIsReady}
 use Rattle.flurry_world.specs.declared.world.Step.{Step}
+use Rattle.flurry_world.specs.declared.world.Step.TheVariants as step
 
 -- what holds of an error
 pub on_err : {T E : Type 0} (r : Result T E) (P : Type 0) → P → OnErr r P
@@ -16,3 +20,31 @@ module _ {K V F S : Type 0} (cmp : K → K → Ordering) (hash : K → ℕ) (cha
   pub runs_more : (front : List (Step K V F)) (w v u : Shown K V F S) (s : Step K V F) → Runs cmp hash changes front w v → DoesStep cmp hash changes s v u → Runs cmp hash changes (front ++ s ∷ []) w u
   runs_more [] w v u s ran does = (u, subst (λ z. DoesStep cmp hash changes s z u) ran does, refl)
   runs_more (t ∷ front) w v u s (m, first, rest) does = (m, first, runs_more front m v u s rest does)
+
+-- the first of a list, and the rest
+module _ {X : Type 0} (P : X → Type 0) (x : X) (xs : List X) (all : All P (x ∷ xs)) where
+  pub all_head : P x
+  all_head = all 0 x (omega arith)
+
+  pub all_tail : All P xs
+  all_tail k d h = all (suc k) d (omega (arith, h))
+
+module _ {K V F : Type 0} (ready : F → Type 0) (each : (f : F) → ready f) where
+  kept_ready : (c : KeptCall K V F) → KeptIsReady ready c
+  kept_ready (kept.Get k) = tt
+  kept_ready (kept.GetKeyValue k) = tt
+  kept_ready (kept.ContainsKey k) = tt
+  kept_ready (kept.Remove k) = tt
+  kept_ready (kept.RemoveEntry k) = tt
+  kept_ready (kept.Insert k v) = tt
+  kept_ready (kept.TryInsert k v) = tt
+  kept_ready (kept.Compute k f) = each f
+  kept_ready (kept.Reserve n) = tt
+
+  step_ready : (s : Step K V F) → StepIsReady ready s
+  step_ready (step.Begin c) = kept_ready c
+  step_ready (step.Step p) = tt
+
+  -- where each function may be called, each list of steps may be run
+  pub steps_ready : (steps : List (Step K V F)) → All (StepIsReady ready) steps
+  steps_ready steps k d h = step_ready (slice_index_or steps k d)

@@ -12,17 +12,16 @@ use Rattle.flurry_steps.specs.Control.{Board}
 use Rattle.flurry_steps.specs.Party.{Course, wanted_part}
 use Rattle.flurry_steps.specs.PartyView.{kept_stage}
 use Rattle.flurry_steps.specs.declared.party.call.KeptCall.{KeptCall}
-use Rattle.flurry_steps.specs.declared.party.call.KeptCall.TheVariants as kept
 use Rattle.flurry_theory.specs.Map.{same}
 use Rattle.flurry_theory.specs.declared.Label.{Label}
 use Rattle.flurry_theory.specs.declared.Label.TheVariants as label
 use Rattle.flurry_world.specs.Tables.{Tables}
 use Rattle.flurry_world.specs.Parts.{IsGoing, IsThere}
-use Rattle.flurry_world.specs.World.{Caller, Shown, Near, state_of, steps_in, IsWorld, IsBounded}
+use Rattle.flurry_world.specs.World.{Caller, Shown, Near, state_of, steps_in, IsWorld, IsBounded, DoesLine}
 use Rattle.flurry_world.specs.Steps.{with_label, with_step, CourseStep, CallerStep, WorldStep}
 use Rattle.flurry_world.specs.Runs.{labelled, hash_for, begun_with}
-use Rattle.flurry_world.proofs.StateLaws.{same_some}
-use Rattle.flurry_world.proofs.WorldLaws.{silent, began, stepped}
+use Rattle.flurry_world.proofs.BeginLaws.{fresh_stage, own_hash}
+use Rattle.flurry_world.proofs.WorldLaws.{silent, silent_line, began, begin_line, stepped, one_line}
 use Rattle.flurry_world.proofs.ThereLaws.{is_there}
 
 -- keys that compare as equal are of one class
@@ -50,9 +49,11 @@ module _ {K V F S : Type 0} (cmp : K → K → Ordering) (total : IsTotalOrder c
   pub unknown_step : (before : List (Label K V F)) → before ≡ w.trace → length before < 2 ^ 62 → (p : ℕ) → length w.callers ≤ p → (t : List (Label K V F)) → t ≡ before ++ label.Silent p ∷ []
       → IsBounded cmp hash gives (record { hasher = w.hasher; processors = w.processors; first = w.first; board = w.board; tables = w.tables; callers = w.callers; trace = t })
       × WorldStep cmp gives w p (record { hasher = w.hasher; processors = w.processors; first = w.first; board = w.board; tables = w.tables; callers = w.callers; trace = t })
+      × DoesLine cmp hash gives w p (record { hasher = w.hasher; processors = w.processors; first = w.first; board = w.board; tables = w.tables; callers = w.callers; trace = t })
   unknown_step before is short p past t added = (
     subst (λ u. IsBounded cmp hash gives (record { hasher = w.hasher; processors = w.processors; first = w.first; board = w.board; tables = w.tables; callers = w.callers; trace = u })) (sym e) (record { world = silent cmp total hash (alike_class cmp hash alike) gives w k.world near p unknown; few = omega (arith, length-append w.trace (label.Silent p ∷ []), few) }),
     subst (λ o. MatchOption o (shown ≡ with_label w (label.Silent p)) (λ x. CallerStep cmp gives w p x shown)) (sym unknown) (ap (λ u. record { hasher = w.hasher; processors = w.processors; first = w.first; board = w.board; tables = w.tables; callers = w.callers; trace = u }) e),
+    subst (λ u. DoesLine cmp hash gives w p (record { hasher = w.hasher; processors = w.processors; first = w.first; board = w.board; tables = w.tables; callers = w.callers; trace = u })) (sym e) (silent_line cmp total hash (alike_class cmp hash alike) gives w k.world near p unknown),
   )
     where
       few : length w.trace < 2 ^ 62
@@ -83,9 +84,11 @@ module _ {K V F S : Type 0} (cmp : K → K → Ordering) (total : IsTotalOrder c
       → (callers : List (Caller K V F)) → callers ≡ slice_set w.callers p (record { call = x.call; course = c; steps = x.steps + 1 }) → (trace : List (Label K V F)) → trace ≡ before ++ l ∷ []
       → IsBounded cmp hash gives (record { hasher = w.hasher; processors = w.processors; first = w.first; board = b; tables = t; callers = callers; trace = trace })
       × WorldStep cmp gives w p (record { hasher = w.hasher; processors = w.processors; first = w.first; board = b; tables = t; callers = callers; trace = trace })
+      × DoesLine cmp hash gives w p (record { hasher = w.hasher; processors = w.processors; first = w.first; board = b; tables = t; callers = callers; trace = trace })
   party_step before is short p x at c b t l does callers d trace added = (
     subst (IsBounded cmp hash gives) (sym after) (record { world = stepped cmp total hash (alike_class cmp hash alike) gives w k.world near p x at l c b t does; few = omega (arith, length-append w.trace (l ∷ []), few) }),
     subst (λ o. MatchOption o (shown ≡ with_label w (label.Silent p)) (λ x. CallerStep cmp gives w p x shown)) (sym at) (record { step_label = l; course = c; board = b; tables = t; does = does; after = after }),
+    subst (DoesLine cmp hash gives w p) (sym after) (one_line cmp total hash (alike_class cmp hash alike) gives w k.world near p x at l c b t does),
   )
     where
       few : length w.trace < 2 ^ 62
@@ -110,7 +113,12 @@ module _ {K V F S : Type 0} (cmp : K → K → Ordering) (total : IsTotalOrder c
       → (trace : List (Label K V F)) → trace ≡ before ++ label.Begin n (labelled d) ∷ []
       → IsBounded cmp hash gives (record { hasher = w.hasher; processors = w.processors; first = w.first; board = w.board; tables = w.tables; callers = callers; trace = trace })
       × (◌≡◌ {A = Shown K V F S} (record { hasher = w.hasher; processors = w.processors; first = w.first; board = w.board; tables = w.tables; callers = callers; trace = trace }) (begun_with hash w d))
-  call_begins before is short parties are d callers put n number trace added = (subst (IsBounded cmp hash gives) (sym after) (record { world = begins d; few = omega (arith, length-append w.trace (label.Begin (length w.callers) (labelled d) ∷ []), few) }), after)
+      × DoesLine cmp hash gives w n (record { hasher = w.hasher; processors = w.processors; first = w.first; board = w.board; tables = w.tables; callers = callers; trace = trace })
+  call_begins before is short parties are d callers put n number trace added = (
+    subst (IsBounded cmp hash gives) (sym after) (record { world = begins; few = omega (arith, length-append w.trace (label.Begin (length w.callers) (labelled d) ∷ []), few) }),
+    after,
+    subst (DoesLine cmp hash gives w n) (sym after) (subst (λ m. DoesLine cmp hash gives w m (begun_with hash w d)) (sym number) (let (follows, mode, claim) = fresh_stage d in begin_line cmp total hash (alike_class cmp hash alike) gives w k.world near _ _ mode claim)),
+  )
     where
       few : length w.trace < 2 ^ 62
       few = subst (λ u. length u < 2 ^ 62) is short
@@ -120,13 +128,5 @@ module _ {K V F S : Type 0} (cmp : K → K → Ordering) (total : IsTotalOrder c
           ∙ ap (λ u. record { hasher = w.hasher; processors = w.processors; first = w.first; board = w.board; tables = w.tables; callers = w.callers ++ record { call = labelled d; course = record { hash = hash_for hash d; processors = w.processors; stage = kept_stage d }; steps = 0 } ∷ []; trace = u })
           (added ∙ ap (λ u. u ++ label.Begin n (labelled d) ∷ []) is ∙ ap (λ m. w.trace ++ label.Begin m (labelled d) ∷ []) number)
 
-      begins : (e : KeptCall K V F) → IsWorld cmp hash gives (begun_with hash w e)
-      begins (kept.Get j) = began cmp total hash (alike_class cmp hash alike) gives w k.world near _ _ (λ i h. ap hash (same_some h)) refl refl refl
-      begins (kept.GetKeyValue j) = began cmp total hash (alike_class cmp hash alike) gives w k.world near _ _ (λ i h. ap hash (same_some h)) refl refl refl
-      begins (kept.ContainsKey j) = began cmp total hash (alike_class cmp hash alike) gives w k.world near _ _ (λ i h. ap hash (same_some h)) refl refl refl
-      begins (kept.Remove j) = began cmp total hash (alike_class cmp hash alike) gives w k.world near _ _ (λ i h. ap hash (same_some h)) refl refl refl
-      begins (kept.RemoveEntry j) = began cmp total hash (alike_class cmp hash alike) gives w k.world near _ _ (λ i h. ap hash (same_some h)) refl refl refl
-      begins (kept.Insert j v) = began cmp total hash (alike_class cmp hash alike) gives w k.world near _ _ (λ i h. ap hash (same_some h)) refl refl refl
-      begins (kept.TryInsert j v) = began cmp total hash (alike_class cmp hash alike) gives w k.world near _ _ (λ i h. ap hash (same_some h)) refl refl refl
-      begins (kept.Compute j f) = began cmp total hash (alike_class cmp hash alike) gives w k.world near _ _ (λ i h. ap hash (same_some h)) refl refl refl
-      begins (kept.Reserve m) = began cmp total hash (alike_class cmp hash alike) gives w k.world near _ _ (λ i h. cc) refl refl refl
+      begins : IsWorld cmp hash gives (begun_with hash w d)
+      begins = let (follows, mode, claim) = fresh_stage d in began cmp total hash (alike_class cmp hash alike) gives w k.world near _ _ mode claim (own_hash hash d) follows

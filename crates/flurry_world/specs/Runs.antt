@@ -1,8 +1,8 @@
 -- How a world begins, how calls begin in it, and what a list of steps does.
-use Rattle.std.specs.Prelude.{◌≡◌, ◌⊎◌, ℕ, ◌^◌, ◌≤◌, ◌++◌, true, List, [], ◌∷◌, Option, Some, None}
+use Rattle.std.specs.Prelude.{◌≡◌, ◌⊎◌, ℕ, ◌^◌, ◌≤◌, ◌++◌, true, List, [], ◌∷◌, Option, Some, None, ⊤}
 use Rattle.std.specs.declared.cmp.Ordering.{Ordering}
 use Rattle.flurry_bins.specs.Sizes.{wanted_of}
-use Rattle.flurry_steps.specs.PartyView.{kept_stage}
+use Rattle.flurry_steps.specs.PartyView.{kept_stage, KeptIsReady}
 use Rattle.flurry_steps.specs.declared.party.call.KeptCall.{KeptCall}
 use Rattle.flurry_steps.specs.declared.party.call.KeptCall.TheVariants as kept
 use Rattle.flurry_theory.specs.declared.Call.{Call}
@@ -38,6 +38,11 @@ module _ {K V F : Type 0} where
   hash_for hash (kept.Compute k f) = hash k
   hash_for hash (kept.Reserve n) = 0
 
+  -- the function of a call that begins, if it has one, may be called
+  abbrev pub StepIsReady : (F → Type 0) → Step K V F → Type 0
+  StepIsReady ready (step.Begin c) = KeptIsReady ready c
+  StepIsReady ready (step.Step p) = ⊤
+
 module _ {K V F S : Type 0} where
   -- no table for no pairs, else one of the wanted number of bins, which are live and empty
   abbrev pub NewGives : ℕ → S → ℕ → Shown K V F S → Type 0
@@ -60,6 +65,6 @@ module _ {K V F S : Type 0} where
     Runs [] w v = v ≡ w
     Runs (s ∷ steps) w v = (u : Shown K V F S) × DoesStep s w u × Runs steps u v
 
-    -- a front of the steps, one after another
+    -- a front of the steps, one after another; there is a further one, which was not done
     abbrev pub RunsFront : List (Step K V F) → Shown K V F S → Shown K V F S → Type 0
-    RunsFront steps w v = (front rest : List (Step K V F)) × (steps ≡ front ++ rest) × Runs front w v
+    RunsFront steps w v = (front rest : List (Step K V F)) × (s : Step K V F) × (steps ≡ front ++ s ∷ rest) × Runs front w v

@@ -204,3 +204,7 @@ module _ {K V F : Type 0} where
     pub record IsBounded (w : Shown K V F S) : Type 0 where
       pub world : IsWorld w
       pub few : length w.trace ≤ 2 ^ 62
+
+    -- party p takes the world w to w' by one line of the machine
+    abbrev pub DoesLine : Shown K V F S → ℕ → Shown K V F S → Type 0
+    DoesLine w p w' = (line : machine.Line K V F) × machine.Can cmp hash gives (state_of w) p line × (state_of w' ≡ machine.does cmp hash gives (state_of w) p line)

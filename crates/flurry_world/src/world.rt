@@ -1,12 +1,12 @@
 //! A world: calls of a map in any order of steps.
-ghost use Rattle.std.specs.Prelude.{◌≡◌, ◌<◌, ◌^◌, length, pos, OnOk, OnErr, IfOk};
+ghost use Rattle.std.specs.Prelude.{◌≡◌, ◌<◌, ◌^◌, length, pos, All, OnOk, OnErr, IfOk};
 ghost use Rattle.std.specs.Vec.{vec_len, vec_capacity};
 ghost use Rattle.flurry_steps.specs.Control.{IsIdle};
 ghost use Rattle.flurry_steps.specs.PartyView.{KeptIsReady};
 ghost use Rattle.flurry_world.specs.Lawful.{IsLawful};
-ghost use Rattle.flurry_world.specs.Runs.{DoesStep, NewGives, Runs, RunsFront, begun_with};
+ghost use Rattle.flurry_world.specs.Runs.{DoesStep, NewGives, Runs, RunsFront, StepIsReady, begun_with};
 ghost use Rattle.flurry_world.specs.Steps.{WorldStep, fresh_world};
-ghost use Rattle.flurry_world.specs.World.{IsWorld, IsBounded};
+ghost use Rattle.flurry_world.specs.World.{DoesLine, IsWorld, IsBounded};
 
 use crate::caller::{Caller, hash_for, labelled};
 use crate::labels::step_of;
@@ -122,6 +122,7 @@ impl<
         requires { KeptIsReady F.can_change call }
         ensures party { IfOk result (λ p. p ≡ length self.old.callers) }
         ensures ok { OnOk result (self.new ≡ begun_with (S.hash_of self.old.hasher) self.old call) }
+        ensures line { IfOk result (λ p. DoesLine K.cmp (S.hash_of self.old.hasher) F.changes self.old p self.new) }
         ensures err { OnErr result (self.new ≡ self.old) }
     {
         make_room(&mut self.trace)?;
@@ -149,6 +150,7 @@ impl<
     /// itself needs, the step is done, and its label or the party's later ones say so.)
     pub fn step(&mut self, party: usize) -> Result<(), AllocError>
         ensures ok { OnOk result (WorldStep K.cmp F.changes self.old party self.new) }
+        ensures line { OnOk result (DoesLine K.cmp (S.hash_of self.old.hasher) F.changes self.old party self.new) }
         ensures err { OnErr result (self.new ≡ self.old) }
     {
         make_room(&mut self.trace)?;
@@ -169,21 +171,24 @@ impl<
     ///
     /// # Errors
     ///
-    /// [`AllocError`], where memory for a party or a label is wanting. A front of the list is done then, and the world is as after its
-    /// last label.
+    /// [`AllocError`], where memory for a party or a label is wanting. A front of the list is done then, which is not the whole of it, and
+    /// the world is as after its last label.
     pub fn run(&mut self, steps: Vec<Step<K, V, F>, A>) -> Result<(), AllocError>
-        requires { (f : F) → F.can_change f }
+        requires { All (StepIsReady F.can_change) steps.items }
         ensures ok { OnOk result (Runs K.cmp (S.hash_of self.old.hasher) F.changes steps.items self.old self.new) }
+        ensures lawful { OnOk result (IsLawful K.cmp (S.hash_of self.old.hasher) F.changes self.new) }
         ensures err { OnErr result (RunsFront K.cmp (S.hash_of self.old.hasher) F.changes steps.items self.old self.new) }
     {
         for step in steps {
             self.do_step(step)?;
         }
+        // The proof learns here that the labels are lawful.
+        let _ = self.trace();
         Ok(())
     }
 
     fn do_step(&mut self, step: Step<K, V, F>) -> Result<(), AllocError>
-        requires { (f : F) → F.can_change f }
+        requires { StepIsReady F.can_change step }
         ensures ok { OnOk result (DoesStep K.cmp (S.hash_of self.old.hasher) F.changes step self.old self.new) }
         ensures hasher { self.new.hasher ≡ self.old.hasher }
         ensures err { OnErr result (self.new ≡ self.old) }

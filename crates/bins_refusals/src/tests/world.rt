@@ -461,6 +461,7 @@ fn steps_from<F: Change<u64, u64> + Copy>(
 }
 
 // The labels of a new world that ran those steps, with memory enough.
+#[tactic(auto, using(flurry_world::proofs::RunLaws::steps_ready))]
 fn text_of_steps<F: Change<u64, u64> + Copy + Debug>(
     alloc: Global,
     memory: Memory,
@@ -478,6 +479,7 @@ fn run(rt: HostRuntime) -> Result<(), Fail> {
     runs::<NoChange>(&rt, rt.alloc())
 }
 
+#[tactic(auto, using(flurry_world::proofs::RunLaws::steps_ready))]
 fn runs<F: Change<u64, u64> + Copy + Debug>(rt: &impl Abort, alloc: Global) -> Result<(), Fail>
     requires { (f : F) → F.can_change f }
 {

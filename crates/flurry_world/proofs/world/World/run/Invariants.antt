@@ -1,6 +1,6 @@
-use Rattle.std.proofs.Common.{◌≡◌, ◌++◌}
+use Rattle.std.proofs.Common.{◌≡◌, ◌++◌, All}
 use Rattle.std.specs.Vec.Iter.{into_iter_items}
-use Rattle.flurry_world.specs.Runs.{Runs}
+use Rattle.flurry_world.specs.Runs.{Runs, StepIsReady}
 use Rattle.flurry_world.proofs.world.World.run.Given as goal
 
 abbrev pub invariant-loop-step : goal.invariant-loop-step
@@ -8,4 +8,5 @@ invariant-loop-step g l = record {
   ran : Runs g.K.Ord.cmp (g.S.KeyHasher.hash_of l.initial.self.hasher) g.F.Change.changes l.yielded l.initial.self l.self;
   hasher : l.self.hasher ≡ l.initial.self.hasher;
   split : l.yielded ++ into_iter_items l.step-iterator ≡ l.fn.steps.items;
+  ready : All (StepIsReady g.F.Change.can_change) (into_iter_items l.step-iterator);
 }

@@ -34,3 +34,17 @@ returns-clause-ok g c =
     c.make_room.new.list.items c.in_ok-make_room.ensures.same c.in_ok-make_room.ensures.few c.args.party _
     (lent_at c.self.inside.callers.items c.args.party c.index_mut-caller.result.now _ (grind (arith, common_steps, c.if-party-len.false, c.len.ensures)) c.index_mut-caller.ensures.value c.caller.view_is)
     c.step_of-label.new.call c.step_of-label.new.parts.board c.step_of-label.new.parts.tables c.step_of-label.result c.step_of-label.ensures _ refl c.push_reserved-2.new.self.items c.push_reserved-2.ensures.items).1
+
+pub returns-then-party-len-clause-line : goal.returns-then-party-len-clause-line
+returns-then-party-len-clause-line g c =
+    rw (← c.self.view_is)
+    (unknown_step g.K.Ord.cmp g.met.K.Ord.total (g.S.KeyHasher.hash_of c.self.inside.hasher) (g.met.S.KeyHasher.alike c.self.inside.hasher) g.F.Change.changes (shown_of c.self.inside) c.self.invariant
+    c.make_room.new.list.items c.in_ok-make_room.ensures.same c.in_ok-make_room.ensures.few c.args.party (grind (arith, common_steps, c.if-party-len.true, c.len.ensures)) c.push_reserved.new.self.items c.push_reserved.ensures.items).2
+
+pub returns-clause-line : goal.returns-clause-line
+returns-clause-line g c =
+    rw (← c.self.view_is)
+    (party_step g.K.Ord.cmp g.met.K.Ord.total (g.S.KeyHasher.hash_of c.self.inside.hasher) (g.met.S.KeyHasher.alike c.self.inside.hasher) g.F.Change.changes (shown_of c.self.inside) c.self.invariant
+    c.make_room.new.list.items c.in_ok-make_room.ensures.same c.in_ok-make_room.ensures.few c.args.party _
+    (lent_at c.self.inside.callers.items c.args.party c.index_mut-caller.result.now _ (grind (arith, common_steps, c.if-party-len.false, c.len.ensures)) c.index_mut-caller.ensures.value c.caller.view_is)
+    c.step_of-label.new.call c.step_of-label.new.parts.board c.step_of-label.new.parts.tables c.step_of-label.result c.step_of-label.ensures _ refl c.push_reserved-2.new.self.items c.push_reserved-2.ensures.items).2
