@@ -8,14 +8,14 @@ ghost use Rattle.flurry.specs.ScheduleRuns.{of_a_schedule};
 use crate::program::seq_lines::seq_lines;
 use crate::program::streams::{Sink, Source};
 use crate::program::world_lines::world_lines;
-use std::alloc::Global;
+use std::alloc::Allocator;
 
 /// Does what the words ask for, and answers the program's status.
 ///
 /// `["seq"]` runs [`seq_lines`], and `["world"]` runs [`world_lines`]. Other words write a line of usage, with status 2, or 1 where
 /// the write fails.
-pub fn run_words<R: Source, W: Sink>(
-    alloc: Global,
+pub fn run_words<R: Source, W: Sink, A: Allocator + Copy>(
+    alloc: A,
     words: &[&str],
     reader: &mut R,
     writer: &mut W,

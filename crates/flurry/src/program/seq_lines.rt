@@ -11,11 +11,11 @@ use crate::program::parse::parse;
 use crate::program::streams::{Sink, Source};
 use flurry_bins::hash::LowHashBuilder;
 use flurry_seq::SeqMap;
-use std::alloc::Global;
+use std::alloc::Allocator;
 use std::io;
 
 // The map that the lines speak of.
-type Numbers = SeqMap<u64, u64, LowHashBuilder>;
+type Numbers<A> = SeqMap<u64, u64, LowHashBuilder, A>;
 
 /// Answers the lines of a reader, from an empty map on. Answers the program's status.
 ///
@@ -38,7 +38,11 @@ type Numbers = SeqMap<u64, u64, LowHashBuilder>;
 /// end and before a read that may wait. A failed write or flush is the end with status 1.
 ///
 /// A line costs what the map's call does.
-pub fn seq_lines<R: Source, W: Sink>(alloc: Global, reader: &mut R, writer: &mut W) -> u8
+pub fn seq_lines<R: Source, W: Sink, A: Allocator + Copy>(
+    alloc: A,
+    reader: &mut R,
+    writer: &mut W,
+) -> u8
     // Over a reader and a writer that tell their bytes.
     ensures run { RunsLines of_one_map [] (R.remaining reader.old) (W.contents writer.old) (W.flushed writer.new) (W.has_failed writer.new) result }
     ensures cause { FailsForCause (R.remaining reader.old) (R.has_failed reader.new) (W.has_failed writer.new) result }
@@ -53,7 +57,11 @@ pub fn seq_lines<R: Source, W: Sink>(alloc: Global, reader: &mut R, writer: &mut
 }
 
 // Answers the lines, and what they end in. A failed write is an error.
-fn answer_lines<R: Source, W: Sink>(alloc: Global, reader: &mut R, writer: &mut W) -> io::Result<u8>
+fn answer_lines<R: Source, W: Sink, A: Allocator + Copy>(
+    alloc: A,
+    reader: &mut R,
+    writer: &mut W,
+) -> io::Result<u8>
     ensures failed { OnErr result (IsTrue (W.has_failed writer.new)) }
     ensures run { IfOk result (λ status. IfSome (R.remaining reader.old) (λ input.
         Ends of_one_map [] 1 input (W.contents writer.old) (W.contents writer.new) status)) }
@@ -70,8 +78,8 @@ fn answer_lines<R: Source, W: Sink>(alloc: Global, reader: &mut R, writer: &mut 
 }
 
 // Reads a line and answers it. Some status is the program's end. What was written goes out before a wait.
-fn step<R: Source, W: Sink>(
-    map: &mut Numbers,
+fn step<R: Source, W: Sink, A: Allocator + Copy>(
+    map: &mut Numbers<A>,
     number: u64,
     reader: &mut R,
     writer: &mut W,
@@ -89,8 +97,8 @@ fn step<R: Source, W: Sink>(
 }
 
 // Reads a line and answers it. Some status is the program's end.
-fn answer_next<R: Source, W: Sink>(
-    map: &mut Numbers,
+fn answer_next<R: Source, W: Sink, A: Allocator + Copy>(
+    map: &mut Numbers<A>,
     number: u64,
     reader: &mut R,
     writer: &mut W,
@@ -120,8 +128,8 @@ fn answer_next<R: Source, W: Sink>(
 }
 
 // Answers a line. Some status is the program's end.
-fn answer_line<W: Sink>(
-    map: &mut Numbers,
+fn answer_line<W: Sink, A: Allocator + Copy>(
+    map: &mut Numbers<A>,
     number: u64,
     line: &[u8],
     writer: &mut W,
@@ -141,7 +149,11 @@ fn answer_line<W: Sink>(
 }
 
 // Does a command, and writes its answer.
-fn answer<W: Sink>(map: &mut Numbers, command: Command, writer: &mut W) -> io::Result<()>
+fn answer<W: Sink, A: Allocator + Copy>(
+    map: &mut Numbers<A>,
+    command: Command,
+    writer: &mut W,
+) -> io::Result<()>
     ensures failed { OnErr result (IsTrue (W.has_failed writer.new)) }
     ensures answer { OnOk result ((answer : List ℕ) × Answers command map.old.pairs answer map.new.pairs
         × Appends (W.contents writer.old) (W.contents writer.new) (answer ++ 10 ∷ [])) }
@@ -163,7 +175,12 @@ fn answer<W: Sink>(map: &mut Numbers, command: Command, writer: &mut W) -> io::R
 }
 
 // Puts a value at an absent key, and writes what that answers.
-fn answer_try<W: Sink>(map: &mut Numbers, key: u64, value: u64, writer: &mut W) -> io::Result<()>
+fn answer_try<W: Sink, A: Allocator + Copy>(
+    map: &mut Numbers<A>,
+    key: u64,
+    value: u64,
+    writer: &mut W,
+) -> io::Result<()>
     ensures failed { OnErr result (IsTrue (W.has_failed writer.new)) }
     ensures answer { OnOk result ((answer : List ℕ) × Answers (Command.Try key value) map.old.pairs answer map.new.pairs
         × Appends (W.contents writer.old) (W.contents writer.new) (answer ++ 10 ∷ [])) }

@@ -17,11 +17,11 @@ use flurry_bins::hash::LowHashBuilder;
 use flurry_slots::{Change, NoChange};
 use flurry_steps::party::KeptCall;
 use flurry_world::World;
-use std::alloc::Global;
+use std::alloc::Allocator;
 use std::io;
 
 // The world that the lines speak of. No line begins a call that has a function.
-type Numbers<'k, F> = World<'k, u64, u64, F, LowHashBuilder>;
+type Numbers<'k, F, A> = World<'k, u64, u64, F, LowHashBuilder, A>;
 
 /// Makes the calls of a reader's lines, in the order of steps that they ask for, and writes each label. Answers the program's status.
 ///
@@ -51,14 +51,18 @@ type Numbers<'k, F> = World<'k, u64, u64, F, LowHashBuilder>;
 /// answered by nothing. Where memory for the world, a party or a label is wanting, `out of memory` is the run's end, with status 3.
 ///
 /// A line costs what its calls of the world do.
-pub fn world_lines<R: Source, W: Sink>(alloc: Global, reader: &mut R, writer: &mut W) -> u8
+pub fn world_lines<R: Source, W: Sink, A: Allocator + Copy>(
+    alloc: A,
+    reader: &mut R,
+    writer: &mut W,
+) -> u8
     ensures status { result ≤ 3 }
     // Over a reader and a writer that tell their bytes.
     ensures run { RunsLines of_a_schedule None
         (R.remaining reader.old) (W.contents writer.old) (W.flushed writer.new) (W.has_failed writer.new) result }
     ensures cause { FailsForCause (R.remaining reader.old) (R.has_failed reader.new) (W.has_failed writer.new) result }
 {
-    match answer_lines::<NoChange, R, W>(alloc, reader, writer) {
+    match answer_lines::<NoChange, R, W, A>(alloc, reader, writer) {
         Ok(status) => match writer.flush() {
             Ok(()) => status,
             Err(_) => 1,
@@ -68,8 +72,8 @@ pub fn world_lines<R: Source, W: Sink>(alloc: Global, reader: &mut R, writer: &m
 }
 
 // Does what the lines ask for, and answers what they end in. A failed write is an error.
-fn answer_lines<F: Change<u64, u64> + Copy, R: Source, W: Sink>(
-    alloc: Global,
+fn answer_lines<F: Change<u64, u64> + Copy, R: Source, W: Sink, A: Allocator + Copy>(
+    alloc: A,
     reader: &mut R,
     writer: &mut W,
 ) -> io::Result<u8>
@@ -80,7 +84,7 @@ fn answer_lines<F: Change<u64, u64> + Copy, R: Source, W: Sink>(
     ensures cause { IfOk result (λ status. status ≡ 1 → IfSome (R.remaining reader.old) (λ input.
         IsTrue (R.has_failed reader.new) ⊎ (2 ^ 62 ≤ length input))) }
 {
-    let mut world: Option<Numbers<'_, F>> = None;
+    let mut world: Option<Numbers<'_, F, A>> = None;
     for number in 1..=MOST_READS {
         if let Some(status) = step(alloc, &mut world, number, reader, writer)? {
             return Ok(status);
@@ -90,9 +94,9 @@ fn answer_lines<F: Change<u64, u64> + Copy, R: Source, W: Sink>(
 }
 
 // Reads a line and does what it asks for. Some status is the program's end. What was written goes out before a wait.
-fn step<F: Change<u64, u64> + Copy, R: Source, W: Sink>(
-    alloc: Global,
-    world: &mut Option<Numbers<'_, F>>,
+fn step<F: Change<u64, u64> + Copy, R: Source, W: Sink, A: Allocator + Copy>(
+    alloc: A,
+    world: &mut Option<Numbers<'_, F, A>>,
     number: u64,
     reader: &mut R,
     writer: &mut W,
@@ -111,9 +115,9 @@ fn step<F: Change<u64, u64> + Copy, R: Source, W: Sink>(
 }
 
 // Reads a line and does what it asks for. Some status is the program's end.
-fn answer_next<F: Change<u64, u64> + Copy, R: Source, W: Sink>(
-    alloc: Global,
-    world: &mut Option<Numbers<'_, F>>,
+fn answer_next<F: Change<u64, u64> + Copy, R: Source, W: Sink, A: Allocator + Copy>(
+    alloc: A,
+    world: &mut Option<Numbers<'_, F, A>>,
     number: u64,
     reader: &mut R,
     writer: &mut W,
@@ -144,9 +148,9 @@ fn answer_next<F: Change<u64, u64> + Copy, R: Source, W: Sink>(
 }
 
 // Does what a line asks for. Some status is the program's end.
-fn answer_line<F: Change<u64, u64> + Copy, W: Sink>(
-    alloc: Global,
-    world: &mut Option<Numbers<'_, F>>,
+fn answer_line<F: Change<u64, u64> + Copy, W: Sink, A: Allocator + Copy>(
+    alloc: A,
+    world: &mut Option<Numbers<'_, F, A>>,
     number: u64,
     line: &[u8],
     writer: &mut W,
@@ -164,9 +168,9 @@ fn answer_line<F: Change<u64, u64> + Copy, W: Sink>(
 }
 
 // Does what a line of a schedule asks for. Some status is the program's end.
-fn answer<F: Change<u64, u64> + Copy, W: Sink>(
-    alloc: Global,
-    world: &mut Option<Numbers<'_, F>>,
+fn answer<F: Change<u64, u64> + Copy, W: Sink, A: Allocator + Copy>(
+    alloc: A,
+    world: &mut Option<Numbers<'_, F, A>>,
     number: u64,
     line: Line,
     writer: &mut W,
@@ -182,9 +186,9 @@ fn answer<F: Change<u64, u64> + Copy, W: Sink>(
 }
 
 // Makes the world that the first line asks for. Some status is the program's end.
-fn make_world<F: Change<u64, u64> + Copy, W: Sink>(
-    alloc: Global,
-    world: &mut Option<Numbers<'_, F>>,
+fn make_world<F: Change<u64, u64> + Copy, W: Sink, A: Allocator + Copy>(
+    alloc: A,
+    world: &mut Option<Numbers<'_, F, A>>,
     number: u64,
     line: Line,
     writer: &mut W,
@@ -214,8 +218,8 @@ fn make_world<F: Change<u64, u64> + Copy, W: Sink>(
 }
 
 // Does in the world what a line asks for. Some status is the program's end.
-fn answer_in<F: Change<u64, u64> + Copy, W: Sink>(
-    world: &mut Numbers<'_, F>,
+fn answer_in<F: Change<u64, u64> + Copy, W: Sink, A: Allocator + Copy>(
+    world: &mut Numbers<'_, F, A>,
     number: u64,
     line: Line,
     writer: &mut W,
@@ -236,8 +240,8 @@ fn answer_in<F: Change<u64, u64> + Copy, W: Sink>(
 }
 
 // Begins a call, and writes its label. Some status is the program's end.
-fn begin<F: Change<u64, u64> + Copy, W: Sink>(
-    world: &mut Numbers<'_, F>,
+fn begin<F: Change<u64, u64> + Copy, W: Sink, A: Allocator + Copy>(
+    world: &mut Numbers<'_, F, A>,
     call: KeptCall<u64, u64, F>,
     writer: &mut W,
 ) -> io::Result<Option<u8>>
@@ -256,8 +260,8 @@ fn begin<F: Change<u64, u64> + Copy, W: Sink>(
 }
 
 // Does so many steps of a party, and writes the label of each. Some status is the program's end.
-fn do_steps<F: Change<u64, u64> + Copy, W: Sink>(
-    world: &mut Numbers<'_, F>,
+fn do_steps<F: Change<u64, u64> + Copy, W: Sink, A: Allocator + Copy>(
+    world: &mut Numbers<'_, F, A>,
     party: usize,
     steps: u64,
     writer: &mut W,
@@ -276,8 +280,8 @@ fn do_steps<F: Change<u64, u64> + Copy, W: Sink>(
 }
 
 // Writes the newest label of a world.
-fn write_last<F: Change<u64, u64> + Copy, W: Sink>(
-    world: &Numbers<'_, F>,
+fn write_last<F: Change<u64, u64> + Copy, W: Sink, A: Allocator + Copy>(
+    world: &Numbers<'_, F, A>,
     writer: &mut W,
 ) -> io::Result<()>
     ensures failed { OnErr result (IsTrue (W.has_failed writer.new)) }

@@ -1,0 +1,5 @@
+//! The program's lines where memory is wanting: each request of a run, refused in turn.
+#![tactic(auto)]
+
+#[cfg(test)]
+mod tests;

@@ -1,0 +1,125 @@
+//! What a run writes and ends in where a request is refused, and that each block comes back.
+
+use flurry::{Output, run_words};
+use std::alloc::Global;
+use std::io;
+use std::process::Abort;
+use std::test::Fail;
+use test_alloc::Refusing;
+
+type Memory = &'static Refusing<Global>;
+
+// A status, and what was written.
+type End<'a> = (u8, &'a [u8]);
+
+// No run makes so many requests.
+const MOST_REQUESTS: u64 = 100;
+
+// Runs the word on the lines with the request numbered k refused: the status, what was written, and whether it made that request.
+fn run_without(
+    alloc: Global,
+    memory: Memory,
+    k: u64,
+    word: &str,
+    lines: &[u8],
+) -> io::Result<(u8, Output<Vec<u8>>, bool)> {
+    let mut lines = lines;
+    let mut output = Output::new(alloc, Vec::new(alloc))?;
+    memory.refuse_at(k);
+    let status = run_words(memory, &[word], &mut lines, &mut output);
+    let refused = memory.refused();
+    memory.refuse_nothing();
+    Ok((status, output, refused))
+}
+
+// Refuses each request of a run in turn. The run comes to each of these ends, in their order, and to the last where nothing is
+// refused.
+fn refuse_each(
+    rt: &(impl Abort + AllocGlobal),
+    word: &str,
+    lines: &[u8],
+    ends: &[End<'_>],
+) -> Result<(), Fail> {
+    let memory = Refusing::leaked(rt.alloc())?;
+    let mut place = 0usize;
+    for k in 0..MOST_REQUESTS {
+        let (status, output, refused) = run_without(rt.alloc(), memory, k, word, lines)?;
+        let end = (status, output.get_ref().as_slice());
+        if ends.get(place) != Some(&end) {
+            place = place.saturating_add(1);
+        }
+        assert_eq!(rt; ends.get(place), Some(&end), "at {k}");
+        assert_eq!(rt; memory.blocks(), 0, "at {k}");
+        if !refused {
+            assert_eq!(rt; place.saturating_add(1), ends.len());
+            return Ok(());
+        }
+    }
+    Err(Fail::from("a run with no request refused"))
+}
+
+#[test]
+fn insertions_into_one_map(rt: HostRuntime) -> Result<(), Fail> {
+    let lines = b"insert 7 0\nget 7\ninsert 8 0\nlen\n".as_slice();
+    let ends = [
+        (0, b"refused\nnone\nnone\n1\n".as_slice()),
+        (0, b"none\nsome 0\nrefused\n1\n".as_slice()),
+        (0, b"none\nsome 0\nnone\n2\n".as_slice()),
+    ];
+    refuse_each(&rt, "seq", lines, &ends)
+}
+
+#[test]
+fn tries_at_one_map(rt: HostRuntime) -> Result<(), Fail> {
+    let lines = b"try 7 0\nget 7\ntry 8 0\nlen\n".as_slice();
+    let ends = [
+        (0, b"refused\nnone\nnew 0\n1\n".as_slice()),
+        (0, b"new 0\nsome 0\nrefused\n1\n".as_slice()),
+        (0, b"new 0\nsome 0\nnew 0\n2\n".as_slice()),
+    ];
+    refuse_each(&rt, "seq", lines, &ends)
+}
+
+// Memory is wanting for the world or its first call, for the insertion, or for the fifth label.
+#[test]
+fn insertion_into_a_world(rt: HostRuntime) -> Result<(), Fail> {
+    let lines = b"world 1 8\nbegin insert 1 1\nstep 0 4\n".as_slice();
+    let ends = [
+        (3, b"out of memory\n".as_slice()),
+        (
+            0,
+            b"begin 0\nsilent 0\nrefused 0\nsilent 0\nsilent 0\n".as_slice(),
+        ),
+        (
+            3,
+            b"begin 0\nsilent 0\ndecide 0 none\nsilent 0\nout of memory\n".as_slice(),
+        ),
+        (
+            0,
+            b"begin 0\nsilent 0\ndecide 0 none\nsilent 0\nreply 0 none\n".as_slice(),
+        ),
+    ];
+    refuse_each(&rt, "world", lines, &ends)
+}
+
+// The same, for the first table of a world. A look-up after a refused one finds no table.
+#[test]
+fn first_table_of_a_world(rt: HostRuntime) -> Result<(), Fail> {
+    let lines = b"world 1 0\nbegin reserve 0\nstep 0 2\nbegin get 1\nstep 1 2\n".as_slice();
+    let ends = [
+        (3, b"out of memory\n".as_slice()),
+        (
+            0,
+            b"begin 0\nrefused 0\nsilent 0\nbegin 1\ndecide 1 none\nreply 1 none\n".as_slice(),
+        ),
+        (
+            3,
+            b"begin 0\nopened 0\nsilent 0\nbegin 1\nout of memory\n".as_slice(),
+        ),
+        (
+            0,
+            b"begin 0\nopened 0\nsilent 0\nbegin 1\nsilent 1\ndecide 1 none\n".as_slice(),
+        ),
+    ];
+    refuse_each(&rt, "world", lines, &ends)
+}
