@@ -81,6 +81,19 @@ fn tries(rt: HostRuntime) -> Result<(), Fail> {
 }
 
 #[test]
+fn bins_of_twelve_pairs(rt: HostRuntime) -> Result<(), Fail> {
+    let mut lines = b"insert 0 0\ninsert 1 0\ninsert 2 0\ninsert 3 0\ninsert 4 0\ninsert 5 0\n\
+        insert 6 0\ninsert 7 0\ninsert 8 0\ninsert 9 0\ninsert 10 0\nbins\ninsert 11 0\nbins\n"
+        .as_slice();
+    let mut output = output(rt.alloc())?;
+    assert_eq!(rt; seq_lines(rt.alloc(), &mut lines, &mut output), 0);
+    let want =
+        b"none\nnone\nnone\nnone\nnone\nnone\nnone\nnone\nnone\nnone\nnone\n16\nnone\n32\n".as_slice();
+    assert_eq!(rt; output.get_ref().as_slice(), want);
+    Ok(())
+}
+
+#[test]
 fn bad_lines(rt: HostRuntime) -> Result<(), Fail> {
     let long = b"get 0000000000000000000000000000000000000000000000000000000000001\n".as_slice();
     for line in [
