@@ -19,6 +19,7 @@ pub use flurry_bins::hash::{DefaultHashBuilder, DefaultHasher};
 pub use flurry_bins::{bin, hash, table};
 pub use flurry_seq::{SeqMap, SeqSet, calls, iter as seq_iter, seq_map, seq_set, set_calls};
 pub use program::buffers::{Input, Output};
+pub use program::exit::exit_code;
 pub use program::run_words::run_words;
 pub use program::seq_lines::seq_lines;
 pub use program::streams::{Sink, Source};

@@ -3,6 +3,7 @@
 pub mod buffers;
 pub mod command;
 mod ends;
+pub mod exit;
 pub mod input;
 pub mod labels;
 pub mod parse;

@@ -1,7 +1,7 @@
-//! Runs the program on its words, standard input and standard output.
+//! Runs the program on its words, standard input and standard output, and exits with its status.
 #![tactic(auto)]
 
-use flurry::{Input, Output, run_words};
+use flurry::{Input, Output, exit_code, run_words};
 use std::process::ExitCode;
 use std::{env, io};
 
@@ -16,5 +16,5 @@ fn main(rt: HostRuntime) -> io::Result<ExitCode> {
     let mut reader = Input::new(rt.alloc(), rt.reader())?;
     let mut writer = Output::new(rt.alloc(), io::writer(&rt))?;
     let status = run_words(rt.alloc(), &words, &mut reader, &mut writer);
-    Ok(ExitCode::from(status))
+    Ok(exit_code(status))
 }

@@ -1,0 +1,12 @@
+//! How the program exits.
+ghost use Rattle.std.specs.Prelude.{◌≡◌};
+ghost use Rattle.std.specs.Process.{exit_status};
+
+use std::process::ExitCode;
+
+/// The exit code of a status that [`run_words`](crate::run_words) answered.
+pub fn exit_code(status: u8) -> ExitCode
+    ensures { exit_status result ≡ status }
+{
+    ExitCode::from(status)
+}
