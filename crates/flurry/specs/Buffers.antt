@@ -1,6 +1,7 @@
 -- What a clause reads of the buffers.
 use Rattle.std.specs.Prelude.{ℕ, List, Bool, Option}
 use Rattle.std.specs.Io.Buffered.{reader_remaining, reader_buffer, writer_contents, writer_inner}
+use Rattle.flurry.specs.LineEnds.{HasNoBreak}
 use Rattle.flurry.specs.declared.program.buffers.Input.{Input}
 use Rattle.flurry.specs.declared.program.buffers.Output.{Output}
 
@@ -15,6 +16,10 @@ input_buffer input = reader_buffer input.reader
 -- whether a read has failed
 abbrev pub input_has_failed : {R A : Type 0} → Input R A → Bool
 input_has_failed input = input.failed
+
+-- the next line may have to be waited for: the buffer has no whole line
+abbrev pub input_can_wait : {R A : Type 0} → Input R A → Type 0
+input_can_wait input = HasNoBreak (input_buffer input)
 
 -- the bytes of the writer behind and then the buffer, where those are known
 abbrev pub output_contents : {W A : Type 0} → (W → Option (List ℕ)) → Output W A → Option (List ℕ)

@@ -1,6 +1,6 @@
 //! Buffers in front of any reader and any writer.
-ghost use Rattle.flurry.specs.Buffers.{input_remaining, input_buffer, input_has_failed, output_contents, output_flushed, output_has_failed};
-ghost use Rattle.std.specs.Prelude.{◌≡◌, ◌↔◌, [], IfOk, IfErr, IsTrue, false};
+ghost use Rattle.flurry.specs.Buffers.{input_remaining, input_has_failed, input_can_wait, output_contents, output_flushed, output_has_failed};
+ghost use Rattle.std.specs.Prelude.{◌≡◌, IfOk, IfErr, false};
 ghost use Rattle.std.specs.IoError.{error_kind};
 
 use crate::program::streams::{Sink, Source};
@@ -41,6 +41,8 @@ impl<R: Read, A: Allocator> Source for Input<R, A> {
 
     ghost has_failed = { input_has_failed };
 
+    ghost can_wait = { input_can_wait };
+
     fn read_byte(&mut self) -> io::Result<Option<u8>> {
         let mut byte = [0u8; 1];
         match self.reader.read(&mut byte) {
@@ -53,10 +55,8 @@ impl<R: Read, A: Allocator> Source for Input<R, A> {
         }
     }
 
-    fn may_wait(&self) -> bool
-        ensures { IsTrue result ↔ (input_buffer self.now ≡ []) }
-    {
-        self.reader.buffer().is_empty()
+    fn may_wait(&self) -> bool {
+        self.reader.buffer().iter().all(|byte| *byte != b'\n')
     }
 }
 

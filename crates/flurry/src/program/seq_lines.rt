@@ -6,7 +6,7 @@ ghost use Rattle.flurry.specs.Runs.{AnswersLine, RefusesLine, Goes, Ends, RunsLi
 
 use crate::program::command::Command;
 use crate::program::ends::{MOST_READS, bad_line, input_failed};
-use crate::program::input::{LineEnd, read_line};
+use crate::program::input::{LineEnd, flush_before_wait, read_line};
 use crate::program::parse::parse;
 use crate::program::streams::{Sink, Source};
 use flurry_bins::hash::LowHashBuilder;
@@ -35,7 +35,7 @@ type Numbers<A> = SeqMap<u64, u64, LowHashBuilder, A>;
 /// The first line that is no such command gets `bad line N`, counted from 1, and is the run's end, with status 2.
 /// The end of the input is the end with status 0. After a failed read comes `input failed`, with status 1, and
 /// a read of a line past the first 2^62 counts as failed. What was answered before stays, and is flushed at the
-/// end and before a read that may wait. A failed write or flush is the end with status 1.
+/// end and before a line that is not all there yet is read. A failed write or flush is the end with status 1.
 ///
 /// A line costs what the map's call does.
 pub fn seq_lines<R: Source, W: Sink, A: Allocator + Copy>(
@@ -90,9 +90,7 @@ fn step<R: Source, W: Sink, A: Allocator + Copy>(
         (Ends of_one_map map.old.pairs number input (W.contents writer.old) (W.contents writer.new)))) }
     ensures cause { IfOk result (λ ended. IfSome ended (λ status. status ≡ 1 → IsTrue (R.has_failed reader.new))) }
 {
-    if reader.may_wait() {
-        writer.flush()?;
-    }
+    flush_before_wait(reader, writer)?;
     answer_next(map, number, reader, writer)
 }
 
@@ -103,6 +101,7 @@ fn answer_next<R: Source, W: Sink, A: Allocator + Copy>(
     reader: &mut R,
     writer: &mut W,
 ) -> io::Result<Option<u8>>
+    requires flushed { R.can_wait reader.old → W.flushed writer.old ≡ W.contents writer.old }
     ensures failed { OnErr result (IsTrue (W.has_failed writer.new)) }
     ensures run { IfOk result (λ ended. IfSome (R.remaining reader.old) (λ input. MatchOption ended
         (Goes of_one_map map.old.pairs number input map.new.pairs (number + 1) (R.remaining reader.new) (W.contents writer.old) (W.contents writer.new))

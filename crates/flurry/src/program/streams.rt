@@ -1,5 +1,5 @@
 //! Readers of bytes and writers of lines, which say whether they failed.
-ghost use Rattle.std.specs.Prelude.{◌≡◌, ℕ, List, Option, Some, Bool, false, IsTrue, OnOk, OnErr, IfOk, IfSome};
+ghost use Rattle.std.specs.Prelude.{◌≡◌, ◌↔◌, ℕ, List, Option, Some, Bool, false, IsTrue, OnOk, OnErr, IfOk, IfSome};
 ghost use Rattle.std.specs.Io.KnownBytes.{Appends, Keeps};
 ghost use Rattle.std.specs.Fmt.{with_newline};
 ghost use Rattle.flurry.specs.Bytes.{GivesByte};
@@ -15,6 +15,9 @@ pub trait Source {
     /// Whether a read has failed.
     ghost has_failed: { Self → Bool };
 
+    /// Whether the next line may have to be waited for.
+    ghost can_wait: { Self → Type 0 };
+
     /// The next byte, or `None` at the end.
     ///
     /// # Errors
@@ -25,8 +28,9 @@ pub trait Source {
         ensures fine { OnOk result (has_failed self.new ≡ has_failed self.old) }
         ensures failed { OnErr result (IsTrue (has_failed self.new)) };
 
-    /// Whether the next read may wait for its byte. It is a hint.
-    fn may_wait(&self) -> bool;
+    /// Whether the next line may have to be waited for, since not all of its bytes are here yet.
+    fn may_wait(&self) -> bool
+        ensures { IsTrue result ↔ can_wait self.now };
 }
 
 /// A writer of lines, which may hold some of them back.
@@ -58,6 +62,7 @@ pub trait Sink {
     fn flush(&mut self) -> io::Result<()>
         ensures bytes { OnOk result (Keeps (contents self.old) (contents self.new)) }
         ensures flushed { OnOk result (Keeps (contents self.old) (flushed self.new)) }
+        ensures all { OnOk result (flushed self.new ≡ contents self.new) }
         ensures fine { OnOk result (has_failed self.new ≡ has_failed self.old) }
         ensures failed { OnErr result (IsTrue (has_failed self.new)) };
 }
@@ -67,6 +72,8 @@ impl Source for &[u8] {
     ghost remaining = { λ r. Some r.now };
 
     ghost has_failed = { λ r. false };
+
+    ghost can_wait = { λ r. ⊥ };
 
     fn read_byte(&mut self) -> io::Result<Option<u8>> {
         match self.split_first() {
@@ -79,7 +86,8 @@ impl Source for &[u8] {
     }
 
     fn may_wait(&self) -> bool
-        ensures { result ≡ false }
+        ensures never { result ≡ false }
+        ensures waits { IsTrue result ↔ ⊥ }
     {
         false
     }

@@ -9,7 +9,7 @@ ghost use Rattle.flurry.specs.Runs.{AnswersLine, RefusesLine, Answered, Goes, En
 ghost use Rattle.flurry.specs.ScheduleRuns.{of_a_schedule, of_a_world, AnswersSteps};
 
 use crate::program::ends::{MOST_READS, bad_line, input_failed, out_of_memory};
-use crate::program::input::{LineEnd, read_line};
+use crate::program::input::{LineEnd, flush_before_wait, read_line};
 use crate::program::labels::write_label;
 use crate::program::schedule::{Line, parse_line};
 use crate::program::streams::{Sink, Source};
@@ -108,9 +108,7 @@ fn step<F: Change<u64, u64> + Copy, R: Source, W: Sink, A: Allocator + Copy>(
         (Ends (of_a_world F.changes) world.old number input (W.contents writer.old) (W.contents writer.new)))) }
     ensures cause { IfOk result (λ ended. IfSome ended (λ status. status ≡ 1 → IsTrue (R.has_failed reader.new))) }
 {
-    if reader.may_wait() {
-        writer.flush()?;
-    }
+    flush_before_wait(reader, writer)?;
     answer_next(alloc, world, number, reader, writer)
 }
 
@@ -122,6 +120,7 @@ fn answer_next<F: Change<u64, u64> + Copy, R: Source, W: Sink, A: Allocator + Co
     reader: &mut R,
     writer: &mut W,
 ) -> io::Result<Option<u8>>
+    requires flushed { R.can_wait reader.old → W.flushed writer.old ≡ W.contents writer.old }
     ensures failed { OnErr result (IsTrue (W.has_failed writer.new)) }
     ensures status { IfOk result (λ ended. IfSome ended (λ status. status ≤ 3)) }
     ensures run { IfOk result (λ ended. IfSome (R.remaining reader.old) (λ input. MatchOption ended
