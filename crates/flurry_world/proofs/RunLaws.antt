@@ -1,5 +1,5 @@
 -- Lists of steps, one after another.
-use Rattle.std.specs.Prelude.{ℕ, zero, suc, ◌<◌, List, [], ◌∷◌, ◌++◌, length, slice_index_or, All, Option, Result, Ok, Err, OnErr}
+use Rattle.std.specs.Prelude.{ℕ, zero, suc, ◌<◌, List, [], ◌∷◌, ◌++◌, length, All, Option, Result, Ok, Err, OnErr}
 use Rattle.std.specs.declared.cmp.Ordering.{Ordering}
 use Rattle.std.proofs.Common.{arith, refl, subst}
 use Rattle.flurry_world.specs.World.{Shown}
@@ -41,10 +41,7 @@ module _ {K V F : Type 0} (ready : F → Type 0) (each : (f : F) → ready f) wh
   kept_ready (kept.Compute k f) = each f
   kept_ready (kept.Reserve n) = tt
 
-  step_ready : (s : Step K V F) → StepIsReady ready s
+  -- where each function may be called, each step may be done
+  pub step_ready : (s : Step K V F) → StepIsReady ready s
   step_ready (step.Begin c) = kept_ready c
   step_ready (step.Step p) = tt
-
-  -- where each function may be called, each list of steps may be run
-  pub steps_ready : (steps : List (Step K V F)) → All (StepIsReady ready) steps
-  steps_ready steps k d h = step_ready (slice_index_or steps k d)

@@ -461,7 +461,7 @@ fn steps_from<F: Change<u64, u64> + Copy>(
 }
 
 // The labels of a new world that ran those steps, with memory enough.
-#[tactic(auto, using(flurry_world::proofs::RunLaws::steps_ready))]
+#[tactic(auto, using(flurry_world::proofs::RunLaws::step_ready))]
 fn text_of_steps<F: Change<u64, u64> + Copy + Debug>(
     alloc: Global,
     memory: Memory,
@@ -479,7 +479,7 @@ fn run(rt: HostRuntime) -> Result<(), Fail> {
     runs::<NoChange>(&rt, rt.alloc())
 }
 
-#[tactic(auto, using(flurry_world::proofs::RunLaws::steps_ready))]
+#[tactic(auto, using(flurry_world::proofs::RunLaws::step_ready))]
 fn runs<F: Change<u64, u64> + Copy + Debug>(rt: &impl Abort, alloc: Global) -> Result<(), Fail>
     requires { (f : F) → F.can_change f }
 {

@@ -144,7 +144,7 @@ fn does_singly<'k, F: Change<u64, u64> + Copy>(
 }
 
 // A list of steps and the same steps one by one have the same labels.
-#[tactic(auto, using(crate::proofs::RunLaws::steps_ready))]
+#[tactic(auto, using(crate::proofs::RunLaws::step_ready))]
 fn runs_a_list<F: Change<u64, u64> + Copy>(rt: &impl Abort, alloc: Global) -> Result<(), Fail>
     requires { (f : F) → F.can_change f }
 {
