@@ -1,5 +1,5 @@
 -- Steps of a world, and what is written for their labels.
-use Rattle.std.proofs.Common.{◌≡◌, ℕ, ◌+◌, ◌-◌, ◌≤◌, List, [], ◌∷◌, ◌++◌, replicate, Option, None, Some, MatchOption, Result, Ok, Err, IfOk, refl, sym, ap, ◌∙◌, subst, inr, append_assoc, append-nil, arith}
+use Rattle.std.proofs.Common.{◌≡◌, ℕ, suc, ◌+◌, ◌-◌, ◌<◌, List, [], ◌∷◌, ◌++◌, replicate, Option, None, Some, MatchOption, Result, Ok, Err, IfOk, refl, sym, ap, ◌∙◌, subst, inr, append_assoc, append-nil, arith}
 use Rattle.std.specs.Prelude.{slice_get, ⊤}
 use Rattle.std.specs.Ordering.{nat_cmp}
 use Rattle.std.specs.Io.KnownBytes.{Appends}
@@ -91,11 +91,11 @@ module _ {F S : Type 0} where
         )
 
     -- memory is wanting after so many of them
-    pub did_front : (p n m status : ℕ) (w v u : Shown ℕ ℕ F S) (held holds later : Option (List ℕ)) → n ≤ m → Did p n w v held holds → u ≡ v → status ≡ 3 → Appends holds later out_of_memory_text
+    pub did_front : (p n m status : ℕ) (w v u : Shown ℕ ℕ F S) (held holds later : Option (List ℕ)) → n < m → Did p n w v held holds → u ≡ v → status ≡ 3 → Appends holds later out_of_memory_text
         → AnswersSteps changes (replicate m (step.Step p)) w u held later (Some status)
     did_front p n m status w v u held holds later few d same is written =
-        let whole : replicate m (step.Step p) ≡ replicate n (step.Step p) ++ replicate (m - n) (step.Step p) = ap (λ k. replicate k (step.Step p)) (omega arith) ∙ sym (replicate-append-replicate n (m - n) (step.Step p)) in
-        let done : AnswersSteps changes (replicate m (step.Step p)) w v held later (Some status) = (d.0, (replicate n (step.Step p), replicate (m - n) (step.Step p), whole, d.1), d.2, is, Appends-trans held holds later d.0 out_of_memory_text d.3 written) in
+        let whole : replicate m (step.Step p) ≡ replicate n (step.Step p) ++ step.Step p ∷ replicate (m - n - 1) (step.Step p) = ap (λ k. replicate k (step.Step p)) (omega arith) ∙ sym (replicate-append-replicate n (suc (m - n - 1)) (step.Step p)) in
+        let done : AnswersSteps changes (replicate m (step.Step p)) w v held later (Some status) = (d.0, (replicate n (step.Step p), replicate (m - n - 1) (step.Step p), step.Step p, whole, d.1), d.2, is, Appends-trans held holds later d.0 out_of_memory_text d.3 written) in
         rw same done
 
     -- a call began, and its label was written
@@ -113,7 +113,7 @@ module _ {F S : Type 0} where
     pub not_begun : (status : ℕ) (w v : Shown ℕ ℕ F S) (c : KeptCall ℕ ℕ F) (held holds : Option (List ℕ)) → v ≡ w → status ≡ 3 → Appends held holds out_of_memory_text
         → AnswersSteps changes (step.Begin c ∷ []) w v held holds (Some status)
     not_begun status w v c held holds same is written =
-        ([], ([], step.Begin c ∷ [], refl, same), rw same (tells_none w), is, written)
+        ([], ([], [], step.Begin c, refl, same), rw same (tells_none w), is, written)
 
     -- ---- from steps to the line that asks for them
 
