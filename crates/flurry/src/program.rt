@@ -11,6 +11,4 @@ pub mod run_words;
 pub mod schedule;
 pub mod seq_lines;
 pub mod streams;
-#[cfg(test)]
-mod tests;
 pub mod world_lines;

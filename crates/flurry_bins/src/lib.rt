@@ -4,5 +4,3 @@
 pub mod bin;
 pub mod hash;
 pub mod table;
-#[cfg(test)]
-mod tests;

@@ -5,8 +5,6 @@ mod caller;
 mod labels;
 pub mod parts;
 pub mod tables;
-#[cfg(test)]
-mod tests;
 pub mod world;
 
 pub use caller::hash_for;

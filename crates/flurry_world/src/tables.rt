@@ -89,10 +89,8 @@ impl<K: Ord + Drop, V: Drop, A: Allocator> Tables<K, V, A> {
         }
     }
 
-    /// Whether there is a slot of that table and index, and its two halves in the next table.
-    ///
-    /// Constant time.
-    pub fn has_halves(&self, table: u8, index: usize) -> bool
+    // Whether there is a slot of that table and index, and its two halves in the next table.
+    pub(crate) fn has_halves(&self, table: u8, index: usize) -> bool
         ensures there { IsTrue result ↔ (IsThere self.now (MovePart table index)) }
         ensures within { AreTables self.now }
     {

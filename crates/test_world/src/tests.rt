@@ -5,12 +5,12 @@ mod checker;
 mod random;
 mod rows;
 
-use crate::world::World;
 use flurry_bins::hash::LowHashBuilder;
 use flurry_bins::table::KeptReply;
 use flurry_slots::Change;
 use flurry_steps::party::KeptCall;
 use flurry_theory::Label;
+use flurry_world::world::World;
 use std::alloc::Global;
 use std::process::Abort;
 use std::test::Fail;

@@ -1,7 +1,6 @@
 //! What was answered is written out before a read that may wait.
 
-use crate::program::buffers::{Input, Output};
-use crate::program::run_words::run_words;
+use flurry::{Input, Output, run_words};
 use std::cell::Cell;
 use std::io::{self, Read, Write};
 use std::process::Abort;

@@ -1,11 +1,11 @@
 //! Each call once, a list of steps, and the first table of a new world.
 
 use super::{Line, Numbers, assert_call, assert_reply, begin, end_of, line_of, value};
-use crate::world::Step;
 use flurry_bins::hash::LowHashBuilder;
 use flurry_bins::table::KeptReply;
 use flurry_slots::{Change, NoChange};
 use flurry_steps::party::KeptCall;
+use flurry_world::world::Step;
 use std::alloc::Global;
 use std::process::Abort;
 use std::test::Fail;
@@ -144,7 +144,7 @@ fn does_singly<'k, F: Change<u64, u64> + Copy>(
 }
 
 // A list of steps and the same steps one by one have the same labels.
-#[tactic(auto, using(crate::proofs::RunLaws::step_ready))]
+#[tactic(auto, using(flurry_world::proofs::RunLaws::step_ready))]
 fn runs_a_list<F: Change<u64, u64> + Copy>(rt: &impl Abort, alloc: Global) -> Result<(), Fail>
     requires { (f : F) → F.can_change f }
 {

@@ -1,9 +1,7 @@
 //! Schedules over bytes in memory, and over streams that fail.
 
 use super::{FailsAfter, FailsFirst, output};
-use crate::program::buffers::{Input, Output};
-use crate::program::run_words::run_words;
-use crate::program::world_lines::world_lines;
+use flurry::{Input, Output, run_words, world_lines};
 use std::process::Abort;
 use std::test::Fail;
 

@@ -3,9 +3,7 @@
 mod waits;
 mod world;
 
-use super::buffers::{Input, Output};
-use super::run_words::run_words;
-use super::seq_lines::seq_lines;
+use flurry::{Input, Output, run_words, seq_lines};
 use std::alloc::Global;
 use std::io::{self, Read, Write};
 use std::process::Abort;

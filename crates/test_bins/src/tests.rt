@@ -3,9 +3,11 @@ ghost use Rattle.std.specs.Prelude.{◌≡◌, IfOk};
 ghost use Rattle.std.specs.Arc.{arc_value};
 ghost use Rattle.flurry_bins.specs.Chain.{entry_of};
 
-use crate::bin::{Bin, Entry, ListBin, Node, Ordered, Shape, TreeBin};
-use crate::hash::{DefaultHashBuilder, KeyHasher, LowHashBuilder, MaxHashBuilder, ZeroHashBuilder};
-use crate::table::stride;
+use flurry_bins::bin::{Bin, Entry, ListBin, Node, Ordered, Shape, TreeBin};
+use flurry_bins::hash::{
+    DefaultHashBuilder, KeyHasher, LowHashBuilder, MaxHashBuilder, ZeroHashBuilder,
+};
+use flurry_bins::table::stride;
 use std::alloc::Global;
 use std::hash::{Hash, Hasher};
 use std::sync::Arc;

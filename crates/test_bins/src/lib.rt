@@ -1,0 +1,5 @@
+//! Hash numbers and bins, as tests.
+#![tactic(auto)]
+
+#[cfg(test)]
+mod tests;
