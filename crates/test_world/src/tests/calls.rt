@@ -223,3 +223,40 @@ fn begins_with<'k, F: Change<u64, u64> + Copy>(
     let lines = [Line::Silent(1), Line::Placed(table.saturating_add(1))];
     assert_call(rt, &mut world, 1, KeptCall::Reserve(64), &lines)
 }
+
+#[test]
+fn rewritten_value(rt: HostRuntime) -> Result<(), Fail> {
+    rewrites(&rt, rt.alloc(), |_key: &u64, value: &u64| two_more(*value))
+}
+
+// With memory enough no call is refused, in a table of 8192 bins and whatever number a value has: a value is written ten times, and
+// looked up between.
+fn rewrites<F: Change<u64, u64> + Copy>(
+    rt: &impl Abort,
+    alloc: Global,
+    change: F,
+) -> Result<(), Fail>
+    requires { (f : F) → F.can_change f }
+{
+    let mut world = Numbers::new(alloc, 5000, LowHashBuilder, 1)?;
+    assert_reply(rt, &mut world, KeptCall::Insert(8191, 0), value(None))?;
+    for _ in 0..10u8 {
+        assert_reply(rt, &mut world, KeptCall::Insert(8191, 1), value(Some(0)))?;
+        let exists = KeptReply::Exists {
+            current: 1,
+            not_inserted: 7,
+        };
+        assert_reply(rt, &mut world, KeptCall::TryInsert(8191, 7), exists)?;
+        assert_reply(
+            rt,
+            &mut world,
+            KeptCall::Compute(8191, change),
+            value(Some(3)),
+        )?;
+        assert_reply(rt, &mut world, KeptCall::Insert(8191, 0), value(Some(3)))?;
+        let pair = KeptReply::Pair(Some((8191, 0)));
+        assert_reply(rt, &mut world, KeptCall::GetKeyValue(8191), pair)?;
+        assert_reply(rt, &mut world, KeptCall::Get(8191), value(Some(0)))?;
+    }
+    Ok(())
+}
