@@ -1,6 +1,6 @@
 //! What a run writes and ends in where a request is refused, and that each block comes back.
 
-use flurry::{Output, run_words};
+use flurry_program::{Output, run_words};
 use std::alloc::Global;
 use std::io;
 use std::process::Abort;

@@ -3,7 +3,7 @@
 mod waits;
 mod world;
 
-use flurry::{Input, Output, run_words, seq_lines};
+use flurry_program::{Input, Output, run_words, seq_lines};
 use std::alloc::Global;
 use std::io::{self, Read, Write};
 use std::process::Abort;

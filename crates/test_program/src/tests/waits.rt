@@ -1,6 +1,6 @@
 //! What was answered is written out before a read that may wait.
 
-use flurry::{Input, Output, run_words};
+use flurry_program::{Input, Output, run_words};
 use std::cell::Cell;
 use std::io::{self, Read, Write};
 use std::process::Abort;

@@ -1,7 +1,7 @@
 //! Schedules over bytes in memory, and over streams that fail.
 
 use super::{FailsAfter, FailsFirst, output};
-use flurry::{Input, Output, run_words, world_lines};
+use flurry_program::{Input, Output, run_words, world_lines};
 use std::process::Abort;
 use std::test::Fail;
 

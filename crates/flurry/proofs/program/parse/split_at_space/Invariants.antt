@@ -1,6 +1,0 @@
-use Rattle.std.proofs.Common.{take}
-use Rattle.flurry.specs.Words.{HasNoSpace}
-use Rattle.flurry.proofs.program.parse.split_at_space.Given as goal
-
-abbrev pub invariant-loop-i : goal.invariant-loop-i
-invariant-loop-i l = HasNoSpace (take l.i l.words)

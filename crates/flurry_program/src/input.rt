@@ -1,0 +1,51 @@
+//! The lines of a reader.
+ghost use Rattle.std.specs.Prelude.{◌≡◌, IfOk, OnOk, OnErr, IsTrue};
+ghost use Rattle.std.specs.Io.KnownBytes.{Keeps};
+ghost use Rattle.flurry_program.specs.LineEnds.{Gave};
+
+use crate::streams::{Sink, Source};
+use arrayvec::ArrayVec;
+use std::io;
+
+/// How a line ended.
+#[derive(Clone, Copy, Debug, PartialEq, Eq)]
+pub enum LineEnd {
+    /// At a line feed.
+    Break,
+    /// At the end of the input.
+    End,
+    /// It is longer than any line may be.
+    Long,
+}
+
+/// The next line, without its line feed. Of one that is too long, the first 65 bytes.
+///
+/// # Errors
+///
+/// Fails where the reader does.
+pub fn read_line<R: Source>(reader: &mut R) -> io::Result<(ArrayVec<u8, 65>, LineEnd)>
+    ensures gave { IfOk result (λ got. Gave (R.remaining reader.old) (R.remaining reader.new) got.0.items got.1) }
+    ensures failed { OnErr result (IsTrue (R.has_failed reader.new)) }
+{
+    let mut line = ArrayVec::new();
+    for _ in 0..65u32 {
+        match reader.read_byte()? {
+            Some(b'\n') => return Ok((line, LineEnd::Break)),
+            Some(byte) => line.push(byte),
+            None => return Ok((line, LineEnd::End)),
+        }
+    }
+    Ok((line, LineEnd::Long))
+}
+
+/// Hands on what the writer holds back, where the reader's next line may have to be waited for.
+pub(crate) fn flush_before_wait<R: Source, W: Sink>(reader: &R, writer: &mut W) -> io::Result<()>
+    ensures failed { OnErr result (IsTrue (W.has_failed writer.new)) }
+    ensures bytes { OnOk result (Keeps (W.contents writer.old) (W.contents writer.new)) }
+    ensures flushed { OnOk result (R.can_wait reader.now → W.flushed writer.new ≡ W.contents writer.new) }
+{
+    if reader.may_wait() {
+        writer.flush()?;
+    }
+    Ok(())
+}

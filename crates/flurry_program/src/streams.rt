@@ -1,0 +1,94 @@
+//! Readers of bytes and writers of lines, which say whether they failed.
+ghost use Rattle.std.specs.Prelude.{◌≡◌, ◌↔◌, ℕ, List, Option, Some, Bool, false, IsTrue, OnOk, OnErr, IfOk, IfSome};
+ghost use Rattle.std.specs.Io.KnownBytes.{Appends, Keeps};
+ghost use Rattle.std.specs.Fmt.{with_newline};
+ghost use Rattle.flurry_program.specs.Bytes.{GivesByte};
+
+use std::fmt::Display;
+use std::io;
+
+/// A reader of single bytes.
+pub trait Source {
+    /// The bytes that it will give, where they are known.
+    ghost remaining: { Self → Option (List ℕ) };
+
+    /// Whether a read has failed.
+    ghost has_failed: { Self → Bool };
+
+    /// Whether the next line may have to be waited for.
+    ghost can_wait: { Self → Type 0 };
+
+    /// The next byte, or `None` at the end.
+    ///
+    /// # Errors
+    ///
+    /// Fails where the reader behind does. No claim is made on its bytes from then on.
+    fn read_byte(&mut self) -> io::Result<Option<u8>>
+        ensures byte { IfOk result (GivesByte (remaining self.old) (remaining self.new)) }
+        ensures fine { OnOk result (has_failed self.new ≡ has_failed self.old) }
+        ensures failed { OnErr result (IsTrue (has_failed self.new)) };
+
+    /// Whether the next line may have to be waited for, since not all of its bytes are here yet.
+    fn may_wait(&self) -> bool
+        ensures { IsTrue result ↔ can_wait self.now };
+}
+
+/// A writer of lines, which may hold some of them back.
+pub trait Sink {
+    /// The bytes that were written, where they are known.
+    ghost contents: { Self → Option (List ℕ) };
+
+    /// Those of them that are not held back.
+    ghost flushed: { Self → Option (List ℕ) };
+
+    /// Whether a write has failed.
+    ghost has_failed: { Self → Bool };
+
+    /// Writes a text and a line feed.
+    ///
+    /// # Errors
+    ///
+    /// Fails where the writer behind does. Some of the line may be written then.
+    fn write_line<D: Display + Drop>(&mut self, text: D) -> io::Result<()>
+        ensures bytes { OnOk result (IfSome (with_newline (D.output text)) (Appends (contents self.old) (contents self.new))) }
+        ensures fine { OnOk result (has_failed self.new ≡ has_failed self.old) }
+        ensures failed { OnErr result (IsTrue (has_failed self.new)) };
+
+    /// Hands on what is held back.
+    ///
+    /// # Errors
+    ///
+    /// Fails where the writer behind does. It counts as a failed write.
+    fn flush(&mut self) -> io::Result<()>
+        ensures bytes { OnOk result (Keeps (contents self.old) (contents self.new)) }
+        ensures flushed { OnOk result (Keeps (contents self.old) (flushed self.new)) }
+        ensures all { OnOk result (flushed self.new ≡ contents self.new) }
+        ensures fine { OnOk result (has_failed self.new ≡ has_failed self.old) }
+        ensures failed { OnErr result (IsTrue (has_failed self.new)) };
+}
+
+/// Bytes in memory, which never fail.
+impl Source for &[u8] {
+    ghost remaining = { λ r. Some r.now };
+
+    ghost has_failed = { λ r. false };
+
+    ghost can_wait = { λ r. ⊥ };
+
+    fn read_byte(&mut self) -> io::Result<Option<u8>> {
+        match self.split_first() {
+            Some((first, rest)) => {
+                *self = rest;
+                Ok(Some(*first))
+            }
+            None => Ok(None),
+        }
+    }
+
+    fn may_wait(&self) -> bool
+        ensures never { result ≡ false }
+        ensures waits { IsTrue result ↔ ⊥ }
+    {
+        false
+    }
+}

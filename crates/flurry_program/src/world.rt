@@ -1,0 +1,294 @@
+//! The lines of a world.
+ghost use Rattle.std.specs.Prelude.{◌≡◌, ℕ, ◌+◌, ◌≤◌, ◌^◌, ◌⊎◌, [], ◌∷◌, ◌++◌, None, Some, List, replicate, length, OnOk, OnErr, IfOk, IfSome, MatchOption, IsTrue};
+ghost use Rattle.std.specs.Io.KnownBytes.{Appends};
+ghost use Rattle.flurry_steps.specs.PartyView.{KeptIsReady};
+ghost use Rattle.flurry_theory.specs.declared.Label.{Label};
+ghost use Rattle.flurry_world.specs.declared.world.Step.TheVariants as step;
+ghost use Rattle.flurry_program.specs.Labels.{label_text};
+ghost use Rattle.flurry_program.specs.Runs.{AnswersLine, RefusesLine, Answered, Goes, Ends, RunsLines, FailsForCause};
+ghost use Rattle.flurry_program.specs.ScheduleRuns.{of_a_schedule, of_a_world, AnswersSteps};
+
+use crate::ends::{MOST_READS, bad_line, input_failed, out_of_memory};
+use crate::input::{LineEnd, flush_before_wait, read_line};
+use crate::labels::write_label;
+use crate::schedule::{Line, parse_line};
+use crate::streams::{Sink, Source};
+use flurry_bins::hash::LowHashBuilder;
+use flurry_slots::{Change, NoChange};
+use flurry_steps::party::KeptCall;
+use flurry_world::World;
+use std::alloc::Allocator;
+use std::io;
+
+// The world that the lines speak of. No line begins a call that has a function.
+type Numbers<'k, F, A> = World<'k, u64, u64, F, LowHashBuilder, A>;
+
+/// Makes the calls of a reader's lines, in the order of steps that they ask for, and writes each label. Answers the program's status.
+///
+/// | Line | What it does | Answer |
+/// |---|---|---|
+/// | `world P C` | a world of P processors for C pairs, over the hasher that gives each key itself | none |
+/// | `begin insert K V`, `begin try K V`, `begin get K`, `begin remove K` | a call of one key begins; the first is party 0, the next party 1 | `begin P` |
+/// | `begin reserve N` | a call that makes room for N pairs more begins | `begin P` |
+/// | `step P N` | N steps of party P, at most 100000 | the label of each step |
+///
+/// A label has a line of its own.
+///
+/// | Label | What the step did |
+/// |---|---|
+/// | `decide P R` | party P decided on this reply |
+/// | `reply P R`, `end P` | the party is done, with a reply if it is a call of one key |
+/// | `refused P` | it was refused for memory, and is done |
+/// | `opened E` | the first table was made, of 2^E bins |
+/// | `placed E`, `moved E I`, `published E` | the table E was made, and a growth to it began; bin I of the table E moved to the next one; the table E was published, and the growth to it ended |
+/// | `silent P` | anything else. Nothing at all where the party is done, or no party has this number |
+///
+/// A reply R is `some V` or `none`, and to a `try` `new V`, or `exists V` with the value that stands. `wipe P E I` and `read P K V`
+/// are labels of calls that no line begins.
+///
+/// The first line has to be a `world`, and no other line may be one. The form of lines, the end at the first bad line with status 2
+/// and those after the input, a failed read or a failed write are those of [`seq_lines`](crate::seq_lines). An input with no line is
+/// answered by nothing. Where memory for the world, a party or a label is wanting, `out of memory` is the run's end, with status 3.
+///
+/// A line costs what its calls of the world do.
+pub fn world_lines<R: Source, W: Sink, A: Allocator + Copy>(
+    alloc: A,
+    reader: &mut R,
+    writer: &mut W,
+) -> u8
+    ensures status { result ≤ 3 }
+    // Over a reader and a writer that tell their bytes.
+    ensures run { RunsLines of_a_schedule None
+        (R.remaining reader.old) (W.contents writer.old) (W.flushed writer.new) (W.has_failed writer.new) result }
+    ensures cause { FailsForCause (R.remaining reader.old) (R.has_failed reader.new) (W.has_failed writer.new) result }
+{
+    match answer_lines::<NoChange, R, W, A>(alloc, reader, writer) {
+        Ok(status) => match writer.flush() {
+            Ok(()) => status,
+            Err(_) => 1,
+        },
+        Err(_) => 1,
+    }
+}
+
+// Does what the lines ask for, and answers what they end in. A failed write is an error.
+fn answer_lines<F: Change<u64, u64> + Copy, R: Source, W: Sink, A: Allocator + Copy>(
+    alloc: A,
+    reader: &mut R,
+    writer: &mut W,
+) -> io::Result<u8>
+    ensures failed { OnErr result (IsTrue (W.has_failed writer.new)) }
+    ensures status { IfOk result (λ status. status ≤ 3) }
+    ensures run { IfOk result (λ status. IfSome (R.remaining reader.old) (λ input.
+        Ends (of_a_world {F = F} {S = LowHashBuilder} F.changes) None 1 input (W.contents writer.old) (W.contents writer.new) status)) }
+    ensures cause { IfOk result (λ status. status ≡ 1 → IfSome (R.remaining reader.old) (λ input.
+        IsTrue (R.has_failed reader.new) ⊎ (2 ^ 62 ≤ length input))) }
+{
+    let mut world: Option<Numbers<'_, F, A>> = None;
+    for number in 1..=MOST_READS {
+        if let Some(status) = step(alloc, &mut world, number, reader, writer)? {
+            return Ok(status);
+        }
+    }
+    input_failed(writer)
+}
+
+// Reads a line and does what it asks for. Some status is the program's end. What was written goes out before a wait.
+fn step<F: Change<u64, u64> + Copy, R: Source, W: Sink, A: Allocator + Copy>(
+    alloc: A,
+    world: &mut Option<Numbers<'_, F, A>>,
+    number: u64,
+    reader: &mut R,
+    writer: &mut W,
+) -> io::Result<Option<u8>>
+    ensures failed { OnErr result (IsTrue (W.has_failed writer.new)) }
+    ensures status { IfOk result (λ ended. IfSome ended (λ status. status ≤ 3)) }
+    ensures run { IfOk result (λ ended. IfSome (R.remaining reader.old) (λ input. MatchOption ended
+        (Goes (of_a_world F.changes) world.old number input world.new (number + 1) (R.remaining reader.new) (W.contents writer.old) (W.contents writer.new))
+        (Ends (of_a_world F.changes) world.old number input (W.contents writer.old) (W.contents writer.new)))) }
+    ensures cause { IfOk result (λ ended. IfSome ended (λ status. status ≡ 1 → IsTrue (R.has_failed reader.new))) }
+{
+    flush_before_wait(reader, writer)?;
+    answer_next(alloc, world, number, reader, writer)
+}
+
+// Reads a line and does what it asks for. Some status is the program's end.
+fn answer_next<F: Change<u64, u64> + Copy, R: Source, W: Sink, A: Allocator + Copy>(
+    alloc: A,
+    world: &mut Option<Numbers<'_, F, A>>,
+    number: u64,
+    reader: &mut R,
+    writer: &mut W,
+) -> io::Result<Option<u8>>
+    requires flushed { R.can_wait reader.old → W.flushed writer.old ≡ W.contents writer.old }
+    ensures failed { OnErr result (IsTrue (W.has_failed writer.new)) }
+    ensures status { IfOk result (λ ended. IfSome ended (λ status. status ≤ 3)) }
+    ensures run { IfOk result (λ ended. IfSome (R.remaining reader.old) (λ input. MatchOption ended
+        (Goes (of_a_world F.changes) world.old number input world.new (number + 1) (R.remaining reader.new) (W.contents writer.old) (W.contents writer.new))
+        (Ends (of_a_world F.changes) world.old number input (W.contents writer.old) (W.contents writer.new)))) }
+    ensures cause { IfOk result (λ ended. IfSome ended (λ status. status ≡ 1 → IsTrue (R.has_failed reader.new))) }
+{
+    match read_line(reader) {
+        Ok((line, end)) => match end {
+            LineEnd::Break => answer_line(alloc, world, number, line.as_slice(), writer),
+            LineEnd::Long => Ok(Some(bad_line(number, writer)?)),
+            LineEnd::End => {
+                if line.is_empty() {
+                    return Ok(Some(0));
+                }
+                match answer_line(alloc, world, number, line.as_slice(), writer)? {
+                    None => Ok(Some(0)),
+                    Some(status) => Ok(Some(status)),
+                }
+            }
+        },
+        Err(_) => Ok(Some(input_failed(writer)?)),
+    }
+}
+
+// Does what a line asks for. Some status is the program's end.
+fn answer_line<F: Change<u64, u64> + Copy, W: Sink, A: Allocator + Copy>(
+    alloc: A,
+    world: &mut Option<Numbers<'_, F, A>>,
+    number: u64,
+    line: &[u8],
+    writer: &mut W,
+) -> io::Result<Option<u8>>
+    ensures failed { OnErr result (IsTrue (W.has_failed writer.new)) }
+    ensures status { IfOk result (λ ended. IfSome ended (λ status. (2 ≤ status) × (status ≤ 3))) }
+    ensures answer { IfOk result (λ ended. MatchOption ended
+        (AnswersLine (of_a_world F.changes) world.old line.now world.new (W.contents writer.old) (W.contents writer.new))
+        (RefusesLine (of_a_world F.changes) world.old number line.now (W.contents writer.old) (W.contents writer.new))) }
+{
+    match parse_line(line) {
+        Some(line) => answer(alloc, world, number, line, writer),
+        None => Ok(Some(bad_line(number, writer)?)),
+    }
+}
+
+// Does what a line of a schedule asks for. Some status is the program's end.
+fn answer<F: Change<u64, u64> + Copy, W: Sink, A: Allocator + Copy>(
+    alloc: A,
+    world: &mut Option<Numbers<'_, F, A>>,
+    number: u64,
+    line: Line,
+    writer: &mut W,
+) -> io::Result<Option<u8>>
+    ensures failed { OnErr result (IsTrue (W.has_failed writer.new)) }
+    ensures status { IfOk result (λ ended. IfSome ended (λ status. (2 ≤ status) × (status ≤ 3))) }
+    ensures answer { IfOk result (Answered (of_a_world F.changes) line world.old world.new number (W.contents writer.old) (W.contents writer.new)) }
+{
+    match world {
+        Some(world) => answer_in(world, number, line, writer),
+        None => make_world(alloc, world, number, line, writer),
+    }
+}
+
+// Makes the world that the first line asks for. Some status is the program's end.
+fn make_world<F: Change<u64, u64> + Copy, W: Sink, A: Allocator + Copy>(
+    alloc: A,
+    world: &mut Option<Numbers<'_, F, A>>,
+    number: u64,
+    line: Line,
+    writer: &mut W,
+) -> io::Result<Option<u8>>
+    requires { world.old ≡ None }
+    ensures failed { OnErr result (IsTrue (W.has_failed writer.new)) }
+    ensures status { IfOk result (λ ended. IfSome ended (λ status. (2 ≤ status) × (status ≤ 3))) }
+    ensures answer { IfOk result (Answered (of_a_world F.changes) line None world.new number (W.contents writer.old) (W.contents writer.new)) }
+{
+    match line {
+        Line::World(processors, capacity) => {
+            match World::new(
+                alloc,
+                capacity as usize,
+                LowHashBuilder,
+                processors as usize,
+            ) {
+                Ok(new) => {
+                    *world = Some(new);
+                    Ok(None)
+                }
+                Err(_) => Ok(Some(out_of_memory(writer)?)),
+            }
+        }
+        _ => Ok(Some(bad_line(number, writer)?)),
+    }
+}
+
+// Does in the world what a line asks for. Some status is the program's end.
+fn answer_in<F: Change<u64, u64> + Copy, W: Sink, A: Allocator + Copy>(
+    world: &mut Numbers<'_, F, A>,
+    number: u64,
+    line: Line,
+    writer: &mut W,
+) -> io::Result<Option<u8>>
+    ensures failed { OnErr result (IsTrue (W.has_failed writer.new)) }
+    ensures status { IfOk result (λ ended. IfSome ended (λ status. (2 ≤ status) × (status ≤ 3))) }
+    ensures answer { IfOk result (Answered (of_a_world F.changes) line (Some world.old) (Some world.new) number (W.contents writer.old) (W.contents writer.new)) }
+{
+    match line {
+        Line::World(_, _) => Ok(Some(bad_line(number, writer)?)),
+        Line::Insert(key, value) => begin(world, KeptCall::Insert(key, value), writer),
+        Line::Try(key, value) => begin(world, KeptCall::TryInsert(key, value), writer),
+        Line::Get(key) => begin(world, KeptCall::Get(key), writer),
+        Line::Remove(key) => begin(world, KeptCall::Remove(key), writer),
+        Line::Reserve(more) => begin(world, KeptCall::Reserve(more as usize), writer),
+        Line::Step(party, steps) => do_steps(world, party as usize, steps, writer),
+    }
+}
+
+// Begins a call, and writes its label. Some status is the program's end.
+fn begin<F: Change<u64, u64> + Copy, W: Sink, A: Allocator + Copy>(
+    world: &mut Numbers<'_, F, A>,
+    call: KeptCall<u64, u64, F>,
+    writer: &mut W,
+) -> io::Result<Option<u8>>
+    requires { KeptIsReady F.can_change call }
+    ensures failed { OnErr result (IsTrue (W.has_failed writer.new)) }
+    ensures status { IfOk result (λ ended. IfSome ended (λ status. status ≡ 3)) }
+    ensures answer { IfOk result (AnswersSteps F.changes (step.Begin call ∷ []) world.old world.new (W.contents writer.old) (W.contents writer.new)) }
+{
+    match world.begin(call) {
+        Ok(_) => {
+            write_last(world, writer)?;
+            Ok(None)
+        }
+        Err(_) => Ok(Some(out_of_memory(writer)?)),
+    }
+}
+
+// Does so many steps of a party, and writes the label of each. Some status is the program's end.
+fn do_steps<F: Change<u64, u64> + Copy, W: Sink, A: Allocator + Copy>(
+    world: &mut Numbers<'_, F, A>,
+    party: usize,
+    steps: u64,
+    writer: &mut W,
+) -> io::Result<Option<u8>>
+    ensures failed { OnErr result (IsTrue (W.has_failed writer.new)) }
+    ensures status { IfOk result (λ ended. IfSome ended (λ status. status ≡ 3)) }
+    ensures answer { IfOk result (AnswersSteps F.changes (replicate steps (step.Step party)) world.old world.new (W.contents writer.old) (W.contents writer.new)) }
+{
+    for _ in 0..steps {
+        match world.step(party) {
+            Ok(()) => write_last(world, writer)?,
+            Err(_) => return Ok(Some(out_of_memory(writer)?)),
+        }
+    }
+    Ok(None)
+}
+
+// Writes the newest label of a world.
+fn write_last<F: Change<u64, u64> + Copy, W: Sink, A: Allocator + Copy>(
+    world: &Numbers<'_, F, A>,
+    writer: &mut W,
+) -> io::Result<()>
+    ensures failed { OnErr result (IsTrue (W.has_failed writer.new)) }
+    ensures bytes { OnOk result ((older : List (Label ℕ ℕ F)) (label : Label ℕ ℕ F) → world.now.trace ≡ older ++ label ∷ [] →
+        Appends (W.contents writer.old) (W.contents writer.new) (label_text label ++ 10 ∷ [])) }
+{
+    match world.trace().last() {
+        Some(label) => write_label(label, writer),
+        None => Ok(()),
+    }
+}
