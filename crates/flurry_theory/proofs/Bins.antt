@@ -34,7 +34,7 @@ module _ {K V : Type 0} (cmp : K → K → Ordering) (total : IsTotalOrder cmp) 
   at_key j k m n e h = grind (arith, e, h)
 
   -- the stored key is of the class
-  stored_class : (m : Pairs K V) (k : K) → same cmp (unwrap_or (option_map (λ x. x.0) (find cmp m k)) k) k ≡ true
+  pub stored_class : (m : Pairs K V) (k : K) → same cmp (unwrap_or (option_map (λ x. x.0) (find cmp m k)) k) k ≡ true
   stored_class [] k = (one_class cmp total).refl k
   stored_class (x ∷ m) k = grind (arith, stored_class m k)
 

@@ -18,3 +18,4 @@ pub mod BinSteps
 pub mod Examples
 pub mod Runs
 pub mod Starts
+pub mod OneKeyLaws

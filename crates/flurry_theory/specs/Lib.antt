@@ -4,3 +4,4 @@ pub mod Legal
 pub mod Bin
 pub mod Machine
 pub mod Invariant
+pub mod OneKeyCalls

@@ -1,6 +1,11 @@
-//! The laws over every run.
+//! The laws over every run, and that their finite map is the owned map's.
 ghost use Rattle.std.specs.Prelude.{◌≡◌, ℕ, pos, neg_ℤ, ◌≤ℤ◌, Bool, true, ◌<◌, ◌≤◌, List, ◌++◌, length, Option, Some, None, if◌then◌else◌};
-ghost use Rattle.flurry_theory.specs.Map.{same, answers};
+ghost use Rattle.flurry_bins.specs.declared.table.reply.KeptReply.{KeptReply};
+ghost use Rattle.flurry_bins.specs.FiniteMap.{IsFiniteMap, gathered};
+ghost use Rattle.flurry_bins.specs.OneKey.{OneKey};
+ghost use Rattle.flurry_theory.specs.declared.Call.{Call};
+ghost use Rattle.flurry_theory.specs.Map.{Pairs, same, answers};
+ghost use Rattle.flurry_theory.specs.OneKeyCalls.{one_key_of, HasSamePairs, AgreesOn};
 ghost use Rattle.flurry_theory.specs.Trace.{pairs};
 ghost use Rattle.flurry_theory.specs.Machine.{Finished, Line, WasPublished};
 ghost use Rattle.flurry_theory.specs.Invariant.{Inv, CanAll, after_all, new_world};
@@ -40,4 +45,15 @@ pub fn count_stays_within_labels<K: Ord, V, F: Fn(&K, &V) -> Option<V>>()
         → (e : ℕ) (b : Bool) → e ≤ 30 → (steps : List (ℕ × Line K V F)) → CanAll K.cmp hash (answers F.Fn) (new_world e b) steps
         → ((after_all K.cmp hash (answers F.Fn) (new_world e b) steps).count ≤ℤ pos (length (after_all K.cmp hash (answers F.Fn) (new_world e b) steps).trace))
         × (neg_ℤ (pos (length (after_all K.cmp hash (answers F.Fn) (new_world e b) steps).trace)) ≤ℤ (after_all K.cmp hash (answers F.Fn) (new_world e b) steps).count) }
+{}
+
+/// What the laws above call the finite map's reply is what a caller of the owned map calls so. Each one-key call is told of the
+/// owned map, in the order of its keys, and of the pairs along a trace, which have no order. Where these are the same at each
+/// class, either may reply exactly what the other may, and they are the same after it. Any pairs are those of some finite map, and
+/// a list looked up in either way has the same at each class.
+pub fn one_key_calls_agree<K: Ord, V, F: Fn(&K, &V) -> Option<V>>()
+    ensures calls { (c : Call K V F) (o : OneKey K V F) (m : List (K × V)) (n : Pairs K V) (r : KeptReply K V)
+        → one_key_of c ≡ Some o → IsFiniteMap K.cmp m → HasSamePairs K.cmp m n → AgreesOn K.cmp (answers F.Fn) c o m n r }
+    ensures maps { (n : Pairs K V) → IsFiniteMap K.cmp (gathered K.cmp n) × HasSamePairs K.cmp (gathered K.cmp n) n }
+    ensures lookups { (m : List (K × V)) → HasSamePairs K.cmp m m }
 {}
