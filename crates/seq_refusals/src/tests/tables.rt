@@ -130,6 +130,43 @@ fn refused_growth_keeps_insert(rt: HostRuntime) -> Result<(), Fail> {
     Ok(())
 }
 
+// In 16 bins, eleven pairs of which eight stand in one bin. The ninth of that bin asks for 128 bins, which are refused at the first
+// doubling; then the count, which is the threshold, asks for 32.
+#[test]
+fn count_grows_after_a_refused_growth(rt: HostRuntime) -> Result<(), Fail> {
+    let memory = Refusing::leaked(rt.alloc())?;
+    let mut map = map_of(memory, 4)?;
+    for k in 1..8u64 {
+        assert!(rt; map.insert(16 * k, k)?.is_none());
+    }
+    assert_eq!(rt; (map.capacity(), map.len()), (16, 11));
+    memory.refuse_at(3);
+    let answer = map.insert(128, 8);
+    let refused = memory.refused();
+    memory.refuse_nothing();
+    assert!(rt; refused);
+    assert!(rt; answer?.is_none());
+    assert_eq!(rt; (map.capacity(), map.len()), (32, 12));
+    Ok(())
+}
+
+// Thirteen insertions reach or pass the threshold of 16 bins and each finds no memory for a larger table. The next doubles it twice.
+#[test]
+fn count_grows_until_there_is_room(rt: HostRuntime) -> Result<(), Fail> {
+    let memory = Refusing::leaked(rt.alloc())?;
+    let mut map = map_of(memory, 11)?;
+    for key in 11..24u64 {
+        memory.refuse_from(3);
+        let answer = map.insert(key, key);
+        memory.refuse_nothing();
+        assert!(rt; answer?.is_none());
+    }
+    assert_eq!(rt; (map.capacity(), map.len()), (16, 24));
+    assert!(rt; map.insert(24, 24)?.is_none());
+    assert_eq!(rt; (map.capacity(), map.len()), (64, 25));
+    Ok(())
+}
+
 #[test]
 fn each_request_of_a_growing_insert(rt: HostRuntime) -> Result<(), Fail> {
     let memory = Refusing::leaked(rt.alloc())?;
