@@ -11,7 +11,7 @@ use Rattle.flurry_bins.specs.OneKey as one
 use Rattle.flurry_bins.specs.Sizes.{IsGrown}
 use Rattle.flurry_bins.specs.declared.table.reply.KeptReply.{KeptReply}
 use Rattle.flurry_bins.specs.declared.table.reply.KeptReply.TheVariants as kept
-use Rattle.flurry_seq.specs.Contents.{Contents, SamePairs, with_pairs, asked_for, first_bins}
+use Rattle.flurry_seq.specs.Contents.{Contents, SamePairs, with_pairs, asked_for, first_bins, IsLeftByReserve}
 use Rattle.flurry_seq.specs.Equality.{maps_eq}
 use Rattle.flurry_seq.specs.Retain.{Retains}
 use Rattle.flurry_seq.specs.Shapes.{count_in, IsFit}
@@ -88,6 +88,6 @@ module _ {K V A : Type 0} where
       -- what a call that was refused leaves: the map, but that a `reserve` may have made its table larger, and an `extend` has
       -- inserted a front of its list
       abbrev pub CallRefused : Call K V S F P A → Contents K V S → Contents K V S → Type 0
-      CallRefused (Reserve a) m n = SamePairs m n
+      CallRefused (Reserve a) m n = SamePairs m n × IsLeftByReserve m.bins (asked_for m a) n.bins
       CallRefused (Extend list) m n = (front rest : List (K × V)) × (list.items ≡ front ++ rest) × (n.pairs ≡ with_all cmp m.pairs front) × (n.hasher ≡ m.hasher)
       CallRefused call m n = n ≡ m

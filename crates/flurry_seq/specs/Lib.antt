@@ -1,5 +1,6 @@
 pub mod Apart
 pub mod CallLists
+pub mod Callable
 pub mod Calls
 pub mod Contents
 pub mod Equality

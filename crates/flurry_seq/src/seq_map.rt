@@ -1,6 +1,6 @@
 //! The owned map.
 ghost use Rattle.std.specs.Prelude.{◌≡◌, ◌⊎◌, [], ◌<◌, ◌≤◌, ◌*◌, ◌^◌, ◌++◌, List, length, count_by, OnOk, OnErr, IfOk, IfSome, IsOkAnd, IsErrAnd, MatchOption, MatchResult, Option, Some, None, Ok, IsSome, is_some, ◌==◌, if◌then◌else◌};
-ghost use Rattle.std.specs.Option.{option_map};
+ghost use Rattle.std.specs.Option.{option_map, ForSome};
 ghost use Rattle.std.specs.Arc.{arc_value};
 ghost use Rattle.std.specs.Borrow.{Bor};
 ghost use Rattle.flurry_bins.specs.Chain.{entry_of};
@@ -8,11 +8,12 @@ ghost use Rattle.flurry_bins.specs.FiniteMap.{IsFiniteMap, pair_at, value_at, wi
 ghost use Rattle.flurry_bins.specs.Hashing.{seed_of};
 ghost use Rattle.flurry_bins.specs.Sizes.{wanted_of, threshold_of, IsOnTheWay, IsGrown};
 ghost use Rattle.flurry_seq.specs.HandedOut.{AreBinsOf};
+ghost use Rattle.flurry_seq.specs.Callable.{IsCallableAt};
 ghost use Rattle.flurry_seq.specs.Invariant.{IsTableSize};
 ghost use Rattle.flurry_seq.specs.Seen.{seen};
 ghost use Rattle.flurry_seq.specs.Shapes.{count_in, IsFit};
 ghost use Rattle.flurry_seq.specs.Table.{bin_of};
-ghost use Rattle.flurry_seq.specs.Contents.{contents, with_pairs, SamePairs, asked_for, first_bins};
+ghost use Rattle.flurry_seq.specs.Contents.{contents, with_pairs, SamePairs, asked_for, first_bins, IsLeftByReserve};
 
 mod keeping;
 
@@ -119,11 +120,12 @@ impl<K: Ord + Drop, V: Drop, S: KeyHasher<K>, A: Allocator> SeqMap<K, V, S, A> {
         self.len == 0
     }
 
-    /// The number of bins of the table, 0 without one.
+    /// The number of bins of the table, a power of two; 0 without one.
     ///
     /// Constant time.
     pub fn capacity(&self) -> usize
         ensures bins { result ≡ self.now.bins }
+        ensures size { IsTableSize result }
         ensures most { result ≤ 2 ^ 30 }
     {
         self.table.len()
@@ -307,9 +309,9 @@ impl<K: Ord + Drop, V: Drop, S: KeyHasher<K>, A: Allocator + Copy> SeqMap<K, V, 
         Ok(Ok(value))
     }
 
-    /// Calls a function on the stored key and the value of a key, if it is present; else it does nothing, asks for no memory and
-    /// answers none. What the function answers is the new value, and is answered; where it answers none, the pair is taken out.
-    /// The table stays as large as it is.
+    /// Calls a function once on the stored key and the value of a key, if it is present; else it calls nothing, asks for no memory
+    /// and answers none. What the function answers is the new value, and is answered; where it answers none, the pair is taken out.
+    /// The table stays as large as it is. The function need be fit for that one pair alone.
     ///
     /// # Errors
     ///
@@ -322,7 +324,7 @@ impl<K: Ord + Drop, V: Drop, S: KeyHasher<K>, A: Allocator + Copy> SeqMap<K, V, 
     ) -> Result<Option<Arc<V, A>>, AllocError>
     where
         F: Drop,
-        requires { F.IsAlwaysCallable f }
+        requires { ForSome (pair_at K.cmp self.old.pairs key.now) (IsCallableAt F.pre f) }
         ensures absent { pair_at K.cmp self.old.pairs key.now ≡ None → (result ≡ Ok None) × (self.new ≡ self.old) }
         ensures present { IfSome (pair_at K.cmp self.old.pairs key.now) (λ p.
             (answer : Option V) × ((k : Bor K) × (v : Bor V) × (k.now ≡ p.0) × (v.now ≡ p.1) × F.post f k v answer)
@@ -530,8 +532,7 @@ impl<K: Ord + Drop, V: Drop, S: KeyHasher<K>, A: Allocator + Copy> SeqMap<K, V, 
         ensures same { SamePairs self.old self.new }
         ensures ok { let w = asked_for self.old additional in
             OnOk result (IsGrown (first_bins self.old.bins w) w self.new.bins) }
-        ensures err { let w = asked_for self.old additional in
-            OnErr result ((self.new.bins ≡ self.old.bins) ⊎ IsOnTheWay (first_bins self.old.bins w) w self.new.bins) }
+        ensures err { OnErr result (IsLeftByReserve self.old.bins (asked_for self.old additional) self.new.bins) }
     {
         let least = wanted(self.len().saturating_add(additional));
         self.ensure_table(least)?;

@@ -1,11 +1,11 @@
 //! The owned set.
-ghost use Rattle.std.specs.Prelude.{◌≡◌, ◌⊎◌, ◌≤◌, ◌^◌, ◌↔◌, ◌++◌, [], List, length, OnOk, OnErr, IfOk, IsTrue, IsSome, is_some, is_none, not, ◌==◌, if◌then◌else◌, IsPermutation};
+ghost use Rattle.std.specs.Prelude.{◌≡◌, ◌≤◌, ◌^◌, ◌↔◌, ◌++◌, [], List, length, OnOk, OnErr, IfOk, IsTrue, IsSome, is_some, is_none, not, ◌==◌, if◌then◌else◌, IsPermutation};
 ghost use Rattle.std.specs.Option.{option_map};
 ghost use Rattle.std.specs.Arc.{arc_value};
 ghost use Rattle.flurry_bins.specs.FiniteSet.{IsFiniteSet, element_at, with_element, with_elements, without_element, IsSubset, AreDisjoint};
 ghost use Rattle.flurry_bins.specs.Hashing.{seed_of};
-ghost use Rattle.flurry_bins.specs.Sizes.{wanted_of, IsOnTheWay, IsGrown};
-ghost use Rattle.flurry_seq.specs.Contents.{first_bins};
+ghost use Rattle.flurry_bins.specs.Sizes.{wanted_of, IsGrown};
+ghost use Rattle.flurry_seq.specs.Contents.{first_bins, IsLeftByReserve};
 ghost use Rattle.flurry_seq.specs.SetContents.{set_contents, holding, SameElements, asked_for, sets_eq, sets_eq_per, sets_eq_equiv};
 ghost use Rattle.flurry_seq.specs.SetRetain.{RetainsElements};
 
@@ -306,8 +306,7 @@ impl<T: Ord + Drop, S: KeyHasher<T>, A: Allocator + Copy> SeqSet<T, S, A> {
         ensures same { SameElements self.old self.new }
         ensures ok { let w = asked_for self.old additional in
             OnOk result (IsGrown (first_bins self.old.bins w) w self.new.bins) }
-        ensures err { let w = asked_for self.old additional in
-            OnErr result ((self.new.bins ≡ self.old.bins) ⊎ IsOnTheWay (first_bins self.old.bins w) w self.new.bins) }
+        ensures err { OnErr result (IsLeftByReserve self.old.bins (asked_for self.old additional) self.new.bins) }
     {
         self.map.reserve(additional)
     }

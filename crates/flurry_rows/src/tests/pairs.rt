@@ -3,7 +3,9 @@
 use super::keys::{Backward, Number, Tagged};
 use super::{holds, insert_new, lent, puts, same, taken};
 use flurry_bins::hash::{LowHashBuilder, ZeroHashBuilder};
+use flurry_bins::table::TryInsertError;
 use flurry_seq::SeqMap;
+use std::cell::Cell;
 use std::process::Abort;
 use std::test::Fail;
 
@@ -53,6 +55,29 @@ fn row_16(rt: HostRuntime) -> Result<(), Fail> {
     Ok(())
 }
 
+// The function is called once where the key is present, and at no pair where it is absent.
+#[test]
+fn calls_at_a_present_key_alone(rt: HostRuntime) -> Result<(), Fail> {
+    let calls = Cell::new(0u64);
+    let mut map: SeqMap<u64, u64, LowHashBuilder> = SeqMap::with_hasher(rt.alloc(), LowHashBuilder);
+    insert_new(&rt, &mut map, 0, 20)?;
+    for (key, wanted) in [(19, 1), (20, 0), (35, 0), (3, 1), (u64::MAX, 0)] {
+        calls.set(0);
+        let answer = map.compute_if_present(&key, |_, value| {
+            calls.set(calls.get().wrapping_add(1));
+            Some(*value)
+        })?;
+        same(
+            &rt,
+            taken(answer),
+            if wanted == 1 { Some(key) } else { None },
+        );
+        assert_eq!(rt; calls.get(), wanted, "at {key}");
+    }
+    holds(&rt, &map, 32, 20);
+    Ok(())
+}
+
 // What an insertion at absent keys alone says of a present one.
 #[test]
 fn row_16_text(rt: HostRuntime) -> Result<(), Fail> {
@@ -65,6 +90,38 @@ fn row_16_text(rt: HostRuntime) -> Result<(), Fail> {
     let want = "Insert of \"1\" failed as key was already present with value \"0\"";
     same(&rt, text.as_str(), want);
     same(&rt, lent(map.get(&7)), Some(0));
+    Ok(())
+}
+
+// The error of an insertion of 1 at key 7, where another value stands.
+fn failed(rt: &(impl Abort + AllocGlobal), stands: u64) -> Result<TryInsertError<u64>, Fail> {
+    let mut map: SeqMap<u64, u64> = SeqMap::new(rt.alloc());
+    puts(rt, &mut map, 7, stands, None)?;
+    match map.try_insert(7, 1)? {
+        Ok(_) => Err(Fail::from("the key is present")),
+        Err(error) => Ok(error),
+    }
+}
+
+// Two errors are told apart by the value that stands alone.
+#[test]
+fn errors_that_differ_in_the_value_that_stands(rt: HostRuntime) -> Result<(), Fail> {
+    let first = failed(&rt, 0)?;
+    assert!(rt; first == failed(&rt, 0)?);
+    assert!(rt; first != failed(&rt, 2)?);
+    Ok(())
+}
+
+#[test]
+fn debug_text_of_an_error(rt: HostRuntime) -> Result<(), Fail> {
+    for (stands, wanted) in [
+        (0, "TryInsertError { current: 0, not_inserted: 1 }"),
+        (2, "TryInsertError { current: 2, not_inserted: 1 }"),
+    ] {
+        let error = failed(&rt, stands)?;
+        let text = format!(in rt.alloc(); "{error:?}")?;
+        same(&rt, text.as_str(), wanted);
+    }
     Ok(())
 }
 
@@ -111,6 +168,23 @@ fn whole_owned_table_of_more_pairs(rt: HostRuntime) -> Result<(), Fail> {
     Ok(())
 }
 
+// Half of an odd number of pairs is rounded up. With one pair there, room for 4 more asks for 8 bins, and room for 5 more for 16, of
+// which the threshold, 12, is too low.
+#[test]
+fn whole_owned_table_of_half_rounded_up(rt: HostRuntime) -> Result<(), Fail> {
+    for (count, bins) in [(8, 16), (9, 32)] {
+        let mut map: SeqMap<u64, u64> = SeqMap::new(rt.alloc());
+        insert_new(&rt, &mut map, 0, 1)?;
+        let mut list = Vec::new(rt.alloc());
+        for key in 1..=count {
+            list.push((key, key))?;
+        }
+        map.extend(list)?;
+        assert_eq!(rt; map.capacity(), bins, "for {count}");
+    }
+    Ok(())
+}
+
 // A map that is made of a list has room for each pair.
 #[test]
 fn whole_owned_table_of_lists(rt: HostRuntime) -> Result<(), Fail> {
@@ -133,5 +207,17 @@ fn whole_owned_table_of_clones(rt: HostRuntime) -> Result<(), Fail> {
     assert!(rt; copy == map);
     let map: SeqMap<u64, u64> = SeqMap::with_capacity(rt.alloc(), 5)?;
     holds(&rt, &map, 8, 0);
+    Ok(())
+}
+
+// A further map begins with room for its pairs alone.
+#[test]
+fn whole_owned_table_of_a_clone_of_one_pair(rt: HostRuntime) -> Result<(), Fail> {
+    let mut map: SeqMap<u64, u64> = SeqMap::new(rt.alloc());
+    insert_new(&rt, &mut map, 0, 1)?;
+    holds(&rt, &map, 16, 1);
+    let copy = map.try_clone()?;
+    holds(&rt, &copy, 2, 1);
+    assert!(rt; copy == map);
     Ok(())
 }

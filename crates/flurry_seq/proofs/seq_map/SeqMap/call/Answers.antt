@@ -30,7 +30,7 @@ returns-in_ok-compute_if_present-in-ComputeIfPresent-clause-ok g c =
     )
 
 pub compute_if_present-requires : goal.compute_if_present-requires
-compute_if_present-requires g c = c.requires.computes c.in-ComputeIfPresent.f
+compute_if_present-requires g c = λ p is k v of_k of_v. (c.requires.computes c.in-ComputeIfPresent.f).at (k, (v, tt))
 
 pub retain-requires : goal.retain-requires
 retain-requires g c = c.requires.tests c.in-Retain.test

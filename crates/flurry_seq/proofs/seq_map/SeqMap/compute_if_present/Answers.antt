@@ -1,5 +1,8 @@
-use Rattle.std.proofs.Common.{Some, None, ap, refl}
+use Rattle.std.proofs.Common.{Some, None, sym, ap, refl}
 use Rattle.flurry_seq.proofs.seq_map.SeqMap.compute_if_present.Goals as goal
+
+pub f-computed-requires : goal.f-computed-requires
+f-computed-requires g c = c.requires _ (sym c.in-Some.ensures) c.deref.result c.deref-in-Some.result c.deref.ensures c.deref-in-Some.ensures
 
 pub returns-in-Ok-clause-present : goal.returns-in-Ok-clause-present
 returns-in-Ok-clause-present g c =
