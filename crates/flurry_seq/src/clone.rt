@@ -2,6 +2,7 @@
 ghost use Rattle.std.specs.Prelude.{◌≡◌, IfOk};
 ghost use Rattle.std.specs.Arc.{arc_value};
 ghost use Rattle.flurry_bins.specs.Chain.{entry_of};
+ghost use Rattle.flurry_bins.specs.FiniteMap.{IsFiniteMap};
 
 use crate::seq_map::SeqMap;
 use flurry_bins::bin::{Entry, Node};
@@ -42,6 +43,7 @@ impl<K: Ord + Drop, V: Drop, S: KeyHasher<K>, A: Allocator + Copy> SeqMap<K, V, 
     where
         S: Copy + Drop,
         ensures pairs { IfOk result (λ m. m.pairs ≡ self.now.pairs) }
+        ensures ascend { IsFiniteMap K.cmp self.now.pairs }
         ensures hasher { IfOk result (λ m. m.hasher ≡ self.now.hasher) }
     {
         let mut copy = SeqMap::with_capacity_and_hasher(

@@ -2,7 +2,7 @@
 ghost use Rattle.std.specs.Prelude.{◌≡◌, ◌↔◌, IsTrue};
 ghost use Rattle.std.specs.Arc.{arc_value};
 ghost use Rattle.std.specs.Option.{option_eq};
-ghost use Rattle.flurry_bins.specs.FiniteMap.{value_at};
+ghost use Rattle.flurry_bins.specs.FiniteMap.{IsFiniteMap, value_at};
 ghost use Rattle.flurry_seq.specs.Equality.{maps_eq, maps_eq_per, maps_eq_equiv, has_pair};
 
 use crate::seq_map::SeqMap;
@@ -37,6 +37,7 @@ impl<K: Ord + Drop, V: PartialEq + Drop, S: KeyHasher<K>, A: Allocator> PartialE
         ensures value { result ≡ maps_eq K.cmp V.eq self.now other.now }
         ensures keys { IsTrue result
             ↔ ((k : K) → IsTrue (option_eq V.eq (value_at K.cmp self.now.pairs k) (value_at K.cmp other.now.pairs k))) }
+        ensures ascend { IsFiniteMap K.cmp self.now.pairs × IsFiniteMap K.cmp other.now.pairs }
     {
         if self.len() != other.len() {
             return false;

@@ -3,7 +3,7 @@ ghost use Rattle.std.specs.Prelude.{◌≡◌, length, map, IfSome, IsPermutatio
 ghost use Rattle.std.specs.Iterator.{YieldsFirstBy, UpTo, at_most, item_count};
 ghost use Rattle.std.specs.Iterator.SizeHint.{IsWithinCount};
 ghost use Rattle.flurry_bins.specs.Entries.{lent_bound};
-ghost use Rattle.flurry_bins.specs.FiniteMap.{gathered};
+ghost use Rattle.flurry_bins.specs.FiniteMap.{IsFiniteMap, gathered};
 ghost use Rattle.flurry_bins.specs.PlainEntries.{plain};
 ghost use Rattle.flurry_seq.specs.Iter.{pair_of_item, value_of_item, place_of};
 ghost use Rattle.flurry_seq.specs.Table.{all_entries, pair_of};
@@ -231,6 +231,7 @@ impl<K: Ord + Drop, V: Drop, S: KeyHasher<K>, A: Allocator> SeqMap<K, V, S, A> {
         ensures hashed { AreHashed (S.hash_of self.now.hasher) result }
         ensures permuted { IsPermutation self.now.pairs (map pair_of result) }
         ensures count { length result ≡ length self.now.pairs }
+        ensures ascend { IsFiniteMap K.cmp self.now.pairs }
     {
         Entries::new(self.table.bins(), self.len())
     }
@@ -241,6 +242,7 @@ impl<K: Ord + Drop, V: Drop, S: KeyHasher<K>, A: Allocator> SeqMap<K, V, S, A> {
     pub fn iter(&self) -> Iter<'_, K, V, A>
         ensures pairs { IsPermutation self.now.pairs result }
         ensures count { length result ≡ length self.now.pairs }
+        ensures ascend { IsFiniteMap K.cmp self.now.pairs }
     {
         Iter {
             entries: self.entries(),
@@ -251,6 +253,7 @@ impl<K: Ord + Drop, V: Drop, S: KeyHasher<K>, A: Allocator> SeqMap<K, V, S, A> {
     pub fn keys(&self) -> Keys<'_, K, V, A>
         ensures keys { IsPermutation (map (λ p. p.0) self.now.pairs) result }
         ensures count { length result ≡ length self.now.pairs }
+        ensures ascend { IsFiniteMap K.cmp self.now.pairs }
     {
         Keys {
             entries: self.entries(),
@@ -261,6 +264,7 @@ impl<K: Ord + Drop, V: Drop, S: KeyHasher<K>, A: Allocator> SeqMap<K, V, S, A> {
     pub fn values(&self) -> Values<'_, K, V, A>
         ensures values { IsPermutation (map (λ p. p.1) self.now.pairs) result }
         ensures count { length result ≡ length self.now.pairs }
+        ensures ascend { IsFiniteMap K.cmp self.now.pairs }
     {
         Values {
             entries: self.entries(),

@@ -66,6 +66,7 @@ impl<K: Hash + Ord + Drop, V: Drop, A: Allocator> SeqMap<K, V, DefaultHashBuilde
     /// An empty map without a table, over the default hasher whose seed is zero. It takes no memory.
     pub fn new(alloc: A) -> Self
         ensures pairs { result.pairs ≡ [] }
+        ensures ascend { IsFiniteMap K.cmp result.pairs }
         ensures bins { result.bins ≡ 0 }
         ensures seed { seed_of result.hasher ≡ 0 }
     {
@@ -81,6 +82,7 @@ impl<K: Hash + Ord + Drop, V: Drop, A: Allocator> SeqMap<K, V, DefaultHashBuilde
     where
         A: Copy,
         ensures pairs { IfOk result (λ m. m.pairs ≡ []) }
+        ensures ascend { IfOk result (λ m. IsFiniteMap K.cmp m.pairs) }
         ensures bins { IfOk result (λ m. m.bins ≡ (if capacity == 0 then 0 else wanted_of capacity)) }
         ensures seed { IfOk result (λ m. seed_of m.hasher ≡ 0) }
     {
@@ -115,9 +117,10 @@ impl<K: Ord + Drop, V: Drop, S: KeyHasher<K>, A: Allocator> SeqMap<K, V, S, A> {
     ///
     /// Constant time.
     pub fn is_empty(&self) -> bool
-        ensures { result ≡ (length self.now.pairs == 0) }
+        ensures empty { result ≡ (length self.now.pairs == 0) }
+        ensures ascend { IsFiniteMap K.cmp self.now.pairs }
     {
-        self.len == 0
+        self.len() == 0
     }
 
     /// The number of bins of the table, a power of two; 0 without one.
@@ -125,6 +128,7 @@ impl<K: Ord + Drop, V: Drop, S: KeyHasher<K>, A: Allocator> SeqMap<K, V, S, A> {
     /// Constant time.
     pub fn capacity(&self) -> usize
         ensures bins { result ≡ self.now.bins }
+        ensures ascend { IsFiniteMap K.cmp self.now.pairs }
         ensures size { IsTableSize result }
         ensures most { result ≤ 2 ^ 30 }
     {
@@ -133,7 +137,8 @@ impl<K: Ord + Drop, V: Drop, S: KeyHasher<K>, A: Allocator> SeqMap<K, V, S, A> {
 
     /// The value of a key.
     pub fn get(&self, key: &K) -> Option<&Arc<V, A>>
-        ensures { option_map (λ v. arc_value v.now) result ≡ value_at K.cmp self.now.pairs key.now }
+        ensures value { option_map (λ v. arc_value v.now) result ≡ value_at K.cmp self.now.pairs key.now }
+        ensures ascend { IsFiniteMap K.cmp self.now.pairs }
     {
         match self.find(self.hash_of(key), key) {
             Some(entry) => Some(&entry.value),
@@ -143,8 +148,9 @@ impl<K: Ord + Drop, V: Drop, S: KeyHasher<K>, A: Allocator> SeqMap<K, V, S, A> {
 
     /// The stored key and its value.
     pub fn get_key_value(&self, key: &K) -> Option<(&Arc<K, A>, &Arc<V, A>)>
-        ensures { option_map (λ p. (arc_value p.0.now, arc_value p.1.now)) result
+        ensures pair { option_map (λ p. (arc_value p.0.now, arc_value p.1.now)) result
             ≡ pair_at K.cmp self.now.pairs key.now }
+        ensures ascend { IsFiniteMap K.cmp self.now.pairs }
     {
         match self.find(self.hash_of(key), key) {
             Some(entry) => Some((&entry.key, &entry.value)),
@@ -154,7 +160,8 @@ impl<K: Ord + Drop, V: Drop, S: KeyHasher<K>, A: Allocator> SeqMap<K, V, S, A> {
 
     /// Whether the map has the key.
     pub fn contains_key(&self, key: &K) -> bool
-        ensures { result ≡ is_some (pair_at K.cmp self.now.pairs key.now) }
+        ensures found { result ≡ is_some (pair_at K.cmp self.now.pairs key.now) }
+        ensures ascend { IsFiniteMap K.cmp self.now.pairs }
     {
         self.find(self.hash_of(key), key).is_some()
     }
@@ -163,6 +170,7 @@ impl<K: Ord + Drop, V: Drop, S: KeyHasher<K>, A: Allocator> SeqMap<K, V, S, A> {
     pub fn remove(&mut self, key: &K) -> Option<Arc<V, A>>
         ensures value { option_map arc_value result ≡ value_at K.cmp self.old.pairs key.now }
         ensures after { self.new ≡ with_pairs self.old (without K.cmp self.old.pairs key.now) }
+        ensures ascend { IsFiniteMap K.cmp self.old.pairs }
     {
         let (_, value) = self.remove_entry(key)?;
         Some(value)
@@ -172,6 +180,7 @@ impl<K: Ord + Drop, V: Drop, S: KeyHasher<K>, A: Allocator> SeqMap<K, V, S, A> {
     pub fn remove_entry(&mut self, key: &K) -> Option<(Arc<K, A>, Arc<V, A>)>
         ensures pair { option_map (λ p. (arc_value p.0, arc_value p.1)) result ≡ pair_at K.cmp self.old.pairs key.now }
         ensures after { self.new ≡ with_pairs self.old (without K.cmp self.old.pairs key.now) }
+        ensures ascend { IsFiniteMap K.cmp self.old.pairs }
     {
         let hash = self.hash_of(key);
         self.take(hash, key)
@@ -179,7 +188,8 @@ impl<K: Ord + Drop, V: Drop, S: KeyHasher<K>, A: Allocator> SeqMap<K, V, S, A> {
 
     /// Takes all pairs out. The table stays as large as it is.
     pub fn clear(&mut self)
-        ensures { self.new ≡ with_pairs self.old [] }
+        ensures after { self.new ≡ with_pairs self.old [] }
+        ensures ascend { IsFiniteMap K.cmp self.old.pairs }
     {
         self.table.clear();
         self.len = 0;
@@ -192,6 +202,7 @@ impl<K: Ord + Drop, V: Drop, S: KeyHasher<K>, A: Allocator> SeqMap<K, V, S, A> {
         ensures count { count_in result
             ≡ count_by (λ p. bin_of self.now.bins (S.hash_of self.now.hasher p.0) == bin_of self.now.bins hash) self.now.pairs }
         ensures fit { IsFit result }
+        ensures ascend { IsFiniteMap K.cmp self.now.pairs }
     {
         self.table.shape_of(hash)
     }
@@ -200,6 +211,7 @@ impl<K: Ord + Drop, V: Drop, S: KeyHasher<K>, A: Allocator> SeqMap<K, V, S, A> {
     pub fn into_bins(self) -> (Vec<Bin<K, V, A>, A>, S)
         ensures bins { AreBinsOf K.cmp (S.hash_of self.hasher) self (seen result.0.items) }
         ensures hasher { result.1 ≡ self.hasher }
+        ensures ascend { IsFiniteMap K.cmp self.pairs }
     {
         let SeqMap {
             table,
@@ -209,9 +221,10 @@ impl<K: Ord + Drop, V: Drop, S: KeyHasher<K>, A: Allocator> SeqMap<K, V, S, A> {
         (table.into_bins(), hasher)
     }
 
-    // The number that the hasher gives a key.
+    // The number that the hasher gives a key. Each call of one key makes this one first, and is told by it that the keys ascend.
     fn hash_of(&self, key: &K) -> u64
-        ensures { result ≡ S.hash_of self.now.hasher key.now }
+        ensures number { result ≡ S.hash_of self.now.hasher key.now }
+        ensures ascend { IsFiniteMap K.cmp self.now.pairs }
     {
         self.hasher.hash_one(key)
     }
@@ -266,6 +279,7 @@ impl<K: Ord + Drop, V: Drop, S: KeyHasher<K>, A: Allocator + Copy> SeqMap<K, V, 
         ensures hasher { self.new.hasher ≡ self.old.hasher }
         ensures bins { IfOk result (λ old. IsSome old → self.new.bins ≡ self.old.bins) }
         ensures err { OnErr result (self.new ≡ self.old) }
+        ensures ascend { IsFiniteMap K.cmp self.old.pairs }
     {
         let hash = self.hash_of(&key);
         if self.find(hash, &key).is_some() {
@@ -294,6 +308,7 @@ impl<K: Ord + Drop, V: Drop, S: KeyHasher<K>, A: Allocator + Copy> SeqMap<K, V, 
             (λ current. IsErrAnd reply (λ e. (arc_value e.current ≡ current) × (e.not_inserted ≡ value)) × (self.new ≡ self.old))) }
         ensures hasher { self.new.hasher ≡ self.old.hasher }
         ensures err { OnErr result (self.new ≡ self.old) }
+        ensures ascend { IsFiniteMap K.cmp self.old.pairs }
     {
         let hash = self.hash_of(&key);
         if let Some(entry) = self.find(hash, &key) {
@@ -335,6 +350,7 @@ impl<K: Ord + Drop, V: Drop, S: KeyHasher<K>, A: Allocator + Copy> SeqMap<K, V, 
             (λ _. self.new ≡ self.old))) }
         ensures hasher { self.new.hasher ≡ self.old.hasher }
         ensures err { OnErr result (self.new ≡ self.old) }
+        ensures ascend { IsFiniteMap K.cmp self.old.pairs }
     {
         let hash = self.hash_of(key);
         let computed = match self.find(hash, key) {
@@ -367,6 +383,7 @@ impl<K: Ord + Drop, V: Drop, S: KeyHasher<K>, A: Allocator + Copy> SeqMap<K, V, 
         ensures hasher { self.new.hasher ≡ self.old.hasher }
         ensures err { OnErr result ((front rest : List (K × V)) × (list.items ≡ front ++ rest)
             × (self.new.pairs ≡ with_all K.cmp self.old.pairs front)) }
+        ensures ascend { IsFiniteMap K.cmp self.old.pairs }
     {
         let count = list.len();
         let room = if self.is_empty() {
@@ -489,7 +506,8 @@ impl<K: Ord + Drop, V: Drop, S: KeyHasher<K>, A: Allocator + Copy> SeqMap<K, V, 
     ) -> Result<Self, AllocError>
     where
         S: Drop,
-        ensures { IfOk result (λ m. m ≡ contents [] (if capacity == 0 then 0 else wanted_of capacity) hasher) }
+        ensures empty { IfOk result (λ m. m ≡ contents [] (if capacity == 0 then 0 else wanted_of capacity) hasher) }
+        ensures ascend { IfOk result (λ m. IsFiniteMap K.cmp m.pairs) }
     {
         let mut map = SeqMap::with_hasher(alloc, hasher);
         if capacity > 0 {
@@ -530,6 +548,7 @@ impl<K: Ord + Drop, V: Drop, S: KeyHasher<K>, A: Allocator + Copy> SeqMap<K, V, 
     /// [`AllocError`], where memory for a table is wanting. The pairs stay, and so do the doublings that were done.
     pub fn reserve(&mut self, additional: usize) -> Result<(), AllocError>
         ensures same { SamePairs self.old self.new }
+        ensures ascend { IsFiniteMap K.cmp self.old.pairs }
         ensures ok { let w = asked_for self.old additional in
             OnOk result (IsGrown (first_bins self.old.bins w) w self.new.bins) }
         ensures err { OnErr result (IsLeftByReserve self.old.bins (asked_for self.old additional) self.new.bins) }

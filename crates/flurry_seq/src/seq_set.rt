@@ -44,6 +44,7 @@ impl<T: Hash + Ord + Drop, A: Allocator> SeqSet<T, DefaultHashBuilder, A> {
     /// An empty set without a table, over the default hasher whose seed is zero. It takes no memory.
     pub fn new(alloc: A) -> Self
         ensures elements { result.elements ≡ [] }
+        ensures ascend { IsFiniteSet T.cmp result.elements }
         ensures bins { result.bins ≡ 0 }
         ensures seed { seed_of result.hasher ≡ 0 }
     {
@@ -59,6 +60,7 @@ impl<T: Hash + Ord + Drop, A: Allocator> SeqSet<T, DefaultHashBuilder, A> {
     where
         A: Copy,
         ensures elements { IfOk result (λ s. s.elements ≡ []) }
+        ensures ascend { IfOk result (λ s. IsFiniteSet T.cmp s.elements) }
         ensures bins { IfOk result (λ s. s.bins ≡ (if capacity == 0 then 0 else wanted_of capacity)) }
         ensures seed { IfOk result (λ s. seed_of s.hasher ≡ 0) }
     {
@@ -95,21 +97,24 @@ impl<T: Ord + Drop, S: KeyHasher<T>, A: Allocator> SeqSet<T, S, A> {
     ///
     /// Constant time.
     pub fn is_empty(&self) -> bool
-        ensures { result ≡ (length self.now.elements == 0) }
+        ensures empty { result ≡ (length self.now.elements == 0) }
+        ensures ascend { IsFiniteSet T.cmp self.now.elements }
     {
         self.map.is_empty()
     }
 
     /// Whether the set has an element of the class. One look-up.
     pub fn contains(&self, element: &T) -> bool
-        ensures { result ≡ is_some (element_at T.cmp self.now.elements element.now) }
+        ensures found { result ≡ is_some (element_at T.cmp self.now.elements element.now) }
+        ensures ascend { IsFiniteSet T.cmp self.now.elements }
     {
         self.map.contains_key(element)
     }
 
     /// The stored element of the class. One look-up.
     pub fn get(&self, element: &T) -> Option<&Arc<T, A>>
-        ensures { option_map (λ x. arc_value x.now) result ≡ element_at T.cmp self.now.elements element.now }
+        ensures element { option_map (λ x. arc_value x.now) result ≡ element_at T.cmp self.now.elements element.now }
+        ensures ascend { IsFiniteSet T.cmp self.now.elements }
     {
         let (stored, _) = self.map.get_key_value(element)?;
         Some(stored)
@@ -119,6 +124,7 @@ impl<T: Ord + Drop, S: KeyHasher<T>, A: Allocator> SeqSet<T, S, A> {
     pub fn remove(&mut self, element: &T) -> bool
         ensures found { result ≡ is_some (element_at T.cmp self.old.elements element.now) }
         ensures after { self.new ≡ holding self.old (without_element T.cmp self.old.elements element.now) }
+        ensures ascend { IsFiniteSet T.cmp self.old.elements }
     {
         self.map.remove(element).is_some()
     }
@@ -127,6 +133,7 @@ impl<T: Ord + Drop, S: KeyHasher<T>, A: Allocator> SeqSet<T, S, A> {
     pub fn take(&mut self, element: &T) -> Option<Arc<T, A>>
         ensures element { option_map arc_value result ≡ element_at T.cmp self.old.elements element.now }
         ensures after { self.new ≡ holding self.old (without_element T.cmp self.old.elements element.now) }
+        ensures ascend { IsFiniteSet T.cmp self.old.elements }
     {
         let (stored, _) = self.map.remove_entry(element)?;
         Some(stored)
@@ -134,7 +141,8 @@ impl<T: Ord + Drop, S: KeyHasher<T>, A: Allocator> SeqSet<T, S, A> {
 
     /// Takes all elements out. The table stays as large as it is.
     pub fn clear(&mut self)
-        ensures { self.new ≡ holding self.old [] }
+        ensures after { self.new ≡ holding self.old [] }
+        ensures ascend { IsFiniteSet T.cmp self.old.elements }
     {
         self.map.clear();
     }
@@ -147,7 +155,8 @@ impl<T: Ord + Drop, S: KeyHasher<T>, A: Allocator> SeqSet<T, S, A> {
     where
         F: Drop,
         requires { F.IsAlwaysCallable f }
-        ensures { RetainsElements F.step T.cmp f self.old self.new }
+        ensures kept { RetainsElements F.step T.cmp f self.old self.new }
+        ensures ascend { IsFiniteSet T.cmp self.old.elements }
     {
         let mut keep = f;
         self.map.retain(move |element: &T, _: &()| keep(element));
@@ -157,13 +166,15 @@ impl<T: Ord + Drop, S: KeyHasher<T>, A: Allocator> SeqSet<T, S, A> {
     pub fn iter(&self) -> Keys<'_, T, (), A>
         ensures elements { IsPermutation self.now.elements result }
         ensures count { length result ≡ length self.now.elements }
+        ensures ascend { IsFiniteSet T.cmp self.now.elements }
     {
         self.map.keys()
     }
 
     /// Whether no element is of a class of the other set. One look-up for each element.
     pub fn is_disjoint(&self, other: &Self) -> bool
-        ensures { IsTrue result ↔ AreDisjoint T.cmp self.now.elements other.now.elements }
+        ensures disjoint { IsTrue result ↔ AreDisjoint T.cmp self.now.elements other.now.elements }
+        ensures ascend { IsFiniteSet T.cmp self.now.elements }
     {
         for element in self.iter() {
             if other.contains(element.as_ref()) {
@@ -175,7 +186,8 @@ impl<T: Ord + Drop, S: KeyHasher<T>, A: Allocator> SeqSet<T, S, A> {
 
     /// Whether each element is of a class of the other set. One look-up for each element.
     pub fn is_subset(&self, other: &Self) -> bool
-        ensures { IsTrue result ↔ IsSubset T.cmp self.now.elements other.now.elements }
+        ensures subset { IsTrue result ↔ IsSubset T.cmp self.now.elements other.now.elements }
+        ensures ascend { IsFiniteSet T.cmp self.now.elements }
     {
         for element in self.iter() {
             if !other.contains(element.as_ref()) {
@@ -187,7 +199,8 @@ impl<T: Ord + Drop, S: KeyHasher<T>, A: Allocator> SeqSet<T, S, A> {
 
     /// Whether each element of the other set is of a class of this one. One look-up for each.
     pub fn is_superset(&self, other: &Self) -> bool
-        ensures { IsTrue result ↔ IsSubset T.cmp other.now.elements self.now.elements }
+        ensures superset { IsTrue result ↔ IsSubset T.cmp other.now.elements self.now.elements }
+        ensures ascend { IsFiniteSet T.cmp other.now.elements }
     {
         other.is_subset(self)
     }
@@ -206,7 +219,8 @@ impl<T: Ord + Drop, S: KeyHasher<T>, A: Allocator + Copy> SeqSet<T, S, A> {
     ) -> Result<Self, AllocError>
     where
         S: Drop,
-        ensures { IfOk result (λ s. s ≡ set_contents [] (if capacity == 0 then 0 else wanted_of capacity) hasher) }
+        ensures empty { IfOk result (λ s. s ≡ set_contents [] (if capacity == 0 then 0 else wanted_of capacity) hasher) }
+        ensures ascend { IfOk result (λ s. IsFiniteSet T.cmp s.elements) }
     {
         let map = SeqMap::with_capacity_and_hasher(alloc, capacity, hasher)?;
         Ok(SeqSet { map })
@@ -225,6 +239,7 @@ impl<T: Ord + Drop, S: KeyHasher<T>, A: Allocator + Copy> SeqSet<T, S, A> {
         ensures hasher { self.new.hasher ≡ self.old.hasher }
         ensures bins { IfOk result (λ new. IsTrue (not new) → self.new.bins ≡ self.old.bins) }
         ensures err { OnErr result (self.new ≡ self.old) }
+        ensures ascend { IsFiniteSet T.cmp self.old.elements }
     {
         Ok(self.map.try_insert(element, ())?.is_ok())
     }
@@ -240,6 +255,7 @@ impl<T: Ord + Drop, S: KeyHasher<T>, A: Allocator + Copy> SeqSet<T, S, A> {
         ensures hasher { self.new.hasher ≡ self.old.hasher }
         ensures err { OnErr result ((front rest : List T) × (list.items ≡ front ++ rest)
             × (self.new.elements ≡ with_elements T.cmp self.old.elements front)) }
+        ensures ascend { IsFiniteSet T.cmp self.old.elements }
     {
         let count = list.len();
         let room = if self.is_empty() {
@@ -291,6 +307,7 @@ impl<T: Ord + Drop, S: KeyHasher<T>, A: Allocator + Copy> SeqSet<T, S, A> {
     where
         S: Copy + Drop,
         ensures elements { IfOk result (λ s. s.elements ≡ self.now.elements) }
+        ensures ascend { IsFiniteSet T.cmp self.now.elements }
         ensures hasher { IfOk result (λ s. s.hasher ≡ self.now.hasher) }
     {
         let map = self.map.try_clone()?;
@@ -304,6 +321,7 @@ impl<T: Ord + Drop, S: KeyHasher<T>, A: Allocator + Copy> SeqSet<T, S, A> {
     /// [`AllocError`], where memory for a table is wanting. The elements stay, and so do the doublings that were done.
     pub fn reserve(&mut self, additional: usize) -> Result<(), AllocError>
         ensures same { SameElements self.old self.new }
+        ensures ascend { IsFiniteSet T.cmp self.old.elements }
         ensures ok { let w = asked_for self.old additional in
             OnOk result (IsGrown (first_bins self.old.bins w) w self.new.bins) }
         ensures err { OnErr result (IsLeftByReserve self.old.bins (asked_for self.old additional) self.new.bins) }
@@ -325,6 +343,7 @@ impl<T: Ord + Drop, S: KeyHasher<T>, A: Allocator> PartialEq for SeqSet<T, S, A>
         ensures value { result ≡ sets_eq T.cmp self.now other.now }
         ensures classes { IsTrue result ↔ ((x : T)
             → is_some (element_at T.cmp self.now.elements x) ≡ is_some (element_at T.cmp other.now.elements x)) }
+        ensures ascend { IsFiniteSet T.cmp self.now.elements × IsFiniteSet T.cmp other.now.elements }
     {
         self.map == other.map
     }

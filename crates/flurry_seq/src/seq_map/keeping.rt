@@ -1,5 +1,6 @@
 //! Keeping some of the pairs of an owned map.
 ghost use Rattle.std.specs.Prelude.{◌≡◌};
+ghost use Rattle.flurry_bins.specs.FiniteMap.{IsFiniteMap};
 ghost use Rattle.flurry_seq.specs.Retain.{Retains};
 
 #[cfg(test)]
@@ -19,7 +20,8 @@ impl<K: Ord + Drop, V: Drop, S: KeyHasher<K>, A: Allocator> SeqMap<K, V, S, A> {
     where
         F: Drop,
         requires { F.IsAlwaysCallable f }
-        ensures { Retains F.step K.cmp f self.old self.new }
+        ensures kept { Retains F.step K.cmp f self.old self.new }
+        ensures ascend { IsFiniteMap K.cmp self.old.pairs }
     {
         let mut keep = f;
         self.len = self.table.retain(&mut keep);
@@ -30,7 +32,8 @@ impl<K: Ord + Drop, V: Drop, S: KeyHasher<K>, A: Allocator> SeqMap<K, V, S, A> {
     where
         F: Drop,
         requires { F.IsAlwaysCallable f }
-        ensures { Retains F.step K.cmp f self.old self.new }
+        ensures kept { Retains F.step K.cmp f self.old self.new }
+        ensures ascend { IsFiniteMap K.cmp self.old.pairs }
     {
         self.retain(f);
     }

@@ -1,5 +1,7 @@
 use Rattle.std.proofs.Common.{refl}
 use Rattle.flurry_seq.proofs.IterLemmas.{pairs_permute}
+use Rattle.flurry_bins.proofs.FiniteMapLaws.{IsFiniteMap-gathered}
+use Rattle.flurry_seq.specs.Table.{all_pairs}
 use Rattle.flurry_seq.proofs.seq_map.SeqMap.into_bins.Goals as goal
 
 pub returns-clause-bins : goal.returns-clause-bins
@@ -10,3 +12,6 @@ returns-clause-bins g c =
       pairs = pairs_permute g.met.K.Ord.total (g.S.KeyHasher.hash_of c.self.inside.hasher) (g.met.S.KeyHasher.alike c.self.inside.hasher) c.self.inside.table c.self.invariant.placed;
       placed = c.self.invariant.placed;
     })
+
+pub returns-clause-ascend : goal.returns-clause-ascend
+returns-clause-ascend g c = rw (← c.self.view_is) (IsFiniteMap-gathered g.met.K.Ord.total (all_pairs c.self.inside.table))

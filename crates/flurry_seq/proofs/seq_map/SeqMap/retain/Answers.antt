@@ -4,6 +4,7 @@ use Rattle.flurry_seq.specs.Contents.{contents}
 use Rattle.flurry_seq.specs.Table.{all_pairs}
 use Rattle.flurry_seq.proofs.IterLemmas.{pairs_permute}
 use Rattle.flurry_seq.proofs.KeepingLemmas.{as_many, IsTable-kept, KeepsBins-length, KeepsBins-pairs}
+use Rattle.flurry_bins.proofs.FiniteMapLaws.{IsFiniteMap-gathered}
 use Rattle.flurry_seq.proofs.seq_map.SeqMap.retain.Goals as goal
 
 pub retain-self-inside-requires-clause-few : goal.retain-self-inside-requires-clause-few
@@ -18,8 +19,8 @@ invariant_of-self g c =
     let alike = g.met.S.KeyHasher.alike c.self.inside.hasher in
     rw c.retain-self-inside.ensures.len (IsTable-kept g.met.K.Ord.total hash alike (goal.F-step g) c.args.f c.self.inside.table c.retain-self-inside.new.self c.retain-self-inside.new.keep c.self.inside.len c.retain-self-inside.ensures.kept c.self.invariant)
 
-pub returns : goal.returns
-returns g c =
+pub returns-clause-kept : goal.returns-clause-kept
+returns-clause-kept g c =
     let hash = g.S.KeyHasher.hash_of c.self.inside.hasher in
     let alike = g.met.S.KeyHasher.alike c.self.inside.hasher in
     let old = c.self.inside.table in
@@ -34,3 +35,6 @@ returns g c =
       calls,
       ap (λ n. contents (gathered g.K.Ord.cmp (all_pairs new)) n c.self.inside.hasher) bins,
     )
+
+pub returns-clause-ascend : goal.returns-clause-ascend
+returns-clause-ascend g c = rw (← c.self.view_is) (IsFiniteMap-gathered g.met.K.Ord.total (all_pairs c.self.inside.table))

@@ -5,8 +5,8 @@ use Rattle.flurry_seq.proofs.seq_map.SeqMap.try_clone.Goals as goal
 
 pub loop-entry-init : goal.loop-entry-init
 loop-entry-init g c =
-    let pairs : c.in_ok-copy.copy.pairs ≡ [] = ap (λ m. m.pairs) c.in_ok-copy.ensures in
-    let hasher : c.in_ok-copy.copy.hasher ≡ c.args.self.now.hasher = ap (λ m. m.hasher) c.in_ok-copy.ensures ∙ ap (λ m. m.hasher) c.self.view_is in
+    let pairs : c.in_ok-copy.copy.pairs ≡ [] = ap (λ m. m.pairs) c.in_ok-copy.ensures.empty in
+    let hasher : c.in_ok-copy.copy.hasher ≡ c.args.self.now.hasher = ap (λ m. m.hasher) c.in_ok-copy.ensures.empty ∙ ap (λ m. m.hasher) c.self.view_is in
     let all = c.entries-entry-items in
     record {
       rest =

@@ -1,7 +1,17 @@
 use Rattle.std.proofs.Common.{inr, subst, sym}
+use Rattle.flurry_bins.proofs.FiniteMapLaws.{IsFiniteMap-nil}
 use Rattle.flurry_seq.specs.Invariant.{IsTableSize}
 use Rattle.flurry_seq.proofs.GrowthLemmas.{wanted_size}
 use Rattle.flurry_seq.proofs.seq_map.SeqMap.with_capacity_and_hasher.Goals as goal
+use Rattle.flurry_seq.proofs.seq_map.SeqMap.with_capacity_and_hasher.Goals.{then-capacity-gt0+in_ok-begin, else-capacity-gt0}
 
 pub begin-requires-clause-size : goal.begin-requires-clause-size
 begin-requires-clause-size g c = subst IsTableSize (sym c.wanted.ensures.value) (inr (wanted_size c.args.capacity))
+
+pub returns-clause-ascend : goal.returns-clause-ascend
+returns-clause-ascend g c =
+    let none = IsFiniteMap-nil g.row.V.Denot g.K.Ord.cmp in
+    elim c.if-capacity-gt0.branch [
+      | then-capacity-gt0+in_ok-begin w ↦ rw (w.map-is, w.in_ok-begin.ensures.ok, c.with_hasher-map.ensures) none
+      | else-capacity-gt0 w ↦ rw (w.map-is, c.with_hasher-map.ensures) none
+    ]

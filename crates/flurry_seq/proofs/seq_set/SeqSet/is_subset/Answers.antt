@@ -10,13 +10,13 @@ loop-element-init g c =
     ap (list_all (λ y. is_some (element_at g.T.Ord.cmp c.args.other.now.elements y))) c.into_iter-element-iterator.ensures.into_iter_gives
     ∙ sym (list_all_permuted (λ y. is_some (element_at g.T.Ord.cmp c.args.other.now.elements y)) c.args.self.now.elements c.iter-element-items.result c.iter-element-items.ensures.elements)
 
-pub returns-then-not-contains : goal.returns-then-not-contains
-returns-then-not-contains g c =
-    let missing = rw (c.if-not-contains.true, c.as_ref.ensures) at c.contains.ensures in
+pub returns-then-not-contains-clause-subset : goal.returns-then-not-contains-clause-subset
+returns-then-not-contains-clause-subset g c =
+    let missing = rw (c.if-not-contains.true, c.as_ref.ensures) at c.contains.ensures.found in
     let gone = ap (list_all (λ y. is_some (element_at g.T.Ord.cmp c.args.other.now.elements y))) c.in-Some.ensures.steps ∙ ap (λ t. t && list_all (λ y. is_some (element_at g.T.Ord.cmp c.args.other.now.elements y)) c.next.new.self) (sym missing) in
     decides_subset g.met.T.Ord.total c.args.self.now.elements c.args.other.now.elements false (sym gone ∙ c.loop-element.invariant)
 
-pub returns : goal.returns
-returns g c =
+pub returns-clause-subset : goal.returns-clause-subset
+returns-clause-subset g c =
     let all = ap (list_all (λ y. is_some (element_at g.T.Ord.cmp c.args.other.now.elements y))) c.in-None.ensures.steps.0 in
     decides_subset g.met.T.Ord.total c.args.self.now.elements c.args.other.now.elements true (sym all ∙ c.loop-element.invariant)

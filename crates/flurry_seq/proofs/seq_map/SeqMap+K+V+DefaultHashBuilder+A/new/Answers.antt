@@ -1,0 +1,5 @@
+use Rattle.flurry_bins.proofs.FiniteMapLaws.{IsFiniteMap-nil}
+use Rattle.flurry_seq.proofs.seq_map.SeqMap+K+V+DefaultHashBuilder+A.new.Goals as goal
+
+pub returns-clause-ascend : goal.returns-clause-ascend
+returns-clause-ascend g c = rw c.with_hasher.ensures (IsFiniteMap-nil g.row.V.Denot g.K.Ord.cmp)
