@@ -6,6 +6,7 @@ pub mod HalvingLemmas
 pub mod IterLemmas
 pub mod KeepingLemmas
 pub mod LeftLemmas
+pub mod NumberLemmas
 pub mod RunLemmas
 pub mod SeenLemmas
 pub mod SetLemmas

@@ -7,6 +7,7 @@ pub mod Equality
 pub mod HandedOut
 pub mod Invariant
 pub mod Iter
+pub mod Numbers
 pub mod Retain
 pub mod Seen
 pub mod SetCalls

@@ -18,6 +18,7 @@ fn shared_node<K: Drop, V: Drop, A: Allocator + Copy>(
     ensures hash { IfOk result (λ b. (entry_of b.value).hash ≡ entry.now.hash) }
     ensures key { IfOk result (λ b. arc_value (entry_of b.value).key ≡ arc_value entry.now.key) }
     ensures value { IfOk result (λ b. arc_value (entry_of b.value).value ≡ arc_value entry.now.value) }
+    ensures number { IfOk result (λ b. (entry_of b.value).number ≡ 0) }
 {
     let key = Arc::try_clone(&entry.key)?;
     let value = Arc::try_clone(&entry.value)?;
@@ -25,7 +26,7 @@ fn shared_node<K: Drop, V: Drop, A: Allocator + Copy>(
         hash: entry.hash,
         key,
         value,
-        number: entry.number,
+        number: 0,
     };
     Node::new(alloc, entry)
 }

@@ -10,6 +10,7 @@ ghost use Rattle.flurry_bins.specs.Sizes.{wanted_of, threshold_of, IsOnTheWay, I
 ghost use Rattle.flurry_seq.specs.HandedOut.{AreBinsOf};
 ghost use Rattle.flurry_seq.specs.Callable.{IsCallableAt};
 ghost use Rattle.flurry_seq.specs.Invariant.{IsTableSize};
+ghost use Rattle.flurry_seq.specs.Numbers.{BinsBearZero};
 ghost use Rattle.flurry_seq.specs.Seen.{seen};
 ghost use Rattle.flurry_seq.specs.Shapes.{count_in, IsFit};
 ghost use Rattle.flurry_seq.specs.Table.{bin_of};
@@ -207,9 +208,11 @@ impl<K: Ord + Drop, V: Drop, S: KeyHasher<K>, A: Allocator> SeqMap<K, V, S, A> {
         self.table.shape_of(hash)
     }
 
-    /// Hands out the bins, by their index, and the hasher; no bins without a table. It takes no memory.
+    /// Hands out the bins, by their index, and the hasher; no bins without a table. Each entry bears the write number 0. It takes no
+    /// memory.
     pub fn into_bins(self) -> (Vec<Bin<K, V, A>, A>, S)
         ensures bins { AreBinsOf K.cmp (S.hash_of self.hasher) self (seen result.0.items) }
+        ensures numbers { BinsBearZero result.0.items }
         ensures hasher { result.1 ≡ self.hasher }
         ensures ascend { IsFiniteMap K.cmp self.pairs }
     {
@@ -427,6 +430,7 @@ impl<K: Ord + Drop, V: Drop, S: KeyHasher<K>, A: Allocator + Copy> SeqMap<K, V, 
     pub(crate) fn add(&mut self, node: Box<Node<K, V, A>, A>) -> Result<(), AllocError>
         requires hash { let e = entry_of node.value in e.hash ≡ S.hash_of self.old.hasher (arc_value e.key) }
         requires absent { pair_at K.cmp self.old.pairs (arc_value (entry_of node.value).key) ≡ None }
+        requires number { (entry_of node.value).number ≡ 0 }
         ensures pairs { let e = entry_of node.value in
             OnOk result (self.new.pairs ≡ with_pair K.cmp self.old.pairs (arc_value e.key) (arc_value e.value)) }
         ensures hasher { self.new.hasher ≡ self.old.hasher }
@@ -443,6 +447,7 @@ impl<K: Ord + Drop, V: Drop, S: KeyHasher<K>, A: Allocator + Copy> SeqMap<K, V, 
     fn put(&mut self, node: Box<Node<K, V, A>, A>) -> Result<bool, AllocError>
         requires hash { let e = entry_of node.value in e.hash ≡ S.hash_of self.old.hasher (arc_value e.key) }
         requires absent { pair_at K.cmp self.old.pairs (arc_value (entry_of node.value).key) ≡ None }
+        requires number { (entry_of node.value).number ≡ 0 }
         ensures pairs { let e = entry_of node.value in
             OnOk result (self.new.pairs ≡ with_pair K.cmp self.old.pairs (arc_value e.key) (arc_value e.value)) }
         ensures table { OnOk result (0 < self.new.bins) }

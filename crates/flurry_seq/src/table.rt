@@ -8,6 +8,7 @@ ghost use Rattle.flurry_bins.specs.Bin.{entries_of_bin};
 ghost use Rattle.flurry_bins.specs.Entries.{entry_at, placed};
 ghost use Rattle.flurry_bins.specs.PlainEntries.{plain};
 ghost use Rattle.flurry_seq.specs.Invariant.{IsTableSize};
+ghost use Rattle.flurry_seq.specs.Numbers.{BinsBearZero};
 ghost use Rattle.flurry_seq.specs.Seen.{seen};
 ghost use Rattle.flurry_seq.specs.Shapes.{count_in, IsFit};
 ghost use Rattle.flurry_seq.specs.Table.{bin_of, bin_at, entry_in, bins_with, bins_without, bins_doubled};
@@ -30,12 +31,13 @@ impl<K: Ord, V, A: Allocator> Model for Table<K, V, A> {
     ghost use Rattle.std.specs.Prelude.{ℕ, List, length};
     ghost use Rattle.flurry_seq.specs.Seen.{seen};
     ghost use Rattle.flurry_seq.specs.Invariant.{IsTableSize};
+    ghost use Rattle.flurry_seq.specs.Numbers.{BinsBearZero};
 
     ghost Value = { List (List ((ℕ × K) × V)) };
 
     ghost view = { λ t. seen t.bins.items };
 
-    ghost invariant = { λ t. IsTableSize (length t.bins.items) };
+    ghost invariant = { λ t. IsTableSize (length t.bins.items) × BinsBearZero t.bins.items };
 }
 
 // The index of a hash's bin.
@@ -101,7 +103,8 @@ impl<K: Ord + Drop, V: Drop, A: Allocator> Table<K, V, A> {
 
     // Hands out the bins.
     pub(crate) fn into_bins(self) -> Vec<Bin<K, V, A>, A>
-        ensures { seen result.items ≡ self }
+        ensures bins { seen result.items ≡ self }
+        ensures numbers { BinsBearZero result.items }
     {
         let Table { bins } = self;
         bins
@@ -121,6 +124,7 @@ impl<K: Ord + Drop, V: Drop, A: Allocator> Table<K, V, A> {
     // Puts a node in whose hash and key are not there. Answers whether the bin asks for a larger table.
     pub(crate) fn put(&mut self, node: Box<Node<K, V, A>, A>) -> bool
         requires table { 0 < length self.old }
+        requires number { (entry_of node.value).number ≡ 0 }
         requires room { length (bin_at self.old (entry_of node.value).hash) < 2 ^ 62 }
         requires absent { let e = entry_of node.value in entry_in K.cmp self.old e.hash (arc_value e.key) ≡ None }
         ensures { let e = entry_of node.value in self.new ≡ bins_with K.cmp self.old e.hash (arc_value e.key) (arc_value e.value) }
@@ -191,7 +195,8 @@ fn halve<K: Ord + Drop, V: Drop, A: Allocator>(bins: &mut Vec<Bin<K, V, A>, A>)
     requires size { IsTableSize (length bins.old.items) }
     requires some { 0 < length bins.old.items }
     requires room { 2 * length bins.old.items ≤ vec_capacity bins.old }
-    ensures { seen bins.new.items ≡ bins_doubled (seen bins.old.items) }
+    ensures bins { seen bins.new.items ≡ bins_doubled (seen bins.old.items) }
+    ensures numbers { BinsBearZero bins.old.items → BinsBearZero bins.new.items }
 {
     let count = bins.len();
     let bit = count.ilog2() as u8;

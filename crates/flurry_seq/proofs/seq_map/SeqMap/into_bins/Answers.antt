@@ -6,7 +6,7 @@ use Rattle.flurry_seq.proofs.seq_map.SeqMap.into_bins.Goals as goal
 
 pub returns-clause-bins : goal.returns-clause-bins
 returns-clause-bins g c =
-    rw (c.into_bins.ensures, ← c.self.view_is)
+    rw (c.into_bins.ensures.bins, ← c.self.view_is)
     (record {
       count = refl;
       pairs = pairs_permute g.met.K.Ord.total (g.S.KeyHasher.hash_of c.self.inside.hasher) (g.met.S.KeyHasher.alike c.self.inside.hasher) c.self.inside.table c.self.invariant.placed;

@@ -7,6 +7,8 @@ use Rattle.flurry_bins.specs.Entries.{entry_at}
 use Rattle.flurry_bins.specs.PlainEntries.{plain}
 use Rattle.flurry_seq.proofs.SeenLemmas.{bin_here, entry_here, placed_here}
 use Rattle.flurry_bins.proofs.PlainEntryLaws.{none_mapped}
+use Rattle.flurry_seq.proofs.NumberLemmas.{all_at, all_set, zero-placed}
+use Rattle.std.proofs.Common.{length-set}
 use Rattle.flurry_seq.proofs.table.Table.put.Goals as goal
 
 pub put_in_table-requires-clause-absent : goal.put_in_table-requires-clause-absent
@@ -29,3 +31,9 @@ returns g c =
     rw (← c.self.view_is)
     (placed_here c.self.inside.bins.items (entry_of c.args.node.value).hash c.place-at.result c.index_mut-bin.result.now (entry_of c.args.node.value) c.put_in_table.new.bin c.place-at.ensures.below c.index_mut-bin.ensures.value at
     g.met.K.Ord.total refl absent c.put_in_table.ensures.entries)
+
+pub invariant_of-self : goal.invariant_of-self
+invariant_of-self g c =
+    let b = c.index_mut-bin.result.now in
+    let zero = all_at _ c.self.inside.bins.items c.place-at.result b c.place-at.ensures.below c.index_mut-bin.ensures.value c.self.invariant.1 in
+    (rw length-set c.self.invariant.0, all_set _ c.self.inside.bins.items c.place-at.result c.put_in_table.new.bin (rw c.put_in_table.ensures.entries (zero-placed g.K.Ord.cmp (entry_of c.args.node.value) (entries_of_bin b) c.requires.number zero)) c.self.invariant.1)

@@ -3,6 +3,8 @@ use Rattle.flurry_bins.specs.Entries.{entry_at}
 use Rattle.flurry_bins.specs.PlainEntries.{plain}
 use Rattle.flurry_seq.proofs.SeenLemmas.{entry_here, replaced_here, value_mapped, entry_some}
 use Rattle.flurry_bins.proofs.PlainEntryLaws.{some_mapped}
+use Rattle.flurry_seq.proofs.NumberLemmas.{all_at, all_set, zero-replaced}
+use Rattle.std.proofs.Common.{length-set}
 use Rattle.flurry_seq.proofs.table.Table.replace.Goals as goal
 
 pub place-at-requires-clause-some : goal.place-at-requires-clause-some
@@ -25,3 +27,9 @@ returns-clause-after g c =
     rw (← c.self.view_is)
     (replaced_here c.self.inside.bins.items c.args.hash c.place-at.result c.index_mut-bin.result.now c.place-at.ensures.below c.index_mut-bin.ensures.value c.place-at.ensures.place
     g.met.K.Ord.total c.args.key.now c.args.value 0 c.replace.new.self some c.replace.ensures.after)
+
+pub invariant_of-self : goal.invariant_of-self
+invariant_of-self g c =
+    let b = c.index_mut-bin.result.now in
+    let zero = all_at _ c.self.inside.bins.items c.place-at.result b c.place-at.ensures.below c.index_mut-bin.ensures.value c.self.invariant.1 in
+    (rw length-set c.self.invariant.0, all_set _ c.self.inside.bins.items c.place-at.result c.replace.new.self (rw c.replace.ensures.after (zero-replaced g.K.Ord.cmp c.args.hash c.args.key.now c.args.value (entries_of_bin b) zero)) c.self.invariant.1)
