@@ -7,6 +7,7 @@ pub mod IterLemmas
 pub mod KeepingLemmas
 pub mod LeftLemmas
 pub mod NumberLemmas
+pub mod RoomLemmas
 pub mod RunLemmas
 pub mod SeenLemmas
 pub mod SetLemmas

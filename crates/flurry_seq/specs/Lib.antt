@@ -4,6 +4,7 @@ pub mod Callable
 pub mod Calls
 pub mod Contents
 pub mod Equality
+pub mod Growth
 pub mod HandedOut
 pub mod Invariant
 pub mod Iter

@@ -1,8 +1,9 @@
 //! A further map of the same keys and values.
-ghost use Rattle.std.specs.Prelude.{◌≡◌, IfOk};
+ghost use Rattle.std.specs.Prelude.{◌≡◌, length, IfOk};
 ghost use Rattle.std.specs.Arc.{arc_value};
 ghost use Rattle.flurry_bins.specs.Chain.{entry_of};
 ghost use Rattle.flurry_bins.specs.FiniteMap.{IsFiniteMap};
+ghost use Rattle.flurry_seq.specs.Growth.{bins_for, IsTableFrom};
 
 use crate::seq_map::SeqMap;
 use flurry_bins::bin::{Entry, Node};
@@ -46,6 +47,7 @@ impl<K: Ord + Drop, V: Drop, S: KeyHasher<K>, A: Allocator + Copy> SeqMap<K, V, 
         ensures pairs { IfOk result (λ m. m.pairs ≡ self.now.pairs) }
         ensures ascend { IsFiniteMap K.cmp self.now.pairs }
         ensures hasher { IfOk result (λ m. m.hasher ≡ self.now.hasher) }
+        ensures bins { IfOk result (λ m. IsTableFrom (bins_for (length self.now.pairs)) (length m.pairs) m.bins) }
     {
         let mut copy = SeqMap::with_capacity_and_hasher(
             *self.table.allocator(),

@@ -1,5 +1,5 @@
 //! The owned map.
-ghost use Rattle.std.specs.Prelude.{◌≡◌, ◌⊎◌, [], ◌<◌, ◌≤◌, ◌*◌, ◌^◌, ◌++◌, List, length, count_by, OnOk, OnErr, IfOk, IfSome, IsOkAnd, IsErrAnd, MatchOption, MatchResult, Option, Some, None, Ok, IsSome, is_some, ◌==◌, if◌then◌else◌};
+ghost use Rattle.std.specs.Prelude.{◌≡◌, ◌⊎◌, ℕ, [], ◌<◌, ◌≤◌, ◌+◌, ◌*◌, ◌^◌, ◌++◌, List, length, count_by, OnOk, OnErr, IfOk, IfSome, IsOkAnd, IsErrAnd, MatchOption, MatchResult, Option, Some, None, Ok, IsSome, IsNone, IsOk, IsTrue, is_some, ◌==◌, if◌then◌else◌};
 ghost use Rattle.std.specs.Option.{option_map, ForSome};
 ghost use Rattle.std.specs.Arc.{arc_value};
 ghost use Rattle.std.specs.Borrow.{Bor};
@@ -7,6 +7,7 @@ ghost use Rattle.flurry_bins.specs.Chain.{entry_of};
 ghost use Rattle.flurry_bins.specs.FiniteMap.{IsFiniteMap, pair_at, value_at, with_pair, with_all, without};
 ghost use Rattle.flurry_bins.specs.Hashing.{seed_of};
 ghost use Rattle.flurry_bins.specs.Sizes.{wanted_of, threshold_of, IsOnTheWay, IsGrown};
+ghost use Rattle.flurry_seq.specs.Growth.{bins_for, IsTableFrom, IsTableAfter, HasRoom};
 ghost use Rattle.flurry_seq.specs.HandedOut.{AreBinsOf};
 ghost use Rattle.flurry_seq.specs.Callable.{IsCallableAt};
 ghost use Rattle.flurry_seq.specs.Invariant.{IsTableSize};
@@ -281,6 +282,8 @@ impl<K: Ord + Drop, V: Drop, S: KeyHasher<K>, A: Allocator + Copy> SeqMap<K, V, 
         ensures pairs { OnOk result (self.new.pairs ≡ with_pair K.cmp self.old.pairs key value) }
         ensures hasher { self.new.hasher ≡ self.old.hasher }
         ensures bins { IfOk result (λ old. IsSome old → self.new.bins ≡ self.old.bins) }
+        ensures grown { IfOk result (λ old. IsNone old
+            → IsTableAfter (first_bins self.old.bins 16) (length self.new.pairs) self.new.bins) }
         ensures err { OnErr result (self.new ≡ self.old) }
         ensures ascend { IsFiniteMap K.cmp self.old.pairs }
     {
@@ -309,6 +312,8 @@ impl<K: Ord + Drop, V: Drop, S: KeyHasher<K>, A: Allocator + Copy> SeqMap<K, V, 
         ensures reply { IfOk result (λ reply. MatchOption (value_at K.cmp self.old.pairs key)
             (IsOkAnd reply (λ new. arc_value new ≡ value) × (self.new.pairs ≡ with_pair K.cmp self.old.pairs key value))
             (λ current. IsErrAnd reply (λ e. (arc_value e.current ≡ current) × (e.not_inserted ≡ value)) × (self.new ≡ self.old))) }
+        ensures grown { IfOk result (λ reply. IsOk reply
+            → IsTableAfter (first_bins self.old.bins 16) (length self.new.pairs) self.new.bins) }
         ensures hasher { self.new.hasher ≡ self.old.hasher }
         ensures err { OnErr result (self.new ≡ self.old) }
         ensures ascend { IsFiniteMap K.cmp self.old.pairs }
@@ -406,7 +411,8 @@ impl<K: Ord + Drop, V: Drop, S: KeyHasher<K>, A: Allocator + Copy> SeqMap<K, V, 
     pub fn from_list(alloc: A, list: Vec<(K, V), A>, hasher: S) -> Result<Self, AllocError>
     where
         S: Drop,
-        ensures { IfOk result (λ m. (m.pairs ≡ with_all K.cmp [] list.items) × (m.hasher ≡ hasher)) }
+        ensures made { IfOk result (λ m. (m.pairs ≡ with_all K.cmp [] list.items) × (m.hasher ≡ hasher)) }
+        ensures bins { IfOk result (λ m. IsTableFrom (bins_for (length list.items)) (length m.pairs) m.bins) }
     {
         let mut map = SeqMap::with_capacity_and_hasher(alloc, list.len(), hasher)?;
         map.insert_all(list)?;
@@ -419,6 +425,8 @@ impl<K: Ord + Drop, V: Drop, S: KeyHasher<K>, A: Allocator + Copy> SeqMap<K, V, 
         ensures hasher { self.new.hasher ≡ self.old.hasher }
         ensures err { OnErr result ((front rest : List (K × V)) × (list.items ≡ front ++ rest)
             × (self.new.pairs ≡ with_all K.cmp self.old.pairs front)) }
+        ensures room { (n : ℕ) → HasRoom n (length self.old.pairs + length list.items)
+            → IsTableFrom n (length self.old.pairs) self.old.bins → OnOk result (IsTableFrom n (length self.new.pairs) self.new.bins) }
     {
         for (key, value) in list {
             self.insert(key, value)?;
@@ -433,6 +441,7 @@ impl<K: Ord + Drop, V: Drop, S: KeyHasher<K>, A: Allocator + Copy> SeqMap<K, V, 
         requires number { (entry_of node.value).number ≡ 0 }
         ensures pairs { let e = entry_of node.value in
             OnOk result (self.new.pairs ≡ with_pair K.cmp self.old.pairs (arc_value e.key) (arc_value e.value)) }
+        ensures bins { OnOk result (IsTableAfter (first_bins self.old.bins 16) (length self.new.pairs) self.new.bins) }
         ensures hasher { self.new.hasher ≡ self.old.hasher }
         ensures err { OnErr result (self.new ≡ self.old) }
     {
@@ -450,6 +459,8 @@ impl<K: Ord + Drop, V: Drop, S: KeyHasher<K>, A: Allocator + Copy> SeqMap<K, V, 
         requires number { (entry_of node.value).number ≡ 0 }
         ensures pairs { let e = entry_of node.value in
             OnOk result (self.new.pairs ≡ with_pair K.cmp self.old.pairs (arc_value e.key) (arc_value e.value)) }
+        ensures bins { OnOk result (self.new.bins ≡ first_bins self.old.bins 16) }
+        ensures asks { IfOk result (λ asks. IsTrue asks → (self.new.bins < 64) × (8 < length self.new.pairs)) }
         ensures table { OnOk result (0 < self.new.bins) }
         ensures hasher { self.new.hasher ≡ self.old.hasher }
         ensures err { OnErr result (self.new ≡ self.old) }
@@ -479,7 +490,8 @@ impl<K: Ord + Drop, V: Drop, S: KeyHasher<K>, A: Allocator + Copy> SeqMap<K, V, 
     // Doubles the table while it has as many pairs as its threshold. Where memory is wanting, it stays as it is.
     fn grow_while_full(&mut self)
         requires { 0 < self.old.bins }
-        ensures { SamePairs self.old self.new }
+        ensures same { SamePairs self.old self.new }
+        ensures way { IsOnTheWay self.old.bins (length self.old.pairs + 1) self.new.bins }
     {
         while self.len() >= threshold(self.capacity()) && self.capacity() < MOST_BINS {
             if self.double().is_err() {

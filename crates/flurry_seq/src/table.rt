@@ -1,5 +1,5 @@
 //! The table of an owned map: a power of two of bins, or none.
-ghost use Rattle.std.specs.Prelude.{◌≡◌, ℕ, [], ◌*◌, ◌<◌, ◌≤◌, ◌^◌, length, replicate, OnOk, OnErr, None, IsSome, IsNone, Some};
+ghost use Rattle.std.specs.Prelude.{◌≡◌, ℕ, [], ◌*◌, ◌<◌, ◌≤◌, ◌^◌, length, replicate, OnOk, OnErr, None, IsSome, IsNone, IsTrue, Some};
 ghost use Rattle.std.specs.Vec.{vec_capacity};
 ghost use Rattle.std.specs.Option.{option_map};
 ghost use Rattle.std.specs.Arc.{arc_value};
@@ -127,7 +127,10 @@ impl<K: Ord + Drop, V: Drop, A: Allocator> Table<K, V, A> {
         requires number { (entry_of node.value).number ≡ 0 }
         requires room { length (bin_at self.old (entry_of node.value).hash) < 2 ^ 62 }
         requires absent { let e = entry_of node.value in entry_in K.cmp self.old e.hash (arc_value e.key) ≡ None }
-        ensures { let e = entry_of node.value in self.new ≡ bins_with K.cmp self.old e.hash (arc_value e.key) (arc_value e.value) }
+        ensures after { let e = entry_of node.value in
+            self.new ≡ bins_with K.cmp self.old e.hash (arc_value e.key) (arc_value e.value) }
+        ensures asks { IsTrue result
+            → (length self.old < 64) × (length (bin_at self.old (entry_of node.value).hash) ≡ 8) }
     {
         let count = self.bins.len();
         let at = place(&self.bins, node.entry().hash);

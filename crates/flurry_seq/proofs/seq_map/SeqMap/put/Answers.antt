@@ -1,4 +1,5 @@
 use Rattle.std.proofs.Common.{◌≡◌, ◌<◌, ◌^◌, length, lit≤, refl, inr, sym, ap, ◌∙◌, None, arith}
+use Rattle.std.proofs.Common.{length-set}
 use Rattle.std.specs.Arc.{arc_value}
 use Rattle.flurry_bins.specs.Chain.{entry_of}
 use Rattle.flurry_bins.specs.FiniteMap.{gathered, pair_at, with_pair}
@@ -48,7 +49,7 @@ invariant_of-self g c =
     entry_absent g.met.K.Ord.total (g.S.KeyHasher.hash_of c.self-2.inside.hasher) (g.met.S.KeyHasher.alike c.self-2.inside.hasher) c.self-2.inside.table c.self-2.inside.len key c.self-2.invariant (ap (λ m. pair_at g.K.Ord.cmp m key) same ∙ c.requires.absent) in
     let some : 0 < length c.self-2.inside.table = rw (ap (λ m. m.bins) is) (first_some c.args.self.now.bins 16 (omega arith)) in
     let less : c.self-2.inside.len < 2 ^ 62 = omega (arith, c.self-2.invariant.count, ap length same, c.self.invariant.count, ap (λ m. length m.pairs) c.self.view_is, c.self.invariant.few, c.if-self-eq-MOST_PAIRS.false) in
-    rw (c.put-asks.ensures, hash)
+    rw (c.put-asks.ensures.after, hash)
     (IsTable-added g.met.K.Ord.total (g.S.KeyHasher.hash_of c.self-2.inside.hasher) (g.met.S.KeyHasher.alike c.self-2.inside.hasher) c.self-2.inside.table c.self-2.inside.len key (arc_value node.value) some absent less c.self-2.invariant)
 
 pub returns-clause-pairs : goal.returns-clause-pairs
@@ -59,6 +60,16 @@ returns-clause-pairs g c =
     let same : gathered g.K.Ord.cmp (all_pairs c.self-2.inside.table) ≡ c.args.self.now.pairs = ap (λ m. m.pairs) is in
     let hash : node.hash ≡ g.S.KeyHasher.hash_of c.self-2.inside.hasher key = c.requires.hash ∙ ap (λ m. g.S.KeyHasher.hash_of m.hasher key) (sym is) in
     let some : 0 < length c.self-2.inside.table = rw (ap (λ m. m.bins) is) (first_some c.args.self.now.bins 16 (omega arith)) in
-    rw (c.put-asks.ensures, hash)
+    rw (c.put-asks.ensures.after, hash)
     (gathered-with g.met.K.Ord.total (g.S.KeyHasher.hash_of c.self-2.inside.hasher) (g.met.S.KeyHasher.alike c.self-2.inside.hasher) c.self-2.inside.table key (arc_value node.value) some c.self-2.invariant.placed
     ∙ ap (λ m. with_pair g.K.Ord.cmp m key (arc_value node.value)) same)
+
+pub returns-clause-bins : goal.returns-clause-bins
+returns-clause-bins g c = rw (c.put-asks.ensures.after, length-set) (ap (λ m. m.bins) (c.self-2.view_is ∙ c.in_ok-ensure_table.ensures.ok))
+
+pub returns-clause-asks : goal.returns-clause-asks
+returns-clause-asks g c = λ yes.
+    let asked = c.put-asks.ensures.asks yes in
+    let count = (invariant_of-self g c).count in
+    let short = bin_short g.met.K.Ord.total (g.S.KeyHasher.hash_of c.self-2.inside.hasher) (g.met.S.KeyHasher.alike c.self-2.inside.hasher) c.self-2.inside.table c.self-2.inside.len (entry_of c.args.node.value).hash c.self-2.invariant in
+    (rw (c.put-asks.ensures.after, length-set) asked.0, omega (arith, asked.1, short, count))

@@ -1,12 +1,15 @@
-use Rattle.std.proofs.Common.{refl}
+use Rattle.std.proofs.Common.{◌≡◌, ◌<◌, length, refl, sym, ap, ◌∙◌, arith}
 use Rattle.std.proofs.lemmas.List.{length-map}
 use Rattle.std.specs.Arc.{arc_value}
 use Rattle.flurry_bins.specs.Chain.{entry_of}
-use Rattle.flurry_bins.specs.Bin.{entries_of_bin}
+use Rattle.flurry_bins.specs.Bin.{entries_of_bin, is_tree}
 use Rattle.flurry_bins.specs.Entries.{entry_at}
 use Rattle.flurry_bins.specs.PlainEntries.{plain}
 use Rattle.flurry_seq.proofs.SeenLemmas.{bin_here, entry_here, placed_here}
 use Rattle.flurry_bins.proofs.PlainEntryLaws.{none_mapped}
+use Rattle.flurry_seq.proofs.RoomLemmas.{asks_true}
+use Rattle.flurry_seq.specs.Seen.{seen}
+use Rattle.flurry_seq.specs.Table.{bin_at}
 use Rattle.flurry_seq.proofs.NumberLemmas.{all_at, all_set, zero-placed}
 use Rattle.std.proofs.Common.{length-set}
 use Rattle.flurry_seq.proofs.table.Table.put.Goals as goal
@@ -23,8 +26,8 @@ put_in_table-requires-clause-room g c =
     let here = bin_here c.self.inside.bins.items (entry_of c.args.node.value).hash c.place-at.result c.index_mut-bin.result.now c.place-at.ensures.below c.index_mut-bin.ensures.value at in
     rw (← c.self.view_is, here, length-map) at c.requires.room
 
-pub returns : goal.returns
-returns g c =
+pub returns-clause-after : goal.returns-clause-after
+returns-clause-after g c =
     let at = rw (c.entry.ensures, c.deref.ensures) at c.place-at.ensures.place in
     let here = entry_here c.self.inside.bins.items (entry_of c.args.node.value).hash c.place-at.result c.index_mut-bin.result.now c.place-at.ensures.below c.index_mut-bin.ensures.value at (arc_value (entry_of c.args.node.value).key) in
     let absent = none_mapped plain (entry_at g.K.Ord.cmp (entry_of c.args.node.value).hash (arc_value (entry_of c.args.node.value).key) (entries_of_bin c.index_mut-bin.result.now)) (rw (← c.self.view_is, here) at c.requires.absent) in
@@ -37,3 +40,15 @@ invariant_of-self g c =
     let b = c.index_mut-bin.result.now in
     let zero = all_at _ c.self.inside.bins.items c.place-at.result b c.place-at.ensures.below c.index_mut-bin.ensures.value c.self.invariant.1 in
     (rw length-set c.self.invariant.0, all_set _ c.self.inside.bins.items c.place-at.result c.put_in_table.new.bin (rw c.put_in_table.ensures.entries (zero-placed g.K.Ord.cmp (entry_of c.args.node.value) (entries_of_bin b) c.requires.number zero)) c.self.invariant.1)
+
+pub returns-clause-asks : goal.returns-clause-asks
+returns-clause-asks g c = λ yes.
+    let xs = c.self.inside.bins.items in
+    let hash = (entry_of c.args.node.value).hash in
+    let b = c.index_mut-bin.result.now in
+    let at = rw (c.entry.ensures, c.deref.ensures) at c.place-at.ensures.place in
+    let here = bin_here xs hash c.place-at.result b c.place-at.ensures.below c.index_mut-bin.ensures.value at in
+    let asked = asks_true c.len-count.result (length (entries_of_bin b)) (is_tree b) (sym c.put_in_table.ensures.asks ∙ yes) in
+    let few : length (seen xs) < 64 = rw length-map (omega (arith, asked.0, c.len-count.ensures, c.self.inside.bins.ok.0)) in
+    let eight : length (bin_at (seen xs) hash) ≡ 8 = ap length here ∙ length-map (entries_of_bin b) plain ∙ asked.1 in
+    rw (← c.self.view_is) (few, eight)
