@@ -1,6 +1,6 @@
 -- A table that is made for its pairs is doubled only where keys share a bin.
 use Rattle.std.proofs.Common.{◌≡◌, ℕ, zero, suc, ◌+◌, ◌-◌, ◌*◌, ◌/◌, ◌^◌, ◌<◌, ◌≤◌, ◌⊎◌, Bool, true, false, not, cond, List, [], ◌∷◌, ◌++◌, length, Option, Some, None, IsSome, Result, Ok, Err, OnOk, lit≤, refl, sym, ap, ◌∙◌, subst, inl, inr, mul_assoc, arith}
-use Rattle.std.specs.Prelude.{◌==◌, ◌&&◌, nat_lt}
+use Rattle.std.specs.Prelude.{◌==◌, ◌&&◌, nat_lt, IsTrue}
 use Rattle.std.specs.Option.{IsNone}
 use Rattle.std.specs.Result.{is_err}
 use Rattle.std.proofs.lemmas.List.{length-append}
@@ -125,20 +125,27 @@ pub one_more : (b : Bool) (m n : ℕ) → n ≡ cond b m (m + 1) → (m ≤ n) �
 one_more true m n e = (omega arith, omega arith)
 one_more false m n e = (omega arith, omega arith)
 
--- one step of a list of insertions: the pairs before were at most so many, and the key was present or new
-pub room_put : {X Y : Type 0} (w : Option Y) (done : List X) (x : X) (rest list : List X) (start old new n b m : ℕ) (found : Bool) → (done ++ x ∷ []) ++ rest ≡ list → old ≤ start + length done → new ≡ cond found old (old + 1)
-    → (IsSome w → m ≡ b) → (IsNone w → IsTableAfter (first_bins b 16) new m) → HasRoom n (start + length list) → IsTableFrom n old b → IsTableFrom n new m
-room_put {Y = Y} w done x rest list start old new n b m found split few is same grown room from =
+-- one step of a list of insertions: what was put was there, or is new
+pub room_put : {X : Type 0} (done : List X) (x : X) (rest list : List X) (start old new n b m : ℕ) → (done ++ x ∷ []) ++ rest ≡ list → old ≤ start + length done → (old ≤ new) × (new ≤ old + 1) → (m ≡ b) ⊎ IsTableAfter (first_bins b 16) new m → HasRoom n (start + length list)
+    → IsTableFrom n old b → IsTableFrom n new m
+room_put done x rest list start old new n b m split few more reply room from =
     let long : length list ≡ length done + 1 + length rest = ap length (sym split) ∙ simp length-append (omega arith) in
-    let more = one_more found old new is in
-    by_reply w same grown (omega (arith, more.0)) (omega (arith, more.1, long)) (omega (arith, long))
+    by_reply reply (omega (arith, more.0)) (omega (arith, more.1, long)) (omega (arith, long))
   where
-    by_reply : (w : Option Y) → (IsSome w → m ≡ b) → (IsNone w → IsTableAfter (first_bins b 16) new m) → old ≤ new → new ≤ start + length list → 0 < start + length list → IsTableFrom n new m
-    by_reply None same grown le most some = room_more n old new (start + length list) b m room some le most from (grown refl)
-    by_reply (Some y) same grown le most some = subst (λ x. IsTableFrom n new x) (sym (same refl)) (table_more n old new b b le from (inl refl))
+    by_reply : (m ≡ b) ⊎ IsTableAfter (first_bins b 16) new m → old ≤ new → new ≤ start + length list → 0 < start + length list → IsTableFrom n new m
+    by_reply (inl same) le most some = subst (λ x. IsTableFrom n new x) (sym same) (table_more n old new b b le from (inl refl))
+    by_reply (inr grown) le most some = room_more n old new (start + length list) b m room some le most from grown
 
-pub count_put : {X : Type 0} (done : List X) (x : X) (start old new : ℕ) (found : Bool) → old ≤ start + length done → new ≡ cond found old (old + 1) → new ≤ start + length (done ++ x ∷ [])
-count_put done x start old new found few is = let more = one_more found old new is in rw length-append (omega (arith, more.1))
+pub count_put : {X : Type 0} (done : List X) (x : X) (start old new : ℕ) → old ≤ start + length done → (old ≤ new) × (new ≤ old + 1) → new ≤ start + length (done ++ x ∷ [])
+count_put done x start old new few more = rw length-append (omega (arith, more.1))
+
+pub of_option : {Y P Q : Type 0} (w : Option Y) → (IsSome w → P) → (IsNone w → Q) → P ⊎ Q
+of_option None there absent = inr (absent refl)
+of_option (Some y) there absent = inl (there refl)
+
+pub of_test : {P Q : Type 0} (b : Bool) → (IsTrue (not b) → P) → (IsTrue b → Q) → P ⊎ Q
+of_test true there absent = inr (absent refl)
+of_test false there absent = inl (there refl)
 
 pub of_ok : {T E : Type 0} (r : Result T E) (P : Type 0) → is_err r ≡ false → OnOk r P → P
 of_ok (Ok x) P fine p = p

@@ -1,5 +1,5 @@
 -- A set is the keys of a map.
-use Rattle.std.proofs.Common.{◌≡◌, ℕ, Bool, true, false, cond, not, ◌&&◌, List, [], ◌∷◌, ◌++◌, Option, Some, None, is_some, option_map, Result, Ok, Err, refl, inl, sym, ap, ◌∙◌, Ordering, Less, Equal, Greater}
+use Rattle.std.proofs.Common.{◌+◌, ◌≤◌, length, arith, ◌≡◌, ℕ, Bool, true, false, cond, not, ◌&&◌, List, [], ◌∷◌, ◌++◌, Option, Some, None, is_some, option_map, Result, Ok, Err, refl, inl, sym, ap, ◌∙◌, Ordering, Less, Equal, Greater}
 use Rattle.std.specs.Prelude.{IsTrue, IsSome, ◌↔◌, is_none, is_ok, if◌then◌else◌}
 use Rattle.std.specs.Borrow.{Bor}
 use Rattle.std.specs.Ordering.{is_eq, eq_by_cmp}
@@ -160,6 +160,16 @@ module _ {K : Type 0} {cmp : K → K → Ordering} (o : IsTotalOrder cmp) where
       turned false e = refl
 
 -- one element more
+-- a set to which an element was put has as many elements, or one more
+pub length-with_element : {K : Type 0} (cmp : K → K → Ordering) (s : List K) (x : K) → (length s ≤ length (with_element cmp s x)) × (length (with_element cmp s x) ≤ length s + 1)
+length-with_element cmp [] x = (omega arith, omega arith)
+length-with_element cmp (y ∷ s) x = by_order (cmp x y) refl (length-with_element cmp s x)
+  where
+    by_order : (r : Ordering) → cmp x y ≡ r → (length s ≤ length (with_element cmp s x)) × (length (with_element cmp s x) ≤ length s + 1) → (length (y ∷ s) ≤ length (with_element cmp (y ∷ s) x)) × (length (with_element cmp (y ∷ s) x) ≤ length (y ∷ s) + 1)
+    by_order Less e ih = rw e (omega arith, omega arith)
+    by_order Equal e ih = rw e (omega arith, omega arith)
+    by_order Greater e ih = rw e (omega (arith, ih.0), omega (arith, ih.1))
+
 pub with_elements-push : {K : Type 0} (cmp : K → K → Ordering) (s xs : List K) (x : K) → with_elements cmp s (xs ++ x ∷ []) ≡ with_element cmp (with_elements cmp s xs) x
 with_elements-push cmp s [] x = refl
 with_elements-push cmp s (y ∷ xs) x = with_elements-push cmp (with_element cmp s y) xs x

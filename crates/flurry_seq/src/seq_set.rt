@@ -1,11 +1,12 @@
 //! The owned set.
-ghost use Rattle.std.specs.Prelude.{◌≡◌, ◌≤◌, ◌^◌, ◌↔◌, ◌++◌, [], List, length, OnOk, OnErr, IfOk, IsTrue, IsSome, is_some, is_none, not, ◌==◌, if◌then◌else◌, IsPermutation};
+ghost use Rattle.std.specs.Prelude.{◌≡◌, ℕ, ◌+◌, ◌≤◌, ◌^◌, ◌↔◌, ◌++◌, [], List, length, OnOk, OnErr, IfOk, IsTrue, IsSome, is_some, is_none, not, ◌==◌, if◌then◌else◌, IsPermutation};
 ghost use Rattle.std.specs.Option.{option_map};
 ghost use Rattle.std.specs.Arc.{arc_value};
 ghost use Rattle.flurry_bins.specs.FiniteSet.{IsFiniteSet, element_at, with_element, with_elements, without_element, IsSubset, AreDisjoint};
 ghost use Rattle.flurry_bins.specs.Hashing.{seed_of};
 ghost use Rattle.flurry_bins.specs.Sizes.{wanted_of, IsGrown};
 ghost use Rattle.flurry_seq.specs.Contents.{first_bins, IsLeftByReserve};
+ghost use Rattle.flurry_seq.specs.Growth.{bins_for, IsTableFrom, IsTableAfter, HasRoom};
 ghost use Rattle.flurry_seq.specs.SetContents.{set_contents, holding, SameElements, asked_for, sets_eq, sets_eq_per, sets_eq_equiv};
 ghost use Rattle.flurry_seq.specs.SetRetain.{RetainsElements};
 
@@ -238,6 +239,8 @@ impl<T: Ord + Drop, S: KeyHasher<T>, A: Allocator + Copy> SeqSet<T, S, A> {
         ensures elements { OnOk result (self.new.elements ≡ with_element T.cmp self.old.elements element) }
         ensures hasher { self.new.hasher ≡ self.old.hasher }
         ensures bins { IfOk result (λ new. IsTrue (not new) → self.new.bins ≡ self.old.bins) }
+        ensures grown { IfOk result (λ new. IsTrue new
+            → IsTableAfter (first_bins self.old.bins 16) (length self.new.elements) self.new.bins) }
         ensures err { OnErr result (self.new ≡ self.old) }
         ensures ascend { IsFiniteSet T.cmp self.old.elements }
     {
@@ -275,7 +278,8 @@ impl<T: Ord + Drop, S: KeyHasher<T>, A: Allocator + Copy> SeqSet<T, S, A> {
     pub fn from_list(alloc: A, list: Vec<T, A>, hasher: S) -> Result<Self, AllocError>
     where
         S: Drop,
-        ensures { IfOk result (λ s. (s.elements ≡ with_elements T.cmp [] list.items) × (s.hasher ≡ hasher)) }
+        ensures made { IfOk result (λ s. (s.elements ≡ with_elements T.cmp [] list.items) × (s.hasher ≡ hasher)) }
+        ensures bins { IfOk result (λ s. IsTableFrom (bins_for (length list.items)) (length s.elements) s.bins) }
     {
         let mut set = SeqSet::with_capacity_and_hasher(alloc, list.len(), hasher)?;
         set.insert_all(list)?;
@@ -288,6 +292,8 @@ impl<T: Ord + Drop, S: KeyHasher<T>, A: Allocator + Copy> SeqSet<T, S, A> {
         ensures hasher { self.new.hasher ≡ self.old.hasher }
         ensures err { OnErr result ((front rest : List T) × (list.items ≡ front ++ rest)
             × (self.new.elements ≡ with_elements T.cmp self.old.elements front)) }
+        ensures room { (n : ℕ) → HasRoom n (length self.old.elements + length list.items)
+            → IsTableFrom n (length self.old.elements) self.old.bins → OnOk result (IsTableFrom n (length self.new.elements) self.new.bins) }
     {
         for element in list {
             self.insert(element)?;
@@ -309,6 +315,7 @@ impl<T: Ord + Drop, S: KeyHasher<T>, A: Allocator + Copy> SeqSet<T, S, A> {
         ensures elements { IfOk result (λ s. s.elements ≡ self.now.elements) }
         ensures ascend { IsFiniteSet T.cmp self.now.elements }
         ensures hasher { IfOk result (λ s. s.hasher ≡ self.now.hasher) }
+        ensures bins { IfOk result (λ s. IsTableFrom (bins_for (length self.now.elements)) (length s.elements) s.bins) }
     {
         let map = self.map.try_clone()?;
         Ok(SeqSet { map })

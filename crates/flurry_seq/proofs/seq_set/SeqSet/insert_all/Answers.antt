@@ -1,8 +1,9 @@
-use Rattle.std.proofs.Common.{[], ◌∷◌, ◌++◌, sym, ap, ◌∙◌, append_assoc}
+use Rattle.std.proofs.Common.{[], ◌∷◌, ◌++◌, length, sym, ap, ◌∙◌, append_assoc}
 use Rattle.std.specs.Vec.Iter.{into_iter_items}
 use Rattle.flurry_bins.specs.FiniteSet.{with_element}
 use Rattle.flurry_seq.proofs.CallLemmas.{on_err}
-use Rattle.flurry_seq.proofs.SetLemmas.{with_elements-push}
+use Rattle.flurry_seq.proofs.RoomLemmas.{count_put, of_test, room_put}
+use Rattle.flurry_seq.proofs.SetLemmas.{length-with_element, with_elements-push}
 use Rattle.flurry_seq.proofs.seq_set.SeqSet.insert_all.Goals as goal
 
 pub loop-element-preserved : goal.loop-element-preserved
@@ -10,6 +11,15 @@ loop-element-preserved g c = record {
   elements =
       c.in_ok-insert.ensures.elements ∙ ap (λ s. with_element g.T.Ord.cmp s c.in-Some.element) c.loop-element.invariant.elements
       ∙ sym (with_elements-push g.T.Ord.cmp c.args.self.now.elements c.loop-element.yielded c.in-Some.element);
+  room = λ n has from.
+      room_put c.loop-element.yielded c.in-Some.element (into_iter_items c.next.new.self) c.args.list.items (length c.args.self.now.elements) (length c.loop-element.self.elements) (length c.insert.new.self.elements) n c.loop-element.self.bins c.insert.new.self.bins
+      (append_assoc c.loop-element.yielded (c.in-Some.element ∷ []) (into_iter_items c.next.new.self) ∙ ap (λ l. c.loop-element.yielded ++ l) (sym c.in-Some.ensures.steps.0) ∙ c.loop-element.invariant.split)
+      c.loop-element.invariant.count
+      (rw c.in_ok-insert.ensures.elements (length-with_element g.T.Ord.cmp c.loop-element.self.elements c.in-Some.element))
+      (of_test c.in_ok-insert.field-0 c.in_ok-insert.ensures.bins c.in_ok-insert.ensures.grown) has (c.loop-element.invariant.room n has from);
+  count =
+      count_put c.loop-element.yielded c.in-Some.element (length c.args.self.now.elements) (length c.loop-element.self.elements) (length c.insert.new.self.elements) c.loop-element.invariant.count
+      (rw c.in_ok-insert.ensures.elements (length-with_element g.T.Ord.cmp c.loop-element.self.elements c.in-Some.element));
   hasher = c.in_ok-insert.ensures.hasher ∙ c.loop-element.invariant.hasher;
   split =
       append_assoc c.loop-element.yielded (c.in-Some.element ∷ []) (into_iter_items c.next.new.self)
