@@ -412,6 +412,7 @@ impl<K: Ord + Drop, V: Drop, S: KeyHasher<K>, A: Allocator + Copy> SeqMap<K, V, 
     where
         S: Drop,
         ensures made { IfOk result (λ m. (m.pairs ≡ with_all K.cmp [] list.items) × (m.hasher ≡ hasher)) }
+        ensures ascend { IfOk result (λ m. IsFiniteMap K.cmp m.pairs) }
         ensures bins { IfOk result (λ m. IsTableFrom (bins_for (length list.items)) (length m.pairs) m.bins) }
     {
         let mut map = SeqMap::with_capacity_and_hasher(alloc, list.len(), hasher)?;

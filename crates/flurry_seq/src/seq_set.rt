@@ -279,6 +279,7 @@ impl<T: Ord + Drop, S: KeyHasher<T>, A: Allocator + Copy> SeqSet<T, S, A> {
     where
         S: Drop,
         ensures made { IfOk result (λ s. (s.elements ≡ with_elements T.cmp [] list.items) × (s.hasher ≡ hasher)) }
+        ensures ascend { IfOk result (λ s. IsFiniteSet T.cmp s.elements) }
         ensures bins { IfOk result (λ s. IsTableFrom (bins_for (length list.items)) (length s.elements) s.bins) }
     {
         let mut set = SeqSet::with_capacity_and_hasher(alloc, list.len(), hasher)?;

@@ -1,4 +1,7 @@
-use Rattle.std.proofs.Common.{◌≡◌, ◌+◌, length, inl, subst, ap, ◌∙◌, arith}
+use Rattle.std.proofs.Common.{◌≡◌, ◌+◌, List, [], ◌∷◌, Ordering, length, inl, subst, ap, ◌∙◌, arith}
+use Rattle.std.specs.Cmp.{IsTotalOrder}
+use Rattle.flurry_bins.specs.FiniteMap.{IsFiniteMap, with_all, with_pair}
+use Rattle.flurry_bins.proofs.FiniteMapLaws.{IsFiniteMap-with_pair}
 use Rattle.flurry_seq.specs.Growth.{bins_for, HasRoom}
 use Rattle.flurry_seq.proofs.RoomLemmas.{room_for}
 use Rattle.flurry_seq.proofs.seq_map.SeqMap.from_list.Goals as goal
@@ -12,3 +15,10 @@ returns-clause-bins g c =
     let none : length c.in_ok-map.map.pairs ≡ 0 = ap (λ m. length m.pairs) made in
     let all : count ≡ length c.in_ok-map.map.pairs + count = omega (arith, none) in
     c.in_ok-insert_all.ensures.room (bins_for count) (subst (HasRoom (bins_for count)) all (room_for count)) (inl bins)
+
+IsFiniteMap-with_all : {K V : Type 0} {cmp : K → K → Ordering} (o : IsTotalOrder cmp) (m ps : List (K × V)) → IsFiniteMap cmp m → IsFiniteMap cmp (with_all cmp m ps)
+IsFiniteMap-with_all o m [] s = s
+IsFiniteMap-with_all {cmp = cmp} o m (p ∷ ps) s = IsFiniteMap-with_all o (with_pair cmp m p.0 p.1) ps (IsFiniteMap-with_pair o m p.0 p.1 s)
+
+pub returns-clause-ascend : goal.returns-clause-ascend
+returns-clause-ascend g c = rw c.in_ok-insert_all.ensures.ok (IsFiniteMap-with_all g.met.K.Ord.total c.in_ok-map.map.pairs c.args.list.items c.in_ok-map.ensures.ascend)
