@@ -6,13 +6,13 @@ use Rattle.flurry_bins.specs.Sizes.{wanted_of, threshold_of, IsOnTheWay}
 abbrev pub bins_for : ℕ → ℕ
 bins_for count = if count == 0 then 0 else wanted_of count
 
--- what a table that began with n bins may be where the count gives no cause to double it: it has these bins still. Or a ninth entry
--- came to a bin, so there are more than eight pairs, and n is below 64: then n was doubled some times while it was too few for 128
+-- what a table that began with n bins may be where the count gives no cause to double it: it has these bins still. Or n is below 64
+-- and there are more than eight pairs, as where a bin has nine: then n was doubled some times, while it was too few for 128
 abbrev pub IsTableFrom : ℕ → ℕ → ℕ → Type 0
 IsTableFrom n count m = (m ≡ n) ⊎ ((n < 64) × (8 < count) × IsOnTheWay n 128 m)
 
--- what a table of n bins may be once a new key made so many pairs: first a ninth entry of a bin may have had it doubled, and then
--- the count, each time as it was no less than the threshold
+-- what a table of n bins may be once a new key made so many pairs: first the key's bin may have had it doubled so, and then the
+-- count, while it was no less than the threshold
 abbrev pub IsTableAfter : ℕ → ℕ → ℕ → Type 0
 IsTableAfter n count m = (mid : ℕ) × IsTableFrom n count mid × IsOnTheWay mid (count + 1) m
 

@@ -385,7 +385,8 @@ impl<K: Ord + Drop, V: Drop, S: KeyHasher<K>, A: Allocator + Copy> SeqMap<K, V, 
     ///
     /// # Errors
     ///
-    /// [`AllocError`], where a table or an insertion is refused. The pairs that were inserted before stay, and the rest is dropped.
+    /// [`AllocError`], where a table or an insertion is refused. The pairs that were inserted before stay, and so may a larger table;
+    /// the rest is dropped.
     pub fn extend(&mut self, list: Vec<(K, V), A>) -> Result<(), AllocError>
         ensures ok { OnOk result (self.new.pairs ≡ with_all K.cmp self.old.pairs list.items) }
         ensures hasher { self.new.hasher ≡ self.old.hasher }

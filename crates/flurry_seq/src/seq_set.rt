@@ -252,7 +252,8 @@ impl<T: Ord + Drop, S: KeyHasher<T>, A: Allocator + Copy> SeqSet<T, S, A> {
     ///
     /// # Errors
     ///
-    /// [`AllocError`], where a table or an insertion is refused. The elements that were put before stay, and the rest is dropped.
+    /// [`AllocError`], where a table or an insertion is refused. The elements that were put before stay, and so may a larger table;
+    /// the rest is dropped.
     pub fn extend(&mut self, list: Vec<T, A>) -> Result<(), AllocError>
         ensures ok { OnOk result (self.new.elements ≡ with_elements T.cmp self.old.elements list.items) }
         ensures hasher { self.new.hasher ≡ self.old.hasher }
