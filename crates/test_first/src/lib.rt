@@ -1,0 +1,5 @@
+//! The first example of README, as a test.
+#![tactic(auto)]
+
+#[cfg(test)]
+mod tests;
