@@ -1,4 +1,4 @@
-use Rattle.std.proofs.Common.{◌≡◌, ◌*◌, length, inl, inr, refl, subst}
+use Rattle.std.proofs.Common.{◌*◌, length, inl, inr, refl, subst}
 use Rattle.flurry_bins.specs.Sizes.{wanted_of, IsOnTheWay}
 use Rattle.flurry_seq.specs.Contents.{first_bins}
 use Rattle.flurry_seq.specs.Growth.{IsTableFrom}
