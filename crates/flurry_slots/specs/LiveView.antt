@@ -1,5 +1,5 @@
 -- A live bin, and what its steps answer, as plain data.
-use Rattle.std.specs.Prelude.{ℕ, Bool, Option, Result, Ok, Err}
+use Rattle.std.specs.Prelude.{ℕ, Bool, Option, Result, Ok, Err, ⊤}
 use Rattle.std.specs.Option.{option_map}
 use Rattle.std.specs.Arc.{arc_value}
 use Rattle.flurry_bins.specs.declared.bin.choice.Bin.{Bin}
@@ -25,7 +25,12 @@ abbrev pub added_view : {V A : Type 0} → Result (Added V A) (TryInsertError V 
 added_view (Ok a) = Ok (arc_value a.value, a.asks_for_growth)
 added_view (Err e) = Err (arc_value e.current, e.not_inserted)
 
-abbrev pub outcome : {V A : Type 0} → Computed V A → Outcome V
-outcome Absent = WasAbsent
+abbrev pub outcome : {V F A : Type 0} → Computed V F A → Outcome V
+outcome (Absent f) = WasAbsent
 outcome Removed = WasRemoved
 outcome (Changed v) = WasChanged (arc_value v)
+
+-- P holds of the function that was not called, where the key is absent
+abbrev pub IfAbsent : {V F A : Type 0} → Computed V F A → (F → Type 0) → Type 0
+IfAbsent (Absent f) P = P f
+IfAbsent _ P = ⊤

@@ -8,7 +8,7 @@ ghost use Rattle.flurry_bins.specs.Entries.{lent_bound};
 ghost use Rattle.flurry_bins.specs.Greatest.{greatest};
 ghost use Rattle.flurry_bins.specs.PlainEntries.{numbered, numbered_all};
 ghost use Rattle.flurry_slots.specs.Slot.{half, wiped, next_number, entry_of_live, value_of_live, next_of_live, written, written_reply, asks, taken, added, added_reply, taken_if, taken_if_reply, Computes, ComputesInVain};
-ghost use Rattle.flurry_slots.specs.LiveView.{live_of, written_view, added_view, outcome};
+ghost use Rattle.flurry_slots.specs.LiveView.{live_of, written_view, added_view, outcome, IfAbsent};
 
 use crate::change::Change;
 use flurry_bins::bin::{Bin, BoxedNode, Entry, Node, Ordered};
@@ -40,9 +40,9 @@ pub struct Added<V, A: Allocator> {
 
 /// What a computation did.
 #[derive(Drop)]
-pub enum Computed<V, A: Allocator> {
-    /// The key is absent; the function was not called.
-    Absent,
+pub enum Computed<V, F, A: Allocator> {
+    /// The key is absent; the function was not called, and comes back.
+    Absent(F),
     /// The function answered none, and the pair was taken out.
     Removed,
     /// The function answered this value, which stands now.
@@ -239,15 +239,16 @@ impl<K: Ord + Drop, V: Drop, A: Allocator + Copy> LiveBin<K, V, A> {
         hash: u64,
         key: &K,
         f: F,
-    ) -> Result<Computed<V, A>, AllocError>
+    ) -> Result<Computed<V, F, A>, AllocError>
         requires { F.can_change f }
+        ensures back { IfOk result (λ c. IfAbsent c (λ g. g ≡ f)) }
         ensures done { IfOk result (λ c. Computes K.cmp (F.changes f) bins self.old hash key.now (outcome c) self.new) }
         ensures refused { OnErr result (self.new ≡ self.old) }
         ensures in_vain { OnErr result (ComputesInVain K.cmp (F.changes f) self.old hash key.now) }
     {
         let computed = match self.find(hash, key) {
             Some(entry) => f.change(&entry.key, &entry.value),
-            None => return Ok(Computed::Absent),
+            None => return Ok(Computed::Absent(f)),
         };
         match computed {
             Some(value) => match two_owners(alloc, value) {

@@ -4,7 +4,7 @@ ghost use Rattle.std.specs.Option.{option_map};
 ghost use Rattle.flurry_bins.specs.Bin.{entries_of_bin};
 ghost use Rattle.flurry_bins.specs.Entries.{lent_bound};
 ghost use Rattle.flurry_bins.specs.Greatest.{greatest};
-ghost use Rattle.flurry_slots.specs.LiveView.{live_of, written_view, added_view, outcome};
+ghost use Rattle.flurry_slots.specs.LiveView.{live_of, written_view, added_view, outcome, IfAbsent};
 ghost use Rattle.flurry_bins.specs.PlainEntries.{numbered};
 ghost use Rattle.flurry_bins.specs.Region.{AllInRegion};
 ghost use Rattle.flurry_slots.specs.Slot.{Place, IsLive, HasMoved, IsUnborn, IsSlot, LiesIn, IfLive, place_with, entry_of_live, next_of_live, written, written_reply, added, added_reply, taken, taken_if, taken_if_reply, wiped, Computes, ComputesInVain, HasMovedInto, Clashes};
@@ -331,7 +331,8 @@ impl<K: Ord + Drop, V: Drop, A: Allocator + Copy> Slot<K, V, A> {
 
     #[tactic(auto, using(crate::proofs::SlotLaws::live_in_written, crate::proofs::SlotLaws::live_in_taken))]
     /// Calls a function once on the stored key and the value of a key that is there, and on nothing else. Its answer is the new
-    /// value; where it answers none, the pair is taken out. As many steps as a look-up in the bin.
+    /// value; where it answers none, the pair is taken out. Where it was not called it comes back. As many steps as a look-up in
+    /// the bin.
     ///
     /// # Errors
     ///
@@ -343,10 +344,11 @@ impl<K: Ord + Drop, V: Drop, A: Allocator + Copy> Slot<K, V, A> {
         hash: u64,
         key: &K,
         f: F,
-    ) -> Result<Answer<Computed<V, A>, F>, AllocError>
+    ) -> Result<Answer<Computed<V, F, A>, F>, AllocError>
         requires region { LiesIn hash self.old }
         requires callable { F.can_change f }
         ensures back { IfOk result (λ a. IsAway a self.old.content f) }
+        ensures absent { IfOk result (λ a. IfHere a (λ c. IfAbsent c (λ g. g ≡ f))) }
         ensures here { IfOk result (λ a. IfHere a (λ c. IfLive self.old.content (λ b. IfLive self.new.content (λ d.
             Computes K.cmp (F.changes f) (2 ^ self.old.table) b hash key.now (outcome c) d × (self.new ≡ place_with (λ _. d) self.old))))) }
         ensures same { IfOk result (λ a. IfAway a (self.new ≡ self.old)) }

@@ -100,7 +100,7 @@ fn halve(
     lies_in(slot, hash)?;
     let half = |_: &u64, value: &u64| Some(*value / 2);
     match given(slot.compute(alloc, hash, &key, half))? {
-        Computed::Absent => Ok(None),
+        Computed::Absent(_) => Ok(None),
         Computed::Removed => Ok(Some(None)),
         Computed::Changed(value) => Ok(Some(Some(*value))),
     }

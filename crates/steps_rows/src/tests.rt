@@ -1,7 +1,8 @@
-//! The control, and calls in steps.
+//! The control, slots, and calls in steps.
 
 mod control;
 mod party;
+mod slot;
 
 use std::fmt::Debug;
 use std::process::Abort;

@@ -132,7 +132,7 @@ fn compute(rt: HostRuntime) -> Result<(), Fail> {
         let absent = slot.compute(memory, 3, &3, |_: &u64, _: &u64| Some(0));
         memory.refuse_nothing();
         match (removed, absent) {
-            (Ok(Answer::Here(Computed::Removed)), Ok(Answer::Here(Computed::Absent))) => {}
+            (Ok(Answer::Here(Computed::Removed)), Ok(Answer::Here(Computed::Absent(_)))) => {}
             _ => return Err(Fail::from("nothing was asked for")),
         }
         drop(slot);

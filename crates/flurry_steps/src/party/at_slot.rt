@@ -252,7 +252,7 @@ fn computed<'k, K: Ord + Drop, V: Drop, F: Change<K, V>, A: Allocator + Copy>(
     ensures step { ContentGives K.cmp F.changes hash (Computes (key_of key.entry) f) table slot.old.content result.1 (stage_of result.0) slot.new.content }
 {
     match slot.compute(alloc, hash, key.get(), f) {
-        Ok(Answer::Here(Computed::Absent)) => (Stage::Done(Reply::Value(None)), Event::Decide),
+        Ok(Answer::Here(Computed::Absent(_))) => (Stage::Done(Reply::Value(None)), Event::Decide),
         Ok(Answer::Here(Computed::Removed)) => (Stage::Uncount(Reply::Value(None)), Event::Decide),
         Ok(Answer::Here(Computed::Changed(value))) => {
             (Stage::Done(Reply::Value(Some(value))), Event::Decide)

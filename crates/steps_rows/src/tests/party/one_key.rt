@@ -5,6 +5,8 @@ use super::{Becomes, Map, Told, answers, call, empty_map, insert, reply_of, run,
 use flurry_bins::table::KeptReply;
 use flurry_slots::{Change, NoChange};
 use flurry_steps::party::{Call, Event, Party, Want};
+use std::alloc::Global;
+use std::cell::Cell;
 use std::process::Abort;
 use std::test::Fail;
 
@@ -151,6 +153,31 @@ fn computation_by_a_closure(rt: HostRuntime) -> Result<(), Fail> {
         Call::Compute(&3, |key: &u64, old: &u64| key.checked_add(*old)),
     )?;
     same(&rt, answer, value(Some(3)));
+    Ok(())
+}
+
+// How often a computation at a key of hash 3 calls its function.
+fn calls_at(alloc: Global, map: &mut Map, key: u64) -> Result<u64, Fail> {
+    let calls = Cell::new(0u64);
+    let (_events, _answer) = run(
+        alloc,
+        map,
+        3,
+        Call::Compute(&key, |_: &u64, old: &u64| {
+            calls.set(calls.get().saturating_add(1));
+            Some(*old)
+        }),
+    )?;
+    Ok(calls.get())
+}
+
+#[test]
+fn function_is_called_for_a_present_key_alone(rt: HostRuntime) -> Result<(), Fail> {
+    let mut map = empty_map(rt.alloc(), 1, 0);
+    same(&rt, calls_at(rt.alloc(), &mut map, 3)?, 0);
+    let _steps = insert(rt.alloc(), &mut map, 3, 3)?;
+    same(&rt, calls_at(rt.alloc(), &mut map, 19)?, 0);
+    same(&rt, calls_at(rt.alloc(), &mut map, 3)?, 1);
     Ok(())
 }
 
