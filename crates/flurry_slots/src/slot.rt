@@ -105,11 +105,13 @@ impl<K: Ord + Drop, V: Drop, A: Allocator> Slot<K, V, A> {
         Slot::live_at(table, index, bin, writes)
     }
 
-    /// The slot of a bin whose hashes lie in its region, with a count of writes. Constant time.
+    /// The slot of a bin whose hashes lie in its region, with a count of writes, which no write number in the bin exceeds. Constant
+    /// time.
     pub fn live_at(table: u8, index: usize, bin: Bin<K, V, A>, writes: u64) -> Self
         requires table { table ≤ 30 }
         requires index { index < 2 ^ table }
         requires region { AllInRegion table index (entries_of_bin bin) }
+        requires count { greatest (map (λ e. e.number) (entries_of_bin bin)) ≤ writes }
         ensures { result ≡ record { table = table; index = index; content = IsLive (live_of bin writes) } }
     {
         Slot {
