@@ -1,9 +1,11 @@
 -- A call of a bin as a step at the live bin that it is.
-use Rattle.std.proofs.Common.{◌≡◌, ℕ, Bool, false, ◌&&◌, nat_le, List, length, Option, None, Some, option_map, is_none, refl, sym, ap, ◌∙◌, subst}
+use Rattle.std.proofs.Common.{◌≡◌, ℕ, Bool, false, ◌&&◌, nat_le, List, [], ◌∷◌, length, Option, None, Some, option_map, is_none, refl, sym, ap, ◌∙◌, subst}
 use Rattle.std.specs.Option.{IsNone, IsSome}
 use Rattle.std.specs.Arc.{arc_value}
 use Rattle.std.specs.declared.sync.Arc.{Arc}
 use Rattle.std.specs.Cmp.{IsTotalOrder}
+use Rattle.std.specs.List.{AllByRecursion}
+use Rattle.std.specs.Map.{keys_of}
 use Rattle.std.proofs.lemmas.List.{length-map}
 use Rattle.flurry_bins.specs.declared.bin.choice.Bin.{Bin}
 use Rattle.flurry_bins.specs.declared.bin.entry.Entry.{Entry}
@@ -13,7 +15,7 @@ use Rattle.flurry_bins.specs.Entries.{entry_at, placed, replaced, without as wit
 use Rattle.flurry_bins.specs.FiniteMap.{with_pair, without}
 use Rattle.flurry_slots.specs.LiveView.{live_of}
 use Rattle.flurry_bins.specs.PlainEntries.{hash_then_key, numbered, numbered_all}
-use Rattle.flurry_bins.specs.Region.{AllInRegion}
+use Rattle.flurry_bins.specs.Region.{InRegion, AllInRegion}
 use Rattle.flurry_slots.specs.Slot.{Held, Live, IsLiveIn, entry_of_live, written, taken, half, next_number}
 use Rattle.flurry_bins.proofs.PlainEntryLaws.{absent_is, paired-entry_at, paired-without, paired-placed, paired-replaced, paired-with_bit, paired-ascending, paired-region}
 
@@ -25,6 +27,10 @@ live_alike : {K V : Type 0} {held held' : List (Held K V)} {tree tree' : Bool} (
     → ◌≡◌ {A = Live K V} (record { held = held; tree = tree; writes = writes }) (record { held = held'; tree = tree'; writes = writes })
 live_alike {held = held} {held' = held'} {tree = tree} writes e f = ap (λ x. record { held = x; tree = tree; writes = writes }) e ∙ ap (λ x. record { held = held'; tree = x; writes = writes }) f
 
+region_of_held : {K V A : Type 0} (table index : ℕ) (es : List (Entry K V A)) → AllByRecursion (λ (q : ℕ × K). InRegion table index q.0) (keys_of (numbered_all es)) → AllInRegion table index es
+region_of_held table index [] h = tt
+region_of_held table index (d ∷ es) h = (h.0, region_of_held table index es h.1)
+
 module _ {K V A : Type 0} {o : _} {e : _} {p : _} (b : Bin K V A o e p) (n : ℕ) where
   pub live_found : (h : ℕ) (k : K) → entry_of_live o.cmp (live_of b n) h k ≡ option_map numbered (entry_at o.cmp h k (entries_of_bin b))
   live_found h k = paired-entry_at o.cmp value_and_number h k (entries_of_bin b)
@@ -35,6 +41,10 @@ module _ {K V A : Type 0} {o : _} {e : _} {p : _} (b : Bin K V A o e p) (n : ℕ
     sized = subst (IsSized (is_tree b)) (sym (length-map (entries_of_bin b) numbered)) (sized_of_bin b);
     region = paired-region o.cmp value_and_number table index (entries_of_bin b) all;
   }
+
+  -- and back
+  pub live_region : (table index : ℕ) → IsLiveIn o.cmp table index (live_of b n) → AllInRegion table index (entries_of_bin b)
+  live_region table index l = region_of_held table index (entries_of_bin b) l.region
 
   module _ (total : IsTotalOrder o.cmp) (c : Bin K V A o e p) where
     pub live_rewritten : (bins h : ℕ) (k : K) (v : Arc V A) → IsSome (entry_at o.cmp h k (entries_of_bin b)) → entries_of_bin c ≡ replaced o.cmp h k v (next_number n) (entries_of_bin b) → is_tree c ≡ is_tree b

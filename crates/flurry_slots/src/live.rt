@@ -1,12 +1,10 @@
 //! A live bin of a table, and the steps at it.
-ghost use Rattle.std.specs.Prelude.{◌≡◌, ◌^◌, ◌<◌, ◌≤◌, [], map, length, true, false, IfOk, OnOk, OnErr, IfSome, IsSome, IsNone, Some, None};
+ghost use Rattle.std.specs.Prelude.{◌≡◌, ◌^◌, ◌<◌, length, IfOk, OnOk, OnErr, IsSome, Some, None};
 ghost use Rattle.std.specs.Option.{option_map};
 ghost use Rattle.std.specs.Arc.{arc_value};
-ghost use Rattle.flurry_bins.specs.Bin.{entries_of_bin, is_tree};
 ghost use Rattle.flurry_bins.specs.Chain.{entry_of};
 ghost use Rattle.flurry_bins.specs.Entries.{lent_bound};
-ghost use Rattle.flurry_bins.specs.Greatest.{greatest};
-ghost use Rattle.flurry_bins.specs.PlainEntries.{numbered, numbered_all};
+ghost use Rattle.flurry_bins.specs.PlainEntries.{numbered};
 ghost use Rattle.flurry_slots.specs.Slot.{half, wiped, next_number, entry_of_live, value_of_live, next_of_live, written, written_reply, asks, taken, added, added_reply, taken_if, taken_if_reply, Computes, ComputesInVain};
 ghost use Rattle.flurry_slots.specs.LiveView.{live_of, written_view, added_view, outcome, IfAbsent};
 
@@ -143,6 +141,14 @@ impl<K: Ord + Drop, V: Drop, A: Allocator> LiveBin<K, V, A> {
         let count = self.len();
         self.bin = Bin::new();
         count
+    }
+
+    // The bin alone.
+    pub(crate) fn into_bin(self) -> Bin<K, V, A>
+        ensures { live_of result self.writes ≡ self }
+    {
+        let LiveBin { bin, writes: _ } = self;
+        bin
     }
 
     // The entries whose hash has this bit 0, and the others, each with the count of writes.

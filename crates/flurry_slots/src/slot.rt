@@ -1,5 +1,5 @@
 //! A slot of a table, where one bin stands, and the steps that are done at one slot.
-ghost use Rattle.std.specs.Prelude.{◌≡◌, ℕ, ◌+◌, ◌^◌, ◌<◌, ◌≤◌, ⊤, length, map, IfOk, OnErr, OnOk, IsTrue, ◌↔◌};
+ghost use Rattle.std.specs.Prelude.{◌≡◌, ℕ, ◌+◌, ◌^◌, ◌<◌, ◌≤◌, ◌⊎◌, ⊤, length, map, IfNone, IfOk, IfSome, OnErr, OnOk, IsTrue, ◌↔◌};
 ghost use Rattle.std.specs.Option.{option_map};
 ghost use Rattle.flurry_bins.specs.Bin.{entries_of_bin};
 ghost use Rattle.flurry_bins.specs.Entries.{lent_bound};
@@ -131,6 +131,20 @@ impl<K: Ord + Drop, V: Drop, A: Allocator> Slot<K, V, A> {
             table,
             index,
             state: State::Unborn,
+        }
+    }
+
+    /// Gives the live bin back, to be owned again: the inverse of [`Slot::live`]. None where the bin moved or is not there yet. The
+    /// entries keep their write numbers, and the count of writes is gone. Constant time.
+    pub fn into_bin(self) -> Option<Bin<K, V, A>>
+        ensures bin { IfSome result (λ b. IfLive self.content (λ d. live_of b d.writes ≡ d)) }
+        ensures region { IfSome result (λ b. AllInRegion self.table self.index (entries_of_bin b)) }
+        ensures none { IfNone result ((self.content ≡ HasMoved) ⊎ (self.content ≡ IsUnborn)) }
+        ensures within { IsSlot K.cmp self }
+    {
+        match self.state {
+            State::Live(live) => Some(live.into_bin()),
+            State::Moved | State::Unborn => None,
         }
     }
 

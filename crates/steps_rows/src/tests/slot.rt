@@ -1,11 +1,11 @@
-//! Slots: how often a computation calls its function.
+//! Slots: how often a computation calls its function, and bins that are owned again.
 ghost use Rattle.std.specs.Prelude.{OnOk};
 ghost use Rattle.flurry_slots.specs.Slot.{LiesIn};
 
 use super::same;
-use flurry_bins::bin::Bin;
+use flurry_bins::bin::{Bin, Ordered};
 use flurry_bins::table::bin_index;
-use flurry_slots::{Answer, Slot};
+use flurry_slots::{Answer, MoveAnswer, Slot};
 use std::alloc::Global;
 use std::cell::Cell;
 use std::test::Fail;
@@ -27,6 +27,15 @@ fn put(alloc: Global, slot: &mut Slot<u64, u64>, key: u64, value: u64) -> Result
     lies_in(slot)?;
     match slot.put(alloc, 3, key, value)? {
         Answer::Here(_) => Ok(()),
+        _ => Err(Fail::from("the bin is live")),
+    }
+}
+
+// The value of a key and the number of its write, where the bin is live.
+fn find(slot: &Slot<u64, u64>, key: u64) -> Result<Option<(u64, u64)>, Fail> {
+    lies_in(slot)?;
+    match slot.find(3, &key) {
+        Answer::Here(entry) => Ok(entry.map(|entry| (*entry.value, entry.number))),
         _ => Err(Fail::from("the bin is live")),
     }
 }
@@ -57,5 +66,42 @@ fn function_is_called_at_a_present_key_alone(rt: HostRuntime) -> Result<(), Fail
 fn function_is_not_called_where_no_bin_is(rt: HostRuntime) -> Result<(), Fail> {
     let mut slot: Slot<u64, u64> = Slot::unborn(4, 3);
     same(&rt, calls_at(rt.alloc(), &mut slot, 3)?, 0);
+    Ok(())
+}
+
+// Takes the bin out of a slot, and puts it into another one at the same place.
+fn owned_again(slot: Slot<u64, u64>) -> Option<Slot<u64, u64>> {
+    let (table, index) = slot.at();
+    let bin = slot.into_bin()?;
+    Some(Slot::live(table, index, bin))
+}
+
+#[test]
+fn a_live_bin_is_owned_again(rt: HostRuntime) -> Result<(), Fail> {
+    let mut slot: Slot<u64, u64> = Slot::live(4, 3, Bin::new());
+    put(rt.alloc(), &mut slot, 3, 10)?;
+    put(rt.alloc(), &mut slot, 19, 11)?;
+    put(rt.alloc(), &mut slot, 3, 12)?;
+    let Some(mut slot) = owned_again(slot) else {
+        return Err(Fail::from("the bin is live"));
+    };
+    same(&rt, find(&slot, 3)?, Some((12, 3)));
+    same(&rt, find(&slot, 19)?, Some((11, 2)));
+    put(rt.alloc(), &mut slot, 19, 13)?;
+    same(&rt, find(&slot, 19)?, Some((13, 4)));
+    Ok(())
+}
+
+#[test]
+fn other_slots_have_no_bin_to_give(rt: HostRuntime) -> Result<(), Fail> {
+    let mut slot: Slot<u64, u64> = Slot::live(4, 3, Bin::new());
+    let mut low: Slot<u64, u64> = Slot::unborn(5, 3);
+    let mut high: Slot<u64, u64> = Slot::unborn(5, 19);
+    let done = matches!(slot.move_into(&mut low, &mut high), MoveAnswer::Done(_));
+    same(&rt, done, true);
+    same(&rt, slot.into_bin().is_none(), true);
+    same(&rt, low.into_bin().map(|bin| bin.len()), Some(0));
+    let other: Slot<u64, u64> = Slot::unborn(4, 3);
+    same(&rt, other.into_bin().is_none(), true);
     Ok(())
 }
