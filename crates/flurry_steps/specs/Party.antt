@@ -212,6 +212,17 @@ steps_left (AtLocate t) = 32
 steps_left (AtBin t e) = 31 - e
 steps_left _ = 0
 
+-- a call of one key that only looks for it
+abbrev pub IsLookUp : {K V F : Type 0} → Task K V F → Type 0
+IsLookUp (Finds w k) = ⊤
+IsLookUp _ = ⊥
+
+-- a look-up that did not decide yet
+abbrev pub LooksUp : {K V F : Type 0} → Stage K V F → Type 0
+LooksUp (AtLocate t) = IsLookUp t
+LooksUp (AtBin t e) = IsLookUp t
+LooksUp _ = ⊥
+
 -- a call that may change its bin
 abbrev pub IsWriter : {K V F : Type 0} → Task K V F → Type 0
 IsWriter (Finds w k) = ⊥

@@ -5,7 +5,7 @@
 ghost use Rattle.std.specs.Prelude.{◌≡◌, ◌<◌, ◌⊎◌, IfNone, IfSome, true};
 ghost use Rattle.std.specs.Option.{option_map, option_copied};
 ghost use Rattle.flurry_slots.specs.Slot.{IsSlot, IsUnborn};
-ghost use Rattle.flurry_steps.specs.Party.{Course, locates, started, wanted_part, with_stage, said_in, done_with, steps_left, LookPart, BinPart, MovePart, ControlPart, AtTaken, AtLocate, TaskIsReady};
+ghost use Rattle.flurry_steps.specs.Party.{Course, locates, started, wanted_part, with_stage, said_in, done_with, steps_left, LooksUp, LookPart, BinPart, MovePart, ControlPart, AtTaken, AtLocate, TaskIsReady};
 ghost use Rattle.flurry_steps.specs.PartyControl.{ControlStep};
 ghost use Rattle.flurry_steps.specs.PartySlots.{SlotStep, MoveStep};
 ghost use Rattle.flurry_steps.specs.PartyView.{part_of_want, first_stage, kept_stage, said_of, task_of, CallIsReady, KeptIsReady};
@@ -268,7 +268,8 @@ impl<'k, K: Ord + Drop, V: Drop, F: Change<K, V>, A: Allocator> Party<'k, K, V, 
     pub fn on_look(&mut self, slot: &Slot<K, V, A>) -> Event
         requires { wanted_part self.old ≡ LookPart slot.now.table slot.now.index }
         ensures within { IsSlot K.cmp slot.now }
-        ensures nearer { (slot.now.content ≡ IsUnborn) ⊎ (steps_left self.new.stage < steps_left self.old.stage) }
+        ensures nearer { LooksUp self.old.stage →
+            ((slot.now.content ≡ IsUnborn) ⊎ (steps_left self.new.stage < steps_left self.old.stage)) }
         ensures step { SlotStep K.cmp F.changes self.old slot.now result self.new slot.now }
     {
         let stage = mem::replace(&mut self.stage, Stage::Taken);
