@@ -127,8 +127,7 @@ module _ {K V : Type 0} where
   -- the slot with its live bin changed
   abbrev pub content_with : (Live K V → Live K V) → Content K V → Content K V
   content_with f (IsLive b) = IsLive (f b)
-  content_with f HasMoved = HasMoved
-  content_with f IsUnborn = IsUnborn
+  content_with f c = c
 
   abbrev pub place_with : (Live K V → Live K V) → Place K V → Place K V
   place_with f p = record p { content = content_with f p.content }
@@ -136,8 +135,7 @@ module _ {K V : Type 0} where
   -- the bin at the slot is live, and this holds of it
   abbrev pub IfLive : Content K V → (Live K V → Type 0) → Type 0
   IfLive (IsLive b) P = P b
-  IfLive HasMoved P = ⊥
-  IfLive IsUnborn P = ⊥
+  IfLive _ P = ⊥
 
   -- low and high are the halves of p in the next larger table, and no bin is there yet
   pub record AreHalves (p low high : Place K V) : Type 0 where

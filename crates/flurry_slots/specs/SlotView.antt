@@ -32,14 +32,12 @@ answer_map f (Unborn b) = Unborn b
 -- P holds of what a live bin answered
 abbrev pub IfHere : {T B : Type 0} → Answer T B → (T → Type 0) → Type 0
 IfHere (Here x) P = P x
-IfHere (Moved b) P = ⊤
-IfHere (Unborn b) P = ⊤
+IfHere _ P = ⊤
 
 -- P holds where no bin was live
 abbrev pub IfAway : {T B : Type 0} → Answer T B → Type 0 → Type 0
 IfAway (Here x) P = ⊤
-IfAway (Moved b) P = P
-IfAway (Unborn b) P = P
+IfAway _ P = P
 
 -- what was lent in came back, since the bin moved or is not there yet
 abbrev pub IsAway : {T B K V : Type 0} → Answer T B → Content K V → B → Type 0
@@ -49,20 +47,16 @@ IsAway (Unborn b) c lent = (b ≡ lent) × (c ≡ IsUnborn)
 
 abbrev pub IfDone : MoveAnswer → (Receipt → Type 0) → Type 0
 IfDone (Done r) P = P r
-IfDone (Already r) P = ⊤
-IfDone Clash P = ⊤
+IfDone _ P = ⊤
 
 abbrev pub IfAlready : MoveAnswer → (Receipt → Type 0) → Type 0
-IfAlready (Done r) P = ⊤
 IfAlready (Already r) P = P r
-IfAlready Clash P = ⊤
+IfAlready _ P = ⊤
 
 abbrev pub IfClash : MoveAnswer → Type 0 → Type 0
-IfClash (Done r) P = ⊤
-IfClash (Already r) P = ⊤
 IfClash Clash P = P
+IfClash _ P = ⊤
 
 abbrev pub IfNotDone : MoveAnswer → Type 0 → Type 0
 IfNotDone (Done r) P = ⊤
-IfNotDone (Already r) P = P
-IfNotDone Clash P = P
+IfNotDone _ P = P

@@ -83,28 +83,18 @@ pub data Part : Type 0 where
 
 abbrev pub bin_part : {K V F : Type 0} → Task K V F → ℕ → ℕ → Part
 bin_part (Finds w k) e i = LookPart e i
-bin_part (Removes w k) e i = BinPart e i
-bin_part (Inserts k v) e i = BinPart e i
-bin_part (Adds k v) e i = BinPart e i
-bin_part (Computes k f) e i = BinPart e i
+bin_part _ e i = BinPart e i
 
 abbrev pub move_part : Option (ℕ × ℕ) → Part
 move_part None = ControlPart
 move_part (Some b) = MovePart b.0 b.1
 
 abbrev pub part_of : {K V F : Type 0} → ℕ → Stage K V F → Part
-part_of h (AtLocate t) = ControlPart
 part_of h (AtBin t e) = bin_part t e (h % 2 ^ e)
-part_of h (AtClaim a) = ControlPart
 part_of h (AtMove c a) = move_part (next_of c)
-part_of h (AtUncount r) = ControlPart
-part_of h (AtCount r) = ControlPart
-part_of h (AtRecount r) = ControlPart
-part_of h (AtBegin e r) = ControlPart
-part_of h (AtGrow w g) = ControlPart
-part_of h (AtReserve a) = ControlPart
 part_of h (AtDone r) = NoPart
 part_of h AtTaken = NoPart
+part_of h _ = ControlPart
 
 abbrev pub wanted_part : {K V F : Type 0} → Course K V F → Part
 wanted_part p = part_of p.hash p.stage
@@ -117,8 +107,7 @@ with_stage p s = record { hash = p.hash; processors = p.processors; stage = s }
 -- the reply of a call of one key, which decided
 abbrev pub IsDecided : {K V : Type 0} → Said K V → Type 0
 IsDecided (Says r) = ⊤
-IsDecided SaysEnded = ⊥
-IsDecided SaysRefused = ⊥
+IsDecided _ = ⊥
 
 abbrev pub GrowingIsReady : {K V : Type 0} → Growing K V → Type 0
 GrowingIsReady (ForInsert r) = IsDecided r
@@ -126,11 +115,8 @@ GrowingIsReady ForReserve = ⊤
 
 module _ {K V F : Type 0} (ready : F → Type 0) where
   abbrev pub TaskIsReady : Task K V F → Type 0
-  TaskIsReady (Finds w k) = ⊤
-  TaskIsReady (Removes w k) = ⊤
-  TaskIsReady (Inserts k v) = ⊤
-  TaskIsReady (Adds k v) = ⊤
   TaskIsReady (Computes k f) = ready f
+  TaskIsReady _ = ⊤
 
   abbrev pub AfterIsReady : After K V F → Type 0
   AfterIsReady (ThenBin t e) = TaskIsReady t × (e ≤ 30)
@@ -147,9 +133,7 @@ module _ {K V F : Type 0} (ready : F → Type 0) where
   StageIsReady (AtRecount r) = IsDecided r
   StageIsReady (AtBegin e r) = (e ≤ 30) × IsDecided r
   StageIsReady (AtGrow w g) = (w ≤ 30) × GrowingIsReady g
-  StageIsReady (AtReserve a) = ⊤
-  StageIsReady (AtDone r) = ⊤
-  StageIsReady AtTaken = ⊤
+  StageIsReady _ = ⊤
 
 -- ---- replies
 
@@ -172,8 +156,6 @@ module _ {K V F : Type 0} where
 
   -- the reply, from the decision or the end on until it is taken
   abbrev pub said_in : Stage K V F → Option (Said K V)
-  said_in (AtLocate t) = None
-  said_in (AtBin t e) = None
   said_in (AtClaim a) = said_after a
   said_in (AtMove c a) = said_after a
   said_in (AtUncount r) = Some r
@@ -181,24 +163,13 @@ module _ {K V F : Type 0} where
   said_in (AtRecount r) = Some r
   said_in (AtBegin e r) = Some r
   said_in (AtGrow w g) = said_by_growing g
-  said_in (AtReserve a) = None
   said_in (AtDone r) = Some r
-  said_in AtTaken = None
+  said_in _ = None
 
   -- the reply of a call that is done, until it is taken
   abbrev pub done_with : Stage K V F → Option (Said K V)
-  done_with (AtLocate t) = None
-  done_with (AtBin t e) = None
-  done_with (AtClaim a) = None
-  done_with (AtMove c a) = None
-  done_with (AtUncount r) = None
-  done_with (AtCount r) = None
-  done_with (AtRecount r) = None
-  done_with (AtBegin e r) = None
-  done_with (AtGrow w g) = None
-  done_with (AtReserve a) = None
   done_with (AtDone r) = Some r
-  done_with AtTaken = None
+  done_with _ = None
 
   -- a call that stops helping goes on there
   abbrev pub resumed : After K V F → Stage K V F
@@ -226,57 +197,26 @@ LooksUp _ = ⊥
 -- a call that may change its bin
 abbrev pub IsWriter : {K V F : Type 0} → Task K V F → Type 0
 IsWriter (Finds w k) = ⊥
-IsWriter (Removes w k) = ⊤
-IsWriter (Inserts k v) = ⊤
-IsWriter (Adds k v) = ⊤
-IsWriter (Computes k f) = ⊤
+IsWriter _ = ⊤
 
 -- ---- steps at the control
 
 -- the next step is at the control
 abbrev pub IsAtControl : {K V F : Type 0} → Stage K V F → Type 0
-IsAtControl (AtLocate t) = ⊤
 IsAtControl (AtBin t e) = ⊥
-IsAtControl (AtClaim a) = ⊤
-IsAtControl (AtMove c a) = ⊤
-IsAtControl (AtUncount r) = ⊤
-IsAtControl (AtCount r) = ⊤
-IsAtControl (AtRecount r) = ⊤
-IsAtControl (AtBegin e r) = ⊤
-IsAtControl (AtGrow w g) = ⊤
-IsAtControl (AtReserve a) = ⊤
 IsAtControl (AtDone r) = ⊥
 IsAtControl AtTaken = ⊥
+IsAtControl _ = ⊤
 
 -- the next step only asks the control for the published table
 abbrev pub locates : {K V F : Type 0} → Stage K V F → Bool
 locates (AtLocate t) = true
-locates (AtBin t e) = false
-locates (AtClaim a) = false
-locates (AtMove c a) = false
-locates (AtUncount r) = false
-locates (AtCount r) = false
-locates (AtRecount r) = false
-locates (AtBegin e r) = false
-locates (AtGrow w g) = false
-locates (AtReserve a) = false
-locates (AtDone r) = false
-locates AtTaken = false
+locates _ = false
 
 -- that step, at a table that is published
 abbrev pub started : {K V F : Type 0} → ℕ → Stage K V F → Stage K V F
 started d (AtLocate t) = AtBin t d
-started d (AtBin t e) = AtBin t e
-started d (AtClaim a) = AtClaim a
-started d (AtMove c a) = AtMove c a
-started d (AtUncount r) = AtUncount r
-started d (AtCount r) = AtCount r
-started d (AtRecount r) = AtRecount r
-started d (AtBegin e r) = AtBegin e r
-started d (AtGrow w g) = AtGrow w g
-started d (AtReserve a) = AtReserve a
-started d (AtDone r) = AtDone r
-started d AtTaken = AtTaken
+started d s = s
 
 -- the number w of the table that is made for so many pairs
 pub record IsTableFor (pairs w : ℕ) : Type 0 where

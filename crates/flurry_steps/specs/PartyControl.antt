@@ -2,7 +2,7 @@
 use Rattle.std.specs.Prelude.{◌≡◌, ℕ, pos, negsuc, ◌+◌, ◌-◌, ◌^◌, min, Bool, true, false, Option, Some, None, MatchOption}
 use Rattle.flurry_bins.specs.declared.table.reply.KeptReply.TheVariants.{Value}
 use Rattle.flurry_steps.specs.Control.{Board, claim_of, claimed, report_of, reported, counted, advice_of, count_of, opened, BeginGives, grows_from}
-use Rattle.flurry_steps.specs.Party.{Task, Finds, Removes, Inserts, Adds, Computes, Said, Says, SaysEnded, SaysRefused, Growing, ForInsert, ForReserve, ThenRecount, ThenGrow, Stage, AtLocate, AtBin, AtClaim, AtMove, AtUncount, AtCount, AtRecount, AtBegin, AtGrow, AtReserve, AtDone, AtTaken, Course, told, resumed, IsTableFor}
+use Rattle.flurry_steps.specs.Party.{Task, Finds, Removes, Inserts, Adds, Computes, Said, Says, SaysEnded, SaysRefused, Growing, ForInsert, ForReserve, ThenRecount, ThenGrow, Stage, AtLocate, AtBin, AtClaim, AtMove, AtUncount, AtCount, AtRecount, AtBegin, AtGrow, AtReserve, AtDone, Course, told, resumed, IsTableFor}
 use Rattle.flurry_steps.specs.declared.party.Event.{Event}
 use Rattle.flurry_steps.specs.declared.party.Event.TheVariants.{Decide, Refused, Opened, Placed, Published, Silent}
 use Rattle.flurry_steps.specs.declared.control.Advice.{Advice}
@@ -47,8 +47,7 @@ module _ {K V F : Type 0} where
 -- the event of a call that tried to begin a growth from table e, which was advised
 abbrev pub event_begun : ℕ → Started → Event
 event_begun e started.Begun = Placed (e + 1)
-event_begun e started.Refused = Silent
-event_begun e started.Busy = Silent
+event_begun e _ = Silent
 
 abbrev pub event_not_grown : {K V : Type 0} → Growing K V → Event
 event_not_grown (ForInsert r) = Silent
@@ -90,7 +89,6 @@ module _ {K V F R : Type 0} (place : R → ℕ → Bool → Bool → R → Type 
   abbrev pub StageAtControl : Stage K V F → Board → R → Event → Stage K V F → Board → R → Type 0
   StageAtControl (AtLocate t) b s ev st b' s' =
       MatchOption b.published (LocatesNone t b s ev st b' s') (λ e. (ev ≡ Silent) × (st ≡ AtBin t e) × (b' ≡ b) × (s' ≡ s))
-  StageAtControl (AtBin t e) b s ev st b' s' = ⊥
   StageAtControl (AtClaim a) b s ev st b' s' =
       (ev ≡ Silent) × MatchOption (claim_of p b) (st ≡ resumed a) (λ c. st ≡ AtMove c a) × (b' ≡ claimed p b) × (s' ≡ s)
   StageAtControl (AtMove c a) b s ev st b' s' =
@@ -108,8 +106,7 @@ module _ {K V F R : Type 0} (place : R → ℕ → Bool → Bool → R → Type 
       (λ e. (a : Started) × BeginGives place e b s a b' s' × (ev ≡ event_growing e g a) × (st ≡ stage_growing w g a))
   StageAtControl (AtReserve a) b s ev st b' s' =
       (w : ℕ) × IsTableFor (min (count_of b.count + a) (2 ^ 64 - 1)) w × ReservesFor w b s ev st b' s'
-  StageAtControl (AtDone r) b s ev st b' s' = ⊥
-  StageAtControl AtTaken b s ev st b' s' = ⊥
+  StageAtControl _ b s ev st b' s' = ⊥
 
 -- the step of p at the control b, over the room s
 pub record ControlStep {K V F R : Type 0} (place : R → ℕ → Bool → Bool → R → Type 0) (p : Course K V F) (b : Board) (s : R) (ev : Event) (p' : Course K V F) (b' : Board) (s' : R) : Type 0 where

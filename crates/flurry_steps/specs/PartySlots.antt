@@ -5,7 +5,7 @@ use Rattle.flurry_slots.specs.Slot as slot
 use Rattle.flurry_slots.specs.Slot.{Held, Live, Content, IsLive, HasMoved, IsUnborn, Place, Outcome, WasAbsent, WasRemoved, WasChanged, entry_of_live, written, written_reply, added, added_reply, taken, ComputesInVain, HasMovedInto, Clashes}
 use Rattle.flurry_bins.specs.declared.table.reply.KeptReply.TheVariants.{Value, New, Exists}
 use Rattle.flurry_steps.specs.Claim.{moved_on}
-use Rattle.flurry_steps.specs.Party.{Sought, TheValue, ThePair, Presence, Task, Finds, Removes, Inserts, Adds, Computes, Said, Says, SaysRefused, ForInsert, ThenBin, Stage, AtLocate, AtBin, AtClaim, AtMove, AtUncount, AtCount, AtGrow, AtDone, Course, told, with_stage, IsTableFor}
+use Rattle.flurry_steps.specs.Party.{Sought, Presence, Task, Finds, Removes, Inserts, Adds, Computes, Said, Says, SaysRefused, ForInsert, ThenBin, Stage, AtLocate, AtBin, AtClaim, AtMove, AtUncount, AtCount, AtGrow, AtDone, Course, told, with_stage, IsTableFor}
 use Rattle.flurry_steps.specs.declared.party.Event.{Event}
 use Rattle.flurry_steps.specs.declared.party.Event.TheVariants.{Decide, Refused, Moved, Silent}
 
@@ -40,16 +40,12 @@ module _ {K V F : Type 0} where
   -- a call whose bin of table e has moved: a look-up goes on to the next table, and another call helps first
   abbrev pub stage_moved : Task K V F → ℕ → Stage K V F
   stage_moved (Finds w k) e = AtBin (Finds w k) (e + 1)
-  stage_moved (Removes w k) e = AtClaim (ThenBin (Removes w k) (e + 1))
-  stage_moved (Inserts k v) e = AtClaim (ThenBin (Inserts k v) (e + 1))
-  stage_moved (Adds k v) e = AtClaim (ThenBin (Adds k v) (e + 1))
-  stage_moved (Computes k f) e = AtClaim (ThenBin (Computes k f) (e + 1))
+  stage_moved t e = AtClaim (ThenBin t (e + 1))
 
 -- a look-up that answers what an entry owns is refused only where the key is present
 abbrev pub FindCanBeRefused : {K V : Type 0} → Sought → Option (Held K V) → Type 0
-FindCanBeRefused TheValue x = IsSome x
-FindCanBeRefused ThePair x = IsSome x
 FindCanBeRefused Presence x = ⊥
+FindCanBeRefused _ x = IsSome x
 
 module _ {K V F : Type 0} (cmp : K → K → Ordering) (changes : F → K → V → Option V → Type 0) (h : ℕ) where
   -- the call decides at a live bin of table e, which it leaves as the second one

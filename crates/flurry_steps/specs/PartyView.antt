@@ -92,27 +92,13 @@ module _ {K V F : Type 0} where
 
   -- its function, if it has one, may be called
   abbrev pub CallIsReady : (F → Type 0) → Call K V F → Type 0
-  CallIsReady ready (call.Get k) = ⊤
-  CallIsReady ready (call.GetKeyValue k) = ⊤
-  CallIsReady ready (call.ContainsKey k) = ⊤
-  CallIsReady ready (call.Remove k) = ⊤
-  CallIsReady ready (call.RemoveEntry k) = ⊤
-  CallIsReady ready (call.Insert k v) = ⊤
-  CallIsReady ready (call.TryInsert k v) = ⊤
   CallIsReady ready (call.Compute k f) = ready f
-  CallIsReady ready (call.Reserve a) = ⊤
+  CallIsReady ready _ = ⊤
 
   -- its function, if it has one, may be called
   abbrev pub KeptIsReady : (F → Type 0) → KeptCall K V F → Type 0
-  KeptIsReady ready (kept_call.Get k) = ⊤
-  KeptIsReady ready (kept_call.GetKeyValue k) = ⊤
-  KeptIsReady ready (kept_call.ContainsKey k) = ⊤
-  KeptIsReady ready (kept_call.Remove k) = ⊤
-  KeptIsReady ready (kept_call.RemoveEntry k) = ⊤
-  KeptIsReady ready (kept_call.Insert k v) = ⊤
-  KeptIsReady ready (kept_call.TryInsert k v) = ⊤
   KeptIsReady ready (kept_call.Compute k f) = ready f
-  KeptIsReady ready (kept_call.Reserve a) = ⊤
+  KeptIsReady ready _ = ⊤
 
 module _ {K V A : Type 0} where
   abbrev pub growing_of : Growing K V A → abstract.Growing K V
