@@ -207,6 +207,11 @@ impl Control {
     /// A claim of a table that does not grow, one that has bins left to move, and one of more bins than are unreported change nothing,
     /// and none is answered.
     ///
+    /// The claim is one that this control has handed out. A claim does not say of which control it is, so no contract can ask for that:
+    /// where another control grows a table of the same number, its claim is taken too if it has no more bins than are unreported. It
+    /// then counts for bins of this table that were not moved, and the next table is published before it is complete. No claim leaves
+    /// a `World`, and whoever keeps a control, its calls and their claims private is safe from it too.
+    ///
     /// Constant time.
     pub fn report(&mut self, claim: Claim) -> Option<u8>
         ensures value { result ≡ report_of self.old claim }
