@@ -6,6 +6,7 @@
 #![tactic(auto)]
 
 pub mod change;
+pub mod clones;
 pub(crate) mod live;
 pub mod slot;
 #[cfg(test)]

@@ -1,5 +1,5 @@
 //! A slot of a table, where one bin stands, and the steps that are done at one slot.
-ghost use Rattle.std.specs.Prelude.{◌≡◌, ℕ, ◌+◌, ◌^◌, ◌<◌, ◌≤◌, ◌⊎◌, ⊤, length, map, IfNone, IfOk, IfSome, OnErr, OnOk, IsTrue, ◌↔◌};
+ghost use Rattle.std.specs.Prelude.{◌≡◌, ℕ, ◌+◌, ◌^◌, ◌<◌, ◌≤◌, ◌⊎◌, ⊤, length, map, IfNone, IfOk, IfSome, OnErr, OnOk, IsTrue, false, ◌↔◌};
 ghost use Rattle.std.specs.Option.{option_map};
 ghost use Rattle.flurry_bins.specs.Bin.{entries_of_bin};
 ghost use Rattle.flurry_bins.specs.Entries.{lent_bound};
@@ -11,6 +11,7 @@ ghost use Rattle.flurry_slots.specs.Slot.{Place, IsLive, HasMoved, IsUnborn, IsS
 ghost use Rattle.flurry_slots.specs.SlotView.{place_of, answer_with, answer_map, IfHere, IfAway, IsAway, IfDone, IfAlready, IfClash, IfNotDone};
 
 use crate::change::Change;
+use crate::clones::{Cloning, NoCloning};
 use crate::live::{Added, Computed, LiveBin, Written};
 use flurry_bins::bin::{Bin, Entry};
 use flurry_bins::table::TryInsertError;
@@ -29,7 +30,7 @@ pub enum Answer<T, B> {
     Unborn(B),
 }
 
-/// The note that the bin of a slot was moved. [`Slot::move_into`] alone makes it.
+/// The note that the bin of a slot was moved. [`Slot::move_into`] alone makes it, and it can't be cloned.
 #[derive(Drop)]
 pub struct Receipt {
     at: (u8, usize),
@@ -50,6 +51,13 @@ impl Receipt {
     {
         self.at
     }
+}
+
+// A receipt can't be cloned, so it is handed in once.
+fn receipts_can_be_cloned() -> bool
+    ensures { result ≡ false }
+{
+    Cloning::<Receipt>::is_there()
 }
 
 /// What [`Slot::move_into`] answers.

@@ -3,6 +3,7 @@ ghost use Rattle.std.specs.Prelude.{◌≡◌, ◌-◌, ◌^◌, ◌<◌, ◌≤
 ghost use Rattle.flurry_steps.specs.Claim.{IsRange, next_of, moved_on, is_moved, bins_in};
 
 use flurry_slots::Receipt;
+use flurry_slots::clones::{Cloning, NoCloning};
 use std::marker::Model;
 
 /// A range of bins of a table that is being moved into the next one. Its holder alone moves them, from the last one down.
@@ -25,6 +26,13 @@ impl Model for Claim {
     ghost view = { λ c. record { table = c.table; low = c.low; left = c.left; high = c.high } };
 
     ghost invariant = { λ c. IsRange (record { table = c.table; low = c.low; left = c.left; high = c.high }) };
+}
+
+// A claim can't be cloned, so its holder alone has its bins.
+fn claims_can_be_cloned() -> bool
+    ensures { result ≡ false }
+{
+    Cloning::<Claim>::is_there()
 }
 
 impl Claim {
