@@ -10,6 +10,7 @@ mod growth;
 mod helping;
 mod one_key;
 mod refused;
+mod rewrites;
 
 use super::same;
 use flurry_bins::bin::Bin;
