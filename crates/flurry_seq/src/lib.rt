@@ -15,8 +15,6 @@ pub mod seq_map;
 pub mod seq_set;
 pub mod set_calls;
 mod table;
-#[cfg(test)]
-mod tests_iter;
 
 pub use iter::{Iter, Keys, Values};
 pub use seq_map::SeqMap;

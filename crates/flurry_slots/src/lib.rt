@@ -9,8 +9,6 @@ pub mod change;
 pub mod clones;
 pub(crate) mod live;
 pub mod slot;
-#[cfg(test)]
-mod tests;
 
 pub use change::{Change, NoChange};
 pub use live::{Added, Computed, Written};

@@ -1,4 +1,4 @@
-//! Hash numbers and bins, as tests.
+//! Hash numbers, bins and slots, as tests.
 #![tactic(auto)]
 
 #[cfg(test)]

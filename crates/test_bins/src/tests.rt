@@ -3,6 +3,8 @@ ghost use Rattle.std.specs.Prelude.{◌≡◌, IfOk};
 ghost use Rattle.std.specs.Arc.{arc_value};
 ghost use Rattle.flurry_bins.specs.Chain.{entry_of};
 
+mod slots;
+
 use flurry_bins::bin::{Bin, Entry, ListBin, Node, Ordered, Shape, TreeBin};
 use flurry_bins::hash::{
     DefaultHashBuilder, KeyHasher, LowHashBuilder, MaxHashBuilder, ZeroHashBuilder,

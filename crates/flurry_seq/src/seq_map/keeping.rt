@@ -3,9 +3,6 @@ ghost use Rattle.std.specs.Prelude.{◌≡◌};
 ghost use Rattle.flurry_bins.specs.FiniteMap.{IsFiniteMap};
 ghost use Rattle.flurry_seq.specs.Retain.{Retains};
 
-#[cfg(test)]
-mod tests;
-
 use super::SeqMap;
 use flurry_bins::hash::KeyHasher;
 use std::alloc::Allocator;

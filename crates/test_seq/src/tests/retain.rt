@@ -1,5 +1,5 @@
 //! What a map keeps of a hundred pairs.
-use crate::SeqMap;
+use flurry_seq::SeqMap;
 use std::test::Fail;
 
 #[test]

@@ -1,6 +1,6 @@
 //! Iterators, equality and further maps, through maps whose sums are known.
-use crate::seq_map::SeqMap;
 use flurry_bins::hash::{DefaultHashBuilder, KeyHasher, LowHashBuilder, ZeroHashBuilder};
+use flurry_seq::SeqMap;
 use std::alloc::Global;
 use std::sync::Arc;
 use std::test::Fail;

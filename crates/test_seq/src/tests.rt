@@ -2,9 +2,11 @@
 
 mod calls;
 mod growth;
+mod iterators;
 mod keys;
 mod large;
 mod pairs;
+mod retain;
 mod sets;
 mod shapes;
 
