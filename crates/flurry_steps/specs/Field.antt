@@ -1,5 +1,5 @@
 -- What a step of a call is over a field, which lends it one part of a map.
-use Rattle.std.specs.Prelude.{◌≡◌, ◌⊎◌, ℕ, ◌≤◌, Bool, true, Option}
+use Rattle.std.specs.Prelude.{◌≡◌, ◌⊎◌, ℕ, ◌≤◌, Bool, true, Option, MatchOption}
 use Rattle.std.specs.declared.cmp.Ordering.{Ordering}
 use Rattle.flurry_slots.specs.Slot.{Place, IsSlot}
 use Rattle.flurry_steps.specs.Control.{Board}
@@ -49,3 +49,12 @@ pub record StaysOrDone {S K V F : Type 0} (lacks : S → Part → Type 0) (s : S
   pub lacked : (wanted_part p ≡ NoPart) ⊎ lacks s (wanted_part p)
   pub field : s' ≡ s
   pub party : p' ≡ p
+
+module _ {S K V F R : Type 0} (place : R → ℕ → Bool → Bool → R → Type 0) (cmp : K → K → Ordering) (changes : F → K → V → Option V → Type 0) (lends : S → Loan K V R → S → Type 0) (lacks : S → Part → Type 0) where
+  -- what a field does with a call that wants a part: it lends the part to one step of the call, or both stay
+  abbrev pub TurnsOrStays : S → Course K V F → Option Event → S → Course K V F → Type 0
+  TurnsOrStays s p o s' p' = MatchOption o (Stays lacks s p s' p') (λ ev. Turn place cmp changes lends s p ev s' p')
+
+  -- what `act` does: one step of the call, or both stay
+  abbrev pub ActsOrStays : S → Course K V F → Option Event → S → Course K V F → Type 0
+  ActsOrStays s p o s' p' = MatchOption o (StaysOrDone lacks s p s' p') (λ ev. Turn place cmp changes lends s p ev s' p')

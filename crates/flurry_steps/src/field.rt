@@ -1,7 +1,7 @@
 //! Where a call finds the parts of a map that its steps need.
-ghost use Rattle.std.specs.Prelude.{◌≡◌, MatchOption};
+ghost use Rattle.std.specs.Prelude.{◌≡◌};
 ghost use Rattle.flurry_steps.specs.Party.{Part, ControlPart, LookPart, BinPart, MovePart, wanted_part};
-ghost use Rattle.flurry_steps.specs.Field.{Loan, Turn, Stays, StaysOrDone};
+ghost use Rattle.flurry_steps.specs.Field.{Loan, TurnsOrStays, ActsOrStays};
 
 use crate::control::Room;
 use crate::party::{Event, Party, Want};
@@ -24,7 +24,7 @@ pub trait Field<K: Ord + Drop, V: Drop, A: Allocator + Copy> {
     /// that was published in its place.
     fn at_control<F: Change<K, V>>(&mut self, party: &mut Party<'_, K, V, F, A>) -> Option<Event>
         requires { wanted_part party.old ≡ ControlPart }
-        ensures { MatchOption result (Stays lacks self.old party.old self.new party.new) (λ ev. Turn Self.Room.place_gives K.cmp F.changes lends self.old party.old ev self.new party.new) };
+        ensures { TurnsOrStays Self.Room.place_gives K.cmp F.changes lends lacks self.old party.old result self.new party.new };
 
     /// Lends the slot of that table and index, to read it.
     fn at_look<F: Change<K, V>>(
@@ -34,7 +34,7 @@ pub trait Field<K: Ord + Drop, V: Drop, A: Allocator + Copy> {
         party: &mut Party<'_, K, V, F, A>,
     ) -> Option<Event>
         requires { wanted_part party.old ≡ LookPart table index }
-        ensures { MatchOption result (Stays lacks self.old party.old self.new party.new) (λ ev. Turn Self.Room.place_gives K.cmp F.changes lends self.old party.old ev self.new party.new) };
+        ensures { TurnsOrStays Self.Room.place_gives K.cmp F.changes lends lacks self.old party.old result self.new party.new };
 
     /// Lends the slot of that table and index, to write it.
     fn at_bin<F: Change<K, V>>(
@@ -44,7 +44,7 @@ pub trait Field<K: Ord + Drop, V: Drop, A: Allocator + Copy> {
         party: &mut Party<'_, K, V, F, A>,
     ) -> Option<Event>
         requires { wanted_part party.old ≡ BinPart table index }
-        ensures { MatchOption result (Stays lacks self.old party.old self.new party.new) (λ ev. Turn Self.Room.place_gives K.cmp F.changes lends self.old party.old ev self.new party.new) };
+        ensures { TurnsOrStays Self.Room.place_gives K.cmp F.changes lends lacks self.old party.old result self.new party.new };
 
     /// Lends the slot of that table and index, and its two halves in the next table, to move its bin into these.
     fn at_move<F: Change<K, V>>(
@@ -54,7 +54,7 @@ pub trait Field<K: Ord + Drop, V: Drop, A: Allocator + Copy> {
         party: &mut Party<'_, K, V, F, A>,
     ) -> Option<Event>
         requires { wanted_part party.old ≡ MovePart table index }
-        ensures { MatchOption result (Stays lacks self.old party.old self.new party.new) (λ ev. Turn Self.Room.place_gives K.cmp F.changes lends self.old party.old ev self.new party.new) };
+        ensures { TurnsOrStays Self.Room.place_gives K.cmp F.changes lends lacks self.old party.old result self.new party.new };
 }
 
 /// Does the next step of a call over a field, and answers what it was. Where the call is done, or the field did not lend the part, the
@@ -66,7 +66,7 @@ pub fn act<K: Ord + Drop, V: Drop, A: Allocator + Copy, F: Change<K, V>, X: Fiel
     party: &mut Party<'_, K, V, F, A>,
     field: &mut X,
 ) -> Option<Event>
-    ensures { MatchOption result (StaysOrDone X.lacks field.old party.old field.new party.new) (λ ev. Turn X.Room.place_gives K.cmp F.changes X.lends field.old party.old ev field.new party.new) }
+    ensures { ActsOrStays X.Room.place_gives K.cmp F.changes X.lends X.lacks field.old party.old result field.new party.new }
 {
     match party.want() {
         Want::Control => field.at_control(party),
