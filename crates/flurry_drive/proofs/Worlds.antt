@@ -10,7 +10,6 @@ use Rattle.std.proofs.lemmas.Option.{slice_get_within}
 use Rattle.flurry_slots.specs.Slot.{Content, IsLive, HasMoved, IsUnborn}
 use Rattle.flurry_steps.specs.Control.{Board}
 use Rattle.flurry_steps.specs.Party.{Says, SaysEnded, SaysRefused, Said, Stage, AtLocate, AtBin, AtClaim, AtMove, AtUncount, AtCount, AtRecount, AtBegin, AtGrow, AtReserve, AtDone, AtTaken, Course, wanted_part, with_stage, started, locates, said_in}
-use Rattle.flurry_steps.specs.PartyView.{kept_stage}
 use Rattle.flurry_steps.specs.declared.party.Event.{Event}
 use Rattle.flurry_steps.specs.declared.party.Event.TheVariants as event
 use Rattle.flurry_steps.specs.declared.party.call.KeptCall.{KeptCall}

@@ -1,5 +1,5 @@
 -- A call that has its key, before its first step.
-use Rattle.std.specs.Prelude.{◌≡◌, ℕ, Option, Some, None}
+use Rattle.std.specs.Prelude.{◌≡◌, ℕ, Some, None}
 use Rattle.std.proofs.Common.{refl, ap}
 use Rattle.flurry_steps.specs.PartyView.{kept_stage}
 use Rattle.flurry_steps.specs.declared.party.call.KeptCall.{KeptCall}

@@ -1,5 +1,5 @@
 -- What each call of a world keeps.
-use Rattle.std.specs.Prelude.{ℕ, suc, zero, ◌+◌, ◌^◌, ◌<◌, ◌==◌, Bool, true, false, cond, List, [], ◌∷◌, ◌++◌, length, reverse, slice_get, Option, Some, None, IsNone, option_map, is_some, if◌then◌else◌, ◌≡◌}
+use Rattle.std.specs.Prelude.{ℕ, suc, zero, ◌+◌, ◌^◌, ◌==◌, Bool, true, false, cond, List, [], ◌∷◌, ◌++◌, length, reverse, slice_get, Option, Some, None, IsNone, option_map, is_some, if◌then◌else◌, ◌≡◌}
 use Rattle.std.specs.declared.cmp.Ordering.{Ordering}
 use Rattle.std.specs.Cmp.{IsTotalOrder}
 use Rattle.std.proofs.Common.{arith, refl, sym, ◌∙◌, ap, subst}
@@ -16,7 +16,7 @@ use Rattle.flurry_theory.specs.declared.Label.TheVariants as label
 use Rattle.flurry_theory.proofs.Step.{inv_step}
 use Rattle.flurry_world.specs.Tables.{Tables}
 use Rattle.flurry_world.specs.World.{Caller, Shown, Near, state_of, start_of, mode_in, claim_in, steps_in, mode_of_stage, claim_of_stage, FollowsStage, Follows, IsWorld, DoesLine}
-use Rattle.flurry_world.specs.Steps.{with_label, with_step, with_caller, label_of, closing_label, GoesOn, CourseStep}
+use Rattle.flurry_world.specs.Steps.{with_label, with_step, with_caller, closing_label, GoesOn, CourseStep}
 use Rattle.flurry_world.proofs.StateLaws.{same_place, same_some}
 use Rattle.flurry_world.proofs.LineLaws.{is_quiet, is_replied, is_ended}
 use Rattle.flurry_world.proofs.Frames.{same_frame, StepOf, does_one, kept}

@@ -1,6 +1,5 @@
 use Rattle.std.proofs.Common.{ap, ◌∙◌}
 use Rattle.flurry_steps.specs.Party.{Course}
-use Rattle.flurry_steps.specs.PartyView.{said_of}
 use Rattle.flurry_drive.proofs.HoldsLaws.{own_tells, fresh}
 use Rattle.flurry_drive.proofs.driver.drive_alone.Goals as goal
 
