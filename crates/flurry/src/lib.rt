@@ -13,4 +13,5 @@ pub mod world;
 pub use flurry_bins::hash::{DefaultHashBuilder, DefaultHasher};
 pub use flurry_bins::table::TryInsertError;
 pub use flurry_bins::{bin, hash, table};
-pub use flurry_seq::{SeqMap, SeqSet, calls, iter as seq_iter, seq_map, seq_set, set_calls};
+pub use flurry_seq::{SeqMap, calls, iter as seq_iter, seq_map};
+pub use flurry_set::{SeqSet, seq_set, set_calls};

@@ -13,7 +13,6 @@ pub mod Schedules
 pub mod Words
 pub use Rattle.flurry_bins.specs.Bin
 pub use Rattle.flurry_bins.specs.FiniteMap
-pub use Rattle.flurry_bins.specs.FiniteSet
 pub use Rattle.flurry_bins.specs.Hashing
 pub use Rattle.flurry_bins.specs.Keeping
 pub use Rattle.flurry_bins.specs.OneKey
@@ -27,7 +26,4 @@ pub use Rattle.flurry_seq.specs.Equality
 pub use Rattle.flurry_seq.specs.HandedOut
 pub use Rattle.flurry_seq.specs.Iter
 pub use Rattle.flurry_seq.specs.Retain
-pub use Rattle.flurry_seq.specs.SetCalls
-pub use Rattle.flurry_seq.specs.SetContents
-pub use Rattle.flurry_seq.specs.SetRetain
 pub use Rattle.flurry_seq.specs.Shapes

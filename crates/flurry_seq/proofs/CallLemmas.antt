@@ -1,9 +1,8 @@
 -- Calls as values.
-use Rattle.std.proofs.Common.{◌≡◌, List, [], ◌∷◌, length, arith, Bool, Option, Some, None, Result, Ok, Err, OnErr, option_map, refl, inl, ap, Ordering}
+use Rattle.std.proofs.Common.{◌≡◌, [], Option, Some, None, Result, Ok, Err, option_map, refl, inl, ap, Ordering}
 use Rattle.std.specs.Option.{MatchOption, IfSome}
 use Rattle.std.specs.Prelude.{IsSome}
 use Rattle.std.specs.Result.{IsOkAnd, IsErrAnd}
-use Rattle.std.specs.Borrow.{Bor}
 use Rattle.std.specs.Arc.{arc_value}
 use Rattle.std.specs.declared.sync.Arc.{Arc}
 use Rattle.std.specs.declared.alloc.AllocError.{AllocError}
@@ -18,14 +17,6 @@ use Rattle.flurry_seq.specs.Calls.{OneKeyAnswers, CallRefused}
 use Rattle.flurry_seq.specs.declared.calls.Call.{Call}
 use Rattle.flurry_seq.specs.declared.calls.Call.TheVariants.{Get, GetKeyValue, ContainsKey, Len, IsEmpty, Capacity, ShapeOf, Pairs, Keys, Values, Equals, TryClone, Insert, TryInsert, ComputeIfPresent, Remove, RemoveEntry, Retain, RetainForce, Clear, Reserve, Extend}
 use Rattle.flurry_seq.specs.declared.calls.Reply.TheVariants.{Value, New, Exists}
-
-pub on_err : {T E : Type 0} (r : Result T E) (P : Type 0) → P → OnErr r P
-on_err (Ok x) P p = tt
-on_err (Err e) P p = p
-
-pub length_zero : {X : Type 0} (xs : List X) → length xs ≡ 0 → xs ≡ []
-length_zero [] e = refl
-length_zero (x ∷ xs) e = absurd (omega arith)
 
 module _ {K V A S F : Type 0} (cmp : K → K → Ordering) (gives : F → K → V → Option V → Type 0) (k : K) (m n : Contents K V S) where
   -- what `try_insert` ensures

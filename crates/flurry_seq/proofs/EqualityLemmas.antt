@@ -1,31 +1,17 @@
 -- Two finite maps are equal place by place exactly if they are at each key, and exactly if they are as long and each pair of
 -- one is met in the other.
-use Rattle.std.proofs.Common.{◌≡◌, suc, ◌≤◌, Bool, true, false, not, ◌&&◌, ◌||◌, List, [], ◌∷◌, length, Some, None, option_map, refl, sym, ap, ◌∙◌, arith, Ordering, Less, Equal, Greater}
+use Rattle.std.proofs.Common.{◌≡◌, suc, ◌≤◌, Bool, true, false, ◌&&◌, List, [], ◌∷◌, length, Some, None, option_map, refl, sym, ap, ◌∙◌, arith, Ordering, Less, Equal, Greater}
 use Rattle.std.specs.Prelude.{IsTrue, ◌↔◌}
 use Rattle.std.specs.Ordering.{is_eq, ordering_reverse}
 use Rattle.std.specs.Cmp.{IsTotalOrder, tied_itself, tied_back, alike_right, first_so, second_so}
 use Rattle.std.specs.Cmp.Lexicographic.{pointwise}
 use Rattle.std.specs.Option.{option_eq}
 use Rattle.std.specs.Map.{keys_of}
-use Rattle.std.specs.List.{AllByRecursion, list_all, list_any}
-use Rattle.std.specs.List.Sorted.{IsPermutation}
-use Rattle.std.proofs.lemmas.List.Sorted.{list_any-IsPermutation}
+use Rattle.std.specs.List.{AllByRecursion, list_all}
 use Rattle.std.proofs.lemmas.Map.Keys.{sorted_head, sorted_tail}
 use Rattle.flurry_bins.specs.FiniteMap.{IsFiniteMap, value_at}
 use Rattle.flurry_bins.proofs.FiniteMapLaws.{below_all, alike_all, pair_at_below}
 use Rattle.flurry_seq.specs.Equality.{pair_eq, has_pair}
-
--- a list and its permutation
-pub list_all_permuted : {X : Type 0} (p : X → Bool) (xs ys : List X) → IsPermutation xs ys → list_all p xs ≡ list_all p ys
-list_all_permuted {X} p xs ys h = by_any xs ∙ ap not (list_any-IsPermutation (λ x. not (p x)) xs ys h) ∙ sym (by_any ys)
-  where
-    step : (a b c : Bool) → b ≡ not c → (a && b) ≡ not (not a || c)
-    step true b c h = h
-    step false b c h = refl
-
-    by_any : (l : List X) → list_all p l ≡ not (list_any (λ x. not (p x)) l)
-    by_any [] = refl
-    by_any (x ∷ l) = step (p x) _ _ (by_any l)
 
 eq_of : (r : Ordering) → is_eq r ≡ true → r ≡ Equal
 eq_of Less e = cc

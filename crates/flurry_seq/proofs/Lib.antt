@@ -6,9 +6,9 @@ pub mod HalvingLemmas
 pub mod IterLemmas
 pub mod KeepingLemmas
 pub mod LeftLemmas
+pub mod ListLaws
 pub mod NumberLemmas
-pub mod RoomLemmas
-pub mod RunLemmas
+pub mod RoomLaws
+pub mod RunLaws
 pub mod SeenLemmas
-pub mod SetLemmas
 pub mod TableLemmas

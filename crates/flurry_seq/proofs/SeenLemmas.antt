@@ -1,7 +1,6 @@
 -- A call of one bin as a call of the table that it stands in.
 use Rattle.std.proofs.Common.{◌≡◌, ℕ, suc, ◌+◌, ◌*◌, ◌++◌, true, false, ◌^◌, ◌<◌, ◌≤◌, List, [], ◌∷◌, length, get_or, set, Option, None, Some, option_map, refl, sym, ap, ◌∙◌, subst, arith, inl, inr, pow-suc}
-use Rattle.std.specs.Option.{IsNone, IsSome, option_copied}
-use Rattle.std.specs.Borrow.{Bor}
+use Rattle.std.specs.Option.{IsNone, IsSome}
 use Rattle.std.specs.Arc.{arc_value}
 use Rattle.std.specs.declared.sync.Arc.{Arc}
 use Rattle.std.specs.Cmp.{IsTotalOrder}

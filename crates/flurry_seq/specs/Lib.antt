@@ -11,15 +11,11 @@ pub mod Iter
 pub mod Numbers
 pub mod Retain
 pub mod Seen
-pub mod SetCalls
-pub mod SetContents
-pub mod SetRetain
 pub mod Shapes
 pub mod Table
 pub use Rattle.flurry_bins.specs.Bin
 pub use Rattle.flurry_bins.specs.Entries
 pub use Rattle.flurry_bins.specs.FiniteMap
-pub use Rattle.flurry_bins.specs.FiniteSet
 pub use Rattle.flurry_bins.specs.Hashing
 pub use Rattle.flurry_bins.specs.Keeping
 pub use Rattle.flurry_bins.specs.OneKey

@@ -50,12 +50,12 @@ impl<K: Ord + Drop, V: Drop, S: KeyHasher<K>, A: Allocator + Copy> SeqMap<K, V, 
         ensures bins { IfOk result (λ m. IsTableFrom (bins_for (length self.now.pairs)) (length m.pairs) m.bins) }
     {
         let mut copy = SeqMap::with_capacity_and_hasher(
-            *self.table.allocator(),
+            *self.allocator(),
             self.len(),
             self.hasher,
         )?;
         for entry in self.entries() {
-            let node = shared_node(*self.table.allocator(), entry)?;
+            let node = shared_node(*self.allocator(), entry)?;
             copy.add(node)?;
         }
         Ok(copy)

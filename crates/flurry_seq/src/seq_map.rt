@@ -104,6 +104,15 @@ impl<K: Ord + Drop, V: Drop, S: KeyHasher<K>, A: Allocator> SeqMap<K, V, S, A> {
         }
     }
 
+    /// The allocator of the map.
+    ///
+    /// Constant time.
+    pub fn allocator(&self) -> &A
+        ensures ascend { IsFiniteMap K.cmp self.now.pairs }
+    {
+        self.table.allocator()
+    }
+
     /// The number of pairs.
     ///
     /// Constant time.
@@ -289,10 +298,10 @@ impl<K: Ord + Drop, V: Drop, S: KeyHasher<K>, A: Allocator + Copy> SeqMap<K, V, 
     {
         let hash = self.hash_of(&key);
         if self.find(hash, &key).is_some() {
-            let value = Arc::new(*self.table.allocator(), value)?;
+            let value = Arc::new(*self.allocator(), value)?;
             return Ok(Some(self.swap_value(hash, &key, value)));
         }
-        let node = Node::of_pair(*self.table.allocator(), hash, key, value, 0)?;
+        let node = Node::of_pair(*self.allocator(), hash, key, value, 0)?;
         self.add(node)?;
         Ok(None)
     }
@@ -326,7 +335,7 @@ impl<K: Ord + Drop, V: Drop, S: KeyHasher<K>, A: Allocator + Copy> SeqMap<K, V, 
                 not_inserted: value,
             }));
         }
-        let node = Node::of_pair(*self.table.allocator(), hash, key, value, 0)?;
+        let node = Node::of_pair(*self.allocator(), hash, key, value, 0)?;
         let value = Arc::try_clone(&node.entry().value)?;
         self.add(node)?;
         Ok(Ok(value))
@@ -366,7 +375,7 @@ impl<K: Ord + Drop, V: Drop, S: KeyHasher<K>, A: Allocator + Copy> SeqMap<K, V, 
             None => return Ok(None),
         };
         match computed {
-            Some(value) => match two_owners(*self.table.allocator(), value) {
+            Some(value) => match two_owners(*self.allocator(), value) {
                 Ok((value, answer)) => {
                     let _ = self.swap_value(hash, key, value);
                     Ok(Some(answer))

@@ -2,8 +2,8 @@
 
 use super::{MOST_REQUESTS, Memory};
 use flurry_bins::hash::LowHashBuilder;
-use flurry_seq::SeqSet;
-use flurry_seq::set_calls::SetCall;
+use flurry_set::SeqSet;
+use flurry_set::set_calls::SetCall;
 use std::collections::VecDeque;
 use std::process::Abort;
 use std::test::Fail;

@@ -2,7 +2,8 @@ use Rattle.std.proofs.Common.{true, false, ◌&&◌, sym, ap, ◌∙◌}
 use Rattle.std.specs.List.{list_all}
 use Rattle.std.specs.Cmp.Lexicographic.{unequal}
 use Rattle.flurry_seq.specs.Equality.{has_pair, pair_eq}
-use Rattle.flurry_seq.proofs.EqualityLemmas.{as_met, decides_keys, list_all_permuted}
+use Rattle.flurry_seq.proofs.EqualityLemmas.{as_met, decides_keys}
+use Rattle.flurry_seq.proofs.ListLaws.{list_all_permuted}
 use Rattle.flurry_seq.proofs.equality.SeqMapPartialEq.eq.Goals as goal
 
 pub returns-then-len-clause-keys : goal.returns-then-len-clause-keys

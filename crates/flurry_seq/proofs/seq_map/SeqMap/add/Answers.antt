@@ -3,7 +3,7 @@ use Rattle.flurry_bins.specs.Sizes.{wanted_of, IsOnTheWay}
 use Rattle.flurry_seq.specs.Contents.{first_bins}
 use Rattle.flurry_seq.specs.Growth.{IsTableFrom}
 use Rattle.flurry_seq.specs.Invariant.{IsTableSize}
-use Rattle.flurry_seq.proofs.RoomLemmas.{way_up, asked_most}
+use Rattle.flurry_seq.proofs.RoomLaws.{way_up, asked_most}
 use Rattle.flurry_seq.proofs.seq_map.SeqMap.add.Goals as goal
 use Rattle.flurry_seq.proofs.seq_map.SeqMap.add.Goals.{then-branch, else-branch}
 

@@ -1,7 +1,7 @@
 use Rattle.std.proofs.Common.{◌≡◌, ◌^◌, ◌+◌, ◌*◌, ◌<◌, ◌≤◌, length, refl, sym, ap, ◌∙◌, arith}
 use Rattle.flurry_bins.specs.Sizes.{threshold_of}
 use Rattle.flurry_bins.proofs.SizeLaws.{way_start, way_more}
-use Rattle.flurry_seq.proofs.RoomLemmas.{of_ok}
+use Rattle.flurry_seq.proofs.RoomLaws.{of_ok}
 use Rattle.flurry_seq.specs.Contents.{contents}
 use Rattle.flurry_seq.proofs.seq_map.SeqMap.grow_while_full.Goals as goal
 

@@ -2,7 +2,7 @@ use Rattle.std.proofs.Common.{◌≡◌, suc, ◌+◌, ◌≤◌, [], length, is
 use Rattle.flurry_bins.specs.FiniteMap.{pair_at}
 use Rattle.flurry_bins.proofs.FiniteMapLaws.{length-with_pair}
 use Rattle.flurry_seq.specs.Growth.{bins_for}
-use Rattle.flurry_seq.proofs.RoomLemmas.{one_more, room_for, room_more}
+use Rattle.flurry_seq.proofs.RoomLaws.{one_more, room_for, room_more}
 use Rattle.flurry_bins.specs.PlainEntries.{plain}
 use Rattle.flurry_seq.proofs.CloneLemmas.{rest_first, rest_next}
 use Rattle.flurry_seq.proofs.seq_map.SeqMap.try_clone.Goals as goal

@@ -7,7 +7,7 @@ use Rattle.flurry_bins.specs.Entries.{entry_at}
 use Rattle.flurry_bins.specs.PlainEntries.{plain}
 use Rattle.flurry_seq.proofs.SeenLemmas.{bin_here, entry_here, placed_here}
 use Rattle.flurry_bins.proofs.PlainEntryLaws.{none_mapped}
-use Rattle.flurry_seq.proofs.RoomLemmas.{asks_true}
+use Rattle.flurry_seq.proofs.RoomLaws.{asks_true}
 use Rattle.flurry_seq.specs.Seen.{seen}
 use Rattle.flurry_seq.specs.Table.{bin_at}
 use Rattle.flurry_seq.proofs.NumberLemmas.{all_at, all_set, zero-placed}

@@ -1,5 +1,0 @@
-use Rattle.flurry_bins.proofs.FiniteMapLaws.{IsFiniteMap-nil}
-use Rattle.flurry_seq.proofs.seq_set.SeqSet.with_capacity_and_hasher.Goals as goal
-
-pub invariant_of-result : goal.invariant_of-result
-invariant_of-result g c = rw c.in_ok-map.ensures.empty (IsFiniteMap-nil (Unit {0}) g.T.Ord.cmp)

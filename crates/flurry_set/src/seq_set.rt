@@ -1,0 +1,367 @@
+//! The owned set.
+ghost use Rattle.std.specs.Prelude.{◌≡◌, ℕ, ◌+◌, ◌≤◌, ◌^◌, ◌↔◌, ◌++◌, [], List, length, OnOk, OnErr, IfOk, IsTrue, IsSome, is_some, is_none, not, ◌==◌, if◌then◌else◌, IsPermutation};
+ghost use Rattle.std.specs.Option.{option_map};
+ghost use Rattle.std.specs.Arc.{arc_value};
+ghost use Rattle.flurry_bins.specs.FiniteSet.{IsFiniteSet, element_at, with_element, with_elements, without_element, IsSubset, AreDisjoint};
+ghost use Rattle.flurry_bins.specs.Hashing.{seed_of};
+ghost use Rattle.flurry_bins.specs.Sizes.{wanted_of, IsGrown};
+ghost use Rattle.flurry_seq.specs.Contents.{first_bins, IsLeftByReserve};
+ghost use Rattle.flurry_seq.specs.Growth.{bins_for, IsTableFrom, IsTableAfter, HasRoom};
+ghost use Rattle.flurry_set.specs.SetContents.{set_contents, holding, SameElements, asked_for, sets_eq, sets_eq_per, sets_eq_equiv};
+ghost use Rattle.flurry_set.specs.SetRetain.{RetainsElements};
+
+use flurry_bins::hash::{DefaultHashBuilder, KeyHasher};
+use flurry_seq::{Keys, SeqMap};
+use std::alloc::{AllocError, Allocator, Global};
+use std::hash::Hash;
+use std::marker::Model;
+use std::sync::Arc;
+
+/// A set that one owner has.
+///
+/// Its elements are a finite set: of each class of equal elements it has the one that was stored first.
+///
+/// A call of one element is as fast as the call of [`SeqMap`] that it makes.
+#[derive(Drop)]
+pub struct SeqSet<T: Ord, S: KeyHasher<T> = DefaultHashBuilder, A: Allocator = Global> {
+    map: SeqMap<T, (), S, A>,
+}
+
+impl<T: Ord, S: KeyHasher<T>, A: Allocator> Model for SeqSet<T, S, A> {
+    ghost use Rattle.flurry_bins.specs.FiniteMap.{IsFiniteMap};
+    ghost use Rattle.flurry_set.specs.SetContents.{SetContents, keys_in, set_contents_code};
+
+    ghost Value = { SetContents T S };
+
+    ghost coded = { set_contents_code T.code S.code };
+
+    ghost view = { λ s. keys_in s.map };
+
+    ghost invariant = { λ s. IsFiniteMap T.cmp s.map.pairs };
+}
+
+impl<T: Hash + Ord + Drop, A: Allocator> SeqSet<T, DefaultHashBuilder, A> {
+    /// An empty set without a table, over the default hasher whose seed is zero. It takes no memory.
+    pub fn new(alloc: A) -> Self
+        ensures elements { result.elements ≡ [] }
+        ensures ascend { IsFiniteSet T.cmp result.elements }
+        ensures bins { result.bins ≡ 0 }
+        ensures seed { seed_of result.hasher ≡ 0 }
+    {
+        SeqSet::with_hasher(alloc, DefaultHashBuilder::default())
+    }
+
+    /// An empty set with a table for so many elements, without one for 0. It is over the default hasher whose seed is zero.
+    ///
+    /// # Errors
+    ///
+    /// [`AllocError`], where memory for the table is wanting.
+    pub fn with_capacity(alloc: A, capacity: usize) -> Result<Self, AllocError>
+    where
+        A: Copy,
+        ensures elements { IfOk result (λ s. s.elements ≡ []) }
+        ensures ascend { IfOk result (λ s. IsFiniteSet T.cmp s.elements) }
+        ensures bins { IfOk result (λ s. s.bins ≡ (if capacity == 0 then 0 else wanted_of capacity)) }
+        ensures seed { IfOk result (λ s. seed_of s.hasher ≡ 0) }
+    {
+        SeqSet::with_capacity_and_hasher(alloc, capacity, DefaultHashBuilder::default())
+    }
+}
+
+impl<T: Ord + Drop, S: KeyHasher<T>, A: Allocator> SeqSet<T, S, A> {
+    /// An empty set without a table, over a hasher. It takes no memory.
+    pub fn with_hasher(alloc: A, hasher: S) -> Self
+        ensures { result ≡ set_contents [] 0 hasher }
+    {
+        SeqSet {
+            map: SeqMap::with_hasher(alloc, hasher),
+        }
+    }
+
+    /// The allocator of the set.
+    ///
+    /// Constant time.
+    pub fn allocator(&self) -> &A
+        ensures ascend { IsFiniteSet T.cmp self.now.elements }
+    {
+        self.map.allocator()
+    }
+
+    /// The number of elements.
+    ///
+    /// Constant time.
+    pub fn len(&self) -> usize
+        ensures elements { result ≡ length self.now.elements }
+        ensures ascend { IsFiniteSet T.cmp self.now.elements }
+        ensures few { result ≤ 2 ^ 62 }
+    {
+        self.map.len()
+    }
+
+    /// Whether the set has no element.
+    ///
+    /// Constant time.
+    pub fn is_empty(&self) -> bool
+        ensures empty { result ≡ (length self.now.elements == 0) }
+        ensures ascend { IsFiniteSet T.cmp self.now.elements }
+    {
+        self.map.is_empty()
+    }
+
+    /// Whether the set has an element of the class. One look-up.
+    pub fn contains(&self, element: &T) -> bool
+        ensures found { result ≡ is_some (element_at T.cmp self.now.elements element.now) }
+        ensures ascend { IsFiniteSet T.cmp self.now.elements }
+    {
+        self.map.contains_key(element)
+    }
+
+    /// The stored element of the class. One look-up.
+    pub fn get(&self, element: &T) -> Option<&Arc<T, A>>
+        ensures element { option_map (λ x. arc_value x.now) result ≡ element_at T.cmp self.now.elements element.now }
+        ensures ascend { IsFiniteSet T.cmp self.now.elements }
+    {
+        let (stored, _) = self.map.get_key_value(element)?;
+        Some(stored)
+    }
+
+    /// Takes the element of the class out, and answers whether there was one. The table stays as large as it is.
+    pub fn remove(&mut self, element: &T) -> bool
+        ensures found { result ≡ is_some (element_at T.cmp self.old.elements element.now) }
+        ensures after { self.new ≡ holding self.old (without_element T.cmp self.old.elements element.now) }
+        ensures ascend { IsFiniteSet T.cmp self.old.elements }
+    {
+        self.map.remove(element).is_some()
+    }
+
+    /// Takes the element of the class out, and answers it. The table stays as large as it is.
+    pub fn take(&mut self, element: &T) -> Option<Arc<T, A>>
+        ensures element { option_map arc_value result ≡ element_at T.cmp self.old.elements element.now }
+        ensures after { self.new ≡ holding self.old (without_element T.cmp self.old.elements element.now) }
+        ensures ascend { IsFiniteSet T.cmp self.old.elements }
+    {
+        let (stored, _) = self.map.remove_entry(element)?;
+        Some(stored)
+    }
+
+    /// Takes all elements out. The table stays as large as it is.
+    pub fn clear(&mut self)
+        ensures after { self.new ≡ holding self.old [] }
+        ensures ascend { IsFiniteSet T.cmp self.old.elements }
+    {
+        self.map.clear();
+    }
+
+    /// Calls a function once on each element, and keeps the elements at which it answers true. The order of the calls is open.
+    ///
+    /// As many calls as there are elements, and as many steps again as the table has bins; takes no memory. The table stays as
+    /// large as it is.
+    pub fn retain<F: FnMut(&T) -> bool>(&mut self, f: F)
+    where
+        F: Drop,
+        requires { F.IsAlwaysCallable f }
+        ensures kept { RetainsElements F.step T.cmp f self.old self.new }
+        ensures ascend { IsFiniteSet T.cmp self.old.elements }
+    {
+        let mut keep = f;
+        self.map.retain(move |element: &T, _: &()| keep(element));
+    }
+
+    /// The elements, each once, in an open order; as fast as [`SeqMap::iter`]. It takes no memory.
+    pub fn iter(&self) -> Keys<'_, T, (), A>
+        ensures elements { IsPermutation self.now.elements result }
+        ensures count { length result ≡ length self.now.elements }
+        ensures ascend { IsFiniteSet T.cmp self.now.elements }
+    {
+        self.map.keys()
+    }
+
+    /// Whether no element is of a class of the other set. One look-up for each element.
+    pub fn is_disjoint(&self, other: &Self) -> bool
+        ensures disjoint { IsTrue result ↔ AreDisjoint T.cmp self.now.elements other.now.elements }
+        ensures ascend { IsFiniteSet T.cmp self.now.elements }
+    {
+        for element in self.iter() {
+            if other.contains(element.as_ref()) {
+                return false;
+            }
+        }
+        true
+    }
+
+    /// Whether each element is of a class of the other set. One look-up for each element.
+    pub fn is_subset(&self, other: &Self) -> bool
+        ensures subset { IsTrue result ↔ IsSubset T.cmp self.now.elements other.now.elements }
+        ensures ascend { IsFiniteSet T.cmp self.now.elements }
+    {
+        for element in self.iter() {
+            if !other.contains(element.as_ref()) {
+                return false;
+            }
+        }
+        true
+    }
+
+    /// Whether each element of the other set is of a class of this one. One look-up for each.
+    pub fn is_superset(&self, other: &Self) -> bool
+        ensures superset { IsTrue result ↔ IsSubset T.cmp other.now.elements self.now.elements }
+        ensures ascend { IsFiniteSet T.cmp other.now.elements }
+    {
+        other.is_subset(self)
+    }
+}
+
+impl<T: Ord + Drop, S: KeyHasher<T>, A: Allocator + Copy> SeqSet<T, S, A> {
+    /// An empty set over a hasher, with a table for so many elements; without one for 0.
+    ///
+    /// # Errors
+    ///
+    /// [`AllocError`], where memory for the table is wanting.
+    pub fn with_capacity_and_hasher(
+        alloc: A,
+        capacity: usize,
+        hasher: S,
+    ) -> Result<Self, AllocError>
+    where
+        S: Drop,
+        ensures empty { IfOk result (λ s. s ≡ set_contents [] (if capacity == 0 then 0 else wanted_of capacity) hasher) }
+        ensures ascend { IfOk result (λ s. IsFiniteSet T.cmp s.elements) }
+    {
+        let map = SeqMap::with_capacity_and_hasher(alloc, capacity, hasher)?;
+        Ok(SeqSet { map })
+    }
+
+    /// Puts an element, and answers whether its class is new. An element that is stored stays, and the one that was handed in is
+    /// dropped; no memory is asked for then. A new element may make the table larger, as of [`SeqMap::insert`].
+    ///
+    /// # Errors
+    ///
+    /// [`AllocError`], where memory for a new element or for a first table is wanting, or where the set has
+    /// [`flurry_seq::seq_map::MOST_PAIRS`] elements. The set is then as it was, and the element is dropped.
+    pub fn insert(&mut self, element: T) -> Result<bool, AllocError>
+        ensures new { IfOk result (λ new. new ≡ is_none (element_at T.cmp self.old.elements element)) }
+        ensures elements { OnOk result (self.new.elements ≡ with_element T.cmp self.old.elements element) }
+        ensures hasher { self.new.hasher ≡ self.old.hasher }
+        ensures bins { IfOk result (λ new. IsTrue (not new) → self.new.bins ≡ self.old.bins) }
+        ensures grown { IfOk result (λ new. IsTrue new
+            → IsTableAfter (first_bins self.old.bins 16) (length self.new.elements) self.new.bins) }
+        ensures err { OnErr result (self.new ≡ self.old) }
+        ensures ascend { IsFiniteSet T.cmp self.old.elements }
+    {
+        Ok(self.map.try_insert(element, ())?.is_ok())
+    }
+
+    /// Puts elements in their order: of a class that comes twice the first stays. Room is made first, for as many elements as the
+    /// list has where the set is empty, and else for half as many, rounded up.
+    ///
+    /// # Errors
+    ///
+    /// [`AllocError`], where a table or an insertion is refused. The elements that were put before stay, and so may a larger table;
+    /// the rest is dropped.
+    pub fn extend(&mut self, list: Vec<T, A>) -> Result<(), AllocError>
+        ensures ok { OnOk result (self.new.elements ≡ with_elements T.cmp self.old.elements list.items) }
+        ensures hasher { self.new.hasher ≡ self.old.hasher }
+        ensures err { OnErr result ((front rest : List T) × (list.items ≡ front ++ rest)
+            × (self.new.elements ≡ with_elements T.cmp self.old.elements front)) }
+        ensures ascend { IsFiniteSet T.cmp self.old.elements }
+    {
+        let count = list.len();
+        let room = if self.is_empty() {
+            count
+        } else {
+            count.div_ceil(2)
+        };
+        self.reserve(room)?;
+        self.insert_all(list)
+    }
+
+    /// A set of elements, put in their order, over a hasher. It begins as one with room for as many elements as the list has.
+    ///
+    /// # Errors
+    ///
+    /// [`AllocError`], where memory is wanting. The list is dropped.
+    pub fn from_list(alloc: A, list: Vec<T, A>, hasher: S) -> Result<Self, AllocError>
+    where
+        S: Drop,
+        ensures made { IfOk result (λ s. (s.elements ≡ with_elements T.cmp [] list.items) × (s.hasher ≡ hasher)) }
+        ensures ascend { IfOk result (λ s. IsFiniteSet T.cmp s.elements) }
+        ensures bins { IfOk result (λ s. IsTableFrom (bins_for (length list.items)) (length s.elements) s.bins) }
+    {
+        let mut set = SeqSet::with_capacity_and_hasher(alloc, list.len(), hasher)?;
+        set.insert_all(list)?;
+        Ok(set)
+    }
+
+    // Puts elements in their order.
+    fn insert_all(&mut self, list: Vec<T, A>) -> Result<(), AllocError>
+        ensures ok { OnOk result (self.new.elements ≡ with_elements T.cmp self.old.elements list.items) }
+        ensures hasher { self.new.hasher ≡ self.old.hasher }
+        ensures err { OnErr result ((front rest : List T) × (list.items ≡ front ++ rest)
+            × (self.new.elements ≡ with_elements T.cmp self.old.elements front)) }
+        ensures room { (n : ℕ) → HasRoom n (length self.old.elements + length list.items)
+            → IsTableFrom n (length self.old.elements) self.old.bins → OnOk result (IsTableFrom n (length self.new.elements) self.new.bins) }
+    {
+        for element in list {
+            self.insert(element)?;
+        }
+        Ok(())
+    }
+
+    /// A further set of the same elements over the same hasher. It has a table of its own for so many elements, and shares the
+    /// stored elements, of which none is copied or hashed again.
+    ///
+    /// One insertion for each element.
+    ///
+    /// # Errors
+    ///
+    /// [`AllocError`], where memory is wanting, or where an element has as many owners as can be counted.
+    pub fn try_clone(&self) -> Result<Self, AllocError>
+    where
+        S: Copy + Drop,
+        ensures elements { IfOk result (λ s. s.elements ≡ self.now.elements) }
+        ensures ascend { IsFiniteSet T.cmp self.now.elements }
+        ensures hasher { IfOk result (λ s. s.hasher ≡ self.now.hasher) }
+        ensures bins { IfOk result (λ s. IsTableFrom (bins_for (length self.now.elements)) (length s.elements) s.bins) }
+    {
+        let map = self.map.try_clone()?;
+        Ok(SeqSet { map })
+    }
+
+    /// Makes the table large enough for so many more elements, as [`SeqMap::reserve`] does for pairs.
+    ///
+    /// # Errors
+    ///
+    /// [`AllocError`], where memory for a table is wanting. The elements stay, and so do the doublings that were done.
+    pub fn reserve(&mut self, additional: usize) -> Result<(), AllocError>
+        ensures same { SameElements self.old self.new }
+        ensures ascend { IsFiniteSet T.cmp self.old.elements }
+        ensures ok { let w = asked_for self.old additional in
+            OnOk result (IsGrown (first_bins self.old.bins w) w self.new.bins) }
+        ensures err { OnErr result (IsLeftByReserve self.old.bins (asked_for self.old additional) self.new.bins) }
+    {
+        self.map.reserve(additional)
+    }
+}
+
+/// Two sets are equal where they have the same classes of elements. Which element of a class was stored, in which order the elements
+/// were put, the tables and the hashers tell nothing.
+///
+/// One look-up for each element, where the sets are as long.
+impl<T: Ord + Drop, S: KeyHasher<T>, A: Allocator> PartialEq for SeqSet<T, S, A> {
+    ghost eq = { sets_eq T.cmp };
+
+    ghost laws = { sets_eq_per T.total };
+
+    fn eq(&self, other: &Self) -> bool
+        ensures value { result ≡ sets_eq T.cmp self.now other.now }
+        ensures classes { IsTrue result ↔ ((x : T)
+            → is_some (element_at T.cmp self.now.elements x) ≡ is_some (element_at T.cmp other.now.elements x)) }
+        ensures ascend { IsFiniteSet T.cmp self.now.elements × IsFiniteSet T.cmp other.now.elements }
+    {
+        self.map == other.map
+    }
+}
+
+impl<T: Ord + Drop, S: KeyHasher<T>, A: Allocator> Eq for SeqSet<T, S, A> {
+    ghost laws = { sets_eq_equiv T.total };
+}

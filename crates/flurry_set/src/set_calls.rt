@@ -1,0 +1,151 @@
+//! Calls of an owned set as values, and lists of them.
+ghost use Rattle.std.specs.Prelude.{OnErr, IfOk};
+ghost use Rattle.flurry_seq.specs.CallLists.{RunsTo, EndsEarly};
+
+use crate::seq_set::SeqSet;
+use flurry_bins::hash::{DefaultHashBuilder, KeyHasher};
+use flurry_seq::owners::{owner_of, owners_of_keys};
+use std::alloc::{AllocError, Allocator, Global};
+use std::collections::VecDeque;
+use std::sync::Arc;
+
+/// A call of an owned set. `P` is the type of the tests of `Retain`.
+///
+/// The constructors and [`SeqSet::from_list`] make the set that a list of calls begins with, so none of these is a call on a set; every
+/// other public call of [`SeqSet`] is here.
+#[derive(Drop)]
+pub enum SetCall<T: Ord, S: KeyHasher<T>, P, A: Allocator = Global> {
+    /// [`SeqSet::contains`].
+    Contains(T),
+    /// [`SeqSet::get`].
+    Get(T),
+    /// [`SeqSet::insert`].
+    Insert(T),
+    /// [`SeqSet::remove`].
+    Remove(T),
+    /// [`SeqSet::take`].
+    Take(T),
+    /// [`SeqSet::retain`].
+    Retain(P),
+    /// [`SeqSet::len`].
+    Len,
+    /// [`SeqSet::is_empty`].
+    IsEmpty,
+    /// [`SeqSet::iter`], to its end.
+    Elements,
+    /// [`SeqSet::is_disjoint`] of another set, which is dropped.
+    IsDisjoint(SeqSet<T, S, A>),
+    /// [`SeqSet::is_subset`] of another set, which is dropped.
+    IsSubset(SeqSet<T, S, A>),
+    /// [`SeqSet::is_superset`] of another set, which is dropped.
+    IsSuperset(SeqSet<T, S, A>),
+    /// `==` with another set, which is dropped.
+    Equals(SeqSet<T, S, A>),
+    /// [`SeqSet::try_clone`].
+    TryClone,
+    /// [`SeqSet::clear`].
+    Clear,
+    /// [`SeqSet::reserve`].
+    Reserve(usize),
+    /// [`SeqSet::extend`].
+    Extend(Vec<T, A>),
+}
+
+/// What a call replied. It has further owners of what the set lends.
+#[derive(Drop)]
+pub enum SetReply<T: Ord, S: KeyHasher<T> = DefaultHashBuilder, A: Allocator = Global> {
+    /// A stored element, or none.
+    Element(Option<Arc<T, A>>),
+    /// Yes or no.
+    Truth(bool),
+    /// A number of elements.
+    Number(usize),
+    /// All elements, each once, in the order of the iterator.
+    Elements(Vec<Arc<T, A>, A>),
+    /// A further set.
+    Set(SeqSet<T, S, A>),
+    /// A call that answers nothing was done.
+    Done,
+}
+
+impl<T: Ord + Drop, S: KeyHasher<T>, A: Allocator + Copy> SeqSet<T, S, A> {
+    ghost use Rattle.flurry_set.specs.SetCalls.{SetCallAnswers, SetCallRefused};
+
+    /// Makes one call.
+    ///
+    /// # Errors
+    ///
+    /// [`AllocError`], where the call was refused, or a further owner of what it answers.
+    pub fn call<P: FnMut(&T) -> bool>(
+        &mut self,
+        call: SetCall<T, S, P, A>,
+    ) -> Result<SetReply<T, S, A>, AllocError>
+    where
+        S: Copy + Drop,
+        P: Drop,
+        requires { (p : P) → P.IsAlwaysCallable p }
+        ensures ok { IfOk result (λ reply. SetCallAnswers T.cmp P.step call self.old reply self.new) }
+        ensures err { OnErr result (SetCallRefused T.cmp call self.old self.new) }
+    {
+        match call {
+            SetCall::Contains(element) => Ok(SetReply::Truth(self.contains(&element))),
+            SetCall::Get(element) => Ok(SetReply::Element(owner_of(self.get(&element))?)),
+            SetCall::Insert(element) => Ok(SetReply::Truth(self.insert(element)?)),
+            SetCall::Remove(element) => Ok(SetReply::Truth(self.remove(&element))),
+            SetCall::Take(element) => Ok(SetReply::Element(self.take(&element))),
+            SetCall::Retain(test) => {
+                self.retain(test);
+                Ok(SetReply::Done)
+            }
+            SetCall::Len => Ok(SetReply::Number(self.len())),
+            SetCall::IsEmpty => Ok(SetReply::Truth(self.is_empty())),
+            SetCall::Elements => Ok(SetReply::Elements(owners_of_keys(
+                *self.allocator(),
+                self.iter(),
+            )?)),
+            SetCall::IsDisjoint(other) => Ok(SetReply::Truth(self.is_disjoint(&other))),
+            SetCall::IsSubset(other) => Ok(SetReply::Truth(self.is_subset(&other))),
+            SetCall::IsSuperset(other) => Ok(SetReply::Truth(self.is_superset(&other))),
+            SetCall::Equals(other) => Ok(SetReply::Truth(*self == other)),
+            SetCall::TryClone => Ok(SetReply::Set(self.try_clone()?)),
+            SetCall::Clear => {
+                self.clear();
+                Ok(SetReply::Done)
+            }
+            SetCall::Reserve(additional) => {
+                self.reserve(additional)?;
+                Ok(SetReply::Done)
+            }
+            SetCall::Extend(list) => {
+                self.extend(list)?;
+                Ok(SetReply::Done)
+            }
+        }
+    }
+
+    /// Makes calls in their order, and answers their replies.
+    ///
+    /// # Errors
+    ///
+    /// [`AllocError`], where memory for the replies is wanting or a call is refused. The calls before it were made.
+    pub fn run<P: FnMut(&T) -> bool>(
+        &mut self,
+        alloc: A,
+        mut calls: VecDeque<SetCall<T, S, P, A>, A>,
+    ) -> Result<Vec<SetReply<T, S, A>, A>, AllocError>
+    where
+        S: Copy + Drop,
+        P: Drop,
+        requires { (p : P) → P.IsAlwaysCallable p }
+        ensures ok { IfOk result (λ replies. RunsTo (SetCallAnswers T.cmp P.step) calls.items self.old replies.items self.new) }
+        ensures err { OnErr result (EndsEarly (SetCallAnswers T.cmp P.step) (SetCallRefused T.cmp)
+            calls.items self.old self.new) }
+    {
+        let mut replies = Vec::with_capacity(alloc, calls.len())?;
+        while let Some(call) = calls.pop_front() {
+            let reply = self.call(call)?;
+            replies.push_reserved(reply);
+        }
+        Ok(replies)
+    }
+}
