@@ -8,6 +8,7 @@ pub mod Growth
 pub mod HandedOut
 pub mod Invariant
 pub mod Iter
+pub mod Kinds
 pub mod Numbers
 pub mod Retain
 pub mod Seen

@@ -95,6 +95,7 @@ pub enum Reply<K: Ord, V, S: KeyHasher<K> = DefaultHashBuilder, A: Allocator = G
 impl<K: Ord + Drop, V: Drop, S: KeyHasher<K>, A: Allocator + Copy> SeqMap<K, V, S, A> {
     ghost use Rattle.flurry_seq.specs.Calls.{CallAnswers, CallRefused};
     ghost use Rattle.flurry_seq.specs.CallLists.{RunsTo, EndsEarly};
+    ghost use Rattle.flurry_seq.specs.Kinds.{Reads, Shares, Writes, ChangesMany};
     ghost use Rattle.flurry_seq.specs.declared.calls.Call.{Call};
     ghost use Rattle.flurry_seq.specs.declared.calls.Reply.{Reply};
     ghost use Rattle.flurry_seq.specs.Contents.{Contents};
@@ -116,22 +117,106 @@ impl<K: Ord + Drop, V: Drop, S: KeyHasher<K>, A: Allocator + Copy> SeqMap<K, V, 
         requires computes { (f : F) → F.IsAlwaysCallable f }
         requires tests { (p : P) → P.IsAlwaysCallable p }
         ensures ok { IfOk result (λ reply. CallAnswers K.cmp V.eq S.hash_of
-            (λ f k v o. (x : Bor K) × (y : Bor V) × (x.now ≡ k) × (y.now ≡ v) × F.post f x y o) P.step call self.old reply self.new) }
+            (λ f k v o. (x : Bor K) × (y : Bor V) × (x.now ≡ k) × (y.now ≡ v) × F.post f x y o)
+            P.step call self.old reply self.new) }
         ensures err { OnErr result (CallRefused K.cmp call self.old self.new) }
+    {
+        match call {
+            Call::ContainsKey(_)
+            | Call::Len
+            | Call::IsEmpty
+            | Call::Capacity
+            | Call::ShapeOf(_)
+            | Call::Equals(_) => Ok(self.call_to_read(call)),
+            Call::Get(_)
+            | Call::GetKeyValue(_)
+            | Call::Pairs
+            | Call::Keys
+            | Call::Values
+            | Call::TryClone => self.call_to_share(call),
+            Call::Insert(_, _)
+            | Call::TryInsert(_, _)
+            | Call::ComputeIfPresent(_, _)
+            | Call::Remove(_)
+            | Call::RemoveEntry(_) => self.call_to_write(call),
+            Call::Retain(_)
+            | Call::RetainForce(_)
+            | Call::Clear
+            | Call::Reserve(_)
+            | Call::Extend(_) => self.call_on_many(call),
+        }
+    }
+
+    // Makes a call that reads.
+    fn call_to_read<F: FnOnce(&K, &V) -> Option<V>, P: FnMut(&K, &V) -> bool>(
+        &self,
+        call: Call<K, V, S, F, P, A>,
+    ) -> Reply<K, V, S, A>
+    where
+        V: PartialEq,
+        S: Drop,
+        F: Drop,
+        P: Drop,
+        requires { Reads call }
+        ensures { CallAnswers K.cmp V.eq S.hash_of
+            (λ f k v o. (x : Bor K) × (y : Bor V) × (x.now ≡ k) × (y.now ≡ v) × F.post f x y o)
+            P.step call self.now result self.now }
+    {
+        match call {
+            Call::ContainsKey(key) => Reply::Truth(self.contains_key(&key)),
+            Call::Len => Reply::Number(self.len()),
+            Call::IsEmpty => Reply::Truth(self.is_empty()),
+            Call::Capacity => Reply::Number(self.capacity()),
+            Call::ShapeOf(hash) => Reply::Shape(self.shape_of(hash)),
+            Call::Equals(other) => Reply::Truth(*self == other),
+            _ => unreachable!(),
+        }
+    }
+
+    // Makes a call that answers further owners of what the map has.
+    fn call_to_share<F: FnOnce(&K, &V) -> Option<V>, P: FnMut(&K, &V) -> bool>(
+        &self,
+        call: Call<K, V, S, F, P, A>,
+    ) -> Result<Reply<K, V, S, A>, AllocError>
+    where
+        V: PartialEq,
+        S: Copy + Drop,
+        F: Drop,
+        P: Drop,
+        requires { Shares call }
+        ensures { IfOk result (λ reply. CallAnswers K.cmp V.eq S.hash_of
+            (λ f k v o. (x : Bor K) × (y : Bor V) × (x.now ≡ k) × (y.now ≡ v) × F.post f x y o)
+            P.step call self.now reply self.now) }
     {
         match call {
             Call::Get(key) => Ok(Reply::Value(owner_of(self.get(&key))?)),
             Call::GetKeyValue(key) => Ok(Reply::Pair(owners_of_pair(self.get_key_value(&key))?)),
-            Call::ContainsKey(key) => Ok(Reply::Truth(self.contains_key(&key))),
-            Call::Len => Ok(Reply::Number(self.len())),
-            Call::IsEmpty => Ok(Reply::Truth(self.is_empty())),
-            Call::Capacity => Ok(Reply::Number(self.capacity())),
-            Call::ShapeOf(hash) => Ok(Reply::Shape(self.shape_of(hash))),
             Call::Pairs => Ok(Reply::Pairs(owners_of_pairs(*self.allocator(), self.iter())?)),
             Call::Keys => Ok(Reply::Keys(owners_of_keys(*self.allocator(), self.keys())?)),
             Call::Values => Ok(Reply::Values(owners_of_values(*self.allocator(), self.values())?)),
-            Call::Equals(other) => Ok(Reply::Truth(*self == other)),
             Call::TryClone => Ok(Reply::Map(self.try_clone()?)),
+            _ => unreachable!(),
+        }
+    }
+
+    // Makes a call that writes at one key.
+    fn call_to_write<F: FnOnce(&K, &V) -> Option<V>, P: FnMut(&K, &V) -> bool>(
+        &mut self,
+        call: Call<K, V, S, F, P, A>,
+    ) -> Result<Reply<K, V, S, A>, AllocError>
+    where
+        V: PartialEq,
+        S: Drop,
+        F: Drop,
+        P: Drop,
+        requires writes { Writes call }
+        requires computes { (f : F) → F.IsAlwaysCallable f }
+        ensures ok { IfOk result (λ reply. CallAnswers K.cmp V.eq S.hash_of
+            (λ f k v o. (x : Bor K) × (y : Bor V) × (x.now ≡ k) × (y.now ≡ v) × F.post f x y o)
+            P.step call self.old reply self.new) }
+        ensures err { OnErr result (CallRefused K.cmp call self.old self.new) }
+    {
+        match call {
             Call::Insert(key, value) => Ok(Reply::Value(self.insert(key, value)?)),
             Call::TryInsert(key, value) => match self.try_insert(key, value)? {
                 Ok(value) => Ok(Reply::New(value)),
@@ -140,27 +225,36 @@ impl<K: Ord + Drop, V: Drop, S: KeyHasher<K>, A: Allocator + Copy> SeqMap<K, V, 
             Call::ComputeIfPresent(key, f) => Ok(Reply::Value(self.compute_if_present(&key, f)?)),
             Call::Remove(key) => Ok(Reply::Value(self.remove(&key))),
             Call::RemoveEntry(key) => Ok(Reply::Pair(self.remove_entry(&key))),
-            Call::Retain(test) => {
-                self.retain(test);
-                Ok(Reply::Done)
-            }
-            Call::RetainForce(test) => {
-                self.retain_force(test);
-                Ok(Reply::Done)
-            }
-            Call::Clear => {
-                self.clear();
-                Ok(Reply::Done)
-            }
-            Call::Reserve(additional) => {
-                self.reserve(additional)?;
-                Ok(Reply::Done)
-            }
-            Call::Extend(list) => {
-                self.extend(list)?;
-                Ok(Reply::Done)
-            }
+            _ => unreachable!(),
         }
+    }
+
+    // Makes a call that may change many pairs, or the table.
+    fn call_on_many<F: FnOnce(&K, &V) -> Option<V>, P: FnMut(&K, &V) -> bool>(
+        &mut self,
+        call: Call<K, V, S, F, P, A>,
+    ) -> Result<Reply<K, V, S, A>, AllocError>
+    where
+        V: PartialEq,
+        S: Drop,
+        F: Drop,
+        P: Drop,
+        requires many { ChangesMany call }
+        requires tests { (p : P) → P.IsAlwaysCallable p }
+        ensures ok { IfOk result (λ reply. CallAnswers K.cmp V.eq S.hash_of
+            (λ f k v o. (x : Bor K) × (y : Bor V) × (x.now ≡ k) × (y.now ≡ v) × F.post f x y o)
+            P.step call self.old reply self.new) }
+        ensures err { OnErr result (CallRefused K.cmp call self.old self.new) }
+    {
+        match call {
+            Call::Retain(test) => self.retain(test),
+            Call::RetainForce(test) => self.retain_force(test),
+            Call::Clear => self.clear(),
+            Call::Reserve(additional) => self.reserve(additional)?,
+            Call::Extend(list) => self.extend(list)?,
+            _ => unreachable!(),
+        }
+        Ok(Reply::Done)
     }
 
     /// Makes calls in their order, and answers their replies.

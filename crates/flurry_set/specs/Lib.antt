@@ -1,5 +1,6 @@
 pub mod SetCalls
 pub mod SetContents
+pub mod SetKinds
 pub mod SetRetain
 pub use Rattle.flurry_bins.specs.FiniteMap
 pub use Rattle.flurry_bins.specs.FiniteSet

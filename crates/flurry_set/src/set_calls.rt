@@ -70,6 +70,7 @@ pub enum SetReply<T: Ord, S: KeyHasher<T> = DefaultHashBuilder, A: Allocator = G
 
 impl<T: Ord + Drop, S: KeyHasher<T>, A: Allocator + Copy> SeqSet<T, S, A> {
     ghost use Rattle.flurry_set.specs.SetCalls.{SetCallAnswers, SetCallRefused};
+    ghost use Rattle.flurry_set.specs.SetKinds.{Reads, Shares, Writes, ChangesMany};
 
     /// Makes one call.
     ///
@@ -88,39 +89,104 @@ impl<T: Ord + Drop, S: KeyHasher<T>, A: Allocator + Copy> SeqSet<T, S, A> {
         ensures err { OnErr result (SetCallRefused T.cmp call self.old self.new) }
     {
         match call {
-            SetCall::Contains(element) => Ok(SetReply::Truth(self.contains(&element))),
-            SetCall::Get(element) => Ok(SetReply::Element(owner_of(self.get(&element))?)),
-            SetCall::Insert(element) => Ok(SetReply::Truth(self.insert(element)?)),
-            SetCall::Remove(element) => Ok(SetReply::Truth(self.remove(&element))),
-            SetCall::Take(element) => Ok(SetReply::Element(self.take(&element))),
-            SetCall::Retain(test) => {
-                self.retain(test);
-                Ok(SetReply::Done)
+            SetCall::Contains(_)
+            | SetCall::Len
+            | SetCall::IsEmpty
+            | SetCall::IsDisjoint(_)
+            | SetCall::IsSubset(_)
+            | SetCall::IsSuperset(_)
+            | SetCall::Equals(_) => Ok(self.call_to_read(call)),
+            SetCall::Get(_) | SetCall::Elements | SetCall::TryClone => self.call_to_share(call),
+            SetCall::Insert(_) | SetCall::Remove(_) | SetCall::Take(_) => self.call_to_write(call),
+            SetCall::Retain(_) | SetCall::Clear | SetCall::Reserve(_) | SetCall::Extend(_) => {
+                self.call_on_many(call)
             }
-            SetCall::Len => Ok(SetReply::Number(self.len())),
-            SetCall::IsEmpty => Ok(SetReply::Truth(self.is_empty())),
+        }
+    }
+
+    // Makes a call that reads.
+    fn call_to_read<P: FnMut(&T) -> bool>(&self, call: SetCall<T, S, P, A>) -> SetReply<T, S, A>
+    where
+        S: Drop,
+        P: Drop,
+        requires { Reads call }
+        ensures { SetCallAnswers T.cmp P.step call self.now result self.now }
+    {
+        match call {
+            SetCall::Contains(element) => SetReply::Truth(self.contains(&element)),
+            SetCall::Len => SetReply::Number(self.len()),
+            SetCall::IsEmpty => SetReply::Truth(self.is_empty()),
+            SetCall::IsDisjoint(other) => SetReply::Truth(self.is_disjoint(&other)),
+            SetCall::IsSubset(other) => SetReply::Truth(self.is_subset(&other)),
+            SetCall::IsSuperset(other) => SetReply::Truth(self.is_superset(&other)),
+            SetCall::Equals(other) => SetReply::Truth(*self == other),
+            _ => unreachable!(),
+        }
+    }
+
+    // Makes a call that answers further owners of what the set has.
+    fn call_to_share<P: FnMut(&T) -> bool>(
+        &self,
+        call: SetCall<T, S, P, A>,
+    ) -> Result<SetReply<T, S, A>, AllocError>
+    where
+        S: Copy + Drop,
+        P: Drop,
+        requires { Shares call }
+        ensures { IfOk result (λ reply. SetCallAnswers T.cmp P.step call self.now reply self.now) }
+    {
+        match call {
+            SetCall::Get(element) => Ok(SetReply::Element(owner_of(self.get(&element))?)),
             SetCall::Elements => Ok(SetReply::Elements(owners_of_keys(
                 *self.allocator(),
                 self.iter(),
             )?)),
-            SetCall::IsDisjoint(other) => Ok(SetReply::Truth(self.is_disjoint(&other))),
-            SetCall::IsSubset(other) => Ok(SetReply::Truth(self.is_subset(&other))),
-            SetCall::IsSuperset(other) => Ok(SetReply::Truth(self.is_superset(&other))),
-            SetCall::Equals(other) => Ok(SetReply::Truth(*self == other)),
             SetCall::TryClone => Ok(SetReply::Set(self.try_clone()?)),
-            SetCall::Clear => {
-                self.clear();
-                Ok(SetReply::Done)
-            }
-            SetCall::Reserve(additional) => {
-                self.reserve(additional)?;
-                Ok(SetReply::Done)
-            }
-            SetCall::Extend(list) => {
-                self.extend(list)?;
-                Ok(SetReply::Done)
-            }
+            _ => unreachable!(),
         }
+    }
+
+    // Makes a call that puts or takes an element.
+    fn call_to_write<P: FnMut(&T) -> bool>(
+        &mut self,
+        call: SetCall<T, S, P, A>,
+    ) -> Result<SetReply<T, S, A>, AllocError>
+    where
+        S: Drop,
+        P: Drop,
+        requires { Writes call }
+        ensures ok { IfOk result (λ reply. SetCallAnswers T.cmp P.step call self.old reply self.new) }
+        ensures err { OnErr result (SetCallRefused T.cmp call self.old self.new) }
+    {
+        match call {
+            SetCall::Insert(element) => Ok(SetReply::Truth(self.insert(element)?)),
+            SetCall::Remove(element) => Ok(SetReply::Truth(self.remove(&element))),
+            SetCall::Take(element) => Ok(SetReply::Element(self.take(&element))),
+            _ => unreachable!(),
+        }
+    }
+
+    // Makes a call that may change many elements, or the table.
+    fn call_on_many<P: FnMut(&T) -> bool>(
+        &mut self,
+        call: SetCall<T, S, P, A>,
+    ) -> Result<SetReply<T, S, A>, AllocError>
+    where
+        S: Drop,
+        P: Drop,
+        requires many { ChangesMany call }
+        requires tests { (p : P) → P.IsAlwaysCallable p }
+        ensures ok { IfOk result (λ reply. SetCallAnswers T.cmp P.step call self.old reply self.new) }
+        ensures err { OnErr result (SetCallRefused T.cmp call self.old self.new) }
+    {
+        match call {
+            SetCall::Retain(test) => self.retain(test),
+            SetCall::Clear => self.clear(),
+            SetCall::Reserve(additional) => self.reserve(additional)?,
+            SetCall::Extend(list) => self.extend(list)?,
+            _ => unreachable!(),
+        }
+        Ok(SetReply::Done)
     }
 
     /// Makes calls in their order, and answers their replies.

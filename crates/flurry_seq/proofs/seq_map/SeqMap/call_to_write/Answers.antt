@@ -1,12 +1,7 @@
-use Rattle.std.proofs.Common.{◌≡◌, refl}
+use Rattle.std.proofs.Common.{◌≡◌}
 use Rattle.std.specs.Borrow.{Bor}
 use Rattle.flurry_seq.proofs.CallLemmas.{try_put, try_met, try_stays, computed, compute_stays}
-use Rattle.flurry_seq.proofs.seq_map.SeqMap.call.Goals as goal
-
-pub returns-in_ok-try_clone-in-TryClone-clause-ok : goal.returns-in_ok-try_clone-in-TryClone-clause-ok
-returns-in_ok-try_clone-in-TryClone-clause-ok g c =
-    let copy = c.in_ok-try_clone-in-TryClone in
-    rw c.in-TryClone.is (copy.field-0, refl, (copy.ensures.pairs, copy.ensures.hasher), refl)
+use Rattle.flurry_seq.proofs.seq_map.SeqMap.call_to_write.Goals as goal
 
 pub returns-in-Ok-clause-ok : goal.returns-in-Ok-clause-ok
 returns-in-Ok-clause-ok g c =
@@ -31,9 +26,3 @@ returns-in_ok-compute_if_present-in-ComputeIfPresent-clause-ok g c =
 
 pub compute_if_present-requires : goal.compute_if_present-requires
 compute_if_present-requires g c = λ p is k v of_k of_v. (c.requires.computes c.in-ComputeIfPresent.f).at (k, (v, tt))
-
-pub retain-requires : goal.retain-requires
-retain-requires g c = c.requires.tests c.in-Retain.test
-
-pub retain_force-requires : goal.retain_force-requires
-retain_force-requires g c = c.requires.tests c.in-RetainForce.test
