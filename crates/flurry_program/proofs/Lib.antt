@@ -1,4 +1,3 @@
-pub mod Lengths
 pub mod Numbers
 pub mod Results
 pub mod RunLemmas

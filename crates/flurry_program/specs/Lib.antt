@@ -5,6 +5,7 @@ pub mod Bytes
 pub mod Commands
 pub mod Endings
 pub mod Labels
+pub mod Lengths
 pub mod LineEnds
 pub mod Lines
 pub mod Runs

@@ -13,6 +13,7 @@ pub mod input;
 pub mod labels;
 pub mod parse;
 pub mod schedule;
+mod script;
 pub mod seq;
 pub mod streams;
 pub mod words;

@@ -1,13 +1,15 @@
 //! The lines of one owned map.
-ghost use Rattle.std.specs.Prelude.{◌≡◌, ℕ, ◌+◌, ◌≤◌, ◌^◌, ◌⊎◌, [], ◌∷◌, ◌++◌, List, length, OnOk, OnErr, IfOk, IfSome, MatchOption, IsTrue};
+ghost use Rattle.std.specs.Prelude.{◌≡◌, ℕ, [], ◌∷◌, ◌++◌, List, OnOk, OnErr, IsTrue};
 ghost use Rattle.std.specs.Io.KnownBytes.{Appends};
 ghost use Rattle.flurry_program.specs.Answers.{option_text, of_one_map, Answers};
-ghost use Rattle.flurry_program.specs.Runs.{AnswersLine, RefusesLine, Goes, Ends, RunsLines, FailsForCause};
+ghost use Rattle.flurry_program.specs.Runs.{RunsLines, FailsForCause};
+ghost use Rattle.flurry_program.specs.declared.command.Command.{Command};
+ghost use Rattle.flurry_program.specs.Lengths.{short_command};
 
 use crate::command::Command;
-use crate::ends::{MOST_READS, bad_line, input_failed};
-use crate::input::{LineEnd, flush_before_wait, read_line};
+use crate::ends::bad_line;
 use crate::parse::parse;
+use crate::script::{Script, run_lines};
 use crate::streams::{Sink, Source};
 use flurry_bins::hash::LowHashBuilder;
 use flurry_seq::SeqMap;
@@ -47,104 +49,35 @@ pub fn seq_lines<R: Source, W: Sink, A: Allocator + Copy>(
     ensures run { RunsLines of_one_map [] (R.remaining reader.old) (W.contents writer.old) (W.flushed writer.new) (W.has_failed writer.new) result }
     ensures cause { FailsForCause (R.remaining reader.old) (R.has_failed reader.new) (W.has_failed writer.new) result }
 {
-    match answer_lines(alloc, reader, writer) {
-        Ok(status) => match writer.flush() {
-            Ok(()) => status,
-            Err(_) => 1,
-        },
-        Err(_) => 1,
-    }
-}
-
-// Answers the lines, and what they end in. A failed write is an error.
-fn answer_lines<R: Source, W: Sink, A: Allocator + Copy>(
-    alloc: A,
-    reader: &mut R,
-    writer: &mut W,
-) -> io::Result<u8>
-    ensures failed { OnErr result (IsTrue (W.has_failed writer.new)) }
-    ensures run { IfOk result (λ status. IfSome (R.remaining reader.old) (λ input.
-        Ends of_one_map [] 1 input (W.contents writer.old) (W.contents writer.new) status)) }
-    ensures cause { IfOk result (λ status. status ≡ 1 → IfSome (R.remaining reader.old) (λ input.
-        IsTrue (R.has_failed reader.new) ⊎ (2 ^ 62 ≤ length input))) }
-{
     let mut map = SeqMap::with_hasher(alloc, LowHashBuilder);
-    for number in 1..=MOST_READS {
-        if let Some(status) = step(&mut map, number, reader, writer)? {
-            return Ok(status);
-        }
-    }
-    input_failed(writer)
+    run_lines(&mut map, reader, writer)
 }
 
-// Reads a line and answers it. Some status is the program's end. What was written goes out before a wait.
-fn step<R: Source, W: Sink, A: Allocator + Copy>(
-    map: &mut Numbers<A>,
-    number: u64,
-    reader: &mut R,
-    writer: &mut W,
-) -> io::Result<Option<u8>>
-    ensures failed { OnErr result (IsTrue (W.has_failed writer.new)) }
-    ensures run { IfOk result (λ ended. IfSome (R.remaining reader.old) (λ input. MatchOption ended
-        (Goes of_one_map map.old.pairs number input map.new.pairs (number + 1) (R.remaining reader.new) (W.contents writer.old) (W.contents writer.new))
-        (Ends of_one_map map.old.pairs number input (W.contents writer.old) (W.contents writer.new)))) }
-    ensures cause { IfOk result (λ ended. IfSome ended (λ status. status ≡ 1 → IsTrue (R.has_failed reader.new))) }
-{
-    flush_before_wait(reader, writer)?;
-    answer_next(map, number, reader, writer)
-}
+impl<A: Allocator + Copy> Script for Numbers<A> {
+    ghost Kept = { List (ℕ × ℕ) };
 
-// Reads a line and answers it. Some status is the program's end.
-fn answer_next<R: Source, W: Sink, A: Allocator + Copy>(
-    map: &mut Numbers<A>,
-    number: u64,
-    reader: &mut R,
-    writer: &mut W,
-) -> io::Result<Option<u8>>
-    requires flushed { R.can_wait reader.old → W.flushed writer.old ≡ W.contents writer.old }
-    ensures failed { OnErr result (IsTrue (W.has_failed writer.new)) }
-    ensures run { IfOk result (λ ended. IfSome (R.remaining reader.old) (λ input. MatchOption ended
-        (Goes of_one_map map.old.pairs number input map.new.pairs (number + 1) (R.remaining reader.new) (W.contents writer.old) (W.contents writer.new))
-        (Ends of_one_map map.old.pairs number input (W.contents writer.old) (W.contents writer.new)))) }
-    ensures cause { IfOk result (λ ended. IfSome ended (λ status. status ≡ 1 → IsTrue (R.has_failed reader.new))) }
-{
-    match read_line(reader) {
-        Ok((line, end)) => match end {
-            LineEnd::Break => answer_line(map, number, line.as_slice(), writer),
-            LineEnd::Long => Ok(Some(bad_line(number, writer)?)),
-            LineEnd::End => {
-                if line.is_empty() {
-                    return Ok(Some(0));
-                }
-                match answer_line(map, number, line.as_slice(), writer)? {
-                    None => Ok(Some(0)),
-                    Some(status) => Ok(Some(status)),
-                }
+    ghost Command = { Command };
+
+    ghost meaning = { of_one_map };
+
+    ghost kept = { λ map. map.pairs };
+
+    fn answer_line<W: Sink>(
+        &mut self,
+        number: u64,
+        line: &[u8],
+        writer: &mut W,
+    ) -> io::Result<Option<u8>> {
+        match parse(line) {
+            Some(command) => {
+                answer(self, command, writer)?;
+                Ok(None)
             }
-        },
-        Err(_) => Ok(Some(input_failed(writer)?)),
-    }
-}
-
-// Answers a line. Some status is the program's end.
-fn answer_line<W: Sink, A: Allocator + Copy>(
-    map: &mut Numbers<A>,
-    number: u64,
-    line: &[u8],
-    writer: &mut W,
-) -> io::Result<Option<u8>>
-    ensures failed { OnErr result (IsTrue (W.has_failed writer.new)) }
-    ensures answer { IfOk result (λ ended. MatchOption ended
-        (AnswersLine of_one_map map.old.pairs line.now map.new.pairs (W.contents writer.old) (W.contents writer.new))
-        (RefusesLine of_one_map map.old.pairs number line.now (W.contents writer.old) (W.contents writer.new))) }
-{
-    match parse(line) {
-        Some(command) => {
-            answer(map, command, writer)?;
-            Ok(None)
+            None => Ok(Some(bad_line(number, writer)?)),
         }
-        None => Ok(Some(bad_line(number, writer)?)),
     }
+
+    ghost short = { short_command };
 }
 
 // Does a command, and writes its answer.

@@ -1,17 +1,21 @@
 //! The lines of a world.
-ghost use Rattle.std.specs.Prelude.{◌≡◌, ℕ, ◌+◌, ◌≤◌, ◌^◌, ◌⊎◌, [], ◌∷◌, ◌++◌, None, Some, List, replicate, length, OnOk, OnErr, IfOk, IfSome, MatchOption, IsTrue};
+ghost use Rattle.std.specs.Prelude.{◌≡◌, ℕ, ◌≤◌, [], ◌∷◌, ◌++◌, Option, None, Some, List, replicate, OnOk, OnErr, IfOk, IfSome, IsTrue};
 ghost use Rattle.std.specs.Io.KnownBytes.{Appends};
 ghost use Rattle.flurry_steps.specs.PartyView.{KeptIsReady};
 ghost use Rattle.flurry_theory.specs.declared.Label.{Label};
 ghost use Rattle.flurry_world.specs.declared.world.Step.TheVariants as step;
 ghost use Rattle.flurry_program.specs.Labels.{label_text};
-ghost use Rattle.flurry_program.specs.Runs.{AnswersLine, RefusesLine, Answered, Goes, Ends, RunsLines, FailsForCause};
+ghost use Rattle.flurry_program.specs.Runs.{Answered, RunsLines, FailsForCause};
 ghost use Rattle.flurry_program.specs.ScheduleRuns.{of_a_schedule, of_a_world, AnswersSteps};
+ghost use Rattle.flurry_program.specs.declared.schedule.Line.{Line};
+ghost use Rattle.flurry_program.specs.Lengths.{short_line};
+ghost use Rattle.flurry_bins.specs.declared.hash.LowHashBuilder.{LowHashBuilder};
+ghost use Rattle.flurry_world.specs.World.{Shown};
 
-use crate::ends::{MOST_READS, bad_line, input_failed, out_of_memory};
-use crate::input::{LineEnd, flush_before_wait, read_line};
+use crate::ends::{bad_line, out_of_memory};
 use crate::labels::write_label;
 use crate::schedule::{Line, parse_line};
+use crate::script::{Script, run_lines};
 use crate::streams::{Sink, Source};
 use flurry_bins::hash::LowHashBuilder;
 use flurry_slots::{Change, NoChange};
@@ -62,108 +66,53 @@ pub fn world_lines<R: Source, W: Sink, A: Allocator + Copy>(
         (R.remaining reader.old) (W.contents writer.old) (W.flushed writer.new) (W.has_failed writer.new) result }
     ensures cause { FailsForCause (R.remaining reader.old) (R.has_failed reader.new) (W.has_failed writer.new) result }
 {
-    match answer_lines::<NoChange, R, W, A>(alloc, reader, writer) {
-        Ok(status) => match writer.flush() {
-            Ok(()) => status,
-            Err(_) => 1,
-        },
-        Err(_) => 1,
-    }
+    lines_of_a_world::<NoChange, R, W, A>(alloc, reader, writer)
 }
 
-// Does what the lines ask for, and answers what they end in. A failed write is an error.
-fn answer_lines<F: Change<u64, u64> + Copy, R: Source, W: Sink, A: Allocator + Copy>(
+// The same in a world whose calls may have functions of any one type.
+fn lines_of_a_world<F: Change<u64, u64> + Copy, R: Source, W: Sink, A: Allocator + Copy>(
     alloc: A,
     reader: &mut R,
     writer: &mut W,
-) -> io::Result<u8>
-    ensures failed { OnErr result (IsTrue (W.has_failed writer.new)) }
-    ensures status { IfOk result (λ status. status ≤ 3) }
-    ensures run { IfOk result (λ status. IfSome (R.remaining reader.old) (λ input.
-        Ends (of_a_world {F = F} {S = LowHashBuilder} F.changes) None 1 input (W.contents writer.old) (W.contents writer.new) status)) }
-    ensures cause { IfOk result (λ status. status ≡ 1 → IfSome (R.remaining reader.old) (λ input.
-        IsTrue (R.has_failed reader.new) ⊎ (2 ^ 62 ≤ length input))) }
+) -> u8
+    ensures status { result ≤ 3 }
+    ensures run { RunsLines (of_a_world {F = F} {S = LowHashBuilder} F.changes) None
+        (R.remaining reader.old) (W.contents writer.old) (W.flushed writer.new) (W.has_failed writer.new) result }
+    ensures cause { FailsForCause (R.remaining reader.old) (R.has_failed reader.new) (W.has_failed writer.new) result }
 {
-    let mut world: Option<Numbers<'_, F, A>> = None;
-    for number in 1..=MOST_READS {
-        if let Some(status) = step(alloc, &mut world, number, reader, writer)? {
-            return Ok(status);
+    let mut schedule: Schedule<'_, F, A> = Schedule { alloc, world: None };
+    run_lines(&mut schedule, reader, writer)
+}
+
+// What the lines speak of: the world, once the first line has made it.
+#[derive(Drop)]
+struct Schedule<'k, F: Change<u64, u64> + Copy, A: Allocator + Copy> {
+    alloc: A,
+    world: Option<Numbers<'k, F, A>>,
+}
+
+impl<'k, F: Change<u64, u64> + Copy, A: Allocator + Copy> Script for Schedule<'k, F, A> {
+    ghost Kept = { Option (Shown ℕ ℕ F LowHashBuilder) };
+
+    ghost Command = { Line };
+
+    ghost meaning = { of_a_world F.changes };
+
+    ghost kept = { λ schedule. schedule.world };
+
+    fn answer_line<W: Sink>(
+        &mut self,
+        number: u64,
+        line: &[u8],
+        writer: &mut W,
+    ) -> io::Result<Option<u8>> {
+        match parse_line(line) {
+            Some(line) => answer(self.alloc, &mut self.world, number, line, writer),
+            None => Ok(Some(bad_line(number, writer)?)),
         }
     }
-    input_failed(writer)
-}
 
-// Reads a line and does what it asks for. Some status is the program's end. What was written goes out before a wait.
-fn step<F: Change<u64, u64> + Copy, R: Source, W: Sink, A: Allocator + Copy>(
-    alloc: A,
-    world: &mut Option<Numbers<'_, F, A>>,
-    number: u64,
-    reader: &mut R,
-    writer: &mut W,
-) -> io::Result<Option<u8>>
-    ensures failed { OnErr result (IsTrue (W.has_failed writer.new)) }
-    ensures status { IfOk result (λ ended. IfSome ended (λ status. status ≤ 3)) }
-    ensures run { IfOk result (λ ended. IfSome (R.remaining reader.old) (λ input. MatchOption ended
-        (Goes (of_a_world F.changes) world.old number input world.new (number + 1) (R.remaining reader.new) (W.contents writer.old) (W.contents writer.new))
-        (Ends (of_a_world F.changes) world.old number input (W.contents writer.old) (W.contents writer.new)))) }
-    ensures cause { IfOk result (λ ended. IfSome ended (λ status. status ≡ 1 → IsTrue (R.has_failed reader.new))) }
-{
-    flush_before_wait(reader, writer)?;
-    answer_next(alloc, world, number, reader, writer)
-}
-
-// Reads a line and does what it asks for. Some status is the program's end.
-fn answer_next<F: Change<u64, u64> + Copy, R: Source, W: Sink, A: Allocator + Copy>(
-    alloc: A,
-    world: &mut Option<Numbers<'_, F, A>>,
-    number: u64,
-    reader: &mut R,
-    writer: &mut W,
-) -> io::Result<Option<u8>>
-    requires flushed { R.can_wait reader.old → W.flushed writer.old ≡ W.contents writer.old }
-    ensures failed { OnErr result (IsTrue (W.has_failed writer.new)) }
-    ensures status { IfOk result (λ ended. IfSome ended (λ status. status ≤ 3)) }
-    ensures run { IfOk result (λ ended. IfSome (R.remaining reader.old) (λ input. MatchOption ended
-        (Goes (of_a_world F.changes) world.old number input world.new (number + 1) (R.remaining reader.new) (W.contents writer.old) (W.contents writer.new))
-        (Ends (of_a_world F.changes) world.old number input (W.contents writer.old) (W.contents writer.new)))) }
-    ensures cause { IfOk result (λ ended. IfSome ended (λ status. status ≡ 1 → IsTrue (R.has_failed reader.new))) }
-{
-    match read_line(reader) {
-        Ok((line, end)) => match end {
-            LineEnd::Break => answer_line(alloc, world, number, line.as_slice(), writer),
-            LineEnd::Long => Ok(Some(bad_line(number, writer)?)),
-            LineEnd::End => {
-                if line.is_empty() {
-                    return Ok(Some(0));
-                }
-                match answer_line(alloc, world, number, line.as_slice(), writer)? {
-                    None => Ok(Some(0)),
-                    Some(status) => Ok(Some(status)),
-                }
-            }
-        },
-        Err(_) => Ok(Some(input_failed(writer)?)),
-    }
-}
-
-// Does what a line asks for. Some status is the program's end.
-fn answer_line<F: Change<u64, u64> + Copy, W: Sink, A: Allocator + Copy>(
-    alloc: A,
-    world: &mut Option<Numbers<'_, F, A>>,
-    number: u64,
-    line: &[u8],
-    writer: &mut W,
-) -> io::Result<Option<u8>>
-    ensures failed { OnErr result (IsTrue (W.has_failed writer.new)) }
-    ensures status { IfOk result (λ ended. IfSome ended (λ status. (2 ≤ status) × (status ≤ 3))) }
-    ensures answer { IfOk result (λ ended. MatchOption ended
-        (AnswersLine (of_a_world F.changes) world.old line.now world.new (W.contents writer.old) (W.contents writer.new))
-        (RefusesLine (of_a_world F.changes) world.old number line.now (W.contents writer.old) (W.contents writer.new))) }
-{
-    match parse_line(line) {
-        Some(line) => answer(alloc, world, number, line, writer),
-        None => Ok(Some(bad_line(number, writer)?)),
-    }
+    ghost short = { short_line };
 }
 
 // Does what a line of a schedule asks for. Some status is the program's end.

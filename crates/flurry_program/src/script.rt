@@ -1,0 +1,142 @@
+//! Lines that are done in their order, up to the run's end.
+ghost use Rattle.std.specs.Prelude.{◌≡◌, ℕ, ◌+◌, ◌≤◌, ◌^◌, ◌⊎◌, length, OnOk, OnErr, IfOk, IfSome, MatchOption, IsTrue};
+ghost use Rattle.flurry_program.specs.Runs as runs;
+ghost use Rattle.flurry_program.specs.Runs.{AnswersLine, RefusesLine, Goes, Ends, RunsLines, FailsForCause};
+
+use crate::ends::{MOST_READS, bad_line, input_failed};
+use crate::input::{LineEnd, flush_before_wait, read_line};
+use crate::streams::{Sink, Source};
+use std::io;
+
+/// Does one line after another, and keeps something between them, such as a map.
+pub(crate) trait Script {
+    /// What is kept between lines.
+    ghost Kept: { Type 0 };
+
+    /// What a line asks for.
+    ghost Command: { Type 0 };
+
+    /// What the lines mean.
+    ghost meaning: { runs.Script Kept Command };
+
+    /// What it keeps.
+    ghost kept: { Self → Kept };
+
+    /// Does what the line of this number asks for, and writes its answer. Some status is the run's end.
+    ///
+    /// # Errors
+    ///
+    /// Fails where the writer does.
+    fn answer_line<W: Sink>(
+        &mut self,
+        number: u64,
+        line: &[u8],
+        writer: &mut W,
+    ) -> io::Result<Option<u8>>
+        ensures failed { OnErr result (IsTrue (W.has_failed writer.new)) }
+        ensures status { IfOk result (λ ended. IfSome ended (λ status. (2 ≤ status) × (status ≤ 3))) }
+        ensures answer { IfOk result (λ ended. MatchOption ended
+            (AnswersLine meaning (kept self.old) line.now (kept self.new)
+            (W.contents writer.old) (W.contents writer.new))
+            (RefusesLine meaning (kept self.old) number line.now
+            (W.contents writer.old) (W.contents writer.new))) };
+
+    /// No command is longer than a line may be.
+    ghost short: { (c : Command) → meaning.IsCommand c → length (meaning.text_of c) ≤ 64 };
+}
+
+/// Does the lines of a reader, and answers the program's status. All that was written is flushed at the end, and before a line that is
+/// not all there yet is read.
+pub(crate) fn run_lines<S: Script, R: Source, W: Sink>(
+    script: &mut S,
+    reader: &mut R,
+    writer: &mut W,
+) -> u8
+    ensures status { result ≤ 3 }
+    ensures run { RunsLines S.meaning (S.kept script.old) (R.remaining reader.old)
+        (W.contents writer.old) (W.flushed writer.new) (W.has_failed writer.new) result }
+    ensures cause { FailsForCause (R.remaining reader.old) (R.has_failed reader.new)
+        (W.has_failed writer.new) result }
+{
+    match answer_lines(script, reader, writer) {
+        Ok(status) => match writer.flush() {
+            Ok(()) => status,
+            Err(_) => 1,
+        },
+        Err(_) => 1,
+    }
+}
+
+// Does the lines, and answers what they end in. A failed write is an error.
+fn answer_lines<S: Script, R: Source, W: Sink>(
+    script: &mut S,
+    reader: &mut R,
+    writer: &mut W,
+) -> io::Result<u8>
+    ensures failed { OnErr result (IsTrue (W.has_failed writer.new)) }
+    ensures status { IfOk result (λ status. status ≤ 3) }
+    ensures run { IfOk result (λ status. IfSome (R.remaining reader.old) (λ input.
+        Ends S.meaning (S.kept script.old) 1 input (W.contents writer.old) (W.contents writer.new) status)) }
+    ensures cause { IfOk result (λ status. status ≡ 1 → IfSome (R.remaining reader.old) (λ input.
+        IsTrue (R.has_failed reader.new) ⊎ (2 ^ 62 ≤ length input))) }
+{
+    for number in 1..=MOST_READS {
+        if let Some(status) = step(script, number, reader, writer)? {
+            return Ok(status);
+        }
+    }
+    input_failed(writer)
+}
+
+// Reads a line and does it. Some status is the run's end. What was written goes out before a wait.
+fn step<S: Script, R: Source, W: Sink>(
+    script: &mut S,
+    number: u64,
+    reader: &mut R,
+    writer: &mut W,
+) -> io::Result<Option<u8>>
+    ensures failed { OnErr result (IsTrue (W.has_failed writer.new)) }
+    ensures status { IfOk result (λ ended. IfSome ended (λ status. status ≤ 3)) }
+    ensures run { IfOk result (λ ended. IfSome (R.remaining reader.old) (λ input. MatchOption ended
+        (Goes S.meaning (S.kept script.old) number input (S.kept script.new) (number + 1)
+        (R.remaining reader.new) (W.contents writer.old) (W.contents writer.new))
+        (Ends S.meaning (S.kept script.old) number input (W.contents writer.old) (W.contents writer.new)))) }
+    ensures cause { IfOk result (λ ended. IfSome ended (λ status. status ≡ 1 → IsTrue (R.has_failed reader.new))) }
+{
+    flush_before_wait(reader, writer)?;
+    answer_next(script, number, reader, writer)
+}
+
+// Reads a line and does it. Some status is the run's end.
+fn answer_next<S: Script, R: Source, W: Sink>(
+    script: &mut S,
+    number: u64,
+    reader: &mut R,
+    writer: &mut W,
+) -> io::Result<Option<u8>>
+    requires flushed { R.can_wait reader.old → W.flushed writer.old ≡ W.contents writer.old }
+    ensures failed { OnErr result (IsTrue (W.has_failed writer.new)) }
+    ensures status { IfOk result (λ ended. IfSome ended (λ status. status ≤ 3)) }
+    ensures run { IfOk result (λ ended. IfSome (R.remaining reader.old) (λ input. MatchOption ended
+        (Goes S.meaning (S.kept script.old) number input (S.kept script.new) (number + 1)
+        (R.remaining reader.new) (W.contents writer.old) (W.contents writer.new))
+        (Ends S.meaning (S.kept script.old) number input (W.contents writer.old) (W.contents writer.new)))) }
+    ensures cause { IfOk result (λ ended. IfSome ended (λ status. status ≡ 1 → IsTrue (R.has_failed reader.new))) }
+{
+    match read_line(reader) {
+        Ok((line, end)) => match end {
+            LineEnd::Break => script.answer_line(number, line.as_slice(), writer),
+            LineEnd::Long => Ok(Some(bad_line(number, writer)?)),
+            LineEnd::End => {
+                if line.is_empty() {
+                    return Ok(Some(0));
+                }
+                match script.answer_line(number, line.as_slice(), writer)? {
+                    None => Ok(Some(0)),
+                    Some(status) => Ok(Some(status)),
+                }
+            }
+        },
+        Err(_) => Ok(Some(input_failed(writer)?)),
+    }
+}
