@@ -1,9 +1,9 @@
 -- Steps of a world, and what is written for their labels.
-use Rattle.std.proofs.Common.{◌≡◌, ℕ, suc, ◌+◌, ◌-◌, ◌<◌, List, [], ◌∷◌, ◌++◌, replicate, Option, None, Some, MatchOption, Result, Ok, Err, IfOk, refl, sym, ap, ◌∙◌, subst, inr, append_assoc, append-nil, arith}
-use Rattle.std.specs.Prelude.{slice_get, ⊤}
+use Rattle.std.proofs.Common.{◌≡◌, ℕ, suc, ◌+◌, ◌-◌, ◌<◌, List, [], ◌∷◌, ◌++◌, replicate, Option, None, Some, MatchOption, refl, sym, ap, ◌∙◌, subst, append_assoc, append-nil, arith}
+use Rattle.std.specs.Prelude.{slice_get}
 use Rattle.std.specs.Ordering.{nat_cmp}
 use Rattle.std.specs.Io.KnownBytes.{Appends}
-use Rattle.std.proofs.KnownBytes.{Appends-trans, Appends-nil}
+use Rattle.std.proofs.KnownBytes.{Appends-trans}
 use Rattle.std.proofs.lemmas.Grind.{replicate_next}
 use Rattle.std.proofs.lemmas.List.{replicate-append-replicate}
 use Rattle.flurry_steps.specs.declared.party.call.KeptCall.{KeptCall}
@@ -11,33 +11,12 @@ use Rattle.flurry_theory.specs.declared.Label.{Label}
 use Rattle.flurry_theory.specs.declared.Label.TheVariants as label
 use Rattle.flurry_world.specs.World.{Caller, Shown}
 use Rattle.flurry_world.specs.Steps.{CallerStep, WorldStep, with_label}
-use Rattle.flurry_world.specs.Runs.{DoesStep, Runs, begun_with}
+use Rattle.flurry_world.specs.Runs.{DoesStep, Runs}
 use Rattle.flurry_world.specs.declared.world.Step as world
 use Rattle.flurry_world.specs.declared.world.Step.TheVariants as step
-use Rattle.flurry_program.specs.declared.schedule.Line.{Line}
-use Rattle.flurry_program.specs.declared.schedule.Line.TheVariants.{World, Insert, Try, Get, Remove, Reserve, Step}
 use Rattle.flurry_program.specs.Endings.{out_of_memory_text}
 use Rattle.flurry_program.specs.Labels.{label_text}
-use Rattle.flurry_program.specs.Runs.{Script, AnswersLine, RefusesLine, Answered}
-use Rattle.flurry_program.specs.ScheduleRuns.{labels_text, steps_of, Tells, AnswersSteps, of_a_world}
-
--- ---- from a command to its line
-
-module _ {M C : Type 0} (s : Script M C) where
-  answered_line : (c : C) (m after : M) (n : ℕ) (line : List ℕ) (held holds : Option (List ℕ)) (ended : Option ℕ) → s.IsCommand c → line ≡ s.text_of c → Answered s c m after n held holds ended
-      → MatchOption ended (AnswersLine s m line after held holds) (RefusesLine s m n line held holds)
-  answered_line c m after n line held holds None fits is a = (c, a.0, fits, is, a.1, a.2)
-  answered_line c m after n line held holds (Some status) fits is a = (a.0, inr (c, fits, is, a.1), a.2)
-
-  pub command_answered : {E : Type 0} (c : C) (m after : M) (n : ℕ) (line : List ℕ) (held holds : Option (List ℕ)) (r : Result (Option ℕ) E) → s.IsCommand c → line ≡ s.text_of c
-      → IfOk r (Answered s c m after n held holds) → IfOk r (λ ended. MatchOption ended (AnswersLine s m line after held holds) (RefusesLine s m n line held holds))
-  command_answered c m after n line held holds (Ok ended) fits is a = answered_line c m after n line held holds ended fits is a
-  command_answered c m after n line held holds (Err e) fits is a = tt
-
--- the line asks for something in a world that is there
-abbrev IsInWorld : Line → Type 0
-IsInWorld (World p c) = ⊥
-IsInWorld l = ⊤
+use Rattle.flurry_program.specs.ScheduleRuns.{labels_text, Tells, AnswersSteps}
 
 labels_text-append : {F : Type 0} (a b : List (Label ℕ ℕ F)) → labels_text (a ++ b) ≡ labels_text a ++ labels_text b
 labels_text-append [] b = refl
@@ -76,9 +55,6 @@ module _ {F S : Type 0} where
     abbrev pub Did : ℕ → ℕ → Shown ℕ ℕ F S → Shown ℕ ℕ F S → Option (List ℕ) → Option (List ℕ) → Type 0
     Did p n w v held holds = AnswersSteps changes (replicate n (step.Step p)) w v held holds None
 
-    pub did_none : (p : ℕ) (w : Shown ℕ ℕ F S) (held : Option (List ℕ)) → Did p 0 w w held held
-    did_none p w held = ([], refl, tells_none w, Appends-nil held)
-
     pub did_more : (p n : ℕ) (w v u : Shown ℕ ℕ F S) (held holds later : Option (List ℕ)) → Did p n w v held holds → WorldStep nat_cmp changes v p u
         → ((older : List (Label ℕ ℕ F)) (l : Label ℕ ℕ F) → u.trace ≡ older ++ l ∷ [] → Appends holds later (label_text l ++ 10 ∷ [])) → Did p (n + 1) w u held later
     did_more p n w v u held holds later d st written =
@@ -98,42 +74,8 @@ module _ {F S : Type 0} where
         let done : AnswersSteps changes (replicate m (step.Step p)) w v held later (Some status) = (d.0, (replicate n (step.Step p), replicate (m - n - 1) (step.Step p), step.Step p, whole, d.1), d.2, is, Appends-trans held holds later d.0 out_of_memory_text d.3 written) in
         rw same done
 
-    -- a call began, and its label was written
-    pub began : (w v : Shown ℕ ℕ F S) (c : KeptCall ℕ ℕ F) (held holds : Option (List ℕ)) → v ≡ begun_with (λ k. k) w c
-        → ((older : List (Label ℕ ℕ F)) (l : Label ℕ ℕ F) → v.trace ≡ older ++ l ∷ [] → Appends held holds (label_text l ++ 10 ∷ [])) → AnswersSteps changes (step.Begin c ∷ []) w v held holds None
-    began w v c held holds is written =
-        let trace = ap (λ u. u.trace) is in (
-          _,
-          (v, is, refl),
-          tells_one w v _ trace,
-          written w.trace _ trace,
-        )
-
-    -- it did not
+    -- a call did not begin
     pub not_begun : (status : ℕ) (w v : Shown ℕ ℕ F S) (c : KeptCall ℕ ℕ F) (held holds : Option (List ℕ)) → v ≡ w → status ≡ 3 → Appends held holds out_of_memory_text
         → AnswersSteps changes (step.Begin c ∷ []) w v held holds (Some status)
     not_begun status w v c held holds same is written =
         ([], ([], [], step.Begin c, refl, same), rw same (tells_none w), is, written)
-
-    -- ---- from steps to the line that asks for them
-
-    answered_steps : (l : Line) (w v : Shown ℕ ℕ F S) (n : ℕ) (held holds : Option (List ℕ)) (ended : Option ℕ) → IsInWorld l → AnswersSteps changes (steps_of l) w v held holds ended
-        → Answered (of_a_world changes) l (Some w) (Some v) n held holds ended
-    answered_steps (World p c) w v n held holds ended i a = absurd i
-    answered_steps (Insert k x) w v n held holds None i a = (a.0, (v, a.1, refl, a.2), a.3)
-    answered_steps (Insert k x) w v n held holds (Some status) i a = (a.0 ++ out_of_memory_text, (v, a.0, a.1, a.2, (refl, a.3)), a.4)
-    answered_steps (Try k x) w v n held holds None i a = (a.0, (v, a.1, refl, a.2), a.3)
-    answered_steps (Try k x) w v n held holds (Some status) i a = (a.0 ++ out_of_memory_text, (v, a.0, a.1, a.2, (refl, a.3)), a.4)
-    answered_steps (Get k) w v n held holds None i a = (a.0, (v, a.1, refl, a.2), a.3)
-    answered_steps (Get k) w v n held holds (Some status) i a = (a.0 ++ out_of_memory_text, (v, a.0, a.1, a.2, (refl, a.3)), a.4)
-    answered_steps (Remove k) w v n held holds None i a = (a.0, (v, a.1, refl, a.2), a.3)
-    answered_steps (Remove k) w v n held holds (Some status) i a = (a.0 ++ out_of_memory_text, (v, a.0, a.1, a.2, (refl, a.3)), a.4)
-    answered_steps (Reserve k) w v n held holds None i a = (a.0, (v, a.1, refl, a.2), a.3)
-    answered_steps (Reserve k) w v n held holds (Some status) i a = (a.0 ++ out_of_memory_text, (v, a.0, a.1, a.2, (refl, a.3)), a.4)
-    answered_steps (Step p k) w v n held holds None i a = (a.0, (v, a.1, refl, a.2), a.3)
-    answered_steps (Step p k) w v n held holds (Some status) i a = (a.0 ++ out_of_memory_text, (v, a.0, a.1, a.2, (refl, a.3)), a.4)
-
-    pub steps_answered : {E : Type 0} (l : Line) (w v : Shown ℕ ℕ F S) (n : ℕ) (held holds : Option (List ℕ)) (r : Result (Option ℕ) E) → IsInWorld l
-        → IfOk r (AnswersSteps changes (steps_of l) w v held holds) → IfOk r (Answered (of_a_world changes) l (Some w) (Some v) n held holds)
-    steps_answered l w v n held holds (Ok ended) i a = answered_steps l w v n held holds ended i a
-    steps_answered l w v n held holds (Err e) i a = tt
