@@ -138,17 +138,29 @@ fn last_line_without_its_end(rt: HostRuntime) -> Result<(), Fail> {
 
 #[test]
 fn failed_read(rt: HostRuntime) -> Result<(), Fail> {
-    let mut input = Input::new(rt.alloc(), FailsAfter(b"insert 7 0\n".as_slice()))?;
-    let mut output = output(rt.alloc())?;
-    assert_eq!(rt; seq_lines(rt.alloc(), &mut input, &mut output), 1);
-    let want = b"none\ninput failed\n".as_slice();
-    assert_eq!(rt; output.get_ref().as_slice(), want);
+    for (word, line, want) in [
+        (
+            "seq",
+            b"insert 7 0\n".as_slice(),
+            b"none\ninput failed\n".as_slice(),
+        ),
+        (
+            "world",
+            b"world 1 0\n".as_slice(),
+            b"input failed\n".as_slice(),
+        ),
+    ] {
+        let mut input = Input::new(rt.alloc(), FailsAfter(line))?;
+        let mut output = output(rt.alloc())?;
+        assert_eq!(rt; run_words(rt.alloc(), &[word], &mut input, &mut output), 1);
+        assert_eq!(rt; output.get_ref().as_slice(), want);
+    }
     Ok(())
 }
 
 #[test]
 fn failed_write(rt: HostRuntime) -> Result<(), Fail> {
-    for words in [["seq"], ["help"]] {
+    for words in [["seq"], ["world"], ["help"]] {
         let mut lines = b"insert 7 0\nget 7\n".as_slice();
         let mut writer = FailsFirst {
             failed: false,

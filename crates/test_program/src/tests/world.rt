@@ -1,7 +1,7 @@
-//! Schedules over bytes in memory, and over streams that fail.
+//! Schedules over bytes in memory.
 
-use super::{FailsAfter, FailsFirst, output};
-use flurry_program::{Input, Output, run_words, world_lines};
+use super::output;
+use flurry_program::world_lines;
 use std::process::Abort;
 use std::test::Fail;
 
@@ -141,34 +141,5 @@ fn bad_lines(rt: HostRuntime) -> Result<(), Fail> {
     ] {
         is_bad(&rt, line)?;
     }
-    Ok(())
-}
-
-#[test]
-fn failed_read(rt: HostRuntime) -> Result<(), Fail> {
-    let lines = b"world 1 0\nbegin get 3\n".as_slice();
-    let mut input = Input::new(rt.alloc(), FailsAfter(lines))?;
-    let mut output = output(rt.alloc())?;
-    assert_eq!(rt; world_lines(rt.alloc(), &mut input, &mut output), 1);
-    let want = b"begin 0\ninput failed\n".as_slice();
-    assert_eq!(rt; output.get_ref().as_slice(), want);
-    Ok(())
-}
-
-#[test]
-fn failed_write(rt: HostRuntime) -> Result<(), Fail> {
-    let mut lines = b"world 1 0\nbegin get 3\n".as_slice();
-    let mut writer = FailsFirst {
-        failed: false,
-        taken: Vec::new(rt.alloc()),
-    };
-    let mut output = Output::new(rt.alloc(), &mut writer)?;
-    assert_eq!(rt;
-        run_words(rt.alloc(), &["world"], &mut lines, &mut output),
-        1
-    );
-    drop(output);
-    assert!(rt; writer.failed);
-    assert_eq!(rt; writer.taken.as_slice(), b"".as_slice());
     Ok(())
 }
