@@ -1,5 +1,6 @@
 pub mod BinSizes
 pub mod Chains
+pub mod Crossing
 pub mod Edits
 pub mod GreatestLaws
 pub mod Insertion
