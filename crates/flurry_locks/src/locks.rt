@@ -1,0 +1,37 @@
+//! The locks of a shared map.
+
+use crate::starts::Starts;
+use crate::tables::Tables;
+use flurry_steps::Control;
+use std::alloc::{Allocator, Global};
+use std::sync::{Mutex, Wait};
+
+/// The control and the tables of a map that threads share, each part under a lock of its own, and the numbers that the control has
+/// published, which are read without a lock.
+///
+/// What each lock keeps is what the type of its part keeps: the ranges of a control, and the order, the region and the sizes of a
+/// slot's bin.
+#[derive(Drop)]
+pub struct Locks<K: Ord, V, A: Allocator = Global> {
+    pub(crate) tables: Tables<K, V, A>,
+    pub(crate) starts: Starts,
+    pub(crate) control: Mutex<Control>,
+    pub(crate) alloc: A,
+}
+
+impl<K: Ord, V, A: Allocator> Locks<K, V, A> {
+    /// The locks of a map without a table. Constant time; takes no memory.
+    pub fn new(alloc: A) -> Self {
+        Locks {
+            tables: Tables::new(),
+            starts: Starts::new(),
+            control: Mutex::new(Control::new()),
+            alloc,
+        }
+    }
+
+    /// The count of pairs, at one moment while the call runs. Takes the control's lock.
+    pub fn len<R: Wait>(&self, rt: &R) -> usize {
+        self.control.lock(rt).len()
+    }
+}

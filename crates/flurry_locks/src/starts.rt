@@ -1,0 +1,37 @@
+//! The numbers that a control has published, as calls read them without its lock.
+
+use flurry_steps::control::Start;
+use std::array;
+use std::sync::OnceLock;
+use std::sync::atomic::{AtomicUsize, Ordering};
+
+/// A place for each number that was published, and which one was put in last.
+///
+/// Whoever has the control's lock puts numbers in; a reader may be behind.
+#[derive(Drop)]
+pub(crate) struct Starts {
+    places: [OnceLock<Start>; 31],
+    newest: AtomicUsize,
+}
+
+impl Starts {
+    // No number.
+    pub(crate) fn new() -> Self {
+        Starts {
+            places: array::from_fn(|_| OnceLock::new()),
+            newest: AtomicUsize::new(0),
+        }
+    }
+
+    // The number that was put in last, if there is one.
+    pub(crate) fn newest(&self) -> Option<&Start> {
+        self.places.get(self.newest.load(Ordering::SeqCst))?.get()
+    }
+
+    // Puts in a number. One that is there already stays.
+    pub(crate) fn add(&self, start: Start) {
+        let place = usize::from(start.table());
+        let _ = self.places[place].try_set(start);
+        self.newest.store(place, Ordering::SeqCst);
+    }
+}

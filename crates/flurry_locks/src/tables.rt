@@ -1,0 +1,84 @@
+//! The tables of a shared map, each at the place of its number.
+ghost use Rattle.std.specs.Prelude.{◌≤◌};
+
+use flurry_bins::bin::Bin;
+use flurry_slots::Slot;
+use flurry_steps::control::Room;
+use std::alloc::{AllocError, Allocator, Global};
+use std::array;
+use std::sync::{Arc, OnceLock, RwLock};
+
+/// A table: each of its slots under a lock of its own.
+type Table<K, V, A> = Vec<RwLock<Slot<K, V, A>>, A>;
+
+/// A place for each table, by its number. A table is put in at most once, and stays.
+#[derive(Drop)]
+pub(crate) struct Tables<K: Ord, V, A: Allocator = Global> {
+    places: [OnceLock<Arc<Vec<RwLock<Slot<K, V, A>>, A>, A>>; 31],
+}
+
+impl<K: Ord, V, A: Allocator> Tables<K, V, A> {
+    // No table at any place.
+    pub(crate) fn new() -> Self {
+        Tables {
+            places: array::from_fn(|_| OnceLock::new()),
+        }
+    }
+
+    // The lock of the slot that is put in at that table and index, if there is one.
+    pub(crate) fn lock_of(&self, table: u8, index: usize) -> Option<&RwLock<Slot<K, V, A>>> {
+        self.places.get(usize::from(table))?.get()?.get(index)
+    }
+}
+
+/// Where a control makes tables, for as long as it is lent to one step.
+#[derive(Drop)]
+pub struct Maker<'m, K: Ord, V, A: Allocator = Global> {
+    tables: &'m Tables<K, V, A>,
+    alloc: A,
+}
+
+impl<'m, K: Ord, V, A: Allocator> Maker<'m, K, V, A> {
+    // Makes tables at these places, of memory of that allocator.
+    pub(crate) fn new(tables: &'m Tables<K, V, A>, alloc: A) -> Self {
+        Maker { tables, alloc }
+    }
+}
+
+impl<'m, K: Ord + Drop, V: Drop, A: Allocator + Copy> Room for Maker<'m, K, V, A> {
+    ghost use Rattle.std.specs.Prelude.{◌≡◌};
+
+    ghost place_gives = { λ m table live ok m'. m' ≡ m };
+
+    fn place(&mut self, table: u8, live: bool) -> Result<(), AllocError> {
+        let tables = self.tables;
+        let place = &tables.places[usize::from(table)];
+        if place.get().is_some() {
+            return Ok(());
+        }
+        let slots = new_table(self.alloc, table, live)?;
+        let _ = place.try_set(Arc::new(self.alloc, slots)?);
+        Ok(())
+    }
+}
+
+// The slots of a new table, with live and empty bins, or with bins that are not born yet.
+fn new_table<K: Ord + Drop, V: Drop, A: Allocator + Copy>(
+    alloc: A,
+    table: u8,
+    live: bool,
+) -> Result<Table<K, V, A>, AllocError>
+    requires { table ≤ 30 }
+{
+    let bins = 1usize << table;
+    let mut slots = Vec::with_capacity(alloc, bins)?;
+    for index in 0..bins {
+        let slot = if live {
+            Slot::live_at(table, index, Bin::new(), 0)
+        } else {
+            Slot::unborn(table, index)
+        };
+        slots.push(RwLock::new(slot))?;
+    }
+    Ok(slots)
+}
