@@ -11,6 +11,13 @@ use std::sync::{Arc, OnceLock, RwLock};
 /// A table: each of its slots under a lock of its own.
 type Table<K, V, A> = Vec<RwLock<Slot<K, V, A>>, A>;
 
+/// The locks that a step takes which moves a bin, in the order in which it takes them.
+type LocksOfMove<'m, K, V, A> = (
+    &'m RwLock<Slot<K, V, A>>,
+    &'m RwLock<Slot<K, V, A>>,
+    &'m RwLock<Slot<K, V, A>>,
+);
+
 /// A place for each table, by its number. A table is put in at most once, and stays.
 #[derive(Drop)]
 pub(crate) struct Tables<K: Ord, V, A: Allocator = Global> {
@@ -28,6 +35,21 @@ impl<K: Ord, V, A: Allocator> Tables<K, V, A> {
     // The lock of the slot that is put in at that table and index, if there is one.
     pub(crate) fn lock_of(&self, table: u8, index: usize) -> Option<&RwLock<Slot<K, V, A>>> {
         self.places.get(usize::from(table))?.get()?.get(index)
+    }
+
+    // The locks of the slot at that table and index, and of its low and its high half in the next table, if all are there.
+    pub(crate) fn locks_of_move(
+        &self,
+        table: u8,
+        index: usize,
+    ) -> Option<LocksOfMove<'_, K, V, A>> {
+        let next = table.checked_add(1)?;
+        let bins = 1usize.checked_shl(u32::from(table))?;
+        Some((
+            self.lock_of(table, index)?,
+            self.lock_of(next, index)?,
+            self.lock_of(next, index.checked_add(bins)?)?,
+        ))
     }
 }
 

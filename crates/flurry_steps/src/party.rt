@@ -2,7 +2,7 @@
 //!
 //! A caller asks a [`Party`] what it wants, lends it that part, and so on until the party is done. What it does to the part, and what
 //! it becomes, are plain data in contracts; each step is one line of what a call does, whichever steps of other calls come between.
-ghost use Rattle.std.specs.Prelude.{◌≡◌, ◌<◌, ◌⊎◌, IfNone, IfSome, true};
+ghost use Rattle.std.specs.Prelude.{◌≡◌, ◌<◌, ◌≤◌, ◌⊎◌, IfNone, IfSome, true};
 ghost use Rattle.std.specs.Option.{option_map, option_copied};
 ghost use Rattle.flurry_slots.specs.Slot.{IsSlot, IsUnborn};
 ghost use Rattle.flurry_steps.specs.Party.{Course, locates, started, wanted_part, with_stage, said_in, done_with, steps_left, LooksUp, LookPart, BinPart, MovePart, ControlPart, AtTaken, AtLocate, TaskIsReady};
@@ -247,6 +247,7 @@ impl<'k, K: Drop, V: Drop, F: Change<K, V>, A: Allocator> Party<'k, K, V, F, A> 
     #[inline]
     pub fn on_start(&mut self, start: &Start) -> Event
         requires { locates self.old.stage ≡ true }
+        ensures within { start.now ≤ 30 }
         ensures silent { result ≡ Event.Silent }
         ensures at { self.new ≡ with_stage self.old (started start.now self.old.stage) }
     {

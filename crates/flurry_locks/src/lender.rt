@@ -1,0 +1,98 @@
+//! What takes the locks of a shared map for the steps of a thread's calls.
+ghost use Rattle.std.specs.Prelude.{◌≡◌};
+
+use crate::locks::Locks;
+use crate::tables::Maker;
+use flurry_slots::Change;
+use flurry_steps::party::Event;
+use flurry_steps::{Field, Party};
+use std::alloc::{Allocator, Global};
+use std::sync::Wait;
+
+/// Lends the parts of a shared map to the steps of a thread's calls. Each part is lent under its lock, which is held for one step.
+///
+/// A step that moves a bin holds the lock of the bin, then that of its low half, then that of its high half. A call begins at the
+/// table that was published last, as far as that is known without the control's lock.
+#[derive(Drop)]
+pub struct Lender<'m, R, K: Ord, V, A: Allocator = Global> {
+    rt: &'m R,
+    locks: &'m Locks<K, V, A>,
+}
+
+impl<'m, R, K: Ord, V, A: Allocator> Lender<'m, R, K, V, A> {
+    /// Takes these locks, and waits for them by that runtime. Constant time.
+    pub fn new(rt: &'m R, locks: &'m Locks<K, V, A>) -> Self {
+        Lender { rt, locks }
+    }
+}
+
+impl<'m, R: Wait, K: Ord + Drop, V: Drop, A: Allocator + Copy> Field<K, V, A>
+    for Lender<'m, R, K, V, A> {
+    ghost use Rattle.flurry_locks.specs.Lending.{LockLends, LockLacks};
+
+    type Room = Maker<'m, K, V, A>;
+
+    ghost lends = { LockLends };
+
+    ghost lacks = { LockLacks };
+
+    fn at_control<F: Change<K, V>>(&mut self, party: &mut Party<'_, K, V, F, A>) -> Option<Event> {
+        let locks = self.locks;
+        if party.locates() {
+            if let Some(start) = locks.starts.newest() {
+                return Some(party.on_start(start));
+            }
+        }
+        let mut room = Maker::new(&locks.tables, locks.alloc);
+        let mut control = locks.control.lock(self.rt);
+        let event = party.on_control(&mut *control, &mut room);
+        if let Event::Opened(_) | Event::Published(_) = event {
+            if let Some(start) = control.start() {
+                locks.starts.add(start);
+            }
+        }
+        Some(event)
+    }
+
+    fn at_look<F: Change<K, V>>(
+        &mut self,
+        table: u8,
+        index: usize,
+        party: &mut Party<'_, K, V, F, A>,
+    ) -> Option<Event> {
+        let slot = self.locks.tables.lock_of(table, index)?.read(self.rt);
+        if slot.at() != (table, index) {
+            return None;
+        }
+        Some(party.on_look(&*slot))
+    }
+
+    fn at_bin<F: Change<K, V>>(
+        &mut self,
+        table: u8,
+        index: usize,
+        party: &mut Party<'_, K, V, F, A>,
+    ) -> Option<Event> {
+        let mut slot = self.locks.tables.lock_of(table, index)?.write(self.rt);
+        if slot.at() != (table, index) {
+            return None;
+        }
+        Some(party.on_bin(self.locks.alloc, &mut *slot))
+    }
+
+    fn at_move<F: Change<K, V>>(
+        &mut self,
+        table: u8,
+        index: usize,
+        party: &mut Party<'_, K, V, F, A>,
+    ) -> Option<Event> {
+        let (old, low, high) = self.locks.tables.locks_of_move(table, index)?;
+        let mut old = old.write(self.rt);
+        let mut low = low.write(self.rt);
+        let mut high = high.write(self.rt);
+        if old.at() != (table, index) {
+            return None;
+        }
+        Some(party.on_move(&mut *old, &mut *low, &mut *high))
+    }
+}
