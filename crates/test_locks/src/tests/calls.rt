@@ -1,0 +1,73 @@
+//! Calls over the locks of a shared map, from their first step to their last.
+
+use flurry_locks::{Lender, Locks};
+use flurry_slots::{Change, NoChange};
+use flurry_steps::party::{KeptCall, Reply};
+use flurry_steps::{Party, act};
+use std::alloc::Allocator;
+use std::sync::Wait;
+
+// A key or a value that has a number.
+pub(super) trait Numbered {
+    // The one of that number.
+    fn of(number: u64) -> Self;
+}
+
+impl Numbered for u64 {
+    fn of(number: u64) -> Self {
+        number
+    }
+}
+
+// Does the steps of a call until it is done, and answers its reply.
+fn reply_of<K: Ord + Drop, V: Drop, A: Allocator + Copy, F: Change<K, V>, R: Wait>(
+    rt: &R,
+    locks: &Locks<K, V, A>,
+    hash: u64,
+    call: KeptCall<K, V, F>,
+) -> Reply<K, V, A>
+    requires { (f : F) → F.can_change f }
+{
+    let mut party = Party::kept(call, hash, 4);
+    let mut lender = Lender::new(rt, locks);
+    for _ in rt.forever() {
+        if act(&mut party, &mut lender).is_some() {
+            continue;
+        }
+        if let Some(reply) = party.take_reply() {
+            drop(party);
+            return reply;
+        }
+    }
+    unreachable!()
+}
+
+// Puts in the pairs of these numbers, each with its number as its hash.
+pub(super) fn put_all<K: Ord + Drop + Numbered, V: Drop + Numbered, A: Allocator + Copy, R: Wait>(
+    rt: &R,
+    locks: &Locks<K, V, A>,
+    from: u64,
+    to: u64,
+) {
+    for number in from..to {
+        let call: KeptCall<K, V, NoChange> = KeptCall::Insert(K::of(number), V::of(number));
+        drop(reply_of(rt, locks, number, call));
+    }
+}
+
+// How many of the pairs of these numbers are there.
+pub(super) fn count_found<K: Ord + Drop + Numbered, V: Drop, A: Allocator + Copy, R: Wait>(
+    rt: &R,
+    locks: &Locks<K, V, A>,
+    from: u64,
+    to: u64,
+) -> usize {
+    let mut found = 0usize;
+    for number in from..to {
+        let call: KeptCall<K, V, NoChange> = KeptCall::ContainsKey(K::of(number));
+        if let Reply::Contains(true) = reply_of(rt, locks, number, call) {
+            found = found.saturating_add(1);
+        }
+    }
+    found
+}
