@@ -11,8 +11,9 @@ use Rattle.std.specs.Arc.{arc_value}
 use Rattle.std.specs.declared.sync.Arc.{Arc}
 use Rattle.flurry_bins.specs.declared.bin.entry.Entry.{Entry}
 use Rattle.flurry_bins.specs.Entries.{place_cmp, entry_cmp, IsAscending, is_at, is_before, is_past, entry_at, placed, replaced, without, with_value, AllBefore, NotBefore}
-use Rattle.flurry_bins.proofs.Sides.{all_append, all_first, all_second, sorted_head, sorted_tail, sorted_cons, sorted_back}
-use Rattle.flurry_bins.proofs.Places.{AllPast, past_rest, entry_total, entry_at-back, without-back, before-back, past-back, replaced-back, entry_at-front, without-front, before-front, past-front, replaced-front}
+use Rattle.flurry_model.proofs.ListParts.{all_append, all_first, all_second, sorted_head, sorted_tail, sorted_cons, sorted_back}
+use Rattle.flurry_bins.proofs.Places.{AllPast, past_rest, entry_at-back, without-back, before-back, past-back, replaced-back, entry_at-front, without-front, before-front, past-front, replaced-front}
+use Rattle.flurry_bins.proofs.PlainEntryLaws.{entry_total}
 
 pub all_reverse : {X : Type 0} (P : X → Type 0) (xs : List X) → AllByRecursion P xs → AllByRecursion P (reverse xs)
 all_reverse P [] h = tt

@@ -5,16 +5,12 @@ pub mod Edits
 pub mod GreatestLaws
 pub mod Insertion
 pub mod Outs
-pub mod FiniteMapLaws
 pub mod KeepingLaws
 pub mod Places
 pub mod PlainEntryLaws
-pub mod SizeLaws
 pub mod Powers
 pub mod RedBlack
-pub mod RegionLaws
 pub mod Removals
 pub mod Rewriting
 pub mod Shortness
-pub mod Sides
 pub mod Trees

@@ -4,13 +4,13 @@ use Rattle.std.specs.List.{AllByRecursion, filter}
 use Rattle.std.specs.declared.cmp.Ordering.{Ordering}
 use Rattle.std.specs.declared.cmp.Ordering.TheVariants.{Less, Equal, Greater}
 use Rattle.std.specs.Ordering.{is_eq, is_lt, is_gt, ordering_reverse}
-use Rattle.std.specs.Cmp.{IsTotalOrder, nat_cmp_total, on_total, then_total}
+use Rattle.std.specs.Cmp.{IsTotalOrder}
 use Rattle.std.specs.Arc.{arc_value}
 use Rattle.std.specs.declared.sync.Arc.{Arc}
 use Rattle.flurry_bins.specs.declared.bin.entry.Entry.{Entry}
-use Rattle.flurry_bins.specs.PlainEntries.{hash_then_key}
+use Rattle.flurry_model.proofs.HashOrderLaws.{hash_then_key_total}
 use Rattle.flurry_bins.specs.Entries.{place_cmp, entry_cmp, IsAscending, is_before, is_past, entry_at, first_past, replaced, without, with_value, AllBefore, list_way}
-use Rattle.flurry_bins.proofs.Sides.{IsPlace, past_behind, all_map, filter_front_kept, filter_front_lost, filter_back_kept, filter_back_lost, find_front_lost, find_back_lost, find_lost, map_front_same, map_back_same, sorted_tail}
+use Rattle.flurry_model.proofs.ListParts.{IsPlace, past_behind, all_map, filter_front_kept, filter_front_lost, filter_back_kept, filter_back_lost, find_front_lost, find_back_lost, find_lost, map_front_same, map_back_same, sorted_tail}
 
 -- a place in a total order
 module _ {X : Type 0} {R : X → X → Ordering} (o : IsTotalOrder R) where
@@ -30,19 +30,11 @@ module _ {X : Type 0} {R : X → X → Ordering} (o : IsTotalOrder R) where
   pub place_of : (p : X) → IsPlace R (R p)
   place_of p = record { past = λ x y n l. past_by p x y (R p x) refl n l; before = λ x y n l. before_by p x y (R p y) refl n l }
 
--- the order by hash and key is total
-pub hash_then_key_total : {K : Type 0} {cmp : K → K → Ordering} → IsTotalOrder cmp → IsTotalOrder (hash_then_key cmp)
-hash_then_key_total o = then_total (on_total (λ p. p.0) nat_cmp_total) (on_total (λ p. p.1) o)
-
 module _ {K V A : Type 0} {cmp : K → K → Ordering} (o : IsTotalOrder cmp) (h : ℕ) (k : K) where
   pub place : IsPlace {X = Entry K V A} (entry_cmp cmp) (place_cmp cmp h k)
   place =
       let p = place_of (hash_then_key_total o) (h, k) in
       record { past = λ x y n l. p.past (x.hash, arc_value x.key) (y.hash, arc_value y.key) n l; before = λ x y n l. p.before (x.hash, arc_value x.key) (y.hash, arc_value y.key) n l }
-
--- the entries' order is total
-pub entry_total : {K V A : Type 0} {cmp : K → K → Ordering} → IsTotalOrder cmp → IsTotalOrder {K = Entry K V A} (entry_cmp cmp)
-entry_total o = on_total (λ e. (e.hash, arc_value e.key)) (hash_then_key_total o)
 
 -- all of them stand past the place of (h, k)
 abbrev pub AllPast : {K V A : Type 0} → (K → K → Ordering) → ℕ → K → List (Entry K V A) → Type 0

@@ -1,26 +1,34 @@
 -- An edit of a bin's entries is the edit of the finite map that they make.
 use Rattle.std.proofs.Common.{◌≡◌, ℕ, Bool, true, false, cond, List, [], ◌∷◌, ◌++◌, map, filter, Option, Some, None, refl, sym, ap, ◌∙◌, Ordering, Less, Equal, Greater}
 use Rattle.std.specs.Ordering.{is_gt}
-use Rattle.std.specs.Cmp.{IsTotalOrder}
+use Rattle.std.specs.Cmp.{IsTotalOrder, on_total}
 use Rattle.std.specs.Int.{bit_at}
 use Rattle.std.specs.Prelude.{◌==◌}
 use Rattle.std.proofs.Common.{◌+◌, length}
 use Rattle.std.proofs.lemmas.List.{length-map}
-use Rattle.flurry_bins.proofs.FiniteMapLaws.{length-with_pair}
+use Rattle.flurry_model.proofs.FiniteMapLaws.{length-with_pair}
 use Rattle.std.specs.List.{find, AllByRecursion}
 use Rattle.std.specs.List.Sorted.{IsStrictlySortedBy}
 use Rattle.std.specs.Map.{keys_of}
-use Rattle.flurry_bins.specs.Region.{InRegion, AllInRegion}
+use Rattle.flurry_model.specs.HashOrder.{InRegion}
+use Rattle.flurry_bins.specs.PlainEntries.{AllInRegion}
 use Rattle.std.specs.Option.{option_map, option_copied, IsNone, IsSome}
 use Rattle.std.specs.Borrow.{Bor}
 use Rattle.std.specs.Arc.{arc_value}
 use Rattle.std.specs.declared.sync.Arc.{Arc}
 use Rattle.flurry_bins.specs.declared.bin.entry.Entry.{Entry}
 use Rattle.flurry_bins.specs.Entries.{place_cmp, entry_cmp, IsAscending, is_at, is_past, entry_at, first_past, placed, replaced, without as without_place, with_value, with_bit}
-use Rattle.flurry_bins.specs.FiniteMap.{IsFiniteMap, pair_at, with_pair, without}
-use Rattle.flurry_bins.specs.PlainEntries.{hash_then_key, is_held_past, pair_with, plain, plain_all, plain_with_bit}
-use Rattle.flurry_bins.proofs.Sides.{sorted_tail}
-use Rattle.flurry_bins.proofs.Places.{hash_then_key_total, AllPast, past_rest, none_there, without-back, before-back, past-back, replaced-back}
+use Rattle.flurry_model.specs.FiniteMap.{IsFiniteMap, pair_at, with_pair, without}
+use Rattle.flurry_model.specs.HashOrder.{hash_then_key, is_held_past, plain_with_bit}
+use Rattle.flurry_bins.specs.PlainEntries.{pair_with, plain, plain_all}
+use Rattle.flurry_model.proofs.ListParts.{sorted_tail}
+use Rattle.flurry_model.proofs.HashOrderLaws.{hash_then_key_total}
+use Rattle.flurry_model.proofs.OptionLaws.{absent_is}
+use Rattle.flurry_bins.proofs.Places.{AllPast, past_rest, none_there, without-back, before-back, past-back, replaced-back}
+
+-- the entries' order is total
+pub entry_total : {K V A : Type 0} {cmp : K → K → Ordering} → IsTotalOrder cmp → IsTotalOrder {K = Entry K V A} (entry_cmp cmp)
+entry_total o = on_total (λ e. (e.hash, arc_value e.key)) (hash_then_key_total o)
 
 mapped : {A B : Type 0} (f : A → B) (b : Bool) (x : A) (o : Option A) (p : Option B) → p ≡ option_map f o → cond b (Some (f x)) p ≡ option_map f (cond b (Some x) o)
 mapped f true x o p h = refl
@@ -107,20 +115,6 @@ module _ {K V A W : Type 0} {cmp : K → K → Ordering} (o : IsTotalOrder cmp) 
           ∙ ap (λ x. ((e.hash, arc_value e.key), x) ∷ map (pair_with f) es) (alike e))
       by_order Greater p ih = let further = rw p at some in rw p (ap (λ l. pair_with f e ∷ l) (ih further))
 
--- ---- what a bin answers, seen through f
-
-pub copied : {A B : Type 0} (f : A → B) (w : Option (Bor A)) → option_map (λ (x : Bor A). f x.now) w ≡ option_map f (option_copied w)
-copied f None = refl
-copied f (Some x) = refl
-
-pub some_mapped : {A B : Type 0} (f : A → B) (w : Option A) → IsSome (option_map f w) → IsSome w
-some_mapped f None h = cc
-some_mapped f (Some x) h = refl
-
-pub none_mapped : {A B : Type 0} (f : A → B) (w : Option A) → option_map f w ≡ None → IsNone w
-none_mapped f None h = refl
-none_mapped f (Some x) h = cc
-
 -- ---- with the value alone
 
 module _ {K V A : Type 0} (cmp : K → K → Ordering) where
@@ -141,10 +135,6 @@ module _ {K V A : Type 0} {cmp : K → K → Ordering} (o : IsTotalOrder cmp) wh
   pub plain-replaced : (h : ℕ) (k : K) (v : Arc V A) (n : ℕ) (es : List (Entry K V A)) → IsAscending cmp es → IsSome (entry_at cmp h k es)
       → plain_all (replaced cmp h k v n es) ≡ with_pair (hash_then_key cmp) (plain_all es) (h, k) (arc_value v)
   plain-replaced h k v n es up some = paired-replaced o (λ (d : Entry K V A). arc_value d.value) h k v n (arc_value v) es (λ e. refl) up some
-
-pub absent_is : {X : Type 0} (w : Option X) → IsNone w → w ≡ None
-absent_is None h = refl
-absent_is (Some x) h = cc
 
 -- one more entry
 pub length-placed : {K V A : Type 0} {cmp : _} (o : IsTotalOrder {K = K} cmp) (x : Entry K V A) (es : List (Entry K V A)) → IsAscending cmp es → IsNone (entry_at cmp x.hash (arc_value x.key) es) → length (placed cmp x es) ≡ length es + 1

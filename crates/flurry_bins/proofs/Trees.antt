@@ -12,8 +12,8 @@ use Rattle.flurry_bins.specs.declared.bin.node.Colour.{Colour}
 use Rattle.flurry_bins.specs.declared.bin.node.Node.{Node, Node', out-Node, None', Some'}
 use Rattle.flurry_bins.specs.Entries.{place_cmp, entry_cmp, IsAscending, entry_at, AllBefore, is_past_bound, first_past}
 use Rattle.flurry_bins.specs.Tree.{Tree, fork, shape, node_shape, inorder, tree_way}
-use Rattle.flurry_bins.proofs.Sides.{sorted_back, sorted_front}
-use Rattle.flurry_bins.proofs.Sides as sides
+use Rattle.flurry_model.proofs.ListParts.{sorted_back, sorted_front}
+use Rattle.flurry_model.proofs.ListParts as sides
 use Rattle.flurry_bins.proofs.Places.{AllPast, place, past_rest, entry_at-back, entry_at-front, first_past-front}
 
 pub node_shape-out : {K V A : Type 0} (n : Node K V A) → node_shape n ≡ fork (out-Node K V A n).colour (shape (out-Node K V A n).left) (out-Node K V A n).entry (shape (out-Node K V A n).right)

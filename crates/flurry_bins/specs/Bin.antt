@@ -12,7 +12,8 @@ use Rattle.flurry_bins.specs.Tree.{shape, inorder}
 use Rattle.flurry_bins.specs.Entries.{IsAscending}
 use Rattle.flurry_bins.specs.Short.{short_list}
 use Rattle.flurry_bins.specs.WayBound.{way_bound}
-use Rattle.flurry_bins.specs.Kind.{kind_entries, kind_is_tree, kind_way, kind_ascending, kind_short, kind_way-bounded, IsSized}
+use Rattle.flurry_bins.specs.Kind.{kind_entries, kind_is_tree, kind_way, kind_ascending, kind_short, kind_way-bounded}
+use Rattle.flurry_model.specs.BinSizes.{IsSized}
 
 -- the entries of a bin that is a list, of one that is a tree, and of one that is either
 abbrev pub entries_of_list : {K V A : Type 0} {o : _} {e : _} {p : _} → ListBin K V A o e p → List (Entry K V A)

@@ -1,6 +1,6 @@
 -- A list or a tree of entries, whichever it is.
-use Rattle.std.specs.Prelude.{ℕ, ◌≤◌, ◌==◌, ◌&&◌, ◌||◌, nat_le, nat_lt, not, Bool, true, false, List, length}
-use Rattle.std.specs.Coded.{le_prop}
+use Rattle.std.specs.Prelude.{ℕ, ◌≤◌, Bool, true, false, List, length}
+use Rattle.flurry_model.specs.BinSizes.{IsSized}
 use Rattle.flurry_bins.specs.declared.bin.entry.Entry.{Entry}
 use Rattle.flurry_bins.specs.declared.bin.choice.Kind.{Kind}
 use Rattle.flurry_bins.specs.declared.bin.choice.Kind.TheVariants.{Few, Many}
@@ -19,23 +19,6 @@ kind_entries (Many t) = inorder (shape t.root)
 abbrev pub kind_is_tree : {K V A : Type 0} {o : _} {e : _} {p : _} → Kind K V A o e p → Bool
 kind_is_tree (Few l) = false
 kind_is_tree (Many t) = true
-
--- a tree has at least 7 nodes, and a list at most 9
-abbrev pub IsSized : Bool → ℕ → Type 0
-IsSized true n = 7 ≤ n
-IsSized false n = n ≤ 9
-
--- one more entry makes a tree of a list of nine, and of one of eight in a table of 64 bins or more
-abbrev pub grows_into_tree : ℕ → Bool → ℕ → Bool
-grows_into_tree bins tree n = tree || (nat_le 9 n || (n == 8 && nat_le 64 bins))
-
--- one more entry in a list of eight asks for a larger table where the table has fewer bins
-abbrev pub asks_for_growth : ℕ → Bool → ℕ → Bool
-asks_for_growth bins tree n = not tree && (n == 8 && nat_lt bins 64)
-
-pub IsSized-prop : (tree : Bool) (n : ℕ) → IsProp (IsSized tree n)
-IsSized-prop true n = le_prop
-IsSized-prop false n = le_prop
 
 -- the entries that are met on the way to (h, k)
 abbrev pub kind_way : {K V A : Type 0} {o : _} {e : _} {p : _} → (K → K → Ordering) → ℕ → K → Kind K V A o e p → List (Entry K V A)

@@ -2,5 +2,6 @@
 #![tactic(auto)]
 
 pub mod bin;
-pub mod hash;
 pub mod table;
+
+pub use flurry_model::hash;

@@ -1,80 +1,19 @@
-//! The sizes of tables, the place of a hash in one, and what calls answer.
-ghost use Rattle.std.specs.Prelude.{◌≡◌, ◌+◌, ◌/◌, ◌%◌, ◌^◌, ◌<◌, ◌≤◌, ◌==◌, ◌&&◌, not, length, IfOk, IsNone};
+//! A new node in a table's bin, and a value with two owners. Sizes of tables, the place of a hash in one and what calls answer are handed
+//! on from [`flurry_model`].
+ghost use Rattle.std.specs.Prelude.{◌≡◌, ◌^◌, ◌<◌, ◌==◌, ◌&&◌, not, length, IfOk, IsNone};
 ghost use Rattle.std.specs.Arc.{arc_value};
-ghost use Rattle.std.specs.Int.{IsNextPowerOfTwo};
 ghost use Rattle.flurry_bins.specs.Bin.{entries_of_bin, is_tree};
 ghost use Rattle.flurry_bins.specs.Chain.{entry_of};
 ghost use Rattle.flurry_bins.specs.Entries.{entry_at, placed};
-ghost use Rattle.flurry_bins.specs.Sizes.{wanted_of, threshold_of, stride_of};
-ghost use Rattle.flurry_bins.specs.Kind.{grows_into_tree, asks_for_growth};
-
-pub mod reply;
-pub mod try_insert;
+ghost use Rattle.flurry_model.specs.BinSizes.{grows_into_tree, asks_for_growth};
 
 use crate::bin::{Bin, BoxedNode, Ordered, Shape};
-pub use reply::KeptReply;
+pub use flurry_model::reply::KeptReply;
+use flurry_model::sizes::{LEAST_FOR_TREES, LONG_LIST};
+pub use flurry_model::sizes::{MOST_BINS, bin_index, stride, threshold, wanted};
+pub use flurry_model::try_insert::TryInsertError;
 use std::alloc::{AllocError, Allocator};
 use std::sync::Arc;
-pub use try_insert::TryInsertError;
-
-// A list of so many entries becomes a tree when one more is put in, or asks for a larger table.
-const LONG_LIST: usize = 8;
-
-// A table of fewer bins grows before it makes trees.
-const LEAST_FOR_TREES: usize = 64;
-
-/// The most bins of a table.
-pub const MOST_BINS: usize = 1 << 30;
-
-/// The number of bins of a table that is made for so many pairs: the least power of two that is at least one more than one and
-/// a half times as many, and at most [`MOST_BINS`].
-///
-/// Constant time.
-pub fn wanted(pairs: usize) -> usize
-    ensures value { result ≡ wanted_of pairs }
-    ensures least { pairs < 2 ^ 29 → IsNextPowerOfTwo (pairs + pairs / 2 + 1) result }
-    ensures most { 2 ^ 29 ≤ pairs → result ≡ 2 ^ 30 }
-{
-    if pairs >= MOST_BINS / 2 {
-        return MOST_BINS;
-    }
-    (pairs + pairs / 2 + 1).next_power_of_two()
-}
-
-/// The number of pairs from which on a table of so many bins is doubled: three quarters of the bins, rounded up.
-///
-/// Constant time.
-#[inline]
-pub fn threshold(bins: usize) -> usize
-    ensures { result ≡ threshold_of bins }
-{
-    bins - bins / 4
-}
-
-/// The index of the bin of a hash in a table of `2^table` bins: the hash's lowest `table` bits.
-///
-/// Constant time.
-#[inline]
-pub fn bin_index(hash: u64, table: u8) -> usize
-    requires { table ≤ 30 }
-    ensures place { result ≡ hash % 2 ^ table }
-    ensures below { result < 2 ^ table }
-{
-    (hash % (1 << table)) as usize
-}
-
-/// How many bins of a table of so many a helper claims at once, where so many processors share the work; 0 counts as 1.
-///
-/// Constant time.
-pub fn stride(bins: usize, processors: usize) -> usize
-    ensures { result ≡ stride_of bins processors }
-{
-    if processors <= 1 {
-        bins.max(16)
-    } else {
-        (bins / 8 / processors).max(16)
-    }
-}
 
 // Whether one more entry makes a tree of the bin in a large table, or asks for a larger one.
 fn is_long_list<K: Ord + Drop, V: Drop, A: Allocator>(bin: &Bin<K, V, A>) -> bool

@@ -7,7 +7,7 @@ use Rattle.flurry_steps.specs.Field.{Loan, Turn, StaysOrDone}
 use Rattle.flurry_steps.specs.Party.{Course, Said, AtDone, Part}
 use Rattle.flurry_steps.specs.declared.party.Event.{Event}
 use Rattle.flurry_theory.specs.Map.{Pairs, same}
-use Rattle.flurry_theory.specs.declared.Call.{Call}
+use Rattle.flurry_model.specs.declared.call.Call.{Call}
 use Rattle.flurry_world.specs.Parts.{Parts}
 use Rattle.flurry_world.specs.Tables.{Tables}
 use Rattle.flurry_world.specs.Runs.{labelled}

@@ -3,11 +3,11 @@ use Rattle.std.specs.Prelude.{ℕ, ◌==◌, Bool, true, false, ◌||◌, ◌∷
 use Rattle.std.specs.declared.cmp.Ordering.{Ordering}
 use Rattle.std.proofs.Common.{refl, sym, ◌∙◌, ap, subst}
 use Rattle.std.proofs.lemmas.Bool.{eq-eqb}
-use Rattle.flurry_bins.specs.declared.table.reply.KeptReply.{KeptReply}
+use Rattle.flurry_model.specs.declared.reply.KeptReply.{KeptReply}
 use Rattle.flurry_theory.specs.Map.{Pairs, after, Allows, CanBeRefused}
 use Rattle.flurry_theory.specs.Trace.{Trace, begun, decision, closed, replied, decided, pairs}
 use Rattle.flurry_theory.specs.Legal.{CallMay}
-use Rattle.flurry_theory.specs.declared.Call.{Call}
+use Rattle.flurry_model.specs.declared.call.Call.{Call}
 use Rattle.flurry_theory.specs.declared.Label.{Label}
 use Rattle.flurry_theory.specs.declared.Label.TheVariants as label
 use Rattle.flurry_world.proofs.StateLaws.{same_some}

@@ -13,15 +13,15 @@ use Rattle.flurry_steps.specs.Party.{Says, SaysEnded, SaysRefused, Said, Stage, 
 use Rattle.flurry_steps.specs.declared.party.Event.{Event}
 use Rattle.flurry_steps.specs.declared.party.Event.TheVariants as event
 use Rattle.flurry_steps.specs.declared.party.call.KeptCall.{KeptCall}
-use Rattle.flurry_bins.specs.declared.table.reply.KeptReply.{KeptReply}
+use Rattle.flurry_model.specs.declared.reply.KeptReply.{KeptReply}
 use Rattle.flurry_theory.specs.Map.{Pairs, same, after, Allows, CanBeRefused}
 use Rattle.flurry_theory.specs.Machine as machine
 use Rattle.flurry_theory.specs.Machine.{Mode, Locating, Done, Finished, WasPublished, Finds}
 use Rattle.flurry_theory.specs.Trace.{decision, replied, closed, pairs}
 use Rattle.flurry_theory.specs.Legal.{EachMay, CallMay}
 use Rattle.flurry_theory.specs.Invariant.{PartyOk, one_key}
-use Rattle.flurry_theory.specs.declared.Call.{Call}
-use Rattle.flurry_theory.specs.declared.Call.TheVariants as call
+use Rattle.flurry_model.specs.declared.call.Call.{Call}
+use Rattle.flurry_model.specs.declared.call.Call.TheVariants as call
 use Rattle.flurry_theory.specs.declared.Label.TheVariants as label
 use Rattle.flurry_world.specs.Entries.{slot_of}
 use Rattle.flurry_world.specs.Tables.{Tables, content_at}

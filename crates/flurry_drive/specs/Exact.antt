@@ -8,8 +8,8 @@ use Rattle.flurry_steps.specs.PartyView.{kept_stage}
 use Rattle.flurry_steps.specs.declared.party.call.KeptCall.{KeptCall}
 use Rattle.flurry_theory.specs.Map.{Pairs, key_of, after, Allows, CanBeRefused}
 use Rattle.flurry_theory.specs.Trace.{pairs}
-use Rattle.flurry_theory.specs.declared.Call.{Call}
-use Rattle.flurry_theory.specs.declared.Call.TheVariants as call
+use Rattle.flurry_model.specs.declared.call.Call.{Call}
+use Rattle.flurry_model.specs.declared.call.Call.TheVariants as call
 use Rattle.flurry_world.specs.Parts.{Parts}
 use Rattle.flurry_world.specs.Runs.{labelled}
 use Rattle.flurry_world.specs.Tables.{Tables}

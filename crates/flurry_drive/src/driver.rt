@@ -11,7 +11,7 @@ ghost use Rattle.flurry_theory.specs.Map.{Pairs};
 ghost use Rattle.flurry_world.specs.Parts.{OwnLends, OwnLacks, no_parts};
 ghost use Rattle.flurry_world.specs.Tables.{PlaceGives};
 
-use flurry_bins::hash::KeyHasher;
+use flurry_model::hash::KeyHasher;
 use flurry_slots::Change;
 use flurry_steps::party::{KeptCall, Reply};
 use flurry_steps::{Field, Party, act};

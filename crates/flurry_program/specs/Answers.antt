@@ -2,7 +2,7 @@
 use Rattle.std.specs.Prelude.{◌≡◌, ℕ, ◌⊎◌, List, [], ◌∷◌, ◌++◌, length, codes, Option, None, Some, MatchOption}
 use Rattle.std.specs.Fmt.{decimal}
 use Rattle.std.specs.Ordering.{nat_cmp}
-use Rattle.flurry_bins.specs.FiniteMap.{value_at, with_pair, without}
+use Rattle.flurry_model.specs.FiniteMap.{value_at, with_pair, without}
 use Rattle.flurry_program.specs.declared.command.Command.{Command}
 use Rattle.flurry_program.specs.declared.command.Command.TheVariants.{Insert, Try, Get, Remove, Len, Bins}
 use Rattle.flurry_program.specs.Commands.{text_of, IsCommand}

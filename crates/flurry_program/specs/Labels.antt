@@ -1,8 +1,8 @@
 -- Labels of a world, as text.
 use Rattle.std.specs.Prelude.{ℕ, true, false, List, ◌∷◌, ◌++◌, codes, None, Some}
 use Rattle.std.specs.Fmt.{decimal}
-use Rattle.flurry_bins.specs.declared.table.reply.KeptReply.{KeptReply}
-use Rattle.flurry_bins.specs.declared.table.reply.KeptReply.TheVariants.{Value, Pair, Contains, New, Exists}
+use Rattle.flurry_model.specs.declared.reply.KeptReply.{KeptReply}
+use Rattle.flurry_model.specs.declared.reply.KeptReply.TheVariants.{Value, Pair, Contains, New, Exists}
 use Rattle.flurry_theory.specs.declared.Label.{Label}
 use Rattle.flurry_theory.specs.declared.Label.TheVariants.{Begin, Decide, Reply, Refused, Wipe, Read, End, Opened, Placed, Moved, Published, Silent}
 use Rattle.flurry_program.specs.Answers.{option_text}

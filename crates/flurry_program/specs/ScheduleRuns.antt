@@ -2,7 +2,7 @@
 use Rattle.std.specs.Prelude.{◌≡◌, ℕ, List, [], ◌∷◌, ◌++◌, replicate, Option, None, Some}
 use Rattle.std.specs.Ordering.{nat_cmp}
 use Rattle.std.specs.Io.KnownBytes.{Appends}
-use Rattle.flurry_bins.specs.declared.hash.LowHashBuilder.{LowHashBuilder}
+use Rattle.flurry_model.specs.declared.hash.LowHashBuilder.{LowHashBuilder}
 use Rattle.flurry_slots.specs.declared.change.NoChange.{NoChange}
 use Rattle.flurry_steps.specs.declared.party.call.KeptCall.TheVariants as kept
 use Rattle.flurry_theory.specs.declared.Label.{Label}

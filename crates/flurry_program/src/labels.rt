@@ -5,7 +5,7 @@ ghost use Rattle.std.specs.Io.KnownBytes.{Appends};
 ghost use Rattle.flurry_program.specs.Labels.{label_text, reply_text};
 
 use crate::streams::Sink;
-use flurry_bins::table::KeptReply;
+use flurry_model::reply::KeptReply;
 use flurry_theory::Label;
 use std::io;
 

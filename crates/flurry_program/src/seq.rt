@@ -11,7 +11,7 @@ use crate::ends::bad_line;
 use crate::parse::parse;
 use crate::script::{Script, run_lines};
 use crate::streams::{Sink, Source};
-use flurry_bins::hash::LowHashBuilder;
+use flurry_model::hash::LowHashBuilder;
 use flurry_seq::SeqMap;
 use std::alloc::Allocator;
 use std::io;

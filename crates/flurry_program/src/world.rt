@@ -17,7 +17,7 @@ use crate::labels::write_label;
 use crate::schedule::{Line, parse_line};
 use crate::script::{Script, run_lines};
 use crate::streams::{Sink, Source};
-use flurry_bins::hash::LowHashBuilder;
+use flurry_model::hash::LowHashBuilder;
 use flurry_slots::{Change, NoChange};
 use flurry_steps::party::KeptCall;
 use flurry_world::World;

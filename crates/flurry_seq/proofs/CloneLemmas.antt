@@ -3,8 +3,8 @@ use Rattle.std.proofs.Common.{◌≡◌, ℕ, Bool, true, false, cond, List, [],
 use Rattle.std.specs.Ordering.{is_eq}
 use Rattle.std.specs.Cmp.{IsTotalOrder, tied_back}
 use Rattle.std.specs.List.{AllByRecursion}
-use Rattle.flurry_bins.specs.FiniteMap.{IsFiniteMap, pair_at, with_pair, gathered}
-use Rattle.flurry_bins.proofs.FiniteMapLaws.{IsFiniteMap-nil, IsFiniteMap-with_pair, IsFiniteMap-gathered, pair_at-with_pair, pair_at-gathered, same_map}
+use Rattle.flurry_model.specs.FiniteMap.{IsFiniteMap, pair_at, with_pair, gathered}
+use Rattle.flurry_model.proofs.FiniteMapLaws.{IsFiniteMap-nil, IsFiniteMap-with_pair, IsFiniteMap-gathered, pair_at-with_pair, pair_at-gathered, same_map}
 use Rattle.flurry_seq.specs.Table.{pair_of}
 use Rattle.flurry_seq.specs.Apart.{AreApart, AreHashed}
 

@@ -11,15 +11,15 @@ use Rattle.std.proofs.lemmas.List.{get_or-append_right, length-append, length-ma
 use Rattle.std.proofs.lemmas.Map.Lookups.{exact_unsigned}
 use Rattle.std.proofs.lemmas.Nat.{mod-mul-add, div-add-mod', mod_below}
 use Rattle.std.proofs.Math.ListN.{get_or-append, get_or-map}
-use Rattle.flurry_bins.specs.Sizes.{wanted_of}
+use Rattle.flurry_model.specs.Sizes.{wanted_of}
 use Rattle.std.specs.Int.Digits.{digits_of}
 use Rattle.std.proofs.lemmas.Int.Digits.{length-digits_of-le}
-use Rattle.flurry_bins.proofs.SizeLaws.{wanted_of-less, wanted_of-most}
-use Rattle.flurry_bins.specs.FiniteMap.{pair_at, gathered}
-use Rattle.flurry_bins.specs.PlainEntries.{hash_then_key}
+use Rattle.flurry_model.proofs.SizeLaws.{wanted_of-less, wanted_of-most}
+use Rattle.flurry_model.specs.FiniteMap.{pair_at, gathered}
+use Rattle.flurry_model.specs.HashOrder.{hash_then_key}
 use Rattle.flurry_seq.specs.Table.{bin_of, is_low, is_in_half, half_of}
-use Rattle.flurry_bins.proofs.FiniteMapLaws.{IsFiniteMap-gathered, IsFiniteMap-filter, IsFiniteMap-nil, same_map}
-use Rattle.flurry_bins.proofs.Places.{hash_then_key_total}
+use Rattle.flurry_model.proofs.FiniteMapLaws.{IsFiniteMap-gathered, IsFiniteMap-filter, IsFiniteMap-nil, same_map}
+use Rattle.flurry_model.proofs.HashOrderLaws.{hash_then_key_total}
 use Rattle.flurry_seq.specs.Table.{pair_of, all_pairs, entry_in, bins_doubled, bins_with}
 use Rattle.flurry_seq.specs.Contents.{first_bins}
 use Rattle.std.specs.Prelude.{◌==◌}

@@ -6,10 +6,12 @@ use Rattle.std.proofs.lemmas.List.Sorted.{length_permutation}
 use Rattle.std.proofs.lemmas.List.{length-append, length-map, get_or-map, map-set}
 use Rattle.flurry_bins.specs.declared.bin.choice.Bin.{Bin}
 use Rattle.flurry_bins.specs.Bin.{entries_of_bin}
-use Rattle.flurry_bins.specs.FiniteMap.{gathered}
-use Rattle.flurry_bins.specs.PlainEntries.{hash_then_key, plain}
-use Rattle.flurry_bins.specs.Keeping.{Keeps, CalledAtPair, CalledAtEntry}
-use Rattle.flurry_bins.proofs.KeepingLaws.{Keeps-length, Keeps-all, Keeps-map, Keeps-append, Keeps-finite_map}
+use Rattle.flurry_model.specs.FiniteMap.{gathered}
+use Rattle.flurry_model.specs.HashOrder.{hash_then_key}
+use Rattle.flurry_bins.specs.PlainEntries.{plain}
+use Rattle.flurry_model.specs.Keeping.{Keeps, CalledAtPair}
+use Rattle.flurry_bins.specs.Keeping.{CalledAtEntry}
+use Rattle.flurry_model.proofs.KeepingLaws.{Keeps-length, Keeps-all, Keeps-map, Keeps-append, Keeps-finite_map}
 use Rattle.flurry_seq.specs.Retain.{CalledAtPlain, KeepsBins}
 use Rattle.flurry_seq.specs.Seen.{plain_bin, seen}
 use Rattle.flurry_seq.specs.Table.{pair_of, all_pairs, bin_of}

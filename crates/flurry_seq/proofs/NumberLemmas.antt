@@ -6,7 +6,7 @@ use Rattle.std.specs.Arc.{arc_value}
 use Rattle.std.specs.declared.sync.Arc.{Arc}
 use Rattle.flurry_bins.specs.declared.bin.entry.Entry.{Entry}
 use Rattle.flurry_bins.specs.Entries.{is_at, is_before, is_past, placed, replaced, with_value}
-use Rattle.flurry_bins.proofs.Sides.{all_append}
+use Rattle.flurry_model.proofs.ListParts.{all_append}
 use Rattle.flurry_seq.specs.Numbers.{BearZero}
 
 module _ {X : Type 0} (P : X → Type 0) where

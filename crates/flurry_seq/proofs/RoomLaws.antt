@@ -11,9 +11,9 @@ use Rattle.std.proofs.lemmas.Int.Digits.{number_digits_of, number_lt, all_below_
 use Rattle.std.proofs.lemmas.Nat.{pow_pos, pow-add}
 use Rattle.std.proofs.Math.Nat.{le-mul_of_pos_right}
 use Rattle.std.proofs.Math.Pow.{pow_mono}
-use Rattle.flurry_bins.specs.Kind.{asks_for_growth}
-use Rattle.flurry_bins.specs.Sizes.{wanted_of, threshold_of, IsTooSmall, IsOnTheWay}
-use Rattle.flurry_bins.proofs.SizeLaws.{wanted_of-less, wanted_of-most}
+use Rattle.flurry_model.specs.BinSizes.{asks_for_growth}
+use Rattle.flurry_model.specs.Sizes.{wanted_of, threshold_of, IsTooSmall, IsOnTheWay}
+use Rattle.flurry_model.proofs.SizeLaws.{wanted_of-less, wanted_of-most}
 use Rattle.flurry_seq.specs.Contents.{first_bins}
 use Rattle.flurry_seq.specs.Growth.{bins_for, IsTableFrom, IsTableAfter, HasRoom}
 use Rattle.flurry_seq.specs.Invariant.{IsTableSize}

@@ -10,14 +10,15 @@ use Rattle.std.proofs.Math.Pow.{pow_mono}
 use Rattle.std.proofs.lemmas.Nat.{pow_pos}
 use Rattle.flurry_bins.specs.declared.bin.choice.Bin.{Bin}
 use Rattle.flurry_bins.specs.Bin.{entries_of_bin, ascending_of_bin, is_tree, shape_by, shape_of_bin, sized_of_bin}
-use Rattle.flurry_bins.specs.Kind.{IsSized}
+use Rattle.flurry_model.specs.BinSizes.{IsSized}
 use Rattle.flurry_seq.specs.Shapes.{count_in, IsFit}
 use Rattle.std.specs.Prelude.{◌==◌, Bool}
 use Rattle.std.proofs.lemmas.Bool.Decides.{nat_tests}
 use Rattle.flurry_bins.specs.declared.bin.entry.Entry.{Entry}
 use Rattle.flurry_bins.specs.Entries.{entry_at, placed, replaced, without as without_place, with_bit}
-use Rattle.flurry_bins.specs.FiniteMap.{pair_at, with_pair, without}
-use Rattle.flurry_bins.specs.PlainEntries.{hash_then_key, plain, plain_all}
+use Rattle.flurry_model.specs.FiniteMap.{pair_at, with_pair, without}
+use Rattle.flurry_model.specs.HashOrder.{hash_then_key}
+use Rattle.flurry_bins.specs.PlainEntries.{plain, plain_all}
 use Rattle.flurry_bins.proofs.PlainEntryLaws.{plain-entry_at, plain-without, plain-placed, plain-replaced, plain-with_bit}
 use Rattle.flurry_seq.specs.Invariant.{IsTableSize}
 use Rattle.flurry_seq.specs.Seen.{plain_bin, seen}

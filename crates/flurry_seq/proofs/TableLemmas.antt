@@ -8,14 +8,15 @@ use Rattle.std.proofs.Math.ListN.{length-set}
 use Rattle.std.proofs.lemmas.List.{get_or-set_other}
 use Rattle.std.proofs.lemmas.Grind.{get_or-set_at}
 use borrow.Author.Tests.{eqb-true, eqb-false}
-use Rattle.flurry_bins.specs.FiniteMap.{pair_at, with_pair, without, stored_key, gathered}
+use Rattle.flurry_model.specs.FiniteMap.{pair_at, with_pair, without, stored_key, gathered}
 use Rattle.std.specs.Borrow.{Bor}
 use Rattle.std.specs.Arc.{arc_value}
 use Rattle.flurry_bins.specs.declared.bin.entry.Entry.{Entry}
-use Rattle.flurry_bins.specs.PlainEntries.{hash_then_key, plain}
+use Rattle.flurry_model.specs.HashOrder.{hash_then_key}
+use Rattle.flurry_bins.specs.PlainEntries.{plain}
 use Rattle.flurry_seq.specs.Table.{bin_of}
-use Rattle.flurry_bins.proofs.FiniteMapLaws.{length-with_pair, length-without, found_in, pair_at-with_pair, pair_at-without, IsFiniteMap-with_pair, IsFiniteMap-without, IsFiniteMap-gathered, pair_at-gathered, same_map}
-use Rattle.flurry_bins.proofs.Places.{hash_then_key_total}
+use Rattle.flurry_model.proofs.FiniteMapLaws.{length-with_pair, length-without, found_in, pair_at-with_pair, pair_at-without, IsFiniteMap-with_pair, IsFiniteMap-without, IsFiniteMap-gathered, pair_at-gathered, same_map}
+use Rattle.flurry_model.proofs.HashOrderLaws.{hash_then_key_total}
 use Rattle.flurry_seq.specs.Table.{pair_of, all_pairs, bin_at, entry_in, bins_with, bins_without}
 use Rattle.flurry_seq.specs.Invariant.{IsBinAt, AreBinsFrom, IsTable}
 

@@ -1,6 +1,6 @@
 -- How many bins a table may have after keys were put.
 use Rattle.std.specs.Prelude.{◌≡◌, ℕ, ◌+◌, ◌^◌, ◌<◌, ◌≤◌, ◌⊎◌, ◌==◌, if◌then◌else◌}
-use Rattle.flurry_bins.specs.Sizes.{wanted_of, threshold_of, IsOnTheWay}
+use Rattle.flurry_model.specs.Sizes.{wanted_of, threshold_of, IsOnTheWay}
 
 -- the bins that a table has which is made for so many pairs; none for none
 abbrev pub bins_for : ℕ → ℕ

@@ -2,8 +2,8 @@
 use Rattle.std.specs.Prelude.{◌≡◌, ℕ, suc, ◌≤◌, ◌^◌, ◌⊎◌, List, [], ◌∷◌, length}
 use Rattle.std.specs.declared.cmp.Ordering.{Ordering}
 use Rattle.std.specs.List.{AllByRecursion}
-use Rattle.flurry_bins.specs.FiniteMap.{IsFiniteMap, gathered}
-use Rattle.flurry_bins.specs.PlainEntries.{hash_then_key}
+use Rattle.flurry_model.specs.FiniteMap.{IsFiniteMap, gathered}
+use Rattle.flurry_model.specs.HashOrder.{hash_then_key}
 use Rattle.flurry_seq.specs.Table.{all_pairs, bin_of}
 
 module _ {K V : Type 0} (cmp : K → K → Ordering) (hash : K → ℕ) where

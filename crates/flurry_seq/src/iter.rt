@@ -3,7 +3,7 @@ ghost use Rattle.std.specs.Prelude.{◌≡◌, length, map, IfSome, IsPermutatio
 ghost use Rattle.std.specs.Iterator.{YieldsFirstBy, UpTo, at_most, item_count};
 ghost use Rattle.std.specs.Iterator.SizeHint.{IsWithinCount};
 ghost use Rattle.flurry_bins.specs.Entries.{lent_bound};
-ghost use Rattle.flurry_bins.specs.FiniteMap.{IsFiniteMap, gathered};
+ghost use Rattle.flurry_model.specs.FiniteMap.{IsFiniteMap, gathered};
 ghost use Rattle.flurry_bins.specs.PlainEntries.{plain};
 ghost use Rattle.flurry_seq.specs.Iter.{pair_of_item, value_of_item, place_of};
 ghost use Rattle.flurry_seq.specs.Table.{all_entries, pair_of};
@@ -12,7 +12,7 @@ ghost use Rattle.flurry_seq.specs.Seen.{seen};
 
 use crate::seq_map::SeqMap;
 use flurry_bins::bin::{Bin, Entry, Ordered};
-use flurry_bins::hash::KeyHasher;
+use flurry_model::hash::KeyHasher;
 use std::alloc::{Allocator, Global};
 use std::marker::Model;
 use std::sync::Arc;

@@ -4,9 +4,9 @@ ghost use Rattle.std.specs.Option.{option_map, ForSome};
 ghost use Rattle.std.specs.Arc.{arc_value};
 ghost use Rattle.std.specs.Borrow.{Bor};
 ghost use Rattle.flurry_bins.specs.Chain.{entry_of};
-ghost use Rattle.flurry_bins.specs.FiniteMap.{IsFiniteMap, pair_at, value_at, with_pair, with_all, without};
-ghost use Rattle.flurry_bins.specs.Hashing.{seed_of};
-ghost use Rattle.flurry_bins.specs.Sizes.{wanted_of, threshold_of, IsOnTheWay, IsGrown};
+ghost use Rattle.flurry_model.specs.FiniteMap.{IsFiniteMap, pair_at, value_at, with_pair, with_all, without};
+ghost use Rattle.flurry_model.specs.Hashing.{seed_of};
+ghost use Rattle.flurry_model.specs.Sizes.{wanted_of, threshold_of, IsOnTheWay, IsGrown};
 ghost use Rattle.flurry_seq.specs.Growth.{bins_for, IsTableFrom, IsTableAfter, HasRoom};
 ghost use Rattle.flurry_seq.specs.HandedOut.{AreBinsOf};
 ghost use Rattle.flurry_seq.specs.Callable.{IsCallableAt};
@@ -21,7 +21,7 @@ mod keeping;
 
 use crate::table::Table;
 use flurry_bins::bin::{Bin, Entry, Node, Shape};
-use flurry_bins::hash::{DefaultHashBuilder, KeyHasher};
+use flurry_model::hash::{DefaultHashBuilder, KeyHasher};
 use flurry_bins::table::{MOST_BINS, TryInsertError, threshold, two_owners, wanted};
 use std::alloc::{AllocError, Allocator, Global};
 use std::hash::Hash;
@@ -50,7 +50,7 @@ pub struct SeqMap<K: Ord, V, S: KeyHasher<K> = DefaultHashBuilder, A: Allocator 
 
 impl<K: Ord, V, S: KeyHasher<K>, A: Allocator> Model for SeqMap<K, V, S, A> {
     ghost use Rattle.std.specs.Prelude.{length};
-    ghost use Rattle.flurry_bins.specs.FiniteMap.{gathered};
+    ghost use Rattle.flurry_model.specs.FiniteMap.{gathered};
     ghost use Rattle.flurry_seq.specs.Contents.{Contents, contents, contents_code};
     ghost use Rattle.flurry_seq.specs.Table.{all_pairs};
     ghost use Rattle.flurry_seq.specs.Invariant.{IsTable};

@@ -11,10 +11,10 @@ use Rattle.std.specs.Map.{keys_of}
 use Rattle.std.specs.List.{AllByRecursion, list_all}
 use Rattle.std.proofs.lemmas.List.Sorted.{IsPermutation-map}
 use Rattle.std.proofs.lemmas.Map.Keys.{sorted_head, sorted_tail}
-use Rattle.flurry_bins.specs.FiniteMap.{IsFiniteMap, pair_at, value_at, with_pair, without, gathered}
-use Rattle.flurry_bins.specs.FiniteSet.{element_at, with_element, with_elements, without_element, gathered_elements, IsSubset, AreDisjoint}
-use Rattle.flurry_bins.specs.Keeping.{Keeps, CalledAtPair}
-use Rattle.flurry_bins.proofs.FiniteMapLaws.{below_all, alike_all, pair_at_below, IsFiniteMap-with_pair, IsFiniteMap-gathered}
+use Rattle.flurry_model.specs.FiniteMap.{IsFiniteMap, pair_at, value_at, with_pair, without, gathered}
+use Rattle.flurry_model.specs.FiniteSet.{element_at, with_element, with_elements, without_element, gathered_elements, IsSubset, AreDisjoint}
+use Rattle.flurry_model.specs.Keeping.{Keeps, CalledAtPair}
+use Rattle.flurry_model.proofs.FiniteMapLaws.{below_all, alike_all, pair_at_below, IsFiniteMap-with_pair, IsFiniteMap-gathered}
 use Rattle.flurry_seq.specs.Contents.{Contents}
 use Rattle.flurry_seq.specs.Equality.{pair_eq}
 use Rattle.flurry_seq.specs.Retain.{Retains}

@@ -4,8 +4,8 @@ use Rattle.std.specs.declared.cmp.Ordering.{Ordering}
 use Rattle.std.specs.Arc.{arc_value}
 use Rattle.std.specs.Borrow.{Bor}
 use Rattle.std.specs.List.Sorted.{IsPermutation}
-use Rattle.flurry_bins.specs.FiniteSet.{element_at, with_element, with_elements, without_element, IsSubset, AreDisjoint}
-use Rattle.flurry_bins.specs.Sizes.{IsGrown}
+use Rattle.flurry_model.specs.FiniteSet.{element_at, with_element, with_elements, without_element, IsSubset, AreDisjoint}
+use Rattle.flurry_model.specs.Sizes.{IsGrown}
 use Rattle.flurry_seq.specs.Contents.{first_bins, IsLeftByReserve}
 use Rattle.flurry_set.specs.SetRetain.{RetainsElements}
 use Rattle.flurry_set.specs.SetContents.{SetContents, SameElements, holding, asked_for, sets_eq}

@@ -6,7 +6,7 @@ use Rattle.std.specs.Ordering.{eq_by_cmp}
 use Rattle.std.specs.Cmp.{IsTotalOrder, IsPartialEquivalence, IsEquivalence, eq_by_cmp_equiv, partial_equiv_from_equiv, on_per, on_equiv}
 use Rattle.std.specs.Cmp.Lexicographic.{pointwise, lists_per, lists_equiv}
 use Rattle.std.specs.Map.{keys_of}
-use Rattle.flurry_bins.specs.Sizes.{wanted_of}
+use Rattle.flurry_model.specs.Sizes.{wanted_of}
 use Rattle.flurry_seq.specs.Contents.{Contents}
 
 -- the elements, which are a finite set; the number of bins, 0 without a table; and the hasher

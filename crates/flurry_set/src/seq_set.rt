@@ -2,9 +2,9 @@
 ghost use Rattle.std.specs.Prelude.{◌≡◌, ℕ, ◌+◌, ◌≤◌, ◌^◌, ◌↔◌, ◌++◌, [], List, length, OnOk, OnErr, IfOk, IsTrue, IsSome, is_some, is_none, not, ◌==◌, if◌then◌else◌, IsPermutation};
 ghost use Rattle.std.specs.Option.{option_map};
 ghost use Rattle.std.specs.Arc.{arc_value};
-ghost use Rattle.flurry_bins.specs.FiniteSet.{IsFiniteSet, element_at, with_element, with_elements, without_element, IsSubset, AreDisjoint};
-ghost use Rattle.flurry_bins.specs.Hashing.{seed_of};
-ghost use Rattle.flurry_bins.specs.Sizes.{wanted_of, IsGrown};
+ghost use Rattle.flurry_model.specs.FiniteSet.{IsFiniteSet, element_at, with_element, with_elements, without_element, IsSubset, AreDisjoint};
+ghost use Rattle.flurry_model.specs.Hashing.{seed_of};
+ghost use Rattle.flurry_model.specs.Sizes.{wanted_of, IsGrown};
 ghost use Rattle.flurry_seq.specs.Contents.{first_bins, IsLeftByReserve};
 ghost use Rattle.flurry_seq.specs.Growth.{bins_for, IsTableFrom, IsTableAfter, HasRoom};
 ghost use Rattle.flurry_set.specs.SetContents.{set_contents, holding, SameElements, asked_for, sets_eq, sets_eq_per, sets_eq_equiv};

@@ -10,14 +10,17 @@ use Rattle.std.proofs.lemmas.List.{length-map}
 use Rattle.flurry_bins.specs.declared.bin.choice.Bin.{Bin}
 use Rattle.flurry_bins.specs.declared.bin.entry.Entry.{Entry}
 use Rattle.flurry_bins.specs.Bin.{entries_of_bin, ascending_of_bin, sized_of_bin, is_tree}
-use Rattle.flurry_bins.specs.Kind.{IsSized, grows_into_tree}
+use Rattle.flurry_model.specs.BinSizes.{IsSized, grows_into_tree}
 use Rattle.flurry_bins.specs.Entries.{entry_at, placed, replaced, without as without_place, with_bit}
-use Rattle.flurry_bins.specs.FiniteMap.{with_pair, without}
+use Rattle.flurry_model.specs.FiniteMap.{with_pair, without}
 use Rattle.flurry_slots.specs.LiveView.{live_of}
-use Rattle.flurry_bins.specs.PlainEntries.{hash_then_key, numbered, numbered_all}
-use Rattle.flurry_bins.specs.Region.{InRegion, AllInRegion}
+use Rattle.flurry_model.specs.HashOrder.{hash_then_key}
+use Rattle.flurry_bins.specs.PlainEntries.{numbered, numbered_all}
+use Rattle.flurry_model.specs.HashOrder.{InRegion}
+use Rattle.flurry_bins.specs.PlainEntries.{AllInRegion}
 use Rattle.flurry_slots.specs.Slot.{Held, Live, IsLiveIn, entry_of_live, written, taken, half, next_number}
-use Rattle.flurry_bins.proofs.PlainEntryLaws.{absent_is, paired-entry_at, paired-without, paired-placed, paired-replaced, paired-with_bit, paired-ascending, paired-region}
+use Rattle.flurry_model.proofs.OptionLaws.{absent_is}
+use Rattle.flurry_bins.proofs.PlainEntryLaws.{paired-entry_at, paired-without, paired-placed, paired-replaced, paired-with_bit, paired-ascending, paired-region}
 
 -- what a slot sees of an entry beside its place
 abbrev pub value_and_number : {K V A : Type 0} → Entry K V A → V × ℕ

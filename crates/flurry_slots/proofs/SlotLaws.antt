@@ -4,15 +4,15 @@ use Rattle.std.specs.declared.cmp.Ordering.{Ordering}
 use Rattle.std.specs.Cmp.{IsTotalOrder}
 use Rattle.std.specs.List.{AllByRecursion}
 use Rattle.std.specs.Map.{keys_of}
-use Rattle.flurry_bins.specs.FiniteMap.{IsFiniteMap, pair_at, without}
-use Rattle.flurry_bins.specs.PlainEntries.{hash_then_key}
-use Rattle.flurry_bins.specs.Kind.{IsSized, grows_into_tree}
-use Rattle.flurry_bins.specs.Region.{InRegion}
+use Rattle.flurry_model.specs.FiniteMap.{IsFiniteMap, pair_at, without}
+use Rattle.flurry_model.specs.HashOrder.{hash_then_key}
+use Rattle.flurry_model.specs.BinSizes.{IsSized, grows_into_tree}
+use Rattle.flurry_model.specs.HashOrder.{InRegion}
 use Rattle.flurry_slots.specs.Slot.{Held, Live, Outcome, WasAbsent, WasRemoved, WasChanged, Computes, IsLiveIn, entry_of_live, written, taken, shrunk, half, wiped, added, taken_if, is_unwritten_since}
-use Rattle.flurry_bins.proofs.BinSizes.{IsSized-kept, IsSized-put, filter_no_longer}
-use Rattle.flurry_bins.proofs.RegionLaws.{region_low, region_high}
-use Rattle.flurry_bins.proofs.Places.{hash_then_key_total}
-use Rattle.flurry_bins.proofs.FiniteMapLaws.{IsFiniteMap-with_pair, IsFiniteMap-without, IsFiniteMap-filter, length-with_pair, length-without, IsFiniteMap-nil, all_with_pair, all_without}
+use Rattle.flurry_model.proofs.BinSizeLaws.{IsSized-kept, IsSized-put, filter_no_longer}
+use Rattle.flurry_model.proofs.RegionLaws.{region_low, region_high}
+use Rattle.flurry_model.proofs.HashOrderLaws.{hash_then_key_total}
+use Rattle.flurry_model.proofs.FiniteMapLaws.{IsFiniteMap-with_pair, IsFiniteMap-without, IsFiniteMap-filter, length-with_pair, length-without, IsFiniteMap-nil, all_with_pair, all_without}
 
 -- what a test and the place before tell of each key
 all_tested : {K W : Type 0} (P Q : K → Type 0) (test : K × W → Bool) (m : List (K × W)) → ((x : K × W) → test x ≡ true → P x.0 → Q x.0) → AllByRecursion P (keys_of m) → AllByRecursion Q (keys_of (filter test m))

@@ -3,7 +3,7 @@ use Rattle.std.specs.Prelude.{ℕ, Bool, Option, Result, Ok, Err, ⊤}
 use Rattle.std.specs.Option.{option_map}
 use Rattle.std.specs.Arc.{arc_value}
 use Rattle.flurry_bins.specs.declared.bin.choice.Bin.{Bin}
-use Rattle.flurry_bins.specs.declared.table.try_insert.TryInsertError.{TryInsertError}
+use Rattle.flurry_model.specs.declared.try_insert.TryInsertError.{TryInsertError}
 use Rattle.flurry_slots.specs.declared.live.Written.{Written}
 use Rattle.flurry_slots.specs.declared.live.Added.{Added}
 use Rattle.flurry_slots.specs.declared.live.Computed.{Computed}

@@ -5,10 +5,10 @@ use Rattle.std.specs.Option.{option_map, option_map_or}
 use Rattle.std.specs.List.{AllByRecursion, find, filter}
 use Rattle.std.specs.Map.{keys_of}
 use Rattle.std.specs.Int.{bit_at}
-use Rattle.flurry_bins.specs.FiniteMap.{IsFiniteMap, pair_at, with_pair, without}
-use Rattle.flurry_bins.specs.PlainEntries.{hash_then_key, is_held_past}
-use Rattle.flurry_bins.specs.Kind.{IsSized, grows_into_tree, asks_for_growth}
-use Rattle.flurry_bins.specs.Region.{InRegion}
+use Rattle.flurry_model.specs.FiniteMap.{IsFiniteMap, pair_at, with_pair, without}
+use Rattle.flurry_model.specs.HashOrder.{hash_then_key, is_held_past}
+use Rattle.flurry_model.specs.BinSizes.{IsSized, grows_into_tree, asks_for_growth}
+use Rattle.flurry_model.specs.HashOrder.{InRegion}
 
 -- an entry: at a hash and a key, the value and the number of its write
 abbrev pub Held : Type 0 → Type 0 → Type 0

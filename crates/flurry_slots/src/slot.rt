@@ -3,10 +3,10 @@ ghost use Rattle.std.specs.Prelude.{◌≡◌, ℕ, ◌+◌, ◌^◌, ◌<◌, �
 ghost use Rattle.std.specs.Option.{option_map};
 ghost use Rattle.flurry_bins.specs.Bin.{entries_of_bin};
 ghost use Rattle.flurry_bins.specs.Entries.{lent_bound};
-ghost use Rattle.flurry_bins.specs.Greatest.{greatest};
+ghost use Rattle.flurry_model.specs.Greatest.{greatest};
 ghost use Rattle.flurry_slots.specs.LiveView.{live_of, written_view, added_view, outcome, IfAbsent};
 ghost use Rattle.flurry_bins.specs.PlainEntries.{numbered};
-ghost use Rattle.flurry_bins.specs.Region.{AllInRegion};
+ghost use Rattle.flurry_bins.specs.PlainEntries.{AllInRegion};
 ghost use Rattle.flurry_slots.specs.Slot.{Place, IsLive, HasMoved, IsUnborn, IsSlot, LiesIn, IfLive, place_with, entry_of_live, next_of_live, written, written_reply, added, added_reply, taken, taken_if, taken_if_reply, wiped, Computes, ComputesInVain, HasMovedInto, Clashes};
 ghost use Rattle.flurry_slots.specs.SlotView.{place_of, answer_with, answer_map, IfHere, IfAway, IsAway, IfDone, IfAlready, IfClash, IfNotDone};
 
@@ -14,7 +14,7 @@ use crate::change::Change;
 use crate::clones::{Cloning, NoCloning};
 use crate::live::{Added, Computed, LiveBin, Written};
 use flurry_bins::bin::{Bin, Entry};
-use flurry_bins::table::TryInsertError;
+use flurry_model::try_insert::TryInsertError;
 use std::alloc::{AllocError, Allocator, Global};
 use std::marker::Model;
 use std::mem;

@@ -6,8 +6,8 @@ use Rattle.std.proofs.lemmas.Int.Digits.{length-digits_of-le}
 use Rattle.std.proofs.lemmas.Nat.{pow_pos}
 use Rattle.std.proofs.Math.Nat.{pow-suc}
 use Rattle.std.proofs.Math.Pow.{pow_mono}
-use Rattle.flurry_bins.specs.Sizes.{wanted_of}
-use Rattle.flurry_bins.proofs.SizeLaws.{wanted_of-less, wanted_of-most}
+use Rattle.flurry_model.specs.Sizes.{wanted_of}
+use Rattle.flurry_model.proofs.SizeLaws.{wanted_of-less, wanted_of-most}
 
 -- a power of two between a power of two and twice that is the lower one
 same_power : (r e : ℕ) → 2 ^ r ≤ 2 ^ e → 2 ^ e < 2 * 2 ^ r → r ≡ e

@@ -2,7 +2,7 @@
 use Rattle.std.specs.Prelude.{◌≡◌, ℕ, ℤ, pos, negsuc, ◌+◌, ◌-◌, ◌+ℤ◌, ◌^◌, ◌<◌, ◌≤◌, ◌==◌, ◌&&◌, nat_lt, nat_le, Bool, true, false, if◌then◌else◌, Option, Some, None, Result, Ok, MatchOption, MatchResult}
 use Rattle.std.specs.Int.{saturate_signed, w64}
 use Rattle.std.specs.declared.alloc.AllocError.{AllocError}
-use Rattle.flurry_bins.specs.Sizes.{threshold_of, stride_of}
+use Rattle.flurry_model.specs.Sizes.{threshold_of, stride_of}
 use Rattle.flurry_steps.specs.declared.control.Advice.{Advice}
 use Rattle.flurry_steps.specs.declared.control.Advice.TheVariants.{Enough, Join, Begin}
 use Rattle.flurry_steps.specs.declared.control.Started.{Started}

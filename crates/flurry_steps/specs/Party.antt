@@ -1,10 +1,10 @@
 -- A call of a shared map in progress, as plain data.
 use Rattle.std.specs.Prelude.{◌≡◌, ℕ, ◌-◌, ◌%◌, ◌^◌, ◌≤◌, Bool, true, false, Option, Some, None, is_some, ⊤}
 use Rattle.std.specs.Option.{option_map}
-use Rattle.flurry_bins.specs.Sizes.{wanted_of}
+use Rattle.flurry_model.specs.Sizes.{wanted_of}
 use Rattle.flurry_slots.specs.Slot.{Held}
-use Rattle.flurry_bins.specs.declared.table.reply.KeptReply.{KeptReply}
-use Rattle.flurry_bins.specs.declared.table.reply.KeptReply.TheVariants.{Value, Pair, Contains}
+use Rattle.flurry_model.specs.declared.reply.KeptReply.{KeptReply}
+use Rattle.flurry_model.specs.declared.reply.KeptReply.TheVariants.{Value, Pair, Contains}
 use Rattle.flurry_steps.specs.Claim.{Range, next_of}
 
 -- what of the entry of a key a call answers: its value, the stored key and the value, or whether there is one

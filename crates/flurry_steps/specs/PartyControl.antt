@@ -1,6 +1,6 @@
 -- What a step of a call is at the control.
 use Rattle.std.specs.Prelude.{◌≡◌, ℕ, pos, negsuc, ◌+◌, ◌-◌, ◌^◌, min, Bool, true, false, Option, Some, None, MatchOption}
-use Rattle.flurry_bins.specs.declared.table.reply.KeptReply.TheVariants.{Value}
+use Rattle.flurry_model.specs.declared.reply.KeptReply.TheVariants.{Value}
 use Rattle.flurry_steps.specs.Control.{Board, claim_of, claimed, report_of, reported, counted, advice_of, count_of, opened, BeginGives, grows_from}
 use Rattle.flurry_steps.specs.Party.{Task, Finds, Removes, Inserts, Adds, Computes, Said, Says, SaysEnded, SaysRefused, Growing, ForInsert, ForReserve, ThenRecount, ThenGrow, Stage, AtLocate, AtBin, AtClaim, AtMove, AtUncount, AtCount, AtRecount, AtBegin, AtGrow, AtReserve, AtDone, Course, told, resumed, IsTableFor}
 use Rattle.flurry_steps.specs.declared.party.Event.{Event}

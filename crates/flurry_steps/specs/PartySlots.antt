@@ -3,7 +3,7 @@ use Rattle.std.specs.Prelude.{◌≡◌, ℕ, ◌+◌, ◌*◌, ◌^◌, Bool, t
 use Rattle.std.specs.declared.cmp.Ordering.{Ordering}
 use Rattle.flurry_slots.specs.Slot as slot
 use Rattle.flurry_slots.specs.Slot.{Held, Live, Content, IsLive, HasMoved, IsUnborn, Place, Outcome, WasAbsent, WasRemoved, WasChanged, entry_of_live, written, written_reply, added, added_reply, taken, ComputesInVain, HasMovedInto, Clashes}
-use Rattle.flurry_bins.specs.declared.table.reply.KeptReply.TheVariants.{Value, New, Exists}
+use Rattle.flurry_model.specs.declared.reply.KeptReply.TheVariants.{Value, New, Exists}
 use Rattle.flurry_steps.specs.Claim.{moved_on}
 use Rattle.flurry_steps.specs.Party.{Sought, Presence, Task, Finds, Removes, Inserts, Adds, Computes, Said, Says, SaysRefused, ForInsert, ThenBin, Stage, AtLocate, AtBin, AtClaim, AtMove, AtUncount, AtCount, AtGrow, AtDone, Course, told, with_stage, IsTableFor}
 use Rattle.flurry_steps.specs.declared.party.Event.{Event}

@@ -3,7 +3,7 @@ use Rattle.std.specs.Prelude.{⊤}
 use Rattle.std.specs.Option.{option_map}
 use Rattle.std.specs.Arc.{arc_value}
 use Rattle.std.specs.declared.sync.Arc.{Arc}
-use Rattle.flurry_bins.specs.declared.table.reply.KeptReply.TheVariants as kept
+use Rattle.flurry_model.specs.declared.reply.KeptReply.TheVariants as kept
 use Rattle.flurry_steps.specs.Party as abstract
 use Rattle.flurry_steps.specs.Party.{Course, Part, ControlPart, LookPart, BinPart, MovePart, NoPart, Said, Says, SaysEnded, SaysRefused}
 use Rattle.flurry_steps.specs.declared.party.call.Key.{Key}

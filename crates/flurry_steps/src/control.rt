@@ -1,6 +1,6 @@
 //! What the calls on a shared map agree upon: the published table, the growth that runs, and the count of pairs.
 ghost use Rattle.std.specs.Prelude.{◌≡◌, ℕ, ◌^◌, ◌<◌, ◌≤◌, pos, IfSome, IfOk, None};
-ghost use Rattle.flurry_bins.specs.Sizes.{wanted_of};
+ghost use Rattle.flurry_model.specs.Sizes.{wanted_of};
 ghost use Rattle.flurry_steps.specs.Claim.{IsRange};
 ghost use Rattle.flurry_steps.specs.Control.{IsIdle, IsControl, OpenGives, BeginGives, claim_of, claimed, report_of, reported, counted, advice_of, count_of, grows_from};
 

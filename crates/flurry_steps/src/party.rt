@@ -21,7 +21,7 @@ use at_control::controlled;
 use at_slot::{changed, looked};
 use call::{Key, Sought, Task};
 pub use call::{Call, KeptCall};
-use flurry_bins::table::bin_index;
+use flurry_model::sizes::bin_index;
 use flurry_slots::{Change, MoveAnswer, Slot};
 pub use reply::Reply;
 use stage::{After, Growing, Stage};

@@ -8,13 +8,13 @@ use Rattle.std.proofs.Common.{arith, refl, sym, ◌∙◌, ap, subst, inl, inr}
 use Rattle.std.proofs.lemmas.Grind.{common_steps}
 use Rattle.flurry_theory.specs.Map.{same, find, write, Allows}
 use Rattle.flurry_theory.specs.Bin.{place, rewrite, leave_out, write_entry, bin_after, number_of, bump, has_number, Entry, pairs_of, order, Above, Ascending}
-use Rattle.flurry_theory.specs.declared.Call.{Call}
-use Rattle.flurry_theory.specs.declared.Call.TheVariants.{Get, GetKeyValue, ContainsKey, Insert, TryInsert, Compute, Remove, RemoveEntry, RemoveSeen, Reserve, Clear, Walk}
-use Rattle.flurry_bins.specs.declared.table.reply.KeptReply.{KeptReply}
-use Rattle.flurry_bins.specs.declared.table.reply.KeptReply.TheVariants.{Value, Pair, Contains, New, Exists}
+use Rattle.flurry_model.specs.declared.call.Call.{Call}
+use Rattle.flurry_model.specs.declared.call.Call.TheVariants.{Get, GetKeyValue, ContainsKey, Insert, TryInsert, Compute, Remove, RemoveEntry, RemoveSeen, Reserve, Clear, Walk}
+use Rattle.flurry_model.specs.declared.reply.KeptReply.{KeptReply}
+use Rattle.flurry_model.specs.declared.reply.KeptReply.TheVariants.{Value, Pair, Contains, New, Exists}
 use Rattle.flurry_theory.specs.Machine.{BinDid}
 use Rattle.flurry_theory.specs.Legal.{removes}
-use Rattle.flurry_theory.specs.declared.Seen.{Seen}
+use Rattle.flurry_model.specs.declared.call.Seen.{Seen}
 use Rattle.flurry_theory.proofs.Bins.{one_class, find-class, find-without, order_total, same-order, ordered}
 
 module _ {K V : Type 0} (cmp : K → K → Ordering) (total : IsTotalOrder cmp) (hash : K → ℕ) (lawful : (j k : K) → same cmp j k ≡ true → hash j ≡ hash k) where

@@ -12,10 +12,10 @@ use Rattle.std.proofs.lemmas.Bool.{eqb-true, eq-eqb, ne_eqb}
 use Rattle.flurry_theory.specs.Map.{Pairs, same, find, without, after, Allows, CanBeRefused, key_of}
 use Rattle.flurry_theory.specs.Trace.{in_region}
 use Rattle.flurry_theory.specs.Bin.{Entry, pairs_of, order, past, first_past, Above, Ascending, InRegion, half}
-use Rattle.flurry_theory.specs.declared.Call.{Call}
-use Rattle.flurry_theory.specs.declared.Call.TheVariants.{Get, GetKeyValue, ContainsKey, Insert, TryInsert, Compute, Remove, RemoveEntry, RemoveSeen, Reserve, Clear, Walk}
-use Rattle.flurry_bins.specs.declared.table.reply.KeptReply.{KeptReply}
-use Rattle.flurry_bins.specs.declared.table.reply.KeptReply.TheVariants.{Value, Pair, Contains, New, Exists}
+use Rattle.flurry_model.specs.declared.call.Call.{Call}
+use Rattle.flurry_model.specs.declared.call.Call.TheVariants.{Get, GetKeyValue, ContainsKey, Insert, TryInsert, Compute, Remove, RemoveEntry, RemoveSeen, Reserve, Clear, Walk}
+use Rattle.flurry_model.specs.declared.reply.KeptReply.{KeptReply}
+use Rattle.flurry_model.specs.declared.reply.KeptReply.TheVariants.{Value, Pair, Contains, New, Exists}
 
 pub one_class : {K : Type 0} (cmp : K → K → Ordering) → IsTotalOrder cmp → IsEquivalence (same cmp)
 one_class cmp total = eq_by_cmp_equiv total

@@ -10,10 +10,10 @@ use Rattle.flurry_theory.specs.Map.{Pairs, Unique, same, find, without, write, a
 use Rattle.flurry_theory.specs.Trace.{in_region}
 use Rattle.flurry_theory.specs.Bin.{Entry, pairs_of, Ascending, InRegion}
 use Rattle.flurry_theory.proofs.Bins.{one_class, find-class, find-without, absent_below, absent_elsewhere}
-use Rattle.flurry_theory.specs.declared.Call.{Call}
-use Rattle.flurry_theory.specs.declared.Call.TheVariants.{Get, GetKeyValue, ContainsKey, Insert, TryInsert, Compute, Remove, RemoveEntry, RemoveSeen, Reserve, Clear, Walk}
-use Rattle.flurry_bins.specs.declared.table.reply.KeptReply.{KeptReply}
-use Rattle.flurry_bins.specs.declared.table.reply.KeptReply.TheVariants.{Value, Pair, Contains, New, Exists}
+use Rattle.flurry_model.specs.declared.call.Call.{Call}
+use Rattle.flurry_model.specs.declared.call.Call.TheVariants.{Get, GetKeyValue, ContainsKey, Insert, TryInsert, Compute, Remove, RemoveEntry, RemoveSeen, Reserve, Clear, Walk}
+use Rattle.flurry_model.specs.declared.reply.KeptReply.{KeptReply}
+use Rattle.flurry_model.specs.declared.reply.KeptReply.TheVariants.{Value, Pair, Contains, New, Exists}
 
 module _ {K V : Type 0} (cmp : K → K → Ordering) (total : IsTotalOrder cmp) where
   none-filter : (p : K × V → Bool) (m : Pairs K V) (k : K) → find cmp m k ≡ None → find cmp (filter p m) k ≡ None

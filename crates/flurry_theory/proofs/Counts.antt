@@ -14,12 +14,12 @@ use Rattle.flurry_theory.specs.Invariant.{PartyOk, Tables, home_after, Counted}
 use Rattle.flurry_theory.proofs.Bins.{find-after_other, find-wiped}
 use Rattle.flurry_theory.proofs.Ranges.{place_here, place_other, total-change, total-same, total-zero}
 use Rattle.flurry_theory.proofs.Count.{length-after, unique-filter, unique-after, same_length, balance}
-use Rattle.flurry_theory.specs.declared.Call.{Call}
-use Rattle.flurry_bins.specs.declared.table.reply.KeptReply.{KeptReply}
+use Rattle.flurry_model.specs.declared.call.Call.{Call}
+use Rattle.flurry_model.specs.declared.reply.KeptReply.{KeptReply}
 use Rattle.flurry_theory.specs.declared.Label.TheVariants.{Decide, Wipe}
 use Rattle.flurry_theory.proofs.Walks.{held}
 use Rattle.flurry_theory.proofs.Refusals.{refused_at_work}
-use Rattle.flurry_theory.specs.declared.Call.TheVariants.{Get, GetKeyValue, ContainsKey, Insert, TryInsert, Compute, Remove, RemoveEntry, RemoveSeen, Reserve, Clear, Walk}
+use Rattle.flurry_model.specs.declared.call.Call.TheVariants.{Get, GetKeyValue, ContainsKey, Insert, TryInsert, Compute, Remove, RemoveEntry, RemoveSeen, Reserve, Clear, Walk}
 
 -- what is owed after one party's mode was changed
 placed_owed : {K V : Type 0} (owes : Mode K V → ℕ) (modes : ℕ → Mode K V) (p n : ℕ) (m : Mode K V) → p < n → total (λ q. owes (at_place modes p m q)) n + owes (modes p) ≡ total (λ q. owes (modes q)) n + owes m

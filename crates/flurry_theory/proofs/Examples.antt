@@ -5,8 +5,8 @@ use Rattle.std.proofs.Common.{arith, inl}
 use Rattle.flurry_theory.specs.Trace.{Trace, pairs}
 use Rattle.flurry_theory.specs.Bin.{has_number}
 use Rattle.flurry_theory.specs.Legal.{EachMay, CallMay, WalkMay, ClearMay, RemovalMay, GrowthMay}
-use Rattle.flurry_theory.specs.declared.Call.TheVariants.{Get, ContainsKey, Insert, Compute, Remove, RemoveSeen, Clear, Walk}
-use Rattle.flurry_bins.specs.declared.table.reply.KeptReply.TheVariants.{Value}
+use Rattle.flurry_model.specs.declared.call.Call.TheVariants.{Get, ContainsKey, Insert, Compute, Remove, RemoveSeen, Clear, Walk}
+use Rattle.flurry_model.specs.declared.reply.KeptReply.TheVariants.{Value}
 use Rattle.flurry_theory.specs.declared.Label.TheVariants.{Begin, Decide, Reply as Replied, Refused, Read, End, Opened, Placed, Published, Silent}
 
 abbrev Numbers : Type 0

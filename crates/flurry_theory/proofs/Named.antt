@@ -10,8 +10,8 @@ use Rattle.flurry_theory.specs.Machine.{State, Line, Can, does, found_by, onward
 use Rattle.flurry_theory.specs.Invariant.{Tables, home_after, key_in, Born, Named}
 use Rattle.flurry_theory.proofs.Bins.{in_low_half, in_high_half, double}
 use Rattle.flurry_theory.proofs.Tables.{same_some, homes}
-use Rattle.flurry_theory.specs.declared.Call.{Call}
-use Rattle.flurry_theory.specs.declared.Call.TheVariants.{Get, GetKeyValue, ContainsKey, Insert, TryInsert, Compute, Remove, RemoveEntry, RemoveSeen, Reserve, Clear, Walk}
+use Rattle.flurry_model.specs.declared.call.Call.{Call}
+use Rattle.flurry_model.specs.declared.call.Call.TheVariants.{Get, GetKeyValue, ContainsKey, Insert, TryInsert, Compute, Remove, RemoveEntry, RemoveSeen, Reserve, Clear, Walk}
 use Rattle.flurry_theory.proofs.Settled.{named_settled}
 use Rattle.flurry_theory.proofs.Own.{next_mode, next_call, other_mode, other_keeps, if_settled, mode_after, call_after}
 

@@ -17,10 +17,10 @@ use Rattle.flurry_theory.proofs.Ranges.{place_here, place_other}
 use Rattle.flurry_theory.proofs.Origins.{begun_after}
 use Rattle.flurry_theory.specs.Legal
 use Rattle.flurry_theory.specs.Legal.{touches, changed_by, is_class, changes, removes, untouched, untouched_for, RemovalMay, HasRead, Lacked, Stays, EachMay, RemovesPair}
-use Rattle.flurry_theory.specs.declared.Seen.{Seen}
-use Rattle.flurry_theory.specs.declared.Call.{Call}
-use Rattle.flurry_theory.specs.declared.Call.TheVariants.{RemoveSeen}
-use Rattle.flurry_bins.specs.declared.table.reply.KeptReply.{KeptReply}
+use Rattle.flurry_model.specs.declared.call.Seen.{Seen}
+use Rattle.flurry_model.specs.declared.call.Call.{Call}
+use Rattle.flurry_model.specs.declared.call.Call.TheVariants.{RemoveSeen}
+use Rattle.flurry_model.specs.declared.reply.KeptReply.{KeptReply}
 use Rattle.flurry_theory.specs.declared.Label.{Label}
 use Rattle.flurry_theory.specs.declared.Label.TheVariants.{Begin, Decide, Wipe, Refused, Read, End, Opened, Placed, Published, Silent, Moved as MovedBin, Reply as Replied}
 

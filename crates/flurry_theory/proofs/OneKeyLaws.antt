@@ -4,18 +4,18 @@ use Rattle.std.specs.declared.cmp.Ordering.{Ordering}
 use Rattle.std.specs.Cmp.{IsTotalOrder}
 use Rattle.std.specs.Option.{option_map_or}
 use Rattle.std.proofs.Common.{arith, refl, subst, ◌∙◌, inl, inr}
-use Rattle.flurry_bins.specs.FiniteMap as ordered
-use Rattle.flurry_bins.specs.FiniteMap.{IsFiniteMap, with_pair, stored_key, gathered}
-use Rattle.flurry_bins.specs.OneKey.{OneKey}
-use Rattle.flurry_bins.proofs.FiniteMapLaws.{pair_at-with_pair, pair_at-without, IsFiniteMap-with_pair, IsFiniteMap-without, without_none, IsFiniteMap-gathered, pair_at-gathered}
-use Rattle.flurry_bins.specs.declared.table.reply.KeptReply.{KeptReply}
-use Rattle.flurry_bins.specs.declared.table.reply.KeptReply.TheVariants.{Value, New, Exists}
+use Rattle.flurry_model.specs.FiniteMap as ordered
+use Rattle.flurry_model.specs.FiniteMap.{IsFiniteMap, with_pair, stored_key, gathered}
+use Rattle.flurry_model.specs.OneKey.{OneKey}
+use Rattle.flurry_model.proofs.FiniteMapLaws.{pair_at-with_pair, pair_at-without, IsFiniteMap-with_pair, IsFiniteMap-without, without_none, IsFiniteMap-gathered, pair_at-gathered}
+use Rattle.flurry_model.specs.declared.reply.KeptReply.{KeptReply}
+use Rattle.flurry_model.specs.declared.reply.KeptReply.TheVariants.{Value, New, Exists}
 use Rattle.flurry_theory.specs.Map.{Pairs, find, value_at, without, put, write}
 use Rattle.flurry_theory.specs.OneKeyCalls.{one_key_of, HasSamePairs, IsMapAfter, AgreesOn}
 use Rattle.flurry_theory.proofs.Bins.{one_class, find-without, stored_class}
-use Rattle.flurry_theory.specs.declared.Seen.{Seen}
-use Rattle.flurry_theory.specs.declared.Call.{Call}
-use Rattle.flurry_theory.specs.declared.Call.TheVariants.{Get, GetKeyValue, ContainsKey, Insert, TryInsert, Compute, Remove, RemoveEntry, RemoveSeen, Reserve, Clear, Walk}
+use Rattle.flurry_model.specs.declared.call.Seen.{Seen}
+use Rattle.flurry_model.specs.declared.call.Call.{Call}
+use Rattle.flurry_model.specs.declared.call.Call.TheVariants.{Get, GetKeyValue, ContainsKey, Insert, TryInsert, Compute, Remove, RemoveEntry, RemoveSeen, Reserve, Clear, Walk}
 
 module _ {K V : Type 0} (cmp : K → K → Ordering) (total : IsTotalOrder cmp) where
   -- a list has one pair at a class, from whichever side the keys are compared

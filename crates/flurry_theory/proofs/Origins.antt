@@ -8,9 +8,9 @@ use Rattle.flurry_theory.specs.Machine.{State, Line, Can, does, label, at_place,
 use Rattle.flurry_theory.specs.Invariant.{PartyOk, Origins, pair_seen}
 use Rattle.flurry_theory.proofs.Tables.{same_some}
 use Rattle.flurry_theory.proofs.Ranges.{place_other}
-use Rattle.flurry_theory.specs.declared.Seen.{Seen}
-use Rattle.flurry_theory.specs.declared.Call.{Call}
-use Rattle.flurry_theory.specs.declared.Call.TheVariants.{RemoveSeen}
+use Rattle.flurry_model.specs.declared.call.Seen.{Seen}
+use Rattle.flurry_model.specs.declared.call.Call.{Call}
+use Rattle.flurry_model.specs.declared.call.Call.TheVariants.{RemoveSeen}
 
 module _ {K V F : Type 0} (cmp : K → K → Ordering) (hash : K → ℕ) (gives : F → K → V → Option V → Type 0) where
   pub same_seen : {z y : Seen K V} → ◌≡◌ {A = Call K V F} (RemoveSeen z) (RemoveSeen y) → z ≡ y

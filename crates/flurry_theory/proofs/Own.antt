@@ -7,7 +7,7 @@ use Rattle.std.proofs.lemmas.Bool.{eqb-true, ne_eqb}
 use Rattle.flurry_theory.specs.Map.{same}
 use Rattle.flurry_theory.specs.Trace.{names}
 use Rattle.flurry_theory.specs.Machine.{State, Line, effect, label, found_by, onward, halves, settled, Mode, Locating, Looking, Walking, Clearing, Done, Finished, Begins, Quiet, Counts, Finds, Opens, FindsNothing, IsRefused, DecidesEmpty, Passes, Decides, Places, Claims, Moves, Reports, Publishes, Reads, Leaves, Splits, Wipes, SplitsClear, Replies, Ends}
-use Rattle.flurry_theory.specs.declared.Call.{Call}
+use Rattle.flurry_model.specs.declared.call.Call.{Call}
 
 -- what a settled mode keeps, a mode keeps that may have been settled
 pub if_settled : {K V : Type 0} (P : Mode K V → Type 0) → ((m : Mode K V) → P m → P (settled m)) → (b : Bool) (m : Mode K V) → P m → P (cond b (settled m) m)

@@ -9,9 +9,9 @@ use Rattle.flurry_theory.specs.Machine.{State, Claim, Growth, Line, Opening, Can
 use Rattle.flurry_theory.specs.Machine.{total}
 use Rattle.flurry_theory.specs.Invariant.{PartyOk, Tables, size, holds, Cut}
 use Rattle.flurry_theory.proofs.Bins.{small_mod}
-use Rattle.flurry_theory.specs.declared.Call.{Call}
-use Rattle.flurry_theory.specs.declared.Call.TheVariants.{Get, GetKeyValue, ContainsKey, Insert, TryInsert, Compute, Remove, RemoveEntry, RemoveSeen, Reserve, Clear, Walk}
-use Rattle.flurry_bins.specs.declared.table.reply.KeptReply.{KeptReply}
+use Rattle.flurry_model.specs.declared.call.Call.{Call}
+use Rattle.flurry_model.specs.declared.call.Call.TheVariants.{Get, GetKeyValue, ContainsKey, Insert, TryInsert, Compute, Remove, RemoveEntry, RemoveSeen, Reserve, Clear, Walk}
+use Rattle.flurry_model.specs.declared.reply.KeptReply.{KeptReply}
 
 pub place_here : {X : Type 0} (f : ℕ → X) (p : ℕ) (x : X) → at_place f p x p ≡ x
 place_here f p x = grind (arith, eq-eqb p p refl)

@@ -13,9 +13,9 @@ use Rattle.flurry_theory.specs.Invariant.{new_world, after_all, CanAll}
 use Rattle.flurry_theory.proofs.BinSteps.{bin_did}
 use Rattle.flurry_theory.proofs.Origins.{same_seen}
 use Rattle.flurry_theory.proofs.Tables.{same_some}
-use Rattle.flurry_theory.specs.declared.Seen.{Seen}
-use Rattle.flurry_theory.specs.declared.Call.TheVariants.{Get, Insert, RemoveSeen, Walk}
-use Rattle.flurry_bins.specs.declared.table.reply.KeptReply.TheVariants.{Value}
+use Rattle.flurry_model.specs.declared.call.Seen.{Seen}
+use Rattle.flurry_model.specs.declared.call.Call.TheVariants.{Get, Insert, RemoveSeen, Walk}
+use Rattle.flurry_model.specs.declared.reply.KeptReply.TheVariants.{Value}
 
 abbrev its_own : ℕ → ℕ
 its_own k = k

@@ -6,7 +6,7 @@ use Rattle.std.proofs.lemmas.Grind.{common_steps}
 use Rattle.flurry_theory.specs.Trace.{Trace}
 use Rattle.flurry_theory.specs.Machine.{State, settle, settled, Mode, Locating, Looking, Walking, Clearing, Done, Finished}
 use Rattle.flurry_theory.specs.Invariant.{PartyOk, Progress, Named, Waits}
-use Rattle.flurry_theory.specs.declared.Call.{Call}
+use Rattle.flurry_model.specs.declared.call.Call.{Call}
 
 module _ {K V F : Type 0} where
   pub party_settled : (whose : ℕ → Bool) (s : State K V F) (q : ℕ) → PartyOk s q → PartyOk (settle whose s) q

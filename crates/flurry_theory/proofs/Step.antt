@@ -14,9 +14,9 @@ use Rattle.flurry_theory.proofs.Bins.{Allows-same}
 use Rattle.flurry_theory.proofs.Tables.{same_some, same_live}
 use Rattle.flurry_theory.proofs.Ranges.{all_moved}
 use Rattle.flurry_theory.specs.Legal.{HasRead, Lacked, WalkMay, ClearMay, IsWalk, IsClear}
-use Rattle.flurry_theory.specs.declared.Call.{Call}
-use Rattle.flurry_theory.specs.declared.Call.TheVariants.{Get, GetKeyValue, ContainsKey, Insert, TryInsert, Compute, Remove, RemoveEntry, RemoveSeen, Reserve, Clear, Walk}
-use Rattle.flurry_bins.specs.declared.table.reply.KeptReply.{KeptReply}
+use Rattle.flurry_model.specs.declared.call.Call.{Call}
+use Rattle.flurry_model.specs.declared.call.Call.TheVariants.{Get, GetKeyValue, ContainsKey, Insert, TryInsert, Compute, Remove, RemoveEntry, RemoveSeen, Reserve, Clear, Walk}
+use Rattle.flurry_model.specs.declared.reply.KeptReply.{KeptReply}
 use Rattle.flurry_theory.specs.declared.Label.TheVariants.{Decide, Refused, End, Opened, Placed, Published, Silent, Moved as MovedBin, Reply as Replied}
 use Rattle.flurry_theory.proofs.Calls.{party_ok}
 use Rattle.flurry_theory.proofs.Tables.{tables_ok}

@@ -11,10 +11,10 @@ use Rattle.flurry_theory.specs.Bin.{Entry, pairs_of, Ascending, InRegion, half}
 use Rattle.flurry_theory.specs.Machine.{State, Slot, Claim, Growth, Line, Adds, Can, does, at_bin, Live, Moved, Unborn, Frame, Begins, Quiet, Counts, Finds, Opens, FindsNothing, IsRefused, DecidesEmpty, Passes, Decides, Places, Claims, Moves, Reports, Publishes, Reads, Leaves, Splits, Wipes, SplitsClear, Replies, Ends}
 use Rattle.flurry_theory.specs.Invariant.{PartyOk, is_live, Tables, home_after}
 use Rattle.flurry_theory.proofs.Bins.{find-after, find-after_other, find-half, ascending-half, region-half, find-wiped, in_a_half, in_low_half, in_high_half, small_mod, high_mod, double}
-use Rattle.flurry_theory.specs.declared.Call.{Call}
-use Rattle.flurry_theory.specs.declared.Call.TheVariants.{Get, GetKeyValue, ContainsKey, Insert, TryInsert, Compute, Remove, RemoveEntry, RemoveSeen, Reserve, Clear, Walk}
-use Rattle.flurry_bins.specs.declared.table.reply.KeptReply.{KeptReply}
-use Rattle.flurry_bins.specs.declared.table.reply.KeptReply.TheVariants.{Value, Pair, Contains, New, Exists}
+use Rattle.flurry_model.specs.declared.call.Call.{Call}
+use Rattle.flurry_model.specs.declared.call.Call.TheVariants.{Get, GetKeyValue, ContainsKey, Insert, TryInsert, Compute, Remove, RemoveEntry, RemoveSeen, Reserve, Clear, Walk}
+use Rattle.flurry_model.specs.declared.reply.KeptReply.{KeptReply}
+use Rattle.flurry_model.specs.declared.reply.KeptReply.TheVariants.{Value, Pair, Contains, New, Exists}
 use Rattle.flurry_theory.specs.declared.Label.TheVariants.{Decide, Wipe}
 
 pub same_some : {X : Type 0} {x y : X} → Some x ≡ Some y → x ≡ y

@@ -13,8 +13,8 @@ use Rattle.flurry_theory.specs.Invariant.{Tables, Progress, Remains, InFrame, In
 use Rattle.flurry_theory.proofs.Bins.{find-wiped, region-first_past, past_trans, past_differs, find-first_past, find-none_past, found-first_past, in_a_half, in_low_half, in_high_half}
 use Rattle.flurry_theory.proofs.Tables.{homes, content_at}
 use Rattle.flurry_theory.specs.Legal.{HasRead, Lacked, Stays, WalkMay}
-use Rattle.flurry_theory.specs.declared.Call.{Call}
-use Rattle.flurry_theory.specs.declared.Call.TheVariants.{Get, GetKeyValue, ContainsKey, Insert, TryInsert, Compute, Remove, RemoveEntry, RemoveSeen, Reserve, Clear, Walk}
+use Rattle.flurry_model.specs.declared.call.Call.{Call}
+use Rattle.flurry_model.specs.declared.call.Call.TheVariants.{Get, GetKeyValue, ContainsKey, Insert, TryInsert, Compute, Remove, RemoveEntry, RemoveSeen, Reserve, Clear, Walk}
 use Rattle.flurry_theory.specs.declared.Label.{Label}
 use Rattle.flurry_theory.specs.declared.Label.TheVariants.{Begin, Decide, Wipe, Refused, Read, End, Opened, Placed, Published, Silent, Moved as MovedBin, Reply as Replied}
 

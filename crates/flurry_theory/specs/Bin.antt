@@ -5,10 +5,10 @@ use Rattle.std.specs.declared.cmp.Ordering.TheVariants.{Less}
 use Rattle.std.specs.Ordering.{nat_cmp, on, then_cmp, is_lt}
 use Rattle.flurry_theory.specs.Map.{Pairs, same}
 use Rattle.flurry_theory.specs.Trace.{in_region}
-use Rattle.flurry_theory.specs.declared.Call.{Call}
-use Rattle.flurry_theory.specs.declared.Call.TheVariants.{Insert, TryInsert, Compute, Remove, RemoveEntry, RemoveSeen}
-use Rattle.flurry_bins.specs.declared.table.reply.KeptReply.{KeptReply}
-use Rattle.flurry_bins.specs.declared.table.reply.KeptReply.TheVariants.{Value, New}
+use Rattle.flurry_model.specs.declared.call.Call.{Call}
+use Rattle.flurry_model.specs.declared.call.Call.TheVariants.{Insert, TryInsert, Compute, Remove, RemoveEntry, RemoveSeen}
+use Rattle.flurry_model.specs.declared.reply.KeptReply.{KeptReply}
+use Rattle.flurry_model.specs.declared.reply.KeptReply.TheVariants.{Value, New}
 
 -- a key and its value, with the number of the write that put the value there
 pub record Entry (K V : Type 0) : Type 0 where

@@ -6,10 +6,10 @@ use Rattle.flurry_theory.specs.Trace.{Trace, is_lookup, begun, decision, replied
 use Rattle.flurry_theory.specs.Legal.{untouched, untouched_for, RemovalMay, HasRead, Lacked, EachMay, CallMay, WalkMay, ClearMay, GrowthMay}
 use Rattle.flurry_theory.specs.Bin.{Entry, number_of, pairs_of, Ascending, InRegion, past}
 use Rattle.flurry_theory.specs.Machine.{total, owes_added, owes_removed, State, Slot, Line, Opens, Moves, Claim, Growth, Can, does, Live, Moved, Unborn, Mode, Locating, Looking, Walking, Clearing, Done, Finished, Frame, Replies}
-use Rattle.flurry_theory.specs.declared.Call.{Call}
-use Rattle.flurry_theory.specs.declared.Call.TheVariants.{RemoveSeen, Walk, Clear}
-use Rattle.flurry_theory.specs.declared.Seen.{Seen}
-use Rattle.flurry_bins.specs.declared.table.reply.KeptReply.{KeptReply}
+use Rattle.flurry_model.specs.declared.call.Call.{Call}
+use Rattle.flurry_model.specs.declared.call.Call.TheVariants.{RemoveSeen, Walk, Clear}
+use Rattle.flurry_model.specs.declared.call.Seen.{Seen}
+use Rattle.flurry_model.specs.declared.reply.KeptReply.{KeptReply}
 
 -- the call is one of these
 abbrev pub one_key : {K V F : Type 0} → Option (Call K V F) → Bool

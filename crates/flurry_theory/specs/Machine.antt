@@ -6,10 +6,10 @@ use Rattle.flurry_theory.specs.Map.{same, find, key_of, after, Allows, CanBeRefu
 use Rattle.flurry_theory.specs.Trace.{is_lookup, Trace}
 use Rattle.flurry_theory.specs.Bin.{Entry, number_of, bump, has_number, pairs_of, first_past, Ascending, InRegion, half}
 use Rattle.flurry_theory.specs.Legal.{IsOneKey, IsWalk, IsClear, changes, removes}
-use Rattle.flurry_theory.specs.declared.Seen.{Seen}
-use Rattle.flurry_theory.specs.declared.Call.{Call}
-use Rattle.flurry_theory.specs.declared.Call.TheVariants.{RemoveSeen, Insert, TryInsert, Reserve, Clear, Walk}
-use Rattle.flurry_bins.specs.declared.table.reply.KeptReply.{KeptReply}
+use Rattle.flurry_model.specs.declared.call.Seen.{Seen}
+use Rattle.flurry_model.specs.declared.call.Call.{Call}
+use Rattle.flurry_model.specs.declared.call.Call.TheVariants.{RemoveSeen, Insert, TryInsert, Reserve, Clear, Walk}
+use Rattle.flurry_model.specs.declared.reply.KeptReply.{KeptReply}
 use Rattle.flurry_theory.specs.declared.Label.{Label}
 use Rattle.flurry_theory.specs.declared.Label.TheVariants.{Begin, Decide, Reply as Replied, Refused, Wipe, Read, End, Opened, Placed, Moved as MovedBin, Published, Silent}
 

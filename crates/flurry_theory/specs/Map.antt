@@ -4,10 +4,10 @@ use Rattle.std.specs.declared.cmp.Ordering.{Ordering}
 use Rattle.std.specs.Ordering.{eq_by_cmp}
 use denote.Param.Members.{Shared}
 use denote.Ref.{Bor}
-use Rattle.flurry_theory.specs.declared.Call.{Call}
-use Rattle.flurry_theory.specs.declared.Call.TheVariants.{Get, GetKeyValue, ContainsKey, Insert, TryInsert, Compute, Remove, RemoveEntry, RemoveSeen, Reserve, Clear, Walk}
-use Rattle.flurry_bins.specs.declared.table.reply.KeptReply.{KeptReply}
-use Rattle.flurry_bins.specs.declared.table.reply.KeptReply.TheVariants.{Value, Pair, Contains, New, Exists}
+use Rattle.flurry_model.specs.declared.call.Call.{Call}
+use Rattle.flurry_model.specs.declared.call.Call.TheVariants.{Get, GetKeyValue, ContainsKey, Insert, TryInsert, Compute, Remove, RemoveEntry, RemoveSeen, Reserve, Clear, Walk}
+use Rattle.flurry_model.specs.declared.reply.KeptReply.{KeptReply}
+use Rattle.flurry_model.specs.declared.reply.KeptReply.TheVariants.{Value, Pair, Contains, New, Exists}
 
 -- the function f, called on a key and a value, may answer o
 abbrev pub answers : {K V F : Type 0} → Shared F (Bor K × (Bor V × Unit {0})) (Option V) → F → K → V → Option V → Type 0

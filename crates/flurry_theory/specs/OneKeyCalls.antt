@@ -1,13 +1,13 @@
 -- The one-key calls of a trace, as the calls on a finite map that is kept in the order of its keys.
 use Rattle.std.specs.Prelude.{◌≡◌, List, Option, Some, None}
 use Rattle.std.specs.declared.cmp.Ordering.{Ordering}
-use Rattle.flurry_bins.specs.FiniteMap.{IsFiniteMap, pair_at}
-use Rattle.flurry_bins.specs.OneKey as one
-use Rattle.flurry_bins.specs.OneKey.{OneKey, Answers}
-use Rattle.flurry_bins.specs.declared.table.reply.KeptReply.{KeptReply}
+use Rattle.flurry_model.specs.FiniteMap.{IsFiniteMap, pair_at}
+use Rattle.flurry_model.specs.OneKey as one
+use Rattle.flurry_model.specs.OneKey.{OneKey, Answers}
+use Rattle.flurry_model.specs.declared.reply.KeptReply.{KeptReply}
 use Rattle.flurry_theory.specs.Map.{Pairs, find, after, Allows}
-use Rattle.flurry_theory.specs.declared.Call.{Call}
-use Rattle.flurry_theory.specs.declared.Call.TheVariants as call
+use Rattle.flurry_model.specs.declared.call.Call.{Call}
+use Rattle.flurry_model.specs.declared.call.Call.TheVariants as call
 
 -- the call, if it is one of one key
 abbrev pub one_key_of : {K V F : Type 0} → Call K V F → Option (OneKey K V F)

@@ -1,9 +1,9 @@
 //! The laws over every run, and that their finite map is the owned map's.
 ghost use Rattle.std.specs.Prelude.{◌≡◌, ℕ, pos, neg_ℤ, ◌≤ℤ◌, Bool, true, ◌<◌, ◌≤◌, List, ◌++◌, length, Option, Some, None, if◌then◌else◌};
-ghost use Rattle.flurry_bins.specs.declared.table.reply.KeptReply.{KeptReply};
-ghost use Rattle.flurry_bins.specs.FiniteMap.{IsFiniteMap, gathered};
-ghost use Rattle.flurry_bins.specs.OneKey.{OneKey};
-ghost use Rattle.flurry_theory.specs.declared.Call.{Call};
+ghost use Rattle.flurry_model.specs.declared.reply.KeptReply.{KeptReply};
+ghost use Rattle.flurry_model.specs.FiniteMap.{IsFiniteMap, gathered};
+ghost use Rattle.flurry_model.specs.OneKey.{OneKey};
+ghost use Rattle.flurry_model.specs.declared.call.Call.{Call};
 ghost use Rattle.flurry_theory.specs.Map.{Pairs, same, answers};
 ghost use Rattle.flurry_theory.specs.OneKeyCalls.{one_key_of, HasSamePairs, AgreesOn};
 ghost use Rattle.flurry_theory.specs.Trace.{pairs};

@@ -10,47 +10,8 @@
 
 pub mod laws;
 
-use flurry_bins::table::KeptReply;
-
-/// What a walk's read knows of a pair.
-#[derive(Clone, Copy, Debug)]
-pub struct Seen<K, V> {
-    /// The stored key.
-    pub key: K,
-    /// The value.
-    pub value: V,
-    /// The number of the write that put the value.
-    pub number: u64,
-}
-
-/// A call, with its key and value.
-#[derive(Clone, Copy, Debug)]
-pub enum Call<K, V, F> {
-    /// The value of a key.
-    Get(K),
-    /// The stored key and the value of a key.
-    GetKeyValue(K),
-    /// Whether a key is present.
-    ContainsKey(K),
-    /// Writes a value.
-    Insert(K, V),
-    /// Writes a value where the key is absent.
-    TryInsert(K, V),
-    /// Calls a function on the pair of a key, and writes what it answers, or removes the pair.
-    Compute(K, F),
-    /// Removes the pair of a key, and answers its value.
-    Remove(K),
-    /// Removes the pair of a key, and answers the stored key too.
-    RemoveEntry(K),
-    /// Removes a pair that was read, if it still stands as it was read.
-    RemoveSeen(Seen<K, V>),
-    /// Makes room for so many pairs more.
-    Reserve(usize),
-    /// Removes all pairs, one bin after another.
-    Clear,
-    /// Reads all pairs, one bin after another.
-    Walk,
-}
+use flurry_model::reply::KeptReply;
+pub use flurry_model::{Call, Seen};
 
 /// What one step did.
 #[derive(Clone, Copy, Debug)]

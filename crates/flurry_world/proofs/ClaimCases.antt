@@ -5,7 +5,7 @@ use Rattle.std.specs.Cmp.{IsTotalOrder}
 use Rattle.std.proofs.Common.{arith, refl, sym, ◌∙◌, ap, subst}
 use Rattle.std.proofs.lemmas.Bool.{eqb-true, eqb-false, eq-eqb, ltb-true, ltb-false, le-leb}
 use Rattle.std.proofs.lemmas.Option.{slice_get_within}
-use Rattle.flurry_bins.specs.Sizes.{stride_of}
+use Rattle.flurry_model.specs.Sizes.{stride_of}
 use Rattle.flurry_steps.specs.Claim.{Range, bins_in, next_of}
 use Rattle.flurry_steps.specs.Control as control
 use Rattle.flurry_steps.specs.Control.{Board, IsControl, IsIdle, Grows, GrowthIsIn, claim_by, claim_of, claimed, growth_claimed, can_report, reports_last, report_of, reported, next_published, grown, with_reported}
@@ -17,7 +17,7 @@ use Rattle.flurry_theory.specs.Trace.{is_lookup}
 use Rattle.flurry_theory.specs.Machine as machine
 use Rattle.flurry_theory.specs.Machine.{Claims, Reports, Publishes, total}
 use Rattle.flurry_theory.specs.Invariant.{size}
-use Rattle.flurry_theory.specs.declared.Call.{Call}
+use Rattle.flurry_model.specs.declared.call.Call.{Call}
 use Rattle.flurry_theory.specs.declared.Label.TheVariants as label
 use Rattle.flurry_world.specs.Tables.{Tables}
 use Rattle.flurry_world.specs.World.{Caller, Shown, state_of, growth_of, mode_of_after, mode_of_stage, claim_of_stage, FollowsAfter, FollowsStage, IsWorld}

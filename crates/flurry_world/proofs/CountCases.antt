@@ -18,7 +18,7 @@ use Rattle.flurry_steps.specs.declared.party.Event.TheVariants as event
 use Rattle.flurry_theory.specs.Map.{same}
 use Rattle.flurry_theory.specs.Trace.{is_lookup}
 use Rattle.flurry_theory.specs.Machine.{Done, Places, IsRefused, RefusedAt}
-use Rattle.flurry_theory.specs.declared.Call.{Call}
+use Rattle.flurry_model.specs.declared.call.Call.{Call}
 use Rattle.flurry_theory.specs.declared.Label.TheVariants as label
 use Rattle.flurry_world.specs.Tables.{Tables, slots_of, content_at, PlaceGives}
 use Rattle.flurry_world.specs.World.{Caller, Shown, Near, state_of, growth_of, reply_in, mode_of_growing, mode_of_stage, claim_of_stage, HasDecided, FollowsGrowing, FollowsStage, IsWorld}

@@ -6,13 +6,13 @@ use Rattle.std.specs.List.{AllByRecursion}
 use Rattle.std.specs.Option.{option_map_or}
 use Rattle.std.specs.Map.{keys_of}
 use Rattle.std.proofs.Common.{arith, refl, sym, ◌∙◌, ap, subst, add-one}
-use Rattle.flurry_bins.specs.FiniteMap.{IsFiniteMap, with_pair, without}
-use Rattle.flurry_bins.specs.PlainEntries.{hash_then_key}
+use Rattle.flurry_model.specs.FiniteMap.{IsFiniteMap, with_pair, without}
+use Rattle.flurry_model.specs.HashOrder.{hash_then_key}
 use Rattle.flurry_bins.specs.Region as region
-use Rattle.flurry_bins.specs.declared.table.reply.KeptReply.{KeptReply}
-use Rattle.flurry_bins.specs.declared.table.reply.KeptReply.TheVariants.{Value, Pair, Contains, New, Exists}
-use Rattle.flurry_bins.proofs.FiniteMapLaws.{all_with_pair, all_without, length-with_pair, length-without, found_in}
-use Rattle.flurry_bins.proofs.Places.{hash_then_key_total}
+use Rattle.flurry_model.specs.declared.reply.KeptReply.{KeptReply}
+use Rattle.flurry_model.specs.declared.reply.KeptReply.TheVariants.{Value, Pair, Contains, New, Exists}
+use Rattle.flurry_model.proofs.FiniteMapLaws.{all_with_pair, all_without, length-with_pair, length-without, found_in}
+use Rattle.flurry_model.proofs.HashOrderLaws.{hash_then_key_total}
 use Rattle.flurry_slots.specs.Slot as slot
 use Rattle.flurry_slots.specs.Slot.{Held, Live, Outcome, WasAbsent, WasRemoved, WasChanged, next_number, entry_of_live, written, added, taken, asks}
 use Rattle.flurry_steps.specs.Party.{Sought, TheValue, ThePair, Presence, Task, Finds, Removes, Inserts, Adds, Computes, Says, Stage, AtDone, told, said_in, IsWriter}
@@ -22,8 +22,8 @@ use Rattle.flurry_theory.specs.Map.{same, find, key_of, Allows, CanBeRefused}
 use Rattle.flurry_theory.specs.Trace.{is_lookup}
 use Rattle.flurry_theory.specs.Bin.{Entry, pairs_of, bump, InRegion, leave_out, bin_after}
 use Rattle.flurry_theory.specs.Machine.{BinDid, Looking, Done}
-use Rattle.flurry_theory.specs.declared.Call.{Call}
-use Rattle.flurry_theory.specs.declared.Call.TheVariants.{Get, GetKeyValue, ContainsKey, Insert, TryInsert, Compute, Remove, RemoveEntry, RemoveSeen, Reserve, Clear, Walk}
+use Rattle.flurry_model.specs.declared.call.Call.{Call}
+use Rattle.flurry_model.specs.declared.call.Call.TheVariants.{Get, GetKeyValue, ContainsKey, Insert, TryInsert, Compute, Remove, RemoveEntry, RemoveSeen, Reserve, Clear, Walk}
 use Rattle.flurry_theory.proofs.BinSteps.{bin_did}
 use Rattle.flurry_world.specs.Entries.{entries_of_held, Hashed}
 use Rattle.flurry_world.specs.World.{task_of_call, mode_of_stage, claim_of_stage, HasDecided, FollowsStage}

@@ -13,11 +13,11 @@ use Rattle.std.proofs.lemmas.Map.Keys.{sorted_head, sorted_tail}
 use Rattle.std.proofs.lemmas.Cmp.{tied_itself, nat_cmp_total}
 use Rattle.std.proofs.lemmas.Bool.{eq-eqb, ne_eqb}
 use Rattle.std.proofs.lemmas.Nat.{mod-pow-add, mod_below, pow_pos}
-use Rattle.flurry_bins.specs.FiniteMap.{IsFiniteMap, pair_at, with_pair, without}
-use Rattle.flurry_bins.specs.PlainEntries.{hash_then_key}
+use Rattle.flurry_model.specs.FiniteMap.{IsFiniteMap, pair_at, with_pair, without}
+use Rattle.flurry_model.specs.HashOrder.{hash_then_key}
 use Rattle.flurry_bins.specs.Region as region
-use Rattle.flurry_bins.proofs.FiniteMapLaws.{pair_at_below, below_all, all_with_pair, all_without, alike_all}
-use Rattle.flurry_bins.proofs.Places.{hash_then_key_total}
+use Rattle.flurry_model.proofs.FiniteMapLaws.{pair_at_below, below_all, all_with_pair, all_without, alike_all}
+use Rattle.flurry_model.proofs.HashOrderLaws.{hash_then_key_total}
 use Rattle.flurry_slots.specs.Slot.{Held, next_number}
 use Rattle.flurry_theory.specs.Map.{same, find}
 use Rattle.flurry_theory.specs.Trace.{in_region}

@@ -3,14 +3,14 @@ use Rattle.std.specs.Prelude.{◌≡◌, ◌⊎◌, ℕ, ◌<◌, Bool, true, fa
 use Rattle.std.specs.declared.cmp.Ordering.{Ordering}
 use Rattle.std.specs.Cmp.{IsTotalOrder}
 use Rattle.std.proofs.Common.{refl, sym, ◌∙◌, ap, subst, inl, inr}
-use Rattle.flurry_bins.specs.declared.table.reply.KeptReply.{KeptReply}
+use Rattle.flurry_model.specs.declared.reply.KeptReply.{KeptReply}
 use Rattle.flurry_steps.specs.Party.{Says, SaysEnded, SaysRefused, ForInsert, ForReserve, Stage, AtLocate, AtBin, AtClaim, AtMove, AtUncount, AtCount, AtRecount, AtBegin, AtGrow, AtReserve, AtDone, AtTaken}
 use Rattle.flurry_theory.specs.Map.{same, key_of}
 use Rattle.flurry_theory.specs.Machine.{Mode, Locating, Looking, Done, Finished}
 use Rattle.flurry_theory.specs.Trace.{is_lookup, decision, replied, closed}
 use Rattle.flurry_theory.specs.Invariant.{PartyOk, one_key}
-use Rattle.flurry_theory.specs.declared.Call.{Call}
-use Rattle.flurry_theory.specs.declared.Call.TheVariants as call
+use Rattle.flurry_model.specs.declared.call.Call.{Call}
+use Rattle.flurry_model.specs.declared.call.Call.TheVariants as call
 use Rattle.flurry_world.specs.World.{Caller, Shown, state_of, steps_in, FollowsStage, IsWorld}
 use Rattle.flurry_world.specs.Lawful.{IsLawful}
 use Rattle.flurry_world.proofs.Cases.{calls, in_mode}

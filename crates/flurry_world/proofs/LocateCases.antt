@@ -14,7 +14,7 @@ use Rattle.flurry_steps.specs.declared.party.Event.TheVariants as event
 use Rattle.flurry_theory.specs.Map.{same}
 use Rattle.flurry_theory.specs.Trace.{published}
 use Rattle.flurry_theory.specs.Machine.{Locating, Done, Live, Finds as FindsTable, Opens, IsRefused, DecidesEmpty, Opening, RefusedAt, found}
-use Rattle.flurry_theory.specs.declared.Call.TheVariants as call
+use Rattle.flurry_model.specs.declared.call.Call.TheVariants as call
 use Rattle.flurry_theory.specs.declared.Label.{Label}
 use Rattle.flurry_theory.specs.declared.Label.TheVariants as label
 use Rattle.flurry_world.specs.Entries.{slot_of, Hashed}

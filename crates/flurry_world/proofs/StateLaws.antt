@@ -6,7 +6,7 @@ use Rattle.std.proofs.lemmas.Bool.{eqb-true, eqb-false, eq-eqb, ne_eqb}
 use Rattle.std.proofs.lemmas.List.{reverse-append, length-set}
 use Rattle.std.proofs.lemmas.Option.{slice_get_within}
 use Rattle.flurry_theory.specs.Machine.{State, Line, at_place, effect, does, label, steps_after, Begins, Quiet, Counts, Finds, Opens, FindsNothing, IsRefused, DecidesEmpty, Passes, Decides, Places, Claims, Moves, Reports, Publishes, Reads, Leaves, Splits, Wipes, SplitsClear, Replies, Ends}
-use Rattle.flurry_theory.specs.declared.Call.{Call}
+use Rattle.flurry_model.specs.declared.call.Call.{Call}
 use Rattle.flurry_theory.specs.declared.Label.{Label}
 use Rattle.flurry_steps.specs.Control.{Board}
 use Rattle.flurry_steps.specs.Party.{Course}

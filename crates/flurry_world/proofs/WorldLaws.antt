@@ -10,7 +10,7 @@ use Rattle.flurry_steps.specs.Party.{Said, Says, SaysEnded, SaysRefused, Stage, 
 use Rattle.flurry_theory.specs.Map.{same, key_of}
 use Rattle.flurry_theory.specs.Machine.{Can, Locating, Finished, Begins, Quiet, Replies, Ends, at_place, does}
 use Rattle.flurry_theory.specs.Invariant.{Inv}
-use Rattle.flurry_theory.specs.declared.Call.{Call}
+use Rattle.flurry_model.specs.declared.call.Call.{Call}
 use Rattle.flurry_theory.specs.declared.Label.{Label}
 use Rattle.flurry_theory.specs.declared.Label.TheVariants as label
 use Rattle.flurry_theory.proofs.Step.{inv_step}

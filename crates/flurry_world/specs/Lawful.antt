@@ -1,7 +1,7 @@
 -- What a caller may rely on of any world, whatever steps it ran.
 use Rattle.std.specs.Prelude.{◌≡◌, ℕ, pos, ◌+ℤ◌, ◌-ℤ◌, ◌%◌, ◌^◌, ◌<◌, true, false, length, reverse, slice_get, Option, Some, None}
 use Rattle.std.specs.declared.cmp.Ordering.{Ordering}
-use Rattle.flurry_bins.specs.declared.table.reply.KeptReply.{KeptReply}
+use Rattle.flurry_model.specs.declared.reply.KeptReply.{KeptReply}
 use Rattle.flurry_slots.specs.Slot.{IsUnborn}
 use Rattle.flurry_steps.specs.Party.{Task, Says, AtBin, AtDone}
 use Rattle.flurry_theory.specs.Machine.{owes_added, owes_removed, total}

@@ -1,12 +1,12 @@
 -- How a world begins, how calls begin in it, and what a list of steps does.
 use Rattle.std.specs.Prelude.{◌≡◌, ◌⊎◌, ℕ, ◌^◌, ◌≤◌, ◌++◌, true, List, [], ◌∷◌, Option, Some, None, ⊤}
 use Rattle.std.specs.declared.cmp.Ordering.{Ordering}
-use Rattle.flurry_bins.specs.Sizes.{wanted_of}
+use Rattle.flurry_model.specs.Sizes.{wanted_of}
 use Rattle.flurry_steps.specs.PartyView.{kept_stage, KeptIsReady}
 use Rattle.flurry_steps.specs.declared.party.call.KeptCall.{KeptCall}
 use Rattle.flurry_steps.specs.declared.party.call.KeptCall.TheVariants as kept
-use Rattle.flurry_theory.specs.declared.Call.{Call}
-use Rattle.flurry_theory.specs.declared.Call.TheVariants as call
+use Rattle.flurry_model.specs.declared.call.Call.{Call}
+use Rattle.flurry_model.specs.declared.call.Call.TheVariants as call
 use Rattle.flurry_world.specs.Tables.{no_tables, with_table}
 use Rattle.flurry_world.specs.World.{Shown}
 use Rattle.flurry_world.specs.Steps.{fresh_world, with_caller, WorldStep}

@@ -1,7 +1,7 @@
 -- What a world shows, and the state of the machine that it is.
 use Rattle.std.specs.Prelude.{◌≡◌, ℕ, ℤ, pos, neg_ℤ, ◌≤ℤ◌, suc, ◌≤◌, ◌^◌, false, List, [], ◌∷◌, length, reverse, slice_get, Option, Some, None, option_map, unwrap_or, IsSome, ⊤}
 use Rattle.std.specs.declared.cmp.Ordering.{Ordering}
-use Rattle.flurry_bins.specs.declared.table.reply.KeptReply.{KeptReply}
+use Rattle.flurry_model.specs.declared.reply.KeptReply.{KeptReply}
 use Rattle.flurry_slots.specs.Slot.{Live, IsLive}
 use Rattle.flurry_steps.specs.Control as control
 use Rattle.flurry_steps.specs.Control.{Board, IsControl, IsIdle, Grows}
@@ -11,8 +11,8 @@ use Rattle.flurry_theory.specs.Machine.{State, Mode, Locating, Looking, Done, Fi
 use Rattle.flurry_theory.specs.Map.{key_of}
 use Rattle.flurry_theory.specs.Trace.{is_lookup}
 use Rattle.flurry_theory.specs.Invariant.{Inv}
-use Rattle.flurry_theory.specs.declared.Call.{Call}
-use Rattle.flurry_theory.specs.declared.Call.TheVariants as call
+use Rattle.flurry_model.specs.declared.call.Call.{Call}
+use Rattle.flurry_model.specs.declared.call.Call.TheVariants as call
 use Rattle.flurry_theory.specs.declared.Label.{Label}
 use Rattle.flurry_theory.specs.declared.Label.TheVariants as label
 use Rattle.flurry_world.specs.Entries.{slot_of, Hashed}

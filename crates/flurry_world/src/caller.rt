@@ -3,7 +3,7 @@ ghost use Rattle.std.specs.Prelude.{◌≡◌};
 ghost use Rattle.flurry_steps.specs.PartyView.{kept_stage};
 ghost use Rattle.flurry_world.specs.Runs.{labelled, hash_for};
 
-use flurry_bins::hash::KeyHasher;
+use flurry_model::hash::KeyHasher;
 use flurry_slots::Change;
 use flurry_steps::Party;
 use flurry_steps::party::KeptCall;

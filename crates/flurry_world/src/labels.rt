@@ -7,7 +7,7 @@ ghost use Rattle.flurry_world.specs.Steps.{CourseStep, closing_label, label_of};
 ghost use Rattle.flurry_world.specs.World.{reply_in};
 
 use crate::parts::Parts;
-use flurry_bins::table::KeptReply;
+use flurry_model::reply::KeptReply;
 use flurry_slots::Change;
 use flurry_steps::party::{Event, Reply};
 use flurry_steps::{Party, act};

@@ -11,7 +11,7 @@ ghost use Rattle.flurry_world.specs.World.{DoesLine, IsWorld, IsBounded};
 use crate::caller::{Caller, hash_for, labelled};
 use crate::labels::step_of;
 use crate::parts::Parts;
-use flurry_bins::hash::KeyHasher;
+use flurry_model::hash::KeyHasher;
 use flurry_slots::Change;
 use flurry_steps::Party;
 use flurry_steps::control::wanted_table;

@@ -6,10 +6,10 @@ ghost use Rattle.flurry_bins.specs.Chain.{entry_of};
 mod slots;
 
 use flurry_bins::bin::{Bin, Entry, ListBin, Node, Ordered, Shape, TreeBin};
-use flurry_bins::hash::{
+use flurry_model::hash::{
     DefaultHashBuilder, KeyHasher, LowHashBuilder, MaxHashBuilder, ZeroHashBuilder,
 };
-use flurry_bins::table::stride;
+use flurry_model::sizes::stride;
 use std::alloc::Global;
 use std::hash::{Hash, Hasher};
 use std::sync::Arc;

@@ -4,8 +4,8 @@ mod each_call;
 mod growth;
 mod refused;
 
-use flurry_bins::hash::LowHashBuilder;
-use flurry_bins::table::KeptReply;
+use flurry_model::hash::LowHashBuilder;
+use flurry_model::reply::KeptReply;
 use flurry_drive::drive;
 use flurry_slots::Change;
 use flurry_steps::party::{KeptCall, Reply};

@@ -11,7 +11,7 @@ mod sets;
 mod shapes;
 
 use flurry_bins::bin::Shape;
-use flurry_bins::hash::KeyHasher;
+use flurry_model::hash::KeyHasher;
 use flurry_seq::SeqMap;
 use keys::Number;
 use std::alloc::Global;

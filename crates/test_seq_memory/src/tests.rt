@@ -8,7 +8,7 @@ mod quiet;
 mod sets;
 mod tables;
 
-use flurry_bins::hash::LowHashBuilder;
+use flurry_model::hash::LowHashBuilder;
 use flurry_seq::SeqMap;
 use std::alloc::Global;
 use std::sync::Arc;

@@ -5,8 +5,8 @@ mod checker;
 mod random;
 mod rows;
 
-use flurry_bins::hash::LowHashBuilder;
-use flurry_bins::table::KeptReply;
+use flurry_model::hash::LowHashBuilder;
+use flurry_model::reply::KeptReply;
 use flurry_slots::Change;
 use flurry_steps::party::KeptCall;
 use flurry_theory::Label;

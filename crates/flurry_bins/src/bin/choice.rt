@@ -4,9 +4,10 @@ ghost use Rattle.std.specs.Option.{option_map};
 ghost use Rattle.std.specs.Arc.{arc_value};
 ghost use Rattle.flurry_bins.specs.Chain.{chain, entry_of};
 ghost use Rattle.flurry_bins.specs.Entries.{entry_at, placed, replaced, without, with_bit};
-ghost use Rattle.flurry_bins.specs.Greatest.{greatest};
+ghost use Rattle.flurry_model.specs.Greatest.{greatest};
 ghost use Rattle.flurry_bins.specs.WayBound.{way_bound};
-ghost use Rattle.flurry_bins.specs.Kind.{kind_entries, kind_is_tree, IsSized, IsSized-prop};
+ghost use Rattle.flurry_bins.specs.Kind.{kind_entries, kind_is_tree};
+ghost use Rattle.flurry_model.specs.BinSizes.{IsSized, IsSized-prop};
 
 mod keeping;
 

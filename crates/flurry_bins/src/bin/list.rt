@@ -3,7 +3,7 @@ ghost use Rattle.std.specs.Prelude.{◌≡◌, ◌^◌, ◌+◌, ◌<◌, ◌≤
 ghost use Rattle.std.specs.Option.{option_map, option_copied};
 ghost use Rattle.std.specs.Arc.{arc_value};
 ghost use Rattle.flurry_bins.specs.Entries.{IsAscending, IsAscending-prop, AllBefore, NotBefore, list_way, entry_at, first_past, lent_bound, placed, replaced};
-ghost use Rattle.flurry_bins.specs.Greatest.{greatest};
+ghost use Rattle.flurry_model.specs.Greatest.{greatest};
 ghost use Rattle.flurry_bins.specs.Short.{list_way-short};
 ghost use Rattle.flurry_bins.specs.Chain.{chain, node_chain, entry_of};
 

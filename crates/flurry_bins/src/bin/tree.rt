@@ -4,7 +4,7 @@ ghost use Rattle.std.specs.Option.{option_map, option_copied};
 ghost use Rattle.std.specs.Arc.{arc_value};
 ghost use Rattle.flurry_bins.specs.Entries.{IsAscending, IsAscending-prop, entry_at, first_past, lent_bound, placed, replaced};
 ghost use Rattle.flurry_bins.specs.Chain.{chain, entry_of, colour_of};
-ghost use Rattle.flurry_bins.specs.Greatest.{greatest};
+ghost use Rattle.flurry_model.specs.Greatest.{greatest};
 ghost use Rattle.flurry_bins.specs.Balance.{red_root, blackened, leaned_left, leaned_right, put_tree};
 ghost use Rattle.flurry_bins.specs.Tree as tree;
 ghost use Rattle.flurry_bins.specs.Tree.{shape, node_shape, inorder, IsRedBlack, IsRedBlack-prop, black_height, tree_way};

@@ -14,7 +14,7 @@ use super::reply::Reply;
 use super::stage::{After, Growing, Stage};
 use crate::control::wanted_table;
 use flurry_bins::bin::Entry;
-use flurry_bins::table::TryInsertError;
+use flurry_model::try_insert::TryInsertError;
 use flurry_slots::{Added, Answer, Change, Computed, Slot, Written};
 use std::alloc::{AllocError, Allocator};
 use std::sync::Arc;

@@ -1,6 +1,6 @@
 //! What calls of a shared map answer.
 
-use flurry_bins::table::TryInsertError;
+use flurry_model::try_insert::TryInsertError;
 use std::alloc::{Allocator, Global};
 use std::sync::Arc;
 

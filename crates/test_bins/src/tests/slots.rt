@@ -4,7 +4,7 @@ ghost use Rattle.std.specs.Prelude.{OnOk};
 ghost use Rattle.flurry_slots.specs.Slot.{LiesIn};
 
 use flurry_bins::bin::Bin;
-use flurry_bins::table::bin_index;
+use flurry_model::sizes::bin_index;
 use flurry_slots::{Answer, Computed, MoveAnswer, NoChange, Slot};
 use std::alloc::{AllocError, Global};
 use std::test::Fail;

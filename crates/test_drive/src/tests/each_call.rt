@@ -2,7 +2,7 @@
 
 use super::{Plain, answers, value};
 use crate::Beside;
-use flurry_bins::table::KeptReply;
+use flurry_model::reply::KeptReply;
 use flurry_slots::Change;
 use flurry_steps::Field;
 use flurry_steps::party::KeptCall;

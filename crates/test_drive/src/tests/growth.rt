@@ -2,7 +2,7 @@
 
 use super::each_call::beside_sixteen;
 use super::{answers, same, value, without_owners};
-use flurry_bins::hash::LowHashBuilder;
+use flurry_model::hash::LowHashBuilder;
 use flurry_drive::drive_alone;
 use flurry_slots::{Change, NoChange};
 use flurry_steps::Field;

@@ -2,7 +2,7 @@
 
 use super::{insert_new, lent, puts, queue_of, same, taken};
 use flurry_bins::bin::{Ordered, Shape};
-use flurry_bins::hash::LowHashBuilder;
+use flurry_model::hash::LowHashBuilder;
 use flurry_seq::SeqMap;
 use flurry_seq::calls::{Call, Reply};
 use std::alloc::Global;

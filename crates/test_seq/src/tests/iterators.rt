@@ -1,5 +1,5 @@
 //! Iterators, equality and further maps, through maps whose sums are known.
-use flurry_bins::hash::{DefaultHashBuilder, KeyHasher, LowHashBuilder, ZeroHashBuilder};
+use flurry_model::hash::{DefaultHashBuilder, KeyHasher, LowHashBuilder, ZeroHashBuilder};
 use flurry_seq::SeqMap;
 use std::alloc::Global;
 use std::sync::Arc;

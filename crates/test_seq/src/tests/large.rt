@@ -1,7 +1,7 @@
 //! Many keys.
 
 use super::same;
-use flurry_bins::hash::{DefaultHashBuilder, KeyHasher, MaxHashBuilder, ZeroHashBuilder};
+use flurry_model::hash::{DefaultHashBuilder, KeyHasher, MaxHashBuilder, ZeroHashBuilder};
 use flurry_seq::SeqMap;
 use std::process::Abort;
 use std::test::Fail;

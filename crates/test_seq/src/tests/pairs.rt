@@ -2,8 +2,8 @@
 
 use super::keys::{Backward, Number, Tagged};
 use super::{holds, insert_new, lent, puts, same, taken};
-use flurry_bins::hash::{LowHashBuilder, ZeroHashBuilder};
-use flurry_bins::table::TryInsertError;
+use flurry_model::hash::{LowHashBuilder, ZeroHashBuilder};
+use flurry_model::try_insert::TryInsertError;
 use flurry_seq::SeqMap;
 use std::cell::Cell;
 use std::process::Abort;

@@ -3,7 +3,7 @@
 use super::keys::{Backward, Number, Tagged};
 use super::{holds, insert_new, lent, puts, same, stands, taken};
 use flurry_bins::bin::Shape;
-use flurry_bins::hash::{LowHashBuilder, ZeroHashBuilder};
+use flurry_model::hash::{LowHashBuilder, ZeroHashBuilder};
 use flurry_seq::SeqMap;
 use std::process::Abort;
 use std::test::Fail;

@@ -1,7 +1,7 @@
 //! Lists of pairs and of calls.
 
 use super::{MOST_REQUESTS, Memory, lent, map_of};
-use flurry_bins::hash::LowHashBuilder;
+use flurry_model::hash::LowHashBuilder;
 use flurry_seq::SeqMap;
 use flurry_seq::calls::Call;
 use std::collections::VecDeque;

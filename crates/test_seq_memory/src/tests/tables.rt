@@ -2,7 +2,7 @@
 
 use super::{MOST_REQUESTS, Memory, lent, map_of};
 use flurry_bins::bin::Shape;
-use flurry_bins::hash::{LowHashBuilder, ZeroHashBuilder};
+use flurry_model::hash::{LowHashBuilder, ZeroHashBuilder};
 use flurry_seq::SeqMap;
 use std::test::Fail;
 use test_alloc::Refusing;

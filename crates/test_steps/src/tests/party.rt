@@ -14,7 +14,7 @@ mod rewrites;
 
 use super::same;
 use flurry_bins::bin::Bin;
-use flurry_bins::table::KeptReply;
+use flurry_model::reply::KeptReply;
 use flurry_slots::{Change, NoChange, Slot};
 use flurry_steps::control::{Control, Room};
 use flurry_steps::party::{Call, Event, Party, Reply, Want};

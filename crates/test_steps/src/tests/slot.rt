@@ -4,7 +4,7 @@ ghost use Rattle.flurry_slots.specs.Slot.{LiesIn};
 
 use super::same;
 use flurry_bins::bin::{Bin, Ordered};
-use flurry_bins::table::bin_index;
+use flurry_model::sizes::bin_index;
 use flurry_slots::{Answer, MoveAnswer, Slot};
 use std::alloc::Global;
 use std::cell::Cell;

@@ -1,8 +1,8 @@
 //! Each call once, a list of steps, and the first table of a new world.
 
 use super::{Line, Numbers, assert_call, assert_reply, begin, end_of, line_of, value};
-use flurry_bins::hash::LowHashBuilder;
-use flurry_bins::table::KeptReply;
+use flurry_model::hash::LowHashBuilder;
+use flurry_model::reply::KeptReply;
 use flurry_slots::{Change, NoChange};
 use flurry_steps::party::KeptCall;
 use flurry_world::world::Step;

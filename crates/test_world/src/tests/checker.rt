@@ -1,6 +1,6 @@
 //! A checker of labels: it keeps a plain map, the call of each party and the state of the tables, by the labels alone.
 
-use flurry_bins::table::KeptReply;
+use flurry_model::reply::KeptReply;
 use flurry_slots::Change;
 use flurry_theory::{Call, Label};
 use std::alloc::Global;

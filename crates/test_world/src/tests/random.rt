@@ -3,7 +3,7 @@ ghost use Rattle.std.specs.Prelude.{◌<◌};
 
 use super::checker::{Checker, KEYS};
 use super::{Numbers, begin};
-use flurry_bins::hash::LowHashBuilder;
+use flurry_model::hash::LowHashBuilder;
 use flurry_slots::Change;
 use flurry_steps::control::wanted_table;
 use flurry_steps::party::KeptCall;

@@ -3,7 +3,7 @@
 use super::{
     Line, Numbers, assert_call, assert_reply, assert_steps, begin, end_of, line_of, step, value,
 };
-use flurry_bins::hash::LowHashBuilder;
+use flurry_model::hash::LowHashBuilder;
 use flurry_slots::{Change, NoChange};
 use flurry_steps::party::KeptCall;
 use std::alloc::Global;

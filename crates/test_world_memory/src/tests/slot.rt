@@ -4,7 +4,7 @@ ghost use Rattle.flurry_slots.specs.Slot.{LiesIn};
 
 use super::Memory;
 use flurry_bins::bin::Bin;
-use flurry_bins::table::bin_index;
+use flurry_model::sizes::bin_index;
 use flurry_slots::{Answer, Computed, Slot};
 use std::test::Fail;
 use test_alloc::Refusing;

@@ -1,8 +1,8 @@
 //! Each request of a world's calls, refused in turn.
 
 use super::Memory;
-use flurry_bins::hash::LowHashBuilder;
-use flurry_bins::table::KeptReply;
+use flurry_model::hash::LowHashBuilder;
+use flurry_model::reply::KeptReply;
 use flurry_slots::{Change, NoChange};
 use flurry_steps::party::KeptCall;
 use flurry_theory::Label;

@@ -2,7 +2,7 @@
 
 use super::Memory;
 use super::world::{Numbers, labels_from, step_to};
-use flurry_bins::hash::LowHashBuilder;
+use flurry_model::hash::LowHashBuilder;
 use flurry_slots::{Change, NoChange};
 use flurry_steps::party::KeptCall;
 use flurry_world::World;

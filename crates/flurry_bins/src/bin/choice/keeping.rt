@@ -1,6 +1,7 @@
 //! Keeping some of the entries of a bin.
 ghost use Rattle.std.specs.Prelude.{◌≡◌, ◌&&◌, nat_le, length};
-ghost use Rattle.flurry_bins.specs.Keeping.{Keeps, CalledAtEntry};
+ghost use Rattle.flurry_model.specs.Keeping.{Keeps};
+ghost use Rattle.flurry_bins.specs.Keeping.{CalledAtEntry};
 ghost use Rattle.flurry_bins.specs.Kind.{kind_entries, kind_is_tree};
 
 use super::{Bin, Kind, kind_from};

@@ -1,7 +1,8 @@
 //! Keeping some of the entries of a list.
 ghost use Rattle.std.specs.Prelude.{◌≡◌, ◌^◌, ◌≤◌, length};
 ghost use Rattle.flurry_bins.specs.Chain.{chain};
-ghost use Rattle.flurry_bins.specs.Keeping.{Keeps, CalledAtEntry};
+ghost use Rattle.flurry_model.specs.Keeping.{Keeps};
+ghost use Rattle.flurry_bins.specs.Keeping.{CalledAtEntry};
 
 use super::{ListBin, alone, followed_by, join};
 use crate::bin::node::{Link, Node};

@@ -2,7 +2,7 @@
 
 use super::super::same;
 use super::empty_room;
-use flurry_bins::table::stride;
+use flurry_model::sizes::stride;
 use flurry_steps::Control;
 use flurry_steps::control::{Advice, wanted_table};
 use std::test::Fail;

@@ -2,7 +2,7 @@
 
 use super::super::same;
 use super::{Map, Told, answers, call, empty_map, goes_on, insert, reply_of, step, steps, value};
-use flurry_bins::table::KeptReply;
+use flurry_model::reply::KeptReply;
 use flurry_slots::{Change, NoChange};
 use flurry_steps::party::{Call, Event, Party, Want};
 use std::process::Abort;

@@ -2,7 +2,7 @@
 
 use super::super::same;
 use super::{Becomes, Map, Told, answers, call, empty_map, insert, reply_of, run, step, value};
-use flurry_bins::table::KeptReply;
+use flurry_model::reply::KeptReply;
 use flurry_slots::{Change, NoChange};
 use flurry_steps::party::{Call, Event, Party, Want};
 use std::alloc::Global;

@@ -1,7 +1,7 @@
 use Rattle.std.proofs.Common.{sym, ap, ◌∙◌}
 use Rattle.std.specs.Option.{option_or, option_copied}
 use Rattle.flurry_bins.specs.Entries.{lent_bound, entry_cmp}
-use Rattle.flurry_bins.proofs.Sides.{sorted_front, sorted_back, sorted_tail}
+use Rattle.flurry_model.proofs.ListParts.{sorted_front, sorted_back, sorted_tail}
 use Rattle.flurry_bins.proofs.Trees.{shape_at, next_left, next_right}
 use Rattle.flurry_bins.proofs.bin.tree.next_in.Goals as goal
 

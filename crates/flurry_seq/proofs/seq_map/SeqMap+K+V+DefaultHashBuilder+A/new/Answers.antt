@@ -1,4 +1,4 @@
-use Rattle.flurry_bins.proofs.FiniteMapLaws.{IsFiniteMap-nil}
+use Rattle.flurry_model.proofs.FiniteMapLaws.{IsFiniteMap-nil}
 use Rattle.flurry_seq.proofs.seq_map.SeqMap+K+V+DefaultHashBuilder+A.new.Goals as goal
 
 pub returns-clause-ascend : goal.returns-clause-ascend

@@ -1,5 +1,5 @@
 use Rattle.std.proofs.Common.{◌*◌, length, inl, inr, refl, subst}
-use Rattle.flurry_bins.specs.Sizes.{wanted_of, IsOnTheWay}
+use Rattle.flurry_model.specs.Sizes.{wanted_of, IsOnTheWay}
 use Rattle.flurry_seq.specs.Contents.{first_bins}
 use Rattle.flurry_seq.specs.Growth.{IsTableFrom}
 use Rattle.flurry_seq.specs.Invariant.{IsTableSize}

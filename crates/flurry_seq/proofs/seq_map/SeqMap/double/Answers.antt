@@ -1,5 +1,5 @@
 use Rattle.std.proofs.Common.{◌^◌, ◌<◌, length, ap}
-use Rattle.flurry_bins.specs.FiniteMap.{gathered}
+use Rattle.flurry_model.specs.FiniteMap.{gathered}
 use Rattle.flurry_seq.specs.Contents.{contents}
 use Rattle.flurry_seq.specs.Table.{all_pairs}
 use Rattle.flurry_seq.proofs.GrowthLemmas.{IsTable-doubled, gathered-doubled, length-doubled}

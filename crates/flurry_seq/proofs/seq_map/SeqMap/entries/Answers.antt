@@ -1,7 +1,7 @@
 use Rattle.std.proofs.Common.{length, sym, ap, ◌∙◌}
 use Rattle.std.proofs.lemmas.List.{length-map}
 use Rattle.std.proofs.lemmas.List.Sorted.{length_permutation}
-use Rattle.flurry_bins.specs.FiniteMap.{gathered}
+use Rattle.flurry_model.specs.FiniteMap.{gathered}
 use Rattle.flurry_seq.specs.Table.{pair_of, all_pairs, all_entries}
 use Rattle.flurry_seq.proofs.IterLemmas.{pairs_permute, all_apart}
 use Rattle.flurry_seq.proofs.LeftLemmas.{all_pairs-of_entries, all_hashed}

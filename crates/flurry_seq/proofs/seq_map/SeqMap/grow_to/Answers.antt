@@ -1,5 +1,5 @@
 use Rattle.std.proofs.Common.{inl, inr, arith, refl}
-use Rattle.flurry_bins.proofs.SizeLaws.{way_start, way_more}
+use Rattle.flurry_model.proofs.SizeLaws.{way_start, way_more}
 use Rattle.flurry_seq.proofs.seq_map.SeqMap.grow_to.Goals as goal
 
 pub loop-self-init : goal.loop-self-init

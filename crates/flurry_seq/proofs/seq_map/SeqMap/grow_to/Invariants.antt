@@ -1,5 +1,5 @@
 use Rattle.std.proofs.Common.{◌-◌, ◌^◌, ◌<◌}
-use Rattle.flurry_bins.specs.Sizes.{IsOnTheWay}
+use Rattle.flurry_model.specs.Sizes.{IsOnTheWay}
 use Rattle.flurry_seq.specs.Contents.{SamePairs}
 use Rattle.flurry_seq.proofs.seq_map.SeqMap.grow_to.Given as goal
 

@@ -1,6 +1,6 @@
 use Rattle.std.proofs.Common.{refl}
 use Rattle.flurry_seq.proofs.IterLemmas.{pairs_permute}
-use Rattle.flurry_bins.proofs.FiniteMapLaws.{IsFiniteMap-gathered}
+use Rattle.flurry_model.proofs.FiniteMapLaws.{IsFiniteMap-gathered}
 use Rattle.flurry_seq.specs.Table.{all_pairs}
 use Rattle.flurry_seq.proofs.seq_map.SeqMap.into_bins.Goals as goal
 

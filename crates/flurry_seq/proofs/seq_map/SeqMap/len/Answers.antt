@@ -1,4 +1,4 @@
-use Rattle.flurry_bins.proofs.FiniteMapLaws.{IsFiniteMap-gathered}
+use Rattle.flurry_model.proofs.FiniteMapLaws.{IsFiniteMap-gathered}
 use Rattle.flurry_seq.specs.Table.{all_pairs}
 use Rattle.flurry_seq.proofs.seq_map.SeqMap.len.Goals as goal
 

@@ -2,7 +2,7 @@ use Rattle.std.proofs.Common.{◌≡◌, ◌<◌, ◌^◌, length, lit≤, refl,
 use Rattle.std.proofs.Common.{length-set}
 use Rattle.std.specs.Arc.{arc_value}
 use Rattle.flurry_bins.specs.Chain.{entry_of}
-use Rattle.flurry_bins.specs.FiniteMap.{gathered, pair_at, with_pair}
+use Rattle.flurry_model.specs.FiniteMap.{gathered, pair_at, with_pair}
 use Rattle.flurry_seq.specs.Table.{all_pairs, entry_in}
 use Rattle.flurry_seq.proofs.TableLemmas.{gathered-with}
 use Rattle.flurry_seq.proofs.GrowthLemmas.{IsTable-added, entry_absent, first_some}

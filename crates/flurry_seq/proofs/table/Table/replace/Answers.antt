@@ -2,7 +2,7 @@ use Rattle.flurry_bins.specs.Bin.{entries_of_bin}
 use Rattle.flurry_bins.specs.Entries.{entry_at}
 use Rattle.flurry_bins.specs.PlainEntries.{plain}
 use Rattle.flurry_seq.proofs.SeenLemmas.{entry_here, replaced_here, value_mapped, entry_some}
-use Rattle.flurry_bins.proofs.PlainEntryLaws.{some_mapped}
+use Rattle.flurry_model.proofs.OptionLaws.{some_mapped}
 use Rattle.flurry_seq.proofs.NumberLemmas.{all_at, all_set, zero-replaced}
 use Rattle.std.proofs.Common.{length-set}
 use Rattle.flurry_seq.proofs.table.Table.replace.Goals as goal

@@ -1,6 +1,6 @@
 use Rattle.std.proofs.Common.{◌≡◌, ℕ, ◌+◌, ◌≤◌, ◌++◌, length}
 use Rattle.std.specs.Vec.Iter.{into_iter_items}
-use Rattle.flurry_bins.specs.FiniteSet.{with_elements}
+use Rattle.flurry_model.specs.FiniteSet.{with_elements}
 use Rattle.flurry_seq.specs.Growth.{IsTableFrom, HasRoom}
 use Rattle.flurry_set.proofs.seq_set.SeqSet.insert_all.Given as goal
 

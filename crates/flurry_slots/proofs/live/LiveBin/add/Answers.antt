@@ -5,9 +5,9 @@ use Rattle.flurry_bins.specs.Chain.{entry_of}
 use Rattle.flurry_bins.specs.Bin.{entries_of_bin, is_tree}
 use Rattle.flurry_bins.specs.Entries.{entry_at}
 use Rattle.flurry_bins.specs.PlainEntries.{numbered}
-use Rattle.flurry_bins.specs.Kind.{asks_for_growth}
+use Rattle.flurry_model.specs.BinSizes.{asks_for_growth}
 use Rattle.flurry_slots.proofs.LiveLaws.{live_found, live_added}
-use Rattle.flurry_bins.proofs.PlainEntryLaws.{none_mapped}
+use Rattle.flurry_model.proofs.OptionLaws.{none_mapped}
 use Rattle.flurry_slots.proofs.live.LiveBin.add.Goals as goal
 
 pub put_in_table-requires-clause-absent : goal.put_in_table-requires-clause-absent

@@ -1,7 +1,7 @@
 use Rattle.std.proofs.Common.{sym, ap, ◌∙◌, option_map}
 use Rattle.flurry_bins.specs.PlainEntries.{numbered}
 use Rattle.flurry_slots.proofs.LiveLaws.{live_found}
-use Rattle.flurry_bins.proofs.PlainEntryLaws.{copied}
+use Rattle.flurry_model.proofs.OptionLaws.{copied}
 use Rattle.flurry_slots.proofs.live.LiveBin.find.Goals as goal
 
 pub returns : goal.returns

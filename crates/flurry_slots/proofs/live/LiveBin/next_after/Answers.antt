@@ -3,7 +3,8 @@ use Rattle.flurry_bins.specs.Bin.{entries_of_bin}
 use Rattle.flurry_bins.specs.Entries.{lent_bound}
 use Rattle.flurry_bins.specs.PlainEntries.{numbered}
 use Rattle.flurry_slots.proofs.LiveLaws.{value_and_number}
-use Rattle.flurry_bins.proofs.PlainEntryLaws.{copied, paired-first_past}
+use Rattle.flurry_model.proofs.OptionLaws.{copied}
+use Rattle.flurry_bins.proofs.PlainEntryLaws.{paired-first_past}
 use Rattle.flurry_slots.proofs.live.LiveBin.next_after.Goals as goal
 
 pub returns : goal.returns

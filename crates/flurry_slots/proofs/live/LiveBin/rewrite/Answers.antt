@@ -2,7 +2,7 @@ use Rattle.flurry_bins.specs.Bin.{entries_of_bin}
 use Rattle.flurry_bins.specs.Entries.{entry_at}
 use Rattle.flurry_bins.specs.PlainEntries.{numbered}
 use Rattle.flurry_slots.proofs.LiveLaws.{live_found, live_rewritten, value_of_entry}
-use Rattle.flurry_bins.proofs.PlainEntryLaws.{some_mapped}
+use Rattle.flurry_model.proofs.OptionLaws.{some_mapped}
 use Rattle.flurry_slots.proofs.live.LiveBin.rewrite.Goals as goal
 
 pub replace-requires : goal.replace-requires

@@ -1,7 +1,7 @@
 use Rattle.std.proofs.Common.{◌==◌, ◌≤◌, ap, length, arith}
 use Rattle.std.specs.Int.{bit_at}
 use Rattle.flurry_bins.specs.Chain.{chain}
-use Rattle.flurry_bins.proofs.BinSizes.{filter_no_longer}
+use Rattle.flurry_model.proofs.BinSizeLaws.{filter_no_longer}
 use Rattle.flurry_bins.proofs.bin.choice.BinOrdered.split.Goals as goal
 
 pub invariant_of-low : goal.invariant_of-low

@@ -1,7 +1,8 @@
 use Rattle.std.proofs.Common.{◌≡◌, ◌∷◌, ap, ◌∙◌, length, of_calls, arith}
 use Rattle.flurry_bins.specs.Chain.{chain, node_chain, entry_of}
 use Rattle.flurry_bins.specs.Keeping.{CalledAtEntry}
-use Rattle.flurry_bins.proofs.KeepingLaws.{KeepsOn-true, KeepsOn-false, CalledAtEntry-from}
+use Rattle.flurry_model.proofs.KeepingLaws.{KeepsOn-true, KeepsOn-false}
+use Rattle.flurry_bins.proofs.KeepingLaws.{CalledAtEntry-from}
 use Rattle.flurry_bins.proofs.bin.list.keeping.kept_of.Goals as goal
 
 pub loop-rest-preserved-then-keep : goal.loop-rest-preserved-then-keep

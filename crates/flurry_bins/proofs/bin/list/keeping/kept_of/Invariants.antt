@@ -1,7 +1,7 @@
 use Rattle.std.proofs.Common.{◌≡◌, ◌+◌, ◌≤◌, ◌^◌, length}
 use Rattle.flurry_bins.specs.Chain.{chain}
 use Rattle.flurry_bins.specs.Keeping.{CalledAtEntry}
-use Rattle.flurry_bins.proofs.KeepingLaws.{KeepsOn}
+use Rattle.flurry_model.proofs.KeepingLaws.{KeepsOn}
 use Rattle.flurry_bins.proofs.bin.list.keeping.kept_of.Given as goal
 
 abbrev pub invariant-loop-rest : goal.invariant-loop-rest

@@ -1,6 +1,6 @@
 //! The error of an insertion that finds its key present.
 ghost use Rattle.std.specs.Prelude.{codes, Some, None};
-ghost use Rattle.flurry_bins.specs.TryInsert.{try_insert_text};
+ghost use Rattle.flurry_model.specs.TryInsert.{try_insert_text};
 
 use std::alloc::{Allocator, Global};
 use std::error::Error;

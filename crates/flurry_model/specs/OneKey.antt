@@ -1,9 +1,9 @@
 -- The calls of one key: what each replies on a finite map, and the map after it.
 use Rattle.std.specs.Prelude.{◌≡◌, ◌⊎◌, List, Option, None, is_some, MatchOption}
 use Rattle.std.specs.declared.cmp.Ordering.{Ordering}
-use Rattle.flurry_bins.specs.FiniteMap.{pair_at, value_at, with_pair, without}
-use Rattle.flurry_bins.specs.declared.table.reply.KeptReply.{KeptReply}
-use Rattle.flurry_bins.specs.declared.table.reply.KeptReply.TheVariants.{Value, Pair, Contains, New, Exists}
+use Rattle.flurry_model.specs.FiniteMap.{pair_at, value_at, with_pair, without}
+use Rattle.flurry_model.specs.declared.reply.KeptReply.{KeptReply}
+use Rattle.flurry_model.specs.declared.reply.KeptReply.TheVariants.{Value, Pair, Contains, New, Exists}
 
 -- A call of one key. F is the type of the function that `Compute` calls.
 pub data OneKey (K V F : Type 0) : Type 0 where

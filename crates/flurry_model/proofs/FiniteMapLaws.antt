@@ -7,7 +7,7 @@ use Rattle.std.specs.List.{AllByRecursion, filter}
 use Rattle.std.specs.List.Sorted.{IsStrictlySortedBy}
 use Rattle.std.specs.Map.{keys_of}
 use Rattle.std.proofs.lemmas.Map.Keys.{sorted_head, sorted_tail}
-use Rattle.flurry_bins.specs.FiniteMap.{IsFiniteMap, pair_at, with_pair, with_all, without, stored_key, gathered}
+use Rattle.flurry_model.specs.FiniteMap.{IsFiniteMap, pair_at, with_pair, with_all, without, stored_key, gathered}
 
 same_test : {X : Type 0} (b c : Bool) (x y z : X) → b ≡ c → cond c x z ≡ cond b x (cond c y z)
 same_test true true x y z e = refl

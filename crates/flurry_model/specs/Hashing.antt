@@ -9,7 +9,7 @@ use Rattle.std.specs.declared.cmp.Ordering.TheVariants.{Equal}
 use Rattle.std.specs.Ordering.{nat_cmp, is_eq}
 use Rattle.std.specs.declared.cmp.Ordering.{Ordering}
 use Rattle.std.proofs.lemmas.Cmp.{ranked}
-use Rattle.flurry_bins.specs.declared.hash.DefaultHashBuilder.{DefaultHashBuilder}
+use Rattle.flurry_model.specs.declared.hash.DefaultHashBuilder.{DefaultHashBuilder}
 
 -- the seed of a builder
 abbrev pub seed_of : DefaultHashBuilder → ℕ

@@ -1,7 +1,7 @@
 //! The number of a key.
 ghost use Rattle.std.specs.Prelude.{◌≡◌, ℕ, refl};
 ghost use Rattle.std.specs.declared.cmp.Ordering.TheVariants.{Equal};
-ghost use Rattle.flurry_bins.specs.Hashing.{seed_of, seeded, hash_with_seed, hash_with_seed-alike, equal_from_tie};
+ghost use Rattle.flurry_model.specs.Hashing.{seed_of, seeded, hash_with_seed, hash_with_seed-alike, equal_from_tie};
 
 pub use std::hash::DefaultHasher;
 use std::hash::{Hash, Hasher};
@@ -53,7 +53,7 @@ impl<K: Ord> KeyHasher<K> for MaxHashBuilder {
 pub struct LowHashBuilder;
 
 impl KeyHasher<u64> for LowHashBuilder {
-    ghost use Rattle.flurry_bins.specs.Hashing.{same_number};
+    ghost use Rattle.flurry_model.specs.Hashing.{same_number};
 
     ghost hash_of = { λ s k. k };
 

@@ -7,7 +7,7 @@ use Rattle.std.proofs.lemmas.Bool.{cases_lt}
 use Rattle.std.proofs.lemmas.Bool.Decides.{nat_tests}
 use Rattle.std.proofs.lemmas.Int.Digits.{number_digits_of, number_lt, all_below_base_digits_of, length-digits_of-le}
 use Rattle.std.proofs.Math.Pow.{pow_mono}
-use Rattle.flurry_bins.specs.Sizes.{wanted_of, IsTooSmall, IsOnTheWay}
+use Rattle.flurry_model.specs.Sizes.{wanted_of, IsTooSmall, IsOnTheWay}
 
 pub wanted_of-most : (s : ℕ) → 2 ^ 29 ≤ s → wanted_of s ≡ 2 ^ 30
 unfolding wanted_of

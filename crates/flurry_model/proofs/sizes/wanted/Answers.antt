@@ -1,6 +1,6 @@
 use Rattle.std.proofs.Common.{sym}
-use Rattle.flurry_bins.proofs.SizeLaws.{wanted_of-most, wanted_of-next}
-use Rattle.flurry_bins.proofs.table.wanted.Goals as goal
+use Rattle.flurry_model.proofs.SizeLaws.{wanted_of-most, wanted_of-next}
+use Rattle.flurry_model.proofs.sizes.wanted.Goals as goal
 
 pub returns-then-pairs-clause-value : goal.returns-then-pairs-clause-value
 returns-then-pairs-clause-value c = sym (wanted_of-most c.args.pairs c.if-pairs.true)

@@ -6,7 +6,7 @@ use Rattle.std.proofs.Math.Nat.{pow-succ'}
 use Rattle.std.proofs.Math.Arith.{mod-mul}
 use Rattle.std.proofs.lemmas.Nat.{pow_pos}
 use Rattle.std.proofs.lemmas.Bool.{eqb-true}
-use Rattle.flurry_bins.specs.Region.{InRegion}
+use Rattle.flurry_model.specs.HashOrder.{InRegion}
 
 two_pow_next : (e : ℕ) → 2 ^ (e + 1) ≡ 2 * 2 ^ e
 two_pow_next e = rw add-one (pow-succ' 2 e)

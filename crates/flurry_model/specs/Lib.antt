@@ -1,0 +1,10 @@
+pub mod FiniteMap
+pub mod FiniteSet
+pub mod OneKey
+pub mod HashOrder
+pub mod Hashing
+pub mod Sizes
+pub mod BinSizes
+pub mod Keeping
+pub mod Greatest
+pub mod TryInsert
