@@ -10,8 +10,8 @@ pub mod slots;
 pub mod steps;
 pub mod world;
 
+pub use flurry_bins::{bin, table};
 pub use flurry_model::hash::{DefaultHashBuilder, DefaultHasher};
-pub use flurry_model::try_insert::TryInsertError;
-pub use flurry_bins::{bin, hash, table};
+pub use flurry_model::{TryInsertError, hash};
 pub use flurry_seq::{SeqMap, calls, iter as seq_iter, seq_map};
 pub use flurry_set::{SeqSet, seq_set, set_calls};

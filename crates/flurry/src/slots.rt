@@ -1,5 +1,5 @@
 //! The slots of a table, and the steps that are done at one slot.
 
 pub use flurry_slots::{
-    Added, Answer, Change, Computed, MoveAnswer, NoChange, Receipt, Slot, Written,
+    Added, Answer, ComputeFn, Computed, MoveAnswer, NoFn, Receipt, Slot, Written,
 };

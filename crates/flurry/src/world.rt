@@ -1,8 +1,8 @@
 //! Every interleaving of calls of a shared map, run one step at a time; and single calls, driven to their end.
 
 pub use flurry_drive::{drive, drive_alone};
-pub use flurry_slots::{Change, NoChange};
-pub use flurry_steps::party::KeptCall;
+pub use flurry_slots::{ComputeFn, NoFn};
+pub use flurry_steps::party::OwnedCall;
 pub use flurry_theory::{Call, Label, Seen, laws};
 pub use flurry_world::tables::Tables;
 pub use flurry_world::world::Step;

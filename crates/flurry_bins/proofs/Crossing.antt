@@ -9,7 +9,7 @@ use Rattle.std.specs.declared.cmp.PartialEq as eq
 use Rattle.std.specs.declared.cmp.PartialOrd as partial
 use Rattle.flurry_bins.proofs.bin.entry.Entry.TheSendSync as entry
 use Rattle.flurry_bins.proofs.bin.node.Node.TheLaws.TheKnot as knot
-use Rattle.flurry_bins.specs.contracts.bin.choice.Bin as Bin
+use Rattle.flurry_bins.specs.contracts.bin.adaptive.Bin as Bin
 use Rattle.flurry_bins.specs.contracts.bin.list.ListBin as ListBin
 use Rattle.flurry_bins.specs.contracts.bin.node.Node as Node
 use Rattle.flurry_bins.specs.contracts.bin.tree.TreeBin as TreeBin

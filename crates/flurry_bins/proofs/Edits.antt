@@ -10,9 +10,9 @@ use Rattle.std.specs.Option.{is_some, IsSome, IsNone}
 use Rattle.std.specs.Arc.{arc_value}
 use Rattle.std.specs.declared.sync.Arc.{Arc}
 use Rattle.flurry_bins.specs.declared.bin.entry.Entry.{Entry}
-use Rattle.flurry_bins.specs.Entries.{place_cmp, entry_cmp, IsAscending, is_at, is_before, is_past, entry_at, placed, replaced, without, with_value, AllBefore, NotBefore}
+use Rattle.flurry_bins.specs.Entries.{place_cmp, entry_cmp, IsAscending, is_at, is_before, is_past, entry_at, with_entry, with_value_at, without, with_value, AllBefore, NotBefore}
 use Rattle.flurry_model.proofs.ListParts.{all_append, all_first, all_second, sorted_head, sorted_tail, sorted_cons, sorted_back}
-use Rattle.flurry_bins.proofs.Places.{AllPast, past_rest, entry_at-back, without-back, before-back, past-back, replaced-back, entry_at-front, without-front, before-front, past-front, replaced-front}
+use Rattle.flurry_bins.proofs.Places.{AllPast, past_rest, entry_at-back, without-back, before-back, past-back, with_value_at-back, entry_at-front, without-front, before-front, past-front, with_value_at-front}
 use Rattle.flurry_bins.proofs.PlainEntryLaws.{entry_total}
 
 pub all_reverse : {X : Type 0} (P : X → Type 0) (xs : List X) → AllByRecursion P xs → AllByRecursion P (reverse xs)
@@ -82,8 +82,8 @@ module _ {K V A : Type 0} {cmp : K → K → Ordering} (o : IsTotalOrder cmp) (h
     pub taken_there : without cmp h k (ds ++ e ∷ es) ≡ ds ++ es
     taken_there = without-front cmp h k ds (e ∷ es) b ∙ ap (λ t. ds ++ cond (not t) (e ∷ without cmp h k es) (without cmp h k es)) at ∙ ap (λ t. ds ++ t) (without-back cmp h k [] es past_found)
 
-    pub replaced_there : (v : Arc V A) (n : ℕ) → replaced cmp h k v n (ds ++ e ∷ es) ≡ ds ++ with_value e v n ∷ es
-    replaced_there v n = replaced-front cmp h k ds (e ∷ es) b v n ∙ ap (λ t. ds ++ cond t (with_value e v n) e ∷ replaced cmp h k v n es) at ∙ ap (λ t. ds ++ with_value e v n ∷ t) (replaced-back cmp h k [] es past_found v n)
+    pub replaced_there : (v : Arc V A) (n : ℕ) → with_value_at cmp h k v n (ds ++ e ∷ es) ≡ ds ++ with_value e v n ∷ es
+    replaced_there v n = with_value_at-front cmp h k ds (e ∷ es) b v n ∙ ap (λ t. ds ++ cond t (with_value e v n) e ∷ with_value_at cmp h k v n es) at ∙ ap (λ t. ds ++ with_value e v n ∷ t) (with_value_at-back cmp h k [] es past_found v n)
 
 -- what is known of entries that are cut at a place
 pub record IsCut {K V A : Type 0} (cmp : K → K → Ordering) (h : ℕ) (k : K) (all front back : List (Entry K V A)) : Type 0 where
@@ -92,7 +92,7 @@ pub record IsCut {K V A : Type 0} (cmp : K → K → Ordering) (h : ℕ) (k : K)
   pub stops : NotBefore cmp h k back
 
 pub record IsPut {K V A : Type 0} (cmp : K → K → Ordering) (x : Entry K V A) (all new : List (Entry K V A)) : Type 0 where
-  pub is : new ≡ placed cmp x all
+  pub is : new ≡ with_entry cmp x all
   pub ascending : IsAscending cmp new
   pub longer : length new ≡ length all + 1
 
@@ -104,7 +104,7 @@ pub record IsTaken {K V A : Type 0} (cmp : K → K → Ordering) (h : ℕ) (k : 
 
 pub record IsRevalued {K V A : Type 0} (cmp : K → K → Ordering) (h : ℕ) (k : K) (v : Arc V A) (n : ℕ) (e : Entry K V A) (all new : List (Entry K V A)) : Type 0 where
   pub found : entry_at cmp h k all ≡ Some e
-  pub is : new ≡ replaced cmp h k v n all
+  pub is : new ≡ with_value_at cmp h k v n all
   pub ascending : IsAscending cmp new
   pub as_long : length new ≡ length all
 

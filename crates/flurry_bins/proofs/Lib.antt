@@ -4,8 +4,8 @@ pub mod Crossing
 pub mod Edits
 pub mod GreatestLaws
 pub mod Insertion
-pub mod Outs
-pub mod KeepingLaws
+pub mod DeficitResults
+pub mod EntryCallLaws
 pub mod Places
 pub mod PlainEntryLaws
 pub mod Powers

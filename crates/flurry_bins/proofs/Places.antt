@@ -9,7 +9,7 @@ use Rattle.std.specs.Arc.{arc_value}
 use Rattle.std.specs.declared.sync.Arc.{Arc}
 use Rattle.flurry_bins.specs.declared.bin.entry.Entry.{Entry}
 use Rattle.flurry_model.proofs.HashOrderLaws.{hash_then_key_total}
-use Rattle.flurry_bins.specs.Entries.{place_cmp, entry_cmp, IsAscending, is_before, is_past, entry_at, first_past, replaced, without, with_value, AllBefore, list_way}
+use Rattle.flurry_bins.specs.Entries.{place_cmp, entry_cmp, IsAscending, is_before, is_past, entry_at, first_past, with_value_at, without, with_value, AllBefore, list_way}
 use Rattle.flurry_model.proofs.ListParts.{IsPlace, past_behind, all_map, filter_front_kept, filter_front_lost, filter_back_kept, filter_back_lost, find_front_lost, find_back_lost, find_lost, map_front_same, map_back_same, sorted_tail}
 
 -- a place in a total order
@@ -54,8 +54,8 @@ module _ {K V A : Type 0} (cmp : K → K → Ordering) (h : ℕ) (k : K) (ds es 
     pub past-back : filter (is_past cmp h k) (ds ++ es) ≡ filter (is_past cmp h k) ds ++ es
     past-back = filter_back_kept _ ds es (all_map _ _ (λ x e. ap is_lt e) es p)
 
-    pub replaced-back : (v : Arc V A) (n : ℕ) → replaced cmp h k v n (ds ++ es) ≡ replaced cmp h k v n ds ++ es
-    replaced-back v n = map_back_same _ ds es (all_map _ _ (λ x e. ap (λ r. cond (is_eq r) (with_value x v n) x) e) es p)
+    pub with_value_at-back : (v : Arc V A) (n : ℕ) → with_value_at cmp h k v n (ds ++ es) ≡ with_value_at cmp h k v n ds ++ es
+    with_value_at-back v n = map_back_same _ ds es (all_map _ _ (λ x e. ap (λ r. cond (is_eq r) (with_value x v n) x) e) es p)
 
   module _ (p : AllBefore cmp h k ds) where
     pub entry_at-front : entry_at cmp h k (ds ++ es) ≡ entry_at cmp h k es
@@ -70,8 +70,8 @@ module _ {K V A : Type 0} (cmp : K → K → Ordering) (h : ℕ) (k : K) (ds es 
     pub past-front : filter (is_past cmp h k) (ds ++ es) ≡ filter (is_past cmp h k) es
     past-front = filter_front_lost _ ds es (all_map _ _ (λ x e. ap is_lt e) ds p)
 
-    pub replaced-front : (v : Arc V A) (n : ℕ) → replaced cmp h k v n (ds ++ es) ≡ ds ++ replaced cmp h k v n es
-    replaced-front v n = map_front_same _ ds es (all_map _ _ (λ x e. ap (λ r. cond (is_eq r) (with_value x v n) x) e) ds p)
+    pub with_value_at-front : (v : Arc V A) (n : ℕ) → with_value_at cmp h k v n (ds ++ es) ≡ ds ++ with_value_at cmp h k v n es
+    with_value_at-front v n = map_front_same _ ds es (all_map _ _ (λ x e. ap (λ r. cond (is_eq r) (with_value x v n) x) e) ds p)
 
     pub first_past-front : first_past cmp (Some (h, k)) (ds ++ es) ≡ first_past cmp (Some (h, k)) es
     first_past-front = find_front_lost _ ds es (all_map _ _ (λ x e. ap is_lt e) ds p)

@@ -17,14 +17,14 @@ use Rattle.std.specs.Borrow.{Bor}
 use Rattle.std.specs.Arc.{arc_value}
 use Rattle.std.specs.declared.sync.Arc.{Arc}
 use Rattle.flurry_bins.specs.declared.bin.entry.Entry.{Entry}
-use Rattle.flurry_bins.specs.Entries.{place_cmp, entry_cmp, IsAscending, is_at, is_past, entry_at, first_past, placed, replaced, without as without_place, with_value, with_bit}
+use Rattle.flurry_bins.specs.Entries.{place_cmp, entry_cmp, IsAscending, is_at, is_past, entry_at, first_past, with_entry, with_value_at, without as without_place, with_value, with_bit}
 use Rattle.flurry_model.specs.FiniteMap.{IsFiniteMap, pair_at, with_pair, without}
-use Rattle.flurry_model.specs.HashOrder.{hash_then_key, is_held_past, plain_with_bit}
-use Rattle.flurry_bins.specs.PlainEntries.{pair_with, plain, plain_all}
+use Rattle.flurry_model.specs.HashOrder.{hash_then_key, is_pair_past, pairs_with_bit}
+use Rattle.flurry_bins.specs.PlainEntries.{pair_with, pair_of_entry, pairs_of_entries}
 use Rattle.flurry_model.proofs.ListParts.{sorted_tail}
 use Rattle.flurry_model.proofs.HashOrderLaws.{hash_then_key_total}
 use Rattle.flurry_model.proofs.OptionLaws.{absent_is}
-use Rattle.flurry_bins.proofs.Places.{AllPast, past_rest, none_there, without-back, before-back, past-back, replaced-back}
+use Rattle.flurry_bins.proofs.Places.{AllPast, past_rest, none_there, without-back, before-back, past-back, with_value_at-back}
 
 -- the entries' order is total
 pub entry_total : {K V A : Type 0} {cmp : K → K → Ordering} → IsTotalOrder cmp → IsTotalOrder {K = Entry K V A} (entry_cmp cmp)
@@ -44,7 +44,7 @@ module _ {K V A W : Type 0} (cmp : K → K → Ordering) (f : Entry K V A → W)
   paired-entry_at h k (e ∷ es) = mapped (pair_with f) (is_at cmp h k e) e _ _ (paired-entry_at h k es)
 
   -- the first entry past a bound
-  pub paired-first_past : (bound : Option (ℕ × K)) (es : List (Entry K V A)) → find (is_held_past cmp bound) (map (pair_with f) es) ≡ option_map (pair_with f) (first_past cmp bound es)
+  pub paired-first_past : (bound : Option (ℕ × K)) (es : List (Entry K V A)) → find (is_pair_past cmp bound) (map (pair_with f) es) ≡ option_map (pair_with f) (first_past cmp bound es)
   paired-first_past None [] = refl
   paired-first_past None (e ∷ es) = refl
   paired-first_past (Some b) [] = refl
@@ -65,7 +65,7 @@ module _ {K V A W : Type 0} (cmp : K → K → Ordering) (f : Entry K V A → W)
   paired-region table index [] h = tt
   paired-region table index (e ∷ es) h = (h.0, paired-region table index es h.1)
 
-  pub paired-with_bit : (place bit : ℕ) (es : List (Entry K V A)) → map (pair_with f) (with_bit place bit es) ≡ plain_with_bit place bit (map (pair_with f) es)
+  pub paired-with_bit : (place bit : ℕ) (es : List (Entry K V A)) → map (pair_with f) (with_bit place bit es) ≡ pairs_with_bit place bit (map (pair_with f) es)
   paired-with_bit place bit [] = refl
   paired-with_bit place bit (e ∷ es) = mapped_list (pair_with f) (bit_at e.hash place == bit) e _ _ (paired-with_bit place bit es)
 
@@ -80,65 +80,65 @@ module _ {K V A W : Type 0} {cmp : K → K → Ordering} (o : IsTotalOrder cmp) 
       by_order Greater p ih = rw p (ap (λ l. pair_with f e ∷ l) ih)
       by_order Equal p ih = rw p (ap (map (pair_with f)) (without-back cmp h k [] es (past_rest o h k e es up (ap is_gt p))))
 
-  placed_first : (x e : Entry K V A) (es : List (Entry K V A)) → IsAscending cmp (e ∷ es) → place_cmp cmp x.hash (arc_value x.key) e ≡ Less → placed cmp x (e ∷ es) ≡ x ∷ e ∷ es
+  placed_first : (x e : Entry K V A) (es : List (Entry K V A)) → IsAscending cmp (e ∷ es) → place_cmp cmp x.hash (arc_value x.key) e ≡ Less → with_entry cmp x (e ∷ es) ≡ x ∷ e ∷ es
   placed_first x e es up l =
       let h = x.hash in
       let k = arc_value x.key in
       let all : AllPast cmp h k (e ∷ es) = (l, past_rest o h k e es up (ap is_gt l)) in
       ap (λ t. t ++ x ∷ filter (is_past cmp h k) (e ∷ es)) (before-back cmp h k [] (e ∷ es) all) ∙ ap (λ t. x ∷ t) (past-back cmp h k [] (e ∷ es) all)
 
-  pub paired-placed : (x : Entry K V A) (es : List (Entry K V A)) → IsAscending cmp es → IsNone (entry_at cmp x.hash (arc_value x.key) es)
-      → map (pair_with f) (placed cmp x es) ≡ with_pair (hash_then_key cmp) (map (pair_with f) es) (x.hash, arc_value x.key) (f x)
-  paired-placed x [] up none = refl
-  paired-placed x (e ∷ es) up none = by_order (place_cmp cmp x.hash (arc_value x.key) e) refl (paired-placed x es (sorted_tail (entry_cmp cmp) e es up))
+  pub paired-with_entry : (x : Entry K V A) (es : List (Entry K V A)) → IsAscending cmp es → IsNone (entry_at cmp x.hash (arc_value x.key) es)
+      → map (pair_with f) (with_entry cmp x es) ≡ with_pair (hash_then_key cmp) (map (pair_with f) es) (x.hash, arc_value x.key) (f x)
+  paired-with_entry x [] up none = refl
+  paired-with_entry x (e ∷ es) up none = by_order (place_cmp cmp x.hash (arc_value x.key) e) refl (paired-with_entry x es (sorted_tail (entry_cmp cmp) e es up))
     where
       by_order : (r : Ordering) → place_cmp cmp x.hash (arc_value x.key) e ≡ r
-          → (IsNone (entry_at cmp x.hash (arc_value x.key) es) → map (pair_with f) (placed cmp x es) ≡ with_pair (hash_then_key cmp) (map (pair_with f) es) (x.hash, arc_value x.key) (f x))
-          → map (pair_with f) (placed cmp x (e ∷ es)) ≡ with_pair (hash_then_key cmp) (map (pair_with f) (e ∷ es)) (x.hash, arc_value x.key) (f x)
+          → (IsNone (entry_at cmp x.hash (arc_value x.key) es) → map (pair_with f) (with_entry cmp x es) ≡ with_pair (hash_then_key cmp) (map (pair_with f) es) (x.hash, arc_value x.key) (f x))
+          → map (pair_with f) (with_entry cmp x (e ∷ es)) ≡ with_pair (hash_then_key cmp) (map (pair_with f) (e ∷ es)) (x.hash, arc_value x.key) (f x)
       by_order Less p ih = ap (map (pair_with f)) (placed_first x e es up p) ∙ rw p refl
       by_order Equal p ih = let there = rw p at none in cc
       by_order Greater p ih = let further = rw p at none in rw p (ap (λ l. pair_with f e ∷ l) (ih further))
 
   -- the value and the number that are written make w of each entry
-  pub paired-replaced : (h : ℕ) (k : K) (v : Arc V A) (n : ℕ) (w : W) (es : List (Entry K V A)) → ((e : Entry K V A) → f (with_value e v n) ≡ w) → IsAscending cmp es → IsSome (entry_at cmp h k es)
-      → map (pair_with f) (replaced cmp h k v n es) ≡ with_pair (hash_then_key cmp) (map (pair_with f) es) (h, k) w
-  paired-replaced h k v n w [] alike up some = cc
-  paired-replaced h k v n w (e ∷ es) alike up some = by_order (place_cmp cmp h k e) refl (paired-replaced h k v n w es alike (sorted_tail (entry_cmp cmp) e es up))
+  pub paired-with_value_at : (h : ℕ) (k : K) (v : Arc V A) (n : ℕ) (w : W) (es : List (Entry K V A)) → ((e : Entry K V A) → f (with_value e v n) ≡ w) → IsAscending cmp es → IsSome (entry_at cmp h k es)
+      → map (pair_with f) (with_value_at cmp h k v n es) ≡ with_pair (hash_then_key cmp) (map (pair_with f) es) (h, k) w
+  paired-with_value_at h k v n w [] alike up some = cc
+  paired-with_value_at h k v n w (e ∷ es) alike up some = by_order (place_cmp cmp h k e) refl (paired-with_value_at h k v n w es alike (sorted_tail (entry_cmp cmp) e es up))
     where
       by_order : (r : Ordering) → place_cmp cmp h k e ≡ r
-          → (IsSome (entry_at cmp h k es) → map (pair_with f) (replaced cmp h k v n es) ≡ with_pair (hash_then_key cmp) (map (pair_with f) es) (h, k) w)
-          → map (pair_with f) (replaced cmp h k v n (e ∷ es)) ≡ with_pair (hash_then_key cmp) (map (pair_with f) (e ∷ es)) (h, k) w
+          → (IsSome (entry_at cmp h k es) → map (pair_with f) (with_value_at cmp h k v n es) ≡ with_pair (hash_then_key cmp) (map (pair_with f) es) (h, k) w)
+          → map (pair_with f) (with_value_at cmp h k v n (e ∷ es)) ≡ with_pair (hash_then_key cmp) (map (pair_with f) (e ∷ es)) (h, k) w
       by_order Less p ih = let none = rw (none_there o h k e es up p) at some in cc
       by_order Equal p ih =
           rw p
-          (ap (λ l. pair_with f (with_value e v n) ∷ map (pair_with f) l) (replaced-back cmp h k [] es (past_rest o h k e es up (ap is_gt p)) v n)
+          (ap (λ l. pair_with f (with_value e v n) ∷ map (pair_with f) l) (with_value_at-back cmp h k [] es (past_rest o h k e es up (ap is_gt p)) v n)
           ∙ ap (λ x. ((e.hash, arc_value e.key), x) ∷ map (pair_with f) es) (alike e))
       by_order Greater p ih = let further = rw p at some in rw p (ap (λ l. pair_with f e ∷ l) (ih further))
 
 -- ---- with the value alone
 
 module _ {K V A : Type 0} (cmp : K → K → Ordering) where
-  pub plain-entry_at : (h : ℕ) (k : K) (es : List (Entry K V A)) → pair_at (hash_then_key cmp) (plain_all es) (h, k) ≡ option_map plain (entry_at cmp h k es)
-  plain-entry_at h k es = paired-entry_at cmp (λ (d : Entry K V A). arc_value d.value) h k es
+  pub pair_of_entry-entry_at : (h : ℕ) (k : K) (es : List (Entry K V A)) → pair_at (hash_then_key cmp) (pairs_of_entries es) (h, k) ≡ option_map pair_of_entry (entry_at cmp h k es)
+  pair_of_entry-entry_at h k es = paired-entry_at cmp (λ (d : Entry K V A). arc_value d.value) h k es
 
-  pub plain-with_bit : (place bit : ℕ) (es : List (Entry K V A)) → plain_all (with_bit place bit es) ≡ plain_with_bit place bit (plain_all es)
-  plain-with_bit place bit es = paired-with_bit cmp (λ (d : Entry K V A). arc_value d.value) place bit es
+  pub pair_of_entry-with_bit : (place bit : ℕ) (es : List (Entry K V A)) → pairs_of_entries (with_bit place bit es) ≡ pairs_with_bit place bit (pairs_of_entries es)
+  pair_of_entry-with_bit place bit es = paired-with_bit cmp (λ (d : Entry K V A). arc_value d.value) place bit es
 
 module _ {K V A : Type 0} {cmp : K → K → Ordering} (o : IsTotalOrder cmp) where
-  pub plain-without : (h : ℕ) (k : K) (es : List (Entry K V A)) → IsAscending cmp es → plain_all (without_place cmp h k es) ≡ without (hash_then_key cmp) (plain_all es) (h, k)
-  plain-without h k es up = paired-without o (λ (d : Entry K V A). arc_value d.value) h k es up
+  pub pair_of_entry-without : (h : ℕ) (k : K) (es : List (Entry K V A)) → IsAscending cmp es → pairs_of_entries (without_place cmp h k es) ≡ without (hash_then_key cmp) (pairs_of_entries es) (h, k)
+  pair_of_entry-without h k es up = paired-without o (λ (d : Entry K V A). arc_value d.value) h k es up
 
-  pub plain-placed : (x : Entry K V A) (es : List (Entry K V A)) → IsAscending cmp es → IsNone (entry_at cmp x.hash (arc_value x.key) es)
-      → plain_all (placed cmp x es) ≡ with_pair (hash_then_key cmp) (plain_all es) (x.hash, arc_value x.key) (arc_value x.value)
-  plain-placed x es up none = paired-placed o (λ (d : Entry K V A). arc_value d.value) x es up none
+  pub pair_of_entry-with_entry : (x : Entry K V A) (es : List (Entry K V A)) → IsAscending cmp es → IsNone (entry_at cmp x.hash (arc_value x.key) es)
+      → pairs_of_entries (with_entry cmp x es) ≡ with_pair (hash_then_key cmp) (pairs_of_entries es) (x.hash, arc_value x.key) (arc_value x.value)
+  pair_of_entry-with_entry x es up none = paired-with_entry o (λ (d : Entry K V A). arc_value d.value) x es up none
 
-  pub plain-replaced : (h : ℕ) (k : K) (v : Arc V A) (n : ℕ) (es : List (Entry K V A)) → IsAscending cmp es → IsSome (entry_at cmp h k es)
-      → plain_all (replaced cmp h k v n es) ≡ with_pair (hash_then_key cmp) (plain_all es) (h, k) (arc_value v)
-  plain-replaced h k v n es up some = paired-replaced o (λ (d : Entry K V A). arc_value d.value) h k v n (arc_value v) es (λ e. refl) up some
+  pub pair_of_entry-with_value_at : (h : ℕ) (k : K) (v : Arc V A) (n : ℕ) (es : List (Entry K V A)) → IsAscending cmp es → IsSome (entry_at cmp h k es)
+      → pairs_of_entries (with_value_at cmp h k v n es) ≡ with_pair (hash_then_key cmp) (pairs_of_entries es) (h, k) (arc_value v)
+  pair_of_entry-with_value_at h k v n es up some = paired-with_value_at o (λ (d : Entry K V A). arc_value d.value) h k v n (arc_value v) es (λ e. refl) up some
 
 -- one more entry
-pub length-placed : {K V A : Type 0} {cmp : _} (o : IsTotalOrder {K = K} cmp) (x : Entry K V A) (es : List (Entry K V A)) → IsAscending cmp es → IsNone (entry_at cmp x.hash (arc_value x.key) es) → length (placed cmp x es) ≡ length es + 1
-length-placed {K = K} {V = V} {A = A} {cmp = cmp} o x es up none =
-    let at : pair_at (hash_then_key cmp) (plain_all es) (x.hash, arc_value x.key) ≡ None = paired-entry_at cmp (λ (d : Entry K V A). arc_value d.value) x.hash (arc_value x.key) es ∙ ap (option_map plain) (absent_is _ none) in
-    sym (length-map (placed cmp x es) plain) ∙ ap length (paired-placed o (λ (d : Entry K V A). arc_value d.value) x es up none)
-    ∙ rw at at (length-with_pair (hash_then_key_total o) (plain_all es) (x.hash, arc_value x.key) (arc_value x.value) (paired-ascending cmp (λ (d : Entry K V A). arc_value d.value) es up)) ∙ ap (λ n. n + 1) (length-map es plain)
+pub length-with_entry : {K V A : Type 0} {cmp : _} (o : IsTotalOrder {K = K} cmp) (x : Entry K V A) (es : List (Entry K V A)) → IsAscending cmp es → IsNone (entry_at cmp x.hash (arc_value x.key) es) → length (with_entry cmp x es) ≡ length es + 1
+length-with_entry {K = K} {V = V} {A = A} {cmp = cmp} o x es up none =
+    let at : pair_at (hash_then_key cmp) (pairs_of_entries es) (x.hash, arc_value x.key) ≡ None = paired-entry_at cmp (λ (d : Entry K V A). arc_value d.value) x.hash (arc_value x.key) es ∙ ap (option_map pair_of_entry) (absent_is _ none) in
+    sym (length-map (with_entry cmp x es) pair_of_entry) ∙ ap length (paired-with_entry o (λ (d : Entry K V A). arc_value d.value) x es up none)
+    ∙ rw at at (length-with_pair (hash_then_key_total o) (pairs_of_entries es) (x.hash, arc_value x.key) (arc_value x.value) (paired-ascending cmp (λ (d : Entry K V A). arc_value d.value) es up)) ∙ ap (λ n. n + 1) (length-map es pair_of_entry)

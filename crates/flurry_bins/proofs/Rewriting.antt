@@ -9,11 +9,11 @@ use Rattle.std.specs.Option.{option_map, IsSome}
 use Rattle.std.specs.declared.sync.Arc.{Arc}
 use Rattle.flurry_bins.specs.declared.bin.entry.Entry.{Entry}
 use Rattle.flurry_bins.specs.declared.bin.node.Colour.{Colour}
-use Rattle.flurry_bins.specs.Entries.{place_cmp, entry_cmp, IsAscending, entry_at, is_at, replaced, with_value}
+use Rattle.flurry_bins.specs.Entries.{place_cmp, entry_cmp, IsAscending, entry_at, is_at, with_value_at, with_value}
 use Rattle.flurry_bins.specs.Tree.{Tree, leaf, fork, inorder, root_redness, black_height, IsRedBlack}
-use Rattle.flurry_bins.specs.Rewrite.{rewritten, tree_value}
+use Rattle.flurry_bins.specs.Rewrite.{tree_with_value, tree_value}
 use Rattle.flurry_model.proofs.ListParts.{sorted_head, sorted_tail, sorted_cons, sorted_nil, sorted_front, sorted_back}
-use Rattle.flurry_bins.proofs.Places.{replaced-back, replaced-front}
+use Rattle.flurry_bins.proofs.Places.{with_value_at-back, with_value_at-front}
 use Rattle.flurry_bins.proofs.Trees.{found_here, found_left, found_right, past_right, before_left}
 
 module _ {K V A : Type 0} (cmp : K → K → Ordering) (h : ℕ) (k : K) (v : Arc V A) (n : ℕ) where
@@ -23,17 +23,17 @@ module _ {K V A : Type 0} (cmp : K → K → Ordering) (h : ℕ) (k : K) (v : Ar
   same_place x y false true = refl
   same_place x y false false = refl
 
-  below_all : (x : Entry K V A) (es : List (Entry K V A)) → AllByRecursion (λ y. entry_cmp cmp x y ≡ Less) es → AllByRecursion (λ y. entry_cmp cmp (cond (is_at cmp h k x) (with_value x v n) x) y ≡ Less) (replaced cmp h k v n es)
+  below_all : (x : Entry K V A) (es : List (Entry K V A)) → AllByRecursion (λ y. entry_cmp cmp x y ≡ Less) es → AllByRecursion (λ y. entry_cmp cmp (cond (is_at cmp h k x) (with_value x v n) x) y ≡ Less) (with_value_at cmp h k v n es)
   below_all x [] b = tt
   below_all x (e ∷ es) b = (same_place x e (is_at cmp h k x) (is_at cmp h k e) ∙ b.0, below_all x es b.1)
 
-  pub replaced-ascending : (es : List (Entry K V A)) → IsAscending cmp es → IsAscending cmp (replaced cmp h k v n es)
-  replaced-ascending [] up = sorted_nil (entry_cmp cmp)
-  replaced-ascending (e ∷ es) up = sorted_cons (entry_cmp cmp) _ (replaced cmp h k v n es) (below_all e es (sorted_head (entry_cmp cmp) e es up)) (replaced-ascending es (sorted_tail (entry_cmp cmp) e es up))
+  pub with_value_at-ascending : (es : List (Entry K V A)) → IsAscending cmp es → IsAscending cmp (with_value_at cmp h k v n es)
+  with_value_at-ascending [] up = sorted_nil (entry_cmp cmp)
+  with_value_at-ascending (e ∷ es) up = sorted_cons (entry_cmp cmp) _ (with_value_at cmp h k v n es) (below_all e es (sorted_head (entry_cmp cmp) e es up)) (with_value_at-ascending es (sorted_tail (entry_cmp cmp) e es up))
 
-  pub length-replaced : (es : List (Entry K V A)) → length (replaced cmp h k v n es) ≡ length es
-  length-replaced [] = refl
-  length-replaced (e ∷ es) = omega (arith, length-replaced es)
+  pub length-with_value_at : (es : List (Entry K V A)) → length (with_value_at cmp h k v n es) ≡ length es
+  length-with_value_at [] = refl
+  length-with_value_at (e ∷ es) = omega (arith, length-with_value_at es)
 
   -- the colours stay
   pub record Recoloured (t u : Tree (Entry K V A)) : Type 0 where
@@ -41,35 +41,35 @@ module _ {K V A : Type 0} (cmp : K → K → Ordering) (h : ℕ) (k : K) (v : Ar
     pub as_high : black_height u ≡ black_height t
     pub as_red : root_redness u ≡ root_redness t
 
-  by_side : (c : Colour) (l : Tree (Entry K V A)) (e : Entry K V A) (r : Tree (Entry K V A)) (s : Ordering) → IsRedBlack (fork c l e r) → Recoloured l (rewritten cmp h k v n l) → Recoloured r (rewritten cmp h k v n r)
-      → Recoloured (fork c l e r) (match_ordering s (fork c (rewritten cmp h k v n l) e r) (fork c l (with_value e v n) r) (fork c l e (rewritten cmp h k v n r)))
+  by_side : (c : Colour) (l : Tree (Entry K V A)) (e : Entry K V A) (r : Tree (Entry K V A)) (s : Ordering) → IsRedBlack (fork c l e r) → Recoloured l (tree_with_value cmp h k v n l) → Recoloured r (tree_with_value cmp h k v n r)
+      → Recoloured (fork c l e r) (match_ordering s (fork c (tree_with_value cmp h k v n l) e r) (fork c l (with_value e v n) r) (fork c l e (tree_with_value cmp h k v n r)))
   by_side c l e r Less b p q = record { balanced = (p.balanced, (b.1.0, (p.as_high ∙ b.1.1.0, (rw p.as_red b.1.1.1.0, b.1.1.1.1)))); as_high = omega (arith, p.as_high); as_red = refl }
   by_side c l e r Equal b p q = record { balanced = b; as_high = refl; as_red = refl }
   by_side c l e r Greater b p q = record { balanced = (b.0, (q.balanced, (b.1.1.0 ∙ sym q.as_high, (b.1.1.1.0, rw q.as_red b.1.1.1.1)))); as_high = refl; as_red = refl }
 
-  pub recoloured : (t : Tree (Entry K V A)) → IsRedBlack t → Recoloured t (rewritten cmp h k v n t)
+  pub recoloured : (t : Tree (Entry K V A)) → IsRedBlack t → Recoloured t (tree_with_value cmp h k v n t)
   recoloured leaf b = record { balanced = tt; as_high = refl; as_red = refl }
   recoloured (fork c l e r) b = by_side c l e r (place_cmp cmp h k e) b (recoloured l b.0) (recoloured r b.1.0)
 
 module _ {K V A : Type 0} {cmp : K → K → Ordering} (o : IsTotalOrder cmp) (h : ℕ) (k : K) (v : Arc V A) (n : ℕ) where
   replaced_by : (c : Colour) (l : Tree (Entry K V A)) (e : Entry K V A) (r : Tree (Entry K V A)) (s : Ordering) → place_cmp cmp h k e ≡ s → IsAscending cmp (inorder l ++ e ∷ inorder r)
-      → inorder (rewritten cmp h k v n l) ≡ replaced cmp h k v n (inorder l) → inorder (rewritten cmp h k v n r) ≡ replaced cmp h k v n (inorder r)
-      → inorder (match_ordering s (fork c (rewritten cmp h k v n l) e r) (fork c l (with_value e v n) r) (fork c l e (rewritten cmp h k v n r))) ≡ replaced cmp h k v n (inorder l ++ e ∷ inorder r)
-  replaced_by c l e r Less q up left right = ap (λ t. t ++ e ∷ inorder r) left ∙ sym (replaced-back cmp h k (inorder l) (e ∷ inorder r) (q, past_right o h k (inorder l) e (inorder r) up (ap is_gt q)) v n)
+      → inorder (tree_with_value cmp h k v n l) ≡ with_value_at cmp h k v n (inorder l) → inorder (tree_with_value cmp h k v n r) ≡ with_value_at cmp h k v n (inorder r)
+      → inorder (match_ordering s (fork c (tree_with_value cmp h k v n l) e r) (fork c l (with_value e v n) r) (fork c l e (tree_with_value cmp h k v n r))) ≡ with_value_at cmp h k v n (inorder l ++ e ∷ inorder r)
+  replaced_by c l e r Less q up left right = ap (λ t. t ++ e ∷ inorder r) left ∙ sym (with_value_at-back cmp h k (inorder l) (e ∷ inorder r) (q, past_right o h k (inorder l) e (inorder r) up (ap is_gt q)) v n)
   replaced_by c l e r Equal q up left right =
-      let front = replaced-front cmp h k (inorder l) (e ∷ inorder r) (before_left o h k (inorder l) e (inorder r) up (ap is_lt q)) v n in
-      let here = ap (λ t. inorder l ++ cond (is_eq t) (with_value e v n) e ∷ replaced cmp h k v n (inorder r)) q in
-      let back = replaced-back cmp h k [] (inorder r) (past_right o h k (inorder l) e (inorder r) up (ap is_gt q)) v n in
+      let front = with_value_at-front cmp h k (inorder l) (e ∷ inorder r) (before_left o h k (inorder l) e (inorder r) up (ap is_lt q)) v n in
+      let here = ap (λ t. inorder l ++ cond (is_eq t) (with_value e v n) e ∷ with_value_at cmp h k v n (inorder r)) q in
+      let back = with_value_at-back cmp h k [] (inorder r) (past_right o h k (inorder l) e (inorder r) up (ap is_gt q)) v n in
       sym (front ∙ here ∙ ap (λ t. inorder l ++ with_value e v n ∷ t) back)
   replaced_by c l e r Greater q up left right =
-      let front = replaced-front cmp h k (inorder l) (e ∷ inorder r) (before_left o h k (inorder l) e (inorder r) up (ap is_lt q)) v n in
-      let here = ap (λ t. inorder l ++ cond (is_eq t) (with_value e v n) e ∷ replaced cmp h k v n (inorder r)) q in
+      let front = with_value_at-front cmp h k (inorder l) (e ∷ inorder r) (before_left o h k (inorder l) e (inorder r) up (ap is_lt q)) v n in
+      let here = ap (λ t. inorder l ++ cond (is_eq t) (with_value e v n) e ∷ with_value_at cmp h k v n (inorder r)) q in
       ap (λ t. inorder l ++ e ∷ t) right ∙ sym (front ∙ here)
 
-  pub inorder-rewritten : (t : Tree (Entry K V A)) → IsAscending cmp (inorder t) → inorder (rewritten cmp h k v n t) ≡ replaced cmp h k v n (inorder t)
-  inorder-rewritten leaf up = refl
-  inorder-rewritten (fork c l e r) up =
-      replaced_by c l e r (place_cmp cmp h k e) refl up (inorder-rewritten l (sorted_front (entry_cmp cmp) (inorder l) (e ∷ inorder r) up)) (inorder-rewritten r (sorted_tail (entry_cmp cmp) e (inorder r) (sorted_back (entry_cmp cmp) (inorder l) (e ∷ inorder r) up)))
+  pub inorder-tree_with_value : (t : Tree (Entry K V A)) → IsAscending cmp (inorder t) → inorder (tree_with_value cmp h k v n t) ≡ with_value_at cmp h k v n (inorder t)
+  inorder-tree_with_value leaf up = refl
+  inorder-tree_with_value (fork c l e r) up =
+      replaced_by c l e r (place_cmp cmp h k e) refl up (inorder-tree_with_value l (sorted_front (entry_cmp cmp) (inorder l) (e ∷ inorder r) up)) (inorder-tree_with_value r (sorted_tail (entry_cmp cmp) e (inorder r) (sorted_back (entry_cmp cmp) (inorder l) (e ∷ inorder r) up)))
 
 module _ {K V A : Type 0} {cmp : K → K → Ordering} (o : IsTotalOrder cmp) (h : ℕ) (k : K) where
   value_by : (l : Tree (Entry K V A)) (e : Entry K V A) (r : Tree (Entry K V A)) (s : Ordering) → place_cmp cmp h k e ≡ s → IsAscending cmp (inorder l ++ e ∷ inorder r)

@@ -22,14 +22,14 @@ module _ {E : Type 0} where
   red_root (fork c l e r) = is_red c
 
   -- the same with a black root
-  abbrev pub blackened : Tree E → Tree E
-  blackened leaf = leaf
-  blackened (fork c l e r) = fork Black l e r
+  abbrev pub with_black_root : Tree E → Tree E
+  with_black_root leaf = leaf
+  with_black_root (fork c l e r) = fork Black l e r
 
   -- a black root over a red left child, whose left child is red: the left child goes up
   abbrev pub left_up : Tree E → E → Tree E → Tree E
   left_up leaf e r = fork Black leaf e r
-  left_up (fork c a x b) e r = fork Red (blackened a) x (fork Black b e r)
+  left_up (fork c a x b) e r = fork Red (with_black_root a) x (fork Black b e r)
 
   -- the same where its right child is red: that one goes up
   abbrev pub left_inner_up_by : Tree E → E → Tree E → E → Tree E → Tree E
@@ -37,9 +37,9 @@ module _ {E : Type 0} where
   left_inner_up_by a x (fork c b y d) e r = fork Red (fork Black a x b) y (fork Black d e r)
 
   -- a root with the left child's tree, where that may have a red root over a red child
-  abbrev pub leaned_left : Colour → Tree E → E → Tree E → Tree E
-  leaned_left c leaf e r = fork c leaf e r
-  leaned_left c (fork d a x b) e r =
+  abbrev pub balance_left : Colour → Tree E → E → Tree E → Tree E
+  balance_left c leaf e r = fork c leaf e r
+  balance_left c (fork d a x b) e r =
       cond (is_black c && is_red d && red_root a) (left_up (fork d a x b) e r) (cond (is_black c && is_red d && red_root b) (left_inner_up_by a x b e r) (fork c (fork d a x b) e r))
 
   -- the mirror image
@@ -47,12 +47,12 @@ module _ {E : Type 0} where
   right_inner_up_by l e leaf y d = fork Black l e (fork Red leaf y d)
   right_inner_up_by l e (fork c a x b) y d = fork Red (fork Black l e a) x (fork Black b y d)
 
-  abbrev pub leaned_right : Colour → Tree E → E → Tree E → Tree E
-  leaned_right c l e leaf = fork c l e leaf
-  leaned_right c l e (fork d b y a) =
-      cond (is_black c && is_red d && red_root a) (fork Red (fork Black l e b) y (blackened a)) (cond (is_black c && is_red d && red_root b) (right_inner_up_by l e b y a) (fork c l e (fork d b y a)))
+  abbrev pub balance_right : Colour → Tree E → E → Tree E → Tree E
+  balance_right c l e leaf = fork c l e leaf
+  balance_right c l e (fork d b y a) =
+      cond (is_black c && is_red d && red_root a) (fork Red (fork Black l e b) y (with_black_root a)) (cond (is_black c && is_red d && red_root b) (right_inner_up_by l e b y a) (fork c l e (fork d b y a)))
 
 -- the tree with a new entry
 abbrev pub put_tree : {K V A : Type 0} → (K → K → Ordering) → Entry K V A → Tree (Entry K V A) → Tree (Entry K V A)
 put_tree cmp x leaf = fork Red leaf x leaf
-put_tree cmp x (fork c l e r) = cond (is_lt (entry_cmp cmp x e)) (leaned_left c (put_tree cmp x l) e r) (leaned_right c l e (put_tree cmp x r))
+put_tree cmp x (fork c l e r) = cond (is_lt (entry_cmp cmp x e)) (balance_left c (put_tree cmp x l) e r) (balance_right c l e (put_tree cmp x r))

@@ -4,9 +4,9 @@ use Rattle.std.specs.declared.cmp.Ordering.{Ordering}
 use Rattle.flurry_bins.specs.declared.bin.entry.Entry.{Entry}
 use Rattle.flurry_bins.specs.declared.bin.list.ListBin.{ListBin}
 use Rattle.flurry_bins.specs.declared.bin.tree.TreeBin.{TreeBin}
-use Rattle.flurry_bins.specs.declared.bin.choice.Bin.{Bin}
-use Rattle.flurry_bins.specs.declared.bin.choice.Shape.{Shape}
-use Rattle.flurry_bins.specs.declared.bin.choice.Shape.TheVariants as shape
+use Rattle.flurry_bins.specs.declared.bin.adaptive.Bin.{Bin}
+use Rattle.flurry_bins.specs.declared.bin.adaptive.Shape.{Shape}
+use Rattle.flurry_bins.specs.declared.bin.adaptive.Shape.TheVariants as shape
 use Rattle.flurry_bins.specs.Chain.{chain}
 use Rattle.flurry_bins.specs.Tree.{shape, inorder}
 use Rattle.flurry_bins.specs.Entries.{IsAscending}
@@ -14,6 +14,7 @@ use Rattle.flurry_bins.specs.Short.{short_list}
 use Rattle.flurry_bins.specs.WayBound.{way_bound}
 use Rattle.flurry_bins.specs.Kind.{kind_entries, kind_is_tree, kind_way, kind_ascending, kind_short, kind_way-bounded}
 use Rattle.flurry_model.specs.BinSizes.{IsSized}
+use Rattle.flurry_model.specs.declared.sizes.TheConstants.{MOST_PAIRS}
 
 -- the entries of a bin that is a list, of one that is a tree, and of one that is either
 abbrev pub entries_of_list : {K V A : Type 0} {o : _} {e : _} {p : _} → ListBin K V A o e p → List (Entry K V A)
@@ -53,13 +54,13 @@ unfolding entries_of_bin
 ascending_of_bin b = kind_ascending b.kind
 
 -- there are at most 2^62 of them
-pub short_of_list : {K V A : Type 0} {o : _} {e : _} {p : _} (b : ListBin K V A o e p) → length (entries_of_list b) ≤ 2 ^ 62
+pub short_of_list : {K V A : Type 0} {o : _} {e : _} {p : _} (b : ListBin K V A o e p) → length (entries_of_list b) ≤ MOST_PAIRS
 short_of_list b = short_list b.counted b.short
 
-pub short_of_tree : {K V A : Type 0} {o : _} {e : _} {p : _} (b : TreeBin K V A o e p) → length (entries_of_tree b) ≤ 2 ^ 62
+pub short_of_tree : {K V A : Type 0} {o : _} {e : _} {p : _} (b : TreeBin K V A o e p) → length (entries_of_tree b) ≤ MOST_PAIRS
 short_of_tree b = short_list b.counted b.short
 
-pub short_of_bin : {K V A : Type 0} {o : _} {e : _} {p : _} (b : Bin K V A o e p) → length (entries_of_bin b) ≤ 2 ^ 62
+pub short_of_bin : {K V A : Type 0} {o : _} {e : _} {p : _} (b : Bin K V A o e p) → length (entries_of_bin b) ≤ MOST_PAIRS
 unfolding entries_of_bin
 short_of_bin b = kind_short b.kind
 

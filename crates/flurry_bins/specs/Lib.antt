@@ -1,7 +1,7 @@
 pub mod Balance
 pub mod Bin
 pub mod Chain
-pub mod Keeping
+pub mod EntryCall
 pub mod Kind
 pub mod Entries
 pub mod PlainEntries

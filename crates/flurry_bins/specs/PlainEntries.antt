@@ -10,18 +10,18 @@ abbrev pub pair_with : {K V A W : Type 0} → (Entry K V A → W) → Entry K V 
 pair_with f e = ((e.hash, arc_value e.key), f e)
 
 -- with its value
-abbrev pub plain : {K V A : Type 0} → Entry K V A → (ℕ × K) × V
-plain e = pair_with (λ d. arc_value d.value) e
+abbrev pub pair_of_entry : {K V A : Type 0} → Entry K V A → (ℕ × K) × V
+pair_of_entry e = pair_with (λ d. arc_value d.value) e
 
--- with its value and the number of its write
-abbrev pub numbered : {K V A : Type 0} → Entry K V A → (ℕ × K) × (V × ℕ)
-numbered e = pair_with (λ d. (arc_value d.value, d.number)) e
+-- with its value and its write number
+abbrev pub numbered_pair : {K V A : Type 0} → Entry K V A → (ℕ × K) × (V × ℕ)
+numbered_pair e = pair_with (λ d. (arc_value d.value, d.number)) e
 
-abbrev pub plain_all : {K V A : Type 0} → List (Entry K V A) → List ((ℕ × K) × V)
-plain_all es = map plain es
+abbrev pub pairs_of_entries : {K V A : Type 0} → List (Entry K V A) → List ((ℕ × K) × V)
+pairs_of_entries es = map pair_of_entry es
 
-abbrev pub numbered_all : {K V A : Type 0} → List (Entry K V A) → List ((ℕ × K) × (V × ℕ))
-numbered_all es = map numbered es
+abbrev pub numbered_pairs : {K V A : Type 0} → List (Entry K V A) → List ((ℕ × K) × (V × ℕ))
+numbered_pairs es = map numbered_pair es
 
 -- each entry lies in the region
 abbrev pub AllInRegion : {K V A : Type 0} → ℕ → ℕ → List (Entry K V A) → Type 0

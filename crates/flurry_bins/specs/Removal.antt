@@ -7,7 +7,7 @@ use Rattle.flurry_bins.specs.declared.bin.node.Colour.{Colour}
 use Rattle.flurry_bins.specs.declared.bin.node.Colour.TheVariants.{Red, Black}
 use Rattle.flurry_bins.specs.Entries.{place_cmp}
 use Rattle.flurry_bins.specs.Tree.{Tree, leaf, fork}
-use Rattle.flurry_bins.specs.Balance.{is_black, red_root, blackened}
+use Rattle.flurry_bins.specs.Balance.{is_black, red_root, with_black_root}
 
 -- a fork without its first entry, that entry, and whether it is short
 pub record Out (E : Type 0) : Type 0 where
@@ -22,7 +22,7 @@ module _ {E : Type 0} where
 
   -- a root with a short left side, and right of it a black node
   abbrev pub short_left : Colour → Tree E → E → Tree E → E → Tree E → Tree E × Bool
-  short_left c l e n x s = cond (red_root s) (fork c (fork Black l e n) x (blackened s), false) (cond (red_root n) (near_left c l e n x s, false) (fork Black l e (fork Red n x s), is_black c))
+  short_left c l e n x s = cond (red_root s) (fork c (fork Black l e n) x (with_black_root s), false) (cond (red_root n) (near_left c l e n x s, false) (fork Black l e (fork Red n x s), is_black c))
 
   abbrev pub fix_left : Colour → Tree E → E → Tree E → Tree E × Bool
   fix_left c l e leaf = (fork c l e leaf, false)
@@ -36,7 +36,7 @@ module _ {E : Type 0} where
 
   -- the mirror image
   abbrev pub short_right : Colour → Tree E → E → Tree E → E → Tree E → Tree E × Bool
-  short_right c s x n e r = cond (red_root s) (fork c (blackened s) x (fork Black n e r), false) (cond (red_root n) (near_right c s x n e r, false) (fork Black (fork Red s x n) e r, is_black c))
+  short_right c s x n e r = cond (red_root s) (fork c (with_black_root s) x (fork Black n e r), false) (cond (red_root n) (near_right c s x n e r, false) (fork Black (fork Red s x n) e r, is_black c))
 
   abbrev pub fix_right : Colour → Tree E → E → Tree E → Tree E × Bool
   fix_right c leaf e r = (fork c leaf e r, false)
@@ -51,7 +51,7 @@ module _ {E : Type 0} where
   settled_right short c l e r = cond short (fix_right c l e r) (fork c l e r, false)
 
   abbrev pub least_out : Colour → Tree E → E → Tree E → Out E
-  least_out c leaf e r = record { rest = blackened r; least = e; short = is_black c && not (red_root r) }
+  least_out c leaf e r = record { rest = with_black_root r; least = e; short = is_black c && not (red_root r) }
   least_out c (fork d a x b) e r =
       let p = least_out d a x b in
       let q = settled_left p.short c p.rest e r in
@@ -63,14 +63,14 @@ module _ {E : Type 0} where
   IsOutOf (fork c l e r) p = p ≡ least_out c l e r
 
   -- two sides without what stood between them
-  abbrev pub joined : Colour → Tree E → Tree E → Tree E × Bool
-  joined c l leaf = (blackened l, is_black c && not (red_root l))
-  joined c l (fork d a x b) = let p = least_out d a x b in settled_right p.short c l p.least p.rest
+  abbrev pub join_of : Colour → Tree E → Tree E → Tree E × Bool
+  join_of c l leaf = (with_black_root l, is_black c && not (red_root l))
+  join_of c l (fork d a x b) = let p = least_out d a x b in settled_right p.short c l p.least p.rest
 
 -- the tree without what stands at the place
-abbrev pub removed : {K V A : Type 0} → (K → K → Ordering) → ℕ → K → Tree (Entry K V A) → Tree (Entry K V A) × Bool
-removed cmp h k leaf = (leaf, false)
-removed cmp h k (fork c l e r) = match_ordering (place_cmp cmp h k e) (settled_left (removed cmp h k l).1 c (removed cmp h k l).0 e r) (joined c l r) (settled_right (removed cmp h k r).1 c l e (removed cmp h k r).0)
+abbrev pub tree_removal : {K V A : Type 0} → (K → K → Ordering) → ℕ → K → Tree (Entry K V A) → Tree (Entry K V A) × Bool
+tree_removal cmp h k leaf = (leaf, false)
+tree_removal cmp h k (fork c l e r) = match_ordering (place_cmp cmp h k e) (settled_left (tree_removal cmp h k l).1 c (tree_removal cmp h k l).0 e r) (join_of c l r) (settled_right (tree_removal cmp h k r).1 c l e (tree_removal cmp h k r).0)
 
 -- the entry that a look-up in the tree leads to
 abbrev pub tree_entry : {K V A : Type 0} → (K → K → Ordering) → ℕ → K → Tree (Entry K V A) → Option (Entry K V A)

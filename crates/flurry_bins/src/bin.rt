@@ -2,7 +2,7 @@
 //!
 //! A bin is a [`ListBin`], a [`TreeBin`], or a [`Bin`], which is whichever of the two fits its size. All three meet the trait
 //! [`Ordered`], and their nodes are the same boxes, so a list turns into a tree and back without taking memory.
-pub mod choice;
+pub mod adaptive;
 pub mod entry;
 pub mod list;
 pub mod node;
@@ -10,7 +10,7 @@ pub mod ordered;
 pub(crate) mod removal;
 pub mod tree;
 
-pub use choice::{Bin, Shape};
+pub use adaptive::{Bin, Shape};
 pub use entry::Entry;
 pub use list::ListBin;
 pub use node::{BoxedNode, Node};

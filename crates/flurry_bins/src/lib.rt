@@ -1,4 +1,4 @@
-//! The bins of a hash map: the numbers of keys, and the lists and trees of entries that stand at one place of a table.
+//! The bins of a hash map: the lists and trees of entries that stand at one place of a table.
 #![tactic(auto)]
 
 pub mod bin;

@@ -4,8 +4,9 @@ ghost use Rattle.std.specs.Prelude.{◌≡◌, ◌^◌, ◌<◌, ◌==◌, ◌&&
 ghost use Rattle.std.specs.Arc.{arc_value};
 ghost use Rattle.flurry_bins.specs.Bin.{entries_of_bin, is_tree};
 ghost use Rattle.flurry_bins.specs.Chain.{entry_of};
-ghost use Rattle.flurry_bins.specs.Entries.{entry_at, placed};
+ghost use Rattle.flurry_bins.specs.Entries.{entry_at, with_entry};
 ghost use Rattle.flurry_model.specs.BinSizes.{grows_into_tree, asks_for_growth};
+ghost use Rattle.flurry_model.specs.declared.sizes.TheConstants.{MOST_PAIRS};
 
 use crate::bin::{Bin, BoxedNode, Ordered, Shape};
 pub use flurry_model::reply::KeptReply;
@@ -36,8 +37,8 @@ pub fn put_in_table<K: Ord + Drop, V: Drop, A: Allocator>(
 ) -> bool
     requires absent { let e = entry_of node.value in
         IsNone (entry_at K.cmp e.hash (arc_value e.key) (entries_of_bin bin.old)) }
-    requires room { length (entries_of_bin bin.old) < 2 ^ 62 }
-    ensures entries { entries_of_bin bin.new ≡ placed K.cmp (entry_of node.value) (entries_of_bin bin.old) }
+    requires room { length (entries_of_bin bin.old) < MOST_PAIRS }
+    ensures entries { entries_of_bin bin.new ≡ with_entry K.cmp (entry_of node.value) (entries_of_bin bin.old) }
     ensures kind { is_tree bin.new ≡ grows_into_tree bins (is_tree bin.old) (length (entries_of_bin bin.old)) }
     ensures asks { result ≡ asks_for_growth bins (is_tree bin.old) (length (entries_of_bin bin.old)) }
 {

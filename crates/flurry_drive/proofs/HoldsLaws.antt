@@ -5,15 +5,15 @@ use Rattle.std.specs.declared.cmp.Ordering.{Ordering}
 use Rattle.std.specs.declared.cmp.Ordering.TheVariants.{Equal}
 use Rattle.std.proofs.Common.{arith, refl, ◌∙◌}
 use Rattle.std.proofs.lemmas.Int.{ints}
-use Rattle.flurry_steps.specs.Party.{Course}
-use Rattle.flurry_steps.specs.PartyView.{kept_stage}
-use Rattle.flurry_steps.specs.declared.party.call.KeptCall.{KeptCall}
+use Rattle.flurry_steps.specs.Party.{PartyState}
+use Rattle.flurry_steps.specs.PartyView.{owned_stage}
+use Rattle.flurry_steps.specs.declared.party.call.OwnedCall.{OwnedCall}
 use Rattle.flurry_theory.specs.Trace.{pairs}
 use Rattle.flurry_world.specs.Parts.{OwnLends, OwnLacks, no_parts}
 use Rattle.flurry_world.specs.Runs.{hash_for}
 use Rattle.flurry_world.specs.Steps.{fresh_world}
 use Rattle.flurry_world.specs.Tables.{PlaceGives, no_tables}
-use Rattle.flurry_world.specs.World.{Shown, Near, IsWorld}
+use Rattle.flurry_world.specs.World.{WorldState, Near, IsWorld}
 use Rattle.flurry_world.proofs.BeginLaws.{own_hash}
 use Rattle.flurry_world.proofs.NewLaws.{new_without}
 use Rattle.flurry_world.proofs.WorldSteps.{alike_class}
@@ -26,15 +26,15 @@ own_tells = record { places = λ r e live ok r' h. h; lends_own = λ s l s' h. h
 
 module _ {K V F : Type 0} (cmp : K → K → Ordering) (hash : K → ℕ) (changes : F → K → V → Option V → Type 0) where
   -- a call that has its key, before its first step
-  pub fresh : (c : KeptCall K V F) (p : Course K V F) → p.stage ≡ kept_stage c → p.hash ≡ hash_for hash c → IsFresh cmp hash changes c p
+  pub fresh : (c : OwnedCall K V F) (p : PartyState K V F) → p.stage ≡ owned_stage c → p.hash ≡ hash_for hash c → IsFresh cmp hash changes c p
   fresh c p stage hashed = record { stage = stage; hash_is = λ k h. hashed ∙ own_hash hash c k h }
 
   -- the parts of a world hold its map
-  pub holds_world : {S : Type 0} (w : Shown K V F S) (n : ℕ) → IsWorld cmp hash changes w → Near n w.board.count → Holds cmp hash changes n (record { board = w.board; tables = w.tables }) (pairs cmp hash (reverse w.trace))
+  pub holds_world : {S : Type 0} (w : WorldState K V F S) (n : ℕ) → IsWorld cmp hash changes w → Near n w.control_state.count → Holds cmp hash changes n (record { control_state = w.control_state; tables = w.tables }) (pairs cmp hash (reverse w.trace))
   holds_world w n k near = record {
-    world = record { hasher = tt; processors = w.processors; first = w.first; board = w.board; tables = w.tables; callers = w.callers; trace = w.trace };
-    is_world = record { state = k.state; callers = k.callers; hashed = k.hashed; board = k.board; tables = k.tables; unmade = k.unmade; next = k.next };
-    board = refl;
+    world = record { hasher = tt; processors = w.processors; first = w.first; control_state = w.control_state; tables = w.tables; party_records = w.party_records; trace = w.trace };
+    is_world = record { state = k.state; party_records = k.party_records; hashed = k.hashed; control_state = k.control_state; tables = k.tables; unmade = k.unmade; next = k.next };
+    control_state = refl;
     tables = refl;
     map = refl;
     near = near;

@@ -5,7 +5,7 @@ use Rattle.std.proofs.Common.{refl, sym, ◌∙◌, ap, subst}
 use Rattle.std.proofs.lemmas.Bool.{eq-eqb}
 use Rattle.flurry_model.specs.declared.reply.KeptReply.{KeptReply}
 use Rattle.flurry_theory.specs.Map.{Pairs, after, Allows, CanBeRefused}
-use Rattle.flurry_theory.specs.Trace.{Trace, begun, decision, closed, replied, decided, pairs}
+use Rattle.flurry_theory.specs.Trace.{Trace, call_begun_by, decision, has_closed, has_replied, map_after_decision, pairs}
 use Rattle.flurry_theory.specs.Legal.{CallMay}
 use Rattle.flurry_model.specs.declared.call.Call.{Call}
 use Rattle.flurry_theory.specs.declared.Label.{Label}
@@ -39,30 +39,30 @@ module _ {K V F : Type 0} (cmp : K → K → Ordering) (hash : K → ℕ) (gives
   ByEnd (Some r) b n = Allows cmp gives d m r × (n ≡ after cmp d r m)
 
   pub record Alone (t : Trace K V F) : Type 0 where
-    pub began : begun t p ≡ Some d
-    pub open_yet : replied t p ≡ false
-    pub end : ByEnd (decision t p) (closed t p) (pairs cmp hash t)
+    pub began : call_begun_by t p ≡ Some d
+    pub open_yet : has_replied t p ≡ false
+    pub end : ByEnd (decision t p) (has_closed t p) (pairs cmp hash t)
 
   module _ (t : Trace K V F) (a : Alone t) where
     decides : (r : KeptReply K V) → CallMay cmp hash gives t (label.Decide p r) → Alone (label.Decide p r ∷ t)
     decides r ((c, is, allows), none, open_yet) =
         let same : d ≡ c = same_some (sym a.began ∙ is) in
-        let before : pairs cmp hash t ≡ m = subst (λ b. ByEnd None b (pairs cmp hash t)) open_yet (subst (λ o. ByEnd o (closed t p) (pairs cmp hash t)) none a.end) in
+        let before : pairs cmp hash t ≡ m = subst (λ b. ByEnd None b (pairs cmp hash t)) open_yet (subst (λ o. ByEnd o (has_closed t p) (pairs cmp hash t)) none a.end) in
         record {
           began = a.began;
           open_yet = a.open_yet;
-          end = subst (λ b. ByEnd (if b then Some r else decision t p) (closed t p) (decided cmp hash (begun t p) r (pairs cmp hash t))) (sym (itself p))
-              (subst (λ n. Allows cmp gives d n r) before (subst (λ z. Allows cmp gives z (pairs cmp hash t) r) (sym same) allows), ap (λ o. decided cmp hash o r (pairs cmp hash t)) a.began ∙ ap (after cmp d r) before);
+          end = subst (λ b. ByEnd (if b then Some r else decision t p) (has_closed t p) (map_after_decision cmp hash (call_begun_by t p) r (pairs cmp hash t))) (sym (itself p))
+              (subst (λ n. Allows cmp gives d n r) before (subst (λ z. Allows cmp gives z (pairs cmp hash t) r) (sym same) allows), ap (λ o. map_after_decision cmp hash o r (pairs cmp hash t)) a.began ∙ ap (after cmp d r) before);
         }
 
     refuses : CallMay cmp hash gives t (label.Refused p) → Alone (label.Refused p ∷ t)
     refuses ((c, is, may), none, open_yet) =
         let same : d ≡ c = same_some (sym a.began ∙ is) in
-        let before : pairs cmp hash t ≡ m = subst (λ b. ByEnd None b (pairs cmp hash t)) open_yet (subst (λ o. ByEnd o (closed t p) (pairs cmp hash t)) none a.end) in
+        let before : pairs cmp hash t ≡ m = subst (λ b. ByEnd None b (pairs cmp hash t)) open_yet (subst (λ o. ByEnd o (has_closed t p) (pairs cmp hash t)) none a.end) in
         record {
           began = a.began;
           open_yet = a.open_yet;
-          end = subst (λ b. ByEnd (decision t p) (b || closed t p) (pairs cmp hash t)) (sym (itself p))
+          end = subst (λ b. ByEnd (decision t p) (b || has_closed t p) (pairs cmp hash t)) (sym (itself p))
               (subst (λ o. ByEnd o true (pairs cmp hash t)) (sym none) (subst (λ n. CanBeRefused cmp gives d n) before (subst (λ z. CanBeRefused cmp gives z (pairs cmp hash t)) (sym same) may), before));
         }
 
@@ -82,9 +82,9 @@ module _ {K V F : Type 0} (cmp : K → K → Ordering) (hash : K → ℕ) (gives
     alone_more (label.Silent q) o h = record { began = a.began; open_yet = a.open_yet; end = a.end }
 
   -- p began
-  pub alone_began : (t : Trace K V F) → replied t p ≡ false → decision t p ≡ None → closed t p ≡ false → pairs cmp hash t ≡ m → Alone (label.Begin p d ∷ t)
+  pub alone_began : (t : Trace K V F) → has_replied t p ≡ false → decision t p ≡ None → has_closed t p ≡ false → pairs cmp hash t ≡ m → Alone (label.Begin p d ∷ t)
   alone_began t no_reply undecided going is = record {
-    began = ap (λ b. if b then Some d else begun t p) (itself p);
+    began = ap (λ b. if b then Some d else call_begun_by t p) (itself p);
     open_yet = no_reply;
-    end = subst (λ o. ByEnd o (closed t p) (pairs cmp hash t)) (sym undecided) (subst (λ b. ByEnd None b (pairs cmp hash t)) (sym going) is);
+    end = subst (λ o. ByEnd o (has_closed t p) (pairs cmp hash t)) (sym undecided) (subst (λ b. ByEnd None b (pairs cmp hash t)) (sym going) is);
   }

@@ -8,16 +8,16 @@ use Rattle.std.proofs.lemmas.Int.{ints}
 use Rattle.std.proofs.lemmas.List.{reverse-append}
 use Rattle.std.proofs.lemmas.Option.{slice_get_within}
 use Rattle.flurry_slots.specs.Slot.{Content, IsLive, HasMoved, IsUnborn}
-use Rattle.flurry_steps.specs.Control.{Board}
-use Rattle.flurry_steps.specs.Party.{Says, SaysEnded, SaysRefused, Said, Stage, AtLocate, AtBin, AtClaim, AtMove, AtUncount, AtCount, AtRecount, AtBegin, AtGrow, AtReserve, AtDone, AtTaken, Course, wanted_part, with_stage, started, locates, said_in}
+use Rattle.flurry_steps.specs.Control.{ControlState}
+use Rattle.flurry_steps.specs.Party.{OutcomeReply, OutcomeEnded, OutcomeRefused, Outcome, Stage, AtLocate, AtBin, AtClaim, AtMove, AtUncount, AtCount, AtRecount, AtBegin, AtGrow, AtReserve, AtDone, AtTaken, PartyState, wanted_part, with_stage, started_stage, locates, outcome_in}
 use Rattle.flurry_steps.specs.declared.party.Event.{Event}
 use Rattle.flurry_steps.specs.declared.party.Event.TheVariants as event
-use Rattle.flurry_steps.specs.declared.party.call.KeptCall.{KeptCall}
+use Rattle.flurry_steps.specs.declared.party.call.OwnedCall.{OwnedCall}
 use Rattle.flurry_model.specs.declared.reply.KeptReply.{KeptReply}
 use Rattle.flurry_theory.specs.Map.{Pairs, same, after, Allows, CanBeRefused}
 use Rattle.flurry_theory.specs.Machine as machine
 use Rattle.flurry_theory.specs.Machine.{Mode, Locating, Done, Finished, WasPublished, Finds}
-use Rattle.flurry_theory.specs.Trace.{decision, replied, closed, pairs}
+use Rattle.flurry_theory.specs.Trace.{decision, has_replied, has_closed, pairs}
 use Rattle.flurry_theory.specs.Legal.{EachMay, CallMay}
 use Rattle.flurry_theory.specs.Invariant.{PartyOk, one_key}
 use Rattle.flurry_model.specs.declared.call.Call.{Call}
@@ -26,12 +26,12 @@ use Rattle.flurry_theory.specs.declared.Label.TheVariants as label
 use Rattle.flurry_world.specs.Entries.{slot_of}
 use Rattle.flurry_world.specs.Tables.{Tables, content_at}
 use Rattle.flurry_world.specs.Parts.{PartStep}
-use Rattle.flurry_world.specs.World.{Caller, Shown, Near, state_of, mode_of_stage, claim_of_stage, task_of_call, FollowsStage, IsWorld}
-use Rattle.flurry_world.specs.Steps.{with_step, with_caller, label_of, decide_label}
-use Rattle.flurry_world.specs.Runs.{labelled}
+use Rattle.flurry_world.specs.World.{PartyRecord, WorldState, Near, state_of, mode_of_stage, claim_of_stage, task_of_call, FollowsStage, IsWorld}
+use Rattle.flurry_world.specs.Steps.{with_step, with_party_record, label_of, decide_label}
+use Rattle.flurry_world.specs.Runs.{theory_call}
 use Rattle.flurry_world.proofs.StateLaws.{get_set}
 use Rattle.flurry_world.proofs.CallLaws.{found_task}
-use Rattle.flurry_world.proofs.LineLaws.{is_finds}
+use Rattle.flurry_world.proofs.TransitionLaws.{is_finds}
 use Rattle.flurry_world.proofs.Frames.{same_frame, kept, IsStep}
 use Rattle.flurry_world.proofs.Cases.{calls, in_mode}
 use Rattle.flurry_world.proofs.BeginLaws.{fresh_stage}
@@ -40,16 +40,17 @@ use Rattle.flurry_world.specs.Parts.{Parts, IsStart}
 use Rattle.flurry_drive.specs.Exact.{Holds, Answers, IsFresh}
 use Rattle.flurry_drive.proofs.Trace.{IsOwnLabel, ByEnd, Alone, alone_more, alone_began, itself}
 use Rattle.flurry_drive.proofs.CountLaws.{left, left_most, Room, near_of, room_left}
+use Rattle.flurry_model.specs.declared.sizes.TheConstants.{MOST_LABELS}
 
 -- the label of a step is one that a party may have when it is alone
 own_label : {K V F : Type 0} (p : ℕ) (ev : Event) (s : Stage K V F) → IsOwnLabel p (label_of p ev s)
-own_label {K} {V} {F} p event.Decide s = decided (said_in s)
+own_label {K} {V} {F} p event.Decide s = decided (outcome_in s)
   where
-    decided : (o : Option (Said K V)) → IsOwnLabel {F = F} p (decide_label p o)
+    decided : (o : Option (Outcome K V)) → IsOwnLabel {F = F} p (decide_label p o)
     decided None = tt
-    decided (Some (Says r)) = refl
-    decided (Some SaysEnded) = tt
-    decided (Some SaysRefused) = tt
+    decided (Some (OutcomeReply r)) = refl
+    decided (Some OutcomeEnded) = tt
+    decided (Some OutcomeRefused) = tt
 own_label p event.Refused s = refl
 own_label p (event.Opened e) s = tt
 own_label p (event.Placed e) s = tt
@@ -57,40 +58,40 @@ own_label p (event.Moved e i) s = tt
 own_label p (event.Published e) s = tt
 own_label p event.Silent s = tt
 
-module _ {K V F : Type 0} (cmp : K → K → Ordering) (total : IsTotalOrder cmp) (hash : K → ℕ) (lawful : (j k : K) → same cmp j k ≡ true → hash j ≡ hash k) (gives : F → K → V → Option V → Type 0) (n : ℕ) (few : n ≤ 2 ^ 62) (p : ℕ) (d : Call K V F) (m : Pairs K V) where
+module _ {K V F : Type 0} (cmp : K → K → Ordering) (total : IsTotalOrder cmp) (hash : K → ℕ) (lawful : (j k : K) → same cmp j k ≡ true → hash j ≡ hash k) (gives : F → K → V → Option V → Type 0) (n : ℕ) (few : n ≤ MOST_LABELS) (p : ℕ) (d : Call K V F) (m : Pairs K V) where
   -- the parts s are those of a world, in which party p is a caller with the call d, which began on the map m, was alone since, and
   -- stands at c
-  pub record InWorld (s : Parts K V) (c : Course K V F) : Type 0 where
-    pub world : Shown K V F (Unit {0})
+  pub record InWorld (s : Parts K V) (c : PartyState K V F) : Type 0 where
+    pub world : WorldState K V F (Unit {0})
     pub is_world : IsWorld cmp hash gives world
-    pub caller : Caller K V F
-    pub at : slice_get world.callers p ≡ Some caller
+    pub caller : PartyRecord K V F
+    pub at : slice_get world.party_records p ≡ Some caller
     pub call : caller.call ≡ d
-    pub course : caller.course ≡ c
-    pub parts : record { board = world.board; tables = world.tables } ≡ s
+    pub party_state : caller.party_state ≡ c
+    pub parts : record { control_state = world.control_state; tables = world.tables } ≡ s
     pub alone : Alone cmp hash gives p d m (reverse world.trace)
-    pub room : Room n (left c.stage) s.board.count
+    pub room : Room n (left c.stage) s.control_state.count
 
-  module _ (w : Shown K V F (Unit {0})) (k : IsWorld cmp hash gives w) (x : Caller K V F) (at : slice_get w.callers p ≡ Some x) (called : x.call ≡ d) (alone : Alone cmp hash gives p d m (reverse w.trace)) (room : Room n (left x.course.stage) w.board.count) where
-    near : Near (2 ^ 62) w.board.count
-    near = let z = near_of n (left x.course.stage) w.board.count room in record { most = omega (arith, ints, z.most, few); least = omega (arith, ints, z.least, few) }
+  module _ (w : WorldState K V F (Unit {0})) (k : IsWorld cmp hash gives w) (x : PartyRecord K V F) (at : slice_get w.party_records p ≡ Some x) (called : x.call ≡ d) (alone : Alone cmp hash gives p d m (reverse w.trace)) (room : Room n (left x.party_state.stage) w.control_state.count) where
+    near : Near (2 ^ 62) w.control_state.count
+    near = let z = near_of n (left x.party_state.stage) w.control_state.count room in record { most = omega (arith, ints, z.most, few); least = omega (arith, ints, z.least, few) }
 
     -- the world after a step
-    stepped : (c : Course K V F) (b : Board) (t : Tables K V) (ev : Event) → IsWorld cmp hash gives (with_step w p x b t c (label_of p ev c.stage)) → Room n (left c.stage) b.count → InWorld (record { board = b; tables = t }) c
+    stepped : (c : PartyState K V F) (b : ControlState) (t : Tables K V) (ev : Event) → IsWorld cmp hash gives (with_step w p x b t c (label_of p ev c.stage)) → Room n (left c.stage) b.count → InWorld (record { control_state = b; tables = t }) c
     stepped c b t ev after counted = record {
       world = with_step w p x b t c (label_of p ev c.stage);
       is_world = after;
       caller = new;
-      at = get_set w.callers p p new (slice_get_within w.callers p x at) ∙ ap (λ z. cond z (Some new) (slice_get w.callers p)) (itself p);
+      at = get_set w.party_records p p new (slice_get_within w.party_records p x at) ∙ ap (λ z. cond z (Some new) (slice_get w.party_records p)) (itself p);
       call = called;
-      course = refl;
+      party_state = refl;
       parts = refl;
       alone = subst (Alone cmp hash gives p d m) (sym turned) (alone_more cmp hash gives p d m (reverse w.trace) alone (label_of p ev c.stage) (own_label p ev c.stage) may);
       room = counted;
     }
       where
-        new : Caller K V F
-        new = record { call = x.call; course = c; steps = suc x.steps }
+        new : PartyRecord K V F
+        new = record { call = x.call; party_state = c; steps = suc x.steps }
 
         turned : reverse (w.trace ++ label_of p ev c.stage ∷ []) ≡ label_of p ev c.stage ∷ reverse w.trace
         turned = reverse-append w.trace (label_of p ev c.stage ∷ [])
@@ -99,14 +100,14 @@ module _ {K V F : Type 0} (cmp : K → K → Ordering) (total : IsTotalOrder cmp
         may = (subst (EachMay (CallMay cmp hash gives)) turned after.state.1.legal.calls).0
 
     -- a step at the part that the call wants
-    pub part_step : (c : Course K V F) (b : Board) (t : Tables K V) (ev : Event) → PartStep cmp gives (wanted_part x.course) x.course w.board w.tables ev c b t → InWorld (record { board = b; tables = t }) c
+    pub part_step : (c : PartyState K V F) (b : ControlState) (t : Tables K V) (ev : Event) → PartStep cmp gives (wanted_part x.party_state) x.party_state w.control_state w.tables ev c b t → InWorld (record { control_state = b; tables = t }) c
     part_step c b t ev h = stepped c b t ev
         (goes_on cmp total hash lawful gives w k near p x at (label_of p ev c.stage) c b t (record { event = ev; part = h; label_is = refl }))
-        (room_left cmp gives n few x.course w.board w.tables ev c b t room (wanted_part x.course) h)
+        (room_left cmp gives n few x.party_state w.control_state w.tables ev c b t room (wanted_part x.party_state) h)
 
     -- a step at a number that was published
-    pub start_step : (e : ℕ) (c : Course K V F) (ev : Event) → locates x.course.stage ≡ true → IsStart (record { board = w.board; tables = w.tables }) e → ev ≡ event.Silent → c ≡ with_stage x.course (started e x.course.stage) → InWorld (record { board = w.board; tables = w.tables }) c
-    start_step e c ev loc start silent is = by_stage x.course.stage refl
+    pub start_step : (e : ℕ) (c : PartyState K V F) (ev : Event) → locates x.party_state.stage ≡ true → IsStart (record { control_state = w.control_state; tables = w.tables }) e → ev ≡ event.Silent → c ≡ with_stage x.party_state (started_stage e x.party_state.stage) → InWorld (record { control_state = w.control_state; tables = w.tables }) c
+    start_step e c ev loc start silent is = by_stage x.party_state.stage refl
       where
         published : WasPublished cmp hash gives (state_of w) e
         published = (not_early (nat_lt e (state_of w).start) refl, start.newest, start.published, start.within)
@@ -120,26 +121,26 @@ module _ {K V F : Type 0} (cmp : K → K → Ordering) (total : IsTotalOrder cmp
                 unborn IsUnborn f g = start.born f
             not_early false h = ltb-false e (state_of w).start h
 
-        not_there : locates x.course.stage ≡ false → ⊥
+        not_there : locates x.party_state.stage ≡ false → ⊥
         not_there h = let no : true ≡ false = sym loc ∙ h in cc
 
-        by_stage : (s : Stage K V F) → x.course.stage ≡ s → InWorld (record { board = w.board; tables = w.tables }) c
-        by_stage (AtLocate t) f = stepped c w.board w.tables ev
-            (kept cmp hash gives total lawful w p x w.board w.tables c (label_of p ev c.stage) k at (ap (λ r. r.hash) is)
-            (subst (λ v. IsStep cmp hash gives w p x w.board w.tables c (label_of p v c.stage)) (sym silent) (record {
+        by_stage : (s : Stage K V F) → x.party_state.stage ≡ s → InWorld (record { control_state = w.control_state; tables = w.tables }) c
+        by_stage (AtLocate t) f = stepped c w.control_state w.tables ev
+            (kept cmp hash gives total lawful w p x w.control_state w.tables c (label_of p ev c.stage) k at (ap (λ r. r.hash) is)
+            (subst (λ v. IsStep cmp hash gives w p x w.control_state w.tables c (label_of p v c.stage)) (sym silent) (record {
               line = Finds e;
               can = (x.call, calls cmp total hash lawful gives w k p x at c, in_mode cmp total hash lawful gives w k p x at c (AtLocate t) f, published);
               is = is_finds cmp hash gives w p x at c e (ap mode_of_stage stands ∙ sym (found_task x.call t e follows)) (ap claim_of_stage stands ∙ sym (ap claim_of_stage f));
               follows = subst (FollowsStage x.call) (sym stands) follows;
               frame = same_frame cmp hash gives w k;
             })))
-            (subst (λ l. Room n l w.board.count) (ap left f ∙ sym (ap left stands)) room)
+            (subst (λ l. Room n l w.control_state.count) (ap left f ∙ sym (ap left stands)) room)
           where
             follows : task_of_call x.call ≡ Some t
-            follows = subst (FollowsStage x.call) f (k.callers p x at).stage
+            follows = subst (FollowsStage x.call) f (k.party_records p x at).stage
 
             stands : c.stage ≡ AtBin t e
-            stands = ap (λ r. r.stage) is ∙ ap (started e) f
+            stands = ap (λ r. r.stage) is ∙ ap (started_stage e) f
         by_stage (AtBin t g) f = absurd (not_there (ap locates f))
         by_stage (AtClaim a) f = absurd (not_there (ap locates f))
         by_stage (AtMove r a) f = absurd (not_there (ap locates f))
@@ -153,51 +154,51 @@ module _ {K V F : Type 0} (cmp : K → K → Ordering) (total : IsTotalOrder cmp
         by_stage AtTaken f = absurd (not_there (ap locates f))
 
     -- the call is done
-    pub ended : (r : Said K V) → x.course.stage ≡ AtDone r → (m' : Pairs K V) × Answers cmp hash gives d m r m' × Holds cmp hash gives n (record { board = w.board; tables = w.tables }) m'
+    pub ended : (r : Outcome K V) → x.party_state.stage ≡ AtDone r → (m' : Pairs K V) × Answers cmp hash gives d m r m' × Holds cmp hash gives n (record { control_state = w.control_state; tables = w.tables }) m'
     ended r f = (
       pairs cmp hash (reverse w.trace),
       answers r f,
       record {
         world = w;
         is_world = k;
-        board = refl;
+        control_state = refl;
         tables = refl;
         map = refl;
-        near = near_of n (left x.course.stage) w.board.count room;
+        near = near_of n (left x.party_state.stage) w.control_state.count room;
       },
     )
       where
         ok : PartyOk (state_of w) p
         ok = k.state.1.parties p
 
-        mode : (q : Said K V) → x.course.stage ≡ AtDone q → (state_of w).mode p ≡ mode_of_stage {F = F} (AtDone q)
-        mode q e = in_mode cmp total hash lawful gives w k p x at x.course (AtDone q) e
+        mode : (q : Outcome K V) → x.party_state.stage ≡ AtDone q → (state_of w).mode p ≡ mode_of_stage {F = F} (AtDone q)
+        mode q e = in_mode cmp total hash lawful gives w k p x at x.party_state (AtDone q) e
 
-        answers : (q : Said K V) → x.course.stage ≡ AtDone q → Answers cmp hash gives d m q (pairs cmp hash (reverse w.trace))
-        answers (Says q) e = subst (λ o. ByEnd cmp hash gives p d m o (closed (reverse w.trace) p) (pairs cmp hash (reverse w.trace))) (ok.decided q 0 0 (mode (Says q) e)) alone.end
-        answers SaysEnded e =
-            let none : decision (reverse w.trace) p ≡ None = ok.undecided (λ z a b h. other (sym (mode SaysEnded e) ∙ h)) (λ h. going (sym (mode SaysEnded e) ∙ h)) in
-            let open_yet : closed (reverse w.trace) p ≡ false = (ok.going (λ h. going (sym (mode SaysEnded e) ∙ h))).1 in
-            let (a, is) = subst (FollowsStage x.call) e (k.callers p x at).stage in
-            (a, sym called ∙ is, subst (λ b. ByEnd cmp hash gives p d m None b (pairs cmp hash (reverse w.trace))) open_yet (subst (λ o. ByEnd cmp hash gives p d m o (closed (reverse w.trace) p) (pairs cmp hash (reverse w.trace))) none alone.end))
+        answers : (q : Outcome K V) → x.party_state.stage ≡ AtDone q → Answers cmp hash gives d m q (pairs cmp hash (reverse w.trace))
+        answers (OutcomeReply q) e = subst (λ o. ByEnd cmp hash gives p d m o (has_closed (reverse w.trace) p) (pairs cmp hash (reverse w.trace))) (ok.decided q 0 0 (mode (OutcomeReply q) e)) alone.end
+        answers OutcomeEnded e =
+            let none : decision (reverse w.trace) p ≡ None = ok.undecided (λ z a b h. other (sym (mode OutcomeEnded e) ∙ h)) (λ h. going (sym (mode OutcomeEnded e) ∙ h)) in
+            let open_yet : has_closed (reverse w.trace) p ≡ false = (ok.going (λ h. going (sym (mode OutcomeEnded e) ∙ h))).1 in
+            let (a, is) = subst (FollowsStage x.call) e (k.party_records p x at).stage in
+            (a, sym called ∙ is, subst (λ b. ByEnd cmp hash gives p d m None b (pairs cmp hash (reverse w.trace))) open_yet (subst (λ o. ByEnd cmp hash gives p d m o (has_closed (reverse w.trace) p) (pairs cmp hash (reverse w.trace))) none alone.end))
           where
             other : {z : KeptReply K V} {a b : ℕ} → Done None 0 0 ≡ Done (Some z) a b → ⊥
             other h = cc
 
             going : ◌≡◌ {A = Mode K V} (Done None 0 0) Finished → ⊥
             going h = cc
-        answers SaysRefused e = by_end (decision (reverse w.trace) p) refl (closed (reverse w.trace) p) refl
+        answers OutcomeRefused e = by_end (decision (reverse w.trace) p) refl (has_closed (reverse w.trace) p) refl
           where
-            finished : (replied (reverse w.trace) p ≡ true) ⊎ (closed (reverse w.trace) p ≡ true)
-            finished = ok.finished (mode SaysRefused e) (ap is_some (calls cmp total hash lawful gives w k p x at x.course))
+            finished : (has_replied (reverse w.trace) p ≡ true) ⊎ (has_closed (reverse w.trace) p ≡ true)
+            finished = ok.finished (mode OutcomeRefused e) (ap is_some (calls cmp total hash lawful gives w k p x at x.party_state))
 
             not_both : {b : Bool} → b ≡ true → b ≡ false → ⊥
             not_both h g = let no : true ≡ false = sym h ∙ g in cc
 
-            refused : closed (reverse w.trace) p ≡ true
+            refused : has_closed (reverse w.trace) p ≡ true
             refused = by_case finished
               where
-                by_case : (replied (reverse w.trace) p ≡ true) ⊎ (closed (reverse w.trace) p ≡ true) → closed (reverse w.trace) p ≡ true
+                by_case : (has_replied (reverse w.trace) p ≡ true) ⊎ (has_closed (reverse w.trace) p ≡ true) → has_closed (reverse w.trace) p ≡ true
                 by_case (inl h) = absurd (not_both h alone.open_yet)
                 by_case (inr h) = h
 
@@ -215,48 +216,48 @@ module _ {K V F : Type 0} (cmp : K → K → Ordering) (total : IsTotalOrder cmp
             no_reply call.Clear q l h a = absurd a
             no_reply call.Walk q l h a = absurd a
 
-            by_end : (o : Option (KeptReply K V)) → decision (reverse w.trace) p ≡ o → (b : Bool) → closed (reverse w.trace) p ≡ b → CanBeRefused cmp gives d m × (pairs cmp hash (reverse w.trace) ≡ m)
-            by_end None e true f = subst (λ b. ByEnd cmp hash gives p d m None b (pairs cmp hash (reverse w.trace))) f (subst (λ o. ByEnd cmp hash gives p d m o (closed (reverse w.trace) p) (pairs cmp hash (reverse w.trace))) e alone.end)
+            by_end : (o : Option (KeptReply K V)) → decision (reverse w.trace) p ≡ o → (b : Bool) → has_closed (reverse w.trace) p ≡ b → CanBeRefused cmp gives d m × (pairs cmp hash (reverse w.trace) ≡ m)
+            by_end None e true f = subst (λ b. ByEnd cmp hash gives p d m None b (pairs cmp hash (reverse w.trace))) f (subst (λ o. ByEnd cmp hash gives p d m o (has_closed (reverse w.trace) p) (pairs cmp hash (reverse w.trace))) e alone.end)
             by_end None e false f = absurd (not_both refused f)
             by_end (Some q) e b f = absurd (by_kind (one_key (Some d)) refl)
               where
                 allowed : Allows cmp gives d m q
-                allowed = (subst (λ o. ByEnd cmp hash gives p d m o (closed (reverse w.trace) p) (pairs cmp hash (reverse w.trace))) e alone.end).0
+                allowed = (subst (λ o. ByEnd cmp hash gives p d m o (has_closed (reverse w.trace) p) (pairs cmp hash (reverse w.trace))) e alone.end).0
 
                 by_kind : (b : Bool) → one_key (Some d) ≡ b → ⊥
-                by_kind true h = let none : decision (reverse w.trace) p ≡ None = ok.refused refused (ap one_key (calls cmp total hash lawful gives w k p x at x.course) ∙ ap (λ z. one_key (Some z)) called ∙ h) in let no : Some q ≡ None = sym e ∙ none in cc
+                by_kind true h = let none : decision (reverse w.trace) p ≡ None = ok.refused refused (ap one_key (calls cmp total hash lawful gives w k p x at x.party_state) ∙ ap (λ z. one_key (Some z)) called ∙ h) in let no : Some q ≡ None = sym e ∙ none in cc
                 by_kind false h = no_reply d q m h allowed
 
 module _ {K V F : Type 0} (cmp : K → K → Ordering) (total : IsTotalOrder cmp) (hash : K → ℕ) (lawful : (j k : K) → same cmp j k ≡ true → hash j ≡ hash k) (gives : F → K → V → Option V → Type 0) where
-  module _ (n : ℕ) (few : n < 2 ^ 62) (m : Pairs K V) (s : Parts K V) (h : Holds cmp hash gives n s m) (c : KeptCall K V F) (q : Course K V F) (fresh : IsFresh cmp hash gives c q) where
+  module _ (n : ℕ) (few : n < MOST_LABELS) (m : Pairs K V) (s : Parts K V) (h : Holds cmp hash gives n s m) (c : OwnedCall K V F) (q : PartyState K V F) (fresh : IsFresh cmp hash gives c q) where
     pub small : n + 1 ≤ 2 ^ 62
     small = omega (arith, few)
 
     -- it begins as one more caller of the world
-    pub begins : InWorld cmp total hash lawful gives (n + 1) small (length h.world.callers) (labelled c) m s q
+    pub begins : InWorld cmp total hash lawful gives (n + 1) small (length h.world.party_records) (theory_call c) m s q
     begins = record {
-      world = with_caller h.world (labelled c) q;
-      is_world = began cmp total hash lawful gives h.world h.is_world near (labelled c) q (ap mode_of_stage fresh.stage ∙ (fresh_stage c).1) (ap claim_of_stage fresh.stage ∙ (fresh_stage c).2) fresh.hash_is (subst (FollowsStage (labelled c)) (sym fresh.stage) (fresh_stage c).0);
+      world = with_party_record h.world (theory_call c) q;
+      is_world = began cmp total hash lawful gives h.world h.is_world near (theory_call c) q (ap mode_of_stage fresh.stage ∙ (fresh_stage c).1) (ap claim_of_stage fresh.stage ∙ (fresh_stage c).2) fresh.hash_is (subst (FollowsStage (theory_call c)) (sym fresh.stage) (fresh_stage c).0);
       caller = new;
-      at = get_append h.world.callers new (length h.world.callers) ∙ ap (λ z. cond z (Some new) (slice_get h.world.callers (length h.world.callers))) (itself (length h.world.callers));
+      at = get_append h.world.party_records new (length h.world.party_records) ∙ ap (λ z. cond z (Some new) (slice_get h.world.party_records (length h.world.party_records))) (itself (length h.world.party_records));
       call = refl;
-      course = refl;
-      parts = (λ i. record { board = h.board i; tables = h.tables i });
-      alone = subst (Alone cmp hash gives (length h.world.callers) (labelled c) m) (sym turned) (alone_began cmp hash gives (length h.world.callers) (labelled c) m (reverse h.world.trace) unknown.4 unknown.3 unknown.5 h.map);
+      party_state = refl;
+      parts = (λ i. record { control_state = h.control_state i; tables = h.tables i });
+      alone = subst (Alone cmp hash gives (length h.world.party_records) (theory_call c) m) (sym turned) (alone_began cmp hash gives (length h.world.party_records) (theory_call c) m (reverse h.world.trace) unknown.4 unknown.3 unknown.5 h.map);
       room = record { most = omega (arith, ints, h.near.most, left_most q.stage); least = omega (arith, ints, h.near.least, left_most q.stage) };
     }
       where
-        new : Caller K V F
-        new = record { call = labelled c; course = q; steps = 0 }
+        new : PartyRecord K V F
+        new = record { call = theory_call c; party_state = q; steps = 0 }
 
-        count : h.world.board.count ≡ s.board.count
-        count = ap (λ b. b.count) h.board
+        count : h.world.control_state.count ≡ s.control_state.count
+        count = ap (λ b. b.count) h.control_state
 
-        near : Near (2 ^ 62) h.world.board.count
+        near : Near (2 ^ 62) h.world.control_state.count
         near = record { most = omega (arith, ints, h.near.most, count, few); least = omega (arith, ints, h.near.least, count, few) }
 
-        turned : reverse (h.world.trace ++ label.Begin (length h.world.callers) (labelled c) ∷ []) ≡ label.Begin (length h.world.callers) (labelled c) ∷ reverse h.world.trace
-        turned = reverse-append h.world.trace (label.Begin (length h.world.callers) (labelled c) ∷ [])
+        turned : reverse (h.world.trace ++ label.Begin (length h.world.party_records) (theory_call c) ∷ []) ≡ label.Begin (length h.world.party_records) (theory_call c) ∷ reverse h.world.trace
+        turned = reverse-append h.world.trace (label.Begin (length h.world.party_records) (theory_call c) ∷ [])
 
-        unknown : ((state_of h.world).call (length h.world.callers) ≡ None) × ((state_of h.world).mode (length h.world.callers) ≡ Finished) × ((state_of h.world).claim (length h.world.callers) ≡ None) × (decision (reverse h.world.trace) (length h.world.callers) ≡ None) × (replied (reverse h.world.trace) (length h.world.callers) ≡ false) × (closed (reverse h.world.trace) (length h.world.callers) ≡ false)
-        unknown = (h.is_world.state.1.parties (length h.world.callers)).unknown (omega arith)
+        unknown : ((state_of h.world).call (length h.world.party_records) ≡ None) × ((state_of h.world).mode (length h.world.party_records) ≡ Finished) × ((state_of h.world).claim (length h.world.party_records) ≡ None) × (decision (reverse h.world.trace) (length h.world.party_records) ≡ None) × (has_replied (reverse h.world.trace) (length h.world.party_records) ≡ false) × (has_closed (reverse h.world.trace) (length h.world.party_records) ≡ false)
+        unknown = (h.is_world.state.1.parties (length h.world.party_records)).unknown (omega arith)

@@ -3,51 +3,52 @@ use Rattle.std.specs.Prelude.{◌≡◌, ℕ, ◌+◌, ◌^◌, ◌<◌, Bool, O
 use Rattle.std.specs.declared.cmp.Ordering.{Ordering}
 use Rattle.std.specs.declared.cmp.Ordering.TheVariants.{Equal}
 use Rattle.flurry_steps.specs.Field.{Loan}
-use Rattle.flurry_steps.specs.Party.{Said, Says, SaysEnded, SaysRefused, Course, Part}
-use Rattle.flurry_steps.specs.PartyView.{kept_stage}
-use Rattle.flurry_steps.specs.declared.party.call.KeptCall.{KeptCall}
+use Rattle.flurry_steps.specs.Party.{Outcome, OutcomeReply, OutcomeEnded, OutcomeRefused, PartyState, Part}
+use Rattle.flurry_steps.specs.PartyView.{owned_stage}
+use Rattle.flurry_steps.specs.declared.party.call.OwnedCall.{OwnedCall}
 use Rattle.flurry_theory.specs.Map.{Pairs, key_of, after, Allows, CanBeRefused}
 use Rattle.flurry_theory.specs.Trace.{pairs}
 use Rattle.flurry_model.specs.declared.call.Call.{Call}
 use Rattle.flurry_model.specs.declared.call.Call.TheVariants as call
 use Rattle.flurry_world.specs.Parts.{Parts}
-use Rattle.flurry_world.specs.Runs.{labelled}
+use Rattle.flurry_world.specs.Runs.{theory_call}
 use Rattle.flurry_world.specs.Tables.{Tables}
-use Rattle.flurry_world.specs.World.{Shown, Near, IsWorld}
+use Rattle.flurry_world.specs.World.{WorldState, Near, IsWorld}
 use Rattle.flurry_drive.specs.Tells.{Tells}
+use Rattle.flurry_model.specs.declared.sizes.TheConstants.{MOST_LABELS}
 
 module _ {K V F : Type 0} (cmp : K → K → Ordering) (hash : K → ℕ) (changes : F → K → V → Option V → Type 0) where
   -- The parts stand as a world keeps them, whatever calls have begun there and wherever these stand. They hold the map m, and their
   -- count of pairs is at most n from 0.
   pub record Holds (n : ℕ) (s : Parts K V) (m : Pairs K V) : Type 0 where
-    pub world : Shown K V F (Unit {0})
+    pub world : WorldState K V F (Unit {0})
     pub is_world : IsWorld cmp hash changes world
-    pub board : world.board ≡ s.board
+    pub control_state : world.control_state ≡ s.control_state
     pub tables : world.tables ≡ s.tables
     pub map : pairs cmp hash (reverse world.trace) ≡ m
-    pub near : Near n s.board.count
+    pub near : Near n s.control_state.count
 
   -- the call c, on the map m, answers r and leaves m'. A call of one key replies and leaves what the finite map does; a reserve that
   -- ends leaves the map, and so does any call that is refused, as it may be.
-  abbrev pub Answers : Call K V F → Pairs K V → Said K V → Pairs K V → Type 0
-  Answers c m (Says r) m' = Allows cmp changes c m r × (m' ≡ after cmp c r m)
-  Answers c m SaysEnded m' = (a : ℕ) × (c ≡ call.Reserve a) × (m' ≡ m)
-  Answers c m SaysRefused m' = CanBeRefused cmp changes c m × (m' ≡ m)
+  abbrev pub Answers : Call K V F → Pairs K V → Outcome K V → Pairs K V → Type 0
+  Answers c m (OutcomeReply r) m' = Allows cmp changes c m r × (m' ≡ after cmp c r m)
+  Answers c m OutcomeEnded m' = (a : ℕ) × (c ≡ call.Reserve a) × (m' ≡ m)
+  Answers c m OutcomeRefused m' = CanBeRefused cmp changes c m × (m' ≡ m)
 
   -- the call c before its first step, with the hash of its key
-  pub record IsFresh (c : KeptCall K V F) (p : Course K V F) : Type 0 where
-    pub stage : p.stage ≡ kept_stage c
-    pub hash_is : (k : K) → key_of (labelled c) ≡ Some k → p.hash ≡ hash k
+  pub record IsFresh (c : OwnedCall K V F) (p : PartyState K V F) : Type 0 where
+    pub stage : p.stage ≡ owned_stage c
+    pub hash_is : (k : K) → key_of (theory_call c) ≡ Some k → p.hash ≡ hash k
 
   -- driven over the parts s, the call c answers r and leaves the parts s'
-  abbrev pub DrivesTo : KeptCall K V F → ℕ → Parts K V → Pairs K V → Said K V → Parts K V → Type 0
-  DrivesTo c n s m r s' = (m' : Pairs K V) × Answers (labelled c) m r m' × Holds (n + 1) s' m'
+  abbrev pub DrivesTo : OwnedCall K V F → ℕ → Parts K V → Pairs K V → Outcome K V → Parts K V → Type 0
+  DrivesTo c n s m r s' = (m' : Pairs K V) × Answers (theory_call c) m r m' × Holds (n + 1) s' m'
 
 -- over a field that tells its parts, which stand as a world keeps them, a call that did no step yet does what the finite map does
-abbrev pub IsExact : {S R K V F : Type 0} (place : R → ℕ → Bool → Bool → R → Type 0) (cmp : K → K → Ordering) (changes : F → K → V → Option V → Type 0) (lends : S → Loan K V R → S → Type 0) (lacks : S → Part → Type 0) → S → Course K V F → Said K V → S → Type 0
+abbrev pub IsExact : {S R K V F : Type 0} (place : R → ℕ → Bool → Bool → R → Type 0) (cmp : K → K → Ordering) (changes : F → K → V → Option V → Type 0) (lends : S → Loan K V R → S → Type 0) (lacks : S → Part → Type 0) → S → PartyState K V F → Outcome K V → S → Type 0
 IsExact {S} {R} {K} {V} {F} place cmp changes lends lacks s p r s' =
     (parts : S → Parts K V) (room : R → Tables K V) → Tells parts room place lends lacks
     → (hash : K → ℕ) → ((j k : K) → cmp j k ≡ Equal → hash j ≡ hash k)
-    → (c : KeptCall K V F) → IsFresh cmp hash changes c p
-    → (n : ℕ) (m : Pairs K V) → n < 2 ^ 62 → Holds cmp hash changes n (parts s) m
+    → (c : OwnedCall K V F) → IsFresh cmp hash changes c p
+    → (n : ℕ) (m : Pairs K V) → n < MOST_LABELS → Holds cmp hash changes n (parts s) m
     → DrivesTo cmp hash changes c n (parts s) m r (parts s')

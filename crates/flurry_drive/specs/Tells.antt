@@ -2,7 +2,7 @@
 use Rattle.std.specs.Prelude.{◌≡◌, ◌⊎◌, ℕ, Bool, true, Option}
 use Rattle.std.specs.declared.cmp.Ordering.{Ordering}
 use Rattle.flurry_steps.specs.Field.{Loan}
-use Rattle.flurry_steps.specs.Party.{Course, Part, locates, started, wanted_part, with_stage}
+use Rattle.flurry_steps.specs.Party.{PartyState, Part, locates, started_stage, wanted_part, with_stage}
 use Rattle.flurry_steps.specs.declared.party.Event.{Event}
 use Rattle.flurry_steps.specs.declared.party.Event.TheVariants as event
 use Rattle.flurry_world.specs.Parts.{Parts, IsStart, IsOwn, IsThere, PartStep}
@@ -11,17 +11,17 @@ use Rattle.flurry_world.specs.Tables.{Tables, PlaceGives}
 module _ {K V : Type 0} where
   module _ {F : Type 0} (cmp : K → K → Ordering) (changes : F → K → V → Option V → Type 0) where
     -- a call that only asks for the published table goes on at a table where a call may begin
-    pub record StartStep (c : Course K V F) (s : Parts K V) (ev : Event) (c' : Course K V F) (s' : Parts K V) : Type 0 where
+    pub record StartStep (c : PartyState K V F) (s : Parts K V) (ev : Event) (c' : PartyState K V F) (s' : Parts K V) : Type 0 where
       pub table : ℕ
       pub start : IsStart s table
       pub asks : locates c.stage ≡ true
       pub silent : ev ≡ event.Silent
-      pub course : c' ≡ with_stage c (started table c.stage)
+      pub party_state : c' ≡ with_stage c (started_stage table c.stage)
       pub parts : s' ≡ s
 
     -- one step of the call c over the parts s: at the part that it wants, where every other part stays, or at a table where it may begin
-    abbrev pub StepsIn : Course K V F → Parts K V → Event → Course K V F → Parts K V → Type 0
-    StepsIn c s ev c' s' = PartStep cmp changes (wanted_part c) c s.board s.tables ev c' s'.board s'.tables ⊎ StartStep c s ev c' s'
+    abbrev pub StepsIn : PartyState K V F → Parts K V → Event → PartyState K V F → Parts K V → Type 0
+    StepsIn c s ev c' s' = PartStep cmp changes (wanted_part c) c s.control_state s.tables ev c' s'.control_state s'.tables ⊎ StartStep c s ev c' s'
 
   -- A field whose parts, and a room whose tables, are these: what the field lends is its own, and what it lacks is not there. Nobody
   -- else changes them, since the parts before a loan are those that the loan before it left.

@@ -1,6 +1,6 @@
 -- Steps of a call, one after another.
 use Rattle.std.specs.Prelude.{◌≡◌}
-use Rattle.flurry_steps.specs.Party.{Course, Said, AtDone, AtTaken, with_stage}
+use Rattle.flurry_steps.specs.Party.{PartyState, Outcome, AtDone, AtTaken, with_stage}
 use Rattle.flurry_steps.specs.declared.party.Event.{Event}
 
 -- steps of a relation, one after another
@@ -9,8 +9,8 @@ pub data Turns {S P E : Type 0} (step : S → P → E → S → P → Type 0) : 
   further : {s : S} {p : P} {s' : S} {p' : P} {s'' : S} {p'' : P} (ev : E) → Turns step s p s' p' → step s' p' ev s'' p'' → Turns step s p s'' p''
 
 -- the steps take p to its reply r, which is taken
-pub record TurnsTo {S K V F : Type 0} (step : S → Course K V F → Event → S → Course K V F → Type 0) (s : S) (p : Course K V F) (r : Said K V) (s' : S) (p' : Course K V F) : Type 0 where
-  pub last : Course K V F
+pub record TurnsTo {S K V F : Type 0} (step : S → PartyState K V F → Event → S → PartyState K V F → Type 0) (s : S) (p : PartyState K V F) (r : Outcome K V) (s' : S) (p' : PartyState K V F) : Type 0 where
+  pub last : PartyState K V F
   pub turns : Turns step s p s' last
   pub done : last.stage ≡ AtDone r
   pub after : p' ≡ with_stage last AtTaken

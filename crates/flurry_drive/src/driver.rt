@@ -6,14 +6,15 @@ ghost use Rattle.flurry_drive.specs.Tells.{Tells};
 ghost use Rattle.flurry_drive.specs.Turns.{TurnsTo};
 ghost use Rattle.flurry_steps.specs.Field.{Turn};
 ghost use Rattle.flurry_steps.specs.Party.{AtTaken};
-ghost use Rattle.flurry_steps.specs.PartyView.{said_of, KeptIsReady};
+ghost use Rattle.flurry_steps.specs.PartyView.{outcome_of, OwnedIsReady};
 ghost use Rattle.flurry_theory.specs.Map.{Pairs};
 ghost use Rattle.flurry_world.specs.Parts.{OwnLends, OwnLacks, no_parts};
 ghost use Rattle.flurry_world.specs.Tables.{PlaceGives};
+ghost use Rattle.flurry_model.specs.declared.sizes.TheConstants.{MOST_LABELS};
 
 use flurry_model::hash::KeyHasher;
-use flurry_slots::Change;
-use flurry_steps::party::{KeptCall, Reply};
+use flurry_slots::ComputeFn;
+use flurry_steps::party::{OwnedCall, Reply};
 use flurry_steps::{Field, Party, act};
 use flurry_world::{Parts, hash_for};
 use std::alloc::Allocator;
@@ -27,13 +28,15 @@ pub fn drive<
     K: Ord + Drop,
     V: Drop,
     A: Allocator + Copy,
-    F: Change<K, V>,
+    F: ComputeFn<K, V>,
     X: Field<K, V, A>,
     R: Wait,
 >(rt: &R, party: &mut Party<'_, K, V, F, A>, field: &mut X) -> Reply<K, V, A>
     requires { party.old.stage ≡ AtTaken → ⊥ }
-    ensures turns { TurnsTo (Turn X.Room.place_gives K.cmp F.changes X.lends) field.old party.old (said_of result) field.new party.new }
-    ensures exact { IsExact X.Room.place_gives K.cmp F.changes X.lends X.lacks field.old party.old (said_of result) field.new }
+    ensures turns { TurnsTo (Turn X.Room.place_gives K.cmp F.changes X.lends) field.old party.old
+        (outcome_of result) field.new party.new }
+    ensures exact { IsExact X.Room.place_gives K.cmp F.changes X.lends X.lacks field.old party.old
+        (outcome_of result) field.new }
 {
     for _ in rt.forever() {
         if act(party, field).is_some() {
@@ -54,21 +57,22 @@ pub fn drive_alone<
     K: Ord + Drop,
     V: Drop,
     A: Allocator + Copy,
-    F: Change<K, V>,
+    F: ComputeFn<K, V>,
     S: KeyHasher<K>,
     R: Wait,
 >(
     rt: &R,
-    call: KeptCall<K, V, F>,
+    call: OwnedCall<K, V, F>,
     hasher: &S,
     processors: usize,
     parts: &mut Parts<K, V, A>,
 ) -> Reply<K, V, A>
-    requires { KeptIsReady F.can_change call }
-    ensures { (n : ℕ) (m : Pairs K V) → n < 2 ^ 62 → Holds K.cmp (S.hash_of hasher.now) F.changes n parts.old m → DrivesTo K.cmp (S.hash_of hasher.now) F.changes call n parts.old m (said_of result) parts.new }
+    requires { OwnedIsReady F.can_change call }
+    ensures { (n : ℕ) (m : Pairs K V) → n < MOST_LABELS → Holds K.cmp (S.hash_of hasher.now) F.changes n parts.old m
+        → DrivesTo K.cmp (S.hash_of hasher.now) F.changes call n parts.old m (outcome_of result) parts.new }
 {
     let hash = hash_for(hasher, &call);
-    let mut party = Party::kept(call, hash, processors);
+    let mut party = Party::from_owned(call, hash, processors);
     let reply = drive(rt, &mut party, parts);
     drop(party);
     reply
@@ -80,6 +84,7 @@ pub fn own_parts_tell<K: Ord, V>()
 {}
 
 /// Parts without a table hold no pair. This does nothing: its contract is a law.
-pub fn no_parts_hold_nothing<K: Ord, V, F: Change<K, V>>()
-    ensures { (hash : K → ℕ) → ((j k : K) → K.cmp j k ≡ Equal → hash j ≡ hash k) → Holds {V = V} K.cmp hash F.changes 0 no_parts [] }
+pub fn no_parts_hold_nothing<K: Ord, V, F: ComputeFn<K, V>>()
+    ensures { (hash : K → ℕ) → ((j k : K) → K.cmp j k ≡ Equal → hash j ≡ hash k)
+        → Holds {V = V} K.cmp hash F.changes 0 no_parts [] }
 {}

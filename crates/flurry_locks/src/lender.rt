@@ -3,7 +3,7 @@ ghost use Rattle.std.specs.Prelude.{◌≡◌};
 
 use crate::locks::Locks;
 use crate::tables::Maker;
-use flurry_slots::Change;
+use flurry_slots::ComputeFn;
 use flurry_steps::party::Event;
 use flurry_steps::{Field, Party};
 use std::alloc::{Allocator, Global};
@@ -36,7 +36,10 @@ impl<'m, R: Wait, K: Ord + Drop, V: Drop, A: Allocator + Copy> Field<K, V, A>
 
     ghost lacks = { LockLacks };
 
-    fn at_control<F: Change<K, V>>(&mut self, party: &mut Party<'_, K, V, F, A>) -> Option<Event> {
+    fn at_control<F: ComputeFn<K, V>>(
+        &mut self,
+        party: &mut Party<'_, K, V, F, A>,
+    ) -> Option<Event> {
         let locks = self.locks;
         if party.locates() {
             if let Some(start) = locks.starts.newest() {
@@ -54,7 +57,7 @@ impl<'m, R: Wait, K: Ord + Drop, V: Drop, A: Allocator + Copy> Field<K, V, A>
         Some(event)
     }
 
-    fn at_look<F: Change<K, V>>(
+    fn at_look<F: ComputeFn<K, V>>(
         &mut self,
         table: u8,
         index: usize,
@@ -67,7 +70,7 @@ impl<'m, R: Wait, K: Ord + Drop, V: Drop, A: Allocator + Copy> Field<K, V, A>
         Some(party.on_look(&*slot))
     }
 
-    fn at_bin<F: Change<K, V>>(
+    fn at_bin<F: ComputeFn<K, V>>(
         &mut self,
         table: u8,
         index: usize,
@@ -80,7 +83,7 @@ impl<'m, R: Wait, K: Ord + Drop, V: Drop, A: Allocator + Copy> Field<K, V, A>
         Some(party.on_bin(self.locks.alloc, &mut *slot))
     }
 
-    fn at_move<F: Change<K, V>>(
+    fn at_move<F: ComputeFn<K, V>>(
         &mut self,
         table: u8,
         index: usize,

@@ -1,6 +1,7 @@
 //! The numbers that a control has published, as calls read them without its lock.
 
-use flurry_steps::control::Start;
+use flurry_model::sizes::TABLES;
+use flurry_steps::control::PublishedTable;
 use std::array;
 use std::sync::OnceLock;
 use std::sync::atomic::{AtomicUsize, Ordering};
@@ -10,7 +11,7 @@ use std::sync::atomic::{AtomicUsize, Ordering};
 /// Whoever has the control's lock puts numbers in; a reader may be behind.
 #[derive(Drop)]
 pub(crate) struct Starts {
-    places: [OnceLock<Start>; 31],
+    places: [OnceLock<PublishedTable>; TABLES],
     newest: AtomicUsize,
 }
 
@@ -24,12 +25,12 @@ impl Starts {
     }
 
     // The number that was put in last, if there is one.
-    pub(crate) fn newest(&self) -> Option<&Start> {
+    pub(crate) fn newest(&self) -> Option<&PublishedTable> {
         self.places.get(self.newest.load(Ordering::SeqCst))?.get()
     }
 
     // Puts in a number. One that is there already stays.
-    pub(crate) fn add(&self, start: Start) {
+    pub(crate) fn add(&self, start: PublishedTable) {
         let place = usize::from(start.table());
         let _ = self.places[place].try_set(start);
         self.newest.store(place, Ordering::SeqCst);

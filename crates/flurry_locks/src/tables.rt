@@ -1,7 +1,9 @@
 //! The tables of a shared map, each at the place of its number.
 ghost use Rattle.std.specs.Prelude.{◌≤◌};
+ghost use Rattle.flurry_model.specs.declared.sizes.TheConstants.{GREATEST_TABLE};
 
 use flurry_bins::bin::Bin;
+use flurry_model::sizes::TABLES;
 use flurry_slots::Slot;
 use flurry_steps::control::Room;
 use std::alloc::{AllocError, Allocator, Global};
@@ -21,7 +23,7 @@ type LocksOfMove<'m, K, V, A> = (
 /// A place for each table, by its number. A table is put in at most once, and stays.
 #[derive(Drop)]
 pub(crate) struct Tables<K: Ord, V, A: Allocator = Global> {
-    places: [OnceLock<Arc<Vec<RwLock<Slot<K, V, A>>, A>, A>>; 31],
+    places: [OnceLock<Arc<Vec<RwLock<Slot<K, V, A>>, A>, A>>; TABLES],
 }
 
 impl<K: Ord, V, A: Allocator> Tables<K, V, A> {
@@ -90,7 +92,7 @@ fn new_table<K: Ord + Drop, V: Drop, A: Allocator + Copy>(
     table: u8,
     live: bool,
 ) -> Result<Table<K, V, A>, AllocError>
-    requires { table ≤ 30 }
+    requires { table ≤ GREATEST_TABLE }
 {
     let bins = 1usize << table;
     let mut slots = Vec::with_capacity(alloc, bins)?;

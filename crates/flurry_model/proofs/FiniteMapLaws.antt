@@ -7,7 +7,7 @@ use Rattle.std.specs.List.{AllByRecursion, filter}
 use Rattle.std.specs.List.Sorted.{IsStrictlySortedBy}
 use Rattle.std.specs.Map.{keys_of}
 use Rattle.std.proofs.lemmas.Map.Keys.{sorted_head, sorted_tail}
-use Rattle.flurry_model.specs.FiniteMap.{IsFiniteMap, pair_at, with_pair, with_all, without, stored_key, gathered}
+use Rattle.flurry_model.specs.FiniteMap.{IsFiniteMap, pair_at, with_pair, with_all, without, stored_key, map_of_pairs}
 
 same_test : {X : Type 0} (b c : Bool) (x y z : X) → b ≡ c → cond c x z ≡ cond b x (cond c y z)
 same_test true true x y z e = refl
@@ -215,21 +215,21 @@ module _ {K V : Type 0} {cmp : K → K → Ordering} (o : IsTotalOrder cmp) wher
       by_test true p ih = rw p (all_filter (λ y. cmp e.0 y ≡ Less) test m s.0, ih)
       by_test false p ih = rw p ih
 
-  pub IsFiniteMap-gathered : (ps : List (K × V)) → IsFiniteMap cmp (gathered cmp ps)
-  IsFiniteMap-gathered [] = IsFiniteMap-nil V cmp
-  IsFiniteMap-gathered (p ∷ ps) = IsFiniteMap-with_pair (without cmp (gathered cmp ps) p.0) p.0 p.1 (IsFiniteMap-without (gathered cmp ps) p.0 (IsFiniteMap-gathered ps))
+  pub IsFiniteMap-map_of_pairs : (ps : List (K × V)) → IsFiniteMap cmp (map_of_pairs cmp ps)
+  IsFiniteMap-map_of_pairs [] = IsFiniteMap-nil V cmp
+  IsFiniteMap-map_of_pairs (p ∷ ps) = IsFiniteMap-with_pair (without cmp (map_of_pairs cmp ps) p.0) p.0 p.1 (IsFiniteMap-without (map_of_pairs cmp ps) p.0 (IsFiniteMap-map_of_pairs ps))
 
   -- a gathered map has the first pair of each class
-  pub pair_at-gathered : (ps : List (K × V)) (q : K) → pair_at cmp (gathered cmp ps) q ≡ pair_at cmp ps q
-  pair_at-gathered [] q = refl
-  pair_at-gathered (p ∷ ps) q =
-      let m = gathered cmp ps in
+  pub pair_at-map_of_pairs : (ps : List (K × V)) (q : K) → pair_at cmp (map_of_pairs cmp ps) q ≡ pair_at cmp ps q
+  pair_at-map_of_pairs [] q = refl
+  pair_at-map_of_pairs (p ∷ ps) q =
+      let m = map_of_pairs cmp ps in
       let rest = without cmp m p.0 in
-      let at_q = pair_at-without m p.0 q (IsFiniteMap-gathered ps) in
-      let none : pair_at cmp rest p.0 ≡ None = pair_at-without m p.0 p.0 (IsFiniteMap-gathered ps) ∙ ap (λ b. cond b None (pair_at cmp m p.0)) (ap is_eq (tied_itself o p.0)) in
-      pair_at-with_pair rest p.0 p.1 q (IsFiniteMap-without m p.0 (IsFiniteMap-gathered ps))
+      let at_q = pair_at-without m p.0 q (IsFiniteMap-map_of_pairs ps) in
+      let none : pair_at cmp rest p.0 ≡ None = pair_at-without m p.0 p.0 (IsFiniteMap-map_of_pairs ps) ∙ ap (λ b. cond b None (pair_at cmp m p.0)) (ap is_eq (tied_itself o p.0)) in
+      pair_at-with_pair rest p.0 p.1 q (IsFiniteMap-without m p.0 (IsFiniteMap-map_of_pairs ps))
       ∙ ap (λ (w : Option (K × V)). cond (is_eq (cmp q p.0)) (Some (option_map_or (λ (x : K × V). x.0) w p.0, p.1)) (pair_at cmp rest q)) none
-      ∙ ap (cond (is_eq (cmp q p.0)) (Some p)) (at_q ∙ ap (cond (is_eq (cmp q p.0)) None) (pair_at-gathered ps q))
+      ∙ ap (cond (is_eq (cmp q p.0)) (Some p)) (at_q ∙ ap (cond (is_eq (cmp q p.0)) None) (pair_at-map_of_pairs ps q))
       ∙ twice (is_eq (cmp q p.0)) _ _ _
 
 module _ {K V : Type 0} (cmp : K → K → Ordering) (q : K) where

@@ -1,19 +1,20 @@
 -- When a bin is a list and when a tree, by how many entries it has.
 use Rattle.std.specs.Prelude.{ℕ, ◌≤◌, ◌==◌, ◌&&◌, ◌||◌, nat_le, nat_lt, not, Bool, true, false}
 use Rattle.std.specs.Coded.{le_prop}
+use Rattle.flurry_model.specs.declared.sizes.TheConstants.{MOST_IN_LIST, LEAST_IN_TREE, LONG_LIST, LEAST_FOR_TREES}
 
 -- a tree has at least 7 nodes, and a list at most 9
 abbrev pub IsSized : Bool → ℕ → Type 0
-IsSized true n = 7 ≤ n
-IsSized false n = n ≤ 9
+IsSized true n = LEAST_IN_TREE ≤ n
+IsSized false n = n ≤ MOST_IN_LIST
 
 -- one more entry makes a tree of a list of nine, and of one of eight in a table of 64 bins or more
 abbrev pub grows_into_tree : ℕ → Bool → ℕ → Bool
-grows_into_tree bins tree n = tree || (nat_le 9 n || (n == 8 && nat_le 64 bins))
+grows_into_tree bins tree n = tree || (nat_le MOST_IN_LIST n || (n == LONG_LIST && nat_le LEAST_FOR_TREES bins))
 
 -- one more entry in a list of eight asks for a larger table where the table has fewer bins
 abbrev pub asks_for_growth : ℕ → Bool → ℕ → Bool
-asks_for_growth bins tree n = not tree && (n == 8 && nat_lt bins 64)
+asks_for_growth bins tree n = not tree && (n == LONG_LIST && nat_lt bins LEAST_FOR_TREES)
 
 pub IsSized-prop : (tree : Bool) (n : ℕ) → IsProp (IsSized tree n)
 IsSized-prop true n = le_prop

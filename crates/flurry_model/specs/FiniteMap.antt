@@ -39,6 +39,6 @@ module _ {K V : Type 0} (cmp : K → K → Ordering) where
   stored_key m k = option_map_or (λ (p : K × V). p.0) (pair_at m k) k
 
   -- the finite map of pairs in any order: of each class the first pair
-  abbrev pub gathered : List (K × V) → List (K × V)
-  gathered [] = []
-  gathered (p ∷ ps) = with_pair (without (gathered ps) p.0) p.0 p.1
+  abbrev pub map_of_pairs : List (K × V) → List (K × V)
+  map_of_pairs [] = []
+  map_of_pairs (p ∷ ps) = with_pair (without (map_of_pairs ps) p.0) p.0 p.1

@@ -29,9 +29,9 @@ module _ {T : Type 0} (cmp : T → T → Ordering) where
   without_element s x = filter (λ y. not (tree.is_at (cmp x) y)) s
 
   -- the finite set of elements in any order: of each class the first
-  abbrev pub gathered_elements : List T → List T
-  gathered_elements [] = []
-  gathered_elements (x ∷ xs) = with_element (without_element (gathered_elements xs) x) x
+  abbrev pub set_of_elements : List T → List T
+  set_of_elements [] = []
+  set_of_elements (x ∷ xs) = with_element (without_element (set_of_elements xs) x) x
 
   -- each class of s is one of t
   abbrev pub IsSubset : List T → List T → Type 0

@@ -9,13 +9,13 @@ abbrev pub hash_then_key : {K : Type 0} → (K → K → Ordering) → ℕ × K 
 hash_then_key cmp a b = ordering_then (nat_cmp a.0 b.0) (cmp a.1 b.1)
 
 -- a pair is past a bound; with no bound each one is
-abbrev pub is_held_past : {K W : Type 0} → (K → K → Ordering) → Option (ℕ × K) → (ℕ × K) × W → Bool
-is_held_past cmp None e = true
-is_held_past cmp (Some b) e = is_lt (hash_then_key cmp b e.0)
+abbrev pub is_pair_past : {K W : Type 0} → (K → K → Ordering) → Option (ℕ × K) → (ℕ × K) × W → Bool
+is_pair_past cmp None e = true
+is_pair_past cmp (Some b) e = is_lt (hash_then_key cmp b e.0)
 
 -- the pairs whose hash has this bit at this place, in their order
-abbrev pub plain_with_bit : {K V : Type 0} → ℕ → ℕ → List ((ℕ × K) × V) → List ((ℕ × K) × V)
-plain_with_bit place bit es = filter (λ e. bit_at e.0.0 place == bit) es
+abbrev pub pairs_with_bit : {K V : Type 0} → ℕ → ℕ → List ((ℕ × K) × V) → List ((ℕ × K) × V)
+pairs_with_bit place bit es = filter (λ e. bit_at e.0.0 place == bit) es
 
 -- the hashes whose bin in a table of 2^e bins is the i-th
 abbrev pub InRegion : ℕ → ℕ → ℕ → Type 0

@@ -1,4 +1,4 @@
--- The number of a key by std's hasher.
+-- The hash of a key by std's hasher.
 use Rattle.std.specs.Prelude.{◌≡◌, ℕ, List, Bool, true}
 use Rattle.std.proofs.Common.{ap, refl, ◌∙◌}
 use Rattle.std.specs.List.{fold}
@@ -16,12 +16,12 @@ abbrev pub seed_of : DefaultHashBuilder → ℕ
 seed_of b = b.seed
 
 -- std's hasher after the seed
-abbrev pub seeded : ℕ → DefaultHasher
-seeded seed = fold sip.write sip.initial (fed.u64 seed)
+abbrev pub hasher_of_seed : ℕ → DefaultHasher
+hasher_of_seed seed = fold sip.write sip.initial (fed.u64 seed)
 
--- the number that it gives for these writes after the seed
+-- the hash that it gives for these writes after the seed
 abbrev pub hash_with_seed : ℕ → List (List ℕ) → ℕ
-hash_with_seed seed writes = sip.finish (fold sip.write (seeded seed) writes)
+hash_with_seed seed writes = sip.finish (fold sip.write (hasher_of_seed seed) writes)
 
 pub hash_with_seed-alike : (seed : ℕ) {xs ys : List (List ℕ)} → xs ≡ ys → hash_with_seed seed xs ≡ hash_with_seed seed ys
 hash_with_seed-alike seed e = ap (hash_with_seed seed) e

@@ -7,7 +7,7 @@ pub struct Seen<K, V> {
     pub key: K,
     /// The value.
     pub value: V,
-    /// The number of the write that put the value.
+    /// The write number of the value.
     pub number: u64,
 }
 

@@ -1,24 +1,24 @@
-//! The number of a key.
+//! The hash of a key.
 ghost use Rattle.std.specs.Prelude.{◌≡◌, ℕ, refl};
 ghost use Rattle.std.specs.declared.cmp.Ordering.TheVariants.{Equal};
-ghost use Rattle.flurry_model.specs.Hashing.{seed_of, seeded, hash_with_seed, hash_with_seed-alike, equal_from_tie};
+ghost use Rattle.flurry_model.specs.Hashing.{seed_of, hasher_of_seed, hash_with_seed, hash_with_seed-alike, equal_from_tie};
 
 pub use std::hash::DefaultHasher;
 use std::hash::{Hash, Hasher};
 
-/// Gives each key a number, and equal keys one number.
+/// Gives each key a hash, and equal keys one hash.
 pub trait KeyHasher<K: Ord> {
-    // The number of the key.
+    // The hash of the key.
     ghost hash_of: { Self → K → ℕ };
 
-    /// The number of a key.
+    /// The hash of a key.
     fn hash_one(&self, key: &K) -> u64
         ensures { result ≡ hash_of self.now key.now };
 
     ghost alike: { (s : Self) (x y : K) → K.cmp x y ≡ Equal → hash_of s x ≡ hash_of s y };
 }
 
-/// Gives each key the least number, 0.
+/// Gives each key the least hash, 0.
 #[derive(Clone, Copy, Debug, Default)]
 pub struct ZeroHashBuilder;
 
@@ -32,7 +32,7 @@ impl<K: Ord> KeyHasher<K> for ZeroHashBuilder {
     }
 }
 
-/// Gives each key the greatest number.
+/// Gives each key the greatest hash.
 #[derive(Clone, Copy, Debug, Default)]
 pub struct MaxHashBuilder;
 
@@ -64,7 +64,7 @@ impl KeyHasher<u64> for LowHashBuilder {
     }
 }
 
-/// Gives each key the number that std's hasher gives it after a seed.
+/// Gives each key the hash that std's hasher gives it after a seed.
 #[derive(Clone, Copy, Debug, Default)]
 pub struct DefaultHashBuilder {
     seed: u64,
@@ -80,7 +80,7 @@ impl DefaultHashBuilder {
 
     /// A hasher that was fed the seed.
     pub fn build_hasher(&self) -> DefaultHasher
-        ensures { result ≡ seeded (seed_of self.now) }
+        ensures { result ≡ hasher_of_seed (seed_of self.now) }
     {
         let mut hasher = DefaultHasher::new();
         hasher.write_u64(self.seed);

@@ -1,7 +1,7 @@
 //! The sizes of tables and of bins, and the place of a hash in a table.
 //!
 //! A table is known by its exponent: the table `e` has `2^e` bins.
-ghost use Rattle.std.specs.Prelude.{◌≡◌, ◌+◌, ◌/◌, ◌%◌, ◌^◌, ◌<◌, ◌≤◌};
+ghost use Rattle.std.specs.Prelude.{◌≡◌, ◌+◌, ◌-◌, ◌/◌, ◌%◌, ◌^◌, ◌<◌, ◌≤◌};
 ghost use Rattle.std.specs.Int.{IsNextPowerOfTwo};
 ghost use Rattle.flurry_model.specs.Sizes.{wanted_of, threshold_of, stride_of};
 
@@ -14,6 +14,9 @@ pub const FIRST_BINS: usize = 1 << FIRST_TABLE;
 /// The exponent of the greatest table.
 pub const GREATEST_TABLE: u8 = 30;
 
+/// How many tables there can be: their exponents are the numbers below.
+pub const TABLES: usize = GREATEST_TABLE as usize + 1;
+
 /// The bins of the greatest table.
 pub const MOST_BINS: usize = 1 << GREATEST_TABLE;
 
@@ -22,6 +25,9 @@ pub const LEAST_STRIDE: usize = 16;
 
 /// The most pairs of a map, and the most entries of a bin.
 pub const MOST_PAIRS: usize = 1 << 62;
+
+/// The most labels of a run.
+pub const MOST_LABELS: usize = 1 << 62;
 
 /// The most entries of a bin that is a list.
 pub const MOST_IN_LIST: usize = 9;
@@ -41,8 +47,8 @@ pub const LEAST_FOR_TREES: usize = 64;
 /// Constant time.
 pub fn wanted(pairs: usize) -> usize
     ensures value { result ≡ wanted_of pairs }
-    ensures least { pairs < 2 ^ 29 → IsNextPowerOfTwo (pairs + pairs / 2 + 1) result }
-    ensures most { 2 ^ 29 ≤ pairs → result ≡ 2 ^ 30 }
+    ensures least { pairs < 2 ^ (GREATEST_TABLE - 1) → IsNextPowerOfTwo (pairs + pairs / 2 + 1) result }
+    ensures most { 2 ^ (GREATEST_TABLE - 1) ≤ pairs → result ≡ 2 ^ GREATEST_TABLE }
 {
     if pairs >= MOST_BINS / 2 {
         return MOST_BINS;
@@ -65,7 +71,7 @@ pub fn threshold(bins: usize) -> usize
 /// Constant time.
 #[inline]
 pub fn bin_index(hash: u64, table: u8) -> usize
-    requires { table ≤ 30 }
+    requires { table ≤ GREATEST_TABLE }
     ensures place { result ≡ hash % 2 ^ table }
     ensures below { result < 2 ^ table }
 {
@@ -84,3 +90,10 @@ pub fn stride(bins: usize, processors: usize) -> usize
         (bins / 8 / processors).max(LEAST_STRIDE)
     }
 }
+
+/// The first table and the greatest one have as many bins as their exponents say.
+pub fn bins_of_named_tables()
+    ensures first { FIRST_BINS ≡ 2 ^ FIRST_TABLE }
+    ensures greatest { MOST_BINS ≡ 2 ^ GREATEST_TABLE }
+    ensures tables { TABLES ≡ GREATEST_TABLE + 1 }
+{}

@@ -168,5 +168,5 @@ module _ {M C : Type 0} (s : Script M C) where
   -- the next read counts as failed
   pub stops_failed : {E : Type 0} (r : Result ℕ E) (m mid : M) (n n' : ℕ) (old now held holds later : Option (List ℕ)) → IfSome old (λ first. Goes s m n first mid n' now held holds)
       → IfOk r (λ status. status ≡ 1) → OnOk r (Appends holds later input_failed_text) → IfOk r (λ status. IfSome old (λ first. Ends s m n first held later status))
-  stops_failed (Err e) m mid n n' old now held holds later told is bytes = tt
-  stops_failed (Ok status) m mid n n' old now held holds later told is bytes = known_ends m mid n n' old now held holds later status told (step_failed mid n' status now holds later is bytes)
+  stops_failed (Err e) m mid n n' old now held holds later reply_for is bytes = tt
+  stops_failed (Ok status) m mid n n' old now held holds later reply_for is bytes = known_ends m mid n n' old now held holds later status reply_for (step_failed mid n' status now holds later is bytes)

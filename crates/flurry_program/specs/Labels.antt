@@ -5,7 +5,7 @@ use Rattle.flurry_model.specs.declared.reply.KeptReply.{KeptReply}
 use Rattle.flurry_model.specs.declared.reply.KeptReply.TheVariants.{Value, Pair, Contains, New, Exists}
 use Rattle.flurry_theory.specs.declared.Label.{Label}
 use Rattle.flurry_theory.specs.declared.Label.TheVariants.{Begin, Decide, Reply, Refused, Wipe, Read, End, Opened, Placed, Moved, Published, Silent}
-use Rattle.flurry_program.specs.Answers.{option_text}
+use Rattle.flurry_program.specs.SeqReplies.{option_text}
 
 -- a reply: a value or none, whether a key is present, the value that was put, or the one that stands
 abbrev pub reply_text : KeptReply ℕ ℕ → List ℕ

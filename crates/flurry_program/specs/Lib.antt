@@ -1,4 +1,4 @@
-pub mod Answers
+pub mod SeqReplies
 pub mod Arguments
 pub mod Buffers
 pub mod Bytes
@@ -13,13 +13,15 @@ pub mod ScheduleRuns
 pub mod Schedules
 pub mod Words
 pub use Rattle.flurry_bins.specs.Bin
-pub use Rattle.flurry_bins.specs.FiniteMap
-pub use Rattle.flurry_bins.specs.Hashing
-pub use Rattle.flurry_bins.specs.Keeping
-pub use Rattle.flurry_bins.specs.OneKey
 pub use Rattle.flurry_bins.specs.PlainEntries
-pub use Rattle.flurry_bins.specs.Sizes
-pub use Rattle.flurry_bins.specs.TryInsert
+pub use Rattle.flurry_model.specs.BinSizes
+pub use Rattle.flurry_model.specs.FiniteMap
+pub use Rattle.flurry_model.specs.HashOrder
+pub use Rattle.flurry_model.specs.Hashing
+pub use Rattle.flurry_model.specs.Keeping
+pub use Rattle.flurry_model.specs.OneKey
+pub use Rattle.flurry_model.specs.Sizes
+pub use Rattle.flurry_model.specs.TryInsert
 pub use Rattle.flurry_seq.specs.CallLists
 pub use Rattle.flurry_seq.specs.Calls
 pub use Rattle.flurry_seq.specs.Contents

@@ -3,10 +3,10 @@ use Rattle.std.specs.Prelude.{◌≡◌, ℕ, List, [], ◌∷◌, ◌++◌, rep
 use Rattle.std.specs.Ordering.{nat_cmp}
 use Rattle.std.specs.Io.KnownBytes.{Appends}
 use Rattle.flurry_model.specs.declared.hash.LowHashBuilder.{LowHashBuilder}
-use Rattle.flurry_slots.specs.declared.change.NoChange.{NoChange}
-use Rattle.flurry_steps.specs.declared.party.call.KeptCall.TheVariants as kept
+use Rattle.flurry_slots.specs.declared.compute_fn.NoFn.{NoFn}
+use Rattle.flurry_steps.specs.declared.party.call.OwnedCall.TheVariants as owned
 use Rattle.flurry_theory.specs.declared.Label.{Label}
-use Rattle.flurry_world.specs.World.{Shown}
+use Rattle.flurry_world.specs.World.{WorldState}
 use Rattle.flurry_world.specs.Runs.{NewGives, Runs, RunsFront}
 use Rattle.flurry_world.specs.declared.world.Step as world
 use Rattle.flurry_world.specs.declared.world.Step.TheVariants as step
@@ -26,11 +26,11 @@ module _ {F : Type 0} where
   -- the call that a line begins, or the steps that it asks for
   abbrev pub steps_of : Line → List (world.Step ℕ ℕ F)
   steps_of (World p c) = []
-  steps_of (Insert k v) = step.Begin (kept.Insert k v) ∷ []
-  steps_of (Try k v) = step.Begin (kept.TryInsert k v) ∷ []
-  steps_of (Get k) = step.Begin (kept.Get k) ∷ []
-  steps_of (Remove k) = step.Begin (kept.Remove k) ∷ []
-  steps_of (Reserve n) = step.Begin (kept.Reserve n) ∷ []
+  steps_of (Insert k v) = step.Begin (owned.Insert k v) ∷ []
+  steps_of (Try k v) = step.Begin (owned.TryInsert k v) ∷ []
+  steps_of (Get k) = step.Begin (owned.Get k) ∷ []
+  steps_of (Remove k) = step.Begin (owned.Remove k) ∷ []
+  steps_of (Reserve n) = step.Begin (owned.Reserve n) ∷ []
   steps_of (Step p n) = replicate n (step.Step p)
 
 -- the line is bad at its place, as if it were no line of a schedule
@@ -43,37 +43,37 @@ WantsMemory printed out status = (out ≡ printed ++ out_of_memory_text) × (sta
 
 module _ {F S : Type 0} where
   -- these labels came, and so much is written for them
-  abbrev pub Tells : Shown ℕ ℕ F S → Shown ℕ ℕ F S → List ℕ → Type 0
+  abbrev pub Tells : WorldState ℕ ℕ F S → WorldState ℕ ℕ F S → List ℕ → Type 0
   Tells w v printed = (labels : List (Label ℕ ℕ F)) × (v.trace ≡ w.trace ++ labels) × (printed ≡ labels_text labels)
 
   module _ (changes : F → ℕ → ℕ → Option ℕ → Type 0) where
     -- the first line makes a world, in which each key is its own hash; each other line begins a call in it, or does steps, and the labels
     -- of that are written
-    abbrev pub DoesLine : Line → Option (Shown ℕ ℕ F S) → List ℕ → Option (Shown ℕ ℕ F S) → Type 0
-    DoesLine (World p c) None printed after = (hasher : S) × (w : Shown ℕ ℕ F S) × NewGives c hasher p w × (after ≡ Some w) × (printed ≡ [])
+    abbrev pub DoesLine : Line → Option (WorldState ℕ ℕ F S) → List ℕ → Option (WorldState ℕ ℕ F S) → Type 0
+    DoesLine (World p c) None printed after = (hasher : S) × (w : WorldState ℕ ℕ F S) × NewGives c hasher p w × (after ≡ Some w) × (printed ≡ [])
     DoesLine (World p c) (Some w) printed after = ⊥
     DoesLine l None printed after = ⊥
-    DoesLine l (Some w) printed after = (v : Shown ℕ ℕ F S) × Runs nat_cmp (λ k. k) changes (steps_of l) w v × (after ≡ Some v) × Tells w v printed
+    DoesLine l (Some w) printed after = (v : WorldState ℕ ℕ F S) × Runs nat_cmp (λ k. k) changes (steps_of l) w v × (after ≡ Some v) × Tells w v printed
 
     -- The first line makes no world, or another line makes one: it is bad. Or memory is wanting, for the world, or after some of the steps
     -- that the line asks for, whose labels are written.
-    abbrev pub StopsAtLine : Line → Option (Shown ℕ ℕ F S) → ℕ → List ℕ → ℕ → Type 0
+    abbrev pub StopsAtLine : Line → Option (WorldState ℕ ℕ F S) → ℕ → List ℕ → ℕ → Type 0
     StopsAtLine (World p c) None n out status = WantsMemory [] out status
     StopsAtLine (World p c) (Some w) n out status = IsBad n out status
     StopsAtLine l None n out status = IsBad n out status
     StopsAtLine l (Some w) n out status =
-        (v : Shown ℕ ℕ F S) × (printed : List ℕ) × RunsFront nat_cmp (λ k. k) changes (steps_of l) w v × Tells w v printed × WantsMemory printed out status
+        (v : WorldState ℕ ℕ F S) × (printed : List ℕ) × RunsFront nat_cmp (λ k. k) changes (steps_of l) w v × Tells w v printed × WantsMemory printed out status
 
     -- the steps are done and their labels written, or memory is wanting after some of them
-    abbrev pub AnswersSteps : List (world.Step ℕ ℕ F) → Shown ℕ ℕ F S → Shown ℕ ℕ F S → Option (List ℕ) → Option (List ℕ) → Option ℕ → Type 0
+    abbrev pub AnswersSteps : List (world.Step ℕ ℕ F) → WorldState ℕ ℕ F S → WorldState ℕ ℕ F S → Option (List ℕ) → Option (List ℕ) → Option ℕ → Type 0
     AnswersSteps steps w v held holds None = (printed : List ℕ) × Runs nat_cmp (λ k. k) changes steps w v × Tells w v printed × Appends held holds printed
     AnswersSteps steps w v held holds (Some status) =
         (printed : List ℕ) × RunsFront nat_cmp (λ k. k) changes steps w v × Tells w v printed × (status ≡ 3) × Appends held holds (printed ++ out_of_memory_text)
 
     -- the lines of a schedule
-    abbrev pub of_a_world : Script (Option (Shown ℕ ℕ F S)) Line
+    abbrev pub of_a_world : Script (Option (WorldState ℕ ℕ F S)) Line
     of_a_world = record { text_of = text_of; IsCommand = IsLine; Does = DoesLine; Stops = StopsAtLine }
 
 -- the same of calls of which none has a function
-abbrev pub of_a_schedule : Script (Option (Shown ℕ ℕ NoChange LowHashBuilder)) Line
+abbrev pub of_a_schedule : Script (Option (WorldState ℕ ℕ NoFn LowHashBuilder)) Line
 of_a_schedule = of_a_world (λ _ _ _ reply. reply ≡ None)

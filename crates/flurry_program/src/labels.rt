@@ -16,7 +16,8 @@ use std::io;
 /// Fails where the writer does.
 pub fn write_label<F, W: Sink>(label: &Label<u64, u64, F>, writer: &mut W) -> io::Result<()>
     ensures failed { OnErr result (IsTrue (W.has_failed writer.new)) }
-    ensures bytes { OnOk result (Appends (W.contents writer.old) (W.contents writer.new) (label_text label.now ++ 10 ∷ [])) }
+    ensures bytes { OnOk result
+        (Appends (W.contents writer.old) (W.contents writer.new) (label_text label.now ++ 10 ∷ [])) }
 {
     match label {
         Label::Begin(party, _) => writer.write_line(format_args!("begin {party}")),

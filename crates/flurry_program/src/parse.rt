@@ -42,7 +42,8 @@ pub fn parse(line: &[u8]) -> Option<Command>
 
 // What follows the front, if the line begins with it.
 pub(crate) fn strip<'a>(line: &'a [u8], front: &[u8]) -> Option<&'a [u8]>
-    ensures { MatchOption result ((rest : List ℕ) → line.now ≢ front.now ++ rest) (λ rest. line.now ≡ front.now ++ rest.now) }
+    ensures { MatchOption result ((rest : List ℕ) → line.now ≢ front.now ++ rest)
+        (λ rest. line.now ≡ front.now ++ rest.now) }
 {
     line.strip_prefix(front)
 }
@@ -66,7 +67,8 @@ pub(crate) fn two_numbers(words: &[u8]) -> Option<(u64, u64)>
 
 // The parts before and after the first space.
 fn split_at_space(words: &[u8]) -> Option<(&[u8], &[u8])>
-    ensures { MatchOption result (HasNoSpace words.now) (λ p. HasNoSpace p.0.now × (words.now ≡ p.0.now ++ 32 ∷ p.1.now)) }
+    ensures { MatchOption result (HasNoSpace words.now)
+        (λ p. HasNoSpace p.0.now × (words.now ≡ p.0.now ++ 32 ∷ p.1.now)) }
 {
     for (i, byte) in words.iter().enumerate() {
         if *byte == b' ' {
@@ -78,7 +80,8 @@ fn split_at_space(words: &[u8]) -> Option<(&[u8], &[u8])>
 
 // A number of 64 bits in digits, without a sign or leading zeros.
 pub(crate) fn number(word: &[u8]) -> Option<u64>
-    ensures { MatchOption result ((n : ℕ) → n < 2 ^ 64 → word.now ≢ decimal n) (λ n. (n < 2 ^ 64) × (word.now ≡ decimal n)) }
+    ensures { MatchOption result ((n : ℕ) → n < 2 ^ 64 → word.now ≢ decimal n)
+        (λ n. (n < 2 ^ 64) × (word.now ≡ decimal n)) }
 {
     if word.len() > 1 && word[0] == b'0' {
         return None;

@@ -1,7 +1,7 @@
 //! The lines of one owned map.
 ghost use Rattle.std.specs.Prelude.{◌≡◌, ℕ, [], ◌∷◌, ◌++◌, List, OnOk, OnErr, IsTrue};
 ghost use Rattle.std.specs.Io.KnownBytes.{Appends};
-ghost use Rattle.flurry_program.specs.Answers.{option_text, of_one_map, Answers};
+ghost use Rattle.flurry_program.specs.SeqReplies.{option_text, of_one_map, Answers};
 ghost use Rattle.flurry_program.specs.Runs.{RunsLines, FailsForCause};
 ghost use Rattle.flurry_program.specs.declared.command.Command.{Command};
 ghost use Rattle.flurry_program.specs.Lengths.{short_command};
@@ -46,7 +46,8 @@ pub fn seq_lines<R: Source, W: Sink, A: Allocator + Copy>(
     writer: &mut W,
 ) -> u8
     // Over a reader and a writer that tell their bytes.
-    ensures run { RunsLines of_one_map [] (R.remaining reader.old) (W.contents writer.old) (W.flushed writer.new) (W.has_failed writer.new) result }
+    ensures run { RunsLines of_one_map [] (R.remaining reader.old) (W.contents writer.old) (W.flushed writer.new)
+        (W.has_failed writer.new) result }
     ensures cause { FailsForCause (R.remaining reader.old) (R.has_failed reader.new) (W.has_failed writer.new) result }
 {
     let mut map = SeqMap::with_hasher(alloc, LowHashBuilder);
@@ -127,7 +128,8 @@ fn answer_try<W: Sink, A: Allocator + Copy>(
 // Writes a value, or that there is none.
 fn write_value<W: Sink>(writer: &mut W, value: Option<u64>) -> io::Result<()>
     ensures failed { OnErr result (IsTrue (W.has_failed writer.new)) }
-    ensures bytes { OnOk result (Appends (W.contents writer.old) (W.contents writer.new) (option_text value ++ 10 ∷ [])) }
+    ensures bytes { OnOk result
+        (Appends (W.contents writer.old) (W.contents writer.new) (option_text value ++ 10 ∷ [])) }
 {
     match value {
         Some(value) => writer.write_line(format_args!("some {value}")),

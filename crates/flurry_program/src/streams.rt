@@ -50,7 +50,8 @@ pub trait Sink {
     ///
     /// Fails where the writer behind does. Some of the line may be written then.
     fn write_line<D: Display + Drop>(&mut self, text: D) -> io::Result<()>
-        ensures bytes { OnOk result (IfSome (with_newline (D.output text)) (Appends (contents self.old) (contents self.new))) }
+        ensures bytes { OnOk result
+            (IfSome (with_newline (D.output text)) (Appends (contents self.old) (contents self.new))) }
         ensures fine { OnOk result (has_failed self.new ≡ has_failed self.old) }
         ensures failed { OnErr result (IsTrue (has_failed self.new)) };
 

@@ -1,7 +1,7 @@
 //! The lines of a world.
 ghost use Rattle.std.specs.Prelude.{◌≡◌, ℕ, ◌≤◌, [], ◌∷◌, ◌++◌, Option, None, Some, List, replicate, OnOk, OnErr, IfOk, IfSome, IsTrue};
 ghost use Rattle.std.specs.Io.KnownBytes.{Appends};
-ghost use Rattle.flurry_steps.specs.PartyView.{KeptIsReady};
+ghost use Rattle.flurry_steps.specs.PartyView.{OwnedIsReady};
 ghost use Rattle.flurry_theory.specs.declared.Label.{Label};
 ghost use Rattle.flurry_world.specs.declared.world.Step.TheVariants as step;
 ghost use Rattle.flurry_program.specs.Labels.{label_text};
@@ -9,8 +9,8 @@ ghost use Rattle.flurry_program.specs.Runs.{Answered, RunsLines, FailsForCause};
 ghost use Rattle.flurry_program.specs.ScheduleRuns.{of_a_schedule, of_a_world, AnswersSteps};
 ghost use Rattle.flurry_program.specs.declared.schedule.Line.{Line};
 ghost use Rattle.flurry_program.specs.Lengths.{short_line};
-ghost use Rattle.flurry_bins.specs.declared.hash.LowHashBuilder.{LowHashBuilder};
-ghost use Rattle.flurry_world.specs.World.{Shown};
+ghost use Rattle.flurry_model.specs.declared.hash.LowHashBuilder.{LowHashBuilder};
+ghost use Rattle.flurry_world.specs.World.{WorldState};
 
 use crate::ends::{bad_line, out_of_memory};
 use crate::labels::write_label;
@@ -18,8 +18,8 @@ use crate::schedule::{Line, parse_line};
 use crate::script::{Script, run_lines};
 use crate::streams::{Sink, Source};
 use flurry_model::hash::LowHashBuilder;
-use flurry_slots::{Change, NoChange};
-use flurry_steps::party::KeptCall;
+use flurry_slots::{ComputeFn, NoFn};
+use flurry_steps::party::OwnedCall;
 use flurry_world::World;
 use std::alloc::Allocator;
 use std::io;
@@ -66,11 +66,11 @@ pub fn world_lines<R: Source, W: Sink, A: Allocator + Copy>(
         (R.remaining reader.old) (W.contents writer.old) (W.flushed writer.new) (W.has_failed writer.new) result }
     ensures cause { FailsForCause (R.remaining reader.old) (R.has_failed reader.new) (W.has_failed writer.new) result }
 {
-    lines_of_a_world::<NoChange, R, W, A>(alloc, reader, writer)
+    lines_of_a_world::<NoFn, R, W, A>(alloc, reader, writer)
 }
 
 // The same in a world whose calls may have functions of any one type.
-fn lines_of_a_world<F: Change<u64, u64> + Copy, R: Source, W: Sink, A: Allocator + Copy>(
+fn lines_of_a_world<F: ComputeFn<u64, u64> + Copy, R: Source, W: Sink, A: Allocator + Copy>(
     alloc: A,
     reader: &mut R,
     writer: &mut W,
@@ -86,13 +86,13 @@ fn lines_of_a_world<F: Change<u64, u64> + Copy, R: Source, W: Sink, A: Allocator
 
 // What the lines speak of: the world, once the first line has made it.
 #[derive(Drop)]
-struct Schedule<'k, F: Change<u64, u64> + Copy, A: Allocator + Copy> {
+struct Schedule<'k, F: ComputeFn<u64, u64> + Copy, A: Allocator + Copy> {
     alloc: A,
     world: Option<Numbers<'k, F, A>>,
 }
 
-impl<'k, F: Change<u64, u64> + Copy, A: Allocator + Copy> Script for Schedule<'k, F, A> {
-    ghost Kept = { Option (Shown ℕ ℕ F LowHashBuilder) };
+impl<'k, F: ComputeFn<u64, u64> + Copy, A: Allocator + Copy> Script for Schedule<'k, F, A> {
+    ghost Kept = { Option (WorldState ℕ ℕ F LowHashBuilder) };
 
     ghost Command = { Line };
 
@@ -116,7 +116,7 @@ impl<'k, F: Change<u64, u64> + Copy, A: Allocator + Copy> Script for Schedule<'k
 }
 
 // Does what a line of a schedule asks for. Some status is the program's end.
-fn answer<F: Change<u64, u64> + Copy, W: Sink, A: Allocator + Copy>(
+fn answer<F: ComputeFn<u64, u64> + Copy, W: Sink, A: Allocator + Copy>(
     alloc: A,
     world: &mut Option<Numbers<'_, F, A>>,
     number: u64,
@@ -125,7 +125,9 @@ fn answer<F: Change<u64, u64> + Copy, W: Sink, A: Allocator + Copy>(
 ) -> io::Result<Option<u8>>
     ensures failed { OnErr result (IsTrue (W.has_failed writer.new)) }
     ensures status { IfOk result (λ ended. IfSome ended (λ status. (2 ≤ status) × (status ≤ 3))) }
-    ensures answer { IfOk result (Answered (of_a_world F.changes) line world.old world.new number (W.contents writer.old) (W.contents writer.new)) }
+    ensures answer { IfOk result
+        (Answered (of_a_world F.changes) line world.old world.new number (W.contents writer.old)
+        (W.contents writer.new)) }
 {
     match world {
         Some(world) => answer_in(world, number, line, writer),
@@ -134,7 +136,7 @@ fn answer<F: Change<u64, u64> + Copy, W: Sink, A: Allocator + Copy>(
 }
 
 // Makes the world that the first line asks for. Some status is the program's end.
-fn make_world<F: Change<u64, u64> + Copy, W: Sink, A: Allocator + Copy>(
+fn make_world<F: ComputeFn<u64, u64> + Copy, W: Sink, A: Allocator + Copy>(
     alloc: A,
     world: &mut Option<Numbers<'_, F, A>>,
     number: u64,
@@ -144,7 +146,8 @@ fn make_world<F: Change<u64, u64> + Copy, W: Sink, A: Allocator + Copy>(
     requires { world.old ≡ None }
     ensures failed { OnErr result (IsTrue (W.has_failed writer.new)) }
     ensures status { IfOk result (λ ended. IfSome ended (λ status. (2 ≤ status) × (status ≤ 3))) }
-    ensures answer { IfOk result (Answered (of_a_world F.changes) line None world.new number (W.contents writer.old) (W.contents writer.new)) }
+    ensures answer { IfOk result
+        (Answered (of_a_world F.changes) line None world.new number (W.contents writer.old) (W.contents writer.new)) }
 {
     match line {
         Line::World(processors, capacity) => {
@@ -166,7 +169,7 @@ fn make_world<F: Change<u64, u64> + Copy, W: Sink, A: Allocator + Copy>(
 }
 
 // Does in the world what a line asks for. Some status is the program's end.
-fn answer_in<F: Change<u64, u64> + Copy, W: Sink, A: Allocator + Copy>(
+fn answer_in<F: ComputeFn<u64, u64> + Copy, W: Sink, A: Allocator + Copy>(
     world: &mut Numbers<'_, F, A>,
     number: u64,
     line: Line,
@@ -174,29 +177,33 @@ fn answer_in<F: Change<u64, u64> + Copy, W: Sink, A: Allocator + Copy>(
 ) -> io::Result<Option<u8>>
     ensures failed { OnErr result (IsTrue (W.has_failed writer.new)) }
     ensures status { IfOk result (λ ended. IfSome ended (λ status. (2 ≤ status) × (status ≤ 3))) }
-    ensures answer { IfOk result (Answered (of_a_world F.changes) line (Some world.old) (Some world.new) number (W.contents writer.old) (W.contents writer.new)) }
+    ensures answer { IfOk result
+        (Answered (of_a_world F.changes) line (Some world.old) (Some world.new) number (W.contents writer.old)
+        (W.contents writer.new)) }
 {
     match line {
         Line::World(_, _) => Ok(Some(bad_line(number, writer)?)),
-        Line::Insert(key, value) => begin(world, KeptCall::Insert(key, value), writer),
-        Line::Try(key, value) => begin(world, KeptCall::TryInsert(key, value), writer),
-        Line::Get(key) => begin(world, KeptCall::Get(key), writer),
-        Line::Remove(key) => begin(world, KeptCall::Remove(key), writer),
-        Line::Reserve(more) => begin(world, KeptCall::Reserve(more as usize), writer),
+        Line::Insert(key, value) => begin(world, OwnedCall::Insert(key, value), writer),
+        Line::Try(key, value) => begin(world, OwnedCall::TryInsert(key, value), writer),
+        Line::Get(key) => begin(world, OwnedCall::Get(key), writer),
+        Line::Remove(key) => begin(world, OwnedCall::Remove(key), writer),
+        Line::Reserve(more) => begin(world, OwnedCall::Reserve(more as usize), writer),
         Line::Step(party, steps) => do_steps(world, party as usize, steps, writer),
     }
 }
 
 // Begins a call, and writes its label. Some status is the program's end.
-fn begin<F: Change<u64, u64> + Copy, W: Sink, A: Allocator + Copy>(
+fn begin<F: ComputeFn<u64, u64> + Copy, W: Sink, A: Allocator + Copy>(
     world: &mut Numbers<'_, F, A>,
-    call: KeptCall<u64, u64, F>,
+    call: OwnedCall<u64, u64, F>,
     writer: &mut W,
 ) -> io::Result<Option<u8>>
-    requires { KeptIsReady F.can_change call }
+    requires { OwnedIsReady F.can_change call }
     ensures failed { OnErr result (IsTrue (W.has_failed writer.new)) }
     ensures status { IfOk result (λ ended. IfSome ended (λ status. status ≡ 3)) }
-    ensures answer { IfOk result (AnswersSteps F.changes (step.Begin call ∷ []) world.old world.new (W.contents writer.old) (W.contents writer.new)) }
+    ensures answer { IfOk result
+        (AnswersSteps F.changes (step.Begin call ∷ []) world.old world.new (W.contents writer.old)
+        (W.contents writer.new)) }
 {
     match world.begin(call) {
         Ok(_) => {
@@ -208,7 +215,7 @@ fn begin<F: Change<u64, u64> + Copy, W: Sink, A: Allocator + Copy>(
 }
 
 // Does so many steps of a party, and writes the label of each. Some status is the program's end.
-fn do_steps<F: Change<u64, u64> + Copy, W: Sink, A: Allocator + Copy>(
+fn do_steps<F: ComputeFn<u64, u64> + Copy, W: Sink, A: Allocator + Copy>(
     world: &mut Numbers<'_, F, A>,
     party: usize,
     steps: u64,
@@ -216,7 +223,9 @@ fn do_steps<F: Change<u64, u64> + Copy, W: Sink, A: Allocator + Copy>(
 ) -> io::Result<Option<u8>>
     ensures failed { OnErr result (IsTrue (W.has_failed writer.new)) }
     ensures status { IfOk result (λ ended. IfSome ended (λ status. status ≡ 3)) }
-    ensures answer { IfOk result (AnswersSteps F.changes (replicate steps (step.Step party)) world.old world.new (W.contents writer.old) (W.contents writer.new)) }
+    ensures answer { IfOk result
+        (AnswersSteps F.changes (replicate steps (step.Step party)) world.old world.new (W.contents writer.old)
+        (W.contents writer.new)) }
 {
     for _ in 0..steps {
         match world.step(party) {
@@ -228,12 +237,13 @@ fn do_steps<F: Change<u64, u64> + Copy, W: Sink, A: Allocator + Copy>(
 }
 
 // Writes the newest label of a world.
-fn write_last<F: Change<u64, u64> + Copy, W: Sink, A: Allocator + Copy>(
+fn write_last<F: ComputeFn<u64, u64> + Copy, W: Sink, A: Allocator + Copy>(
     world: &Numbers<'_, F, A>,
     writer: &mut W,
 ) -> io::Result<()>
     ensures failed { OnErr result (IsTrue (W.has_failed writer.new)) }
-    ensures bytes { OnOk result ((older : List (Label ℕ ℕ F)) (label : Label ℕ ℕ F) → world.now.trace ≡ older ++ label ∷ [] →
+    ensures bytes { OnOk result
+        ((older : List (Label ℕ ℕ F)) (label : Label ℕ ℕ F) → world.now.trace ≡ older ++ label ∷ [] →
         Appends (W.contents writer.old) (W.contents writer.new) (label_text label ++ 10 ∷ [])) }
 {
     match world.trace().last() {

@@ -3,8 +3,8 @@ use Rattle.std.proofs.Common.{◌≡◌, ℕ, Bool, true, false, cond, List, [],
 use Rattle.std.specs.Ordering.{is_eq}
 use Rattle.std.specs.Cmp.{IsTotalOrder, tied_back}
 use Rattle.std.specs.List.{AllByRecursion}
-use Rattle.flurry_model.specs.FiniteMap.{IsFiniteMap, pair_at, with_pair, gathered}
-use Rattle.flurry_model.proofs.FiniteMapLaws.{IsFiniteMap-nil, IsFiniteMap-with_pair, IsFiniteMap-gathered, pair_at-with_pair, pair_at-gathered, same_map}
+use Rattle.flurry_model.specs.FiniteMap.{IsFiniteMap, pair_at, with_pair, map_of_pairs}
+use Rattle.flurry_model.proofs.FiniteMapLaws.{IsFiniteMap-nil, IsFiniteMap-with_pair, IsFiniteMap-map_of_pairs, pair_at-with_pair, pair_at-map_of_pairs, same_map}
 use Rattle.flurry_seq.specs.Table.{pair_of}
 use Rattle.flurry_seq.specs.Apart.{AreApart, AreHashed}
 
@@ -79,10 +79,10 @@ module _ {K V : Type 0} {cmp : K → K → Ordering} (o : IsTotalOrder cmp) wher
   append_none [] q = refl
   append_none (p ∷ ps) q = ap (cond (is_eq (cmp q p.0)) (Some p)) (append_none ps q)
 
-  put_all-gathered : (ps : List (K × V)) → AreApart cmp ps → put_all cmp [] ps ≡ gathered cmp ps
-  put_all-gathered ps apart =
-      same_map o _ _ (IsFiniteMap-put_all [] ps (IsFiniteMap-nil V cmp)) (IsFiniteMap-gathered o ps)
-      (λ q. at_put_all [] ps q (IsFiniteMap-nil V cmp) apart (all_absent ps) ∙ append_none ps q ∙ sym (pair_at-gathered o ps q))
+  put_all-map_of_pairs : (ps : List (K × V)) → AreApart cmp ps → put_all cmp [] ps ≡ map_of_pairs cmp ps
+  put_all-map_of_pairs ps apart =
+      same_map o _ _ (IsFiniteMap-put_all [] ps (IsFiniteMap-nil V cmp)) (IsFiniteMap-map_of_pairs o ps)
+      (λ q. at_put_all [] ps q (IsFiniteMap-nil V cmp) apart (all_absent ps) ∙ append_none ps q ∙ sym (pair_at-map_of_pairs o ps q))
 
 -- the entries are left to be put into m, and make whole of it
 pub record IsRest {K V : Type 0} (cmp : K → K → Ordering) (hash : K → ℕ) (whole m : List (K × V)) (es : List ((ℕ × K) × V)) : Type 0 where
@@ -93,13 +93,13 @@ pub record IsRest {K V : Type 0} (cmp : K → K → Ordering) (hash : K → ℕ)
   pub makes : put_all cmp m (map pair_of es) ≡ whole
 
 module _ {K V : Type 0} {cmp : K → K → Ordering} (o : IsTotalOrder cmp) (hash : K → ℕ) (whole : List (K × V)) where
-  pub rest_first : (es : List ((ℕ × K) × V)) → AreApart cmp (map pair_of es) → AreHashed hash es → gathered cmp (map pair_of es) ≡ whole → IsRest cmp hash whole [] es
+  pub rest_first : (es : List ((ℕ × K) × V)) → AreApart cmp (map pair_of es) → AreHashed hash es → map_of_pairs cmp (map pair_of es) ≡ whole → IsRest cmp hash whole [] es
   rest_first es apart hashed is = record {
     sorted = IsFiniteMap-nil V cmp;
     apart = apart;
     hashed = hashed;
     absent = all_absent o (map pair_of es);
-    makes = put_all-gathered o (map pair_of es) apart ∙ is;
+    makes = put_all-map_of_pairs o (map pair_of es) apart ∙ is;
   }
 
   pub rest_next : (m : List (K × V)) (e : (ℕ × K) × V) (es : List ((ℕ × K) × V)) → IsRest cmp hash whole m (e ∷ es) → IsRest cmp hash whole (with_pair cmp m e.0.1 e.1) es

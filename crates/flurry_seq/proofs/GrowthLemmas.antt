@@ -15,16 +15,17 @@ use Rattle.flurry_model.specs.Sizes.{wanted_of}
 use Rattle.std.specs.Int.Digits.{digits_of}
 use Rattle.std.proofs.lemmas.Int.Digits.{length-digits_of-le}
 use Rattle.flurry_model.proofs.SizeLaws.{wanted_of-less, wanted_of-most}
-use Rattle.flurry_model.specs.FiniteMap.{pair_at, gathered}
+use Rattle.flurry_model.specs.FiniteMap.{pair_at, map_of_pairs}
 use Rattle.flurry_model.specs.HashOrder.{hash_then_key}
 use Rattle.flurry_seq.specs.Table.{bin_of, is_low, is_in_half, half_of}
-use Rattle.flurry_model.proofs.FiniteMapLaws.{IsFiniteMap-gathered, IsFiniteMap-filter, IsFiniteMap-nil, same_map}
+use Rattle.flurry_model.proofs.FiniteMapLaws.{IsFiniteMap-map_of_pairs, IsFiniteMap-filter, IsFiniteMap-nil, same_map}
 use Rattle.flurry_model.proofs.HashOrderLaws.{hash_then_key_total}
 use Rattle.flurry_seq.specs.Table.{pair_of, all_pairs, entry_in, bins_doubled, bins_with}
 use Rattle.flurry_seq.specs.Contents.{first_bins}
 use Rattle.std.specs.Prelude.{◌==◌}
 use Rattle.flurry_seq.specs.Invariant.{IsBinAt, AreBinsFrom, IsTable, IsTableSize}
 use Rattle.flurry_seq.proofs.TableLemmas.{at_map, IsTable-with}
+use Rattle.flurry_model.specs.declared.sizes.TheConstants.{GREATEST_TABLE, MOST_PAIRS}
 
 -- ---- where a hash goes
 
@@ -48,19 +49,19 @@ half_bin n h i true some e t =
     let x = high_bin n h some ge in
     omega arith
 
-pub size_doubled : (n : ℕ) → 0 < n → n < 2 ^ 30 → IsTableSize n → IsTableSize (2 * n)
+pub size_doubled : (n : ℕ) → 0 < n → n < 2 ^ GREATEST_TABLE → IsTableSize n → IsTableSize (2 * n)
 size_doubled n some less (inl e) = absurd (omega arith)
 size_doubled n some less (inr (e, small, is)) =
-    let below : e < 30 = exponent e (subst (λ m. m < 2 ^ 30) is less) in
+    let below : e < GREATEST_TABLE = exponent e (subst (λ m. m < 2 ^ GREATEST_TABLE) is less) in
     inr (e + 1, omega arith, rw (is, add-one, pow-suc) (omega arith))
   where
-    exponent : (e : ℕ) → 2 ^ e < 2 ^ 30 → e < 30
-    exponent e h = elim (cases_lt e 30) [
+    exponent : (e : ℕ) → 2 ^ e < 2 ^ GREATEST_TABLE → e < GREATEST_TABLE
+    exponent e h = elim (cases_lt e GREATEST_TABLE) [
       | inl lt ↦ lt
-      | inr ge ↦ let m = pow_mono {i = 30} {j = e} ge in absurd (omega arith)
+      | inr ge ↦ let m = pow_mono {i = GREATEST_TABLE} {j = e} ge in absurd (omega arith)
     ]
 
-pub size_most : (n : ℕ) → IsTableSize n → n ≤ 2 ^ 30
+pub size_most : (n : ℕ) → IsTableSize n → n ≤ 2 ^ GREATEST_TABLE
 size_most n (inl none) = omega arith
 size_most n (inr (e, small, is)) = rw is (pow_mono small)
 
@@ -72,10 +73,10 @@ first_some n w some = elim (cases_lt 0 n) [
 ]
 
 -- each size that is wanted is one of a table
-pub wanted_size : (s : ℕ) → (e : ℕ) × (e ≤ 30) × (wanted_of s ≡ 2 ^ e)
+pub wanted_size : (s : ℕ) → (e : ℕ) × (e ≤ GREATEST_TABLE) × (wanted_of s ≡ 2 ^ e)
 wanted_size s = elim (cases_lt s (2 ^ 29)) [
-  | inl lt ↦ (length (digits_of 2 (s + s / 2)), length-digits_of-le 2 30 (s + s / 2) (lit≤ tt) (omega arith), wanted_of-less s lt)
-  | inr ge ↦ (30, lit≤ tt, wanted_of-most s ge)
+  | inl lt ↦ (length (digits_of 2 (s + s / 2)), length-digits_of-le 2 GREATEST_TABLE (s + s / 2) (lit≤ tt) (omega arith), wanted_of-less s lt)
+  | inr ge ↦ (GREATEST_TABLE, lit≤ tt, wanted_of-most s ge)
 ]
 
 -- ---- the halves of a bin
@@ -153,17 +154,17 @@ module _ {K V : Type 0} {cmp : K → K → Ordering} (o : IsTotalOrder cmp) (has
 
 module _ {K V : Type 0} {cmp : K → K → Ordering} (o : IsTotalOrder cmp) (hash : K → ℕ) (respects : (a b : K) → cmp a b ≡ Equal → hash a ≡ hash b) where
   -- a doubling changes no pair
-  pub gathered-doubled : (bins : List (List ((ℕ × K) × V))) → 0 < length bins → AreBinsFrom cmp hash (length bins) 0 bins → gathered cmp (all_pairs (bins_doubled bins)) ≡ gathered cmp (all_pairs bins)
-  gathered-doubled bins some h =
-      same_map o _ _ (IsFiniteMap-gathered o (all_pairs (bins_doubled bins))) (IsFiniteMap-gathered o (all_pairs bins))
+  pub map_of_pairs-doubled : (bins : List (List ((ℕ × K) × V))) → 0 < length bins → AreBinsFrom cmp hash (length bins) 0 bins → map_of_pairs cmp (all_pairs (bins_doubled bins)) ≡ map_of_pairs cmp (all_pairs bins)
+  map_of_pairs-doubled bins some h =
+      same_map o _ _ (IsFiniteMap-map_of_pairs o (all_pairs (bins_doubled bins))) (IsFiniteMap-map_of_pairs o (all_pairs bins))
       (λ q. at_map o hash respects (bins_doubled bins) q (doubled-placed o hash bins some h)
       ∙ ap (option_map pair_of) (entry_doubled o hash bins (hash q) q some)
       ∙ sym (at_map o hash respects bins q h))
 
-  pub IsTable-doubled : (bins : List (List ((ℕ × K) × V))) (len : ℕ) → 0 < length bins → length bins < 2 ^ 30 → IsTable cmp hash bins len → IsTable cmp hash (bins_doubled bins) len
+  pub IsTable-doubled : (bins : List (List ((ℕ × K) × V))) (len : ℕ) → 0 < length bins → length bins < 2 ^ GREATEST_TABLE → IsTable cmp hash bins len → IsTable cmp hash (bins_doubled bins) len
   IsTable-doubled bins len some less t = record {
     placed = doubled-placed o hash bins some t.placed;
-    count = rw (gathered-doubled bins some t.placed) t.count;
+    count = rw (map_of_pairs-doubled bins some t.placed) t.count;
     few = t.few;
   }
 
@@ -191,12 +192,12 @@ module _ {K : Type 0} (V : Type 0) (cmp : K → K → Ordering) (hash : K → �
 pub wanted_some : (s : ℕ) → 0 < wanted_of s
 wanted_some s = let p = wanted_size s in rw p.2 (pow_pos p.0)
 
-pub gathered-none : {K V : Type 0} (cmp : K → K → Ordering) (bins : List (List ((ℕ × K) × V))) → length bins ≡ 0 → gathered cmp (all_pairs bins) ≡ []
-gathered-none cmp [] e = refl
-gathered-none cmp (b ∷ bins) e = absurd (omega arith)
+pub map_of_pairs-none : {K V : Type 0} (cmp : K → K → Ordering) (bins : List (List ((ℕ × K) × V))) → length bins ≡ 0 → map_of_pairs cmp (all_pairs bins) ≡ []
+map_of_pairs-none cmp [] e = refl
+map_of_pairs-none cmp (b ∷ bins) e = absurd (omega arith)
 
 pub len-none : {K V : Type 0} (cmp : K → K → Ordering) (hash : K → ℕ) (bins : List (List ((ℕ × K) × V))) (len : ℕ) → length bins ≡ 0 → IsTable cmp hash bins len → len ≡ 0
-len-none cmp hash bins len e t = t.count ∙ ap length (gathered-none cmp bins e)
+len-none cmp hash bins len e t = t.count ∙ ap length (map_of_pairs-none cmp bins e)
 
 -- ---- what an insertion does
 
@@ -218,7 +219,7 @@ module _ {K V : Type 0} {cmp : K → K → Ordering} (o : IsTotalOrder cmp) (has
       subst (λ b. IsTable cmp hash (bins_with cmp bins (hash k) k v) (cond b len (len + 1))) found
       (IsTable-with o hash respects bins len k v (some_bins cmp bins (hash k) k found) t (rw found t.few))
 
-  pub IsTable-added : (bins : List (List ((ℕ × K) × V))) (len : ℕ) (k : K) (v : V) → 0 < length bins → entry_in cmp bins (hash k) k ≡ None → len < 2 ^ 62 → IsTable cmp hash bins len
+  pub IsTable-added : (bins : List (List ((ℕ × K) × V))) (len : ℕ) (k : K) (v : V) → 0 < length bins → entry_in cmp bins (hash k) k ≡ None → len < MOST_PAIRS → IsTable cmp hash bins len
       → IsTable cmp hash (bins_with cmp bins (hash k) k v) (len + 1)
   IsTable-added bins len k v some absent less t =
       let none : is_some (entry_in cmp bins (hash k) k) ≡ false = ap is_some absent in
@@ -226,7 +227,7 @@ module _ {K V : Type 0} {cmp : K → K → Ordering} (o : IsTotalOrder cmp) (has
       (IsTable-with o hash respects bins len k v some t (rw none (omega arith)))
 
   -- what the map has not, the table has not
-  pub entry_absent : (bins : List (List ((ℕ × K) × V))) (len : ℕ) (k : K) → IsTable cmp hash bins len → pair_at cmp (gathered cmp (all_pairs bins)) k ≡ None → entry_in cmp bins (hash k) k ≡ None
+  pub entry_absent : (bins : List (List ((ℕ × K) × V))) (len : ℕ) (k : K) → IsTable cmp hash bins len → pair_at cmp (map_of_pairs cmp (all_pairs bins)) k ≡ None → entry_in cmp bins (hash k) k ≡ None
   entry_absent bins len k t absent = none_from_map (entry_in cmp bins (hash k) k) (sym (at_map o hash respects bins k t.placed) ∙ absent)
     where
       none_from_map : (w : Option ((ℕ × K) × V)) → option_map pair_of w ≡ None → w ≡ None

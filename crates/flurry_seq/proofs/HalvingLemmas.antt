@@ -5,7 +5,7 @@ use Rattle.std.specs.Int.{bit_at}
 use Rattle.std.proofs.lemmas.Bool.Decides.{nat_tests}
 use Rattle.std.proofs.lemmas.Bool.{cases_lt}
 use Rattle.std.proofs.lemmas.Nat.{mod-mul-add, div-add-mod', mod_below, pow_pos}
-use Rattle.flurry_model.specs.HashOrder.{plain_with_bit}
+use Rattle.flurry_model.specs.HashOrder.{pairs_with_bit}
 use Rattle.flurry_seq.specs.Table.{is_low, half_of, bins_doubled}
 
 -- ---- the bit that tells the halves of a bin apart
@@ -55,10 +55,10 @@ filter_alike p q [] h = refl
 filter_alike p q (x ∷ xs) h = rw (h x) (ap (λ l. cond (q x) (x ∷ l) l) (filter_alike p q xs h))
 
 module _ {K V : Type 0} where
-  pub low_half : (e : ℕ) (b : List ((ℕ × K) × V)) → plain_with_bit e 0 b ≡ half_of (2 ^ e) false b
+  pub low_half : (e : ℕ) (b : List ((ℕ × K) × V)) → pairs_with_bit e 0 b ≡ half_of (2 ^ e) false b
   low_half e b = filter_alike _ _ b (λ x. test_low e x.0.0)
 
-  pub high_half : (e : ℕ) (b : List ((ℕ × K) × V)) → plain_with_bit e 1 b ≡ half_of (2 ^ e) true b
+  pub high_half : (e : ℕ) (b : List ((ℕ × K) × V)) → pairs_with_bit e 1 b ≡ half_of (2 ^ e) true b
   high_half e b = filter_alike _ _ b (λ x. one_or_none (bit_at x.0.0 e) (mod_below (x.0.0 / 2 ^ e) 2 (omega arith)) ∙ ap not (test_low e x.0.0))
 
   -- ---- the table after some of its bins were halved

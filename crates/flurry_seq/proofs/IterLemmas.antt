@@ -11,10 +11,10 @@ use Rattle.std.specs.Prelude.{◌==◌, count_by}
 use Rattle.std.specs.List.Sorted.{IsPermutation}
 use Rattle.std.proofs.lemmas.List.Sorted.{IsPermutation-refl, IsPermutation-sym, IsPermutation-cons, IsPermutation-trans, IsPermutation-middle, length_permutation, sum_by-IsPermutation}
 use Rattle.std.proofs.lemmas.Map.Keys.{sorted_head, sorted_tail}
-use Rattle.flurry_model.specs.FiniteMap.{IsFiniteMap, pair_at, with_pair, gathered}
+use Rattle.flurry_model.specs.FiniteMap.{IsFiniteMap, pair_at, with_pair, map_of_pairs}
 use Rattle.flurry_model.specs.HashOrder.{hash_then_key}
 use Rattle.flurry_seq.specs.Table.{bin_of, bin_at}
-use Rattle.flurry_model.proofs.FiniteMapLaws.{pair_at-gathered, without_none}
+use Rattle.flurry_model.proofs.FiniteMapLaws.{pair_at-map_of_pairs, without_none}
 use Rattle.flurry_seq.specs.Table.{pair_of, all_pairs}
 use Rattle.flurry_seq.specs.Apart.{AreApart}
 use Rattle.flurry_seq.specs.Invariant.{AreBinsFrom, IsTable}
@@ -44,12 +44,12 @@ module _ {K V : Type 0} {cmp : K → K → Ordering} (o : IsTotalOrder cmp) wher
           let x = rw p at none in
           rw p (IsPermutation-trans _ _ _ (IsPermutation-sym _ _ (IsPermutation-middle (e ∷ []) (k, v) m)) (IsPermutation-cons e _ _ (ih x)))
 
-  pub gathered_permutes : (ps : List (K × V)) → AreApart cmp ps → IsPermutation ps (gathered cmp ps)
+  pub gathered_permutes : (ps : List (K × V)) → AreApart cmp ps → IsPermutation ps (map_of_pairs cmp ps)
   gathered_permutes [] h = IsPermutation-refl _
   gathered_permutes (p ∷ ps) h =
-      let none : pair_at cmp (gathered cmp ps) p.0 ≡ None = pair_at-gathered o ps p.0 ∙ h.0 in
-      rw (without_none cmp p.0 (gathered cmp ps) none)
-      (IsPermutation-trans _ _ _ (IsPermutation-cons p _ _ (gathered_permutes ps h.1)) (with_new (gathered cmp ps) p.0 p.1 none))
+      let none : pair_at cmp (map_of_pairs cmp ps) p.0 ≡ None = pair_at-map_of_pairs o ps p.0 ∙ h.0 in
+      rw (without_none cmp p.0 (map_of_pairs cmp ps) none)
+      (IsPermutation-trans _ _ _ (IsPermutation-cons p _ _ (gathered_permutes ps h.1)) (with_new (map_of_pairs cmp ps) p.0 p.1 none))
 
   apart-append : (xs ys : List (K × V)) → AreApart cmp xs → AreApart cmp ys → AllByRecursion (λ p. pair_at cmp ys p.0 ≡ None) xs → AreApart cmp (xs ++ ys)
   apart-append [] ys h k none = k
@@ -87,12 +87,12 @@ module _ {K V : Type 0} {cmp : K → K → Ordering} (o : IsTotalOrder cmp) (has
   all_apart n i (b ∷ bins) h =
       apart-append o (map pair_of b) (all_pairs bins) (bin_apart n i b h.0.ascends h.0.placed) (all_apart n (suc i) bins h.1) (none_after n i b bins h.0.placed h.1)
 
-  pub pairs_permute : (bins : List (List ((ℕ × K) × V))) → AreBinsFrom cmp hash (length bins) 0 bins → IsPermutation (gathered cmp (all_pairs bins)) (all_pairs bins)
+  pub pairs_permute : (bins : List (List ((ℕ × K) × V))) → AreBinsFrom cmp hash (length bins) 0 bins → IsPermutation (map_of_pairs cmp (all_pairs bins)) (all_pairs bins)
   pairs_permute bins h = IsPermutation-sym _ _ (gathered_permutes o (all_pairs bins) (all_apart (length bins) 0 bins h))
 
   -- no bin is longer than the map
   pub bin_short : (bins : List (List ((ℕ × K) × V))) (len h : ℕ) → IsTable cmp hash bins len → length (bin_at bins h) ≤ len
-  bin_short bins len h t = omega (arith, t.count, length_permutation (gathered cmp (all_pairs bins)) (all_pairs bins) (pairs_permute bins t.placed), bin_within bins (bin_of (length bins) h))
+  bin_short bins len h t = omega (arith, t.count, length_permutation (map_of_pairs cmp (all_pairs bins)) (all_pairs bins) (pairs_permute bins t.placed), bin_within bins (bin_of (length bins) h))
     where
       bin_within : (bins : List (List ((ℕ × K) × V))) (i : ℕ) → length (get_or bins i []) ≤ length (all_pairs bins)
       bin_within [] i = omega arith
@@ -125,7 +125,7 @@ module _ {K V : Type 0} {cmp : K → K → Ordering} (o : IsTotalOrder cmp) (has
 
   -- a bin has the pairs whose hash has its place
   pub count_at : (bins : List (List ((ℕ × K) × V))) (h : ℕ) → AreBinsFrom cmp hash (length bins) 0 bins
-      → length (bin_at bins h) ≡ count_by (λ (p : K × V). bin_of (length bins) (hash p.0) == bin_of (length bins) h) (gathered cmp (all_pairs bins))
+      → length (bin_at bins h) ≡ count_by (λ (p : K × V). bin_of (length bins) (hash p.0) == bin_of (length bins) h) (map_of_pairs cmp (all_pairs bins))
   count_at bins h placed =
       sym (count_from (length bins) 0 (bin_of (length bins) h) (bin_of (length bins) h) bins placed (omega arith))
-      ∙ sum_by-IsPermutation _ (gathered cmp (all_pairs bins)) (all_pairs bins) (pairs_permute bins placed)
+      ∙ sum_by-IsPermutation _ (map_of_pairs cmp (all_pairs bins)) (all_pairs bins) (pairs_permute bins placed)

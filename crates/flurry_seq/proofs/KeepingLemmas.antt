@@ -4,16 +4,16 @@ use Rattle.std.specs.Borrow.{Bor}
 use Rattle.std.specs.Cmp.{IsTotalOrder}
 use Rattle.std.proofs.lemmas.List.Sorted.{length_permutation}
 use Rattle.std.proofs.lemmas.List.{length-append, length-map, get_or-map, map-set}
-use Rattle.flurry_bins.specs.declared.bin.choice.Bin.{Bin}
+use Rattle.flurry_bins.specs.declared.bin.adaptive.Bin.{Bin}
 use Rattle.flurry_bins.specs.Bin.{entries_of_bin}
-use Rattle.flurry_model.specs.FiniteMap.{gathered}
+use Rattle.flurry_model.specs.FiniteMap.{map_of_pairs}
 use Rattle.flurry_model.specs.HashOrder.{hash_then_key}
-use Rattle.flurry_bins.specs.PlainEntries.{plain}
+use Rattle.flurry_bins.specs.PlainEntries.{pair_of_entry}
 use Rattle.flurry_model.specs.Keeping.{Keeps, CalledAtPair}
-use Rattle.flurry_bins.specs.Keeping.{CalledAtEntry}
+use Rattle.flurry_bins.specs.EntryCall.{CalledAtEntry}
 use Rattle.flurry_model.proofs.KeepingLaws.{Keeps-length, Keeps-all, Keeps-map, Keeps-append, Keeps-finite_map}
 use Rattle.flurry_seq.specs.Retain.{CalledAtPlain, KeepsBins}
-use Rattle.flurry_seq.specs.Seen.{plain_bin, seen}
+use Rattle.flurry_seq.specs.MapsOfBins.{plain_bin, maps_of_bins}
 use Rattle.flurry_seq.specs.Table.{pair_of, all_pairs, bin_of}
 use Rattle.flurry_seq.specs.Invariant.{IsBinAt, AreBinsFrom, IsTable}
 use Rattle.flurry_seq.proofs.IterLemmas.{pairs_permute}
@@ -110,39 +110,39 @@ module _ {F K V : Type 0} (step : F → Bor K → Bor V → Bool → F → Type 
 
 -- the table that is seen has as many bins as before
 pub seen_length : {F K V A : Type 0} {o : _} {e : _} {p : _} (step : F → Bor K → Bor V → Bool → F → Type 0) (at : ℕ) (first : F) (old xs : List (Bin K V A o e p)) (next : F)
-    → KeepsBefore step at first (seen old) (seen xs) next → length xs ≡ length old
-seen_length step at first old xs next before = sym (length-map xs plain_bin) ∙ KeepsBefore-length step at first (seen old) (seen xs) next before ∙ length-map old plain_bin
+    → KeepsBefore step at first (maps_of_bins old) (maps_of_bins xs) next → length xs ≡ length old
+seen_length step at first old xs next before = sym (length-map xs plain_bin) ∙ KeepsBefore-length step at first (maps_of_bins old) (maps_of_bins xs) next before ∙ length-map old plain_bin
 
 -- one bin more of it
 pub record KeepsMore {F K V A : Type 0} {o : _} {e : _} {p : _} (step : F → Bor K → Bor V → Bool → F → Type 0) (at : ℕ) (first : F) (old xs : List (Bin K V A o e p)) (new : Bin K V A o e p) (last : F) : Type 0 where
-  pub kept : KeepsBefore step (at + 1) first (seen old) (seen (set xs at new)) last
-  pub len : front_len (at + 1) (seen (set xs at new)) ≡ front_len at (seen xs) + length (entries_of_bin new)
-  pub few : front_len (at + 1) (seen (set xs at new)) ≤ length (all_pairs (seen old))
+  pub kept : KeepsBefore step (at + 1) first (maps_of_bins old) (maps_of_bins (set xs at new)) last
+  pub len : front_len (at + 1) (maps_of_bins (set xs at new)) ≡ front_len at (maps_of_bins xs) + length (entries_of_bin new)
+  pub few : front_len (at + 1) (maps_of_bins (set xs at new)) ≤ length (all_pairs (maps_of_bins old))
 
 pub keeps_here : {F K V A : Type 0} {o : _} {e : _} {p : _} (step : F → Bor K → Bor V → Bool → F → Type 0) (at : ℕ) (first : F) (old xs : List (Bin K V A o e p)) (next : F) (b new : Bin K V A o e p) (last : F)
-    → KeepsBefore step at first (seen old) (seen xs) next → at < length old → b ≡ get_or xs at b → Keeps (CalledAtEntry step) next (entries_of_bin b) (entries_of_bin new) last → KeepsMore step at first old xs new last
+    → KeepsBefore step at first (maps_of_bins old) (maps_of_bins xs) next → at < length old → b ≡ get_or xs at b → Keeps (CalledAtEntry step) next (entries_of_bin b) (entries_of_bin new) last → KeepsMore step at first old xs new last
 keeps_here step at first old xs next b new last before lt is calls =
     let long = seen_length step at first old xs next before in
-    let here : get_or (seen xs) at [] ≡ plain_bin b = get_or-map plain_bin xs at b [] (omega arith) ∙ ap plain_bin (sym is) in
-    let plain_calls : Keeps (CalledAtPlain step) next (plain_bin b) (plain_bin new) last = Keeps-map (CalledAtPlain step) plain next (entries_of_bin b) (entries_of_bin new) last calls in
-    let in_seen : at < length (seen xs) = rw length-map (omega arith) in
-    let in_old : at < length (seen old) = rw length-map lt in
-    let on : seen (set xs at new) ≡ set (seen xs) at (plain_bin new) = map-set plain_bin xs at new in
-    let more : KeepsBefore step (suc at) first (seen old) (set (seen xs) at (plain_bin new)) last =
-    KeepsBefore-more step at first (seen old) (seen xs) next last (plain_bin new) before in_old (subst (λ l. Keeps (CalledAtPlain step) next l (plain_bin new) last) (sym here) plain_calls) in
-    let kept : KeepsBefore step (at + 1) first (seen old) (seen (set xs at new)) last = rw (on, add-one) more in
-    let len : front_len (at + 1) (seen (set xs at new)) ≡ front_len at (seen xs) + length (entries_of_bin new) =
-    rw (on, add-one) (front_len-set at (seen xs) (plain_bin new) in_seen ∙ ap (λ n. front_len at (seen xs) + n) (length-map (entries_of_bin new) plain)) in
+    let here : get_or (maps_of_bins xs) at [] ≡ plain_bin b = get_or-map plain_bin xs at b [] (omega arith) ∙ ap plain_bin (sym is) in
+    let plain_calls : Keeps (CalledAtPlain step) next (plain_bin b) (plain_bin new) last = Keeps-map (CalledAtPlain step) pair_of_entry next (entries_of_bin b) (entries_of_bin new) last calls in
+    let in_seen : at < length (maps_of_bins xs) = rw length-map (omega arith) in
+    let in_old : at < length (maps_of_bins old) = rw length-map lt in
+    let on : maps_of_bins (set xs at new) ≡ set (maps_of_bins xs) at (plain_bin new) = map-set plain_bin xs at new in
+    let more : KeepsBefore step (suc at) first (maps_of_bins old) (set (maps_of_bins xs) at (plain_bin new)) last =
+    KeepsBefore-more step at first (maps_of_bins old) (maps_of_bins xs) next last (plain_bin new) before in_old (subst (λ l. Keeps (CalledAtPlain step) next l (plain_bin new) last) (sym here) plain_calls) in
+    let kept : KeepsBefore step (at + 1) first (maps_of_bins old) (maps_of_bins (set xs at new)) last = rw (on, add-one) more in
+    let len : front_len (at + 1) (maps_of_bins (set xs at new)) ≡ front_len at (maps_of_bins xs) + length (entries_of_bin new) =
+    rw (on, add-one) (front_len-set at (maps_of_bins xs) (plain_bin new) in_seen ∙ ap (λ n. front_len at (maps_of_bins xs) + n) (length-map (entries_of_bin new) pair_of_entry)) in
     record {
       kept = kept;
       len = len;
-      few = omega (arith, front_len-le (at + 1) (seen (set xs at new)), KeepsBefore-fewer step (at + 1) first (seen old) (seen (set xs at new)) last kept);
+      few = omega (arith, front_len-le (at + 1) (maps_of_bins (set xs at new)), KeepsBefore-fewer step (at + 1) first (maps_of_bins old) (maps_of_bins (set xs at new)) last kept);
     }
 
 module _ {F K V : Type 0} {cmp : K → K → Ordering} (o : IsTotalOrder cmp) (hash : K → ℕ) (respects : (a b : K) → cmp a b ≡ Equal → hash a ≡ hash b) (step : F → Bor K → Bor V → Bool → F → Type 0) where
   -- a map has as many pairs as its table
   pub as_many : (bins : List (List ((ℕ × K) × V))) (len : ℕ) → IsTable cmp hash bins len → length (all_pairs bins) ≡ len
-  as_many bins len t = omega (arith, t.count, length_permutation (gathered cmp (all_pairs bins)) (all_pairs bins) (pairs_permute o hash respects bins t.placed))
+  as_many bins len t = omega (arith, t.count, length_permutation (map_of_pairs cmp (all_pairs bins)) (all_pairs bins) (pairs_permute o hash respects bins t.placed))
 
   pub IsTable-kept : (first : F) (bins kept : List (List ((ℕ × K) × V))) (last : F) (len : ℕ) → KeepsBins step first bins kept last → IsTable cmp hash bins len → IsTable cmp hash kept (length (all_pairs kept))
   IsTable-kept first bins kept last len h t =
@@ -150,6 +150,6 @@ module _ {F K V : Type 0} {cmp : K → K → Ordering} (o : IsTotalOrder cmp) (h
       subst (λ n. AreBinsFrom cmp hash n 0 kept) (sym (KeepsBins-length step first bins kept last h)) (KeepsBins-placed step cmp hash (length bins) 0 first bins kept last h t.placed) in
       record {
         placed = placed;
-        count = omega (arith, length_permutation (gathered cmp (all_pairs kept)) (all_pairs kept) (pairs_permute o hash respects kept placed));
+        count = omega (arith, length_permutation (map_of_pairs cmp (all_pairs kept)) (all_pairs kept) (pairs_permute o hash respects kept placed));
         few = omega (arith, as_many bins len t, t.few, Keeps-length (CalledAtPair step) first (all_pairs bins) (all_pairs kept) last (KeepsBins-pairs step first bins kept last h));
       }

@@ -5,10 +5,10 @@ pub mod GrowthLemmas
 pub mod HalvingLemmas
 pub mod IterLemmas
 pub mod KeepingLemmas
-pub mod LeftLemmas
+pub mod RemainingLemmas
 pub mod ListLaws
 pub mod NumberLemmas
 pub mod RoomLaws
 pub mod RunLaws
-pub mod SeenLemmas
+pub mod MapsOfBinsLemmas
 pub mod TableLemmas

@@ -5,7 +5,7 @@ use Rattle.std.specs.List.{AllByRecursion}
 use Rattle.std.specs.Arc.{arc_value}
 use Rattle.std.specs.declared.sync.Arc.{Arc}
 use Rattle.flurry_bins.specs.declared.bin.entry.Entry.{Entry}
-use Rattle.flurry_bins.specs.Entries.{is_at, is_before, is_past, placed, replaced, with_value}
+use Rattle.flurry_bins.specs.Entries.{is_at, is_before, is_past, with_entry, with_value_at, with_value}
 use Rattle.flurry_model.proofs.ListParts.{all_append}
 use Rattle.flurry_seq.specs.Numbers.{BearZero}
 
@@ -32,16 +32,16 @@ module _ {X : Type 0} (P : X → Type 0) where
   all_at xs i y lt is h = subst P (sym is) (at_or xs i y lt h)
 
 module _ {K V A : Type 0} (cmp : K → K → Ordering) where
-  pub zero-placed : (x : Entry K V A) (es : List (Entry K V A)) → x.number ≡ 0 → BearZero es → BearZero (placed cmp x es)
-  zero-placed x es here h =
+  pub zero-with_entry : (x : Entry K V A) (es : List (Entry K V A)) → x.number ≡ 0 → BearZero es → BearZero (with_entry cmp x es)
+  zero-with_entry x es here h =
       let P : Entry K V A → Type 0 = λ e. e.number ≡ 0 in
       all_append P (filter (is_before cmp x.hash (arc_value x.key)) es) (x ∷ filter (is_past cmp x.hash (arc_value x.key)) es)
       (all_filter P (is_before cmp x.hash (arc_value x.key)) es h)
       (here, all_filter P (is_past cmp x.hash (arc_value x.key)) es h)
 
-  pub zero-replaced : (h : ℕ) (k : K) (v : Arc V A) (es : List (Entry K V A)) → BearZero es → BearZero (replaced cmp h k v 0 es)
-  zero-replaced h k v [] all = tt
-  zero-replaced h k v (e ∷ es) all = (by_test (is_at cmp h k e), zero-replaced h k v es all.1)
+  pub zero-with_value_at : (h : ℕ) (k : K) (v : Arc V A) (es : List (Entry K V A)) → BearZero es → BearZero (with_value_at cmp h k v 0 es)
+  zero-with_value_at h k v [] all = tt
+  zero-with_value_at h k v (e ∷ es) all = (by_test (is_at cmp h k e), zero-with_value_at h k v es all.1)
     where
       by_test : (b : Bool) → (if b then with_value e v 0 else e).number ≡ 0
       by_test true = refl

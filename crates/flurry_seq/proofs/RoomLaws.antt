@@ -18,6 +18,7 @@ use Rattle.flurry_seq.specs.Contents.{first_bins}
 use Rattle.flurry_seq.specs.Growth.{bins_for, IsTableFrom, IsTableAfter, HasRoom}
 use Rattle.flurry_seq.specs.Invariant.{IsTableSize}
 use Rattle.flurry_seq.proofs.GrowthLemmas.{wanted_some}
+use Rattle.flurry_model.specs.declared.sizes.TheConstants.{FIRST_BINS, GREATEST_TABLE}
 
 -- ---- doublings
 
@@ -41,7 +42,7 @@ way_larger : (n w m : ℕ) → IsOnTheWay n w m → n ≤ m
 way_larger n w m (j, is, before) = let more : n ≤ n * 2 ^ j = le-mul_of_pos_right n (pow_pos j) in omega arith
 
 -- a table that is large enough for the count is not doubled by it
-no_way : (b count m : ℕ) → IsOnTheWay b (count + 1) m → (count < threshold_of b) ⊎ (2 ^ 30 ≤ b) → m ≡ b
+no_way : (b count m : ℕ) → IsOnTheWay b (count + 1) m → (count < threshold_of b) ⊎ (2 ^ GREATEST_TABLE ≤ b) → m ≡ b
 no_way b count m (zero, is, before) enough = omega arith
 no_way b count m (suc j, is, before) enough =
     let one : b * 2 ^ 0 ≡ b = omega arith in
@@ -106,7 +107,7 @@ table_more n less more b m le (inr (few, many, way)) (inl same) = inr (few, omeg
 table_more n less more b m le (inr (few, many, way)) (inr (few', many', way')) = inr (few, many', way_on n 128 b m way way')
 
 -- a new key in a table that has room
-pub room_more : (n less more all b m : ℕ) → HasRoom n all → 0 < all → less ≤ more → more ≤ all → IsTableFrom n less b → IsTableAfter (first_bins b 16) more m → IsTableFrom n more m
+pub room_more : (n less more all b m : ℕ) → HasRoom n all → 0 < all → less ≤ more → more ≤ all → IsTableFrom n less b → IsTableAfter (first_bins b FIRST_BINS) more m → IsTableFrom n more m
 room_more n less more all b m (inl none) some le most from after = absurd (omega arith)
 room_more n less more all b m (inr (pos, enough)) some le most from (mid, grown, way) =
     let large : n ≤ b = table_larger n less b from in
@@ -114,7 +115,7 @@ room_more n less more all b m (inr (pos, enough)) some le most from (mid, grown,
     let here : IsTableFrom b more mid = rw t at grown in
     let at : IsTableFrom n more mid = table_more n less more b mid le from here in
     let larger : n ≤ mid = table_larger n more mid at in
-    let fits : (more < threshold_of mid) ⊎ (2 ^ 30 ≤ mid) = elim enough [
+    let fits : (more < threshold_of mid) ⊎ (2 ^ GREATEST_TABLE ≤ mid) = elim enough [
       | inl lt ↦ inl (omega arith)
       | inr ge ↦ inr (omega arith)
     ] in
@@ -126,13 +127,13 @@ one_more true m n e = (omega arith, omega arith)
 one_more false m n e = (omega arith, omega arith)
 
 -- one step of a list of insertions: what was put was there, or is new
-pub room_put : {X : Type 0} (done : List X) (x : X) (rest list : List X) (start old new n b m : ℕ) → (done ++ x ∷ []) ++ rest ≡ list → old ≤ start + length done → (old ≤ new) × (new ≤ old + 1) → (m ≡ b) ⊎ IsTableAfter (first_bins b 16) new m → HasRoom n (start + length list)
+pub room_put : {X : Type 0} (done : List X) (x : X) (rest list : List X) (start old new n b m : ℕ) → (done ++ x ∷ []) ++ rest ≡ list → old ≤ start + length done → (old ≤ new) × (new ≤ old + 1) → (m ≡ b) ⊎ IsTableAfter (first_bins b FIRST_BINS) new m → HasRoom n (start + length list)
     → IsTableFrom n old b → IsTableFrom n new m
 room_put done x rest list start old new n b m split few more reply room from =
     let long : length list ≡ length done + 1 + length rest = ap length (sym split) ∙ simp length-append (omega arith) in
     by_reply reply (omega (arith, more.0)) (omega (arith, more.1, long)) (omega (arith, long))
   where
-    by_reply : (m ≡ b) ⊎ IsTableAfter (first_bins b 16) new m → old ≤ new → new ≤ start + length list → 0 < start + length list → IsTableFrom n new m
+    by_reply : (m ≡ b) ⊎ IsTableAfter (first_bins b FIRST_BINS) new m → old ≤ new → new ≤ start + length list → 0 < start + length list → IsTableFrom n new m
     by_reply (inl same) le most some = subst (λ x. IsTableFrom n new x) (sym same) (table_more n old new b b le from (inl refl))
     by_reply (inr grown) le most some = room_more n old new (start + length list) b m room some le most from grown
 

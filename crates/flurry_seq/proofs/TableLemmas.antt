@@ -8,17 +8,18 @@ use Rattle.std.proofs.Math.ListN.{length-set}
 use Rattle.std.proofs.lemmas.List.{get_or-set_other}
 use Rattle.std.proofs.lemmas.Grind.{get_or-set_at}
 use borrow.Author.Tests.{eqb-true, eqb-false}
-use Rattle.flurry_model.specs.FiniteMap.{pair_at, with_pair, without, stored_key, gathered}
+use Rattle.flurry_model.specs.FiniteMap.{pair_at, with_pair, without, stored_key, map_of_pairs}
 use Rattle.std.specs.Borrow.{Bor}
 use Rattle.std.specs.Arc.{arc_value}
 use Rattle.flurry_bins.specs.declared.bin.entry.Entry.{Entry}
 use Rattle.flurry_model.specs.HashOrder.{hash_then_key}
-use Rattle.flurry_bins.specs.PlainEntries.{plain}
+use Rattle.flurry_bins.specs.PlainEntries.{pair_of_entry}
 use Rattle.flurry_seq.specs.Table.{bin_of}
-use Rattle.flurry_model.proofs.FiniteMapLaws.{length-with_pair, length-without, found_in, pair_at-with_pair, pair_at-without, IsFiniteMap-with_pair, IsFiniteMap-without, IsFiniteMap-gathered, pair_at-gathered, same_map}
+use Rattle.flurry_model.proofs.FiniteMapLaws.{length-with_pair, length-without, found_in, pair_at-with_pair, pair_at-without, IsFiniteMap-with_pair, IsFiniteMap-without, IsFiniteMap-map_of_pairs, pair_at-map_of_pairs, same_map}
 use Rattle.flurry_model.proofs.HashOrderLaws.{hash_then_key_total}
 use Rattle.flurry_seq.specs.Table.{pair_of, all_pairs, bin_at, entry_in, bins_with, bins_without}
 use Rattle.flurry_seq.specs.Invariant.{IsBinAt, AreBinsFrom, IsTable}
+use Rattle.flurry_model.specs.declared.sizes.TheConstants.{MOST_PAIRS}
 
 then_less : (x : Ordering) → is_eq (ordering_then x Less) ≡ false
 then_less Less = refl
@@ -43,11 +44,11 @@ some_map f None = refl
 some_map f (Some x) = refl
 
 -- an entry's key and value
-pub pairs_mapped : {K V A : Type 0} (w : Option (Bor (Entry K V A))) → option_map (λ (e : Bor (Entry K V A)). (arc_value e.now.key, arc_value e.now.value)) w ≡ option_map pair_of (option_map (λ (e : Bor (Entry K V A)). plain e.now) w)
+pub pairs_mapped : {K V A : Type 0} (w : Option (Bor (Entry K V A))) → option_map (λ (e : Bor (Entry K V A)). (arc_value e.now.key, arc_value e.now.value)) w ≡ option_map pair_of (option_map (λ (e : Bor (Entry K V A)). pair_of_entry e.now) w)
 pairs_mapped None = refl
 pairs_mapped (Some x) = refl
 
-fewer : (b : Bool) (n : ℕ) → n ≤ 2 ^ 62 → cond b (n - 1) n ≤ 2 ^ 62
+fewer : (b : Bool) (n : ℕ) → n ≤ MOST_PAIRS → cond b (n - 1) n ≤ MOST_PAIRS
 fewer true n h = omega arith
 fewer false n h = h
 
@@ -131,8 +132,8 @@ module _ {K V : Type 0} {cmp : K → K → Ordering} (o : IsTotalOrder cmp) (has
 
   -- the same, of the map
   pub at_map : (bins : List (List ((ℕ × K) × V))) (q : K) → AreBinsFrom cmp hash (length bins) 0 bins
-      → pair_at cmp (gathered cmp (all_pairs bins)) q ≡ option_map pair_of (entry_in cmp bins (hash q) q)
-  at_map bins q h = pair_at-gathered o (all_pairs bins) q ∙ at_table bins q h
+      → pair_at cmp (map_of_pairs cmp (all_pairs bins)) q ≡ option_map pair_of (entry_in cmp bins (hash q) q)
+  at_map bins q h = pair_at-map_of_pairs o (all_pairs bins) q ∙ at_table bins q h
 
 bin_below : (n h : ℕ) → 0 < n → bin_of n h < n
 bin_below n h p = omega arith
@@ -206,25 +207,25 @@ module _ {K V : Type 0} {cmp : K → K → Ordering} (o : IsTotalOrder cmp) (has
   -- what a table has at q after (k, v) is put
   at_with : (bins : List (List ((ℕ × K) × V))) (k : K) (v : V) (q : K) → 0 < length bins → AreBinsFrom cmp hash (length bins) 0 bins
       → option_map pair_of (entry_in cmp (bins_with cmp bins (hash k) k v) (hash q) q)
-      ≡ cond (is_eq (cmp q k)) (Some (stored_key cmp (gathered cmp (all_pairs bins)) k, v)) (option_map pair_of (entry_in cmp bins (hash q) q))
+      ≡ cond (is_eq (cmp q k)) (Some (stored_key cmp (map_of_pairs cmp (all_pairs bins)) k, v)) (option_map pair_of (entry_in cmp bins (hash q) q))
   at_with bins k v q some h = by_bin (eqb (bin_of (length bins) (hash q)) (bin_of (length bins) (hash k))) refl
     where
       by_bin : (t : Bool) → eqb (bin_of (length bins) (hash q)) (bin_of (length bins) (hash k)) ≡ t
           → option_map pair_of (entry_in cmp (bins_with cmp bins (hash k) k v) (hash q) q)
-          ≡ cond (is_eq (cmp q k)) (Some (stored_key cmp (gathered cmp (all_pairs bins)) k, v)) (option_map pair_of (entry_in cmp bins (hash q) q))
+          ≡ cond (is_eq (cmp q k)) (Some (stored_key cmp (map_of_pairs cmp (all_pairs bins)) k, v)) (option_map pair_of (entry_in cmp bins (hash q) q))
       by_bin true p =
           let e : bin_of (length bins) (hash q) ≡ bin_of (length bins) (hash k) = eqb-true _ _ p in
-          let stored : (stored_key (hash_then_key cmp) (bin_at bins (hash k)) (hash k, k)).1 ≡ stored_key cmp (gathered cmp (all_pairs bins)) k =
+          let stored : (stored_key (hash_then_key cmp) (bin_at bins (hash k)) (hash k, k)).1 ≡ stored_key cmp (map_of_pairs cmp (all_pairs bins)) k =
           stored_same (entry_in cmp bins (hash k) k) (hash k) k ∙ ap (λ w. option_map_or (λ (x : K × V). x.0) w k) (sym (at_map o hash respects bins k h)) in
           ap (option_map pair_of) (in_same_bin bins (with_pair (hash_then_key cmp) (bin_at bins (hash k)) (hash k, k) v) q k some e
           ∙ pair_at-with_pair (hash_then_key_total o) (bin_at bins (hash k)) (hash k, k) v (hash q, q) (bin_at_placed o hash bins k some h).ascends)
           ∙ ap (λ t. option_map pair_of (cond t (Some (stored_key (hash_then_key cmp) (bin_at bins (hash k)) (hash k, k), v)) (pair_at (hash_then_key cmp) (bin_at bins (hash k)) (hash q, q)))) (slot_test o hash respects q (hash k, k) refl)
-          ∙ map_cond_pair pair_of (is_eq (cmp q k)) _ (stored_key cmp (gathered cmp (all_pairs bins)) k, v) _ (ap (λ (x : K). (x, v)) stored)
-          ∙ ap (λ w. cond (is_eq (cmp q k)) (Some (stored_key cmp (gathered cmp (all_pairs bins)) k, v)) (option_map pair_of w)) (same_bin bins q k e)
+          ∙ map_cond_pair pair_of (is_eq (cmp q k)) _ (stored_key cmp (map_of_pairs cmp (all_pairs bins)) k, v) _ (ap (λ (x : K). (x, v)) stored)
+          ∙ ap (λ w. cond (is_eq (cmp q k)) (Some (stored_key cmp (map_of_pairs cmp (all_pairs bins)) k, v)) (option_map pair_of w)) (same_bin bins q k e)
       by_bin false p =
           let apart : bin_of (length bins) (hash q) ≡ bin_of (length bins) (hash k) → ⊥ = eqb-false _ _ p in
           ap (option_map pair_of) (in_other_bin bins (with_pair (hash_then_key cmp) (bin_at bins (hash k)) (hash k, k) v) q k apart)
-          ∙ ap (λ t. cond t (Some (stored_key cmp (gathered cmp (all_pairs bins)) k, v)) (option_map pair_of (entry_in cmp bins (hash q) q))) (sym (other_bin o hash respects (length bins) q k apart))
+          ∙ ap (λ t. cond t (Some (stored_key cmp (map_of_pairs cmp (all_pairs bins)) k, v)) (option_map pair_of (entry_in cmp bins (hash q) q))) (sym (other_bin o hash respects (length bins) q k apart))
 
   at_without : (bins : List (List ((ℕ × K) × V))) (k : K) (q : K) → 0 < length bins → AreBinsFrom cmp hash (length bins) 0 bins
       → option_map pair_of (entry_in cmp (bins_without cmp bins (hash k) k) (hash q) q) ≡ cond (is_eq (cmp q k)) None (option_map pair_of (entry_in cmp bins (hash q) q))
@@ -245,29 +246,29 @@ module _ {K V : Type 0} {cmp : K → K → Ordering} (o : IsTotalOrder cmp) (has
           ∙ ap (λ t. cond t None (option_map pair_of (entry_in cmp bins (hash q) q))) (sym (other_bin o hash respects (length bins) q k apart))
 
   -- the map after a pair is put into its bin
-  pub gathered-with : (bins : List (List ((ℕ × K) × V))) (k : K) (v : V) → 0 < length bins → AreBinsFrom cmp hash (length bins) 0 bins
-      → gathered cmp (all_pairs (bins_with cmp bins (hash k) k v)) ≡ with_pair cmp (gathered cmp (all_pairs bins)) k v
-  gathered-with bins k v some h =
-      let m = gathered cmp (all_pairs bins) in
-      same_map o _ _ (IsFiniteMap-gathered o (all_pairs (bins_with cmp bins (hash k) k v))) (IsFiniteMap-with_pair o m k v (IsFiniteMap-gathered o (all_pairs bins)))
+  pub map_of_pairs-with : (bins : List (List ((ℕ × K) × V))) (k : K) (v : V) → 0 < length bins → AreBinsFrom cmp hash (length bins) 0 bins
+      → map_of_pairs cmp (all_pairs (bins_with cmp bins (hash k) k v)) ≡ with_pair cmp (map_of_pairs cmp (all_pairs bins)) k v
+  map_of_pairs-with bins k v some h =
+      let m = map_of_pairs cmp (all_pairs bins) in
+      same_map o _ _ (IsFiniteMap-map_of_pairs o (all_pairs (bins_with cmp bins (hash k) k v))) (IsFiniteMap-with_pair o m k v (IsFiniteMap-map_of_pairs o (all_pairs bins)))
       (λ q. at_map o hash respects (bins_with cmp bins (hash k) k v) q (bins_with-placed o hash bins k v some h)
       ∙ at_with bins k v q some h
       ∙ ap (cond (is_eq (cmp q k)) (Some (stored_key cmp m k, v))) (sym (at_map o hash respects bins q h))
-      ∙ sym (pair_at-with_pair o m k v q (IsFiniteMap-gathered o (all_pairs bins))))
+      ∙ sym (pair_at-with_pair o m k v q (IsFiniteMap-map_of_pairs o (all_pairs bins))))
 
   -- the map after a key's pair is taken out of its bin
-  pub gathered-without : (bins : List (List ((ℕ × K) × V))) (k : K) → 0 < length bins → AreBinsFrom cmp hash (length bins) 0 bins
-      → gathered cmp (all_pairs (bins_without cmp bins (hash k) k)) ≡ without cmp (gathered cmp (all_pairs bins)) k
-  gathered-without bins k some h =
-      let m = gathered cmp (all_pairs bins) in
-      same_map o _ _ (IsFiniteMap-gathered o (all_pairs (bins_without cmp bins (hash k) k))) (IsFiniteMap-without o m k (IsFiniteMap-gathered o (all_pairs bins)))
+  pub map_of_pairs-without : (bins : List (List ((ℕ × K) × V))) (k : K) → 0 < length bins → AreBinsFrom cmp hash (length bins) 0 bins
+      → map_of_pairs cmp (all_pairs (bins_without cmp bins (hash k) k)) ≡ without cmp (map_of_pairs cmp (all_pairs bins)) k
+  map_of_pairs-without bins k some h =
+      let m = map_of_pairs cmp (all_pairs bins) in
+      same_map o _ _ (IsFiniteMap-map_of_pairs o (all_pairs (bins_without cmp bins (hash k) k))) (IsFiniteMap-without o m k (IsFiniteMap-map_of_pairs o (all_pairs bins)))
       (λ q. at_map o hash respects (bins_without cmp bins (hash k) k) q (bins_without-placed o hash bins k some h)
       ∙ at_without bins k q some h
       ∙ ap (cond (is_eq (cmp q k)) None) (sym (at_map o hash respects bins q h))
-      ∙ sym (pair_at-without o m k q (IsFiniteMap-gathered o (all_pairs bins))))
+      ∙ sym (pair_at-without o m k q (IsFiniteMap-map_of_pairs o (all_pairs bins))))
 
 module _ {K V : Type 0} {cmp : K → K → Ordering} (o : IsTotalOrder cmp) (hash : K → ℕ) (respects : (a b : K) → cmp a b ≡ Equal → hash a ≡ hash b) where
-  pub found_same : (bins : List (List ((ℕ × K) × V))) (k : K) → AreBinsFrom cmp hash (length bins) 0 bins → is_some (pair_at cmp (gathered cmp (all_pairs bins)) k) ≡ is_some (entry_in cmp bins (hash k) k)
+  pub found_same : (bins : List (List ((ℕ × K) × V))) (k : K) → AreBinsFrom cmp hash (length bins) 0 bins → is_some (pair_at cmp (map_of_pairs cmp (all_pairs bins)) k) ≡ is_some (entry_in cmp bins (hash k) k)
   found_same bins k h = ap is_some (at_map o hash respects bins k h) ∙ some_map pair_of (entry_in cmp bins (hash k) k)
 
   pub IsTable-without : (bins : List (List ((ℕ × K) × V))) (len : ℕ) (k : K) → 0 < length bins → IsTable cmp hash bins len
@@ -275,18 +276,18 @@ module _ {K V : Type 0} {cmp : K → K → Ordering} (o : IsTotalOrder cmp) (has
   IsTable-without bins len k some t = record {
     placed = bins_without-placed o hash bins k some t.placed;
     count =
-        rw (gathered-without o hash respects bins k some t.placed, length-without o, found_same bins k t.placed)
+        rw (map_of_pairs-without o hash respects bins k some t.placed, length-without o, found_same bins k t.placed)
         (ap (λ n. cond (is_some (entry_in cmp bins (hash k) k)) (n - 1) n) t.count);
     few = fewer (is_some (entry_in cmp bins (hash k) k)) len t.few;
   }
 
   pub IsTable-with : (bins : List (List ((ℕ × K) × V))) (len : ℕ) (k : K) (v : V) → 0 < length bins → IsTable cmp hash bins len
-      → (cond (is_some (entry_in cmp bins (hash k) k)) len (len + 1) ≤ 2 ^ 62)
+      → (cond (is_some (entry_in cmp bins (hash k) k)) len (len + 1) ≤ MOST_PAIRS)
       → IsTable cmp hash (bins_with cmp bins (hash k) k v) (cond (is_some (entry_in cmp bins (hash k) k)) len (len + 1))
   IsTable-with bins len k v some t few = record {
     placed = bins_with-placed o hash bins k v some t.placed;
     count =
-        rw (gathered-with o hash respects bins k v some t.placed, length-with_pair o (gathered cmp (all_pairs bins)) k v (IsFiniteMap-gathered o (all_pairs bins)), found_same bins k t.placed)
+        rw (map_of_pairs-with o hash respects bins k v some t.placed, length-with_pair o (map_of_pairs cmp (all_pairs bins)) k v (IsFiniteMap-map_of_pairs o (all_pairs bins)), found_same bins k t.placed)
         (ap (λ n. cond (is_some (entry_in cmp bins (hash k) k)) n (n + 1)) t.count);
     few = few;
   }
@@ -294,7 +295,7 @@ module _ {K V : Type 0} {cmp : K → K → Ordering} (o : IsTotalOrder cmp) (has
   -- a map that has a pair is not empty
   pub len_some : (bins : List (List ((ℕ × K) × V))) (len : ℕ) (k : K) (e : (ℕ × K) × V) → IsTable cmp hash bins len → entry_in cmp bins (hash k) k ≡ Some e → 1 ≤ len
   len_some bins len k e t found =
-      let x = found_in o (gathered cmp (all_pairs bins)) k (pair_of e) (at_map o hash respects bins k t.placed ∙ ap (option_map pair_of) found) in
+      let x = found_in o (map_of_pairs cmp (all_pairs bins)) k (pair_of e) (at_map o hash respects bins k t.placed ∙ ap (option_map pair_of) found) in
       omega (arith, x, t.count)
 
   -- the same, also without a table
@@ -303,7 +304,7 @@ module _ {K V : Type 0} {cmp : K → K → Ordering} (o : IsTotalOrder cmp) (has
   IsTable-left_out [] len k t = t
   IsTable-left_out (b ∷ bins) len k t = IsTable-without (b ∷ bins) len k (omega arith) t
 
-  pub gathered-left_out : (bins : List (List ((ℕ × K) × V))) (k : K) → AreBinsFrom cmp hash (length bins) 0 bins
-      → gathered cmp (all_pairs (bins_without cmp bins (hash k) k)) ≡ without cmp (gathered cmp (all_pairs bins)) k
-  gathered-left_out [] k h = refl
-  gathered-left_out (b ∷ bins) k h = gathered-without o hash respects (b ∷ bins) k (omega arith) h
+  pub map_of_pairs-left_out : (bins : List (List ((ℕ × K) × V))) (k : K) → AreBinsFrom cmp hash (length bins) 0 bins
+      → map_of_pairs cmp (all_pairs (bins_without cmp bins (hash k) k)) ≡ without cmp (map_of_pairs cmp (all_pairs bins)) k
+  map_of_pairs-left_out [] k h = refl
+  map_of_pairs-left_out (b ∷ bins) k h = map_of_pairs-without o hash respects (b ∷ bins) k (omega arith) h

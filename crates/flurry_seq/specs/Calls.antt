@@ -4,7 +4,7 @@ use Rattle.std.specs.declared.cmp.Ordering.{Ordering}
 use Rattle.std.specs.Arc.{arc_value}
 use Rattle.std.specs.declared.sync.Arc.{Arc}
 use Rattle.std.specs.List.Sorted.{IsPermutation}
-use Rattle.flurry_bins.specs.declared.bin.choice.Shape.{Shape}
+use Rattle.flurry_bins.specs.declared.bin.adaptive.Shape.{Shape}
 use Rattle.flurry_model.specs.FiniteMap.{pair_at, with_all}
 use Rattle.flurry_model.specs.OneKey.{OneKey, Answers}
 use Rattle.flurry_model.specs.OneKey as one

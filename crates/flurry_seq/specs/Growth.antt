@@ -1,6 +1,7 @@
 -- How many bins a table may have after keys were put.
 use Rattle.std.specs.Prelude.{◌≡◌, ℕ, ◌+◌, ◌^◌, ◌<◌, ◌≤◌, ◌⊎◌, ◌==◌, if◌then◌else◌}
 use Rattle.flurry_model.specs.Sizes.{wanted_of, threshold_of, IsOnTheWay}
+use Rattle.flurry_model.specs.declared.sizes.TheConstants.{GREATEST_TABLE}
 
 -- the bins that a table has which is made for so many pairs; none for none
 abbrev pub bins_for : ℕ → ℕ
@@ -18,4 +19,4 @@ IsTableAfter n count m = (mid : ℕ) × IsTableFrom n count mid × IsOnTheWay mi
 
 -- n bins have room for so many pairs, and the count never has them doubled
 abbrev pub HasRoom : ℕ → ℕ → Type 0
-HasRoom n count = (count ≡ 0) ⊎ ((0 < n) × ((count < threshold_of n) ⊎ (2 ^ 30 ≤ n)))
+HasRoom n count = (count ≡ 0) ⊎ ((0 < n) × ((count < threshold_of n) ⊎ (2 ^ GREATEST_TABLE ≤ n)))

@@ -3,7 +3,7 @@ use Rattle.std.specs.Prelude.{◌≡◌, ℕ, Bool, List, [], ◌∷◌}
 use Rattle.std.specs.declared.cmp.Ordering.{Ordering}
 use Rattle.std.specs.Borrow.{Bor}
 use Rattle.std.specs.List.Sorted.{IsPermutation}
-use Rattle.flurry_model.specs.FiniteMap.{gathered}
+use Rattle.flurry_model.specs.FiniteMap.{map_of_pairs}
 use Rattle.flurry_model.specs.Keeping.{Keeps, CalledAtPair}
 use Rattle.flurry_seq.specs.Contents.{Contents, with_pairs}
 use Rattle.flurry_seq.specs.Table.{pair_of}
@@ -23,4 +23,4 @@ module _ {F K V : Type 0} (step : F → Bor K → Bor V → Bool → F → Type 
   -- The bins and the hasher stay
   abbrev pub Retains : {S : Type 0} → (K → K → Ordering) → F → Contents K V S → Contents K V S → Type 0
   Retains cmp first old new =
-      (order kept : List (K × V)) × (last : F) × IsPermutation old.pairs order × Keeps (CalledAtPair step) first order kept last × (new ≡ with_pairs old (gathered cmp kept))
+      (order kept : List (K × V)) × (last : F) × IsPermutation old.pairs order × Keeps (CalledAtPair step) first order kept last × (new ≡ with_pairs old (map_of_pairs cmp kept))

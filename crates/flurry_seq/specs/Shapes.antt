@@ -1,7 +1,7 @@
 -- What the shape of a bin says.
 use Rattle.std.specs.Prelude.{ℕ, ◌<◌, ◌≤◌}
-use Rattle.flurry_bins.specs.declared.bin.choice.Shape.{Shape}
-use Rattle.flurry_bins.specs.declared.bin.choice.Shape.TheVariants as shape
+use Rattle.flurry_bins.specs.declared.bin.adaptive.Shape.{Shape}
+use Rattle.flurry_bins.specs.declared.bin.adaptive.Shape.TheVariants as shape
 
 -- how many entries it has
 abbrev pub count_in : Shape → ℕ

@@ -279,7 +279,8 @@ impl<K: Ord + Drop, V: Drop, S: KeyHasher<K>, A: Allocator + Copy> SeqMap<K, V, 
             (λ f k v o. (x : Bor K) × (y : Bor V) × (x.now ≡ k) × (y.now ≡ v) × F.post f x y o) P.step)
             calls.items self.old replies.items self.new) }
         ensures err { OnErr result (EndsEarly
-            (CallAnswers K.cmp V.eq S.hash_of (λ f k v o. (x : Bor K) × (y : Bor V) × (x.now ≡ k) × (y.now ≡ v) × F.post f x y o) P.step)
+            (CallAnswers K.cmp V.eq S.hash_of
+            (λ f k v o. (x : Bor K) × (y : Bor V) × (x.now ≡ k) × (y.now ≡ v) × F.post f x y o) P.step)
             (CallRefused K.cmp) calls.items self.old self.new) }
     {
         let mut replies = Vec::with_capacity(alloc, calls.len())?;

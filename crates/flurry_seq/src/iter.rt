@@ -3,12 +3,12 @@ ghost use Rattle.std.specs.Prelude.{◌≡◌, length, map, IfSome, IsPermutatio
 ghost use Rattle.std.specs.Iterator.{YieldsFirstBy, UpTo, at_most, item_count};
 ghost use Rattle.std.specs.Iterator.SizeHint.{IsWithinCount};
 ghost use Rattle.flurry_bins.specs.Entries.{lent_bound};
-ghost use Rattle.flurry_model.specs.FiniteMap.{IsFiniteMap, gathered};
-ghost use Rattle.flurry_bins.specs.PlainEntries.{plain};
+ghost use Rattle.flurry_model.specs.FiniteMap.{IsFiniteMap, map_of_pairs};
+ghost use Rattle.flurry_bins.specs.PlainEntries.{pair_of_entry};
 ghost use Rattle.flurry_seq.specs.Iter.{pair_of_item, value_of_item, place_of};
 ghost use Rattle.flurry_seq.specs.Table.{all_entries, pair_of};
 ghost use Rattle.flurry_seq.specs.Apart.{AreApart, AreHashed};
-ghost use Rattle.flurry_seq.specs.Seen.{seen};
+ghost use Rattle.flurry_seq.specs.MapsOfBins.{maps_of_bins};
 
 use crate::seq_map::SeqMap;
 use flurry_bins::bin::{Bin, Entry, Ordered};
@@ -49,8 +49,8 @@ fn place_of_last<'a, K, V, A: Allocator>(last: Option<&'a Entry<K, V, A>>) -> Op
 
 impl<'a, K: Ord, V, A: Allocator> Entries<'a, K, V, A> {
     fn new(bins: &'a [Bin<K, V, A>], left: usize) -> Entries<'a, K, V, A>
-        requires { left ≡ length (all_entries (seen bins.now)) }
-        ensures { result ≡ all_entries (seen bins.now) }
+        requires { left ≡ length (all_entries (maps_of_bins bins.now)) }
+        ensures { result ≡ all_entries (maps_of_bins bins.now) }
     {
         Entries {
             bins,
@@ -63,7 +63,7 @@ impl<'a, K: Ord, V, A: Allocator> Entries<'a, K, V, A> {
 impl<'a, K: Ord + Drop, V: Drop, A: Allocator> Iterator for Entries<'a, K, V, A> {
     type Item = &'a Entry<K, V, A>;
 
-    ghost next_gives = { YieldsFirstBy (λ e. plain e.now) (λ it. it) };
+    ghost next_gives = { YieldsFirstBy (λ e. pair_of_entry e.now) (λ it. it) };
 
     ghost remaining = { item_count (λ it. it) };
 
@@ -226,7 +226,7 @@ impl<'a, K: Ord + Drop, V: Drop, A: Allocator> ExactSizeIterator for Values<'a, 
 impl<K: Ord + Drop, V: Drop, S: KeyHasher<K>, A: Allocator> SeqMap<K, V, S, A> {
     // The entries, in the order of the table.
     pub(crate) fn entries(&self) -> Entries<'_, K, V, A>
-        ensures pairs { gathered K.cmp (map pair_of result) ≡ self.now.pairs }
+        ensures pairs { map_of_pairs K.cmp (map pair_of result) ≡ self.now.pairs }
         ensures apart { AreApart K.cmp (map pair_of result) }
         ensures hashed { AreHashed (S.hash_of self.now.hasher) result }
         ensures permuted { IsPermutation self.now.pairs (map pair_of result) }

@@ -12,27 +12,25 @@ ghost use Rattle.flurry_seq.specs.HandedOut.{AreBinsOf};
 ghost use Rattle.flurry_seq.specs.Callable.{IsCallableAt};
 ghost use Rattle.flurry_seq.specs.Invariant.{IsTableSize};
 ghost use Rattle.flurry_seq.specs.Numbers.{BinsBearZero};
-ghost use Rattle.flurry_seq.specs.Seen.{seen};
+ghost use Rattle.flurry_seq.specs.MapsOfBins.{maps_of_bins};
 ghost use Rattle.flurry_seq.specs.Shapes.{count_in, IsFit};
 ghost use Rattle.flurry_seq.specs.Table.{bin_of};
 ghost use Rattle.flurry_seq.specs.Contents.{contents, with_pairs, SamePairs, asked_for, first_bins, IsLeftByReserve};
+ghost use Rattle.flurry_model.specs.declared.sizes.TheConstants.{FIRST_BINS, GREATEST_TABLE, MOST_PAIRS};
 
-mod keeping;
+mod retain;
 
 use crate::table::Table;
 use flurry_bins::bin::{Bin, Entry, Node, Shape};
+use flurry_bins::table::two_owners;
+use flurry_model::TryInsertError;
 use flurry_model::hash::{DefaultHashBuilder, KeyHasher};
-use flurry_bins::table::{MOST_BINS, TryInsertError, threshold, two_owners, wanted};
+pub use flurry_model::sizes::MOST_PAIRS;
+use flurry_model::sizes::{FIRST_BINS, MOST_BINS, threshold, wanted};
 use std::alloc::{AllocError, Allocator, Global};
 use std::hash::Hash;
 use std::marker::Model;
 use std::sync::Arc;
-
-/// The most pairs of a map. A further new key is refused as if memory were wanting.
-pub const MOST_PAIRS: usize = 1 << 62;
-
-// The bins of the table that a first insertion makes.
-const FIRST_BINS: usize = 16;
 
 /// A map that one owner has.
 ///
@@ -50,7 +48,7 @@ pub struct SeqMap<K: Ord, V, S: KeyHasher<K> = DefaultHashBuilder, A: Allocator 
 
 impl<K: Ord, V, S: KeyHasher<K>, A: Allocator> Model for SeqMap<K, V, S, A> {
     ghost use Rattle.std.specs.Prelude.{length};
-    ghost use Rattle.flurry_model.specs.FiniteMap.{gathered};
+    ghost use Rattle.flurry_model.specs.FiniteMap.{map_of_pairs};
     ghost use Rattle.flurry_seq.specs.Contents.{Contents, contents, contents_code};
     ghost use Rattle.flurry_seq.specs.Table.{all_pairs};
     ghost use Rattle.flurry_seq.specs.Invariant.{IsTable};
@@ -59,7 +57,7 @@ impl<K: Ord, V, S: KeyHasher<K>, A: Allocator> Model for SeqMap<K, V, S, A> {
 
     ghost coded = { contents_code K.code V.code S.code };
 
-    ghost view = { λ m. contents (gathered K.cmp (all_pairs m.table)) (length m.table) m.hasher };
+    ghost view = { λ m. contents (map_of_pairs K.cmp (all_pairs m.table)) (length m.table) m.hasher };
 
     ghost invariant = { λ m. IsTable K.cmp (S.hash_of m.hasher) m.table m.len };
 }
@@ -119,7 +117,7 @@ impl<K: Ord + Drop, V: Drop, S: KeyHasher<K>, A: Allocator> SeqMap<K, V, S, A> {
     pub fn len(&self) -> usize
         ensures pairs { result ≡ length self.now.pairs }
         ensures ascend { IsFiniteMap K.cmp self.now.pairs }
-        ensures few { result ≤ 2 ^ 62 }
+        ensures few { result ≤ MOST_PAIRS }
     {
         self.len
     }
@@ -141,7 +139,7 @@ impl<K: Ord + Drop, V: Drop, S: KeyHasher<K>, A: Allocator> SeqMap<K, V, S, A> {
         ensures bins { result ≡ self.now.bins }
         ensures ascend { IsFiniteMap K.cmp self.now.pairs }
         ensures size { IsTableSize result }
-        ensures most { result ≤ 2 ^ 30 }
+        ensures most { result ≤ 2 ^ GREATEST_TABLE }
     {
         self.table.len()
     }
@@ -211,7 +209,8 @@ impl<K: Ord + Drop, V: Drop, S: KeyHasher<K>, A: Allocator> SeqMap<K, V, S, A> {
     /// Constant time.
     pub fn shape_of(&self, hash: u64) -> Shape
         ensures count { count_in result
-            ≡ count_by (λ p. bin_of self.now.bins (S.hash_of self.now.hasher p.0) == bin_of self.now.bins hash) self.now.pairs }
+            ≡ count_by
+            (λ p. bin_of self.now.bins (S.hash_of self.now.hasher p.0) == bin_of self.now.bins hash) self.now.pairs }
         ensures fit { IsFit result }
         ensures ascend { IsFiniteMap K.cmp self.now.pairs }
     {
@@ -221,7 +220,7 @@ impl<K: Ord + Drop, V: Drop, S: KeyHasher<K>, A: Allocator> SeqMap<K, V, S, A> {
     /// Hands out the bins, by their index, and the hasher; no bins without a table. Each entry bears the write number 0. It takes no
     /// memory.
     pub fn into_bins(self) -> (Vec<Bin<K, V, A>, A>, S)
-        ensures bins { AreBinsOf K.cmp (S.hash_of self.hasher) self (seen result.0.items) }
+        ensures bins { AreBinsOf K.cmp (S.hash_of self.hasher) self (maps_of_bins result.0.items) }
         ensures numbers { BinsBearZero result.0.items }
         ensures hasher { result.1 ≡ self.hasher }
         ensures ascend { IsFiniteMap K.cmp self.pairs }
@@ -234,7 +233,7 @@ impl<K: Ord + Drop, V: Drop, S: KeyHasher<K>, A: Allocator> SeqMap<K, V, S, A> {
         (table.into_bins(), hasher)
     }
 
-    // The number that the hasher gives a key. Each call of one key makes this one first, and is told by it that the keys ascend.
+    // The hash of a key. Each call of one key makes this one first, and is told by it that the keys ascend.
     fn hash_of(&self, key: &K) -> u64
         ensures number { result ≡ S.hash_of self.now.hasher key.now }
         ensures ascend { IsFiniteMap K.cmp self.now.pairs }
@@ -292,7 +291,7 @@ impl<K: Ord + Drop, V: Drop, S: KeyHasher<K>, A: Allocator + Copy> SeqMap<K, V, 
         ensures hasher { self.new.hasher ≡ self.old.hasher }
         ensures bins { IfOk result (λ old. IsSome old → self.new.bins ≡ self.old.bins) }
         ensures grown { IfOk result (λ old. IsNone old
-            → IsTableAfter (first_bins self.old.bins 16) (length self.new.pairs) self.new.bins) }
+            → IsTableAfter (first_bins self.old.bins FIRST_BINS) (length self.new.pairs) self.new.bins) }
         ensures err { OnErr result (self.new ≡ self.old) }
         ensures ascend { IsFiniteMap K.cmp self.old.pairs }
     {
@@ -320,9 +319,10 @@ impl<K: Ord + Drop, V: Drop, S: KeyHasher<K>, A: Allocator + Copy> SeqMap<K, V, 
     ) -> Result<Result<Arc<V, A>, TryInsertError<V, A>>, AllocError>
         ensures reply { IfOk result (λ reply. MatchOption (value_at K.cmp self.old.pairs key)
             (IsOkAnd reply (λ new. arc_value new ≡ value) × (self.new.pairs ≡ with_pair K.cmp self.old.pairs key value))
-            (λ current. IsErrAnd reply (λ e. (arc_value e.current ≡ current) × (e.not_inserted ≡ value)) × (self.new ≡ self.old))) }
+            (λ current. IsErrAnd reply (λ e. (arc_value e.current ≡ current) × (e.not_inserted ≡ value))
+            × (self.new ≡ self.old))) }
         ensures grown { IfOk result (λ reply. IsOk reply
-            → IsTableAfter (first_bins self.old.bins 16) (length self.new.pairs) self.new.bins) }
+            → IsTableAfter (first_bins self.old.bins FIRST_BINS) (length self.new.pairs) self.new.bins) }
         ensures hasher { self.new.hasher ≡ self.old.hasher }
         ensures err { OnErr result (self.new ≡ self.old) }
         ensures ascend { IsFiniteMap K.cmp self.old.pairs }
@@ -363,7 +363,8 @@ impl<K: Ord + Drop, V: Drop, S: KeyHasher<K>, A: Allocator + Copy> SeqMap<K, V, 
             × MatchOption answer
             ((result ≡ Ok None) × (self.new ≡ with_pairs self.old (without K.cmp self.old.pairs key.now)))
             (λ w. MatchResult result
-            (λ r. (option_map arc_value r ≡ Some w) × (self.new ≡ with_pairs self.old (with_pair K.cmp self.old.pairs key.now w)))
+            (λ r. (option_map arc_value r ≡ Some w)
+            × (self.new ≡ with_pairs self.old (with_pair K.cmp self.old.pairs key.now w)))
             (λ _. self.new ≡ self.old))) }
         ensures hasher { self.new.hasher ≡ self.old.hasher }
         ensures err { OnErr result (self.new ≡ self.old) }
@@ -437,7 +438,8 @@ impl<K: Ord + Drop, V: Drop, S: KeyHasher<K>, A: Allocator + Copy> SeqMap<K, V, 
         ensures err { OnErr result ((front rest : List (K × V)) × (list.items ≡ front ++ rest)
             × (self.new.pairs ≡ with_all K.cmp self.old.pairs front)) }
         ensures room { (n : ℕ) → HasRoom n (length self.old.pairs + length list.items)
-            → IsTableFrom n (length self.old.pairs) self.old.bins → OnOk result (IsTableFrom n (length self.new.pairs) self.new.bins) }
+            → IsTableFrom n (length self.old.pairs) self.old.bins
+            → OnOk result (IsTableFrom n (length self.new.pairs) self.new.bins) }
     {
         for (key, value) in list {
             self.insert(key, value)?;
@@ -452,7 +454,8 @@ impl<K: Ord + Drop, V: Drop, S: KeyHasher<K>, A: Allocator + Copy> SeqMap<K, V, 
         requires number { (entry_of node.value).number ≡ 0 }
         ensures pairs { let e = entry_of node.value in
             OnOk result (self.new.pairs ≡ with_pair K.cmp self.old.pairs (arc_value e.key) (arc_value e.value)) }
-        ensures bins { OnOk result (IsTableAfter (first_bins self.old.bins 16) (length self.new.pairs) self.new.bins) }
+        ensures bins { OnOk result
+            (IsTableAfter (first_bins self.old.bins FIRST_BINS) (length self.new.pairs) self.new.bins) }
         ensures hasher { self.new.hasher ≡ self.old.hasher }
         ensures err { OnErr result (self.new ≡ self.old) }
     {
@@ -470,7 +473,7 @@ impl<K: Ord + Drop, V: Drop, S: KeyHasher<K>, A: Allocator + Copy> SeqMap<K, V, 
         requires number { (entry_of node.value).number ≡ 0 }
         ensures pairs { let e = entry_of node.value in
             OnOk result (self.new.pairs ≡ with_pair K.cmp self.old.pairs (arc_value e.key) (arc_value e.value)) }
-        ensures bins { OnOk result (self.new.bins ≡ first_bins self.old.bins 16) }
+        ensures bins { OnOk result (self.new.bins ≡ first_bins self.old.bins FIRST_BINS) }
         ensures asks { IfOk result (λ asks. IsTrue asks → (self.new.bins < 64) × (8 < length self.new.pairs)) }
         ensures table { OnOk result (0 < self.new.bins) }
         ensures hasher { self.new.hasher ≡ self.old.hasher }
@@ -490,7 +493,7 @@ impl<K: Ord + Drop, V: Drop, S: KeyHasher<K>, A: Allocator + Copy> SeqMap<K, V, 
         requires { 0 < self.old.bins }
         ensures same { SamePairs self.old self.new }
         ensures way { IsOnTheWay self.old.bins least self.new.bins }
-        ensures ok { OnOk result ((least ≤ threshold_of self.new.bins) ⊎ (2 ^ 30 ≤ self.new.bins)) }
+        ensures ok { OnOk result ((least ≤ threshold_of self.new.bins) ⊎ (2 ^ GREATEST_TABLE ≤ self.new.bins)) }
     {
         while threshold(self.capacity()) < least && self.capacity() < MOST_BINS {
             self.double()?;
@@ -514,7 +517,7 @@ impl<K: Ord + Drop, V: Drop, S: KeyHasher<K>, A: Allocator + Copy> SeqMap<K, V, 
     // Moves the pairs to a table of twice as many bins.
     fn double(&mut self) -> Result<(), AllocError>
         requires table { 0 < self.old.bins }
-        requires less { self.old.bins < 2 ^ 30 }
+        requires less { self.old.bins < 2 ^ GREATEST_TABLE }
         ensures ok { OnOk result (self.new ≡ contents self.old.pairs (2 * self.old.bins) self.old.hasher) }
         ensures err { OnErr result (self.new ≡ self.old) }
     {

@@ -5,18 +5,20 @@ ghost use Rattle.std.specs.Option.{option_map};
 ghost use Rattle.std.specs.Arc.{arc_value};
 ghost use Rattle.flurry_bins.specs.Chain.{entry_of};
 ghost use Rattle.flurry_bins.specs.Bin.{entries_of_bin};
-ghost use Rattle.flurry_bins.specs.Entries.{entry_at, placed};
-ghost use Rattle.flurry_bins.specs.PlainEntries.{plain};
+ghost use Rattle.flurry_bins.specs.Entries.{entry_at, with_entry};
+ghost use Rattle.flurry_bins.specs.PlainEntries.{pair_of_entry};
 ghost use Rattle.flurry_seq.specs.Invariant.{IsTableSize};
 ghost use Rattle.flurry_seq.specs.Numbers.{BinsBearZero};
-ghost use Rattle.flurry_seq.specs.Seen.{seen};
+ghost use Rattle.flurry_seq.specs.MapsOfBins.{maps_of_bins};
 ghost use Rattle.flurry_seq.specs.Shapes.{count_in, IsFit};
 ghost use Rattle.flurry_seq.specs.Table.{bin_of, bin_at, entry_in, bins_with, bins_without, bins_doubled};
+ghost use Rattle.flurry_model.specs.declared.sizes.TheConstants.{GREATEST_TABLE, MOST_PAIRS};
 
-mod keeping;
+mod retain;
 
 use flurry_bins::bin::{Bin, Entry, Node, Ordered, Shape};
-use flurry_bins::table::{bin_index, put_in_table};
+use flurry_bins::table::put_in_table;
+use flurry_model::sizes::bin_index;
 use std::alloc::{AllocError, Allocator};
 use std::marker::Model;
 use std::mem;
@@ -29,13 +31,13 @@ pub(crate) struct Table<K: Ord, V, A: Allocator> {
 
 impl<K: Ord, V, A: Allocator> Model for Table<K, V, A> {
     ghost use Rattle.std.specs.Prelude.{ℕ, List, length};
-    ghost use Rattle.flurry_seq.specs.Seen.{seen};
+    ghost use Rattle.flurry_seq.specs.MapsOfBins.{maps_of_bins};
     ghost use Rattle.flurry_seq.specs.Invariant.{IsTableSize};
     ghost use Rattle.flurry_seq.specs.Numbers.{BinsBearZero};
 
     ghost Value = { List (List ((ℕ × K) × V)) };
 
-    ghost view = { λ t. seen t.bins.items };
+    ghost view = { λ t. maps_of_bins t.bins.items };
 
     ghost invariant = { λ t. IsTableSize (length t.bins.items) × BinsBearZero t.bins.items };
 }
@@ -66,7 +68,7 @@ impl<K: Ord + Drop, V: Drop, A: Allocator> Table<K, V, A> {
 
     // The bins in their order.
     pub(crate) fn bins(&self) -> &[Bin<K, V, A>]
-        ensures { seen result.now ≡ self.now }
+        ensures { maps_of_bins result.now ≡ self.now }
     {
         self.bins.as_slice()
     }
@@ -80,7 +82,7 @@ impl<K: Ord + Drop, V: Drop, A: Allocator> Table<K, V, A> {
 
     // The entry of a hash and a key.
     pub(crate) fn find(&self, hash: u64, key: &K) -> Option<&Entry<K, V, A>>
-        ensures { option_map (λ e. plain e.now) result ≡ entry_in K.cmp self.now hash key.now }
+        ensures { option_map (λ e. pair_of_entry e.now) result ≡ entry_in K.cmp self.now hash key.now }
     {
         if self.bins.is_empty() {
             return None;
@@ -103,7 +105,7 @@ impl<K: Ord + Drop, V: Drop, A: Allocator> Table<K, V, A> {
 
     // Hands out the bins.
     pub(crate) fn into_bins(self) -> Vec<Bin<K, V, A>, A>
-        ensures bins { seen result.items ≡ self }
+        ensures bins { maps_of_bins result.items ≡ self }
         ensures numbers { BinsBearZero result.items }
     {
         let Table { bins } = self;
@@ -125,7 +127,7 @@ impl<K: Ord + Drop, V: Drop, A: Allocator> Table<K, V, A> {
     pub(crate) fn put(&mut self, node: Box<Node<K, V, A>, A>) -> bool
         requires table { 0 < length self.old }
         requires number { (entry_of node.value).number ≡ 0 }
-        requires room { length (bin_at self.old (entry_of node.value).hash) < 2 ^ 62 }
+        requires room { length (bin_at self.old (entry_of node.value).hash) < MOST_PAIRS }
         requires absent { let e = entry_of node.value in entry_in K.cmp self.old e.hash (arc_value e.key) ≡ None }
         ensures after { let e = entry_of node.value in
             self.new ≡ bins_with K.cmp self.old e.hash (arc_value e.key) (arc_value e.value) }
@@ -140,7 +142,7 @@ impl<K: Ord + Drop, V: Drop, A: Allocator> Table<K, V, A> {
 
     // Takes a key's entry out of its bin.
     pub(crate) fn remove(&mut self, hash: u64, key: &K) -> Option<Entry<K, V, A>>
-        ensures entry { option_map plain result ≡ entry_in K.cmp self.old hash key.now }
+        ensures entry { option_map pair_of_entry result ≡ entry_in K.cmp self.old hash key.now }
         ensures after { self.new ≡ bins_without K.cmp self.old hash key.now }
     {
         if self.bins.is_empty() {
@@ -183,7 +185,7 @@ impl<K: Ord + Drop, V: Drop, A: Allocator + Copy> Table<K, V, A> {
     // Makes twice as many bins, and moves each entry to its own.
     pub(crate) fn double(&mut self) -> Result<(), AllocError>
         requires some { 0 < length self.old }
-        requires less { length self.old < 2 ^ 30 }
+        requires less { length self.old < 2 ^ GREATEST_TABLE }
         ensures ok { OnOk result (self.new ≡ bins_doubled self.old) }
         ensures err { OnErr result (self.new ≡ self.old) }
     {
@@ -198,7 +200,7 @@ fn halve<K: Ord + Drop, V: Drop, A: Allocator>(bins: &mut Vec<Bin<K, V, A>, A>)
     requires size { IsTableSize (length bins.old.items) }
     requires some { 0 < length bins.old.items }
     requires room { 2 * length bins.old.items ≤ vec_capacity bins.old }
-    ensures bins { seen bins.new.items ≡ bins_doubled (seen bins.old.items) }
+    ensures bins { maps_of_bins bins.new.items ≡ bins_doubled (maps_of_bins bins.old.items) }
     ensures numbers { BinsBearZero bins.old.items → BinsBearZero bins.new.items }
 {
     let count = bins.len();

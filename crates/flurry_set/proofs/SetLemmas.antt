@@ -11,10 +11,10 @@ use Rattle.std.specs.Map.{keys_of}
 use Rattle.std.specs.List.{AllByRecursion, list_all}
 use Rattle.std.proofs.lemmas.List.Sorted.{IsPermutation-map}
 use Rattle.std.proofs.lemmas.Map.Keys.{sorted_head, sorted_tail}
-use Rattle.flurry_model.specs.FiniteMap.{IsFiniteMap, pair_at, value_at, with_pair, without, gathered}
-use Rattle.flurry_model.specs.FiniteSet.{element_at, with_element, with_elements, without_element, gathered_elements, IsSubset, AreDisjoint}
+use Rattle.flurry_model.specs.FiniteMap.{IsFiniteMap, pair_at, value_at, with_pair, without, map_of_pairs}
+use Rattle.flurry_model.specs.FiniteSet.{element_at, with_element, with_elements, without_element, set_of_elements, IsSubset, AreDisjoint}
 use Rattle.flurry_model.specs.Keeping.{Keeps, CalledAtPair}
-use Rattle.flurry_model.proofs.FiniteMapLaws.{below_all, alike_all, pair_at_below, IsFiniteMap-with_pair, IsFiniteMap-gathered}
+use Rattle.flurry_model.proofs.FiniteMapLaws.{below_all, alike_all, pair_at_below, IsFiniteMap-with_pair, IsFiniteMap-map_of_pairs}
 use Rattle.flurry_seq.specs.Contents.{Contents}
 use Rattle.flurry_seq.specs.Equality.{pair_eq}
 use Rattle.flurry_seq.specs.Retain.{Retains}
@@ -224,11 +224,11 @@ same_set_refused cmp TryClone s = refl
 same_set_refused cmp Clear s = refl
 same_set_refused cmp (Reserve a) s = ((refl, refl), inl refl)
 
-pub gathered_elements-keys : {K V : Type 0} {cmp : K → K → Ordering} (o : IsTotalOrder cmp) (ps : List (K × V)) → gathered_elements cmp (keys_of ps) ≡ keys_of (gathered cmp ps)
-gathered_elements-keys o [] = refl
-gathered_elements-keys {cmp = cmp} o (p ∷ ps) =
-    ap (λ s. with_element cmp (without_element cmp s p.0) p.0) (gathered_elements-keys o ps) ∙ ap (λ s. with_element cmp s p.0) (without_element-keys o (gathered cmp ps) p.0 (IsFiniteMap-gathered o ps))
-    ∙ with_element-keys cmp (without cmp (gathered cmp ps) p.0) p.0 p.1
+pub set_of_elements-keys : {K V : Type 0} {cmp : K → K → Ordering} (o : IsTotalOrder cmp) (ps : List (K × V)) → set_of_elements cmp (keys_of ps) ≡ keys_of (map_of_pairs cmp ps)
+set_of_elements-keys o [] = refl
+set_of_elements-keys {cmp = cmp} o (p ∷ ps) =
+    ap (λ s. with_element cmp (without_element cmp s p.0) p.0) (set_of_elements-keys o ps) ∙ ap (λ s. with_element cmp s p.0) (without_element-keys o (map_of_pairs cmp ps) p.0 (IsFiniteMap-map_of_pairs o ps))
+    ∙ with_element-keys cmp (without cmp (map_of_pairs cmp ps) p.0) p.0 p.1
 
 module _ {F G K V : Type 0} (step : F → Bor K → Bool → F → Type 0) (call : G → Bor K → Bor V → Bool → G → Type 0) (inner : G → F)
     (steps : (f : G) (k : Bor K) (v : Bor V) (answer : Bool) (next : G) → call f k v answer next → step (inner f) k answer (inner next)) where
@@ -255,8 +255,8 @@ module _ {F G K V : Type 0} (step : F → Bor K → Bool → F → Type 0) (call
     inner h.2,
     IsPermutation-map (λ p. p.0) m.pairs h.0 h.3,
     kept_keys first h.0 h.1 h.2 h.4,
-    ap keys_in h.5 ∙ ap (λ xs. set_contents xs m.bins m.hasher) (sym (gathered_elements-keys o h.1)),
+    ap keys_in h.5 ∙ ap (λ xs. set_contents xs m.bins m.hasher) (sym (set_of_elements-keys o h.1)),
   )
 
   pub IsFiniteMap-retained : {S : Type 0} {cmp : K → K → Ordering} (o : IsTotalOrder cmp) (first : G) (m n : Contents K V S) → Retains call cmp first m n → IsFiniteMap cmp n.pairs
-  IsFiniteMap-retained o first m n h = rw h.5 (IsFiniteMap-gathered o h.1)
+  IsFiniteMap-retained o first m n h = rw h.5 (IsFiniteMap-map_of_pairs o h.1)

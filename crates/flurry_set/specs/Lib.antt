@@ -2,11 +2,11 @@ pub mod SetCalls
 pub mod SetContents
 pub mod SetKinds
 pub mod SetRetain
-pub use Rattle.flurry_bins.specs.FiniteMap
-pub use Rattle.flurry_bins.specs.FiniteSet
-pub use Rattle.flurry_bins.specs.Hashing
-pub use Rattle.flurry_bins.specs.Keeping
-pub use Rattle.flurry_bins.specs.Sizes
+pub use Rattle.flurry_model.specs.FiniteMap
+pub use Rattle.flurry_model.specs.FiniteSet
+pub use Rattle.flurry_model.specs.Hashing
+pub use Rattle.flurry_model.specs.Keeping
+pub use Rattle.flurry_model.specs.Sizes
 pub use Rattle.flurry_seq.specs.CallLists
 pub use Rattle.flurry_seq.specs.Contents
 pub use Rattle.flurry_seq.specs.Growth

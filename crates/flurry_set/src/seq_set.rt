@@ -9,8 +9,9 @@ ghost use Rattle.flurry_seq.specs.Contents.{first_bins, IsLeftByReserve};
 ghost use Rattle.flurry_seq.specs.Growth.{bins_for, IsTableFrom, IsTableAfter, HasRoom};
 ghost use Rattle.flurry_set.specs.SetContents.{set_contents, holding, SameElements, asked_for, sets_eq, sets_eq_per, sets_eq_equiv};
 ghost use Rattle.flurry_set.specs.SetRetain.{RetainsElements};
+ghost use Rattle.flurry_model.specs.declared.sizes.TheConstants.{FIRST_BINS, MOST_PAIRS};
 
-use flurry_bins::hash::{DefaultHashBuilder, KeyHasher};
+use flurry_model::hash::{DefaultHashBuilder, KeyHasher};
 use flurry_seq::{Keys, SeqMap};
 use std::alloc::{AllocError, Allocator, Global};
 use std::hash::Hash;
@@ -28,7 +29,7 @@ pub struct SeqSet<T: Ord, S: KeyHasher<T> = DefaultHashBuilder, A: Allocator = G
 }
 
 impl<T: Ord, S: KeyHasher<T>, A: Allocator> Model for SeqSet<T, S, A> {
-    ghost use Rattle.flurry_bins.specs.FiniteMap.{IsFiniteMap};
+    ghost use Rattle.flurry_model.specs.FiniteMap.{IsFiniteMap};
     ghost use Rattle.flurry_set.specs.SetContents.{SetContents, keys_in, set_contents_code};
 
     ghost Value = { SetContents T S };
@@ -93,7 +94,7 @@ impl<T: Ord + Drop, S: KeyHasher<T>, A: Allocator> SeqSet<T, S, A> {
     pub fn len(&self) -> usize
         ensures elements { result ≡ length self.now.elements }
         ensures ascend { IsFiniteSet T.cmp self.now.elements }
-        ensures few { result ≤ 2 ^ 62 }
+        ensures few { result ≤ MOST_PAIRS }
     {
         self.map.len()
     }
@@ -224,7 +225,8 @@ impl<T: Ord + Drop, S: KeyHasher<T>, A: Allocator + Copy> SeqSet<T, S, A> {
     ) -> Result<Self, AllocError>
     where
         S: Drop,
-        ensures empty { IfOk result (λ s. s ≡ set_contents [] (if capacity == 0 then 0 else wanted_of capacity) hasher) }
+        ensures empty { IfOk result
+            (λ s. s ≡ set_contents [] (if capacity == 0 then 0 else wanted_of capacity) hasher) }
         ensures ascend { IfOk result (λ s. IsFiniteSet T.cmp s.elements) }
     {
         let map = SeqMap::with_capacity_and_hasher(alloc, capacity, hasher)?;
@@ -244,7 +246,7 @@ impl<T: Ord + Drop, S: KeyHasher<T>, A: Allocator + Copy> SeqSet<T, S, A> {
         ensures hasher { self.new.hasher ≡ self.old.hasher }
         ensures bins { IfOk result (λ new. IsTrue (not new) → self.new.bins ≡ self.old.bins) }
         ensures grown { IfOk result (λ new. IsTrue new
-            → IsTableAfter (first_bins self.old.bins 16) (length self.new.elements) self.new.bins) }
+            → IsTableAfter (first_bins self.old.bins FIRST_BINS) (length self.new.elements) self.new.bins) }
         ensures err { OnErr result (self.new ≡ self.old) }
         ensures ascend { IsFiniteSet T.cmp self.old.elements }
     {
@@ -299,7 +301,8 @@ impl<T: Ord + Drop, S: KeyHasher<T>, A: Allocator + Copy> SeqSet<T, S, A> {
         ensures err { OnErr result ((front rest : List T) × (list.items ≡ front ++ rest)
             × (self.new.elements ≡ with_elements T.cmp self.old.elements front)) }
         ensures room { (n : ℕ) → HasRoom n (length self.old.elements + length list.items)
-            → IsTableFrom n (length self.old.elements) self.old.bins → OnOk result (IsTableFrom n (length self.new.elements) self.new.bins) }
+            → IsTableFrom n (length self.old.elements) self.old.bins
+            → OnOk result (IsTableFrom n (length self.new.elements) self.new.bins) }
     {
         for element in list {
             self.insert(element)?;

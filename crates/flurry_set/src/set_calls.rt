@@ -3,7 +3,7 @@ ghost use Rattle.std.specs.Prelude.{OnErr, IfOk};
 ghost use Rattle.flurry_seq.specs.CallLists.{RunsTo, EndsEarly};
 
 use crate::seq_set::SeqSet;
-use flurry_bins::hash::{DefaultHashBuilder, KeyHasher};
+use flurry_model::hash::{DefaultHashBuilder, KeyHasher};
 use flurry_seq::owners::{owner_of, owners_of_keys};
 use std::alloc::{AllocError, Allocator, Global};
 use std::collections::VecDeque;
@@ -203,7 +203,8 @@ impl<T: Ord + Drop, S: KeyHasher<T>, A: Allocator + Copy> SeqSet<T, S, A> {
         S: Copy + Drop,
         P: Drop,
         requires { (p : P) → P.IsAlwaysCallable p }
-        ensures ok { IfOk result (λ replies. RunsTo (SetCallAnswers T.cmp P.step) calls.items self.old replies.items self.new) }
+        ensures ok { IfOk result
+            (λ replies. RunsTo (SetCallAnswers T.cmp P.step) calls.items self.old replies.items self.new) }
         ensures err { OnErr result (EndsEarly (SetCallAnswers T.cmp P.step) (SetCallRefused T.cmp)
             calls.items self.old self.new) }
     {

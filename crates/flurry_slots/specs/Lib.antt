@@ -1,4 +1,4 @@
-pub mod Change
+pub mod ComputeFn
 pub mod LiveView
 pub mod Slot
 pub mod SlotView

@@ -6,18 +6,19 @@ use Rattle.std.specs.List.{AllByRecursion, find, filter}
 use Rattle.std.specs.Map.{keys_of}
 use Rattle.std.specs.Int.{bit_at}
 use Rattle.flurry_model.specs.FiniteMap.{IsFiniteMap, pair_at, with_pair, without}
-use Rattle.flurry_model.specs.HashOrder.{hash_then_key, is_held_past}
+use Rattle.flurry_model.specs.HashOrder.{hash_then_key, is_pair_past}
 use Rattle.flurry_model.specs.BinSizes.{IsSized, grows_into_tree, asks_for_growth}
 use Rattle.flurry_model.specs.HashOrder.{InRegion}
+use Rattle.flurry_model.specs.declared.sizes.TheConstants.{GREATEST_TABLE, LEAST_IN_TREE}
 
--- an entry: at a hash and a key, the value and the number of its write
-abbrev pub Held : Type 0 → Type 0 → Type 0
-Held K V = (ℕ × K) × (V × ℕ)
+-- an entry: at a hash and a key, the value and its write number
+abbrev pub PlainEntry : Type 0 → Type 0 → Type 0
+PlainEntry K V = (ℕ × K) × (V × ℕ)
 
 -- a bin that is live: its entries are a finite map whose key is the hash and the key; it is a list or a tree; and so many values
 -- were written to it
 pub record Live (K V : Type 0) : Type 0 where
-  pub held : List (Held K V)
+  pub held : List (PlainEntry K V)
   pub tree : Bool
   pub writes : ℕ
 
@@ -34,44 +35,44 @@ pub record Place (K V : Type 0) : Type 0 where
   pub content : Content K V
 
 -- what a computation at a live bin did
-pub data Outcome (V : Type 0) : Type 0 where
-  WasAbsent : Outcome V
-  WasRemoved : Outcome V
-  WasChanged : V → Outcome V
+pub data ComputeOutcome (V : Type 0) : Type 0 where
+  WasAbsent : ComputeOutcome V
+  WasRemoved : ComputeOutcome V
+  WasChanged : V → ComputeOutcome V
 
--- the number of the next write: one more, up to the greatest number
+-- the next write number: one more, up to the greatest number
 abbrev pub next_number : ℕ → ℕ
 next_number n = min (n + 1) (2 ^ 64 - 1)
 
 module _ {K V : Type 0} where
   -- the bin with other entries, fewer: a tree of fewer than seven is a list
-  abbrev pub shrunk : Live K V → List (Held K V) → Live K V
-  shrunk b held = record { held = held; tree = b.tree && nat_le 7 (length held); writes = b.writes }
+  abbrev pub with_fewer : Live K V → List (PlainEntry K V) → Live K V
+  with_fewer b held = record { held = held; tree = b.tree && nat_le LEAST_IN_TREE (length held); writes = b.writes }
 
   -- the entries whose hash has this bit at this place, as a bin with the same count of writes
   abbrev pub half : ℕ → ℕ → Live K V → Live K V
-  half place bit b = shrunk b (filter (λ e. bit_at e.0.0 place == bit) b.held)
+  half place bit b = with_fewer b (filter (λ e. bit_at e.0.0 place == bit) b.held)
 
   -- no entry is left; the count of writes stays
-  abbrev pub wiped : Live K V → Live K V
-  wiped b = record { held = []; tree = false; writes = b.writes }
+  abbrev pub after_wipe : Live K V → Live K V
+  after_wipe b = record { held = []; tree = false; writes = b.writes }
 
   module _ (cmp : K → K → Ordering) where
     -- the entry of a hash and a key
-    abbrev pub entry_of_live : Live K V → ℕ → K → Option (Held K V)
+    abbrev pub entry_of_live : Live K V → ℕ → K → Option (PlainEntry K V)
     entry_of_live b h k = pair_at (hash_then_key cmp) b.held (h, k)
 
     -- its value
     abbrev pub value_of_live : Live K V → ℕ → K → Option V
-    value_of_live b h k = option_map (λ (e : Held K V). e.1.0) (entry_of_live b h k)
+    value_of_live b h k = option_map (λ (e : PlainEntry K V). e.1.0) (entry_of_live b h k)
 
     -- the first entry past a bound, or with no bound the first
-    abbrev pub next_of_live : Option (ℕ × K) → Live K V → Option (Held K V)
-    next_of_live bound b = find (is_held_past cmp bound) b.held
+    abbrev pub next_of_live : Option (ℕ × K) → Live K V → Option (PlainEntry K V)
+    next_of_live bound b = find (is_pair_past cmp bound) b.held
 
     -- in a table of so many bins: a value is written; the key that is stored stays, and a new one comes to its place
-    abbrev pub written : ℕ → Live K V → ℕ → K → V → Live K V
-    written bins b h k v = record {
+    abbrev pub after_write : ℕ → Live K V → ℕ → K → V → Live K V
+    after_write bins b h k v = record {
       held = with_pair (hash_then_key cmp) b.held (h, k) (v, next_number b.writes);
       tree = if is_none (entry_of_live b h k) then grows_into_tree bins b.tree (length b.held) else b.tree;
       writes = next_number b.writes;
@@ -82,43 +83,43 @@ module _ {K V : Type 0} where
     asks bins b h k = is_none (entry_of_live b h k) && asks_for_growth bins b.tree (length b.held)
 
     -- what a write answers: the value before, and that
-    abbrev pub written_reply : ℕ → Live K V → ℕ → K → Option V × Bool
-    written_reply bins b h k = (value_of_live b h k, asks bins b h k)
+    abbrev pub write_reply : ℕ → Live K V → ℕ → K → Option V × Bool
+    write_reply bins b h k = (value_of_live b h k, asks bins b h k)
 
     -- the bin without the entry of a hash and a key
-    abbrev pub taken : Live K V → ℕ → K → Live K V
-    taken b h k = shrunk b (without (hash_then_key cmp) b.held (h, k))
+    abbrev pub after_take : Live K V → ℕ → K → Live K V
+    after_take b h k = with_fewer b (without (hash_then_key cmp) b.held (h, k))
 
     -- a value is written where the key is absent
-    abbrev pub added : ℕ → Live K V → ℕ → K → V → Live K V
-    added bins b h k v = if is_none (entry_of_live b h k) then written bins b h k v else b
+    abbrev pub after_add : ℕ → Live K V → ℕ → K → V → Live K V
+    after_add bins b h k v = if is_none (entry_of_live b h k) then after_write bins b h k v else b
 
     -- what that answers: the new value, and whether a larger table is asked for; or the value that stands, and the new one
-    abbrev pub added_reply : ℕ → Live K V → ℕ → K → V → Result (V × Bool) (V × V)
-    added_reply bins b h k v = option_map_or (λ current. Err (current, v)) (value_of_live b h k) (Ok (v, asks bins b h k))
+    abbrev pub add_reply : ℕ → Live K V → ℕ → K → V → Result (V × Bool) (V × V)
+    add_reply bins b h k v = option_map_or (λ current. Err (current, v)) (value_of_live b h k) (Ok (v, asks bins b h k))
 
     -- the entry bears this number, which is below the greatest: its value is the one that was seen with the number
     abbrev pub is_unwritten_since : ℕ → Live K V → ℕ → K → Bool
-    is_unwritten_since n b h k = option_map_or (λ (e : Held K V). e.1.1 == n && nat_lt n (2 ^ 64 - 1)) (entry_of_live b h k) false
+    is_unwritten_since n b h k = option_map_or (λ (e : PlainEntry K V). e.1.1 == n && nat_lt n (2 ^ 64 - 1)) (entry_of_live b h k) false
 
     -- it is taken exactly then
-    abbrev pub taken_if : ℕ → Live K V → ℕ → K → Live K V
-    taken_if n b h k = if is_unwritten_since n b h k then taken b h k else b
+    abbrev pub after_take_if : ℕ → Live K V → ℕ → K → Live K V
+    after_take_if n b h k = if is_unwritten_since n b h k then after_take b h k else b
 
-    abbrev pub taken_if_reply : ℕ → Live K V → ℕ → K → Option (Held K V)
-    taken_if_reply n b h k = if is_unwritten_since n b h k then entry_of_live b h k else None
+    abbrev pub take_if_reply : ℕ → Live K V → ℕ → K → Option (PlainEntry K V)
+    take_if_reply n b h k = if is_unwritten_since n b h k then entry_of_live b h k else None
 
     -- `changes k v o` says that the function may answer o at the pair of k and v. It is called once, on a pair that is there; what
     -- it answers is written, and where it answers none the pair is taken out.
     module _ (changes : K → V → Option V → Type 0) where
-      abbrev pub Computes : ℕ → Live K V → ℕ → K → Outcome V → Live K V → Type 0
+      abbrev pub Computes : ℕ → Live K V → ℕ → K → ComputeOutcome V → Live K V → Type 0
       Computes bins b h k WasAbsent c = (entry_of_live b h k ≡ None) × (c ≡ b)
-      Computes bins b h k WasRemoved c = (e : Held K V) × (entry_of_live b h k ≡ Some e) × changes e.0.1 e.1.0 None × (c ≡ taken b h k)
-      Computes bins b h k (WasChanged w) c = (e : Held K V) × (entry_of_live b h k ≡ Some e) × changes e.0.1 e.1.0 (Some w) × (c ≡ written bins b h k w)
+      Computes bins b h k WasRemoved c = (e : PlainEntry K V) × (entry_of_live b h k ≡ Some e) × changes e.0.1 e.1.0 None × (c ≡ after_take b h k)
+      Computes bins b h k (WasChanged w) c = (e : PlainEntry K V) × (entry_of_live b h k ≡ Some e) × changes e.0.1 e.1.0 (Some w) × (c ≡ after_write bins b h k w)
 
       -- memory was wanting for what the function answered
       abbrev pub ComputesInVain : Live K V → ℕ → K → Type 0
-      ComputesInVain b h k = (e : Held K V) × (w : V) × (entry_of_live b h k ≡ Some e) × changes e.0.1 e.1.0 (Some w)
+      ComputesInVain b h k = (e : PlainEntry K V) × (w : V) × (entry_of_live b h k ≡ Some e) × changes e.0.1 e.1.0 (Some w)
 
   -- a hash lies in the region of the slot
   abbrev pub LiesIn : ℕ → Place K V → Type 0
@@ -129,8 +130,8 @@ module _ {K V : Type 0} where
   content_with f (IsLive b) = IsLive (f b)
   content_with f c = c
 
-  abbrev pub place_with : (Live K V → Live K V) → Place K V → Place K V
-  place_with f p = record p { content = content_with f p.content }
+  abbrev pub slot_with : (Live K V → Live K V) → Place K V → Place K V
+  slot_with f p = record p { content = content_with f p.content }
 
   -- the bin at the slot is live, and this holds of it
   abbrev pub IfLive : Content K V → (Live K V → Type 0) → Type 0
@@ -169,11 +170,11 @@ module _ {K V : Type 0} where
   -- the largest table moves no bin
   abbrev pub IsContent : (K → K → Ordering) → ℕ → ℕ → Content K V → Type 0
   IsContent cmp table index (IsLive b) = IsLiveIn cmp table index b
-  IsContent cmp table index HasMoved = table < 30
+  IsContent cmp table index HasMoved = table < GREATEST_TABLE
   IsContent cmp table index IsUnborn = ⊤
 
   -- what each slot keeps
   pub record IsSlot (cmp : K → K → Ordering) (p : Place K V) : Type 0 where
-    pub table : p.table ≤ 30
+    pub table : p.table ≤ GREATEST_TABLE
     pub index : p.index < 2 ^ p.table
     pub content : IsContent cmp p.table p.index p.content

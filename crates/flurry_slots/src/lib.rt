@@ -5,11 +5,11 @@
 //! since the bin moved or is not there yet. Contracts see a slot as plain data.
 #![tactic(auto)]
 
-pub mod change;
 pub mod clones;
+pub mod compute_fn;
 pub(crate) mod live;
 pub mod slot;
 
-pub use change::{Change, NoChange};
+pub use compute_fn::{ComputeFn, NoFn};
 pub use live::{Added, Computed, Written};
 pub use slot::{Answer, MoveAnswer, Receipt, Slot};

@@ -4,19 +4,19 @@ ghost use Rattle.std.specs.Option.{option_map};
 ghost use Rattle.std.specs.Arc.{arc_value};
 ghost use Rattle.flurry_bins.specs.Chain.{entry_of};
 ghost use Rattle.flurry_bins.specs.Entries.{lent_bound};
-ghost use Rattle.flurry_bins.specs.PlainEntries.{numbered};
-ghost use Rattle.flurry_slots.specs.Slot.{half, wiped, next_number, entry_of_live, value_of_live, next_of_live, written, written_reply, asks, taken, added, added_reply, taken_if, taken_if_reply, Computes, ComputesInVain};
-ghost use Rattle.flurry_slots.specs.LiveView.{live_of, written_view, added_view, outcome, IfAbsent};
+ghost use Rattle.flurry_bins.specs.PlainEntries.{numbered_pair};
+ghost use Rattle.flurry_slots.specs.Slot.{half, after_wipe, next_number, entry_of_live, value_of_live, next_of_live, after_write, write_reply, asks, after_take, after_add, add_reply, after_take_if, take_if_reply, Computes, ComputesInVain};
+ghost use Rattle.flurry_slots.specs.LiveView.{live_of, view_of_written, view_of_added, outcome, IfAbsent};
+ghost use Rattle.flurry_model.specs.declared.sizes.TheConstants.{MOST_PAIRS};
 
-use crate::change::Change;
+use crate::compute_fn::ComputeFn;
 use flurry_bins::bin::{Bin, BoxedNode, Entry, Node, Ordered};
-use flurry_bins::table::{TryInsertError, put_in_table, two_owners};
+use flurry_bins::table::{put_in_table, two_owners};
+use flurry_model::TryInsertError;
+use flurry_model::sizes::MOST_PAIRS;
 use std::alloc::{AllocError, Allocator};
 use std::marker::Model;
 use std::sync::Arc;
-
-// No bin has more entries. A further one is refused as if memory were wanting, which no memory reaches.
-const MOST_ENTRIES: usize = 1 << 62;
 
 /// What a write did.
 #[derive(Drop)]
@@ -77,13 +77,13 @@ impl<K: Ord + Drop, V: Drop, A: Allocator> LiveBin<K, V, A> {
     }
 
     pub(crate) fn find(&self, hash: u64, key: &K) -> Option<&Entry<K, V, A>>
-        ensures { option_map (λ e. numbered e.now) result ≡ entry_of_live K.cmp self.now hash key.now }
+        ensures { option_map (λ e. numbered_pair e.now) result ≡ entry_of_live K.cmp self.now hash key.now }
     {
         self.bin.find(hash, key).0
     }
 
     pub(crate) fn next_after(&self, bound: Option<(u64, &K)>) -> Option<&Entry<K, V, A>>
-        ensures { option_map (λ e. numbered e.now) result ≡ next_of_live K.cmp (lent_bound bound.entry) self.now }
+        ensures { option_map (λ e. numbered_pair e.now) result ≡ next_of_live K.cmp (lent_bound bound.entry) self.now }
     {
         self.bin.next_after(bound)
     }
@@ -92,29 +92,29 @@ impl<K: Ord + Drop, V: Drop, A: Allocator> LiveBin<K, V, A> {
     fn rewrite(&mut self, bins: usize, hash: u64, key: &K, value: Arc<V, A>) -> Arc<V, A>
         requires { IsSome (entry_of_live K.cmp self.old hash key.now) }
         ensures old { value_of_live K.cmp self.old hash key.now ≡ Some (arc_value result) }
-        ensures after { self.new ≡ written K.cmp bins self.old hash key.now (arc_value value) }
+        ensures after { self.new ≡ after_write K.cmp bins self.old hash key.now (arc_value value) }
     {
         self.writes = self.writes.saturating_add(1);
         self.bin.replace(hash, key, value, self.writes)
     }
 
-    // Puts in a node, of the next number, whose hash and key are not there. Answers whether a larger table is asked for.
+    // Puts in a node, of the next write number, whose hash and key are not there. Answers whether a larger table is asked for.
     fn add(&mut self, bins: usize, node: BoxedNode<K, V, A>) -> bool
         requires absent { let e = entry_of node.value in entry_of_live K.cmp self.old e.hash (arc_value e.key) ≡ None }
-        requires room { length self.old.held < 2 ^ 62 }
+        requires room { length self.old.held < MOST_PAIRS }
         requires number { (entry_of node.value).number ≡ next_number self.old.writes }
         ensures asks { let e = entry_of node.value in
             result ≡ asks K.cmp bins self.old e.hash (arc_value e.key) }
         ensures after { let e = entry_of node.value in
-            self.new ≡ written K.cmp bins self.old e.hash (arc_value e.key) (arc_value e.value) }
+            self.new ≡ after_write K.cmp bins self.old e.hash (arc_value e.key) (arc_value e.value) }
     {
         self.writes = self.writes.saturating_add(1);
         put_in_table(&mut self.bin, node, bins)
     }
 
     pub(crate) fn take(&mut self, hash: u64, key: &K) -> Option<Entry<K, V, A>>
-        ensures entry { option_map numbered result ≡ entry_of_live K.cmp self.old hash key.now }
-        ensures after { self.new ≡ taken K.cmp self.old hash key.now }
+        ensures entry { option_map numbered_pair result ≡ entry_of_live K.cmp self.old hash key.now }
+        ensures after { self.new ≡ after_take K.cmp self.old hash key.now }
     {
         match self.bin.remove(hash, key) {
             Some(node) => Some(Box::into_inner(node).into_entry()),
@@ -123,8 +123,8 @@ impl<K: Ord + Drop, V: Drop, A: Allocator> LiveBin<K, V, A> {
     }
 
     pub(crate) fn take_if(&mut self, hash: u64, key: &K, number: u64) -> Option<Entry<K, V, A>>
-        ensures entry { option_map numbered result ≡ taken_if_reply K.cmp number self.old hash key.now }
-        ensures after { self.new ≡ taken_if K.cmp number self.old hash key.now }
+        ensures entry { option_map numbered_pair result ≡ take_if_reply K.cmp number self.old hash key.now }
+        ensures after { self.new ≡ after_take_if K.cmp number self.old hash key.now }
     {
         let entry = self.find(hash, key)?;
         if entry.number == number && number < u64::MAX {
@@ -136,7 +136,7 @@ impl<K: Ord + Drop, V: Drop, A: Allocator> LiveBin<K, V, A> {
 
     pub(crate) fn wipe(&mut self) -> usize
         ensures count { result ≡ length self.old.held }
-        ensures after { self.new ≡ wiped self.old }
+        ensures after { self.new ≡ after_wipe self.old }
     {
         let count = self.len();
         self.bin = Bin::new();
@@ -176,9 +176,9 @@ impl<K: Ord + Drop, V: Drop, A: Allocator + Copy> LiveBin<K, V, A> {
         ensures key { IfOk result (λ b. arc_value (entry_of b.value).key ≡ key) }
         ensures value { IfOk result (λ b. arc_value (entry_of b.value).value ≡ value) }
         ensures number { IfOk result (λ b. (entry_of b.value).number ≡ next_number self.now.writes) }
-        ensures room { IfOk result (λ b. length self.now.held < 2 ^ 62) }
+        ensures room { IfOk result (λ b. length self.now.held < MOST_PAIRS) }
     {
-        if self.len() >= MOST_ENTRIES {
+        if self.len() >= MOST_PAIRS {
             return Err(AllocError);
         }
         Node::of_pair(alloc, hash, key, value, self.writes.saturating_add(1))
@@ -192,8 +192,8 @@ impl<K: Ord + Drop, V: Drop, A: Allocator + Copy> LiveBin<K, V, A> {
         key: K,
         value: V,
     ) -> Result<Written<V, A>, AllocError>
-        ensures reply { IfOk result (λ w. written_view w ≡ written_reply K.cmp bins self.old hash key) }
-        ensures after { OnOk result (self.new ≡ written K.cmp bins self.old hash key value) }
+        ensures reply { IfOk result (λ w. view_of_written w ≡ write_reply K.cmp bins self.old hash key) }
+        ensures after { OnOk result (self.new ≡ after_write K.cmp bins self.old hash key value) }
         ensures refused { OnErr result (self.new ≡ self.old) }
     {
         if self.find(hash, &key).is_some() {
@@ -218,8 +218,8 @@ impl<K: Ord + Drop, V: Drop, A: Allocator + Copy> LiveBin<K, V, A> {
         key: K,
         value: V,
     ) -> Result<Result<Added<V, A>, TryInsertError<V, A>>, AllocError>
-        ensures reply { IfOk result (λ r. added_view r ≡ added_reply K.cmp bins self.old hash key value) }
-        ensures after { OnOk result (self.new ≡ added K.cmp bins self.old hash key value) }
+        ensures reply { IfOk result (λ r. view_of_added r ≡ add_reply K.cmp bins self.old hash key value) }
+        ensures after { OnOk result (self.new ≡ after_add K.cmp bins self.old hash key value) }
         ensures refused { OnErr result (self.new ≡ self.old) }
     {
         if let Some(entry) = self.find(hash, &key) {
@@ -238,7 +238,7 @@ impl<K: Ord + Drop, V: Drop, A: Allocator + Copy> LiveBin<K, V, A> {
         }))
     }
 
-    pub(crate) fn compute<F: Change<K, V>>(
+    pub(crate) fn compute<F: ComputeFn<K, V>>(
         &mut self,
         alloc: A,
         bins: usize,

@@ -4,14 +4,15 @@ ghost use Rattle.std.specs.Option.{option_map};
 ghost use Rattle.flurry_bins.specs.Bin.{entries_of_bin};
 ghost use Rattle.flurry_bins.specs.Entries.{lent_bound};
 ghost use Rattle.flurry_model.specs.Greatest.{greatest};
-ghost use Rattle.flurry_slots.specs.LiveView.{live_of, written_view, added_view, outcome, IfAbsent};
-ghost use Rattle.flurry_bins.specs.PlainEntries.{numbered};
+ghost use Rattle.flurry_slots.specs.LiveView.{live_of, view_of_written, view_of_added, outcome, IfAbsent};
+ghost use Rattle.flurry_bins.specs.PlainEntries.{numbered_pair};
 ghost use Rattle.flurry_bins.specs.PlainEntries.{AllInRegion};
-ghost use Rattle.flurry_slots.specs.Slot.{Place, IsLive, HasMoved, IsUnborn, IsSlot, LiesIn, IfLive, place_with, entry_of_live, next_of_live, written, written_reply, added, added_reply, taken, taken_if, taken_if_reply, wiped, Computes, ComputesInVain, HasMovedInto, Clashes};
+ghost use Rattle.flurry_slots.specs.Slot.{Place, IsLive, HasMoved, IsUnborn, IsSlot, LiesIn, IfLive, slot_with, entry_of_live, next_of_live, after_write, write_reply, after_add, add_reply, after_take, after_take_if, take_if_reply, after_wipe, Computes, ComputesInVain, HasMovedInto, Clashes};
 ghost use Rattle.flurry_slots.specs.SlotView.{place_of, answer_with, answer_map, IfHere, IfAway, IsAway, IfDone, IfAlready, IfClash, IfNotDone};
+ghost use Rattle.flurry_model.specs.declared.sizes.TheConstants.{GREATEST_TABLE};
 
-use crate::change::Change;
 use crate::clones::{Cloning, NoCloning};
+use crate::compute_fn::ComputeFn;
 use crate::live::{Added, Computed, LiveBin, Written};
 use flurry_bins::bin::{Bin, Entry};
 use flurry_model::try_insert::TryInsertError;
@@ -104,10 +105,15 @@ impl<K: Ord + Drop, V: Drop, A: Allocator> Slot<K, V, A> {
     /// The slot of a bin whose hashes lie in its region. Its count of writes is the greatest write number in the bin, 0 for an
     /// empty one. Linear time.
     pub fn live(table: u8, index: usize, bin: Bin<K, V, A>) -> Self
-        requires table { table ≤ 30 }
+        requires table { table ≤ GREATEST_TABLE }
         requires index { index < 2 ^ table }
         requires region { AllInRegion table index (entries_of_bin bin) }
-        ensures { result ≡ record { table = table; index = index; content = IsLive (live_of bin (greatest (map (λ e. e.number) (entries_of_bin bin)))) } }
+        ensures { result ≡ record {
+          table = table;
+          index = index;
+          content = IsLive
+              (live_of bin (greatest (map (λ e. e.number) (entries_of_bin bin))));
+        } }
     {
         let writes = bin.greatest_number();
         Slot::live_at(table, index, bin, writes)
@@ -116,7 +122,7 @@ impl<K: Ord + Drop, V: Drop, A: Allocator> Slot<K, V, A> {
     /// The slot of a bin whose hashes lie in its region, with a count of writes, which no write number in the bin exceeds. Constant
     /// time.
     pub fn live_at(table: u8, index: usize, bin: Bin<K, V, A>, writes: u64) -> Self
-        requires table { table ≤ 30 }
+        requires table { table ≤ GREATEST_TABLE }
         requires index { index < 2 ^ table }
         requires region { AllInRegion table index (entries_of_bin bin) }
         requires count { greatest (map (λ e. e.number) (entries_of_bin bin)) ≤ writes }
@@ -131,7 +137,7 @@ impl<K: Ord + Drop, V: Drop, A: Allocator> Slot<K, V, A> {
 
     /// A slot that waits for its bin. Constant time.
     pub fn unborn(table: u8, index: usize) -> Self
-        requires table { table ≤ 30 }
+        requires table { table ≤ GREATEST_TABLE }
         requires index { index < 2 ^ table }
         ensures { result ≡ record { table = table; index = index; content = IsUnborn } }
     {
@@ -156,7 +162,7 @@ impl<K: Ord + Drop, V: Drop, A: Allocator> Slot<K, V, A> {
         }
     }
 
-    /// The number of the table, which has 2 to that power bins, and the index there. Constant time.
+    /// The exponent of the table, which has 2 to that power bins, and the index there. Constant time.
     pub fn at(&self) -> (u8, usize)
         ensures at { (result.0 ≡ self.now.table) × (result.1 ≡ self.now.index) }
         ensures within { IsSlot K.cmp self.now }
@@ -167,7 +173,8 @@ impl<K: Ord + Drop, V: Drop, A: Allocator> Slot<K, V, A> {
     /// The entry of a hash and a key, if there is one. As many steps as a look-up in the bin.
     pub fn find(&self, hash: u64, key: &K) -> Answer<Option<&Entry<K, V, A>>, ()>
         requires { LiesIn hash self.now }
-        ensures reply { answer_map (option_map (λ e. numbered e.now)) result ≡ answer_with self.now.content (λ b. entry_of_live K.cmp b hash key.now) tt }
+        ensures reply { answer_map (option_map (λ e. numbered_pair e.now)) result
+            ≡ answer_with self.now.content (λ b. entry_of_live K.cmp b hash key.now) tt }
         ensures within { IsSlot K.cmp self.now }
     {
         match &self.state {
@@ -179,7 +186,8 @@ impl<K: Ord + Drop, V: Drop, A: Allocator> Slot<K, V, A> {
 
     /// The first entry past a bound, or with no bound the first. As many steps as a look-up in the bin.
     pub fn next_after(&self, bound: Option<(u64, &K)>) -> Answer<Option<&Entry<K, V, A>>, ()>
-        ensures reply { answer_map (option_map (λ e. numbered e.now)) result ≡ answer_with self.now.content (λ b. next_of_live K.cmp (lent_bound bound.entry) b) tt }
+        ensures reply { answer_map (option_map (λ e. numbered_pair e.now)) result
+            ≡ answer_with self.now.content (λ b. next_of_live K.cmp (lent_bound bound.entry) b) tt }
         ensures within { IsSlot K.cmp self.now }
     {
         match &self.state {
@@ -193,8 +201,9 @@ impl<K: Ord + Drop, V: Drop, A: Allocator> Slot<K, V, A> {
     /// Takes the entry of a hash and a key out, if there is one. As many steps as a look-up in the bin; takes no memory.
     pub fn take(&mut self, hash: u64, key: &K) -> Answer<Option<Entry<K, V, A>>, ()>
         requires { LiesIn hash self.old }
-        ensures reply { answer_map (option_map numbered) result ≡ answer_with self.old.content (λ b. entry_of_live K.cmp b hash key.now) tt }
-        ensures after { self.new ≡ place_with (λ b. taken K.cmp b hash key.now) self.old }
+        ensures reply { answer_map (option_map numbered_pair) result
+            ≡ answer_with self.old.content (λ b. entry_of_live K.cmp b hash key.now) tt }
+        ensures after { self.new ≡ slot_with (λ b. after_take K.cmp b hash key.now) self.old }
         ensures within { IsSlot K.cmp self.old }
     {
         match &mut self.state {
@@ -209,8 +218,9 @@ impl<K: Ord + Drop, V: Drop, A: Allocator> Slot<K, V, A> {
     /// many steps as a look-up in the bin; takes no memory.
     pub fn take_if(&mut self, hash: u64, key: &K, number: u64) -> Answer<Option<Entry<K, V, A>>, ()>
         requires { LiesIn hash self.old }
-        ensures reply { answer_map (option_map numbered) result ≡ answer_with self.old.content (λ b. taken_if_reply K.cmp number b hash key.now) tt }
-        ensures after { self.new ≡ place_with (λ b. taken_if K.cmp number b hash key.now) self.old }
+        ensures reply { answer_map (option_map numbered_pair) result
+            ≡ answer_with self.old.content (λ b. take_if_reply K.cmp number b hash key.now) tt }
+        ensures after { self.new ≡ slot_with (λ b. after_take_if K.cmp number b hash key.now) self.old }
         ensures within { IsSlot K.cmp self.old }
     {
         match &mut self.state {
@@ -224,7 +234,7 @@ impl<K: Ord + Drop, V: Drop, A: Allocator> Slot<K, V, A> {
     /// Takes all entries out, and answers how many there were. Linear time; takes no memory.
     pub fn wipe(&mut self) -> Answer<usize, ()>
         ensures reply { result ≡ answer_with self.old.content (λ b. length b.held) tt }
-        ensures after { self.new ≡ place_with wiped self.old }
+        ensures after { self.new ≡ slot_with after_wipe self.old }
         ensures within { IsSlot K.cmp self.old }
     {
         match &mut self.state {
@@ -239,8 +249,11 @@ impl<K: Ord + Drop, V: Drop, A: Allocator> Slot<K, V, A> {
     /// at the same index, and the others into the high half, as many bins further on as this table has. Both take the count of
     /// writes over. Linear time; takes no memory.
     pub fn move_into(&mut self, low: &mut Self, high: &mut Self) -> MoveAnswer
-        ensures done { IfDone result (λ r. (r ≡ (self.old.table, self.old.index)) × HasMovedInto self.old low.old high.old self.new low.new high.new) }
-        ensures already { IfAlready result (λ r. (r ≡ (self.old.table, self.old.index)) × (self.old.content ≡ HasMoved)) }
+        ensures done { IfDone result
+            (λ r. (r ≡ (self.old.table, self.old.index))
+            × HasMovedInto self.old low.old high.old self.new low.new high.new) }
+        ensures already { IfAlready result
+            (λ r. (r ≡ (self.old.table, self.old.index)) × (self.old.content ≡ HasMoved)) }
         ensures clash { IfClash result (Clashes self.old low.old high.old) }
         ensures same { IfNotDone result ((self.new ≡ self.old) × ((low.new ≡ low.old) × (high.new ≡ high.old))) }
         ensures within { IsSlot K.cmp self.old }
@@ -309,8 +322,11 @@ impl<K: Ord + Drop, V: Drop, A: Allocator + Copy> Slot<K, V, A> {
         value: V,
     ) -> Result<Answer<Written<V, A>, (K, V)>, AllocError>
         requires { LiesIn hash self.old }
-        ensures reply { IfOk result (λ a. answer_map written_view a ≡ answer_with self.old.content (λ b. written_reply K.cmp (2 ^ self.old.table) b hash key) (key, value)) }
-        ensures after { OnOk result (self.new ≡ place_with (λ b. written K.cmp (2 ^ self.old.table) b hash key value) self.old) }
+        ensures reply { IfOk result
+            (λ a. answer_map view_of_written a
+            ≡ answer_with self.old.content (λ b. write_reply K.cmp (2 ^ self.old.table) b hash key) (key, value)) }
+        ensures after { OnOk result
+            (self.new ≡ slot_with (λ b. after_write K.cmp (2 ^ self.old.table) b hash key value) self.old) }
         ensures refused { OnErr result (self.new ≡ self.old) }
         ensures only_live { OnErr result (IfLive self.old.content (λ _. ⊤)) }
         ensures within { IsSlot K.cmp self.old }
@@ -339,8 +355,11 @@ impl<K: Ord + Drop, V: Drop, A: Allocator + Copy> Slot<K, V, A> {
         value: V,
     ) -> Result<Answer<Result<Added<V, A>, TryInsertError<V, A>>, (K, V)>, AllocError>
         requires { LiesIn hash self.old }
-        ensures reply { IfOk result (λ a. answer_map added_view a ≡ answer_with self.old.content (λ b. added_reply K.cmp (2 ^ self.old.table) b hash key value) (key, value)) }
-        ensures after { OnOk result (self.new ≡ place_with (λ b. added K.cmp (2 ^ self.old.table) b hash key value) self.old) }
+        ensures reply { IfOk result
+            (λ a. answer_map view_of_added a
+            ≡ answer_with self.old.content (λ b. add_reply K.cmp (2 ^ self.old.table) b hash key value) (key, value)) }
+        ensures after { OnOk result
+            (self.new ≡ slot_with (λ b. after_add K.cmp (2 ^ self.old.table) b hash key value) self.old) }
         ensures refused { OnErr result (self.new ≡ self.old) }
         ensures only_live { OnErr result (IfLive self.old.content (λ _. ⊤)) }
         ensures within { IsSlot K.cmp self.old }
@@ -362,7 +381,7 @@ impl<K: Ord + Drop, V: Drop, A: Allocator + Copy> Slot<K, V, A> {
     ///
     /// [`AllocError`], where memory for the new value, or for its further owner, is wanting. The function was called; the value that
     /// it computed is dropped, and the bin is as it was.
-    pub fn compute<F: Change<K, V>>(
+    pub fn compute<F: ComputeFn<K, V>>(
         &mut self,
         alloc: A,
         hash: u64,
@@ -374,10 +393,12 @@ impl<K: Ord + Drop, V: Drop, A: Allocator + Copy> Slot<K, V, A> {
         ensures back { IfOk result (λ a. IsAway a self.old.content f) }
         ensures absent { IfOk result (λ a. IfHere a (λ c. IfAbsent c (λ g. g ≡ f))) }
         ensures here { IfOk result (λ a. IfHere a (λ c. IfLive self.old.content (λ b. IfLive self.new.content (λ d.
-            Computes K.cmp (F.changes f) (2 ^ self.old.table) b hash key.now (outcome c) d × (self.new ≡ place_with (λ _. d) self.old))))) }
+            Computes K.cmp (F.changes f) (2 ^ self.old.table) b hash key.now (outcome c) d
+            × (self.new ≡ slot_with (λ _. d) self.old))))) }
         ensures same { IfOk result (λ a. IfAway a (self.new ≡ self.old)) }
         ensures refused { OnErr result (self.new ≡ self.old) }
-        ensures in_vain { OnErr result (IfLive self.old.content (λ b. ComputesInVain K.cmp (F.changes f) b hash key.now)) }
+        ensures in_vain { OnErr result
+            (IfLive self.old.content (λ b. ComputesInVain K.cmp (F.changes f) b hash key.now)) }
         ensures within { IsSlot K.cmp self.old }
     {
         let bins = 1usize << self.table;

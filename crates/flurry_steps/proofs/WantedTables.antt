@@ -1,4 +1,4 @@
--- The number of the table for so many pairs.
+-- The exponent of the table for so many pairs.
 use Rattle.std.proofs.Common.{◌≡◌, ℕ, suc, ◌+◌, ◌*◌, ◌/◌, ◌^◌, ◌<◌, ◌≤◌, length, arith, ap, sym, ◌∙◌, inl, inr, lit≤}
 use Rattle.std.specs.Int.Digits.{digits_of}
 use Rattle.std.proofs.lemmas.Bool.{cases_lt, cases_order}
@@ -8,6 +8,7 @@ use Rattle.std.proofs.Math.Nat.{pow-suc}
 use Rattle.std.proofs.Math.Pow.{pow_mono}
 use Rattle.flurry_model.specs.Sizes.{wanted_of}
 use Rattle.flurry_model.proofs.SizeLaws.{wanted_of-less, wanted_of-most}
+use Rattle.flurry_model.specs.declared.sizes.TheConstants.{GREATEST_TABLE}
 
 -- a power of two between a power of two and twice that is the lower one
 same_power : (r e : ℕ) → 2 ^ r ≤ 2 ^ e → 2 ^ e < 2 * 2 ^ r → r ≡ e
@@ -18,14 +19,14 @@ same_power r e low high = elim (cases_order r e) [
 ]
 
 -- the bins that are wanted are a power of two, at most 2^30
-wanted_power : (s : ℕ) → (e : ℕ) × (e ≤ 30) × (wanted_of s ≡ 2 ^ e)
+wanted_power : (s : ℕ) → (e : ℕ) × (e ≤ GREATEST_TABLE) × (wanted_of s ≡ 2 ^ e)
 wanted_power s = elim (cases_lt s (2 ^ 29)) [
-  | inl lt ↦ (length (digits_of 2 (s + s / 2)), length-digits_of-le 2 30 (s + s / 2) (lit≤ tt) (omega arith), wanted_of-less s lt)
-  | inr ge ↦ (30, lit≤ tt, wanted_of-most s ge)
+  | inl lt ↦ (length (digits_of 2 (s + s / 2)), length-digits_of-le 2 GREATEST_TABLE (s + s / 2) (lit≤ tt) (omega arith), wanted_of-less s lt)
+  | inr ge ↦ (GREATEST_TABLE, lit≤ tt, wanted_of-most s ge)
 ]
 
 -- the bins that are wanted, between a power of two and twice that, are that power
-pub wanted_number : (s r : ℕ) → 2 ^ r ≤ wanted_of s → wanted_of s < 2 * 2 ^ r → (r ≤ 30) × (2 ^ r ≡ wanted_of s)
+pub wanted_number : (s r : ℕ) → 2 ^ r ≤ wanted_of s → wanted_of s < 2 * 2 ^ r → (r ≤ GREATEST_TABLE) × (2 ^ r ≡ wanted_of s)
 wanted_number s r low high =
     let (e, small, is) = wanted_power s in
     let same : r ≡ e = same_power r e (rw is at low) (rw is at high) in

@@ -1,5 +1,6 @@
 -- Ranges of bins of a table that is being moved into the next one.
 use Rattle.std.specs.Prelude.{ℕ, ◌-◌, ◌^◌, ◌<◌, ◌≤◌, ◌==◌, nat_lt, Bool, Option, Some, None, if◌then◌else◌}
+use Rattle.flurry_model.specs.declared.sizes.TheConstants.{GREATEST_TABLE}
 
 -- the bins of the table of 2^table bins from `low` to below `high`, of which those from `left` on have moved
 pub record Range : Type 0 where
@@ -10,7 +11,7 @@ pub record Range : Type 0 where
 
 -- there is a next table, and the range has a bin and lies in its table
 pub record IsRange (r : Range) : Type 0 where
-  pub table : r.table < 30
+  pub table : r.table < GREATEST_TABLE
   pub some : r.low < r.high
   pub low : r.low ≤ r.left
   pub left : r.left ≤ r.high

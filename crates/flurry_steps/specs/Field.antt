@@ -2,17 +2,18 @@
 use Rattle.std.specs.Prelude.{◌≡◌, ◌⊎◌, ℕ, ◌≤◌, Bool, true, Option, MatchOption}
 use Rattle.std.specs.declared.cmp.Ordering.{Ordering}
 use Rattle.flurry_slots.specs.Slot.{Place, IsSlot}
-use Rattle.flurry_steps.specs.Control.{Board}
-use Rattle.flurry_steps.specs.Party.{Course, Part, ControlPart, LookPart, BinPart, MovePart, NoPart, with_stage, wanted_part, locates, started}
+use Rattle.flurry_steps.specs.Control.{ControlState}
+use Rattle.flurry_steps.specs.Party.{PartyState, Part, ControlPart, LookPart, BinPart, MovePart, NoPart, with_stage, wanted_part, locates, started_stage}
 use Rattle.flurry_steps.specs.PartyControl.{ControlStep}
 use Rattle.flurry_steps.specs.PartySlots.{SlotStep, MoveStep}
 use Rattle.flurry_steps.specs.declared.party.Event.{Event}
 use Rattle.flurry_steps.specs.declared.party.Event.TheVariants as event
+use Rattle.flurry_model.specs.declared.sizes.TheConstants.{GREATEST_TABLE}
 
 -- what is lent to one step, before and after that step
 pub data Loan (K V R : Type 0) : Type 0 where
   -- the control, and the room where tables are made
-  ControlLoan : (board : Board) (room : R) (board' : Board) (room' : R) → Loan K V R
+  ControlLoan : (control_state : ControlState) (room : R) (board' : ControlState) (room' : R) → Loan K V R
   -- a table where the call may begin, in the control's place
   StartLoan : (table : ℕ) → Loan K V R
   -- a slot to read
@@ -24,37 +25,37 @@ pub data Loan (K V R : Type 0) : Type 0 where
 
 module _ {K V F R : Type 0} (place : R → ℕ → Bool → Bool → R → Type 0) (cmp : K → K → Ordering) (changes : F → K → V → Option V → Type 0) where
   -- the step of p with that loan, which is of the part that p wants: a call that asks for the published table may also be told a table
-  abbrev pub StepWith : Loan K V R → Course K V F → Event → Course K V F → Type 0
+  abbrev pub StepWith : Loan K V R → PartyState K V F → Event → PartyState K V F → Type 0
   StepWith (ControlLoan b r b' r') p ev p' = (wanted_part p ≡ ControlPart) × ControlStep place p b r ev p' b' r'
-  StepWith (StartLoan d) p ev p' = (locates p.stage ≡ true) × (d ≤ 30) × (ev ≡ event.Silent) × (p' ≡ with_stage p (started d p.stage))
+  StepWith (StartLoan d) p ev p' = (locates p.stage ≡ true) × (d ≤ GREATEST_TABLE) × (ev ≡ event.Silent) × (p' ≡ with_stage p (started_stage d p.stage))
   StepWith (LookLoan q) p ev p' = (wanted_part p ≡ LookPart q.table q.index) × IsSlot cmp q × SlotStep cmp changes p q ev p' q
   StepWith (BinLoan q q') p ev p' = (wanted_part p ≡ BinPart q.table q.index) × IsSlot cmp q × SlotStep cmp changes p q ev p' q'
   StepWith (MoveLoan q low high q' low' high') p ev p' =
       (wanted_part p ≡ MovePart q.table q.index) × IsSlot cmp q × MoveStep p q low high ev p' q' low' high'
 
   -- one step of p, with one loan of the field
-  pub record Turn {S : Type 0} (lends : S → Loan K V R → S → Type 0) (s : S) (p : Course K V F) (ev : Event) (s' : S) (p' : Course K V F) : Type 0 where
+  pub record Turn {S : Type 0} (lends : S → Loan K V R → S → Type 0) (s : S) (p : PartyState K V F) (ev : Event) (s' : S) (p' : PartyState K V F) : Type 0 where
     pub loan : Loan K V R
     pub lent : lends s loan s'
     pub step : StepWith loan p ev p'
 
 -- the call and the field stay, since the field lacks the part
-pub record Stays {S K V F : Type 0} (lacks : S → Part → Type 0) (s : S) (p : Course K V F) (s' : S) (p' : Course K V F) : Type 0 where
+pub record Stays {S K V F : Type 0} (lacks : S → Part → Type 0) (s : S) (p : PartyState K V F) (s' : S) (p' : PartyState K V F) : Type 0 where
   pub lacked : lacks s (wanted_part p)
   pub field : s' ≡ s
   pub party : p' ≡ p
 
 -- the call and the field stay, since the call is done or the field lacks the part
-pub record StaysOrDone {S K V F : Type 0} (lacks : S → Part → Type 0) (s : S) (p : Course K V F) (s' : S) (p' : Course K V F) : Type 0 where
+pub record StaysOrDone {S K V F : Type 0} (lacks : S → Part → Type 0) (s : S) (p : PartyState K V F) (s' : S) (p' : PartyState K V F) : Type 0 where
   pub lacked : (wanted_part p ≡ NoPart) ⊎ lacks s (wanted_part p)
   pub field : s' ≡ s
   pub party : p' ≡ p
 
 module _ {S K V F R : Type 0} (place : R → ℕ → Bool → Bool → R → Type 0) (cmp : K → K → Ordering) (changes : F → K → V → Option V → Type 0) (lends : S → Loan K V R → S → Type 0) (lacks : S → Part → Type 0) where
   -- what a field does with a call that wants a part: it lends the part to one step of the call, or both stay
-  abbrev pub TurnsOrStays : S → Course K V F → Option Event → S → Course K V F → Type 0
+  abbrev pub TurnsOrStays : S → PartyState K V F → Option Event → S → PartyState K V F → Type 0
   TurnsOrStays s p o s' p' = MatchOption o (Stays lacks s p s' p') (λ ev. Turn place cmp changes lends s p ev s' p')
 
   -- what `act` does: one step of the call, or both stay
-  abbrev pub ActsOrStays : S → Course K V F → Option Event → S → Course K V F → Type 0
+  abbrev pub ActsOrStays : S → PartyState K V F → Option Event → S → PartyState K V F → Type 0
   ActsOrStays s p o s' p' = MatchOption o (StaysOrDone lacks s p s' p') (λ ev. Turn place cmp changes lends s p ev s' p')

@@ -1,11 +1,12 @@
 -- A call of a shared map in progress, as plain data.
-use Rattle.std.specs.Prelude.{◌≡◌, ℕ, ◌-◌, ◌%◌, ◌^◌, ◌≤◌, Bool, true, false, Option, Some, None, is_some, ⊤}
+use Rattle.std.specs.Prelude.{◌≡◌, ℕ, ◌+◌, ◌-◌, ◌%◌, ◌^◌, ◌≤◌, Bool, true, false, Option, Some, None, is_some, ⊤}
 use Rattle.std.specs.Option.{option_map}
 use Rattle.flurry_model.specs.Sizes.{wanted_of}
-use Rattle.flurry_slots.specs.Slot.{Held}
+use Rattle.flurry_slots.specs.Slot.{PlainEntry}
 use Rattle.flurry_model.specs.declared.reply.KeptReply.{KeptReply}
 use Rattle.flurry_model.specs.declared.reply.KeptReply.TheVariants.{Value, Pair, Contains}
 use Rattle.flurry_steps.specs.Claim.{Range, next_of}
+use Rattle.flurry_model.specs.declared.sizes.TheConstants.{GREATEST_TABLE}
 
 -- what of the entry of a key a call answers: its value, the stored key and the value, or whether there is one
 pub data Sought : Type 0 where
@@ -22,21 +23,21 @@ pub data Task (K V F : Type 0) : Type 0 where
   Computes : K → F → Task K V F
 
 -- what a call answers: the reply of a call of one key, the end of another call, or that memory was wanting
-pub data Said (K V : Type 0) : Type 0 where
-  Says : KeptReply K V → Said K V
-  SaysEnded : Said K V
-  SaysRefused : Said K V
+pub data Outcome (K V : Type 0) : Type 0 where
+  OutcomeReply : KeptReply K V → Outcome K V
+  OutcomeEnded : Outcome K V
+  OutcomeRefused : Outcome K V
 
 -- what a table is made larger for: an insertion that has its reply, or a reserve
-pub data Growing (K V : Type 0) : Type 0 where
-  ForInsert : Said K V → Growing K V
-  ForReserve : Growing K V
+pub data GrowFor (K V : Type 0) : Type 0 where
+  ForInsert : Outcome K V → GrowFor K V
+  ForReserve : GrowFor K V
 
 -- what a call goes on with when it stops helping: its bin in that table, another look at the count, or growing to that table
-pub data After (K V F : Type 0) : Type 0 where
-  ThenBin : Task K V F → ℕ → After K V F
-  ThenRecount : Said K V → After K V F
-  ThenGrow : ℕ → Growing K V → After K V F
+pub data Resume (K V F : Type 0) : Type 0 where
+  ThenBin : Task K V F → ℕ → Resume K V F
+  ThenRecount : Outcome K V → Resume K V F
+  ThenGrow : ℕ → GrowFor K V → Resume K V F
 
 -- where a call stands
 pub data Stage (K V F : Type 0) : Type 0 where
@@ -45,28 +46,28 @@ pub data Stage (K V F : Type 0) : Type 0 where
   -- it goes to its bin in that table
   AtBin : Task K V F → ℕ → Stage K V F
   -- it claims bins to move
-  AtClaim : After K V F → Stage K V F
+  AtClaim : Resume K V F → Stage K V F
   -- it moves those bins, and reports once all have moved
-  AtMove : Range → After K V F → Stage K V F
+  AtMove : Range → Resume K V F → Stage K V F
   -- it counts the pair that it removed
-  AtUncount : Said K V → Stage K V F
+  AtUncount : Outcome K V → Stage K V F
   -- it counts the pair that it put
-  AtCount : Said K V → Stage K V F
+  AtCount : Outcome K V → Stage K V F
   -- it counts nothing, and hears what is to be done
-  AtRecount : Said K V → Stage K V F
+  AtRecount : Outcome K V → Stage K V F
   -- it begins a growth from that table
-  AtBegin : ℕ → Said K V → Stage K V F
+  AtBegin : ℕ → Outcome K V → Stage K V F
   -- it begins a growth on the way to that table
-  AtGrow : ℕ → Growing K V → Stage K V F
+  AtGrow : ℕ → GrowFor K V → Stage K V F
   -- it makes room for so many pairs more
   AtReserve : ℕ → Stage K V F
   -- it has ended, and its reply was not taken yet
-  AtDone : Said K V → Stage K V F
+  AtDone : Outcome K V → Stage K V F
   -- its reply was taken
   AtTaken : Stage K V F
 
 -- a call in progress: the hash of its key, how many processors share the work of a growth, and where it stands
-pub record Course (K V F : Type 0) : Type 0 where
+pub record PartyState (K V F : Type 0) : Type 0 where
   pub hash : ℕ
   pub processors : ℕ
   pub stage : Stage K V F
@@ -96,91 +97,91 @@ part_of h (AtDone r) = NoPart
 part_of h AtTaken = NoPart
 part_of h _ = ControlPart
 
-abbrev pub wanted_part : {K V F : Type 0} → Course K V F → Part
+abbrev pub wanted_part : {K V F : Type 0} → PartyState K V F → Part
 wanted_part p = part_of p.hash p.stage
 
-abbrev pub with_stage : {K V F : Type 0} → Course K V F → Stage K V F → Course K V F
+abbrev pub with_stage : {K V F : Type 0} → PartyState K V F → Stage K V F → PartyState K V F
 with_stage p s = record { hash = p.hash; processors = p.processors; stage = s }
 
 -- ---- what each call in progress keeps: tables up to the greatest, a function that may be called, and the reply of its decision
 
 -- the reply of a call of one key, which decided
-abbrev pub IsDecided : {K V : Type 0} → Said K V → Type 0
-IsDecided (Says r) = ⊤
+abbrev pub IsDecided : {K V : Type 0} → Outcome K V → Type 0
+IsDecided (OutcomeReply r) = ⊤
 IsDecided _ = ⊥
 
-abbrev pub GrowingIsReady : {K V : Type 0} → Growing K V → Type 0
-GrowingIsReady (ForInsert r) = IsDecided r
-GrowingIsReady ForReserve = ⊤
+abbrev pub GrowForIsReady : {K V : Type 0} → GrowFor K V → Type 0
+GrowForIsReady (ForInsert r) = IsDecided r
+GrowForIsReady ForReserve = ⊤
 
 module _ {K V F : Type 0} (ready : F → Type 0) where
   abbrev pub TaskIsReady : Task K V F → Type 0
   TaskIsReady (Computes k f) = ready f
   TaskIsReady _ = ⊤
 
-  abbrev pub AfterIsReady : After K V F → Type 0
-  AfterIsReady (ThenBin t e) = TaskIsReady t × (e ≤ 30)
-  AfterIsReady (ThenRecount r) = IsDecided r
-  AfterIsReady (ThenGrow w g) = (w ≤ 30) × GrowingIsReady g
+  abbrev pub ResumeIsReady : Resume K V F → Type 0
+  ResumeIsReady (ThenBin t e) = TaskIsReady t × (e ≤ GREATEST_TABLE)
+  ResumeIsReady (ThenRecount r) = IsDecided r
+  ResumeIsReady (ThenGrow w g) = (w ≤ GREATEST_TABLE) × GrowForIsReady g
 
   abbrev pub StageIsReady : Stage K V F → Type 0
   StageIsReady (AtLocate t) = TaskIsReady t
-  StageIsReady (AtBin t e) = TaskIsReady t × (e ≤ 30)
-  StageIsReady (AtClaim a) = AfterIsReady a
-  StageIsReady (AtMove c a) = AfterIsReady a
+  StageIsReady (AtBin t e) = TaskIsReady t × (e ≤ GREATEST_TABLE)
+  StageIsReady (AtClaim a) = ResumeIsReady a
+  StageIsReady (AtMove c a) = ResumeIsReady a
   StageIsReady (AtUncount r) = IsDecided r
   StageIsReady (AtCount r) = IsDecided r
   StageIsReady (AtRecount r) = IsDecided r
-  StageIsReady (AtBegin e r) = (e ≤ 30) × IsDecided r
-  StageIsReady (AtGrow w g) = (w ≤ 30) × GrowingIsReady g
+  StageIsReady (AtBegin e r) = (e ≤ GREATEST_TABLE) × IsDecided r
+  StageIsReady (AtGrow w g) = (w ≤ GREATEST_TABLE) × GrowForIsReady g
   StageIsReady _ = ⊤
 
 -- ---- replies
 
 module _ {K V : Type 0} where
   -- what a call that seeks this answers of an entry, or of an absent key
-  abbrev pub told : Sought → Option (Held K V) → KeptReply K V
-  told TheValue e = Value (option_map (λ (x : Held K V). x.1.0) e)
-  told ThePair e = Pair (option_map (λ (x : Held K V). (x.0.1, x.1.0)) e)
-  told Presence e = Contains (is_some e)
+  abbrev pub reply_for : Sought → Option (PlainEntry K V) → KeptReply K V
+  reply_for TheValue e = Value (option_map (λ (x : PlainEntry K V). x.1.0) e)
+  reply_for ThePair e = Pair (option_map (λ (x : PlainEntry K V). (x.0.1, x.1.0)) e)
+  reply_for Presence e = Contains (is_some e)
 
-  abbrev pub said_by_growing : Growing K V → Option (Said K V)
-  said_by_growing (ForInsert r) = Some r
-  said_by_growing ForReserve = None
+  abbrev pub outcome_of_growth : GrowFor K V → Option (Outcome K V)
+  outcome_of_growth (ForInsert r) = Some r
+  outcome_of_growth ForReserve = None
 
 module _ {K V F : Type 0} where
-  abbrev pub said_after : After K V F → Option (Said K V)
-  said_after (ThenBin t e) = None
-  said_after (ThenRecount r) = Some r
-  said_after (ThenGrow w g) = said_by_growing g
+  abbrev pub outcome_after : Resume K V F → Option (Outcome K V)
+  outcome_after (ThenBin t e) = None
+  outcome_after (ThenRecount r) = Some r
+  outcome_after (ThenGrow w g) = outcome_of_growth g
 
   -- the reply, from the decision or the end on until it is taken
-  abbrev pub said_in : Stage K V F → Option (Said K V)
-  said_in (AtClaim a) = said_after a
-  said_in (AtMove c a) = said_after a
-  said_in (AtUncount r) = Some r
-  said_in (AtCount r) = Some r
-  said_in (AtRecount r) = Some r
-  said_in (AtBegin e r) = Some r
-  said_in (AtGrow w g) = said_by_growing g
-  said_in (AtDone r) = Some r
-  said_in _ = None
+  abbrev pub outcome_in : Stage K V F → Option (Outcome K V)
+  outcome_in (AtClaim a) = outcome_after a
+  outcome_in (AtMove c a) = outcome_after a
+  outcome_in (AtUncount r) = Some r
+  outcome_in (AtCount r) = Some r
+  outcome_in (AtRecount r) = Some r
+  outcome_in (AtBegin e r) = Some r
+  outcome_in (AtGrow w g) = outcome_of_growth g
+  outcome_in (AtDone r) = Some r
+  outcome_in _ = None
 
   -- the reply of a call that is done, until it is taken
-  abbrev pub done_with : Stage K V F → Option (Said K V)
-  done_with (AtDone r) = Some r
-  done_with _ = None
+  abbrev pub final_outcome : Stage K V F → Option (Outcome K V)
+  final_outcome (AtDone r) = Some r
+  final_outcome _ = None
 
   -- a call that stops helping goes on there
-  abbrev pub resumed : After K V F → Stage K V F
-  resumed (ThenBin t e) = AtBin t e
-  resumed (ThenRecount r) = AtRecount r
-  resumed (ThenGrow w g) = AtGrow w g
+  abbrev pub resumed_stage : Resume K V F → Stage K V F
+  resumed_stage (ThenBin t e) = AtBin t e
+  resumed_stage (ThenRecount r) = AtRecount r
+  resumed_stage (ThenGrow w g) = AtGrow w g
 
 -- how many steps a look-up has left at most, where no bin that it meets is unborn: one at the control, and one in each of 31 tables
 abbrev pub steps_left : {K V F : Type 0} → Stage K V F → ℕ
-steps_left (AtLocate t) = 32
-steps_left (AtBin t e) = 31 - e
+steps_left (AtLocate t) = GREATEST_TABLE + 2
+steps_left (AtBin t e) = GREATEST_TABLE + 1 - e
 steps_left _ = 0
 
 -- a call of one key that only looks for it
@@ -214,11 +215,11 @@ locates (AtLocate t) = true
 locates _ = false
 
 -- that step, at a table that is published
-abbrev pub started : {K V F : Type 0} → ℕ → Stage K V F → Stage K V F
-started d (AtLocate t) = AtBin t d
-started d s = s
+abbrev pub started_stage : {K V F : Type 0} → ℕ → Stage K V F → Stage K V F
+started_stage d (AtLocate t) = AtBin t d
+started_stage d s = s
 
--- the number w of the table that is made for so many pairs
+-- the exponent w of the table that is made for so many pairs
 pub record IsTableFor (pairs w : ℕ) : Type 0 where
   pub bins : 2 ^ w ≡ wanted_of pairs
-  pub within : w ≤ 30
+  pub within : w ≤ GREATEST_TABLE

@@ -2,40 +2,40 @@
 use Rattle.std.specs.Prelude.{◌≡◌, ℕ, ◌+◌, ◌*◌, ◌^◌, Bool, true, false, Option, Some, None, IsSome, Result, Ok, Err, ⊤, ◌⊎◌}
 use Rattle.std.specs.declared.cmp.Ordering.{Ordering}
 use Rattle.flurry_slots.specs.Slot as slot
-use Rattle.flurry_slots.specs.Slot.{Held, Live, Content, IsLive, HasMoved, IsUnborn, Place, Outcome, WasAbsent, WasRemoved, WasChanged, entry_of_live, written, written_reply, added, added_reply, taken, ComputesInVain, HasMovedInto, Clashes}
+use Rattle.flurry_slots.specs.Slot.{PlainEntry, Live, Content, IsLive, HasMoved, IsUnborn, Place, ComputeOutcome, WasAbsent, WasRemoved, WasChanged, entry_of_live, after_write, write_reply, after_add, add_reply, after_take, ComputesInVain, HasMovedInto, Clashes}
 use Rattle.flurry_model.specs.declared.reply.KeptReply.TheVariants.{Value, New, Exists}
 use Rattle.flurry_steps.specs.Claim.{moved_on}
-use Rattle.flurry_steps.specs.Party.{Sought, Presence, Task, Finds, Removes, Inserts, Adds, Computes, Said, Says, SaysRefused, ForInsert, ThenBin, Stage, AtLocate, AtBin, AtClaim, AtMove, AtUncount, AtCount, AtGrow, AtDone, Course, told, with_stage, IsTableFor}
+use Rattle.flurry_steps.specs.Party.{Sought, Presence, Task, Finds, Removes, Inserts, Adds, Computes, Outcome, OutcomeReply, OutcomeRefused, ForInsert, ThenBin, Stage, AtLocate, AtBin, AtClaim, AtMove, AtUncount, AtCount, AtGrow, AtDone, PartyState, reply_for, with_stage, IsTableFor}
 use Rattle.flurry_steps.specs.declared.party.Event.{Event}
 use Rattle.flurry_steps.specs.declared.party.Event.TheVariants.{Decide, Refused, Moved, Silent}
 
 module _ {K V F : Type 0} where
   -- a call that put a new key, and has this reply: where the bin asks for growth, a table is made larger for twice the bins of its
   -- table e before the key is counted
-  abbrev pub GoesOnNew : ℕ → Said K V → Bool → Stage K V F → Type 0
+  abbrev pub GoesOnNew : ℕ → Outcome K V → Bool → Stage K V F → Type 0
   GoesOnNew e r true s = (w : ℕ) × IsTableFor (2 * 2 ^ e) w × (s ≡ AtGrow w (ForInsert r))
   GoesOnNew e r false s = s ≡ AtCount r
 
   -- a call that wrote a value, by the value before it, and whether the bin asks for growth
   abbrev pub GoesOnWritten : ℕ → Option V × Bool → Stage K V F → Type 0
-  GoesOnWritten e (None, asked) s = GoesOnNew e (Says (Value None)) asked s
-  GoesOnWritten e (Some v, asked) s = s ≡ AtDone (Says (Value (Some v)))
+  GoesOnWritten e (None, asked) s = GoesOnNew e (OutcomeReply (Value None)) asked s
+  GoesOnWritten e (Some v, asked) s = s ≡ AtDone (OutcomeReply (Value (Some v)))
 
   -- a call that put a value where the key is absent, or found the key
   abbrev pub GoesOnAdded : ℕ → Result (V × Bool) (V × V) → Stage K V F → Type 0
-  GoesOnAdded e (Ok (v, asked)) s = GoesOnNew e (Says (New v)) asked s
-  GoesOnAdded e (Err (current, v)) s = s ≡ AtDone (Says (Exists current v))
+  GoesOnAdded e (Ok (v, asked)) s = GoesOnNew e (OutcomeReply (New v)) asked s
+  GoesOnAdded e (Err (current, v)) s = s ≡ AtDone (OutcomeReply (Exists current v))
 
   -- a call that took an entry out, or found none
-  abbrev pub stage_taken : Sought → Option (Held K V) → Stage K V F
-  stage_taken w None = AtDone (Says (told w None))
-  stage_taken w (Some x) = AtUncount (Says (told w (Some x)))
+  abbrev pub stage_taken : Sought → Option (PlainEntry K V) → Stage K V F
+  stage_taken w None = AtDone (OutcomeReply (reply_for w None))
+  stage_taken w (Some x) = AtUncount (OutcomeReply (reply_for w (Some x)))
 
   -- a call that computed
-  abbrev pub stage_computed : Outcome V → Stage K V F
-  stage_computed WasAbsent = AtDone (Says (Value None))
-  stage_computed WasRemoved = AtUncount (Says (Value None))
-  stage_computed (WasChanged v) = AtDone (Says (Value (Some v)))
+  abbrev pub stage_computed : ComputeOutcome V → Stage K V F
+  stage_computed WasAbsent = AtDone (OutcomeReply (Value None))
+  stage_computed WasRemoved = AtUncount (OutcomeReply (Value None))
+  stage_computed (WasChanged v) = AtDone (OutcomeReply (Value (Some v)))
 
   -- a call whose bin of table e has moved: a look-up goes on to the next table, and another call helps first
   abbrev pub stage_moved : Task K V F → ℕ → Stage K V F
@@ -43,18 +43,18 @@ module _ {K V F : Type 0} where
   stage_moved t e = AtClaim (ThenBin t (e + 1))
 
 -- a look-up that answers what an entry owns is refused only where the key is present
-abbrev pub FindCanBeRefused : {K V : Type 0} → Sought → Option (Held K V) → Type 0
+abbrev pub FindCanBeRefused : {K V : Type 0} → Sought → Option (PlainEntry K V) → Type 0
 FindCanBeRefused Presence x = ⊥
 FindCanBeRefused _ x = IsSome x
 
 module _ {K V F : Type 0} (cmp : K → K → Ordering) (changes : F → K → V → Option V → Type 0) (h : ℕ) where
   -- the call decides at a live bin of table e, which it leaves as the second one
   abbrev pub DecidesAt : Task K V F → ℕ → Live K V → Stage K V F → Live K V → Type 0
-  DecidesAt (Finds w k) e b s c = (s ≡ AtDone (Says (told w (entry_of_live cmp b h k)))) × (c ≡ b)
-  DecidesAt (Removes w k) e b s c = (s ≡ stage_taken w (entry_of_live cmp b h k)) × (c ≡ taken cmp b h k)
-  DecidesAt (Inserts k v) e b s c = GoesOnWritten e (written_reply cmp (2 ^ e) b h k) s × (c ≡ written cmp (2 ^ e) b h k v)
-  DecidesAt (Adds k v) e b s c = GoesOnAdded e (added_reply cmp (2 ^ e) b h k v) s × (c ≡ added cmp (2 ^ e) b h k v)
-  DecidesAt (Computes k f) e b s c = (o : Outcome V) × slot.Computes cmp (changes f) (2 ^ e) b h k o c × (s ≡ stage_computed o)
+  DecidesAt (Finds w k) e b s c = (s ≡ AtDone (OutcomeReply (reply_for w (entry_of_live cmp b h k)))) × (c ≡ b)
+  DecidesAt (Removes w k) e b s c = (s ≡ stage_taken w (entry_of_live cmp b h k)) × (c ≡ after_take cmp b h k)
+  DecidesAt (Inserts k v) e b s c = GoesOnWritten e (write_reply cmp (2 ^ e) b h k) s × (c ≡ after_write cmp (2 ^ e) b h k v)
+  DecidesAt (Adds k v) e b s c = GoesOnAdded e (add_reply cmp (2 ^ e) b h k v) s × (c ≡ after_add cmp (2 ^ e) b h k v)
+  DecidesAt (Computes k f) e b s c = (o : ComputeOutcome V) × slot.Computes cmp (changes f) (2 ^ e) b h k o c × (s ≡ stage_computed o)
 
   -- memory can be wanting for the call at this bin: an insertion takes some, a removal none, and a computation only where its
   -- function was called and answered a value
@@ -68,7 +68,7 @@ module _ {K V F : Type 0} (cmp : K → K → Ordering) (changes : F → K → V 
   -- at a live bin the call decides, or it is refused and changes nothing
   abbrev pub LiveGives : Task K V F → ℕ → Live K V → Event → Stage K V F → Content K V → Type 0
   LiveGives t e b Decide s c = (d : Live K V) × DecidesAt t e b s d × (c ≡ IsLive d)
-  LiveGives t e b Refused s c = (s ≡ AtDone SaysRefused) × (c ≡ IsLive b) × CanBeRefused t b
+  LiveGives t e b Refused s c = (s ≡ AtDone OutcomeRefused) × (c ≡ IsLive b) × CanBeRefused t b
   LiveGives t e b _ s c = ⊥
 
   -- the step of a call at a bin of table e
@@ -82,7 +82,7 @@ module _ {K V F : Type 0} (cmp : K → K → Ordering) (changes : F → K → V 
   StageAtSlot _ c ev s' c' = ⊥
 
 -- the step of p at the slot q answers ev, and leaves p' and q'
-pub record SlotStep {K V F : Type 0} (cmp : K → K → Ordering) (changes : F → K → V → Option V → Type 0) (p : Course K V F) (q : Place K V) (ev : Event) (p' : Course K V F) (q' : Place K V) : Type 0 where
+pub record SlotStep {K V F : Type 0} (cmp : K → K → Ordering) (changes : F → K → V → Option V → Type 0) (p : PartyState K V F) (q : Place K V) (ev : Event) (p' : PartyState K V F) (q' : Place K V) : Type 0 where
   pub hash : p'.hash ≡ p.hash
   pub processors : p'.processors ≡ p.processors
   pub table : q'.table ≡ q.table
@@ -95,12 +95,12 @@ moved_stage (AtMove c a) = AtMove (moved_on c) a
 moved_stage s = s
 
 -- the step of p at the slot q and its halves: the bin moves, or had moved before; or nothing can be moved, and nothing changes
-abbrev pub MoveGives : {K V F : Type 0} → Course K V F → Place K V → Place K V → Place K V → Event → Course K V F → Place K V → Place K V → Place K V → Type 0
+abbrev pub MoveGives : {K V F : Type 0} → PartyState K V F → Place K V → Place K V → Place K V → Event → PartyState K V F → Place K V → Place K V → Place K V → Type 0
 MoveGives p q low high (Moved e i) p' q' low' high' = (e ≡ q.table) × (i ≡ q.index) × HasMovedInto q low high q' low' high' × (p' ≡ with_stage p (moved_stage p.stage))
 MoveGives p q low high Silent p' q' low' high' =
     (q' ≡ q) × (low' ≡ low) × (high' ≡ high)
     × (((q.content ≡ HasMoved) × (p' ≡ with_stage p (moved_stage p.stage))) ⊎ (Clashes q low high × (p' ≡ p)))
 MoveGives p q low high _ p' q' low' high' = ⊥
 
-pub record MoveStep {K V F : Type 0} (p : Course K V F) (q low high : Place K V) (ev : Event) (p' : Course K V F) (q' low' high' : Place K V) : Type 0 where
+pub record MoveStep {K V F : Type 0} (p : PartyState K V F) (q low high : Place K V) (ev : Event) (p' : PartyState K V F) (q' low' high' : Place K V) : Type 0 where
   pub step : MoveGives p q low high ev p' q' low' high'

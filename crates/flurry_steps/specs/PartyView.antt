@@ -5,23 +5,23 @@ use Rattle.std.specs.Arc.{arc_value}
 use Rattle.std.specs.declared.sync.Arc.{Arc}
 use Rattle.flurry_model.specs.declared.reply.KeptReply.TheVariants as kept
 use Rattle.flurry_steps.specs.Party as abstract
-use Rattle.flurry_steps.specs.Party.{Course, Part, ControlPart, LookPart, BinPart, MovePart, NoPart, Said, Says, SaysEnded, SaysRefused}
+use Rattle.flurry_steps.specs.Party.{PartyState, Part, ControlPart, LookPart, BinPart, MovePart, NoPart, Outcome, OutcomeReply, OutcomeEnded, OutcomeRefused}
 use Rattle.flurry_steps.specs.declared.party.call.Key.{Key}
 use Rattle.flurry_steps.specs.declared.party.call.Key.TheVariants as key
 use Rattle.flurry_steps.specs.declared.party.call.Call.{Call}
 use Rattle.flurry_steps.specs.declared.party.call.Call.TheVariants as call
-use Rattle.flurry_steps.specs.declared.party.call.KeptCall.{KeptCall}
-use Rattle.flurry_steps.specs.declared.party.call.KeptCall.TheVariants as kept_call
+use Rattle.flurry_steps.specs.declared.party.call.OwnedCall.{OwnedCall}
+use Rattle.flurry_steps.specs.declared.party.call.OwnedCall.TheVariants as owned_call
 use Rattle.flurry_steps.specs.declared.party.call.Sought.{Sought}
 use Rattle.flurry_steps.specs.declared.party.call.Sought.TheVariants as sought
 use Rattle.flurry_steps.specs.declared.party.call.Task.{Task}
 use Rattle.flurry_steps.specs.declared.party.call.Task.TheVariants as task
 use Rattle.flurry_steps.specs.declared.party.reply.Reply.{Reply}
 use Rattle.flurry_steps.specs.declared.party.reply.Reply.TheVariants as reply
-use Rattle.flurry_steps.specs.declared.party.stage.Growing.{Growing}
-use Rattle.flurry_steps.specs.declared.party.stage.Growing.TheVariants as growing
-use Rattle.flurry_steps.specs.declared.party.stage.After.{After}
-use Rattle.flurry_steps.specs.declared.party.stage.After.TheVariants as after
+use Rattle.flurry_steps.specs.declared.party.stage.GrowFor.{GrowFor}
+use Rattle.flurry_steps.specs.declared.party.stage.GrowFor.TheVariants as growing
+use Rattle.flurry_steps.specs.declared.party.stage.Resume.{Resume}
+use Rattle.flurry_steps.specs.declared.party.stage.Resume.TheVariants as after
 use Rattle.flurry_steps.specs.declared.party.stage.Stage.{Stage}
 use Rattle.flurry_steps.specs.declared.party.stage.Stage.TheVariants as stage
 use Rattle.flurry_steps.specs.declared.party.Want.{Want}
@@ -33,14 +33,14 @@ module _ {K V A : Type 0} where
   abbrev pub pair_value : Arc K A × Arc V A → K × V
   pair_value p = (arc_value p.0, arc_value p.1)
 
-  abbrev pub said_of : Reply K V A → Said K V
-  said_of (reply.Value v) = Says (kept.Value (option_map arc_value v))
-  said_of (reply.Pair p) = Says (kept.Pair (option_map pair_value p))
-  said_of (reply.Contains b) = Says (kept.Contains b)
-  said_of (reply.New v) = Says (kept.New (arc_value v))
-  said_of (reply.Exists e) = Says (kept.Exists (arc_value e.current) e.not_inserted)
-  said_of reply.Ended = SaysEnded
-  said_of reply.Refused = SaysRefused
+  abbrev pub outcome_of : Reply K V A → Outcome K V
+  outcome_of (reply.Value v) = OutcomeReply (kept.Value (option_map arc_value v))
+  outcome_of (reply.Pair p) = OutcomeReply (kept.Pair (option_map pair_value p))
+  outcome_of (reply.Contains b) = OutcomeReply (kept.Contains b)
+  outcome_of (reply.New v) = OutcomeReply (kept.New (arc_value v))
+  outcome_of (reply.Exists e) = OutcomeReply (kept.Exists (arc_value e.current) e.not_inserted)
+  outcome_of reply.Ended = OutcomeEnded
+  outcome_of reply.Refused = OutcomeRefused
 
 abbrev pub part_of_want : Want → Part
 part_of_want want.Control = ControlPart
@@ -79,16 +79,16 @@ module _ {K V F : Type 0} where
   first_stage (call.Reserve a) = abstract.AtReserve a
 
   -- and of a call that has its key
-  abbrev pub kept_stage : KeptCall K V F → abstract.Stage K V F
-  kept_stage (kept_call.Get k) = abstract.AtLocate (abstract.Finds abstract.TheValue k)
-  kept_stage (kept_call.GetKeyValue k) = abstract.AtLocate (abstract.Finds abstract.ThePair k)
-  kept_stage (kept_call.ContainsKey k) = abstract.AtLocate (abstract.Finds abstract.Presence k)
-  kept_stage (kept_call.Remove k) = abstract.AtLocate (abstract.Removes abstract.TheValue k)
-  kept_stage (kept_call.RemoveEntry k) = abstract.AtLocate (abstract.Removes abstract.ThePair k)
-  kept_stage (kept_call.Insert k v) = abstract.AtLocate (abstract.Inserts k v)
-  kept_stage (kept_call.TryInsert k v) = abstract.AtLocate (abstract.Adds k v)
-  kept_stage (kept_call.Compute k f) = abstract.AtLocate (abstract.Computes k f)
-  kept_stage (kept_call.Reserve a) = abstract.AtReserve a
+  abbrev pub owned_stage : OwnedCall K V F → abstract.Stage K V F
+  owned_stage (owned_call.Get k) = abstract.AtLocate (abstract.Finds abstract.TheValue k)
+  owned_stage (owned_call.GetKeyValue k) = abstract.AtLocate (abstract.Finds abstract.ThePair k)
+  owned_stage (owned_call.ContainsKey k) = abstract.AtLocate (abstract.Finds abstract.Presence k)
+  owned_stage (owned_call.Remove k) = abstract.AtLocate (abstract.Removes abstract.TheValue k)
+  owned_stage (owned_call.RemoveEntry k) = abstract.AtLocate (abstract.Removes abstract.ThePair k)
+  owned_stage (owned_call.Insert k v) = abstract.AtLocate (abstract.Inserts k v)
+  owned_stage (owned_call.TryInsert k v) = abstract.AtLocate (abstract.Adds k v)
+  owned_stage (owned_call.Compute k f) = abstract.AtLocate (abstract.Computes k f)
+  owned_stage (owned_call.Reserve a) = abstract.AtReserve a
 
   -- its function, if it has one, may be called
   abbrev pub CallIsReady : (F → Type 0) → Call K V F → Type 0
@@ -96,34 +96,34 @@ module _ {K V F : Type 0} where
   CallIsReady ready _ = ⊤
 
   -- its function, if it has one, may be called
-  abbrev pub KeptIsReady : (F → Type 0) → KeptCall K V F → Type 0
-  KeptIsReady ready (kept_call.Compute k f) = ready f
-  KeptIsReady ready _ = ⊤
+  abbrev pub OwnedIsReady : (F → Type 0) → OwnedCall K V F → Type 0
+  OwnedIsReady ready (owned_call.Compute k f) = ready f
+  OwnedIsReady ready _ = ⊤
 
 module _ {K V A : Type 0} where
-  abbrev pub growing_of : Growing K V A → abstract.Growing K V
-  growing_of (growing.Insert r) = abstract.ForInsert (said_of r)
-  growing_of growing.Reserve = abstract.ForReserve
+  abbrev pub grow_for_of : GrowFor K V A → abstract.GrowFor K V
+  grow_for_of (growing.Insert r) = abstract.ForInsert (outcome_of r)
+  grow_for_of growing.Reserve = abstract.ForReserve
 
 module _ {K V F A : Type 0} where
-  abbrev pub after_of : After K V F A → abstract.After K V F
-  after_of (after.Bin t e) = abstract.ThenBin (task_of t) e
-  after_of (after.Recount r) = abstract.ThenRecount (said_of r)
-  after_of (after.Grow w g) = abstract.ThenGrow w (growing_of g)
+  abbrev pub resume_of : Resume K V F A → abstract.Resume K V F
+  resume_of (after.Bin t e) = abstract.ThenBin (task_of t) e
+  resume_of (after.Recount r) = abstract.ThenRecount (outcome_of r)
+  resume_of (after.Grow w g) = abstract.ThenGrow w (grow_for_of g)
 
   abbrev pub stage_of : Stage K V F A → abstract.Stage K V F
   stage_of (stage.Locate t) = abstract.AtLocate (task_of t)
   stage_of (stage.Bin t e) = abstract.AtBin (task_of t) e
-  stage_of (stage.Claim a) = abstract.AtClaim (after_of a)
-  stage_of (stage.Move c a) = abstract.AtMove c (after_of a)
-  stage_of (stage.Uncount r) = abstract.AtUncount (said_of r)
-  stage_of (stage.Count r) = abstract.AtCount (said_of r)
-  stage_of (stage.Recount r) = abstract.AtRecount (said_of r)
-  stage_of (stage.Begin e r) = abstract.AtBegin e (said_of r)
-  stage_of (stage.Grow w g) = abstract.AtGrow w (growing_of g)
+  stage_of (stage.Claim a) = abstract.AtClaim (resume_of a)
+  stage_of (stage.Move c a) = abstract.AtMove c (resume_of a)
+  stage_of (stage.Uncount r) = abstract.AtUncount (outcome_of r)
+  stage_of (stage.Count r) = abstract.AtCount (outcome_of r)
+  stage_of (stage.Recount r) = abstract.AtRecount (outcome_of r)
+  stage_of (stage.Begin e r) = abstract.AtBegin e (outcome_of r)
+  stage_of (stage.Grow w g) = abstract.AtGrow w (grow_for_of g)
   stage_of (stage.Reserve a) = abstract.AtReserve a
-  stage_of (stage.Done r) = abstract.AtDone (said_of r)
+  stage_of (stage.Done r) = abstract.AtDone (outcome_of r)
   stage_of stage.Taken = abstract.AtTaken
 
-  abbrev pub course_of : Inside K V F A → Course K V F
-  course_of p = record { hash = p.hash; processors = p.processors; stage = stage_of p.stage }
+  abbrev pub party_state_of : Inside K V F A → PartyState K V F
+  party_state_of p = record { hash = p.hash; processors = p.processors; stage = stage_of p.stage }

@@ -2,28 +2,27 @@
 ghost use Rattle.std.specs.Prelude.{◌≡◌, ℕ, ◌^◌, ◌<◌, ◌≤◌, pos, IfSome, IfOk, None};
 ghost use Rattle.flurry_model.specs.Sizes.{wanted_of};
 ghost use Rattle.flurry_steps.specs.Claim.{IsRange};
-ghost use Rattle.flurry_steps.specs.Control.{IsIdle, IsControl, OpenGives, BeginGives, claim_of, claimed, report_of, reported, counted, advice_of, count_of, grows_from};
+ghost use Rattle.flurry_steps.specs.Control.{IsIdle, IsControl, OpenGives, BeginGives, claim_of, after_claim, report_of, after_report, after_count, advice_of, count_of, grows_from};
+ghost use Rattle.flurry_model.specs.declared.sizes.TheConstants.{GREATEST_TABLE};
 
 mod claim;
+mod published_table;
 mod room;
-mod start;
 
 pub use claim::Claim;
-use flurry_bins::table::{stride, threshold, wanted};
+pub use flurry_model::sizes::GREATEST_TABLE;
+use flurry_model::sizes::{stride, threshold, wanted};
+pub use published_table::PublishedTable;
 pub use room::Room;
-pub use start::Start;
 use std::alloc::AllocError;
 use std::marker::Model;
 
-/// The number of the greatest table.
-pub const GREATEST_TABLE: u8 = 30;
-
-/// The number of the table that is made for so many pairs: it has [`wanted`] bins.
+/// The exponent of the table that is made for so many pairs: it has [`wanted`] bins.
 ///
 /// Constant time.
 pub fn wanted_table(pairs: usize) -> u8
     ensures value { 2 ^ result ≡ wanted_of pairs }
-    ensures within { result ≤ 30 }
+    ensures within { result ≤ GREATEST_TABLE }
 {
     wanted(pairs).ilog2() as u8
 }
@@ -41,7 +40,7 @@ pub enum Advice {
 
 /// How a call of [`Control::begin`] ended.
 #[derive(Clone, Copy, Debug, PartialEq, Eq)]
-pub enum Started {
+pub enum BeginOutcome {
     /// The growth has begun.
     Begun,
     /// Memory for the next table is wanting.
@@ -53,7 +52,7 @@ pub enum Started {
 #[derive(Clone, Copy)]
 enum State {
     Idle,
-    Growing {
+    GrowFor {
         // The bins below this index are in no claim yet.
         unclaimed: usize,
         // So many bins were in claims that came back with all bins moved.
@@ -63,7 +62,7 @@ enum State {
 
 /// The published table, the growth that runs, and the count of pairs.
 ///
-/// Tables are known by their numbers: the table of number e has `2^e` bins, and e is at most 30. The first table is opened, and each
+/// Tables are known by their exponents: the table of exponent e has `2^e` bins, and e is at most 30. The first table is opened, and each
 /// later one is published by the growth that fills it. A growth moves the published table into the next one: its bins are claimed in
 /// ranges from the top down, and the report that makes all of them moved publishes the next table and ends the growth.
 ///
@@ -76,15 +75,15 @@ pub struct Control {
 }
 
 impl Model for Control {
-    ghost use Rattle.flurry_steps.specs.Control.{Board, IsControl};
+    ghost use Rattle.flurry_steps.specs.Control.{ControlState, IsControl};
 
-    ghost Value = { Board };
+    ghost Value = { ControlState };
 
-    ghost use Rattle.flurry_steps.specs.ControlView.{board_of};
+    ghost use Rattle.flurry_steps.specs.ControlView.{control_state_of};
 
-    ghost view = { board_of };
+    ghost view = { control_state_of };
 
-    ghost invariant = { λ c. IsControl (board_of c) };
+    ghost invariant = { λ c. IsControl (control_state_of c) };
 }
 
 impl Control {
@@ -101,33 +100,33 @@ impl Control {
         }
     }
 
-    /// The number of the published table, or none before the first.
+    /// The exponent of the published table, or none before the first.
     ///
     /// Constant time.
     #[inline]
     pub fn locate(&self) -> Option<u8>
         ensures value { result ≡ self.now.published }
-        ensures within { IfSome result (λ e. e ≤ 30) }
-        ensures board { IsControl self.now }
+        ensures within { IfSome result (λ e. e ≤ GREATEST_TABLE) }
+        ensures control_state { IsControl self.now }
     {
         self.published
     }
 
-    /// The number of the published table as a certificate of its own, which tells that it was published; none before the first.
+    /// The exponent of the published table as a certificate of its own, which tells that it was published; none before the first.
     ///
     /// Constant time.
     #[inline]
-    pub fn start(&self) -> Option<Start>
+    pub fn start(&self) -> Option<PublishedTable>
         ensures value { result ≡ self.now.published }
-        ensures within { IfSome result (λ e. e ≤ 30) }
+        ensures within { IfSome result (λ e. e ≤ GREATEST_TABLE) }
     {
         match self.published {
-            Some(table) => Some(Start::of(table)),
+            Some(table) => Some(PublishedTable::of(table)),
             None => None,
         }
     }
 
-    /// The number of the published table. Where there is none, this table is made, with live and empty bins, and published.
+    /// The exponent of the published table. Where there is none, this table is made, with live and empty bins, and published.
     ///
     /// Constant time, but for the making of a table.
     ///
@@ -135,9 +134,9 @@ impl Control {
     ///
     /// [`AllocError`], where memory for the table is wanting. The control is then as before.
     pub fn open<R: Room>(&mut self, table: u8, room: &mut R) -> Result<u8, AllocError>
-        requires { table ≤ 30 }
+        requires { table ≤ GREATEST_TABLE }
         ensures gives { OpenGives R.place_gives table self.old room.old result self.new room.new }
-        ensures within { IfOk result (λ e. e ≤ 30) }
+        ensures within { IfOk result (λ e. e ≤ GREATEST_TABLE) }
     {
         match self.published {
             Some(there) => Ok(there),
@@ -151,25 +150,25 @@ impl Control {
 
     /// Begins a growth from this table: the next one is made, with bins that are not born yet, and all bins of this one are unclaimed.
     ///
-    /// It answers [`Started::Busy`] and changes nothing, where a growth runs, this table is not the published one, or it is the
-    /// greatest. It answers [`Started::Refused`] where memory for the next table is wanting; the control is then as before.
+    /// It answers [`BeginOutcome::Busy`] and changes nothing, where a growth runs, this table is not the published one, or it is the
+    /// greatest. It answers [`BeginOutcome::Refused`] where memory for the next table is wanting; the control is then as before.
     ///
     /// Constant time, but for the making of a table.
-    pub fn begin<R: Room>(&mut self, table: u8, room: &mut R) -> Started
+    pub fn begin<R: Room>(&mut self, table: u8, room: &mut R) -> BeginOutcome
         ensures { BeginGives R.place_gives table self.old room.old result self.new room.new }
     {
         match (self.published, self.state) {
             (Some(there), State::Idle) if there == table && table < GREATEST_TABLE => {
                 if room.place(table + 1, false).is_err() {
-                    return Started::Refused;
+                    return BeginOutcome::Refused;
                 }
-                self.state = State::Growing {
+                self.state = State::GrowFor {
                     unclaimed: 1 << table,
                     reported: 0,
                 };
-                Started::Begun
+                BeginOutcome::Begun
             }
-            _ => Started::Busy,
+            _ => BeginOutcome::Busy,
         }
     }
 
@@ -179,19 +178,19 @@ impl Control {
     /// Constant time.
     pub fn claim(&mut self, processors: usize) -> Option<Claim>
         ensures value { result ≡ claim_of processors self.old }
-        ensures after { self.new ≡ claimed processors self.old }
+        ensures after { self.new ≡ after_claim processors self.old }
         ensures within { IfSome result IsRange }
     {
         match (self.published, self.state) {
             (
                 Some(table),
-                State::Growing {
+                State::GrowFor {
                     unclaimed,
                     reported,
                 },
             ) if unclaimed > 0 => {
                 let low = unclaimed.saturating_sub(stride(1 << table, processors));
-                self.state = State::Growing {
+                self.state = State::GrowFor {
                     unclaimed: low,
                     reported,
                 };
@@ -201,27 +200,27 @@ impl Control {
         }
     }
 
-    /// Takes back a claim whose bins have moved. Where these were the last ones of the growth, the next table is published, its number
+    /// Takes back a claim whose bins have moved. Where these were the last ones of the growth, the next table is published, its exponent
     /// is answered, and the growth is over.
     ///
     /// A claim of a table that does not grow, one that has bins left to move, and one of more bins than are unreported change nothing,
     /// and none is answered.
     ///
     /// The claim is one that this control has handed out. A claim does not say of which control it is, so no contract can ask for that:
-    /// where another control grows a table of the same number, its claim is taken too if it has no more bins than are unreported. It
+    /// where another control grows a table of the same exponent, its claim is taken too if it has no more bins than are unreported. It
     /// then counts for bins of this table that were not moved, and the next table is published before it is complete. No claim leaves
     /// a `World`, and whoever keeps a control, its calls and their claims private is safe from it too.
     ///
     /// Constant time.
     pub fn report(&mut self, claim: Claim) -> Option<u8>
         ensures value { result ≡ report_of self.old claim }
-        ensures after { self.new ≡ reported self.old claim }
-        ensures within { IfSome result (λ e. e ≤ 30) }
+        ensures after { self.new ≡ after_report self.old claim }
+        ensures within { IfSome result (λ e. e ≤ GREATEST_TABLE) }
     {
         match (self.published, self.state) {
             (
                 Some(table),
-                State::Growing {
+                State::GrowFor {
                     unclaimed,
                     reported,
                 },
@@ -238,7 +237,7 @@ impl Control {
                     self.state = State::Idle;
                     Some(table + 1)
                 } else {
-                    self.state = State::Growing {
+                    self.state = State::GrowFor {
                         unclaimed,
                         reported: all,
                     };
@@ -254,12 +253,12 @@ impl Control {
     ///
     /// Constant time.
     pub fn count(&mut self, delta: i64) -> Advice
-        ensures after { self.new ≡ counted delta self.old }
+        ensures after { self.new ≡ after_count delta self.old }
         ensures advice { result ≡ advice_of self.new }
     {
         self.count = self.count.saturating_add(delta);
         match (self.published, self.state) {
-            (_, State::Growing { unclaimed, .. }) => {
+            (_, State::GrowFor { unclaimed, .. }) => {
                 if unclaimed > 0 {
                     Advice::Join
                 } else {
@@ -288,14 +287,14 @@ impl Control {
         }
     }
 
-    /// The number of the published table, if no growth runs and that table is to be doubled on the way to `2^wanted` bins: it is not
+    /// The exponent of the published table, if no growth runs and that table is to be doubled on the way to `2^wanted` bins: it is not
     /// the greatest, and its threshold is below `2^wanted`.
     ///
     /// Constant time.
     pub fn grows_from(&self, wanted: u8) -> Option<u8>
-        requires { wanted ≤ 30 }
+        requires { wanted ≤ GREATEST_TABLE }
         ensures value { result ≡ grows_from wanted self.now }
-        ensures within { IfSome result (λ e. e < 30) }
+        ensures within { IfSome result (λ e. e < GREATEST_TABLE) }
     {
         match (self.published, self.state) {
             (Some(table), State::Idle)

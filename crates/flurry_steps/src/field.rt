@@ -5,7 +5,7 @@ ghost use Rattle.flurry_steps.specs.Field.{Loan, TurnsOrStays, ActsOrStays};
 
 use crate::control::Room;
 use crate::party::{Event, Party, Want};
-use flurry_slots::Change;
+use flurry_slots::ComputeFn;
 use std::alloc::Allocator;
 
 /// Lends the part of a map that a call wants to exactly one step of that call, and answers what the step was. A part that is not there,
@@ -22,12 +22,12 @@ pub trait Field<K: Ord + Drop, V: Drop, A: Allocator + Copy> {
 
     /// Lends the control with the room where it makes tables. To a call that only asks for the published table it may lend a table
     /// that was published in its place.
-    fn at_control<F: Change<K, V>>(&mut self, party: &mut Party<'_, K, V, F, A>) -> Option<Event>
+    fn at_control<F: ComputeFn<K, V>>(&mut self, party: &mut Party<'_, K, V, F, A>) -> Option<Event>
         requires { wanted_part party.old ≡ ControlPart }
         ensures { TurnsOrStays Self.Room.place_gives K.cmp F.changes lends lacks self.old party.old result self.new party.new };
 
     /// Lends the slot of that table and index, to read it.
-    fn at_look<F: Change<K, V>>(
+    fn at_look<F: ComputeFn<K, V>>(
         &mut self,
         table: u8,
         index: usize,
@@ -37,7 +37,7 @@ pub trait Field<K: Ord + Drop, V: Drop, A: Allocator + Copy> {
         ensures { TurnsOrStays Self.Room.place_gives K.cmp F.changes lends lacks self.old party.old result self.new party.new };
 
     /// Lends the slot of that table and index, to write it.
-    fn at_bin<F: Change<K, V>>(
+    fn at_bin<F: ComputeFn<K, V>>(
         &mut self,
         table: u8,
         index: usize,
@@ -47,7 +47,7 @@ pub trait Field<K: Ord + Drop, V: Drop, A: Allocator + Copy> {
         ensures { TurnsOrStays Self.Room.place_gives K.cmp F.changes lends lacks self.old party.old result self.new party.new };
 
     /// Lends the slot of that table and index, and its two halves in the next table, to move its bin into these.
-    fn at_move<F: Change<K, V>>(
+    fn at_move<F: ComputeFn<K, V>>(
         &mut self,
         table: u8,
         index: usize,
@@ -62,7 +62,7 @@ pub trait Field<K: Ord + Drop, V: Drop, A: Allocator + Copy> {
 ///
 /// As many steps as the call's step takes, and whatever the field takes to lend the part.
 #[inline]
-pub fn act<K: Ord + Drop, V: Drop, A: Allocator + Copy, F: Change<K, V>, X: Field<K, V, A>>(
+pub fn act<K: Ord + Drop, V: Drop, A: Allocator + Copy, F: ComputeFn<K, V>, X: Field<K, V, A>>(
     party: &mut Party<'_, K, V, F, A>,
     field: &mut X,
 ) -> Option<Event>

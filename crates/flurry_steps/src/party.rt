@@ -5,10 +5,11 @@
 ghost use Rattle.std.specs.Prelude.{◌≡◌, ◌<◌, ◌≤◌, ◌⊎◌, IfNone, IfSome, true};
 ghost use Rattle.std.specs.Option.{option_map, option_copied};
 ghost use Rattle.flurry_slots.specs.Slot.{IsSlot, IsUnborn};
-ghost use Rattle.flurry_steps.specs.Party.{Course, locates, started, wanted_part, with_stage, said_in, done_with, steps_left, LooksUp, LookPart, BinPart, MovePart, ControlPart, AtTaken, AtLocate, TaskIsReady};
+ghost use Rattle.flurry_steps.specs.Party.{PartyState, locates, started_stage, wanted_part, with_stage, outcome_in, final_outcome, steps_left, LooksUp, LookPart, BinPart, MovePart, ControlPart, AtTaken, AtLocate, TaskIsReady};
 ghost use Rattle.flurry_steps.specs.PartyControl.{ControlStep};
 ghost use Rattle.flurry_steps.specs.PartySlots.{SlotStep, MoveStep};
-ghost use Rattle.flurry_steps.specs.PartyView.{part_of_want, first_stage, kept_stage, said_of, task_of, CallIsReady, KeptIsReady};
+ghost use Rattle.flurry_steps.specs.PartyView.{part_of_want, first_stage, owned_stage, outcome_of, task_of, CallIsReady, OwnedIsReady};
+ghost use Rattle.flurry_model.specs.declared.sizes.TheConstants.{GREATEST_TABLE};
 
 mod at_control;
 mod at_slot;
@@ -16,15 +17,15 @@ mod call;
 mod reply;
 mod stage;
 
-use crate::control::{Control, Room, Start};
-use at_control::controlled;
-use at_slot::{changed, looked};
+use crate::control::{Control, PublishedTable, Room};
+use at_control::step_control;
+use at_slot::{step_lookup, step_write};
 use call::{Key, Sought, Task};
-pub use call::{Call, KeptCall};
+pub use call::{Call, OwnedCall};
 use flurry_model::sizes::bin_index;
-use flurry_slots::{Change, MoveAnswer, Slot};
+use flurry_slots::{ComputeFn, MoveAnswer, Slot};
 pub use reply::Reply;
-use stage::{After, Growing, Stage};
+use stage::{GrowFor, Resume, Stage};
 use std::alloc::{Allocator, Global};
 use std::marker::Model;
 use std::mem;
@@ -51,13 +52,13 @@ pub enum Event {
     Decide,
     /// The call was refused for memory, and is done.
     Refused,
-    /// The first table, of that number, was made and published.
+    /// The first table, of that exponent, was made and published.
     Opened(u8),
-    /// The table of that number was made, and its growth began.
+    /// The table of that exponent was made, and its growth began.
     Placed(u8),
     /// The bin of that table and index was moved.
     Moved(u8, usize),
-    /// The table of that number was published.
+    /// The table of that exponent was published.
     Published(u8),
     /// Any other step.
     Silent,
@@ -68,7 +69,7 @@ pub enum Event {
 /// It goes on by its steps alone, each of which takes the part that [`Party::want`] names. A look-up makes at most 32 steps where no bin
 /// that it meets is unborn: one at the control, and one in each of 31 tables.
 #[derive(Drop)]
-pub struct Party<'k, K, V, F: Change<K, V>, A: Allocator = Global> {
+pub struct Party<'k, K, V, F: ComputeFn<K, V>, A: Allocator = Global> {
     hash: u64,
     processors: usize,
     // A stage is put in its place by `mem::replace`, and the one before goes to `drop`: at an assignment the proof would go through all
@@ -76,18 +77,18 @@ pub struct Party<'k, K, V, F: Change<K, V>, A: Allocator = Global> {
     stage: Stage<'k, K, V, F, A>,
 }
 
-impl<'k, K, V, F: Change<K, V>, A: Allocator> Model for Party<'k, K, V, F, A> {
-    ghost use Rattle.flurry_steps.specs.Party.{Course, StageIsReady};
-    ghost use Rattle.flurry_steps.specs.PartyView.{course_of, stage_of};
+impl<'k, K, V, F: ComputeFn<K, V>, A: Allocator> Model for Party<'k, K, V, F, A> {
+    ghost use Rattle.flurry_steps.specs.Party.{PartyState, StageIsReady};
+    ghost use Rattle.flurry_steps.specs.PartyView.{party_state_of, stage_of};
 
-    ghost Value = { Course K V F };
+    ghost Value = { PartyState K V F };
 
-    ghost view = { course_of };
+    ghost view = { party_state_of };
 
     ghost invariant = { λ p. StageIsReady F.can_change (stage_of p.stage) };
 }
 
-impl<'k, K: Drop, V: Drop, F: Change<K, V>, A: Allocator> Party<'k, K, V, F, A> {
+impl<'k, K: Drop, V: Drop, F: ComputeFn<K, V>, A: Allocator> Party<'k, K, V, F, A> {
     /// A call before its first step, by the hash of its key and the number of processors that share the work of a growth; 0 counts
     /// as 1. A reserve does not read the hash.
     ///
@@ -119,20 +120,20 @@ impl<'k, K: Drop, V: Drop, F: Change<K, V>, A: Allocator> Party<'k, K, V, F, A> 
     /// The same of a call that has its key.
     ///
     /// Constant time; takes no memory.
-    pub fn kept(call: KeptCall<K, V, F>, hash: u64, processors: usize) -> Self
-        requires { KeptIsReady F.can_change call }
-        ensures { result ≡ record { hash = hash; processors = processors; stage = kept_stage call } }
+    pub fn from_owned(call: OwnedCall<K, V, F>, hash: u64, processors: usize) -> Self
+        requires { OwnedIsReady F.can_change call }
+        ensures { result ≡ record { hash = hash; processors = processors; stage = owned_stage call } }
     {
         let task = match call {
-            KeptCall::Get(key) => Task::Find(Sought::Value, Key::Own(key)),
-            KeptCall::GetKeyValue(key) => Task::Find(Sought::Pair, Key::Own(key)),
-            KeptCall::ContainsKey(key) => Task::Find(Sought::Presence, Key::Own(key)),
-            KeptCall::Remove(key) => Task::Remove(Sought::Value, Key::Own(key)),
-            KeptCall::RemoveEntry(key) => Task::Remove(Sought::Pair, Key::Own(key)),
-            KeptCall::Insert(key, value) => Task::Insert(key, value),
-            KeptCall::TryInsert(key, value) => Task::Add(key, value),
-            KeptCall::Compute(key, f) => Task::Compute(Key::Own(key), f),
-            KeptCall::Reserve(more) => {
+            OwnedCall::Get(key) => Task::Find(Sought::Value, Key::Own(key)),
+            OwnedCall::GetKeyValue(key) => Task::Find(Sought::Pair, Key::Own(key)),
+            OwnedCall::ContainsKey(key) => Task::Find(Sought::Presence, Key::Own(key)),
+            OwnedCall::Remove(key) => Task::Remove(Sought::Value, Key::Own(key)),
+            OwnedCall::RemoveEntry(key) => Task::Remove(Sought::Pair, Key::Own(key)),
+            OwnedCall::Insert(key, value) => Task::Insert(key, value),
+            OwnedCall::TryInsert(key, value) => Task::Add(key, value),
+            OwnedCall::Compute(key, f) => Task::Compute(Key::Own(key), f),
+            OwnedCall::Reserve(more) => {
                 return Party {
                     hash,
                     processors,
@@ -183,7 +184,7 @@ impl<'k, K: Drop, V: Drop, F: Change<K, V>, A: Allocator> Party<'k, K, V, F, A> 
     ///
     /// Constant time.
     pub fn reply(&self) -> Option<&Reply<K, V, A>>
-        ensures { option_map said_of (option_copied result) ≡ said_in self.now.stage }
+        ensures { option_map outcome_of (option_copied result) ≡ outcome_in self.now.stage }
     {
         match &self.stage {
             Stage::Done(reply)
@@ -191,11 +192,11 @@ impl<'k, K: Drop, V: Drop, F: Change<K, V>, A: Allocator> Party<'k, K, V, F, A> 
             | Stage::Count(reply)
             | Stage::Recount(reply)
             | Stage::Begin(_, reply)
-            | Stage::Claim(After::Recount(reply))
-            | Stage::Claim(After::Grow(_, Growing::Insert(reply)))
-            | Stage::Move(_, After::Recount(reply))
-            | Stage::Move(_, After::Grow(_, Growing::Insert(reply)))
-            | Stage::Grow(_, Growing::Insert(reply)) => Some(reply),
+            | Stage::Claim(Resume::Recount(reply))
+            | Stage::Claim(Resume::Grow(_, GrowFor::Insert(reply)))
+            | Stage::Move(_, Resume::Recount(reply))
+            | Stage::Move(_, Resume::Grow(_, GrowFor::Insert(reply)))
+            | Stage::Grow(_, GrowFor::Insert(reply)) => Some(reply),
             _ => None,
         }
     }
@@ -205,7 +206,7 @@ impl<'k, K: Drop, V: Drop, F: Change<K, V>, A: Allocator> Party<'k, K, V, F, A> 
     ///
     /// Constant time.
     pub fn take_reply(&mut self) -> Option<Reply<K, V, A>>
-        ensures value { option_map said_of result ≡ done_with self.old.stage }
+        ensures value { option_map outcome_of result ≡ final_outcome self.old.stage }
         ensures none { IfNone result (self.new ≡ self.old) }
         ensures some { IfSome result (λ _. self.new ≡ with_stage self.old AtTaken) }
     {
@@ -226,7 +227,7 @@ impl<'k, K: Drop, V: Drop, F: Change<K, V>, A: Allocator> Party<'k, K, V, F, A> 
         ensures { ControlStep R.place_gives self.old control.old room.old result self.new control.new room.new }
     {
         let stage = mem::replace(&mut self.stage, Stage::Taken);
-        let (stage, event) = controlled(stage, self.processors, control, room);
+        let (stage, event) = step_control(stage, self.processors, control, room);
         drop(mem::replace(&mut self.stage, stage));
         event
     }
@@ -245,11 +246,11 @@ impl<'k, K: Drop, V: Drop, F: Change<K, V>, A: Allocator> Party<'k, K, V, F, A> 
     ///
     /// Constant time.
     #[inline]
-    pub fn on_start(&mut self, start: &Start) -> Event
+    pub fn on_start(&mut self, start: &PublishedTable) -> Event
         requires { locates self.old.stage ≡ true }
-        ensures within { start.now ≤ 30 }
+        ensures within { start.now ≤ GREATEST_TABLE }
         ensures silent { result ≡ Event.Silent }
-        ensures at { self.new ≡ with_stage self.old (started start.now self.old.stage) }
+        ensures at { self.new ≡ with_stage self.old (started_stage start.now self.old.stage) }
     {
         match mem::replace(&mut self.stage, Stage::Taken) {
             Stage::Locate(task) => {
@@ -262,7 +263,7 @@ impl<'k, K: Drop, V: Drop, F: Change<K, V>, A: Allocator> Party<'k, K, V, F, A> 
     }
 }
 
-impl<'k, K: Ord + Drop, V: Drop, F: Change<K, V>, A: Allocator> Party<'k, K, V, F, A> {
+impl<'k, K: Ord + Drop, V: Drop, F: ComputeFn<K, V>, A: Allocator> Party<'k, K, V, F, A> {
     /// The step of a look-up at its slot. Unless the bin is unborn, fewer steps are left than before.
     ///
     /// As many steps as a look-up in the bin.
@@ -280,7 +281,7 @@ impl<'k, K: Ord + Drop, V: Drop, F: Change<K, V>, A: Allocator> Party<'k, K, V, 
         let Task::Find(sought, key) = task else {
             unreachable!()
         };
-        let (stage, event) = looked(self.hash, sought, key, table, slot);
+        let (stage, event) = step_lookup(self.hash, sought, key, table, slot);
         drop(mem::replace(&mut self.stage, stage));
         event
     }
@@ -316,7 +317,7 @@ impl<'k, K: Ord + Drop, V: Drop, F: Change<K, V>, A: Allocator> Party<'k, K, V, 
     }
 }
 
-impl<'k, K: Ord + Drop, V: Drop, F: Change<K, V>, A: Allocator + Copy> Party<'k, K, V, F, A> {
+impl<'k, K: Ord + Drop, V: Drop, F: ComputeFn<K, V>, A: Allocator + Copy> Party<'k, K, V, F, A> {
     /// The step at its slot of a call that may change it.
     ///
     /// As many steps as a look-up in the bin.
@@ -327,7 +328,7 @@ impl<'k, K: Ord + Drop, V: Drop, F: Change<K, V>, A: Allocator + Copy> Party<'k,
     {
         match mem::replace(&mut self.stage, Stage::Taken) {
             Stage::Bin(task, table) => {
-                let (stage, event) = changed(alloc, self.hash, task, table, slot);
+                let (stage, event) = step_write(alloc, self.hash, task, table, slot);
                 drop(mem::replace(&mut self.stage, stage));
                 event
             }

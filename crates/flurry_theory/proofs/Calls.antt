@@ -4,7 +4,7 @@ use Rattle.std.specs.declared.cmp.Ordering.{Ordering}
 use Rattle.std.proofs.Common.{arith}
 use Rattle.std.proofs.lemmas.Grind.{common_steps}
 use Rattle.std.proofs.lemmas.Bool.{eqb-true, eqb-false}
-use Rattle.flurry_theory.specs.Machine.{State, Line, Can, does, settle, Quiet, Counts, Begins, Finds, Opens, FindsNothing, IsRefused, DecidesEmpty, Passes, Decides, Places, Claims, Moves, Reports, Publishes, Reads, Leaves, Splits, Wipes, SplitsClear, Replies, Ends}
+use Rattle.flurry_theory.specs.Machine.{State, Transition, Can, does, settle, Quiet, Counts, Begins, Finds, Opens, FindsNothing, IsRefused, DecidesEmpty, Passes, Decides, Places, Claims, Moves, Reports, Publishes, Reads, Leaves, Splits, Wipes, SplitsClear, Replies, Ends}
 use Rattle.flurry_theory.specs.Invariant.{PartyOk}
 use Rattle.flurry_theory.proofs.Settled.{party_settled}
 
@@ -24,7 +24,7 @@ module _ {K V F : Type 0} (cmp : K → K → Ordering) (hash : K → ℕ) (gives
     clearing = grind (arith, common_steps, can, h.call, h.clearing, own.going, own.looking, eqb-true, eqb-false);
   }
 
-  pub party_ok : (s : State K V F) (p q : ℕ) (l : Line K V F) → Can cmp hash gives s p l → PartyOk s p → PartyOk s q → PartyOk (does cmp hash gives s p l) q
+  pub party_ok : (s : State K V F) (p q : ℕ) (l : Transition K V F) → Can cmp hash gives s p l → PartyOk s p → PartyOk s q → PartyOk (does cmp hash gives s p l) q
   party_ok s p q Quiet can own h = quiet_ok s p q can own h
   party_ok s p q (Counts whose) can own h = quiet_ok (settle whose s) p q (λ x. absurd (grind (arith, x, can))) (party_settled whose s p own) (party_settled whose s q h)
   party_ok s p q (Begins c w) can own h = record {

@@ -6,9 +6,9 @@ use Rattle.std.proofs.Common.{arith, refl, sym, ◌∙◌, ap, subst, inl, inr}
 use Rattle.std.proofs.lemmas.Int.{ints}
 use Rattle.std.proofs.lemmas.Bool.{eq-eqb, ne_eqb, cases_lt, cond-false, false_from_ne_true}
 use Rattle.flurry_theory.specs.Map.{Unique, same, find, after}
-use Rattle.flurry_theory.specs.Trace.{decided, in_region, pairs, at}
+use Rattle.flurry_theory.specs.Trace.{map_after_decision, in_region, pairs, at}
 use Rattle.flurry_theory.specs.Bin.{Entry}
-use Rattle.flurry_theory.specs.Machine.{RefusedAt, Mode, Locating, Looking, Walking, Clearing, Done, halves, onward, found_by, owes_added, owes_removed, settled, State, Line, Can, does, at_bin, at_place, Live, Finished, Frame, Begins, Quiet, Counts, Finds, Opens, FindsNothing, IsRefused, DecidesEmpty, Passes, Decides, Places, Claims, Moves, Reports, Publishes, Reads, Leaves, Splits, Wipes, SplitsClear, Replies, Ends}
+use Rattle.flurry_theory.specs.Machine.{RefusedAt, Mode, Locating, Looking, Walking, Clearing, Done, halves, onward, found_by, owes_added, owes_removed, mode_after_count, State, Transition, Can, does, at_bin, at_place, Live, Finished, Frame, Begins, Quiet, Counts, Finds, Opens, FindsNothing, IsRefused, DecidesEmpty, Passes, Decides, Places, Claims, Moves, Reports, Publishes, Reads, Leaves, Splits, Wipes, SplitsClear, Replies, Ends}
 use Rattle.flurry_theory.specs.Machine.{total}
 use Rattle.flurry_theory.specs.Invariant.{PartyOk, Tables, home_after, Counted}
 use Rattle.flurry_theory.proofs.Bins.{find-after_other, find-wiped}
@@ -26,15 +26,15 @@ placed_owed : {K V : Type 0} (owes : Mode K V → ℕ) (modes : ℕ → Mode K V
 placed_owed owes modes p n m l = omega (arith, total-change (λ q. owes (at_place modes p m q)) (λ q. owes (modes q)) p n l (λ q ne. ap owes (place_other modes p q m ne)), ap owes (place_here modes p m))
 
 -- what the parties that pass a test owe, and what is owed once theirs is counted, are all that was owed
-still_owed : {K V : Type 0} (owes : Mode K V → ℕ) (modes : ℕ → Mode K V) (whose : ℕ → Bool) (n : ℕ) → ((m : Mode K V) → owes (settled m) ≡ 0) → total (λ q. if whose q then owes (modes q) else 0) n + total (λ q. owes (cond (whose q) (settled (modes q)) (modes q))) n ≡ total (λ q. owes (modes q)) n
+still_owed : {K V : Type 0} (owes : Mode K V → ℕ) (modes : ℕ → Mode K V) (whose : ℕ → Bool) (n : ℕ) → ((m : Mode K V) → owes (mode_after_count m) ≡ 0) → total (λ q. if whose q then owes (modes q) else 0) n + total (λ q. owes (cond (whose q) (mode_after_count (modes q)) (modes q))) n ≡ total (λ q. owes (modes q)) n
 still_owed owes modes whose zero z = refl
 still_owed {K = K} {V = V} owes modes whose (suc n) z = omega (arith, still_owed owes modes whose n z, one (whose n) (modes n))
   where
-    one : (b : Bool) (m : Mode K V) → (if b then owes m else 0) + owes (cond b (settled m) m) ≡ owes m
+    one : (b : Bool) (m : Mode K V) → (if b then owes m else 0) + owes (cond b (mode_after_count m) m) ≡ owes m
     one true m = omega (arith, z m)
     one false m = omega arith
 
-settled_added : {K V : Type 0} (m : Mode K V) → owes_added (settled m) ≡ 0
+settled_added : {K V : Type 0} (m : Mode K V) → owes_added (mode_after_count m) ≡ 0
 settled_added Locating = refl
 settled_added (Looking e) = refl
 settled_added (Walking e i fs) = refl
@@ -42,7 +42,7 @@ settled_added (Clearing wiped e i fs) = refl
 settled_added (Done r x y) = refl
 settled_added Finished = refl
 
-settled_removed : {K V : Type 0} (m : Mode K V) → owes_removed (settled m) ≡ 0
+settled_removed : {K V : Type 0} (m : Mode K V) → owes_removed (mode_after_count m) ≡ 0
 settled_removed Locating = refl
 settled_removed (Looking e) = refl
 settled_removed (Walking e i fs) = refl
@@ -134,7 +134,7 @@ module _ {K V F : Type 0} (cmp : K → K → Ordering) (total_order : IsTotalOrd
       l = known s p o (λ h. grind (arith, h, can.2))
 
       is : pairs cmp hash (Decide p r ∷ s.trace) ≡ after cmp c r (pairs cmp hash s.trace)
-      is = ap (λ u. decided cmp hash u r (pairs cmp hash s.trace)) (o.call ∙ can.0)
+      is = ap (λ u. map_after_decision cmp hash u r (pairs cmp hash s.trace)) (o.call ∙ can.0)
 
       one : length (pairs cmp hash (Decide p r ∷ s.trace)) ≤ suc (length (pairs cmp hash s.trace))
       one = subst (λ m. length m ≤ suc (length (pairs cmp hash s.trace))) (sym is) (length-after cmp total_order c r (pairs cmp hash s.trace))
@@ -218,9 +218,9 @@ module _ {K V F : Type 0} (cmp : K → K → Ordering) (total_order : IsTotalOrd
       same = moves_on s p (Done (Some r) 0 0) o (λ h. grind (arith, h, can.1)) (sym (ap owes_added can.1)) (sym (ap owes_removed can.1)) v
 
       unique : Unique cmp (pairs cmp hash (Decide p r ∷ s.trace))
-      unique = subst (Unique cmp) (sym (ap (λ u. decided cmp hash u r (pairs cmp hash s.trace)) (o.call ∙ can.0))) (unique-after cmp total_order c r (pairs cmp hash s.trace) v.unique)
+      unique = subst (Unique cmp) (sym (ap (λ u. map_after_decision cmp hash u r (pairs cmp hash s.trace)) (o.call ∙ can.0))) (unique-after cmp total_order c r (pairs cmp hash s.trace) v.unique)
 
-  pub counted_ok : (home : ℕ → ℕ) (s : State K V F) (p : ℕ) (l : Line K V F) → Can cmp hash gives s p l → PartyOk s p → Tables cmp hash home s → Tables cmp hash (home_after home l) (does cmp hash gives s p l) → Counted cmp hash s → Counted cmp hash (does cmp hash gives s p l)
+  pub counted_ok : (home : ℕ → ℕ) (s : State K V F) (p : ℕ) (l : Transition K V F) → Can cmp hash gives s p l → PartyOk s p → Tables cmp hash home s → Tables cmp hash (home_after home l) (does cmp hash gives s p l) → Counted cmp hash s → Counted cmp hash (does cmp hash gives s p l)
   counted_ok home s p (Begins c y) can o t u v = begins_counted s p c y can v
   counted_ok home s p Quiet can o t u v = record { unique = v.unique; balance = v.balance; held = omega (arith, v.held); owed = omega (arith, v.owed) }
   counted_ok home s p (Counts whose) can o t u v = counts_counted s p whose v

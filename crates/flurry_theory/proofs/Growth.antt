@@ -4,9 +4,9 @@ use Rattle.std.specs.declared.cmp.Ordering.{Ordering}
 use Rattle.std.proofs.Common.{arith, refl, ◌∙◌}
 use Rattle.std.proofs.lemmas.Bool.{eqb-true, eq-eqb, ne_eqb, false_from_ne_true}
 use Rattle.flurry_theory.specs.Map.{Allows, CanBeRefused}
-use Rattle.flurry_theory.specs.Trace.{moved, pairs}
+use Rattle.flurry_theory.specs.Trace.{was_moved_in, pairs}
 use Rattle.flurry_theory.specs.Bin.{Entry}
-use Rattle.flurry_theory.specs.Machine.{State, Claim, Growth, Line, Can, does, label, Live, Done, Finished, Begins, Quiet, Counts, Finds, Opens, FindsNothing, IsRefused, DecidesEmpty, Passes, Decides, Places, Claims, Moves, Reports, Publishes, Reads, Leaves, Splits, Wipes, SplitsClear, Replies, Ends}
+use Rattle.flurry_theory.specs.Machine.{State, Claim, Growth, Transition, Can, does, label, Live, Done, Finished, Begins, Quiet, Counts, Finds, Opens, FindsNothing, IsRefused, DecidesEmpty, Passes, Decides, Places, Claims, Moves, Reports, Publishes, Reads, Leaves, Splits, Wipes, SplitsClear, Replies, Ends}
 use Rattle.flurry_theory.specs.Invariant.{PartyOk, Tables, Cut, Grown}
 use Rattle.flurry_theory.proofs.Ranges.{all_moved}
 use Rattle.flurry_theory.proofs.Refusals.{refused_at_work}
@@ -17,7 +17,7 @@ use Rattle.flurry_model.specs.declared.reply.KeptReply.{KeptReply}
 use Rattle.flurry_theory.specs.declared.Label.TheVariants.{Refused}
 
 module _ {K V F : Type 0} (cmp : K → K → Ordering) (hash : K → ℕ) (gives : F → K → V → Option V → Type 0) where
-  pub grown_ok : (first : Option ℕ) (s : State K V F) (p : ℕ) (l : Line K V F) → Can cmp hash gives s p l → Cut s → Grown first s → Grown first (does cmp hash gives s p l)
+  pub grown_ok : (first : Option ℕ) (s : State K V F) (p : ℕ) (l : Transition K V F) → Can cmp hash gives s p l → Cut s → Grown first s → Grown first (does cmp hash gives s p l)
   grown_ok first s p (Begins c z) can u w = record { number = w.number; placed_next = w.placed_next; unplaced = w.unplaced; unplaced_idle = w.unplaced_idle; unplaced_above = w.unplaced_above }
   grown_ok first s p Quiet can u w = record { number = w.number; placed_next = w.placed_next; unplaced = w.unplaced; unplaced_idle = w.unplaced_idle; unplaced_above = w.unplaced_above }
   grown_ok first s p (Counts whose) can u w = record { number = w.number; placed_next = w.placed_next; unplaced = w.unplaced; unplaced_idle = w.unplaced_idle; unplaced_above = w.unplaced_above }
@@ -71,8 +71,8 @@ module _ {K V F : Type 0} (cmp : K → K → Ordering) (hash : K → ℕ) (gives
   grown_ok first s p (Replies r) can u w = record { number = w.number; placed_next = w.placed_next; unplaced = w.unplaced; unplaced_idle = w.unplaced_idle; unplaced_above = w.unplaced_above }
   grown_ok first s p Ends can u w = record { number = w.number; placed_next = w.placed_next; unplaced = w.unplaced; unplaced_idle = w.unplaced_idle; unplaced_above = w.unplaced_above }
 
-  not_moved : (home : ℕ → ℕ) (s : State K V F) (d j : ℕ) (es : List (Entry K V)) (n : ℕ) → Tables cmp hash home s → s.slot d j ≡ Live es n → moved s.trace d j ≡ false
-  not_moved home s d j es n t l = false_from_ne_true (moved s.trace d j) (λ m. grind (arith, t.is_moved d j m, l))
+  not_moved : (home : ℕ → ℕ) (s : State K V F) (d j : ℕ) (es : List (Entry K V)) (n : ℕ) → Tables cmp hash home s → s.slot d j ≡ Live es n → was_moved_in s.trace d j ≡ false
+  not_moved home s d j es n t l = false_from_ne_true (was_moved_in s.trace d j) (λ m. grind (arith, t.is_moved d j m, l))
 
   growing : (s : State K V F) (p : ℕ) (a : Claim) → s.claim p ≡ Some a → Cut s → (g : Growth) × (s.growth ≡ Some g)
   growing s p a h u = go s.growth refl
@@ -82,7 +82,7 @@ module _ {K V F : Type 0} (cmp : K → K → Ordering) (hash : K → ℕ) (gives
       go (Some g) e = (g, e)
 
   -- each label of a growth is lawful
-  pub growth_lawful : (first : Option ℕ) (home : ℕ → ℕ) (s : State K V F) (p : ℕ) (l : Line K V F) → Can cmp hash gives s p l → ((q : ℕ) → PartyOk s q) → Tables cmp hash home s → Cut s → Grown first s → GrowthMay first s.trace (label cmp hash gives p l)
+  pub growth_lawful : (first : Option ℕ) (home : ℕ → ℕ) (s : State K V F) (p : ℕ) (l : Transition K V F) → Can cmp hash gives s p l → ((q : ℕ) → PartyOk s q) → Tables cmp hash home s → Cut s → Grown first s → GrowthMay first s.trace (label cmp hash gives p l)
   growth_lawful first home s p (Begins c z) can o t u w = tt
   growth_lawful first home s p Quiet can o t u w = tt
   growth_lawful first home s p (Counts whose) can o t u w = tt
@@ -107,7 +107,7 @@ module _ {K V F : Type 0} (cmp : K → K → Ordering) (hash : K → ℕ) (gives
   growth_lawful first home s p Ends can o t u w = tt
 
   -- the reply that the line decides is one that the map allows, and so is a refusal
-  abbrev pub AllowsNow : State K V F → ℕ → Line K V F → Type 0
+  abbrev pub AllowsNow : State K V F → ℕ → Transition K V F → Type 0
   AllowsNow s p (DecidesEmpty c r) = Allows cmp gives c (pairs cmp hash s.trace) r
   AllowsNow s p (Decides c k e es n r fs m) = Allows cmp gives c (pairs cmp hash s.trace) r
   AllowsNow s p IsRefused = (c : Call K V F) × (s.call p ≡ Some c) × CanBeRefused cmp gives c (pairs cmp hash s.trace)
@@ -119,7 +119,7 @@ module _ {K V F : Type 0} (cmp : K → K → Ordering) (hash : K → ℕ) (gives
       ((a.0, o.call ∙ a.1, a.2), o.undecided f.1 f.0, (o.going f.0).1)
 
   -- each label of a call is lawful
-  pub calls_lawful : (s : State K V F) (p : ℕ) (l : Line K V F) → Can cmp hash gives s p l → PartyOk s p → AllowsNow s p l → CallMay cmp hash gives s.trace (label cmp hash gives p l)
+  pub calls_lawful : (s : State K V F) (p : ℕ) (l : Transition K V F) → Can cmp hash gives s p l → PartyOk s p → AllowsNow s p l → CallMay cmp hash gives s.trace (label cmp hash gives p l)
   calls_lawful s p (Begins c w) can o a = o.call ∙ (o.unknown (omega (arith, can.0))).0
   calls_lawful s p Quiet can o a = tt
   calls_lawful s p (Counts whose) can o a = tt

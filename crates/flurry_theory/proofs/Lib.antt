@@ -8,10 +8,10 @@ pub mod Count
 pub mod Counts
 pub mod Origins
 pub mod Numbers
-pub mod Own
+pub mod OwnSteps
 pub mod Settled
 pub mod Refusals
-pub mod Named
+pub mod NoUnbornBin
 pub mod Lookups
 pub mod Step
 pub mod BinSteps

@@ -5,15 +5,15 @@ use Rattle.std.specs.Cmp.{IsTotalOrder}
 use Rattle.std.proofs.Common.{arith, refl, sym, ◌∙◌, ap, subst, subst₂, inl, inr}
 use Rattle.std.proofs.lemmas.Bool.{eq-eqb, ne_eqb, cases_eq, cond-true, cond-false}
 use Rattle.flurry_theory.specs.Map.{same}
-use Rattle.flurry_theory.specs.Trace.{decision, replied, closed, is_lookup}
+use Rattle.flurry_theory.specs.Trace.{decision, has_replied, has_closed, is_lookup}
 use Rattle.flurry_theory.specs.Legal.{IsWalk, IsClear}
-use Rattle.flurry_theory.specs.Machine.{State, Line, Can, does, steps_after, at_place, found_by, Mode, Locating, Looking, Walking, Clearing, Done, Finished, Begins, Quiet, Counts, Finds, Opens, FindsNothing, IsRefused, DecidesEmpty, Passes, Decides, Places, Claims, Moves, Reports, Publishes, Reads, Leaves, Splits, Wipes, SplitsClear, Replies, Ends}
+use Rattle.flurry_theory.specs.Machine.{State, Transition, Can, does, steps_after, at_place, found_by, Mode, Locating, Looking, Walking, Clearing, Done, Finished, Begins, Quiet, Counts, Finds, Opens, FindsNothing, IsRefused, DecidesEmpty, Passes, Decides, Places, Claims, Moves, Reports, Publishes, Reads, Leaves, Splits, Wipes, SplitsClear, Replies, Ends}
 use Rattle.flurry_theory.specs.Invariant.{PartyOk, Tables, Cut, Named, key_in, one_key, Waits, LooksUp}
 use Rattle.flurry_theory.proofs.Refusals.{refused_at_work}
 use Rattle.flurry_theory.proofs.Ranges.{home_limit, place_here, place_other}
 use Rattle.flurry_theory.proofs.Tables.{same_some}
 use Rattle.flurry_theory.proofs.Settled.{waits_settled}
-use Rattle.flurry_theory.proofs.Own.{next_mode, next_call, other_mode, other_keeps, mode_after, call_after}
+use Rattle.flurry_theory.proofs.OwnSteps.{next_mode, next_call, other_mode, other_keeps, mode_after, call_after}
 use Rattle.flurry_model.specs.declared.call.Call.{Call}
 use Rattle.flurry_model.specs.declared.call.Call.TheVariants.{Get, GetKeyValue, ContainsKey, Insert, TryInsert, Compute, Remove, RemoveEntry, RemoveSeen, Reserve, Clear, Walk}
 use Rattle.flurry_model.specs.declared.reply.KeptReply.{KeptReply}
@@ -63,7 +63,7 @@ module _ {K V F : Type 0} (cmp : K → K → Ordering) (total : IsTotalOrder cmp
   raised None n h = absurd (grind (arith, h))
   raised (Some c) n h = refl
 
-  own_waits : (s : State K V F) (p : ℕ) (l : Line K V F) → Can cmp hash gives s p l → PartyOk s p → Waits (s.call p) (s.mode p) (s.steps p) → Waits (next_call cmp total hash lawful gives s p l) (next_mode cmp total hash lawful gives s p l) (steps_after cmp hash gives s p l)
+  own_waits : (s : State K V F) (p : ℕ) (l : Transition K V F) → Can cmp hash gives s p l → PartyOk s p → Waits (s.call p) (s.mode p) (s.steps p) → Waits (next_call cmp total hash lawful gives s p l) (next_mode cmp total hash lawful gives s p l) (steps_after cmp hash gives s p l)
   unfolding next_mode next_call
   own_waits s p (Begins c y) can o w = λ h. (λ m. refl, λ d m. absurd (grind (arith, m)), λ a b m. grind (arith, m))
   own_waits s p Quiet can o w = λ h. (λ m. absurd (grind (arith, m, can h)), λ d m. absurd (grind (arith, m, can h)), λ a b m. grind (arith, m, can h))
@@ -88,7 +88,7 @@ module _ {K V F : Type 0} (cmp : K → K → Ordering) (total : IsTotalOrder cmp
   own_waits s p (Replies r) can o w = λ h. (λ m. absurd (grind (arith, m)), λ d m. absurd (grind (arith, m)), λ a b m. grind (arith, m))
   own_waits s p Ends can o w = λ h. (λ m. absurd (grind (arith, m)), λ d m. absurd (grind (arith, m)), λ a b m. grind (arith, m))
 
-  pub waits_ok : (s : State K V F) (p q : ℕ) (l : Line K V F) → Can cmp hash gives s p l → PartyOk s p → ((q : ℕ) → Waits (s.call q) (s.mode q) (s.steps q)) → Waits ((does cmp hash gives s p l).call q) ((does cmp hash gives s p l).mode q) ((does cmp hash gives s p l).steps q)
+  pub waits_ok : (s : State K V F) (p q : ℕ) (l : Transition K V F) → Can cmp hash gives s p l → PartyOk s p → ((q : ℕ) → Waits (s.call q) (s.mode q) (s.steps q)) → Waits ((does cmp hash gives s p l).call q) ((does cmp hash gives s p l).mode q) ((does cmp hash gives s p l).steps q)
   waits_ok s p q l can o w = go (cases_eq q p)
     where
       go : (q ≡ p) ⊎ (q ≡ p → ⊥) → Waits ((does cmp hash gives s p l).call q) ((does cmp hash gives s p l).mode q) ((does cmp hash gives s p l).steps q)
@@ -105,7 +105,7 @@ module _ {K V F : Type 0} (cmp : K → K → Ordering) (total : IsTotalOrder cmp
   by_call None n = omega arith
   by_call (Some c) n = omega arith
 
-  one_step : (s : State K V F) (p : ℕ) (l : Line K V F) → steps_after cmp hash gives s p l ≤ suc (s.steps p)
+  one_step : (s : State K V F) (p : ℕ) (l : Transition K V F) → steps_after cmp hash gives s p l ≤ suc (s.steps p)
   one_step s p (Begins c y) = omega arith
   one_step s p Quiet = by_call (s.call p) (s.steps p)
   one_step s p (Counts whose) = by_call (s.call p) (s.steps p)
@@ -129,7 +129,7 @@ module _ {K V F : Type 0} (cmp : K → K → Ordering) (total : IsTotalOrder cmp
   one_step s p (Replies r) = by_call (s.call p) (s.steps p)
   one_step s p Ends = by_call (s.call p) (s.steps p)
 
-  pub steps_ok : (s : State K V F) (p q : ℕ) (l : Line K V F) → ((q : ℕ) → s.steps q ≤ length s.trace) → (does cmp hash gives s p l).steps q ≤ suc (length s.trace)
+  pub steps_ok : (s : State K V F) (p q : ℕ) (l : Transition K V F) → ((q : ℕ) → s.steps q ≤ length s.trace) → (does cmp hash gives s p l).steps q ≤ suc (length s.trace)
   steps_ok s p q l h = go (cases_eq q p)
     where
       go : (q ≡ p) ⊎ (q ≡ p → ⊥) → at_place s.steps p (steps_after cmp hash gives s p l) q ≤ suc (length s.trace)
@@ -138,10 +138,10 @@ module _ {K V F : Type 0} (cmp : K → K → Ordering) (total : IsTotalOrder cmp
 
   -- THE LAW
   in_time : (home : ℕ → ℕ) (s : State K V F) (p : ℕ) → PartyOk s p → Tables cmp hash home s → Cut s → Named hash (is_some s.published) home s.start (s.call p) (s.mode p) → Waits (s.call p) (s.mode p) (s.steps p)
-      → is_lookup (s.call p) ≡ true → decision s.trace p ≡ None → closed s.trace p ≡ false → s.steps p < 32
+      → is_lookup (s.call p) ≡ true → decision s.trace p ≡ None → has_closed s.trace p ≡ false → s.steps p < 32
   in_time home s p o t u nm w h d c = go (s.mode p) refl
     where
-      over : (replied s.trace p ≡ true) ⊎ (closed s.trace p ≡ true) → ⊥
+      over : (has_replied s.trace p ≡ true) ⊎ (has_closed s.trace p ≡ true) → ⊥
       over (inl r) = grind (arith, d, o.settled r)
       over (inr r) = grind (arith, c, r)
 
@@ -157,11 +157,11 @@ module _ {K V F : Type 0} (cmp : K → K → Ordering) (total : IsTotalOrder cmp
       go (Done (Some r) x y) e = absurd (grind (arith, d, o.decided r x y e))
       go Finished e = absurd (over (o.finished e (lookup_begun (s.call p) h)))
 
-  next_reply : (s : State K V F) (p : ℕ) → PartyOk s p → is_lookup (s.call p) ≡ true → (r : KeptReply K V) → decision s.trace p ≡ Some r → replied s.trace p ≡ false → (l : Line K V F) → Can cmp hash gives s p l → l ≡ Replies r
+  next_reply : (s : State K V F) (p : ℕ) → PartyOk s p → is_lookup (s.call p) ≡ true → (r : KeptReply K V) → decision s.trace p ≡ Some r → has_replied s.trace p ≡ false → (l : Transition K V F) → Can cmp hash gives s p l → l ≡ Replies r
   next_reply s p o h r d rp (Begins c y) can = absurd (grind (arith, h, (o.unknown (omega (arith, can.0))).0))
   next_reply s p o h r d rp Quiet can = absurd (over (o.finished (can h) (lookup_begun (s.call p) h)))
     where
-      over : (replied s.trace p ≡ true) ⊎ (closed s.trace p ≡ true) → ⊥
+      over : (has_replied s.trace p ≡ true) ⊎ (has_closed s.trace p ≡ true) → ⊥
       over (inl q) = grind (arith, rp, q)
       over (inr q) = grind (arith, d, o.refused q (lookup_one_key (s.call p) h))
   next_reply s p o h r d rp (Counts whose) can = absurd (grind (arith, h, can))

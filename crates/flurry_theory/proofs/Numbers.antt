@@ -7,22 +7,23 @@ use Rattle.std.proofs.lemmas.Grind.{common_steps}
 use Rattle.std.proofs.lemmas.Bool.{eqb-true, eqb-false, eq-eqb, ne_eqb, cases_Bool, and_parts, and_from, and_cases, lt-ltb, ltb-true}
 use Rattle.std.proofs.lemmas.Nat.{mod_below, pow_pos}
 use Rattle.flurry_theory.specs.Map.{same, key_of, Allows}
-use Rattle.flurry_theory.specs.Trace.{Trace, begins, begun, decision, last_read, read_before}
+use Rattle.flurry_theory.specs.Trace.{Trace, begins, call_begun_by, decision, last_read, read_before}
 use Rattle.flurry_theory.specs.Bin.{Entry, number_of, bump, has_number, past, first_past, Ascending, InRegion, half}
-use Rattle.flurry_theory.specs.Machine.{State, Slot, Claim, Line, Can, does, label, at_bin, at_place, Live, Frame, Begins, Quiet, Counts, Finds, Opens, FindsNothing, IsRefused, DecidesEmpty, Passes, Decides, Places, Claims, Moves, Reports, Publishes, Reads, Leaves, Splits, Wipes, SplitsClear, Replies, Ends}
+use Rattle.flurry_theory.specs.Machine.{State, Slot, Claim, Transition, Can, does, label, at_bin, at_place, Live, Frame, Begins, Quiet, Counts, Finds, Opens, FindsNothing, IsRefused, DecidesEmpty, Passes, Decides, Places, Claims, Moves, Reports, Publishes, Reads, Leaves, Splits, Wipes, SplitsClear, Replies, Ends}
 use Rattle.flurry_theory.specs.Invariant.{PartyOk, Tables, home_after, Origins, pair_seen, number_in, writes_in, newer, number_at, writes_at, Judged, Numbers}
 use Rattle.flurry_theory.proofs.Bins.{one_class, past-same, region-first_past, found-first_past, in_a_half, in_low_half, in_high_half}
 use Rattle.flurry_theory.proofs.Tables.{at_bin_elim, same_some, homes}
 use Rattle.flurry_theory.proofs.Ranges.{place_here, place_other}
 use Rattle.flurry_theory.proofs.Origins.{begun_after}
 use Rattle.flurry_theory.specs.Legal
-use Rattle.flurry_theory.specs.Legal.{touches, changed_by, is_class, changes, removes, untouched, untouched_for, RemovalMay, HasRead, Lacked, Stays, EachMay, RemovesPair}
+use Rattle.flurry_theory.specs.Legal.{touches, changed_by, is_class, changes, removes, is_untouched, untouched_for, RemovalMay, HasRead, Lacked, Stays, EachMay, RemovesPair}
 use Rattle.flurry_model.specs.declared.call.Seen.{Seen}
 use Rattle.flurry_model.specs.declared.call.Call.{Call}
 use Rattle.flurry_model.specs.declared.call.Call.TheVariants.{RemoveSeen}
 use Rattle.flurry_model.specs.declared.reply.KeptReply.{KeptReply}
 use Rattle.flurry_theory.specs.declared.Label.{Label}
 use Rattle.flurry_theory.specs.declared.Label.TheVariants.{Begin, Decide, Wipe, Refused, Read, End, Opened, Placed, Published, Silent, Moved as MovedBin, Reply as Replied}
+use Rattle.flurry_model.specs.declared.sizes.TheConstants.{MOST_LABELS}
 
 -- a count of writes goes up by one at most, and stays at the greatest number
 bump_rises : (n : ℕ) → (n ≤ bump n) × (bump n ≤ n + 1)
@@ -136,7 +137,7 @@ module _ {K V F : Type 0} (cmp : K → K → Ordering) (total : IsTotalOrder cmp
   same_change : (t : Trace K V F) (l : Label K V F) (number number' : K → Option ℕ) (writes writes' : K → ℕ) → ((k : K) → (number' k ≡ number k) × (writes' k ≡ writes k)) → ((k : K) → touches cmp hash gives t l k ≡ false) → Change t l number number' writes writes'
   same_change t l number number' writes writes' h z = record { grows = λ k. (omega (arith, (h k).1), omega (arith, (h k).1)); limit = λ k l. omega (arith, l, (h k).1); kept = λ k _. (h k).0; new = λ k y. absurd (grind (arith, y, z k)) }
 
-  change : (home : ℕ → ℕ) (s : State K V F) (p : ℕ) (l : Line K V F) → Can cmp hash gives s p l → PartyOk s p → Tables cmp hash home s
+  change : (home : ℕ → ℕ) (s : State K V F) (p : ℕ) (l : Transition K V F) → Can cmp hash gives s p l → PartyOk s p → Tables cmp hash home s
       → Change s.trace (label cmp hash gives p l) (number_at cmp hash gives home s) (number_at cmp hash gives (home_after home l) (does cmp hash gives s p l)) (writes_at cmp hash gives home s) (writes_at cmp hash gives (home_after home l) (does cmp hash gives s p l))
   change home s p (Begins c y) can o t = record { grows = λ k. (omega arith, omega arith); limit = λ k l. l; kept = λ k _. refl; new = λ k h. absurd (grind (arith, h)) }
   change home s p Quiet can o t = record { grows = λ k. (omega arith, omega arith); limit = λ k l. l; kept = λ k _. refl; new = λ k h. absurd (grind (arith, h)) }
@@ -236,7 +237,7 @@ module _ {K V F : Type 0} (cmp : K → K → Ordering) (total : IsTotalOrder cmp
   }
 
   -- a last read is as before, or just read
-  seen_after : (home : ℕ → ℕ) (s : State K V F) (p : ℕ) (l : Line K V F) → Can cmp hash gives s p l → Tables cmp hash home s → (w : ℕ) (z : Seen K V) → (does cmp hash gives s p l).seen w ≡ Some z
+  seen_after : (home : ℕ → ℕ) (s : State K V F) (p : ℕ) (l : Transition K V F) → Can cmp hash gives s p l → Tables cmp hash home s → (w : ℕ) (z : Seen K V) → (does cmp hash gives s p l).seen w ≡ Some z
       → ((s.seen w ≡ Some z) × (Legal.reads cmp hash gives w (label cmp hash gives p l) ≡ false)) ⊎ ((Legal.reads cmp hash gives w (label cmp hash gives p l) ≡ true) × (number_at cmp hash gives home s z.key ≡ Some z.number))
   seen_after home s p (Begins c y) can t w z h = inl (grind (arith, h, eqb-true), refl)
   seen_after home s p Quiet can t w z h = inl (h, refl)
@@ -261,7 +262,7 @@ module _ {K V F : Type 0} (cmp : K → K → Ordering) (total : IsTotalOrder cmp
   seen_after home s p (Replies r) can t w z h = inl (h, refl)
   seen_after home s p Ends can t w z h = inl (h, refl)
 
-  pub numbers_ok : (home : ℕ → ℕ) (s : State K V F) (p : ℕ) (l : Line K V F) → Can cmp hash gives s p l → PartyOk s p → Tables cmp hash home s → Numbers cmp hash gives home s → Numbers cmp hash gives (home_after home l) (does cmp hash gives s p l)
+  pub numbers_ok : (home : ℕ → ℕ) (s : State K V F) (p : ℕ) (l : Transition K V F) → Can cmp hash gives s p l → PartyOk s p → Tables cmp hash home s → Numbers cmp hash gives home s → Numbers cmp hash gives (home_after home l) (does cmp hash gives s p l)
   numbers_ok home s p l can o t v = record {
     bounded = λ k m h. grind (arith, h, v.bounded k, ch.grows k, ch.kept k, ch.new k, cases_Bool (touches cmp hash gives s.trace (label cmp hash gives p l) k));
     limit = λ k. ch.limit k (v.limit k);
@@ -274,14 +275,14 @@ module _ {K V F : Type 0} (cmp : K → K → Ordering) (total : IsTotalOrder cmp
       ch = change home s p l can o t
 
       see : (w : ℕ) (z : Seen K V) → ((s.seen w ≡ Some z) × (Legal.reads cmp hash gives w (label cmp hash gives p l) ≡ false)) ⊎ ((Legal.reads cmp hash gives w (label cmp hash gives p l) ≡ true) × (number_at cmp hash gives home s z.key ≡ Some z.number))
-          → Judged cmp hash gives (Legal.reads cmp hash gives w (label cmp hash gives p l) || (not (touches cmp hash gives s.trace (label cmp hash gives p l) z.key) && untouched cmp hash gives s.trace w z.key)) z (number_at cmp hash gives (home_after home l) (does cmp hash gives s p l) z.key) (writes_at cmp hash gives (home_after home l) (does cmp hash gives s p l) z.key)
-      see w z (inl h) = rw h.1 (judge_step s.trace (label cmp hash gives p l) (number_at cmp hash gives home s) (number_at cmp hash gives (home_after home l) (does cmp hash gives s p l)) (writes_at cmp hash gives home s) (writes_at cmp hash gives (home_after home l) (does cmp hash gives s p l)) (untouched cmp hash gives s.trace w z.key) z ch (v.limit z.key) (v.fresh w z h.0))
+          → Judged cmp hash gives (Legal.reads cmp hash gives w (label cmp hash gives p l) || (not (touches cmp hash gives s.trace (label cmp hash gives p l) z.key) && is_untouched cmp hash gives s.trace w z.key)) z (number_at cmp hash gives (home_after home l) (does cmp hash gives s p l) z.key) (writes_at cmp hash gives (home_after home l) (does cmp hash gives s p l) z.key)
+      see w z (inl h) = rw h.1 (judge_step s.trace (label cmp hash gives p l) (number_at cmp hash gives home s) (number_at cmp hash gives (home_after home l) (does cmp hash gives s p l)) (writes_at cmp hash gives home s) (writes_at cmp hash gives (home_after home l) (does cmp hash gives s p l)) (is_untouched cmp hash gives s.trace w z.key) z ch (v.limit z.key) (v.fresh w z h.0))
       see w z (inr h) = rw h.0 (judge_same s.trace (label cmp hash gives p l) (number_at cmp hash gives home s) (number_at cmp hash gives (home_after home l) (does cmp hash gives s p l)) (writes_at cmp hash gives home s) (writes_at cmp hash gives (home_after home l) (does cmp hash gives s p l)) true z ch (reads_touch s.trace (label cmp hash gives p l) w z.key h.0) (record { known = v.bounded z.key z.number h.1; same_number = λ _. h.1; new_number = λ e. absurd (grind (arith, e)) }))
 
       wait : (q w : ℕ) (z : Seen K V) → ((s.began_from q ≡ Some w) × (s.call q ≡ Some (RemoveSeen z)) × (begins q (label cmp hash gives p l) ≡ false)) ⊎ ((begins q (label cmp hash gives p l) ≡ true) × (s.seen w ≡ Some z))
-          → Judged cmp hash gives (if begins q (label cmp hash gives p l) then untouched cmp hash gives s.trace w z.key else not (touches cmp hash gives s.trace (label cmp hash gives p l) z.key) && untouched_for cmp hash gives s.trace q w z.key) z (number_at cmp hash gives (home_after home l) (does cmp hash gives s p l) z.key) (writes_at cmp hash gives (home_after home l) (does cmp hash gives s p l) z.key)
+          → Judged cmp hash gives (if begins q (label cmp hash gives p l) then is_untouched cmp hash gives s.trace w z.key else not (touches cmp hash gives s.trace (label cmp hash gives p l) z.key) && untouched_for cmp hash gives s.trace q w z.key) z (number_at cmp hash gives (home_after home l) (does cmp hash gives s p l) z.key) (writes_at cmp hash gives (home_after home l) (does cmp hash gives s p l) z.key)
       wait q w z (inl h) = rw h.2 (judge_step s.trace (label cmp hash gives p l) (number_at cmp hash gives home s) (number_at cmp hash gives (home_after home l) (does cmp hash gives s p l)) (writes_at cmp hash gives home s) (writes_at cmp hash gives (home_after home l) (does cmp hash gives s p l)) (untouched_for cmp hash gives s.trace q w z.key) z ch (v.limit z.key) (v.pending q w z h.0 h.1))
-      wait q w z (inr h) = rw h.0 (judge_same s.trace (label cmp hash gives p l) (number_at cmp hash gives home s) (number_at cmp hash gives (home_after home l) (does cmp hash gives s p l)) (writes_at cmp hash gives home s) (writes_at cmp hash gives (home_after home l) (does cmp hash gives s p l)) (untouched cmp hash gives s.trace w z.key) z ch (begins_touch s.trace (label cmp hash gives p l) q z.key h.0) (v.fresh w z h.1))
+      wait q w z (inr h) = rw h.0 (judge_same s.trace (label cmp hash gives p l) (number_at cmp hash gives home s) (number_at cmp hash gives (home_after home l) (does cmp hash gives s p l)) (writes_at cmp hash gives home s) (writes_at cmp hash gives (home_after home l) (does cmp hash gives s p l)) (is_untouched cmp hash gives s.trace w z.key) z ch (begins_touch s.trace (label cmp hash gives p l) q z.key h.0) (v.fresh w z h.1))
 
   -- REMOVALS
   -- what is removed bears the number that was read, so nothing has touched it
@@ -299,7 +300,7 @@ module _ {K V F : Type 0} (cmp : K → K → Ordering) (total : IsTotalOrder cmp
   untouched_removed b z number writes l j h = rw (j.same_number h) (grind (arith, j.known, l, eq-eqb, lt-ltb))
 
   removal : (home : ℕ → ℕ) (s : State K V F) (p : ℕ) (c : Call K V F) (k : K) (e : ℕ) (es : List (Entry K V)) (n : ℕ) (r : KeptReply K V) (fs : List (Entry K V)) (m w : ℕ) → Can cmp hash gives s p (Decides c k e es n r fs m) → PartyOk s p → Tables cmp hash home s → Origins s → Numbers cmp hash gives home s
-      → s.began_from p ≡ Some w → (x : K × V) × (read_before s.trace p w ≡ Some x) × (removes cmp hash gives r ≡ true → untouched_for cmp hash gives s.trace p w x.0 ≡ true) × (length s.trace < 2 ^ 62 → untouched_for cmp hash gives s.trace p w x.0 ≡ true → removes cmp hash gives r ≡ true)
+      → s.began_from p ≡ Some w → (x : K × V) × (read_before s.trace p w ≡ Some x) × (removes cmp hash gives r ≡ true → untouched_for cmp hash gives s.trace p w x.0 ≡ true) × (length s.trace < MOST_LABELS → untouched_for cmp hash gives s.trace p w x.0 ≡ true → removes cmp hash gives r ≡ true)
   removal home s p c k e es n r fs m w can o t u v b =
       let z : (z : Seen K V) × (s.call p ≡ Some (RemoveSeen z)) = u.origin p w b in
       let is : c ≡ RemoveSeen z.0 = same_some (sym can.0 ∙ z.1) in
@@ -314,7 +315,7 @@ module _ {K V F : Type 0} (cmp : K → K → Ordering) (total : IsTotalOrder cmp
       )
 
   empty_removal : (home : ℕ → ℕ) (s : State K V F) (p : ℕ) (c : Call K V F) (r : KeptReply K V) (w : ℕ) → Can cmp hash gives s p (DecidesEmpty c r) → PartyOk s p → Tables cmp hash home s → Origins s → Numbers cmp hash gives home s
-      → s.began_from p ≡ Some w → (x : K × V) × (read_before s.trace p w ≡ Some x) × (removes cmp hash gives r ≡ true → untouched_for cmp hash gives s.trace p w x.0 ≡ true) × (length s.trace < 2 ^ 62 → untouched_for cmp hash gives s.trace p w x.0 ≡ true → removes cmp hash gives r ≡ true)
+      → s.began_from p ≡ Some w → (x : K × V) × (read_before s.trace p w ≡ Some x) × (removes cmp hash gives r ≡ true → untouched_for cmp hash gives s.trace p w x.0 ≡ true) × (length s.trace < MOST_LABELS → untouched_for cmp hash gives s.trace p w x.0 ≡ true → removes cmp hash gives r ≡ true)
   empty_removal home s p c r w can o t u v b =
       let z : (z : Seen K V) × (s.call p ≡ Some (RemoveSeen z)) = u.origin p w b in
       let is : c ≡ RemoveSeen z.0 = same_some (sym can.0 ∙ z.1) in
@@ -335,7 +336,7 @@ module _ {K V F : Type 0} (cmp : K → K → Ordering) (total : IsTotalOrder cmp
   begins_removal s p c y can u = subst (λ b. IfSome b (λ w. (x : K × V) × (last_read s.trace w ≡ Some x) × RemovesPair x c)) (sym (place_here s.began_from p y))
       (if_began y (λ w. (x : K × V) × (last_read s.trace w ≡ Some x) × RemovesPair x c) (λ w h. (pair_seen (can.1 w h).0, u.last w ∙ ap (option_map pair_seen) (can.1 w h).1, subst (RemovesPair (pair_seen (can.1 w h).0)) (sym (can.1 w h).2) refl)))
 
-  removal_lawful : (home : ℕ → ℕ) (s : State K V F) (p : ℕ) (l : Line K V F) → Can cmp hash gives s p l → PartyOk s p → Tables cmp hash home s → Origins s → Numbers cmp hash gives home s → RemovalMay cmp hash gives (does cmp hash gives s p l).began_from s.trace (label cmp hash gives p l)
+  removal_lawful : (home : ℕ → ℕ) (s : State K V F) (p : ℕ) (l : Transition K V F) → Can cmp hash gives s p l → PartyOk s p → Tables cmp hash home s → Origins s → Numbers cmp hash gives home s → RemovalMay cmp hash gives (does cmp hash gives s p l).began_from s.trace (label cmp hash gives p l)
   removal_lawful home s p (Begins c y) can o t u v = begins_removal s p c y can u
   removal_lawful home s p Quiet can o t u v = tt
   removal_lawful home s p (Counts whose) can o t u v = tt
@@ -343,9 +344,9 @@ module _ {K V F : Type 0} (cmp : K → K → Ordering) (total : IsTotalOrder cmp
   removal_lawful home s p (Opens e) can o t u v = tt
   removal_lawful home s p FindsNothing can o t u v = tt
   removal_lawful home s p IsRefused can o t u v = tt
-  removal_lawful home s p (DecidesEmpty c r) can o t u v = if_began (s.began_from p) (λ w. (x : K × V) × (read_before s.trace p w ≡ Some x) × (removes cmp hash gives r ≡ true → untouched_for cmp hash gives s.trace p w x.0 ≡ true) × (length s.trace < 2 ^ 62 → untouched_for cmp hash gives s.trace p w x.0 ≡ true → removes cmp hash gives r ≡ true)) (λ w b. empty_removal home s p c r w can o t u v b)
+  removal_lawful home s p (DecidesEmpty c r) can o t u v = if_began (s.began_from p) (λ w. (x : K × V) × (read_before s.trace p w ≡ Some x) × (removes cmp hash gives r ≡ true → untouched_for cmp hash gives s.trace p w x.0 ≡ true) × (length s.trace < MOST_LABELS → untouched_for cmp hash gives s.trace p w x.0 ≡ true → removes cmp hash gives r ≡ true)) (λ w b. empty_removal home s p c r w can o t u v b)
   removal_lawful home s p (Passes e) can o t u v = tt
-  removal_lawful home s p (Decides c k e es n r fs m) can o t u v = if_began (s.began_from p) (λ w. (x : K × V) × (read_before s.trace p w ≡ Some x) × (removes cmp hash gives r ≡ true → untouched_for cmp hash gives s.trace p w x.0 ≡ true) × (length s.trace < 2 ^ 62 → untouched_for cmp hash gives s.trace p w x.0 ≡ true → removes cmp hash gives r ≡ true)) (λ w b. removal home s p c k e es n r fs m w can o t u v b)
+  removal_lawful home s p (Decides c k e es n r fs m) can o t u v = if_began (s.began_from p) (λ w. (x : K × V) × (read_before s.trace p w ≡ Some x) × (removes cmp hash gives r ≡ true → untouched_for cmp hash gives s.trace p w x.0 ≡ true) × (length s.trace < MOST_LABELS → untouched_for cmp hash gives s.trace p w x.0 ≡ true → removes cmp hash gives r ≡ true)) (λ w b. removal home s p c k e es n r fs m w can o t u v b)
   removal_lawful home s p (Places e) can o t u v = tt
   removal_lawful home s p (Claims e gr low) can o t u v = tt
   removal_lawful home s p (Moves a i es n) can o t u v = tt
@@ -360,10 +361,10 @@ module _ {K V F : Type 0} (cmp : K → K → Ordering) (total : IsTotalOrder cmp
   removal_lawful home s p Ends can o t u v = tt
 
   -- a party without a decision can begin from any walk
-  other_origin : (from : ℕ → Option ℕ) (p : ℕ) (y : Option ℕ) (t : Trace K V F) → begun t p ≡ None → decision t p ≡ None → EachMay (RemovalMay cmp hash gives from) t → EachMay (RemovalMay cmp hash gives (at_place from p y)) t
+  other_origin : (from : ℕ → Option ℕ) (p : ℕ) (y : Option ℕ) (t : Trace K V F) → call_begun_by t p ≡ None → decision t p ≡ None → EachMay (RemovalMay cmp hash gives from) t → EachMay (RemovalMay cmp hash gives (at_place from p y)) t
   other_origin from p y [] b d h = tt
   other_origin from p y (Begin q c ∷ t) b d h = (subst (λ o. IfSome o (λ w. (x : K × V) × (last_read t w ≡ Some x) × RemovesPair x c)) (sym (place_other from p q y (λ e. grind (arith, b, eq-eqb q p e)))) h.0, other_origin from p y t (grind (arith, b)) d h.1)
-  other_origin from p y (Decide q r ∷ t) b d h = (subst (λ o. IfSome o (λ w. (x : K × V) × (read_before t q w ≡ Some x) × (removes cmp hash gives r ≡ true → untouched_for cmp hash gives t q w x.0 ≡ true) × (length t < 2 ^ 62 → untouched_for cmp hash gives t q w x.0 ≡ true → removes cmp hash gives r ≡ true))) (sym (place_other from p q y (λ e. grind (arith, d, eq-eqb q p e)))) h.0, other_origin from p y t b (grind (arith, d)) h.1)
+  other_origin from p y (Decide q r ∷ t) b d h = (subst (λ o. IfSome o (λ w. (x : K × V) × (read_before t q w ≡ Some x) × (removes cmp hash gives r ≡ true → untouched_for cmp hash gives t q w x.0 ≡ true) × (length t < MOST_LABELS → untouched_for cmp hash gives t q w x.0 ≡ true → removes cmp hash gives r ≡ true))) (sym (place_other from p q y (λ e. grind (arith, d, eq-eqb q p e)))) h.0, other_origin from p y t b (grind (arith, d)) h.1)
   other_origin from p y (Replied q r ∷ t) b d h = (tt, other_origin from p y t b d h.1)
   other_origin from p y (Refused q ∷ t) b d h = (tt, other_origin from p y t b d h.1)
   other_origin from p y (Wipe q e i ∷ t) b d h = (tt, other_origin from p y t b d h.1)
@@ -376,7 +377,7 @@ module _ {K V F : Type 0} (cmp : K → K → Ordering) (total : IsTotalOrder cmp
   other_origin from p y (Published e ∷ t) b d h = (tt, other_origin from p y t b d h.1)
 
   -- KEPT
-  pub removals_ok : (home : ℕ → ℕ) (s : State K V F) (p : ℕ) (l : Line K V F) → Can cmp hash gives s p l → PartyOk s p → Tables cmp hash home s → Origins s → Numbers cmp hash gives home s
+  pub removals_ok : (home : ℕ → ℕ) (s : State K V F) (p : ℕ) (l : Transition K V F) → Can cmp hash gives s p l → PartyOk s p → Tables cmp hash home s → Origins s → Numbers cmp hash gives home s
       → EachMay (RemovalMay cmp hash gives s.began_from) s.trace → EachMay (RemovalMay cmp hash gives (does cmp hash gives s p l).began_from) (label cmp hash gives p l ∷ s.trace)
   removals_ok home s p (Begins c y) can o t u v h = let k : s.parties ≤ p = omega (arith, can.0) in (removal_lawful home s p (Begins c y) can o t u v, other_origin s.began_from p y s.trace (o.call ∙ (o.unknown k).0) (o.unknown k).3 h)
   removals_ok home s p Quiet can o t u v h = (removal_lawful home s p Quiet can o t u v, h)

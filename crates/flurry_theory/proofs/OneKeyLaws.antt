@@ -5,9 +5,9 @@ use Rattle.std.specs.Cmp.{IsTotalOrder}
 use Rattle.std.specs.Option.{option_map_or}
 use Rattle.std.proofs.Common.{arith, refl, subst, ◌∙◌, inl, inr}
 use Rattle.flurry_model.specs.FiniteMap as ordered
-use Rattle.flurry_model.specs.FiniteMap.{IsFiniteMap, with_pair, stored_key, gathered}
+use Rattle.flurry_model.specs.FiniteMap.{IsFiniteMap, with_pair, stored_key, map_of_pairs}
 use Rattle.flurry_model.specs.OneKey.{OneKey}
-use Rattle.flurry_model.proofs.FiniteMapLaws.{pair_at-with_pair, pair_at-without, IsFiniteMap-with_pair, IsFiniteMap-without, without_none, IsFiniteMap-gathered, pair_at-gathered}
+use Rattle.flurry_model.proofs.FiniteMapLaws.{pair_at-with_pair, pair_at-without, IsFiniteMap-with_pair, IsFiniteMap-without, without_none, IsFiniteMap-map_of_pairs, pair_at-map_of_pairs}
 use Rattle.flurry_model.specs.declared.reply.KeptReply.{KeptReply}
 use Rattle.flurry_model.specs.declared.reply.KeptReply.TheVariants.{Value, New, Exists}
 use Rattle.flurry_theory.specs.Map.{Pairs, find, value_at, without, put, write}
@@ -24,8 +24,8 @@ module _ {K V : Type 0} (cmp : K → K → Ordering) (total : IsTotalOrder cmp) 
   has_itself (x ∷ m) k = grind (arith, has_itself m k, (one_class cmp total).symm k x.0)
 
   -- any pairs have a finite map
-  pub has_gathered : (n : Pairs K V) → IsFiniteMap cmp (gathered cmp n) × HasSamePairs cmp (gathered cmp n) n
-  has_gathered n = (IsFiniteMap-gathered total n, λ k. pair_at-gathered total n k ∙ has_itself n k)
+  pub has_gathered : (n : Pairs K V) → IsFiniteMap cmp (map_of_pairs cmp n) × HasSamePairs cmp (map_of_pairs cmp n) n
+  has_gathered n = (IsFiniteMap-map_of_pairs total n, λ k. pair_at-map_of_pairs total n k ∙ has_itself n k)
 
   module _ (m : List (K × V)) (n : Pairs K V) (finite : IsFiniteMap cmp m) (alike : HasSamePairs cmp m n) where
     removed : (k : K) → HasSamePairs cmp (ordered.without cmp m k) (without cmp n k)

@@ -4,7 +4,7 @@ use Rattle.std.specs.declared.cmp.Ordering.{Ordering}
 use Rattle.std.proofs.Common.{arith, refl, sym, ◌∙◌, ap, subst, inl, inr}
 use Rattle.std.proofs.lemmas.Bool.{eqb-true}
 use Rattle.flurry_theory.specs.Trace.{begins, last_read, read_before}
-use Rattle.flurry_theory.specs.Machine.{State, Line, Can, does, label, at_place, Begins, Quiet, Counts, Finds, Opens, FindsNothing, IsRefused, DecidesEmpty, Passes, Decides, Places, Claims, Moves, Reports, Publishes, Reads, Leaves, Splits, Wipes, SplitsClear, Replies, Ends}
+use Rattle.flurry_theory.specs.Machine.{State, Transition, Can, does, label, at_place, Begins, Quiet, Counts, Finds, Opens, FindsNothing, IsRefused, DecidesEmpty, Passes, Decides, Places, Claims, Moves, Reports, Publishes, Reads, Leaves, Splits, Wipes, SplitsClear, Replies, Ends}
 use Rattle.flurry_theory.specs.Invariant.{PartyOk, Origins, pair_seen}
 use Rattle.flurry_theory.proofs.Tables.{same_some}
 use Rattle.flurry_theory.proofs.Ranges.{place_other}
@@ -35,7 +35,7 @@ module _ {K V F : Type 0} (cmp : K → K → Ordering) (hash : K → ℕ) (gives
       go true h = ((can.1 w h).0, ap Some (can.1 w h).2)
       go false h = old q w h
 
-  pub begun_after : (s : State K V F) (p : ℕ) (l : Line K V F) → Can cmp hash gives s p l → (q w : ℕ) (z : Seen K V) → (does cmp hash gives s p l).began_from q ≡ Some w → (does cmp hash gives s p l).call q ≡ Some (RemoveSeen z)
+  pub begun_after : (s : State K V F) (p : ℕ) (l : Transition K V F) → Can cmp hash gives s p l → (q w : ℕ) (z : Seen K V) → (does cmp hash gives s p l).began_from q ≡ Some w → (does cmp hash gives s p l).call q ≡ Some (RemoveSeen z)
       → ((s.began_from q ≡ Some w) × (s.call q ≡ Some (RemoveSeen z)) × (begins q (label cmp hash gives p l) ≡ false)) ⊎ ((begins q (label cmp hash gives p l) ≡ true) × (s.seen w ≡ Some z))
   begun_after s p (Begins c y) can q w z h g = begins_after s p c y can q w z h g
   begun_after s p Quiet can q w z h g = inl (h, g, refl)
@@ -60,7 +60,7 @@ module _ {K V F : Type 0} (cmp : K → K → Ordering) (hash : K → ℕ) (gives
   begun_after s p (Replies r) can q w z h g = inl (h, g, refl)
   begun_after s p Ends can q w z h g = inl (h, g, refl)
 
-  origin_after : (s : State K V F) (p : ℕ) (l : Line K V F) → Can cmp hash gives s p l → ((q w : ℕ) → s.began_from q ≡ Some w → (z : Seen K V) × (s.call q ≡ Some (RemoveSeen z))) → (q w : ℕ) → (does cmp hash gives s p l).began_from q ≡ Some w → (z : Seen K V) × ((does cmp hash gives s p l).call q ≡ Some (RemoveSeen z))
+  origin_after : (s : State K V F) (p : ℕ) (l : Transition K V F) → Can cmp hash gives s p l → ((q w : ℕ) → s.began_from q ≡ Some w → (z : Seen K V) × (s.call q ≡ Some (RemoveSeen z))) → (q w : ℕ) → (does cmp hash gives s p l).began_from q ≡ Some w → (z : Seen K V) × ((does cmp hash gives s p l).call q ≡ Some (RemoveSeen z))
   origin_after s p (Begins c y) can old q w h = begins_origin s p c y can old q w h
   origin_after s p Quiet can old q w h = old q w h
   origin_after s p (Counts whose) can old q w h = old q w h
@@ -84,7 +84,7 @@ module _ {K V F : Type 0} (cmp : K → K → Ordering) (hash : K → ℕ) (gives
   origin_after s p (Replies r) can old q w h = old q w h
   origin_after s p Ends can old q w h = old q w h
 
-  unread_after : (s : State K V F) (p : ℕ) (l : Line K V F) → Can cmp hash gives s p l → PartyOk s p → Origins s → (w : ℕ) → (does cmp hash gives s p l).parties ≤ w → (does cmp hash gives s p l).seen w ≡ None
+  unread_after : (s : State K V F) (p : ℕ) (l : Transition K V F) → Can cmp hash gives s p l → PartyOk s p → Origins s → (w : ℕ) → (does cmp hash gives s p l).parties ≤ w → (does cmp hash gives s p l).seen w ≡ None
   unread_after s p (Begins c y) can o v w h = grind (arith, h, can.0, v.unread w, eqb-true)
   unread_after s p Quiet can o v w h = v.unread w h
   unread_after s p (Counts whose) can o v w h = v.unread w h
@@ -108,7 +108,7 @@ module _ {K V F : Type 0} (cmp : K → K → Ordering) (hash : K → ℕ) (gives
   unread_after s p (Replies r) can o v w h = v.unread w h
   unread_after s p Ends can o v w h = v.unread w h
 
-  last_after : (s : State K V F) (p : ℕ) (l : Line K V F) → Can cmp hash gives s p l → Origins s → (w : ℕ) → last_read (label cmp hash gives p l ∷ s.trace) w ≡ option_map pair_seen ((does cmp hash gives s p l).seen w)
+  last_after : (s : State K V F) (p : ℕ) (l : Transition K V F) → Can cmp hash gives s p l → Origins s → (w : ℕ) → last_read (label cmp hash gives p l ∷ s.trace) w ≡ option_map pair_seen ((does cmp hash gives s p l).seen w)
   last_after s p (Begins c y) can v w = grind (arith, can.0, v.last w, v.unread w, eqb-true p w)
   last_after s p Quiet can v w = v.last w
   last_after s p (Counts whose) can v w = v.last w
@@ -132,7 +132,7 @@ module _ {K V F : Type 0} (cmp : K → K → Ordering) (hash : K → ℕ) (gives
   last_after s p (Replies r) can v w = v.last w
   last_after s p Ends can v w = v.last w
 
-  pub origins_ok : (s : State K V F) (p : ℕ) (l : Line K V F) → Can cmp hash gives s p l → PartyOk s p → Origins s → Origins (does cmp hash gives s p l)
+  pub origins_ok : (s : State K V F) (p : ℕ) (l : Transition K V F) → Can cmp hash gives s p l → PartyOk s p → Origins s → Origins (does cmp hash gives s p l)
   origins_ok s p l can o v = record {
     unread = unread_after s p l can o v;
     last = last_after s p l can v;

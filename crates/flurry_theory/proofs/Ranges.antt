@@ -5,13 +5,14 @@ use Rattle.std.proofs.Common.{arith, refl, sym, ◌∙◌, ap, inl, inr}
 use Rattle.std.proofs.lemmas.Bool.{eqb-true, eqb-false, eq-eqb, ne_eqb, cases_order, cases_lt, cases_eq, and_parts, and_from, and_cases, lt-ltb, ltb-true, ltb-false, leb-true, le-leb}
 use Rattle.std.proofs.lemmas.Nat.{mod_below, pow_pos}
 use Rattle.flurry_theory.specs.Bin.{Entry}
-use Rattle.flurry_theory.specs.Machine.{State, Claim, Growth, Line, Opening, Can, does, at_place, Moved, Frame, Begins, Quiet, Counts, Finds, Opens, FindsNothing, IsRefused, DecidesEmpty, Passes, Decides, Places, Claims, Moves, Reports, Publishes, Reads, Leaves, Splits, Wipes, SplitsClear, Replies, Ends}
+use Rattle.flurry_theory.specs.Machine.{State, Claim, Growth, Transition, Opening, Can, does, at_place, Moved, Frame, Begins, Quiet, Counts, Finds, Opens, FindsNothing, IsRefused, DecidesEmpty, Passes, Decides, Places, Claims, Moves, Reports, Publishes, Reads, Leaves, Splits, Wipes, SplitsClear, Replies, Ends}
 use Rattle.flurry_theory.specs.Machine.{total}
 use Rattle.flurry_theory.specs.Invariant.{PartyOk, Tables, size, holds, Cut}
 use Rattle.flurry_theory.proofs.Bins.{small_mod}
 use Rattle.flurry_model.specs.declared.call.Call.{Call}
 use Rattle.flurry_model.specs.declared.call.Call.TheVariants.{Get, GetKeyValue, ContainsKey, Insert, TryInsert, Compute, Remove, RemoveEntry, RemoveSeen, Reserve, Clear, Walk}
 use Rattle.flurry_model.specs.declared.reply.KeptReply.{KeptReply}
+use Rattle.flurry_model.specs.declared.sizes.TheConstants.{GREATEST_TABLE}
 
 pub place_here : {X : Type 0} (f : ℕ → X) (p : ℕ) (x : X) → at_place f p x p ≡ x
 place_here f p x = grind (arith, eq-eqb p p refl)
@@ -118,7 +119,7 @@ module _ {K V F : Type 0} (cmp : K → K → Ordering) (hash : K → ℕ) (gives
       go (inl e) = rw e (place_here s.claim p None)
       go (inr ne) = place_other s.claim p q None ne ∙ no_other s p a g can o u q ne
 
-  opening_limit : (c : Call K V F) (e : ℕ) → Opening c e → e ≤ 30
+  opening_limit : (c : Call K V F) (e : ℕ) → Opening c e → e ≤ GREATEST_TABLE
   opening_limit (Get k) e h = absurd h
   opening_limit (GetKeyValue k) e h = absurd h
   opening_limit (ContainsKey k) e h = absurd h
@@ -294,7 +295,7 @@ module _ {K V F : Type 0} (cmp : K → K → Ordering) (hash : K → ℕ) (gives
     growth_limit = u.growth_limit;
   }
 
-  pub cut_ok : (home : ℕ → ℕ) (s : State K V F) (p : ℕ) (l : Line K V F) → Can cmp hash gives s p l → ((q : ℕ) → PartyOk s q) → Tables cmp hash home s → Cut s → Cut (does cmp hash gives s p l)
+  pub cut_ok : (home : ℕ → ℕ) (s : State K V F) (p : ℕ) (l : Transition K V F) → Can cmp hash gives s p l → ((q : ℕ) → PartyOk s q) → Tables cmp hash home s → Cut s → Cut (does cmp hash gives s p l)
   cut_ok home s p (Begins c w) can o t u = cut_begins home s p c w can o t u
   cut_ok home s p Quiet can o t u = record { made = u.made; idle = u.idle; limit = u.limit; growth_limit = u.growth_limit; near = u.near; idle_live = u.idle_live; claims = u.claims; above_unclaimed = u.above_unclaimed; left_live = u.left_live; rest_moved = u.rest_moved; unclaimed_live = u.unclaimed_live; apart = u.apart; cover = u.cover; sum = u.sum }
   cut_ok home s p (Counts whose) can o t u = record { made = u.made; idle = u.idle; limit = u.limit; growth_limit = u.growth_limit; near = u.near; idle_live = u.idle_live; claims = u.claims; above_unclaimed = u.above_unclaimed; left_live = u.left_live; rest_moved = u.rest_moved; unclaimed_live = u.unclaimed_live; apart = u.apart; cover = u.cover; sum = u.sum }
@@ -318,11 +319,11 @@ module _ {K V F : Type 0} (cmp : K → K → Ordering) (hash : K → ℕ) (gives
   cut_ok home s p (Replies r) can o t u = record { made = u.made; idle = u.idle; limit = u.limit; growth_limit = u.growth_limit; near = u.near; idle_live = u.idle_live; claims = u.claims; above_unclaimed = u.above_unclaimed; left_live = u.left_live; rest_moved = u.rest_moved; unclaimed_live = u.unclaimed_live; apart = u.apart; cover = u.cover; sum = u.sum }
   cut_ok home s p Ends can o t u = record { made = u.made; idle = u.idle; limit = u.limit; growth_limit = u.growth_limit; near = u.near; idle_live = u.idle_live; claims = u.claims; above_unclaimed = u.above_unclaimed; left_live = u.left_live; rest_moved = u.rest_moved; unclaimed_live = u.unclaimed_live; apart = u.apart; cover = u.cover; sum = u.sum }
 
-  -- no table has a number above 30
-  pub home_limit : (home : ℕ → ℕ) (s : State K V F) (h : ℕ) → Tables cmp hash home s → Cut s → is_some s.published ≡ true → home h ≤ 30
+  -- no table has an exponent above the greatest
+  pub home_limit : (home : ℕ → ℕ) (s : State K V F) (h : ℕ) → Tables cmp hash home s → Cut s → is_some s.published ≡ true → home h ≤ GREATEST_TABLE
   home_limit home s h t u m = go s.published refl s.growth refl
     where
-      go : (o : Option ℕ) → s.published ≡ o → (b : Option Growth) → s.growth ≡ b → home h ≤ 30
+      go : (o : Option ℕ) → s.published ≡ o → (b : Option Growth) → s.growth ≡ b → home h ≤ GREATEST_TABLE
       go None e b g = absurd (grind (arith, e, m))
       go (Some f) e (Some g) y = grind (arith, u.growth_limit f g e y, u.near f (home h) (h % 2 ^ home h) e, t.live m h)
       go (Some f) e None y = grind (arith, u.limit f e, (t.from f e).1 h, u.idle_live y f (h % 2 ^ f) e (mod_below h (2 ^ f) (pow_pos f)), t.below m h f (t.from f e).0, cases_order f (home h))

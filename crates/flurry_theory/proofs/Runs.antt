@@ -8,7 +8,7 @@ use Rattle.std.proofs.lemmas.Bool.{eqb-true}
 use Rattle.flurry_theory.specs.Map.{same}
 use Rattle.flurry_theory.specs.Trace.{pairs}
 use Rattle.flurry_theory.specs.Bin.{Entry, number_of, has_number}
-use Rattle.flurry_theory.specs.Machine.{State, Line, Can, BinDid, Frame, Begins, Counts, Finds, Opens, IsRefused, Decides, Places, Reads, Leaves, Replies}
+use Rattle.flurry_theory.specs.Machine.{State, Transition, Can, BinDid, Frame, Begins, Counts, Finds, Opens, IsRefused, Decides, Places, Reads, Leaves, Replies}
 use Rattle.flurry_theory.specs.Invariant.{new_world, after_all, CanAll}
 use Rattle.flurry_theory.proofs.BinSteps.{bin_did}
 use Rattle.flurry_theory.proofs.Origins.{same_seen}
@@ -27,7 +27,7 @@ its_own_lawful : (j k : ℕ) → same nat_cmp j k ≡ true → its_own j ≡ its
 its_own_lawful j k h = eqb-true j k (sym (unsigned_tied j k) ∙ h)
 
 abbrev Steps : Type 0
-Steps = List (ℕ × Line ℕ ℕ ⊤)
+Steps = List (ℕ × Transition ℕ ℕ ⊤)
 
 abbrev empty : State ℕ ℕ ⊤
 empty = new_world 0 false

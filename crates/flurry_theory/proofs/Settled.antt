@@ -4,7 +4,7 @@ use Rattle.std.specs.declared.cmp.Ordering.{Ordering}
 use Rattle.std.proofs.Common.{arith}
 use Rattle.std.proofs.lemmas.Grind.{common_steps}
 use Rattle.flurry_theory.specs.Trace.{Trace}
-use Rattle.flurry_theory.specs.Machine.{State, settle, settled, Mode, Locating, Looking, Walking, Clearing, Done, Finished}
+use Rattle.flurry_theory.specs.Machine.{State, settle, mode_after_count, Mode, Locating, Looking, Walking, Clearing, Done, Finished}
 use Rattle.flurry_theory.specs.Invariant.{PartyOk, Progress, Named, Waits}
 use Rattle.flurry_model.specs.declared.call.Call.{Call}
 
@@ -24,7 +24,7 @@ module _ {K V F : Type 0} where
     clearing = grind (arith, common_steps, h.clearing);
   }
 
-  pub waits_settled : (call : Option (Call K V F)) (steps : ℕ) (m : Mode K V) → Waits call m steps → Waits call (settled m) steps
+  pub waits_settled : (call : Option (Call K V F)) (steps : ℕ) (m : Mode K V) → Waits call m steps → Waits call (mode_after_count m) steps
   waits_settled call steps Locating w = w
   waits_settled call steps (Looking e) w = w
   waits_settled call steps (Walking e i fs) w = w
@@ -33,7 +33,7 @@ module _ {K V F : Type 0} where
   waits_settled call steps Finished w = w
 
 module _ {K V F : Type 0} (hash : K → ℕ) where
-  pub named_settled : (made : Bool) (home : ℕ → ℕ) (start : ℕ) (call : Option (Call K V F)) (m : Mode K V) → Named hash made home start call m → Named hash made home start call (settled m)
+  pub named_settled : (made : Bool) (home : ℕ → ℕ) (start : ℕ) (call : Option (Call K V F)) (m : Mode K V) → Named hash made home start call m → Named hash made home start call (mode_after_count m)
   named_settled made home start call Locating n = n
   named_settled made home start call (Looking e) n = n
   named_settled made home start call (Walking e i fs) n = n
@@ -42,7 +42,7 @@ module _ {K V F : Type 0} (hash : K → ℕ) where
   named_settled made home start call Finished n = n
 
 module _ {K V F : Type 0} (cmp : K → K → Ordering) (hash : K → ℕ) (gives : F → K → V → Option V → Type 0) where
-  pub progress_settled : (call : Option (Call K V F)) (t : Trace K V F) (p : ℕ) (m : Mode K V) → Progress cmp hash gives call m t p → Progress cmp hash gives call (settled m) t p
+  pub progress_settled : (call : Option (Call K V F)) (t : Trace K V F) (p : ℕ) (m : Mode K V) → Progress cmp hash gives call m t p → Progress cmp hash gives call (mode_after_count m) t p
   progress_settled call t p Locating g = g
   progress_settled call t p (Looking e) g = g
   progress_settled call t p (Walking e i fs) g = g

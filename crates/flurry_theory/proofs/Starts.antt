@@ -4,13 +4,14 @@ use Rattle.std.specs.declared.cmp.Ordering.{Ordering}
 use Rattle.std.specs.Cmp.{IsTotalOrder}
 use Rattle.std.proofs.Common.{arith, refl, sym, ◌∙◌}
 use Rattle.flurry_theory.specs.Map.{same}
-use Rattle.flurry_theory.specs.Machine.{State, Line, Can, WasPublished, does, Begins, Quiet, Counts, Finds, Opens, FindsNothing, IsRefused, DecidesEmpty, Passes, Decides, Places, Claims, Moves, Reports, Publishes, Reads, Leaves, Splits, Wipes, SplitsClear, Replies, Ends}
+use Rattle.flurry_theory.specs.Machine.{State, Transition, Can, WasPublished, does, Begins, Quiet, Counts, Finds, Opens, FindsNothing, IsRefused, DecidesEmpty, Passes, Decides, Places, Claims, Moves, Reports, Publishes, Reads, Leaves, Splits, Wipes, SplitsClear, Replies, Ends}
 use Rattle.flurry_theory.specs.Invariant.{Inv, Cut, CanAll, after_all, new_world}
 use Rattle.flurry_theory.proofs.Tables.{same_some}
 use Rattle.flurry_theory.proofs.Step.{inv_after}
+use Rattle.flurry_model.specs.declared.sizes.TheConstants.{GREATEST_TABLE}
 
 module _ {K V F : Type 0} (cmp : K → K → Ordering) (total : IsTotalOrder cmp) (hash : K → ℕ) (lawful : (j k : K) → same cmp j k ≡ true → hash j ≡ hash k) (gives : F → K → V → Option V → Type 0) where
-  was_step : (s : State K V F) (p : ℕ) (l : Line K V F) (e : ℕ) → Can cmp hash gives s p l → Cut s → WasPublished cmp hash gives s e → WasPublished cmp hash gives (does cmp hash gives s p l) e
+  was_step : (s : State K V F) (p : ℕ) (l : Transition K V F) (e : ℕ) → Can cmp hash gives s p l → Cut s → WasPublished cmp hash gives s e → WasPublished cmp hash gives (does cmp hash gives s p l) e
   was_step s p (Begins c y) e can u o = o
   was_step s p Quiet e can u o = o
   was_step s p (Counts whose) e can u o = o
@@ -35,7 +36,7 @@ module _ {K V F : Type 0} (cmp : K → K → Ordering) (total : IsTotalOrder cmp
   was_step s p Ends e can u o = o
 
   -- what was published after some steps of a run may be begun at after any further ones
-  pub was_after : (e : ℕ) (b : Bool) → e ≤ 30 → (more steps : List (ℕ × Line K V F)) → CanAll cmp hash gives (new_world e b) (more ++ steps) → (x : ℕ) → (after_all cmp hash gives (new_world e b) steps).published ≡ Some x → WasPublished cmp hash gives (after_all cmp hash gives (new_world e b) (more ++ steps)) x
+  pub was_after : (e : ℕ) (b : Bool) → e ≤ GREATEST_TABLE → (more steps : List (ℕ × Transition K V F)) → CanAll cmp hash gives (new_world e b) (more ++ steps) → (x : ℕ) → (after_all cmp hash gives (new_world e b) steps).published ≡ Some x → WasPublished cmp hash gives (after_all cmp hash gives (new_world e b) (more ++ steps)) x
   was_after e b l [] steps can x h =
       let i : (home : ℕ → ℕ) × Inv cmp hash gives (if b then Some e else None) home (after_all cmp hash gives (new_world e b) steps) = inv_after cmp total hash lawful gives e b l steps can in
       ((i.1.tables.from x h).0, x, h, omega arith)

@@ -8,7 +8,7 @@ use Rattle.std.proofs.lemmas.Nat.{mod_below, pow_pos}
 use Rattle.flurry_theory.specs.Map.{Pairs, same, find, key_of, Allows}
 use Rattle.flurry_theory.specs.Trace.{names, pairs}
 use Rattle.flurry_theory.specs.Bin.{Entry, pairs_of, Ascending, InRegion}
-use Rattle.flurry_theory.specs.Machine.{State, Claim, Growth, Line, Can, does, label, halves, Live, Moved, Unborn, Locating, Looking, Walking, Clearing, Done, Begins, Quiet, Counts, Finds, Opens, FindsNothing, IsRefused, DecidesEmpty, Passes, Decides, Places, Claims, Moves, Reports, Publishes, Reads, Leaves, Splits, Wipes, SplitsClear, Replies, Ends}
+use Rattle.flurry_theory.specs.Machine.{State, Claim, Growth, Transition, Can, does, label, halves, Live, Moved, Unborn, Locating, Looking, Walking, Clearing, Done, Begins, Quiet, Counts, Finds, Opens, FindsNothing, IsRefused, DecidesEmpty, Passes, Decides, Places, Claims, Moves, Reports, Publishes, Reads, Leaves, Splits, Wipes, SplitsClear, Replies, Ends}
 use Rattle.flurry_theory.specs.Invariant.{PartyOk, Tables, home_after, Progress, Remains, Cut, Named, Waits, Inv, Numbers, new_world, CanAll, after_all}
 use Rattle.flurry_theory.proofs.Bins.{Allows-same}
 use Rattle.flurry_theory.proofs.Tables.{same_some, same_live}
@@ -26,18 +26,19 @@ use Rattle.flurry_theory.proofs.Origins.{origins_ok}
 use Rattle.flurry_theory.proofs.Numbers.{numbers_ok, removals_ok}
 use Rattle.flurry_theory.proofs.Walks.{read_back, not_begun, missing_now, stays_not_missing, advance, keeps, finishes, neither, finds, w_split, w_joined, c_split, c_joined, split_frames, held, reads, read_lawful, leaves, wipes}
 use Rattle.flurry_theory.proofs.Refusals.{refused_now}
-use Rattle.flurry_theory.proofs.Named.{named_ok}
+use Rattle.flurry_theory.proofs.NoUnbornBin.{named_ok}
 use Rattle.flurry_theory.proofs.Lookups.{waits_ok, looks_up, steps_ok}
 use Rattle.flurry_theory.proofs.Counts.{counted_ok}
 use Rattle.flurry_theory.proofs.Settled.{progress_settled}
-use Rattle.flurry_theory.proofs.Own.{next_mode, next_call, other_mode, other_keeps, if_settled, mode_after, call_after, names_own}
+use Rattle.flurry_theory.proofs.OwnSteps.{next_mode, next_call, other_mode, other_keeps, if_settled, mode_after, call_after, names_own}
+use Rattle.flurry_model.specs.declared.sizes.TheConstants.{GREATEST_TABLE}
 
 module _ {K V F : Type 0} (cmp : K → K → Ordering) (total : IsTotalOrder cmp) (hash : K → ℕ) (lawful : (j k : K) → same cmp j k ≡ true → hash j ≡ hash k) (gives : F → K → V → Option V → Type 0) where
   no_key : (c : Call K V F) (k : K) (w : Call K V F) → key_of w ≡ None → key_of c ≡ Some k → (call : Option (Call K V F)) → call ≡ Some c → call ≡ Some w → ⊥
   no_key c k w n h call e f = grind (arith, sym (subst (λ c. key_of c ≡ Some k) (same_some (sym e ∙ f)) h) ∙ n)
 
   -- its own step
-  own : (home : ℕ → ℕ) (s : State K V F) (p : ℕ) (l : Line K V F) → Can cmp hash gives s p l → PartyOk s p → Tables cmp hash home s → Progress cmp hash gives (s.call p) (s.mode p) s.trace p → Progress cmp hash gives (next_call cmp total hash lawful gives s p l) (next_mode cmp total hash lawful gives s p l) (label cmp hash gives p l ∷ s.trace) p
+  own : (home : ℕ → ℕ) (s : State K V F) (p : ℕ) (l : Transition K V F) → Can cmp hash gives s p l → PartyOk s p → Tables cmp hash home s → Progress cmp hash gives (s.call p) (s.mode p) s.trace p → Progress cmp hash gives (next_call cmp total hash lawful gives s p l) (next_mode cmp total hash lawful gives s p l) (label cmp hash gives p l ∷ s.trace) p
   unfolding next_mode next_call
   own home s p (Begins c w) can o t g = record { unbegun = λ h. absurd (grind (arith, h)); seen = λ _ _ k. inr (inr tt); unread = λ _ _ k _ h. g.unbegun (o.unknown (omega (arith, can.0))).0 k h; cleared = λ _ _ k. inr tt; frames = tt }
   own home s p Quiet can o t g = keeps cmp hash gives (s.call p) (s.mode p) s.trace (Silent p) p refl (λ k h. h) g
@@ -62,7 +63,7 @@ module _ {K V F : Type 0} (cmp : K → K → Ordering) (total : IsTotalOrder cmp
   own home s p (Replies r) can o t g = finishes cmp hash gives (s.call p) (s.mode p) s.trace (Replied p r) p (λ k h. h) g
   own home s p Ends can o t g = finishes cmp hash gives (s.call p) (s.mode p) s.trace (End p) p (λ k h. h) g
 
-  pub progress_ok : (home : ℕ → ℕ) (s : State K V F) (p q : ℕ) (l : Line K V F) → Can cmp hash gives s p l → PartyOk s p → Tables cmp hash home s → ((q : ℕ) → Progress cmp hash gives (s.call q) (s.mode q) s.trace q)
+  pub progress_ok : (home : ℕ → ℕ) (s : State K V F) (p q : ℕ) (l : Transition K V F) → Can cmp hash gives s p l → PartyOk s p → Tables cmp hash home s → ((q : ℕ) → Progress cmp hash gives (s.call q) (s.mode q) s.trace q)
       → Progress cmp hash gives ((does cmp hash gives s p l).call q) ((does cmp hash gives s p l).mode q) (label cmp hash gives p l ∷ s.trace) q
   progress_ok home s p q l can o t g = go (cases_eq q p)
     where
@@ -125,7 +126,7 @@ module _ {K V F : Type 0} (cmp : K → K → Ordering) (total : IsTotalOrder cmp
       go (inl h) = h
       go (inr h) = absurd (none h)
 
-  walks_lawful : (home : ℕ → ℕ) (s : State K V F) (p : ℕ) (l : Line K V F) → Can cmp hash gives s p l → PartyOk s p → Tables cmp hash home s → Progress cmp hash gives (s.call p) (s.mode p) s.trace p → WalkMay cmp hash gives s.trace (label cmp hash gives p l)
+  walks_lawful : (home : ℕ → ℕ) (s : State K V F) (p : ℕ) (l : Transition K V F) → Can cmp hash gives s p l → PartyOk s p → Tables cmp hash home s → Progress cmp hash gives (s.call p) (s.mode p) s.trace p → WalkMay cmp hash gives s.trace (label cmp hash gives p l)
   walks_lawful home s p (Begins c w) can o t g = tt
   walks_lawful home s p Quiet can o t g = tt
   walks_lawful home s p (Counts whose) can o t g = tt
@@ -149,7 +150,7 @@ module _ {K V F : Type 0} (cmp : K → K → Ordering) (total : IsTotalOrder cmp
   walks_lawful home s p (Replies r) can o t g = tt
   walks_lawful home s p Ends can o t g = end_lawful s p can o g
 
-  clears_lawful : (s : State K V F) (p : ℕ) (l : Line K V F) → Can cmp hash gives s p l → PartyOk s p → Progress cmp hash gives (s.call p) (s.mode p) s.trace p → ClearMay cmp hash gives s.trace (label cmp hash gives p l)
+  clears_lawful : (s : State K V F) (p : ℕ) (l : Transition K V F) → Can cmp hash gives s p l → PartyOk s p → Progress cmp hash gives (s.call p) (s.mode p) s.trace p → ClearMay cmp hash gives s.trace (label cmp hash gives p l)
   clears_lawful s p (Begins c w) can o g = tt
   clears_lawful s p Quiet can o g = tt
   clears_lawful s p (Counts whose) can o g = tt
@@ -188,7 +189,7 @@ module _ {K V F : Type 0} (cmp : K → K → Ordering) (total : IsTotalOrder cmp
   one_key_allows Clear m r h = absurd h
   one_key_allows Walk m r h = absurd h
 
-  allows_now : (home : ℕ → ℕ) (s : State K V F) (p : ℕ) (l : Line K V F) → Can cmp hash gives s p l → PartyOk s p → Tables cmp hash home s → AllowsNow cmp hash gives s p l
+  allows_now : (home : ℕ → ℕ) (s : State K V F) (p : ℕ) (l : Transition K V F) → Can cmp hash gives s p l → PartyOk s p → Tables cmp hash home s → AllowsNow cmp hash gives s p l
   allows_now home s p (Begins c w) can o t = tt
   allows_now home s p Quiet can o t = tt
   allows_now home s p (Counts whose) can o t = tt
@@ -212,11 +213,11 @@ module _ {K V F : Type 0} (cmp : K → K → Ordering) (total : IsTotalOrder cmp
   allows_now home s p (Replies r) can o t = tt
   allows_now home s p Ends can o t = tt
 
-  ready : (s : State K V F) (p : ℕ) (l : Line K V F) → Can cmp hash gives s p l → ((q : ℕ) → PartyOk s q) → Cut s → (a : Claim) (g : Growth) → l ≡ Publishes a g → (s.published ≡ Some a.table) × ((i : ℕ) → i < 2 ^ a.table → s.slot a.table i ≡ Moved)
+  ready : (s : State K V F) (p : ℕ) (l : Transition K V F) → Can cmp hash gives s p l → ((q : ℕ) → PartyOk s q) → Cut s → (a : Claim) (g : Growth) → l ≡ Publishes a g → (s.published ≡ Some a.table) × ((i : ℕ) → i < 2 ^ a.table → s.slot a.table i ≡ Moved)
   ready s p l can o u a g e = all_moved cmp hash gives s p a g (subst (λ l. Can cmp hash gives s p l) e can) o u
 
   -- a step of the machine keeps the whole
-  pub inv_step : (first : Option ℕ) (home : ℕ → ℕ) (s : State K V F) (p : ℕ) (l : Line K V F) → Can cmp hash gives s p l → Inv cmp hash gives first home s → Inv cmp hash gives first (home_after home l) (does cmp hash gives s p l)
+  pub inv_step : (first : Option ℕ) (home : ℕ → ℕ) (s : State K V F) (p : ℕ) (l : Transition K V F) → Can cmp hash gives s p l → Inv cmp hash gives first home s → Inv cmp hash gives first (home_after home l) (does cmp hash gives s p l)
   inv_step first home s p l can v = record {
     parties = parties;
     tables = tables;
@@ -275,7 +276,7 @@ module _ {K V F : Type 0} (cmp : K → K → Ordering) (total : IsTotalOrder cmp
     is_moved = λ d j h. absurd (grind (arith, h));
   }
 
-  new_cut : (e : ℕ) (b : Bool) → e ≤ 30 → Cut (new_world {K = K} {V = V} {F = F} e b)
+  new_cut : (e : ℕ) (b : Bool) → e ≤ GREATEST_TABLE → Cut (new_world {K = K} {V = V} {F = F} e b)
   new_cut e b l = record {
     made = λ g h. grind (arith, h);
     idle = λ _ p. refl;
@@ -302,7 +303,7 @@ module _ {K V F : Type 0} (cmp : K → K → Ordering) (total : IsTotalOrder cmp
     pending = λ p w z h. absurd (grind (arith, h));
   }
 
-  pub inv_new : (e : ℕ) (b : Bool) → e ≤ 30 → Inv cmp hash gives (if b then Some e else None) (λ _. e) (new_world e b)
+  pub inv_new : (e : ℕ) (b : Bool) → e ≤ GREATEST_TABLE → Inv cmp hash gives (if b then Some e else None) (λ _. e) (new_world e b)
   inv_new e b l = record {
     parties = λ p. record { call = refl; unknown = λ _. (refl, refl, refl, refl, refl, refl); going = λ h. absurd (h refl); undecided = λ _ _. refl; decided = λ r a b h. absurd (grind (arith, h)); looking = λ d h. absurd (grind (arith, h)); finished = λ _ h. absurd (grind (arith, h)); walking = λ d i fs h. absurd (grind (arith, h)); settled = λ h. absurd (grind (arith, h)); refused = λ h. absurd (grind (arith, h)); clearing = λ n d i fs h. absurd (grind (arith, h)) };
     tables = new_tables e b;
@@ -321,7 +322,7 @@ module _ {K V F : Type 0} (cmp : K → K → Ordering) (total : IsTotalOrder cmp
   }
 
   -- any run from a new world
-  pub inv_after : (e : ℕ) (b : Bool) → e ≤ 30 → (steps : List (ℕ × Line K V F)) → CanAll cmp hash gives (new_world e b) steps → (home : ℕ → ℕ) × Inv cmp hash gives (if b then Some e else None) home (after_all cmp hash gives (new_world e b) steps)
+  pub inv_after : (e : ℕ) (b : Bool) → e ≤ GREATEST_TABLE → (steps : List (ℕ × Transition K V F)) → CanAll cmp hash gives (new_world e b) steps → (home : ℕ → ℕ) × Inv cmp hash gives (if b then Some e else None) home (after_all cmp hash gives (new_world e b) steps)
   inv_after e b l [] can = (λ _. e, inv_new e b l)
   inv_after e b l (x ∷ steps) can = let more : (home : ℕ → ℕ) × Inv cmp hash gives (if b then Some e else None) home (after_all cmp hash gives (new_world e b) steps) = inv_after e b l steps can.1 in
       (home_after more.0 x.1, inv_step (if b then Some e else None) more.0 (after_all cmp hash gives (new_world e b) steps) x.0 x.1 can.0 more.1)

@@ -6,9 +6,9 @@ use Rattle.std.proofs.Common.{arith, refl, sym, ◌∙◌, ap, subst}
 use Rattle.std.proofs.lemmas.Bool.{eqb-true, eqb-false, eq-eqb, ne_eqb, cases_order, cond-true, cond-false, false_from_ne_true, and_parts, or_cases, and_from, and_cases, lt-ltb, ltb-true, ltb-false}
 use Rattle.std.proofs.lemmas.Nat.{mod_below, pow_pos}
 use Rattle.flurry_theory.specs.Map.{same, find, after, key_of, Allows}
-use Rattle.flurry_theory.specs.Trace.{decided, in_region, pairs, at}
+use Rattle.flurry_theory.specs.Trace.{map_after_decision, in_region, pairs, at}
 use Rattle.flurry_theory.specs.Bin.{Entry, pairs_of, Ascending, InRegion, half}
-use Rattle.flurry_theory.specs.Machine.{State, Slot, Claim, Growth, Line, Adds, Can, does, at_bin, Live, Moved, Unborn, Frame, Begins, Quiet, Counts, Finds, Opens, FindsNothing, IsRefused, DecidesEmpty, Passes, Decides, Places, Claims, Moves, Reports, Publishes, Reads, Leaves, Splits, Wipes, SplitsClear, Replies, Ends}
+use Rattle.flurry_theory.specs.Machine.{State, Slot, Claim, Growth, Transition, Adds, Can, does, at_bin, Live, Moved, Unborn, Frame, Begins, Quiet, Counts, Finds, Opens, FindsNothing, IsRefused, DecidesEmpty, Passes, Decides, Places, Claims, Moves, Reports, Publishes, Reads, Leaves, Splits, Wipes, SplitsClear, Replies, Ends}
 use Rattle.flurry_theory.specs.Invariant.{PartyOk, is_live, Tables, home_after}
 use Rattle.flurry_theory.proofs.Bins.{find-after, find-after_other, find-half, ascending-half, region-half, find-wiped, in_a_half, in_low_half, in_high_half, small_mod, high_mod, double}
 use Rattle.flurry_model.specs.declared.call.Call.{Call}
@@ -149,7 +149,7 @@ module _ {K V F : Type 0} (cmp : K → K → Ordering) (total : IsTotalOrder cmp
 
   -- the map after a decision
   at-decide : (s : State K V F) (p : ℕ) (c : Call K V F) (r : KeptReply K V) (k : K) → PartyOk s p → s.call p ≡ Some c → at cmp hash (Decide p r ∷ s.trace) k ≡ find cmp (after cmp c r (pairs cmp hash s.trace)) k
-  at-decide s p c r k o h = ap (λ u. find cmp (decided cmp hash u r (pairs cmp hash s.trace)) k) (o.call ∙ h)
+  at-decide s p c r k o h = ap (λ u. find cmp (map_after_decision cmp hash u r (pairs cmp hash s.trace)) k) (o.call ∙ h)
 
   decides_content : (home : ℕ → ℕ) (s : State K V F) (p : ℕ) (c : Call K V F) (k : K) (e : ℕ) (es : List (Entry K V)) (n : ℕ) (r : KeptReply K V) (fs : List (Entry K V)) (m : ℕ) → Can cmp hash gives s p (Decides c k e es n r fs m) → PartyOk s p → Tables cmp hash home s
       → (q : K) (gs : List (Entry K V)) (u : ℕ) → at_bin s.slot e (hash k % 2 ^ e) (Live fs m) (home (hash q)) (hash q % 2 ^ home (hash q)) ≡ Live gs u → find cmp (pairs_of gs) q ≡ at cmp hash (Decide p r ∷ s.trace) q
@@ -171,7 +171,7 @@ module _ {K V F : Type 0} (cmp : K → K → Ordering) (total : IsTotalOrder cmp
       (λ ne hd hj w. content_at home s q (home (hash q)) (hash q % 2 ^ home (hash q)) gs u t refl refl w ∙ sym (find-wiped cmp total hash lawful f.table f.index (pairs cmp hash s.trace) q ∙ cond-false (in_region f.table f.index (hash q)) None (at cmp hash s.trace q) (ne_eqb _ _ (λ y. ne (sym (homes home s f.table f.index es n (hash q) t l y)) (grind (arith, homes home s f.table f.index es n (hash q) t l y, y))))))
       refl refl
 
-  pub tables_ok : (home : ℕ → ℕ) (s : State K V F) (p : ℕ) (l : Line K V F) → Can cmp hash gives s p l → PartyOk s p → ((a : Claim) (g : Growth) → l ≡ Publishes a g → (s.published ≡ Some a.table) × ((i : ℕ) → i < 2 ^ a.table → s.slot a.table i ≡ Moved)) → Tables cmp hash home s → Tables cmp hash (home_after home l) (does cmp hash gives s p l)
+  pub tables_ok : (home : ℕ → ℕ) (s : State K V F) (p : ℕ) (l : Transition K V F) → Can cmp hash gives s p l → PartyOk s p → ((a : Claim) (g : Growth) → l ≡ Publishes a g → (s.published ≡ Some a.table) × ((i : ℕ) → i < 2 ^ a.table → s.slot a.table i ≡ Moved)) → Tables cmp hash home s → Tables cmp hash (home_after home l) (does cmp hash gives s p l)
   tables_ok home s p (Begins c w) can o ready t = record {
     unmade = t.unmade;
     from = t.from;

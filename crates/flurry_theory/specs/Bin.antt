@@ -10,7 +10,7 @@ use Rattle.flurry_model.specs.declared.call.Call.TheVariants.{Insert, TryInsert,
 use Rattle.flurry_model.specs.declared.reply.KeptReply.{KeptReply}
 use Rattle.flurry_model.specs.declared.reply.KeptReply.TheVariants.{Value, New}
 
--- a key and its value, with the number of the write that put the value there
+-- a key and its value, with the write number of the value
 pub record Entry (K V : Type 0) : Type 0 where
   pub key : K
   pub value : V

@@ -2,14 +2,15 @@
 use Rattle.std.specs.Prelude.{⊤, length, ℕ, pos, ◌+ℤ◌, ◌-ℤ◌, suc, ◌+◌, ◌-◌, ◌%◌, ◌^◌, ◌<◌, ◌≤◌, ◌==◌, ◌&&◌, nat_le, nat_lt, if◌then◌else◌, Bool, true, false, List, [], ◌∷◌, Option, Some, None, is_some, option_map, ◌≡◌, ◌⊎◌}
 use Rattle.std.specs.declared.cmp.Ordering.{Ordering}
 use Rattle.flurry_theory.specs.Map.{Unique, find, key_of}
-use Rattle.flurry_theory.specs.Trace.{Trace, is_lookup, begun, decision, replied, closed, published, placed, moved, names, last_read, read_before, pairs, at}
-use Rattle.flurry_theory.specs.Legal.{untouched, untouched_for, RemovalMay, HasRead, Lacked, EachMay, CallMay, WalkMay, ClearMay, GrowthMay}
+use Rattle.flurry_theory.specs.Trace.{Trace, is_lookup, call_begun_by, decision, has_replied, has_closed, published, was_placed, was_moved_in, names, last_read, read_before, pairs, at}
+use Rattle.flurry_theory.specs.Legal.{is_untouched, untouched_for, RemovalMay, HasRead, Lacked, EachMay, CallMay, WalkMay, ClearMay, GrowthMay}
 use Rattle.flurry_theory.specs.Bin.{Entry, number_of, pairs_of, Ascending, InRegion, past}
-use Rattle.flurry_theory.specs.Machine.{total, owes_added, owes_removed, State, Slot, Line, Opens, Moves, Claim, Growth, Can, does, Live, Moved, Unborn, Mode, Locating, Looking, Walking, Clearing, Done, Finished, Frame, Replies}
+use Rattle.flurry_theory.specs.Machine.{total, owes_added, owes_removed, State, Slot, Transition, Opens, Moves, Claim, Growth, Can, does, Live, Moved, Unborn, Mode, Locating, Looking, Walking, Clearing, Done, Finished, Frame, Replies}
 use Rattle.flurry_model.specs.declared.call.Call.{Call}
 use Rattle.flurry_model.specs.declared.call.Call.TheVariants.{RemoveSeen, Walk, Clear}
 use Rattle.flurry_model.specs.declared.call.Seen.{Seen}
 use Rattle.flurry_model.specs.declared.reply.KeptReply.{KeptReply}
+use Rattle.flurry_model.specs.declared.sizes.TheConstants.{GREATEST_TABLE}
 
 -- the call is one of these
 abbrev pub one_key : {K V F : Type 0} → Option (Call K V F) → Bool
@@ -19,16 +20,16 @@ one_key (Some c) = is_some (key_of c)
 module _ {K V F : Type 0} where
   -- what a party's mode says of its call and its labels so far
   pub record PartyOk (s : State K V F) (p : ℕ) : Type 0 where
-    pub call : begun s.trace p ≡ s.call p
-    pub unknown : s.parties ≤ p → (s.call p ≡ None) × (s.mode p ≡ Finished) × (s.claim p ≡ None) × (decision s.trace p ≡ None) × (replied s.trace p ≡ false) × (closed s.trace p ≡ false)
-    pub going : (s.mode p ≡ Finished → ⊥) → (replied s.trace p ≡ false) × (closed s.trace p ≡ false) × (is_some (s.call p) ≡ true)
+    pub call : call_begun_by s.trace p ≡ s.call p
+    pub unknown : s.parties ≤ p → (s.call p ≡ None) × (s.mode p ≡ Finished) × (s.claim p ≡ None) × (decision s.trace p ≡ None) × (has_replied s.trace p ≡ false) × (has_closed s.trace p ≡ false)
+    pub going : (s.mode p ≡ Finished → ⊥) → (has_replied s.trace p ≡ false) × (has_closed s.trace p ≡ false) × (is_some (s.call p) ≡ true)
     pub undecided : ((r : KeptReply K V) (added removed : ℕ) → s.mode p ≡ Done (Some r) added removed → ⊥) → (s.mode p ≡ Finished → ⊥) → decision s.trace p ≡ None
     pub decided : (r : KeptReply K V) (added removed : ℕ) → s.mode p ≡ Done (Some r) added removed → decision s.trace p ≡ Some r
     pub looking : (e : ℕ) → s.mode p ≡ Looking e → one_key (s.call p) ≡ true
     pub walking : (e i : ℕ) (fs : List (Frame K)) → s.mode p ≡ Walking e i fs → s.call p ≡ Some Walk
-    pub finished : s.mode p ≡ Finished → is_some (s.call p) ≡ true → (replied s.trace p ≡ true) ⊎ (closed s.trace p ≡ true)
-    pub settled : replied s.trace p ≡ true → is_some (decision s.trace p) ≡ true
-    pub refused : closed s.trace p ≡ true → one_key (s.call p) ≡ true → decision s.trace p ≡ None
+    pub finished : s.mode p ≡ Finished → is_some (s.call p) ≡ true → (has_replied s.trace p ≡ true) ⊎ (has_closed s.trace p ≡ true)
+    pub settled : has_replied s.trace p ≡ true → is_some (decision s.trace p) ≡ true
+    pub refused : has_closed s.trace p ≡ true → one_key (s.call p) ≡ true → decision s.trace p ≡ None
     pub clearing : (wiped e i : ℕ) (fs : List (Frame K)) → s.mode p ≡ Clearing wiped e i fs → s.call p ≡ Some Clear
 
 -- the bin is there and has not moved
@@ -51,11 +52,11 @@ module _ {K V F : Type 0} (cmp : K → K → Ordering) (hash : K → ℕ) where
     pub empty : s.published ≡ None → (k : K) → at cmp hash s.trace k ≡ None
     -- the live bins together hold the map
     pub content : (k : K) (es : List (Entry K V)) (n : ℕ) → s.slot (home (hash k)) (hash k % 2 ^ home (hash k)) ≡ Live es n → find cmp (pairs_of es) k ≡ at cmp hash s.trace k
-    pub was_moved : (d j : ℕ) → s.slot d j ≡ Moved → moved s.trace d j ≡ true
-    pub is_moved : (d j : ℕ) → moved s.trace d j ≡ true → s.slot d j ≡ Moved
+    pub was_moved : (d j : ℕ) → s.slot d j ≡ Moved → was_moved_in s.trace d j ≡ true
+    pub is_moved : (d j : ℕ) → was_moved_in s.trace d j ≡ true → s.slot d j ≡ Moved
 
 -- the homes after a line
-abbrev pub home_after : {K V F : Type 0} → (ℕ → ℕ) → Line K V F → ℕ → ℕ
+abbrev pub home_after : {K V F : Type 0} → (ℕ → ℕ) → Transition K V F → ℕ → ℕ
 home_after home (Opens e) h = e
 home_after home (Moves a i es n) h = if h % 2 ^ a.table == i then suc a.table else home h
 home_after home l h = home h
@@ -75,8 +76,8 @@ module _ {K V F : Type 0} where
   pub record Cut (s : State K V F) : Type 0 where
     pub made : (g : Growth) → s.growth ≡ Some g → is_some s.published ≡ true
     pub idle : s.growth ≡ None → (p : ℕ) → s.claim p ≡ None
-    pub limit : (e : ℕ) → s.published ≡ Some e → e ≤ 30
-    pub growth_limit : (e : ℕ) (g : Growth) → s.published ≡ Some e → s.growth ≡ Some g → e < 30
+    pub limit : (e : ℕ) → s.published ≡ Some e → e ≤ GREATEST_TABLE
+    pub growth_limit : (e : ℕ) (g : Growth) → s.published ≡ Some e → s.growth ≡ Some g → e < GREATEST_TABLE
     pub near : (f d j : ℕ) → s.published ≡ Some f → suc f < d → s.slot d j ≡ Unborn
     pub idle_live : s.growth ≡ None → (e i : ℕ) → s.published ≡ Some e → i < 2 ^ e → is_live (s.slot e i) ≡ true
     pub claims : (p : ℕ) (a : Claim) → s.claim p ≡ Some a → (s.published ≡ Some a.table) × (a.low < a.high) × (a.low ≤ a.left) × (a.left ≤ a.high) × (a.high ≤ 2 ^ a.table)
@@ -91,10 +92,10 @@ module _ {K V F : Type 0} where
   -- what the labels say of the tables
   pub record Grown (first : Option ℕ) (s : State K V F) : Type 0 where
     pub number : published first s.trace ≡ s.published
-    pub placed_next : (e : ℕ) (g : Growth) → s.published ≡ Some e → s.growth ≡ Some g → placed s.trace (suc e) ≡ true
-    pub unplaced : s.published ≡ None → (d : ℕ) → placed s.trace d ≡ false
-    pub unplaced_idle : (e d : ℕ) → s.growth ≡ None → s.published ≡ Some e → e < d → placed s.trace d ≡ false
-    pub unplaced_above : (e d : ℕ) → s.published ≡ Some e → suc e < d → placed s.trace d ≡ false
+    pub placed_next : (e : ℕ) (g : Growth) → s.published ≡ Some e → s.growth ≡ Some g → was_placed s.trace (suc e) ≡ true
+    pub unplaced : s.published ≡ None → (d : ℕ) → was_placed s.trace d ≡ false
+    pub unplaced_idle : (e d : ℕ) → s.growth ≡ None → s.published ≡ Some e → e < d → was_placed s.trace d ≡ false
+    pub unplaced_above : (e d : ℕ) → s.published ≡ Some e → suc e < d → was_placed s.trace d ≡ false
 
 -- WALKS AND CLEARS
 module _ {K V F : Type 0} (cmp : K → K → Ordering) (hash : K → ℕ) (gives : F → K → V → Option V → Type 0) where
@@ -194,7 +195,7 @@ module _ {K V F : Type 0} (cmp : K → K → Ordering) (hash : K → ℕ) (gives
     pub bounded : (k : K) (m : ℕ) → number_at home s k ≡ Some m → m ≤ writes_at home s k
     pub limit : (k : K) → writes_at home s k ≤ 2 ^ 64 - 1
     pub small : (k : K) → writes_at home s k ≤ length s.trace
-    pub fresh : (w : ℕ) (z : Seen K V) → s.seen w ≡ Some z → Judged (untouched cmp hash gives s.trace w z.key) z (number_at home s z.key) (writes_at home s z.key)
+    pub fresh : (w : ℕ) (z : Seen K V) → s.seen w ≡ Some z → Judged (is_untouched cmp hash gives s.trace w z.key) z (number_at home s z.key) (writes_at home s z.key)
     pub pending : (p w : ℕ) (z : Seen K V) → s.began_from p ≡ Some w → s.call p ≡ Some (RemoveSeen z) → Judged (untouched_for cmp hash gives s.trace p w z.key) z (number_at home s z.key) (writes_at home s z.key)
 
 -- NAMED BINS
@@ -234,8 +235,8 @@ module _ {K V F : Type 0} where
 module _ {K V F : Type 0} (cmp : K → K → Ordering) (hash : K → ℕ) (gives : F → K → V → Option V → Type 0) where
   -- a look-up has decided or was refused by its 32nd step, and its step after the decision is its reply
   pub record LooksUp (s : State K V F) (p : ℕ) : Type 0 where
-    pub in_time : is_lookup (s.call p) ≡ true → decision s.trace p ≡ None → closed s.trace p ≡ false → s.steps p < 32
-    pub replies_next : is_lookup (s.call p) ≡ true → (r : KeptReply K V) → decision s.trace p ≡ Some r → replied s.trace p ≡ false → (l : Line K V F) → Can cmp hash gives s p l → l ≡ Replies r
+    pub in_time : is_lookup (s.call p) ≡ true → decision s.trace p ≡ None → has_closed s.trace p ≡ false → s.steps p < 32
+    pub replies_next : is_lookup (s.call p) ≡ true → (r : KeptReply K V) → decision s.trace p ≡ Some r → has_replied s.trace p ≡ false → (l : Transition K V F) → Can cmp hash gives s p l → l ≡ Replies r
 
 -- ALL OF IT
 module _ {K V F : Type 0} (cmp : K → K → Ordering) (hash : K → ℕ) (gives : F → K → V → Option V → Type 0) where
@@ -287,11 +288,11 @@ new_world e b = record {
 -- RUNS
 module _ {K V F : Type 0} (cmp : K → K → Ordering) (hash : K → ℕ) (gives : F → K → V → Option V → Type 0) where
   -- the state after these steps of parties, the newest first
-  abbrev pub after_all : State K V F → List (ℕ × Line K V F) → State K V F
+  abbrev pub after_all : State K V F → List (ℕ × Transition K V F) → State K V F
   after_all s [] = s
   after_all s (x ∷ steps) = does cmp hash gives (after_all s steps) x.0 x.1
 
   -- each of these steps can be done after those before it
-  abbrev pub CanAll : State K V F → List (ℕ × Line K V F) → Type 0
+  abbrev pub CanAll : State K V F → List (ℕ × Transition K V F) → Type 0
   CanAll s [] = ⊤
   CanAll s (x ∷ steps) = Can cmp hash gives (after_all s steps) x.0 x.1 × CanAll s steps

@@ -2,13 +2,14 @@
 use Rattle.std.specs.Prelude.{⊤, length, ℕ, suc, Bool, true, false, not, ◌&&◌, ◌||◌, [], ◌∷◌, Option, Some, None, if◌then◌else◌, IfSome, IsSome, IsNone, IsTrue, ◌≡◌, ◌==◌, ◌^◌, ◌<◌, ◌⊎◌}
 use Rattle.std.specs.declared.cmp.Ordering.{Ordering}
 use Rattle.flurry_theory.specs.Map.{same, key_of, Allows, CanBeRefused}
-use Rattle.flurry_theory.specs.Trace.{Trace, in_region, begun, decision, replied, closed, begins, names, last_read, read_before, published, placed, moved, pairs, at}
+use Rattle.flurry_theory.specs.Trace.{Trace, in_region, call_begun_by, decision, has_replied, has_closed, begins, names, last_read, read_before, published, was_placed, was_moved_in, pairs, at}
 use Rattle.flurry_model.specs.declared.call.Call.{Call}
 use Rattle.flurry_model.specs.declared.call.Call.TheVariants.{Insert, TryInsert, Compute, Remove, RemoveEntry, RemoveSeen, Clear, Walk}
 use Rattle.flurry_model.specs.declared.reply.KeptReply.{KeptReply}
 use Rattle.flurry_model.specs.declared.reply.KeptReply.TheVariants.{Value, New}
 use Rattle.flurry_theory.specs.declared.Label.{Label}
 use Rattle.flurry_theory.specs.declared.Label.TheVariants.{Begin, Decide, Reply as Replied, Refused, Wipe, Read, End, Opened, Placed, Moved, Published}
+use Rattle.flurry_model.specs.declared.sizes.TheConstants.{MOST_LABELS}
 
 module _ {K V F : Type 0} where
   -- each label may follow those before it
@@ -37,20 +38,20 @@ module _ {K V F : Type 0} where
 
   -- party p began with such a call
   abbrev pub Began : (Call K V F → Type 0) → Trace K V F → ℕ → Type 0
-  Began P t p = (c : Call K V F) × (begun t p ≡ Some c) × P c
+  Began P t p = (c : Call K V F) × (call_begun_by t p ≡ Some c) × P c
 
   module _ (cmp : K → K → Ordering) (hash : K → ℕ) (gives : F → K → V → Option V → Type 0) where
     -- CALLS. A party begins once, and only then has other labels than Silent. A one-key call decides once at most, as the
     -- map before it allows, and replies what it decided. A call is refused once at most, undecided, and only where the map before it
     -- lets memory be refused to it. Other calls end or are refused once at most.
     abbrev pub CallMay : Trace K V F → Label K V F → Type 0
-    CallMay t (Begin p c) = begun t p ≡ None
-    CallMay t (Decide p r) = Began (λ c. Allows cmp gives c (pairs cmp hash t) r) t p × (decision t p ≡ None) × (closed t p ≡ false)
-    CallMay t (Replied p r) = Began IsOneKey t p × (decision t p ≡ Some r) × (replied t p ≡ false)
-    CallMay t (Refused p) = Began (λ c. CanBeRefused cmp gives c (pairs cmp hash t)) t p × (decision t p ≡ None) × (closed t p ≡ false)
-    CallMay t (End p) = Began (λ c. IsNone (key_of c)) t p × (closed t p ≡ false)
-    CallMay t (Wipe p e i) = Began IsClear t p × (closed t p ≡ false)
-    CallMay t (Read p k v) = Began IsWalk t p × (closed t p ≡ false)
+    CallMay t (Begin p c) = call_begun_by t p ≡ None
+    CallMay t (Decide p r) = Began (λ c. Allows cmp gives c (pairs cmp hash t) r) t p × (decision t p ≡ None) × (has_closed t p ≡ false)
+    CallMay t (Replied p r) = Began IsOneKey t p × (decision t p ≡ Some r) × (has_replied t p ≡ false)
+    CallMay t (Refused p) = Began (λ c. CanBeRefused cmp gives c (pairs cmp hash t)) t p × (decision t p ≡ None) × (has_closed t p ≡ false)
+    CallMay t (End p) = Began (λ c. IsNone (key_of c)) t p × (has_closed t p ≡ false)
+    CallMay t (Wipe p e i) = Began IsClear t p × (has_closed t p ≡ false)
+    CallMay t (Read p k v) = Began IsWalk t p × (has_closed t p ≡ false)
     CallMay t l = ⊤
 
     -- WALKS
@@ -105,7 +106,7 @@ module _ {K V F : Type 0} where
 
     -- the label, after these, writes or removes k's class
     abbrev pub touches : Trace K V F → Label K V F → K → Bool
-    touches t (Decide p r) k = changed_by (begun t p) r k
+    touches t (Decide p r) k = changed_by (call_begun_by t p) r k
     touches t (Wipe p e i) k = in_region e i (hash k)
     touches t l k = false
 
@@ -115,14 +116,14 @@ module _ {K V F : Type 0} where
     reads w l = false
 
     -- no label since w's last read has touched k's class
-    abbrev pub untouched : Trace K V F → ℕ → K → Bool
-    untouched [] w k = false
-    untouched (l ∷ t) w k = reads w l || (not (touches t l k) && untouched t w k)
+    abbrev pub is_untouched : Trace K V F → ℕ → K → Bool
+    is_untouched [] w k = false
+    is_untouched (l ∷ t) w k = reads w l || (not (touches t l k) && is_untouched t w k)
 
     -- no label since w's last read before p's Begin has touched k's class
     abbrev pub untouched_for : Trace K V F → ℕ → ℕ → K → Bool
     untouched_for [] p w k = false
-    untouched_for (l ∷ t) p w k = if begins p l then untouched t w k else not (touches t l k) && untouched_for t p w k
+    untouched_for (l ∷ t) p w k = if begins p l then is_untouched t w k else not (touches t l k) && untouched_for t p w k
 
     -- the reply is that of a removal
     abbrev pub removes : KeptReply K V → Bool
@@ -133,13 +134,13 @@ module _ {K V F : Type 0} where
     -- touched its class since that read, and, within the first 2^62 labels, also if none has. began_from p is that walk, if there is one.
     abbrev pub RemovalMay : (began_from : ℕ → Option ℕ) → Trace K V F → Label K V F → Type 0
     RemovalMay began_from t (Begin p c) = IfSome (began_from p) (λ w. (x : K × V) × (last_read t w ≡ Some x) × RemovesPair x c)
-    RemovalMay began_from t (Decide p r) = IfSome (began_from p) (λ w. (x : K × V) × (read_before t p w ≡ Some x) × (removes r ≡ true → untouched_for t p w x.0 ≡ true) × (length t < 2 ^ 62 → untouched_for t p w x.0 ≡ true → removes r ≡ true))
+    RemovalMay began_from t (Decide p r) = IfSome (began_from p) (λ w. (x : K × V) × (read_before t p w ≡ Some x) × (removes r ≡ true → untouched_for t p w x.0 ≡ true) × (length t < MOST_LABELS → untouched_for t p w x.0 ≡ true → removes r ≡ true))
     RemovalMay began_from t l = ⊤
 
-  -- GROWTH. first is the number of the table that the world began with.
+  -- GROWTH. first is the exponent of the table that the world began with.
   abbrev pub GrowthMay : Option ℕ → Trace K V F → Label K V F → Type 0
   GrowthMay first t (Opened e) = published first t ≡ None
-  GrowthMay first t (Placed d) = (e : ℕ) × (published first t ≡ Some e) × (d ≡ suc e) × (placed t d ≡ false)
-  GrowthMay first t (Moved e i) = (i < 2 ^ e) × (placed t (suc e) ≡ true) × (moved t e i ≡ false)
-  GrowthMay first t (Published d) = (e : ℕ) × (published first t ≡ Some e) × (d ≡ suc e) × ((i : ℕ) → i < 2 ^ e → moved t e i ≡ true)
+  GrowthMay first t (Placed d) = (e : ℕ) × (published first t ≡ Some e) × (d ≡ suc e) × (was_placed t d ≡ false)
+  GrowthMay first t (Moved e i) = (i < 2 ^ e) × (was_placed t (suc e) ≡ true) × (was_moved_in t e i ≡ false)
+  GrowthMay first t (Published d) = (e : ℕ) × (published first t ≡ Some e) × (d ≡ suc e) × ((i : ℕ) → i < 2 ^ e → was_moved_in t e i ≡ true)
   GrowthMay first t l = ⊤

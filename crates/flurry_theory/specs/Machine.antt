@@ -1,4 +1,4 @@
--- The machine: its state, the lines that one step may be, and what each does. It leaves open what no law hangs on: when a
+-- The machine: its state, the transitions that one step may be, and what each does. It leaves open what no law hangs on: when a
 -- party counts, and for whom, when it helps or begins a growth, and whether memory is refused where it may be.
 use Rattle.std.specs.Prelude.{⊤, length, ℕ, ℤ, pos, ◌+ℤ◌, ◌-ℤ◌, zero, suc, ◌+◌, ◌-◌, ◌%◌, ◌^◌, ◌<◌, ◌≤◌, ◌==◌, nat_lt, Bool, true, false, ◌&&◌, List, [], ◌∷◌, Option, Some, None, is_some, IsSome, IsNone, if◌then◌else◌, ◌≡◌, ◌⊎◌}
 use Rattle.std.specs.declared.cmp.Ordering.{Ordering}
@@ -12,6 +12,7 @@ use Rattle.flurry_model.specs.declared.call.Call.TheVariants.{RemoveSeen, Insert
 use Rattle.flurry_model.specs.declared.reply.KeptReply.{KeptReply}
 use Rattle.flurry_theory.specs.declared.Label.{Label}
 use Rattle.flurry_theory.specs.declared.Label.TheVariants.{Begin, Decide, Reply as Replied, Refused, Wipe, Read, End, Opened, Placed, Moved as MovedBin, Published, Silent}
+use Rattle.flurry_model.specs.declared.sizes.TheConstants.{FIRST_TABLE, GREATEST_TABLE}
 
 -- a bin of a table; writes counts the values written to it
 pub data Slot (K V : Type 0) : Type 0 where
@@ -53,7 +54,7 @@ pub record Growth : Type 0 where
 
 -- all that the laws speak of: the control, the bins, the parties and the labels
 pub record State (K V F : Type 0) : Type 0 where
-  pub start : ℕ  -- the number of the first table
+  pub start : ℕ  -- the exponent of the first table
   pub published : Option ℕ
   pub growth : Option Growth
   pub slot : ℕ → ℕ → Slot K V
@@ -80,32 +81,32 @@ abbrev pub total : (ℕ → ℕ) → ℕ → ℕ
 total f zero = 0
 total f (suc n) = total f n + f n
 
--- the lines, with what each leaves open
-pub data Line (K V F : Type 0) : Type 0 where
-  Begins : (c : Call K V F) (from : Option ℕ) → Line K V F
+-- the transitions, with what each leaves open
+pub data Transition (K V F : Type 0) : Type 0 where
+  Begins : (c : Call K V F) (from : Option ℕ) → Transition K V F
   -- changes nothing
-  Quiet : Line K V F
+  Quiet : Transition K V F
   -- counts what the parties that pass the test owe, its own or others'
-  Counts : (whose : ℕ → Bool) → Line K V F
-  Finds : (e : ℕ) → Line K V F
-  Opens : (e : ℕ) → Line K V F
-  FindsNothing : Line K V F
-  IsRefused : Line K V F
-  DecidesEmpty : (c : Call K V F) (r : KeptReply K V) → Line K V F
-  Passes : (e : ℕ) → Line K V F
-  Decides : (c : Call K V F) (k : K) (e : ℕ) (es : List (Entry K V)) (n : ℕ) (r : KeptReply K V) (fs : List (Entry K V)) (m : ℕ) → Line K V F
-  Places : (e : ℕ) → Line K V F
-  Claims : (e : ℕ) (g : Growth) (low : ℕ) → Line K V F
-  Moves : (a : Claim) (i : ℕ) (es : List (Entry K V)) (n : ℕ) → Line K V F
-  Reports : (a : Claim) (g : Growth) → Line K V F
-  Publishes : (a : Claim) (g : Growth) → Line K V F
-  Reads : (e i : ℕ) (f : Frame K) (fs : List (Frame K)) (es : List (Entry K V)) (n : ℕ) (x : Entry K V) → Line K V F
-  Leaves : (e i : ℕ) (f : Frame K) (fs : List (Frame K)) (es : List (Entry K V)) (n : ℕ) → Line K V F
-  Splits : (e i : ℕ) (f : Frame K) (fs : List (Frame K)) → Line K V F
-  Wipes : (wiped e i : ℕ) (f : Frame K) (fs : List (Frame K)) (es : List (Entry K V)) (n : ℕ) → Line K V F
-  SplitsClear : (wiped e i : ℕ) (f : Frame K) (fs : List (Frame K)) → Line K V F
-  Replies : (r : KeptReply K V) → Line K V F
-  Ends : Line K V F
+  Counts : (whose : ℕ → Bool) → Transition K V F
+  Finds : (e : ℕ) → Transition K V F
+  Opens : (e : ℕ) → Transition K V F
+  FindsNothing : Transition K V F
+  IsRefused : Transition K V F
+  DecidesEmpty : (c : Call K V F) (r : KeptReply K V) → Transition K V F
+  Passes : (e : ℕ) → Transition K V F
+  Decides : (c : Call K V F) (k : K) (e : ℕ) (es : List (Entry K V)) (n : ℕ) (r : KeptReply K V) (fs : List (Entry K V)) (m : ℕ) → Transition K V F
+  Places : (e : ℕ) → Transition K V F
+  Claims : (e : ℕ) (g : Growth) (low : ℕ) → Transition K V F
+  Moves : (a : Claim) (i : ℕ) (es : List (Entry K V)) (n : ℕ) → Transition K V F
+  Reports : (a : Claim) (g : Growth) → Transition K V F
+  Publishes : (a : Claim) (g : Growth) → Transition K V F
+  Reads : (e i : ℕ) (f : Frame K) (fs : List (Frame K)) (es : List (Entry K V)) (n : ℕ) (x : Entry K V) → Transition K V F
+  Leaves : (e i : ℕ) (f : Frame K) (fs : List (Frame K)) (es : List (Entry K V)) (n : ℕ) → Transition K V F
+  Splits : (e i : ℕ) (f : Frame K) (fs : List (Frame K)) → Transition K V F
+  Wipes : (wiped e i : ℕ) (f : Frame K) (fs : List (Frame K)) (es : List (Entry K V)) (n : ℕ) → Transition K V F
+  SplitsClear : (wiped e i : ℕ) (f : Frame K) (fs : List (Frame K)) → Transition K V F
+  Replies : (r : KeptReply K V) → Transition K V F
+  Ends : Transition K V F
 
 -- the walk, or the clear, goes on behind a frame that is done, or is at its end
 abbrev pub onward : {K V : Type 0} → (ℕ → ℕ → List (Frame K) → Mode K V) → Mode K V → ℕ → ℕ → List (Frame K) → Mode K V
@@ -124,10 +125,10 @@ owes_removed (Done r added removed) = removed
 owes_removed m = 0
 
 -- the mode once what it owes is counted
-abbrev pub settled : {K V : Type 0} → Mode K V → Mode K V
-settled (Clearing wiped e i fs) = Clearing 0 e i fs
-settled (Done r added removed) = Done r 0 0
-settled m = m
+abbrev pub mode_after_count : {K V : Type 0} → Mode K V → Mode K V
+mode_after_count (Clearing wiped e i fs) = Clearing 0 e i fs
+mode_after_count (Done r added removed) = Done r 0 0
+mode_after_count m = m
 
 -- the two halves of a frame whose bin has moved
 abbrev pub halves : {K : Type 0} → Frame K → List (Frame K) → List (Frame K)
@@ -135,24 +136,24 @@ halves f fs = record { table = suc f.table; index = f.index; bound = f.bound } �
 
 module _ {K V F : Type 0} where
   -- where a call goes on that has found table e
-  abbrev pub found : ℕ → Call K V F → Mode K V
-  found e (Reserve n) = Done None 0 0
-  found e Clear = Clearing 0 e 0 (record { table = e; index = 0; bound = None } ∷ [])
-  found e Walk = Walking e 0 (record { table = e; index = 0; bound = None } ∷ [])
-  found e c = Looking e
+  abbrev pub mode_at_table : ℕ → Call K V F → Mode K V
+  mode_at_table e (Reserve n) = Done None 0 0
+  mode_at_table e Clear = Clearing 0 e 0 (record { table = e; index = 0; bound = None } ∷ [])
+  mode_at_table e Walk = Walking e 0 (record { table = e; index = 0; bound = None } ∷ [])
+  mode_at_table e c = Looking e
 
   -- may open the first table
   abbrev pub Opening : Call K V F → ℕ → Type 0
-  Opening (Insert k v) e = e ≡ 4
-  Opening (TryInsert k v) e = e ≡ 4
-  Opening (Reserve n) e = e ≤ 30
+  Opening (Insert k v) e = e ≡ FIRST_TABLE
+  Opening (TryInsert k v) e = e ≡ FIRST_TABLE
+  Opening (Reserve n) e = e ≤ GREATEST_TABLE
   Opening c e = ⊥
 
   -- what the parties that pass the test owe is counted, and they owe nothing more
   abbrev pub settle : (ℕ → Bool) → State K V F → State K V F
   settle whose s = record s {
     count = s.count +ℤ pos (total (λ q. if whose q then owes_added (s.mode q) else 0) s.parties) -ℤ pos (total (λ q. if whose q then owes_removed (s.mode q) else 0) s.parties);
-    mode = λ q. if whose q then settled (s.mode q) else s.mode q;
+    mode = λ q. if whose q then mode_after_count (s.mode q) else s.mode q;
   }
 
   -- a call that adds nothing to an empty map
@@ -174,8 +175,8 @@ module _ {K V F : Type 0} where
       pub new_number : changes cmp hash gives c r ≡ true → (k : K) → key_of c ≡ Some k → (number_of cmp fs k ≡ None) ⊎ ((number_of cmp fs k ≡ Some m) × (m ≡ bump n))
       pub conditional : (z : Seen K V) → c ≡ RemoveSeen z → removes cmp hash gives r ≡ has_number (number_of cmp es z.key) z.number
 
-    -- A number that was once published: a call may begin there, since the bins of older tables are moved and lead on. So it may be
-    -- read from a hint that lags behind the published number.
+    -- An exponent that was once published: a call may begin there, since the bins of older tables are moved and lead on. So it may be
+    -- read from a hint that lags behind the published exponent.
     abbrev pub WasPublished : State K V F → ℕ → Type 0
     WasPublished s e = (s.start ≤ e) × (f : ℕ) × (s.published ≡ Some f) × (e ≤ f)
 
@@ -185,11 +186,11 @@ module _ {K V F : Type 0} where
     RefusedAt s c Locating = (s.published ≡ None) × (e : ℕ) × Opening c e
     RefusedAt s c (Looking e) = (k : K) × (es : List (Entry K V)) × (n : ℕ) × (key_of c ≡ Some k) × (s.slot e (hash k % 2 ^ e) ≡ Live es n) × CanBeRefused cmp gives c (pairs_of es)
     RefusedAt s c (Walking e i (f ∷ fs)) = ((es : List (Entry K V)) × (n : ℕ) × (s.slot f.table f.index ≡ Live es n) × IsSome (first_past cmp hash f.bound es)) ⊎ ((s.slot f.table f.index ≡ Moved) × IsSome f.bound)
-    RefusedAt s c (Done None added removed) = (n e : ℕ) × (c ≡ Reserve n) × (added ≡ 0) × (removed ≡ 0) × (s.published ≡ Some e) × (s.growth ≡ None) × (e < 30)
+    RefusedAt s c (Done None added removed) = (n e : ℕ) × (c ≡ Reserve n) × (added ≡ 0) × (removed ≡ 0) × (s.published ≡ Some e) × (s.growth ≡ None) × (e < GREATEST_TABLE)
     RefusedAt s c m = ⊥
 
     -- when party p may do this line
-    abbrev pub Can : State K V F → ℕ → Line K V F → Type 0
+    abbrev pub Can : State K V F → ℕ → Transition K V F → Type 0
     Can s p (Begins c from) = (p ≡ s.parties) × ((w : ℕ) → from ≡ Some w → (z : Seen K V) × (s.seen w ≡ Some z) × (c ≡ RemoveSeen z))
     Can s p Quiet = is_lookup (s.call p) ≡ true → s.mode p ≡ Finished
     Can s p (Counts whose) = is_lookup (s.call p) ≡ false
@@ -200,7 +201,7 @@ module _ {K V F : Type 0} where
     Can s p (DecidesEmpty c r) = (s.call p ≡ Some c) × (s.mode p ≡ Locating) × (s.published ≡ None) × (Adds c → ⊥) × Allows cmp gives c [] r
     Can s p (Passes e) = (c : Call K V F) × (k : K) × (s.call p ≡ Some c) × (key_of c ≡ Some k) × (s.mode p ≡ Looking e) × (s.slot e (hash k % 2 ^ e) ≡ Moved)
     Can s p (Decides c k e es n r fs m) = (s.call p ≡ Some c) × (key_of c ≡ Some k) × (s.mode p ≡ Looking e) × (s.claim p ≡ None) × (s.slot e (hash k % 2 ^ e) ≡ Live es n) × BinDid c r es n fs m × InRegion hash e (hash k % 2 ^ e) fs
-    Can s p (Places e) = (s.published ≡ Some e) × (s.growth ≡ None) × (e < 30) × (is_lookup (s.call p) ≡ false)
+    Can s p (Places e) = (s.published ≡ Some e) × (s.growth ≡ None) × (e < GREATEST_TABLE) × (is_lookup (s.call p) ≡ false)
     Can s p (Claims e g low) = (s.claim p ≡ None) × (p < s.parties) × (s.published ≡ Some e) × (s.growth ≡ Some g) × (low < g.unclaimed) × (is_lookup (s.call p) ≡ false)
     Can s p (Moves a i es n) = (s.claim p ≡ Some a) × (a.low ≤ i) × (a.left ≡ suc i) × (s.slot a.table i ≡ Live es n) × (is_lookup (s.call p) ≡ false)
     Can s p (Reports a g) = (s.claim p ≡ Some a) × (a.left ≡ a.low) × (s.growth ≡ Some g) × (g.reported + (a.high - a.low) ≡ 2 ^ a.table → ⊥) × (is_lookup (s.call p) ≡ false)
@@ -216,14 +217,14 @@ module _ {K V F : Type 0} where
     -- where a party goes on that has found table e; nowhere without a call
     abbrev pub found_by : Option (Call K V F) → ℕ → Mode K V
     found_by None e = Finished
-    found_by (Some c) e = found e c
+    found_by (Some c) e = mode_at_table e c
 
     -- the party in another mode
     abbrev pub goes : State K V F → ℕ → Mode K V → State K V F
     goes s p m = record s { mode = at_place s.mode p m }
 
     -- what the line does, beside its label
-    abbrev pub effect : State K V F → ℕ → Line K V F → State K V F
+    abbrev pub effect : State K V F → ℕ → Transition K V F → State K V F
     effect s p (Begins c from) = record s { seen = at_place s.seen p None; began_from = at_place s.began_from p from; parties = suc p; call = at_place s.call p (Some c); mode = at_place s.mode p Locating; claim = at_place s.claim p None }
     effect s p Quiet = s
     effect s p (Counts whose) = settle whose s
@@ -251,7 +252,7 @@ module _ {K V F : Type 0} where
     effect s p Ends = goes s p Finished
 
     -- the label that the line adds
-    abbrev pub label : ℕ → Line K V F → Label K V F
+    abbrev pub label : ℕ → Transition K V F → Label K V F
     label p (Begins c from) = Begin p c
     label p (Opens e) = Opened e
     label p IsRefused = Refused p
@@ -267,14 +268,14 @@ module _ {K V F : Type 0} where
     label p l = Silent p
 
     -- how many steps the party has done after the line: its beginning is none of them
-    abbrev pub steps_after : State K V F → ℕ → Line K V F → ℕ
+    abbrev pub steps_after : State K V F → ℕ → Transition K V F → ℕ
     steps_after s p (Begins c from) = 0
     steps_after s p l = if is_some (s.call p) then suc (s.steps p) else s.steps p
 
     -- the line, as it is done: what it does, one more step of its party, and its label
-    abbrev pub does : State K V F → ℕ → Line K V F → State K V F
+    abbrev pub does : State K V F → ℕ → Transition K V F → State K V F
     does s p l = record (effect s p l) { steps = at_place s.steps p (steps_after s p l); trace = label p l ∷ s.trace }
 
     -- one step of party p, or its beginning
     abbrev pub Steps : State K V F → ℕ → State K V F → Type 0
-    Steps s p z = (l : Line K V F) × Can s p l × (z ≡ does s p l)
+    Steps s p z = (l : Transition K V F) × Can s p l × (z ≡ does s p l)

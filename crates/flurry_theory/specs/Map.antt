@@ -28,9 +28,7 @@ key_of (Compute k f) = Some k
 key_of (Remove k) = Some k
 key_of (RemoveEntry k) = Some k
 key_of (RemoveSeen s) = Some s.key
-key_of (Reserve n) = None
-key_of Clear = None
-key_of Walk = None
+key_of _ = None
 
 module _ {K : Type 0} (cmp : K → K → Ordering) where
   -- the two keys are of one class

@@ -20,9 +20,7 @@ one_key_of (call.Compute k f) = Some (one.Compute k f)
 one_key_of (call.Remove k) = Some (one.Remove k)
 one_key_of (call.RemoveEntry k) = Some (one.RemoveEntry k)
 one_key_of (call.RemoveSeen s) = Some (one.RemoveSeen s.key)
-one_key_of (call.Reserve n) = None
-one_key_of call.Clear = None
-one_key_of call.Walk = None
+one_key_of _ = None
 
 module _ {K V : Type 0} (cmp : K → K → Ordering) where
   -- the list m has at each class what the pairs n have there

@@ -18,10 +18,10 @@ Trace K V F = List (Label K V F)
 
 module _ {K V F : Type 0} where
   -- the call that began party p
-  abbrev pub begun : Trace K V F → ℕ → Option (Call K V F)
-  begun [] p = None
-  begun (Begin q c ∷ t) p = if q == p then Some c else begun t p
-  begun (l ∷ t) p = begun t p
+  abbrev pub call_begun_by : Trace K V F → ℕ → Option (Call K V F)
+  call_begun_by [] p = None
+  call_begun_by (Begin q c ∷ t) p = if q == p then Some c else call_begun_by t p
+  call_begun_by (l ∷ t) p = call_begun_by t p
 
   -- the decision of party p
   abbrev pub decision : Trace K V F → ℕ → Option (KeptReply K V)
@@ -30,17 +30,17 @@ module _ {K V F : Type 0} where
   decision (l ∷ t) p = decision t p
 
   -- party p has replied
-  abbrev pub replied : Trace K V F → ℕ → Bool
-  replied [] p = false
-  replied (Replied q r ∷ t) p = q == p || replied t p
-  replied (l ∷ t) p = replied t p
+  abbrev pub has_replied : Trace K V F → ℕ → Bool
+  has_replied [] p = false
+  has_replied (Replied q r ∷ t) p = q == p || has_replied t p
+  has_replied (l ∷ t) p = has_replied t p
 
   -- party p has ended, or was refused
-  abbrev pub closed : Trace K V F → ℕ → Bool
-  closed [] p = false
-  closed (End q ∷ t) p = q == p || closed t p
-  closed (Refused q ∷ t) p = q == p || closed t p
-  closed (l ∷ t) p = closed t p
+  abbrev pub has_closed : Trace K V F → ℕ → Bool
+  has_closed [] p = false
+  has_closed (End q ∷ t) p = q == p || has_closed t p
+  has_closed (Refused q ∷ t) p = q == p || has_closed t p
+  has_closed (l ∷ t) p = has_closed t p
 
   -- the label is this party's Begin
   abbrev pub begins : ℕ → Label K V F → Bool
@@ -57,10 +57,7 @@ module _ {K V F : Type 0} where
   names p (Read q k v) = q == p
   names p (End q) = q == p
   names p (Silent q) = q == p
-  names p (Opened e) = false
-  names p (Placed e) = false
-  names p (Moved e i) = false
-  names p (Published e) = false
+  names p _ = false
 
   -- the pair that party w read last
   abbrev pub last_read : Trace K V F → ℕ → Option (K × V)
@@ -73,7 +70,7 @@ module _ {K V F : Type 0} where
   read_before [] p w = None
   read_before (l ∷ t) p w = if begins p l then last_read t w else read_before t p w
 
-  -- the published number; first is that of the table which the world began with
+  -- the published exponent; first is that of the table which the world began with
   abbrev pub published : Option ℕ → Trace K V F → Option ℕ
   published first [] = first
   published first (Opened e ∷ t) = Some e
@@ -81,27 +78,27 @@ module _ {K V F : Type 0} where
   published first (l ∷ t) = published first t
 
   -- table e was made by a growth
-  abbrev pub placed : Trace K V F → ℕ → Bool
-  placed [] e = false
-  placed (Placed d ∷ t) e = d == e || placed t e
-  placed (l ∷ t) e = placed t e
+  abbrev pub was_placed : Trace K V F → ℕ → Bool
+  was_placed [] e = false
+  was_placed (Placed d ∷ t) e = d == e || was_placed t e
+  was_placed (l ∷ t) e = was_placed t e
 
   -- bin i of table e was moved
-  abbrev pub moved : Trace K V F → ℕ → ℕ → Bool
-  moved [] e i = false
-  moved (Moved d j ∷ t) e i = d == e && j == i || moved t e i
-  moved (l ∷ t) e i = moved t e i
+  abbrev pub was_moved_in : Trace K V F → ℕ → ℕ → Bool
+  was_moved_in [] e i = false
+  was_moved_in (Moved d j ∷ t) e i = d == e && j == i || was_moved_in t e i
+  was_moved_in (l ∷ t) e i = was_moved_in t e i
 
   module _ (cmp : K → K → Ordering) (hash : K → ℕ) where
     -- the map after this party's call decided; a party that did not begin changes nothing
-    abbrev pub decided : Option (Call K V F) → KeptReply K V → Pairs K V → Pairs K V
-    decided None r m = m
-    decided (Some c) r m = after cmp c r m
+    abbrev pub map_after_decision : Option (Call K V F) → KeptReply K V → Pairs K V → Pairs K V
+    map_after_decision None r m = m
+    map_after_decision (Some c) r m = after cmp c r m
 
     -- The map after the labels. No label but a decision and a wipe changes it.
     abbrev pub pairs : Trace K V F → Pairs K V
     pairs [] = []
-    pairs (Decide p r ∷ t) = decided (begun t p) r (pairs t)
+    pairs (Decide p r ∷ t) = map_after_decision (call_begun_by t p) r (pairs t)
     pairs (Wipe p e i ∷ t) = filter (λ x. not (in_region e i (hash x.0))) (pairs t)
     pairs (l ∷ t) = pairs t
 

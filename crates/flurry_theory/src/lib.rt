@@ -1,6 +1,6 @@
 //! Every interleaving of the steps of calls on a concurrent map, as a machine over plain data, and what holds of it.
 //!
-//! A run is a list of steps of any parties, in any order; any of them may stop for good. Each step is one line of the machine
+//! A run is a list of steps of any parties, in any order; any of them may stop for good. Each step is one transition of the machine
 //! (`specs/Machine.antt`) and adds one label to the trace. The laws of a trace (`specs/Legal.antt`) say of each label what has to hold
 //! of the labels before it, and name no table, bin or claim. [`laws`] states that each trace of the machine keeps them.
 //!
@@ -30,13 +30,13 @@ pub enum Label<K, V, F> {
     Read(usize, K, V),
     /// The reserve, clear or walk of the party ended.
     End(usize),
-    /// The first table, of this number, was made and published.
+    /// The first table, of this exponent, was made and published.
     Opened(u8),
-    /// The table of this number was made, and its growth began.
+    /// The table of this exponent was made, and its growth began.
     Placed(u8),
     /// The bin of this table and index moved to its halves.
     Moved(u8, usize),
-    /// The table of this number was published.
+    /// The table of this exponent was published.
     Published(u8),
     /// Any other step of the party.
     Silent(usize),

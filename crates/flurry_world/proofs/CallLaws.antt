@@ -4,11 +4,11 @@ use Rattle.std.specs.declared.cmp.Ordering.{Ordering}
 use Rattle.std.proofs.Common.{refl, sym, ap, subst}
 use Rattle.flurry_model.specs.declared.reply.KeptReply.{KeptReply}
 use Rattle.flurry_model.specs.declared.reply.KeptReply.TheVariants.{Value}
-use Rattle.flurry_theory.specs.Machine.{Looking, found, Opening, Adds as AddsPair}
+use Rattle.flurry_theory.specs.Machine.{Looking, mode_at_table, Opening, Adds as AddsPair}
 use Rattle.flurry_theory.specs.Map.{key_of, Allows}
 use Rattle.flurry_model.specs.declared.call.Call.{Call}
 use Rattle.flurry_model.specs.declared.call.Call.TheVariants.{Get, GetKeyValue, ContainsKey, Insert, TryInsert, Compute, Remove, RemoveEntry, RemoveSeen, Reserve, Clear, Walk}
-use Rattle.flurry_steps.specs.Party.{Task, Finds, Removes, Inserts, Adds, Computes, told}
+use Rattle.flurry_steps.specs.Party.{Task, Finds, Removes, Inserts, Adds, Computes, reply_for}
 use Rattle.flurry_world.specs.World.{task_of_call}
 
 -- it adds nothing to an empty map
@@ -21,8 +21,8 @@ AddsNothing (Computes k f) = ⊤
 
 -- and answers this there
 abbrev pub empty_reply : {K V F : Type 0} → Task K V F → KeptReply K V
-empty_reply (Finds w k) = told w None
-empty_reply (Removes w k) = told w None
+empty_reply (Finds w k) = reply_for w None
+empty_reply (Removes w k) = reply_for w None
 empty_reply (Inserts k v) = Value None
 empty_reply (Adds k v) = Value None
 empty_reply (Computes k f) = Value None
@@ -35,7 +35,7 @@ module _ {K V F : Type 0} where
       unwrap None = t
       unwrap (Some u) = u
 
-  pub found_task : (c : Call K V F) (t : Task K V F) (e : ℕ) → task_of_call c ≡ Some t → found e c ≡ Looking e
+  pub found_task : (c : Call K V F) (t : Task K V F) (e : ℕ) → task_of_call c ≡ Some t → mode_at_table e c ≡ Looking e
   found_task (Get k) t e h = refl
   found_task (GetKeyValue k) t e h = refl
   found_task (ContainsKey k) t e h = refl

@@ -8,14 +8,14 @@ use Rattle.std.specs.Map.{keys_of}
 use Rattle.std.proofs.Common.{arith, refl, sym, ◌∙◌, ap, subst, add-one}
 use Rattle.flurry_model.specs.FiniteMap.{IsFiniteMap, with_pair, without}
 use Rattle.flurry_model.specs.HashOrder.{hash_then_key}
-use Rattle.flurry_bins.specs.Region as region
+use Rattle.flurry_model.specs.HashOrder as region
 use Rattle.flurry_model.specs.declared.reply.KeptReply.{KeptReply}
 use Rattle.flurry_model.specs.declared.reply.KeptReply.TheVariants.{Value, Pair, Contains, New, Exists}
 use Rattle.flurry_model.proofs.FiniteMapLaws.{all_with_pair, all_without, length-with_pair, length-without, found_in}
 use Rattle.flurry_model.proofs.HashOrderLaws.{hash_then_key_total}
 use Rattle.flurry_slots.specs.Slot as slot
-use Rattle.flurry_slots.specs.Slot.{Held, Live, Outcome, WasAbsent, WasRemoved, WasChanged, next_number, entry_of_live, written, added, taken, asks}
-use Rattle.flurry_steps.specs.Party.{Sought, TheValue, ThePair, Presence, Task, Finds, Removes, Inserts, Adds, Computes, Says, Stage, AtDone, told, said_in, IsWriter}
+use Rattle.flurry_slots.specs.Slot.{PlainEntry, Live, ComputeOutcome, WasAbsent, WasRemoved, WasChanged, next_number, entry_of_live, after_write, after_add, after_take, asks}
+use Rattle.flurry_steps.specs.Party.{Sought, TheValue, ThePair, Presence, Task, Finds, Removes, Inserts, Adds, Computes, OutcomeReply, Stage, AtDone, reply_for, outcome_in, IsWriter}
 use Rattle.flurry_steps.specs.PartySlots as party
 use Rattle.flurry_steps.specs.PartySlots.{DecidesAt, GoesOnNew, GoesOnWritten, GoesOnAdded, stage_taken, stage_computed, stage_moved}
 use Rattle.flurry_theory.specs.Map.{same, find, key_of, Allows, CanBeRefused}
@@ -34,25 +34,25 @@ use Rattle.flurry_world.proofs.EntryLaws.{next_number-bump, length-entries_of_he
 module _ {K V F : Type 0} where
   -- the call has this reply, and has so many pairs yet to count as added and as removed
   record HasReply (c : Call K V F) (r : KeptReply K V) (s : Stage K V F) (gained lost : ℕ) : Type 0 where
-    pub said : said_in s ≡ Some (Says r)
+    pub said : outcome_in s ≡ Some (OutcomeReply r)
     pub mode : mode_of_stage s ≡ Done (Some r) gained lost
     pub claim : claim_of_stage s ≡ None
     pub follows : FollowsStage c s
 
-  has_decided : (c : Call K V F) (r : KeptReply K V) → IsSome (key_of c) → is_lookup (Some c) ≡ false → HasDecided c (Says r)
+  has_decided : (c : Call K V F) (r : KeptReply K V) → IsSome (key_of c) → is_lookup (Some c) ≡ false → HasDecided c (OutcomeReply r)
   has_decided c r one writes = record { one_key = one; writes = writes; reply = refl }
 
   -- it is done
-  reply_done : (c : Call K V F) (r : KeptReply K V) → IsSome (key_of c) → HasReply c r (AtDone (Says r)) 0 0
+  reply_done : (c : Call K V F) (r : KeptReply K V) → IsSome (key_of c) → HasReply c r (AtDone (OutcomeReply r)) 0 0
   reply_done c r one = record { said = refl; mode = refl; claim = refl; follows = one }
 
   -- it took an entry out, or found none
-  reply_taken : (c : Call K V F) (w : Sought) (x : Option (Held K V)) → IsSome (key_of c) → is_lookup (Some c) ≡ false → HasReply c (told w x) (stage_taken w x) 0 (cond (is_some x) 1 0)
-  reply_taken c w None one writes = reply_done c (told w None) one
-  reply_taken c w (Some x) one writes = record { said = refl; mode = refl; claim = refl; follows = has_decided c (told w (Some x)) one writes }
+  reply_taken : (c : Call K V F) (w : Sought) (x : Option (PlainEntry K V)) → IsSome (key_of c) → is_lookup (Some c) ≡ false → HasReply c (reply_for w x) (stage_taken w x) 0 (cond (is_some x) 1 0)
+  reply_taken c w None one writes = reply_done c (reply_for w None) one
+  reply_taken c w (Some x) one writes = record { said = refl; mode = refl; claim = refl; follows = has_decided c (reply_for w (Some x)) one writes }
 
   -- it put a new key
-  reply_new : (c : Call K V F) (r : KeptReply K V) (e : ℕ) (asked : Bool) (s : Stage K V F) → IsSome (key_of c) → is_lookup (Some c) ≡ false → GoesOnNew e (Says r) asked s → HasReply c r s 1 0
+  reply_new : (c : Call K V F) (r : KeptReply K V) (e : ℕ) (asked : Bool) (s : Stage K V F) → IsSome (key_of c) → is_lookup (Some c) ≡ false → GoesOnNew e (OutcomeReply r) asked s → HasReply c r s 1 0
   reply_new c r e true s one writes g = rw (g.2) (record { said = refl; mode = refl; claim = refl; follows = has_decided c r one writes })
   reply_new c r e false s one writes g = rw g (record { said = refl; mode = refl; claim = refl; follows = has_decided c r one writes })
 
@@ -60,7 +60,7 @@ module _ {K V F : Type 0} where
 -- say, the machine's call does the same at the bin's entries, and s is to count what became more or less.
 pub record Decision {K V F : Type 0} (cmp : K → K → Ordering) (hash : K → ℕ) (gives : F → K → V → Option V → Type 0) (c : Call K V F) (b : Live K V) (s : Stage K V F) (d : Live K V) (e i : ℕ) : Type 0 where
   pub reply : KeptReply K V
-  pub said : said_in s ≡ Some (Says reply)
+  pub said : outcome_in s ≡ Some (OutcomeReply reply)
   pub did : BinDid cmp hash gives c reply (entries_of_held b.held) b.writes (entries_of_held d.held) d.writes
   pub in_region : InRegion hash e i (entries_of_held d.held)
   pub hashed : Hashed hash d.held
@@ -71,11 +71,11 @@ pub record Decision {K V F : Type 0} (cmp : K → K → Ordering) (hash : K → 
 -- ---- what a bin has at a key
 
 module _ {K V : Type 0} where
-  value_found : (o : Option (Held K V)) → option_map (λ (x : Held K V). x.1.0) o ≡ option_map (λ (x : K × V). x.1) (option_map (λ (x : Held K V). (x.0.1, x.1.0)) o)
+  value_found : (o : Option (PlainEntry K V)) → option_map (λ (x : PlainEntry K V). x.1.0) o ≡ option_map (λ (x : K × V). x.1) (option_map (λ (x : PlainEntry K V). (x.0.1, x.1.0)) o)
   value_found None = refl
   value_found (Some x) = refl
 
-  presence_found : (o : Option (Held K V)) → is_some o ≡ is_some {T = K × V} (option_map (λ (x : Held K V). (x.0.1, x.1.0)) o)
+  presence_found : (o : Option (PlainEntry K V)) → is_some o ≡ is_some {T = K × V} (option_map (λ (x : PlainEntry K V). (x.0.1, x.1.0)) o)
   presence_found None = refl
   presence_found (Some x) = refl
 
@@ -109,30 +109,30 @@ module _ {K V F : Type 0} (cmp : K → K → Ordering) (total : IsTotalOrder cmp
 
     -- ---- an entry is taken out, if it is there
 
-    lost_by : (k : K) → length (entries_of_held b.held) - length (entries_of_held (taken cmp b (hash k) k).held) ≡ cond (is_some (entry_of_live cmp b (hash k) k)) 1 0
-    lost_by k = rw (length-entries_of_held b.held, length-entries_of_held (taken cmp b (hash k) k).held) (by_found (entry_of_live cmp b (hash k) k) refl (length-without (hash_then_key_total total) b.held (hash k, k)))
+    lost_by : (k : K) → length (entries_of_held b.held) - length (entries_of_held (after_take cmp b (hash k) k).held) ≡ cond (is_some (entry_of_live cmp b (hash k) k)) 1 0
+    lost_by k = rw (length-entries_of_held b.held, length-entries_of_held (after_take cmp b (hash k) k).held) (by_found (entry_of_live cmp b (hash k) k) refl (length-without (hash_then_key_total total) b.held (hash k, k)))
       where
-        by_found : (o : Option (Held K V)) → entry_of_live cmp b (hash k) k ≡ o → length (without (hash_then_key cmp) b.held (hash k, k)) ≡ cond (is_some (entry_of_live cmp b (hash k) k)) (length b.held - 1) (length b.held)
+        by_found : (o : Option (PlainEntry K V)) → entry_of_live cmp b (hash k) k ≡ o → length (without (hash_then_key cmp) b.held (hash k, k)) ≡ cond (is_some (entry_of_live cmp b (hash k) k)) (length b.held - 1) (length b.held)
             → length b.held - length (without (hash_then_key cmp) b.held (hash k, k)) ≡ cond (is_some (entry_of_live cmp b (hash k) k)) 1 0
         by_found None p n = let m = rw p at n in rw p (omega arith)
         by_found (Some x) p n = let m = rw p at n in let some = found_in (hash_then_key_total total) b.held (hash k, k) x p in rw p (omega arith)
 
-    none_gained : (k : K) → length (entries_of_held (taken cmp b (hash k) k).held) - length (entries_of_held b.held) ≡ 0
-    none_gained k = rw (length-entries_of_held b.held, length-entries_of_held (taken cmp b (hash k) k).held) (by_found (is_some (entry_of_live cmp b (hash k) k)) (length-without (hash_then_key_total total) b.held (hash k, k)))
+    none_gained : (k : K) → length (entries_of_held (after_take cmp b (hash k) k).held) - length (entries_of_held b.held) ≡ 0
+    none_gained k = rw (length-entries_of_held b.held, length-entries_of_held (after_take cmp b (hash k) k).held) (by_found (is_some (entry_of_live cmp b (hash k) k)) (length-without (hash_then_key_total total) b.held (hash k, k)))
       where
         by_found : (t : Bool) → length (without (hash_then_key cmp) b.held (hash k, k)) ≡ cond t (length b.held - 1) (length b.held) → length (without (hash_then_key cmp) b.held (hash k, k)) - length b.held ≡ 0
         by_found true n = omega arith
         by_found false n = omega arith
 
     decision_taken : (c : Call K V F) (r : KeptReply K V) (s : Stage K V F) (k : K) → HasReply c r s 0 (cond (is_some (entry_of_live cmp b (hash k) k)) 1 0) → IsSome (task_of_call c) → Allows cmp gives c (pairs_of (entries_of_held b.held)) r
-        → bin_after cmp hash c r (entries_of_held b.held) b.writes ≡ (leave_out cmp hash k (entries_of_held b.held), b.writes) → Decision cmp hash gives c b s (taken cmp b (hash k) k) e i
+        → bin_after cmp hash c r (entries_of_held b.held) b.writes ≡ (leave_out cmp hash k (entries_of_held b.held), b.writes) → Decision cmp hash gives c b s (after_take cmp b (hash k) k) e i
     decision_taken c r s k stands task allowed after =
-        let hashed : Hashed hash (taken cmp b (hash k) k).held = Hashed-without cmp total hash lawful b.held k hd in
+        let hashed : Hashed hash (after_take cmp b (hash k) k).held = Hashed-without cmp total hash lawful b.held k hd in
         record {
           reply = r;
           said = stands.said;
-          did = did_at c r (taken cmp b (hash k) k) task allowed (after ∙ ap (λ (es : List (Entry K V)). (es, b.writes)) (sym (leave_out-entries cmp total hash lawful b.held k up hd)));
-          in_region = InRegion-entries hash e i (taken cmp b (hash k) k).held hashed (all_without (hash_then_key_total total) (λ (q : ℕ × K). region.InRegion e i q.0) b.held (hash k, k) lies);
+          did = did_at c r (after_take cmp b (hash k) k) task allowed (after ∙ ap (λ (es : List (Entry K V)). (es, b.writes)) (sym (leave_out-entries cmp total hash lawful b.held k up hd)));
+          in_region = InRegion-entries hash e i (after_take cmp b (hash k) k).held hashed (all_without (hash_then_key_total total) (λ (q : ℕ × K). region.InRegion e i q.0) b.held (hash k, k) lies);
           hashed = hashed;
           mode = rw (none_gained k, lost_by k) (stands.mode);
           claim = stands.claim;
@@ -144,16 +144,16 @@ module _ {K V F : Type 0} (cmp : K → K → Ordering) (total : IsTotalOrder cmp
     lengths_written : (k : K) (u : V × ℕ) → length (with_pair (hash_then_key cmp) b.held (hash k, k) u) ≡ cond (is_some (entry_of_live cmp b (hash k) k)) (length b.held) (length b.held + 1)
     lengths_written k u = length-with_pair (hash_then_key_total total) b.held (hash k, k) u up
 
-    gained_by : (bins : ℕ) (k : K) (v : V) → length (entries_of_held (written cmp bins b (hash k) k v).held) - length (entries_of_held b.held) ≡ cond (is_some (entry_of_live cmp b (hash k) k)) 0 1
-    gained_by bins k v = rw (length-entries_of_held b.held, length-entries_of_held (written cmp bins b (hash k) k v).held) (by_found (is_some (entry_of_live cmp b (hash k) k)) (lengths_written k (v, next_number b.writes)))
+    gained_by : (bins : ℕ) (k : K) (v : V) → length (entries_of_held (after_write cmp bins b (hash k) k v).held) - length (entries_of_held b.held) ≡ cond (is_some (entry_of_live cmp b (hash k) k)) 0 1
+    gained_by bins k v = rw (length-entries_of_held b.held, length-entries_of_held (after_write cmp bins b (hash k) k v).held) (by_found (is_some (entry_of_live cmp b (hash k) k)) (lengths_written k (v, next_number b.writes)))
       where
         by_found : (t : Bool) → length (with_pair (hash_then_key cmp) b.held (hash k, k) (v, next_number b.writes)) ≡ cond t (length b.held) (length b.held + 1)
             → length (with_pair (hash_then_key cmp) b.held (hash k, k) (v, next_number b.writes)) - length b.held ≡ cond t 0 1
         by_found true n = omega arith
         by_found false n = omega arith
 
-    none_lost : (bins : ℕ) (k : K) (v : V) → length (entries_of_held b.held) - length (entries_of_held (written cmp bins b (hash k) k v).held) ≡ 0
-    none_lost bins k v = rw (length-entries_of_held b.held, length-entries_of_held (written cmp bins b (hash k) k v).held) (by_found (is_some (entry_of_live cmp b (hash k) k)) (lengths_written k (v, next_number b.writes)))
+    none_lost : (bins : ℕ) (k : K) (v : V) → length (entries_of_held b.held) - length (entries_of_held (after_write cmp bins b (hash k) k v).held) ≡ 0
+    none_lost bins k v = rw (length-entries_of_held b.held, length-entries_of_held (after_write cmp bins b (hash k) k v).held) (by_found (is_some (entry_of_live cmp b (hash k) k)) (lengths_written k (v, next_number b.writes)))
       where
         by_found : (t : Bool) → length (with_pair (hash_then_key cmp) b.held (hash k, k) (v, next_number b.writes)) ≡ cond t (length b.held) (length b.held + 1)
             → length b.held - length (with_pair (hash_then_key cmp) b.held (hash k, k) (v, next_number b.writes)) ≡ 0
@@ -163,14 +163,14 @@ module _ {K V F : Type 0} (cmp : K → K → Ordering) (total : IsTotalOrder cmp
     decision_written : (c : Call K V F) (r : KeptReply K V) (s : Stage K V F) (bins : ℕ) (k : K) (v : V) → HasReply c r s (cond (is_some (entry_of_live cmp b (hash k) k)) 0 1) 0 → IsSome (task_of_call c)
         → Allows cmp gives c (pairs_of (entries_of_held b.held)) r → region.InRegion e i (hash k)
         → bin_after cmp hash c r (entries_of_held b.held) b.writes ≡ (entries_of_held (with_pair (hash_then_key cmp) b.held (hash k, k) (v, bump b.writes)), bump b.writes)
-        → Decision cmp hash gives c b s (written cmp bins b (hash k) k v) e i
+        → Decision cmp hash gives c b s (after_write cmp bins b (hash k) k v) e i
     decision_written c r s bins k v stands task allowed here after =
-        let hashed : Hashed hash (written cmp bins b (hash k) k v).held = Hashed-with_pair cmp total hash lawful b.held k v (next_number b.writes) hd in
+        let hashed : Hashed hash (after_write cmp bins b (hash k) k v).held = Hashed-with_pair cmp total hash lawful b.held k v (next_number b.writes) hd in
         record {
           reply = r;
           said = stands.said;
-          did = did_at c r (written cmp bins b (hash k) k v) task allowed (after ∙ ap (λ (n : ℕ). (entries_of_held (with_pair (hash_then_key cmp) b.held (hash k, k) (v, n)), n)) (sym (next_number-bump b.writes room)));
-          in_region = InRegion-entries hash e i (written cmp bins b (hash k) k v).held hashed (all_with_pair (hash_then_key_total total) (λ (q : ℕ × K). region.InRegion e i q.0) b.held (hash k, k) (v, next_number b.writes) here lies);
+          did = did_at c r (after_write cmp bins b (hash k) k v) task allowed (after ∙ ap (λ (n : ℕ). (entries_of_held (with_pair (hash_then_key cmp) b.held (hash k, k) (v, n)), n)) (sym (next_number-bump b.writes room)));
+          in_region = InRegion-entries hash e i (after_write cmp bins b (hash k) k v).held hashed (all_with_pair (hash_then_key_total total) (λ (q : ℕ × K). region.InRegion e i q.0) b.held (hash k, k) (v, next_number b.writes) here lies);
           hashed = hashed;
           mode = rw (gained_by bins k v, none_lost bins k v) (stands.mode);
           claim = stands.claim;
@@ -180,22 +180,22 @@ module _ {K V F : Type 0} (cmp : K → K → Ordering) (total : IsTotalOrder cmp
     -- ---- each call
 
     -- the machine finds what the bin has
-    found_at : (k : K) (o : Option (Held K V)) → entry_of_live cmp b (hash k) k ≡ o → find cmp (pairs_of (entries_of_held b.held)) k ≡ option_map (λ (x : Held K V). (x.0.1, x.1.0)) o
-    found_at k o q = find-entries cmp total hash lawful b.held k hd ∙ ap (option_map (λ (x : Held K V). (x.0.1, x.1.0))) q
+    found_at : (k : K) (o : Option (PlainEntry K V)) → entry_of_live cmp b (hash k) k ≡ o → find cmp (pairs_of (entries_of_held b.held)) k ≡ option_map (λ (x : PlainEntry K V). (x.0.1, x.1.0)) o
+    found_at k o q = find-entries cmp total hash lawful b.held k hd ∙ ap (option_map (λ (x : PlainEntry K V). (x.0.1, x.1.0))) q
 
-    value_allowed : (k : K) → option_map (λ (x : Held K V). x.1.0) (entry_of_live cmp b (hash k) k) ≡ option_map (λ (x : K × V). x.1) (find cmp (pairs_of (entries_of_held b.held)) k)
+    value_allowed : (k : K) → option_map (λ (x : PlainEntry K V). x.1.0) (entry_of_live cmp b (hash k) k) ≡ option_map (λ (x : K × V). x.1) (find cmp (pairs_of (entries_of_held b.held)) k)
     value_allowed k = value_found (entry_of_live cmp b (hash k) k) ∙ ap (option_map (λ (x : K × V). x.1)) (sym (find-entries cmp total hash lawful b.held k hd))
 
     finds_value : (k : K) (s : Stage K V F) (d : Live K V) → DecidesAt cmp gives (hash k) (Finds TheValue k) e b s d → Decision cmp hash gives (Get k) b s d e i
-    finds_value k s d p = rw (p.0, p.1) (decision_kept (Get k) _ _ (reply_done (Get k) (told TheValue (entry_of_live cmp b (hash k) k)) refl) refl (ap Value (value_allowed k)) refl)
+    finds_value k s d p = rw (p.0, p.1) (decision_kept (Get k) _ _ (reply_done (Get k) (reply_for TheValue (entry_of_live cmp b (hash k) k)) refl) refl (ap Value (value_allowed k)) refl)
 
     finds_pair : (k : K) (s : Stage K V F) (d : Live K V) → DecidesAt cmp gives (hash k) (Finds ThePair k) e b s d → Decision cmp hash gives (GetKeyValue k) b s d e i
-    finds_pair k s d p = rw (p.0, p.1) (decision_kept (GetKeyValue k) _ _ (reply_done (GetKeyValue k) (told ThePair (entry_of_live cmp b (hash k) k)) refl) refl (ap Pair (sym (find-entries cmp total hash lawful b.held k hd))) refl)
+    finds_pair k s d p = rw (p.0, p.1) (decision_kept (GetKeyValue k) _ _ (reply_done (GetKeyValue k) (reply_for ThePair (entry_of_live cmp b (hash k) k)) refl) refl (ap Pair (sym (find-entries cmp total hash lawful b.held k hd))) refl)
 
     finds_presence : (k : K) (s : Stage K V F) (d : Live K V) → DecidesAt cmp gives (hash k) (Finds Presence k) e b s d → Decision cmp hash gives (ContainsKey k) b s d e i
     finds_presence k s d p =
         rw (p.0, p.1)
-        (decision_kept (ContainsKey k) _ _ (reply_done (ContainsKey k) (told Presence (entry_of_live cmp b (hash k) k)) refl) refl
+        (decision_kept (ContainsKey k) _ _ (reply_done (ContainsKey k) (reply_for Presence (entry_of_live cmp b (hash k) k)) refl) refl
         (ap Contains (presence_found (entry_of_live cmp b (hash k) k) ∙ ap is_some (sym (find-entries cmp total hash lawful b.held k hd)))) refl)
 
     removes_value : (k : K) (s : Stage K V F) (d : Live K V) → DecidesAt cmp gives (hash k) (Removes TheValue k) e b s d → Decision cmp hash gives (Remove k) b s d e i
@@ -210,16 +210,16 @@ module _ {K V F : Type 0} (cmp : K → K → Ordering) (total : IsTotalOrder cmp
         (decision_written (Insert k v) _ s (2 ^ e) k v (by_found (entry_of_live cmp b (hash k) k) (asks cmp (2 ^ e) b (hash k) k) (p.0)) refl (ap Value (value_allowed k)) here
         (ap (λ (es : List (Entry K V)). (es, bump b.writes)) (sym (write-entries cmp total hash lawful b.held k v (bump b.writes) up hd))))
       where
-        by_found : (o : Option (Held K V)) (asked : Bool) → GoesOnWritten e (option_map (λ (x : Held K V). x.1.0) o, asked) s → HasReply (Insert k v) (Value (option_map (λ (x : Held K V). x.1.0) o)) s (cond (is_some o) 0 1) 0
+        by_found : (o : Option (PlainEntry K V)) (asked : Bool) → GoesOnWritten e (option_map (λ (x : PlainEntry K V). x.1.0) o, asked) s → HasReply (Insert k v) (Value (option_map (λ (x : PlainEntry K V). x.1.0) o)) s (cond (is_some o) 0 1) 0
         by_found None asked g = reply_new (Insert k v) (Value None) e asked s refl refl g
         by_found (Some x) asked g = rw g (reply_done (Insert k v) (Value (Some x.1.0)) refl)
 
     adds : (k : K) (v : V) (s : Stage K V F) (d : Live K V) → region.InRegion e i (hash k) → DecidesAt cmp gives (hash k) (Adds k v) e b s d → Decision cmp hash gives (TryInsert k v) b s d e i
     adds k v s d here p = rw (p.1) (by_found (entry_of_live cmp b (hash k) k) refl (asks cmp (2 ^ e) b (hash k) k) (p.0))
       where
-        by_found : (o : Option (Held K V)) → entry_of_live cmp b (hash k) k ≡ o → (asked : Bool)
-            → GoesOnAdded e (option_map_or (λ current. Err (current, v)) (option_map (λ (x : Held K V). x.1.0) o) (Ok (v, asked))) s
-            → Decision cmp hash gives (TryInsert k v) b s (cond (is_none o) (written cmp (2 ^ e) b (hash k) k v) b) e i
+        by_found : (o : Option (PlainEntry K V)) → entry_of_live cmp b (hash k) k ≡ o → (asked : Bool)
+            → GoesOnAdded e (option_map_or (λ current. Err (current, v)) (option_map (λ (x : PlainEntry K V). x.1.0) o) (Ok (v, asked))) s
+            → Decision cmp hash gives (TryInsert k v) b s (cond (is_none o) (after_write cmp (2 ^ e) b (hash k) k v) b) e i
         by_found None q asked g =
             decision_written (TryInsert k v) (New v) s (2 ^ e) k v (rw q (reply_new (TryInsert k v) (New v) e asked s refl refl g)) refl (rw (found_at k None q) refl) here
             (ap (λ (es : List (Entry K V)). (es, bump b.writes)) (sym (place-entries cmp total hash lawful b.held k v (bump b.writes) hd q)))
@@ -228,7 +228,7 @@ module _ {K V F : Type 0} (cmp : K → K → Ordering) (total : IsTotalOrder cmp
     computes : (k : K) (f : F) (s : Stage K V F) (d : Live K V) → region.InRegion e i (hash k) → DecidesAt cmp gives (hash k) (Computes k f) e b s d → Decision cmp hash gives (Compute k f) b s d e i
     computes k f s d here p = by_outcome (p.0) (p.1) (p.2)
       where
-        by_outcome : (o : Outcome V) → slot.Computes cmp (gives f) (2 ^ e) b (hash k) k o d → s ≡ stage_computed o → Decision cmp hash gives (Compute k f) b s d e i
+        by_outcome : (o : ComputeOutcome V) → slot.Computes cmp (gives f) (2 ^ e) b (hash k) k o d → s ≡ stage_computed o → Decision cmp hash gives (Compute k f) b s d e i
         by_outcome WasAbsent q g =
             rw (q.1, g)
             (decision_kept (Compute k f) (Value None) _ (reply_done (Compute k f) (Value None) refl) refl (rw (found_at k None (q.0)) refl)
@@ -265,7 +265,7 @@ module _ {K V F : Type 0} (cmp : K → K → Ordering) (total : IsTotalOrder cmp
 
     compute_refused : (k : K) (f : F) → slot.ComputesInVain cmp (gives f) b (hash k) k → CanBeRefused cmp gives (Compute k f) (pairs_of (entries_of_held b.held))
     compute_refused k f p =
-        let found : find cmp (pairs_of (entries_of_held b.held)) k ≡ Some (p.0.0.1, p.0.1.0) = find-entries cmp total hash lawful b.held k hd ∙ ap (option_map (λ (x : Held K V). (x.0.1, x.1.0))) (p.2) in
+        let found : find cmp (pairs_of (entries_of_held b.held)) k ≡ Some (p.0.0.1, p.0.1.0) = find-entries cmp total hash lawful b.held k hd ∙ ap (option_map (λ (x : PlainEntry K V). (x.0.1, x.1.0))) (p.2) in
         rw found (p.1, p.3)
 
     -- the machine's call can be refused there too

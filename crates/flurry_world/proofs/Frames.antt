@@ -6,71 +6,72 @@ use Rattle.std.proofs.Common.{arith, refl, sym, ◌∙◌, ap, subst}
 use Rattle.std.proofs.lemmas.Int.{ints}
 use Rattle.std.specs.Cmp.{IsTotalOrder}
 use Rattle.flurry_slots.specs.Slot.{Live, IsLive}
-use Rattle.flurry_steps.specs.Control.{Board, IsControl, Grows}
-use Rattle.flurry_steps.specs.Party.{Course}
+use Rattle.flurry_steps.specs.Control.{ControlState, IsControl, Grows}
+use Rattle.flurry_steps.specs.Party.{PartyState}
 use Rattle.flurry_theory.specs.Map.{same}
-use Rattle.flurry_theory.specs.Machine.{Line, Can}
+use Rattle.flurry_theory.specs.Machine.{Transition, Can}
 use Rattle.flurry_theory.specs.Invariant.{Inv, home_after}
 use Rattle.flurry_theory.specs.declared.Label.{Label}
 use Rattle.flurry_theory.proofs.Step.{inv_step}
 use Rattle.flurry_world.specs.Entries.{Hashed}
 use Rattle.flurry_world.specs.Tables.{Tables, AreTables, slots_of, content_at}
-use Rattle.flurry_world.specs.World.{Caller, Shown, state_of, FollowsStage, Follows, IsWorld, DoesLine}
+use Rattle.flurry_world.specs.World.{PartyRecord, WorldState, state_of, FollowsStage, Follows, IsWorld, DoesTransition}
 use Rattle.flurry_world.specs.Steps.{with_step}
 use Rattle.flurry_world.proofs.StateLaws.{IsLine, does_line, get_set, same_some}
 use Rattle.std.proofs.lemmas.Option.{slice_get_within}
+use Rattle.flurry_model.specs.declared.sizes.TheConstants.{MOST_LABELS}
 
 -- a count within so many labels is not cut off
-pub in_range : (z : ℤ) (n : ℕ) → n ≤ 2 ^ 62 → z ≤ℤ pos (suc n) → neg_ℤ (pos (suc n)) ≤ℤ z → saturate_signed w64 z ≡ z
+pub in_range : (z : ℤ) (n : ℕ) → n ≤ MOST_LABELS → z ≤ℤ pos (suc n) → neg_ℤ (pos (suc n)) ≤ℤ z → saturate_signed w64 z ≡ z
 in_range (pos m) n l u d = ap pos (omega (arith, ints, u, l))
 in_range (negsuc m) n l u d = ap negsuc (omega (arith, ints, d, l))
 
 module _ {K V : Type 0} (hash : K → ℕ) where
   -- what a board and tables keep, beside the machine's invariant
-  pub record Frame (b : Board) (t : Tables K V) : Type 0 where
+  pub record Frame (b : ControlState) (t : Tables K V) : Type 0 where
     pub hashed : (e i : ℕ) (l : Live K V) → content_at t e i ≡ IsLive l → Hashed hash l.held
-    pub board : IsControl b
+    pub control_state : IsControl b
     pub tables : AreTables t
     pub unmade : b.published ≡ None → (e : ℕ) → slots_of t e ≡ []
     pub next : (e u r : ℕ) → b.published ≡ Some e → b.growth ≡ Grows u r → (slots_of t (suc e) ≡ [] → ⊥)
 
 module _ {K V F S : Type 0} (cmp : K → K → Ordering) (hash : K → ℕ) (gives : F → K → V → Option V → Type 0) where
-  pub same_frame : (w : Shown K V F S) → IsWorld cmp hash gives w → Frame hash w.board w.tables
-  same_frame w k = record { hashed = k.hashed; board = k.board; tables = k.tables; unmade = k.unmade; next = k.next }
+  pub same_frame : (w : WorldState K V F S) → IsWorld cmp hash gives w → Frame hash w.control_state w.tables
+  same_frame w k = record { hashed = k.hashed; control_state = k.control_state; tables = k.tables; unmade = k.unmade; next = k.next }
 
-  -- a line of the machine that is a step of party p, which was x, and leaves the board b, the tables t and its call at c
-  pub record IsStep (w : Shown K V F S) (p : ℕ) (x : Caller K V F) (b : Board) (t : Tables K V) (c : Course K V F) (lab : Label K V F) : Type 0 where
-    pub line : Line K V F
+  -- a transition of the machine that is a step of party p, which was x, and leaves the control b, the tables t and its call at c
+  pub record IsStep (w : WorldState K V F S) (p : ℕ) (x : PartyRecord K V F) (b : ControlState) (t : Tables K V) (c : PartyState K V F) (lab : Label K V F) : Type 0 where
+    pub line : Transition K V F
     pub can : Can cmp hash gives (state_of w) p line
     pub is : IsLine cmp hash gives w p b t c lab line
     pub follows : FollowsStage x.call c.stage
     pub frame : Frame hash b t
 
   -- such a step, in which the hash of the party stays
-  pub record StepOf (w : Shown K V F S) (p : ℕ) (x : Caller K V F) (b : Board) (t : Tables K V) (c : Course K V F) (lab : Label K V F) : Type 0 where
-    pub hash_stays : c.hash ≡ x.course.hash
+  pub record StepOf (w : WorldState K V F S) (p : ℕ) (x : PartyRecord K V F) (b : ControlState) (t : Tables K V) (c : PartyState K V F) (lab : Label K V F) : Type 0 where
+    pub hash_stays : c.hash ≡ x.party_state.hash
     pub step : IsStep w p x b t c lab
 
-  -- is a line of the machine
-  pub does_one : (w : Shown K V F S) (p : ℕ) (x : Caller K V F) (b : Board) (t : Tables K V) (c : Course K V F) (lab : Label K V F) → slice_get w.callers p ≡ Some x → StepOf w p x b t c lab → DoesLine cmp hash gives w p (with_step w p x b t c lab)
+  -- is a transition of the machine
+  pub does_one : (w : WorldState K V F S) (p : ℕ) (x : PartyRecord K V F) (b : ControlState) (t : Tables K V) (c : PartyState K V F) (lab : Label K V F) → slice_get w.party_records p ≡ Some x → StepOf w p x b t c lab → DoesTransition cmp hash gives w p (with_step w p x b t c lab)
   does_one w p x b t c lab at s = (s.step.line, s.step.can, does_line cmp hash gives w p x b t c lab s.step.line at s.step.is)
 
   -- a world that such a step leaves
-  pub kept : (total : IsTotalOrder cmp) (lawful : (j k : K) → same cmp j k ≡ true → hash j ≡ hash k) (w : Shown K V F S) (p : ℕ) (x : Caller K V F) (b : Board) (t : Tables K V) (c : Course K V F) (lab : Label K V F)
-      → IsWorld cmp hash gives w → slice_get w.callers p ≡ Some x → c.hash ≡ x.course.hash → IsStep w p x b t c lab → IsWorld cmp hash gives (with_step w p x b t c lab)
+  pub kept : (total : IsTotalOrder cmp) (lawful : (j k : K) → same cmp j k ≡ true → hash j ≡ hash k) (w : WorldState K V F S) (p : ℕ) (x : PartyRecord K V F) (b : ControlState) (t : Tables K V) (c : PartyState K V F) (lab : Label K V F)
+      → IsWorld cmp hash gives w → slice_get w.party_records p ≡ Some x → c.hash ≡ x.party_state.hash → IsStep w p x b t c lab → IsWorld cmp hash gives (with_step w p x b t c lab)
   kept total lawful w p x b t c lab k at hashed s = record {
     state = (home_after k.state.0 s.line, subst (λ z. Inv cmp hash gives w.first (home_after k.state.0 s.line) z) (sym (does_line cmp hash gives w p x b t c lab s.line at s.is)) (inv_step cmp total hash lawful gives w.first k.state.0 (state_of w) p s.line s.can k.state.1));
-    callers = λ q y h. caller q y (p == q) refl (sym (get_set w.callers p q stepped (slice_get_within w.callers p x at)) ∙ h);
+    party_records = λ q y h. caller q y (p == q) refl (sym (get_set w.party_records p q stepped (slice_get_within w.party_records p x at)) ∙ h);
     hashed = s.frame.hashed;
-    board = s.frame.board;
+    control_state = s.frame.control_state;
     tables = s.frame.tables;
     unmade = s.frame.unmade;
     next = s.frame.next;
   }
     where
-      stepped : Caller K V F
-      stepped = record { call = x.call; course = c; steps = suc x.steps }
+      stepped : PartyRecord K V F
+      stepped = record { call = x.call; party_state = c; steps = suc x.steps }
 
-      caller : (q : ℕ) (y : Caller K V F) (e : Bool) → (p == q) ≡ e → cond e (Some stepped) (slice_get w.callers q) ≡ Some y → Follows hash y
-      caller q y true e h = subst (Follows hash) (same_some h) (record { own_hash = λ j g. hashed ∙ (k.callers p x at).own_hash j g; stage = s.follows })
-      caller q y false e h = k.callers q y h
+      caller : (q : ℕ) (y : PartyRecord K V F) (e : Bool) → (p == q) ≡ e → cond e (Some stepped) (slice_get w.party_records q) ≡ Some y → Follows hash y
+      caller q y true e h = subst (Follows hash) (same_some h) (record { own_hash = λ j g. hashed ∙ (k.party_records p x at).own_hash j g; stage = s.follows })
+      caller q y false e h = k.party_records q y h

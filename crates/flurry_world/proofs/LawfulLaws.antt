@@ -4,14 +4,14 @@ use Rattle.std.specs.declared.cmp.Ordering.{Ordering}
 use Rattle.std.specs.Cmp.{IsTotalOrder}
 use Rattle.std.proofs.Common.{refl, sym, ◌∙◌, ap, subst, inl, inr}
 use Rattle.flurry_model.specs.declared.reply.KeptReply.{KeptReply}
-use Rattle.flurry_steps.specs.Party.{Says, SaysEnded, SaysRefused, ForInsert, ForReserve, Stage, AtLocate, AtBin, AtClaim, AtMove, AtUncount, AtCount, AtRecount, AtBegin, AtGrow, AtReserve, AtDone, AtTaken}
+use Rattle.flurry_steps.specs.Party.{OutcomeReply, OutcomeEnded, OutcomeRefused, ForInsert, ForReserve, Stage, AtLocate, AtBin, AtClaim, AtMove, AtUncount, AtCount, AtRecount, AtBegin, AtGrow, AtReserve, AtDone, AtTaken}
 use Rattle.flurry_theory.specs.Map.{same, key_of}
 use Rattle.flurry_theory.specs.Machine.{Mode, Locating, Looking, Done, Finished}
-use Rattle.flurry_theory.specs.Trace.{is_lookup, decision, replied, closed}
+use Rattle.flurry_theory.specs.Trace.{is_lookup, decision, has_replied, has_closed}
 use Rattle.flurry_theory.specs.Invariant.{PartyOk, one_key}
 use Rattle.flurry_model.specs.declared.call.Call.{Call}
 use Rattle.flurry_model.specs.declared.call.Call.TheVariants as call
-use Rattle.flurry_world.specs.World.{Caller, Shown, state_of, steps_in, FollowsStage, IsWorld}
+use Rattle.flurry_world.specs.World.{PartyRecord, WorldState, state_of, steps_in, FollowsStage, IsWorld}
 use Rattle.flurry_world.specs.Lawful.{IsLawful}
 use Rattle.flurry_world.proofs.Cases.{calls, in_mode}
 use Rattle.flurry_world.proofs.ClaimCases.{helper_writes}
@@ -34,8 +34,8 @@ lookup_has_key call.Walk h = cc
 not_both : {b : Bool} → b ≡ true → b ≡ false → ⊥
 not_both h g = let no : true ≡ false = sym h ∙ g in cc
 
-module _ {K V F S : Type 0} (cmp : K → K → Ordering) (total : IsTotalOrder cmp) (hash : K → ℕ) (lawful : (j k : K) → same cmp j k ≡ true → hash j ≡ hash k) (gives : F → K → V → Option V → Type 0) (w : Shown K V F S) (k : IsWorld cmp hash gives w) where
-  module _ (p : ℕ) (x : Caller K V F) (at : slice_get w.callers p ≡ Some x) (lookup : is_lookup (Some x.call) ≡ true) (r : KeptReply K V) (decided : decision (reverse w.trace) p ≡ Some r) (open_yet : replied (reverse w.trace) p ≡ false) where
+module _ {K V F S : Type 0} (cmp : K → K → Ordering) (total : IsTotalOrder cmp) (hash : K → ℕ) (lawful : (j k : K) → same cmp j k ≡ true → hash j ≡ hash k) (gives : F → K → V → Option V → Type 0) (w : WorldState K V F S) (k : IsWorld cmp hash gives w) where
+  module _ (p : ℕ) (x : PartyRecord K V F) (at : slice_get w.party_records p ≡ Some x) (lookup : is_lookup (Some x.call) ≡ true) (r : KeptReply K V) (decided : decision (reverse w.trace) p ≡ Some r) (open_yet : has_replied (reverse w.trace) p ≡ false) where
     ok : PartyOk (state_of w) p
     ok = k.state.1.parties p
 
@@ -44,18 +44,18 @@ module _ {K V F S : Type 0} (cmp : K → K → Ordering) (total : IsTotalOrder c
     other_mode m e no_reply going = let none : decision (reverse w.trace) p ≡ None = ok.undecided (λ q a b h. no_reply q a b (sym e ∙ h)) (λ h. going (sym e ∙ h)) in cc
 
     over : (state_of w).mode p ≡ Finished → ⊥
-    over e = by_end (ok.finished e (ap is_some (calls cmp total hash lawful gives w k p x at x.course)))
+    over e = by_end (ok.finished e (ap is_some (calls cmp total hash lawful gives w k p x at x.party_state)))
       where
-        by_end : (replied (reverse w.trace) p ≡ true) ⊎ (closed (reverse w.trace) p ≡ true) → ⊥
+        by_end : (has_replied (reverse w.trace) p ≡ true) ⊎ (has_closed (reverse w.trace) p ≡ true) → ⊥
         by_end (inl h) = not_both h open_yet
-        by_end (inr h) = let none : decision (reverse w.trace) p ≡ None = ok.refused h (ap one_key (calls cmp total hash lawful gives w k p x at x.course) ∙ lookup_has_key x.call lookup) in cc
+        by_end (inr h) = let none : decision (reverse w.trace) p ≡ None = ok.refused h (ap one_key (calls cmp total hash lawful gives w k p x at x.party_state) ∙ lookup_has_key x.call lookup) in cc
 
     writes_not : is_lookup (Some x.call) ≡ false → ⊥
     writes_not h = not_both lookup h
 
-    by_stage : (s : Stage K V F) → x.course.stage ≡ s → FollowsStage x.call s → x.course.stage ≡ AtDone (Says r)
-    by_stage (AtLocate t) e f = absurd (other_mode Locating (in_mode cmp total hash lawful gives w k p x at x.course (AtLocate t) e) (λ q a b h. cc) (λ h. cc))
-    by_stage (AtBin t n) e f = absurd (other_mode (Looking n) (in_mode cmp total hash lawful gives w k p x at x.course (AtBin t n) e) (λ q a b h. cc) (λ h. cc))
+    by_stage : (s : Stage K V F) → x.party_state.stage ≡ s → FollowsStage x.call s → x.party_state.stage ≡ AtDone (OutcomeReply r)
+    by_stage (AtLocate t) e f = absurd (other_mode Locating (in_mode cmp total hash lawful gives w k p x at x.party_state (AtLocate t) e) (λ q a b h. cc) (λ h. cc))
+    by_stage (AtBin t n) e f = absurd (other_mode (Looking n) (in_mode cmp total hash lawful gives w k p x at x.party_state (AtBin t n) e) (λ q a b h. cc) (λ h. cc))
     by_stage (AtClaim a) e f = absurd (writes_not (helper_writes x.call a f))
     by_stage (AtMove m a) e f = absurd (writes_not (helper_writes x.call a f))
     by_stage (AtUncount s) e f = absurd (writes_not f.writes)
@@ -65,13 +65,13 @@ module _ {K V F S : Type 0} (cmp : K → K → Ordering) (total : IsTotalOrder c
     by_stage (AtGrow n (ForInsert s)) e f = absurd (writes_not f.writes)
     by_stage (AtGrow n ForReserve) e (m, f) = absurd (writes_not (ap (λ d. is_lookup (Some d)) f))
     by_stage (AtReserve n) e f = absurd (writes_not (ap (λ d. is_lookup (Some d)) f))
-    by_stage (AtDone (Says q)) e f = let same_reply : Some q ≡ Some r = sym (ok.decided q 0 0 (in_mode cmp total hash lawful gives w k p x at x.course (AtDone (Says q)) e)) ∙ decided in e ∙ ap (λ o. AtDone (Says (unwrap_or o q))) same_reply
-    by_stage (AtDone SaysEnded) e (m, f) = absurd (writes_not (ap (λ d. is_lookup (Some d)) f))
-    by_stage (AtDone SaysRefused) e f = absurd (over (in_mode cmp total hash lawful gives w k p x at x.course (AtDone SaysRefused) e))
-    by_stage AtTaken e f = absurd (over (in_mode cmp total hash lawful gives w k p x at x.course AtTaken e))
+    by_stage (AtDone (OutcomeReply q)) e f = let same_reply : Some q ≡ Some r = sym (ok.decided q 0 0 (in_mode cmp total hash lawful gives w k p x at x.party_state (AtDone (OutcomeReply q)) e)) ∙ decided in e ∙ ap (λ o. AtDone (OutcomeReply (unwrap_or o q))) same_reply
+    by_stage (AtDone OutcomeEnded) e (m, f) = absurd (writes_not (ap (λ d. is_lookup (Some d)) f))
+    by_stage (AtDone OutcomeRefused) e f = absurd (over (in_mode cmp total hash lawful gives w k p x at x.party_state (AtDone OutcomeRefused) e))
+    by_stage AtTaken e f = absurd (over (in_mode cmp total hash lawful gives w k p x at x.party_state AtTaken e))
 
-    replies : x.course.stage ≡ AtDone (Says r)
-    replies = by_stage x.course.stage refl (k.callers p x at).stage
+    replies : x.party_state.stage ≡ AtDone (OutcomeReply r)
+    replies = by_stage x.party_state.stage refl (k.party_records p x at).stage
 
   pub is_lawful : IsLawful cmp hash gives w
   is_lawful = record {
@@ -79,6 +79,6 @@ module _ {K V F S : Type 0} (cmp : K → K → Ordering) (total : IsTotalOrder c
     removals = k.state.1.removals;
     count = k.state.1.counted.balance;
     there = λ p x t e at. bin_is_there cmp total hash lawful gives w k p x at t e;
-    in_time = λ p x at lookup none going. subst (λ n. n < 32) (ap steps_in at) ((k.state.1.lookups p).in_time (ap is_lookup (calls cmp total hash lawful gives w k p x at x.course) ∙ lookup) none going);
+    in_time = λ p x at lookup none going. subst (λ n. n < 32) (ap steps_in at) ((k.state.1.lookups p).in_time (ap is_lookup (calls cmp total hash lawful gives w k p x at x.party_state) ∙ lookup) none going);
     replies_next = λ p x r at lookup decided open_yet. replies p x at lookup r decided open_yet;
   }

@@ -3,7 +3,7 @@ pub mod PlaceLaws
 pub mod EntryLaws
 pub mod DecisionLaws
 pub mod StateLaws
-pub mod LineLaws
+pub mod TransitionLaws
 pub mod CallLaws
 pub mod Frames
 pub mod Cases

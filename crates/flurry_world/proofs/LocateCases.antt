@@ -6,27 +6,28 @@ use Rattle.std.proofs.Common.{arith, refl, sym, ◌∙◌, ap, subst}
 use Rattle.flurry_slots.specs.Slot as slots
 use Rattle.flurry_slots.specs.Slot.{Place, Content, IsLive, IsUnborn}
 use Rattle.flurry_steps.specs.Control as control
-use Rattle.flurry_steps.specs.Control.{Board, IsControl, IsIdle, Grows, opened, count_of, GrowthIsIn}
-use Rattle.flurry_steps.specs.Party.{Task, Finds, Removes, Inserts, Adds, Computes, Says, SaysRefused, ForReserve, Stage, AtLocate, AtBin, AtGrow, AtReserve, AtDone, Course, told}
+use Rattle.flurry_steps.specs.Control.{ControlState, IsControl, IsIdle, Grows, after_open, count_of, GrowthIsIn}
+use Rattle.flurry_steps.specs.Party.{Task, Finds, Removes, Inserts, Adds, Computes, OutcomeReply, OutcomeRefused, ForReserve, Stage, AtLocate, AtBin, AtGrow, AtReserve, AtDone, PartyState, reply_for}
 use Rattle.flurry_steps.specs.PartyControl.{OpensFor, LocatesNone, MakesFor, ReservesFor}
 use Rattle.flurry_steps.specs.declared.party.Event.{Event}
 use Rattle.flurry_steps.specs.declared.party.Event.TheVariants as event
 use Rattle.flurry_theory.specs.Map.{same}
 use Rattle.flurry_theory.specs.Trace.{published}
-use Rattle.flurry_theory.specs.Machine.{Locating, Done, Live, Finds as FindsTable, Opens, IsRefused, DecidesEmpty, Opening, RefusedAt, found}
+use Rattle.flurry_theory.specs.Machine.{Locating, Done, Live, Finds as FindsTable, Opens, IsRefused, DecidesEmpty, Opening, RefusedAt, mode_at_table}
 use Rattle.flurry_model.specs.declared.call.Call.TheVariants as call
 use Rattle.flurry_theory.specs.declared.Label.{Label}
 use Rattle.flurry_theory.specs.declared.Label.TheVariants as label
 use Rattle.flurry_world.specs.Entries.{slot_of, Hashed}
 use Rattle.flurry_world.specs.Tables.{Tables, content_at, is_made, fresh, with_table, MadeGives, PlaceGives}
-use Rattle.flurry_world.specs.World.{Caller, Shown, state_of, task_of_call, mode_of_stage, claim_of_stage, FollowsStage, IsWorld}
+use Rattle.flurry_world.specs.World.{PartyRecord, WorldState, state_of, task_of_call, mode_of_stage, claim_of_stage, FollowsStage, IsWorld}
 use Rattle.flurry_world.specs.Steps.{label_of}
 use Rattle.flurry_world.proofs.CallLaws.{AddsNothing, empty_reply, found_task, key_of_task, opens_first, empty_allowed}
-use Rattle.flurry_world.proofs.LineLaws.{is_finds, is_opened, is_refused, is_decided_empty}
+use Rattle.flurry_world.proofs.TransitionLaws.{is_finds, is_opened, is_refused, is_decided_empty}
 use Rattle.flurry_world.proofs.PlaceLaws.{same_live, refused_place}
 use Rattle.flurry_world.proofs.TableLaws.{content_at-made, AreTables-placed}
 use Rattle.flurry_world.proofs.Frames.{same_frame, IsStep}
 use Rattle.flurry_world.proofs.Cases.{calls, in_mode, in_claim, settled}
+use Rattle.flurry_model.specs.declared.sizes.TheConstants.{GREATEST_TABLE}
 
 -- a trace that publishes nothing began with nothing
 none_first : {K V F : Type 0} (first : Option ℕ) (t : List (Label K V F)) → published first t ≡ None → first ≡ None
@@ -50,10 +51,10 @@ idle_without None IsIdle h i = refl
 idle_without None (Grows u r) h i = absurd i
 idle_without (Some e) g h i = cc
 
-module _ {K V F S : Type 0} (cmp : K → K → Ordering) (total : IsTotalOrder cmp) (hash : K → ℕ) (lawful : (j k : K) → same cmp j k ≡ true → hash j ≡ hash k) (gives : F → K → V → Option V → Type 0) (w : Shown K V F S) (k : IsWorld cmp hash gives w) (p : ℕ) (x : Caller K V F) (at : slice_get w.callers p ≡ Some x) (c : Course K V F) where
+module _ {K V F S : Type 0} (cmp : K → K → Ordering) (total : IsTotalOrder cmp) (hash : K → ℕ) (lawful : (j k : K) → same cmp j k ≡ true → hash j ≡ hash k) (gives : F → K → V → Option V → Type 0) (w : WorldState K V F S) (k : IsWorld cmp hash gives w) (p : ℕ) (x : PartyRecord K V F) (at : slice_get w.party_records p ≡ Some x) (c : PartyState K V F) where
   -- a party that locates goes on at the published table
-  pub finds : (s : Stage K V F) (e : ℕ) → x.course.stage ≡ s → mode_of_stage s ≡ Locating → claim_of_stage s ≡ None → w.board.published ≡ Some e → mode_of_stage c.stage ≡ found e x.call → claim_of_stage c.stage ≡ None → FollowsStage x.call c.stage
-      → IsStep cmp hash gives w p x w.board w.tables c (label.Silent p)
+  pub finds : (s : Stage K V F) (e : ℕ) → x.party_state.stage ≡ s → mode_of_stage s ≡ Locating → claim_of_stage s ≡ None → w.control_state.published ≡ Some e → mode_of_stage c.stage ≡ mode_at_table e x.call → claim_of_stage c.stage ≡ None → FollowsStage x.call c.stage
+      → IsStep cmp hash gives w p x w.control_state w.tables c (label.Silent p)
   finds s e f locating none there mode claim follows = record {
     line = FindsTable e;
     can = (x.call, calls cmp total hash lawful gives w k p x at c, in_mode cmp total hash lawful gives w k p x at c s f ∙ locating, ((k.state.1.tables.from e there).0, e, there, omega arith));
@@ -63,8 +64,8 @@ module _ {K V F S : Type 0} (cmp : K → K → Ordering) (total : IsTotalOrder c
   }
 
   -- or makes the first one
-  opens : (s : Stage K V F) (e : ℕ) (t : Tables K V) → x.course.stage ≡ s → mode_of_stage s ≡ Locating → claim_of_stage s ≡ None → w.board.published ≡ None → e ≤ 30 → Opening x.call e → PlaceGives w.tables e true true t
-      → mode_of_stage c.stage ≡ found e x.call → claim_of_stage c.stage ≡ None → FollowsStage x.call c.stage → IsStep cmp hash gives w p x (opened e w.board) t c (label.Opened e)
+  opens : (s : Stage K V F) (e : ℕ) (t : Tables K V) → x.party_state.stage ≡ s → mode_of_stage s ≡ Locating → claim_of_stage s ≡ None → w.control_state.published ≡ None → e ≤ GREATEST_TABLE → Opening x.call e → PlaceGives w.tables e true true t
+      → mode_of_stage c.stage ≡ mode_at_table e x.call → claim_of_stage c.stage ≡ None → FollowsStage x.call c.stage → IsStep cmp hash gives w p x (after_open e w.control_state) t c (label.Opened e)
   opens s e t f locating none bare le may gives_table mode claim follows = record {
     line = Opens e;
     can = (x.call, calls cmp total hash lawful gives w k p x at c, in_mode cmp total hash lawful gives w k p x at c s f ∙ locating, bare, may);
@@ -72,10 +73,10 @@ module _ {K V F S : Type 0} (cmp : K → K → Ordering) (total : IsTotalOrder c
     follows = follows;
     frame = record {
       hashed = λ d i l h. hashed_in d i l (e == d && nat_lt i (2 ^ e)) (sym (contents d i) ∙ h);
-      board = record { published = le; growth = subst (GrowthIsIn (Some e)) (sym (idle_without w.board.published w.board.growth bare k.board.growth)) tt };
+      control_state = record { published = le; growth = subst (GrowthIsIn (Some e)) (sym (idle_without w.control_state.published w.control_state.growth bare k.control_state.growth)) tt };
       tables = AreTables-placed w.tables e true true t k.tables le gives_table;
       unmade = λ h. cc;
-      next = λ d u r _ h. absurd (grind (arith, h, idle_without w.board.published w.board.growth bare k.board.growth));
+      next = λ d u r _ h. absurd (grind (arith, h, idle_without w.control_state.published w.control_state.growth bare k.control_state.growth));
     };
   }
     where
@@ -100,7 +101,7 @@ module _ {K V F S : Type 0} (cmp : K → K → Ordering) (total : IsTotalOrder c
       hashed_in d i l false h = k.hashed d i l h
 
   -- or is refused it
-  refused : (s : Stage K V F) (e : ℕ) → x.course.stage ≡ s → mode_of_stage s ≡ Locating → claim_of_stage s ≡ None → w.board.published ≡ None → Opening x.call e → c.stage ≡ AtDone SaysRefused → IsStep cmp hash gives w p x w.board w.tables c (label.Refused p)
+  refused : (s : Stage K V F) (e : ℕ) → x.party_state.stage ≡ s → mode_of_stage s ≡ Locating → claim_of_stage s ≡ None → w.control_state.published ≡ None → Opening x.call e → c.stage ≡ AtDone OutcomeRefused → IsStep cmp hash gives w p x w.control_state w.tables c (label.Refused p)
   refused s e f locating none bare may g = record {
     line = IsRefused;
     can = (x.call, calls cmp total hash lawful gives w k p x at c, in_claim cmp total hash lawful gives w k p x at c s f ∙ none, subst (RefusedAt cmp hash gives (state_of w) x.call) (sym (in_mode cmp total hash lawful gives w k p x at c s f ∙ locating)) (bare, e, may));
@@ -110,7 +111,7 @@ module _ {K V F S : Type 0} (cmp : K → K → Ordering) (total : IsTotalOrder c
   }
 
   -- or decides on the empty map
-  decides_empty : (t : Task K V F) → x.course.stage ≡ AtLocate t → w.board.published ≡ None → task_of_call x.call ≡ Some t → AddsNothing t → c.stage ≡ AtDone (Says (empty_reply t)) → IsStep cmp hash gives w p x w.board w.tables c (label.Decide p (empty_reply t))
+  decides_empty : (t : Task K V F) → x.party_state.stage ≡ AtLocate t → w.control_state.published ≡ None → task_of_call x.call ≡ Some t → AddsNothing t → c.stage ≡ AtDone (OutcomeReply (empty_reply t)) → IsStep cmp hash gives w p x w.control_state w.tables c (label.Decide p (empty_reply t))
   decides_empty t f bare task nothing g = record {
     line = DecidesEmpty x.call (empty_reply t);
     can = let (adds, allowed) = empty_allowed cmp gives x.call t task nothing in (calls cmp total hash lawful gives w k p x at c, in_mode cmp total hash lawful gives w k p x at c (AtLocate t) f, bare, adds, allowed);
@@ -119,17 +120,17 @@ module _ {K V F S : Type 0} (cmp : K → K → Ordering) (total : IsTotalOrder c
     frame = same_frame cmp hash gives w k;
   }
 
-  module _ (ev : Event) (b : Board) (t' : Tables K V) where
+  module _ (ev : Event) (b : ControlState) (t' : Tables K V) where
     -- an insertion without a table
-    opens_for : (t : Task K V F) → x.course.stage ≡ AtLocate t → w.board.published ≡ None → task_of_call x.call ≡ Some t → (AddsNothing t → ⊥) → OpensFor PlaceGives x.course.processors t w.board w.tables ev c.stage b t' → IsStep cmp hash gives w p x b t' c (label_of p ev c.stage)
+    opens_for : (t : Task K V F) → x.party_state.stage ≡ AtLocate t → w.control_state.published ≡ None → task_of_call x.call ≡ Some t → (AddsNothing t → ⊥) → OpensFor PlaceGives x.party_state.processors t w.control_state w.tables ev c.stage b t' → IsStep cmp hash gives w p x b t' c (label_of p ev c.stage)
     opens_for t f bare task adds h = by_event ev refl h
       where
-        by_event : (a : Event) → ev ≡ a → OpensFor PlaceGives x.course.processors t w.board w.tables a c.stage b t' → IsStep cmp hash gives w p x b t' c (label_of p ev c.stage)
+        by_event : (a : Event) → ev ≡ a → OpensFor PlaceGives x.party_state.processors t w.control_state w.tables a c.stage b t' → IsStep cmp hash gives w p x b t' c (label_of p ev c.stage)
         by_event (event.Opened e) q g =
-            settled cmp total hash lawful gives w k p x at c ev (event.Opened 4) (AtBin t 4) b (opened 4 w.board) t' t' (q ∙ ap event.Opened g.0) g.1 g.2 refl
+            settled cmp total hash lawful gives w k p x at c ev (event.Opened 4) (AtBin t 4) b (after_open 4 w.control_state) t' t' (q ∙ ap event.Opened g.0) g.1 g.2 refl
             (opens (AtLocate t) 4 t' f refl refl bare (omega arith) (opens_first x.call t task adds) g.3 (ap mode_of_stage g.1 ∙ sym (found_task x.call t 4 task)) (ap claim_of_stage g.1) (subst (FollowsStage x.call) (sym g.1) task))
         by_event event.Refused q g =
-            settled cmp total hash lawful gives w k p x at c ev event.Refused (AtDone SaysRefused) b w.board t' w.tables q g.0 g.1 (refused_place w.tables 4 true t' g.2)
+            settled cmp total hash lawful gives w k p x at c ev event.Refused (AtDone OutcomeRefused) b w.control_state t' w.tables q g.0 g.1 (refused_place w.tables 4 true t' g.2)
             (refused (AtLocate t) 4 f refl refl bare (opens_first x.call t task adds) g.0)
         by_event event.Decide q g = absurd g
         by_event (event.Placed e) q g = absurd g
@@ -137,39 +138,39 @@ module _ {K V F S : Type 0} (cmp : K → K → Ordering) (total : IsTotalOrder c
         by_event (event.Published e) q g = absurd g
         by_event event.Silent q g = absurd g
 
-    locates_none : (t : Task K V F) → x.course.stage ≡ AtLocate t → w.board.published ≡ None → task_of_call x.call ≡ Some t → LocatesNone PlaceGives x.course.processors t w.board w.tables ev c.stage b t' → IsStep cmp hash gives w p x b t' c (label_of p ev c.stage)
-    locates_none (Finds y j) f bare task h = settled cmp total hash lawful gives w k p x at c ev event.Decide (AtDone (Says (told y None))) b w.board t' w.tables h.0 h.1 h.2 h.3 (decides_empty (Finds y j) f bare task tt h.1)
-    locates_none (Removes y j) f bare task h = settled cmp total hash lawful gives w k p x at c ev event.Decide (AtDone (Says (told y None))) b w.board t' w.tables h.0 h.1 h.2 h.3 (decides_empty (Removes y j) f bare task tt h.1)
+    locates_none : (t : Task K V F) → x.party_state.stage ≡ AtLocate t → w.control_state.published ≡ None → task_of_call x.call ≡ Some t → LocatesNone PlaceGives x.party_state.processors t w.control_state w.tables ev c.stage b t' → IsStep cmp hash gives w p x b t' c (label_of p ev c.stage)
+    locates_none (Finds y j) f bare task h = settled cmp total hash lawful gives w k p x at c ev event.Decide (AtDone (OutcomeReply (reply_for y None))) b w.control_state t' w.tables h.0 h.1 h.2 h.3 (decides_empty (Finds y j) f bare task tt h.1)
+    locates_none (Removes y j) f bare task h = settled cmp total hash lawful gives w k p x at c ev event.Decide (AtDone (OutcomeReply (reply_for y None))) b w.control_state t' w.tables h.0 h.1 h.2 h.3 (decides_empty (Removes y j) f bare task tt h.1)
     locates_none (Inserts j v) f bare task h = opens_for (Inserts j v) f bare task (λ n. n) h
     locates_none (Adds j v) f bare task h = opens_for (Adds j v) f bare task (λ n. n) h
-    locates_none (Computes j g) f bare task h = settled cmp total hash lawful gives w k p x at c ev event.Decide (AtDone (Says (empty_reply (Computes j g)))) b w.board t' w.tables h.0 h.1 h.2 h.3 (decides_empty (Computes j g) f bare task tt h.1)
+    locates_none (Computes j g) f bare task h = settled cmp total hash lawful gives w k p x at c ev event.Decide (AtDone (OutcomeReply (empty_reply (Computes j g)))) b w.control_state t' w.tables h.0 h.1 h.2 h.3 (decides_empty (Computes j g) f bare task tt h.1)
 
-    pub locates : (t : Task K V F) → x.course.stage ≡ AtLocate t → FollowsStage x.call (AtLocate t)
-        → MatchOption w.board.published (LocatesNone PlaceGives x.course.processors t w.board w.tables ev c.stage b t') (λ e. (ev ≡ event.Silent) × (c.stage ≡ AtBin t e) × (b ≡ w.board) × (t' ≡ w.tables)) → IsStep cmp hash gives w p x b t' c (label_of p ev c.stage)
-    locates t f task h = by_table w.board.published refl h
+    pub locates : (t : Task K V F) → x.party_state.stage ≡ AtLocate t → FollowsStage x.call (AtLocate t)
+        → MatchOption w.control_state.published (LocatesNone PlaceGives x.party_state.processors t w.control_state w.tables ev c.stage b t') (λ e. (ev ≡ event.Silent) × (c.stage ≡ AtBin t e) × (b ≡ w.control_state) × (t' ≡ w.tables)) → IsStep cmp hash gives w p x b t' c (label_of p ev c.stage)
+    locates t f task h = by_table w.control_state.published refl h
       where
-        by_table : (o : Option ℕ) → w.board.published ≡ o → MatchOption o (LocatesNone PlaceGives x.course.processors t w.board w.tables ev c.stage b t') (λ e. (ev ≡ event.Silent) × (c.stage ≡ AtBin t e) × (b ≡ w.board) × (t' ≡ w.tables)) → IsStep cmp hash gives w p x b t' c (label_of p ev c.stage)
+        by_table : (o : Option ℕ) → w.control_state.published ≡ o → MatchOption o (LocatesNone PlaceGives x.party_state.processors t w.control_state w.tables ev c.stage b t') (λ e. (ev ≡ event.Silent) × (c.stage ≡ AtBin t e) × (b ≡ w.control_state) × (t' ≡ w.tables)) → IsStep cmp hash gives w p x b t' c (label_of p ev c.stage)
         by_table None q g = locates_none t f q task g
         by_table (Some e) q g =
-            settled cmp total hash lawful gives w k p x at c ev event.Silent (AtBin t e) b w.board t' w.tables g.0 g.1 g.2 g.3
+            settled cmp total hash lawful gives w k p x at c ev event.Silent (AtBin t e) b w.control_state t' w.tables g.0 g.1 g.2 g.3
             (finds (AtLocate t) e f refl refl q (ap mode_of_stage g.1 ∙ sym (found_task x.call t e task)) (ap claim_of_stage g.1) (subst (FollowsStage x.call) (sym g.1) task))
 
     -- a reserve
-    pub reserves : (a n : ℕ) → x.course.stage ≡ AtReserve a → x.call ≡ call.Reserve a → n ≤ 30 → ReservesFor PlaceGives x.course.processors n w.board w.tables ev c.stage b t' → IsStep cmp hash gives w p x b t' c (label_of p ev c.stage)
-    reserves a n f is le h = by_table w.board.published refl h
+    pub reserves : (a n : ℕ) → x.party_state.stage ≡ AtReserve a → x.call ≡ call.Reserve a → n ≤ GREATEST_TABLE → ReservesFor PlaceGives x.party_state.processors n w.control_state w.tables ev c.stage b t' → IsStep cmp hash gives w p x b t' c (label_of p ev c.stage)
+    reserves a n f is le h = by_table w.control_state.published refl h
       where
-        at_found : (e : ℕ) → Done None 0 0 ≡ found e x.call
-        at_found e = ap (found e) (sym is)
+        at_found : (e : ℕ) → Done None 0 0 ≡ mode_at_table e x.call
+        at_found e = ap (mode_at_table e) (sym is)
 
         may : Opening x.call n
         may = subst (λ z. Opening z n) (sym is) le
 
-        makes : w.board.published ≡ None → (o : Event) → ev ≡ o → MakesFor PlaceGives x.course.processors n w.board w.tables o c.stage b t' → IsStep cmp hash gives w p x b t' c (label_of p ev c.stage)
+        makes : w.control_state.published ≡ None → (o : Event) → ev ≡ o → MakesFor PlaceGives x.party_state.processors n w.control_state w.tables o c.stage b t' → IsStep cmp hash gives w p x b t' c (label_of p ev c.stage)
         makes bare (event.Opened e) q g =
-            settled cmp total hash lawful gives w k p x at c ev (event.Opened n) (AtGrow n ForReserve) b (opened n w.board) t' t' (q ∙ ap event.Opened g.0) g.1 g.2 refl
+            settled cmp total hash lawful gives w k p x at c ev (event.Opened n) (AtGrow n ForReserve) b (after_open n w.control_state) t' t' (q ∙ ap event.Opened g.0) g.1 g.2 refl
             (opens (AtReserve a) n t' f refl refl bare le may g.3 (ap mode_of_stage g.1 ∙ at_found n) (ap claim_of_stage g.1) (subst (FollowsStage x.call) (sym g.1) (a, is)))
         makes bare event.Refused q g =
-            settled cmp total hash lawful gives w k p x at c ev event.Refused (AtDone SaysRefused) b w.board t' w.tables q g.0 g.1 (refused_place w.tables n true t' g.2)
+            settled cmp total hash lawful gives w k p x at c ev event.Refused (AtDone OutcomeRefused) b w.control_state t' w.tables q g.0 g.1 (refused_place w.tables n true t' g.2)
             (refused (AtReserve a) n f refl refl bare may g.0)
         makes bare event.Decide q g = absurd g
         makes bare (event.Placed e) q g = absurd g
@@ -177,8 +178,8 @@ module _ {K V F S : Type 0} (cmp : K → K → Ordering) (total : IsTotalOrder c
         makes bare (event.Published e) q g = absurd g
         makes bare event.Silent q g = absurd g
 
-        by_table : (o : Option ℕ) → w.board.published ≡ o → MatchOption o (MakesFor PlaceGives x.course.processors n w.board w.tables ev c.stage b t') (λ e. (ev ≡ event.Silent) × (c.stage ≡ AtGrow n ForReserve) × (b ≡ w.board) × (t' ≡ w.tables)) → IsStep cmp hash gives w p x b t' c (label_of p ev c.stage)
+        by_table : (o : Option ℕ) → w.control_state.published ≡ o → MatchOption o (MakesFor PlaceGives x.party_state.processors n w.control_state w.tables ev c.stage b t') (λ e. (ev ≡ event.Silent) × (c.stage ≡ AtGrow n ForReserve) × (b ≡ w.control_state) × (t' ≡ w.tables)) → IsStep cmp hash gives w p x b t' c (label_of p ev c.stage)
         by_table None q g = makes q ev refl g
         by_table (Some e) q g =
-            settled cmp total hash lawful gives w k p x at c ev event.Silent (AtGrow n ForReserve) b w.board t' w.tables g.0 g.1 g.2 g.3
+            settled cmp total hash lawful gives w k p x at c ev event.Silent (AtGrow n ForReserve) b w.control_state t' w.tables g.0 g.1 g.2 g.3
             (finds (AtReserve a) e f refl refl q (ap mode_of_stage g.1 ∙ at_found e) (ap claim_of_stage g.1) (subst (FollowsStage x.call) (sym g.1) (a, is)))

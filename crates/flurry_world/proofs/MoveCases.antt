@@ -7,8 +7,8 @@ use Rattle.std.proofs.lemmas.Bool.{ltb-true}
 use Rattle.flurry_slots.specs.Slot as slots
 use Rattle.flurry_slots.specs.Slot.{Place, Content, IsLive, HasMoved, IsUnborn, IsSlot, IsLiveIn, IsContent, AreHalves, HasMovedInto, Clashes, IfLive, half}
 use Rattle.flurry_steps.specs.Claim.{Range, next_of, moved_on}
-use Rattle.flurry_steps.specs.Control.{Board}
-use Rattle.flurry_steps.specs.Party.{After, AtMove, Course, with_stage}
+use Rattle.flurry_steps.specs.Control.{ControlState}
+use Rattle.flurry_steps.specs.Party.{Resume, AtMove, PartyState, with_stage}
 use Rattle.flurry_steps.specs.PartySlots.{MoveGives, moved_stage}
 use Rattle.flurry_steps.specs.declared.party.Event.{Event}
 use Rattle.flurry_steps.specs.declared.party.Event.TheVariants as event
@@ -20,11 +20,11 @@ use Rattle.flurry_theory.specs.Invariant.{is_live}
 use Rattle.flurry_theory.specs.declared.Label.TheVariants as label
 use Rattle.flurry_world.specs.Entries.{slot_of, entries_of_held, Hashed}
 use Rattle.flurry_world.specs.Tables.{Tables, slots_of, place_at, content_at, put_place}
-use Rattle.flurry_world.specs.World.{Caller, Shown, state_of, mode_of_stage, claim_of_stage, FollowsAfter, FollowsStage, IsWorld}
+use Rattle.flurry_world.specs.World.{PartyRecord, WorldState, state_of, mode_of_stage, claim_of_stage, FollowsResume, FollowsStage, IsWorld}
 use Rattle.flurry_world.specs.Steps.{label_of}
 use Rattle.flurry_world.proofs.EntryLaws.{Hashed-filter, low-entries, high-entries}
 use Rattle.flurry_world.proofs.TableLaws.{content_of_place, place_at-put_other, AreTables-put, length_of_put_slots}
-use Rattle.flurry_world.proofs.LineLaws.{is_moved}
+use Rattle.flurry_world.proofs.TransitionLaws.{is_moved}
 use Rattle.flurry_world.proofs.HomeLaws.{low_unborn, high_unborn, unborn_content, put_content}
 use Rattle.flurry_world.proofs.ClaimCases.{helper_writes}
 use Rattle.flurry_world.proofs.Frames.{IsStep}
@@ -37,8 +37,8 @@ pub no_slots : {X : Type 0} (a b : List X) → length a ≡ length b → a ≡ [
 no_slots a [] h e = refl
 no_slots a (y ∷ b) h e = let none : length a ≡ 0 = ap length e in absurd (omega (arith, h, none))
 
-module _ {K V F S : Type 0} (cmp : K → K → Ordering) (total : IsTotalOrder cmp) (hash : K → ℕ) (lawful : (j k : K) → same cmp j k ≡ true → hash j ≡ hash k) (gives : F → K → V → Option V → Type 0) (w : Shown K V F S) (k : IsWorld cmp hash gives w) (p : ℕ) (x : Caller K V F) (at : slice_get w.callers p ≡ Some x) (c : Course K V F) where
-  module _ (m : Range) (a : After K V F) (f : x.course.stage ≡ AtMove m a) (had : FollowsAfter x.call a) (e i : ℕ) (next : next_of m ≡ Some (e, i)) (q low high : Place K V)
+module _ {K V F S : Type 0} (cmp : K → K → Ordering) (total : IsTotalOrder cmp) (hash : K → ℕ) (lawful : (j k : K) → same cmp j k ≡ true → hash j ≡ hash k) (gives : F → K → V → Option V → Type 0) (w : WorldState K V F S) (k : IsWorld cmp hash gives w) (p : ℕ) (x : PartyRecord K V F) (at : slice_get w.party_records p ≡ Some x) (c : PartyState K V F) where
+  module _ (m : Range) (a : Resume K V F) (f : x.party_state.stage ≡ AtMove m a) (had : FollowsResume x.call a) (e i : ℕ) (next : next_of m ≡ Some (e, i)) (q low high : Place K V)
       (q_at : place_at w.tables e i ≡ Some q) (low_at : place_at w.tables (e + 1) i ≡ Some low) (high_at : place_at w.tables (e + 1) (i + 2 ^ e) ≡ Some high) (inside : IsSlot cmp q) where
     abbrev held : machine.Claim
     held = record { table = m.table; low = m.low; left = m.left; high = m.high }
@@ -46,7 +46,7 @@ module _ {K V F S : Type 0} (cmp : K → K → Ordering) (total : IsTotalOrder c
     holds : (state_of w).claim p ≡ Some held
     holds = in_claim cmp total hash lawful gives w k p x at c (AtMove m a) f
 
-    claim_ok : (w.board.published ≡ Some m.table) × (m.low < m.high) × (m.low ≤ m.left) × (m.left ≤ m.high) × (m.high ≤ 2 ^ m.table)
+    claim_ok : (w.control_state.published ≡ Some m.table) × (m.low < m.high) × (m.low ≤ m.left) × (m.left ≤ m.high) × (m.high ≤ 2 ^ m.table)
     claim_ok = k.state.1.cut.claims p held holds
 
     -- the bin that is moved next
@@ -74,7 +74,7 @@ module _ {K V F S : Type 0} (cmp : K → K → Ordering) (total : IsTotalOrder c
             index_or (Some b) = b.1
         by_test false g h = cc
 
-    at_table : w.board.published ≡ Some e
+    at_table : w.control_state.published ≡ Some e
     at_table = claim_ok.0 ∙ ap Some (sym is_next.table)
 
     next_table : e + 1 ≡ suc e
@@ -149,15 +149,15 @@ module _ {K V F S : Type 0} (cmp : K → K → Ordering) (total : IsTotalOrder c
       sizes d = length_of_put_slots _ (e + 1) (i + 2 ^ e) high' d ∙ length_of_put_slots _ (e + 1) i low' d ∙ length_of_put_slots w.tables e i q' d
 
       moves : (b : slots.Live K V) (t' : Tables K V) → q.content ≡ IsLive b → t' ≡ moved_tables → q' ≡ record q { content = HasMoved } → low' ≡ record low { content = IsLive (half q.table 0 b) } → high' ≡ record high { content = IsLive (half q.table 1 b) }
-          → c ≡ with_stage x.course (moved_stage x.course.stage) → IsStep cmp hash gives w p x w.board t' c (label.Moved e i)
-      moves b t' live after q_after low_after high_after goes = subst (λ z. IsStep cmp hash gives w p x w.board z c (label.Moved e i)) (sym after) (subst (λ z. IsStep cmp hash gives w p x w.board moved_tables c (label.Moved z i)) (sym is_next.table) (record {
+          → c ≡ with_stage x.party_state (moved_stage x.party_state.stage) → IsStep cmp hash gives w p x w.control_state t' c (label.Moved e i)
+      moves b t' live after q_after low_after high_after goes = subst (λ z. IsStep cmp hash gives w p x w.control_state z c (label.Moved e i)) (sym after) (subst (λ z. IsStep cmp hash gives w p x w.control_state moved_tables c (label.Moved z i)) (sym is_next.table) (record {
         line = Moves held i (entries_of_held b.held) b.writes;
         can = (holds, is_next.above, is_next.left, ap (λ n. slot_of (content_at w.tables n i)) (sym is_next.table) ∙ ap slot_of (q_here ∙ live), no_lookup cmp total hash lawful gives w k p x at c (helper_writes x.call a had));
         is = is_moved cmp hash gives w p x at c held i (entries_of_held b.held) b.writes moved_tables (λ d j. subst (λ n. slot_of (content_at moved_tables d j) ≡ at_bin (at_bin (at_bin (state_of w).slot n i Moved) (suc n) i (Live (bin.half hash (suc n) i (entries_of_held b.held)) b.writes)) (suc n) (i + 2 ^ n) (Live (bin.half hash (suc n) (i + 2 ^ n) (entries_of_held b.held)) b.writes) d j) is_next.table (slots_after d j)) (mode_after) claim_after;
         follows = subst (FollowsStage x.call) (sym stage_after) had;
         frame = record {
           hashed = λ d j l h. hashed_in d j l (e + 1 == d && i + 2 ^ e == j) (e + 1 == d && i == j) (e == d && i == j) (sym (contents d j) ∙ h);
-          board = k.board;
+          control_state = k.control_state;
           tables = AreTables-put _ (e + 1) (i + 2 ^ e) high' high (AreTables-put _ (e + 1) i low' low (AreTables-put w.tables e i q' q k.tables q_at (ap (λ z. z.table) q_after) (ap (λ z. z.index) q_after)) low_there (ap (λ z. z.table) low_after) (ap (λ z. z.index) low_after)) high_there (ap (λ z. z.table) high_after) (ap (λ z. z.index) high_after);
           unmade = λ h. absurd (none_is_not_some (sym h ∙ at_table));
           next = λ g u r h s z. k.next g u r h s (no_slots _ _ (sizes (suc g)) z);
@@ -210,14 +210,14 @@ module _ {K V F S : Type 0} (cmp : K → K → Ordering) (total : IsTotalOrder c
           hashed_in d j l false false true h = let no : HasMoved ≡ IsLive l = ap (λ z. z.content) (sym q_after) ∙ h in cc
           hashed_in d j l false false false h = k.hashed d j l h
 
-      pub at_move : (ev : Event) (b : Board) (t' : Tables K V) → MoveGives x.course q low high ev c q' low' high' → b ≡ w.board → t' ≡ moved_tables → IsStep cmp hash gives w p x b t' c (label_of p ev c.stage)
+      pub at_move : (ev : Event) (b : ControlState) (t' : Tables K V) → MoveGives x.party_state q low high ev c q' low' high' → b ≡ w.control_state → t' ≡ moved_tables → IsStep cmp hash gives w p x b t' c (label_of p ev c.stage)
       at_move (event.Moved d j) b t' (h, g, (_, into), goes) y z = by_content q.content refl into
         where
           by_content : (u : Content K V) → q.content ≡ u → IfLive u (λ l. (q' ≡ record q { content = HasMoved }) × (low' ≡ record low { content = IsLive (half q.table 0 l) }) × (high' ≡ record high { content = IsLive (half q.table 1 l) })) → IsStep cmp hash gives w p x b t' c (label_of p (event.Moved d j) c.stage)
           by_content (IsLive l) live (q_after, low_after, high_after) =
               subst (λ v. IsStep cmp hash gives w p x v t' c (label.Moved d j)) (sym y)
-              (subst (λ v. IsStep cmp hash gives w p x w.board t' c (label.Moved v j)) (sym (h ∙ q_is.0))
-              (subst (λ v. IsStep cmp hash gives w p x w.board t' c (label.Moved e v)) (sym (g ∙ q_is.1)) (moves l t' live z q_after low_after high_after goes)))
+              (subst (λ v. IsStep cmp hash gives w p x w.control_state t' c (label.Moved v j)) (sym (h ∙ q_is.0))
+              (subst (λ v. IsStep cmp hash gives w p x w.control_state t' c (label.Moved e v)) (sym (g ∙ q_is.1)) (moves l t' live z q_after low_after high_after goes)))
           by_content HasMoved moved never = absurd never
           by_content IsUnborn none never = absurd never
       at_move event.Silent b t' (_, _, _, inl (moved, _)) y z = let no : is_live (slot_of {K = K} {V = V} HasMoved) ≡ true = live_content HasMoved moved in cc

@@ -4,7 +4,7 @@ use Rattle.std.specs.Option.{IsSome}
 use Rattle.std.proofs.lemmas.List.{get_or_append_left, get_or-append_right, set-append_left, set-append_right, map-set, length-set, length-map}
 use Rattle.std.proofs.Math.Seq.{take-append_seam}
 use Rattle.flurry_slots.specs.Slot.{Place}
-use Rattle.flurry_steps.specs.Party.{Course}
+use Rattle.flurry_steps.specs.Party.{PartyState}
 use Rattle.flurry_steps.specs.PartySlots.{MoveStep}
 use Rattle.flurry_steps.specs.declared.party.Event.{Event}
 use Rattle.flurry_world.specs.Parts.{HalvesStep}
@@ -67,7 +67,7 @@ module _ {K V A : Type 0} (xs front back : List (Vec (Place K V) A)) (e : ℕ) (
   as_many x y =
       length-append (set front e x) (set back 0 y) ∙ omega (arith, length-set front e x, length-set back 0 y, length-append front back, ap length split)
 
-  pub moved : {F : Type 0} (i : ℕ) (olds news olds' news' : Vec (Place K V) A) (q q' : Place K V) (c c' : Course K V F) (ev : Event) → AreTables (seen xs)
+  pub moved : {F : Type 0} (i : ℕ) (olds news olds' news' : Vec (Place K V) A) (q q' : Place K V) (c c' : PartyState K V F) (ev : Event) → AreTables (seen xs)
       → IsSome (place_at (seen xs) e i) → IsSome (place_at (seen xs) (e + 1) i) → olds ≡ get_or front e olds → news ≡ get_or back 0 news → q ≡ get_or (get_or front e olds).items i q
       → olds'.items ≡ set (get_or front e olds).items i q' → HalvesStep c q i (i + 2 ^ e) (get_or back 0 news).items ev c' q' news'.items
       → (low high low' high' : Place K V)

@@ -7,7 +7,7 @@ use Rattle.std.proofs.Common.{arith, refl, sym, ◌∙◌, ap, subst}
 use Rattle.flurry_slots.specs.Slot as slots
 use Rattle.flurry_slots.specs.Slot.{Place, IsLive, IsUnborn}
 use Rattle.std.specs.declared.alloc.AllocError.{AllocError}
-use Rattle.flurry_steps.specs.Control.{Board, IsIdle, OpenGives, opened}
+use Rattle.flurry_steps.specs.Control.{ControlState, IsIdle, OpenGives, after_open}
 use Rattle.flurry_theory.specs.Map.{same}
 use Rattle.flurry_theory.specs.Machine.{Live, Unborn}
 use Rattle.flurry_theory.specs.Invariant.{Inv, new_world}
@@ -17,6 +17,7 @@ use Rattle.flurry_world.specs.Tables.{Tables, AreTables, slots_of, content_at, i
 use Rattle.flurry_world.specs.World.{state_of, mode_in, IsWorld}
 use Rattle.flurry_world.specs.Steps.{fresh_world}
 use Rattle.flurry_world.proofs.TableLaws.{AreTables-none, AreTables-made, content_at-made}
+use Rattle.flurry_model.specs.declared.sizes.TheConstants.{GREATEST_TABLE, TABLES}
 
 module _ {K V : Type 0} where
   -- no table is in any place
@@ -26,31 +27,31 @@ module _ {K V : Type 0} where
   slots_of-none (suc n) (suc e) = slots_of-none n e
 
   -- the first table is opened
-  pub opened_new : (e : ℕ) (b b' : Board) (t t' : Tables K V) (r : Result ℕ AllocError) (q : ℕ) → b ≡ record { published = None; growth = IsIdle; count = pos 0 } → t ≡ no_tables → OpenGives PlaceGives e b t r b' t' → r ≡ Ok q
+  pub opened_new : (e : ℕ) (b b' : ControlState) (t t' : Tables K V) (r : Result ℕ AllocError) (q : ℕ) → b ≡ record { published = None; growth = IsIdle; count = pos 0 } → t ≡ no_tables → OpenGives PlaceGives e b t r b' t' → r ≡ Ok q
       → (q ≡ e) × (b' ≡ record { published = Some q; growth = IsIdle; count = pos 0 }) × (t' ≡ with_table no_tables q true)
   opened_new e b b' t t' r q is none gave answer =
-      let opens : MatchResult {E = AllocError} (Ok q) (λ z. (z ≡ e) × (b' ≡ opened e b) × PlaceGives t e true true t') (λ _. (b' ≡ b) × PlaceGives t e true false t') =
-      subst (λ z. MatchResult z (λ z. (z ≡ e) × (b' ≡ opened e b) × PlaceGives t e true true t') (λ _. (b' ≡ b) × PlaceGives t e true false t')) answer
-      (subst (λ o. MatchOption o (MatchResult r (λ z. (z ≡ e) × (b' ≡ opened e b) × PlaceGives t e true true t') (λ _. (b' ≡ b) × PlaceGives t e true false t')) (λ z. (r ≡ Ok z) × (b' ≡ b) × (t' ≡ t))) (ap (λ z. z.published) is) gave) in
-      let made : t' ≡ with_table t e true = subst (λ d. MadeGives d t e true true t') (ap (λ u. is_made (slots_of u e)) none ∙ ap is_made (slots_of-none 31 e)) opens.2 in
-      (opens.0, opens.1 ∙ ap (opened e) is ∙ ap (λ n. record { published = Some n; growth = IsIdle; count = pos 0 }) (sym opens.0), made ∙ ap (λ u. with_table u e true) none ∙ ap (λ n. with_table no_tables n true) (sym opens.0))
+      let opens : MatchResult {E = AllocError} (Ok q) (λ z. (z ≡ e) × (b' ≡ after_open e b) × PlaceGives t e true true t') (λ _. (b' ≡ b) × PlaceGives t e true false t') =
+      subst (λ z. MatchResult z (λ z. (z ≡ e) × (b' ≡ after_open e b) × PlaceGives t e true true t') (λ _. (b' ≡ b) × PlaceGives t e true false t')) answer
+      (subst (λ o. MatchOption o (MatchResult r (λ z. (z ≡ e) × (b' ≡ after_open e b) × PlaceGives t e true true t') (λ _. (b' ≡ b) × PlaceGives t e true false t')) (λ z. (r ≡ Ok z) × (b' ≡ b) × (t' ≡ t))) (ap (λ z. z.published) is) gave) in
+      let made : t' ≡ with_table t e true = subst (λ d. MadeGives d t e true true t') (ap (λ u. is_made (slots_of u e)) none ∙ ap is_made (slots_of-none TABLES e)) opens.2 in
+      (opens.0, opens.1 ∙ ap (after_open e) is ∙ ap (λ n. record { published = Some n; growth = IsIdle; count = pos 0 }) (sym opens.0), made ∙ ap (λ u. with_table u e true) none ∙ ap (λ n. with_table no_tables n true) (sym opens.0))
 
   pub AreTables-no_tables : AreTables (no_tables {K = K} {V = V})
-  AreTables-no_tables = AreTables-none no_tables refl (slots_of-none 31)
+  AreTables-no_tables = AreTables-none no_tables refl (slots_of-none TABLES)
 
   nothing : (d j : ℕ) → content_at (no_tables {K = K} {V = V}) d j ≡ IsUnborn
-  nothing d j = ap (λ s. option_map_or (λ (p : Place K V). p.content) (slice_get s j) IsUnborn) (slots_of-none 31 d)
+  nothing d j = ap (λ s. option_map_or (λ (p : Place K V). p.content) (slice_get s j) IsUnborn) (slots_of-none TABLES d)
 
 module _ {K V F S : Type 0} (cmp : K → K → Ordering) (total : IsTotalOrder cmp) (hash : K → ℕ) (lawful : (j k : K) → same cmp j k ≡ true → hash j ≡ hash k) (gives : F → K → V → Option V → Type 0) (hasher : S) (processors : ℕ) where
   -- without a table
   pub new_without : IsWorld cmp hash gives (fresh_world {K = K} {V = V} {F = F} hasher processors None no_tables)
   new_without = record {
     state = ((λ _. 0), subst (Inv cmp hash gives None (λ _. 0)) (sym is) (inv_new cmp total hash lawful gives 0 false (omega arith)));
-    callers = λ p x h. cc;
+    party_records = λ p x h. cc;
     hashed = λ e i b h. absurd (unborn (sym (nothing e i) ∙ h));
-    board = record { published = tt; growth = tt };
+    control_state = record { published = tt; growth = tt };
     tables = AreTables-no_tables;
-    unmade = λ _ e. slots_of-none 31 e;
+    unmade = λ _ e. slots_of-none TABLES e;
     next = λ e u r h. cc;
   }
     where
@@ -75,12 +76,12 @@ module _ {K V F S : Type 0} (cmp : K → K → Ordering) (total : IsTotalOrder c
       }
 
   -- with one table
-  pub new_with : (e : ℕ) → e ≤ 30 → IsWorld cmp hash gives (fresh_world {K = K} {V = V} {F = F} hasher processors (Some e) (with_table no_tables e true))
+  pub new_with : (e : ℕ) → e ≤ GREATEST_TABLE → IsWorld cmp hash gives (fresh_world {K = K} {V = V} {F = F} hasher processors (Some e) (with_table no_tables e true))
   new_with e le = record {
     state = ((λ _. e), subst (Inv cmp hash gives (Some e) (λ _. e)) (sym is) (inv_new cmp total hash lawful gives e true le));
-    callers = λ p x h. cc;
+    party_records = λ p x h. cc;
     hashed = λ d i b h. hashed_in b (e == d && nat_lt i (2 ^ e)) (sym (contents d i) ∙ h);
-    board = record { published = le; growth = tt };
+    control_state = record { published = le; growth = tt };
     tables = AreTables-made no_tables e true AreTables-no_tables le;
     unmade = λ h. cc;
     next = λ d u r _ h. cc;

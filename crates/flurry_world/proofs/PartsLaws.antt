@@ -3,26 +3,27 @@ use Rattle.std.specs.Prelude.{◌≡◌, ◌⊎◌, ℕ, ◌+◌, ◌^◌, ◌�
 use Rattle.std.specs.declared.cmp.Ordering.{Ordering}
 use Rattle.std.proofs.Common.{arith, inl, inr, refl, sym, ◌∙◌, ap, subst}
 use Rattle.flurry_slots.specs.Slot.{Place}
-use Rattle.flurry_steps.specs.Control.{Board}
-use Rattle.flurry_steps.specs.Party.{Stage, AtLocate, AtBin, AtClaim, AtMove, AtUncount, AtCount, AtRecount, AtBegin, AtGrow, AtReserve, AtDone, AtTaken, Course, Part, ControlPart, LookPart, BinPart, MovePart, NoPart, part_of, wanted_part}
+use Rattle.flurry_steps.specs.Control.{ControlState}
+use Rattle.flurry_steps.specs.Party.{Stage, AtLocate, AtBin, AtClaim, AtMove, AtUncount, AtCount, AtRecount, AtBegin, AtGrow, AtReserve, AtDone, AtTaken, PartyState, Part, ControlPart, LookPart, BinPart, MovePart, NoPart, part_of, wanted_part}
 use Rattle.flurry_steps.specs.PartyControl.{ControlStep}
 use Rattle.flurry_steps.specs.Field.{Loan, ControlLoan, StartLoan, LookLoan, BinLoan, MoveLoan, StepWith, Turn}
 use Rattle.flurry_steps.specs.declared.party.Event.{Event}
 use Rattle.flurry_steps.proofs.Rooms.{control_in}
 use Rattle.flurry_world.specs.Tables.{Tables, AreTables, place_at, put_place, PlaceGives}
 use Rattle.flurry_world.specs.Parts.{Parts, IsOwn, IsPart, OwnLends, PartStep, IsThere}
-use Rattle.flurry_world.specs.Steps.{label_of, GoesOn, CourseStep}
+use Rattle.flurry_world.specs.Steps.{label_of, GoesOn, StepByStage}
 use Rattle.flurry_world.proofs.TableLaws.{place_in, index_within}
+use Rattle.flurry_model.specs.declared.sizes.TheConstants.{GREATEST_TABLE}
 
-module _ {K V F : Type 0} (cmp : K → K → Ordering) (changes : F → K → V → Option V → Type 0) (c : Course K V F) (b : Board) (t : Tables K V) (are : AreTables t) (ev : Event) (c' : Course K V F) (b' : Board) (t' : Tables K V) where
+module _ {K V F : Type 0} (cmp : K → K → Ordering) (changes : F → K → V → Option V → Type 0) (c : PartyState K V F) (b : ControlState) (t : Tables K V) (are : AreTables t) (ev : Event) (c' : PartyState K V F) (b' : ControlState) (t' : Tables K V) where
   abbrev pub PartTurn : Type 0
-  PartTurn = Turn PlaceGives cmp changes OwnLends (record { board = b; tables = t }) c ev (record { board = b'; tables = t' }) c'
+  PartTurn = Turn PlaceGives cmp changes OwnLends (record { control_state = b; tables = t }) c ev (record { control_state = b'; tables = t' }) c'
 
   pub turn_of : (a : Part) → wanted_part c ≡ a → PartStep cmp changes a c b t ev c' b' t' → PartTurn
   turn_of ControlPart want h = record { loan = ControlLoan b t b' t'; lent = (tt, (refl, refl)); step = (want, h) }
   turn_of (LookPart e i) want (q, there, inside, h, y, z) = record {
     loan = LookLoan q;
-    lent = (tt, (there_own e i q there, λ j. record { board = y j; tables = z j }));
+    lent = (tt, (there_own e i q there, λ j. record { control_state = y j; tables = z j }));
     step = (want ∙ (λ j. LookPart (sym (are.order e i q there).0 j) (sym (are.order e i q there).1 j)), inside, h);
   }
     where
@@ -33,7 +34,7 @@ module _ {K V F : Type 0} (cmp : K → K → Ordering) (changes : F → K → V 
       by_place : (q.table ≡ e) × (q.index ≡ i) → PartTurn
       by_place (f, g) = record {
         loan = BinLoan q q';
-        lent = (tt, (subst (λ n. place_at t n q.index ≡ Some q) (sym f) (subst (λ n. place_at t e n ≡ Some q) (sym g) there), λ j. record { board = y j; tables = (z ∙ (λ k. put_place t (sym f k) (sym g k) q')) j }));
+        lent = (tt, (subst (λ n. place_at t n q.index ≡ Some q) (sym f) (subst (λ n. place_at t e n ≡ Some q) (sym g) there), λ j. record { control_state = y j; tables = (z ∙ (λ k. put_place t (sym f k) (sym g k) q')) j }));
         step = (want ∙ (λ j. BinPart (sym f j) (sym g j)), inside, h);
       }
   turn_of (MovePart e i) want (q, low, high, q', low', high', there, low_at, high_at, inside, h, y, z) = by_place (are.order e i q there)
@@ -47,7 +48,7 @@ module _ {K V F : Type 0} (cmp : K → K → Ordering) (changes : F → K → V 
             subst (λ n. place_at t n q.index ≡ Some q) (sym f) (subst (λ n. place_at t e n ≡ Some q) (sym g) there),
             subst (λ n. place_at t (n + 1) q.index ≡ Some low) (sym f) (subst (λ n. place_at t (e + 1) n ≡ Some low) (sym g) low_at),
             subst (λ n. place_at t (n + 1) (q.index + 2 ^ n) ≡ Some high) (sym f) (subst (λ n. place_at t (e + 1) (n + 2 ^ e) ≡ Some high) (sym g) high_at),
-            λ j. record { board = y j; tables = (z ∙ (λ k. put_place (put_place (put_place t (sym f k) (sym g k) q') (sym f k + 1) (sym g k) low') (sym f k + 1) (sym g k + 2 ^ sym f k) high')) j },
+            λ j. record { control_state = y j; tables = (z ∙ (λ k. put_place (put_place (put_place t (sym f k) (sym g k) q') (sym f k + 1) (sym g k) low') (sym f k + 1) (sym g k + 2 ^ sym f k) high')) j },
           ),
         );
         step = (want ∙ (λ j. MovePart (sym f j) (sym g j)), inside, h);
@@ -55,7 +56,7 @@ module _ {K V F : Type 0} (cmp : K → K → Ordering) (changes : F → K → V 
   turn_of NoPart want h = absurd h
 
 -- the greatest table has no halves, and neither has a slot past the table's end
-pub no_halves : {K V : Type 0} (t : Tables K V) (e i : ℕ) → AreTables t → (30 ≤ e) ⊎ (2 ^ e ≤ i) → IsThere t (MovePart e i) → ⊥
+pub no_halves : {K V : Type 0} (t : Tables K V) (e i : ℕ) → AreTables t → (GREATEST_TABLE ≤ e) ⊎ (2 ^ e ≤ i) → IsThere t (MovePart e i) → ⊥
 no_halves {K} {V} t e i are (inl far) (here, low, high) = by_place (place_at t (e + 1) i) refl low
   where
     by_place : (o : Option (Place K V)) → place_at t (e + 1) i ≡ o → IsSome o → ⊥
@@ -69,28 +70,28 @@ no_halves {K} {V} t e i are (inr past) (here, low, high) = by_place (place_at t 
 
 -- ---- a turn over parts, as a step at these
 
-module _ {K V F R : Type 0} (place : R → ℕ → Bool → Bool → R → Type 0) (cmp : K → K → Ordering) (changes : F → K → V → Option V → Type 0) (room : R → Tables K V) (places : (r : R) (e : ℕ) (live ok : Bool) (r' : R) → place r e live ok r' → PlaceGives (room r) e live ok (room r')) (s s' : Parts K V) (c c' : Course K V F) (ev : Event) where
+module _ {K V F R : Type 0} (place : R → ℕ → Bool → Bool → R → Type 0) (cmp : K → K → Ordering) (changes : F → K → V → Option V → Type 0) (room : R → Tables K V) (places : (r : R) (e : ℕ) (live ok : Bool) (r' : R) → place r e live ok r' → PlaceGives (room r) e live ok (room r')) (s s' : Parts K V) (c c' : PartyState K V F) (ev : Event) where
   -- a step with the loan of a part that is one of these
-  pub own_part : (l : Loan K V R) → IsPart l → IsOwn room s l s' → StepWith place cmp changes l c ev c' → PartStep cmp changes (wanted_part c) c s.board s.tables ev c' s'.board s'.tables
-  own_part (ControlLoan b r b' r') i (x, y) (want, h) = subst (λ z. PartStep cmp changes z c s.board s.tables ev c' s'.board s'.tables) (sym want)
-      (subst (λ z. ControlStep PlaceGives c z.board z.tables ev c' s'.board s'.tables) (sym x) (subst (λ z. ControlStep PlaceGives c b (room r) ev c' z.board z.tables) (sym y) (control_in place PlaceGives room places c b r ev c' b' r' h)))
+  pub own_part : (l : Loan K V R) → IsPart l → IsOwn room s l s' → StepWith place cmp changes l c ev c' → PartStep cmp changes (wanted_part c) c s.control_state s.tables ev c' s'.control_state s'.tables
+  own_part (ControlLoan b r b' r') i (x, y) (want, h) = subst (λ z. PartStep cmp changes z c s.control_state s.tables ev c' s'.control_state s'.tables) (sym want)
+      (subst (λ z. ControlStep PlaceGives c z.control_state z.tables ev c' s'.control_state s'.tables) (sym x) (subst (λ z. ControlStep PlaceGives c b (room r) ev c' z.control_state z.tables) (sym y) (control_in place PlaceGives room places c b r ev c' b' r' h)))
   own_part (StartLoan d) i x h = absurd i
-  own_part (LookLoan q) i (x, y) (want, inside, h) = subst (λ z. PartStep cmp changes z c s.board s.tables ev c' s'.board s'.tables) (sym want) (q, x, inside, h, ap (λ z. z.board) y, ap (λ z. z.tables) y)
-  own_part (BinLoan q q') i (x, y) (want, inside, h) = subst (λ z. PartStep cmp changes z c s.board s.tables ev c' s'.board s'.tables) (sym want) (q, q', x, inside, h, ap (λ z. z.board) y, ap (λ z. z.tables) y)
-  own_part (MoveLoan q low high q' low' high') i (x, xl, xh, y) (want, inside, h) = subst (λ z. PartStep cmp changes z c s.board s.tables ev c' s'.board s'.tables) (sym want) (q, low, high, q', low', high', x, xl, xh, inside, h, ap (λ z. z.board) y, ap (λ z. z.tables) y)
+  own_part (LookLoan q) i (x, y) (want, inside, h) = subst (λ z. PartStep cmp changes z c s.control_state s.tables ev c' s'.control_state s'.tables) (sym want) (q, x, inside, h, ap (λ z. z.control_state) y, ap (λ z. z.tables) y)
+  own_part (BinLoan q q') i (x, y) (want, inside, h) = subst (λ z. PartStep cmp changes z c s.control_state s.tables ev c' s'.control_state s'.tables) (sym want) (q, q', x, inside, h, ap (λ z. z.control_state) y, ap (λ z. z.tables) y)
+  own_part (MoveLoan q low high q' low' high') i (x, xl, xh, y) (want, inside, h) = subst (λ z. PartStep cmp changes z c s.control_state s.tables ev c' s'.control_state s'.tables) (sym want) (q, low, high, q', low', high', x, xl, xh, inside, h, ap (λ z. z.control_state) y, ap (λ z. z.tables) y)
 
-module _ {K V F : Type 0} (cmp : K → K → Ordering) (changes : F → K → V → Option V → Type 0) (p : ℕ) (c : Course K V F) (s : Parts K V) (ev : Event) (s' : Parts K V) (c' : Course K V F) where
+module _ {K V F : Type 0} (cmp : K → K → Ordering) (changes : F → K → V → Option V → Type 0) (p : ℕ) (c : PartyState K V F) (s : Parts K V) (ev : Event) (s' : Parts K V) (c' : PartyState K V F) where
   -- a turn over one owner's parts is what a world does in one step of a party
-  pub course_step : Turn PlaceGives cmp changes OwnLends s c ev s' c' → CourseStep cmp changes p c.stage c s.board s.tables (label_of p ev c'.stage) c' s'.board s'.tables
+  pub course_step : Turn PlaceGives cmp changes OwnLends s c ev s' c' → StepByStage cmp changes p c.stage c s.control_state s.tables (label_of p ev c'.stage) c' s'.control_state s'.tables
   course_step turn = by_stage c.stage refl
     where
-      part : PartStep cmp changes (wanted_part c) c s.board s.tables ev c' s'.board s'.tables
+      part : PartStep cmp changes (wanted_part c) c s.control_state s.tables ev c' s'.control_state s'.tables
       part = own_part PlaceGives cmp changes (λ r. r) (λ r e live ok r' h. h) s s' c c' ev turn.loan turn.lent.0 turn.lent.1 turn.step
 
-      going : GoesOn cmp changes p c s.board s.tables (label_of p ev c'.stage) c' s'.board s'.tables
+      going : GoesOn cmp changes p c s.control_state s.tables (label_of p ev c'.stage) c' s'.control_state s'.tables
       going = record { event = ev; part = part; label_is = refl }
 
-      by_stage : (u : Stage K V F) → c.stage ≡ u → CourseStep cmp changes p u c s.board s.tables (label_of p ev c'.stage) c' s'.board s'.tables
+      by_stage : (u : Stage K V F) → c.stage ≡ u → StepByStage cmp changes p u c s.control_state s.tables (label_of p ev c'.stage) c' s'.control_state s'.tables
       by_stage (AtLocate t) e = going
       by_stage (AtBin t n) e = going
       by_stage (AtClaim a) e = going
@@ -101,8 +102,8 @@ module _ {K V F : Type 0} (cmp : K → K → Ordering) (changes : F → K → V 
       by_stage (AtBegin n r) e = going
       by_stage (AtGrow w g) e = going
       by_stage (AtReserve a) e = going
-      by_stage (AtDone r) e = absurd (subst (λ z. PartStep cmp changes (part_of c.hash z) c s.board s.tables ev c' s'.board s'.tables) e part)
-      by_stage AtTaken e = absurd (subst (λ z. PartStep cmp changes (part_of c.hash z) c s.board s.tables ev c' s'.board s'.tables) e part)
+      by_stage (AtDone r) e = absurd (subst (λ z. PartStep cmp changes (part_of c.hash z) c s.control_state s.tables ev c' s'.control_state s'.tables) e part)
+      by_stage AtTaken e = absurd (subst (λ z. PartStep cmp changes (part_of c.hash z) c s.control_state s.tables ev c' s'.control_state s'.tables) e part)
 
 -- the index of a slot that is there
 pub index_there : {K V : Type 0} (t : Tables K V) (e i : ℕ) → AreTables t → is_some (place_at t e i) ≡ true → i < 2 ^ e

@@ -1,4 +1,4 @@
--- Each step of a party at the part that it wants is a line of the machine.
+-- Each step of a party at the part that it wants is a transition of the machine.
 use Rattle.std.specs.Prelude.{ℕ, ◌^◌, ◌%◌, ◌==◌, ◌&&◌, Bool, true, false, slice_get, Option, Some, None, is_some, if◌then◌else◌, ◌≡◌}
 use Rattle.std.specs.declared.cmp.Ordering.{Ordering}
 use Rattle.std.specs.Cmp.{IsTotalOrder}
@@ -6,8 +6,8 @@ use Rattle.std.proofs.Common.{refl, sym, ap, subst, inl, inr}
 use Rattle.std.proofs.lemmas.Bool.{eqb-true, and_parts}
 use Rattle.flurry_slots.specs.Slot.{Place, IsSlot, IsContent}
 use Rattle.flurry_steps.specs.Claim.{Range, next_of}
-use Rattle.flurry_steps.specs.Control.{Board}
-use Rattle.flurry_steps.specs.Party.{Task, Finds, Removes, Inserts, Adds, Computes, After, Stage, AtLocate, AtBin, AtClaim, AtMove, AtUncount, AtCount, AtRecount, AtBegin, AtGrow, AtReserve, AtDone, AtTaken, Course, part_of, ControlPart, LookPart, BinPart, wanted_part, move_part}
+use Rattle.flurry_steps.specs.Control.{ControlState}
+use Rattle.flurry_steps.specs.Party.{Task, Finds, Removes, Inserts, Adds, Computes, Resume, Stage, AtLocate, AtBin, AtClaim, AtMove, AtUncount, AtCount, AtRecount, AtBegin, AtGrow, AtReserve, AtDone, AtTaken, PartyState, part_of, ControlPart, LookPart, BinPart, wanted_part, move_part}
 use Rattle.flurry_steps.specs.PartyControl.{StageAtControl, ControlStep}
 use Rattle.flurry_steps.specs.PartySlots.{SlotStep, MoveGives, StageAtSlot}
 use Rattle.flurry_steps.specs.declared.party.Event.{Event}
@@ -15,7 +15,7 @@ use Rattle.flurry_steps.specs.declared.party.Event.TheVariants as event
 use Rattle.flurry_theory.specs.Map.{same}
 use Rattle.flurry_world.specs.Tables.{Tables, AreTables, place_at, content_at, put_place, PlaceGives}
 use Rattle.flurry_world.specs.Parts.{PartStep}
-use Rattle.flurry_world.specs.World.{Caller, Shown, Near, FollowsStage, IsWorld}
+use Rattle.flurry_world.specs.World.{PartyRecord, WorldState, Near, FollowsStage, IsWorld}
 use Rattle.flurry_world.specs.Steps.{label_of}
 use Rattle.flurry_world.proofs.TableLaws.{content_of_place, AreTables-put, length_of_put_slots}
 use Rattle.flurry_world.proofs.HomeLaws.{put_content}
@@ -44,16 +44,16 @@ module _ {K V : Type 0} where
     unmade = λ d h. no_slots _ _ (sym (length_of_put_slots t e i q' d)) h;
   }
 
-module _ {K V F S : Type 0} (cmp : K → K → Ordering) (total : IsTotalOrder cmp) (hash : K → ℕ) (lawful : (j k : K) → same cmp j k ≡ true → hash j ≡ hash k) (gives : F → K → V → Option V → Type 0) (w : Shown K V F S) (k : IsWorld cmp hash gives w) (near : Near (2 ^ 62) w.board.count) (p : ℕ) (x : Caller K V F) (at : slice_get w.callers p ≡ Some x) (c : Course K V F) (ev : Event) (b : Board) (t' : Tables K V) where
+module _ {K V F S : Type 0} (cmp : K → K → Ordering) (total : IsTotalOrder cmp) (hash : K → ℕ) (lawful : (j k : K) → same cmp j k ≡ true → hash j ≡ hash k) (gives : F → K → V → Option V → Type 0) (w : WorldState K V F S) (k : IsWorld cmp hash gives w) (near : Near (2 ^ 62) w.control_state.count) (p : ℕ) (x : PartyRecord K V F) (at : slice_get w.party_records p ≡ Some x) (c : PartyState K V F) (ev : Event) (b : ControlState) (t' : Tables K V) where
   -- the step, and that the hash stays
   pub record Taken : Type 0 where
-    pub hash_stays : c.hash ≡ x.course.hash
+    pub hash_stays : c.hash ≡ x.party_state.hash
     pub step : IsStep cmp hash gives w p x b t' c (label_of p ev c.stage)
 
-  follows : FollowsStage x.call x.course.stage
-  follows = (k.callers p x at).stage
+  follows : FollowsStage x.call x.party_state.stage
+  follows = (k.party_records p x at).stage
 
-  at_control : (s : Stage K V F) → x.course.stage ≡ s → part_of x.course.hash s ≡ ControlPart → StageAtControl PlaceGives x.course.processors s w.board w.tables ev c.stage b t' → IsStep cmp hash gives w p x b t' c (label_of p ev c.stage)
+  at_control : (s : Stage K V F) → x.party_state.stage ≡ s → part_of x.party_state.hash s ≡ ControlPart → StageAtControl PlaceGives x.party_state.processors s w.control_state w.tables ev c.stage b t' → IsStep cmp hash gives w p x b t' c (label_of p ev c.stage)
   at_control (AtLocate t) e q h = locates cmp total hash lawful gives w k p x at c ev b t' t e (subst (FollowsStage x.call) e follows) h
   at_control (AtBin t n) e q h = absurd h
   at_control (AtClaim a) e q h = claims_bins cmp total hash lawful gives w k p x at c ev b t' a e (subst (FollowsStage x.call) e follows) h
@@ -71,34 +71,34 @@ module _ {K V F S : Type 0} (cmp : K → K → Ordering) (total : IsTotalOrder c
   at_control (AtDone r) e q h = absurd h
   at_control AtTaken e q h = absurd h
 
-  control_step : (s : Stage K V F) → x.course.stage ≡ s → part_of x.course.hash s ≡ ControlPart → ControlStep PlaceGives x.course w.board w.tables ev c b t' → Taken
-  control_step s e q h = record { hash_stays = h.hash; step = at_control s e q (subst (λ z. StageAtControl PlaceGives x.course.processors z w.board w.tables ev c.stage b t') e h.step) }
+  control_step : (s : Stage K V F) → x.party_state.stage ≡ s → part_of x.party_state.hash s ≡ ControlPart → ControlStep PlaceGives x.party_state w.control_state w.tables ev c b t' → Taken
+  control_step s e q h = record { hash_stays = h.hash; step = at_control s e q (subst (λ z. StageAtControl PlaceGives x.party_state.processors z w.control_state w.tables ev c.stage b t') e h.step) }
 
   -- at its bin, to read or to write it
-  module _ (t : Task K V F) (n : ℕ) (e : x.course.stage ≡ AtBin t n) where
-    slot_step : (q q' : Place K V) → place_at w.tables n (x.course.hash % 2 ^ n) ≡ Some q → IsSlot cmp q → SlotStep cmp gives x.course q ev c q' → b ≡ w.board → Put w.tables n (x.course.hash % 2 ^ n) q'.content t' → Taken
+  module _ (t : Task K V F) (n : ℕ) (e : x.party_state.stage ≡ AtBin t n) where
+    slot_step : (q q' : Place K V) → place_at w.tables n (x.party_state.hash % 2 ^ n) ≡ Some q → IsSlot cmp q → SlotStep cmp gives x.party_state q ev c q' → b ≡ w.control_state → Put w.tables n (x.party_state.hash % 2 ^ n) q'.content t' → Taken
     slot_step q q' there inside h y put = record {
       hash_stays = h.hash;
       step = subst (λ z. IsStep cmp hash gives w p x z t' c (label_of p ev c.stage)) (sym y)
-          (at_bin_step cmp total hash lawful gives w k p x at c t n e (subst (FollowsStage x.call) e follows) q (content_of_place w.tables n (x.course.hash % 2 ^ n) q there)
-          (let is = k.tables.order n (x.course.hash % 2 ^ n) q there in subst (λ z. IsContent cmp z (x.course.hash % 2 ^ n) q.content) is.0 (subst (λ z. IsContent cmp q.table z q.content) is.1 inside.content))
-          ev q'.content t' put (subst (λ z. StageAtSlot cmp gives x.course.hash z q.content ev c.stage q'.content) e h.step));
+          (at_bin_step cmp total hash lawful gives w k p x at c t n e (subst (FollowsStage x.call) e follows) q (content_of_place w.tables n (x.party_state.hash % 2 ^ n) q there)
+          (let is = k.tables.order n (x.party_state.hash % 2 ^ n) q there in subst (λ z. IsContent cmp z (x.party_state.hash % 2 ^ n) q.content) is.0 (subst (λ z. IsContent cmp q.table z q.content) is.1 inside.content))
+          ev q'.content t' put (subst (λ z. StageAtSlot cmp gives x.party_state.hash z q.content ev c.stage q'.content) e h.step));
     }
 
-    looks : PartStep cmp gives (LookPart n (x.course.hash % 2 ^ n)) x.course w.board w.tables ev c b t' → Taken
-    looks (q, there, inside, h, y, z) = slot_step q q there inside h y (subst (λ u. Put w.tables n (x.course.hash % 2 ^ n) q.content u) (sym z) (put_same w.tables n (x.course.hash % 2 ^ n) q k.tables there))
+    looks : PartStep cmp gives (LookPart n (x.party_state.hash % 2 ^ n)) x.party_state w.control_state w.tables ev c b t' → Taken
+    looks (q, there, inside, h, y, z) = slot_step q q there inside h y (subst (λ u. Put w.tables n (x.party_state.hash % 2 ^ n) q.content u) (sym z) (put_same w.tables n (x.party_state.hash % 2 ^ n) q k.tables there))
 
-    writes : PartStep cmp gives (BinPart n (x.course.hash % 2 ^ n)) x.course w.board w.tables ev c b t' → Taken
-    writes (q, q', there, inside, h, y, z) = slot_step q q' there inside h y (subst (λ u. Put w.tables n (x.course.hash % 2 ^ n) q'.content u) (sym z) (put_other w.tables n (x.course.hash % 2 ^ n) q q' k.tables there h.table h.index))
+    writes : PartStep cmp gives (BinPart n (x.party_state.hash % 2 ^ n)) x.party_state w.control_state w.tables ev c b t' → Taken
+    writes (q, q', there, inside, h, y, z) = slot_step q q' there inside h y (subst (λ u. Put w.tables n (x.party_state.hash % 2 ^ n) q'.content u) (sym z) (put_other w.tables n (x.party_state.hash % 2 ^ n) q q' k.tables there h.table h.index))
 
-  moves : (m : Range) (a : After K V F) → x.course.stage ≡ AtMove m a → (o : Option (ℕ × ℕ)) → next_of m ≡ o → PartStep cmp gives (move_part o) x.course w.board w.tables ev c b t' → Taken
+  moves : (m : Range) (a : Resume K V F) → x.party_state.stage ≡ AtMove m a → (o : Option (ℕ × ℕ)) → next_of m ≡ o → PartStep cmp gives (move_part o) x.party_state w.control_state w.tables ev c b t' → Taken
   moves m a e None q h = control_step (AtMove m a) e (ap move_part q) h
   moves m a e (Some d) q (old, low, high, old', low', high', old_at, low_at, high_at, inside, h, y, z) = record {
     hash_stays = hash_of_move ev h.step;
     step = at_move cmp total hash lawful gives w k p x at c m a e (subst (FollowsStage x.call) e follows) d.0 d.1 q old low high old_at low_at high_at inside old' low' high' ev b t' h.step y z;
   }
     where
-      hash_of_move : (v : Event) → MoveGives x.course old low high v c old' low' high' → c.hash ≡ x.course.hash
+      hash_of_move : (v : Event) → MoveGives x.party_state old low high v c old' low' high' → c.hash ≡ x.party_state.hash
       hash_of_move (event.Moved g j) u = ap (λ r. r.hash) u.3
       hash_of_move event.Silent (_, _, _, inl (moved, u)) = ap (λ r. r.hash) u
       hash_of_move event.Silent (_, _, _, inr (clash, u)) = ap (λ r. r.hash) u
@@ -108,7 +108,7 @@ module _ {K V F S : Type 0} (cmp : K → K → Ordering) (total : IsTotalOrder c
       hash_of_move (event.Placed g) u = absurd u
       hash_of_move (event.Published g) u = absurd u
 
-  by_stage : (s : Stage K V F) → x.course.stage ≡ s → PartStep cmp gives (part_of x.course.hash s) x.course w.board w.tables ev c b t' → Taken
+  by_stage : (s : Stage K V F) → x.party_state.stage ≡ s → PartStep cmp gives (part_of x.party_state.hash s) x.party_state w.control_state w.tables ev c b t' → Taken
   by_stage (AtLocate t) e h = control_step (AtLocate t) e refl h
   by_stage (AtBin (Finds y j) n) e h = looks (Finds y j) n e h
   by_stage (AtBin (Removes y j) n) e h = writes (Removes y j) n e h
@@ -126,5 +126,5 @@ module _ {K V F S : Type 0} (cmp : K → K → Ordering) (total : IsTotalOrder c
   by_stage (AtDone r) e h = absurd h
   by_stage AtTaken e h = absurd h
 
-  pub taken : PartStep cmp gives (wanted_part x.course) x.course w.board w.tables ev c b t' → Taken
-  taken h = by_stage x.course.stage refl h
+  pub taken : PartStep cmp gives (wanted_part x.party_state) x.party_state w.control_state w.tables ev c b t' → Taken
+  taken h = by_stage x.party_state.stage refl h

@@ -2,10 +2,10 @@
 use Rattle.std.specs.Prelude.{ℕ, suc, List, [], ◌∷◌, ◌++◌, All, Option, Result, Ok, Err, OnErr}
 use Rattle.std.specs.declared.cmp.Ordering.{Ordering}
 use Rattle.std.proofs.Common.{arith, refl, subst}
-use Rattle.flurry_world.specs.World.{Shown}
-use Rattle.flurry_steps.specs.PartyView.{KeptIsReady}
-use Rattle.flurry_steps.specs.declared.party.call.KeptCall.{KeptCall}
-use Rattle.flurry_steps.specs.declared.party.call.KeptCall.TheVariants as kept
+use Rattle.flurry_world.specs.World.{WorldState}
+use Rattle.flurry_steps.specs.PartyView.{OwnedIsReady}
+use Rattle.flurry_steps.specs.declared.party.call.OwnedCall.{OwnedCall}
+use Rattle.flurry_steps.specs.declared.party.call.OwnedCall.TheVariants as owned
 use Rattle.flurry_world.specs.Runs.{DoesStep, Runs, StepIsReady}
 use Rattle.flurry_world.specs.declared.world.Step.{Step}
 use Rattle.flurry_world.specs.declared.world.Step.TheVariants as step
@@ -17,7 +17,7 @@ on_err (Err e) P p = p
 
 module _ {K V F S : Type 0} (cmp : K → K → Ordering) (hash : K → ℕ) (changes : F → K → V → Option V → Type 0) where
   -- one step more
-  pub runs_more : (front : List (Step K V F)) (w v u : Shown K V F S) (s : Step K V F) → Runs cmp hash changes front w v → DoesStep cmp hash changes s v u → Runs cmp hash changes (front ++ s ∷ []) w u
+  pub runs_more : (front : List (Step K V F)) (w v u : WorldState K V F S) (s : Step K V F) → Runs cmp hash changes front w v → DoesStep cmp hash changes s v u → Runs cmp hash changes (front ++ s ∷ []) w u
   runs_more [] w v u s ran does = (u, subst (λ z. DoesStep cmp hash changes s z u) ran does, refl)
   runs_more (t ∷ front) w v u s (m, first, rest) does = (m, first, runs_more front m v u s rest does)
 
@@ -30,16 +30,16 @@ module _ {X : Type 0} (P : X → Type 0) (x : X) (xs : List X) (all : All P (x �
   all_tail k d h = all (suc k) d (omega (arith, h))
 
 module _ {K V F : Type 0} (ready : F → Type 0) (each : (f : F) → ready f) where
-  kept_ready : (c : KeptCall K V F) → KeptIsReady ready c
-  kept_ready (kept.Get k) = tt
-  kept_ready (kept.GetKeyValue k) = tt
-  kept_ready (kept.ContainsKey k) = tt
-  kept_ready (kept.Remove k) = tt
-  kept_ready (kept.RemoveEntry k) = tt
-  kept_ready (kept.Insert k v) = tt
-  kept_ready (kept.TryInsert k v) = tt
-  kept_ready (kept.Compute k f) = each f
-  kept_ready (kept.Reserve n) = tt
+  kept_ready : (c : OwnedCall K V F) → OwnedIsReady ready c
+  kept_ready (owned.Get k) = tt
+  kept_ready (owned.GetKeyValue k) = tt
+  kept_ready (owned.ContainsKey k) = tt
+  kept_ready (owned.Remove k) = tt
+  kept_ready (owned.RemoveEntry k) = tt
+  kept_ready (owned.Insert k v) = tt
+  kept_ready (owned.TryInsert k v) = tt
+  kept_ready (owned.Compute k f) = each f
+  kept_ready (owned.Reserve n) = tt
 
   -- where each function may be called, each step may be done
   pub step_ready : (s : Step K V F) → StepIsReady ready s

@@ -6,7 +6,7 @@ use Rattle.std.proofs.Common.{arith, refl, sym, ◌∙◌, ap, subst}
 use Rattle.std.proofs.lemmas.Bool.{eqb-true}
 use Rattle.flurry_slots.specs.Slot as slots
 use Rattle.flurry_slots.specs.Slot.{Place, Content, IsLive, HasMoved, IsUnborn, IsSlot, IsLiveIn, IsContent}
-use Rattle.flurry_steps.specs.Party.{Task, AtBin, Course, said_in}
+use Rattle.flurry_steps.specs.Party.{Task, AtBin, PartyState, outcome_in}
 use Rattle.flurry_steps.specs.PartySlots as party
 use Rattle.flurry_steps.specs.PartySlots.{DecidesAt, LiveGives, ContentGives, stage_moved}
 use Rattle.flurry_steps.specs.declared.party.Event.{Event}
@@ -14,14 +14,14 @@ use Rattle.flurry_steps.specs.declared.party.Event.TheVariants as event
 use Rattle.flurry_theory.specs.Map.{same, key_of}
 use Rattle.flurry_theory.specs.Machine.{Live, Looking, Decides, Passes, IsRefused, RefusedAt, at_bin}
 use Rattle.flurry_theory.specs.Invariant.{is_live, key_in, writes_in, Named}
-use Rattle.flurry_theory.proofs.Named.{looks_at}
+use Rattle.flurry_theory.proofs.NoUnbornBin.{looks_at}
 use Rattle.flurry_world.specs.Entries.{slot_of, entries_of_held, Hashed}
 use Rattle.flurry_world.specs.Tables.{Tables, AreTables, slots_of, content_at}
-use Rattle.flurry_world.specs.World.{Caller, Shown, state_of, task_of_call, mode_of_stage, claim_of_stage, FollowsStage, IsWorld}
+use Rattle.flurry_world.specs.World.{PartyRecord, WorldState, state_of, task_of_call, mode_of_stage, claim_of_stage, FollowsStage, IsWorld}
 use Rattle.flurry_world.specs.Steps.{label_of, decide_label}
 use Rattle.flurry_world.proofs.CallLaws.{key_of_task}
 use Rattle.flurry_world.proofs.DecisionLaws.{Decision, decides, refused, moved_mode, moved_claim, moved_follows}
-use Rattle.flurry_world.proofs.LineLaws.{is_decided, is_passed, is_refused}
+use Rattle.flurry_world.proofs.TransitionLaws.{is_decided, is_passed, is_refused}
 use Rattle.flurry_world.proofs.PlaceLaws.{same_live}
 use Rattle.flurry_world.proofs.HomeLaws.{at_home}
 use Rattle.flurry_world.proofs.Frames.{same_frame, IsStep}
@@ -34,8 +34,8 @@ pub record Put {K V : Type 0} (t : Tables K V) (e i : ℕ) (c : Content K V) (t'
   pub made : (d : ℕ) → slots_of t' d ≡ [] → slots_of t d ≡ []
   pub unmade : (d : ℕ) → slots_of t d ≡ [] → slots_of t' d ≡ []
 
-module _ {K V F S : Type 0} (cmp : K → K → Ordering) (total : IsTotalOrder cmp) (hash : K → ℕ) (lawful : (j k : K) → same cmp j k ≡ true → hash j ≡ hash k) (gives : F → K → V → Option V → Type 0) (w : Shown K V F S) (k : IsWorld cmp hash gives w) (p : ℕ) (x : Caller K V F) (at : slice_get w.callers p ≡ Some x) (c : Course K V F) where
-  module _ (t : Task K V F) (e : ℕ) (f : x.course.stage ≡ AtBin t e) (task : task_of_call x.call ≡ Some t) (q : Place K V) (here : content_at w.tables e (x.course.hash % 2 ^ e) ≡ q.content) (inside : IsContent cmp e (x.course.hash % 2 ^ e) q.content) where
+module _ {K V F S : Type 0} (cmp : K → K → Ordering) (total : IsTotalOrder cmp) (hash : K → ℕ) (lawful : (j k : K) → same cmp j k ≡ true → hash j ≡ hash k) (gives : F → K → V → Option V → Type 0) (w : WorldState K V F S) (k : IsWorld cmp hash gives w) (p : ℕ) (x : PartyRecord K V F) (at : slice_get w.party_records p ≡ Some x) (c : PartyState K V F) where
+  module _ (t : Task K V F) (e : ℕ) (f : x.party_state.stage ≡ AtBin t e) (task : task_of_call x.call ≡ Some t) (q : Place K V) (here : content_at w.tables e (x.party_state.hash % 2 ^ e) ≡ q.content) (inside : IsContent cmp e (x.party_state.hash % 2 ^ e) q.content) where
     looking : (state_of w).mode p ≡ Looking e
     looking = in_mode cmp total hash lawful gives w k p x at c (AtBin t e) f
 
@@ -45,39 +45,39 @@ module _ {K V F S : Type 0} (cmp : K → K → Ordering) (total : IsTotalOrder c
     of_call : (state_of w).call p ≡ Some x.call
     of_call = calls cmp total hash lawful gives w k p x at c
 
-    made_from : (is_some w.board.published ≡ true) × ((state_of w).start ≤ e)
-    made_from = let n = subst (λ m. Named hash (is_some w.board.published) k.state.0 (state_of w).start ((state_of w).call p) m) looking (k.state.1.named p) in (n.0, n.1)
+    made_from : (is_some w.control_state.published ≡ true) × ((state_of w).start ≤ e)
+    made_from = let n = subst (λ m. Named hash (is_some w.control_state.published) k.state.0 (state_of w).start ((state_of w).call p) m) looking (k.state.1.named p) in (n.0, n.1)
 
     -- the bin that it decides at
-    decides_live : (j : K) (b d : slots.Live K V) (t' : Tables K V) → key_of x.call ≡ Some j → q.content ≡ IsLive b → DecidesAt cmp gives x.course.hash t e b c.stage d → Put w.tables e (x.course.hash % 2 ^ e) (IsLive d) t' → IsStep cmp hash gives w p x w.board t' c (decide_label p (said_in c.stage))
-    decides_live j b d t' key live did put = subst (λ z. IsStep cmp hash gives w p x w.board t' c (decide_label p z)) (sym decision.said) (record {
+    decides_live : (j : K) (b d : slots.Live K V) (t' : Tables K V) → key_of x.call ≡ Some j → q.content ≡ IsLive b → DecidesAt cmp gives x.party_state.hash t e b c.stage d → Put w.tables e (x.party_state.hash % 2 ^ e) (IsLive d) t' → IsStep cmp hash gives w p x w.control_state t' c (decide_label p (outcome_in c.stage))
+    decides_live j b d t' key live did put = subst (λ z. IsStep cmp hash gives w p x w.control_state t' c (decide_label p z)) (sym decision.said) (record {
       line = Decides x.call j e (entries_of_held b.held) b.writes decision.reply (entries_of_held d.held) d.writes;
       can = (of_call, key, looking, free, at_slot, decision.did, decision.in_region);
       is = is_decided cmp hash gives w p x at c x.call j e (entries_of_held b.held) b.writes decision.reply (entries_of_held d.held) d.writes t' slots_after decision.mode (decision.claim ∙ sym (ap claim_of_stage f));
       follows = decision.follows;
       frame = record {
-        hashed = λ g i l h. hashed_in g i l (e == g && x.course.hash % 2 ^ e == i) (sym (put.contents g i) ∙ h);
-        board = k.board;
+        hashed = λ g i l h. hashed_in g i l (e == g && x.party_state.hash % 2 ^ e == i) (sym (put.contents g i) ∙ h);
+        control_state = k.control_state;
         tables = put.tables;
         unmade = λ h g. put.unmade g (k.unmade h g);
         next = λ g u r h s z. k.next g u r h s (put.made (suc g) z);
       };
     })
       where
-        own : x.course.hash ≡ hash j
-        own = (k.callers p x at).own_hash j key
+        own : x.party_state.hash ≡ hash j
+        own = (k.party_records p x at).own_hash j key
 
-        index : x.course.hash % 2 ^ e ≡ hash j % 2 ^ e
+        index : x.party_state.hash % 2 ^ e ≡ hash j % 2 ^ e
         index = ap (λ n. n % 2 ^ e) own
 
         at_slot : (state_of w).slot e (hash j % 2 ^ e) ≡ Live (entries_of_held b.held) b.writes
         at_slot = ap (λ n. slot_of (content_at w.tables e n)) (sym index) ∙ ap slot_of (here ∙ live)
 
-        held : IsLiveIn cmp e (x.course.hash % 2 ^ e) b
-        held = subst (IsContent cmp e (x.course.hash % 2 ^ e)) live inside
+        held : IsLiveIn cmp e (x.party_state.hash % 2 ^ e) b
+        held = subst (IsContent cmp e (x.party_state.hash % 2 ^ e)) live inside
 
         hashes : Hashed hash b.held
-        hashes = k.hashed e (x.course.hash % 2 ^ e) b (here ∙ live)
+        hashes = k.hashed e (x.party_state.hash % 2 ^ e) b (here ∙ live)
 
         homed : k.state.0 (hash j) ≡ e
         homed = at_home cmp hash k.state.0 (state_of w) (hash j) e k.state.1.tables made_from.0 made_from.1 (ap is_live at_slot)
@@ -90,7 +90,7 @@ module _ {K V F S : Type 0} (cmp : K → K → Ordering) (total : IsTotalOrder c
         decision = decides cmp total hash lawful gives b e (hash j % 2 ^ e) held.ascends hashes room (subst (λ n. slots.IsLiveIn cmp e n b) index held).region x.call t j c.stage d task key refl (subst (λ n. DecidesAt cmp gives n t e b c.stage d) own did)
 
         slots_after : (g i : ℕ) → slot_of (content_at t' g i) ≡ at_bin (state_of w).slot e (hash j % 2 ^ e) (Live (entries_of_held d.held) d.writes) g i
-        slots_after g i = ap slot_of (put.contents g i) ∙ through (e == g && x.course.hash % 2 ^ e == i) ∙ ap (λ n. at_bin (state_of w).slot e n (Live (entries_of_held d.held) d.writes) g i) index
+        slots_after g i = ap slot_of (put.contents g i) ∙ through (e == g && x.party_state.hash % 2 ^ e == i) ∙ ap (λ n. at_bin (state_of w).slot e n (Live (entries_of_held d.held) d.writes) g i) index
           where
             through : (b : Bool) → slot_of (if b then IsLive d else content_at w.tables g i) ≡ (if b then Live (entries_of_held d.held) d.writes else slot_of (content_at w.tables g i))
             through true = refl
@@ -100,8 +100,8 @@ module _ {K V F S : Type 0} (cmp : K → K → Ordering) (total : IsTotalOrder c
         hashed_in g i l true h = subst (λ z. Hashed hash z.held) (same_live h) decision.hashed
         hashed_in g i l false h = k.hashed g i l h
 
-    module _ (ev : Event) (content : Content K V) (t' : Tables K V) (put : Put w.tables e (x.course.hash % 2 ^ e) content t') where
-      nothing_changed : content ≡ q.content → IsStep cmp hash gives w p x w.board w.tables c (label_of p ev c.stage) → IsStep cmp hash gives w p x w.board t' c (label_of p ev c.stage)
+    module _ (ev : Event) (content : Content K V) (t' : Tables K V) (put : Put w.tables e (x.party_state.hash % 2 ^ e) content t') where
+      nothing_changed : content ≡ q.content → IsStep cmp hash gives w p x w.control_state w.tables c (label_of p ev c.stage) → IsStep cmp hash gives w p x w.control_state t' c (label_of p ev c.stage)
       nothing_changed stays step = record {
         line = step.line;
         can = step.can;
@@ -123,7 +123,7 @@ module _ {K V F S : Type 0} (cmp : K → K → Ordering) (total : IsTotalOrder c
         follows = step.follows;
         frame = record {
           hashed = λ d i l h. k.hashed d i l (sym (as_before d i) ∙ h);
-          board = k.board;
+          control_state = k.control_state;
           tables = put.tables;
           unmade = λ h g. put.unmade g (k.unmade h g);
           next = λ g u r h s z. k.next g u r h s (put.made (suc g) z);
@@ -131,23 +131,23 @@ module _ {K V F S : Type 0} (cmp : K → K → Ordering) (total : IsTotalOrder c
       }
         where
           as_before : (d j : ℕ) → content_at t' d j ≡ content_at w.tables d j
-          as_before d j = put.contents d j ∙ by_place (e == d) (x.course.hash % 2 ^ e == j) refl refl
+          as_before d j = put.contents d j ∙ by_place (e == d) (x.party_state.hash % 2 ^ e == j) refl refl
             where
-              by_place : (a b : Bool) → (e == d) ≡ a → (x.course.hash % 2 ^ e == j) ≡ b → (if a && b then content else content_at w.tables d j) ≡ content_at w.tables d j
-              by_place true true g h = stays ∙ sym here ∙ ap (λ n. content_at w.tables n (x.course.hash % 2 ^ e)) (eqb-true e d g) ∙ ap (content_at w.tables d) (eqb-true (x.course.hash % 2 ^ e) j h)
+              by_place : (a b : Bool) → (e == d) ≡ a → (x.party_state.hash % 2 ^ e == j) ≡ b → (if a && b then content else content_at w.tables d j) ≡ content_at w.tables d j
+              by_place true true g h = stays ∙ sym here ∙ ap (λ n. content_at w.tables n (x.party_state.hash % 2 ^ e)) (eqb-true e d g) ∙ ap (content_at w.tables d) (eqb-true (x.party_state.hash % 2 ^ e) j h)
               by_place true false g h = refl
               by_place false b g h = refl
 
-      by_key : (o : Option K) → key_of x.call ≡ o → IsSome o → ContentGives cmp gives x.course.hash t e q.content ev c.stage content → IsStep cmp hash gives w p x w.board t' c (label_of p ev c.stage)
+      by_key : (o : Option K) → key_of x.call ≡ o → IsSome o → ContentGives cmp gives x.party_state.hash t e q.content ev c.stage content → IsStep cmp hash gives w p x w.control_state t' c (label_of p ev c.stage)
       by_key None key some gave = absurd (grind (arith, some))
       by_key (Some j) key some gave = by_content q.content refl gave
         where
-          own : x.course.hash ≡ hash j
-          own = (k.callers p x at).own_hash j key
+          own : x.party_state.hash ≡ hash j
+          own = (k.party_records p x at).own_hash j key
 
-          at_live : (b : slots.Live K V) → q.content ≡ IsLive b → (a : Event) → ev ≡ a → LiveGives cmp gives x.course.hash t e b a c.stage content → IsStep cmp hash gives w p x w.board t' c (label_of p ev c.stage)
-          at_live b live event.Decide is (d, did, after) = subst (λ z. IsStep cmp hash gives w p x w.board t' c (label_of p z c.stage)) (sym is) (decides_live j b d t' key live did (subst (λ z. Put w.tables e (x.course.hash % 2 ^ e) z t') after put))
-          at_live b live event.Refused is (g, after, may) = nothing_changed (after ∙ sym live) (subst (λ z. IsStep cmp hash gives w p x w.board w.tables c (label_of p z c.stage)) (sym is) (record {
+          at_live : (b : slots.Live K V) → q.content ≡ IsLive b → (a : Event) → ev ≡ a → LiveGives cmp gives x.party_state.hash t e b a c.stage content → IsStep cmp hash gives w p x w.control_state t' c (label_of p ev c.stage)
+          at_live b live event.Decide is (d, did, after) = subst (λ z. IsStep cmp hash gives w p x w.control_state t' c (label_of p z c.stage)) (sym is) (decides_live j b d t' key live did (subst (λ z. Put w.tables e (x.party_state.hash % 2 ^ e) z t') after put))
+          at_live b live event.Refused is (g, after, may) = nothing_changed (after ∙ sym live) (subst (λ z. IsStep cmp hash gives w p x w.control_state w.tables c (label_of p z c.stage)) (sym is) (record {
             line = IsRefused;
             can = (
               x.call,
@@ -159,7 +159,7 @@ module _ {K V F S : Type 0} (cmp : K → K → Ordering) (total : IsTotalOrder c
                 b.writes,
                 key,
                 ap (λ n. slot_of (content_at w.tables e (n % 2 ^ e))) (sym own) ∙ ap slot_of (here ∙ live),
-                refused cmp total hash lawful gives b (k.hashed e (x.course.hash % 2 ^ e) b (here ∙ live)) x.call t j task key (subst (λ n. party.CanBeRefused cmp gives n t b) own may),
+                refused cmp total hash lawful gives b (k.hashed e (x.party_state.hash % 2 ^ e) b (here ∙ live)) x.call t j task key (subst (λ n. party.CanBeRefused cmp gives n t b) own may),
               ),
             );
             is = is_refused cmp hash gives w p x at c (ap mode_of_stage g) (ap claim_of_stage g ∙ sym (ap claim_of_stage f));
@@ -172,9 +172,9 @@ module _ {K V F S : Type 0} (cmp : K → K → Ordering) (total : IsTotalOrder c
           at_live b live (event.Published d) is h = absurd h
           at_live b live event.Silent is h = absurd h
 
-          by_content : (z : Content K V) → q.content ≡ z → ContentGives cmp gives x.course.hash t e z ev c.stage content → IsStep cmp hash gives w p x w.board t' c (label_of p ev c.stage)
+          by_content : (z : Content K V) → q.content ≡ z → ContentGives cmp gives x.party_state.hash t e z ev c.stage content → IsStep cmp hash gives w p x w.control_state t' c (label_of p ev c.stage)
           by_content (IsLive b) live h = at_live b live ev refl h
-          by_content HasMoved moved (is, g, after) = nothing_changed (after ∙ sym moved) (subst (λ z. IsStep cmp hash gives w p x w.board w.tables c (label_of p z c.stage)) (sym is) (record {
+          by_content HasMoved moved (is, g, after) = nothing_changed (after ∙ sym moved) (subst (λ z. IsStep cmp hash gives w p x w.control_state w.tables c (label_of p z c.stage)) (sym is) (record {
             line = Passes e;
             can = (x.call, j, of_call, key, looking, ap (λ n. slot_of (content_at w.tables e (n % 2 ^ e))) (sym own) ∙ ap slot_of (here ∙ moved));
             is = is_passed cmp hash gives w p x at c e (ap mode_of_stage g ∙ moved_mode t e) (ap claim_of_stage g ∙ moved_claim t e ∙ sym (ap claim_of_stage f));
@@ -183,5 +183,5 @@ module _ {K V F S : Type 0} (cmp : K → K → Ordering) (total : IsTotalOrder c
           }))
           by_content IsUnborn unborn h = absurd (looks_at cmp total hash lawful gives k.state.0 (state_of w) p e j k.state.1.tables (k.state.1.named p) looking (ap key_in of_call ∙ key) (ap (λ n. slot_of (content_at w.tables e (n % 2 ^ e))) (sym own) ∙ ap slot_of (here ∙ unborn)))
 
-      pub at_bin_step : ContentGives cmp gives x.course.hash t e q.content ev c.stage content → IsStep cmp hash gives w p x w.board t' c (label_of p ev c.stage)
+      pub at_bin_step : ContentGives cmp gives x.party_state.hash t e q.content ev c.stage content → IsStep cmp hash gives w p x w.control_state t' c (label_of p ev c.stage)
       at_bin_step = by_key (key_of x.call) refl (key_of_task x.call t task)

@@ -1,18 +1,18 @@
--- The state after a step, against what a line of the machine does.
+-- The state after a step, against what a transition of the machine does.
 use Rattle.std.specs.Prelude.{Option, ℕ, suc, zero, ◌<◌, ◌==◌, Bool, true, false, cond, List, [], ◌∷◌, ◌++◌, length, reverse, slice_get, slice_set, Some, None, option_map, ◌≡◌, unwrap_or}
 use Rattle.std.specs.declared.cmp.Ordering.{Ordering}
 use Rattle.std.proofs.Common.{arith, refl, sym, ◌∙◌, ap}
 use Rattle.std.proofs.lemmas.Bool.{eqb-true, eqb-false, eq-eqb, ne_eqb}
 use Rattle.std.proofs.lemmas.List.{reverse-append, length-set}
 use Rattle.std.proofs.lemmas.Option.{slice_get_within}
-use Rattle.flurry_theory.specs.Machine.{State, Line, at_place, effect, does, label, steps_after, Begins, Quiet, Counts, Finds, Opens, FindsNothing, IsRefused, DecidesEmpty, Passes, Decides, Places, Claims, Moves, Reports, Publishes, Reads, Leaves, Splits, Wipes, SplitsClear, Replies, Ends}
+use Rattle.flurry_theory.specs.Machine.{State, Transition, at_place, effect, does, label, steps_after, Begins, Quiet, Counts, Finds, Opens, FindsNothing, IsRefused, DecidesEmpty, Passes, Decides, Places, Claims, Moves, Reports, Publishes, Reads, Leaves, Splits, Wipes, SplitsClear, Replies, Ends}
 use Rattle.flurry_model.specs.declared.call.Call.{Call}
 use Rattle.flurry_theory.specs.declared.Label.{Label}
-use Rattle.flurry_steps.specs.Control.{Board}
-use Rattle.flurry_steps.specs.Party.{Course}
+use Rattle.flurry_steps.specs.Control.{ControlState}
+use Rattle.flurry_steps.specs.Party.{PartyState}
 use Rattle.flurry_world.specs.Entries.{slot_of}
 use Rattle.flurry_world.specs.Tables.{Tables, content_at}
-use Rattle.flurry_world.specs.World.{Caller, Shown, state_of, start_of, growth_of, mode_in, claim_in, steps_in, mode_of_stage, claim_of_stage}
+use Rattle.flurry_world.specs.World.{PartyRecord, WorldState, state_of, start_of, growth_of, mode_in, claim_in, steps_in, mode_of_stage, claim_of_stage}
 use Rattle.flurry_world.specs.Steps.{with_step}
 
 -- equal options hold equal values
@@ -47,7 +47,7 @@ same_place f p y h q = through (p == q) refl
 
 module _ {K V F : Type 0} (cmp : K → K → Ordering) (hash : K → ℕ) (gives : F → K → V → Option V → Type 0) where
   -- a line other than a beginning is one more step of its party
-  pub one_more_step : (s : State K V F) (p n : ℕ) (c : Call K V F) (l : Line K V F) → s.call p ≡ Some c → s.steps p ≡ n → ((d : Call K V F) (f : Option ℕ) → l ≡ Begins d f → ⊥) → steps_after cmp hash gives s p l ≡ suc n
+  pub one_more_step : (s : State K V F) (p n : ℕ) (c : Call K V F) (l : Transition K V F) → s.call p ≡ Some c → s.steps p ≡ n → ((d : Call K V F) (f : Option ℕ) → l ≡ Begins d f → ⊥) → steps_after cmp hash gives s p l ≡ suc n
   one_more_step s p n c (Begins d f) h k other = absurd (other d f refl)
   one_more_step s p n c Quiet h k other = grind (arith, h, k)
   one_more_step s p n c (Counts whose) h k other = grind (arith, h, k)
@@ -72,8 +72,8 @@ module _ {K V F : Type 0} (cmp : K → K → Ordering) (hash : K → ℕ) (gives
   one_more_step s p n c Ends h k other = grind (arith, h, k)
 
 module _ {K V F S : Type 0} (cmp : K → K → Ordering) (hash : K → ℕ) (gives : F → K → V → Option V → Type 0) where
-  -- what a line has to do, so that it is a step of party p that leaves the board b, the tables t and its call at c
-  pub record IsLine (w : Shown K V F S) (p : ℕ) (b : Board) (t : Tables K V) (c : Course K V F) (lab : Label K V F) (l : Line K V F) : Type 0 where
+  -- what a line has to do, so that it is a step of party p that leaves the control b, the tables t and its call at c
+  pub record IsLine (w : WorldState K V F S) (p : ℕ) (b : ControlState) (t : Tables K V) (c : PartyState K V F) (lab : Label K V F) (l : Transition K V F) : Type 0 where
     pub label_is : lab ≡ label cmp hash gives p l
     pub steps_are : steps_after cmp hash gives (state_of w) p l ≡ suc ((state_of w).steps p)
     pub start : start_of w.first (lab ∷ reverse w.trace) ≡ (effect cmp hash gives (state_of w) p l).start
@@ -88,32 +88,32 @@ module _ {K V F S : Type 0} (cmp : K → K → Ordering) (hash : K → ℕ) (giv
     pub seen : (q : ℕ) → None ≡ (effect cmp hash gives (state_of w) p l).seen q
     pub began_from : (q : ℕ) → None ≡ (effect cmp hash gives (state_of w) p l).began_from q
 
-  pub does_line : (w : Shown K V F S) (p : ℕ) (x : Caller K V F) (b : Board) (t : Tables K V) (c : Course K V F) (lab : Label K V F) (l : Line K V F) → slice_get w.callers p ≡ Some x → IsLine w p b t c lab l
+  pub does_line : (w : WorldState K V F S) (p : ℕ) (x : PartyRecord K V F) (b : ControlState) (t : Tables K V) (c : PartyState K V F) (lab : Label K V F) (l : Transition K V F) → slice_get w.party_records p ≡ Some x → IsLine w p b t c lab l
       → state_of (with_step w p x b t c lab) ≡ does cmp hash gives (state_of w) p l
   does_line w p x b t c lab l h is = λ i. record {
     start = (ap (start_of w.first) turned ∙ is.start) i;
     published = is.published i;
     growth = is.growth i;
     slot = λ d j. is.slot d j i;
-    parties = (length-set w.callers p y ∙ is.parties) i;
+    parties = (length-set w.party_records p y ∙ is.parties) i;
     call = λ q. (calls q ∙ is.call q) i;
-    mode = λ q. (read_set mode_in w.callers p q y below ∙ is.mode q) i;
-    claim = λ q. (read_set claim_in w.callers p q y below ∙ is.claim q) i;
+    mode = λ q. (read_set mode_in w.party_records p q y below ∙ is.mode q) i;
+    claim = λ q. (read_set claim_in w.party_records p q y below ∙ is.claim q) i;
     count = is.count i;
     seen = λ q. is.seen q i;
     began_from = λ q. is.began_from q i;
-    steps = λ q. (read_set steps_in w.callers p q y below ∙ ap (λ n. at_place (state_of w).steps p n q) (ap suc (sym (ap steps_in h)) ∙ sym is.steps_are)) i;
+    steps = λ q. (read_set steps_in w.party_records p q y below ∙ ap (λ n. at_place (state_of w).steps p n q) (ap suc (sym (ap steps_in h)) ∙ sym is.steps_are)) i;
     trace = (turned ∙ ap (λ m. m ∷ reverse w.trace) is.label_is) i;
   }
     where
-      y : Caller K V F
-      y = record { call = x.call; course = c; steps = suc x.steps }
+      y : PartyRecord K V F
+      y = record { call = x.call; party_state = c; steps = suc x.steps }
 
-      below : p < length w.callers
-      below = slice_get_within w.callers p x h
+      below : p < length w.party_records
+      below = slice_get_within w.party_records p x h
 
       turned : reverse (w.trace ++ lab ∷ []) ≡ lab ∷ reverse w.trace
       turned = reverse-append w.trace (lab ∷ [])
 
-      calls : (q : ℕ) → option_map (λ (z : Caller K V F). z.call) (slice_get (slice_set w.callers p y) q) ≡ (state_of w).call q
-      calls q = read_set (option_map (λ (z : Caller K V F). z.call)) w.callers p q y below ∙ same_place (state_of w).call p (Some x.call) (ap (option_map (λ (z : Caller K V F). z.call)) h) q
+      calls : (q : ℕ) → option_map (λ (z : PartyRecord K V F). z.call) (slice_get (slice_set w.party_records p y) q) ≡ (state_of w).call q
+      calls q = read_set (option_map (λ (z : PartyRecord K V F). z.call)) w.party_records p q y below ∙ same_place (state_of w).call p (Some x.call) (ap (option_map (λ (z : PartyRecord K V F). z.call)) h) q

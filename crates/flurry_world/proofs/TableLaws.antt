@@ -7,11 +7,12 @@ use Rattle.std.proofs.lemmas.List.{length-set, set-set, set_past, get_or_past}
 use Rattle.std.proofs.lemmas.Nat.{pow_pos}
 use Rattle.std.proofs.lemmas.Option.{slice_get_past, slice_get_within}
 use Rattle.flurry_slots.specs.Slot.{Content, IsLive, HasMoved, IsUnborn, IfLive, Place, half}
-use Rattle.flurry_steps.specs.Party.{Course}
+use Rattle.flurry_steps.specs.Party.{PartyState}
 use Rattle.flurry_steps.specs.PartySlots.{MoveGives, MoveStep}
 use Rattle.flurry_steps.specs.declared.party.Event.{Event}
 use Rattle.flurry_steps.specs.declared.party.Event.TheVariants as event
 use Rattle.flurry_world.specs.Tables.{Tables, slots_of, place_at, content_at, put_place, fresh, new_slots, is_made, with_table, MadeGives, PlaceGives, AreTables}
+use Rattle.flurry_model.specs.declared.sizes.TheConstants.{GREATEST_TABLE, TABLES}
 
 -- ---- lists
 
@@ -185,7 +186,7 @@ module _ {K V : Type 0} where
 
   -- ---- no table
 
-  pub AreTables-none : (t : Tables K V) → length t ≡ 31 → ((e : ℕ) → slots_of t e ≡ []) → AreTables t
+  pub AreTables-none : (t : Tables K V) → length t ≡ TABLES → ((e : ℕ) → slots_of t e ≡ []) → AreTables t
   AreTables-none t places none = record {
     places = places;
     slots = λ e made. let no : is_made (slots_of t e) ≡ false = ap is_made (none e) in absurd cc;
@@ -203,28 +204,28 @@ module _ {K V : Type 0} where
     slots_of-made_other d apart = get_or-set_other t e d _ [] apart
 
     -- the table has its slots
-    pub place_at-made : AreTables t → e ≤ 30 → (j : ℕ) → j < 2 ^ e → place_at (with_table t e live) e j ≡ Some (record { table = e; index = j; content = fresh live })
+    pub place_at-made : AreTables t → e ≤ GREATEST_TABLE → (j : ℕ) → j < 2 ^ e → place_at (with_table t e live) e j ≡ Some (record { table = e; index = j; content = fresh live })
     place_at-made are within j lt =
         ap (λ (s : List (Place K V)). slice_get s j) (slots_of-made (omega (arith, are.places))) ∙ new_slots_at K V e live (2 ^ e) j lt
 
-    place_at-made_past : AreTables t → e ≤ 30 → (j : ℕ) → 2 ^ e ≤ j → place_at (with_table t e live) e j ≡ None
+    place_at-made_past : AreTables t → e ≤ GREATEST_TABLE → (j : ℕ) → 2 ^ e ≤ j → place_at (with_table t e live) e j ≡ None
     place_at-made_past are within j past =
         ap (λ (s : List (Place K V)). slice_get s j) (slots_of-made (omega (arith, are.places))) ∙ new_slots_past K V e live (2 ^ e) j past
 
     -- and nothing past them
-    pub content_at-made_past : AreTables t → e ≤ 30 → (j : ℕ) → 2 ^ e ≤ j → content_at (with_table t e live) e j ≡ IsUnborn
+    pub content_at-made_past : AreTables t → e ≤ GREATEST_TABLE → (j : ℕ) → 2 ^ e ≤ j → content_at (with_table t e live) e j ≡ IsUnborn
     content_at-made_past are within j past = ap (λ (o : Option (Place K V)). option_map_or (λ (p : Place K V). p.content) o IsUnborn) (place_at-made_past are within j past)
 
     pub place_at-made_other : (d j : ℕ) → (d ≡ e → ⊥) → place_at (with_table t e live) d j ≡ place_at t d j
     place_at-made_other d j apart = ap (λ (s : List (Place K V)). slice_get s j) (slots_of-made_other d apart)
 
-    pub content_at-made_here : AreTables t → e ≤ 30 → (j : ℕ) → j < 2 ^ e → content_at (with_table t e live) e j ≡ fresh live
+    pub content_at-made_here : AreTables t → e ≤ GREATEST_TABLE → (j : ℕ) → j < 2 ^ e → content_at (with_table t e live) e j ≡ fresh live
     content_at-made_here are within j lt = content_of_place (with_table t e live) e j _ (place_at-made are within j lt)
 
     pub content_at-made_other : (d j : ℕ) → (d ≡ e → ⊥) → content_at (with_table t e live) d j ≡ content_at t d j
     content_at-made_other d j apart = ap (λ (o : Option (Place K V)). option_map_or (λ (p : Place K V). p.content) o IsUnborn) (place_at-made_other d j apart)
 
-    pub AreTables-made : AreTables t → e ≤ 30 → AreTables (with_table t e live)
+    pub AreTables-made : AreTables t → e ≤ GREATEST_TABLE → AreTables (with_table t e live)
     AreTables-made are within = record {
       places = length-set t e _ ∙ are.places;
       slots = λ d made. sized d made (cases_eq d e);
@@ -246,13 +247,13 @@ module _ {K V : Type 0} where
             let none = ap (λ (n : ℕ). place_at (with_table t e live) n j) same ∙ place_at-made_past are within j past in
             absurd cc
 
-    pub is_made-made : AreTables t → e ≤ 30 → is_made (slots_of (with_table t e live) e) ≡ true
+    pub is_made-made : AreTables t → e ≤ GREATEST_TABLE → is_made (slots_of (with_table t e live) e) ≡ true
     is_made-made are within =
         let len : length (slots_of (with_table t e live) e) ≡ 2 ^ e = ap length (slots_of-made (omega (arith, are.places))) ∙ length-new_slots K V e live (2 ^ e) in
         made_some (slots_of (with_table t e live) e) (omega (arith, pow_pos e))
 
     -- the table is there once it was asked for and not refused
-    pub is_made-placed : (t' : Tables K V) → AreTables t → e ≤ 30 → PlaceGives t e live true t' → is_made (slots_of t' e) ≡ true
+    pub is_made-placed : (t' : Tables K V) → AreTables t → e ≤ GREATEST_TABLE → PlaceGives t e live true t' → is_made (slots_of t' e) ≡ true
     is_made-placed t' are within gives = by_made (is_made (slots_of t e)) refl gives
       where
         by_made : (m : Bool) → is_made (slots_of t e) ≡ m → MadeGives m t e live true t' → is_made (slots_of t' e) ≡ true
@@ -260,7 +261,7 @@ module _ {K V : Type 0} where
         by_made false is gives = ap (λ (u : Tables K V). is_made (slots_of u e)) gives ∙ is_made-made are within
 
     -- whether it was there, is made or is refused, tables stay tables
-    pub AreTables-placed : (ok : Bool) (t' : Tables K V) → AreTables t → e ≤ 30 → PlaceGives t e live ok t' → AreTables t'
+    pub AreTables-placed : (ok : Bool) (t' : Tables K V) → AreTables t → e ≤ GREATEST_TABLE → PlaceGives t e live ok t' → AreTables t'
     AreTables-placed ok t' are within gives = by_made (is_made (slots_of t e)) ok gives
       where
         by_made : (m ok : Bool) → MadeGives m t e live ok t' → AreTables t'
@@ -279,7 +280,7 @@ module _ {K V : Type 0} where
           ap (λ (o : Option (Place K V)). option_map_or (λ (r : Place K V). r.content) o IsUnborn) (slice_get_past (p ∷ s) j (omega arith))
 
   -- what stands at each slot after a table was made
-  pub content_at-made : (t : Tables K V) (e : ℕ) (live : Bool) → AreTables t → e ≤ 30 → (d j : ℕ)
+  pub content_at-made : (t : Tables K V) (e : ℕ) (live : Bool) → AreTables t → e ≤ GREATEST_TABLE → (d j : ℕ)
       → content_at (with_table t e live) d j ≡ (if e == d && nat_lt j (2 ^ e) then fresh live else content_at t d j)
   content_at-made t e live are within d j = by_case (cases_eq e d) (cases_lt j (2 ^ e))
     where
@@ -291,7 +292,7 @@ module _ {K V : Type 0} where
           (ap (λ (n : ℕ). content_at (with_table t e live) n j) (sym same) ∙ content_at-made_past t e live are within j past ∙ sym (content_past t e j are past) ∙ ap (λ (n : ℕ). content_at t n j) same)
 
   -- a table of unborn bins that was not there changes nothing that stands at a slot
-  pub content_at-unborn : (t : Tables K V) (e : ℕ) → AreTables t → e ≤ 30 → is_made (slots_of t e) ≡ false → (d j : ℕ) → content_at (with_table t e false) d j ≡ content_at t d j
+  pub content_at-unborn : (t : Tables K V) (e : ℕ) → AreTables t → e ≤ GREATEST_TABLE → is_made (slots_of t e) ≡ false → (d j : ℕ) → content_at (with_table t e false) d j ≡ content_at t d j
   content_at-unborn t e are within none d j = elim (cases_eq d e) [
     | inr apart ↦ content_at-made_other t e false d j apart
     | inl same ↦ ap (λ (n : ℕ). content_at (with_table t e false) n j) same ∙ unborn_here (cases_lt j (2 ^ e)) ∙ sym (nothing_in (slots_of t e) none) ∙ ap (λ (n : ℕ). content_at t n j) (sym same)
@@ -306,7 +307,7 @@ module _ {K V : Type 0} where
       nothing_in (p ∷ s) h = absurd cc
 
   -- so it is where that table was asked for
-  pub content_at-placed : (t : Tables K V) (e : ℕ) (ok : Bool) (t' : Tables K V) → AreTables t → e ≤ 30 → PlaceGives t e false ok t' → (d j : ℕ) → content_at t' d j ≡ content_at t d j
+  pub content_at-placed : (t : Tables K V) (e : ℕ) (ok : Bool) (t' : Tables K V) → AreTables t → e ≤ GREATEST_TABLE → PlaceGives t e false ok t' → (d j : ℕ) → content_at t' d j ≡ content_at t d j
   content_at-placed t e ok t' are within gives d j = by_made (is_made (slots_of t e)) ok refl gives
     where
       by_made : (m ok : Bool) → is_made (slots_of t e) ≡ m → MadeGives m t e false ok t' → content_at t' d j ≡ content_at t d j
@@ -337,7 +338,7 @@ module _ {K V : Type 0} where
 
 module _ {K V F : Type 0} where
   -- a step at a slot and its halves keeps their tables and indices
-  pub moves_in_place : (c c' : Course K V F) (q low high q' low' high' : Place K V) (ev : Event) → MoveStep c q low high ev c' q' low' high'
+  pub moves_in_place : (c c' : PartyState K V F) (q low high q' low' high' : Place K V) (ev : Event) → MoveStep c q low high ev c' q' low' high'
       → ((q'.table ≡ q.table) × (q'.index ≡ q.index)) × ((low'.table ≡ low.table) × (low'.index ≡ low.index)) × ((high'.table ≡ high.table) × (high'.index ≡ high.index))
   moves_in_place c c' q low high q' low' high' ev step = by_event ev step.step
     where

@@ -8,42 +8,42 @@ use Rattle.flurry_slots.specs.Slot.{Content, IsUnborn}
 use Rattle.flurry_steps.specs.Claim.{Range}
 use Rattle.flurry_steps.specs.Control as control
 use Rattle.flurry_steps.specs.Control.{IsIdle, Grows}
-use Rattle.flurry_steps.specs.Party.{Task, Finds, Removes, Inserts, Adds, Computes, After, Stage, AtLocate, AtBin, AtClaim, AtMove, AtUncount, AtCount, AtRecount, AtBegin, AtGrow, AtReserve, AtDone, AtTaken, part_of, wanted_part, bin_part, move_part}
+use Rattle.flurry_steps.specs.Party.{Task, Finds, Removes, Inserts, Adds, Computes, Resume, Stage, AtLocate, AtBin, AtClaim, AtMove, AtUncount, AtCount, AtRecount, AtBegin, AtGrow, AtReserve, AtDone, AtTaken, part_of, wanted_part, bin_part, move_part}
 use Rattle.flurry_theory.specs.Map.{same, key_of}
 use Rattle.flurry_theory.specs.Invariant.{is_live, key_in}
 use Rattle.flurry_theory.proofs.Bins.{double}
-use Rattle.flurry_theory.proofs.Named.{looks_at}
+use Rattle.flurry_theory.proofs.NoUnbornBin.{looks_at}
 use Rattle.flurry_world.specs.Entries.{slot_of}
 use Rattle.flurry_world.specs.Tables.{slots_of, place_at, content_at, is_made}
 use Rattle.flurry_world.specs.Parts.{IsGoing, IsThere}
-use Rattle.flurry_world.specs.World.{Caller, Shown, state_of, growth_of, FollowsStage, IsWorld}
+use Rattle.flurry_world.specs.World.{PartyRecord, WorldState, state_of, growth_of, FollowsStage, IsWorld}
 use Rattle.flurry_world.proofs.CallLaws.{key_of_task}
 use Rattle.flurry_world.proofs.TableLaws.{place_of_content, place_of_made}
 use Rattle.flurry_world.proofs.PlaceLaws.{unmade_empty}
 use Rattle.flurry_world.proofs.Cases.{calls, in_mode, in_claim}
 
-module _ {K V F S : Type 0} (cmp : K → K → Ordering) (total : IsTotalOrder cmp) (hash : K → ℕ) (lawful : (j k : K) → same cmp j k ≡ true → hash j ≡ hash k) (gives : F → K → V → Option V → Type 0) (w : Shown K V F S) (k : IsWorld cmp hash gives w) (p : ℕ) (x : Caller K V F) (at : slice_get w.callers p ≡ Some x) where
+module _ {K V F S : Type 0} (cmp : K → K → Ordering) (total : IsTotalOrder cmp) (hash : K → ℕ) (lawful : (j k : K) → same cmp j k ≡ true → hash j ≡ hash k) (gives : F → K → V → Option V → Type 0) (w : WorldState K V F S) (k : IsWorld cmp hash gives w) (p : ℕ) (x : PartyRecord K V F) (at : slice_get w.party_records p ≡ Some x) where
   -- the bin of a party's key is not unborn
-  pub bin_is_there : (t : Task K V F) (e : ℕ) → x.course.stage ≡ AtBin t e → content_at w.tables e (x.course.hash % 2 ^ e) ≡ IsUnborn → ⊥
-  bin_is_there t e f unborn = by_key (key_of x.call) refl (key_of_task x.call t (subst (FollowsStage x.call) f (k.callers p x at).stage))
+  pub bin_is_there : (t : Task K V F) (e : ℕ) → x.party_state.stage ≡ AtBin t e → content_at w.tables e (x.party_state.hash % 2 ^ e) ≡ IsUnborn → ⊥
+  bin_is_there t e f unborn = by_key (key_of x.call) refl (key_of_task x.call t (subst (FollowsStage x.call) f (k.party_records p x at).stage))
     where
       by_key : (o : Option K) → key_of x.call ≡ o → IsSome o → ⊥
       by_key None key some = grind (arith, some)
       by_key (Some j) key some =
-          looks_at cmp total hash lawful gives k.state.0 (state_of w) p e j k.state.1.tables (k.state.1.named p) (in_mode cmp total hash lawful gives w k p x at x.course (AtBin t e) f)
-          (ap key_in (calls cmp total hash lawful gives w k p x at x.course) ∙ key) (ap (λ n. slot_of (content_at w.tables e (n % 2 ^ e))) (sym ((k.callers p x at).own_hash j key)) ∙ ap slot_of unborn)
+          looks_at cmp total hash lawful gives k.state.0 (state_of w) p e j k.state.1.tables (k.state.1.named p) (in_mode cmp total hash lawful gives w k p x at x.party_state (AtBin t e) f)
+          (ap key_in (calls cmp total hash lawful gives w k p x at x.party_state) ∙ key) (ap (λ n. slot_of (content_at w.tables e (n % 2 ^ e))) (sym ((k.party_records p x at).own_hash j key)) ∙ ap slot_of unborn)
 
-  there_bin : (t : Task K V F) (e : ℕ) → x.course.stage ≡ AtBin t e → IsThere w.tables (bin_part t e (x.course.hash % 2 ^ e))
-  there_bin t e f = by_task t (place_of_content w.tables e (x.course.hash % 2 ^ e) (bin_is_there t e f))
+  there_bin : (t : Task K V F) (e : ℕ) → x.party_state.stage ≡ AtBin t e → IsThere w.tables (bin_part t e (x.party_state.hash % 2 ^ e))
+  there_bin t e f = by_task t (place_of_content w.tables e (x.party_state.hash % 2 ^ e) (bin_is_there t e f))
     where
-      by_task : (u : Task K V F) → IsSome (place_at w.tables e (x.course.hash % 2 ^ e)) → IsThere w.tables (bin_part u e (x.course.hash % 2 ^ e))
+      by_task : (u : Task K V F) → IsSome (place_at w.tables e (x.party_state.hash % 2 ^ e)) → IsThere w.tables (bin_part u e (x.party_state.hash % 2 ^ e))
       by_task (Finds y j) h = h
       by_task (Removes y j) h = h
       by_task (Inserts j v) h = h
       by_task (Adds j v) h = h
       by_task (Computes j g) h = h
 
-  there_move : (m : Range) (a : After K V F) → x.course.stage ≡ AtMove m a → (d : Bool) → nat_lt m.low m.left ≡ d → IsThere w.tables (move_part (cond {A = Option (ℕ × ℕ)} d (Some (m.table, m.left - 1)) None))
+  there_move : (m : Range) (a : Resume K V F) → x.party_state.stage ≡ AtMove m a → (d : Bool) → nat_lt m.low m.left ≡ d → IsThere w.tables (move_part (cond {A = Option (ℕ × ℕ)} d (Some (m.table, m.left - 1)) None))
   there_move m a f false h = tt
   there_move m a f true h = (
     place_of_content w.tables m.table (m.left - 1) (λ z. born (content_at w.tables m.table (m.left - 1)) (k.state.1.cut.left_live p _ (m.left - 1) holds (omega (arith, less)) (omega (arith, less))) z),
@@ -52,7 +52,7 @@ module _ {K V F S : Type 0} (cmp : K → K → Ordering) (total : IsTotalOrder c
   )
     where
       holds : (state_of w).claim p ≡ Some (record { table = m.table; low = m.low; left = m.left; high = m.high })
-      holds = in_claim cmp total hash lawful gives w k p x at x.course (AtMove m a) f
+      holds = in_claim cmp total hash lawful gives w k p x at x.party_state (AtMove m a) f
 
       less : m.low < m.left
       less = ltb-true m.low m.left h
@@ -60,7 +60,7 @@ module _ {K V F S : Type 0} (cmp : K → K → Ordering) (total : IsTotalOrder c
       next_table : m.table + 1 ≡ suc m.table
       next_table = omega arith
 
-      claim_ok : (w.board.published ≡ Some m.table) × (m.low < m.high) × (m.low ≤ m.left) × (m.left ≤ m.high) × (m.high ≤ 2 ^ m.table)
+      claim_ok : (w.control_state.published ≡ Some m.table) × (m.low < m.high) × (m.low ≤ m.left) × (m.left ≤ m.high) × (m.high ≤ 2 ^ m.table)
       claim_ok = k.state.1.cut.claims p _ holds
 
       in_table : m.left - 1 < 2 ^ m.table
@@ -70,14 +70,14 @@ module _ {K V F S : Type 0} (cmp : K → K → Ordering) (total : IsTotalOrder c
       born z live g = let no : is_live (slot_of {K = K} {V = V} IsUnborn) ≡ true = ap (λ u. is_live (slot_of u)) (sym g) ∙ live in cc
 
       made : is_made (slots_of w.tables (suc m.table)) ≡ true
-      made = by_growth w.board.growth refl (is_made (slots_of w.tables (suc m.table))) refl
+      made = by_growth w.control_state.growth refl (is_made (slots_of w.tables (suc m.table))) refl
         where
-          by_growth : (g : control.Growth) → w.board.growth ≡ g → (b : Bool) → is_made (slots_of w.tables (suc m.table)) ≡ b → b ≡ true
+          by_growth : (g : control.Growth) → w.control_state.growth ≡ g → (b : Bool) → is_made (slots_of w.tables (suc m.table)) ≡ b → b ≡ true
           by_growth g e true s = refl
           by_growth IsIdle e false s = let none : (state_of w).claim p ≡ None = k.state.1.cut.idle (ap growth_of e) p in cc
           by_growth (Grows u r) e false s = absurd (k.next m.table u r claim_ok.0 e (unmade_empty (slots_of w.tables (suc m.table)) s))
 
-  there : (s : Stage K V F) → x.course.stage ≡ s → IsGoing s → IsThere w.tables (part_of x.course.hash s)
+  there : (s : Stage K V F) → x.party_state.stage ≡ s → IsGoing s → IsThere w.tables (part_of x.party_state.hash s)
   there (AtLocate t) e g = tt
   there (AtBin t n) e g = there_bin t n e
   there (AtClaim a) e g = tt
@@ -91,5 +91,5 @@ module _ {K V F S : Type 0} (cmp : K → K → Ordering) (total : IsTotalOrder c
   there (AtDone r) e g = absurd g
   there AtTaken e g = absurd g
 
-  pub is_there : IsGoing x.course.stage → IsThere w.tables (wanted_part x.course)
-  is_there g = there x.course.stage refl g
+  pub is_there : IsGoing x.party_state.stage → IsThere w.tables (wanted_part x.party_state)
+  is_there g = there x.party_state.stage refl g

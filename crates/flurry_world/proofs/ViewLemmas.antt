@@ -7,6 +7,7 @@ use Rattle.std.proofs.lemmas.Option.{slice_get_past, slice_get_read}
 use Rattle.flurry_slots.specs.Slot.{Place}
 use Rattle.flurry_world.specs.Tables.{Tables, slots_of, place_at, put_place, new_slots, is_made, with_table, PlaceGives, AreTables}
 use Rattle.flurry_world.proofs.TableLaws.{place_in, AreTables-put}
+use Rattle.flurry_model.specs.declared.sizes.TheConstants.{GREATEST_TABLE, TABLES}
 
 pub some_within : {X : Type 0} (xs : List X) (i : ℕ) → IsSome (slice_get xs i) → i < length xs
 some_within {X = X} xs i some = elim (cases_lt i (length xs)) [
@@ -26,11 +27,11 @@ module _ {K V A : Type 0} where
       by_place None is some = absurd cc
       by_place (Some q) is some = let (lt, below) = place_in (seen xs) e i q is in let f : Vec (Place K V) A → List (Place K V) = λ v. v.items in omega (arith, length-map xs f)
 
-  pub number_places : (xs : List (Vec (Place K V) A)) → AreTables (seen xs) → length xs ≡ 31
+  pub number_places : (xs : List (Vec (Place K V) A)) → AreTables (seen xs) → length xs ≡ TABLES
   number_places xs are = let f : Vec (Place K V) A → List (Place K V) = λ v. v.items in sym (length-map xs f) ∙ are.places
 
   -- each number has its place
-  pub number_within : (xs : List (Vec (Place K V) A)) (e : ℕ) → AreTables (seen xs) → e ≤ 30 → e < length xs
+  pub number_within : (xs : List (Vec (Place K V) A)) (e : ℕ) → AreTables (seen xs) → e ≤ GREATEST_TABLE → e < length xs
   number_within xs e are small = let f : Vec (Place K V) A → List (Place K V) = λ v. v.items in omega (arith, length-map xs f, are.places)
 
   -- the table at its place

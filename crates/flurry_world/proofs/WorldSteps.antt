@@ -8,21 +8,22 @@ use Rattle.std.proofs.lemmas.Int.{ints}
 use Rattle.std.proofs.lemmas.List.{length-append, length-reverse}
 use Rattle.flurry_theory.proofs.Counts.{count_within}
 use Rattle.std.proofs.lemmas.Option.{slice_get_past, slice_get-get_or}
-use Rattle.flurry_steps.specs.Control.{Board}
-use Rattle.flurry_steps.specs.Party.{Course, wanted_part}
-use Rattle.flurry_steps.specs.PartyView.{kept_stage}
-use Rattle.flurry_steps.specs.declared.party.call.KeptCall.{KeptCall}
+use Rattle.flurry_steps.specs.Control.{ControlState}
+use Rattle.flurry_steps.specs.Party.{PartyState, wanted_part}
+use Rattle.flurry_steps.specs.PartyView.{owned_stage}
+use Rattle.flurry_steps.specs.declared.party.call.OwnedCall.{OwnedCall}
 use Rattle.flurry_theory.specs.Map.{same}
 use Rattle.flurry_theory.specs.declared.Label.{Label}
 use Rattle.flurry_theory.specs.declared.Label.TheVariants as label
 use Rattle.flurry_world.specs.Tables.{Tables}
 use Rattle.flurry_world.specs.Parts.{IsGoing, IsThere}
-use Rattle.flurry_world.specs.World.{Caller, Shown, Near, state_of, steps_in, IsWorld, IsBounded, DoesLine}
-use Rattle.flurry_world.specs.Steps.{with_label, with_step, CourseStep, CallerStep, WorldStep}
-use Rattle.flurry_world.specs.Runs.{labelled, hash_for, begun_with}
+use Rattle.flurry_world.specs.World.{PartyRecord, WorldState, Near, state_of, steps_in, IsWorld, IsBounded, DoesTransition}
+use Rattle.flurry_world.specs.Steps.{with_label, with_step, StepByStage, CallerStep, WorldStep}
+use Rattle.flurry_world.specs.Runs.{theory_call, hash_for, begun_with}
 use Rattle.flurry_world.proofs.BeginLaws.{fresh_stage, own_hash}
 use Rattle.flurry_world.proofs.WorldLaws.{silent, silent_line, began, begin_line, stepped, one_line}
 use Rattle.flurry_world.proofs.ThereLaws.{is_there}
+use Rattle.flurry_model.specs.declared.sizes.TheConstants.{MOST_LABELS}
 
 -- keys that compare as equal are of one class
 pub alike_class : {K : Type 0} (cmp : K → K → Ordering) (hash : K → ℕ) → ((j k : K) → cmp j k ≡ Equal → hash j ≡ hash k) → (j k : K) → same cmp j k ≡ true → hash j ≡ hash k
@@ -37,96 +38,96 @@ alike_class cmp hash alike j k h = by_order (cmp j k) refl
 pub lent_at : {X : Type 0} (xs : List X) (p : ℕ) (x y : X) → p < length xs → x ≡ slice_index_or xs p x → y ≡ x → slice_get xs p ≡ Some y
 lent_at xs p x y l is shows = slice_get-get_or xs p x l ∙ ap Some (sym is ∙ sym shows)
 
-module _ {K V F S : Type 0} (cmp : K → K → Ordering) (total : IsTotalOrder cmp) (hash : K → ℕ) (alike : (j k : K) → cmp j k ≡ Equal → hash j ≡ hash k) (gives : F → K → V → Option V → Type 0) (w : Shown K V F S) (k : IsBounded cmp hash gives w) where
+module _ {K V F S : Type 0} (cmp : K → K → Ordering) (total : IsTotalOrder cmp) (hash : K → ℕ) (alike : (j k : K) → cmp j k ≡ Equal → hash j ≡ hash k) (gives : F → K → V → Option V → Type 0) (w : WorldState K V F S) (k : IsBounded cmp hash gives w) where
   -- the count is at most as far from 0 as there are labels
-  pub near : Near (2 ^ 62) w.board.count
+  pub near : Near (2 ^ 62) w.control_state.count
   near =
       let bounds = count_within cmp total hash (alike_class cmp hash alike) gives (state_of w) k.world.state.1.counted in
       let long : length (state_of w).trace ≡ length w.trace = length-reverse w.trace in
       record { most = omega (arith, ints, bounds.0, long, k.few); least = omega (arith, ints, bounds.1, long, k.few) }
 
   -- an unknown party's step
-  pub unknown_step : (before : List (Label K V F)) → before ≡ w.trace → length before < 2 ^ 62 → (p : ℕ) → length w.callers ≤ p → (t : List (Label K V F)) → t ≡ before ++ label.Silent p ∷ []
-      → IsBounded cmp hash gives (record { hasher = w.hasher; processors = w.processors; first = w.first; board = w.board; tables = w.tables; callers = w.callers; trace = t })
-      × WorldStep cmp gives w p (record { hasher = w.hasher; processors = w.processors; first = w.first; board = w.board; tables = w.tables; callers = w.callers; trace = t })
-      × DoesLine cmp hash gives w p (record { hasher = w.hasher; processors = w.processors; first = w.first; board = w.board; tables = w.tables; callers = w.callers; trace = t })
+  pub unknown_step : (before : List (Label K V F)) → before ≡ w.trace → length before < MOST_LABELS → (p : ℕ) → length w.party_records ≤ p → (t : List (Label K V F)) → t ≡ before ++ label.Silent p ∷ []
+      → IsBounded cmp hash gives (record { hasher = w.hasher; processors = w.processors; first = w.first; control_state = w.control_state; tables = w.tables; party_records = w.party_records; trace = t })
+      × WorldStep cmp gives w p (record { hasher = w.hasher; processors = w.processors; first = w.first; control_state = w.control_state; tables = w.tables; party_records = w.party_records; trace = t })
+      × DoesTransition cmp hash gives w p (record { hasher = w.hasher; processors = w.processors; first = w.first; control_state = w.control_state; tables = w.tables; party_records = w.party_records; trace = t })
   unknown_step before is short p past t added = (
-    subst (λ u. IsBounded cmp hash gives (record { hasher = w.hasher; processors = w.processors; first = w.first; board = w.board; tables = w.tables; callers = w.callers; trace = u })) (sym e) (record { world = silent cmp total hash (alike_class cmp hash alike) gives w k.world near p unknown; few = omega (arith, length-append w.trace (label.Silent p ∷ []), few) }),
-    subst (λ o. MatchOption o (shown ≡ with_label w (label.Silent p)) (λ x. CallerStep cmp gives w p x shown)) (sym unknown) (ap (λ u. record { hasher = w.hasher; processors = w.processors; first = w.first; board = w.board; tables = w.tables; callers = w.callers; trace = u }) e),
-    subst (λ u. DoesLine cmp hash gives w p (record { hasher = w.hasher; processors = w.processors; first = w.first; board = w.board; tables = w.tables; callers = w.callers; trace = u })) (sym e) (silent_line cmp total hash (alike_class cmp hash alike) gives w k.world near p unknown),
+    subst (λ u. IsBounded cmp hash gives (record { hasher = w.hasher; processors = w.processors; first = w.first; control_state = w.control_state; tables = w.tables; party_records = w.party_records; trace = u })) (sym e) (record { world = silent cmp total hash (alike_class cmp hash alike) gives w k.world near p unknown; few = omega (arith, length-append w.trace (label.Silent p ∷ []), few) }),
+    subst (λ o. MatchOption o (shown ≡ with_label w (label.Silent p)) (λ x. CallerStep cmp gives w p x shown)) (sym unknown) (ap (λ u. record { hasher = w.hasher; processors = w.processors; first = w.first; control_state = w.control_state; tables = w.tables; party_records = w.party_records; trace = u }) e),
+    subst (λ u. DoesTransition cmp hash gives w p (record { hasher = w.hasher; processors = w.processors; first = w.first; control_state = w.control_state; tables = w.tables; party_records = w.party_records; trace = u })) (sym e) (silent_line cmp total hash (alike_class cmp hash alike) gives w k.world near p unknown),
   )
     where
-      few : length w.trace < 2 ^ 62
-      few = subst (λ u. length u < 2 ^ 62) is short
+      few : length w.trace < MOST_LABELS
+      few = subst (λ u. length u < MOST_LABELS) is short
 
       e : t ≡ w.trace ++ label.Silent p ∷ []
       e = added ∙ ap (λ u. u ++ label.Silent p ∷ []) is
 
-      unknown : slice_get w.callers p ≡ None
-      unknown = slice_get_past w.callers p past
+      unknown : slice_get w.party_records p ≡ None
+      unknown = slice_get_past w.party_records p past
 
-      shown : Shown K V F S
-      shown = record { hasher = w.hasher; processors = w.processors; first = w.first; board = w.board; tables = w.tables; callers = w.callers; trace = t }
+      shown : WorldState K V F S
+      shown = record { hasher = w.hasher; processors = w.processors; first = w.first; control_state = w.control_state; tables = w.tables; party_records = w.party_records; trace = t }
 
   -- a party has done no more steps than there are labels
-  pub steps_within : (p : ℕ) (x : Caller K V F) → slice_get w.callers p ≡ Some x → x.steps ≤ 2 ^ 62
+  pub steps_within : (p : ℕ) (x : PartyRecord K V F) → slice_get w.party_records p ≡ Some x → x.steps ≤ 2 ^ 62
   steps_within p x at =
       let own : (state_of w).steps p ≡ x.steps = ap steps_in at in
       let most : (state_of w).steps p ≤ length (reverse w.trace) = k.world.state.1.few_steps p in
       omega (arith, own, most, length-reverse w.trace, k.few)
 
   -- the part that a party wants is there
-  pub part_there : (p : ℕ) (x : Caller K V F) → slice_get w.callers p ≡ Some x → IsGoing x.course.stage → IsThere w.tables (wanted_part x.course)
+  pub part_there : (p : ℕ) (x : PartyRecord K V F) → slice_get w.party_records p ≡ Some x → IsGoing x.party_state.stage → IsThere w.tables (wanted_part x.party_state)
   part_there p x at g = is_there cmp total hash (alike_class cmp hash alike) gives w k.world p x at g
 
   -- a party's step
-  pub party_step : (before : List (Label K V F)) → before ≡ w.trace → length before < 2 ^ 62 → (p : ℕ) (x : Caller K V F) → slice_get w.callers p ≡ Some x → (c : Course K V F) (b : Board) (t : Tables K V) (l : Label K V F) → CourseStep cmp gives p x.course.stage x.course w.board w.tables l c b t
-      → (callers : List (Caller K V F)) → callers ≡ slice_set w.callers p (record { call = x.call; course = c; steps = x.steps + 1 }) → (trace : List (Label K V F)) → trace ≡ before ++ l ∷ []
-      → IsBounded cmp hash gives (record { hasher = w.hasher; processors = w.processors; first = w.first; board = b; tables = t; callers = callers; trace = trace })
-      × WorldStep cmp gives w p (record { hasher = w.hasher; processors = w.processors; first = w.first; board = b; tables = t; callers = callers; trace = trace })
-      × DoesLine cmp hash gives w p (record { hasher = w.hasher; processors = w.processors; first = w.first; board = b; tables = t; callers = callers; trace = trace })
-  party_step before is short p x at c b t l does callers d trace added = (
+  pub party_step : (before : List (Label K V F)) → before ≡ w.trace → length before < MOST_LABELS → (p : ℕ) (x : PartyRecord K V F) → slice_get w.party_records p ≡ Some x → (c : PartyState K V F) (b : ControlState) (t : Tables K V) (l : Label K V F) → StepByStage cmp gives p x.party_state.stage x.party_state w.control_state w.tables l c b t
+      → (party_records : List (PartyRecord K V F)) → party_records ≡ slice_set w.party_records p (record { call = x.call; party_state = c; steps = x.steps + 1 }) → (trace : List (Label K V F)) → trace ≡ before ++ l ∷ []
+      → IsBounded cmp hash gives (record { hasher = w.hasher; processors = w.processors; first = w.first; control_state = b; tables = t; party_records = party_records; trace = trace })
+      × WorldStep cmp gives w p (record { hasher = w.hasher; processors = w.processors; first = w.first; control_state = b; tables = t; party_records = party_records; trace = trace })
+      × DoesTransition cmp hash gives w p (record { hasher = w.hasher; processors = w.processors; first = w.first; control_state = b; tables = t; party_records = party_records; trace = trace })
+  party_step before is short p x at c b t l does party_records d trace added = (
     subst (IsBounded cmp hash gives) (sym after) (record { world = stepped cmp total hash (alike_class cmp hash alike) gives w k.world near p x at l c b t does; few = omega (arith, length-append w.trace (l ∷ []), few) }),
-    subst (λ o. MatchOption o (shown ≡ with_label w (label.Silent p)) (λ x. CallerStep cmp gives w p x shown)) (sym at) (record { step_label = l; course = c; board = b; tables = t; does = does; after = after }),
-    subst (DoesLine cmp hash gives w p) (sym after) (one_line cmp total hash (alike_class cmp hash alike) gives w k.world near p x at l c b t does),
+    subst (λ o. MatchOption o (shown ≡ with_label w (label.Silent p)) (λ x. CallerStep cmp gives w p x shown)) (sym at) (record { step_label = l; party_state = c; control_state = b; tables = t; does = does; after = after }),
+    subst (DoesTransition cmp hash gives w p) (sym after) (one_line cmp total hash (alike_class cmp hash alike) gives w k.world near p x at l c b t does),
   )
     where
-      few : length w.trace < 2 ^ 62
-      few = subst (λ u. length u < 2 ^ 62) is short
+      few : length w.trace < MOST_LABELS
+      few = subst (λ u. length u < MOST_LABELS) is short
 
       e : trace ≡ w.trace ++ l ∷ []
       e = added ∙ ap (λ u. u ++ l ∷ []) is
 
-      shown : Shown K V F S
-      shown = record { hasher = w.hasher; processors = w.processors; first = w.first; board = b; tables = t; callers = callers; trace = trace }
+      shown : WorldState K V F S
+      shown = record { hasher = w.hasher; processors = w.processors; first = w.first; control_state = b; tables = t; party_records = party_records; trace = trace }
 
       one_more : x.steps + 1 ≡ suc x.steps
       one_more = omega arith
 
       after : shown ≡ with_step w p x b t c l
-      after = ap (λ u. record { hasher = w.hasher; processors = w.processors; first = w.first; board = b; tables = t; callers = u; trace = trace }) (d ∙ ap (λ n. slice_set w.callers p (record { call = x.call; course = c; steps = n })) one_more)
-          ∙ ap (λ u. record { hasher = w.hasher; processors = w.processors; first = w.first; board = b; tables = t; callers = slice_set w.callers p (record { call = x.call; course = c; steps = suc x.steps }); trace = u }) e
+      after = ap (λ u. record { hasher = w.hasher; processors = w.processors; first = w.first; control_state = b; tables = t; party_records = u; trace = trace }) (d ∙ ap (λ n. slice_set w.party_records p (record { call = x.call; party_state = c; steps = n })) one_more)
+          ∙ ap (λ u. record { hasher = w.hasher; processors = w.processors; first = w.first; control_state = b; tables = t; party_records = slice_set w.party_records p (record { call = x.call; party_state = c; steps = suc x.steps }); trace = u }) e
 
   -- the beginning of a call
-  pub call_begins : (before : List (Label K V F)) → before ≡ w.trace → length before < 2 ^ 62 → (parties : List (Caller K V F)) → parties ≡ w.callers → (d : KeptCall K V F) (callers : List (Caller K V F))
-      → callers ≡ parties ++ record { call = labelled d; course = record { hash = hash_for hash d; processors = w.processors; stage = kept_stage d }; steps = 0 } ∷ [] → (n : ℕ) → n ≡ length w.callers
-      → (trace : List (Label K V F)) → trace ≡ before ++ label.Begin n (labelled d) ∷ []
-      → IsBounded cmp hash gives (record { hasher = w.hasher; processors = w.processors; first = w.first; board = w.board; tables = w.tables; callers = callers; trace = trace })
-      × (◌≡◌ {A = Shown K V F S} (record { hasher = w.hasher; processors = w.processors; first = w.first; board = w.board; tables = w.tables; callers = callers; trace = trace }) (begun_with hash w d))
-      × DoesLine cmp hash gives w n (record { hasher = w.hasher; processors = w.processors; first = w.first; board = w.board; tables = w.tables; callers = callers; trace = trace })
-  call_begins before is short parties are d callers put n number trace added = (
-    subst (IsBounded cmp hash gives) (sym after) (record { world = begins; few = omega (arith, length-append w.trace (label.Begin (length w.callers) (labelled d) ∷ []), few) }),
+  pub call_begins : (before : List (Label K V F)) → before ≡ w.trace → length before < MOST_LABELS → (parties : List (PartyRecord K V F)) → parties ≡ w.party_records → (d : OwnedCall K V F) (party_records : List (PartyRecord K V F))
+      → party_records ≡ parties ++ record { call = theory_call d; party_state = record { hash = hash_for hash d; processors = w.processors; stage = owned_stage d }; steps = 0 } ∷ [] → (n : ℕ) → n ≡ length w.party_records
+      → (trace : List (Label K V F)) → trace ≡ before ++ label.Begin n (theory_call d) ∷ []
+      → IsBounded cmp hash gives (record { hasher = w.hasher; processors = w.processors; first = w.first; control_state = w.control_state; tables = w.tables; party_records = party_records; trace = trace })
+      × (◌≡◌ {A = WorldState K V F S} (record { hasher = w.hasher; processors = w.processors; first = w.first; control_state = w.control_state; tables = w.tables; party_records = party_records; trace = trace }) (begun_with hash w d))
+      × DoesTransition cmp hash gives w n (record { hasher = w.hasher; processors = w.processors; first = w.first; control_state = w.control_state; tables = w.tables; party_records = party_records; trace = trace })
+  call_begins before is short parties are d party_records put n number trace added = (
+    subst (IsBounded cmp hash gives) (sym after) (record { world = begins; few = omega (arith, length-append w.trace (label.Begin (length w.party_records) (theory_call d) ∷ []), few) }),
     after,
-    subst (DoesLine cmp hash gives w n) (sym after) (subst (λ m. DoesLine cmp hash gives w m (begun_with hash w d)) (sym number) (let (follows, mode, claim) = fresh_stage d in begin_line cmp total hash (alike_class cmp hash alike) gives w k.world near _ _ mode claim)),
+    subst (DoesTransition cmp hash gives w n) (sym after) (subst (λ m. DoesTransition cmp hash gives w m (begun_with hash w d)) (sym number) (let (follows, mode, claim) = fresh_stage d in begin_line cmp total hash (alike_class cmp hash alike) gives w k.world near _ _ mode claim)),
   )
     where
-      few : length w.trace < 2 ^ 62
-      few = subst (λ u. length u < 2 ^ 62) is short
+      few : length w.trace < MOST_LABELS
+      few = subst (λ u. length u < MOST_LABELS) is short
 
-      after : ◌≡◌ {A = Shown K V F S} (record { hasher = w.hasher; processors = w.processors; first = w.first; board = w.board; tables = w.tables; callers = callers; trace = trace }) (begun_with hash w d)
-      after = ap (λ u. record { hasher = w.hasher; processors = w.processors; first = w.first; board = w.board; tables = w.tables; callers = u; trace = trace }) (put ∙ ap (λ u. u ++ record { call = labelled d; course = record { hash = hash_for hash d; processors = w.processors; stage = kept_stage d }; steps = 0 } ∷ []) are)
-          ∙ ap (λ u. record { hasher = w.hasher; processors = w.processors; first = w.first; board = w.board; tables = w.tables; callers = w.callers ++ record { call = labelled d; course = record { hash = hash_for hash d; processors = w.processors; stage = kept_stage d }; steps = 0 } ∷ []; trace = u })
-          (added ∙ ap (λ u. u ++ label.Begin n (labelled d) ∷ []) is ∙ ap (λ m. w.trace ++ label.Begin m (labelled d) ∷ []) number)
+      after : ◌≡◌ {A = WorldState K V F S} (record { hasher = w.hasher; processors = w.processors; first = w.first; control_state = w.control_state; tables = w.tables; party_records = party_records; trace = trace }) (begun_with hash w d)
+      after = ap (λ u. record { hasher = w.hasher; processors = w.processors; first = w.first; control_state = w.control_state; tables = w.tables; party_records = u; trace = trace }) (put ∙ ap (λ u. u ++ record { call = theory_call d; party_state = record { hash = hash_for hash d; processors = w.processors; stage = owned_stage d }; steps = 0 } ∷ []) are)
+          ∙ ap (λ u. record { hasher = w.hasher; processors = w.processors; first = w.first; control_state = w.control_state; tables = w.tables; party_records = w.party_records ++ record { call = theory_call d; party_state = record { hash = hash_for hash d; processors = w.processors; stage = owned_stage d }; steps = 0 } ∷ []; trace = u })
+          (added ∙ ap (λ u. u ++ label.Begin n (theory_call d) ∷ []) is ∙ ap (λ m. w.trace ++ label.Begin m (theory_call d) ∷ []) number)
 
       begins : IsWorld cmp hash gives (begun_with hash w d)
       begins = let (follows, mode, claim) = fresh_stage d in began cmp total hash (alike_class cmp hash alike) gives w k.world near _ _ mode claim (own_hash hash d) follows

@@ -3,21 +3,21 @@ use Rattle.std.specs.Prelude.{◌≡◌, ℕ, pos, ◌+ℤ◌, ◌-ℤ◌, ◌%�
 use Rattle.std.specs.declared.cmp.Ordering.{Ordering}
 use Rattle.flurry_model.specs.declared.reply.KeptReply.{KeptReply}
 use Rattle.flurry_slots.specs.Slot.{IsUnborn}
-use Rattle.flurry_steps.specs.Party.{Task, Says, AtBin, AtDone}
+use Rattle.flurry_steps.specs.Party.{Task, OutcomeReply, AtBin, AtDone}
 use Rattle.flurry_theory.specs.Machine.{owes_added, owes_removed, total}
-use Rattle.flurry_theory.specs.Trace.{is_lookup, decision, replied, closed, pairs}
+use Rattle.flurry_theory.specs.Trace.{is_lookup, decision, has_replied, has_closed, pairs}
 use Rattle.flurry_theory.specs.Legal.{EachMay, RemovalMay}
 use Rattle.flurry_theory.specs.Invariant.{Legal}
 use Rattle.flurry_world.specs.Tables.{content_at}
-use Rattle.flurry_world.specs.World.{Caller, Shown, mode_in}
+use Rattle.flurry_world.specs.World.{PartyRecord, WorldState, mode_in}
 
-module _ {K V F S : Type 0} (cmp : K → K → Ordering) (hash : K → ℕ) (changes : F → K → V → Option V → Type 0) (w : Shown K V F S) where
+module _ {K V F S : Type 0} (cmp : K → K → Ordering) (hash : K → ℕ) (changes : F → K → V → Option V → Type 0) (w : WorldState K V F S) where
   -- the pairs that the calls in progress have added, or removed, and not counted yet
   abbrev pub owed_added : ℕ
-  owed_added = total (λ p. owes_added (mode_in (slice_get w.callers p))) (length w.callers)
+  owed_added = total (λ p. owes_added (mode_in (slice_get w.party_records p))) (length w.party_records)
 
   abbrev pub owed_removed : ℕ
-  owed_removed = total (λ p. owes_removed (mode_in (slice_get w.callers p))) (length w.callers)
+  owed_removed = total (λ p. owes_removed (mode_in (slice_get w.party_records p))) (length w.party_records)
 
   pub record IsLawful : Type 0 where
     -- the calls, walks, clears and growths of the labels are lawful
@@ -25,10 +25,10 @@ module _ {K V F S : Type 0} (cmp : K → K → Ordering) (hash : K → ℕ) (cha
     -- and the conditional removals; no call has begun with what a walk read
     pub removals : EachMay (RemovalMay cmp hash changes (λ _. None)) (reverse w.trace)
     -- the pairs of the map are those that are counted and those that calls owe
-    pub count : pos (length (pairs cmp hash (reverse w.trace))) ≡ w.board.count +ℤ pos owed_added -ℤ pos owed_removed
+    pub count : pos (length (pairs cmp hash (reverse w.trace))) ≡ w.control_state.count +ℤ pos owed_added -ℤ pos owed_removed
     -- no call goes to a bin that is not born yet
-    pub there : (p : ℕ) (x : Caller K V F) (t : Task K V F) (e : ℕ) → slice_get w.callers p ≡ Some x → x.course.stage ≡ AtBin t e → content_at w.tables e (x.course.hash % 2 ^ e) ≡ IsUnborn → ⊥
+    pub there : (p : ℕ) (x : PartyRecord K V F) (t : Task K V F) (e : ℕ) → slice_get w.party_records p ≡ Some x → x.party_state.stage ≡ AtBin t e → content_at w.tables e (x.party_state.hash % 2 ^ e) ≡ IsUnborn → ⊥
     -- a look-up has decided or was refused by its 32nd step
-    pub in_time : (p : ℕ) (x : Caller K V F) → slice_get w.callers p ≡ Some x → is_lookup (Some x.call) ≡ true → decision (reverse w.trace) p ≡ None → closed (reverse w.trace) p ≡ false → x.steps < 32
+    pub in_time : (p : ℕ) (x : PartyRecord K V F) → slice_get w.party_records p ≡ Some x → is_lookup (Some x.call) ≡ true → decision (reverse w.trace) p ≡ None → has_closed (reverse w.trace) p ≡ false → x.steps < 32
     -- and its step after the decision is its reply
-    pub replies_next : (p : ℕ) (x : Caller K V F) (r : KeptReply K V) → slice_get w.callers p ≡ Some x → is_lookup (Some x.call) ≡ true → decision (reverse w.trace) p ≡ Some r → replied (reverse w.trace) p ≡ false → x.course.stage ≡ AtDone (Says r)
+    pub replies_next : (p : ℕ) (x : PartyRecord K V F) (r : KeptReply K V) → slice_get w.party_records p ≡ Some x → is_lookup (Some x.call) ≡ true → decision (reverse w.trace) p ≡ Some r → has_replied (reverse w.trace) p ≡ false → x.party_state.stage ≡ AtDone (OutcomeReply r)

@@ -2,9 +2,9 @@
 use Rattle.std.specs.Prelude.{◌≡◌, ℕ, pos, ◌+◌, ◌^◌, ◌≤◌, List, slice_get, slice_set, Option, Some, None, IsSome, ⊤}
 use Rattle.std.specs.declared.cmp.Ordering.{Ordering}
 use Rattle.flurry_slots.specs.Slot.{Place, IsSlot, IsUnborn}
-use Rattle.flurry_steps.specs.Control.{Board, IsIdle}
+use Rattle.flurry_steps.specs.Control.{ControlState, IsIdle}
 use Rattle.flurry_steps.specs.Field.{Loan, ControlLoan, StartLoan, LookLoan, BinLoan, MoveLoan}
-use Rattle.flurry_steps.specs.Party.{Stage, AtLocate, AtBin, AtClaim, AtMove, AtUncount, AtCount, AtRecount, AtBegin, AtGrow, AtReserve, AtDone, AtTaken, Course, Part, ControlPart, LookPart, BinPart, MovePart, NoPart}
+use Rattle.flurry_steps.specs.Party.{Stage, AtLocate, AtBin, AtClaim, AtMove, AtUncount, AtCount, AtRecount, AtBegin, AtGrow, AtReserve, AtDone, AtTaken, PartyState, Part, ControlPart, LookPart, BinPart, MovePart, NoPart}
 use Rattle.flurry_steps.specs.PartyControl.{ControlStep}
 use Rattle.flurry_steps.specs.PartySlots.{SlotStep, MoveStep}
 use Rattle.flurry_steps.specs.declared.party.Event.{Event}
@@ -12,27 +12,18 @@ use Rattle.flurry_world.specs.Tables.{Tables, no_tables, place_at, content_at, p
 
 -- all parts of a map
 pub record Parts (K V : Type 0) : Type 0 where
-  pub board : Board
+  pub control_state : ControlState
   pub tables : Tables K V
 
 -- without a table
 abbrev pub no_parts : {K V : Type 0} → Parts K V
-no_parts = record { board = record { published = None; growth = IsIdle; count = pos 0 }; tables = no_tables }
+no_parts = record { control_state = record { published = None; growth = IsIdle; count = pos 0 }; tables = no_tables }
 
 -- the call is not done
 abbrev pub IsGoing : {K V F : Type 0} → Stage K V F → Type 0
-IsGoing (AtLocate t) = ⊤
-IsGoing (AtBin t e) = ⊤
-IsGoing (AtClaim a) = ⊤
-IsGoing (AtMove m a) = ⊤
-IsGoing (AtUncount r) = ⊤
-IsGoing (AtCount r) = ⊤
-IsGoing (AtRecount r) = ⊤
-IsGoing (AtBegin e r) = ⊤
-IsGoing (AtGrow e g) = ⊤
-IsGoing (AtReserve a) = ⊤
 IsGoing (AtDone r) = ⊥
 IsGoing AtTaken = ⊥
+IsGoing _ = ⊤
 
 -- the slots of that part are there
 abbrev pub IsThere : {K V : Type 0} → Tables K V → Part → Type 0
@@ -44,7 +35,7 @@ IsThere t NoPart = ⊥
 
 module _ {K V F : Type 0} (cmp : K → K → Ordering) (changes : F → K → V → Option V → Type 0) where
   -- The call c does its step at that part, of the control b and the tables t, with that event. Every other part stays.
-  abbrev pub PartStep : Part → Course K V F → Board → Tables K V → Event → Course K V F → Board → Tables K V → Type 0
+  abbrev pub PartStep : Part → PartyState K V F → ControlState → Tables K V → Event → PartyState K V F → ControlState → Tables K V → Type 0
   PartStep ControlPart c b t ev c' b' t' = ControlStep PlaceGives c b t ev c' b' t'
   PartStep (LookPart e i) c b t ev c' b' t' =
       (q : Place K V) × (place_at t e i ≡ Some q) × IsSlot cmp q × SlotStep cmp changes c q ev c' q × (b' ≡ b) × (t' ≡ t)
@@ -58,7 +49,7 @@ module _ {K V F : Type 0} (cmp : K → K → Ordering) (changes : F → K → V 
   PartStep NoPart c b t ev c' b' t' = ⊥
 
 -- the call c does its step at the slot q and its two halves, which are the slots i and j of the next table
-abbrev pub HalvesStep : {K V F : Type 0} → Course K V F → Place K V → ℕ → ℕ → List (Place K V) → Event → Course K V F → Place K V → List (Place K V) → Type 0
+abbrev pub HalvesStep : {K V F : Type 0} → PartyState K V F → Place K V → ℕ → ℕ → List (Place K V) → Event → PartyState K V F → Place K V → List (Place K V) → Type 0
 HalvesStep {K} {V} c q i j ps ev c' q' ps' =
     (low high low' high' : Place K V)
     × (slice_get ps i ≡ Some low) × (slice_get ps j ≡ Some high)
@@ -68,10 +59,10 @@ HalvesStep {K} {V} c q i j ps ev c' q' ps' =
 -- ---- loans of parts
 
 module _ {K V : Type 0} where
-  -- a call may begin at table d: its number is at most the published one, and its bins have come to be
+  -- a call may begin at table d: its exponent is at most the published one, and its bins have come to be
   pub record IsStart (s : Parts K V) (d : ℕ) : Type 0 where
     pub newest : ℕ
-    pub published : s.board.published ≡ Some newest
+    pub published : s.control_state.published ≡ Some newest
     pub within : d ≤ newest
     pub born : content_at s.tables d 0 ≡ IsUnborn → ⊥
 
@@ -79,26 +70,23 @@ module _ {K V : Type 0} where
   -- every other part stays. A table that is told in the control's place is one where a call may begin.
   module _ {R : Type 0} (room : R → Tables K V) where
     abbrev pub IsOwn : Parts K V → Loan K V R → Parts K V → Type 0
-    IsOwn s (ControlLoan b r b' r') s' = (s ≡ record { board = b; tables = room r }) × (s' ≡ record { board = b'; tables = room r' })
+    IsOwn s (ControlLoan b r b' r') s' = (s ≡ record { control_state = b; tables = room r }) × (s' ≡ record { control_state = b'; tables = room r' })
     IsOwn s (StartLoan d) s' = IsStart s d × (s' ≡ s)
     IsOwn s (LookLoan q) s' = (place_at s.tables q.table q.index ≡ Some q) × (s' ≡ s)
     IsOwn s (BinLoan q q') s' =
-        (place_at s.tables q.table q.index ≡ Some q) × (s' ≡ record { board = s.board; tables = put_place s.tables q.table q.index q' })
+        (place_at s.tables q.table q.index ≡ Some q) × (s' ≡ record { control_state = s.control_state; tables = put_place s.tables q.table q.index q' })
     IsOwn s (MoveLoan q low high q' low' high') s' =
         (place_at s.tables q.table q.index ≡ Some q)
         × (place_at s.tables (q.table + 1) q.index ≡ Some low) × (place_at s.tables (q.table + 1) (q.index + 2 ^ q.table) ≡ Some high)
         × (s' ≡ record {
-          board = s.board;
+          control_state = s.control_state;
           tables = put_place (put_place (put_place s.tables q.table q.index q') (q.table + 1) q.index low') (q.table + 1) (q.index + 2 ^ q.table) high';
         })
 
   -- a part itself is lent, and no table told in its place
   abbrev pub IsPart : {R : Type 0} → Loan K V R → Type 0
-  IsPart (ControlLoan b r b' r') = ⊤
   IsPart (StartLoan d) = ⊥
-  IsPart (LookLoan q) = ⊤
-  IsPart (BinLoan q q') = ⊤
-  IsPart (MoveLoan q low high q' low' high') = ⊤
+  IsPart _ = ⊤
 
   -- what one owner lends is a part of its own, and what it does not lend is not there
   abbrev pub OwnLends : Parts K V → Loan K V (Tables K V) → Parts K V → Type 0

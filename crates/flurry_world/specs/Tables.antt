@@ -1,7 +1,8 @@
--- Tables in their places, by number: the list has a list of slots for each number, which is empty where no table was made.
+-- Tables in their places, by exponent: the list has a list of slots for each exponent, which is empty where no table was made.
 use Rattle.std.specs.Prelude.{◌≡◌, ℕ, zero, suc, ◌^◌, Bool, true, false, List, [], ◌∷◌, ◌++◌, length, replicate, slice_get, slice_index_or, slice_set, Option, Some}
 use Rattle.std.specs.Option.{option_map_or}
 use Rattle.flurry_slots.specs.Slot.{Content, IsLive, IsUnborn, Place}
+use Rattle.flurry_model.specs.declared.sizes.TheConstants.{TABLES}
 
 abbrev pub Tables : Type 0 → Type 0 → Type 0
 Tables K V = List (List (Place K V))
@@ -9,7 +10,7 @@ Tables K V = List (List (Place K V))
 module _ {K V : Type 0} where
   -- no table in any of the 31 places
   abbrev pub no_tables : Tables K V
-  no_tables = replicate 31 []
+  no_tables = replicate TABLES []
 
   -- the slots of table e
   abbrev pub slots_of : Tables K V → ℕ → List (Place K V)
@@ -57,8 +58,8 @@ module _ {K V : Type 0} where
   abbrev pub PlaceGives : Tables K V → ℕ → Bool → Bool → Tables K V → Type 0
   PlaceGives t e live ok t' = MadeGives (is_made (slots_of t e)) t e live ok t'
 
-  -- what tables keep: a place for each of the numbers 0 to 30, and in each table that is there its slots, in their order
+  -- what tables keep: a place for each exponent from 0 to the greatest, and in each table that is there its slots, in their order
   pub record AreTables (t : Tables K V) : Type 0 where
-    pub places : length t ≡ 31
+    pub places : length t ≡ TABLES
     pub slots : (e : ℕ) → is_made (slots_of t e) ≡ true → length (slots_of t e) ≡ 2 ^ e
     pub order : (e i : ℕ) (q : Place K V) → place_at t e i ≡ Some q → (q.table ≡ e) × (q.index ≡ i)

@@ -4,8 +4,8 @@ use Rattle.std.specs.declared.cmp.Ordering.{Ordering}
 use Rattle.flurry_model.specs.declared.reply.KeptReply.{KeptReply}
 use Rattle.flurry_slots.specs.Slot.{Live, IsLive}
 use Rattle.flurry_steps.specs.Control as control
-use Rattle.flurry_steps.specs.Control.{Board, IsControl, IsIdle, Grows}
-use Rattle.flurry_steps.specs.Party.{TheValue, ThePair, Presence, Task, Finds, Removes, Inserts, Adds, Computes, Said, Says, SaysEnded, SaysRefused, Growing, ForInsert, ForReserve, After, ThenBin, ThenRecount, ThenGrow, Stage, AtLocate, AtBin, AtClaim, AtMove, AtUncount, AtCount, AtRecount, AtBegin, AtGrow, AtReserve, AtDone, AtTaken, Course}
+use Rattle.flurry_steps.specs.Control.{ControlState, IsControl, IsIdle, Grows}
+use Rattle.flurry_steps.specs.Party.{TheValue, ThePair, Presence, Task, Finds, Removes, Inserts, Adds, Computes, Outcome, OutcomeReply, OutcomeEnded, OutcomeRefused, GrowFor, ForInsert, ForReserve, Resume, ThenBin, ThenRecount, ThenGrow, Stage, AtLocate, AtBin, AtClaim, AtMove, AtUncount, AtCount, AtRecount, AtBegin, AtGrow, AtReserve, AtDone, AtTaken, PartyState}
 use Rattle.flurry_theory.specs.Machine as machine
 use Rattle.flurry_theory.specs.Machine.{State, Mode, Locating, Looking, Done, Finished}
 use Rattle.flurry_theory.specs.Map.{key_of}
@@ -17,22 +17,23 @@ use Rattle.flurry_theory.specs.declared.Label.{Label}
 use Rattle.flurry_theory.specs.declared.Label.TheVariants as label
 use Rattle.flurry_world.specs.Entries.{slot_of, Hashed}
 use Rattle.flurry_world.specs.Tables.{Tables, AreTables, slots_of, content_at}
+use Rattle.flurry_model.specs.declared.sizes.TheConstants.{MOST_LABELS}
 
 -- a call that began, where it stands, and how many steps it has done
-pub record Caller (K V F : Type 0) : Type 0 where
+pub record PartyRecord (K V F : Type 0) : Type 0 where
   pub call : Call K V F
-  pub course : Course K V F
+  pub party_state : PartyState K V F
   pub steps : ℕ
 
--- the hasher, the processors that share the work of a growth, the table that the world began with, the control's board, the tables,
+-- the hasher, the processors that share the work of a growth, the table that the world began with, the control, the tables,
 -- the calls in the order of their beginning, and the labels, the oldest first
-pub record Shown (K V F S : Type 0) : Type 0 where
+pub record WorldState (K V F S : Type 0) : Type 0 where
   pub hasher : S
   pub processors : ℕ
   pub first : Option ℕ
-  pub board : Board
+  pub control_state : ControlState
   pub tables : Tables K V
-  pub callers : List (Caller K V F)
+  pub party_records : List (PartyRecord K V F)
   pub trace : List (Label K V F)
 
 -- ---- the machine's view of a call in progress
@@ -48,44 +49,41 @@ module _ {K V F : Type 0} where
   task_of_call (call.Compute k f) = Some (Computes k f)
   task_of_call (call.Remove k) = Some (Removes TheValue k)
   task_of_call (call.RemoveEntry k) = Some (Removes ThePair k)
-  task_of_call (call.RemoveSeen z) = None
-  task_of_call (call.Reserve n) = None
-  task_of_call call.Clear = None
-  task_of_call call.Walk = None
+  task_of_call _ = None
 
 module _ {K V : Type 0} where
   -- the reply of a decision
-  abbrev pub reply_in : Said K V → Option (KeptReply K V)
-  reply_in (Says r) = Some r
-  reply_in SaysEnded = None
-  reply_in SaysRefused = None
+  abbrev pub reply_in : Outcome K V → Option (KeptReply K V)
+  reply_in (OutcomeReply r) = Some r
+  reply_in OutcomeEnded = None
+  reply_in OutcomeRefused = None
 
   -- an insertion that makes the table larger has yet to count its pair
-  abbrev pub mode_of_growing : Growing K V → Mode K V
-  mode_of_growing (ForInsert r) = Done (reply_in r) 1 0
-  mode_of_growing ForReserve = Done None 0 0
+  abbrev pub mode_of_grow_for : GrowFor K V → Mode K V
+  mode_of_grow_for (ForInsert r) = Done (reply_in r) 1 0
+  mode_of_grow_for ForReserve = Done None 0 0
 
-  abbrev pub mode_of_end : Said K V → Mode K V
-  mode_of_end (Says r) = Done (Some r) 0 0
-  mode_of_end SaysEnded = Done None 0 0
-  mode_of_end SaysRefused = Finished
+  abbrev pub mode_of_end : Outcome K V → Mode K V
+  mode_of_end (OutcomeReply r) = Done (Some r) 0 0
+  mode_of_end OutcomeEnded = Done None 0 0
+  mode_of_end OutcomeRefused = Finished
 
 module _ {K V F : Type 0} where
-  abbrev pub mode_of_after : After K V F → Mode K V
-  mode_of_after (ThenBin t e) = Looking e
-  mode_of_after (ThenRecount r) = Done (reply_in r) 0 0
-  mode_of_after (ThenGrow w g) = mode_of_growing g
+  abbrev pub mode_of_resume : Resume K V F → Mode K V
+  mode_of_resume (ThenBin t e) = Looking e
+  mode_of_resume (ThenRecount r) = Done (reply_in r) 0 0
+  mode_of_resume (ThenGrow w g) = mode_of_grow_for g
 
   abbrev pub mode_of_stage : Stage K V F → Mode K V
   mode_of_stage (AtLocate t) = Locating
   mode_of_stage (AtBin t e) = Looking e
-  mode_of_stage (AtClaim a) = mode_of_after a
-  mode_of_stage (AtMove c a) = mode_of_after a
+  mode_of_stage (AtClaim a) = mode_of_resume a
+  mode_of_stage (AtMove c a) = mode_of_resume a
   mode_of_stage (AtUncount r) = Done (reply_in r) 0 1
   mode_of_stage (AtCount r) = Done (reply_in r) 1 0
   mode_of_stage (AtRecount r) = Done (reply_in r) 0 0
   mode_of_stage (AtBegin e r) = Done (reply_in r) 0 0
-  mode_of_stage (AtGrow w g) = mode_of_growing g
+  mode_of_stage (AtGrow w g) = mode_of_grow_for g
   mode_of_stage (AtReserve a) = Locating
   mode_of_stage (AtDone r) = mode_of_end r
   mode_of_stage AtTaken = Finished
@@ -107,104 +105,104 @@ growth_of IsIdle = None
 growth_of (Grows u r) = Some (record { unclaimed = u; reported = r })
 
 module _ {K V F : Type 0} where
-  -- the number of the table that was opened first
+  -- the exponent of the table that was opened first
   abbrev pub opened_in : List (Label K V F) → ℕ
   opened_in [] = 0
   opened_in (label.Opened e ∷ t) = e
   opened_in (l ∷ t) = opened_in t
 
-  -- the number of the first table
+  -- the exponent of the first table
   abbrev pub start_of : Option ℕ → List (Label K V F) → ℕ
   start_of first t = unwrap_or first (opened_in t)
 
-  abbrev pub mode_in : Option (Caller K V F) → Mode K V
+  abbrev pub mode_in : Option (PartyRecord K V F) → Mode K V
   mode_in None = Finished
-  mode_in (Some x) = mode_of_stage x.course.stage
+  mode_in (Some x) = mode_of_stage x.party_state.stage
 
-  abbrev pub claim_in : Option (Caller K V F) → Option machine.Claim
+  abbrev pub claim_in : Option (PartyRecord K V F) → Option machine.Claim
   claim_in None = None
-  claim_in (Some x) = claim_of_stage x.course.stage
+  claim_in (Some x) = claim_of_stage x.party_state.stage
 
-  abbrev pub steps_in : Option (Caller K V F) → ℕ
+  abbrev pub steps_in : Option (PartyRecord K V F) → ℕ
   steps_in None = 0
   steps_in (Some x) = x.steps
 
-  abbrev pub state_of : {S : Type 0} → Shown K V F S → State K V F
+  abbrev pub state_of : {S : Type 0} → WorldState K V F S → State K V F
   state_of w = record {
     start = start_of w.first (reverse w.trace);
-    published = w.board.published;
-    growth = growth_of w.board.growth;
+    published = w.control_state.published;
+    growth = growth_of w.control_state.growth;
     slot = λ d j. slot_of (content_at w.tables d j);
-    parties = length w.callers;
-    call = λ p. option_map (λ (x : Caller K V F). x.call) (slice_get w.callers p);
-    mode = λ p. mode_in (slice_get w.callers p);
-    claim = λ p. claim_in (slice_get w.callers p);
-    count = w.board.count;
+    parties = length w.party_records;
+    call = λ p. option_map (λ (x : PartyRecord K V F). x.call) (slice_get w.party_records p);
+    mode = λ p. mode_in (slice_get w.party_records p);
+    claim = λ p. claim_in (slice_get w.party_records p);
+    count = w.control_state.count;
     seen = λ _. None;
     began_from = λ _. None;
-    steps = λ p. steps_in (slice_get w.callers p);
+    steps = λ p. steps_in (slice_get w.party_records p);
     trace = reverse w.trace;
   }
 
   -- ---- what a world keeps
 
   -- a call of one key that may change the map, and has this reply
-  pub record HasDecided (c : Call K V F) (r : Said K V) : Type 0 where
+  pub record HasDecided (c : Call K V F) (r : Outcome K V) : Type 0 where
     pub one_key : IsSome (key_of c)
     pub writes : is_lookup (Some c) ≡ false
     pub reply : IsSome (reply_in r)
 
-  abbrev pub FollowsGrowing : Call K V F → Growing K V → Type 0
-  FollowsGrowing c (ForInsert r) = HasDecided c r
-  FollowsGrowing c ForReserve = (n : ℕ) × (c ≡ call.Reserve n)
+  abbrev pub FollowsGrowFor : Call K V F → GrowFor K V → Type 0
+  FollowsGrowFor c (ForInsert r) = HasDecided c r
+  FollowsGrowFor c ForReserve = (n : ℕ) × (c ≡ call.Reserve n)
 
-  abbrev pub FollowsAfter : Call K V F → After K V F → Type 0
-  FollowsAfter c (ThenBin t e) = (task_of_call c ≡ Some t) × (is_lookup (Some c) ≡ false)
-  FollowsAfter c (ThenRecount r) = HasDecided c r
-  FollowsAfter c (ThenGrow w g) = FollowsGrowing c g
+  abbrev pub FollowsResume : Call K V F → Resume K V F → Type 0
+  FollowsResume c (ThenBin t e) = (task_of_call c ≡ Some t) × (is_lookup (Some c) ≡ false)
+  FollowsResume c (ThenRecount r) = HasDecided c r
+  FollowsResume c (ThenGrow w g) = FollowsGrowFor c g
 
-  abbrev pub FollowsEnd : Call K V F → Said K V → Type 0
-  FollowsEnd c (Says r) = IsSome (key_of c)
-  FollowsEnd c SaysEnded = (n : ℕ) × (c ≡ call.Reserve n)
-  FollowsEnd c SaysRefused = ⊤
+  abbrev pub FollowsEnd : Call K V F → Outcome K V → Type 0
+  FollowsEnd c (OutcomeReply r) = IsSome (key_of c)
+  FollowsEnd c OutcomeEnded = (n : ℕ) × (c ≡ call.Reserve n)
+  FollowsEnd c OutcomeRefused = ⊤
 
   -- the stage is one of this call
   abbrev pub FollowsStage : Call K V F → Stage K V F → Type 0
   FollowsStage c (AtLocate t) = task_of_call c ≡ Some t
   FollowsStage c (AtBin t e) = task_of_call c ≡ Some t
-  FollowsStage c (AtClaim a) = FollowsAfter c a
-  FollowsStage c (AtMove r a) = FollowsAfter c a
+  FollowsStage c (AtClaim a) = FollowsResume c a
+  FollowsStage c (AtMove r a) = FollowsResume c a
   FollowsStage c (AtUncount r) = HasDecided c r
   FollowsStage c (AtCount r) = HasDecided c r
   FollowsStage c (AtRecount r) = HasDecided c r
   FollowsStage c (AtBegin e r) = HasDecided c r
-  FollowsStage c (AtGrow w g) = FollowsGrowing c g
+  FollowsStage c (AtGrow w g) = FollowsGrowFor c g
   FollowsStage c (AtReserve a) = c ≡ call.Reserve a
   FollowsStage c (AtDone r) = FollowsEnd c r
   FollowsStage c AtTaken = ⊤
 
   -- a call in progress goes by the hash of its key, and its stage is one of its call
-  pub record Follows (hash : K → ℕ) (x : Caller K V F) : Type 0 where
-    pub own_hash : (k : K) → key_of x.call ≡ Some k → x.course.hash ≡ hash k
-    pub stage : FollowsStage x.call x.course.stage
+  pub record Follows (hash : K → ℕ) (x : PartyRecord K V F) : Type 0 where
+    pub own_hash : (k : K) → key_of x.call ≡ Some k → x.party_state.hash ≡ hash k
+    pub stage : FollowsStage x.call x.party_state.stage
 
   module _ {S : Type 0} (cmp : K → K → Ordering) (hash : K → ℕ) (gives : F → K → V → Option V → Type 0) where
     -- The machine's invariant holds of it; its calls stand where calls of their kind can stand; each entry has its key's hash; and
     -- there is no table before one is published, and the next one while the published one is moved.
-    pub record IsWorld (w : Shown K V F S) : Type 0 where
+    pub record IsWorld (w : WorldState K V F S) : Type 0 where
       pub state : (home : ℕ → ℕ) × Inv cmp hash gives w.first home (state_of w)
-      pub callers : (p : ℕ) (x : Caller K V F) → slice_get w.callers p ≡ Some x → Follows hash x
+      pub party_records : (p : ℕ) (x : PartyRecord K V F) → slice_get w.party_records p ≡ Some x → Follows hash x
       pub hashed : (e i : ℕ) (b : Live K V) → content_at w.tables e i ≡ IsLive b → Hashed hash b.held
-      pub board : IsControl w.board
+      pub control_state : IsControl w.control_state
       pub tables : AreTables w.tables
-      pub unmade : w.board.published ≡ None → (e : ℕ) → slots_of w.tables e ≡ []
-      pub next : (e u r : ℕ) → w.board.published ≡ Some e → w.board.growth ≡ Grows u r → (slots_of w.tables (suc e) ≡ [] → ⊥)
+      pub unmade : w.control_state.published ≡ None → (e : ℕ) → slots_of w.tables e ≡ []
+      pub next : (e u r : ℕ) → w.control_state.published ≡ Some e → w.control_state.growth ≡ Grows u r → (slots_of w.tables (suc e) ≡ [] → ⊥)
 
     -- and there are so few labels that no number which counts them, or pairs, is cut off
-    pub record IsBounded (w : Shown K V F S) : Type 0 where
+    pub record IsBounded (w : WorldState K V F S) : Type 0 where
       pub world : IsWorld w
-      pub few : length w.trace ≤ 2 ^ 62
+      pub few : length w.trace ≤ MOST_LABELS
 
-    -- party p takes the world w to w' by one line of the machine
-    abbrev pub DoesLine : Shown K V F S → ℕ → Shown K V F S → Type 0
-    DoesLine w p w' = (line : machine.Line K V F) × machine.Can cmp hash gives (state_of w) p line × (state_of w' ≡ machine.does cmp hash gives (state_of w) p line)
+    -- party p takes the world w to w' by one transition of the machine
+    abbrev pub DoesTransition : WorldState K V F S → ℕ → WorldState K V F S → Type 0
+    DoesTransition w p w' = (line : machine.Transition K V F) × machine.Can cmp hash gives (state_of w) p line × (state_of w' ≡ machine.does cmp hash gives (state_of w) p line)

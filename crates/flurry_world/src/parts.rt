@@ -3,9 +3,10 @@ ghost use Rattle.std.specs.Prelude.{◌≡◌, ◌≤◌, IfOk};
 ghost use Rattle.flurry_steps.specs.Control.{OpenGives};
 ghost use Rattle.flurry_world.specs.Parts.{no_parts};
 ghost use Rattle.flurry_world.specs.Tables.{AreTables, PlaceGives};
+ghost use Rattle.flurry_model.specs.declared.sizes.TheConstants.{GREATEST_TABLE};
 
 use crate::tables::Tables;
-use flurry_slots::Change;
+use flurry_slots::ComputeFn;
 use flurry_steps::party::Event;
 use flurry_steps::{Control, Field, Party};
 use std::alloc::{AllocError, Allocator, Global};
@@ -24,7 +25,7 @@ impl<K: Ord, V, A: Allocator> Model for Parts<K, V, A> {
 
     ghost Value = { Parts K V };
 
-    ghost view = { λ p. record { board = p.control; tables = p.tables } };
+    ghost view = { λ p. record { control_state = p.control; tables = p.tables } };
 }
 
 impl<K: Ord + Drop, V: Drop, A: Allocator + Copy> Parts<K, V, A> {
@@ -43,7 +44,7 @@ impl<K: Ord + Drop, V: Drop, A: Allocator + Copy> Parts<K, V, A> {
         })
     }
 
-    /// The number of the published table. Where there is none, this table is made, with live and empty bins, and published.
+    /// The exponent of the published table. Where there is none, this table is made, with live and empty bins, and published.
     ///
     /// Constant time, but for the making of a table.
     ///
@@ -51,9 +52,9 @@ impl<K: Ord + Drop, V: Drop, A: Allocator + Copy> Parts<K, V, A> {
     ///
     /// [`AllocError`], where memory for the table is wanting. The parts are then as before.
     pub fn open(&mut self, table: u8) -> Result<u8, AllocError>
-        requires { table ≤ 30 }
-        ensures gives { OpenGives PlaceGives table self.old.board self.old.tables result self.new.board self.new.tables }
-        ensures within { IfOk result (λ e. e ≤ 30) }
+        requires { table ≤ GREATEST_TABLE }
+        ensures gives { OpenGives PlaceGives table self.old.control_state self.old.tables result self.new.control_state self.new.tables }
+        ensures within { IfOk result (λ e. e ≤ GREATEST_TABLE) }
     {
         self.control.open(table, &mut self.tables)
     }
@@ -62,7 +63,7 @@ impl<K: Ord + Drop, V: Drop, A: Allocator + Copy> Parts<K, V, A> {
     ///
     /// Constant time.
     pub fn control(&self) -> &Control
-        ensures { result.now ≡ self.now.board }
+        ensures { result.now ≡ self.now.control_state }
     {
         &self.control
     }
@@ -86,11 +87,14 @@ impl<K: Ord + Drop, V: Drop, A: Allocator + Copy> Field<K, V, A> for Parts<K, V,
 
     ghost lacks = { OwnLacks };
 
-    fn at_control<F: Change<K, V>>(&mut self, party: &mut Party<'_, K, V, F, A>) -> Option<Event> {
+    fn at_control<F: ComputeFn<K, V>>(
+        &mut self,
+        party: &mut Party<'_, K, V, F, A>,
+    ) -> Option<Event> {
         Some(party.on_control(&mut self.control, &mut self.tables))
     }
 
-    fn at_look<F: Change<K, V>>(
+    fn at_look<F: ComputeFn<K, V>>(
         &mut self,
         table: u8,
         index: usize,
@@ -102,7 +106,7 @@ impl<K: Ord + Drop, V: Drop, A: Allocator + Copy> Field<K, V, A> for Parts<K, V,
         Some(party.on_look(self.tables.slot(table, index)))
     }
 
-    fn at_bin<F: Change<K, V>>(
+    fn at_bin<F: ComputeFn<K, V>>(
         &mut self,
         table: u8,
         index: usize,
@@ -114,7 +118,7 @@ impl<K: Ord + Drop, V: Drop, A: Allocator + Copy> Field<K, V, A> for Parts<K, V,
         Some(self.tables.lend_bin(self.alloc, table, index, party))
     }
 
-    fn at_move<F: Change<K, V>>(
+    fn at_move<F: ComputeFn<K, V>>(
         &mut self,
         table: u8,
         index: usize,

@@ -1,21 +1,23 @@
-//! The tables of a map, each at the place of its number.
+//! The tables of a map, each at the place of its exponent.
 ghost use Rattle.std.specs.Prelude.{◌≡◌, ◌+◌, ◌<◌, ◌≤◌, ◌^◌, ◌↔◌, length, Some, IsSome, IsTrue, IfOk, is_some};
 ghost use Rattle.flurry_slots.specs.Slot.{IsSlot};
-ghost use Rattle.flurry_steps.specs.Control.{Board};
+ghost use Rattle.flurry_steps.specs.Control.{ControlState};
 ghost use Rattle.flurry_steps.specs.Party.{wanted_part, BinPart, MovePart};
 ghost use Rattle.flurry_world.specs.Parts.{HalvesStep, IsThere, PartStep};
 ghost use Rattle.flurry_world.specs.Tables.{AreTables, PlaceGives, fresh, new_slots, no_tables, place_at};
+ghost use Rattle.flurry_model.specs.declared.sizes.TheConstants.{GREATEST_TABLE};
 
 use flurry_bins::bin::Bin;
-use flurry_slots::{Change, Slot};
+use flurry_model::sizes::{GREATEST_TABLE, TABLES};
+use flurry_slots::{ComputeFn, Slot};
 use flurry_steps::Party;
-use flurry_steps::control::{GREATEST_TABLE, Room};
+use flurry_steps::control::Room;
 use flurry_steps::party::Event;
 use std::alloc::{AllocError, Allocator};
 use std::marker::Model;
 use std::mem;
 
-/// The tables of a map, by their numbers: the table of number e has `2^e` slots, and a table that was not made has none.
+/// The tables of a map, by their exponents: the table of exponent e has `2^e` slots, and a table that was not made has none.
 #[derive(Drop)]
 pub struct Tables<K: Ord, V, A: Allocator> {
     tables: Vec<Vec<Slot<K, V, A>, A>, A>,
@@ -42,8 +44,8 @@ impl<K: Ord + Drop, V: Drop, A: Allocator + Copy> Tables<K, V, A> {
     pub fn new(alloc: A) -> Result<Self, AllocError>
         ensures { IfOk result (λ t. t ≡ no_tables) }
     {
-        let mut tables = Vec::with_capacity(alloc, 31)?;
-        for _ in 0..31usize {
+        let mut tables = Vec::with_capacity(alloc, TABLES)?;
+        for _ in 0..TABLES {
             tables.push_reserved(Vec::new(alloc));
         }
         Ok(Tables { tables })
@@ -107,7 +109,7 @@ impl<K: Ord + Drop, V: Drop, A: Allocator> Tables<K, V, A> {
 
 impl<K: Ord + Drop, V: Drop, A: Allocator + Copy> Tables<K, V, A> {
     // Lends the slot there to the step of a call that may change its bin.
-    pub(crate) fn lend_bin<F: Change<K, V>>(
+    pub(crate) fn lend_bin<F: ComputeFn<K, V>>(
         &mut self,
         alloc: A,
         table: u8,
@@ -116,7 +118,8 @@ impl<K: Ord + Drop, V: Drop, A: Allocator + Copy> Tables<K, V, A> {
     ) -> Event
         requires wants { wanted_part party.old ≡ BinPart table index }
         requires there { IsThere self.old (BinPart table index) }
-        ensures step { (b : Board) → PartStep K.cmp F.changes (BinPart table index) party.old b self.old result party.new b self.new }
+        ensures step { (b : ControlState)
+            → PartStep K.cmp F.changes (BinPart table index) party.old b self.old result party.new b self.new }
         ensures within { AreTables self.new }
     {
         let slots = &mut self.tables[table as usize];
@@ -126,7 +129,7 @@ impl<K: Ord + Drop, V: Drop, A: Allocator + Copy> Tables<K, V, A> {
 
 impl<K: Ord + Drop, V: Drop, A: Allocator> Tables<K, V, A> {
     // Lends the slot there and its two halves in the next table to the step of a helper.
-    pub(crate) fn lend_halves<F: Change<K, V>>(
+    pub(crate) fn lend_halves<F: ComputeFn<K, V>>(
         &mut self,
         table: u8,
         index: usize,
@@ -134,7 +137,8 @@ impl<K: Ord + Drop, V: Drop, A: Allocator> Tables<K, V, A> {
     ) -> Event
         requires wants { wanted_part party.old ≡ MovePart table index }
         requires there { IsThere self.old (MovePart table index) }
-        ensures step { (b : Board) → PartStep K.cmp F.changes (MovePart table index) party.old b self.old result party.new b self.new }
+        ensures step { (b : ControlState)
+            → PartStep K.cmp F.changes (MovePart table index) party.old b self.old result party.new b self.new }
         ensures within { AreTables self.new }
     {
         let (front, back) = self.tables.split_at_mut(table as usize + 1);
@@ -145,7 +149,7 @@ impl<K: Ord + Drop, V: Drop, A: Allocator> Tables<K, V, A> {
 }
 
 // The same, with the slot and the next table. Its low half is taken out of there for the step, since both halves are lent at once.
-fn move_between<'k, K: Ord + Drop, V: Drop, F: Change<K, V>, A: Allocator>(
+fn move_between<'k, K: Ord + Drop, V: Drop, F: ComputeFn<K, V>, A: Allocator>(
     party: &mut Party<'k, K, V, F, A>,
     old: &mut Slot<K, V, A>,
     news: &mut Vec<Slot<K, V, A>, A>,
@@ -153,11 +157,12 @@ fn move_between<'k, K: Ord + Drop, V: Drop, F: Change<K, V>, A: Allocator>(
     index: usize,
 ) -> Event
     requires wants { wanted_part party.old ≡ MovePart old.old.table old.old.index }
-    requires table { table < 30 }
+    requires table { table < GREATEST_TABLE }
     requires low { index < 2 ^ table }
     requires high { index + 2 ^ table < length news.old.items }
     ensures within { IsSlot K.cmp old.old }
-    ensures step { HalvesStep party.old old.old index (index + 2 ^ table) news.old.items result party.new old.new news.new.items }
+    ensures step { HalvesStep party.old old.old index
+        (index + 2 ^ table) news.old.items result party.new old.new news.new.items }
 {
     let place = index + (1usize << table);
     let mut low = mem::replace(&mut news[index], Slot::unborn(table + 1, index));
@@ -173,7 +178,7 @@ fn new_slots<K: Ord + Drop, V: Drop, A: Allocator>(
     table: u8,
     live: bool,
 ) -> Result<Vec<Slot<K, V, A>, A>, AllocError>
-    requires { table ≤ 30 }
+    requires { table ≤ GREATEST_TABLE }
     ensures { IfOk result (λ v. v.items ≡ new_slots table live (2 ^ table)) }
 {
     let bins = 1usize << table;
@@ -190,7 +195,7 @@ fn new_slot<K: Ord + Drop, V: Drop, A: Allocator>(
     index: usize,
     live: bool,
 ) -> Slot<K, V, A>
-    requires table { table ≤ 30 }
+    requires table { table ≤ GREATEST_TABLE }
     requires index { index < 2 ^ table }
     ensures { result ≡ record { table = table; index = index; content = fresh live } }
 {

@@ -2,32 +2,31 @@
 ghost use Rattle.std.specs.Prelude.{◌≡◌, ◌<◌, ◌^◌, length, pos, All, OnOk, OnErr, IfOk};
 ghost use Rattle.std.specs.Vec.{vec_len, vec_capacity};
 ghost use Rattle.flurry_steps.specs.Control.{IsIdle};
-ghost use Rattle.flurry_steps.specs.PartyView.{KeptIsReady};
+ghost use Rattle.flurry_steps.specs.PartyView.{OwnedIsReady};
 ghost use Rattle.flurry_world.specs.Lawful.{IsLawful};
 ghost use Rattle.flurry_world.specs.Runs.{DoesStep, NewGives, Runs, RunsFront, StepIsReady, begun_with};
 ghost use Rattle.flurry_world.specs.Steps.{WorldStep, fresh_world};
-ghost use Rattle.flurry_world.specs.World.{DoesLine, IsWorld, IsBounded};
+ghost use Rattle.flurry_world.specs.World.{DoesTransition, IsWorld, IsBounded};
+ghost use Rattle.flurry_model.specs.declared.sizes.TheConstants.{MOST_LABELS};
 
-use crate::caller::{Caller, hash_for, labelled};
-use crate::labels::step_of;
 use crate::parts::Parts;
+use crate::party_record::{PartyRecord, hash_for, theory_call};
+use crate::step::step_party;
 use flurry_model::hash::KeyHasher;
-use flurry_slots::Change;
+pub use flurry_model::sizes::MOST_LABELS;
+use flurry_slots::ComputeFn;
 use flurry_steps::Party;
 use flurry_steps::control::wanted_table;
-use flurry_steps::party::KeptCall;
+use flurry_steps::party::OwnedCall;
 use flurry_theory::Label;
 use std::alloc::{AllocError, Allocator, Global};
 use std::marker::Model;
-
-/// The most labels of a world. A further one is refused as if memory were wanting, which no memory reaches.
-pub const MOST_LABELS: usize = 1 << 62;
 
 /// One step of a list that a world runs.
 #[derive(Clone, Copy, Debug)]
 pub enum Step<K, V, F> {
     /// A call begins.
-    Begin(KeptCall<K, V, F>),
+    Begin(OwnedCall<K, V, F>),
     /// The party of that number does its next step.
     Step(usize),
 }
@@ -43,7 +42,7 @@ pub struct World<
     'k,
     K: Ord + Copy,
     V: Copy,
-    F: Change<K, V> + Copy,
+    F: ComputeFn<K, V> + Copy,
     S: KeyHasher<K>,
     A: Allocator + Copy = Global,
 > {
@@ -51,27 +50,33 @@ pub struct World<
     processors: usize,
     first: Option<u8>,
     parts: Parts<K, V, A>,
-    callers: Vec<Caller<'k, K, V, F, A>, A>,
+    party_records: Vec<PartyRecord<'k, K, V, F, A>, A>,
     trace: Vec<Label<K, V, F>, A>,
 }
 
-impl<'k, K: Ord + Copy, V: Copy, F: Change<K, V> + Copy, S: KeyHasher<K>, A: Allocator + Copy> Model
-    for World<'k, K, V, F, S, A> {
-    ghost use Rattle.flurry_world.specs.World.{Shown, IsBounded};
-    ghost use Rattle.flurry_world.specs.WorldView.{shown_of};
+impl<
+    'k,
+    K: Ord + Copy,
+    V: Copy,
+    F: ComputeFn<K, V> + Copy,
+    S: KeyHasher<K>,
+    A: Allocator + Copy,
+> Model for World<'k, K, V, F, S, A> {
+    ghost use Rattle.flurry_world.specs.World.{WorldState, IsBounded};
+    ghost use Rattle.flurry_world.specs.WorldView.{world_state_of};
 
-    ghost Value = { Shown K V F S };
+    ghost Value = { WorldState K V F S };
 
-    ghost view = { shown_of };
+    ghost view = { world_state_of };
 
-    ghost invariant = { λ w. IsBounded K.cmp (S.hash_of w.hasher) F.changes (shown_of w) };
+    ghost invariant = { λ w. IsBounded K.cmp (S.hash_of w.hasher) F.changes (world_state_of w) };
 }
 
 impl<
     'k,
     K: Ord + Copy + Drop,
     V: Copy + Drop,
-    F: Change<K, V> + Copy,
+    F: ComputeFn<K, V> + Copy,
     S: KeyHasher<K> + Drop,
     A: Allocator + Copy,
 > World<'k, K, V, F, S, A> {
@@ -96,8 +101,9 @@ impl<
 
     // A world where no call has begun, that begins with this table.
     fn of(alloc: A, hasher: S, processors: usize, first: Option<u8>, parts: Parts<K, V, A>) -> Self
-        requires board { parts.board ≡ record { published = first; growth = IsIdle; count = pos 0 } }
-        requires world { IsBounded K.cmp (S.hash_of hasher) F.changes (fresh_world {K = K} {V = V} {F = F} hasher processors first parts.tables) }
+        requires control_state { parts.control_state ≡ record { published = first; growth = IsIdle; count = pos 0 } }
+        requires world { IsBounded K.cmp (S.hash_of hasher) F.changes
+            (fresh_world {K = K} {V = V} {F = F} hasher processors first parts.tables) }
         ensures { result ≡ fresh_world hasher processors first parts.tables }
     {
         World {
@@ -105,7 +111,7 @@ impl<
             processors,
             first,
             parts,
-            callers: Vec::new(alloc),
+            party_records: Vec::new(alloc),
             trace: Vec::new(alloc),
         }
     }
@@ -118,21 +124,22 @@ impl<
     /// # Errors
     ///
     /// [`AllocError`], where memory for the party or its label is wanting. The world is then as before, and the call is dropped.
-    pub fn begin(&mut self, call: KeptCall<K, V, F>) -> Result<usize, AllocError>
-        requires { KeptIsReady F.can_change call }
-        ensures party { IfOk result (λ p. p ≡ length self.old.callers) }
+    pub fn begin(&mut self, call: OwnedCall<K, V, F>) -> Result<usize, AllocError>
+        requires { OwnedIsReady F.can_change call }
+        ensures party { IfOk result (λ p. p ≡ length self.old.party_records) }
         ensures ok { OnOk result (self.new ≡ begun_with (S.hash_of self.old.hasher) self.old call) }
-        ensures line { IfOk result (λ p. DoesLine K.cmp (S.hash_of self.old.hasher) F.changes self.old p self.new) }
+        ensures line { IfOk result
+            (λ p. DoesTransition K.cmp (S.hash_of self.old.hasher) F.changes self.old p self.new) }
         ensures err { OnErr result (self.new ≡ self.old) }
     {
         make_room(&mut self.trace)?;
-        make_room(&mut self.callers)?;
-        let party = self.callers.len();
+        make_room(&mut self.party_records)?;
+        let party = self.party_records.len();
         let hash = hash_for(&self.hasher, &call);
-        let kept = labelled(call);
-        self.callers.push_reserved(Caller {
+        let kept = theory_call(call);
+        self.party_records.push_reserved(PartyRecord {
             call: kept,
-            party: Party::kept(call, hash, self.processors),
+            party: Party::from_owned(call, hash, self.processors),
             steps: 0,
         });
         self.trace.push_reserved(Label::Begin(party, kept));
@@ -150,17 +157,18 @@ impl<
     /// itself needs, the step is done, and its label or the party's later ones say so.)
     pub fn step(&mut self, party: usize) -> Result<(), AllocError>
         ensures ok { OnOk result (WorldStep K.cmp F.changes self.old party self.new) }
-        ensures line { OnOk result (DoesLine K.cmp (S.hash_of self.old.hasher) F.changes self.old party self.new) }
+        ensures line { OnOk result
+            (DoesTransition K.cmp (S.hash_of self.old.hasher) F.changes self.old party self.new) }
         ensures err { OnErr result (self.new ≡ self.old) }
     {
         make_room(&mut self.trace)?;
-        if party >= self.callers.len() {
+        if party >= self.party_records.len() {
             self.trace.push_reserved(Label::Silent(party));
             return Ok(());
         }
-        let caller = &mut self.callers[party];
+        let caller = &mut self.party_records[party];
         caller.steps += 1;
-        let label = step_of(party, &mut caller.party, &mut self.parts);
+        let label = step_party(party, &mut caller.party, &mut self.parts);
         self.trace.push_reserved(label);
         Ok(())
     }
@@ -177,7 +185,8 @@ impl<
         requires { All (StepIsReady F.can_change) steps.items }
         ensures ok { OnOk result (Runs K.cmp (S.hash_of self.old.hasher) F.changes steps.items self.old self.new) }
         ensures lawful { OnOk result (IsLawful K.cmp (S.hash_of self.old.hasher) F.changes self.new) }
-        ensures err { OnErr result (RunsFront K.cmp (S.hash_of self.old.hasher) F.changes steps.items self.old self.new) }
+        ensures err { OnErr result
+            (RunsFront K.cmp (S.hash_of self.old.hasher) F.changes steps.items self.old self.new) }
     {
         for step in steps {
             self.do_step(step)?;
@@ -217,7 +226,7 @@ impl<
 // Room for one more in a list that has less than the most.
 fn make_room<T, A: Allocator>(list: &mut Vec<T, A>) -> Result<(), AllocError>
     ensures same { list.new.items ≡ list.old.items }
-    ensures few { OnOk result (length list.new.items < 2 ^ 62) }
+    ensures few { OnOk result (length list.new.items < MOST_LABELS) }
     ensures room { OnOk result (vec_len list.new < vec_capacity list.new) }
 {
     if list.len() >= MOST_LABELS {

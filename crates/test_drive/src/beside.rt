@@ -5,8 +5,8 @@ ghost use Rattle.flurry_world.specs.Parts.{IsStart};
 ghost use Rattle.flurry_world.specs.Tables.{PlaceGives};
 ghost use Rattle.test_drive.specs.Beside.{parts_of, BesideLends, BesideLacks};
 
-use flurry_slots::{Answer, Change};
-use flurry_steps::control::Start;
+use flurry_slots::{Answer, ComputeFn};
+use flurry_steps::control::PublishedTable;
 use flurry_steps::party::Event;
 use flurry_steps::{Field, Party};
 use flurry_world::Parts;
@@ -17,12 +17,12 @@ use std::alloc::{Allocator, Global};
 #[derive(Drop)]
 pub struct Beside<K: Ord, V, A: Allocator = Global> {
     parts: Parts<K, V, A>,
-    start: Start,
+    start: PublishedTable,
 }
 
 impl<K: Ord + Drop, V: Drop, A: Allocator + Copy> Beside<K, V, A> {
     /// These parts, beside that number.
-    pub fn new(parts: Parts<K, V, A>, start: Start) -> Self
+    pub fn new(parts: Parts<K, V, A>, start: PublishedTable) -> Self
         ensures { parts_of result ≡ parts }
     {
         Beside { parts, start }
@@ -58,14 +58,17 @@ impl<K: Ord + Drop, V: Drop, A: Allocator + Copy> Field<K, V, A> for Beside<K, V
 
     ghost lacks = { BesideLacks };
 
-    fn at_control<F: Change<K, V>>(&mut self, party: &mut Party<'_, K, V, F, A>) -> Option<Event> {
+    fn at_control<F: ComputeFn<K, V>>(
+        &mut self,
+        party: &mut Party<'_, K, V, F, A>,
+    ) -> Option<Event> {
         if party.locates() && is_start(&self.parts, self.start.table()) {
             return Some(party.on_start(&self.start));
         }
         self.parts.at_control(party)
     }
 
-    fn at_look<F: Change<K, V>>(
+    fn at_look<F: ComputeFn<K, V>>(
         &mut self,
         table: u8,
         index: usize,
@@ -74,7 +77,7 @@ impl<K: Ord + Drop, V: Drop, A: Allocator + Copy> Field<K, V, A> for Beside<K, V
         self.parts.at_look(table, index, party)
     }
 
-    fn at_bin<F: Change<K, V>>(
+    fn at_bin<F: ComputeFn<K, V>>(
         &mut self,
         table: u8,
         index: usize,
@@ -83,7 +86,7 @@ impl<K: Ord + Drop, V: Drop, A: Allocator + Copy> Field<K, V, A> for Beside<K, V
         self.parts.at_bin(table, index, party)
     }
 
-    fn at_move<F: Change<K, V>>(
+    fn at_move<F: ComputeFn<K, V>>(
         &mut self,
         table: u8,
         index: usize,

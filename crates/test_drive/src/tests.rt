@@ -4,11 +4,11 @@ mod each_call;
 mod growth;
 mod refused;
 
+use flurry_drive::drive;
 use flurry_model::hash::LowHashBuilder;
 use flurry_model::reply::KeptReply;
-use flurry_drive::drive;
-use flurry_slots::Change;
-use flurry_steps::party::{KeptCall, Reply};
+use flurry_slots::ComputeFn;
+use flurry_steps::party::{OwnedCall, Reply};
 use flurry_steps::{Field, Party};
 use flurry_world::hash_for;
 use std::alloc::Allocator;
@@ -19,7 +19,7 @@ use std::sync::Wait;
 // What a call answers, without the owners of its keys and values.
 #[derive(Clone, Copy, Debug, PartialEq, Eq)]
 enum Plain {
-    Says(KeptReply<u64, u64>),
+    OutcomeReply(KeptReply<u64, u64>),
     Ended,
     Refused,
 }
@@ -31,7 +31,7 @@ fn same<T: PartialEq + Debug + Drop>(rt: &impl Abort, seen: T, wanted: T) {
 
 // The reply of a value, or of none.
 fn value(value: Option<u64>) -> Plain {
-    Plain::Says(KeptReply::Value(value))
+    Plain::OutcomeReply(KeptReply::Value(value))
 }
 
 // The reply without owners.
@@ -50,29 +50,29 @@ fn without_owners<A: Allocator>(reply: Reply<u64, u64, A>) -> Plain {
         Reply::Ended => return Plain::Ended,
         Reply::Refused => return Plain::Refused,
     };
-    Plain::Says(reply)
+    Plain::OutcomeReply(reply)
 }
 
 // Drives a call whose key is its hash, and answers its reply.
-fn reply_of<F: Change<u64, u64>, A: Allocator + Copy, X: Field<u64, u64, A>, R: Wait>(
+fn reply_of<F: ComputeFn<u64, u64>, A: Allocator + Copy, X: Field<u64, u64, A>, R: Wait>(
     rt: &R,
     field: &mut X,
-    call: KeptCall<u64, u64, F>,
+    call: OwnedCall<u64, u64, F>,
 ) -> Plain
     requires { (f : F) → F.can_change f }
 {
     let hash = hash_for(&LowHashBuilder, &call);
-    let mut party = Party::kept(call, hash, 1);
+    let mut party = Party::from_owned(call, hash, 1);
     let reply = drive(rt, &mut party, field);
     drop(party);
     without_owners(reply)
 }
 
 // Drives a call, and sees that it answers what is wanted.
-fn answers<F: Change<u64, u64>, A: Allocator + Copy, X: Field<u64, u64, A>, R: Wait + Abort>(
+fn answers<F: ComputeFn<u64, u64>, A: Allocator + Copy, X: Field<u64, u64, A>, R: Wait + Abort>(
     rt: &R,
     field: &mut X,
-    call: KeptCall<u64, u64, F>,
+    call: OwnedCall<u64, u64, F>,
     wanted: Plain,
 )
     requires { (f : F) → F.can_change f }

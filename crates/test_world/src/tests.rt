@@ -7,8 +7,8 @@ mod rows;
 
 use flurry_model::hash::LowHashBuilder;
 use flurry_model::reply::KeptReply;
-use flurry_slots::Change;
-use flurry_steps::party::KeptCall;
+use flurry_slots::ComputeFn;
+use flurry_steps::party::OwnedCall;
 use flurry_theory::Label;
 use flurry_world::world::World;
 use std::alloc::Global;
@@ -51,7 +51,7 @@ fn line_of<F>(label: &Label<u64, u64, F>) -> Result<Line, Fail> {
 }
 
 // The last label.
-fn last_line<'k, F: Change<u64, u64> + Copy>(world: &Numbers<'k, F>) -> Result<Line, Fail> {
+fn last_line<'k, F: ComputeFn<u64, u64> + Copy>(world: &Numbers<'k, F>) -> Result<Line, Fail> {
     match world.trace().last() {
         Some(label) => line_of(label),
         None => Err(Fail::from("a label was added")),
@@ -64,7 +64,7 @@ fn value(value: Option<u64>) -> KeptReply<u64, u64> {
 }
 
 // The label of the party's next step.
-fn step<'k, F: Change<u64, u64> + Copy>(
+fn step<'k, F: ComputeFn<u64, u64> + Copy>(
     world: &mut Numbers<'k, F>,
     party: usize,
 ) -> Result<Line, Fail> {
@@ -73,7 +73,7 @@ fn step<'k, F: Change<u64, u64> + Copy>(
 }
 
 // The labels of the party's next steps are these.
-fn assert_steps<'k, F: Change<u64, u64> + Copy>(
+fn assert_steps<'k, F: ComputeFn<u64, u64> + Copy>(
     rt: &impl Abort,
     world: &mut Numbers<'k, F>,
     party: usize,
@@ -86,9 +86,9 @@ fn assert_steps<'k, F: Change<u64, u64> + Copy>(
 }
 
 // Begins a call, whatever its function is.
-fn begin<'k, F: Change<u64, u64> + Copy>(
+fn begin<'k, F: ComputeFn<u64, u64> + Copy>(
     world: &mut Numbers<'k, F>,
-    call: KeptCall<u64, u64, F>,
+    call: OwnedCall<u64, u64, F>,
 ) -> Result<usize, Fail>
     requires { (f : F) → F.can_change f }
 {
@@ -96,11 +96,11 @@ fn begin<'k, F: Change<u64, u64> + Copy>(
 }
 
 // Begins a call, whose labels are these from its first step on.
-fn assert_call<'k, F: Change<u64, u64> + Copy>(
+fn assert_call<'k, F: ComputeFn<u64, u64> + Copy>(
     rt: &impl Abort,
     world: &mut Numbers<'k, F>,
     party: usize,
-    call: KeptCall<u64, u64, F>,
+    call: OwnedCall<u64, u64, F>,
     lines: &[Line],
 ) -> Result<(), Fail>
     requires { (f : F) → F.can_change f }
@@ -111,7 +111,7 @@ fn assert_call<'k, F: Change<u64, u64> + Copy>(
 }
 
 // The reply or the end of a party, after its next steps.
-fn end_of<'k, F: Change<u64, u64> + Copy>(
+fn end_of<'k, F: ComputeFn<u64, u64> + Copy>(
     world: &mut Numbers<'k, F>,
     party: usize,
 ) -> Result<Line, Fail> {
@@ -125,10 +125,10 @@ fn end_of<'k, F: Change<u64, u64> + Copy>(
 }
 
 // A call that is run to its end has this reply.
-fn assert_reply<'k, F: Change<u64, u64> + Copy>(
+fn assert_reply<'k, F: ComputeFn<u64, u64> + Copy>(
     rt: &impl Abort,
     world: &mut Numbers<'k, F>,
-    call: KeptCall<u64, u64, F>,
+    call: OwnedCall<u64, u64, F>,
     reply: KeptReply<u64, u64>,
 ) -> Result<(), Fail>
     requires { (f : F) → F.can_change f }

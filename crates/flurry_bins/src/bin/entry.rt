@@ -6,7 +6,7 @@ use std::alloc::{Allocator, Global};
 use std::cmp::Ordering;
 use std::sync::Arc;
 
-/// A hash, a key and a value, which other holders may share, and the number of the write that put the value.
+/// A hash, a key and a value, which other holders may share, and the write number of the value.
 #[derive(Drop)]
 pub struct Entry<K, V, A: Allocator = Global> {
     /// The hash of the key.
@@ -15,7 +15,7 @@ pub struct Entry<K, V, A: Allocator = Global> {
     pub key: Arc<K, A>,
     /// The value that was put last.
     pub value: Arc<V, A>,
-    /// The number of the write that put the value.
+    /// The write number of the value.
     pub number: u64,
 }
 

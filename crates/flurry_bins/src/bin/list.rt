@@ -2,12 +2,13 @@
 ghost use Rattle.std.specs.Prelude.{◌≡◌, ◌^◌, ◌+◌, ◌<◌, ◌≤◌, ◌++◌, ◌∷◌, [], length, map, reverse, Option, Some, None, IsSome, IsNone};
 ghost use Rattle.std.specs.Option.{option_map, option_copied};
 ghost use Rattle.std.specs.Arc.{arc_value};
-ghost use Rattle.flurry_bins.specs.Entries.{IsAscending, IsAscending-prop, AllBefore, NotBefore, list_way, entry_at, first_past, lent_bound, placed, replaced};
+ghost use Rattle.flurry_bins.specs.Entries.{IsAscending, IsAscending-prop, AllBefore, NotBefore, list_way, entry_at, first_past, lent_bound, with_entry, with_value_at};
 ghost use Rattle.flurry_model.specs.Greatest.{greatest};
 ghost use Rattle.flurry_bins.specs.Short.{list_way-short};
 ghost use Rattle.flurry_bins.specs.Chain.{chain, node_chain, entry_of};
+ghost use Rattle.flurry_model.specs.declared.sizes.TheConstants.{MOST_PAIRS};
 
-mod keeping;
+mod retain;
 
 use super::entry::Entry;
 use super::node::{BoxedNode, Link, Node};
@@ -25,7 +26,7 @@ pub struct ListBin<K: Ord, V, A: Allocator = Global> {
     len: usize,
     ghost ascending: { IsAscending K.cmp (chain head) } by { IsAscending-prop K.cmp (chain head) },
     ghost counted: { len ≡ length (chain head) },
-    ghost short: { len ≤ 2 ^ 62 },
+    ghost short: { len ≤ MOST_PAIRS },
 }
 
 impl<K: Ord, V, A: Allocator> ListBin<K, V, A> {
@@ -55,7 +56,7 @@ impl<K: Ord, V, A: Allocator> ListBin<K, V, A> {
     pub(crate) fn from_chain(head: Link<K, V, A>, len: usize) -> Self
         requires ascending { IsAscending K.cmp (chain head) }
         requires counted { len ≡ length (chain head) }
-        requires short { len ≤ 2 ^ 62 }
+        requires short { len ≤ MOST_PAIRS }
         ensures { chain result.head ≡ chain head }
     {
         ListBin { head, len }
@@ -64,7 +65,7 @@ impl<K: Ord, V, A: Allocator> ListBin<K, V, A> {
     pub(crate) fn into_chain(self) -> (Link<K, V, A>, usize)
         ensures head { chain result.0 ≡ chain self.head }
         ensures len { result.1 ≡ length (chain self.head) }
-        ensures short { result.1 ≤ 2 ^ 62 }
+        ensures short { result.1 ≤ MOST_PAIRS }
         ensures ascending { IsAscending K.cmp (chain self.head) }
     {
         let ListBin { head, len } = self;
@@ -73,7 +74,7 @@ impl<K: Ord, V, A: Allocator> ListBin<K, V, A> {
 }
 
 // The node in front of a chain.
-pub(crate) fn followed_by<K: Drop, V: Drop, A: Allocator>(
+pub(crate) fn prepend<K: Drop, V: Drop, A: Allocator>(
     mut node: BoxedNode<K, V, A>,
     behind: Link<K, V, A>,
 ) -> BoxedNode<K, V, A>
@@ -84,7 +85,7 @@ pub(crate) fn followed_by<K: Drop, V: Drop, A: Allocator>(
 }
 
 // The first node of a chain, and those behind it.
-pub(crate) fn alone<K, V, A: Allocator>(
+pub(crate) fn detach_tail<K, V, A: Allocator>(
     mut node: BoxedNode<K, V, A>,
 ) -> (BoxedNode<K, V, A>, Link<K, V, A>)
     ensures entry { entry_of result.0.value ≡ entry_of node.value }
@@ -95,7 +96,7 @@ pub(crate) fn alone<K, V, A: Allocator>(
 }
 
 // The nodes before a place, turned round, and those from it on.
-fn cut<K: Ord, V, A: Allocator>(
+fn split_before<K: Ord, V, A: Allocator>(
     head: Link<K, V, A>,
     hash: u64,
     key: &K,
@@ -117,7 +118,7 @@ fn cut<K: Ord, V, A: Allocator>(
 }
 
 // The nodes of the first chain, turned round, and then those of the second.
-fn join<K, V, A: Allocator>(front: Link<K, V, A>, back: Link<K, V, A>) -> Link<K, V, A>
+fn prepend_reversed<K, V, A: Allocator>(front: Link<K, V, A>, back: Link<K, V, A>) -> Link<K, V, A>
     ensures { chain result ≡ reverse (chain front) ++ chain back }
 {
     let mut from = front;
@@ -136,7 +137,7 @@ fn find_in<'a, K: Ord, V, A: Allocator>(
     key: &K,
 ) -> (Option<&'a Entry<K, V, A>>, u64)
     requires ascending { IsAscending K.cmp (chain head.now) }
-    requires short { length (chain head.now) ≤ 2 ^ 62 }
+    requires short { length (chain head.now) ≤ MOST_PAIRS }
     ensures found { option_copied result.0 ≡ entry_at K.cmp hash key.now (chain head.now) }
     ensures visits { result.1 ≡ length (list_way K.cmp hash key.now (chain head.now)) }
 {
@@ -225,39 +226,40 @@ impl<K: Ord + Drop, V: Drop, A: Allocator> Ordered<K, V, A> for ListBin<K, V, A>
     fn replace(&mut self, hash: u64, key: &K, value: Arc<V, A>, number: u64) -> Arc<V, A>
         requires { IsSome (entry_at K.cmp hash key.now (entries_of_list self.old)) }
         ensures old { option_map (λ e. e.value) (entry_at K.cmp hash key.now (entries_of_list self.old)) ≡ Some result }
-        ensures after { entries_of_list self.new ≡ replaced K.cmp hash key.now value number (entries_of_list self.old) }
+        ensures after { entries_of_list self.new
+            ≡ with_value_at K.cmp hash key.now value number (entries_of_list self.old) }
     {
-        let (front, rest) = cut(self.head.take(), hash, key);
+        let (front, rest) = split_before(self.head.take(), hash, key);
         let Some(mut node) = rest else { unreachable!() };
         let old = node.write(value, number);
-        self.head = join(front, Some(node));
+        self.head = prepend_reversed(front, Some(node));
         old
     }
 
     fn put_node(&mut self, node: BoxedNode<K, V, A>)
         requires absent { let e = entry_of node.value in
             IsNone (entry_at K.cmp e.hash (arc_value e.key) (entries_of_list self.old)) }
-        requires room { length (entries_of_list self.old) < 2 ^ 62 }
-        ensures { entries_of_list self.new ≡ placed K.cmp (entry_of node.value) (entries_of_list self.old) }
+        requires room { length (entries_of_list self.old) < MOST_PAIRS }
+        ensures { entries_of_list self.new ≡ with_entry K.cmp (entry_of node.value) (entries_of_list self.old) }
     {
         let entry = node.entry();
-        let (front, rest) = cut(self.head.take(), entry.hash, entry.key.as_ref());
-        self.head = join(front, Some(followed_by(node, rest)));
+        let (front, rest) = split_before(self.head.take(), entry.hash, entry.key.as_ref());
+        self.head = prepend_reversed(front, Some(prepend(node, rest)));
         self.len += 1;
     }
 
     fn remove(&mut self, hash: u64, key: &K) -> Link<K, V, A> {
-        let (front, rest) = cut(self.head.take(), hash, key);
+        let (front, rest) = split_before(self.head.take(), hash, key);
         let Some(node) = rest else {
-            self.head = join(front, None);
+            self.head = prepend_reversed(front, None);
             return None;
         };
         if !node.entry.is_at(hash, key) {
-            self.head = join(front, Some(node));
+            self.head = prepend_reversed(front, Some(node));
             return None;
         }
-        let (node, behind) = alone(node);
-        self.head = join(front, behind);
+        let (node, behind) = detach_tail(node);
+        self.head = prepend_reversed(front, behind);
         self.len -= 1;
         Some(node)
     }
@@ -281,11 +283,11 @@ impl<K: Ord + Drop, V: Drop, A: Allocator> Ordered<K, V, A> for ListBin<K, V, A>
             }
         }
         let low = ListBin {
-            head: join(low, None),
+            head: prepend_reversed(low, None),
             len: low_len,
         };
         let high = ListBin {
-            head: join(high, None),
+            head: prepend_reversed(high, None),
             len: high_len,
         };
         (low, high)

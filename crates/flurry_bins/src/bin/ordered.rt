@@ -2,9 +2,10 @@
 ghost use Rattle.std.specs.Prelude.{◌≡◌, ℕ, ◌-◌, ◌^◌, ◌<◌, ◌≤◌, List, length, Option, Some, IsSome, IsNone};
 ghost use Rattle.std.specs.Option.{option_map, option_copied};
 ghost use Rattle.std.specs.Arc.{arc_value};
-ghost use Rattle.flurry_bins.specs.Entries.{IsAscending, entry_at, first_past, lent_bound, placed, replaced, without, with_bit};
+ghost use Rattle.flurry_bins.specs.Entries.{IsAscending, entry_at, first_past, lent_bound, with_entry, with_value_at, without, with_bit};
 ghost use Rattle.std.specs.declared.sync.Arc.{Arc};
 ghost use Rattle.flurry_bins.specs.declared.bin.entry.Entry.{Entry};
+ghost use Rattle.flurry_model.specs.declared.sizes.TheConstants.{MOST_PAIRS};
 
 use super::entry::Entry;
 use std::alloc::Allocator;
@@ -62,15 +63,16 @@ pub trait Ordered<K: Ord, V, A: Allocator>: Sized {
     /// Puts another value at a hash and a key that are present, and hands out the old one. As many steps as a look-up.
     fn replace(&mut self, hash: u64, key: &K, value: Self::Shared, number: u64) -> Self::Shared
         requires { IsSome (entry_at K.cmp hash key.now (entries self.old)) }
-        ensures old { option_map (λ e. e.value) (entry_at K.cmp hash key.now (entries self.old)) ≡ Some (shared result) }
-        ensures after { entries self.new ≡ replaced K.cmp hash key.now (shared value) number (entries self.old) };
+        ensures old { option_map (λ e. e.value) (entry_at K.cmp hash key.now (entries self.old))
+            ≡ Some (shared result) }
+        ensures after { entries self.new ≡ with_value_at K.cmp hash key.now (shared value) number (entries self.old) };
 
     /// Puts in a node whose hash and key are absent. As many steps as a look-up.
     fn put_node(&mut self, node: Self::Boxed)
         requires absent { let e = entry_in node in
             IsNone (entry_at K.cmp e.hash (arc_value e.key) (entries self.old)) }
-        requires room { length (entries self.old) < 2 ^ 62 }
-        ensures { entries self.new ≡ placed K.cmp (entry_in node) (entries self.old) };
+        requires room { length (entries self.old) < MOST_PAIRS }
+        ensures { entries self.new ≡ with_entry K.cmp (entry_in node) (entries self.old) };
 
     /// Takes out the node of a hash and a key, if there is one. As many steps as a look-up.
     fn remove(&mut self, hash: u64, key: &K) -> Option<Self::Boxed>
@@ -94,7 +96,7 @@ pub trait Ordered<K: Ord, V, A: Allocator>: Sized {
 
     ghost ascending: { (s : Self) → IsAscending K.cmp (entries s) };
 
-    ghost short: { (s : Self) → length (entries s) ≤ 2 ^ 62 };
+    ghost short: { (s : Self) → length (entries s) ≤ MOST_PAIRS };
 
     ghost met_bounded: { (s : Self) (h : ℕ) (k : K) → length (way s h k) ≤ most_met (length (entries s)) };
 }

@@ -3,15 +3,15 @@ ghost use Rattle.std.specs.Prelude.{◌≡◌, Option};
 ghost use Rattle.std.specs.Option.{option_map};
 ghost use Rattle.flurry_bins.specs.Chain.{entry_of};
 ghost use Rattle.flurry_bins.specs.Tree.{shape, node_shape};
-ghost use Rattle.flurry_bins.specs.Removal.{short_left, fix_left, short_right, fix_right, settled_left, settled_right, IsOutOf, joined, removed, tree_entry};
+ghost use Rattle.flurry_bins.specs.Removal.{short_left, fix_left, short_right, fix_right, settled_left, settled_right, IsOutOf, join_of, tree_removal, tree_entry};
 
 use super::node::{BoxedNode, Colour, Link, Node};
-use super::tree::{apart, blacken, fork, has_red_root};
+use super::tree::{blacken, has_red_root, link_children, take_children};
 use std::alloc::Allocator;
 use std::cmp::Ordering;
 
 // A node with a short left side, and right of it a black node with these sides.
-fn with_short_left<K: Drop, V: Drop, A: Allocator>(
+fn with_deficit_left<K: Drop, V: Drop, A: Allocator>(
     colour: Colour,
     left: Link<K, V, A>,
     node: BoxedNode<K, V, A>,
@@ -23,25 +23,28 @@ fn with_short_left<K: Drop, V: Drop, A: Allocator>(
         ≡ short_left colour (shape left) (entry_of node.value) (shape near) (entry_of other.value) (shape far) }
 {
     if has_red_root(&far) {
-        let node = fork(Colour::Black, left, node, near);
-        return (fork(colour, Some(node), other, blacken(far)), false);
+        let node = link_children(Colour::Black, left, node, near);
+        return (
+            link_children(colour, Some(node), other, blacken(far)),
+            false,
+        );
     }
     if has_red_root(&near) {
         let Some(near) = near else { unreachable!() };
-        let (a, near, b) = apart(near);
-        let node = fork(Colour::Black, left, node, a);
-        let other = fork(Colour::Black, b, other, far);
-        return (fork(colour, Some(node), near, Some(other)), false);
+        let (a, near, b) = take_children(near);
+        let node = link_children(Colour::Black, left, node, a);
+        let other = link_children(Colour::Black, b, other, far);
+        return (link_children(colour, Some(node), near, Some(other)), false);
     }
-    let other = fork(Colour::Red, near, other, far);
+    let other = link_children(Colour::Red, near, other, far);
     (
-        fork(Colour::Black, left, node, Some(other)),
+        link_children(Colour::Black, left, node, Some(other)),
         colour == Colour::Black,
     )
 }
 
 // A node with a short left side, and whether it is short itself.
-fn fixed_left<K: Drop, V: Drop, A: Allocator>(
+fn fix_left<K: Drop, V: Drop, A: Allocator>(
     colour: Colour,
     left: Link<K, V, A>,
     node: BoxedNode<K, V, A>,
@@ -50,24 +53,24 @@ fn fixed_left<K: Drop, V: Drop, A: Allocator>(
     ensures { (node_shape result.0.value, result.1) ≡ fix_left colour (shape left) (entry_of node.value) (shape right) }
 {
     let Some(right) = right else {
-        return (fork(colour, left, node, None), false);
+        return (link_children(colour, left, node, None), false);
     };
     let right_colour = right.colour;
-    let (near, right, far) = apart(right);
+    let (near, right, far) = take_children(right);
     if right_colour == Colour::Black {
-        return with_short_left(colour, left, node, near, right, far);
+        return with_deficit_left(colour, left, node, near, right, far);
     }
     let Some(near) = near else {
-        let right = fork(Colour::Red, None, right, far);
-        return (fork(colour, left, node, Some(right)), false);
+        let right = link_children(Colour::Red, None, right, far);
+        return (link_children(colour, left, node, Some(right)), false);
     };
-    let (a, near, b) = apart(near);
-    let (low, _) = with_short_left(Colour::Red, left, node, a, near, b);
-    (fork(Colour::Black, Some(low), right, far), false)
+    let (a, near, b) = take_children(near);
+    let (low, _) = with_deficit_left(Colour::Red, left, node, a, near, b);
+    (link_children(Colour::Black, Some(low), right, far), false)
 }
 
 // A node with a short right side, and left of it a black node with these sides.
-fn with_short_right<K: Drop, V: Drop, A: Allocator>(
+fn with_deficit_right<K: Drop, V: Drop, A: Allocator>(
     colour: Colour,
     far: Link<K, V, A>,
     other: BoxedNode<K, V, A>,
@@ -79,47 +82,51 @@ fn with_short_right<K: Drop, V: Drop, A: Allocator>(
         ≡ short_right colour (shape far) (entry_of other.value) (shape near) (entry_of node.value) (shape right) }
 {
     if has_red_root(&far) {
-        let node = fork(Colour::Black, near, node, right);
-        return (fork(colour, blacken(far), other, Some(node)), false);
+        let node = link_children(Colour::Black, near, node, right);
+        return (
+            link_children(colour, blacken(far), other, Some(node)),
+            false,
+        );
     }
     if has_red_root(&near) {
         let Some(near) = near else { unreachable!() };
-        let (a, near, b) = apart(near);
-        let node = fork(Colour::Black, b, node, right);
-        let other = fork(Colour::Black, far, other, a);
-        return (fork(colour, Some(other), near, Some(node)), false);
+        let (a, near, b) = take_children(near);
+        let node = link_children(Colour::Black, b, node, right);
+        let other = link_children(Colour::Black, far, other, a);
+        return (link_children(colour, Some(other), near, Some(node)), false);
     }
-    let other = fork(Colour::Red, far, other, near);
+    let other = link_children(Colour::Red, far, other, near);
     (
-        fork(Colour::Black, Some(other), node, right),
+        link_children(Colour::Black, Some(other), node, right),
         colour == Colour::Black,
     )
 }
 
 // A node with a short right side, and whether it is short itself.
-fn fixed_right<K: Drop, V: Drop, A: Allocator>(
+fn fix_right<K: Drop, V: Drop, A: Allocator>(
     colour: Colour,
     left: Link<K, V, A>,
     node: BoxedNode<K, V, A>,
     right: Link<K, V, A>,
 ) -> (BoxedNode<K, V, A>, bool)
-    ensures { (node_shape result.0.value, result.1) ≡ fix_right colour (shape left) (entry_of node.value) (shape right) }
+    ensures { (node_shape result.0.value, result.1)
+        ≡ fix_right colour (shape left) (entry_of node.value) (shape right) }
 {
     let Some(left) = left else {
-        return (fork(colour, None, node, right), false);
+        return (link_children(colour, None, node, right), false);
     };
     let left_colour = left.colour;
-    let (far, left, near) = apart(left);
+    let (far, left, near) = take_children(left);
     if left_colour == Colour::Black {
-        return with_short_right(colour, far, left, near, node, right);
+        return with_deficit_right(colour, far, left, near, node, right);
     }
     let Some(near) = near else {
-        let left = fork(Colour::Red, far, left, None);
-        return (fork(colour, Some(left), node, right), false);
+        let left = link_children(Colour::Red, far, left, None);
+        return (link_children(colour, Some(left), node, right), false);
     };
-    let (a, near, b) = apart(near);
-    let (low, _) = with_short_right(Colour::Red, a, near, b, node, right);
-    (fork(Colour::Black, far, left, Some(low)), false)
+    let (a, near, b) = take_children(near);
+    let (low, _) = with_deficit_right(Colour::Red, a, near, b, node, right);
+    (link_children(Colour::Black, far, left, Some(low)), false)
 }
 
 // A node with these sides, of which the left one may be short, and whether it is short itself.
@@ -134,9 +141,9 @@ fn settle_left<K: Drop, V: Drop, A: Allocator>(
         ≡ settled_left short colour (shape left) (entry_of node.value) (shape right) }
 {
     if short {
-        fixed_left(colour, left, node, right)
+        fix_left(colour, left, node, right)
     } else {
-        (fork(colour, left, node, right), false)
+        (link_children(colour, left, node, right), false)
     }
 }
 
@@ -152,9 +159,9 @@ fn settle_right<K: Drop, V: Drop, A: Allocator>(
         ≡ settled_right short colour (shape left) (entry_of node.value) (shape right) }
 {
     if short {
-        fixed_right(colour, left, node, right)
+        fix_right(colour, left, node, right)
     } else {
-        (fork(colour, left, node, right), false)
+        (link_children(colour, left, node, right), false)
     }
 }
 
@@ -166,7 +173,7 @@ fn take_least<K: Drop, V: Drop, A: Allocator>(
         (record { rest = shape result.0; least = entry_of result.1.value; short = result.2 }) }
 {
     let colour = root.colour;
-    let (left, root, right) = apart(root);
+    let (left, root, right) = take_children(root);
     let Some(left) = left else {
         let short = colour == Colour::Black && !has_red_root(&right);
         return (blacken(right), root, short);
@@ -182,7 +189,7 @@ fn join_sides<K: Drop, V: Drop, A: Allocator>(
     left: Link<K, V, A>,
     right: Link<K, V, A>,
 ) -> (Link<K, V, A>, bool)
-    ensures { (shape result.0, result.1) ≡ joined colour (shape left) (shape right) }
+    ensures { (shape result.0, result.1) ≡ join_of colour (shape left) (shape right) }
 {
     let Some(right) = right else {
         let short = colour == Colour::Black && !has_red_root(&left);
@@ -199,14 +206,14 @@ pub(crate) fn remove_in<K: Ord + Drop, V: Drop, A: Allocator>(
     hash: u64,
     key: &K,
 ) -> (Link<K, V, A>, Link<K, V, A>, bool)
-    ensures tree { (shape result.0, result.2) ≡ removed K.cmp hash key.now (shape root) }
+    ensures tree { (shape result.0, result.2) ≡ tree_removal K.cmp hash key.now (shape root) }
     ensures node { option_map (λ b. entry_of b.value) result.1 ≡ tree_entry K.cmp hash key.now (shape root) }
 {
     let Some(root) = root else {
         return (None, None, false);
     };
     let colour = root.colour;
-    let (left, root, right) = apart(root);
+    let (left, root, right) = take_children(root);
     match root.entry().compare_place(hash, key) {
         Ordering::Less => {
             let (left, node, short) = remove_in(left, hash, key);

@@ -2,17 +2,18 @@
 ghost use Rattle.std.specs.Prelude.{◌≡◌, ◌^◌, ◌*◌, ◌+◌, ◌<◌, ◌≤◌, ◌++◌, length, map, Option, Some, None, IsSome, IsNone};
 ghost use Rattle.std.specs.Option.{option_map, option_copied};
 ghost use Rattle.std.specs.Arc.{arc_value};
-ghost use Rattle.flurry_bins.specs.Entries.{IsAscending, IsAscending-prop, entry_at, first_past, lent_bound, placed, replaced};
+ghost use Rattle.flurry_bins.specs.Entries.{IsAscending, IsAscending-prop, entry_at, first_past, lent_bound, with_entry, with_value_at};
 ghost use Rattle.flurry_bins.specs.Chain.{chain, entry_of, colour_of};
 ghost use Rattle.flurry_model.specs.Greatest.{greatest};
-ghost use Rattle.flurry_bins.specs.Balance.{red_root, blackened, leaned_left, leaned_right, put_tree};
+ghost use Rattle.flurry_bins.specs.Balance.{red_root, with_black_root, balance_left, balance_right, put_tree};
 ghost use Rattle.flurry_bins.specs.Tree as tree;
 ghost use Rattle.flurry_bins.specs.Tree.{shape, node_shape, inorder, IsRedBlack, IsRedBlack-prop, black_height, tree_way};
 ghost use Rattle.flurry_bins.specs.WayBound.{way_bound, way_within};
-ghost use Rattle.flurry_bins.specs.Rewrite.{rewritten, tree_value};
+ghost use Rattle.flurry_bins.specs.Rewrite.{tree_with_value, tree_value};
+ghost use Rattle.flurry_model.specs.declared.sizes.TheConstants.{MOST_PAIRS};
 
 use super::entry::Entry;
-use super::list::{ListBin, alone, followed_by};
+use super::list::{ListBin, detach_tail, prepend};
 use super::node::{BoxedNode, Colour, Link, Node};
 use super::ordered::Ordered;
 use super::removal::remove_in;
@@ -31,7 +32,7 @@ pub struct TreeBin<K: Ord, V, A: Allocator = Global> {
     ghost ascending: { IsAscending K.cmp (inorder (shape root)) } by { IsAscending-prop K.cmp (inorder (shape root)) },
     ghost balanced: { IsRedBlack (shape root) } by { IsRedBlack-prop (shape root) },
     ghost counted: { len ≡ length (inorder (shape root)) },
-    ghost short: { len ≤ 2 ^ 62 },
+    ghost short: { len ≤ MOST_PAIRS },
 }
 
 // The entry of a place in a tree, and how many nodes were visited.
@@ -41,7 +42,7 @@ fn find_in<'a, K: Ord, V, A: Allocator>(
     key: &K,
 ) -> (Option<&'a Entry<K, V, A>>, u64)
     requires ascending { IsAscending K.cmp (inorder (shape root.now)) }
-    requires short { length (inorder (shape root.now)) ≤ 2 ^ 62 }
+    requires short { length (inorder (shape root.now)) ≤ MOST_PAIRS }
     ensures found { option_copied result.0 ≡ entry_at K.cmp hash key.now (inorder (shape root.now)) }
     ensures visits { result.1 ≡ length (tree_way K.cmp hash key.now (shape root.now)) }
 {
@@ -60,7 +61,7 @@ fn find_in<'a, K: Ord, V, A: Allocator>(
 }
 
 // A node with these sides.
-pub(crate) fn fork<K: Drop, V: Drop, A: Allocator>(
+pub(crate) fn link_children<K: Drop, V: Drop, A: Allocator>(
     colour: Colour,
     left: Link<K, V, A>,
     mut node: BoxedNode<K, V, A>,
@@ -75,7 +76,7 @@ pub(crate) fn fork<K: Drop, V: Drop, A: Allocator>(
 }
 
 // A node, and what was left and right of it.
-pub(crate) fn apart<K, V, A: Allocator>(
+pub(crate) fn take_children<K, V, A: Allocator>(
     mut node: BoxedNode<K, V, A>,
 ) -> (Link<K, V, A>, BoxedNode<K, V, A>, Link<K, V, A>)
     ensures entry { entry_of result.1.value ≡ entry_of node.value }
@@ -99,7 +100,7 @@ pub(crate) fn has_red_root<K, V, A: Allocator>(link: &Link<K, V, A>) -> bool
 
 // The same tree with a black root.
 pub(crate) fn blacken<K, V, A: Allocator>(link: Link<K, V, A>) -> Link<K, V, A>
-    ensures { shape result ≡ blackened (shape link) }
+    ensures { shape result ≡ with_black_root (shape link) }
 {
     match link {
         None => None,
@@ -111,61 +112,61 @@ pub(crate) fn blacken<K, V, A: Allocator>(link: Link<K, V, A>) -> Link<K, V, A>
 }
 
 // A node with a left side that may have a red root over a red child.
-fn lean_left<K: Drop, V: Drop, A: Allocator>(
+fn balance_left<K: Drop, V: Drop, A: Allocator>(
     left: BoxedNode<K, V, A>,
     node: BoxedNode<K, V, A>,
     right: Link<K, V, A>,
 ) -> BoxedNode<K, V, A>
     ensures { node_shape result.value
-        ≡ leaned_left (colour_of node.value) (node_shape left.value) (entry_of node.value) (shape right) }
+        ≡ balance_left (colour_of node.value) (node_shape left.value) (entry_of node.value) (shape right) }
 {
     let colour = node.colour;
     let left_colour = left.colour;
-    let (a, left, b) = apart(left);
+    let (a, left, b) = take_children(left);
     if colour == Colour::Black && left_colour == Colour::Red {
         if has_red_root(&a) {
-            let node = fork(Colour::Black, b, node, right);
-            return fork(Colour::Red, blacken(a), left, Some(node));
+            let node = link_children(Colour::Black, b, node, right);
+            return link_children(Colour::Red, blacken(a), left, Some(node));
         }
         if has_red_root(&b) {
             let Some(inner) = b else { unreachable!() };
-            let (b, inner, d) = apart(inner);
-            let left = fork(Colour::Black, a, left, b);
-            let node = fork(Colour::Black, d, node, right);
-            return fork(Colour::Red, Some(left), inner, Some(node));
+            let (b, inner, d) = take_children(inner);
+            let left = link_children(Colour::Black, a, left, b);
+            let node = link_children(Colour::Black, d, node, right);
+            return link_children(Colour::Red, Some(left), inner, Some(node));
         }
     }
-    let left = fork(left_colour, a, left, b);
-    fork(colour, Some(left), node, right)
+    let left = link_children(left_colour, a, left, b);
+    link_children(colour, Some(left), node, right)
 }
 
 // A node with a right side that may have a red root over a red child.
-fn lean_right<K: Drop, V: Drop, A: Allocator>(
+fn balance_right<K: Drop, V: Drop, A: Allocator>(
     left: Link<K, V, A>,
     node: BoxedNode<K, V, A>,
     right: BoxedNode<K, V, A>,
 ) -> BoxedNode<K, V, A>
     ensures { node_shape result.value
-        ≡ leaned_right (colour_of node.value) (shape left) (entry_of node.value) (node_shape right.value) }
+        ≡ balance_right (colour_of node.value) (shape left) (entry_of node.value) (node_shape right.value) }
 {
     let colour = node.colour;
     let right_colour = right.colour;
-    let (b, right, a) = apart(right);
+    let (b, right, a) = take_children(right);
     if colour == Colour::Black && right_colour == Colour::Red {
         if has_red_root(&a) {
-            let node = fork(Colour::Black, left, node, b);
-            return fork(Colour::Red, Some(node), right, blacken(a));
+            let node = link_children(Colour::Black, left, node, b);
+            return link_children(Colour::Red, Some(node), right, blacken(a));
         }
         if has_red_root(&b) {
             let Some(inner) = b else { unreachable!() };
-            let (d, inner, b) = apart(inner);
-            let node = fork(Colour::Black, left, node, d);
-            let right = fork(Colour::Black, b, right, a);
-            return fork(Colour::Red, Some(node), inner, Some(right));
+            let (d, inner, b) = take_children(inner);
+            let node = link_children(Colour::Black, left, node, d);
+            let right = link_children(Colour::Black, b, right, a);
+            return link_children(Colour::Red, Some(node), inner, Some(right));
         }
     }
-    let right = fork(right_colour, b, right, a);
-    fork(colour, left, node, Some(right))
+    let right = link_children(right_colour, b, right, a);
+    link_children(colour, left, node, Some(right))
 }
 
 // Puts a node into a tree. Where the root was red, the new one may be red over a red child.
@@ -176,14 +177,14 @@ fn put_in<K: Ord + Drop, V: Drop, A: Allocator>(
     ensures { node_shape result.value ≡ put_tree K.cmp (entry_of node.value) (shape root) }
 {
     let Some(root) = root else {
-        return fork(Colour::Red, None, node, None);
+        return link_children(Colour::Red, None, node, None);
     };
-    let (left, root, right) = apart(root);
+    let (left, root, right) = take_children(root);
     let entry = node.entry();
     if root.entry().compare_place(entry.hash, entry.key.as_ref()) == Ordering::Less {
-        lean_left(put_in(left, node), root, right)
+        balance_left(put_in(left, node), root, right)
     } else {
-        lean_right(left, root, put_in(right, node))
+        balance_right(left, root, put_in(right, node))
     }
 }
 
@@ -196,7 +197,7 @@ fn write_in<K: Ord + Drop, V: Drop, A: Allocator>(
     number: u64,
 ) -> Option<Arc<V, A>>
     ensures old { result ≡ tree_value K.cmp hash key.now (shape root.old) }
-    ensures after { shape root.new ≡ rewritten K.cmp hash key.now value number (shape root.old) }
+    ensures after { shape root.new ≡ tree_with_value K.cmp hash key.now value number (shape root.old) }
 {
     let Some(node) = root else { return None };
     match node.entry.compare_place(hash, key) {
@@ -251,7 +252,7 @@ impl<K: Ord, V, A: Allocator> TreeBin<K, V, A> {
 }
 
 // The nodes of a tree as a chain, in front of another chain.
-fn unfolded<K: Drop, V: Drop, A: Allocator>(
+fn flatten_onto<K: Drop, V: Drop, A: Allocator>(
     root: Link<K, V, A>,
     behind: Link<K, V, A>,
 ) -> Link<K, V, A>
@@ -260,13 +261,13 @@ fn unfolded<K: Drop, V: Drop, A: Allocator>(
     let Some(root) = root else {
         return behind;
     };
-    let (left, root, right) = apart(root);
-    let behind = unfolded(right, behind);
-    unfolded(left, Some(followed_by(root, behind)))
+    let (left, root, right) = take_children(root);
+    let behind = flatten_onto(right, behind);
+    flatten_onto(left, Some(prepend(root, behind)))
 }
 
 // A tree of so many nodes from the front of a chain, with so many black nodes on each way, and the rest of the chain.
-fn folded<K: Drop, V: Drop, A: Allocator>(
+fn build_balanced<K: Drop, V: Drop, A: Allocator>(
     count: usize,
     blacks: u32,
     from: Link<K, V, A>,
@@ -286,14 +287,14 @@ fn folded<K: Drop, V: Drop, A: Allocator>(
     let before = count / 2;
     if blacks == 0 {
         let Some(node) = from else { unreachable!() };
-        let (node, from) = alone(node);
-        return (Some(fork(Colour::Red, None, node, None)), from);
+        let (node, from) = detach_tail(node);
+        return (Some(link_children(Colour::Red, None, node, None)), from);
     }
-    let (left, from) = folded(before, blacks - 1, from);
+    let (left, from) = build_balanced(before, blacks - 1, from);
     let Some(node) = from else { unreachable!() };
-    let (node, from) = alone(node);
-    let (right, from) = folded(count - 1 - before, blacks - 1, from);
-    (Some(fork(Colour::Black, left, node, right)), from)
+    let (node, from) = detach_tail(node);
+    let (right, from) = build_balanced(count - 1 - before, blacks - 1, from);
+    (Some(link_children(Colour::Black, left, node, right)), from)
 }
 
 impl<K: Ord + Drop, V: Drop, A: Allocator> Ordered<K, V, A> for TreeBin<K, V, A> {
@@ -338,7 +339,8 @@ impl<K: Ord + Drop, V: Drop, A: Allocator> Ordered<K, V, A> for TreeBin<K, V, A>
     fn replace(&mut self, hash: u64, key: &K, value: Arc<V, A>, number: u64) -> Arc<V, A>
         requires { IsSome (entry_at K.cmp hash key.now (entries_of_tree self.old)) }
         ensures old { option_map (λ e. e.value) (entry_at K.cmp hash key.now (entries_of_tree self.old)) ≡ Some result }
-        ensures after { entries_of_tree self.new ≡ replaced K.cmp hash key.now value number (entries_of_tree self.old) }
+        ensures after { entries_of_tree self.new
+            ≡ with_value_at K.cmp hash key.now value number (entries_of_tree self.old) }
     {
         let Some(old) = write_in(&mut self.root, hash, key, value, number) else {
             unreachable!()
@@ -349,8 +351,8 @@ impl<K: Ord + Drop, V: Drop, A: Allocator> Ordered<K, V, A> for TreeBin<K, V, A>
     fn put_node(&mut self, node: BoxedNode<K, V, A>)
         requires absent { let e = entry_of node.value in
             IsNone (entry_at K.cmp e.hash (arc_value e.key) (entries_of_tree self.old)) }
-        requires room { length (entries_of_tree self.old) < 2 ^ 62 }
-        ensures { entries_of_tree self.new ≡ placed K.cmp (entry_of node.value) (entries_of_tree self.old) }
+        requires room { length (entries_of_tree self.old) < MOST_PAIRS }
+        ensures { entries_of_tree self.new ≡ with_entry K.cmp (entry_of node.value) (entries_of_tree self.old) }
     {
         let root = put_in(self.root.take(), node);
         self.root = blacken(Some(root));
@@ -373,14 +375,14 @@ impl<K: Ord + Drop, V: Drop, A: Allocator> Ordered<K, V, A> for TreeBin<K, V, A>
 
     fn into_list(self) -> ListBin<K, V, A> {
         let TreeBin { root, len } = self;
-        ListBin::from_chain(unfolded(root, None), len)
+        ListBin::from_chain(flatten_onto(root, None), len)
     }
 
     fn from_list(list: ListBin<K, V, A>) -> Self
         ensures { entries_of_tree result ≡ entries_of_list list }
     {
         let (head, len) = list.into_chain();
-        let (root, _) = folded(len, (len + 1).ilog2(), head);
+        let (root, _) = build_balanced(len, (len + 1).ilog2(), head);
         TreeBin { root, len }
     }
 }

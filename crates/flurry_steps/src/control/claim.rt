@@ -1,6 +1,7 @@
 //! Ranges of bins that are to be moved.
 ghost use Rattle.std.specs.Prelude.{◌≡◌, ◌-◌, ◌^◌, ◌<◌, ◌≤◌, ◌&&◌, ◌==◌, ◌↔◌, IsTrue, IfSome, Some, None, false, if◌then◌else◌};
 ghost use Rattle.flurry_steps.specs.Claim.{IsRange, next_of, moved_on, is_moved, bins_in};
+ghost use Rattle.flurry_model.specs.declared.sizes.TheConstants.{GREATEST_TABLE};
 
 use flurry_slots::Receipt;
 use flurry_slots::clones::{Cloning, NoCloning};
@@ -38,7 +39,7 @@ fn claims_can_be_cloned() -> bool
 impl Claim {
     // For a control that hands the range out.
     pub(super) fn of(table: u8, low: usize, high: usize) -> Self
-        requires table { table < 30 }
+        requires table { table < GREATEST_TABLE }
         requires some { low < high }
         requires inside { high ≤ 2 ^ table }
         ensures { result ≡ record { table = table; low = low; left = high; high = high } }
@@ -51,12 +52,12 @@ impl Claim {
         }
     }
 
-    /// The bin to move next, by its table's number and its index, or none once all have moved.
+    /// The bin to move next, by its table's exponent and its index, or none once all have moved.
     ///
     /// Constant time.
     pub fn next(&self) -> Option<(u8, usize)>
         ensures value { result ≡ next_of self.now }
-        ensures within { IfSome result (λ b. (b.0 < 30) × (b.1 < 2 ^ b.0)) }
+        ensures within { IfSome result (λ b. (b.0 < GREATEST_TABLE) × (b.1 < 2 ^ b.0)) }
         ensures range { IsRange self.now }
     {
         if self.low < self.left {
@@ -85,7 +86,8 @@ impl Claim {
 
     // How many bins the range has, if it is of this table and all of them have moved.
     pub(super) fn moved_in(&self, table: u8) -> Option<usize>
-        ensures value { result ≡ (if self.now.table == table && is_moved self.now then Some (bins_in self.now) else None) }
+        ensures value { result ≡ (if self.now.table == table
+            && is_moved self.now then Some (bins_in self.now) else None) }
         ensures within { IfSome result (λ n. n ≤ 2 ^ table) }
     {
         if self.table == table && self.left == self.low {

@@ -1,31 +1,33 @@
 //! The steps of a call at a bin.
-ghost use Rattle.std.specs.Prelude.{◌≡◌, ◌-◌, ◌<◌, ◌≤◌, ◌⊎◌, Some, IfOk, OnErr};
-ghost use Rattle.flurry_slots.specs.LiveView.{written_view, added_view};
-ghost use Rattle.flurry_bins.specs.PlainEntries.{numbered};
+ghost use Rattle.std.specs.Prelude.{◌≡◌, ◌+◌, ◌-◌, ◌<◌, ◌≤◌, ◌⊎◌, Some, IfOk, OnErr};
+ghost use Rattle.flurry_slots.specs.LiveView.{view_of_written, view_of_added};
+ghost use Rattle.flurry_bins.specs.PlainEntries.{numbered_pair};
 ghost use Rattle.flurry_slots.specs.Slot.{IsSlot, IsUnborn, LiesIn};
-ghost use Rattle.flurry_steps.specs.Party.{StageIsReady, TaskIsReady, IsWriter, IsDecided, steps_left, Finds, Removes, Inserts, Adds, Computes, Says, told};
+ghost use Rattle.flurry_steps.specs.Party.{StageIsReady, TaskIsReady, IsWriter, IsDecided, steps_left, Finds, Removes, Inserts, Adds, Computes, OutcomeReply, reply_for};
 ghost use Rattle.flurry_steps.specs.PartySlots.{ContentGives, GoesOnNew, GoesOnWritten, GoesOnAdded, FindCanBeRefused};
-ghost use Rattle.flurry_steps.specs.PartyView.{key_of, stage_of, task_of, said_of, sought_of};
+ghost use Rattle.flurry_steps.specs.PartyView.{key_of, stage_of, task_of, outcome_of, sought_of};
+ghost use Rattle.flurry_model.specs.declared.sizes.TheConstants.{GREATEST_TABLE};
 
 use super::Event;
-use super::at_control::absent;
+use super::at_control::absent_reply;
 use super::call::{Key, Sought, Task};
 use super::reply::Reply;
-use super::stage::{After, Growing, Stage};
+use super::stage::{GrowFor, Resume, Stage};
 use crate::control::wanted_table;
 use flurry_bins::bin::Entry;
 use flurry_model::try_insert::TryInsertError;
-use flurry_slots::{Added, Answer, Change, Computed, Slot, Written};
+use flurry_slots::{Added, Answer, ComputeFn, Computed, Slot, Written};
 use std::alloc::{AllocError, Allocator};
 use std::sync::Arc;
 
 // What a look-up answers of an entry.
-fn found<K: Drop, V: Drop, A: Allocator>(
+fn reply_of<K: Drop, V: Drop, A: Allocator>(
     sought: Sought,
     entry: &Entry<K, V, A>,
 ) -> Result<Reply<K, V, A>, AllocError>
-    ensures reply { IfOk result (λ r. said_of r ≡ Says (told (sought_of sought) (Some (numbered entry.now)))) }
-    ensures refused { OnErr result (FindCanBeRefused (sought_of sought) (Some (numbered entry.now))) }
+    ensures reply { IfOk result
+        (λ r. outcome_of r ≡ OutcomeReply (reply_for (sought_of sought) (Some (numbered_pair entry.now)))) }
+    ensures refused { OnErr result (FindCanBeRefused (sought_of sought) (Some (numbered_pair entry.now))) }
 {
     match sought {
         Sought::Value => Ok(Reply::Value(Some(Arc::try_clone(&entry.value)?))),
@@ -39,7 +41,7 @@ fn found<K: Drop, V: Drop, A: Allocator>(
 }
 
 // The step of a look-up.
-pub(super) fn looked<'k, K: Ord + Drop, V: Drop, F: Change<K, V>, A: Allocator>(
+pub(super) fn step_lookup<'k, K: Ord + Drop, V: Drop, F: ComputeFn<K, V>, A: Allocator>(
     hash: u64,
     sought: Sought,
     key: Key<'k, K>,
@@ -50,15 +52,17 @@ pub(super) fn looked<'k, K: Ord + Drop, V: Drop, F: Change<K, V>, A: Allocator>(
     requires at { table ≡ slot.now.table }
     ensures ready { StageIsReady F.can_change (stage_of result.0) }
     ensures within { IsSlot K.cmp slot.now }
-    ensures nearer { (slot.now.content ≡ IsUnborn) ⊎ (steps_left (stage_of result.0) < 31 - table) }
-    ensures step { ContentGives K.cmp F.changes hash (Finds (sought_of sought) (key_of key.entry)) table slot.now.content result.1 (stage_of result.0) slot.now.content }
+    ensures nearer { (slot.now.content ≡ IsUnborn) ⊎ (steps_left (stage_of result.0) < GREATEST_TABLE + 1 - table) }
+    ensures step { ContentGives K.cmp F.changes hash
+        (Finds (sought_of sought) (key_of key.entry)) table slot.now.content result.1
+        (stage_of result.0) slot.now.content }
 {
     match slot.find(hash, key.get()) {
-        Answer::Here(Some(entry)) => match found(sought, entry) {
+        Answer::Here(Some(entry)) => match reply_of(sought, entry) {
             Ok(reply) => (Stage::Done(reply), Event::Decide),
             Err(_) => (Stage::Done(Reply::Refused), Event::Refused),
         },
-        Answer::Here(None) => (Stage::Done(absent(sought)), Event::Decide),
+        Answer::Here(None) => (Stage::Done(absent_reply(sought)), Event::Decide),
         Answer::Moved(()) => (
             Stage::Bin(Task::Find(sought, key), table + 1),
             Event::Silent,
@@ -68,7 +72,7 @@ pub(super) fn looked<'k, K: Ord + Drop, V: Drop, F: Change<K, V>, A: Allocator>(
 }
 
 // The step of a call that may change its bin.
-pub(super) fn changed<'k, K: Ord + Drop, V: Drop, F: Change<K, V>, A: Allocator + Copy>(
+pub(super) fn step_write<'k, K: Ord + Drop, V: Drop, F: ComputeFn<K, V>, A: Allocator + Copy>(
     alloc: A,
     hash: u64,
     task: Task<'k, K, V, F>,
@@ -83,20 +87,24 @@ pub(super) fn changed<'k, K: Ord + Drop, V: Drop, F: Change<K, V>, A: Allocator 
     ensures within { IsSlot K.cmp slot.old }
     ensures table { slot.new.table ≡ slot.old.table }
     ensures index { slot.new.index ≡ slot.old.index }
-    ensures step { ContentGives K.cmp F.changes hash (task_of task.entry) table slot.old.content result.1 (stage_of result.0) slot.new.content }
+    ensures step { ContentGives K.cmp F.changes hash (task_of task.entry) table slot.old.content result.1
+        (stage_of result.0) slot.new.content }
 {
     match task {
-        Task::Remove(sought, key) => return removed(hash, sought, key, table, slot),
-        Task::Insert(key, value) => return inserted(alloc, hash, key, value, table, slot),
-        Task::Add(key, value) => return added(alloc, hash, key, value, table, slot),
-        Task::Compute(key, f) => return computed(alloc, hash, key, f, table, slot),
+        Task::Remove(sought, key) => return remove(hash, sought, key, table, slot),
+        Task::Insert(key, value) => return insert(alloc, hash, key, value, table, slot),
+        Task::Add(key, value) => return try_insert(alloc, hash, key, value, table, slot),
+        Task::Compute(key, f) => return compute(alloc, hash, key, f, table, slot),
         Task::Find(_, _) => unreachable!(),
     }
 }
 
 // What a removal answers of the entry that it took out.
-fn owned<K: Drop, V: Drop, A: Allocator>(sought: Sought, entry: Entry<K, V, A>) -> Reply<K, V, A>
-    ensures { said_of result ≡ Says (told (sought_of sought) (Some (numbered entry))) }
+fn owned_reply<K: Drop, V: Drop, A: Allocator>(
+    sought: Sought,
+    entry: Entry<K, V, A>,
+) -> Reply<K, V, A>
+    ensures { outcome_of result ≡ OutcomeReply (reply_for (sought_of sought) (Some (numbered_pair entry))) }
 {
     match sought {
         Sought::Value => Reply::Value(Some(entry.value)),
@@ -105,7 +113,7 @@ fn owned<K: Drop, V: Drop, A: Allocator>(sought: Sought, entry: Entry<K, V, A>) 
     }
 }
 
-fn removed<'k, K: Ord + Drop, V: Drop, F: Change<K, V>, A: Allocator>(
+fn remove<'k, K: Ord + Drop, V: Drop, F: ComputeFn<K, V>, A: Allocator>(
     hash: u64,
     sought: Sought,
     key: Key<'k, K>,
@@ -118,13 +126,15 @@ fn removed<'k, K: Ord + Drop, V: Drop, F: Change<K, V>, A: Allocator>(
     ensures within { IsSlot K.cmp slot.old }
     ensures table { slot.new.table ≡ slot.old.table }
     ensures index { slot.new.index ≡ slot.old.index }
-    ensures step { ContentGives K.cmp F.changes hash (Removes (sought_of sought) (key_of key.entry)) table slot.old.content result.1 (stage_of result.0) slot.new.content }
+    ensures step { ContentGives K.cmp F.changes hash
+        (Removes (sought_of sought) (key_of key.entry)) table slot.old.content result.1
+        (stage_of result.0) slot.new.content }
 {
     match slot.take(hash, key.get()) {
-        Answer::Here(Some(entry)) => (Stage::Uncount(owned(sought, entry)), Event::Decide),
-        Answer::Here(None) => (Stage::Done(absent(sought)), Event::Decide),
+        Answer::Here(Some(entry)) => (Stage::Uncount(owned_reply(sought, entry)), Event::Decide),
+        Answer::Here(None) => (Stage::Done(absent_reply(sought)), Event::Decide),
         Answer::Moved(()) => (
-            Stage::Claim(After::Bin(Task::Remove(sought, key), table + 1)),
+            Stage::Claim(Resume::Bin(Task::Remove(sought, key), table + 1)),
             Event::Silent,
         ),
         Answer::Unborn(()) => (Stage::Locate(Task::Remove(sought, key)), Event::Silent),
@@ -132,39 +142,39 @@ fn removed<'k, K: Ord + Drop, V: Drop, F: Change<K, V>, A: Allocator>(
 }
 
 // Where a call goes on that put a new key into a bin of this table: it is counted, once the growth that is asked for is done.
-fn goes_on<'k, K, V, F: Change<K, V>, A: Allocator>(
+fn after_new_pair<'k, K, V, F: ComputeFn<K, V>, A: Allocator>(
     table: u8,
     reply: Reply<K, V, A>,
     asks_for_growth: bool,
 ) -> Stage<'k, K, V, F, A>
-    requires table { table ≤ 30 }
-    requires decided { IsDecided (said_of reply) }
+    requires table { table ≤ GREATEST_TABLE }
+    requires decided { IsDecided (outcome_of reply) }
     ensures ready { StageIsReady F.can_change (stage_of result) }
-    ensures stage { GoesOnNew table (said_of reply) asks_for_growth (stage_of result) }
+    ensures stage { GoesOnNew table (outcome_of reply) asks_for_growth (stage_of result) }
 {
     if asks_for_growth {
         let wanted = wanted_table(2usize << table);
-        Stage::Grow(wanted, Growing::Insert(reply))
+        Stage::Grow(wanted, GrowFor::Insert(reply))
     } else {
         Stage::Count(reply)
     }
 }
 
-fn wrote<'k, K: Drop, V: Drop, F: Change<K, V>, A: Allocator>(
+fn after_write<'k, K: Drop, V: Drop, F: ComputeFn<K, V>, A: Allocator>(
     table: u8,
     written: Written<V, A>,
 ) -> Stage<'k, K, V, F, A>
-    requires { table ≤ 30 }
+    requires { table ≤ GREATEST_TABLE }
     ensures ready { StageIsReady F.can_change (stage_of result) }
-    ensures stage { GoesOnWritten table (written_view written) (stage_of result) }
+    ensures stage { GoesOnWritten table (view_of_written written) (stage_of result) }
 {
     match written.old {
-        None => goes_on(table, Reply::Value(None), written.asks_for_growth),
+        None => after_new_pair(table, Reply::Value(None), written.asks_for_growth),
         Some(old) => Stage::Done(Reply::Value(Some(old))),
     }
 }
 
-fn inserted<'k, K: Ord + Drop, V: Drop, F: Change<K, V>, A: Allocator + Copy>(
+fn insert<'k, K: Ord + Drop, V: Drop, F: ComputeFn<K, V>, A: Allocator + Copy>(
     alloc: A,
     hash: u64,
     key: K,
@@ -178,12 +188,13 @@ fn inserted<'k, K: Ord + Drop, V: Drop, F: Change<K, V>, A: Allocator + Copy>(
     ensures within { IsSlot K.cmp slot.old }
     ensures table { slot.new.table ≡ slot.old.table }
     ensures index { slot.new.index ≡ slot.old.index }
-    ensures step { ContentGives K.cmp F.changes hash (Inserts key value) table slot.old.content result.1 (stage_of result.0) slot.new.content }
+    ensures step { ContentGives K.cmp F.changes hash (Inserts key value) table slot.old.content result.1
+        (stage_of result.0) slot.new.content }
 {
     match slot.put(alloc, hash, key, value) {
-        Ok(Answer::Here(written)) => (wrote(table, written), Event::Decide),
+        Ok(Answer::Here(written)) => (after_write(table, written), Event::Decide),
         Ok(Answer::Moved((key, value))) => (
-            Stage::Claim(After::Bin(Task::Insert(key, value), table + 1)),
+            Stage::Claim(Resume::Bin(Task::Insert(key, value), table + 1)),
             Event::Silent,
         ),
         Ok(Answer::Unborn((key, value))) => {
@@ -193,21 +204,21 @@ fn inserted<'k, K: Ord + Drop, V: Drop, F: Change<K, V>, A: Allocator + Copy>(
     }
 }
 
-fn tried<'k, K: Drop, V: Drop, F: Change<K, V>, A: Allocator>(
+fn after_try<'k, K: Drop, V: Drop, F: ComputeFn<K, V>, A: Allocator>(
     table: u8,
     added: Result<Added<V, A>, TryInsertError<V, A>>,
 ) -> Stage<'k, K, V, F, A>
-    requires { table ≤ 30 }
+    requires { table ≤ GREATEST_TABLE }
     ensures ready { StageIsReady F.can_change (stage_of result) }
-    ensures stage { GoesOnAdded table (added_view added) (stage_of result) }
+    ensures stage { GoesOnAdded table (view_of_added added) (stage_of result) }
 {
     match added {
-        Ok(added) => goes_on(table, Reply::New(added.value), added.asks_for_growth),
+        Ok(added) => after_new_pair(table, Reply::New(added.value), added.asks_for_growth),
         Err(error) => Stage::Done(Reply::Exists(error)),
     }
 }
 
-fn added<'k, K: Ord + Drop, V: Drop, F: Change<K, V>, A: Allocator + Copy>(
+fn try_insert<'k, K: Ord + Drop, V: Drop, F: ComputeFn<K, V>, A: Allocator + Copy>(
     alloc: A,
     hash: u64,
     key: K,
@@ -221,12 +232,13 @@ fn added<'k, K: Ord + Drop, V: Drop, F: Change<K, V>, A: Allocator + Copy>(
     ensures within { IsSlot K.cmp slot.old }
     ensures table { slot.new.table ≡ slot.old.table }
     ensures index { slot.new.index ≡ slot.old.index }
-    ensures step { ContentGives K.cmp F.changes hash (Adds key value) table slot.old.content result.1 (stage_of result.0) slot.new.content }
+    ensures step { ContentGives K.cmp F.changes hash (Adds key value) table slot.old.content result.1
+        (stage_of result.0) slot.new.content }
 {
     match slot.put_absent(alloc, hash, key, value) {
-        Ok(Answer::Here(added)) => (tried(table, added), Event::Decide),
+        Ok(Answer::Here(added)) => (after_try(table, added), Event::Decide),
         Ok(Answer::Moved((key, value))) => (
-            Stage::Claim(After::Bin(Task::Add(key, value), table + 1)),
+            Stage::Claim(Resume::Bin(Task::Add(key, value), table + 1)),
             Event::Silent,
         ),
         Ok(Answer::Unborn((key, value))) => (Stage::Locate(Task::Add(key, value)), Event::Silent),
@@ -234,7 +246,7 @@ fn added<'k, K: Ord + Drop, V: Drop, F: Change<K, V>, A: Allocator + Copy>(
     }
 }
 
-fn computed<'k, K: Ord + Drop, V: Drop, F: Change<K, V>, A: Allocator + Copy>(
+fn compute<'k, K: Ord + Drop, V: Drop, F: ComputeFn<K, V>, A: Allocator + Copy>(
     alloc: A,
     hash: u64,
     key: Key<'k, K>,
@@ -249,7 +261,8 @@ fn computed<'k, K: Ord + Drop, V: Drop, F: Change<K, V>, A: Allocator + Copy>(
     ensures within { IsSlot K.cmp slot.old }
     ensures table { slot.new.table ≡ slot.old.table }
     ensures index { slot.new.index ≡ slot.old.index }
-    ensures step { ContentGives K.cmp F.changes hash (Computes (key_of key.entry) f) table slot.old.content result.1 (stage_of result.0) slot.new.content }
+    ensures step { ContentGives K.cmp F.changes hash (Computes (key_of key.entry) f) table slot.old.content result.1
+        (stage_of result.0) slot.new.content }
 {
     match slot.compute(alloc, hash, key.get(), f) {
         Ok(Answer::Here(Computed::Absent(_))) => (Stage::Done(Reply::Value(None)), Event::Decide),
@@ -258,7 +271,7 @@ fn computed<'k, K: Ord + Drop, V: Drop, F: Change<K, V>, A: Allocator + Copy>(
             (Stage::Done(Reply::Value(Some(value))), Event::Decide)
         }
         Ok(Answer::Moved(f)) => (
-            Stage::Claim(After::Bin(Task::Compute(key, f), table + 1)),
+            Stage::Claim(Resume::Bin(Task::Compute(key, f), table + 1)),
             Event::Silent,
         ),
         Ok(Answer::Unborn(f)) => (Stage::Locate(Task::Compute(key, f)), Event::Silent),

@@ -28,7 +28,7 @@ pub enum Call<'k, K, V, F> {
 
 /// A call of a shared map that has its key, as a list of calls keeps it.
 #[derive(Clone, Copy, Debug)]
-pub enum KeptCall<K, V, F> {
+pub enum OwnedCall<K, V, F> {
     /// [`Call::Get`].
     Get(K),
     /// [`Call::GetKeyValue`].

@@ -5,7 +5,7 @@ ghost use Rattle.flurry_slots.specs.Slot.{LiesIn};
 
 use flurry_bins::bin::Bin;
 use flurry_model::sizes::bin_index;
-use flurry_slots::{Answer, Computed, MoveAnswer, NoChange, Slot};
+use flurry_slots::{Answer, Computed, MoveAnswer, NoFn, Slot};
 use std::alloc::{AllocError, Global};
 use std::test::Fail;
 
@@ -47,7 +47,7 @@ fn given<T, B: Drop>(answer: Result<Answer<T, B>, AllocError>) -> Result<T, Away
     }
 }
 
-// The value of an entry and the number of its write.
+// The value of an entry and its write number.
 fn find(slot: &Slot<u64, u64>, hash: u64, key: u64) -> Result<Option<(u64, u64)>, Away> {
     lies_in(slot, hash)?;
     let entry = here(slot.find(hash, &key))?;
@@ -109,7 +109,7 @@ fn halve(
 // Whether a computation without a value took the pair out.
 fn remove(alloc: Global, slot: &mut Slot<u64, u64>, hash: u64, key: u64) -> Result<bool, Away> {
     lies_in(slot, hash)?;
-    match given(slot.compute(alloc, hash, &key, NoChange))? {
+    match given(slot.compute(alloc, hash, &key, NoFn))? {
         Computed::Removed => Ok(true),
         _ => Ok(false),
     }

@@ -3,9 +3,9 @@
 use super::{Plain, answers, value};
 use crate::Beside;
 use flurry_model::reply::KeptReply;
-use flurry_slots::Change;
+use flurry_slots::ComputeFn;
 use flurry_steps::Field;
-use flurry_steps::party::KeptCall;
+use flurry_steps::party::OwnedCall;
 use flurry_world::Parts;
 use std::alloc::Global;
 use std::process::Abort;
@@ -42,7 +42,7 @@ fn each_call_beside_a_start(rt: HostRuntime) -> Result<(), Fail> {
 }
 
 // Each of the nine kinds of call, on an empty map.
-fn each_call<F: Change<u64, u64> + Copy, X: Field<u64, u64, Global>, R: Wait + Abort>(
+fn each_call<F: ComputeFn<u64, u64> + Copy, X: Field<u64, u64, Global>, R: Wait + Abort>(
     rt: &R,
     field: &mut X,
     change: F,
@@ -55,25 +55,25 @@ fn each_call<F: Change<u64, u64> + Copy, X: Field<u64, u64, Global>, R: Wait + A
 }
 
 // No call finds the key 3, and none of these puts it.
-fn absent_key<F: Change<u64, u64> + Copy, X: Field<u64, u64, Global>, R: Wait + Abort>(
+fn absent_key<F: ComputeFn<u64, u64> + Copy, X: Field<u64, u64, Global>, R: Wait + Abort>(
     rt: &R,
     field: &mut X,
     change: F,
 )
     requires { (f : F) → F.can_change f }
 {
-    let no_pair = Plain::Says(KeptReply::Pair(None));
-    let absent = Plain::Says(KeptReply::Contains(false));
-    answers(rt, field, KeptCall::Compute(3, change), value(None));
-    answers::<F, _, _, _>(rt, field, KeptCall::Remove(3), value(None));
-    answers::<F, _, _, _>(rt, field, KeptCall::RemoveEntry(3), no_pair);
-    answers::<F, _, _, _>(rt, field, KeptCall::ContainsKey(3), absent);
-    answers::<F, _, _, _>(rt, field, KeptCall::GetKeyValue(3), no_pair);
-    answers::<F, _, _, _>(rt, field, KeptCall::Get(3), value(None));
+    let no_pair = Plain::OutcomeReply(KeptReply::Pair(None));
+    let absent = Plain::OutcomeReply(KeptReply::Contains(false));
+    answers(rt, field, OwnedCall::Compute(3, change), value(None));
+    answers::<F, _, _, _>(rt, field, OwnedCall::Remove(3), value(None));
+    answers::<F, _, _, _>(rt, field, OwnedCall::RemoveEntry(3), no_pair);
+    answers::<F, _, _, _>(rt, field, OwnedCall::ContainsKey(3), absent);
+    answers::<F, _, _, _>(rt, field, OwnedCall::GetKeyValue(3), no_pair);
+    answers::<F, _, _, _>(rt, field, OwnedCall::Get(3), value(None));
 }
 
 // The keys 3 and 19, which share a bin of 16, have the values 8 and 7 then.
-fn present_key<F: Change<u64, u64> + Copy, X: Field<u64, u64, Global>, R: Wait + Abort>(
+fn present_key<F: ComputeFn<u64, u64> + Copy, X: Field<u64, u64, Global>, R: Wait + Abort>(
     rt: &R,
     field: &mut X,
     change: F,
@@ -84,28 +84,33 @@ fn present_key<F: Change<u64, u64> + Copy, X: Field<u64, u64, Global>, R: Wait +
         current: 6,
         not_inserted: 9,
     };
-    answers::<F, _, _, _>(rt, field, KeptCall::Insert(3, 5), value(None));
-    answers::<F, _, _, _>(rt, field, KeptCall::Insert(3, 6), value(Some(5)));
-    answers::<F, _, _, _>(rt, field, KeptCall::TryInsert(3, 9), Plain::Says(exists));
+    answers::<F, _, _, _>(rt, field, OwnedCall::Insert(3, 5), value(None));
+    answers::<F, _, _, _>(rt, field, OwnedCall::Insert(3, 6), value(Some(5)));
     answers::<F, _, _, _>(
         rt,
         field,
-        KeptCall::TryInsert(19, 7),
-        Plain::Says(KeptReply::New(7)),
+        OwnedCall::TryInsert(3, 9),
+        Plain::OutcomeReply(exists),
     );
-    answers(rt, field, KeptCall::Compute(3, change), value(Some(8)));
-    answers::<F, _, _, _>(rt, field, KeptCall::Reserve(40), Plain::Ended);
     answers::<F, _, _, _>(
         rt,
         field,
-        KeptCall::GetKeyValue(3),
-        Plain::Says(KeptReply::Pair(Some((3, 8)))),
+        OwnedCall::TryInsert(19, 7),
+        Plain::OutcomeReply(KeptReply::New(7)),
     );
-    answers::<F, _, _, _>(rt, field, KeptCall::Get(19), value(Some(7)));
+    answers(rt, field, OwnedCall::Compute(3, change), value(Some(8)));
+    answers::<F, _, _, _>(rt, field, OwnedCall::Reserve(40), Plain::Ended);
+    answers::<F, _, _, _>(
+        rt,
+        field,
+        OwnedCall::GetKeyValue(3),
+        Plain::OutcomeReply(KeptReply::Pair(Some((3, 8)))),
+    );
+    answers::<F, _, _, _>(rt, field, OwnedCall::Get(19), value(Some(7)));
 }
 
 // Both are taken out again, the one by its function.
-fn removals<F: Change<u64, u64> + Copy, X: Field<u64, u64, Global>, R: Wait + Abort>(
+fn removals<F: ComputeFn<u64, u64> + Copy, X: Field<u64, u64, Global>, R: Wait + Abort>(
     rt: &R,
     field: &mut X,
     change: F,
@@ -113,22 +118,27 @@ fn removals<F: Change<u64, u64> + Copy, X: Field<u64, u64, Global>, R: Wait + Ab
     requires { (f : F) → F.can_change f }
 {
     let pair = KeptReply::Pair(Some((19, 7)));
-    answers(rt, field, KeptCall::Compute(3, change), value(None));
+    answers(rt, field, OwnedCall::Compute(3, change), value(None));
     answers::<F, _, _, _>(
         rt,
         field,
-        KeptCall::ContainsKey(3),
-        Plain::Says(KeptReply::Contains(false)),
+        OwnedCall::ContainsKey(3),
+        Plain::OutcomeReply(KeptReply::Contains(false)),
     );
     answers::<F, _, _, _>(
         rt,
         field,
-        KeptCall::ContainsKey(19),
-        Plain::Says(KeptReply::Contains(true)),
+        OwnedCall::ContainsKey(19),
+        Plain::OutcomeReply(KeptReply::Contains(true)),
     );
-    answers::<F, _, _, _>(rt, field, KeptCall::RemoveEntry(19), Plain::Says(pair));
-    answers::<F, _, _, _>(rt, field, KeptCall::Get(19), value(None));
-    answers::<F, _, _, _>(rt, field, KeptCall::Insert(19, 1), value(None));
-    answers::<F, _, _, _>(rt, field, KeptCall::Remove(19), value(Some(1)));
-    answers::<F, _, _, _>(rt, field, KeptCall::Get(19), value(None));
+    answers::<F, _, _, _>(
+        rt,
+        field,
+        OwnedCall::RemoveEntry(19),
+        Plain::OutcomeReply(pair),
+    );
+    answers::<F, _, _, _>(rt, field, OwnedCall::Get(19), value(None));
+    answers::<F, _, _, _>(rt, field, OwnedCall::Insert(19, 1), value(None));
+    answers::<F, _, _, _>(rt, field, OwnedCall::Remove(19), value(Some(1)));
+    answers::<F, _, _, _>(rt, field, OwnedCall::Get(19), value(None));
 }

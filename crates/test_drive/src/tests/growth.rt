@@ -2,11 +2,11 @@
 
 use super::each_call::beside_sixteen;
 use super::{answers, same, value, without_owners};
-use flurry_model::hash::LowHashBuilder;
 use flurry_drive::drive_alone;
-use flurry_slots::{Change, NoChange};
+use flurry_model::hash::LowHashBuilder;
+use flurry_slots::{ComputeFn, NoFn};
 use flurry_steps::Field;
-use flurry_steps::party::KeptCall;
+use flurry_steps::party::OwnedCall;
 use flurry_world::Parts;
 use std::alloc::Global;
 use std::process::Abort;
@@ -14,19 +14,19 @@ use std::sync::Wait;
 use std::test::Fail;
 
 // Puts the keys 0 to 99 and finds each, and the key 100 not.
-fn hundred_keys<F: Change<u64, u64>, X: Field<u64, u64, Global>, R: Wait + Abort>(
+fn hundred_keys<F: ComputeFn<u64, u64>, X: Field<u64, u64, Global>, R: Wait + Abort>(
     rt: &R,
     field: &mut X,
 )
     requires { (f : F) → F.can_change f }
 {
     for key in 0..100u64 {
-        let call: KeptCall<u64, u64, F> = KeptCall::Insert(key, key);
+        let call: OwnedCall<u64, u64, F> = OwnedCall::Insert(key, key);
         answers(rt, field, call, value(None));
     }
     for key in 0..101u64 {
         let there = if key < 100 { Some(key) } else { None };
-        let call: KeptCall<u64, u64, F> = KeptCall::Get(key);
+        let call: OwnedCall<u64, u64, F> = OwnedCall::Get(key);
         answers(rt, field, call, value(there));
     }
 }
@@ -34,7 +34,7 @@ fn hundred_keys<F: Change<u64, u64>, X: Field<u64, u64, Global>, R: Wait + Abort
 #[test]
 fn hundred_keys_over_own_parts(rt: HostRuntime) -> Result<(), Fail> {
     let mut parts: Parts<u64, u64> = Parts::new(rt.alloc())?;
-    hundred_keys::<NoChange, _, _>(&rt, &mut parts);
+    hundred_keys::<NoFn, _, _>(&rt, &mut parts);
     same(&rt, parts.control().len(), 100);
     same(&rt, parts.control().locate(), Some(8));
     Ok(())
@@ -44,17 +44,17 @@ fn hundred_keys_over_own_parts(rt: HostRuntime) -> Result<(), Fail> {
 #[test]
 fn hundred_keys_beside_a_start(rt: HostRuntime) -> Result<(), Fail> {
     let mut field = beside_sixteen(rt.alloc())?;
-    hundred_keys::<NoChange, _, _>(&rt, &mut field);
+    hundred_keys::<NoFn, _, _>(&rt, &mut field);
     Ok(())
 }
 
-fn twice_alone<F: Change<u64, u64>, R: Wait + Abort>(rt: &R, parts: &mut Parts<u64, u64>)
+fn twice_alone<F: ComputeFn<u64, u64>, R: Wait + Abort>(rt: &R, parts: &mut Parts<u64, u64>)
     requires { (f : F) → F.can_change f }
 {
-    let put: KeptCall<u64, u64, F> = KeptCall::Insert(7, 1);
+    let put: OwnedCall<u64, u64, F> = OwnedCall::Insert(7, 1);
     let reply = drive_alone(rt, put, &LowHashBuilder, 1, parts);
     same(rt, without_owners(reply), value(None));
-    let look: KeptCall<u64, u64, F> = KeptCall::Get(7);
+    let look: OwnedCall<u64, u64, F> = OwnedCall::Get(7);
     let reply = drive_alone(rt, look, &LowHashBuilder, 1, parts);
     same(rt, without_owners(reply), value(Some(1)));
 }
@@ -62,6 +62,6 @@ fn twice_alone<F: Change<u64, u64>, R: Wait + Abort>(rt: &R, parts: &mut Parts<u
 #[test]
 fn driven_alone(rt: HostRuntime) -> Result<(), Fail> {
     let mut parts: Parts<u64, u64> = Parts::new(rt.alloc())?;
-    twice_alone::<NoChange, _>(&rt, &mut parts);
+    twice_alone::<NoFn, _>(&rt, &mut parts);
     Ok(())
 }

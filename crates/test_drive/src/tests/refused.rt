@@ -1,8 +1,8 @@
 //! Each request of a driven insertion, refused in turn.
 
 use super::{Plain, reply_of, same, value};
-use flurry_slots::{Change, NoChange};
-use flurry_steps::party::KeptCall;
+use flurry_slots::{ComputeFn, NoFn};
+use flurry_steps::party::OwnedCall;
 use flurry_world::Parts;
 use std::alloc::Global;
 use std::process::Abort;
@@ -13,7 +13,7 @@ use test_alloc::Refusing;
 type Memory = &'static Refusing<Global>;
 
 // The reply of an insertion whose request numbered k is refused, then of a look-up with memory enough, and whether one was refused.
-fn insertion<F: Change<u64, u64>, R: Wait + Abort>(
+fn insertion<F: ComputeFn<u64, u64>, R: Wait + Abort>(
     rt: &R,
     memory: Memory,
     k: u64,
@@ -21,8 +21,8 @@ fn insertion<F: Change<u64, u64>, R: Wait + Abort>(
     requires { (f : F) → F.can_change f }
 {
     let mut parts: Parts<u64, u64, Memory> = Parts::new(memory)?;
-    let put: KeptCall<u64, u64, F> = KeptCall::Insert(7, 1);
-    let look: KeptCall<u64, u64, F> = KeptCall::Get(7);
+    let put: OwnedCall<u64, u64, F> = OwnedCall::Insert(7, 1);
+    let look: OwnedCall<u64, u64, F> = OwnedCall::Get(7);
     memory.refuse_at(k);
     let reply = reply_of(rt, &mut parts, put);
     let refused = memory.refused();
@@ -35,7 +35,7 @@ fn insertion<F: Change<u64, u64>, R: Wait + Abort>(
 fn refused_insertions(rt: HostRuntime) -> Result<(), Fail> {
     let memory = Refusing::leaked(rt.alloc())?;
     for k in 0..5u64 {
-        let (reply, look, refused) = insertion::<NoChange, _>(&rt, memory, k)?;
+        let (reply, look, refused) = insertion::<NoFn, _>(&rt, memory, k)?;
         same(&rt, refused, k < 4);
         let (answer, found) = if refused {
             (Plain::Refused, None)

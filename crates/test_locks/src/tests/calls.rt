@@ -1,8 +1,8 @@
 //! Calls over the locks of a shared map, from their first step to their last.
 
 use flurry_locks::{Lender, Locks};
-use flurry_slots::{Change, NoChange};
-use flurry_steps::party::{KeptCall, Reply};
+use flurry_slots::{ComputeFn, NoFn};
+use flurry_steps::party::{OwnedCall, Reply};
 use flurry_steps::{Party, act};
 use std::alloc::Allocator;
 use std::sync::Wait;
@@ -20,15 +20,15 @@ impl Numbered for u64 {
 }
 
 // Does the steps of a call until it is done, and answers its reply.
-fn reply_of<K: Ord + Drop, V: Drop, A: Allocator + Copy, F: Change<K, V>, R: Wait>(
+fn reply_of<K: Ord + Drop, V: Drop, A: Allocator + Copy, F: ComputeFn<K, V>, R: Wait>(
     rt: &R,
     locks: &Locks<K, V, A>,
     hash: u64,
-    call: KeptCall<K, V, F>,
+    call: OwnedCall<K, V, F>,
 ) -> Reply<K, V, A>
     requires { (f : F) → F.can_change f }
 {
-    let mut party = Party::kept(call, hash, 4);
+    let mut party = Party::from_owned(call, hash, 4);
     let mut lender = Lender::new(rt, locks);
     for _ in rt.forever() {
         if act(&mut party, &mut lender).is_some() {
@@ -50,7 +50,7 @@ pub(super) fn put_all<K: Ord + Drop + Numbered, V: Drop + Numbered, A: Allocator
     to: u64,
 ) {
     for number in from..to {
-        let call: KeptCall<K, V, NoChange> = KeptCall::Insert(K::of(number), V::of(number));
+        let call: OwnedCall<K, V, NoFn> = OwnedCall::Insert(K::of(number), V::of(number));
         drop(reply_of(rt, locks, number, call));
     }
 }
@@ -64,7 +64,7 @@ pub(super) fn count_found<K: Ord + Drop + Numbered, V: Drop, A: Allocator + Copy
 ) -> usize {
     let mut found = 0usize;
     for number in from..to {
-        let call: KeptCall<K, V, NoChange> = KeptCall::ContainsKey(K::of(number));
+        let call: OwnedCall<K, V, NoFn> = OwnedCall::ContainsKey(K::of(number));
         if let Reply::Contains(true) = reply_of(rt, locks, number, call) {
             found = found.saturating_add(1);
         }

@@ -119,8 +119,8 @@ pub(super) fn text_of_numbers(alloc: Global, numbers: &[Arc<u64>]) -> Result<Str
 }
 
 // A line of two parts.
-fn line(alloc: Global, name: &str, told: impl Display + Drop) -> Result<String, Fail> {
-    Ok(format!(in alloc; "{name}{told}\n")?)
+fn line(alloc: Global, name: &str, reply_for: impl Display + Drop) -> Result<String, Fail> {
+    Ok(format!(in alloc; "{name}{reply_for}\n")?)
 }
 
 // The line of one reply.

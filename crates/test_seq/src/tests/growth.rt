@@ -3,7 +3,7 @@
 use super::{holds, insert_new, puts, same, stands};
 use flurry_bins::bin::Shape;
 use flurry_model::hash::{LowHashBuilder, ZeroHashBuilder};
-use flurry_bins::table::{threshold, wanted};
+use flurry_model::sizes::{threshold, wanted};
 use flurry_seq::SeqMap;
 use std::test::Fail;
 

@@ -3,7 +3,7 @@
 use super::calls::text_of_numbers;
 use super::keys::Tagged;
 use super::{queue_of, same};
-use flurry_bins::hash::{KeyHasher, LowHashBuilder, ZeroHashBuilder};
+use flurry_model::hash::{KeyHasher, LowHashBuilder, ZeroHashBuilder};
 use flurry_set::SeqSet;
 use flurry_set::set_calls::{SetCall, SetReply};
 use std::alloc::Global;
@@ -98,8 +98,8 @@ fn is_even(element: &u64) -> bool {
 }
 
 // A word, and a space after it.
-fn word(alloc: Global, told: impl Display + Drop) -> Result<String, Fail> {
-    Ok(format!(in alloc; "{told} ")?)
+fn word(alloc: Global, reply_for: impl Display + Drop) -> Result<String, Fail> {
+    Ok(format!(in alloc; "{reply_for} ")?)
 }
 
 // The word of one reply.

@@ -1,7 +1,7 @@
 //! The calls of a set that take memory.
 
 use super::{MOST_REQUESTS, Memory};
-use flurry_bins::hash::LowHashBuilder;
+use flurry_model::hash::LowHashBuilder;
 use flurry_set::SeqSet;
 use flurry_set::set_calls::SetCall;
 use std::collections::VecDeque;

@@ -9,7 +9,7 @@ mod reports;
 use flurry_bins::bin::Bin;
 use flurry_slots::{MoveAnswer, Receipt, Slot};
 use flurry_steps::Control;
-use flurry_steps::control::{Claim, Room, Started};
+use flurry_steps::control::{BeginOutcome, Claim, Room};
 use std::alloc::{AllocError, Global};
 use std::test::Fail;
 
@@ -56,7 +56,7 @@ fn opened(alloc: Global, table: u8, refused: u8) -> Result<(Control, Tables), Fa
 // A control that grows from this table, and the room that has its two tables.
 fn growing(alloc: Global, table: u8) -> Result<(Control, Tables), Fail> {
     let (mut control, mut room) = opened(alloc, table, 0)?;
-    if control.begin(table, &mut room) != Started::Begun {
+    if control.begin(table, &mut room) != BeginOutcome::Begun {
         return Err(Fail::from("the growth begins"));
     }
     Ok((control, room))

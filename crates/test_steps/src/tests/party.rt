@@ -15,7 +15,7 @@ mod rewrites;
 use super::same;
 use flurry_bins::bin::Bin;
 use flurry_model::reply::KeptReply;
-use flurry_slots::{Change, NoChange, Slot};
+use flurry_slots::{ComputeFn, NoFn, Slot};
 use flurry_steps::control::{Control, Room};
 use flurry_steps::party::{Call, Event, Party, Reply, Want};
 use std::alloc::{AllocError, Global};
@@ -85,7 +85,7 @@ fn empty_map(alloc: Global, processors: usize, refused: u8) -> Map {
 #[derive(Clone, Copy)]
 struct Becomes(Option<u64>);
 
-impl Change<u64, u64> for Becomes {
+impl ComputeFn<u64, u64> for Becomes {
     ghost can_change = { λ _. ⊤ };
 
     ghost changes = { λ f _ _ r. r ≡ f.0 };
@@ -135,7 +135,7 @@ fn lent(map: &mut Map, table: u8, index: usize) -> Result<Slot<u64, u64>, Fail>
 }
 
 // The step of a call that wants to read this slot.
-fn look<'k, F: Change<u64, u64>>(
+fn look<'k, F: ComputeFn<u64, u64>>(
     party: &mut Party<'k, u64, u64, F>,
     map: &mut Map,
     table: u8,
@@ -150,7 +150,7 @@ fn look<'k, F: Change<u64, u64>>(
 }
 
 // The step of a call that wants to write this slot.
-fn change<'k, F: Change<u64, u64>>(
+fn change<'k, F: ComputeFn<u64, u64>>(
     alloc: Global,
     party: &mut Party<'k, u64, u64, F>,
     map: &mut Map,
@@ -166,7 +166,7 @@ fn change<'k, F: Change<u64, u64>>(
 }
 
 // The step of a call that wants to move this slot into its halves.
-fn move_bin<'k, F: Change<u64, u64>>(
+fn move_bin<'k, F: ComputeFn<u64, u64>>(
     party: &mut Party<'k, u64, u64, F>,
     map: &mut Map,
     table: u8,
@@ -190,7 +190,7 @@ fn move_bin<'k, F: Change<u64, u64>>(
 }
 
 // The next step, at the part that the call wants.
-fn step<'k, F: Change<u64, u64>>(
+fn step<'k, F: ComputeFn<u64, u64>>(
     alloc: Global,
     party: &mut Party<'k, u64, u64, F>,
     map: &mut Map,
@@ -205,7 +205,7 @@ fn step<'k, F: Change<u64, u64>>(
 }
 
 // The events of the next steps, up to so many.
-fn steps<'k, F: Change<u64, u64>>(
+fn steps<'k, F: ComputeFn<u64, u64>>(
     alloc: Global,
     party: &mut Party<'k, u64, u64, F>,
     map: &mut Map,
@@ -222,7 +222,7 @@ fn steps<'k, F: Change<u64, u64>>(
 }
 
 // The reply of a call that is done. It stays done, and its reply is taken once.
-fn reply_of<'k, F: Change<u64, u64>>(party: &mut Party<'k, u64, u64, F>) -> Result<Told, Fail> {
+fn reply_of<'k, F: ComputeFn<u64, u64>>(party: &mut Party<'k, u64, u64, F>) -> Result<Told, Fail> {
     if party.reply().is_none() {
         return Err(Fail::from("a call that is done has its reply"));
     }
@@ -236,7 +236,7 @@ fn reply_of<'k, F: Change<u64, u64>>(party: &mut Party<'k, u64, u64, F>) -> Resu
 }
 
 // The events of a call up to its end, and its reply.
-fn end<'k, F: Change<u64, u64>>(
+fn end<'k, F: ComputeFn<u64, u64>>(
     alloc: Global,
     party: &mut Party<'k, u64, u64, F>,
     map: &mut Map,
@@ -247,7 +247,7 @@ fn end<'k, F: Change<u64, u64>>(
 }
 
 // The events of a whole call, and its reply.
-fn run<'k, F: Change<u64, u64>>(
+fn run<'k, F: ComputeFn<u64, u64>>(
     alloc: Global,
     map: &mut Map,
     hash: u64,
@@ -266,7 +266,7 @@ fn call<'k>(
     alloc: Global,
     map: &mut Map,
     hash: u64,
-    call: Call<'k, u64, u64, NoChange>,
+    call: Call<'k, u64, u64, NoFn>,
 ) -> Result<(Vec<Event>, Told), Fail> {
     run(alloc, map, hash, call)
 }
@@ -285,18 +285,18 @@ fn answers<'k>(
     rt: &(impl Abort + AllocGlobal),
     map: &mut Map,
     hash: u64,
-    asked: Call<'k, u64, u64, NoChange>,
+    asked: Call<'k, u64, u64, NoFn>,
     events: &[Event],
     reply: Told,
 ) -> Result<(), Fail> {
-    let (seen, told) = call(rt.alloc(), map, hash, asked)?;
+    let (seen, reply_for) = call(rt.alloc(), map, hash, asked)?;
     assert_eq!(rt; seen.as_slice(), events);
-    same(rt, told, reply);
+    same(rt, reply_for, reply);
     Ok(())
 }
 
 // Does the next steps of a call, up to so many, and sees to their events.
-fn goes_on<'k, F: Change<u64, u64>>(
+fn goes_on<'k, F: ComputeFn<u64, u64>>(
     rt: &(impl Abort + AllocGlobal),
     party: &mut Party<'k, u64, u64, F>,
     map: &mut Map,

@@ -31,7 +31,7 @@ fn put(alloc: Global, slot: &mut Slot<u64, u64>, key: u64, value: u64) -> Result
     }
 }
 
-// The value of a key and the number of its write, where the bin is live.
+// The value of a key and its write number, where the bin is live.
 fn find(slot: &Slot<u64, u64>, key: u64) -> Result<Option<(u64, u64)>, Fail> {
     lies_in(slot)?;
     match slot.find(3, &key) {

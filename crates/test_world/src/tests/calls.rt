@@ -3,8 +3,8 @@
 use super::{Line, Numbers, assert_call, assert_reply, begin, end_of, line_of, value};
 use flurry_model::hash::LowHashBuilder;
 use flurry_model::reply::KeptReply;
-use flurry_slots::{Change, NoChange};
-use flurry_steps::party::KeptCall;
+use flurry_slots::{ComputeFn, NoFn};
+use flurry_steps::party::OwnedCall;
 use flurry_world::world::Step;
 use std::alloc::Global;
 use std::process::Abort;
@@ -20,7 +20,7 @@ fn calls_without_a_table(rt: HostRuntime) -> Result<(), Fail> {
     absent_key(&rt, rt.alloc(), |_key: &u64, value: &u64| two_more(*value))
 }
 
-fn absent_key<F: Change<u64, u64> + Copy>(
+fn absent_key<F: ComputeFn<u64, u64> + Copy>(
     rt: &impl Abort,
     alloc: Global,
     change: F,
@@ -30,23 +30,23 @@ fn absent_key<F: Change<u64, u64> + Copy>(
     let mut world = Numbers::new(alloc, 0, LowHashBuilder, 1)?;
     let none = value(None);
     let absent = KeptReply::Contains(false);
-    assert_reply(rt, &mut world, KeptCall::Get(3), none)?;
+    assert_reply(rt, &mut world, OwnedCall::Get(3), none)?;
     assert_reply(
         rt,
         &mut world,
-        KeptCall::GetKeyValue(3),
+        OwnedCall::GetKeyValue(3),
         KeptReply::Pair(None),
     )?;
-    assert_reply(rt, &mut world, KeptCall::ContainsKey(3), absent)?;
-    assert_reply(rt, &mut world, KeptCall::Remove(3), none)?;
+    assert_reply(rt, &mut world, OwnedCall::ContainsKey(3), absent)?;
+    assert_reply(rt, &mut world, OwnedCall::Remove(3), none)?;
     assert_reply(
         rt,
         &mut world,
-        KeptCall::RemoveEntry(3),
+        OwnedCall::RemoveEntry(3),
         KeptReply::Pair(None),
     )?;
-    assert_reply(rt, &mut world, KeptCall::Compute(3, change), none)?;
-    let party = begin(&mut world, KeptCall::Reserve(40))?;
+    assert_reply(rt, &mut world, OwnedCall::Compute(3, change), none)?;
+    let party = begin(&mut world, OwnedCall::Reserve(40))?;
     assert_eq!(rt; end_of(&mut world, party)?, Line::End(party));
     Ok(())
 }
@@ -56,7 +56,7 @@ fn calls_of_one_key(rt: HostRuntime) -> Result<(), Fail> {
     one_key(&rt, rt.alloc(), |_key: &u64, value: &u64| two_more(*value))
 }
 
-fn one_key<F: Change<u64, u64> + Copy>(
+fn one_key<F: ComputeFn<u64, u64> + Copy>(
     rt: &impl Abort,
     alloc: Global,
     change: F,
@@ -65,19 +65,24 @@ fn one_key<F: Change<u64, u64> + Copy>(
 {
     let mut world = Numbers::new(alloc, 0, LowHashBuilder, 1)?;
     puts(rt, &mut world)?;
-    assert_reply(rt, &mut world, KeptCall::Compute(3, change), value(Some(7)))?;
     assert_reply(
         rt,
         &mut world,
-        KeptCall::Compute(19, change),
+        OwnedCall::Compute(3, change),
+        value(Some(7)),
+    )?;
+    assert_reply(
+        rt,
+        &mut world,
+        OwnedCall::Compute(19, change),
         value(Some(8)),
     )?;
-    assert_reply(rt, &mut world, KeptCall::Compute(19, change), value(None))?;
+    assert_reply(rt, &mut world, OwnedCall::Compute(19, change), value(None))?;
     removes(rt, &mut world)
 }
 
 // Puts 5 at key 3, and 6 at key 19.
-fn puts<'k, F: Change<u64, u64> + Copy>(
+fn puts<'k, F: ComputeFn<u64, u64> + Copy>(
     rt: &impl Abort,
     world: &mut Numbers<'k, F>,
 ) -> Result<(), Fail>
@@ -87,15 +92,15 @@ fn puts<'k, F: Change<u64, u64> + Copy>(
         current: 6,
         not_inserted: 7,
     };
-    assert_reply(rt, world, KeptCall::Insert(3, 4), value(None))?;
-    assert_reply(rt, world, KeptCall::Insert(3, 5), value(Some(4)))?;
-    assert_reply(rt, world, KeptCall::TryInsert(19, 6), KeptReply::New(6))?;
-    assert_reply(rt, world, KeptCall::TryInsert(19, 7), exists)?;
-    assert_reply(rt, world, KeptCall::Get(3), value(Some(5)))
+    assert_reply(rt, world, OwnedCall::Insert(3, 4), value(None))?;
+    assert_reply(rt, world, OwnedCall::Insert(3, 5), value(Some(4)))?;
+    assert_reply(rt, world, OwnedCall::TryInsert(19, 6), KeptReply::New(6))?;
+    assert_reply(rt, world, OwnedCall::TryInsert(19, 7), exists)?;
+    assert_reply(rt, world, OwnedCall::Get(3), value(Some(5)))
 }
 
 // Removes key 3, whose value is 7, while key 19 is absent.
-fn removes<'k, F: Change<u64, u64> + Copy>(
+fn removes<'k, F: ComputeFn<u64, u64> + Copy>(
     rt: &impl Abort,
     world: &mut Numbers<'k, F>,
 ) -> Result<(), Fail>
@@ -105,28 +110,28 @@ fn removes<'k, F: Change<u64, u64> + Copy>(
     assert_reply(
         rt,
         world,
-        KeptCall::ContainsKey(19),
+        OwnedCall::ContainsKey(19),
         KeptReply::Contains(false),
     )?;
     assert_reply(
         rt,
         world,
-        KeptCall::ContainsKey(3),
+        OwnedCall::ContainsKey(3),
         KeptReply::Contains(true),
     )?;
-    assert_reply(rt, world, KeptCall::GetKeyValue(3), pair)?;
-    assert_reply(rt, world, KeptCall::RemoveEntry(3), pair)?;
-    assert_reply(rt, world, KeptCall::Insert(35, 1), value(None))?;
-    assert_reply(rt, world, KeptCall::Remove(35), value(Some(1)))
+    assert_reply(rt, world, OwnedCall::GetKeyValue(3), pair)?;
+    assert_reply(rt, world, OwnedCall::RemoveEntry(3), pair)?;
+    assert_reply(rt, world, OwnedCall::Insert(35, 1), value(None))?;
+    assert_reply(rt, world, OwnedCall::Remove(35), value(Some(1)))
 }
 
 #[test]
 fn list_of_steps(rt: HostRuntime) -> Result<(), Fail> {
-    runs_a_list::<NoChange>(&rt, rt.alloc())
+    runs_a_list::<NoFn>(&rt, rt.alloc())
 }
 
 // The steps, each by the call that does it.
-fn does_singly<'k, F: Change<u64, u64> + Copy>(
+fn does_singly<'k, F: ComputeFn<u64, u64> + Copy>(
     world: &mut Numbers<'k, F>,
     steps: &[Step<u64, u64, F>],
 ) -> Result<(), Fail>
@@ -145,12 +150,12 @@ fn does_singly<'k, F: Change<u64, u64> + Copy>(
 
 // A list of steps and the same steps one by one have the same labels.
 #[tactic(auto, using(flurry_world::proofs::RunLaws::step_ready))]
-fn runs_a_list<F: Change<u64, u64> + Copy>(rt: &impl Abort, alloc: Global) -> Result<(), Fail>
+fn runs_a_list<F: ComputeFn<u64, u64> + Copy>(rt: &impl Abort, alloc: Global) -> Result<(), Fail>
     requires { (f : F) → F.can_change f }
 {
     let mut list = Vec::new(alloc);
-    list.push(Step::Begin(KeptCall::TryInsert(3, 4)))?;
-    list.push(Step::Begin(KeptCall::TryInsert(19, 4)))?;
+    list.push(Step::Begin(OwnedCall::TryInsert(3, 4)))?;
+    list.push(Step::Begin(OwnedCall::TryInsert(19, 4)))?;
     for party in [0, 1, 1, 0, 7, 0] {
         list.push(Step::Step(party))?;
     }
@@ -173,7 +178,7 @@ fn runs_a_list<F: Change<u64, u64> + Copy>(rt: &impl Abort, alloc: Global) -> Re
 }
 
 // The labels of a world are these.
-fn assert_trace<'k, F: Change<u64, u64> + Copy>(
+fn assert_trace<'k, F: ComputeFn<u64, u64> + Copy>(
     rt: &impl Abort,
     world: &Numbers<'k, F>,
     lines: &[Line],
@@ -187,11 +192,11 @@ fn assert_trace<'k, F: Change<u64, u64> + Copy>(
 
 #[test]
 fn first_table(rt: HostRuntime) -> Result<(), Fail> {
-    first_tables::<NoChange>(&rt, rt.alloc())
+    first_tables::<NoFn>(&rt, rt.alloc())
 }
 
 // The table for 1 pair has 2 bins, for 5 pairs 8, and for 16 pairs 32.
-fn first_tables<F: Change<u64, u64> + Copy>(rt: &impl Abort, alloc: Global) -> Result<(), Fail>
+fn first_tables<F: ComputeFn<u64, u64> + Copy>(rt: &impl Abort, alloc: Global) -> Result<(), Fail>
     requires { (f : F) → F.can_change f }
 {
     let mut empty: Numbers<'_, F> = Numbers::new(alloc, 0, LowHashBuilder, 1)?;
@@ -199,7 +204,7 @@ fn first_tables<F: Change<u64, u64> + Copy>(rt: &impl Abort, alloc: Global) -> R
         rt,
         &mut empty,
         0,
-        KeptCall::Insert(0, 0),
+        OwnedCall::Insert(0, 0),
         &[Line::Opened(4)],
     )?;
     for (capacity, table) in [(1, 1), (5, 3), (16, 5)] {
@@ -210,7 +215,7 @@ fn first_tables<F: Change<u64, u64> + Copy>(rt: &impl Abort, alloc: Global) -> R
 }
 
 // An insertion decides in the first table, and the next one that a reserve makes tells which one it is.
-fn begins_with<'k, F: Change<u64, u64> + Copy>(
+fn begins_with<'k, F: ComputeFn<u64, u64> + Copy>(
     rt: &impl Abort,
     mut world: Numbers<'k, F>,
     table: u8,
@@ -218,10 +223,10 @@ fn begins_with<'k, F: Change<u64, u64> + Copy>(
     requires { (f : F) → F.can_change f }
 {
     let lines = [Line::Silent(0), Line::Decide(0, value(None))];
-    assert_call(rt, &mut world, 0, KeptCall::Insert(0, 0), &lines)?;
+    assert_call(rt, &mut world, 0, OwnedCall::Insert(0, 0), &lines)?;
     assert_eq!(rt; end_of(&mut world, 0)?, Line::Reply(0, value(None)));
     let lines = [Line::Silent(1), Line::Placed(table.saturating_add(1))];
-    assert_call(rt, &mut world, 1, KeptCall::Reserve(64), &lines)
+    assert_call(rt, &mut world, 1, OwnedCall::Reserve(64), &lines)
 }
 
 #[test]
@@ -231,7 +236,7 @@ fn rewritten_value(rt: HostRuntime) -> Result<(), Fail> {
 
 // With memory enough no call is refused, in a table of 8192 bins and whatever number a value has: a value is written ten times, and
 // looked up between.
-fn rewrites<F: Change<u64, u64> + Copy>(
+fn rewrites<F: ComputeFn<u64, u64> + Copy>(
     rt: &impl Abort,
     alloc: Global,
     change: F,
@@ -239,24 +244,24 @@ fn rewrites<F: Change<u64, u64> + Copy>(
     requires { (f : F) → F.can_change f }
 {
     let mut world = Numbers::new(alloc, 5000, LowHashBuilder, 1)?;
-    assert_reply(rt, &mut world, KeptCall::Insert(8191, 0), value(None))?;
+    assert_reply(rt, &mut world, OwnedCall::Insert(8191, 0), value(None))?;
     for _ in 0..10u8 {
-        assert_reply(rt, &mut world, KeptCall::Insert(8191, 1), value(Some(0)))?;
+        assert_reply(rt, &mut world, OwnedCall::Insert(8191, 1), value(Some(0)))?;
         let exists = KeptReply::Exists {
             current: 1,
             not_inserted: 7,
         };
-        assert_reply(rt, &mut world, KeptCall::TryInsert(8191, 7), exists)?;
+        assert_reply(rt, &mut world, OwnedCall::TryInsert(8191, 7), exists)?;
         assert_reply(
             rt,
             &mut world,
-            KeptCall::Compute(8191, change),
+            OwnedCall::Compute(8191, change),
             value(Some(3)),
         )?;
-        assert_reply(rt, &mut world, KeptCall::Insert(8191, 0), value(Some(3)))?;
+        assert_reply(rt, &mut world, OwnedCall::Insert(8191, 0), value(Some(3)))?;
         let pair = KeptReply::Pair(Some((8191, 0)));
-        assert_reply(rt, &mut world, KeptCall::GetKeyValue(8191), pair)?;
-        assert_reply(rt, &mut world, KeptCall::Get(8191), value(Some(0)))?;
+        assert_reply(rt, &mut world, OwnedCall::GetKeyValue(8191), pair)?;
+        assert_reply(rt, &mut world, OwnedCall::Get(8191), value(Some(0)))?;
     }
     Ok(())
 }

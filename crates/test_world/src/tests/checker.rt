@@ -1,7 +1,7 @@
 //! A checker of labels: it keeps a plain map, the call of each party and the state of the tables, by the labels alone.
 
 use flurry_model::reply::KeptReply;
-use flurry_slots::Change;
+use flurry_slots::ComputeFn;
 use flurry_theory::{Call, Label};
 use std::alloc::Global;
 use std::test::Fail;
@@ -33,7 +33,7 @@ fn key_of<F>(call: &Call<u64, u64, F>) -> Option<u64> {
 }
 
 // The reply of a call of one key, and the value after it, where the key has that value.
-fn outcome<F: Change<u64, u64>>(
+fn outcome<F: ComputeFn<u64, u64>>(
     call: Call<u64, u64, F>,
     key: u64,
     value: Option<u64>,
@@ -89,7 +89,7 @@ fn ensure(holds: bool, what: &'static str) -> Result<(), Fail> {
     if holds { Ok(()) } else { Err(Fail::from(what)) }
 }
 
-impl<F: Change<u64, u64> + Copy> Checker<F> {
+impl<F: ComputeFn<u64, u64> + Copy> Checker<F> {
     /// A checker of a world that began with that table.
     pub(super) fn new(alloc: Global, published: Option<u8>) -> Result<Self, Fail> {
         Ok(Checker {

@@ -4,9 +4,9 @@ ghost use Rattle.std.specs.Prelude.{◌<◌};
 use super::checker::{Checker, KEYS};
 use super::{Numbers, begin};
 use flurry_model::hash::LowHashBuilder;
-use flurry_slots::Change;
+use flurry_slots::ComputeFn;
 use flurry_steps::control::wanted_table;
-use flurry_steps::party::KeptCall;
+use flurry_steps::party::OwnedCall;
 use std::alloc::Global;
 use std::test::Fail;
 
@@ -32,32 +32,32 @@ impl Random {
 }
 
 // A call of one of the few keys, or a reserve of up to 64.
-fn random_call<F: Change<u64, u64>>(random: &mut Random, change: F) -> KeptCall<u64, u64, F> {
+fn random_call<F: ComputeFn<u64, u64>>(random: &mut Random, change: F) -> OwnedCall<u64, u64, F> {
     let key = random.below(KEYS);
     let value = random.below(1000);
     match random.below(16) {
-        0 | 1 => KeptCall::Get(key),
-        2 => KeptCall::GetKeyValue(key),
-        3 => KeptCall::ContainsKey(key),
-        4 | 5 => KeptCall::Remove(key),
-        6 => KeptCall::RemoveEntry(key),
-        7 | 8 | 9 | 10 => KeptCall::Insert(key, value),
-        11 | 12 => KeptCall::TryInsert(key, value),
-        13 | 14 => KeptCall::Compute(key, change),
-        _ => KeptCall::Reserve(random.below(65) as usize),
+        0 | 1 => OwnedCall::Get(key),
+        2 => OwnedCall::GetKeyValue(key),
+        3 => OwnedCall::ContainsKey(key),
+        4 | 5 => OwnedCall::Remove(key),
+        6 => OwnedCall::RemoveEntry(key),
+        7 | 8 | 9 | 10 => OwnedCall::Insert(key, value),
+        11 | 12 => OwnedCall::TryInsert(key, value),
+        13 | 14 => OwnedCall::Compute(key, change),
+        _ => OwnedCall::Reserve(random.below(65) as usize),
     }
 }
 
 // A world, the checker of its labels, the number of steps of each party, and how many calls have closed.
 #[derive(Drop)]
-struct Checked<'k, F: Change<u64, u64> + Copy> {
+struct Checked<'k, F: ComputeFn<u64, u64> + Copy> {
     world: Numbers<'k, F>,
     checker: Checker<F>,
     steps: Vec<u64>,
     closed: u64,
 }
 
-impl<'k, F: Change<u64, u64> + Copy> Checked<'k, F> {
+impl<'k, F: ComputeFn<u64, u64> + Copy> Checked<'k, F> {
     // A world for up to 16 pairs and of up to 4 processors, where no call has begun.
     fn new(alloc: Global, random: &mut Random) -> Result<Self, Fail> {
         let capacity = random.below(17) as usize;
@@ -84,7 +84,7 @@ impl<'k, F: Change<u64, u64> + Copy> Checked<'k, F> {
         }
     }
 
-    fn begin(&mut self, call: KeptCall<u64, u64, F>) -> Result<usize, Fail>
+    fn begin(&mut self, call: OwnedCall<u64, u64, F>) -> Result<usize, Fail>
         requires { (f : F) → F.can_change f }
     {
         let party = begin(&mut self.world, call)?;
@@ -118,7 +118,7 @@ impl<'k, F: Change<u64, u64> + Copy> Checked<'k, F> {
         requires { (f : F) → F.can_change f }
     {
         for key in 0..KEYS {
-            let party = self.begin(KeptCall::Get(key))?;
+            let party = self.begin(OwnedCall::Get(key))?;
             self.close(party)?;
         }
         Ok(())
@@ -150,7 +150,7 @@ fn random_party(random: &mut Random, parties: u64) -> usize {
 }
 
 // 200 steps, of which every sixth or so is the beginning of a call. A party that is stepped is likely to be stepped again.
-fn random_steps<'k, F: Change<u64, u64> + Copy>(
+fn random_steps<'k, F: ComputeFn<u64, u64> + Copy>(
     checked: &mut Checked<'k, F>,
     random: &mut Random,
     change: F,
@@ -174,7 +174,7 @@ fn random_steps<'k, F: Change<u64, u64> + Copy>(
 }
 
 // So many schedules, from a seed on. Answers how many calls have replied or ended in them, and how many growths were published.
-fn schedules<F: Change<u64, u64> + Copy>(
+fn schedules<F: ComputeFn<u64, u64> + Copy>(
     alloc: Global,
     seed: u64,
     count: u64,

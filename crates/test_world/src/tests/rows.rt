@@ -4,8 +4,8 @@ use super::{
     Line, Numbers, assert_call, assert_reply, assert_steps, begin, end_of, line_of, step, value,
 };
 use flurry_model::hash::LowHashBuilder;
-use flurry_slots::{Change, NoChange};
-use flurry_steps::party::KeptCall;
+use flurry_slots::{ComputeFn, NoFn};
+use flurry_steps::party::OwnedCall;
 use std::alloc::Global;
 use std::process::Abort;
 use std::test::Fail;
@@ -44,10 +44,10 @@ fn found_further_on(party: usize, number: u64) -> [Line; 5] {
 
 #[test]
 fn look_up_after_an_insertion(rt: HostRuntime) -> Result<(), Fail> {
-    insertion_and_look_up::<NoChange>(&rt, rt.alloc())
+    insertion_and_look_up::<NoFn>(&rt, rt.alloc())
 }
 
-fn insertion_and_look_up<F: Change<u64, u64> + Copy>(
+fn insertion_and_look_up<F: ComputeFn<u64, u64> + Copy>(
     rt: &impl Abort,
     alloc: Global,
 ) -> Result<(), Fail>
@@ -55,28 +55,31 @@ fn insertion_and_look_up<F: Change<u64, u64> + Copy>(
 {
     let mut world: Numbers<'_, F> = Numbers::new(alloc, 0, LowHashBuilder, 1)?;
     let lines = inserted(0, Line::Opened(4));
-    assert_call(rt, &mut world, 0, KeptCall::Insert(3, 4), &lines)?;
-    assert_call(rt, &mut world, 1, KeptCall::Get(3), &found(1, 4))?;
+    assert_call(rt, &mut world, 0, OwnedCall::Insert(3, 4), &lines)?;
+    assert_call(rt, &mut world, 1, OwnedCall::Get(3), &found(1, 4))?;
     assert_eq!(rt; world.trace().len(), 11);
     Ok(())
 }
 
 #[test]
 fn reserve_of_nothing(rt: HostRuntime) -> Result<(), Fail> {
-    reserves_nothing::<NoChange>(&rt, rt.alloc())
+    reserves_nothing::<NoFn>(&rt, rt.alloc())
 }
 
-fn reserves_nothing<F: Change<u64, u64> + Copy>(rt: &impl Abort, alloc: Global) -> Result<(), Fail>
+fn reserves_nothing<F: ComputeFn<u64, u64> + Copy>(
+    rt: &impl Abort,
+    alloc: Global,
+) -> Result<(), Fail>
     requires { (f : F) → F.can_change f }
 {
     let mut world: Numbers<'_, F> = Numbers::new(alloc, 0, LowHashBuilder, 1)?;
     let lines = [Line::Opened(0), Line::Silent(0), Line::End(0)];
-    assert_call(rt, &mut world, 0, KeptCall::Reserve(0), &lines)
+    assert_call(rt, &mut world, 0, OwnedCall::Reserve(0), &lines)
 }
 
 // A world of two processors whose table of 64 bins grows: party 0 has put key 50. Party 1 has begun the growth, holds the bins 48 to 63
 // and moved none. Party 2 has put key 2, and moved all other bins.
-fn half_grown<'k, F: Change<u64, u64> + Copy>(
+fn half_grown<'k, F: ComputeFn<u64, u64> + Copy>(
     rt: &impl Abort,
     alloc: Global,
 ) -> Result<Numbers<'k, F>, Fail>
@@ -84,15 +87,15 @@ fn half_grown<'k, F: Change<u64, u64> + Copy>(
 {
     let mut world: Numbers<'_, F> = Numbers::new(alloc, 32, LowHashBuilder, 2)?;
     let lines = inserted(0, Line::Silent(0));
-    assert_call(rt, &mut world, 0, KeptCall::Insert(50, 50), &lines)?;
+    assert_call(rt, &mut world, 0, OwnedCall::Insert(50, 50), &lines)?;
     let lines = [Line::Silent(1), Line::Placed(7), Line::Silent(1)];
-    assert_call(rt, &mut world, 1, KeptCall::Reserve(30), &lines)?;
+    assert_call(rt, &mut world, 1, OwnedCall::Reserve(30), &lines)?;
     puts_two_and_helps(rt, &mut world)?;
     Ok(world)
 }
 
 // The 60 steps of party 2.
-fn puts_two_and_helps<'k, F: Change<u64, u64> + Copy>(
+fn puts_two_and_helps<'k, F: ComputeFn<u64, u64> + Copy>(
     rt: &impl Abort,
     world: &mut Numbers<'k, F>,
 ) -> Result<(), Fail>
@@ -103,7 +106,7 @@ fn puts_two_and_helps<'k, F: Change<u64, u64> + Copy>(
         Line::Decide(2, value(None)),
         Line::Silent(2),
     ];
-    assert_call(rt, world, 2, KeptCall::Insert(2, 2), &lines)?;
+    assert_call(rt, world, 2, OwnedCall::Insert(2, 2), &lines)?;
     for low in [32, 16, 0] {
         assert_steps(rt, world, 2, &[Line::Silent(2)])?;
         moves_range(rt, world, 2, low)?;
@@ -118,7 +121,7 @@ fn puts_two_and_helps<'k, F: Change<u64, u64> + Copy>(
 }
 
 // Sixteen steps of a party that move the bins of a table of 64 from so many on, the last of them first.
-fn moves_range<'k, F: Change<u64, u64> + Copy>(
+fn moves_range<'k, F: ComputeFn<u64, u64> + Copy>(
     rt: &impl Abort,
     world: &mut Numbers<'k, F>,
     party: usize,
@@ -132,7 +135,7 @@ fn moves_range<'k, F: Change<u64, u64> + Copy>(
 }
 
 // No growth was published.
-fn nothing_published<'k, F: Change<u64, u64> + Copy>(
+fn nothing_published<'k, F: ComputeFn<u64, u64> + Copy>(
     rt: &impl Abort,
     world: &Numbers<'k, F>,
 ) -> Result<(), Fail> {
@@ -145,16 +148,25 @@ fn nothing_published<'k, F: Change<u64, u64> + Copy>(
 
 #[test]
 fn helper_that_stops_and_goes_on(rt: HostRuntime) -> Result<(), Fail> {
-    stops_and_goes_on::<NoChange>(&rt, rt.alloc())
+    stops_and_goes_on::<NoFn>(&rt, rt.alloc())
 }
 
-fn stops_and_goes_on<F: Change<u64, u64> + Copy>(rt: &impl Abort, alloc: Global) -> Result<(), Fail>
+fn stops_and_goes_on<F: ComputeFn<u64, u64> + Copy>(
+    rt: &impl Abort,
+    alloc: Global,
+) -> Result<(), Fail>
     requires { (f : F) → F.can_change f }
 {
     let mut world: Numbers<'_, F> = half_grown(rt, alloc)?;
     nothing_published(rt, &world)?;
-    assert_call(rt, &mut world, 3, KeptCall::Get(50), &found(3, 50))?;
-    assert_call(rt, &mut world, 4, KeptCall::Get(2), &found_further_on(4, 2))?;
+    assert_call(rt, &mut world, 3, OwnedCall::Get(50), &found(3, 50))?;
+    assert_call(
+        rt,
+        &mut world,
+        4,
+        OwnedCall::Get(2),
+        &found_further_on(4, 2),
+    )?;
     moves_range(rt, &mut world, 1, 48)?;
     let lines = [
         Line::Published(7),
@@ -167,43 +179,43 @@ fn stops_and_goes_on<F: Change<u64, u64> + Copy>(rt: &impl Abort, alloc: Global)
 
 #[test]
 fn helper_that_stops_for_good(rt: HostRuntime) -> Result<(), Fail> {
-    stops_for_good::<NoChange>(&rt, rt.alloc())
+    stops_for_good::<NoFn>(&rt, rt.alloc())
 }
 
 // Bin 50 of 64, the bin of key 114 too, has not moved: its insertion decides there.
-fn stops_for_good<F: Change<u64, u64> + Copy>(rt: &impl Abort, alloc: Global) -> Result<(), Fail>
+fn stops_for_good<F: ComputeFn<u64, u64> + Copy>(rt: &impl Abort, alloc: Global) -> Result<(), Fail>
     requires { (f : F) → F.can_change f }
 {
     let mut world: Numbers<'_, F> = half_grown(rt, alloc)?;
     let lines = [Line::Silent(3), Line::Decide(3, value(None))];
-    assert_call(rt, &mut world, 3, KeptCall::Insert(114, 1), &lines)?;
+    assert_call(rt, &mut world, 3, OwnedCall::Insert(114, 1), &lines)?;
     assert_eq!(rt; end_of(&mut world, 3)?, Line::Reply(3, value(None)));
     others_end(rt, &mut world)?;
     nothing_published(rt, &world)
 }
 
 // Further calls, while party 1 stands still.
-fn others_end<'k, F: Change<u64, u64> + Copy>(
+fn others_end<'k, F: ComputeFn<u64, u64> + Copy>(
     rt: &impl Abort,
     world: &mut Numbers<'k, F>,
 ) -> Result<(), Fail>
     requires { (f : F) → F.can_change f }
 {
-    assert_reply(rt, world, KeptCall::Insert(3, 3), value(None))?;
-    assert_reply(rt, world, KeptCall::Remove(2), value(Some(2)))?;
-    assert_reply(rt, world, KeptCall::Get(114), value(Some(1)))?;
-    assert_reply(rt, world, KeptCall::Get(3), value(Some(3)))?;
-    let party = begin(world, KeptCall::Reserve(60))?;
+    assert_reply(rt, world, OwnedCall::Insert(3, 3), value(None))?;
+    assert_reply(rt, world, OwnedCall::Remove(2), value(Some(2)))?;
+    assert_reply(rt, world, OwnedCall::Get(114), value(Some(1)))?;
+    assert_reply(rt, world, OwnedCall::Get(3), value(Some(3)))?;
+    let party = begin(world, OwnedCall::Reserve(60))?;
     assert_eq!(rt; end_of(world, party)?, Line::End(party));
     Ok(())
 }
 
 #[test]
 fn unknown_and_finished_parties(rt: HostRuntime) -> Result<(), Fail> {
-    does_nothing::<NoChange>(&rt, rt.alloc())
+    does_nothing::<NoFn>(&rt, rt.alloc())
 }
 
-fn does_nothing<F: Change<u64, u64> + Copy>(rt: &impl Abort, alloc: Global) -> Result<(), Fail>
+fn does_nothing<F: ComputeFn<u64, u64> + Copy>(rt: &impl Abort, alloc: Global) -> Result<(), Fail>
     requires { (f : F) → F.can_change f }
 {
     let mut world: Numbers<'_, F> = Numbers::new(alloc, 0, LowHashBuilder, 1)?;
@@ -215,7 +227,7 @@ fn does_nothing<F: Change<u64, u64> + Copy>(rt: &impl Abort, alloc: Global) -> R
         Line::Silent(0),
         Line::Silent(0),
     ];
-    assert_call(rt, &mut world, 0, KeptCall::Get(1), &lines)?;
+    assert_call(rt, &mut world, 0, OwnedCall::Get(1), &lines)?;
     assert_steps(rt, &mut world, usize::MAX, &[Line::Silent(usize::MAX)])?;
     assert_eq!(rt; world.trace().len(), 8);
     Ok(())

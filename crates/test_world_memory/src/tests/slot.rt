@@ -21,7 +21,7 @@ fn lies_in(slot: &Slot<u64, u64, Memory>) -> Result<(), Fail>
     }
 }
 
-// The value of the key of the tests and the number of its write, where the bin is live.
+// The value of the key of the tests and its write number, where the bin is live.
 fn found(slot: &Slot<u64, u64, Memory>) -> Result<Option<(u64, u64)>, Fail> {
     lies_in(slot)?;
     match slot.find(3, &3) {

@@ -3,8 +3,8 @@
 use super::Memory;
 use flurry_model::hash::LowHashBuilder;
 use flurry_model::reply::KeptReply;
-use flurry_slots::{Change, NoChange};
-use flurry_steps::party::KeptCall;
+use flurry_slots::{ComputeFn, NoFn};
+use flurry_steps::party::OwnedCall;
 use flurry_theory::Label;
 use flurry_world::World;
 use flurry_world::world::Step;
@@ -50,7 +50,7 @@ fn close_of<F>(label: Option<&Label<u64, u64, F>>) -> Option<Close> {
 }
 
 // The next steps of a party until its call closes, and whether one of them was refused. A refused step adds no label.
-fn finish<F: Change<u64, u64> + Copy>(
+fn finish<F: ComputeFn<u64, u64> + Copy>(
     world: &mut Numbers<F>,
     party: usize,
 ) -> Result<(Close, bool), Fail> {
@@ -70,9 +70,9 @@ fn finish<F: Change<u64, u64> + Copy>(
 }
 
 // Begins the call and finishes it, with memory enough.
-fn whole<F: Change<u64, u64> + Copy>(
+fn whole<F: ComputeFn<u64, u64> + Copy>(
     world: &mut Numbers<F>,
-    call: KeptCall<u64, u64, F>,
+    call: OwnedCall<u64, u64, F>,
 ) -> Result<Close, Fail>
     requires { (f : F) → F.can_change f }
 {
@@ -82,14 +82,14 @@ fn whole<F: Change<u64, u64> + Copy>(
 }
 
 // The value of the key, where it has one.
-fn value<F: Change<u64, u64> + Copy>(world: &mut Numbers<F>, key: u64) -> Result<Close, Fail>
+fn value<F: ComputeFn<u64, u64> + Copy>(world: &mut Numbers<F>, key: u64) -> Result<Close, Fail>
     requires { (f : F) → F.can_change f }
 {
-    whole(world, KeptCall::Get(key))
+    whole(world, OwnedCall::Get(key))
 }
 
 // The labels as text.
-fn text<F: Change<u64, u64> + Copy + Debug>(
+fn text<F: ComputeFn<u64, u64> + Copy + Debug>(
     alloc: Global,
     world: &Numbers<F>,
 ) -> Result<String, Fail> {
@@ -97,7 +97,7 @@ fn text<F: Change<u64, u64> + Copy + Debug>(
 }
 
 // The labels from that one on as text.
-pub(super) fn labels_from<F: Change<u64, u64> + Copy + Debug>(
+pub(super) fn labels_from<F: ComputeFn<u64, u64> + Copy + Debug>(
     alloc: Global,
     world: &Numbers<F>,
     first: usize,
@@ -109,7 +109,7 @@ pub(super) fn labels_from<F: Change<u64, u64> + Copy + Debug>(
 }
 
 // The next steps of a party, until the world has so many labels.
-pub(super) fn step_to<F: Change<u64, u64> + Copy>(
+pub(super) fn step_to<F: ComputeFn<u64, u64> + Copy>(
     world: &mut Numbers<F>,
     party: usize,
     labels: usize,
@@ -121,21 +121,21 @@ pub(super) fn step_to<F: Change<u64, u64> + Copy>(
 }
 
 // A world of the keys from 0 on, each its own value.
-fn world_of<F: Change<u64, u64> + Copy>(memory: Memory, count: u64) -> Result<Numbers<F>, Fail>
+fn world_of<F: ComputeFn<u64, u64> + Copy>(memory: Memory, count: u64) -> Result<Numbers<F>, Fail>
     requires { (f : F) → F.can_change f }
 {
     let mut world: Numbers<F> = World::new(memory, 0, LowHashBuilder, 1)?;
     for key in 0..count {
-        let _ = whole(&mut world, KeptCall::Insert(key, key))?;
+        let _ = whole(&mut world, OwnedCall::Insert(key, key))?;
     }
     Ok(world)
 }
 
 // The labels of a new world with that call alone, with memory enough.
-fn text_of<F: Change<u64, u64> + Copy + Debug>(
+fn text_of<F: ComputeFn<u64, u64> + Copy + Debug>(
     alloc: Global,
     memory: Memory,
-    call: KeptCall<u64, u64, F>,
+    call: OwnedCall<u64, u64, F>,
 ) -> Result<String, Fail>
     requires { (f : F) → F.can_change f }
 {
@@ -146,10 +146,10 @@ fn text_of<F: Change<u64, u64> + Copy + Debug>(
 
 // A world of so many keys whose call met the refusal of one request, what that did to it, and how it closed; none where it makes no
 // such request.
-fn refused_at<F: Change<u64, u64> + Copy>(
+fn refused_at<F: ComputeFn<u64, u64> + Copy>(
     memory: Memory,
     count: u64,
-    call: KeptCall<u64, u64, F>,
+    call: OwnedCall<u64, u64, F>,
     request: u64,
 ) -> Result<Option<(Numbers<F>, Told, Close)>, Fail>
     requires { (f : F) → F.can_change f }
@@ -163,22 +163,22 @@ fn refused_at<F: Change<u64, u64> + Copy>(
     if !refused {
         return Ok(None);
     }
-    let told = if close == Close::Refused {
+    let reply_for = if close == Close::Refused {
         Told::Call
     } else if again {
         Told::Step
     } else {
         Told::Nothing
     };
-    Ok(Some((world, told, close)))
+    Ok(Some((world, reply_for, close)))
 }
 
 #[test]
 fn a_world_without_a_table(rt: HostRuntime) -> Result<(), Fail> {
-    new_without_a_table::<NoChange>(&rt, rt.alloc())
+    new_without_a_table::<NoFn>(&rt, rt.alloc())
 }
 
-fn new_without_a_table<F: Change<u64, u64> + Copy>(
+fn new_without_a_table<F: ComputeFn<u64, u64> + Copy>(
     rt: &impl Abort,
     alloc: Global,
 ) -> Result<(), Fail> {
@@ -198,10 +198,10 @@ fn new_without_a_table<F: Change<u64, u64> + Copy>(
 
 #[test]
 fn a_world_with_a_table(rt: HostRuntime) -> Result<(), Fail> {
-    new_with_a_table::<NoChange>(&rt, rt.alloc())
+    new_with_a_table::<NoFn>(&rt, rt.alloc())
 }
 
-fn new_with_a_table<F: Change<u64, u64> + Copy>(
+fn new_with_a_table<F: ComputeFn<u64, u64> + Copy>(
     rt: &impl Abort,
     alloc: Global,
 ) -> Result<(), Fail> {
@@ -222,24 +222,24 @@ fn new_with_a_table<F: Change<u64, u64> + Copy>(
 // The first call asks for the room of labels and that of calls. A refused one is none: the next party has its number.
 #[test]
 fn begin(rt: HostRuntime) -> Result<(), Fail> {
-    begins::<NoChange>(&rt, rt.alloc())
+    begins::<NoFn>(&rt, rt.alloc())
 }
 
-fn begins<F: Change<u64, u64> + Copy>(rt: &impl Abort, alloc: Global) -> Result<(), Fail>
+fn begins<F: ComputeFn<u64, u64> + Copy>(rt: &impl Abort, alloc: Global) -> Result<(), Fail>
     requires { (f : F) → F.can_change f }
 {
     let memory = Refusing::leaked(alloc)?;
     for k in 0..3u64 {
         let mut world: Numbers<F> = world_of(memory, 0)?;
         memory.refuse_at(k);
-        let answer = world.begin(KeptCall::Insert(3, 10));
+        let answer = world.begin(OwnedCall::Insert(3, 10));
         let refused = memory.refused();
         memory.refuse_nothing();
         assert_eq!(rt; refused, k < 2, "at {k}");
         assert_eq!(rt; answer.is_err(), refused, "at {k}");
         assert_eq!(rt; world.trace().is_empty(), refused, "at {k}");
         let next = if refused { 0 } else { 1 };
-        assert_eq!(rt; world.begin(KeptCall::Get(3))?, next, "at {k}");
+        assert_eq!(rt; world.begin(OwnedCall::Get(3))?, next, "at {k}");
         let found = if refused { None } else { Some(10) };
         assert_eq!(rt;
             finish(&mut world, 0)?.0,
@@ -260,10 +260,10 @@ fn begins<F: Change<u64, u64> + Copy>(rt: &impl Abort, alloc: Global) -> Result<
 // An insertion asks for the first table, its key, its value and its node, and then for room for its reply's label.
 #[test]
 fn insertion_into_a_new_world(rt: HostRuntime) -> Result<(), Fail> {
-    inserts_into_a_new_world::<NoChange>(&rt, rt.alloc())
+    inserts_into_a_new_world::<NoFn>(&rt, rt.alloc())
 }
 
-fn inserts_into_a_new_world<F: Change<u64, u64> + Copy + Debug>(
+fn inserts_into_a_new_world<F: ComputeFn<u64, u64> + Copy + Debug>(
     rt: &impl Abort,
     alloc: Global,
 ) -> Result<(), Fail>
@@ -271,21 +271,30 @@ fn inserts_into_a_new_world<F: Change<u64, u64> + Copy + Debug>(
 {
     let memory = Refusing::leaked(alloc)?;
     let none = Close::Reply(KeptReply::Value(None));
-    let plain = text_of::<F>(alloc, memory, KeptCall::Insert(3, 10))?;
+    let plain = text_of::<F>(alloc, memory, OwnedCall::Insert(3, 10))?;
     let mut ended = false;
     for k in 0..MOST {
-        let Some((mut world, told, close)) = refused_at::<F>(memory, 0, KeptCall::Insert(3, 10), k)?
+        let Some((mut world, reply_for, close)) = refused_at::<F>(
+            memory,
+            0,
+            OwnedCall::Insert(3, 10),
+            k,
+        )?
         else {
             assert_eq!(rt; k, 5);
             ended = true;
             break;
         };
         if k < 4 {
-            assert_eq!(rt; (told, close), (Told::Call, Close::Refused), "at {k}");
+            assert_eq!(rt; (reply_for, close), (Told::Call, Close::Refused), "at {k}");
             assert_eq!(rt; value(&mut world, 3)?, none, "at {k}");
-            assert_eq!(rt; whole(&mut world, KeptCall::Insert(3, 11))?, none, "at {k}");
+            assert_eq!(rt;
+                whole(&mut world, OwnedCall::Insert(3, 11))?,
+                none,
+                "at {k}"
+            );
         } else {
-            assert_eq!(rt; (told, close), (Told::Step, none), "at {k}");
+            assert_eq!(rt; (reply_for, close), (Told::Step, none), "at {k}");
             assert_eq!(rt; text(alloc, &world)?, plain, "at {k}");
         }
         let found = if k < 4 { 11 } else { 10 };
@@ -304,10 +313,10 @@ fn inserts_into_a_new_world<F: Change<u64, u64> + Copy + Debug>(
 // The insertion that reaches the threshold asks for a larger table too. Where that is refused it goes on, and the next one asks again.
 #[test]
 fn insertion_that_grows(rt: HostRuntime) -> Result<(), Fail> {
-    inserts_and_grows::<NoChange>(&rt, rt.alloc())
+    inserts_and_grows::<NoFn>(&rt, rt.alloc())
 }
 
-fn inserts_and_grows<F: Change<u64, u64> + Copy + Debug>(
+fn inserts_and_grows<F: ComputeFn<u64, u64> + Copy + Debug>(
     rt: &impl Abort,
     alloc: Global,
 ) -> Result<(), Fail>
@@ -317,10 +326,10 @@ fn inserts_and_grows<F: Change<u64, u64> + Copy + Debug>(
     let none = Close::Reply(KeptReply::Value(None));
     let mut ended = false;
     for k in 0..MOST {
-        let Some((mut world, told, close)) = refused_at::<F>(
+        let Some((mut world, reply_for, close)) = refused_at::<F>(
             memory,
             11,
-            KeptCall::Insert(20, 5),
+            OwnedCall::Insert(20, 5),
             k,
         )?
         else {
@@ -331,10 +340,10 @@ fn inserts_and_grows<F: Change<u64, u64> + Copy + Debug>(
         let grew = text(alloc, &world)?.contains("Placed(5)");
         let found = if k < 3 { None } else { Some(5) };
         if k < 3 {
-            assert_eq!(rt; (told, close), (Told::Call, Close::Refused), "at {k}");
+            assert_eq!(rt; (reply_for, close), (Told::Call, Close::Refused), "at {k}");
         } else {
             let expected = if k == 3 { Told::Nothing } else { Told::Step };
-            assert_eq!(rt; (told, close), (expected, none), "at {k}");
+            assert_eq!(rt; (reply_for, close), (expected, none), "at {k}");
         }
         assert_eq!(rt; grew, k == 4, "at {k}");
         assert_eq!(rt;
@@ -342,8 +351,16 @@ fn inserts_and_grows<F: Change<u64, u64> + Copy + Debug>(
             Close::Reply(KeptReply::Value(found)),
             "at {k}"
         );
-        assert_eq!(rt; whole(&mut world, KeptCall::Insert(21, 6))?, none, "at {k}");
-        assert_eq!(rt; whole(&mut world, KeptCall::Insert(22, 7))?, none, "at {k}");
+        assert_eq!(rt;
+            whole(&mut world, OwnedCall::Insert(21, 6))?,
+            none,
+            "at {k}"
+        );
+        assert_eq!(rt;
+            whole(&mut world, OwnedCall::Insert(22, 7))?,
+            none,
+            "at {k}"
+        );
         assert!(rt; text(alloc, &world)?.contains("Published(5)"), "at {k}");
         drop(world);
         assert_eq!(rt; memory.blocks(), 0, "at {k}");
@@ -355,22 +372,23 @@ fn inserts_and_grows<F: Change<u64, u64> + Copy + Debug>(
 // A look-up asks for room for its labels, and for nothing else.
 #[test]
 fn look_up(rt: HostRuntime) -> Result<(), Fail> {
-    looks_up::<NoChange>(&rt, rt.alloc())
+    looks_up::<NoFn>(&rt, rt.alloc())
 }
 
-fn looks_up<F: Change<u64, u64> + Copy>(rt: &impl Abort, alloc: Global) -> Result<(), Fail>
+fn looks_up<F: ComputeFn<u64, u64> + Copy>(rt: &impl Abort, alloc: Global) -> Result<(), Fail>
     requires { (f : F) → F.can_change f }
 {
     let memory = Refusing::leaked(alloc)?;
     let mut ended = false;
     for k in 0..MOST {
-        let Some((world, told, close)) = refused_at::<F>(memory, 1, KeptCall::Get(0), k)? else {
+        let Some((world, reply_for, close)) = refused_at::<F>(memory, 1, OwnedCall::Get(0), k)?
+        else {
             assert_eq!(rt; k, 1);
             ended = true;
             break;
         };
         let found = Close::Reply(KeptReply::Value(Some(0)));
-        assert_eq!(rt; (told, close), (Told::Step, found), "at {k}");
+        assert_eq!(rt; (reply_for, close), (Told::Step, found), "at {k}");
         drop(world);
         assert_eq!(rt; memory.blocks(), 0, "at {k}");
     }
@@ -383,25 +401,19 @@ fn looks_up<F: Change<u64, u64> + Copy>(rt: &impl Abort, alloc: Global) -> Resul
 #[test]
 fn reserve_in_a_new_world(rt: HostRuntime) -> Result<(), Fail> {
     let memory = Refusing::leaked(rt.alloc())?;
-    assert_eq!(rt;
-        refusals_of_a_reserve::<NoChange>(rt.alloc(), memory, 0)?,
-        2
-    );
+    assert_eq!(rt; refusals_of_a_reserve::<NoFn>(rt.alloc(), memory, 0)?, 2);
     Ok(())
 }
 
 #[test]
 fn reserve_in_a_world_of_16_bins(rt: HostRuntime) -> Result<(), Fail> {
     let memory = Refusing::leaked(rt.alloc())?;
-    assert_eq!(rt;
-        refusals_of_a_reserve::<NoChange>(rt.alloc(), memory, 1)?,
-        5
-    );
+    assert_eq!(rt; refusals_of_a_reserve::<NoFn>(rt.alloc(), memory, 1)?, 5);
     Ok(())
 }
 
 // How many requests of a reserve refuse it, in a world of so many keys. It succeeds when it is asked for again.
-fn refusals_of_a_reserve<F: Change<u64, u64> + Copy>(
+fn refusals_of_a_reserve<F: ComputeFn<u64, u64> + Copy>(
     alloc: Global,
     memory: Memory,
     count: u64,
@@ -410,16 +422,16 @@ fn refusals_of_a_reserve<F: Change<u64, u64> + Copy>(
 {
     let mut calls = Vec::new(alloc);
     for k in 0..MOST {
-        let Some((mut world, told, close)) = refused_at::<F>(
+        let Some((mut world, reply_for, close)) = refused_at::<F>(
             memory,
             count,
-            KeptCall::Reserve(100),
+            OwnedCall::Reserve(100),
             k,
         )?
         else {
             return Ok(calls.len());
         };
-        match (told, close) {
+        match (reply_for, close) {
             (Told::Call, Close::Refused) => calls.push(k)?,
             (Told::Step, Close::End) => {}
             _ => return Err(Fail::from("it ends, or is refused")),
@@ -428,7 +440,7 @@ fn refusals_of_a_reserve<F: Change<u64, u64> + Copy>(
         if value(&mut world, 0)? != Close::Reply(KeptReply::Value(found)) {
             return Err(Fail::from("the pairs stay"));
         }
-        if whole(&mut world, KeptCall::Reserve(100))? != Close::End {
+        if whole(&mut world, OwnedCall::Reserve(100))? != Close::End {
             return Err(Fail::from("it ends when it is asked for again"));
         }
         drop(world);
@@ -443,15 +455,15 @@ fn refusals_of_a_reserve<F: Change<u64, u64> + Copy>(
 const STEPS: usize = 9;
 
 // The list's steps from that one on.
-fn steps_from<F: Change<u64, u64> + Copy>(
+fn steps_from<F: ComputeFn<u64, u64> + Copy>(
     memory: Memory,
     first: usize,
 ) -> Result<Vec<Step<u64, u64, F>, Memory>, Fail> {
     let mut steps = Vec::new(memory);
     for at in first..STEPS {
         let step = match at {
-            0 => Step::Begin(KeptCall::Insert(3, 10)),
-            1 => Step::Begin(KeptCall::Get(3)),
+            0 => Step::Begin(OwnedCall::Insert(3, 10)),
+            1 => Step::Begin(OwnedCall::Get(3)),
             2 | 3 | 5 | 7 => Step::Step(0),
             _ => Step::Step(1),
         };
@@ -462,7 +474,7 @@ fn steps_from<F: Change<u64, u64> + Copy>(
 
 // The labels of a new world that ran those steps, with memory enough.
 #[tactic(auto, using(flurry_world::proofs::RunLaws::step_ready))]
-fn text_of_steps<F: Change<u64, u64> + Copy + Debug>(
+fn text_of_steps<F: ComputeFn<u64, u64> + Copy + Debug>(
     alloc: Global,
     memory: Memory,
 ) -> Result<String, Fail>
@@ -476,11 +488,11 @@ fn text_of_steps<F: Change<u64, u64> + Copy + Debug>(
 // A list whose label or party is refused stops there, and the rest of it may be run later. A refused call is a step like another.
 #[test]
 fn run(rt: HostRuntime) -> Result<(), Fail> {
-    runs::<NoChange>(&rt, rt.alloc())
+    runs::<NoFn>(&rt, rt.alloc())
 }
 
 #[tactic(auto, using(flurry_world::proofs::RunLaws::step_ready))]
-fn runs<F: Change<u64, u64> + Copy + Debug>(rt: &impl Abort, alloc: Global) -> Result<(), Fail>
+fn runs<F: ComputeFn<u64, u64> + Copy + Debug>(rt: &impl Abort, alloc: Global) -> Result<(), Fail>
     requires { (f : F) → F.can_change f }
 {
     let memory = Refusing::leaked(alloc)?;

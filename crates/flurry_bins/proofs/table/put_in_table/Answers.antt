@@ -2,14 +2,14 @@ use Rattle.std.proofs.Common.{length, sym, ap, ◌∙◌}
 use Rattle.flurry_bins.specs.Bin.{entries_of_bin, ascending_of_bin, is_tree}
 use Rattle.flurry_bins.specs.Chain.{entry_of}
 use Rattle.flurry_bins.proofs.BinSizes.{long_in_large, long_in_small}
-use Rattle.flurry_bins.proofs.PlainEntryLaws.{length-placed}
+use Rattle.flurry_bins.proofs.PlainEntryLaws.{length-with_entry}
 use Rattle.flurry_bins.proofs.table.put_in_table.Goals as goal
 use Rattle.flurry_bins.proofs.table.put_in_table.Goals.{then-is_long+then-bins-ge-LEAST_FOR_TREES, else-is_long, else-is_long-via-then-is_long+else-bins-ge-LEAST_FOR_TREES, else-is_long-via-else-is_long}
 
 pub returns-then-is_long-2-clause-kind : goal.returns-then-is_long-2-clause-kind
 returns-then-is_long-2-clause-kind g c =
     let long = sym c.is_long_list-is_long.ensures ∙ c.if-is_long-2.true in
-    let more = ap length c.put_node.ensures.after ∙ length-placed g.met.K.Ord.total (entry_of c.args.node.value) (entries_of_bin c.args.bin.now) (ascending_of_bin c.args.bin.now) c.requires.absent in
+    let more = ap length c.put_node.ensures.after ∙ length-with_entry g.met.K.Ord.total (entry_of c.args.node.value) (entries_of_bin c.args.bin.now) (ascending_of_bin c.args.bin.now) c.requires.absent in
     elim c.if-is_long.branch [
       | then-is_long+then-bins-ge-LEAST_FOR_TREES w ↦
           long_in_large c.args.bins (is_tree c.args.bin.now) _ (is_tree c.if-is_long.bin) (length (entries_of_bin c.args.bin.now)) _ long c.put_node.ensures.kind more (ap is_tree w.bin-is ∙ w.plant.ensures.kind) w.if-bins-ge-LEAST_FOR_TREES.true

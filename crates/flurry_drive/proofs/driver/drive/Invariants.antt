@@ -6,4 +6,4 @@ abbrev pub invariant-loop : goal.invariant-loop
 invariant-loop g l =
     (goal.iterator-loop g).can_next l.iterator'
     × (goal.iterator-loop g).is_finite l.iterator'
-    × Turns (Turn g.X.Room.Room.place_gives g.K.Ord.cmp g.F.Change.changes g.X.Field.lends) l.fn.field l.fn.party l.field l.party
+    × Turns (Turn g.X.Room.Room.place_gives g.K.Ord.cmp g.F.ComputeFn.changes g.X.Field.lends) l.fn.field l.fn.party l.field l.party

@@ -4,7 +4,7 @@ use Rattle.std.specs.Fmt.{decimal}
 use Rattle.std.specs.Ordering.{nat_cmp}
 use Rattle.std.specs.Arc.{arc_value}
 use Rattle.flurry_model.specs.FiniteMap.{value_at}
-use Rattle.flurry_program.specs.Answers.{present_text}
+use Rattle.flurry_program.specs.SeqReplies.{present_text}
 use Rattle.flurry_program.proofs.Results.{on_ok, match_both}
 use Rattle.flurry_program.proofs.seq.answer_try.Goals as goal
 

@@ -3,8 +3,8 @@ use Rattle.std.proofs.lemmas.List.{length-map}
 use Rattle.flurry_bins.specs.Bin.{entries_of_bin}
 use Rattle.flurry_model.proofs.ListParts.{all_append}
 use Rattle.flurry_seq.proofs.NumberLemmas.{all_at, all_filter, all_set}
-use Rattle.flurry_seq.specs.Seen.{plain_bin, seen}
-use Rattle.flurry_seq.proofs.SeenLemmas.{size_power, halved_here}
+use Rattle.flurry_seq.specs.MapsOfBins.{plain_bin, maps_of_bins}
+use Rattle.flurry_seq.proofs.MapsOfBinsLemmas.{size_power, halved_here}
 use Rattle.flurry_seq.proofs.HalvingLemmas.{halved_all}
 use Rattle.flurry_seq.proofs.table.halve.Goals as goal
 
@@ -31,5 +31,5 @@ loop-at-preserved g c =
 pub returns-clause-bins : goal.returns-clause-bins
 returns-clause-bins g c =
     let len : c.len-count.result ≡ length c.args.bins.now.items = omega (arith, c.len-count.ensures, c.args.bins.now.ok.0) in
-    let all : c.loop-at.at ≡ length (seen c.args.bins.now.items) = rw length-map (omega (arith, len)) in
-    c.loop-at.invariant.halves ∙ rw (all, ← length-map c.args.bins.now.items plain_bin) (halved_all (seen c.args.bins.now.items))
+    let all : c.loop-at.at ≡ length (maps_of_bins c.args.bins.now.items) = rw length-map (omega (arith, len)) in
+    c.loop-at.invariant.halves ∙ rw (all, ← length-map c.args.bins.now.items plain_bin) (halved_all (maps_of_bins c.args.bins.now.items))

@@ -3,7 +3,7 @@
 use super::super::same;
 use super::{empty_room, growing, opened};
 use flurry_steps::Control;
-use flurry_steps::control::{Advice, Started};
+use flurry_steps::control::{Advice, BeginOutcome};
 use std::test::Fail;
 
 #[test]
@@ -12,7 +12,7 @@ fn no_table_at_first(rt: HostRuntime) {
     let mut control = Control::new();
     same(&rt, control.locate(), None);
     assert!(rt; control.start().is_none());
-    same(&rt, control.begin(4, &mut room), Started::Busy);
+    same(&rt, control.begin(4, &mut room), BeginOutcome::Busy);
     same(&rt, room.requests, 0);
 }
 
@@ -45,8 +45,8 @@ fn first_table_is_opened_once(rt: HostRuntime) -> Result<(), Fail> {
 #[test]
 fn no_growth_begins_from_another_table(rt: HostRuntime) -> Result<(), Fail> {
     let (mut control, mut room) = opened(rt.alloc(), 4, 2)?;
-    same(&rt, control.begin(3, &mut room), Started::Busy);
-    same(&rt, control.begin(5, &mut room), Started::Busy);
+    same(&rt, control.begin(3, &mut room), BeginOutcome::Busy);
+    same(&rt, control.begin(5, &mut room), BeginOutcome::Busy);
     same(&rt, room.requests, 1);
     Ok(())
 }
@@ -54,10 +54,10 @@ fn no_growth_begins_from_another_table(rt: HostRuntime) -> Result<(), Fail> {
 #[test]
 fn refused_growth_begins_later(rt: HostRuntime) -> Result<(), Fail> {
     let (mut control, mut room) = opened(rt.alloc(), 4, 2)?;
-    same(&rt, control.begin(4, &mut room), Started::Refused);
+    same(&rt, control.begin(4, &mut room), BeginOutcome::Refused);
     assert!(rt; control.claim(1).is_none());
     same(&rt, control.count(0), Advice::Enough);
-    same(&rt, control.begin(4, &mut room), Started::Begun);
+    same(&rt, control.begin(4, &mut room), BeginOutcome::Begun);
     same(&rt, control.locate(), Some(4));
     same(
         &rt,
@@ -72,8 +72,8 @@ fn growth_begins_once(rt: HostRuntime) -> Result<(), Fail> {
     let (mut control, mut room) = growing(rt.alloc(), 4)?;
     same(&rt, control.locate(), Some(4));
     same(&rt, control.count(0), Advice::Join);
-    same(&rt, control.begin(4, &mut room), Started::Busy);
-    same(&rt, control.begin(5, &mut room), Started::Busy);
+    same(&rt, control.begin(4, &mut room), BeginOutcome::Busy);
+    same(&rt, control.begin(5, &mut room), BeginOutcome::Busy);
     same(&rt, control.open(5, &mut room)?, 4);
     same(
         &rt,
@@ -86,7 +86,7 @@ fn growth_begins_once(rt: HostRuntime) -> Result<(), Fail> {
 #[test]
 fn greatest_table_stays(rt: HostRuntime) -> Result<(), Fail> {
     let (mut control, mut room) = opened(rt.alloc(), 30, 0)?;
-    same(&rt, control.begin(30, &mut room), Started::Busy);
+    same(&rt, control.begin(30, &mut room), BeginOutcome::Busy);
     same(&rt, control.count(i64::MAX), Advice::Enough);
     same(&rt, control.grows_from(30), None);
     same(&rt, room.placed.as_slice(), [(30, true)].as_slice());
@@ -99,7 +99,7 @@ fn growth_to_a_size(rt: HostRuntime) -> Result<(), Fail> {
     let (mut control, mut room) = opened(rt.alloc(), 4, 0)?;
     same(&rt, control.grows_from(3), None);
     same(&rt, control.grows_from(4), Some(4));
-    same(&rt, control.begin(4, &mut room), Started::Begun);
+    same(&rt, control.begin(4, &mut room), BeginOutcome::Begun);
     same(&rt, control.grows_from(4), None);
     Ok(())
 }

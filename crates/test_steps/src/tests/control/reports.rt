@@ -3,7 +3,7 @@
 use super::super::same;
 use super::{claimed, growing, move_all, moved};
 use flurry_steps::Control;
-use flurry_steps::control::Started;
+use flurry_steps::control::BeginOutcome;
 use std::test::Fail;
 
 #[test]
@@ -16,7 +16,7 @@ fn last_report_publishes(rt: HostRuntime) -> Result<(), Fail> {
     for claim in [lowest, highest, low] {
         same(&rt, control.report(claim), None);
         same(&rt, control.locate(), Some(6));
-        same(&rt, control.begin(6, &mut room), Started::Busy);
+        same(&rt, control.begin(6, &mut room), BeginOutcome::Busy);
     }
     same(&rt, control.report(high), Some(7));
     same(&rt, control.locate(), Some(7));
@@ -29,7 +29,7 @@ fn published_table_grows_next(rt: HostRuntime) -> Result<(), Fail> {
     let (mut control, mut room) = growing(rt.alloc(), 6)?;
     let all = moved(&mut control, 1)?;
     same(&rt, control.report(all), Some(7));
-    same(&rt, control.begin(7, &mut room), Started::Begun);
+    same(&rt, control.begin(7, &mut room), BeginOutcome::Begun);
     let mut highest = claimed(&mut control, 2)?;
     same(&rt, move_all(&mut highest)?, (112, 128));
     Ok(())

@@ -3,7 +3,7 @@
 use super::super::same;
 use super::{Map, Told, answers, call, empty_map, goes_on, insert, reply_of, step, steps, value};
 use flurry_model::reply::KeptReply;
-use flurry_slots::{Change, NoChange};
+use flurry_slots::{ComputeFn, NoFn};
 use flurry_steps::party::{Call, Event, Party, Want};
 use std::process::Abort;
 use std::test::Fail;
@@ -18,7 +18,7 @@ fn map_of(rt: &(impl Abort + AllocGlobal), count: u64) -> Result<Map, Fail> {
 }
 
 // Moves the 16 bins of a table from the last one down.
-fn moves_sixteen<'k, F: Change<u64, u64>>(
+fn moves_sixteen<'k, F: ComputeFn<u64, u64>>(
     rt: &(impl Abort + AllocGlobal),
     party: &mut Party<'k, u64, u64, F>,
     map: &mut Map,
@@ -35,7 +35,7 @@ fn moves_sixteen<'k, F: Change<u64, u64>>(
 }
 
 // The steps of the insertion of the twelfth key, until it has moved each bin of the table.
-fn twelfth_key_moves<'k, F: Change<u64, u64>>(
+fn twelfth_key_moves<'k, F: ComputeFn<u64, u64>>(
     rt: &(impl Abort + AllocGlobal),
     party: &mut Party<'k, u64, u64, F>,
     map: &mut Map,
@@ -61,7 +61,7 @@ fn twelfth_key_moves<'k, F: Change<u64, u64>>(
 }
 
 // Its last steps. Before the larger table is published, a look-up follows the bin that has moved.
-fn twelfth_key_ends<'k, F: Change<u64, u64>>(
+fn twelfth_key_ends<'k, F: ComputeFn<u64, u64>>(
     rt: &(impl Abort + AllocGlobal),
     party: &mut Party<'k, u64, u64, F>,
     map: &mut Map,
@@ -86,7 +86,7 @@ fn twelfth_key_ends<'k, F: Change<u64, u64>>(
     Ok(())
 }
 
-fn twelfth_key<F: Change<u64, u64>>(
+fn twelfth_key<F: ComputeFn<u64, u64>>(
     rt: &(impl Abort + AllocGlobal),
     map: &mut Map,
 ) -> Result<(), Fail> {
@@ -110,7 +110,7 @@ fn removes_twelve(rt: &(impl Abort + AllocGlobal), map: &mut Map) -> Result<(), 
 #[test]
 fn twelfth_key_doubles_the_table(rt: HostRuntime) -> Result<(), Fail> {
     let mut map = map_of(&rt, 11)?;
-    twelfth_key::<NoChange>(&rt, &mut map)?;
+    twelfth_key::<NoFn>(&rt, &mut map)?;
     removes_twelve(&rt, &mut map)
 }
 
@@ -128,7 +128,7 @@ fn reserve_of_nothing_opens_one_bin(rt: HostRuntime) -> Result<(), Fail> {
 }
 
 // The steps of the reserve for 32 pairs. Their table has 64 bins, whose threshold is below 64: it is doubled once.
-fn reserve_ends<'k, F: Change<u64, u64>>(
+fn reserve_ends<'k, F: ComputeFn<u64, u64>>(
     rt: &(impl Abort + AllocGlobal),
     party: &mut Party<'k, u64, u64, F>,
     map: &mut Map,
@@ -154,7 +154,7 @@ fn reserve_ends<'k, F: Change<u64, u64>>(
     Ok(())
 }
 
-fn reserve<F: Change<u64, u64>>(
+fn reserve<F: ComputeFn<u64, u64>>(
     rt: &(impl Abort + AllocGlobal),
     map: &mut Map,
 ) -> Result<(), Fail> {
@@ -167,7 +167,7 @@ fn reserve<F: Change<u64, u64>>(
 #[test]
 fn reserves(rt: HostRuntime) -> Result<(), Fail> {
     let mut map = empty_map(rt.alloc(), 1, 0);
-    reserve::<NoChange>(&rt, &mut map)?;
+    reserve::<NoFn>(&rt, &mut map)?;
     // There is room already.
     answers(
         &rt,
@@ -180,7 +180,7 @@ fn reserves(rt: HostRuntime) -> Result<(), Fail> {
 }
 
 // The steps of the insertion of a ninth key of one hash.
-fn ninth_key_ends<'k, F: Change<u64, u64>>(
+fn ninth_key_ends<'k, F: ComputeFn<u64, u64>>(
     rt: &(impl Abort + AllocGlobal),
     party: &mut Party<'k, u64, u64, F>,
     map: &mut Map,
@@ -201,7 +201,7 @@ fn ninth_key_ends<'k, F: Change<u64, u64>>(
     Ok(())
 }
 
-fn ninth_key<F: Change<u64, u64>>(
+fn ninth_key<F: ComputeFn<u64, u64>>(
     rt: &(impl Abort + AllocGlobal),
     map: &mut Map,
 ) -> Result<(), Fail> {
@@ -217,5 +217,5 @@ fn list_of_eight_grows_before_the_count(rt: HostRuntime) -> Result<(), Fail> {
     for key in 0..8 {
         same(&rt, insert(rt.alloc(), &mut map, 0, key)?, 3);
     }
-    ninth_key::<NoChange>(&rt, &mut map)
+    ninth_key::<NoFn>(&rt, &mut map)
 }

@@ -2,13 +2,13 @@
 
 use super::super::same;
 use super::{Map, answers, call, empty_map, goes_on, insert, steps, value};
-use flurry_slots::{Change, NoChange};
+use flurry_slots::{ComputeFn, NoFn};
 use flurry_steps::party::{Call, Event, Party};
 use std::process::Abort;
 use std::test::Fail;
 
 // The first steps of a reserve, which moves one bin of a table of 64.
-fn reserve_begins<'k, F: Change<u64, u64>>(
+fn reserve_begins<'k, F: ComputeFn<u64, u64>>(
     rt: &(impl Abort + AllocGlobal),
     reserve: &mut Party<'k, u64, u64, F>,
     map: &mut Map,
@@ -45,7 +45,7 @@ fn others_meet_the_growth(rt: &(impl Abort + AllocGlobal), map: &mut Map) -> Res
 }
 
 // The steps of the reserve, which those of the others stand between.
-fn reserve_ends<'k, F: Change<u64, u64>>(
+fn reserve_ends<'k, F: ComputeFn<u64, u64>>(
     rt: &(impl Abort + AllocGlobal),
     reserve: &mut Party<'k, u64, u64, F>,
     map: &mut Map,
@@ -60,7 +60,7 @@ fn reserve_ends<'k, F: Change<u64, u64>>(
     Ok(())
 }
 
-fn helping<F: Change<u64, u64>>(
+fn helping<F: ComputeFn<u64, u64>>(
     rt: &(impl Abort + AllocGlobal),
     map: &mut Map,
 ) -> Result<(), Fail> {
@@ -73,5 +73,5 @@ fn helping<F: Change<u64, u64>>(
 #[test]
 fn insertion_helps(rt: HostRuntime) -> Result<(), Fail> {
     let mut map = empty_map(rt.alloc(), 2, 0);
-    helping::<NoChange>(&rt, &mut map)
+    helping::<NoFn>(&rt, &mut map)
 }

@@ -3,7 +3,7 @@
 use super::super::same;
 use super::{Becomes, Map, Told, answers, call, empty_map, insert, reply_of, run, step, value};
 use flurry_model::reply::KeptReply;
-use flurry_slots::{Change, NoChange};
+use flurry_slots::{ComputeFn, NoFn};
 use flurry_steps::party::{Call, Event, Party, Want};
 use std::alloc::Global;
 use std::cell::Cell;
@@ -57,7 +57,7 @@ fn map_of_three(rt: &(impl Abort + AllocGlobal)) -> Result<Map, Fail> {
 fn answers_in<'k>(
     rt: &(impl Abort + AllocGlobal),
     map: &mut Map,
-    asked: Call<'k, u64, u64, NoChange>,
+    asked: Call<'k, u64, u64, NoFn>,
     reply: KeptReply<u64, u64>,
     steps: usize,
     len: usize,
@@ -182,7 +182,7 @@ fn function_is_called_for_a_present_key_alone(rt: HostRuntime) -> Result<(), Fai
 }
 
 // The steps of a look-up of the key 3 that begins at the certificate of the table.
-fn begins_at_a_start<'k, F: Change<u64, u64>>(
+fn begins_at_a_start<'k, F: ComputeFn<u64, u64>>(
     rt: &(impl Abort + AllocGlobal),
     party: &mut Party<'k, u64, u64, F>,
     map: &mut Map,
@@ -202,7 +202,7 @@ fn begins_at_a_start<'k, F: Change<u64, u64>>(
     Ok(())
 }
 
-fn look_up_of_three<F: Change<u64, u64>>(
+fn look_up_of_three<F: ComputeFn<u64, u64>>(
     rt: &(impl Abort + AllocGlobal),
     map: &mut Map,
 ) -> Result<(), Fail> {
@@ -217,5 +217,5 @@ fn look_up_of_three<F: Change<u64, u64>>(
 fn call_begins_at_a_start(rt: HostRuntime) -> Result<(), Fail> {
     let mut map = empty_map(rt.alloc(), 1, 0);
     let _steps = insert(rt.alloc(), &mut map, 3, 3)?;
-    look_up_of_three::<NoChange>(&rt, &mut map)
+    look_up_of_three::<NoFn>(&rt, &mut map)
 }

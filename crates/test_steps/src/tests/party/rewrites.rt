@@ -3,14 +3,14 @@
 use super::super::same;
 use super::{Becomes, Map, Told, answers, call, empty_map, insert, run, value};
 use flurry_model::reply::KeptReply;
-use flurry_slots::NoChange;
+use flurry_slots::NoFn;
 use flurry_steps::party::{Call, Event};
 use std::process::Abort;
 use std::test::Fail;
 
 // The calls that leave the key 3, which has this value, as it is.
 fn stays(rt: &(impl Abort + AllocGlobal), map: &mut Map, there: u64) -> Result<(), Fail> {
-    let asked: [(Call<'_, u64, u64, NoChange>, KeptReply<u64, u64>); 6] = [
+    let asked: [(Call<'_, u64, u64, NoFn>, KeptReply<u64, u64>); 6] = [
         (Call::Get(&3), KeptReply::Value(Some(there))),
         (Call::GetKeyValue(&3), KeptReply::Pair(Some((3, there)))),
         (Call::ContainsKey(&3), KeptReply::Contains(true)),
@@ -25,8 +25,8 @@ fn stays(rt: &(impl Abort + AllocGlobal), map: &mut Map, there: u64) -> Result<(
         (Call::RemoveEntry(&19), KeptReply::Pair(None)),
     ];
     for (asked, reply) in asked {
-        let (_events, told) = call(rt.alloc(), map, 3, asked)?;
-        same(rt, told, Told::Key(reply));
+        let (_events, reply_for) = call(rt.alloc(), map, 3, asked)?;
+        same(rt, reply_for, Told::Key(reply));
     }
     answers(
         rt,
@@ -46,11 +46,11 @@ fn writes(
     then: u64,
     after: u64,
 ) -> Result<(), Fail> {
-    let (_events, told) = call(rt.alloc(), map, 3, Call::Insert(3, then))?;
-    same(rt, told, value(Some(before)));
+    let (_events, reply_for) = call(rt.alloc(), map, 3, Call::Insert(3, then))?;
+    same(rt, reply_for, value(Some(before)));
     stays(rt, map, then)?;
-    let (_events, told) = run(rt.alloc(), map, 3, Call::Compute(&3, Becomes(Some(after))))?;
-    same(rt, told, value(Some(after)));
+    let (_events, reply_for) = run(rt.alloc(), map, 3, Call::Compute(&3, Becomes(Some(after))))?;
+    same(rt, reply_for, value(Some(after)));
     stays(rt, map, after)
 }
 
@@ -70,10 +70,10 @@ fn a_key_comes_and_goes_ten_times(rt: HostRuntime) -> Result<(), Fail> {
     let mut map = empty_map(rt.alloc(), 1, 0);
     let _steps = insert(rt.alloc(), &mut map, 3, 3)?;
     for round in 0..10u64 {
-        let (_events, told) = call(rt.alloc(), &mut map, 3, Call::RemoveEntry(&3))?;
-        same(&rt, told, Told::Key(KeptReply::Pair(Some((3, round)))));
-        let (_events, told) = call(rt.alloc(), &mut map, 3, Call::TryInsert(3, round + 1))?;
-        same(&rt, told, Told::Key(KeptReply::New(round + 1)));
+        let (_events, reply_for) = call(rt.alloc(), &mut map, 3, Call::RemoveEntry(&3))?;
+        same(&rt, reply_for, Told::Key(KeptReply::Pair(Some((3, round)))));
+        let (_events, reply_for) = call(rt.alloc(), &mut map, 3, Call::TryInsert(3, round + 1))?;
+        same(&rt, reply_for, Told::Key(KeptReply::New(round + 1)));
     }
     Ok(())
 }

@@ -1,5 +1,5 @@
 use Rattle.std.proofs.Common.{length, sym, ap, ◌∙◌}
-use Rattle.flurry_seq.proofs.LeftLemmas.{all_left}
+use Rattle.flurry_seq.proofs.RemainingLemmas.{all_left}
 use Rattle.flurry_seq.proofs.iter.Entries.new.Goals as goal
 
 pub invariant_of-result : goal.invariant_of-result

@@ -1,5 +1,5 @@
 use Rattle.std.proofs.Common.{length, arith, ap, sym, ◌∙◌}
-use Rattle.flurry_seq.proofs.LeftLemmas.{left_after, left_behind}
+use Rattle.flurry_seq.proofs.RemainingLemmas.{left_after, left_behind}
 use Rattle.flurry_seq.proofs.iter.EntriesIterator.next.Goals as goal
 
 pub overflow_sub-self : goal.overflow_sub-self

@@ -6,12 +6,13 @@ use Rattle.flurry_seq.specs.Invariant.{IsTableSize}
 use Rattle.flurry_seq.proofs.RoomLaws.{way_up, asked_most}
 use Rattle.flurry_seq.proofs.seq_map.SeqMap.add.Goals as goal
 use Rattle.flurry_seq.proofs.seq_map.SeqMap.add.Goals.{then-branch, else-branch}
+use Rattle.flurry_model.specs.declared.sizes.TheConstants.{FIRST_BINS}
 
 pub returns-clause-bins : goal.returns-clause-bins
 returns-clause-bins g c =
     let put = c.put.new.self in
     let first = c.in_ok-put.ensures.bins in
-    let from : IsTableFrom (first_bins c.args.self.now.bins 16) (length c.if-branch.self.pairs) c.if-branch.self.bins =
+    let from : IsTableFrom (first_bins c.args.self.now.bins FIRST_BINS) (length c.if-branch.self.pairs) c.if-branch.self.bins =
     subst (λ n. IsTableFrom n (length c.if-branch.self.pairs) c.if-branch.self.bins) first
     (elim c.if-branch.branch [
       | then-branch w ↦

@@ -1,10 +1,10 @@
 use Rattle.std.proofs.Common.{ap, arith}
-use Rattle.flurry_model.specs.FiniteMap.{gathered}
+use Rattle.flurry_model.specs.FiniteMap.{map_of_pairs}
 use Rattle.flurry_seq.specs.Contents.{contents}
 use Rattle.flurry_seq.specs.Table.{all_pairs}
 use Rattle.flurry_seq.proofs.IterLemmas.{pairs_permute}
 use Rattle.flurry_seq.proofs.KeepingLemmas.{as_many, IsTable-kept, KeepsBins-length, KeepsBins-pairs}
-use Rattle.flurry_model.proofs.FiniteMapLaws.{IsFiniteMap-gathered}
+use Rattle.flurry_model.proofs.FiniteMapLaws.{IsFiniteMap-map_of_pairs}
 use Rattle.flurry_seq.proofs.seq_map.SeqMap.retain.Goals as goal
 
 pub retain-self-inside-requires-clause-few : goal.retain-self-inside-requires-clause-few
@@ -33,8 +33,8 @@ returns-clause-kept g c =
       c.retain-self-inside.new.keep,
       pairs_permute g.met.K.Ord.total hash alike old c.self.invariant.placed,
       calls,
-      ap (λ n. contents (gathered g.K.Ord.cmp (all_pairs new)) n c.self.inside.hasher) bins,
+      ap (λ n. contents (map_of_pairs g.K.Ord.cmp (all_pairs new)) n c.self.inside.hasher) bins,
     )
 
 pub returns-clause-ascend : goal.returns-clause-ascend
-returns-clause-ascend g c = rw (← c.self.view_is) (IsFiniteMap-gathered g.met.K.Ord.total (all_pairs c.self.inside.table))
+returns-clause-ascend g c = rw (← c.self.view_is) (IsFiniteMap-map_of_pairs g.met.K.Ord.total (all_pairs c.self.inside.table))

@@ -2,7 +2,7 @@ use Rattle.std.proofs.Common.{◌≡◌, is_some, true, option_map, sym, ap, ◌
 use Rattle.std.proofs.Common.{length-set}
 use Rattle.std.specs.Arc.{arc_value}
 use Rattle.flurry_seq.specs.Table.{entry_in}
-use Rattle.flurry_seq.proofs.TableLemmas.{at_map, gathered-with, found_same}
+use Rattle.flurry_seq.proofs.TableLemmas.{at_map, map_of_pairs-with, found_same}
 use Rattle.flurry_seq.proofs.GrowthLemmas.{IsTable-replaced, value_of_entry, some_bins, is_some_true, IsSome_true}
 use Rattle.flurry_seq.proofs.seq_map.SeqMap.swap_value.Goals as goal
 
@@ -31,5 +31,5 @@ returns-clause-after g c =
     let hash : c.args.hash ≡ g.S.KeyHasher.hash_of c.self.inside.hasher c.args.key.now = c.requires.hash ∙ ap (λ m. g.S.KeyHasher.hash_of m.hasher c.args.key.now) (sym c.self.view_is) in
     let here : is_some (entry_in g.K.Ord.cmp c.self.inside.table ((g.S.KeyHasher.hash_of c.self.inside.hasher) c.args.key.now) c.args.key.now) ≡ true = sym (found_same g.met.K.Ord.total (g.S.KeyHasher.hash_of c.self.inside.hasher) (g.met.S.KeyHasher.alike c.self.inside.hasher) c.self.inside.table c.args.key.now c.self.invariant.placed) ∙ is_some_true _ (rw (← c.self.view_is) at c.requires.present) in
     let new = rw hash at c.replace.ensures.after in
-    rw (← c.self.view_is, new, gathered-with g.met.K.Ord.total (g.S.KeyHasher.hash_of c.self.inside.hasher) (g.met.S.KeyHasher.alike c.self.inside.hasher) c.self.inside.table c.args.key.now (arc_value c.args.value) (some_bins g.K.Ord.cmp c.self.inside.table ((g.S.KeyHasher.hash_of c.self.inside.hasher) c.args.key.now) c.args.key.now here) c.self.invariant.placed)
+    rw (← c.self.view_is, new, map_of_pairs-with g.met.K.Ord.total (g.S.KeyHasher.hash_of c.self.inside.hasher) (g.met.S.KeyHasher.alike c.self.inside.hasher) c.self.inside.table c.args.key.now (arc_value c.args.value) (some_bins g.K.Ord.cmp c.self.inside.table ((g.S.KeyHasher.hash_of c.self.inside.hasher) c.args.key.now) c.args.key.now here) c.self.invariant.placed)
     (rw length-set refl)

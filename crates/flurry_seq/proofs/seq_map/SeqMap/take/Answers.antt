@@ -1,7 +1,7 @@
 use Rattle.std.proofs.Common.{◌≡◌, ◌-◌, is_some, cond, option_map, sym, ap, subst, ◌∙◌, refl, length-set}
 use Rattle.flurry_seq.specs.Invariant.{IsTable}
 use Rattle.flurry_seq.specs.Table.{pair_of, bins_without}
-use Rattle.flurry_seq.proofs.TableLemmas.{at_map, IsTable-left_out, gathered-left_out, len_some}
+use Rattle.flurry_seq.proofs.TableLemmas.{at_map, IsTable-left_out, map_of_pairs-left_out, len_some}
 use Rattle.flurry_seq.proofs.seq_map.SeqMap.take.Goals as goal
 
 pub overflow_sub-self : goal.overflow_sub-self
@@ -41,7 +41,7 @@ returns-in-Some-clause-after g c =
     let hash : c.args.hash ≡ g.S.KeyHasher.hash_of c.self.inside.hasher c.args.key.now = c.requires ∙ ap (λ m. g.S.KeyHasher.hash_of m.hasher c.args.key.now) (sym c.self.view_is) in
     let found = rw hash at c.in-Some.ensures.entry in
     let rest = rw hash at c.in-Some.ensures.after in
-    rw (← c.self.view_is, rest, gathered-left_out g.met.K.Ord.total (g.S.KeyHasher.hash_of c.self.inside.hasher) (g.met.S.KeyHasher.alike c.self.inside.hasher) c.self.inside.table c.args.key.now c.self.invariant.placed)
+    rw (← c.self.view_is, rest, map_of_pairs-left_out g.met.K.Ord.total (g.S.KeyHasher.hash_of c.self.inside.hasher) (g.met.S.KeyHasher.alike c.self.inside.hasher) c.self.inside.table c.args.key.now c.self.invariant.placed)
     (rw length-set refl)
 
 pub returns-in-None-clause-pair : goal.returns-in-None-clause-pair
@@ -57,5 +57,5 @@ returns-in-None-clause-after g c =
     let hash : c.args.hash ≡ g.S.KeyHasher.hash_of c.self.inside.hasher c.args.key.now = c.requires ∙ ap (λ m. g.S.KeyHasher.hash_of m.hasher c.args.key.now) (sym c.self.view_is) in
     let found = rw hash at c.in-None.ensures.entry in
     let rest = rw hash at c.in-None.ensures.after in
-    rw (← c.self.view_is, rest, gathered-left_out g.met.K.Ord.total (g.S.KeyHasher.hash_of c.self.inside.hasher) (g.met.S.KeyHasher.alike c.self.inside.hasher) c.self.inside.table c.args.key.now c.self.invariant.placed)
+    rw (← c.self.view_is, rest, map_of_pairs-left_out g.met.K.Ord.total (g.S.KeyHasher.hash_of c.self.inside.hasher) (g.met.S.KeyHasher.alike c.self.inside.hasher) c.self.inside.table c.args.key.now c.self.invariant.placed)
     (rw length-set refl)

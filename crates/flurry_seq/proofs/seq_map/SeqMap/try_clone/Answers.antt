@@ -3,7 +3,7 @@ use Rattle.flurry_model.specs.FiniteMap.{pair_at}
 use Rattle.flurry_model.proofs.FiniteMapLaws.{length-with_pair}
 use Rattle.flurry_seq.specs.Growth.{bins_for}
 use Rattle.flurry_seq.proofs.RoomLaws.{one_more, room_for, room_more}
-use Rattle.flurry_bins.specs.PlainEntries.{plain}
+use Rattle.flurry_bins.specs.PlainEntries.{pair_of_entry}
 use Rattle.flurry_seq.proofs.CloneLemmas.{rest_first, rest_next}
 use Rattle.flurry_seq.proofs.seq_map.SeqMap.try_clone.Goals as goal
 
@@ -25,12 +25,12 @@ pub loop-entry-preserved : goal.loop-entry-preserved
 loop-entry-preserved g c =
     let before = rw c.in-Some.ensures.steps at c.loop-entry.invariant.rest in
     let count : length c.loop-entry.copy.pairs + suc (length c.next.new.self) ≤ length c.args.self.now.pairs = rw c.in-Some.ensures.steps at c.loop-entry.invariant.count in
-    let entry = plain c.in-Some.entry.now in
+    let entry = pair_of_entry c.in-Some.entry.now in
     let long = one_more (is_some (pair_at g.K.Ord.cmp c.loop-entry.copy.pairs entry.0.1)) (length c.loop-entry.copy.pairs) (length c.add.new.self.pairs) (ap length (rw (c.in_ok-node.ensures.key, c.in_ok-node.ensures.value) at c.in_ok-add.ensures.pairs) ∙ length-with_pair g.met.K.Ord.total c.loop-entry.copy.pairs entry.0.1 entry.1 before.sorted) in
     record {
       rest =
           rw (c.in_ok-add.ensures.pairs, c.in_ok-add.ensures.hasher, c.in_ok-node.ensures.key, c.in_ok-node.ensures.value)
-          (rest_next g.met.K.Ord.total (g.S.KeyHasher.hash_of c.loop-entry.copy.hasher) c.args.self.now.pairs c.loop-entry.copy.pairs (plain c.in-Some.entry.now) c.next.new.self before);
+          (rest_next g.met.K.Ord.total (g.S.KeyHasher.hash_of c.loop-entry.copy.hasher) c.args.self.now.pairs c.loop-entry.copy.pairs (pair_of_entry c.in-Some.entry.now) c.next.new.self before);
       room =
           room_more (bins_for (length c.args.self.now.pairs)) (length c.loop-entry.copy.pairs) (length c.add.new.self.pairs) (length c.args.self.now.pairs) c.loop-entry.copy.bins c.add.new.self.bins (room_for (length c.args.self.now.pairs)) (omega (arith, count)) long.0
           (omega (arith, long.1, count))

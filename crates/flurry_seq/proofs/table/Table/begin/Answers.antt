@@ -1,7 +1,7 @@
 use Rattle.std.proofs.Common.{◌≡◌, [], length, replicate, subst, sym, ap, ◌∙◌, arith}
 use Rattle.std.proofs.lemmas.List.{length-map, length-replicate}
 use Rattle.flurry_seq.specs.Invariant.{IsTableSize}
-use Rattle.flurry_seq.specs.Seen.{plain_bin}
+use Rattle.flurry_seq.specs.MapsOfBins.{plain_bin}
 use Rattle.flurry_seq.proofs.table.Table.begin.Goals as goal
 
 pub invariant_of-self : goal.invariant_of-self

@@ -1,7 +1,7 @@
 use Rattle.std.proofs.Common.{Some, refl, ap, ◌∙◌}
 use Rattle.flurry_bins.specs.Chain.{entry_of}
-use Rattle.flurry_bins.specs.PlainEntries.{plain}
-use Rattle.flurry_seq.proofs.SeenLemmas.{entry_here, removed_here}
+use Rattle.flurry_bins.specs.PlainEntries.{pair_of_entry}
+use Rattle.flurry_seq.proofs.MapsOfBinsLemmas.{entry_here, removed_here}
 use Rattle.flurry_seq.proofs.NumberLemmas.{all_at, all_filter, all_set}
 use Rattle.flurry_bins.specs.Bin.{entries_of_bin}
 use Rattle.std.proofs.Common.{length-set}
@@ -13,7 +13,7 @@ returns-clause-entry g c =
     let here = entry_here c.self.inside.bins.items c.args.hash c.place-at.result c.index_mut-bin.result.now c.place-at.ensures.below c.index_mut-bin.ensures.value c.place-at.ensures.place c.args.key.now in
     rw (← c.self.view_is, here, ← c.remove.ensures.removed)
     (elim c.match-remove.branch [
-      | in-Some w ↦ rw (w.result-is, w.in-Some.is) (ap (λ e. Some (plain e)) (w.into_entry.ensures ∙ ap entry_of w.into_inner.ensures))
+      | in-Some w ↦ rw (w.result-is, w.in-Some.is) (ap (λ e. Some (pair_of_entry e)) (w.into_entry.ensures ∙ ap entry_of w.into_inner.ensures))
       | in-None w ↦ rw (w.result-is, w.in-None.is) refl
     ])
 

@@ -1,9 +1,9 @@
 use Rattle.flurry_bins.specs.Bin.{entries_of_bin}
 use Rattle.flurry_bins.specs.Entries.{entry_at}
-use Rattle.flurry_bins.specs.PlainEntries.{plain}
-use Rattle.flurry_seq.proofs.SeenLemmas.{entry_here, replaced_here, value_mapped, entry_some}
+use Rattle.flurry_bins.specs.PlainEntries.{pair_of_entry}
+use Rattle.flurry_seq.proofs.MapsOfBinsLemmas.{entry_here, replaced_here, value_mapped, entry_some}
 use Rattle.flurry_model.proofs.OptionLaws.{some_mapped}
-use Rattle.flurry_seq.proofs.NumberLemmas.{all_at, all_set, zero-replaced}
+use Rattle.flurry_seq.proofs.NumberLemmas.{all_at, all_set, zero-with_value_at}
 use Rattle.std.proofs.Common.{length-set}
 use Rattle.flurry_seq.proofs.table.Table.replace.Goals as goal
 
@@ -13,7 +13,7 @@ place-at-requires-clause-some g c = entry_some c.self.inside.bins.items c.args.h
 pub replace-requires : goal.replace-requires
 replace-requires g c =
     let here = entry_here c.self.inside.bins.items c.args.hash c.place-at.result c.index_mut-bin.result.now c.place-at.ensures.below c.index_mut-bin.ensures.value c.place-at.ensures.place c.args.key.now in
-    some_mapped plain (entry_at g.K.Ord.cmp c.args.hash c.args.key.now (entries_of_bin c.index_mut-bin.result.now)) (rw (← c.self.view_is, here) at c.requires)
+    some_mapped pair_of_entry (entry_at g.K.Ord.cmp c.args.hash c.args.key.now (entries_of_bin c.index_mut-bin.result.now)) (rw (← c.self.view_is, here) at c.requires)
 
 pub returns-clause-old : goal.returns-clause-old
 returns-clause-old g c =
@@ -23,7 +23,7 @@ returns-clause-old g c =
 pub returns-clause-after : goal.returns-clause-after
 returns-clause-after g c =
     let here = entry_here c.self.inside.bins.items c.args.hash c.place-at.result c.index_mut-bin.result.now c.place-at.ensures.below c.index_mut-bin.ensures.value c.place-at.ensures.place c.args.key.now in
-    let some = some_mapped plain (entry_at g.K.Ord.cmp c.args.hash c.args.key.now (entries_of_bin c.index_mut-bin.result.now)) (rw (← c.self.view_is, here) at c.requires) in
+    let some = some_mapped pair_of_entry (entry_at g.K.Ord.cmp c.args.hash c.args.key.now (entries_of_bin c.index_mut-bin.result.now)) (rw (← c.self.view_is, here) at c.requires) in
     rw (← c.self.view_is)
     (replaced_here c.self.inside.bins.items c.args.hash c.place-at.result c.index_mut-bin.result.now c.place-at.ensures.below c.index_mut-bin.ensures.value c.place-at.ensures.place
     g.met.K.Ord.total c.args.key.now c.args.value 0 c.replace.new.self some c.replace.ensures.after)
@@ -32,4 +32,4 @@ pub invariant_of-self : goal.invariant_of-self
 invariant_of-self g c =
     let b = c.index_mut-bin.result.now in
     let zero = all_at _ c.self.inside.bins.items c.place-at.result b c.place-at.ensures.below c.index_mut-bin.ensures.value c.self.invariant.1 in
-    (rw length-set c.self.invariant.0, all_set _ c.self.inside.bins.items c.place-at.result c.replace.new.self (rw c.replace.ensures.after (zero-replaced g.K.Ord.cmp c.args.hash c.args.key.now c.args.value (entries_of_bin b) zero)) c.self.invariant.1)
+    (rw length-set c.self.invariant.0, all_set _ c.self.inside.bins.items c.place-at.result c.replace.new.self (rw c.replace.ensures.after (zero-with_value_at g.K.Ord.cmp c.args.hash c.args.key.now c.args.value (entries_of_bin b) zero)) c.self.invariant.1)

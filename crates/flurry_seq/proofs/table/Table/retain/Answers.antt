@@ -1,7 +1,7 @@
 use Rattle.std.proofs.Common.{◌≡◌, length, sym, subst, ◌∙◌, of_calls, arith}
 use Rattle.std.proofs.lemmas.List.{length-map}
 use Rattle.flurry_seq.specs.Invariant.{IsTableSize}
-use Rattle.flurry_seq.specs.Seen.{seen}
+use Rattle.flurry_seq.specs.MapsOfBins.{maps_of_bins}
 use Rattle.flurry_bins.specs.Bin.{entries_of_bin}
 use Rattle.flurry_model.proofs.KeepingLaws.{Keeps-all}
 use Rattle.flurry_seq.proofs.NumberLemmas.{all_at, all_set}
@@ -39,12 +39,12 @@ loop-at-preserved g c =
 pub returns-clause-kept : goal.returns-clause-kept
 returns-clause-kept g c =
     let xs = c.self.inside.bins.items in
-    let end : c.loop-at.at ≡ length (seen xs) = rw length-map (omega (arith, c.len-at-end.ensures, c.self.inside.bins.ok.0)) in
-    rw (← c.self.view_is) (KeepsBefore-all (goal.F-step g) c.loop-at.at c.args.keep.now (seen xs) (seen c.loop-at.self-inside.bins.items) c.loop-at.keep c.loop-at.invariant.kept end)
+    let end : c.loop-at.at ≡ length (maps_of_bins xs) = rw length-map (omega (arith, c.len-at-end.ensures, c.self.inside.bins.ok.0)) in
+    rw (← c.self.view_is) (KeepsBefore-all (goal.F-step g) c.loop-at.at c.args.keep.now (maps_of_bins xs) (maps_of_bins c.loop-at.self-inside.bins.items) c.loop-at.keep c.loop-at.invariant.kept end)
 
 pub returns-clause-len : goal.returns-clause-len
 returns-clause-len g c =
     let ys = c.loop-at.self-inside.bins.items in
     let long = seen_length (goal.F-step g) c.loop-at.at c.args.keep.now c.self.inside.bins.items ys c.loop-at.keep c.loop-at.invariant.kept in
-    let end : c.loop-at.at ≡ length (seen ys) = rw length-map (omega (arith, long, c.len-at-end.ensures, c.self.inside.bins.ok.0)) in
-    c.loop-at.invariant.len ∙ front_len-all c.loop-at.at (seen ys) end
+    let end : c.loop-at.at ≡ length (maps_of_bins ys) = rw length-map (omega (arith, long, c.len-at-end.ensures, c.self.inside.bins.ok.0)) in
+    c.loop-at.invariant.len ∙ front_len-all c.loop-at.at (maps_of_bins ys) end

@@ -1,6 +1,6 @@
 use Rattle.std.proofs.Common.{[], ◌∷◌, ◌++◌, length, sym, ap, ◌∙◌, append_assoc}
 use Rattle.std.specs.Vec.Iter.{into_iter_items}
-use Rattle.flurry_bins.specs.FiniteSet.{with_element}
+use Rattle.flurry_model.specs.FiniteSet.{with_element}
 use Rattle.flurry_seq.proofs.RunLaws.{on_err}
 use Rattle.flurry_seq.proofs.RoomLaws.{count_put, of_test, room_put}
 use Rattle.flurry_set.proofs.SetLemmas.{length-with_element, with_elements-push}

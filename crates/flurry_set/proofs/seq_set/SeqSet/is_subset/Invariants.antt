@@ -1,6 +1,6 @@
 use Rattle.std.proofs.Common.{◌≡◌, is_some}
 use Rattle.std.specs.List.{list_all}
-use Rattle.flurry_bins.specs.FiniteSet.{element_at}
+use Rattle.flurry_model.specs.FiniteSet.{element_at}
 use Rattle.flurry_set.proofs.seq_set.SeqSet.is_subset.Given as goal
 
 abbrev pub invariant-loop-element : goal.invariant-loop-element

@@ -1,4 +1,4 @@
-use Rattle.flurry_bins.proofs.FiniteMapLaws.{IsFiniteMap-nil}
+use Rattle.flurry_model.proofs.FiniteMapLaws.{IsFiniteMap-nil}
 use Rattle.flurry_set.proofs.seq_set.SeqSet.with_hasher.Goals as goal
 
 pub invariant_of-result : goal.invariant_of-result

@@ -1,5 +1,5 @@
 use Rattle.std.proofs.Common.{sym, ap, ◌∙◌, option_map}
-use Rattle.flurry_bins.specs.PlainEntries.{numbered}
+use Rattle.flurry_bins.specs.PlainEntries.{numbered_pair}
 use Rattle.flurry_slots.proofs.LiveLaws.{live_found}
 use Rattle.flurry_model.proofs.OptionLaws.{copied}
 use Rattle.flurry_slots.proofs.live.LiveBin.find.Goals as goal
@@ -7,4 +7,4 @@ use Rattle.flurry_slots.proofs.live.LiveBin.find.Goals as goal
 pub returns : goal.returns
 returns g c =
     rw (← c.self.view_is)
-    (copied numbered c.find.result.0 ∙ ap (option_map numbered) c.find.ensures.found ∙ sym (live_found c.self.inside.bin c.self.inside.writes c.args.hash c.args.key.now))
+    (copied numbered_pair c.find.result.0 ∙ ap (option_map numbered_pair) c.find.ensures.found ∙ sym (live_found c.self.inside.bin c.self.inside.writes c.args.hash c.args.key.now))

@@ -1,6 +1,6 @@
 use Rattle.std.proofs.Common.{Some, refl, ap, ◌∙◌}
 use Rattle.flurry_bins.specs.Chain.{entry_of}
-use Rattle.flurry_bins.specs.PlainEntries.{numbered}
+use Rattle.flurry_bins.specs.PlainEntries.{numbered_pair}
 use Rattle.flurry_slots.proofs.LiveLaws.{live_found, live_taken}
 use Rattle.flurry_slots.proofs.live.LiveBin.take.Goals as goal
 use Rattle.flurry_slots.proofs.live.LiveBin.take.Goals.{in-Some, in-None}
@@ -10,7 +10,7 @@ returns-clause-entry g c =
     let here = live_found c.self.inside.bin c.self.inside.writes c.args.hash c.args.key.now in
     rw (← c.self.view_is, here, ← c.remove.ensures.removed)
     (elim c.match-remove.branch [
-      | in-Some w ↦ rw (w.result-is, w.in-Some.is) (ap (λ e. Some (numbered e)) (w.into_entry.ensures ∙ ap entry_of w.into_inner.ensures))
+      | in-Some w ↦ rw (w.result-is, w.in-Some.is) (ap (λ e. Some (numbered_pair e)) (w.into_entry.ensures ∙ ap entry_of w.into_inner.ensures))
       | in-None w ↦ rw (w.result-is, w.in-None.is) refl
     ])
 

@@ -1,3 +1,4 @@
+use Rattle.std.proofs.Common.{rules}
 use Rattle.flurry_slots.proofs.SlotLaws.{live_in_taken}
 use Rattle.flurry_slots.proofs.slot.Slot.take.Goals as goal
 use Rattle.flurry_slots.proofs.slot.Slot.take.Goals.{in-Live, in-Moved, in-Unborn}
@@ -10,3 +11,6 @@ invariant_of-self g c = elim c.match-self.branch [
   | in-Moved w ↦ rw w.self-inside-is c.self.invariant
   | in-Unborn w ↦ rw w.self-inside-is c.self.invariant
 ]
+
+pub returns-clause-reply : goal.returns-clause-reply
+returns-clause-reply g c = search rules

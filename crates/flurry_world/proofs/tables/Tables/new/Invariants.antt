@@ -1,10 +1,11 @@
 use Rattle.std.proofs.Common.{◌≡◌, [], ◌≤◌, map, replicate}
 use Rattle.std.specs.Vec.{vec_len, vec_capacity}
 use Rattle.flurry_world.proofs.tables.Tables.new.Given as goal
+use Rattle.flurry_model.specs.declared.sizes.TheConstants.{TABLES}
 
 abbrev pub invariant-loop : goal.invariant-loop
 invariant-loop g l = record {
   empty : map (λ v. v.items) l.tables.items ≡ replicate l.counter [];
   count : vec_len l.tables ≡ l.counter;
-  room : 31 ≤ vec_capacity l.tables;
+  room : TABLES ≤ vec_capacity l.tables;
 }

@@ -1,50 +1,50 @@
 use Rattle.std.proofs.Common.{refl, arith}
 use Rattle.std.proofs.lemmas.Grind.{common_steps}
-use Rattle.flurry_world.specs.WorldView.{shown_of}
+use Rattle.flurry_world.specs.WorldView.{world_state_of}
 use Rattle.flurry_world.proofs.WorldSteps.{lent_at, unknown_step, steps_within, part_there, party_step}
 use Rattle.flurry_world.proofs.world.World.step.Goals as goal
 
 pub invariant_of-self-then-party-len : goal.invariant_of-self-then-party-len
 invariant_of-self-then-party-len g c =
-    (unknown_step g.K.Ord.cmp g.met.K.Ord.total (g.S.KeyHasher.hash_of c.self.inside.hasher) (g.met.S.KeyHasher.alike c.self.inside.hasher) g.F.Change.changes (shown_of c.self.inside) c.self.invariant
+    (unknown_step g.K.Ord.cmp g.met.K.Ord.total (g.S.KeyHasher.hash_of c.self.inside.hasher) (g.met.S.KeyHasher.alike c.self.inside.hasher) g.F.ComputeFn.changes (world_state_of c.self.inside) c.self.invariant
     c.make_room.new.list.items c.in_ok-make_room.ensures.same c.in_ok-make_room.ensures.few c.args.party (grind (arith, common_steps, c.if-party-len.true, c.len.ensures)) c.push_reserved.new.self.items c.push_reserved.ensures.items).0
 
 pub overflow_add-caller : goal.overflow_add-caller
 overflow_add-caller g c =
-    let at = lent_at c.self.inside.callers.items c.args.party c.index_mut-caller.result.now _ (grind (arith, common_steps, c.if-party-len.false, c.len.ensures)) c.index_mut-caller.ensures.value c.caller.view_is in
-    let most = steps_within g.K.Ord.cmp g.met.K.Ord.total (g.S.KeyHasher.hash_of c.self.inside.hasher) (g.met.S.KeyHasher.alike c.self.inside.hasher) g.F.Change.changes (shown_of c.self.inside) c.self.invariant c.args.party _ at in
+    let at = lent_at c.self.inside.party_records.items c.args.party c.index_mut-caller.result.now _ (grind (arith, common_steps, c.if-party-len.false, c.len.ensures)) c.index_mut-caller.ensures.value c.caller.view_is in
+    let most = steps_within g.K.Ord.cmp g.met.K.Ord.total (g.S.KeyHasher.hash_of c.self.inside.hasher) (g.met.S.KeyHasher.alike c.self.inside.hasher) g.F.ComputeFn.changes (world_state_of c.self.inside) c.self.invariant c.args.party _ at in
     record { fits = omega (arith, most) }
 
-pub step_of-label-requires : goal.step_of-label-requires
-step_of-label-requires g c =
-    part_there g.K.Ord.cmp g.met.K.Ord.total (g.S.KeyHasher.hash_of c.self.inside.hasher) (g.met.S.KeyHasher.alike c.self.inside.hasher) g.F.Change.changes (shown_of c.self.inside) c.self.invariant c.args.party _
-    (lent_at c.self.inside.callers.items c.args.party c.index_mut-caller.result.now _ (grind (arith, common_steps, c.if-party-len.false, c.len.ensures)) c.index_mut-caller.ensures.value c.caller.view_is)
+pub step_party-label-requires : goal.step_party-label-requires
+step_party-label-requires g c =
+    part_there g.K.Ord.cmp g.met.K.Ord.total (g.S.KeyHasher.hash_of c.self.inside.hasher) (g.met.S.KeyHasher.alike c.self.inside.hasher) g.F.ComputeFn.changes (world_state_of c.self.inside) c.self.invariant c.args.party _
+    (lent_at c.self.inside.party_records.items c.args.party c.index_mut-caller.result.now _ (grind (arith, common_steps, c.if-party-len.false, c.len.ensures)) c.index_mut-caller.ensures.value c.caller.view_is)
 
 pub invariant_of-self-2 : goal.invariant_of-self-2
 invariant_of-self-2 g c =
-    (party_step g.K.Ord.cmp g.met.K.Ord.total (g.S.KeyHasher.hash_of c.self.inside.hasher) (g.met.S.KeyHasher.alike c.self.inside.hasher) g.F.Change.changes (shown_of c.self.inside) c.self.invariant
+    (party_step g.K.Ord.cmp g.met.K.Ord.total (g.S.KeyHasher.hash_of c.self.inside.hasher) (g.met.S.KeyHasher.alike c.self.inside.hasher) g.F.ComputeFn.changes (world_state_of c.self.inside) c.self.invariant
     c.make_room.new.list.items c.in_ok-make_room.ensures.same c.in_ok-make_room.ensures.few c.args.party _
-    (lent_at c.self.inside.callers.items c.args.party c.index_mut-caller.result.now _ (grind (arith, common_steps, c.if-party-len.false, c.len.ensures)) c.index_mut-caller.ensures.value c.caller.view_is)
-    c.step_of-label.new.call c.step_of-label.new.parts.board c.step_of-label.new.parts.tables c.step_of-label.result c.step_of-label.ensures _ refl c.push_reserved-2.new.self.items c.push_reserved-2.ensures.items).0
+    (lent_at c.self.inside.party_records.items c.args.party c.index_mut-caller.result.now _ (grind (arith, common_steps, c.if-party-len.false, c.len.ensures)) c.index_mut-caller.ensures.value c.caller.view_is)
+    c.step_party-label.new.call c.step_party-label.new.parts.control_state c.step_party-label.new.parts.tables c.step_party-label.result c.step_party-label.ensures _ refl c.push_reserved-2.new.self.items c.push_reserved-2.ensures.items).0
 
 pub returns-clause-ok : goal.returns-clause-ok
 returns-clause-ok g c =
     rw (← c.self.view_is)
-    (party_step g.K.Ord.cmp g.met.K.Ord.total (g.S.KeyHasher.hash_of c.self.inside.hasher) (g.met.S.KeyHasher.alike c.self.inside.hasher) g.F.Change.changes (shown_of c.self.inside) c.self.invariant
+    (party_step g.K.Ord.cmp g.met.K.Ord.total (g.S.KeyHasher.hash_of c.self.inside.hasher) (g.met.S.KeyHasher.alike c.self.inside.hasher) g.F.ComputeFn.changes (world_state_of c.self.inside) c.self.invariant
     c.make_room.new.list.items c.in_ok-make_room.ensures.same c.in_ok-make_room.ensures.few c.args.party _
-    (lent_at c.self.inside.callers.items c.args.party c.index_mut-caller.result.now _ (grind (arith, common_steps, c.if-party-len.false, c.len.ensures)) c.index_mut-caller.ensures.value c.caller.view_is)
-    c.step_of-label.new.call c.step_of-label.new.parts.board c.step_of-label.new.parts.tables c.step_of-label.result c.step_of-label.ensures _ refl c.push_reserved-2.new.self.items c.push_reserved-2.ensures.items).1
+    (lent_at c.self.inside.party_records.items c.args.party c.index_mut-caller.result.now _ (grind (arith, common_steps, c.if-party-len.false, c.len.ensures)) c.index_mut-caller.ensures.value c.caller.view_is)
+    c.step_party-label.new.call c.step_party-label.new.parts.control_state c.step_party-label.new.parts.tables c.step_party-label.result c.step_party-label.ensures _ refl c.push_reserved-2.new.self.items c.push_reserved-2.ensures.items).1
 
 pub returns-then-party-len-clause-line : goal.returns-then-party-len-clause-line
 returns-then-party-len-clause-line g c =
     rw (← c.self.view_is)
-    (unknown_step g.K.Ord.cmp g.met.K.Ord.total (g.S.KeyHasher.hash_of c.self.inside.hasher) (g.met.S.KeyHasher.alike c.self.inside.hasher) g.F.Change.changes (shown_of c.self.inside) c.self.invariant
+    (unknown_step g.K.Ord.cmp g.met.K.Ord.total (g.S.KeyHasher.hash_of c.self.inside.hasher) (g.met.S.KeyHasher.alike c.self.inside.hasher) g.F.ComputeFn.changes (world_state_of c.self.inside) c.self.invariant
     c.make_room.new.list.items c.in_ok-make_room.ensures.same c.in_ok-make_room.ensures.few c.args.party (grind (arith, common_steps, c.if-party-len.true, c.len.ensures)) c.push_reserved.new.self.items c.push_reserved.ensures.items).2
 
 pub returns-clause-line : goal.returns-clause-line
 returns-clause-line g c =
     rw (← c.self.view_is)
-    (party_step g.K.Ord.cmp g.met.K.Ord.total (g.S.KeyHasher.hash_of c.self.inside.hasher) (g.met.S.KeyHasher.alike c.self.inside.hasher) g.F.Change.changes (shown_of c.self.inside) c.self.invariant
+    (party_step g.K.Ord.cmp g.met.K.Ord.total (g.S.KeyHasher.hash_of c.self.inside.hasher) (g.met.S.KeyHasher.alike c.self.inside.hasher) g.F.ComputeFn.changes (world_state_of c.self.inside) c.self.invariant
     c.make_room.new.list.items c.in_ok-make_room.ensures.same c.in_ok-make_room.ensures.few c.args.party _
-    (lent_at c.self.inside.callers.items c.args.party c.index_mut-caller.result.now _ (grind (arith, common_steps, c.if-party-len.false, c.len.ensures)) c.index_mut-caller.ensures.value c.caller.view_is)
-    c.step_of-label.new.call c.step_of-label.new.parts.board c.step_of-label.new.parts.tables c.step_of-label.result c.step_of-label.ensures _ refl c.push_reserved-2.new.self.items c.push_reserved-2.ensures.items).2
+    (lent_at c.self.inside.party_records.items c.args.party c.index_mut-caller.result.now _ (grind (arith, common_steps, c.if-party-len.false, c.len.ensures)) c.index_mut-caller.ensures.value c.caller.view_is)
+    c.step_party-label.new.call c.step_party-label.new.parts.control_state c.step_party-label.new.parts.tables c.step_party-label.result c.step_party-label.ensures _ refl c.push_reserved-2.new.self.items c.push_reserved-2.ensures.items).2

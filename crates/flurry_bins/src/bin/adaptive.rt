@@ -1,0 +1,354 @@
+//! A bin that is a list while it is small, and a tree else.
+ghost use Rattle.std.specs.Prelude.{◌≡◌, ◌<◌, ◌^◌, ◌||◌, ◌&&◌, ◌+◌, nat_le, [], length, map, false, Some, IsSome, IsNone};
+ghost use Rattle.std.specs.Option.{option_map};
+ghost use Rattle.std.specs.Arc.{arc_value};
+ghost use Rattle.flurry_bins.specs.Chain.{chain, entry_of};
+ghost use Rattle.flurry_bins.specs.Entries.{entry_at, with_entry, with_value_at, without, with_bit};
+ghost use Rattle.flurry_model.specs.Greatest.{greatest};
+ghost use Rattle.flurry_bins.specs.WayBound.{way_bound};
+ghost use Rattle.flurry_bins.specs.Kind.{kind_entries, kind_is_tree};
+ghost use Rattle.flurry_model.specs.BinSizes.{IsSized, IsSized-prop};
+ghost use Rattle.flurry_model.specs.declared.sizes.TheConstants.{LEAST_IN_TREE, MOST_IN_LIST, MOST_PAIRS};
+
+mod retain;
+
+use super::entry::Entry;
+use super::list::ListBin;
+use super::node::{BoxedNode, Link, Node};
+use super::ordered::Ordered;
+use super::tree::TreeBin;
+use flurry_model::sizes::{LEAST_IN_TREE, MOST_IN_LIST};
+use std::alloc::{Allocator, Global};
+use std::mem;
+use std::sync::Arc;
+
+/// Which kind of bin a [`Bin`] is, and how many entries it has.
+#[derive(Clone, Copy, Debug, PartialEq, Eq)]
+pub enum Shape {
+    /// A list with no entry.
+    Empty,
+    /// A list of so many entries, at least one and at most nine.
+    List(usize),
+    /// A tree of so many entries, at least seven.
+    Tree(usize),
+}
+
+#[derive(Drop)]
+enum Kind<K: Ord, V, A: Allocator = Global> {
+    AsList(ListBin<K, V, A>),
+    AsTree(TreeBin<K, V, A>),
+}
+
+/// A list of at most nine nodes, or a tree of at least seven. A look-up among `n` entries visits at most nine nodes, or twice
+/// as many as `n + 1` has binary digits, whichever is more.
+///
+/// No call takes memory: a list and a tree are made of the same nodes, so each turns into the other as it stands.
+///
+/// - A list of nine nodes becomes a tree when a tenth is put in, or when it is planted.
+/// - A tree that a removal leaves with six nodes becomes a list.
+/// - The halves of a list are lists. A half of a tree is a tree if it has at least seven nodes, and a list else.
+/// - A list that is taken over becomes a tree if it has more than nine nodes.
+#[derive(Drop)]
+pub struct Bin<K: Ord, V, A: Allocator = Global> {
+    kind: Kind<K, V, A>,
+    ghost sized: { IsSized (kind_is_tree kind) (length (kind_entries kind)) } by { IsSized-prop (kind_is_tree kind) (length (kind_entries kind)) },
+}
+
+// A tree from so many entries on, and a list below.
+fn kind_from<K: Ord + Drop, V: Drop, A: Allocator>(
+    list: ListBin<K, V, A>,
+    least_tree: usize,
+) -> Kind<K, V, A>
+    ensures entries { kind_entries result ≡ chain list.head }
+    ensures kind { kind_is_tree result ≡ nat_le least_tree (length (chain list.head)) }
+{
+    if list.len() >= least_tree {
+        Kind::AsTree(TreeBin::from_list(list))
+    } else {
+        Kind::AsList(list)
+    }
+}
+
+// A list of nine as a tree, and anything else as it is.
+fn plant_kind<K: Ord + Drop, V: Drop, A: Allocator>(kind: Kind<K, V, A>) -> Kind<K, V, A>
+    ensures entries { kind_entries result ≡ kind_entries kind }
+    ensures kind { kind_is_tree result ≡ (kind_is_tree kind || nat_le MOST_IN_LIST (length (kind_entries kind))) }
+{
+    match kind {
+        Kind::AsList(list) => kind_from(list, MOST_IN_LIST),
+        Kind::AsTree(tree) => Kind::AsTree(tree),
+    }
+}
+
+// Puts in a node whose place is free.
+fn put_into<K: Ord + Drop, V: Drop, A: Allocator>(
+    kind: Kind<K, V, A>,
+    node: BoxedNode<K, V, A>,
+) -> Kind<K, V, A>
+    requires absent { let e = entry_of node.value in
+        IsNone (entry_at K.cmp e.hash (arc_value e.key) (kind_entries kind)) }
+    requires room { length (kind_entries kind) < MOST_PAIRS }
+    ensures entries { kind_entries result ≡ with_entry K.cmp (entry_of node.value) (kind_entries kind) }
+    ensures kind { kind_is_tree result ≡ kind_is_tree kind }
+{
+    match kind {
+        Kind::AsList(mut list) => {
+            list.put_node(node);
+            Kind::AsList(list)
+        }
+        Kind::AsTree(mut tree) => {
+            tree.put_node(node);
+            Kind::AsTree(tree)
+        }
+    }
+}
+
+// Takes out the node of a place; a tree that is left with six nodes is a list then.
+fn take_from<K: Ord + Drop, V: Drop, A: Allocator>(
+    kind: Kind<K, V, A>,
+    hash: u64,
+    key: &K,
+) -> (Kind<K, V, A>, Link<K, V, A>)
+    ensures removed { option_map (λ b. entry_of b.value) result.1 ≡ entry_at K.cmp hash key.now (kind_entries kind) }
+    ensures entries { kind_entries result.0 ≡ without K.cmp hash key.now (kind_entries kind) }
+    ensures kind { kind_is_tree result.0
+        ≡ (kind_is_tree kind && nat_le LEAST_IN_TREE (length (kind_entries result.0))) }
+{
+    match kind {
+        Kind::AsList(mut list) => {
+            let node = list.remove(hash, key);
+            (Kind::AsList(list), node)
+        }
+        Kind::AsTree(mut tree) => {
+            let node = tree.remove(hash, key);
+            if tree.len() < LEAST_IN_TREE {
+                (Kind::AsList(tree.into_list()), node)
+            } else {
+                (Kind::AsTree(tree), node)
+            }
+        }
+    }
+}
+
+// Puts another value at a place that is taken, and hands out the old one.
+fn write_into<K: Ord + Drop, V: Drop, A: Allocator>(
+    kind: Kind<K, V, A>,
+    hash: u64,
+    key: &K,
+    value: Arc<V, A>,
+    number: u64,
+) -> (Kind<K, V, A>, Arc<V, A>)
+    requires { IsSome (entry_at K.cmp hash key.now (kind_entries kind)) }
+    ensures old { option_map (λ e. e.value) (entry_at K.cmp hash key.now (kind_entries kind)) ≡ Some result.1 }
+    ensures entries { kind_entries result.0 ≡ with_value_at K.cmp hash key.now value number (kind_entries kind) }
+    ensures kind { kind_is_tree result.0 ≡ kind_is_tree kind }
+{
+    match kind {
+        Kind::AsList(mut list) => {
+            let old = list.replace(hash, key, value, number);
+            (Kind::AsList(list), old)
+        }
+        Kind::AsTree(mut tree) => {
+            let old = tree.replace(hash, key, value, number);
+            (Kind::AsTree(tree), old)
+        }
+    }
+}
+
+#[tactic(auto, unfolding(crate::specs::Bin::entries_of_bin, crate::specs::Bin::is_tree))]
+impl<K: Ord, V, A: Allocator> Bin<K, V, A> {
+    ghost use Rattle.flurry_bins.specs.Bin.{entries_of_bin, is_tree};
+
+    /// A bin with no entry. Constant time.
+    pub fn new() -> Self
+        ensures entries { entries_of_bin result ≡ [] }
+        ensures kind { is_tree result ≡ false }
+    {
+        Bin {
+            kind: Kind::AsList(ListBin::new()),
+        }
+    }
+}
+
+#[tactic(auto, unfolding(crate::specs::Bin::entries_of_bin, crate::specs::Bin::is_tree))]
+impl<K: Ord + Drop, V: Drop, A: Allocator> Bin<K, V, A> {
+    ghost use Rattle.flurry_bins.specs.Bin.{entries_of_bin, is_tree, shape_of_bin};
+
+    /// Whether the bin is a list or a tree, and of how many entries. Constant time.
+    pub fn shape(&self) -> Shape
+        ensures { result ≡ shape_of_bin self.now }
+    {
+        match &self.kind {
+            Kind::AsList(list) => {
+                let count = list.len();
+                if count == 0 {
+                    Shape::Empty
+                } else {
+                    Shape::List(count)
+                }
+            }
+            Kind::AsTree(tree) => Shape::Tree(tree.len()),
+        }
+    }
+
+    /// The greatest write number of the entries, 0 where there is none. Linear time.
+    pub fn greatest_number(&self) -> u64
+        ensures { result ≡ greatest (map (λ e. e.number) (entries_of_bin self.now)) }
+    {
+        match &self.kind {
+            Kind::AsList(list) => list.greatest_number(),
+            Kind::AsTree(tree) => tree.greatest_number(),
+        }
+    }
+
+    /// Makes a tree of a list of nine nodes, and leaves any other bin as it is. Constant time; takes no memory.
+    pub fn plant(&mut self)
+        ensures entries { entries_of_bin self.new ≡ entries_of_bin self.old }
+        ensures kind { is_tree self.new ≡ (is_tree self.old || nat_le MOST_IN_LIST (length (entries_of_bin self.old))) }
+    {
+        let kind = mem::replace(&mut self.kind, Kind::AsList(ListBin::new()));
+        self.kind = plant_kind(kind);
+    }
+}
+
+#[tactic(auto, unfolding(crate::specs::Bin::entries_of_bin, crate::specs::Bin::is_tree, crate::specs::Bin::bin_way))]
+impl<K: Ord + Drop, V: Drop, A: Allocator> Ordered<K, V, A> for Bin<K, V, A> {
+    ghost use Rattle.flurry_bins.specs.Bin.{entries_of_bin, entries_of_list, is_tree, bin_way, bin_way-bounded, ascending_of_bin, short_of_bin};
+
+    type Boxed = Box<Node<K, V, A>, A>;
+
+    type Shared = Arc<V, A>;
+
+    type List = ListBin<K, V, A>;
+
+    ghost entry_in = { λ b. entry_of b.value };
+
+    ghost shared = { λ v. v };
+
+    ghost listed = { λ b. entries_of_list b };
+
+    ghost entries = { λ b. entries_of_bin b };
+
+    ghost way = { λ b h k. bin_way K.cmp h k b };
+
+    ghost most_met = { way_bound };
+
+    ghost ascending = { λ b. ascending_of_bin b };
+
+    ghost short = { λ b. short_of_bin b };
+
+    ghost met_bounded = { λ b h k. bin_way-bounded K.cmp h k b };
+
+    fn len(&self) -> usize {
+        match &self.kind {
+            Kind::AsList(list) => list.len(),
+            Kind::AsTree(tree) => tree.len(),
+        }
+    }
+
+    fn find(&self, hash: u64, key: &K) -> (Option<&Entry<K, V, A>>, u64) {
+        match &self.kind {
+            Kind::AsList(list) => list.find(hash, key),
+            Kind::AsTree(tree) => tree.find(hash, key),
+        }
+    }
+
+    fn next_after(&self, bound: Option<(u64, &K)>) -> Option<&Entry<K, V, A>> {
+        match &self.kind {
+            Kind::AsList(list) => list.next_after(bound),
+            Kind::AsTree(tree) => tree.next_after(bound),
+        }
+    }
+
+    fn replace(&mut self, hash: u64, key: &K, value: Arc<V, A>, number: u64) -> Arc<V, A>
+        requires { IsSome (entry_at K.cmp hash key.now (entries_of_bin self.old)) }
+        ensures old { option_map (λ e. e.value) (entry_at K.cmp hash key.now (entries_of_bin self.old)) ≡ Some result }
+        ensures after { entries_of_bin self.new
+            ≡ with_value_at K.cmp hash key.now value number (entries_of_bin self.old) }
+        ensures kind { is_tree self.new ≡ is_tree self.old }
+    {
+        let kind = mem::replace(&mut self.kind, Kind::AsList(ListBin::new()));
+        let (kind, old) = write_into(kind, hash, key, value, number);
+        self.kind = kind;
+        old
+    }
+
+    // A list of nine nodes is made a tree first.
+    fn put_node(&mut self, node: BoxedNode<K, V, A>)
+        requires absent { let e = entry_of node.value in
+            IsNone (entry_at K.cmp e.hash (arc_value e.key) (entries_of_bin self.old)) }
+        requires room { length (entries_of_bin self.old) < MOST_PAIRS }
+        ensures after { entries_of_bin self.new ≡ with_entry K.cmp (entry_of node.value) (entries_of_bin self.old) }
+        ensures kind { is_tree self.new ≡ (is_tree self.old || nat_le MOST_IN_LIST (length (entries_of_bin self.old))) }
+    {
+        let kind = mem::replace(&mut self.kind, Kind::AsList(ListBin::new()));
+        self.kind = put_into(plant_kind(kind), node);
+    }
+
+    // A tree that is left with six nodes is made a list.
+    fn remove(&mut self, hash: u64, key: &K) -> Link<K, V, A>
+        ensures removed { option_map (λ b. entry_of b.value) result
+            ≡ entry_at K.cmp hash key.now (entries_of_bin self.old) }
+        ensures after { entries_of_bin self.new ≡ without K.cmp hash key.now (entries_of_bin self.old) }
+        ensures kind { is_tree self.new
+            ≡ (is_tree self.old && nat_le LEAST_IN_TREE (length (entries_of_bin self.new))) }
+    {
+        let kind = mem::replace(&mut self.kind, Kind::AsList(ListBin::new()));
+        let (kind, node) = take_from(kind, hash, key);
+        self.kind = kind;
+        node
+    }
+
+    // A half of a tree is a tree from seven nodes on, and a half of a list is a list.
+    fn split(self, bit: u8) -> (Self, Self)
+        requires { bit < 64 }
+        ensures low { entries_of_bin result.0 ≡ with_bit bit 0 (entries_of_bin self) }
+        ensures high { entries_of_bin result.1 ≡ with_bit bit 1 (entries_of_bin self) }
+        ensures low_kind { is_tree result.0
+            ≡ (is_tree self && nat_le LEAST_IN_TREE (length (entries_of_bin result.0))) }
+        ensures high_kind { is_tree result.1
+            ≡ (is_tree self && nat_le LEAST_IN_TREE (length (entries_of_bin result.1))) }
+    {
+        let Bin { kind } = self;
+        match kind {
+            Kind::AsList(list) => {
+                let (low, high) = list.split(bit);
+                let low = Bin {
+                    kind: Kind::AsList(low),
+                };
+                let high = Bin {
+                    kind: Kind::AsList(high),
+                };
+                (low, high)
+            }
+            Kind::AsTree(tree) => {
+                let (low, high) = tree.into_list().split(bit);
+                let low = Bin {
+                    kind: kind_from(low, LEAST_IN_TREE),
+                };
+                let high = Bin {
+                    kind: kind_from(high, LEAST_IN_TREE),
+                };
+                (low, high)
+            }
+        }
+    }
+
+    fn into_list(self) -> ListBin<K, V, A> {
+        let Bin { kind } = self;
+        match kind {
+            Kind::AsList(list) => list,
+            Kind::AsTree(tree) => tree.into_list(),
+        }
+    }
+
+    // More than nine nodes are made a tree.
+    fn from_list(list: ListBin<K, V, A>) -> Self
+        ensures entries { entries_of_bin result ≡ entries_of_list list }
+        ensures kind { is_tree result ≡ nat_le (MOST_IN_LIST + 1) (length (entries_of_list list)) }
+    {
+        Bin {
+            kind: kind_from(list, MOST_IN_LIST + 1),
+        }
+    }
+}

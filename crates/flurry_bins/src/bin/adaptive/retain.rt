@@ -1,0 +1,58 @@
+//! Keeping some of the entries of a bin.
+ghost use Rattle.std.specs.Prelude.{◌≡◌, ◌&&◌, nat_le, length};
+ghost use Rattle.flurry_model.specs.Keeping.{Keeps};
+ghost use Rattle.flurry_bins.specs.EntryCall.{CalledAtEntry};
+ghost use Rattle.flurry_bins.specs.Kind.{kind_entries, kind_is_tree};
+ghost use Rattle.flurry_model.specs.declared.sizes.TheConstants.{LEAST_IN_TREE};
+
+use super::{Bin, Kind, kind_from};
+use crate::bin::list::ListBin;
+use crate::bin::ordered::Ordered;
+use flurry_model::sizes::LEAST_IN_TREE;
+use std::alloc::Allocator;
+use std::mem;
+
+// Keeps the entries at which the function answers true; a tree that is left with fewer than seven nodes is a list then.
+fn retained<K: Ord + Drop, V: Drop, A: Allocator, F: FnMut(&K, &V) -> bool>(
+    kind: Kind<K, V, A>,
+    keep: &mut F,
+) -> Kind<K, V, A>
+    requires { F.IsAlwaysCallable keep.old }
+    ensures kept { Keeps (CalledAtEntry F.step) keep.old (kind_entries kind) (kind_entries result) keep.new }
+    ensures kind { kind_is_tree result ≡ (kind_is_tree kind && nat_le LEAST_IN_TREE (length (kind_entries result))) }
+    ensures callable { F.IsAlwaysCallable keep.new }
+{
+    match kind {
+        Kind::AsList(mut list) => {
+            list.retain(keep);
+            Kind::AsList(list)
+        }
+        Kind::AsTree(tree) => {
+            let mut list = tree.into_list();
+            list.retain(keep);
+            kind_from(list, LEAST_IN_TREE)
+        }
+    }
+}
+
+impl<K: Ord + Drop, V: Drop, A: Allocator> Bin<K, V, A> {
+    ghost use Rattle.flurry_bins.specs.Bin.{entries_of_bin, is_tree};
+
+    #[tactic(auto, unfolding(crate::specs::Bin::entries_of_bin, crate::specs::Bin::is_tree))]
+    /// Calls a function once on the key and the value of each entry, in the order of the entries, and keeps the entries at which
+    /// it answers true.
+    ///
+    /// A list stays a list. A tree stays a tree if it keeps at least seven entries, and becomes a list else. As many calls as
+    /// there are entries; takes no memory.
+    pub fn retain<F: FnMut(&K, &V) -> bool>(&mut self, keep: &mut F)
+        requires { F.IsAlwaysCallable keep.old }
+        ensures kept { Keeps (CalledAtEntry F.step) keep.old (entries_of_bin self.old)
+            (entries_of_bin self.new) keep.new }
+        ensures kind { is_tree self.new
+            ≡ (is_tree self.old && nat_le LEAST_IN_TREE (length (entries_of_bin self.new))) }
+        ensures callable { F.IsAlwaysCallable keep.new }
+    {
+        let kind = mem::replace(&mut self.kind, Kind::AsList(ListBin::new()));
+        self.kind = retained(kind, keep);
+    }
+}

@@ -1,0 +1,43 @@
+//! A function that a computation calls on the pair of a present key.
+ghost use Rattle.std.specs.Prelude.{None, ◌≡◌, ℕ, Option};
+ghost use Rattle.flurry_slots.specs.ComputeFn.{AnswersAtPair};
+
+/// A call on a key and its value that answers the new value, or none to take the pair out.
+///
+/// Each `FnOnce(&K, &V) -> Option<V>` that may be dropped is one.
+pub trait ComputeFn<K, V>: Drop {
+    // That it may be called.
+    ghost can_change: { Self → Type 0 };
+
+    // What it may answer.
+    ghost changes: { Self → K → V → Option V → Type 0 };
+
+    /// Calls it.
+    fn change(self, key: &K, value: &V) -> Option<V>
+        requires { can_change self }
+        ensures { changes self key.now value.now result };
+}
+
+impl<K, V, F: FnOnce(&K, &V) -> Option<V> + Drop> ComputeFn<K, V> for F {
+    ghost can_change = { λ f. F.IsAlwaysCallable f };
+
+    ghost changes = { AnswersAtPair F.FnOnce };
+
+    fn change(self, key: &K, value: &V) -> Option<V> {
+        self(key, value)
+    }
+}
+
+/// Stands for the function of a call that has none; it takes the pair out.
+#[derive(Clone, Copy, Debug)]
+pub struct NoFn;
+
+impl<K, V> ComputeFn<K, V> for NoFn {
+    ghost can_change = { λ _. Unit {0} };
+
+    ghost changes = { λ _ _ _ r. r ≡ None };
+
+    fn change(self, _key: &K, _value: &V) -> Option<V> {
+        None
+    }
+}

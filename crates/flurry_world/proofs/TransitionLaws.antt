@@ -1,0 +1,243 @@
+-- The transitions of the machine, as steps of a world.
+use Rattle.std.specs.Prelude.{ℕ, ℤ, pos, ◌+ℤ◌, ◌-ℤ◌, suc, ◌+◌, ◌-◌, ◌^◌, ◌%◌, ◌<◌, ◌==◌, Bool, true, false, cond, ◌&&◌, nat_lt, List, [], ◌∷◌, length, reverse, slice_get, Option, Some, None, option_map, if◌then◌else◌, unwrap_or, ◌≡◌}
+use Rattle.std.specs.declared.cmp.Ordering.{Ordering}
+use Rattle.std.proofs.Common.{arith, refl, sym, ◌∙◌, ap}
+use Rattle.std.proofs.lemmas.Bool.{eqb-true}
+use Rattle.std.proofs.lemmas.Int.{ints}
+use Rattle.std.proofs.lemmas.Option.{slice_get_within}
+use Rattle.flurry_theory.proofs.Ranges.{place_here, total-change, total-zero}
+use Rattle.flurry_model.specs.declared.reply.KeptReply.{KeptReply}
+use Rattle.flurry_theory.specs.Bin.{Entry, half}
+use Rattle.flurry_theory.specs.Machine as machine
+use Rattle.flurry_theory.specs.Machine.{State, Mode, Done, Slot, Live, Moved, Transition, total, owes_added, owes_removed, mode_after_count, at_place, at_bin, effect, does, goes, label, Begins, Quiet, Counts, Finds, Opens, FindsNothing, IsRefused, DecidesEmpty, Passes, Decides, Places, Claims, Moves, Reports, Publishes, Replies, Ends, found_by}
+use Rattle.flurry_model.specs.declared.call.Call.{Call}
+use Rattle.flurry_theory.specs.declared.Label.{Label}
+use Rattle.flurry_theory.specs.declared.Label.TheVariants as label
+use Rattle.flurry_steps.specs.Control.{IsIdle, Grows}
+use Rattle.flurry_steps.specs.Party.{PartyState}
+use Rattle.flurry_world.specs.Entries.{slot_of}
+use Rattle.flurry_world.specs.Tables.{Tables, content_at}
+use Rattle.flurry_world.specs.World.{PartyRecord, WorldState, state_of, start_of, mode_of_stage, claim_of_stage, claim_in}
+use Rattle.flurry_world.proofs.StateLaws.{IsLine, one_more_step, same_place}
+
+-- the sum at one number alone
+total-own : (f : ℕ → ℕ) (p n : ℕ) → p < n → total (λ q. if p == q then f q else 0) n ≡ f p
+total-own f p n l = omega (arith, total-change (λ q. if p == q then f q else 0) (λ _. 0) p n l (λ q ne. grind (arith, eqb-true p q, ne)), total-zero (λ _. 0) n (λ _. refl), place_here (λ _. 0) p (f p))
+
+-- the mode of one party alone is settled
+own_settled : {K V : Type 0} (f : ℕ → Mode K V) (p : ℕ) (m : Mode K V) → mode_after_count (f p) ≡ m → (q : ℕ) → at_place f p m q ≡ cond (p == q) (mode_after_count (f q)) (f q)
+own_settled f p m h q = through (p == q) refl
+  where
+    through : (b : Bool) → (p == q) ≡ b → cond b m (f q) ≡ cond b (mode_after_count (f q)) (f q)
+    through true e = sym h ∙ ap (λ n. mode_after_count (f n)) (eqb-true p q e)
+    through false e = refl
+
+module _ {K V F S : Type 0} (cmp : K → K → Ordering) (hash : K → ℕ) (gives : F → K → V → Option V → Type 0) (w : WorldState K V F S) (p : ℕ) (x : PartyRecord K V F) (at : slice_get w.party_records p ≡ Some x) (c : PartyState K V F) where
+  begun : (state_of w).call p ≡ Some x.call
+  begun = ap (option_map (λ (z : PartyRecord K V F). z.call)) at
+
+  below : p < length w.party_records
+  below = slice_get_within w.party_records p x at
+
+  holds : (state_of w).claim p ≡ claim_of_stage x.party_state.stage
+  holds = ap claim_in at
+
+  stepped : (l : Transition K V F) → ((d : Call K V F) (f : Option ℕ) → l ≡ Begins d f → ⊥) → machine.steps_after cmp hash gives (state_of w) p l ≡ suc ((state_of w).steps p)
+  stepped l other = one_more_step cmp hash gives (state_of w) p _ x.call l begun refl other
+
+  -- a line that changes the party's mode alone
+  pub is_goes : (lab : Label K V F) (l : Transition K V F) (m : Mode K V) → effect cmp hash gives (state_of w) p l ≡ goes cmp hash gives (state_of w) p m → lab ≡ label cmp hash gives p l → ((d : Call K V F) (f : Option ℕ) → l ≡ Begins d f → ⊥)
+      → start_of w.first (lab ∷ reverse w.trace) ≡ (state_of w).start → mode_of_stage c.stage ≡ m → claim_of_stage c.stage ≡ claim_of_stage x.party_state.stage → IsLine cmp hash gives w p w.control_state w.tables c lab l
+  is_goes lab l m e named other start mode claim = record {
+    label_is = named;
+    steps_are = stepped l other;
+    start = start ∙ ap (λ z. z.start) (sym e);
+    published = ap (λ z. z.published) (sym e);
+    growth = ap (λ z. z.growth) (sym e);
+    slot = λ d j. ap (λ z. z.slot d j) (sym e);
+    parties = ap (λ z. z.parties) (sym e);
+    call = λ q. ap (λ z. z.call q) (sym e);
+    mode = λ q. ap (λ n. at_place (state_of w).mode p n q) mode ∙ ap (λ z. z.mode q) (sym e);
+    claim = λ q. same_place (state_of w).claim p (claim_of_stage c.stage) (holds ∙ sym claim) q ∙ ap (λ z. z.claim q) (sym e);
+    count = ap (λ z. z.count) (sym e);
+    seen = λ q. ap (λ z. z.seen q) (sym e);
+    began_from = λ q. ap (λ z. z.began_from q) (sym e);
+  }
+
+  pub is_quiet : mode_of_stage c.stage ≡ (state_of w).mode p → claim_of_stage c.stage ≡ claim_of_stage x.party_state.stage → IsLine cmp hash gives w p w.control_state w.tables c (label.Silent p) Quiet
+  is_quiet mode claim = is_goes (label.Silent p) Quiet ((state_of w).mode p) (λ i. record (state_of w) { mode = λ q. sym (same_place (state_of w).mode p ((state_of w).mode p) refl q) i }) refl (λ d f h. grind (arith, h)) refl mode claim
+
+  pub is_finds : (e : ℕ) → mode_of_stage c.stage ≡ found_by cmp hash gives (Some x.call) e → claim_of_stage c.stage ≡ claim_of_stage x.party_state.stage → IsLine cmp hash gives w p w.control_state w.tables c (label.Silent p) (Finds e)
+  is_finds e mode claim = is_goes (label.Silent p) (Finds e) _ refl refl (λ d f h. grind (arith, h)) refl (mode ∙ ap (λ o. found_by cmp hash gives o e) (sym begun)) claim
+
+  pub is_refused : mode_of_stage c.stage ≡ machine.Finished → claim_of_stage c.stage ≡ claim_of_stage x.party_state.stage → IsLine cmp hash gives w p w.control_state w.tables c (label.Refused p) IsRefused
+  is_refused mode claim = is_goes (label.Refused p) IsRefused _ refl refl (λ d f h. grind (arith, h)) refl mode claim
+
+  pub is_decided_empty : (d : Call K V F) (r : KeptReply K V) → mode_of_stage c.stage ≡ Done (Some r) 0 0 → claim_of_stage c.stage ≡ claim_of_stage x.party_state.stage → IsLine cmp hash gives w p w.control_state w.tables c (label.Decide p r) (DecidesEmpty d r)
+  is_decided_empty d r mode claim = is_goes (label.Decide p r) (DecidesEmpty d r) _ refl refl (λ d f h. grind (arith, h)) refl mode claim
+
+  pub is_passed : (e : ℕ) → mode_of_stage c.stage ≡ machine.Looking (suc e) → claim_of_stage c.stage ≡ claim_of_stage x.party_state.stage → IsLine cmp hash gives w p w.control_state w.tables c (label.Silent p) (Passes e)
+  is_passed e mode claim = is_goes (label.Silent p) (Passes e) _ refl refl (λ d f h. grind (arith, h)) refl mode claim
+
+  pub is_replied : (r : KeptReply K V) → mode_of_stage c.stage ≡ machine.Finished → claim_of_stage c.stage ≡ claim_of_stage x.party_state.stage → IsLine cmp hash gives w p w.control_state w.tables c (label.Reply p r) (Replies r)
+  is_replied r mode claim = is_goes (label.Reply p r) (Replies r) _ refl refl (λ d f h. grind (arith, h)) refl mode claim
+
+  pub is_ended : mode_of_stage c.stage ≡ machine.Finished → claim_of_stage c.stage ≡ claim_of_stage x.party_state.stage → IsLine cmp hash gives w p w.control_state w.tables c (label.End p) Ends
+  is_ended mode claim = is_goes (label.End p) Ends _ refl refl (λ d f h. grind (arith, h)) refl mode claim
+
+  -- the pairs that it added or removed are counted
+  pub is_counted : (r : Option (KeptReply K V)) (added removed : ℕ) (n : ℤ) → (state_of w).mode p ≡ Done r added removed → n ≡ w.control_state.count +ℤ pos added -ℤ pos removed → mode_of_stage c.stage ≡ Done r 0 0 → claim_of_stage c.stage ≡ claim_of_stage x.party_state.stage
+      → IsLine cmp hash gives w p (record { published = w.control_state.published; growth = w.control_state.growth; count = n }) w.tables c (label.Silent p) (Counts (λ q. p == q))
+  is_counted r added removed n before count mode claim = record {
+    label_is = refl;
+    steps_are = stepped (Counts (λ q. p == q)) (λ d f h. grind (arith, h));
+    start = refl;
+    published = refl;
+    growth = refl;
+    slot = λ d j. refl;
+    parties = refl;
+    call = λ q. refl;
+    mode = λ q. own_settled (state_of w).mode p (mode_of_stage c.stage) (ap mode_after_count before ∙ sym mode) q;
+    claim = λ q. same_place (state_of w).claim p (claim_of_stage c.stage) (holds ∙ sym claim) q;
+    count = omega (arith, ints, count, total-own (λ q. owes_added ((state_of w).mode q)) p (length w.party_records) below, total-own (λ q. owes_removed ((state_of w).mode q)) p (length w.party_records) below, ap owes_added before, ap owes_removed before);
+    seen = λ q. refl;
+    began_from = λ q. refl;
+  }
+
+  -- the first table is made and published
+  pub is_opened : (e : ℕ) (t : Tables K V) → w.first ≡ None → ((d j : ℕ) → slot_of (content_at t d j) ≡ (if e == d && nat_lt j (2 ^ e) then Live [] 0 else slot_of (content_at w.tables d j)))
+      → mode_of_stage c.stage ≡ found_by cmp hash gives (Some x.call) e → claim_of_stage c.stage ≡ claim_of_stage x.party_state.stage
+      → IsLine cmp hash gives w p (record { published = Some e; growth = w.control_state.growth; count = w.control_state.count }) t c (label.Opened e) (Opens e)
+  is_opened e t none slot mode claim = record {
+    label_is = refl;
+    steps_are = stepped (Opens e) (λ d f h. grind (arith, h));
+    start = ap (λ f. unwrap_or f e) none;
+    published = refl;
+    growth = refl;
+    slot = slot;
+    parties = refl;
+    call = λ q. refl;
+    mode = λ q. ap (λ m. at_place (state_of w).mode p m q) (mode ∙ ap (λ o. found_by cmp hash gives o e) (sym begun));
+    claim = λ q. same_place (state_of w).claim p (claim_of_stage c.stage) (holds ∙ sym claim) q;
+    count = refl;
+    seen = λ q. refl;
+    began_from = λ q. refl;
+  }
+
+  -- a growth begins: its table has no bins yet
+  pub is_placed : (e : ℕ) (t : Tables K V) → ((d j : ℕ) → content_at t d j ≡ content_at w.tables d j) → mode_of_stage c.stage ≡ (state_of w).mode p → claim_of_stage c.stage ≡ claim_of_stage x.party_state.stage
+      → IsLine cmp hash gives w p (record { published = w.control_state.published; growth = Grows (2 ^ e) 0; count = w.control_state.count }) t c (label.Placed (suc e)) (Places e)
+  is_placed e t slot mode claim = record {
+    label_is = refl;
+    steps_are = stepped (Places e) (λ d f h. grind (arith, h));
+    start = refl;
+    published = refl;
+    growth = refl;
+    slot = λ d j. ap slot_of (slot d j);
+    parties = refl;
+    call = λ q. refl;
+    mode = λ q. same_place (state_of w).mode p (mode_of_stage c.stage) (sym mode) q;
+    claim = λ q. same_place (state_of w).claim p (claim_of_stage c.stage) (holds ∙ sym claim) q;
+    count = refl;
+    seen = λ q. refl;
+    began_from = λ q. refl;
+  }
+
+  -- bins are claimed
+  pub is_claimed : (e u r low : ℕ) → mode_of_stage c.stage ≡ (state_of w).mode p → claim_of_stage c.stage ≡ Some (record { table = e; low = low; left = u; high = u })
+      → IsLine cmp hash gives w p (record { published = w.control_state.published; growth = Grows low r; count = w.control_state.count }) w.tables c (label.Silent p) (Claims e (record { unclaimed = u; reported = r }) low)
+  is_claimed e u r low mode claim = record {
+    label_is = refl;
+    steps_are = stepped (Claims e (record { unclaimed = u; reported = r }) low) (λ d f h. grind (arith, h));
+    start = refl;
+    published = refl;
+    growth = refl;
+    slot = λ d j. refl;
+    parties = refl;
+    call = λ q. refl;
+    mode = λ q. same_place (state_of w).mode p (mode_of_stage c.stage) (sym mode) q;
+    claim = λ q. ap (λ a. at_place (state_of w).claim p a q) claim;
+    count = refl;
+    seen = λ q. refl;
+    began_from = λ q. refl;
+  }
+
+  -- a claim is reported, and is not the last one
+  pub is_reported : (a : machine.Claim) (u r : ℕ) → mode_of_stage c.stage ≡ (state_of w).mode p → claim_of_stage c.stage ≡ None
+      → IsLine cmp hash gives w p (record { published = w.control_state.published; growth = Grows u (r + (a.high - a.low)); count = w.control_state.count }) w.tables c (label.Silent p) (Reports a (record { unclaimed = u; reported = r }))
+  is_reported a u r mode claim = record {
+    label_is = refl;
+    steps_are = stepped (Reports a (record { unclaimed = u; reported = r })) (λ d f h. grind (arith, h));
+    start = refl;
+    published = refl;
+    growth = refl;
+    slot = λ d j. refl;
+    parties = refl;
+    call = λ q. refl;
+    mode = λ q. same_place (state_of w).mode p (mode_of_stage c.stage) (sym mode) q;
+    claim = λ q. ap (λ a. at_place (state_of w).claim p a q) claim;
+    count = refl;
+    seen = λ q. refl;
+    began_from = λ q. refl;
+  }
+
+  -- the last claim is reported, and the next table published
+  pub is_published : (a : machine.Claim) (g : machine.Growth) → mode_of_stage c.stage ≡ (state_of w).mode p → claim_of_stage c.stage ≡ None
+      → IsLine cmp hash gives w p (record { published = Some (suc a.table); growth = IsIdle; count = w.control_state.count }) w.tables c (label.Published (suc a.table)) (Publishes a g)
+  is_published a g mode claim = record {
+    label_is = refl;
+    steps_are = stepped (Publishes a g) (λ d f h. grind (arith, h));
+    start = refl;
+    published = refl;
+    growth = refl;
+    slot = λ d j. refl;
+    parties = refl;
+    call = λ q. refl;
+    mode = λ q. same_place (state_of w).mode p (mode_of_stage c.stage) (sym mode) q;
+    claim = λ q. ap (λ a. at_place (state_of w).claim p a q) claim;
+    count = refl;
+    seen = λ q. refl;
+    began_from = λ q. refl;
+  }
+
+  -- the next bin of its claim has moved
+  pub is_moved : (a : machine.Claim) (i : ℕ) (es : List (Entry K V)) (n : ℕ) (t : Tables K V)
+      → ((d j : ℕ) → slot_of (content_at t d j) ≡ at_bin (at_bin (at_bin (state_of w).slot a.table i Moved) (suc a.table) i (Live (half hash (suc a.table) i es) n)) (suc a.table) (i + 2 ^ a.table) (Live (half hash (suc a.table) (i + 2 ^ a.table) es) n) d j)
+      → mode_of_stage c.stage ≡ (state_of w).mode p → claim_of_stage c.stage ≡ Some (record { table = a.table; low = a.low; left = i; high = a.high })
+      → IsLine cmp hash gives w p w.control_state t c (label.Moved a.table i) (Moves a i es n)
+  is_moved a i es n t slot mode claim = record {
+    label_is = refl;
+    steps_are = stepped (Moves a i es n) (λ d f h. grind (arith, h));
+    start = refl;
+    published = refl;
+    growth = refl;
+    slot = slot;
+    parties = refl;
+    call = λ q. refl;
+    mode = λ q. same_place (state_of w).mode p (mode_of_stage c.stage) (sym mode) q;
+    claim = λ q. ap (λ a. at_place (state_of w).claim p a q) claim;
+    count = refl;
+    seen = λ q. refl;
+    began_from = λ q. refl;
+  }
+
+  -- it decides at its bin
+  pub is_decided : (d : Call K V F) (k : K) (e : ℕ) (es : List (Entry K V)) (n : ℕ) (r : KeptReply K V) (fs : List (Entry K V)) (m : ℕ) (t : Tables K V)
+      → ((g j : ℕ) → slot_of (content_at t g j) ≡ at_bin (state_of w).slot e (hash k % 2 ^ e) (Live fs m) g j)
+      → mode_of_stage c.stage ≡ Done (Some r) (length fs - length es) (length es - length fs) → claim_of_stage c.stage ≡ claim_of_stage x.party_state.stage
+      → IsLine cmp hash gives w p w.control_state t c (label.Decide p r) (Decides d k e es n r fs m)
+  is_decided d k e es n r fs m t slot mode claim = record {
+    label_is = refl;
+    steps_are = stepped (Decides d k e es n r fs m) (λ d f h. grind (arith, h));
+    start = refl;
+    published = refl;
+    growth = refl;
+    slot = slot;
+    parties = refl;
+    call = λ q. refl;
+    mode = λ q. ap (λ m. at_place (state_of w).mode p m q) mode;
+    claim = λ q. same_place (state_of w).claim p (claim_of_stage c.stage) (holds ∙ sym claim) q;
+    count = refl;
+    seen = λ q. refl;
+    began_from = λ q. refl;
+  }

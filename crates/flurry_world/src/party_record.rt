@@ -1,0 +1,64 @@
+//! A call of a world.
+ghost use Rattle.std.specs.Prelude.{◌≡◌};
+ghost use Rattle.flurry_steps.specs.PartyView.{owned_stage};
+ghost use Rattle.flurry_world.specs.Runs.{theory_call, hash_for};
+
+use flurry_model::hash::KeyHasher;
+use flurry_slots::ComputeFn;
+use flurry_steps::Party;
+use flurry_steps::party::OwnedCall;
+use flurry_theory::Call;
+use std::alloc::Allocator;
+use std::marker::Model;
+
+/// A call that began, where it stands, and how many steps it has done.
+#[derive(Drop)]
+pub(crate) struct PartyRecord<'k, K, V, F: ComputeFn<K, V>, A: Allocator> {
+    pub(crate) call: Call<K, V, F>,
+    pub(crate) party: Party<'k, K, V, F, A>,
+    pub(crate) steps: usize,
+}
+
+impl<'k, K, V, F: ComputeFn<K, V>, A: Allocator> Model for PartyRecord<'k, K, V, F, A> {
+    ghost use Rattle.flurry_world.specs.World.{PartyRecord};
+
+    ghost Value = { PartyRecord K V F };
+
+    ghost view = { λ c. record { call = c.call; party_state = c.party; steps = c.steps } };
+}
+
+// The call as labels keep it.
+pub(crate) fn theory_call<K, V, F>(call: OwnedCall<K, V, F>) -> Call<K, V, F>
+    ensures { result ≡ theory_call call }
+{
+    match call {
+        OwnedCall::Get(key) => Call::Get(key),
+        OwnedCall::GetKeyValue(key) => Call::GetKeyValue(key),
+        OwnedCall::ContainsKey(key) => Call::ContainsKey(key),
+        OwnedCall::Remove(key) => Call::Remove(key),
+        OwnedCall::RemoveEntry(key) => Call::RemoveEntry(key),
+        OwnedCall::Insert(key, value) => Call::Insert(key, value),
+        OwnedCall::TryInsert(key, value) => Call::TryInsert(key, value),
+        OwnedCall::Compute(key, f) => Call::Compute(key, f),
+        OwnedCall::Reserve(more) => Call::Reserve(more),
+    }
+}
+
+/// The hash by which a call goes: that of its key, and 0 of a call that has no key.
+///
+/// One hash of a key.
+pub fn hash_for<K: Ord, V, F, S: KeyHasher<K>>(hasher: &S, call: &OwnedCall<K, V, F>) -> u64
+    ensures { result ≡ hash_for (S.hash_of hasher.now) call.now }
+{
+    match call {
+        OwnedCall::Get(key)
+        | OwnedCall::GetKeyValue(key)
+        | OwnedCall::ContainsKey(key)
+        | OwnedCall::Remove(key)
+        | OwnedCall::RemoveEntry(key)
+        | OwnedCall::Insert(key, _)
+        | OwnedCall::TryInsert(key, _)
+        | OwnedCall::Compute(key, _) => hasher.hash_one(key),
+        OwnedCall::Reserve(_) => 0,
+    }
+}
