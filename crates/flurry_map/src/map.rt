@@ -148,7 +148,8 @@ impl<K: Ord + Drop, V: Drop, S: KeyHasher<K>, A: Allocator + Copy> HashMap<K, V,
 
     /// A further owner of the value of a key.
     ///
-    /// Takes the lock of the key's bin, to read, and of no other: a look-up that meets a bin that has moved goes on in the next table.
+    /// Takes the lock of the key's bin, to read, or the control's where no table was published yet. Where the bin has moved, it goes on
+    /// in the next table, and helps no growth.
     ///
     /// # Errors
     ///
@@ -236,8 +237,8 @@ impl<K: Ord + Drop, V: Drop, S: KeyHasher<K>, A: Allocator + Copy> HashMap<K, V,
     /// Sets the value of a key, and answers the old one. A key that is stored stays, and the one that was handed in is dropped.
     /// A new key may make the table larger; where the larger table finds no memory, the map stays in the old one.
     ///
-    /// Takes the lock of the key's bin, to write, and, where the key was absent, then the control's, to count. Where the bin has moved,
-    /// or a growth runs as the pair is counted, it helps the growth.
+    /// Takes the lock of the key's bin, to write, and, where the key was absent, then the control's, to count; before the first table
+    /// the control's, to make it. Where the bin has moved, or a growth runs as the pair is counted, it helps the growth.
     ///
     /// # Errors
     ///
