@@ -1,9 +1,11 @@
 //! The locks of a shared map.
+ghost use Rattle.std.specs.Prelude.{◌≤◌};
+ghost use Rattle.flurry_model.specs.declared.sizes.TheConstants.{GREATEST_TABLE};
 
 use crate::starts::Starts;
-use crate::tables::Tables;
+use crate::tables::{Maker, Tables};
 use flurry_steps::Control;
-use std::alloc::{Allocator, Global};
+use std::alloc::{AllocError, Allocator, Global};
 use std::sync::{Mutex, Wait};
 
 /// The control and the tables of a map that threads share, each part under a lock of its own, and the numbers that the control has
@@ -33,5 +35,30 @@ impl<K: Ord, V, A: Allocator> Locks<K, V, A> {
     /// The count of pairs, at one moment while the call runs. Takes the control's lock.
     pub fn len<R: Wait>(&self, rt: &R) -> usize {
         self.control.lock(rt).len()
+    }
+}
+
+impl<K: Ord + Drop, V: Drop, A: Allocator + Copy> Locks<K, V, A> {
+    /// The locks of a map whose first table is the one of this exponent, with empty bins. Linear time in the bins.
+    ///
+    /// # Errors
+    ///
+    /// [`AllocError`], where memory for the table is wanting.
+    pub fn with_table(alloc: A, table: u8) -> Result<Self, AllocError>
+        requires { table ≤ GREATEST_TABLE }
+    {
+        let tables = Tables::new();
+        let starts = Starts::new();
+        let mut control = Control::new();
+        control.open(table, &mut Maker::new(&tables, alloc))?;
+        if let Some(start) = control.start() {
+            starts.add(start);
+        }
+        Ok(Locks {
+            tables,
+            starts,
+            control: Mutex::new(control),
+            alloc,
+        })
     }
 }

@@ -1,0 +1,370 @@
+//! The shared map.
+ghost use Rattle.std.specs.Prelude.{◌≡◌, IfOk};
+ghost use Rattle.flurry_locks.specs.declared.lender.Lender.{Lender};
+ghost use Rattle.flurry_locks.specs.declared.tables.Maker.{Maker};
+ghost use Rattle.flurry_map.specs.Answers.{CanAnswerFrom, CanAdd, CanCompute};
+ghost use Rattle.flurry_map.specs.Driven.{IsDriven, hash_in, no_changes};
+ghost use Rattle.flurry_map.specs.Results.{value_outcome, pair_outcome, added_outcome, ended_outcome};
+ghost use Rattle.flurry_model.specs.Hashing.{seed_of};
+ghost use Rattle.flurry_model.specs.declared.reply.KeptReply.TheVariants as kept;
+ghost use Rattle.flurry_slots.specs.ComputeFn.{AnswersAtPair};
+ghost use Rattle.flurry_steps.specs.Party.{TheValue, ThePair, Presence, Finds, Removes, Inserts, Adds, Computes, AtLocate, AtReserve, OutcomeReply};
+ghost use Rattle.flurry_steps.specs.PartyView.{CallIsReady, first_stage, outcome_of, pair_value};
+ghost use Rattle.std.specs.Option.{option_map};
+ghost use Rattle.std.specs.Arc.{arc_value};
+
+use flurry_drive::drive;
+use flurry_locks::{Lender, Locks};
+use flurry_model::hash::{DefaultHashBuilder, KeyHasher};
+use flurry_model::try_insert::TryInsertError;
+use flurry_slots::{ComputeFn, NoFn};
+use flurry_steps::Party;
+use flurry_steps::control::wanted_table;
+use flurry_steps::party::{Call, Reply};
+use std::alloc::{AllocError, Allocator, Global};
+use std::hash::Hash;
+use std::marker::Model;
+use std::sync::{Arc, Wait};
+
+/// A map that threads share: each call takes `&self`, and may wait for others.
+///
+/// Every call is done in steps, and each step holds the lock of what it reads or changes: of one bin, of the bins of one move, or of
+/// what all calls agree upon, the control. No step waits for a lock of the control while it has one of a bin. A call of one key decides
+/// in one step, under the lock of one bin. It gives the key one hash, and visits at most as many pairs of the bin as the greater of 9
+/// and twice the binary digits of their number and 1.
+///
+/// A table is doubled when it has three pairs for four bins, while there is memory and it has fewer than 2^30 bins. Threads that meet a
+/// growth as they write help it along.
+#[derive(Drop)]
+pub struct HashMap<K: Ord, V, S: KeyHasher<K> = DefaultHashBuilder, A: Allocator = Global> {
+    locks: Locks<K, V, A>,
+    hasher: S,
+    processors: usize,
+}
+
+impl<K: Ord, V, S: KeyHasher<K>, A: Allocator> Model for HashMap<K, V, S, A> {
+    ghost use Rattle.flurry_map.specs.Driven.{Shared};
+
+    ghost Value = { Shared S };
+
+    ghost view = { λ m. record { hasher = m.hasher; processors = m.processors } };
+}
+
+impl<K: Hash + Ord + Drop, V: Drop, A: Allocator> HashMap<K, V, DefaultHashBuilder, A> {
+    /// An empty map without a table, over the default hasher whose seed is zero. It takes no memory.
+    pub fn new(alloc: A) -> Self
+        ensures seed { seed_of result.hasher ≡ 0 }
+        ensures processors { result.processors ≡ 1 }
+    {
+        HashMap::with_hasher(alloc, DefaultHashBuilder::default())
+    }
+
+    /// An empty map with a table for so many pairs, without one for 0. It is over the default hasher whose seed is zero.
+    ///
+    /// # Errors
+    ///
+    /// [`AllocError`], where memory for the table is wanting.
+    pub fn with_capacity(alloc: A, capacity: usize) -> Result<Self, AllocError>
+    where
+        A: Copy,
+        ensures seed { IfOk result (λ m. seed_of m.hasher ≡ 0) }
+        ensures processors { IfOk result (λ m. m.processors ≡ 1) }
+    {
+        HashMap::with_capacity_and_hasher(alloc, capacity, DefaultHashBuilder::default())
+    }
+}
+
+impl<K: Ord + Drop, V: Drop, S: KeyHasher<K>, A: Allocator> HashMap<K, V, S, A> {
+    /// An empty map without a table, over a hasher. It takes no memory.
+    pub fn with_hasher(alloc: A, hasher: S) -> Self
+        ensures { result ≡ record { hasher = hasher; processors = 1 } }
+    {
+        HashMap::of_locks(Locks::new(alloc), hasher)
+    }
+
+    // The map whose parts are under these locks.
+    fn of_locks(locks: Locks<K, V, A>, hasher: S) -> Self
+        ensures { result ≡ record { hasher = hasher; processors = 1 } }
+    {
+        HashMap {
+            locks,
+            hasher,
+            processors: 1,
+        }
+    }
+
+    /// The map with so many processors that share the work of a growth; 0 counts as 1. A thread that helps claims fewer bins at once
+    /// where they are many.
+    ///
+    /// Constant time.
+    pub fn with_processors(self, processors: usize) -> Self
+        ensures { result ≡ record { hasher = self.hasher; processors = processors } }
+    {
+        let HashMap { locks, hasher, .. } = self;
+        HashMap {
+            locks,
+            hasher,
+            processors,
+        }
+    }
+
+    /// The number of pairs, as they are counted at one moment while the call runs: a call that has decided may yet have to count.
+    ///
+    /// Takes the control's lock. Constant time.
+    pub fn len<R: Wait>(&self, rt: &R) -> usize {
+        self.locks.len(rt)
+    }
+
+    /// Whether that number is 0.
+    ///
+    /// Takes the control's lock. Constant time.
+    pub fn is_empty<R: Wait>(&self, rt: &R) -> bool {
+        self.len(rt) == 0
+    }
+}
+
+impl<K: Ord + Drop, V: Drop, S: KeyHasher<K>, A: Allocator + Copy> HashMap<K, V, S, A> {
+    /// An empty map over a hasher, with a table for so many pairs; without one for 0.
+    ///
+    /// # Errors
+    ///
+    /// [`AllocError`], where memory for the table is wanting.
+    pub fn with_capacity_and_hasher(
+        alloc: A,
+        capacity: usize,
+        hasher: S,
+    ) -> Result<Self, AllocError>
+    where
+        S: Drop,
+        ensures { IfOk result (λ m. m ≡ record { hasher = hasher; processors = 1 }) }
+    {
+        let locks = if capacity > 0 {
+            Locks::with_table(alloc, wanted_table(capacity))?
+        } else {
+            Locks::new(alloc)
+        };
+        Ok(HashMap::of_locks(locks, hasher))
+    }
+
+    /// A further owner of the value of a key.
+    ///
+    /// Takes the lock of the key's bin, to read, or the control's where no table was published yet. Where the bin has moved, it goes on
+    /// in the next table, and helps no growth.
+    ///
+    /// # Errors
+    ///
+    /// [`AllocError`], where a further owner is refused. It is not where the key is absent.
+    pub fn get<R: Wait>(&self, rt: &R, key: &K) -> Result<Option<Arc<V, A>>, AllocError>
+        ensures { IsDriven (Lender R K V A) (Maker K V A) K.cmp no_changes self.now (S.hash_of self.now.hasher key.now)
+            (AtLocate (Finds TheValue key.now)) (value_outcome result) }
+    {
+        let call: Call<'_, K, V, NoFn> = Call::Get(key);
+        match self.run(rt, call) {
+            Reply::Value(value) => Ok(value),
+            Reply::Refused => Err(AllocError),
+            _ => unreachable!(),
+        }
+    }
+
+    /// Further owners of the stored key and of its value.
+    ///
+    /// Takes the locks that [`HashMap::get`] takes.
+    ///
+    /// # Errors
+    ///
+    /// [`AllocError`], where a further owner is refused. It is not where the key is absent.
+    pub fn get_key_value<R: Wait>(
+        &self,
+        rt: &R,
+        key: &K,
+    ) -> Result<Option<(Arc<K, A>, Arc<V, A>)>, AllocError>
+        ensures { IsDriven (Lender R K V A) (Maker K V A) K.cmp no_changes self.now (S.hash_of self.now.hasher key.now)
+            (AtLocate (Finds ThePair key.now)) (pair_outcome result) }
+    {
+        let call: Call<'_, K, V, NoFn> = Call::GetKeyValue(key);
+        match self.run(rt, call) {
+            Reply::Pair(pair) => Ok(pair),
+            Reply::Refused => Err(AllocError),
+            _ => unreachable!(),
+        }
+    }
+
+    /// Whether the map has the key. It takes no memory.
+    ///
+    /// Takes the locks that [`HashMap::get`] takes.
+    pub fn contains_key<R: Wait>(&self, rt: &R, key: &K) -> bool
+        ensures { IsDriven (Lender R K V A) (Maker K V A) K.cmp (no_changes {K = K} {V = V}) self.now
+            (S.hash_of self.now.hasher key.now) (AtLocate (Finds Presence key.now)) (OutcomeReply (kept.Contains result)) }
+    {
+        let call: Call<'_, K, V, NoFn> = Call::ContainsKey(key);
+        match self.run(rt, call) {
+            Reply::Contains(found) => found,
+            _ => unreachable!(),
+        }
+    }
+
+    /// Takes the pair of a key out, and answers its value. The table stays as large as it is.
+    ///
+    /// Takes the lock of the key's bin, to write, and, where the key was present, then the control's, to count. Where the bin has moved
+    /// it helps the growth first.
+    pub fn remove<R: Wait>(&self, rt: &R, key: &K) -> Option<Arc<V, A>>
+        ensures { IsDriven (Lender R K V A) (Maker K V A) K.cmp (no_changes {K = K} {V = V}) self.now
+            (S.hash_of self.now.hasher key.now) (AtLocate (Removes TheValue key.now))
+            (OutcomeReply (kept.Value (option_map arc_value result))) }
+    {
+        let call: Call<'_, K, V, NoFn> = Call::Remove(key);
+        match self.run(rt, call) {
+            Reply::Value(value) => value,
+            _ => unreachable!(),
+        }
+    }
+
+    /// Takes the pair of a key out, and answers the stored key and the value. The table stays as large as it is.
+    ///
+    /// Takes the locks that [`HashMap::remove`] takes.
+    pub fn remove_entry<R: Wait>(&self, rt: &R, key: &K) -> Option<(Arc<K, A>, Arc<V, A>)>
+        ensures { IsDriven (Lender R K V A) (Maker K V A) K.cmp (no_changes {K = K} {V = V}) self.now
+            (S.hash_of self.now.hasher key.now) (AtLocate (Removes ThePair key.now))
+            (OutcomeReply (kept.Pair (option_map pair_value result))) }
+    {
+        let call: Call<'_, K, V, NoFn> = Call::RemoveEntry(key);
+        match self.run(rt, call) {
+            Reply::Pair(pair) => pair,
+            _ => unreachable!(),
+        }
+    }
+
+    /// Sets the value of a key, and answers the old one. A key that is stored stays, and the one that was handed in is dropped.
+    /// A new key may make the table larger; where the larger table finds no memory, the map stays in the old one.
+    ///
+    /// Takes the lock of the key's bin, to write, and, where the key was absent, then the control's, to count; before the first table
+    /// the control's, to make it. Where the bin has moved, or a growth runs as the pair is counted, it helps the growth.
+    ///
+    /// # Errors
+    ///
+    /// [`AllocError`], where memory for the pair or for a first table is wanting. No pair is changed by the call then, and the key and
+    /// the value are dropped.
+    pub fn insert<'s, R: Wait>(
+        &'s self,
+        rt: &R,
+        key: K,
+        value: V,
+    ) -> Result<Option<Arc<V, A>>, AllocError>
+        ensures { IsDriven (Lender R K V A) (Maker K V A) K.cmp no_changes self.now (S.hash_of self.now.hasher key)
+            (AtLocate (Inserts key value)) (value_outcome result) }
+    {
+        let call: Call<'s, K, V, NoFn> = Call::Insert(key, value);
+        match self.run(rt, call) {
+            Reply::Value(value) => Ok(value),
+            Reply::Refused => Err(AllocError),
+            _ => unreachable!(),
+        }
+    }
+
+    /// Puts a value at an absent key, and answers a further owner of it. At a present key nothing changes: the error has the value that
+    /// stands and the one that was handed in, and the key is dropped.
+    ///
+    /// Takes the locks that [`HashMap::insert`] takes.
+    ///
+    /// # Errors
+    ///
+    /// [`AllocError`], as of [`HashMap::insert`], and also where a further owner of the answered value is refused. No pair is changed
+    /// by the call then, and the key and the value are dropped.
+    pub fn try_insert<'s, R: Wait>(
+        &'s self,
+        rt: &R,
+        key: K,
+        value: V,
+    ) -> Result<Result<Arc<V, A>, TryInsertError<V, A>>, AllocError>
+        ensures driven { IsDriven (Lender R K V A) (Maker K V A) K.cmp (no_changes {K = K} {V = V}) self.now
+            (S.hash_of self.now.hasher key) (AtLocate (Adds key value)) (added_outcome result) }
+        ensures added { CanAdd {K = K} value (added_outcome result) }
+    {
+        let call: Call<'s, K, V, NoFn> = Call::TryInsert(key, value);
+        match self.run(rt, call) {
+            Reply::New(value) => Ok(Ok(value)),
+            Reply::Exists(error) => Ok(Err(error)),
+            Reply::Refused => Err(AllocError),
+            _ => unreachable!(),
+        }
+    }
+
+    /// Calls a function at most once, on the stored key and the value of a key that is present; else it calls nothing, asks for no
+    /// memory and answers none. What the function answers is the new value, and is answered; where it answers none, the pair is taken
+    /// out. The table stays as large as it is.
+    ///
+    /// The function runs while the key's bin is locked. It must not call this map: a call for a key of the same bin would wait for
+    /// itself. Takes the locks that [`HashMap::remove`] takes.
+    ///
+    /// # Errors
+    ///
+    /// [`AllocError`], where memory for the new value, or for its further owner, is wanting. The function was called then; the
+    /// value that it computed is dropped, and the pair stays as it was.
+    pub fn compute_if_present<F: FnOnce(&K, &V) -> Option<V> + Drop, R: Wait>(
+        &self,
+        rt: &R,
+        key: &K,
+        f: F,
+    ) -> Result<Option<Arc<V, A>>, AllocError>
+        requires { F.IsAlwaysCallable f }
+        ensures driven { IsDriven (Lender R K V A) (Maker K V A) K.cmp (AnswersAtPair F.FnOnce) self.now
+            (S.hash_of self.now.hasher key.now) (AtLocate (Computes key.now f)) (value_outcome result) }
+        ensures computed { CanCompute (AnswersAtPair F.FnOnce f) (value_outcome result) }
+    {
+        match self.run(rt, Call::Compute(key, f)) {
+            Reply::Value(value) => Ok(value),
+            Reply::Refused => Err(AllocError),
+            _ => unreachable!(),
+        }
+    }
+
+    /// Makes the table large enough for so many more pairs than the map then counts, unless another growth runs: it ends then at once.
+    ///
+    /// Takes the control's lock, and those of the bins that it moves.
+    ///
+    /// # Errors
+    ///
+    /// [`AllocError`], where memory for a table is wanting. The pairs stay, and so do the doublings that were done.
+    pub fn reserve<'s, R: Wait>(&'s self, rt: &R, additional: usize) -> Result<(), AllocError>
+        ensures { IsDriven (Lender R K V A) (Maker K V A) K.cmp (no_changes {K = K} {V = V}) self.now 0
+            (AtReserve additional) (ended_outcome result) }
+    {
+        let call: Call<'s, K, V, NoFn> = Call::Reserve(additional);
+        match self.run(rt, call) {
+            Reply::Ended => Ok(()),
+            Reply::Refused => Err(AllocError),
+            _ => unreachable!(),
+        }
+    }
+
+    // The hash of the key of a call; 0 where it has none.
+    fn hash_of<F>(&self, call: &Call<'_, K, V, F>) -> u64
+        ensures { result ≡ hash_in (S.hash_of self.now.hasher) call.now }
+    {
+        match call {
+            Call::Get(key)
+            | Call::GetKeyValue(key)
+            | Call::ContainsKey(key)
+            | Call::Remove(key)
+            | Call::RemoveEntry(key)
+            | Call::Compute(key, _) => self.hasher.hash_one(key),
+            Call::Insert(key, _) | Call::TryInsert(key, _) => self.hasher.hash_one(key),
+            Call::Reserve(_) => 0,
+        }
+    }
+
+    // Drives a call over the locks.
+    fn run<F: ComputeFn<K, V>, R: Wait>(&self, rt: &R, call: Call<'_, K, V, F>) -> Reply<K, V, A>
+        requires { CallIsReady F.can_change call }
+        ensures driven { IsDriven (Lender R K V A) (Maker K V A) K.cmp F.changes self.now
+            (hash_in (S.hash_of self.now.hasher) call.entry) (first_stage call.entry) (outcome_of result) }
+        ensures answers { CanAnswerFrom F.changes (first_stage call.entry) (outcome_of result) }
+    {
+        let hash = self.hash_of(&call);
+        let mut party = Party::new(call, hash, self.processors);
+        let mut lender = Lender::new(rt, &self.locks);
+        let reply = drive(rt, &mut party, &mut lender);
+        drop(party);
+        reply
+    }
+}

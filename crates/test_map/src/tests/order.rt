@@ -1,0 +1,147 @@
+//! Which parts the locks lend, and which of them are held together.
+
+use super::same;
+use super::threads::is_set_in_time;
+use super::workers::{count_own, insert_all, remove_even};
+use flurry_map::HashMap;
+use flurry_model::hash::{KeyHasher, LowHashBuilder};
+use std::alloc::{AllocError, Global};
+use std::sync::atomic::{AtomicBool, Ordering};
+use std::sync::{Arc, Wait};
+use std::test::Fail;
+use std::thread;
+use std::thread::Threads;
+
+// Holds the bin of key 1 until the flag of another thread is set, and answers whether it was in time.
+fn hold_bin<S: KeyHasher<u64>, R: Wait>(
+    rt: &R,
+    map: &HashMap<u64, u64, S>,
+    held: &AtomicBool,
+    inserted: &AtomicBool,
+) -> bool {
+    let answer = map.compute_if_present(rt, &1, |_, _| {
+        held.store(true, Ordering::SeqCst);
+        Some(u64::from(is_set_in_time(inserted)))
+    });
+    match answer {
+        Ok(Some(in_time)) => *in_time == 1,
+        _ => false,
+    }
+}
+
+// Waits until the bin of key 1 is held, and inserts key 2.
+fn insert_beside<S: KeyHasher<u64>, R: Wait>(
+    rt: &R,
+    map: &HashMap<u64, u64, S>,
+    held: &AtomicBool,
+    inserted: &AtomicBool,
+) -> bool {
+    if !is_set_in_time(held) {
+        return false;
+    }
+    let answer = map.insert(rt, 2, 22);
+    inserted.store(true, Ordering::SeqCst);
+    answer.is_ok()
+}
+
+// Both at once.
+fn hold_and_insert<S: KeyHasher<u64> + Sync, R: Threads + Wait + Sync>(
+    rt: &R,
+    map: &HashMap<u64, u64, S>,
+) -> (bool, bool) {
+    let held = AtomicBool::new(false);
+    let inserted = AtomicBool::new(false);
+    thread::join(
+        rt,
+        || hold_bin(rt, map, &held, &inserted),
+        || insert_beside(rt, map, &held, &inserted),
+    )
+}
+
+// A key is inserted while another thread holds the bin of another key.
+#[test]
+fn two_bins_at_once(rt: HostRuntime) -> Result<(), Fail> {
+    let map = HashMap::with_capacity_and_hasher(rt.alloc(), 10, LowHashBuilder)?;
+    map.insert(&rt, 1, 11)?;
+    map.insert(&rt, 2, 12)?;
+
+    same(&rt, hold_and_insert(&rt, &map), (true, true));
+
+    let Some(value) = map.get(&rt, &2)? else {
+        return Err(Fail::from("the key is present"));
+    };
+    same(&rt, *value, 22);
+    Ok(())
+}
+
+// What one thread does with the map of `lent_parts`.
+#[derive(Clone, Copy)]
+enum Phase {
+    Fill,
+    Halve,
+    LookAfter,
+}
+
+// Does that, and answers whether all was as it must be.
+fn run_phase<S: KeyHasher<u64>, R: Wait>(rt: &R, map: &HashMap<u64, u64, S>, phase: Phase) -> bool {
+    match phase {
+        Phase::Fill => insert_all(rt, map, 0, 100) == 0,
+        Phase::Halve => {
+            map.len(rt) == 100
+                && count_own(rt, map, 0, 100) == 100
+                && remove_even(rt, map, 100) == 50
+        }
+        Phase::LookAfter => map.len(rt) == 50 && has_odd_alone(rt, map),
+    }
+}
+
+// Whether of the keys below 100 the odd ones have their own numbers as values, and the even ones are absent.
+fn has_odd_alone<S: KeyHasher<u64>, R: Wait>(rt: &R, map: &HashMap<u64, u64, S>) -> bool {
+    for key in 0..100u64 {
+        let own = match map.get(rt, &key) {
+            Ok(Some(value)) => Some(*value),
+            Ok(None) => None,
+            Err(_) => return false,
+        };
+        let wanted = if key % 2 == 1 { Some(key) } else { None };
+        if own != wanted {
+            return false;
+        }
+    }
+    true
+}
+
+// Does the work in a thread of its own, and answers what it answered; none where it was not done in time.
+fn in_thread<
+    S: KeyHasher<u64> + Send + Sync + Drop + 'static,
+    R: Threads + Wait + Copy + Send + 'static,
+>(
+    rt: R,
+    alloc: Global,
+    map: &Arc<HashMap<u64, u64, S>>,
+    phase: Phase,
+) -> Result<Option<bool>, AllocError> {
+    let done = Arc::new(alloc, AtomicBool::new(false))?;
+    let theirs = Arc::try_clone(map)?;
+    let flag = Arc::try_clone(&done)?;
+    let child = thread::spawn(&rt, move || {
+        let answer = run_phase(&rt, &theirs, phase);
+        flag.store(true, Ordering::SeqCst);
+        answer
+    })?;
+    if !is_set_in_time(&done) {
+        return Ok(None);
+    }
+    Ok(Some(child.join(&rt)))
+}
+
+// Threads one after another see what those before them did, while the table is doubled four times.
+#[test]
+fn lent_parts(rt: HostRuntime) -> Result<(), Fail> {
+    let map = HashMap::with_capacity_and_hasher(rt.alloc(), 10, LowHashBuilder)?.with_processors(2);
+    let map = Arc::new(rt.alloc(), map)?;
+    for phase in [Phase::Fill, Phase::Halve, Phase::LookAfter] {
+        same(&rt, in_thread(rt, rt.alloc(), &map, phase)?, Some(true));
+    }
+    Ok(())
+}

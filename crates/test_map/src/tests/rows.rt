@@ -1,0 +1,90 @@
+//! Worked rows, in one thread.
+
+use super::{number_at, same, taken};
+use flurry_map::HashMap;
+use flurry_model::hash::{DefaultHashBuilder, KeyHasher, MaxHashBuilder, ZeroHashBuilder};
+use std::process::Abort;
+use std::sync::Wait;
+use std::test::Fail;
+
+// A present key takes the new value, and the old one is answered.
+#[test]
+fn row_01(rt: HostRuntime) -> Result<(), Fail> {
+    let map: HashMap<&'static str, u64> = HashMap::new(rt.alloc());
+    same(&rt, taken(map.insert(&rt, "foo", 0)?), None);
+    same(&rt, taken(map.insert(&rt, "foo", 1)?), Some(0));
+    same(&rt, number_at(&rt, &map, &"foo")?, Some(1));
+    same(&rt, map.len(&rt), 1);
+    Ok(())
+}
+
+// A new map has no key.
+#[test]
+fn row_02(rt: HostRuntime) -> Result<(), Fail> {
+    let map: HashMap<&'static str, u64> = HashMap::new(rt.alloc());
+    same(&rt, number_at(&rt, &map, &"foo")?, None);
+    same(&rt, taken(map.remove(&rt, &"foo")), None);
+    Ok(())
+}
+
+fn row_08_with<S: KeyHasher<i32> + Drop, R: Abort + Wait + AllocGlobal>(
+    rt: &R,
+    hasher: S,
+) -> Result<(), Fail> {
+    let map = HashMap::with_hasher(rt.alloc(), hasher);
+    for key in 0..1000i32 {
+        assert!(rt; map.insert(rt, key, key)?.is_none(), "at {key}");
+    }
+    same(rt, map.len(rt), 1000);
+    for key in 0..1000i32 {
+        assert!(rt; map.contains_key(rt, &key), "at {key}");
+    }
+    for key in [-1, 1000, i32::MIN, i32::MAX] {
+        assert!(rt; !map.contains_key(rt, &key), "at {key}");
+    }
+    Ok(())
+}
+
+// A thousand signed keys, with one hash for all too.
+#[test]
+fn row_08(rt: HostRuntime) -> Result<(), Fail> {
+    row_08_with(&rt, DefaultHashBuilder::default())?;
+    row_08_with(&rt, ZeroHashBuilder)?;
+    row_08_with(&rt, MaxHashBuilder)
+}
+
+const KEYS: u64 = 50_000;
+
+// Inserts all keys, and answers how many of them were new.
+fn insert_all<R: Wait>(rt: &R, map: &HashMap<u64, u64>) -> Result<u64, Fail> {
+    let mut new = 0u64;
+    for key in 0..KEYS {
+        if map.insert(rt, key, key)?.is_none() {
+            new = new.saturating_add(1);
+        }
+    }
+    Ok(new)
+}
+
+// Removes every second key, from the last but one down, and answers how many were there.
+fn remove_half<R: Wait>(rt: &R, map: &HashMap<u64, u64>) -> u64 {
+    let mut removed = 0u64;
+    for half in 1..=KEYS / 2 {
+        if map.remove(rt, &(KEYS - 2 * half)).is_some() {
+            removed = removed.saturating_add(1);
+        }
+    }
+    removed
+}
+
+// Fifty thousand keys, half of which go and come back.
+#[test]
+fn row_09(rt: HostRuntime) -> Result<(), Fail> {
+    let map = HashMap::new(rt.alloc());
+    same(&rt, insert_all(&rt, &map)?, 50_000);
+    same(&rt, insert_all(&rt, &map)?, 0);
+    same(&rt, remove_half(&rt, &map), 25_000);
+    same(&rt, insert_all(&rt, &map)?, 25_000);
+    same(&rt, map.len(&rt), 50_000);
+    Ok(())
+}

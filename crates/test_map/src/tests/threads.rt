@@ -1,0 +1,178 @@
+//! Calls of several threads beside one another.
+
+use super::workers::{count_missed, count_own, insert_all};
+use super::{TURNS, same};
+use flurry_map::HashMap;
+use flurry_model::hash::{KeyHasher, LowHashBuilder, ZeroHashBuilder};
+use std::sync::Wait;
+use std::sync::atomic::{AtomicBool, AtomicU64, Ordering};
+use std::test::Fail;
+use std::thread;
+use std::thread::Threads;
+
+// Waits until a flag is set, for a bounded number of turns, and answers whether it was.
+pub(super) fn is_set_in_time(flag: &AtomicBool) -> bool {
+    for _ in 0..TURNS {
+        if flag.load(Ordering::SeqCst) {
+            return true;
+        }
+        thread::yield_now();
+    }
+    false
+}
+
+// Inserts keys in several threads, so many in each: those of a thread begin at its number times the distance.
+fn insert_in_threads<S: KeyHasher<u64> + Sync, R: Threads + Wait + Sync>(
+    rt: &R,
+    map: &HashMap<u64, u64, S>,
+    threads: u64,
+    distance: u64,
+    each: u64,
+) {
+    thread::scope(thread::scope_env(), rt, |scope| {
+        for part in 0..threads {
+            let from = part.saturating_mul(distance);
+            let to = from.saturating_add(each);
+            if scope.spawn(move || insert_all(rt, map, from, to)).is_err() {
+                insert_all(rt, map, from, to);
+            }
+        }
+    });
+}
+
+#[test]
+fn eight_threads_insert_the_same_keys(rt: HostRuntime) -> Result<(), Fail> {
+    let map = HashMap::new(rt.alloc());
+
+    insert_in_threads(&rt, &map, 8, 0, 1000);
+
+    same(&rt, map.len(&rt), 1000);
+    same(&rt, count_own(&rt, &map, 0, 1000), 1000);
+    Ok(())
+}
+
+#[test]
+fn four_threads_insert_keys_of_one_hash(rt: HostRuntime) -> Result<(), Fail> {
+    let map = HashMap::with_hasher(rt.alloc(), ZeroHashBuilder);
+
+    insert_in_threads(&rt, &map, 4, 100, 100);
+
+    same(&rt, map.len(&rt), 400);
+    same(&rt, count_own(&rt, &map, 0, 400), 400);
+    Ok(())
+}
+
+// Inserts 64 keys, waits for the other thread to have done so, and answers how many of its keys are found.
+fn insert_and_read<S: KeyHasher<u64>, R: Wait>(
+    rt: &R,
+    map: &HashMap<u64, u64, S>,
+    own: (u64, &AtomicBool),
+    other: (u64, &AtomicBool),
+) -> u64 {
+    insert_all(rt, map, own.0, own.0.saturating_add(64));
+    own.1.store(true, Ordering::SeqCst);
+    if !is_set_in_time(other.1) {
+        return 0;
+    }
+    count_own(rt, map, other.0, other.0.saturating_add(64))
+}
+
+// Two threads insert 64 keys each; then each reads those of the other, and answers how many it found.
+fn insert_and_read_in_threads<S: KeyHasher<u64> + Sync, R: Threads + Wait + Sync>(
+    rt: &R,
+    map: &HashMap<u64, u64, S>,
+) -> (u64, u64) {
+    let first = AtomicBool::new(false);
+    let second = AtomicBool::new(false);
+    thread::join(
+        rt,
+        || insert_and_read(rt, map, (0, &first), (64, &second)),
+        || insert_and_read(rt, map, (64, &second), (0, &first)),
+    )
+}
+
+#[test]
+fn two_threads_read_each_other(rt: HostRuntime) -> Result<(), Fail> {
+    let map = HashMap::new(rt.alloc());
+
+    let found = insert_and_read_in_threads(&rt, &map);
+
+    same(&rt, found, (64, 64));
+    same(&rt, map.len(&rt), 128);
+    Ok(())
+}
+
+// Makes room, and then inserts so many keys from 16 on.
+fn grow<S: KeyHasher<u64>, R: Wait>(rt: &R, map: &HashMap<u64, u64, S>, room: usize, keys: u64) {
+    let _ = map.reserve(rt, room);
+    insert_all(rt, map, 16, keys.saturating_add(16));
+}
+
+// Looks in eight threads for the keys below 16, 512 times in each, while a ninth makes the map larger. Answers how often one was missed.
+fn look_while_it_grows<S: KeyHasher<u64> + Sync, R: Threads + Wait + Sync>(
+    rt: &R,
+    map: &HashMap<u64, u64, S>,
+    room: usize,
+    keys: u64,
+) -> u64 {
+    let missed = AtomicU64::new(0);
+    let missed_by_all = &missed;
+    thread::scope(thread::scope_env(), rt, |scope| {
+        for _ in 0..8u32 {
+            let looker = scope.spawn(move || count_missed(rt, map, 16, 512, missed_by_all));
+            if looker.is_err() {
+                count_missed(rt, map, 16, 512, missed_by_all);
+            }
+        }
+        grow(rt, map, room, keys);
+    });
+    missed.load(Ordering::SeqCst)
+}
+
+#[test]
+fn eight_threads_look_while_a_ninth_makes_room(rt: HostRuntime) -> Result<(), Fail> {
+    let map = HashMap::with_hasher(rt.alloc(), LowHashBuilder);
+    insert_all(&rt, &map, 0, 16);
+
+    same(&rt, look_while_it_grows(&rt, &map, 4096, 0), 0);
+
+    same(&rt, map.len(&rt), 16);
+    same(&rt, count_own(&rt, &map, 0, 16), 16);
+    Ok(())
+}
+
+// Look-ups that begin at a table that is old by the time they look.
+#[test]
+fn eight_threads_look_while_a_ninth_inserts(rt: HostRuntime) -> Result<(), Fail> {
+    let map = HashMap::new(rt.alloc()).with_processors(4);
+    insert_all(&rt, &map, 0, 16);
+
+    same(&rt, look_while_it_grows(&rt, &map, 0, 5000), 0);
+
+    same(&rt, map.len(&rt), 5016);
+    same(&rt, count_own(&rt, &map, 0, 5016), 5016);
+    Ok(())
+}
+
+// Moves a map into a thread of its own, which counts the keys below this one and drops the map.
+fn count_in_thread<S: KeyHasher<u64> + Send + Sync + Drop, R: Threads + Wait + Sync>(
+    rt: &R,
+    map: HashMap<u64, u64, S>,
+    below: u64,
+) -> Option<u64> {
+    thread::scope(thread::scope_env(), rt, |scope| {
+        match scope.spawn(move || count_own(rt, &map, 0, below)) {
+            Ok(child) => Some(child.join(rt)),
+            Err(_) => None,
+        }
+    })
+}
+
+#[test]
+fn a_thread_owns_a_map(rt: HostRuntime) -> Result<(), Fail> {
+    let map = HashMap::new(rt.alloc());
+    insert_all(&rt, &map, 0, 100);
+
+    same(&rt, count_in_thread(&rt, map, 200), Some(100));
+    Ok(())
+}

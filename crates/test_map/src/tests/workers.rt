@@ -1,0 +1,74 @@
+//! What threads do with a shared map.
+
+use flurry_map::HashMap;
+use flurry_model::hash::KeyHasher;
+use std::sync::Wait;
+use std::sync::atomic::{AtomicU64, Ordering};
+
+// Inserts the keys from the first one on to the last but one, each with its own number, and answers how many were refused.
+pub(super) fn insert_all<S: KeyHasher<u64>, R: Wait>(
+    rt: &R,
+    map: &HashMap<u64, u64, S>,
+    from: u64,
+    to: u64,
+) -> u64 {
+    let mut refused = 0u64;
+    for key in from..to {
+        if map.insert(rt, key, key).is_err() {
+            refused = refused.saturating_add(1);
+        }
+    }
+    refused
+}
+
+// How many of these keys have their own number as their value.
+pub(super) fn count_own<S: KeyHasher<u64>, R: Wait>(
+    rt: &R,
+    map: &HashMap<u64, u64, S>,
+    from: u64,
+    to: u64,
+) -> u64 {
+    let mut own = 0u64;
+    for key in from..to {
+        if let Ok(Some(value)) = map.get(rt, &key) {
+            if *value == key {
+                own = own.saturating_add(1);
+            }
+        }
+    }
+    own
+}
+
+// Looks so many times for the keys below this one, in their order, and counts how often one was missed.
+pub(super) fn count_missed<S: KeyHasher<u64>, R: Wait>(
+    rt: &R,
+    map: &HashMap<u64, u64, S>,
+    below: u64,
+    times: u32,
+    missed: &AtomicU64,
+) {
+    for turn in 0..times {
+        let key = u64::from(turn) % below.max(1);
+        if !map.contains_key(rt, &key) {
+            missed.fetch_add(1, Ordering::SeqCst);
+        }
+    }
+}
+
+// Removes the even keys below this one, and answers how many were there with their own number as their value.
+pub(super) fn remove_even<S: KeyHasher<u64>, R: Wait>(
+    rt: &R,
+    map: &HashMap<u64, u64, S>,
+    below: u64,
+) -> u64 {
+    let mut removed = 0u64;
+    for half in 0..below.div_ceil(2) {
+        let key = half.saturating_mul(2);
+        if let Some(value) = map.remove(rt, &key) {
+            if *value == key {
+                removed = removed.saturating_add(1);
+            }
+        }
+    }
+    removed
+}
