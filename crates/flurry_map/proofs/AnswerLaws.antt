@@ -6,7 +6,7 @@ use Rattle.std.proofs.Common.{refl, sym, subst, inl, inr}
 use Rattle.flurry_drive.specs.Turns.{Turns, still, further, TurnsTo}
 use Rattle.flurry_map.specs.Answers.{CanReserve, CanAnswer, CanAnswerFrom, NeedsOwner, IsSought}
 use Rattle.flurry_slots.specs.Slot as slot
-use Rattle.flurry_slots.specs.Slot.{PlainEntry, Place, Live, Content, IsLive, HasMoved, IsUnborn, ComputeOutcome, WasAbsent, WasRemoved, WasChanged, Clashes}
+use Rattle.flurry_slots.specs.Slot.{PlainEntry, SlotState, Live, Content, IsLive, HasMoved, IsUnborn, ComputeOutcome, WasAbsent, WasRemoved, WasChanged, Clashes}
 use Rattle.flurry_steps.specs.Control.{ControlState, BeginGives, claim_of, grows_from}
 use Rattle.flurry_steps.specs.Claim.{Range}
 use Rattle.flurry_steps.specs.Field.{Loan, ControlLoan, StartLoan, LookLoan, BinLoan, MoveLoan, StepWith, Turn}
@@ -262,7 +262,7 @@ module _ {K V F : Type 0} (changes : F → K → V → Option V → Type 0) (ans
 
   -- ---- at a move
 
-  at_move : (p p' : PartyState K V F) (q low high q' low' high' : Place K V) (ev : Event) → StageServes p.stage → MoveGives p q low high ev p' q' low' high' → StageServes p'.stage
+  at_move : (p p' : PartyState K V F) (q low high q' low' high' : SlotState K V) (ev : Event) → StageServes p.stage → MoveGives p q low high ev p' q' low' high' → StageServes p'.stage
   at_move p p' q low high q' low' high' (event.Moved e i) h g = subst (λ z. StageServes z.stage) (sym g.3) (with_moved p.stage h)
   at_move p p' q low high q' low' high' event.Silent h g = still_or_on g.3
     where

@@ -29,7 +29,7 @@ pub data Content (K V : Type 0) : Type 0 where
   IsUnborn : Content K V
 
 -- a slot: bin `index` of table `table`, which has 2^table bins
-pub record Place (K V : Type 0) : Type 0 where
+pub record SlotState (K V : Type 0) : Type 0 where
   pub table : ℕ
   pub index : ℕ
   pub content : Content K V
@@ -122,7 +122,7 @@ module _ {K V : Type 0} where
       ComputesInVain b h k = (e : PlainEntry K V) × (w : V) × (entry_of_live b h k ≡ Some e) × changes e.0.1 e.1.0 (Some w)
 
   -- a hash lies in the region of the slot
-  abbrev pub LiesIn : ℕ → Place K V → Type 0
+  abbrev pub LiesIn : ℕ → SlotState K V → Type 0
   LiesIn h p = InRegion p.table p.index h
 
   -- the slot with its live bin changed
@@ -130,7 +130,7 @@ module _ {K V : Type 0} where
   content_with f (IsLive b) = IsLive (f b)
   content_with f c = c
 
-  abbrev pub slot_with : (Live K V → Live K V) → Place K V → Place K V
+  abbrev pub slot_with : (Live K V → Live K V) → SlotState K V → SlotState K V
   slot_with f p = record p { content = content_with f p.content }
 
   -- the bin at the slot is live, and this holds of it
@@ -139,7 +139,7 @@ module _ {K V : Type 0} where
   IfLive _ P = ⊥
 
   -- low and high are the halves of p in the next larger table, and no bin is there yet
-  pub record AreHalves (p low high : Place K V) : Type 0 where
+  pub record AreHalves (p low high : SlotState K V) : Type 0 where
     pub low_table : low.table ≡ p.table + 1
     pub high_table : high.table ≡ p.table + 1
     pub low_index : low.index ≡ p.index
@@ -148,7 +148,7 @@ module _ {K V : Type 0} where
     pub high_unborn : high.content ≡ IsUnborn
 
   -- the live bin of p has moved: the entries whose hash has bit `table` 0 stand in the low half, and the others in the high one
-  abbrev pub HasMovedInto : Place K V → Place K V → Place K V → Place K V → Place K V → Place K V → Type 0
+  abbrev pub HasMovedInto : SlotState K V → SlotState K V → SlotState K V → SlotState K V → SlotState K V → SlotState K V → Type 0
   HasMovedInto p low high p' low' high' =
       AreHalves p low high
       × IfLive p.content
@@ -157,7 +157,7 @@ module _ {K V : Type 0} where
       × (high' ≡ record high { content = IsLive (half p.table 1 b) }))
 
   -- nothing can be moved: no bin is there yet, or a slot lent in is not a half that has no bin yet
-  abbrev pub Clashes : Place K V → Place K V → Place K V → Type 0
+  abbrev pub Clashes : SlotState K V → SlotState K V → SlotState K V → Type 0
   Clashes p low high = (p.content ≡ IsUnborn) ⊎ IfLive p.content (λ b. AreHalves p low high → ⊥)
 
   -- What each live bin keeps: its entries ascend strictly by hash and key, a tree has at least seven and a list at most nine, and
@@ -174,7 +174,7 @@ module _ {K V : Type 0} where
   IsContent cmp table index IsUnborn = ⊤
 
   -- what each slot keeps
-  pub record IsSlot (cmp : K → K → Ordering) (p : Place K V) : Type 0 where
+  pub record IsSlot (cmp : K → K → Ordering) (p : SlotState K V) : Type 0 where
     pub table : p.table ≤ GREATEST_TABLE
     pub index : p.index < 2 ^ p.table
     pub content : IsContent cmp p.table p.index p.content

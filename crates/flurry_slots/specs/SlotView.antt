@@ -1,6 +1,6 @@
 -- A slot, and what its steps answer, as plain data.
 use Rattle.std.specs.Prelude.{◌≡◌, ⊤}
-use Rattle.flurry_slots.specs.Slot.{Place, Content, Live, IsLive, HasMoved, IsUnborn}
+use Rattle.flurry_slots.specs.Slot.{SlotState, Content, Live, IsLive, HasMoved, IsUnborn}
 use Rattle.flurry_slots.specs.declared.slot.Answer.{Answer}
 use Rattle.flurry_slots.specs.declared.slot.Answer.TheVariants.{Here, Moved, Unborn}
 use Rattle.flurry_slots.specs.declared.slot.State.{State}
@@ -15,7 +15,7 @@ content_of (state.Live b) = IsLive b
 content_of state.Moved = HasMoved
 content_of state.Unborn = IsUnborn
 
-abbrev pub place_of : {K V A : Type 0} → Inside K V A → Place K V
+abbrev pub place_of : {K V A : Type 0} → Inside K V A → SlotState K V
 place_of s = record { table = s.table; index = s.index; content = content_of s.state }
 
 -- a step answers f of the live bin, or what was lent in

@@ -7,7 +7,7 @@ ghost use Rattle.flurry_model.specs.Greatest.{greatest};
 ghost use Rattle.flurry_slots.specs.LiveView.{live_of, view_of_written, view_of_added, outcome, IfAbsent};
 ghost use Rattle.flurry_bins.specs.PlainEntries.{numbered_pair};
 ghost use Rattle.flurry_bins.specs.PlainEntries.{AllInRegion};
-ghost use Rattle.flurry_slots.specs.Slot.{Place, IsLive, HasMoved, IsUnborn, IsSlot, LiesIn, IfLive, slot_with, entry_of_live, next_of_live, after_write, write_reply, after_add, add_reply, after_take, after_take_if, take_if_reply, after_wipe, Computes, ComputesInVain, HasMovedInto, Clashes};
+ghost use Rattle.flurry_slots.specs.Slot.{SlotState, IsLive, HasMoved, IsUnborn, IsSlot, LiesIn, IfLive, slot_with, entry_of_live, next_of_live, after_write, write_reply, after_add, add_reply, after_take, after_take_if, take_if_reply, after_wipe, Computes, ComputesInVain, HasMovedInto, Clashes};
 ghost use Rattle.flurry_slots.specs.SlotView.{place_of, answer_with, answer_map, IfHere, IfAway, IsAway, IfDone, IfAlready, IfClash, IfNotDone};
 ghost use Rattle.flurry_model.specs.declared.sizes.TheConstants.{GREATEST_TABLE};
 
@@ -91,10 +91,10 @@ pub struct Slot<K: Ord, V, A: Allocator = Global> {
 }
 
 impl<K: Ord, V, A: Allocator> Model for Slot<K, V, A> {
-    ghost use Rattle.flurry_slots.specs.Slot.{Place, IsSlot};
+    ghost use Rattle.flurry_slots.specs.Slot.{SlotState, IsSlot};
     ghost use Rattle.flurry_slots.specs.SlotView.{place_of};
 
-    ghost Value = { Place K V };
+    ghost Value = { SlotState K V };
 
     ghost view = { place_of };
 

@@ -1,7 +1,7 @@
 -- What a step of a call is over a field, which lends it one part of a map.
 use Rattle.std.specs.Prelude.{◌≡◌, ◌⊎◌, ℕ, ◌≤◌, Bool, true, Option, MatchOption}
 use Rattle.std.specs.declared.cmp.Ordering.{Ordering}
-use Rattle.flurry_slots.specs.Slot.{Place, IsSlot}
+use Rattle.flurry_slots.specs.Slot.{SlotState, IsSlot}
 use Rattle.flurry_steps.specs.Control.{ControlState}
 use Rattle.flurry_steps.specs.Party.{PartyState, Part, ControlPart, LookPart, BinPart, MovePart, NoPart, with_stage, wanted_part, locates, started_stage}
 use Rattle.flurry_steps.specs.PartyControl.{ControlStep}
@@ -17,11 +17,11 @@ pub data Loan (K V R : Type 0) : Type 0 where
   -- a table where the call may begin, in the control's place
   StartLoan : (table : ℕ) → Loan K V R
   -- a slot to read
-  LookLoan : (slot : Place K V) → Loan K V R
+  LookLoan : (slot : SlotState K V) → Loan K V R
   -- a slot to write
-  BinLoan : (slot slot' : Place K V) → Loan K V R
+  BinLoan : (slot slot' : SlotState K V) → Loan K V R
   -- a slot and its halves
-  MoveLoan : (slot low high slot' low' high' : Place K V) → Loan K V R
+  MoveLoan : (slot low high slot' low' high' : SlotState K V) → Loan K V R
 
 module _ {K V F R : Type 0} (place : R → ℕ → Bool → Bool → R → Type 0) (cmp : K → K → Ordering) (changes : F → K → V → Option V → Type 0) where
   -- the step of p with that loan, which is of the part that p wants: a call that asks for the published table may also be told a table

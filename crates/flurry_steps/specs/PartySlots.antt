@@ -2,7 +2,7 @@
 use Rattle.std.specs.Prelude.{◌≡◌, ℕ, ◌+◌, ◌*◌, ◌^◌, Bool, true, false, Option, Some, None, IsSome, Result, Ok, Err, ⊤, ◌⊎◌}
 use Rattle.std.specs.declared.cmp.Ordering.{Ordering}
 use Rattle.flurry_slots.specs.Slot as slot
-use Rattle.flurry_slots.specs.Slot.{PlainEntry, Live, Content, IsLive, HasMoved, IsUnborn, Place, ComputeOutcome, WasAbsent, WasRemoved, WasChanged, entry_of_live, after_write, write_reply, after_add, add_reply, after_take, ComputesInVain, HasMovedInto, Clashes}
+use Rattle.flurry_slots.specs.Slot.{PlainEntry, Live, Content, IsLive, HasMoved, IsUnborn, SlotState, ComputeOutcome, WasAbsent, WasRemoved, WasChanged, entry_of_live, after_write, write_reply, after_add, add_reply, after_take, ComputesInVain, HasMovedInto, Clashes}
 use Rattle.flurry_model.specs.declared.reply.KeptReply.TheVariants.{Value, New, Exists}
 use Rattle.flurry_steps.specs.Claim.{moved_on}
 use Rattle.flurry_steps.specs.Party.{Sought, Presence, Task, Finds, Removes, Inserts, Adds, Computes, Outcome, OutcomeReply, OutcomeRefused, ForInsert, ThenBin, Stage, AtLocate, AtBin, AtClaim, AtMove, AtUncount, AtCount, AtGrow, AtDone, PartyState, reply_for, with_stage, IsTableFor}
@@ -82,7 +82,7 @@ module _ {K V F : Type 0} (cmp : K → K → Ordering) (changes : F → K → V 
   StageAtSlot _ c ev s' c' = ⊥
 
 -- the step of p at the slot q answers ev, and leaves p' and q'
-pub record SlotStep {K V F : Type 0} (cmp : K → K → Ordering) (changes : F → K → V → Option V → Type 0) (p : PartyState K V F) (q : Place K V) (ev : Event) (p' : PartyState K V F) (q' : Place K V) : Type 0 where
+pub record SlotStep {K V F : Type 0} (cmp : K → K → Ordering) (changes : F → K → V → Option V → Type 0) (p : PartyState K V F) (q : SlotState K V) (ev : Event) (p' : PartyState K V F) (q' : SlotState K V) : Type 0 where
   pub hash : p'.hash ≡ p.hash
   pub processors : p'.processors ≡ p.processors
   pub table : q'.table ≡ q.table
@@ -95,12 +95,12 @@ moved_stage (AtMove c a) = AtMove (moved_on c) a
 moved_stage s = s
 
 -- the step of p at the slot q and its halves: the bin moves, or had moved before; or nothing can be moved, and nothing changes
-abbrev pub MoveGives : {K V F : Type 0} → PartyState K V F → Place K V → Place K V → Place K V → Event → PartyState K V F → Place K V → Place K V → Place K V → Type 0
+abbrev pub MoveGives : {K V F : Type 0} → PartyState K V F → SlotState K V → SlotState K V → SlotState K V → Event → PartyState K V F → SlotState K V → SlotState K V → SlotState K V → Type 0
 MoveGives p q low high (Moved e i) p' q' low' high' = (e ≡ q.table) × (i ≡ q.index) × HasMovedInto q low high q' low' high' × (p' ≡ with_stage p (moved_stage p.stage))
 MoveGives p q low high Silent p' q' low' high' =
     (q' ≡ q) × (low' ≡ low) × (high' ≡ high)
     × (((q.content ≡ HasMoved) × (p' ≡ with_stage p (moved_stage p.stage))) ⊎ (Clashes q low high × (p' ≡ p)))
 MoveGives p q low high _ p' q' low' high' = ⊥
 
-pub record MoveStep {K V F : Type 0} (p : PartyState K V F) (q low high : Place K V) (ev : Event) (p' : PartyState K V F) (q' low' high' : Place K V) : Type 0 where
+pub record MoveStep {K V F : Type 0} (p : PartyState K V F) (q low high : SlotState K V) (ev : Event) (p' : PartyState K V F) (q' low' high' : SlotState K V) : Type 0 where
   pub step : MoveGives p q low high ev p' q' low' high'

@@ -1,5 +1,5 @@
 -- Look-ups decide within 32 steps, and then reply.
-use Rattle.std.specs.Prelude.{length, ℕ, suc, ◌<◌, ◌≤◌, ◌==◌, true, false, ◌∷◌, Option, Some, None, is_some, if◌then◌else◌, ◌≡◌, ◌⊎◌}
+use Rattle.std.specs.Prelude.{length, ℕ, suc, ◌+◌, ◌<◌, ◌≤◌, ◌==◌, true, false, ◌∷◌, Option, Some, None, is_some, if◌then◌else◌, ◌≡◌, ◌⊎◌}
 use Rattle.std.specs.declared.cmp.Ordering.{Ordering}
 use Rattle.std.specs.Cmp.{IsTotalOrder}
 use Rattle.std.proofs.Common.{arith, refl, sym, ◌∙◌, ap, subst, subst₂, inl, inr}
@@ -17,6 +17,7 @@ use Rattle.flurry_theory.proofs.OwnSteps.{next_mode, next_call, other_mode, othe
 use Rattle.flurry_model.specs.declared.call.Call.{Call}
 use Rattle.flurry_model.specs.declared.call.Call.TheVariants.{Get, GetKeyValue, ContainsKey, Insert, TryInsert, Compute, Remove, RemoveEntry, RemoveSeen, Reserve, Clear, Walk}
 use Rattle.flurry_model.specs.declared.reply.KeptReply.{KeptReply}
+use Rattle.flurry_model.specs.declared.sizes.TheConstants.{TABLES}
 
 module _ {K V F : Type 0} (cmp : K → K → Ordering) (total : IsTotalOrder cmp) (hash : K → ℕ) (lawful : (j k : K) → same cmp j k ≡ true → hash j ≡ hash k) (gives : F → K → V → Option V → Type 0) where
   -- a look-up has a key, and goes on where it found a table
@@ -138,14 +139,14 @@ module _ {K V F : Type 0} (cmp : K → K → Ordering) (total : IsTotalOrder cmp
 
   -- THE LAW
   in_time : (home : ℕ → ℕ) (s : State K V F) (p : ℕ) → PartyOk s p → Tables cmp hash home s → Cut s → Named hash (is_some s.published) home s.start (s.call p) (s.mode p) → Waits (s.call p) (s.mode p) (s.steps p)
-      → is_lookup (s.call p) ≡ true → decision s.trace p ≡ None → has_closed s.trace p ≡ false → s.steps p < 32
+      → is_lookup (s.call p) ≡ true → decision s.trace p ≡ None → has_closed s.trace p ≡ false → s.steps p < TABLES + 1
   in_time home s p o t u nm w h d c = go (s.mode p) refl
     where
       over : (has_replied s.trace p ≡ true) ⊎ (has_closed s.trace p ≡ true) → ⊥
       over (inl r) = grind (arith, d, o.settled r)
       over (inr r) = grind (arith, c, r)
 
-      go : (m : Mode K V) → s.mode p ≡ m → s.steps p < 32
+      go : (m : Mode K V) → s.mode p ≡ m → s.steps p < TABLES + 1
       go Locating e = omega (arith, (w h).0 e)
       go (Looking i) e =
           let q : Named hash (is_some s.published) home s.start (s.call p) (Looking i) = subst (λ m. Named hash (is_some s.published) home s.start (s.call p) m) e nm in

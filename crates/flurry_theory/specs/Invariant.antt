@@ -10,7 +10,7 @@ use Rattle.flurry_model.specs.declared.call.Call.{Call}
 use Rattle.flurry_model.specs.declared.call.Call.TheVariants.{RemoveSeen, Walk, Clear}
 use Rattle.flurry_model.specs.declared.call.Seen.{Seen}
 use Rattle.flurry_model.specs.declared.reply.KeptReply.{KeptReply}
-use Rattle.flurry_model.specs.declared.sizes.TheConstants.{GREATEST_TABLE}
+use Rattle.flurry_model.specs.declared.sizes.TheConstants.{GREATEST_TABLE, TABLES}
 
 -- the call is one of these
 abbrev pub one_key : {K V F : Type 0} → Option (Call K V F) → Bool
@@ -233,9 +233,9 @@ module _ {K V F : Type 0} where
   Waits call mode steps = is_lookup call ≡ true → (mode ≡ Locating → steps ≡ 0) × ((e : ℕ) → mode ≡ Looking e → steps ≤ suc e) × ((added removed : ℕ) → mode ≡ Done None added removed → ⊥)
 
 module _ {K V F : Type 0} (cmp : K → K → Ordering) (hash : K → ℕ) (gives : F → K → V → Option V → Type 0) where
-  -- a look-up has decided or was refused by its 32nd step, and its step after the decision is its reply
+  -- a look-up has decided or was refused by its 32nd step, one to find a table and one at each table, and its step after the decision is its reply
   pub record LooksUp (s : State K V F) (p : ℕ) : Type 0 where
-    pub in_time : is_lookup (s.call p) ≡ true → decision s.trace p ≡ None → has_closed s.trace p ≡ false → s.steps p < 32
+    pub in_time : is_lookup (s.call p) ≡ true → decision s.trace p ≡ None → has_closed s.trace p ≡ false → s.steps p < TABLES + 1
     pub replies_next : is_lookup (s.call p) ≡ true → (r : KeptReply K V) → decision s.trace p ≡ Some r → has_replied s.trace p ≡ false → (l : Transition K V F) → Can cmp hash gives s p l → l ≡ Replies r
 
 -- ALL OF IT

@@ -3,7 +3,7 @@ use Rattle.std.specs.Prelude.{ℕ, suc, ◌+◌, ◌^◌, ◌%◌, ◌≤◌, �
 use Rattle.std.specs.declared.cmp.Ordering.{Ordering}
 use Rattle.std.proofs.Common.{arith, refl, sym, ◌∙◌, ap, subst}
 use Rattle.std.proofs.lemmas.Bool.{eqb-true, eqb-false, cases_lt}
-use Rattle.flurry_slots.specs.Slot.{Place, Content, IsLive, HasMoved, IsUnborn}
+use Rattle.flurry_slots.specs.Slot.{SlotState, Content, IsLive, HasMoved, IsUnborn}
 use Rattle.flurry_theory.specs.Machine.{State, Unborn}
 use Rattle.flurry_theory.specs.Invariant.{Tables as TablesOk, is_live}
 use Rattle.flurry_theory.proofs.Bins.{small_mod, high_mod, double}
@@ -39,7 +39,7 @@ module _ {K V : Type 0} where
   unborn_content IsUnborn h = refl
 
   -- the tables with a slot put
-  pub put_content : (t : Tables K V) (e i : ℕ) (q : Place K V) → IsSome (place_at t e i) → (d j : ℕ) → content_at (put_place t e i q) d j ≡ (if e == d && i == j then q.content else content_at t d j)
+  pub put_content : (t : Tables K V) (e i : ℕ) (q : SlotState K V) → IsSome (place_at t e i) → (d j : ℕ) → content_at (put_place t e i q) d j ≡ (if e == d && i == j then q.content else content_at t d j)
   put_content t e i q some d j = by_place (e == d) (i == j) refl refl
     where
       by_place : (a b : Bool) → (e == d) ≡ a → (i == j) ≡ b → content_at (put_place t e i q) d j ≡ (if a && b then q.content else content_at t d j)

@@ -1,5 +1,5 @@
 -- Any world is lawful.
-use Rattle.std.specs.Prelude.{◌≡◌, ◌⊎◌, ℕ, ◌<◌, Bool, true, false, reverse, slice_get, Option, Some, None, is_some, unwrap_or}
+use Rattle.std.specs.Prelude.{◌≡◌, ◌⊎◌, ℕ, ◌+◌, ◌<◌, Bool, true, false, reverse, slice_get, Option, Some, None, is_some, unwrap_or}
 use Rattle.std.specs.declared.cmp.Ordering.{Ordering}
 use Rattle.std.specs.Cmp.{IsTotalOrder}
 use Rattle.std.proofs.Common.{refl, sym, ◌∙◌, ap, subst, inl, inr}
@@ -11,6 +11,7 @@ use Rattle.flurry_theory.specs.Trace.{is_lookup, decision, has_replied, has_clos
 use Rattle.flurry_theory.specs.Invariant.{PartyOk, one_key}
 use Rattle.flurry_model.specs.declared.call.Call.{Call}
 use Rattle.flurry_model.specs.declared.call.Call.TheVariants as call
+use Rattle.flurry_model.specs.declared.sizes.TheConstants.{TABLES}
 use Rattle.flurry_world.specs.World.{PartyRecord, WorldState, state_of, steps_in, FollowsStage, IsWorld}
 use Rattle.flurry_world.specs.Lawful.{IsLawful}
 use Rattle.flurry_world.proofs.Cases.{calls, in_mode}
@@ -79,6 +80,6 @@ module _ {K V F S : Type 0} (cmp : K → K → Ordering) (total : IsTotalOrder c
     removals = k.state.1.removals;
     count = k.state.1.counted.balance;
     there = λ p x t e at. bin_is_there cmp total hash lawful gives w k p x at t e;
-    in_time = λ p x at lookup none going. subst (λ n. n < 32) (ap steps_in at) ((k.state.1.lookups p).in_time (ap is_lookup (calls cmp total hash lawful gives w k p x at x.party_state) ∙ lookup) none going);
+    in_time = λ p x at lookup none going. subst (λ n. n < TABLES + 1) (ap steps_in at) ((k.state.1.lookups p).in_time (ap is_lookup (calls cmp total hash lawful gives w k p x at x.party_state) ∙ lookup) none going);
     replies_next = λ p x r at lookup decided open_yet. replies p x at lookup r decided open_yet;
   }

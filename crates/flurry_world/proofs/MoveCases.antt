@@ -5,7 +5,7 @@ use Rattle.std.specs.Cmp.{IsTotalOrder}
 use Rattle.std.proofs.Common.{arith, refl, sym, ◌∙◌, ap, subst, inl, inr}
 use Rattle.std.proofs.lemmas.Bool.{ltb-true}
 use Rattle.flurry_slots.specs.Slot as slots
-use Rattle.flurry_slots.specs.Slot.{Place, Content, IsLive, HasMoved, IsUnborn, IsSlot, IsLiveIn, IsContent, AreHalves, HasMovedInto, Clashes, IfLive, half}
+use Rattle.flurry_slots.specs.Slot.{SlotState, Content, IsLive, HasMoved, IsUnborn, IsSlot, IsLiveIn, IsContent, AreHalves, HasMovedInto, Clashes, IfLive, half}
 use Rattle.flurry_steps.specs.Claim.{Range, next_of, moved_on}
 use Rattle.flurry_steps.specs.Control.{ControlState}
 use Rattle.flurry_steps.specs.Party.{Resume, AtMove, PartyState, with_stage}
@@ -38,7 +38,7 @@ no_slots a [] h e = refl
 no_slots a (y ∷ b) h e = let none : length a ≡ 0 = ap length e in absurd (omega (arith, h, none))
 
 module _ {K V F S : Type 0} (cmp : K → K → Ordering) (total : IsTotalOrder cmp) (hash : K → ℕ) (lawful : (j k : K) → same cmp j k ≡ true → hash j ≡ hash k) (gives : F → K → V → Option V → Type 0) (w : WorldState K V F S) (k : IsWorld cmp hash gives w) (p : ℕ) (x : PartyRecord K V F) (at : slice_get w.party_records p ≡ Some x) (c : PartyState K V F) where
-  module _ (m : Range) (a : Resume K V F) (f : x.party_state.stage ≡ AtMove m a) (had : FollowsResume x.call a) (e i : ℕ) (next : next_of m ≡ Some (e, i)) (q low high : Place K V)
+  module _ (m : Range) (a : Resume K V F) (f : x.party_state.stage ≡ AtMove m a) (had : FollowsResume x.call a) (e i : ℕ) (next : next_of m ≡ Some (e, i)) (q low high : SlotState K V)
       (q_at : place_at w.tables e i ≡ Some q) (low_at : place_at w.tables (e + 1) i ≡ Some low) (high_at : place_at w.tables (e + 1) (i + 2 ^ e) ≡ Some high) (inside : IsSlot cmp q) where
     abbrev held : machine.Claim
     held = record { table = m.table; low = m.low; left = m.left; high = m.high }
@@ -123,7 +123,7 @@ module _ {K V F S : Type 0} (cmp : K → K → Ordering) (total : IsTotalOrder c
     live_content : (z : Content K V) → q.content ≡ z → is_live (slot_of z) ≡ true
     live_content z h = ap (λ y. is_live (slot_of y)) (sym (q_here ∙ h)) ∙ bin_live
 
-    module _ (q' low' high' : Place K V) where
+    module _ (q' low' high' : SlotState K V) where
       abbrev moved_tables : Tables K V
       moved_tables = put_place (put_place (put_place w.tables e i q') (e + 1) i low') (e + 1) (i + 2 ^ e) high'
 

@@ -3,7 +3,7 @@ use Rattle.std.proofs.Common.{◌≡◌, ℕ, ◌<◌, ◌+◌, ◌-◌, ◌^◌
 use Rattle.std.specs.Option.{IsSome}
 use Rattle.std.proofs.lemmas.List.{get_or_append_left, get_or-append_right, set-append_left, set-append_right, map-set, length-set, length-map}
 use Rattle.std.proofs.Math.Seq.{take-append_seam}
-use Rattle.flurry_slots.specs.Slot.{Place}
+use Rattle.flurry_slots.specs.Slot.{SlotState}
 use Rattle.flurry_steps.specs.Party.{PartyState}
 use Rattle.flurry_steps.specs.PartySlots.{MoveStep}
 use Rattle.flurry_steps.specs.declared.party.Event.{Event}
@@ -32,30 +32,30 @@ module _ {X : Type 0} (xs front back : List X) (e : ℕ) (split : xs ≡ front +
 pub take_front : {X : Type 0} (n : ℕ) (xs ys : List X) → length xs ≡ n → take n (xs ++ ys) ≡ xs
 take_front n xs ys len = ap (λ k. take k (xs ++ ys)) (sym len) ∙ take-append_seam xs ys
 
-module _ {K V A : Type 0} (xs : List (Vec (Place K V) A)) (e i j : ℕ) (v w v' w' : Vec (Place K V) A) (q' low' high' : Place K V) where
+module _ {K V A : Type 0} (xs : List (Vec (SlotState K V) A)) (e i j : ℕ) (v w v' w' : Vec (SlotState K V) A) (q' low' high' : SlotState K V) where
   -- a slot and two of the next table are put
   moved_here : e < length xs → e + 1 < length xs → v ≡ get_or xs e v → w ≡ get_or xs (e + 1) w → v'.items ≡ set v.items i q' → w'.items ≡ set (set w.items i low') j high'
       → seen (set (set xs e v') (e + 1) w') ≡ put_place (put_place (put_place (seen xs) e i q') (e + 1) i low') (e + 1) j high'
   moved_here lt next is_v is_w put_v put_w =
       let t = put_place (seen xs) e i q' in
-      let f : Vec (Place K V) A → List (Place K V) = λ u. u.items in
+      let f : Vec (SlotState K V) A → List (SlotState K V) = λ u. u.items in
       let long : length t ≡ length xs = length_of_put (seen xs) e i q' ∙ length-map xs f in
       let there : slots_of t (e + 1) ≡ w.items = slots_of-put_other (seen xs) e i q' (e + 1) (omega arith) ∙ slots_here xs (e + 1) w next is_w in
       map-set f (set xs e v') (e + 1) w' ∙ ap (λ l. set l (e + 1) w'.items) (put_here xs e v lt is_v i v' q' put_v)
-      ∙ ap (set t (e + 1)) (put_w ∙ ap (λ (s : List (Place K V)). set (set s i low') j high') (sym there))
+      ∙ ap (set t (e + 1)) (put_w ∙ ap (λ (s : List (SlotState K V)). set (set s i low') j high') (sym there))
       ∙ sym (put_twice t (e + 1) i j low' high' (omega arith))
 
-module _ {K V A : Type 0} (xs front back : List (Vec (Place K V) A)) (e : ℕ) (split : xs ≡ front ++ back) (len : length front ≡ e + 1) where
+module _ {K V A : Type 0} (xs front back : List (Vec (SlotState K V) A)) (e : ℕ) (split : xs ≡ front ++ back) (len : length front ≡ e + 1) where
   -- the table, with its slot
-  pub old_at : (i : ℕ) (olds : Vec (Place K V) A) (q : Place K V) → IsSome (place_at (seen xs) e i) → olds ≡ get_or front e olds → q ≡ get_or (get_or front e olds).items i q
+  pub old_at : (i : ℕ) (olds : Vec (SlotState K V) A) (q : SlotState K V) → IsSome (place_at (seen xs) e i) → olds ≡ get_or front e olds → q ≡ get_or (get_or front e olds).items i q
       → (e < length xs) × (olds ≡ get_or xs e olds) × (place_at (seen xs) e i ≡ Some q)
   old_at i olds q some is at =
       let lt = table_within xs e i some in
       let there = front_read xs front back e split len olds is in
-      (lt, there, place_here xs e olds lt there i q (slot_within xs e olds lt there i some) (at ∙ ap (λ (v : Vec (Place K V) A). get_or v.items i q) (sym is)))
+      (lt, there, place_here xs e olds lt there i q (slot_within xs e olds lt there i some) (at ∙ ap (λ (v : Vec (SlotState K V) A). get_or v.items i q) (sym is)))
 
   -- the next table, which has a slot of this index
-  pub new_at : (j : ℕ) (news : Vec (Place K V) A) → IsSome (place_at (seen xs) (e + 1) j) → news ≡ get_or back 0 news
+  pub new_at : (j : ℕ) (news : Vec (SlotState K V) A) → IsSome (place_at (seen xs) (e + 1) j) → news ≡ get_or back 0 news
       → (e + 1 < length xs) × (news ≡ get_or xs (e + 1) news) × (j < length (get_or back 0 news).items)
   new_at j news some is =
       let lt = table_within xs (e + 1) j some in
@@ -63,14 +63,14 @@ module _ {K V A : Type 0} (xs front back : List (Vec (Place K V) A)) (e : ℕ) (
       (lt, there, rw is at (slot_within xs (e + 1) news lt there j some))
 
   -- as many places as before
-  pub as_many : (x y : Vec (Place K V) A) → length (set front e x ++ set back 0 y) ≡ length xs
+  pub as_many : (x y : Vec (SlotState K V) A) → length (set front e x ++ set back 0 y) ≡ length xs
   as_many x y =
       length-append (set front e x) (set back 0 y) ∙ omega (arith, length-set front e x, length-set back 0 y, length-append front back, ap length split)
 
-  pub moved : {F : Type 0} (i : ℕ) (olds news olds' news' : Vec (Place K V) A) (q q' : Place K V) (c c' : PartyState K V F) (ev : Event) → AreTables (seen xs)
+  pub moved : {F : Type 0} (i : ℕ) (olds news olds' news' : Vec (SlotState K V) A) (q q' : SlotState K V) (c c' : PartyState K V F) (ev : Event) → AreTables (seen xs)
       → IsSome (place_at (seen xs) e i) → IsSome (place_at (seen xs) (e + 1) i) → olds ≡ get_or front e olds → news ≡ get_or back 0 news → q ≡ get_or (get_or front e olds).items i q
       → olds'.items ≡ set (get_or front e olds).items i q' → HalvesStep c q i (i + 2 ^ e) (get_or back 0 news).items ev c' q' news'.items
-      → (low high low' high' : Place K V)
+      → (low high low' high' : SlotState K V)
       × (place_at (seen xs) e i ≡ Some q) × (place_at (seen xs) (e + 1) i ≡ Some low) × (place_at (seen xs) (e + 1) (i + 2 ^ e) ≡ Some high)
       × MoveStep c q low high ev c' q' low' high'
       × (seen (set front e olds' ++ set back 0 news') ≡ put_place (put_place (put_place (seen xs) e i q') (e + 1) i low') (e + 1) (i + 2 ^ e) high')
@@ -79,11 +79,11 @@ module _ {K V A : Type 0} (xs front back : List (Vec (Place K V) A)) (e : ℕ) (
       let (lt, there, at_q) = old_at i olds q some is_olds at in
       let (next, there_next, below) = new_at i news some_low is_news in
       let (low, high, low', high', at_low, at_high, move, put_new) = step in
-      let here = slots_here xs (e + 1) news next there_next ∙ ap (λ (v : Vec (Place K V) A). v.items) is_news in
-      let is_low = ap (λ (s : List (Place K V)). slice_get s i) here ∙ at_low in
-      let is_high = ap (λ (s : List (Place K V)). slice_get s (i + 2 ^ e)) here ∙ at_high in
-      let whole = ap (λ (l : List (Vec (Place K V) A)). seen l) (joined xs front back e olds' news' split len)
-      ∙ moved_here xs e i (i + 2 ^ e) olds news olds' news' q' low' high' lt next there there_next (put_old ∙ ap (λ (v : Vec (Place K V) A). set v.items i q') (sym is_olds))
-      (put_new ∙ ap (λ (v : Vec (Place K V) A). set (set v.items i low') (i + 2 ^ e) high') (sym is_news)) in
+      let here = slots_here xs (e + 1) news next there_next ∙ ap (λ (v : Vec (SlotState K V) A). v.items) is_news in
+      let is_low = ap (λ (s : List (SlotState K V)). slice_get s i) here ∙ at_low in
+      let is_high = ap (λ (s : List (SlotState K V)). slice_get s (i + 2 ^ e)) here ∙ at_high in
+      let whole = ap (λ (l : List (Vec (SlotState K V) A)). seen l) (joined xs front back e olds' news' split len)
+      ∙ moved_here xs e i (i + 2 ^ e) olds news olds' news' q' low' high' lt next there there_next (put_old ∙ ap (λ (v : Vec (SlotState K V) A). set v.items i q') (sym is_olds))
+      (put_new ∙ ap (λ (v : Vec (SlotState K V) A). set (set v.items i low') (i + 2 ^ e) high') (sym is_news)) in
       let kept = moves_in_place c c' q low high q' low' high' ev move in
       (low, high, low', high', at_q, is_low, is_high, move, whole, subst AreTables (sym whole) (AreTables-moved (seen xs) e i q low high q' low' high' are at_q is_low is_high kept.0 kept.1 kept.2))

@@ -5,7 +5,7 @@ use Rattle.std.specs.Cmp.{IsTotalOrder}
 use Rattle.std.specs.Option.{option_map_or}
 use Rattle.std.proofs.Common.{arith, refl, sym, ◌∙◌, ap, subst}
 use Rattle.flurry_slots.specs.Slot as slots
-use Rattle.flurry_slots.specs.Slot.{Place, IsLive, IsUnborn}
+use Rattle.flurry_slots.specs.Slot.{SlotState, IsLive, IsUnborn}
 use Rattle.std.specs.declared.alloc.AllocError.{AllocError}
 use Rattle.flurry_steps.specs.Control.{ControlState, IsIdle, OpenGives, after_open}
 use Rattle.flurry_theory.specs.Map.{same}
@@ -40,7 +40,7 @@ module _ {K V : Type 0} where
   AreTables-no_tables = AreTables-none no_tables refl (slots_of-none TABLES)
 
   nothing : (d j : ℕ) → content_at (no_tables {K = K} {V = V}) d j ≡ IsUnborn
-  nothing d j = ap (λ s. option_map_or (λ (p : Place K V). p.content) (slice_get s j) IsUnborn) (slots_of-none TABLES d)
+  nothing d j = ap (λ s. option_map_or (λ (p : SlotState K V). p.content) (slice_get s j) IsUnborn) (slots_of-none TABLES d)
 
 module _ {K V F S : Type 0} (cmp : K → K → Ordering) (total : IsTotalOrder cmp) (hash : K → ℕ) (lawful : (j k : K) → same cmp j k ≡ true → hash j ≡ hash k) (gives : F → K → V → Option V → Type 0) (hasher : S) (processors : ℕ) where
   -- without a table

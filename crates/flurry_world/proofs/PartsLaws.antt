@@ -2,7 +2,7 @@
 use Rattle.std.specs.Prelude.{◌≡◌, ◌⊎◌, ℕ, ◌+◌, ◌^◌, ◌≤◌, ◌<◌, Bool, true, Option, Some, None, IsSome, is_some}
 use Rattle.std.specs.declared.cmp.Ordering.{Ordering}
 use Rattle.std.proofs.Common.{arith, inl, inr, refl, sym, ◌∙◌, ap, subst}
-use Rattle.flurry_slots.specs.Slot.{Place}
+use Rattle.flurry_slots.specs.Slot.{SlotState}
 use Rattle.flurry_steps.specs.Control.{ControlState}
 use Rattle.flurry_steps.specs.Party.{Stage, AtLocate, AtBin, AtClaim, AtMove, AtUncount, AtCount, AtRecount, AtBegin, AtGrow, AtReserve, AtDone, AtTaken, PartyState, Part, ControlPart, LookPart, BinPart, MovePart, NoPart, part_of, wanted_part}
 use Rattle.flurry_steps.specs.PartyControl.{ControlStep}
@@ -27,7 +27,7 @@ module _ {K V F : Type 0} (cmp : K → K → Ordering) (changes : F → K → V 
     step = (want ∙ (λ j. LookPart (sym (are.order e i q there).0 j) (sym (are.order e i q there).1 j)), inside, h);
   }
     where
-      there_own : (e i : ℕ) (q : Place K V) → place_at t e i ≡ Some q → place_at t q.table q.index ≡ Some q
+      there_own : (e i : ℕ) (q : SlotState K V) → place_at t e i ≡ Some q → place_at t q.table q.index ≡ Some q
       there_own e i q there = let is = are.order e i q there in subst (λ n. place_at t n q.index ≡ Some q) (sym is.0) (subst (λ n. place_at t e n ≡ Some q) (sym is.1) there)
   turn_of (BinPart e i) want (q, q', there, inside, h, y, z) = by_place (are.order e i q there)
     where
@@ -59,12 +59,12 @@ module _ {K V F : Type 0} (cmp : K → K → Ordering) (changes : F → K → V 
 pub no_halves : {K V : Type 0} (t : Tables K V) (e i : ℕ) → AreTables t → (GREATEST_TABLE ≤ e) ⊎ (2 ^ e ≤ i) → IsThere t (MovePart e i) → ⊥
 no_halves {K} {V} t e i are (inl far) (here, low, high) = by_place (place_at t (e + 1) i) refl low
   where
-    by_place : (o : Option (Place K V)) → place_at t (e + 1) i ≡ o → IsSome o → ⊥
+    by_place : (o : Option (SlotState K V)) → place_at t (e + 1) i ≡ o → IsSome o → ⊥
     by_place None is some = cc
     by_place (Some q) is some = let (lt, below) = place_in t (e + 1) i q is in omega (arith, lt, far, are.places)
 no_halves {K} {V} t e i are (inr past) (here, low, high) = by_place (place_at t e i) refl here
   where
-    by_place : (o : Option (Place K V)) → place_at t e i ≡ o → IsSome o → ⊥
+    by_place : (o : Option (SlotState K V)) → place_at t e i ≡ o → IsSome o → ⊥
     by_place None is some = cc
     by_place (Some q) is some = let below = index_within t e i q are is in omega (arith, below, past)
 
@@ -109,6 +109,6 @@ module _ {K V F : Type 0} (cmp : K → K → Ordering) (changes : F → K → V 
 pub index_there : {K V : Type 0} (t : Tables K V) (e i : ℕ) → AreTables t → is_some (place_at t e i) ≡ true → i < 2 ^ e
 index_there {K} {V} t e i are there = by_place (place_at t e i) refl there
   where
-    by_place : (o : Option (Place K V)) → place_at t e i ≡ o → is_some o ≡ true → i < 2 ^ e
+    by_place : (o : Option (SlotState K V)) → place_at t e i ≡ o → is_some o ≡ true → i < 2 ^ e
     by_place None is some = cc
     by_place (Some q) is some = index_within t e i q are is

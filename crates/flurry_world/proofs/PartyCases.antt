@@ -4,7 +4,7 @@ use Rattle.std.specs.declared.cmp.Ordering.{Ordering}
 use Rattle.std.specs.Cmp.{IsTotalOrder}
 use Rattle.std.proofs.Common.{refl, sym, ap, subst, inl, inr}
 use Rattle.std.proofs.lemmas.Bool.{eqb-true, and_parts}
-use Rattle.flurry_slots.specs.Slot.{Place, IsSlot, IsContent}
+use Rattle.flurry_slots.specs.Slot.{SlotState, IsSlot, IsContent}
 use Rattle.flurry_steps.specs.Claim.{Range, next_of}
 use Rattle.flurry_steps.specs.Control.{ControlState}
 use Rattle.flurry_steps.specs.Party.{Task, Finds, Removes, Inserts, Adds, Computes, Resume, Stage, AtLocate, AtBin, AtClaim, AtMove, AtUncount, AtCount, AtRecount, AtBegin, AtGrow, AtReserve, AtDone, AtTaken, PartyState, part_of, ControlPart, LookPart, BinPart, wanted_part, move_part}
@@ -28,7 +28,7 @@ use Rattle.flurry_world.proofs.MoveCases.{at_move, no_slots}
 
 module _ {K V : Type 0} where
   -- tables with the same content at a slot
-  put_same : (t : Tables K V) (e i : ℕ) (q : Place K V) → AreTables t → place_at t e i ≡ Some q → Put t e i q.content t
+  put_same : (t : Tables K V) (e i : ℕ) (q : SlotState K V) → AreTables t → place_at t e i ≡ Some q → Put t e i q.content t
   put_same t e i q are at = record { contents = λ d j. by_place d j (e == d && i == j) refl; tables = are; made = λ d h. h; unmade = λ d h. h }
     where
       by_place : (d j : ℕ) (b : Bool) → (e == d && i == j) ≡ b → content_at t d j ≡ (if b then q.content else content_at t d j)
@@ -36,7 +36,7 @@ module _ {K V : Type 0} where
       by_place d j false h = refl
 
   -- tables with another slot
-  put_other : (t : Tables K V) (e i : ℕ) (q q' : Place K V) → AreTables t → place_at t e i ≡ Some q → q'.table ≡ q.table → q'.index ≡ q.index → Put t e i q'.content (put_place t e i q')
+  put_other : (t : Tables K V) (e i : ℕ) (q q' : SlotState K V) → AreTables t → place_at t e i ≡ Some q → q'.table ≡ q.table → q'.index ≡ q.index → Put t e i q'.content (put_place t e i q')
   put_other t e i q q' are at table index = record {
     contents = put_content t e i q' (ap is_some at);
     tables = AreTables-put t e i q' q are at table index;
@@ -76,7 +76,7 @@ module _ {K V F S : Type 0} (cmp : K → K → Ordering) (total : IsTotalOrder c
 
   -- at its bin, to read or to write it
   module _ (t : Task K V F) (n : ℕ) (e : x.party_state.stage ≡ AtBin t n) where
-    slot_step : (q q' : Place K V) → place_at w.tables n (x.party_state.hash % 2 ^ n) ≡ Some q → IsSlot cmp q → SlotStep cmp gives x.party_state q ev c q' → b ≡ w.control_state → Put w.tables n (x.party_state.hash % 2 ^ n) q'.content t' → Taken
+    slot_step : (q q' : SlotState K V) → place_at w.tables n (x.party_state.hash % 2 ^ n) ≡ Some q → IsSlot cmp q → SlotStep cmp gives x.party_state q ev c q' → b ≡ w.control_state → Put w.tables n (x.party_state.hash % 2 ^ n) q'.content t' → Taken
     slot_step q q' there inside h y put = record {
       hash_stays = h.hash;
       step = subst (λ z. IsStep cmp hash gives w p x z t' c (label_of p ev c.stage)) (sym y)

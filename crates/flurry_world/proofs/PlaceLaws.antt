@@ -1,12 +1,12 @@
 -- What a place of tables is after a table was asked for there.
 use Rattle.std.specs.Prelude.{ℕ, Bool, true, false, List, [], ◌∷◌, ◌≡◌}
 use Rattle.std.proofs.Common.{refl, ap}
-use Rattle.flurry_slots.specs.Slot.{Live, Content, IsLive, HasMoved, IsUnborn, Place}
+use Rattle.flurry_slots.specs.Slot.{Live, Content, IsLive, HasMoved, IsUnborn, SlotState}
 use Rattle.flurry_world.specs.Tables.{Tables, slots_of, is_made, MadeGives, PlaceGives}
 
 module _ {K V : Type 0} where
   -- a table that was not made has no slots
-  pub unmade_empty : (s : List (Place K V)) → is_made s ≡ false → s ≡ []
+  pub unmade_empty : (s : List (SlotState K V)) → is_made s ≡ false → s ≡ []
   unmade_empty [] h = refl
   unmade_empty (q ∷ s) h = cc
 

@@ -5,7 +5,7 @@ use Rattle.std.specs.Cmp.{IsTotalOrder}
 use Rattle.std.proofs.Common.{arith, refl, sym, ◌∙◌, ap, subst}
 use Rattle.std.proofs.lemmas.Bool.{eqb-true}
 use Rattle.flurry_slots.specs.Slot as slots
-use Rattle.flurry_slots.specs.Slot.{Place, Content, IsLive, HasMoved, IsUnborn, IsSlot, IsLiveIn, IsContent}
+use Rattle.flurry_slots.specs.Slot.{SlotState, Content, IsLive, HasMoved, IsUnborn, IsSlot, IsLiveIn, IsContent}
 use Rattle.flurry_steps.specs.Party.{Task, AtBin, PartyState, outcome_in}
 use Rattle.flurry_steps.specs.PartySlots as party
 use Rattle.flurry_steps.specs.PartySlots.{DecidesAt, LiveGives, ContentGives, stage_moved}
@@ -35,7 +35,7 @@ pub record Put {K V : Type 0} (t : Tables K V) (e i : ℕ) (c : Content K V) (t'
   pub unmade : (d : ℕ) → slots_of t d ≡ [] → slots_of t' d ≡ []
 
 module _ {K V F S : Type 0} (cmp : K → K → Ordering) (total : IsTotalOrder cmp) (hash : K → ℕ) (lawful : (j k : K) → same cmp j k ≡ true → hash j ≡ hash k) (gives : F → K → V → Option V → Type 0) (w : WorldState K V F S) (k : IsWorld cmp hash gives w) (p : ℕ) (x : PartyRecord K V F) (at : slice_get w.party_records p ≡ Some x) (c : PartyState K V F) where
-  module _ (t : Task K V F) (e : ℕ) (f : x.party_state.stage ≡ AtBin t e) (task : task_of_call x.call ≡ Some t) (q : Place K V) (here : content_at w.tables e (x.party_state.hash % 2 ^ e) ≡ q.content) (inside : IsContent cmp e (x.party_state.hash % 2 ^ e) q.content) where
+  module _ (t : Task K V F) (e : ℕ) (f : x.party_state.stage ≡ AtBin t e) (task : task_of_call x.call ≡ Some t) (q : SlotState K V) (here : content_at w.tables e (x.party_state.hash % 2 ^ e) ≡ q.content) (inside : IsContent cmp e (x.party_state.hash % 2 ^ e) q.content) where
     looking : (state_of w).mode p ≡ Looking e
     looking = in_mode cmp total hash lawful gives w k p x at c (AtBin t e) f
 

@@ -6,7 +6,7 @@ use Rattle.std.proofs.lemmas.Bool.{cases_eq, cases_lt, eq-eqb, ne_eqb, lt-ltb, l
 use Rattle.std.proofs.lemmas.List.{length-set, set-set, set_past, get_or_past}
 use Rattle.std.proofs.lemmas.Nat.{pow_pos}
 use Rattle.std.proofs.lemmas.Option.{slice_get_past, slice_get_within}
-use Rattle.flurry_slots.specs.Slot.{Content, IsLive, HasMoved, IsUnborn, IfLive, Place, half}
+use Rattle.flurry_slots.specs.Slot.{Content, IsLive, HasMoved, IsUnborn, IfLive, SlotState, half}
 use Rattle.flurry_steps.specs.Party.{PartyState}
 use Rattle.flurry_steps.specs.PartySlots.{MoveGives, MoveStep}
 use Rattle.flurry_steps.specs.declared.party.Event.{Event}
@@ -58,7 +58,7 @@ module _ (K V : Type 0) where
       let len = length-new_slots e live n in
       elim (cases_eq i n) [
         | inl last ↦
-            slice_get-last (new_slots e live n) _ i (omega arith) ∙ ap (λ (k : ℕ). let p : Place K V = record { table = e; index = k; content = fresh live } in Some p) (sym last)
+            slice_get-last (new_slots e live n) _ i (omega arith) ∙ ap (λ (k : ℕ). let p : SlotState K V = record { table = e; index = k; content = fresh live } in Some p) (sym last)
         | inr before ↦ slice_get-front (new_slots e live n) _ i (omega arith) ∙ new_slots_at e live n i (omega arith)
       ]
 
@@ -66,42 +66,42 @@ module _ (K V : Type 0) where
   new_slots_past e live n i past = slice_get_past (new_slots e live n) i (omega (arith, length-new_slots e live n))
 
 module _ {K V : Type 0} where
-  made_same : (xs ys : List (Place K V)) → length xs ≡ length ys → is_made xs ≡ is_made ys
+  made_same : (xs ys : List (SlotState K V)) → length xs ≡ length ys → is_made xs ≡ is_made ys
   made_same [] [] same = refl
   made_same [] (y ∷ ys) same = absurd (omega arith)
   made_same (x ∷ xs) [] same = absurd (omega arith)
   made_same (x ∷ xs) (y ∷ ys) same = refl
 
-  made_some : (s : List (Place K V)) → 0 < length s → is_made s ≡ true
+  made_some : (s : List (SlotState K V)) → 0 < length s → is_made s ≡ true
   made_some [] h = absurd (omega arith)
   made_some (p ∷ s) h = refl
 
   -- a table that was made has slots
-  pub not_made : (s : List (Place K V)) → is_made s ≡ true → s ≡ [] → ⊥
+  pub not_made : (s : List (SlotState K V)) → is_made s ≡ true → s ≡ [] → ⊥
   not_made s made none = let no : is_made s ≡ false = ap is_made none in cc
 
   -- ---- a slot that is there
 
   -- where a slot is, its table has a place
-  pub place_in : (t : Tables K V) (e i : ℕ) (q : Place K V) → place_at t e i ≡ Some q → (e < length t) × (i < length (slots_of t e))
+  pub place_in : (t : Tables K V) (e i : ℕ) (q : SlotState K V) → place_at t e i ≡ Some q → (e < length t) × (i < length (slots_of t e))
   place_in t e i q is = elim (cases_lt e (length t)) [
     | inl lt ↦ (lt, slice_get_within (slots_of t e) i q is)
-    | inr past ↦ let none : place_at t e i ≡ None = ap (λ (s : List (Place K V)). slice_get s i) (get_or_past t e [] past) in cc
+    | inr past ↦ let none : place_at t e i ≡ None = ap (λ (s : List (SlotState K V)). slice_get s i) (get_or_past t e [] past) in cc
   ]
 
-  pub content_of_place : (t : Tables K V) (e i : ℕ) (q : Place K V) → place_at t e i ≡ Some q → content_at t e i ≡ q.content
-  content_of_place t e i q is = ap (λ (o : Option (Place K V)). option_map_or (λ (p : Place K V). p.content) o IsUnborn) is
+  pub content_of_place : (t : Tables K V) (e i : ℕ) (q : SlotState K V) → place_at t e i ≡ Some q → content_at t e i ≡ q.content
+  content_of_place t e i q is = ap (λ (o : Option (SlotState K V)). option_map_or (λ (p : SlotState K V). p.content) o IsUnborn) is
 
   -- where a bin stands or stood, there is a slot
   pub place_of_content : (t : Tables K V) (e i : ℕ) → (content_at t e i ≡ IsUnborn → ⊥) → IsSome (place_at t e i)
   place_of_content t e i born = by_place (place_at t e i) born
     where
-      by_place : (o : Option (Place K V)) → (option_map_or (λ (p : Place K V). p.content) o IsUnborn ≡ IsUnborn → ⊥) → IsSome o
+      by_place : (o : Option (SlotState K V)) → (option_map_or (λ (p : SlotState K V). p.content) o IsUnborn ≡ IsUnborn → ⊥) → IsSome o
       by_place None born = absurd (born refl)
       by_place (Some q) born = refl
 
   -- an index that has a slot is one of the table's
-  pub index_within : (t : Tables K V) (e i : ℕ) (q : Place K V) → AreTables t → place_at t e i ≡ Some q → i < 2 ^ e
+  pub index_within : (t : Tables K V) (e i : ℕ) (q : SlotState K V) → AreTables t → place_at t e i ≡ Some q → i < 2 ^ e
   index_within t e i q are is =
       let (lt, below) = place_in t e i q is in
       omega (arith, are.slots e (made_some (slots_of t e) (omega arith)))
@@ -112,7 +112,7 @@ module _ {K V : Type 0} where
 
   -- ---- a slot is put
 
-  module _ (t : Tables K V) (e i : ℕ) (q : Place K V) where
+  module _ (t : Tables K V) (e i : ℕ) (q : SlotState K V) where
     -- another table is as it was
     pub slots_of-put_other : (d : ℕ) → (d ≡ e → ⊥) → slots_of (put_place t e i q) d ≡ slots_of t d
     slots_of-put_other d apart = get_or-set_other t e d _ [] apart
@@ -140,19 +140,19 @@ module _ {K V : Type 0} where
     pub place_at-put : IsSome (place_at t e i) → place_at (put_place t e i q) e i ≡ Some q
     place_at-put some = by_place (place_at t e i) refl some
       where
-        by_place : (o : Option (Place K V)) → place_at t e i ≡ o → IsSome o → place_at (put_place t e i q) e i ≡ Some q
+        by_place : (o : Option (SlotState K V)) → place_at t e i ≡ o → IsSome o → place_at (put_place t e i q) e i ≡ Some q
         by_place None is some = cc
         by_place (Some p) is some =
             let (lt, below) = place_in t e i p is in
-            ap (λ (s : List (Place K V)). slice_get s i) (slots_of-put_same lt) ∙ slice_get-set_same (slots_of t e) i q below
+            ap (λ (s : List (SlotState K V)). slice_get s i) (slots_of-put_same lt) ∙ slice_get-set_same (slots_of t e) i q below
 
     -- every other slot is as it was
     pub place_at-put_other : (d j : ℕ) → (d ≡ e → j ≡ i → ⊥) → place_at (put_place t e i q) d j ≡ place_at t d j
     place_at-put_other d j apart = elim (cases_eq d e) [
-      | inr other ↦ ap (λ (s : List (Place K V)). slice_get s j) (slots_of-put_other d other)
+      | inr other ↦ ap (λ (s : List (SlotState K V)). slice_get s j) (slots_of-put_other d other)
       | inl same ↦ elim (cases_lt e (length t)) [
         | inl lt ↦
-            ap (λ (n : ℕ). place_at (put_place t e i q) n j) same ∙ ap (λ (s : List (Place K V)). slice_get s j) (slots_of-put_same lt)
+            ap (λ (n : ℕ). place_at (put_place t e i q) n j) same ∙ ap (λ (s : List (SlotState K V)). slice_get s j) (slots_of-put_same lt)
             ∙ slice_get-set_other (slots_of t e) i j q (apart same) ∙ ap (λ (n : ℕ). place_at t n j) (sym same)
         | inr past ↦ ap (λ (u : Tables K V). place_at u d j) (set_past t e _ past)
       ]
@@ -162,10 +162,10 @@ module _ {K V : Type 0} where
     content_at-put some = content_of_place (put_place t e i q) e i q (place_at-put some)
 
     pub content_at-put_other : (d j : ℕ) → (d ≡ e → j ≡ i → ⊥) → content_at (put_place t e i q) d j ≡ content_at t d j
-    content_at-put_other d j apart = ap (λ (o : Option (Place K V)). option_map_or (λ (p : Place K V). p.content) o IsUnborn) (place_at-put_other d j apart)
+    content_at-put_other d j apart = ap (λ (o : Option (SlotState K V)). option_map_or (λ (p : SlotState K V). p.content) o IsUnborn) (place_at-put_other d j apart)
 
     -- tables stay tables, where the slot has the number and the index of the one that was there
-    pub AreTables-put : (p : Place K V) → AreTables t → place_at t e i ≡ Some p → q.table ≡ p.table → q.index ≡ p.index → AreTables (put_place t e i q)
+    pub AreTables-put : (p : SlotState K V) → AreTables t → place_at t e i ≡ Some p → q.table ≡ p.table → q.index ≡ p.index → AreTables (put_place t e i q)
     AreTables-put p are is table index = record {
       places = length_of_put ∙ are.places;
       slots = λ d made. length_of_put_slots d ∙ are.slots d (made_before d made);
@@ -175,12 +175,12 @@ module _ {K V : Type 0} where
         made_before : (d : ℕ) → is_made (slots_of (put_place t e i q) d) ≡ true → is_made (slots_of t d) ≡ true
         made_before d made = sym (is_made-put d) ∙ made
 
-        ordered : (d j : ℕ) (r : Place K V) → place_at (put_place t e i q) d j ≡ Some r → (d ≡ e) ⊎ (d ≡ e → ⊥) → (j ≡ i) ⊎ (j ≡ i → ⊥) → (r.table ≡ d) × (r.index ≡ j)
+        ordered : (d j : ℕ) (r : SlotState K V) → place_at (put_place t e i q) d j ≡ Some r → (d ≡ e) ⊎ (d ≡ e → ⊥) → (j ≡ i) ⊎ (j ≡ i → ⊥) → (r.table ≡ d) × (r.index ≡ j)
         ordered d j r at (inl same) (inl here) =
             let there : place_at (put_place t e i q) d j ≡ Some q = ap (λ (n : ℕ). place_at (put_place t e i q) n j) same ∙ ap (place_at (put_place t e i q) e) here ∙ place_at-put (ap is_some is) in
             let one : r ≡ q = cc in
             let old = are.order e i p is in
-            (ap (λ (x : Place K V). x.table) one ∙ table ∙ old.0 ∙ sym same, ap (λ (x : Place K V). x.index) one ∙ index ∙ old.1 ∙ sym here)
+            (ap (λ (x : SlotState K V). x.table) one ∙ table ∙ old.0 ∙ sym same, ap (λ (x : SlotState K V). x.index) one ∙ index ∙ old.1 ∙ sym here)
         ordered d j r at (inl same) (inr apart) = are.order d j r (sym (place_at-put_other d j (λ _. apart)) ∙ at)
         ordered d j r at (inr other) w = are.order d j r (sym (place_at-put_other d j (λ e _. other e)) ∙ at)
 
@@ -190,7 +190,7 @@ module _ {K V : Type 0} where
   AreTables-none t places none = record {
     places = places;
     slots = λ e made. let no : is_made (slots_of t e) ≡ false = ap is_made (none e) in absurd cc;
-    order = λ e i q at. let no : place_at t e i ≡ None = ap (λ (s : List (Place K V)). slice_get s i) (none e) in absurd cc;
+    order = λ e i q at. let no : place_at t e i ≡ None = ap (λ (s : List (SlotState K V)). slice_get s i) (none e) in absurd cc;
   }
 
   -- ---- a table is made
@@ -206,24 +206,24 @@ module _ {K V : Type 0} where
     -- the table has its slots
     pub place_at-made : AreTables t → e ≤ GREATEST_TABLE → (j : ℕ) → j < 2 ^ e → place_at (with_table t e live) e j ≡ Some (record { table = e; index = j; content = fresh live })
     place_at-made are within j lt =
-        ap (λ (s : List (Place K V)). slice_get s j) (slots_of-made (omega (arith, are.places))) ∙ new_slots_at K V e live (2 ^ e) j lt
+        ap (λ (s : List (SlotState K V)). slice_get s j) (slots_of-made (omega (arith, are.places))) ∙ new_slots_at K V e live (2 ^ e) j lt
 
     place_at-made_past : AreTables t → e ≤ GREATEST_TABLE → (j : ℕ) → 2 ^ e ≤ j → place_at (with_table t e live) e j ≡ None
     place_at-made_past are within j past =
-        ap (λ (s : List (Place K V)). slice_get s j) (slots_of-made (omega (arith, are.places))) ∙ new_slots_past K V e live (2 ^ e) j past
+        ap (λ (s : List (SlotState K V)). slice_get s j) (slots_of-made (omega (arith, are.places))) ∙ new_slots_past K V e live (2 ^ e) j past
 
     -- and nothing past them
     pub content_at-made_past : AreTables t → e ≤ GREATEST_TABLE → (j : ℕ) → 2 ^ e ≤ j → content_at (with_table t e live) e j ≡ IsUnborn
-    content_at-made_past are within j past = ap (λ (o : Option (Place K V)). option_map_or (λ (p : Place K V). p.content) o IsUnborn) (place_at-made_past are within j past)
+    content_at-made_past are within j past = ap (λ (o : Option (SlotState K V)). option_map_or (λ (p : SlotState K V). p.content) o IsUnborn) (place_at-made_past are within j past)
 
     pub place_at-made_other : (d j : ℕ) → (d ≡ e → ⊥) → place_at (with_table t e live) d j ≡ place_at t d j
-    place_at-made_other d j apart = ap (λ (s : List (Place K V)). slice_get s j) (slots_of-made_other d apart)
+    place_at-made_other d j apart = ap (λ (s : List (SlotState K V)). slice_get s j) (slots_of-made_other d apart)
 
     pub content_at-made_here : AreTables t → e ≤ GREATEST_TABLE → (j : ℕ) → j < 2 ^ e → content_at (with_table t e live) e j ≡ fresh live
     content_at-made_here are within j lt = content_of_place (with_table t e live) e j _ (place_at-made are within j lt)
 
     pub content_at-made_other : (d j : ℕ) → (d ≡ e → ⊥) → content_at (with_table t e live) d j ≡ content_at t d j
-    content_at-made_other d j apart = ap (λ (o : Option (Place K V)). option_map_or (λ (p : Place K V). p.content) o IsUnborn) (place_at-made_other d j apart)
+    content_at-made_other d j apart = ap (λ (o : Option (SlotState K V)). option_map_or (λ (p : SlotState K V). p.content) o IsUnborn) (place_at-made_other d j apart)
 
     pub AreTables-made : AreTables t → e ≤ GREATEST_TABLE → AreTables (with_table t e live)
     AreTables-made are within = record {
@@ -237,12 +237,12 @@ module _ {K V : Type 0} where
             ap (λ (n : ℕ). length (slots_of (with_table t e live) n)) same ∙ ap length (slots_of-made (omega (arith, are.places))) ∙ length-new_slots K V e live (2 ^ e) ∙ ap (λ (n : ℕ). 2 ^ n) (sym same)
         sized d made (inr apart) = ap length (slots_of-made_other d apart) ∙ are.slots d (ap is_made (sym (slots_of-made_other d apart)) ∙ made)
 
-        ordered : (d j : ℕ) (p : Place K V) → place_at (with_table t e live) d j ≡ Some p → (d ≡ e) ⊎ (d ≡ e → ⊥) → (j < 2 ^ e) ⊎ (2 ^ e ≤ j) → (p.table ≡ d) × (p.index ≡ j)
+        ordered : (d j : ℕ) (p : SlotState K V) → place_at (with_table t e live) d j ≡ Some p → (d ≡ e) ⊎ (d ≡ e → ⊥) → (j < 2 ^ e) ⊎ (2 ^ e ≤ j) → (p.table ≡ d) × (p.index ≡ j)
         ordered d j p at (inr apart) w = are.order d j p (sym (place_at-made_other d j apart) ∙ at)
         ordered d j p at (inl same) (inl lt) =
             let there = ap (λ (n : ℕ). place_at (with_table t e live) n j) same ∙ place_at-made are within j lt in
             let one : p ≡ record { table = e; index = j; content = fresh live } = cc in
-            (ap (λ (x : Place K V). x.table) one ∙ sym same, ap (λ (x : Place K V). x.index) one)
+            (ap (λ (x : SlotState K V). x.table) one ∙ sym same, ap (λ (x : SlotState K V). x.index) one)
         ordered d j p at (inl same) (inr past) =
             let none = ap (λ (n : ℕ). place_at (with_table t e live) n j) same ∙ place_at-made_past are within j past in
             absurd cc
@@ -273,11 +273,11 @@ module _ {K V : Type 0} where
   pub content_past : (t : Tables K V) (e j : ℕ) → AreTables t → 2 ^ e ≤ j → content_at t e j ≡ IsUnborn
   content_past t e j are past = by_slots (slots_of t e) (are.slots e)
     where
-      by_slots : (s : List (Place K V)) → (is_made s ≡ true → length s ≡ 2 ^ e) → option_map_or (λ (p : Place K V). p.content) (slice_get s j) IsUnborn ≡ IsUnborn
+      by_slots : (s : List (SlotState K V)) → (is_made s ≡ true → length s ≡ 2 ^ e) → option_map_or (λ (p : SlotState K V). p.content) (slice_get s j) IsUnborn ≡ IsUnborn
       by_slots [] size = refl
       by_slots (p ∷ s) size =
           let many : length (p ∷ s) ≡ 2 ^ e = size refl in
-          ap (λ (o : Option (Place K V)). option_map_or (λ (r : Place K V). r.content) o IsUnborn) (slice_get_past (p ∷ s) j (omega arith))
+          ap (λ (o : Option (SlotState K V)). option_map_or (λ (r : SlotState K V). r.content) o IsUnborn) (slice_get_past (p ∷ s) j (omega arith))
 
   -- what stands at each slot after a table was made
   pub content_at-made : (t : Tables K V) (e : ℕ) (live : Bool) → AreTables t → e ≤ GREATEST_TABLE → (d j : ℕ)
@@ -302,7 +302,7 @@ module _ {K V : Type 0} where
       unborn_here (inl lt) = content_at-made_here t e false are within j lt
       unborn_here (inr past) = content_at-made_past t e false are within j past
 
-      nothing_in : (s : List (Place K V)) → is_made s ≡ false → option_map_or (λ (p : Place K V). p.content) (slice_get s j) IsUnborn ≡ IsUnborn
+      nothing_in : (s : List (SlotState K V)) → is_made s ≡ false → option_map_or (λ (p : SlotState K V). p.content) (slice_get s j) IsUnborn ≡ IsUnborn
       nothing_in [] h = refl
       nothing_in (p ∷ s) h = absurd cc
 
@@ -318,11 +318,11 @@ module _ {K V : Type 0} where
   -- ---- a bin moves
 
   -- a second slot of the table is put
-  pub put_twice : (t : Tables K V) (d i j : ℕ) (q r : Place K V) → d < length t → put_place (put_place t d i q) d j r ≡ set t d (set (set (slots_of t d) i q) j r)
-  put_twice t d i j q r lt = set-set t d _ _ ∙ ap (λ (s : List (Place K V)). set t d (set s j r)) (get_or-set_same t d _ [] lt)
+  pub put_twice : (t : Tables K V) (d i j : ℕ) (q r : SlotState K V) → d < length t → put_place (put_place t d i q) d j r ≡ set t d (set (set (slots_of t d) i q) j r)
+  put_twice t d i j q r lt = set-set t d _ _ ∙ ap (λ (s : List (SlotState K V)). set t d (set s j r)) (get_or-set_same t d _ [] lt)
 
   -- three slots are put, in two tables
-  pub AreTables-moved : (t : Tables K V) (e i : ℕ) (q low high q' low' high' : Place K V) → AreTables t
+  pub AreTables-moved : (t : Tables K V) (e i : ℕ) (q low high q' low' high' : SlotState K V) → AreTables t
       → place_at t e i ≡ Some q → place_at t (e + 1) i ≡ Some low → place_at t (e + 1) (i + 2 ^ e) ≡ Some high
       → (q'.table ≡ q.table) × (q'.index ≡ q.index) → (low'.table ≡ low.table) × (low'.index ≡ low.index) → (high'.table ≡ high.table) × (high'.index ≡ high.index)
       → AreTables (put_place (put_place (put_place t e i q') (e + 1) i low') (e + 1) (i + 2 ^ e) high')
@@ -338,15 +338,15 @@ module _ {K V : Type 0} where
 
 module _ {K V F : Type 0} where
   -- a step at a slot and its halves keeps their tables and indices
-  pub moves_in_place : (c c' : PartyState K V F) (q low high q' low' high' : Place K V) (ev : Event) → MoveStep c q low high ev c' q' low' high'
+  pub moves_in_place : (c c' : PartyState K V F) (q low high q' low' high' : SlotState K V) (ev : Event) → MoveStep c q low high ev c' q' low' high'
       → ((q'.table ≡ q.table) × (q'.index ≡ q.index)) × ((low'.table ≡ low.table) × (low'.index ≡ low.index)) × ((high'.table ≡ high.table) × (high'.index ≡ high.index))
   moves_in_place c c' q low high q' low' high' ev step = by_event ev step.step
     where
-      same : (p p' : Place K V) → p' ≡ p → (p'.table ≡ p.table) × (p'.index ≡ p.index)
-      same p p' is = (ap (λ (x : Place K V). x.table) is, ap (λ (x : Place K V). x.index) is)
+      same : (p p' : SlotState K V) → p' ≡ p → (p'.table ≡ p.table) × (p'.index ≡ p.index)
+      same p p' is = (ap (λ (x : SlotState K V). x.table) is, ap (λ (x : SlotState K V). x.index) is)
 
-      with_content : (p p' : Place K V) (x : Content K V) → p' ≡ record p { content = x } → (p'.table ≡ p.table) × (p'.index ≡ p.index)
-      with_content p p' x is = (ap (λ (y : Place K V). y.table) is, ap (λ (y : Place K V). y.index) is)
+      with_content : (p p' : SlotState K V) (x : Content K V) → p' ≡ record p { content = x } → (p'.table ≡ p.table) × (p'.index ≡ p.index)
+      with_content p p' x is = (ap (λ (y : SlotState K V). y.table) is, ap (λ (y : SlotState K V). y.index) is)
 
       moved : (x : Content K V)
           → IfLive x (λ b. (q' ≡ record q { content = HasMoved }) × (low' ≡ record low { content = IsLive (half q.table 0 b) }) × (high' ≡ record high { content = IsLive (half q.table 1 b) }))

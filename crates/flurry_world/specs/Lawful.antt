@@ -1,7 +1,8 @@
 -- What a caller may rely on of any world, whatever steps it ran.
-use Rattle.std.specs.Prelude.{◌≡◌, ℕ, pos, ◌+ℤ◌, ◌-ℤ◌, ◌%◌, ◌^◌, ◌<◌, true, false, length, reverse, slice_get, Option, Some, None}
+use Rattle.std.specs.Prelude.{◌≡◌, ℕ, ◌+◌, pos, ◌+ℤ◌, ◌-ℤ◌, ◌%◌, ◌^◌, ◌<◌, true, false, length, reverse, slice_get, Option, Some, None}
 use Rattle.std.specs.declared.cmp.Ordering.{Ordering}
 use Rattle.flurry_model.specs.declared.reply.KeptReply.{KeptReply}
+use Rattle.flurry_model.specs.declared.sizes.TheConstants.{TABLES}
 use Rattle.flurry_slots.specs.Slot.{IsUnborn}
 use Rattle.flurry_steps.specs.Party.{Task, OutcomeReply, AtBin, AtDone}
 use Rattle.flurry_theory.specs.Machine.{owes_added, owes_removed, total}
@@ -28,7 +29,7 @@ module _ {K V F S : Type 0} (cmp : K → K → Ordering) (hash : K → ℕ) (cha
     pub count : pos (length (pairs cmp hash (reverse w.trace))) ≡ w.control_state.count +ℤ pos owed_added -ℤ pos owed_removed
     -- no call goes to a bin that is not born yet
     pub there : (p : ℕ) (x : PartyRecord K V F) (t : Task K V F) (e : ℕ) → slice_get w.party_records p ≡ Some x → x.party_state.stage ≡ AtBin t e → content_at w.tables e (x.party_state.hash % 2 ^ e) ≡ IsUnborn → ⊥
-    -- a look-up has decided or was refused by its 32nd step
-    pub in_time : (p : ℕ) (x : PartyRecord K V F) → slice_get w.party_records p ≡ Some x → is_lookup (Some x.call) ≡ true → decision (reverse w.trace) p ≡ None → has_closed (reverse w.trace) p ≡ false → x.steps < 32
+    -- a look-up has decided or was refused by its 32nd step, one to find a table and one at each table
+    pub in_time : (p : ℕ) (x : PartyRecord K V F) → slice_get w.party_records p ≡ Some x → is_lookup (Some x.call) ≡ true → decision (reverse w.trace) p ≡ None → has_closed (reverse w.trace) p ≡ false → x.steps < TABLES + 1
     -- and its step after the decision is its reply
     pub replies_next : (p : ℕ) (x : PartyRecord K V F) (r : KeptReply K V) → slice_get w.party_records p ≡ Some x → is_lookup (Some x.call) ≡ true → decision (reverse w.trace) p ≡ Some r → has_replied (reverse w.trace) p ≡ false → x.party_state.stage ≡ AtDone (OutcomeReply r)

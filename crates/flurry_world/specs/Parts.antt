@@ -1,7 +1,7 @@
 -- The parts of a map, and one step of a call in progress at the part that it wants: the control, and the tables.
 use Rattle.std.specs.Prelude.{◌≡◌, ℕ, pos, ◌+◌, ◌^◌, ◌≤◌, List, slice_get, slice_set, Option, Some, None, IsSome, ⊤}
 use Rattle.std.specs.declared.cmp.Ordering.{Ordering}
-use Rattle.flurry_slots.specs.Slot.{Place, IsSlot, IsUnborn}
+use Rattle.flurry_slots.specs.Slot.{SlotState, IsSlot, IsUnborn}
 use Rattle.flurry_steps.specs.Control.{ControlState, IsIdle}
 use Rattle.flurry_steps.specs.Field.{Loan, ControlLoan, StartLoan, LookLoan, BinLoan, MoveLoan}
 use Rattle.flurry_steps.specs.Party.{Stage, AtLocate, AtBin, AtClaim, AtMove, AtUncount, AtCount, AtRecount, AtBegin, AtGrow, AtReserve, AtDone, AtTaken, PartyState, Part, ControlPart, LookPart, BinPart, MovePart, NoPart}
@@ -38,20 +38,20 @@ module _ {K V F : Type 0} (cmp : K → K → Ordering) (changes : F → K → V 
   abbrev pub PartStep : Part → PartyState K V F → ControlState → Tables K V → Event → PartyState K V F → ControlState → Tables K V → Type 0
   PartStep ControlPart c b t ev c' b' t' = ControlStep PlaceGives c b t ev c' b' t'
   PartStep (LookPart e i) c b t ev c' b' t' =
-      (q : Place K V) × (place_at t e i ≡ Some q) × IsSlot cmp q × SlotStep cmp changes c q ev c' q × (b' ≡ b) × (t' ≡ t)
+      (q : SlotState K V) × (place_at t e i ≡ Some q) × IsSlot cmp q × SlotStep cmp changes c q ev c' q × (b' ≡ b) × (t' ≡ t)
   PartStep (BinPart e i) c b t ev c' b' t' =
-      (q q' : Place K V) × (place_at t e i ≡ Some q) × IsSlot cmp q × SlotStep cmp changes c q ev c' q' × (b' ≡ b) × (t' ≡ put_place t e i q')
+      (q q' : SlotState K V) × (place_at t e i ≡ Some q) × IsSlot cmp q × SlotStep cmp changes c q ev c' q' × (b' ≡ b) × (t' ≡ put_place t e i q')
   PartStep (MovePart e i) c b t ev c' b' t' =
-      (q low high q' low' high' : Place K V)
+      (q low high q' low' high' : SlotState K V)
       × (place_at t e i ≡ Some q) × (place_at t (e + 1) i ≡ Some low) × (place_at t (e + 1) (i + 2 ^ e) ≡ Some high)
       × IsSlot cmp q × MoveStep c q low high ev c' q' low' high' × (b' ≡ b)
       × (t' ≡ put_place (put_place (put_place t e i q') (e + 1) i low') (e + 1) (i + 2 ^ e) high')
   PartStep NoPart c b t ev c' b' t' = ⊥
 
 -- the call c does its step at the slot q and its two halves, which are the slots i and j of the next table
-abbrev pub HalvesStep : {K V F : Type 0} → PartyState K V F → Place K V → ℕ → ℕ → List (Place K V) → Event → PartyState K V F → Place K V → List (Place K V) → Type 0
+abbrev pub HalvesStep : {K V F : Type 0} → PartyState K V F → SlotState K V → ℕ → ℕ → List (SlotState K V) → Event → PartyState K V F → SlotState K V → List (SlotState K V) → Type 0
 HalvesStep {K} {V} c q i j ps ev c' q' ps' =
-    (low high low' high' : Place K V)
+    (low high low' high' : SlotState K V)
     × (slice_get ps i ≡ Some low) × (slice_get ps j ≡ Some high)
     × MoveStep c q low high ev c' q' low' high'
     × (ps' ≡ slice_set (slice_set ps i low') j high')

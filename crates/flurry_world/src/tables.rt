@@ -25,10 +25,10 @@ pub struct Tables<K: Ord, V, A: Allocator> {
 
 impl<K: Ord, V, A: Allocator> Model for Tables<K, V, A> {
     ghost use Rattle.std.specs.Prelude.{List, map};
-    ghost use Rattle.flurry_slots.specs.Slot.{Place};
+    ghost use Rattle.flurry_slots.specs.Slot.{SlotState};
     ghost use Rattle.flurry_world.specs.Tables.{AreTables};
 
-    ghost Value = { List (List (Place K V)) };
+    ghost Value = { List (List (SlotState K V)) };
 
     ghost view = { λ t. map (λ v. v.items) t.tables.items };
 

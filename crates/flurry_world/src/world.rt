@@ -166,9 +166,9 @@ impl<
             self.trace.push_reserved(Label::Silent(party));
             return Ok(());
         }
-        let caller = &mut self.party_records[party];
-        caller.steps += 1;
-        let label = step_party(party, &mut caller.party, &mut self.parts);
+        let party_record = &mut self.party_records[party];
+        party_record.steps += 1;
+        let label = step_party(party, &mut party_record.party, &mut self.parts);
         self.trace.push_reserved(label);
         Ok(())
     }

@@ -9,22 +9,22 @@ invariant_of-self-then-party-len g c =
     (unknown_step g.K.Ord.cmp g.met.K.Ord.total (g.S.KeyHasher.hash_of c.self.inside.hasher) (g.met.S.KeyHasher.alike c.self.inside.hasher) g.F.ComputeFn.changes (world_state_of c.self.inside) c.self.invariant
     c.make_room.new.list.items c.in_ok-make_room.ensures.same c.in_ok-make_room.ensures.few c.args.party (grind (arith, common_steps, c.if-party-len.true, c.len.ensures)) c.push_reserved.new.self.items c.push_reserved.ensures.items).0
 
-pub overflow_add-caller : goal.overflow_add-caller
-overflow_add-caller g c =
-    let at = lent_at c.self.inside.party_records.items c.args.party c.index_mut-caller.result.now _ (grind (arith, common_steps, c.if-party-len.false, c.len.ensures)) c.index_mut-caller.ensures.value c.caller.view_is in
+pub overflow_add-party_record : goal.overflow_add-party_record
+overflow_add-party_record g c =
+    let at = lent_at c.self.inside.party_records.items c.args.party c.index_mut-party_record.result.now _ (grind (arith, common_steps, c.if-party-len.false, c.len.ensures)) c.index_mut-party_record.ensures.value c.party_record.view_is in
     let most = steps_within g.K.Ord.cmp g.met.K.Ord.total (g.S.KeyHasher.hash_of c.self.inside.hasher) (g.met.S.KeyHasher.alike c.self.inside.hasher) g.F.ComputeFn.changes (world_state_of c.self.inside) c.self.invariant c.args.party _ at in
     record { fits = omega (arith, most) }
 
 pub step_party-label-requires : goal.step_party-label-requires
 step_party-label-requires g c =
     part_there g.K.Ord.cmp g.met.K.Ord.total (g.S.KeyHasher.hash_of c.self.inside.hasher) (g.met.S.KeyHasher.alike c.self.inside.hasher) g.F.ComputeFn.changes (world_state_of c.self.inside) c.self.invariant c.args.party _
-    (lent_at c.self.inside.party_records.items c.args.party c.index_mut-caller.result.now _ (grind (arith, common_steps, c.if-party-len.false, c.len.ensures)) c.index_mut-caller.ensures.value c.caller.view_is)
+    (lent_at c.self.inside.party_records.items c.args.party c.index_mut-party_record.result.now _ (grind (arith, common_steps, c.if-party-len.false, c.len.ensures)) c.index_mut-party_record.ensures.value c.party_record.view_is)
 
 pub invariant_of-self-2 : goal.invariant_of-self-2
 invariant_of-self-2 g c =
     (party_step g.K.Ord.cmp g.met.K.Ord.total (g.S.KeyHasher.hash_of c.self.inside.hasher) (g.met.S.KeyHasher.alike c.self.inside.hasher) g.F.ComputeFn.changes (world_state_of c.self.inside) c.self.invariant
     c.make_room.new.list.items c.in_ok-make_room.ensures.same c.in_ok-make_room.ensures.few c.args.party _
-    (lent_at c.self.inside.party_records.items c.args.party c.index_mut-caller.result.now _ (grind (arith, common_steps, c.if-party-len.false, c.len.ensures)) c.index_mut-caller.ensures.value c.caller.view_is)
+    (lent_at c.self.inside.party_records.items c.args.party c.index_mut-party_record.result.now _ (grind (arith, common_steps, c.if-party-len.false, c.len.ensures)) c.index_mut-party_record.ensures.value c.party_record.view_is)
     c.step_party-label.new.call c.step_party-label.new.parts.control_state c.step_party-label.new.parts.tables c.step_party-label.result c.step_party-label.ensures _ refl c.push_reserved-2.new.self.items c.push_reserved-2.ensures.items).0
 
 pub returns-clause-ok : goal.returns-clause-ok
@@ -32,7 +32,7 @@ returns-clause-ok g c =
     rw (← c.self.view_is)
     (party_step g.K.Ord.cmp g.met.K.Ord.total (g.S.KeyHasher.hash_of c.self.inside.hasher) (g.met.S.KeyHasher.alike c.self.inside.hasher) g.F.ComputeFn.changes (world_state_of c.self.inside) c.self.invariant
     c.make_room.new.list.items c.in_ok-make_room.ensures.same c.in_ok-make_room.ensures.few c.args.party _
-    (lent_at c.self.inside.party_records.items c.args.party c.index_mut-caller.result.now _ (grind (arith, common_steps, c.if-party-len.false, c.len.ensures)) c.index_mut-caller.ensures.value c.caller.view_is)
+    (lent_at c.self.inside.party_records.items c.args.party c.index_mut-party_record.result.now _ (grind (arith, common_steps, c.if-party-len.false, c.len.ensures)) c.index_mut-party_record.ensures.value c.party_record.view_is)
     c.step_party-label.new.call c.step_party-label.new.parts.control_state c.step_party-label.new.parts.tables c.step_party-label.result c.step_party-label.ensures _ refl c.push_reserved-2.new.self.items c.push_reserved-2.ensures.items).1
 
 pub returns-then-party-len-clause-line : goal.returns-then-party-len-clause-line
@@ -46,5 +46,5 @@ returns-clause-line g c =
     rw (← c.self.view_is)
     (party_step g.K.Ord.cmp g.met.K.Ord.total (g.S.KeyHasher.hash_of c.self.inside.hasher) (g.met.S.KeyHasher.alike c.self.inside.hasher) g.F.ComputeFn.changes (world_state_of c.self.inside) c.self.invariant
     c.make_room.new.list.items c.in_ok-make_room.ensures.same c.in_ok-make_room.ensures.few c.args.party _
-    (lent_at c.self.inside.party_records.items c.args.party c.index_mut-caller.result.now _ (grind (arith, common_steps, c.if-party-len.false, c.len.ensures)) c.index_mut-caller.ensures.value c.caller.view_is)
+    (lent_at c.self.inside.party_records.items c.args.party c.index_mut-party_record.result.now _ (grind (arith, common_steps, c.if-party-len.false, c.len.ensures)) c.index_mut-party_record.ensures.value c.party_record.view_is)
     c.step_party-label.new.call c.step_party-label.new.parts.control_state c.step_party-label.new.parts.tables c.step_party-label.result c.step_party-label.ensures _ refl c.push_reserved-2.new.self.items c.push_reserved-2.ensures.items).2
