@@ -11,15 +11,14 @@ mod sets;
 mod shapes;
 
 use flurry_bins::bin::Shape;
-use flurry_model::hash::KeyHasher;
+use flurry_model::hash::{KeyHasher, LowHashBuilder};
 use flurry_seq::SeqMap;
 use keys::Number;
 use std::alloc::Global;
 use std::collections::VecDeque;
-use std::fmt::Debug;
+use std::fmt::{Debug, Display};
 use std::process::Abort;
 use std::sync::Arc;
-use std::test::Fail;
 
 // The number in a value that a call handed out.
 fn taken(value: Option<Arc<u64>>) -> Option<u64> {
@@ -31,23 +30,33 @@ fn lent(value: Option<&Arc<u64>>) -> Option<u64> {
     value.map(|value| **value)
 }
 
+// Sees that a value is the one that is wanted. A test of many assertions calls this, since each `assert_eq!` that stands in it makes
+// its proof longer. The proof of the caller does not learn of the value.
+fn same<T: PartialEq + Debug + Drop>(rt: &impl Abort, seen: T, wanted: T) {
+    assert_eq!(rt; seen, wanted);
+}
+
+// The same at a number that the failure tells.
+fn same_at<T: PartialEq + Debug + Drop>(
+    rt: &impl Abort,
+    at: impl Display + Drop,
+    seen: T,
+    wanted: T,
+) {
+    assert_eq!(rt; seen, wanted, "at {at}");
+}
+
 // Inserts absent keys, each with its own number.
 fn insert_new<K: Number, S: KeyHasher<K>>(
     rt: &impl Abort,
     map: &mut SeqMap<K, u64, S>,
     first: u64,
     end: u64,
-) -> Result<(), Fail> {
+) {
     for number in first..end {
-        assert!(rt; map.insert(K::of(number), number)?.is_none(), "at {number}");
+        let old = map.insert(K::of(number), number).expect(rt, "memory");
+        same_at(rt, number, taken(old), None);
     }
-    Ok(())
-}
-
-// Sees that a value is the one that is wanted. A test of many assertions calls this, since each `assert_eq!` that stands in it makes
-// its proof longer. The proof of the caller does not learn of the value.
-fn same<T: PartialEq + Debug + Drop>(rt: &impl Abort, seen: T, wanted: T) {
-    assert_eq!(rt; seen, wanted);
 }
 
 // Inserts a pair, and sees to the value that stood there.
@@ -57,9 +66,15 @@ fn puts<K: Ord + Drop, S: KeyHasher<K>>(
     key: K,
     value: u64,
     old: Option<u64>,
-) -> Result<(), Fail> {
-    same(rt, taken(map.insert(key, value)?), old);
-    Ok(())
+) {
+    let seen = map.insert(key, value).expect(rt, "memory");
+    same(rt, taken(seen), old);
+}
+
+// A map with room for so many pairs, whose hashes are its keys.
+fn map_for(rt: &impl Abort, alloc: Global, capacity: usize) -> SeqMap<u64, u64, LowHashBuilder> {
+    let map = SeqMap::with_capacity_and_hasher(alloc, capacity, LowHashBuilder);
+    map.expect(rt, "memory for the table")
 }
 
 // Sees to the number of bins and of pairs.
@@ -83,10 +98,10 @@ fn stands<K: Ord + Drop, S: KeyHasher<K>>(
 }
 
 // Calls as values, in their order.
-fn queue_of<T: Drop, const N: usize>(alloc: Global, calls: [T; N]) -> Result<VecDeque<T>, Fail> {
+fn queue_of<T: Drop, const N: usize>(rt: &impl Abort, alloc: Global, calls: [T; N]) -> VecDeque<T> {
     let mut queue = VecDeque::new(alloc);
-    for call in Vec::from_array(alloc, calls)? {
-        queue.push_back(call)?;
+    for call in Vec::from_array(alloc, calls).expect(rt, "memory") {
+        queue.push_back(call).expect(rt, "memory");
     }
-    Ok(queue)
+    queue
 }

@@ -12,8 +12,8 @@ use flurry_steps::party::OwnedCall;
 use flurry_theory::Label;
 use flurry_world::world::World;
 use std::alloc::Global;
+use std::fmt::Debug;
 use std::process::Abort;
-use std::test::Fail;
 
 /// A world whose hashes are its keys.
 type Numbers<'k, F> = World<'k, u64, u64, F, LowHashBuilder>;
@@ -33,29 +33,32 @@ enum Line {
     Silent(usize),
 }
 
+// Sees that a value is the one that is wanted. A test of many assertions calls this, since each `assert_eq!` that stands in it makes
+// its proof longer.
+fn same<T: PartialEq + Debug + Drop>(rt: &impl Abort, seen: T, wanted: T) {
+    assert_eq!(rt; seen, wanted);
+}
+
 // A wipe and a read are labels of no call of a world.
-fn line_of<F>(label: &Label<u64, u64, F>) -> Result<Line, Fail> {
+fn line_of<F>(rt: &impl Abort, label: &Label<u64, u64, F>) -> Line {
     match label {
-        Label::Begin(party, _) => Ok(Line::Begin(*party)),
-        Label::Decide(party, reply) => Ok(Line::Decide(*party, *reply)),
-        Label::Reply(party, reply) => Ok(Line::Reply(*party, *reply)),
-        Label::Refused(party) => Ok(Line::Refused(*party)),
-        Label::End(party) => Ok(Line::End(*party)),
-        Label::Opened(table) => Ok(Line::Opened(*table)),
-        Label::Placed(table) => Ok(Line::Placed(*table)),
-        Label::Moved(table, index) => Ok(Line::Moved(*table, *index)),
-        Label::Published(table) => Ok(Line::Published(*table)),
-        Label::Silent(party) => Ok(Line::Silent(*party)),
-        Label::Wipe(_, _, _) | Label::Read(_, _, _) => Err(Fail::from("no call clears or walks")),
+        Label::Begin(party, _) => Line::Begin(*party),
+        Label::Decide(party, reply) => Line::Decide(*party, *reply),
+        Label::Reply(party, reply) => Line::Reply(*party, *reply),
+        Label::Refused(party) => Line::Refused(*party),
+        Label::End(party) => Line::End(*party),
+        Label::Opened(table) => Line::Opened(*table),
+        Label::Placed(table) => Line::Placed(*table),
+        Label::Moved(table, index) => Line::Moved(*table, *index),
+        Label::Published(table) => Line::Published(*table),
+        Label::Silent(party) => Line::Silent(*party),
+        Label::Wipe(_, _, _) | Label::Read(_, _, _) => panic!(rt; "no call clears or walks"),
     }
 }
 
 // The last label.
-fn last_line<'k, F: ComputeFn<u64, u64> + Copy>(world: &Numbers<'k, F>) -> Result<Line, Fail> {
-    match world.trace().last() {
-        Some(label) => line_of(label),
-        None => Err(Fail::from("a label was added")),
-    }
+fn last_line<'k, F: ComputeFn<u64, u64> + Copy>(rt: &impl Abort, world: &Numbers<'k, F>) -> Line {
+    line_of(rt, world.trace().last().expect(rt, "a label was added"))
 }
 
 // The reply that is a value, or none.
@@ -63,13 +66,24 @@ fn value(value: Option<u64>) -> KeptReply<u64, u64> {
     KeptReply::Value(value)
 }
 
+// A world with room for so many pairs.
+fn world_for<'k, F: ComputeFn<u64, u64> + Copy>(
+    rt: &impl Abort,
+    alloc: Global,
+    capacity: usize,
+    processors: usize,
+) -> Numbers<'k, F> {
+    Numbers::new(alloc, capacity, LowHashBuilder, processors).expect(rt, "memory for the world")
+}
+
 // The label of the party's next step.
 fn step<'k, F: ComputeFn<u64, u64> + Copy>(
+    rt: &impl Abort,
     world: &mut Numbers<'k, F>,
     party: usize,
-) -> Result<Line, Fail> {
-    world.step(party)?;
-    last_line(world)
+) -> Line {
+    world.step(party).expect(rt, "memory for the step");
+    last_line(rt, world)
 }
 
 // The labels of the party's next steps are these.
@@ -78,21 +92,21 @@ fn assert_steps<'k, F: ComputeFn<u64, u64> + Copy>(
     world: &mut Numbers<'k, F>,
     party: usize,
     lines: &[Line],
-) -> Result<(), Fail> {
+) {
     for line in lines {
-        assert_eq!(rt; step(world, party)?, *line);
+        same(rt, step(rt, world, party), *line);
     }
-    Ok(())
 }
 
 // Begins a call, whatever its function is.
 fn begin<'k, F: ComputeFn<u64, u64> + Copy>(
+    rt: &impl Abort,
     world: &mut Numbers<'k, F>,
     call: OwnedCall<u64, u64, F>,
-) -> Result<usize, Fail>
+) -> usize
     requires { (f : F) → F.can_change f }
 {
-    Ok(world.begin(call)?)
+    world.begin(call).expect(rt, "memory for the call")
 }
 
 // Begins a call, whose labels are these from its first step on.
@@ -102,26 +116,27 @@ fn assert_call<'k, F: ComputeFn<u64, u64> + Copy>(
     party: usize,
     call: OwnedCall<u64, u64, F>,
     lines: &[Line],
-) -> Result<(), Fail>
+)
     requires { (f : F) → F.can_change f }
 {
-    assert_eq!(rt; begin(world, call)?, party);
-    assert_eq!(rt; last_line(world)?, Line::Begin(party));
-    assert_steps(rt, world, party, lines)
+    same(rt, begin(rt, world, call), party);
+    same(rt, last_line(rt, world), Line::Begin(party));
+    assert_steps(rt, world, party, lines);
 }
 
 // The reply or the end of a party, after its next steps.
 fn end_of<'k, F: ComputeFn<u64, u64> + Copy>(
+    rt: &impl Abort,
     world: &mut Numbers<'k, F>,
     party: usize,
-) -> Result<Line, Fail> {
+) -> Line {
     for _ in 0..1000u64 {
-        let line = step(world, party)?;
+        let line = step(rt, world, party);
         if let Line::Reply(_, _) | Line::End(_) = line {
-            return Ok(line);
+            return line;
         }
     }
-    Err(Fail::from("the party ends"))
+    panic!(rt; "the party ends")
 }
 
 // A call that is run to its end has this reply.
@@ -130,10 +145,9 @@ fn assert_reply<'k, F: ComputeFn<u64, u64> + Copy>(
     world: &mut Numbers<'k, F>,
     call: OwnedCall<u64, u64, F>,
     reply: KeptReply<u64, u64>,
-) -> Result<(), Fail>
+)
     requires { (f : F) → F.can_change f }
 {
-    let party = begin(world, call)?;
-    assert_eq!(rt; end_of(world, party)?, Line::Reply(party, reply));
-    Ok(())
+    let party = begin(rt, world, call);
+    same(rt, end_of(rt, world, party), Line::Reply(party, reply));
 }

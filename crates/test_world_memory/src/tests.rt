@@ -6,11 +6,26 @@ mod world_rows;
 
 use flurry_bins::bin::{Bin, Entry, ListBin, Node, Ordered, Shape, TreeBin};
 use std::alloc::{AllocError, Global};
+use std::fmt::Debug;
+use std::process::Abort;
 use std::sync::Arc;
 use std::test::Fail;
 use test_alloc::Refusing;
 
 type Memory = &'static Refusing<Global>;
+
+// Sees that a value is the one that is wanted. A test of many assertions calls this, since each `assert_eq!` that stands in it makes
+// its proof longer.
+fn same<T: PartialEq + Debug + Drop>(rt: &impl Abort, seen: T, wanted: T) {
+    assert_eq!(rt; seen, wanted);
+}
+
+// The same where the request numbered k was refused.
+fn same_at<T: PartialEq + Debug + Drop>(rt: &impl Abort, k: u64, seen: T, wanted: T) {
+    assert_eq!(rt; seen, wanted, "at {k}");
+}
+
+type NumberBin = Bin<u64, u64, Memory>;
 
 type BoxedNode = Box<Node<u64, u64, Memory>, Memory>;
 
@@ -35,7 +50,7 @@ fn nodes(memory: Memory, count: u64) -> Result<Vec<BoxedNode, Memory>, Fail> {
 }
 
 // Puts in the nodes that are absent.
-fn put_all(bin: &mut Bin<u64, u64, Memory>, nodes: Vec<BoxedNode, Memory>) {
+fn put_all(bin: &mut NumberBin, nodes: Vec<BoxedNode, Memory>) {
     for node in nodes {
         let entry = node.entry();
         if bin.find(entry.hash, entry.key.as_ref()).0.is_none() && bin.len() < 1000 {
@@ -56,84 +71,110 @@ fn list_of(nodes: Vec<BoxedNode, Memory>) -> ListBin<u64, u64, Memory> {
     list
 }
 
-#[test]
-fn a_node(rt: HostRuntime) -> Result<(), Fail> {
-    let memory = Refusing::leaked(rt.alloc())?;
-    let key = Arc::new(memory, 7)?;
-    let value = Arc::new(memory, 8)?;
+// Makes an entry's node with its one request refused: whether the request was made, and whether there is no node.
+fn refused_node(memory: Memory) -> Result<(bool, bool), Fail> {
     let entry = Entry {
         hash: 1,
-        key,
-        value,
+        key: Arc::new(memory, 7)?,
+        value: Arc::new(memory, 8)?,
         number: 1,
     };
     memory.refuse_at(0);
-    let answer = Node::new(memory, entry);
-    assert!(rt; memory.refused());
+    let failed = Node::new(memory, entry).is_err();
+    let refused = memory.refused();
     memory.refuse_nothing();
-    assert!(rt; answer.is_err());
-    assert_eq!(rt; memory.blocks(), 0);
+    Ok((refused, failed))
+}
+
+// The same of an entry and its node, whose request numbered k is refused.
+fn refused_entry(memory: Memory, k: u64) -> (bool, bool) {
+    memory.refuse_at(k);
+    let failed = node(memory, 7).is_err();
+    let refused = memory.refused();
+    memory.refuse_nothing();
+    (refused, failed)
+}
+
+#[test]
+fn a_node(rt: HostRuntime) -> Result<(), Fail> {
+    let memory = Refusing::leaked(rt.alloc())?;
+    same(&rt, refused_node(memory)?, (true, true));
+    same(&rt, memory.blocks(), 0);
     for k in 0..4u64 {
-        memory.refuse_at(k);
-        let answer = node(memory, 7);
-        let refused = memory.refused();
-        memory.refuse_nothing();
-        assert_eq!(rt; refused, k < 3);
-        assert_eq!(rt; answer.is_err(), refused);
-        drop(answer);
-        assert_eq!(rt; memory.blocks(), 0);
+        let refused = k < 3;
+        same_at(&rt, k, refused_entry(memory, k), (refused, refused));
+        same_at(&rt, k, memory.blocks(), 0);
     }
     Ok(())
+}
+
+// A bin that the nodes of the keys below a count were put into while each request is refused.
+fn bin_of(memory: Memory, count: u64) -> Result<NumberBin, Fail> {
+    let nodes = nodes(memory, count)?;
+    memory.refuse_from(0);
+    let mut bin = Bin::new();
+    put_all(&mut bin, nodes);
+    Ok(bin)
+}
+
+// Replaces the value of the key 4, where the bin has it, and answers the old one.
+fn replaced(bin: &mut NumberBin, value: Arc<u64, Memory>) -> Option<u64> {
+    if bin.find(0, &4).0.is_none() {
+        return None;
+    }
+    Some(*bin.replace(0, &4, value, 2))
+}
+
+// Splits a bin of 23 keys, and makes a bin of the list of its lower half.
+fn splits_a_bin(rt: &impl Abort, bin: NumberBin) {
+    let (low, high) = bin.split(0);
+    same(
+        rt,
+        (low.shape(), high.shape()),
+        (Shape::Tree(12), Shape::Tree(11)),
+    );
+    let list = low.into_list();
+    same(rt, list.len(), 12);
+    let low: NumberBin = Bin::from_list(list);
+    same(rt, low.shape(), Shape::Tree(12));
 }
 
 #[test]
 fn a_bin_asks_for_nothing(rt: HostRuntime) -> Result<(), Fail> {
     let memory = Refusing::leaked(rt.alloc())?;
-    let nodes = nodes(memory, 24)?;
     let value = Arc::new(memory, 50)?;
-    memory.refuse_from(0);
-    let mut bin = Bin::new();
-    put_all(&mut bin, nodes);
-    assert_eq!(rt; bin.shape(), Shape::Tree(24));
-    assert!(rt; bin.next_after(Some((0, &4))).is_some());
-    if bin.find(0, &4).0.is_some() {
-        let old = bin.replace(0, &4, value, 2);
-        assert_eq!(rt; *old, 4);
-    }
-    assert!(rt; bin.remove(1, &5).is_some());
-    let (low, high) = bin.split(0);
-    assert_eq!(rt;
-        (low.shape(), high.shape()),
-        (Shape::Tree(12), Shape::Tree(11))
-    );
-    let list = low.into_list();
-    assert_eq!(rt; list.len(), 12);
-    let low: Bin<u64, u64, Memory> = Bin::from_list(list);
-    assert_eq!(rt; low.shape(), Shape::Tree(12));
-    drop(low);
-    drop(high);
-    assert_eq!(rt; memory.asked(), 0);
-    assert_eq!(rt; memory.blocks(), 0);
+    let mut bin = bin_of(memory, 24)?;
+    same(&rt, bin.shape(), Shape::Tree(24));
+    same(&rt, bin.next_after(Some((0, &4))).is_some(), true);
+    same(&rt, replaced(&mut bin, value), Some(4));
+    same(&rt, bin.remove(1, &5).is_some(), true);
+    splits_a_bin(&rt, bin);
+    same(&rt, (memory.asked(), memory.blocks()), (0, 0));
     Ok(())
 }
 
 #[test]
 fn planting_asks_for_nothing(rt: HostRuntime) -> Result<(), Fail> {
     let memory = Refusing::leaked(rt.alloc())?;
-    let nodes = nodes(memory, 9)?;
-    memory.refuse_from(0);
-    let mut bin = Bin::new();
-    put_all(&mut bin, nodes);
-    assert_eq!(rt; bin.shape(), Shape::List(9));
+    let mut bin = bin_of(memory, 9)?;
+    same(&rt, bin.shape(), Shape::List(9));
     bin.plant();
-    assert_eq!(rt; bin.shape(), Shape::Tree(9));
-    assert!(rt; bin.remove(0, &0).is_some() && bin.remove(0, &2).is_some());
-    assert!(rt; bin.remove(0, &4).is_some());
-    assert_eq!(rt; bin.shape(), Shape::List(6));
+    same(&rt, bin.shape(), Shape::Tree(9));
+    for key in [0, 2, 4] {
+        same(&rt, bin.remove(0, &key).is_some(), true);
+    }
+    same(&rt, bin.shape(), Shape::List(6));
     drop(bin);
-    assert_eq!(rt; memory.asked(), 0);
-    assert_eq!(rt; memory.blocks(), 0);
+    same(&rt, (memory.asked(), memory.blocks()), (0, 0));
     Ok(())
+}
+
+// Splits a tree of 18 keys, and the list of its higher half.
+fn splits_a_tree(rt: &impl Abort, tree: TreeBin<u64, u64, Memory>) {
+    let (low, high) = tree.split(0);
+    same(rt, (low.len(), high.len()), (8, 10));
+    let (none, list) = high.into_list().split(0);
+    same(rt, (none.len(), list.len()), (0, 10));
 }
 
 #[test]
@@ -142,19 +183,12 @@ fn lists_and_trees_ask_for_nothing(rt: HostRuntime) -> Result<(), Fail> {
     let nodes = nodes(memory, 20)?;
     memory.refuse_from(0);
     let mut list = list_of(nodes);
-    assert_eq!(rt; list.find(1, &19).1, 20);
-    assert!(rt; list.remove(0, &0).is_some());
+    same(&rt, list.find(1, &19).1, 20);
+    same(&rt, list.remove(0, &0).is_some(), true);
     let mut tree: TreeBin<u64, u64, Memory> = TreeBin::from_list(list);
-    assert_eq!(rt; tree.len(), 19);
-    assert!(rt; tree.remove(0, &2).is_some());
-    let (low, high) = tree.split(0);
-    assert_eq!(rt; (low.len(), high.len()), (8, 10));
-    let (none, list) = high.into_list().split(0);
-    assert_eq!(rt; (none.len(), list.len()), (0, 10));
-    drop(low);
-    drop(none);
-    drop(list);
-    assert_eq!(rt; memory.asked(), 0);
-    assert_eq!(rt; memory.blocks(), 0);
+    same(&rt, tree.len(), 19);
+    same(&rt, tree.remove(0, &2).is_some(), true);
+    splits_a_tree(&rt, tree);
+    same(&rt, (memory.asked(), memory.blocks()), (0, 0));
     Ok(())
 }

@@ -3,11 +3,11 @@
 ghost use Rattle.std.specs.Prelude.{OnOk};
 ghost use Rattle.flurry_slots.specs.Slot.{LiesIn};
 
+use super::same;
 use flurry_bins::bin::Bin;
 use flurry_model::sizes::bin_index;
 use flurry_slots::{Answer, Computed, MoveAnswer, NoFn, Slot};
 use std::alloc::{AllocError, Global};
-use std::test::Fail;
 
 // Why a step did not answer at a live bin.
 #[derive(Clone, Copy, Debug, PartialEq, Eq)]
@@ -142,140 +142,158 @@ fn moved(answer: MoveAnswer) -> (u64, Option<(u8, usize)>) {
 }
 
 #[test]
-fn writes_are_numbered_up_to_the_greatest(rt: HostRuntime) -> Result<(), Fail> {
+fn writes_are_numbered_up_to_the_greatest(rt: HostRuntime) {
     let mut slot: Slot<u64, u64> = Slot::live_at(4, 3, Bin::new(), u64::MAX - 2);
-    assert_eq!(rt; put(rt.alloc(), &mut slot, 19, 19, 1), Ok((None, false)));
-    assert_eq!(rt; find(&slot, 19, 19), Ok(Some((1, u64::MAX - 1))));
-    assert_eq!(rt; take_if(&mut slot, 19, 19, u64::MAX - 2), Ok(None));
-    assert_eq!(rt;
+    same(
+        &rt,
+        put(rt.alloc(), &mut slot, 19, 19, 1),
+        Ok((None, false)),
+    );
+    same(&rt, find(&slot, 19, 19), Ok(Some((1, u64::MAX - 1))));
+    same(&rt, take_if(&mut slot, 19, 19, u64::MAX - 2), Ok(None));
+    same(
+        &rt,
         take_if(&mut slot, 19, 19, u64::MAX - 1),
-        Ok(Some((1, u64::MAX - 1)))
+        Ok(Some((1, u64::MAX - 1))),
     );
-    assert_eq!(rt; find(&slot, 19, 19), Ok(None));
-    assert_eq!(rt; put(rt.alloc(), &mut slot, 19, 19, 2), Ok((None, false)));
-    assert_eq!(rt; find(&slot, 19, 19), Ok(Some((2, u64::MAX))));
-    assert_eq!(rt; take_if(&mut slot, 19, 19, u64::MAX), Ok(None));
-    assert_eq!(rt; put(rt.alloc(), &mut slot, 19, 19, 3), Ok((Some(2), false)));
-    assert_eq!(rt; find(&slot, 19, 19), Ok(Some((3, u64::MAX))));
-    assert_eq!(rt; take(&mut slot, 19, 19), Ok(Some((3, u64::MAX))));
-    Ok(())
+    same(&rt, find(&slot, 19, 19), Ok(None));
+    same(
+        &rt,
+        put(rt.alloc(), &mut slot, 19, 19, 2),
+        Ok((None, false)),
+    );
+    same(&rt, find(&slot, 19, 19), Ok(Some((2, u64::MAX))));
+    same(&rt, take_if(&mut slot, 19, 19, u64::MAX), Ok(None));
+    same(
+        &rt,
+        put(rt.alloc(), &mut slot, 19, 19, 3),
+        Ok((Some(2), false)),
+    );
+    same(&rt, find(&slot, 19, 19), Ok(Some((3, u64::MAX))));
+    same(&rt, take(&mut slot, 19, 19), Ok(Some((3, u64::MAX))));
 }
 
 #[test]
-fn steps_at_a_live_bin(rt: HostRuntime) -> Result<(), Fail> {
+fn steps_at_a_live_bin(rt: HostRuntime) {
     let mut slot: Slot<u64, u64> = Slot::live(4, 3, Bin::new());
-    assert_eq!(rt; slot.at(), (4, 3));
-    assert_eq!(rt; put_absent(rt.alloc(), &mut slot, 3, 3, 10), Ok(Ok(10)));
-    assert_eq!(rt;
+    same(&rt, slot.at(), (4, 3));
+    same(&rt, put_absent(rt.alloc(), &mut slot, 3, 3, 10), Ok(Ok(10)));
+    same(
+        &rt,
         put_absent(rt.alloc(), &mut slot, 3, 3, 11),
-        Ok(Err((10, 11)))
+        Ok(Err((10, 11))),
     );
-    assert_eq!(rt; find(&slot, 3, 3), Ok(Some((10, 1))));
-    assert_eq!(rt; halve(rt.alloc(), &mut slot, 19, 19), Ok(None));
-    assert_eq!(rt; halve(rt.alloc(), &mut slot, 3, 3), Ok(Some(Some(5))));
-    assert_eq!(rt; find(&slot, 3, 3), Ok(Some((5, 2))));
-    assert_eq!(rt; put(rt.alloc(), &mut slot, 19, 19, 12), Ok((None, false)));
-    assert_eq!(rt; next_after(&slot, None), Ok(Some((5, 2))));
-    assert_eq!(rt; next_after(&slot, Some((3, &3))), Ok(Some((12, 3))));
-    assert_eq!(rt; next_after(&slot, Some((19, &19))), Ok(None));
-    assert_eq!(rt; remove(rt.alloc(), &mut slot, 3, 3), Ok(true));
-    assert_eq!(rt; take(&mut slot, 3, 3), Ok(None));
-    assert_eq!(rt; here(slot.wipe()), Ok(1));
-    assert_eq!(rt; here(slot.wipe()), Ok(0));
-    assert_eq!(rt; put(rt.alloc(), &mut slot, 3, 3, 13), Ok((None, false)));
-    assert_eq!(rt; find(&slot, 3, 3), Ok(Some((13, 4))));
-    Ok(())
+    same(&rt, find(&slot, 3, 3), Ok(Some((10, 1))));
+    same(&rt, halve(rt.alloc(), &mut slot, 19, 19), Ok(None));
+    same(&rt, halve(rt.alloc(), &mut slot, 3, 3), Ok(Some(Some(5))));
+    same(&rt, find(&slot, 3, 3), Ok(Some((5, 2))));
+    same(
+        &rt,
+        put(rt.alloc(), &mut slot, 19, 19, 12),
+        Ok((None, false)),
+    );
+    same(&rt, next_after(&slot, None), Ok(Some((5, 2))));
+    same(&rt, next_after(&slot, Some((3, &3))), Ok(Some((12, 3))));
+    same(&rt, next_after(&slot, Some((19, &19))), Ok(None));
+    same(&rt, remove(rt.alloc(), &mut slot, 3, 3), Ok(true));
+    same(&rt, take(&mut slot, 3, 3), Ok(None));
+    same(&rt, here(slot.wipe()), Ok(1));
+    same(&rt, here(slot.wipe()), Ok(0));
+    same(&rt, put(rt.alloc(), &mut slot, 3, 3, 13), Ok((None, false)));
+    same(&rt, find(&slot, 3, 3), Ok(Some((13, 4))));
 }
 
 #[test]
-fn steps_where_no_bin_is_yet(rt: HostRuntime) -> Result<(), Fail> {
+fn steps_where_no_bin_is_yet(rt: HostRuntime) {
     let mut slot: Slot<u64, u64> = Slot::unborn(4, 3);
-    match slot.put(rt.alloc(), 3, 7, 8)? {
-        Answer::Unborn(lent) => assert_eq!(rt; lent, (7, 8)),
-        _ => return Err(Fail::from("no bin is there")),
+    match slot
+        .put(rt.alloc(), 3, 7, 8)
+        .expect(&rt, "memory for the pair")
+    {
+        Answer::Unborn(lent) => same(&rt, lent, (7, 8)),
+        _ => panic!(rt; "no bin is there"),
     }
-    assert_eq!(rt; slot.at(), (4, 3));
-    assert_eq!(rt; find(&slot, 3, 3), Err(Away::Unborn));
-    assert_eq!(rt; next_after(&slot, None), Err(Away::Unborn));
-    assert_eq!(rt; put(rt.alloc(), &mut slot, 3, 3, 1), Err(Away::Unborn));
-    assert_eq!(rt;
+    same(&rt, slot.at(), (4, 3));
+    same(&rt, find(&slot, 3, 3), Err(Away::Unborn));
+    same(&rt, next_after(&slot, None), Err(Away::Unborn));
+    same(&rt, put(rt.alloc(), &mut slot, 3, 3, 1), Err(Away::Unborn));
+    same(
+        &rt,
         put_absent(rt.alloc(), &mut slot, 3, 3, 1),
-        Err(Away::Unborn)
+        Err(Away::Unborn),
     );
-    assert_eq!(rt; remove(rt.alloc(), &mut slot, 3, 3), Err(Away::Unborn));
-    assert_eq!(rt; take(&mut slot, 3, 3), Err(Away::Unborn));
-    assert_eq!(rt; take_if(&mut slot, 3, 3, 1), Err(Away::Unborn));
-    assert_eq!(rt; here(slot.wipe()), Err(Away::Unborn));
-    Ok(())
+    same(&rt, remove(rt.alloc(), &mut slot, 3, 3), Err(Away::Unborn));
+    same(&rt, take(&mut slot, 3, 3), Err(Away::Unborn));
+    same(&rt, take_if(&mut slot, 3, 3, 1), Err(Away::Unborn));
+    same(&rt, here(slot.wipe()), Err(Away::Unborn));
 }
 
 #[test]
-fn a_bin_moves_into_its_halves(rt: HostRuntime) -> Result<(), Fail> {
+fn a_bin_moves_into_its_halves(rt: HostRuntime) {
     let mut slot: Slot<u64, u64> = Slot::live(4, 3, Bin::new());
-    assert_eq!(rt; put(rt.alloc(), &mut slot, 3, 3, 3), Ok((None, false)));
-    assert_eq!(rt; put(rt.alloc(), &mut slot, 19, 19, 19), Ok((None, false)));
-    assert_eq!(rt; put(rt.alloc(), &mut slot, 35, 35, 35), Ok((None, false)));
+    for key in [3, 19, 35] {
+        let seen = put(rt.alloc(), &mut slot, key, key, key);
+        same(&rt, seen, Ok((None, false)));
+    }
     let mut low: Slot<u64, u64> = Slot::unborn(5, 3);
     let mut high: Slot<u64, u64> = Slot::unborn(5, 19);
     let mut other: Slot<u64, u64> = Slot::unborn(5, 20);
-    assert_eq!(rt; moved(slot.move_into(&mut high, &mut low)), (2, None));
-    assert_eq!(rt; moved(slot.move_into(&mut low, &mut other)), (2, None));
-    assert_eq!(rt; moved(low.move_into(&mut slot, &mut high)), (2, None));
-    assert_eq!(rt;
+    same(&rt, moved(slot.move_into(&mut high, &mut low)), (2, None));
+    same(&rt, moved(slot.move_into(&mut low, &mut other)), (2, None));
+    same(&rt, moved(low.move_into(&mut slot, &mut high)), (2, None));
+    same(
+        &rt,
         moved(slot.move_into(&mut low, &mut high)),
-        (0, Some((4, 3)))
+        (0, Some((4, 3))),
     );
-    assert_eq!(rt;
+    same(
+        &rt,
         moved(slot.move_into(&mut low, &mut high)),
-        (1, Some((4, 3)))
+        (1, Some((4, 3))),
     );
-    assert_eq!(rt; find(&slot, 3, 3), Err(Away::Moved));
-    assert_eq!(rt; put(rt.alloc(), &mut slot, 3, 3, 0), Err(Away::Moved));
-    assert_eq!(rt; here(slot.wipe()), Err(Away::Moved));
-    assert_eq!(rt; find(&low, 3, 3), Ok(Some((3, 1))));
-    assert_eq!(rt; find(&low, 35, 35), Ok(Some((35, 3))));
-    assert_eq!(rt; find(&high, 19, 19), Ok(Some((19, 2))));
-    assert_eq!(rt;
+    same(&rt, find(&slot, 3, 3), Err(Away::Moved));
+    same(&rt, put(rt.alloc(), &mut slot, 3, 3, 0), Err(Away::Moved));
+    same(&rt, here(slot.wipe()), Err(Away::Moved));
+    same(&rt, find(&low, 3, 3), Ok(Some((3, 1))));
+    same(&rt, find(&low, 35, 35), Ok(Some((35, 3))));
+    same(&rt, find(&high, 19, 19), Ok(Some((19, 2))));
+    same(
+        &rt,
         put(rt.alloc(), &mut high, 19, 19, 0),
-        Ok((Some(19), false))
+        Ok((Some(19), false)),
     );
-    assert_eq!(rt; find(&high, 19, 19), Ok(Some((0, 4))));
-    assert_eq!(rt; next_after(&low, None), Ok(Some((3, 1))));
-    Ok(())
+    same(&rt, find(&high, 19, 19), Ok(Some((0, 4))));
+    same(&rt, next_after(&low, None), Ok(Some((3, 1))));
 }
 
 #[test]
-fn a_half_that_has_a_bin_is_not_moved_into(rt: HostRuntime) -> Result<(), Fail> {
+fn a_half_that_has_a_bin_is_not_moved_into(rt: HostRuntime) {
     let mut slot: Slot<u64, u64> = Slot::live(4, 3, Bin::new());
     let mut low: Slot<u64, u64> = Slot::live(5, 3, Bin::new());
     let mut high: Slot<u64, u64> = Slot::unborn(5, 19);
-    assert_eq!(rt; put(rt.alloc(), &mut slot, 3, 3, 1), Ok((None, false)));
-    assert_eq!(rt; moved(slot.move_into(&mut low, &mut high)), (2, None));
-    assert_eq!(rt; find(&slot, 3, 3), Ok(Some((1, 1))));
-    assert_eq!(rt; find(&low, 3, 3), Ok(None));
-    assert_eq!(rt; find(&high, 19, 19), Err(Away::Unborn));
-    Ok(())
+    same(&rt, put(rt.alloc(), &mut slot, 3, 3, 1), Ok((None, false)));
+    same(&rt, moved(slot.move_into(&mut low, &mut high)), (2, None));
+    same(&rt, find(&slot, 3, 3), Ok(Some((1, 1))));
+    same(&rt, find(&low, 3, 3), Ok(None));
+    same(&rt, find(&high, 19, 19), Err(Away::Unborn));
 }
 
 // The ninth entry of a list asks for a larger table where the table has fewer than 64 bins, and never more than that one does.
 #[test]
-fn the_ninth_entry_asks_for_growth(rt: HostRuntime) -> Result<(), Fail> {
+fn the_ninth_entry_asks_for_growth(rt: HostRuntime) {
     let mut small: Slot<u64, u64> = Slot::live(5, 3, Bin::new());
     let mut large: Slot<u64, u64> = Slot::live(6, 3, Bin::new());
     for key in 0u64..12 {
         let asks = key == 8;
-        assert_eq!(rt;
-            put(rt.alloc(), &mut small, 3, key, 0),
-            Ok((None, asks)),
-            "key {key}"
-        );
-        assert_eq!(rt;
-            put(rt.alloc(), &mut large, 3, key, 0),
-            Ok((None, false)),
-            "key {key}"
-        );
+        let in_small = put(rt.alloc(), &mut small, 3, key, 0);
+        let in_large = put(rt.alloc(), &mut large, 3, key, 0);
+        let wanted = (key, Ok((None, asks)), Ok((None, false)));
+        same(&rt, (key, in_small, in_large), wanted);
     }
-    assert_eq!(rt; put(rt.alloc(), &mut small, 3, 8, 1), Ok((Some(0), false)));
-    assert_eq!(rt; here(small.wipe()), Ok(12));
-    Ok(())
+    same(
+        &rt,
+        put(rt.alloc(), &mut small, 3, 8, 1),
+        Ok((Some(0), false)),
+    );
+    same(&rt, here(small.wipe()), Ok(12));
 }

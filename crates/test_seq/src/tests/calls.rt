@@ -7,87 +7,81 @@ use flurry_seq::SeqMap;
 use flurry_seq::calls::{Call, Reply};
 use std::alloc::Global;
 use std::fmt::Display;
+use std::process::Abort;
 use std::sync::Arc;
-use std::test::Fail;
 
-fn three_pairs(alloc: Global) -> Result<SeqMap<u64, u64, LowHashBuilder>, Fail> {
-    let list = Vec::from_array(alloc, [(1, 10), (2, 20), (3, 30)])?;
-    Ok(SeqMap::from_list(alloc, list, LowHashBuilder)?)
+fn three_pairs(rt: &impl Abort, alloc: Global) -> SeqMap<u64, u64, LowHashBuilder> {
+    let list = Vec::from_array(alloc, [(1, 10), (2, 20), (3, 30)]).expect(rt, "memory");
+    SeqMap::from_list(alloc, list, LowHashBuilder).expect(rt, "memory")
 }
 
 #[test]
-fn insertions_at_an_absent_and_a_present_key(rt: HostRuntime) -> Result<(), Fail> {
-    let mut map = three_pairs(rt.alloc())?;
-    let Ok(value) = map.try_insert(4, 40)? else {
-        return Err(Fail::from("the key is absent"));
-    };
-    same(&rt, *value, 40);
-    let Err(error) = map.try_insert(4, 41)? else {
-        return Err(Fail::from("the key is present"));
-    };
+fn insertions_at_an_absent_and_a_present_key(rt: HostRuntime) {
+    let mut map = three_pairs(&rt, rt.alloc());
+    let new = map.try_insert(4, 40).expect(&rt, "memory");
+    same(&rt, *new.expect(&rt, "the key is absent"), 40);
+    let answer = map.try_insert(4, 41).expect(&rt, "memory");
+    let error = answer.expect_err(&rt, "the key is present");
     same(&rt, (*error.current, error.not_inserted), (40, 41));
     same(&rt, map.len(), 4);
-    Ok(())
 }
 
 #[test]
-fn calls_of_a_present_and_an_absent_key(rt: HostRuntime) -> Result<(), Fail> {
-    let mut map = three_pairs(rt.alloc())?;
+fn calls_of_a_present_and_an_absent_key(rt: HostRuntime) {
+    let mut map = three_pairs(&rt, rt.alloc());
     same(
         &rt,
         (map.contains_key(&2), map.contains_key(&4)),
         (true, false),
     );
     same(&rt, map.get_key_value(&4).is_none(), true);
-    puts(&rt, &mut map, 4, 40, None)?;
-    let present = map.compute_if_present(&4, |key, value| Some(*value % 7 + *key % 7))?;
-    same(&rt, taken(present), Some(9));
-    let absent = map.compute_if_present(&5, |_, _| Some(1))?;
-    same(&rt, taken(absent), None);
+    puts(&rt, &mut map, 4, 40, None);
+    let present = map.compute_if_present(&4, |key, value| Some(*value % 7 + *key % 7));
+    same(&rt, taken(present.expect(&rt, "memory")), Some(9));
+    let absent = map.compute_if_present(&5, |_, _| Some(1));
+    same(&rt, taken(absent.expect(&rt, "memory")), None);
     same(&rt, taken(map.remove(&4)), Some(9));
     same(&rt, map.remove_entry(&4).is_none(), true);
     same(&rt, map.len(), 3);
-    Ok(())
 }
 
 #[test]
-fn pairs_keys_and_values(rt: HostRuntime) -> Result<(), Fail> {
-    let map = three_pairs(rt.alloc())?;
+fn pairs_keys_and_values(rt: HostRuntime) {
+    let map = three_pairs(&rt, rt.alloc());
     let mut seen = [false; 4];
     for (key, value) in map.iter() {
         same(&rt, **value % 100, **key % 10 * 10);
         seen[(**key % 4) as usize] = true;
     }
     same(&rt, seen, [false, true, true, true]);
-    assert_eq!(rt; map.keys().map(|key| **key % 8).max(), Some(3));
-    assert_eq!(rt; map.values().map(|value| **value % 64).min(), Some(10));
-    Ok(())
+    same(&rt, map.keys().map(|key| **key % 8).max(), Some(3));
+    same(&rt, map.values().map(|value| **value % 64).min(), Some(10));
 }
 
 #[test]
-fn equality(rt: HostRuntime) -> Result<(), Fail> {
-    let map = three_pairs(rt.alloc())?;
-    let mut other = SeqMap::with_capacity_and_hasher(rt.alloc(), 100, LowHashBuilder)?;
-    assert!(rt; map != other);
-    other.extend(Vec::from_array(rt.alloc(), [(3, 30), (1, 11), (2, 20)])?)?;
-    assert!(rt; map != other);
-    puts(&rt, &mut other, 1, 10, Some(11))?;
-    assert!(rt; map == other);
-    Ok(())
+fn equality(rt: HostRuntime) {
+    let map = three_pairs(&rt, rt.alloc());
+    let made = SeqMap::with_capacity_and_hasher(rt.alloc(), 100, LowHashBuilder);
+    let mut other = made.expect(&rt, "memory");
+    same(&rt, map != other, true);
+    let list = Vec::from_array(rt.alloc(), [(3, 30), (1, 11), (2, 20)]).expect(&rt, "memory");
+    other.extend(list).expect(&rt, "memory");
+    same(&rt, map != other, true);
+    puts(&rt, &mut other, 1, 10, Some(11));
+    same(&rt, map == other, true);
 }
 
 #[test]
-fn clear_and_into_bins(rt: HostRuntime) -> Result<(), Fail> {
-    let mut map = three_pairs(rt.alloc())?;
+fn clear_and_into_bins(rt: HostRuntime) {
+    let mut map = three_pairs(&rt, rt.alloc());
     map.clear();
-    assert!(rt; map.is_empty());
+    same(&rt, map.is_empty(), true);
     same(&rt, map.capacity(), 8);
-    insert_new(&rt, &mut map, 0, 2)?;
+    insert_new(&rt, &mut map, 0, 2);
     let (bins, _) = map.into_bins();
     assert_eq!(rt; bins.len(), 8);
     same(&rt, bins[1].shape(), Shape::List(1));
     same(&rt, bins[2].len(), 0);
-    Ok(())
 }
 
 // What the calls as values pass to `compute_if_present`.
@@ -101,60 +95,84 @@ fn is_nine_or_more(_key: &u64, value: &u64) -> bool {
 }
 
 // The pairs in their order.
-fn text_of_pairs(alloc: Global, pairs: &[(Arc<u64>, Arc<u64>)]) -> Result<String, Fail> {
+fn text_of_pairs(rt: &impl Abort, alloc: Global, pairs: &[(Arc<u64>, Arc<u64>)]) -> String {
     let mut text = String::new(alloc);
     for (key, value) in pairs {
-        text.push_str(format!(in alloc; " {} {}", **key, **value)?.as_str())?;
+        let pair = format!(in alloc; " {} {}", **key, **value).expect(rt, "memory");
+        text.push_str(pair.as_str()).expect(rt, "memory");
     }
-    Ok(text)
+    text
 }
 
 // The numbers in their order.
-pub(super) fn text_of_numbers(alloc: Global, numbers: &[Arc<u64>]) -> Result<String, Fail> {
+pub(super) fn text_of_numbers(rt: &impl Abort, alloc: Global, numbers: &[Arc<u64>]) -> String {
     let mut text = String::new(alloc);
     for number in numbers {
-        text.push_str(format!(in alloc; " {}", **number)?.as_str())?;
+        let word = format!(in alloc; " {}", **number).expect(rt, "memory");
+        text.push_str(word.as_str()).expect(rt, "memory");
     }
-    Ok(text)
+    text
 }
 
 // A line of two parts.
-fn line(alloc: Global, name: &str, reply_for: impl Display + Drop) -> Result<String, Fail> {
-    Ok(format!(in alloc; "{name}{reply_for}\n")?)
+fn line(rt: &impl Abort, alloc: Global, name: &str, reply_for: impl Display + Drop) -> String {
+    format!(in alloc; "{name}{reply_for}\n").expect(rt, "memory")
 }
 
 // The line of one reply.
-fn line_of(alloc: Global, reply: &Reply<u64, u64, LowHashBuilder>) -> Result<String, Fail> {
+fn line_of(rt: &impl Abort, alloc: Global, reply: &Reply<u64, u64, LowHashBuilder>) -> String {
     match reply {
-        Reply::Value(Some(value)) => line(alloc, "value ", **value),
-        Reply::Value(None) => line(alloc, "no value", ""),
-        Reply::Pair(Some((key, value))) => Ok(format!(in alloc; "pair {} {}\n", **key, **value)?),
-        Reply::Pair(None) => line(alloc, "no pair", ""),
-        Reply::Truth(truth) => line(alloc, "", *truth),
-        Reply::New(value) => line(alloc, "new ", **value),
-        Reply::Exists(error) => line(alloc, "", error),
-        Reply::Number(number) => line(alloc, "", *number),
-        Reply::Shape(shape) => Ok(format!(in alloc; "{shape:?}\n")?),
-        Reply::Pairs(pairs) => line(alloc, "pairs", text_of_pairs(alloc, pairs.as_slice())?),
-        Reply::Keys(keys) => line(alloc, "keys", text_of_numbers(alloc, keys.as_slice())?),
-        Reply::Values(values) => line(alloc, "values", text_of_numbers(alloc, values.as_slice())?),
-        Reply::Map(map) => line(alloc, "map of ", map.len()),
-        Reply::Done => line(alloc, "done", ""),
+        Reply::Value(Some(value)) => line(rt, alloc, "value ", **value),
+        Reply::Value(None) => line(rt, alloc, "no value", ""),
+        Reply::Pair(Some((key, value))) => {
+            format!(in alloc; "pair {} {}\n", **key, **value).expect(rt, "memory")
+        }
+        Reply::Pair(None) => line(rt, alloc, "no pair", ""),
+        Reply::Truth(truth) => line(rt, alloc, "", *truth),
+        Reply::New(value) => line(rt, alloc, "new ", **value),
+        Reply::Exists(error) => line(rt, alloc, "", error),
+        Reply::Number(number) => line(rt, alloc, "", *number),
+        Reply::Shape(shape) => format!(in alloc; "{shape:?}\n").expect(rt, "memory"),
+        Reply::Pairs(pairs) => {
+            let pairs = text_of_pairs(rt, alloc, pairs.as_slice());
+            line(rt, alloc, "pairs", pairs)
+        }
+        Reply::Keys(keys) => {
+            let keys = text_of_numbers(rt, alloc, keys.as_slice());
+            line(rt, alloc, "keys", keys)
+        }
+        Reply::Values(values) => {
+            let values = text_of_numbers(rt, alloc, values.as_slice());
+            line(rt, alloc, "values", values)
+        }
+        Reply::Map(map) => line(rt, alloc, "map of ", map.len()),
+        Reply::Done => line(rt, alloc, "done", ""),
     }
 }
 
 // One line for each reply.
-fn text_of(alloc: Global, replies: &[Reply<u64, u64, LowHashBuilder>]) -> Result<String, Fail> {
+fn text_of(rt: &impl Abort, alloc: Global, replies: &[Reply<u64, u64, LowHashBuilder>]) -> String {
     let mut text = String::new(alloc);
     for reply in replies {
-        text.push_str(line_of(alloc, reply)?.as_str())?;
+        let line = line_of(rt, alloc, reply);
+        text.push_str(line.as_str()).expect(rt, "memory");
     }
-    Ok(text)
+    text
+}
+
+// Sees to the lines of the replies.
+fn read_as(
+    rt: &(impl Abort + AllocGlobal),
+    replies: &[Reply<u64, u64, LowHashBuilder>],
+    lines: &str,
+) {
+    same(rt, text_of(rt, rt.alloc(), replies).as_str(), lines);
 }
 
 #[test]
-fn calls_as_values(rt: HostRuntime) -> Result<(), Fail> {
+fn calls_as_values(rt: HostRuntime) {
     let calls = queue_of(
+        &rt,
         rt.alloc(),
         [
             Call::IsEmpty,
@@ -172,35 +190,34 @@ fn calls_as_values(rt: HostRuntime) -> Result<(), Fail> {
             Call::Retain(is_nine_or_more),
             Call::Len,
         ],
-    )?;
+    );
     let mut map: SeqMap<u64, u64, LowHashBuilder> = SeqMap::with_hasher(rt.alloc(), LowHashBuilder);
-    let replies = map.run(rt.alloc(), calls)?;
+    let replies = map.run(rt.alloc(), calls).expect(&rt, "memory");
     let want =
         "true\nno value\nInsert of \"1\" failed as key was already present with value \"8\"\nnew 2\nvalue 9\nno value\n\
         no value\nvalue 2\npair 8 2\ntrue\n1\n16\ndone\n0\n";
-    same(&rt, text_of(rt.alloc(), replies.as_slice())?.as_str(), want);
-    Ok(())
+    read_as(&rt, replies.as_slice(), want);
 }
 
 #[test]
-fn one_call_as_a_value(rt: HostRuntime) -> Result<(), Fail> {
-    let mut map = three_pairs(rt.alloc())?;
-    puts(&rt, &mut map, 3, 8, Some(30))?;
+fn one_call_as_a_value(rt: HostRuntime) {
+    let mut map = three_pairs(&rt, rt.alloc());
+    puts(&rt, &mut map, 3, 8, Some(30));
     for call in [
         Call::ComputeIfPresent(3, up_to_nine),
         Call::RetainForce(is_nine_or_more),
     ] {
-        let _ = map.call(call)?;
+        let _ = map.call(call).expect(&rt, "memory");
     }
     same(&rt, lent(map.get(&3)), Some(9));
     same(&rt, map.len(), 3);
-    Ok(())
 }
 
 #[test]
-fn removing_calls_as_values(rt: HostRuntime) -> Result<(), Fail> {
-    let more = Vec::from_array(rt.alloc(), [(5, 50)])?;
+fn removing_calls_as_values(rt: HostRuntime) {
+    let more = Vec::from_array(rt.alloc(), [(5, 50)]).expect(&rt, "memory");
     let calls = queue_of(
+        &rt,
         rt.alloc(),
         [
             Call::Remove(1),
@@ -215,21 +232,21 @@ fn removing_calls_as_values(rt: HostRuntime) -> Result<(), Fail> {
             Call::RetainForce(is_nine_or_more),
             Call::ComputeIfPresent(6, up_to_nine),
         ],
-    )?;
-    let mut map = three_pairs(rt.alloc())?;
-    let replies = map.run(rt.alloc(), calls)?;
+    );
+    let mut map = three_pairs(&rt, rt.alloc());
+    let replies = map.run(rt.alloc(), calls).expect(&rt, "memory");
     let want = "value 10\npair 2 20\nno pair\ndone\n0\ndone\n128\ndone\nvalue 50\ndone\nno value\n";
-    same(&rt, text_of(rt.alloc(), replies.as_slice())?.as_str(), want);
+    read_as(&rt, replies.as_slice(), want);
     same(&rt, lent(map.get(&5)), Some(50));
-    Ok(())
 }
 
 #[test]
-fn reading_calls_as_values(rt: HostRuntime) -> Result<(), Fail> {
-    let mut other = three_pairs(rt.alloc())?;
-    puts(&rt, &mut other, 3, 8, Some(30))?;
-    let equal = three_pairs(rt.alloc())?;
+fn reading_calls_as_values(rt: HostRuntime) {
+    let mut other = three_pairs(&rt, rt.alloc());
+    puts(&rt, &mut other, 3, 8, Some(30));
+    let equal = three_pairs(&rt, rt.alloc());
     let calls = queue_of(
+        &rt,
         rt.alloc(),
         [
             Call::ShapeOf(9),
@@ -245,15 +262,14 @@ fn reading_calls_as_values(rt: HostRuntime) -> Result<(), Fail> {
             Call::Retain(is_nine_or_more),
             Call::ComputeIfPresent(4, up_to_nine),
         ],
-    )?;
-    let mut map = three_pairs(rt.alloc())?;
-    let replies = map.run(rt.alloc(), calls)?;
+    );
+    let mut map = three_pairs(&rt, rt.alloc());
+    let replies = map.run(rt.alloc(), calls).expect(&rt, "memory");
     let want =
         "List(1)\nEmpty\npairs 1 10 2 20 3 30\nkeys 1 2 3\nvalues 10 20 30\ntrue\nfalse\nmap of 3\nvalue 20\n2\ndone\nno value\n";
-    same(&rt, text_of(rt.alloc(), replies.as_slice())?.as_str(), want);
+    read_as(&rt, replies.as_slice(), want);
     let Some(Reply::Map(copy)) = replies.get(7) else {
-        return Err(Fail::from("the eighth reply is a map"));
+        panic!(rt; "the eighth reply is a map");
     };
-    assert!(rt; *copy == three_pairs(rt.alloc())?);
-    Ok(())
+    same(&rt, *copy == three_pairs(&rt, rt.alloc()), true);
 }

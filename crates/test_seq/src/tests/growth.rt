@@ -1,57 +1,49 @@
 //! The number of bins.
 
-use super::{holds, insert_new, puts, same, stands};
+use super::{holds, insert_new, map_for, puts, same, same_at, stands};
 use flurry_bins::bin::Shape;
 use flurry_model::hash::{LowHashBuilder, ZeroHashBuilder};
 use flurry_model::sizes::{threshold, wanted};
 use flurry_seq::SeqMap;
-use std::test::Fail;
 
 // The twelfth pair, key 10, fills three quarters of 16 bins.
 #[test]
-fn row_03(rt: HostRuntime) -> Result<(), Fail> {
+fn row_03(rt: HostRuntime) {
     let mut map: SeqMap<u64, u64, LowHashBuilder> = SeqMap::with_hasher(rt.alloc(), LowHashBuilder);
-    puts(&rt, &mut map, 42, 0, None)?;
+    puts(&rt, &mut map, 42, 0, None);
     same(&rt, map.capacity(), 16);
     for key in 0..16u64 {
-        puts(&rt, &mut map, key, 42, None)?;
+        puts(&rt, &mut map, key, 42, None);
         let bins = if key < 10 { 16 } else { 32 };
-        assert_eq!(rt; map.capacity(), bins, "after {key}");
+        same_at(&rt, key, map.capacity(), bins);
     }
     holds(&rt, &map, 32, 17);
-    Ok(())
 }
 
 // The bins for a capacity, and those of room that is made in a new map: 64 bins hold 48 pairs, and 64 were asked for.
 #[test]
-fn row_04(rt: HostRuntime) -> Result<(), Fail> {
+fn row_04(rt: HostRuntime) {
     for (pairs, bins) in [(0, 0), (1, 2), (5, 8), (16, 32)] {
-        let map: SeqMap<u64, u64, LowHashBuilder> = SeqMap::with_capacity_and_hasher(
-            rt.alloc(),
-            pairs,
-            LowHashBuilder,
-        )?;
-        assert_eq!(rt; map.capacity(), bins, "for {pairs}");
+        let map = map_for(&rt, rt.alloc(), pairs);
+        same_at(&rt, pairs, map.capacity(), bins);
     }
     for (additional, bins) in [(0, 1), (32, 128)] {
         let mut map: SeqMap<u64, u64> = SeqMap::new(rt.alloc());
-        map.reserve(additional)?;
-        assert_eq!(rt; map.capacity(), bins, "for {additional}");
+        map.reserve(additional).expect(&rt, "memory");
+        same_at(&rt, additional, map.capacity(), bins);
     }
-    Ok(())
 }
 
 // A table that is full is doubled.
 #[test]
-fn row_05(rt: HostRuntime) -> Result<(), Fail> {
+fn row_05(rt: HostRuntime) {
     let mut map: SeqMap<u64, u64, LowHashBuilder> = SeqMap::with_hasher(rt.alloc(), LowHashBuilder);
-    map.reserve(0)?;
+    map.reserve(0).expect(&rt, "memory");
     same(&rt, map.capacity(), 1);
-    insert_new(&rt, &mut map, 0, 1)?;
+    insert_new(&rt, &mut map, 0, 1);
     same(&rt, map.capacity(), 2);
-    insert_new(&rt, &mut map, 1, 2)?;
+    insert_new(&rt, &mut map, 1, 2);
     same(&rt, map.capacity(), 4);
-    Ok(())
 }
 
 // The sizes of tables.
@@ -65,7 +57,7 @@ fn row_19(rt: HostRuntime) {
         ((1 << 29) - 1, most),
         (usize::MAX, most),
     ] {
-        assert_eq!(rt; wanted(pairs), bins, "for {pairs}");
+        same_at(&rt, pairs, wanted(pairs), bins);
     }
     for (bins, pairs) in [
         (1, 1),
@@ -75,37 +67,31 @@ fn row_19(rt: HostRuntime) {
         (16, 12),
         (most, 805_306_368),
     ] {
-        assert_eq!(rt; threshold(bins), pairs, "of {bins}");
+        same_at(&rt, bins, threshold(bins), pairs);
     }
 }
 
 // The ninth key of one bin asks for 64 pairs' room, and the tenth makes its list a tree.
 #[test]
-fn owned_growth_table(rt: HostRuntime) -> Result<(), Fail> {
+fn owned_growth_table(rt: HostRuntime) {
     let mut map: SeqMap<u64, u64, ZeroHashBuilder> = SeqMap::with_hasher(
         rt.alloc(),
         ZeroHashBuilder,
     );
-    insert_new(&rt, &mut map, 0, 8)?;
+    insert_new(&rt, &mut map, 0, 8);
     stands(&rt, &map, 16, Shape::List(8));
-    insert_new(&rt, &mut map, 8, 9)?;
+    insert_new(&rt, &mut map, 8, 9);
     stands(&rt, &map, 128, Shape::List(9));
-    insert_new(&rt, &mut map, 9, 10)?;
+    insert_new(&rt, &mut map, 9, 10);
     stands(&rt, &map, 128, Shape::Tree(10));
-    Ok(())
 }
 
 // A table for six pairs has 16 bins, and the twelfth pair doubles it.
 #[test]
-fn owned_growth_table_by_the_count(rt: HostRuntime) -> Result<(), Fail> {
-    let mut map: SeqMap<u64, u64, LowHashBuilder> = SeqMap::with_capacity_and_hasher(
-        rt.alloc(),
-        6,
-        LowHashBuilder,
-    )?;
-    insert_new(&rt, &mut map, 0, 11)?;
+fn owned_growth_table_by_the_count(rt: HostRuntime) {
+    let mut map = map_for(&rt, rt.alloc(), 6);
+    insert_new(&rt, &mut map, 0, 11);
     same(&rt, map.capacity(), 16);
-    insert_new(&rt, &mut map, 11, 12)?;
+    insert_new(&rt, &mut map, 11, 12);
     same(&rt, map.capacity(), 32);
-    Ok(())
 }

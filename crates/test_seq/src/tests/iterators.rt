@@ -1,9 +1,9 @@
 //! Iterators, equality and further maps, through maps whose sums are known.
+use super::same;
 use flurry_model::hash::{DefaultHashBuilder, KeyHasher, LowHashBuilder, ZeroHashBuilder};
 use flurry_seq::SeqMap;
-use std::alloc::Global;
+use std::alloc::{AllocError, Global};
 use std::sync::Arc;
-use std::test::Fail;
 
 // A key whose mark tells nothing to a comparison.
 #[derive(Drop)]
@@ -19,7 +19,7 @@ fn filled<S: KeyHasher<u64> + Drop>(
     alloc: Global,
     hasher: S,
     step: u8,
-) -> Result<SeqMap<u64, u64, S>, Fail> {
+) -> Result<SeqMap<u64, u64, S>, AllocError> {
     let mut map = SeqMap::with_hasher(alloc, hasher);
     for i in 0u64..101 {
         let key = i * u64::from(step) % 101;
@@ -32,7 +32,7 @@ fn filled<S: KeyHasher<u64> + Drop>(
 fn filled_with_mark(
     alloc: Global,
     mark: u64,
-) -> Result<SeqMap<Marked, u64, ZeroHashBuilder>, Fail> {
+) -> Result<SeqMap<Marked, u64, ZeroHashBuilder>, AllocError> {
     let mut map = SeqMap::with_hasher(alloc, ZeroHashBuilder);
     for id in 0u64..7 {
         map.insert(Marked { id, mark }, 5)?;
@@ -65,52 +65,45 @@ fn sum_of_values<S: KeyHasher<u64> + Drop>(map: &SeqMap<u64, u64, S>) -> u64 {
 }
 
 #[test]
-fn iterators_pass_each_pair(rt: HostRuntime) -> Result<(), Fail> {
-    let spread = filled(rt.alloc(), LowHashBuilder, 1)?;
-    let one_bin = filled(rt.alloc(), ZeroHashBuilder, 7)?;
-    assert_eq!(rt; sum_of_pairs(&spread), 681_750);
-    assert_eq!(rt; sum_of_pairs(&one_bin), 681_750);
-    assert_eq!(rt; sum_of_keys(&one_bin), 5050);
-    assert_eq!(rt; sum_of_values(&spread), 10_201);
-    assert_eq!(rt; spread.keys().count(), 101);
+fn iterators_pass_each_pair(rt: HostRuntime) {
+    let spread = filled(rt.alloc(), LowHashBuilder, 1).expect(&rt, "memory");
+    let one_bin = filled(rt.alloc(), ZeroHashBuilder, 7).expect(&rt, "memory");
+    same(&rt, sum_of_pairs(&spread), 681_750);
+    same(&rt, sum_of_pairs(&one_bin), 681_750);
+    same(&rt, sum_of_keys(&one_bin), 5050);
+    same(&rt, sum_of_values(&spread), 10_201);
+    same(&rt, spread.keys().count(), 101);
     let mut pairs = one_bin.iter();
-    assert!(rt; pairs.next().is_some());
-    assert_eq!(rt; pairs.len(), 100);
-    assert!(rt;
-        SeqMap::<u64, u64>::new(rt.alloc())
-            .values()
-            .next()
-            .is_none()
-    );
-    Ok(())
+    same(&rt, pairs.next().is_some(), true);
+    same(&rt, pairs.len(), 100);
+    let none: SeqMap<u64, u64> = SeqMap::new(rt.alloc());
+    same(&rt, none.values().next().is_none(), true);
 }
 
 #[test]
-fn equality_reads_classes_and_values(rt: HostRuntime) -> Result<(), Fail> {
-    let mut left = filled(rt.alloc(), DefaultHashBuilder::with_seed(1), 1)?;
-    let right = filled(rt.alloc(), DefaultHashBuilder::with_seed(2), 30)?;
-    assert!(rt; left == right);
-    left.insert(3, 8)?;
-    assert!(rt; left != right);
-    left.insert(3, 7)?;
+fn equality_reads_classes_and_values(rt: HostRuntime) {
+    let mut left = filled(rt.alloc(), DefaultHashBuilder::with_seed(1), 1).expect(&rt, "memory");
+    let right = filled(rt.alloc(), DefaultHashBuilder::with_seed(2), 30).expect(&rt, "memory");
+    same(&rt, left == right, true);
+    left.insert(3, 8).expect(&rt, "memory");
+    same(&rt, left != right, true);
+    left.insert(3, 7).expect(&rt, "memory");
     left.remove(&4);
-    assert!(rt; left != right);
-    left.insert(101, 9)?;
-    assert!(rt; left != right);
-    assert!(rt; filled_with_mark(rt.alloc(), 1)? == filled_with_mark(rt.alloc(), 2)?);
-    Ok(())
+    same(&rt, left != right, true);
+    left.insert(101, 9).expect(&rt, "memory");
+    same(&rt, left != right, true);
+    let one = filled_with_mark(rt.alloc(), 1).expect(&rt, "memory");
+    let other = filled_with_mark(rt.alloc(), 2).expect(&rt, "memory");
+    same(&rt, one == other, true);
 }
 
 #[test]
-fn a_clone_shares_and_stands_alone(rt: HostRuntime) -> Result<(), Fail> {
-    let map = filled(rt.alloc(), DefaultHashBuilder::default(), 1)?;
-    let mut copy = map.try_clone()?;
-    assert!(rt; copy == map);
-    let Some(value) = map.get(&9) else {
-        return Err(Fail::from("the key is there"));
-    };
-    assert_eq!(rt; Arc::strong_count(value), 2);
+fn a_clone_shares_and_stands_alone(rt: HostRuntime) {
+    let map = filled(rt.alloc(), DefaultHashBuilder::default(), 1).expect(&rt, "memory");
+    let mut copy = map.try_clone().expect(&rt, "memory");
+    same(&rt, copy == map, true);
+    let value = map.get(&9).expect(&rt, "the key is there");
+    same(&rt, Arc::strong_count(value), 2);
     copy.remove(&9);
-    assert_eq!(rt; map.len(), 101);
-    Ok(())
+    same(&rt, map.len(), 101);
 }

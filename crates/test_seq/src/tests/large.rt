@@ -1,41 +1,38 @@
 //! Many keys.
 
-use super::same;
+use super::{same, same_at};
 use flurry_model::hash::{DefaultHashBuilder, KeyHasher, MaxHashBuilder, ZeroHashBuilder};
 use flurry_seq::SeqMap;
+use std::alloc::AllocError;
 use std::process::Abort;
-use std::test::Fail;
 
-fn row_08_with<S: KeyHasher<i32> + Drop>(
-    rt: &(impl Abort + AllocGlobal),
-    hasher: S,
-) -> Result<(), Fail> {
+fn row_08_with<S: KeyHasher<i32> + Drop>(rt: &(impl Abort + AllocGlobal), hasher: S) {
     let mut map = SeqMap::with_hasher(rt.alloc(), hasher);
     for key in 0..1000i32 {
-        assert!(rt; map.insert(key, key)?.is_none(), "at {key}");
+        let old = map.insert(key, key).expect(rt, "memory");
+        same_at(rt, key, old.is_none(), true);
     }
     same(rt, map.len(), 1000);
     for key in 0..1000i32 {
-        assert!(rt; map.contains_key(&key), "at {key}");
+        same_at(rt, key, map.contains_key(&key), true);
     }
     for key in [-1, 1000, i32::MIN, i32::MAX] {
-        assert!(rt; !map.contains_key(&key), "at {key}");
+        same_at(rt, key, map.contains_key(&key), false);
     }
-    Ok(())
 }
 
 // A thousand signed keys, with one hash for all too.
 #[test]
-fn row_08(rt: HostRuntime) -> Result<(), Fail> {
-    row_08_with(&rt, DefaultHashBuilder::default())?;
-    row_08_with(&rt, ZeroHashBuilder)?;
+fn row_08(rt: HostRuntime) {
+    row_08_with(&rt, DefaultHashBuilder::default());
+    row_08_with(&rt, ZeroHashBuilder);
     row_08_with(&rt, MaxHashBuilder)
 }
 
 const KEYS: u64 = 50_000;
 
 // Inserts all keys, and answers how many of them were new.
-fn insert_all(map: &mut SeqMap<u64, u64>) -> Result<u64, Fail> {
+fn insert_all(map: &mut SeqMap<u64, u64>) -> Result<u64, AllocError> {
     let mut new = 0u64;
     for key in 0..KEYS {
         if map.insert(key, key)?.is_none() {
@@ -58,14 +55,13 @@ fn remove_half(map: &mut SeqMap<u64, u64>) -> u64 {
 
 // Fifty thousand keys, half of which go and come back.
 #[test]
-fn row_09(rt: HostRuntime) -> Result<(), Fail> {
+fn row_09(rt: HostRuntime) {
     let mut map = SeqMap::new(rt.alloc());
-    same(&rt, insert_all(&mut map)?, 50_000);
-    same(&rt, insert_all(&mut map)?, 0);
+    same(&rt, insert_all(&mut map).expect(&rt, "memory"), 50_000);
+    same(&rt, insert_all(&mut map).expect(&rt, "memory"), 0);
     same(&rt, remove_half(&mut map), 25_000);
-    same(&rt, insert_all(&mut map)?, 25_000);
+    same(&rt, insert_all(&mut map).expect(&rt, "memory"), 25_000);
     same(&rt, map.iter().count(), 50_000);
     same(&rt, map.keys().count(), 50_000);
     same(&rt, map.values().count(), 50_000);
-    Ok(())
 }

@@ -1,12 +1,12 @@
 //! What a map keeps of a hundred pairs.
+use super::same;
 use flurry_seq::SeqMap;
-use std::test::Fail;
 
 #[test]
-fn keeps_even_values(rt: HostRuntime) -> Result<(), Fail> {
+fn keeps_even_values(rt: HostRuntime) {
     let mut map: SeqMap<u64, u64> = SeqMap::new(rt.alloc());
     for key in 0u64..100 {
-        let _ = map.insert(key, key * 3)?;
+        let _ = map.insert(key, key * 3).expect(&rt, "memory");
     }
     let bins = map.capacity();
     let mut calls = 0u64;
@@ -14,13 +14,12 @@ fn keeps_even_values(rt: HostRuntime) -> Result<(), Fail> {
         calls = calls.wrapping_add(1);
         *value % 2 == 0
     });
-    assert_eq!(rt; calls, 100);
-    assert_eq!(rt; map.len(), 50);
-    assert_eq!(rt; map.capacity(), bins);
+    same(&rt, calls, 100);
+    same(&rt, map.len(), 50);
+    same(&rt, map.capacity(), bins);
     for key in 0u64..100 {
-        assert_eq!(rt; map.contains_key(&key), key % 2 == 0);
+        same(&rt, map.contains_key(&key), key % 2 == 0);
     }
     map.retain_force(|key: &u64, _: &u64| *key < 10);
-    assert_eq!(rt; map.len(), 5);
-    Ok(())
+    same(&rt, map.len(), 5);
 }

@@ -8,22 +8,22 @@ use flurry_set::SeqSet;
 use flurry_set::set_calls::{SetCall, SetReply};
 use std::alloc::Global;
 use std::fmt::Display;
-use std::test::Fail;
+use std::process::Abort;
 
 // The numbers from a first one up to an end.
-fn set_of(alloc: Global, first: u64, end: u64) -> Result<SeqSet<u64>, Fail> {
+fn set_of(rt: &impl Abort, alloc: Global, first: u64, end: u64) -> SeqSet<u64> {
     let mut set = SeqSet::new(alloc);
     for element in first..end {
-        let _ = set.insert(element)?;
+        let _ = set.insert(element).expect(rt, "memory");
     }
-    Ok(set)
+    set
 }
 
 #[test]
-fn row_21(rt: HostRuntime) -> Result<(), Fail> {
-    let mut small = set_of(rt.alloc(), 1, 3)?;
-    let large = set_of(rt.alloc(), 1, 4)?;
-    let other = set_of(rt.alloc(), 4, 5)?;
+fn row_21(rt: HostRuntime) {
+    let mut small = set_of(&rt, rt.alloc(), 1, 3);
+    let large = set_of(&rt, rt.alloc(), 1, 4);
+    let other = set_of(&rt, rt.alloc(), 4, 5);
     same(
         &rt,
         (small.is_subset(&large), large.is_subset(&small)),
@@ -39,40 +39,46 @@ fn row_21(rt: HostRuntime) -> Result<(), Fail> {
         (small.is_disjoint(&other), small.is_disjoint(&large)),
         (true, false),
     );
-    same(&rt, small.insert(1)?, false);
-    assert_eq!(rt; small.take(&1).map(|element| *element), Some(1));
+    same(&rt, small.insert(1).expect(&rt, "memory"), false);
+    same(&rt, small.take(&1).map(|element| *element), Some(1));
     same(&rt, small.len(), 1);
     same(&rt, small.contains(&2), true);
-    Ok(())
 }
 
 // The element that was stored first stays.
 #[test]
-fn stored_elements_stay(rt: HostRuntime) -> Result<(), Fail> {
+fn stored_elements_stay(rt: HostRuntime) {
     let mut set: SeqSet<Tagged, ZeroHashBuilder> = SeqSet::with_hasher(rt.alloc(), ZeroHashBuilder);
     let second = Tagged { id: 1, tag: 20 };
-    assert!(rt; set.insert(Tagged { id: 1, tag: 10 })?);
-    assert!(rt; !set.insert(Tagged { id: 1, tag: 20 })?);
-    assert_eq!(rt; set.get(&second).map(|element| element.tag), Some(10));
-    assert!(rt; set.remove(&second));
-    assert!(rt; set.is_empty());
-    Ok(())
+    same(
+        &rt,
+        set.insert(Tagged { id: 1, tag: 10 }).expect(&rt, "memory"),
+        true,
+    );
+    same(
+        &rt,
+        !set.insert(Tagged { id: 1, tag: 20 }).expect(&rt, "memory"),
+        true,
+    );
+    same(&rt, set.get(&second).map(|element| element.tag), Some(10));
+    same(&rt, set.remove(&second), true);
+    same(&rt, set.is_empty(), true);
 }
 
 #[test]
-fn copies_and_what_is_kept(rt: HostRuntime) -> Result<(), Fail> {
-    let mut set = low_set_of(rt.alloc(), [1, 2, 1, 3])?;
+fn copies_and_what_is_kept(rt: HostRuntime) {
+    let mut set = low_set_of(&rt, rt.alloc(), [1, 2, 1, 3]);
     same(&rt, set.len(), 3);
-    let copy = set.try_clone()?;
+    let copy = set.try_clone().expect(&rt, "memory");
     same(&rt, copy == set, true);
-    set.extend(Vec::from_array(rt.alloc(), [3, 4, 5])?)?;
+    set.extend(Vec::from_array(rt.alloc(), [3, 4, 5]).expect(&rt, "memory"))
+        .expect(&rt, "memory");
     same(&rt, copy != set, true);
     same(&rt, sum_of(&set), 15);
     set.retain(|element: &u64| *element < 4);
     same(&rt, copy == set, true);
     set.clear();
     same(&rt, set.is_empty(), true);
-    Ok(())
 }
 
 // The sum of the elements.
@@ -85,11 +91,10 @@ fn sum_of(set: &SeqSet<u64, LowHashBuilder>) -> u64 {
 }
 
 #[test]
-fn room_for_elements(rt: HostRuntime) -> Result<(), Fail> {
-    let mut roomy: SeqSet<u64> = SeqSet::with_capacity(rt.alloc(), 5)?;
-    roomy.reserve(100)?;
+fn room_for_elements(rt: HostRuntime) {
+    let mut roomy: SeqSet<u64> = SeqSet::with_capacity(rt.alloc(), 5).expect(&rt, "memory");
+    roomy.reserve(100).expect(&rt, "memory");
     same(&rt, roomy.len(), 0);
-    Ok(())
 }
 
 // What the calls as values pass to `retain`.
@@ -98,42 +103,54 @@ fn is_even(element: &u64) -> bool {
 }
 
 // A word, and a space after it.
-fn word(alloc: Global, reply_for: impl Display + Drop) -> Result<String, Fail> {
-    Ok(format!(in alloc; "{reply_for} ")?)
+fn word(rt: &impl Abort, alloc: Global, reply_for: impl Display + Drop) -> String {
+    format!(in alloc; "{reply_for} ").expect(rt, "memory")
 }
 
 // The word of one reply.
-fn word_of<S: KeyHasher<u64>>(alloc: Global, reply: &SetReply<u64, S>) -> Result<String, Fail> {
+fn word_of<S: KeyHasher<u64>>(rt: &impl Abort, alloc: Global, reply: &SetReply<u64, S>) -> String {
     match reply {
-        SetReply::Element(Some(element)) => word(alloc, **element),
-        SetReply::Element(None) => word(alloc, "none"),
-        SetReply::Truth(truth) => word(alloc, *truth),
-        SetReply::Number(number) => word(alloc, *number),
-        SetReply::Elements(elements) => Ok(format!(in alloc;
-            "[{} ] ",
-            text_of_numbers(alloc, elements.as_slice())?
-        )?),
-        SetReply::Set(set) => Ok(format!(in alloc; "set of {} ", set.len())?),
-        SetReply::Done => word(alloc, "done"),
+        SetReply::Element(Some(element)) => word(rt, alloc, **element),
+        SetReply::Element(None) => word(rt, alloc, "none"),
+        SetReply::Truth(truth) => word(rt, alloc, *truth),
+        SetReply::Number(number) => word(rt, alloc, *number),
+        SetReply::Elements(elements) => {
+            let numbers = text_of_numbers(rt, alloc, elements.as_slice());
+            format!(in alloc; "[{numbers} ] ").expect(rt, "memory")
+        }
+        SetReply::Set(set) => format!(in alloc; "set of {} ", set.len()).expect(rt, "memory"),
+        SetReply::Done => word(rt, alloc, "done"),
     }
 }
 
 // One word for each reply.
 fn words_of<S: KeyHasher<u64>>(
+    rt: &impl Abort,
     alloc: Global,
     replies: &[SetReply<u64, S>],
-) -> Result<String, Fail> {
+) -> String {
     let mut text = String::new(alloc);
     for reply in replies {
-        text.push_str(word_of(alloc, reply)?.as_str())?;
+        text.push_str(word_of(rt, alloc, reply).as_str())
+            .expect(rt, "memory");
     }
-    Ok(text)
+    text
+}
+
+// Sees to the words of the replies.
+fn read_as<S: KeyHasher<u64>>(
+    rt: &(impl Abort + AllocGlobal),
+    replies: &[SetReply<u64, S>],
+    words: &str,
+) {
+    same(rt, words_of(rt, rt.alloc(), replies).as_str(), words);
 }
 
 #[test]
-fn set_calls_as_values(rt: HostRuntime) -> Result<(), Fail> {
-    let more = Vec::from_array(rt.alloc(), [2, 3, 4])?;
+fn set_calls_as_values(rt: HostRuntime) {
+    let more = Vec::from_array(rt.alloc(), [2, 3, 4]).expect(&rt, "memory");
     let calls = queue_of(
+        &rt,
         rt.alloc(),
         [
             SetCall::IsEmpty,
@@ -150,33 +167,31 @@ fn set_calls_as_values(rt: HostRuntime) -> Result<(), Fail> {
             SetCall::Clear,
             SetCall::Len,
         ],
-    )?;
-    let mut set: SeqSet<u64> = SeqSet::new(rt.alloc());
-    let replies = set.run(rt.alloc(), calls)?;
-    let want = "true done true false done true none done 2 4 false done 0 ";
-    same(
-        &rt,
-        words_of(rt.alloc(), replies.as_slice())?.as_str(),
-        want,
     );
-    Ok(())
+    let mut set: SeqSet<u64> = SeqSet::new(rt.alloc());
+    let replies = set.run(rt.alloc(), calls).expect(&rt, "memory");
+    let want = "true done true false done true none done 2 4 false done 0 ";
+    read_as(&rt, replies.as_slice(), want);
 }
 
 // The numbers, in bins of their own.
 fn low_set_of<const N: usize>(
+    rt: &impl Abort,
     alloc: Global,
     numbers: [u64; N],
-) -> Result<SeqSet<u64, LowHashBuilder>, Fail> {
-    Ok(SeqSet::from_list(alloc, Vec::from_array(alloc, numbers)?, LowHashBuilder)?)
+) -> SeqSet<u64, LowHashBuilder> {
+    let list = Vec::from_array(alloc, numbers).expect(rt, "memory");
+    SeqSet::from_list(alloc, list, LowHashBuilder).expect(rt, "memory")
 }
 
 #[test]
-fn relations_of_sets_as_values(rt: HostRuntime) -> Result<(), Fail> {
-    let without_one = low_set_of(rt.alloc(), [4, 5])?;
-    let with_one = low_set_of(rt.alloc(), [3, 5])?;
-    let larger = low_set_of(rt.alloc(), [1, 2, 3, 4])?;
-    let other = low_set_of(rt.alloc(), [3, 4])?;
+fn relations_of_sets_as_values(rt: HostRuntime) {
+    let without_one = low_set_of(&rt, rt.alloc(), [4, 5]);
+    let with_one = low_set_of(&rt, rt.alloc(), [3, 5]);
+    let larger = low_set_of(&rt, rt.alloc(), [1, 2, 3, 4]);
+    let other = low_set_of(&rt, rt.alloc(), [3, 4]);
     let calls = queue_of(
+        &rt,
         rt.alloc(),
         [
             SetCall::IsDisjoint(without_one),
@@ -185,23 +200,19 @@ fn relations_of_sets_as_values(rt: HostRuntime) -> Result<(), Fail> {
             SetCall::IsSuperset(other),
             SetCall::Retain(is_even),
         ],
-    )?;
-    let mut set = low_set_of(rt.alloc(), [1, 2, 3])?;
-    let replies = set.run(rt.alloc(), calls)?;
-    let want = "true false true false done ";
-    same(
-        &rt,
-        words_of(rt.alloc(), replies.as_slice())?.as_str(),
-        want,
     );
-    Ok(())
+    let mut set = low_set_of(&rt, rt.alloc(), [1, 2, 3]);
+    let replies = set.run(rt.alloc(), calls).expect(&rt, "memory");
+    let want = "true false true false done ";
+    read_as(&rt, replies.as_slice(), want);
 }
 
 #[test]
-fn elements_and_copies_as_values(rt: HostRuntime) -> Result<(), Fail> {
-    let other = low_set_of(rt.alloc(), [1, 2, 4])?;
-    let smaller = low_set_of(rt.alloc(), [3, 1])?;
+fn elements_and_copies_as_values(rt: HostRuntime) {
+    let other = low_set_of(&rt, rt.alloc(), [1, 2, 4]);
+    let smaller = low_set_of(&rt, rt.alloc(), [3, 1]);
     let calls = queue_of(
+        &rt,
         rt.alloc(),
         [
             SetCall::Elements,
@@ -211,37 +222,28 @@ fn elements_and_copies_as_values(rt: HostRuntime) -> Result<(), Fail> {
             SetCall::Retain(is_even),
             SetCall::Len,
         ],
-    )?;
-    let mut set = low_set_of(rt.alloc(), [1, 2, 3])?;
-    let replies = set.run(rt.alloc(), calls)?;
-    let want = "[ 1 2 3 ] false true set of 3 done 1 ";
-    same(
-        &rt,
-        words_of(rt.alloc(), replies.as_slice())?.as_str(),
-        want,
     );
-    Ok(())
+    let mut set = low_set_of(&rt, rt.alloc(), [1, 2, 3]);
+    let replies = set.run(rt.alloc(), calls).expect(&rt, "memory");
+    let want = "[ 1 2 3 ] false true set of 3 done 1 ";
+    read_as(&rt, replies.as_slice(), want);
 }
 
 #[test]
-fn equal_sets_as_values(rt: HostRuntime) -> Result<(), Fail> {
-    let equal = low_set_of(rt.alloc(), [3, 2, 1])?;
-    let other = low_set_of(rt.alloc(), [1, 2, 4])?;
+fn equal_sets_as_values(rt: HostRuntime) {
+    let equal = low_set_of(&rt, rt.alloc(), [3, 2, 1]);
+    let other = low_set_of(&rt, rt.alloc(), [1, 2, 4]);
     let calls = queue_of(
+        &rt,
         rt.alloc(),
         [
             SetCall::Equals(equal),
             SetCall::Equals(other),
             SetCall::Retain(is_even),
         ],
-    )?;
-    let mut set = low_set_of(rt.alloc(), [1, 2, 3])?;
-    let replies = set.run(rt.alloc(), calls)?;
-    let want = "true false done ";
-    same(
-        &rt,
-        words_of(rt.alloc(), replies.as_slice())?.as_str(),
-        want,
     );
-    Ok(())
+    let mut set = low_set_of(&rt, rt.alloc(), [1, 2, 3]);
+    let replies = set.run(rt.alloc(), calls).expect(&rt, "memory");
+    let want = "true false done ";
+    read_as(&rt, replies.as_slice(), want);
 }

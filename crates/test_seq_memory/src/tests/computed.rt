@@ -1,77 +1,86 @@
 //! `compute_if_present`. By the bound on its function, it calls it at most once.
 
-use super::{MOST_REQUESTS, lent, map_of};
+use super::{
+    Memory, NumberMap, Refused, adds, map_of, number_at, refuse_each, same, same_at, size_of, taken,
+};
+use flurry_model::hash::LowHashBuilder;
+use std::process::Abort;
 use std::test::Fail;
 use test_alloc::Refusing;
+
+// Computes this value at a key: whether the function was called, and the number that was answered, or nothing where it failed.
+fn compute(
+    map: &mut NumberMap<LowHashBuilder>,
+    key: u64,
+    value: Option<u64>,
+) -> (bool, Option<Option<u64>>) {
+    let mut called = false;
+    let answer = map.compute_if_present(&key, |_, _| {
+        called = true;
+        value
+    });
+    match answer {
+        Ok(answer) => (called, Some(taken(answer))),
+        Err(_) => (called, None),
+    }
+}
 
 #[test]
 fn compute_at_an_absent_key(rt: HostRuntime) -> Result<(), Fail> {
     let memory = Refusing::leaked(rt.alloc())?;
-    let mut map = map_of(memory, 2)?;
-    let mut called = false;
+    let mut map = map_of(&rt, memory, 2);
     memory.refuse_from(0);
-    let answer = map.compute_if_present(&7, |_, _| {
-        called = true;
-        Some(9)
-    });
+    let seen = compute(&mut map, 7, Some(9));
     let asked = memory.asked();
     memory.refuse_nothing();
-    assert_eq!(rt; asked, 0);
-    assert!(rt; answer?.is_none());
-    assert!(rt; !called);
-    assert_eq!(rt; map.len(), 2);
+    same(&rt, (asked, seen), (0, (false, Some(None))));
+    same(&rt, map.len(), 2);
     Ok(())
+}
+
+// The value 9 at the key 7, whose value is 0.
+struct ComputesNine;
+
+impl Refused for ComputesNine {
+    fn once(&self, rt: &impl Abort, memory: Memory, k: u64) -> bool {
+        let mut map = map_of(rt, memory, 0);
+        adds(rt, &mut map, 7, 0);
+        let before = memory.blocks();
+        memory.refuse_at(k);
+        let seen = compute(&mut map, 7, Some(9));
+        let refused = memory.refused();
+        memory.refuse_nothing();
+        let (answer, stands) = if refused {
+            (None, 0)
+        } else {
+            (Some(Some(9)), 9)
+        };
+        same_at(
+            rt,
+            k,
+            (seen, number_at(&map, 7)),
+            ((true, answer), Some(stands)),
+        );
+        same_at(rt, k, memory.blocks(), before);
+        refused
+    }
 }
 
 #[test]
 fn compute_of_a_value(rt: HostRuntime) -> Result<(), Fail> {
-    let memory = Refusing::leaked(rt.alloc())?;
-    let mut ended = false;
-    for k in 0..MOST_REQUESTS {
-        let mut map = map_of(memory, 0)?;
-        assert!(rt; map.insert(7, 0)?.is_none());
-        let before = memory.blocks();
-        let mut called = false;
-        memory.refuse_at(k);
-        let answer = map.compute_if_present(&7, |_, _| {
-            called = true;
-            Some(9)
-        });
-        let refused = memory.refused();
-        memory.refuse_nothing();
-        assert!(rt; called, "at {k}");
-        if !refused {
-            assert_eq!(rt; answer?.map(|value| *value), Some(9));
-            assert_eq!(rt; lent(map.get(&7)), Some(9));
-            assert!(rt; k > 0);
-            ended = true;
-            break;
-        }
-        assert!(rt; answer.is_err(), "at {k}");
-        assert_eq!(rt; lent(map.get(&7)), Some(0), "at {k}");
-        assert_eq!(rt; memory.blocks(), before, "at {k}");
-    }
-    assert!(rt; ended);
-    assert_eq!(rt; memory.blocks(), 0);
-    Ok(())
+    refuse_each(&rt, rt.alloc(), &ComputesNine)
 }
 
 #[test]
 fn compute_of_none(rt: HostRuntime) -> Result<(), Fail> {
     let memory = Refusing::leaked(rt.alloc())?;
-    let mut map = map_of(memory, 2)?;
-    let mut called = false;
+    let mut map = map_of(&rt, memory, 2);
     memory.refuse_from(0);
-    let answer = map.compute_if_present(&1, |_, _| {
-        called = true;
-        None
-    });
+    let seen = compute(&mut map, 1, None);
     let asked = memory.asked();
     memory.refuse_nothing();
-    assert_eq!(rt; asked, 0);
-    assert!(rt; answer?.is_none());
-    assert!(rt; called);
-    assert_eq!(rt; (map.capacity(), map.len()), (16, 1));
-    assert!(rt; map.get(&1).is_none());
+    same(&rt, (asked, seen), (0, (true, Some(None))));
+    same(&rt, size_of(&map), (16, 1));
+    same(&rt, number_at(&map, 1), None);
     Ok(())
 }

@@ -1,30 +1,31 @@
 //! A further map of the same pairs.
 
-use super::{MOST_REQUESTS, map_of};
+use super::{Memory, Refused, map_of, refuse_each, same_at};
+use std::process::Abort;
 use std::test::Fail;
-use test_alloc::Refusing;
 
-#[test]
-fn try_clone(rt: HostRuntime) -> Result<(), Fail> {
-    let memory = Refusing::leaked(rt.alloc())?;
-    let map = map_of(memory, 3)?;
-    let before = memory.blocks();
-    let mut ended = false;
-    for k in 0..MOST_REQUESTS {
+// A copy of a map of three pairs.
+struct Copies;
+
+impl Refused for Copies {
+    fn once(&self, rt: &impl Abort, memory: Memory, k: u64) -> bool {
+        let map = map_of(rt, memory, 3);
+        let before = memory.blocks();
         memory.refuse_at(k);
         let answer = map.try_clone();
         let refused = memory.refused();
         memory.refuse_nothing();
-        assert_eq!(rt; answer.is_err(), refused, "at {k}");
-        if let Ok(copy) = answer {
-            assert!(rt; copy == map);
-            assert!(rt; k > 0);
-            ended = true;
-            break;
-        }
-        assert_eq!(rt; memory.blocks(), before, "at {k}");
+        let is_equal = match answer {
+            Ok(copy) => Some(copy == map),
+            Err(_) => None,
+        };
+        let wanted = if refused { None } else { Some(true) };
+        same_at(rt, k, (is_equal, memory.blocks()), (wanted, before));
+        refused
     }
-    assert!(rt; ended);
-    assert_eq!(rt; memory.blocks(), before);
-    Ok(())
+}
+
+#[test]
+fn try_clone(rt: HostRuntime) -> Result<(), Fail> {
+    refuse_each(&rt, rt.alloc(), &Copies)
 }

@@ -1,137 +1,137 @@
 //! Insertions.
 
-use super::{MOST_REQUESTS, lent, map_of};
+use super::{
+    Memory, NumberMap, Refused, map_of, number_at, refuse_each, same, same_at, size_of, taken,
+};
+use flurry_model::hash::LowHashBuilder;
+use flurry_model::reply::KeptReply;
+use std::process::Abort;
 use std::test::Fail;
 use test_alloc::Refusing;
 
-#[test]
-fn insert_into_a_new_map(rt: HostRuntime) -> Result<(), Fail> {
-    let memory = Refusing::leaked(rt.alloc())?;
-    let mut ended = false;
-    for k in 0..MOST_REQUESTS {
-        let mut map = map_of(memory, 0)?;
+// An insertion of a key and a value.
+#[derive(Clone, Copy)]
+enum Write {
+    Insert(u64, u64),
+    TryInsert(u64, u64),
+}
+
+// What it replies, or nothing where it is refused.
+fn reply_of(map: &mut NumberMap<LowHashBuilder>, write: Write) -> Option<KeptReply<u64, u64>> {
+    match write {
+        Write::Insert(key, value) => {
+            let old = map.insert(key, value).ok()?;
+            Some(KeptReply::Value(taken(old)))
+        }
+        Write::TryInsert(key, value) => match map.try_insert(key, value).ok()? {
+            Ok(new) => Some(KeptReply::New(*new)),
+            Err(error) => Some(KeptReply::Exists {
+                current: *error.current,
+                not_inserted: error.not_inserted,
+            }),
+        },
+    }
+}
+
+// How many bins and pairs there are, and the numbers at the keys 0, 1 and 2.
+type Stands = ((usize, usize), [Option<u64>; 3]);
+
+fn stands(map: &NumberMap<LowHashBuilder>) -> Stands {
+    (
+        size_of(map),
+        [number_at(map, 0), number_at(map, 1), number_at(map, 2)],
+    )
+}
+
+// An insertion into a map of so many keys: what stands where it is refused, and what it replies and what stands where it is not.
+#[derive(Drop)]
+struct Inserts {
+    keys: u64,
+    write: Write,
+    kept: Stands,
+    reply: KeptReply<u64, u64>,
+    written: Stands,
+}
+
+impl Refused for Inserts {
+    fn once(&self, rt: &impl Abort, memory: Memory, k: u64) -> bool {
+        let mut map = map_of(rt, memory, self.keys);
         let before = memory.blocks();
         memory.refuse_at(k);
-        let answer = map.insert(1, 1);
+        let reply = reply_of(&mut map, self.write);
         let refused = memory.refused();
         memory.refuse_nothing();
-        if !refused {
-            assert!(rt; answer?.is_none());
-            assert_eq!(rt; (map.capacity(), map.len()), (16, 1));
-            assert!(rt; k > 0);
-            ended = true;
-            break;
+        if refused {
+            same_at(rt, k, (reply, stands(&map)), (None, self.kept));
+            same_at(rt, k, memory.blocks(), before);
+        } else {
+            same(rt, (reply, stands(&map)), (Some(self.reply), self.written));
         }
-        assert!(rt; answer.is_err(), "at {k}");
-        assert_eq!(rt; (map.capacity(), map.len()), (0, 0), "at {k}");
-        assert_eq!(rt; memory.blocks(), before, "at {k}");
+        refused
     }
-    assert!(rt; ended);
-    assert_eq!(rt; memory.blocks(), 0);
-    Ok(())
+}
+
+#[test]
+fn insert_into_a_new_map(rt: HostRuntime) -> Result<(), Fail> {
+    let call = Inserts {
+        keys: 0,
+        write: Write::Insert(1, 1),
+        kept: ((0, 0), [None, None, None]),
+        reply: KeptReply::Value(None),
+        written: ((16, 1), [None, Some(1), None]),
+    };
+    refuse_each(&rt, rt.alloc(), &call)
 }
 
 #[test]
 fn insert_of_a_present_key(rt: HostRuntime) -> Result<(), Fail> {
-    let memory = Refusing::leaked(rt.alloc())?;
-    let mut ended = false;
-    for k in 0..MOST_REQUESTS {
-        let mut map = map_of(memory, 2)?;
-        let before = memory.blocks();
-        memory.refuse_at(k);
-        let answer = map.insert(1, 5);
-        let refused = memory.refused();
-        memory.refuse_nothing();
-        if !refused {
-            assert_eq!(rt; answer?.map(|old| *old), Some(1));
-            assert_eq!(rt; lent(map.get(&1)), Some(5));
-            assert!(rt; k > 0);
-            ended = true;
-            break;
-        }
-        assert!(rt; answer.is_err(), "at {k}");
-        assert_eq!(rt; lent(map.get(&1)), Some(1), "at {k}");
-        assert_eq!(rt; (map.capacity(), map.len()), (16, 2), "at {k}");
-        assert_eq!(rt; memory.blocks(), before, "at {k}");
-    }
-    assert!(rt; ended);
-    assert_eq!(rt; memory.blocks(), 0);
-    Ok(())
+    let call = Inserts {
+        keys: 2,
+        write: Write::Insert(1, 5),
+        kept: ((16, 2), [Some(0), Some(1), None]),
+        reply: KeptReply::Value(Some(1)),
+        written: ((16, 2), [Some(0), Some(5), None]),
+    };
+    refuse_each(&rt, rt.alloc(), &call)
 }
 
 #[test]
 fn insert_into_a_table(rt: HostRuntime) -> Result<(), Fail> {
-    let memory = Refusing::leaked(rt.alloc())?;
-    let mut ended = false;
-    for k in 0..MOST_REQUESTS {
-        let mut map = map_of(memory, 2)?;
-        let before = memory.blocks();
-        memory.refuse_at(k);
-        let answer = map.insert(2, 5);
-        let refused = memory.refused();
-        memory.refuse_nothing();
-        if !refused {
-            assert!(rt; answer?.is_none());
-            assert_eq!(rt; lent(map.get(&2)), Some(5));
-            assert!(rt; k > 0);
-            ended = true;
-            break;
-        }
-        assert!(rt; answer.is_err(), "at {k}");
-        assert_eq!(rt; (map.capacity(), map.len()), (16, 2), "at {k}");
-        assert!(rt;
-            lent(map.get(&0)) == Some(0) && lent(map.get(&1)) == Some(1),
-            "at {k}"
-        );
-        assert_eq!(rt; memory.blocks(), before, "at {k}");
-    }
-    assert!(rt; ended);
-    assert_eq!(rt; memory.blocks(), 0);
-    Ok(())
+    let call = Inserts {
+        keys: 2,
+        write: Write::Insert(2, 5),
+        kept: ((16, 2), [Some(0), Some(1), None]),
+        reply: KeptReply::Value(None),
+        written: ((16, 3), [Some(0), Some(1), Some(5)]),
+    };
+    refuse_each(&rt, rt.alloc(), &call)
 }
 
 #[test]
 fn try_insert_of_a_new_key(rt: HostRuntime) -> Result<(), Fail> {
-    let memory = Refusing::leaked(rt.alloc())?;
-    let mut ended = false;
-    for k in 0..MOST_REQUESTS {
-        let mut map = map_of(memory, 0)?;
-        let before = memory.blocks();
-        memory.refuse_at(k);
-        let answer = map.try_insert(1, 5);
-        let refused = memory.refused();
-        memory.refuse_nothing();
-        if !refused {
-            let Ok(new) = answer? else {
-                return Err(Fail::from("the key was absent"));
-            };
-            assert_eq!(rt; *new, 5);
-            assert!(rt; k > 0);
-            ended = true;
-            break;
-        }
-        assert!(rt; answer.is_err(), "at {k}");
-        assert_eq!(rt; (map.capacity(), map.len()), (0, 0), "at {k}");
-        assert_eq!(rt; memory.blocks(), before, "at {k}");
-    }
-    assert!(rt; ended);
-    assert_eq!(rt; memory.blocks(), 0);
-    Ok(())
+    let call = Inserts {
+        keys: 0,
+        write: Write::TryInsert(1, 5),
+        kept: ((0, 0), [None, None, None]),
+        reply: KeptReply::New(5),
+        written: ((16, 1), [None, Some(5), None]),
+    };
+    refuse_each(&rt, rt.alloc(), &call)
 }
 
 // It takes a further owner of the value that stands, and no memory.
 #[test]
 fn try_insert_of_a_present_key(rt: HostRuntime) -> Result<(), Fail> {
     let memory = Refusing::leaked(rt.alloc())?;
-    let mut map = map_of(memory, 2)?;
+    let mut map = map_of(&rt, memory, 2);
     memory.refuse_from(0);
-    let answer = map.try_insert(1, 5);
+    let reply = reply_of(&mut map, Write::TryInsert(1, 5));
     let asked = memory.asked();
     memory.refuse_nothing();
-    assert_eq!(rt; asked, 0);
-    let Err(error) = answer? else {
-        return Err(Fail::from("the key is present"));
+    let exists = KeptReply::Exists {
+        current: 1,
+        not_inserted: 5,
     };
-    assert_eq!(rt; (*error.current, error.not_inserted), (1, 5));
+    same(&rt, (asked, reply), (0, Some(exists)));
     Ok(())
 }

@@ -1,120 +1,119 @@
 //! Lists of pairs and of calls.
 
-use super::{MOST_REQUESTS, Memory, lent, map_of};
+use super::{Memory, NumberMap, Refused, map_of, number_at, refuse_each, same, same_at, size_of};
 use flurry_model::hash::LowHashBuilder;
 use flurry_seq::SeqMap;
 use flurry_seq::calls::Call;
 use std::collections::VecDeque;
 use std::process::Abort;
 use std::test::Fail;
-use test_alloc::Refusing;
 
-fn three_pairs(memory: Memory) -> Result<Vec<(u64, u64), Memory>, Fail> {
-    Ok(Vec::from_array(memory, [(5, 5), (6, 6), (7, 7)])?)
+fn three_pairs(rt: &impl Abort, memory: Memory) -> Vec<(u64, u64), Memory> {
+    Vec::from_array(memory, [(5, 5), (6, 6), (7, 7)]).expect(rt, "memory for the list")
 }
 
 // Of the keys from 5 on, each its own value, the map has as many as it has pairs beside its first ones.
-fn has_a_front(rt: &impl Abort, map: &SeqMap<u64, u64, LowHashBuilder, Memory>, first: usize) {
+fn has_a_front(rt: &impl Abort, map: &NumberMap<LowHashBuilder>, first: usize) {
     let mut count = first;
     for key in 5..8u64 {
+        let number = number_at(map, key);
         if count < map.len() {
-            assert_eq!(rt; lent(map.get(&key)), Some(key));
+            same(rt, number, Some(key));
             count += 1;
         } else {
-            assert_eq!(rt; lent(map.get(&key)), None);
+            same(rt, number, None);
         }
     }
-    assert_eq!(rt; count, map.len());
+    same(rt, count, map.len());
+}
+
+// Extends a map of so many pairs with the request numbered k refused, and answers whether that request was made.
+fn extended(
+    rt: &impl Abort,
+    memory: Memory,
+    map: &mut NumberMap<LowHashBuilder>,
+    k: u64,
+    first: usize,
+) -> bool {
+    let list = three_pairs(rt, memory);
+    memory.refuse_at(k);
+    let failed = map.extend(list).is_err();
+    let refused = memory.refused();
+    memory.refuse_nothing();
+    has_a_front(rt, map, first);
+    same_at(rt, k, failed, refused);
+    refused
+}
+
+// The list of three pairs put into a map of two.
+struct Extends;
+
+impl Refused for Extends {
+    fn once(&self, rt: &impl Abort, memory: Memory, k: u64) -> bool {
+        let mut map = map_of(rt, memory, 2);
+        let refused = extended(rt, memory, &mut map, k, 2);
+        let first = (number_at(&map, 0), number_at(&map, 1));
+        same_at(rt, k, first, (Some(0), Some(1)));
+        refused
+    }
 }
 
 #[test]
 fn extend(rt: HostRuntime) -> Result<(), Fail> {
-    let memory = Refusing::leaked(rt.alloc())?;
-    let mut ended = false;
-    for k in 0..MOST_REQUESTS {
-        let mut map = map_of(memory, 2)?;
-        let list = three_pairs(memory)?;
-        memory.refuse_at(k);
-        let answer = map.extend(list);
-        let refused = memory.refused();
-        memory.refuse_nothing();
-        has_a_front(&rt, &map, 2);
-        assert!(rt;
-            lent(map.get(&0)) == Some(0) && lent(map.get(&1)) == Some(1),
-            "at {k}"
-        );
-        assert_eq!(rt; answer.is_err(), refused, "at {k}");
-        drop(map);
-        assert_eq!(rt; memory.blocks(), 0, "at {k}");
-        if !refused {
-            assert!(rt; k > 0);
-            ended = true;
-            break;
-        }
-    }
-    assert!(rt; ended);
-    Ok(())
+    refuse_each(&rt, rt.alloc(), &Extends)
 }
 
-// Room for three pairs is asked for as 8 bins, and these are doubled once.
-#[test]
-fn extend_of_a_new_map(rt: HostRuntime) -> Result<(), Fail> {
-    let memory = Refusing::leaked(rt.alloc())?;
-    let mut ended = false;
-    for k in 0..MOST_REQUESTS {
-        let mut map = map_of(memory, 0)?;
-        let list = three_pairs(memory)?;
-        memory.refuse_at(k);
-        let answer = map.extend(list);
-        let refused = memory.refused();
-        memory.refuse_nothing();
-        has_a_front(&rt, &map, 0);
-        assert_eq!(rt; answer.is_err(), refused, "at {k}");
+// The list of three pairs put into a new map. Room for them is asked for as 8 bins, and these are doubled once.
+struct ExtendsNew;
+
+impl Refused for ExtendsNew {
+    fn once(&self, rt: &impl Abort, memory: Memory, k: u64) -> bool {
+        let mut map = map_of(rt, memory, 0);
+        let refused = extended(rt, memory, &mut map, k, 0);
         let bins = match k {
             0 => 0,
             1 => 8,
             _ => 16,
         };
-        assert_eq!(rt; map.capacity(), bins, "at {k}");
-        drop(map);
-        assert_eq!(rt; memory.blocks(), 0, "at {k}");
-        if !refused {
-            ended = true;
-            break;
-        }
+        same_at(rt, k, map.capacity(), bins);
+        refused
     }
-    assert!(rt; ended);
-    Ok(())
 }
 
 #[test]
-fn from_list(rt: HostRuntime) -> Result<(), Fail> {
-    let memory = Refusing::leaked(rt.alloc())?;
-    let mut ended = false;
-    for k in 0..MOST_REQUESTS {
-        let list = three_pairs(memory)?;
+fn extend_of_a_new_map(rt: HostRuntime) -> Result<(), Fail> {
+    refuse_each(&rt, rt.alloc(), &ExtendsNew)
+}
+
+// A map made of the list of three pairs.
+struct MakesOfList;
+
+impl Refused for MakesOfList {
+    fn once(&self, rt: &impl Abort, memory: Memory, k: u64) -> bool {
+        let list = three_pairs(rt, memory);
         memory.refuse_at(k);
         let answer = SeqMap::from_list(memory, list, LowHashBuilder);
         let refused = memory.refused();
         memory.refuse_nothing();
-        if !refused {
-            let map = answer?;
-            has_a_front(&rt, &map, 0);
-            assert_eq!(rt; (map.capacity(), map.len()), (8, 3));
-            assert!(rt; k > 0);
-            ended = true;
-            break;
+        same_at(rt, k, answer.is_err(), refused);
+        match answer {
+            Ok(map) => {
+                has_a_front(rt, &map, 0);
+                same(rt, size_of(&map), (8, 3));
+            }
+            Err(_) => same_at(rt, k, memory.blocks(), 0),
         }
-        assert!(rt; answer.is_err(), "at {k}");
-        assert_eq!(rt; memory.blocks(), 0, "at {k}");
+        refused
     }
-    assert!(rt; ended);
-    assert_eq!(rt; memory.blocks(), 0);
-    Ok(())
+}
+
+#[test]
+fn from_list(rt: HostRuntime) -> Result<(), Fail> {
+    refuse_each(&rt, rt.alloc(), &MakesOfList)
 }
 
 // What the calls pass to `compute_if_present`.
-fn same(_key: &u64, value: &u64) -> Option<u64> {
+fn unchanged(_key: &u64, value: &u64) -> Option<u64> {
     Some(*value)
 }
 
@@ -123,17 +122,17 @@ fn is_own_value(key: &u64, value: &u64) -> bool {
     *key == *value
 }
 
-#[test]
-fn calls_in_their_order(rt: HostRuntime) -> Result<(), Fail> {
-    let memory = Refusing::leaked(rt.alloc())?;
-    let mut ended = false;
-    for k in 0..MOST_REQUESTS {
-        let mut map = map_of(memory, 0)?;
+// Calls as values, run on a new map.
+struct Runs;
+
+impl Refused for Runs {
+    fn once(&self, rt: &impl Abort, memory: Memory, k: u64) -> bool {
+        let mut map = map_of(rt, memory, 0);
         let mut calls = VecDeque::new(memory);
         for call in [
             Call::Insert(5, 5),
             Call::Insert(6, 6),
-            Call::ComputeIfPresent(6, same),
+            Call::ComputeIfPresent(6, unchanged),
             Call::Retain(is_own_value),
             Call::Insert(7, 7),
             Call::Pairs,
@@ -141,24 +140,20 @@ fn calls_in_their_order(rt: HostRuntime) -> Result<(), Fail> {
             Call::Values,
             Call::TryClone,
         ] {
-            calls.push_back(call)?;
+            calls.push_back(call).expect(rt, "memory for the call");
         }
         memory.refuse_at(k);
-        let answer = map.run(memory, calls);
+        let failed = map.run(memory, calls).is_err();
         let refused = memory.refused();
         memory.refuse_nothing();
-        has_a_front(&rt, &map, 0);
-        assert_eq!(rt; answer.is_err(), refused, "at {k}");
-        assert!(rt; refused || map.len() == 3);
-        drop(answer);
-        drop(map);
-        assert_eq!(rt; memory.blocks(), 0, "at {k}");
-        if !refused {
-            assert!(rt; k > 0);
-            ended = true;
-            break;
-        }
+        has_a_front(rt, &map, 0);
+        same_at(rt, k, failed, refused);
+        same_at(rt, k, refused || map.len() == 3, true);
+        refused
     }
-    assert!(rt; ended);
-    Ok(())
+}
+
+#[test]
+fn calls_in_their_order(rt: HostRuntime) -> Result<(), Fail> {
+    refuse_each(&rt, rt.alloc(), &Runs)
 }

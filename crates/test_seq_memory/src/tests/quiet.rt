@@ -1,33 +1,57 @@
 //! Calls that take no memory.
 
-use super::{lent, map_of};
+use super::{Memory, NumberMap, lent, map_of, same, size_of};
 use flurry_bins::bin::{Ordered, Shape};
+use flurry_model::hash::LowHashBuilder;
+use std::process::Abort;
 use std::test::Fail;
 use test_alloc::Refusing;
 
-#[test]
-fn calls_that_take_no_memory(rt: HostRuntime) -> Result<(), Fail> {
-    let memory = Refusing::leaked(rt.alloc())?;
-    let mut map = map_of(memory, 9)?;
-    let other = map_of(memory, 9)?;
-    memory.refuse_from(0);
-    assert_eq!(rt; lent(map.get(&3)), Some(3));
-    assert!(rt; map.get_key_value(&3).is_some() && map.contains_key(&4));
-    assert!(rt; map == other);
-    assert_eq!(rt; map.iter().count(), 9);
-    assert_eq!(rt; map.keys().count(), 9);
-    assert_eq!(rt; map.values().count(), 9);
-    assert_eq!(rt; map.shape_of(3), Shape::List(1));
-    assert!(rt; map.remove(&3).is_some() && map.remove_entry(&4).is_some());
-    assert_eq!(rt; (map.len(), map.capacity()), (7, 16));
+// Looks at the map of nine pairs.
+fn reads(rt: &impl Abort, map: &NumberMap<LowHashBuilder>) {
+    same(rt, lent(map.get(&3)), Some(3));
+    same(
+        rt,
+        map.get_key_value(&3).is_some() && map.contains_key(&4),
+        true,
+    );
+    let counts = (map.iter().count(), map.keys().count(), map.values().count());
+    same(rt, counts, (9, 9, 9));
+    same(rt, map.shape_of(3), Shape::List(1));
+}
+
+// Takes pairs out of it, and at last all of them.
+fn removes(rt: &impl Abort, map: &mut NumberMap<LowHashBuilder>) {
+    same(
+        rt,
+        map.remove(&3).is_some() && map.remove_entry(&4).is_some(),
+        true,
+    );
+    same(rt, size_of(map), (16, 7));
     map.retain(|_: &u64, value: &u64| *value < 9);
     map.retain_force(|key: &u64, _: &u64| *key > 1);
-    assert_eq!(rt; (map.len(), map.capacity()), (5, 16));
+    same(rt, size_of(map), (16, 5));
     map.clear();
-    assert!(rt; map.is_empty());
-    let (bins, _) = other.into_bins();
-    assert_eq!(rt; bins.len(), 16);
-    assert_eq!(rt; bins.iter().filter(|bin| bin.len() > 0).count(), 9);
-    assert_eq!(rt; memory.asked(), 0);
+    same(rt, map.is_empty(), true);
+}
+
+// Takes it apart.
+fn gives_its_bins(rt: &impl Abort, map: NumberMap<LowHashBuilder>) {
+    let (bins, _) = map.into_bins();
+    same(rt, bins.len(), 16);
+    same(rt, bins.iter().filter(|bin| bin.len() > 0).count(), 9);
+}
+
+#[test]
+fn calls_that_take_no_memory(rt: HostRuntime) -> Result<(), Fail> {
+    let memory: Memory = Refusing::leaked(rt.alloc())?;
+    let mut map = map_of(&rt, memory, 9);
+    let other = map_of(&rt, memory, 9);
+    memory.refuse_from(0);
+    reads(&rt, &map);
+    same(&rt, map == other, true);
+    removes(&rt, &mut map);
+    gives_its_bins(&rt, other);
+    same(&rt, memory.asked(), 0);
     Ok(())
 }

@@ -1,6 +1,6 @@
 //! The calls of a set that take memory.
 
-use super::{MOST_REQUESTS, Memory};
+use super::{Memory, Refused, refuse_each, same, same_at};
 use flurry_model::hash::LowHashBuilder;
 use flurry_set::SeqSet;
 use flurry_set::set_calls::SetCall;
@@ -12,16 +12,16 @@ use test_alloc::Refusing;
 type Set = SeqSet<u64, LowHashBuilder, Memory>;
 
 // The elements from 0 on.
-fn set_of(memory: Memory, count: u64) -> Result<Set, Fail> {
+fn set_of(rt: &impl Abort, memory: Memory, count: u64) -> Set {
     let mut set = SeqSet::with_hasher(memory, LowHashBuilder);
     for element in 0..count {
-        let _ = set.insert(element)?;
+        let _ = set.insert(element).expect(rt, "memory for the element");
     }
-    Ok(set)
+    set
 }
 
-fn three_elements(memory: Memory) -> Result<Vec<u64, Memory>, Fail> {
-    Ok(Vec::from_array(memory, [5, 6, 7])?)
+fn three_elements(rt: &impl Abort, memory: Memory) -> Vec<u64, Memory> {
+    Vec::from_array(memory, [5, 6, 7]).expect(rt, "memory for the list")
 }
 
 // Of the elements from 5 on, the set has as many as it has elements beside its first ones.
@@ -29,38 +29,38 @@ fn has_a_front(rt: &impl Abort, set: &Set, first: usize) {
     let mut count = first;
     for element in 5..8u64 {
         let is_in_front = count < set.len();
-        assert_eq!(rt; set.contains(&element), is_in_front);
+        same(rt, set.contains(&element), is_in_front);
         if is_in_front {
             count += 1;
         }
     }
-    assert_eq!(rt; count, set.len());
+    same(rt, count, set.len());
+}
+
+// An insertion into a new set. A second one, and taking the element out, ask for nothing.
+struct InsertsOne;
+
+impl Refused for InsertsOne {
+    fn once(&self, rt: &impl Abort, memory: Memory, k: u64) -> bool {
+        let mut set = set_of(rt, memory, 0);
+        memory.refuse_at(k);
+        let failed = set.insert(1).is_err();
+        let refused = memory.refused();
+        memory.refuse_from(0);
+        same_at(rt, k, (failed, set.contains(&1)), (refused, !refused));
+        if !refused {
+            same(rt, set.insert(1), Ok(false));
+            same(rt, set.take(&1).is_some(), true);
+            same(rt, memory.asked(), 0);
+        }
+        memory.refuse_nothing();
+        refused
+    }
 }
 
 #[test]
 fn set_insert(rt: HostRuntime) -> Result<(), Fail> {
-    let memory = Refusing::leaked(rt.alloc())?;
-    let mut ended = false;
-    for k in 0..MOST_REQUESTS {
-        let mut set = set_of(memory, 0)?;
-        memory.refuse_at(k);
-        let answer = set.insert(1);
-        let refused = memory.refused();
-        memory.refuse_from(0);
-        assert_eq!(rt; answer.is_err(), refused, "at {k}");
-        assert_eq!(rt; set.contains(&1), !refused, "at {k}");
-        if !refused {
-            assert!(rt; !set.insert(1)?);
-            assert!(rt; set.take(&1).is_some());
-            assert_eq!(rt; memory.asked(), 0);
-            ended = true;
-            break;
-        }
-        memory.refuse_nothing();
-    }
-    assert!(rt; ended);
-    assert_eq!(rt; memory.blocks(), 0);
-    Ok(())
+    refuse_each(&rt, rt.alloc(), &InsertsOne)
 }
 
 #[test]
@@ -69,114 +69,110 @@ fn set_with_capacity(rt: HostRuntime) -> Result<(), Fail> {
     memory.refuse_from(0);
     let none: Result<Set, _> = SeqSet::with_capacity_and_hasher(memory, 0, LowHashBuilder);
     assert!(rt; none?.is_empty());
-    assert_eq!(rt; memory.asked(), 0);
+    same(&rt, memory.asked(), 0);
     let refused: Result<Set, _> = SeqSet::with_capacity_and_hasher(memory, 5, LowHashBuilder);
-    assert!(rt; refused.is_err());
+    same(&rt, refused.is_err(), true);
     let refused: Result<SeqSet<u64, _, Memory>, _> = SeqSet::with_capacity(memory, 5);
-    assert!(rt; refused.is_err());
-    assert_eq!(rt; memory.blocks(), 0);
+    same(&rt, refused.is_err(), true);
+    same(&rt, memory.blocks(), 0);
     Ok(())
+}
+
+// Room for 32 elements more in a set of one. It asks for 32, for 64 and for 128 bins.
+struct Reserves;
+
+impl Refused for Reserves {
+    fn once(&self, rt: &impl Abort, memory: Memory, k: u64) -> bool {
+        let mut set = set_of(rt, memory, 1);
+        memory.refuse_at(k);
+        let failed = set.reserve(32).is_err();
+        let refused = memory.refused();
+        memory.refuse_nothing();
+        same_at(rt, k, (failed, refused), (k < 3, k < 3));
+        same_at(rt, k, (set.len(), set.contains(&0)), (1, true));
+        refused
+    }
 }
 
 #[test]
 fn set_reserve(rt: HostRuntime) -> Result<(), Fail> {
-    let memory = Refusing::leaked(rt.alloc())?;
-    let mut ended = false;
-    for k in 0..MOST_REQUESTS {
-        let mut set = set_of(memory, 1)?;
+    refuse_each(&rt, rt.alloc(), &Reserves)
+}
+
+// The list of three elements put into a set of two.
+struct Extends;
+
+impl Refused for Extends {
+    fn once(&self, rt: &impl Abort, memory: Memory, k: u64) -> bool {
+        let mut set = set_of(rt, memory, 2);
+        let list = three_elements(rt, memory);
         memory.refuse_at(k);
-        let answer = set.reserve(32);
+        let failed = set.extend(list).is_err();
         let refused = memory.refused();
         memory.refuse_nothing();
-        assert_eq!(rt; answer.is_err(), refused, "at {k}");
-        assert!(rt; set.len() == 1 && set.contains(&0), "at {k}");
-        if !refused {
-            // To 32, to 64 and to 128 bins.
-            assert_eq!(rt; k, 3);
-            ended = true;
-            break;
-        }
+        same_at(rt, k, failed, refused);
+        has_a_front(rt, &set, 2);
+        same_at(rt, k, set.contains(&0) && set.contains(&1), true);
+        refused
     }
-    assert!(rt; ended);
-    assert_eq!(rt; memory.blocks(), 0);
-    Ok(())
 }
 
 #[test]
 fn set_extend(rt: HostRuntime) -> Result<(), Fail> {
-    let memory = Refusing::leaked(rt.alloc())?;
-    let mut ended = false;
-    for k in 0..MOST_REQUESTS {
-        let mut set = set_of(memory, 2)?;
-        let list = three_elements(memory)?;
-        memory.refuse_at(k);
-        let answer = set.extend(list);
-        let refused = memory.refused();
-        memory.refuse_nothing();
-        assert_eq!(rt; answer.is_err(), refused, "at {k}");
-        has_a_front(&rt, &set, 2);
-        assert!(rt; set.contains(&0) && set.contains(&1), "at {k}");
-        drop(set);
-        assert_eq!(rt; memory.blocks(), 0, "at {k}");
-        if !refused {
-            assert!(rt; k > 0);
-            ended = true;
-            break;
-        }
-    }
-    assert!(rt; ended);
-    Ok(())
+    refuse_each(&rt, rt.alloc(), &Extends)
 }
 
-#[test]
-fn set_from_list(rt: HostRuntime) -> Result<(), Fail> {
-    let memory = Refusing::leaked(rt.alloc())?;
-    let mut ended = false;
-    for k in 0..MOST_REQUESTS {
-        let list = three_elements(memory)?;
+// A set made of the list of three elements.
+struct MakesOfList;
+
+impl Refused for MakesOfList {
+    fn once(&self, rt: &impl Abort, memory: Memory, k: u64) -> bool {
+        let list = three_elements(rt, memory);
         memory.refuse_at(k);
         let answer = SeqSet::from_list(memory, list, LowHashBuilder);
         let refused = memory.refused();
         memory.refuse_nothing();
-        if !refused {
-            let set = answer?;
-            has_a_front(&rt, &set, 0);
-            assert_eq!(rt; set.len(), 3);
-            assert!(rt; k > 0);
-            ended = true;
-            break;
+        same_at(rt, k, answer.is_err(), refused);
+        match answer {
+            Ok(set) => {
+                has_a_front(rt, &set, 0);
+                same(rt, set.len(), 3);
+            }
+            Err(_) => same_at(rt, k, memory.blocks(), 0),
         }
-        assert!(rt; answer.is_err(), "at {k}");
-        assert_eq!(rt; memory.blocks(), 0, "at {k}");
+        refused
     }
-    assert!(rt; ended);
-    assert_eq!(rt; memory.blocks(), 0);
-    Ok(())
 }
 
 #[test]
-fn set_try_clone(rt: HostRuntime) -> Result<(), Fail> {
-    let memory = Refusing::leaked(rt.alloc())?;
-    let set = set_of(memory, 3)?;
-    let before = memory.blocks();
-    let mut ended = false;
-    for k in 0..MOST_REQUESTS {
+fn set_from_list(rt: HostRuntime) -> Result<(), Fail> {
+    refuse_each(&rt, rt.alloc(), &MakesOfList)
+}
+
+// A copy of a set of three elements.
+struct Copies;
+
+impl Refused for Copies {
+    fn once(&self, rt: &impl Abort, memory: Memory, k: u64) -> bool {
+        let set = set_of(rt, memory, 3);
+        let before = memory.blocks();
         memory.refuse_at(k);
         let answer = set.try_clone();
         let refused = memory.refused();
         memory.refuse_nothing();
-        assert_eq!(rt; answer.is_err(), refused, "at {k}");
-        if let Ok(copy) = answer {
-            assert!(rt; copy == set);
-            assert!(rt; k > 0);
-            ended = true;
-            break;
-        }
-        assert_eq!(rt; memory.blocks(), before, "at {k}");
+        let is_equal = match answer {
+            Ok(copy) => Some(copy == set),
+            Err(_) => None,
+        };
+        let wanted = if refused { None } else { Some(true) };
+        same_at(rt, k, (is_equal, memory.blocks()), (wanted, before));
+        refused
     }
-    assert!(rt; ended);
-    assert_eq!(rt; memory.blocks(), before);
-    Ok(())
+}
+
+#[test]
+fn set_try_clone(rt: HostRuntime) -> Result<(), Fail> {
+    refuse_each(&rt, rt.alloc(), &Copies)
 }
 
 // What the calls pass to `retain`.
@@ -184,12 +180,12 @@ fn is_below_nine(element: &u64) -> bool {
     *element < 9
 }
 
-#[test]
-fn set_calls_in_their_order(rt: HostRuntime) -> Result<(), Fail> {
-    let memory = Refusing::leaked(rt.alloc())?;
-    let mut ended = false;
-    for k in 0..MOST_REQUESTS {
-        let mut set = set_of(memory, 0)?;
+// Calls as values, run on a new set.
+struct Runs;
+
+impl Refused for Runs {
+    fn once(&self, rt: &impl Abort, memory: Memory, k: u64) -> bool {
+        let mut set = set_of(rt, memory, 0);
         let mut calls = VecDeque::new(memory);
         for call in [
             SetCall::Insert(5),
@@ -200,24 +196,20 @@ fn set_calls_in_their_order(rt: HostRuntime) -> Result<(), Fail> {
             SetCall::Elements,
             SetCall::TryClone,
         ] {
-            calls.push_back(call)?;
+            calls.push_back(call).expect(rt, "memory for the call");
         }
         memory.refuse_at(k);
-        let answer = set.run(memory, calls);
+        let failed = set.run(memory, calls).is_err();
         let refused = memory.refused();
         memory.refuse_nothing();
-        has_a_front(&rt, &set, 0);
-        assert_eq!(rt; answer.is_err(), refused, "at {k}");
-        assert!(rt; refused || set.len() == 3);
-        drop(answer);
-        drop(set);
-        assert_eq!(rt; memory.blocks(), 0, "at {k}");
-        if !refused {
-            assert!(rt; k > 0);
-            ended = true;
-            break;
-        }
+        has_a_front(rt, &set, 0);
+        same_at(rt, k, failed, refused);
+        same_at(rt, k, refused || set.len() == 3, true);
+        refused
     }
-    assert!(rt; ended);
-    Ok(())
+}
+
+#[test]
+fn set_calls_in_their_order(rt: HostRuntime) -> Result<(), Fail> {
+    refuse_each(&rt, rt.alloc(), &Runs)
 }

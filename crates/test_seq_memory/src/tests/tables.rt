@@ -1,98 +1,147 @@
 //! First tables and larger ones.
 
-use super::{MOST_REQUESTS, Memory, lent, map_of};
+use super::{
+    Memory, NumberMap, Refused, adds, map_of, number_at, refuse_each, same, same_at, size_of, taken,
+};
 use flurry_bins::bin::Shape;
-use flurry_model::hash::{LowHashBuilder, ZeroHashBuilder};
+use flurry_model::hash::{KeyHasher, LowHashBuilder, ZeroHashBuilder};
 use flurry_seq::SeqMap;
+use std::process::Abort;
 use std::test::Fail;
 use test_alloc::Refusing;
+
+// A map with room for so many pairs: how many bins and pairs it has, or nothing where it is refused.
+fn size_for(memory: Memory, capacity: usize) -> Option<(usize, usize)> {
+    let map: NumberMap<LowHashBuilder> = SeqMap::with_capacity_and_hasher(
+        memory,
+        capacity,
+        LowHashBuilder,
+    ).ok()?;
+    Some(size_of(&map))
+}
 
 #[test]
 fn with_capacity(rt: HostRuntime) -> Result<(), Fail> {
     let memory = Refusing::leaked(rt.alloc())?;
     memory.refuse_from(0);
-    let none: Result<SeqMap<u64, u64, LowHashBuilder, Memory>, _> =
-        SeqMap::with_capacity_and_hasher(memory, 0, LowHashBuilder);
-    assert_eq!(rt; none?.capacity(), 0);
-    assert_eq!(rt; memory.asked(), 0);
-    let refused: Result<SeqMap<u64, u64, LowHashBuilder, Memory>, _> =
-        SeqMap::with_capacity_and_hasher(memory, 5, LowHashBuilder);
-    assert!(rt; refused.is_err());
-    assert_eq!(rt; memory.blocks(), 0);
+    same(&rt, size_for(memory, 0), Some((0, 0)));
+    same(&rt, memory.asked(), 0);
+    same(&rt, size_for(memory, 5), None);
+    same(&rt, memory.blocks(), 0);
     memory.refuse_nothing();
-    let made: SeqMap<u64, u64, LowHashBuilder, Memory> = SeqMap::with_capacity_and_hasher(
-        memory,
-        5,
-        LowHashBuilder,
-    )?;
-    assert_eq!(rt; (made.capacity(), made.len()), (8, 0));
-    assert_eq!(rt; memory.asked(), 1);
+    same(&rt, size_for(memory, 5), Some((8, 0)));
+    same(&rt, memory.asked(), 1);
     Ok(())
 }
 
-// From 16 bins, with one pair, to 128.
+// Asks for room for 32 pairs with the request numbered k refused: whether that request was made and the call failed.
+fn reserve_is_refused(memory: Memory, map: &mut NumberMap<LowHashBuilder>, k: u64) -> bool {
+    memory.refuse_at(k);
+    let failed = map.reserve(32).is_err();
+    let refused = memory.refused();
+    memory.refuse_nothing();
+    refused && failed
+}
+
+// Refused at the request numbered k, a map of 16 bins and one pair has so many bins. It goes to 128 when it is asked again.
+fn keeps_the_doublings(rt: &impl Abort, memory: Memory, k: u64, bins: usize) {
+    let mut map = map_of(rt, memory, 1);
+    let before = memory.blocks();
+    same_at(rt, k, reserve_is_refused(memory, &mut map, k), true);
+    same_at(
+        rt,
+        k,
+        (size_of(&map), number_at(&map, 0)),
+        ((bins, 1), Some(0)),
+    );
+    same_at(rt, k, memory.blocks(), before);
+    map.reserve(32).expect(rt, "memory for the tables");
+    same_at(rt, k, map.capacity(), 128);
+}
+
 #[test]
 fn reserve_keeps_the_doublings_done(rt: HostRuntime) -> Result<(), Fail> {
     let memory = Refusing::leaked(rt.alloc())?;
     for (k, bins) in [(0, 16), (1, 32), (2, 64)] {
-        let mut map = map_of(memory, 1)?;
-        let before = memory.blocks();
-        memory.refuse_at(k);
-        let answer = map.reserve(32);
-        let refused = memory.refused();
-        memory.refuse_nothing();
-        assert!(rt; refused && answer.is_err(), "at {k}");
-        assert_eq!(rt; (map.capacity(), map.len()), (bins, 1), "at {k}");
-        assert_eq!(rt; lent(map.get(&0)), Some(0), "at {k}");
-        assert_eq!(rt; memory.blocks(), before, "at {k}");
-        map.reserve(32)?;
-        assert_eq!(rt; map.capacity(), 128, "at {k}");
+        keeps_the_doublings(&rt, memory, k, bins);
     }
-    assert_eq!(rt; memory.blocks(), 0);
+    same(&rt, memory.blocks(), 0);
     Ok(())
+}
+
+// Refused at the request numbered k, a new map has so many bins.
+fn keeps_the_first_table(rt: &impl Abort, memory: Memory, k: u64, bins: usize) {
+    let mut map = map_of(rt, memory, 0);
+    same_at(rt, k, reserve_is_refused(memory, &mut map, k), true);
+    same_at(rt, k, size_of(&map), (bins, 0));
 }
 
 #[test]
 fn reserve_of_a_new_map(rt: HostRuntime) -> Result<(), Fail> {
     let memory = Refusing::leaked(rt.alloc())?;
     for (k, bins) in [(0, 0), (1, 64)] {
-        let mut map = map_of(memory, 0)?;
-        memory.refuse_at(k);
-        let answer = map.reserve(32);
-        let refused = memory.refused();
-        memory.refuse_nothing();
-        assert!(rt; refused && answer.is_err(), "at {k}");
-        assert_eq!(rt; (map.capacity(), map.len()), (bins, 0), "at {k}");
+        keeps_the_first_table(&rt, memory, k, bins);
     }
-    assert_eq!(rt; memory.blocks(), 0);
+    same(&rt, memory.blocks(), 0);
     Ok(())
+}
+
+// Inserts an absent key with the request of a larger table refused, which is the one numbered k. The insertion does not fail.
+fn adds_without_a_table<S: KeyHasher<u64>>(
+    rt: &impl Abort,
+    memory: Memory,
+    map: &mut NumberMap<S>,
+    (key, value): (u64, u64),
+    k: u64,
+) {
+    memory.refuse_at(k);
+    let answer = map.insert(key, value);
+    let refused = memory.refused();
+    memory.refuse_nothing();
+    same_at(rt, k, refused, true);
+    same_at(rt, k, taken(answer.expect(rt, "memory for the pair")), None);
 }
 
 // The twelfth pair asks for its key, its value, its node, and then for the larger table.
 #[test]
 fn row_15(rt: HostRuntime) -> Result<(), Fail> {
     let memory = Refusing::leaked(rt.alloc())?;
-    let mut map: SeqMap<u64, u64, LowHashBuilder, Memory> = SeqMap::with_hasher(
-        memory,
-        LowHashBuilder,
-    );
-    assert!(rt; map.insert(42, 0)?.is_none());
+    let mut map: NumberMap<LowHashBuilder> = SeqMap::with_hasher(memory, LowHashBuilder);
+    adds(&rt, &mut map, 42, 0);
     for key in 0..10u64 {
-        assert!(rt; map.insert(key, 42)?.is_none());
+        adds(&rt, &mut map, key, 42);
     }
     let before = memory.blocks();
-    memory.refuse_at(3);
-    let answer = map.insert(10, 42);
-    let refused = memory.refused();
-    memory.refuse_nothing();
-    assert!(rt; refused);
-    assert!(rt; answer?.is_none());
-    assert_eq!(rt; (map.capacity(), map.len()), (16, 12));
-    assert_eq!(rt; memory.blocks().checked_sub(before), Some(3));
-    assert_eq!(rt; lent(map.get(&10)), Some(42));
-    assert!(rt; map.insert(11, 42)?.is_none());
-    assert_eq!(rt; (map.capacity(), map.len()), (32, 13));
+    adds_without_a_table(&rt, memory, &mut map, (10, 42), 3);
+    same(&rt, size_of(&map), (16, 12));
+    same(&rt, memory.blocks().checked_sub(before), Some(3));
+    same(&rt, number_at(&map, 10), Some(42));
+    adds(&rt, &mut map, 11, 42);
+    same(&rt, size_of(&map), (32, 13));
     Ok(())
+}
+
+// The ninth key of one hash, whose request numbered k is refused, leaves so many bins, and so does the tenth.
+fn grows_in_part(rt: &impl Abort, memory: Memory, k: u64, bins: usize) {
+    let mut map: NumberMap<ZeroHashBuilder> = SeqMap::with_hasher(memory, ZeroHashBuilder);
+    for key in 0..8u64 {
+        adds(rt, &mut map, key, key);
+    }
+    adds_without_a_table(rt, memory, &mut map, (8, 8), k);
+    same_at(
+        rt,
+        k,
+        (map.capacity(), map.shape_of(0)),
+        (bins, Shape::List(9)),
+    );
+    same_at(rt, k, number_at(&map, 8), Some(8));
+    adds(rt, &mut map, 9, 9);
+    same_at(
+        rt,
+        k,
+        (map.capacity(), map.shape_of(0)),
+        (bins, Shape::Tree(10)),
+    );
 }
 
 // The ninth key of one hash asks for 128 bins, by doublings from 16. The tenth makes the list a tree in any table.
@@ -100,33 +149,9 @@ fn row_15(rt: HostRuntime) -> Result<(), Fail> {
 fn refused_growth_keeps_insert(rt: HostRuntime) -> Result<(), Fail> {
     let memory = Refusing::leaked(rt.alloc())?;
     for (k, bins) in [(3, 16), (4, 32), (5, 64)] {
-        let mut map: SeqMap<u64, u64, ZeroHashBuilder, Memory> = SeqMap::with_hasher(
-            memory,
-            ZeroHashBuilder,
-        );
-        for key in 0..8u64 {
-            assert!(rt; map.insert(key, key)?.is_none());
-        }
-        memory.refuse_at(k);
-        let answer = map.insert(8, 8);
-        let refused = memory.refused();
-        memory.refuse_nothing();
-        assert!(rt; refused, "at {k}");
-        assert!(rt; answer?.is_none());
-        assert_eq!(rt;
-            (map.capacity(), map.shape_of(0)),
-            (bins, Shape::List(9)),
-            "at {k}"
-        );
-        assert_eq!(rt; lent(map.get(&8)), Some(8), "at {k}");
-        assert!(rt; map.insert(9, 9)?.is_none());
-        assert_eq!(rt;
-            (map.capacity(), map.shape_of(0)),
-            (bins, Shape::Tree(10)),
-            "at {k}"
-        );
+        grows_in_part(&rt, memory, k, bins);
     }
-    assert_eq!(rt; memory.blocks(), 0);
+    same(&rt, memory.blocks(), 0);
     Ok(())
 }
 
@@ -135,18 +160,13 @@ fn refused_growth_keeps_insert(rt: HostRuntime) -> Result<(), Fail> {
 #[test]
 fn count_grows_after_a_refused_growth(rt: HostRuntime) -> Result<(), Fail> {
     let memory = Refusing::leaked(rt.alloc())?;
-    let mut map = map_of(memory, 4)?;
+    let mut map = map_of(&rt, memory, 4);
     for k in 1..8u64 {
-        assert!(rt; map.insert(16 * k, k)?.is_none());
+        adds(&rt, &mut map, 16 * k, k);
     }
-    assert_eq!(rt; (map.capacity(), map.len()), (16, 11));
-    memory.refuse_at(3);
-    let answer = map.insert(128, 8);
-    let refused = memory.refused();
-    memory.refuse_nothing();
-    assert!(rt; refused);
-    assert!(rt; answer?.is_none());
-    assert_eq!(rt; (map.capacity(), map.len()), (32, 12));
+    same(&rt, size_of(&map), (16, 11));
+    adds_without_a_table(&rt, memory, &mut map, (128, 8), 3);
+    same(&rt, size_of(&map), (32, 12));
     Ok(())
 }
 
@@ -154,40 +174,40 @@ fn count_grows_after_a_refused_growth(rt: HostRuntime) -> Result<(), Fail> {
 #[test]
 fn count_grows_until_there_is_room(rt: HostRuntime) -> Result<(), Fail> {
     let memory = Refusing::leaked(rt.alloc())?;
-    let mut map = map_of(memory, 11)?;
+    let mut map = map_of(&rt, memory, 11);
     for key in 11..24u64 {
         memory.refuse_from(3);
-        let answer = map.insert(key, key);
+        adds(&rt, &mut map, key, key);
         memory.refuse_nothing();
-        assert!(rt; answer?.is_none());
     }
-    assert_eq!(rt; (map.capacity(), map.len()), (16, 24));
-    assert!(rt; map.insert(24, 24)?.is_none());
-    assert_eq!(rt; (map.capacity(), map.len()), (64, 25));
+    same(&rt, size_of(&map), (16, 24));
+    adds(&rt, &mut map, 24, 24);
+    same(&rt, size_of(&map), (64, 25));
     Ok(())
+}
+
+// The insertion that grows a map of eleven pairs to 32 bins.
+struct Grows;
+
+impl Refused for Grows {
+    fn once(&self, rt: &impl Abort, memory: Memory, k: u64) -> bool {
+        let mut map = map_of(rt, memory, 11);
+        memory.refuse_at(k);
+        let old = map.insert(11, 11).map(taken);
+        let refused = memory.refused();
+        memory.refuse_nothing();
+        let len = if old.is_err() { 11 } else { 12 };
+        let bins = if refused { 16 } else { 32 };
+        same_at(rt, k, size_of(&map), (bins, len));
+        same_at(rt, k, map.contains_key(&11), old.is_ok());
+        if !refused {
+            same(rt, old, Ok(None));
+        }
+        refused
+    }
 }
 
 #[test]
 fn each_request_of_a_growing_insert(rt: HostRuntime) -> Result<(), Fail> {
-    let memory = Refusing::leaked(rt.alloc())?;
-    let mut ended = false;
-    for k in 0..MOST_REQUESTS {
-        let mut map = map_of(memory, 11)?;
-        memory.refuse_at(k);
-        let answer = map.insert(11, 11);
-        let refused = memory.refused();
-        memory.refuse_nothing();
-        if !refused {
-            assert!(rt; answer?.is_none());
-            assert_eq!(rt; (map.capacity(), map.len()), (32, 12));
-            ended = true;
-            break;
-        }
-        let len = if answer.is_err() { 11 } else { 12 };
-        assert_eq!(rt; (map.capacity(), map.len()), (16, len), "at {k}");
-        assert_eq!(rt; map.contains_key(&11), answer.is_ok(), "at {k}");
-    }
-    assert!(rt; ended);
-    assert_eq!(rt; memory.blocks(), 0);
-    Ok(())
+    refuse_each(&rt, rt.alloc(), &Grows)
 }

@@ -6,12 +6,13 @@ mod count;
 mod growth;
 mod reports;
 
+use super::same;
 use flurry_bins::bin::Bin;
 use flurry_slots::{MoveAnswer, Receipt, Slot};
 use flurry_steps::Control;
 use flurry_steps::control::{BeginOutcome, Claim, Room};
 use std::alloc::{AllocError, Global};
-use std::test::Fail;
+use std::process::Abort;
 
 // The tables that were made, by number and whether their bins are live. The request of the number `refused` is refused, the first
 // one being 1.
@@ -44,34 +45,32 @@ fn empty_room(alloc: Global, refused: u8) -> Tables {
 }
 
 // A control whose first table is this one, and the room that has it, where the request of the number `refused` is refused.
-fn opened(alloc: Global, table: u8, refused: u8) -> Result<(Control, Tables), Fail> {
-    let mut room = empty_room(alloc, refused);
+fn opened(rt: &(impl Abort + AllocGlobal), table: u8, refused: u8) -> (Control, Tables) {
+    let mut room = empty_room(rt.alloc(), refused);
     let mut control = Control::new();
-    if table > 30 || control.open(table, &mut room)? != table {
-        return Err(Fail::from("the first table is opened"));
-    }
-    Ok((control, room))
+    assert!(rt; table <= 30, "the table has at most 2^30 bins");
+    let first = control
+        .open(table, &mut room)
+        .expect(rt, "memory for the table");
+    same(rt, first, table);
+    (control, room)
 }
 
 // A control that grows from this table, and the room that has its two tables.
-fn growing(alloc: Global, table: u8) -> Result<(Control, Tables), Fail> {
-    let (mut control, mut room) = opened(alloc, table, 0)?;
-    if control.begin(table, &mut room) != BeginOutcome::Begun {
-        return Err(Fail::from("the growth begins"));
-    }
-    Ok((control, room))
+fn growing(rt: &(impl Abort + AllocGlobal), table: u8) -> (Control, Tables) {
+    let (mut control, mut room) = opened(rt, table, 0);
+    same(rt, control.begin(table, &mut room), BeginOutcome::Begun);
+    (control, room)
 }
 
 // The next claim of one of so many processors.
-fn claimed(control: &mut Control, processors: usize) -> Result<Claim, Fail> {
-    match control.claim(processors) {
-        Some(claim) => Ok(claim),
-        None => Err(Fail::from("there are unclaimed bins")),
-    }
+fn claimed(rt: &impl Abort, control: &mut Control, processors: usize) -> Claim {
+    let claim = control.claim(processors);
+    claim.expect(rt, "there are unclaimed bins")
 }
 
 // The note that this bin of this table moved.
-fn receipt_of(table: u8, index: usize) -> Result<Receipt, Fail>
+fn receipt_of(rt: &impl Abort, table: u8, index: usize) -> Receipt
     requires table { table < 30 }
     requires index { index < 2 ^ table }
 {
@@ -79,32 +78,32 @@ fn receipt_of(table: u8, index: usize) -> Result<Receipt, Fail>
     let mut low = Slot::unborn(table + 1, index);
     let mut high = Slot::unborn(table + 1, index + (1 << table));
     match slot.move_into(&mut low, &mut high) {
-        MoveAnswer::Done(receipt) => Ok(receipt),
-        _ => Err(Fail::from("a live bin moves")),
+        MoveAnswer::Done(receipt) => receipt,
+        _ => panic!(rt; "a live bin moves"),
     }
 }
 
 // Moves the bins of a claim, and answers its lowest bin and the first one above it.
-fn move_all(claim: &mut Claim) -> Result<(usize, usize), Fail> {
-    let Some((_, highest)) = claim.next() else {
-        return Err(Fail::from("the claim has bins left"));
-    };
+fn move_all(rt: &impl Abort, claim: &mut Claim) -> (usize, usize) {
+    let (_, highest) = claim.next().expect(rt, "the claim has bins left");
     let mut low = highest;
     for _ in 0..=highest {
         let Some((table, index)) = claim.next() else {
             break;
         };
-        if !claim.advance(receipt_of(table, index)?) {
-            return Err(Fail::from("the claim goes on by the receipt of its next bin"));
-        }
+        let receipt = receipt_of(rt, table, index);
+        assert!(rt;
+            claim.advance(receipt),
+            "the claim goes on by the receipt of its next bin"
+        );
         low = index;
     }
-    Ok((low, highest + 1))
+    (low, highest + 1)
 }
 
 // The next claim of one of so many processors, with all its bins moved.
-fn moved(control: &mut Control, processors: usize) -> Result<Claim, Fail> {
-    let mut claim = claimed(control, processors)?;
-    let _ends = move_all(&mut claim)?;
-    Ok(claim)
+fn moved(rt: &impl Abort, control: &mut Control, processors: usize) -> Claim {
+    let mut claim = claimed(rt, control, processors);
+    let _ends = move_all(rt, &mut claim);
+    claim
 }

@@ -1,8 +1,8 @@
 //! Calls in steps: what each step is, over tables that can be refused.
 //!
-//! A function that owns a call in progress lends it to another one and then drops it by name: where it is dropped at the end of a body,
-//! and at each `?`, the proof goes through all that it can hold.
-ghost use Rattle.std.specs.Prelude.{◌≡◌, IfOk, ⊤};
+//! A function that owns a call in progress lends it to another one and then drops it by name: where it is dropped at the end of a
+//! body, the proof goes through all that it can hold.
+ghost use Rattle.std.specs.Prelude.{◌≡◌, ⊤};
 ghost use Rattle.flurry_steps.specs.Party.{wanted_part, LookPart, BinPart, MovePart};
 ghost use Rattle.flurry_steps.specs.PartyView.{CallIsReady};
 
@@ -20,7 +20,6 @@ use flurry_steps::control::{Control, Room};
 use flurry_steps::party::{Call, Event, Party, Reply, Want};
 use std::alloc::{AllocError, Global};
 use std::process::Abort;
-use std::test::Fail;
 
 // The slots of all tables, in any order. The request for a table of the number `refused` is refused, the first one being 1.
 #[derive(Drop)]
@@ -32,13 +31,18 @@ struct Tables {
 
 impl Tables {
     // Takes a slot out.
-    fn take(&mut self, table: u8, index: usize) -> Result<Slot<u64, u64>, Fail> {
+    fn take(&mut self, rt: &impl Abort, table: u8, index: usize) -> Slot<u64, u64> {
         for place in 0..self.slots.len() {
             if self.slots[place].at() == (table, index) {
-                return Ok(self.slots.swap_remove(place));
+                return self.slots.swap_remove(place);
             }
         }
-        Err(Fail::from("the slot is there"))
+        panic!(rt; "the slot is there")
+    }
+
+    // Puts a slot back.
+    fn put_back(&mut self, rt: &impl Abort, slot: Slot<u64, u64>) {
+        self.slots.push(slot).expect(rt, "memory for the slot");
     }
 }
 
@@ -123,161 +127,160 @@ fn value(value: Option<u64>) -> Told {
 }
 
 // Takes out the slot that a call wants.
-fn lent(map: &mut Map, table: u8, index: usize) -> Result<Slot<u64, u64>, Fail>
-    ensures { IfOk result (λ s. (s.table ≡ table) × (s.index ≡ index)) }
+fn lent(rt: &impl Abort, map: &mut Map, table: u8, index: usize) -> Slot<u64, u64>
+    ensures { (result.table ≡ table) × (result.index ≡ index) }
 {
-    let slot = map.tables.take(table, index)?;
+    let slot = map.tables.take(rt, table, index);
     let at = slot.at();
-    if at.0 != table || at.1 != index {
-        return Err(Fail::from("the slot is the one that is wanted"));
-    }
-    Ok(slot)
+    assert!(rt; at.0 == table && at.1 == index);
+    slot
 }
 
 // The step of a call that wants to read this slot.
 fn look<'k, F: ComputeFn<u64, u64>>(
+    rt: &impl Abort,
     party: &mut Party<'k, u64, u64, F>,
     map: &mut Map,
     table: u8,
     index: usize,
-) -> Result<Event, Fail>
+) -> Event
     requires { wanted_part party.old ≡ LookPart table index }
 {
-    let slot = lent(map, table, index)?;
+    let slot = lent(rt, map, table, index);
     let event = party.on_look(&slot);
-    map.tables.slots.push(slot)?;
-    Ok(event)
+    map.tables.put_back(rt, slot);
+    event
 }
 
 // The step of a call that wants to write this slot.
 fn change<'k, F: ComputeFn<u64, u64>>(
-    alloc: Global,
+    rt: &(impl Abort + AllocGlobal),
     party: &mut Party<'k, u64, u64, F>,
     map: &mut Map,
     table: u8,
     index: usize,
-) -> Result<Event, Fail>
+) -> Event
     requires { wanted_part party.old ≡ BinPart table index }
 {
-    let mut slot = lent(map, table, index)?;
-    let event = party.on_bin(alloc, &mut slot);
-    map.tables.slots.push(slot)?;
-    Ok(event)
+    let mut slot = lent(rt, map, table, index);
+    let event = party.on_bin(rt.alloc(), &mut slot);
+    map.tables.put_back(rt, slot);
+    event
 }
 
 // The step of a call that wants to move this slot into its halves.
 fn move_bin<'k, F: ComputeFn<u64, u64>>(
+    rt: &impl Abort,
     party: &mut Party<'k, u64, u64, F>,
     map: &mut Map,
     table: u8,
     index: usize,
-) -> Result<Event, Fail>
+) -> Event
     requires { wanted_part party.old ≡ MovePart table index }
 {
-    if table > 29 {
-        return Err(Fail::from("the greatest table is never moved"));
-    }
-    let mut slot = lent(map, table, index)?;
-    let mut low = map.tables.take(table + 1, index)?;
+    assert!(rt; table < 30, "the greatest table is never moved");
+    let mut slot = lent(rt, map, table, index);
+    let mut low = map.tables.take(rt, table + 1, index);
     let mut high = map
         .tables
-        .take(table + 1, index.saturating_add(1 << table))?;
+        .take(rt, table + 1, index.saturating_add(1 << table));
     let event = party.on_move(&mut slot, &mut low, &mut high);
-    for slot in [slot, low, high] {
-        map.tables.slots.push(slot)?;
-    }
-    Ok(event)
+    map.tables.put_back(rt, slot);
+    map.tables.put_back(rt, low);
+    map.tables.put_back(rt, high);
+    event
 }
 
 // The next step, at the part that the call wants.
 fn step<'k, F: ComputeFn<u64, u64>>(
-    alloc: Global,
+    rt: &(impl Abort + AllocGlobal),
     party: &mut Party<'k, u64, u64, F>,
     map: &mut Map,
-) -> Result<Event, Fail> {
+) -> Event {
     match party.want() {
-        Want::Control => Ok(party.on_control(&mut map.control, &mut map.tables)),
-        Want::Look(table, index) => look(party, map, table, index),
-        Want::Bin(table, index) => change(alloc, party, map, table, index),
-        Want::Move(table, index) => move_bin(party, map, table, index),
-        Want::Done => Err(Fail::from("the call is not done")),
+        Want::Control => party.on_control(&mut map.control, &mut map.tables),
+        Want::Look(table, index) => look(rt, party, map, table, index),
+        Want::Bin(table, index) => change(rt, party, map, table, index),
+        Want::Move(table, index) => move_bin(rt, party, map, table, index),
+        Want::Done => panic!(rt; "the call is not done"),
     }
 }
 
 // The events of the next steps, up to so many.
 fn steps<'k, F: ComputeFn<u64, u64>>(
-    alloc: Global,
+    rt: &(impl Abort + AllocGlobal),
     party: &mut Party<'k, u64, u64, F>,
     map: &mut Map,
     count: u64,
-) -> Result<Vec<Event>, Fail> {
-    let mut events = Vec::new(alloc);
+) -> Vec<Event> {
+    let mut events = Vec::new(rt.alloc());
     for _ in 0..count {
         if party.want() == Want::Done {
             break;
         }
-        events.push(step(alloc, party, map)?)?;
+        let event = step(rt, party, map);
+        events.push(event).expect(rt, "memory for the event");
     }
-    Ok(events)
+    events
 }
 
 // The reply of a call that is done. It stays done, and its reply is taken once.
-fn reply_of<'k, F: ComputeFn<u64, u64>>(party: &mut Party<'k, u64, u64, F>) -> Result<Told, Fail> {
-    if party.reply().is_none() {
-        return Err(Fail::from("a call that is done has its reply"));
-    }
-    let Some(reply) = party.take_reply() else {
-        return Err(Fail::from("the call is done"));
-    };
-    if party.want() != Want::Done || party.reply().is_some() || party.take_reply().is_some() {
-        return Err(Fail::from("the call stays done, and its reply is taken once"));
-    }
-    Ok(plain(reply))
+fn reply_of<'k, F: ComputeFn<u64, u64>>(
+    rt: &impl Abort,
+    party: &mut Party<'k, u64, u64, F>,
+) -> Told {
+    same(rt, party.reply().is_some(), true);
+    let told = plain(party.take_reply().expect(rt, "the call is done"));
+    same(rt, party.want(), Want::Done);
+    same(
+        rt,
+        party.reply().is_some() || party.take_reply().is_some(),
+        false,
+    );
+    told
 }
 
 // The events of a call up to its end, and its reply.
 fn end<'k, F: ComputeFn<u64, u64>>(
-    alloc: Global,
+    rt: &(impl Abort + AllocGlobal),
     party: &mut Party<'k, u64, u64, F>,
     map: &mut Map,
-) -> Result<(Vec<Event>, Told), Fail> {
-    let events = steps(alloc, party, map, 10000)?;
-    let reply = reply_of(party)?;
-    Ok((events, reply))
+) -> (Vec<Event>, Told) {
+    let events = steps(rt, party, map, 10000);
+    let reply = reply_of(rt, party);
+    (events, reply)
 }
 
 // The events of a whole call, and its reply.
 fn run<'k, F: ComputeFn<u64, u64>>(
-    alloc: Global,
+    rt: &(impl Abort + AllocGlobal),
     map: &mut Map,
     hash: u64,
     call: Call<'k, u64, u64, F>,
-) -> Result<(Vec<Event>, Told), Fail>
+) -> (Vec<Event>, Told)
     requires { CallIsReady F.can_change call }
 {
     let mut party = Party::new(call, hash, map.processors);
-    let ended = end(alloc, &mut party, map);
+    let ended = end(rt, &mut party, map);
     drop(party);
     ended
 }
 
 // Runs a call without a function, whose hash is its key.
 fn call<'k>(
-    alloc: Global,
+    rt: &(impl Abort + AllocGlobal),
     map: &mut Map,
     hash: u64,
     call: Call<'k, u64, u64, NoFn>,
-) -> Result<(Vec<Event>, Told), Fail> {
-    run(alloc, map, hash, call)
+) -> (Vec<Event>, Told) {
+    run(rt, map, hash, call)
 }
 
 // Inserts a key and value 0, and answers how many steps that took.
-fn insert(alloc: Global, map: &mut Map, hash: u64, key: u64) -> Result<usize, Fail> {
-    let (events, reply) = call(alloc, map, hash, Call::Insert(key, 0))?;
-    if reply != value(None) {
-        return Err(Fail::from("the key is new"));
-    }
-    Ok(events.len())
+fn insert(rt: &(impl Abort + AllocGlobal), map: &mut Map, hash: u64, key: u64) -> usize {
+    let (events, reply) = call(rt, map, hash, Call::Insert(key, 0));
+    same(rt, reply, value(None));
+    events.len()
 }
 
 // Runs a call, and sees to its events and its reply.
@@ -288,11 +291,10 @@ fn answers<'k>(
     asked: Call<'k, u64, u64, NoFn>,
     events: &[Event],
     reply: Told,
-) -> Result<(), Fail> {
-    let (seen, reply_for) = call(rt.alloc(), map, hash, asked)?;
-    assert_eq!(rt; seen.as_slice(), events);
+) {
+    let (seen, reply_for) = call(rt, map, hash, asked);
+    same(rt, seen.as_slice(), events);
     same(rt, reply_for, reply);
-    Ok(())
 }
 
 // Does the next steps of a call, up to so many, and sees to their events.
@@ -302,8 +304,7 @@ fn goes_on<'k, F: ComputeFn<u64, u64>>(
     map: &mut Map,
     count: u64,
     events: &[Event],
-) -> Result<(), Fail> {
-    let seen = steps(rt.alloc(), party, map, count)?;
-    assert_eq!(rt; seen.as_slice(), events);
-    Ok(())
+) {
+    let seen = steps(rt, party, map, count);
+    same(rt, seen.as_slice(), events);
 }

@@ -4,7 +4,7 @@ use flurry_model::reply::KeptReply;
 use flurry_slots::ComputeFn;
 use flurry_theory::{Call, Label};
 use std::alloc::Global;
-use std::test::Fail;
+use std::process::Abort;
 
 /// The keys that calls may have are the numbers below this one.
 pub(super) const KEYS: u64 = 32;
@@ -85,21 +85,21 @@ pub(super) struct Checker<F> {
     growths: u64,
 }
 
-fn ensure(holds: bool, what: &'static str) -> Result<(), Fail> {
-    if holds { Ok(()) } else { Err(Fail::from(what)) }
+fn ensure(rt: &impl Abort, holds: bool, what: &'static str) {
+    assert!(rt; holds, "{what}");
 }
 
 impl<F: ComputeFn<u64, u64> + Copy> Checker<F> {
     /// A checker of a world that began with that table.
-    pub(super) fn new(alloc: Global, published: Option<u8>) -> Result<Self, Fail> {
-        Ok(Checker {
+    pub(super) fn new(rt: &impl Abort, alloc: Global, published: Option<u8>) -> Self {
+        Checker {
             alloc,
-            map: vec![in alloc; None; KEYS as usize]?,
+            map: vec![in alloc; None; KEYS as usize].expect(rt, "memory for the map"),
             parties: Vec::new(alloc),
             published,
             moved: None,
             growths: 0,
-        })
+        }
     }
 
     /// The number of growths that were published.
@@ -123,145 +123,129 @@ impl<F: ComputeFn<u64, u64> + Copy> Checker<F> {
         })
     }
 
-    /// Takes the next label.
-    ///
-    /// # Errors
-    ///
-    /// [`Fail`], where it may not come after those before it.
-    pub(super) fn check(&mut self, label: &Label<u64, u64, F>) -> Result<(), Fail>
+    /// Takes the next label, and sees that it may come after those before it.
+    pub(super) fn check(&mut self, rt: &impl Abort, label: &Label<u64, u64, F>)
         requires { (f : F) → F.can_change f }
     {
         match label {
-            Label::Begin(party, call) => self.begins(*party, *call),
-            Label::Decide(party, reply) => self.decides(*party, *reply),
-            Label::Reply(party, reply) => self.replies(*party, *reply),
-            Label::End(party) => self.ends(*party),
-            Label::Opened(table) => self.opens(*table),
-            Label::Placed(table) => self.places(*table),
-            Label::Moved(table, index) => self.moves(*table, *index),
-            Label::Published(table) => self.publishes(*table),
+            Label::Begin(party, call) => self.begins(rt, *party, *call),
+            Label::Decide(party, reply) => self.decides(rt, *party, *reply),
+            Label::Reply(party, reply) => self.replies(rt, *party, *reply),
+            Label::End(party) => self.ends(rt, *party),
+            Label::Opened(table) => self.opens(rt, *table),
+            Label::Placed(table) => self.places(rt, *table),
+            Label::Moved(table, index) => self.moves(rt, *table, *index),
+            Label::Published(table) => self.publishes(rt, *table),
             Label::Silent(party) => ensure(
+                rt,
                 *party < self.parties.len(),
                 "a party that began is silent",
             ),
-            Label::Refused(_) => Err(Fail::from("there is memory enough")),
-            Label::Wipe(_, _, _) | Label::Read(_, _, _) => {
-                Err(Fail::from("no call clears or walks"))
-            }
+            Label::Refused(_) => panic!(rt; "there is memory enough"),
+            Label::Wipe(_, _, _) | Label::Read(_, _, _) => panic!(rt; "no call clears or walks"),
         }
     }
 
-    fn begins(&mut self, party: usize, call: Call<u64, u64, F>) -> Result<(), Fail> {
-        ensure(party == self.parties.len(), "parties begin in their order")?;
-        Ok(
-            self.parties.push(Known {
-                call,
-                decided: None,
-                closed: false,
-            })?,
-        )
+    fn begins(&mut self, rt: &impl Abort, party: usize, call: Call<u64, u64, F>) {
+        ensure(
+            rt,
+            party == self.parties.len(),
+            "parties begin in their order",
+        );
+        let known = Known {
+            call,
+            decided: None,
+            closed: false,
+        };
+        self.parties.push(known).expect(rt, "memory for the party");
     }
 
-    fn known(&mut self, party: usize) -> Result<&mut Known<F>, Fail> {
-        match self.parties.get_mut(party) {
-            Some(known) => Ok(known),
-            None => Err(Fail::from("the party began")),
-        }
+    fn known(&mut self, rt: &impl Abort, party: usize) -> &mut Known<F> {
+        self.parties.get_mut(party).expect(rt, "the party began")
     }
 
-    fn decides(&mut self, party: usize, reply: KeptReply<u64, u64>) -> Result<(), Fail>
+    fn decides(&mut self, rt: &impl Abort, party: usize, reply: KeptReply<u64, u64>)
         requires { (f : F) → F.can_change f }
     {
-        let known = self.known(party)?;
-        ensure(known.decided.is_none(), "a call decides once")?;
+        let known = self.known(rt, party);
+        ensure(rt, known.decided.is_none(), "a call decides once");
         known.decided = Some(reply);
         let call = known.call;
-        let Some(key) = key_of(&call) else {
-            return Err(Fail::from("a call of one key decides"));
-        };
-        let Some(value) = self.map.get_mut(key as usize) else {
-            return Err(Fail::from("the key is one of the few"));
-        };
-        let Some((expected, after)) = outcome(call, key, *value) else {
-            return Err(Fail::from("a call of one key decides"));
-        };
+        let key = key_of(&call).expect(rt, "a call of one key decides");
+        let value = self
+            .map
+            .get_mut(key as usize)
+            .expect(rt, "the key is one of the few");
+        let (expected, after) = outcome(call, key, *value).expect(rt, "a call of one key decides");
         *value = after;
-        ensure(reply == expected, "the reply is the map's")
+        ensure(rt, reply == expected, "the reply is the map's");
     }
 
-    fn replies(&mut self, party: usize, reply: KeptReply<u64, u64>) -> Result<(), Fail> {
-        let known = self.known(party)?;
-        ensure(!known.closed, "a call replies once")?;
+    fn replies(&mut self, rt: &impl Abort, party: usize, reply: KeptReply<u64, u64>) {
+        let known = self.known(rt, party);
+        ensure(rt, !known.closed, "a call replies once");
         ensure(
+            rt,
             known.decided == Some(reply),
             "the reply is the one that was decided",
-        )?;
+        );
         known.closed = true;
-        Ok(())
     }
 
-    fn ends(&mut self, party: usize) -> Result<(), Fail> {
-        let known = self.known(party)?;
-        ensure(!known.closed, "a call ends once")?;
-        ensure(matches!(&known.call, Call::Reserve(_)), "a reserve ends")?;
+    fn ends(&mut self, rt: &impl Abort, party: usize) {
+        let known = self.known(rt, party);
+        ensure(rt, !known.closed, "a call ends once");
+        ensure(
+            rt,
+            matches!(&known.call, Call::Reserve(_)),
+            "a reserve ends",
+        );
         known.closed = true;
-        Ok(())
     }
 
-    fn opens(&mut self, table: u8) -> Result<(), Fail> {
-        ensure(self.published.is_none(), "there was no table")?;
-        ensure(table <= 30, "the table has at most 2^30 bins")?;
+    fn opens(&mut self, rt: &impl Abort, table: u8) {
+        ensure(rt, self.published.is_none(), "there was no table");
+        ensure(rt, table <= 30, "the table has at most 2^30 bins");
         self.published = Some(table);
-        Ok(())
     }
 
     // Makes a note for each bin of the published table.
-    fn places(&mut self, table: u8) -> Result<(), Fail> {
-        ensure(self.moved.is_none(), "no other growth runs")?;
-        let Some(published) = self.published else {
-            return Err(Fail::from("a table is published"));
-        };
+    fn places(&mut self, rt: &impl Abort, table: u8) {
+        ensure(rt, self.moved.is_none(), "no other growth runs");
+        let published = self.published.expect(rt, "a table is published");
         ensure(
+            rt,
             published.checked_add(1) == Some(table),
             "the next table is placed",
-        )?;
-        let Some(bins) = 1usize.checked_shl(u32::from(published)) else {
-            return Err(Fail::from("the table has at most 2^30 bins"));
-        };
-        self.moved = Some(vec![in self.alloc; false; bins]?);
-        Ok(())
+        );
+        let bins = 1usize
+            .checked_shl(u32::from(published))
+            .expect(rt, "the table has at most 2^30 bins");
+        let moved = vec![in self.alloc; false; bins].expect(rt, "memory for the notes");
+        self.moved = Some(moved);
     }
 
-    fn moves(&mut self, table: u8, index: usize) -> Result<(), Fail> {
+    fn moves(&mut self, rt: &impl Abort, table: u8, index: usize) {
         ensure(
+            rt,
             self.published == Some(table),
             "a bin of the published table moves",
-        )?;
-        let Some(moved) = &mut self.moved else {
-            return Err(Fail::from("the next table is placed"));
-        };
-        match moved.get_mut(index) {
-            Some(bin) => {
-                ensure(!*bin, "a bin moves once")?;
-                *bin = true;
-                Ok(())
-            }
-            None => Err(Fail::from("the table has the bin")),
-        }
+        );
+        let moved = self.moved.as_mut().expect(rt, "the next table is placed");
+        let bin = moved.get_mut(index).expect(rt, "the table has the bin");
+        ensure(rt, !*bin, "a bin moves once");
+        *bin = true;
     }
 
-    fn publishes(&mut self, table: u8) -> Result<(), Fail> {
+    fn publishes(&mut self, rt: &impl Abort, table: u8) {
         let next = self
             .published
             .and_then(|published| published.checked_add(1));
-        ensure(next == Some(table), "the next table is published")?;
-        let Some(moved) = &self.moved else {
-            return Err(Fail::from("the table was placed"));
-        };
-        ensure(moved.iter().all(|bin| *bin), "each bin has moved")?;
+        ensure(rt, next == Some(table), "the next table is published");
+        let moved = self.moved.as_ref().expect(rt, "the table was placed");
+        ensure(rt, moved.iter().all(|bin| *bin), "each bin has moved");
         self.published = next;
         self.moved = None;
         self.growths = self.growths.wrapping_add(1);
-        Ok(())
     }
 }

@@ -2,13 +2,12 @@
 ghost use Rattle.std.specs.Prelude.{◌<◌};
 
 use super::checker::{Checker, KEYS};
-use super::{Numbers, begin};
-use flurry_model::hash::LowHashBuilder;
+use super::{Numbers, begin, world_for};
 use flurry_slots::ComputeFn;
 use flurry_steps::control::wanted_table;
 use flurry_steps::party::OwnedCall;
 use std::alloc::Global;
-use std::test::Fail;
+use std::process::Abort;
 
 // A generator of numbers, `xorshift64*`.
 #[derive(Drop)]
@@ -59,7 +58,7 @@ struct Checked<'k, F: ComputeFn<u64, u64> + Copy> {
 
 impl<'k, F: ComputeFn<u64, u64> + Copy> Checked<'k, F> {
     // A world for up to 16 pairs and of up to 4 processors, where no call has begun.
-    fn new(alloc: Global, random: &mut Random) -> Result<Self, Fail> {
+    fn new(rt: &impl Abort, alloc: Global, random: &mut Random) -> Self {
         let capacity = random.below(17) as usize;
         let processors = random.below(4) as usize + 1;
         let first = if capacity == 0 {
@@ -67,74 +66,67 @@ impl<'k, F: ComputeFn<u64, u64> + Copy> Checked<'k, F> {
         } else {
             Some(wanted_table(capacity))
         };
-        Ok(Checked {
-            world: Numbers::new(alloc, capacity, LowHashBuilder, processors)?,
-            checker: Checker::new(alloc, first)?,
+        Checked {
+            world: world_for(rt, alloc, capacity, processors),
+            checker: Checker::new(rt, alloc, first),
             steps: Vec::new(alloc),
             closed: 0,
-        })
-    }
-
-    fn check_last(&mut self) -> Result<(), Fail>
-        requires { (f : F) → F.can_change f }
-    {
-        match self.world.trace().last() {
-            Some(label) => self.checker.check(label),
-            None => Err(Fail::from("a label was added")),
         }
     }
 
-    fn begin(&mut self, call: OwnedCall<u64, u64, F>) -> Result<usize, Fail>
+    fn check_last(&mut self, rt: &impl Abort)
         requires { (f : F) → F.can_change f }
     {
-        let party = begin(&mut self.world, call)?;
-        self.check_last()?;
-        self.steps.push(0)?;
-        Ok(party)
+        let label = self.world.trace().last().expect(rt, "a label was added");
+        self.checker.check(rt, label);
+    }
+
+    fn begin(&mut self, rt: &impl Abort, call: OwnedCall<u64, u64, F>) -> usize
+        requires { (f : F) → F.can_change f }
+    {
+        let party = begin(rt, &mut self.world, call);
+        self.check_last(rt);
+        self.steps.push(0).expect(rt, "memory for the count");
+        party
     }
 
     // A look-up has decided after 32 steps.
-    fn step(&mut self, party: usize) -> Result<(), Fail>
+    fn step(&mut self, rt: &impl Abort, party: usize)
         requires { (f : F) → F.can_change f }
     {
-        self.world.step(party)?;
+        self.world.step(party).expect(rt, "memory for the step");
         let was_closed = self.checker.is_closed(party);
-        self.check_last()?;
+        self.check_last(rt);
         if !was_closed && self.checker.is_closed(party) {
             self.closed = self.closed.wrapping_add(1);
         }
-        let Some(steps) = self.steps.get_mut(party) else {
-            return Err(Fail::from("the party began"));
-        };
+        let steps = self.steps.get_mut(party).expect(rt, "the party began");
         *steps = steps.wrapping_add(1);
-        if *steps >= 32 && self.checker.looks_up(party) {
-            return Err(Fail::from("a look-up decides within 32 steps"));
-        }
-        Ok(())
+        let is_late = *steps >= 32 && self.checker.looks_up(party);
+        assert!(rt; !is_late, "a look-up decides within 32 steps");
     }
 
     // Looks each key up. What each call answers is checked with its labels.
-    fn look_all_up(&mut self) -> Result<(), Fail>
+    fn look_all_up(&mut self, rt: &impl Abort)
         requires { (f : F) → F.can_change f }
     {
         for key in 0..KEYS {
-            let party = self.begin(OwnedCall::Get(key))?;
-            self.close(party)?;
+            let party = self.begin(rt, OwnedCall::Get(key));
+            self.close(rt, party);
         }
-        Ok(())
     }
 
     // Steps a look-up to its reply.
-    fn close(&mut self, party: usize) -> Result<(), Fail>
+    fn close(&mut self, rt: &impl Abort, party: usize)
         requires { (f : F) → F.can_change f }
     {
         for _ in 0..33u64 {
-            self.step(party)?;
+            self.step(rt, party);
             if self.checker.is_closed(party) {
-                return Ok(());
+                return;
             }
         }
-        Err(Fail::from("a look-up has replied after 33 steps"))
+        panic!(rt; "a look-up has replied after 33 steps")
     }
 }
 
@@ -151,55 +143,58 @@ fn random_party(random: &mut Random, parties: u64) -> usize {
 
 // 200 steps, of which every sixth or so is the beginning of a call. A party that is stepped is likely to be stepped again.
 fn random_steps<'k, F: ComputeFn<u64, u64> + Copy>(
+    rt: &impl Abort,
     checked: &mut Checked<'k, F>,
     random: &mut Random,
     change: F,
-) -> Result<(), Fail>
+)
     requires { (f : F) → F.can_change f }
 {
-    let mut going = checked.begin(random_call(random, change))?;
+    let mut going = checked.begin(rt, random_call(random, change));
     let mut parties = 1u64;
     for _ in 1..200u64 {
         if random.below(6) == 0 {
-            let _ = checked.begin(random_call(random, change))?;
+            let _ = checked.begin(rt, random_call(random, change));
             parties = parties.saturating_add(1);
         } else {
             if checked.checker.is_closed(going) || random.below(8) == 0 {
                 going = random_party(random, parties);
             }
-            checked.step(going)?;
+            checked.step(rt, going);
         }
     }
-    Ok(())
 }
 
 // So many schedules, from a seed on. Answers how many calls have replied or ended in them, and how many growths were published.
 fn schedules<F: ComputeFn<u64, u64> + Copy>(
+    rt: &impl Abort,
     alloc: Global,
     seed: u64,
     count: u64,
     change: F,
-) -> Result<(u64, u64), Fail>
+) -> (u64, u64)
     requires { (f : F) → F.can_change f }
 {
     let mut random = Random { state: seed };
     let mut closed = 0u64;
     let mut growths = 0u64;
     for _ in 0..count {
-        let mut checked = Checked::new(alloc, &mut random)?;
-        random_steps(&mut checked, &mut random, change)?;
+        let mut checked = Checked::new(rt, alloc, &mut random);
+        random_steps(rt, &mut checked, &mut random, change);
         closed = closed.wrapping_add(checked.closed);
         growths = growths.wrapping_add(checked.checker.growths());
-        checked.look_all_up()?;
+        checked.look_all_up(rt);
+        drop(checked);
     }
-    Ok((closed, growths))
+    (closed, growths)
 }
 
 // 1000 schedules of 200 steps each. About one step in six begins a call, so that some 34,000 calls begin. Most of them reply or end,
 // and some hundred growths are published.
 #[test]
-fn random_schedules(rt: HostRuntime) -> Result<(), Fail> {
+fn random_schedules(rt: HostRuntime) {
     let (closed, growths) = schedules(
+        &rt,
         rt.alloc(),
         88_172_645_463_325_252,
         1000,
@@ -210,10 +205,9 @@ fn random_schedules(rt: HostRuntime) -> Result<(), Fail> {
                 None
             }
         },
-    )?;
+    );
     assert!(rt;
         closed >= 20_000 && growths >= 300,
         "{closed} and {growths}"
     );
-    Ok(())
 }

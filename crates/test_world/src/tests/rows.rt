@@ -1,14 +1,13 @@
 //! Worked schedules, label by label.
 
 use super::{
-    Line, Numbers, assert_call, assert_reply, assert_steps, begin, end_of, line_of, step, value,
+    Line, Numbers, assert_call, assert_reply, assert_steps, begin, end_of, line_of, same, step,
+    value, world_for,
 };
-use flurry_model::hash::LowHashBuilder;
 use flurry_slots::{ComputeFn, NoFn};
 use flurry_steps::party::OwnedCall;
 use std::alloc::Global;
 use std::process::Abort;
-use std::test::Fail;
 
 // The labels of the insertion of an absent key, where it meets no growth: the first one is of the step that finds a table.
 fn inserted(party: usize, first: Line) -> [Line; 5] {
@@ -43,62 +42,54 @@ fn found_further_on(party: usize, number: u64) -> [Line; 5] {
 }
 
 #[test]
-fn look_up_after_an_insertion(rt: HostRuntime) -> Result<(), Fail> {
+fn look_up_after_an_insertion(rt: HostRuntime) {
     insertion_and_look_up::<NoFn>(&rt, rt.alloc())
 }
 
-fn insertion_and_look_up<F: ComputeFn<u64, u64> + Copy>(
-    rt: &impl Abort,
-    alloc: Global,
-) -> Result<(), Fail>
+fn insertion_and_look_up<F: ComputeFn<u64, u64> + Copy>(rt: &impl Abort, alloc: Global)
     requires { (f : F) → F.can_change f }
 {
-    let mut world: Numbers<'_, F> = Numbers::new(alloc, 0, LowHashBuilder, 1)?;
+    let mut world: Numbers<'_, F> = world_for(rt, alloc, 0, 1);
     let lines = inserted(0, Line::Opened(4));
-    assert_call(rt, &mut world, 0, OwnedCall::Insert(3, 4), &lines)?;
-    assert_call(rt, &mut world, 1, OwnedCall::Get(3), &found(1, 4))?;
-    assert_eq!(rt; world.trace().len(), 11);
-    Ok(())
+    assert_call(rt, &mut world, 0, OwnedCall::Insert(3, 4), &lines);
+    assert_call(rt, &mut world, 1, OwnedCall::Get(3), &found(1, 4));
+    same(rt, world.trace().len(), 11);
+    drop(world);
 }
 
 #[test]
-fn reserve_of_nothing(rt: HostRuntime) -> Result<(), Fail> {
+fn reserve_of_nothing(rt: HostRuntime) {
     reserves_nothing::<NoFn>(&rt, rt.alloc())
 }
 
-fn reserves_nothing<F: ComputeFn<u64, u64> + Copy>(
-    rt: &impl Abort,
-    alloc: Global,
-) -> Result<(), Fail>
+fn reserves_nothing<F: ComputeFn<u64, u64> + Copy>(rt: &impl Abort, alloc: Global)
     requires { (f : F) → F.can_change f }
 {
-    let mut world: Numbers<'_, F> = Numbers::new(alloc, 0, LowHashBuilder, 1)?;
+    let mut world: Numbers<'_, F> = world_for(rt, alloc, 0, 1);
     let lines = [Line::Opened(0), Line::Silent(0), Line::End(0)];
-    assert_call(rt, &mut world, 0, OwnedCall::Reserve(0), &lines)
+    assert_call(rt, &mut world, 0, OwnedCall::Reserve(0), &lines);
+    drop(world);
 }
 
 // A world of two processors whose table of 64 bins grows: party 0 has put key 50. Party 1 has begun the growth, holds the bins 48 to 63
 // and moved none. Party 2 has put key 2, and moved all other bins.
-fn half_grown<'k, F: ComputeFn<u64, u64> + Copy>(
-    rt: &impl Abort,
-    alloc: Global,
-) -> Result<Numbers<'k, F>, Fail>
+fn half_grown<'k, F: ComputeFn<u64, u64> + Copy>(rt: &impl Abort, alloc: Global) -> Numbers<'k, F>
     requires { (f : F) → F.can_change f }
 {
-    let mut world: Numbers<'_, F> = Numbers::new(alloc, 32, LowHashBuilder, 2)?;
+    let mut world: Numbers<'_, F> = world_for(rt, alloc, 32, 2);
     let lines = inserted(0, Line::Silent(0));
-    assert_call(rt, &mut world, 0, OwnedCall::Insert(50, 50), &lines)?;
+    assert_call(rt, &mut world, 0, OwnedCall::Insert(50, 50), &lines);
     let lines = [Line::Silent(1), Line::Placed(7), Line::Silent(1)];
-    assert_call(rt, &mut world, 1, OwnedCall::Reserve(30), &lines)?;
-    puts_two_and_helps(rt, &mut world)?;
-    Ok(world)
+    assert_call(rt, &mut world, 1, OwnedCall::Reserve(30), &lines);
+    puts_two_and_helps(rt, &mut world);
+    world
 }
 
 // The 60 steps of party 2.
 fn puts_two_and_helps<'k, F: ComputeFn<u64, u64> + Copy>(
     rt: &impl Abort,
     world: &mut Numbers<'k, F>,
-) -> Result<(), Fail>
+)
     requires { (f : F) → F.can_change f }
 {
     let lines = [
@@ -106,11 +97,11 @@ fn puts_two_and_helps<'k, F: ComputeFn<u64, u64> + Copy>(
         Line::Decide(2, value(None)),
         Line::Silent(2),
     ];
-    assert_call(rt, world, 2, OwnedCall::Insert(2, 2), &lines)?;
+    assert_call(rt, world, 2, OwnedCall::Insert(2, 2), &lines);
     for low in [32, 16, 0] {
-        assert_steps(rt, world, 2, &[Line::Silent(2)])?;
-        moves_range(rt, world, 2, low)?;
-        assert_steps(rt, world, 2, &[Line::Silent(2)])?;
+        assert_steps(rt, world, 2, &[Line::Silent(2)]);
+        moves_range(rt, world, 2, low);
+        assert_steps(rt, world, 2, &[Line::Silent(2)]);
     }
     let lines = [
         Line::Silent(2),
@@ -126,109 +117,99 @@ fn moves_range<'k, F: ComputeFn<u64, u64> + Copy>(
     world: &mut Numbers<'k, F>,
     party: usize,
     low: usize,
-) -> Result<(), Fail> {
+) {
     for index in (0..16usize).rev() {
         let moved = Line::Moved(6, low.saturating_add(index));
-        assert_eq!(rt; step(world, party)?, moved);
+        same(rt, step(rt, world, party), moved);
     }
-    Ok(())
 }
 
 // No growth was published.
-fn nothing_published<'k, F: ComputeFn<u64, u64> + Copy>(
-    rt: &impl Abort,
-    world: &Numbers<'k, F>,
-) -> Result<(), Fail> {
+fn nothing_published<'k, F: ComputeFn<u64, u64> + Copy>(rt: &impl Abort, world: &Numbers<'k, F>) {
     for label in world.trace() {
-        let published = matches!(&line_of(label)?, Line::Published(_));
-        assert!(rt; !published);
+        let published = matches!(&line_of(rt, label), Line::Published(_));
+        same(rt, published, false);
     }
-    Ok(())
 }
 
 #[test]
-fn helper_that_stops_and_goes_on(rt: HostRuntime) -> Result<(), Fail> {
+fn helper_that_stops_and_goes_on(rt: HostRuntime) {
     stops_and_goes_on::<NoFn>(&rt, rt.alloc())
 }
 
-fn stops_and_goes_on<F: ComputeFn<u64, u64> + Copy>(
-    rt: &impl Abort,
-    alloc: Global,
-) -> Result<(), Fail>
+fn stops_and_goes_on<F: ComputeFn<u64, u64> + Copy>(rt: &impl Abort, alloc: Global)
     requires { (f : F) → F.can_change f }
 {
-    let mut world: Numbers<'_, F> = half_grown(rt, alloc)?;
-    nothing_published(rt, &world)?;
-    assert_call(rt, &mut world, 3, OwnedCall::Get(50), &found(3, 50))?;
+    let mut world: Numbers<'_, F> = half_grown(rt, alloc);
+    nothing_published(rt, &world);
+    assert_call(rt, &mut world, 3, OwnedCall::Get(50), &found(3, 50));
     assert_call(
         rt,
         &mut world,
         4,
         OwnedCall::Get(2),
         &found_further_on(4, 2),
-    )?;
-    moves_range(rt, &mut world, 1, 48)?;
+    );
+    moves_range(rt, &mut world, 1, 48);
     let lines = [
         Line::Published(7),
         Line::Silent(1),
         Line::Silent(1),
         Line::End(1),
     ];
-    assert_steps(rt, &mut world, 1, &lines)
+    assert_steps(rt, &mut world, 1, &lines);
+    drop(world);
 }
 
 #[test]
-fn helper_that_stops_for_good(rt: HostRuntime) -> Result<(), Fail> {
+fn helper_that_stops_for_good(rt: HostRuntime) {
     stops_for_good::<NoFn>(&rt, rt.alloc())
 }
 
 // Bin 50 of 64, the bin of key 114 too, has not moved: its insertion decides there.
-fn stops_for_good<F: ComputeFn<u64, u64> + Copy>(rt: &impl Abort, alloc: Global) -> Result<(), Fail>
+fn stops_for_good<F: ComputeFn<u64, u64> + Copy>(rt: &impl Abort, alloc: Global)
     requires { (f : F) → F.can_change f }
 {
-    let mut world: Numbers<'_, F> = half_grown(rt, alloc)?;
+    let mut world: Numbers<'_, F> = half_grown(rt, alloc);
     let lines = [Line::Silent(3), Line::Decide(3, value(None))];
-    assert_call(rt, &mut world, 3, OwnedCall::Insert(114, 1), &lines)?;
-    assert_eq!(rt; end_of(&mut world, 3)?, Line::Reply(3, value(None)));
-    others_end(rt, &mut world)?;
-    nothing_published(rt, &world)
+    assert_call(rt, &mut world, 3, OwnedCall::Insert(114, 1), &lines);
+    same(rt, end_of(rt, &mut world, 3), Line::Reply(3, value(None)));
+    others_end(rt, &mut world);
+    nothing_published(rt, &world);
+    drop(world);
 }
 
 // Further calls, while party 1 stands still.
-fn others_end<'k, F: ComputeFn<u64, u64> + Copy>(
-    rt: &impl Abort,
-    world: &mut Numbers<'k, F>,
-) -> Result<(), Fail>
+fn others_end<'k, F: ComputeFn<u64, u64> + Copy>(rt: &impl Abort, world: &mut Numbers<'k, F>)
     requires { (f : F) → F.can_change f }
 {
-    assert_reply(rt, world, OwnedCall::Insert(3, 3), value(None))?;
-    assert_reply(rt, world, OwnedCall::Remove(2), value(Some(2)))?;
-    assert_reply(rt, world, OwnedCall::Get(114), value(Some(1)))?;
-    assert_reply(rt, world, OwnedCall::Get(3), value(Some(3)))?;
-    let party = begin(world, OwnedCall::Reserve(60))?;
-    assert_eq!(rt; end_of(world, party)?, Line::End(party));
-    Ok(())
+    assert_reply(rt, world, OwnedCall::Insert(3, 3), value(None));
+    assert_reply(rt, world, OwnedCall::Remove(2), value(Some(2)));
+    assert_reply(rt, world, OwnedCall::Get(114), value(Some(1)));
+    assert_reply(rt, world, OwnedCall::Get(3), value(Some(3)));
+    let party = begin(rt, world, OwnedCall::Reserve(60));
+    same(rt, end_of(rt, world, party), Line::End(party));
 }
 
 #[test]
-fn unknown_and_finished_parties(rt: HostRuntime) -> Result<(), Fail> {
+fn unknown_and_finished_parties(rt: HostRuntime) {
     does_nothing::<NoFn>(&rt, rt.alloc())
 }
 
-fn does_nothing<F: ComputeFn<u64, u64> + Copy>(rt: &impl Abort, alloc: Global) -> Result<(), Fail>
+fn does_nothing<F: ComputeFn<u64, u64> + Copy>(rt: &impl Abort, alloc: Global)
     requires { (f : F) → F.can_change f }
 {
-    let mut world: Numbers<'_, F> = Numbers::new(alloc, 0, LowHashBuilder, 1)?;
-    assert_steps(rt, &mut world, 7, &[Line::Silent(7)])?;
-    assert_steps(rt, &mut world, 0, &[Line::Silent(0)])?;
+    let mut world: Numbers<'_, F> = world_for(rt, alloc, 0, 1);
+    assert_steps(rt, &mut world, 7, &[Line::Silent(7)]);
+    assert_steps(rt, &mut world, 0, &[Line::Silent(0)]);
     let lines = [
         Line::Decide(0, value(None)),
         Line::Reply(0, value(None)),
         Line::Silent(0),
         Line::Silent(0),
     ];
-    assert_call(rt, &mut world, 0, OwnedCall::Get(1), &lines)?;
-    assert_steps(rt, &mut world, usize::MAX, &[Line::Silent(usize::MAX)])?;
-    assert_eq!(rt; world.trace().len(), 8);
-    Ok(())
+    assert_call(rt, &mut world, 0, OwnedCall::Get(1), &lines);
+    assert_steps(rt, &mut world, usize::MAX, &[Line::Silent(usize::MAX)]);
+    same(rt, world.trace().len(), 8);
+    drop(world);
 }

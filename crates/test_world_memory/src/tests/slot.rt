@@ -1,33 +1,58 @@
 //! Each request of a slot's steps, refused in turn.
-ghost use Rattle.std.specs.Prelude.{OnOk};
 ghost use Rattle.flurry_slots.specs.Slot.{LiesIn};
 
-use super::Memory;
+use super::{Memory, same, same_at};
 use flurry_bins::bin::Bin;
 use flurry_model::sizes::bin_index;
 use flurry_slots::{Answer, Computed, Slot};
+use std::process::Abort;
 use std::test::Fail;
 use test_alloc::Refusing;
 
-// Whether the hash of the tests lies in the region of the slot.
-fn lies_in(slot: &Slot<u64, u64, Memory>) -> Result<(), Fail>
-    ensures { OnOk result (LiesIn 3 slot.now) }
+type NumberSlot = Slot<u64, u64, Memory>;
+
+// What the refusal of one request did: whether the call made that request, whether it failed, and the value and the write number
+// that stand at the key of the tests then.
+type Seen = (bool, bool, Option<(u64, u64)>);
+
+// A live slot of an empty bin, where the key of the tests lies.
+fn empty_slot() -> NumberSlot {
+    Slot::live(4, 3, Bin::new())
+}
+
+// Sees that the hash of the tests lies in the region of the slot.
+fn lies_in(rt: &impl Abort, slot: &NumberSlot)
+    ensures { LiesIn 3 slot.now }
 {
     let (table, index) = slot.at();
-    if bin_index(3, table) == index {
-        Ok(())
-    } else {
-        Err(Fail::from("the hash lies elsewhere"))
-    }
+    assert!(rt; bin_index(3, table) == index);
 }
 
 // The value of the key of the tests and its write number, where the bin is live.
-fn found(slot: &Slot<u64, u64, Memory>) -> Result<Option<(u64, u64)>, Fail> {
-    lies_in(slot)?;
+fn found(rt: &impl Abort, slot: &NumberSlot) -> Option<(u64, u64)> {
+    lies_in(rt, slot);
     match slot.find(3, &3) {
-        Answer::Here(entry) => Ok(entry.map(|entry| (*entry.value, entry.number))),
-        _ => Ok(None),
+        Answer::Here(entry) => entry.map(|entry| (*entry.value, entry.number)),
+        _ => None,
     }
+}
+
+// Puts a value in at the key of the tests, and sees what the refusal of one request did.
+fn put_at(rt: &impl Abort, memory: Memory, slot: &mut NumberSlot, k: u64, value: u64) -> Seen {
+    lies_in(rt, slot);
+    memory.refuse_at(k);
+    let failed = slot.put(memory, 3, 3, value).is_err();
+    let refused = memory.refused();
+    memory.refuse_nothing();
+    (refused, failed, found(rt, slot))
+}
+
+// A slot where 10 stands at the key of the tests.
+fn slot_of_ten(rt: &impl Abort, memory: Memory) -> NumberSlot {
+    let mut slot = empty_slot();
+    let seen = put_at(rt, memory, &mut slot, u64::MAX, 10);
+    same(rt, seen, (false, false, Some((10, 1))));
+    slot
 }
 
 // A new key asks for its key, its value and its node.
@@ -35,19 +60,11 @@ fn found(slot: &Slot<u64, u64, Memory>) -> Result<Option<(u64, u64)>, Fail> {
 fn put_of_a_new_key(rt: HostRuntime) -> Result<(), Fail> {
     let memory = Refusing::leaked(rt.alloc())?;
     for k in 0..4u64 {
-        let mut slot: Slot<u64, u64, Memory> = Slot::live(4, 3, Bin::new());
-        memory.refuse_at(k);
-        lies_in(&slot)?;
-        let answer = slot.put(memory, 3, 3, 10);
-        let refused = memory.refused();
-        memory.refuse_nothing();
-        assert_eq!(rt; refused, k < 3, "at {k}");
-        assert_eq!(rt; answer.is_err(), refused, "at {k}");
+        let refused = k < 3;
         let stands = if refused { None } else { Some((10, 1)) };
-        assert_eq!(rt; found(&slot)?, stands, "at {k}");
-        drop(answer);
-        drop(slot);
-        assert_eq!(rt; memory.blocks(), 0, "at {k}");
+        let seen = put_at(&rt, memory, &mut empty_slot(), k, 10);
+        same_at(&rt, k, seen, (refused, refused, stands));
+        same_at(&rt, k, memory.blocks(), 0);
     }
     Ok(())
 }
@@ -57,23 +74,23 @@ fn put_of_a_new_key(rt: HostRuntime) -> Result<(), Fail> {
 fn put_of_a_present_key(rt: HostRuntime) -> Result<(), Fail> {
     let memory = Refusing::leaked(rt.alloc())?;
     for k in 0..2u64 {
-        let mut slot: Slot<u64, u64, Memory> = Slot::live(4, 3, Bin::new());
-        lies_in(&slot)?;
-        drop(slot.put(memory, 3, 3, 10)?);
-        memory.refuse_at(k);
-        lies_in(&slot)?;
-        let answer = slot.put(memory, 3, 3, 11);
-        let refused = memory.refused();
-        memory.refuse_nothing();
-        assert_eq!(rt; refused, k < 1, "at {k}");
-        assert_eq!(rt; answer.is_err(), refused, "at {k}");
+        let refused = k < 1;
         let stands = if refused { (10, 1) } else { (11, 2) };
-        assert_eq!(rt; found(&slot)?, Some(stands), "at {k}");
-        drop(answer);
-        drop(slot);
-        assert_eq!(rt; memory.blocks(), 0, "at {k}");
+        let seen = put_at(&rt, memory, &mut slot_of_ten(&rt, memory), k, 11);
+        same_at(&rt, k, seen, (refused, refused, Some(stands)));
+        same_at(&rt, k, memory.blocks(), 0);
     }
     Ok(())
+}
+
+// Adds a value at the key of the tests, and sees the same.
+fn add_at(rt: &impl Abort, memory: Memory, slot: &mut NumberSlot, k: u64, value: u64) -> Seen {
+    lies_in(rt, slot);
+    memory.refuse_at(k);
+    let failed = slot.put_absent(memory, 3, 3, value).is_err();
+    let refused = memory.refused();
+    memory.refuse_nothing();
+    (refused, failed, found(rt, slot))
 }
 
 // At a present key an addition asks the allocator for nothing: a further owner of the value is refused only at a count of about 2^63.
@@ -81,30 +98,50 @@ fn put_of_a_present_key(rt: HostRuntime) -> Result<(), Fail> {
 fn put_absent(rt: HostRuntime) -> Result<(), Fail> {
     let memory = Refusing::leaked(rt.alloc())?;
     for k in 0..4u64 {
-        let mut slot: Slot<u64, u64, Memory> = Slot::live(4, 3, Bin::new());
-        memory.refuse_at(k);
-        lies_in(&slot)?;
-        let answer = slot.put_absent(memory, 3, 3, 10);
-        let refused = memory.refused();
-        memory.refuse_nothing();
-        assert_eq!(rt; refused, k < 3, "at {k}");
-        assert_eq!(rt; answer.is_err(), refused, "at {k}");
-        drop(answer);
+        let mut slot = empty_slot();
+        let refused = k < 3;
+        let stands = if refused { None } else { Some((10, 1)) };
+        let seen = add_at(&rt, memory, &mut slot, k, 10);
+        same_at(&rt, k, seen, (refused, refused, stands));
         if !refused {
-            memory.refuse_from(0);
-            lies_in(&slot)?;
-            let present = slot.put_absent(memory, 3, 3, 11);
-            let asked = memory.asked();
-            memory.refuse_nothing();
-            assert_eq!(rt; asked, 0);
-            assert!(rt; present.is_ok());
-            drop(present);
-            assert_eq!(rt; found(&slot)?, Some((10, 1)));
+            // Not even a first request is made.
+            let seen = add_at(&rt, memory, &mut slot, 0, 11);
+            same_at(&rt, k, seen, (false, false, stands));
         }
         drop(slot);
-        assert_eq!(rt; memory.blocks(), 0, "at {k}");
+        same_at(&rt, k, memory.blocks(), 0);
     }
     Ok(())
+}
+
+// Halves the value at the key of the tests, and sees the same.
+fn halve_at(rt: &impl Abort, memory: Memory, slot: &mut NumberSlot, k: u64) -> Seen {
+    lies_in(rt, slot);
+    memory.refuse_at(k);
+    let answer = slot.compute(memory, 3, &3, |_: &u64, value: &u64| Some(*value / 2));
+    let failed = answer.is_err();
+    drop(answer);
+    let refused = memory.refused();
+    memory.refuse_nothing();
+    (refused, failed, found(rt, slot))
+}
+
+// Whether a function that answers none took the key of the tests out, while each request was refused.
+fn is_removed(rt: &impl Abort, memory: Memory, slot: &mut NumberSlot) -> bool {
+    lies_in(rt, slot);
+    memory.refuse_from(0);
+    let answer = slot.compute(memory, 3, &3, |_: &u64, _: &u64| None);
+    memory.refuse_nothing();
+    matches!(&answer, Ok(Answer::Here(Computed::Removed)))
+}
+
+// Whether a function was not called, since the key of the tests is absent, while each request was refused.
+fn is_absent(rt: &impl Abort, memory: Memory, slot: &mut NumberSlot) -> bool {
+    lies_in(rt, slot);
+    memory.refuse_from(0);
+    let answer = slot.compute(memory, 3, &3, |_: &u64, _: &u64| Some(0));
+    memory.refuse_nothing();
+    matches!(&answer, Ok(Answer::Here(Computed::Absent(_))))
 }
 
 // A computed value asks for its memory; a function that answers none asks for nothing, and is not called for an absent key.
@@ -112,31 +149,15 @@ fn put_absent(rt: HostRuntime) -> Result<(), Fail> {
 fn compute(rt: HostRuntime) -> Result<(), Fail> {
     let memory = Refusing::leaked(rt.alloc())?;
     for k in 0..2u64 {
-        let mut slot: Slot<u64, u64, Memory> = Slot::live(4, 3, Bin::new());
-        lies_in(&slot)?;
-        drop(slot.put(memory, 3, 3, 10)?);
-        memory.refuse_at(k);
-        lies_in(&slot)?;
-        let answer = slot.compute(memory, 3, &3, |_: &u64, value: &u64| Some(*value / 2));
-        let refused = memory.refused();
-        memory.refuse_nothing();
-        assert_eq!(rt; refused, k < 1, "at {k}");
-        assert_eq!(rt; answer.is_err(), refused, "at {k}");
+        let mut slot = slot_of_ten(&rt, memory);
+        let refused = k < 1;
         let stands = if refused { (10, 1) } else { (5, 2) };
-        assert_eq!(rt; found(&slot)?, Some(stands), "at {k}");
-        drop(answer);
-        memory.refuse_from(0);
-        lies_in(&slot)?;
-        let removed = slot.compute(memory, 3, &3, |_: &u64, _: &u64| None);
-        lies_in(&slot)?;
-        let absent = slot.compute(memory, 3, &3, |_: &u64, _: &u64| Some(0));
-        memory.refuse_nothing();
-        match (removed, absent) {
-            (Ok(Answer::Here(Computed::Removed)), Ok(Answer::Here(Computed::Absent(_)))) => {}
-            _ => return Err(Fail::from("nothing was asked for")),
-        }
+        let seen = halve_at(&rt, memory, &mut slot, k);
+        same_at(&rt, k, seen, (refused, refused, Some(stands)));
+        same_at(&rt, k, is_removed(&rt, memory, &mut slot), true);
+        same_at(&rt, k, is_absent(&rt, memory, &mut slot), true);
         drop(slot);
-        assert_eq!(rt; memory.blocks(), 0, "at {k}");
+        same_at(&rt, k, memory.blocks(), 0);
     }
     Ok(())
 }
@@ -144,19 +165,19 @@ fn compute(rt: HostRuntime) -> Result<(), Fail> {
 #[test]
 fn the_other_steps_ask_for_nothing(rt: HostRuntime) -> Result<(), Fail> {
     let memory = Refusing::leaked(rt.alloc())?;
-    let mut slot: Slot<u64, u64, Memory> = Slot::live(4, 3, Bin::new());
-    drop(slot.put(memory, 3, 3, 10)?);
-    drop(slot.put(memory, 19, 19, 11)?);
+    let mut slot: NumberSlot = Slot::live(4, 3, Bin::new());
+    drop(slot.put(memory, 3, 3, 10).expect(&rt, "memory"));
+    drop(slot.put(memory, 19, 19, 11).expect(&rt, "memory"));
     memory.refuse_from(0);
-    let mut low: Slot<u64, u64, Memory> = Slot::unborn(5, 3);
-    let mut high: Slot<u64, u64, Memory> = Slot::unborn(5, 19);
+    let mut low: NumberSlot = Slot::unborn(5, 3);
+    let mut high: NumberSlot = Slot::unborn(5, 19);
     drop(slot.take_if(19, &19, 1));
     drop(slot.next_after(None));
     drop(slot.move_into(&mut low, &mut high));
     drop(low.take(3, &3));
     drop(high.wipe());
-    assert_eq!(rt; memory.asked(), 0);
+    same(&rt, memory.asked(), 0);
     drop(high);
-    assert_eq!(rt; memory.blocks(), 0);
+    same(&rt, memory.blocks(), 0);
     Ok(())
 }

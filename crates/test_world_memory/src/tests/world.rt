@@ -1,6 +1,6 @@
 //! Each request of a world's calls, refused in turn.
 
-use super::Memory;
+use super::{Memory, same, same_at};
 use flurry_model::hash::LowHashBuilder;
 use flurry_model::reply::KeptReply;
 use flurry_slots::{ComputeFn, NoFn};
@@ -49,172 +49,190 @@ fn close_of<F>(label: Option<&Label<u64, u64, F>>) -> Option<Close> {
     }
 }
 
+// Begins the call, with memory enough.
+pub(super) fn begins<F: ComputeFn<u64, u64> + Copy>(
+    rt: &impl Abort,
+    world: &mut Numbers<F>,
+    call: OwnedCall<u64, u64, F>,
+) -> usize
+    requires { (f : F) → F.can_change f }
+{
+    world.begin(call).expect(rt, "memory for the call")
+}
+
 // The next steps of a party until its call closes, and whether one of them was refused. A refused step adds no label.
 fn finish<F: ComputeFn<u64, u64> + Copy>(
+    rt: &impl Abort,
     world: &mut Numbers<F>,
     party: usize,
-) -> Result<(Close, bool), Fail> {
+) -> (Close, bool) {
     let mut refused = false;
     for _ in 0..MOST {
         let before = world.trace().len();
         if world.step(party).is_err() {
             refused = true;
-            if world.trace().len() != before {
-                return Err(Fail::from("a refused step adds no label"));
-            }
+            same(rt, world.trace().len(), before);
         } else if let Some(close) = close_of(world.trace().last()) {
-            return Ok((close, refused));
+            return (close, refused);
         }
     }
-    Err(Fail::from("the call closes"))
+    panic!(rt; "the call closes")
 }
 
 // Begins the call and finishes it, with memory enough.
 fn whole<F: ComputeFn<u64, u64> + Copy>(
+    rt: &impl Abort,
     world: &mut Numbers<F>,
     call: OwnedCall<u64, u64, F>,
-) -> Result<Close, Fail>
+) -> Close
     requires { (f : F) → F.can_change f }
 {
-    let party = world.begin(call)?;
-    let (close, _) = finish(world, party)?;
-    Ok(close)
+    let party = begins(rt, world, call);
+    finish(rt, world, party).0
 }
 
 // The value of the key, where it has one.
-fn value<F: ComputeFn<u64, u64> + Copy>(world: &mut Numbers<F>, key: u64) -> Result<Close, Fail>
+fn value<F: ComputeFn<u64, u64> + Copy>(rt: &impl Abort, world: &mut Numbers<F>, key: u64) -> Close
     requires { (f : F) → F.can_change f }
 {
-    whole(world, OwnedCall::Get(key))
+    whole(rt, world, OwnedCall::Get(key))
 }
 
-// The labels as text.
-fn text<F: ComputeFn<u64, u64> + Copy + Debug>(
-    alloc: Global,
-    world: &Numbers<F>,
-) -> Result<String, Fail> {
-    Ok(format!(in alloc; "{:?}", world.trace())?)
+// The reply that is a value, or none.
+fn reply(value: Option<u64>) -> Close {
+    Close::Reply(KeptReply::Value(value))
 }
 
 // The labels from that one on as text.
 pub(super) fn labels_from<F: ComputeFn<u64, u64> + Copy + Debug>(
+    rt: &impl Abort,
     alloc: Global,
     world: &Numbers<F>,
     first: usize,
-) -> Result<String, Fail> {
-    let Some(labels) = world.trace().get(first..) else {
-        return Err(Fail::from("so many labels are there"));
-    };
-    Ok(format!(in alloc; "{labels:?}")?)
+) -> String {
+    let labels = world
+        .trace()
+        .get(first..)
+        .expect(rt, "so many labels are there");
+    format!(in alloc; "{labels:?}").expect(rt, "memory for the text")
+}
+
+// Whether the labels say that.
+fn say<F: ComputeFn<u64, u64> + Copy + Debug>(
+    rt: &impl Abort,
+    alloc: Global,
+    world: &Numbers<F>,
+    part: &str,
+) -> bool {
+    labels_from(rt, alloc, world, 0).contains(part)
 }
 
 // The next steps of a party, until the world has so many labels.
 pub(super) fn step_to<F: ComputeFn<u64, u64> + Copy>(
+    rt: &impl Abort,
     world: &mut Numbers<F>,
     party: usize,
     labels: usize,
-) -> Result<(), Fail> {
+) {
     for _ in world.trace().len()..labels {
-        world.step(party)?;
+        world.step(party).expect(rt, "memory for the step");
     }
-    Ok(())
+}
+
+// A world with room for so many pairs.
+pub(super) fn world_for<F: ComputeFn<u64, u64> + Copy>(
+    rt: &impl Abort,
+    memory: Memory,
+    capacity: usize,
+) -> Numbers<F> {
+    World::new(memory, capacity, LowHashBuilder, 1).expect(rt, "memory for the world")
 }
 
 // A world of the keys from 0 on, each its own value.
-fn world_of<F: ComputeFn<u64, u64> + Copy>(memory: Memory, count: u64) -> Result<Numbers<F>, Fail>
-    requires { (f : F) → F.can_change f }
-{
-    let mut world: Numbers<F> = World::new(memory, 0, LowHashBuilder, 1)?;
-    for key in 0..count {
-        let _ = whole(&mut world, OwnedCall::Insert(key, key))?;
-    }
-    Ok(world)
-}
-
-// The labels of a new world with that call alone, with memory enough.
-fn text_of<F: ComputeFn<u64, u64> + Copy + Debug>(
-    alloc: Global,
-    memory: Memory,
-    call: OwnedCall<u64, u64, F>,
-) -> Result<String, Fail>
-    requires { (f : F) → F.can_change f }
-{
-    let mut world: Numbers<F> = world_of(memory, 0)?;
-    let _ = whole(&mut world, call)?;
-    text(alloc, &world)
-}
-
-// A world of so many keys whose call met the refusal of one request, what that did to it, and how it closed; none where it makes no
-// such request.
-fn refused_at<F: ComputeFn<u64, u64> + Copy>(
+fn world_of<F: ComputeFn<u64, u64> + Copy>(
+    rt: &impl Abort,
     memory: Memory,
     count: u64,
-    call: OwnedCall<u64, u64, F>,
-    request: u64,
-) -> Result<Option<(Numbers<F>, Told, Close)>, Fail>
+) -> Numbers<F>
     requires { (f : F) → F.can_change f }
 {
-    let mut world: Numbers<F> = world_of(memory, count)?;
-    let party = world.begin(call)?;
+    let mut world = world_for(rt, memory, 0);
+    for key in 0..count {
+        let _ = whole(rt, &mut world, OwnedCall::Insert(key, key));
+    }
+    world
+}
+
+// What the refusal of one request did to a call, and how the call closed; none where it makes no such request.
+fn refused_at<F: ComputeFn<u64, u64> + Copy>(
+    rt: &impl Abort,
+    memory: Memory,
+    world: &mut Numbers<F>,
+    call: OwnedCall<u64, u64, F>,
+    request: u64,
+) -> Option<(Told, Close)>
+    requires { (f : F) → F.can_change f }
+{
+    let party = begins(rt, world, call);
     memory.refuse_at(request);
-    let (close, again) = finish(&mut world, party)?;
+    let (close, again) = finish(rt, world, party);
     let refused = memory.refused();
     memory.refuse_nothing();
     if !refused {
-        return Ok(None);
+        return None;
     }
-    let reply_for = if close == Close::Refused {
+    let told = if close == Close::Refused {
         Told::Call
     } else if again {
         Told::Step
     } else {
         Told::Nothing
     };
-    Ok(Some((world, reply_for, close)))
+    Some((told, close))
 }
 
 #[test]
 fn a_world_without_a_table(rt: HostRuntime) -> Result<(), Fail> {
-    new_without_a_table::<NoFn>(&rt, rt.alloc())
-}
-
-fn new_without_a_table<F: ComputeFn<u64, u64> + Copy>(
-    rt: &impl Abort,
-    alloc: Global,
-) -> Result<(), Fail> {
-    let memory = Refusing::leaked(alloc)?;
-    for k in 0..2u64 {
-        memory.refuse_at(k);
-        let answer: Result<Numbers<F>, AllocError> = World::new(memory, 0, LowHashBuilder, 1);
-        let refused = memory.refused();
-        memory.refuse_nothing();
-        assert_eq!(rt; refused, k < 1, "at {k}");
-        assert_eq!(rt; answer.is_err(), refused, "at {k}");
-        drop(answer);
-        assert_eq!(rt; memory.blocks(), 0, "at {k}");
-    }
-    Ok(())
+    requests_of_a_new_world::<NoFn>(&rt, rt.alloc(), 0, 1)
 }
 
 #[test]
 fn a_world_with_a_table(rt: HostRuntime) -> Result<(), Fail> {
-    new_with_a_table::<NoFn>(&rt, rt.alloc())
+    requests_of_a_new_world::<NoFn>(&rt, rt.alloc(), 16, 2)
 }
 
-fn new_with_a_table<F: ComputeFn<u64, u64> + Copy>(
+// Makes a world with the request numbered k refused: whether it was made, and whether there is no world.
+fn refused_world<F: ComputeFn<u64, u64> + Copy>(
+    memory: Memory,
+    capacity: usize,
+    k: u64,
+) -> (bool, bool) {
+    memory.refuse_at(k);
+    let answer: Result<Numbers<F>, AllocError> = World::new(memory, capacity, LowHashBuilder, 1);
+    let failed = answer.is_err();
+    drop(answer);
+    let refused = memory.refused();
+    memory.refuse_nothing();
+    (refused, failed)
+}
+
+// A world with room for so many pairs makes so many requests.
+fn requests_of_a_new_world<F: ComputeFn<u64, u64> + Copy>(
     rt: &impl Abort,
     alloc: Global,
+    capacity: usize,
+    requests: u64,
 ) -> Result<(), Fail> {
     let memory = Refusing::leaked(alloc)?;
-    for k in 0..3u64 {
-        memory.refuse_at(k);
-        let answer: Result<Numbers<F>, AllocError> = World::new(memory, 16, LowHashBuilder, 1);
-        let refused = memory.refused();
-        memory.refuse_nothing();
-        assert_eq!(rt; refused, k < 2, "at {k}");
-        assert_eq!(rt; answer.is_err(), refused, "at {k}");
-        drop(answer);
-        assert_eq!(rt; memory.blocks(), 0, "at {k}");
+    for k in 0..=requests {
+        let refused = k < requests;
+        same_at(
+            rt,
+            k,
+            refused_world::<F>(memory, capacity, k),
+            (refused, refused),
+        );
+        same_at(rt, k, memory.blocks(), 0);
     }
     Ok(())
 }
@@ -222,178 +240,188 @@ fn new_with_a_table<F: ComputeFn<u64, u64> + Copy>(
 // The first call asks for the room of labels and that of calls. A refused one is none: the next party has its number.
 #[test]
 fn begin(rt: HostRuntime) -> Result<(), Fail> {
-    begins::<NoFn>(&rt, rt.alloc())
-}
-
-fn begins<F: ComputeFn<u64, u64> + Copy>(rt: &impl Abort, alloc: Global) -> Result<(), Fail>
-    requires { (f : F) → F.can_change f }
-{
-    let memory = Refusing::leaked(alloc)?;
+    let memory = Refusing::leaked(rt.alloc())?;
     for k in 0..3u64 {
-        let mut world: Numbers<F> = world_of(memory, 0)?;
-        memory.refuse_at(k);
-        let answer = world.begin(OwnedCall::Insert(3, 10));
-        let refused = memory.refused();
-        memory.refuse_nothing();
-        assert_eq!(rt; refused, k < 2, "at {k}");
-        assert_eq!(rt; answer.is_err(), refused, "at {k}");
-        assert_eq!(rt; world.trace().is_empty(), refused, "at {k}");
-        let next = if refused { 0 } else { 1 };
-        assert_eq!(rt; world.begin(OwnedCall::Get(3))?, next, "at {k}");
-        let found = if refused { None } else { Some(10) };
-        assert_eq!(rt;
-            finish(&mut world, 0)?.0,
-            Close::Reply(KeptReply::Value(None)),
-            "at {k}"
-        );
-        assert_eq!(rt;
-            value(&mut world, 3)?,
-            Close::Reply(KeptReply::Value(found)),
-            "at {k}"
-        );
-        drop(world);
-        assert_eq!(rt; memory.blocks(), 0, "at {k}");
+        begins_at::<NoFn>(&rt, memory, k);
+        same_at(&rt, k, memory.blocks(), 0);
     }
     Ok(())
+}
+
+fn begins_at<F: ComputeFn<u64, u64> + Copy>(rt: &impl Abort, memory: Memory, k: u64)
+    requires { (f : F) → F.can_change f }
+{
+    let mut world: Numbers<F> = world_for(rt, memory, 0);
+    memory.refuse_at(k);
+    let failed = world.begin(OwnedCall::Insert(3, 10)).is_err();
+    let refused = memory.refused();
+    memory.refuse_nothing();
+    let seen = (refused, failed, world.trace().is_empty());
+    same_at(rt, k, seen, (k < 2, refused, refused));
+    let (next, found) = if refused { (0, None) } else { (1, Some(10)) };
+    same_at(rt, k, begins(rt, &mut world, OwnedCall::Get(3)), next);
+    same_at(rt, k, finish(rt, &mut world, 0).0, reply(None));
+    same_at(rt, k, value(rt, &mut world, 3), reply(found));
+    drop(world);
 }
 
 // An insertion asks for the first table, its key, its value and its node, and then for room for its reply's label.
 #[test]
 fn insertion_into_a_new_world(rt: HostRuntime) -> Result<(), Fail> {
-    inserts_into_a_new_world::<NoFn>(&rt, rt.alloc())
+    let memory = Refusing::leaked(rt.alloc())?;
+    for k in 0..MOST {
+        let refused = inserts_at::<NoFn>(&rt, rt.alloc(), memory, k);
+        same_at(&rt, k, memory.blocks(), 0);
+        if !refused {
+            same(&rt, k, 5);
+            return Ok(());
+        }
+    }
+    Err(Fail::from("it makes fewer requests"))
 }
 
-fn inserts_into_a_new_world<F: ComputeFn<u64, u64> + Copy + Debug>(
+// The labels of a new world with an insertion alone, with memory enough.
+fn text_of_an_insertion<F: ComputeFn<u64, u64> + Copy + Debug>(
     rt: &impl Abort,
     alloc: Global,
-) -> Result<(), Fail>
+    memory: Memory,
+) -> String
     requires { (f : F) → F.can_change f }
 {
-    let memory = Refusing::leaked(alloc)?;
-    let none = Close::Reply(KeptReply::Value(None));
-    let plain = text_of::<F>(alloc, memory, OwnedCall::Insert(3, 10))?;
-    let mut ended = false;
-    for k in 0..MOST {
-        let Some((mut world, reply_for, close)) = refused_at::<F>(
-            memory,
-            0,
-            OwnedCall::Insert(3, 10),
-            k,
-        )?
-        else {
-            assert_eq!(rt; k, 5);
-            ended = true;
-            break;
-        };
-        if k < 4 {
-            assert_eq!(rt; (reply_for, close), (Told::Call, Close::Refused), "at {k}");
-            assert_eq!(rt; value(&mut world, 3)?, none, "at {k}");
-            assert_eq!(rt;
-                whole(&mut world, OwnedCall::Insert(3, 11))?,
-                none,
-                "at {k}"
-            );
-        } else {
-            assert_eq!(rt; (reply_for, close), (Told::Step, none), "at {k}");
-            assert_eq!(rt; text(alloc, &world)?, plain, "at {k}");
-        }
-        let found = if k < 4 { 11 } else { 10 };
-        assert_eq!(rt;
-            value(&mut world, 3)?,
-            Close::Reply(KeptReply::Value(Some(found))),
-            "at {k}"
-        );
-        drop(world);
-        assert_eq!(rt; memory.blocks(), 0, "at {k}");
+    let mut world: Numbers<F> = world_for(rt, memory, 0);
+    let _ = whole(rt, &mut world, OwnedCall::Insert(3, 10));
+    let text = labels_from(rt, alloc, &world, 0);
+    drop(world);
+    text
+}
+
+// Whether the insertion made the request numbered k.
+fn inserts_at<F: ComputeFn<u64, u64> + Copy + Debug>(
+    rt: &impl Abort,
+    alloc: Global,
+    memory: Memory,
+    k: u64,
+) -> bool
+    requires { (f : F) → F.can_change f }
+{
+    let mut world: Numbers<F> = world_for(rt, memory, 0);
+    let seen = refused_at(rt, memory, &mut world, OwnedCall::Insert(3, 10), k);
+    if let Some(seen) = seen {
+        inserted_at(rt, alloc, memory, &mut world, k, seen);
     }
-    assert!(rt; ended);
-    Ok(())
+    drop(world);
+    seen.is_some()
+}
+
+// What stands after the refusal of that request.
+fn inserted_at<F: ComputeFn<u64, u64> + Copy + Debug>(
+    rt: &impl Abort,
+    alloc: Global,
+    memory: Memory,
+    world: &mut Numbers<F>,
+    k: u64,
+    seen: (Told, Close),
+)
+    requires { (f : F) → F.can_change f }
+{
+    let none = reply(None);
+    if k < 4 {
+        same_at(rt, k, seen, (Told::Call, Close::Refused));
+        same_at(rt, k, value(rt, world, 3), none);
+        same_at(rt, k, whole(rt, world, OwnedCall::Insert(3, 11)), none);
+    } else {
+        same_at(rt, k, seen, (Told::Step, none));
+        let plain = text_of_an_insertion::<F>(rt, alloc, memory);
+        same_at(rt, k, labels_from(rt, alloc, world, 0), plain);
+    }
+    let found = if k < 4 { 11 } else { 10 };
+    same_at(rt, k, value(rt, world, 3), reply(Some(found)));
 }
 
 // The insertion that reaches the threshold asks for a larger table too. Where that is refused it goes on, and the next one asks again.
 #[test]
 fn insertion_that_grows(rt: HostRuntime) -> Result<(), Fail> {
-    inserts_and_grows::<NoFn>(&rt, rt.alloc())
+    let memory = Refusing::leaked(rt.alloc())?;
+    for k in 0..MOST {
+        let refused = grows_at::<NoFn>(&rt, rt.alloc(), memory, k);
+        same_at(&rt, k, memory.blocks(), 0);
+        if !refused {
+            same(&rt, k, 5);
+            return Ok(());
+        }
+    }
+    Err(Fail::from("it makes fewer requests"))
 }
 
-fn inserts_and_grows<F: ComputeFn<u64, u64> + Copy + Debug>(
+// Whether the insertion made the request numbered k.
+fn grows_at<F: ComputeFn<u64, u64> + Copy + Debug>(
     rt: &impl Abort,
     alloc: Global,
-) -> Result<(), Fail>
+    memory: Memory,
+    k: u64,
+) -> bool
     requires { (f : F) → F.can_change f }
 {
-    let memory = Refusing::leaked(alloc)?;
-    let none = Close::Reply(KeptReply::Value(None));
-    let mut ended = false;
-    for k in 0..MOST {
-        let Some((mut world, reply_for, close)) = refused_at::<F>(
-            memory,
-            11,
-            OwnedCall::Insert(20, 5),
-            k,
-        )?
-        else {
-            assert_eq!(rt; k, 5);
-            ended = true;
-            break;
-        };
-        let grew = text(alloc, &world)?.contains("Placed(5)");
-        let found = if k < 3 { None } else { Some(5) };
-        if k < 3 {
-            assert_eq!(rt; (reply_for, close), (Told::Call, Close::Refused), "at {k}");
-        } else {
-            let expected = if k == 3 { Told::Nothing } else { Told::Step };
-            assert_eq!(rt; (reply_for, close), (expected, none), "at {k}");
-        }
-        assert_eq!(rt; grew, k == 4, "at {k}");
-        assert_eq!(rt;
-            value(&mut world, 20)?,
-            Close::Reply(KeptReply::Value(found)),
-            "at {k}"
-        );
-        assert_eq!(rt;
-            whole(&mut world, OwnedCall::Insert(21, 6))?,
-            none,
-            "at {k}"
-        );
-        assert_eq!(rt;
-            whole(&mut world, OwnedCall::Insert(22, 7))?,
-            none,
-            "at {k}"
-        );
-        assert!(rt; text(alloc, &world)?.contains("Published(5)"), "at {k}");
-        drop(world);
-        assert_eq!(rt; memory.blocks(), 0, "at {k}");
+    let mut world: Numbers<F> = world_of(rt, memory, 11);
+    let seen = refused_at(rt, memory, &mut world, OwnedCall::Insert(20, 5), k);
+    if let Some(seen) = seen {
+        grown_at(rt, alloc, &mut world, k, seen);
     }
-    assert!(rt; ended);
-    Ok(())
+    drop(world);
+    seen.is_some()
+}
+
+// What stands after the refusal of that request.
+fn grown_at<F: ComputeFn<u64, u64> + Copy + Debug>(
+    rt: &impl Abort,
+    alloc: Global,
+    world: &mut Numbers<F>,
+    k: u64,
+    seen: (Told, Close),
+)
+    requires { (f : F) → F.can_change f }
+{
+    let none = reply(None);
+    let (wanted, found) = match k {
+        0 | 1 | 2 => ((Told::Call, Close::Refused), None),
+        3 => ((Told::Nothing, none), Some(5)),
+        _ => ((Told::Step, none), Some(5)),
+    };
+    same_at(rt, k, seen, wanted);
+    same_at(rt, k, say(rt, alloc, world, "Placed(5)"), k == 4);
+    same_at(rt, k, value(rt, world, 20), reply(found));
+    same_at(rt, k, whole(rt, world, OwnedCall::Insert(21, 6)), none);
+    same_at(rt, k, whole(rt, world, OwnedCall::Insert(22, 7)), none);
+    same_at(rt, k, say(rt, alloc, world, "Published(5)"), true);
 }
 
 // A look-up asks for room for its labels, and for nothing else.
 #[test]
 fn look_up(rt: HostRuntime) -> Result<(), Fail> {
-    looks_up::<NoFn>(&rt, rt.alloc())
+    let memory = Refusing::leaked(rt.alloc())?;
+    for k in 0..MOST {
+        let seen = looks_up_at::<NoFn>(&rt, memory, k);
+        same_at(&rt, k, memory.blocks(), 0);
+        if seen.is_none() {
+            same(&rt, k, 1);
+            return Ok(());
+        }
+        same_at(&rt, k, seen, Some((Told::Step, reply(Some(0)))));
+    }
+    Err(Fail::from("it makes fewer requests"))
 }
 
-fn looks_up<F: ComputeFn<u64, u64> + Copy>(rt: &impl Abort, alloc: Global) -> Result<(), Fail>
+fn looks_up_at<F: ComputeFn<u64, u64> + Copy>(
+    rt: &impl Abort,
+    memory: Memory,
+    k: u64,
+) -> Option<(Told, Close)>
     requires { (f : F) → F.can_change f }
 {
-    let memory = Refusing::leaked(alloc)?;
-    let mut ended = false;
-    for k in 0..MOST {
-        let Some((world, reply_for, close)) = refused_at::<F>(memory, 1, OwnedCall::Get(0), k)?
-        else {
-            assert_eq!(rt; k, 1);
-            ended = true;
-            break;
-        };
-        let found = Close::Reply(KeptReply::Value(Some(0)));
-        assert_eq!(rt; (reply_for, close), (Told::Step, found), "at {k}");
-        drop(world);
-        assert_eq!(rt; memory.blocks(), 0, "at {k}");
-    }
-    assert!(rt; ended);
-    Ok(())
+    let mut world: Numbers<F> = world_of(rt, memory, 1);
+    let seen = refused_at(rt, memory, &mut world, OwnedCall::Get(0), k);
+    drop(world);
+    seen
 }
 
 // Where there is no table it asks for one of 256 bins, and then, as everywhere, for each table on the way to 512, the first whose
@@ -401,54 +429,53 @@ fn looks_up<F: ComputeFn<u64, u64> + Copy>(rt: &impl Abort, alloc: Global) -> Re
 #[test]
 fn reserve_in_a_new_world(rt: HostRuntime) -> Result<(), Fail> {
     let memory = Refusing::leaked(rt.alloc())?;
-    assert_eq!(rt; refusals_of_a_reserve::<NoFn>(rt.alloc(), memory, 0)?, 2);
+    same(&rt, refusals_of_a_reserve(&rt, memory, 0), 2);
     Ok(())
 }
 
 #[test]
 fn reserve_in_a_world_of_16_bins(rt: HostRuntime) -> Result<(), Fail> {
     let memory = Refusing::leaked(rt.alloc())?;
-    assert_eq!(rt; refusals_of_a_reserve::<NoFn>(rt.alloc(), memory, 1)?, 5);
+    same(&rt, refusals_of_a_reserve(&rt, memory, 1), 5);
     Ok(())
 }
 
-// How many requests of a reserve refuse it, in a world of so many keys. It succeeds when it is asked for again.
-fn refusals_of_a_reserve<F: ComputeFn<u64, u64> + Copy>(
-    alloc: Global,
-    memory: Memory,
-    count: u64,
-) -> Result<usize, Fail>
-    requires { (f : F) → F.can_change f }
-{
-    let mut calls = Vec::new(alloc);
+// How many requests of a reserve refuse it, in a world of so many keys.
+fn refusals_of_a_reserve(rt: &impl Abort, memory: Memory, count: u64) -> u64 {
+    let mut refusals = 0u64;
     for k in 0..MOST {
-        let Some((mut world, reply_for, close)) = refused_at::<F>(
-            memory,
-            count,
-            OwnedCall::Reserve(100),
-            k,
-        )?
-        else {
-            return Ok(calls.len());
-        };
-        match (reply_for, close) {
-            (Told::Call, Close::Refused) => calls.push(k)?,
-            (Told::Step, Close::End) => {}
-            _ => return Err(Fail::from("it ends, or is refused")),
-        }
-        let found = if count == 0 { None } else { Some(0) };
-        if value(&mut world, 0)? != Close::Reply(KeptReply::Value(found)) {
-            return Err(Fail::from("the pairs stay"));
-        }
-        if whole(&mut world, OwnedCall::Reserve(100))? != Close::End {
-            return Err(Fail::from("it ends when it is asked for again"));
-        }
-        drop(world);
-        if memory.blocks() != 0 {
-            return Err(Fail::from("each block comes back"));
+        let seen = reserves_at::<NoFn>(rt, memory, count, k);
+        same_at(rt, k, memory.blocks(), 0);
+        match seen {
+            None => return refusals,
+            Some((Told::Call, Close::Refused)) => refusals = refusals.saturating_add(1),
+            _ => same_at(rt, k, seen, Some((Told::Step, Close::End))),
         }
     }
-    Err(Fail::from("it makes fewer requests"))
+    panic!(rt; "it makes fewer requests")
+}
+
+// What the refusal of one request did to a reserve. The pairs stay, and it succeeds when it is asked for again.
+fn reserves_at<F: ComputeFn<u64, u64> + Copy>(
+    rt: &impl Abort,
+    memory: Memory,
+    count: u64,
+    k: u64,
+) -> Option<(Told, Close)>
+    requires { (f : F) → F.can_change f }
+{
+    let mut world: Numbers<F> = world_of(rt, memory, count);
+    let seen = refused_at(rt, memory, &mut world, OwnedCall::Reserve(100), k);
+    let found = if count == 0 { None } else { Some(0) };
+    same_at(rt, k, value(rt, &mut world, 0), reply(found));
+    same_at(
+        rt,
+        k,
+        whole(rt, &mut world, OwnedCall::Reserve(100)),
+        Close::End,
+    );
+    drop(world);
+    seen
 }
 
 // How many steps the list has.
@@ -456,9 +483,10 @@ const STEPS: usize = 9;
 
 // The list's steps from that one on.
 fn steps_from<F: ComputeFn<u64, u64> + Copy>(
+    rt: &impl Abort,
     memory: Memory,
     first: usize,
-) -> Result<Vec<Step<u64, u64, F>, Memory>, Fail> {
+) -> Vec<Step<u64, u64, F>, Memory> {
     let mut steps = Vec::new(memory);
     for at in first..STEPS {
         let step = match at {
@@ -467,58 +495,70 @@ fn steps_from<F: ComputeFn<u64, u64> + Copy>(
             2 | 3 | 5 | 7 => Step::Step(0),
             _ => Step::Step(1),
         };
-        steps.push(step)?;
+        steps.push(step).expect(rt, "memory for the step");
     }
-    Ok(steps)
+    steps
 }
 
 // The labels of a new world that ran those steps, with memory enough.
 #[tactic(auto, using(flurry_world::proofs::RunLaws::step_ready))]
 fn text_of_steps<F: ComputeFn<u64, u64> + Copy + Debug>(
+    rt: &impl Abort,
     alloc: Global,
     memory: Memory,
-) -> Result<String, Fail>
+) -> String
     requires { (f : F) → F.can_change f }
 {
-    let mut world: Numbers<F> = world_of(memory, 0)?;
-    world.run(steps_from(memory, 0)?)?;
-    text(alloc, &world)
+    let mut world: Numbers<F> = world_for(rt, memory, 0);
+    world
+        .run(steps_from(rt, memory, 0))
+        .expect(rt, "memory for the steps");
+    let text = labels_from(rt, alloc, &world, 0);
+    drop(world);
+    text
 }
 
 // A list whose label or party is refused stops there, and the rest of it may be run later. A refused call is a step like another.
 #[test]
 fn run(rt: HostRuntime) -> Result<(), Fail> {
-    runs::<NoFn>(&rt, rt.alloc())
+    let memory = Refusing::leaked(rt.alloc())?;
+    for k in 0..MOST {
+        let refused = runs_at::<NoFn>(&rt, rt.alloc(), memory, k);
+        same_at(&rt, k, memory.blocks(), 0);
+        if !refused {
+            same(&rt, k, 8);
+            return Ok(());
+        }
+    }
+    Err(Fail::from("it makes fewer requests"))
 }
 
+// Whether the steps made the request numbered k.
 #[tactic(auto, using(flurry_world::proofs::RunLaws::step_ready))]
-fn runs<F: ComputeFn<u64, u64> + Copy + Debug>(rt: &impl Abort, alloc: Global) -> Result<(), Fail>
+fn runs_at<F: ComputeFn<u64, u64> + Copy + Debug>(
+    rt: &impl Abort,
+    alloc: Global,
+    memory: Memory,
+    k: u64,
+) -> bool
     requires { (f : F) → F.can_change f }
 {
-    let memory = Refusing::leaked(alloc)?;
-    let plain = text_of_steps::<F>(alloc, memory)?;
-    let mut ended = false;
-    for k in 0..MOST {
-        let mut world: Numbers<F> = world_of(memory, 0)?;
-        let steps = steps_from(memory, 0)?;
-        memory.refuse_at(k);
-        let answer = world.run(steps);
-        let refused = memory.refused();
-        memory.refuse_nothing();
-        let done = world.trace().len();
-        if !refused {
-            assert_eq!(rt; (answer, k), (Ok(()), 8));
-            ended = true;
-            break;
-        }
-        let whole = 2 <= k && k < 6;
-        assert_eq!(rt; (answer.is_ok(), done == STEPS), (whole, whole), "at {k}");
-        world.run(steps_from(memory, done)?)?;
-        assert_eq!(rt; world.trace().len(), STEPS, "at {k}");
-        assert_eq!(rt; text(alloc, &world)? == plain, !whole, "at {k}");
-        drop(world);
-        assert_eq!(rt; memory.blocks(), 0, "at {k}");
-    }
-    assert!(rt; ended);
-    Ok(())
+    let mut world: Numbers<F> = world_for(rt, memory, 0);
+    let steps = steps_from(rt, memory, 0);
+    memory.refuse_at(k);
+    let ran = world.run(steps).is_ok();
+    let refused = memory.refused();
+    memory.refuse_nothing();
+    let done = world.trace().len();
+    let whole = !refused || 2 <= k && k < 6;
+    same_at(rt, k, (ran, done == STEPS), (whole, whole));
+    world
+        .run(steps_from(rt, memory, done))
+        .expect(rt, "memory for the rest");
+    same_at(rt, k, world.trace().len(), STEPS);
+    let plain = text_of_steps::<F>(rt, alloc, memory);
+    let is_plain = labels_from(rt, alloc, &world, 0) == plain;
+    drop(world);
+    same_at(rt, k, is_plain, !refused || !whole);
+    refused
 }

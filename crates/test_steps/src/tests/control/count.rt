@@ -1,18 +1,17 @@
 //! The count of pairs, what it advises, and sizes.
 
-use super::super::same;
+use super::super::{same, same_at};
 use super::empty_room;
 use flurry_model::sizes::stride;
 use flurry_steps::Control;
 use flurry_steps::control::{Advice, wanted_table};
-use std::test::Fail;
 
 #[test]
-fn count_advises_at_the_threshold(rt: HostRuntime) -> Result<(), Fail> {
+fn count_advises_at_the_threshold(rt: HostRuntime) {
     let mut room = empty_room(rt.alloc(), 0);
     let mut control = Control::new();
     same(&rt, control.count(20), Advice::Enough);
-    same(&rt, control.open(4, &mut room)?, 4);
+    same(&rt, control.open(4, &mut room).expect(&rt, "memory"), 4);
     for (delta, advice, len) in [
         (-9, Advice::Enough, 11),
         (1, Advice::Begin, 12),
@@ -23,10 +22,9 @@ fn count_advises_at_the_threshold(rt: HostRuntime) -> Result<(), Fail> {
         (1, Advice::Enough, 0),
         (12, Advice::Begin, 12),
     ] {
-        assert_eq!(rt; control.count(delta), advice, "after {delta}");
-        assert_eq!(rt; control.len(), len, "after {delta}");
+        same_at(&rt, delta, control.count(delta), advice);
+        same_at(&rt, delta, control.len(), len);
     }
-    Ok(())
 }
 
 #[test]
@@ -56,7 +54,7 @@ fn sizes(rt: HostRuntime) {
         ((1 << 29) - 1, 30),
         (usize::MAX, 30),
     ] {
-        assert_eq!(rt; wanted_table(pairs), table, "for {pairs}");
+        same_at(&rt, pairs, wanted_table(pairs), table);
     }
 }
 
@@ -69,10 +67,7 @@ fn strides(rt: HostRuntime) {
         (8, 1, 16),
         (64, 2, 16),
     ] {
-        assert_eq!(rt;
-            stride(bins, processors),
-            range,
-            "of {bins} for {processors}"
-        );
+        let seen = (bins, processors, stride(bins, processors));
+        same(&rt, seen, (bins, processors, range));
     }
 }

@@ -4,58 +4,52 @@ use super::super::same;
 use super::{empty_room, growing, opened};
 use flurry_steps::Control;
 use flurry_steps::control::{Advice, BeginOutcome};
-use std::test::Fail;
 
 #[test]
 fn no_table_at_first(rt: HostRuntime) {
     let mut room = empty_room(rt.alloc(), 1);
     let mut control = Control::new();
     same(&rt, control.locate(), None);
-    assert!(rt; control.start().is_none());
+    same(&rt, control.start().is_none(), true);
     same(&rt, control.begin(4, &mut room), BeginOutcome::Busy);
     same(&rt, room.requests, 0);
 }
 
 #[test]
-fn refused_first_table_is_opened_later(rt: HostRuntime) -> Result<(), Fail> {
+fn refused_first_table_is_opened_later(rt: HostRuntime) {
     let mut room = empty_room(rt.alloc(), 1);
     let mut control = Control::new();
-    assert!(rt; control.open(4, &mut room).is_err());
+    same(&rt, control.open(4, &mut room).is_err(), true);
     same(&rt, control.locate(), None);
-    assert!(rt; room.placed.is_empty());
-    same(&rt, control.open(4, &mut room)?, 4);
+    same(&rt, room.placed.is_empty(), true);
+    same(&rt, control.open(4, &mut room).expect(&rt, "memory"), 4);
     same(&rt, control.locate(), Some(4));
     same(&rt, room.placed.as_slice(), [(4, true)].as_slice());
-    Ok(())
 }
 
 #[test]
-fn first_table_is_opened_once(rt: HostRuntime) -> Result<(), Fail> {
-    let (mut control, mut room) = opened(rt.alloc(), 4, 0)?;
-    let Some(start) = control.start() else {
-        return Err(Fail::from("a table is published"));
-    };
+fn first_table_is_opened_once(rt: HostRuntime) {
+    let (mut control, mut room) = opened(&rt, 4, 0);
+    let start = control.start().expect(&rt, "a table is published");
     same(&rt, start.table(), 4);
-    same(&rt, control.open(7, &mut room)?, 4);
+    same(&rt, control.open(7, &mut room).expect(&rt, "memory"), 4);
     same(&rt, control.locate(), Some(4));
     same(&rt, room.placed.as_slice(), [(4, true)].as_slice());
-    Ok(())
 }
 
 #[test]
-fn no_growth_begins_from_another_table(rt: HostRuntime) -> Result<(), Fail> {
-    let (mut control, mut room) = opened(rt.alloc(), 4, 2)?;
+fn no_growth_begins_from_another_table(rt: HostRuntime) {
+    let (mut control, mut room) = opened(&rt, 4, 2);
     same(&rt, control.begin(3, &mut room), BeginOutcome::Busy);
     same(&rt, control.begin(5, &mut room), BeginOutcome::Busy);
     same(&rt, room.requests, 1);
-    Ok(())
 }
 
 #[test]
-fn refused_growth_begins_later(rt: HostRuntime) -> Result<(), Fail> {
-    let (mut control, mut room) = opened(rt.alloc(), 4, 2)?;
+fn refused_growth_begins_later(rt: HostRuntime) {
+    let (mut control, mut room) = opened(&rt, 4, 2);
     same(&rt, control.begin(4, &mut room), BeginOutcome::Refused);
-    assert!(rt; control.claim(1).is_none());
+    same(&rt, control.claim(1).is_none(), true);
     same(&rt, control.count(0), Advice::Enough);
     same(&rt, control.begin(4, &mut room), BeginOutcome::Begun);
     same(&rt, control.locate(), Some(4));
@@ -64,42 +58,38 @@ fn refused_growth_begins_later(rt: HostRuntime) -> Result<(), Fail> {
         room.placed.as_slice(),
         [(4, true), (5, false)].as_slice(),
     );
-    Ok(())
 }
 
 #[test]
-fn growth_begins_once(rt: HostRuntime) -> Result<(), Fail> {
-    let (mut control, mut room) = growing(rt.alloc(), 4)?;
+fn growth_begins_once(rt: HostRuntime) {
+    let (mut control, mut room) = growing(&rt, 4);
     same(&rt, control.locate(), Some(4));
     same(&rt, control.count(0), Advice::Join);
     same(&rt, control.begin(4, &mut room), BeginOutcome::Busy);
     same(&rt, control.begin(5, &mut room), BeginOutcome::Busy);
-    same(&rt, control.open(5, &mut room)?, 4);
+    same(&rt, control.open(5, &mut room).expect(&rt, "memory"), 4);
     same(
         &rt,
         room.placed.as_slice(),
         [(4, true), (5, false)].as_slice(),
     );
-    Ok(())
 }
 
 #[test]
-fn greatest_table_stays(rt: HostRuntime) -> Result<(), Fail> {
-    let (mut control, mut room) = opened(rt.alloc(), 30, 0)?;
+fn greatest_table_stays(rt: HostRuntime) {
+    let (mut control, mut room) = opened(&rt, 30, 0);
     same(&rt, control.begin(30, &mut room), BeginOutcome::Busy);
     same(&rt, control.count(i64::MAX), Advice::Enough);
     same(&rt, control.grows_from(30), None);
     same(&rt, room.placed.as_slice(), [(30, true)].as_slice());
-    Ok(())
 }
 
 #[test]
-fn growth_to_a_size(rt: HostRuntime) -> Result<(), Fail> {
+fn growth_to_a_size(rt: HostRuntime) {
     same(&rt, Control::new().grows_from(30), None);
-    let (mut control, mut room) = opened(rt.alloc(), 4, 0)?;
+    let (mut control, mut room) = opened(&rt, 4, 0);
     same(&rt, control.grows_from(3), None);
     same(&rt, control.grows_from(4), Some(4));
     same(&rt, control.begin(4, &mut room), BeginOutcome::Begun);
     same(&rt, control.grows_from(4), None);
-    Ok(())
 }

@@ -6,15 +6,14 @@ use flurry_model::reply::KeptReply;
 use flurry_slots::{ComputeFn, NoFn};
 use flurry_steps::party::{Call, Event, Party, Want};
 use std::process::Abort;
-use std::test::Fail;
 
 // A map with the keys below a count, each under its own hash, whose table was not grown.
-fn map_of(rt: &(impl Abort + AllocGlobal), count: u64) -> Result<Map, Fail> {
+fn map_of(rt: &(impl Abort + AllocGlobal), count: u64) -> Map {
     let mut map = empty_map(rt.alloc(), 1, 0);
     for key in 0..count {
-        same(rt, insert(rt.alloc(), &mut map, key, key)?, 3);
+        same(rt, insert(rt, &mut map, key, key), 3);
     }
-    Ok(map)
+    map
 }
 
 // Moves the 16 bins of a table from the last one down.
@@ -22,16 +21,11 @@ fn moves_sixteen<'k, F: ComputeFn<u64, u64>>(
     rt: &(impl Abort + AllocGlobal),
     party: &mut Party<'k, u64, u64, F>,
     map: &mut Map,
-) -> Result<(), Fail> {
+) {
     for index in 0..16usize {
         same(rt, party.want(), Want::Move(4, 15 - index));
-        same(
-            rt,
-            step(rt.alloc(), party, map)?,
-            Event::Moved(4, 15 - index),
-        );
+        same(rt, step(rt, party, map), Event::Moved(4, 15 - index));
     }
-    Ok(())
 }
 
 // The steps of the insertion of the twelfth key, until it has moved each bin of the table.
@@ -39,7 +33,7 @@ fn twelfth_key_moves<'k, F: ComputeFn<u64, u64>>(
     rt: &(impl Abort + AllocGlobal),
     party: &mut Party<'k, u64, u64, F>,
     map: &mut Map,
-) -> Result<(), Fail> {
+) {
     goes_on(
         rt,
         party,
@@ -52,12 +46,11 @@ fn twelfth_key_moves<'k, F: ComputeFn<u64, u64>>(
             Event::Placed(5),
             Event::Silent,
         ],
-    )?;
+    );
     same(rt, party.reply().is_some(), true);
     same(rt, party.take_reply().is_none(), true);
-    moves_sixteen(rt, party, map)?;
+    moves_sixteen(rt, party, map);
     same(rt, map.control.locate(), Some(4));
-    Ok(())
 }
 
 // Its last steps. Before the larger table is published, a look-up follows the bin that has moved.
@@ -65,8 +58,8 @@ fn twelfth_key_ends<'k, F: ComputeFn<u64, u64>>(
     rt: &(impl Abort + AllocGlobal),
     party: &mut Party<'k, u64, u64, F>,
     map: &mut Map,
-) -> Result<(), Fail> {
-    twelfth_key_moves(rt, party, map)?;
+) {
+    twelfth_key_moves(rt, party, map);
     answers(
         rt,
         map,
@@ -74,48 +67,42 @@ fn twelfth_key_ends<'k, F: ComputeFn<u64, u64>>(
         Call::Get(&7),
         &[Event::Silent, Event::Silent, Event::Decide],
         value(Some(0)),
-    )?;
+    );
     goes_on(
         rt,
         party,
         map,
         100,
         &[Event::Published(5), Event::Silent, Event::Silent],
-    )?;
+    );
     same(rt, map.control.locate(), Some(5));
-    Ok(())
 }
 
-fn twelfth_key<F: ComputeFn<u64, u64>>(
-    rt: &(impl Abort + AllocGlobal),
-    map: &mut Map,
-) -> Result<(), Fail> {
+fn twelfth_key<F: ComputeFn<u64, u64>>(rt: &(impl Abort + AllocGlobal), map: &mut Map) {
     let mut party: Party<'_, u64, u64, F> = Party::new(Call::Insert(11, 0), 11, 1);
-    let seen = twelfth_key_ends(rt, &mut party, map);
+    twelfth_key_ends(rt, &mut party, map);
     drop(party);
-    seen
 }
 
 // Removes the keys below 12, and sees to their values.
-fn removes_twelve(rt: &(impl Abort + AllocGlobal), map: &mut Map) -> Result<(), Fail> {
+fn removes_twelve(rt: &(impl Abort + AllocGlobal), map: &mut Map) {
     same(rt, map.control.len(), 12);
     for key in 0..12 {
-        let (_events, answer) = call(rt.alloc(), map, key, Call::Remove(&key))?;
+        let (_events, answer) = call(rt, map, key, Call::Remove(&key));
         same(rt, answer, value(Some(0)));
     }
     same(rt, map.control.len(), 0);
-    Ok(())
 }
 
 #[test]
-fn twelfth_key_doubles_the_table(rt: HostRuntime) -> Result<(), Fail> {
-    let mut map = map_of(&rt, 11)?;
-    twelfth_key::<NoFn>(&rt, &mut map)?;
+fn twelfth_key_doubles_the_table(rt: HostRuntime) {
+    let mut map = map_of(&rt, 11);
+    twelfth_key::<NoFn>(&rt, &mut map);
     removes_twelve(&rt, &mut map)
 }
 
 #[test]
-fn reserve_of_nothing_opens_one_bin(rt: HostRuntime) -> Result<(), Fail> {
+fn reserve_of_nothing_opens_one_bin(rt: HostRuntime) {
     let mut map = empty_map(rt.alloc(), 1, 0);
     answers(
         &rt,
@@ -132,15 +119,15 @@ fn reserve_ends<'k, F: ComputeFn<u64, u64>>(
     rt: &(impl Abort + AllocGlobal),
     party: &mut Party<'k, u64, u64, F>,
     map: &mut Map,
-) -> Result<(), Fail> {
+) {
     goes_on(
         rt,
         party,
         map,
         3,
         &[Event::Opened(6), Event::Placed(7), Event::Silent],
-    )?;
-    let moves = steps(rt.alloc(), party, map, 64)?;
+    );
+    let moves = steps(rt, party, map, 64);
     same(rt, moves.last(), Some(&Event::Moved(6, 0)));
     goes_on(
         rt,
@@ -148,26 +135,21 @@ fn reserve_ends<'k, F: ComputeFn<u64, u64>>(
         map,
         100,
         &[Event::Published(7), Event::Silent, Event::Silent],
-    )?;
-    same(rt, reply_of(party)?, Told::Ended);
+    );
+    same(rt, reply_of(rt, party), Told::Ended);
     same(rt, map.control.locate(), Some(7));
-    Ok(())
 }
 
-fn reserve<F: ComputeFn<u64, u64>>(
-    rt: &(impl Abort + AllocGlobal),
-    map: &mut Map,
-) -> Result<(), Fail> {
+fn reserve<F: ComputeFn<u64, u64>>(rt: &(impl Abort + AllocGlobal), map: &mut Map) {
     let mut party: Party<'_, u64, u64, F> = Party::new(Call::Reserve(32), 0, 1);
-    let seen = reserve_ends(rt, &mut party, map);
+    reserve_ends(rt, &mut party, map);
     drop(party);
-    seen
 }
 
 #[test]
-fn reserves(rt: HostRuntime) -> Result<(), Fail> {
+fn reserves(rt: HostRuntime) {
     let mut map = empty_map(rt.alloc(), 1, 0);
-    reserve::<NoFn>(&rt, &mut map)?;
+    reserve::<NoFn>(&rt, &mut map);
     // There is room already.
     answers(
         &rt,
@@ -184,38 +166,33 @@ fn ninth_key_ends<'k, F: ComputeFn<u64, u64>>(
     rt: &(impl Abort + AllocGlobal),
     party: &mut Party<'k, u64, u64, F>,
     map: &mut Map,
-) -> Result<(), Fail> {
+) {
     goes_on(
         rt,
         party,
         map,
         3,
         &[Event::Silent, Event::Decide, Event::Placed(5)],
-    )?;
+    );
     same(rt, map.control.len(), 8);
-    let after = steps(rt.alloc(), party, map, 1000)?;
+    let after = steps(rt, party, map, 1000);
     same(rt, after.last(), Some(&Event::Silent));
     same(rt, map.control.locate(), Some(7));
     same(rt, map.control.len(), 9);
-    same(rt, reply_of(party)?, Told::Key(KeptReply::New(1)));
-    Ok(())
+    same(rt, reply_of(rt, party), Told::Key(KeptReply::New(1)));
 }
 
-fn ninth_key<F: ComputeFn<u64, u64>>(
-    rt: &(impl Abort + AllocGlobal),
-    map: &mut Map,
-) -> Result<(), Fail> {
+fn ninth_key<F: ComputeFn<u64, u64>>(rt: &(impl Abort + AllocGlobal), map: &mut Map) {
     let mut party: Party<'_, u64, u64, F> = Party::new(Call::TryInsert(8, 1), 0, 1);
-    let seen = ninth_key_ends(rt, &mut party, map);
+    ninth_key_ends(rt, &mut party, map);
     drop(party);
-    seen
 }
 
 #[test]
-fn list_of_eight_grows_before_the_count(rt: HostRuntime) -> Result<(), Fail> {
+fn list_of_eight_grows_before_the_count(rt: HostRuntime) {
     let mut map = empty_map(rt.alloc(), 1, 0);
     for key in 0..8 {
-        same(&rt, insert(rt.alloc(), &mut map, 0, key)?, 3);
+        same(&rt, insert(&rt, &mut map, 0, key), 3);
     }
     ninth_key::<NoFn>(&rt, &mut map)
 }

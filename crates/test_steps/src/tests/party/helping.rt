@@ -5,15 +5,15 @@ use super::{Map, answers, call, empty_map, goes_on, insert, steps, value};
 use flurry_slots::{ComputeFn, NoFn};
 use flurry_steps::party::{Call, Event, Party};
 use std::process::Abort;
-use std::test::Fail;
 
 // The first steps of a reserve, which moves one bin of a table of 64.
 fn reserve_begins<'k, F: ComputeFn<u64, u64>>(
     rt: &(impl Abort + AllocGlobal),
     reserve: &mut Party<'k, u64, u64, F>,
     map: &mut Map,
-) -> Result<(), Fail> {
-    same(rt, map.control.open(6, &mut map.tables)?, 6);
+) {
+    let table = map.control.open(6, &mut map.tables);
+    same(rt, table.expect(rt, "memory for the table"), 6);
     goes_on(
         rt,
         reserve,
@@ -29,9 +29,9 @@ fn reserve_begins<'k, F: ComputeFn<u64, u64>>(
 }
 
 // Calls that meet that growth.
-fn others_meet_the_growth(rt: &(impl Abort + AllocGlobal), map: &mut Map) -> Result<(), Fail> {
+fn others_meet_the_growth(rt: &(impl Abort + AllocGlobal), map: &mut Map) {
     // Its bin has not moved: it decides, counts and then moves the three lower ranges.
-    same(rt, insert(rt.alloc(), map, 2, 2)?, 59);
+    same(rt, insert(rt, map, 2, 2), 59);
     same(rt, map.control.locate(), Some(6));
     // Its bin has moved: it finds nothing to help with, and goes on to the next table.
     answers(
@@ -49,29 +49,24 @@ fn reserve_ends<'k, F: ComputeFn<u64, u64>>(
     rt: &(impl Abort + AllocGlobal),
     reserve: &mut Party<'k, u64, u64, F>,
     map: &mut Map,
-) -> Result<(), Fail> {
-    reserve_begins(rt, reserve, map)?;
-    others_meet_the_growth(rt, map)?;
-    let rest = steps(rt.alloc(), reserve, map, 1000)?;
+) {
+    reserve_begins(rt, reserve, map);
+    others_meet_the_growth(rt, map);
+    let rest = steps(rt, reserve, map, 1000);
     same(rt, rest.len(), 18);
     same(rt, map.control.locate(), Some(7));
-    let (_events, answer) = call(rt.alloc(), map, 2, Call::Get(&2))?;
+    let (_events, answer) = call(rt, map, 2, Call::Get(&2));
     same(rt, answer, value(Some(0)));
-    Ok(())
 }
 
-fn helping<F: ComputeFn<u64, u64>>(
-    rt: &(impl Abort + AllocGlobal),
-    map: &mut Map,
-) -> Result<(), Fail> {
+fn helping<F: ComputeFn<u64, u64>>(rt: &(impl Abort + AllocGlobal), map: &mut Map) {
     let mut reserve: Party<'_, u64, u64, F> = Party::new(Call::Reserve(31), 0, 2);
-    let seen = reserve_ends(rt, &mut reserve, map);
+    reserve_ends(rt, &mut reserve, map);
     drop(reserve);
-    seen
 }
 
 #[test]
-fn insertion_helps(rt: HostRuntime) -> Result<(), Fail> {
+fn insertion_helps(rt: HostRuntime) {
     let mut map = empty_map(rt.alloc(), 2, 0);
     helping::<NoFn>(&rt, &mut map)
 }

@@ -5,13 +5,11 @@ use super::{Becomes, Map, Told, answers, call, empty_map, insert, reply_of, run,
 use flurry_model::reply::KeptReply;
 use flurry_slots::{ComputeFn, NoFn};
 use flurry_steps::party::{Call, Event, Party, Want};
-use std::alloc::Global;
 use std::cell::Cell;
 use std::process::Abort;
-use std::test::Fail;
 
 #[test]
-fn calls_without_a_table(rt: HostRuntime) -> Result<(), Fail> {
+fn calls_without_a_table(rt: HostRuntime) {
     let mut map = empty_map(rt.alloc(), 1, 0);
     for (asked, reply) in [
         (Call::Get(&3), KeptReply::Value(None)),
@@ -20,26 +18,24 @@ fn calls_without_a_table(rt: HostRuntime) -> Result<(), Fail> {
         (Call::Remove(&3), KeptReply::Value(None)),
         (Call::RemoveEntry(&3), KeptReply::Pair(None)),
     ] {
-        answers(&rt, &mut map, 3, asked, &[Event::Decide], Told::Key(reply))?;
+        answers(&rt, &mut map, 3, asked, &[Event::Decide], Told::Key(reply));
     }
     same(&rt, map.control.locate(), None);
     same(&rt, map.tables.requests, 0);
-    Ok(())
 }
 
 #[test]
-fn computation_without_a_table(rt: HostRuntime) -> Result<(), Fail> {
+fn computation_without_a_table(rt: HostRuntime) {
     let mut map = empty_map(rt.alloc(), 1, 0);
-    let (events, answer) = run(rt.alloc(), &mut map, 3, Call::Compute(&3, Becomes(Some(1))))?;
+    let (events, answer) = run(&rt, &mut map, 3, Call::Compute(&3, Becomes(Some(1))));
     same(&rt, events.as_slice(), [Event::Decide].as_slice());
     same(&rt, answer, value(None));
     same(&rt, map.control.locate(), None);
     same(&rt, map.tables.requests, 0);
-    Ok(())
 }
 
 // A map whose one pair is 3 with the value 4.
-fn map_of_three(rt: &(impl Abort + AllocGlobal)) -> Result<Map, Fail> {
+fn map_of_three(rt: &(impl Abort + AllocGlobal)) -> Map {
     let mut map = empty_map(rt.alloc(), 1, 0);
     answers(
         rt,
@@ -48,9 +44,9 @@ fn map_of_three(rt: &(impl Abort + AllocGlobal)) -> Result<Map, Fail> {
         Call::Insert(3, 4),
         &[Event::Opened(4), Event::Decide, Event::Silent],
         value(None),
-    )?;
+    );
     same(rt, map.control.len(), 1);
-    Ok(map)
+    map
 }
 
 // Runs a call of hash 3, and sees to its reply, its number of steps and the number of pairs after it.
@@ -61,17 +57,16 @@ fn answers_in<'k>(
     reply: KeptReply<u64, u64>,
     steps: usize,
     len: usize,
-) -> Result<(), Fail> {
-    let (events, answer) = call(rt.alloc(), map, 3, asked)?;
+) {
+    let (events, answer) = call(rt, map, 3, asked);
     same(rt, answer, Told::Key(reply));
     same(rt, events.len(), steps);
     same(rt, map.control.len(), len);
-    Ok(())
 }
 
 #[test]
-fn look_ups(rt: HostRuntime) -> Result<(), Fail> {
-    let mut map = map_of_three(&rt)?;
+fn look_ups(rt: HostRuntime) {
+    let mut map = map_of_three(&rt);
     for (asked, reply) in [
         (Call::Get(&3), KeptReply::Value(Some(4))),
         (Call::Get(&19), KeptReply::Value(None)),
@@ -79,14 +74,13 @@ fn look_ups(rt: HostRuntime) -> Result<(), Fail> {
         (Call::ContainsKey(&3), KeptReply::Contains(true)),
         (Call::ContainsKey(&19), KeptReply::Contains(false)),
     ] {
-        answers_in(&rt, &mut map, asked, reply, 2, 1)?;
+        answers_in(&rt, &mut map, asked, reply, 2, 1);
     }
-    Ok(())
 }
 
 #[test]
-fn writes(rt: HostRuntime) -> Result<(), Fail> {
-    let mut map = map_of_three(&rt)?;
+fn writes(rt: HostRuntime) {
+    let mut map = map_of_three(&rt);
     for (asked, reply, steps, len) in [
         (Call::Insert(3, 5), KeptReply::Value(Some(4)), 2, 1),
         (Call::TryInsert(19, 6), KeptReply::New(6), 3, 2),
@@ -104,9 +98,8 @@ fn writes(rt: HostRuntime) -> Result<(), Fail> {
         (Call::RemoveEntry(&3), KeptReply::Pair(None), 2, 1),
         (Call::RemoveEntry(&19), KeptReply::Pair(Some((19, 6))), 3, 0),
     ] {
-        answers_in(&rt, &mut map, asked, reply, steps, len)?;
+        answers_in(&rt, &mut map, asked, reply, steps, len);
     }
-    Ok(())
 }
 
 // Runs a computation, and sees to its reply, its number of steps and the number of pairs after it.
@@ -118,67 +111,63 @@ fn computes(
     reply: Option<u64>,
     steps: usize,
     len: usize,
-) -> Result<(), Fail> {
-    let (events, answer) = run(rt.alloc(), map, 3, Call::Compute(&key, Becomes(becomes)))?;
+) {
+    let (events, answer) = run(rt, map, 3, Call::Compute(&key, Becomes(becomes)));
     same(rt, answer, value(reply));
     same(rt, events.len(), steps);
     same(rt, map.control.len(), len);
-    Ok(())
 }
 
 #[test]
-fn computations(rt: HostRuntime) -> Result<(), Fail> {
+fn computations(rt: HostRuntime) {
     let mut map = empty_map(rt.alloc(), 1, 0);
-    let _steps = insert(rt.alloc(), &mut map, 3, 3)?;
+    let _steps = insert(&rt, &mut map, 3, 3);
     for (key, becomes, reply, steps, len) in [
         (4, Some(1), None, 2, 1),
         (3, Some(8), Some(8), 2, 1),
         (3, None, None, 3, 0),
         (3, Some(1), None, 2, 0),
     ] {
-        computes(&rt, &mut map, key, becomes, reply, steps, len)?;
+        computes(&rt, &mut map, key, becomes, reply, steps, len);
     }
-    let _steps = insert(rt.alloc(), &mut map, 3, 3)?;
-    Ok(())
+    let _steps = insert(&rt, &mut map, 3, 3);
 }
 
 #[test]
-fn computation_by_a_closure(rt: HostRuntime) -> Result<(), Fail> {
+fn computation_by_a_closure(rt: HostRuntime) {
     let mut map = empty_map(rt.alloc(), 1, 0);
-    let _steps = insert(rt.alloc(), &mut map, 3, 3)?;
+    let _steps = insert(&rt, &mut map, 3, 3);
     let (_events, answer) = run(
-        rt.alloc(),
+        &rt,
         &mut map,
         3,
         Call::Compute(&3, |key: &u64, old: &u64| key.checked_add(*old)),
-    )?;
+    );
     same(&rt, answer, value(Some(3)));
-    Ok(())
 }
 
 // How often a computation at a key of hash 3 calls its function.
-fn calls_at(alloc: Global, map: &mut Map, key: u64) -> Result<u64, Fail> {
+fn calls_at(rt: &(impl Abort + AllocGlobal), map: &mut Map, key: u64) -> u64 {
     let calls = Cell::new(0u64);
     let (_events, _answer) = run(
-        alloc,
+        rt,
         map,
         3,
         Call::Compute(&key, |_: &u64, old: &u64| {
             calls.set(calls.get().saturating_add(1));
             Some(*old)
         }),
-    )?;
-    Ok(calls.get())
+    );
+    calls.get()
 }
 
 #[test]
-fn function_is_called_for_a_present_key_alone(rt: HostRuntime) -> Result<(), Fail> {
+fn function_is_called_for_a_present_key_alone(rt: HostRuntime) {
     let mut map = empty_map(rt.alloc(), 1, 0);
-    same(&rt, calls_at(rt.alloc(), &mut map, 3)?, 0);
-    let _steps = insert(rt.alloc(), &mut map, 3, 3)?;
-    same(&rt, calls_at(rt.alloc(), &mut map, 19)?, 0);
-    same(&rt, calls_at(rt.alloc(), &mut map, 3)?, 1);
-    Ok(())
+    same(&rt, calls_at(&rt, &mut map, 3), 0);
+    let _steps = insert(&rt, &mut map, 3, 3);
+    same(&rt, calls_at(&rt, &mut map, 19), 0);
+    same(&rt, calls_at(&rt, &mut map, 3), 1);
 }
 
 // The steps of a look-up of the key 3 that begins at the certificate of the table.
@@ -186,36 +175,27 @@ fn begins_at_a_start<'k, F: ComputeFn<u64, u64>>(
     rt: &(impl Abort + AllocGlobal),
     party: &mut Party<'k, u64, u64, F>,
     map: &mut Map,
-) -> Result<(), Fail> {
-    let Some(start) = map.control.start() else {
-        return Err(Fail::from("a table is published"));
-    };
-    if !party.locates() {
-        return Err(Fail::from("a look-up locates first"));
-    }
+) {
+    let start = map.control.start().expect(rt, "a table is published");
+    assert!(rt; party.locates(), "a look-up locates first");
     same(rt, party.want(), Want::Control);
     same(rt, party.on_start(&start), Event::Silent);
     same(rt, party.locates(), false);
     same(rt, party.want(), Want::Look(4, 3));
-    same(rt, step(rt.alloc(), party, map)?, Event::Decide);
-    same(rt, reply_of(party)?, value(Some(0)));
-    Ok(())
+    same(rt, step(rt, party, map), Event::Decide);
+    same(rt, reply_of(rt, party), value(Some(0)));
 }
 
-fn look_up_of_three<F: ComputeFn<u64, u64>>(
-    rt: &(impl Abort + AllocGlobal),
-    map: &mut Map,
-) -> Result<(), Fail> {
+fn look_up_of_three<F: ComputeFn<u64, u64>>(rt: &(impl Abort + AllocGlobal), map: &mut Map) {
     let key = 3;
     let mut party: Party<'_, u64, u64, F> = Party::new(Call::Get(&key), 3, 1);
-    let seen = begins_at_a_start(rt, &mut party, map);
+    begins_at_a_start(rt, &mut party, map);
     drop(party);
-    seen
 }
 
 #[test]
-fn call_begins_at_a_start(rt: HostRuntime) -> Result<(), Fail> {
+fn call_begins_at_a_start(rt: HostRuntime) {
     let mut map = empty_map(rt.alloc(), 1, 0);
-    let _steps = insert(rt.alloc(), &mut map, 3, 3)?;
+    let _steps = insert(&rt, &mut map, 3, 3);
     look_up_of_three::<NoFn>(&rt, &mut map)
 }

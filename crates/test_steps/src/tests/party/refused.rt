@@ -3,10 +3,9 @@
 use super::super::same;
 use super::{Told, answers, empty_map, insert};
 use flurry_steps::party::{Call, Event};
-use std::test::Fail;
 
 #[test]
-fn refused_first_table_refuses_an_insertion(rt: HostRuntime) -> Result<(), Fail> {
+fn refused_first_table_refuses_an_insertion(rt: HostRuntime) {
     let mut map = empty_map(rt.alloc(), 1, 1);
     answers(
         &rt,
@@ -15,14 +14,13 @@ fn refused_first_table_refuses_an_insertion(rt: HostRuntime) -> Result<(), Fail>
         Call::Insert(1, 1),
         &[Event::Refused],
         Told::Refused,
-    )?;
+    );
     same(&rt, map.control.locate(), None);
-    same(&rt, insert(rt.alloc(), &mut map, 1, 1)?, 3);
-    Ok(())
+    same(&rt, insert(&rt, &mut map, 1, 1), 3);
 }
 
 #[test]
-fn refused_first_table_refuses_a_reserve(rt: HostRuntime) -> Result<(), Fail> {
+fn refused_first_table_refuses_a_reserve(rt: HostRuntime) {
     let mut map = empty_map(rt.alloc(), 1, 1);
     answers(
         &rt,
@@ -35,7 +33,7 @@ fn refused_first_table_refuses_a_reserve(rt: HostRuntime) -> Result<(), Fail> {
 }
 
 #[test]
-fn refused_larger_table_refuses_a_reserve(rt: HostRuntime) -> Result<(), Fail> {
+fn refused_larger_table_refuses_a_reserve(rt: HostRuntime) {
     let mut map = empty_map(rt.alloc(), 1, 2);
     answers(
         &rt,
@@ -44,35 +42,32 @@ fn refused_larger_table_refuses_a_reserve(rt: HostRuntime) -> Result<(), Fail> {
         Call::Reserve(32),
         &[Event::Opened(6), Event::Refused],
         Told::Refused,
-    )?;
+    );
     same(&rt, map.control.locate(), Some(6));
-    Ok(())
 }
 
 // The twelfth pair stays, though its larger table is refused, and the thirteenth doubles the table.
 #[test]
-fn refused_larger_table_leaves_the_pair(rt: HostRuntime) -> Result<(), Fail> {
+fn refused_larger_table_leaves_the_pair(rt: HostRuntime) {
     let mut map = empty_map(rt.alloc(), 1, 2);
     for key in 0..11 {
-        same(&rt, insert(rt.alloc(), &mut map, key, key)?, 3);
+        same(&rt, insert(&rt, &mut map, key, key), 3);
     }
-    same(&rt, insert(rt.alloc(), &mut map, 11, 11)?, 4);
+    same(&rt, insert(&rt, &mut map, 11, 11), 4);
     same(&rt, map.control.len(), 12);
     same(&rt, map.control.locate(), Some(4));
-    same(&rt, insert(rt.alloc(), &mut map, 12, 12)?, 24);
+    same(&rt, insert(&rt, &mut map, 12, 12), 24);
     same(&rt, map.control.locate(), Some(5));
-    Ok(())
 }
 
 // A list of eight whose growth is refused: the pair stays and is counted.
 #[test]
-fn refused_larger_table_leaves_the_list(rt: HostRuntime) -> Result<(), Fail> {
+fn refused_larger_table_leaves_the_list(rt: HostRuntime) {
     let mut map = empty_map(rt.alloc(), 1, 2);
     for key in 0..9 {
-        let steps = insert(rt.alloc(), &mut map, 0, key)?;
+        let steps = insert(&rt, &mut map, 0, key);
         same(&rt, steps, if key < 8 { 3 } else { 4 });
     }
     same(&rt, map.control.len(), 9);
     same(&rt, map.control.locate(), Some(4));
-    Ok(())
 }
