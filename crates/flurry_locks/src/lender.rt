@@ -21,6 +21,7 @@ pub struct Lender<'m, R, K: Ord, V, A: Allocator = Global> {
 
 impl<'m, R, K: Ord, V, A: Allocator> Lender<'m, R, K, V, A> {
     /// Takes these locks, and waits for them by that runtime. Constant time.
+    // The locks' parts are known by their types alone, so no clause speaks of them.
     pub fn new(rt: &'m R, locks: &'m Locks<K, V, A>) -> Self {
         Lender { rt, locks }
     }

@@ -1,12 +1,13 @@
 //! The locks of a shared map.
-ghost use Rattle.std.specs.Prelude.{◌≤◌};
+ghost use Rattle.std.specs.Prelude.{◌≡◌, ◌≤◌};
 ghost use Rattle.flurry_model.specs.declared.sizes.TheConstants.{GREATEST_TABLE};
 
 use crate::starts::Starts;
 use crate::tables::{Maker, Tables};
+use flurry_slots::Slot;
 use flurry_steps::Control;
 use std::alloc::{AllocError, Allocator, Global};
-use std::sync::{Mutex, Wait};
+use std::sync::{Mutex, RwLock, Wait};
 
 /// The control and the tables of a map that threads share, each part under a lock of its own, and the numbers that the control has
 /// published, which are read without a lock.
@@ -21,6 +22,7 @@ pub struct Locks<K: Ord, V, A: Allocator = Global> {
     pub(crate) alloc: A,
 }
 
+// What stands under a lock is known by its type alone, since whoever shares the locks may change it. So no clause speaks of it.
 impl<K: Ord, V, A: Allocator> Locks<K, V, A> {
     /// The locks of a map without a table. Constant time; takes no memory.
     pub fn new(alloc: A) -> Self {
@@ -35,6 +37,23 @@ impl<K: Ord, V, A: Allocator> Locks<K, V, A> {
     /// The count of pairs, at one moment while the call runs. Takes the control's lock.
     pub fn len<R: Wait>(&self, rt: &R) -> usize {
         self.control.lock(rt).len()
+    }
+
+    /// The allocator that the tables and the pairs are of.
+    pub fn allocator(&self) -> &A
+        ensures { result.now ≡ self.now.alloc }
+    {
+        &self.alloc
+    }
+
+    /// Counts so many pairs more, which are in the slots already. Takes the control's lock.
+    pub fn count<R: Wait>(&self, rt: &R, pairs: i64) {
+        self.control.lock(rt).count(pairs);
+    }
+
+    /// The lock of the slot at that table and index, if the table was made and has it. Constant time.
+    pub fn slot(&self, table: u8, index: usize) -> Option<&RwLock<Slot<K, V, A>>> {
+        self.tables.lock_of(table, index)
     }
 }
 

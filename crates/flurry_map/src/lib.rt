@@ -5,5 +5,6 @@
 #![tactic(auto)]
 
 pub mod map;
+mod owned;
 
 pub use map::HashMap;

@@ -37,8 +37,8 @@ use std::sync::{Arc, Wait};
 /// growth as they write help it along.
 #[derive(Drop)]
 pub struct HashMap<K: Ord, V, S: KeyHasher<K> = DefaultHashBuilder, A: Allocator = Global> {
-    locks: Locks<K, V, A>,
-    hasher: S,
+    pub(crate) locks: Locks<K, V, A>,
+    pub(crate) hasher: S,
     processors: usize,
 }
 
@@ -83,7 +83,7 @@ impl<K: Ord + Drop, V: Drop, S: KeyHasher<K>, A: Allocator> HashMap<K, V, S, A> 
     }
 
     // The map whose parts are under these locks.
-    fn of_locks(locks: Locks<K, V, A>, hasher: S) -> Self
+    pub(crate) fn of_locks(locks: Locks<K, V, A>, hasher: S) -> Self
         ensures { result ≡ record { hasher = hasher; processors = 1 } }
     {
         HashMap {
@@ -111,6 +111,7 @@ impl<K: Ord + Drop, V: Drop, S: KeyHasher<K>, A: Allocator> HashMap<K, V, S, A> 
     /// The number of pairs, as they are counted at one moment while the call runs: a call that has decided may yet have to count.
     ///
     /// Takes the control's lock. Constant time.
+    // The count is known by its type alone, since other threads change it.
     pub fn len<R: Wait>(&self, rt: &R) -> usize {
         self.locks.len(rt)
     }
@@ -118,6 +119,7 @@ impl<K: Ord + Drop, V: Drop, S: KeyHasher<K>, A: Allocator> HashMap<K, V, S, A> 
     /// Whether that number is 0.
     ///
     /// Takes the control's lock. Constant time.
+    // As of `len`.
     pub fn is_empty<R: Wait>(&self, rt: &R) -> bool {
         self.len(rt) == 0
     }

@@ -1,7 +1,9 @@
 -- The program's words.
-use Rattle.std.specs.Prelude.{◌≡◌, ℕ, List, [], ◌∷◌, ◌++◌, codes, map, Option}
+use Rattle.std.specs.Prelude.{◌≡◌, ℕ, ◌≤◌, List, [], ◌∷◌, ◌++◌, codes, map, Option}
 use Rattle.std.specs.Borrow.{Bor}
+use Rattle.std.specs.Fmt.{decimal}
 use Rattle.std.specs.Io.KnownBytes.{Appends}
+use Rattle.flurry_program.specs.declared.threads.TheConstants.{MOST_THREADS, MOST_KEYS}
 
 -- the texts of a `&[&str]`
 abbrev pub texts : List (Bor (List ℕ)) → List (List ℕ)
@@ -14,6 +16,12 @@ IsSeq words = texts words ≡ codes "seq" ∷ []
 -- they ask for the steps of a world
 abbrev pub IsWorld : List (Bor (List ℕ)) → Type 0
 IsWorld words = texts words ≡ codes "world" ∷ []
+
+-- they ask for so many threads, each with so many keys
+abbrev pub AsksThreads : List (Bor (List ℕ)) → ℕ → ℕ → Type 0
+AsksThreads words threads keys =
+    (texts words ≡ codes "threads" ∷ decimal threads ∷ decimal keys ∷ [])
+    × (1 ≤ threads) × (threads ≤ MOST_THREADS) × (keys ≤ MOST_KEYS)
 
 -- what the program can be asked for, with its line feed
 abbrev pub usage_text : List ℕ

@@ -11,6 +11,7 @@ pub mod Lines
 pub mod Runs
 pub mod ScheduleRuns
 pub mod Schedules
+pub mod Threads
 pub mod Words
 pub use Rattle.flurry_bins.specs.Bin
 pub use Rattle.flurry_bins.specs.PlainEntries

@@ -1,8 +1,8 @@
 //! The program `flurry-run`: its words and lines, and the streams that it reads and writes.
 //!
 //! [`run_words`] does what the program's words ask for, over any reader and any writer. The word `seq` asks for [`seq_lines`],
-//! which answers the lines of an input from one owned map, and the word `world` for [`world_lines`], which does the steps that they ask
-//! for and writes each label. [`exit_code`] is how the program exits with a status.
+//! which answers the lines of an input from one owned map, the word `world` for [`world_lines`], which does the steps that they ask
+//! for and writes each label, and the word `threads` for [`thread_lines`], in which threads insert into one shared map. [`exit_code`] is how the program exits with a status.
 #![tactic(auto)]
 
 pub mod buffers;
@@ -16,6 +16,7 @@ pub mod schedule;
 mod script;
 pub mod seq;
 pub mod streams;
+pub mod threads;
 pub mod words;
 pub mod world;
 
@@ -23,5 +24,6 @@ pub use buffers::{Input, Output};
 pub use exit::exit_code;
 pub use seq::seq_lines;
 pub use streams::{Sink, Source};
+pub use threads::thread_lines;
 pub use words::run_words;
 pub use world::world_lines;

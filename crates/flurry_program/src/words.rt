@@ -1,20 +1,27 @@
 //! The words of the program.
-ghost use Rattle.std.specs.Prelude.{◌≡◌, ◌≢◌, ◌≤◌, [], None};
-ghost use Rattle.flurry_program.specs.Arguments.{IsSeq, IsWorld, TellsUsage};
+ghost use Rattle.std.specs.Prelude.{◌≡◌, ◌≢◌, ◌≤◌, ℕ, [], None, MatchOption};
+ghost use Rattle.std.specs.Fmt.{decimal};
+ghost use Rattle.flurry_program.specs.Arguments.{IsSeq, IsWorld, AsksThreads, TellsUsage};
 ghost use Rattle.flurry_program.specs.SeqReplies.{of_one_map};
 ghost use Rattle.flurry_program.specs.Runs.{UnlessWriteFailed, RunsLines, FailsForCause};
 ghost use Rattle.flurry_program.specs.ScheduleRuns.{of_a_schedule};
+ghost use Rattle.flurry_program.specs.Threads.{TellsLength};
 
+use crate::parse::number;
 use crate::seq::seq_lines;
 use crate::streams::{Sink, Source};
+use crate::threads::{MOST_KEYS, MOST_THREADS, thread_lines};
 use crate::world::world_lines;
 use std::alloc::Allocator;
+use std::sync::Wait;
+use std::thread::Threads;
 
 /// Does what the words ask for, and answers the program's status.
 ///
-/// `["seq"]` runs [`seq_lines`], and `["world"]` runs [`world_lines`]. Other words write a line of usage, with status 2, or 1 where
-/// the write fails.
-pub fn run_words<R: Source, W: Sink, A: Allocator + Copy>(
+/// `["seq"]` runs [`seq_lines`], and `["world"]` runs [`world_lines`]. `["threads", n, m]` runs [`thread_lines`], where n is a number
+/// from 1 to 64, and m one from 0 to 100000. Other words write a line of usage, with status 2, or 1 where the write fails.
+pub fn run_words<T: Threads + Wait + Sync, R: Source, W: Sink, A: Allocator + Copy + Send + Sync>(
+    rt: &T,
     alloc: A,
     words: &[&str],
     reader: &mut R,
@@ -30,14 +37,45 @@ pub fn run_words<R: Source, W: Sink, A: Allocator + Copy>(
         (R.remaining reader.old) (W.contents writer.old) (W.flushed writer.new) (W.has_failed writer.new) result }
     ensures world_cause { IsWorld words.now
         → FailsForCause (R.remaining reader.old) (R.has_failed reader.new) (W.has_failed writer.new) result }
-    ensures other { ¬ IsSeq words.now → ¬ IsWorld words.now
+    ensures threads { (n m : ℕ) → AsksThreads words.now n m
+        → UnlessWriteFailed (W.has_failed writer.new) result
+        (TellsLength (W.contents writer.old) (W.flushed writer.new) result) }
+    ensures other { ¬ IsSeq words.now → ¬ IsWorld words.now → ((n m : ℕ) → ¬ AsksThreads words.now n m)
         → UnlessWriteFailed (W.has_failed writer.new) result
         (TellsUsage (W.contents writer.old) (W.flushed writer.new) result) }
 {
     match *words {
         ["seq"] => seq_lines(alloc, reader, writer),
         ["world"] => world_lines(alloc, reader, writer),
-        _ => tell_usage(writer),
+        _ => match threads_and_keys(words) {
+            Some((threads, keys)) => thread_lines(rt, alloc, threads, keys, writer),
+            None => tell_usage(writer),
+        },
+    }
+}
+
+// How many threads the words ask for, and how many keys for each.
+fn threads_and_keys(words: &[&str]) -> Option<(u64, u64)>
+    ensures { MatchOption result ((n m : ℕ) → ¬ AsksThreads words.now n m) (λ p. AsksThreads words.now p.0 p.1) }
+{
+    match *words {
+        ["threads", threads, keys] => {
+            let threads = number_within(threads, 1, MOST_THREADS)?;
+            let keys = number_within(keys, 0, MOST_KEYS)?;
+            Some((threads, keys))
+        }
+        _ => None,
+    }
+}
+
+// The number that the word is, if it is one from the least to the most.
+fn number_within(word: &str, least: u64, most: u64) -> Option<u64>
+    ensures { MatchOption result ((n : ℕ) → least ≤ n → n ≤ most → word.now ≢ decimal n)
+        (λ n. (least ≤ n) × (n ≤ most) × (word.now ≡ decimal n)) }
+{
+    match number(word.as_bytes()) {
+        Some(number) if least <= number && number <= most => Some(number),
+        _ => None,
     }
 }
 

@@ -15,6 +15,6 @@ fn main(rt: HostRuntime) -> io::Result<ExitCode> {
     let words: Vec<&str> = args.iter().map(|word| word.as_str()).collect(rt.alloc())?;
     let mut reader = Input::new(rt.alloc(), rt.reader())?;
     let mut writer = Output::new(rt.alloc(), io::writer(&rt))?;
-    let status = run_words(rt.alloc(), &words, &mut reader, &mut writer);
+    let status = run_words(&rt, rt.alloc(), &words, &mut reader, &mut writer);
     Ok(exit_code(status))
 }

@@ -11,4 +11,5 @@ pub mod NumberLemmas
 pub mod RoomLaws
 pub mod RunLaws
 pub mod MapsOfBinsLemmas
+pub mod TableLaws
 pub mod TableLemmas

@@ -5,9 +5,7 @@ use Rattle.std.specs.Arc.{arc_value}
 use Rattle.std.specs.declared.sync.Arc.{Arc}
 use Rattle.std.specs.Cmp.{IsTotalOrder}
 use Rattle.std.proofs.lemmas.List.{get_or-map, map-set, map-append, length-map}
-use Rattle.std.proofs.lemmas.Bool.{cases_order, cases_lt}
-use Rattle.std.proofs.Math.Pow.{pow_mono}
-use Rattle.std.proofs.lemmas.Nat.{pow_pos}
+use Rattle.std.proofs.lemmas.Bool.{cases_lt}
 use Rattle.flurry_bins.specs.declared.bin.adaptive.Bin.{Bin}
 use Rattle.flurry_bins.specs.Bin.{entries_of_bin, ascending_of_bin, is_tree, shape_by, shape_of_bin, sized_of_bin}
 use Rattle.flurry_model.specs.BinSizes.{IsSized}
@@ -20,27 +18,9 @@ use Rattle.flurry_model.specs.FiniteMap.{pair_at, with_pair, without}
 use Rattle.flurry_model.specs.HashOrder.{hash_then_key}
 use Rattle.flurry_bins.specs.PlainEntries.{pair_of_entry, pairs_of_entries}
 use Rattle.flurry_bins.proofs.PlainEntryLaws.{pair_of_entry-entry_at, pair_of_entry-without, pair_of_entry-with_entry, pair_of_entry-with_value_at, pair_of_entry-with_bit}
-use Rattle.flurry_seq.specs.Invariant.{IsTableSize}
 use Rattle.flurry_seq.specs.MapsOfBins.{plain_bin, maps_of_bins}
 use Rattle.flurry_seq.specs.Table.{bin_of, bin_at, entry_in, bins_with, bins_without, half_of}
 use Rattle.flurry_seq.proofs.HalvingLemmas.{lows, highs, lows_at, low_half, high_half, halved_more}
-use Rattle.flurry_model.specs.declared.sizes.TheConstants.{GREATEST_TABLE}
-
--- ---- the exponent of a table's size
-
-same_power : (r e : ℕ) → 2 ^ r ≤ 2 ^ e → 2 ^ e < 2 * 2 ^ r → r ≡ e
-same_power r e low high = elim (cases_order r e) [
-  | inl same ↦ same
-  | inr (inl less) ↦ let m : 2 ^ suc r ≤ 2 ^ e = pow_mono (omega arith) in absurd (omega (arith, m, pow-suc 2 r))
-  | inr (inr more) ↦ let m : 2 ^ suc e ≤ 2 ^ r = pow_mono (omega arith) in absurd (omega (arith, m, pow-suc 2 e, pow_pos e))
-]
-
--- a size between a power of two and twice that is that power, at most 2^30
-pub size_power : (n r : ℕ) → IsTableSize n → 0 < n → 2 ^ r ≤ n → n < 2 * 2 ^ r → (r ≤ GREATEST_TABLE) × (n ≡ 2 ^ r)
-size_power n r (inl none) some low high = absurd (omega arith)
-size_power n r (inr (e, small, is)) some low high =
-    let same : r ≡ e = same_power r e (rw is at low) (rw is at high) in
-    (omega arith, is ∙ ap (λ x. 2 ^ x) (sym same))
 
 -- ---- the bin b at the place of the hash h
 

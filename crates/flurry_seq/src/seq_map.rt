@@ -305,6 +305,41 @@ impl<K: Ord + Drop, V: Drop, S: KeyHasher<K>, A: Allocator + Copy> SeqMap<K, V, 
         Ok(None)
     }
 
+    /// Sets the value of a key and answers the old one, as [`SeqMap::insert`] does. The key and the value may have other owners.
+    ///
+    /// # Errors
+    ///
+    /// [`AllocError`], where memory for the pair's node or for a first table is wanting, or where the map has [`MOST_PAIRS`] pairs. The
+    /// map is then as it was.
+    pub fn insert_shared(
+        &mut self,
+        key: Arc<K, A>,
+        value: Arc<V, A>,
+    ) -> Result<Option<Arc<V, A>>, AllocError>
+        ensures old { IfOk result (λ old. option_map arc_value old ≡ value_at K.cmp self.old.pairs (arc_value key)) }
+        ensures pairs { OnOk result (self.new.pairs ≡ with_pair K.cmp self.old.pairs (arc_value key) (arc_value value)) }
+        ensures hasher { self.new.hasher ≡ self.old.hasher }
+        ensures bins { IfOk result (λ old. IsSome old → self.new.bins ≡ self.old.bins) }
+        ensures grown { IfOk result (λ old. IsNone old
+            → IsTableAfter (first_bins self.old.bins FIRST_BINS) (length self.new.pairs) self.new.bins) }
+        ensures err { OnErr result (self.new ≡ self.old) }
+        ensures ascend { IsFiniteMap K.cmp self.old.pairs }
+    {
+        let hash = self.hash_of(key.as_ref());
+        if self.find(hash, key.as_ref()).is_some() {
+            return Ok(Some(self.swap_value(hash, key.as_ref(), value)));
+        }
+        let entry = Entry {
+            hash,
+            key,
+            value,
+            number: 0,
+        };
+        let node = Node::new(*self.allocator(), entry)?;
+        self.add(node)?;
+        Ok(None)
+    }
+
     /// Puts a value at an absent key, and answers it. At a present key nothing changes: the error has the value that stands and
     /// the one that was handed in, and the key is dropped.
     ///

@@ -2,6 +2,9 @@
 
 mod calls;
 mod order;
+mod owned;
+mod refused;
+mod removals;
 mod rows;
 mod threads;
 mod workers;

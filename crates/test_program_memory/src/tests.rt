@@ -4,7 +4,9 @@ use flurry_program::{Output, run_words};
 use std::alloc::Global;
 use std::io;
 use std::process::Abort;
+use std::sync::Wait;
 use std::test::Fail;
+use std::thread::Threads;
 use test_alloc::Refusing;
 
 type Memory = &'static Refusing<Global>;
@@ -15,18 +17,18 @@ type End<'a> = (u8, &'a [u8]);
 // No run makes so many requests.
 const MOST_REQUESTS: u64 = 100;
 
-// Runs the word on the lines with the request numbered k refused: the status, what was written, and whether it made that request.
+// Runs the words on the lines with the request numbered k refused: the status, what was written, and whether it made that request.
 fn run_without(
-    alloc: Global,
+    rt: &(impl AllocGlobal + Threads + Wait + Sync),
     memory: Memory,
     k: u64,
-    word: &str,
+    words: &[&str],
     lines: &[u8],
 ) -> io::Result<(u8, Output<Vec<u8>>, bool)> {
     let mut lines = lines;
-    let mut output = Output::new(alloc, Vec::new(alloc))?;
+    let mut output = Output::new(rt.alloc(), Vec::new(rt.alloc()))?;
     memory.refuse_at(k);
-    let status = run_words(memory, &[word], &mut lines, &mut output);
+    let status = run_words(rt, memory, words, &mut lines, &mut output);
     let refused = memory.refused();
     memory.refuse_nothing();
     Ok((status, output, refused))
@@ -35,15 +37,15 @@ fn run_without(
 // Refuses each request of a run in turn. The run comes to each of these ends, in their order, and to the last where nothing is
 // refused.
 fn refuse_each(
-    rt: &(impl Abort + AllocGlobal),
-    word: &str,
+    rt: &(impl Abort + AllocGlobal + Threads + Wait + Sync),
+    words: &[&str],
     lines: &[u8],
     ends: &[End<'_>],
 ) -> Result<(), Fail> {
     let memory = Refusing::leaked(rt.alloc())?;
     let mut place = 0usize;
     for k in 0..MOST_REQUESTS {
-        let (status, output, refused) = run_without(rt.alloc(), memory, k, word, lines)?;
+        let (status, output, refused) = run_without(rt, memory, k, words, lines)?;
         let end = (status, output.get_ref().as_slice());
         if ends.get(place) != Some(&end) {
             place = place.saturating_add(1);
@@ -66,7 +68,7 @@ fn insertions_into_one_map(rt: HostRuntime) -> Result<(), Fail> {
         (0, b"none\nsome 0\nrefused\n1\n".as_slice()),
         (0, b"none\nsome 0\nnone\n2\n".as_slice()),
     ];
-    refuse_each(&rt, "seq", lines, &ends)
+    refuse_each(&rt, &["seq"], lines, &ends)
 }
 
 #[test]
@@ -77,7 +79,7 @@ fn tries_at_one_map(rt: HostRuntime) -> Result<(), Fail> {
         (0, b"new 0\nsome 0\nrefused\n1\n".as_slice()),
         (0, b"new 0\nsome 0\nnew 0\n2\n".as_slice()),
     ];
-    refuse_each(&rt, "seq", lines, &ends)
+    refuse_each(&rt, &["seq"], lines, &ends)
 }
 
 // Memory is wanting for the world or its first call, for the insertion, or for the fifth label.
@@ -99,7 +101,7 @@ fn insertion_into_a_world(rt: HostRuntime) -> Result<(), Fail> {
             b"begin 0\nsilent 0\ndecide 0 none\nsilent 0\nreply 0 none\n".as_slice(),
         ),
     ];
-    refuse_each(&rt, "world", lines, &ends)
+    refuse_each(&rt, &["world"], lines, &ends)
 }
 
 // The same, for the first table of a world. A look-up after a refused one finds no table.
@@ -121,5 +123,12 @@ fn first_table_of_a_world(rt: HostRuntime) -> Result<(), Fail> {
             b"begin 0\nopened 0\nsilent 0\nbegin 1\nsilent 1\ndecide 1 none\n".as_slice(),
         ),
     ];
-    refuse_each(&rt, "world", lines, &ends)
+    refuse_each(&rt, &["world"], lines, &ends)
+}
+
+// The map's table, and each key with its value and its node.
+#[test]
+fn insertions_of_a_thread(rt: HostRuntime) -> Result<(), Fail> {
+    let ends = [(3, b"out of memory\n".as_slice()), (0, b"3\n".as_slice())];
+    refuse_each(&rt, &["threads", "1", "3"], b"".as_slice(), &ends)
 }

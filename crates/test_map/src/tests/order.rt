@@ -5,7 +5,7 @@ use super::threads::is_set_in_time;
 use super::workers::{count_own, insert_all, remove_even};
 use flurry_map::HashMap;
 use flurry_model::hash::{KeyHasher, LowHashBuilder};
-use std::alloc::{AllocError, Global};
+use std::alloc::{AllocError, Allocator};
 use std::sync::atomic::{AtomicBool, Ordering};
 use std::sync::{Arc, Wait};
 use std::test::Fail;
@@ -13,9 +13,9 @@ use std::thread;
 use std::thread::Threads;
 
 // Holds the bin of key 1 until the flag of another thread is set, and answers whether it was in time.
-fn hold_bin<S: KeyHasher<u64>, R: Wait>(
+fn hold_bin<S: KeyHasher<u64>, A: Allocator + Copy, R: Wait>(
     rt: &R,
-    map: &HashMap<u64, u64, S>,
+    map: &HashMap<u64, u64, S, A>,
     held: &AtomicBool,
     inserted: &AtomicBool,
 ) -> bool {
@@ -30,9 +30,9 @@ fn hold_bin<S: KeyHasher<u64>, R: Wait>(
 }
 
 // Waits until the bin of key 1 is held, and inserts key 2.
-fn insert_beside<S: KeyHasher<u64>, R: Wait>(
+fn insert_beside<S: KeyHasher<u64>, A: Allocator + Copy, R: Wait>(
     rt: &R,
-    map: &HashMap<u64, u64, S>,
+    map: &HashMap<u64, u64, S, A>,
     held: &AtomicBool,
     inserted: &AtomicBool,
 ) -> bool {
@@ -45,10 +45,11 @@ fn insert_beside<S: KeyHasher<u64>, R: Wait>(
 }
 
 // Both at once.
-fn hold_and_insert<S: KeyHasher<u64> + Sync, R: Threads + Wait + Sync>(
-    rt: &R,
-    map: &HashMap<u64, u64, S>,
-) -> (bool, bool) {
+fn hold_and_insert<
+    S: KeyHasher<u64> + Sync,
+    A: Allocator + Copy + Send + Sync,
+    R: Threads + Wait + Sync,
+>(rt: &R, map: &HashMap<u64, u64, S, A>) -> (bool, bool) {
     let held = AtomicBool::new(false);
     let inserted = AtomicBool::new(false);
     thread::join(
@@ -83,7 +84,11 @@ enum Phase {
 }
 
 // Does that, and answers whether all was as it must be.
-fn run_phase<S: KeyHasher<u64>, R: Wait>(rt: &R, map: &HashMap<u64, u64, S>, phase: Phase) -> bool {
+fn run_phase<S: KeyHasher<u64>, A: Allocator + Copy, R: Wait>(
+    rt: &R,
+    map: &HashMap<u64, u64, S, A>,
+    phase: Phase,
+) -> bool {
     match phase {
         Phase::Fill => insert_all(rt, map, 0, 100) == 0,
         Phase::Halve => {
@@ -96,7 +101,10 @@ fn run_phase<S: KeyHasher<u64>, R: Wait>(rt: &R, map: &HashMap<u64, u64, S>, pha
 }
 
 // Whether of the keys below 100 the odd ones have their own numbers as values, and the even ones are absent.
-fn has_odd_alone<S: KeyHasher<u64>, R: Wait>(rt: &R, map: &HashMap<u64, u64, S>) -> bool {
+fn has_odd_alone<S: KeyHasher<u64>, A: Allocator + Copy, R: Wait>(
+    rt: &R,
+    map: &HashMap<u64, u64, S, A>,
+) -> bool {
     for key in 0..100u64 {
         let own = match map.get(rt, &key) {
             Ok(Some(value)) => Some(*value),
@@ -114,11 +122,12 @@ fn has_odd_alone<S: KeyHasher<u64>, R: Wait>(rt: &R, map: &HashMap<u64, u64, S>)
 // Does the work in a thread of its own, and answers what it answered; none where it was not done in time.
 fn in_thread<
     S: KeyHasher<u64> + Send + Sync + Drop + 'static,
+    A: Allocator + Copy + Send + Sync + 'static,
     R: Threads + Wait + Copy + Send + 'static,
 >(
     rt: R,
-    alloc: Global,
-    map: &Arc<HashMap<u64, u64, S>>,
+    alloc: A,
+    map: &Arc<HashMap<u64, u64, S, A>, A>,
     phase: Phase,
 ) -> Result<Option<bool>, AllocError> {
     let done = Arc::new(alloc, AtomicBool::new(false))?;

@@ -2,7 +2,7 @@
 
 use super::{number_at, same, taken};
 use flurry_map::HashMap;
-use flurry_model::hash::{DefaultHashBuilder, KeyHasher, MaxHashBuilder, ZeroHashBuilder};
+use flurry_model::hash::{KeyHasher, MaxHashBuilder, ZeroHashBuilder};
 use std::process::Abort;
 use std::sync::Wait;
 use std::test::Fail;
@@ -27,11 +27,10 @@ fn row_02(rt: HostRuntime) -> Result<(), Fail> {
     Ok(())
 }
 
-fn row_08_with<S: KeyHasher<i32> + Drop, R: Abort + Wait + AllocGlobal>(
+fn row_08_with<S: KeyHasher<i32> + Drop, R: Abort + Wait>(
     rt: &R,
-    hasher: S,
+    map: HashMap<i32, i32, S>,
 ) -> Result<(), Fail> {
-    let map = HashMap::with_hasher(rt.alloc(), hasher);
     for key in 0..1000i32 {
         assert!(rt; map.insert(rt, key, key)?.is_none(), "at {key}");
     }
@@ -48,9 +47,9 @@ fn row_08_with<S: KeyHasher<i32> + Drop, R: Abort + Wait + AllocGlobal>(
 // A thousand signed keys, with one hash for all too.
 #[test]
 fn row_08(rt: HostRuntime) -> Result<(), Fail> {
-    row_08_with(&rt, DefaultHashBuilder::default())?;
-    row_08_with(&rt, ZeroHashBuilder)?;
-    row_08_with(&rt, MaxHashBuilder)
+    row_08_with(&rt, HashMap::new(rt.alloc()))?;
+    row_08_with(&rt, HashMap::with_hasher(rt.alloc(), ZeroHashBuilder))?;
+    row_08_with(&rt, HashMap::with_hasher(rt.alloc(), MaxHashBuilder))
 }
 
 const KEYS: u64 = 50_000;

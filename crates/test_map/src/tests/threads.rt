@@ -4,6 +4,7 @@ use super::workers::{count_missed, count_own, insert_all};
 use super::{TURNS, same};
 use flurry_map::HashMap;
 use flurry_model::hash::{KeyHasher, LowHashBuilder, ZeroHashBuilder};
+use std::alloc::Allocator;
 use std::sync::Wait;
 use std::sync::atomic::{AtomicBool, AtomicU64, Ordering};
 use std::test::Fail;
@@ -22,13 +23,11 @@ pub(super) fn is_set_in_time(flag: &AtomicBool) -> bool {
 }
 
 // Inserts keys in several threads, so many in each: those of a thread begin at its number times the distance.
-fn insert_in_threads<S: KeyHasher<u64> + Sync, R: Threads + Wait + Sync>(
-    rt: &R,
-    map: &HashMap<u64, u64, S>,
-    threads: u64,
-    distance: u64,
-    each: u64,
-) {
+pub(super) fn insert_in_threads<
+    S: KeyHasher<u64> + Sync,
+    A: Allocator + Copy + Send + Sync,
+    R: Threads + Wait + Sync,
+>(rt: &R, map: &HashMap<u64, u64, S, A>, threads: u64, distance: u64, each: u64) {
     thread::scope(thread::scope_env(), rt, |scope| {
         for part in 0..threads {
             let from = part.saturating_mul(distance);
@@ -63,9 +62,9 @@ fn four_threads_insert_keys_of_one_hash(rt: HostRuntime) -> Result<(), Fail> {
 }
 
 // Inserts 64 keys, waits for the other thread to have done so, and answers how many of its keys are found.
-fn insert_and_read<S: KeyHasher<u64>, R: Wait>(
+fn insert_and_read<S: KeyHasher<u64>, A: Allocator + Copy, R: Wait>(
     rt: &R,
-    map: &HashMap<u64, u64, S>,
+    map: &HashMap<u64, u64, S, A>,
     own: (u64, &AtomicBool),
     other: (u64, &AtomicBool),
 ) -> u64 {
@@ -78,10 +77,11 @@ fn insert_and_read<S: KeyHasher<u64>, R: Wait>(
 }
 
 // Two threads insert 64 keys each; then each reads those of the other, and answers how many it found.
-fn insert_and_read_in_threads<S: KeyHasher<u64> + Sync, R: Threads + Wait + Sync>(
-    rt: &R,
-    map: &HashMap<u64, u64, S>,
-) -> (u64, u64) {
+fn insert_and_read_in_threads<
+    S: KeyHasher<u64> + Sync,
+    A: Allocator + Copy + Send + Sync,
+    R: Threads + Wait + Sync,
+>(rt: &R, map: &HashMap<u64, u64, S, A>) -> (u64, u64) {
     let first = AtomicBool::new(false);
     let second = AtomicBool::new(false);
     thread::join(
@@ -103,18 +103,22 @@ fn two_threads_read_each_other(rt: HostRuntime) -> Result<(), Fail> {
 }
 
 // Makes room, and then inserts so many keys from 16 on.
-fn grow<S: KeyHasher<u64>, R: Wait>(rt: &R, map: &HashMap<u64, u64, S>, room: usize, keys: u64) {
+fn grow<S: KeyHasher<u64>, A: Allocator + Copy, R: Wait>(
+    rt: &R,
+    map: &HashMap<u64, u64, S, A>,
+    room: usize,
+    keys: u64,
+) {
     let _ = map.reserve(rt, room);
     insert_all(rt, map, 16, keys.saturating_add(16));
 }
 
 // Looks in eight threads for the keys below 16, 512 times in each, while a ninth makes the map larger. Answers how often one was missed.
-fn look_while_it_grows<S: KeyHasher<u64> + Sync, R: Threads + Wait + Sync>(
-    rt: &R,
-    map: &HashMap<u64, u64, S>,
-    room: usize,
-    keys: u64,
-) -> u64 {
+fn look_while_it_grows<
+    S: KeyHasher<u64> + Sync,
+    A: Allocator + Copy + Send + Sync,
+    R: Threads + Wait + Sync,
+>(rt: &R, map: &HashMap<u64, u64, S, A>, room: usize, keys: u64) -> u64 {
     let missed = AtomicU64::new(0);
     let missed_by_all = &missed;
     thread::scope(thread::scope_env(), rt, |scope| {
@@ -155,11 +159,11 @@ fn eight_threads_look_while_a_ninth_inserts(rt: HostRuntime) -> Result<(), Fail>
 }
 
 // Moves a map into a thread of its own, which counts the keys below this one and drops the map.
-fn count_in_thread<S: KeyHasher<u64> + Send + Sync + Drop, R: Threads + Wait + Sync>(
-    rt: &R,
-    map: HashMap<u64, u64, S>,
-    below: u64,
-) -> Option<u64> {
+fn count_in_thread<
+    S: KeyHasher<u64> + Send + Sync + Drop,
+    A: Allocator + Copy + Send + Sync,
+    R: Threads + Wait + Sync,
+>(rt: &R, map: HashMap<u64, u64, S, A>, below: u64) -> Option<u64> {
     thread::scope(thread::scope_env(), rt, |scope| {
         match scope.spawn(move || count_own(rt, &map, 0, below)) {
             Ok(child) => Some(child.join(rt)),

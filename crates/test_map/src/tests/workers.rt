@@ -2,13 +2,14 @@
 
 use flurry_map::HashMap;
 use flurry_model::hash::KeyHasher;
+use std::alloc::Allocator;
 use std::sync::Wait;
 use std::sync::atomic::{AtomicU64, Ordering};
 
 // Inserts the keys from the first one on to the last but one, each with its own number, and answers how many were refused.
-pub(super) fn insert_all<S: KeyHasher<u64>, R: Wait>(
+pub(super) fn insert_all<S: KeyHasher<u64>, A: Allocator + Copy, R: Wait>(
     rt: &R,
-    map: &HashMap<u64, u64, S>,
+    map: &HashMap<u64, u64, S, A>,
     from: u64,
     to: u64,
 ) -> u64 {
@@ -22,9 +23,9 @@ pub(super) fn insert_all<S: KeyHasher<u64>, R: Wait>(
 }
 
 // How many of these keys have their own number as their value.
-pub(super) fn count_own<S: KeyHasher<u64>, R: Wait>(
+pub(super) fn count_own<S: KeyHasher<u64>, A: Allocator + Copy, R: Wait>(
     rt: &R,
-    map: &HashMap<u64, u64, S>,
+    map: &HashMap<u64, u64, S, A>,
     from: u64,
     to: u64,
 ) -> u64 {
@@ -40,9 +41,9 @@ pub(super) fn count_own<S: KeyHasher<u64>, R: Wait>(
 }
 
 // Looks so many times for the keys below this one, in their order, and counts how often one was missed.
-pub(super) fn count_missed<S: KeyHasher<u64>, R: Wait>(
+pub(super) fn count_missed<S: KeyHasher<u64>, A: Allocator + Copy, R: Wait>(
     rt: &R,
-    map: &HashMap<u64, u64, S>,
+    map: &HashMap<u64, u64, S, A>,
     below: u64,
     times: u32,
     missed: &AtomicU64,
@@ -56,9 +57,9 @@ pub(super) fn count_missed<S: KeyHasher<u64>, R: Wait>(
 }
 
 // Removes the even keys below this one, and answers how many were there with their own number as their value.
-pub(super) fn remove_even<S: KeyHasher<u64>, R: Wait>(
+pub(super) fn remove_even<S: KeyHasher<u64>, A: Allocator + Copy, R: Wait>(
     rt: &R,
-    map: &HashMap<u64, u64, S>,
+    map: &HashMap<u64, u64, S, A>,
     below: u64,
 ) -> u64 {
     let mut removed = 0u64;

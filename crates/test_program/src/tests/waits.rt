@@ -1,10 +1,12 @@
 //! What was answered is written out before a read that may wait.
 
+use super::same;
 use flurry_program::{Input, Output, run_words};
 use std::cell::Cell;
 use std::io::{self, Read, Write};
 use std::process::Abort;
-use std::test::Fail;
+use std::sync::Wait;
+use std::thread::Threads;
 
 /// A reader that gives a piece at each read, and knows how many bytes are to be written out before it.
 #[derive(Drop)]
@@ -46,10 +48,10 @@ impl Write for Counts<'_> {
 
 // Each piece is read once so many bytes are written out.
 fn writes_before(
-    rt: &(impl Abort + AllocGlobal),
+    rt: &(impl Abort + AllocGlobal + Threads + Wait + Sync),
     word: &str,
     pieces: &[(usize, &[u8])],
-) -> Result<(), Fail> {
+) {
     let out = Cell::new(0);
     let mut reader = Pieces {
         pieces,
@@ -57,17 +59,22 @@ fn writes_before(
         out: &out,
         on_time: true,
     };
-    let mut input = Input::new(rt.alloc(), &mut reader)?;
-    let mut output = Output::new(rt.alloc(), Counts(&out))?;
-    assert_eq!(rt; run_words(rt.alloc(), &[word], &mut input, &mut output), 0);
+    let made = Input::new(rt.alloc(), &mut reader);
+    let mut input = made.expect(rt, "memory for the input");
+    let made = Output::new(rt.alloc(), Counts(&out));
+    let mut output = made.expect(rt, "memory for the output");
+    same(
+        rt,
+        run_words(rt, rt.alloc(), &[word], &mut input, &mut output),
+        0,
+    );
     drop(input);
-    assert!(rt; reader.on_time);
-    assert_eq!(rt; reader.given, pieces.len());
-    Ok(())
+    same(rt, reader.on_time, true);
+    same(rt, reader.given, pieces.len());
 }
 
 #[test]
-fn lines_of_one_map(rt: HostRuntime) -> Result<(), Fail> {
+fn lines_of_one_map(rt: HostRuntime) {
     let pieces = [
         (0, b"len\nle".as_slice()),
         (2, b"n\nlen\nlen\n".as_slice()),
@@ -77,7 +84,7 @@ fn lines_of_one_map(rt: HostRuntime) -> Result<(), Fail> {
 }
 
 #[test]
-fn lines_of_a_world(rt: HostRuntime) -> Result<(), Fail> {
+fn lines_of_a_world(rt: HostRuntime) {
     let pieces = [
         (0, b"world 1 0\nbegin get 3\nst".as_slice()),
         (8, b"ep 0 1\n".as_slice()),

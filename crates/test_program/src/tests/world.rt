@@ -1,26 +1,19 @@
 //! Schedules over bytes in memory.
 
-use super::output;
+use super::{output, same};
 use flurry_program::world_lines;
 use std::process::Abort;
-use std::test::Fail;
 
 // The lines end in the status, and are answered by so much.
-fn answers(
-    rt: &(impl Abort + AllocGlobal),
-    lines: &[u8],
-    status: u8,
-    want: &[u8],
-) -> Result<(), Fail> {
+fn answers(rt: &(impl Abort + AllocGlobal), lines: &[u8], status: u8, want: &[u8]) {
     let mut lines = lines;
-    let mut output = output(rt.alloc())?;
-    assert_eq!(rt; world_lines(rt.alloc(), &mut lines, &mut output), status);
-    assert_eq!(rt; output.get_ref().as_slice(), want);
-    Ok(())
+    let mut output = output(rt);
+    same(rt, world_lines(rt.alloc(), &mut lines, &mut output), status);
+    same(rt, output.get_ref().as_slice(), want);
 }
 
 #[test]
-fn insert_and_get(rt: HostRuntime) -> Result<(), Fail> {
+fn insert_and_get(rt: HostRuntime) {
     let lines = b"world 1 0\nbegin insert 3 4\nstep 0 5\nbegin get 3\nstep 1 4\n".as_slice();
     let want =
         b"begin 0\nopened 4\ndecide 0 none\nsilent 0\nreply 0 none\nsilent 0\nbegin 1\nsilent 1\ndecide 1 some 4\nreply 1 some 4\nsilent 1\n".as_slice();
@@ -28,14 +21,14 @@ fn insert_and_get(rt: HostRuntime) -> Result<(), Fail> {
 }
 
 #[test]
-fn reserve_of_nothing(rt: HostRuntime) -> Result<(), Fail> {
+fn reserve_of_nothing(rt: HostRuntime) {
     let lines = b"world 1 0\nbegin reserve 0\nstep 0 3\n".as_slice();
     let want = b"begin 0\nopened 0\nsilent 0\nend 0\n".as_slice();
     answers(&rt, lines, 0, want)
 }
 
 #[test]
-fn row_14(rt: HostRuntime) -> Result<(), Fail> {
+fn row_14(rt: HostRuntime) {
     let lines = b"world 2 32\n\
         begin insert 50 50\nstep 0 4\n\
         begin reserve 30\nstep 1 3\n\
@@ -66,7 +59,7 @@ fn row_14(rt: HostRuntime) -> Result<(), Fail> {
 }
 
 #[test]
-fn try_and_remove(rt: HostRuntime) -> Result<(), Fail> {
+fn try_and_remove(rt: HostRuntime) {
     let lines = b"world 1 1\n\
         begin try 3 4\nstep 0 4\n\
         begin try 3 5\nstep 1 3\n\
@@ -82,20 +75,20 @@ fn try_and_remove(rt: HostRuntime) -> Result<(), Fail> {
 }
 
 #[test]
-fn no_lines(rt: HostRuntime) -> Result<(), Fail> {
-    answers(&rt, b"".as_slice(), 0, b"".as_slice())?;
+fn no_lines(rt: HostRuntime) {
+    answers(&rt, b"".as_slice(), 0, b"".as_slice());
     answers(&rt, b"world 1 0".as_slice(), 0, b"".as_slice())
 }
 
 #[test]
-fn no_steps_and_unknown_parties(rt: HostRuntime) -> Result<(), Fail> {
+fn no_steps_and_unknown_parties(rt: HostRuntime) {
     let lines = b"world 1 0\nstep 0 0\nstep 7 1\nbegin get 0\nstep 1 2".as_slice();
     let want = b"silent 7\nbegin 0\nsilent 1\nsilent 1\n".as_slice();
     answers(&rt, lines, 0, want)
 }
 
 #[test]
-fn bad_first_lines(rt: HostRuntime) -> Result<(), Fail> {
+fn bad_first_lines(rt: HostRuntime) {
     for line in [
         b"world 1\n".as_slice(),
         b"world 1 0 0\n".as_slice(),
@@ -104,22 +97,25 @@ fn bad_first_lines(rt: HostRuntime) -> Result<(), Fail> {
         b"step 0 1\n".as_slice(),
         b"\n".as_slice(),
     ] {
-        answers(&rt, line, 2, b"bad line 1\n".as_slice())?;
+        answers(&rt, line, 2, b"bad line 1\n".as_slice());
     }
-    Ok(())
 }
 
 // The line is bad after a call began.
-fn is_bad(rt: &(impl Abort + AllocGlobal), line: &[u8]) -> Result<(), Fail> {
+fn is_bad(rt: &(impl Abort + AllocGlobal), line: &[u8]) {
     let mut lines = Vec::new(rt.alloc());
-    lines.extend_from_slice(b"world 1 0\nbegin get 3\n".as_slice())?;
-    lines.extend_from_slice(line)?;
-    lines.extend_from_slice(b"\nstep 0 1\n".as_slice())?;
+    lines
+        .extend_from_slice(b"world 1 0\nbegin get 3\n".as_slice())
+        .expect(rt, "memory");
+    lines.extend_from_slice(line).expect(rt, "memory");
+    lines
+        .extend_from_slice(b"\nstep 0 1\n".as_slice())
+        .expect(rt, "memory");
     answers(rt, lines.as_slice(), 2, b"begin 0\nbad line 3\n".as_slice())
 }
 
 #[test]
-fn bad_lines(rt: HostRuntime) -> Result<(), Fail> {
+fn bad_lines(rt: HostRuntime) {
     for line in [
         b"world 1".as_slice(),
         b"world 1 0".as_slice(),
@@ -139,7 +135,6 @@ fn bad_lines(rt: HostRuntime) -> Result<(), Fail> {
         b"".as_slice(),
         b"begin get 0000000000000000000000000000000000000000000000000000001".as_slice(),
     ] {
-        is_bad(&rt, line)?;
+        is_bad(&rt, line);
     }
-    Ok(())
 }

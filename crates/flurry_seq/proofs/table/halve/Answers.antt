@@ -4,7 +4,8 @@ use Rattle.flurry_bins.specs.Bin.{entries_of_bin}
 use Rattle.flurry_model.proofs.ListParts.{all_append}
 use Rattle.flurry_seq.proofs.NumberLemmas.{all_at, all_filter, all_set}
 use Rattle.flurry_seq.specs.MapsOfBins.{plain_bin, maps_of_bins}
-use Rattle.flurry_seq.proofs.MapsOfBinsLemmas.{size_power, halved_here}
+use Rattle.flurry_seq.proofs.MapsOfBinsLemmas.{halved_here}
+use Rattle.flurry_seq.proofs.TableLaws.{size_power}
 use Rattle.flurry_seq.proofs.HalvingLemmas.{halved_all}
 use Rattle.flurry_seq.proofs.table.halve.Goals as goal
 

@@ -1,5 +1,5 @@
 use Rattle.std.proofs.Common.{◌≡◌, ◌%◌, length, ap, sym, ◌∙◌, arith}
-use Rattle.flurry_seq.proofs.MapsOfBinsLemmas.{size_power}
+use Rattle.flurry_seq.proofs.TableLaws.{size_power}
 use Rattle.flurry_seq.proofs.table.place.Goals as goal
 
 pub bin_index-requires : goal.bin_index-requires

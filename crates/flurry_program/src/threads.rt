@@ -1,0 +1,113 @@
+//! Threads that share one map.
+ghost use Rattle.std.specs.Prelude.{◌≤◌, OnErr, IfOk, IsTrue};
+ghost use Rattle.flurry_program.specs.Runs.{UnlessWriteFailed};
+ghost use Rattle.flurry_program.specs.Threads.{TellsLength};
+ghost use Rattle.flurry_program.specs.declared.threads.TheConstants.{MOST_THREADS, MOST_KEYS};
+
+use crate::ends::out_of_memory;
+use crate::streams::Sink;
+use flurry_map::HashMap;
+use flurry_model::hash::KeyHasher;
+use std::alloc::Allocator;
+use std::sync::Wait;
+use std::sync::atomic::{AtomicBool, Ordering};
+use std::thread::Threads;
+use std::{io, thread};
+
+/// The most threads that [`thread_lines`] can be asked for.
+pub const MOST_THREADS: u64 = 64;
+
+/// The most keys that each of them can be asked to insert.
+pub const MOST_KEYS: u64 = 100_000;
+
+/// Inserts keys into one map in so many threads, so many in each, and writes how many keys the map then has. Answers the program's
+/// status.
+///
+/// Thread t, counted from 0, inserts the keys from t times `keys` on, each with itself as its value. The keys of a thread that cannot be
+/// started are inserted by the caller's own. Where memory for a key is wanting, `out of memory` is written in place of the length, with
+/// status 3. A failed write or flush is status 1, and all else status 0.
+pub fn thread_lines<R: Threads + Wait + Sync, W: Sink, A: Allocator + Send + Sync>(
+    rt: &R,
+    alloc: A,
+    threads: u64,
+    keys: u64,
+    writer: &mut W,
+) -> u8
+    requires threads { threads ≤ MOST_THREADS }
+    requires keys { keys ≤ MOST_KEYS }
+    ensures { UnlessWriteFailed (W.has_failed writer.new) result
+        (TellsLength (W.contents writer.old) (W.flushed writer.new) result) }
+{
+    // The allocator is lent to the map, which then has the same size whatever the allocator is.
+    let map = HashMap::new(&alloc).with_processors(threads as usize);
+    match tell_length(fill(rt, map, threads, keys), writer) {
+        Ok(status) => match writer.flush() {
+            Ok(()) => status,
+            Err(_) => 1,
+        },
+        Err(_) => 1,
+    }
+}
+
+// Writes how many keys there are, or that memory was wanting.
+fn tell_length<W: Sink>(length: Option<usize>, writer: &mut W) -> io::Result<u8>
+    ensures failed { OnErr result (IsTrue (W.has_failed writer.new)) }
+    ensures length { IfOk result (TellsLength (W.contents writer.old) (W.contents writer.new)) }
+{
+    match length {
+        Some(length) => {
+            writer.write_line(length)?;
+            Ok(0)
+        }
+        None => out_of_memory(writer),
+    }
+}
+
+// Fills a map in so many threads with so many keys in each, and answers how many it then has; none where one was refused.
+fn fill<
+    S: KeyHasher<u64> + Sync + Drop,
+    R: Threads + Wait + Sync,
+    A: Allocator + Copy + Send + Sync,
+>(rt: &R, map: HashMap<u64, u64, S, A>, threads: u64, keys: u64) -> Option<usize> {
+    if insert_in_threads(rt, &map, threads, keys) {
+        Some(map.len(rt))
+    } else {
+        None
+    }
+}
+
+// Inserts so many keys in each of so many threads, and answers whether all were inserted.
+fn insert_in_threads<
+    S: KeyHasher<u64> + Sync,
+    R: Threads + Wait + Sync,
+    A: Allocator + Copy + Send + Sync,
+>(rt: &R, map: &HashMap<u64, u64, S, A>, threads: u64, keys: u64) -> bool {
+    let refused = AtomicBool::new(false);
+    let refused_to_all = &refused;
+    thread::scope(thread::scope_env(), rt, |scope| {
+        for number in 0..threads {
+            let first = number.saturating_mul(keys);
+            let child = scope.spawn(move || insert_keys(rt, map, first, keys, refused_to_all));
+            if child.is_err() {
+                insert_keys(rt, map, first, keys, refused_to_all);
+            }
+        }
+    });
+    !refused.load(Ordering::SeqCst)
+}
+
+// Inserts so many keys from the first one on, until one is refused, and tells it if one is.
+fn insert_keys<S: KeyHasher<u64>, R: Wait, A: Allocator + Copy>(
+    rt: &R,
+    map: &HashMap<u64, u64, S, A>,
+    first: u64,
+    keys: u64,
+    refused: &AtomicBool,
+) {
+    for key in first..first.saturating_add(keys) {
+        if map.insert(rt, key, key).is_err() {
+            refused.store(true, Ordering::SeqCst);
+            return;
+        }
+    }
+}

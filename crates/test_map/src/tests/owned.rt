@@ -1,0 +1,103 @@
+//! A map of one owner that threads share, and that one owner has again.
+
+use super::workers::{count_own, insert_all, remove_even};
+use super::{same, taken};
+use flurry_map::HashMap;
+use flurry_model::hash::{DefaultHashBuilder, KeyHasher, LowHashBuilder, ZeroHashBuilder};
+use flurry_seq::SeqMap;
+use std::alloc::Global;
+use std::process::Abort;
+use std::sync::{Arc, Wait};
+use std::test::Fail;
+
+// An owned map of the keys below a count, each with its own number.
+fn owned<S: KeyHasher<u64> + Drop>(
+    alloc: Global,
+    hasher: S,
+    count: u64,
+) -> Result<SeqMap<u64, u64, S>, Fail> {
+    let mut map = SeqMap::with_hasher(alloc, hasher);
+    for key in 0..count {
+        map.insert(key, key)?;
+    }
+    Ok(map)
+}
+
+// How many of the odd keys below a count have their own number in an owned map.
+fn count_odd<S: KeyHasher<u64>>(map: &SeqMap<u64, u64, S>, below: u64) -> u64 {
+    let mut own = 0u64;
+    for half in 0..below / 2 {
+        let key = half.saturating_mul(2).saturating_add(1);
+        if let Some(value) = map.get(&key) {
+            if **value == key {
+                own = own.saturating_add(1);
+            }
+        }
+    }
+    own
+}
+
+// The shared map of an owned one.
+fn shared<S: KeyHasher<u64> + Drop, R: Wait>(
+    rt: &R,
+    map: SeqMap<u64, u64, S>,
+) -> Result<HashMap<u64, u64, S>, Fail> {
+    match HashMap::from_seq(rt, map) {
+        Ok(map) => Ok(map),
+        Err(_) => Err(Fail::from("there is memory")),
+    }
+}
+
+// Of the keys below a count, half go from the shared map, and one owner has the others.
+fn halve_and_own<S: KeyHasher<u64> + Drop, R: Abort + Wait>(
+    rt: &R,
+    map: HashMap<u64, u64, S>,
+    count: u64,
+) -> Result<(), Fail> {
+    same(rt, map.len(rt) as u64, count);
+    same(rt, count_own(rt, &map, 0, count), count);
+    same(rt, remove_even(rt, &map, count), count.div_ceil(2));
+    let map = map.into_seq(rt)?;
+    same(rt, map.len() as u64, count / 2);
+    same(rt, count_odd(&map, count), count / 2);
+    Ok(())
+}
+
+#[test]
+fn owned_and_shared_and_owned_again(rt: HostRuntime) -> Result<(), Fail> {
+    let map = owned(rt.alloc(), DefaultHashBuilder::default(), 10_000)?;
+    halve_and_own(&rt, shared(&rt, map)?, 10_000)?;
+    let map = owned(rt.alloc(), ZeroHashBuilder, 100)?;
+    halve_and_own(&rt, shared(&rt, map)?, 100)?;
+    for count in 0..2u64 {
+        let map = owned(rt.alloc(), LowHashBuilder, count)?;
+        halve_and_own(&rt, shared(&rt, map)?, count)?;
+    }
+    Ok(())
+}
+
+// The shared map grows from the owned map's table on.
+#[test]
+fn a_shared_map_of_an_owned_one_grows(rt: HostRuntime) -> Result<(), Fail> {
+    let map = shared(&rt, owned(rt.alloc(), LowHashBuilder, 100)?)?;
+    same(&rt, insert_all(&rt, &map, 100, 1000), 0);
+    same(&rt, map.len(&rt), 1000);
+    same(&rt, count_own(&rt, &map, 0, 1000), 1000);
+    Ok(())
+}
+
+// What was handed out before stays with its owners.
+#[test]
+fn a_value_has_its_other_owner_still(rt: HostRuntime) -> Result<(), Fail> {
+    let map = owned(rt.alloc(), LowHashBuilder, 1)?;
+    let Some(value) = map.get(&0) else {
+        return Err(Fail::from("the key is present"));
+    };
+    let value = Arc::try_clone(value)?;
+    let map = shared(&rt, map)?;
+    same(&rt, taken(map.insert(&rt, 0, 7)?), Some(0));
+    let map = map.into_seq(&rt)?;
+    same(&rt, map.get(&0).map(|value| **value), Some(7));
+    same(&rt, *value, 0);
+    Ok(())
+}

@@ -1,0 +1,184 @@
+//! Calls of a shared map of which a request for memory is refused.
+
+use super::same;
+use super::threads::insert_in_threads;
+use super::workers::count_own;
+use flurry_map::HashMap;
+use flurry_model::hash::LowHashBuilder;
+use flurry_seq::SeqMap;
+use std::alloc::Global;
+use std::process::Abort;
+use std::sync::Wait;
+use std::test::Fail;
+use test_alloc::Refusing;
+
+type Memory = &'static Refusing<Global>;
+
+type Numbers = HashMap<u64, u64, LowHashBuilder, Memory>;
+
+// A call that may be refused.
+#[derive(Clone, Copy)]
+enum Call {
+    Insert,
+    TryInsert,
+    Compute,
+    Get,
+    Reserve,
+}
+
+// Makes the call, of key 99 or of the key 0, and answers whether it was done.
+fn is_done<R: Wait>(rt: &R, map: &Numbers, call: Call) -> bool {
+    match call {
+        Call::Insert => map.insert(rt, 99, 1).is_ok(),
+        Call::TryInsert => map.try_insert(rt, 99, 1).is_ok(),
+        Call::Compute => map.compute_if_present(rt, &0, |_, _| Some(1)).is_ok(),
+        Call::Get => map.get(rt, &0).is_ok(),
+        Call::Reserve => map.reserve(rt, 100).is_ok(),
+    }
+}
+
+// A map of the keys below a count, each with its own number.
+fn numbers<R: Wait>(rt: &R, memory: Memory, count: u64) -> Result<Numbers, Fail> {
+    let map = HashMap::with_hasher(memory, LowHashBuilder);
+    for key in 0..count {
+        map.insert(rt, key, key)?;
+    }
+    Ok(map)
+}
+
+// The call with its request numbered k refused: whether that request was made, whether the call was done, whether the pairs that stood
+// stand, and how many there are.
+fn call_without<R: Wait>(
+    rt: &R,
+    memory: Memory,
+    keys: u64,
+    call: Call,
+    k: u64,
+) -> Result<(bool, bool, bool, usize), Fail> {
+    let map = numbers(rt, memory, keys)?;
+    memory.refuse_at(k);
+    let done = is_done(rt, &map, call);
+    let refused = memory.refused();
+    memory.refuse_nothing();
+    let stand = count_own(rt, &map, 0, keys) == keys;
+    Ok((refused, done, stand, map.len(rt)))
+}
+
+// Each of so many requests of the call is refused in turn, in a map of so many keys: the call is refused, and the pairs stay.
+fn refuse_each<R: Abort + Wait>(
+    rt: &R,
+    memory: Memory,
+    keys: u64,
+    call: Call,
+    requests: u64,
+) -> Result<(), Fail> {
+    for k in 0..requests {
+        let seen = call_without(rt, memory, keys, call, k)?;
+        same(rt, (k, seen), (k, (true, false, true, keys as usize)));
+        same(rt, memory.blocks(), 0);
+    }
+    let (refused, done, _, _) = call_without(rt, memory, keys, call, requests)?;
+    same(rt, (refused, done), (false, true));
+    Ok(())
+}
+
+#[test]
+fn each_request_of_a_call(rt: HostRuntime) -> Result<(), Fail> {
+    let memory = Refusing::leaked(rt.alloc())?;
+    refuse_each(&rt, memory, 0, Call::Insert, 5)?;
+    refuse_each(&rt, memory, 1, Call::Insert, 3)?;
+    refuse_each(&rt, memory, 0, Call::TryInsert, 5)?;
+    refuse_each(&rt, memory, 1, Call::TryInsert, 3)?;
+    refuse_each(&rt, memory, 0, Call::Compute, 0)?;
+    refuse_each(&rt, memory, 1, Call::Compute, 1)?;
+    refuse_each(&rt, memory, 1, Call::Get, 0)?;
+    refuse_each(&rt, memory, 0, Call::Reserve, 4)?;
+    refuse_each(&rt, memory, 1, Call::Reserve, 10)
+}
+
+// Where the larger table finds no memory, the insertion is done in the old one.
+#[test]
+fn a_larger_table_of_an_insertion(rt: HostRuntime) -> Result<(), Fail> {
+    let memory = Refusing::leaked(rt.alloc())?;
+    for k in 3..5u64 {
+        let seen = call_without(&rt, memory, 11, Call::Insert, k)?;
+        same(&rt, (k, seen), (k, (true, true, true, 12)));
+    }
+    Ok(())
+}
+
+#[test]
+fn a_map_with_room(rt: HostRuntime) -> Result<(), Fail> {
+    let memory = Refusing::leaked(rt.alloc())?;
+    for k in 0..3u64 {
+        memory.refuse_at(k);
+        let map: Result<Numbers, _> = HashMap::with_capacity_and_hasher(memory, 5, LowHashBuilder);
+        same(&rt, (k, map.is_ok()), (k, k == 2));
+        memory.refuse_nothing();
+        drop(map);
+        same(&rt, memory.blocks(), 0);
+    }
+    Ok(())
+}
+
+// An owned map of three keys, each with its own number.
+fn three_keys(memory: Memory) -> Result<SeqMap<u64, u64, LowHashBuilder, Memory>, Fail> {
+    let mut map = SeqMap::with_hasher(memory, LowHashBuilder);
+    for key in 0..3u64 {
+        map.insert(key, key)?;
+    }
+    Ok(map)
+}
+
+// The owned map comes back with its pairs.
+#[test]
+fn the_tables_of_a_shared_map(rt: HostRuntime) -> Result<(), Fail> {
+    let memory = Refusing::leaked(rt.alloc())?;
+    for k in 0..2u64 {
+        let map = three_keys(memory)?;
+        memory.refuse_at(k);
+        let answer = HashMap::from_seq(&rt, map);
+        memory.refuse_nothing();
+        let Err(map) = answer else {
+            return Err(Fail::from("the request was refused"));
+        };
+        same(&rt, (k, map.len(), map.capacity()), (k, 3, 16));
+        same(&rt, map == three_keys(memory)?, true);
+    }
+    same(&rt, memory.blocks(), 0);
+    Ok(())
+}
+
+// The owned map again asks for its table and a node of each pair.
+#[test]
+fn the_requests_of_an_owned_map_again(rt: HostRuntime) -> Result<(), Fail> {
+    let memory = Refusing::leaked(rt.alloc())?;
+    for k in 0..5u64 {
+        let map = numbers(&rt, memory, 3)?;
+        memory.refuse_at(k);
+        let answer = map.into_seq(&rt);
+        memory.refuse_nothing();
+        same(&rt, (k, answer.is_ok()), (k, k == 4));
+        drop(answer);
+        same(&rt, memory.blocks(), 0);
+    }
+    Ok(())
+}
+
+// Four threads insert while memory runs out: the pairs that stood stay, and the count is that of the keys which are there.
+#[test]
+fn threads_without_memory(rt: HostRuntime) -> Result<(), Fail> {
+    let memory = Refusing::leaked(rt.alloc())?;
+    for k in [0u64, 100, 1000] {
+        let map = numbers(&rt, memory, 16)?;
+        memory.refuse_from(k);
+        insert_in_threads(&rt, &map, 4, 1000, 1000);
+        memory.refuse_nothing();
+        same(&rt, (k, count_own(&rt, &map, 0, 16)), (k, 16));
+        let there = count_own(&rt, &map, 0, 4000);
+        same(&rt, (k, map.len(&rt) as u64), (k, there));
+        drop(map);
+        same(&rt, memory.blocks(), 0);
+    }
+    Ok(())
+}
