@@ -12,8 +12,7 @@ use Rattle.std.specs.List.Sorted.{IsStrictlySortedBy}
 use Rattle.std.specs.Map.{keys_of}
 use Rattle.flurry_model.specs.HashOrder.{InRegion}
 use Rattle.flurry_bins.specs.PlainEntries.{AllInRegion}
-use Rattle.std.specs.Option.{option_map, option_copied, IsNone, IsSome}
-use Rattle.std.specs.Borrow.{Bor}
+use Rattle.std.specs.Option.{option_map, IsNone, IsSome}
 use Rattle.std.specs.Arc.{arc_value}
 use Rattle.std.specs.declared.sync.Arc.{Arc}
 use Rattle.flurry_bins.specs.declared.bin.entry.Entry.{Entry}

@@ -10,7 +10,7 @@ use Rattle.flurry_bins.specs.Entries.{IsAscending, list_way}
 use Rattle.flurry_bins.specs.Short.{short_list, list_way-short}
 use Rattle.flurry_bins.specs.WayBound.{way_bound, way_within}
 use Rattle.std.specs.declared.cmp.Ordering.{Ordering}
-use Rattle.std.proofs.Common.{arith, ◌^◌}
+use Rattle.std.proofs.Common.{arith}
 use Rattle.flurry_model.specs.declared.sizes.TheConstants.{MOST_PAIRS}
 
 abbrev pub kind_entries : {K V A : Type 0} {o : _} {e : _} {p : _} → Kind K V A o e p → List (Entry K V A)

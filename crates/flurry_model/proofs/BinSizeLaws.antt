@@ -1,7 +1,6 @@
 -- Laws of lists and trees, and of how many entries they have.
-use Rattle.std.proofs.Common.{◌≡◌, ℕ, ◌+◌, ◌<◌, ◌≤◌, arith, refl, ◌∙◌, Bool, true, false, not, ◌&&◌, ◌||◌, nat_le, inl, inr, List, length}
+use Rattle.std.proofs.Common.{◌≡◌, ℕ, ◌+◌, ◌<◌, ◌≤◌, arith, refl, Bool, true, false, ◌&&◌, ◌||◌, nat_le, inl, inr, List, length}
 use Rattle.std.specs.Prelude.{◌==◌}
-use Rattle.std.proofs.lemmas.Bool.{eqb-true}
 use Rattle.std.proofs.lemmas.Bool.Decides.{leb_tells, nat_tests}
 use Rattle.std.specs.List.{filter}
 use Rattle.std.proofs.lemmas.List.Sums.{length-filter, count_by-le-length}

@@ -1,5 +1,5 @@
 -- What a step gives, and what stays around it.
-use Rattle.std.specs.Prelude.{ℕ, ℤ, pos, negsuc, neg_ℤ, ◌≤ℤ◌, suc, ◌^◌, ◌≤◌, ◌==◌, Bool, true, false, cond, [], slice_get, Option, Some, None, ◌≡◌}
+use Rattle.std.specs.Prelude.{ℕ, ℤ, pos, negsuc, neg_ℤ, ◌≤ℤ◌, suc, ◌≤◌, ◌==◌, Bool, true, false, cond, [], slice_get, Option, Some, None, ◌≡◌}
 use Rattle.std.specs.declared.cmp.Ordering.{Ordering}
 use Rattle.std.specs.Int.{saturate_signed, w64}
 use Rattle.std.proofs.Common.{arith, refl, sym, ◌∙◌, ap, subst}

@@ -4,7 +4,7 @@ use Rattle.std.specs.declared.cmp.Ordering.{Ordering}
 use Rattle.flurry_slots.specs.Slot.{SlotState, IsSlot, IsUnborn}
 use Rattle.flurry_steps.specs.Control.{ControlState, IsIdle}
 use Rattle.flurry_steps.specs.Field.{Loan, ControlLoan, StartLoan, LookLoan, BinLoan, MoveLoan}
-use Rattle.flurry_steps.specs.Party.{Stage, AtLocate, AtBin, AtClaim, AtMove, AtUncount, AtCount, AtRecount, AtBegin, AtGrow, AtReserve, AtDone, AtTaken, PartyState, Part, ControlPart, LookPart, BinPart, MovePart, NoPart}
+use Rattle.flurry_steps.specs.Party.{Stage, AtDone, AtTaken, PartyState, Part, ControlPart, LookPart, BinPart, MovePart, NoPart}
 use Rattle.flurry_steps.specs.PartyControl.{ControlStep}
 use Rattle.flurry_steps.specs.PartySlots.{SlotStep, MoveStep}
 use Rattle.flurry_steps.specs.declared.party.Event.{Event}

@@ -2,7 +2,7 @@
 use Rattle.std.specs.Prelude.{◌≡◌, ℕ, pos, suc, [], ◌∷◌, ◌++◌, length, slice_get, slice_set, Option, Some, None, MatchOption}
 use Rattle.std.specs.declared.cmp.Ordering.{Ordering}
 use Rattle.flurry_steps.specs.Control.{ControlState, IsIdle}
-use Rattle.flurry_steps.specs.Party.{Outcome, OutcomeReply, OutcomeEnded, OutcomeRefused, Stage, AtLocate, AtBin, AtClaim, AtMove, AtUncount, AtCount, AtRecount, AtBegin, AtGrow, AtReserve, AtDone, AtTaken, PartyState, with_stage, wanted_part, outcome_in}
+use Rattle.flurry_steps.specs.Party.{Outcome, OutcomeReply, OutcomeEnded, OutcomeRefused, Stage, AtDone, AtTaken, PartyState, with_stage, wanted_part, outcome_in}
 use Rattle.flurry_steps.specs.declared.party.Event.{Event}
 use Rattle.flurry_steps.specs.declared.party.Event.TheVariants.{Decide, Refused, Opened, Placed, Moved, Published, Silent}
 use Rattle.flurry_model.specs.declared.call.Call.{Call}

@@ -1,5 +1,5 @@
 -- What a world shows, and the state of the machine that it is.
-use Rattle.std.specs.Prelude.{◌≡◌, ℕ, ℤ, pos, neg_ℤ, ◌≤ℤ◌, suc, ◌≤◌, ◌^◌, false, List, [], ◌∷◌, length, reverse, slice_get, Option, Some, None, option_map, unwrap_or, IsSome, ⊤}
+use Rattle.std.specs.Prelude.{◌≡◌, ℕ, ℤ, pos, neg_ℤ, ◌≤ℤ◌, suc, ◌≤◌, false, List, [], ◌∷◌, length, reverse, slice_get, Option, Some, None, option_map, unwrap_or, IsSome, ⊤}
 use Rattle.std.specs.declared.cmp.Ordering.{Ordering}
 use Rattle.flurry_model.specs.declared.reply.KeptReply.{KeptReply}
 use Rattle.flurry_slots.specs.Slot.{Live, IsLive}

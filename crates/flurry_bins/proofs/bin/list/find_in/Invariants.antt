@@ -1,4 +1,4 @@
-use Rattle.std.proofs.Common.{◌≡◌, ◌+◌, ◌≤◌, ◌^◌, length}
+use Rattle.std.proofs.Common.{◌≡◌, ◌+◌, ◌≤◌, length}
 use Rattle.flurry_bins.specs.Chain.{chain}
 use Rattle.flurry_bins.specs.Entries.{IsAscending, entry_at, list_way}
 use Rattle.flurry_bins.proofs.bin.list.find_in.Given as goal

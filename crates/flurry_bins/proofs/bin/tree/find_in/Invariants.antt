@@ -1,4 +1,4 @@
-use Rattle.std.proofs.Common.{◌≡◌, ◌+◌, ◌≤◌, ◌^◌, length}
+use Rattle.std.proofs.Common.{◌≡◌, ◌+◌, ◌≤◌, length}
 use Rattle.flurry_bins.specs.Tree.{shape, inorder, tree_way}
 use Rattle.flurry_bins.specs.Entries.{IsAscending, entry_at}
 use Rattle.flurry_bins.proofs.bin.tree.find_in.Given as goal

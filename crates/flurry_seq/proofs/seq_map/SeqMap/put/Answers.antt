@@ -1,4 +1,4 @@
-use Rattle.std.proofs.Common.{◌≡◌, ◌<◌, ◌^◌, length, lit≤, refl, inr, sym, ap, ◌∙◌, None, arith}
+use Rattle.std.proofs.Common.{◌≡◌, ◌<◌, length, lit≤, refl, inr, sym, ap, ◌∙◌, None, arith}
 use Rattle.std.proofs.Common.{length-set}
 use Rattle.std.specs.Arc.{arc_value}
 use Rattle.flurry_bins.specs.Chain.{entry_of}

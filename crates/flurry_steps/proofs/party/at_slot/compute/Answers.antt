@@ -1,4 +1,4 @@
-use Rattle.std.proofs.Common.{◌≡◌, ℕ, Option, refl}
+use Rattle.std.proofs.Common.{ℕ, Option, refl}
 use Rattle.std.specs.declared.cmp.Ordering.{Ordering}
 use Rattle.flurry_slots.specs.Slot.{Content, IsLive, HasMoved, IsUnborn, IfLive, ComputesInVain}
 use Rattle.flurry_steps.specs.Party.{Computes, AtDone, OutcomeRefused}

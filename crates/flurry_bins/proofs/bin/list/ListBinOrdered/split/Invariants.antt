@@ -1,4 +1,4 @@
-use Rattle.std.proofs.Common.{◌≡◌, ◌++◌, ◌+◌, ◌≤◌, ◌^◌, reverse, length}
+use Rattle.std.proofs.Common.{◌≡◌, ◌++◌, ◌+◌, ◌≤◌, reverse, length}
 use Rattle.flurry_bins.specs.Chain.{chain}
 use Rattle.flurry_bins.specs.Entries.{with_bit}
 use Rattle.flurry_bins.proofs.bin.list.ListBinOrdered.split.Given as goal

@@ -1,4 +1,4 @@
-use Rattle.std.proofs.Common.{◌≡◌, ◌+◌, ◌≤◌, ◌^◌, length}
+use Rattle.std.proofs.Common.{◌≡◌, ◌+◌, ◌≤◌, length}
 use Rattle.flurry_bins.specs.Chain.{chain}
 use Rattle.flurry_bins.specs.EntryCall.{CalledAtEntry}
 use Rattle.flurry_model.proofs.KeepingLaws.{KeepsOn}
