@@ -6,6 +6,7 @@ use crate::starts::Starts;
 use crate::tables::{Maker, Tables};
 use flurry_slots::Slot;
 use flurry_steps::Control;
+use flurry_steps::control::PublishedTable;
 use std::alloc::{AllocError, Allocator, Global};
 use std::sync::{Mutex, RwLock, Wait};
 
@@ -49,6 +50,12 @@ impl<K: Ord, V, A: Allocator> Locks<K, V, A> {
     /// Counts so many pairs more, which are in the slots already. Takes the control's lock.
     pub fn count<R: Wait>(&self, rt: &R, pairs: i64) {
         self.control.lock(rt).count(pairs);
+    }
+
+    /// The number that was published last, as far as that is known without the control's lock; none where no table is known. Constant
+    /// time.
+    pub fn newest(&self) -> Option<&PublishedTable> {
+        self.starts.newest()
     }
 
     /// The lock of the slot at that table and index, if the table was made and has it. Constant time.

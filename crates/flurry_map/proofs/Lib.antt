@@ -1,3 +1,4 @@
 pub mod AnswerLaws
 pub mod Crossing
 pub mod PlacingLemmas
+pub mod BeginLaws

@@ -1,13 +1,15 @@
 -- What contracts say of a call of a shared map.
-use Rattle.std.specs.Prelude.{◌≡◌, ℕ, Bool, Option, None}
+use Rattle.std.specs.Prelude.{◌≡◌, ℕ, Bool, Option, None, Result}
 use Rattle.std.specs.declared.cmp.Ordering.{Ordering}
-use Rattle.flurry_drive.specs.Turns.{TurnsTo}
+use Rattle.flurry_drive.specs.Turns.{Turns, TurnsTo}
 use Rattle.flurry_locks.specs.Lending.{LockLends}
 use Rattle.flurry_slots.specs.declared.compute_fn.NoFn.{NoFn}
 use Rattle.flurry_steps.specs.Field.{Turn}
-use Rattle.flurry_steps.specs.Party.{PartyState, Stage, Outcome}
+use Rattle.flurry_steps.specs.FirstSteps.{EndsOrGoesOn}
+use Rattle.flurry_steps.specs.Party.{PartyState, Stage, AtLocate, Outcome, IsWriter}
 use Rattle.flurry_steps.specs.declared.party.call.Call.{Call}
 use Rattle.flurry_steps.specs.declared.party.call.Call.TheVariants as call
+use Rattle.flurry_steps.specs.declared.party.reply.Reply.{Reply}
 
 -- what of a shared map stays as it is
 pub record Shared (S : Type 0) : Type 0 where
@@ -41,3 +43,14 @@ pub record IsDriven (L M : Type 0) {K V F S : Type 0} (cmp : K → K → Orderin
   pub after : L
   pub last : PartyState K V F
   pub turns : TurnsTo (Turn (MakerStays {M = M}) cmp changes LockLends) before (record { hash = hash; processors = m.processors; stage = first }) r after last
+
+-- Steps of the very call lead from its first stage to a state in which it is done, and its reply is taken, or from which it goes on.
+pub record HasBegun (L M : Type 0) {K V F A : Type 0} (cmp : K → K → Ordering) (changes : F → K → V → Option V → Type 0) (processors hash : ℕ) (first : Stage K V F) (r : Result (Reply K V A) (PartyState K V F)) : Type 0 where
+  pub after : PartyState K V F
+  pub turns : (lender : L) → Turns (Turn (MakerStays {M = M}) cmp changes LockLends) lender (record { hash = hash; processors = processors; stage = first }) lender after
+  pub end : EndsOrGoesOn after r
+
+-- a call that may change a bin, and did no step yet
+abbrev pub BeginsToWrite : {K V F : Type 0} → Stage K V F → Type 0
+BeginsToWrite (AtLocate t) = IsWriter t
+BeginsToWrite _ = ⊥

@@ -4,6 +4,7 @@
 //! world runs in any order.
 #![tactic(auto)]
 
+mod first;
 pub mod map;
 mod owned;
 

@@ -13,12 +13,12 @@ ghost use Rattle.flurry_steps.specs.PartyView.{CallIsReady, first_stage, outcome
 ghost use Rattle.std.specs.Option.{option_map};
 ghost use Rattle.std.specs.Arc.{arc_value};
 
+use crate::first::begin;
 use flurry_drive::drive;
 use flurry_locks::{Lender, Locks};
 use flurry_model::hash::{DefaultHashBuilder, KeyHasher};
 use flurry_model::try_insert::TryInsertError;
 use flurry_slots::{ComputeFn, NoFn};
-use flurry_steps::Party;
 use flurry_steps::control::wanted_table;
 use flurry_steps::party::{Call, Reply};
 use std::alloc::{AllocError, Allocator, Global};
@@ -355,7 +355,7 @@ impl<K: Ord + Drop, V: Drop, S: KeyHasher<K>, A: Allocator + Copy> HashMap<K, V,
         }
     }
 
-    // Drives a call over the locks.
+    // Does the steps of a call over the locks: its first two at once where that can be, and then one after another.
     fn run<F: ComputeFn<K, V>, R: Wait>(&self, rt: &R, call: Call<'_, K, V, F>) -> Reply<K, V, A>
         requires { CallIsReady F.can_change call }
         ensures driven { IsDriven (Lender R K V A) (Maker K V A) K.cmp F.changes self.now
@@ -363,10 +363,15 @@ impl<K: Ord + Drop, V: Drop, S: KeyHasher<K>, A: Allocator + Copy> HashMap<K, V,
         ensures answers { CanAnswerFrom F.changes (first_stage call.entry) (outcome_of result) }
     {
         let hash = self.hash_of(&call);
-        let mut party = Party::new(call, hash, self.processors);
         let mut lender = Lender::new(rt, &self.locks);
-        let reply = drive(rt, &mut party, &mut lender);
-        drop(party);
-        reply
+        match begin(rt, &self.locks, call, hash, self.processors) {
+            Ok(reply) => reply,
+            Err(party) => {
+                let mut party = party;
+                let reply = drive(rt, &mut party, &mut lender);
+                drop(party);
+                reply
+            }
+        }
     }
 }

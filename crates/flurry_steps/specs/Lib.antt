@@ -6,3 +6,4 @@ pub mod PartyView
 pub mod PartySlots
 pub mod PartyControl
 pub mod Field
+pub mod FirstSteps

@@ -14,6 +14,7 @@ ghost use Rattle.flurry_model.specs.declared.sizes.TheConstants.{GREATEST_TABLE}
 mod at_control;
 mod at_slot;
 mod call;
+mod first;
 mod reply;
 mod stage;
 
@@ -22,6 +23,7 @@ use at_control::step_control;
 use at_slot::{step_lookup, step_write};
 use call::{Key, Sought, Task};
 pub use call::{Call, OwnedCall};
+use first::task_for;
 use flurry_model::sizes::bin_index;
 use flurry_slots::{ComputeFn, MoveAnswer, Slot};
 pub use reply::Reply;
@@ -97,24 +99,14 @@ impl<'k, K: Drop, V: Drop, F: ComputeFn<K, V>, A: Allocator> Party<'k, K, V, F, 
         requires { CallIsReady F.can_change call }
         ensures { result ≡ record { hash = hash; processors = processors; stage = first_stage call.entry } }
     {
-        let task = match call {
-            Call::Get(key) => Task::Find(Sought::Value, Key::Lent(key)),
-            Call::GetKeyValue(key) => Task::Find(Sought::Pair, Key::Lent(key)),
-            Call::ContainsKey(key) => Task::Find(Sought::Presence, Key::Lent(key)),
-            Call::Remove(key) => Task::Remove(Sought::Value, Key::Lent(key)),
-            Call::RemoveEntry(key) => Task::Remove(Sought::Pair, Key::Lent(key)),
-            Call::Insert(key, value) => Task::Insert(key, value),
-            Call::TryInsert(key, value) => Task::Add(key, value),
-            Call::Compute(key, f) => Task::Compute(Key::Lent(key), f),
-            Call::Reserve(more) => {
-                return Party {
-                    hash,
-                    processors,
-                    stage: Stage::Reserve(more),
-                };
-            }
-        };
-        Party::of_task(task, hash, processors)
+        match task_for(call) {
+            Ok(task) => Party::of_task(task, hash, processors),
+            Err(more) => Party {
+                hash,
+                processors,
+                stage: Stage::Reserve(more),
+            },
+        }
     }
 
     /// The same of a call that has its key.

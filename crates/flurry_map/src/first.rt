@@ -1,0 +1,93 @@
+//! The first two steps of a call at once, where its table is known without the control's lock.
+ghost use Rattle.flurry_locks.specs.declared.lender.Lender.{Lender};
+ghost use Rattle.flurry_locks.specs.declared.tables.Maker.{Maker};
+ghost use Rattle.flurry_map.specs.Driven.{HasBegun, BeginsToWrite};
+ghost use Rattle.flurry_steps.specs.Party.{LooksUp};
+ghost use Rattle.flurry_steps.specs.PartyView.{CallIsReady, first_stage};
+
+use flurry_locks::Locks;
+use flurry_model::sizes::bin_index;
+use flurry_slots::ComputeFn;
+use flurry_steps::Party;
+use flurry_steps::control::PublishedTable;
+use flurry_steps::party::{Call, Reply};
+use std::alloc::Allocator;
+use std::sync::Wait;
+
+// The first two steps of a call of one key, where a table is known to be published. A call that cannot begin so has done no step.
+pub(crate) fn begin<'k, K: Ord + Drop, V: Drop, F: ComputeFn<K, V>, A: Allocator + Copy, R: Wait>(
+    rt: &R,
+    locks: &Locks<K, V, A>,
+    call: Call<'k, K, V, F>,
+    hash: u64,
+    processors: usize,
+) -> Result<Reply<K, V, A>, Party<'k, K, V, F, A>>
+    requires { CallIsReady F.can_change call }
+    ensures { HasBegun (Lender R K V A) (Maker K V A) K.cmp F.changes processors hash (first_stage call.entry) result }
+{
+    let Some(start) = locks.newest() else {
+        return Err(Party::new(call, hash, processors));
+    };
+    match &call {
+        Call::Reserve(_) => Err(Party::new(call, hash, processors)),
+        Call::Get(_) | Call::GetKeyValue(_) | Call::ContainsKey(_) => {
+            look(rt, locks, start, call, hash, processors)
+        }
+        _ => write(rt, locks, start, call, hash, processors),
+    }
+}
+
+// The same of a look-up, at that table.
+fn look<'k, K: Ord + Drop, V: Drop, F: ComputeFn<K, V>, A: Allocator + Copy, R: Wait>(
+    rt: &R,
+    locks: &Locks<K, V, A>,
+    start: &PublishedTable,
+    call: Call<'k, K, V, F>,
+    hash: u64,
+    processors: usize,
+) -> Result<Reply<K, V, A>, Party<'k, K, V, F, A>>
+    requires ready { CallIsReady F.can_change call }
+    requires looks { LooksUp (first_stage call) }
+    ensures { HasBegun (Lender R K V A) (Maker K V A) K.cmp F.changes processors hash (first_stage call.entry) result }
+{
+    let table = start.table();
+    let index = bin_index(hash, table);
+    if let Some(lock) = locks.slot(table, index) {
+        let slot = lock.read(rt);
+        if slot.at() == (table, index) {
+            return Party::look_first(call, hash, processors, start, &*slot);
+        }
+    }
+    Err(Party::new(call, hash, processors))
+}
+
+// The same of a call that may change its bin, at that table.
+fn write<'k, K: Ord + Drop, V: Drop, F: ComputeFn<K, V>, A: Allocator + Copy, R: Wait>(
+    rt: &R,
+    locks: &Locks<K, V, A>,
+    start: &PublishedTable,
+    call: Call<'k, K, V, F>,
+    hash: u64,
+    processors: usize,
+) -> Result<Reply<K, V, A>, Party<'k, K, V, F, A>>
+    requires ready { CallIsReady F.can_change call }
+    requires writes { BeginsToWrite (first_stage call) }
+    ensures { HasBegun (Lender R K V A) (Maker K V A) K.cmp F.changes processors hash (first_stage call.entry) result }
+{
+    let table = start.table();
+    let index = bin_index(hash, table);
+    if let Some(lock) = locks.slot(table, index) {
+        let mut slot = lock.write(rt);
+        if slot.at() == (table, index) {
+            return Party::write_first(
+                call,
+                hash,
+                processors,
+                start,
+                *locks.allocator(),
+                &mut *slot,
+            );
+        }
+    }
+    Err(Party::new(call, hash, processors))
+}
