@@ -58,7 +58,8 @@ impl<K: Ord, V, A: Allocator> Locks<K, V, A> {
         self.starts.newest()
     }
 
-    /// The lock of the slot at that table and index, if the table was made and has it. Constant time.
+    /// The lock of the slot at that table and index, if the table was made and has it. Whoever takes it holds no lock of a slot of a
+    /// greater table or index, and does not wait for the control's while it does. Constant time.
     pub fn slot(&self, table: u8, index: usize) -> Option<&RwLock<Slot<K, V, A>>> {
         self.tables.lock_of(table, index)
     }

@@ -18,7 +18,7 @@ impl<K: Ord + Drop, V: Drop, S: KeyHasher<K>, A: Allocator + Copy> HashMap<K, V,
     /// The map as threads may share it, with the pairs, the hasher and as many bins. It takes memory for a table of its bins' locks, and
     /// moves each bin.
     ///
-    /// Linear time in the bins and the pairs.
+    /// Takes the control's lock, to count, and then that of each slot, one after another. Linear time in the bins and the pairs.
     ///
     /// # Errors
     ///
@@ -46,7 +46,8 @@ impl<K: Ord + Drop, V: Drop, S: KeyHasher<K>, A: Allocator + Copy> HashMap<K, V,
     /// The map as one owner has it, with its pairs and its hasher. It is built anew: it takes memory for a table and for a node of each
     /// pair.
     ///
-    /// Linear time in the bins of all tables that were made and in the pairs.
+    /// Takes the control's lock and that of each slot, one after another, to read. Linear time in the bins of all tables that were made
+    /// and in the pairs.
     ///
     /// # Errors
     ///
