@@ -2,7 +2,7 @@
 use Rattle.std.specs.Prelude.{ℕ, Bool, Option}
 use Rattle.std.specs.declared.cmp.Ordering.{Ordering}
 use Rattle.std.proofs.Common.{inl, inr}
-use Rattle.flurry_steps.specs.Field.{Loan, ControlLoan, StartLoan, LookLoan, BinLoan, MoveLoan, StepWith}
+use Rattle.flurry_steps.specs.Field.{Loan, ControlLoan, StartLoan, TallyLoan, LookLoan, BinLoan, MoveLoan, StepWith}
 use Rattle.flurry_steps.specs.Party.{PartyState}
 use Rattle.flurry_steps.specs.declared.party.Event.{Event}
 use Rattle.flurry_world.specs.Parts.{Parts, IsOwn}
@@ -14,6 +14,7 @@ module _ {K V F R : Type 0} (place : R → ℕ → Bool → Bool → R → Type 
   pub own_step : (l : Loan K V R) → IsOwn room s l s' → StepWith place cmp changes l c ev c' → StepsIn cmp changes c s ev c' s'
   own_step (StartLoan d) (x, y) (asks, within, silent, h) = inr (record { table = d; start = x; asks = asks; silent = silent; party_state = h; parts = y })
   own_step (ControlLoan b r b' r') x h = inl (own_part place cmp changes room places s s' c c' ev (ControlLoan b r b' r') tt x h)
+  own_step (TallyLoan m n n') x h = absurd x
   own_step (LookLoan q) x h = inl (own_part place cmp changes room places s s' c c' ev (LookLoan q) tt x h)
   own_step (BinLoan q q') x h = inl (own_part place cmp changes room places s s' c c' ev (BinLoan q q') tt x h)
   own_step (MoveLoan q low high q' low' high') x h = inl (own_part place cmp changes room places s s' c c' ev (MoveLoan q low high q' low' high') tt x h)

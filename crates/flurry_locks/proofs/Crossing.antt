@@ -2,7 +2,6 @@
 use denote.RattleType.{RattleType}
 use denote.Param.Send.{IsSend, IsSync, Frees, sendable}
 use Rattle.std.proofs.CrossingOver.{crosses}
-use Rattle.std.proofs.sync.Mutex.TheSendSync as mutex
 use Rattle.std.proofs.sync.OnceLock.TheSendSync as once
 use Rattle.std.proofs.sync.RwLock.TheSendSync as lock
 use Rattle.std.specs.contracts.sync.Arc as Arc
@@ -14,7 +13,7 @@ use Rattle.std.specs.declared.cmp.PartialEq as eq
 use Rattle.std.specs.declared.cmp.PartialOrd as partial
 use Rattle.flurry_slots.proofs.Crossing.{slot_send, slot_sync}
 use Rattle.flurry_slots.specs.contracts.slot.Slot as Slot
-use Rattle.flurry_steps.proofs.control.Control.TheSendSync as control
+use Rattle.flurry_locks.proofs.shared_control.SharedControl.TheSendSync as control
 use Rattle.flurry_locks.proofs.starts.Starts.TheSendSync as starts
 use Rattle.flurry_locks.specs.contracts.locks.Locks as Locks
 use Rattle.flurry_locks.specs.contracts.tables.Tables as Tables
@@ -43,7 +42,7 @@ module _ (K V A : RattleType) (g : Ghosts A.Denot) (sk : IsSend K) (yk : IsSync 
   tables_sync = let s = table_send in let y = table_sync in search (once.the_sync, sendable) depth 20
 
   pub locks_send : IsSend (Locks.the_field K V A o e p g).row
-  locks_send = let t = tables_send in search (starts.the_field_send, mutex.the_send, control.the_send, sendable) depth 20
+  locks_send = let t = tables_send in search (starts.the_field_send, control.the_field_send, sendable) depth 20
 
   pub locks_sync : IsSync (Locks.the_field K V A o e p g).row
-  locks_sync = let t = tables_sync in search (starts.the_field_sync, mutex.the_sync, control.the_send, sendable) depth 20
+  locks_sync = let t = tables_sync in search (starts.the_field_sync, control.the_field_sync, sendable) depth 20

@@ -47,6 +47,12 @@ impl<'m, R: Wait, K: Ord + Drop, V: Drop, A: Allocator + Copy> Field<K, V, A>
                 return Some(party.on_start(start));
             }
         }
+        if party.counts() {
+            if let Some(most) = locks.starts.most_waiting() {
+                let mut tally = locks.control.tally(party.hash()).lock(self.rt);
+                return Some(party.on_tally(&mut *tally, most));
+            }
+        }
         let mut room = Maker::new(&locks.tables, locks.alloc);
         let mut control = locks.control.lock(self.rt);
         let event = party.on_control(&mut *control, &mut room);

@@ -5,6 +5,7 @@
 
 pub mod lender;
 pub mod locks;
+mod shared_control;
 mod starts;
 mod tables;
 

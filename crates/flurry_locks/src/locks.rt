@@ -2,16 +2,17 @@
 ghost use Rattle.std.specs.Prelude.{◌≡◌, ◌≤◌};
 ghost use Rattle.flurry_model.specs.declared.sizes.TheConstants.{GREATEST_TABLE};
 
+use crate::shared_control::SharedControl;
 use crate::starts::Starts;
 use crate::tables::{Maker, Tables};
 use flurry_slots::Slot;
 use flurry_steps::Control;
 use flurry_steps::control::PublishedTable;
 use std::alloc::{AllocError, Allocator, Global};
-use std::sync::{Mutex, RwLock, Wait};
+use std::sync::{RwLock, Wait};
 
 /// The control and the tables of a map that threads share, each part under a lock of its own, and the numbers that the control has
-/// published, which are read without a lock.
+/// published, which are read without a lock. Beside the control stand tallies, each under its lock, where counts of pairs wait for it.
 ///
 /// What each lock keeps is what the type of its part keeps: the ranges of a control, and the order, the region and the sizes of a
 /// slot's bin.
@@ -19,7 +20,7 @@ use std::sync::{Mutex, RwLock, Wait};
 pub struct Locks<K: Ord, V, A: Allocator = Global> {
     pub(crate) tables: Tables<K, V, A>,
     pub(crate) starts: Starts,
-    pub(crate) control: Mutex<Control>,
+    pub(crate) control: SharedControl,
     pub(crate) alloc: A,
 }
 
@@ -30,12 +31,12 @@ impl<K: Ord, V, A: Allocator> Locks<K, V, A> {
         Locks {
             tables: Tables::new(),
             starts: Starts::new(),
-            control: Mutex::new(Control::new()),
+            control: SharedControl::new(Control::new()),
             alloc,
         }
     }
 
-    /// The count of pairs, at one moment while the call runs. Takes the control's lock.
+    /// The count of pairs, at one moment while the call runs. Takes the control's lock, then that of each tally in turn.
     pub fn len<R: Wait>(&self, rt: &R) -> usize {
         self.control.lock(rt).len()
     }
@@ -84,7 +85,7 @@ impl<K: Ord + Drop, V: Drop, A: Allocator + Copy> Locks<K, V, A> {
         Ok(Locks {
             tables,
             starts,
-            control: Mutex::new(control),
+            control: SharedControl::new(control),
             alloc,
         })
     }

@@ -1,5 +1,5 @@
 -- What a call of a shared map can answer.
-use Rattle.std.specs.Prelude.{◌≡◌, ◌⊎◌, ℕ, Bool, true, false, Option, Some, None, MatchOption, Ok, Err}
+use Rattle.std.specs.Prelude.{◌≡◌, ◌⊎◌, ℕ, ℤ, Bool, true, false, if◌then◌else◌, Option, Some, None, MatchOption, Ok, Err}
 use Rattle.std.specs.Option.{option_map_or}
 use Rattle.std.specs.declared.cmp.Ordering.{Ordering}
 use Rattle.std.proofs.Common.{refl, sym, subst, inl, inr}
@@ -9,10 +9,11 @@ use Rattle.flurry_slots.specs.Slot as slot
 use Rattle.flurry_slots.specs.Slot.{PlainEntry, SlotState, Live, Content, IsLive, HasMoved, IsUnborn, ComputeOutcome, WasAbsent, WasRemoved, WasChanged, Clashes}
 use Rattle.flurry_steps.specs.Control.{ControlState, BeginGives, claim_of, grows_from}
 use Rattle.flurry_steps.specs.Claim.{Range}
-use Rattle.flurry_steps.specs.Field.{Loan, ControlLoan, StartLoan, LookLoan, BinLoan, MoveLoan, StepWith, Turn}
+use Rattle.flurry_steps.specs.Field.{Loan, ControlLoan, StartLoan, TallyLoan, LookLoan, BinLoan, MoveLoan, StepWith, Turn}
 use Rattle.flurry_steps.specs.Party.{Sought, TheValue, ThePair, Presence, Task, Finds, Removes, Inserts, Adds, Computes, Outcome, OutcomeReply, OutcomeEnded, OutcomeRefused, GrowFor, ForInsert, ForReserve, Resume, ThenBin, ThenRecount, ThenGrow, Stage, AtLocate, AtBin, AtClaim, AtMove, AtUncount, AtCount, AtRecount, AtBegin, AtGrow, AtReserve, AtDone, AtTaken, PartyState, reply_for, resumed_stage, started_stage, with_stage}
 use Rattle.flurry_steps.specs.PartyControl.{begin_at, stage_advised, stage_begun, stage_grown, stage_not_grown, stage_growing, OpensFor, LocatesNone, MakesFor, event_growing, StageAtControl}
 use Rattle.flurry_steps.specs.PartySlots.{GoesOnNew, GoesOnWritten, GoesOnAdded, stage_taken, stage_computed, stage_moved, FindCanBeRefused, CanBeRefused, DecidesAt, LiveGives, ContentGives, StageAtSlot, moved_stage, MoveGives}
+use Rattle.flurry_steps.specs.PartyTally.{StageAtTally}
 use Rattle.flurry_steps.specs.PartyView.{first_stage}
 use Rattle.flurry_steps.specs.declared.control.Advice.{Advice}
 use Rattle.flurry_steps.specs.declared.control.Advice.TheVariants as advice
@@ -194,6 +195,26 @@ module _ {K V F : Type 0} (changes : F → K → V → Option V → Type 0) (ans
     at_control (AtDone r) ev h g = absurd g
     at_control AtTaken ev h g = absurd g
 
+  -- ---- at a tally
+
+  after_tally : (b : Bool) (r : Outcome K V) → answers r → StageServes (if b then AtRecount r else AtDone r)
+  after_tally true r h = h
+  after_tally false r h = h
+
+  at_tally : (most n : ℤ) (st : Stage K V F) (n' : ℤ) (s : Stage K V F) → StageServes s → StageAtTally most s n st n' → StageServes st
+  at_tally most n st n' (AtUncount r) h g = subst StageServes (sym g.0) h
+  at_tally most n st n' (AtCount r) h g = subst StageServes (sym g.0) (after_tally _ r h)
+  at_tally most n st n' (AtLocate t) h g = absurd g
+  at_tally most n st n' (AtBin t e) h g = absurd g
+  at_tally most n st n' (AtClaim a) h g = absurd g
+  at_tally most n st n' (AtMove c a) h g = absurd g
+  at_tally most n st n' (AtRecount r) h g = absurd g
+  at_tally most n st n' (AtBegin e r) h g = absurd g
+  at_tally most n st n' (AtGrow w g') h g = absurd g
+  at_tally most n st n' (AtReserve a) h g = absurd g
+  at_tally most n st n' (AtDone r) h g = absurd g
+  at_tally most n st n' AtTaken h g = absurd g
+
   -- ---- at a slot
 
   after_new : (e : ℕ) (r : Outcome K V) (asked : Bool) (s : Stage K V F) → answers r → GoesOnNew e r asked s → StageServes s
@@ -281,6 +302,7 @@ module _ {K V F : Type 0} (changes : F → K → V → Option V → Type 0) (ans
     with_loan : (l : Loan K V R) (p p' : PartyState K V F) (ev : Event) → StageServes p.stage → StepWith place cmp changes l p ev p' → StageServes p'.stage
     with_loan (ControlLoan b r b' r') p p' ev h g = at_control place p.processors b r p'.stage b' r' p.stage ev h g.1.step
     with_loan (StartLoan d) p p' ev h g = subst (λ z. StageServes z.stage) (sym g.3) (after_start d p.stage h)
+    with_loan (TallyLoan m n n') p p' ev h g = at_tally m n p'.stage n' p.stage h g.step
     with_loan (LookLoan q) p p' ev h g = at_slot cmp p.hash p.stage q.content ev p'.stage q.content h g.2.step
     with_loan (BinLoan q q') p p' ev h g = at_slot cmp p.hash p.stage q.content ev p'.stage q'.content h g.2.step
     with_loan (MoveLoan q low high q' low' high') p p' ev h g = at_move p p' q low high q' low' high' ev h g.2.step

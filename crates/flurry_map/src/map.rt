@@ -110,7 +110,7 @@ impl<K: Ord + Drop, V: Drop, S: KeyHasher<K>, A: Allocator> HashMap<K, V, S, A> 
 
     /// The number of pairs, as they are counted at one moment while the call runs: a call that has decided may yet have to count.
     ///
-    /// Takes the control's lock. Constant time.
+    /// Takes the control's lock, then that of each tally in turn. Constant time.
     // The count is known by its type alone, since other threads change it.
     pub fn len<R: Wait>(&self, rt: &R) -> usize {
         self.locks.len(rt)
@@ -118,7 +118,7 @@ impl<K: Ord + Drop, V: Drop, S: KeyHasher<K>, A: Allocator> HashMap<K, V, S, A> 
 
     /// Whether that number is 0.
     ///
-    /// Takes the control's lock. Constant time.
+    /// Takes the control's lock, then that of each tally in turn. Constant time.
     // As of `len`.
     pub fn is_empty<R: Wait>(&self, rt: &R) -> bool {
         self.len(rt) == 0
@@ -207,8 +207,8 @@ impl<K: Ord + Drop, V: Drop, S: KeyHasher<K>, A: Allocator + Copy> HashMap<K, V,
 
     /// Takes the pair of a key out, and answers its value. The table stays as large as it is.
     ///
-    /// Takes the lock of the key's bin, to write, and, where the key was present, then the control's, to count. Where the bin has moved
-    /// it helps the growth first.
+    /// Takes the lock of the key's bin, to write, and, where the key was present, then a tally's or the control's, to count. Where the
+    /// bin has moved it helps the growth first.
     pub fn remove<R: Wait>(&self, rt: &R, key: &K) -> Option<Arc<V, A>>
         ensures { IsDriven (Lender R K V A) (Maker K V A) K.cmp (no_changes {K = K} {V = V}) self.now
             (S.hash_of self.now.hasher key.now) (AtLocate (Removes TheValue key.now))
@@ -239,8 +239,8 @@ impl<K: Ord + Drop, V: Drop, S: KeyHasher<K>, A: Allocator + Copy> HashMap<K, V,
     /// Sets the value of a key, and answers the old one. A key that is stored stays, and the one that was handed in is dropped.
     /// A new key may make the table larger; where the larger table finds no memory, the map stays in the old one.
     ///
-    /// Takes the lock of the key's bin, to write, and, where the key was absent, then the control's, to count; before the first table
-    /// the control's, to make it. Where the bin has moved, or a growth runs as the pair is counted, it helps the growth.
+    /// Takes the lock of the key's bin, to write, and, where the key was absent, then a tally's or the control's, to count; before the
+    /// first table the control's, to make it. Where the bin has moved, or the control counts while a growth runs, it helps the growth.
     ///
     /// # Errors
     ///

@@ -1,11 +1,12 @@
 -- What a step of a call is over a field, which lends it one part of a map.
-use Rattle.std.specs.Prelude.{◌≡◌, ◌⊎◌, ℕ, ◌≤◌, Bool, true, Option, MatchOption}
+use Rattle.std.specs.Prelude.{◌≡◌, ◌⊎◌, ℕ, ℤ, ◌≤◌, Bool, true, Option, MatchOption}
 use Rattle.std.specs.declared.cmp.Ordering.{Ordering}
 use Rattle.flurry_slots.specs.Slot.{SlotState, IsSlot}
 use Rattle.flurry_steps.specs.Control.{ControlState}
 use Rattle.flurry_steps.specs.Party.{PartyState, Part, ControlPart, LookPart, BinPart, MovePart, NoPart, with_stage, wanted_part, locates, started_stage}
 use Rattle.flurry_steps.specs.PartyControl.{ControlStep}
 use Rattle.flurry_steps.specs.PartySlots.{SlotStep, MoveStep}
+use Rattle.flurry_steps.specs.PartyTally.{TallyStep}
 use Rattle.flurry_steps.specs.declared.party.Event.{Event}
 use Rattle.flurry_steps.specs.declared.party.Event.TheVariants as event
 use Rattle.flurry_model.specs.declared.sizes.TheConstants.{GREATEST_TABLE}
@@ -16,6 +17,8 @@ pub data Loan (K V R : Type 0) : Type 0 where
   ControlLoan : (control_state : ControlState) (room : R) (board' : ControlState) (room' : R) → Loan K V R
   -- a table where the call may begin, in the control's place
   StartLoan : (table : ℕ) → Loan K V R
+  -- a tally where the call counts, in the control's place, and how many pairs may wait there before the call looks at the control's count
+  TallyLoan : (most waiting waiting' : ℤ) → Loan K V R
   -- a slot to read
   LookLoan : (slot : SlotState K V) → Loan K V R
   -- a slot to write
@@ -24,10 +27,12 @@ pub data Loan (K V R : Type 0) : Type 0 where
   MoveLoan : (slot low high slot' low' high' : SlotState K V) → Loan K V R
 
 module _ {K V F R : Type 0} (place : R → ℕ → Bool → Bool → R → Type 0) (cmp : K → K → Ordering) (changes : F → K → V → Option V → Type 0) where
-  -- the step of p with that loan, which is of the part that p wants: a call that asks for the published table may also be told a table
+  -- the step of p with that loan, which is of the part that p wants: a call that asks for the published table may also be told a table,
+  -- and one that counts a pair may also count it at a tally
   abbrev pub StepWith : Loan K V R → PartyState K V F → Event → PartyState K V F → Type 0
   StepWith (ControlLoan b r b' r') p ev p' = (wanted_part p ≡ ControlPart) × ControlStep place p b r ev p' b' r'
   StepWith (StartLoan d) p ev p' = (locates p.stage ≡ true) × (d ≤ GREATEST_TABLE) × (ev ≡ event.Silent) × (p' ≡ with_stage p (started_stage d p.stage))
+  StepWith (TallyLoan m n n') p ev p' = TallyStep m p n ev p' n'
   StepWith (LookLoan q) p ev p' = (wanted_part p ≡ LookPart q.table q.index) × IsSlot cmp q × SlotStep cmp changes p q ev p' q
   StepWith (BinLoan q q') p ev p' = (wanted_part p ≡ BinPart q.table q.index) × IsSlot cmp q × SlotStep cmp changes p q ev p' q'
   StepWith (MoveLoan q low high q' low' high') p ev p' =

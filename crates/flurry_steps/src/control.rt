@@ -8,6 +8,7 @@ ghost use Rattle.flurry_model.specs.declared.sizes.TheConstants.{GREATEST_TABLE}
 mod claim;
 mod published_table;
 mod room;
+mod tally;
 
 pub use claim::Claim;
 pub use flurry_model::sizes::GREATEST_TABLE;
@@ -16,6 +17,7 @@ pub use published_table::PublishedTable;
 pub use room::Room;
 use std::alloc::AllocError;
 use std::marker::Model;
+pub use tally::Tally;
 
 /// The exponent of the table that is made for so many pairs: it has [`wanted`] bins.
 ///
@@ -271,6 +273,16 @@ impl Control {
             }
             _ => Advice::Enough,
         }
+    }
+
+    /// Counts what waits at the tally, at which nothing waits then.
+    ///
+    /// Constant time.
+    pub fn collect(&mut self, tally: &mut Tally)
+        ensures after { self.new ≡ after_count tally.old self.old }
+        ensures tally { tally.new ≡ pos 0 }
+    {
+        let _advice = self.count(tally.take());
     }
 
     /// The count of pairs, 0 where it is negative.

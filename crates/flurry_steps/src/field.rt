@@ -20,8 +20,8 @@ pub trait Field<K: Ord + Drop, V: Drop, A: Allocator + Copy> {
     /// What is known where a part was not lent.
     ghost lacks: { Self → Part → Type 0 };
 
-    /// Lends the control with the room where it makes tables. To a call that only asks for the published table it may lend a table
-    /// that was published in its place.
+    /// Lends the control with the room where it makes tables. In its place it may lend a table that was published to a call that only
+    /// asks for the published table, and a tally to a call that counts a pair.
     fn at_control<F: ComputeFn<K, V>>(&mut self, party: &mut Party<'_, K, V, F, A>) -> Option<Event>
         requires { wanted_part party.old ≡ ControlPart }
         ensures { TurnsOrStays Self.Room.place_gives K.cmp F.changes lends lacks self.old party.old result self.new party.new };

@@ -13,6 +13,7 @@ ghost use Rattle.flurry_model.specs.declared.sizes.TheConstants.{GREATEST_TABLE}
 
 mod at_control;
 mod at_slot;
+mod at_tally;
 mod call;
 mod first;
 mod reply;

@@ -6,7 +6,7 @@ use Rattle.flurry_slots.specs.Slot.{SlotState}
 use Rattle.flurry_steps.specs.Control.{ControlState}
 use Rattle.flurry_steps.specs.Party.{Stage, AtLocate, AtBin, AtClaim, AtMove, AtUncount, AtCount, AtRecount, AtBegin, AtGrow, AtReserve, AtDone, AtTaken, PartyState, Part, ControlPart, LookPart, BinPart, MovePart, NoPart, part_of, wanted_part}
 use Rattle.flurry_steps.specs.PartyControl.{ControlStep}
-use Rattle.flurry_steps.specs.Field.{Loan, ControlLoan, StartLoan, LookLoan, BinLoan, MoveLoan, StepWith, Turn}
+use Rattle.flurry_steps.specs.Field.{Loan, ControlLoan, StartLoan, TallyLoan, LookLoan, BinLoan, MoveLoan, StepWith, Turn}
 use Rattle.flurry_steps.specs.declared.party.Event.{Event}
 use Rattle.flurry_steps.proofs.Rooms.{control_in}
 use Rattle.flurry_world.specs.Tables.{Tables, AreTables, place_at, put_place, PlaceGives}
@@ -76,6 +76,7 @@ module _ {K V F R : Type 0} (place : R → ℕ → Bool → Bool → R → Type 
   own_part (ControlLoan b r b' r') i (x, y) (want, h) = subst (λ z. PartStep cmp changes z c s.control_state s.tables ev c' s'.control_state s'.tables) (sym want)
       (subst (λ z. ControlStep PlaceGives c z.control_state z.tables ev c' s'.control_state s'.tables) (sym x) (subst (λ z. ControlStep PlaceGives c b (room r) ev c' z.control_state z.tables) (sym y) (control_in place PlaceGives room places c b r ev c' b' r' h)))
   own_part (StartLoan d) i x h = absurd i
+  own_part (TallyLoan m n n') i x h = absurd i
   own_part (LookLoan q) i (x, y) (want, inside, h) = subst (λ z. PartStep cmp changes z c s.control_state s.tables ev c' s'.control_state s'.tables) (sym want) (q, x, inside, h, ap (λ z. z.control_state) y, ap (λ z. z.tables) y)
   own_part (BinLoan q q') i (x, y) (want, inside, h) = subst (λ z. PartStep cmp changes z c s.control_state s.tables ev c' s'.control_state s'.tables) (sym want) (q, q', x, inside, h, ap (λ z. z.control_state) y, ap (λ z. z.tables) y)
   own_part (MoveLoan q low high q' low' high') i (x, xl, xh, y) (want, inside, h) = subst (λ z. PartStep cmp changes z c s.control_state s.tables ev c' s'.control_state s'.tables) (sym want) (q, low, high, q', low', high', x, xl, xh, inside, h, ap (λ z. z.control_state) y, ap (λ z. z.tables) y)

@@ -3,7 +3,7 @@ use Rattle.std.specs.Prelude.{◌≡◌, ℕ, pos, ◌+◌, ◌^◌, ◌≤◌, 
 use Rattle.std.specs.declared.cmp.Ordering.{Ordering}
 use Rattle.flurry_slots.specs.Slot.{SlotState, IsSlot, IsUnborn}
 use Rattle.flurry_steps.specs.Control.{ControlState, IsIdle}
-use Rattle.flurry_steps.specs.Field.{Loan, ControlLoan, StartLoan, LookLoan, BinLoan, MoveLoan}
+use Rattle.flurry_steps.specs.Field.{Loan, ControlLoan, StartLoan, TallyLoan, LookLoan, BinLoan, MoveLoan}
 use Rattle.flurry_steps.specs.Party.{Stage, AtDone, AtTaken, PartyState, Part, ControlPart, LookPart, BinPart, MovePart, NoPart}
 use Rattle.flurry_steps.specs.PartyControl.{ControlStep}
 use Rattle.flurry_steps.specs.PartySlots.{SlotStep, MoveStep}
@@ -67,11 +67,12 @@ module _ {K V : Type 0} where
     pub born : content_at s.tables d 0 ≡ IsUnborn → ⊥
 
   -- What is lent stands among the parts, whose tables are those of the room, and what the step leaves of it is put back in its place;
-  -- every other part stays. A table that is told in the control's place is one where a call may begin.
+  -- every other part stays. A table that is told in the control's place is one where a call may begin. No tally is among the parts.
   module _ {R : Type 0} (room : R → Tables K V) where
     abbrev pub IsOwn : Parts K V → Loan K V R → Parts K V → Type 0
     IsOwn s (ControlLoan b r b' r') s' = (s ≡ record { control_state = b; tables = room r }) × (s' ≡ record { control_state = b'; tables = room r' })
     IsOwn s (StartLoan d) s' = IsStart s d × (s' ≡ s)
+    IsOwn s (TallyLoan m n n') s' = ⊥
     IsOwn s (LookLoan q) s' = (place_at s.tables q.table q.index ≡ Some q) × (s' ≡ s)
     IsOwn s (BinLoan q q') s' =
         (place_at s.tables q.table q.index ≡ Some q) × (s' ≡ record { control_state = s.control_state; tables = put_place s.tables q.table q.index q' })
@@ -83,9 +84,10 @@ module _ {K V : Type 0} where
           tables = put_place (put_place (put_place s.tables q.table q.index q') (q.table + 1) q.index low') (q.table + 1) (q.index + 2 ^ q.table) high';
         })
 
-  -- a part itself is lent, and no table told in its place
+  -- a part itself is lent, and nothing in its place
   abbrev pub IsPart : {R : Type 0} → Loan K V R → Type 0
   IsPart (StartLoan d) = ⊥
+  IsPart (TallyLoan m n n') = ⊥
   IsPart _ = ⊤
 
   -- what one owner lends is a part of its own, and what it does not lend is not there

@@ -8,6 +8,7 @@ use std::alloc::Global;
 use std::test::Fail;
 use threads::{count_in_thread, put_in_threads};
 
+// Counts that wait at tallies are in the length, and the table grows by them.
 #[test]
 fn four_threads_put_pairs_in(rt: HostRuntime) -> Result<(), Fail> {
     let locks: Locks<u64, u64, Global> = Locks::new(rt.alloc());
@@ -15,6 +16,8 @@ fn four_threads_put_pairs_in(rt: HostRuntime) -> Result<(), Fail> {
     put_in_threads(&rt, &locks, 500);
 
     assert_eq!(rt; locks.len(&rt), 2000);
+    let newest = locks.newest().map(|start| start.table());
+    assert_eq!(rt; newest, Some(12), "2,000 pairs are more than three for four of 2^11 bins");
     Ok(())
 }
 

@@ -1,5 +1,5 @@
 use Rattle.std.proofs.Common.{refl, sym, ◌∙◌}
-use Rattle.flurry_steps.specs.Field.{ControlLoan, StartLoan}
+use Rattle.flurry_steps.specs.Field.{ControlLoan, StartLoan, TallyLoan}
 use Rattle.flurry_locks.proofs.lender.LenderField.at_control.Goals as goal
 
 pub returns-in-Some : goal.returns-in-Some
@@ -9,9 +9,16 @@ returns-in-Some g c = record {
   step = (sym c.locates.ensures ∙ c.if-locates.true, c.on_start.ensures.within, c.on_start.ensures.silent, c.on_start.ensures.at);
 }
 
+pub returns-in-Some-most_waiting : goal.returns-in-Some-most_waiting
+returns-in-Some-most_waiting g c = record {
+  loan = TallyLoan _ c.deref_mut.result.now c.on_tally.new.tally;
+  lent = refl;
+  step = c.on_tally.ensures;
+}
+
 pub returns : goal.returns
 returns g c = record {
-  loan = ControlLoan c.deref_mut.result.now c.new-room.result c.on_control-event.new.control c.on_control-event.new.room;
+  loan = ControlLoan c.deref_mut-2.result.now c.new-room.result c.on_control-event.new.control c.on_control-event.new.room;
   lent = refl;
   step = (c.requires, c.on_control-event.ensures);
 }

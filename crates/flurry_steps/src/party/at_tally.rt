@@ -1,0 +1,59 @@
+//! The step of a call that counts a pair at a tally.
+ghost use Rattle.std.specs.Prelude.{◌≡◌, true};
+ghost use Rattle.flurry_steps.specs.PartyTally.{TallyStep, counts};
+
+use super::stage::Stage;
+use super::{Event, Party};
+use crate::control::Tally;
+use flurry_slots::ComputeFn;
+use std::alloc::Allocator;
+use std::mem;
+
+impl<'k, K: Drop, V: Drop, F: ComputeFn<K, V>, A: Allocator> Party<'k, K, V, F, A> {
+    /// Whether the next step counts one pair, which the call has put or removed.
+    ///
+    /// Constant time.
+    #[inline]
+    pub fn counts(&self) -> bool
+        ensures { result ≡ counts self.now.stage }
+    {
+        matches!(self.stage, Stage::Count(_) | Stage::Uncount(_))
+    }
+
+    /// That step, at a tally in the control's place. A call that put a pair looks at the control's count next where at least so many
+    /// pairs wait at the tally then; any other call is done.
+    ///
+    /// Constant time.
+    pub fn on_tally(&mut self, tally: &mut Tally, most: i64) -> Event
+        requires { counts self.old.stage ≡ true }
+        ensures { TallyStep most self.old tally.old result self.new tally.new }
+    {
+        match mem::replace(&mut self.stage, Stage::Taken) {
+            Stage::Count(reply) => {
+                tally.count(1);
+                let stage = if tally.has(most) {
+                    Stage::Recount(reply)
+                } else {
+                    Stage::Done(reply)
+                };
+                drop(mem::replace(&mut self.stage, stage));
+            }
+            Stage::Uncount(reply) => {
+                tally.count(-1);
+                drop(mem::replace(&mut self.stage, Stage::Done(reply)));
+            }
+            _ => unreachable!(),
+        }
+        Event::Silent
+    }
+
+    /// The hash that the call was made with.
+    ///
+    /// Constant time.
+    #[inline]
+    pub fn hash(&self) -> u64
+        ensures { result ≡ self.now.hash }
+    {
+        self.hash
+    }
+}
