@@ -1,15 +1,15 @@
 //! What a run writes and ends in where a request is refused, and that each block comes back.
 
 use flurry_program::{Output, run_words};
+use metered_alloc::Metered;
 use std::alloc::Global;
 use std::io;
 use std::process::Abort;
 use std::sync::Wait;
 use std::test::Fail;
 use std::thread::Threads;
-use test_alloc::Refusing;
 
-type Memory = &'static Refusing<Global>;
+type Memory = &'static Metered<Global>;
 
 // A status, and what was written.
 type End<'a> = (u8, &'a [u8]);
@@ -42,7 +42,7 @@ fn refuse_each(
     lines: &[u8],
     ends: &[End<'_>],
 ) -> Result<(), Fail> {
-    let memory = Refusing::leaked(rt.alloc())?;
+    let memory = Metered::leaked(rt.alloc())?;
     let mut place = 0usize;
     for k in 0..MOST_REQUESTS {
         let (status, output, refused) = run_without(rt, memory, k, words, lines)?;

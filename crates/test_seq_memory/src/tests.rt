@@ -10,14 +10,14 @@ mod tables;
 
 use flurry_model::hash::{KeyHasher, LowHashBuilder};
 use flurry_seq::SeqMap;
+use metered_alloc::Metered;
 use std::alloc::Global;
 use std::fmt::Debug;
 use std::process::Abort;
 use std::sync::Arc;
 use std::test::Fail;
-use test_alloc::Refusing;
 
-type Memory = &'static Refusing<Global>;
+type Memory = &'static Metered<Global>;
 
 // A map of numbers.
 type NumberMap<S> = SeqMap<u64, u64, S, Memory>;
@@ -44,7 +44,7 @@ trait Refused {
 
 // Refuses each request of a call in turn. It makes at least one, and each block comes back.
 fn refuse_each<C: Refused>(rt: &impl Abort, alloc: Global, call: &C) -> Result<(), Fail> {
-    let memory = Refusing::leaked(alloc)?;
+    let memory = Metered::leaked(alloc)?;
     for k in 0..MOST_REQUESTS {
         let refused = call.once(rt, memory, k);
         same_at(rt, k, memory.blocks(), 0);

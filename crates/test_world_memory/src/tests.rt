@@ -5,14 +5,14 @@ mod world;
 mod world_rows;
 
 use flurry_bins::bin::{Bin, Entry, ListBin, Node, Ordered, Shape, TreeBin};
+use metered_alloc::Metered;
 use std::alloc::{AllocError, Global};
 use std::fmt::Debug;
 use std::process::Abort;
 use std::sync::Arc;
 use std::test::Fail;
-use test_alloc::Refusing;
 
-type Memory = &'static Refusing<Global>;
+type Memory = &'static Metered<Global>;
 
 // Sees that a value is the one that is wanted. A test of many assertions calls this, since each `assert_eq!` that stands in it makes
 // its proof longer.
@@ -97,7 +97,7 @@ fn refused_entry(memory: Memory, k: u64) -> (bool, bool) {
 
 #[test]
 fn a_node(rt: HostRuntime) -> Result<(), Fail> {
-    let memory = Refusing::leaked(rt.alloc())?;
+    let memory = Metered::leaked(rt.alloc())?;
     same(&rt, refused_node(memory)?, (true, true));
     same(&rt, memory.blocks(), 0);
     for k in 0..4u64 {
@@ -141,7 +141,7 @@ fn splits_a_bin(rt: &impl Abort, bin: NumberBin) {
 
 #[test]
 fn a_bin_asks_for_nothing(rt: HostRuntime) -> Result<(), Fail> {
-    let memory = Refusing::leaked(rt.alloc())?;
+    let memory = Metered::leaked(rt.alloc())?;
     let value = Arc::new(memory, 50)?;
     let mut bin = bin_of(memory, 24)?;
     same(&rt, bin.shape(), Shape::Tree(24));
@@ -155,7 +155,7 @@ fn a_bin_asks_for_nothing(rt: HostRuntime) -> Result<(), Fail> {
 
 #[test]
 fn planting_asks_for_nothing(rt: HostRuntime) -> Result<(), Fail> {
-    let memory = Refusing::leaked(rt.alloc())?;
+    let memory = Metered::leaked(rt.alloc())?;
     let mut bin = bin_of(memory, 9)?;
     same(&rt, bin.shape(), Shape::List(9));
     bin.plant();
@@ -179,7 +179,7 @@ fn splits_a_tree(rt: &impl Abort, tree: TreeBin<u64, u64, Memory>) {
 
 #[test]
 fn lists_and_trees_ask_for_nothing(rt: HostRuntime) -> Result<(), Fail> {
-    let memory = Refusing::leaked(rt.alloc())?;
+    let memory = Metered::leaked(rt.alloc())?;
     let nodes = nodes(memory, 20)?;
     memory.refuse_from(0);
     let mut list = list_of(nodes);

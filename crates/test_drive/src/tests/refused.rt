@@ -4,13 +4,13 @@ use super::{Plain, reply_of, same, value};
 use flurry_slots::{ComputeFn, NoFn};
 use flurry_steps::party::OwnedCall;
 use flurry_world::Parts;
+use metered_alloc::Metered;
 use std::alloc::Global;
 use std::process::Abort;
 use std::sync::Wait;
 use std::test::Fail;
-use test_alloc::Refusing;
 
-type Memory = &'static Refusing<Global>;
+type Memory = &'static Metered<Global>;
 
 // The reply of an insertion whose request numbered k is refused, then of a look-up with memory enough, and whether one was refused.
 fn insertion<F: ComputeFn<u64, u64>, R: Wait + Abort>(
@@ -33,7 +33,7 @@ fn insertion<F: ComputeFn<u64, u64>, R: Wait + Abort>(
 // A table, the key, the value and the node: a call that was refused one of them leaves the empty map.
 #[test]
 fn refused_insertions(rt: HostRuntime) -> Result<(), Fail> {
-    let memory = Refusing::leaked(rt.alloc())?;
+    let memory = Metered::leaked(rt.alloc())?;
     for k in 0..5u64 {
         let (reply, look, refused) = insertion::<NoFn, _>(&rt, memory, k)?;
         same(&rt, refused, k < 4);

@@ -6,13 +6,13 @@ use super::workers::count_own;
 use flurry_map::HashMap;
 use flurry_model::hash::LowHashBuilder;
 use flurry_seq::SeqMap;
+use metered_alloc::Metered;
 use std::alloc::Global;
 use std::process::Abort;
 use std::sync::Wait;
 use std::test::Fail;
-use test_alloc::Refusing;
 
-type Memory = &'static Refusing<Global>;
+type Memory = &'static Metered<Global>;
 
 type Numbers = HashMap<u64, u64, LowHashBuilder, Memory>;
 
@@ -84,7 +84,7 @@ fn refuse_each<R: Abort + Wait>(
 
 #[test]
 fn each_request_of_a_call(rt: HostRuntime) -> Result<(), Fail> {
-    let memory = Refusing::leaked(rt.alloc())?;
+    let memory = Metered::leaked(rt.alloc())?;
     refuse_each(&rt, memory, 0, Call::Insert, 5)?;
     refuse_each(&rt, memory, 1, Call::Insert, 3)?;
     refuse_each(&rt, memory, 0, Call::TryInsert, 5)?;
@@ -99,7 +99,7 @@ fn each_request_of_a_call(rt: HostRuntime) -> Result<(), Fail> {
 // Where the larger table finds no memory, the insertion is done in the old one.
 #[test]
 fn a_larger_table_of_an_insertion(rt: HostRuntime) -> Result<(), Fail> {
-    let memory = Refusing::leaked(rt.alloc())?;
+    let memory = Metered::leaked(rt.alloc())?;
     for k in 3..5u64 {
         let seen = call_without(&rt, memory, 11, Call::Insert, k)?;
         same(&rt, (k, seen), (k, (true, true, true, 12)));
@@ -109,7 +109,7 @@ fn a_larger_table_of_an_insertion(rt: HostRuntime) -> Result<(), Fail> {
 
 #[test]
 fn a_map_with_room(rt: HostRuntime) -> Result<(), Fail> {
-    let memory = Refusing::leaked(rt.alloc())?;
+    let memory = Metered::leaked(rt.alloc())?;
     for k in 0..3u64 {
         memory.refuse_at(k);
         let map: Result<Numbers, _> = HashMap::with_capacity_and_hasher(memory, 5, LowHashBuilder);
@@ -133,7 +133,7 @@ fn three_keys(memory: Memory) -> Result<SeqMap<u64, u64, LowHashBuilder, Memory>
 // The owned map comes back with its pairs.
 #[test]
 fn the_tables_of_a_shared_map(rt: HostRuntime) -> Result<(), Fail> {
-    let memory = Refusing::leaked(rt.alloc())?;
+    let memory = Metered::leaked(rt.alloc())?;
     for k in 0..2u64 {
         let map = three_keys(memory)?;
         memory.refuse_at(k);
@@ -152,7 +152,7 @@ fn the_tables_of_a_shared_map(rt: HostRuntime) -> Result<(), Fail> {
 // The owned map again asks for its table and a node of each pair.
 #[test]
 fn the_requests_of_an_owned_map_again(rt: HostRuntime) -> Result<(), Fail> {
-    let memory = Refusing::leaked(rt.alloc())?;
+    let memory = Metered::leaked(rt.alloc())?;
     for k in 0..5u64 {
         let map = numbers(&rt, memory, 3)?;
         memory.refuse_at(k);
@@ -168,7 +168,7 @@ fn the_requests_of_an_owned_map_again(rt: HostRuntime) -> Result<(), Fail> {
 // Four threads insert while memory runs out: the pairs that stood stay, and the count is that of the keys which are there.
 #[test]
 fn threads_without_memory(rt: HostRuntime) -> Result<(), Fail> {
-    let memory = Refusing::leaked(rt.alloc())?;
+    let memory = Metered::leaked(rt.alloc())?;
     for k in [0u64, 100, 1000] {
         let map = numbers(&rt, memory, 16)?;
         memory.refuse_from(k);

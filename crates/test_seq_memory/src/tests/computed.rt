@@ -4,9 +4,9 @@ use super::{
     Memory, NumberMap, Refused, adds, map_of, number_at, refuse_each, same, same_at, size_of, taken,
 };
 use flurry_model::hash::LowHashBuilder;
+use metered_alloc::Metered;
 use std::process::Abort;
 use std::test::Fail;
-use test_alloc::Refusing;
 
 // Computes this value at a key: whether the function was called, and the number that was answered, or nothing where it failed.
 fn compute(
@@ -27,7 +27,7 @@ fn compute(
 
 #[test]
 fn compute_at_an_absent_key(rt: HostRuntime) -> Result<(), Fail> {
-    let memory = Refusing::leaked(rt.alloc())?;
+    let memory = Metered::leaked(rt.alloc())?;
     let mut map = map_of(&rt, memory, 2);
     memory.refuse_from(0);
     let seen = compute(&mut map, 7, Some(9));
@@ -73,7 +73,7 @@ fn compute_of_a_value(rt: HostRuntime) -> Result<(), Fail> {
 
 #[test]
 fn compute_of_none(rt: HostRuntime) -> Result<(), Fail> {
-    let memory = Refusing::leaked(rt.alloc())?;
+    let memory = Metered::leaked(rt.alloc())?;
     let mut map = map_of(&rt, memory, 2);
     memory.refuse_from(0);
     let seen = compute(&mut map, 1, None);

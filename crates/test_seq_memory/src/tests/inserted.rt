@@ -5,9 +5,9 @@ use super::{
 };
 use flurry_model::hash::LowHashBuilder;
 use flurry_model::reply::KeptReply;
+use metered_alloc::Metered;
 use std::process::Abort;
 use std::test::Fail;
-use test_alloc::Refusing;
 
 // An insertion of a key and a value.
 #[derive(Clone, Copy)]
@@ -122,7 +122,7 @@ fn try_insert_of_a_new_key(rt: HostRuntime) -> Result<(), Fail> {
 // It takes a further owner of the value that stands, and no memory.
 #[test]
 fn try_insert_of_a_present_key(rt: HostRuntime) -> Result<(), Fail> {
-    let memory = Refusing::leaked(rt.alloc())?;
+    let memory = Metered::leaked(rt.alloc())?;
     let mut map = map_of(&rt, memory, 2);
     memory.refuse_from(0);
     let reply = reply_of(&mut map, Write::TryInsert(1, 5));

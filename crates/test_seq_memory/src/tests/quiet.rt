@@ -3,9 +3,9 @@
 use super::{Memory, NumberMap, lent, map_of, same, size_of};
 use flurry_bins::bin::{Ordered, Shape};
 use flurry_model::hash::LowHashBuilder;
+use metered_alloc::Metered;
 use std::process::Abort;
 use std::test::Fail;
-use test_alloc::Refusing;
 
 // Looks at the map of nine pairs.
 fn reads(rt: &impl Abort, map: &NumberMap<LowHashBuilder>) {
@@ -44,7 +44,7 @@ fn gives_its_bins(rt: &impl Abort, map: NumberMap<LowHashBuilder>) {
 
 #[test]
 fn calls_that_take_no_memory(rt: HostRuntime) -> Result<(), Fail> {
-    let memory: Memory = Refusing::leaked(rt.alloc())?;
+    let memory: Memory = Metered::leaked(rt.alloc())?;
     let mut map = map_of(&rt, memory, 9);
     let other = map_of(&rt, memory, 9);
     memory.refuse_from(0);

@@ -4,10 +4,10 @@ use super::{Memory, Refused, refuse_each, same, same_at};
 use flurry_model::hash::LowHashBuilder;
 use flurry_set::SeqSet;
 use flurry_set::set_calls::SetCall;
+use metered_alloc::Metered;
 use std::collections::VecDeque;
 use std::process::Abort;
 use std::test::Fail;
-use test_alloc::Refusing;
 
 type Set = SeqSet<u64, LowHashBuilder, Memory>;
 
@@ -65,7 +65,7 @@ fn set_insert(rt: HostRuntime) -> Result<(), Fail> {
 
 #[test]
 fn set_with_capacity(rt: HostRuntime) -> Result<(), Fail> {
-    let memory = Refusing::leaked(rt.alloc())?;
+    let memory = Metered::leaked(rt.alloc())?;
     memory.refuse_from(0);
     let none: Result<Set, _> = SeqSet::with_capacity_and_hasher(memory, 0, LowHashBuilder);
     assert!(rt; none?.is_empty());

@@ -6,9 +6,9 @@ use super::{
 use flurry_bins::bin::Shape;
 use flurry_model::hash::{KeyHasher, LowHashBuilder, ZeroHashBuilder};
 use flurry_seq::SeqMap;
+use metered_alloc::Metered;
 use std::process::Abort;
 use std::test::Fail;
-use test_alloc::Refusing;
 
 // A map with room for so many pairs: how many bins and pairs it has, or nothing where it is refused.
 fn size_for(memory: Memory, capacity: usize) -> Option<(usize, usize)> {
@@ -22,7 +22,7 @@ fn size_for(memory: Memory, capacity: usize) -> Option<(usize, usize)> {
 
 #[test]
 fn with_capacity(rt: HostRuntime) -> Result<(), Fail> {
-    let memory = Refusing::leaked(rt.alloc())?;
+    let memory = Metered::leaked(rt.alloc())?;
     memory.refuse_from(0);
     same(&rt, size_for(memory, 0), Some((0, 0)));
     same(&rt, memory.asked(), 0);
@@ -61,7 +61,7 @@ fn keeps_the_doublings(rt: &impl Abort, memory: Memory, k: u64, bins: usize) {
 
 #[test]
 fn reserve_keeps_the_doublings_done(rt: HostRuntime) -> Result<(), Fail> {
-    let memory = Refusing::leaked(rt.alloc())?;
+    let memory = Metered::leaked(rt.alloc())?;
     for (k, bins) in [(0, 16), (1, 32), (2, 64)] {
         keeps_the_doublings(&rt, memory, k, bins);
     }
@@ -78,7 +78,7 @@ fn keeps_the_first_table(rt: &impl Abort, memory: Memory, k: u64, bins: usize) {
 
 #[test]
 fn reserve_of_a_new_map(rt: HostRuntime) -> Result<(), Fail> {
-    let memory = Refusing::leaked(rt.alloc())?;
+    let memory = Metered::leaked(rt.alloc())?;
     for (k, bins) in [(0, 0), (1, 64)] {
         keeps_the_first_table(&rt, memory, k, bins);
     }
@@ -105,7 +105,7 @@ fn adds_without_a_table<S: KeyHasher<u64>>(
 // The twelfth pair asks for its key, its value, its node, and then for the larger table.
 #[test]
 fn row_15(rt: HostRuntime) -> Result<(), Fail> {
-    let memory = Refusing::leaked(rt.alloc())?;
+    let memory = Metered::leaked(rt.alloc())?;
     let mut map: NumberMap<LowHashBuilder> = SeqMap::with_hasher(memory, LowHashBuilder);
     adds(&rt, &mut map, 42, 0);
     for key in 0..10u64 {
@@ -147,7 +147,7 @@ fn grows_in_part(rt: &impl Abort, memory: Memory, k: u64, bins: usize) {
 // The ninth key of one hash asks for 128 bins, by doublings from 16. The tenth makes the list a tree in any table.
 #[test]
 fn refused_growth_keeps_insert(rt: HostRuntime) -> Result<(), Fail> {
-    let memory = Refusing::leaked(rt.alloc())?;
+    let memory = Metered::leaked(rt.alloc())?;
     for (k, bins) in [(3, 16), (4, 32), (5, 64)] {
         grows_in_part(&rt, memory, k, bins);
     }
@@ -159,7 +159,7 @@ fn refused_growth_keeps_insert(rt: HostRuntime) -> Result<(), Fail> {
 // doubling; then the count, which is the threshold, asks for 32.
 #[test]
 fn count_grows_after_a_refused_growth(rt: HostRuntime) -> Result<(), Fail> {
-    let memory = Refusing::leaked(rt.alloc())?;
+    let memory = Metered::leaked(rt.alloc())?;
     let mut map = map_of(&rt, memory, 4);
     for k in 1..8u64 {
         adds(&rt, &mut map, 16 * k, k);
@@ -173,7 +173,7 @@ fn count_grows_after_a_refused_growth(rt: HostRuntime) -> Result<(), Fail> {
 // Thirteen insertions reach or pass the threshold of 16 bins and each finds no memory for a larger table. The next doubles it twice.
 #[test]
 fn count_grows_until_there_is_room(rt: HostRuntime) -> Result<(), Fail> {
-    let memory = Refusing::leaked(rt.alloc())?;
+    let memory = Metered::leaked(rt.alloc())?;
     let mut map = map_of(&rt, memory, 11);
     for key in 11..24u64 {
         memory.refuse_from(3);

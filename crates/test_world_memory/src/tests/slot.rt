@@ -5,9 +5,9 @@ use super::{Memory, same, same_at};
 use flurry_bins::bin::Bin;
 use flurry_model::sizes::bin_index;
 use flurry_slots::{Answer, Computed, Slot};
+use metered_alloc::Metered;
 use std::process::Abort;
 use std::test::Fail;
-use test_alloc::Refusing;
 
 type NumberSlot = Slot<u64, u64, Memory>;
 
@@ -58,7 +58,7 @@ fn slot_of_ten(rt: &impl Abort, memory: Memory) -> NumberSlot {
 // A new key asks for its key, its value and its node.
 #[test]
 fn put_of_a_new_key(rt: HostRuntime) -> Result<(), Fail> {
-    let memory = Refusing::leaked(rt.alloc())?;
+    let memory = Metered::leaked(rt.alloc())?;
     for k in 0..4u64 {
         let refused = k < 3;
         let stands = if refused { None } else { Some((10, 1)) };
@@ -72,7 +72,7 @@ fn put_of_a_new_key(rt: HostRuntime) -> Result<(), Fail> {
 // A key that is there asks for the value alone.
 #[test]
 fn put_of_a_present_key(rt: HostRuntime) -> Result<(), Fail> {
-    let memory = Refusing::leaked(rt.alloc())?;
+    let memory = Metered::leaked(rt.alloc())?;
     for k in 0..2u64 {
         let refused = k < 1;
         let stands = if refused { (10, 1) } else { (11, 2) };
@@ -96,7 +96,7 @@ fn add_at(rt: &impl Abort, memory: Memory, slot: &mut NumberSlot, k: u64, value:
 // At a present key an addition asks the allocator for nothing: a further owner of the value is refused only at a count of about 2^63.
 #[test]
 fn put_absent(rt: HostRuntime) -> Result<(), Fail> {
-    let memory = Refusing::leaked(rt.alloc())?;
+    let memory = Metered::leaked(rt.alloc())?;
     for k in 0..4u64 {
         let mut slot = empty_slot();
         let refused = k < 3;
@@ -147,7 +147,7 @@ fn is_absent(rt: &impl Abort, memory: Memory, slot: &mut NumberSlot) -> bool {
 // A computed value asks for its memory; a function that answers none asks for nothing, and is not called for an absent key.
 #[test]
 fn compute(rt: HostRuntime) -> Result<(), Fail> {
-    let memory = Refusing::leaked(rt.alloc())?;
+    let memory = Metered::leaked(rt.alloc())?;
     for k in 0..2u64 {
         let mut slot = slot_of_ten(&rt, memory);
         let refused = k < 1;
@@ -164,7 +164,7 @@ fn compute(rt: HostRuntime) -> Result<(), Fail> {
 
 #[test]
 fn the_other_steps_ask_for_nothing(rt: HostRuntime) -> Result<(), Fail> {
-    let memory = Refusing::leaked(rt.alloc())?;
+    let memory = Metered::leaked(rt.alloc())?;
     let mut slot: NumberSlot = Slot::live(4, 3, Bin::new());
     drop(slot.put(memory, 3, 3, 10).expect(&rt, "memory"));
     drop(slot.put(memory, 19, 19, 11).expect(&rt, "memory"));

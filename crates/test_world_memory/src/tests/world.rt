@@ -8,11 +8,11 @@ use flurry_steps::party::OwnedCall;
 use flurry_theory::Label;
 use flurry_world::World;
 use flurry_world::world::Step;
+use metered_alloc::Metered;
 use std::alloc::{AllocError, Global};
 use std::fmt::Debug;
 use std::process::Abort;
 use std::test::Fail;
-use test_alloc::Refusing;
 
 // A world whose hashes are its keys.
 pub(super) type Numbers<F> = World<'static, u64, u64, F, LowHashBuilder, Memory>;
@@ -223,7 +223,7 @@ fn requests_of_a_new_world<F: ComputeFn<u64, u64> + Copy>(
     capacity: usize,
     requests: u64,
 ) -> Result<(), Fail> {
-    let memory = Refusing::leaked(alloc)?;
+    let memory = Metered::leaked(alloc)?;
     for k in 0..=requests {
         let refused = k < requests;
         same_at(
@@ -240,7 +240,7 @@ fn requests_of_a_new_world<F: ComputeFn<u64, u64> + Copy>(
 // The first call asks for the room of labels and that of calls. A refused one is none: the next party has its number.
 #[test]
 fn begin(rt: HostRuntime) -> Result<(), Fail> {
-    let memory = Refusing::leaked(rt.alloc())?;
+    let memory = Metered::leaked(rt.alloc())?;
     for k in 0..3u64 {
         begins_at::<NoFn>(&rt, memory, k);
         same_at(&rt, k, memory.blocks(), 0);
@@ -268,7 +268,7 @@ fn begins_at<F: ComputeFn<u64, u64> + Copy>(rt: &impl Abort, memory: Memory, k: 
 // An insertion asks for the first table, its key, its value and its node, and then for room for its reply's label.
 #[test]
 fn insertion_into_a_new_world(rt: HostRuntime) -> Result<(), Fail> {
-    let memory = Refusing::leaked(rt.alloc())?;
+    let memory = Metered::leaked(rt.alloc())?;
     for k in 0..MOST {
         let refused = inserts_at::<NoFn>(&rt, rt.alloc(), memory, k);
         same_at(&rt, k, memory.blocks(), 0);
@@ -341,7 +341,7 @@ fn inserted_at<F: ComputeFn<u64, u64> + Copy + Debug>(
 // The insertion that reaches the threshold asks for a larger table too. Where that is refused it goes on, and the next one asks again.
 #[test]
 fn insertion_that_grows(rt: HostRuntime) -> Result<(), Fail> {
-    let memory = Refusing::leaked(rt.alloc())?;
+    let memory = Metered::leaked(rt.alloc())?;
     for k in 0..MOST {
         let refused = grows_at::<NoFn>(&rt, rt.alloc(), memory, k);
         same_at(&rt, k, memory.blocks(), 0);
@@ -398,7 +398,7 @@ fn grown_at<F: ComputeFn<u64, u64> + Copy + Debug>(
 // A look-up asks for room for its labels, and for nothing else.
 #[test]
 fn look_up(rt: HostRuntime) -> Result<(), Fail> {
-    let memory = Refusing::leaked(rt.alloc())?;
+    let memory = Metered::leaked(rt.alloc())?;
     for k in 0..MOST {
         let seen = looks_up_at::<NoFn>(&rt, memory, k);
         same_at(&rt, k, memory.blocks(), 0);
@@ -428,14 +428,14 @@ fn looks_up_at<F: ComputeFn<u64, u64> + Copy>(
 // threshold is no less than 256.
 #[test]
 fn reserve_in_a_new_world(rt: HostRuntime) -> Result<(), Fail> {
-    let memory = Refusing::leaked(rt.alloc())?;
+    let memory = Metered::leaked(rt.alloc())?;
     same(&rt, refusals_of_a_reserve(&rt, memory, 0), 2);
     Ok(())
 }
 
 #[test]
 fn reserve_in_a_world_of_16_bins(rt: HostRuntime) -> Result<(), Fail> {
-    let memory = Refusing::leaked(rt.alloc())?;
+    let memory = Metered::leaked(rt.alloc())?;
     same(&rt, refusals_of_a_reserve(&rt, memory, 1), 5);
     Ok(())
 }
@@ -521,7 +521,7 @@ fn text_of_steps<F: ComputeFn<u64, u64> + Copy + Debug>(
 // A list whose label or party is refused stops there, and the rest of it may be run later. A refused call is a step like another.
 #[test]
 fn run(rt: HostRuntime) -> Result<(), Fail> {
-    let memory = Refusing::leaked(rt.alloc())?;
+    let memory = Metered::leaked(rt.alloc())?;
     for k in 0..MOST {
         let refused = runs_at::<NoFn>(&rt, rt.alloc(), memory, k);
         same_at(&rt, k, memory.blocks(), 0);

@@ -4,11 +4,11 @@ use super::world::{Numbers, begins, labels_from, step_to, world_for};
 use super::{Memory, same};
 use flurry_slots::{ComputeFn, NoFn};
 use flurry_steps::party::OwnedCall;
+use metered_alloc::Metered;
 use std::alloc::Global;
 use std::fmt::Debug;
 use std::process::Abort;
 use std::test::Fail;
-use test_alloc::Refusing;
 
 // Sees that the labels from that one on are these.
 fn shows<F: ComputeFn<u64, u64> + Copy + Debug>(
@@ -23,7 +23,7 @@ fn shows<F: ComputeFn<u64, u64> + Copy + Debug>(
 
 #[test]
 fn first_table_refused(rt: HostRuntime) -> Result<(), Fail> {
-    refuses_first_table::<NoFn>(&rt, rt.alloc(), Refusing::leaked(rt.alloc())?);
+    refuses_first_table::<NoFn>(&rt, rt.alloc(), Metered::leaked(rt.alloc())?);
     Ok(())
 }
 
@@ -52,7 +52,7 @@ fn refuses_first_table<F: ComputeFn<u64, u64> + Copy + Debug>(
 
 #[test]
 fn larger_table_of_an_insertion_refused(rt: HostRuntime) -> Result<(), Fail> {
-    refuses_larger_table::<NoFn>(&rt, rt.alloc(), Refusing::leaked(rt.alloc())?);
+    refuses_larger_table::<NoFn>(&rt, rt.alloc(), Metered::leaked(rt.alloc())?);
     Ok(())
 }
 
@@ -94,7 +94,7 @@ fn refuses_larger_table<F: ComputeFn<u64, u64> + Copy + Debug>(
 
 #[test]
 fn larger_table_of_a_reserve_refused(rt: HostRuntime) -> Result<(), Fail> {
-    refuses_reserve::<NoFn>(&rt, rt.alloc(), Refusing::leaked(rt.alloc())?);
+    refuses_reserve::<NoFn>(&rt, rt.alloc(), Metered::leaked(rt.alloc())?);
     Ok(())
 }
 

@@ -1,4 +1,5 @@
-//! An allocator for tests. It numbers the requests for memory, and refuses some of them.
+//! An allocator that meters another: it numbers the requests for memory, refuses those that it is told to, and counts the blocks and
+//! the bytes that are out.
 //!
 //! Its numbers are atomics, which other owners may change at any time, so a contract can say nothing of them: its calls are proved
 //! safe, and what they count is only tested.
@@ -7,13 +8,14 @@
 use std::alloc::{AllocError, Allocator, Global};
 use std::sync::atomic::{AtomicU64, Ordering};
 
-// How many requests were made, which ones are refused (those from `first` to `last`), and how many blocks are out.
+// How many requests were made, which ones are refused (those from `first` to `last`), and how many blocks and bytes are out.
 #[derive(Drop)]
 struct Budget {
     asked: AtomicU64,
     first: AtomicU64,
     last: AtomicU64,
     blocks: AtomicU64,
+    bytes: AtomicU64,
 }
 
 impl Budget {
@@ -23,6 +25,7 @@ impl Budget {
             first: AtomicU64::new(u64::MAX),
             last: AtomicU64::new(0),
             blocks: AtomicU64::new(0),
+            bytes: AtomicU64::new(0),
         }
     }
 
@@ -33,36 +36,38 @@ impl Budget {
         self.first.store(first, Ordering::SeqCst);
     }
 
-    // Counts the request that is now made, and says whether it is refused.
-    fn refuses(&self) -> bool {
+    // Counts the request that is now made, for so many bytes, and says whether it is refused.
+    fn refuses(&self, size: usize) -> bool {
         let number = self.asked.fetch_add(1, Ordering::SeqCst);
         let refused = self.first.load(Ordering::SeqCst) <= number
             && number <= self.last.load(Ordering::SeqCst);
         if !refused {
             self.blocks.fetch_add(1, Ordering::SeqCst);
+            self.bytes.fetch_add(size as u64, Ordering::SeqCst);
         }
         refused
     }
 
-    // Counts a block that comes back.
-    fn takes_back(&self) {
+    // Counts a block of so many bytes that comes back.
+    fn takes_back(&self, size: usize) {
         self.blocks.fetch_sub(1, Ordering::SeqCst);
+        self.bytes.fetch_sub(size as u64, Ordering::SeqCst);
     }
 }
 
 /// An allocator that passes each request on to another, but for those that it refuses.
 ///
-/// A test lends it: `&Refusing<Global>` is an allocator too, and `Copy`.
+/// A test lends it: `&Metered<Global>` is an allocator too, and `Copy`.
 #[derive(Drop)]
-pub struct Refusing<A: Allocator> {
+pub struct Metered<A: Allocator> {
     inner: A,
     budget: Budget,
 }
 
-impl<A: Allocator> Refusing<A> {
+impl<A: Allocator> Metered<A> {
     /// It refuses nothing until it is told to.
-    pub fn new(inner: A) -> Refusing<A> {
-        Refusing {
+    pub fn new(inner: A) -> Metered<A> {
+        Metered {
             inner,
             budget: Budget::new(),
         }
@@ -109,29 +114,34 @@ impl<A: Allocator> Refusing<A> {
     pub fn blocks(&self) -> u64 {
         self.budget.blocks.load(Ordering::SeqCst)
     }
+
+    /// The bytes that were asked for in those blocks.
+    pub fn bytes(&self) -> u64 {
+        self.budget.bytes.load(Ordering::SeqCst)
+    }
 }
 
-impl Refusing<Global> {
+impl Metered<Global> {
     /// One that lives to the end of the process, so that a test names no lifetime.
-    pub fn leaked(inner: Global) -> Result<&'static Refusing<Global>, AllocError> {
-        let boxed = Box::new(inner, Refusing::new(inner))?;
-        let leaked: &'static Refusing<Global> = Box::leak(boxed);
+    pub fn leaked(inner: Global) -> Result<&'static Metered<Global>, AllocError> {
+        let boxed = Box::new(inner, Metered::new(inner))?;
+        let leaked: &'static Metered<Global> = Box::leak(boxed);
         Ok(leaked)
     }
 }
 
-unsafe impl<A: Allocator> Allocator for Refusing<A> {
+unsafe impl<A: Allocator> Allocator for Metered<A> {
     ghost dealloc_token = { λ heap ty ptr. A.dealloc_token heap.inner ty ptr };
 
     fn allocate(&self, size: usize, align: usize) -> Result<*mut u8, AllocError> {
-        if self.budget.refuses() {
+        if self.budget.refuses(size) {
             return Err(AllocError);
         }
         self.inner.allocate(size, align)
     }
 
     unsafe fn deallocate(&self, ptr: *mut u8, size: usize, align: usize) {
-        self.budget.takes_back();
+        self.budget.takes_back(size);
         self.inner.deallocate(ptr, size, align);
     }
 }
@@ -176,7 +186,7 @@ mod tests {
 
     #[test]
     fn each_request_is_refused_in_turn(rt: HostRuntime) {
-        let memory = Refusing::new(rt.alloc());
+        let memory = Metered::new(rt.alloc());
         let mut requests = None;
         for k in 0..100u64 {
             let (answer, refused) = memory.refuse_during(k, || three(&memory));
@@ -193,7 +203,7 @@ mod tests {
 
     #[test]
     fn all_from_one_on_are_refused(rt: HostRuntime) -> Result<(), Fail> {
-        let memory = Refusing::new(rt.alloc());
+        let memory = Metered::new(rt.alloc());
         memory.refuse_from(2);
         let mut numbers = Vec::new(&memory);
         for i in 0..9u8 {
@@ -214,13 +224,14 @@ mod tests {
 
     #[test]
     fn a_type_of_ones_own(rt: HostRuntime) -> Result<(), Fail> {
-        let memory = Refusing::new(rt.alloc());
+        let memory = Metered::new(rt.alloc());
         for k in 0..3u64 {
             let (answer, refused) = memory.refuse_during(k, || Link::new(&memory, 7u64));
             assert_eq!(rt; refused, k < 2);
             assert_eq!(rt; answer.is_err(), refused);
             if let Ok(link) = answer {
                 assert_eq!(rt; memory.blocks(), 2);
+                assert!(rt; memory.bytes() > 16);
                 assert_eq!(rt; *link.key, 7);
                 assert!(rt; link.next.is_some());
             }
@@ -245,7 +256,7 @@ mod tests {
 
     #[test]
     fn threads_share_it(rt: HostRuntime) {
-        let memory = Refusing::new(rt.alloc());
+        let memory = Metered::new(rt.alloc());
         for k in 0..100u64 {
             let (answer, refused) = memory.refuse_during(k, || on_two(&rt, &memory));
             if !refused {
@@ -259,7 +270,7 @@ mod tests {
 
     #[test]
     fn a_leaked_one_goes_to_a_spawned_thread(rt: HostRuntime) -> Result<(), Fail> {
-        let memory = Refusing::leaked(rt.alloc())?;
+        let memory = Metered::leaked(rt.alloc())?;
         memory.refuse_at(1);
         let child = thread::spawn(&rt, move || (boxed(memory, 1), boxed(memory, 2)))?;
         assert_eq!(rt; child.join(&rt), (Ok(1), Err(AllocError)));
@@ -304,8 +315,8 @@ mod tests {
 
     #[test]
     fn threads_share_a_type_over_it(rt: HostRuntime) -> Result<(), Fail> {
-        let memory = Refusing::leaked(rt.alloc())?;
-        let shelf: Shelf<u64, &'static Refusing<Global>> = Shelf::new(memory);
+        let memory = Metered::leaked(rt.alloc())?;
+        let shelf: Shelf<u64, &'static Metered<Global>> = Shelf::new(memory);
         memory.refuse_at(2);
         let (one, two) = thread::join(&rt, || shelf.put(&rt, 1), || shelf.put(&rt, 2));
         assert!(rt; one.is_err() != two.is_err());
