@@ -1,0 +1,194 @@
+//! A round: each map is made, measured and dropped.
+
+use crate::board::{Board, Cell};
+use crate::crews::{Size, work_alone, work_together};
+use crate::measures::{GROWING, Kind, Measure, ONE_HASH, ROOMY};
+use crate::subjects::{Make, Subject};
+use crate::words::Words;
+use crate::workloads::Work;
+use anyhow::ensure;
+use metered_alloc::Metered;
+use std::alloc::Global;
+use std::sync::Wait;
+use std::thread::Threads;
+use std::time::{Clock, Duration, Instant};
+
+/// What a round measures.
+#[derive(Clone, Copy)]
+pub struct Trial<'w> {
+    pub keys: u64,
+    pub threads: u64,
+    pub words: Words<'w>,
+}
+
+// The least number of calls of a look-up or a mix.
+const LEAST_CALLS: u64 = 100_000;
+
+impl<'w> Trial<'w> {
+    fn cell(self, kind: Kind, measure: Measure) -> Cell {
+        Cell {
+            measure,
+            kind,
+            keys: self.keys,
+            threads: self.threads,
+        }
+    }
+
+    // Where all keys have one hash, a look-up may take as many steps as there are keys, so there are fewer of them.
+    fn size(self, measure: Measure) -> Size {
+        let calls = if measure == Measure::OneHashHit {
+            self.keys.min(LEAST_CALLS)
+        } else {
+            self.keys.max(LEAST_CALLS)
+        };
+        Size {
+            keys: self.keys,
+            calls,
+        }
+    }
+
+    // Whether the work has to be done: it is asked for, or puts in the keys that the other work on the map needs.
+    fn needs(self, measure: Measure) -> bool {
+        measure.work() == Work::Insert || self.words.want(&[measure])
+    }
+}
+
+/// What measures maps in rounds, and all that it measured.
+#[derive(Drop)]
+pub struct Bench<'r, R> {
+    pub rt: &'r R,
+    pub alloc: Global,
+    pub board: Board,
+}
+
+impl<'r, R: Threads + Wait + Clock + Sync> Bench<'r, R> {
+    /// Measures a map of one kind in the trial's threads: `S` hashes its keys, and `Z` gives them one hash.
+    pub fn time_together<
+        S: Subject + Make<Global> + Drop + Sync,
+        Z: Subject + Make<Global> + Drop + Sync,
+    >(&mut self, trial: Trial<'_>, kind: Kind) -> anyhow::Result<()> {
+        let processors = trial.threads as usize;
+        if trial.words.want(&GROWING) {
+            let map = S::make(self.alloc, 0, processors)?;
+            self.work_together_through(&map, kind, &GROWING, trial)?;
+        }
+        if trial.words.want(&ROOMY) {
+            let map = S::make(self.alloc, trial.keys as usize, processors)?;
+            self.work_together_through(&map, kind, &ROOMY, trial)?;
+        }
+        if kind.takes_one_hash(trial.keys) && trial.words.want(&ONE_HASH) {
+            let map = Z::make(self.alloc, 0, processors)?;
+            self.work_together_through(&map, kind, &ONE_HASH, trial)?;
+        }
+        Ok(())
+    }
+
+    /// Measures a map of one kind in the caller's thread alone: `S` hashes its keys, and `Z` gives them one hash.
+    pub fn time_alone<S: Subject + Make<Global> + Drop, Z: Subject + Make<Global> + Drop>(
+        &mut self,
+        trial: Trial<'_>,
+        kind: Kind,
+    ) -> anyhow::Result<()> {
+        let processors = trial.threads as usize;
+        if trial.words.want(&GROWING) {
+            let map = S::make(self.alloc, 0, processors)?;
+            self.work_alone_through(&map, kind, &GROWING, trial)?;
+        }
+        if trial.words.want(&ROOMY) {
+            let map = S::make(self.alloc, trial.keys as usize, processors)?;
+            self.work_alone_through(&map, kind, &ROOMY, trial)?;
+        }
+        if kind.takes_one_hash(trial.keys) && trial.words.want(&ONE_HASH) {
+            let map = Z::make(self.alloc, 0, processors)?;
+            self.work_alone_through(&map, kind, &ONE_HASH, trial)?;
+        }
+        Ok(())
+    }
+
+    // Does the work of each measure on the map in the trial's threads.
+    fn work_together_through<S: Subject + Sync>(
+        &mut self,
+        map: &S,
+        kind: Kind,
+        measures: &[Measure],
+        trial: Trial<'_>,
+    ) -> anyhow::Result<()> {
+        for measure in measures {
+            if trial.needs(*measure) {
+                let size = trial.size(*measure);
+                let start = Instant::now(self.rt)?;
+                let wrong = work_together(self.rt, map, measure.work(), size, trial.threads);
+                let elapsed = start.elapsed(self.rt)?;
+                self.add(trial, kind, *measure, wrong, elapsed)?;
+            }
+        }
+        Ok(())
+    }
+
+    // Does the work of each measure on the map in the caller's thread.
+    fn work_alone_through<S: Subject>(
+        &mut self,
+        map: &S,
+        kind: Kind,
+        measures: &[Measure],
+        trial: Trial<'_>,
+    ) -> anyhow::Result<()> {
+        for measure in measures {
+            if trial.needs(*measure) {
+                let size = trial.size(*measure);
+                let start = Instant::now(self.rt)?;
+                let wrong = work_alone(self.rt, map, measure.work(), size);
+                let elapsed = start.elapsed(self.rt)?;
+                self.add(trial, kind, *measure, wrong, elapsed)?;
+            }
+        }
+        Ok(())
+    }
+
+    // Adds the time of one call, in tenths of a nanosecond, if it is asked for and no answer was wrong.
+    fn add(
+        &mut self,
+        trial: Trial<'_>,
+        kind: Kind,
+        measure: Measure,
+        wrong: u64,
+        elapsed: Duration,
+    ) -> anyhow::Result<()> {
+        ensure_right(wrong, kind, measure)?;
+        if trial.words.want(&[measure]) {
+            let calls = u128::from(trial.size(measure).calls_of(measure.work()).max(1));
+            let tenths = elapsed.as_nanos().saturating_mul(10) / calls;
+            let tenths = u64::try_from(tenths).unwrap_or(u64::MAX);
+            self.board.add(trial.cell(kind, measure), tenths)?;
+        }
+        Ok(())
+    }
+
+    /// Measures how many bytes a map of one kind has out for each pair, in tenths, if it is asked for. One thread puts the pairs in.
+    pub fn bytes<S: Subject + Make<&'static Metered<Global>> + Drop>(
+        &mut self,
+        trial: Trial<'_>,
+        kind: Kind,
+    ) -> anyhow::Result<()> {
+        let measure = Measure::BytesAPair;
+        if trial.words.want(&[measure]) {
+            let memory = Metered::leaked(self.alloc)?;
+            let map = S::make(memory, 0, 1)?;
+            let wrong = work_alone(self.rt, &map, measure.work(), trial.size(measure));
+            ensure_right(wrong, kind, measure)?;
+            let tenths = memory.bytes().saturating_mul(10) / trial.keys.max(1);
+            self.board.add(trial.cell(kind, measure), tenths)?;
+        }
+        Ok(())
+    }
+}
+
+fn ensure_right(wrong: u64, kind: Kind, measure: Measure) -> anyhow::Result<()> {
+    ensure!(
+        wrong == 0,
+        "{}, {}: {wrong} calls answered wrongly or found no memory",
+        measure.name(),
+        kind.name()
+    );
+    Ok(())
+}
