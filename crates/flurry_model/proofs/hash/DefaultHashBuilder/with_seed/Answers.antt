@@ -1,0 +1,5 @@
+use Rattle.std.proofs.Common.{rules}
+use Rattle.flurry_model.proofs.hash.DefaultHashBuilder.with_seed.Goals as goal
+
+pub returns : goal.returns
+returns c = search rules
