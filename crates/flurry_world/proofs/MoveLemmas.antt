@@ -54,6 +54,13 @@ module _ {K V A : Type 0} (xs front back : List (Vec (SlotState K V) A)) (e : �
       let there = front_read xs front back e split len olds is in
       (lt, there, place_here xs e olds lt there i q (slot_within xs e olds lt there i some) (at ∙ ap (λ (v : Vec (SlotState K V) A). get_or v.items i q) (sym is)))
 
+  -- the index is below the number of its slots
+  pub old_below : (i : ℕ) (olds : Vec (SlotState K V) A) → IsSome (place_at (seen xs) e i) → olds ≡ get_or front e olds → i < length (get_or front e olds).items
+  old_below i olds some is =
+      let lt = table_within xs e i some in
+      let there = front_read xs front back e split len olds is in
+      rw is at (slot_within xs e olds lt there i some)
+
   -- the next table, which has a slot of this index
   pub new_at : (j : ℕ) (news : Vec (SlotState K V) A) → IsSome (place_at (seen xs) (e + 1) j) → news ≡ get_or back 0 news
       → (e + 1 < length xs) × (news ≡ get_or xs (e + 1) news) × (j < length (get_or back 0 news).items)

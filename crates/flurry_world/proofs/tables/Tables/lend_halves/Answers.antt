@@ -1,10 +1,19 @@
 use Rattle.std.proofs.Common.{◌≡◌, ◌+◌, ◌^◌, ◌++◌, length, drop, set, get_or, refl, sym, ap, ◌∙◌, subst, arith}
+use Rattle.std.proofs.lemmas.Grind.{common_steps}
 use Rattle.std.specs.Vec.{with_item}
 use Rattle.flurry_world.specs.Tables.{AreTables}
 use Rattle.flurry_world.proofs.TableLaws.{index_within}
 use Rattle.flurry_world.proofs.ViewLemmas.{seen, number_places}
-use Rattle.flurry_world.proofs.MoveLemmas.{old_at, new_at, as_many, moved, take_front}
+use Rattle.flurry_world.proofs.MoveLemmas.{old_at, old_below, new_at, as_many, moved, take_front}
 use Rattle.flurry_world.proofs.tables.Tables.lend_halves.Goals as goal
+
+pub index_mut-requires : goal.index_mut-requires
+index_mut-requires g c =
+    let xs = c.self.inside.tables.items in
+    let there = rw (← c.self.view_is) at c.requires.there in
+    let split = sym c.deref_mut.ensures.value ∙ c.split_at_mut-front.ensures.value in
+    let v = get_or c.split_at_mut-front.result.0.now c.args.table c.index-front-table.result in
+    omega (arith, v.ok.0, old_below xs _ _ c.args.table split c.split_at_mut-front.ensures.front_len c.args.index c.index-front-table.result there.0 c.index-front-table.is)
 
 pub move_between-requires-clause-wants : goal.move_between-requires-clause-wants
 move_between-requires-clause-wants g c =
@@ -85,3 +94,12 @@ returns-clause-step g c b =
 
 pub returns-clause-within : goal.returns-clause-within
 returns-clause-within g c = invariant_of-self g c
+
+pub split_at_mut-front-requires : goal.split_at_mut-front-requires
+split_at_mut-front-requires g c = grind (arith, common_steps)
+
+pub offset_bounds-front-table : goal.offset_bounds-front-table
+offset_bounds-front-table g c = grind (arith, common_steps)
+
+pub bounds-back-0 : goal.bounds-back-0
+bounds-back-0 g c = grind (arith, common_steps)

@@ -1,4 +1,5 @@
-use Rattle.std.proofs.Common.{◌≡◌, ℕ, ◌∙◌, List, [], length, get_or, replicate, ap, inl, inr, arith}
+use Rattle.std.proofs.Common.{rules, ◌≡◌, ℕ, ◌∙◌, List, [], length, get_or, replicate, ap, inl, inr, arith}
+use Rattle.std.proofs.lemmas.Grind.{common_steps}
 use Rattle.std.proofs.lemmas.Bool.{cases_lt}
 use Rattle.std.proofs.lemmas.List.{length-replicate, get_or-replicate, get_or_past}
 use Rattle.flurry_world.specs.Tables.{Tables, AreTables, slots_of}
@@ -21,3 +22,18 @@ invariant_of-result g c = are _ c.loop.counter c.loop.invariant.empty (omega ari
 
 pub returns : goal.returns
 returns g c = c.loop.invariant.empty ∙ ap (λ n. replicate n []) (let all : c.loop.counter ≡ TABLES = omega arith in all)
+
+pub returns-in_err-tables : goal.returns-in_err-tables
+returns-in_err-tables g c = search rules
+
+pub loop-init : goal.loop-init
+loop-init g c = search rules
+
+pub push_reserved-requires : goal.push_reserved-requires
+push_reserved-requires g c = search rules
+
+pub loop-smaller : goal.loop-smaller
+loop-smaller g c = search rules
+
+pub loop-preserved : goal.loop-preserved
+loop-preserved g c = grind (arith, common_steps)

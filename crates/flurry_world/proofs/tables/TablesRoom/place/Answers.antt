@@ -1,4 +1,5 @@
-use Rattle.std.proofs.Common.{◌≡◌, length, sym, subst, arith}
+use Rattle.std.proofs.Common.{rules, ◌≡◌, length, sym, subst, arith}
+use Rattle.std.proofs.lemmas.Grind.{common_steps}
 use Rattle.std.proofs.lemmas.Bool.{eqb-true}
 use Rattle.flurry_world.specs.Tables.{AreTables}
 use Rattle.flurry_world.proofs.TableLaws.{AreTables-made}
@@ -21,3 +22,21 @@ returns g c =
     rw (← c.self.view_is)
     (gives_new (seen xs) _ c.args.table c.args.live (none_here xs c.args.table v lt c.index_mut-place.ensures.value empty)
     (made_here xs c.args.table v lt c.index_mut-place.ensures.value c.args.live c.in_ok-place.field-0 c.in_ok-place.ensures))
+
+pub index_mut-place-requires : goal.index_mut-place-requires
+index_mut-place-requires g c = omega (arith, number_within c.self.inside.tables.items c.args.table c.self.invariant c.requires, c.self.inside.tables.ok.0)
+
+pub invariant_of-self : goal.invariant_of-self
+invariant_of-self g c = grind (arith, common_steps)
+
+pub returns-then-not-is_empty : goal.returns-then-not-is_empty
+returns-then-not-is_empty g c = grind (arith, common_steps)
+
+pub new_slots-requires : goal.new_slots-requires
+new_slots-requires g c = search rules
+
+pub invariant_of-self-in_err-place : goal.invariant_of-self-in_err-place
+invariant_of-self-in_err-place g c = grind (arith, common_steps)
+
+pub returns-in_err-place : goal.returns-in_err-place
+returns-in_err-place g c = grind (arith, common_steps)
