@@ -157,15 +157,14 @@ impl<T: Ord + Drop, S: KeyHasher<T>, A: Allocator> SeqSet<T, S, A> {
     ///
     /// As many calls as there are elements, and as many steps again as the table has bins; takes no memory. The table stays as
     /// large as it is.
-    pub fn retain<F: FnMut(&T) -> bool>(&mut self, f: F)
+    pub fn retain<F: FnMut(&T) -> bool>(&mut self, mut f: F)
     where
         F: Drop,
         requires { F.IsAlwaysCallable f }
         ensures kept { RetainsElements F.step T.cmp f self.old self.new }
         ensures ascend { IsFiniteSet T.cmp self.old.elements }
     {
-        let mut keep = f;
-        self.map.retain(move |element: &T, _: &()| keep(element));
+        self.map.retain(move |element: &T, _: &()| f(element));
     }
 
     /// The elements, each once, in an open order; as fast as [`SeqMap::iter`]. It takes no memory.
