@@ -49,7 +49,7 @@ build() {
     (cd -- "$root/crates/$crate" && exec setsid rt run -- "$word") </dev/null >"$room/log" 2>&1 &
     local process=$!
     # shellcheck disable=SC2064
-    trap "kill -- -$process 2>/dev/null; rm -rf -- $(printf '%q' "$room")" EXIT
+    trap "kill -- -$process 2>/dev/null || :; rm -rf -- $(printf '%q' "$room")" EXIT
     tell_progress "$name" "$process" "$room/log"
     wait "$process" || status=$?
     if ((status)) || [[ ! -x $program ]]; then
