@@ -17,7 +17,11 @@ fn four_threads_put_pairs_in(rt: HostRuntime) -> Result<(), Fail> {
 
     assert_eq!(rt; locks.len(&rt), 2000);
     let newest = locks.newest().map(|start| start.table());
-    assert_eq!(rt; newest, Some(12), "2,000 pairs are more than three for four of 2^11 bins");
+    assert_eq!(rt;
+        newest,
+        Some(12),
+        "2,000 pairs are more than three for four of 2^11 bins"
+    );
     Ok(())
 }
 
