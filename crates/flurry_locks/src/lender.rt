@@ -48,7 +48,7 @@ impl<'m, R: Wait, K: Ord + Drop, V: Drop, A: Allocator + Copy> Field<K, V, A>
             }
         }
         if party.counts() {
-            if let Some(most) = locks.starts.most_waiting() {
+            if let Some(most) = locks.control.most_waiting(locks.starts.newest()) {
                 let mut tally = locks.control.tally(party.hash()).lock(self.rt);
                 return Some(party.on_tally(&mut *tally, most));
             }

@@ -2,12 +2,16 @@
 
 use crossbeam_utils::CachePadded;
 use flurry_steps::Control;
-use flurry_steps::control::Tally;
+use flurry_steps::control::{Advice, PublishedTable, Tally};
 use std::array;
+use std::sync::atomic::{AtomicBool, Ordering};
 use std::sync::{Mutex, MutexGuard, Wait};
 
 // How many tallies there are.
 const TALLIES: usize = 16;
+
+// Of so many bins each tally may have one pair wait, so that a growth begins late by about a pair for 16 bins.
+const BINS_A_WAITING_PAIR: i64 = 256;
 
 /// A control and its tallies, each under a lock of its own. A call that counts does so at the tally of its hash, and so waits for few
 /// others.
@@ -15,6 +19,8 @@ const TALLIES: usize = 16;
 pub(crate) struct SharedControl {
     control: Mutex<Control>,
     tallies: [CachePadded<Mutex<Tally>>; TALLIES],
+    // Whether a growth was to begin or to be helped when the control was locked last.
+    is_growth_due: CachePadded<AtomicBool>,
 }
 
 impl SharedControl {
@@ -23,6 +29,7 @@ impl SharedControl {
         SharedControl {
             control: Mutex::new(control),
             tallies: array::from_fn(|_| CachePadded::new(Mutex::new(Tally::new()))),
+            is_growth_due: CachePadded::new(AtomicBool::new(false)),
         }
     }
 
@@ -32,11 +39,26 @@ impl SharedControl {
         for tally in &self.tallies {
             control.collect(&mut *tally.lock(rt));
         }
+        let is_due = control.count(0) != Advice::Enough;
+        if self.is_growth_due.load(Ordering::SeqCst) != is_due {
+            self.is_growth_due.store(is_due, Ordering::SeqCst);
+        }
         control
     }
 
     // The tally of that hash.
     pub(crate) fn tally(&self, hash: u64) -> &Mutex<Tally> {
         &self.tallies[hash as usize % TALLIES]
+    }
+
+    // How many pairs may wait at a tally of a map whose newest table is this one, before a call looks at the control's count. None where
+    // calls count at the control: where the table is small, and as long as a growth is due.
+    pub(crate) fn most_waiting(&self, newest: Option<&PublishedTable>) -> Option<i64> {
+        if self.is_growth_due.load(Ordering::SeqCst) {
+            return None;
+        }
+        let bins = 1i64.checked_shl(u32::from(newest?.table()))?;
+        let most = bins / BINS_A_WAITING_PAIR;
+        if most > 1 { Some(most) } else { None }
     }
 }

@@ -6,9 +6,6 @@ use std::array;
 use std::sync::OnceLock;
 use std::sync::atomic::{AtomicUsize, Ordering};
 
-// Of so many bins each tally may have one pair wait. There are 16 tallies, so a growth begins late by a pair for 16 bins at most.
-const BINS_A_WAITING_PAIR: i64 = 256;
-
 /// A place for each number that was published, and which one was put in last.
 ///
 /// Whoever has the control's lock puts numbers in; a reader may be behind.
@@ -30,14 +27,6 @@ impl Starts {
     // The number that was put in last, if there is one.
     pub(crate) fn newest(&self) -> Option<&PublishedTable> {
         self.places.get(self.newest.load(Ordering::SeqCst))?.get()
-    }
-
-    // How many pairs may wait at a tally before a call looks at the control's count. None where the table is small: then calls count at
-    // the control.
-    pub(crate) fn most_waiting(&self) -> Option<i64> {
-        let bins = 1i64.checked_shl(u32::from(self.newest()?.table()))?;
-        let most = bins / BINS_A_WAITING_PAIR;
-        if most > 1 { Some(most) } else { None }
     }
 
     // Puts in a number. One that is there already stays.

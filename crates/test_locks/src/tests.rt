@@ -3,6 +3,7 @@
 mod calls;
 mod threads;
 
+use calls::put_all;
 use flurry_locks::Locks;
 use std::alloc::Global;
 use std::test::Fail;
@@ -22,6 +23,21 @@ fn four_threads_put_pairs_in(rt: HostRuntime) -> Result<(), Fail> {
         Some(12),
         "2,000 pairs are more than three for four of 2^11 bins"
     );
+    Ok(())
+}
+
+// Whoever asks for the length collects what waits at tallies. The table grows all the same.
+#[test]
+fn a_table_grows_between_lengths(rt: HostRuntime) -> Result<(), Fail> {
+    let locks: Locks<u64, u64, Global> = Locks::new(rt.alloc());
+
+    for number in 0..2000u64 {
+        put_all(&rt, &locks, number, number + 1);
+        assert_eq!(rt; locks.len(&rt) as u64, number + 1);
+    }
+
+    let newest = locks.newest().map(|start| start.table());
+    assert_eq!(rt; newest, Some(12));
     Ok(())
 }
 
