@@ -1,4 +1,7 @@
 //! Measures the maps of this repository beside those of the kit, and prints one table.
+//!
+//! Its functions are proved to be safe. What they measure and print is told by no contract: a run compares each answer of a map with what
+//! it must be, and ends at one that is wrong.
 #![tactic(auto)]
 
 mod board;
