@@ -8,7 +8,7 @@ use Rattle.std.proofs.lemmas.Int.{ints}
 use Rattle.std.proofs.lemmas.List.{reverse-append}
 use Rattle.std.proofs.lemmas.Option.{slice_get_within}
 use Rattle.flurry_slots.specs.Slot.{Content, IsLive, HasMoved, IsUnborn}
-use Rattle.flurry_steps.specs.Control.{ControlState}
+use Rattle.flurry_control.specs.Control.{ControlState}
 use Rattle.flurry_steps.specs.Party.{OutcomeReply, OutcomeEnded, OutcomeRefused, Outcome, Stage, AtLocate, AtBin, AtClaim, AtMove, AtUncount, AtCount, AtRecount, AtBegin, AtGrow, AtReserve, AtDone, AtTaken, PartyState, wanted_part, with_stage, started_stage, locates, outcome_in}
 use Rattle.flurry_steps.specs.declared.party.Event.{Event}
 use Rattle.flurry_steps.specs.declared.party.Event.TheVariants as event

@@ -6,8 +6,7 @@ use crate::shared_control::SharedControl;
 use crate::starts::Starts;
 use crate::tables::{Maker, Tables};
 use flurry_slots::Slot;
-use flurry_steps::Control;
-use flurry_steps::control::PublishedTable;
+use flurry_control::{Control, PublishedTable};
 use std::alloc::{AllocError, Allocator, Global};
 use std::sync::{RwLock, Wait};
 

@@ -1,8 +1,7 @@
 //! The control of a shared map, under its lock, and where counts of pairs wait for it.
 
 use crossbeam_utils::CachePadded;
-use flurry_steps::Control;
-use flurry_steps::control::{Advice, PublishedTable, Tally};
+use flurry_control::{Advice, Control, PublishedTable, Tally};
 use std::array;
 use std::sync::atomic::{AtomicBool, Ordering};
 use std::sync::{Mutex, MutexGuard, Wait};

@@ -7,18 +7,18 @@ use Rattle.flurry_drive.specs.Turns.{Turns, still, further, TurnsTo}
 use Rattle.flurry_map.specs.Answers.{CanReserve, CanAnswer, CanAnswerFrom, NeedsOwner, IsSought}
 use Rattle.flurry_slots.specs.Slot as slot
 use Rattle.flurry_slots.specs.Slot.{PlainEntry, SlotState, Live, Content, IsLive, HasMoved, IsUnborn, ComputeOutcome, WasAbsent, WasRemoved, WasChanged, Clashes}
-use Rattle.flurry_steps.specs.Control.{ControlState, BeginGives, claim_of, grows_from}
-use Rattle.flurry_steps.specs.Claim.{Range}
+use Rattle.flurry_control.specs.Control.{ControlState, BeginGives, claim_of, grows_from}
+use Rattle.flurry_control.specs.Claim.{Range}
 use Rattle.flurry_steps.specs.Field.{Loan, ControlLoan, StartLoan, TallyLoan, LookLoan, BinLoan, MoveLoan, StepWith, Turn}
 use Rattle.flurry_steps.specs.Party.{Sought, TheValue, ThePair, Presence, Task, Finds, Removes, Inserts, Adds, Computes, Outcome, OutcomeReply, OutcomeEnded, OutcomeRefused, GrowFor, ForInsert, ForReserve, Resume, ThenBin, ThenRecount, ThenGrow, Stage, AtLocate, AtBin, AtClaim, AtMove, AtUncount, AtCount, AtRecount, AtBegin, AtGrow, AtReserve, AtDone, AtTaken, PartyState, reply_for, resumed_stage, started_stage, with_stage}
 use Rattle.flurry_steps.specs.PartyControl.{begin_at, stage_advised, stage_begun, stage_grown, stage_not_grown, stage_growing, OpensFor, LocatesNone, MakesFor, event_growing, StageAtControl}
 use Rattle.flurry_steps.specs.PartySlots.{GoesOnNew, GoesOnWritten, GoesOnAdded, stage_taken, stage_computed, stage_moved, FindCanBeRefused, CanBeRefused, DecidesAt, LiveGives, ContentGives, StageAtSlot, moved_stage, MoveGives}
 use Rattle.flurry_steps.specs.PartyTally.{StageAtTally}
 use Rattle.flurry_steps.specs.PartyView.{first_stage}
-use Rattle.flurry_steps.specs.declared.control.Advice.{Advice}
-use Rattle.flurry_steps.specs.declared.control.Advice.TheVariants as advice
-use Rattle.flurry_steps.specs.declared.control.BeginOutcome.{BeginOutcome}
-use Rattle.flurry_steps.specs.declared.control.BeginOutcome.TheVariants as began
+use Rattle.flurry_control.specs.declared.control.Advice.{Advice}
+use Rattle.flurry_control.specs.declared.control.Advice.TheVariants as advice
+use Rattle.flurry_control.specs.declared.control.BeginOutcome.{BeginOutcome}
+use Rattle.flurry_control.specs.declared.control.BeginOutcome.TheVariants as began
 use Rattle.flurry_steps.specs.declared.party.Event.{Event}
 use Rattle.flurry_steps.specs.declared.party.call.Call.{Call}
 use Rattle.flurry_steps.specs.declared.party.call.Call.TheVariants as call

@@ -9,7 +9,7 @@ use flurry_locks::Locks;
 use flurry_model::sizes::bin_index;
 use flurry_slots::ComputeFn;
 use flurry_steps::Party;
-use flurry_steps::control::PublishedTable;
+use flurry_control::PublishedTable;
 use flurry_steps::party::{Call, Reply};
 use std::alloc::Allocator;
 use std::sync::Wait;

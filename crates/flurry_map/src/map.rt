@@ -19,7 +19,7 @@ use flurry_locks::{Lender, Locks};
 use flurry_model::hash::{DefaultHashBuilder, KeyHasher};
 use flurry_model::try_insert::TryInsertError;
 use flurry_slots::{ComputeFn, NoFn};
-use flurry_steps::control::wanted_table;
+use flurry_control::wanted_table;
 use flurry_steps::party::{Call, Reply};
 use std::alloc::{AllocError, Allocator, Global};
 use std::hash::Hash;

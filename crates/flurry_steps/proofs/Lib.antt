@@ -1,2 +1,1 @@
-pub mod WantedTables
 pub mod Rooms

@@ -2,7 +2,7 @@
 use Rattle.std.specs.Prelude.{◌≡◌, ◌⊎◌, ℕ, ℤ, ◌≤◌, Bool, true, Option, MatchOption}
 use Rattle.std.specs.declared.cmp.Ordering.{Ordering}
 use Rattle.flurry_slots.specs.Slot.{SlotState, IsSlot}
-use Rattle.flurry_steps.specs.Control.{ControlState}
+use Rattle.flurry_control.specs.Control.{ControlState}
 use Rattle.flurry_steps.specs.Party.{PartyState, Part, ControlPart, LookPart, BinPart, MovePart, NoPart, with_stage, wanted_part, locates, started_stage}
 use Rattle.flurry_steps.specs.PartyControl.{ControlStep}
 use Rattle.flurry_steps.specs.PartySlots.{SlotStep, MoveStep}

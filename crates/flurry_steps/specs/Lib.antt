@@ -1,6 +1,3 @@
-pub mod Claim
-pub mod Control
-pub mod ControlView
 pub mod Party
 pub mod PartyView
 pub mod PartySlots

@@ -5,7 +5,7 @@ use Rattle.flurry_model.specs.Sizes.{wanted_of}
 use Rattle.flurry_slots.specs.Slot.{PlainEntry}
 use Rattle.flurry_model.specs.declared.reply.KeptReply.{KeptReply}
 use Rattle.flurry_model.specs.declared.reply.KeptReply.TheVariants.{Value, Pair, Contains}
-use Rattle.flurry_steps.specs.Claim.{Range, next_of}
+use Rattle.flurry_control.specs.Claim.{Range, next_of}
 use Rattle.flurry_model.specs.declared.sizes.TheConstants.{GREATEST_TABLE}
 
 -- what of the entry of a key a call answers: its value, the stored key and the value, or whether there is one

@@ -1,14 +1,14 @@
 -- What a step of a call is at the control.
 use Rattle.std.specs.Prelude.{◌≡◌, ℕ, pos, negsuc, ◌+◌, ◌-◌, ◌^◌, min, Bool, true, false, Option, Some, None, MatchOption}
 use Rattle.flurry_model.specs.declared.reply.KeptReply.TheVariants.{Value}
-use Rattle.flurry_steps.specs.Control.{ControlState, claim_of, after_claim, report_of, after_report, after_count, advice_of, count_of, after_open, BeginGives, grows_from}
+use Rattle.flurry_control.specs.Control.{ControlState, claim_of, after_claim, report_of, after_report, after_count, advice_of, count_of, after_open, BeginGives, grows_from}
 use Rattle.flurry_steps.specs.Party.{Task, Finds, Removes, Inserts, Adds, Computes, Outcome, OutcomeReply, OutcomeEnded, OutcomeRefused, GrowFor, ForInsert, ForReserve, ThenRecount, ThenGrow, Stage, AtLocate, AtBin, AtClaim, AtMove, AtUncount, AtCount, AtRecount, AtBegin, AtGrow, AtReserve, AtDone, PartyState, reply_for, resumed_stage, IsTableFor}
 use Rattle.flurry_steps.specs.declared.party.Event.{Event}
 use Rattle.flurry_steps.specs.declared.party.Event.TheVariants.{Decide, Refused, Opened, Placed, Published, Silent}
-use Rattle.flurry_steps.specs.declared.control.Advice.{Advice}
-use Rattle.flurry_steps.specs.declared.control.Advice.TheVariants.{Enough, Join, Begin}
-use Rattle.flurry_steps.specs.declared.control.BeginOutcome.{BeginOutcome}
-use Rattle.flurry_steps.specs.declared.control.BeginOutcome.TheVariants as started_stage
+use Rattle.flurry_control.specs.declared.control.Advice.{Advice}
+use Rattle.flurry_control.specs.declared.control.Advice.TheVariants.{Enough, Join, Begin}
+use Rattle.flurry_control.specs.declared.control.BeginOutcome.{BeginOutcome}
+use Rattle.flurry_control.specs.declared.control.BeginOutcome.TheVariants as started_stage
 use Rattle.flurry_model.specs.declared.sizes.TheConstants.{FIRST_TABLE}
 
 module _ {K V F : Type 0} where

@@ -4,7 +4,7 @@ use Rattle.std.specs.declared.cmp.Ordering.{Ordering}
 use Rattle.flurry_slots.specs.Slot as slot
 use Rattle.flurry_slots.specs.Slot.{PlainEntry, Live, Content, IsLive, HasMoved, IsUnborn, SlotState, ComputeOutcome, WasAbsent, WasRemoved, WasChanged, entry_of_live, after_write, write_reply, after_add, add_reply, after_take, ComputesInVain, HasMovedInto, Clashes}
 use Rattle.flurry_model.specs.declared.reply.KeptReply.TheVariants.{Value, New, Exists}
-use Rattle.flurry_steps.specs.Claim.{moved_on}
+use Rattle.flurry_control.specs.Claim.{moved_on}
 use Rattle.flurry_steps.specs.Party.{Sought, Presence, Task, Finds, Removes, Inserts, Adds, Computes, Outcome, OutcomeReply, OutcomeRefused, ForInsert, ThenBin, Stage, AtLocate, AtBin, AtClaim, AtMove, AtUncount, AtCount, AtGrow, AtDone, PartyState, reply_for, with_stage, IsTableFor}
 use Rattle.flurry_steps.specs.declared.party.Event.{Event}
 use Rattle.flurry_steps.specs.declared.party.Event.TheVariants.{Decide, Refused, Moved, Silent}

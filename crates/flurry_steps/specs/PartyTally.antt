@@ -1,6 +1,6 @@
 -- What a step of a call is at a tally.
 use Rattle.std.specs.Prelude.{◌≡◌, ℤ, pos, negsuc, Bool, true, false, if◌then◌else◌, int_le}
-use Rattle.flurry_steps.specs.Control.{counted}
+use Rattle.flurry_control.specs.Control.{counted}
 use Rattle.flurry_steps.specs.Party.{Outcome, Stage, AtUncount, AtCount, AtRecount, AtDone, PartyState}
 use Rattle.flurry_steps.specs.declared.party.Event.{Event}
 use Rattle.flurry_steps.specs.declared.party.Event.TheVariants as event

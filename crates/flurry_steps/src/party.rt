@@ -19,7 +19,7 @@ mod first;
 mod reply;
 mod stage;
 
-use crate::control::{Control, PublishedTable, Room};
+use flurry_control::{Control, PublishedTable, Room};
 use at_control::step_control;
 use at_slot::{step_lookup, step_write};
 use call::{Key, Sought, Task};

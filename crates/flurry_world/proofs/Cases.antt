@@ -5,8 +5,8 @@ use Rattle.std.specs.Int.{saturate_signed, w64}
 use Rattle.std.specs.Cmp.{IsTotalOrder}
 use Rattle.std.proofs.Common.{arith, sym, ◌∙◌, ap, subst}
 use Rattle.std.proofs.lemmas.Int.{ints}
-use Rattle.flurry_steps.specs.Control as control
-use Rattle.flurry_steps.specs.Control.{ControlState, IsIdle, Grows}
+use Rattle.flurry_control.specs.Control as control
+use Rattle.flurry_control.specs.Control.{ControlState, IsIdle, Grows}
 use Rattle.flurry_steps.specs.Party.{Outcome, Stage, PartyState}
 use Rattle.flurry_steps.specs.declared.party.Event.{Event}
 use Rattle.flurry_theory.specs.Machine.{Done, Quiet, Counts}

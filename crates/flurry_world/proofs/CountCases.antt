@@ -5,12 +5,12 @@ use Rattle.std.specs.Cmp.{IsTotalOrder}
 use Rattle.std.proofs.Common.{arith, refl, sym, ◌∙◌, ap, subst}
 use Rattle.std.proofs.lemmas.Bool.{eqb-true, and_parts, ltb-true}
 use Rattle.std.proofs.lemmas.Nat.{pow_pos}
-use Rattle.flurry_steps.specs.Control as control
-use Rattle.flurry_steps.specs.Control.{ControlState, IsControl, IsIdle, Grows, after_begin, after_count, can_begin, BeginGives, grows_from, grows_by}
-use Rattle.flurry_steps.specs.declared.control.Advice.{Advice}
-use Rattle.flurry_steps.specs.declared.control.Advice.TheVariants.{Enough, Join, Begin}
-use Rattle.flurry_steps.specs.declared.control.BeginOutcome.{BeginOutcome}
-use Rattle.flurry_steps.specs.declared.control.BeginOutcome.TheVariants as started_stage
+use Rattle.flurry_control.specs.Control as control
+use Rattle.flurry_control.specs.Control.{ControlState, IsControl, IsIdle, Grows, after_begin, after_count, can_begin, BeginGives, grows_from, grows_by}
+use Rattle.flurry_control.specs.declared.control.Advice.{Advice}
+use Rattle.flurry_control.specs.declared.control.Advice.TheVariants.{Enough, Join, Begin}
+use Rattle.flurry_control.specs.declared.control.BeginOutcome.{BeginOutcome}
+use Rattle.flurry_control.specs.declared.control.BeginOutcome.TheVariants as started_stage
 use Rattle.flurry_steps.specs.Party.{Outcome, OutcomeReply, OutcomeEnded, OutcomeRefused, GrowFor, ForInsert, ForReserve, ThenRecount, ThenGrow, Stage, AtClaim, AtUncount, AtCount, AtRecount, AtBegin, AtGrow, AtDone, PartyState}
 use Rattle.flurry_steps.specs.PartyControl.{stage_advised, stage_begun, stage_grown, stage_not_grown, stage_growing, event_begun, event_growing, event_not_grown}
 use Rattle.flurry_steps.specs.declared.party.Event.{Event}

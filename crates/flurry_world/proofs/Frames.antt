@@ -6,7 +6,7 @@ use Rattle.std.proofs.Common.{arith, refl, sym, ◌∙◌, ap, subst}
 use Rattle.std.proofs.lemmas.Int.{ints}
 use Rattle.std.specs.Cmp.{IsTotalOrder}
 use Rattle.flurry_slots.specs.Slot.{Live, IsLive}
-use Rattle.flurry_steps.specs.Control.{ControlState, IsControl, Grows}
+use Rattle.flurry_control.specs.Control.{ControlState, IsControl, Grows}
 use Rattle.flurry_steps.specs.Party.{PartyState}
 use Rattle.flurry_theory.specs.Map.{same}
 use Rattle.flurry_theory.specs.Machine.{Transition, Can}

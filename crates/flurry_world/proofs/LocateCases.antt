@@ -5,8 +5,8 @@ use Rattle.std.specs.Cmp.{IsTotalOrder}
 use Rattle.std.proofs.Common.{arith, refl, sym, ◌∙◌, ap, subst}
 use Rattle.flurry_slots.specs.Slot as slots
 use Rattle.flurry_slots.specs.Slot.{SlotState, Content, IsLive, IsUnborn}
-use Rattle.flurry_steps.specs.Control as control
-use Rattle.flurry_steps.specs.Control.{ControlState, IsControl, IsIdle, Grows, after_open, count_of, GrowthIsIn}
+use Rattle.flurry_control.specs.Control as control
+use Rattle.flurry_control.specs.Control.{ControlState, IsControl, IsIdle, Grows, after_open, count_of, GrowthIsIn}
 use Rattle.flurry_steps.specs.Party.{Task, Finds, Removes, Inserts, Adds, Computes, OutcomeReply, OutcomeRefused, ForReserve, Stage, AtLocate, AtBin, AtGrow, AtReserve, AtDone, PartyState, reply_for}
 use Rattle.flurry_steps.specs.PartyControl.{OpensFor, LocatesNone, MakesFor, ReservesFor}
 use Rattle.flurry_steps.specs.declared.party.Event.{Event}

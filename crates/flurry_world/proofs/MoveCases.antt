@@ -6,8 +6,8 @@ use Rattle.std.proofs.Common.{arith, refl, sym, ◌∙◌, ap, subst, inl, inr}
 use Rattle.std.proofs.lemmas.Bool.{ltb-true}
 use Rattle.flurry_slots.specs.Slot as slots
 use Rattle.flurry_slots.specs.Slot.{SlotState, Content, IsLive, HasMoved, IsUnborn, IsSlot, IsLiveIn, IsContent, AreHalves, HasMovedInto, Clashes, IfLive, half}
-use Rattle.flurry_steps.specs.Claim.{Range, next_of, moved_on}
-use Rattle.flurry_steps.specs.Control.{ControlState}
+use Rattle.flurry_control.specs.Claim.{Range, next_of, moved_on}
+use Rattle.flurry_control.specs.Control.{ControlState}
 use Rattle.flurry_steps.specs.Party.{Resume, AtMove, PartyState, with_stage}
 use Rattle.flurry_steps.specs.PartySlots.{MoveGives, moved_stage}
 use Rattle.flurry_steps.specs.declared.party.Event.{Event}

@@ -7,7 +7,7 @@ use Rattle.std.proofs.Common.{arith, refl, sym, ◌∙◌, ap, subst}
 use Rattle.flurry_slots.specs.Slot as slots
 use Rattle.flurry_slots.specs.Slot.{SlotState, IsLive, IsUnborn}
 use Rattle.std.specs.declared.alloc.AllocError.{AllocError}
-use Rattle.flurry_steps.specs.Control.{ControlState, IsIdle, OpenGives, after_open}
+use Rattle.flurry_control.specs.Control.{ControlState, IsIdle, OpenGives, after_open}
 use Rattle.flurry_theory.specs.Map.{same}
 use Rattle.flurry_theory.specs.Machine.{Live, Unborn}
 use Rattle.flurry_theory.specs.Invariant.{Inv, new_world}

@@ -5,9 +5,9 @@ use Rattle.std.specs.Cmp.{IsTotalOrder}
 use Rattle.std.proofs.Common.{arith, refl, sym, ◌∙◌, ap, subst}
 use Rattle.std.proofs.lemmas.Bool.{ltb-true}
 use Rattle.flurry_slots.specs.Slot.{Content, IsUnborn}
-use Rattle.flurry_steps.specs.Claim.{Range}
-use Rattle.flurry_steps.specs.Control as control
-use Rattle.flurry_steps.specs.Control.{IsIdle, Grows}
+use Rattle.flurry_control.specs.Claim.{Range}
+use Rattle.flurry_control.specs.Control as control
+use Rattle.flurry_control.specs.Control.{IsIdle, Grows}
 use Rattle.flurry_steps.specs.Party.{Task, Finds, Removes, Inserts, Adds, Computes, Resume, Stage, AtLocate, AtBin, AtClaim, AtMove, AtUncount, AtCount, AtRecount, AtBegin, AtGrow, AtReserve, AtDone, AtTaken, part_of, wanted_part, bin_part, move_part}
 use Rattle.flurry_theory.specs.Map.{same, key_of}
 use Rattle.flurry_theory.specs.Invariant.{is_live, key_in}

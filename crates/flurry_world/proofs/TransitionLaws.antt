@@ -13,7 +13,7 @@ use Rattle.flurry_theory.specs.Machine.{State, Mode, Done, Slot, Live, Moved, Tr
 use Rattle.flurry_model.specs.declared.call.Call.{Call}
 use Rattle.flurry_theory.specs.declared.Label.{Label}
 use Rattle.flurry_theory.specs.declared.Label.TheVariants as label
-use Rattle.flurry_steps.specs.Control.{IsIdle, Grows}
+use Rattle.flurry_control.specs.Control.{IsIdle, Grows}
 use Rattle.flurry_steps.specs.Party.{PartyState}
 use Rattle.flurry_world.specs.Entries.{slot_of}
 use Rattle.flurry_world.specs.Tables.{Tables, content_at}

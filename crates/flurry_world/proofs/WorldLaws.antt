@@ -5,7 +5,7 @@ use Rattle.std.specs.Cmp.{IsTotalOrder}
 use Rattle.std.proofs.Common.{arith, refl, sym, ◌∙◌, ap, subst}
 use Rattle.std.proofs.lemmas.Bool.{eqb-true, eqb-false, eq-eqb, ne_eqb}
 use Rattle.std.proofs.lemmas.List.{reverse-append, length-append}
-use Rattle.flurry_steps.specs.Control.{ControlState}
+use Rattle.flurry_control.specs.Control.{ControlState}
 use Rattle.flurry_steps.specs.Party.{Outcome, OutcomeReply, OutcomeEnded, OutcomeRefused, Stage, AtLocate, AtBin, AtClaim, AtMove, AtUncount, AtCount, AtRecount, AtBegin, AtGrow, AtReserve, AtDone, AtTaken, PartyState, with_stage}
 use Rattle.flurry_theory.specs.Map.{same, key_of}
 use Rattle.flurry_theory.specs.Machine.{Can, Locating, Finished, Begins, Quiet, Replies, Ends, at_place, does}

@@ -8,7 +8,7 @@ use Rattle.std.proofs.lemmas.Int.{ints}
 use Rattle.std.proofs.lemmas.List.{length-append, length-reverse}
 use Rattle.flurry_theory.proofs.Counts.{count_within}
 use Rattle.std.proofs.lemmas.Option.{slice_get_past, slice_get-get_or}
-use Rattle.flurry_steps.specs.Control.{ControlState}
+use Rattle.flurry_control.specs.Control.{ControlState}
 use Rattle.flurry_steps.specs.Party.{PartyState, wanted_part}
 use Rattle.flurry_steps.specs.PartyView.{owned_stage}
 use Rattle.flurry_steps.specs.declared.party.call.OwnedCall.{OwnedCall}

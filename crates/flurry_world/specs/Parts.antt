@@ -2,7 +2,7 @@
 use Rattle.std.specs.Prelude.{◌≡◌, ℕ, pos, ◌+◌, ◌^◌, ◌≤◌, List, slice_get, slice_set, Option, Some, None, IsSome, ⊤}
 use Rattle.std.specs.declared.cmp.Ordering.{Ordering}
 use Rattle.flurry_slots.specs.Slot.{SlotState, IsSlot, IsUnborn}
-use Rattle.flurry_steps.specs.Control.{ControlState, IsIdle}
+use Rattle.flurry_control.specs.Control.{ControlState, IsIdle}
 use Rattle.flurry_steps.specs.Field.{Loan, ControlLoan, StartLoan, TallyLoan, LookLoan, BinLoan, MoveLoan}
 use Rattle.flurry_steps.specs.Party.{Stage, AtDone, AtTaken, PartyState, Part, ControlPart, LookPart, BinPart, MovePart, NoPart}
 use Rattle.flurry_steps.specs.PartyControl.{ControlStep}

@@ -1,7 +1,7 @@
 -- What each call of a world does.
 use Rattle.std.specs.Prelude.{◌≡◌, ℕ, pos, suc, [], ◌∷◌, ◌++◌, length, slice_get, slice_set, Option, Some, None, MatchOption}
 use Rattle.std.specs.declared.cmp.Ordering.{Ordering}
-use Rattle.flurry_steps.specs.Control.{ControlState, IsIdle}
+use Rattle.flurry_control.specs.Control.{ControlState, IsIdle}
 use Rattle.flurry_steps.specs.Party.{Outcome, OutcomeReply, OutcomeEnded, OutcomeRefused, Stage, AtDone, AtTaken, PartyState, with_stage, wanted_part, outcome_in}
 use Rattle.flurry_steps.specs.declared.party.Event.{Event}
 use Rattle.flurry_steps.specs.declared.party.Event.TheVariants.{Decide, Refused, Opened, Placed, Moved, Published, Silent}

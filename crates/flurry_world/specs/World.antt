@@ -3,8 +3,8 @@ use Rattle.std.specs.Prelude.{◌≡◌, ℕ, ℤ, pos, neg_ℤ, ◌≤ℤ◌, s
 use Rattle.std.specs.declared.cmp.Ordering.{Ordering}
 use Rattle.flurry_model.specs.declared.reply.KeptReply.{KeptReply}
 use Rattle.flurry_slots.specs.Slot.{Live, IsLive}
-use Rattle.flurry_steps.specs.Control as control
-use Rattle.flurry_steps.specs.Control.{ControlState, IsControl, IsIdle, Grows}
+use Rattle.flurry_control.specs.Control as control
+use Rattle.flurry_control.specs.Control.{ControlState, IsControl, IsIdle, Grows}
 use Rattle.flurry_steps.specs.Party.{TheValue, ThePair, Presence, Task, Finds, Removes, Inserts, Adds, Computes, Outcome, OutcomeReply, OutcomeEnded, OutcomeRefused, GrowFor, ForInsert, ForReserve, Resume, ThenBin, ThenRecount, ThenGrow, Stage, AtLocate, AtBin, AtClaim, AtMove, AtUncount, AtCount, AtRecount, AtBegin, AtGrow, AtReserve, AtDone, AtTaken, PartyState}
 use Rattle.flurry_theory.specs.Machine as machine
 use Rattle.flurry_theory.specs.Machine.{State, Mode, Locating, Looking, Done, Finished}

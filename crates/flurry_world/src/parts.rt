@@ -1,6 +1,6 @@
 //! The parts of a map that one owner has: its control and its tables.
 ghost use Rattle.std.specs.Prelude.{◌≡◌, ◌≤◌, IfOk};
-ghost use Rattle.flurry_steps.specs.Control.{OpenGives};
+ghost use Rattle.flurry_control.specs.Control.{OpenGives};
 ghost use Rattle.flurry_world.specs.Parts.{no_parts};
 ghost use Rattle.flurry_world.specs.Tables.{AreTables, PlaceGives};
 ghost use Rattle.flurry_model.specs.declared.sizes.TheConstants.{GREATEST_TABLE};
@@ -8,7 +8,8 @@ ghost use Rattle.flurry_model.specs.declared.sizes.TheConstants.{GREATEST_TABLE}
 use crate::tables::Tables;
 use flurry_slots::ComputeFn;
 use flurry_steps::party::Event;
-use flurry_steps::{Control, Field, Party};
+use flurry_control::Control;
+use flurry_steps::{Field, Party};
 use std::alloc::{AllocError, Allocator, Global};
 use std::marker::Model;
 

@@ -1,7 +1,7 @@
 //! The tables of a map, each at the place of its exponent.
 ghost use Rattle.std.specs.Prelude.{◌≡◌, ◌+◌, ◌<◌, ◌≤◌, ◌^◌, ◌↔◌, length, Some, IsSome, IsTrue, IfOk, is_some};
 ghost use Rattle.flurry_slots.specs.Slot.{IsSlot};
-ghost use Rattle.flurry_steps.specs.Control.{ControlState};
+ghost use Rattle.flurry_control.specs.Control.{ControlState};
 ghost use Rattle.flurry_steps.specs.Party.{wanted_part, BinPart, MovePart};
 ghost use Rattle.flurry_world.specs.Parts.{HalvesStep, IsThere, PartStep};
 ghost use Rattle.flurry_world.specs.Tables.{AreTables, PlaceGives, fresh, new_slots, no_tables, place_at};
@@ -11,7 +11,7 @@ use flurry_bins::bin::Bin;
 use flurry_model::sizes::{GREATEST_TABLE, TABLES};
 use flurry_slots::{ComputeFn, Slot};
 use flurry_steps::Party;
-use flurry_steps::control::Room;
+use flurry_control::Room;
 use flurry_steps::party::Event;
 use std::alloc::{AllocError, Allocator};
 use std::marker::Model;

@@ -1,7 +1,7 @@
 //! A world: calls of a map in any order of steps.
 ghost use Rattle.std.specs.Prelude.{◌≡◌, ◌<◌, ◌^◌, length, pos, All, OnOk, OnErr, IfOk};
 ghost use Rattle.std.specs.Vec.{vec_len, vec_capacity};
-ghost use Rattle.flurry_steps.specs.Control.{IsIdle};
+ghost use Rattle.flurry_control.specs.Control.{IsIdle};
 ghost use Rattle.flurry_steps.specs.PartyView.{OwnedIsReady};
 ghost use Rattle.flurry_world.specs.Lawful.{IsLawful};
 ghost use Rattle.flurry_world.specs.Runs.{DoesStep, NewGives, Runs, RunsFront, StepIsReady, begun_with};
@@ -16,7 +16,7 @@ use flurry_model::hash::KeyHasher;
 pub use flurry_model::sizes::MOST_LABELS;
 use flurry_slots::ComputeFn;
 use flurry_steps::Party;
-use flurry_steps::control::wanted_table;
+use flurry_control::wanted_table;
 use flurry_steps::party::OwnedCall;
 use flurry_theory::Label;
 use std::alloc::{AllocError, Allocator, Global};

@@ -1,6 +1,6 @@
 //! The steps of a call at the control.
 ghost use Rattle.std.specs.Prelude.{◌≡◌, ◌≤◌, MatchOption, None};
-ghost use Rattle.flurry_steps.specs.Control.{after_count, advice_of, claim_of, after_claim, report_of, after_report};
+ghost use Rattle.flurry_control.specs.Control.{after_count, advice_of, claim_of, after_claim, report_of, after_report};
 ghost use Rattle.flurry_steps.specs.Party.{ResumeIsReady, IsDecided, GrowForIsReady, StageIsReady, TaskIsReady, IsAtControl, AtLocate, AtBegin, AtGrow, AtClaim, AtMove, AtReserve, resumed_stage, reply_for, OutcomeReply};
 ghost use Rattle.flurry_steps.specs.PartyControl.{StageAtControl, stage_advised};
 ghost use Rattle.flurry_steps.specs.PartyView.{resume_of, stage_of, task_of, outcome_of, grow_for_of, sought_of};
@@ -10,7 +10,7 @@ use super::Event;
 use super::call::{Sought, Task};
 use super::reply::Reply;
 use super::stage::{GrowFor, Resume, Stage};
-use crate::control::{Advice, BeginOutcome, Claim, Control, Room, wanted_table};
+use flurry_control::{Advice, BeginOutcome, Claim, Control, Room, wanted_table};
 use flurry_model::sizes::FIRST_TABLE;
 use flurry_slots::ComputeFn;
 use std::alloc::Allocator;

@@ -13,7 +13,7 @@ use super::at_control::absent_reply;
 use super::call::{Key, Sought, Task};
 use super::reply::Reply;
 use super::stage::{GrowFor, Resume, Stage};
-use crate::control::wanted_table;
+use flurry_control::wanted_table;
 use flurry_bins::bin::Entry;
 use flurry_model::try_insert::TryInsertError;
 use flurry_slots::{Added, Answer, ComputeFn, Computed, Slot, Written};

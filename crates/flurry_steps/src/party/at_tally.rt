@@ -4,7 +4,7 @@ ghost use Rattle.flurry_steps.specs.PartyTally.{TallyStep, counts};
 
 use super::stage::Stage;
 use super::{Event, Party};
-use crate::control::Tally;
+use flurry_control::Tally;
 use flurry_slots::ComputeFn;
 use std::alloc::Allocator;
 use std::mem;

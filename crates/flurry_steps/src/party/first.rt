@@ -10,7 +10,7 @@ use super::at_slot::{step_lookup, step_write};
 use super::call::{Call, Key, Sought, Task};
 use super::reply::Reply;
 use super::stage::Stage;
-use crate::control::PublishedTable;
+use flurry_control::PublishedTable;
 use flurry_slots::{ComputeFn, Slot};
 use std::alloc::Allocator;
 

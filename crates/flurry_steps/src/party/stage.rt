@@ -6,7 +6,7 @@ ghost use Rattle.flurry_steps.specs.PartyView.{resume_of, grow_for_of, stage_of}
 
 use super::call::Task;
 use super::reply::Reply;
-use crate::control::Claim;
+use flurry_control::Claim;
 use flurry_slots::ComputeFn;
 use std::alloc::Allocator;
 

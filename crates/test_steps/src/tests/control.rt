@@ -9,8 +9,7 @@ mod reports;
 use super::same;
 use flurry_bins::bin::Bin;
 use flurry_slots::{MoveAnswer, Receipt, Slot};
-use flurry_steps::Control;
-use flurry_steps::control::{BeginOutcome, Claim, Room};
+use flurry_control::{BeginOutcome, Claim, Control, Room};
 use std::alloc::{AllocError, Global};
 use std::process::Abort;
 

@@ -2,7 +2,7 @@
 
 use super::super::{same, same_at};
 use super::{claimed, growing, move_all, receipt_of};
-use flurry_steps::control::Advice;
+use flurry_control::Advice;
 
 #[test]
 fn claims_go_from_the_top_down(rt: HostRuntime) {

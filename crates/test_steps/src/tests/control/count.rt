@@ -3,8 +3,7 @@
 use super::super::{same, same_at};
 use super::empty_room;
 use flurry_model::sizes::stride;
-use flurry_steps::Control;
-use flurry_steps::control::{Advice, wanted_table};
+use flurry_control::{Advice, Control, wanted_table};
 
 #[test]
 fn count_advises_at_the_threshold(rt: HostRuntime) {

@@ -2,8 +2,7 @@
 
 use super::super::same;
 use super::{empty_room, growing, opened};
-use flurry_steps::Control;
-use flurry_steps::control::{Advice, BeginOutcome};
+use flurry_control::{Advice, BeginOutcome, Control};
 
 #[test]
 fn no_table_at_first(rt: HostRuntime) {

@@ -2,8 +2,7 @@
 
 use super::super::same;
 use super::{claimed, growing, move_all, moved};
-use flurry_steps::Control;
-use flurry_steps::control::BeginOutcome;
+use flurry_control::{BeginOutcome, Control};
 
 #[test]
 fn last_report_publishes(rt: HostRuntime) {

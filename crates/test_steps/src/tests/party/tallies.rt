@@ -5,7 +5,7 @@ use super::super::{same, same_at};
 use super::{Map, Told, empty_map, end, step, value};
 use flurry_model::reply::KeptReply;
 use flurry_slots::{ComputeFn, NoFn};
-use flurry_steps::control::Tally;
+use flurry_control::Tally;
 use flurry_steps::party::{Call, Event, Party, Want};
 use std::process::Abort;
 

@@ -1,0 +1,5 @@
+use Rattle.std.proofs.Common.{rules}
+use Rattle.flurry_control.proofs.control.Control.grows_from.Goals as goal
+
+pub returns-in-Some-Idle-clause-value : goal.returns-in-Some-Idle-clause-value
+returns-in-Some-Idle-clause-value c = search rules

@@ -1,0 +1,3 @@
+pub mod Claim
+pub mod Control
+pub mod ControlView

@@ -1,0 +1,99 @@
+//! Ranges of bins that are to be moved.
+ghost use Rattle.std.specs.Prelude.{◌≡◌, ◌-◌, ◌^◌, ◌<◌, ◌≤◌, ◌&&◌, ◌==◌, ◌↔◌, IsTrue, IfSome, Some, None, false, if◌then◌else◌};
+ghost use Rattle.flurry_control.specs.Claim.{IsRange, next_of, moved_on, is_moved, bins_in};
+ghost use Rattle.flurry_model.specs.declared.sizes.TheConstants.{GREATEST_TABLE};
+
+use flurry_slots::Receipt;
+use flurry_slots::clones::{Cloning, NoCloning};
+use std::marker::Model;
+
+/// A range of bins of a table that is being moved into the next one. Its holder alone moves them, from the last one down.
+///
+/// A control's `claim` alone makes one, and it can't be cloned, so no two holders have one bin. A range that is dropped before its
+/// bins have moved stays unmoved for good, and its growth never ends.
+#[derive(Drop)]
+pub struct Claim {
+    table: u8,
+    low: usize,
+    left: usize,
+    high: usize,
+}
+
+impl Model for Claim {
+    ghost use Rattle.flurry_control.specs.Claim.{Range, IsRange};
+
+    ghost Value = { Range };
+
+    ghost view = { λ c. record { table = c.table; low = c.low; left = c.left; high = c.high } };
+
+    ghost invariant = { λ c. IsRange (record { table = c.table; low = c.low; left = c.left; high = c.high }) };
+}
+
+// A claim can't be cloned, so its holder alone has its bins.
+fn claims_can_be_cloned() -> bool
+    ensures { result ≡ false }
+{
+    Cloning::<Claim>::is_there()
+}
+
+impl Claim {
+    // For a control that hands the range out.
+    pub(crate) fn of(table: u8, low: usize, high: usize) -> Self
+        requires table { table < GREATEST_TABLE }
+        requires some { low < high }
+        requires inside { high ≤ 2 ^ table }
+        ensures { result ≡ record { table = table; low = low; left = high; high = high } }
+    {
+        Claim {
+            table,
+            low,
+            left: high,
+            high,
+        }
+    }
+
+    /// The bin to move next, by its table's exponent and its index, or none once all have moved.
+    ///
+    /// Constant time.
+    pub fn next(&self) -> Option<(u8, usize)>
+        ensures value { result ≡ next_of self.now }
+        ensures within { IfSome result (λ b. (b.0 < GREATEST_TABLE) × (b.1 < 2 ^ b.0)) }
+        ensures range { IsRange self.now }
+    {
+        if self.low < self.left {
+            Some((self.table, self.left - 1))
+        } else {
+            None
+        }
+    }
+
+    /// Goes on to the bin below, if the receipt is of the bin to move next. Answers whether it was; if not, the claim is as before.
+    ///
+    /// Constant time.
+    pub fn advance(&mut self, receipt: Receipt) -> bool
+        ensures when { IsTrue result ↔ (next_of self.old ≡ Some receipt) }
+        ensures after { IsTrue result → self.new ≡ moved_on self.old }
+        ensures same { result ≡ false → self.new ≡ self.old }
+    {
+        let (table, index) = receipt.at();
+        if self.low < self.left && self.table == table && self.left - 1 == index {
+            self.left -= 1;
+            true
+        } else {
+            false
+        }
+    }
+
+    // How many bins the range has, if it is of this table and all of them have moved.
+    pub(crate) fn moved_in(&self, table: u8) -> Option<usize>
+        ensures value { result ≡ (if self.now.table == table
+            && is_moved self.now then Some (bins_in self.now) else None) }
+        ensures within { IfSome result (λ n. n ≤ 2 ^ table) }
+    {
+        if self.table == table && self.left == self.low {
+            Some(self.high - self.low)
+        } else {
+            None
+        }
+    }
+}

@@ -1,0 +1,62 @@
+//! Counts that wait.
+ghost use Rattle.std.specs.Prelude.{◌≡◌, pos, int_le};
+ghost use Rattle.flurry_control.specs.Control.{counted};
+
+use std::marker::Model;
+
+/// A count of pairs that waits until a control collects it.
+///
+/// Whoever has pairs to count counts them here in the control's place, and the control that collects the tally empties it. So what waits
+/// at the tallies of a map and what its control has counted is, together, what the control would have counted alone.
+#[derive(Drop)]
+pub struct Tally {
+    count: i64,
+}
+
+impl Model for Tally {
+    ghost use Rattle.std.specs.Prelude.{ℤ};
+
+    ghost Value = { ℤ };
+
+    ghost view = { λ t. t.count };
+}
+
+impl Tally {
+    /// A tally at which nothing waits.
+    ///
+    /// Constant time.
+    pub fn new() -> Self
+        ensures { result ≡ pos 0 }
+    {
+        Tally { count: 0 }
+    }
+
+    /// So many pairs more wait, or fewer where the number is negative. A count past the range of its type stays at the greatest or the
+    /// least number.
+    ///
+    /// Constant time.
+    pub fn count(&mut self, delta: i64)
+        ensures { self.new ≡ counted delta self.old }
+    {
+        self.count = self.count.saturating_add(delta);
+    }
+
+    /// Whether at least so many pairs wait.
+    ///
+    /// Constant time.
+    pub fn has(&self, pairs: i64) -> bool
+        ensures { result ≡ int_le pairs self.now }
+    {
+        pairs <= self.count
+    }
+
+    // Empties the tally, and answers what waited.
+    pub(crate) fn take(&mut self) -> i64
+        ensures value { result ≡ self.old }
+        ensures after { self.new ≡ pos 0 }
+    {
+        let count = self.count;
+        self.count = 0;
+        count
+    }
+}
