@@ -1,3 +1,5 @@
+pub mod Cursor
+pub mod CursorView
 pub mod Party
 pub mod PartyView
 pub mod PartySlots

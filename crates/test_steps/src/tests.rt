@@ -1,6 +1,7 @@
-//! The control, slots, and calls in steps.
+//! The control, slots, calls in steps, and ways over all bins.
 
 mod control;
+mod cursor;
 mod party;
 mod slot;
 
