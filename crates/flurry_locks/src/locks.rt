@@ -5,8 +5,8 @@ ghost use Rattle.flurry_model.specs.declared.sizes.TheConstants.{GREATEST_TABLE}
 use crate::shared_control::SharedControl;
 use crate::starts::Starts;
 use crate::tables::{Maker, Tables};
-use flurry_slots::Slot;
 use flurry_control::{Control, PublishedTable};
+use flurry_slots::Slot;
 use std::alloc::{AllocError, Allocator, Global};
 use std::sync::{RwLock, Wait};
 

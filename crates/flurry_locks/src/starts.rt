@@ -1,7 +1,7 @@
 //! The numbers that a control has published, as calls read them without its lock.
 
-use flurry_model::sizes::TABLES;
 use flurry_control::PublishedTable;
+use flurry_model::sizes::TABLES;
 use std::array;
 use std::sync::OnceLock;
 use std::sync::atomic::{AtomicUsize, Ordering};

@@ -3,9 +3,9 @@ ghost use Rattle.std.specs.Prelude.{◌≤◌};
 ghost use Rattle.flurry_model.specs.declared.sizes.TheConstants.{GREATEST_TABLE};
 
 use flurry_bins::bin::Bin;
+use flurry_control::Room;
 use flurry_model::sizes::TABLES;
 use flurry_slots::Slot;
-use flurry_control::Room;
 use std::alloc::{AllocError, Allocator, Global};
 use std::array;
 use std::sync::{Arc, OnceLock, RwLock};

@@ -5,11 +5,11 @@ ghost use Rattle.flurry_map.specs.Driven.{HasBegun, BeginsToWrite};
 ghost use Rattle.flurry_steps.specs.Party.{LooksUp};
 ghost use Rattle.flurry_steps.specs.PartyView.{CallIsReady, first_stage};
 
+use flurry_control::PublishedTable;
 use flurry_locks::Locks;
 use flurry_model::sizes::bin_index;
 use flurry_slots::ComputeFn;
 use flurry_steps::Party;
-use flurry_control::PublishedTable;
 use flurry_steps::party::{Call, Reply};
 use std::alloc::Allocator;
 use std::sync::Wait;

@@ -14,12 +14,12 @@ ghost use Rattle.std.specs.Option.{option_map};
 ghost use Rattle.std.specs.Arc.{arc_value};
 
 use crate::first::begin;
+use flurry_control::wanted_table;
 use flurry_drive::drive;
 use flurry_locks::{Lender, Locks};
 use flurry_model::hash::{DefaultHashBuilder, KeyHasher};
 use flurry_model::try_insert::TryInsertError;
 use flurry_slots::{ComputeFn, NoFn};
-use flurry_control::wanted_table;
 use flurry_steps::party::{Call, Reply};
 use std::alloc::{AllocError, Allocator, Global};
 use std::hash::Hash;

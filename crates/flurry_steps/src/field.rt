@@ -3,8 +3,8 @@ ghost use Rattle.std.specs.Prelude.{◌≡◌};
 ghost use Rattle.flurry_steps.specs.Party.{Part, ControlPart, LookPart, BinPart, MovePart, wanted_part};
 ghost use Rattle.flurry_steps.specs.Field.{Loan, TurnsOrStays, ActsOrStays};
 
-use flurry_control::Room;
 use crate::party::{Event, Party, Want};
+use flurry_control::Room;
 use flurry_slots::ComputeFn;
 use std::alloc::Allocator;
 

@@ -19,12 +19,12 @@ mod first;
 mod reply;
 mod stage;
 
-use flurry_control::{Control, PublishedTable, Room};
 use at_control::step_control;
 use at_slot::{step_lookup, step_write};
 use call::{Key, Sought, Task};
 pub use call::{Call, OwnedCall};
 use first::task_for;
+use flurry_control::{Control, PublishedTable, Room};
 use flurry_model::sizes::bin_index;
 use flurry_slots::{ComputeFn, MoveAnswer, Slot};
 pub use reply::Reply;

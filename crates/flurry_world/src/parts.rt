@@ -6,9 +6,9 @@ ghost use Rattle.flurry_world.specs.Tables.{AreTables, PlaceGives};
 ghost use Rattle.flurry_model.specs.declared.sizes.TheConstants.{GREATEST_TABLE};
 
 use crate::tables::Tables;
+use flurry_control::Control;
 use flurry_slots::ComputeFn;
 use flurry_steps::party::Event;
-use flurry_control::Control;
 use flurry_steps::{Field, Party};
 use std::alloc::{AllocError, Allocator, Global};
 use std::marker::Model;

@@ -8,10 +8,10 @@ ghost use Rattle.flurry_world.specs.Tables.{AreTables, PlaceGives, fresh, new_sl
 ghost use Rattle.flurry_model.specs.declared.sizes.TheConstants.{GREATEST_TABLE};
 
 use flurry_bins::bin::Bin;
+use flurry_control::Room;
 use flurry_model::sizes::{GREATEST_TABLE, TABLES};
 use flurry_slots::{ComputeFn, Slot};
 use flurry_steps::Party;
-use flurry_control::Room;
 use flurry_steps::party::Event;
 use std::alloc::{AllocError, Allocator};
 use std::marker::Model;

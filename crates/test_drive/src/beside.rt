@@ -5,8 +5,8 @@ ghost use Rattle.flurry_world.specs.Parts.{IsStart};
 ghost use Rattle.flurry_world.specs.Tables.{PlaceGives};
 ghost use Rattle.test_drive.specs.Beside.{parts_of, BesideLends, BesideLacks};
 
-use flurry_slots::{Answer, ComputeFn};
 use flurry_control::PublishedTable;
+use flurry_slots::{Answer, ComputeFn};
 use flurry_steps::party::Event;
 use flurry_steps::{Field, Party};
 use flurry_world::Parts;

@@ -8,8 +8,8 @@ mod reports;
 
 use super::same;
 use flurry_bins::bin::Bin;
-use flurry_slots::{MoveAnswer, Receipt, Slot};
 use flurry_control::{BeginOutcome, Claim, Control, Room};
+use flurry_slots::{MoveAnswer, Receipt, Slot};
 use std::alloc::{AllocError, Global};
 use std::process::Abort;
 

@@ -15,9 +15,9 @@ mod tallies;
 
 use super::same;
 use flurry_bins::bin::Bin;
+use flurry_control::{Control, Room};
 use flurry_model::reply::KeptReply;
 use flurry_slots::{ComputeFn, NoFn, Slot};
-use flurry_control::{Control, Room};
 use flurry_steps::party::{Call, Event, Party, Reply, Want};
 use std::alloc::{AllocError, Global};
 use std::process::Abort;

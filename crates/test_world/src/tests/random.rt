@@ -3,8 +3,8 @@ ghost use Rattle.std.specs.Prelude.{◌<◌};
 
 use super::checker::{Checker, KEYS};
 use super::{Numbers, begin, world_for};
-use flurry_slots::ComputeFn;
 use flurry_control::wanted_table;
+use flurry_slots::ComputeFn;
 use flurry_steps::party::OwnedCall;
 use std::alloc::Global;
 use std::process::Abort;

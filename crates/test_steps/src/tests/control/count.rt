@@ -2,8 +2,8 @@
 
 use super::super::{same, same_at};
 use super::empty_room;
-use flurry_model::sizes::stride;
 use flurry_control::{Advice, Control, wanted_table};
+use flurry_model::sizes::stride;
 
 #[test]
 fn count_advises_at_the_threshold(rt: HostRuntime) {

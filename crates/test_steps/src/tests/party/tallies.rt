@@ -3,9 +3,9 @@ ghost use Rattle.flurry_steps.specs.PartyView.{CallIsReady};
 
 use super::super::{same, same_at};
 use super::{Map, Told, empty_map, end, step, value};
+use flurry_control::Tally;
 use flurry_model::reply::KeptReply;
 use flurry_slots::{ComputeFn, NoFn};
-use flurry_control::Tally;
 use flurry_steps::party::{Call, Event, Party, Want};
 use std::process::Abort;
 
