@@ -1,8 +1,8 @@
 -- The parts that are left below the one that is gone over now.
-use Rattle.std.specs.Prelude.{◌≡◌, ℕ, ◌+◌, ◌<◌, ◌≤◌, List, [], ◌∷◌, ◌++◌, length, reverse, map}
-use Rattle.std.proofs.Common.{arith, refl, sym, ◌∙◌, ap, subst}
+use Rattle.std.specs.Prelude.{◌≡◌, ℕ, ◌+◌, ◌≤◌, List, [], ◌∷◌, ◌++◌, length, reverse, map}
+use Rattle.std.proofs.Common.{arith, ◌∙◌, ap, subst}
 use Rattle.std.proofs.lemmas.List.{reverse-append, map-append, length-reverse, length-map}
-use Rattle.flurry_steps.specs.Cursor.{Frame as Part, IsFrame, AreBelow}
+use Rattle.flurry_steps.specs.Cursor.{Frame as Part, AreBelow}
 use Rattle.flurry_steps.specs.CursorView.{frame_of, frames_of}
 use Rattle.flurry_steps.specs.declared.cursor.Frame.{Frame}
 

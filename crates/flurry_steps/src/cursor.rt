@@ -1,9 +1,8 @@
 //! The way of a call that goes over all bins.
-ghost use Rattle.std.specs.Prelude.{◌≡◌, ◌<◌, ◌≤◌, ◌+◌, IsTrue, IsSome, OnOk, OnErr, MatchOption, Some, false, true, []};
+ghost use Rattle.std.specs.Prelude.{◌≡◌, ◌<◌, ◌≤◌, IsSome, OnOk, OnErr, MatchOption, false, true};
 ghost use Rattle.std.specs.Option.{option_map};
 ghost use Rattle.std.specs.Arc.{arc_value};
 ghost use Rattle.flurry_steps.specs.Cursor.{at_base, with_top, with_bound, halved, after_top};
-ghost use Rattle.flurry_steps.specs.CursorView.{frame_of};
 ghost use Rattle.flurry_model.specs.declared.sizes.TheConstants.{GREATEST_TABLE};
 
 use arrayvec::ArrayVec;

@@ -1,6 +1,5 @@
-use Rattle.std.proofs.Common.{rules, subst, sym, ap}
+use Rattle.std.proofs.Common.{rules}
 use Rattle.flurry_steps.proofs.Cursors.{rest_below, below_higher}
-use Rattle.flurry_steps.proofs.cursor.Cursor.leave.Goals.{in-Some, in-None+else-index-self}
 use Rattle.flurry_steps.proofs.cursor.Cursor.leave.Goals as goal
 
 pub invariant_of-self-2 : goal.invariant_of-self-2

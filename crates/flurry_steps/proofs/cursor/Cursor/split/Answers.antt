@@ -1,5 +1,4 @@
-use Rattle.std.proofs.Common.{rules, ◌+◌}
-use Rattle.flurry_steps.specs.CursorView.{frames_of}
+use Rattle.std.proofs.Common.{rules}
 use Rattle.flurry_steps.proofs.Cursors.{few_below, length_frames_of}
 use Rattle.flurry_steps.proofs.cursor.Cursor.split.Goals as goal
 
