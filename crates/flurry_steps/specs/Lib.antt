@@ -1,5 +1,6 @@
 pub mod Cursor
 pub mod CursorView
+pub mod SeenView
 pub mod Party
 pub mod PartyView
 pub mod PartySlots
