@@ -1,6 +1,5 @@
 -- The way of a call that goes over all bins.
 use Rattle.std.specs.Prelude.{◌≡◌, ℕ, ◌+◌, ◌^◌, ◌<◌, ◌≤◌, nat_lt, List, [], ◌∷◌, Option, Some, None, if◌then◌else◌, ⊤}
-use Rattle.std.specs.List.{AllByRecursion}
 use Rattle.flurry_model.specs.declared.sizes.TheConstants.{GREATEST_TABLE}
 
 -- a part of a bin's region that is yet to be gone over: of bin `index` of that table, what lies past the bound
@@ -51,11 +50,6 @@ module _ {K : Type 0} where
 
   abbrev pub after_top : CursorState K → Option (CursorState K)
   after_top c = onward c.base c.index c.below
-
-  -- all parts on the way are whole bins
-  pub record HasNoBound (c : CursorState K) : Type 0 where
-    pub top : c.top.bound ≡ None
-    pub below : AllByRecursion (λ (f : Frame K). f.bound ≡ None) c.below
 
   -- ---- what each way keeps
 

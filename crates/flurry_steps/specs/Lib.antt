@@ -1,6 +1,5 @@
 pub mod Cursor
 pub mod CursorView
-pub mod SeenView
 pub mod Party
 pub mod PartyView
 pub mod PartySlots

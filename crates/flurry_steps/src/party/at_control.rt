@@ -1,7 +1,7 @@
 //! The steps of a call at the control.
-ghost use Rattle.std.specs.Prelude.{◌≡◌, ◌≤◌, MatchOption, None, false};
+ghost use Rattle.std.specs.Prelude.{◌≡◌, ◌≤◌, MatchOption, None};
 ghost use Rattle.flurry_control.specs.Control.{after_count, advice_of, claim_of, after_claim, report_of, after_report};
-ghost use Rattle.flurry_steps.specs.Party.{ResumeIsReady, IsDecided, GrowForIsReady, StageIsReady, TaskIsReady, IsAtControl, AtLocate, AtBegin, AtGrow, AtClaim, AtMove, AtReserve, resumed_stage, reply_for, sets_out, OutcomeReply};
+ghost use Rattle.flurry_steps.specs.Party.{ResumeIsReady, IsDecided, GrowForIsReady, StageIsReady, TaskIsReady, IsAtControl, AtLocate, AtBegin, AtGrow, AtClaim, AtMove, AtReserve, resumed_stage, reply_for, OutcomeReply};
 ghost use Rattle.flurry_steps.specs.PartyControl.{StageAtControl, stage_advised};
 ghost use Rattle.flurry_steps.specs.PartyView.{resume_of, stage_of, task_of, outcome_of, grow_for_of, sought_of};
 ghost use Rattle.flurry_model.specs.declared.sizes.TheConstants.{GREATEST_TABLE};
@@ -15,10 +15,7 @@ use flurry_model::sizes::FIRST_TABLE;
 use flurry_slots::ComputeFn;
 use std::alloc::Allocator;
 
-// The most pairs that one count takes away.
-const MOST_COUNTED: usize = i64::MAX as usize;
-
-// The step of a call that is at the control, and sets out for no bins.
+// The step of a call that is at the control.
 pub(super) fn step_control<'k, K: Drop, V: Drop, F: ComputeFn<K, V>, A: Allocator, R: Room>(
     stage: Stage<'k, K, V, F, A>,
     processors: usize,
@@ -26,7 +23,6 @@ pub(super) fn step_control<'k, K: Drop, V: Drop, F: ComputeFn<K, V>, A: Allocato
     room: &mut R,
 ) -> (Stage<'k, K, V, F, A>, Event)
     requires part { IsAtControl (stage_of stage) }
-    requires inside { sets_out (stage_of stage) ≡ false }
     requires callable { StageIsReady F.can_change (stage_of stage) }
     ensures ready { StageIsReady F.can_change (stage_of result.0) }
     ensures step { StageAtControl R.place_gives processors (stage_of stage.entry) control.old room.old result.1
@@ -34,10 +30,6 @@ pub(super) fn step_control<'k, K: Drop, V: Drop, F: ComputeFn<K, V>, A: Allocato
 {
     match stage {
         Stage::Locate(task) => return locate(task, control, room),
-        Stage::Wiped(pairs) => {
-            let _advice = control.count(-(pairs.min(MOST_COUNTED) as i64));
-            return (Stage::Done(Reply::Ended), Event::Silent);
-        }
         Stage::Claim(after) => return claim(after, processors, control),
         Stage::Move(claim, after) => return report(claim, after, control),
         Stage::Uncount(reply) => {

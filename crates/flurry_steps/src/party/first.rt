@@ -2,29 +2,22 @@
 ghost use Rattle.std.specs.Prelude.{◌≡◌, MatchResult};
 ghost use Rattle.flurry_slots.specs.Slot.{IsSlot};
 ghost use Rattle.flurry_steps.specs.FirstSteps.{BeginsAt, EndsOrGoesOn, begun_at};
-ghost use Rattle.flurry_steps.specs.Party.{StageIsReady, LooksUp, BeginsToWrite, LookPart, BinPart, wanted_part, fresh_party, AtLocate};
-ghost use Rattle.flurry_steps.specs.PartyView.{CallIsReady, first_stage, stage_of, stage_of_keyless, task_of};
+ghost use Rattle.flurry_steps.specs.Party.{StageIsReady, LookPart, BinPart, wanted_part, AtLocate, AtReserve};
+ghost use Rattle.flurry_steps.specs.PartyView.{CallIsReady, first_stage, stage_of, task_of};
 
 use super::Party;
 use super::at_slot::{step_lookup, step_write};
 use super::call::{Call, Key, Sought, Task};
 use super::reply::Reply;
-use super::stage::{Stage, Sweep};
+use super::stage::Stage;
 use flurry_control::PublishedTable;
 use flurry_slots::{ComputeFn, Slot};
 use std::alloc::Allocator;
 
-/// A call that has no key.
-#[derive(Clone, Copy, Drop)]
-pub(super) enum Keyless {
-    Reserve(usize),
-    Sweep(Sweep),
-}
-
-// The task of a call of one key; or what another call is.
-pub(super) fn task_for<'k, K, V, F>(call: Call<'k, K, V, F>) -> Result<Task<'k, K, V, F>, Keyless>
+// The task of a call of one key; of another call how many pairs it makes room for.
+pub(super) fn task_for<'k, K, V, F>(call: Call<'k, K, V, F>) -> Result<Task<'k, K, V, F>, usize>
     ensures { MatchResult result (λ t. first_stage call.entry ≡ AtLocate (task_of t))
-        (λ o. first_stage call.entry ≡ stage_of_keyless o) }
+        (λ more. first_stage call.entry ≡ AtReserve more) }
 {
     match call {
         Call::Get(key) => Ok(Task::Find(Sought::Value, Key::Lent(key))),
@@ -35,9 +28,7 @@ pub(super) fn task_for<'k, K, V, F>(call: Call<'k, K, V, F>) -> Result<Task<'k, 
         Call::Insert(key, value) => Ok(Task::Insert(key, value)),
         Call::TryInsert(key, value) => Ok(Task::Add(key, value)),
         Call::Compute(key, f) => Ok(Task::Compute(Key::Lent(key), f)),
-        Call::Reserve(more) => Err(Keyless::Reserve(more)),
-        Call::Clear => Err(Keyless::Sweep(Sweep::Wipe(0))),
-        Call::Walk => Err(Keyless::Sweep(Sweep::Read)),
+        Call::Reserve(more) => Err(more),
     }
 }
 
@@ -53,8 +44,7 @@ impl<'k, K: Ord + Drop, V: Drop, F: ComputeFn<K, V>, A: Allocator> Party<'k, K, 
         start: &PublishedTable,
         slot: &Slot<K, V, A>,
     ) -> Result<Reply<K, V, A>, Self>
-        requires looks { LooksUp (first_stage call) }
-        requires part { wanted_part (begun_at start.now hash processors (first_stage call))
+        requires { wanted_part (begun_at start.now hash processors (first_stage call))
             ≡ LookPart slot.now.table slot.now.index }
         ensures within { IsSlot K.cmp slot.now }
         ensures steps { BeginsAt K.cmp F.changes (begun_at start.now hash processors (first_stage call.entry))
@@ -74,11 +64,15 @@ impl<'k, K: Ord + Drop, V: Drop, F: ComputeFn<K, V>, A: Allocator> Party<'k, K, 
         stage: Stage<'k, K, V, F, A>,
     ) -> Result<Reply<K, V, A>, Self>
         requires { StageIsReady F.can_change (stage_of stage) }
-        ensures { EndsOrGoesOn (fresh_party hash processors (stage_of stage.entry)) result }
+        ensures { EndsOrGoesOn (record { hash = hash; processors = processors; stage = stage_of stage.entry }) result }
     {
         match stage {
             Stage::Done(reply) => Ok(reply),
-            stage => Err(Party::at(stage, hash, processors)),
+            stage => Err(Party {
+                hash,
+                processors,
+                stage,
+            }),
         }
     }
 }
@@ -96,7 +90,6 @@ impl<'k, K: Ord + Drop, V: Drop, F: ComputeFn<K, V>, A: Allocator + Copy> Party<
         slot: &mut Slot<K, V, A>,
     ) -> Result<Reply<K, V, A>, Self>
         requires ready { CallIsReady F.can_change call }
-        requires writes { BeginsToWrite (first_stage call) }
         requires part { wanted_part (begun_at start.now hash processors (first_stage call))
             ≡ BinPart slot.old.table slot.old.index }
         ensures within { IsSlot K.cmp slot.old }
