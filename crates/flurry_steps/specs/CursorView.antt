@@ -1,4 +1,4 @@
--- What contracts see of a way.
+-- What contracts see of a cursor.
 use Rattle.std.specs.Prelude.{List, [], ◌∷◌, reverse, map}
 use Rattle.std.specs.Option.{option_map}
 use Rattle.std.specs.Arc.{arc_value}

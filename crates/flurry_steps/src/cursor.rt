@@ -1,4 +1,4 @@
-//! The way of a call that goes over all bins.
+//! Where a call stands that goes over all bins.
 ghost use Rattle.std.specs.Prelude.{◌≡◌, ◌<◌, ◌≤◌, IsSome, OnOk, OnErr, MatchOption, false, true};
 ghost use Rattle.std.specs.Option.{option_map};
 ghost use Rattle.std.specs.Arc.{arc_value};
@@ -6,15 +6,13 @@ ghost use Rattle.flurry_steps.specs.Cursor.{at_base, with_top, with_bound, halve
 ghost use Rattle.flurry_model.specs.declared.sizes.TheConstants.{GREATEST_TABLE};
 
 use arrayvec::ArrayVec;
+use flurry_model::sizes::TABLES;
 use std::alloc::{AllocError, Allocator, Global};
 use std::marker::Model;
 use std::mem;
 use std::sync::Arc;
 
-// Below the part that is gone over now at most one part of each table is left to follow, and there are tables 0 to 30.
-const MOST_BELOW: usize = 31;
-
-/// A part of a bin that is yet to be gone over: the bin's table and index, and the bound past which the part begins.
+/// A bin of a table, and the bound past which its entries are yet to be gone over; with none all of them are.
 #[derive(Drop)]
 pub(crate) struct Frame<K, A: Allocator> {
     table: u8,
@@ -32,16 +30,17 @@ impl<K, A: Allocator> Default for Frame<K, A> {
     }
 }
 
-/// The way of a call that goes over all bins of a map, of which other calls may move any at any time.
+/// Where a call stands that goes over all bins of a map, of which other calls may move any at any time.
 ///
 /// It goes over the bins of its base table one after another. One that has moved is left for its two halves in the next table, and so
-/// on, so that the way meets each hash once. It takes no memory but for further owners of the keys that are its bounds.
+/// on, so that each hash is met once. At most 32 frames stand: the one that is gone over now, and below it at most one of each table. A
+/// cursor takes no memory but for further owners of the keys that are its bounds.
 #[derive(Drop)]
 pub struct Cursor<K, A: Allocator = Global> {
     base: u8,
     index: usize,
     top: Frame<K, A>,
-    below: ArrayVec<Frame<K, A>, MOST_BELOW>,
+    below: ArrayVec<Frame<K, A>, TABLES>,
 }
 
 impl<K, A: Allocator> Model for Cursor<K, A> {
@@ -56,7 +55,7 @@ impl<K, A: Allocator> Model for Cursor<K, A> {
 }
 
 impl<K: Drop, A: Allocator> Cursor<K, A> {
-    /// The way over all bins of a table, at its first bin.
+    /// A cursor at the first bin of that table, which is to go over all of them.
     ///
     /// Constant time; takes no memory.
     pub fn new(base: u8) -> Self
@@ -111,7 +110,7 @@ impl<K: Drop, A: Allocator> Cursor<K, A> {
     ///
     /// # Errors
     ///
-    /// [`AllocError`], where that owner is refused; the way is then as it was. Without a bound nothing is refused.
+    /// [`AllocError`], where that owner is refused; the cursor is then as it was. Without a bound nothing is refused.
     pub fn split(&mut self) -> Result<(), AllocError>
         requires { self.old.top.table < GREATEST_TABLE }
         ensures ok { OnOk result (self.new ≡ halved self.old) }
@@ -131,8 +130,8 @@ impl<K: Drop, A: Allocator> Cursor<K, A> {
         Ok(())
     }
 
-    /// Leaves a bin that is done, for the next part of its region or else for the next bin of the base table. Answers false where
-    /// there is none; the way is then as it was.
+    /// Leaves a bin that is done, for the frame below it or else for the next bin of the base table. Answers false where there is
+    /// none; the cursor is then as it was.
     ///
     /// Constant time.
     pub fn leave(&mut self) -> bool

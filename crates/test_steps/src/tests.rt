@@ -1,4 +1,4 @@
-//! The control, slots, calls in steps, and ways over all bins.
+//! The control, slots, calls in steps, and cursors over all bins.
 
 mod control;
 mod cursor;

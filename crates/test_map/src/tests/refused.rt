@@ -4,7 +4,7 @@ use super::same;
 use super::threads::insert_in_threads;
 use super::workers::count_own;
 use flurry_map::HashMap;
-use flurry_model::hash::LowHashBuilder;
+use flurry_model::hash::{DefaultHashBuilder, LowHashBuilder};
 use flurry_seq::SeqMap;
 use metered_alloc::Metered;
 use std::alloc::Global;
@@ -15,6 +15,8 @@ use std::test::Fail;
 type Memory = &'static Metered<Global>;
 
 type Numbers = HashMap<u64, u64, LowHashBuilder, Memory>;
+
+type DefaultNumbers = HashMap<u64, u64, DefaultHashBuilder, Memory>;
 
 // A call that may be refused.
 #[derive(Clone, Copy)]
@@ -113,6 +115,21 @@ fn a_map_with_room(rt: HostRuntime) -> Result<(), Fail> {
     for k in 0..3u64 {
         memory.refuse_at(k);
         let map: Result<Numbers, _> = HashMap::with_capacity_and_hasher(memory, 5, LowHashBuilder);
+        same(&rt, (k, map.is_ok()), (k, k == 2));
+        memory.refuse_nothing();
+        drop(map);
+        same(&rt, memory.blocks(), 0);
+    }
+    Ok(())
+}
+
+// The same by the default hasher, which takes no memory.
+#[test]
+fn a_map_with_room_by_default(rt: HostRuntime) -> Result<(), Fail> {
+    let memory = Metered::leaked(rt.alloc())?;
+    for k in 0..3u64 {
+        memory.refuse_at(k);
+        let map: Result<DefaultNumbers, _> = HashMap::with_capacity(memory, 5);
         same(&rt, (k, map.is_ok()), (k, k == 2));
         memory.refuse_nothing();
         drop(map);

@@ -1,4 +1,4 @@
-//! Ways over all bins.
+//! Cursors over all bins.
 
 use super::{same, same_at};
 use flurry_model::sizes::GREATEST_TABLE;
@@ -6,73 +6,73 @@ use flurry_steps::Cursor;
 use std::process::Abort;
 use std::sync::Arc;
 
-// The bins of a way to its end, as it stands.
-fn rest_of(rt: &impl Abort, way: &mut Cursor<u64>, bins: &[(u8, usize)]) {
+// The bins that a cursor meets to its end, from where it stands.
+fn rest_of(rt: &impl Abort, cursor: &mut Cursor<u64>, bins: &[(u8, usize)]) {
     for at in 0..bins.len() {
-        same_at(rt, at, way.at(), bins[at]);
-        same_at(rt, at, way.leave(), at + 1 < bins.len());
+        same_at(rt, at, cursor.at(), bins[at]);
+        same_at(rt, at, cursor.leave(), at + 1 < bins.len());
     }
 }
 
 #[test]
-fn a_way_goes_over_each_bin_of_its_table(rt: HostRuntime) {
-    let mut way = Cursor::new(2);
-    rest_of(&rt, &mut way, &[(2, 0), (2, 1), (2, 2), (2, 3)]);
-    same(&rt, way.at(), (2, 3));
-    same(&rt, way.leave(), false);
+fn a_cursor_goes_over_each_bin_of_its_table(rt: HostRuntime) {
+    let mut cursor = Cursor::new(2);
+    rest_of(&rt, &mut cursor, &[(2, 0), (2, 1), (2, 2), (2, 3)]);
+    same(&rt, cursor.at(), (2, 3));
+    same(&rt, cursor.leave(), false);
 }
 
-// Bin 1 of two has moved, and so has its high half: its region is left by three bins of two further tables.
+// Bin 1 of two has moved, and so has its high half: what it had stands in bin 1 of four, and in bins 3 and 7 of eight.
 #[test]
 fn a_bin_that_has_moved_is_followed_to_its_halves(rt: HostRuntime) {
-    let mut way: Cursor<u64> = Cursor::new(1);
-    same(&rt, way.leave(), true);
-    same(&rt, way.at(), (1, 1));
-    same(&rt, way.split().is_ok(), true);
-    same(&rt, way.at(), (2, 1));
-    same(&rt, way.leave(), true);
-    same(&rt, way.at(), (2, 3));
-    same(&rt, way.split().is_ok(), true);
-    rest_of(&rt, &mut way, &[(3, 3), (3, 7)]);
+    let mut cursor: Cursor<u64> = Cursor::new(1);
+    same(&rt, cursor.leave(), true);
+    same(&rt, cursor.at(), (1, 1));
+    same(&rt, cursor.split().is_ok(), true);
+    same(&rt, cursor.at(), (2, 1));
+    same(&rt, cursor.leave(), true);
+    same(&rt, cursor.at(), (2, 3));
+    same(&rt, cursor.split().is_ok(), true);
+    rest_of(&rt, &mut cursor, &[(3, 3), (3, 7)]);
 }
 
 // Each half of a bin begins at the bound that the bin had.
 #[test]
 fn both_halves_begin_at_the_bound(rt: HostRuntime) {
-    let mut way = Cursor::new(0);
-    same(&rt, way.bound().is_none(), true);
+    let mut cursor = Cursor::new(0);
+    same(&rt, cursor.bound().is_none(), true);
     let key: Arc<u64> = Arc::new(rt.alloc(), 7).expect(&rt, "memory for the key");
-    way.pass(9, key);
-    same(&rt, way.bound(), Some((9, &7)));
-    same(&rt, way.split().is_ok(), true);
-    same(&rt, way.bound(), Some((9, &7)));
-    same(&rt, way.leave(), true);
-    same(&rt, way.at(), (1, 1));
-    same(&rt, way.bound(), Some((9, &7)));
-    same(&rt, way.leave(), false);
+    cursor.pass(9, key);
+    same(&rt, cursor.bound(), Some((9, &7)));
+    same(&rt, cursor.split().is_ok(), true);
+    same(&rt, cursor.bound(), Some((9, &7)));
+    same(&rt, cursor.leave(), true);
+    same(&rt, cursor.at(), (1, 1));
+    same(&rt, cursor.bound(), Some((9, &7)));
+    same(&rt, cursor.leave(), false);
 }
 
 // Follows the bin to its halves, where there is a further table.
-fn split(rt: &impl Abort, way: &mut Cursor<u64>) {
-    let (table, _) = way.at();
+fn split(rt: &impl Abort, cursor: &mut Cursor<u64>) {
+    let (table, _) = cursor.at();
     if table < GREATEST_TABLE {
-        same_at(rt, table, way.split().is_ok(), true);
+        same_at(rt, table, cursor.split().is_ok(), true);
     }
 }
 
-// From table 0 to table 30 there are 32 parts at once, the greatest number.
+// Past the last split there are frames of each table but the first, and one more of the greatest.
 #[test]
-fn a_way_follows_a_bin_through_all_tables(rt: HostRuntime) {
-    let mut way: Cursor<u64> = Cursor::new(0);
+fn a_cursor_follows_a_bin_through_all_tables(rt: HostRuntime) {
+    let mut cursor: Cursor<u64> = Cursor::new(0);
     for table in 0..30u8 {
-        same_at(&rt, table, way.at(), (table, 0));
-        split(&rt, &mut way);
+        same_at(&rt, table, cursor.at(), (table, 0));
+        split(&rt, &mut cursor);
     }
-    same(&rt, way.at(), (30, 0));
+    same(&rt, cursor.at(), (30, 0));
     for left in 0..30u8 {
         let table = 30 - left;
-        same_at(&rt, table, way.leave(), true);
-        same_at(&rt, table, way.at(), (table, 1 << (table - 1)));
+        same_at(&rt, table, cursor.leave(), true);
+        same_at(&rt, table, cursor.at(), (table, 1 << (table - 1)));
     }
-    same(&rt, way.leave(), false);
+    same(&rt, cursor.leave(), false);
 }
