@@ -48,9 +48,8 @@ impl<'m, R: Wait, K: Ord + Drop, V: Drop, A: Allocator + Copy> Field<K, V, A>
             }
         }
         if party.counts() {
-            if let Some(most) = locks.control.most_waiting(locks.starts.newest()) {
-                let mut tally = locks.control.tally(party.hash()).lock(self.rt);
-                return Some(party.on_tally(&mut *tally, most));
+            if let Some((tally, most)) = locks.control.tally(party.hash(), locks.starts.newest()) {
+                return Some(party.on_tally(&mut *tally.lock(self.rt), most));
             }
         }
         let mut room = Maker::new(&locks.tables, locks.alloc);

@@ -5,10 +5,10 @@ ghost use Rattle.flurry_model.specs.declared.sizes.TheConstants.{GREATEST_TABLE}
 use crate::shared_control::SharedControl;
 use crate::starts::Starts;
 use crate::tables::{Maker, Tables};
-use flurry_control::{Control, PublishedTable};
+use flurry_control::{Control, PublishedTable, Tally};
 use flurry_slots::Slot;
 use std::alloc::{AllocError, Allocator, Global};
-use std::sync::{RwLock, Wait};
+use std::sync::{Mutex, RwLock, Wait};
 
 /// The control and the tables of a map that threads share, each part under a lock of its own, and the numbers that the control has
 /// published, which are read without a lock. Beside the control stand tallies, each under its lock, where counts of pairs wait for it.
@@ -56,6 +56,12 @@ impl<K: Ord, V, A: Allocator> Locks<K, V, A> {
     /// time.
     pub fn newest(&self) -> Option<&PublishedTable> {
         self.starts.newest()
+    }
+
+    /// The tally where a call of that hash counts a pair, and how many pairs may wait there before a call that put one looks at the
+    /// control's count. None where calls count at the control: where the table is small, and as long as a growth is due. Constant time.
+    pub fn tally(&self, hash: u64) -> Option<(&Mutex<Tally>, i64)> {
+        self.control.tally(hash, self.starts.newest())
     }
 
     /// The lock of the slot at that table and index, if the table was made and has it. Whoever takes it holds no lock of a slot of a

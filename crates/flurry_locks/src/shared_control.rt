@@ -45,19 +45,22 @@ impl SharedControl {
         control
     }
 
-    // The tally of that hash.
-    pub(crate) fn tally(&self, hash: u64) -> &Mutex<Tally> {
-        &self.tallies[hash as usize % TALLIES]
-    }
-
-    // How many pairs may wait at a tally of a map whose newest table is this one, before a call looks at the control's count. None where
-    // calls count at the control: where the table is small, and as long as a growth is due.
-    pub(crate) fn most_waiting(&self, newest: Option<&PublishedTable>) -> Option<i64> {
+    // The tally of that hash, and how many pairs may wait there before a call looks at the control's count, of a map whose newest table
+    // is this one. None where calls count at the control: where the table is small, and as long as a growth is due.
+    pub(crate) fn tally(
+        &self,
+        hash: u64,
+        newest: Option<&PublishedTable>,
+    ) -> Option<(&Mutex<Tally>, i64)> {
         if self.is_growth_due.load(Ordering::SeqCst) {
             return None;
         }
         let bins = 1i64.checked_shl(u32::from(newest?.table()))?;
         let most = bins / BINS_A_WAITING_PAIR;
-        if most > 1 { Some(most) } else { None }
+        if most > 1 {
+            Some((&self.tallies[hash as usize % TALLIES], most))
+        } else {
+            None
+        }
     }
 }

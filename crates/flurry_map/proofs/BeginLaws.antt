@@ -1,13 +1,13 @@
--- The first two steps of a call at once are its own.
-use Rattle.std.proofs.Common.{◌≡◌, ℕ, ◌%◌, ◌^◌, ◌≤◌, true, Option, Result, Err, refl}
+-- The first steps of a call at once are its own.
+use Rattle.std.proofs.Common.{◌≡◌, ℕ, ℤ, ◌%◌, ◌^◌, ◌≤◌, true, Option, Result, Err, refl, subst}
 use Rattle.std.specs.declared.cmp.Ordering.{Ordering}
 use Rattle.flurry_drive.specs.Turns.{Turns, TurnsTo, still, further}
 use Rattle.flurry_locks.specs.Lending.{LockLends}
-use Rattle.flurry_map.specs.Driven.{HasBegun, MakerStays, BeginsToWrite}
+use Rattle.flurry_map.specs.Driven.{GoesTo, HasBegun, MakerStays, BeginsToWrite}
 use Rattle.flurry_model.specs.declared.sizes.TheConstants.{GREATEST_TABLE}
 use Rattle.flurry_slots.specs.Slot.{SlotState, IsSlot}
-use Rattle.flurry_steps.specs.Field.{Turn, StartLoan, LookLoan, BinLoan}
-use Rattle.flurry_steps.specs.FirstSteps.{BeginsAt, begun_at}
+use Rattle.flurry_steps.specs.Field.{Turn, StartLoan, TallyLoan, LookLoan, BinLoan}
+use Rattle.flurry_steps.specs.FirstSteps.{BeginsAt, CountsAt, begun_at}
 use Rattle.flurry_steps.specs.Party.{PartyState, Stage, Outcome, LookPart, BinPart, wanted_part, locates, LooksUp}
 use Rattle.flurry_steps.specs.PartyView.{first_stage}
 use Rattle.flurry_steps.specs.declared.party.Event.{Event}
@@ -86,3 +86,24 @@ module _ {S K V F : Type 0} {step : S → PartyState K V F → Event → S → P
   -- the reply to which the steps after the first ones lead is the call's
   pub after_first : {s s' s'' : S} {p p' p'' : PartyState K V F} {r : Outcome K V} → Turns step s p s' p' → TurnsTo step s' p' r s'' p'' → TurnsTo step s p r s'' p''
   after_first first t = record { last = t.last; turns = both first t.turns; done = t.done; after = t.after }
+
+module _ {K V F A : Type 0} (L M : Type 0) (cmp : K → K → Ordering) (changes : F → K → V → Option V → Type 0) where
+  -- a call that did no further step
+  pub goes_nowhere : (p : PartyState K V F) → GoesTo L M {A = A} cmp changes p (Err p)
+  goes_nowhere p = record { after = p; turns = λ lender. still; end = refl }
+
+  -- a call that did the step at a tally
+  pub counted_at : (most n n' : ℤ) (p : PartyState K V F) (r : Result (Reply K V A) (PartyState K V F)) → CountsAt most p n r n' → GoesTo L M cmp changes p r
+  counted_at most n n' p r b = record {
+    after = b.after;
+    turns = λ lender. further b.event still (record { loan = TallyLoan most n n'; lent = refl; step = b.step });
+    end = b.end;
+  }
+
+  -- steps and then further ones are steps
+  pub goes_further : (p q : PartyState K V F) (r : Result (Reply K V A) (PartyState K V F)) → GoesTo L M {A = A} cmp changes p (Err q) → GoesTo L M cmp changes q r → GoesTo L M cmp changes p r
+  goes_further p q r g h = record {
+    after = h.after;
+    turns = λ lender. both (g.turns lender) (subst (λ x. Turns (Turn (MakerStays {M = M}) cmp changes LockLends) lender x lender h.after) g.end (h.turns lender));
+    end = h.end;
+  }

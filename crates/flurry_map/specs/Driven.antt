@@ -44,11 +44,15 @@ pub record IsDriven (L M : Type 0) {K V F S : Type 0} (cmp : K → K → Orderin
   pub last : PartyState K V F
   pub turns : TurnsTo (Turn (MakerStays {M = M}) cmp changes LockLends) before (record { hash = hash; processors = m.processors; stage = first }) r after last
 
--- Steps of the very call lead from its first stage to a state in which it is done, and its reply is taken, or from which it goes on.
-pub record HasBegun (L M : Type 0) {K V F A : Type 0} (cmp : K → K → Ordering) (changes : F → K → V → Option V → Type 0) (processors hash : ℕ) (first : Stage K V F) (r : Result (Reply K V A) (PartyState K V F)) : Type 0 where
+-- Steps of the very call lead from p to a state in which it is done, and its reply is taken, or from which it goes on.
+pub record GoesTo (L M : Type 0) {K V F A : Type 0} (cmp : K → K → Ordering) (changes : F → K → V → Option V → Type 0) (p : PartyState K V F) (r : Result (Reply K V A) (PartyState K V F)) : Type 0 where
   pub after : PartyState K V F
-  pub turns : (lender : L) → Turns (Turn (MakerStays {M = M}) cmp changes LockLends) lender (record { hash = hash; processors = processors; stage = first }) lender after
+  pub turns : (lender : L) → Turns (Turn (MakerStays {M = M}) cmp changes LockLends) lender p lender after
   pub end : EndsOrGoesOn after r
+
+-- and so from the first stage of a call
+abbrev pub HasBegun : Type 0 → (M : Type 0) → {K V F A : Type 0} → (K → K → Ordering) → (F → K → V → Option V → Type 0) → ℕ → ℕ → Stage K V F → Result (Reply K V A) (PartyState K V F) → Type 0
+HasBegun L M cmp changes n h s r = GoesTo L M cmp changes (record { hash = h; processors = n; stage = s }) r
 
 -- a call that may change a bin, and did no step yet
 abbrev pub BeginsToWrite : {K V F : Type 0} → Stage K V F → Type 0

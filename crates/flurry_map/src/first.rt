@@ -1,7 +1,7 @@
-//! The first two steps of a call at once, where its table is known without the control's lock.
+//! The first steps of a call at once, where its table is known without the control's lock.
 ghost use Rattle.flurry_locks.specs.declared.lender.Lender.{Lender};
 ghost use Rattle.flurry_locks.specs.declared.tables.Maker.{Maker};
-ghost use Rattle.flurry_map.specs.Driven.{HasBegun, BeginsToWrite};
+ghost use Rattle.flurry_map.specs.Driven.{GoesTo, HasBegun, BeginsToWrite};
 ghost use Rattle.flurry_steps.specs.Party.{LooksUp};
 ghost use Rattle.flurry_steps.specs.PartyView.{CallIsReady, first_stage};
 
@@ -14,7 +14,8 @@ use flurry_steps::party::{Call, Reply};
 use std::alloc::Allocator;
 use std::sync::Wait;
 
-// The first two steps of a call of one key, where a table is known to be published. A call that cannot begin so has done no step.
+// The first two steps of a call of one key, where a table is known to be published, and the step at a tally of one that counts then.
+// A call that cannot begin so has done no step.
 pub(crate) fn begin<'k, K: Ord + Drop, V: Drop, F: ComputeFn<K, V>, A: Allocator + Copy, R: Wait>(
     rt: &R,
     locks: &Locks<K, V, A>,
@@ -33,7 +34,10 @@ pub(crate) fn begin<'k, K: Ord + Drop, V: Drop, F: ComputeFn<K, V>, A: Allocator
         Call::Get(_) | Call::GetKeyValue(_) | Call::ContainsKey(_) => {
             look(rt, locks, start, call, hash, processors)
         }
-        _ => write(rt, locks, start, call, hash, processors),
+        _ => match write(rt, locks, start, call, hash, processors) {
+            Ok(reply) => Ok(reply),
+            Err(party) => count(rt, locks, party),
+        },
     }
 }
 
@@ -90,4 +94,20 @@ fn write<'k, K: Ord + Drop, V: Drop, F: ComputeFn<K, V>, A: Allocator + Copy, R:
         }
     }
     Err(Party::new(call, hash, processors))
+}
+
+// The step at a tally of a call that counts a pair next, where pairs may wait at a tally.
+fn count<'k, K: Ord + Drop, V: Drop, F: ComputeFn<K, V>, A: Allocator + Copy, R: Wait>(
+    rt: &R,
+    locks: &Locks<K, V, A>,
+    party: Party<'k, K, V, F, A>,
+) -> Result<Reply<K, V, A>, Party<'k, K, V, F, A>>
+    ensures { GoesTo (Lender R K V A) (Maker K V A) K.cmp F.changes party.entry result }
+{
+    if party.counts() {
+        if let Some((tally, most)) = locks.tally(party.hash()) {
+            return party.end_at_tally(&mut *tally.lock(rt), most);
+        }
+    }
+    Err(party)
 }

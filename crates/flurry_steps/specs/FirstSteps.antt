@@ -1,9 +1,10 @@
--- The first two steps of a call at once: at a published table, and at its bin there.
-use Rattle.std.specs.Prelude.{◌≡◌, ℕ, Option, Result, Ok, Err}
+-- The first steps of a call at once: at a published table, at its bin there, and at a tally.
+use Rattle.std.specs.Prelude.{◌≡◌, ℕ, ℤ, Option, Result, Ok, Err}
 use Rattle.std.specs.declared.cmp.Ordering.{Ordering}
 use Rattle.flurry_slots.specs.Slot.{SlotState}
 use Rattle.flurry_steps.specs.Party.{PartyState, Stage, AtDone, started_stage}
 use Rattle.flurry_steps.specs.PartySlots.{SlotStep}
+use Rattle.flurry_steps.specs.PartyTally.{TallyStep}
 use Rattle.flurry_steps.specs.PartyView.{outcome_of}
 use Rattle.flurry_steps.specs.declared.party.Event.{Event}
 use Rattle.flurry_steps.specs.declared.party.reply.Reply.{Reply}
@@ -22,4 +23,11 @@ pub record BeginsAt {K V F A : Type 0} (cmp : K → K → Ordering) (changes : F
   pub event : Event
   pub after : PartyState K V F
   pub step : SlotStep cmp changes p q event after q'
+  pub end : EndsOrGoesOn after r
+
+-- the step of p at a tally, at which n pairs waited before and n' wait after, leads to that answer
+pub record CountsAt {K V F A : Type 0} (most : ℤ) (p : PartyState K V F) (n : ℤ) (r : Result (Reply K V A) (PartyState K V F)) (n' : ℤ) : Type 0 where
+  pub event : Event
+  pub after : PartyState K V F
+  pub step : TallyStep most p n event after n'
   pub end : EndsOrGoesOn after r

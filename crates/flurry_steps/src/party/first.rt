@@ -56,9 +56,11 @@ impl<'k, K: Ord + Drop, V: Drop, F: ComputeFn<K, V>, A: Allocator> Party<'k, K, 
         let (stage, _) = step_lookup(hash, sought, key, start.table(), slot);
         Party::settle(hash, processors, stage)
     }
+}
 
+impl<'k, K, V, F: ComputeFn<K, V>, A: Allocator> Party<'k, K, V, F, A> {
     // What a call answers that came to this stage: its reply, or itself.
-    fn settle(
+    pub(super) fn settle(
         hash: u64,
         processors: usize,
         stage: Stage<'k, K, V, F, A>,

@@ -9,8 +9,8 @@ returns-in-Some g c = record {
   step = (sym c.locates.ensures ∙ c.if-locates.true, c.on_start.ensures.within, c.on_start.ensures.silent, c.on_start.ensures.at);
 }
 
-pub returns-in-Some-most_waiting : goal.returns-in-Some-most_waiting
-returns-in-Some-most_waiting g c = record {
+pub returns-in-Some-tally : goal.returns-in-Some-tally
+returns-in-Some-tally g c = record {
   loan = TallyLoan _ c.deref_mut.result.now c.on_tally.new.tally;
   lent = refl;
   step = c.on_tally.ensures;
