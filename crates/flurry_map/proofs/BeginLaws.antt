@@ -1,13 +1,13 @@
 -- The first steps of a call at once are its own.
-use Rattle.std.proofs.Common.{◌≡◌, ℕ, ℤ, ◌%◌, ◌^◌, ◌≤◌, true, Option, Result, Err, refl, subst}
+use Rattle.std.proofs.Common.{◌≡◌, ℕ, ℤ, ◌%◌, ◌^◌, ◌≤◌, true, Option, Result, refl, sym, subst}
 use Rattle.std.specs.declared.cmp.Ordering.{Ordering}
 use Rattle.flurry_drive.specs.Turns.{Turns, TurnsTo, still, further}
 use Rattle.flurry_locks.specs.Lending.{LockLends}
-use Rattle.flurry_map.specs.Driven.{GoesTo, HasBegun, MakerStays, BeginsToWrite}
+use Rattle.flurry_map.specs.Driven.{GoesTo, MakerStays, BeginsToWrite}
 use Rattle.flurry_model.specs.declared.sizes.TheConstants.{GREATEST_TABLE}
 use Rattle.flurry_slots.specs.Slot.{SlotState, IsSlot}
 use Rattle.flurry_steps.specs.Field.{Turn, StartLoan, TallyLoan, LookLoan, BinLoan}
-use Rattle.flurry_steps.specs.FirstSteps.{BeginsAt, CountsAt, begun_at}
+use Rattle.flurry_steps.specs.FirstSteps.{BeginsAt, CountsAt, EndsOrGoesOn, begun_at}
 use Rattle.flurry_steps.specs.Party.{PartyState, Stage, Outcome, LookPart, BinPart, wanted_part, locates, LooksUp}
 use Rattle.flurry_steps.specs.PartyView.{first_stage}
 use Rattle.flurry_steps.specs.declared.party.Event.{Event}
@@ -52,17 +52,17 @@ write_locates (call.TryInsert k v) h = refl
 write_locates (call.Compute k f) h = refl
 write_locates (call.Reserve a) h = absurd h
 
-module _ {K V F A : Type 0} (L M : Type 0) (cmp : K → K → Ordering) (changes : F → K → V → Option V → Type 0) (n h : ℕ) (s : Stage K V F) where
+module _ {K V F : Type 0} (L M : Type 0) (cmp : K → K → Ordering) (changes : F → K → V → Option V → Type 0) (n h : ℕ) (s : Stage K V F) (ends : PartyState K V F → Type 0) where
   -- a call that did no step
-  pub not_begun : (p : PartyState K V F) → p ≡ record { hash = h; processors = n; stage = s } → HasBegun L M {A = A} cmp changes n h s (Err p)
-  not_begun p is = record {
+  pub not_begun : ends (record { hash = h; processors = n; stage = s }) → GoesTo L M cmp changes (record { hash = h; processors = n; stage = s }) ends
+  not_begun is = record {
     after = record { hash = h; processors = n; stage = s };
     turns = λ lender. still;
     end = is;
   }
 
-  module _ (d : ℕ) (r : Result (Reply K V A) (PartyState K V F)) (asks : locates s ≡ true) (within : d ≤ GREATEST_TABLE) where
-    pub look_begun : (q : SlotState K V) → wanted_part (begun_at d h n s) ≡ LookPart q.table q.index → IsSlot cmp q → BeginsAt cmp changes (begun_at d h n s) q r q → HasBegun L M cmp changes n h s r
+  module _ (d : ℕ) (asks : locates s ≡ true) (within : d ≤ GREATEST_TABLE) where
+    pub look_begun : (q : SlotState K V) → wanted_part (begun_at d h n s) ≡ LookPart q.table q.index → IsSlot cmp q → BeginsAt cmp changes (begun_at d h n s) q ends q → GoesTo L M cmp changes (record { hash = h; processors = n; stage = s }) ends
     look_begun q wants slot b = record {
       after = b.after;
       turns = λ lender.
@@ -70,7 +70,7 @@ module _ {K V F A : Type 0} (L M : Type 0) (cmp : K → K → Ordering) (changes
       end = b.end;
     }
 
-    pub write_begun : (q q' : SlotState K V) → wanted_part (begun_at d h n s) ≡ BinPart q.table q.index → IsSlot cmp q → BeginsAt cmp changes (begun_at d h n s) q r q' → HasBegun L M cmp changes n h s r
+    pub write_begun : (q q' : SlotState K V) → wanted_part (begun_at d h n s) ≡ BinPart q.table q.index → IsSlot cmp q → BeginsAt cmp changes (begun_at d h n s) q ends q' → GoesTo L M cmp changes (record { hash = h; processors = n; stage = s }) ends
     write_begun q q' wants slot b = record {
       after = b.after;
       turns = λ lender.
@@ -87,23 +87,21 @@ module _ {S K V F : Type 0} {step : S → PartyState K V F → Event → S → P
   pub after_first : {s s' s'' : S} {p p' p'' : PartyState K V F} {r : Outcome K V} → Turns step s p s' p' → TurnsTo step s' p' r s'' p'' → TurnsTo step s p r s'' p''
   after_first first t = record { last = t.last; turns = both first t.turns; done = t.done; after = t.after }
 
-module _ {K V F A : Type 0} (L M : Type 0) (cmp : K → K → Ordering) (changes : F → K → V → Option V → Type 0) where
-  -- a call that did no further step
-  pub goes_nowhere : (p : PartyState K V F) → GoesTo L M {A = A} cmp changes p (Err p)
-  goes_nowhere p = record { after = p; turns = λ lender. still; end = refl }
-
+module _ {K V F : Type 0} (L M : Type 0) (cmp : K → K → Ordering) (changes : F → K → V → Option V → Type 0) where
   -- a call that did the step at a tally
-  pub counted_at : (most n n' : ℤ) (p : PartyState K V F) (r : Result (Reply K V A) (PartyState K V F)) → CountsAt most p n r n' → GoesTo L M cmp changes p r
+  pub counted_at : {A : Type 0} (most n n' : ℤ) (p : PartyState K V F) (r : Result (Reply K V A) (PartyState K V F)) → CountsAt most p n r n' → GoesTo L M cmp changes p (EndsOrGoesOn r)
   counted_at most n n' p r b = record {
     after = b.after;
     turns = λ lender. further b.event still (record { loan = TallyLoan most n n'; lent = refl; step = b.step });
     end = b.end;
   }
 
-  -- steps and then further ones are steps
-  pub goes_further : (p q : PartyState K V F) (r : Result (Reply K V A) (PartyState K V F)) → GoesTo L M {A = A} cmp changes p (Err q) → GoesTo L M cmp changes q r → GoesTo L M cmp changes p r
-  goes_further p q r g h = record {
-    after = h.after;
-    turns = λ lender. both (g.turns lender) (subst (λ x. Turns (Turn (MakerStays {M = M}) cmp changes LockLends) lender x lender h.after) g.end (h.turns lender));
-    end = h.end;
+  -- steps that lead to a stage, and further ones from there
+  pub goes_further : (h n : ℕ) (s : Stage K V F) (p : PartyState K V F) (ends : PartyState K V F → Type 0) → (g : GoesTo L M cmp changes p (λ x. x ≡ record { hash = h; processors = n; stage = s }))
+      → GoesTo L M cmp changes (record { hash = h; processors = n; stage = s }) ends → GoesTo L M cmp changes p ends
+  goes_further h n s p ends g next = record {
+    after = next.after;
+    turns = λ lender.
+        both (g.turns lender) (subst (λ x. Turns (Turn (MakerStays {M = M}) cmp changes LockLends) lender x lender next.after) (sym g.end) (next.turns lender));
+    end = next.end;
   }

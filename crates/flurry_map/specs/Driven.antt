@@ -1,15 +1,13 @@
 -- What contracts say of a call of a shared map.
-use Rattle.std.specs.Prelude.{◌≡◌, ℕ, Bool, Option, None, Result}
+use Rattle.std.specs.Prelude.{◌≡◌, ℕ, Bool, Option, None}
 use Rattle.std.specs.declared.cmp.Ordering.{Ordering}
 use Rattle.flurry_drive.specs.Turns.{Turns, TurnsTo}
 use Rattle.flurry_locks.specs.Lending.{LockLends}
 use Rattle.flurry_slots.specs.declared.compute_fn.NoFn.{NoFn}
 use Rattle.flurry_steps.specs.Field.{Turn}
-use Rattle.flurry_steps.specs.FirstSteps.{EndsOrGoesOn}
 use Rattle.flurry_steps.specs.Party.{PartyState, Stage, AtLocate, Outcome, IsWriter}
 use Rattle.flurry_steps.specs.declared.party.call.Call.{Call}
 use Rattle.flurry_steps.specs.declared.party.call.Call.TheVariants as call
-use Rattle.flurry_steps.specs.declared.party.reply.Reply.{Reply}
 
 -- what of a shared map stays as it is
 pub record Shared (S : Type 0) : Type 0 where
@@ -44,15 +42,11 @@ pub record IsDriven (L M : Type 0) {K V F S : Type 0} (cmp : K → K → Orderin
   pub last : PartyState K V F
   pub turns : TurnsTo (Turn (MakerStays {M = M}) cmp changes LockLends) before (record { hash = hash; processors = m.processors; stage = first }) r after last
 
--- Steps of the very call lead from p to a state in which it is done, and its reply is taken, or from which it goes on.
-pub record GoesTo (L M : Type 0) {K V F A : Type 0} (cmp : K → K → Ordering) (changes : F → K → V → Option V → Type 0) (p : PartyState K V F) (r : Result (Reply K V A) (PartyState K V F)) : Type 0 where
+-- steps of the very call lead from p to a state of which that holds
+pub record GoesTo (L M : Type 0) {K V F : Type 0} (cmp : K → K → Ordering) (changes : F → K → V → Option V → Type 0) (p : PartyState K V F) (ends : PartyState K V F → Type 0) : Type 0 where
   pub after : PartyState K V F
   pub turns : (lender : L) → Turns (Turn (MakerStays {M = M}) cmp changes LockLends) lender p lender after
-  pub end : EndsOrGoesOn after r
-
--- and so from the first stage of a call
-abbrev pub HasBegun : Type 0 → (M : Type 0) → {K V F A : Type 0} → (K → K → Ordering) → (F → K → V → Option V → Type 0) → ℕ → ℕ → Stage K V F → Result (Reply K V A) (PartyState K V F) → Type 0
-HasBegun L M cmp changes n h s r = GoesTo L M cmp changes (record { hash = h; processors = n; stage = s }) r
+  pub end : ends after
 
 -- a call that may change a bin, and did no step yet
 abbrev pub BeginsToWrite : {K V F : Type 0} → Stage K V F → Type 0

@@ -1,11 +1,9 @@
 //! The step of a call that counts a pair at a tally.
 ghost use Rattle.std.specs.Prelude.{◌≡◌, true};
-ghost use Rattle.flurry_steps.specs.FirstSteps.{CountsAt};
 ghost use Rattle.flurry_steps.specs.Party.{StageIsReady};
 ghost use Rattle.flurry_steps.specs.PartyTally.{StageAtTally, TallyStep, counts};
 ghost use Rattle.flurry_steps.specs.PartyView.{stage_of};
 
-use super::reply::Reply;
 use super::stage::Stage;
 use super::{Event, Party};
 use flurry_control::Tally;
@@ -14,7 +12,7 @@ use std::alloc::Allocator;
 use std::mem;
 
 // The stage after the step at a tally.
-fn step_tally<'k, K, V, F: ComputeFn<K, V>, A: Allocator>(
+pub(super) fn step_tally<'k, K, V, F: ComputeFn<K, V>, A: Allocator>(
     stage: Stage<'k, K, V, F, A>,
     tally: &mut Tally,
     most: i64,
@@ -64,21 +62,6 @@ impl<'k, K: Drop, V: Drop, F: ComputeFn<K, V>, A: Allocator> Party<'k, K, V, F, 
         let stage = step_tally(stage, tally, most);
         drop(mem::replace(&mut self.stage, stage));
         Event::Silent
-    }
-
-    /// The same step of a call that is given away. Answers its reply where it is done by the step, and else the call, which goes on.
-    ///
-    /// Constant time.
-    pub fn end_at_tally(self, tally: &mut Tally, most: i64) -> Result<Reply<K, V, A>, Self>
-        requires { counts self.stage ≡ true }
-        ensures { CountsAt most self.entry tally.old result tally.new }
-    {
-        let Party {
-            hash,
-            processors,
-            stage,
-        } = self;
-        Party::settle(hash, processors, step_tally(stage, tally, most))
     }
 
     /// The hash that the call was made with.

@@ -17,7 +17,7 @@ returns-then-eq g c =
     let wants : wanted_part (begun_at c.args.start.now c.args.hash c.args.processors (first_stage c.args.call)) ≡ LookPart q.table q.index =
     rw (same, table, index) (look_wants c.args.call c.args.start.now c.args.hash c.args.processors c.requires.looks) in
     let within : c.args.start.now ≤ GREATEST_TABLE = omega (arith, c.table-table.ensures.value, c.table-table.ensures.within) in
-    look_begun _ _ g.K.Ord.cmp g.F.ComputeFn.changes c.args.processors c.args.hash (first_stage c.args.call) c.args.start.now _ (look_locates c.args.call c.requires.looks) within c.deref-then-eq.result.now wants c.look_first.ensures.within c.look_first.ensures.steps
+    look_begun _ _ g.K.Ord.cmp g.F.ComputeFn.changes c.args.processors c.args.hash (first_stage c.args.call) _ c.args.start.now (look_locates c.args.call c.requires.looks) within c.deref-then-eq.result.now wants c.look_first.ensures.within c.look_first.ensures.steps
 
 pub returns : goal.returns
-returns g c = not_begun _ _ g.K.Ord.cmp g.F.ComputeFn.changes c.args.processors c.args.hash (first_stage c.args.call) c.new.result c.new.ensures
+returns g c = not_begun _ _ g.K.Ord.cmp g.F.ComputeFn.changes c.args.processors c.args.hash (first_stage c.args.call) _ c.new.ensures

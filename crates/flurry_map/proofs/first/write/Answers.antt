@@ -1,16 +1,14 @@
-use Rattle.std.proofs.Common.{◌≡◌, ◌≤◌, arith, rules}
-use Rattle.flurry_model.specs.declared.sizes.TheConstants.{GREATEST_TABLE}
-use Rattle.flurry_steps.specs.FirstSteps.{begun_at}
-use Rattle.flurry_steps.specs.Party.{BinPart, wanted_part}
-use Rattle.flurry_steps.specs.PartyView.{first_stage}
-use Rattle.flurry_map.proofs.BeginLaws.{write_locates, write_begun, not_begun}
+use Rattle.flurry_steps.specs.PartyTally.{counting_stage}
+use Rattle.flurry_map.proofs.BeginLaws.{goes_further}
 use Rattle.flurry_map.proofs.first.write.Goals as goal
 
-pub returns-then-eq : goal.returns-then-eq
-returns-then-eq g c =
-    let wants : wanted_part (begun_at c.args.start.now c.args.hash c.args.processors (first_stage c.args.call)) ≡ BinPart c.deref_mut.result.now.table c.deref_mut.result.now.index = search rules in
-    let within : c.args.start.now ≤ GREATEST_TABLE = omega (arith, c.table-table.ensures.value, c.table-table.ensures.within) in
-    write_begun _ _ g.K.Ord.cmp g.F.ComputeFn.changes c.args.processors c.args.hash (first_stage c.args.call) c.args.start.now _ (write_locates c.args.call c.requires.writes) within c.deref_mut.result.now c.write_first.new.slot wants c.write_first.ensures.within c.write_first.ensures.steps
+pub returns-in-Done : goal.returns-in-Done
+returns-in-Done g c = record { after = c.write_bin.ensures.after; turns = c.write_bin.ensures.turns; end = rw c.in-Done.is at c.write_bin.ensures.end }
 
-pub returns : goal.returns
-returns g c = not_begun _ _ g.K.Ord.cmp g.F.ComputeFn.changes c.args.processors c.args.hash (first_stage c.args.call) c.new.result c.new.ensures
+pub returns-in-Counts : goal.returns-in-Counts
+returns-in-Counts g c =
+    goes_further _ _ g.K.Ord.cmp g.F.ComputeFn.changes c.args.hash c.args.processors (counting_stage c.in-Counts.counting) _ _
+    (record { after = c.write_bin.ensures.after; turns = c.write_bin.ensures.turns; end = rw c.in-Counts.is at c.write_bin.ensures.end }) c.count.ensures
+
+pub returns-in-GoesOn : goal.returns-in-GoesOn
+returns-in-GoesOn g c = record { after = c.write_bin.ensures.after; turns = c.write_bin.ensures.turns; end = rw c.in-GoesOn.is at c.write_bin.ensures.end }

@@ -13,5 +13,5 @@ returns-clause-steps g c = record {
     index = c.step_write-stage.ensures.index;
     step = rw (c.in-Ok.ensures, ← c.table.ensures.value) c.step_write-stage.ensures.step;
   };
-  end = c.settle.ensures;
+  end = c.begun.ensures;
 }
