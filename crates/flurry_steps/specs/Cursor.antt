@@ -1,6 +1,5 @@
 -- Where a call stands that goes over all bins.
 use Rattle.std.specs.Prelude.{◌≡◌, ℕ, ◌+◌, ◌^◌, ◌<◌, ◌≤◌, nat_lt, List, [], ◌∷◌, Option, Some, None, if◌then◌else◌, ⊤}
-use Rattle.std.specs.List.{AllByRecursion}
 use Rattle.flurry_model.specs.declared.sizes.TheConstants.{GREATEST_TABLE}
 
 -- of bin `index` of that table, what lies past the bound is yet to be gone over
@@ -51,11 +50,6 @@ module _ {K : Type 0} where
 
   abbrev pub after_top : CursorState K → Option (CursorState K)
   after_top c = onward c.base c.index c.below
-
-  -- no frame has a bound
-  pub record HasNoBound (c : CursorState K) : Type 0 where
-    pub top : c.top.bound ≡ None
-    pub below : AllByRecursion (λ (f : Frame K). f.bound ≡ None) c.below
 
   -- ---- what each cursor keeps
 

@@ -1,10 +1,10 @@
 pub mod Cursor
 pub mod CursorView
-pub mod SeenView
 pub mod Party
 pub mod PartyView
 pub mod PartySlots
 pub mod PartyTally
+pub mod CountingView
 pub mod PartyControl
 pub mod Field
 pub mod FirstSteps

@@ -5,9 +5,7 @@ use Rattle.flurry_model.specs.Sizes.{wanted_of}
 use Rattle.flurry_slots.specs.Slot.{PlainEntry}
 use Rattle.flurry_model.specs.declared.reply.KeptReply.{KeptReply}
 use Rattle.flurry_model.specs.declared.reply.KeptReply.TheVariants.{Value, Pair, Contains}
-use Rattle.flurry_model.specs.declared.call.Seen.{Seen}
 use Rattle.flurry_control.specs.Claim.{Range, next_of}
-use Rattle.flurry_steps.specs.Cursor.{Frame, CursorState, HasNoBound, at_base}
 use Rattle.flurry_model.specs.declared.sizes.TheConstants.{GREATEST_TABLE}
 
 -- what of the entry of a key a call answers: its value, the stored key and the value, or whether there is one
@@ -23,11 +21,6 @@ pub data Task (K V F : Type 0) : Type 0 where
   Inserts : K → V → Task K V F
   Adds : K → V → Task K V F
   Computes : K → F → Task K V F
-
--- what a call that goes over all bins does at each: it reads the pairs, or wipes them, and has wiped so many
-pub data Sweep : Type 0 where
-  Reads : Sweep
-  Wipes : ℕ → Sweep
 
 -- what a call answers: the reply of a call of one key, the end of another call, or that memory was wanting
 pub data Outcome (K V : Type 0) : Type 0 where
@@ -52,12 +45,6 @@ pub data Stage (K V F : Type 0) : Type 0 where
   AtLocate : Task K V F → Stage K V F
   -- it goes to its bin in that table
   AtBin : Task K V F → ℕ → Stage K V F
-  -- it asks for the published table, to go over all bins
-  AtOutset : Sweep → Stage K V F
-  -- it goes over all bins, and is to stand there
-  AtSweep : Sweep → CursorState K → Stage K V F
-  -- it counts the pairs that it wiped
-  AtWiped : ℕ → Stage K V F
   -- it claims bins to move
   AtClaim : Resume K V F → Stage K V F
   -- it moves those bins, and reports once all have moved
@@ -79,13 +66,11 @@ pub data Stage (K V F : Type 0) : Type 0 where
   -- its reply was taken
   AtTaken : Stage K V F
 
--- a call in progress: the hash of its key, how many processors share the work of a growth, where it stands, and as a walk what it
--- read last
+-- a call in progress: the hash of its key, how many processors share the work of a growth, and where it stands
 pub record PartyState (K V F : Type 0) : Type 0 where
   pub hash : ℕ
   pub processors : ℕ
   pub stage : Stage K V F
-  pub last : Option (Seen K V)
 
 -- the part of the map that a call needs next
 pub data Part : Type 0 where
@@ -105,13 +90,8 @@ abbrev pub move_part : Option (ℕ × ℕ) → Part
 move_part None = ControlPart
 move_part (Some b) = MovePart b.0 b.1
 
-abbrev pub sweep_part : {K : Type 0} → Sweep → Frame K → Part
-sweep_part Reads f = LookPart f.table f.index
-sweep_part (Wipes n) f = BinPart f.table f.index
-
 abbrev pub part_of : {K V F : Type 0} → ℕ → Stage K V F → Part
 part_of h (AtBin t e) = bin_part t e (h % 2 ^ e)
-part_of h (AtSweep w c) = sweep_part w c.top
 part_of h (AtMove c a) = move_part (next_of c)
 part_of h (AtDone r) = NoPart
 part_of h AtTaken = NoPart
@@ -120,16 +100,8 @@ part_of h _ = ControlPart
 abbrev pub wanted_part : {K V F : Type 0} → PartyState K V F → Part
 wanted_part p = part_of p.hash p.stage
 
--- a call that did no step yet, at that stage
-abbrev pub fresh_party : {K V F : Type 0} → ℕ → ℕ → Stage K V F → PartyState K V F
-fresh_party h n s = record { hash = h; processors = n; stage = s; last = None }
-
--- the key and the value that were seen
-abbrev pub pair_seen : {K V : Type 0} → Seen K V → K × V
-pair_seen s = (s.key, s.value)
-
 abbrev pub with_stage : {K V F : Type 0} → PartyState K V F → Stage K V F → PartyState K V F
-with_stage p s = record { hash = p.hash; processors = p.processors; stage = s; last = p.last }
+with_stage p s = record { hash = p.hash; processors = p.processors; stage = s }
 
 -- ---- what each call in progress keeps: tables up to the greatest, a function that may be called, and the reply of its decision
 
@@ -141,11 +113,6 @@ IsDecided _ = ⊥
 abbrev pub GrowForIsReady : {K V : Type 0} → GrowFor K V → Type 0
 GrowForIsReady (ForInsert r) = IsDecided r
 GrowForIsReady ForReserve = ⊤
-
--- a clear goes over each bin as a whole
-abbrev pub SweepIsReady : {K : Type 0} → Sweep → CursorState K → Type 0
-SweepIsReady Reads c = ⊤
-SweepIsReady (Wipes n) c = HasNoBound c
 
 module _ {K V F : Type 0} (ready : F → Type 0) where
   abbrev pub TaskIsReady : Task K V F → Type 0
@@ -160,7 +127,6 @@ module _ {K V F : Type 0} (ready : F → Type 0) where
   abbrev pub StageIsReady : Stage K V F → Type 0
   StageIsReady (AtLocate t) = TaskIsReady t
   StageIsReady (AtBin t e) = TaskIsReady t × (e ≤ GREATEST_TABLE)
-  StageIsReady (AtSweep w c) = SweepIsReady w c
   StageIsReady (AtClaim a) = ResumeIsReady a
   StageIsReady (AtMove c a) = ResumeIsReady a
   StageIsReady (AtUncount r) = IsDecided r
@@ -234,27 +200,11 @@ abbrev pub IsWriter : {K V F : Type 0} → Task K V F → Type 0
 IsWriter (Finds w k) = ⊥
 IsWriter _ = ⊤
 
--- a walk that goes over the bins
-abbrev pub IsWalking : {K V F : Type 0} → Stage K V F → Type 0
-IsWalking (AtSweep Reads c) = ⊤
-IsWalking _ = ⊥
-
--- a clear that goes over the bins
-abbrev pub IsClearing : {K V F : Type 0} → Stage K V F → Type 0
-IsClearing (AtSweep (Wipes n) c) = ⊤
-IsClearing _ = ⊥
-
--- a call of one key that may change its bin, and did no step yet
-abbrev pub BeginsToWrite : {K V F : Type 0} → Stage K V F → Type 0
-BeginsToWrite (AtLocate t) = IsWriter t
-BeginsToWrite _ = ⊥
-
 -- ---- steps at the control
 
 -- the next step is at the control
 abbrev pub IsAtControl : {K V F : Type 0} → Stage K V F → Type 0
 IsAtControl (AtBin t e) = ⊥
-IsAtControl (AtSweep w c) = ⊥
 IsAtControl (AtDone r) = ⊥
 IsAtControl AtTaken = ⊥
 IsAtControl _ = ⊤
@@ -262,13 +212,11 @@ IsAtControl _ = ⊤
 -- the next step only asks the control for the published table
 abbrev pub locates : {K V F : Type 0} → Stage K V F → Bool
 locates (AtLocate t) = true
-locates (AtOutset w) = true
 locates _ = false
 
 -- that step, at a table that is published
 abbrev pub started_stage : {K V F : Type 0} → ℕ → Stage K V F → Stage K V F
 started_stage d (AtLocate t) = AtBin t d
-started_stage d (AtOutset w) = AtSweep w (at_base d 0)
 started_stage d s = s
 
 -- the exponent w of the table that is made for so many pairs

@@ -1,9 +1,8 @@
 -- What a step of a call is at the control.
-use Rattle.std.specs.Prelude.{◌≡◌, ℕ, pos, negsuc, neg_ℤ, ◌+◌, ◌-◌, ◌^◌, min, Bool, true, false, Option, Some, None, MatchOption}
+use Rattle.std.specs.Prelude.{◌≡◌, ℕ, pos, negsuc, ◌+◌, ◌-◌, ◌^◌, min, Bool, true, false, Option, Some, None, MatchOption}
 use Rattle.flurry_model.specs.declared.reply.KeptReply.TheVariants.{Value}
 use Rattle.flurry_control.specs.Control.{ControlState, claim_of, after_claim, report_of, after_report, after_count, advice_of, count_of, after_open, BeginGives, grows_from}
-use Rattle.flurry_steps.specs.Party.{Sweep, Reads, Wipes, Task, Finds, Removes, Inserts, Adds, Computes, Outcome, OutcomeReply, OutcomeEnded, OutcomeRefused, GrowFor, ForInsert, ForReserve, ThenRecount, ThenGrow, Stage, AtLocate, AtBin, AtClaim, AtMove, AtOutset, AtSweep, AtWiped, AtUncount, AtCount, AtRecount, AtBegin, AtGrow, AtReserve, AtDone, PartyState, reply_for, resumed_stage, IsTableFor}
-use Rattle.flurry_steps.specs.Cursor.{at_base}
+use Rattle.flurry_steps.specs.Party.{Task, Finds, Removes, Inserts, Adds, Computes, Outcome, OutcomeReply, OutcomeEnded, OutcomeRefused, GrowFor, ForInsert, ForReserve, ThenRecount, ThenGrow, Stage, AtLocate, AtBin, AtClaim, AtMove, AtUncount, AtCount, AtRecount, AtBegin, AtGrow, AtReserve, AtDone, PartyState, reply_for, resumed_stage, IsTableFor}
 use Rattle.flurry_steps.specs.declared.party.Event.{Event}
 use Rattle.flurry_steps.specs.declared.party.Event.TheVariants.{Decide, Refused, Opened, Placed, Published, Silent}
 use Rattle.flurry_control.specs.declared.control.Advice.{Advice}
@@ -45,11 +44,6 @@ module _ {K V F : Type 0} where
   stage_growing w g started_stage.Begun = AtClaim (ThenGrow w g)
   stage_growing w g started_stage.Refused = stage_not_grown g
   stage_growing w g started_stage.Busy = stage_grown g
-
-  -- a call that goes over all bins begins at the first one of the published table, and ends where there is none
-  abbrev pub stage_set_out : Sweep → Option ℕ → Stage K V F
-  stage_set_out w None = AtDone OutcomeEnded
-  stage_set_out w (Some e) = AtSweep w (at_base e 0)
 
 -- the event of a call that tried to begin a growth from table e, which was advised
 abbrev pub event_begun : ℕ → BeginOutcome → Event
@@ -96,9 +90,6 @@ module _ {K V F R : Type 0} (place : R → ℕ → Bool → Bool → R → Type 
   abbrev pub StageAtControl : Stage K V F → ControlState → R → Event → Stage K V F → ControlState → R → Type 0
   StageAtControl (AtLocate t) b s ev st b' s' =
       MatchOption b.published (LocatesNone t b s ev st b' s') (λ e. (ev ≡ Silent) × (st ≡ AtBin t e) × (b' ≡ b) × (s' ≡ s))
-  StageAtControl (AtOutset w) b s ev st b' s' = (ev ≡ Silent) × (st ≡ stage_set_out w b.published) × (b' ≡ b) × (s' ≡ s)
-  StageAtControl (AtWiped n) b s ev st b' s' =
-      (ev ≡ Silent) × (st ≡ AtDone OutcomeEnded) × (b' ≡ after_count (neg_ℤ (pos (min n (2 ^ 63 - 1)))) b) × (s' ≡ s)
   StageAtControl (AtClaim a) b s ev st b' s' =
       (ev ≡ Silent) × MatchOption (claim_of p b) (st ≡ resumed_stage a) (λ c. st ≡ AtMove c a) × (b' ≡ after_claim p b) × (s' ≡ s)
   StageAtControl (AtMove c a) b s ev st b' s' =
@@ -122,5 +113,4 @@ module _ {K V F R : Type 0} (place : R → ℕ → Bool → Bool → R → Type 
 pub record ControlStep {K V F R : Type 0} (place : R → ℕ → Bool → Bool → R → Type 0) (p : PartyState K V F) (b : ControlState) (s : R) (ev : Event) (p' : PartyState K V F) (b' : ControlState) (s' : R) : Type 0 where
   pub hash : p'.hash ≡ p.hash
   pub processors : p'.processors ≡ p.processors
-  pub last : p'.last ≡ p.last
   pub step : StageAtControl place p.processors p.stage b s ev p'.stage b' s'

@@ -1,16 +1,13 @@
 -- What a step of a call is at a bin, and at a bin that moves with its two halves.
-use Rattle.std.specs.Prelude.{◌≡◌, ℕ, ◌+◌, ◌-◌, ◌*◌, ◌^◌, min, length, MatchOption, Bool, true, false, Option, Some, None, IsSome, Result, Ok, Err, ⊤, ◌⊎◌}
+use Rattle.std.specs.Prelude.{◌≡◌, ℕ, ◌+◌, ◌*◌, ◌^◌, Bool, true, false, Option, Some, None, IsSome, Result, Ok, Err, ⊤, ◌⊎◌}
 use Rattle.std.specs.declared.cmp.Ordering.{Ordering}
 use Rattle.flurry_slots.specs.Slot as slot
-use Rattle.std.specs.Option.{option_map}
-use Rattle.flurry_slots.specs.Slot.{PlainEntry, Live, Content, IsLive, HasMoved, IsUnborn, SlotState, ComputeOutcome, WasAbsent, WasRemoved, WasChanged, entry_of_live, after_write, write_reply, after_add, add_reply, after_take, after_wipe, next_of_live, ComputesInVain, HasMovedInto, Clashes}
+use Rattle.flurry_slots.specs.Slot.{PlainEntry, Live, Content, IsLive, HasMoved, IsUnborn, SlotState, ComputeOutcome, WasAbsent, WasRemoved, WasChanged, entry_of_live, after_write, write_reply, after_add, add_reply, after_take, ComputesInVain, HasMovedInto, Clashes}
 use Rattle.flurry_model.specs.declared.reply.KeptReply.TheVariants.{Value, New, Exists}
 use Rattle.flurry_control.specs.Claim.{moved_on}
-use Rattle.flurry_steps.specs.Party.{Sought, Presence, Sweep, Reads, Wipes, Task, Finds, Removes, Inserts, Adds, Computes, Outcome, OutcomeReply, OutcomeEnded, OutcomeRefused, ForInsert, ThenBin, Stage, AtLocate, AtBin, AtClaim, AtMove, AtSweep, AtWiped, AtUncount, AtCount, AtGrow, AtDone, PartyState, reply_for, with_stage, IsTableFor}
-use Rattle.flurry_model.specs.declared.call.Seen.{Seen}
-use Rattle.flurry_steps.specs.Cursor.{CursorState, with_top, with_bound, halved, after_top}
+use Rattle.flurry_steps.specs.Party.{Sought, Presence, Task, Finds, Removes, Inserts, Adds, Computes, Outcome, OutcomeReply, OutcomeRefused, ForInsert, ThenBin, Stage, AtLocate, AtBin, AtClaim, AtMove, AtUncount, AtCount, AtGrow, AtDone, PartyState, reply_for, with_stage, IsTableFor}
 use Rattle.flurry_steps.specs.declared.party.Event.{Event}
-use Rattle.flurry_steps.specs.declared.party.Event.TheVariants.{Decide, Read, Wipe, Refused, Moved, Silent}
+use Rattle.flurry_steps.specs.declared.party.Event.TheVariants.{Decide, Refused, Moved, Silent}
 
 module _ {K V F : Type 0} where
   -- a call that put a new key, and has this reply: where the bin asks for growth, a table is made larger for twice the bins of its
@@ -50,53 +47,6 @@ abbrev pub FindCanBeRefused : {K V : Type 0} → Sought → Option (PlainEntry K
 FindCanBeRefused Presence x = ⊥
 FindCanBeRefused _ x = IsSome x
 
--- ---- a call that goes over all bins
-
--- what a walk's read knows of a pair
-abbrev pub seen_at : {K V : Type 0} → PlainEntry K V → Seen K V
-seen_at x = record { key = x.0.1; value = x.1.0; number = x.1.1 }
-
--- so many pairs, and more, up to the greatest number
-abbrev pub more_wiped : ℕ → ℕ → ℕ
-more_wiped n m = min (n + m) (2 ^ 64 - 1)
-
-module _ {K V F : Type 0} where
-  -- the bin on top is done: the way goes on, or was the last; then a walk has ended, and a clear counts what it wiped
-  abbrev pub stage_swept : Sweep → Option (CursorState K) → Stage K V F
-  stage_swept w (Some f) = AtSweep w f
-  stage_swept Reads None = AtDone OutcomeEnded
-  stage_swept (Wipes n) None = AtWiped n
-
-  -- a walk whose next entry is x reads it, and it is its bound then; or the walk is refused a further owner
-  abbrev pub ReadGives : CursorState K → PlainEntry K V → Event → Stage K V F → Type 0
-  ReadGives f x Read s = s ≡ AtSweep Reads (with_top f (with_bound f.top x.0))
-  ReadGives f x Refused s = s ≡ AtDone OutcomeRefused
-  ReadGives f x _ s = ⊥
-
-  -- a bin that has moved is left for its halves; a walk may be refused a further owner of a bound that both need
-  abbrev pub SplitGives : Sweep → CursorState K → Event → Stage K V F → Type 0
-  SplitGives w f Silent s = s ≡ AtSweep w (halved f)
-  SplitGives Reads f Refused s = (s ≡ AtDone OutcomeRefused) × IsSome f.top.bound
-  SplitGives w f _ s = ⊥
-
-  module _ (cmp : K → K → Ordering) where
-    abbrev pub SweepAtLive : Sweep → CursorState K → Live K V → Event → Stage K V F → Content K V → Type 0
-    SweepAtLive Reads f b ev s c =
-        MatchOption (next_of_live cmp f.top.bound b) ((ev ≡ Silent) × (s ≡ stage_swept Reads (after_top f))) (λ x. ReadGives f x ev s) × (c ≡ IsLive b)
-    SweepAtLive (Wipes n) f b ev s c =
-        (ev ≡ Wipe f.top.table f.top.index) × (s ≡ stage_swept (Wipes (more_wiped n (length b.held))) (after_top f)) × (c ≡ IsLive (after_wipe b))
-
-    -- the step at the bin on top: a live one is read or wiped, one that has moved is followed, and one that is not there yet is met again
-    abbrev pub SweepGives : Sweep → CursorState K → Content K V → Event → Stage K V F → Content K V → Type 0
-    SweepGives w f (IsLive b) ev s c = SweepAtLive w f b ev s c
-    SweepGives w f HasMoved ev s c = SplitGives w f ev s × (c ≡ HasMoved)
-    SweepGives w f IsUnborn ev s c = (ev ≡ Silent) × (s ≡ AtSweep w f) × (c ≡ IsUnborn)
-
-    -- what a call has read last, after its step at a slot
-    abbrev pub last_after : Stage K V F → Content K V → Event → Option (Seen K V) → Option (Seen K V)
-    last_after (AtSweep Reads f) (IsLive b) Read last = option_map seen_at (next_of_live cmp f.top.bound b)
-    last_after _ _ _ last = last
-
 module _ {K V F : Type 0} (cmp : K → K → Ordering) (changes : F → K → V → Option V → Type 0) (h : ℕ) where
   -- the call decides at a live bin of table e, which it leaves as the second one
   abbrev pub DecidesAt : Task K V F → ℕ → Live K V → Stage K V F → Live K V → Type 0
@@ -129,7 +79,6 @@ module _ {K V F : Type 0} (cmp : K → K → Ordering) (changes : F → K → V 
 
   abbrev pub StageAtSlot : Stage K V F → Content K V → Event → Stage K V F → Content K V → Type 0
   StageAtSlot (AtBin t e) c ev s' c' = ContentGives t e c ev s' c'
-  StageAtSlot (AtSweep w f) c ev s' c' = SweepGives cmp w f c ev s' c'
   StageAtSlot _ c ev s' c' = ⊥
 
 -- the step of p at the slot q answers ev, and leaves p' and q'
@@ -138,7 +87,6 @@ pub record SlotStep {K V F : Type 0} (cmp : K → K → Ordering) (changes : F �
   pub processors : p'.processors ≡ p.processors
   pub table : q'.table ≡ q.table
   pub index : q'.index ≡ q.index
-  pub last : p'.last ≡ last_after cmp p.stage q.content ev p.last
   pub step : StageAtSlot cmp changes p.hash p.stage q.content ev p'.stage q'.content
 
 -- the next bin of the call's claim has moved

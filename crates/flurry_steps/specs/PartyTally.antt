@@ -22,10 +22,23 @@ module _ {K V F : Type 0} where
   StageAtTally most (AtCount r) n st' n' = (st' ≡ stage_tallied most n' r) × (n' ≡ counted (pos 1) n)
   StageAtTally most _ n st' n' = ⊥
 
+-- a call that counts next the pair that it put, or else removed, and its reply
+pub record CountingState (K V : Type 0) : Type 0 where
+  pub put : Bool
+  pub reply : Outcome K V
+
+module _ {K V F : Type 0} where
+  abbrev pub counting_at : Bool → Outcome K V → Stage K V F
+  counting_at true r = AtCount r
+  counting_at false r = AtUncount r
+
+  -- where it stands
+  abbrev pub counting_stage : CountingState K V → Stage K V F
+  counting_stage c = counting_at c.put c.reply
+
 -- the step of p at that tally
 pub record TallyStep {K V F : Type 0} (most : ℤ) (p : PartyState K V F) (n : ℤ) (ev : Event) (p' : PartyState K V F) (n' : ℤ) : Type 0 where
   pub hash : p'.hash ≡ p.hash
   pub processors : p'.processors ≡ p.processors
-  pub last : p'.last ≡ p.last
   pub silent : ev ≡ event.Silent
   pub step : StageAtTally most p.stage n p'.stage n'

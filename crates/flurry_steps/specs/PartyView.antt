@@ -1,10 +1,9 @@
 -- What contracts see of a call in progress.
-use Rattle.std.specs.Prelude.{⊤, ℕ, Bool, true, false, Option, Some, None}
+use Rattle.std.specs.Prelude.{⊤}
 use Rattle.std.specs.Option.{option_map}
 use Rattle.std.specs.Arc.{arc_value}
 use Rattle.std.specs.declared.sync.Arc.{Arc}
 use Rattle.flurry_model.specs.declared.reply.KeptReply.TheVariants as kept
-use Rattle.flurry_steps.specs.Cursor.{CursorState}
 use Rattle.flurry_steps.specs.Party as abstract
 use Rattle.flurry_steps.specs.Party.{PartyState, Part, ControlPart, LookPart, BinPart, MovePart, NoPart, Outcome, OutcomeReply, OutcomeEnded, OutcomeRefused}
 use Rattle.flurry_steps.specs.declared.party.call.Key.{Key}
@@ -13,8 +12,6 @@ use Rattle.flurry_steps.specs.declared.party.call.Call.{Call}
 use Rattle.flurry_steps.specs.declared.party.call.Call.TheVariants as call
 use Rattle.flurry_steps.specs.declared.party.call.OwnedCall.{OwnedCall}
 use Rattle.flurry_steps.specs.declared.party.call.OwnedCall.TheVariants as owned_call
-use Rattle.flurry_steps.specs.declared.party.first.Keyless.{Keyless}
-use Rattle.flurry_steps.specs.declared.party.first.Keyless.TheVariants as keyless
 use Rattle.flurry_steps.specs.declared.party.call.Sought.{Sought}
 use Rattle.flurry_steps.specs.declared.party.call.Sought.TheVariants as sought
 use Rattle.flurry_steps.specs.declared.party.call.Task.{Task}
@@ -25,8 +22,6 @@ use Rattle.flurry_steps.specs.declared.party.stage.GrowFor.{GrowFor}
 use Rattle.flurry_steps.specs.declared.party.stage.GrowFor.TheVariants as growing
 use Rattle.flurry_steps.specs.declared.party.stage.Resume.{Resume}
 use Rattle.flurry_steps.specs.declared.party.stage.Resume.TheVariants as after
-use Rattle.flurry_steps.specs.declared.party.stage.Sweep.{Sweep}
-use Rattle.flurry_steps.specs.declared.party.stage.Sweep.TheVariants as sweep
 use Rattle.flurry_steps.specs.declared.party.stage.Stage.{Stage}
 use Rattle.flurry_steps.specs.declared.party.stage.Stage.TheVariants as stage
 use Rattle.flurry_steps.specs.declared.party.Want.{Want}
@@ -54,10 +49,6 @@ part_of_want (want.Bin e i) = BinPart e i
 part_of_want (want.Move e i) = MovePart e i
 part_of_want want.Done = NoPart
 
-abbrev pub sweep_of : Sweep → abstract.Sweep
-sweep_of sweep.Read = abstract.Reads
-sweep_of (sweep.Wipe n) = abstract.Wipes n
-
 abbrev pub key_of : {K : Type 0} → Key K → K
 key_of (key.Lent k) = k.now
 key_of (key.Own k) = k
@@ -68,11 +59,6 @@ sought_of sought.Pair = abstract.ThePair
 sought_of sought.Presence = abstract.Presence
 
 module _ {K V F : Type 0} where
-  -- a clear that has wiped so many pairs goes on, or is to count them
-  abbrev pub stage_cleared : CursorState K → Bool → ℕ → abstract.Stage K V F
-  stage_cleared c true n = abstract.AtSweep (abstract.Wipes n) c
-  stage_cleared c false n = abstract.AtWiped n
-
   abbrev pub task_of : Task K V F → abstract.Task K V F
   task_of (task.Find w k) = abstract.Finds (sought_of w) (key_of k)
   task_of (task.Remove w k) = abstract.Removes (sought_of w) (key_of k)
@@ -91,8 +77,6 @@ module _ {K V F : Type 0} where
   first_stage (call.TryInsert k v) = abstract.AtLocate (abstract.Adds k v)
   first_stage (call.Compute k f) = abstract.AtLocate (abstract.Computes k.now f)
   first_stage (call.Reserve a) = abstract.AtReserve a
-  first_stage call.Clear = abstract.AtOutset (abstract.Wipes 0)
-  first_stage call.Walk = abstract.AtOutset abstract.Reads
 
   -- and of a call that has its key
   abbrev pub owned_stage : OwnedCall K V F → abstract.Stage K V F
@@ -105,11 +89,6 @@ module _ {K V F : Type 0} where
   owned_stage (owned_call.TryInsert k v) = abstract.AtLocate (abstract.Adds k v)
   owned_stage (owned_call.Compute k f) = abstract.AtLocate (abstract.Computes k f)
   owned_stage (owned_call.Reserve a) = abstract.AtReserve a
-
-  -- the stage of a call without a key before its first step
-  abbrev pub stage_of_keyless : Keyless → abstract.Stage K V F
-  stage_of_keyless (keyless.Reserve a) = abstract.AtReserve a
-  stage_of_keyless (keyless.Sweep w) = abstract.AtOutset (sweep_of w)
 
   -- its function, if it has one, may be called
   abbrev pub CallIsReady : (F → Type 0) → Call K V F → Type 0
@@ -127,11 +106,6 @@ module _ {K V A : Type 0} where
   grow_for_of growing.Reserve = abstract.ForReserve
 
 module _ {K V F A : Type 0} where
-  -- a walk goes on, or is done with that reply
-  abbrev pub stage_walked : CursorState K → Option (Reply K V A) → abstract.Stage K V F
-  stage_walked c None = abstract.AtSweep abstract.Reads c
-  stage_walked c (Some r) = abstract.AtDone (outcome_of r)
-
   abbrev pub resume_of : Resume K V F A → abstract.Resume K V F
   resume_of (after.Bin t e) = abstract.ThenBin (task_of t) e
   resume_of (after.Recount r) = abstract.ThenRecount (outcome_of r)
@@ -140,9 +114,6 @@ module _ {K V F A : Type 0} where
   abbrev pub stage_of : Stage K V F A → abstract.Stage K V F
   stage_of (stage.Locate t) = abstract.AtLocate (task_of t)
   stage_of (stage.Bin t e) = abstract.AtBin (task_of t) e
-  stage_of (stage.Outset w) = abstract.AtOutset (sweep_of w)
-  stage_of (stage.Sweep w c) = abstract.AtSweep (sweep_of w) c
-  stage_of (stage.Wiped n) = abstract.AtWiped n
   stage_of (stage.Claim a) = abstract.AtClaim (resume_of a)
   stage_of (stage.Move c a) = abstract.AtMove c (resume_of a)
   stage_of (stage.Uncount r) = abstract.AtUncount (outcome_of r)
@@ -155,4 +126,4 @@ module _ {K V F A : Type 0} where
   stage_of stage.Taken = abstract.AtTaken
 
   abbrev pub party_state_of : Inside K V F A → PartyState K V F
-  party_state_of p = record { hash = p.hash; processors = p.processors; stage = stage_of p.stage; last = p.last }
+  party_state_of p = record { hash = p.hash; processors = p.processors; stage = stage_of p.stage }

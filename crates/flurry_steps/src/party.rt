@@ -2,41 +2,39 @@
 //!
 //! A caller asks a [`Party`] what it wants, lends it that part, and so on until the party is done. What it does to the part, and what
 //! it becomes, are plain data in contracts; each step is one line of what a call does, whichever steps of other calls come between.
-ghost use Rattle.std.specs.Prelude.{◌≡◌, ◌<◌, ◌≤◌, ◌⊎◌, IfNone, IfSome, IfOk, true};
+ghost use Rattle.std.specs.Prelude.{◌≡◌, ◌<◌, ◌≤◌, ◌⊎◌, IfNone, IfSome, true};
 ghost use Rattle.std.specs.Option.{option_map, option_copied};
 ghost use Rattle.flurry_slots.specs.Slot.{IsSlot, IsUnborn};
-ghost use Rattle.flurry_steps.specs.Party.{PartyState, fresh_party, pair_seen, locates, started_stage, wanted_part, with_stage, outcome_in, final_outcome, steps_left, LooksUp, IsWalking, IsClearing, LookPart, BinPart, MovePart, ControlPart, AtTaken, AtLocate, StageIsReady, TaskIsReady};
+ghost use Rattle.flurry_steps.specs.Party.{PartyState, locates, started_stage, wanted_part, with_stage, outcome_in, final_outcome, steps_left, LooksUp, LookPart, BinPart, MovePart, ControlPart, AtTaken, AtLocate, TaskIsReady};
 ghost use Rattle.flurry_steps.specs.PartyControl.{ControlStep};
 ghost use Rattle.flurry_steps.specs.PartySlots.{SlotStep, MoveStep};
-ghost use Rattle.flurry_steps.specs.PartyView.{part_of_want, first_stage, owned_stage, outcome_of, stage_of, task_of, CallIsReady, OwnedIsReady};
+ghost use Rattle.flurry_steps.specs.PartyView.{part_of_want, first_stage, owned_stage, outcome_of, task_of, CallIsReady, OwnedIsReady};
 ghost use Rattle.flurry_model.specs.declared.sizes.TheConstants.{GREATEST_TABLE};
 
 mod at_control;
 mod at_slot;
 mod at_tally;
 mod call;
+mod counting;
 mod first;
 mod reply;
-mod seen;
 mod stage;
-mod sweep;
 
-use crate::cursor::Cursor;
 use at_control::step_control;
 use at_slot::{step_lookup, step_write};
 use call::{Key, Sought, Task};
 pub use call::{Call, OwnedCall};
-use first::{Keyless, task_for};
+pub use counting::Counting;
+pub use first::Begun;
+use first::task_for;
 use flurry_control::{Control, PublishedTable, Room};
 use flurry_model::sizes::bin_index;
 use flurry_slots::{ComputeFn, MoveAnswer, Slot};
 pub use reply::Reply;
-pub use seen::Seen;
-use stage::{GrowFor, Resume, Stage, Sweep};
-use std::alloc::{AllocError, Allocator, Global};
+use stage::{GrowFor, Resume, Stage};
+use std::alloc::{Allocator, Global};
 use std::marker::Model;
 use std::mem;
-use sweep::{step_clear, step_walk};
 
 /// The part of a shared map that the next step of a call needs.
 #[derive(Clone, Copy, Debug, PartialEq, Eq)]
@@ -58,10 +56,6 @@ pub enum Want {
 pub enum Event {
     /// A call of one key decided: it has its reply, and changed the map.
     Decide,
-    /// A walk read a pair, which [`Party::last_read`] lends.
-    Read,
-    /// A clear wiped the bin of that table and index.
-    Wipe(u8, usize),
     /// The call was refused for memory, and is done.
     Refused,
     /// The first table, of that exponent, was made and published.
@@ -87,8 +81,6 @@ pub struct Party<'k, K, V, F: ComputeFn<K, V>, A: Allocator = Global> {
     // A stage is put in its place by `mem::replace`, and the one before goes to `drop`: at an assignment the proof would go through all
     // that a stage can hold.
     stage: Stage<'k, K, V, F, A>,
-    // What a walk has read last, which stays once it has ended.
-    last: Option<Seen<K, V, A>>,
 }
 
 impl<'k, K, V, F: ComputeFn<K, V>, A: Allocator> Model for Party<'k, K, V, F, A> {
@@ -109,12 +101,15 @@ impl<'k, K: Drop, V: Drop, F: ComputeFn<K, V>, A: Allocator> Party<'k, K, V, F, 
     /// Constant time; takes no memory.
     pub fn new(call: Call<'k, K, V, F>, hash: u64, processors: usize) -> Self
         requires { CallIsReady F.can_change call }
-        ensures { result ≡ fresh_party hash processors (first_stage call.entry) }
+        ensures { result ≡ record { hash = hash; processors = processors; stage = first_stage call.entry } }
     {
         match task_for(call) {
             Ok(task) => Party::of_task(task, hash, processors),
-            Err(Keyless::Reserve(more)) => Party::at(Stage::Reserve(more), hash, processors),
-            Err(Keyless::Sweep(sweep)) => Party::at(Stage::Outset(sweep), hash, processors),
+            Err(more) => Party {
+                hash,
+                processors,
+                stage: Stage::Reserve(more),
+            },
         }
     }
 
@@ -123,7 +118,7 @@ impl<'k, K: Drop, V: Drop, F: ComputeFn<K, V>, A: Allocator> Party<'k, K, V, F, 
     /// Constant time; takes no memory.
     pub fn from_owned(call: OwnedCall<K, V, F>, hash: u64, processors: usize) -> Self
         requires { OwnedIsReady F.can_change call }
-        ensures { result ≡ fresh_party hash processors (owned_stage call) }
+        ensures { result ≡ record { hash = hash; processors = processors; stage = owned_stage call } }
     {
         let task = match call {
             OwnedCall::Get(key) => Task::Find(Sought::Value, Key::Own(key)),
@@ -134,7 +129,13 @@ impl<'k, K: Drop, V: Drop, F: ComputeFn<K, V>, A: Allocator> Party<'k, K, V, F, 
             OwnedCall::Insert(key, value) => Task::Insert(key, value),
             OwnedCall::TryInsert(key, value) => Task::Add(key, value),
             OwnedCall::Compute(key, f) => Task::Compute(Key::Own(key), f),
-            OwnedCall::Reserve(more) => return Party::at(Stage::Reserve(more), hash, processors),
+            OwnedCall::Reserve(more) => {
+                return Party {
+                    hash,
+                    processors,
+                    stage: Stage::Reserve(more),
+                };
+            }
         };
         Party::of_task(task, hash, processors)
     }
@@ -142,26 +143,12 @@ impl<'k, K: Drop, V: Drop, F: ComputeFn<K, V>, A: Allocator> Party<'k, K, V, F, 
     // The same of a call of one key.
     fn of_task(task: Task<'k, K, V, F>, hash: u64, processors: usize) -> Self
         requires { TaskIsReady F.can_change (task_of task) }
-        ensures { result ≡ fresh_party hash processors (AtLocate (task_of task.entry)) }
+        ensures { result ≡ record { hash = hash; processors = processors; stage = AtLocate (task_of task.entry) } }
     {
         Party {
             hash,
             processors,
             stage: Stage::Locate(task),
-            last: None,
-        }
-    }
-
-    // A call at that stage, which has read nothing.
-    fn at(stage: Stage<'k, K, V, F, A>, hash: u64, processors: usize) -> Self
-        requires { StageIsReady F.can_change (stage_of stage) }
-        ensures { result ≡ fresh_party hash processors (stage_of stage.entry) }
-    {
-        Party {
-            hash,
-            processors,
-            stage,
-            last: None,
         }
     }
 
@@ -184,13 +171,6 @@ impl<'k, K: Drop, V: Drop, F: ComputeFn<K, V>, A: Allocator> Party<'k, K, V, F, 
                 Some((table, index)) => Want::Move(table, index),
                 None => Want::Control,
             },
-            Stage::Sweep(sweep, cursor) => {
-                let (table, index) = cursor.at();
-                match sweep {
-                    Sweep::Read => Want::Look(table, index),
-                    Sweep::Wipe(_) => Want::Bin(table, index),
-                }
-            }
             Stage::Done(_) | Stage::Taken => Want::Done,
             _ => Want::Control,
         }
@@ -235,34 +215,6 @@ impl<'k, K: Drop, V: Drop, F: ComputeFn<K, V>, A: Allocator> Party<'k, K, V, F, 
         }
     }
 
-    /// The pair that a walk has read last, and that stays once it has ended; none of any other call.
-    ///
-    /// Constant time.
-    pub fn last_read(&self) -> Option<(&K, &V)>
-        ensures { option_map (λ p. (p.0.now, p.1.now)) result ≡ option_map pair_seen self.now.last }
-    {
-        match &self.last {
-            Some(seen) => Some((seen.key(), seen.value())),
-            None => None,
-        }
-    }
-
-    /// The same with the write number of the value.
-    ///
-    /// Constant time; takes no memory but for further owners of the key and the value.
-    ///
-    /// # Errors
-    ///
-    /// [`AllocError`], where such an owner is refused.
-    pub fn seen(&self) -> Result<Option<Seen<K, V, A>>, AllocError>
-        ensures { IfOk result (λ s. s ≡ self.now.last) }
-    {
-        match &self.last {
-            Some(seen) => Ok(Some(seen.try_clone()?)),
-            None => Ok(None),
-        }
-    }
-
     /// The step at the control, with the room where tables are made.
     ///
     /// Constant time, but for the making of a table.
@@ -283,7 +235,7 @@ impl<'k, K: Drop, V: Drop, F: ComputeFn<K, V>, A: Allocator> Party<'k, K, V, F, 
     pub fn locates(&self) -> bool
         ensures { result ≡ locates self.now.stage }
     {
-        matches!(self.stage, Stage::Locate(_) | Stage::Outset(_))
+        matches!(self.stage, Stage::Locate(_))
     }
 
     /// That step, at a table that a control has published: the call goes on to its bin there.
@@ -302,18 +254,13 @@ impl<'k, K: Drop, V: Drop, F: ComputeFn<K, V>, A: Allocator> Party<'k, K, V, F, 
                 drop(mem::replace(&mut self.stage, stage));
                 Event::Silent
             }
-            Stage::Outset(sweep) => {
-                let stage = Stage::Sweep(sweep, Cursor::new(start.table()));
-                drop(mem::replace(&mut self.stage, stage));
-                Event::Silent
-            }
             _ => unreachable!(),
         }
     }
 }
 
 impl<'k, K: Ord + Drop, V: Drop, F: ComputeFn<K, V>, A: Allocator> Party<'k, K, V, F, A> {
-    /// The step of a look-up or a walk at its slot. A look-up has fewer steps left than before, unless the bin is unborn.
+    /// The step of a look-up at its slot. Unless the bin is unborn, fewer steps are left than before.
     ///
     /// As many steps as a look-up in the bin.
     pub fn on_look(&mut self, slot: &Slot<K, V, A>) -> Event
@@ -323,9 +270,6 @@ impl<'k, K: Ord + Drop, V: Drop, F: ComputeFn<K, V>, A: Allocator> Party<'k, K, 
             ((slot.now.content ≡ IsUnborn) ⊎ (steps_left self.new.stage < steps_left self.old.stage)) }
         ensures step { SlotStep K.cmp F.changes self.old slot.now result self.new slot.now }
     {
-        if let Stage::Sweep(_, _) = &self.stage {
-            return self.walk_on(slot);
-        }
         let stage = mem::replace(&mut self.stage, Stage::Taken);
         let Stage::Bin(task, table) = stage else {
             unreachable!()
@@ -336,49 +280,6 @@ impl<'k, K: Ord + Drop, V: Drop, F: ComputeFn<K, V>, A: Allocator> Party<'k, K, 
         let (stage, event) = step_lookup(self.hash, sought, key, table, slot);
         drop(mem::replace(&mut self.stage, stage));
         event
-    }
-
-    // The step of a walk that goes over the bins.
-    fn walk_on(&mut self, slot: &Slot<K, V, A>) -> Event
-        requires stage { IsWalking self.old.stage }
-        requires part { wanted_part self.old ≡ LookPart slot.now.table slot.now.index }
-        ensures within { IsSlot K.cmp slot.now }
-        ensures step { SlotStep K.cmp F.changes self.old slot.now result self.new slot.now }
-    {
-        let Stage::Sweep(_, cursor) = &mut self.stage else {
-            unreachable!()
-        };
-        let (reply, event) = step_walk::<K, V, F, A>(cursor, &mut self.last, slot);
-        match reply {
-            Some(reply) => {
-                drop(mem::replace(&mut self.stage, Stage::Done(reply)));
-                event
-            }
-            None => event,
-        }
-    }
-
-    // The step of a clear that goes over the bins.
-    fn clear_on(&mut self, slot: &mut Slot<K, V, A>) -> Event
-        requires stage { IsClearing self.old.stage }
-        requires part { wanted_part self.old ≡ BinPart slot.old.table slot.old.index }
-        ensures within { IsSlot K.cmp slot.old }
-        ensures step { SlotStep K.cmp F.changes self.old slot.old result self.new slot.new }
-    {
-        let Stage::Sweep(sweep, cursor) = &mut self.stage else {
-            unreachable!()
-        };
-        let Sweep::Wipe(wiped) = sweep else {
-            unreachable!()
-        };
-        let (goes_on, event) = step_clear::<K, V, F, A>(cursor, wiped, slot);
-        if goes_on {
-            event
-        } else {
-            let pairs = *wiped;
-            drop(mem::replace(&mut self.stage, Stage::Wiped(pairs)));
-            event
-        }
     }
 
     /// The step of a helper at a slot and its two halves in the next table.
@@ -421,9 +322,6 @@ impl<'k, K: Ord + Drop, V: Drop, F: ComputeFn<K, V>, A: Allocator + Copy> Party<
         ensures within { IsSlot K.cmp slot.old }
         ensures step { SlotStep K.cmp F.changes self.old slot.old result self.new slot.new }
     {
-        if let Stage::Sweep(Sweep::Wipe(_), _) = &self.stage {
-            return self.clear_on(slot);
-        }
         match mem::replace(&mut self.stage, Stage::Taken) {
             Stage::Bin(task, table) => {
                 let (stage, event) = step_write(alloc, self.hash, task, table, slot);

@@ -1,23 +1,19 @@
 //! The steps of a call at the control.
-ghost use Rattle.std.specs.Prelude.{◌≡◌, ◌≤◌, MatchOption, None, IfSome};
+ghost use Rattle.std.specs.Prelude.{◌≡◌, ◌≤◌, MatchOption, None};
 ghost use Rattle.flurry_control.specs.Control.{after_count, advice_of, claim_of, after_claim, report_of, after_report};
 ghost use Rattle.flurry_steps.specs.Party.{ResumeIsReady, IsDecided, GrowForIsReady, StageIsReady, TaskIsReady, IsAtControl, AtLocate, AtBegin, AtGrow, AtClaim, AtMove, AtReserve, resumed_stage, reply_for, OutcomeReply};
-ghost use Rattle.flurry_steps.specs.PartyControl.{StageAtControl, stage_advised, stage_set_out};
-ghost use Rattle.flurry_steps.specs.PartyView.{resume_of, stage_of, task_of, outcome_of, grow_for_of, sought_of, sweep_of};
+ghost use Rattle.flurry_steps.specs.PartyControl.{StageAtControl, stage_advised};
+ghost use Rattle.flurry_steps.specs.PartyView.{resume_of, stage_of, task_of, outcome_of, grow_for_of, sought_of};
 ghost use Rattle.flurry_model.specs.declared.sizes.TheConstants.{GREATEST_TABLE};
 
 use super::Event;
 use super::call::{Sought, Task};
 use super::reply::Reply;
-use super::stage::{GrowFor, Resume, Stage, Sweep};
-use crate::cursor::Cursor;
+use super::stage::{GrowFor, Resume, Stage};
 use flurry_control::{Advice, BeginOutcome, Claim, Control, Room, wanted_table};
 use flurry_model::sizes::FIRST_TABLE;
 use flurry_slots::ComputeFn;
 use std::alloc::Allocator;
-
-// The most pairs that one count takes away.
-const MOST_COUNTED: usize = i64::MAX as usize;
 
 // The step of a call that is at the control.
 pub(super) fn step_control<'k, K: Drop, V: Drop, F: ComputeFn<K, V>, A: Allocator, R: Room>(
@@ -34,11 +30,6 @@ pub(super) fn step_control<'k, K: Drop, V: Drop, F: ComputeFn<K, V>, A: Allocato
 {
     match stage {
         Stage::Locate(task) => return locate(task, control, room),
-        Stage::Outset(sweep) => return (set_out(sweep, control.locate()), Event::Silent),
-        Stage::Wiped(pairs) => {
-            let _advice = control.count(-(pairs.min(MOST_COUNTED) as i64));
-            return (Stage::Done(Reply::Ended), Event::Silent);
-        }
         Stage::Claim(after) => return claim(after, processors, control),
         Stage::Move(claim, after) => return report(claim, after, control),
         Stage::Uncount(reply) => {
@@ -96,21 +87,6 @@ fn locate<'k, K: Drop, V: Drop, F: ComputeFn<K, V>, A: Allocator, R: Room>(
             ),
             Err(_) => (Stage::Done(Reply::Refused), Event::Refused),
         },
-    }
-}
-
-// Goes to the first bin of the published table; without one the call has ended.
-fn set_out<'k, K: Drop, V: Drop, F: ComputeFn<K, V>, A: Allocator>(
-    sweep: Sweep,
-    published: Option<u8>,
-) -> Stage<'k, K, V, F, A>
-    requires { IfSome published (λ e. e ≤ GREATEST_TABLE) }
-    ensures ready { StageIsReady F.can_change (stage_of result) }
-    ensures stage { stage_of result ≡ stage_set_out (sweep_of sweep) published }
-{
-    match published {
-        Some(table) => Stage::Sweep(sweep, Cursor::new(table)),
-        None => Stage::Done(Reply::Ended),
     }
 }
 

@@ -1,6 +1,8 @@
 //! The step of a call that counts a pair at a tally.
 ghost use Rattle.std.specs.Prelude.{◌≡◌, true};
-ghost use Rattle.flurry_steps.specs.PartyTally.{TallyStep, counts};
+ghost use Rattle.flurry_steps.specs.Party.{StageIsReady};
+ghost use Rattle.flurry_steps.specs.PartyTally.{StageAtTally, TallyStep, counts};
+ghost use Rattle.flurry_steps.specs.PartyView.{stage_of};
 
 use super::stage::Stage;
 use super::{Event, Party};
@@ -8,6 +10,34 @@ use flurry_control::Tally;
 use flurry_slots::ComputeFn;
 use std::alloc::Allocator;
 use std::mem;
+
+// The stage after the step at a tally.
+pub(super) fn step_tally<'k, K, V, F: ComputeFn<K, V>, A: Allocator>(
+    stage: Stage<'k, K, V, F, A>,
+    tally: &mut Tally,
+    most: i64,
+) -> Stage<'k, K, V, F, A>
+    requires counts { counts (stage_of stage) ≡ true }
+    requires callable { StageIsReady F.can_change (stage_of stage) }
+    ensures ready { StageIsReady F.can_change (stage_of result) }
+    ensures step { StageAtTally most (stage_of stage.entry) tally.old (stage_of result) tally.new }
+{
+    match stage {
+        Stage::Count(reply) => {
+            tally.count(1);
+            if tally.has(most) {
+                Stage::Recount(reply)
+            } else {
+                Stage::Done(reply)
+            }
+        }
+        Stage::Uncount(reply) => {
+            tally.count(-1);
+            Stage::Done(reply)
+        }
+        _ => unreachable!(),
+    }
+}
 
 impl<'k, K: Drop, V: Drop, F: ComputeFn<K, V>, A: Allocator> Party<'k, K, V, F, A> {
     /// Whether the next step counts one pair, which the call has put or removed.
@@ -28,22 +58,9 @@ impl<'k, K: Drop, V: Drop, F: ComputeFn<K, V>, A: Allocator> Party<'k, K, V, F, 
         requires { counts self.old.stage ≡ true }
         ensures { TallyStep most self.old tally.old result self.new tally.new }
     {
-        match mem::replace(&mut self.stage, Stage::Taken) {
-            Stage::Count(reply) => {
-                tally.count(1);
-                let stage = if tally.has(most) {
-                    Stage::Recount(reply)
-                } else {
-                    Stage::Done(reply)
-                };
-                drop(mem::replace(&mut self.stage, stage));
-            }
-            Stage::Uncount(reply) => {
-                tally.count(-1);
-                drop(mem::replace(&mut self.stage, Stage::Done(reply)));
-            }
-            _ => unreachable!(),
-        }
+        let stage = mem::replace(&mut self.stage, Stage::Taken);
+        let stage = step_tally(stage, tally, most);
+        drop(mem::replace(&mut self.stage, stage));
         Event::Silent
     }
 

@@ -1,30 +1,35 @@
 //! The first two steps of a call at once.
 ghost use Rattle.std.specs.Prelude.{◌≡◌, MatchResult};
 ghost use Rattle.flurry_slots.specs.Slot.{IsSlot};
-ghost use Rattle.flurry_steps.specs.FirstSteps.{BeginsAt, EndsOrGoesOn, begun_at};
-ghost use Rattle.flurry_steps.specs.Party.{StageIsReady, LooksUp, BeginsToWrite, LookPart, BinPart, wanted_part, fresh_party, AtLocate};
-ghost use Rattle.flurry_steps.specs.PartyView.{CallIsReady, first_stage, stage_of, stage_of_keyless, task_of};
+ghost use Rattle.flurry_steps.specs.FirstSteps.{BeginsAt, EndsOrGoesOn, EndsOrCounts, begun_at};
+ghost use Rattle.flurry_steps.specs.Party.{StageIsReady, LookPart, BinPart, wanted_part, AtLocate, AtReserve};
+ghost use Rattle.flurry_steps.specs.PartyView.{CallIsReady, first_stage, stage_of, task_of};
 
 use super::Party;
 use super::at_slot::{step_lookup, step_write};
 use super::call::{Call, Key, Sought, Task};
+use super::counting::Counting;
 use super::reply::Reply;
-use super::stage::{Stage, Sweep};
+use super::stage::Stage;
 use flurry_control::PublishedTable;
 use flurry_slots::{ComputeFn, Slot};
-use std::alloc::Allocator;
+use std::alloc::{Allocator, Global};
 
-/// A call that has no key.
-#[derive(Clone, Copy, Drop)]
-pub(super) enum Keyless {
-    Reserve(usize),
-    Sweep(Sweep),
+/// What the first two steps led to of a call that may change its bin.
+#[derive(Drop)]
+pub enum Begun<'k, K, V, F: ComputeFn<K, V>, A: Allocator = Global> {
+    /// The call is done, and this is its reply, which is taken.
+    Done(Reply<K, V, A>),
+    /// The call has put or removed a pair, and counts it next.
+    Counts(Counting<K, V, A>),
+    /// The call goes on.
+    GoesOn(Party<'k, K, V, F, A>),
 }
 
-// The task of a call of one key; or what another call is.
-pub(super) fn task_for<'k, K, V, F>(call: Call<'k, K, V, F>) -> Result<Task<'k, K, V, F>, Keyless>
+// The task of a call of one key; of another call how many pairs it makes room for.
+pub(super) fn task_for<'k, K, V, F>(call: Call<'k, K, V, F>) -> Result<Task<'k, K, V, F>, usize>
     ensures { MatchResult result (λ t. first_stage call.entry ≡ AtLocate (task_of t))
-        (λ o. first_stage call.entry ≡ stage_of_keyless o) }
+        (λ more. first_stage call.entry ≡ AtReserve more) }
 {
     match call {
         Call::Get(key) => Ok(Task::Find(Sought::Value, Key::Lent(key))),
@@ -35,9 +40,7 @@ pub(super) fn task_for<'k, K, V, F>(call: Call<'k, K, V, F>) -> Result<Task<'k, 
         Call::Insert(key, value) => Ok(Task::Insert(key, value)),
         Call::TryInsert(key, value) => Ok(Task::Add(key, value)),
         Call::Compute(key, f) => Ok(Task::Compute(Key::Lent(key), f)),
-        Call::Reserve(more) => Err(Keyless::Reserve(more)),
-        Call::Clear => Err(Keyless::Sweep(Sweep::Wipe(0))),
-        Call::Walk => Err(Keyless::Sweep(Sweep::Read)),
+        Call::Reserve(more) => Err(more),
     }
 }
 
@@ -53,12 +56,11 @@ impl<'k, K: Ord + Drop, V: Drop, F: ComputeFn<K, V>, A: Allocator> Party<'k, K, 
         start: &PublishedTable,
         slot: &Slot<K, V, A>,
     ) -> Result<Reply<K, V, A>, Self>
-        requires looks { LooksUp (first_stage call) }
-        requires part { wanted_part (begun_at start.now hash processors (first_stage call))
+        requires { wanted_part (begun_at start.now hash processors (first_stage call))
             ≡ LookPart slot.now.table slot.now.index }
         ensures within { IsSlot K.cmp slot.now }
         ensures steps { BeginsAt K.cmp F.changes (begun_at start.now hash processors (first_stage call.entry))
-            slot.now result slot.now }
+            slot.now (EndsOrGoesOn result) slot.now }
     {
         let Ok(Task::Find(sought, key)) = task_for(call) else {
             unreachable!()
@@ -66,25 +68,31 @@ impl<'k, K: Ord + Drop, V: Drop, F: ComputeFn<K, V>, A: Allocator> Party<'k, K, 
         let (stage, _) = step_lookup(hash, sought, key, start.table(), slot);
         Party::settle(hash, processors, stage)
     }
+}
 
+impl<'k, K, V, F: ComputeFn<K, V>, A: Allocator> Party<'k, K, V, F, A> {
     // What a call answers that came to this stage: its reply, or itself.
-    fn settle(
+    pub(super) fn settle(
         hash: u64,
         processors: usize,
         stage: Stage<'k, K, V, F, A>,
     ) -> Result<Reply<K, V, A>, Self>
         requires { StageIsReady F.can_change (stage_of stage) }
-        ensures { EndsOrGoesOn (fresh_party hash processors (stage_of stage.entry)) result }
+        ensures { EndsOrGoesOn result (record { hash = hash; processors = processors; stage = stage_of stage.entry }) }
     {
         match stage {
             Stage::Done(reply) => Ok(reply),
-            stage => Err(Party::at(stage, hash, processors)),
+            stage => Err(Party {
+                hash,
+                processors,
+                stage,
+            }),
         }
     }
 }
 
 impl<'k, K: Ord + Drop, V: Drop, F: ComputeFn<K, V>, A: Allocator + Copy> Party<'k, K, V, F, A> {
-    /// The same of a call that may change its bin.
+    /// The same of a call that may change its bin; one that counts a pair next is told apart.
     ///
     /// As many steps as a look-up in the bin.
     pub fn write_first(
@@ -94,19 +102,41 @@ impl<'k, K: Ord + Drop, V: Drop, F: ComputeFn<K, V>, A: Allocator + Copy> Party<
         start: &PublishedTable,
         alloc: A,
         slot: &mut Slot<K, V, A>,
-    ) -> Result<Reply<K, V, A>, Self>
+    ) -> Begun<'k, K, V, F, A>
         requires ready { CallIsReady F.can_change call }
-        requires writes { BeginsToWrite (first_stage call) }
         requires part { wanted_part (begun_at start.now hash processors (first_stage call))
             ≡ BinPart slot.old.table slot.old.index }
         ensures within { IsSlot K.cmp slot.old }
         ensures steps { BeginsAt K.cmp F.changes (begun_at start.now hash processors (first_stage call.entry))
-            slot.old result slot.new }
+            slot.old (EndsOrCounts hash processors result) slot.new }
     {
         let Ok(task) = task_for(call) else {
             unreachable!()
         };
         let (stage, _) = step_write(alloc, hash, task, start.table(), slot);
-        Party::settle(hash, processors, stage)
+        Party::begun(hash, processors, stage)
+    }
+
+    // The same of a call that may count next.
+    fn begun(hash: u64, processors: usize, stage: Stage<'k, K, V, F, A>) -> Begun<'k, K, V, F, A>
+        requires { StageIsReady F.can_change (stage_of stage) }
+        ensures { EndsOrCounts hash processors result (record { hash = hash; processors = processors; stage = stage_of stage.entry }) }
+    {
+        match stage {
+            Stage::Done(reply) => Begun::Done(reply),
+            Stage::Count(reply) => Begun::Counts(Counting {
+                has_put: true,
+                reply,
+            }),
+            Stage::Uncount(reply) => Begun::Counts(Counting {
+                has_put: false,
+                reply,
+            }),
+            stage => Begun::GoesOn(Party {
+                hash,
+                processors,
+                stage,
+            }),
+        }
     }
 }

@@ -6,7 +6,6 @@ ghost use Rattle.flurry_steps.specs.PartyView.{resume_of, grow_for_of, stage_of}
 
 use super::call::Task;
 use super::reply::Reply;
-use crate::cursor::Cursor;
 use flurry_control::Claim;
 use flurry_slots::ComputeFn;
 use std::alloc::Allocator;
@@ -30,15 +29,6 @@ pub(crate) enum Resume<'k, K, V, F, A: Allocator> {
     Grow(u8, GrowFor<K, V, A>),
 }
 
-/// What a call that goes over all bins does at each.
-#[derive(Clone, Copy, Drop)]
-pub(crate) enum Sweep {
-    /// It reads the pairs.
-    Read,
-    /// It wipes them, and has wiped so many.
-    Wipe(usize),
-}
-
 /// Where a call stands.
 #[derive(Drop)]
 pub(crate) enum Stage<'k, K, V, F, A: Allocator> {
@@ -46,12 +36,6 @@ pub(crate) enum Stage<'k, K, V, F, A: Allocator> {
     Locate(Task<'k, K, V, F>),
     /// It goes to its bin in that table.
     Bin(Task<'k, K, V, F>, u8),
-    /// It asks for the published table, to go over all bins.
-    Outset(Sweep),
-    /// It goes over all bins, and is to stand there.
-    Sweep(Sweep, Cursor<K, A>),
-    /// It counts so many pairs that it wiped.
-    Wiped(usize),
     /// It claims bins to move.
     Claim(Resume<'k, K, V, F, A>),
     /// It moves those bins, and reports once all have moved.

@@ -1,16 +1,14 @@
 use Rattle.std.proofs.Common.{refl}
-use Rattle.flurry_steps.specs.Party.{fresh_party}
 use Rattle.flurry_steps.specs.PartyView.{stage_of}
 use Rattle.flurry_steps.proofs.party.Party.look_first.Goals as goal
 
 pub returns-clause-steps : goal.returns-clause-steps
 returns-clause-steps g c = record {
   event = c.step_lookup-stage.result.1;
-  after = fresh_party c.args.hash c.args.processors (stage_of c.step_lookup-stage.result.0);
+  after = record { hash = c.args.hash; processors = c.args.processors; stage = stage_of c.step_lookup-stage.result.0 };
   step = record {
     hash = refl;
     processors = refl;
-    last = refl;
     table = refl;
     index = refl;
     step = rw (c.in-Ok-Find.ensures, c.in-Ok-Find.field-0-is, ← c.table.ensures.value) c.step_lookup-stage.ensures.step;
