@@ -15,6 +15,9 @@ use std::alloc::{Allocator, Global};
 use std::marker::Model;
 
 /// A call that has put or removed a pair, and counts it next. A call's first steps alone make one.
+///
+/// It has neither the hash of its key nor the number of processors that share the work of a growth; it is given again those with which it
+/// began.
 #[derive(Drop)]
 pub struct Counting<K, V, A: Allocator = Global> {
     pub(super) has_put: bool,
