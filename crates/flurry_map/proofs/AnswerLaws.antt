@@ -327,12 +327,3 @@ module _ {S R K V F : Type 0} (place : R → ℕ → Bool → Bool → R → Typ
   -- the reply to which steps take a call is one that it can answer
   pub can_answer : (c : Call K V F) → p.stage ≡ first_stage c → CanAnswerFrom changes (first_stage c) r
   can_answer c e = subst (StageServes changes (CanAnswerFrom changes (first_stage c))) turns.done (all_turns changes (CanAnswerFrom changes (first_stage c)) place cmp lends (subst (StageServes changes (CanAnswerFrom changes (first_stage c))) (sym e) (first_serves changes c)) turns.turns)
-
-  -- the same steps, from an equal state
-  pub turns_from : (q : PartyState K V F) → p ≡ q → TurnsTo (Turn place cmp changes lends) s q r s' p'
-  turns_from q e = subst (λ z. TurnsTo (Turn place cmp changes lends) s z r s' p') e turns
-
--- steps of a call that did none yet do not take its reply
-module _ {S R K V F : Type 0} (place : R → ℕ → Bool → Bool → R → Type 0) (cmp : K → K → Ordering) (changes : F → K → V → Option V → Type 0) (lends : S → Loan K V R → S → Type 0) {s s' : S} {p p' : PartyState K V F} (turns : Turns (Turn place cmp changes lends) s p s' p') where
-  pub not_taken : (c : Call K V F) → p.stage ≡ first_stage c → p'.stage ≡ AtTaken → ⊥
-  not_taken c e taken = subst (StageServes changes (CanAnswerFrom changes (first_stage c))) taken (all_turns changes (CanAnswerFrom changes (first_stage c)) place cmp lends (subst (StageServes changes (CanAnswerFrom changes (first_stage c))) (sym e) (first_serves changes c)) turns)

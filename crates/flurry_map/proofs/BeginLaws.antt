@@ -1,20 +1,20 @@
 -- The first steps of a call at once are its own.
-use Rattle.std.proofs.Common.{◌≡◌, ℕ, ℤ, ◌%◌, ◌^◌, ◌≤◌, true, Option, Result, refl, sym, subst}
+use Rattle.std.proofs.Common.{◌≡◌, ℕ, ℤ, ◌%◌, ◌^◌, ◌≤◌, true, Option, refl, subst}
 use Rattle.std.specs.declared.cmp.Ordering.{Ordering}
 use Rattle.flurry_drive.specs.Turns.{Turns, TurnsTo, still, further}
 use Rattle.flurry_locks.specs.Lending.{LockLends}
-use Rattle.flurry_map.specs.Driven.{GoesTo, MakerStays, BeginsToWrite}
+use Rattle.flurry_map.specs.Driven.{GoesTo, IsReplyOf, MakerStays, BeginsToWrite}
 use Rattle.flurry_model.specs.declared.sizes.TheConstants.{GREATEST_TABLE}
 use Rattle.flurry_slots.specs.Slot.{SlotState, IsSlot}
 use Rattle.flurry_steps.specs.Field.{Turn, StartLoan, TallyLoan, LookLoan, BinLoan}
-use Rattle.flurry_steps.specs.FirstSteps.{BeginsAt, CountsAt, EndsOrGoesOn, begun_at}
-use Rattle.flurry_steps.specs.Party.{PartyState, Stage, Outcome, LookPart, BinPart, wanted_part, locates, LooksUp}
+use Rattle.flurry_steps.specs.FirstSteps.{BeginsAt, begun_at}
+use Rattle.flurry_steps.specs.Party.{PartyState, Stage, AtDone, AtTaken, Outcome, LookPart, BinPart, wanted_part, locates, LooksUp}
+use Rattle.flurry_steps.specs.PartyTally.{StageAtTally}
 use Rattle.flurry_steps.specs.PartyView.{first_stage}
 use Rattle.flurry_steps.specs.declared.party.Event.{Event}
 use Rattle.flurry_steps.specs.declared.party.Event.TheVariants as event
 use Rattle.flurry_steps.specs.declared.party.call.Call.{Call}
 use Rattle.flurry_steps.specs.declared.party.call.Call.TheVariants as call
-use Rattle.flurry_steps.specs.declared.party.reply.Reply.{Reply}
 
 -- a look-up that did no step yet asks for the published table
 pub look_locates : {K V F : Type 0} (c : Call K V F) → LooksUp (first_stage c) → locates (first_stage c) ≡ true
@@ -52,56 +52,65 @@ write_locates (call.TryInsert k v) h = refl
 write_locates (call.Compute k f) h = refl
 write_locates (call.Reserve a) h = absurd h
 
-module _ {K V F : Type 0} (L M : Type 0) (cmp : K → K → Ordering) (changes : F → K → V → Option V → Type 0) (n h : ℕ) (s : Stage K V F) (ends : PartyState K V F → Type 0) where
-  -- a call that did no step
-  pub not_begun : ends (record { hash = h; processors = n; stage = s }) → GoesTo L M cmp changes (record { hash = h; processors = n; stage = s }) ends
-  not_begun is = record {
-    after = record { hash = h; processors = n; stage = s };
-    turns = λ lender. still;
-    end = is;
-  }
-
-  module _ (d : ℕ) (asks : locates s ≡ true) (within : d ≤ GREATEST_TABLE) where
-    pub look_begun : (q : SlotState K V) → wanted_part (begun_at d h n s) ≡ LookPart q.table q.index → IsSlot cmp q → BeginsAt cmp changes (begun_at d h n s) q ends q → GoesTo L M cmp changes (record { hash = h; processors = n; stage = s }) ends
-    look_begun q wants slot b = record {
-      after = b.after;
-      turns = λ lender.
-          further b.event (further event.Silent still (record { loan = StartLoan d; lent = refl; step = (asks, within, refl, refl) })) (record { loan = LookLoan q; lent = refl; step = (wants, slot, b.step) });
-      end = b.end;
-    }
-
-    pub write_begun : (q q' : SlotState K V) → wanted_part (begun_at d h n s) ≡ BinPart q.table q.index → IsSlot cmp q → BeginsAt cmp changes (begun_at d h n s) q ends q' → GoesTo L M cmp changes (record { hash = h; processors = n; stage = s }) ends
-    write_begun q q' wants slot b = record {
-      after = b.after;
-      turns = λ lender.
-          further b.event (further event.Silent still (record { loan = StartLoan d; lent = refl; step = (asks, within, refl, refl) })) (record { loan = BinLoan q q'; lent = refl; step = (wants, slot, b.step) });
-      end = b.end;
-    }
+pub write_wants : {K V F : Type 0} (c : Call K V F) (d h n : ℕ) → BeginsToWrite (first_stage c) → wanted_part (begun_at d h n (first_stage c)) ≡ BinPart d (h % 2 ^ d)
+write_wants (call.Get k) d h n writes = absurd writes
+write_wants (call.GetKeyValue k) d h n writes = absurd writes
+write_wants (call.ContainsKey k) d h n writes = absurd writes
+write_wants (call.Remove k) d h n writes = refl
+write_wants (call.RemoveEntry k) d h n writes = refl
+write_wants (call.Insert k v) d h n writes = refl
+write_wants (call.TryInsert k v) d h n writes = refl
+write_wants (call.Compute k f) d h n writes = refl
+write_wants (call.Reserve a) d h n writes = absurd writes
 
 module _ {S K V F : Type 0} {step : S → PartyState K V F → Event → S → PartyState K V F → Type 0} where
   both : {s s' s'' : S} {p p' p'' : PartyState K V F} → Turns step s p s' p' → Turns step s' p' s'' p'' → Turns step s p s'' p''
   both first still = first
   both first (further ev turns turn) = further ev (both first turns) turn
 
-  -- the reply to which the steps after the first ones lead is the call's
-  pub after_first : {s s' s'' : S} {p p' p'' : PartyState K V F} {r : Outcome K V} → Turns step s p s' p' → TurnsTo step s' p' r s'' p'' → TurnsTo step s p r s'' p''
-  after_first first t = record { last = t.last; turns = both first t.turns; done = t.done; after = t.after }
+module _ {K V F : Type 0} (M : Type 0) (cmp : K → K → Ordering) (changes : F → K → V → Option V → Type 0) where
+  module _ (h n d : ℕ) (s s' : Stage K V F) (asks : locates s ≡ true) (within : d ≤ GREATEST_TABLE) where
+    -- a call that began at a published table, and did the step at its bin there
+    pub look_begun : (q : SlotState K V) → wanted_part (begun_at d h n s) ≡ LookPart q.table q.index → IsSlot cmp q → BeginsAt cmp changes h d s q s' q
+        → GoesTo M cmp changes (record { hash = h; processors = n; stage = s }) (record { hash = h; processors = n; stage = s' })
+    look_begun q wants slot b =
+        further b.event (further event.Silent still (record { loan = StartLoan d; lent = refl; step = (asks, within, refl, refl) }))
+        (record { loan = LookLoan q; lent = refl; step = (wants, slot, record { hash = refl; processors = refl; table = refl; index = refl; step = b.step }) })
 
-module _ {K V F : Type 0} (L M : Type 0) (cmp : K → K → Ordering) (changes : F → K → V → Option V → Type 0) where
-  -- a call that did the step at a tally
-  pub counted_at : {A : Type 0} (most n n' : ℤ) (p : PartyState K V F) (r : Result (Reply K V A) (PartyState K V F)) → CountsAt most p n r n' → GoesTo L M cmp changes p (EndsOrGoesOn r)
-  counted_at most n n' p r b = record {
-    after = b.after;
-    turns = λ lender. further b.event still (record { loan = TallyLoan most n n'; lent = refl; step = b.step });
-    end = b.end;
-  }
+    pub write_begun : (q q' : SlotState K V) → wanted_part (begun_at d h n s) ≡ BinPart q.table q.index → IsSlot cmp q → BeginsAt cmp changes h d s q s' q'
+        → GoesTo M cmp changes (record { hash = h; processors = n; stage = s }) (record { hash = h; processors = n; stage = s' })
+    write_begun q q' wants slot b =
+        further b.event (further event.Silent still (record { loan = StartLoan d; lent = refl; step = (asks, within, refl, refl) }))
+        (record { loan = BinLoan q q'; lent = refl; step = (wants, slot, record { hash = refl; processors = refl; table = b.table; index = b.index; step = b.step }) })
 
-  -- steps that lead to a stage, and further ones from there
-  pub goes_further : (h n : ℕ) (s : Stage K V F) (p : PartyState K V F) (ends : PartyState K V F → Type 0) → (g : GoesTo L M cmp changes p (λ x. x ≡ record { hash = h; processors = n; stage = s }))
-      → GoesTo L M cmp changes (record { hash = h; processors = n; stage = s }) ends → GoesTo L M cmp changes p ends
-  goes_further h n s p ends g next = record {
-    after = next.after;
-    turns = λ lender.
-        both (g.turns lender) (subst (λ x. Turns (Turn (MakerStays {M = M}) cmp changes LockLends) lender x lender next.after) (sym g.end) (next.turns lender));
-    end = next.end;
-  }
+  -- and one that did the step at a tally
+  pub counted_at : (h n : ℕ) (s s' : Stage K V F) (most t t' : ℤ) → StageAtTally most s t s' t' → GoesTo M cmp changes (record { hash = h; processors = n; stage = s }) (record { hash = h; processors = n; stage = s' })
+  counted_at h n s s' most t t' b = further event.Silent still (record { loan = TallyLoan most t t'; lent = refl; step = record { hash = refl; processors = refl; silent = refl; step = b } })
+
+  -- steps are the same whoever lends their parts
+  by_anyone : {L : Type 0} {l l' : L} {p p' : PartyState K V F} → Turns (Turn (MakerStays {M = M}) cmp changes LockLends) l p l' p' → GoesTo M cmp changes p p'
+  by_anyone still = still
+  by_anyone (further ev turns turn) = further ev (by_anyone turns) (record { loan = turn.loan; lent = refl; step = turn.step })
+
+  module _ (r : Outcome K V) where
+    -- the reply to which the steps lead that a lender's parts are lent for
+    pub driven_reply : {L : Type 0} {l l' : L} {p p' : PartyState K V F} → TurnsTo (Turn (MakerStays {M = M}) cmp changes LockLends) l p r l' p' → IsReplyOf M cmp changes p r
+    driven_reply {p' = p'} t = record { last = p'; turns = record { last = t.last; turns = by_anyone t.turns; done = t.done; after = t.after } }
+
+    -- a call that steps lead to its end
+    pub done_by : (h n : ℕ) (p : PartyState K V F) → GoesTo M cmp changes p (record { hash = h; processors = n; stage = AtDone r }) → IsReplyOf M cmp changes p r
+    done_by h n p turns = record {
+      last = record { hash = h; processors = n; stage = AtTaken };
+      turns = record { last = record { hash = h; processors = n; stage = AtDone r }; turns = turns; done = refl; after = refl };
+    }
+
+    -- the reply of a call that goes on after steps is the whole call's
+    pub goes_on : (p q : PartyState K V F) → GoesTo M cmp changes p q → IsReplyOf M cmp changes q r → IsReplyOf M cmp changes p r
+    goes_on p q first x = record {
+      last = x.last;
+      turns = record { last = x.turns.last; turns = both first x.turns.turns; done = x.turns.done; after = x.turns.after };
+    }
+
+    -- of an equal state
+    pub of_equal : (p q : PartyState K V F) → p ≡ q → IsReplyOf M cmp changes p r → IsReplyOf M cmp changes q r
+    of_equal p q e x = subst (λ z. IsReplyOf M cmp changes z r) e x

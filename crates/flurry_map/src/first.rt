@@ -1,137 +1,216 @@
-//! The first steps of a call at once, where its table is known without the control's lock.
-ghost use Rattle.flurry_locks.specs.declared.lender.Lender.{Lender};
+//! The steps of a call over the locks: its first ones at once, where its table is known without the control's lock.
+ghost use Rattle.std.specs.Prelude.{◌≡◌};
 ghost use Rattle.flurry_locks.specs.declared.tables.Maker.{Maker};
-ghost use Rattle.flurry_map.specs.Driven.{GoesTo, BeginsToWrite};
-ghost use Rattle.flurry_steps.specs.FirstSteps.{EndsOrGoesOn, EndsOrCounts};
-ghost use Rattle.flurry_steps.specs.Party.{LooksUp};
-ghost use Rattle.flurry_steps.specs.PartyTally.{counting_stage};
-ghost use Rattle.flurry_steps.specs.PartyView.{CallIsReady, first_stage};
+ghost use Rattle.flurry_map.specs.Driven.{BeginsOrStays, BeginsToWrite, IsReplyOf};
+ghost use Rattle.flurry_steps.specs.Party.{AtTaken, LooksUp};
+ghost use Rattle.flurry_steps.specs.PartyTally.{ending_stage};
+ghost use Rattle.flurry_steps.specs.PartyView.{CallIsReady, first_stage, outcome_of};
 
 use flurry_control::PublishedTable;
-use flurry_locks::Locks;
+use flurry_drive::drive;
+use flurry_locks::{Lender, Locks};
 use flurry_model::sizes::bin_index;
 use flurry_slots::ComputeFn;
 use flurry_steps::Party;
-use flurry_steps::party::{Begun, Call, Counting, Reply};
+use flurry_steps::party::{Call, Ending, Reply};
 use std::alloc::Allocator;
 use std::sync::Wait;
 
-// The first two steps of a call of one key, where a table is known to be published, and the step at a tally of one that counts then.
-// A call that cannot begin so has done no step.
-pub(crate) fn begin<'k, K: Ord + Drop, V: Drop, F: ComputeFn<K, V>, A: Allocator + Copy, R: Wait>(
+// The reply of a call. Where a table is known to be published, and the bin there is live, a call of one key does its first two steps at
+// once. No party is made where these are all, or where the step at a tally is the last.
+#[inline(always)]
+pub(crate) fn reply_to<K: Ord + Drop, V: Drop, F: ComputeFn<K, V>, A: Allocator + Copy, R: Wait>(
     rt: &R,
     locks: &Locks<K, V, A>,
-    call: Call<'k, K, V, F>,
+    call: Call<'_, K, V, F>,
     hash: u64,
     processors: usize,
-) -> Result<Reply<K, V, A>, Party<'k, K, V, F, A>>
+) -> Reply<K, V, A>
     requires { CallIsReady F.can_change call }
-    ensures { GoesTo (Lender R K V A) (Maker K V A) K.cmp F.changes
-        (record { hash = hash; processors = processors; stage = first_stage call.entry }) (EndsOrGoesOn result) }
+    ensures { IsReplyOf (Maker K V A) K.cmp F.changes
+        (record { hash = hash; processors = processors; stage = first_stage call.entry }) (outcome_of result) }
 {
     let Some(start) = locks.newest() else {
-        return Err(Party::new(call, hash, processors));
+        return drive_call(rt, locks, call, hash, processors);
     };
     match &call {
-        Call::Reserve(_) => Err(Party::new(call, hash, processors)),
+        Call::Reserve(_) => return drive_call(rt, locks, call, hash, processors),
         Call::Get(_) | Call::GetKeyValue(_) | Call::ContainsKey(_) => {
-            look(rt, locks, start, call, hash, processors)
+            return look(rt, locks, start, call, hash, processors);
         }
-        _ => write(rt, locks, start, call, hash, processors),
+        _ => return write(rt, locks, start, call, hash, processors),
     }
 }
 
-// The same of a look-up, at that table.
-fn look<'k, K: Ord + Drop, V: Drop, F: ComputeFn<K, V>, A: Allocator + Copy, R: Wait>(
+// The reply of a look-up, which begins at that table.
+fn look<K: Ord + Drop, V: Drop, F: ComputeFn<K, V>, A: Allocator + Copy, R: Wait>(
     rt: &R,
     locks: &Locks<K, V, A>,
     start: &PublishedTable,
-    call: Call<'k, K, V, F>,
+    call: Call<'_, K, V, F>,
     hash: u64,
     processors: usize,
-) -> Result<Reply<K, V, A>, Party<'k, K, V, F, A>>
+) -> Reply<K, V, A>
     requires ready { CallIsReady F.can_change call }
     requires looks { LooksUp (first_stage call) }
-    ensures { GoesTo (Lender R K V A) (Maker K V A) K.cmp F.changes
-        (record { hash = hash; processors = processors; stage = first_stage call.entry }) (EndsOrGoesOn result) }
+    ensures { IsReplyOf (Maker K V A) K.cmp F.changes
+        (record { hash = hash; processors = processors; stage = first_stage call.entry }) (outcome_of result) }
 {
     let table = start.table();
     let index = bin_index(hash, table);
     if let Some(lock) = locks.slot(table, index) {
         let slot = lock.read(rt);
-        if slot.at() == (table, index) {
-            return Party::look_first(call, hash, processors, start, &*slot);
+        if slot.at() == (table, index) && slot.is_live() {
+            return Party::look_first(call, hash, start, &*slot);
         }
     }
-    Err(Party::new(call, hash, processors))
+    drive_call(rt, locks, call, hash, processors)
 }
 
-// The same of a call that may change its bin, at that table. One that counts a pair next does that too.
-fn write<'k, K: Ord + Drop, V: Drop, F: ComputeFn<K, V>, A: Allocator + Copy, R: Wait>(
+// The reply of a call that may change its bin, which begins at that table.
+#[inline(always)]
+fn write<K: Ord + Drop, V: Drop, F: ComputeFn<K, V>, A: Allocator + Copy, R: Wait>(
     rt: &R,
     locks: &Locks<K, V, A>,
     start: &PublishedTable,
-    call: Call<'k, K, V, F>,
+    call: Call<'_, K, V, F>,
     hash: u64,
     processors: usize,
-) -> Result<Reply<K, V, A>, Party<'k, K, V, F, A>>
+) -> Reply<K, V, A>
     requires ready { CallIsReady F.can_change call }
     requires writes { BeginsToWrite (first_stage call) }
-    ensures { GoesTo (Lender R K V A) (Maker K V A) K.cmp F.changes
-        (record { hash = hash; processors = processors; stage = first_stage call.entry }) (EndsOrGoesOn result) }
+    ensures { IsReplyOf (Maker K V A) K.cmp F.changes
+        (record { hash = hash; processors = processors; stage = first_stage call.entry }) (outcome_of result) }
 {
-    match write_bin(rt, locks, start, call, hash, processors) {
-        Begun::Done(reply) => return Ok(reply),
-        Begun::Counts(counting) => return count(rt, locks, counting, hash, processors),
-        Begun::GoesOn(party) => return Err(party),
+    match write_bin(rt, locks, start, call, hash) {
+        Ok(ending) => return end::<K, V, F, A, R>(rt, locks, ending, hash, processors),
+        Err(call) => return drive_call(rt, locks, call, hash, processors),
     }
 }
 
-// Its first two steps.
+// Its first two steps. A call that cannot begin so has done no step, and comes back.
+#[inline(always)]
 fn write_bin<'k, K: Ord + Drop, V: Drop, F: ComputeFn<K, V>, A: Allocator + Copy, R: Wait>(
     rt: &R,
     locks: &Locks<K, V, A>,
     start: &PublishedTable,
     call: Call<'k, K, V, F>,
     hash: u64,
-    processors: usize,
-) -> Begun<'k, K, V, F, A>
+) -> Result<Ending<K, V, A>, Call<'k, K, V, F>>
     requires ready { CallIsReady F.can_change call }
     requires writes { BeginsToWrite (first_stage call) }
-    ensures { GoesTo (Lender R K V A) (Maker K V A) K.cmp F.changes
-        (record { hash = hash; processors = processors; stage = first_stage call.entry }) (EndsOrCounts hash processors result) }
+    ensures { BeginsOrStays (Maker K V A) K.cmp F.changes hash call.entry result }
 {
     let table = start.table();
     let index = bin_index(hash, table);
     if let Some(lock) = locks.slot(table, index) {
         let mut slot = lock.write(rt);
-        if slot.at() == (table, index) {
-            return Party::write_first(
-                call,
-                hash,
-                processors,
-                start,
-                *locks.allocator(),
-                &mut *slot,
-            );
+        if slot.at() == (table, index) && slot.is_live() {
+            return Ok(Party::write_first(call, hash, start, *locks.allocator(), &mut *slot));
         }
     }
-    Begun::GoesOn(Party::new(call, hash, processors))
+    Err(call)
 }
 
-// The step at a tally of a call that counts a pair next, where pairs may wait at a tally.
-fn count<'k, K: Ord + Drop, V: Drop, F: ComputeFn<K, V>, A: Allocator + Copy, R: Wait>(
+// The reply of a call that has decided, or was refused.
+#[inline(always)]
+fn end<K: Ord + Drop, V: Drop, F: ComputeFn<K, V>, A: Allocator + Copy, R: Wait>(
     rt: &R,
     locks: &Locks<K, V, A>,
-    counting: Counting<K, V, A>,
+    ending: Ending<K, V, A>,
     hash: u64,
     processors: usize,
-) -> Result<Reply<K, V, A>, Party<'k, K, V, F, A>>
-    ensures { GoesTo (Lender R K V A) (Maker K V A) K.cmp F.changes
-        (record { hash = hash; processors = processors; stage = counting_stage counting }) (EndsOrGoesOn result) }
+) -> Reply<K, V, A>
+    ensures { IsReplyOf (Maker K V A) K.cmp F.changes
+        (record { hash = hash; processors = processors; stage = ending_stage ending }) (outcome_of result) }
 {
-    if let Some((tally, most)) = locks.tally(hash) {
-        return counting.end_at_tally(hash, processors, &mut *tally.lock(rt), most);
+    match ending.into_reply() {
+        Ok(reply) => return reply,
+        Err(ending) => return count::<K, V, F, A, R>(rt, locks, ending, hash, processors),
     }
-    Err(counting.into_party(hash, processors))
+}
+
+// The same of a call that has more to do: where it counts a pair next, and pairs may wait at a tally, it does so there.
+#[inline(always)]
+fn count<K: Ord + Drop, V: Drop, F: ComputeFn<K, V>, A: Allocator + Copy, R: Wait>(
+    rt: &R,
+    locks: &Locks<K, V, A>,
+    ending: Ending<K, V, A>,
+    hash: u64,
+    processors: usize,
+) -> Reply<K, V, A>
+    ensures { IsReplyOf (Maker K V A) K.cmp F.changes
+        (record { hash = hash; processors = processors; stage = ending_stage ending }) (outcome_of result) }
+{
+    if ending.counts() {
+        if let Some((tally, most)) = locks.tally(hash) {
+            let mut counted = ending;
+            counted.on_tally::<F>(&mut *tally.lock(rt), most);
+            return finish::<K, V, F, A, R>(rt, locks, counted, hash, processors);
+        }
+    }
+    drive_ending::<K, V, F, A, R>(rt, locks, ending, hash, processors)
+}
+
+// The same of a call that has counted: as a rule it is done.
+#[inline(always)]
+fn finish<K: Ord + Drop, V: Drop, F: ComputeFn<K, V>, A: Allocator + Copy, R: Wait>(
+    rt: &R,
+    locks: &Locks<K, V, A>,
+    ending: Ending<K, V, A>,
+    hash: u64,
+    processors: usize,
+) -> Reply<K, V, A>
+    ensures { IsReplyOf (Maker K V A) K.cmp F.changes
+        (record { hash = hash; processors = processors; stage = ending_stage ending }) (outcome_of result) }
+{
+    match ending.into_reply() {
+        Ok(reply) => return reply,
+        Err(ending) => return drive_ending::<K, V, F, A, R>(rt, locks, ending, hash, processors),
+    }
+}
+
+// Does all steps of a call, one after another.
+fn drive_call<K: Ord + Drop, V: Drop, F: ComputeFn<K, V>, A: Allocator + Copy, R: Wait>(
+    rt: &R,
+    locks: &Locks<K, V, A>,
+    call: Call<'_, K, V, F>,
+    hash: u64,
+    processors: usize,
+) -> Reply<K, V, A>
+    requires { CallIsReady F.can_change call }
+    ensures { IsReplyOf (Maker K V A) K.cmp F.changes
+        (record { hash = hash; processors = processors; stage = first_stage call.entry }) (outcome_of result) }
+{
+    drive_party(rt, locks, Party::new(call, hash, processors))
+}
+
+// Does the steps that are left of a call that has decided.
+fn drive_ending<K: Ord + Drop, V: Drop, F: ComputeFn<K, V>, A: Allocator + Copy, R: Wait>(
+    rt: &R,
+    locks: &Locks<K, V, A>,
+    ending: Ending<K, V, A>,
+    hash: u64,
+    processors: usize,
+) -> Reply<K, V, A>
+    ensures { IsReplyOf (Maker K V A) K.cmp F.changes
+        (record { hash = hash; processors = processors; stage = ending_stage ending }) (outcome_of result) }
+{
+    drive_party(rt, locks, ending.into_party::<F>(hash, processors))
+}
+
+// Does the steps that are left of a call, and answers its reply.
+fn drive_party<K: Ord + Drop, V: Drop, F: ComputeFn<K, V>, A: Allocator + Copy, R: Wait>(
+    rt: &R,
+    locks: &Locks<K, V, A>,
+    party: Party<'_, K, V, F, A>,
+) -> Reply<K, V, A>
+    requires { party.stage ≡ AtTaken → ⊥ }
+    ensures { IsReplyOf (Maker K V A) K.cmp F.changes party.entry (outcome_of result) }
+{
+    let mut party = party;
+    let mut lender = Lender::new(rt, locks);
+    let reply = drive(rt, &mut party, &mut lender);
+    drop(party);
+    reply
 }

@@ -1,6 +1,5 @@
 //! The shared map.
 ghost use Rattle.std.specs.Prelude.{◌≡◌, IfOk};
-ghost use Rattle.flurry_locks.specs.declared.lender.Lender.{Lender};
 ghost use Rattle.flurry_locks.specs.declared.tables.Maker.{Maker};
 ghost use Rattle.flurry_map.specs.Answers.{CanAnswerFrom, CanAdd, CanCompute};
 ghost use Rattle.flurry_map.specs.Driven.{IsDriven, hash_in, no_changes};
@@ -13,10 +12,9 @@ ghost use Rattle.flurry_steps.specs.PartyView.{CallIsReady, first_stage, outcome
 ghost use Rattle.std.specs.Option.{option_map};
 ghost use Rattle.std.specs.Arc.{arc_value};
 
-use crate::first::begin;
+use crate::first::reply_to;
 use flurry_control::wanted_table;
-use flurry_drive::drive;
-use flurry_locks::{Lender, Locks};
+use flurry_locks::Locks;
 use flurry_model::hash::{DefaultHashBuilder, KeyHasher};
 use flurry_model::try_insert::TryInsertError;
 use flurry_slots::{ComputeFn, NoFn};
@@ -157,7 +155,7 @@ impl<K: Ord + Drop, V: Drop, S: KeyHasher<K>, A: Allocator + Copy> HashMap<K, V,
     ///
     /// [`AllocError`], where a further owner is refused. It is not where the key is absent.
     pub fn get<R: Wait>(&self, rt: &R, key: &K) -> Result<Option<Arc<V, A>>, AllocError>
-        ensures { IsDriven (Lender R K V A) (Maker K V A) K.cmp no_changes self.now (S.hash_of self.now.hasher key.now)
+        ensures { IsDriven (Maker K V A) K.cmp no_changes self.now (S.hash_of self.now.hasher key.now)
             (AtLocate (Finds TheValue key.now)) (value_outcome result) }
     {
         let call: Call<'_, K, V, NoFn> = Call::Get(key);
@@ -180,7 +178,7 @@ impl<K: Ord + Drop, V: Drop, S: KeyHasher<K>, A: Allocator + Copy> HashMap<K, V,
         rt: &R,
         key: &K,
     ) -> Result<Option<(Arc<K, A>, Arc<V, A>)>, AllocError>
-        ensures { IsDriven (Lender R K V A) (Maker K V A) K.cmp no_changes self.now (S.hash_of self.now.hasher key.now)
+        ensures { IsDriven (Maker K V A) K.cmp no_changes self.now (S.hash_of self.now.hasher key.now)
             (AtLocate (Finds ThePair key.now)) (pair_outcome result) }
     {
         let call: Call<'_, K, V, NoFn> = Call::GetKeyValue(key);
@@ -195,7 +193,7 @@ impl<K: Ord + Drop, V: Drop, S: KeyHasher<K>, A: Allocator + Copy> HashMap<K, V,
     ///
     /// Takes the locks that [`HashMap::get`] takes.
     pub fn contains_key<R: Wait>(&self, rt: &R, key: &K) -> bool
-        ensures { IsDriven (Lender R K V A) (Maker K V A) K.cmp (no_changes {K = K} {V = V}) self.now
+        ensures { IsDriven (Maker K V A) K.cmp (no_changes {K = K} {V = V}) self.now
             (S.hash_of self.now.hasher key.now) (AtLocate (Finds Presence key.now)) (OutcomeReply (kept.Contains result)) }
     {
         let call: Call<'_, K, V, NoFn> = Call::ContainsKey(key);
@@ -210,7 +208,7 @@ impl<K: Ord + Drop, V: Drop, S: KeyHasher<K>, A: Allocator + Copy> HashMap<K, V,
     /// Takes the lock of the key's bin, to write, and, where the key was present, then a tally's or the control's, to count. Where the
     /// bin has moved it helps the growth first.
     pub fn remove<R: Wait>(&self, rt: &R, key: &K) -> Option<Arc<V, A>>
-        ensures { IsDriven (Lender R K V A) (Maker K V A) K.cmp (no_changes {K = K} {V = V}) self.now
+        ensures { IsDriven (Maker K V A) K.cmp (no_changes {K = K} {V = V}) self.now
             (S.hash_of self.now.hasher key.now) (AtLocate (Removes TheValue key.now))
             (OutcomeReply (kept.Value (option_map arc_value result))) }
     {
@@ -225,7 +223,7 @@ impl<K: Ord + Drop, V: Drop, S: KeyHasher<K>, A: Allocator + Copy> HashMap<K, V,
     ///
     /// Takes the locks that [`HashMap::remove`] takes.
     pub fn remove_entry<R: Wait>(&self, rt: &R, key: &K) -> Option<(Arc<K, A>, Arc<V, A>)>
-        ensures { IsDriven (Lender R K V A) (Maker K V A) K.cmp (no_changes {K = K} {V = V}) self.now
+        ensures { IsDriven (Maker K V A) K.cmp (no_changes {K = K} {V = V}) self.now
             (S.hash_of self.now.hasher key.now) (AtLocate (Removes ThePair key.now))
             (OutcomeReply (kept.Pair (option_map pair_value result))) }
     {
@@ -252,7 +250,7 @@ impl<K: Ord + Drop, V: Drop, S: KeyHasher<K>, A: Allocator + Copy> HashMap<K, V,
         key: K,
         value: V,
     ) -> Result<Option<Arc<V, A>>, AllocError>
-        ensures { IsDriven (Lender R K V A) (Maker K V A) K.cmp no_changes self.now (S.hash_of self.now.hasher key)
+        ensures { IsDriven (Maker K V A) K.cmp no_changes self.now (S.hash_of self.now.hasher key)
             (AtLocate (Inserts key value)) (value_outcome result) }
     {
         let call: Call<'s, K, V, NoFn> = Call::Insert(key, value);
@@ -278,7 +276,7 @@ impl<K: Ord + Drop, V: Drop, S: KeyHasher<K>, A: Allocator + Copy> HashMap<K, V,
         key: K,
         value: V,
     ) -> Result<Result<Arc<V, A>, TryInsertError<V, A>>, AllocError>
-        ensures driven { IsDriven (Lender R K V A) (Maker K V A) K.cmp (no_changes {K = K} {V = V}) self.now
+        ensures driven { IsDriven (Maker K V A) K.cmp (no_changes {K = K} {V = V}) self.now
             (S.hash_of self.now.hasher key) (AtLocate (Adds key value)) (added_outcome result) }
         ensures added { CanAdd {K = K} value (added_outcome result) }
     {
@@ -309,7 +307,7 @@ impl<K: Ord + Drop, V: Drop, S: KeyHasher<K>, A: Allocator + Copy> HashMap<K, V,
         f: F,
     ) -> Result<Option<Arc<V, A>>, AllocError>
         requires { F.IsAlwaysCallable f }
-        ensures driven { IsDriven (Lender R K V A) (Maker K V A) K.cmp (AnswersAtPair F.FnOnce) self.now
+        ensures driven { IsDriven (Maker K V A) K.cmp (AnswersAtPair F.FnOnce) self.now
             (S.hash_of self.now.hasher key.now) (AtLocate (Computes key.now f)) (value_outcome result) }
         ensures computed { CanCompute (AnswersAtPair F.FnOnce f) (value_outcome result) }
     {
@@ -328,7 +326,7 @@ impl<K: Ord + Drop, V: Drop, S: KeyHasher<K>, A: Allocator + Copy> HashMap<K, V,
     ///
     /// [`AllocError`], where memory for a table is wanting. The pairs stay, and so do the doublings that were done.
     pub fn reserve<'s, R: Wait>(&'s self, rt: &R, additional: usize) -> Result<(), AllocError>
-        ensures { IsDriven (Lender R K V A) (Maker K V A) K.cmp (no_changes {K = K} {V = V}) self.now 0
+        ensures { IsDriven (Maker K V A) K.cmp (no_changes {K = K} {V = V}) self.now 0
             (AtReserve additional) (ended_outcome result) }
     {
         let call: Call<'s, K, V, NoFn> = Call::Reserve(additional);
@@ -340,6 +338,7 @@ impl<K: Ord + Drop, V: Drop, S: KeyHasher<K>, A: Allocator + Copy> HashMap<K, V,
     }
 
     // The hash of the key of a call; 0 where it has none.
+    #[inline]
     fn hash_of<F>(&self, call: &Call<'_, K, V, F>) -> u64
         ensures { result ≡ hash_in (S.hash_of self.now.hasher) call.now }
     {
@@ -355,23 +354,15 @@ impl<K: Ord + Drop, V: Drop, S: KeyHasher<K>, A: Allocator + Copy> HashMap<K, V,
         }
     }
 
-    // Does the steps of a call over the locks: its first two at once where that can be, and then one after another.
+    // Does the steps of a call over the locks. It is copied into each call, with its first steps, which then do not ask which call it is.
+    #[inline(always)]
     fn run<F: ComputeFn<K, V>, R: Wait>(&self, rt: &R, call: Call<'_, K, V, F>) -> Reply<K, V, A>
         requires { CallIsReady F.can_change call }
-        ensures driven { IsDriven (Lender R K V A) (Maker K V A) K.cmp F.changes self.now
+        ensures driven { IsDriven (Maker K V A) K.cmp F.changes self.now
             (hash_in (S.hash_of self.now.hasher) call.entry) (first_stage call.entry) (outcome_of result) }
         ensures answers { CanAnswerFrom F.changes (first_stage call.entry) (outcome_of result) }
     {
         let hash = self.hash_of(&call);
-        let mut lender = Lender::new(rt, &self.locks);
-        match begin(rt, &self.locks, call, hash, self.processors) {
-            Ok(reply) => reply,
-            Err(party) => {
-                let mut party = party;
-                let reply = drive(rt, &mut party, &mut lender);
-                drop(party);
-                reply
-            }
-        }
+        reply_to(rt, &self.locks, call, hash, self.processors)
     }
 }

@@ -1,5 +1,5 @@
 -- A slot of a table as plain data, and what each step at it is.
-use Rattle.std.specs.Prelude.{◌≡◌, ℕ, ◌+◌, ◌-◌, ◌^◌, ◌<◌, ◌≤◌, ◌==◌, nat_le, nat_lt, min, length, Bool, false, ◌&&◌, List, [], Option, Some, None, is_none, Result, Ok, Err, ⊤, ◌⊎◌, if◌then◌else◌}
+use Rattle.std.specs.Prelude.{◌≡◌, ℕ, ◌+◌, ◌-◌, ◌^◌, ◌<◌, ◌≤◌, ◌==◌, nat_le, nat_lt, min, length, Bool, false, ◌&&◌, List, [], Option, Some, None, is_none, Result, Ok, Err, ⊤, ◌⊎◌, if◌then◌else◌, true}
 use Rattle.std.specs.declared.cmp.Ordering.{Ordering}
 use Rattle.std.specs.Option.{option_map, option_map_or}
 use Rattle.std.specs.List.{AllByRecursion, find, filter}
@@ -27,6 +27,10 @@ pub data Content (K V : Type 0) : Type 0 where
   IsLive : Live K V → Content K V
   HasMoved : Content K V
   IsUnborn : Content K V
+
+abbrev pub is_live : {K V : Type 0} → Content K V → Bool
+is_live (IsLive b) = true
+is_live _ = false
 
 -- a slot: bin `index` of table `table`, which has 2^table bins
 pub record SlotState (K V : Type 0) : Type 0 where

@@ -7,7 +7,7 @@ ghost use Rattle.flurry_model.specs.Greatest.{greatest};
 ghost use Rattle.flurry_slots.specs.LiveView.{live_of, view_of_written, view_of_added, outcome, IfAbsent};
 ghost use Rattle.flurry_bins.specs.PlainEntries.{numbered_pair};
 ghost use Rattle.flurry_bins.specs.PlainEntries.{AllInRegion};
-ghost use Rattle.flurry_slots.specs.Slot.{SlotState, IsLive, HasMoved, IsUnborn, IsSlot, LiesIn, IfLive, slot_with, entry_of_live, next_of_live, after_write, write_reply, after_add, add_reply, after_take, after_take_if, take_if_reply, after_wipe, Computes, ComputesInVain, HasMovedInto, Clashes};
+ghost use Rattle.flurry_slots.specs.Slot.{SlotState, IsLive, HasMoved, IsUnborn, IsSlot, LiesIn, IfLive, is_live, slot_with, entry_of_live, next_of_live, after_write, write_reply, after_add, add_reply, after_take, after_take_if, take_if_reply, after_wipe, Computes, ComputesInVain, HasMovedInto, Clashes};
 ghost use Rattle.flurry_slots.specs.SlotView.{place_of, answer_with, answer_map, IfHere, IfAway, IsAway, IfDone, IfAlready, IfClash, IfNotDone};
 ghost use Rattle.flurry_model.specs.declared.sizes.TheConstants.{GREATEST_TABLE};
 
@@ -168,6 +168,14 @@ impl<K: Ord + Drop, V: Drop, A: Allocator> Slot<K, V, A> {
         ensures within { IsSlot K.cmp self.now }
     {
         (self.table, self.index)
+    }
+
+    /// Whether a bin is live here. Else it has moved, or no bin is there yet. Constant time.
+    #[inline]
+    pub fn is_live(&self) -> bool
+        ensures { result ≡ is_live self.now.content }
+    {
+        matches!(self.state, State::Live(_))
     }
 
     /// The entry of a hash and a key, if there is one. As many steps as a look-up in the bin.

@@ -4,7 +4,7 @@ pub mod Party
 pub mod PartyView
 pub mod PartySlots
 pub mod PartyTally
-pub mod CountingView
+pub mod EndingView
 pub mod PartyControl
 pub mod Field
 pub mod FirstSteps

@@ -1,9 +1,12 @@
 -- What a step of a call is at a tally.
-use Rattle.std.specs.Prelude.{◌≡◌, ℤ, pos, negsuc, Bool, true, false, if◌then◌else◌, int_le}
+use Rattle.std.specs.Prelude.{◌≡◌, ℤ, pos, negsuc, Bool, true, false, if◌then◌else◌, int_le, ◌≤◌, ⊤}
 use Rattle.flurry_control.specs.Control.{counted}
-use Rattle.flurry_steps.specs.Party.{Outcome, Stage, AtUncount, AtCount, AtRecount, AtDone, PartyState}
+use Rattle.flurry_steps.specs.Party.{Outcome, Stage, AtUncount, AtCount, AtRecount, AtGrow, AtDone, ForInsert, IsDecided, PartyState}
 use Rattle.flurry_steps.specs.declared.party.Event.{Event}
 use Rattle.flurry_steps.specs.declared.party.Event.TheVariants as event
+use Rattle.flurry_steps.specs.declared.party.ending.Rest.{Rest}
+use Rattle.flurry_steps.specs.declared.party.ending.Rest.TheVariants as rest
+use Rattle.flurry_model.specs.declared.sizes.TheConstants.{GREATEST_TABLE}
 
 module _ {K V F : Type 0} where
   -- the next step counts a pair
@@ -22,19 +25,42 @@ module _ {K V F : Type 0} where
   StageAtTally most (AtCount r) n st' n' = (st' ≡ stage_tallied most n' r) × (n' ≡ counted (pos 1) n)
   StageAtTally most _ n st' n' = ⊥
 
--- a call that counts next the pair that it put, or else removed, and its reply
-pub record CountingState (K V : Type 0) : Type 0 where
-  pub put : Bool
+-- a call whose reply is known, and what it does next
+pub record EndingState (K V : Type 0) : Type 0 where
+  pub rest : Rest
   pub reply : Outcome K V
 
+abbrev pub has_to_count : Rest → Bool
+has_to_count rest.Count = true
+has_to_count rest.Uncount = true
+has_to_count _ = false
+
 module _ {K V F : Type 0} where
-  abbrev pub counting_at : Bool → Outcome K V → Stage K V F
-  counting_at true r = AtCount r
-  counting_at false r = AtUncount r
+  abbrev pub rest_stage : Rest → Outcome K V → Stage K V F
+  rest_stage rest.Nothing r = AtDone r
+  rest_stage rest.Count r = AtCount r
+  rest_stage rest.Uncount r = AtUncount r
+  rest_stage rest.Recount r = AtRecount r
+  rest_stage (rest.Grow w) r = AtGrow w (ForInsert r)
 
   -- where it stands
-  abbrev pub counting_stage : CountingState K V → Stage K V F
-  counting_stage c = counting_at c.put c.reply
+  abbrev pub ending_stage : EndingState K V → Stage K V F
+  ending_stage e = rest_stage e.rest e.reply
+
+  -- the stages of such calls
+  abbrev pub HasDecided : Stage K V F → Type 0
+  HasDecided (AtDone r) = ⊤
+  HasDecided (AtCount r) = ⊤
+  HasDecided (AtUncount r) = ⊤
+  HasDecided (AtRecount r) = ⊤
+  HasDecided (AtGrow w (ForInsert r)) = ⊤
+  HasDecided _ = ⊥
+
+-- a call that has more to do has decided, and there is a table that it grows to
+abbrev pub RestIsReady : {K V : Type 0} → Rest → Outcome K V → Type 0
+RestIsReady rest.Nothing r = ⊤
+RestIsReady (rest.Grow w) r = (w ≤ GREATEST_TABLE) × IsDecided r
+RestIsReady _ r = IsDecided r
 
 -- the step of p at that tally
 pub record TallyStep {K V F : Type 0} (most : ℤ) (p : PartyState K V F) (n : ℤ) (ev : Event) (p' : PartyState K V F) (n' : ℤ) : Type 0 where

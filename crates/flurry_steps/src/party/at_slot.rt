@@ -72,6 +72,7 @@ pub(super) fn step_lookup<'k, K: Ord + Drop, V: Drop, F: ComputeFn<K, V>, A: All
 }
 
 // The step of a call that may change its bin.
+#[inline(always)]
 pub(super) fn step_write<'k, K: Ord + Drop, V: Drop, F: ComputeFn<K, V>, A: Allocator + Copy>(
     alloc: A,
     hash: u64,

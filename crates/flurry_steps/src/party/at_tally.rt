@@ -4,6 +4,7 @@ ghost use Rattle.flurry_steps.specs.Party.{StageIsReady};
 ghost use Rattle.flurry_steps.specs.PartyTally.{StageAtTally, TallyStep, counts};
 ghost use Rattle.flurry_steps.specs.PartyView.{stage_of};
 
+use super::ending::Ending;
 use super::stage::Stage;
 use super::{Event, Party};
 use flurry_control::Tally;
@@ -12,7 +13,7 @@ use std::alloc::Allocator;
 use std::mem;
 
 // The stage after the step at a tally.
-pub(super) fn step_tally<'k, K, V, F: ComputeFn<K, V>, A: Allocator>(
+fn step_tally<'k, K: Drop, V: Drop, F: ComputeFn<K, V>, A: Allocator>(
     stage: Stage<'k, K, V, F, A>,
     tally: &mut Tally,
     most: i64,
@@ -22,21 +23,9 @@ pub(super) fn step_tally<'k, K, V, F: ComputeFn<K, V>, A: Allocator>(
     ensures ready { StageIsReady F.can_change (stage_of result) }
     ensures step { StageAtTally most (stage_of stage.entry) tally.old (stage_of result) tally.new }
 {
-    match stage {
-        Stage::Count(reply) => {
-            tally.count(1);
-            if tally.has(most) {
-                Stage::Recount(reply)
-            } else {
-                Stage::Done(reply)
-            }
-        }
-        Stage::Uncount(reply) => {
-            tally.count(-1);
-            Stage::Done(reply)
-        }
-        _ => unreachable!(),
-    }
+    let mut ending = Ending::of_stage(stage);
+    ending.on_tally::<F>(tally, most);
+    ending.into_stage()
 }
 
 impl<'k, K: Drop, V: Drop, F: ComputeFn<K, V>, A: Allocator> Party<'k, K, V, F, A> {

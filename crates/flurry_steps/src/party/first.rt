@@ -1,30 +1,20 @@
 //! The first two steps of a call at once.
-ghost use Rattle.std.specs.Prelude.{◌≡◌, MatchResult};
-ghost use Rattle.flurry_slots.specs.Slot.{IsSlot};
-ghost use Rattle.flurry_steps.specs.FirstSteps.{BeginsAt, EndsOrGoesOn, EndsOrCounts, begun_at};
-ghost use Rattle.flurry_steps.specs.Party.{StageIsReady, LookPart, BinPart, wanted_part, AtLocate, AtReserve};
-ghost use Rattle.flurry_steps.specs.PartyView.{CallIsReady, first_stage, stage_of, task_of};
+ghost use Rattle.std.specs.Prelude.{◌≡◌, MatchResult, true};
+ghost use Rattle.flurry_slots.specs.Slot.{IsSlot, is_live};
+ghost use Rattle.flurry_steps.specs.FirstSteps.{BeginsAt, begun_at};
+ghost use Rattle.flurry_steps.specs.Party.{LookPart, BinPart, wanted_part, AtLocate, AtReserve, AtDone};
+ghost use Rattle.flurry_steps.specs.PartyTally.{ending_stage};
+ghost use Rattle.flurry_steps.specs.PartyView.{CallIsReady, first_stage, outcome_of, stage_of, task_of};
 
 use super::Party;
 use super::at_slot::{step_lookup, step_write};
 use super::call::{Call, Key, Sought, Task};
-use super::counting::Counting;
+use super::ending::Ending;
 use super::reply::Reply;
 use super::stage::Stage;
 use flurry_control::PublishedTable;
 use flurry_slots::{ComputeFn, Slot};
-use std::alloc::{Allocator, Global};
-
-/// What the first two steps led to of a call that may change its bin.
-#[derive(Drop)]
-pub enum Begun<'k, K, V, F: ComputeFn<K, V>, A: Allocator = Global> {
-    /// The call is done, and this is its reply, which is taken.
-    Done(Reply<K, V, A>),
-    /// The call has put or removed a pair, and counts it next.
-    Counts(Counting<K, V, A>),
-    /// The call goes on.
-    GoesOn(Party<'k, K, V, F, A>),
-}
+use std::alloc::Allocator;
 
 // The task of a call of one key; of another call how many pairs it makes room for.
 pub(super) fn task_for<'k, K, V, F>(call: Call<'k, K, V, F>) -> Result<Task<'k, K, V, F>, usize>
@@ -45,98 +35,58 @@ pub(super) fn task_for<'k, K, V, F>(call: Call<'k, K, V, F>) -> Result<Task<'k, 
 }
 
 impl<'k, K: Ord + Drop, V: Drop, F: ComputeFn<K, V>, A: Allocator> Party<'k, K, V, F, A> {
-    /// The first two steps of a look-up at once: that at a published table, and that at its slot there. Answers its reply where it is
-    /// done by them, and else the call, which goes on.
+    /// The first two steps of a look-up at once, that at a published table and that at its slot there, where the bin is live. Answers
+    /// its reply, since it is done by them.
     ///
     /// As many steps as a look-up in the bin.
     pub fn look_first(
         call: Call<'k, K, V, F>,
         hash: u64,
-        processors: usize,
         start: &PublishedTable,
         slot: &Slot<K, V, A>,
-    ) -> Result<Reply<K, V, A>, Self>
-        requires { wanted_part (begun_at start.now hash processors (first_stage call))
+    ) -> Reply<K, V, A>
+        requires part { wanted_part (begun_at start.now hash 0 (first_stage call))
             ≡ LookPart slot.now.table slot.now.index }
+        requires live { is_live slot.now.content ≡ true }
         ensures within { IsSlot K.cmp slot.now }
-        ensures steps { BeginsAt K.cmp F.changes (begun_at start.now hash processors (first_stage call.entry))
-            slot.now (EndsOrGoesOn result) slot.now }
+        ensures steps { BeginsAt K.cmp F.changes hash start.now (first_stage call.entry) slot.now
+            (AtDone (outcome_of result)) slot.now }
     {
         let Ok(Task::Find(sought, key)) = task_for(call) else {
             unreachable!()
         };
-        let (stage, _) = step_lookup(hash, sought, key, start.table(), slot);
-        Party::settle(hash, processors, stage)
-    }
-}
-
-impl<'k, K, V, F: ComputeFn<K, V>, A: Allocator> Party<'k, K, V, F, A> {
-    // What a call answers that came to this stage: its reply, or itself.
-    pub(super) fn settle(
-        hash: u64,
-        processors: usize,
-        stage: Stage<'k, K, V, F, A>,
-    ) -> Result<Reply<K, V, A>, Self>
-        requires { StageIsReady F.can_change (stage_of stage) }
-        ensures { EndsOrGoesOn result (record { hash = hash; processors = processors; stage = stage_of stage.entry }) }
-    {
+        let (stage, _) = step_lookup::<K, V, F, A>(hash, sought, key, start.table(), slot);
         match stage {
-            Stage::Done(reply) => Ok(reply),
-            stage => Err(Party {
-                hash,
-                processors,
-                stage,
-            }),
+            Stage::Done(reply) => reply,
+            _ => unreachable!(),
         }
     }
 }
 
 impl<'k, K: Ord + Drop, V: Drop, F: ComputeFn<K, V>, A: Allocator + Copy> Party<'k, K, V, F, A> {
-    /// The same of a call that may change its bin; one that counts a pair next is told apart.
+    /// The same of a call that may change its bin. It has decided then, or is refused.
     ///
     /// As many steps as a look-up in the bin.
+    #[inline(always)]
     pub fn write_first(
         call: Call<'k, K, V, F>,
         hash: u64,
-        processors: usize,
         start: &PublishedTable,
         alloc: A,
         slot: &mut Slot<K, V, A>,
-    ) -> Begun<'k, K, V, F, A>
+    ) -> Ending<K, V, A>
         requires ready { CallIsReady F.can_change call }
-        requires part { wanted_part (begun_at start.now hash processors (first_stage call))
+        requires part { wanted_part (begun_at start.now hash 0 (first_stage call))
             ≡ BinPart slot.old.table slot.old.index }
+        requires live { is_live slot.old.content ≡ true }
         ensures within { IsSlot K.cmp slot.old }
-        ensures steps { BeginsAt K.cmp F.changes (begun_at start.now hash processors (first_stage call.entry))
-            slot.old (EndsOrCounts hash processors result) slot.new }
+        ensures steps { BeginsAt K.cmp F.changes hash start.now (first_stage call.entry) slot.old
+            (ending_stage result) slot.new }
     {
         let Ok(task) = task_for(call) else {
             unreachable!()
         };
         let (stage, _) = step_write(alloc, hash, task, start.table(), slot);
-        Party::begun(hash, processors, stage)
-    }
-
-    // The same of a call that may count next.
-    fn begun(hash: u64, processors: usize, stage: Stage<'k, K, V, F, A>) -> Begun<'k, K, V, F, A>
-        requires { StageIsReady F.can_change (stage_of stage) }
-        ensures { EndsOrCounts hash processors result (record { hash = hash; processors = processors; stage = stage_of stage.entry }) }
-    {
-        match stage {
-            Stage::Done(reply) => Begun::Done(reply),
-            Stage::Count(reply) => Begun::Counts(Counting {
-                has_put: true,
-                reply,
-            }),
-            Stage::Uncount(reply) => Begun::Counts(Counting {
-                has_put: false,
-                reply,
-            }),
-            stage => Begun::GoesOn(Party {
-                hash,
-                processors,
-                stage,
-            }),
-        }
+        Ending::of_stage(stage)
     }
 }

@@ -214,6 +214,7 @@ fn steps_where_no_bin_is_yet(rt: HostRuntime) {
         _ => panic!(rt; "no bin is there"),
     }
     same(&rt, slot.at(), (4, 3));
+    same(&rt, slot.is_live(), false);
     same(&rt, find(&slot, 3, 3), Err(Away::Unborn));
     same(&rt, next_after(&slot, None), Err(Away::Unborn));
     same(&rt, put(rt.alloc(), &mut slot, 3, 3, 1), Err(Away::Unborn));
@@ -251,6 +252,7 @@ fn a_bin_moves_into_its_halves(rt: HostRuntime) {
         moved(slot.move_into(&mut low, &mut high)),
         (1, Some((4, 3))),
     );
+    same(&rt, (slot.is_live(), low.is_live()), (false, true));
     same(&rt, find(&slot, 3, 3), Err(Away::Moved));
     same(&rt, put(rt.alloc(), &mut slot, 3, 3, 0), Err(Away::Moved));
     same(&rt, here(slot.wipe()), Err(Away::Moved));

@@ -1,16 +1,21 @@
-use Rattle.std.proofs.Common.{◌≡◌, ◌≤◌, arith, rules}
+use Rattle.std.proofs.lemmas.Grind.{common_steps}
+use Rattle.std.proofs.Common.{◌≡◌, ◌%◌, ◌^◌, ◌≤◌, arith, rules}
 use Rattle.flurry_model.specs.declared.sizes.TheConstants.{GREATEST_TABLE}
 use Rattle.flurry_steps.specs.FirstSteps.{begun_at}
 use Rattle.flurry_steps.specs.Party.{BinPart, wanted_part}
 use Rattle.flurry_steps.specs.PartyView.{first_stage}
-use Rattle.flurry_map.proofs.BeginLaws.{write_locates, write_begun, not_begun}
+use Rattle.flurry_map.proofs.BeginLaws.{write_locates, write_wants, write_begun}
 use Rattle.flurry_map.proofs.first.write_bin.Goals as goal
 
-pub returns-then-eq : goal.returns-then-eq
-returns-then-eq g c =
-    let wants : wanted_part (begun_at c.args.start.now c.args.hash c.args.processors (first_stage c.args.call)) ≡ BinPart c.deref_mut.result.now.table c.deref_mut.result.now.index = search rules in
+pub returns-then-is_live : goal.returns-then-is_live
+returns-then-is_live g c =
+    let q = c.deref_mut.result.now in
+    let same : q ≡ c.deref.result.now = search rules in
+    let equal = c.if-eq.ensures {u = tt} in
+    let table : c.deref.result.now.table ≡ c.args.start.now = grind (arith, common_steps, equal, c.at.ensures.at, c.table-table.ensures.value) in
+    let index : c.deref.result.now.index ≡ c.args.hash % 2 ^ c.args.start.now = grind (arith, common_steps, equal, c.at.ensures.at, c.table-table.ensures.value, c.bin_index-index.ensures.place) in
     let within : c.args.start.now ≤ GREATEST_TABLE = omega (arith, c.table-table.ensures.value, c.table-table.ensures.within) in
-    write_begun _ _ g.K.Ord.cmp g.F.ComputeFn.changes c.args.processors c.args.hash (first_stage c.args.call) _ c.args.start.now (write_locates c.args.call c.requires.writes) within c.deref_mut.result.now c.write_first.new.slot wants c.write_first.ensures.within c.write_first.ensures.steps
-
-pub returns : goal.returns
-returns g c = not_begun _ _ g.K.Ord.cmp g.F.ComputeFn.changes c.args.processors c.args.hash (first_stage c.args.call) _ c.new.ensures
+    λ n.
+    let wants : wanted_part (begun_at c.args.start.now c.args.hash n (first_stage c.args.call)) ≡ BinPart q.table q.index =
+    rw (same, table, index) (write_wants c.args.call c.args.start.now c.args.hash n c.requires.writes) in
+    write_begun _ g.K.Ord.cmp g.F.ComputeFn.changes c.args.hash n c.args.start.now _ _ (write_locates c.args.call c.requires.writes) within q c.write_first.new.slot wants c.write_first.ensures.within c.write_first.ensures.steps

@@ -1,0 +1,145 @@
+//! A call whose reply is known.
+ghost use Rattle.std.specs.Prelude.{◌≡◌, MatchResult, true};
+ghost use Rattle.flurry_steps.specs.Party.{StageIsReady};
+ghost use Rattle.flurry_steps.specs.PartyTally.{HasDecided, StageAtTally, ending_stage, has_to_count};
+ghost use Rattle.flurry_steps.specs.PartyView.{outcome_of, stage_of};
+ghost use Rattle.flurry_steps.specs.declared.party.ending.Rest.TheVariants as rest;
+
+use super::Party;
+use super::reply::Reply;
+use super::stage::{GrowFor, Stage};
+use flurry_control::Tally;
+use flurry_slots::ComputeFn;
+use std::alloc::{Allocator, Global};
+use std::marker::Model;
+
+/// What a call whose reply is known does next.
+#[derive(Clone, Copy, Drop)]
+pub enum Rest {
+    /// Nothing: it is done.
+    Nothing,
+    /// It counts the pair that it put.
+    Count,
+    /// It counts the pair that it removed.
+    Uncount,
+    /// It counts nothing, and hears what is to be done.
+    Recount,
+    /// It begins a growth on the way to that table, and counts the pair that it put.
+    Grow(u8),
+}
+
+/// A call whose reply is known: it has decided, and may have more to do, or it was refused. A call's first steps alone make one.
+///
+/// It is smaller than a [`Party`]. It has neither the hash of its key nor the number of processors that share the work of a growth; it
+/// is given again those with which it began.
+#[derive(Drop)]
+pub struct Ending<K, V, A: Allocator = Global> {
+    rest: Rest,
+    reply: Reply<K, V, A>,
+}
+
+impl<K, V, A: Allocator> Model for Ending<K, V, A> {
+    ghost use Rattle.flurry_steps.specs.EndingView.{ending_of};
+    ghost use Rattle.flurry_steps.specs.PartyTally.{EndingState, RestIsReady};
+    ghost use Rattle.flurry_steps.specs.PartyView.{outcome_of};
+
+    ghost Value = { EndingState K V };
+
+    ghost view = { ending_of };
+
+    ghost invariant = { λ e. RestIsReady e.rest (outcome_of e.reply) };
+}
+
+impl<K, V, A: Allocator> Ending<K, V, A> {
+    // The same of where a call stands.
+    pub(super) fn of_stage<'k, F: ComputeFn<K, V>>(stage: Stage<'k, K, V, F, A>) -> Self
+        requires ready { StageIsReady F.can_change (stage_of stage) }
+        requires decided { HasDecided (stage_of stage) }
+        ensures { ending_stage result ≡ stage_of stage.entry }
+    {
+        let (rest, reply) = match stage {
+            Stage::Done(reply) => (Rest::Nothing, reply),
+            Stage::Count(reply) => (Rest::Count, reply),
+            Stage::Uncount(reply) => (Rest::Uncount, reply),
+            Stage::Recount(reply) => (Rest::Recount, reply),
+            Stage::Grow(wanted, GrowFor::Insert(reply)) => (Rest::Grow(wanted), reply),
+            _ => unreachable!(),
+        };
+        Ending { rest, reply }
+    }
+
+    // Where the call stands.
+    pub(super) fn into_stage<'k, F: ComputeFn<K, V>>(self) -> Stage<'k, K, V, F, A>
+        ensures ready { StageIsReady F.can_change (stage_of result) }
+        ensures stage { stage_of result ≡ ending_stage self }
+    {
+        let Ending { rest, reply } = self;
+        match rest {
+            Rest::Nothing => Stage::Done(reply),
+            Rest::Count => Stage::Count(reply),
+            Rest::Uncount => Stage::Uncount(reply),
+            Rest::Recount => Stage::Recount(reply),
+            Rest::Grow(wanted) => Stage::Grow(wanted, GrowFor::Insert(reply)),
+        }
+    }
+
+    /// Whether it counts a pair next.
+    ///
+    /// Constant time.
+    #[inline]
+    pub fn counts(&self) -> bool
+        ensures { result ≡ has_to_count self.now.rest }
+    {
+        matches!(self.rest, Rest::Count | Rest::Uncount)
+    }
+
+    /// The step at a tally in the control's place, as of [`Party::on_tally`].
+    ///
+    /// Constant time.
+    pub fn on_tally<F: ComputeFn<K, V>>(&mut self, tally: &mut Tally, most: i64)
+        requires { has_to_count self.old.rest ≡ true }
+        ensures { StageAtTally {F = F} most (ending_stage self.old) tally.old (ending_stage self.new) tally.new }
+    {
+        if let Rest::Count = self.rest {
+            tally.count(1);
+            self.rest = if tally.has(most) {
+                Rest::Recount
+            } else {
+                Rest::Nothing
+            };
+        } else {
+            tally.count(-1);
+            self.rest = Rest::Nothing;
+        }
+    }
+
+    /// The reply of a call that is done; else the call comes back.
+    ///
+    /// Constant time.
+    pub fn into_reply(self) -> Result<Reply<K, V, A>, Self>
+        ensures { MatchResult result (λ r. self ≡ record { rest = rest.Nothing; reply = outcome_of r })
+            (λ e. (e ≡ self) × (self.rest ≡ rest.Nothing → ⊥)) }
+    {
+        match self.rest {
+            Rest::Nothing => Ok(self.reply),
+            _ => Err(self),
+        }
+    }
+
+    /// The call itself, which goes on step by step.
+    ///
+    /// Constant time.
+    pub fn into_party<'k, F: ComputeFn<K, V>>(
+        self,
+        hash: u64,
+        processors: usize,
+    ) -> Party<'k, K, V, F, A>
+        ensures { result ≡ record { hash = hash; processors = processors; stage = ending_stage self } }
+    {
+        Party {
+            hash,
+            processors,
+            stage: self.into_stage(),
+        }
+    }
+}
