@@ -146,28 +146,15 @@ fn count<K: Ord + Drop, V: Drop, F: ComputeFn<K, V>, A: Allocator + Copy, R: Wai
         if let Some((tally, most)) = locks.tally(hash) {
             let mut counted = ending;
             counted.on_tally::<F>(&mut *tally.lock(rt), most);
-            return finish::<K, V, F, A, R>(rt, locks, counted, hash, processors);
+            match counted.into_reply() {
+                Ok(reply) => return reply,
+                Err(ending) => return drive_ending::<K, V, F, A, R>(
+                    rt, locks, ending, hash, processors,
+                ),
+            }
         }
     }
     drive_ending::<K, V, F, A, R>(rt, locks, ending, hash, processors)
-}
-
-// The same of a call that has counted: as a rule it is done.
-#[inline(always)]
-fn finish<K: Ord + Drop, V: Drop, F: ComputeFn<K, V>, A: Allocator + Copy, R: Wait>(
-    rt: &R,
-    locks: &Locks<K, V, A>,
-    ending: Ending<K, V, A>,
-    hash: u64,
-    processors: usize,
-) -> Reply<K, V, A>
-    ensures { IsReplyOf (Maker K V A) K.cmp F.changes
-        (record { hash = hash; processors = processors; stage = ending_stage ending }) (outcome_of result) }
-{
-    match ending.into_reply() {
-        Ok(reply) => return reply,
-        Err(ending) => return drive_ending::<K, V, F, A, R>(rt, locks, ending, hash, processors),
-    }
 }
 
 // Does all steps of a call, one after another.
