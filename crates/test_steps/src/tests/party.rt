@@ -11,6 +11,7 @@ mod helping;
 mod one_key;
 mod refused;
 mod rewrites;
+mod sweeps;
 mod tallies;
 
 use super::same;

@@ -1,0 +1,264 @@
+//! Walks and clears, between the steps of other calls.
+ghost use Rattle.std.specs.Prelude.{◌≡◌};
+ghost use Rattle.flurry_steps.specs.Party.{LookPart, BinPart};
+ghost use Rattle.flurry_sweeps.specs.Sweep.{swept_part};
+
+use super::super::{same, same_at};
+use super::{Map, Told, call, empty_map, goes_on, insert, lent, plain};
+use flurry_model::reply::KeptReply;
+use flurry_slots::{ComputeFn, NoFn, Slot};
+use flurry_steps::party::{Call, Event, Party, Want};
+use flurry_sweeps::{Sweep, SweepEvent};
+use std::process::Abort;
+
+// The step of a walk that wants to read this slot.
+fn look(
+    rt: &impl Abort,
+    walk: &mut Sweep<u64, u64>,
+    map: &mut Map,
+    table: u8,
+    index: usize,
+) -> SweepEvent
+    requires { swept_part walk.old ≡ LookPart table index }
+{
+    let slot = lent(rt, map, table, index);
+    let event = walk.on_look(&slot);
+    map.tables.put_back(rt, slot);
+    event
+}
+
+// The step of a clear that wants to write this slot.
+fn wipe(
+    rt: &impl Abort,
+    clear: &mut Sweep<u64, u64>,
+    map: &mut Map,
+    table: u8,
+    index: usize,
+) -> SweepEvent
+    requires { swept_part clear.old ≡ BinPart table index }
+{
+    let mut slot = lent(rt, map, table, index);
+    let event = clear.on_bin(&mut slot);
+    map.tables.put_back(rt, slot);
+    event
+}
+
+// The next step, at the part that the call wants.
+fn step(rt: &impl Abort, sweep: &mut Sweep<u64, u64>, map: &mut Map) -> SweepEvent {
+    match sweep.want() {
+        Want::Control => sweep.on_control(&mut map.control),
+        Want::Look(table, index) => look(rt, sweep, map, table, index),
+        Want::Bin(table, index) => wipe(rt, sweep, map, table, index),
+        _ => panic!(rt; "the call has not ended"),
+    }
+}
+
+// So many steps, in which nothing is read or wiped.
+fn silent(rt: &impl Abort, sweep: &mut Sweep<u64, u64>, map: &mut Map, count: u64) {
+    for at in 0..count {
+        same_at(rt, at, step(rt, sweep, map), SweepEvent::Silent);
+    }
+}
+
+// A step that reads this pair.
+fn reads(rt: &impl Abort, walk: &mut Sweep<u64, u64>, map: &mut Map, key: u64, value: u64) {
+    same(rt, step(rt, walk, map), SweepEvent::Read);
+    same(rt, walk.last_read(), Some((&key, &value)));
+}
+
+// The call has ended. Its reply is taken once.
+fn has_ended(rt: &impl Abort, sweep: &mut Sweep<u64, u64>) {
+    same(rt, sweep.want(), Want::Done);
+    same(rt, sweep.reply().is_some(), true);
+    let reply = sweep.take_reply().expect(rt, "the call has ended");
+    same(rt, plain(reply), Told::Ended);
+    same(rt, sweep.want(), Want::Done);
+    same(
+        rt,
+        sweep.reply().is_some() || sweep.take_reply().is_some(),
+        false,
+    );
+}
+
+// A map of 16 bins with the keys 1 and 17, whose hash is the key; both stand in bin 1.
+fn one_and_seventeen(rt: &(impl Abort + AllocGlobal)) -> Map {
+    let mut map = empty_map(rt.alloc(), 1, 0);
+    same(rt, insert(rt, &mut map, 1, 1), 3);
+    same(rt, insert(rt, &mut map, 17, 17), 3);
+    map
+}
+
+// A walk of it, which has read key 1.
+fn has_read_one(rt: &impl Abort, map: &mut Map) -> Sweep<u64, u64> {
+    let mut walk = Sweep::walk();
+    same(rt, walk.last_read().is_none(), true);
+    silent(rt, &mut walk, map, 2);
+    reads(rt, &mut walk, map, 1, 0);
+    same(
+        rt,
+        walk.reply().is_some() || walk.take_reply().is_some(),
+        false,
+    );
+    walk
+}
+
+#[test]
+fn a_walk_reads_each_pair_once(rt: HostRuntime) {
+    let mut map = one_and_seventeen(&rt);
+    let mut walk = has_read_one(&rt, &mut map);
+    reads(&rt, &mut walk, &mut map, 17, 0);
+    silent(&rt, &mut walk, &mut map, 15);
+    has_ended(&rt, &mut walk);
+    same(&rt, walk.last_read(), Some((&17, &0)));
+}
+
+// Between its reads the table is doubled twice: the walk follows bin 1 to its four parts, and every other bin too.
+#[test]
+fn a_walk_follows_bins_that_move(rt: HostRuntime) {
+    let mut map = one_and_seventeen(&rt);
+    let mut walk = has_read_one(&rt, &mut map);
+    let (events, reply) = call(&rt, &mut map, 0, Call::Reserve(16));
+    same(&rt, events.len(), 58);
+    same(&rt, reply, Told::Ended);
+    silent(&rt, &mut walk, &mut map, 5);
+    reads(&rt, &mut walk, &mut map, 17, 0);
+    silent(&rt, &mut walk, &mut map, 100);
+    has_ended(&rt, &mut walk);
+}
+
+// The key that was read is removed, and comes back with another value: it is not read again.
+#[test]
+fn a_walk_reads_no_key_twice(rt: HostRuntime) {
+    let mut map = one_and_seventeen(&rt);
+    let mut walk = has_read_one(&rt, &mut map);
+    let (_, reply) = call(&rt, &mut map, 1, Call::Remove(&1));
+    same(&rt, reply, Told::Key(KeptReply::Value(Some(0))));
+    let (_, reply) = call(&rt, &mut map, 1, Call::Insert(1, 5));
+    same(&rt, reply, Told::Key(KeptReply::Value(None)));
+    reads(&rt, &mut walk, &mut map, 17, 0);
+    silent(&rt, &mut walk, &mut map, 15);
+    has_ended(&rt, &mut walk);
+}
+
+// What was read last stays as it was read, whoever writes its key.
+#[test]
+fn what_was_read_stays(rt: HostRuntime) {
+    let mut map = one_and_seventeen(&rt);
+    let walk = has_read_one(&rt, &mut map);
+    let (_, reply) = call(&rt, &mut map, 1, Call::Insert(1, 5));
+    same(&rt, reply, Told::Key(KeptReply::Value(Some(0))));
+    same(&rt, walk.last_read(), Some((&1, &0)));
+    let seen = walk.seen().expect(&rt, "a further owner");
+    drop(walk);
+    let seen = seen.expect(&rt, "a pair was read");
+    let further = seen.try_clone().expect(&rt, "a further owner");
+    drop(seen);
+    same(&rt, (further.key(), further.value()), (&1, &0));
+}
+
+#[test]
+fn a_map_without_a_table_has_nothing_to_go_over(rt: HostRuntime) {
+    let mut map = empty_map(rt.alloc(), 1, 0);
+    let mut walk = Sweep::walk();
+    silent(&rt, &mut walk, &mut map, 1);
+    has_ended(&rt, &mut walk);
+    same(&rt, walk.last_read().is_none(), true);
+    let mut clear = Sweep::clear();
+    silent(&rt, &mut clear, &mut map, 1);
+    has_ended(&rt, &mut clear);
+    same(&rt, map.control.locate(), None);
+}
+
+// The first step may also be done at a table that is known to be published.
+#[test]
+fn a_walk_sets_out_from_a_published_table(rt: HostRuntime) {
+    let mut map = one_and_seventeen(&rt);
+    let mut walk = Sweep::walk();
+    same(&rt, walk.sets_out(), true);
+    let start = map.control.start().expect(&rt, "there is a table");
+    assert!(&rt; walk.sets_out());
+    same(&rt, walk.on_start(&start), SweepEvent::Silent);
+    same(&rt, walk.sets_out(), false);
+    same(&rt, walk.want(), Want::Look(4, 0));
+    silent(&rt, &mut walk, &mut map, 1);
+    reads(&rt, &mut walk, &mut map, 1, 0);
+}
+
+// Where no bin is yet, a walk and a clear stay.
+#[test]
+fn an_unborn_bin_is_met_again(rt: HostRuntime) {
+    let mut map = one_and_seventeen(&rt);
+    let mut walk = Sweep::walk();
+    let mut clear = Sweep::clear();
+    silent(&rt, &mut walk, &mut map, 1);
+    silent(&rt, &mut clear, &mut map, 1);
+    drop(map.tables.take(&rt, 4, 0));
+    map.tables.put_back(&rt, Slot::unborn(4, 0));
+    silent(&rt, &mut walk, &mut map, 2);
+    same(&rt, walk.want(), Want::Look(4, 0));
+    silent(&rt, &mut clear, &mut map, 2);
+    same(&rt, clear.want(), Want::Bin(4, 0));
+}
+
+// Steps of a clear that wipe the bins of that table from the first on.
+fn wipes(rt: &impl Abort, clear: &mut Sweep<u64, u64>, map: &mut Map, table: u8, bins: &[usize]) {
+    for at in 0..bins.len() {
+        same_at(
+            rt,
+            at,
+            step(rt, clear, map),
+            SweepEvent::Wipe(table, bins[at]),
+        );
+    }
+}
+
+// A reserve has moved the last of 64 bins.
+fn moves_a_bin<'k, F: ComputeFn<u64, u64>>(
+    rt: &(impl Abort + AllocGlobal),
+    reserve: &mut Party<'k, u64, u64, F>,
+    map: &mut Map,
+) {
+    goes_on(
+        rt,
+        reserve,
+        map,
+        4,
+        &[
+            Event::Silent,
+            Event::Placed(7),
+            Event::Silent,
+            Event::Moved(6, 63),
+        ],
+    );
+}
+
+// And stops for good.
+fn growth_stops<F: ComputeFn<u64, u64>>(rt: &(impl Abort + AllocGlobal), map: &mut Map) {
+    let mut reserve: Party<'_, u64, u64, F> = Party::new(Call::Reserve(30), 0, 2);
+    moves_a_bin(rt, &mut reserve, map);
+    drop(reserve);
+}
+
+// Beside that growth the clear wipes the other 63, and of that one its halves.
+#[test]
+fn a_clear_beside_a_growth_wipes_every_bin(rt: HostRuntime) {
+    let mut map = empty_map(rt.alloc(), 2, 0);
+    let (_, reply) = call(&rt, &mut map, 0, Call::Reserve(20));
+    same(&rt, reply, Told::Ended);
+    same(&rt, insert(&rt, &mut map, 50, 50), 3);
+    same(&rt, insert(&rt, &mut map, 2, 2), 3);
+    growth_stops::<NoFn>(&rt, &mut map);
+    let mut clear = Sweep::clear();
+    silent(&rt, &mut clear, &mut map, 1);
+    for index in 0..63usize {
+        wipes(&rt, &mut clear, &mut map, 6, &[index]);
+    }
+    silent(&rt, &mut clear, &mut map, 1);
+    wipes(&rt, &mut clear, &mut map, 7, &[63, 127]);
+    same(&rt, map.control.len(), 2);
+    silent(&rt, &mut clear, &mut map, 1);
+    has_ended(&rt, &mut clear);
+    same(&rt, map.control.len(), 0);
+    let (_, reply) = call(&rt, &mut map, 2, Call::Get(&2));
+    same(&rt, reply, Told::Key(KeptReply::Value(None)));
+}
