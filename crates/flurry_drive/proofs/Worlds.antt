@@ -9,10 +9,9 @@ use Rattle.std.proofs.lemmas.List.{reverse-append}
 use Rattle.std.proofs.lemmas.Option.{slice_get_within}
 use Rattle.flurry_slots.specs.Slot.{Content, IsLive, HasMoved, IsUnborn}
 use Rattle.flurry_control.specs.Control.{ControlState}
-use Rattle.flurry_calls.specs.Outcome.{OutcomeReply, OutcomeEnded, OutcomeRefused, Outcome}
-use Rattle.flurry_steps.specs.Party.{Stage, AtLocate, AtBin, AtClaim, AtMove, AtUncount, AtCount, AtRecount, AtBegin, AtGrow, AtReserve, AtSweep, IsSingle, final_outcome, AtDone, AtTaken, PartyState, wanted_part, with_stage, started_stage, locates, outcome_in}
-use Rattle.flurry_calls.specs.declared.step.Event.{Event}
-use Rattle.flurry_calls.specs.declared.step.Event.TheVariants as event
+use Rattle.flurry_steps.specs.Party.{OutcomeReply, OutcomeEnded, OutcomeRefused, Outcome, Stage, AtLocate, AtBin, AtClaim, AtMove, AtUncount, AtCount, AtRecount, AtBegin, AtGrow, AtReserve, AtDone, AtTaken, PartyState, wanted_part, with_stage, started_stage, locates, outcome_in}
+use Rattle.flurry_steps.specs.declared.party.Event.{Event}
+use Rattle.flurry_steps.specs.declared.party.Event.TheVariants as event
 use Rattle.flurry_steps.specs.declared.party.call.OwnedCall.{OwnedCall}
 use Rattle.flurry_model.specs.declared.reply.KeptReply.{KeptReply}
 use Rattle.flurry_theory.specs.Map.{Pairs, same, after, Allows, CanBeRefused}
@@ -37,56 +36,27 @@ use Rattle.flurry_world.proofs.Frames.{same_frame, kept, IsStep}
 use Rattle.flurry_world.proofs.Cases.{calls, in_mode}
 use Rattle.flurry_world.proofs.BeginLaws.{fresh_stage}
 use Rattle.flurry_world.proofs.WorldLaws.{began, goes_on, get_append}
-use Rattle.flurry_steps.proofs.Events.{IsSweepEvent, single_at_control, single_at_slot, single_at_move}
-use Rattle.flurry_calls.specs.Part.{Part, ControlPart, LookPart, BinPart, MovePart, NoPart}
-use Rattle.flurry_world.specs.Parts.{Parts, PartStep, IsStart}
+use Rattle.flurry_world.specs.Parts.{Parts, IsStart}
 use Rattle.flurry_drive.specs.Exact.{Holds, Answers, IsFresh}
 use Rattle.flurry_drive.proofs.Trace.{IsOwnLabel, ByEnd, Alone, alone_more, alone_began, itself}
 use Rattle.flurry_drive.proofs.CountLaws.{left, left_most, Room, near_of, room_left}
 use Rattle.flurry_model.specs.declared.sizes.TheConstants.{MOST_LABELS}
 
--- a call that a world has does not go over all bins
-follows_single : {K V F : Type 0} (d : Call K V F) (s : Stage K V F) → FollowsStage d s → IsSingle s
-follows_single d (AtLocate t) h = tt
-follows_single d (AtBin t e) h = tt
-follows_single d (AtClaim a) h = tt
-follows_single d (AtMove c a) h = tt
-follows_single d (AtUncount r) h = tt
-follows_single d (AtCount r) h = tt
-follows_single d (AtRecount r) h = tt
-follows_single d (AtBegin e r) h = tt
-follows_single d (AtGrow w g) h = tt
-follows_single d (AtReserve a) h = tt
-follows_single d (AtSweep w) h = h
-follows_single d (AtDone r) h = tt
-follows_single d AtTaken h = tt
-
--- so its step at a part reads and wipes nothing
-module _ {K V F : Type 0} (cmp : K → K → Ordering) (changes : F → K → V → Option V → Type 0) (c : PartyState K V F) (b : ControlState) (t : Tables K V) (ev : Event) (c' : PartyState K V F) (b' : ControlState) (t' : Tables K V) (single : IsSingle c.stage) where
-  single_part : (a : Part) → PartStep cmp changes a c b t ev c' b' t' → IsSweepEvent ev → ⊥
-  single_part ControlPart h = single_at_control PlaceGives c.processors b t ev c'.stage b' t' c.stage single h.step
-  single_part (LookPart e i) (q, there, inside, h, y, z) = single_at_slot cmp changes c.hash ev c'.stage q.content c.stage q.content single h.step
-  single_part (BinPart e i) (q, q', there, inside, h, y, z) = single_at_slot cmp changes c.hash ev c'.stage q'.content c.stage q.content single h.step
-  single_part (MovePart e i) (q, low, high, q', low', high', old_at, low_at, high_at, inside, h, y, z) = single_at_move c q low high ev c' q' low' high' h.step
-  single_part NoPart h = absurd h
-
 -- the label of a step is one that a party may have when it is alone
-own_label : {K V F : Type 0} (p : ℕ) (ev : Event) (s : Stage K V F) → (IsSweepEvent ev → ⊥) → IsOwnLabel p (label_of p ev s)
-own_label {K} {V} {F} p event.Decide s other = decided (outcome_in s)
+own_label : {K V F : Type 0} (p : ℕ) (ev : Event) (s : Stage K V F) → IsOwnLabel p (label_of p ev s)
+own_label {K} {V} {F} p event.Decide s = decided (outcome_in s)
   where
     decided : (o : Option (Outcome K V)) → IsOwnLabel {F = F} p (decide_label p o)
     decided None = tt
     decided (Some (OutcomeReply r)) = refl
     decided (Some OutcomeEnded) = tt
     decided (Some OutcomeRefused) = tt
-own_label p event.Read s other = tt
-own_label p (event.Wipe e i) s other = absurd (other tt)
-own_label p event.Refused s other = refl
-own_label p (event.Opened e) s other = tt
-own_label p (event.Placed e) s other = tt
-own_label p (event.Moved e i) s other = tt
-own_label p (event.Published e) s other = tt
-own_label p event.Silent s other = tt
+own_label p event.Refused s = refl
+own_label p (event.Opened e) s = tt
+own_label p (event.Placed e) s = tt
+own_label p (event.Moved e i) s = tt
+own_label p (event.Published e) s = tt
+own_label p event.Silent s = tt
 
 module _ {K V F : Type 0} (cmp : K → K → Ordering) (total : IsTotalOrder cmp) (hash : K → ℕ) (lawful : (j k : K) → same cmp j k ≡ true → hash j ≡ hash k) (gives : F → K → V → Option V → Type 0) (n : ℕ) (few : n ≤ MOST_LABELS) (p : ℕ) (d : Call K V F) (m : Pairs K V) where
   -- the parts s are those of a world, in which party p is a caller with the call d, which began on the map m, was alone since, and
@@ -103,16 +73,12 @@ module _ {K V F : Type 0} (cmp : K → K → Ordering) (total : IsTotalOrder cmp
     pub room : Room n (left c.stage) s.control_state.count
 
   module _ (w : WorldState K V F (Unit {0})) (k : IsWorld cmp hash gives w) (x : PartyRecord K V F) (at : slice_get w.party_records p ≡ Some x) (called : x.call ≡ d) (alone : Alone cmp hash gives p d m (reverse w.trace)) (room : Room n (left x.party_state.stage) w.control_state.count) where
-    -- no call in a world goes over all bins
-    single : IsSingle x.party_state.stage
-    single = follows_single x.call x.party_state.stage (k.party_records p x at).stage
-
     near : Near (2 ^ 62) w.control_state.count
     near = let z = near_of n (left x.party_state.stage) w.control_state.count room in record { most = omega (arith, ints, z.most, few); least = omega (arith, ints, z.least, few) }
 
     -- the world after a step
-    stepped : (c : PartyState K V F) (b : ControlState) (t : Tables K V) (ev : Event) → (IsSweepEvent ev → ⊥) → IsWorld cmp hash gives (with_step w p x b t c (label_of p ev c.stage)) → Room n (left c.stage) b.count → InWorld (record { control_state = b; tables = t }) c
-    stepped c b t ev other after counted = record {
+    stepped : (c : PartyState K V F) (b : ControlState) (t : Tables K V) (ev : Event) → IsWorld cmp hash gives (with_step w p x b t c (label_of p ev c.stage)) → Room n (left c.stage) b.count → InWorld (record { control_state = b; tables = t }) c
+    stepped c b t ev after counted = record {
       world = with_step w p x b t c (label_of p ev c.stage);
       is_world = after;
       caller = new;
@@ -120,7 +86,7 @@ module _ {K V F : Type 0} (cmp : K → K → Ordering) (total : IsTotalOrder cmp
       call = called;
       party_state = refl;
       parts = refl;
-      alone = subst (Alone cmp hash gives p d m) (sym turned) (alone_more cmp hash gives p d m (reverse w.trace) alone (label_of p ev c.stage) (own_label p ev c.stage other) may);
+      alone = subst (Alone cmp hash gives p d m) (sym turned) (alone_more cmp hash gives p d m (reverse w.trace) alone (label_of p ev c.stage) (own_label p ev c.stage) may);
       room = counted;
     }
       where
@@ -135,9 +101,9 @@ module _ {K V F : Type 0} (cmp : K → K → Ordering) (total : IsTotalOrder cmp
 
     -- a step at the part that the call wants
     pub part_step : (c : PartyState K V F) (b : ControlState) (t : Tables K V) (ev : Event) → PartStep cmp gives (wanted_part x.party_state) x.party_state w.control_state w.tables ev c b t → InWorld (record { control_state = b; tables = t }) c
-    part_step c b t ev h = stepped c b t ev (single_part cmp gives x.party_state w.control_state w.tables ev c b t single (wanted_part x.party_state) h)
+    part_step c b t ev h = stepped c b t ev
         (goes_on cmp total hash lawful gives w k near p x at (label_of p ev c.stage) c b t (record { event = ev; part = h; label_is = refl }))
-        (room_left cmp gives n few x.party_state w.control_state w.tables ev c b t room single (wanted_part x.party_state) h)
+        (room_left cmp gives n few x.party_state w.control_state w.tables ev c b t room (wanted_part x.party_state) h)
 
     -- a step at a number that was published
     pub start_step : (e : ℕ) (c : PartyState K V F) (ev : Event) → locates x.party_state.stage ≡ true → IsStart (record { control_state = w.control_state; tables = w.tables }) e → ev ≡ event.Silent → c ≡ with_stage x.party_state (started_stage e x.party_state.stage) → InWorld (record { control_state = w.control_state; tables = w.tables }) c
@@ -159,7 +125,7 @@ module _ {K V F : Type 0} (cmp : K → K → Ordering) (total : IsTotalOrder cmp
         not_there h = let no : true ≡ false = sym loc ∙ h in cc
 
         by_stage : (s : Stage K V F) → x.party_state.stage ≡ s → InWorld (record { control_state = w.control_state; tables = w.tables }) c
-        by_stage (AtLocate t) f = stepped c w.control_state w.tables ev (λ u. subst IsSweepEvent silent u)
+        by_stage (AtLocate t) f = stepped c w.control_state w.tables ev
             (kept cmp hash gives total lawful w p x w.control_state w.tables c (label_of p ev c.stage) k at (ap (λ r. r.hash) is)
             (subst (λ v. IsStep cmp hash gives w p x w.control_state w.tables c (label_of p v c.stage)) (sym silent) (record {
               line = Finds e;
@@ -184,15 +150,14 @@ module _ {K V F : Type 0} (cmp : K → K → Ordering) (total : IsTotalOrder cmp
         by_stage (AtBegin g r) f = absurd (not_there (ap locates f))
         by_stage (AtGrow g r) f = absurd (not_there (ap locates f))
         by_stage (AtReserve a) f = absurd (not_there (ap locates f))
-        by_stage (AtSweep z) f = absurd (subst (FollowsStage x.call) f (k.party_records p x at).stage)
         by_stage (AtDone r) f = absurd (not_there (ap locates f))
         by_stage AtTaken f = absurd (not_there (ap locates f))
 
     -- the call is done
-    pub ended : (r : Outcome K V) → final_outcome x.party_state.stage ≡ Some r → (m' : Pairs K V) × Answers cmp hash gives d m r m' × Holds cmp hash gives n (record { control_state = w.control_state; tables = w.tables }) m'
+    pub ended : (r : Outcome K V) → x.party_state.stage ≡ AtDone r → (m' : Pairs K V) × Answers cmp hash gives d m r m' × Holds cmp hash gives n (record { control_state = w.control_state; tables = w.tables }) m'
     ended r f = (
       pairs cmp hash (reverse w.trace),
-      answers r (done x.party_state.stage refl f),
+      answers r f,
       record {
         world = w;
         is_world = k;
@@ -205,21 +170,6 @@ module _ {K V F : Type 0} (cmp : K → K → Ordering) (total : IsTotalOrder cmp
       where
         ok : PartyOk (state_of w) p
         ok = k.state.1.parties p
-
-        done : (s : Stage K V F) → x.party_state.stage ≡ s → final_outcome s ≡ Some r → x.party_state.stage ≡ AtDone r
-        done (AtLocate t) e h = cc
-        done (AtBin t g) e h = cc
-        done (AtClaim a) e h = cc
-        done (AtMove z a) e h = cc
-        done (AtUncount q) e h = cc
-        done (AtCount q) e h = cc
-        done (AtRecount q) e h = cc
-        done (AtBegin g q) e h = cc
-        done (AtGrow g q) e h = cc
-        done (AtReserve a) e h = cc
-        done (AtSweep z) e h = absurd (subst (FollowsStage x.call) e (k.party_records p x at).stage)
-        done (AtDone q) e h = let one : q ≡ r = cc in e ∙ ap AtDone one
-        done AtTaken e h = cc
 
         mode : (q : Outcome K V) → x.party_state.stage ≡ AtDone q → (state_of w).mode p ≡ mode_of_stage {F = F} (AtDone q)
         mode q e = in_mode cmp total hash lawful gives w k p x at x.party_state (AtDone q) e

@@ -5,9 +5,8 @@ ghost use Rattle.flurry_drive.specs.Exact.{Holds, DrivesTo, IsExact};
 ghost use Rattle.flurry_drive.specs.Tells.{Tells};
 ghost use Rattle.flurry_drive.specs.Turns.{TurnsTo};
 ghost use Rattle.flurry_steps.specs.Field.{Turn};
-ghost use Rattle.flurry_steps.specs.Party.{IsTaken};
-ghost use Rattle.flurry_calls.specs.OutcomeView.{outcome_of};
-ghost use Rattle.flurry_steps.specs.PartyView.{OwnedIsReady};
+ghost use Rattle.flurry_steps.specs.Party.{AtTaken};
+ghost use Rattle.flurry_steps.specs.PartyView.{outcome_of, OwnedIsReady};
 ghost use Rattle.flurry_theory.specs.Map.{Pairs};
 ghost use Rattle.flurry_world.specs.Parts.{OwnLends, OwnLacks, no_parts};
 ghost use Rattle.flurry_world.specs.Tables.{PlaceGives};
@@ -33,7 +32,7 @@ pub fn drive<
     X: Field<K, V, A>,
     R: Wait,
 >(rt: &R, party: &mut Party<'_, K, V, F, A>, field: &mut X) -> Reply<K, V, A>
-    requires { IsTaken party.old.stage → ⊥ }
+    requires { party.old.stage ≡ AtTaken → ⊥ }
     ensures turns { TurnsTo (Turn X.Room.place_gives K.cmp F.changes X.lends) field.old party.old
         (outcome_of result) field.new party.new }
     ensures exact { IsExact X.Room.place_gives K.cmp F.changes X.lends X.lacks field.old party.old

@@ -10,10 +10,7 @@ use Rattle.flurry_slots.specs.Slot.{PlainEntry, SlotState, Live, Content, IsLive
 use Rattle.flurry_control.specs.Control.{ControlState, BeginGives, claim_of, grows_from}
 use Rattle.flurry_control.specs.Claim.{Range}
 use Rattle.flurry_steps.specs.Field.{Loan, ControlLoan, StartLoan, TallyLoan, LookLoan, BinLoan, MoveLoan, StepWith, Turn}
-use Rattle.flurry_calls.specs.Outcome.{Outcome, OutcomeReply, OutcomeEnded, OutcomeRefused}
-use Rattle.flurry_calls.specs.Sweep as sweep
-use Rattle.flurry_calls.specs.Sweep.{Errand, Reads, Wipes, SweepStage, AtOutset, OverBins, AtTotal, AtEnd, AfterEnd, BinGives, swept_outcome}
-use Rattle.flurry_steps.specs.Party.{Sought, TheValue, ThePair, Presence, Task, Finds, Removes, Inserts, Adds, Computes, GrowFor, ForInsert, ForReserve, Resume, ThenBin, ThenRecount, ThenGrow, Stage, AtLocate, AtBin, AtClaim, AtMove, AtUncount, AtCount, AtRecount, AtBegin, AtGrow, AtReserve, AtSweep, AtDone, AtTaken, PartyState, reply_for, resumed_stage, started_stage, final_outcome, with_stage}
+use Rattle.flurry_steps.specs.Party.{Sought, TheValue, ThePair, Presence, Task, Finds, Removes, Inserts, Adds, Computes, Outcome, OutcomeReply, OutcomeEnded, OutcomeRefused, GrowFor, ForInsert, ForReserve, Resume, ThenBin, ThenRecount, ThenGrow, Stage, AtLocate, AtBin, AtClaim, AtMove, AtUncount, AtCount, AtRecount, AtBegin, AtGrow, AtReserve, AtDone, AtTaken, PartyState, reply_for, resumed_stage, started_stage, with_stage}
 use Rattle.flurry_steps.specs.PartyControl.{begin_at, stage_advised, stage_begun, stage_grown, stage_not_grown, stage_growing, OpensFor, LocatesNone, MakesFor, event_growing, StageAtControl}
 use Rattle.flurry_steps.specs.PartySlots.{GoesOnNew, GoesOnWritten, GoesOnAdded, stage_taken, stage_computed, stage_moved, FindCanBeRefused, CanBeRefused, DecidesAt, LiveGives, ContentGives, StageAtSlot, moved_stage, MoveGives}
 use Rattle.flurry_steps.specs.PartyTally.{StageAtTally}
@@ -22,10 +19,10 @@ use Rattle.flurry_control.specs.declared.control.Advice.{Advice}
 use Rattle.flurry_control.specs.declared.control.Advice.TheVariants as advice
 use Rattle.flurry_control.specs.declared.control.BeginOutcome.{BeginOutcome}
 use Rattle.flurry_control.specs.declared.control.BeginOutcome.TheVariants as began
-use Rattle.flurry_calls.specs.declared.step.Event.{Event}
+use Rattle.flurry_steps.specs.declared.party.Event.{Event}
 use Rattle.flurry_steps.specs.declared.party.call.Call.{Call}
 use Rattle.flurry_steps.specs.declared.party.call.Call.TheVariants as call
-use Rattle.flurry_calls.specs.declared.step.Event.TheVariants as event
+use Rattle.flurry_steps.specs.declared.party.Event.TheVariants as event
 
 -- what tells of an entry is of its sort
 sought : {K V : Type 0} (w : Sought) (e : Option (PlainEntry K V)) → IsSought w (reply_for w e)
@@ -56,11 +53,6 @@ module _ {K V F : Type 0} (changes : F → K → V → Option V → Type 0) (ans
   ResumeServes (ThenRecount r) = answers r
   ResumeServes (ThenGrow w g) = GrowForServes g
 
-  -- a call that goes over all bins may answer anything until it has ended
-  abbrev SweepServes : SweepStage K V → Type 0
-  SweepServes (AtEnd r) = answers r
-  SweepServes s = (r : Outcome K V) → answers r
-
   abbrev StageServes : Stage K V F → Type 0
   StageServes (AtLocate t) = Serves t
   StageServes (AtBin t e) = Serves t
@@ -72,40 +64,10 @@ module _ {K V F : Type 0} (changes : F → K → V → Option V → Type 0) (ans
   StageServes (AtBegin e r) = answers r
   StageServes (AtGrow w g) = GrowForServes g
   StageServes (AtReserve a) = Reserves
-  StageServes (AtSweep w) = SweepServes w.stage
   StageServes (AtDone r) = answers r
   StageServes AtTaken = ⊥
 
   -- ---- stages that follow
-
-  serves_all : ((r : Outcome K V) → answers r) → (s : SweepStage K V) → SweepServes s
-  serves_all h AtOutset = h
-  serves_all h (OverBins c) = h
-  serves_all h AtTotal = h
-  serves_all h (AtEnd r) = h r
-  serves_all h AfterEnd = h
-
-  served : (s : Stage K V F) (r : Outcome K V) → StageServes s → final_outcome s ≡ Some r → answers r
-  served (AtLocate t) r h e = cc
-  served (AtBin t n) r h e = cc
-  served (AtClaim a) r h e = cc
-  served (AtMove c a) r h e = cc
-  served (AtUncount q) r h e = cc
-  served (AtCount q) r h e = cc
-  served (AtRecount q) r h e = cc
-  served (AtBegin n q) r h e = cc
-  served (AtGrow w g) r h e = cc
-  served (AtReserve a) r h e = cc
-  served (AtSweep w) r h e = by_end w.stage h e
-    where
-      by_end : (z : SweepStage K V) → SweepServes z → swept_outcome z ≡ Some r → answers r
-      by_end AtOutset h e = cc
-      by_end (OverBins c) h e = cc
-      by_end AtTotal h e = cc
-      by_end (AtEnd q) h e = let one : q ≡ r = cc in subst answers one h
-      by_end AfterEnd h e = cc
-  served (AtDone q) r h e = let one : q ≡ r = cc in subst answers one h
-  served AtTaken r h e = cc
 
   after_help : (a : Resume K V F) → ResumeServes a → StageServes (resumed_stage a)
   after_help (ThenBin t e) h = h
@@ -150,7 +112,6 @@ module _ {K V F : Type 0} (changes : F → K → V → Option V → Type 0) (ans
   with_moved (AtBegin e r) h = h
   with_moved (AtGrow w g) h = h
   with_moved (AtReserve a) h = h
-  with_moved (AtSweep w) h = h
   with_moved (AtDone r) h = h
   with_moved AtTaken h = h
 
@@ -165,7 +126,6 @@ module _ {K V F : Type 0} (changes : F → K → V → Option V → Type 0) (ans
   after_start d (AtBegin e r) h = h
   after_start d (AtGrow w g) h = h
   after_start d (AtReserve a) h = h
-  after_start d (AtSweep w) h = h
   after_start d (AtDone r) h = h
   after_start d AtTaken h = h
 
@@ -185,8 +145,6 @@ module _ {K V F : Type 0} (changes : F → K → V → Option V → Type 0) (ans
     opens t h r event.Decide g = absurd g
     opens t h r (event.Placed e) g = absurd g
     opens t h r (event.Moved e i) g = absurd g
-    opens t h r event.Read g = absurd g
-    opens t h r (event.Wipe _ _) g = absurd g
     opens t h r (event.Published e) g = absurd g
     opens t h r event.Silent g = absurd g
 
@@ -203,8 +161,6 @@ module _ {K V F : Type 0} (changes : F → K → V → Option V → Type 0) (ans
     makes w event.Decide h g = absurd g
     makes w (event.Placed e) h g = absurd g
     makes w (event.Moved e i) h g = absurd g
-    makes w event.Read h g = absurd g
-    makes w (event.Wipe _ _) h g = absurd g
     makes w (event.Published e) h g = absurd g
     makes w event.Silent h g = absurd g
 
@@ -236,18 +192,6 @@ module _ {K V F : Type 0} (changes : F → K → V → Option V → Type 0) (ans
     at_control (AtBegin e r) ev h g = subst StageServes (sym g.3) (after_begun r g.0 h)
     at_control (AtGrow w x) ev h g = grows w x ev (grows_from w b) h g
     at_control (AtReserve a) ev h g = reserves g.0 ev b.published h g.2
-    at_control (AtSweep w) ev h (w', same, g, _) = subst StageServes (sym same) (after_control w.errand w.stage h g.step)
-      where
-        after_control : (u : Errand) (z : SweepStage K V) → SweepServes z → sweep.StageAtControl u z b w'.stage b' → SweepServes w'.stage
-        after_control u AtOutset h g = serves_all h w'.stage
-        after_control (Wipes n) AtTotal h g = serves_all h w'.stage
-        after_control Reads AtTotal h g = absurd g
-        after_control Reads (OverBins f) h g = absurd g
-        after_control (Wipes n) (OverBins f) h g = absurd g
-        after_control Reads (AtEnd r) h g = absurd g
-        after_control (Wipes n) (AtEnd r) h g = absurd g
-        after_control Reads AfterEnd h g = absurd g
-        after_control (Wipes n) AfterEnd h g = absurd g
     at_control (AtDone r) ev h g = absurd g
     at_control AtTaken ev h g = absurd g
 
@@ -268,7 +212,6 @@ module _ {K V F : Type 0} (changes : F → K → V → Option V → Type 0) (ans
   at_tally most n st n' (AtBegin e r) h g = absurd g
   at_tally most n st n' (AtGrow w g') h g = absurd g
   at_tally most n st n' (AtReserve a) h g = absurd g
-  at_tally most n st n' (AtSweep w) h g = absurd g
   at_tally most n st n' (AtDone r) h g = absurd g
   at_tally most n st n' AtTaken h g = absurd g
 
@@ -316,8 +259,6 @@ module _ {K V F : Type 0} (changes : F → K → V → Option V → Type 0) (ans
     live t e b (event.Opened i) s c h g = absurd g
     live t e b (event.Placed i) s c h g = absurd g
     live t e b (event.Moved i j) s c h g = absurd g
-    live t e b event.Read s c h g = absurd g
-    live t e b (event.Wipe _ _) s c h g = absurd g
     live t e b (event.Published i) s c h g = absurd g
     live t e b event.Silent s c h g = absurd g
 
@@ -337,19 +278,6 @@ module _ {K V F : Type 0} (changes : F → K → V → Option V → Type 0) (ans
     at_slot (AtBegin e r) q ev s' c h g = absurd g
     at_slot (AtGrow w x) q ev s' c h g = absurd g
     at_slot (AtReserve a) q ev s' c h g = absurd g
-    at_slot (AtSweep w) q ev s' c h (w', same, g) = subst StageServes (sym same) (after_bin w.errand w.stage h g)
-      where
-        after_bin : (u : Errand) (z : SweepStage K V) → SweepServes z → BinGives cmp u z w.last q ev w' c → SweepServes w'.stage
-        after_bin Reads (OverBins f) h g = serves_all h w'.stage
-        after_bin (Wipes n) (OverBins f) h g = serves_all h w'.stage
-        after_bin Reads AtOutset h g = absurd g
-        after_bin (Wipes n) AtOutset h g = absurd g
-        after_bin Reads AtTotal h g = absurd g
-        after_bin (Wipes n) AtTotal h g = absurd g
-        after_bin Reads (AtEnd r) h g = absurd g
-        after_bin (Wipes n) (AtEnd r) h g = absurd g
-        after_bin Reads AfterEnd h g = absurd g
-        after_bin (Wipes n) AfterEnd h g = absurd g
     at_slot (AtDone r) q ev s' c h g = absurd g
     at_slot AtTaken q ev s' c h g = absurd g
 
@@ -366,8 +294,6 @@ module _ {K V F : Type 0} (changes : F → K → V → Option V → Type 0) (ans
   at_move p p' q low high q' low' high' event.Refused h g = absurd g
   at_move p p' q low high q' low' high' (event.Opened e) h g = absurd g
   at_move p p' q low high q' low' high' (event.Placed e) h g = absurd g
-  at_move p p' q low high q' low' high' event.Read h g = absurd g
-  at_move p p' q low high q' low' high' (event.Wipe _ _) h g = absurd g
   at_move p p' q low high q' low' high' (event.Published e) h g = absurd g
 
   -- ---- over a field
@@ -396,10 +322,8 @@ first_serves changes (call.Insert k v) = λ r h. h
 first_serves changes (call.TryInsert k v) = λ r h. h
 first_serves changes (call.Compute k f) = λ r h. h
 first_serves changes (call.Reserve a) = λ r h. h
-first_serves changes call.Clear = λ r. tt
-first_serves changes call.Walk = λ r. tt
 
 module _ {S R K V F : Type 0} (place : R → ℕ → Bool → Bool → R → Type 0) (cmp : K → K → Ordering) (changes : F → K → V → Option V → Type 0) (lends : S → Loan K V R → S → Type 0) {s s' : S} {p p' : PartyState K V F} {r : Outcome K V} (turns : TurnsTo (Turn place cmp changes lends) s p r s' p') where
   -- the reply to which steps take a call is one that it can answer
   pub can_answer : (c : Call K V F) → p.stage ≡ first_stage c → CanAnswerFrom changes (first_stage c) r
-  can_answer c e = served changes (CanAnswerFrom changes (first_stage c)) turns.last.stage r (all_turns changes (CanAnswerFrom changes (first_stage c)) place cmp lends (subst (StageServes changes (CanAnswerFrom changes (first_stage c))) (sym e) (first_serves changes c)) turns.turns) turns.done
+  can_answer c e = subst (StageServes changes (CanAnswerFrom changes (first_stage c))) turns.done (all_turns changes (CanAnswerFrom changes (first_stage c)) place cmp lends (subst (StageServes changes (CanAnswerFrom changes (first_stage c))) (sym e) (first_serves changes c)) turns.turns)

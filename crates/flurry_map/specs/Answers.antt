@@ -2,8 +2,7 @@
 use Rattle.std.specs.Prelude.{◌≡◌, Option, Some, None, ⊤}
 use Rattle.flurry_model.specs.declared.reply.KeptReply.{KeptReply}
 use Rattle.flurry_model.specs.declared.reply.KeptReply.TheVariants.{Value, Pair, Contains, New, Exists}
-use Rattle.flurry_calls.specs.Outcome.{Outcome, OutcomeReply, OutcomeEnded, OutcomeRefused}
-use Rattle.flurry_steps.specs.Party.{Sought, TheValue, ThePair, Presence, Task, Finds, Removes, Inserts, Adds, Computes, Stage, AtLocate, AtReserve, AtSweep}
+use Rattle.flurry_steps.specs.Party.{Sought, TheValue, ThePair, Presence, Task, Finds, Removes, Inserts, Adds, Computes, Outcome, OutcomeReply, OutcomeEnded, OutcomeRefused, Stage, AtLocate, AtReserve}
 
 -- what is told by a further owner can want memory
 abbrev pub NeedsOwner : Sought → Type 0
@@ -75,5 +74,4 @@ module _ {K V F : Type 0} (changes : F → K → V → Option V → Type 0) wher
   abbrev pub CanAnswerFrom : Stage K V F → Outcome K V → Type 0
   CanAnswerFrom (AtLocate t) r = CanAnswer t r
   CanAnswerFrom (AtReserve a) r = CanReserve r
-  CanAnswerFrom (AtSweep w) r = ⊤
   CanAnswerFrom _ r = ⊥

@@ -7,10 +7,8 @@ ghost use Rattle.flurry_map.specs.Results.{value_outcome, pair_outcome, added_ou
 ghost use Rattle.flurry_model.specs.Hashing.{seed_of};
 ghost use Rattle.flurry_model.specs.declared.reply.KeptReply.TheVariants as kept;
 ghost use Rattle.flurry_slots.specs.ComputeFn.{AnswersAtPair};
-ghost use Rattle.flurry_calls.specs.Outcome.{OutcomeReply};
-ghost use Rattle.flurry_steps.specs.Party.{TheValue, ThePair, Presence, Finds, Removes, Inserts, Adds, Computes, AtLocate, AtReserve};
-ghost use Rattle.flurry_calls.specs.OutcomeView.{outcome_of, pair_value};
-ghost use Rattle.flurry_steps.specs.PartyView.{CallIsReady, first_stage};
+ghost use Rattle.flurry_steps.specs.Party.{TheValue, ThePair, Presence, Finds, Removes, Inserts, Adds, Computes, AtLocate, AtReserve, OutcomeReply};
+ghost use Rattle.flurry_steps.specs.PartyView.{CallIsReady, first_stage, outcome_of, pair_value};
 ghost use Rattle.std.specs.Option.{option_map};
 ghost use Rattle.std.specs.Arc.{arc_value};
 
@@ -352,7 +350,7 @@ impl<K: Ord + Drop, V: Drop, S: KeyHasher<K>, A: Allocator + Copy> HashMap<K, V,
             | Call::RemoveEntry(key)
             | Call::Compute(key, _) => self.hasher.hash_one(key),
             Call::Insert(key, _) | Call::TryInsert(key, _) => self.hasher.hash_one(key),
-            Call::Reserve(_) | Call::Clear | Call::Walk => 0,
+            Call::Reserve(_) => 0,
         }
     }
 

@@ -7,9 +7,8 @@ use Rattle.std.proofs.Common.{arith, sym, ◌∙◌, ap, subst}
 use Rattle.std.proofs.lemmas.Int.{ints}
 use Rattle.flurry_control.specs.Control as control
 use Rattle.flurry_control.specs.Control.{ControlState, IsIdle, Grows}
-use Rattle.flurry_calls.specs.Outcome.{Outcome}
-use Rattle.flurry_steps.specs.Party.{Stage, PartyState}
-use Rattle.flurry_calls.specs.declared.step.Event.{Event}
+use Rattle.flurry_steps.specs.Party.{Outcome, Stage, PartyState}
+use Rattle.flurry_steps.specs.declared.party.Event.{Event}
 use Rattle.flurry_theory.specs.Machine.{Done, Quiet, Counts}
 use Rattle.flurry_theory.specs.Map.{same}
 use Rattle.flurry_theory.specs.Trace.{is_lookup}

@@ -11,11 +11,10 @@ use Rattle.flurry_control.specs.declared.control.Advice.{Advice}
 use Rattle.flurry_control.specs.declared.control.Advice.TheVariants.{Enough, Join, Begin}
 use Rattle.flurry_control.specs.declared.control.BeginOutcome.{BeginOutcome}
 use Rattle.flurry_control.specs.declared.control.BeginOutcome.TheVariants as started_stage
-use Rattle.flurry_calls.specs.Outcome.{Outcome, OutcomeReply, OutcomeEnded, OutcomeRefused}
-use Rattle.flurry_steps.specs.Party.{GrowFor, ForInsert, ForReserve, ThenRecount, ThenGrow, Stage, AtClaim, AtUncount, AtCount, AtRecount, AtBegin, AtGrow, AtDone, PartyState}
+use Rattle.flurry_steps.specs.Party.{Outcome, OutcomeReply, OutcomeEnded, OutcomeRefused, GrowFor, ForInsert, ForReserve, ThenRecount, ThenGrow, Stage, AtClaim, AtUncount, AtCount, AtRecount, AtBegin, AtGrow, AtDone, PartyState}
 use Rattle.flurry_steps.specs.PartyControl.{stage_advised, stage_begun, stage_grown, stage_not_grown, stage_growing, event_begun, event_growing, event_not_grown}
-use Rattle.flurry_calls.specs.declared.step.Event.{Event}
-use Rattle.flurry_calls.specs.declared.step.Event.TheVariants as event
+use Rattle.flurry_steps.specs.declared.party.Event.{Event}
+use Rattle.flurry_steps.specs.declared.party.Event.TheVariants as event
 use Rattle.flurry_theory.specs.Map.{same}
 use Rattle.flurry_theory.specs.Trace.{is_lookup}
 use Rattle.flurry_theory.specs.Machine.{Done, Places, IsRefused, RefusedAt}

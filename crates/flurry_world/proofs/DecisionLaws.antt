@@ -15,8 +15,7 @@ use Rattle.flurry_model.proofs.FiniteMapLaws.{all_with_pair, all_without, length
 use Rattle.flurry_model.proofs.HashOrderLaws.{hash_then_key_total}
 use Rattle.flurry_slots.specs.Slot as slot
 use Rattle.flurry_slots.specs.Slot.{PlainEntry, Live, ComputeOutcome, WasAbsent, WasRemoved, WasChanged, next_number, entry_of_live, after_write, after_add, after_take, asks}
-use Rattle.flurry_calls.specs.Outcome.{OutcomeReply}
-use Rattle.flurry_steps.specs.Party.{Sought, TheValue, ThePair, Presence, Task, Finds, Removes, Inserts, Adds, Computes, Stage, AtDone, reply_for, outcome_in, IsWriter}
+use Rattle.flurry_steps.specs.Party.{Sought, TheValue, ThePair, Presence, Task, Finds, Removes, Inserts, Adds, Computes, OutcomeReply, Stage, AtDone, reply_for, outcome_in, IsWriter}
 use Rattle.flurry_steps.specs.PartySlots as party
 use Rattle.flurry_steps.specs.PartySlots.{DecidesAt, GoesOnNew, GoesOnWritten, GoesOnAdded, stage_taken, stage_computed, stage_moved}
 use Rattle.flurry_theory.specs.Map.{same, find, key_of, Allows, CanBeRefused}

@@ -4,8 +4,7 @@ use Rattle.std.specs.declared.cmp.Ordering.{Ordering}
 use Rattle.std.specs.Cmp.{IsTotalOrder}
 use Rattle.std.proofs.Common.{refl, sym, ◌∙◌, ap, subst, inl, inr}
 use Rattle.flurry_model.specs.declared.reply.KeptReply.{KeptReply}
-use Rattle.flurry_calls.specs.Outcome.{OutcomeReply, OutcomeEnded, OutcomeRefused}
-use Rattle.flurry_steps.specs.Party.{ForInsert, ForReserve, Stage, AtLocate, AtBin, AtClaim, AtMove, AtUncount, AtCount, AtRecount, AtBegin, AtGrow, AtReserve, AtSweep, AtDone, AtTaken}
+use Rattle.flurry_steps.specs.Party.{OutcomeReply, OutcomeEnded, OutcomeRefused, ForInsert, ForReserve, Stage, AtLocate, AtBin, AtClaim, AtMove, AtUncount, AtCount, AtRecount, AtBegin, AtGrow, AtReserve, AtDone, AtTaken}
 use Rattle.flurry_theory.specs.Map.{same, key_of}
 use Rattle.flurry_theory.specs.Machine.{Mode, Locating, Looking, Done, Finished}
 use Rattle.flurry_theory.specs.Trace.{is_lookup, decision, has_replied, has_closed}
@@ -66,7 +65,6 @@ module _ {K V F S : Type 0} (cmp : K → K → Ordering) (total : IsTotalOrder c
     by_stage (AtBegin n s) e f = absurd (writes_not f.writes)
     by_stage (AtGrow n (ForInsert s)) e f = absurd (writes_not f.writes)
     by_stage (AtGrow n ForReserve) e (m, f) = absurd (writes_not (ap (λ d. is_lookup (Some d)) f))
-    by_stage (AtSweep u) e f = absurd f
     by_stage (AtReserve n) e f = absurd (writes_not (ap (λ d. is_lookup (Some d)) f))
     by_stage (AtDone (OutcomeReply q)) e f = let same_reply : Some q ≡ Some r = sym (ok.decided q 0 0 (in_mode cmp total hash lawful gives w k p x at x.party_state (AtDone (OutcomeReply q)) e)) ∙ decided in e ∙ ap (λ o. AtDone (OutcomeReply (unwrap_or o q))) same_reply
     by_stage (AtDone OutcomeEnded) e (m, f) = absurd (writes_not (ap (λ d. is_lookup (Some d)) f))

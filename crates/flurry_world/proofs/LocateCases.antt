@@ -7,11 +7,10 @@ use Rattle.flurry_slots.specs.Slot as slots
 use Rattle.flurry_slots.specs.Slot.{SlotState, Content, IsLive, IsUnborn}
 use Rattle.flurry_control.specs.Control as control
 use Rattle.flurry_control.specs.Control.{ControlState, IsControl, IsIdle, Grows, after_open, count_of, GrowthIsIn}
-use Rattle.flurry_calls.specs.Outcome.{OutcomeReply, OutcomeRefused}
-use Rattle.flurry_steps.specs.Party.{Task, Finds, Removes, Inserts, Adds, Computes, ForReserve, Stage, AtLocate, AtBin, AtGrow, AtReserve, AtDone, PartyState, reply_for}
+use Rattle.flurry_steps.specs.Party.{Task, Finds, Removes, Inserts, Adds, Computes, OutcomeReply, OutcomeRefused, ForReserve, Stage, AtLocate, AtBin, AtGrow, AtReserve, AtDone, PartyState, reply_for}
 use Rattle.flurry_steps.specs.PartyControl.{OpensFor, LocatesNone, MakesFor, ReservesFor}
-use Rattle.flurry_calls.specs.declared.step.Event.{Event}
-use Rattle.flurry_calls.specs.declared.step.Event.TheVariants as event
+use Rattle.flurry_steps.specs.declared.party.Event.{Event}
+use Rattle.flurry_steps.specs.declared.party.Event.TheVariants as event
 use Rattle.flurry_theory.specs.Map.{same}
 use Rattle.flurry_theory.specs.Trace.{published}
 use Rattle.flurry_theory.specs.Machine.{Locating, Done, Live, Finds as FindsTable, Opens, IsRefused, DecidesEmpty, Opening, RefusedAt, mode_at_table}
@@ -136,8 +135,6 @@ module _ {K V F S : Type 0} (cmp : K → K → Ordering) (total : IsTotalOrder c
         by_event event.Decide q g = absurd g
         by_event (event.Placed e) q g = absurd g
         by_event (event.Moved e i) q g = absurd g
-        by_event event.Read q g = absurd g
-        by_event (event.Wipe _ _) q g = absurd g
         by_event (event.Published e) q g = absurd g
         by_event event.Silent q g = absurd g
 
@@ -178,8 +175,6 @@ module _ {K V F S : Type 0} (cmp : K → K → Ordering) (total : IsTotalOrder c
         makes bare event.Decide q g = absurd g
         makes bare (event.Placed e) q g = absurd g
         makes bare (event.Moved e i) q g = absurd g
-        makes bare event.Read q g = absurd g
-        makes bare (event.Wipe _ _) q g = absurd g
         makes bare (event.Published e) q g = absurd g
         makes bare event.Silent q g = absurd g
 

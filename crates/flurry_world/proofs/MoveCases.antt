@@ -10,8 +10,8 @@ use Rattle.flurry_control.specs.Claim.{Range, next_of, moved_on}
 use Rattle.flurry_control.specs.Control.{ControlState}
 use Rattle.flurry_steps.specs.Party.{Resume, AtMove, PartyState, with_stage}
 use Rattle.flurry_steps.specs.PartySlots.{MoveGives, moved_stage}
-use Rattle.flurry_calls.specs.declared.step.Event.{Event}
-use Rattle.flurry_calls.specs.declared.step.Event.TheVariants as event
+use Rattle.flurry_steps.specs.declared.party.Event.{Event}
+use Rattle.flurry_steps.specs.declared.party.Event.TheVariants as event
 use Rattle.flurry_theory.specs.Map.{same}
 use Rattle.flurry_theory.specs.Bin as bin
 use Rattle.flurry_theory.specs.Machine as machine
@@ -232,6 +232,4 @@ module _ {K V F S : Type 0} (cmp : K → K → Ordering) (total : IsTotalOrder c
       at_move event.Refused b t' g y z = absurd g
       at_move (event.Opened d) b t' g y z = absurd g
       at_move (event.Placed d) b t' g y z = absurd g
-      at_move event.Read b t' g y z = absurd g
-      at_move (event.Wipe _ _) b t' g y z = absurd g
       at_move (event.Published d) b t' g y z = absurd g

@@ -7,12 +7,11 @@ use Rattle.std.proofs.lemmas.Bool.{eqb-true, and_parts}
 use Rattle.flurry_slots.specs.Slot.{SlotState, IsSlot, IsContent}
 use Rattle.flurry_control.specs.Claim.{Range, next_of}
 use Rattle.flurry_control.specs.Control.{ControlState}
-use Rattle.flurry_calls.specs.Part.{ControlPart, LookPart, BinPart}
-use Rattle.flurry_steps.specs.Party.{Task, Finds, Removes, Inserts, Adds, Computes, Resume, Stage, AtLocate, AtBin, AtClaim, AtMove, AtUncount, AtCount, AtRecount, AtBegin, AtGrow, AtReserve, AtSweep, AtDone, AtTaken, PartyState, part_of, wanted_part, move_part}
+use Rattle.flurry_steps.specs.Party.{Task, Finds, Removes, Inserts, Adds, Computes, Resume, Stage, AtLocate, AtBin, AtClaim, AtMove, AtUncount, AtCount, AtRecount, AtBegin, AtGrow, AtReserve, AtDone, AtTaken, PartyState, part_of, ControlPart, LookPart, BinPart, wanted_part, move_part}
 use Rattle.flurry_steps.specs.PartyControl.{StageAtControl, ControlStep}
 use Rattle.flurry_steps.specs.PartySlots.{SlotStep, MoveGives, StageAtSlot}
-use Rattle.flurry_calls.specs.declared.step.Event.{Event}
-use Rattle.flurry_calls.specs.declared.step.Event.TheVariants as event
+use Rattle.flurry_steps.specs.declared.party.Event.{Event}
+use Rattle.flurry_steps.specs.declared.party.Event.TheVariants as event
 use Rattle.flurry_theory.specs.Map.{same}
 use Rattle.flurry_world.specs.Tables.{Tables, AreTables, place_at, content_at, put_place, PlaceGives}
 use Rattle.flurry_world.specs.Parts.{PartStep}
@@ -69,7 +68,6 @@ module _ {K V F S : Type 0} (cmp : K → K → Ordering) (total : IsTotalOrder c
   at_control (AtBegin n r) e q h = begins cmp total hash lawful gives w k p x at c ev b t' n r e (subst (FollowsStage x.call) e follows) h
   at_control (AtGrow n g) e q h = grows cmp total hash lawful gives w k p x at c ev b t' n g e (subst (FollowsStage x.call) e follows) h
   at_control (AtReserve a) e q (n, sized, h) = reserves cmp total hash lawful gives w k p x at c ev b t' a n e (subst (FollowsStage x.call) e follows) sized.within h
-  at_control (AtSweep u) e q h = absurd (subst (FollowsStage x.call) e follows)
   at_control (AtDone r) e q h = absurd h
   at_control AtTaken e q h = absurd h
 
@@ -108,8 +106,6 @@ module _ {K V F S : Type 0} (cmp : K → K → Ordering) (total : IsTotalOrder c
       hash_of_move event.Refused u = absurd u
       hash_of_move (event.Opened g) u = absurd u
       hash_of_move (event.Placed g) u = absurd u
-      hash_of_move event.Read u = absurd u
-      hash_of_move (event.Wipe _ _) u = absurd u
       hash_of_move (event.Published g) u = absurd u
 
   by_stage : (s : Stage K V F) → x.party_state.stage ≡ s → PartStep cmp gives (part_of x.party_state.hash s) x.party_state w.control_state w.tables ev c b t' → Taken
@@ -127,7 +123,6 @@ module _ {K V F S : Type 0} (cmp : K → K → Ordering) (total : IsTotalOrder c
   by_stage (AtBegin n r) e h = control_step (AtBegin n r) e refl h
   by_stage (AtGrow n g) e h = control_step (AtGrow n g) e refl h
   by_stage (AtReserve a) e h = control_step (AtReserve a) e refl h
-  by_stage (AtSweep u) e h = absurd (subst (FollowsStage x.call) e follows)
   by_stage (AtDone r) e h = absurd h
   by_stage AtTaken e h = absurd h
 

@@ -9,8 +9,8 @@ use Rattle.flurry_slots.specs.Slot.{SlotState, Content, IsLive, HasMoved, IsUnbo
 use Rattle.flurry_steps.specs.Party.{Task, AtBin, PartyState, outcome_in}
 use Rattle.flurry_steps.specs.PartySlots as party
 use Rattle.flurry_steps.specs.PartySlots.{DecidesAt, LiveGives, ContentGives, stage_moved}
-use Rattle.flurry_calls.specs.declared.step.Event.{Event}
-use Rattle.flurry_calls.specs.declared.step.Event.TheVariants as event
+use Rattle.flurry_steps.specs.declared.party.Event.{Event}
+use Rattle.flurry_steps.specs.declared.party.Event.TheVariants as event
 use Rattle.flurry_theory.specs.Map.{same, key_of}
 use Rattle.flurry_theory.specs.Machine.{Live, Looking, Decides, Passes, IsRefused, RefusedAt, at_bin}
 use Rattle.flurry_theory.specs.Invariant.{is_live, key_in, writes_in, Named}
@@ -169,8 +169,6 @@ module _ {K V F S : Type 0} (cmp : K → K → Ordering) (total : IsTotalOrder c
           at_live b live (event.Opened d) is h = absurd h
           at_live b live (event.Placed d) is h = absurd h
           at_live b live (event.Moved d i) is h = absurd h
-          at_live b live event.Read is h = absurd h
-          at_live b live (event.Wipe _ _) is h = absurd h
           at_live b live (event.Published d) is h = absurd h
           at_live b live event.Silent is h = absurd h
 

@@ -8,7 +8,7 @@ use Rattle.flurry_slots.specs.Slot.{Content, IsUnborn}
 use Rattle.flurry_control.specs.Claim.{Range}
 use Rattle.flurry_control.specs.Control as control
 use Rattle.flurry_control.specs.Control.{IsIdle, Grows}
-use Rattle.flurry_steps.specs.Party.{Task, Finds, Removes, Inserts, Adds, Computes, Resume, Stage, AtLocate, AtBin, AtClaim, AtMove, AtUncount, AtCount, AtRecount, AtBegin, AtGrow, AtReserve, AtSweep, AtDone, AtTaken, part_of, wanted_part, bin_part, move_part}
+use Rattle.flurry_steps.specs.Party.{Task, Finds, Removes, Inserts, Adds, Computes, Resume, Stage, AtLocate, AtBin, AtClaim, AtMove, AtUncount, AtCount, AtRecount, AtBegin, AtGrow, AtReserve, AtDone, AtTaken, part_of, wanted_part, bin_part, move_part}
 use Rattle.flurry_theory.specs.Map.{same, key_of}
 use Rattle.flurry_theory.specs.Invariant.{is_live, key_in}
 use Rattle.flurry_theory.proofs.Bins.{double}
@@ -88,7 +88,6 @@ module _ {K V F S : Type 0} (cmp : K → K → Ordering) (total : IsTotalOrder c
   there (AtBegin n r) e g = tt
   there (AtGrow n r) e g = tt
   there (AtReserve a) e g = tt
-  there (AtSweep u) e g = absurd (subst (FollowsStage x.call) e (k.party_records p x at).stage)
   there (AtDone r) e g = absurd g
   there AtTaken e g = absurd g
 

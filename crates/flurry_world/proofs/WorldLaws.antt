@@ -6,8 +6,7 @@ use Rattle.std.proofs.Common.{arith, refl, sym, ◌∙◌, ap, subst}
 use Rattle.std.proofs.lemmas.Bool.{eqb-true, eqb-false, eq-eqb, ne_eqb}
 use Rattle.std.proofs.lemmas.List.{reverse-append, length-append}
 use Rattle.flurry_control.specs.Control.{ControlState}
-use Rattle.flurry_calls.specs.Outcome.{Outcome, OutcomeReply, OutcomeEnded, OutcomeRefused}
-use Rattle.flurry_steps.specs.Party.{Stage, AtLocate, AtBin, AtClaim, AtMove, AtUncount, AtCount, AtRecount, AtBegin, AtGrow, AtReserve, AtSweep, AtDone, AtTaken, PartyState, with_stage}
+use Rattle.flurry_steps.specs.Party.{Outcome, OutcomeReply, OutcomeEnded, OutcomeRefused, Stage, AtLocate, AtBin, AtClaim, AtMove, AtUncount, AtCount, AtRecount, AtBegin, AtGrow, AtReserve, AtDone, AtTaken, PartyState, with_stage}
 use Rattle.flurry_theory.specs.Map.{same, key_of}
 use Rattle.flurry_theory.specs.Machine.{Can, Locating, Finished, Begins, Quiet, Replies, Ends, at_place, does}
 use Rattle.flurry_theory.specs.Invariant.{Inv}
@@ -189,7 +188,6 @@ module _ {K V F S : Type 0} (cmp : K → K → Ordering) (total : IsTotalOrder c
     by_stage (AtBegin n r) e l c b t h = goes_by l c b t h
     by_stage (AtGrow n r) e l c b t h = goes_by l c b t h
     by_stage (AtReserve a) e l c b t h = goes_by l c b t h
-    by_stage (AtSweep u) e l c b t h = absurd (subst (FollowsStage x.call) e (k.party_records p x at).stage)
     by_stage (AtDone r) e l c b t (g, y, z, u) = rw (g, y, z, u) (closes r e)
     by_stage AtTaken e l c b t (g, y, z, u) = rw (g, y, z, u) (finished AtTaken e refl refl x.party_state refl (ap mode_of_stage e) (ap claim_of_stage e) (subst (FollowsStage x.call) (sym e) tt))
 

@@ -5,8 +5,7 @@ use Rattle.flurry_model.specs.declared.reply.KeptReply.{KeptReply}
 use Rattle.flurry_slots.specs.Slot.{Live, IsLive}
 use Rattle.flurry_control.specs.Control as control
 use Rattle.flurry_control.specs.Control.{ControlState, IsControl, IsIdle, Grows}
-use Rattle.flurry_calls.specs.Outcome.{Outcome, OutcomeReply, OutcomeEnded, OutcomeRefused}
-use Rattle.flurry_steps.specs.Party.{TheValue, ThePair, Presence, Task, Finds, Removes, Inserts, Adds, Computes, GrowFor, ForInsert, ForReserve, Resume, ThenBin, ThenRecount, ThenGrow, Stage, AtLocate, AtBin, AtClaim, AtMove, AtUncount, AtCount, AtRecount, AtBegin, AtGrow, AtReserve, AtSweep, AtDone, AtTaken, PartyState}
+use Rattle.flurry_steps.specs.Party.{TheValue, ThePair, Presence, Task, Finds, Removes, Inserts, Adds, Computes, Outcome, OutcomeReply, OutcomeEnded, OutcomeRefused, GrowFor, ForInsert, ForReserve, Resume, ThenBin, ThenRecount, ThenGrow, Stage, AtLocate, AtBin, AtClaim, AtMove, AtUncount, AtCount, AtRecount, AtBegin, AtGrow, AtReserve, AtDone, AtTaken, PartyState}
 use Rattle.flurry_theory.specs.Machine as machine
 use Rattle.flurry_theory.specs.Machine.{State, Mode, Locating, Looking, Done, Finished}
 use Rattle.flurry_theory.specs.Map.{key_of}
@@ -86,7 +85,6 @@ module _ {K V F : Type 0} where
   mode_of_stage (AtBegin e r) = Done (reply_in r) 0 0
   mode_of_stage (AtGrow w g) = mode_of_grow_for g
   mode_of_stage (AtReserve a) = Locating
-  mode_of_stage (AtSweep w) = Finished
   mode_of_stage (AtDone r) = mode_of_end r
   mode_of_stage AtTaken = Finished
 
@@ -180,7 +178,6 @@ module _ {K V F : Type 0} where
   FollowsStage c (AtBegin e r) = HasDecided c r
   FollowsStage c (AtGrow w g) = FollowsGrowFor c g
   FollowsStage c (AtReserve a) = c ≡ call.Reserve a
-  FollowsStage c (AtSweep w) = ⊥
   FollowsStage c (AtDone r) = FollowsEnd c r
   FollowsStage c AtTaken = ⊤
 

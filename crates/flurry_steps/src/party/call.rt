@@ -24,10 +24,6 @@ pub enum Call<'k, K, V, F> {
     Compute(&'k K, F),
     /// Makes room for so many pairs more.
     Reserve(usize),
-    /// Removes all pairs, one bin after another.
-    Clear,
-    /// Reads all pairs, one after another.
-    Walk,
 }
 
 /// A call of a shared map that has its key, as a list of calls keeps it.

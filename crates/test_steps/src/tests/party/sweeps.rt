@@ -1,14 +1,14 @@
 //! Walks and clears, between the steps of other calls.
 ghost use Rattle.std.specs.Prelude.{◌≡◌};
-ghost use Rattle.flurry_calls.specs.Part.{LookPart, BinPart};
-ghost use Rattle.flurry_calls.specs.Sweep.{swept_part};
+ghost use Rattle.flurry_steps.specs.Party.{LookPart, BinPart};
+ghost use Rattle.flurry_sweeps.specs.Sweep.{swept_part};
 
 use super::super::{same, same_at};
-use super::{Map, Told, call, empty_map, end, insert, lent, plain, steps};
-use flurry_calls::Sweep;
+use super::{Map, Told, call, empty_map, goes_on, insert, lent, plain};
 use flurry_model::reply::KeptReply;
-use flurry_slots::{NoFn, Slot};
+use flurry_slots::{ComputeFn, NoFn, Slot};
 use flurry_steps::party::{Call, Event, Party, Want};
+use flurry_sweeps::{Sweep, SweepEvent};
 use std::process::Abort;
 
 // The step of a walk that wants to read this slot.
@@ -18,7 +18,7 @@ fn look(
     map: &mut Map,
     table: u8,
     index: usize,
-) -> Event
+) -> SweepEvent
     requires { swept_part walk.old ≡ LookPart table index }
 {
     let slot = lent(rt, map, table, index);
@@ -34,7 +34,7 @@ fn wipe(
     map: &mut Map,
     table: u8,
     index: usize,
-) -> Event
+) -> SweepEvent
     requires { swept_part clear.old ≡ BinPart table index }
 {
     let mut slot = lent(rt, map, table, index);
@@ -44,7 +44,7 @@ fn wipe(
 }
 
 // The next step, at the part that the call wants.
-fn step(rt: &impl Abort, sweep: &mut Sweep<u64, u64>, map: &mut Map) -> Event {
+fn step(rt: &impl Abort, sweep: &mut Sweep<u64, u64>, map: &mut Map) -> SweepEvent {
     match sweep.want() {
         Want::Control => sweep.on_control(&mut map.control),
         Want::Look(table, index) => look(rt, sweep, map, table, index),
@@ -56,13 +56,13 @@ fn step(rt: &impl Abort, sweep: &mut Sweep<u64, u64>, map: &mut Map) -> Event {
 // So many steps, in which nothing is read or wiped.
 fn silent(rt: &impl Abort, sweep: &mut Sweep<u64, u64>, map: &mut Map, count: u64) {
     for at in 0..count {
-        same_at(rt, at, step(rt, sweep, map), Event::Silent);
+        same_at(rt, at, step(rt, sweep, map), SweepEvent::Silent);
     }
 }
 
 // A step that reads this pair.
 fn reads(rt: &impl Abort, walk: &mut Sweep<u64, u64>, map: &mut Map, key: u64, value: u64) {
-    same(rt, step(rt, walk, map), Event::Read);
+    same(rt, step(rt, walk, map), SweepEvent::Read);
     same(rt, walk.last_read(), Some((&key, &value)));
 }
 
@@ -177,7 +177,7 @@ fn a_walk_sets_out_from_a_published_table(rt: HostRuntime) {
     same(&rt, walk.sets_out(), true);
     let start = map.control.start().expect(&rt, "there is a table");
     assert!(&rt; walk.sets_out());
-    same(&rt, walk.on_start(&start), Event::Silent);
+    same(&rt, walk.on_start(&start), SweepEvent::Silent);
     same(&rt, walk.sets_out(), false);
     same(&rt, walk.want(), Want::Look(4, 0));
     silent(&rt, &mut walk, &mut map, 1);
@@ -203,28 +203,51 @@ fn an_unborn_bin_is_met_again(rt: HostRuntime) {
 // Steps of a clear that wipe the bins of that table from the first on.
 fn wipes(rt: &impl Abort, clear: &mut Sweep<u64, u64>, map: &mut Map, table: u8, bins: &[usize]) {
     for at in 0..bins.len() {
-        same_at(rt, at, step(rt, clear, map), Event::Wipe(table, bins[at]));
+        same_at(
+            rt,
+            at,
+            step(rt, clear, map),
+            SweepEvent::Wipe(table, bins[at]),
+        );
     }
 }
 
-// A reserve has moved the last of 64 bins, and stops. The clear wipes the other 63, and of that one its halves.
+// A reserve has moved the last of 64 bins.
+fn moves_a_bin<'k, F: ComputeFn<u64, u64>>(
+    rt: &(impl Abort + AllocGlobal),
+    reserve: &mut Party<'k, u64, u64, F>,
+    map: &mut Map,
+) {
+    goes_on(
+        rt,
+        reserve,
+        map,
+        4,
+        &[
+            Event::Silent,
+            Event::Placed(7),
+            Event::Silent,
+            Event::Moved(6, 63),
+        ],
+    );
+}
+
+// And stops for good.
+fn growth_stops<F: ComputeFn<u64, u64>>(rt: &(impl Abort + AllocGlobal), map: &mut Map) {
+    let mut reserve: Party<'_, u64, u64, F> = Party::new(Call::Reserve(30), 0, 2);
+    moves_a_bin(rt, &mut reserve, map);
+    drop(reserve);
+}
+
+// Beside that growth the clear wipes the other 63, and of that one its halves.
 #[test]
 fn a_clear_beside_a_growth_wipes_every_bin(rt: HostRuntime) {
     let mut map = empty_map(rt.alloc(), 2, 0);
-    let (_, reply) = call(&rt, &mut map, 0, Call::Reserve(32));
+    let (_, reply) = call(&rt, &mut map, 0, Call::Reserve(20));
     same(&rt, reply, Told::Ended);
     same(&rt, insert(&rt, &mut map, 50, 50), 3);
     same(&rt, insert(&rt, &mut map, 2, 2), 3);
-    let mut party: Party<u64, u64, NoFn> = Party::new(Call::Reserve(30), 0, 2);
-    let events = steps(&rt, &mut party, &mut map, 4);
-    let wanted = [
-        Event::Silent,
-        Event::Placed(7),
-        Event::Silent,
-        Event::Moved(6, 63),
-    ];
-    same(&rt, events.as_slice(), &wanted[..]);
-    drop(party);
+    growth_stops::<NoFn>(&rt, &mut map);
     let mut clear = Sweep::clear();
     silent(&rt, &mut clear, &mut map, 1);
     for index in 0..63usize {
@@ -237,45 +260,5 @@ fn a_clear_beside_a_growth_wipes_every_bin(rt: HostRuntime) {
     has_ended(&rt, &mut clear);
     same(&rt, map.control.len(), 0);
     let (_, reply) = call(&rt, &mut map, 2, Call::Get(&2));
-    same(&rt, reply, Told::Key(KeptReply::Value(None)));
-}
-
-// A walk as a party, which has read key 1.
-fn party_has_read_one(
-    rt: &(impl Abort + AllocGlobal),
-    map: &mut Map,
-) -> Party<'static, u64, u64, NoFn> {
-    let mut party: Party<u64, u64, NoFn> = Party::new(Call::Walk, 0, 1);
-    same(rt, party.last_read().is_none(), true);
-    let events = steps(rt, &mut party, map, 3);
-    let wanted = [Event::Silent, Event::Silent, Event::Read];
-    same(rt, events.as_slice(), &wanted[..]);
-    same(rt, party.last_read(), Some((&1, &0)));
-    party
-}
-
-#[test]
-fn a_walk_is_a_party(rt: HostRuntime) {
-    let mut map = one_and_seventeen(&rt);
-    let mut party = party_has_read_one(&rt, &mut map);
-    let seen = party.seen().expect(&rt, "a further owner");
-    let seen = seen.expect(&rt, "a pair was read");
-    same(&rt, (seen.key(), seen.value()), (&1, &0));
-    drop(seen);
-    let (events, reply) = end(&rt, &mut party, &mut map);
-    same(&rt, events.len(), 16);
-    same(&rt, reply, Told::Ended);
-    same(&rt, party.last_read(), Some((&17, &0)));
-    drop(party);
-}
-
-#[test]
-fn a_clear_is_a_party(rt: HostRuntime) {
-    let mut map = one_and_seventeen(&rt);
-    let (events, reply) = call(&rt, &mut map, 0, Call::Clear);
-    same(&rt, events.len(), 18);
-    same(&rt, reply, Told::Ended);
-    same(&rt, map.control.len(), 0);
-    let (_, reply) = call(&rt, &mut map, 17, Call::Get(&17));
     same(&rt, reply, Told::Key(KeptReply::Value(None)));
 }

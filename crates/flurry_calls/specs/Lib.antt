@@ -1,9 +1,0 @@
-pub mod Part
-pub mod PartView
-pub mod Outcome
-pub mod OutcomeView
-pub mod Cursor
-pub mod CursorView
-pub mod Sweep
-pub mod SweepView
-pub mod SeenView
