@@ -237,7 +237,8 @@ impl<K: Drop, V: Drop, A: Allocator> Sweep<K, V, A> {
 impl<K: Ord + Drop, V: Drop, A: Allocator> Sweep<K, V, A> {
     /// The step of a walk at its slot.
     ///
-    /// As many steps as a look-up in the bin; takes no memory but for further owners of a key and a value.
+    /// As many steps as a look-up in the bin; takes no memory but for further owners of a key and a value. Where one is refused, the
+    /// walk has ended, and what it read before stays ([`SweepEvent::Refused`]).
     pub fn on_look(&mut self, slot: &Slot<K, V, A>) -> SweepEvent
         requires { swept_part self.old ≡ LookPart slot.now.table slot.now.index }
         ensures within { IsSlot K.cmp slot.now }
@@ -255,7 +256,7 @@ impl<K: Ord + Drop, V: Drop, A: Allocator> Sweep<K, V, A> {
 
     /// The step of a clear at its slot.
     ///
-    /// Linear time in the bin; takes no memory.
+    /// Linear time in the bin; takes no memory, and is never refused.
     pub fn on_bin(&mut self, slot: &mut Slot<K, V, A>) -> SweepEvent
         requires { swept_part self.old ≡ BinPart slot.old.table slot.old.index }
         ensures within { IsSlot K.cmp slot.old }

@@ -310,3 +310,23 @@ fn goes_on<'k, F: ComputeFn<u64, u64>>(
     let seen = steps(rt, party, map, count);
     same(rt, seen.as_slice(), events);
 }
+
+// The first steps of a reserve, which moves the last of 64 bins.
+fn moves_the_last_bin<'k, F: ComputeFn<u64, u64>>(
+    rt: &(impl Abort + AllocGlobal),
+    reserve: &mut Party<'k, u64, u64, F>,
+    map: &mut Map,
+) {
+    goes_on(
+        rt,
+        reserve,
+        map,
+        4,
+        &[
+            Event::Silent,
+            Event::Placed(7),
+            Event::Silent,
+            Event::Moved(6, 63),
+        ],
+    );
+}

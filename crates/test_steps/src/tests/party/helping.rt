@@ -1,7 +1,7 @@
 //! Calls that meet the growth of another call.
 
 use super::super::same;
-use super::{Map, answers, call, empty_map, goes_on, insert, steps, value};
+use super::{Map, answers, call, empty_map, insert, moves_the_last_bin, steps, value};
 use flurry_slots::{ComputeFn, NoFn};
 use flurry_steps::party::{Call, Event, Party};
 use std::process::Abort;
@@ -14,18 +14,7 @@ fn reserve_begins<'k, F: ComputeFn<u64, u64>>(
 ) {
     let table = map.control.open(6, &mut map.tables);
     same(rt, table.expect(rt, "memory for the table"), 6);
-    goes_on(
-        rt,
-        reserve,
-        map,
-        4,
-        &[
-            Event::Silent,
-            Event::Placed(7),
-            Event::Silent,
-            Event::Moved(6, 63),
-        ],
-    )
+    moves_the_last_bin(rt, reserve, map)
 }
 
 // Calls that meet that growth.

@@ -4,10 +4,10 @@ ghost use Rattle.flurry_steps.specs.Party.{LookPart, BinPart};
 ghost use Rattle.flurry_sweeps.specs.Sweep.{swept_part};
 
 use super::super::{same, same_at};
-use super::{Map, Told, call, empty_map, goes_on, insert, lent, plain};
+use super::{Map, Told, call, empty_map, insert, lent, moves_the_last_bin, plain};
 use flurry_model::reply::KeptReply;
 use flurry_slots::{ComputeFn, NoFn, Slot};
-use flurry_steps::party::{Call, Event, Party, Want};
+use flurry_steps::party::{Call, Party, Want};
 use flurry_sweeps::{Sweep, SweepEvent};
 use std::process::Abort;
 
@@ -212,30 +212,10 @@ fn wipes(rt: &impl Abort, clear: &mut Sweep<u64, u64>, map: &mut Map, table: u8,
     }
 }
 
-// A reserve has moved the last of 64 bins.
-fn moves_a_bin<'k, F: ComputeFn<u64, u64>>(
-    rt: &(impl Abort + AllocGlobal),
-    reserve: &mut Party<'k, u64, u64, F>,
-    map: &mut Map,
-) {
-    goes_on(
-        rt,
-        reserve,
-        map,
-        4,
-        &[
-            Event::Silent,
-            Event::Placed(7),
-            Event::Silent,
-            Event::Moved(6, 63),
-        ],
-    );
-}
-
-// And stops for good.
+// A growth that has moved one bin, and whose call stops there for good.
 fn growth_stops<F: ComputeFn<u64, u64>>(rt: &(impl Abort + AllocGlobal), map: &mut Map) {
     let mut reserve: Party<'_, u64, u64, F> = Party::new(Call::Reserve(30), 0, 2);
-    moves_a_bin(rt, &mut reserve, map);
+    moves_the_last_bin(rt, &mut reserve, map);
     drop(reserve);
 }
 
