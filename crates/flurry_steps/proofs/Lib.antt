@@ -1,5 +1,3 @@
-pub mod Acts
+pub mod Cursors
 pub mod Decisions
-pub mod Events
 pub mod Rooms
-pub mod Singles

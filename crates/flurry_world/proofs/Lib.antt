@@ -24,6 +24,3 @@ pub mod BeginLaws
 pub mod WorldSteps
 pub mod RunLaws
 pub mod LawfulLaws
-pub mod SweepLaws
-pub mod SweepModes
-pub mod SweepCases

@@ -1,3 +1,0 @@
-pub mod FrameLaws
-pub mod Cursors
-pub mod Sweeps

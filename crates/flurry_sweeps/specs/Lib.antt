@@ -1,0 +1,3 @@
+pub mod Sweep
+pub mod SweepView
+pub mod SeenView
