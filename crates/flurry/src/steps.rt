@@ -1,5 +1,6 @@
-//! The control of a shared map, one call in steps, what lends a call the parts that its steps need, and cursors over all bins.
+//! The control of a shared map, one call in steps, what lends a call the parts that its steps need, and walks and clears in steps.
 
+pub use flurry_calls::{Cursor, Seen, Sweep, cursor, sweep};
 pub use flurry_control as control;
 pub use flurry_control::Control;
-pub use flurry_steps::{Cursor, Field, Party, act, cursor, field, party};
+pub use flurry_steps::{Field, Party, act, field, party};

@@ -4,8 +4,10 @@ use Rattle.std.specs.declared.cmp.Ordering.{Ordering}
 use Rattle.std.specs.Cmp.{IsTotalOrder}
 use Rattle.std.proofs.Common.{sym, ◌∙◌, ap, subst, inl, inr}
 use Rattle.flurry_steps.specs.Field.{Loan, Turn, StaysOrDone}
-use Rattle.flurry_steps.specs.Party.{PartyState, Outcome, AtDone, Part}
-use Rattle.flurry_steps.specs.declared.party.Event.{Event}
+use Rattle.flurry_calls.specs.Outcome.{Outcome}
+use Rattle.flurry_calls.specs.Part.{Part}
+use Rattle.flurry_steps.specs.Party.{PartyState, AtDone, final_outcome}
+use Rattle.flurry_calls.specs.declared.step.Event.{Event}
 use Rattle.flurry_theory.specs.Map.{Pairs, same}
 use Rattle.flurry_model.specs.declared.call.Call.{Call}
 use Rattle.flurry_world.specs.Parts.{Parts}
@@ -39,8 +41,8 @@ module _ {S R K V F : Type 0} (place : R → ℕ → Bool → Bool → R → Typ
         room_now = subst (λ z. Room n (left z.stage) is.world.control_state.count) (sym is.party_state) (subst (λ z. Room n (left c.stage) z.control_state.count) (sym is.parts) is.room)
 
         by_kind : StepsIn cmp changes is.caller.party_state held ev c' s' → InWorld cmp total hash lawful changes n few p d m s' c'
-        by_kind (inl h) = part_step cmp total hash lawful changes n few p d m is.world is.is_world is.caller is.at is.call is.alone room_now c' s'.control_state s'.tables ev h
-        by_kind (inr h) = subst (λ z. InWorld cmp total hash lawful changes n few p d m z c') (sym h.parts) (start_step cmp total hash lawful changes n few p d m is.world is.is_world is.caller is.at is.call is.alone room_now h.table c' ev h.asks h.start h.silent h.party_state)
+        by_kind (inl h) = part_step cmp total hash lawful changes n few p d m is.world is.is_world is.caller is.at is.call is.alone room_now is.plain c' s'.control_state s'.tables ev h
+        by_kind (inr h) = subst (λ z. InWorld cmp total hash lawful changes n few p d m z c') (sym h.parts) (start_step cmp total hash lawful changes n few p d m is.world is.is_world is.caller is.at is.call is.alone room_now is.plain h.table c' ev h.asks h.start h.silent h.party_state)
 
     -- and all steps of a run
     all : {s s' : S} {c c' : PartyState K V F} → Turns (Turn place cmp changes lends) s c s' c' → InWorld cmp total hash lawful changes n few p d m (parts s) c → InWorld cmp total hash lawful changes n few p d m (parts s') c'
@@ -48,9 +50,9 @@ module _ {S R K V F : Type 0} (place : R → ℕ → Bool → Bool → R → Typ
     all {s' = s'} {c' = c'} (further {s' = u} {p' = e} ev turns turn) is = over (parts u) (parts s') e c' ev (own_step place cmp changes room t.places (parts u) (parts s') e c' ev turn.loan (t.lends_own u turn.loan s' turn.lent) turn.step) (all turns is)
 
     -- to the call's end
-    last : (s : Parts K V) (c : PartyState K V F) (r : Outcome K V) → c.stage ≡ AtDone r → InWorld cmp total hash lawful changes n few p d m s c → (m' : Pairs K V) × Answers cmp hash changes d m r m' × Holds cmp hash changes n s m'
+    last : (s : Parts K V) (c : PartyState K V F) (r : Outcome K V) → final_outcome c.stage ≡ Some r → InWorld cmp total hash lawful changes n few p d m s c → (m' : Pairs K V) × Answers cmp hash changes d m r m' × Holds cmp hash changes n s m'
     last s c r e is =
-        let done = ended cmp total hash lawful changes n few p d m is.world is.is_world is.caller is.at is.call is.alone room_now r (ap (λ z. z.stage) is.party_state ∙ e) in
+        let done = ended cmp total hash lawful changes n few p d m is.world is.is_world is.caller is.at is.call is.alone room_now is.plain r (ap (λ z. final_outcome z.stage) is.party_state ∙ e) in
         (done.0, done.1, subst (λ z. Holds cmp hash changes n z done.0) is.parts done.2)
       where
         room_now : Room n (left is.caller.party_state.stage) is.world.control_state.count
@@ -58,9 +60,9 @@ module _ {S R K V F : Type 0} (place : R → ℕ → Bool → Bool → R → Typ
 
 -- a run to the reply is exact
 pub exact : {S R K V F : Type 0} (place : R → ℕ → Bool → Bool → R → Type 0) (cmp : K → K → Ordering) (total : IsTotalOrder cmp) (changes : F → K → V → Option V → Type 0) (lends : S → Loan K V R → S → Type 0) (lacks : S → Part → Type 0) (s s' : S) (c c' : PartyState K V F) (r : Outcome K V)
-    → Turns (Turn place cmp changes lends) s c s' c' → c'.stage ≡ AtDone r → IsExact place cmp changes lends lacks s c r s'
-exact place cmp total changes lends lacks s s' c c' r runs done parts room t hash alike k fresh n m few h =
+    → Turns (Turn place cmp changes lends) s c s' c' → final_outcome c'.stage ≡ Some r → IsExact place cmp changes lends lacks s c r s'
+exact place cmp total changes lends lacks s s' c c' r runs done parts room t hash alike k plain fresh n m few h =
     let lawful = alike_class cmp hash alike in
-    let least = small cmp total hash lawful changes n few m (parts s) h k c fresh in
+    let least = small cmp total hash lawful changes n few m (parts s) h k c fresh plain in
     last place cmp total changes lends lacks parts room t hash lawful (n + 1) least (length h.world.party_records) (theory_call k) m (parts s') c' r done
-    (all place cmp total changes lends lacks parts room t hash lawful (n + 1) least (length h.world.party_records) (theory_call k) m runs (begins cmp total hash lawful changes n few m (parts s) h k c fresh))
+    (all place cmp total changes lends lacks parts room t hash lawful (n + 1) least (length h.world.party_records) (theory_call k) m runs (begins cmp total hash lawful changes n few m (parts s) h k c fresh plain))

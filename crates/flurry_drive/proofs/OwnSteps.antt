@@ -4,7 +4,7 @@ use Rattle.std.specs.declared.cmp.Ordering.{Ordering}
 use Rattle.std.proofs.Common.{inl, inr}
 use Rattle.flurry_steps.specs.Field.{Loan, ControlLoan, StartLoan, TallyLoan, LookLoan, BinLoan, MoveLoan, StepWith}
 use Rattle.flurry_steps.specs.Party.{PartyState}
-use Rattle.flurry_steps.specs.declared.party.Event.{Event}
+use Rattle.flurry_calls.specs.declared.step.Event.{Event}
 use Rattle.flurry_world.specs.Parts.{Parts, IsOwn}
 use Rattle.flurry_world.specs.Tables.{Tables, PlaceGives}
 use Rattle.flurry_world.proofs.PartsLaws.{own_part}

@@ -1,5 +1,5 @@
 -- A call that is driven, as one more caller of a world.
-use Rattle.std.specs.Prelude.{◌≡◌, ◌⊎◌, ℕ, suc, ◌+◌, ◌^◌, ◌≤◌, ◌<◌, Bool, true, false, cond, [], ◌∷◌, ◌++◌, length, reverse, slice_get, nat_lt, Option, Some, None, is_some}
+use Rattle.std.specs.Prelude.{◌≡◌, ◌⊎◌, ℕ, suc, ◌+◌, ◌^◌, ◌≤◌, ◌<◌, Bool, true, false, cond, [], ◌∷◌, ◌++◌, length, reverse, slice_get, nat_lt, Option, Some, None, is_some, ⊤}
 use Rattle.std.specs.declared.cmp.Ordering.{Ordering}
 use Rattle.std.specs.Cmp.{IsTotalOrder}
 use Rattle.std.proofs.Common.{arith, refl, sym, ◌∙◌, ap, subst, inl, inr}
@@ -9,9 +9,12 @@ use Rattle.std.proofs.lemmas.List.{reverse-append}
 use Rattle.std.proofs.lemmas.Option.{slice_get_within}
 use Rattle.flurry_slots.specs.Slot.{Content, IsLive, HasMoved, IsUnborn}
 use Rattle.flurry_control.specs.Control.{ControlState}
-use Rattle.flurry_steps.specs.Party.{OutcomeReply, OutcomeEnded, OutcomeRefused, Outcome, Stage, AtLocate, AtBin, AtClaim, AtMove, AtUncount, AtCount, AtRecount, AtBegin, AtGrow, AtReserve, AtDone, AtTaken, PartyState, wanted_part, with_stage, started_stage, locates, outcome_in}
-use Rattle.flurry_steps.specs.declared.party.Event.{Event}
-use Rattle.flurry_steps.specs.declared.party.Event.TheVariants as event
+use Rattle.flurry_calls.specs.Outcome.{OutcomeReply, OutcomeEnded, OutcomeRefused, Outcome}
+use Rattle.flurry_steps.specs.Party.{Stage, AtLocate, AtBin, AtClaim, AtMove, AtUncount, AtCount, AtRecount, AtBegin, AtGrow, AtReserve, AtSweep, IsSingle, final_outcome, AtDone, AtTaken, PartyState, wanted_part, with_stage, started_stage, locates, outcome_in, last_seen}
+use Rattle.flurry_calls.specs.declared.step.Event.{Event}
+use Rattle.flurry_calls.specs.declared.step.Event.TheVariants as event
+use Rattle.flurry_calls.specs.Sweep.{Errand, Reads, Wipes}
+use Rattle.flurry_model.specs.declared.call.Seen.{Seen}
 use Rattle.flurry_steps.specs.declared.party.call.OwnedCall.{OwnedCall}
 use Rattle.flurry_model.specs.declared.reply.KeptReply.{KeptReply}
 use Rattle.flurry_theory.specs.Map.{Pairs, same, after, Allows, CanBeRefused}
@@ -24,39 +27,72 @@ use Rattle.flurry_model.specs.declared.call.Call.{Call}
 use Rattle.flurry_model.specs.declared.call.Call.TheVariants as call
 use Rattle.flurry_theory.specs.declared.Label.TheVariants as label
 use Rattle.flurry_world.specs.Entries.{slot_of}
-use Rattle.flurry_world.specs.Tables.{Tables, content_at}
+use Rattle.flurry_world.specs.Tables.{Tables, content_at, PlaceGives}
 use Rattle.flurry_world.specs.Parts.{PartStep}
-use Rattle.flurry_world.specs.World.{PartyRecord, WorldState, Near, state_of, mode_of_stage, claim_of_stage, task_of_call, FollowsStage, IsWorld}
+use Rattle.flurry_world.specs.World.{PartyRecord, WorldState, Near, state_of, mode_of_stage, claim_of_stage, task_of_call, FollowsErrand, FollowsStage, IsWorld}
 use Rattle.flurry_world.specs.Steps.{with_step, with_party_record, label_of, decide_label}
 use Rattle.flurry_world.specs.Runs.{theory_call}
 use Rattle.flurry_world.proofs.StateLaws.{get_set}
 use Rattle.flurry_world.proofs.CallLaws.{found_task}
 use Rattle.flurry_world.proofs.TransitionLaws.{is_finds}
-use Rattle.flurry_world.proofs.Frames.{same_frame, kept, IsStep}
+use Rattle.flurry_world.proofs.Frames.{same_frame, step_of, kept, IsStep}
 use Rattle.flurry_world.proofs.Cases.{calls, in_mode}
 use Rattle.flurry_world.proofs.BeginLaws.{fresh_stage}
 use Rattle.flurry_world.proofs.WorldLaws.{began, goes_on, get_append}
-use Rattle.flurry_world.specs.Parts.{Parts, IsStart}
-use Rattle.flurry_drive.specs.Exact.{Holds, Answers, IsFresh}
+use Rattle.flurry_steps.proofs.Events.{IsSweepEvent, single_at_control, single_at_slot, single_at_move}
+use Rattle.flurry_calls.specs.Part.{Part, ControlPart, LookPart, BinPart, MovePart, NoPart}
+use Rattle.flurry_world.specs.Parts.{Parts, PartStep, IsStart}
+use Rattle.flurry_drive.specs.Exact.{Holds, Answers, IsFresh, IsPlain}
 use Rattle.flurry_drive.proofs.Trace.{IsOwnLabel, ByEnd, Alone, alone_more, alone_began, itself}
 use Rattle.flurry_drive.proofs.CountLaws.{left, left_most, Room, near_of, room_left}
 use Rattle.flurry_model.specs.declared.sizes.TheConstants.{MOST_LABELS}
 
+-- a stage of such a call does not go over all bins either
+errand_plain : {K V F : Type 0} (d : Call K V F) (w : Errand) (z : Option (Seen K V)) → IsPlain d → FollowsErrand d w z → ⊥
+errand_plain d Reads z plain f = subst IsPlain f plain
+errand_plain d (Wipes n) z plain f = subst IsPlain f.0 plain
+
+follows_single : {K V F : Type 0} (hash : K → ℕ) (d : Call K V F) (s : Stage K V F) → IsPlain d → FollowsStage hash d s → IsSingle s
+follows_single hash d (AtLocate t) plain h = tt
+follows_single hash d (AtBin t e) plain h = tt
+follows_single hash d (AtClaim a) plain h = tt
+follows_single hash d (AtMove c a) plain h = tt
+follows_single hash d (AtUncount r) plain h = tt
+follows_single hash d (AtCount r) plain h = tt
+follows_single hash d (AtRecount r) plain h = tt
+follows_single hash d (AtBegin e r) plain h = tt
+follows_single hash d (AtGrow w g) plain h = tt
+follows_single hash d (AtReserve a) plain h = tt
+follows_single hash d (AtSweep w) plain h = errand_plain d w.errand w.last plain h.0
+follows_single hash d (AtDone r) plain h = tt
+follows_single hash d AtTaken plain h = tt
+
+-- so its step at a part reads and wipes nothing
+module _ {K V F : Type 0} (cmp : K → K → Ordering) (changes : F → K → V → Option V → Type 0) (c : PartyState K V F) (b : ControlState) (t : Tables K V) (ev : Event) (c' : PartyState K V F) (b' : ControlState) (t' : Tables K V) (single : IsSingle c.stage) where
+  single_part : (a : Part) → PartStep cmp changes a c b t ev c' b' t' → IsSweepEvent ev → ⊥
+  single_part ControlPart h = single_at_control PlaceGives c.processors b t ev c'.stage b' t' c.stage single h.step
+  single_part (LookPart e i) (q, there, inside, h, y, z) = single_at_slot cmp changes c.hash ev c'.stage q.content c.stage q.content single h.step
+  single_part (BinPart e i) (q, q', there, inside, h, y, z) = single_at_slot cmp changes c.hash ev c'.stage q'.content c.stage q.content single h.step
+  single_part (MovePart e i) (q, low, high, q', low', high', old_at, low_at, high_at, inside, h, y, z) = single_at_move c q low high ev c' q' low' high' h.step
+  single_part NoPart h = absurd h
+
 -- the label of a step is one that a party may have when it is alone
-own_label : {K V F : Type 0} (p : ℕ) (ev : Event) (s : Stage K V F) → IsOwnLabel p (label_of p ev s)
-own_label {K} {V} {F} p event.Decide s = decided (outcome_in s)
+own_label : {K V F : Type 0} (p : ℕ) (ev : Event) (s : Stage K V F) → (IsSweepEvent ev → ⊥) → IsOwnLabel p (label_of p ev s)
+own_label {K} {V} {F} p event.Decide s other = decided (outcome_in s)
   where
     decided : (o : Option (Outcome K V)) → IsOwnLabel {F = F} p (decide_label p o)
     decided None = tt
     decided (Some (OutcomeReply r)) = refl
     decided (Some OutcomeEnded) = tt
     decided (Some OutcomeRefused) = tt
-own_label p event.Refused s = refl
-own_label p (event.Opened e) s = tt
-own_label p (event.Placed e) s = tt
-own_label p (event.Moved e i) s = tt
-own_label p (event.Published e) s = tt
-own_label p event.Silent s = tt
+own_label p event.Read s other = absurd (other tt)
+own_label p (event.Wipe e i) s other = absurd (other tt)
+own_label p event.Refused s other = refl
+own_label p (event.Opened e) s other = tt
+own_label p (event.Placed e) s other = tt
+own_label p (event.Moved e i) s other = tt
+own_label p (event.Published e) s other = tt
+own_label p event.Silent s other = tt
 
 module _ {K V F : Type 0} (cmp : K → K → Ordering) (total : IsTotalOrder cmp) (hash : K → ℕ) (lawful : (j k : K) → same cmp j k ≡ true → hash j ≡ hash k) (gives : F → K → V → Option V → Type 0) (n : ℕ) (few : n ≤ MOST_LABELS) (p : ℕ) (d : Call K V F) (m : Pairs K V) where
   -- the parts s are those of a world, in which party p is a caller with the call d, which began on the map m, was alone since, and
@@ -67,26 +103,34 @@ module _ {K V F : Type 0} (cmp : K → K → Ordering) (total : IsTotalOrder cmp
     pub caller : PartyRecord K V F
     pub at : slice_get world.party_records p ≡ Some caller
     pub call : caller.call ≡ d
+    pub plain : IsPlain d
     pub party_state : caller.party_state ≡ c
     pub parts : record { control_state = world.control_state; tables = world.tables } ≡ s
     pub alone : Alone cmp hash gives p d m (reverse world.trace)
     pub room : Room n (left c.stage) s.control_state.count
 
-  module _ (w : WorldState K V F (Unit {0})) (k : IsWorld cmp hash gives w) (x : PartyRecord K V F) (at : slice_get w.party_records p ≡ Some x) (called : x.call ≡ d) (alone : Alone cmp hash gives p d m (reverse w.trace)) (room : Room n (left x.party_state.stage) w.control_state.count) where
+  module _ (w : WorldState K V F (Unit {0})) (k : IsWorld cmp hash gives w) (x : PartyRecord K V F) (at : slice_get w.party_records p ≡ Some x) (called : x.call ≡ d) (alone : Alone cmp hash gives p d m (reverse w.trace)) (room : Room n (left x.party_state.stage) w.control_state.count) (plain : IsPlain d) where
+    single : IsSingle x.party_state.stage
+    single = follows_single hash x.call x.party_state.stage (subst IsPlain (sym called) plain) (k.party_records p x at).stage
+
+    no_walk : x.call ≡ call.Walk → ⊥
+    no_walk h = subst IsPlain (sym called ∙ h) plain
+
     near : Near (2 ^ 62) w.control_state.count
     near = let z = near_of n (left x.party_state.stage) w.control_state.count room in record { most = omega (arith, ints, z.most, few); least = omega (arith, ints, z.least, few) }
 
     -- the world after a step
-    stepped : (c : PartyState K V F) (b : ControlState) (t : Tables K V) (ev : Event) → IsWorld cmp hash gives (with_step w p x b t c (label_of p ev c.stage)) → Room n (left c.stage) b.count → InWorld (record { control_state = b; tables = t }) c
-    stepped c b t ev after counted = record {
+    stepped : (c : PartyState K V F) (b : ControlState) (t : Tables K V) (ev : Event) → (IsSweepEvent ev → ⊥) → IsWorld cmp hash gives (with_step w p x b t c (label_of p ev c.stage)) → Room n (left c.stage) b.count → InWorld (record { control_state = b; tables = t }) c
+    stepped c b t ev other after counted = record {
       world = with_step w p x b t c (label_of p ev c.stage);
       is_world = after;
       caller = new;
       at = get_set w.party_records p p new (slice_get_within w.party_records p x at) ∙ ap (λ z. cond z (Some new) (slice_get w.party_records p)) (itself p);
       call = called;
+      plain = plain;
       party_state = refl;
       parts = refl;
-      alone = subst (Alone cmp hash gives p d m) (sym turned) (alone_more cmp hash gives p d m (reverse w.trace) alone (label_of p ev c.stage) (own_label p ev c.stage) may);
+      alone = subst (Alone cmp hash gives p d m) (sym turned) (alone_more cmp hash gives p d m (reverse w.trace) alone (label_of p ev c.stage) (own_label p ev c.stage other) may);
       room = counted;
     }
       where
@@ -101,9 +145,9 @@ module _ {K V F : Type 0} (cmp : K → K → Ordering) (total : IsTotalOrder cmp
 
     -- a step at the part that the call wants
     pub part_step : (c : PartyState K V F) (b : ControlState) (t : Tables K V) (ev : Event) → PartStep cmp gives (wanted_part x.party_state) x.party_state w.control_state w.tables ev c b t → InWorld (record { control_state = b; tables = t }) c
-    part_step c b t ev h = stepped c b t ev
-        (goes_on cmp total hash lawful gives w k near p x at (label_of p ev c.stage) c b t (record { event = ev; part = h; label_is = refl }))
-        (room_left cmp gives n few x.party_state w.control_state w.tables ev c b t room (wanted_part x.party_state) h)
+    part_step c b t ev h = stepped c b t ev (single_part cmp gives x.party_state w.control_state w.tables ev c b t single (wanted_part x.party_state) h)
+        (goes_on cmp total hash lawful gives w k near p x at single no_walk (label_of p ev c.stage) c b t (record { event = ev; part = h; label_is = refl }))
+        (room_left cmp gives n few x.party_state w.control_state w.tables ev c b t room single (wanted_part x.party_state) h)
 
     -- a step at a number that was published
     pub start_step : (e : ℕ) (c : PartyState K V F) (ev : Event) → locates x.party_state.stage ≡ true → IsStart (record { control_state = w.control_state; tables = w.tables }) e → ev ≡ event.Silent → c ≡ with_stage x.party_state (started_stage e x.party_state.stage) → InWorld (record { control_state = w.control_state; tables = w.tables }) c
@@ -125,19 +169,19 @@ module _ {K V F : Type 0} (cmp : K → K → Ordering) (total : IsTotalOrder cmp
         not_there h = let no : true ≡ false = sym loc ∙ h in cc
 
         by_stage : (s : Stage K V F) → x.party_state.stage ≡ s → InWorld (record { control_state = w.control_state; tables = w.tables }) c
-        by_stage (AtLocate t) f = stepped c w.control_state w.tables ev
-            (kept cmp hash gives total lawful w p x w.control_state w.tables c (label_of p ev c.stage) k at (ap (λ r. r.hash) is)
+        by_stage (AtLocate t) f = stepped c w.control_state w.tables ev (λ u. subst IsSweepEvent silent u)
+            (kept cmp hash gives total lawful w p x w.control_state w.tables c (label_of p ev c.stage) k at (step_of cmp hash gives w p x w.control_state w.tables c (label_of p ev c.stage) at (ap (λ r. r.hash) is) (ap last_seen stands ∙ sym (ap last_seen f))
             (subst (λ v. IsStep cmp hash gives w p x w.control_state w.tables c (label_of p v c.stage)) (sym silent) (record {
               line = Finds e;
               can = (x.call, calls cmp total hash lawful gives w k p x at c, in_mode cmp total hash lawful gives w k p x at c (AtLocate t) f, published);
               is = is_finds cmp hash gives w p x at c e (ap mode_of_stage stands ∙ sym (found_task x.call t e follows)) (ap claim_of_stage stands ∙ sym (ap claim_of_stage f));
-              follows = subst (FollowsStage x.call) (sym stands) follows;
+              follows = subst (FollowsStage hash x.call) (sym stands) follows;
               frame = same_frame cmp hash gives w k;
-            })))
+            }))))
             (subst (λ l. Room n l w.control_state.count) (ap left f ∙ sym (ap left stands)) room)
           where
             follows : task_of_call x.call ≡ Some t
-            follows = subst (FollowsStage x.call) f (k.party_records p x at).stage
+            follows = subst (FollowsStage hash x.call) f (k.party_records p x at).stage
 
             stands : c.stage ≡ AtBin t e
             stands = ap (λ r. r.stage) is ∙ ap (started_stage e) f
@@ -150,14 +194,15 @@ module _ {K V F : Type 0} (cmp : K → K → Ordering) (total : IsTotalOrder cmp
         by_stage (AtBegin g r) f = absurd (not_there (ap locates f))
         by_stage (AtGrow g r) f = absurd (not_there (ap locates f))
         by_stage (AtReserve a) f = absurd (not_there (ap locates f))
+        by_stage (AtSweep z) f = absurd (subst IsSingle f single)
         by_stage (AtDone r) f = absurd (not_there (ap locates f))
         by_stage AtTaken f = absurd (not_there (ap locates f))
 
     -- the call is done
-    pub ended : (r : Outcome K V) → x.party_state.stage ≡ AtDone r → (m' : Pairs K V) × Answers cmp hash gives d m r m' × Holds cmp hash gives n (record { control_state = w.control_state; tables = w.tables }) m'
+    pub ended : (r : Outcome K V) → final_outcome x.party_state.stage ≡ Some r → (m' : Pairs K V) × Answers cmp hash gives d m r m' × Holds cmp hash gives n (record { control_state = w.control_state; tables = w.tables }) m'
     ended r f = (
       pairs cmp hash (reverse w.trace),
-      answers r f,
+      answers r (done x.party_state.stage refl f),
       record {
         world = w;
         is_world = k;
@@ -171,6 +216,21 @@ module _ {K V F : Type 0} (cmp : K → K → Ordering) (total : IsTotalOrder cmp
         ok : PartyOk (state_of w) p
         ok = k.state.1.parties p
 
+        done : (s : Stage K V F) → x.party_state.stage ≡ s → final_outcome s ≡ Some r → x.party_state.stage ≡ AtDone r
+        done (AtLocate t) e h = cc
+        done (AtBin t g) e h = cc
+        done (AtClaim a) e h = cc
+        done (AtMove z a) e h = cc
+        done (AtUncount q) e h = cc
+        done (AtCount q) e h = cc
+        done (AtRecount q) e h = cc
+        done (AtBegin g q) e h = cc
+        done (AtGrow g q) e h = cc
+        done (AtReserve a) e h = cc
+        done (AtSweep z) e h = absurd (subst IsSingle e single)
+        done (AtDone q) e h = let one : q ≡ r = cc in e ∙ ap AtDone one
+        done AtTaken e h = cc
+
         mode : (q : Outcome K V) → x.party_state.stage ≡ AtDone q → (state_of w).mode p ≡ mode_of_stage {F = F} (AtDone q)
         mode q e = in_mode cmp total hash lawful gives w k p x at x.party_state (AtDone q) e
 
@@ -179,7 +239,7 @@ module _ {K V F : Type 0} (cmp : K → K → Ordering) (total : IsTotalOrder cmp
         answers OutcomeEnded e =
             let none : decision (reverse w.trace) p ≡ None = ok.undecided (λ z a b h. other (sym (mode OutcomeEnded e) ∙ h)) (λ h. going (sym (mode OutcomeEnded e) ∙ h)) in
             let open_yet : has_closed (reverse w.trace) p ≡ false = (ok.going (λ h. going (sym (mode OutcomeEnded e) ∙ h))).1 in
-            let (a, is) = subst (FollowsStage x.call) e (k.party_records p x at).stage in
+            let (a, is) = subst (FollowsStage hash x.call) e (k.party_records p x at).stage in
             (a, sym called ∙ is, subst (λ b. ByEnd cmp hash gives p d m None b (pairs cmp hash (reverse w.trace))) open_yet (subst (λ o. ByEnd cmp hash gives p d m o (has_closed (reverse w.trace) p) (pairs cmp hash (reverse w.trace))) none alone.end))
           where
             other : {z : KeptReply K V} {a b : ℕ} → Done None 0 0 ≡ Done (Some z) a b → ⊥
@@ -229,7 +289,7 @@ module _ {K V F : Type 0} (cmp : K → K → Ordering) (total : IsTotalOrder cmp
                 by_kind false h = no_reply d q m h allowed
 
 module _ {K V F : Type 0} (cmp : K → K → Ordering) (total : IsTotalOrder cmp) (hash : K → ℕ) (lawful : (j k : K) → same cmp j k ≡ true → hash j ≡ hash k) (gives : F → K → V → Option V → Type 0) where
-  module _ (n : ℕ) (few : n < MOST_LABELS) (m : Pairs K V) (s : Parts K V) (h : Holds cmp hash gives n s m) (c : OwnedCall K V F) (q : PartyState K V F) (fresh : IsFresh cmp hash gives c q) where
+  module _ (n : ℕ) (few : n < MOST_LABELS) (m : Pairs K V) (s : Parts K V) (h : Holds cmp hash gives n s m) (c : OwnedCall K V F) (q : PartyState K V F) (fresh : IsFresh cmp hash gives c q) (plain : IsPlain (theory_call c)) where
     pub small : n + 1 ≤ 2 ^ 62
     small = omega (arith, few)
 
@@ -237,10 +297,11 @@ module _ {K V F : Type 0} (cmp : K → K → Ordering) (total : IsTotalOrder cmp
     pub begins : InWorld cmp total hash lawful gives (n + 1) small (length h.world.party_records) (theory_call c) m s q
     begins = record {
       world = with_party_record h.world (theory_call c) q;
-      is_world = began cmp total hash lawful gives h.world h.is_world near (theory_call c) q (ap mode_of_stage fresh.stage ∙ (fresh_stage c).1) (ap claim_of_stage fresh.stage ∙ (fresh_stage c).2) fresh.hash_is (subst (FollowsStage (theory_call c)) (sym fresh.stage) (fresh_stage c).0);
+      is_world = began cmp total hash lawful gives h.world h.is_world near (theory_call c) q (ap mode_of_stage fresh.stage ∙ (fresh_stage hash c).1) (ap claim_of_stage fresh.stage ∙ (fresh_stage hash c).2) (ap last_seen fresh.stage ∙ (fresh_stage hash c).3) fresh.hash_is (subst (FollowsStage hash (theory_call c)) (sym fresh.stage) (fresh_stage hash c).0);
       caller = new;
       at = get_append h.world.party_records new (length h.world.party_records) ∙ ap (λ z. cond z (Some new) (slice_get h.world.party_records (length h.world.party_records))) (itself (length h.world.party_records));
       call = refl;
+      plain = plain;
       party_state = refl;
       parts = (λ i. record { control_state = h.control_state i; tables = h.tables i });
       alone = subst (Alone cmp hash gives (length h.world.party_records) (theory_call c) m) (sym turned) (alone_began cmp hash gives (length h.world.party_records) (theory_call c) m (reverse h.world.trace) unknown.4 unknown.3 unknown.5 h.map);

@@ -1,9 +1,11 @@
 -- What a driven call answers and leaves, over a field that tells its parts and that nobody else changes.
-use Rattle.std.specs.Prelude.{◌≡◌, ℕ, ◌+◌, ◌<◌, Bool, Option, Some, reverse}
+use Rattle.std.specs.Prelude.{◌≡◌, ℕ, ◌+◌, ◌<◌, Bool, Option, Some, reverse, ⊤}
 use Rattle.std.specs.declared.cmp.Ordering.{Ordering}
 use Rattle.std.specs.declared.cmp.Ordering.TheVariants.{Equal}
 use Rattle.flurry_steps.specs.Field.{Loan}
-use Rattle.flurry_steps.specs.Party.{Outcome, OutcomeReply, OutcomeEnded, OutcomeRefused, PartyState, Part}
+use Rattle.flurry_calls.specs.Outcome.{Outcome, OutcomeReply, OutcomeEnded, OutcomeRefused}
+use Rattle.flurry_calls.specs.Part.{Part}
+use Rattle.flurry_steps.specs.Party.{PartyState}
 use Rattle.flurry_steps.specs.PartyView.{owned_stage}
 use Rattle.flurry_steps.specs.declared.party.call.OwnedCall.{OwnedCall}
 use Rattle.flurry_theory.specs.Map.{Pairs, key_of, after, Allows, CanBeRefused}
@@ -16,6 +18,12 @@ use Rattle.flurry_world.specs.Tables.{Tables}
 use Rattle.flurry_world.specs.World.{WorldState, Near, IsWorld}
 use Rattle.flurry_drive.specs.Tells.{Tells}
 use Rattle.flurry_model.specs.declared.sizes.TheConstants.{MOST_LABELS}
+
+-- the call does not go over all bins
+abbrev pub IsPlain : {K V F : Type 0} → Call K V F → Type 0
+IsPlain call.Clear = ⊥
+IsPlain call.Walk = ⊥
+IsPlain d = ⊤
 
 module _ {K V F : Type 0} (cmp : K → K → Ordering) (hash : K → ℕ) (changes : F → K → V → Option V → Type 0) where
   -- The parts stand as a world keeps them, whatever calls have begun there and wherever these stand. They hold the map m, and their
@@ -44,11 +52,12 @@ module _ {K V F : Type 0} (cmp : K → K → Ordering) (hash : K → ℕ) (chang
   abbrev pub DrivesTo : OwnedCall K V F → ℕ → Parts K V → Pairs K V → Outcome K V → Parts K V → Type 0
   DrivesTo c n s m r s' = (m' : Pairs K V) × Answers (theory_call c) m r m' × Holds (n + 1) s' m'
 
--- over a field that tells its parts, which stand as a world keeps them, a call that did no step yet does what the finite map does
+-- over a field that tells its parts, which stand as a world keeps them, a call that did no step yet, and does not go over all bins,
+-- does what the finite map does
 abbrev pub IsExact : {S R K V F : Type 0} (place : R → ℕ → Bool → Bool → R → Type 0) (cmp : K → K → Ordering) (changes : F → K → V → Option V → Type 0) (lends : S → Loan K V R → S → Type 0) (lacks : S → Part → Type 0) → S → PartyState K V F → Outcome K V → S → Type 0
 IsExact {S} {R} {K} {V} {F} place cmp changes lends lacks s p r s' =
     (parts : S → Parts K V) (room : R → Tables K V) → Tells parts room place lends lacks
     → (hash : K → ℕ) → ((j k : K) → cmp j k ≡ Equal → hash j ≡ hash k)
-    → (c : OwnedCall K V F) → IsFresh cmp hash changes c p
+    → (c : OwnedCall K V F) → IsPlain (theory_call c) → IsFresh cmp hash changes c p
     → (n : ℕ) (m : Pairs K V) → n < MOST_LABELS → Holds cmp hash changes n (parts s) m
     → DrivesTo cmp hash changes c n (parts s) m r (parts s')

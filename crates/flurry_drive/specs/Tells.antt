@@ -2,9 +2,10 @@
 use Rattle.std.specs.Prelude.{◌≡◌, ◌⊎◌, ℕ, Bool, true, Option}
 use Rattle.std.specs.declared.cmp.Ordering.{Ordering}
 use Rattle.flurry_steps.specs.Field.{Loan}
-use Rattle.flurry_steps.specs.Party.{PartyState, Part, locates, started_stage, wanted_part, with_stage}
-use Rattle.flurry_steps.specs.declared.party.Event.{Event}
-use Rattle.flurry_steps.specs.declared.party.Event.TheVariants as event
+use Rattle.flurry_calls.specs.Part.{Part}
+use Rattle.flurry_steps.specs.Party.{PartyState, locates, started_stage, wanted_part, with_stage}
+use Rattle.flurry_calls.specs.declared.step.Event.{Event}
+use Rattle.flurry_calls.specs.declared.step.Event.TheVariants as event
 use Rattle.flurry_world.specs.Parts.{Parts, IsStart, IsOwn, IsThere, PartStep}
 use Rattle.flurry_world.specs.Tables.{Tables, PlaceGives}
 

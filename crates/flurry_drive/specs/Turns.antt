@@ -1,7 +1,8 @@
 -- Steps of a call, one after another.
-use Rattle.std.specs.Prelude.{◌≡◌}
-use Rattle.flurry_steps.specs.Party.{PartyState, Outcome, AtDone, AtTaken, with_stage}
-use Rattle.flurry_steps.specs.declared.party.Event.{Event}
+use Rattle.std.specs.Prelude.{◌≡◌, Some}
+use Rattle.flurry_calls.specs.Outcome.{Outcome}
+use Rattle.flurry_steps.specs.Party.{PartyState, final_outcome, taken_stage, with_stage}
+use Rattle.flurry_calls.specs.declared.step.Event.{Event}
 
 -- steps of a relation, one after another
 pub data Turns {S P E : Type 0} (step : S → P → E → S → P → Type 0) : S → P → S → P → Type 0 where
@@ -12,5 +13,5 @@ pub data Turns {S P E : Type 0} (step : S → P → E → S → P → Type 0) : 
 pub record TurnsTo {S K V F : Type 0} (step : S → PartyState K V F → Event → S → PartyState K V F → Type 0) (s : S) (p : PartyState K V F) (r : Outcome K V) (s' : S) (p' : PartyState K V F) : Type 0 where
   pub last : PartyState K V F
   pub turns : Turns step s p s' last
-  pub done : last.stage ≡ AtDone r
-  pub after : p' ≡ with_stage last AtTaken
+  pub done : final_outcome last.stage ≡ Some r
+  pub after : p' ≡ with_stage last (taken_stage last.stage)

@@ -1,14 +1,16 @@
 //! Calls, driven to their end.
 ghost use Rattle.std.specs.Prelude.{◌≡◌, ◌<◌, ◌^◌, ℕ, []};
 ghost use Rattle.std.specs.declared.cmp.Ordering.TheVariants.{Equal};
-ghost use Rattle.flurry_drive.specs.Exact.{Holds, DrivesTo, IsExact};
+ghost use Rattle.flurry_drive.specs.Exact.{Holds, DrivesTo, IsExact, IsPlain};
 ghost use Rattle.flurry_drive.specs.Tells.{Tells};
 ghost use Rattle.flurry_drive.specs.Turns.{TurnsTo};
 ghost use Rattle.flurry_steps.specs.Field.{Turn};
-ghost use Rattle.flurry_steps.specs.Party.{AtTaken};
-ghost use Rattle.flurry_steps.specs.PartyView.{outcome_of, OwnedIsReady};
+ghost use Rattle.flurry_steps.specs.Party.{IsTaken};
+ghost use Rattle.flurry_calls.specs.OutcomeView.{outcome_of};
+ghost use Rattle.flurry_steps.specs.PartyView.{OwnedIsReady};
 ghost use Rattle.flurry_theory.specs.Map.{Pairs};
 ghost use Rattle.flurry_world.specs.Parts.{OwnLends, OwnLacks, no_parts};
+ghost use Rattle.flurry_world.specs.Runs.{theory_call};
 ghost use Rattle.flurry_world.specs.Tables.{PlaceGives};
 ghost use Rattle.flurry_model.specs.declared.sizes.TheConstants.{MOST_LABELS};
 
@@ -32,7 +34,7 @@ pub fn drive<
     X: Field<K, V, A>,
     R: Wait,
 >(rt: &R, party: &mut Party<'_, K, V, F, A>, field: &mut X) -> Reply<K, V, A>
-    requires { party.old.stage ≡ AtTaken → ⊥ }
+    requires { IsTaken party.old.stage → ⊥ }
     ensures turns { TurnsTo (Turn X.Room.place_gives K.cmp F.changes X.lends) field.old party.old
         (outcome_of result) field.new party.new }
     ensures exact { IsExact X.Room.place_gives K.cmp F.changes X.lends X.lacks field.old party.old
@@ -50,7 +52,8 @@ pub fn drive<
 }
 
 /// Does all steps of a call over parts that nobody else changes, and answers its reply: that of the finite map which the parts hold, and
-/// they hold the map after the call then; or the call is refused for memory, and they hold the same map.
+/// they hold the map after the call then; or the call is refused for memory, and they hold the same map. Of a walk and a clear this is not
+/// stated yet.
 ///
 /// As many steps as the call needs.
 pub fn drive_alone<
@@ -68,7 +71,7 @@ pub fn drive_alone<
     parts: &mut Parts<K, V, A>,
 ) -> Reply<K, V, A>
     requires { OwnedIsReady F.can_change call }
-    ensures { (n : ℕ) (m : Pairs K V) → n < MOST_LABELS → Holds K.cmp (S.hash_of hasher.now) F.changes n parts.old m
+    ensures { IsPlain (theory_call call) → (n : ℕ) (m : Pairs K V) → n < MOST_LABELS → Holds K.cmp (S.hash_of hasher.now) F.changes n parts.old m
         → DrivesTo K.cmp (S.hash_of hasher.now) F.changes call n parts.old m (outcome_of result) parts.new }
 {
     let hash = hash_for(hasher, &call);

@@ -1,7 +1,7 @@
 -- What is known of a loan under a lock.
 use Rattle.std.specs.Prelude.{◌≡◌, ⊤}
 use Rattle.flurry_steps.specs.Field.{Loan}
-use Rattle.flurry_steps.specs.Party.{Part, ControlPart}
+use Rattle.flurry_calls.specs.Part.{Part, ControlPart}
 
 -- Any part of its type may be lent, since other threads change it between loans. The lender stays as it is, and so does where it makes
 -- tables.

@@ -1,16 +1,21 @@
 -- What a call of a shared map can answer.
-use Rattle.std.specs.Prelude.{◌≡◌, ◌⊎◌, ℕ, ℤ, Bool, true, false, if◌then◌else◌, Option, Some, None, MatchOption, Ok, Err}
+use Rattle.std.specs.Prelude.{◌≡◌, ◌⊎◌, ℕ, ℤ, Bool, true, false, if◌then◌else◌, Option, Some, None, MatchOption, Ok, Err, length}
 use Rattle.std.specs.Option.{option_map_or}
 use Rattle.std.specs.declared.cmp.Ordering.{Ordering}
 use Rattle.std.proofs.Common.{refl, sym, subst, inl, inr}
 use Rattle.flurry_drive.specs.Turns.{Turns, still, further, TurnsTo}
-use Rattle.flurry_map.specs.Answers.{CanReserve, CanAnswer, CanAnswerFrom, NeedsOwner, IsSought}
+use Rattle.flurry_map.specs.Answers.{CanReserve, CanSweep, CanAnswer, CanAnswerFrom, NeedsOwner, IsSought}
 use Rattle.flurry_slots.specs.Slot as slot
-use Rattle.flurry_slots.specs.Slot.{PlainEntry, SlotState, Live, Content, IsLive, HasMoved, IsUnborn, ComputeOutcome, WasAbsent, WasRemoved, WasChanged, Clashes}
+use Rattle.flurry_slots.specs.Slot.{PlainEntry, SlotState, Live, Content, IsLive, HasMoved, IsUnborn, ComputeOutcome, WasAbsent, WasRemoved, WasChanged, Clashes, next_of_live}
 use Rattle.flurry_control.specs.Control.{ControlState, BeginGives, claim_of, grows_from}
 use Rattle.flurry_control.specs.Claim.{Range}
 use Rattle.flurry_steps.specs.Field.{Loan, ControlLoan, StartLoan, TallyLoan, LookLoan, BinLoan, MoveLoan, StepWith, Turn}
-use Rattle.flurry_steps.specs.Party.{Sought, TheValue, ThePair, Presence, Task, Finds, Removes, Inserts, Adds, Computes, Outcome, OutcomeReply, OutcomeEnded, OutcomeRefused, GrowFor, ForInsert, ForReserve, Resume, ThenBin, ThenRecount, ThenGrow, Stage, AtLocate, AtBin, AtClaim, AtMove, AtUncount, AtCount, AtRecount, AtBegin, AtGrow, AtReserve, AtDone, AtTaken, PartyState, reply_for, resumed_stage, started_stage, with_stage}
+use Rattle.flurry_calls.specs.Outcome.{Outcome, OutcomeReply, OutcomeEnded, OutcomeRefused}
+use Rattle.flurry_calls.specs.Sweep as sweep
+use Rattle.flurry_calls.specs.Sweep.{Errand, Reads, Wipes, SweepStage, AtOutset, OverBins, AtTotal, AtEnd, AfterEnd, BinGives, WalkGives, ClearGives, ReadGives, SplitGives, set_out_at, stage_walked, stage_cleared, more_wiped, swept_outcome, sets_out}
+use Rattle.flurry_calls.specs.Cursor.{CursorState, after_top}
+use Rattle.flurry_steps.specs.Party as party
+use Rattle.flurry_steps.specs.Party.{Sought, TheValue, ThePair, Presence, Task, Finds, Removes, Inserts, Adds, Computes, GrowFor, ForInsert, ForReserve, Resume, ThenBin, ThenRecount, ThenGrow, Stage, AtLocate, AtBin, AtClaim, AtMove, AtUncount, AtCount, AtRecount, AtBegin, AtGrow, AtReserve, AtSweep, AtDone, AtTaken, PartyState, reply_for, resumed_stage, started_stage, final_outcome, with_stage}
 use Rattle.flurry_steps.specs.PartyControl.{begin_at, stage_advised, stage_begun, stage_grown, stage_not_grown, stage_growing, OpensFor, LocatesNone, MakesFor, event_growing, StageAtControl}
 use Rattle.flurry_steps.specs.PartySlots.{GoesOnNew, GoesOnWritten, GoesOnAdded, stage_taken, stage_computed, stage_moved, FindCanBeRefused, CanBeRefused, DecidesAt, LiveGives, ContentGives, StageAtSlot, moved_stage, MoveGives}
 use Rattle.flurry_steps.specs.PartyTally.{StageAtTally}
@@ -19,10 +24,10 @@ use Rattle.flurry_control.specs.declared.control.Advice.{Advice}
 use Rattle.flurry_control.specs.declared.control.Advice.TheVariants as advice
 use Rattle.flurry_control.specs.declared.control.BeginOutcome.{BeginOutcome}
 use Rattle.flurry_control.specs.declared.control.BeginOutcome.TheVariants as began
-use Rattle.flurry_steps.specs.declared.party.Event.{Event}
+use Rattle.flurry_calls.specs.declared.step.Event.{Event}
 use Rattle.flurry_steps.specs.declared.party.call.Call.{Call}
 use Rattle.flurry_steps.specs.declared.party.call.Call.TheVariants as call
-use Rattle.flurry_steps.specs.declared.party.Event.TheVariants as event
+use Rattle.flurry_calls.specs.declared.step.Event.TheVariants as event
 
 -- what tells of an entry is of its sort
 sought : {K V : Type 0} (w : Sought) (e : Option (PlainEntry K V)) → IsSought w (reply_for w e)
@@ -53,6 +58,14 @@ module _ {K V F : Type 0} (changes : F → K → V → Option V → Type 0) (ans
   ResumeServes (ThenRecount r) = answers r
   ResumeServes (ThenGrow w g) = GrowForServes g
 
+  -- a call that goes over all bins, which may answer what such a call can until it has ended
+  abbrev Sweeps : Errand → Type 0
+  Sweeps w = (r : Outcome K V) → CanSweep w r → answers r
+
+  abbrev SweepServes : SweepStage K V → Errand → Type 0
+  SweepServes (AtEnd r) w = answers r
+  SweepServes s w = Sweeps w
+
   abbrev StageServes : Stage K V F → Type 0
   StageServes (AtLocate t) = Serves t
   StageServes (AtBin t e) = Serves t
@@ -64,10 +77,33 @@ module _ {K V F : Type 0} (changes : F → K → V → Option V → Type 0) (ans
   StageServes (AtBegin e r) = answers r
   StageServes (AtGrow w g) = GrowForServes g
   StageServes (AtReserve a) = Reserves
+  StageServes (AtSweep w) = SweepServes w.stage w.errand
   StageServes (AtDone r) = answers r
   StageServes AtTaken = ⊥
 
   -- ---- stages that follow
+
+  served : (s : Stage K V F) (r : Outcome K V) → StageServes s → final_outcome s ≡ Some r → answers r
+  served (AtLocate t) r h e = cc
+  served (AtBin t n) r h e = cc
+  served (AtClaim a) r h e = cc
+  served (AtMove c a) r h e = cc
+  served (AtUncount q) r h e = cc
+  served (AtCount q) r h e = cc
+  served (AtRecount q) r h e = cc
+  served (AtBegin n q) r h e = cc
+  served (AtGrow w g) r h e = cc
+  served (AtReserve a) r h e = cc
+  served (AtSweep w) r h e = by_end w.stage h e
+    where
+      by_end : (z : SweepStage K V) → SweepServes z w.errand → swept_outcome z ≡ Some r → answers r
+      by_end AtOutset h e = cc
+      by_end (OverBins c) h e = cc
+      by_end AtTotal h e = cc
+      by_end (AtEnd q) h e = let one : q ≡ r = cc in subst answers one h
+      by_end AfterEnd h e = cc
+  served (AtDone q) r h e = let one : q ≡ r = cc in subst answers one h
+  served AtTaken r h e = cc
 
   after_help : (a : Resume K V F) → ResumeServes a → StageServes (resumed_stage a)
   after_help (ThenBin t e) h = h
@@ -112,22 +148,31 @@ module _ {K V F : Type 0} (changes : F → K → V → Option V → Type 0) (ans
   with_moved (AtBegin e r) h = h
   with_moved (AtGrow w g) h = h
   with_moved (AtReserve a) h = h
+  with_moved (AtSweep w) h = h
   with_moved (AtDone r) h = h
   with_moved AtTaken h = h
 
-  after_start : (d : ℕ) (s : Stage K V F) → StageServes s → StageServes (started_stage d s)
-  after_start d (AtLocate t) h = h
-  after_start d (AtBin t e) h = h
-  after_start d (AtClaim a) h = h
-  after_start d (AtMove c a) h = h
-  after_start d (AtUncount r) h = h
-  after_start d (AtCount r) h = h
-  after_start d (AtRecount r) h = h
-  after_start d (AtBegin e r) h = h
-  after_start d (AtGrow w g) h = h
-  after_start d (AtReserve a) h = h
-  after_start d (AtDone r) h = h
-  after_start d AtTaken h = h
+  at_outset : (w : Errand) (z : SweepStage K V) → sets_out z ≡ true → SweepServes z w → Sweeps w
+  at_outset w AtOutset yet h = h
+  at_outset w (OverBins c) yet h = cc
+  at_outset w AtTotal yet h = cc
+  at_outset w (AtEnd r) yet h = cc
+  at_outset w AfterEnd yet h = cc
+
+  after_start : (d : ℕ) (s : Stage K V F) → party.locates s ≡ true → StageServes s → StageServes (started_stage d s)
+  after_start d (AtLocate t) yet h = h
+  after_start d (AtBin t e) yet h = h
+  after_start d (AtClaim a) yet h = h
+  after_start d (AtMove c a) yet h = h
+  after_start d (AtUncount r) yet h = h
+  after_start d (AtCount r) yet h = h
+  after_start d (AtRecount r) yet h = h
+  after_start d (AtBegin e r) yet h = h
+  after_start d (AtGrow w g) yet h = h
+  after_start d (AtReserve a) yet h = h
+  after_start d (AtSweep w) yet h = at_outset w.errand w.stage yet h
+  after_start d (AtDone r) yet h = h
+  after_start d AtTaken yet h = h
 
   after_moved : (t : Task K V F) (e : ℕ) → Serves t → StageServes (stage_moved t e)
   after_moved (Finds w k) e h = h
@@ -145,6 +190,8 @@ module _ {K V F : Type 0} (changes : F → K → V → Option V → Type 0) (ans
     opens t h r event.Decide g = absurd g
     opens t h r (event.Placed e) g = absurd g
     opens t h r (event.Moved e i) g = absurd g
+    opens t h r event.Read g = absurd g
+    opens t h r (event.Wipe _ _) g = absurd g
     opens t h r (event.Published e) g = absurd g
     opens t h r event.Silent g = absurd g
 
@@ -161,6 +208,8 @@ module _ {K V F : Type 0} (changes : F → K → V → Option V → Type 0) (ans
     makes w event.Decide h g = absurd g
     makes w (event.Placed e) h g = absurd g
     makes w (event.Moved e i) h g = absurd g
+    makes w event.Read h g = absurd g
+    makes w (event.Wipe _ _) h g = absurd g
     makes w (event.Published e) h g = absurd g
     makes w event.Silent h g = absurd g
 
@@ -192,6 +241,23 @@ module _ {K V F : Type 0} (changes : F → K → V → Option V → Type 0) (ans
     at_control (AtBegin e r) ev h g = subst StageServes (sym g.3) (after_begun r g.0 h)
     at_control (AtGrow w x) ev h g = grows w x ev (grows_from w b) h g
     at_control (AtReserve a) ev h g = reserves g.0 ev b.published h g.2
+    at_control (AtSweep w) ev h (w', same, g, _) = subst StageServes (sym same) (subst (SweepServes w'.stage) (sym g.errand) (after_control w.errand w.stage h g.step))
+      where
+        set_out : (u : Errand) (o : Option ℕ) → Sweeps u → CanSweep {K = K} {V = V} u OutcomeEnded → SweepServes (set_out_at o) u
+        set_out u None h can = h OutcomeEnded can
+        set_out u (Some e) h can = h
+
+        after_control : (u : Errand) (z : SweepStage K V) → SweepServes z u → sweep.StageAtControl u z b w'.stage b' → SweepServes w'.stage u
+        after_control Reads AtOutset h g = subst (λ z. SweepServes z Reads) (sym g.0) (set_out Reads b.published h tt)
+        after_control (Wipes n) AtOutset h g = subst (λ z. SweepServes z (Wipes n)) (sym g.0) (set_out (Wipes n) b.published h tt)
+        after_control (Wipes n) AtTotal h g = subst (λ z. SweepServes z (Wipes n)) (sym g.0) (h OutcomeEnded tt)
+        after_control Reads AtTotal h g = absurd g
+        after_control Reads (OverBins f) h g = absurd g
+        after_control (Wipes n) (OverBins f) h g = absurd g
+        after_control Reads (AtEnd r) h g = absurd g
+        after_control (Wipes n) (AtEnd r) h g = absurd g
+        after_control Reads AfterEnd h g = absurd g
+        after_control (Wipes n) AfterEnd h g = absurd g
     at_control (AtDone r) ev h g = absurd g
     at_control AtTaken ev h g = absurd g
 
@@ -212,6 +278,7 @@ module _ {K V F : Type 0} (changes : F → K → V → Option V → Type 0) (ans
   at_tally most n st n' (AtBegin e r) h g = absurd g
   at_tally most n st n' (AtGrow w g') h g = absurd g
   at_tally most n st n' (AtReserve a) h g = absurd g
+  at_tally most n st n' (AtSweep w) h g = absurd g
   at_tally most n st n' (AtDone r) h g = absurd g
   at_tally most n st n' AtTaken h g = absurd g
 
@@ -259,6 +326,8 @@ module _ {K V F : Type 0} (changes : F → K → V → Option V → Type 0) (ans
     live t e b (event.Opened i) s c h g = absurd g
     live t e b (event.Placed i) s c h g = absurd g
     live t e b (event.Moved i j) s c h g = absurd g
+    live t e b event.Read s c h g = absurd g
+    live t e b (event.Wipe _ _) s c h g = absurd g
     live t e b (event.Published i) s c h g = absurd g
     live t e b event.Silent s c h g = absurd g
 
@@ -278,6 +347,63 @@ module _ {K V F : Type 0} (changes : F → K → V → Option V → Type 0) (ans
     at_slot (AtBegin e r) q ev s' c h g = absurd g
     at_slot (AtGrow w x) q ev s' c h g = absurd g
     at_slot (AtReserve a) q ev s' c h g = absurd g
+    at_slot (AtSweep w) q ev s' c h (w', same, g) = subst StageServes (sym same) (after_bin w.errand w.stage h g)
+      where
+        walk_on : (o : Option (CursorState K)) → Sweeps Reads → SweepServes (stage_walked o) Reads
+        walk_on None h = h OutcomeEnded tt
+        walk_on (Some f) h = h
+
+        clear_on : (n : ℕ) (o : Option (CursorState K)) → Sweeps (Wipes n) → SweepServes (stage_cleared o) (Wipes n)
+        clear_on n None h = h
+        clear_on n (Some f) h = h
+
+        at_entry : (f : CursorState K) (x : PlainEntry K V) (v : Event) → Sweeps Reads → ReadGives f x w.last v w'.stage w'.last → SweepServes w'.stage Reads
+        at_entry f x event.Read h g = subst (λ z. SweepServes z Reads) (sym g.0) h
+        at_entry f x event.Refused h g = subst (λ z. SweepServes z Reads) (sym g.0) (h OutcomeRefused tt)
+        at_entry f x event.Decide h g = absurd g
+        at_entry f x (event.Wipe _ _) h g = absurd g
+        at_entry f x (event.Opened _) h g = absurd g
+        at_entry f x (event.Placed _) h g = absurd g
+        at_entry f x (event.Moved _ _) h g = absurd g
+        at_entry f x (event.Published _) h g = absurd g
+        at_entry f x event.Silent h g = absurd g
+
+        at_moved : (f : CursorState K) (v : Event) → Sweeps Reads → SplitGives f v w'.stage → SweepServes w'.stage Reads
+        at_moved f event.Silent h g = subst (λ z. SweepServes z Reads) (sym g) h
+        at_moved f event.Refused h g = subst (λ z. SweepServes z Reads) (sym g.0) (h OutcomeRefused tt)
+        at_moved f event.Decide h g = absurd g
+        at_moved f event.Read h g = absurd g
+        at_moved f (event.Wipe _ _) h g = absurd g
+        at_moved f (event.Opened _) h g = absurd g
+        at_moved f (event.Placed _) h g = absurd g
+        at_moved f (event.Moved _ _) h g = absurd g
+        at_moved f (event.Published _) h g = absurd g
+
+        at_next : (f : CursorState K) (o : Option (PlainEntry K V)) → Sweeps Reads → MatchOption o ((ev ≡ event.Silent) × (w'.stage ≡ stage_walked (after_top f)) × (w'.last ≡ w.last)) (λ x. ReadGives f x w.last ev w'.stage w'.last) → SweepServes w'.stage Reads
+        at_next f None h g = subst (λ z. SweepServes z Reads) (sym g.1) (walk_on (after_top f) h)
+        at_next f (Some x) h g = at_entry f x ev h g
+
+        walks : (f : CursorState K) (z : Content K V) → Sweeps Reads → WalkGives cmp f z w.last ev w'.stage w'.last → SweepServes w'.stage Reads
+        walks f (IsLive b) h g = at_next f (next_of_live cmp f.top.bound b) h g
+        walks f HasMoved h g = at_moved f ev h g.0
+        walks f IsUnborn h g = subst (λ z. SweepServes z Reads) (sym g.1) h
+
+        clears : (n : ℕ) (f : CursorState K) (z : Content K V) → Sweeps (Wipes n) → ClearGives n f z ev w'.errand w'.stage c → SweepServes w'.stage w'.errand
+        clears n f (IsLive b) h g = subst (SweepServes w'.stage) (sym g.1) (subst (λ z. SweepServes z (Wipes (more_wiped n (length b.held)))) (sym g.2) (clear_on _ (after_top f) h))
+        clears n f HasMoved h g = subst (SweepServes w'.stage) (sym g.1) (subst (λ z. SweepServes z (Wipes n)) (sym g.2) h)
+        clears n f IsUnborn h g = subst (SweepServes w'.stage) (sym g.1) (subst (λ z. SweepServes z (Wipes n)) (sym g.2) h)
+
+        after_bin : (u : Errand) (z : SweepStage K V) → SweepServes z u → BinGives cmp u z w.last q ev w' c → SweepServes w'.stage w'.errand
+        after_bin Reads (OverBins f) h g = subst (SweepServes w'.stage) (sym g.0) (walks f q h g.1)
+        after_bin (Wipes n) (OverBins f) h g = clears n f q h g.1
+        after_bin Reads AtOutset h g = absurd g
+        after_bin (Wipes n) AtOutset h g = absurd g
+        after_bin Reads AtTotal h g = absurd g
+        after_bin (Wipes n) AtTotal h g = absurd g
+        after_bin Reads (AtEnd r) h g = absurd g
+        after_bin (Wipes n) (AtEnd r) h g = absurd g
+        after_bin Reads AfterEnd h g = absurd g
+        after_bin (Wipes n) AfterEnd h g = absurd g
     at_slot (AtDone r) q ev s' c h g = absurd g
     at_slot AtTaken q ev s' c h g = absurd g
 
@@ -294,6 +420,8 @@ module _ {K V F : Type 0} (changes : F → K → V → Option V → Type 0) (ans
   at_move p p' q low high q' low' high' event.Refused h g = absurd g
   at_move p p' q low high q' low' high' (event.Opened e) h g = absurd g
   at_move p p' q low high q' low' high' (event.Placed e) h g = absurd g
+  at_move p p' q low high q' low' high' event.Read h g = absurd g
+  at_move p p' q low high q' low' high' (event.Wipe _ _) h g = absurd g
   at_move p p' q low high q' low' high' (event.Published e) h g = absurd g
 
   -- ---- over a field
@@ -301,7 +429,7 @@ module _ {K V F : Type 0} (changes : F → K → V → Option V → Type 0) (ans
   module _ {S R : Type 0} (place : R → ℕ → Bool → Bool → R → Type 0) (cmp : K → K → Ordering) (lends : S → Loan K V R → S → Type 0) where
     with_loan : (l : Loan K V R) (p p' : PartyState K V F) (ev : Event) → StageServes p.stage → StepWith place cmp changes l p ev p' → StageServes p'.stage
     with_loan (ControlLoan b r b' r') p p' ev h g = at_control place p.processors b r p'.stage b' r' p.stage ev h g.1.step
-    with_loan (StartLoan d) p p' ev h g = subst (λ z. StageServes z.stage) (sym g.3) (after_start d p.stage h)
+    with_loan (StartLoan d) p p' ev h g = subst (λ z. StageServes z.stage) (sym g.3) (after_start d p.stage g.0 h)
     with_loan (TallyLoan m n n') p p' ev h g = at_tally m n p'.stage n' p.stage h g.step
     with_loan (LookLoan q) p p' ev h g = at_slot cmp p.hash p.stage q.content ev p'.stage q.content h g.2.step
     with_loan (BinLoan q q') p p' ev h g = at_slot cmp p.hash p.stage q.content ev p'.stage q'.content h g.2.step
@@ -322,8 +450,10 @@ first_serves changes (call.Insert k v) = λ r h. h
 first_serves changes (call.TryInsert k v) = λ r h. h
 first_serves changes (call.Compute k f) = λ r h. h
 first_serves changes (call.Reserve a) = λ r h. h
+first_serves changes call.Clear = λ r h. h
+first_serves changes call.Walk = λ r h. h
 
 module _ {S R K V F : Type 0} (place : R → ℕ → Bool → Bool → R → Type 0) (cmp : K → K → Ordering) (changes : F → K → V → Option V → Type 0) (lends : S → Loan K V R → S → Type 0) {s s' : S} {p p' : PartyState K V F} {r : Outcome K V} (turns : TurnsTo (Turn place cmp changes lends) s p r s' p') where
   -- the reply to which steps take a call is one that it can answer
   pub can_answer : (c : Call K V F) → p.stage ≡ first_stage c → CanAnswerFrom changes (first_stage c) r
-  can_answer c e = subst (StageServes changes (CanAnswerFrom changes (first_stage c))) turns.done (all_turns changes (CanAnswerFrom changes (first_stage c)) place cmp lends (subst (StageServes changes (CanAnswerFrom changes (first_stage c))) (sym e) (first_serves changes c)) turns.turns)
+  can_answer c e = served changes (CanAnswerFrom changes (first_stage c)) turns.last.stage r (all_turns changes (CanAnswerFrom changes (first_stage c)) place cmp lends (subst (StageServes changes (CanAnswerFrom changes (first_stage c))) (sym e) (first_serves changes c)) turns.turns) turns.done

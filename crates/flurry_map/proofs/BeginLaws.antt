@@ -3,16 +3,18 @@ use Rattle.std.proofs.Common.{◌≡◌, ℕ, ℤ, ◌%◌, ◌^◌, ◌≤◌, 
 use Rattle.std.specs.declared.cmp.Ordering.{Ordering}
 use Rattle.flurry_drive.specs.Turns.{Turns, TurnsTo, still, further}
 use Rattle.flurry_locks.specs.Lending.{LockLends}
-use Rattle.flurry_map.specs.Driven.{GoesTo, IsReplyOf, MakerStays, BeginsToWrite}
+use Rattle.flurry_map.specs.Driven.{GoesTo, IsReplyOf, MakerStays}
 use Rattle.flurry_model.specs.declared.sizes.TheConstants.{GREATEST_TABLE}
 use Rattle.flurry_slots.specs.Slot.{SlotState, IsSlot}
 use Rattle.flurry_steps.specs.Field.{Turn, StartLoan, TallyLoan, LookLoan, BinLoan}
 use Rattle.flurry_steps.specs.FirstSteps.{BeginsAt, begun_at}
-use Rattle.flurry_steps.specs.Party.{PartyState, Stage, AtDone, AtTaken, Outcome, LookPart, BinPart, wanted_part, locates, LooksUp}
+use Rattle.flurry_calls.specs.Outcome.{Outcome}
+use Rattle.flurry_calls.specs.Part.{LookPart, BinPart}
+use Rattle.flurry_steps.specs.Party.{PartyState, Stage, AtDone, AtTaken, wanted_part, locates, LooksUp, BeginsToWrite}
 use Rattle.flurry_steps.specs.PartyTally.{StageAtTally}
 use Rattle.flurry_steps.specs.PartyView.{first_stage}
-use Rattle.flurry_steps.specs.declared.party.Event.{Event}
-use Rattle.flurry_steps.specs.declared.party.Event.TheVariants as event
+use Rattle.flurry_calls.specs.declared.step.Event.{Event}
+use Rattle.flurry_calls.specs.declared.step.Event.TheVariants as event
 use Rattle.flurry_steps.specs.declared.party.call.Call.{Call}
 use Rattle.flurry_steps.specs.declared.party.call.Call.TheVariants as call
 
@@ -27,6 +29,8 @@ look_locates (call.Insert k v) h = absurd h
 look_locates (call.TryInsert k v) h = absurd h
 look_locates (call.Compute k f) h = absurd h
 look_locates (call.Reserve a) h = absurd h
+look_locates call.Clear h = absurd h
+look_locates call.Walk h = absurd h
 
 -- and then it looks at its bin there
 pub look_wants : {K V F : Type 0} (c : Call K V F) (d h n : ℕ) → LooksUp (first_stage c) → wanted_part (begun_at d h n (first_stage c)) ≡ LookPart d (h % 2 ^ d)
@@ -39,6 +43,8 @@ look_wants (call.Insert k v) d h n looks = absurd looks
 look_wants (call.TryInsert k v) d h n looks = absurd looks
 look_wants (call.Compute k f) d h n looks = absurd looks
 look_wants (call.Reserve a) d h n looks = absurd looks
+look_wants call.Clear d h n looks = absurd looks
+look_wants call.Walk d h n looks = absurd looks
 
 -- and so does a call that may change its bin
 pub write_locates : {K V F : Type 0} (c : Call K V F) → BeginsToWrite (first_stage c) → locates (first_stage c) ≡ true
@@ -51,6 +57,8 @@ write_locates (call.Insert k v) h = refl
 write_locates (call.TryInsert k v) h = refl
 write_locates (call.Compute k f) h = refl
 write_locates (call.Reserve a) h = absurd h
+write_locates call.Clear h = absurd h
+write_locates call.Walk h = absurd h
 
 pub write_wants : {K V F : Type 0} (c : Call K V F) (d h n : ℕ) → BeginsToWrite (first_stage c) → wanted_part (begun_at d h n (first_stage c)) ≡ BinPart d (h % 2 ^ d)
 write_wants (call.Get k) d h n writes = absurd writes
@@ -62,6 +70,8 @@ write_wants (call.Insert k v) d h n writes = refl
 write_wants (call.TryInsert k v) d h n writes = refl
 write_wants (call.Compute k f) d h n writes = refl
 write_wants (call.Reserve a) d h n writes = absurd writes
+write_wants call.Clear d h n writes = absurd writes
+write_wants call.Walk d h n writes = absurd writes
 
 module _ {S K V F : Type 0} {step : S → PartyState K V F → Event → S → PartyState K V F → Type 0} where
   both : {s s' s'' : S} {p p' p'' : PartyState K V F} → Turns step s p s' p' → Turns step s' p' s'' p'' → Turns step s p s'' p''

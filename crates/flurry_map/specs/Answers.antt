@@ -2,7 +2,9 @@
 use Rattle.std.specs.Prelude.{◌≡◌, Option, Some, None, ⊤}
 use Rattle.flurry_model.specs.declared.reply.KeptReply.{KeptReply}
 use Rattle.flurry_model.specs.declared.reply.KeptReply.TheVariants.{Value, Pair, Contains, New, Exists}
-use Rattle.flurry_steps.specs.Party.{Sought, TheValue, ThePair, Presence, Task, Finds, Removes, Inserts, Adds, Computes, Outcome, OutcomeReply, OutcomeEnded, OutcomeRefused, Stage, AtLocate, AtReserve}
+use Rattle.flurry_calls.specs.Outcome.{Outcome, OutcomeReply, OutcomeEnded, OutcomeRefused}
+use Rattle.flurry_calls.specs.Sweep.{Errand, Reads, Wipes}
+use Rattle.flurry_steps.specs.Party.{Sought, TheValue, ThePair, Presence, Task, Finds, Removes, Inserts, Adds, Computes, Stage, AtLocate, AtReserve, AtSweep}
 
 -- what is told by a further owner can want memory
 abbrev pub NeedsOwner : Sought → Type 0
@@ -49,6 +51,21 @@ module _ {K V : Type 0} where
   CanReserve OutcomeEnded = ⊤
   CanReserve OutcomeRefused = ⊤
 
+  -- neither a walk nor a clear has a reply; a walk can be refused a further owner, and a clear never is
+  abbrev pub CanWalk : Outcome K V → Type 0
+  CanWalk (OutcomeReply r) = ⊥
+  CanWalk OutcomeEnded = ⊤
+  CanWalk OutcomeRefused = ⊤
+
+  abbrev pub CanClear : Outcome K V → Type 0
+  CanClear (OutcomeReply r) = ⊥
+  CanClear OutcomeEnded = ⊤
+  CanClear OutcomeRefused = ⊥
+
+  abbrev pub CanSweep : Errand → Outcome K V → Type 0
+  CanSweep Reads r = CanWalk r
+  CanSweep (Wipes n) r = CanClear r
+
   -- `changes k v o` says that the function may answer o at the pair of k and v: a value that is answered is one that it answered
   module _ (changes : K → V → Option V → Type 0) where
     abbrev pub IsComputed : KeptReply K V → Type 0
@@ -74,4 +91,5 @@ module _ {K V F : Type 0} (changes : F → K → V → Option V → Type 0) wher
   abbrev pub CanAnswerFrom : Stage K V F → Outcome K V → Type 0
   CanAnswerFrom (AtLocate t) r = CanAnswer t r
   CanAnswerFrom (AtReserve a) r = CanReserve r
+  CanAnswerFrom (AtSweep w) r = CanSweep w.errand r
   CanAnswerFrom _ r = ⊥

@@ -6,7 +6,8 @@ use Rattle.flurry_locks.specs.Lending.{LockLends}
 use Rattle.flurry_slots.specs.declared.compute_fn.NoFn.{NoFn}
 use Rattle.flurry_steps.specs.Field.{Turn}
 use Rattle.flurry_steps.specs.PartyTally.{EndingState, ending_stage}
-use Rattle.flurry_steps.specs.Party.{PartyState, Stage, AtLocate, Outcome, IsWriter}
+use Rattle.flurry_calls.specs.Outcome.{Outcome}
+use Rattle.flurry_steps.specs.Party.{PartyState, Stage}
 use Rattle.flurry_steps.specs.PartyView.{first_stage}
 use Rattle.flurry_steps.specs.declared.party.call.Call.{Call}
 use Rattle.flurry_steps.specs.declared.party.call.Call.TheVariants as call
@@ -35,6 +36,8 @@ hash_in hash (call.Insert k v) = hash k
 hash_in hash (call.TryInsert k v) = hash k
 hash_in hash (call.Compute k f) = hash k.now
 hash_in hash (call.Reserve a) = 0
+hash_in hash call.Clear = 0
+hash_in hash call.Walk = 0
 
 -- The reply r is that of the call in the state p, done in steps. Each step is one of the call's own, at a part that is lent to it under
 -- the part's lock; between two steps other threads may have left any other part of its type there. Nothing is said of who lends it.
@@ -54,8 +57,3 @@ GoesTo M cmp changes p p' = Turns {S = Unit {0}} (Turn (MakerStays {M = M}) cmp 
 abbrev pub BeginsOrStays : (M : Type 0) → {K V F : Type 0} → (K → K → Ordering) → (F → K → V → Option V → Type 0) → ℕ → Call K V F → Result (EndingState K V) (Call K V F) → Type 0
 BeginsOrStays M cmp changes h c (Ok e) = (n : ℕ) → GoesTo M cmp changes (record { hash = h; processors = n; stage = first_stage c }) (record { hash = h; processors = n; stage = ending_stage e })
 BeginsOrStays M cmp changes h c (Err c') = c' ≡ c
-
--- a call that may change a bin, and did no step yet
-abbrev pub BeginsToWrite : {K V F : Type 0} → Stage K V F → Type 0
-BeginsToWrite (AtLocate t) = IsWriter t
-BeginsToWrite _ = ⊥

@@ -5,8 +5,8 @@ use Rattle.std.specs.Arc.{arc_value}
 use Rattle.std.specs.declared.sync.Arc.{Arc}
 use Rattle.flurry_model.specs.declared.reply.KeptReply.TheVariants.{Value, Pair, New, Exists}
 use Rattle.flurry_model.specs.declared.try_insert.TryInsertError.{TryInsertError}
-use Rattle.flurry_steps.specs.Party.{Outcome, OutcomeReply, OutcomeEnded, OutcomeRefused}
-use Rattle.flurry_steps.specs.PartyView.{pair_value}
+use Rattle.flurry_calls.specs.Outcome.{Outcome, OutcomeReply, OutcomeEnded, OutcomeRefused}
+use Rattle.flurry_calls.specs.OutcomeView.{pair_value}
 
 module _ {K V A E : Type 0} where
   abbrev pub value_outcome : Result (Option (Arc V A)) E → Outcome K V

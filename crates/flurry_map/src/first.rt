@@ -1,10 +1,11 @@
 //! The steps of a call over the locks: its first ones at once, where its table is known without the control's lock.
 ghost use Rattle.std.specs.Prelude.{◌≡◌};
 ghost use Rattle.flurry_locks.specs.declared.tables.Maker.{Maker};
-ghost use Rattle.flurry_map.specs.Driven.{BeginsOrStays, BeginsToWrite, IsReplyOf};
-ghost use Rattle.flurry_steps.specs.Party.{AtTaken, LooksUp};
+ghost use Rattle.flurry_map.specs.Driven.{BeginsOrStays, IsReplyOf};
+ghost use Rattle.flurry_steps.specs.Party.{BeginsToWrite, IsTaken, LooksUp};
 ghost use Rattle.flurry_steps.specs.PartyTally.{ending_stage};
-ghost use Rattle.flurry_steps.specs.PartyView.{CallIsReady, first_stage, outcome_of};
+ghost use Rattle.flurry_calls.specs.OutcomeView.{outcome_of};
+ghost use Rattle.flurry_steps.specs.PartyView.{CallIsReady, first_stage};
 
 use flurry_control::PublishedTable;
 use flurry_drive::drive;
@@ -34,7 +35,9 @@ pub(crate) fn reply_to<K: Ord + Drop, V: Drop, F: ComputeFn<K, V>, A: Allocator 
         return drive_call(rt, locks, call, hash, processors);
     };
     match &call {
-        Call::Reserve(_) => return drive_call(rt, locks, call, hash, processors),
+        Call::Reserve(_) | Call::Clear | Call::Walk => {
+            return drive_call(rt, locks, call, hash, processors);
+        }
         Call::Get(_) | Call::GetKeyValue(_) | Call::ContainsKey(_) => {
             return look(rt, locks, start, call, hash, processors);
         }
@@ -192,7 +195,7 @@ fn drive_party<K: Ord + Drop, V: Drop, F: ComputeFn<K, V>, A: Allocator + Copy, 
     locks: &Locks<K, V, A>,
     party: Party<'_, K, V, F, A>,
 ) -> Reply<K, V, A>
-    requires { party.stage ≡ AtTaken → ⊥ }
+    requires { IsTaken party.stage → ⊥ }
     ensures { IsReplyOf (Maker K V A) K.cmp F.changes party.entry (outcome_of result) }
 {
     let mut party = party;

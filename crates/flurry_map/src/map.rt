@@ -7,8 +7,11 @@ ghost use Rattle.flurry_map.specs.Results.{value_outcome, pair_outcome, added_ou
 ghost use Rattle.flurry_model.specs.Hashing.{seed_of};
 ghost use Rattle.flurry_model.specs.declared.reply.KeptReply.TheVariants as kept;
 ghost use Rattle.flurry_slots.specs.ComputeFn.{AnswersAtPair};
-ghost use Rattle.flurry_steps.specs.Party.{TheValue, ThePair, Presence, Finds, Removes, Inserts, Adds, Computes, AtLocate, AtReserve, OutcomeReply};
-ghost use Rattle.flurry_steps.specs.PartyView.{CallIsReady, first_stage, outcome_of, pair_value};
+ghost use Rattle.flurry_calls.specs.Outcome.{OutcomeReply, OutcomeEnded};
+ghost use Rattle.flurry_calls.specs.Sweep.{Wipes, fresh_sweep};
+ghost use Rattle.flurry_steps.specs.Party.{TheValue, ThePair, Presence, Finds, Removes, Inserts, Adds, Computes, AtLocate, AtReserve, AtSweep};
+ghost use Rattle.flurry_calls.specs.OutcomeView.{outcome_of, pair_value};
+ghost use Rattle.flurry_steps.specs.PartyView.{CallIsReady, first_stage};
 ghost use Rattle.std.specs.Option.{option_map};
 ghost use Rattle.std.specs.Arc.{arc_value};
 
@@ -337,6 +340,20 @@ impl<K: Ord + Drop, V: Drop, S: KeyHasher<K>, A: Allocator + Copy> HashMap<K, V,
         }
     }
 
+    /// Removes all pairs, one bin after another. Other calls may put pairs meanwhile, which stay where the clear has passed by.
+    ///
+    /// Linear time in the bins and pairs, and takes the lock of each bin in turn, and then the control's; takes no memory.
+    pub fn clear<'s, R: Wait>(&'s self, rt: &R)
+        ensures { IsDriven (Maker K V A) K.cmp (no_changes {K = K} {V = V}) self.now 0
+            (AtSweep (fresh_sweep (Wipes 0))) OutcomeEnded }
+    {
+        let call: Call<'s, K, V, NoFn> = Call::Clear;
+        match self.run(rt, call) {
+            Reply::Ended => {}
+            _ => unreachable!(),
+        }
+    }
+
     // The hash of the key of a call; 0 where it has none.
     #[inline]
     fn hash_of<F>(&self, call: &Call<'_, K, V, F>) -> u64
@@ -350,7 +367,7 @@ impl<K: Ord + Drop, V: Drop, S: KeyHasher<K>, A: Allocator + Copy> HashMap<K, V,
             | Call::RemoveEntry(key)
             | Call::Compute(key, _) => self.hasher.hash_one(key),
             Call::Insert(key, _) | Call::TryInsert(key, _) => self.hasher.hash_one(key),
-            Call::Reserve(_) => 0,
+            Call::Reserve(_) | Call::Clear | Call::Walk => 0,
         }
     }
 

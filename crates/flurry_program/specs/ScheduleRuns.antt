@@ -11,7 +11,7 @@ use Rattle.flurry_world.specs.Runs.{NewGives, Runs, RunsFront}
 use Rattle.flurry_world.specs.declared.world.Step as world
 use Rattle.flurry_world.specs.declared.world.Step.TheVariants as step
 use Rattle.flurry_program.specs.declared.schedule.Line.{Line}
-use Rattle.flurry_program.specs.declared.schedule.Line.TheVariants.{World, Insert, Try, Get, Remove, Reserve, Step}
+use Rattle.flurry_program.specs.declared.schedule.Line.TheVariants.{World, Insert, Try, Get, Remove, Reserve, Clear, Walk, Step}
 use Rattle.flurry_program.specs.Endings.{bad_line_text, out_of_memory_text}
 use Rattle.flurry_program.specs.Labels.{label_text}
 use Rattle.flurry_program.specs.Schedules.{text_of, IsLine}
@@ -31,6 +31,8 @@ module _ {F : Type 0} where
   steps_of (Get k) = step.Begin (owned.Get k) ∷ []
   steps_of (Remove k) = step.Begin (owned.Remove k) ∷ []
   steps_of (Reserve n) = step.Begin (owned.Reserve n) ∷ []
+  steps_of Clear = step.Begin owned.Clear ∷ []
+  steps_of Walk = step.Begin owned.Walk ∷ []
   steps_of (Step p n) = replicate n (step.Step p)
 
 -- the line is bad at its place, as if it were no line of a schedule

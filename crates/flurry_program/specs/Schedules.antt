@@ -1,8 +1,8 @@
 -- The lines of a schedule, as text.
-use Rattle.std.specs.Prelude.{◌≢◌, ℕ, ◌<◌, ◌≤◌, ◌^◌, List, ◌∷◌, ◌++◌, codes}
+use Rattle.std.specs.Prelude.{◌≢◌, ℕ, ◌<◌, ◌≤◌, ◌^◌, List, ◌∷◌, ◌++◌, codes, ⊤}
 use Rattle.std.specs.Fmt.{decimal}
 use Rattle.flurry_program.specs.declared.schedule.Line.{Line}
-use Rattle.flurry_program.specs.declared.schedule.Line.TheVariants.{World, Insert, Try, Get, Remove, Reserve, Step}
+use Rattle.flurry_program.specs.declared.schedule.Line.TheVariants.{World, Insert, Try, Get, Remove, Reserve, Clear, Walk, Step}
 
 -- a line as it is written, without its line end
 abbrev pub text_of : Line → List ℕ
@@ -12,6 +12,8 @@ text_of (Try k v) = codes "begin try " ++ (decimal k ++ 32 ∷ decimal v)
 text_of (Get k) = codes "begin get " ++ decimal k
 text_of (Remove k) = codes "begin remove " ++ decimal k
 text_of (Reserve n) = codes "begin reserve " ++ decimal n
+text_of Clear = codes "begin clear"
+text_of Walk = codes "begin walk"
 text_of (Step p n) = codes "step " ++ (decimal p ++ 32 ∷ decimal n)
 
 -- its numbers have 64 bits, and it asks for 100000 steps at most
@@ -22,6 +24,8 @@ IsLine (Try k v) = (k < 2 ^ 64) × (v < 2 ^ 64)
 IsLine (Get k) = k < 2 ^ 64
 IsLine (Remove k) = k < 2 ^ 64
 IsLine (Reserve n) = n < 2 ^ 64
+IsLine Clear = ⊤
+IsLine Walk = ⊤
 IsLine (Step p n) = (p < 2 ^ 64) × (n ≤ 100000)
 
 -- no line of a schedule is written so

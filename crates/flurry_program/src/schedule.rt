@@ -23,6 +23,10 @@ pub enum Line {
     Remove(u64),
     /// `begin reserve N`
     Reserve(u64),
+    /// `begin clear`
+    Clear,
+    /// `begin walk`
+    Walk,
     /// `step P N`
     Step(u64, u64),
 }
@@ -68,7 +72,11 @@ fn party_and_steps(words: &[u8]) -> Option<(u64, u64)>
 fn parse_call(words: &[u8]) -> Option<Line>
     ensures { MatchOption result (IsNoCall words.now) (λ l. IsLine l × (codes "begin " ++ words.now ≡ text_of l)) }
 {
-    if let Some(rest) = strip(words, b"insert ") {
+    if words == b"clear".as_slice() {
+        Some(Line::Clear)
+    } else if words == b"walk".as_slice() {
+        Some(Line::Walk)
+    } else if let Some(rest) = strip(words, b"insert ") {
         match two_numbers(rest) {
             Some((key, value)) => Some(Line::Insert(key, value)),
             None => None,

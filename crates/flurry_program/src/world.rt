@@ -188,6 +188,8 @@ fn answer_in<F: ComputeFn<u64, u64> + Copy, W: Sink, A: Allocator + Copy>(
         Line::Get(key) => begin(world, OwnedCall::Get(key), writer),
         Line::Remove(key) => begin(world, OwnedCall::Remove(key), writer),
         Line::Reserve(more) => begin(world, OwnedCall::Reserve(more as usize), writer),
+        Line::Clear => begin(world, OwnedCall::Clear, writer),
+        Line::Walk => begin(world, OwnedCall::Walk, writer),
         Line::Step(party, steps) => do_steps(world, party as usize, steps, writer),
     }
 }

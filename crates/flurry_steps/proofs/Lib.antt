@@ -1,3 +1,5 @@
-pub mod Cursors
+pub mod Acts
 pub mod Decisions
+pub mod Events
 pub mod Rooms
+pub mod Singles

@@ -3,12 +3,13 @@ use Rattle.std.specs.Prelude.{◌≡◌, ◌⊎◌, ℕ, ℤ, ◌≤◌, Bool, t
 use Rattle.std.specs.declared.cmp.Ordering.{Ordering}
 use Rattle.flurry_slots.specs.Slot.{SlotState, IsSlot}
 use Rattle.flurry_control.specs.Control.{ControlState}
-use Rattle.flurry_steps.specs.Party.{PartyState, Part, ControlPart, LookPart, BinPart, MovePart, NoPart, with_stage, wanted_part, locates, started_stage}
+use Rattle.flurry_calls.specs.Part.{Part, ControlPart, LookPart, BinPart, MovePart, NoPart}
+use Rattle.flurry_steps.specs.Party.{PartyState, with_stage, wanted_part, locates, started_stage}
 use Rattle.flurry_steps.specs.PartyControl.{ControlStep}
 use Rattle.flurry_steps.specs.PartySlots.{SlotStep, MoveStep}
 use Rattle.flurry_steps.specs.PartyTally.{TallyStep}
-use Rattle.flurry_steps.specs.declared.party.Event.{Event}
-use Rattle.flurry_steps.specs.declared.party.Event.TheVariants as event
+use Rattle.flurry_calls.specs.declared.step.Event.{Event}
+use Rattle.flurry_calls.specs.declared.step.Event.TheVariants as event
 use Rattle.flurry_model.specs.declared.sizes.TheConstants.{GREATEST_TABLE}
 
 -- what is lent to one step, before and after that step

@@ -4,7 +4,7 @@ use Rattle.std.specs.declared.cmp.Ordering.{Ordering}
 use Rattle.flurry_slots.specs.Slot.{SlotState}
 use Rattle.flurry_steps.specs.Party.{PartyState, Stage, started_stage}
 use Rattle.flurry_steps.specs.PartySlots.{StageAtSlot}
-use Rattle.flurry_steps.specs.declared.party.Event.{Event}
+use Rattle.flurry_calls.specs.declared.step.Event.{Event}
 
 -- a call after its first step, at the published table of that number
 abbrev pub begun_at : {K V F : Type 0} → ℕ → ℕ → ℕ → Stage K V F → PartyState K V F

@@ -1,7 +1,6 @@
-pub mod Cursor
-pub mod CursorView
 pub mod Party
 pub mod PartyView
+pub mod CourseView
 pub mod PartySlots
 pub mod PartyTally
 pub mod EndingView

@@ -3,6 +3,12 @@ use Rattle.std.specs.Prelude.{◌≡◌, ℕ, ◌+◌, ◌-◌, ◌%◌, ◌^◌
 use Rattle.std.specs.Option.{option_map}
 use Rattle.flurry_model.specs.Sizes.{wanted_of}
 use Rattle.flurry_slots.specs.Slot.{PlainEntry}
+use Rattle.flurry_calls.specs.Outcome.{Outcome, OutcomeReply}
+use Rattle.flurry_calls.specs.Cursor.{at_base}
+use Rattle.flurry_model.specs.declared.call.Seen.{Seen}
+use Rattle.flurry_calls.specs.Sweep as sweep
+use Rattle.flurry_calls.specs.Sweep.{SweepState, OverBins, AfterEnd, IsAfterEnd, swept_part, swept_outcome, sets_out}
+use Rattle.flurry_calls.specs.Part.{Part, ControlPart, LookPart, BinPart, MovePart, NoPart}
 use Rattle.flurry_model.specs.declared.reply.KeptReply.{KeptReply}
 use Rattle.flurry_model.specs.declared.reply.KeptReply.TheVariants.{Value, Pair, Contains}
 use Rattle.flurry_control.specs.Claim.{Range, next_of}
@@ -21,12 +27,6 @@ pub data Task (K V F : Type 0) : Type 0 where
   Inserts : K → V → Task K V F
   Adds : K → V → Task K V F
   Computes : K → F → Task K V F
-
--- what a call answers: the reply of a call of one key, the end of another call, or that memory was wanting
-pub data Outcome (K V : Type 0) : Type 0 where
-  OutcomeReply : KeptReply K V → Outcome K V
-  OutcomeEnded : Outcome K V
-  OutcomeRefused : Outcome K V
 
 -- what a table is made larger for: an insertion that has its reply, or a reserve
 pub data GrowFor (K V : Type 0) : Type 0 where
@@ -61,6 +61,8 @@ pub data Stage (K V F : Type 0) : Type 0 where
   AtGrow : ℕ → GrowFor K V → Stage K V F
   -- it makes room for so many pairs more
   AtReserve : ℕ → Stage K V F
+  -- it goes over all bins
+  AtSweep : SweepState K V → Stage K V F
   -- it has ended, and its reply was not taken yet
   AtDone : Outcome K V → Stage K V F
   -- its reply was taken
@@ -71,14 +73,6 @@ pub record PartyState (K V F : Type 0) : Type 0 where
   pub hash : ℕ
   pub processors : ℕ
   pub stage : Stage K V F
-
--- the part of the map that a call needs next
-pub data Part : Type 0 where
-  ControlPart : Part
-  LookPart : ℕ → ℕ → Part
-  BinPart : ℕ → ℕ → Part
-  MovePart : ℕ → ℕ → Part
-  NoPart : Part
 
 -- ---- what a call wants
 
@@ -93,6 +87,7 @@ move_part (Some b) = MovePart b.0 b.1
 abbrev pub part_of : {K V F : Type 0} → ℕ → Stage K V F → Part
 part_of h (AtBin t e) = bin_part t e (h % 2 ^ e)
 part_of h (AtMove c a) = move_part (next_of c)
+part_of h (AtSweep w) = swept_part w
 part_of h (AtDone r) = NoPart
 part_of h AtTaken = NoPart
 part_of h _ = ControlPart
@@ -164,13 +159,36 @@ module _ {K V F : Type 0} where
   outcome_in (AtRecount r) = Some r
   outcome_in (AtBegin e r) = Some r
   outcome_in (AtGrow w g) = outcome_of_growth g
+  outcome_in (AtSweep w) = swept_outcome w.stage
   outcome_in (AtDone r) = Some r
   outcome_in _ = None
 
   -- the reply of a call that is done, until it is taken
   abbrev pub final_outcome : Stage K V F → Option (Outcome K V)
+  final_outcome (AtSweep w) = swept_outcome w.stage
   final_outcome (AtDone r) = Some r
   final_outcome _ = None
+
+  -- what a walk has read last
+  abbrev pub last_seen : Stage K V F → Option (Seen K V)
+  last_seen (AtSweep w) = w.last
+  last_seen _ = None
+
+  -- its reply was taken
+  abbrev pub IsTaken : Stage K V F → Type 0
+  IsTaken (AtSweep w) = IsAfterEnd w.stage
+  IsTaken AtTaken = ⊤
+  IsTaken _ = ⊥
+
+  -- it does not go over all bins
+  abbrev pub IsSingle : Stage K V F → Type 0
+  IsSingle (AtSweep w) = ⊥
+  IsSingle _ = ⊤
+
+  -- once its reply is taken
+  abbrev pub taken_stage : Stage K V F → Stage K V F
+  taken_stage (AtSweep w) = AtSweep (sweep.with_stage w AfterEnd)
+  taken_stage s = AtTaken
 
   -- a call that stops helping goes on there
   abbrev pub resumed_stage : Resume K V F → Stage K V F
@@ -200,11 +218,17 @@ abbrev pub IsWriter : {K V F : Type 0} → Task K V F → Type 0
 IsWriter (Finds w k) = ⊥
 IsWriter _ = ⊤
 
+-- a call of one key that may change its bin, and did no step yet
+abbrev pub BeginsToWrite : {K V F : Type 0} → Stage K V F → Type 0
+BeginsToWrite (AtLocate t) = IsWriter t
+BeginsToWrite _ = ⊥
+
 -- ---- steps at the control
 
 -- the next step is at the control
 abbrev pub IsAtControl : {K V F : Type 0} → Stage K V F → Type 0
 IsAtControl (AtBin t e) = ⊥
+IsAtControl (AtSweep w) = ⊥
 IsAtControl (AtDone r) = ⊥
 IsAtControl AtTaken = ⊥
 IsAtControl _ = ⊤
@@ -212,11 +236,13 @@ IsAtControl _ = ⊤
 -- the next step only asks the control for the published table
 abbrev pub locates : {K V F : Type 0} → Stage K V F → Bool
 locates (AtLocate t) = true
+locates (AtSweep w) = sets_out w.stage
 locates _ = false
 
 -- that step, at a table that is published
 abbrev pub started_stage : {K V F : Type 0} → ℕ → Stage K V F → Stage K V F
 started_stage d (AtLocate t) = AtBin t d
+started_stage d (AtSweep w) = AtSweep (sweep.with_stage w (OverBins (at_base d 0)))
 started_stage d s = s
 
 -- the exponent w of the table that is made for so many pairs

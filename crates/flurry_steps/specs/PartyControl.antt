@@ -2,9 +2,11 @@
 use Rattle.std.specs.Prelude.{◌≡◌, ℕ, pos, negsuc, ◌+◌, ◌-◌, ◌^◌, min, Bool, true, false, Option, Some, None, MatchOption}
 use Rattle.flurry_model.specs.declared.reply.KeptReply.TheVariants.{Value}
 use Rattle.flurry_control.specs.Control.{ControlState, claim_of, after_claim, report_of, after_report, after_count, advice_of, count_of, after_open, BeginGives, grows_from}
-use Rattle.flurry_steps.specs.Party.{Task, Finds, Removes, Inserts, Adds, Computes, Outcome, OutcomeReply, OutcomeEnded, OutcomeRefused, GrowFor, ForInsert, ForReserve, ThenRecount, ThenGrow, Stage, AtLocate, AtBin, AtClaim, AtMove, AtUncount, AtCount, AtRecount, AtBegin, AtGrow, AtReserve, AtDone, PartyState, reply_for, resumed_stage, IsTableFor}
-use Rattle.flurry_steps.specs.declared.party.Event.{Event}
-use Rattle.flurry_steps.specs.declared.party.Event.TheVariants.{Decide, Refused, Opened, Placed, Published, Silent}
+use Rattle.flurry_calls.specs.Outcome.{Outcome, OutcomeReply, OutcomeEnded, OutcomeRefused}
+use Rattle.flurry_calls.specs.Sweep.{SweepState, SweepControl}
+use Rattle.flurry_steps.specs.Party.{Task, Finds, Removes, Inserts, Adds, Computes, GrowFor, ForInsert, ForReserve, ThenRecount, ThenGrow, Stage, AtLocate, AtBin, AtClaim, AtMove, AtUncount, AtCount, AtRecount, AtBegin, AtGrow, AtReserve, AtSweep, AtDone, PartyState, reply_for, resumed_stage, IsTableFor}
+use Rattle.flurry_calls.specs.declared.step.Event.{Event}
+use Rattle.flurry_calls.specs.declared.step.Event.TheVariants.{Decide, Refused, Opened, Placed, Published, Silent}
 use Rattle.flurry_control.specs.declared.control.Advice.{Advice}
 use Rattle.flurry_control.specs.declared.control.Advice.TheVariants.{Enough, Join, Begin}
 use Rattle.flurry_control.specs.declared.control.BeginOutcome.{BeginOutcome}
@@ -107,6 +109,7 @@ module _ {K V F R : Type 0} (place : R → ℕ → Bool → Bool → R → Type 
       (λ e. (a : BeginOutcome) × BeginGives place e b s a b' s' × (ev ≡ event_growing e g a) × (st ≡ stage_growing w g a))
   StageAtControl (AtReserve a) b s ev st b' s' =
       (w : ℕ) × IsTableFor (min (count_of b.count + a) (2 ^ 64 - 1)) w × ReservesFor w b s ev st b' s'
+  StageAtControl (AtSweep w) b s ev st b' s' = (w' : SweepState K V) × (st ≡ AtSweep w') × SweepControl w b ev w' b' × (s' ≡ s)
   StageAtControl _ b s ev st b' s' = ⊥
 
 -- the step of p at the control b, over the room s

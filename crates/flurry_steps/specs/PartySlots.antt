@@ -5,9 +5,11 @@ use Rattle.flurry_slots.specs.Slot as slot
 use Rattle.flurry_slots.specs.Slot.{PlainEntry, Live, Content, IsLive, HasMoved, IsUnborn, SlotState, ComputeOutcome, WasAbsent, WasRemoved, WasChanged, entry_of_live, after_write, write_reply, after_add, add_reply, after_take, ComputesInVain, HasMovedInto, Clashes}
 use Rattle.flurry_model.specs.declared.reply.KeptReply.TheVariants.{Value, New, Exists}
 use Rattle.flurry_control.specs.Claim.{moved_on}
-use Rattle.flurry_steps.specs.Party.{Sought, Presence, Task, Finds, Removes, Inserts, Adds, Computes, Outcome, OutcomeReply, OutcomeRefused, ForInsert, ThenBin, Stage, AtLocate, AtBin, AtClaim, AtMove, AtUncount, AtCount, AtGrow, AtDone, PartyState, reply_for, with_stage, IsTableFor}
-use Rattle.flurry_steps.specs.declared.party.Event.{Event}
-use Rattle.flurry_steps.specs.declared.party.Event.TheVariants.{Decide, Refused, Moved, Silent}
+use Rattle.flurry_calls.specs.Outcome.{Outcome, OutcomeReply, OutcomeRefused}
+use Rattle.flurry_calls.specs.Sweep.{SweepState, SweepGives}
+use Rattle.flurry_steps.specs.Party.{Sought, Presence, Task, Finds, Removes, Inserts, Adds, Computes, ForInsert, ThenBin, Stage, AtLocate, AtBin, AtClaim, AtMove, AtUncount, AtCount, AtGrow, AtSweep, AtDone, PartyState, reply_for, with_stage, IsTableFor}
+use Rattle.flurry_calls.specs.declared.step.Event.{Event}
+use Rattle.flurry_calls.specs.declared.step.Event.TheVariants.{Decide, Refused, Moved, Silent}
 
 module _ {K V F : Type 0} where
   -- a call that put a new key, and has this reply: where the bin asks for growth, a table is made larger for twice the bins of its
@@ -79,6 +81,7 @@ module _ {K V F : Type 0} (cmp : K → K → Ordering) (changes : F → K → V 
 
   abbrev pub StageAtSlot : Stage K V F → Content K V → Event → Stage K V F → Content K V → Type 0
   StageAtSlot (AtBin t e) c ev s' c' = ContentGives t e c ev s' c'
+  StageAtSlot (AtSweep w) c ev s' c' = (w' : SweepState K V) × (s' ≡ AtSweep w') × SweepGives cmp w c ev w' c'
   StageAtSlot _ c ev s' c' = ⊥
 
 -- the step of p at the slot q answers ev, and leaves p' and q'

@@ -1,9 +1,10 @@
 -- What a step of a call is at a tally.
 use Rattle.std.specs.Prelude.{◌≡◌, ℤ, pos, negsuc, Bool, true, false, if◌then◌else◌, int_le, ◌≤◌, ⊤}
 use Rattle.flurry_control.specs.Control.{counted}
-use Rattle.flurry_steps.specs.Party.{Outcome, Stage, AtUncount, AtCount, AtRecount, AtGrow, AtDone, ForInsert, IsDecided, PartyState}
-use Rattle.flurry_steps.specs.declared.party.Event.{Event}
-use Rattle.flurry_steps.specs.declared.party.Event.TheVariants as event
+use Rattle.flurry_calls.specs.Outcome.{Outcome}
+use Rattle.flurry_steps.specs.Party.{Stage, AtUncount, AtCount, AtRecount, AtGrow, AtDone, ForInsert, IsDecided, PartyState}
+use Rattle.flurry_calls.specs.declared.step.Event.{Event}
+use Rattle.flurry_calls.specs.declared.step.Event.TheVariants as event
 use Rattle.flurry_steps.specs.declared.party.ending.Rest.{Rest}
 use Rattle.flurry_steps.specs.declared.party.ending.Rest.TheVariants as rest
 use Rattle.flurry_model.specs.declared.sizes.TheConstants.{GREATEST_TABLE}

@@ -1,11 +1,9 @@
 -- What contracts see of a call in progress.
 use Rattle.std.specs.Prelude.{⊤}
-use Rattle.std.specs.Option.{option_map}
-use Rattle.std.specs.Arc.{arc_value}
-use Rattle.std.specs.declared.sync.Arc.{Arc}
-use Rattle.flurry_model.specs.declared.reply.KeptReply.TheVariants as kept
+use Rattle.flurry_calls.specs.OutcomeView.{outcome_of}
+use Rattle.flurry_calls.specs.Sweep.{Reads, Wipes, fresh_sweep}
 use Rattle.flurry_steps.specs.Party as abstract
-use Rattle.flurry_steps.specs.Party.{PartyState, Part, ControlPart, LookPart, BinPart, MovePart, NoPart, Outcome, OutcomeReply, OutcomeEnded, OutcomeRefused}
+use Rattle.flurry_steps.specs.Party.{PartyState}
 use Rattle.flurry_steps.specs.declared.party.call.Key.{Key}
 use Rattle.flurry_steps.specs.declared.party.call.Key.TheVariants as key
 use Rattle.flurry_steps.specs.declared.party.call.Call.{Call}
@@ -16,38 +14,15 @@ use Rattle.flurry_steps.specs.declared.party.call.Sought.{Sought}
 use Rattle.flurry_steps.specs.declared.party.call.Sought.TheVariants as sought
 use Rattle.flurry_steps.specs.declared.party.call.Task.{Task}
 use Rattle.flurry_steps.specs.declared.party.call.Task.TheVariants as task
-use Rattle.flurry_steps.specs.declared.party.reply.Reply.{Reply}
-use Rattle.flurry_steps.specs.declared.party.reply.Reply.TheVariants as reply
 use Rattle.flurry_steps.specs.declared.party.stage.GrowFor.{GrowFor}
 use Rattle.flurry_steps.specs.declared.party.stage.GrowFor.TheVariants as growing
 use Rattle.flurry_steps.specs.declared.party.stage.Resume.{Resume}
 use Rattle.flurry_steps.specs.declared.party.stage.Resume.TheVariants as after
 use Rattle.flurry_steps.specs.declared.party.stage.Stage.{Stage}
 use Rattle.flurry_steps.specs.declared.party.stage.Stage.TheVariants as stage
-use Rattle.flurry_steps.specs.declared.party.Want.{Want}
-use Rattle.flurry_steps.specs.declared.party.Want.TheVariants as want
-use Rattle.flurry_steps.specs.declared.party.Party.TheInside.{Inside}
-
-module _ {K V A : Type 0} where
-  -- the stored key and its value, out of what owns them
-  abbrev pub pair_value : Arc K A × Arc V A → K × V
-  pair_value p = (arc_value p.0, arc_value p.1)
-
-  abbrev pub outcome_of : Reply K V A → Outcome K V
-  outcome_of (reply.Value v) = OutcomeReply (kept.Value (option_map arc_value v))
-  outcome_of (reply.Pair p) = OutcomeReply (kept.Pair (option_map pair_value p))
-  outcome_of (reply.Contains b) = OutcomeReply (kept.Contains b)
-  outcome_of (reply.New v) = OutcomeReply (kept.New (arc_value v))
-  outcome_of (reply.Exists e) = OutcomeReply (kept.Exists (arc_value e.current) e.not_inserted)
-  outcome_of reply.Ended = OutcomeEnded
-  outcome_of reply.Refused = OutcomeRefused
-
-abbrev pub part_of_want : Want → Part
-part_of_want want.Control = ControlPart
-part_of_want (want.Look e i) = LookPart e i
-part_of_want (want.Bin e i) = BinPart e i
-part_of_want (want.Move e i) = MovePart e i
-part_of_want want.Done = NoPart
+use Rattle.flurry_steps.specs.declared.party.first.Keyless.{Keyless}
+use Rattle.flurry_steps.specs.declared.party.first.Keyless.TheVariants as keyless
+use Rattle.flurry_steps.specs.declared.party.single.Single.TheInside.{Inside}
 
 abbrev pub key_of : {K : Type 0} → Key K → K
 key_of (key.Lent k) = k.now
@@ -77,6 +52,14 @@ module _ {K V F : Type 0} where
   first_stage (call.TryInsert k v) = abstract.AtLocate (abstract.Adds k v)
   first_stage (call.Compute k f) = abstract.AtLocate (abstract.Computes k.now f)
   first_stage (call.Reserve a) = abstract.AtReserve a
+  first_stage call.Clear = abstract.AtSweep (fresh_sweep (Wipes 0))
+  first_stage call.Walk = abstract.AtSweep (fresh_sweep Reads)
+
+  -- that of a call without a key
+  abbrev pub keyless_stage : Keyless → abstract.Stage K V F
+  keyless_stage (keyless.Reserve a) = abstract.AtReserve a
+  keyless_stage keyless.Clear = abstract.AtSweep (fresh_sweep (Wipes 0))
+  keyless_stage keyless.Walk = abstract.AtSweep (fresh_sweep Reads)
 
   -- and of a call that has its key
   abbrev pub owned_stage : OwnedCall K V F → abstract.Stage K V F
@@ -89,6 +72,8 @@ module _ {K V F : Type 0} where
   owned_stage (owned_call.TryInsert k v) = abstract.AtLocate (abstract.Adds k v)
   owned_stage (owned_call.Compute k f) = abstract.AtLocate (abstract.Computes k f)
   owned_stage (owned_call.Reserve a) = abstract.AtReserve a
+  owned_stage owned_call.Clear = abstract.AtSweep (fresh_sweep (Wipes 0))
+  owned_stage owned_call.Walk = abstract.AtSweep (fresh_sweep Reads)
 
   -- its function, if it has one, may be called
   abbrev pub CallIsReady : (F → Type 0) → Call K V F → Type 0
@@ -125,5 +110,5 @@ module _ {K V F A : Type 0} where
   stage_of (stage.Done r) = abstract.AtDone (outcome_of r)
   stage_of stage.Taken = abstract.AtTaken
 
-  abbrev pub party_state_of : Inside K V F A → PartyState K V F
-  party_state_of p = record { hash = p.hash; processors = p.processors; stage = stage_of p.stage }
+  abbrev pub single_state_of : Inside K V F A → PartyState K V F
+  single_state_of p = record { hash = p.hash; processors = p.processors; stage = stage_of p.stage }

@@ -1,6 +1,7 @@
 //! Where a call finds the parts of a map that its steps need.
 ghost use Rattle.std.specs.Prelude.{◌≡◌};
-ghost use Rattle.flurry_steps.specs.Party.{Part, ControlPart, LookPart, BinPart, MovePart, wanted_part};
+ghost use Rattle.flurry_calls.specs.Part.{Part, ControlPart, LookPart, BinPart, MovePart};
+ghost use Rattle.flurry_steps.specs.Party.{wanted_part};
 ghost use Rattle.flurry_steps.specs.Field.{Loan, TurnsOrStays, ActsOrStays};
 
 use crate::party::{Event, Party, Want};

@@ -2,13 +2,18 @@
 //!
 //! A caller asks a [`Party`] what it wants, lends it that part, and so on until the party is done. What it does to the part, and what
 //! it becomes, are plain data in contracts; each step is one line of what a call does, whichever steps of other calls come between.
-ghost use Rattle.std.specs.Prelude.{◌≡◌, ◌<◌, ◌≤◌, ◌⊎◌, IfNone, IfSome, true};
+ghost use Rattle.std.specs.Prelude.{◌≡◌, ◌<◌, ◌≤◌, ◌⊎◌, IsSome, IfNone, IfSome, IfOk, OnErr, true};
 ghost use Rattle.std.specs.Option.{option_map, option_copied};
 ghost use Rattle.flurry_slots.specs.Slot.{IsSlot, IsUnborn};
-ghost use Rattle.flurry_steps.specs.Party.{PartyState, locates, started_stage, wanted_part, with_stage, outcome_in, final_outcome, steps_left, LooksUp, LookPart, BinPart, MovePart, ControlPart, AtTaken, AtLocate, TaskIsReady};
+ghost use Rattle.flurry_calls.specs.Part.{LookPart, BinPart, MovePart, ControlPart};
+ghost use Rattle.flurry_calls.specs.PartView.{part_of_want};
+ghost use Rattle.flurry_calls.specs.OutcomeView.{outcome_of};
+ghost use Rattle.flurry_calls.specs.Sweep.{pair_seen};
+ghost use Rattle.flurry_steps.specs.Party.{locates, started_stage, taken_stage, wanted_part, with_stage, outcome_in, final_outcome, last_seen, steps_left, LooksUp, StageIsReady};
 ghost use Rattle.flurry_steps.specs.PartyControl.{ControlStep};
 ghost use Rattle.flurry_steps.specs.PartySlots.{SlotStep, MoveStep};
-ghost use Rattle.flurry_steps.specs.PartyView.{part_of_want, first_stage, owned_stage, outcome_of, task_of, CallIsReady, OwnedIsReady};
+ghost use Rattle.flurry_steps.specs.PartyTally.{TallyStep, counts};
+ghost use Rattle.flurry_steps.specs.PartyView.{first_stage, owned_stage, stage_of, CallIsReady, OwnedIsReady, keyless_stage};
 ghost use Rattle.flurry_model.specs.declared.sizes.TheConstants.{GREATEST_TABLE};
 
 mod at_control;
@@ -17,57 +22,20 @@ mod at_tally;
 mod call;
 mod ending;
 mod first;
-mod reply;
+mod single;
 mod stage;
 
-use at_control::step_control;
-use at_slot::{step_lookup, step_write};
-use call::{Key, Sought, Task};
 pub use call::{Call, OwnedCall};
 pub use ending::{Ending, Rest};
-use first::task_for;
-use flurry_control::{Control, PublishedTable, Room};
-use flurry_model::sizes::bin_index;
-use flurry_slots::{ComputeFn, MoveAnswer, Slot};
-pub use reply::Reply;
-use stage::{GrowFor, Resume, Stage};
-use std::alloc::{Allocator, Global};
+use first::{Keyless, task_for, task_of_owned};
+use flurry_calls::{Seen, Sweep};
+pub use flurry_calls::{Event, Reply, Want};
+use flurry_control::{Control, PublishedTable, Room, Tally};
+use flurry_slots::{ComputeFn, Slot};
+use single::Single;
+use stage::Stage;
+use std::alloc::{AllocError, Allocator, Global};
 use std::marker::Model;
-use std::mem;
-
-/// The part of a shared map that the next step of a call needs.
-#[derive(Clone, Copy, Debug, PartialEq, Eq)]
-pub enum Want {
-    /// The control, and the room where tables are made.
-    Control,
-    /// The slot of that table and index, to read.
-    Look(u8, usize),
-    /// The slot of that table and index, to write.
-    Bin(u8, usize),
-    /// The slot of that table and index, and its two halves in the next table, to move.
-    Move(u8, usize),
-    /// Nothing: the call is done.
-    Done,
-}
-
-/// What a step of a call was.
-#[derive(Clone, Copy, Debug, PartialEq, Eq)]
-pub enum Event {
-    /// A call of one key decided: it has its reply, and changed the map.
-    Decide,
-    /// The call was refused for memory, and is done.
-    Refused,
-    /// The first table, of that exponent, was made and published.
-    Opened(u8),
-    /// The table of that exponent was made, and its growth began.
-    Placed(u8),
-    /// The bin of that table and index was moved.
-    Moved(u8, usize),
-    /// The table of that exponent was published.
-    Published(u8),
-    /// Any other step.
-    Silent,
-}
 
 /// One call of a shared map in progress.
 ///
@@ -75,27 +43,74 @@ pub enum Event {
 /// that it meets is unborn: one at the control, and one in each of 31 tables.
 #[derive(Drop)]
 pub struct Party<'k, K, V, F: ComputeFn<K, V>, A: Allocator = Global> {
-    hash: u64,
-    processors: usize,
-    // A stage is put in its place by `mem::replace`, and the one before goes to `drop`: at an assignment the proof would go through all
-    // that a stage can hold.
-    stage: Stage<'k, K, V, F, A>,
+    course: Course<'k, K, V, F, A>,
+}
+
+/// What a call is. A sweep's frames would lengthen the proofs of all other steps, so those are of a type of their own.
+#[derive(Drop)]
+pub(crate) enum Course<'k, K, V, F: ComputeFn<K, V>, A: Allocator> {
+    /// One of one key, or one that makes room.
+    Single(Single<'k, K, V, F, A>),
+    /// A walk or a clear, with the hash and the number of processors that it was given; it reads neither.
+    Sweep(u64, usize, Sweep<K, V, A>),
 }
 
 impl<'k, K, V, F: ComputeFn<K, V>, A: Allocator> Model for Party<'k, K, V, F, A> {
-    ghost use Rattle.flurry_steps.specs.Party.{PartyState, StageIsReady};
-    ghost use Rattle.flurry_steps.specs.PartyView.{party_state_of, stage_of};
+    ghost use Rattle.flurry_steps.specs.Party.{PartyState};
+    ghost use Rattle.flurry_steps.specs.CourseView.{party_state_of};
 
     ghost Value = { PartyState K V F };
 
     ghost view = { party_state_of };
+}
 
-    ghost invariant = { λ p. StageIsReady F.can_change (stage_of p.stage) };
+impl<'k, K, V, F: ComputeFn<K, V>, A: Allocator> Party<'k, K, V, F, A> {
+    // A call that does not go over all bins.
+    fn of_single(single: Single<'k, K, V, F, A>) -> Self
+        ensures { result ≡ single.entry }
+    {
+        Party {
+            course: Course::Single(single),
+        }
+    }
+
+    // A call of one key that stands there.
+    fn of_stage(stage: Stage<'k, K, V, F, A>, hash: u64, processors: usize) -> Self
+        requires { StageIsReady F.can_change (stage_of stage) }
+        ensures { result ≡ record { hash = hash; processors = processors; stage = stage_of stage.entry } }
+    {
+        Party::of_single(Single {
+            hash,
+            processors,
+            stage,
+        })
+    }
 }
 
 impl<'k, K: Drop, V: Drop, F: ComputeFn<K, V>, A: Allocator> Party<'k, K, V, F, A> {
+    // A call without a key, before its first step.
+    fn of_keyless(call: Keyless, hash: u64, processors: usize) -> Self
+        ensures { result ≡ record { hash = hash; processors = processors; stage = keyless_stage call } }
+    {
+        match call {
+            Keyless::Reserve(more) => {
+                return Party::of_single(Single::of_reserve(more, hash, processors));
+            }
+            Keyless::Clear => {
+                return Party {
+                    course: Course::Sweep(hash, processors, Sweep::clear()),
+                };
+            }
+            Keyless::Walk => {
+                return Party {
+                    course: Course::Sweep(hash, processors, Sweep::walk()),
+                };
+            }
+        }
+    }
+
     /// A call before its first step, by the hash of its key and the number of processors that share the work of a growth; 0 counts
-    /// as 1. A reserve does not read the hash.
+    /// as 1. A call without a key does not read the hash.
     ///
     /// Constant time; takes no memory.
     pub fn new(call: Call<'k, K, V, F>, hash: u64, processors: usize) -> Self
@@ -103,12 +118,8 @@ impl<'k, K: Drop, V: Drop, F: ComputeFn<K, V>, A: Allocator> Party<'k, K, V, F, 
         ensures { result ≡ record { hash = hash; processors = processors; stage = first_stage call.entry } }
     {
         match task_for(call) {
-            Ok(task) => Party::of_task(task, hash, processors),
-            Err(more) => Party {
-                hash,
-                processors,
-                stage: Stage::Reserve(more),
-            },
+            Ok(task) => return Party::of_single(Single::of_task(task, hash, processors)),
+            Err(call) => return Party::of_keyless(call, hash, processors),
         }
     }
 
@@ -119,35 +130,9 @@ impl<'k, K: Drop, V: Drop, F: ComputeFn<K, V>, A: Allocator> Party<'k, K, V, F, 
         requires { OwnedIsReady F.can_change call }
         ensures { result ≡ record { hash = hash; processors = processors; stage = owned_stage call } }
     {
-        let task = match call {
-            OwnedCall::Get(key) => Task::Find(Sought::Value, Key::Own(key)),
-            OwnedCall::GetKeyValue(key) => Task::Find(Sought::Pair, Key::Own(key)),
-            OwnedCall::ContainsKey(key) => Task::Find(Sought::Presence, Key::Own(key)),
-            OwnedCall::Remove(key) => Task::Remove(Sought::Value, Key::Own(key)),
-            OwnedCall::RemoveEntry(key) => Task::Remove(Sought::Pair, Key::Own(key)),
-            OwnedCall::Insert(key, value) => Task::Insert(key, value),
-            OwnedCall::TryInsert(key, value) => Task::Add(key, value),
-            OwnedCall::Compute(key, f) => Task::Compute(Key::Own(key), f),
-            OwnedCall::Reserve(more) => {
-                return Party {
-                    hash,
-                    processors,
-                    stage: Stage::Reserve(more),
-                };
-            }
-        };
-        Party::of_task(task, hash, processors)
-    }
-
-    // The same of a call of one key.
-    fn of_task(task: Task<'k, K, V, F>, hash: u64, processors: usize) -> Self
-        requires { TaskIsReady F.can_change (task_of task) }
-        ensures { result ≡ record { hash = hash; processors = processors; stage = AtLocate (task_of task.entry) } }
-    {
-        Party {
-            hash,
-            processors,
-            stage: Stage::Locate(task),
+        match task_of_owned(call) {
+            Ok(task) => return Party::of_single(Single::of_task(task, hash, processors)),
+            Err(call) => return Party::of_keyless(call, hash, processors),
         }
     }
 
@@ -158,20 +143,9 @@ impl<'k, K: Drop, V: Drop, F: ComputeFn<K, V>, A: Allocator> Party<'k, K, V, F, 
     pub fn want(&self) -> Want
         ensures { part_of_want result ≡ wanted_part self.now }
     {
-        match &self.stage {
-            Stage::Bin(task, table) => {
-                let index = bin_index(self.hash, *table);
-                match task {
-                    Task::Find(_, _) => Want::Look(*table, index),
-                    _ => Want::Bin(*table, index),
-                }
-            }
-            Stage::Move(claim, _) => match claim.next() {
-                Some((table, index)) => Want::Move(table, index),
-                None => Want::Control,
-            },
-            Stage::Done(_) | Stage::Taken => Want::Done,
-            _ => Want::Control,
+        match &self.course {
+            Course::Single(single) => single.want(),
+            Course::Sweep(_, _, sweep) => sweep.want(),
         }
     }
 
@@ -181,18 +155,9 @@ impl<'k, K: Drop, V: Drop, F: ComputeFn<K, V>, A: Allocator> Party<'k, K, V, F, 
     pub fn reply(&self) -> Option<&Reply<K, V, A>>
         ensures { option_map outcome_of (option_copied result) ≡ outcome_in self.now.stage }
     {
-        match &self.stage {
-            Stage::Done(reply)
-            | Stage::Uncount(reply)
-            | Stage::Count(reply)
-            | Stage::Recount(reply)
-            | Stage::Begin(_, reply)
-            | Stage::Claim(Resume::Recount(reply))
-            | Stage::Claim(Resume::Grow(_, GrowFor::Insert(reply)))
-            | Stage::Move(_, Resume::Recount(reply))
-            | Stage::Move(_, Resume::Grow(_, GrowFor::Insert(reply)))
-            | Stage::Grow(_, GrowFor::Insert(reply)) => Some(reply),
-            _ => None,
+        match &self.course {
+            Course::Single(single) => single.reply(),
+            Course::Sweep(_, _, sweep) => sweep.reply(),
         }
     }
 
@@ -203,14 +168,40 @@ impl<'k, K: Drop, V: Drop, F: ComputeFn<K, V>, A: Allocator> Party<'k, K, V, F, 
     pub fn take_reply(&mut self) -> Option<Reply<K, V, A>>
         ensures value { option_map outcome_of result ≡ final_outcome self.old.stage }
         ensures none { IfNone result (self.new ≡ self.old) }
-        ensures some { IfSome result (λ _. self.new ≡ with_stage self.old AtTaken) }
+        ensures some { IfSome result (λ _. self.new ≡ with_stage self.old (taken_stage self.old.stage)) }
     {
-        match mem::replace(&mut self.stage, Stage::Taken) {
-            Stage::Done(reply) => Some(reply),
-            other => {
-                drop(mem::replace(&mut self.stage, other));
-                None
-            }
+        match &mut self.course {
+            Course::Single(single) => return single.take_reply(),
+            Course::Sweep(_, _, sweep) => return sweep.take_reply(),
+        }
+    }
+
+    /// The pair that a walk has read last, which stays once it has ended; none of any other call.
+    ///
+    /// Constant time.
+    pub fn last_read(&self) -> Option<(&K, &V)>
+        ensures { option_map (λ p. (p.0.now, p.1.now)) result ≡ option_map pair_seen (last_seen self.now.stage) }
+    {
+        match &self.course {
+            Course::Single(single) => single.last_read(),
+            Course::Sweep(_, _, sweep) => sweep.last_read(),
+        }
+    }
+
+    /// The same with the write number of the value.
+    ///
+    /// Constant time; takes no memory but for further owners of the key and the value.
+    ///
+    /// # Errors
+    ///
+    /// [`AllocError`], where such an owner is refused.
+    pub fn seen(&self) -> Result<Option<Seen<K, V, A>>, AllocError>
+        ensures ok { IfOk result (λ s. s ≡ last_seen self.now.stage) }
+        ensures err { OnErr result (IsSome (last_seen self.now.stage)) }
+    {
+        match &self.course {
+            Course::Single(single) => Ok(single.seen()),
+            Course::Sweep(_, _, sweep) => sweep.seen(),
         }
     }
 
@@ -221,10 +212,10 @@ impl<'k, K: Drop, V: Drop, F: ComputeFn<K, V>, A: Allocator> Party<'k, K, V, F, 
         requires { wanted_part self.old ≡ ControlPart }
         ensures { ControlStep R.place_gives self.old control.old room.old result self.new control.new room.new }
     {
-        let stage = mem::replace(&mut self.stage, Stage::Taken);
-        let (stage, event) = step_control(stage, self.processors, control, room);
-        drop(mem::replace(&mut self.stage, stage));
-        event
+        match &mut self.course {
+            Course::Single(single) => return single.on_control(control, room),
+            Course::Sweep(_, _, sweep) => return sweep.on_control(control),
+        }
     }
 
     /// Whether the next step only asks the control for the published table.
@@ -234,10 +225,13 @@ impl<'k, K: Drop, V: Drop, F: ComputeFn<K, V>, A: Allocator> Party<'k, K, V, F, 
     pub fn locates(&self) -> bool
         ensures { result ≡ locates self.now.stage }
     {
-        matches!(self.stage, Stage::Locate(_))
+        match &self.course {
+            Course::Single(single) => single.locates(),
+            Course::Sweep(_, _, sweep) => sweep.sets_out(),
+        }
     }
 
-    /// That step, at a table that a control has published: the call goes on to its bin there.
+    /// That step, at a table that a control has published: the call goes on to its bin there, or to the first one.
     ///
     /// Constant time.
     #[inline]
@@ -247,19 +241,55 @@ impl<'k, K: Drop, V: Drop, F: ComputeFn<K, V>, A: Allocator> Party<'k, K, V, F, 
         ensures silent { result ≡ Event.Silent }
         ensures at { self.new ≡ with_stage self.old (started_stage start.now self.old.stage) }
     {
-        match mem::replace(&mut self.stage, Stage::Taken) {
-            Stage::Locate(task) => {
-                let stage = Stage::Bin(task, start.table());
-                drop(mem::replace(&mut self.stage, stage));
-                Event::Silent
-            }
-            _ => unreachable!(),
+        match &mut self.course {
+            Course::Single(single) => return single.on_start(start),
+            Course::Sweep(_, _, sweep) => return sweep.on_start(start),
+        }
+    }
+
+    /// Whether the next step counts one pair, which the call has put or removed.
+    ///
+    /// Constant time.
+    #[inline]
+    pub fn counts(&self) -> bool
+        ensures { result ≡ counts self.now.stage }
+    {
+        match &self.course {
+            Course::Single(single) => single.counts(),
+            Course::Sweep(_, _, _) => false,
+        }
+    }
+
+    /// That step, at a tally in the control's place. A call that put a pair looks at the control's count next where at least so many
+    /// pairs wait at the tally then; any other call is done.
+    ///
+    /// Constant time.
+    pub fn on_tally(&mut self, tally: &mut Tally, most: i64) -> Event
+        requires { counts self.old.stage ≡ true }
+        ensures { TallyStep most self.old tally.old result self.new tally.new }
+    {
+        match &mut self.course {
+            Course::Single(single) => return single.on_tally(tally, most),
+            Course::Sweep(_, _, _) => unreachable!(),
+        }
+    }
+
+    /// The hash that the call was made with.
+    ///
+    /// Constant time.
+    #[inline]
+    pub fn hash(&self) -> u64
+        ensures { result ≡ self.now.hash }
+    {
+        match &self.course {
+            Course::Single(single) => single.hash(),
+            Course::Sweep(hash, _, _) => *hash,
         }
     }
 }
 
 impl<'k, K: Ord + Drop, V: Drop, F: ComputeFn<K, V>, A: Allocator> Party<'k, K, V, F, A> {
-    /// The step of a look-up at its slot. Unless the bin is unborn, fewer steps are left than before.
+    /// The step of a look-up or a walk at its slot. A look-up has fewer steps left than before, unless the bin is unborn.
     ///
     /// As many steps as a look-up in the bin.
     pub fn on_look(&mut self, slot: &Slot<K, V, A>) -> Event
@@ -269,16 +299,10 @@ impl<'k, K: Ord + Drop, V: Drop, F: ComputeFn<K, V>, A: Allocator> Party<'k, K, 
             ((slot.now.content ≡ IsUnborn) ⊎ (steps_left self.new.stage < steps_left self.old.stage)) }
         ensures step { SlotStep K.cmp F.changes self.old slot.now result self.new slot.now }
     {
-        let stage = mem::replace(&mut self.stage, Stage::Taken);
-        let Stage::Bin(task, table) = stage else {
-            unreachable!()
-        };
-        let Task::Find(sought, key) = task else {
-            unreachable!()
-        };
-        let (stage, event) = step_lookup(self.hash, sought, key, table, slot);
-        drop(mem::replace(&mut self.stage, stage));
-        event
+        match &mut self.course {
+            Course::Single(single) => return single.on_look(slot),
+            Course::Sweep(_, _, sweep) => return sweep.on_look(slot),
+        }
     }
 
     /// The step of a helper at a slot and its two halves in the next table.
@@ -294,20 +318,9 @@ impl<'k, K: Ord + Drop, V: Drop, F: ComputeFn<K, V>, A: Allocator> Party<'k, K, 
         ensures within { IsSlot K.cmp old.old }
         ensures step { MoveStep self.old old.old low.old high.old result self.new old.new low.new high.new }
     {
-        let Stage::Move(claim, _) = &mut self.stage else {
-            unreachable!()
-        };
-        match old.move_into(low, high) {
-            MoveAnswer::Done(receipt) => {
-                let (table, index) = receipt.at();
-                claim.advance(receipt);
-                Event::Moved(table, index)
-            }
-            MoveAnswer::Already(receipt) => {
-                claim.advance(receipt);
-                Event::Silent
-            }
-            MoveAnswer::Clash => Event::Silent,
+        match &mut self.course {
+            Course::Single(single) => return single.on_move(old, low, high),
+            Course::Sweep(_, _, _) => unreachable!(),
         }
     }
 }
@@ -315,19 +328,15 @@ impl<'k, K: Ord + Drop, V: Drop, F: ComputeFn<K, V>, A: Allocator> Party<'k, K, 
 impl<'k, K: Ord + Drop, V: Drop, F: ComputeFn<K, V>, A: Allocator + Copy> Party<'k, K, V, F, A> {
     /// The step at its slot of a call that may change it.
     ///
-    /// As many steps as a look-up in the bin.
+    /// As many steps as a look-up in the bin; of a clear linear time in the bin.
     pub fn on_bin(&mut self, alloc: A, slot: &mut Slot<K, V, A>) -> Event
         requires { wanted_part self.old ≡ BinPart slot.old.table slot.old.index }
         ensures within { IsSlot K.cmp slot.old }
         ensures step { SlotStep K.cmp F.changes self.old slot.old result self.new slot.new }
     {
-        match mem::replace(&mut self.stage, Stage::Taken) {
-            Stage::Bin(task, table) => {
-                let (stage, event) = step_write(alloc, self.hash, task, table, slot);
-                drop(mem::replace(&mut self.stage, stage));
-                event
-            }
-            _ => unreachable!(),
+        match &mut self.course {
+            Course::Single(single) => return single.on_bin(alloc, slot),
+            Course::Sweep(_, _, sweep) => return sweep.on_bin(slot),
         }
     }
 }

@@ -1,6 +1,7 @@
 -- A call that has its key, before its first step.
 use Rattle.std.specs.Prelude.{◌≡◌, ℕ, Some, None}
 use Rattle.std.proofs.Common.{refl, ap}
+use Rattle.flurry_steps.specs.Party.{last_seen}
 use Rattle.flurry_steps.specs.PartyView.{owned_stage}
 use Rattle.flurry_steps.specs.declared.party.call.OwnedCall.{OwnedCall}
 use Rattle.flurry_steps.specs.declared.party.call.OwnedCall.TheVariants as owned
@@ -12,16 +13,18 @@ use Rattle.flurry_world.proofs.StateLaws.{same_some}
 
 module _ {K V F : Type 0} where
   -- its stage
-  pub fresh_stage : (c : OwnedCall K V F) → FollowsStage (theory_call c) (owned_stage c) × (mode_of_stage (owned_stage c) ≡ Locating) × (claim_of_stage (owned_stage c) ≡ None)
-  fresh_stage (owned.Get j) = (refl, refl, refl)
-  fresh_stage (owned.GetKeyValue j) = (refl, refl, refl)
-  fresh_stage (owned.ContainsKey j) = (refl, refl, refl)
-  fresh_stage (owned.Remove j) = (refl, refl, refl)
-  fresh_stage (owned.RemoveEntry j) = (refl, refl, refl)
-  fresh_stage (owned.Insert j v) = (refl, refl, refl)
-  fresh_stage (owned.TryInsert j v) = (refl, refl, refl)
-  fresh_stage (owned.Compute j f) = (refl, refl, refl)
-  fresh_stage (owned.Reserve a) = (refl, refl, refl)
+  pub fresh_stage : (hash : K → ℕ) (c : OwnedCall K V F) → FollowsStage hash (theory_call c) (owned_stage c) × (mode_of_stage (owned_stage c) ≡ Locating) × (claim_of_stage (owned_stage c) ≡ None) × (last_seen (owned_stage c) ≡ None)
+  fresh_stage hash (owned.Get j) = (refl, refl, refl, refl)
+  fresh_stage hash (owned.GetKeyValue j) = (refl, refl, refl, refl)
+  fresh_stage hash (owned.ContainsKey j) = (refl, refl, refl, refl)
+  fresh_stage hash (owned.Remove j) = (refl, refl, refl, refl)
+  fresh_stage hash (owned.RemoveEntry j) = (refl, refl, refl, refl)
+  fresh_stage hash (owned.Insert j v) = (refl, refl, refl, refl)
+  fresh_stage hash (owned.TryInsert j v) = (refl, refl, refl, refl)
+  fresh_stage hash (owned.Compute j f) = (refl, refl, refl, refl)
+  fresh_stage hash (owned.Reserve a) = (refl, refl, refl, refl)
+  fresh_stage hash owned.Clear = (((refl, refl), refl), refl, refl, refl)
+  fresh_stage hash owned.Walk = ((refl, tt), refl, refl, refl)
 
   -- it goes by its key's hash
   pub own_hash : (hash : K → ℕ) (c : OwnedCall K V F) (k : K) → key_of (theory_call c) ≡ Some k → hash_for hash c ≡ hash k
@@ -34,3 +37,5 @@ module _ {K V F : Type 0} where
   own_hash hash (owned.TryInsert j v) k h = ap hash (same_some h)
   own_hash hash (owned.Compute j f) k h = ap hash (same_some h)
   own_hash hash (owned.Reserve n) k h = cc
+  own_hash hash owned.Clear k h = cc
+  own_hash hash owned.Walk k h = cc

@@ -7,8 +7,9 @@ use Rattle.std.proofs.Common.{arith, sym, ◌∙◌, ap, subst}
 use Rattle.std.proofs.lemmas.Int.{ints}
 use Rattle.flurry_control.specs.Control as control
 use Rattle.flurry_control.specs.Control.{ControlState, IsIdle, Grows}
-use Rattle.flurry_steps.specs.Party.{Outcome, Stage, PartyState}
-use Rattle.flurry_steps.specs.declared.party.Event.{Event}
+use Rattle.flurry_calls.specs.Outcome.{Outcome}
+use Rattle.flurry_steps.specs.Party.{Stage, PartyState}
+use Rattle.flurry_calls.specs.declared.step.Event.{Event}
 use Rattle.flurry_theory.specs.Machine.{Done, Quiet, Counts}
 use Rattle.flurry_theory.specs.Map.{same}
 use Rattle.flurry_theory.specs.Trace.{is_lookup}
@@ -43,7 +44,7 @@ module _ {K V F S : Type 0} (cmp : K → K → Ordering) (total : IsTotalOrder c
       (subst (λ z. IsStep cmp hash gives w p x b' t' c (label_of p ev' z)) (sym f) step)))
 
   -- a step that changes nothing which the machine sees
-  pub quiet : (s : Stage K V F) → x.party_state.stage ≡ s → mode_of_stage c.stage ≡ mode_of_stage s → claim_of_stage c.stage ≡ claim_of_stage s → is_lookup (Some x.call) ≡ false → FollowsStage x.call c.stage
+  pub quiet : (s : Stage K V F) → x.party_state.stage ≡ s → mode_of_stage c.stage ≡ mode_of_stage s → claim_of_stage c.stage ≡ claim_of_stage s → is_lookup (Some x.call) ≡ false → FollowsStage hash x.call c.stage
       → IsStep cmp hash gives w p x w.control_state w.tables c (label.Silent p)
   quiet s e mode claim lookup follows = record {
     line = Quiet;
@@ -55,7 +56,7 @@ module _ {K V F S : Type 0} (cmp : K → K → Ordering) (total : IsTotalOrder c
 
   -- a step that counts
   pub counts : (s : Stage K V F) (r : Outcome K V) (added removed : ℕ) (d : ℤ) → x.party_state.stage ≡ s → mode_of_stage s ≡ Done (reply_in r) added removed → claim_of_stage s ≡ None → Near (2 ^ 62) w.control_state.count → d ≡ pos added -ℤ pos removed → added + removed ≤ 1
-      → mode_of_stage c.stage ≡ Done (reply_in r) 0 0 → claim_of_stage c.stage ≡ None → is_lookup (Some x.call) ≡ false → FollowsStage x.call c.stage
+      → mode_of_stage c.stage ≡ Done (reply_in r) 0 0 → claim_of_stage c.stage ≡ None → is_lookup (Some x.call) ≡ false → FollowsStage hash x.call c.stage
       → IsStep cmp hash gives w p x (control.after_count d w.control_state) w.tables c (label.Silent p)
   counts s r added removed d e before none near delta small mode claim lookup follows = record {
     line = Counts (λ q. p == q);

@@ -10,8 +10,8 @@ use Rattle.flurry_control.specs.Claim.{Range, bins_in, next_of}
 use Rattle.flurry_control.specs.Control as control
 use Rattle.flurry_control.specs.Control.{ControlState, IsControl, IsIdle, Grows, GrowthIsIn, claim_by, claim_of, after_claim, growth_after_claim, can_report, reports_last, report_of, after_report, next_published, after_growth, with_report}
 use Rattle.flurry_steps.specs.Party.{Resume, ThenBin, ThenRecount, ThenGrow, ForInsert, ForReserve, AtClaim, AtMove, PartyState, resumed_stage}
-use Rattle.flurry_steps.specs.declared.party.Event.{Event}
-use Rattle.flurry_steps.specs.declared.party.Event.TheVariants as event
+use Rattle.flurry_calls.specs.declared.step.Event.{Event}
+use Rattle.flurry_calls.specs.declared.step.Event.TheVariants as event
 use Rattle.flurry_theory.specs.Map.{same}
 use Rattle.flurry_theory.specs.Trace.{is_lookup}
 use Rattle.flurry_theory.specs.Machine as machine
@@ -44,11 +44,11 @@ part_of_total f p (suc n) l = by_last (part_of_total f p n) (p == n) refl
 
 module _ {K V F : Type 0} where
   -- where a call that stops helping goes on
-  resumed_as : (c : Call K V F) (a : Resume K V F) → FollowsResume c a → (mode_of_stage (resumed_stage a) ≡ mode_of_resume a) × (claim_of_stage (resumed_stage a) ≡ None) × FollowsStage c (resumed_stage a)
-  resumed_as c (ThenBin t e) h = (refl, refl, h.0)
-  resumed_as c (ThenRecount r) h = (refl, refl, h)
-  resumed_as c (ThenGrow n (ForInsert r)) h = (refl, refl, h)
-  resumed_as c (ThenGrow n ForReserve) h = (refl, refl, h)
+  resumed_as : (hash : K → ℕ) (c : Call K V F) (a : Resume K V F) → FollowsResume c a → (mode_of_stage (resumed_stage a) ≡ mode_of_resume a) × (claim_of_stage (resumed_stage a) ≡ None) × FollowsStage hash c (resumed_stage a)
+  resumed_as hash c (ThenBin t e) h = (refl, refl, h.0)
+  resumed_as hash c (ThenRecount r) h = (refl, refl, h)
+  resumed_as hash c (ThenGrow n (ForInsert r)) h = (refl, refl, h)
+  resumed_as hash c (ThenGrow n ForReserve) h = (refl, refl, h)
 
   pub helper_writes : (c : Call K V F) (a : Resume K V F) → FollowsResume c a → is_lookup (Some c) ≡ false
   helper_writes c (ThenBin t e) h = h.1
@@ -66,7 +66,7 @@ module _ {K V F S : Type 0} (cmp : K → K → Ordering) (order : IsTotalOrder c
         line = Claims e (record { unclaimed = u; reported = r }) low;
         can = (in_claim cmp order hash lawful gives w k p x at c (AtClaim a) f, slice_get_within w.party_records p x at, there, ap growth_of growth, some, no_lookup cmp order hash lawful gives w k p x at c (helper_writes x.call a had));
         is = is_claimed cmp hash gives w p x at c e u r low (ap mode_of_stage g ∙ sym (in_mode cmp order hash lawful gives w k p x at c (AtClaim a) f)) (ap claim_of_stage g);
-        follows = subst (FollowsStage x.call) (sym g) had;
+        follows = subst (FollowsStage hash x.call) (sym g) had;
         frame = record {
           hashed = k.hashed;
           control_state = record { published = k.control_state.published; growth = subst (λ o. GrowthIsIn o (Grows low r)) (sym there) (inside.0, omega (arith, inside.1, some), inside.2) };
@@ -86,9 +86,9 @@ module _ {K V F S : Type 0} (cmp : K → K → Ordering) (order : IsTotalOrder c
 
         stops : c.stage ≡ resumed_stage a → b ≡ w.control_state → IsStep cmp hash gives w p x b t' c (label_of p ev c.stage)
         stops g y =
-            let (mode, claim, follows) = resumed_as x.call a had in
+            let (mode, claim, follows) = resumed_as hash x.call a had in
             settled cmp order hash lawful gives w k p x at c ev event.Silent (resumed_stage a) b w.control_state t' w.tables h.0 g y h.3
-            (quiet cmp order hash lawful gives w k p x at c (AtClaim a) f (ap mode_of_stage g ∙ mode) (ap claim_of_stage g ∙ claim) (helper_writes x.call a had) (subst (FollowsStage x.call) (sym g) follows))
+            (quiet cmp order hash lawful gives w k p x at c (AtClaim a) f (ap mode_of_stage g ∙ mode) (ap claim_of_stage g ∙ claim) (helper_writes x.call a had) (subst (FollowsStage hash x.call) (sym g) follows))
 
         board_is : (o : Option ℕ) (g : control.Growth) → w.control_state.published ≡ o → w.control_state.growth ≡ g → (record { published = w.control_state.published; growth = g; count = w.control_state.count }) ≡ w.control_state
         board_is o g q s = ap (λ z. record { published = w.control_state.published; growth = z; count = w.control_state.count }) (sym s)
@@ -139,8 +139,8 @@ module _ {K V F S : Type 0} (cmp : K → K → Ordering) (order : IsTotalOrder c
         mode_stays : mode_of_stage c.stage ≡ (state_of w).mode p
         mode_stays = ap mode_of_stage h.1 ∙ sym (in_mode cmp order hash lawful gives w k p x at c (AtMove m a) f)
 
-        follows : FollowsStage x.call c.stage
-        follows = subst (FollowsStage x.call) (sym h.1) had
+        follows : FollowsStage hash x.call c.stage
+        follows = subst (FollowsStage hash x.call) (sym h.1) had
 
         by_last : (u r : ℕ) (d : Bool) → w.control_state.growth ≡ Grows u r → can_report w.control_state.published w.control_state.growth m ≡ true → reports_last w.control_state.published w.control_state.growth m ≡ d → r + bins_in m ≤ 2 ^ m.table → (r + bins_in m == 2 ^ m.table) ≡ d
             → IsStep cmp hash gives w p x b t' c (label_of p ev c.stage)

@@ -11,10 +11,11 @@ use Rattle.flurry_control.specs.declared.control.Advice.{Advice}
 use Rattle.flurry_control.specs.declared.control.Advice.TheVariants.{Enough, Join, Begin}
 use Rattle.flurry_control.specs.declared.control.BeginOutcome.{BeginOutcome}
 use Rattle.flurry_control.specs.declared.control.BeginOutcome.TheVariants as started_stage
-use Rattle.flurry_steps.specs.Party.{Outcome, OutcomeReply, OutcomeEnded, OutcomeRefused, GrowFor, ForInsert, ForReserve, ThenRecount, ThenGrow, Stage, AtClaim, AtUncount, AtCount, AtRecount, AtBegin, AtGrow, AtDone, PartyState}
+use Rattle.flurry_calls.specs.Outcome.{Outcome, OutcomeReply, OutcomeEnded, OutcomeRefused}
+use Rattle.flurry_steps.specs.Party.{GrowFor, ForInsert, ForReserve, ThenRecount, ThenGrow, Stage, AtClaim, AtUncount, AtCount, AtRecount, AtBegin, AtGrow, AtDone, PartyState}
 use Rattle.flurry_steps.specs.PartyControl.{stage_advised, stage_begun, stage_grown, stage_not_grown, stage_growing, event_begun, event_growing, event_not_grown}
-use Rattle.flurry_steps.specs.declared.party.Event.{Event}
-use Rattle.flurry_steps.specs.declared.party.Event.TheVariants as event
+use Rattle.flurry_calls.specs.declared.step.Event.{Event}
+use Rattle.flurry_calls.specs.declared.step.Event.TheVariants as event
 use Rattle.flurry_theory.specs.Map.{same}
 use Rattle.flurry_theory.specs.Trace.{is_lookup}
 use Rattle.flurry_theory.specs.Machine.{Done, Places, IsRefused, RefusedAt}
@@ -45,22 +46,22 @@ module _ {K V F : Type 0} where
   done_mode c OutcomeEnded h = cc
   done_mode c OutcomeRefused h = cc
 
-  done_follows : (c : Call K V F) (r : Outcome K V) → HasDecided c r → FollowsStage c (AtDone r)
-  done_follows c (OutcomeReply q) h = h.one_key
-  done_follows c OutcomeEnded h = let no : IsSome (reply_in {K = K} {V = V} OutcomeEnded) = h.reply in cc
-  done_follows c OutcomeRefused h = tt
+  done_follows : (hash : K → ℕ) (c : Call K V F) (r : Outcome K V) → HasDecided c r → FollowsStage hash c (AtDone r)
+  done_follows hash c (OutcomeReply q) h = h.one_key
+  done_follows hash c OutcomeEnded h = let no : IsSome (reply_in {K = K} {V = V} OutcomeEnded) = h.reply in cc
+  done_follows hash c OutcomeRefused h = tt
 
   -- the stage that follows an advice
-  advised : (c : Call K V F) (o : Option ℕ) (r : Outcome K V) (a : Advice) → HasDecided c r → (mode_of_stage {F = F} (stage_advised o r a) ≡ Done (reply_in r) 0 0) × (claim_of_stage {F = F} (stage_advised o r a) ≡ None) × FollowsStage c (stage_advised o r a)
-  advised c o r Enough h = (done_mode c r h.reply, refl, done_follows c r h)
-  advised c o r Join h = (refl, refl, h)
-  advised c None r Begin h = (done_mode c r h.reply, refl, done_follows c r h)
-  advised c (Some e) r Begin h = (refl, refl, h)
+  advised : (hash : K → ℕ) (c : Call K V F) (o : Option ℕ) (r : Outcome K V) (a : Advice) → HasDecided c r → (mode_of_stage {F = F} (stage_advised o r a) ≡ Done (reply_in r) 0 0) × (claim_of_stage {F = F} (stage_advised o r a) ≡ None) × FollowsStage hash c (stage_advised o r a)
+  advised hash c o r Enough h = (done_mode c r h.reply, refl, done_follows hash c r h)
+  advised hash c o r Join h = (refl, refl, h)
+  advised hash c None r Begin h = (done_mode c r h.reply, refl, done_follows hash c r h)
+  advised hash c (Some e) r Begin h = (refl, refl, h)
 
   -- growing ends
-  grown : (c : Call K V F) (g : GrowFor K V) → FollowsGrowFor c g → (mode_of_stage {F = F} (stage_grown g) ≡ mode_of_grow_for g) × (claim_of_stage {F = F} (stage_grown g) ≡ None) × FollowsStage c (stage_grown g)
-  grown c (ForInsert r) h = (refl, refl, h)
-  grown c ForReserve h = (refl, refl, h)
+  grown : (hash : K → ℕ) (c : Call K V F) (g : GrowFor K V) → FollowsGrowFor c g → (mode_of_stage {F = F} (stage_grown g) ≡ mode_of_grow_for g) × (claim_of_stage {F = F} (stage_grown g) ≡ None) × FollowsStage hash c (stage_grown g)
+  grown hash c (ForInsert r) h = (refl, refl, h)
+  grown hash c ForReserve h = (refl, refl, h)
 
   growing_writes : (c : Call K V F) (g : GrowFor K V) → FollowsGrowFor c g → is_lookup (Some c) ≡ false
   growing_writes c (ForInsert r) h = h.writes
@@ -69,7 +70,7 @@ module _ {K V F : Type 0} where
 module _ {K V F S : Type 0} (cmp : K → K → Ordering) (total : IsTotalOrder cmp) (hash : K → ℕ) (lawful : (j k : K) → same cmp j k ≡ true → hash j ≡ hash k) (gives : F → K → V → Option V → Type 0) (w : WorldState K V F S) (k : IsWorld cmp hash gives w) (p : ℕ) (x : PartyRecord K V F) (at : slice_get w.party_records p ≡ Some x) (c : PartyState K V F) where
   -- a party begins a growth
   places : (s : Stage K V F) (e : ℕ) (t : Tables K V) → x.party_state.stage ≡ s → can_begin e w.control_state.published w.control_state.growth ≡ true → PlaceGives w.tables (e + 1) false true t → claim_of_stage s ≡ None
-      → mode_of_stage c.stage ≡ mode_of_stage s → claim_of_stage c.stage ≡ None → is_lookup (Some x.call) ≡ false → FollowsStage x.call c.stage → IsStep cmp hash gives w p x (after_begin e w.control_state) t c (label.Placed (e + 1))
+      → mode_of_stage c.stage ≡ mode_of_stage s → claim_of_stage c.stage ≡ None → is_lookup (Some x.call) ≡ false → FollowsStage hash x.call c.stage → IsStep cmp hash gives w p x (after_begin e w.control_state) t c (label.Placed (e + 1))
   places s e t f can made none mode claim lookup follows =
       let (there, idle, below) = can_begin_is e w.control_state.published w.control_state.growth can in
       let next_table : e + 1 ≡ suc e = omega arith in
@@ -94,33 +95,33 @@ module _ {K V F S : Type 0} (cmp : K → K → Ordering) (total : IsTotalOrder c
     pub uncounts : (r : Outcome K V) → x.party_state.stage ≡ AtUncount r → HasDecided x.call r → Near (2 ^ 62) w.control_state.count → (ev ≡ event.Silent) × (c.stage ≡ AtDone r) × (b ≡ after_count (negsuc 0) w.control_state) × (t' ≡ w.tables) → IsStep cmp hash gives w p x b t' c (label_of p ev c.stage)
     uncounts r f had near h =
         settled cmp total hash lawful gives w k p x at c ev event.Silent (AtDone r) b (after_count (negsuc 0) w.control_state) t' w.tables h.0 h.1 h.2 h.3
-        (counts cmp total hash lawful gives w k p x at c (AtUncount r) r 0 1 (negsuc 0) f refl refl near refl (omega arith) (ap mode_of_stage h.1 ∙ done_mode x.call r had.reply) (ap claim_of_stage h.1) had.writes (subst (FollowsStage x.call) (sym h.1) (done_follows x.call r had)))
+        (counts cmp total hash lawful gives w k p x at c (AtUncount r) r 0 1 (negsuc 0) f refl refl near refl (omega arith) (ap mode_of_stage h.1 ∙ done_mode x.call r had.reply) (ap claim_of_stage h.1) had.writes (subst (FollowsStage hash x.call) (sym h.1) (done_follows hash x.call r had)))
 
     pub counts_one : (r : Outcome K V) → x.party_state.stage ≡ AtCount r → HasDecided x.call r → Near (2 ^ 62) w.control_state.count → (ev ≡ event.Silent) × (c.stage ≡ stage_advised w.control_state.published r (control.advice_of (after_count (pos 1) w.control_state))) × (b ≡ after_count (pos 1) w.control_state) × (t' ≡ w.tables)
         → IsStep cmp hash gives w p x b t' c (label_of p ev c.stage)
     counts_one r f had near h =
-        let (mode, claim, follows) = advised x.call w.control_state.published r (control.advice_of (after_count (pos 1) w.control_state)) had in
+        let (mode, claim, follows) = advised hash x.call w.control_state.published r (control.advice_of (after_count (pos 1) w.control_state)) had in
         settled cmp total hash lawful gives w k p x at c ev event.Silent _ b (after_count (pos 1) w.control_state) t' w.tables h.0 h.1 h.2 h.3
-        (counts cmp total hash lawful gives w k p x at c (AtCount r) r 1 0 (pos 1) f refl refl near refl (omega arith) (ap mode_of_stage h.1 ∙ mode) (ap claim_of_stage h.1 ∙ claim) had.writes (subst (FollowsStage x.call) (sym h.1) follows))
+        (counts cmp total hash lawful gives w k p x at c (AtCount r) r 1 0 (pos 1) f refl refl near refl (omega arith) (ap mode_of_stage h.1 ∙ mode) (ap claim_of_stage h.1 ∙ claim) had.writes (subst (FollowsStage hash x.call) (sym h.1) follows))
 
     pub recounts : (r : Outcome K V) → x.party_state.stage ≡ AtRecount r → HasDecided x.call r → Near (2 ^ 62) w.control_state.count → (ev ≡ event.Silent) × (c.stage ≡ stage_advised w.control_state.published r (control.advice_of (after_count (pos 0) w.control_state))) × (b ≡ after_count (pos 0) w.control_state) × (t' ≡ w.tables)
         → IsStep cmp hash gives w p x b t' c (label_of p ev c.stage)
     recounts r f had near h =
-        let (mode, claim, follows) = advised x.call w.control_state.published r (control.advice_of (after_count (pos 0) w.control_state)) had in
+        let (mode, claim, follows) = advised hash x.call w.control_state.published r (control.advice_of (after_count (pos 0) w.control_state)) had in
         settled cmp total hash lawful gives w k p x at c ev event.Silent _ b (after_count (pos 0) w.control_state) t' w.tables h.0 h.1 h.2 h.3
-        (counts cmp total hash lawful gives w k p x at c (AtRecount r) r 0 0 (pos 0) f refl refl near refl (omega arith) (ap mode_of_stage h.1 ∙ mode) (ap claim_of_stage h.1 ∙ claim) had.writes (subst (FollowsStage x.call) (sym h.1) follows))
+        (counts cmp total hash lawful gives w k p x at c (AtRecount r) r 0 0 (pos 0) f refl refl near refl (omega arith) (ap mode_of_stage h.1 ∙ mode) (ap claim_of_stage h.1 ∙ claim) had.writes (subst (FollowsStage hash x.call) (sym h.1) follows))
 
     -- a growth that was advised
     pub begins : (e : ℕ) (r : Outcome K V) → x.party_state.stage ≡ AtBegin e r → HasDecided x.call r → (a : BeginOutcome) × BeginGives PlaceGives e w.control_state w.tables a b t' × (ev ≡ event_begun e a) × (c.stage ≡ stage_begun r a) → IsStep cmp hash gives w p x b t' c (label_of p ev c.stage)
     begins e r f had (started_stage.Begun, gave, q, g) =
         settled cmp total hash lawful gives w k p x at c ev (event.Placed (e + 1)) (AtClaim (ThenRecount r)) b (after_begin e w.control_state) t' t' q g gave.1 refl
-        (places (AtBegin e r) e t' f gave.0 gave.2 refl (ap mode_of_stage g) (ap claim_of_stage g) had.writes (subst (FollowsStage x.call) (sym g) had))
+        (places (AtBegin e r) e t' f gave.0 gave.2 refl (ap mode_of_stage g) (ap claim_of_stage g) had.writes (subst (FollowsStage hash x.call) (sym g) had))
     begins e r f had (started_stage.Refused, gave, q, g) =
         settled cmp total hash lawful gives w k p x at c ev event.Silent (AtDone r) b w.control_state t' w.tables q g gave.1 (refused_place w.tables (e + 1) false t' gave.2)
-        (quiet cmp total hash lawful gives w k p x at c (AtBegin e r) f (ap mode_of_stage g ∙ done_mode x.call r had.reply) (ap claim_of_stage g) had.writes (subst (FollowsStage x.call) (sym g) (done_follows x.call r had)))
+        (quiet cmp total hash lawful gives w k p x at c (AtBegin e r) f (ap mode_of_stage g ∙ done_mode x.call r had.reply) (ap claim_of_stage g) had.writes (subst (FollowsStage hash x.call) (sym g) (done_follows hash x.call r had)))
     begins e r f had (started_stage.Busy, gave, q, g) =
         settled cmp total hash lawful gives w k p x at c ev event.Silent (AtRecount r) b w.control_state t' w.tables q g gave.1 gave.2
-        (quiet cmp total hash lawful gives w k p x at c (AtBegin e r) f (ap mode_of_stage g) (ap claim_of_stage g) had.writes (subst (FollowsStage x.call) (sym g) had))
+        (quiet cmp total hash lawful gives w k p x at c (AtBegin e r) f (ap mode_of_stage g) (ap claim_of_stage g) had.writes (subst (FollowsStage hash x.call) (sym g) had))
 
     -- growing to table n
     pub grows : (n : ℕ) (u : GrowFor K V) → x.party_state.stage ≡ AtGrow n u → FollowsGrowFor x.call u
@@ -130,15 +131,15 @@ module _ {K V F S : Type 0} (cmp : K → K → Ordering) (total : IsTotalOrder c
       where
         ends : (ev' : Event) → ev ≡ ev' → ev' ≡ event.Silent → c.stage ≡ stage_grown u → b ≡ w.control_state → t' ≡ w.tables → IsStep cmp hash gives w p x b t' c (label_of p ev c.stage)
         ends ev' q s g y z =
-            let (mode, claim, follows) = grown x.call u had in
+            let (mode, claim, follows) = grown hash x.call u had in
             settled cmp total hash lawful gives w k p x at c ev event.Silent (stage_grown u) b w.control_state t' w.tables (q ∙ s) g y z
-            (quiet cmp total hash lawful gives w k p x at c (AtGrow n u) f (ap mode_of_stage g ∙ mode) (ap claim_of_stage g ∙ claim) (growing_writes x.call u had) (subst (FollowsStage x.call) (sym g) follows))
+            (quiet cmp total hash lawful gives w k p x at c (AtGrow n u) f (ap mode_of_stage g ∙ mode) (ap claim_of_stage g ∙ claim) (growing_writes x.call u had) (subst (FollowsStage hash x.call) (sym g) follows))
 
         not_grown : (v : GrowFor K V) (e : ℕ) → u ≡ v → can_begin e w.control_state.published w.control_state.growth ≡ true → ev ≡ event_not_grown v → c.stage ≡ stage_not_grown v → b ≡ w.control_state → t' ≡ w.tables → IsStep cmp hash gives w p x b t' c (label_of p ev c.stage)
         not_grown (ForInsert r) e is can q g y z =
             let decided : HasDecided x.call r = subst (FollowsGrowFor x.call) is had in
             settled cmp total hash lawful gives w k p x at c ev event.Silent (AtCount r) b w.control_state t' w.tables q g y z
-            (quiet cmp total hash lawful gives w k p x at c (AtGrow n u) f (ap mode_of_stage g ∙ ap mode_of_grow_for (sym is)) (ap claim_of_stage g) decided.writes (subst (FollowsStage x.call) (sym g) decided))
+            (quiet cmp total hash lawful gives w k p x at c (AtGrow n u) f (ap mode_of_stage g ∙ ap mode_of_grow_for (sym is)) (ap claim_of_stage g) decided.writes (subst (FollowsStage hash x.call) (sym g) decided))
         not_grown ForReserve e is can q g y z =
             let (m, reserve) = subst (FollowsGrowFor x.call) is had in
             let (there, idle, below) = can_begin_is e w.control_state.published w.control_state.growth can in
@@ -146,14 +147,14 @@ module _ {K V F S : Type 0} (cmp : K → K → Ordering) (total : IsTotalOrder c
               line = IsRefused;
               can = (x.call, calls cmp total hash lawful gives w k p x at c, in_claim cmp total hash lawful gives w k p x at c (AtGrow n u) f, subst (RefusedAt cmp hash gives (state_of w) x.call) (sym (in_mode cmp total hash lawful gives w k p x at c (AtGrow n u) f ∙ ap mode_of_grow_for is)) (m, e, reserve, refl, refl, there, ap growth_of idle, below));
               is = is_refused cmp hash gives w p x at c (ap mode_of_stage g) (ap claim_of_stage g ∙ sym (ap claim_of_stage f));
-              follows = subst (FollowsStage x.call) (sym g) tt;
+              follows = subst (FollowsStage hash x.call) (sym g) tt;
               frame = same_frame cmp hash gives w k;
             })
 
         by_start : (e : ℕ) (a : BeginOutcome) → BeginGives PlaceGives e w.control_state w.tables a b t' → ev ≡ event_growing e u a → c.stage ≡ stage_growing n u a → IsStep cmp hash gives w p x b t' c (label_of p ev c.stage)
         by_start e started_stage.Begun gave q g =
             settled cmp total hash lawful gives w k p x at c ev (event.Placed (e + 1)) (AtClaim (ThenGrow n u)) b (after_begin e w.control_state) t' t' q g gave.1 refl
-            (places (AtGrow n u) e t' f gave.0 gave.2 refl (ap mode_of_stage g) (ap claim_of_stage g) (growing_writes x.call u had) (subst (FollowsStage x.call) (sym g) had))
+            (places (AtGrow n u) e t' f gave.0 gave.2 refl (ap mode_of_stage g) (ap claim_of_stage g) (growing_writes x.call u had) (subst (FollowsStage hash x.call) (sym g) had))
         by_start e started_stage.Refused gave q g = not_grown u e refl gave.0 q g gave.1 (refused_place w.tables (e + 1) false t' gave.2)
         by_start e started_stage.Busy gave q g = ends event.Silent q refl g gave.1 gave.2
 

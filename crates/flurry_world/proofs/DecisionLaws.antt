@@ -15,7 +15,8 @@ use Rattle.flurry_model.proofs.FiniteMapLaws.{all_with_pair, all_without, length
 use Rattle.flurry_model.proofs.HashOrderLaws.{hash_then_key_total}
 use Rattle.flurry_slots.specs.Slot as slot
 use Rattle.flurry_slots.specs.Slot.{PlainEntry, Live, ComputeOutcome, WasAbsent, WasRemoved, WasChanged, next_number, entry_of_live, after_write, after_add, after_take, asks}
-use Rattle.flurry_steps.specs.Party.{Sought, TheValue, ThePair, Presence, Task, Finds, Removes, Inserts, Adds, Computes, OutcomeReply, Stage, AtDone, reply_for, outcome_in, IsWriter}
+use Rattle.flurry_calls.specs.Outcome.{OutcomeReply}
+use Rattle.flurry_steps.specs.Party.{Sought, TheValue, ThePair, Presence, Task, Finds, Removes, Inserts, Adds, Computes, Stage, AtDone, reply_for, outcome_in, IsWriter}
 use Rattle.flurry_steps.specs.PartySlots as party
 use Rattle.flurry_steps.specs.PartySlots.{DecidesAt, GoesOnNew, GoesOnWritten, GoesOnAdded, stage_taken, stage_computed, stage_moved}
 use Rattle.flurry_theory.specs.Map.{same, find, key_of, Allows, CanBeRefused}
@@ -31,13 +32,13 @@ use Rattle.flurry_world.proofs.EntryLaws.{next_number-bump, length-entries_of_he
 
 -- ---- where a call stands that has decided
 
-module _ {K V F : Type 0} where
+module _ {K V F : Type 0} (hash : K → ℕ) where
   -- the call has this reply, and has so many pairs yet to count as added and as removed
   record HasReply (c : Call K V F) (r : KeptReply K V) (s : Stage K V F) (gained lost : ℕ) : Type 0 where
     pub said : outcome_in s ≡ Some (OutcomeReply r)
     pub mode : mode_of_stage s ≡ Done (Some r) gained lost
     pub claim : claim_of_stage s ≡ None
-    pub follows : FollowsStage c s
+    pub follows : FollowsStage hash c s
 
   has_decided : (c : Call K V F) (r : KeptReply K V) → IsSome (key_of c) → is_lookup (Some c) ≡ false → HasDecided c (OutcomeReply r)
   has_decided c r one writes = record { one_key = one; writes = writes; reply = refl }
@@ -66,7 +67,7 @@ pub record Decision {K V F : Type 0} (cmp : K → K → Ordering) (hash : K → 
   pub hashed : Hashed hash d.held
   pub mode : mode_of_stage s ≡ Done (Some reply) (length (entries_of_held d.held) - length (entries_of_held b.held)) (length (entries_of_held b.held) - length (entries_of_held d.held))
   pub claim : claim_of_stage s ≡ None
-  pub follows : FollowsStage c s
+  pub follows : FollowsStage hash c s
 
 -- ---- what a bin has at a key
 
@@ -92,7 +93,7 @@ module _ {K V F : Type 0} (cmp : K → K → Ordering) (total : IsTotalOrder cmp
 
     -- ---- the bin stays
 
-    decision_kept : (c : Call K V F) (r : KeptReply K V) (s : Stage K V F) → HasReply c r s 0 0 → IsSome (task_of_call c) → Allows cmp gives c (pairs_of (entries_of_held b.held)) r
+    decision_kept : (c : Call K V F) (r : KeptReply K V) (s : Stage K V F) → HasReply hash c r s 0 0 → IsSome (task_of_call c) → Allows cmp gives c (pairs_of (entries_of_held b.held)) r
         → bin_after cmp hash c r (entries_of_held b.held) b.writes ≡ (entries_of_held b.held, b.writes) → Decision cmp hash gives c b s b e i
     decision_kept c r s stands task allowed after =
         let same_length : length (entries_of_held b.held) - length (entries_of_held b.held) ≡ 0 = omega arith in
@@ -124,7 +125,7 @@ module _ {K V F : Type 0} (cmp : K → K → Ordering) (total : IsTotalOrder cmp
         by_found true n = omega arith
         by_found false n = omega arith
 
-    decision_taken : (c : Call K V F) (r : KeptReply K V) (s : Stage K V F) (k : K) → HasReply c r s 0 (cond (is_some (entry_of_live cmp b (hash k) k)) 1 0) → IsSome (task_of_call c) → Allows cmp gives c (pairs_of (entries_of_held b.held)) r
+    decision_taken : (c : Call K V F) (r : KeptReply K V) (s : Stage K V F) (k : K) → HasReply hash c r s 0 (cond (is_some (entry_of_live cmp b (hash k) k)) 1 0) → IsSome (task_of_call c) → Allows cmp gives c (pairs_of (entries_of_held b.held)) r
         → bin_after cmp hash c r (entries_of_held b.held) b.writes ≡ (leave_out cmp hash k (entries_of_held b.held), b.writes) → Decision cmp hash gives c b s (after_take cmp b (hash k) k) e i
     decision_taken c r s k stands task allowed after =
         let hashed : Hashed hash (after_take cmp b (hash k) k).held = Hashed-without cmp total hash lawful b.held k hd in
@@ -160,7 +161,7 @@ module _ {K V F : Type 0} (cmp : K → K → Ordering) (total : IsTotalOrder cmp
         by_found true n = omega arith
         by_found false n = omega arith
 
-    decision_written : (c : Call K V F) (r : KeptReply K V) (s : Stage K V F) (bins : ℕ) (k : K) (v : V) → HasReply c r s (cond (is_some (entry_of_live cmp b (hash k) k)) 0 1) 0 → IsSome (task_of_call c)
+    decision_written : (c : Call K V F) (r : KeptReply K V) (s : Stage K V F) (bins : ℕ) (k : K) (v : V) → HasReply hash c r s (cond (is_some (entry_of_live cmp b (hash k) k)) 0 1) 0 → IsSome (task_of_call c)
         → Allows cmp gives c (pairs_of (entries_of_held b.held)) r → region.InRegion e i (hash k)
         → bin_after cmp hash c r (entries_of_held b.held) b.writes ≡ (entries_of_held (with_pair (hash_then_key cmp) b.held (hash k, k) (v, bump b.writes)), bump b.writes)
         → Decision cmp hash gives c b s (after_write cmp bins b (hash k) k v) e i
@@ -187,22 +188,22 @@ module _ {K V F : Type 0} (cmp : K → K → Ordering) (total : IsTotalOrder cmp
     value_allowed k = value_found (entry_of_live cmp b (hash k) k) ∙ ap (option_map (λ (x : K × V). x.1)) (sym (find-entries cmp total hash lawful b.held k hd))
 
     finds_value : (k : K) (s : Stage K V F) (d : Live K V) → DecidesAt cmp gives (hash k) (Finds TheValue k) e b s d → Decision cmp hash gives (Get k) b s d e i
-    finds_value k s d p = rw (p.0, p.1) (decision_kept (Get k) _ _ (reply_done (Get k) (reply_for TheValue (entry_of_live cmp b (hash k) k)) refl) refl (ap Value (value_allowed k)) refl)
+    finds_value k s d p = rw (p.0, p.1) (decision_kept (Get k) _ _ (reply_done hash (Get k) (reply_for TheValue (entry_of_live cmp b (hash k) k)) refl) refl (ap Value (value_allowed k)) refl)
 
     finds_pair : (k : K) (s : Stage K V F) (d : Live K V) → DecidesAt cmp gives (hash k) (Finds ThePair k) e b s d → Decision cmp hash gives (GetKeyValue k) b s d e i
-    finds_pair k s d p = rw (p.0, p.1) (decision_kept (GetKeyValue k) _ _ (reply_done (GetKeyValue k) (reply_for ThePair (entry_of_live cmp b (hash k) k)) refl) refl (ap Pair (sym (find-entries cmp total hash lawful b.held k hd))) refl)
+    finds_pair k s d p = rw (p.0, p.1) (decision_kept (GetKeyValue k) _ _ (reply_done hash (GetKeyValue k) (reply_for ThePair (entry_of_live cmp b (hash k) k)) refl) refl (ap Pair (sym (find-entries cmp total hash lawful b.held k hd))) refl)
 
     finds_presence : (k : K) (s : Stage K V F) (d : Live K V) → DecidesAt cmp gives (hash k) (Finds Presence k) e b s d → Decision cmp hash gives (ContainsKey k) b s d e i
     finds_presence k s d p =
         rw (p.0, p.1)
-        (decision_kept (ContainsKey k) _ _ (reply_done (ContainsKey k) (reply_for Presence (entry_of_live cmp b (hash k) k)) refl) refl
+        (decision_kept (ContainsKey k) _ _ (reply_done hash (ContainsKey k) (reply_for Presence (entry_of_live cmp b (hash k) k)) refl) refl
         (ap Contains (presence_found (entry_of_live cmp b (hash k) k) ∙ ap is_some (sym (find-entries cmp total hash lawful b.held k hd)))) refl)
 
     removes_value : (k : K) (s : Stage K V F) (d : Live K V) → DecidesAt cmp gives (hash k) (Removes TheValue k) e b s d → Decision cmp hash gives (Remove k) b s d e i
-    removes_value k s d p = rw (p.0, p.1) (decision_taken (Remove k) _ _ k (reply_taken (Remove k) TheValue (entry_of_live cmp b (hash k) k) refl refl) refl (ap Value (value_allowed k)) refl)
+    removes_value k s d p = rw (p.0, p.1) (decision_taken (Remove k) _ _ k (reply_taken hash (Remove k) TheValue (entry_of_live cmp b (hash k) k) refl refl) refl (ap Value (value_allowed k)) refl)
 
     removes_pair : (k : K) (s : Stage K V F) (d : Live K V) → DecidesAt cmp gives (hash k) (Removes ThePair k) e b s d → Decision cmp hash gives (RemoveEntry k) b s d e i
-    removes_pair k s d p = rw (p.0, p.1) (decision_taken (RemoveEntry k) _ _ k (reply_taken (RemoveEntry k) ThePair (entry_of_live cmp b (hash k) k) refl refl) refl (ap Pair (sym (find-entries cmp total hash lawful b.held k hd))) refl)
+    removes_pair k s d p = rw (p.0, p.1) (decision_taken (RemoveEntry k) _ _ k (reply_taken hash (RemoveEntry k) ThePair (entry_of_live cmp b (hash k) k) refl refl) refl (ap Pair (sym (find-entries cmp total hash lawful b.held k hd))) refl)
 
     inserts : (k : K) (v : V) (s : Stage K V F) (d : Live K V) → region.InRegion e i (hash k) → DecidesAt cmp gives (hash k) (Inserts k v) e b s d → Decision cmp hash gives (Insert k v) b s d e i
     inserts k v s d here p =
@@ -210,9 +211,9 @@ module _ {K V F : Type 0} (cmp : K → K → Ordering) (total : IsTotalOrder cmp
         (decision_written (Insert k v) _ s (2 ^ e) k v (by_found (entry_of_live cmp b (hash k) k) (asks cmp (2 ^ e) b (hash k) k) (p.0)) refl (ap Value (value_allowed k)) here
         (ap (λ (es : List (Entry K V)). (es, bump b.writes)) (sym (write-entries cmp total hash lawful b.held k v (bump b.writes) up hd))))
       where
-        by_found : (o : Option (PlainEntry K V)) (asked : Bool) → GoesOnWritten e (option_map (λ (x : PlainEntry K V). x.1.0) o, asked) s → HasReply (Insert k v) (Value (option_map (λ (x : PlainEntry K V). x.1.0) o)) s (cond (is_some o) 0 1) 0
-        by_found None asked g = reply_new (Insert k v) (Value None) e asked s refl refl g
-        by_found (Some x) asked g = rw g (reply_done (Insert k v) (Value (Some x.1.0)) refl)
+        by_found : (o : Option (PlainEntry K V)) (asked : Bool) → GoesOnWritten e (option_map (λ (x : PlainEntry K V). x.1.0) o, asked) s → HasReply hash (Insert k v) (Value (option_map (λ (x : PlainEntry K V). x.1.0) o)) s (cond (is_some o) 0 1) 0
+        by_found None asked g = reply_new hash (Insert k v) (Value None) e asked s refl refl g
+        by_found (Some x) asked g = rw g (reply_done hash (Insert k v) (Value (Some x.1.0)) refl)
 
     adds : (k : K) (v : V) (s : Stage K V F) (d : Live K V) → region.InRegion e i (hash k) → DecidesAt cmp gives (hash k) (Adds k v) e b s d → Decision cmp hash gives (TryInsert k v) b s d e i
     adds k v s d here p = rw (p.1) (by_found (entry_of_live cmp b (hash k) k) refl (asks cmp (2 ^ e) b (hash k) k) (p.0))
@@ -221,9 +222,9 @@ module _ {K V F : Type 0} (cmp : K → K → Ordering) (total : IsTotalOrder cmp
             → GoesOnAdded e (option_map_or (λ current. Err (current, v)) (option_map (λ (x : PlainEntry K V). x.1.0) o) (Ok (v, asked))) s
             → Decision cmp hash gives (TryInsert k v) b s (cond (is_none o) (after_write cmp (2 ^ e) b (hash k) k v) b) e i
         by_found None q asked g =
-            decision_written (TryInsert k v) (New v) s (2 ^ e) k v (rw q (reply_new (TryInsert k v) (New v) e asked s refl refl g)) refl (rw (found_at k None q) refl) here
+            decision_written (TryInsert k v) (New v) s (2 ^ e) k v (rw q (reply_new hash (TryInsert k v) (New v) e asked s refl refl g)) refl (rw (found_at k None q) refl) here
             (ap (λ (es : List (Entry K V)). (es, bump b.writes)) (sym (place-entries cmp total hash lawful b.held k v (bump b.writes) hd q)))
-        by_found (Some x) q asked g = rw g (decision_kept (TryInsert k v) (Exists x.1.0 v) _ (reply_done (TryInsert k v) (Exists x.1.0 v) refl) refl (rw (found_at k (Some x) q) refl) refl)
+        by_found (Some x) q asked g = rw g (decision_kept (TryInsert k v) (Exists x.1.0 v) _ (reply_done hash (TryInsert k v) (Exists x.1.0 v) refl) refl (rw (found_at k (Some x) q) refl) refl)
 
     computes : (k : K) (f : F) (s : Stage K V F) (d : Live K V) → region.InRegion e i (hash k) → DecidesAt cmp gives (hash k) (Computes k f) e b s d → Decision cmp hash gives (Compute k f) b s d e i
     computes k f s d here p = by_outcome (p.0) (p.1) (p.2)
@@ -231,15 +232,15 @@ module _ {K V F : Type 0} (cmp : K → K → Ordering) (total : IsTotalOrder cmp
         by_outcome : (o : ComputeOutcome V) → slot.Computes cmp (gives f) (2 ^ e) b (hash k) k o d → s ≡ stage_computed o → Decision cmp hash gives (Compute k f) b s d e i
         by_outcome WasAbsent q g =
             rw (q.1, g)
-            (decision_kept (Compute k f) (Value None) _ (reply_done (Compute k f) (Value None) refl) refl (rw (found_at k None (q.0)) refl)
+            (decision_kept (Compute k f) (Value None) _ (reply_done hash (Compute k f) (Value None) refl) refl (rw (found_at k None (q.0)) refl)
             (ap (λ (es : List (Entry K V)). (es, b.writes)) (leave_out-none cmp total hash lawful b.held k hd (q.0))))
         by_outcome WasRemoved q g =
             rw (q.3, g)
-            (decision_taken (Compute k f) (Value None) _ k (rw (q.1) (record { said = refl; mode = refl; claim = refl; follows = has_decided (Compute k f) (Value None) refl refl })) refl
+            (decision_taken (Compute k f) (Value None) _ k (rw (q.1) (record { said = refl; mode = refl; claim = refl; follows = has_decided hash (Compute k f) (Value None) refl refl })) refl
             (rw (found_at k (Some q.0) (q.1)) (None, q.2, refl)) refl)
         by_outcome (WasChanged w) q g =
             rw (q.3, g)
-            (decision_written (Compute k f) (Value (Some w)) _ (2 ^ e) k w (rw (q.1) (reply_done (Compute k f) (Value (Some w)) refl)) refl (rw (found_at k (Some q.0) (q.1)) (Some w, q.2, refl)) here
+            (decision_written (Compute k f) (Value (Some w)) _ (2 ^ e) k w (rw (q.1) (reply_done hash (Compute k f) (Value (Some w)) refl)) refl (rw (found_at k (Some q.0) (q.1)) (Some w, q.2, refl)) here
             (ap (λ (es : List (Entry K V)). (es, bump b.writes)) (sym (rewrite-entries cmp total hash lawful b.held k w (bump b.writes) (q.0) up hd (q.1)))))
 
     -- each call that decides there does what the machine's does
@@ -316,9 +317,9 @@ module _ {K V F : Type 0} where
   moved_claim (Adds k v) e = refl
   moved_claim (Computes k f) e = refl
 
-  pub moved_follows : (c : Call K V F) (t : Task K V F) (e : ℕ) → task_of_call c ≡ Some t → FollowsStage c (stage_moved t e)
-  moved_follows c (Finds w k) e task = task
-  moved_follows c (Removes w k) e task = (task, writer_is c (Removes w k) task tt)
-  moved_follows c (Inserts k v) e task = (task, writer_is c (Inserts k v) task tt)
-  moved_follows c (Adds k v) e task = (task, writer_is c (Adds k v) task tt)
-  moved_follows c (Computes k f) e task = (task, writer_is c (Computes k f) task tt)
+  pub moved_follows : (hash : K → ℕ) (c : Call K V F) (t : Task K V F) (e : ℕ) → task_of_call c ≡ Some t → FollowsStage hash c (stage_moved t e)
+  moved_follows hash c (Finds w k) e task = task
+  moved_follows hash c (Removes w k) e task = (task, writer_is c (Removes w k) task tt)
+  moved_follows hash c (Inserts k v) e task = (task, writer_is c (Inserts k v) task tt)
+  moved_follows hash c (Adds k v) e task = (task, writer_is c (Adds k v) task tt)
+  moved_follows hash c (Computes k f) e task = (task, writer_is c (Computes k f) task tt)

@@ -50,7 +50,7 @@ module _ {K V : Type 0} (hash : K → ℕ) where
 
 module _ {K : Type 0} (cmp : K → K → Ordering) (total : IsTotalOrder cmp) (hash : K → ℕ) (lawful : (j k : K) → same cmp j k ≡ true → hash j ≡ hash k) where
   -- the two orders, at keys with their hashes
-  order_at : (p q : ℕ × K) → p.0 ≡ hash p.1 → q.0 ≡ hash q.1 → hash_then_key cmp p q ≡ order cmp hash p.1 q.1
+  pub order_at : (p q : ℕ × K) → p.0 ≡ hash p.1 → q.0 ≡ hash q.1 → hash_then_key cmp p q ≡ order cmp hash p.1 q.1
   order_at p q hp hq = ap (λ n. ordering_then (nat_cmp n q.0) (cmp p.1 q.1)) hp ∙ ap (λ n. ordering_then (nat_cmp (hash p.1) n) (cmp p.1 q.1)) hq
 
   order-same : (j k : K) → same cmp j k ≡ true → order cmp hash j k ≡ Equal

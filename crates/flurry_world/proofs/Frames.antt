@@ -7,9 +7,9 @@ use Rattle.std.proofs.lemmas.Int.{ints}
 use Rattle.std.specs.Cmp.{IsTotalOrder}
 use Rattle.flurry_slots.specs.Slot.{Live, IsLive}
 use Rattle.flurry_control.specs.Control.{ControlState, IsControl, Grows}
-use Rattle.flurry_steps.specs.Party.{PartyState}
+use Rattle.flurry_steps.specs.Party.{PartyState, last_seen}
 use Rattle.flurry_theory.specs.Map.{same}
-use Rattle.flurry_theory.specs.Machine.{Transition, Can}
+use Rattle.flurry_theory.specs.Machine.{Transition, Can, does}
 use Rattle.flurry_theory.specs.Invariant.{Inv, home_after}
 use Rattle.flurry_theory.specs.declared.Label.{Label}
 use Rattle.flurry_theory.proofs.Step.{inv_step}
@@ -44,23 +44,31 @@ module _ {K V F S : Type 0} (cmp : K → K → Ordering) (hash : K → ℕ) (giv
     pub line : Transition K V F
     pub can : Can cmp hash gives (state_of w) p line
     pub is : IsLine cmp hash gives w p b t c lab line
-    pub follows : FollowsStage x.call c.stage
+    pub follows : FollowsStage hash x.call c.stage
     pub frame : Frame hash b t
 
-  -- such a step, in which the hash of the party stays
+  -- such a step, in which the hash of the party stays, as the state that it leaves
   pub record StepOf (w : WorldState K V F S) (p : ℕ) (x : PartyRecord K V F) (b : ControlState) (t : Tables K V) (c : PartyState K V F) (lab : Label K V F) : Type 0 where
     pub hash_stays : c.hash ≡ x.party_state.hash
-    pub step : IsStep w p x b t c lab
+    pub line : Transition K V F
+    pub can : Can cmp hash gives (state_of w) p line
+    pub after : state_of (with_step w p x b t c lab) ≡ does cmp hash gives (state_of w) p line
+    pub follows : FollowsStage hash x.call c.stage
+    pub frame : Frame hash b t
+
+  -- nothing was read
+  pub step_of : (w : WorldState K V F S) (p : ℕ) (x : PartyRecord K V F) (b : ControlState) (t : Tables K V) (c : PartyState K V F) (lab : Label K V F) → slice_get w.party_records p ≡ Some x → c.hash ≡ x.party_state.hash → last_seen c.stage ≡ last_seen x.party_state.stage → IsStep w p x b t c lab → StepOf w p x b t c lab
+  step_of w p x b t c lab at hashed seen s = record { hash_stays = hashed; line = s.line; can = s.can; after = does_line cmp hash gives w p x b t c lab s.line at seen s.is; follows = s.follows; frame = s.frame }
 
   -- is a transition of the machine
-  pub does_one : (w : WorldState K V F S) (p : ℕ) (x : PartyRecord K V F) (b : ControlState) (t : Tables K V) (c : PartyState K V F) (lab : Label K V F) → slice_get w.party_records p ≡ Some x → StepOf w p x b t c lab → DoesTransition cmp hash gives w p (with_step w p x b t c lab)
-  does_one w p x b t c lab at s = (s.step.line, s.step.can, does_line cmp hash gives w p x b t c lab s.step.line at s.step.is)
+  pub does_one : (w : WorldState K V F S) (p : ℕ) (x : PartyRecord K V F) (b : ControlState) (t : Tables K V) (c : PartyState K V F) (lab : Label K V F) → StepOf w p x b t c lab → DoesTransition cmp hash gives w p (with_step w p x b t c lab)
+  does_one w p x b t c lab s = (s.line, s.can, s.after)
 
   -- a world that such a step leaves
   pub kept : (total : IsTotalOrder cmp) (lawful : (j k : K) → same cmp j k ≡ true → hash j ≡ hash k) (w : WorldState K V F S) (p : ℕ) (x : PartyRecord K V F) (b : ControlState) (t : Tables K V) (c : PartyState K V F) (lab : Label K V F)
-      → IsWorld cmp hash gives w → slice_get w.party_records p ≡ Some x → c.hash ≡ x.party_state.hash → IsStep w p x b t c lab → IsWorld cmp hash gives (with_step w p x b t c lab)
-  kept total lawful w p x b t c lab k at hashed s = record {
-    state = (home_after k.state.0 s.line, subst (λ z. Inv cmp hash gives w.first (home_after k.state.0 s.line) z) (sym (does_line cmp hash gives w p x b t c lab s.line at s.is)) (inv_step cmp total hash lawful gives w.first k.state.0 (state_of w) p s.line s.can k.state.1));
+      → IsWorld cmp hash gives w → slice_get w.party_records p ≡ Some x → StepOf w p x b t c lab → IsWorld cmp hash gives (with_step w p x b t c lab)
+  kept total lawful w p x b t c lab k at s = record {
+    state = (home_after k.state.0 s.line, subst (λ z. Inv cmp hash gives w.first (home_after k.state.0 s.line) z) (sym s.after) (inv_step cmp total hash lawful gives w.first k.state.0 (state_of w) p s.line s.can k.state.1));
     party_records = λ q y h. caller q y (p == q) refl (sym (get_set w.party_records p q stepped (slice_get_within w.party_records p x at)) ∙ h);
     hashed = s.frame.hashed;
     control_state = s.frame.control_state;
@@ -73,5 +81,5 @@ module _ {K V F S : Type 0} (cmp : K → K → Ordering) (hash : K → ℕ) (giv
       stepped = record { call = x.call; party_state = c; steps = suc x.steps }
 
       caller : (q : ℕ) (y : PartyRecord K V F) (e : Bool) → (p == q) ≡ e → cond e (Some stepped) (slice_get w.party_records q) ≡ Some y → Follows hash y
-      caller q y true e h = subst (Follows hash) (same_some h) (record { own_hash = λ j g. hashed ∙ (k.party_records p x at).own_hash j g; stage = s.follows })
+      caller q y true e h = subst (Follows hash) (same_some h) (record { own_hash = λ j g. s.hash_stays ∙ (k.party_records p x at).own_hash j g; stage = s.follows })
       caller q y false e h = k.party_records q y h

@@ -4,7 +4,8 @@ use Rattle.std.specs.declared.cmp.Ordering.{Ordering}
 use Rattle.std.specs.Cmp.{IsTotalOrder}
 use Rattle.std.proofs.Common.{refl, sym, ◌∙◌, ap, subst, inl, inr}
 use Rattle.flurry_model.specs.declared.reply.KeptReply.{KeptReply}
-use Rattle.flurry_steps.specs.Party.{OutcomeReply, OutcomeEnded, OutcomeRefused, ForInsert, ForReserve, Stage, AtLocate, AtBin, AtClaim, AtMove, AtUncount, AtCount, AtRecount, AtBegin, AtGrow, AtReserve, AtDone, AtTaken}
+use Rattle.flurry_calls.specs.Outcome.{OutcomeReply, OutcomeEnded, OutcomeRefused}
+use Rattle.flurry_steps.specs.Party.{ForInsert, ForReserve, Stage, AtLocate, AtBin, AtClaim, AtMove, AtUncount, AtCount, AtRecount, AtBegin, AtGrow, AtReserve, AtSweep, AtDone, AtTaken}
 use Rattle.flurry_theory.specs.Map.{same, key_of}
 use Rattle.flurry_theory.specs.Machine.{Mode, Locating, Looking, Done, Finished}
 use Rattle.flurry_theory.specs.Trace.{is_lookup, decision, has_replied, has_closed}
@@ -14,6 +15,7 @@ use Rattle.flurry_model.specs.declared.call.Call.TheVariants as call
 use Rattle.flurry_model.specs.declared.sizes.TheConstants.{TABLES}
 use Rattle.flurry_world.specs.World.{PartyRecord, WorldState, state_of, steps_in, FollowsStage, IsWorld}
 use Rattle.flurry_world.specs.Lawful.{IsLawful}
+use Rattle.flurry_world.proofs.SweepLaws.{looks_not}
 use Rattle.flurry_world.proofs.Cases.{calls, in_mode}
 use Rattle.flurry_world.proofs.ClaimCases.{helper_writes}
 use Rattle.flurry_world.proofs.ThereLaws.{bin_is_there}
@@ -54,7 +56,7 @@ module _ {K V F S : Type 0} (cmp : K → K → Ordering) (total : IsTotalOrder c
     writes_not : is_lookup (Some x.call) ≡ false → ⊥
     writes_not h = not_both lookup h
 
-    by_stage : (s : Stage K V F) → x.party_state.stage ≡ s → FollowsStage x.call s → x.party_state.stage ≡ AtDone (OutcomeReply r)
+    by_stage : (s : Stage K V F) → x.party_state.stage ≡ s → FollowsStage hash x.call s → x.party_state.stage ≡ AtDone (OutcomeReply r)
     by_stage (AtLocate t) e f = absurd (other_mode Locating (in_mode cmp total hash lawful gives w k p x at x.party_state (AtLocate t) e) (λ q a b h. cc) (λ h. cc))
     by_stage (AtBin t n) e f = absurd (other_mode (Looking n) (in_mode cmp total hash lawful gives w k p x at x.party_state (AtBin t n) e) (λ q a b h. cc) (λ h. cc))
     by_stage (AtClaim a) e f = absurd (writes_not (helper_writes x.call a f))
@@ -65,6 +67,7 @@ module _ {K V F S : Type 0} (cmp : K → K → Ordering) (total : IsTotalOrder c
     by_stage (AtBegin n s) e f = absurd (writes_not f.writes)
     by_stage (AtGrow n (ForInsert s)) e f = absurd (writes_not f.writes)
     by_stage (AtGrow n ForReserve) e (m, f) = absurd (writes_not (ap (λ d. is_lookup (Some d)) f))
+    by_stage (AtSweep u) e f = absurd (writes_not (looks_not x.call u.errand u.last f.0))
     by_stage (AtReserve n) e f = absurd (writes_not (ap (λ d. is_lookup (Some d)) f))
     by_stage (AtDone (OutcomeReply q)) e f = let same_reply : Some q ≡ Some r = sym (ok.decided q 0 0 (in_mode cmp total hash lawful gives w k p x at x.party_state (AtDone (OutcomeReply q)) e)) ∙ decided in e ∙ ap (λ o. AtDone (OutcomeReply (unwrap_or o q))) same_reply
     by_stage (AtDone OutcomeEnded) e (m, f) = absurd (writes_not (ap (λ d. is_lookup (Some d)) f))

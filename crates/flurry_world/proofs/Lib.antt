@@ -24,3 +24,6 @@ pub mod BeginLaws
 pub mod WorldSteps
 pub mod RunLaws
 pub mod LawfulLaws
+pub mod SweepLaws
+pub mod SweepModes
+pub mod SweepCases

@@ -7,10 +7,11 @@ use Rattle.flurry_slots.specs.Slot as slots
 use Rattle.flurry_slots.specs.Slot.{SlotState, Content, IsLive, IsUnborn}
 use Rattle.flurry_control.specs.Control as control
 use Rattle.flurry_control.specs.Control.{ControlState, IsControl, IsIdle, Grows, after_open, count_of, GrowthIsIn}
-use Rattle.flurry_steps.specs.Party.{Task, Finds, Removes, Inserts, Adds, Computes, OutcomeReply, OutcomeRefused, ForReserve, Stage, AtLocate, AtBin, AtGrow, AtReserve, AtDone, PartyState, reply_for}
+use Rattle.flurry_calls.specs.Outcome.{OutcomeReply, OutcomeRefused}
+use Rattle.flurry_steps.specs.Party.{Task, Finds, Removes, Inserts, Adds, Computes, ForReserve, Stage, AtLocate, AtBin, AtGrow, AtReserve, AtDone, PartyState, reply_for}
 use Rattle.flurry_steps.specs.PartyControl.{OpensFor, LocatesNone, MakesFor, ReservesFor}
-use Rattle.flurry_steps.specs.declared.party.Event.{Event}
-use Rattle.flurry_steps.specs.declared.party.Event.TheVariants as event
+use Rattle.flurry_calls.specs.declared.step.Event.{Event}
+use Rattle.flurry_calls.specs.declared.step.Event.TheVariants as event
 use Rattle.flurry_theory.specs.Map.{same}
 use Rattle.flurry_theory.specs.Trace.{published}
 use Rattle.flurry_theory.specs.Machine.{Locating, Done, Live, Finds as FindsTable, Opens, IsRefused, DecidesEmpty, Opening, RefusedAt, mode_at_table}
@@ -53,7 +54,7 @@ idle_without (Some e) g h i = cc
 
 module _ {K V F S : Type 0} (cmp : K → K → Ordering) (total : IsTotalOrder cmp) (hash : K → ℕ) (lawful : (j k : K) → same cmp j k ≡ true → hash j ≡ hash k) (gives : F → K → V → Option V → Type 0) (w : WorldState K V F S) (k : IsWorld cmp hash gives w) (p : ℕ) (x : PartyRecord K V F) (at : slice_get w.party_records p ≡ Some x) (c : PartyState K V F) where
   -- a party that locates goes on at the published table
-  pub finds : (s : Stage K V F) (e : ℕ) → x.party_state.stage ≡ s → mode_of_stage s ≡ Locating → claim_of_stage s ≡ None → w.control_state.published ≡ Some e → mode_of_stage c.stage ≡ mode_at_table e x.call → claim_of_stage c.stage ≡ None → FollowsStage x.call c.stage
+  pub finds : (s : Stage K V F) (e : ℕ) → x.party_state.stage ≡ s → mode_of_stage s ≡ Locating → claim_of_stage s ≡ None → w.control_state.published ≡ Some e → mode_of_stage c.stage ≡ mode_at_table e x.call → claim_of_stage c.stage ≡ None → FollowsStage hash x.call c.stage
       → IsStep cmp hash gives w p x w.control_state w.tables c (label.Silent p)
   finds s e f locating none there mode claim follows = record {
     line = FindsTable e;
@@ -65,7 +66,7 @@ module _ {K V F S : Type 0} (cmp : K → K → Ordering) (total : IsTotalOrder c
 
   -- or makes the first one
   opens : (s : Stage K V F) (e : ℕ) (t : Tables K V) → x.party_state.stage ≡ s → mode_of_stage s ≡ Locating → claim_of_stage s ≡ None → w.control_state.published ≡ None → e ≤ GREATEST_TABLE → Opening x.call e → PlaceGives w.tables e true true t
-      → mode_of_stage c.stage ≡ mode_at_table e x.call → claim_of_stage c.stage ≡ None → FollowsStage x.call c.stage → IsStep cmp hash gives w p x (after_open e w.control_state) t c (label.Opened e)
+      → mode_of_stage c.stage ≡ mode_at_table e x.call → claim_of_stage c.stage ≡ None → FollowsStage hash x.call c.stage → IsStep cmp hash gives w p x (after_open e w.control_state) t c (label.Opened e)
   opens s e t f locating none bare le may gives_table mode claim follows = record {
     line = Opens e;
     can = (x.call, calls cmp total hash lawful gives w k p x at c, in_mode cmp total hash lawful gives w k p x at c s f ∙ locating, bare, may);
@@ -106,7 +107,7 @@ module _ {K V F S : Type 0} (cmp : K → K → Ordering) (total : IsTotalOrder c
     line = IsRefused;
     can = (x.call, calls cmp total hash lawful gives w k p x at c, in_claim cmp total hash lawful gives w k p x at c s f ∙ none, subst (RefusedAt cmp hash gives (state_of w) x.call) (sym (in_mode cmp total hash lawful gives w k p x at c s f ∙ locating)) (bare, e, may));
     is = is_refused cmp hash gives w p x at c (ap mode_of_stage g) (ap claim_of_stage g ∙ sym (ap claim_of_stage f ∙ none));
-    follows = subst (FollowsStage x.call) (sym g) tt;
+    follows = subst (FollowsStage hash x.call) (sym g) tt;
     frame = same_frame cmp hash gives w k;
   }
 
@@ -116,7 +117,7 @@ module _ {K V F S : Type 0} (cmp : K → K → Ordering) (total : IsTotalOrder c
     line = DecidesEmpty x.call (empty_reply t);
     can = let (adds, allowed) = empty_allowed cmp gives x.call t task nothing in (calls cmp total hash lawful gives w k p x at c, in_mode cmp total hash lawful gives w k p x at c (AtLocate t) f, bare, adds, allowed);
     is = is_decided_empty cmp hash gives w p x at c x.call (empty_reply t) (ap mode_of_stage g) (ap claim_of_stage g ∙ sym (ap claim_of_stage f));
-    follows = subst (FollowsStage x.call) (sym g) (key_of_task x.call t task);
+    follows = subst (FollowsStage hash x.call) (sym g) (key_of_task x.call t task);
     frame = same_frame cmp hash gives w k;
   }
 
@@ -128,13 +129,15 @@ module _ {K V F S : Type 0} (cmp : K → K → Ordering) (total : IsTotalOrder c
         by_event : (a : Event) → ev ≡ a → OpensFor PlaceGives x.party_state.processors t w.control_state w.tables a c.stage b t' → IsStep cmp hash gives w p x b t' c (label_of p ev c.stage)
         by_event (event.Opened e) q g =
             settled cmp total hash lawful gives w k p x at c ev (event.Opened 4) (AtBin t 4) b (after_open 4 w.control_state) t' t' (q ∙ ap event.Opened g.0) g.1 g.2 refl
-            (opens (AtLocate t) 4 t' f refl refl bare (omega arith) (opens_first x.call t task adds) g.3 (ap mode_of_stage g.1 ∙ sym (found_task x.call t 4 task)) (ap claim_of_stage g.1) (subst (FollowsStage x.call) (sym g.1) task))
+            (opens (AtLocate t) 4 t' f refl refl bare (omega arith) (opens_first x.call t task adds) g.3 (ap mode_of_stage g.1 ∙ sym (found_task x.call t 4 task)) (ap claim_of_stage g.1) (subst (FollowsStage hash x.call) (sym g.1) task))
         by_event event.Refused q g =
             settled cmp total hash lawful gives w k p x at c ev event.Refused (AtDone OutcomeRefused) b w.control_state t' w.tables q g.0 g.1 (refused_place w.tables 4 true t' g.2)
             (refused (AtLocate t) 4 f refl refl bare (opens_first x.call t task adds) g.0)
         by_event event.Decide q g = absurd g
         by_event (event.Placed e) q g = absurd g
         by_event (event.Moved e i) q g = absurd g
+        by_event event.Read q g = absurd g
+        by_event (event.Wipe _ _) q g = absurd g
         by_event (event.Published e) q g = absurd g
         by_event event.Silent q g = absurd g
 
@@ -145,7 +148,7 @@ module _ {K V F S : Type 0} (cmp : K → K → Ordering) (total : IsTotalOrder c
     locates_none (Adds j v) f bare task h = opens_for (Adds j v) f bare task (λ n. n) h
     locates_none (Computes j g) f bare task h = settled cmp total hash lawful gives w k p x at c ev event.Decide (AtDone (OutcomeReply (empty_reply (Computes j g)))) b w.control_state t' w.tables h.0 h.1 h.2 h.3 (decides_empty (Computes j g) f bare task tt h.1)
 
-    pub locates : (t : Task K V F) → x.party_state.stage ≡ AtLocate t → FollowsStage x.call (AtLocate t)
+    pub locates : (t : Task K V F) → x.party_state.stage ≡ AtLocate t → FollowsStage hash x.call (AtLocate t)
         → MatchOption w.control_state.published (LocatesNone PlaceGives x.party_state.processors t w.control_state w.tables ev c.stage b t') (λ e. (ev ≡ event.Silent) × (c.stage ≡ AtBin t e) × (b ≡ w.control_state) × (t' ≡ w.tables)) → IsStep cmp hash gives w p x b t' c (label_of p ev c.stage)
     locates t f task h = by_table w.control_state.published refl h
       where
@@ -153,7 +156,7 @@ module _ {K V F S : Type 0} (cmp : K → K → Ordering) (total : IsTotalOrder c
         by_table None q g = locates_none t f q task g
         by_table (Some e) q g =
             settled cmp total hash lawful gives w k p x at c ev event.Silent (AtBin t e) b w.control_state t' w.tables g.0 g.1 g.2 g.3
-            (finds (AtLocate t) e f refl refl q (ap mode_of_stage g.1 ∙ sym (found_task x.call t e task)) (ap claim_of_stage g.1) (subst (FollowsStage x.call) (sym g.1) task))
+            (finds (AtLocate t) e f refl refl q (ap mode_of_stage g.1 ∙ sym (found_task x.call t e task)) (ap claim_of_stage g.1) (subst (FollowsStage hash x.call) (sym g.1) task))
 
     -- a reserve
     pub reserves : (a n : ℕ) → x.party_state.stage ≡ AtReserve a → x.call ≡ call.Reserve a → n ≤ GREATEST_TABLE → ReservesFor PlaceGives x.party_state.processors n w.control_state w.tables ev c.stage b t' → IsStep cmp hash gives w p x b t' c (label_of p ev c.stage)
@@ -168,13 +171,15 @@ module _ {K V F S : Type 0} (cmp : K → K → Ordering) (total : IsTotalOrder c
         makes : w.control_state.published ≡ None → (o : Event) → ev ≡ o → MakesFor PlaceGives x.party_state.processors n w.control_state w.tables o c.stage b t' → IsStep cmp hash gives w p x b t' c (label_of p ev c.stage)
         makes bare (event.Opened e) q g =
             settled cmp total hash lawful gives w k p x at c ev (event.Opened n) (AtGrow n ForReserve) b (after_open n w.control_state) t' t' (q ∙ ap event.Opened g.0) g.1 g.2 refl
-            (opens (AtReserve a) n t' f refl refl bare le may g.3 (ap mode_of_stage g.1 ∙ at_found n) (ap claim_of_stage g.1) (subst (FollowsStage x.call) (sym g.1) (a, is)))
+            (opens (AtReserve a) n t' f refl refl bare le may g.3 (ap mode_of_stage g.1 ∙ at_found n) (ap claim_of_stage g.1) (subst (FollowsStage hash x.call) (sym g.1) (a, is)))
         makes bare event.Refused q g =
             settled cmp total hash lawful gives w k p x at c ev event.Refused (AtDone OutcomeRefused) b w.control_state t' w.tables q g.0 g.1 (refused_place w.tables n true t' g.2)
             (refused (AtReserve a) n f refl refl bare may g.0)
         makes bare event.Decide q g = absurd g
         makes bare (event.Placed e) q g = absurd g
         makes bare (event.Moved e i) q g = absurd g
+        makes bare event.Read q g = absurd g
+        makes bare (event.Wipe _ _) q g = absurd g
         makes bare (event.Published e) q g = absurd g
         makes bare event.Silent q g = absurd g
 
@@ -182,4 +187,4 @@ module _ {K V F S : Type 0} (cmp : K → K → Ordering) (total : IsTotalOrder c
         by_table None q g = makes q ev refl g
         by_table (Some e) q g =
             settled cmp total hash lawful gives w k p x at c ev event.Silent (AtGrow n ForReserve) b w.control_state t' w.tables g.0 g.1 g.2 g.3
-            (finds (AtReserve a) e f refl refl q (ap mode_of_stage g.1 ∙ at_found e) (ap claim_of_stage g.1) (subst (FollowsStage x.call) (sym g.1) (a, is)))
+            (finds (AtReserve a) e f refl refl q (ap mode_of_stage g.1 ∙ at_found e) (ap claim_of_stage g.1) (subst (FollowsStage hash x.call) (sym g.1) (a, is)))

@@ -10,8 +10,8 @@ use Rattle.flurry_control.specs.Claim.{Range, next_of, moved_on}
 use Rattle.flurry_control.specs.Control.{ControlState}
 use Rattle.flurry_steps.specs.Party.{Resume, AtMove, PartyState, with_stage}
 use Rattle.flurry_steps.specs.PartySlots.{MoveGives, moved_stage}
-use Rattle.flurry_steps.specs.declared.party.Event.{Event}
-use Rattle.flurry_steps.specs.declared.party.Event.TheVariants as event
+use Rattle.flurry_calls.specs.declared.step.Event.{Event}
+use Rattle.flurry_calls.specs.declared.step.Event.TheVariants as event
 use Rattle.flurry_theory.specs.Map.{same}
 use Rattle.flurry_theory.specs.Bin as bin
 use Rattle.flurry_theory.specs.Machine as machine
@@ -154,7 +154,7 @@ module _ {K V F S : Type 0} (cmp : K → K → Ordering) (total : IsTotalOrder c
         line = Moves held i (entries_of_held b.held) b.writes;
         can = (holds, is_next.above, is_next.left, ap (λ n. slot_of (content_at w.tables n i)) (sym is_next.table) ∙ ap slot_of (q_here ∙ live), no_lookup cmp total hash lawful gives w k p x at c (helper_writes x.call a had));
         is = is_moved cmp hash gives w p x at c held i (entries_of_held b.held) b.writes moved_tables (λ d j. subst (λ n. slot_of (content_at moved_tables d j) ≡ at_bin (at_bin (at_bin (state_of w).slot n i Moved) (suc n) i (Live (bin.half hash (suc n) i (entries_of_held b.held)) b.writes)) (suc n) (i + 2 ^ n) (Live (bin.half hash (suc n) (i + 2 ^ n) (entries_of_held b.held)) b.writes) d j) is_next.table (slots_after d j)) (mode_after) claim_after;
-        follows = subst (FollowsStage x.call) (sym stage_after) had;
+        follows = subst (FollowsStage hash x.call) (sym stage_after) had;
         frame = record {
           hashed = λ d j l h. hashed_in d j l (e + 1 == d && i + 2 ^ e == j) (e + 1 == d && i == j) (e == d && i == j) (sym (contents d j) ∙ h);
           control_state = k.control_state;
@@ -232,4 +232,6 @@ module _ {K V F S : Type 0} (cmp : K → K → Ordering) (total : IsTotalOrder c
       at_move event.Refused b t' g y z = absurd g
       at_move (event.Opened d) b t' g y z = absurd g
       at_move (event.Placed d) b t' g y z = absurd g
+      at_move event.Read b t' g y z = absurd g
+      at_move (event.Wipe _ _) b t' g y z = absurd g
       at_move (event.Published d) b t' g y z = absurd g

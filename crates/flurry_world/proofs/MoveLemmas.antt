@@ -6,7 +6,7 @@ use Rattle.std.proofs.Math.Seq.{take-append_seam}
 use Rattle.flurry_slots.specs.Slot.{SlotState}
 use Rattle.flurry_steps.specs.Party.{PartyState}
 use Rattle.flurry_steps.specs.PartySlots.{MoveStep}
-use Rattle.flurry_steps.specs.declared.party.Event.{Event}
+use Rattle.flurry_calls.specs.declared.step.Event.{Event}
 use Rattle.flurry_world.specs.Parts.{HalvesStep}
 use Rattle.flurry_world.specs.Tables.{slots_of, place_at, put_place, AreTables}
 use Rattle.flurry_world.proofs.TableLaws.{length_of_put, slots_of-put_other, put_twice, moves_in_place, AreTables-moved}

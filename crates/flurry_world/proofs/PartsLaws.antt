@@ -4,14 +4,16 @@ use Rattle.std.specs.declared.cmp.Ordering.{Ordering}
 use Rattle.std.proofs.Common.{arith, inl, inr, refl, sym, ◌∙◌, ap, subst}
 use Rattle.flurry_slots.specs.Slot.{SlotState}
 use Rattle.flurry_control.specs.Control.{ControlState}
-use Rattle.flurry_steps.specs.Party.{Stage, AtLocate, AtBin, AtClaim, AtMove, AtUncount, AtCount, AtRecount, AtBegin, AtGrow, AtReserve, AtDone, AtTaken, PartyState, Part, ControlPart, LookPart, BinPart, MovePart, NoPart, part_of, wanted_part}
+use Rattle.flurry_calls.specs.Part.{Part, ControlPart, LookPart, BinPart, MovePart, NoPart}
+use Rattle.flurry_steps.specs.Party.{Stage, AtLocate, AtBin, AtClaim, AtMove, AtUncount, AtCount, AtRecount, AtBegin, AtGrow, AtReserve, AtSweep, AtDone, AtTaken, PartyState, part_of, wanted_part}
 use Rattle.flurry_steps.specs.PartyControl.{ControlStep}
 use Rattle.flurry_steps.specs.Field.{Loan, ControlLoan, StartLoan, TallyLoan, LookLoan, BinLoan, MoveLoan, StepWith, Turn}
-use Rattle.flurry_steps.specs.declared.party.Event.{Event}
+use Rattle.flurry_calls.specs.declared.step.Event.{Event}
 use Rattle.flurry_steps.proofs.Rooms.{control_in}
 use Rattle.flurry_world.specs.Tables.{Tables, AreTables, place_at, put_place, PlaceGives}
 use Rattle.flurry_world.specs.Parts.{Parts, IsOwn, IsPart, OwnLends, PartStep, IsThere}
-use Rattle.flurry_world.specs.Steps.{label_of, GoesOn, StepByStage}
+use Rattle.flurry_calls.specs.Sweep.{SweepState, SweepStage, AtOutset, OverBins, AtTotal, AtEnd, AfterEnd, part_at}
+use Rattle.flurry_world.specs.Steps.{label_of, GoesOn, StepBySweep, StepByStage}
 use Rattle.flurry_world.proofs.TableLaws.{place_in, index_within}
 use Rattle.flurry_model.specs.declared.sizes.TheConstants.{GREATEST_TABLE}
 
@@ -92,6 +94,13 @@ module _ {K V F : Type 0} (cmp : K → K → Ordering) (changes : F → K → V 
       going : GoesOn cmp changes p c s.control_state s.tables (label_of p ev c'.stage) c' s'.control_state s'.tables
       going = record { event = ev; part = part; label_is = refl }
 
+      by_sweep : (w : SweepState K V) (z : SweepStage K V) → w.stage ≡ z → c.stage ≡ AtSweep w → StepBySweep cmp changes p z c s.control_state s.tables (label_of p ev c'.stage) c' s'.control_state s'.tables
+      by_sweep w AtOutset f e = going
+      by_sweep w (OverBins u) f e = going
+      by_sweep w AtTotal f e = going
+      by_sweep w (AtEnd r) f e = absurd (subst (λ z. PartStep cmp changes (part_at w.errand z) c s.control_state s.tables ev c' s'.control_state s'.tables) f (subst (λ z. PartStep cmp changes (part_of c.hash z) c s.control_state s.tables ev c' s'.control_state s'.tables) e part))
+      by_sweep w AfterEnd f e = absurd (subst (λ z. PartStep cmp changes (part_at w.errand z) c s.control_state s.tables ev c' s'.control_state s'.tables) f (subst (λ z. PartStep cmp changes (part_of c.hash z) c s.control_state s.tables ev c' s'.control_state s'.tables) e part))
+
       by_stage : (u : Stage K V F) → c.stage ≡ u → StepByStage cmp changes p u c s.control_state s.tables (label_of p ev c'.stage) c' s'.control_state s'.tables
       by_stage (AtLocate t) e = going
       by_stage (AtBin t n) e = going
@@ -103,6 +112,7 @@ module _ {K V F : Type 0} (cmp : K → K → Ordering) (changes : F → K → V 
       by_stage (AtBegin n r) e = going
       by_stage (AtGrow w g) e = going
       by_stage (AtReserve a) e = going
+      by_stage (AtSweep w) e = by_sweep w w.stage refl e
       by_stage (AtDone r) e = absurd (subst (λ z. PartStep cmp changes (part_of c.hash z) c s.control_state s.tables ev c' s'.control_state s'.tables) e part)
       by_stage AtTaken e = absurd (subst (λ z. PartStep cmp changes (part_of c.hash z) c s.control_state s.tables ev c' s'.control_state s'.tables) e part)
 

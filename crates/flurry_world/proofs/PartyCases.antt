@@ -1,4 +1,4 @@
--- Each step of a party at the part that it wants is a transition of the machine.
+-- Each step of a party at the part that it wants is a transition of the machine, where its call does not go over all bins.
 use Rattle.std.specs.Prelude.{ℕ, ◌^◌, ◌%◌, ◌==◌, ◌&&◌, Bool, true, false, slice_get, Option, Some, None, is_some, if◌then◌else◌, ◌≡◌}
 use Rattle.std.specs.declared.cmp.Ordering.{Ordering}
 use Rattle.std.specs.Cmp.{IsTotalOrder}
@@ -7,11 +7,12 @@ use Rattle.std.proofs.lemmas.Bool.{eqb-true, and_parts}
 use Rattle.flurry_slots.specs.Slot.{SlotState, IsSlot, IsContent}
 use Rattle.flurry_control.specs.Claim.{Range, next_of}
 use Rattle.flurry_control.specs.Control.{ControlState}
-use Rattle.flurry_steps.specs.Party.{Task, Finds, Removes, Inserts, Adds, Computes, Resume, Stage, AtLocate, AtBin, AtClaim, AtMove, AtUncount, AtCount, AtRecount, AtBegin, AtGrow, AtReserve, AtDone, AtTaken, PartyState, part_of, ControlPart, LookPart, BinPart, wanted_part, move_part}
+use Rattle.flurry_calls.specs.Part.{ControlPart, LookPart, BinPart}
+use Rattle.flurry_steps.specs.Party.{Task, Finds, Removes, Inserts, Adds, Computes, Resume, Stage, AtLocate, AtBin, AtClaim, AtMove, AtUncount, AtCount, AtRecount, AtBegin, AtGrow, AtReserve, AtSweep, AtDone, AtTaken, PartyState, part_of, wanted_part, move_part, IsSingle}
 use Rattle.flurry_steps.specs.PartyControl.{StageAtControl, ControlStep}
 use Rattle.flurry_steps.specs.PartySlots.{SlotStep, MoveGives, StageAtSlot}
-use Rattle.flurry_steps.specs.declared.party.Event.{Event}
-use Rattle.flurry_steps.specs.declared.party.Event.TheVariants as event
+use Rattle.flurry_calls.specs.declared.step.Event.{Event}
+use Rattle.flurry_calls.specs.declared.step.Event.TheVariants as event
 use Rattle.flurry_theory.specs.Map.{same}
 use Rattle.flurry_world.specs.Tables.{Tables, AreTables, place_at, content_at, put_place, PlaceGives}
 use Rattle.flurry_world.specs.Parts.{PartStep}
@@ -28,7 +29,7 @@ use Rattle.flurry_world.proofs.MoveCases.{at_move, no_slots}
 
 module _ {K V : Type 0} where
   -- tables with the same content at a slot
-  put_same : (t : Tables K V) (e i : ℕ) (q : SlotState K V) → AreTables t → place_at t e i ≡ Some q → Put t e i q.content t
+  pub put_same : (t : Tables K V) (e i : ℕ) (q : SlotState K V) → AreTables t → place_at t e i ≡ Some q → Put t e i q.content t
   put_same t e i q are at = record { contents = λ d j. by_place d j (e == d && i == j) refl; tables = are; made = λ d h. h; unmade = λ d h. h }
     where
       by_place : (d j : ℕ) (b : Bool) → (e == d && i == j) ≡ b → content_at t d j ≡ (if b then q.content else content_at t d j)
@@ -36,7 +37,7 @@ module _ {K V : Type 0} where
       by_place d j false h = refl
 
   -- tables with another slot
-  put_other : (t : Tables K V) (e i : ℕ) (q q' : SlotState K V) → AreTables t → place_at t e i ≡ Some q → q'.table ≡ q.table → q'.index ≡ q.index → Put t e i q'.content (put_place t e i q')
+  pub put_other : (t : Tables K V) (e i : ℕ) (q q' : SlotState K V) → AreTables t → place_at t e i ≡ Some q → q'.table ≡ q.table → q'.index ≡ q.index → Put t e i q'.content (put_place t e i q')
   put_other t e i q q' are at table index = record {
     contents = put_content t e i q' (ap is_some at);
     tables = AreTables-put t e i q' q are at table index;
@@ -50,29 +51,30 @@ module _ {K V F S : Type 0} (cmp : K → K → Ordering) (total : IsTotalOrder c
     pub hash_stays : c.hash ≡ x.party_state.hash
     pub step : IsStep cmp hash gives w p x b t' c (label_of p ev c.stage)
 
-  follows : FollowsStage x.call x.party_state.stage
+  follows : FollowsStage hash x.call x.party_state.stage
   follows = (k.party_records p x at).stage
 
-  at_control : (s : Stage K V F) → x.party_state.stage ≡ s → part_of x.party_state.hash s ≡ ControlPart → StageAtControl PlaceGives x.party_state.processors s w.control_state w.tables ev c.stage b t' → IsStep cmp hash gives w p x b t' c (label_of p ev c.stage)
-  at_control (AtLocate t) e q h = locates cmp total hash lawful gives w k p x at c ev b t' t e (subst (FollowsStage x.call) e follows) h
-  at_control (AtBin t n) e q h = absurd h
-  at_control (AtClaim a) e q h = claims_bins cmp total hash lawful gives w k p x at c ev b t' a e (subst (FollowsStage x.call) e follows) h
-  at_control (AtMove m a) e q h = reports cmp total hash lawful gives w k p x at c ev b t' m a e (subst (FollowsStage x.call) e follows) (none_left (next_of m) q) h
+  at_control : (s : Stage K V F) → x.party_state.stage ≡ s → IsSingle s → part_of x.party_state.hash s ≡ ControlPart → StageAtControl PlaceGives x.party_state.processors s w.control_state w.tables ev c.stage b t' → IsStep cmp hash gives w p x b t' c (label_of p ev c.stage)
+  at_control (AtLocate t) e single q h = locates cmp total hash lawful gives w k p x at c ev b t' t e (subst (FollowsStage hash x.call) e follows) h
+  at_control (AtBin t n) e single q h = absurd h
+  at_control (AtClaim a) e single q h = claims_bins cmp total hash lawful gives w k p x at c ev b t' a e (subst (FollowsStage hash x.call) e follows) h
+  at_control (AtMove m a) e single q h = reports cmp total hash lawful gives w k p x at c ev b t' m a e (subst (FollowsStage hash x.call) e follows) (none_left (next_of m) q) h
     where
       none_left : (o : Option (ℕ × ℕ)) → move_part o ≡ ControlPart → o ≡ None
       none_left None z = refl
       none_left (Some z) y = cc
-  at_control (AtUncount r) e q h = uncounts cmp total hash lawful gives w k p x at c ev b t' r e (subst (FollowsStage x.call) e follows) near h
-  at_control (AtCount r) e q h = counts_one cmp total hash lawful gives w k p x at c ev b t' r e (subst (FollowsStage x.call) e follows) near h
-  at_control (AtRecount r) e q h = recounts cmp total hash lawful gives w k p x at c ev b t' r e (subst (FollowsStage x.call) e follows) near h
-  at_control (AtBegin n r) e q h = begins cmp total hash lawful gives w k p x at c ev b t' n r e (subst (FollowsStage x.call) e follows) h
-  at_control (AtGrow n g) e q h = grows cmp total hash lawful gives w k p x at c ev b t' n g e (subst (FollowsStage x.call) e follows) h
-  at_control (AtReserve a) e q (n, sized, h) = reserves cmp total hash lawful gives w k p x at c ev b t' a n e (subst (FollowsStage x.call) e follows) sized.within h
-  at_control (AtDone r) e q h = absurd h
-  at_control AtTaken e q h = absurd h
+  at_control (AtUncount r) e single q h = uncounts cmp total hash lawful gives w k p x at c ev b t' r e (subst (FollowsStage hash x.call) e follows) near h
+  at_control (AtCount r) e single q h = counts_one cmp total hash lawful gives w k p x at c ev b t' r e (subst (FollowsStage hash x.call) e follows) near h
+  at_control (AtRecount r) e single q h = recounts cmp total hash lawful gives w k p x at c ev b t' r e (subst (FollowsStage hash x.call) e follows) near h
+  at_control (AtBegin n r) e single q h = begins cmp total hash lawful gives w k p x at c ev b t' n r e (subst (FollowsStage hash x.call) e follows) h
+  at_control (AtGrow n g) e single q h = grows cmp total hash lawful gives w k p x at c ev b t' n g e (subst (FollowsStage hash x.call) e follows) h
+  at_control (AtReserve a) e single q (n, sized, h) = reserves cmp total hash lawful gives w k p x at c ev b t' a n e (subst (FollowsStage hash x.call) e follows) sized.within h
+  at_control (AtSweep u) e single q h = absurd single
+  at_control (AtDone r) e single q h = absurd h
+  at_control AtTaken e single q h = absurd h
 
-  control_step : (s : Stage K V F) → x.party_state.stage ≡ s → part_of x.party_state.hash s ≡ ControlPart → ControlStep PlaceGives x.party_state w.control_state w.tables ev c b t' → Taken
-  control_step s e q h = record { hash_stays = h.hash; step = at_control s e q (subst (λ z. StageAtControl PlaceGives x.party_state.processors z w.control_state w.tables ev c.stage b t') e h.step) }
+  control_step : (s : Stage K V F) → x.party_state.stage ≡ s → IsSingle s → part_of x.party_state.hash s ≡ ControlPart → ControlStep PlaceGives x.party_state w.control_state w.tables ev c b t' → Taken
+  control_step s e single q h = record { hash_stays = h.hash; step = at_control s e single q (subst (λ z. StageAtControl PlaceGives x.party_state.processors z w.control_state w.tables ev c.stage b t') e h.step) }
 
   -- at its bin, to read or to write it
   module _ (t : Task K V F) (n : ℕ) (e : x.party_state.stage ≡ AtBin t n) where
@@ -80,7 +82,7 @@ module _ {K V F S : Type 0} (cmp : K → K → Ordering) (total : IsTotalOrder c
     slot_step q q' there inside h y put = record {
       hash_stays = h.hash;
       step = subst (λ z. IsStep cmp hash gives w p x z t' c (label_of p ev c.stage)) (sym y)
-          (at_bin_step cmp total hash lawful gives w k p x at c t n e (subst (FollowsStage x.call) e follows) q (content_of_place w.tables n (x.party_state.hash % 2 ^ n) q there)
+          (at_bin_step cmp total hash lawful gives w k p x at c t n e (subst (FollowsStage hash x.call) e follows) q (content_of_place w.tables n (x.party_state.hash % 2 ^ n) q there)
           (let is = k.tables.order n (x.party_state.hash % 2 ^ n) q there in subst (λ z. IsContent cmp z (x.party_state.hash % 2 ^ n) q.content) is.0 (subst (λ z. IsContent cmp q.table z q.content) is.1 inside.content))
           ev q'.content t' put (subst (λ z. StageAtSlot cmp gives x.party_state.hash z q.content ev c.stage q'.content) e h.step));
     }
@@ -92,10 +94,10 @@ module _ {K V F S : Type 0} (cmp : K → K → Ordering) (total : IsTotalOrder c
     writes (q, q', there, inside, h, y, z) = slot_step q q' there inside h y (subst (λ u. Put w.tables n (x.party_state.hash % 2 ^ n) q'.content u) (sym z) (put_other w.tables n (x.party_state.hash % 2 ^ n) q q' k.tables there h.table h.index))
 
   moves : (m : Range) (a : Resume K V F) → x.party_state.stage ≡ AtMove m a → (o : Option (ℕ × ℕ)) → next_of m ≡ o → PartStep cmp gives (move_part o) x.party_state w.control_state w.tables ev c b t' → Taken
-  moves m a e None q h = control_step (AtMove m a) e (ap move_part q) h
+  moves m a e None q h = control_step (AtMove m a) e tt (ap move_part q) h
   moves m a e (Some d) q (old, low, high, old', low', high', old_at, low_at, high_at, inside, h, y, z) = record {
     hash_stays = hash_of_move ev h.step;
-    step = at_move cmp total hash lawful gives w k p x at c m a e (subst (FollowsStage x.call) e follows) d.0 d.1 q old low high old_at low_at high_at inside old' low' high' ev b t' h.step y z;
+    step = at_move cmp total hash lawful gives w k p x at c m a e (subst (FollowsStage hash x.call) e follows) d.0 d.1 q old low high old_at low_at high_at inside old' low' high' ev b t' h.step y z;
   }
     where
       hash_of_move : (v : Event) → MoveGives x.party_state old low high v c old' low' high' → c.hash ≡ x.party_state.hash
@@ -106,25 +108,28 @@ module _ {K V F S : Type 0} (cmp : K → K → Ordering) (total : IsTotalOrder c
       hash_of_move event.Refused u = absurd u
       hash_of_move (event.Opened g) u = absurd u
       hash_of_move (event.Placed g) u = absurd u
+      hash_of_move event.Read u = absurd u
+      hash_of_move (event.Wipe _ _) u = absurd u
       hash_of_move (event.Published g) u = absurd u
 
-  by_stage : (s : Stage K V F) → x.party_state.stage ≡ s → PartStep cmp gives (part_of x.party_state.hash s) x.party_state w.control_state w.tables ev c b t' → Taken
-  by_stage (AtLocate t) e h = control_step (AtLocate t) e refl h
-  by_stage (AtBin (Finds y j) n) e h = looks (Finds y j) n e h
-  by_stage (AtBin (Removes y j) n) e h = writes (Removes y j) n e h
-  by_stage (AtBin (Inserts j v) n) e h = writes (Inserts j v) n e h
-  by_stage (AtBin (Adds j v) n) e h = writes (Adds j v) n e h
-  by_stage (AtBin (Computes j g) n) e h = writes (Computes j g) n e h
-  by_stage (AtClaim a) e h = control_step (AtClaim a) e refl h
-  by_stage (AtMove m a) e h = moves m a e (next_of m) refl h
-  by_stage (AtUncount r) e h = control_step (AtUncount r) e refl h
-  by_stage (AtCount r) e h = control_step (AtCount r) e refl h
-  by_stage (AtRecount r) e h = control_step (AtRecount r) e refl h
-  by_stage (AtBegin n r) e h = control_step (AtBegin n r) e refl h
-  by_stage (AtGrow n g) e h = control_step (AtGrow n g) e refl h
-  by_stage (AtReserve a) e h = control_step (AtReserve a) e refl h
-  by_stage (AtDone r) e h = absurd h
-  by_stage AtTaken e h = absurd h
+  by_stage : (s : Stage K V F) → x.party_state.stage ≡ s → IsSingle s → PartStep cmp gives (part_of x.party_state.hash s) x.party_state w.control_state w.tables ev c b t' → Taken
+  by_stage (AtLocate t) e single h = control_step (AtLocate t) e tt refl h
+  by_stage (AtBin (Finds y j) n) e single h = looks (Finds y j) n e h
+  by_stage (AtBin (Removes y j) n) e single h = writes (Removes y j) n e h
+  by_stage (AtBin (Inserts j v) n) e single h = writes (Inserts j v) n e h
+  by_stage (AtBin (Adds j v) n) e single h = writes (Adds j v) n e h
+  by_stage (AtBin (Computes j g) n) e single h = writes (Computes j g) n e h
+  by_stage (AtClaim a) e single h = control_step (AtClaim a) e tt refl h
+  by_stage (AtMove m a) e single h = moves m a e (next_of m) refl h
+  by_stage (AtUncount r) e single h = control_step (AtUncount r) e tt refl h
+  by_stage (AtCount r) e single h = control_step (AtCount r) e tt refl h
+  by_stage (AtRecount r) e single h = control_step (AtRecount r) e tt refl h
+  by_stage (AtBegin n r) e single h = control_step (AtBegin n r) e tt refl h
+  by_stage (AtGrow n g) e single h = control_step (AtGrow n g) e tt refl h
+  by_stage (AtReserve a) e single h = control_step (AtReserve a) e tt refl h
+  by_stage (AtSweep u) e single h = absurd single
+  by_stage (AtDone r) e single h = absurd h
+  by_stage AtTaken e single h = absurd h
 
-  pub taken : PartStep cmp gives (wanted_part x.party_state) x.party_state w.control_state w.tables ev c b t' → Taken
-  taken h = by_stage x.party_state.stage refl h
+  pub taken : IsSingle x.party_state.stage → PartStep cmp gives (wanted_part x.party_state) x.party_state w.control_state w.tables ev c b t' → Taken
+  taken single h = by_stage x.party_state.stage refl single h

@@ -40,6 +40,8 @@ module _ {K V F : Type 0} (ready : F → Type 0) (each : (f : F) → ready f) wh
   kept_ready (owned.TryInsert k v) = tt
   kept_ready (owned.Compute k f) = each f
   kept_ready (owned.Reserve n) = tt
+  kept_ready owned.Clear = tt
+  kept_ready owned.Walk = tt
 
   -- where each function may be called, each step may be done
   pub step_ready : (s : Step K V F) → StepIsReady ready s

@@ -9,8 +9,8 @@ use Rattle.flurry_slots.specs.Slot.{SlotState, Content, IsLive, HasMoved, IsUnbo
 use Rattle.flurry_steps.specs.Party.{Task, AtBin, PartyState, outcome_in}
 use Rattle.flurry_steps.specs.PartySlots as party
 use Rattle.flurry_steps.specs.PartySlots.{DecidesAt, LiveGives, ContentGives, stage_moved}
-use Rattle.flurry_steps.specs.declared.party.Event.{Event}
-use Rattle.flurry_steps.specs.declared.party.Event.TheVariants as event
+use Rattle.flurry_calls.specs.declared.step.Event.{Event}
+use Rattle.flurry_calls.specs.declared.step.Event.TheVariants as event
 use Rattle.flurry_theory.specs.Map.{same, key_of}
 use Rattle.flurry_theory.specs.Machine.{Live, Looking, Decides, Passes, IsRefused, RefusedAt, at_bin}
 use Rattle.flurry_theory.specs.Invariant.{is_live, key_in, writes_in, Named}
@@ -33,6 +33,15 @@ pub record Put {K V : Type 0} (t : Tables K V) (e i : ℕ) (c : Content K V) (t'
   pub tables : AreTables t'
   pub made : (d : ℕ) → slots_of t' d ≡ [] → slots_of t d ≡ []
   pub unmade : (d : ℕ) → slots_of t d ≡ [] → slots_of t' d ≡ []
+
+-- where that is what stood there, each slot has what it had
+pub put_nothing : {K V : Type 0} (t : Tables K V) (e i : ℕ) (c : Content K V) (t' : Tables K V) → Put t e i c t' → c ≡ content_at t e i → (d j : ℕ) → content_at t' d j ≡ content_at t d j
+put_nothing t e i c t' put stays d j = put.contents d j ∙ by_place (e == d) (i == j) refl refl
+  where
+    by_place : (a b : Bool) → (e == d) ≡ a → (i == j) ≡ b → (if a && b then c else content_at t d j) ≡ content_at t d j
+    by_place true true g h = stays ∙ ap (λ n. content_at t n i) (eqb-true e d g) ∙ ap (content_at t d) (eqb-true i j h)
+    by_place true false g h = refl
+    by_place false b g h = refl
 
 module _ {K V F S : Type 0} (cmp : K → K → Ordering) (total : IsTotalOrder cmp) (hash : K → ℕ) (lawful : (j k : K) → same cmp j k ≡ true → hash j ≡ hash k) (gives : F → K → V → Option V → Type 0) (w : WorldState K V F S) (k : IsWorld cmp hash gives w) (p : ℕ) (x : PartyRecord K V F) (at : slice_get w.party_records p ≡ Some x) (c : PartyState K V F) where
   module _ (t : Task K V F) (e : ℕ) (f : x.party_state.stage ≡ AtBin t e) (task : task_of_call x.call ≡ Some t) (q : SlotState K V) (here : content_at w.tables e (x.party_state.hash % 2 ^ e) ≡ q.content) (inside : IsContent cmp e (x.party_state.hash % 2 ^ e) q.content) where
@@ -131,12 +140,7 @@ module _ {K V F S : Type 0} (cmp : K → K → Ordering) (total : IsTotalOrder c
       }
         where
           as_before : (d j : ℕ) → content_at t' d j ≡ content_at w.tables d j
-          as_before d j = put.contents d j ∙ by_place (e == d) (x.party_state.hash % 2 ^ e == j) refl refl
-            where
-              by_place : (a b : Bool) → (e == d) ≡ a → (x.party_state.hash % 2 ^ e == j) ≡ b → (if a && b then content else content_at w.tables d j) ≡ content_at w.tables d j
-              by_place true true g h = stays ∙ sym here ∙ ap (λ n. content_at w.tables n (x.party_state.hash % 2 ^ e)) (eqb-true e d g) ∙ ap (content_at w.tables d) (eqb-true (x.party_state.hash % 2 ^ e) j h)
-              by_place true false g h = refl
-              by_place false b g h = refl
+          as_before = put_nothing w.tables e (x.party_state.hash % 2 ^ e) content t' put (stays ∙ sym here)
 
       by_key : (o : Option K) → key_of x.call ≡ o → IsSome o → ContentGives cmp gives x.party_state.hash t e q.content ev c.stage content → IsStep cmp hash gives w p x w.control_state t' c (label_of p ev c.stage)
       by_key None key some gave = absurd (grind (arith, some))
@@ -163,12 +167,14 @@ module _ {K V F S : Type 0} (cmp : K → K → Ordering) (total : IsTotalOrder c
               ),
             );
             is = is_refused cmp hash gives w p x at c (ap mode_of_stage g) (ap claim_of_stage g ∙ sym (ap claim_of_stage f));
-            follows = subst (FollowsStage x.call) (sym g) tt;
+            follows = subst (FollowsStage hash x.call) (sym g) tt;
             frame = same_frame cmp hash gives w k;
           }))
           at_live b live (event.Opened d) is h = absurd h
           at_live b live (event.Placed d) is h = absurd h
           at_live b live (event.Moved d i) is h = absurd h
+          at_live b live event.Read is h = absurd h
+          at_live b live (event.Wipe _ _) is h = absurd h
           at_live b live (event.Published d) is h = absurd h
           at_live b live event.Silent is h = absurd h
 
@@ -178,7 +184,7 @@ module _ {K V F S : Type 0} (cmp : K → K → Ordering) (total : IsTotalOrder c
             line = Passes e;
             can = (x.call, j, of_call, key, looking, ap (λ n. slot_of (content_at w.tables e (n % 2 ^ e))) (sym own) ∙ ap slot_of (here ∙ moved));
             is = is_passed cmp hash gives w p x at c e (ap mode_of_stage g ∙ moved_mode t e) (ap claim_of_stage g ∙ moved_claim t e ∙ sym (ap claim_of_stage f));
-            follows = subst (FollowsStage x.call) (sym g) (moved_follows x.call t e task);
+            follows = subst (FollowsStage hash x.call) (sym g) (moved_follows hash x.call t e task);
             frame = same_frame cmp hash gives w k;
           }))
           by_content IsUnborn unborn h = absurd (looks_at cmp total hash lawful gives k.state.0 (state_of w) p e j k.state.1.tables (k.state.1.named p) looking (ap key_in of_call ∙ key) (ap (λ n. slot_of (content_at w.tables e (n % 2 ^ e))) (sym own) ∙ ap slot_of (here ∙ unborn)))

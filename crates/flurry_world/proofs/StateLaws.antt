@@ -9,10 +9,10 @@ use Rattle.flurry_theory.specs.Machine.{State, Transition, at_place, effect, doe
 use Rattle.flurry_model.specs.declared.call.Call.{Call}
 use Rattle.flurry_theory.specs.declared.Label.{Label}
 use Rattle.flurry_control.specs.Control.{ControlState}
-use Rattle.flurry_steps.specs.Party.{PartyState}
+use Rattle.flurry_steps.specs.Party.{PartyState, last_seen}
 use Rattle.flurry_world.specs.Entries.{slot_of}
 use Rattle.flurry_world.specs.Tables.{Tables, content_at}
-use Rattle.flurry_world.specs.World.{PartyRecord, WorldState, state_of, start_of, growth_of, mode_in, claim_in, steps_in, mode_of_stage, claim_of_stage}
+use Rattle.flurry_world.specs.World.{PartyRecord, WorldState, state_of, start_of, growth_of, mode_in, claim_in, seen_in, steps_in, mode_of_stage, claim_of_stage}
 use Rattle.flurry_world.specs.Steps.{with_step}
 
 -- equal options hold equal values
@@ -30,7 +30,7 @@ get_set (y ∷ ys) (suc p) zero x l = grind (arith, eqb-true)
 get_set (y ∷ ys) (suc p) (suc q) x l = get_set ys p q x (omega (arith, l)) ∙ ap (λ b. cond b (Some x) (slice_get ys q)) (eqb_suc p q)
 
 -- what is read of one that was set
-read_set : {X Y : Type 0} (f : Option X → Y) (xs : List X) (p q : ℕ) (x : X) → p < length xs → f (slice_get (slice_set xs p x) q) ≡ at_place (λ n. f (slice_get xs n)) p (f (Some x)) q
+pub read_set : {X Y : Type 0} (f : Option X → Y) (xs : List X) (p q : ℕ) (x : X) → p < length xs → f (slice_get (slice_set xs p x) q) ≡ at_place (λ n. f (slice_get xs n)) p (f (Some x)) q
 read_set f xs p q x l = ap f (get_set xs p q x l) ∙ through (p == q)
   where
     through : (b : Bool) → f (cond b (Some x) (slice_get xs q)) ≡ cond b (f (Some x)) (f (slice_get xs q))
@@ -85,12 +85,12 @@ module _ {K V F S : Type 0} (cmp : K → K → Ordering) (hash : K → ℕ) (giv
     pub mode : (q : ℕ) → at_place (state_of w).mode p (mode_of_stage c.stage) q ≡ (effect cmp hash gives (state_of w) p l).mode q
     pub claim : (q : ℕ) → at_place (state_of w).claim p (claim_of_stage c.stage) q ≡ (effect cmp hash gives (state_of w) p l).claim q
     pub count : b.count ≡ (effect cmp hash gives (state_of w) p l).count
-    pub seen : (q : ℕ) → None ≡ (effect cmp hash gives (state_of w) p l).seen q
+    pub seen : (q : ℕ) → (state_of w).seen q ≡ (effect cmp hash gives (state_of w) p l).seen q
     pub began_from : (q : ℕ) → None ≡ (effect cmp hash gives (state_of w) p l).began_from q
 
-  pub does_line : (w : WorldState K V F S) (p : ℕ) (x : PartyRecord K V F) (b : ControlState) (t : Tables K V) (c : PartyState K V F) (lab : Label K V F) (l : Transition K V F) → slice_get w.party_records p ≡ Some x → IsLine w p b t c lab l
+  pub does_line : (w : WorldState K V F S) (p : ℕ) (x : PartyRecord K V F) (b : ControlState) (t : Tables K V) (c : PartyState K V F) (lab : Label K V F) (l : Transition K V F) → slice_get w.party_records p ≡ Some x → last_seen c.stage ≡ last_seen x.party_state.stage → IsLine w p b t c lab l
       → state_of (with_step w p x b t c lab) ≡ does cmp hash gives (state_of w) p l
-  does_line w p x b t c lab l h is = λ i. record {
+  does_line w p x b t c lab l h last is = λ i. record {
     start = (ap (start_of w.first) turned ∙ is.start) i;
     published = is.published i;
     growth = is.growth i;
@@ -100,7 +100,7 @@ module _ {K V F S : Type 0} (cmp : K → K → Ordering) (hash : K → ℕ) (giv
     mode = λ q. (read_set mode_in w.party_records p q y below ∙ is.mode q) i;
     claim = λ q. (read_set claim_in w.party_records p q y below ∙ is.claim q) i;
     count = is.count i;
-    seen = λ q. is.seen q i;
+    seen = λ q. (read_set seen_in w.party_records p q y below ∙ same_place (state_of w).seen p (last_seen c.stage) (ap seen_in h ∙ sym last) q ∙ is.seen q) i;
     began_from = λ q. is.began_from q i;
     steps = λ q. (read_set steps_in w.party_records p q y below ∙ ap (λ n. at_place (state_of w).steps p n q) (ap suc (sym (ap steps_in h)) ∙ sym is.steps_are)) i;
     trace = (turned ∙ ap (λ m. m ∷ reverse w.trace) is.label_is) i;

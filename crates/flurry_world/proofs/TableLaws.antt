@@ -9,8 +9,8 @@ use Rattle.std.proofs.lemmas.Option.{slice_get_past, slice_get_within}
 use Rattle.flurry_slots.specs.Slot.{Content, IsLive, HasMoved, IsUnborn, IfLive, SlotState, half}
 use Rattle.flurry_steps.specs.Party.{PartyState}
 use Rattle.flurry_steps.specs.PartySlots.{MoveGives, MoveStep}
-use Rattle.flurry_steps.specs.declared.party.Event.{Event}
-use Rattle.flurry_steps.specs.declared.party.Event.TheVariants as event
+use Rattle.flurry_calls.specs.declared.step.Event.{Event}
+use Rattle.flurry_calls.specs.declared.step.Event.TheVariants as event
 use Rattle.flurry_world.specs.Tables.{Tables, slots_of, place_at, content_at, put_place, fresh, new_slots, is_made, with_table, MadeGives, PlaceGives, AreTables}
 use Rattle.flurry_model.specs.declared.sizes.TheConstants.{GREATEST_TABLE, TABLES}
 
@@ -363,4 +363,6 @@ module _ {K V F : Type 0} where
       by_event event.Refused gives = absurd gives
       by_event (event.Opened e) gives = absurd gives
       by_event (event.Placed e) gives = absurd gives
+      by_event event.Read gives = absurd gives
+      by_event (event.Wipe _ _) gives = absurd gives
       by_event (event.Published e) gives = absurd gives

@@ -1,5 +1,5 @@
 -- The part that a party wants is there.
-use Rattle.std.specs.Prelude.{ℕ, suc, ◌+◌, ◌-◌, ◌^◌, ◌%◌, ◌≤◌, ◌<◌, nat_lt, Bool, true, false, cond, slice_get, Option, Some, None, IsSome, ◌≡◌}
+use Rattle.std.specs.Prelude.{ℕ, suc, ◌+◌, ◌-◌, ◌^◌, ◌%◌, ◌≤◌, ◌<◌, nat_lt, Bool, true, false, cond, map, is_some, slice_get, Option, Some, None, IsSome, ◌≡◌}
 use Rattle.std.specs.declared.cmp.Ordering.{Ordering}
 use Rattle.std.specs.Cmp.{IsTotalOrder}
 use Rattle.std.proofs.Common.{arith, refl, sym, ◌∙◌, ap, subst}
@@ -8,15 +8,20 @@ use Rattle.flurry_slots.specs.Slot.{Content, IsUnborn}
 use Rattle.flurry_control.specs.Claim.{Range}
 use Rattle.flurry_control.specs.Control as control
 use Rattle.flurry_control.specs.Control.{IsIdle, Grows}
-use Rattle.flurry_steps.specs.Party.{Task, Finds, Removes, Inserts, Adds, Computes, Resume, Stage, AtLocate, AtBin, AtClaim, AtMove, AtUncount, AtCount, AtRecount, AtBegin, AtGrow, AtReserve, AtDone, AtTaken, part_of, wanted_part, bin_part, move_part}
+use Rattle.flurry_calls.specs.Cursor.{CursorState}
+use Rattle.flurry_calls.specs.Sweep as swept
+use Rattle.flurry_calls.specs.Sweep.{Errand, Reads, Wipes, SweepStage, AtOutset, OverBins, AtTotal, AtEnd, AfterEnd, SweepState, IsUnderWay}
+use Rattle.flurry_steps.specs.Party.{Task, Finds, Removes, Inserts, Adds, Computes, Resume, Stage, AtLocate, AtBin, AtClaim, AtMove, AtUncount, AtCount, AtRecount, AtBegin, AtGrow, AtReserve, AtSweep, AtDone, AtTaken, part_of, wanted_part, bin_part, move_part}
 use Rattle.flurry_theory.specs.Map.{same, key_of}
-use Rattle.flurry_theory.specs.Invariant.{is_live, key_in}
+use Rattle.flurry_theory.specs.Machine.{Unborn}
+use Rattle.flurry_theory.specs.Invariant.{is_live, key_in, Named}
 use Rattle.flurry_theory.proofs.Bins.{double}
 use Rattle.flurry_theory.proofs.NoUnbornBin.{looks_at}
 use Rattle.flurry_world.specs.Entries.{slot_of}
 use Rattle.flurry_world.specs.Tables.{slots_of, place_at, content_at, is_made}
 use Rattle.flurry_world.specs.Parts.{IsGoing, IsThere}
-use Rattle.flurry_world.specs.World.{PartyRecord, WorldState, state_of, growth_of, FollowsStage, IsWorld}
+use Rattle.flurry_world.specs.World.{PartyRecord, WorldState, state_of, growth_of, mode_over, mode_of_sweep, frame_of, FollowsStage, IsWorld}
+use Rattle.flurry_world.proofs.SweepModes.{frame_is_born}
 use Rattle.flurry_world.proofs.CallLaws.{key_of_task}
 use Rattle.flurry_world.proofs.TableLaws.{place_of_content, place_of_made}
 use Rattle.flurry_world.proofs.PlaceLaws.{unmade_empty}
@@ -25,7 +30,7 @@ use Rattle.flurry_world.proofs.Cases.{calls, in_mode, in_claim}
 module _ {K V F S : Type 0} (cmp : K → K → Ordering) (total : IsTotalOrder cmp) (hash : K → ℕ) (lawful : (j k : K) → same cmp j k ≡ true → hash j ≡ hash k) (gives : F → K → V → Option V → Type 0) (w : WorldState K V F S) (k : IsWorld cmp hash gives w) (p : ℕ) (x : PartyRecord K V F) (at : slice_get w.party_records p ≡ Some x) where
   -- the bin of a party's key is not unborn
   pub bin_is_there : (t : Task K V F) (e : ℕ) → x.party_state.stage ≡ AtBin t e → content_at w.tables e (x.party_state.hash % 2 ^ e) ≡ IsUnborn → ⊥
-  bin_is_there t e f unborn = by_key (key_of x.call) refl (key_of_task x.call t (subst (FollowsStage x.call) f (k.party_records p x at).stage))
+  bin_is_there t e f unborn = by_key (key_of x.call) refl (key_of_task x.call t (subst (FollowsStage hash x.call) f (k.party_records p x at).stage))
     where
       by_key : (o : Option K) → key_of x.call ≡ o → IsSome o → ⊥
       by_key None key some = grind (arith, some)
@@ -77,6 +82,31 @@ module _ {K V F S : Type 0} (cmp : K → K → Ordering) (total : IsTotalOrder c
           by_growth IsIdle e false s = let none : (state_of w).claim p ≡ None = k.state.1.cut.idle (ap growth_of e) p in cc
           by_growth (Grows u r) e false s = absurd (k.next m.table u r claim_ok.0 e (unmade_empty (slots_of w.tables (suc m.table)) s))
 
+  -- the bin that a walk or a clear goes over
+  there_frame : (u : SweepState K V) → x.party_state.stage ≡ AtSweep u → (f : CursorState K) (er : Errand) → u.stage ≡ OverBins f → u.errand ≡ er → IsSome (place_at w.tables f.top.table f.top.index)
+  there_frame u e f er over q = place_of_content w.tables f.top.table f.top.index (λ z. not_unborn (ap slot_of z))
+    where
+      in_stage : (state_of w).mode p ≡ mode_over er f
+      in_stage = in_mode cmp total hash lawful gives w k p x at x.party_state (AtSweep u) e ∙ ap (λ z. mode_of_sweep z u.errand) over ∙ ap (λ z. mode_over z f) q
+
+      named : Named {F = F} hash (is_some w.control_state.published) k.state.0 (state_of w).start ((state_of w).call p) (mode_over er f)
+      named = subst (λ m. Named {F = F} hash (is_some w.control_state.published) k.state.0 (state_of w).start ((state_of w).call p) m) in_stage (k.state.1.named p)
+
+      not_unborn : (state_of w).slot f.top.table f.top.index ≡ Unborn → ⊥
+      not_unborn z = by_errand er named
+        where
+          by_errand : (r : Errand) → Named {F = F} hash (is_some w.control_state.published) k.state.0 (state_of w).start ((state_of w).call p) (mode_over r f) → ⊥
+          by_errand Reads n = frame_is_born cmp hash k.state.0 (state_of w) (frame_of f.top) (map frame_of f.below) k.state.1.tables n.0 n.3 z
+          by_errand (Wipes m) n = frame_is_born cmp hash k.state.0 (state_of w) (frame_of f.top) (map frame_of f.below) k.state.1.tables n.0 n.3 z
+
+  there_sweep : (u : SweepState K V) → x.party_state.stage ≡ AtSweep u → (s : SweepStage K V) (er : Errand) → u.stage ≡ s → u.errand ≡ er → IsUnderWay s → IsThere w.tables (swept.part_at er s)
+  there_sweep u e AtOutset er h q g = tt
+  there_sweep u e (OverBins f) Reads h q g = there_frame u e f Reads h q
+  there_sweep u e (OverBins f) (Wipes n) h q g = there_frame u e f (Wipes n) h q
+  there_sweep u e AtTotal er h q g = tt
+  there_sweep u e (AtEnd r) er h q g = absurd g
+  there_sweep u e AfterEnd er h q g = absurd g
+
   there : (s : Stage K V F) → x.party_state.stage ≡ s → IsGoing s → IsThere w.tables (part_of x.party_state.hash s)
   there (AtLocate t) e g = tt
   there (AtBin t n) e g = there_bin t n e
@@ -88,6 +118,7 @@ module _ {K V F S : Type 0} (cmp : K → K → Ordering) (total : IsTotalOrder c
   there (AtBegin n r) e g = tt
   there (AtGrow n r) e g = tt
   there (AtReserve a) e g = tt
+  there (AtSweep u) e g = there_sweep u e u.stage u.errand refl refl g
   there (AtDone r) e g = absurd g
   there AtTaken e g = absurd g
 

@@ -1,9 +1,10 @@
 -- The transitions of the machine, as steps of a world.
-use Rattle.std.specs.Prelude.{ℕ, ℤ, pos, ◌+ℤ◌, ◌-ℤ◌, suc, ◌+◌, ◌-◌, ◌^◌, ◌%◌, ◌<◌, ◌==◌, Bool, true, false, cond, ◌&&◌, nat_lt, List, [], ◌∷◌, length, reverse, slice_get, Option, Some, None, option_map, if◌then◌else◌, unwrap_or, ◌≡◌}
+use Rattle.std.specs.Prelude.{ℕ, ℤ, pos, ◌+ℤ◌, ◌-ℤ◌, suc, ◌+◌, ◌-◌, ◌^◌, ◌%◌, ◌<◌, ◌==◌, Bool, true, false, cond, ◌&&◌, nat_lt, List, [], ◌∷◌, ◌++◌, length, reverse, slice_get, Option, Some, None, option_map, if◌then◌else◌, unwrap_or, ◌≡◌}
 use Rattle.std.specs.declared.cmp.Ordering.{Ordering}
 use Rattle.std.proofs.Common.{arith, refl, sym, ◌∙◌, ap}
 use Rattle.std.proofs.lemmas.Bool.{eqb-true}
 use Rattle.std.proofs.lemmas.Int.{ints}
+use Rattle.std.proofs.lemmas.List.{reverse-append, length-set}
 use Rattle.std.proofs.lemmas.Option.{slice_get_within}
 use Rattle.flurry_theory.proofs.Ranges.{place_here, total-change, total-zero}
 use Rattle.flurry_model.specs.declared.reply.KeptReply.{KeptReply}
@@ -14,11 +15,12 @@ use Rattle.flurry_model.specs.declared.call.Call.{Call}
 use Rattle.flurry_theory.specs.declared.Label.{Label}
 use Rattle.flurry_theory.specs.declared.Label.TheVariants as label
 use Rattle.flurry_control.specs.Control.{IsIdle, Grows}
-use Rattle.flurry_steps.specs.Party.{PartyState}
+use Rattle.flurry_steps.specs.Party.{PartyState, last_seen}
 use Rattle.flurry_world.specs.Entries.{slot_of}
 use Rattle.flurry_world.specs.Tables.{Tables, content_at}
-use Rattle.flurry_world.specs.World.{PartyRecord, WorldState, state_of, start_of, mode_of_stage, claim_of_stage, claim_in}
-use Rattle.flurry_world.proofs.StateLaws.{IsLine, one_more_step, same_place}
+use Rattle.flurry_world.specs.World.{PartyRecord, WorldState, state_of, start_of, mode_of_stage, mode_in, claim_of_stage, claim_in, seen_in, steps_in}
+use Rattle.flurry_world.specs.Steps.{with_step}
+use Rattle.flurry_world.proofs.StateLaws.{IsLine, one_more_step, read_set, same_place}
 
 -- the sum at one number alone
 total-own : (f : ℕ → ℕ) (p n : ℕ) → p < n → total (λ q. if p == q then f q else 0) n ≡ f p
@@ -241,3 +243,50 @@ module _ {K V F S : Type 0} (cmp : K → K → Ordering) (hash : K → ℕ) (giv
     seen = λ q. refl;
     began_from = λ q. refl;
   }
+
+  -- a clear wipes a bin
+  pub is_wiped : (d e i : ℕ) (f : machine.Frame K) (fs : List (machine.Frame K)) (es : List (Entry K V)) (n : ℕ) (t : Tables K V)
+      → ((g j : ℕ) → slot_of (content_at t g j) ≡ at_bin (state_of w).slot f.table f.index (Live [] n) g j)
+      → mode_of_stage c.stage ≡ machine.onward (machine.Clearing (d + length es)) (Done None 0 (d + length es)) e i fs → claim_of_stage c.stage ≡ claim_of_stage x.party_state.stage
+      → IsLine cmp hash gives w p w.control_state t c (label.Wipe p f.table f.index) (machine.Wipes d e i f fs es n)
+  is_wiped d e i f fs es n t slot mode claim = record {
+    label_is = refl;
+    steps_are = stepped (machine.Wipes d e i f fs es n) (λ d f h. grind (arith, h));
+    start = refl;
+    published = refl;
+    growth = refl;
+    slot = slot;
+    parties = refl;
+    call = λ q. refl;
+    mode = λ q. ap (λ m. at_place (state_of w).mode p m q) mode;
+    claim = λ q. same_place (state_of w).claim p (claim_of_stage c.stage) (holds ∙ sym claim) q;
+    count = refl;
+    seen = λ q. refl;
+    began_from = λ q. refl;
+  }
+
+  -- a walk reads an entry
+  pub does_read : (e i : ℕ) (f : machine.Frame K) (fs : List (machine.Frame K)) (es : List (Entry K V)) (n : ℕ) (y : Entry K V)
+      → mode_of_stage c.stage ≡ machine.Walking e i (record { table = f.table; index = f.index; bound = Some y.key } ∷ fs) → claim_of_stage c.stage ≡ claim_of_stage x.party_state.stage → last_seen c.stage ≡ Some (record { key = y.key; value = y.value; number = y.number })
+      → state_of (with_step w p x w.control_state w.tables c (label.Read p y.key y.value)) ≡ does cmp hash gives (state_of w) p (machine.Reads e i f fs es n y)
+  does_read e i f fs es n y mode claim seen = λ j. record {
+    start = ap (start_of w.first) turned j;
+    published = w.control_state.published;
+    growth = (state_of w).growth;
+    slot = (state_of w).slot;
+    parties = length-set w.party_records p z j;
+    call = λ q. (read_set (option_map (λ (r : PartyRecord K V F). r.call)) w.party_records p q z below ∙ same_place (state_of w).call p (Some x.call) begun q) j;
+    mode = λ q. (read_set mode_in w.party_records p q z below ∙ ap (λ m. at_place (state_of w).mode p m q) mode) j;
+    claim = λ q. (read_set claim_in w.party_records p q z below ∙ same_place (state_of w).claim p (claim_of_stage c.stage) (holds ∙ sym claim) q) j;
+    count = w.control_state.count;
+    seen = λ q. (read_set seen_in w.party_records p q z below ∙ ap (λ m. at_place (state_of w).seen p m q) seen) j;
+    began_from = λ q. None;
+    steps = λ q. (read_set steps_in w.party_records p q z below ∙ ap (λ m. at_place (state_of w).steps p m q) (ap suc (sym (ap steps_in at)) ∙ sym (stepped (machine.Reads e i f fs es n y) (λ d g h. grind (arith, h))))) j;
+    trace = turned j;
+  }
+    where
+      z : PartyRecord K V F
+      z = record { call = x.call; party_state = c; steps = suc x.steps }
+
+      turned : reverse (w.trace ++ label.Read p y.key y.value ∷ []) ≡ label.Read p y.key y.value ∷ reverse w.trace
+      turned = reverse-append w.trace (label.Read p y.key y.value ∷ [])

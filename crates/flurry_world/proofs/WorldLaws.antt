@@ -1,25 +1,33 @@
 -- What each call of a world keeps.
-use Rattle.std.specs.Prelude.{ℕ, suc, zero, ◌+◌, ◌^◌, ◌==◌, Bool, true, false, cond, List, [], ◌∷◌, ◌++◌, length, reverse, slice_get, Option, Some, None, IsNone, option_map, is_some, if◌then◌else◌, ◌≡◌}
+use Rattle.std.specs.Prelude.{ℕ, suc, zero, ◌+◌, ◌^◌, ◌==◌, Bool, true, false, cond, List, [], ◌∷◌, ◌++◌, length, ◌≤◌, reverse, slice_get, Option, Some, None, IsNone, option_map, is_some, if◌then◌else◌, ◌≡◌}
 use Rattle.std.specs.declared.cmp.Ordering.{Ordering}
 use Rattle.std.specs.Cmp.{IsTotalOrder}
 use Rattle.std.proofs.Common.{arith, refl, sym, ◌∙◌, ap, subst}
 use Rattle.std.proofs.lemmas.Bool.{eqb-true, eqb-false, eq-eqb, ne_eqb}
 use Rattle.std.proofs.lemmas.List.{reverse-append, length-append}
 use Rattle.flurry_control.specs.Control.{ControlState}
-use Rattle.flurry_steps.specs.Party.{Outcome, OutcomeReply, OutcomeEnded, OutcomeRefused, Stage, AtLocate, AtBin, AtClaim, AtMove, AtUncount, AtCount, AtRecount, AtBegin, AtGrow, AtReserve, AtDone, AtTaken, PartyState, with_stage}
+use Rattle.flurry_calls.specs.Outcome.{Outcome, OutcomeReply, OutcomeEnded, OutcomeRefused}
+use Rattle.flurry_calls.specs.Sweep as sweep
+use Rattle.flurry_calls.specs.Sweep.{SweepState, SweepStage, AtOutset, OverBins, AtTotal, AtEnd, AfterEnd}
+use Rattle.flurry_steps.specs.Party.{Stage, AtLocate, AtBin, AtClaim, AtMove, AtUncount, AtCount, AtRecount, AtBegin, AtGrow, AtReserve, AtSweep, AtDone, AtTaken, PartyState, with_stage, taken_stage, last_seen, part_of, IsSingle}
 use Rattle.flurry_theory.specs.Map.{same, key_of}
-use Rattle.flurry_theory.specs.Machine.{Can, Locating, Finished, Begins, Quiet, Replies, Ends, at_place, does}
+use Rattle.flurry_theory.specs.Machine.{Can, Locating, Done, Finished, Begins, Quiet, Replies, Ends, at_place, does}
 use Rattle.flurry_theory.specs.Invariant.{Inv}
 use Rattle.flurry_model.specs.declared.call.Call.{Call}
+use Rattle.flurry_model.specs.declared.call.Call.TheVariants as call
+use Rattle.flurry_model.specs.declared.sizes.TheConstants.{MOST_LABELS}
 use Rattle.flurry_theory.specs.declared.Label.{Label}
 use Rattle.flurry_theory.specs.declared.Label.TheVariants as label
 use Rattle.flurry_theory.proofs.Step.{inv_step}
 use Rattle.flurry_world.specs.Tables.{Tables}
-use Rattle.flurry_world.specs.World.{PartyRecord, WorldState, Near, state_of, start_of, mode_in, claim_in, steps_in, mode_of_stage, claim_of_stage, FollowsStage, Follows, IsWorld, DoesTransition}
-use Rattle.flurry_world.specs.Steps.{with_label, with_step, with_party_record, closing_label, GoesOn, StepByStage}
+use Rattle.flurry_world.specs.World.{PartyRecord, WorldState, Near, state_of, start_of, mode_in, claim_in, seen_in, steps_in, mode_of_stage, mode_of_sweep, claim_of_stage, FollowsSweep, FollowsStage, Follows, IsWorld, DoesTransition}
+use Rattle.flurry_world.specs.Parts.{PartStep}
+use Rattle.flurry_world.specs.Steps.{with_label, with_step, with_party_record, closing_label, GoesOn, StepBySweep, StepByStage}
 use Rattle.flurry_world.proofs.StateLaws.{same_place, same_some}
 use Rattle.flurry_world.proofs.TransitionLaws.{is_quiet, is_replied, is_ended}
-use Rattle.flurry_world.proofs.Frames.{same_frame, StepOf, does_one, kept}
+use Rattle.flurry_world.proofs.Frames.{same_frame, StepOf, step_of, does_one, kept}
+use Rattle.flurry_world.proofs.SweepLaws.{IsGoingSingle, no_walk, no_seen, single_unread, keyless}
+use Rattle.flurry_world.proofs.SweepCases.{swept_step}
 use Rattle.flurry_world.proofs.Cases.{calls, in_mode, in_claim}
 use Rattle.flurry_world.proofs.PartyCases.{taken}
 
@@ -55,7 +63,7 @@ module _ {K V F S : Type 0} (cmp : K → K → Ordering) (total : IsTotalOrder c
       mode = (state_of w).mode;
       claim = (state_of w).claim;
       count = w.control_state.count;
-      seen = λ _. None;
+      seen = (state_of w).seen;
       began_from = λ _. None;
       steps = λ q. (sym (same_place (state_of w).steps p ((state_of w).steps p) refl q) ∙ ap (λ b. at_place (state_of w).steps p (if b then suc ((state_of w).steps p) else (state_of w).steps p) q) (sym (ap is_some uncalled))) i;
       trace = turned i;
@@ -82,7 +90,7 @@ module _ {K V F S : Type 0} (cmp : K → K → Ordering) (total : IsTotalOrder c
     }
 
   -- a call begins
-  module _ (d : Call K V F) (c : PartyState K V F) (mode : mode_of_stage c.stage ≡ Locating) (claim : claim_of_stage c.stage ≡ None) where
+  module _ (d : Call K V F) (c : PartyState K V F) (mode : mode_of_stage c.stage ≡ Locating) (claim : claim_of_stage c.stage ≡ None) (unread : last_seen c.stage ≡ None) where
     abbrev new : PartyRecord K V F
     new = record { call = d; party_state = c; steps = 0 }
 
@@ -97,7 +105,7 @@ module _ {K V F S : Type 0} (cmp : K → K → Ordering) (total : IsTotalOrder c
       mode = λ q. (read_append mode_in w.party_records new q ∙ ap (λ m. at_place (state_of w).mode (length w.party_records) m q) mode) i;
       claim = λ q. (read_append claim_in w.party_records new q ∙ ap (λ m. at_place (state_of w).claim (length w.party_records) m q) claim) i;
       count = w.control_state.count;
-      seen = λ q. sym (same_place (λ _. None) (length w.party_records) None refl q) i;
+      seen = λ q. (read_append seen_in w.party_records new q ∙ ap (λ m. at_place (state_of w).seen (length w.party_records) m q) unread) i;
       began_from = λ q. sym (same_place (λ _. None) (length w.party_records) None refl q) i;
       steps = λ q. read_append steps_in w.party_records new q i;
       trace = turned i;
@@ -112,7 +120,7 @@ module _ {K V F S : Type 0} (cmp : K → K → Ordering) (total : IsTotalOrder c
     pub begin_line : DoesTransition cmp hash gives w (length w.party_records) (with_party_record w d c)
     begin_line = (Begins d None, begin_can, begin_after)
 
-    pub began : ((j : K) → key_of d ≡ Some j → c.hash ≡ hash j) → FollowsStage d c.stage → IsWorld cmp hash gives (with_party_record w d c)
+    pub began : ((j : K) → key_of d ≡ Some j → c.hash ≡ hash j) → FollowsStage hash d c.stage → IsWorld cmp hash gives (with_party_record w d c)
     began own follows = record {
       state = (k.state.0, subst (Inv cmp hash gives w.first k.state.0) (sym begin_after) (inv_step cmp total hash lawful gives w.first k.state.0 (state_of w) (length w.party_records) (Begins d None) begin_can k.state.1));
       party_records = λ q y h. by_place q y (length w.party_records == q) (sym (get_append w.party_records new q) ∙ h);
@@ -128,73 +136,105 @@ module _ {K V F S : Type 0} (cmp : K → K → Ordering) (total : IsTotalOrder c
         by_place q y false h = k.party_records q y h
 
   module _ (p : ℕ) (x : PartyRecord K V F) (at : slice_get w.party_records p ≡ Some x) where
-    -- a party's step at the part that it wants
-    goes_by : (l : Label K V F) (c : PartyState K V F) (b : ControlState) (t : Tables K V) → GoesOn cmp gives p x.party_state w.control_state w.tables l c b t → StepOf cmp hash gives w p x b t c l
-    goes_by l c b t s =
-        let step = taken cmp total hash lawful gives w k near p x at c s.event b t s.part in
-        subst (StepOf cmp hash gives w p x b t c) (sym s.label_is) (record { hash_stays = step.hash_stays; step = step.step })
+    -- the step of a party of another call than a walk or a clear, at the part that it wants
+    goes_by : IsSingle x.party_state.stage → (x.call ≡ call.Walk → ⊥) → (l : Label K V F) (c : PartyState K V F) (b : ControlState) (t : Tables K V) → GoesOn cmp gives p x.party_state w.control_state w.tables l c b t → StepOf cmp hash gives w p x b t c l
+    goes_by single other l c b t s =
+        let step = taken cmp total hash lawful gives w k near p x at c s.event b t single s.part in
+        subst (StepOf cmp hash gives w p x b t c) (sym s.label_is) (step_of cmp hash gives w p x b t c _ at step.hash_stays (no_seen hash x.call c.stage other step.step.follows ∙ sym (single_unread x.party_state.stage single)) step.step)
 
-    pub goes_on : (l : Label K V F) (c : PartyState K V F) (b : ControlState) (t : Tables K V) → GoesOn cmp gives p x.party_state w.control_state w.tables l c b t → IsWorld cmp hash gives (with_step w p x b t c l)
-    goes_on l c b t s = let step = goes_by l c b t s in kept cmp hash gives total lawful w p x b t c l k at step.hash_stays step.step
+    pub goes_on : IsSingle x.party_state.stage → (x.call ≡ call.Walk → ⊥) → (l : Label K V F) (c : PartyState K V F) (b : ControlState) (t : Tables K V) → GoesOn cmp gives p x.party_state w.control_state w.tables l c b t → IsWorld cmp hash gives (with_step w p x b t c l)
+    goes_on single other l c b t s = kept cmp hash gives total lawful w p x b t c l k at (goes_by single other l c b t s)
 
     -- a party that has finished does nothing
-    finished : (s : Stage K V F) → x.party_state.stage ≡ s → mode_of_stage s ≡ Finished → claim_of_stage s ≡ None → (c : PartyState K V F) → c.hash ≡ x.party_state.hash → mode_of_stage c.stage ≡ Finished → claim_of_stage c.stage ≡ None → FollowsStage x.call c.stage → StepOf cmp hash gives w p x w.control_state w.tables c (label.Silent p)
-    finished s e over none c h mode claim follows = record {
-      hash_stays = h;
-      step = record {
-        line = Quiet;
-        can = λ _. in_mode cmp total hash lawful gives w k p x at c s e ∙ over;
-        is = is_quiet cmp hash gives w p x at c (mode ∙ sym (in_mode cmp total hash lawful gives w k p x at c s e ∙ over)) (claim ∙ sym (ap claim_of_stage e ∙ none));
-        follows = follows;
-        frame = same_frame cmp hash gives w k;
-      };
-    }
+    finished : (s : Stage K V F) → x.party_state.stage ≡ s → mode_of_stage s ≡ Finished → claim_of_stage s ≡ None → (c : PartyState K V F) → c.hash ≡ x.party_state.hash → last_seen c.stage ≡ last_seen x.party_state.stage → mode_of_stage c.stage ≡ Finished → claim_of_stage c.stage ≡ None → FollowsStage hash x.call c.stage → StepOf cmp hash gives w p x w.control_state w.tables c (label.Silent p)
+    finished s e over none c h seen mode claim follows = step_of cmp hash gives w p x w.control_state w.tables c (label.Silent p) at h seen (record {
+      line = Quiet;
+      can = λ _. in_mode cmp total hash lawful gives w k p x at c s e ∙ over;
+      is = is_quiet cmp hash gives w p x at c (mode ∙ sym (in_mode cmp total hash lawful gives w k p x at c s e ∙ over)) (claim ∙ sym (ap claim_of_stage e ∙ none));
+      follows = follows;
+      frame = same_frame cmp hash gives w k;
+    })
+
+    -- a call without a key ends
+    ends : (s : Stage K V F) → x.party_state.stage ≡ s → mode_of_stage s ≡ Done None 0 0 → claim_of_stage s ≡ None → IsNone (key_of x.call) → (c : PartyState K V F) → c.hash ≡ x.party_state.hash → last_seen c.stage ≡ last_seen x.party_state.stage → mode_of_stage c.stage ≡ Finished → claim_of_stage c.stage ≡ None → FollowsStage hash x.call c.stage → StepOf cmp hash gives w p x w.control_state w.tables c (label.End p)
+    ends s e done none no_key c h seen mode claim follows = step_of cmp hash gives w p x w.control_state w.tables c (label.End p) at h seen (record {
+      line = Ends;
+      can = (x.call, calls cmp total hash lawful gives w k p x at c, no_key, in_mode cmp total hash lawful gives w k p x at c s e ∙ done, in_claim cmp total hash lawful gives w k p x at c s e ∙ none);
+      is = is_ended cmp hash gives w p x at c mode (claim ∙ sym (ap claim_of_stage e ∙ none));
+      follows = follows;
+      frame = same_frame cmp hash gives w k;
+    })
 
     -- the step of a call that is done
     closes : (r : Outcome K V) → x.party_state.stage ≡ AtDone r → StepOf cmp hash gives w p x w.control_state w.tables (with_stage x.party_state AtTaken) (closing_label p r)
-    closes (OutcomeReply r) e = record {
-      hash_stays = refl;
-      step = record {
-        line = Replies r;
-        can = (x.call, calls cmp total hash lawful gives w k p x at x.party_state, subst (FollowsStage x.call) e (k.party_records p x at).stage, in_mode cmp total hash lawful gives w k p x at x.party_state (AtDone (OutcomeReply r)) e, in_claim cmp total hash lawful gives w k p x at x.party_state (AtDone (OutcomeReply r)) e);
-        is = is_replied cmp hash gives w p x at (with_stage x.party_state AtTaken) r refl (sym (ap claim_of_stage e));
-        follows = tt;
-        frame = same_frame cmp hash gives w k;
-      };
-    }
-    closes OutcomeEnded e = record {
-      hash_stays = refl;
-      step = record {
-        line = Ends;
-        can = (x.call, calls cmp total hash lawful gives w k p x at x.party_state, no_key, in_mode cmp total hash lawful gives w k p x at x.party_state (AtDone OutcomeEnded) e, in_claim cmp total hash lawful gives w k p x at x.party_state (AtDone OutcomeEnded) e);
-        is = is_ended cmp hash gives w p x at (with_stage x.party_state AtTaken) refl (sym (ap claim_of_stage e));
-        follows = tt;
-        frame = same_frame cmp hash gives w k;
-      };
-    }
+    closes (OutcomeReply r) e = step_of cmp hash gives w p x w.control_state w.tables (with_stage x.party_state AtTaken) (label.Reply p r) at refl (sym (ap last_seen e)) (record {
+      line = Replies r;
+      can = (x.call, calls cmp total hash lawful gives w k p x at x.party_state, subst (FollowsStage hash x.call) e (k.party_records p x at).stage, in_mode cmp total hash lawful gives w k p x at x.party_state (AtDone (OutcomeReply r)) e, in_claim cmp total hash lawful gives w k p x at x.party_state (AtDone (OutcomeReply r)) e);
+      is = is_replied cmp hash gives w p x at (with_stage x.party_state AtTaken) r refl (sym (ap claim_of_stage e));
+      follows = tt;
+      frame = same_frame cmp hash gives w k;
+    })
+    closes OutcomeEnded e = ends (AtDone OutcomeEnded) e refl refl (let (n, is) = subst (FollowsStage hash x.call) e (k.party_records p x at).stage in subst (λ d. IsNone (key_of d)) (sym is) refl) (with_stage x.party_state AtTaken) refl (sym (ap last_seen e)) refl refl tt
+    closes OutcomeRefused e = finished (AtDone OutcomeRefused) e refl refl (with_stage x.party_state AtTaken) refl (sym (ap last_seen e)) refl refl tt
+
+  module _ (few : length w.trace ≤ MOST_LABELS) (p : ℕ) (x : PartyRecord K V F) (at : slice_get w.party_records p ≡ Some x) where
+    -- that of a walk or a clear at the part that it wants
+    sweep_step : (u : SweepState K V) → x.party_state.stage ≡ AtSweep u → (l : Label K V F) (c : PartyState K V F) (b : ControlState) (t : Tables K V) → GoesOn cmp gives p x.party_state w.control_state w.tables l c b t → StepOf cmp hash gives w p x b t c l
+    sweep_step u e l c b t s = subst (StepOf cmp hash gives w p x b t c) (sym s.label_is) (swept_step cmp total hash lawful gives w k near few p x at c s.event b t u e (subst (λ z. PartStep cmp gives (part_of x.party_state.hash z) x.party_state w.control_state w.tables s.event c b t) e s.part))
+
+    -- and each of its steps
+    sweeps : (u : SweepState K V) → x.party_state.stage ≡ AtSweep u → (s : SweepStage K V) → u.stage ≡ s → (l : Label K V F) (c : PartyState K V F) (b : ControlState) (t : Tables K V) → StepBySweep cmp gives p s x.party_state w.control_state w.tables l c b t → StepOf cmp hash gives w p x b t c l
+    sweeps u e AtOutset f l c b t s = sweep_step u e l c b t s
+    sweeps u e (OverBins d) f l c b t s = sweep_step u e l c b t s
+    sweeps u e AtTotal f l c b t s = sweep_step u e l c b t s
+    sweeps u e (AtEnd r) f l c b t (g, y, z, v) = rw (g, y, z, v) (swept r f)
       where
-        no_key : IsNone (key_of x.call)
-        no_key = let (n, is) = subst (FollowsStage x.call) e (k.party_records p x at).stage in subst (λ d. IsNone (key_of d)) (sym is) refl
-    closes OutcomeRefused e = finished (AtDone OutcomeRefused) e refl refl (with_stage x.party_state AtTaken) refl refl refl tt
+        own : FollowsStage hash x.call (AtSweep u)
+        own = subst (FollowsStage hash x.call) e (k.party_records p x at).stage
+
+        after : PartyState K V F
+        after = with_stage x.party_state (taken_stage x.party_state.stage)
+
+        to : taken_stage x.party_state.stage ≡ AtSweep (sweep.with_stage u AfterEnd)
+        to = ap taken_stage e
+
+        stays : last_seen after.stage ≡ last_seen x.party_state.stage
+        stays = ap last_seen to ∙ sym (ap last_seen e)
+
+        follows_on : FollowsStage hash x.call after.stage
+        follows_on = subst (FollowsStage hash x.call) (sym to) (own.0, tt)
+
+        swept : (q : Outcome K V) → u.stage ≡ AtEnd q → StepOf cmp hash gives w p x w.control_state w.tables after (closing_label p q)
+        swept (OutcomeReply q) h = absurd (subst (λ z. FollowsSweep hash z u.errand) h own.1)
+        swept OutcomeEnded h = ends p x at (AtSweep u) e (ap (λ z. mode_of_sweep z u.errand) h) refl (keyless x.call u.errand u.last own.0) after refl stays (ap mode_of_stage to) (ap claim_of_stage to) follows_on
+        swept OutcomeRefused h = finished p x at (AtSweep u) e (ap (λ z. mode_of_sweep z u.errand) h) refl after refl stays (ap mode_of_stage to) (ap claim_of_stage to) follows_on
+    sweeps u e AfterEnd f l c b t (g, y, z, v) = rw (g, y, z, v) (finished p x at (AtSweep u) e (ap (λ z. mode_of_sweep z u.errand) f) refl x.party_state refl refl (ap mode_of_stage e ∙ ap (λ z. mode_of_sweep z u.errand) f) (ap claim_of_stage e) (k.party_records p x at).stage)
+
+    single_at : {s : Stage K V F} → x.party_state.stage ≡ s → IsSingle s → IsSingle x.party_state.stage
+    single_at e h = subst IsSingle (sym e) h
+
+    no_walk_at : {s : Stage K V F} → x.party_state.stage ≡ s → IsGoingSingle s → x.call ≡ call.Walk → ⊥
+    no_walk_at {s} e h = no_walk hash x.call s h (subst (FollowsStage hash x.call) e (k.party_records p x at).stage)
 
     by_stage : (s : Stage K V F) → x.party_state.stage ≡ s → (l : Label K V F) (c : PartyState K V F) (b : ControlState) (t : Tables K V) → StepByStage cmp gives p s x.party_state w.control_state w.tables l c b t → StepOf cmp hash gives w p x b t c l
-    by_stage (AtLocate u) e l c b t h = goes_by l c b t h
-    by_stage (AtBin u n) e l c b t h = goes_by l c b t h
-    by_stage (AtClaim a) e l c b t h = goes_by l c b t h
-    by_stage (AtMove m a) e l c b t h = goes_by l c b t h
-    by_stage (AtUncount r) e l c b t h = goes_by l c b t h
-    by_stage (AtCount r) e l c b t h = goes_by l c b t h
-    by_stage (AtRecount r) e l c b t h = goes_by l c b t h
-    by_stage (AtBegin n r) e l c b t h = goes_by l c b t h
-    by_stage (AtGrow n r) e l c b t h = goes_by l c b t h
-    by_stage (AtReserve a) e l c b t h = goes_by l c b t h
-    by_stage (AtDone r) e l c b t (g, y, z, u) = rw (g, y, z, u) (closes r e)
-    by_stage AtTaken e l c b t (g, y, z, u) = rw (g, y, z, u) (finished AtTaken e refl refl x.party_state refl (ap mode_of_stage e) (ap claim_of_stage e) (subst (FollowsStage x.call) (sym e) tt))
+    by_stage (AtLocate u) e l c b t h = goes_by p x at (single_at e tt) (no_walk_at e tt) l c b t h
+    by_stage (AtBin u n) e l c b t h = goes_by p x at (single_at e tt) (no_walk_at e tt) l c b t h
+    by_stage (AtClaim a) e l c b t h = goes_by p x at (single_at e tt) (no_walk_at e tt) l c b t h
+    by_stage (AtMove m a) e l c b t h = goes_by p x at (single_at e tt) (no_walk_at e tt) l c b t h
+    by_stage (AtUncount r) e l c b t h = goes_by p x at (single_at e tt) (no_walk_at e tt) l c b t h
+    by_stage (AtCount r) e l c b t h = goes_by p x at (single_at e tt) (no_walk_at e tt) l c b t h
+    by_stage (AtRecount r) e l c b t h = goes_by p x at (single_at e tt) (no_walk_at e tt) l c b t h
+    by_stage (AtBegin n r) e l c b t h = goes_by p x at (single_at e tt) (no_walk_at e tt) l c b t h
+    by_stage (AtGrow n r) e l c b t h = goes_by p x at (single_at e tt) (no_walk_at e tt) l c b t h
+    by_stage (AtReserve a) e l c b t h = goes_by p x at (single_at e tt) (no_walk_at e tt) l c b t h
+    by_stage (AtSweep u) e l c b t h = sweeps u e u.stage refl l c b t h
+    by_stage (AtDone r) e l c b t (g, y, z, u) = rw (g, y, z, u) (closes p x at r e)
+    by_stage AtTaken e l c b t (g, y, z, u) = rw (g, y, z, u) (finished p x at AtTaken e refl refl x.party_state refl refl (ap mode_of_stage e) (ap claim_of_stage e) (subst (FollowsStage hash x.call) (sym e) tt))
 
     -- each step of a party is a transition of the machine
     pub one_line : (l : Label K V F) (c : PartyState K V F) (b : ControlState) (t : Tables K V) → StepByStage cmp gives p x.party_state.stage x.party_state w.control_state w.tables l c b t → DoesTransition cmp hash gives w p (with_step w p x b t c l)
-    one_line l c b t h = does_one cmp hash gives w p x b t c l at (by_stage x.party_state.stage refl l c b t h)
+    one_line l c b t h = does_one cmp hash gives w p x b t c l (by_stage x.party_state.stage refl l c b t h)
 
     -- and keeps the world
     pub stepped : (l : Label K V F) (c : PartyState K V F) (b : ControlState) (t : Tables K V) → StepByStage cmp gives p x.party_state.stage x.party_state w.control_state w.tables l c b t → IsWorld cmp hash gives (with_step w p x b t c l)
-    stepped l c b t h = let step = by_stage x.party_state.stage refl l c b t h in kept cmp hash gives total lawful w p x b t c l k at step.hash_stays step.step
+    stepped l c b t h = kept cmp hash gives total lawful w p x b t c l k at (by_stage x.party_state.stage refl l c b t h)

@@ -87,9 +87,9 @@ module _ {K V F S : Type 0} (cmp : K → K → Ordering) (total : IsTotalOrder c
       × WorldStep cmp gives w p (record { hasher = w.hasher; processors = w.processors; first = w.first; control_state = b; tables = t; party_records = party_records; trace = trace })
       × DoesTransition cmp hash gives w p (record { hasher = w.hasher; processors = w.processors; first = w.first; control_state = b; tables = t; party_records = party_records; trace = trace })
   party_step before is short p x at c b t l does party_records d trace added = (
-    subst (IsBounded cmp hash gives) (sym after) (record { world = stepped cmp total hash (alike_class cmp hash alike) gives w k.world near p x at l c b t does; few = omega (arith, length-append w.trace (l ∷ []), few) }),
+    subst (IsBounded cmp hash gives) (sym after) (record { world = stepped cmp total hash (alike_class cmp hash alike) gives w k.world near k.few p x at l c b t does; few = omega (arith, length-append w.trace (l ∷ []), few) }),
     subst (λ o. MatchOption o (shown ≡ with_label w (label.Silent p)) (λ x. CallerStep cmp gives w p x shown)) (sym at) (record { step_label = l; party_state = c; control_state = b; tables = t; does = does; after = after }),
-    subst (DoesTransition cmp hash gives w p) (sym after) (one_line cmp total hash (alike_class cmp hash alike) gives w k.world near p x at l c b t does),
+    subst (DoesTransition cmp hash gives w p) (sym after) (one_line cmp total hash (alike_class cmp hash alike) gives w k.world near k.few p x at l c b t does),
   )
     where
       few : length w.trace < MOST_LABELS
@@ -118,7 +118,7 @@ module _ {K V F S : Type 0} (cmp : K → K → Ordering) (total : IsTotalOrder c
   call_begins before is short parties are d party_records put n number trace added = (
     subst (IsBounded cmp hash gives) (sym after) (record { world = begins; few = omega (arith, length-append w.trace (label.Begin (length w.party_records) (theory_call d) ∷ []), few) }),
     after,
-    subst (DoesTransition cmp hash gives w n) (sym after) (subst (λ m. DoesTransition cmp hash gives w m (begun_with hash w d)) (sym number) (let (follows, mode, claim) = fresh_stage d in begin_line cmp total hash (alike_class cmp hash alike) gives w k.world near _ _ mode claim)),
+    subst (DoesTransition cmp hash gives w n) (sym after) (subst (λ m. DoesTransition cmp hash gives w m (begun_with hash w d)) (sym number) (let (follows, mode, claim, unread) = fresh_stage hash d in begin_line cmp total hash (alike_class cmp hash alike) gives w k.world near _ _ mode claim unread)),
   )
     where
       few : length w.trace < MOST_LABELS
@@ -130,4 +130,4 @@ module _ {K V F S : Type 0} (cmp : K → K → Ordering) (total : IsTotalOrder c
           (added ∙ ap (λ u. u ++ label.Begin n (theory_call d) ∷ []) is ∙ ap (λ m. w.trace ++ label.Begin m (theory_call d) ∷ []) number)
 
       begins : IsWorld cmp hash gives (begun_with hash w d)
-      begins = let (follows, mode, claim) = fresh_stage d in began cmp total hash (alike_class cmp hash alike) gives w k.world near _ _ mode claim (own_hash hash d) follows
+      begins = let (follows, mode, claim, unread) = fresh_stage hash d in began cmp total hash (alike_class cmp hash alike) gives w k.world near _ _ mode claim unread (own_hash hash d) follows

@@ -4,7 +4,8 @@ use Rattle.std.specs.declared.cmp.Ordering.{Ordering}
 use Rattle.flurry_model.specs.declared.reply.KeptReply.{KeptReply}
 use Rattle.flurry_model.specs.declared.sizes.TheConstants.{TABLES}
 use Rattle.flurry_slots.specs.Slot.{IsUnborn}
-use Rattle.flurry_steps.specs.Party.{Task, OutcomeReply, AtBin, AtDone}
+use Rattle.flurry_calls.specs.Outcome.{OutcomeReply}
+use Rattle.flurry_steps.specs.Party.{Task, AtBin, AtDone}
 use Rattle.flurry_theory.specs.Machine.{owes_added, owes_removed, total}
 use Rattle.flurry_theory.specs.Trace.{is_lookup, decision, has_replied, has_closed, pairs}
 use Rattle.flurry_theory.specs.Legal.{EachMay, RemovalMay}

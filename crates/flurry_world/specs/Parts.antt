@@ -4,10 +4,12 @@ use Rattle.std.specs.declared.cmp.Ordering.{Ordering}
 use Rattle.flurry_slots.specs.Slot.{SlotState, IsSlot, IsUnborn}
 use Rattle.flurry_control.specs.Control.{ControlState, IsIdle}
 use Rattle.flurry_steps.specs.Field.{Loan, ControlLoan, StartLoan, TallyLoan, LookLoan, BinLoan, MoveLoan}
-use Rattle.flurry_steps.specs.Party.{Stage, AtDone, AtTaken, PartyState, Part, ControlPart, LookPart, BinPart, MovePart, NoPart}
+use Rattle.flurry_calls.specs.Sweep.{IsUnderWay}
+use Rattle.flurry_calls.specs.Part.{Part, ControlPart, LookPart, BinPart, MovePart, NoPart}
+use Rattle.flurry_steps.specs.Party.{Stage, AtSweep, AtDone, AtTaken, PartyState}
 use Rattle.flurry_steps.specs.PartyControl.{ControlStep}
 use Rattle.flurry_steps.specs.PartySlots.{SlotStep, MoveStep}
-use Rattle.flurry_steps.specs.declared.party.Event.{Event}
+use Rattle.flurry_calls.specs.declared.step.Event.{Event}
 use Rattle.flurry_world.specs.Tables.{Tables, no_tables, place_at, content_at, put_place, PlaceGives}
 
 -- all parts of a map
@@ -21,6 +23,7 @@ no_parts = record { control_state = record { published = None; growth = IsIdle; 
 
 -- the call is not done
 abbrev pub IsGoing : {K V F : Type 0} → Stage K V F → Type 0
+IsGoing (AtSweep w) = IsUnderWay w.stage
 IsGoing (AtDone r) = ⊥
 IsGoing AtTaken = ⊥
 IsGoing _ = ⊤

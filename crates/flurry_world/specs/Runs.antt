@@ -26,8 +26,10 @@ module _ {K V F : Type 0} where
   theory_call (owned.TryInsert k v) = call.TryInsert k v
   theory_call (owned.Compute k f) = call.Compute k f
   theory_call (owned.Reserve n) = call.Reserve n
+  theory_call owned.Clear = call.Clear
+  theory_call owned.Walk = call.Walk
 
-  -- the hash by which it goes: that of its key; a reserve has none
+  -- the hash by which it goes: that of its key; a call without a key has none
   abbrev pub hash_for : (K → ℕ) → OwnedCall K V F → ℕ
   hash_for hash (owned.Get k) = hash k
   hash_for hash (owned.GetKeyValue k) = hash k
@@ -38,6 +40,8 @@ module _ {K V F : Type 0} where
   hash_for hash (owned.TryInsert k v) = hash k
   hash_for hash (owned.Compute k f) = hash k
   hash_for hash (owned.Reserve n) = 0
+  hash_for hash owned.Clear = 0
+  hash_for hash owned.Walk = 0
 
   -- the function of a call that begins, if it has one, may be called
   abbrev pub StepIsReady : (F → Type 0) → Step K V F → Type 0

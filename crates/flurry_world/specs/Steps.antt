@@ -2,10 +2,13 @@
 use Rattle.std.specs.Prelude.{◌≡◌, ℕ, pos, suc, [], ◌∷◌, ◌++◌, length, slice_get, slice_set, Option, Some, None, MatchOption}
 use Rattle.std.specs.declared.cmp.Ordering.{Ordering}
 use Rattle.flurry_control.specs.Control.{ControlState, IsIdle}
-use Rattle.flurry_steps.specs.Party.{Outcome, OutcomeReply, OutcomeEnded, OutcomeRefused, Stage, AtDone, AtTaken, PartyState, with_stage, wanted_part, outcome_in}
-use Rattle.flurry_steps.specs.declared.party.Event.{Event}
-use Rattle.flurry_steps.specs.declared.party.Event.TheVariants.{Decide, Refused, Opened, Placed, Moved, Published, Silent}
+use Rattle.flurry_calls.specs.Outcome.{Outcome, OutcomeReply, OutcomeEnded, OutcomeRefused}
+use Rattle.flurry_calls.specs.Sweep.{SweepStage, AtEnd, AfterEnd}
+use Rattle.flurry_steps.specs.Party.{Stage, AtSweep, AtDone, AtTaken, PartyState, with_stage, taken_stage, wanted_part, outcome_in, last_seen}
+use Rattle.flurry_calls.specs.declared.step.Event.{Event}
+use Rattle.flurry_calls.specs.declared.step.Event.TheVariants.{Decide, Read, Wipe, Refused, Opened, Placed, Moved, Published, Silent}
 use Rattle.flurry_model.specs.declared.call.Call.{Call}
+use Rattle.flurry_model.specs.declared.call.Seen.{Seen}
 use Rattle.flurry_theory.specs.declared.Label.{Label}
 use Rattle.flurry_theory.specs.declared.Label.TheVariants as label
 use Rattle.flurry_world.specs.Tables.{Tables}
@@ -20,9 +23,16 @@ module _ {K V F : Type 0} where
   decide_label p (Some OutcomeEnded) = label.Silent p
   decide_label p (Some OutcomeRefused) = label.Silent p
 
+  -- the label of a read of that pair
+  abbrev pub read_label : ℕ → Option (Seen K V) → Label K V F
+  read_label p None = label.Silent p
+  read_label p (Some z) = label.Read p z.key z.value
+
   -- the label of party p's step with this event, which leaves it at that stage
   abbrev pub label_of : ℕ → Event → Stage K V F → Label K V F
   label_of p Decide s = decide_label p (outcome_in s)
+  label_of p Read s = read_label p (last_seen s)
+  label_of p (Wipe e i) s = label.Wipe p e i
   label_of p Refused s = label.Refused p
   label_of p (Opened e) s = label.Opened e
   label_of p (Placed e) s = label.Placed e
@@ -43,9 +53,16 @@ module _ {K V F : Type 0} where
       pub part : PartStep cmp changes (wanted_part c) c b t event c' b' t'
       pub label_is : l ≡ label_of p event c'.stage
 
+    -- the same of a call that goes over all bins
+    abbrev pub StepBySweep : SweepStage K V → PartyState K V F → ControlState → Tables K V → Label K V F → PartyState K V F → ControlState → Tables K V → Type 0
+    StepBySweep (AtEnd r) c b t l c' b' t' = (l ≡ closing_label p r) × (c' ≡ with_stage c (taken_stage c.stage)) × (b' ≡ b) × (t' ≡ t)
+    StepBySweep AfterEnd c b t l c' b' t' = (l ≡ label.Silent p) × (c' ≡ c) × (b' ≡ b) × (t' ≡ t)
+    StepBySweep _ c b t l c' b' t' = GoesOn c b t l c' b' t'
+
     -- A step of party p, whose call stands at c, over the control b and the tables t: a call in progress does its step; one that is
     -- done replies or ends; one that has replied, has ended or was refused does nothing.
     abbrev pub StepByStage : Stage K V F → PartyState K V F → ControlState → Tables K V → Label K V F → PartyState K V F → ControlState → Tables K V → Type 0
+    StepByStage (AtSweep w) c b t l c' b' t' = StepBySweep w.stage c b t l c' b' t'
     StepByStage (AtDone r) c b t l c' b' t' = (l ≡ closing_label p r) × (c' ≡ with_stage c AtTaken) × (b' ≡ b) × (t' ≡ t)
     StepByStage AtTaken c b t l c' b' t' = (l ≡ label.Silent p) × (c' ≡ c) × (b' ≡ b) × (t' ≡ t)
     StepByStage _ c b t l c' b' t' = GoesOn c b t l c' b' t'

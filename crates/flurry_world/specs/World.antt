@@ -1,17 +1,23 @@
 -- What a world shows, and the state of the machine that it is.
-use Rattle.std.specs.Prelude.{◌≡◌, ℕ, ℤ, pos, neg_ℤ, ◌≤ℤ◌, suc, ◌≤◌, false, List, [], ◌∷◌, length, reverse, slice_get, Option, Some, None, option_map, unwrap_or, IsSome, ⊤}
+use Rattle.std.specs.Prelude.{◌≡◌, ℕ, ℤ, pos, neg_ℤ, ◌≤ℤ◌, suc, ◌≤◌, false, List, [], ◌∷◌, length, reverse, map, slice_get, Option, Some, None, option_map, unwrap_or, IsSome, ⊤}
 use Rattle.std.specs.declared.cmp.Ordering.{Ordering}
+use Rattle.std.specs.List.{AllByRecursion}
 use Rattle.flurry_model.specs.declared.reply.KeptReply.{KeptReply}
 use Rattle.flurry_slots.specs.Slot.{Live, IsLive}
 use Rattle.flurry_control.specs.Control as control
 use Rattle.flurry_control.specs.Control.{ControlState, IsControl, IsIdle, Grows}
-use Rattle.flurry_steps.specs.Party.{TheValue, ThePair, Presence, Task, Finds, Removes, Inserts, Adds, Computes, Outcome, OutcomeReply, OutcomeEnded, OutcomeRefused, GrowFor, ForInsert, ForReserve, Resume, ThenBin, ThenRecount, ThenGrow, Stage, AtLocate, AtBin, AtClaim, AtMove, AtUncount, AtCount, AtRecount, AtBegin, AtGrow, AtReserve, AtDone, AtTaken, PartyState}
+use Rattle.flurry_calls.specs.Outcome.{Outcome, OutcomeReply, OutcomeEnded, OutcomeRefused}
+use Rattle.flurry_calls.specs.Cursor as cursor
+use Rattle.flurry_calls.specs.Cursor.{CursorState}
+use Rattle.flurry_calls.specs.Sweep.{Errand, Reads, Wipes, SweepStage, AtOutset, OverBins, AtTotal, AtEnd, AfterEnd, SweepState}
+use Rattle.flurry_steps.specs.Party.{TheValue, ThePair, Presence, Task, Finds, Removes, Inserts, Adds, Computes, GrowFor, ForInsert, ForReserve, Resume, ThenBin, ThenRecount, ThenGrow, Stage, AtLocate, AtBin, AtClaim, AtMove, AtUncount, AtCount, AtRecount, AtBegin, AtGrow, AtReserve, AtSweep, AtDone, AtTaken, PartyState, last_seen}
 use Rattle.flurry_theory.specs.Machine as machine
-use Rattle.flurry_theory.specs.Machine.{State, Mode, Locating, Looking, Done, Finished}
+use Rattle.flurry_theory.specs.Machine.{State, Mode, Locating, Looking, Walking, Clearing, Done, Finished}
 use Rattle.flurry_theory.specs.Map.{key_of}
 use Rattle.flurry_theory.specs.Trace.{is_lookup}
 use Rattle.flurry_theory.specs.Invariant.{Inv}
 use Rattle.flurry_model.specs.declared.call.Call.{Call}
+use Rattle.flurry_model.specs.declared.call.Seen.{Seen}
 use Rattle.flurry_model.specs.declared.call.Call.TheVariants as call
 use Rattle.flurry_theory.specs.declared.Label.{Label}
 use Rattle.flurry_theory.specs.declared.Label.TheVariants as label
@@ -51,6 +57,14 @@ module _ {K V F : Type 0} where
   task_of_call (call.RemoveEntry k) = Some (Removes ThePair k)
   task_of_call _ = None
 
+module _ {K : Type 0} where
+  -- the part of a bin that is left to a walk or a clear: the machine's bound is a key alone
+  abbrev pub frame_of : cursor.Frame K → machine.Frame K
+  frame_of f = record { table = f.table; index = f.index; bound = option_map (λ b. b.1) f.bound }
+
+  abbrev pub frames_of : CursorState K → List (machine.Frame K)
+  frames_of c = frame_of c.top ∷ map frame_of c.below
+
 module _ {K V : Type 0} where
   -- the reply of a decision
   abbrev pub reply_in : Outcome K V → Option (KeptReply K V)
@@ -67,6 +81,22 @@ module _ {K V : Type 0} where
   mode_of_end (OutcomeReply r) = Done (Some r) 0 0
   mode_of_end OutcomeEnded = Done None 0 0
   mode_of_end OutcomeRefused = Finished
+
+  abbrev pub mode_over : Errand → CursorState K → Mode K V
+  mode_over Reads c = Walking c.base c.index (frames_of c)
+  mode_over (Wipes n) c = Clearing n c.base c.index (frames_of c)
+
+  -- a walk has nothing to count
+  abbrev pub mode_at_total : Errand → Mode K V
+  mode_at_total Reads = Finished
+  mode_at_total (Wipes n) = Done None 0 n
+
+  abbrev pub mode_of_sweep : SweepStage K V → Errand → Mode K V
+  mode_of_sweep AtOutset w = Locating
+  mode_of_sweep (OverBins c) w = mode_over w c
+  mode_of_sweep AtTotal w = mode_at_total w
+  mode_of_sweep (AtEnd r) w = mode_of_end r
+  mode_of_sweep AfterEnd w = Finished
 
 module _ {K V F : Type 0} where
   abbrev pub mode_of_resume : Resume K V F → Mode K V
@@ -85,6 +115,7 @@ module _ {K V F : Type 0} where
   mode_of_stage (AtBegin e r) = Done (reply_in r) 0 0
   mode_of_stage (AtGrow w g) = mode_of_grow_for g
   mode_of_stage (AtReserve a) = Locating
+  mode_of_stage (AtSweep w) = mode_of_sweep w.stage w.errand
   mode_of_stage (AtDone r) = mode_of_end r
   mode_of_stage AtTaken = Finished
 
@@ -92,6 +123,40 @@ module _ {K V F : Type 0} where
   abbrev pub claim_of_stage : Stage K V F → Option machine.Claim
   claim_of_stage (AtMove c a) = Some (record { table = c.table; low = c.low; left = c.left; high = c.high })
   claim_of_stage s = None
+
+-- ---- what a walk and a clear keep
+
+-- nothing is wiped before the first bin, and a clear alone counts
+abbrev pub IsFresh : Errand → Type 0
+IsFresh Reads = ⊤
+IsFresh (Wipes n) = n ≡ 0
+
+abbrev pub IsOfClear : Errand → Type 0
+IsOfClear Reads = ⊥
+IsOfClear (Wipes n) = ⊤
+
+module _ {K : Type 0} (hash : K → ℕ) where
+  -- the bound has its key's hash
+  abbrev pub IsOwnHash : Option (ℕ × K) → Type 0
+  IsOwnHash None = ⊤
+  IsOwnHash (Some b) = b.0 ≡ hash b.1
+
+  abbrev pub AreHashed : List (cursor.Frame K) → Type 0
+  AreHashed fs = AllByRecursion (λ (f : cursor.Frame K). IsOwnHash f.bound) fs
+
+module _ {K V : Type 0} where
+  -- a call without a key has no reply of a call of one key
+  abbrev pub HasNoReply : Outcome K V → Type 0
+  HasNoReply (OutcomeReply r) = ⊥
+  HasNoReply OutcomeEnded = ⊤
+  HasNoReply OutcomeRefused = ⊤
+
+  abbrev pub FollowsSweep : (K → ℕ) → SweepStage K V → Errand → Type 0
+  FollowsSweep hash AtOutset w = IsFresh w
+  FollowsSweep hash (OverBins c) w = AreHashed hash (c.top ∷ c.below)
+  FollowsSweep hash AtTotal w = IsOfClear w
+  FollowsSweep hash (AtEnd r) w = HasNoReply r
+  FollowsSweep hash AfterEnd w = ⊤
 
 -- ---- the machine's state
 
@@ -123,6 +188,11 @@ module _ {K V F : Type 0} where
   claim_in None = None
   claim_in (Some x) = claim_of_stage x.party_state.stage
 
+  -- what a walk has read last
+  abbrev pub seen_in : Option (PartyRecord K V F) → Option (Seen K V)
+  seen_in None = None
+  seen_in (Some x) = last_seen x.party_state.stage
+
   abbrev pub steps_in : Option (PartyRecord K V F) → ℕ
   steps_in None = 0
   steps_in (Some x) = x.steps
@@ -138,7 +208,7 @@ module _ {K V F : Type 0} where
     mode = λ p. mode_in (slice_get w.party_records p);
     claim = λ p. claim_in (slice_get w.party_records p);
     count = w.control_state.count;
-    seen = λ _. None;
+    seen = λ p. seen_in (slice_get w.party_records p);
     began_from = λ _. None;
     steps = λ p. steps_in (slice_get w.party_records p);
     trace = reverse w.trace;
@@ -166,25 +236,32 @@ module _ {K V F : Type 0} where
   FollowsEnd c OutcomeEnded = (n : ℕ) × (c ≡ call.Reserve n)
   FollowsEnd c OutcomeRefused = ⊤
 
-  -- the stage is one of this call
-  abbrev pub FollowsStage : Call K V F → Stage K V F → Type 0
-  FollowsStage c (AtLocate t) = task_of_call c ≡ Some t
-  FollowsStage c (AtBin t e) = task_of_call c ≡ Some t
-  FollowsStage c (AtClaim a) = FollowsResume c a
-  FollowsStage c (AtMove r a) = FollowsResume c a
-  FollowsStage c (AtUncount r) = HasDecided c r
-  FollowsStage c (AtCount r) = HasDecided c r
-  FollowsStage c (AtRecount r) = HasDecided c r
-  FollowsStage c (AtBegin e r) = HasDecided c r
-  FollowsStage c (AtGrow w g) = FollowsGrowFor c g
-  FollowsStage c (AtReserve a) = c ≡ call.Reserve a
-  FollowsStage c (AtDone r) = FollowsEnd c r
-  FollowsStage c AtTaken = ⊤
+  -- what it does at each bin is what the call asks for
+  abbrev pub FollowsErrand : Call K V F → Errand → Option (Seen K V) → Type 0
+  FollowsErrand c Reads z = c ≡ call.Walk
+  FollowsErrand c (Wipes n) z = (c ≡ call.Clear) × (z ≡ None)
+
+  module _ (hash : K → ℕ) where
+    -- the stage is one of this call
+    abbrev pub FollowsStage : Call K V F → Stage K V F → Type 0
+    FollowsStage c (AtLocate t) = task_of_call c ≡ Some t
+    FollowsStage c (AtBin t e) = task_of_call c ≡ Some t
+    FollowsStage c (AtClaim a) = FollowsResume c a
+    FollowsStage c (AtMove r a) = FollowsResume c a
+    FollowsStage c (AtUncount r) = HasDecided c r
+    FollowsStage c (AtCount r) = HasDecided c r
+    FollowsStage c (AtRecount r) = HasDecided c r
+    FollowsStage c (AtBegin e r) = HasDecided c r
+    FollowsStage c (AtGrow w g) = FollowsGrowFor c g
+    FollowsStage c (AtReserve a) = c ≡ call.Reserve a
+    FollowsStage c (AtSweep w) = FollowsErrand c w.errand w.last × FollowsSweep hash w.stage w.errand
+    FollowsStage c (AtDone r) = FollowsEnd c r
+    FollowsStage c AtTaken = ⊤
 
   -- a call in progress goes by the hash of its key, and its stage is one of its call
   pub record Follows (hash : K → ℕ) (x : PartyRecord K V F) : Type 0 where
     pub own_hash : (k : K) → key_of x.call ≡ Some k → x.party_state.hash ≡ hash k
-    pub stage : FollowsStage x.call x.party_state.stage
+    pub stage : FollowsStage hash x.call x.party_state.stage
 
   module _ {S : Type 0} (cmp : K → K → Ordering) (hash : K → ℕ) (gives : F → K → V → Option V → Type 0) where
     -- The machine's invariant holds of it; its calls stand where calls of their kind can stand; each entry has its key's hash; and

@@ -41,6 +41,8 @@ pub(crate) fn theory_call<K, V, F>(call: OwnedCall<K, V, F>) -> Call<K, V, F>
         OwnedCall::TryInsert(key, value) => Call::TryInsert(key, value),
         OwnedCall::Compute(key, f) => Call::Compute(key, f),
         OwnedCall::Reserve(more) => Call::Reserve(more),
+        OwnedCall::Clear => Call::Clear,
+        OwnedCall::Walk => Call::Walk,
     }
 }
 
@@ -59,6 +61,6 @@ pub fn hash_for<K: Ord, V, F, S: KeyHasher<K>>(hasher: &S, call: &OwnedCall<K, V
         | OwnedCall::Insert(key, _)
         | OwnedCall::TryInsert(key, _)
         | OwnedCall::Compute(key, _) => hasher.hash_one(key),
-        OwnedCall::Reserve(_) => 0,
+        OwnedCall::Reserve(_) | OwnedCall::Clear | OwnedCall::Walk => 0,
     }
 }

@@ -1,7 +1,7 @@
 //! The labels of steps.
 ghost use Rattle.std.specs.Prelude.{◌≡◌};
 ghost use Rattle.flurry_steps.specs.Party.{wanted_part};
-ghost use Rattle.flurry_steps.specs.PartyView.{outcome_of};
+ghost use Rattle.flurry_calls.specs.OutcomeView.{outcome_of};
 ghost use Rattle.flurry_world.specs.Parts.{IsGoing, IsThere};
 ghost use Rattle.flurry_world.specs.Steps.{StepByStage, closing_label, label_of};
 ghost use Rattle.flurry_world.specs.World.{reply_in};
@@ -67,6 +67,11 @@ fn label_of<'k, K: Copy + Drop, V: Copy + Drop, F: ComputeFn<K, V>, A: Allocator
             },
             None => Label::Silent(party),
         },
+        Event::Read => match call.last_read() {
+            Some((key, value)) => Label::Read(party, *key, *value),
+            None => Label::Silent(party),
+        },
+        Event::Wipe(table, index) => Label::Wipe(party, table, index),
         Event::Refused => Label::Refused(party),
         Event::Opened(table) => Label::Opened(table),
         Event::Placed(table) => Label::Placed(table),

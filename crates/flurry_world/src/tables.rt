@@ -2,7 +2,8 @@
 ghost use Rattle.std.specs.Prelude.{◌≡◌, ◌+◌, ◌<◌, ◌≤◌, ◌^◌, ◌↔◌, length, Some, IsSome, IsTrue, IfOk, is_some};
 ghost use Rattle.flurry_slots.specs.Slot.{IsSlot};
 ghost use Rattle.flurry_control.specs.Control.{ControlState};
-ghost use Rattle.flurry_steps.specs.Party.{wanted_part, BinPart, MovePart};
+ghost use Rattle.flurry_calls.specs.Part.{BinPart, MovePart};
+ghost use Rattle.flurry_steps.specs.Party.{wanted_part};
 ghost use Rattle.flurry_world.specs.Parts.{HalvesStep, IsThere, PartStep};
 ghost use Rattle.flurry_world.specs.Tables.{AreTables, PlaceGives, fresh, new_slots, no_tables, place_at};
 ghost use Rattle.flurry_model.specs.declared.sizes.TheConstants.{GREATEST_TABLE};

@@ -1,6 +1,6 @@
 -- What contracts see of parts beside a table that was published.
 use Rattle.flurry_steps.specs.Field.{Loan}
-use Rattle.flurry_steps.specs.Party.{Part}
+use Rattle.flurry_calls.specs.Part.{Part}
 use Rattle.flurry_world.specs.Parts.{Parts, IsOwn, OwnLacks}
 use Rattle.flurry_world.specs.Tables.{Tables}
 use Rattle.test_drive.specs.declared.beside.Beside.{Beside}

@@ -4,6 +4,7 @@ mod calls;
 mod checker;
 mod random;
 mod rows;
+mod sweeps;
 
 use flurry_model::hash::LowHashBuilder;
 use flurry_model::reply::KeptReply;
@@ -31,6 +32,8 @@ enum Line {
     Moved(u8, usize),
     Published(u8),
     Silent(usize),
+    Wipe(usize, u8, usize),
+    Read(usize, u64, u64),
 }
 
 // Sees that a value is the one that is wanted. A test of many assertions calls this, since each `assert_eq!` that stands in it makes
@@ -39,8 +42,7 @@ fn same<T: PartialEq + Debug + Drop>(rt: &impl Abort, seen: T, wanted: T) {
     assert_eq!(rt; seen, wanted);
 }
 
-// A wipe and a read are labels of no call of a world.
-fn line_of<F>(rt: &impl Abort, label: &Label<u64, u64, F>) -> Line {
+fn line_of<F>(label: &Label<u64, u64, F>) -> Line {
     match label {
         Label::Begin(party, _) => Line::Begin(*party),
         Label::Decide(party, reply) => Line::Decide(*party, *reply),
@@ -52,13 +54,14 @@ fn line_of<F>(rt: &impl Abort, label: &Label<u64, u64, F>) -> Line {
         Label::Moved(table, index) => Line::Moved(*table, *index),
         Label::Published(table) => Line::Published(*table),
         Label::Silent(party) => Line::Silent(*party),
-        Label::Wipe(_, _, _) | Label::Read(_, _, _) => panic!(rt; "no call clears or walks"),
+        Label::Wipe(party, table, index) => Line::Wipe(*party, *table, *index),
+        Label::Read(party, key, value) => Line::Read(*party, *key, *value),
     }
 }
 
 // The last label.
 fn last_line<'k, F: ComputeFn<u64, u64> + Copy>(rt: &impl Abort, world: &Numbers<'k, F>) -> Line {
-    line_of(rt, world.trace().last().expect(rt, "a label was added"))
+    line_of(world.trace().last().expect(rt, "a label was added"))
 }
 
 // The reply that is a value, or none.

@@ -1,15 +1,16 @@
 //! The steps of a call at the control.
 ghost use Rattle.std.specs.Prelude.{◌≡◌, ◌≤◌, MatchOption, None};
 ghost use Rattle.flurry_control.specs.Control.{after_count, advice_of, claim_of, after_claim, report_of, after_report};
-ghost use Rattle.flurry_steps.specs.Party.{ResumeIsReady, IsDecided, GrowForIsReady, StageIsReady, TaskIsReady, IsAtControl, AtLocate, AtBegin, AtGrow, AtClaim, AtMove, AtReserve, resumed_stage, reply_for, OutcomeReply};
+ghost use Rattle.flurry_calls.specs.Outcome.{OutcomeReply};
+ghost use Rattle.flurry_steps.specs.Party.{ResumeIsReady, IsDecided, GrowForIsReady, StageIsReady, TaskIsReady, IsAtControl, AtLocate, AtBegin, AtGrow, AtClaim, AtMove, AtReserve, resumed_stage, reply_for};
 ghost use Rattle.flurry_steps.specs.PartyControl.{StageAtControl, stage_advised};
-ghost use Rattle.flurry_steps.specs.PartyView.{resume_of, stage_of, task_of, outcome_of, grow_for_of, sought_of};
+ghost use Rattle.flurry_calls.specs.OutcomeView.{outcome_of};
+ghost use Rattle.flurry_steps.specs.PartyView.{resume_of, stage_of, task_of, grow_for_of, sought_of};
 ghost use Rattle.flurry_model.specs.declared.sizes.TheConstants.{GREATEST_TABLE};
 
-use super::Event;
 use super::call::{Sought, Task};
-use super::reply::Reply;
 use super::stage::{GrowFor, Resume, Stage};
+use super::{Event, Reply};
 use flurry_control::{Advice, BeginOutcome, Claim, Control, Room, wanted_table};
 use flurry_model::sizes::FIRST_TABLE;
 use flurry_slots::ComputeFn;

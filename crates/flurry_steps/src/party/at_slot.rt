@@ -3,16 +3,17 @@ ghost use Rattle.std.specs.Prelude.{◌≡◌, ◌+◌, ◌-◌, ◌<◌, ◌≤
 ghost use Rattle.flurry_slots.specs.LiveView.{view_of_written, view_of_added};
 ghost use Rattle.flurry_bins.specs.PlainEntries.{numbered_pair};
 ghost use Rattle.flurry_slots.specs.Slot.{IsSlot, IsUnborn, LiesIn};
-ghost use Rattle.flurry_steps.specs.Party.{StageIsReady, TaskIsReady, IsWriter, IsDecided, steps_left, Finds, Removes, Inserts, Adds, Computes, OutcomeReply, reply_for};
+ghost use Rattle.flurry_calls.specs.Outcome.{OutcomeReply};
+ghost use Rattle.flurry_steps.specs.Party.{StageIsReady, TaskIsReady, IsWriter, IsDecided, steps_left, Finds, Removes, Inserts, Adds, Computes, reply_for};
 ghost use Rattle.flurry_steps.specs.PartySlots.{ContentGives, GoesOnNew, GoesOnWritten, GoesOnAdded, FindCanBeRefused};
-ghost use Rattle.flurry_steps.specs.PartyView.{key_of, stage_of, task_of, outcome_of, sought_of};
+ghost use Rattle.flurry_calls.specs.OutcomeView.{outcome_of};
+ghost use Rattle.flurry_steps.specs.PartyView.{key_of, stage_of, task_of, sought_of};
 ghost use Rattle.flurry_model.specs.declared.sizes.TheConstants.{GREATEST_TABLE};
 
-use super::Event;
 use super::at_control::absent_reply;
 use super::call::{Key, Sought, Task};
-use super::reply::Reply;
 use super::stage::{GrowFor, Resume, Stage};
+use super::{Event, Reply};
 use flurry_bins::bin::Entry;
 use flurry_control::wanted_table;
 use flurry_model::try_insert::TryInsertError;

@@ -24,6 +24,10 @@ pub enum Call<'k, K, V, F> {
     Compute(&'k K, F),
     /// Makes room for so many pairs more.
     Reserve(usize),
+    /// Removes all pairs, one bin after another.
+    Clear,
+    /// Reads all pairs, one after another.
+    Walk,
 }
 
 /// A call of a shared map that has its key, as a list of calls keeps it.
@@ -47,6 +51,10 @@ pub enum OwnedCall<K, V, F> {
     Compute(K, F),
     /// [`Call::Reserve`].
     Reserve(usize),
+    /// [`Call::Clear`].
+    Clear,
+    /// [`Call::Walk`].
+    Walk,
 }
 
 /// A key that is lent for the time of a call, or is the call's own.

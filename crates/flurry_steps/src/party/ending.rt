@@ -2,12 +2,12 @@
 ghost use Rattle.std.specs.Prelude.{◌≡◌, MatchResult, true};
 ghost use Rattle.flurry_steps.specs.Party.{StageIsReady};
 ghost use Rattle.flurry_steps.specs.PartyTally.{HasDecided, StageAtTally, ending_stage, has_to_count};
-ghost use Rattle.flurry_steps.specs.PartyView.{outcome_of, stage_of};
+ghost use Rattle.flurry_calls.specs.OutcomeView.{outcome_of};
+ghost use Rattle.flurry_steps.specs.PartyView.{stage_of};
 ghost use Rattle.flurry_steps.specs.declared.party.ending.Rest.TheVariants as rest;
 
-use super::Party;
-use super::reply::Reply;
 use super::stage::{GrowFor, Stage};
+use super::{Party, Reply};
 use flurry_control::Tally;
 use flurry_slots::ComputeFn;
 use std::alloc::{Allocator, Global};
@@ -41,7 +41,7 @@ pub struct Ending<K, V, A: Allocator = Global> {
 impl<K, V, A: Allocator> Model for Ending<K, V, A> {
     ghost use Rattle.flurry_steps.specs.EndingView.{ending_of};
     ghost use Rattle.flurry_steps.specs.PartyTally.{EndingState, RestIsReady};
-    ghost use Rattle.flurry_steps.specs.PartyView.{outcome_of};
+    ghost use Rattle.flurry_calls.specs.OutcomeView.{outcome_of};
 
     ghost Value = { EndingState K V };
 
@@ -136,10 +136,6 @@ impl<K, V, A: Allocator> Ending<K, V, A> {
     ) -> Party<'k, K, V, F, A>
         ensures { result ≡ record { hash = hash; processors = processors; stage = ending_stage self } }
     {
-        Party {
-            hash,
-            processors,
-            stage: self.into_stage(),
-        }
+        Party::of_stage(self.into_stage(), hash, processors)
     }
 }

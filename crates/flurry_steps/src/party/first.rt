@@ -2,24 +2,33 @@
 ghost use Rattle.std.specs.Prelude.{◌≡◌, MatchResult, true};
 ghost use Rattle.flurry_slots.specs.Slot.{IsSlot, is_live};
 ghost use Rattle.flurry_steps.specs.FirstSteps.{BeginsAt, begun_at};
-ghost use Rattle.flurry_steps.specs.Party.{LookPart, BinPart, wanted_part, AtLocate, AtReserve, AtDone};
+ghost use Rattle.flurry_calls.specs.Part.{LookPart, BinPart};
+ghost use Rattle.flurry_steps.specs.Party.{wanted_part, LooksUp, BeginsToWrite, AtLocate, AtReserve, AtDone};
 ghost use Rattle.flurry_steps.specs.PartyTally.{ending_stage};
-ghost use Rattle.flurry_steps.specs.PartyView.{CallIsReady, first_stage, outcome_of, stage_of, task_of};
+ghost use Rattle.flurry_calls.specs.OutcomeView.{outcome_of};
+ghost use Rattle.flurry_steps.specs.PartyView.{CallIsReady, first_stage, keyless_stage, owned_stage, stage_of, task_of};
 
-use super::Party;
 use super::at_slot::{step_lookup, step_write};
-use super::call::{Call, Key, Sought, Task};
+use super::call::{Call, Key, OwnedCall, Sought, Task};
 use super::ending::Ending;
-use super::reply::Reply;
 use super::stage::Stage;
+use super::{Party, Reply};
 use flurry_control::PublishedTable;
 use flurry_slots::{ComputeFn, Slot};
 use std::alloc::Allocator;
 
-// The task of a call of one key; of another call how many pairs it makes room for.
-pub(super) fn task_for<'k, K, V, F>(call: Call<'k, K, V, F>) -> Result<Task<'k, K, V, F>, usize>
+// A call without a key.
+#[derive(Clone, Copy, Drop)]
+pub(crate) enum Keyless {
+    Reserve(usize),
+    Clear,
+    Walk,
+}
+
+// The task of a call of one key.
+pub(super) fn task_for<'k, K, V, F>(call: Call<'k, K, V, F>) -> Result<Task<'k, K, V, F>, Keyless>
     ensures { MatchResult result (λ t. first_stage call.entry ≡ AtLocate (task_of t))
-        (λ more. first_stage call.entry ≡ AtReserve more) }
+        (λ c. first_stage call.entry ≡ keyless_stage c) }
 {
     match call {
         Call::Get(key) => Ok(Task::Find(Sought::Value, Key::Lent(key))),
@@ -30,7 +39,31 @@ pub(super) fn task_for<'k, K, V, F>(call: Call<'k, K, V, F>) -> Result<Task<'k, 
         Call::Insert(key, value) => Ok(Task::Insert(key, value)),
         Call::TryInsert(key, value) => Ok(Task::Add(key, value)),
         Call::Compute(key, f) => Ok(Task::Compute(Key::Lent(key), f)),
-        Call::Reserve(more) => Err(more),
+        Call::Reserve(more) => Err(Keyless::Reserve(more)),
+        Call::Clear => Err(Keyless::Clear),
+        Call::Walk => Err(Keyless::Walk),
+    }
+}
+
+// The same of a call that has its key.
+pub(super) fn task_of_owned<'k, K, V, F>(
+    call: OwnedCall<K, V, F>,
+) -> Result<Task<'k, K, V, F>, Keyless>
+    ensures { MatchResult result (λ t. owned_stage call ≡ AtLocate (task_of t))
+        (λ c. owned_stage call ≡ keyless_stage c) }
+{
+    match call {
+        OwnedCall::Get(key) => Ok(Task::Find(Sought::Value, Key::Own(key))),
+        OwnedCall::GetKeyValue(key) => Ok(Task::Find(Sought::Pair, Key::Own(key))),
+        OwnedCall::ContainsKey(key) => Ok(Task::Find(Sought::Presence, Key::Own(key))),
+        OwnedCall::Remove(key) => Ok(Task::Remove(Sought::Value, Key::Own(key))),
+        OwnedCall::RemoveEntry(key) => Ok(Task::Remove(Sought::Pair, Key::Own(key))),
+        OwnedCall::Insert(key, value) => Ok(Task::Insert(key, value)),
+        OwnedCall::TryInsert(key, value) => Ok(Task::Add(key, value)),
+        OwnedCall::Compute(key, f) => Ok(Task::Compute(Key::Own(key), f)),
+        OwnedCall::Reserve(more) => Err(Keyless::Reserve(more)),
+        OwnedCall::Clear => Err(Keyless::Clear),
+        OwnedCall::Walk => Err(Keyless::Walk),
     }
 }
 
@@ -45,6 +78,7 @@ impl<'k, K: Ord + Drop, V: Drop, F: ComputeFn<K, V>, A: Allocator> Party<'k, K, 
         start: &PublishedTable,
         slot: &Slot<K, V, A>,
     ) -> Reply<K, V, A>
+        requires looks { LooksUp (first_stage call) }
         requires part { wanted_part (begun_at start.now hash 0 (first_stage call))
             ≡ LookPart slot.now.table slot.now.index }
         requires live { is_live slot.now.content ≡ true }
@@ -76,6 +110,7 @@ impl<'k, K: Ord + Drop, V: Drop, F: ComputeFn<K, V>, A: Allocator + Copy> Party<
         slot: &mut Slot<K, V, A>,
     ) -> Ending<K, V, A>
         requires ready { CallIsReady F.can_change call }
+        requires writes { BeginsToWrite (first_stage call) }
         requires part { wanted_part (begun_at start.now hash 0 (first_stage call))
             ≡ BinPart slot.old.table slot.old.index }
         requires live { is_live slot.old.content ≡ true }

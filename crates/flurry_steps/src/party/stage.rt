@@ -4,8 +4,8 @@ ghost use Rattle.flurry_steps.specs.Party.{StageIsReady, GrowForIsReady};
 ghost use Rattle.flurry_steps.specs.PartyControl.{stage_grown};
 ghost use Rattle.flurry_steps.specs.PartyView.{resume_of, grow_for_of, stage_of};
 
+use super::Reply;
 use super::call::Task;
-use super::reply::Reply;
 use flurry_control::Claim;
 use flurry_slots::ComputeFn;
 use std::alloc::Allocator;

@@ -107,3 +107,24 @@ fn rooms(rt: HostRuntime) -> Result<(), Fail> {
     same(&rt, map.len(&rt), 1000);
     Ok(())
 }
+
+// A clear of a map without a table, of one with two pairs, and of one that has grown.
+#[test]
+fn clears(rt: HostRuntime) -> Result<(), Fail> {
+    let empty: HashMap<u64, u64> = HashMap::new(rt.alloc());
+    empty.clear(&rt);
+    same(&rt, empty.is_empty(&rt), true);
+    let map = two_pairs(&rt)?;
+    map.clear(&rt);
+    same(&rt, map.len(&rt), 0);
+    same(&rt, map.contains_key(&rt, &10), false);
+    for key in 0..1000 {
+        same(&rt, taken(map.insert(&rt, key, key)?), None);
+    }
+    map.clear(&rt);
+    same(&rt, map.is_empty(&rt), true);
+    for key in 0..1000 {
+        same(&rt, map.contains_key(&rt, &key), false);
+    }
+    Ok(())
+}

@@ -59,6 +59,54 @@ fn row_14(rt: HostRuntime) {
 }
 
 #[test]
+fn row_13(rt: HostRuntime) {
+    let lines = b"world 1 8\n\
+        begin insert 1 1\nstep 0 4\n\
+        begin insert 17 17\nstep 1 4\n\
+        begin walk\nstep 2 3\n\
+        begin remove 1\nstep 3 4\n\
+        begin insert 1 5\nstep 4 4\n\
+        step 2 17\n"
+        .as_slice();
+    let want = b"begin 0\nsilent 0\ndecide 0 none\nsilent 0\nreply 0 none\n\
+        begin 1\nsilent 1\ndecide 1 none\nsilent 1\nreply 1 none\n\
+        begin 2\nsilent 2\nsilent 2\nread 2 1 1\n\
+        begin 3\nsilent 3\ndecide 3 some 1\nsilent 3\nreply 3 some 1\n\
+        begin 4\nsilent 4\ndecide 4 none\nsilent 4\nreply 4 none\n\
+        read 2 17 17\n\
+        silent 2\nsilent 2\nsilent 2\nsilent 2\nsilent 2\nsilent 2\nsilent 2\nsilent 2\n\
+        silent 2\nsilent 2\nsilent 2\nsilent 2\nsilent 2\nsilent 2\nsilent 2\nend 2\n"
+        .as_slice();
+    answers(&rt, lines, 0, want)
+}
+
+#[test]
+fn row_18(rt: HostRuntime) {
+    let lines = b"world 2 32\n\
+        begin insert 50 50\nstep 0 4\n\
+        begin insert 2 2\nstep 1 4\n\
+        begin reserve 30\nstep 2 4\n\
+        begin clear\nstep 3 69\n\
+        begin get 2\nstep 4 3\n"
+        .as_slice();
+    let want = b"begin 0\nsilent 0\ndecide 0 none\nsilent 0\nreply 0 none\n\
+        begin 1\nsilent 1\ndecide 1 none\nsilent 1\nreply 1 none\n\
+        begin 2\nsilent 2\nplaced 7\nsilent 2\nmoved 6 63\n\
+        begin 3\nsilent 3\n\
+        wipe 3 6 0\nwipe 3 6 1\nwipe 3 6 2\nwipe 3 6 3\nwipe 3 6 4\nwipe 3 6 5\nwipe 3 6 6\nwipe 3 6 7\nwipe 3 6 8\n\
+        wipe 3 6 9\nwipe 3 6 10\nwipe 3 6 11\nwipe 3 6 12\nwipe 3 6 13\nwipe 3 6 14\nwipe 3 6 15\nwipe 3 6 16\nwipe 3 6 17\n\
+        wipe 3 6 18\nwipe 3 6 19\nwipe 3 6 20\nwipe 3 6 21\nwipe 3 6 22\nwipe 3 6 23\nwipe 3 6 24\nwipe 3 6 25\nwipe 3 6 26\n\
+        wipe 3 6 27\nwipe 3 6 28\nwipe 3 6 29\nwipe 3 6 30\nwipe 3 6 31\nwipe 3 6 32\nwipe 3 6 33\nwipe 3 6 34\nwipe 3 6 35\n\
+        wipe 3 6 36\nwipe 3 6 37\nwipe 3 6 38\nwipe 3 6 39\nwipe 3 6 40\nwipe 3 6 41\nwipe 3 6 42\nwipe 3 6 43\nwipe 3 6 44\n\
+        wipe 3 6 45\nwipe 3 6 46\nwipe 3 6 47\nwipe 3 6 48\nwipe 3 6 49\nwipe 3 6 50\nwipe 3 6 51\nwipe 3 6 52\nwipe 3 6 53\n\
+        wipe 3 6 54\nwipe 3 6 55\nwipe 3 6 56\nwipe 3 6 57\nwipe 3 6 58\nwipe 3 6 59\nwipe 3 6 60\nwipe 3 6 61\nwipe 3 6 62\n\
+        silent 3\nwipe 3 7 63\nwipe 3 7 127\nsilent 3\nend 3\n\
+        begin 4\nsilent 4\ndecide 4 none\nreply 4 none\n"
+        .as_slice();
+    answers(&rt, lines, 0, want)
+}
+
+#[test]
 fn try_and_remove(rt: HostRuntime) {
     let lines = b"world 1 1\n\
         begin try 3 4\nstep 0 4\n\
@@ -122,8 +170,8 @@ fn bad_lines(rt: HostRuntime) {
         b"step 0".as_slice(),
         b"step 0 100001".as_slice(),
         b"step 0 1 1".as_slice(),
-        b"begin clear".as_slice(),
-        b"begin walk".as_slice(),
+        b"begin clear 1".as_slice(),
+        b"begin walks".as_slice(),
         b"begin drop 0".as_slice(),
         b"begin get 07".as_slice(),
         b"begin get  7".as_slice(),

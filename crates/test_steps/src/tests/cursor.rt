@@ -1,8 +1,8 @@
 //! Cursors over all bins.
 
 use super::{same, same_at};
+use flurry_calls::Cursor;
 use flurry_model::sizes::GREATEST_TABLE;
-use flurry_steps::Cursor;
 use std::process::Abort;
 use std::sync::Arc;
 

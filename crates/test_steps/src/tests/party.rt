@@ -3,7 +3,8 @@
 //! A function that owns a call in progress lends it to another one and then drops it by name: where it is dropped at the end of a
 //! body, the proof goes through all that it can hold.
 ghost use Rattle.std.specs.Prelude.{◌≡◌, ⊤};
-ghost use Rattle.flurry_steps.specs.Party.{wanted_part, LookPart, BinPart, MovePart};
+ghost use Rattle.flurry_calls.specs.Part.{LookPart, BinPart, MovePart};
+ghost use Rattle.flurry_steps.specs.Party.{wanted_part};
 ghost use Rattle.flurry_steps.specs.PartyView.{CallIsReady};
 
 mod growth;

@@ -176,7 +176,7 @@ fn assert_trace<'k, F: ComputeFn<u64, u64> + Copy>(
 ) {
     same(rt, world.trace().len(), lines.len());
     for (label, line) in world.trace().iter().zip(lines) {
-        same(rt, line_of(rt, label), *line);
+        same(rt, line_of(label), *line);
     }
 }
 

@@ -9,12 +9,39 @@ use std::process::Abort;
 /// The keys that calls may have are the numbers below this one.
 pub(super) const KEYS: u64 = 32;
 
-// What is known of a party.
+// What is known of a party. Of sets of keys each key is a bit: those that were present after each label since it began, those that it
+// has read, and those that were absent after a label of its own.
 #[derive(Clone, Copy)]
 struct Known<F> {
     call: Call<u64, u64, F>,
     decided: Option<KeptReply<u64, u64>>,
     closed: bool,
+    stayed: u64,
+    read: u64,
+    lacked: u64,
+}
+
+// The party whose label it is, other than that of its beginning.
+fn party_of<F>(label: &Label<u64, u64, F>) -> Option<usize> {
+    match label {
+        Label::Decide(party, _)
+        | Label::Reply(party, _)
+        | Label::Refused(party)
+        | Label::Wipe(party, _, _)
+        | Label::Read(party, _, _)
+        | Label::End(party)
+        | Label::Silent(party) => Some(*party),
+        Label::Begin(_, _)
+        | Label::Opened(_)
+        | Label::Placed(_)
+        | Label::Moved(_, _)
+        | Label::Published(_) => None,
+    }
+}
+
+// The set of this key.
+fn set_of(key: u64) -> u64 {
+    1u64.wrapping_shl((key % 64) as u32)
 }
 
 // The key of a call of one key.
@@ -142,7 +169,33 @@ impl<F: ComputeFn<u64, u64> + Copy> Checker<F> {
                 "a party that began is silent",
             ),
             Label::Refused(_) => panic!(rt; "there is memory enough"),
-            Label::Wipe(_, _, _) | Label::Read(_, _, _) => panic!(rt; "no call clears or walks"),
+            Label::Wipe(party, table, index) => self.wipes(rt, *party, *table, *index),
+            Label::Read(party, key, value) => self.reads(rt, *party, *key, *value),
+        }
+        self.note_keys(party_of(label));
+    }
+
+    // The keys that are present.
+    fn present(&self) -> u64 {
+        let mut keys = 0u64;
+        for (key, value) in self.map.iter().enumerate() {
+            if value.is_some() {
+                keys |= set_of(key as u64);
+            }
+        }
+        keys
+    }
+
+    // Notes for each party which keys are present after a label, which is of that party.
+    fn note_keys(&mut self, named: Option<usize>) {
+        let present = self.present();
+        for known in self.parties.iter_mut() {
+            known.stayed &= present;
+        }
+        if let Some(party) = named {
+            if let Some(known) = self.parties.get_mut(party) {
+                known.lacked |= !present;
+            }
         }
     }
 
@@ -156,6 +209,9 @@ impl<F: ComputeFn<u64, u64> + Copy> Checker<F> {
             call,
             decided: None,
             closed: false,
+            stayed: self.present(),
+            read: 0,
+            lacked: 0,
         };
         self.parties.push(known).expect(rt, "memory for the party");
     }
@@ -192,15 +248,44 @@ impl<F: ComputeFn<u64, u64> + Copy> Checker<F> {
         known.closed = true;
     }
 
+    // A walk has read each key that stayed. Each of the few keys was absent after a label of a clear.
     fn ends(&mut self, rt: &impl Abort, party: usize) {
         let known = self.known(rt, party);
         ensure(rt, !known.closed, "a call ends once");
-        ensure(
-            rt,
-            matches!(&known.call, Call::Reserve(_)),
-            "a reserve ends",
-        );
         known.closed = true;
+        let few = set_of(KEYS).wrapping_sub(1);
+        let (stayed, read, lacked) = (known.stayed, known.read, known.lacked);
+        match &known.call {
+            Call::Reserve(_) => {}
+            Call::Walk => ensure(rt, stayed & !read == 0, "a walk reads what stays"),
+            Call::Clear => ensure(rt, few & !lacked == 0, "a clear sees each key absent"),
+            _ => panic!(rt; "a call of one key does not end"),
+        }
+    }
+
+    // Each key is its own hash.
+    fn wipes(&mut self, rt: &impl Abort, party: usize, table: u8, index: usize) {
+        let known = self.known(rt, party);
+        ensure(rt, !known.closed, "a clear that goes on wipes");
+        ensure(rt, matches!(&known.call, Call::Clear), "a clear wipes");
+        let bins = 1usize
+            .checked_shl(u32::from(table))
+            .expect(rt, "the table has at most 2^30 bins");
+        for (key, value) in self.map.iter_mut().enumerate() {
+            if key & bins.wrapping_sub(1) == index {
+                *value = None;
+            }
+        }
+    }
+
+    fn reads(&mut self, rt: &impl Abort, party: usize, key: u64, value: u64) {
+        let present = self.map.get(key as usize).copied().flatten();
+        ensure(rt, present == Some(value), "a walk reads what is there");
+        let known = self.known(rt, party);
+        ensure(rt, !known.closed, "a walk that goes on reads");
+        ensure(rt, matches!(&known.call, Call::Walk), "a walk reads");
+        ensure(rt, known.read & set_of(key) == 0, "a walk reads a key once");
+        known.read |= set_of(key);
     }
 
     fn opens(&mut self, rt: &impl Abort, table: u8) {

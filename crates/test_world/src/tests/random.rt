@@ -30,11 +30,11 @@ impl Random {
     }
 }
 
-// A call of one of the few keys, or a reserve of up to 64.
+// A call of one of the few keys, a reserve of up to 64, a clear or a walk.
 fn random_call<F: ComputeFn<u64, u64>>(random: &mut Random, change: F) -> OwnedCall<u64, u64, F> {
     let key = random.below(KEYS);
     let value = random.below(1000);
-    match random.below(16) {
+    match random.below(19) {
         0 | 1 => OwnedCall::Get(key),
         2 => OwnedCall::GetKeyValue(key),
         3 => OwnedCall::ContainsKey(key),
@@ -43,7 +43,9 @@ fn random_call<F: ComputeFn<u64, u64>>(random: &mut Random, change: F) -> OwnedC
         7 | 8 | 9 | 10 => OwnedCall::Insert(key, value),
         11 | 12 => OwnedCall::TryInsert(key, value),
         13 | 14 => OwnedCall::Compute(key, change),
-        _ => OwnedCall::Reserve(random.below(65) as usize),
+        15 => OwnedCall::Reserve(random.below(65) as usize),
+        16 => OwnedCall::Clear,
+        _ => OwnedCall::Walk,
     }
 }
 
@@ -207,7 +209,7 @@ fn random_schedules(rt: HostRuntime) {
         },
     );
     assert!(rt;
-        closed >= 20_000 && growths >= 300,
+        closed >= 15_000 && growths >= 300,
         "{closed} and {growths}"
     );
 }

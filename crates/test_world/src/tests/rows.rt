@@ -127,7 +127,7 @@ fn moves_range<'k, F: ComputeFn<u64, u64> + Copy>(
 // No growth was published.
 fn nothing_published<'k, F: ComputeFn<u64, u64> + Copy>(rt: &impl Abort, world: &Numbers<'k, F>) {
     for label in world.trace() {
-        let published = matches!(&line_of(rt, label), Line::Published(_));
+        let published = matches!(&line_of(label), Line::Published(_));
         same(rt, published, false);
     }
 }

@@ -1,4 +1,4 @@
-use Rattle.flurry_steps.specs.PartyView.{outcome_of}
+use Rattle.flurry_calls.specs.OutcomeView.{outcome_of}
 use Rattle.flurry_map.proofs.BeginLaws.{counted_at, done_by, goes_on}
 use Rattle.flurry_map.proofs.first.count.Goals as goal
 

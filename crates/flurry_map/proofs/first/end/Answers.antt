@@ -1,5 +1,5 @@
 use Rattle.flurry_drive.specs.Turns.{still}
-use Rattle.flurry_steps.specs.PartyView.{outcome_of}
+use Rattle.flurry_calls.specs.OutcomeView.{outcome_of}
 use Rattle.flurry_map.proofs.BeginLaws.{done_by}
 use Rattle.flurry_map.proofs.first.end.Goals as goal
 

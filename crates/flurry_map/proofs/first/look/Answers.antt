@@ -2,8 +2,10 @@ use Rattle.std.proofs.lemmas.Grind.{common_steps}
 use Rattle.std.proofs.Common.{◌≡◌, ◌%◌, ◌^◌, ◌≤◌, arith, rules}
 use Rattle.flurry_model.specs.declared.sizes.TheConstants.{GREATEST_TABLE}
 use Rattle.flurry_steps.specs.FirstSteps.{begun_at}
-use Rattle.flurry_steps.specs.Party.{LookPart, wanted_part}
-use Rattle.flurry_steps.specs.PartyView.{first_stage, outcome_of}
+use Rattle.flurry_calls.specs.Part.{LookPart}
+use Rattle.flurry_steps.specs.Party.{wanted_part}
+use Rattle.flurry_calls.specs.OutcomeView.{outcome_of}
+use Rattle.flurry_steps.specs.PartyView.{first_stage}
 use Rattle.flurry_map.proofs.BeginLaws.{look_locates, look_wants, look_begun, done_by}
 use Rattle.flurry_map.proofs.first.look.Goals as goal
 

@@ -1,4 +1,4 @@
-use Rattle.flurry_steps.specs.PartyView.{outcome_of}
+use Rattle.flurry_calls.specs.OutcomeView.{outcome_of}
 use Rattle.flurry_map.proofs.BeginLaws.{goes_on}
 use Rattle.flurry_map.proofs.first.write.Goals as goal
 

@@ -2,7 +2,8 @@ use Rattle.std.proofs.lemmas.Grind.{common_steps}
 use Rattle.std.proofs.Common.{◌≡◌, ◌%◌, ◌^◌, ◌≤◌, arith, rules}
 use Rattle.flurry_model.specs.declared.sizes.TheConstants.{GREATEST_TABLE}
 use Rattle.flurry_steps.specs.FirstSteps.{begun_at}
-use Rattle.flurry_steps.specs.Party.{BinPart, wanted_part}
+use Rattle.flurry_calls.specs.Part.{BinPart}
+use Rattle.flurry_steps.specs.Party.{wanted_part}
 use Rattle.flurry_steps.specs.PartyView.{first_stage}
 use Rattle.flurry_map.proofs.BeginLaws.{write_locates, write_wants, write_begun}
 use Rattle.flurry_map.proofs.first.write_bin.Goals as goal

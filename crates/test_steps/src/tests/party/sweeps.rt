@@ -1,14 +1,16 @@
 //! Walks and clears, between the steps of other calls.
 ghost use Rattle.std.specs.Prelude.{◌≡◌};
-ghost use Rattle.flurry_steps.specs.Party.{LookPart, BinPart};
-ghost use Rattle.flurry_sweeps.specs.Sweep.{swept_part};
+ghost use Rattle.flurry_calls.specs.Part.{LookPart, BinPart};
+ghost use Rattle.flurry_calls.specs.Sweep.{swept_part};
 
 use super::super::{same, same_at};
-use super::{Map, Told, call, empty_map, insert, lent, moves_the_last_bin, plain};
+use super::{
+    Map, Told, call, empty_map, end, goes_on, insert, lent, moves_the_last_bin, plain,
+};
+use flurry_calls::Sweep;
 use flurry_model::reply::KeptReply;
 use flurry_slots::{ComputeFn, NoFn, Slot};
-use flurry_steps::party::{Call, Party, Want};
-use flurry_sweeps::{Sweep, SweepEvent};
+use flurry_steps::party::{Call, Event, Party, Want};
 use std::process::Abort;
 
 // The step of a walk that wants to read this slot.
@@ -18,7 +20,7 @@ fn look(
     map: &mut Map,
     table: u8,
     index: usize,
-) -> SweepEvent
+) -> Event
     requires { swept_part walk.old ≡ LookPart table index }
 {
     let slot = lent(rt, map, table, index);
@@ -34,7 +36,7 @@ fn wipe(
     map: &mut Map,
     table: u8,
     index: usize,
-) -> SweepEvent
+) -> Event
     requires { swept_part clear.old ≡ BinPart table index }
 {
     let mut slot = lent(rt, map, table, index);
@@ -44,7 +46,7 @@ fn wipe(
 }
 
 // The next step, at the part that the call wants.
-fn step(rt: &impl Abort, sweep: &mut Sweep<u64, u64>, map: &mut Map) -> SweepEvent {
+fn step(rt: &impl Abort, sweep: &mut Sweep<u64, u64>, map: &mut Map) -> Event {
     match sweep.want() {
         Want::Control => sweep.on_control(&mut map.control),
         Want::Look(table, index) => look(rt, sweep, map, table, index),
@@ -56,13 +58,13 @@ fn step(rt: &impl Abort, sweep: &mut Sweep<u64, u64>, map: &mut Map) -> SweepEve
 // So many steps, in which nothing is read or wiped.
 fn silent(rt: &impl Abort, sweep: &mut Sweep<u64, u64>, map: &mut Map, count: u64) {
     for at in 0..count {
-        same_at(rt, at, step(rt, sweep, map), SweepEvent::Silent);
+        same_at(rt, at, step(rt, sweep, map), Event::Silent);
     }
 }
 
 // A step that reads this pair.
 fn reads(rt: &impl Abort, walk: &mut Sweep<u64, u64>, map: &mut Map, key: u64, value: u64) {
-    same(rt, step(rt, walk, map), SweepEvent::Read);
+    same(rt, step(rt, walk, map), Event::Read);
     same(rt, walk.last_read(), Some((&key, &value)));
 }
 
@@ -177,7 +179,7 @@ fn a_walk_sets_out_from_a_published_table(rt: HostRuntime) {
     same(&rt, walk.sets_out(), true);
     let start = map.control.start().expect(&rt, "there is a table");
     assert!(&rt; walk.sets_out());
-    same(&rt, walk.on_start(&start), SweepEvent::Silent);
+    same(&rt, walk.on_start(&start), Event::Silent);
     same(&rt, walk.sets_out(), false);
     same(&rt, walk.want(), Want::Look(4, 0));
     silent(&rt, &mut walk, &mut map, 1);
@@ -203,12 +205,7 @@ fn an_unborn_bin_is_met_again(rt: HostRuntime) {
 // Steps of a clear that wipe the bins of that table from the first on.
 fn wipes(rt: &impl Abort, clear: &mut Sweep<u64, u64>, map: &mut Map, table: u8, bins: &[usize]) {
     for at in 0..bins.len() {
-        same_at(
-            rt,
-            at,
-            step(rt, clear, map),
-            SweepEvent::Wipe(table, bins[at]),
-        );
+        same_at(rt, at, step(rt, clear, map), Event::Wipe(table, bins[at]));
     }
 }
 
@@ -240,5 +237,53 @@ fn a_clear_beside_a_growth_wipes_every_bin(rt: HostRuntime) {
     has_ended(&rt, &mut clear);
     same(&rt, map.control.len(), 0);
     let (_, reply) = call(&rt, &mut map, 2, Call::Get(&2));
+    same(&rt, reply, Told::Key(KeptReply::Value(None)));
+}
+
+// A walk as a party, which has read key 1.
+fn reads_one<'k, F: ComputeFn<u64, u64>>(
+    rt: &(impl Abort + AllocGlobal),
+    walk: &mut Party<'k, u64, u64, F>,
+    map: &mut Map,
+) {
+    same(rt, walk.last_read().is_none(), true);
+    goes_on(
+        rt,
+        walk,
+        map,
+        3,
+        &[Event::Silent, Event::Silent, Event::Read],
+    );
+    same(rt, walk.last_read(), Some((&1, &0)));
+    let seen = walk.seen().expect(rt, "a further owner");
+    let seen = seen.expect(rt, "a pair was read");
+    same(rt, (seen.key(), seen.value()), (&1, &0));
+}
+
+// It goes on to its end, and keeps what it read last.
+fn walks_as_a_party<F: ComputeFn<u64, u64>>(rt: &(impl Abort + AllocGlobal), map: &mut Map) {
+    let mut walk: Party<'_, u64, u64, F> = Party::new(Call::Walk, 0, 1);
+    reads_one(rt, &mut walk, map);
+    let (events, reply) = end(rt, &mut walk, map);
+    same(rt, events.len(), 16);
+    same(rt, reply, Told::Ended);
+    same(rt, walk.last_read(), Some((&17, &0)));
+    drop(walk);
+}
+
+#[test]
+fn a_walk_is_a_party(rt: HostRuntime) {
+    let mut map = one_and_seventeen(&rt);
+    walks_as_a_party::<NoFn>(&rt, &mut map);
+}
+
+#[test]
+fn a_clear_is_a_party(rt: HostRuntime) {
+    let mut map = one_and_seventeen(&rt);
+    let (events, reply) = call(&rt, &mut map, 0, Call::Clear);
+    same(&rt, events.len(), 18);
+    same(&rt, reply, Told::Ended);
+    same(&rt, map.control.len(), 0);
+    let (_, reply) = call(&rt, &mut map, 17, Call::Get(&17));
     same(&rt, reply, Told::Key(KeptReply::Value(None)));
 }

@@ -1,9 +1,10 @@
 use Rattle.std.proofs.Common.{ℕ, Option, refl}
 use Rattle.std.specs.declared.cmp.Ordering.{Ordering}
 use Rattle.flurry_slots.specs.Slot.{Content, IsLive, HasMoved, IsUnborn, IfLive, ComputesInVain}
-use Rattle.flurry_steps.specs.Party.{Computes, AtDone, OutcomeRefused}
+use Rattle.flurry_calls.specs.Outcome.{OutcomeRefused}
+use Rattle.flurry_steps.specs.Party.{Computes, AtDone}
 use Rattle.flurry_steps.specs.PartySlots.{ContentGives}
-use Rattle.flurry_steps.specs.declared.party.Event.TheVariants.{Refused}
+use Rattle.flurry_calls.specs.declared.step.Event.TheVariants.{Refused}
 use Rattle.flurry_steps.proofs.party.at_slot.compute.Goals as goal
 
 -- a computation in vain is refused

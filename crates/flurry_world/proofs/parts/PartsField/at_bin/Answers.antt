@@ -1,4 +1,4 @@
-use Rattle.flurry_steps.specs.Party.{BinPart}
+use Rattle.flurry_calls.specs.Part.{BinPart}
 use Rattle.flurry_world.proofs.PartsLaws.{turn_of}
 use Rattle.flurry_world.proofs.parts.PartsField.at_bin.Goals as goal
 

@@ -1,5 +1,5 @@
 use Rattle.std.proofs.Common.{refl}
-use Rattle.flurry_steps.specs.Party.{LookPart}
+use Rattle.flurry_calls.specs.Part.{LookPart}
 use Rattle.flurry_world.proofs.PartsLaws.{turn_of}
 use Rattle.flurry_world.proofs.parts.PartsField.at_look.Goals as goal
 

@@ -1,0 +1,6 @@
+use Rattle.std.proofs.Common.{rules}
+use Rattle.flurry_calls.proofs.Cursors.{few_below}
+use Rattle.flurry_calls.proofs.cursor.Cursor.split.Goals as goal
+
+pub push-requires : goal.push-requires
+push-requires g c = search (rules, few_below)

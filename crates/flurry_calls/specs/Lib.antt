@@ -1,0 +1,12 @@
+pub mod Stack
+pub mod Part
+pub mod PartView
+pub mod Outcome
+pub mod OutcomeView
+pub mod Cursor
+pub mod FrameView
+pub mod FramesView
+pub mod CursorView
+pub mod Sweep
+pub mod SweepView
+pub mod SeenView

@@ -1,0 +1,140 @@
+//! Where a call stands that goes over all bins.
+ghost use Rattle.std.specs.Prelude.{◌≡◌, ◌<◌, ◌≤◌, IsSome, OnOk, OnErr, MatchOption, false, true};
+ghost use Rattle.std.specs.Option.{option_map};
+ghost use Rattle.std.specs.Arc.{arc_value};
+ghost use Rattle.flurry_calls.specs.Cursor.{at_base, with_top, with_bound, halved, after_top};
+ghost use Rattle.flurry_model.specs.declared.sizes.TheConstants.{GREATEST_TABLE};
+
+use crate::frames::{Frame, Frames};
+use std::alloc::{AllocError, Allocator, Global};
+use std::marker::Model;
+use std::mem;
+use std::sync::Arc;
+
+/// Where a call stands that goes over all bins of a map, of which other calls may move any at any time.
+///
+/// It goes over the bins of its base table one after another. One that has moved is left for its two halves in the next table, and so
+/// on, so that each hash is met once. At most 32 frames stand: the one that is gone over now, and below it at most one of each table. A
+/// cursor takes no memory but for further owners of the keys that are its bounds.
+#[derive(Drop)]
+pub struct Cursor<K, A: Allocator = Global> {
+    base: u8,
+    index: usize,
+    top: Frame<K, A>,
+    below: Frames<K, A>,
+}
+
+impl<K, A: Allocator> Model for Cursor<K, A> {
+    ghost use Rattle.flurry_calls.specs.Cursor.{CursorState, IsCursor};
+    ghost use Rattle.flurry_calls.specs.CursorView.{cursor_state_of};
+
+    ghost Value = { CursorState K };
+
+    ghost view = { cursor_state_of };
+
+    ghost invariant = { λ c. IsCursor (cursor_state_of c) };
+}
+
+impl<K: Drop, A: Allocator> Cursor<K, A> {
+    /// A cursor at the first bin of that table, which is to go over all of them.
+    ///
+    /// Constant time; takes no memory.
+    pub fn new(base: u8) -> Self
+        requires { base ≤ GREATEST_TABLE }
+        ensures { result ≡ at_base base 0 }
+    {
+        Cursor {
+            base,
+            index: 0,
+            top: Frame {
+                table: base,
+                index: 0,
+                bound: None,
+            },
+            below: Frames::new(),
+        }
+    }
+
+    /// The table and the index of the bin that is gone over now.
+    ///
+    /// Constant time.
+    pub fn at(&self) -> (u8, usize)
+        ensures { (result.0 ≡ self.now.top.table) × (result.1 ≡ self.now.top.index) }
+    {
+        (self.top.table, self.top.index)
+    }
+
+    /// The hash and the key past which the rest of that bin lies; none where all of it is left.
+    ///
+    /// Constant time.
+    pub fn bound(&self) -> Option<(u64, &K)>
+        ensures { option_map (λ b. (b.0, b.1.now)) result ≡ self.now.top.bound }
+    {
+        match &self.top.bound {
+            Some((hash, key)) => Some((*hash, &**key)),
+            None => None,
+        }
+    }
+
+    /// Goes on past that hash and key in the same bin.
+    ///
+    /// Constant time.
+    pub fn pass(&mut self, hash: u64, key: Arc<K, A>)
+        ensures { self.new ≡ with_top self.old (with_bound self.old.top (hash, arc_value key)) }
+    {
+        drop(mem::replace(&mut self.top.bound, Some((hash, key))));
+    }
+
+    /// Leaves a bin that has moved for its two halves, of which the low one comes first.
+    ///
+    /// Constant time; takes no memory but for a further owner of the key of the bound.
+    ///
+    /// # Errors
+    ///
+    /// [`AllocError`], where that owner is refused; the cursor is then as it was. Without a bound nothing is refused.
+    pub fn split(&mut self) -> Result<(), AllocError>
+        requires { self.old.top.table < GREATEST_TABLE }
+        ensures ok { OnOk result (self.new ≡ halved self.old) }
+        ensures err { OnErr result ((self.new ≡ self.old) × IsSome self.old.top.bound) }
+    {
+        let bound = match &self.top.bound {
+            Some((hash, key)) => Some((*hash, Arc::try_clone(key)?)),
+            None => None,
+        };
+        let table = self.top.table;
+        self.below.push(Frame {
+            table: table + 1,
+            index: self.top.index + (1 << table),
+            bound,
+        });
+        self.top.table = table + 1;
+        Ok(())
+    }
+
+    /// Leaves a bin that is done, for the frame below it or else for the next bin of the base table. Answers false where there is
+    /// none; the cursor is then as it was.
+    ///
+    /// Constant time.
+    pub fn leave(&mut self) -> bool
+        ensures { MatchOption (after_top self.old) ((result ≡ false) × (self.new ≡ self.old))
+            (λ c. (result ≡ true) × (self.new ≡ c)) }
+    {
+        let next = match self.below.pop() {
+            Some(frame) => frame,
+            None => {
+                let index = self.index + 1;
+                if index >= 1 << self.base {
+                    return false;
+                }
+                self.index = index;
+                Frame {
+                    table: self.base,
+                    index,
+                    bound: None,
+                }
+            }
+        };
+        drop(mem::replace(&mut self.top, next));
+        true
+    }
+}

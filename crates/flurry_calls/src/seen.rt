@@ -1,0 +1,78 @@
+//! What a walk has read.
+ghost use Rattle.std.specs.Prelude.{◌≡◌, IfOk};
+ghost use Rattle.flurry_bins.specs.PlainEntries.{numbered_pair};
+ghost use Rattle.flurry_calls.specs.Sweep.{seen_at};
+
+use flurry_bins::bin::Entry;
+use std::alloc::{AllocError, Allocator, Global};
+use std::marker::Model;
+use std::sync::Arc;
+
+/// A pair that a walk has read, with the write number of its value. A walk's read alone makes one.
+#[derive(Drop)]
+pub struct Seen<K, V, A: Allocator = Global> {
+    key: Arc<K, A>,
+    value: Arc<V, A>,
+    number: u64,
+}
+
+impl<K, V, A: Allocator> Model for Seen<K, V, A> {
+    ghost use Rattle.flurry_model.specs.declared.call.Seen.{Seen};
+    ghost use Rattle.flurry_calls.specs.SeenView.{seen_of};
+
+    ghost Value = { Seen K V };
+
+    ghost view = { seen_of };
+}
+
+impl<K: Drop, V: Drop, A: Allocator> Seen<K, V, A> {
+    // What a walk knows of an entry that it reads.
+    pub(crate) fn of(entry: &Entry<K, V, A>) -> Result<Self, AllocError>
+        ensures { IfOk result (λ s. s ≡ seen_at (numbered_pair entry.now)) }
+    {
+        let key = Arc::try_clone(&entry.key)?;
+        let value = Arc::try_clone(&entry.value)?;
+        Ok(Seen {
+            key,
+            value,
+            number: entry.number,
+        })
+    }
+
+    /// The stored key.
+    ///
+    /// Constant time.
+    pub fn key(&self) -> &K
+        ensures { result.now ≡ self.now.key }
+    {
+        &self.key
+    }
+
+    /// The value.
+    ///
+    /// Constant time.
+    pub fn value(&self) -> &V
+        ensures { result.now ≡ self.now.value }
+    {
+        &self.value
+    }
+
+    /// A further one of the same pair.
+    ///
+    /// Constant time; takes no memory but for further owners of the key and the value.
+    ///
+    /// # Errors
+    ///
+    /// [`AllocError`], where such an owner is refused.
+    pub fn try_clone(&self) -> Result<Self, AllocError>
+        ensures { IfOk result (λ s. s ≡ self.now) }
+    {
+        let key = Arc::try_clone(&self.key)?;
+        let value = Arc::try_clone(&self.value)?;
+        Ok(Seen {
+            key,
+            value,
+            number: self.number,
+        })
+    }
+}

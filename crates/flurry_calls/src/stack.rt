@@ -1,0 +1,112 @@
+//! A stack of a few places that lies in its owner, for items whose size is the owner's to choose.
+ghost use Rattle.std.specs.Prelude.{◌≡◌, ◌<◌, ◌+◌, ℕ, List, [], ◌∷◌, length, MatchOption, true, false};
+
+use std::mem;
+
+/// A stack of so many places at most. An array would do, but each function that is lent one of items of an unknown size has to know that
+/// it fits into memory; two halves fit as two fields do.
+pub(crate) trait Stack<T: Drop> {
+    /// The items, the newest first.
+    ghost items: { Self → List T };
+
+    /// How many places there are.
+    ghost places: { ℕ };
+
+    /// The older half is full before the newer one is begun, and neither has more items than places.
+    ghost fills_up: { Self → Type 0 };
+
+    /// A stack without an item.
+    fn empty() -> Self
+        ensures items { items result ≡ [] }
+        ensures fills_up { fills_up result };
+
+    /// Whether each place is taken.
+    fn is_full(&self) -> bool
+        requires { fills_up self.now }
+        ensures yes { result ≡ true → length (items self.now) ≡ places }
+        ensures no { result ≡ false → length (items self.now) < places };
+
+    /// Puts an item on top.
+    fn push(&mut self, item: T)
+        requires room { length (items self.old) < places }
+        requires fills_up { fills_up self.old }
+        ensures items { items self.new ≡ item ∷ items self.old }
+        ensures fills_up { fills_up self.new };
+
+    /// Takes the item on top.
+    fn pop(&mut self) -> Option<T>
+        requires { fills_up self.old }
+        ensures items { MatchOption result ((items self.old ≡ []) × (self.new ≡ self.old)) (λ x. items self.old ≡ x ∷ items self.new) }
+        ensures fills_up { fills_up self.new };
+}
+
+/// One place.
+impl<T: Drop> Stack<T> for Option<T> {
+    ghost use Rattle.std.specs.Prelude.{⊤};
+    ghost use Rattle.flurry_calls.specs.Stack.{place_items};
+
+    ghost items = { place_items };
+
+    ghost places = { 1 };
+
+    ghost fills_up = { λ _. ⊤ };
+
+    fn empty() -> Self {
+        None
+    }
+
+    fn is_full(&self) -> bool {
+        self.is_some()
+    }
+
+    fn push(&mut self, item: T) {
+        drop(mem::replace(self, Some(item)));
+    }
+
+    fn pop(&mut self) -> Option<T> {
+        mem::take(self)
+    }
+}
+
+/// Twice as many places.
+#[derive(Drop)]
+pub(crate) struct Twice<S> {
+    older: S,
+    newer: S,
+}
+
+impl<T: Drop, S: Stack<T>> Stack<T> for Twice<S> {
+    ghost use Rattle.flurry_calls.specs.Stack.{twice_items, TwiceFillsUp};
+
+    ghost items = { twice_items S.items };
+
+    ghost places = { S.places + S.places };
+
+    ghost fills_up = { TwiceFillsUp S.items S.places S.fills_up };
+
+    fn empty() -> Self {
+        Twice {
+            older: S::empty(),
+            newer: S::empty(),
+        }
+    }
+
+    fn is_full(&self) -> bool {
+        self.older.is_full() && self.newer.is_full()
+    }
+
+    fn push(&mut self, item: T) {
+        if self.older.is_full() {
+            self.newer.push(item);
+            return;
+        }
+        self.older.push(item);
+    }
+
+    fn pop(&mut self) -> Option<T> {
+        match self.newer.pop() {
+            Some(item) => Some(item),
+            None => self.older.pop(),
+        }
+    }
+}

@@ -1,0 +1,94 @@
+//! The steps of a sweep at a bin.
+ghost use Rattle.std.specs.Prelude.{◌≡◌, Ok, OnOk, OnErr};
+ghost use Rattle.std.specs.Arc.{arc_value};
+ghost use Rattle.flurry_bins.specs.PlainEntries.{numbered_pair};
+ghost use Rattle.flurry_slots.specs.Slot.{IsSlot};
+ghost use Rattle.flurry_calls.specs.Cursor.{with_top, with_bound};
+ghost use Rattle.flurry_calls.specs.Sweep.{HasNoBound, Wipes, WalkGives, ClearGives, seen_at};
+ghost use Rattle.flurry_calls.specs.SweepView.{walked_to, cleared_to};
+
+use crate::cursor::Cursor;
+use crate::reply::Reply;
+use crate::seen::Seen;
+use crate::step::Event;
+use flurry_bins::bin::Entry;
+use flurry_slots::{Answer, Slot};
+use std::alloc::{AllocError, Allocator};
+use std::mem;
+use std::sync::Arc;
+
+// Reads an entry, past which the cursor goes on.
+fn read<K: Drop, V: Drop, A: Allocator>(
+    cursor: &mut Cursor<K, A>,
+    entry: &Entry<K, V, A>,
+) -> Result<Seen<K, V, A>, AllocError>
+    ensures seen { OnOk result (result ≡ Ok (seen_at (numbered_pair entry.now))) }
+    ensures ok { OnOk result (cursor.new ≡ with_top cursor.old (with_bound cursor.old.top (entry.now.hash, arc_value entry.now.key))) }
+    ensures err { OnErr result (cursor.new ≡ cursor.old) }
+{
+    let seen = Seen::of(entry)?;
+    cursor.pass(entry.hash, Arc::try_clone(&entry.key)?);
+    Ok(seen)
+}
+
+// The step of a walk, and its reply where it has ended.
+pub(super) fn step_walk<K: Ord + Drop, V: Drop, A: Allocator>(
+    cursor: &mut Cursor<K, A>,
+    last: &mut Option<Seen<K, V, A>>,
+    slot: &Slot<K, V, A>,
+) -> (Option<Reply<K, V, A>>, Event)
+    requires { slot.now.table ≡ cursor.old.top.table }
+    ensures within { IsSlot K.cmp slot.now }
+    ensures step { WalkGives K.cmp cursor.old slot.now.content last.old result.1 (walked_to cursor.new result.0) last.new }
+{
+    match slot.next_after(cursor.bound()) {
+        Answer::Here(Some(entry)) => match read(cursor, entry) {
+            Ok(seen) => {
+                drop(mem::replace(last, Some(seen)));
+                (None, Event::Read)
+            }
+            Err(_) => (Some(Reply::Refused), Event::Refused),
+        },
+        Answer::Here(None) => {
+            if cursor.leave() {
+                (None, Event::Silent)
+            } else {
+                (Some(Reply::Ended), Event::Silent)
+            }
+        }
+        Answer::Moved(()) => match cursor.split() {
+            Ok(()) => (None, Event::Silent),
+            Err(_) => (Some(Reply::Refused), Event::Refused),
+        },
+        Answer::Unborn(()) => (None, Event::Silent),
+    }
+}
+
+// The step of a clear that has wiped so many pairs, and whether it goes on.
+pub(super) fn step_clear<K: Ord + Drop, V: Drop, A: Allocator>(
+    cursor: &mut Cursor<K, A>,
+    wiped: &mut usize,
+    slot: &mut Slot<K, V, A>,
+) -> (bool, Event)
+    requires table { slot.old.table ≡ cursor.old.top.table }
+    requires whole { HasNoBound cursor.old }
+    ensures within { IsSlot K.cmp slot.old }
+    ensures whole { HasNoBound cursor.new }
+    ensures table { slot.new.table ≡ slot.old.table }
+    ensures index { slot.new.index ≡ slot.old.index }
+    ensures step { ClearGives wiped.old cursor.old slot.old.content result.1 (Wipes wiped.new)
+        (cleared_to cursor.new result.0) slot.new.content }
+{
+    match slot.wipe() {
+        Answer::Here(pairs) => {
+            let (table, index) = cursor.at();
+            *wiped = wiped.saturating_add(pairs);
+            (cursor.leave(), Event::Wipe(table, index))
+        }
+        Answer::Moved(()) => match cursor.split() {
+            Ok(()) => (true, Event::Silent),
+            Err(_) => unreachable!(),
+        },
+        Answer::Unborn(()) => (true, Event::Silent),
+    }
+}

@@ -1,0 +1,50 @@
+-- A call that does not go over all bins.
+use Rattle.std.specs.Prelude.{◌≡◌, ℕ, None}
+use Rattle.std.proofs.Common.{refl}
+use Rattle.flurry_calls.specs.Part.{Part, ControlPart, LookPart, BinPart, MovePart, NoPart}
+use Rattle.flurry_calls.specs.Sweep.{Errand, Reads, Wipes, SweepStage, AtOutset, OverBins, AtTotal, AtEnd, AfterEnd, part_at}
+use Rattle.flurry_calls.specs.Outcome.{Outcome}
+use Rattle.flurry_calls.specs.declared.reply.Reply.{Reply}
+use Rattle.flurry_steps.specs.Party.{AtDone, last_seen}
+use Rattle.flurry_steps.specs.PartyView.{stage_of}
+use Rattle.flurry_steps.specs.declared.party.stage.Stage.{Stage}
+use Rattle.flurry_steps.specs.declared.party.stage.Stage.TheVariants as stage
+
+-- it has read nothing as a walk does
+pub none_read : {K V F A : Type 0} (s : Stage K V F A) → None ≡ last_seen (stage_of s)
+none_read (stage.Locate t) = refl
+none_read (stage.Bin t e) = refl
+none_read (stage.Claim a) = refl
+none_read (stage.Move c a) = refl
+none_read (stage.Uncount r) = refl
+none_read (stage.Count r) = refl
+none_read (stage.Recount r) = refl
+none_read (stage.Begin e r) = refl
+none_read (stage.Grow w g) = refl
+none_read (stage.Reserve a) = refl
+none_read (stage.Done r) = refl
+none_read stage.Taken = refl
+
+-- and it alone moves bins
+pub no_move : {K V : Type 0} (w : Errand) (s : SweepStage K V) (e i : ℕ) → part_at w s ≡ MovePart e i → ⊥
+no_move w AtOutset e i same = let clash : ControlPart ≡ MovePart e i = same in cc
+no_move Reads (OverBins c) e i same = let clash : LookPart c.top.table c.top.index ≡ MovePart e i = same in cc
+no_move (Wipes n) (OverBins c) e i same = let clash : BinPart c.top.table c.top.index ≡ MovePart e i = same in cc
+no_move w AtTotal e i same = let clash : ControlPart ≡ MovePart e i = same in cc
+no_move w (AtEnd r) e i same = let clash : NoPart ≡ MovePart e i = same in cc
+no_move w AfterEnd e i same = let clash : NoPart ≡ MovePart e i = same in cc
+
+-- a stage that is seen as done is so
+pub not_done : {K V F A : Type 0} (s : Stage K V F A) → ((r : Reply K V A) → s ≡ stage.Done r → ⊥) → (o : Outcome K V) → stage_of s ≡ AtDone o → ⊥
+not_done (stage.Locate t) other o e = cc
+not_done (stage.Bin t n) other o e = cc
+not_done (stage.Claim a) other o e = cc
+not_done (stage.Move c a) other o e = cc
+not_done (stage.Uncount r) other o e = cc
+not_done (stage.Count r) other o e = cc
+not_done (stage.Recount r) other o e = cc
+not_done (stage.Begin n r) other o e = cc
+not_done (stage.Grow w g) other o e = cc
+not_done (stage.Reserve a) other o e = cc
+not_done (stage.Done r) other o e = other r refl
+not_done stage.Taken other o e = cc

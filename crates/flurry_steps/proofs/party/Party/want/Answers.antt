@@ -1,5 +1,0 @@
-use Rattle.std.proofs.Common.{rules}
-use Rattle.flurry_steps.proofs.party.Party.want.Goals as goal
-
-pub returns-in_default-task : goal.returns-in_default-task
-returns-in_default-task g c = search rules

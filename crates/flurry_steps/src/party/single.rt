@@ -1,0 +1,284 @@
+//! A call in progress of one key, or one that makes room.
+ghost use Rattle.std.specs.Prelude.{◌≡◌, ◌<◌, ◌≤◌, ◌⊎◌, IfNone, IfSome, true};
+ghost use Rattle.std.specs.Option.{option_map, option_copied};
+ghost use Rattle.flurry_slots.specs.Slot.{IsSlot, IsUnborn};
+ghost use Rattle.flurry_calls.specs.Part.{LookPart, BinPart, MovePart, ControlPart};
+ghost use Rattle.flurry_calls.specs.PartView.{part_of_want};
+ghost use Rattle.flurry_calls.specs.OutcomeView.{outcome_of};
+ghost use Rattle.flurry_calls.specs.Sweep.{pair_seen};
+ghost use Rattle.flurry_steps.specs.Party.{locates, started_stage, taken_stage, wanted_part, with_stage, outcome_in, final_outcome, last_seen, steps_left, LooksUp, AtLocate, AtReserve, TaskIsReady};
+ghost use Rattle.flurry_steps.specs.PartyControl.{ControlStep};
+ghost use Rattle.flurry_steps.specs.PartySlots.{SlotStep, MoveStep};
+ghost use Rattle.flurry_steps.specs.PartyTally.{TallyStep, counts};
+ghost use Rattle.flurry_steps.specs.PartyView.{task_of};
+ghost use Rattle.flurry_model.specs.declared.sizes.TheConstants.{GREATEST_TABLE};
+
+use super::at_control::step_control;
+use super::at_slot::{step_lookup, step_write};
+use super::at_tally::step_tally;
+use super::call::Task;
+use super::stage::{GrowFor, Resume, Stage};
+use super::{Event, Reply, Want};
+use flurry_calls::Seen;
+use flurry_control::{Control, PublishedTable, Room, Tally};
+use flurry_model::sizes::bin_index;
+use flurry_slots::{ComputeFn, MoveAnswer, Slot};
+use std::alloc::Allocator;
+use std::marker::Model;
+use std::mem;
+
+// A call in progress that does not go over all bins: one of one key, or one that makes room.
+#[derive(Drop)]
+pub(crate) struct Single<'k, K, V, F: ComputeFn<K, V>, A: Allocator> {
+    pub(super) hash: u64,
+    pub(super) processors: usize,
+    // A stage is put in its place by `mem::replace`, and the one before goes to `drop`: at an assignment the proof would go through all
+    // that a stage can hold.
+    pub(super) stage: Stage<'k, K, V, F, A>,
+}
+
+impl<'k, K, V, F: ComputeFn<K, V>, A: Allocator> Model for Single<'k, K, V, F, A> {
+    ghost use Rattle.flurry_steps.specs.Party.{PartyState, StageIsReady};
+    ghost use Rattle.flurry_steps.specs.PartyView.{single_state_of, stage_of};
+
+    ghost Value = { PartyState K V F };
+
+    ghost view = { single_state_of };
+
+    ghost invariant = { λ p. StageIsReady F.can_change (stage_of p.stage) };
+}
+
+impl<'k, K: Drop, V: Drop, F: ComputeFn<K, V>, A: Allocator> Single<'k, K, V, F, A> {
+    // One of one key, before its first step.
+    pub(super) fn of_task(task: Task<'k, K, V, F>, hash: u64, processors: usize) -> Self
+        requires { TaskIsReady F.can_change (task_of task) }
+        ensures { result ≡ record { hash = hash; processors = processors; stage = AtLocate (task_of task.entry) } }
+    {
+        Single {
+            hash,
+            processors,
+            stage: Stage::Locate(task),
+        }
+    }
+
+    // One that makes room for so many pairs more, before its first step.
+    pub(super) fn of_reserve(more: usize, hash: u64, processors: usize) -> Self
+        ensures { result ≡ record { hash = hash; processors = processors; stage = AtReserve more } }
+    {
+        Single {
+            hash,
+            processors,
+            stage: Stage::Reserve(more),
+        }
+    }
+
+    // The part that the next step needs.
+    #[inline]
+    pub(super) fn want(&self) -> Want
+        ensures { part_of_want result ≡ wanted_part self.now }
+    {
+        match &self.stage {
+            Stage::Bin(task, table) => {
+                let index = bin_index(self.hash, *table);
+                match task {
+                    Task::Find(_, _) => Want::Look(*table, index),
+                    _ => Want::Bin(*table, index),
+                }
+            }
+            Stage::Move(claim, _) => match claim.next() {
+                Some((table, index)) => Want::Move(table, index),
+                None => Want::Control,
+            },
+            Stage::Done(_) | Stage::Taken => Want::Done,
+            _ => Want::Control,
+        }
+    }
+
+    // The reply, from the decision or the end on until it is taken.
+    pub(super) fn reply(&self) -> Option<&Reply<K, V, A>>
+        ensures { option_map outcome_of (option_copied result) ≡ outcome_in self.now.stage }
+    {
+        match &self.stage {
+            Stage::Done(reply)
+            | Stage::Uncount(reply)
+            | Stage::Count(reply)
+            | Stage::Recount(reply)
+            | Stage::Begin(_, reply)
+            | Stage::Claim(Resume::Recount(reply))
+            | Stage::Claim(Resume::Grow(_, GrowFor::Insert(reply)))
+            | Stage::Move(_, Resume::Recount(reply))
+            | Stage::Move(_, Resume::Grow(_, GrowFor::Insert(reply)))
+            | Stage::Grow(_, GrowFor::Insert(reply)) => Some(reply),
+            _ => None,
+        }
+    }
+
+    // Moves the reply out of a call that is done, which stays done. Answers none exactly where the call is not done, or its reply was
+    // taken before; the call is then as it was.
+    pub(super) fn take_reply(&mut self) -> Option<Reply<K, V, A>>
+        ensures value { option_map outcome_of result ≡ final_outcome self.old.stage }
+        ensures none { IfNone result (self.new ≡ self.old) }
+        ensures some { IfSome result (λ _. self.new ≡ with_stage self.old (taken_stage self.old.stage)) }
+    {
+        match mem::replace(&mut self.stage, Stage::Taken) {
+            Stage::Done(reply) => Some(reply),
+            other => {
+                drop(mem::replace(&mut self.stage, other));
+                None
+            }
+        }
+    }
+
+    // No call but a walk reads.
+    pub(super) fn last_read(&self) -> Option<(&K, &V)>
+        ensures { option_map (λ p. (p.0.now, p.1.now)) result ≡ option_map pair_seen (last_seen self.now.stage) }
+    {
+        match &self.stage {
+            _stage => None,
+        }
+    }
+
+    // The same with the write number.
+    pub(super) fn seen(&self) -> Option<Seen<K, V, A>>
+        ensures { result ≡ last_seen self.now.stage }
+    {
+        match &self.stage {
+            _stage => None,
+        }
+    }
+
+    // The step at the control, with the room where tables are made.
+    pub(super) fn on_control<R: Room>(&mut self, control: &mut Control, room: &mut R) -> Event
+        requires { wanted_part self.old ≡ ControlPart }
+        ensures { ControlStep R.place_gives self.old control.old room.old result self.new control.new room.new }
+    {
+        let stage = mem::replace(&mut self.stage, Stage::Taken);
+        let (stage, event) = step_control(stage, self.processors, control, room);
+        drop(mem::replace(&mut self.stage, stage));
+        event
+    }
+
+    // Whether the next step only asks the control for the published table.
+    #[inline]
+    pub(super) fn locates(&self) -> bool
+        ensures { result ≡ locates self.now.stage }
+    {
+        matches!(self.stage, Stage::Locate(_))
+    }
+
+    // That step, at a table that a control has published: the call goes on to its bin there.
+    #[inline]
+    pub(super) fn on_start(&mut self, start: &PublishedTable) -> Event
+        requires { locates self.old.stage ≡ true }
+        ensures within { start.now ≤ GREATEST_TABLE }
+        ensures silent { result ≡ Event.Silent }
+        ensures at { self.new ≡ with_stage self.old (started_stage start.now self.old.stage) }
+    {
+        match mem::replace(&mut self.stage, Stage::Taken) {
+            Stage::Locate(task) => {
+                let stage = Stage::Bin(task, start.table());
+                drop(mem::replace(&mut self.stage, stage));
+                Event::Silent
+            }
+            _ => unreachable!(),
+        }
+    }
+}
+
+impl<'k, K: Ord + Drop, V: Drop, F: ComputeFn<K, V>, A: Allocator> Single<'k, K, V, F, A> {
+    // The step of a look-up at its slot. Unless the bin is unborn, fewer steps are left than before.
+    pub(super) fn on_look(&mut self, slot: &Slot<K, V, A>) -> Event
+        requires { wanted_part self.old ≡ LookPart slot.now.table slot.now.index }
+        ensures within { IsSlot K.cmp slot.now }
+        ensures nearer { LooksUp self.old.stage →
+            ((slot.now.content ≡ IsUnborn) ⊎ (steps_left self.new.stage < steps_left self.old.stage)) }
+        ensures step { SlotStep K.cmp F.changes self.old slot.now result self.new slot.now }
+    {
+        let stage = mem::replace(&mut self.stage, Stage::Taken);
+        let Stage::Bin(task, table) = stage else {
+            unreachable!()
+        };
+        let Task::Find(sought, key) = task else {
+            unreachable!()
+        };
+        let (stage, event) = step_lookup(self.hash, sought, key, table, slot);
+        drop(mem::replace(&mut self.stage, stage));
+        event
+    }
+
+    // The step of a helper at a slot and its two halves in the next table.
+    pub(super) fn on_move(
+        &mut self,
+        old: &mut Slot<K, V, A>,
+        low: &mut Slot<K, V, A>,
+        high: &mut Slot<K, V, A>,
+    ) -> Event
+        requires { wanted_part self.old ≡ MovePart old.old.table old.old.index }
+        ensures within { IsSlot K.cmp old.old }
+        ensures step { MoveStep self.old old.old low.old high.old result self.new old.new low.new high.new }
+    {
+        let Stage::Move(claim, _) = &mut self.stage else {
+            unreachable!()
+        };
+        match old.move_into(low, high) {
+            MoveAnswer::Done(receipt) => {
+                let (table, index) = receipt.at();
+                claim.advance(receipt);
+                Event::Moved(table, index)
+            }
+            MoveAnswer::Already(receipt) => {
+                claim.advance(receipt);
+                Event::Silent
+            }
+            MoveAnswer::Clash => Event::Silent,
+        }
+    }
+}
+
+impl<'k, K: Ord + Drop, V: Drop, F: ComputeFn<K, V>, A: Allocator + Copy> Single<'k, K, V, F, A> {
+    // The step at its slot of a call that may change it.
+    pub(super) fn on_bin(&mut self, alloc: A, slot: &mut Slot<K, V, A>) -> Event
+        requires { wanted_part self.old ≡ BinPart slot.old.table slot.old.index }
+        ensures within { IsSlot K.cmp slot.old }
+        ensures step { SlotStep K.cmp F.changes self.old slot.old result self.new slot.new }
+    {
+        match mem::replace(&mut self.stage, Stage::Taken) {
+            Stage::Bin(task, table) => {
+                let (stage, event) = step_write(alloc, self.hash, task, table, slot);
+                drop(mem::replace(&mut self.stage, stage));
+                event
+            }
+            _ => unreachable!(),
+        }
+    }
+}
+
+impl<'k, K: Drop, V: Drop, F: ComputeFn<K, V>, A: Allocator> Single<'k, K, V, F, A> {
+    // Whether the next step counts one pair, which the call has put or removed.
+    #[inline]
+    pub(super) fn counts(&self) -> bool
+        ensures { result ≡ counts self.now.stage }
+    {
+        matches!(self.stage, Stage::Count(_) | Stage::Uncount(_))
+    }
+
+    // That step, at a tally in the control's place. A call that put a pair looks at the control's count next where at least so many
+    // pairs wait at the tally then; any other call is done.
+    pub(super) fn on_tally(&mut self, tally: &mut Tally, most: i64) -> Event
+        requires { counts self.old.stage ≡ true }
+        ensures { TallyStep most self.old tally.old result self.new tally.new }
+    {
+        let stage = mem::replace(&mut self.stage, Stage::Taken);
+        let stage = step_tally(stage, tally, most);
+        drop(mem::replace(&mut self.stage, stage));
+        Event::Silent
+    }
+
+    // The hash that the call was made with.
+    #[inline]
+    pub(super) fn hash(&self) -> u64
+        ensures { result ≡ self.now.hash }
+    {
+        self.hash
+    }
+}

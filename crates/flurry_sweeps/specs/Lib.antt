@@ -1,3 +1,0 @@
-pub mod Sweep
-pub mod SweepView
-pub mod SeenView
