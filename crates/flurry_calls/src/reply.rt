@@ -7,7 +7,8 @@ use std::sync::Arc;
 /// What a call of a shared map answers.
 #[derive(Drop)]
 pub enum Reply<K, V, A: Allocator = Global> {
-    /// A value, or none: of `Get` and `Remove` the one that stands or stood there, of `Insert` the one before, of `Compute` the new one.
+    /// A value, or none: of `Get`, `Remove` and `RemoveSeen` the one that stands or stood there, of `Insert` the one before, of `Compute`
+    /// the new one.
     Value(Option<Arc<V, A>>),
     /// The stored key and its value, or none: of `GetKeyValue` and `RemoveEntry`.
     Pair(Option<(Arc<K, A>, Arc<V, A>)>),

@@ -57,6 +57,15 @@ impl<K: Drop, V: Drop, A: Allocator> Seen<K, V, A> {
         &self.value
     }
 
+    /// The write number of the value.
+    ///
+    /// Constant time.
+    pub fn number(&self) -> u64
+        ensures { result ≡ self.now.number }
+    {
+        self.number
+    }
+
     /// A further one of the same pair.
     ///
     /// Constant time; takes no memory but for further owners of the key and the value.

@@ -135,7 +135,7 @@ module _ {K V F : Type 0} (cmp : K → K → Ordering) (total : IsTotalOrder cmp
     }
       where
         new : PartyRecord K V F
-        new = record { call = x.call; party_state = c; steps = suc x.steps }
+        new = record { call = x.call; began_from = x.began_from; party_state = c; steps = suc x.steps }
 
         turned : reverse (w.trace ++ label_of p ev c.stage ∷ []) ≡ label_of p ev c.stage ∷ reverse w.trace
         turned = reverse-append w.trace (label_of p ev c.stage ∷ [])
@@ -296,8 +296,8 @@ module _ {K V F : Type 0} (cmp : K → K → Ordering) (total : IsTotalOrder cmp
     -- it begins as one more caller of the world
     pub begins : InWorld cmp total hash lawful gives (n + 1) small (length h.world.party_records) (theory_call c) m s q
     begins = record {
-      world = with_party_record h.world (theory_call c) q;
-      is_world = began cmp total hash lawful gives h.world h.is_world near (theory_call c) q (ap mode_of_stage fresh.stage ∙ (fresh_stage hash c).1) (ap claim_of_stage fresh.stage ∙ (fresh_stage hash c).2) (ap last_seen fresh.stage ∙ (fresh_stage hash c).3) fresh.hash_is (subst (FollowsStage hash (theory_call c)) (sym fresh.stage) (fresh_stage hash c).0);
+      world = with_party_record h.world (theory_call c) None q;
+      is_world = began cmp total hash lawful gives h.world h.is_world near (theory_call c) None (λ v e. cc) q (ap mode_of_stage fresh.stage ∙ (fresh_stage hash c).1) (ap claim_of_stage fresh.stage ∙ (fresh_stage hash c).2) (ap last_seen fresh.stage ∙ (fresh_stage hash c).3) fresh.hash_is (subst (FollowsStage hash (theory_call c)) (sym fresh.stage) (fresh_stage hash c).0);
       caller = new;
       at = get_append h.world.party_records new (length h.world.party_records) ∙ ap (λ z. cond z (Some new) (slice_get h.world.party_records (length h.world.party_records))) (itself (length h.world.party_records));
       call = refl;
@@ -309,7 +309,7 @@ module _ {K V F : Type 0} (cmp : K → K → Ordering) (total : IsTotalOrder cmp
     }
       where
         new : PartyRecord K V F
-        new = record { call = theory_call c; party_state = q; steps = 0 }
+        new = record { call = theory_call c; began_from = None; party_state = q; steps = 0 }
 
         count : h.world.control_state.count ≡ s.control_state.count
         count = ap (λ b. b.count) h.control_state

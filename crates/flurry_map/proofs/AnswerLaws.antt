@@ -15,7 +15,7 @@ use Rattle.flurry_calls.specs.Sweep as sweep
 use Rattle.flurry_calls.specs.Sweep.{Errand, Reads, Wipes, SweepStage, AtOutset, OverBins, AtTotal, AtEnd, AfterEnd, BinGives, WalkGives, ClearGives, ReadGives, SplitGives, set_out_at, stage_walked, stage_cleared, more_wiped, swept_outcome, sets_out}
 use Rattle.flurry_calls.specs.Cursor.{CursorState, after_top}
 use Rattle.flurry_steps.specs.Party as party
-use Rattle.flurry_steps.specs.Party.{Sought, TheValue, ThePair, Presence, Task, Finds, Removes, Inserts, Adds, Computes, GrowFor, ForInsert, ForReserve, Resume, ThenBin, ThenRecount, ThenGrow, Stage, AtLocate, AtBin, AtClaim, AtMove, AtUncount, AtCount, AtRecount, AtBegin, AtGrow, AtReserve, AtSweep, AtDone, AtTaken, PartyState, reply_for, resumed_stage, started_stage, final_outcome, with_stage}
+use Rattle.flurry_steps.specs.Party.{Sought, TheValue, ThePair, Presence, Task, Finds, Removes, RemovesSeen, Inserts, Adds, Computes, GrowFor, ForInsert, ForReserve, Resume, ThenBin, ThenRecount, ThenGrow, Stage, AtLocate, AtBin, AtClaim, AtMove, AtUncount, AtCount, AtRecount, AtBegin, AtGrow, AtReserve, AtSweep, AtDone, AtTaken, PartyState, reply_for, resumed_stage, started_stage, final_outcome, with_stage}
 use Rattle.flurry_steps.specs.PartyControl.{begin_at, stage_advised, stage_begun, stage_grown, stage_not_grown, stage_growing, OpensFor, LocatesNone, MakesFor, event_growing, StageAtControl}
 use Rattle.flurry_steps.specs.PartySlots.{GoesOnNew, GoesOnWritten, GoesOnAdded, stage_taken, stage_computed, stage_moved, FindCanBeRefused, CanBeRefused, DecidesAt, LiveGives, ContentGives, StageAtSlot, moved_stage, MoveGives}
 use Rattle.flurry_steps.specs.PartyTally.{StageAtTally}
@@ -177,6 +177,7 @@ module _ {K V F : Type 0} (changes : F → K → V → Option V → Type 0) (ans
   after_moved : (t : Task K V F) (e : ℕ) → Serves t → StageServes (stage_moved t e)
   after_moved (Finds w k) e h = h
   after_moved (Removes w k) e h = h
+  after_moved (RemovesSeen z) e h = h
   after_moved (Inserts k v) e h = h
   after_moved (Adds k v) e h = h
   after_moved (Computes k f) e h = h
@@ -198,6 +199,7 @@ module _ {K V F : Type 0} (changes : F → K → V → Option V → Type 0) (ans
     none : (t : Task K V F) (ev : Event) → Serves t → LocatesNone place p t b s ev st b' s' → StageServes st
     none (Finds w k) ev h g = subst StageServes (sym g.1) (h (OutcomeReply (reply_for w None)) (sought w None))
     none (Removes w k) ev h g = subst StageServes (sym g.1) (h (OutcomeReply (reply_for w None)) (sought w None))
+    none (RemovesSeen z) ev h g = subst StageServes (sym g.1) (h (OutcomeReply (reply_for TheValue None)) tt)
     none (Inserts k v) ev h g = opens (Inserts k v) h tt ev g
     none (Adds k v) ev h g = opens (Adds k v) h tt ev g
     none (Computes k f) ev h g = subst StageServes (sym g.1) (h _ tt)
@@ -300,6 +302,10 @@ module _ {K V F : Type 0} (changes : F → K → V → Option V → Type 0) (ans
   after_taken w k None h = h _ (sought w None)
   after_taken w k (Some x) h = h _ (sought w (Some x))
 
+  after_drop : (z : Seen K V) (o : Option (PlainEntry K V)) → Serves (RemovesSeen z) → StageServes (stage_taken TheValue o)
+  after_drop z None h = h _ tt
+  after_drop z (Some x) h = h _ tt
+
   module _ (cmp : K → K → Ordering) (n : ℕ) where
     after_computed : (k : K) (f : F) (bins : ℕ) (b c : Live K V) (o : ComputeOutcome V) → Serves (Computes k f) → slot.Computes cmp (changes f) bins b n k o c → StageServes (stage_computed o)
     after_computed k f bins b c WasAbsent h g = h _ tt
@@ -309,6 +315,7 @@ module _ {K V F : Type 0} (changes : F → K → V → Option V → Type 0) (ans
     decides : (t : Task K V F) (e : ℕ) (b d : Live K V) (s : Stage K V F) → Serves t → DecidesAt cmp changes n t e b s d → StageServes s
     decides (Finds w k) e b d s h g = subst StageServes (sym g.0) (h _ (sought w _))
     decides (Removes w k) e b d s h g = subst StageServes (sym g.0) (after_taken w k _ h)
+    decides (RemovesSeen z) e b d s h g = subst StageServes (sym g.0) (after_drop z _ h)
     decides (Inserts k v) e b d s h g = after_written e _ _ s k v h g.0
     decides (Adds k v) e b d s h g = after_added e _ _ s k v h g.0
     decides (Computes k f) e b d s h g = subst StageServes (sym g.2) (after_computed k f _ b d g.0 h g.1)
@@ -316,6 +323,7 @@ module _ {K V F : Type 0} (changes : F → K → V → Option V → Type 0) (ans
     refused : (t : Task K V F) (b : Live K V) → CanBeRefused cmp changes n t b → CanAnswer changes t OutcomeRefused
     refused (Finds w k) b g = needs_owner w _ g
     refused (Removes w k) b g = g
+    refused (RemovesSeen z) b g = g
     refused (Inserts k v) b g = tt
     refused (Adds k v) b g = tt
     refused (Computes k f) b g = (g.0.0.1, g.0.1.0, g.1, g.3)
@@ -440,12 +448,13 @@ module _ {K V F : Type 0} (changes : F → K → V → Option V → Type 0) (ans
     all_turns {p' = p'} h (further {p' = e} ev turns turn) = with_loan turn.loan e p' ev (all_turns h turns) turn.step
 
 -- a call that did no step yet can answer what its first stage can
-first_serves : {K V F : Type 0} (changes : F → K → V → Option V → Type 0) (c : Call K V F) → StageServes changes (CanAnswerFrom changes (first_stage c)) (first_stage c)
+first_serves : {K V F A : Type 0} (changes : F → K → V → Option V → Type 0) (c : Call K V F A) → StageServes changes (CanAnswerFrom changes (first_stage c)) (first_stage c)
 first_serves changes (call.Get k) = λ r h. h
 first_serves changes (call.GetKeyValue k) = λ r h. h
 first_serves changes (call.ContainsKey k) = λ r h. h
 first_serves changes (call.Remove k) = λ r h. h
 first_serves changes (call.RemoveEntry k) = λ r h. h
+first_serves changes (call.RemoveSeen z) = λ r h. h
 first_serves changes (call.Insert k v) = λ r h. h
 first_serves changes (call.TryInsert k v) = λ r h. h
 first_serves changes (call.Compute k f) = λ r h. h
@@ -455,5 +464,5 @@ first_serves changes call.Walk = λ r h. h
 
 module _ {S R K V F : Type 0} (place : R → ℕ → Bool → Bool → R → Type 0) (cmp : K → K → Ordering) (changes : F → K → V → Option V → Type 0) (lends : S → Loan K V R → S → Type 0) {s s' : S} {p p' : PartyState K V F} {r : Outcome K V} (turns : TurnsTo (Turn place cmp changes lends) s p r s' p') where
   -- the reply to which steps take a call is one that it can answer
-  pub can_answer : (c : Call K V F) → p.stage ≡ first_stage c → CanAnswerFrom changes (first_stage c) r
+  pub can_answer : {A : Type 0} (c : Call K V F A) → p.stage ≡ first_stage c → CanAnswerFrom changes (first_stage c) r
   can_answer c e = served changes (CanAnswerFrom changes (first_stage c)) turns.last.stage r (all_turns changes (CanAnswerFrom changes (first_stage c)) place cmp lends (subst (StageServes changes (CanAnswerFrom changes (first_stage c))) (sym e) (first_serves changes c)) turns.turns) turns.done

@@ -19,12 +19,13 @@ use Rattle.flurry_steps.specs.declared.party.call.Call.{Call}
 use Rattle.flurry_steps.specs.declared.party.call.Call.TheVariants as call
 
 -- a look-up that did no step yet asks for the published table
-pub look_locates : {K V F : Type 0} (c : Call K V F) → LooksUp (first_stage c) → locates (first_stage c) ≡ true
+pub look_locates : {K V F A : Type 0} (c : Call K V F A) → LooksUp (first_stage c) → locates (first_stage c) ≡ true
 look_locates (call.Get k) h = refl
 look_locates (call.GetKeyValue k) h = refl
 look_locates (call.ContainsKey k) h = refl
 look_locates (call.Remove k) h = absurd h
 look_locates (call.RemoveEntry k) h = absurd h
+look_locates (call.RemoveSeen z) h = absurd h
 look_locates (call.Insert k v) h = absurd h
 look_locates (call.TryInsert k v) h = absurd h
 look_locates (call.Compute k f) h = absurd h
@@ -33,12 +34,13 @@ look_locates call.Clear h = absurd h
 look_locates call.Walk h = absurd h
 
 -- and then it looks at its bin there
-pub look_wants : {K V F : Type 0} (c : Call K V F) (d h n : ℕ) → LooksUp (first_stage c) → wanted_part (begun_at d h n (first_stage c)) ≡ LookPart d (h % 2 ^ d)
+pub look_wants : {K V F A : Type 0} (c : Call K V F A) (d h n : ℕ) → LooksUp (first_stage c) → wanted_part (begun_at d h n (first_stage c)) ≡ LookPart d (h % 2 ^ d)
 look_wants (call.Get k) d h n looks = refl
 look_wants (call.GetKeyValue k) d h n looks = refl
 look_wants (call.ContainsKey k) d h n looks = refl
 look_wants (call.Remove k) d h n looks = absurd looks
 look_wants (call.RemoveEntry k) d h n looks = absurd looks
+look_wants (call.RemoveSeen z) d h n looks = absurd looks
 look_wants (call.Insert k v) d h n looks = absurd looks
 look_wants (call.TryInsert k v) d h n looks = absurd looks
 look_wants (call.Compute k f) d h n looks = absurd looks
@@ -47,12 +49,13 @@ look_wants call.Clear d h n looks = absurd looks
 look_wants call.Walk d h n looks = absurd looks
 
 -- and so does a call that may change its bin
-pub write_locates : {K V F : Type 0} (c : Call K V F) → BeginsToWrite (first_stage c) → locates (first_stage c) ≡ true
+pub write_locates : {K V F A : Type 0} (c : Call K V F A) → BeginsToWrite (first_stage c) → locates (first_stage c) ≡ true
 write_locates (call.Get k) h = absurd h
 write_locates (call.GetKeyValue k) h = absurd h
 write_locates (call.ContainsKey k) h = absurd h
 write_locates (call.Remove k) h = refl
 write_locates (call.RemoveEntry k) h = refl
+write_locates (call.RemoveSeen z) h = refl
 write_locates (call.Insert k v) h = refl
 write_locates (call.TryInsert k v) h = refl
 write_locates (call.Compute k f) h = refl
@@ -60,12 +63,13 @@ write_locates (call.Reserve a) h = absurd h
 write_locates call.Clear h = absurd h
 write_locates call.Walk h = absurd h
 
-pub write_wants : {K V F : Type 0} (c : Call K V F) (d h n : ℕ) → BeginsToWrite (first_stage c) → wanted_part (begun_at d h n (first_stage c)) ≡ BinPart d (h % 2 ^ d)
+pub write_wants : {K V F A : Type 0} (c : Call K V F A) (d h n : ℕ) → BeginsToWrite (first_stage c) → wanted_part (begun_at d h n (first_stage c)) ≡ BinPart d (h % 2 ^ d)
 write_wants (call.Get k) d h n writes = absurd writes
 write_wants (call.GetKeyValue k) d h n writes = absurd writes
 write_wants (call.ContainsKey k) d h n writes = absurd writes
 write_wants (call.Remove k) d h n writes = refl
 write_wants (call.RemoveEntry k) d h n writes = refl
+write_wants (call.RemoveSeen z) d h n writes = refl
 write_wants (call.Insert k v) d h n writes = refl
 write_wants (call.TryInsert k v) d h n writes = refl
 write_wants (call.Compute k f) d h n writes = refl

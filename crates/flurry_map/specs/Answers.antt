@@ -4,7 +4,7 @@ use Rattle.flurry_model.specs.declared.reply.KeptReply.{KeptReply}
 use Rattle.flurry_model.specs.declared.reply.KeptReply.TheVariants.{Value, Pair, Contains, New, Exists}
 use Rattle.flurry_calls.specs.Outcome.{Outcome, OutcomeReply, OutcomeEnded, OutcomeRefused}
 use Rattle.flurry_calls.specs.Sweep.{Errand, Reads, Wipes}
-use Rattle.flurry_steps.specs.Party.{Sought, TheValue, ThePair, Presence, Task, Finds, Removes, Inserts, Adds, Computes, Stage, AtLocate, AtReserve, AtSweep}
+use Rattle.flurry_steps.specs.Party.{Sought, TheValue, ThePair, Presence, Task, Finds, Removes, RemovesSeen, Inserts, Adds, Computes, Stage, AtLocate, AtReserve, AtSweep}
 
 -- what is told by a further owner can want memory
 abbrev pub NeedsOwner : Sought → Type 0
@@ -83,6 +83,7 @@ module _ {K V F : Type 0} (changes : F → K → V → Option V → Type 0) wher
   abbrev pub CanAnswer : Task K V F → Outcome K V → Type 0
   CanAnswer (Finds w k) r = CanFind w r
   CanAnswer (Removes w k) r = CanRemove w r
+  CanAnswer (RemovesSeen z) r = CanRemove TheValue r
   CanAnswer (Inserts k v) r = CanInsert r
   CanAnswer (Adds k v) r = CanAdd v r
   CanAnswer (Computes k f) r = CanCompute (changes f) r

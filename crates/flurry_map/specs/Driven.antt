@@ -26,12 +26,13 @@ abbrev pub no_changes : {K V : Type 0} → NoFn → K → V → Option V → Typ
 no_changes f k v o = o ≡ None
 
 -- the hash of the key of a call, and 0 where it has none
-abbrev pub hash_in : {K V F : Type 0} → (K → ℕ) → Call K V F → ℕ
+abbrev pub hash_in : {K V F A : Type 0} → (K → ℕ) → Call K V F A → ℕ
 hash_in hash (call.Get k) = hash k.now
 hash_in hash (call.GetKeyValue k) = hash k.now
 hash_in hash (call.ContainsKey k) = hash k.now
 hash_in hash (call.Remove k) = hash k.now
 hash_in hash (call.RemoveEntry k) = hash k.now
+hash_in hash (call.RemoveSeen z) = hash z.key
 hash_in hash (call.Insert k v) = hash k
 hash_in hash (call.TryInsert k v) = hash k
 hash_in hash (call.Compute k f) = hash k.now
@@ -54,6 +55,6 @@ abbrev pub GoesTo : (M : Type 0) → {K V F : Type 0} → (K → K → Ordering)
 GoesTo M cmp changes p p' = Turns {S = Unit {0}} (Turn (MakerStays {M = M}) cmp changes LockLends) tt p tt p'
 
 -- a call of that hash has begun, for however many processors; or it has done no step, and comes back
-abbrev pub BeginsOrStays : (M : Type 0) → {K V F : Type 0} → (K → K → Ordering) → (F → K → V → Option V → Type 0) → ℕ → Call K V F → Result (EndingState K V) (Call K V F) → Type 0
+abbrev pub BeginsOrStays : (M : Type 0) → {K V F A : Type 0} → (K → K → Ordering) → (F → K → V → Option V → Type 0) → ℕ → Call K V F A → Result (EndingState K V) (Call K V F A) → Type 0
 BeginsOrStays M cmp changes h c (Ok e) = (n : ℕ) → GoesTo M cmp changes (record { hash = h; processors = n; stage = first_stage c }) (record { hash = h; processors = n; stage = ending_stage e })
 BeginsOrStays M cmp changes h c (Err c') = c' ≡ c

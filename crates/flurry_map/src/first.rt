@@ -23,7 +23,7 @@ use std::sync::Wait;
 pub(crate) fn reply_to<K: Ord + Drop, V: Drop, F: ComputeFn<K, V>, A: Allocator + Copy, R: Wait>(
     rt: &R,
     locks: &Locks<K, V, A>,
-    call: Call<'_, K, V, F>,
+    call: Call<'_, K, V, F, A>,
     hash: u64,
     processors: usize,
 ) -> Reply<K, V, A>
@@ -50,7 +50,7 @@ fn look<K: Ord + Drop, V: Drop, F: ComputeFn<K, V>, A: Allocator + Copy, R: Wait
     rt: &R,
     locks: &Locks<K, V, A>,
     start: &PublishedTable,
-    call: Call<'_, K, V, F>,
+    call: Call<'_, K, V, F, A>,
     hash: u64,
     processors: usize,
 ) -> Reply<K, V, A>
@@ -76,7 +76,7 @@ fn write<K: Ord + Drop, V: Drop, F: ComputeFn<K, V>, A: Allocator + Copy, R: Wai
     rt: &R,
     locks: &Locks<K, V, A>,
     start: &PublishedTable,
-    call: Call<'_, K, V, F>,
+    call: Call<'_, K, V, F, A>,
     hash: u64,
     processors: usize,
 ) -> Reply<K, V, A>
@@ -97,9 +97,9 @@ fn write_bin<'k, K: Ord + Drop, V: Drop, F: ComputeFn<K, V>, A: Allocator + Copy
     rt: &R,
     locks: &Locks<K, V, A>,
     start: &PublishedTable,
-    call: Call<'k, K, V, F>,
+    call: Call<'k, K, V, F, A>,
     hash: u64,
-) -> Result<Ending<K, V, A>, Call<'k, K, V, F>>
+) -> Result<Ending<K, V, A>, Call<'k, K, V, F, A>>
     requires ready { CallIsReady F.can_change call }
     requires writes { BeginsToWrite (first_stage call) }
     ensures { BeginsOrStays (Maker K V A) K.cmp F.changes hash call.entry result }
@@ -164,7 +164,7 @@ fn count<K: Ord + Drop, V: Drop, F: ComputeFn<K, V>, A: Allocator + Copy, R: Wai
 fn drive_call<K: Ord + Drop, V: Drop, F: ComputeFn<K, V>, A: Allocator + Copy, R: Wait>(
     rt: &R,
     locks: &Locks<K, V, A>,
-    call: Call<'_, K, V, F>,
+    call: Call<'_, K, V, F, A>,
     hash: u64,
     processors: usize,
 ) -> Reply<K, V, A>

@@ -161,7 +161,7 @@ impl<K: Ord + Drop, V: Drop, S: KeyHasher<K>, A: Allocator + Copy> HashMap<K, V,
         ensures { IsDriven (Maker K V A) K.cmp no_changes self.now (S.hash_of self.now.hasher key.now)
             (AtLocate (Finds TheValue key.now)) (value_outcome result) }
     {
-        let call: Call<'_, K, V, NoFn> = Call::Get(key);
+        let call: Call<'_, K, V, NoFn, A> = Call::Get(key);
         match self.run(rt, call) {
             Reply::Value(value) => Ok(value),
             Reply::Refused => Err(AllocError),
@@ -184,7 +184,7 @@ impl<K: Ord + Drop, V: Drop, S: KeyHasher<K>, A: Allocator + Copy> HashMap<K, V,
         ensures { IsDriven (Maker K V A) K.cmp no_changes self.now (S.hash_of self.now.hasher key.now)
             (AtLocate (Finds ThePair key.now)) (pair_outcome result) }
     {
-        let call: Call<'_, K, V, NoFn> = Call::GetKeyValue(key);
+        let call: Call<'_, K, V, NoFn, A> = Call::GetKeyValue(key);
         match self.run(rt, call) {
             Reply::Pair(pair) => Ok(pair),
             Reply::Refused => Err(AllocError),
@@ -199,7 +199,7 @@ impl<K: Ord + Drop, V: Drop, S: KeyHasher<K>, A: Allocator + Copy> HashMap<K, V,
         ensures { IsDriven (Maker K V A) K.cmp (no_changes {K = K} {V = V}) self.now
             (S.hash_of self.now.hasher key.now) (AtLocate (Finds Presence key.now)) (OutcomeReply (kept.Contains result)) }
     {
-        let call: Call<'_, K, V, NoFn> = Call::ContainsKey(key);
+        let call: Call<'_, K, V, NoFn, A> = Call::ContainsKey(key);
         match self.run(rt, call) {
             Reply::Contains(found) => found,
             _ => unreachable!(),
@@ -215,7 +215,7 @@ impl<K: Ord + Drop, V: Drop, S: KeyHasher<K>, A: Allocator + Copy> HashMap<K, V,
             (S.hash_of self.now.hasher key.now) (AtLocate (Removes TheValue key.now))
             (OutcomeReply (kept.Value (option_map arc_value result))) }
     {
-        let call: Call<'_, K, V, NoFn> = Call::Remove(key);
+        let call: Call<'_, K, V, NoFn, A> = Call::Remove(key);
         match self.run(rt, call) {
             Reply::Value(value) => value,
             _ => unreachable!(),
@@ -230,7 +230,7 @@ impl<K: Ord + Drop, V: Drop, S: KeyHasher<K>, A: Allocator + Copy> HashMap<K, V,
             (S.hash_of self.now.hasher key.now) (AtLocate (Removes ThePair key.now))
             (OutcomeReply (kept.Pair (option_map pair_value result))) }
     {
-        let call: Call<'_, K, V, NoFn> = Call::RemoveEntry(key);
+        let call: Call<'_, K, V, NoFn, A> = Call::RemoveEntry(key);
         match self.run(rt, call) {
             Reply::Pair(pair) => pair,
             _ => unreachable!(),
@@ -256,7 +256,7 @@ impl<K: Ord + Drop, V: Drop, S: KeyHasher<K>, A: Allocator + Copy> HashMap<K, V,
         ensures { IsDriven (Maker K V A) K.cmp no_changes self.now (S.hash_of self.now.hasher key)
             (AtLocate (Inserts key value)) (value_outcome result) }
     {
-        let call: Call<'s, K, V, NoFn> = Call::Insert(key, value);
+        let call: Call<'s, K, V, NoFn, A> = Call::Insert(key, value);
         match self.run(rt, call) {
             Reply::Value(value) => Ok(value),
             Reply::Refused => Err(AllocError),
@@ -283,7 +283,7 @@ impl<K: Ord + Drop, V: Drop, S: KeyHasher<K>, A: Allocator + Copy> HashMap<K, V,
             (S.hash_of self.now.hasher key) (AtLocate (Adds key value)) (added_outcome result) }
         ensures added { CanAdd {K = K} value (added_outcome result) }
     {
-        let call: Call<'s, K, V, NoFn> = Call::TryInsert(key, value);
+        let call: Call<'s, K, V, NoFn, A> = Call::TryInsert(key, value);
         match self.run(rt, call) {
             Reply::New(value) => Ok(Ok(value)),
             Reply::Exists(error) => Ok(Err(error)),
@@ -332,7 +332,7 @@ impl<K: Ord + Drop, V: Drop, S: KeyHasher<K>, A: Allocator + Copy> HashMap<K, V,
         ensures { IsDriven (Maker K V A) K.cmp (no_changes {K = K} {V = V}) self.now 0
             (AtReserve additional) (ended_outcome result) }
     {
-        let call: Call<'s, K, V, NoFn> = Call::Reserve(additional);
+        let call: Call<'s, K, V, NoFn, A> = Call::Reserve(additional);
         match self.run(rt, call) {
             Reply::Ended => Ok(()),
             Reply::Refused => Err(AllocError),
@@ -347,7 +347,7 @@ impl<K: Ord + Drop, V: Drop, S: KeyHasher<K>, A: Allocator + Copy> HashMap<K, V,
         ensures { IsDriven (Maker K V A) K.cmp (no_changes {K = K} {V = V}) self.now 0
             (AtSweep (fresh_sweep (Wipes 0))) OutcomeEnded }
     {
-        let call: Call<'s, K, V, NoFn> = Call::Clear;
+        let call: Call<'s, K, V, NoFn, A> = Call::Clear;
         match self.run(rt, call) {
             Reply::Ended => {}
             _ => unreachable!(),
@@ -356,7 +356,7 @@ impl<K: Ord + Drop, V: Drop, S: KeyHasher<K>, A: Allocator + Copy> HashMap<K, V,
 
     // The hash of the key of a call; 0 where it has none.
     #[inline]
-    fn hash_of<F>(&self, call: &Call<'_, K, V, F>) -> u64
+    fn hash_of<F>(&self, call: &Call<'_, K, V, F, A>) -> u64
         ensures { result ≡ hash_in (S.hash_of self.now.hasher) call.now }
     {
         match call {
@@ -366,6 +366,7 @@ impl<K: Ord + Drop, V: Drop, S: KeyHasher<K>, A: Allocator + Copy> HashMap<K, V,
             | Call::Remove(key)
             | Call::RemoveEntry(key)
             | Call::Compute(key, _) => self.hasher.hash_one(key),
+            Call::RemoveSeen(seen) => self.hasher.hash_one(seen.key()),
             Call::Insert(key, _) | Call::TryInsert(key, _) => self.hasher.hash_one(key),
             Call::Reserve(_) | Call::Clear | Call::Walk => 0,
         }
@@ -373,7 +374,7 @@ impl<K: Ord + Drop, V: Drop, S: KeyHasher<K>, A: Allocator + Copy> HashMap<K, V,
 
     // Does the steps of a call over the locks. It is copied into each call, with its first steps, which then do not ask which call it is.
     #[inline(always)]
-    fn run<F: ComputeFn<K, V>, R: Wait>(&self, rt: &R, call: Call<'_, K, V, F>) -> Reply<K, V, A>
+    fn run<F: ComputeFn<K, V>, R: Wait>(&self, rt: &R, call: Call<'_, K, V, F, A>) -> Reply<K, V, A>
         requires { CallIsReady F.can_change call }
         ensures driven { IsDriven (Maker K V A) K.cmp F.changes self.now
             (hash_in (S.hash_of self.now.hasher) call.entry) (first_stage call.entry) (outcome_of result) }

@@ -3,9 +3,9 @@ use Rattle.std.specs.Prelude.{◌≡◌, ℕ, Bool, true, false, Option, Some, N
 use Rattle.std.specs.Option.{option_map_or}
 use Rattle.std.specs.declared.cmp.Ordering.{Ordering}
 use Rattle.std.proofs.Common.{sym, subst}
-use Rattle.flurry_slots.specs.Slot.{PlainEntry, Live, Content, IsLive, HasMoved, IsUnborn, is_live, ComputeOutcome, WasAbsent, WasRemoved, WasChanged, entry_of_live}
+use Rattle.flurry_slots.specs.Slot.{PlainEntry, Live, Content, IsLive, HasMoved, IsUnborn, is_live, ComputeOutcome, WasAbsent, WasRemoved, WasChanged, entry_of_live, take_if_reply}
 use Rattle.flurry_calls.specs.Outcome.{Outcome}
-use Rattle.flurry_steps.specs.Party.{Sought, Task, Finds, Removes, Inserts, Adds, Computes, Stage, AtDone}
+use Rattle.flurry_steps.specs.Party.{Sought, TheValue, Task, Finds, Removes, RemovesSeen, Inserts, Adds, Computes, Stage, AtDone}
 use Rattle.flurry_steps.specs.PartySlots.{GoesOnNew, GoesOnWritten, GoesOnAdded, stage_taken, stage_computed, DecidesAt, LiveGives, ContentGives}
 use Rattle.flurry_steps.specs.PartyTally.{HasDecided}
 use Rattle.flurry_calls.specs.declared.step.Event.{Event}
@@ -37,6 +37,7 @@ module _ {K V F : Type 0} (cmp : K → K → Ordering) (changes : F → K → V 
   decides : (t : Task K V F) (e : ℕ) (b d : Live K V) (s : Stage K V F) → DecidesAt cmp changes h t e b s d → HasDecided s
   decides (Finds w k) e b d s g = subst HasDecided (sym g.0) tt
   decides (Removes w k) e b d s g = after_taken w (entry_of_live cmp b h k) s g.0
+  decides (RemovesSeen z) e b d s g = after_taken TheValue (take_if_reply cmp z.number b h z.key) s g.0
   decides (Inserts k v) e b d s g = after_written e _ _ s g.0
   decides (Adds k v) e b d s g = after_added e _ v _ s g.0
   decides (Computes k f) e b d s g = after_computed g.0 s g.2

@@ -8,7 +8,7 @@ use Rattle.flurry_control.specs.declared.control.BeginOutcome.{BeginOutcome}
 use Rattle.flurry_control.specs.declared.control.BeginOutcome.TheVariants as outcome
 use Rattle.flurry_calls.specs.declared.step.Event.{Event}
 use Rattle.flurry_calls.specs.declared.step.Event.TheVariants as event
-use Rattle.flurry_steps.specs.Party.{Task, Finds, Removes, Inserts, Adds, Computes, GrowFor, ForInsert, ForReserve, Stage, AtLocate, AtBin, AtClaim, AtMove, AtUncount, AtCount, AtRecount, AtBegin, AtGrow, AtReserve, AtSweep, AtDone, AtTaken, PartyState, IsSingle}
+use Rattle.flurry_steps.specs.Party.{Task, Finds, Removes, RemovesSeen, Inserts, Adds, Computes, GrowFor, ForInsert, ForReserve, Stage, AtLocate, AtBin, AtClaim, AtMove, AtUncount, AtCount, AtRecount, AtBegin, AtGrow, AtReserve, AtSweep, AtDone, AtTaken, PartyState, IsSingle}
 use Rattle.flurry_steps.specs.PartyControl.{OpensFor, LocatesNone, MakesFor, ReservesFor, StageAtControl, event_begun, event_growing, stage_grown, stage_growing}
 use Rattle.flurry_steps.specs.PartySlots.{LiveGives, ContentGives, StageAtSlot, MoveGives}
 
@@ -45,6 +45,7 @@ module _ {K V F R : Type 0} (place : R → ℕ → Bool → Bool → R → Type 
   none_yet : (t : Task K V F) → LocatesNone place p t b r ev st b' r' → IsSweepEvent ev → ⊥
   none_yet (Finds w k) h = is_event ev event.Decide (λ u. u) h.0
   none_yet (Removes w k) h = is_event ev event.Decide (λ u. u) h.0
+  none_yet (RemovesSeen z) h = is_event ev event.Decide (λ u. u) h.0
   none_yet (Inserts k v) h = opens_for (Inserts k v) h
   none_yet (Adds k v) h = opens_for (Adds k v) h
   none_yet (Computes k f) h = is_event ev event.Decide (λ u. u) h.0

@@ -24,6 +24,7 @@ pub data Sought : Type 0 where
 pub data Task (K V F : Type 0) : Type 0 where
   Finds : Sought → K → Task K V F
   Removes : Sought → K → Task K V F
+  RemovesSeen : Seen K V → Task K V F
   Inserts : K → V → Task K V F
   Adds : K → V → Task K V F
   Computes : K → F → Task K V F

@@ -4,7 +4,7 @@ use Rattle.flurry_model.specs.declared.reply.KeptReply.TheVariants.{Value}
 use Rattle.flurry_control.specs.Control.{ControlState, claim_of, after_claim, report_of, after_report, after_count, advice_of, count_of, after_open, BeginGives, grows_from}
 use Rattle.flurry_calls.specs.Outcome.{Outcome, OutcomeReply, OutcomeEnded, OutcomeRefused}
 use Rattle.flurry_calls.specs.Sweep.{SweepState, SweepControl}
-use Rattle.flurry_steps.specs.Party.{Task, Finds, Removes, Inserts, Adds, Computes, GrowFor, ForInsert, ForReserve, ThenRecount, ThenGrow, Stage, AtLocate, AtBin, AtClaim, AtMove, AtUncount, AtCount, AtRecount, AtBegin, AtGrow, AtReserve, AtSweep, AtDone, PartyState, reply_for, resumed_stage, IsTableFor}
+use Rattle.flurry_steps.specs.Party.{Task, Finds, Removes, RemovesSeen, Inserts, Adds, Computes, GrowFor, ForInsert, ForReserve, ThenRecount, ThenGrow, Stage, AtLocate, AtBin, AtClaim, AtMove, AtUncount, AtCount, AtRecount, AtBegin, AtGrow, AtReserve, AtSweep, AtDone, PartyState, reply_for, resumed_stage, IsTableFor}
 use Rattle.flurry_calls.specs.declared.step.Event.{Event}
 use Rattle.flurry_calls.specs.declared.step.Event.TheVariants.{Decide, Refused, Opened, Placed, Published, Silent}
 use Rattle.flurry_control.specs.declared.control.Advice.{Advice}
@@ -74,6 +74,7 @@ module _ {K V F R : Type 0} (place : R → ℕ → Bool → Bool → R → Type 
   abbrev pub LocatesNone : Task K V F → ControlState → R → Event → Stage K V F → ControlState → R → Type 0
   LocatesNone (Finds w k) b s ev st b' s' = (ev ≡ Decide) × (st ≡ AtDone (OutcomeReply (reply_for w None))) × (b' ≡ b) × (s' ≡ s)
   LocatesNone (Removes w k) b s ev st b' s' = (ev ≡ Decide) × (st ≡ AtDone (OutcomeReply (reply_for w None))) × (b' ≡ b) × (s' ≡ s)
+  LocatesNone (RemovesSeen z) b s ev st b' s' = (ev ≡ Decide) × (st ≡ AtDone (OutcomeReply (Value None))) × (b' ≡ b) × (s' ≡ s)
   LocatesNone (Inserts k v) b s ev st b' s' = OpensFor (Inserts k v) b s ev st b' s'
   LocatesNone (Adds k v) b s ev st b' s' = OpensFor (Adds k v) b s ev st b' s'
   LocatesNone (Computes k f) b s ev st b' s' = (ev ≡ Decide) × (st ≡ AtDone (OutcomeReply (Value None))) × (b' ≡ b) × (s' ≡ s)

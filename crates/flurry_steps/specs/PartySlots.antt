@@ -2,12 +2,12 @@
 use Rattle.std.specs.Prelude.{◌≡◌, ℕ, ◌+◌, ◌*◌, ◌^◌, Bool, true, false, Option, Some, None, IsSome, Result, Ok, Err, ⊤, ◌⊎◌}
 use Rattle.std.specs.declared.cmp.Ordering.{Ordering}
 use Rattle.flurry_slots.specs.Slot as slot
-use Rattle.flurry_slots.specs.Slot.{PlainEntry, Live, Content, IsLive, HasMoved, IsUnborn, SlotState, ComputeOutcome, WasAbsent, WasRemoved, WasChanged, entry_of_live, after_write, write_reply, after_add, add_reply, after_take, ComputesInVain, HasMovedInto, Clashes}
+use Rattle.flurry_slots.specs.Slot.{PlainEntry, Live, Content, IsLive, HasMoved, IsUnborn, SlotState, ComputeOutcome, WasAbsent, WasRemoved, WasChanged, entry_of_live, after_write, write_reply, after_add, add_reply, after_take, after_take_if, take_if_reply, ComputesInVain, HasMovedInto, Clashes}
 use Rattle.flurry_model.specs.declared.reply.KeptReply.TheVariants.{Value, New, Exists}
 use Rattle.flurry_control.specs.Claim.{moved_on}
 use Rattle.flurry_calls.specs.Outcome.{Outcome, OutcomeReply, OutcomeRefused}
 use Rattle.flurry_calls.specs.Sweep.{SweepState, SweepGives}
-use Rattle.flurry_steps.specs.Party.{Sought, Presence, Task, Finds, Removes, Inserts, Adds, Computes, ForInsert, ThenBin, Stage, AtLocate, AtBin, AtClaim, AtMove, AtUncount, AtCount, AtGrow, AtSweep, AtDone, PartyState, reply_for, with_stage, IsTableFor}
+use Rattle.flurry_steps.specs.Party.{Sought, TheValue, Presence, Task, Finds, Removes, RemovesSeen, Inserts, Adds, Computes, ForInsert, ThenBin, Stage, AtLocate, AtBin, AtClaim, AtMove, AtUncount, AtCount, AtGrow, AtSweep, AtDone, PartyState, reply_for, with_stage, IsTableFor}
 use Rattle.flurry_calls.specs.declared.step.Event.{Event}
 use Rattle.flurry_calls.specs.declared.step.Event.TheVariants.{Decide, Refused, Moved, Silent}
 
@@ -54,6 +54,7 @@ module _ {K V F : Type 0} (cmp : K → K → Ordering) (changes : F → K → V 
   abbrev pub DecidesAt : Task K V F → ℕ → Live K V → Stage K V F → Live K V → Type 0
   DecidesAt (Finds w k) e b s c = (s ≡ AtDone (OutcomeReply (reply_for w (entry_of_live cmp b h k)))) × (c ≡ b)
   DecidesAt (Removes w k) e b s c = (s ≡ stage_taken w (entry_of_live cmp b h k)) × (c ≡ after_take cmp b h k)
+  DecidesAt (RemovesSeen z) e b s c = (s ≡ stage_taken TheValue (take_if_reply cmp z.number b h z.key)) × (c ≡ after_take_if cmp z.number b h z.key)
   DecidesAt (Inserts k v) e b s c = GoesOnWritten e (write_reply cmp (2 ^ e) b h k) s × (c ≡ after_write cmp (2 ^ e) b h k v)
   DecidesAt (Adds k v) e b s c = GoesOnAdded e (add_reply cmp (2 ^ e) b h k v) s × (c ≡ after_add cmp (2 ^ e) b h k v)
   DecidesAt (Computes k f) e b s c = (o : ComputeOutcome V) × slot.Computes cmp (changes f) (2 ^ e) b h k o c × (s ≡ stage_computed o)
@@ -63,6 +64,7 @@ module _ {K V F : Type 0} (cmp : K → K → Ordering) (changes : F → K → V 
   abbrev pub CanBeRefused : Task K V F → Live K V → Type 0
   CanBeRefused (Finds w k) b = FindCanBeRefused w (entry_of_live cmp b h k)
   CanBeRefused (Removes w k) b = ⊥
+  CanBeRefused (RemovesSeen z) b = ⊥
   CanBeRefused (Inserts k v) b = ⊤
   CanBeRefused (Adds k v) b = ⊤
   CanBeRefused (Computes k f) b = ComputesInVain cmp (changes f) b h k

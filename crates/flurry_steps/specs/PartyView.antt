@@ -33,21 +33,23 @@ sought_of sought.Value = abstract.TheValue
 sought_of sought.Pair = abstract.ThePair
 sought_of sought.Presence = abstract.Presence
 
-module _ {K V F : Type 0} where
-  abbrev pub task_of : Task K V F → abstract.Task K V F
+module _ {K V F A : Type 0} where
+  abbrev pub task_of : Task K V F A → abstract.Task K V F
   task_of (task.Find w k) = abstract.Finds (sought_of w) (key_of k)
   task_of (task.Remove w k) = abstract.Removes (sought_of w) (key_of k)
+  task_of (task.RemoveSeen z) = abstract.RemovesSeen z
   task_of (task.Insert k v) = abstract.Inserts k v
   task_of (task.Add k v) = abstract.Adds k v
   task_of (task.Compute k f) = abstract.Computes (key_of k) f
 
   -- the stage before the first step
-  abbrev pub first_stage : Call K V F → abstract.Stage K V F
+  abbrev pub first_stage : Call K V F A → abstract.Stage K V F
   first_stage (call.Get k) = abstract.AtLocate (abstract.Finds abstract.TheValue k.now)
   first_stage (call.GetKeyValue k) = abstract.AtLocate (abstract.Finds abstract.ThePair k.now)
   first_stage (call.ContainsKey k) = abstract.AtLocate (abstract.Finds abstract.Presence k.now)
   first_stage (call.Remove k) = abstract.AtLocate (abstract.Removes abstract.TheValue k.now)
   first_stage (call.RemoveEntry k) = abstract.AtLocate (abstract.Removes abstract.ThePair k.now)
+  first_stage (call.RemoveSeen z) = abstract.AtLocate (abstract.RemovesSeen z)
   first_stage (call.Insert k v) = abstract.AtLocate (abstract.Inserts k v)
   first_stage (call.TryInsert k v) = abstract.AtLocate (abstract.Adds k v)
   first_stage (call.Compute k f) = abstract.AtLocate (abstract.Computes k.now f)
@@ -55,6 +57,7 @@ module _ {K V F : Type 0} where
   first_stage call.Clear = abstract.AtSweep (fresh_sweep (Wipes 0))
   first_stage call.Walk = abstract.AtSweep (fresh_sweep Reads)
 
+module _ {K V F : Type 0} where
   -- that of a call without a key
   abbrev pub keyless_stage : Keyless → abstract.Stage K V F
   keyless_stage (keyless.Reserve a) = abstract.AtReserve a
@@ -76,7 +79,7 @@ module _ {K V F : Type 0} where
   owned_stage owned_call.Walk = abstract.AtSweep (fresh_sweep Reads)
 
   -- its function, if it has one, may be called
-  abbrev pub CallIsReady : (F → Type 0) → Call K V F → Type 0
+  abbrev pub CallIsReady : {A : Type 0} → (F → Type 0) → Call K V F A → Type 0
   CallIsReady ready (call.Compute k f) = ready f
   CallIsReady ready _ = ⊤
 

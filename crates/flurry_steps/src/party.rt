@@ -113,7 +113,7 @@ impl<'k, K: Drop, V: Drop, F: ComputeFn<K, V>, A: Allocator> Party<'k, K, V, F, 
     /// as 1. A call without a key does not read the hash.
     ///
     /// Constant time; takes no memory.
-    pub fn new(call: Call<'k, K, V, F>, hash: u64, processors: usize) -> Self
+    pub fn new(call: Call<'k, K, V, F, A>, hash: u64, processors: usize) -> Self
         requires { CallIsReady F.can_change call }
         ensures { result ≡ record { hash = hash; processors = processors; stage = first_stage call.entry } }
     {

@@ -1,18 +1,29 @@
--- A call that has its key, before its first step.
+-- A call before its first step.
 use Rattle.std.specs.Prelude.{◌≡◌, ℕ, Some, None}
 use Rattle.std.proofs.Common.{refl, ap}
-use Rattle.flurry_steps.specs.Party.{last_seen}
+use Rattle.flurry_steps.specs.Party.{RemovesSeen, AtLocate, PartyState, last_seen}
 use Rattle.flurry_steps.specs.PartyView.{owned_stage}
 use Rattle.flurry_steps.specs.declared.party.call.OwnedCall.{OwnedCall}
 use Rattle.flurry_steps.specs.declared.party.call.OwnedCall.TheVariants as owned
+use Rattle.flurry_model.specs.declared.call.Call.{Call}
+use Rattle.flurry_model.specs.declared.call.Call.TheVariants as call
+use Rattle.flurry_model.specs.declared.call.Seen.{Seen}
 use Rattle.flurry_theory.specs.Machine.{Locating}
 use Rattle.flurry_theory.specs.Map.{key_of}
 use Rattle.flurry_world.specs.Runs.{theory_call, hash_for}
 use Rattle.flurry_world.specs.World.{mode_of_stage, claim_of_stage, FollowsStage}
 use Rattle.flurry_world.proofs.StateLaws.{same_some}
 
+-- it goes by its key's hash, and stands where the machine's call begins
+pub record IsBeginning {K V F : Type 0} (hash : K → ℕ) (d : Call K V F) (c : PartyState K V F) : Type 0 where
+  pub own_hash : (k : K) → key_of d ≡ Some k → c.hash ≡ hash k
+  pub follows : FollowsStage hash d c.stage
+  pub mode : mode_of_stage c.stage ≡ Locating
+  pub claim : claim_of_stage c.stage ≡ None
+  pub unread : last_seen c.stage ≡ None
+
 module _ {K V F : Type 0} where
-  -- its stage
+  -- the stage of a call that has its key
   pub fresh_stage : (hash : K → ℕ) (c : OwnedCall K V F) → FollowsStage hash (theory_call c) (owned_stage c) × (mode_of_stage (owned_stage c) ≡ Locating) × (claim_of_stage (owned_stage c) ≡ None) × (last_seen (owned_stage c) ≡ None)
   fresh_stage hash (owned.Get j) = (refl, refl, refl, refl)
   fresh_stage hash (owned.GetKeyValue j) = (refl, refl, refl, refl)
@@ -39,3 +50,13 @@ module _ {K V F : Type 0} where
   own_hash hash (owned.Reserve n) k h = cc
   own_hash hash owned.Clear k h = cc
   own_hash hash owned.Walk k h = cc
+
+  -- a call that has its key
+  pub owned_begins : (hash : K → ℕ) (n : ℕ) (c : OwnedCall K V F) → IsBeginning hash (theory_call c) (record { hash = hash_for hash c; processors = n; stage = owned_stage c })
+  owned_begins hash n c =
+      let (follows, mode, claim, unread) = fresh_stage hash c in
+      record { own_hash = own_hash hash c; follows = follows; mode = mode; claim = claim; unread = unread }
+
+  -- the removal of a pair that a walk has read
+  pub drop_begins : (hash : K → ℕ) (n : ℕ) (z : Seen K V) → IsBeginning {F = F} hash (call.RemoveSeen z) (record { hash = hash z.key; processors = n; stage = AtLocate (RemovesSeen z) })
+  drop_begins hash n z = record { own_hash = λ k h. ap hash (same_some h); follows = refl; mode = refl; claim = refl; unread = refl }

@@ -1,20 +1,21 @@
 -- What a call's task tells of the call.
 use Rattle.std.specs.Prelude.{ℕ, [], Option, Some, None, IsSome, ⊤, ◌≡◌}
 use Rattle.std.specs.declared.cmp.Ordering.{Ordering}
-use Rattle.std.proofs.Common.{refl, sym, ap, subst}
+use Rattle.std.proofs.Common.{refl, sym, ap, subst, inl}
 use Rattle.flurry_model.specs.declared.reply.KeptReply.{KeptReply}
 use Rattle.flurry_model.specs.declared.reply.KeptReply.TheVariants.{Value}
 use Rattle.flurry_theory.specs.Machine.{Looking, mode_at_table, Opening, Adds as AddsPair}
 use Rattle.flurry_theory.specs.Map.{key_of, Allows}
 use Rattle.flurry_model.specs.declared.call.Call.{Call}
 use Rattle.flurry_model.specs.declared.call.Call.TheVariants.{Get, GetKeyValue, ContainsKey, Insert, TryInsert, Compute, Remove, RemoveEntry, RemoveSeen, Reserve, Clear, Walk}
-use Rattle.flurry_steps.specs.Party.{Task, Finds, Removes, Inserts, Adds, Computes, reply_for}
+use Rattle.flurry_steps.specs.Party.{Task, Finds, Removes, RemovesSeen, Inserts, Adds, Computes, reply_for}
 use Rattle.flurry_world.specs.World.{task_of_call}
 
 -- it adds nothing to an empty map
 abbrev pub AddsNothing : {K V F : Type 0} → Task K V F → Type 0
 AddsNothing (Finds w k) = ⊤
 AddsNothing (Removes w k) = ⊤
+AddsNothing (RemovesSeen z) = ⊤
 AddsNothing (Inserts k v) = ⊥
 AddsNothing (Adds k v) = ⊥
 AddsNothing (Computes k f) = ⊤
@@ -23,6 +24,7 @@ AddsNothing (Computes k f) = ⊤
 abbrev pub empty_reply : {K V F : Type 0} → Task K V F → KeptReply K V
 empty_reply (Finds w k) = reply_for w None
 empty_reply (Removes w k) = reply_for w None
+empty_reply (RemovesSeen z) = Value None
 empty_reply (Inserts k v) = Value None
 empty_reply (Adds k v) = Value None
 empty_reply (Computes k f) = Value None
@@ -44,7 +46,7 @@ module _ {K V F : Type 0} where
   found_task (Compute k f) t e h = refl
   found_task (Remove k) t e h = refl
   found_task (RemoveEntry k) t e h = refl
-  found_task (RemoveSeen z) t e h = cc
+  found_task (RemoveSeen z) t e h = refl
   found_task (Reserve n) t e h = cc
   found_task Clear t e h = cc
   found_task Walk t e h = cc
@@ -58,7 +60,7 @@ module _ {K V F : Type 0} where
   key_of_task (Compute k f) t h = refl
   key_of_task (Remove k) t h = refl
   key_of_task (RemoveEntry k) t h = refl
-  key_of_task (RemoveSeen z) t h = cc
+  key_of_task (RemoveSeen z) t h = refl
   key_of_task (Reserve n) t h = cc
   key_of_task Clear t h = cc
   key_of_task Walk t h = cc
@@ -73,7 +75,7 @@ module _ {K V F : Type 0} where
   opens_first (Compute k f) t h no_less = absurd (no_less (subst AddsNothing (same_task h) tt))
   opens_first (Remove k) t h no_less = absurd (no_less (subst AddsNothing (same_task h) tt))
   opens_first (RemoveEntry k) t h no_less = absurd (no_less (subst AddsNothing (same_task h) tt))
-  opens_first (RemoveSeen z) t h no_less = cc
+  opens_first (RemoveSeen z) t h no_less = absurd (no_less (subst AddsNothing (same_task h) tt))
   opens_first (Reserve n) t h no_less = cc
   opens_first Clear t h no_less = cc
   opens_first Walk t h no_less = cc
@@ -92,7 +94,7 @@ module _ {K V F : Type 0} where
     empty_allowed (Compute k f) t h n = subst (EmptyAnswer (Compute k f)) (same_task h) ((λ g. g), refl)
     empty_allowed (Remove k) t h n = subst (EmptyAnswer (Remove k)) (same_task h) ((λ g. g), refl)
     empty_allowed (RemoveEntry k) t h n = subst (EmptyAnswer (RemoveEntry k)) (same_task h) ((λ g. g), refl)
-    empty_allowed (RemoveSeen z) t h n = cc
+    empty_allowed (RemoveSeen z) t h n = subst (EmptyAnswer (RemoveSeen z)) (same_task h) ((λ g. g), inl refl)
     empty_allowed (Reserve m) t h n = cc
     empty_allowed Clear t h n = cc
     empty_allowed Walk t h n = cc

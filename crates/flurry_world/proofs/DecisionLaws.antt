@@ -1,11 +1,11 @@
 -- A call's step at a live bin, or at one that has moved, is the machine's.
-use Rattle.std.specs.Prelude.{◌≡◌, ℕ, suc, ◌+◌, ◌-◌, ◌^◌, ◌≤◌, Bool, true, false, cond, List, length, Option, Some, None, option_map, is_some, is_none, IsSome, Ok, Err}
+use Rattle.std.specs.Prelude.{◌≡◌, ℕ, suc, ◌+◌, ◌-◌, ◌^◌, ◌≤◌, ◌==◌, ◌&&◌, nat_lt, Bool, true, false, cond, List, length, Option, Some, None, option_map, is_some, is_none, IsSome, Ok, Err}
 use Rattle.std.specs.declared.cmp.Ordering.{Ordering}
 use Rattle.std.specs.Cmp.{IsTotalOrder}
 use Rattle.std.specs.List.{AllByRecursion}
 use Rattle.std.specs.Option.{option_map_or}
 use Rattle.std.specs.Map.{keys_of}
-use Rattle.std.proofs.Common.{arith, refl, sym, ◌∙◌, ap, subst, add-one}
+use Rattle.std.proofs.Common.{arith, refl, sym, ◌∙◌, ap, subst, inl, inr, add-one}
 use Rattle.flurry_model.specs.FiniteMap.{IsFiniteMap, with_pair, without}
 use Rattle.flurry_model.specs.HashOrder.{hash_then_key}
 use Rattle.flurry_model.specs.HashOrder as region
@@ -14,21 +14,23 @@ use Rattle.flurry_model.specs.declared.reply.KeptReply.TheVariants.{Value, Pair,
 use Rattle.flurry_model.proofs.FiniteMapLaws.{all_with_pair, all_without, length-with_pair, length-without, found_in}
 use Rattle.flurry_model.proofs.HashOrderLaws.{hash_then_key_total}
 use Rattle.flurry_slots.specs.Slot as slot
-use Rattle.flurry_slots.specs.Slot.{PlainEntry, Live, ComputeOutcome, WasAbsent, WasRemoved, WasChanged, next_number, entry_of_live, after_write, after_add, after_take, asks}
+use Rattle.flurry_slots.specs.Slot.{PlainEntry, Live, ComputeOutcome, WasAbsent, WasRemoved, WasChanged, next_number, entry_of_live, after_write, after_add, after_take, asks, is_unwritten_since}
 use Rattle.flurry_calls.specs.Outcome.{OutcomeReply}
-use Rattle.flurry_steps.specs.Party.{Sought, TheValue, ThePair, Presence, Task, Finds, Removes, Inserts, Adds, Computes, Stage, AtDone, reply_for, outcome_in, IsWriter}
+use Rattle.flurry_steps.specs.Party.{Sought, TheValue, ThePair, Presence, Task, Finds, Removes, RemovesSeen, Inserts, Adds, Computes, Stage, AtDone, reply_for, outcome_in, IsWriter}
 use Rattle.flurry_steps.specs.PartySlots as party
 use Rattle.flurry_steps.specs.PartySlots.{DecidesAt, GoesOnNew, GoesOnWritten, GoesOnAdded, stage_taken, stage_computed, stage_moved}
 use Rattle.flurry_theory.specs.Map.{same, find, key_of, Allows, CanBeRefused}
 use Rattle.flurry_theory.specs.Trace.{is_lookup}
-use Rattle.flurry_theory.specs.Bin.{Entry, pairs_of, bump, InRegion, leave_out, bin_after}
+use Rattle.flurry_theory.specs.Bin.{Entry, pairs_of, bump, number_of, has_number, InRegion, leave_out, bin_after}
 use Rattle.flurry_theory.specs.Machine.{BinDid, Looking, Done}
+use Rattle.flurry_theory.specs.Legal.{removes}
+use Rattle.flurry_model.specs.declared.call.Seen.{Seen}
 use Rattle.flurry_model.specs.declared.call.Call.{Call}
 use Rattle.flurry_model.specs.declared.call.Call.TheVariants.{Get, GetKeyValue, ContainsKey, Insert, TryInsert, Compute, Remove, RemoveEntry, RemoveSeen, Reserve, Clear, Walk}
 use Rattle.flurry_theory.proofs.BinSteps.{bin_did}
 use Rattle.flurry_world.specs.Entries.{entries_of_held, Hashed}
 use Rattle.flurry_world.specs.World.{task_of_call, mode_of_stage, claim_of_stage, HasDecided, FollowsStage}
-use Rattle.flurry_world.proofs.EntryLaws.{next_number-bump, length-entries_of_held, InRegion-entries, Ascending-entries, find-entries, place-entries, rewrite-entries, write-entries, leave_out-none, leave_out-entries, Hashed-with_pair, Hashed-without}
+use Rattle.flurry_world.proofs.EntryLaws.{next_number-bump, length-entries_of_held, InRegion-entries, Ascending-entries, find-entries, number-entries, place-entries, rewrite-entries, write-entries, leave_out-none, leave_out-entries, Hashed-with_pair, Hashed-without}
 
 -- ---- where a call stands that has decided
 
@@ -71,6 +73,11 @@ pub record Decision {K V F : Type 0} (cmp : K → K → Ordering) (hash : K → 
 
 -- ---- what a bin has at a key
 
+-- the call removes a pair only if it stands as it was read
+is_conditional : {K V F : Type 0} → Call K V F → Bool
+is_conditional (RemoveSeen z) = true
+is_conditional _ = false
+
 module _ {K V : Type 0} where
   value_found : (o : Option (PlainEntry K V)) → option_map (λ (x : PlainEntry K V). x.1.0) o ≡ option_map (λ (x : K × V). x.1) (option_map (λ (x : PlainEntry K V). (x.0.1, x.1.0)) o)
   value_found None = refl
@@ -83,24 +90,31 @@ module _ {K V : Type 0} where
 module _ {K V F : Type 0} (cmp : K → K → Ordering) (total : IsTotalOrder cmp) (hash : K → ℕ) (lawful : (j k : K) → same cmp j k ≡ true → hash j ≡ hash k) (gives : F → K → V → Option V → Type 0) where
   -- a live bin whose entries ascend, each at the hash of its key, in region (e, i), and whose count of writes is at most the greatest
   module _ (b : Live K V) (e i : ℕ) (up : IsFiniteMap (hash_then_key cmp) b.held) (hd : Hashed hash b.held) (room : b.writes ≤ 2 ^ 64 - 1) (lies : AllByRecursion (λ (k : ℕ × K). region.InRegion e i k.0) (keys_of b.held)) where
+    -- a conditional removal removes exactly if the number is the one that was seen
+    abbrev IsJudged : Call K V F → KeptReply K V → Type 0
+    IsJudged c r = (z : Seen K V) → c ≡ RemoveSeen z → removes cmp hash gives r ≡ has_number (number_of cmp (entries_of_held b.held) z.key) z.number
+
+    -- no other call is asked
+    unjudged : (c : Call K V F) (r : KeptReply K V) → is_conditional c ≡ false → IsJudged c r
+    unjudged c r other z h = let no : true ≡ false = ap is_conditional (sym h) ∙ other in cc
+
     -- the machine's bin after the call is this one
-    did_at : (c : Call K V F) (r : KeptReply K V) (d : Live K V) → IsSome (task_of_call c) → Allows cmp gives c (pairs_of (entries_of_held b.held)) r → bin_after cmp hash c r (entries_of_held b.held) b.writes ≡ (entries_of_held d.held, d.writes)
+    did_at : (c : Call K V F) (r : KeptReply K V) (d : Live K V) → IsJudged c r → Allows cmp gives c (pairs_of (entries_of_held b.held)) r → bin_after cmp hash c r (entries_of_held b.held) b.writes ≡ (entries_of_held d.held, d.writes)
         → BinDid cmp hash gives c r (entries_of_held b.held) b.writes (entries_of_held d.held) d.writes
-    did_at c r d task allowed after =
+    did_at c r d judged allowed after =
         subst (λ (p : List (Entry K V) × ℕ). BinDid cmp hash gives c r (entries_of_held b.held) b.writes p.0 p.1) after
-        (bin_did cmp total hash lawful gives c r (entries_of_held b.held) b.writes (Ascending-entries cmp total hash lawful b.held up hd) allowed
-        (λ z h. let none : IsSome (task_of_call {K = K} {V = V} {F = F} (RemoveSeen z)) = subst (λ (a : Call K V F). IsSome (task_of_call a)) h task in cc))
+        (bin_did cmp total hash lawful gives c r (entries_of_held b.held) b.writes (Ascending-entries cmp total hash lawful b.held up hd) allowed judged)
 
     -- ---- the bin stays
 
-    decision_kept : (c : Call K V F) (r : KeptReply K V) (s : Stage K V F) → HasReply hash c r s 0 0 → IsSome (task_of_call c) → Allows cmp gives c (pairs_of (entries_of_held b.held)) r
+    decision_kept : (c : Call K V F) (r : KeptReply K V) (s : Stage K V F) → HasReply hash c r s 0 0 → IsJudged c r → Allows cmp gives c (pairs_of (entries_of_held b.held)) r
         → bin_after cmp hash c r (entries_of_held b.held) b.writes ≡ (entries_of_held b.held, b.writes) → Decision cmp hash gives c b s b e i
-    decision_kept c r s stands task allowed after =
+    decision_kept c r s stands judged allowed after =
         let same_length : length (entries_of_held b.held) - length (entries_of_held b.held) ≡ 0 = omega arith in
         record {
           reply = r;
           said = stands.said;
-          did = did_at c r b task allowed after;
+          did = did_at c r b judged allowed after;
           in_region = InRegion-entries hash e i b.held hd lies;
           hashed = hd;
           mode = rw same_length (stands.mode);
@@ -125,14 +139,14 @@ module _ {K V F : Type 0} (cmp : K → K → Ordering) (total : IsTotalOrder cmp
         by_found true n = omega arith
         by_found false n = omega arith
 
-    decision_taken : (c : Call K V F) (r : KeptReply K V) (s : Stage K V F) (k : K) → HasReply hash c r s 0 (cond (is_some (entry_of_live cmp b (hash k) k)) 1 0) → IsSome (task_of_call c) → Allows cmp gives c (pairs_of (entries_of_held b.held)) r
+    decision_taken : (c : Call K V F) (r : KeptReply K V) (s : Stage K V F) (k : K) → HasReply hash c r s 0 (cond (is_some (entry_of_live cmp b (hash k) k)) 1 0) → IsJudged c r → Allows cmp gives c (pairs_of (entries_of_held b.held)) r
         → bin_after cmp hash c r (entries_of_held b.held) b.writes ≡ (leave_out cmp hash k (entries_of_held b.held), b.writes) → Decision cmp hash gives c b s (after_take cmp b (hash k) k) e i
-    decision_taken c r s k stands task allowed after =
+    decision_taken c r s k stands judged allowed after =
         let hashed : Hashed hash (after_take cmp b (hash k) k).held = Hashed-without cmp total hash lawful b.held k hd in
         record {
           reply = r;
           said = stands.said;
-          did = did_at c r (after_take cmp b (hash k) k) task allowed (after ∙ ap (λ (es : List (Entry K V)). (es, b.writes)) (sym (leave_out-entries cmp total hash lawful b.held k up hd)));
+          did = did_at c r (after_take cmp b (hash k) k) judged allowed (after ∙ ap (λ (es : List (Entry K V)). (es, b.writes)) (sym (leave_out-entries cmp total hash lawful b.held k up hd)));
           in_region = InRegion-entries hash e i (after_take cmp b (hash k) k).held hashed (all_without (hash_then_key_total total) (λ (q : ℕ × K). region.InRegion e i q.0) b.held (hash k, k) lies);
           hashed = hashed;
           mode = rw (none_gained k, lost_by k) (stands.mode);
@@ -161,16 +175,16 @@ module _ {K V F : Type 0} (cmp : K → K → Ordering) (total : IsTotalOrder cmp
         by_found true n = omega arith
         by_found false n = omega arith
 
-    decision_written : (c : Call K V F) (r : KeptReply K V) (s : Stage K V F) (bins : ℕ) (k : K) (v : V) → HasReply hash c r s (cond (is_some (entry_of_live cmp b (hash k) k)) 0 1) 0 → IsSome (task_of_call c)
+    decision_written : (c : Call K V F) (r : KeptReply K V) (s : Stage K V F) (bins : ℕ) (k : K) (v : V) → HasReply hash c r s (cond (is_some (entry_of_live cmp b (hash k) k)) 0 1) 0 → IsJudged c r
         → Allows cmp gives c (pairs_of (entries_of_held b.held)) r → region.InRegion e i (hash k)
         → bin_after cmp hash c r (entries_of_held b.held) b.writes ≡ (entries_of_held (with_pair (hash_then_key cmp) b.held (hash k, k) (v, bump b.writes)), bump b.writes)
         → Decision cmp hash gives c b s (after_write cmp bins b (hash k) k v) e i
-    decision_written c r s bins k v stands task allowed here after =
+    decision_written c r s bins k v stands judged allowed here after =
         let hashed : Hashed hash (after_write cmp bins b (hash k) k v).held = Hashed-with_pair cmp total hash lawful b.held k v (next_number b.writes) hd in
         record {
           reply = r;
           said = stands.said;
-          did = did_at c r (after_write cmp bins b (hash k) k v) task allowed (after ∙ ap (λ (n : ℕ). (entries_of_held (with_pair (hash_then_key cmp) b.held (hash k, k) (v, n)), n)) (sym (next_number-bump b.writes room)));
+          did = did_at c r (after_write cmp bins b (hash k) k v) judged allowed (after ∙ ap (λ (n : ℕ). (entries_of_held (with_pair (hash_then_key cmp) b.held (hash k, k) (v, n)), n)) (sym (next_number-bump b.writes room)));
           in_region = InRegion-entries hash e i (after_write cmp bins b (hash k) k v).held hashed (all_with_pair (hash_then_key_total total) (λ (q : ℕ × K). region.InRegion e i q.0) b.held (hash k, k) (v, next_number b.writes) here lies);
           hashed = hashed;
           mode = rw (gained_by bins k v, none_lost bins k v) (stands.mode);
@@ -188,27 +202,46 @@ module _ {K V F : Type 0} (cmp : K → K → Ordering) (total : IsTotalOrder cmp
     value_allowed k = value_found (entry_of_live cmp b (hash k) k) ∙ ap (option_map (λ (x : K × V). x.1)) (sym (find-entries cmp total hash lawful b.held k hd))
 
     finds_value : (k : K) (s : Stage K V F) (d : Live K V) → DecidesAt cmp gives (hash k) (Finds TheValue k) e b s d → Decision cmp hash gives (Get k) b s d e i
-    finds_value k s d p = rw (p.0, p.1) (decision_kept (Get k) _ _ (reply_done hash (Get k) (reply_for TheValue (entry_of_live cmp b (hash k) k)) refl) refl (ap Value (value_allowed k)) refl)
+    finds_value k s d p = rw (p.0, p.1) (decision_kept (Get k) _ _ (reply_done hash (Get k) (reply_for TheValue (entry_of_live cmp b (hash k) k)) refl) (unjudged (Get k) _ refl) (ap Value (value_allowed k)) refl)
 
     finds_pair : (k : K) (s : Stage K V F) (d : Live K V) → DecidesAt cmp gives (hash k) (Finds ThePair k) e b s d → Decision cmp hash gives (GetKeyValue k) b s d e i
-    finds_pair k s d p = rw (p.0, p.1) (decision_kept (GetKeyValue k) _ _ (reply_done hash (GetKeyValue k) (reply_for ThePair (entry_of_live cmp b (hash k) k)) refl) refl (ap Pair (sym (find-entries cmp total hash lawful b.held k hd))) refl)
+    finds_pair k s d p = rw (p.0, p.1) (decision_kept (GetKeyValue k) _ _ (reply_done hash (GetKeyValue k) (reply_for ThePair (entry_of_live cmp b (hash k) k)) refl) (unjudged (GetKeyValue k) _ refl) (ap Pair (sym (find-entries cmp total hash lawful b.held k hd))) refl)
 
     finds_presence : (k : K) (s : Stage K V F) (d : Live K V) → DecidesAt cmp gives (hash k) (Finds Presence k) e b s d → Decision cmp hash gives (ContainsKey k) b s d e i
     finds_presence k s d p =
         rw (p.0, p.1)
-        (decision_kept (ContainsKey k) _ _ (reply_done hash (ContainsKey k) (reply_for Presence (entry_of_live cmp b (hash k) k)) refl) refl
+        (decision_kept (ContainsKey k) _ _ (reply_done hash (ContainsKey k) (reply_for Presence (entry_of_live cmp b (hash k) k)) refl) (unjudged (ContainsKey k) _ refl)
         (ap Contains (presence_found (entry_of_live cmp b (hash k) k) ∙ ap is_some (sym (find-entries cmp total hash lawful b.held k hd)))) refl)
 
     removes_value : (k : K) (s : Stage K V F) (d : Live K V) → DecidesAt cmp gives (hash k) (Removes TheValue k) e b s d → Decision cmp hash gives (Remove k) b s d e i
-    removes_value k s d p = rw (p.0, p.1) (decision_taken (Remove k) _ _ k (reply_taken hash (Remove k) TheValue (entry_of_live cmp b (hash k) k) refl refl) refl (ap Value (value_allowed k)) refl)
+    removes_value k s d p = rw (p.0, p.1) (decision_taken (Remove k) _ _ k (reply_taken hash (Remove k) TheValue (entry_of_live cmp b (hash k) k) refl refl) (unjudged (Remove k) _ refl) (ap Value (value_allowed k)) refl)
 
     removes_pair : (k : K) (s : Stage K V F) (d : Live K V) → DecidesAt cmp gives (hash k) (Removes ThePair k) e b s d → Decision cmp hash gives (RemoveEntry k) b s d e i
-    removes_pair k s d p = rw (p.0, p.1) (decision_taken (RemoveEntry k) _ _ k (reply_taken hash (RemoveEntry k) ThePair (entry_of_live cmp b (hash k) k) refl refl) refl (ap Pair (sym (find-entries cmp total hash lawful b.held k hd))) refl)
+    removes_pair k s d p = rw (p.0, p.1) (decision_taken (RemoveEntry k) _ _ k (reply_taken hash (RemoveEntry k) ThePair (entry_of_live cmp b (hash k) k) refl refl) (unjudged (RemoveEntry k) _ refl) (ap Pair (sym (find-entries cmp total hash lawful b.held k hd))) refl)
+
+    -- the pair is still as it was read, so it is taken out; or it is not, and stays
+    removes_seen : (z : Seen K V) (s : Stage K V F) (d : Live K V) → DecidesAt cmp gives (hash z.key) (RemovesSeen z) e b s d → Decision cmp hash gives (RemoveSeen z) b s d e i
+    removes_seen z s d p = rw (p.0, p.1) (by_test (entry_of_live cmp b (hash z.key) z.key) refl (is_unwritten_since cmp z.number b (hash z.key) z.key) refl)
+      where
+        judged_at : (o : Option (PlainEntry K V)) → entry_of_live cmp b (hash z.key) z.key ≡ o → has_number (number_of cmp (entries_of_held b.held) z.key) z.number ≡ has_number (option_map (λ (x : PlainEntry K V). x.1.1) o) z.number
+        judged_at o q = ap (λ m. has_number m z.number) (number-entries cmp total hash lawful b.held z.key hd ∙ ap (option_map (λ (x : PlainEntry K V). x.1.1)) q)
+
+        judged : (r : KeptReply K V) (t : Bool) → removes cmp hash gives r ≡ t → has_number (number_of cmp (entries_of_held b.held) z.key) z.number ≡ t → IsJudged (RemoveSeen z) r
+        judged r t says has y h = let same_seen : z ≡ y = cc in rw ← same_seen (says ∙ sym has)
+
+        by_test : (o : Option (PlainEntry K V)) → entry_of_live cmp b (hash z.key) z.key ≡ o → (t : Bool) → option_map_or (λ (x : PlainEntry K V). x.1.1 == z.number && nat_lt z.number (2 ^ 64 - 1)) o false ≡ t
+            → Decision cmp hash gives (RemoveSeen z) b (stage_taken TheValue (cond t o None)) (cond t (after_take cmp b (hash z.key) z.key) b) e i
+        by_test None q true h = let no : false ≡ true = h in cc
+        by_test None q false h = decision_kept (RemoveSeen z) (Value None) _ (reply_done hash (RemoveSeen z) (Value None) refl) (judged (Value None) false refl (judged_at None q)) (inl refl) refl
+        by_test (Some x) q false h = decision_kept (RemoveSeen z) (Value None) _ (reply_done hash (RemoveSeen z) (Value None) refl) (judged (Value None) false refl (judged_at (Some x) q ∙ h)) (inl refl) refl
+        by_test (Some x) q true h =
+            decision_taken (RemoveSeen z) (Value (Some x.1.0)) _ z.key (rw q (record { said = refl; mode = refl; claim = refl; follows = has_decided hash (RemoveSeen z) (Value (Some x.1.0)) refl refl }))
+            (judged (Value (Some x.1.0)) true refl (judged_at (Some x) q ∙ h)) (inr (rw (found_at z.key (Some x) q) refl)) refl
 
     inserts : (k : K) (v : V) (s : Stage K V F) (d : Live K V) → region.InRegion e i (hash k) → DecidesAt cmp gives (hash k) (Inserts k v) e b s d → Decision cmp hash gives (Insert k v) b s d e i
     inserts k v s d here p =
         rw (p.1)
-        (decision_written (Insert k v) _ s (2 ^ e) k v (by_found (entry_of_live cmp b (hash k) k) (asks cmp (2 ^ e) b (hash k) k) (p.0)) refl (ap Value (value_allowed k)) here
+        (decision_written (Insert k v) _ s (2 ^ e) k v (by_found (entry_of_live cmp b (hash k) k) (asks cmp (2 ^ e) b (hash k) k) (p.0)) (unjudged (Insert k v) _ refl) (ap Value (value_allowed k)) here
         (ap (λ (es : List (Entry K V)). (es, bump b.writes)) (sym (write-entries cmp total hash lawful b.held k v (bump b.writes) up hd))))
       where
         by_found : (o : Option (PlainEntry K V)) (asked : Bool) → GoesOnWritten e (option_map (λ (x : PlainEntry K V). x.1.0) o, asked) s → HasReply hash (Insert k v) (Value (option_map (λ (x : PlainEntry K V). x.1.0) o)) s (cond (is_some o) 0 1) 0
@@ -222,9 +255,9 @@ module _ {K V F : Type 0} (cmp : K → K → Ordering) (total : IsTotalOrder cmp
             → GoesOnAdded e (option_map_or (λ current. Err (current, v)) (option_map (λ (x : PlainEntry K V). x.1.0) o) (Ok (v, asked))) s
             → Decision cmp hash gives (TryInsert k v) b s (cond (is_none o) (after_write cmp (2 ^ e) b (hash k) k v) b) e i
         by_found None q asked g =
-            decision_written (TryInsert k v) (New v) s (2 ^ e) k v (rw q (reply_new hash (TryInsert k v) (New v) e asked s refl refl g)) refl (rw (found_at k None q) refl) here
+            decision_written (TryInsert k v) (New v) s (2 ^ e) k v (rw q (reply_new hash (TryInsert k v) (New v) e asked s refl refl g)) (unjudged (TryInsert k v) _ refl) (rw (found_at k None q) refl) here
             (ap (λ (es : List (Entry K V)). (es, bump b.writes)) (sym (place-entries cmp total hash lawful b.held k v (bump b.writes) hd q)))
-        by_found (Some x) q asked g = rw g (decision_kept (TryInsert k v) (Exists x.1.0 v) _ (reply_done hash (TryInsert k v) (Exists x.1.0 v) refl) refl (rw (found_at k (Some x) q) refl) refl)
+        by_found (Some x) q asked g = rw g (decision_kept (TryInsert k v) (Exists x.1.0 v) _ (reply_done hash (TryInsert k v) (Exists x.1.0 v) refl) (unjudged (TryInsert k v) _ refl) (rw (found_at k (Some x) q) refl) refl)
 
     computes : (k : K) (f : F) (s : Stage K V F) (d : Live K V) → region.InRegion e i (hash k) → DecidesAt cmp gives (hash k) (Computes k f) e b s d → Decision cmp hash gives (Compute k f) b s d e i
     computes k f s d here p = by_outcome (p.0) (p.1) (p.2)
@@ -232,15 +265,15 @@ module _ {K V F : Type 0} (cmp : K → K → Ordering) (total : IsTotalOrder cmp
         by_outcome : (o : ComputeOutcome V) → slot.Computes cmp (gives f) (2 ^ e) b (hash k) k o d → s ≡ stage_computed o → Decision cmp hash gives (Compute k f) b s d e i
         by_outcome WasAbsent q g =
             rw (q.1, g)
-            (decision_kept (Compute k f) (Value None) _ (reply_done hash (Compute k f) (Value None) refl) refl (rw (found_at k None (q.0)) refl)
+            (decision_kept (Compute k f) (Value None) _ (reply_done hash (Compute k f) (Value None) refl) (unjudged (Compute k f) _ refl) (rw (found_at k None (q.0)) refl)
             (ap (λ (es : List (Entry K V)). (es, b.writes)) (leave_out-none cmp total hash lawful b.held k hd (q.0))))
         by_outcome WasRemoved q g =
             rw (q.3, g)
-            (decision_taken (Compute k f) (Value None) _ k (rw (q.1) (record { said = refl; mode = refl; claim = refl; follows = has_decided hash (Compute k f) (Value None) refl refl })) refl
+            (decision_taken (Compute k f) (Value None) _ k (rw (q.1) (record { said = refl; mode = refl; claim = refl; follows = has_decided hash (Compute k f) (Value None) refl refl })) (unjudged (Compute k f) _ refl)
             (rw (found_at k (Some q.0) (q.1)) (None, q.2, refl)) refl)
         by_outcome (WasChanged w) q g =
             rw (q.3, g)
-            (decision_written (Compute k f) (Value (Some w)) _ (2 ^ e) k w (rw (q.1) (reply_done hash (Compute k f) (Value (Some w)) refl)) refl (rw (found_at k (Some q.0) (q.1)) (Some w, q.2, refl)) here
+            (decision_written (Compute k f) (Value (Some w)) _ (2 ^ e) k w (rw (q.1) (reply_done hash (Compute k f) (Value (Some w)) refl)) (unjudged (Compute k f) _ refl) (rw (found_at k (Some q.0) (q.1)) (Some w, q.2, refl)) here
             (ap (λ (es : List (Entry K V)). (es, bump b.writes)) (sym (rewrite-entries cmp total hash lawful b.held k w (bump b.writes) (q.0) up hd (q.1)))))
 
     -- each call that decides there does what the machine's does
@@ -253,7 +286,7 @@ module _ {K V F : Type 0} (cmp : K → K → Ordering) (total : IsTotalOrder cmp
     decides (Compute j f) t k s d task key here p = let same_task : t ≡ Computes j f = cc in let same_key : k ≡ j = cc in computes j f s d (rw same_key at here) (rw (same_task, same_key) at p)
     decides (Remove j) t k s d task key here p = let same_task : t ≡ Removes TheValue j = cc in let same_key : k ≡ j = cc in removes_value j s d (rw (same_task, same_key) at p)
     decides (RemoveEntry j) t k s d task key here p = let same_task : t ≡ Removes ThePair j = cc in let same_key : k ≡ j = cc in removes_pair j s d (rw (same_task, same_key) at p)
-    decides (RemoveSeen z) t k s d task key here p = cc
+    decides (RemoveSeen z) t k s d task key here p = let same_task : t ≡ RemovesSeen z = cc in let same_key : k ≡ z.key = cc in removes_seen z s d (rw (same_task, same_key) at p)
     decides (Reserve n) t k s d task key here p = cc
     decides Clear t k s d task key here p = cc
     decides Walk t k s d task key here p = cc
@@ -279,7 +312,7 @@ module _ {K V F : Type 0} (cmp : K → K → Ordering) (total : IsTotalOrder cmp
     refused (Compute j f) t k task key p = let same_task : t ≡ Computes j f = cc in let same_key : k ≡ j = cc in compute_refused j f (rw (same_task, same_key) at p)
     refused (Remove j) t k task key p = let same_task : t ≡ Removes TheValue j = cc in rw same_task at p
     refused (RemoveEntry j) t k task key p = let same_task : t ≡ Removes ThePair j = cc in rw same_task at p
-    refused (RemoveSeen z) t k task key p = cc
+    refused (RemoveSeen z) t k task key p = let same_task : t ≡ RemovesSeen z = cc in rw same_task at p
     refused (Reserve n) t k task key p = tt
     refused Clear t k task key p = cc
     refused Walk t k task key p = tt
@@ -306,6 +339,7 @@ module _ {K V F : Type 0} where
   pub moved_mode : (t : Task K V F) (e : ℕ) → mode_of_stage (stage_moved t e) ≡ Looking (suc e)
   moved_mode (Finds w k) e = ap Looking (add-one e)
   moved_mode (Removes w k) e = ap Looking (add-one e)
+  moved_mode (RemovesSeen z) e = ap Looking (add-one e)
   moved_mode (Inserts k v) e = ap Looking (add-one e)
   moved_mode (Adds k v) e = ap Looking (add-one e)
   moved_mode (Computes k f) e = ap Looking (add-one e)
@@ -313,6 +347,7 @@ module _ {K V F : Type 0} where
   pub moved_claim : (t : Task K V F) (e : ℕ) → claim_of_stage (stage_moved t e) ≡ None
   moved_claim (Finds w k) e = refl
   moved_claim (Removes w k) e = refl
+  moved_claim (RemovesSeen z) e = refl
   moved_claim (Inserts k v) e = refl
   moved_claim (Adds k v) e = refl
   moved_claim (Computes k f) e = refl
@@ -320,6 +355,7 @@ module _ {K V F : Type 0} where
   pub moved_follows : (hash : K → ℕ) (c : Call K V F) (t : Task K V F) (e : ℕ) → task_of_call c ≡ Some t → FollowsStage hash c (stage_moved t e)
   moved_follows hash c (Finds w k) e task = task
   moved_follows hash c (Removes w k) e task = (task, writer_is c (Removes w k) task tt)
+  moved_follows hash c (RemovesSeen z) e task = (task, writer_is c (RemovesSeen z) task tt)
   moved_follows hash c (Inserts k v) e task = (task, writer_is c (Inserts k v) task tt)
   moved_follows hash c (Adds k v) e task = (task, writer_is c (Adds k v) task tt)
   moved_follows hash c (Computes k f) e task = (task, writer_is c (Computes k f) task tt)

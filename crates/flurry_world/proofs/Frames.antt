@@ -78,7 +78,7 @@ module _ {K V F S : Type 0} (cmp : K → K → Ordering) (hash : K → ℕ) (giv
   }
     where
       stepped : PartyRecord K V F
-      stepped = record { call = x.call; party_state = c; steps = suc x.steps }
+      stepped = record { call = x.call; began_from = x.began_from; party_state = c; steps = suc x.steps }
 
       caller : (q : ℕ) (y : PartyRecord K V F) (e : Bool) → (p == q) ≡ e → cond e (Some stepped) (slice_get w.party_records q) ≡ Some y → Follows hash y
       caller q y true e h = subst (Follows hash) (same_some h) (record { own_hash = λ j g. s.hash_stays ∙ (k.party_records p x at).own_hash j g; stage = s.follows })

@@ -8,7 +8,7 @@ use Rattle.flurry_slots.specs.Slot.{SlotState, IsSlot, IsContent}
 use Rattle.flurry_control.specs.Claim.{Range, next_of}
 use Rattle.flurry_control.specs.Control.{ControlState}
 use Rattle.flurry_calls.specs.Part.{ControlPart, LookPart, BinPart}
-use Rattle.flurry_steps.specs.Party.{Task, Finds, Removes, Inserts, Adds, Computes, Resume, Stage, AtLocate, AtBin, AtClaim, AtMove, AtUncount, AtCount, AtRecount, AtBegin, AtGrow, AtReserve, AtSweep, AtDone, AtTaken, PartyState, part_of, wanted_part, move_part, IsSingle}
+use Rattle.flurry_steps.specs.Party.{Task, Finds, Removes, RemovesSeen, Inserts, Adds, Computes, Resume, Stage, AtLocate, AtBin, AtClaim, AtMove, AtUncount, AtCount, AtRecount, AtBegin, AtGrow, AtReserve, AtSweep, AtDone, AtTaken, PartyState, part_of, wanted_part, move_part, IsSingle}
 use Rattle.flurry_steps.specs.PartyControl.{StageAtControl, ControlStep}
 use Rattle.flurry_steps.specs.PartySlots.{SlotStep, MoveGives, StageAtSlot}
 use Rattle.flurry_calls.specs.declared.step.Event.{Event}
@@ -116,6 +116,7 @@ module _ {K V F S : Type 0} (cmp : K → K → Ordering) (total : IsTotalOrder c
   by_stage (AtLocate t) e single h = control_step (AtLocate t) e tt refl h
   by_stage (AtBin (Finds y j) n) e single h = looks (Finds y j) n e h
   by_stage (AtBin (Removes y j) n) e single h = writes (Removes y j) n e h
+  by_stage (AtBin (RemovesSeen z) n) e single h = writes (RemovesSeen z) n e h
   by_stage (AtBin (Inserts j v) n) e single h = writes (Inserts j v) n e h
   by_stage (AtBin (Adds j v) n) e single h = writes (Adds j v) n e h
   by_stage (AtBin (Computes j g) n) e single h = writes (Computes j g) n e h

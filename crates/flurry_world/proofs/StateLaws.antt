@@ -12,7 +12,7 @@ use Rattle.flurry_control.specs.Control.{ControlState}
 use Rattle.flurry_steps.specs.Party.{PartyState, last_seen}
 use Rattle.flurry_world.specs.Entries.{slot_of}
 use Rattle.flurry_world.specs.Tables.{Tables, content_at}
-use Rattle.flurry_world.specs.World.{PartyRecord, WorldState, state_of, start_of, growth_of, mode_in, claim_in, seen_in, steps_in, mode_of_stage, claim_of_stage}
+use Rattle.flurry_world.specs.World.{PartyRecord, WorldState, state_of, start_of, growth_of, mode_in, claim_in, seen_in, began_from_in, steps_in, mode_of_stage, claim_of_stage}
 use Rattle.flurry_world.specs.Steps.{with_step}
 
 -- equal options hold equal values
@@ -86,7 +86,7 @@ module _ {K V F S : Type 0} (cmp : K → K → Ordering) (hash : K → ℕ) (giv
     pub claim : (q : ℕ) → at_place (state_of w).claim p (claim_of_stage c.stage) q ≡ (effect cmp hash gives (state_of w) p l).claim q
     pub count : b.count ≡ (effect cmp hash gives (state_of w) p l).count
     pub seen : (q : ℕ) → (state_of w).seen q ≡ (effect cmp hash gives (state_of w) p l).seen q
-    pub began_from : (q : ℕ) → None ≡ (effect cmp hash gives (state_of w) p l).began_from q
+    pub began_from : (q : ℕ) → (state_of w).began_from q ≡ (effect cmp hash gives (state_of w) p l).began_from q
 
   pub does_line : (w : WorldState K V F S) (p : ℕ) (x : PartyRecord K V F) (b : ControlState) (t : Tables K V) (c : PartyState K V F) (lab : Label K V F) (l : Transition K V F) → slice_get w.party_records p ≡ Some x → last_seen c.stage ≡ last_seen x.party_state.stage → IsLine w p b t c lab l
       → state_of (with_step w p x b t c lab) ≡ does cmp hash gives (state_of w) p l
@@ -101,13 +101,13 @@ module _ {K V F S : Type 0} (cmp : K → K → Ordering) (hash : K → ℕ) (giv
     claim = λ q. (read_set claim_in w.party_records p q y below ∙ is.claim q) i;
     count = is.count i;
     seen = λ q. (read_set seen_in w.party_records p q y below ∙ same_place (state_of w).seen p (last_seen c.stage) (ap seen_in h ∙ sym last) q ∙ is.seen q) i;
-    began_from = λ q. is.began_from q i;
+    began_from = λ q. (read_set began_from_in w.party_records p q y below ∙ same_place (state_of w).began_from p x.began_from (ap began_from_in h) q ∙ is.began_from q) i;
     steps = λ q. (read_set steps_in w.party_records p q y below ∙ ap (λ n. at_place (state_of w).steps p n q) (ap suc (sym (ap steps_in h)) ∙ sym is.steps_are)) i;
     trace = (turned ∙ ap (λ m. m ∷ reverse w.trace) is.label_is) i;
   }
     where
       y : PartyRecord K V F
-      y = record { call = x.call; party_state = c; steps = suc x.steps }
+      y = record { call = x.call; began_from = x.began_from; party_state = c; steps = suc x.steps }
 
       below : p < length w.party_records
       below = slice_get_within w.party_records p x h

@@ -11,7 +11,7 @@ use Rattle.flurry_control.specs.Control.{IsIdle, Grows}
 use Rattle.flurry_calls.specs.Cursor.{CursorState}
 use Rattle.flurry_calls.specs.Sweep as swept
 use Rattle.flurry_calls.specs.Sweep.{Errand, Reads, Wipes, SweepStage, AtOutset, OverBins, AtTotal, AtEnd, AfterEnd, SweepState, IsUnderWay}
-use Rattle.flurry_steps.specs.Party.{Task, Finds, Removes, Inserts, Adds, Computes, Resume, Stage, AtLocate, AtBin, AtClaim, AtMove, AtUncount, AtCount, AtRecount, AtBegin, AtGrow, AtReserve, AtSweep, AtDone, AtTaken, part_of, wanted_part, bin_part, move_part}
+use Rattle.flurry_steps.specs.Party.{Task, Finds, Removes, RemovesSeen, Inserts, Adds, Computes, Resume, Stage, AtLocate, AtBin, AtClaim, AtMove, AtUncount, AtCount, AtRecount, AtBegin, AtGrow, AtReserve, AtSweep, AtDone, AtTaken, part_of, wanted_part, bin_part, move_part}
 use Rattle.flurry_theory.specs.Map.{same, key_of}
 use Rattle.flurry_theory.specs.Machine.{Unborn}
 use Rattle.flurry_theory.specs.Invariant.{is_live, key_in, Named}
@@ -44,6 +44,7 @@ module _ {K V F S : Type 0} (cmp : K → K → Ordering) (total : IsTotalOrder c
       by_task : (u : Task K V F) → IsSome (place_at w.tables e (x.party_state.hash % 2 ^ e)) → IsThere w.tables (bin_part u e (x.party_state.hash % 2 ^ e))
       by_task (Finds y j) h = h
       by_task (Removes y j) h = h
+      by_task (RemovesSeen z) h = h
       by_task (Inserts j v) h = h
       by_task (Adds j v) h = h
       by_task (Computes j g) h = h

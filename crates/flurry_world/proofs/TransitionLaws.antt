@@ -18,7 +18,7 @@ use Rattle.flurry_control.specs.Control.{IsIdle, Grows}
 use Rattle.flurry_steps.specs.Party.{PartyState, last_seen}
 use Rattle.flurry_world.specs.Entries.{slot_of}
 use Rattle.flurry_world.specs.Tables.{Tables, content_at}
-use Rattle.flurry_world.specs.World.{PartyRecord, WorldState, state_of, start_of, mode_of_stage, mode_in, claim_of_stage, claim_in, seen_in, steps_in}
+use Rattle.flurry_world.specs.World.{PartyRecord, WorldState, state_of, start_of, mode_of_stage, mode_in, claim_of_stage, claim_in, seen_in, began_from_in, steps_in}
 use Rattle.flurry_world.specs.Steps.{with_step}
 use Rattle.flurry_world.proofs.StateLaws.{IsLine, one_more_step, read_set, same_place}
 
@@ -280,13 +280,13 @@ module _ {K V F S : Type 0} (cmp : K → K → Ordering) (hash : K → ℕ) (giv
     claim = λ q. (read_set claim_in w.party_records p q z below ∙ same_place (state_of w).claim p (claim_of_stage c.stage) (holds ∙ sym claim) q) j;
     count = w.control_state.count;
     seen = λ q. (read_set seen_in w.party_records p q z below ∙ ap (λ m. at_place (state_of w).seen p m q) seen) j;
-    began_from = λ q. None;
+    began_from = λ q. (read_set began_from_in w.party_records p q z below ∙ same_place (state_of w).began_from p x.began_from (ap began_from_in at) q) j;
     steps = λ q. (read_set steps_in w.party_records p q z below ∙ ap (λ m. at_place (state_of w).steps p m q) (ap suc (sym (ap steps_in at)) ∙ sym (stepped (machine.Reads e i f fs es n y) (λ d g h. grind (arith, h))))) j;
     trace = turned j;
   }
     where
       z : PartyRecord K V F
-      z = record { call = x.call; party_state = c; steps = suc x.steps }
+      z = record { call = x.call; began_from = x.began_from; party_state = c; steps = suc x.steps }
 
       turned : reverse (w.trace ++ label.Read p y.key y.value ∷ []) ≡ label.Read p y.key y.value ∷ reverse w.trace
       turned = reverse-append w.trace (label.Read p y.key y.value ∷ [])

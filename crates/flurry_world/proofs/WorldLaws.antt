@@ -15,12 +15,13 @@ use Rattle.flurry_theory.specs.Machine.{Can, Locating, Done, Finished, Begins, Q
 use Rattle.flurry_theory.specs.Invariant.{Inv}
 use Rattle.flurry_model.specs.declared.call.Call.{Call}
 use Rattle.flurry_model.specs.declared.call.Call.TheVariants as call
+use Rattle.flurry_model.specs.declared.call.Seen.{Seen}
 use Rattle.flurry_model.specs.declared.sizes.TheConstants.{MOST_LABELS}
 use Rattle.flurry_theory.specs.declared.Label.{Label}
 use Rattle.flurry_theory.specs.declared.Label.TheVariants as label
 use Rattle.flurry_theory.proofs.Step.{inv_step}
 use Rattle.flurry_world.specs.Tables.{Tables}
-use Rattle.flurry_world.specs.World.{PartyRecord, WorldState, Near, state_of, start_of, mode_in, claim_in, seen_in, steps_in, mode_of_stage, mode_of_sweep, claim_of_stage, FollowsSweep, FollowsStage, Follows, IsWorld, DoesTransition}
+use Rattle.flurry_world.specs.World.{PartyRecord, WorldState, Near, state_of, start_of, mode_in, claim_in, seen_in, began_from_in, steps_in, mode_of_stage, mode_of_sweep, claim_of_stage, FollowsSweep, FollowsStage, Follows, IsWorld, DoesTransition}
 use Rattle.flurry_world.specs.Parts.{PartStep}
 use Rattle.flurry_world.specs.Steps.{with_label, with_step, with_party_record, closing_label, GoesOn, StepBySweep, StepByStage}
 use Rattle.flurry_world.proofs.StateLaws.{same_place, same_some}
@@ -64,7 +65,7 @@ module _ {K V F S : Type 0} (cmp : K → K → Ordering) (total : IsTotalOrder c
       claim = (state_of w).claim;
       count = w.control_state.count;
       seen = (state_of w).seen;
-      began_from = λ _. None;
+      began_from = (state_of w).began_from;
       steps = λ q. (sym (same_place (state_of w).steps p ((state_of w).steps p) refl q) ∙ ap (λ b. at_place (state_of w).steps p (if b then suc ((state_of w).steps p) else (state_of w).steps p) q) (sym (ap is_some uncalled))) i;
       trace = turned i;
     }
@@ -90,11 +91,11 @@ module _ {K V F S : Type 0} (cmp : K → K → Ordering) (total : IsTotalOrder c
     }
 
   -- a call begins
-  module _ (d : Call K V F) (c : PartyState K V F) (mode : mode_of_stage c.stage ≡ Locating) (claim : claim_of_stage c.stage ≡ None) (unread : last_seen c.stage ≡ None) where
+  module _ (d : Call K V F) (from : Option ℕ) (origin : (v : ℕ) → from ≡ Some v → (z : Seen K V) × (seen_in (slice_get w.party_records v) ≡ Some z) × (d ≡ call.RemoveSeen z)) (c : PartyState K V F) (mode : mode_of_stage c.stage ≡ Locating) (claim : claim_of_stage c.stage ≡ None) (unread : last_seen c.stage ≡ None) where
     abbrev new : PartyRecord K V F
-    new = record { call = d; party_state = c; steps = 0 }
+    new = record { call = d; began_from = from; party_state = c; steps = 0 }
 
-    begin_after : state_of (with_party_record w d c) ≡ does cmp hash gives (state_of w) (length w.party_records) (Begins d None)
+    begin_after : state_of (with_party_record w d from c) ≡ does cmp hash gives (state_of w) (length w.party_records) (Begins d from)
     begin_after = λ i. record {
       start = ap (start_of w.first) turned i;
       published = w.control_state.published;
@@ -106,7 +107,7 @@ module _ {K V F S : Type 0} (cmp : K → K → Ordering) (total : IsTotalOrder c
       claim = λ q. (read_append claim_in w.party_records new q ∙ ap (λ m. at_place (state_of w).claim (length w.party_records) m q) claim) i;
       count = w.control_state.count;
       seen = λ q. (read_append seen_in w.party_records new q ∙ ap (λ m. at_place (state_of w).seen (length w.party_records) m q) unread) i;
-      began_from = λ q. sym (same_place (λ _. None) (length w.party_records) None refl q) i;
+      began_from = λ q. read_append began_from_in w.party_records new q i;
       steps = λ q. read_append steps_in w.party_records new q i;
       trace = turned i;
     }
@@ -114,15 +115,15 @@ module _ {K V F S : Type 0} (cmp : K → K → Ordering) (total : IsTotalOrder c
         turned : reverse (w.trace ++ label.Begin (length w.party_records) d ∷ []) ≡ label.Begin (length w.party_records) d ∷ reverse w.trace
         turned = reverse-append w.trace (label.Begin (length w.party_records) d ∷ [])
 
-    begin_can : Can cmp hash gives (state_of w) (length w.party_records) (Begins d None)
-    begin_can = (refl, λ v h. cc)
+    begin_can : Can cmp hash gives (state_of w) (length w.party_records) (Begins d from)
+    begin_can = (refl, origin)
 
-    pub begin_line : DoesTransition cmp hash gives w (length w.party_records) (with_party_record w d c)
-    begin_line = (Begins d None, begin_can, begin_after)
+    pub begin_line : DoesTransition cmp hash gives w (length w.party_records) (with_party_record w d from c)
+    begin_line = (Begins d from, begin_can, begin_after)
 
-    pub began : ((j : K) → key_of d ≡ Some j → c.hash ≡ hash j) → FollowsStage hash d c.stage → IsWorld cmp hash gives (with_party_record w d c)
+    pub began : ((j : K) → key_of d ≡ Some j → c.hash ≡ hash j) → FollowsStage hash d c.stage → IsWorld cmp hash gives (with_party_record w d from c)
     began own follows = record {
-      state = (k.state.0, subst (Inv cmp hash gives w.first k.state.0) (sym begin_after) (inv_step cmp total hash lawful gives w.first k.state.0 (state_of w) (length w.party_records) (Begins d None) begin_can k.state.1));
+      state = (k.state.0, subst (Inv cmp hash gives w.first k.state.0) (sym begin_after) (inv_step cmp total hash lawful gives w.first k.state.0 (state_of w) (length w.party_records) (Begins d from) begin_can k.state.1));
       party_records = λ q y h. by_place q y (length w.party_records == q) (sym (get_append w.party_records new q) ∙ h);
       hashed = k.hashed;
       control_state = k.control_state;

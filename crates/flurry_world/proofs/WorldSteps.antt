@@ -10,17 +10,17 @@ use Rattle.flurry_theory.proofs.Counts.{count_within}
 use Rattle.std.proofs.lemmas.Option.{slice_get_past, slice_get-get_or}
 use Rattle.flurry_control.specs.Control.{ControlState}
 use Rattle.flurry_steps.specs.Party.{PartyState, wanted_part}
-use Rattle.flurry_steps.specs.PartyView.{owned_stage}
-use Rattle.flurry_steps.specs.declared.party.call.OwnedCall.{OwnedCall}
+use Rattle.flurry_model.specs.declared.call.Call.{Call}
+use Rattle.flurry_model.specs.declared.call.Call.TheVariants as call
+use Rattle.flurry_model.specs.declared.call.Seen.{Seen}
 use Rattle.flurry_theory.specs.Map.{same}
 use Rattle.flurry_theory.specs.declared.Label.{Label}
 use Rattle.flurry_theory.specs.declared.Label.TheVariants as label
 use Rattle.flurry_world.specs.Tables.{Tables}
 use Rattle.flurry_world.specs.Parts.{IsGoing, IsThere}
-use Rattle.flurry_world.specs.World.{PartyRecord, WorldState, Near, state_of, steps_in, IsWorld, IsBounded, DoesTransition}
-use Rattle.flurry_world.specs.Steps.{with_label, with_step, StepByStage, CallerStep, WorldStep}
-use Rattle.flurry_world.specs.Runs.{theory_call, hash_for, begun_with}
-use Rattle.flurry_world.proofs.BeginLaws.{fresh_stage, own_hash}
+use Rattle.flurry_world.specs.World.{PartyRecord, WorldState, Near, state_of, seen_in, steps_in, IsWorld, IsBounded, DoesTransition}
+use Rattle.flurry_world.specs.Steps.{with_label, with_party_record, with_step, StepByStage, CallerStep, WorldStep}
+use Rattle.flurry_world.proofs.BeginLaws.{IsBeginning}
 use Rattle.flurry_world.proofs.WorldLaws.{silent, silent_line, began, begin_line, stepped, one_line}
 use Rattle.flurry_world.proofs.ThereLaws.{is_there}
 use Rattle.flurry_model.specs.declared.sizes.TheConstants.{MOST_LABELS}
@@ -82,7 +82,7 @@ module _ {K V F S : Type 0} (cmp : K → K → Ordering) (total : IsTotalOrder c
 
   -- a party's step
   pub party_step : (before : List (Label K V F)) → before ≡ w.trace → length before < MOST_LABELS → (p : ℕ) (x : PartyRecord K V F) → slice_get w.party_records p ≡ Some x → (c : PartyState K V F) (b : ControlState) (t : Tables K V) (l : Label K V F) → StepByStage cmp gives p x.party_state.stage x.party_state w.control_state w.tables l c b t
-      → (party_records : List (PartyRecord K V F)) → party_records ≡ slice_set w.party_records p (record { call = x.call; party_state = c; steps = x.steps + 1 }) → (trace : List (Label K V F)) → trace ≡ before ++ l ∷ []
+      → (party_records : List (PartyRecord K V F)) → party_records ≡ slice_set w.party_records p (record { call = x.call; began_from = x.began_from; party_state = c; steps = x.steps + 1 }) → (trace : List (Label K V F)) → trace ≡ before ++ l ∷ []
       → IsBounded cmp hash gives (record { hasher = w.hasher; processors = w.processors; first = w.first; control_state = b; tables = t; party_records = party_records; trace = trace })
       × WorldStep cmp gives w p (record { hasher = w.hasher; processors = w.processors; first = w.first; control_state = b; tables = t; party_records = party_records; trace = trace })
       × DoesTransition cmp hash gives w p (record { hasher = w.hasher; processors = w.processors; first = w.first; control_state = b; tables = t; party_records = party_records; trace = trace })
@@ -105,29 +105,30 @@ module _ {K V F S : Type 0} (cmp : K → K → Ordering) (total : IsTotalOrder c
       one_more = omega arith
 
       after : shown ≡ with_step w p x b t c l
-      after = ap (λ u. record { hasher = w.hasher; processors = w.processors; first = w.first; control_state = b; tables = t; party_records = u; trace = trace }) (d ∙ ap (λ n. slice_set w.party_records p (record { call = x.call; party_state = c; steps = n })) one_more)
-          ∙ ap (λ u. record { hasher = w.hasher; processors = w.processors; first = w.first; control_state = b; tables = t; party_records = slice_set w.party_records p (record { call = x.call; party_state = c; steps = suc x.steps }); trace = u }) e
+      after = ap (λ u. record { hasher = w.hasher; processors = w.processors; first = w.first; control_state = b; tables = t; party_records = u; trace = trace }) (d ∙ ap (λ n. slice_set w.party_records p (record { call = x.call; began_from = x.began_from; party_state = c; steps = n })) one_more)
+          ∙ ap (λ u. record { hasher = w.hasher; processors = w.processors; first = w.first; control_state = b; tables = t; party_records = slice_set w.party_records p (record { call = x.call; began_from = x.began_from; party_state = c; steps = suc x.steps }); trace = u }) e
 
   -- the beginning of a call
-  pub call_begins : (before : List (Label K V F)) → before ≡ w.trace → length before < MOST_LABELS → (parties : List (PartyRecord K V F)) → parties ≡ w.party_records → (d : OwnedCall K V F) (party_records : List (PartyRecord K V F))
-      → party_records ≡ parties ++ record { call = theory_call d; party_state = record { hash = hash_for hash d; processors = w.processors; stage = owned_stage d }; steps = 0 } ∷ [] → (n : ℕ) → n ≡ length w.party_records
-      → (trace : List (Label K V F)) → trace ≡ before ++ label.Begin n (theory_call d) ∷ []
-      → IsBounded cmp hash gives (record { hasher = w.hasher; processors = w.processors; first = w.first; control_state = w.control_state; tables = w.tables; party_records = party_records; trace = trace })
-      × (◌≡◌ {A = WorldState K V F S} (record { hasher = w.hasher; processors = w.processors; first = w.first; control_state = w.control_state; tables = w.tables; party_records = party_records; trace = trace }) (begun_with hash w d))
-      × DoesTransition cmp hash gives w n (record { hasher = w.hasher; processors = w.processors; first = w.first; control_state = w.control_state; tables = w.tables; party_records = party_records; trace = trace })
-  call_begins before is short parties are d party_records put n number trace added = (
-    subst (IsBounded cmp hash gives) (sym after) (record { world = begins; few = omega (arith, length-append w.trace (label.Begin (length w.party_records) (theory_call d) ∷ []), few) }),
-    after,
-    subst (DoesTransition cmp hash gives w n) (sym after) (subst (λ m. DoesTransition cmp hash gives w m (begun_with hash w d)) (sym number) (let (follows, mode, claim, unread) = fresh_stage hash d in begin_line cmp total hash (alike_class cmp hash alike) gives w k.world near _ _ mode claim unread)),
-  )
-    where
-      few : length w.trace < MOST_LABELS
-      few = subst (λ u. length u < MOST_LABELS) is short
+  module _ (d : Call K V F) (from : Option ℕ) (origin : (v : ℕ) → from ≡ Some v → (z : Seen K V) × (seen_in (slice_get w.party_records v) ≡ Some z) × (d ≡ call.RemoveSeen z)) (c : PartyState K V F) (fresh : IsBeginning hash d c) where
+    pub party_begins : (before : List (Label K V F)) → before ≡ w.trace → length before < MOST_LABELS → (parties : List (PartyRecord K V F)) → parties ≡ w.party_records → (party_records : List (PartyRecord K V F))
+        → party_records ≡ parties ++ record { call = d; began_from = from; party_state = c; steps = 0 } ∷ [] → (n : ℕ) → n ≡ length w.party_records
+        → (trace : List (Label K V F)) → trace ≡ before ++ label.Begin n d ∷ []
+        → IsBounded cmp hash gives (record { hasher = w.hasher; processors = w.processors; first = w.first; control_state = w.control_state; tables = w.tables; party_records = party_records; trace = trace })
+        × (◌≡◌ {A = WorldState K V F S} (record { hasher = w.hasher; processors = w.processors; first = w.first; control_state = w.control_state; tables = w.tables; party_records = party_records; trace = trace }) (with_party_record w d from c))
+        × DoesTransition cmp hash gives w n (record { hasher = w.hasher; processors = w.processors; first = w.first; control_state = w.control_state; tables = w.tables; party_records = party_records; trace = trace })
+    party_begins before is short parties are party_records put n number trace added = (
+      subst (IsBounded cmp hash gives) (sym after) (record { world = begins; few = omega (arith, length-append w.trace (label.Begin (length w.party_records) d ∷ []), few) }),
+      after,
+      subst (DoesTransition cmp hash gives w n) (sym after) (subst (λ m. DoesTransition cmp hash gives w m (with_party_record w d from c)) (sym number) (begin_line cmp total hash (alike_class cmp hash alike) gives w k.world near d from origin c fresh.mode fresh.claim fresh.unread)),
+    )
+      where
+        few : length w.trace < MOST_LABELS
+        few = subst (λ u. length u < MOST_LABELS) is short
 
-      after : ◌≡◌ {A = WorldState K V F S} (record { hasher = w.hasher; processors = w.processors; first = w.first; control_state = w.control_state; tables = w.tables; party_records = party_records; trace = trace }) (begun_with hash w d)
-      after = ap (λ u. record { hasher = w.hasher; processors = w.processors; first = w.first; control_state = w.control_state; tables = w.tables; party_records = u; trace = trace }) (put ∙ ap (λ u. u ++ record { call = theory_call d; party_state = record { hash = hash_for hash d; processors = w.processors; stage = owned_stage d }; steps = 0 } ∷ []) are)
-          ∙ ap (λ u. record { hasher = w.hasher; processors = w.processors; first = w.first; control_state = w.control_state; tables = w.tables; party_records = w.party_records ++ record { call = theory_call d; party_state = record { hash = hash_for hash d; processors = w.processors; stage = owned_stage d }; steps = 0 } ∷ []; trace = u })
-          (added ∙ ap (λ u. u ++ label.Begin n (theory_call d) ∷ []) is ∙ ap (λ m. w.trace ++ label.Begin m (theory_call d) ∷ []) number)
+        after : ◌≡◌ {A = WorldState K V F S} (record { hasher = w.hasher; processors = w.processors; first = w.first; control_state = w.control_state; tables = w.tables; party_records = party_records; trace = trace }) (with_party_record w d from c)
+        after = ap (λ u. record { hasher = w.hasher; processors = w.processors; first = w.first; control_state = w.control_state; tables = w.tables; party_records = u; trace = trace }) (put ∙ ap (λ u. u ++ record { call = d; began_from = from; party_state = c; steps = 0 } ∷ []) are)
+            ∙ ap (λ u. record { hasher = w.hasher; processors = w.processors; first = w.first; control_state = w.control_state; tables = w.tables; party_records = w.party_records ++ record { call = d; began_from = from; party_state = c; steps = 0 } ∷ []; trace = u })
+            (added ∙ ap (λ u. u ++ label.Begin n d ∷ []) is ∙ ap (λ m. w.trace ++ label.Begin m d ∷ []) number)
 
-      begins : IsWorld cmp hash gives (begun_with hash w d)
-      begins = let (follows, mode, claim, unread) = fresh_stage hash d in began cmp total hash (alike_class cmp hash alike) gives w k.world near _ _ mode claim unread (own_hash hash d) follows
+        begins : IsWorld cmp hash gives (with_party_record w d from c)
+        begins = began cmp total hash (alike_class cmp hash alike) gives w k.world near d from origin c fresh.mode fresh.claim fresh.unread fresh.own_hash fresh.follows

@@ -11,7 +11,7 @@ use Rattle.flurry_theory.specs.Trace.{is_lookup, decision, has_replied, has_clos
 use Rattle.flurry_theory.specs.Legal.{EachMay, RemovalMay}
 use Rattle.flurry_theory.specs.Invariant.{Legal}
 use Rattle.flurry_world.specs.Tables.{content_at}
-use Rattle.flurry_world.specs.World.{PartyRecord, WorldState, mode_in}
+use Rattle.flurry_world.specs.World.{PartyRecord, WorldState, mode_in, began_from_in}
 
 module _ {K V F S : Type 0} (cmp : K → K → Ordering) (hash : K → ℕ) (changes : F → K → V → Option V → Type 0) (w : WorldState K V F S) where
   -- the pairs that the calls in progress have added, or removed, and not counted yet
@@ -24,8 +24,8 @@ module _ {K V F S : Type 0} (cmp : K → K → Ordering) (hash : K → ℕ) (cha
   pub record IsLawful : Type 0 where
     -- the calls, walks, clears and growths of the labels are lawful
     pub legal : Legal cmp hash changes w.first (reverse w.trace)
-    -- and the conditional removals; no call has begun with what a walk read
-    pub removals : EachMay (RemovalMay cmp hash changes (λ _. None)) (reverse w.trace)
+    -- and the conditional removals, each by the walk with whose last read it began
+    pub removals : EachMay (RemovalMay cmp hash changes (λ p. began_from_in (slice_get w.party_records p))) (reverse w.trace)
     -- the pairs of the map are those that are counted and those that calls owe
     pub count : pos (length (pairs cmp hash (reverse w.trace))) ≡ w.control_state.count +ℤ pos owed_added -ℤ pos owed_removed
     -- no call goes to a bin that is not born yet

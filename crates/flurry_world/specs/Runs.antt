@@ -1,14 +1,16 @@
 -- How a world begins, how calls begin in it, and what a list of steps does.
-use Rattle.std.specs.Prelude.{◌≡◌, ◌⊎◌, ℕ, ◌^◌, ◌≤◌, ◌++◌, true, List, [], ◌∷◌, Option, Some, None, ⊤}
+use Rattle.std.specs.Prelude.{◌≡◌, ◌⊎◌, ℕ, ◌^◌, ◌≤◌, ◌++◌, true, List, [], ◌∷◌, length, slice_get, Option, Some, None, MatchOption, ⊤}
 use Rattle.std.specs.declared.cmp.Ordering.{Ordering}
 use Rattle.flurry_model.specs.Sizes.{wanted_of}
+use Rattle.flurry_steps.specs.Party.{RemovesSeen, AtLocate}
 use Rattle.flurry_steps.specs.PartyView.{owned_stage, OwnedIsReady}
 use Rattle.flurry_steps.specs.declared.party.call.OwnedCall.{OwnedCall}
 use Rattle.flurry_steps.specs.declared.party.call.OwnedCall.TheVariants as owned
 use Rattle.flurry_model.specs.declared.call.Call.{Call}
 use Rattle.flurry_model.specs.declared.call.Call.TheVariants as call
+use Rattle.flurry_model.specs.declared.call.Seen.{Seen}
 use Rattle.flurry_world.specs.Tables.{no_tables, with_table}
-use Rattle.flurry_world.specs.World.{WorldState}
+use Rattle.flurry_world.specs.World.{WorldState, seen_in}
 use Rattle.flurry_world.specs.Steps.{fresh_world, with_party_record, WorldStep}
 use Rattle.flurry_world.specs.declared.world.Step.{Step}
 use Rattle.flurry_world.specs.declared.world.Step.TheVariants as step
@@ -46,6 +48,7 @@ module _ {K V F : Type 0} where
   -- the function of a call that begins, if it has one, may be called
   abbrev pub StepIsReady : (F → Type 0) → Step K V F → Type 0
   StepIsReady ready (step.Begin c) = OwnedIsReady ready c
+  StepIsReady ready (step.Drop p) = ⊤
   StepIsReady ready (step.Step p) = ⊤
 
 module _ {K V F S : Type 0} where
@@ -57,12 +60,21 @@ module _ {K V F S : Type 0} where
 
   -- the world after a call began, before its first step
   abbrev pub begun_with : (K → ℕ) → WorldState K V F S → OwnedCall K V F → WorldState K V F S
-  begun_with hash w c = with_party_record w (theory_call c) (record { hash = hash_for hash c; processors = w.processors; stage = owned_stage c })
+  begun_with hash w c = with_party_record w (theory_call c) None (record { hash = hash_for hash c; processors = w.processors; stage = owned_stage c })
+
+  -- the world after the removal of the pair z, which walk p had read last, has begun
+  abbrev pub begun_to_drop : (K → ℕ) → WorldState K V F S → ℕ → Seen K V → WorldState K V F S
+  begun_to_drop hash w p z = with_party_record w (call.RemoveSeen z) (Some p) (record { hash = hash z.key; processors = w.processors; stage = AtLocate (RemovesSeen z) })
+
+  -- where party p is a walk that has read a pair, the removal of the last one begins, as the next party; else nothing does
+  abbrev pub Drops : (K → ℕ) → WorldState K V F S → ℕ → Option ℕ → WorldState K V F S → Type 0
+  Drops hash w p q v = MatchOption (seen_in (slice_get w.party_records p)) ((q ≡ None) × (v ≡ w)) (λ z. (q ≡ Some (length w.party_records)) × (v ≡ begun_to_drop hash w p z))
 
   module _ (cmp : K → K → Ordering) (hash : K → ℕ) (changes : F → K → V → Option V → Type 0) where
     -- one step of a list
     abbrev pub DoesStep : Step K V F → WorldState K V F S → WorldState K V F S → Type 0
     DoesStep (step.Begin c) w v = v ≡ begun_with hash w c
+    DoesStep (step.Drop p) w v = (q : Option ℕ) × Drops hash w p q v
     DoesStep (step.Step p) w v = WorldStep cmp changes w p v
 
     -- the steps, one after another

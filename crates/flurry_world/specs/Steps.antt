@@ -92,15 +92,15 @@ module _ {K V F S : Type 0} where
     trace = w.trace ++ l ∷ [];
   }
 
-  -- the world with one more call, which is the last party
-  abbrev pub with_party_record : WorldState K V F S → Call K V F → PartyState K V F → WorldState K V F S
-  with_party_record w d c = record {
+  -- the world with one more call, which is the last party; it began with the last read of a walk, or with nobody's
+  abbrev pub with_party_record : WorldState K V F S → Call K V F → Option ℕ → PartyState K V F → WorldState K V F S
+  with_party_record w d from c = record {
     hasher = w.hasher;
     processors = w.processors;
     first = w.first;
     control_state = w.control_state;
     tables = w.tables;
-    party_records = w.party_records ++ record { call = d; party_state = c; steps = 0 } ∷ [];
+    party_records = w.party_records ++ record { call = d; began_from = from; party_state = c; steps = 0 } ∷ [];
     trace = w.trace ++ label.Begin (length w.party_records) d ∷ [];
   }
 
@@ -112,7 +112,7 @@ module _ {K V F S : Type 0} where
     first = w.first;
     control_state = b;
     tables = t;
-    party_records = slice_set w.party_records p (record { call = x.call; party_state = c; steps = suc x.steps });
+    party_records = slice_set w.party_records p (record { call = x.call; began_from = x.began_from; party_state = c; steps = suc x.steps });
     trace = w.trace ++ l ∷ [];
   }
 

@@ -10,7 +10,7 @@ use Rattle.flurry_calls.specs.Outcome.{Outcome, OutcomeReply, OutcomeEnded, Outc
 use Rattle.flurry_calls.specs.Cursor as cursor
 use Rattle.flurry_calls.specs.Cursor.{CursorState}
 use Rattle.flurry_calls.specs.Sweep.{Errand, Reads, Wipes, SweepStage, AtOutset, OverBins, AtTotal, AtEnd, AfterEnd, SweepState}
-use Rattle.flurry_steps.specs.Party.{TheValue, ThePair, Presence, Task, Finds, Removes, Inserts, Adds, Computes, GrowFor, ForInsert, ForReserve, Resume, ThenBin, ThenRecount, ThenGrow, Stage, AtLocate, AtBin, AtClaim, AtMove, AtUncount, AtCount, AtRecount, AtBegin, AtGrow, AtReserve, AtSweep, AtDone, AtTaken, PartyState, last_seen}
+use Rattle.flurry_steps.specs.Party.{TheValue, ThePair, Presence, Task, Finds, Removes, RemovesSeen, Inserts, Adds, Computes, GrowFor, ForInsert, ForReserve, Resume, ThenBin, ThenRecount, ThenGrow, Stage, AtLocate, AtBin, AtClaim, AtMove, AtUncount, AtCount, AtRecount, AtBegin, AtGrow, AtReserve, AtSweep, AtDone, AtTaken, PartyState, last_seen}
 use Rattle.flurry_theory.specs.Machine as machine
 use Rattle.flurry_theory.specs.Machine.{State, Mode, Locating, Looking, Walking, Clearing, Done, Finished}
 use Rattle.flurry_theory.specs.Map.{key_of}
@@ -25,9 +25,11 @@ use Rattle.flurry_world.specs.Entries.{slot_of, Hashed}
 use Rattle.flurry_world.specs.Tables.{Tables, AreTables, slots_of, content_at}
 use Rattle.flurry_model.specs.declared.sizes.TheConstants.{MOST_LABELS}
 
--- a call that began, where it stands, and how many steps it has done
+-- a call that began, the walk with whose last read it began, if it is a removal of that pair, where it stands, and how many steps it has
+-- done
 pub record PartyRecord (K V F : Type 0) : Type 0 where
   pub call : Call K V F
+  pub began_from : Option ℕ
   pub party_state : PartyState K V F
   pub steps : ℕ
 
@@ -55,6 +57,7 @@ module _ {K V F : Type 0} where
   task_of_call (call.Compute k f) = Some (Computes k f)
   task_of_call (call.Remove k) = Some (Removes TheValue k)
   task_of_call (call.RemoveEntry k) = Some (Removes ThePair k)
+  task_of_call (call.RemoveSeen z) = Some (RemovesSeen z)
   task_of_call _ = None
 
 module _ {K : Type 0} where
@@ -193,6 +196,11 @@ module _ {K V F : Type 0} where
   seen_in None = None
   seen_in (Some x) = last_seen x.party_state.stage
 
+  -- the walk with whose last read it began
+  abbrev pub began_from_in : Option (PartyRecord K V F) → Option ℕ
+  began_from_in None = None
+  began_from_in (Some x) = x.began_from
+
   abbrev pub steps_in : Option (PartyRecord K V F) → ℕ
   steps_in None = 0
   steps_in (Some x) = x.steps
@@ -209,7 +217,7 @@ module _ {K V F : Type 0} where
     claim = λ p. claim_in (slice_get w.party_records p);
     count = w.control_state.count;
     seen = λ p. seen_in (slice_get w.party_records p);
-    began_from = λ _. None;
+    began_from = λ p. began_from_in (slice_get w.party_records p);
     steps = λ p. steps_in (slice_get w.party_records p);
     trace = reverse w.trace;
   }

@@ -1,20 +1,26 @@
 //! A call of a world.
-ghost use Rattle.std.specs.Prelude.{◌≡◌};
+ghost use Rattle.std.specs.Prelude.{◌≡◌, None, Some};
+ghost use Rattle.flurry_model.specs.declared.call.Call.TheVariants as call;
+ghost use Rattle.flurry_steps.specs.Party.{RemovesSeen, AtLocate};
 ghost use Rattle.flurry_steps.specs.PartyView.{owned_stage};
 ghost use Rattle.flurry_world.specs.Runs.{theory_call, hash_for};
 
+use flurry_calls::Seen;
+use flurry_model::call::Seen as KeptSeen;
 use flurry_model::hash::KeyHasher;
 use flurry_slots::ComputeFn;
 use flurry_steps::Party;
-use flurry_steps::party::OwnedCall;
+use flurry_steps::party::{Call as PartyCall, OwnedCall};
 use flurry_theory::Call;
 use std::alloc::Allocator;
 use std::marker::Model;
 
-/// A call that began, where it stands, and how many steps it has done.
+/// A call that began, the walk with whose last read it began, if it is a removal of that pair, where it stands, and how many steps it
+/// has done.
 #[derive(Drop)]
 pub(crate) struct PartyRecord<'k, K, V, F: ComputeFn<K, V>, A: Allocator> {
     pub(crate) call: Call<K, V, F>,
+    pub(crate) began_from: Option<usize>,
     pub(crate) party: Party<'k, K, V, F, A>,
     pub(crate) steps: usize,
 }
@@ -24,7 +30,28 @@ impl<'k, K, V, F: ComputeFn<K, V>, A: Allocator> Model for PartyRecord<'k, K, V,
 
     ghost Value = { PartyRecord K V F };
 
-    ghost view = { λ c. record { call = c.call; party_state = c.party; steps = c.steps } };
+    ghost view = { λ c. record { call = c.call; began_from = c.began_from; party_state = c.party; steps = c.steps } };
+}
+
+impl<'k, K: Copy + Drop, V: Copy + Drop, F: ComputeFn<K, V>, A: Allocator> PartyRecord<'k, K, V, F, A> {
+    // The removal of the pair that a walk has read last, before its first step.
+    pub(crate) fn of_seen(seen: Seen<K, V, A>, walk: usize, hash: u64, processors: usize) -> Self
+        ensures { result ≡ record { call = call.RemoveSeen seen.entry; began_from = Some walk;
+            party_state = record { hash = hash; processors = processors; stage = AtLocate (RemovesSeen seen.entry) };
+            steps = 0 } }
+    {
+        let kept = KeptSeen {
+            key: *seen.key(),
+            value: *seen.value(),
+            number: seen.number(),
+        };
+        PartyRecord {
+            call: Call::RemoveSeen(kept),
+            began_from: Some(walk),
+            party: Party::new(PartyCall::RemoveSeen(seen), hash, processors),
+            steps: 0,
+        }
+    }
 }
 
 // The call as labels keep it.

@@ -1,17 +1,18 @@
 //! A world: calls of a map in any order of steps.
-ghost use Rattle.std.specs.Prelude.{◌≡◌, ◌<◌, ◌^◌, length, pos, All, OnOk, OnErr, IfOk};
+ghost use Rattle.std.specs.Prelude.{◌≡◌, ◌<◌, ◌^◌, length, pos, slice_get, All, OnOk, OnErr, IfOk, IfSome};
 ghost use Rattle.std.specs.Vec.{vec_len, vec_capacity};
 ghost use Rattle.flurry_control.specs.Control.{IsIdle};
 ghost use Rattle.flurry_steps.specs.PartyView.{OwnedIsReady};
 ghost use Rattle.flurry_world.specs.Lawful.{IsLawful};
-ghost use Rattle.flurry_world.specs.Runs.{DoesStep, NewGives, Runs, RunsFront, StepIsReady, begun_with};
+ghost use Rattle.flurry_world.specs.Runs.{DoesStep, Drops, NewGives, Runs, RunsFront, StepIsReady, begun_with};
 ghost use Rattle.flurry_world.specs.Steps.{WorldStep, fresh_world};
-ghost use Rattle.flurry_world.specs.World.{DoesTransition, IsWorld, IsBounded};
+ghost use Rattle.flurry_world.specs.World.{DoesTransition, IsWorld, IsBounded, seen_in};
 ghost use Rattle.flurry_model.specs.declared.sizes.TheConstants.{MOST_LABELS};
 
 use crate::parts::Parts;
 use crate::party_record::{PartyRecord, hash_for, theory_call};
 use crate::step::step_party;
+use flurry_calls::Seen;
 use flurry_control::wanted_table;
 use flurry_model::hash::KeyHasher;
 pub use flurry_model::sizes::MOST_LABELS;
@@ -27,6 +28,8 @@ use std::marker::Model;
 pub enum Step<K, V, F> {
     /// A call begins.
     Begin(OwnedCall<K, V, F>),
+    /// The removal begins of the pair that the party of that number has read last; nothing where it has read nothing.
+    Drop(usize),
     /// The party of that number does its next step.
     Step(usize),
 }
@@ -139,11 +142,51 @@ impl<
         let kept = theory_call(call);
         self.party_records.push_reserved(PartyRecord {
             call: kept,
+            began_from: None,
             party: Party::from_owned(call, hash, self.processors),
             steps: 0,
         });
         self.trace.push_reserved(Label::Begin(party, kept));
         Ok(party)
+    }
+
+    /// Begins a removal of the pair that a walk has read last, and answers the number of its party. It removes the pair exactly if its
+    /// value still stands as it was read. Where the party of that number is no walk, or has read nothing, none begins, the answer is none,
+    /// and the world is as before.
+    ///
+    /// Constant time, and one hash of a key, but that the lists of parties and labels grow.
+    ///
+    /// # Errors
+    ///
+    /// [`AllocError`], where memory for the party, its label, or further owners of the pair is wanting. The world is then as before.
+    pub fn begin_remove_seen(&mut self, walk: usize) -> Result<Option<usize>, AllocError>
+        ensures ok { IfOk result (λ p. Drops (S.hash_of self.old.hasher) self.old walk p self.new) }
+        ensures line { IfOk result (λ p. IfSome p
+            (λ q. DoesTransition K.cmp (S.hash_of self.old.hasher) F.changes self.old q self.new)) }
+        ensures err { OnErr result (self.new ≡ self.old) }
+    {
+        let Some(seen) = self.last_seen(walk)? else {
+            return Ok(None);
+        };
+        make_room(&mut self.trace)?;
+        make_room(&mut self.party_records)?;
+        let party = self.party_records.len();
+        let hash = self.hasher.hash_one(seen.key());
+        let party_record = PartyRecord::of_seen(seen, walk, hash, self.processors);
+        let kept = party_record.call;
+        self.party_records.push_reserved(party_record);
+        self.trace.push_reserved(Label::Begin(party, kept));
+        Ok(Some(party))
+    }
+
+    // What the party of that number has read last; none of one that never began.
+    fn last_seen(&self, party: usize) -> Result<Option<Seen<K, V, A>>, AllocError>
+        ensures { IfOk result (λ z. z ≡ seen_in (slice_get self.now.party_records party)) }
+    {
+        match self.party_records.get(party) {
+            Some(party_record) => party_record.party.seen(),
+            None => Ok(None),
+        }
     }
 
     /// Does one step of a party, and adds its label. A party that has finished, and one that never began, does nothing, and its label
@@ -205,6 +248,10 @@ impl<
         match step {
             Step::Begin(call) => {
                 self.begin(call)?;
+                Ok(())
+            }
+            Step::Drop(walk) => {
+                self.begin_remove_seen(walk)?;
                 Ok(())
             }
             Step::Step(party) => self.step(party),

@@ -58,7 +58,7 @@ pub(super) fn absent_reply<K, V, A: Allocator>(sought: Sought) -> Reply<K, V, A>
 }
 
 fn locate<'k, K: Drop, V: Drop, F: ComputeFn<K, V>, A: Allocator, R: Room>(
-    task: Task<'k, K, V, F>,
+    task: Task<'k, K, V, F, A>,
     control: &mut Control,
     room: &mut R,
 ) -> (Stage<'k, K, V, F, A>, Event)
@@ -73,6 +73,7 @@ fn locate<'k, K: Drop, V: Drop, F: ComputeFn<K, V>, A: Allocator, R: Room>(
     match task {
         Task::Find(sought, _) => (Stage::Done(absent_reply(sought)), Event::Decide),
         Task::Remove(sought, _) => (Stage::Done(absent_reply(sought)), Event::Decide),
+        Task::RemoveSeen(_) => (Stage::Done(Reply::Value(None)), Event::Decide),
         Task::Compute(_, _) => (Stage::Done(Reply::Value(None)), Event::Decide),
         Task::Insert(key, value) => match control.open(FIRST_TABLE, room) {
             Ok(table) => (

@@ -4,7 +4,7 @@ ghost use Rattle.flurry_slots.specs.LiveView.{view_of_written, view_of_added};
 ghost use Rattle.flurry_bins.specs.PlainEntries.{numbered_pair};
 ghost use Rattle.flurry_slots.specs.Slot.{IsSlot, IsUnborn, LiesIn};
 ghost use Rattle.flurry_calls.specs.Outcome.{OutcomeReply};
-ghost use Rattle.flurry_steps.specs.Party.{StageIsReady, TaskIsReady, IsWriter, IsDecided, steps_left, Finds, Removes, Inserts, Adds, Computes, reply_for};
+ghost use Rattle.flurry_steps.specs.Party.{StageIsReady, TaskIsReady, IsWriter, IsDecided, steps_left, Finds, Removes, RemovesSeen, Inserts, Adds, Computes, reply_for};
 ghost use Rattle.flurry_steps.specs.PartySlots.{ContentGives, GoesOnNew, GoesOnWritten, GoesOnAdded, FindCanBeRefused};
 ghost use Rattle.flurry_calls.specs.OutcomeView.{outcome_of};
 ghost use Rattle.flurry_steps.specs.PartyView.{key_of, stage_of, task_of, sought_of};
@@ -15,6 +15,7 @@ use super::call::{Key, Sought, Task};
 use super::stage::{GrowFor, Resume, Stage};
 use super::{Event, Reply};
 use flurry_bins::bin::Entry;
+use flurry_calls::Seen;
 use flurry_control::wanted_table;
 use flurry_model::try_insert::TryInsertError;
 use flurry_slots::{Added, Answer, ComputeFn, Computed, Slot, Written};
@@ -77,7 +78,7 @@ pub(super) fn step_lookup<'k, K: Ord + Drop, V: Drop, F: ComputeFn<K, V>, A: All
 pub(super) fn step_write<'k, K: Ord + Drop, V: Drop, F: ComputeFn<K, V>, A: Allocator + Copy>(
     alloc: A,
     hash: u64,
-    task: Task<'k, K, V, F>,
+    task: Task<'k, K, V, F, A>,
     table: u8,
     slot: &mut Slot<K, V, A>,
 ) -> (Stage<'k, K, V, F, A>, Event)
@@ -94,6 +95,7 @@ pub(super) fn step_write<'k, K: Ord + Drop, V: Drop, F: ComputeFn<K, V>, A: Allo
 {
     match task {
         Task::Remove(sought, key) => return remove(hash, sought, key, table, slot),
+        Task::RemoveSeen(seen) => return remove_seen(hash, seen, table, slot),
         Task::Insert(key, value) => return insert(alloc, hash, key, value, table, slot),
         Task::Add(key, value) => return try_insert(alloc, hash, key, value, table, slot),
         Task::Compute(key, f) => return compute(alloc, hash, key, f, table, slot),
@@ -140,6 +142,35 @@ fn remove<'k, K: Ord + Drop, V: Drop, F: ComputeFn<K, V>, A: Allocator>(
             Event::Silent,
         ),
         Answer::Unborn(()) => (Stage::Locate(Task::Remove(sought, key)), Event::Silent),
+    }
+}
+
+fn remove_seen<'k, K: Ord + Drop, V: Drop, F: ComputeFn<K, V>, A: Allocator>(
+    hash: u64,
+    seen: Seen<K, V, A>,
+    table: u8,
+    slot: &mut Slot<K, V, A>,
+) -> (Stage<'k, K, V, F, A>, Event)
+    requires region { LiesIn hash slot.old }
+    requires at { table ≡ slot.old.table }
+    ensures ready { StageIsReady F.can_change (stage_of result.0) }
+    ensures within { IsSlot K.cmp slot.old }
+    ensures table { slot.new.table ≡ slot.old.table }
+    ensures index { slot.new.index ≡ slot.old.index }
+    ensures step { ContentGives K.cmp F.changes hash (RemovesSeen seen.entry) table slot.old.content result.1
+        (stage_of result.0) slot.new.content }
+{
+    match slot.take_if(hash, seen.key(), seen.number()) {
+        Answer::Here(Some(entry)) => {
+            let reply = owned_reply(Sought::Value, entry);
+            (Stage::Uncount(reply), Event::Decide)
+        }
+        Answer::Here(None) => (Stage::Done(Reply::Value(None)), Event::Decide),
+        Answer::Moved(()) => (
+            Stage::Claim(Resume::Bin(Task::RemoveSeen(seen), table + 1)),
+            Event::Silent,
+        ),
+        Answer::Unborn(()) => (Stage::Locate(Task::RemoveSeen(seen)), Event::Silent),
     }
 }
 

@@ -2,9 +2,12 @@
 ghost use Rattle.std.specs.Prelude.{◌≡◌};
 ghost use Rattle.flurry_steps.specs.PartyView.{key_of};
 
+use flurry_calls::Seen;
+use std::alloc::{Allocator, Global};
+
 /// A call of a shared map.
 #[derive(Drop)]
-pub enum Call<'k, K, V, F> {
+pub enum Call<'k, K, V, F, A: Allocator = Global> {
     /// The value of a key.
     Get(&'k K),
     /// The stored key and the value of a key.
@@ -15,6 +18,8 @@ pub enum Call<'k, K, V, F> {
     Remove(&'k K),
     /// Removes the pair of a key, and answers the stored key and the value.
     RemoveEntry(&'k K),
+    /// Removes a pair that a walk has read exactly if its value still stands as it was read, and answers it.
+    RemoveSeen(Seen<K, V, A>),
     /// Puts a value at a key, and answers the value before.
     Insert(K, V),
     /// Puts a value at a key that is absent.
@@ -88,9 +93,10 @@ pub(crate) enum Sought {
 
 /// A call of one key that did not decide yet.
 #[derive(Drop)]
-pub(crate) enum Task<'k, K, V, F> {
+pub(crate) enum Task<'k, K, V, F, A: Allocator> {
     Find(Sought, Key<'k, K>),
     Remove(Sought, Key<'k, K>),
+    RemoveSeen(Seen<K, V, A>),
     Insert(K, V),
     Add(K, V),
     Compute(Key<'k, K>, F),

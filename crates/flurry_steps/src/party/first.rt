@@ -26,7 +26,9 @@ pub(crate) enum Keyless {
 }
 
 // The task of a call of one key.
-pub(super) fn task_for<'k, K, V, F>(call: Call<'k, K, V, F>) -> Result<Task<'k, K, V, F>, Keyless>
+pub(super) fn task_for<'k, K, V, F, A: Allocator>(
+    call: Call<'k, K, V, F, A>,
+) -> Result<Task<'k, K, V, F, A>, Keyless>
     ensures { MatchResult result (λ t. first_stage call.entry ≡ AtLocate (task_of t))
         (λ c. first_stage call.entry ≡ keyless_stage c) }
 {
@@ -36,6 +38,7 @@ pub(super) fn task_for<'k, K, V, F>(call: Call<'k, K, V, F>) -> Result<Task<'k, 
         Call::ContainsKey(key) => Ok(Task::Find(Sought::Presence, Key::Lent(key))),
         Call::Remove(key) => Ok(Task::Remove(Sought::Value, Key::Lent(key))),
         Call::RemoveEntry(key) => Ok(Task::Remove(Sought::Pair, Key::Lent(key))),
+        Call::RemoveSeen(seen) => Ok(Task::RemoveSeen(seen)),
         Call::Insert(key, value) => Ok(Task::Insert(key, value)),
         Call::TryInsert(key, value) => Ok(Task::Add(key, value)),
         Call::Compute(key, f) => Ok(Task::Compute(Key::Lent(key), f)),
@@ -46,9 +49,9 @@ pub(super) fn task_for<'k, K, V, F>(call: Call<'k, K, V, F>) -> Result<Task<'k, 
 }
 
 // The same of a call that has its key.
-pub(super) fn task_of_owned<'k, K, V, F>(
+pub(super) fn task_of_owned<'k, K, V, F, A: Allocator>(
     call: OwnedCall<K, V, F>,
-) -> Result<Task<'k, K, V, F>, Keyless>
+) -> Result<Task<'k, K, V, F, A>, Keyless>
     ensures { MatchResult result (λ t. owned_stage call ≡ AtLocate (task_of t))
         (λ c. owned_stage call ≡ keyless_stage c) }
 {
@@ -73,7 +76,7 @@ impl<'k, K: Ord + Drop, V: Drop, F: ComputeFn<K, V>, A: Allocator> Party<'k, K, 
     ///
     /// As many steps as a look-up in the bin.
     pub fn look_first(
-        call: Call<'k, K, V, F>,
+        call: Call<'k, K, V, F, A>,
         hash: u64,
         start: &PublishedTable,
         slot: &Slot<K, V, A>,
@@ -103,7 +106,7 @@ impl<'k, K: Ord + Drop, V: Drop, F: ComputeFn<K, V>, A: Allocator + Copy> Party<
     /// As many steps as a look-up in the bin.
     #[inline(always)]
     pub fn write_first(
-        call: Call<'k, K, V, F>,
+        call: Call<'k, K, V, F, A>,
         hash: u64,
         start: &PublishedTable,
         alloc: A,

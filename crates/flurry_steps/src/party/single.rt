@@ -50,7 +50,7 @@ impl<'k, K, V, F: ComputeFn<K, V>, A: Allocator> Model for Single<'k, K, V, F, A
 
 impl<'k, K: Drop, V: Drop, F: ComputeFn<K, V>, A: Allocator> Single<'k, K, V, F, A> {
     // One of one key, before its first step.
-    pub(super) fn of_task(task: Task<'k, K, V, F>, hash: u64, processors: usize) -> Self
+    pub(super) fn of_task(task: Task<'k, K, V, F, A>, hash: u64, processors: usize) -> Self
         requires { TaskIsReady F.can_change (task_of task) }
         ensures { result ≡ record { hash = hash; processors = processors; stage = AtLocate (task_of task.entry) } }
     {

@@ -22,7 +22,7 @@ pub(crate) enum GrowFor<K, V, A: Allocator> {
 #[derive(Drop)]
 pub(crate) enum Resume<'k, K, V, F, A: Allocator> {
     /// Its bin in that table.
-    Bin(Task<'k, K, V, F>, u8),
+    Bin(Task<'k, K, V, F, A>, u8),
     /// Another look at the count.
     Recount(Reply<K, V, A>),
     /// Growing to that table.
@@ -33,9 +33,9 @@ pub(crate) enum Resume<'k, K, V, F, A: Allocator> {
 #[derive(Drop)]
 pub(crate) enum Stage<'k, K, V, F, A: Allocator> {
     /// It asks for the published table.
-    Locate(Task<'k, K, V, F>),
+    Locate(Task<'k, K, V, F, A>),
     /// It goes to its bin in that table.
-    Bin(Task<'k, K, V, F>, u8),
+    Bin(Task<'k, K, V, F, A>, u8),
     /// It claims bins to move.
     Claim(Resume<'k, K, V, F, A>),
     /// It moves those bins, and reports once all have moved.
