@@ -36,8 +36,8 @@ impl<'k, K, V, F: ComputeFn<K, V>, A: Allocator> Model for PartyRecord<'k, K, V,
 impl<'k, K: Copy + Drop, V: Copy + Drop, F: ComputeFn<K, V>, A: Allocator> PartyRecord<'k, K, V, F, A> {
     // The removal of the pair that a walk has read last, before its first step.
     pub(crate) fn of_seen(seen: Seen<K, V, A>, walk: usize, hash: u64, processors: usize) -> Self
-        ensures { result ≡ record { call = call.RemoveSeen seen.entry; began_from = Some walk;
-            party_state = record { hash = hash; processors = processors; stage = AtLocate (RemovesSeen seen.entry) };
+        ensures { result ≡ record { call = call.RemoveSeen seen; began_from = Some walk;
+            party_state = record { hash = hash; processors = processors; stage = AtLocate (RemovesSeen seen) };
             steps = 0 } }
     {
         let kept = KeptSeen {

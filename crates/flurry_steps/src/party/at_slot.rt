@@ -157,7 +157,7 @@ fn remove_seen<'k, K: Ord + Drop, V: Drop, F: ComputeFn<K, V>, A: Allocator>(
     ensures within { IsSlot K.cmp slot.old }
     ensures table { slot.new.table ≡ slot.old.table }
     ensures index { slot.new.index ≡ slot.old.index }
-    ensures step { ContentGives K.cmp F.changes hash (RemovesSeen seen.entry) table slot.old.content result.1
+    ensures step { ContentGives K.cmp F.changes hash (RemovesSeen seen) table slot.old.content result.1
         (stage_of result.0) slot.new.content }
 {
     match slot.take_if(hash, seen.key(), seen.number()) {
