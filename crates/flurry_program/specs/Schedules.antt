@@ -2,7 +2,7 @@
 use Rattle.std.specs.Prelude.{◌≢◌, ℕ, ◌<◌, ◌≤◌, ◌^◌, List, ◌∷◌, ◌++◌, codes, ⊤}
 use Rattle.std.specs.Fmt.{decimal}
 use Rattle.flurry_program.specs.declared.schedule.Line.{Line}
-use Rattle.flurry_program.specs.declared.schedule.Line.TheVariants.{World, Insert, Try, Get, Remove, Reserve, Clear, Walk, Step}
+use Rattle.flurry_program.specs.declared.schedule.Line.TheVariants.{World, Insert, Try, Get, Remove, Reserve, Clear, Walk, Drop, Step}
 
 -- a line as it is written, without its line end
 abbrev pub text_of : Line → List ℕ
@@ -14,6 +14,7 @@ text_of (Remove k) = codes "begin remove " ++ decimal k
 text_of (Reserve n) = codes "begin reserve " ++ decimal n
 text_of Clear = codes "begin clear"
 text_of Walk = codes "begin walk"
+text_of (Drop p) = codes "begin drop " ++ decimal p
 text_of (Step p n) = codes "step " ++ (decimal p ++ 32 ∷ decimal n)
 
 -- its numbers have 64 bits, and it asks for 100000 steps at most
@@ -26,6 +27,7 @@ IsLine (Remove k) = k < 2 ^ 64
 IsLine (Reserve n) = n < 2 ^ 64
 IsLine Clear = ⊤
 IsLine Walk = ⊤
+IsLine (Drop p) = p < 2 ^ 64
 IsLine (Step p n) = (p < 2 ^ 64) × (n ≤ 100000)
 
 -- no line of a schedule is written so

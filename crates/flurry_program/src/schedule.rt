@@ -27,6 +27,8 @@ pub enum Line {
     Clear,
     /// `begin walk`
     Walk,
+    /// `begin drop P`
+    Drop(u64),
     /// `step P N`
     Step(u64, u64),
 }
@@ -94,6 +96,11 @@ fn parse_call(words: &[u8]) -> Option<Line>
     } else if let Some(rest) = strip(words, b"remove ") {
         match number(rest) {
             Some(key) => Some(Line::Remove(key)),
+            None => None,
+        }
+    } else if let Some(rest) = strip(words, b"drop ") {
+        match number(rest) {
+            Some(party) => Some(Line::Drop(party)),
             None => None,
         }
     } else if let Some(rest) = strip(words, b"reserve ") {

@@ -6,7 +6,7 @@ ghost use Rattle.flurry_theory.specs.declared.Label.{Label};
 ghost use Rattle.flurry_world.specs.declared.world.Step.TheVariants as step;
 ghost use Rattle.flurry_program.specs.Labels.{label_text};
 ghost use Rattle.flurry_program.specs.Runs.{Answered, RunsLines, FailsForCause};
-ghost use Rattle.flurry_program.specs.ScheduleRuns.{of_a_schedule, of_a_world, AnswersSteps};
+ghost use Rattle.flurry_program.specs.ScheduleRuns.{of_a_schedule, of_a_world, AnswersDrop, AnswersSteps};
 ghost use Rattle.flurry_program.specs.declared.schedule.Line.{Line};
 ghost use Rattle.flurry_program.specs.Lengths.{short_line};
 ghost use Rattle.flurry_model.specs.declared.hash.LowHashBuilder.{LowHashBuilder};
@@ -34,6 +34,8 @@ type Numbers<'k, F, A> = World<'k, u64, u64, F, LowHashBuilder, A>;
 /// | `world P C` | a world of P processors for C pairs, over the hasher that gives each key itself | none |
 /// | `begin insert K V`, `begin try K V`, `begin get K`, `begin remove K` | a call of one key begins; the first is party 0, the next party 1 | `begin P` |
 /// | `begin reserve N` | a call that makes room for N pairs more begins | `begin P` |
+/// | `begin clear`, `begin walk` | a call that goes over all bins begins | `begin P` |
+/// | `begin drop P` | the removal begins of the pair that party P, a walk, has read last; nothing where it has read nothing | `begin Q`, or `no` |
 /// | `step P N` | N steps of party P, at most 100000 | the label of each step |
 ///
 /// A label has a line of its own.
@@ -43,12 +45,12 @@ type Numbers<'k, F, A> = World<'k, u64, u64, F, LowHashBuilder, A>;
 /// | `decide P R` | party P decided on this reply |
 /// | `reply P R`, `end P` | the party is done, with a reply if it is a call of one key |
 /// | `refused P` | it was refused for memory, and is done |
+/// | `read P K V`, `wipe P E I` | it read this pair, as a walk; it wiped bin I of the table E, as a clear |
 /// | `opened E` | the first table was made, of 2^E bins |
 /// | `placed E`, `moved E I`, `published E` | the table E was made, and a growth to it began; bin I of the table E moved to the next one; the table E was published, and the growth to it ended |
 /// | `silent P` | anything else. Nothing at all where the party is done, or no party has this number |
 ///
-/// A reply R is `some V` or `none`, and to a `try` `new V`, or `exists V` with the value that stands. `wipe P E I` and `read P K V`
-/// are labels of calls that no line begins.
+/// A reply R is `some V` or `none`, and to a `try` `new V`, or `exists V` with the value that stands.
 ///
 /// The first line has to be a `world`, and no other line may be one. The form of lines, the end at the first bad line with status 2
 /// and those after the input, a failed read or a failed write are those of [`seq_lines`](crate::seq_lines). An input with no line is
@@ -190,6 +192,7 @@ fn answer_in<F: ComputeFn<u64, u64> + Copy, W: Sink, A: Allocator + Copy>(
         Line::Reserve(more) => begin(world, OwnedCall::Reserve(more as usize), writer),
         Line::Clear => begin(world, OwnedCall::Clear, writer),
         Line::Walk => begin(world, OwnedCall::Walk, writer),
+        Line::Drop(party) => begin_drop(world, party as usize, writer),
         Line::Step(party, steps) => do_steps(world, party as usize, steps, writer),
     }
 }
@@ -210,6 +213,31 @@ fn begin<F: ComputeFn<u64, u64> + Copy, W: Sink, A: Allocator + Copy>(
     match world.begin(call) {
         Ok(_) => {
             write_last(world, writer)?;
+            Ok(None)
+        }
+        Err(_) => Ok(Some(out_of_memory(writer)?)),
+    }
+}
+
+// Begins the removal of the pair that a walk has read last, and writes its label, or that there is none. Some status is the program's
+// end.
+fn begin_drop<F: ComputeFn<u64, u64> + Copy, W: Sink, A: Allocator + Copy>(
+    world: &mut Numbers<'_, F, A>,
+    walk: usize,
+    writer: &mut W,
+) -> io::Result<Option<u8>>
+    ensures failed { OnErr result (IsTrue (W.has_failed writer.new)) }
+    ensures status { IfOk result (λ ended. IfSome ended (λ status. status ≡ 3)) }
+    ensures answer { IfOk result
+        (AnswersDrop F.changes walk world.old world.new (W.contents writer.old) (W.contents writer.new)) }
+{
+    match world.begin_remove_seen(walk) {
+        Ok(Some(party)) => {
+            writer.write_line(format_args!("begin {party}"))?;
+            Ok(None)
+        }
+        Ok(None) => {
+            writer.write_line("no")?;
             Ok(None)
         }
         Err(_) => Ok(Some(out_of_memory(writer)?)),

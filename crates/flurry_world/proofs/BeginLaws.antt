@@ -1,6 +1,6 @@
 -- A call before its first step.
-use Rattle.std.specs.Prelude.{◌≡◌, ℕ, Some, None}
-use Rattle.std.proofs.Common.{refl, ap}
+use Rattle.std.specs.Prelude.{◌≡◌, ℕ, List, slice_get, Some, None}
+use Rattle.std.proofs.Common.{refl, sym, ◌∙◌, ap}
 use Rattle.flurry_steps.specs.Party.{RemovesSeen, AtLocate, PartyState, last_seen}
 use Rattle.flurry_steps.specs.PartyView.{owned_stage}
 use Rattle.flurry_steps.specs.declared.party.call.OwnedCall.{OwnedCall}
@@ -11,7 +11,7 @@ use Rattle.flurry_model.specs.declared.call.Seen.{Seen}
 use Rattle.flurry_theory.specs.Machine.{Locating}
 use Rattle.flurry_theory.specs.Map.{key_of}
 use Rattle.flurry_world.specs.Runs.{theory_call, hash_for}
-use Rattle.flurry_world.specs.World.{mode_of_stage, claim_of_stage, FollowsStage}
+use Rattle.flurry_world.specs.World.{PartyRecord, seen_in, mode_of_stage, claim_of_stage, FollowsStage}
 use Rattle.flurry_world.proofs.StateLaws.{same_some}
 
 -- it goes by its key's hash, and stands where the machine's call begins
@@ -60,3 +60,7 @@ module _ {K V F : Type 0} where
   -- the removal of a pair that a walk has read
   pub drop_begins : (hash : K → ℕ) (n : ℕ) (z : Seen K V) → IsBeginning {F = F} hash (call.RemoveSeen z) (record { hash = hash z.key; processors = n; stage = AtLocate (RemovesSeen z) })
   drop_begins hash n z = record { own_hash = λ k h. ap hash (same_some h); follows = refl; mode = refl; claim = refl; unread = refl }
+
+  -- the walk with whose last read it begins has read that pair
+  pub drop_origin : (xs : List (PartyRecord K V F)) (w : ℕ) (z : Seen K V) → seen_in (slice_get xs w) ≡ Some z → (v : ℕ) → Some w ≡ Some v → (y : Seen K V) × (seen_in (slice_get xs v) ≡ Some y) × (◌≡◌ {A = Call K V F} (call.RemoveSeen z) (call.RemoveSeen y))
+  drop_origin xs w z h v e = (z, ap (λ n. seen_in (slice_get xs n)) (sym (same_some e)) ∙ h, refl)

@@ -74,7 +74,7 @@ pub record Decision {K V F : Type 0} (cmp : K → K → Ordering) (hash : K → 
 -- ---- what a bin has at a key
 
 -- the call removes a pair only if it stands as it was read
-is_conditional : {K V F : Type 0} → Call K V F → Bool
+abbrev is_conditional : {K V F : Type 0} → Call K V F → Bool
 is_conditional (RemoveSeen z) = true
 is_conditional _ = false
 
@@ -202,22 +202,22 @@ module _ {K V F : Type 0} (cmp : K → K → Ordering) (total : IsTotalOrder cmp
     value_allowed k = value_found (entry_of_live cmp b (hash k) k) ∙ ap (option_map (λ (x : K × V). x.1)) (sym (find-entries cmp total hash lawful b.held k hd))
 
     finds_value : (k : K) (s : Stage K V F) (d : Live K V) → DecidesAt cmp gives (hash k) (Finds TheValue k) e b s d → Decision cmp hash gives (Get k) b s d e i
-    finds_value k s d p = rw (p.0, p.1) (decision_kept (Get k) _ _ (reply_done hash (Get k) (reply_for TheValue (entry_of_live cmp b (hash k) k)) refl) (unjudged (Get k) _ refl) (ap Value (value_allowed k)) refl)
+    finds_value k s d p = rw (p.0, p.1) (decision_kept (Get k) _ _ (reply_done hash (Get k) (reply_for TheValue (entry_of_live cmp b (hash k) k)) refl) (unjudged (Get k) (reply_for TheValue (entry_of_live cmp b (hash k) k)) refl) (ap Value (value_allowed k)) refl)
 
     finds_pair : (k : K) (s : Stage K V F) (d : Live K V) → DecidesAt cmp gives (hash k) (Finds ThePair k) e b s d → Decision cmp hash gives (GetKeyValue k) b s d e i
-    finds_pair k s d p = rw (p.0, p.1) (decision_kept (GetKeyValue k) _ _ (reply_done hash (GetKeyValue k) (reply_for ThePair (entry_of_live cmp b (hash k) k)) refl) (unjudged (GetKeyValue k) _ refl) (ap Pair (sym (find-entries cmp total hash lawful b.held k hd))) refl)
+    finds_pair k s d p = rw (p.0, p.1) (decision_kept (GetKeyValue k) _ _ (reply_done hash (GetKeyValue k) (reply_for ThePair (entry_of_live cmp b (hash k) k)) refl) (unjudged (GetKeyValue k) (reply_for ThePair (entry_of_live cmp b (hash k) k)) refl) (ap Pair (sym (find-entries cmp total hash lawful b.held k hd))) refl)
 
     finds_presence : (k : K) (s : Stage K V F) (d : Live K V) → DecidesAt cmp gives (hash k) (Finds Presence k) e b s d → Decision cmp hash gives (ContainsKey k) b s d e i
     finds_presence k s d p =
         rw (p.0, p.1)
-        (decision_kept (ContainsKey k) _ _ (reply_done hash (ContainsKey k) (reply_for Presence (entry_of_live cmp b (hash k) k)) refl) (unjudged (ContainsKey k) _ refl)
+        (decision_kept (ContainsKey k) _ _ (reply_done hash (ContainsKey k) (reply_for Presence (entry_of_live cmp b (hash k) k)) refl) (unjudged (ContainsKey k) (reply_for Presence (entry_of_live cmp b (hash k) k)) refl)
         (ap Contains (presence_found (entry_of_live cmp b (hash k) k) ∙ ap is_some (sym (find-entries cmp total hash lawful b.held k hd)))) refl)
 
     removes_value : (k : K) (s : Stage K V F) (d : Live K V) → DecidesAt cmp gives (hash k) (Removes TheValue k) e b s d → Decision cmp hash gives (Remove k) b s d e i
-    removes_value k s d p = rw (p.0, p.1) (decision_taken (Remove k) _ _ k (reply_taken hash (Remove k) TheValue (entry_of_live cmp b (hash k) k) refl refl) (unjudged (Remove k) _ refl) (ap Value (value_allowed k)) refl)
+    removes_value k s d p = rw (p.0, p.1) (decision_taken (Remove k) _ _ k (reply_taken hash (Remove k) TheValue (entry_of_live cmp b (hash k) k) refl refl) (unjudged (Remove k) (reply_for TheValue (entry_of_live cmp b (hash k) k)) refl) (ap Value (value_allowed k)) refl)
 
     removes_pair : (k : K) (s : Stage K V F) (d : Live K V) → DecidesAt cmp gives (hash k) (Removes ThePair k) e b s d → Decision cmp hash gives (RemoveEntry k) b s d e i
-    removes_pair k s d p = rw (p.0, p.1) (decision_taken (RemoveEntry k) _ _ k (reply_taken hash (RemoveEntry k) ThePair (entry_of_live cmp b (hash k) k) refl refl) (unjudged (RemoveEntry k) _ refl) (ap Pair (sym (find-entries cmp total hash lawful b.held k hd))) refl)
+    removes_pair k s d p = rw (p.0, p.1) (decision_taken (RemoveEntry k) _ _ k (reply_taken hash (RemoveEntry k) ThePair (entry_of_live cmp b (hash k) k) refl refl) (unjudged (RemoveEntry k) (reply_for ThePair (entry_of_live cmp b (hash k) k)) refl) (ap Pair (sym (find-entries cmp total hash lawful b.held k hd))) refl)
 
     -- the pair is still as it was read, so it is taken out; or it is not, and stays
     removes_seen : (z : Seen K V) (s : Stage K V F) (d : Live K V) → DecidesAt cmp gives (hash z.key) (RemovesSeen z) e b s d → Decision cmp hash gives (RemoveSeen z) b s d e i
@@ -227,7 +227,7 @@ module _ {K V F : Type 0} (cmp : K → K → Ordering) (total : IsTotalOrder cmp
         judged_at o q = ap (λ m. has_number m z.number) (number-entries cmp total hash lawful b.held z.key hd ∙ ap (option_map (λ (x : PlainEntry K V). x.1.1)) q)
 
         judged : (r : KeptReply K V) (t : Bool) → removes cmp hash gives r ≡ t → has_number (number_of cmp (entries_of_held b.held) z.key) z.number ≡ t → IsJudged (RemoveSeen z) r
-        judged r t says has y h = let same_seen : z ≡ y = cc in rw ← same_seen (says ∙ sym has)
+        judged r t says has y h = let same_seen : z ≡ y = cc in subst (λ (u : Seen K V). removes cmp hash gives r ≡ has_number (number_of cmp (entries_of_held b.held) u.key) u.number) same_seen (says ∙ sym has)
 
         by_test : (o : Option (PlainEntry K V)) → entry_of_live cmp b (hash z.key) z.key ≡ o → (t : Bool) → option_map_or (λ (x : PlainEntry K V). x.1.1 == z.number && nat_lt z.number (2 ^ 64 - 1)) o false ≡ t
             → Decision cmp hash gives (RemoveSeen z) b (stage_taken TheValue (cond t o None)) (cond t (after_take cmp b (hash z.key) z.key) b) e i
@@ -241,7 +241,7 @@ module _ {K V F : Type 0} (cmp : K → K → Ordering) (total : IsTotalOrder cmp
     inserts : (k : K) (v : V) (s : Stage K V F) (d : Live K V) → region.InRegion e i (hash k) → DecidesAt cmp gives (hash k) (Inserts k v) e b s d → Decision cmp hash gives (Insert k v) b s d e i
     inserts k v s d here p =
         rw (p.1)
-        (decision_written (Insert k v) _ s (2 ^ e) k v (by_found (entry_of_live cmp b (hash k) k) (asks cmp (2 ^ e) b (hash k) k) (p.0)) (unjudged (Insert k v) _ refl) (ap Value (value_allowed k)) here
+        (decision_written (Insert k v) _ s (2 ^ e) k v (by_found (entry_of_live cmp b (hash k) k) (asks cmp (2 ^ e) b (hash k) k) (p.0)) (unjudged (Insert k v) (Value (option_map (λ (x : PlainEntry K V). x.1.0) (entry_of_live cmp b (hash k) k))) refl) (ap Value (value_allowed k)) here
         (ap (λ (es : List (Entry K V)). (es, bump b.writes)) (sym (write-entries cmp total hash lawful b.held k v (bump b.writes) up hd))))
       where
         by_found : (o : Option (PlainEntry K V)) (asked : Bool) → GoesOnWritten e (option_map (λ (x : PlainEntry K V). x.1.0) o, asked) s → HasReply hash (Insert k v) (Value (option_map (λ (x : PlainEntry K V). x.1.0) o)) s (cond (is_some o) 0 1) 0
@@ -255,9 +255,9 @@ module _ {K V F : Type 0} (cmp : K → K → Ordering) (total : IsTotalOrder cmp
             → GoesOnAdded e (option_map_or (λ current. Err (current, v)) (option_map (λ (x : PlainEntry K V). x.1.0) o) (Ok (v, asked))) s
             → Decision cmp hash gives (TryInsert k v) b s (cond (is_none o) (after_write cmp (2 ^ e) b (hash k) k v) b) e i
         by_found None q asked g =
-            decision_written (TryInsert k v) (New v) s (2 ^ e) k v (rw q (reply_new hash (TryInsert k v) (New v) e asked s refl refl g)) (unjudged (TryInsert k v) _ refl) (rw (found_at k None q) refl) here
+            decision_written (TryInsert k v) (New v) s (2 ^ e) k v (rw q (reply_new hash (TryInsert k v) (New v) e asked s refl refl g)) (unjudged (TryInsert k v) (New v) refl) (rw (found_at k None q) refl) here
             (ap (λ (es : List (Entry K V)). (es, bump b.writes)) (sym (place-entries cmp total hash lawful b.held k v (bump b.writes) hd q)))
-        by_found (Some x) q asked g = rw g (decision_kept (TryInsert k v) (Exists x.1.0 v) _ (reply_done hash (TryInsert k v) (Exists x.1.0 v) refl) (unjudged (TryInsert k v) _ refl) (rw (found_at k (Some x) q) refl) refl)
+        by_found (Some x) q asked g = rw g (decision_kept (TryInsert k v) (Exists x.1.0 v) _ (reply_done hash (TryInsert k v) (Exists x.1.0 v) refl) (unjudged (TryInsert k v) (Exists x.1.0 v) refl) (rw (found_at k (Some x) q) refl) refl)
 
     computes : (k : K) (f : F) (s : Stage K V F) (d : Live K V) → region.InRegion e i (hash k) → DecidesAt cmp gives (hash k) (Computes k f) e b s d → Decision cmp hash gives (Compute k f) b s d e i
     computes k f s d here p = by_outcome (p.0) (p.1) (p.2)
@@ -265,15 +265,15 @@ module _ {K V F : Type 0} (cmp : K → K → Ordering) (total : IsTotalOrder cmp
         by_outcome : (o : ComputeOutcome V) → slot.Computes cmp (gives f) (2 ^ e) b (hash k) k o d → s ≡ stage_computed o → Decision cmp hash gives (Compute k f) b s d e i
         by_outcome WasAbsent q g =
             rw (q.1, g)
-            (decision_kept (Compute k f) (Value None) _ (reply_done hash (Compute k f) (Value None) refl) (unjudged (Compute k f) _ refl) (rw (found_at k None (q.0)) refl)
+            (decision_kept (Compute k f) (Value None) _ (reply_done hash (Compute k f) (Value None) refl) (unjudged (Compute k f) (Value None) refl) (rw (found_at k None (q.0)) refl)
             (ap (λ (es : List (Entry K V)). (es, b.writes)) (leave_out-none cmp total hash lawful b.held k hd (q.0))))
         by_outcome WasRemoved q g =
             rw (q.3, g)
-            (decision_taken (Compute k f) (Value None) _ k (rw (q.1) (record { said = refl; mode = refl; claim = refl; follows = has_decided hash (Compute k f) (Value None) refl refl })) (unjudged (Compute k f) _ refl)
+            (decision_taken (Compute k f) (Value None) _ k (rw (q.1) (record { said = refl; mode = refl; claim = refl; follows = has_decided hash (Compute k f) (Value None) refl refl })) (unjudged (Compute k f) (Value None) refl)
             (rw (found_at k (Some q.0) (q.1)) (None, q.2, refl)) refl)
         by_outcome (WasChanged w) q g =
             rw (q.3, g)
-            (decision_written (Compute k f) (Value (Some w)) _ (2 ^ e) k w (rw (q.1) (reply_done hash (Compute k f) (Value (Some w)) refl)) (unjudged (Compute k f) _ refl) (rw (found_at k (Some q.0) (q.1)) (Some w, q.2, refl)) here
+            (decision_written (Compute k f) (Value (Some w)) _ (2 ^ e) k w (rw (q.1) (reply_done hash (Compute k f) (Value (Some w)) refl)) (unjudged (Compute k f) (Value (Some w)) refl) (rw (found_at k (Some q.0) (q.1)) (Some w, q.2, refl)) here
             (ap (λ (es : List (Entry K V)). (es, bump b.writes)) (sym (rewrite-entries cmp total hash lawful b.held k w (bump b.writes) (q.0) up hd (q.1)))))
 
     -- each call that decides there does what the machine's does

@@ -144,7 +144,7 @@ module _ {K V F S : Type 0} (cmp : K → K → Ordering) (total : IsTotalOrder c
     locates_none : (t : Task K V F) → x.party_state.stage ≡ AtLocate t → w.control_state.published ≡ None → task_of_call x.call ≡ Some t → LocatesNone PlaceGives x.party_state.processors t w.control_state w.tables ev c.stage b t' → IsStep cmp hash gives w p x b t' c (label_of p ev c.stage)
     locates_none (Finds y j) f bare task h = settled cmp total hash lawful gives w k p x at c ev event.Decide (AtDone (OutcomeReply (reply_for y None))) b w.control_state t' w.tables h.0 h.1 h.2 h.3 (decides_empty (Finds y j) f bare task tt h.1)
     locates_none (Removes y j) f bare task h = settled cmp total hash lawful gives w k p x at c ev event.Decide (AtDone (OutcomeReply (reply_for y None))) b w.control_state t' w.tables h.0 h.1 h.2 h.3 (decides_empty (Removes y j) f bare task tt h.1)
-    locates_none (RemovesSeen z) f bare task h = settled cmp total hash lawful gives w k p x at c ev event.Decide (AtDone (OutcomeReply (empty_reply (RemovesSeen z)))) b w.control_state t' w.tables h.0 h.1 h.2 h.3 (decides_empty (RemovesSeen z) f bare task tt h.1)
+    locates_none (RemovesSeen z) f bare task h = settled cmp total hash lawful gives w k p x at c ev event.Decide (AtDone (OutcomeReply (empty_reply {F = F} (RemovesSeen z)))) b w.control_state t' w.tables h.0 h.1 h.2 h.3 (decides_empty (RemovesSeen z) f bare task tt h.1)
     locates_none (Inserts j v) f bare task h = opens_for (Inserts j v) f bare task (λ n. n) h
     locates_none (Adds j v) f bare task h = opens_for (Adds j v) f bare task (λ n. n) h
     locates_none (Computes j g) f bare task h = settled cmp total hash lawful gives w k p x at c ev event.Decide (AtDone (OutcomeReply (empty_reply (Computes j g)))) b w.control_state t' w.tables h.0 h.1 h.2 h.3 (decides_empty (Computes j g) f bare task tt h.1)

@@ -46,4 +46,5 @@ module _ {K V F : Type 0} (ready : F → Type 0) (each : (f : F) → ready f) wh
   -- where each function may be called, each step may be done
   pub step_ready : (s : Step K V F) → StepIsReady ready s
   step_ready (step.Begin c) = kept_ready c
+  step_ready (step.Drop p) = tt
   step_ready (step.Step p) = tt

@@ -33,12 +33,21 @@ impl<'k, K, V, F: ComputeFn<K, V>, A: Allocator> Model for PartyRecord<'k, K, V,
     ghost view = { λ c. record { call = c.call; began_from = c.began_from; party_state = c.party; steps = c.steps } };
 }
 
-impl<'k, K: Copy + Drop, V: Copy + Drop, F: ComputeFn<K, V>, A: Allocator> PartyRecord<'k, K, V, F, A> {
+impl<'k, K: Copy + Drop, V: Copy + Drop, F: ComputeFn<K, V>, A: Allocator> PartyRecord<
+    'k,
+    K,
+    V,
+    F,
+    A,
+> {
     // The removal of the pair that a walk has read last, before its first step.
     pub(crate) fn of_seen(seen: Seen<K, V, A>, walk: usize, hash: u64, processors: usize) -> Self
-        ensures { result ≡ record { call = call.RemoveSeen seen; began_from = Some walk;
-            party_state = record { hash = hash; processors = processors; stage = AtLocate (RemovesSeen seen) };
-            steps = 0 } }
+        ensures { result ≡ record {
+          call = call.RemoveSeen seen;
+          began_from = Some walk;
+          party_state = record { hash = hash; processors = processors; stage = AtLocate (RemovesSeen seen) };
+          steps = 0;
+        } }
     {
         let kept = KeptSeen {
             key: *seen.key(),

@@ -173,9 +173,9 @@ impl<
         let party = self.party_records.len();
         let hash = self.hasher.hash_one(seen.key());
         let party_record = PartyRecord::of_seen(seen, walk, hash, self.processors);
-        let kept = party_record.call;
+        let removal = party_record.call;
         self.party_records.push_reserved(party_record);
-        self.trace.push_reserved(Label::Begin(party, kept));
+        self.trace.push_reserved(Label::Begin(party, removal));
         Ok(Some(party))
     }
 
@@ -183,10 +183,10 @@ impl<
     fn last_seen(&self, party: usize) -> Result<Option<Seen<K, V, A>>, AllocError>
         ensures { IfOk result (λ z. z ≡ seen_in (slice_get self.now.party_records party)) }
     {
-        match self.party_records.get(party) {
-            Some(party_record) => party_record.party.seen(),
-            None => Ok(None),
+        if party < self.party_records.len() {
+            return self.party_records[party].party.seen();
         }
+        Ok(None)
     }
 
     /// Does one step of a party, and adds its label. A party that has finished, and one that never began, does nothing, and its label

@@ -2,6 +2,7 @@
 
 mod calls;
 mod checker;
+mod drops;
 mod random;
 mod rows;
 mod sweeps;

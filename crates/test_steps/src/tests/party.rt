@@ -7,6 +7,7 @@ ghost use Rattle.flurry_calls.specs.Part.{LookPart, BinPart, MovePart};
 ghost use Rattle.flurry_steps.specs.Party.{wanted_part};
 ghost use Rattle.flurry_steps.specs.PartyView.{CallIsReady};
 
+mod drops;
 mod growth;
 mod helping;
 mod one_key;

@@ -130,12 +130,17 @@ fn does_singly<'k, F: ComputeFn<u64, u64> + Copy>(
             Step::Begin(call) => {
                 let _ = begin(rt, world, *call);
             }
+            Step::Drop(walk) => {
+                let _ = world
+                    .begin_remove_seen(*walk)
+                    .expect(rt, "memory for the call");
+            }
             Step::Step(party) => world.step(*party).expect(rt, "memory for the step"),
         }
     }
 }
 
-// A list of steps and the same steps one by one have the same labels.
+// A list of steps and the same steps one by one have the same labels. Party 0 has read nothing, so that no removal begins of it.
 #[tactic(auto, using(flurry_world::proofs::RunLaws::step_ready))]
 fn runs_a_list<F: ComputeFn<u64, u64> + Copy>(rt: &impl Abort, alloc: Global)
     requires { (f : F) → F.can_change f }
@@ -148,6 +153,12 @@ fn runs_a_list<F: ComputeFn<u64, u64> + Copy>(rt: &impl Abort, alloc: Global)
     for party in [0, 1, 1, 0, 7, 0] {
         list.push(Step::Step(party)).expect(rt, "memory");
     }
+    list.push(Step::Drop(0)).expect(rt, "memory");
+    list.push(Step::Begin(OwnedCall::Walk)).expect(rt, "memory");
+    for _ in 0..5u64 {
+        list.push(Step::Step(2)).expect(rt, "memory");
+    }
+    list.push(Step::Drop(2)).expect(rt, "memory");
     let mut single: Numbers<'_, F> = world_for(rt, alloc, 0, 1);
     does_singly(rt, &mut single, list.as_slice());
     let mut listed: Numbers<'_, F> = world_for(rt, alloc, 0, 1);
@@ -161,6 +172,13 @@ fn runs_a_list<F: ComputeFn<u64, u64> + Copy>(rt: &impl Abort, alloc: Global)
         Line::Decide(0, KeptReply::New(4)),
         Line::Silent(7),
         Line::Silent(0),
+        Line::Begin(2),
+        Line::Silent(2),
+        Line::Silent(2),
+        Line::Silent(2),
+        Line::Silent(2),
+        Line::Read(2, 3, 4),
+        Line::Begin(3),
     ];
     assert_trace(rt, &listed, &lines);
     assert_trace(rt, &single, &lines);

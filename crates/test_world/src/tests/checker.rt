@@ -10,7 +10,8 @@ use std::process::Abort;
 pub(super) const KEYS: u64 = 32;
 
 // What is known of a party. Of sets of keys each key is a bit: those that were present after each label since it began, those that it
-// has read, and those that were absent after a label of its own.
+// has read, and those that were absent after a label of its own. A walk, and the removal of what it has read, watch the pair that was read
+// last, and whether it was touched since.
 #[derive(Clone, Copy)]
 struct Known<F> {
     call: Call<u64, u64, F>,
@@ -19,6 +20,8 @@ struct Known<F> {
     stayed: u64,
     read: u64,
     lacked: u64,
+    watched: Option<(u64, u64)>,
+    touched: bool,
 }
 
 // The party whose label it is, other than that of its beginning.
@@ -55,7 +58,18 @@ fn key_of<F>(call: &Call<u64, u64, F>) -> Option<u64> {
         | Call::Insert(key, _)
         | Call::TryInsert(key, _)
         | Call::Compute(key, _) => Some(*key),
-        Call::RemoveSeen(_) | Call::Reserve(_) | Call::Clear | Call::Walk => None,
+        Call::RemoveSeen(seen) => Some(seen.key),
+        Call::Reserve(_) | Call::Clear | Call::Walk => None,
+    }
+}
+
+// Whether a call of one key that has this reply writes or removes the key.
+fn touches<F>(call: &Call<u64, u64, F>, reply: KeptReply<u64, u64>) -> bool {
+    match call {
+        Call::Insert(_, _) | Call::Compute(_, _) | Call::Remove(_) | Call::RemoveEntry(_) => true,
+        Call::TryInsert(_, _) => matches!(reply, KeptReply::New(_)),
+        Call::RemoveSeen(_) => matches!(reply, KeptReply::Value(Some(_))),
+        _ => false,
     }
 }
 
@@ -110,6 +124,11 @@ pub(super) struct Checker<F> {
     // While the next table is placed, which bins of the published one have moved.
     moved: Option<Vec<bool>>,
     growths: u64,
+    // How many removals of what a walk has read found it untouched, and how many did not.
+    removed: u64,
+    kept: u64,
+    // The party that has read last.
+    reader: usize,
 }
 
 fn ensure(rt: &impl Abort, holds: bool, what: &'static str) {
@@ -126,12 +145,49 @@ impl<F: ComputeFn<u64, u64> + Copy> Checker<F> {
             published,
             moved: None,
             growths: 0,
+            removed: 0,
+            kept: 0,
+            reader: 0,
         }
     }
 
     /// The number of growths that were published.
     pub(super) fn growths(&self) -> u64 {
         self.growths
+    }
+
+    /// The numbers of removals of what a walk has read that found it as it was read, and of those that did not.
+    pub(super) fn drops(&self) -> (u64, u64) {
+        (self.removed, self.kept)
+    }
+
+    /// The party that has read last; 0 where none has.
+    pub(super) fn reader(&self) -> usize {
+        self.reader
+    }
+
+    /// Whether the party has read a pair.
+    pub(super) fn has_read(&self, party: usize) -> bool {
+        self.parties.get(party).is_some_and(|known| known.watched.is_some()
+            && matches!(&known.call, Call::Walk))
+    }
+
+    /// The last party is the removal of the pair that this walk has read last.
+    pub(super) fn began_from(&mut self, rt: &impl Abort, walk: usize) {
+        let read = self.known(rt, walk);
+        let (watched, touched) = (read.watched, read.touched);
+        let known = self.parties.last_mut().expect(rt, "a party began");
+        let pair = match &known.call {
+            Call::RemoveSeen(seen) => Some((seen.key, seen.value)),
+            _ => None,
+        };
+        known.watched = watched;
+        known.touched = touched;
+        ensure(
+            rt,
+            pair.is_some() && pair == watched,
+            "the pair is the one that the walk read last",
+        );
     }
 
     /// Whether the party has replied or ended.
@@ -212,6 +268,8 @@ impl<F: ComputeFn<u64, u64> + Copy> Checker<F> {
             stayed: self.present(),
             read: 0,
             lacked: 0,
+            watched: None,
+            touched: false,
         };
         self.parties.push(known).expect(rt, "memory for the party");
     }
@@ -226,15 +284,48 @@ impl<F: ComputeFn<u64, u64> + Copy> Checker<F> {
         let known = self.known(rt, party);
         ensure(rt, known.decided.is_none(), "a call decides once");
         known.decided = Some(reply);
-        let call = known.call;
+        let (call, touched) = (known.call, known.touched);
         let key = key_of(&call).expect(rt, "a call of one key decides");
         let value = self
             .map
             .get_mut(key as usize)
             .expect(rt, "the key is one of the few");
-        let (expected, after) = outcome(call, key, *value).expect(rt, "a call of one key decides");
+        let (expected, after) = match call {
+            Call::RemoveSeen(_) if touched => (KeptReply::Value(None), *value),
+            Call::RemoveSeen(_) => (KeptReply::Value(*value), None),
+            _ => outcome(call, key, *value).expect(rt, "a call of one key decides"),
+        };
         *value = after;
         ensure(rt, reply == expected, "the reply is the map's");
+        if let Call::RemoveSeen(seen) = call {
+            self.removes(rt, touched, seen.value, reply);
+        }
+        if touches(&call, reply) {
+            self.touch(set_of(key));
+        }
+    }
+
+    // A removal of what a walk has read takes that very value out, or none where the key was touched since.
+    fn removes(&mut self, rt: &impl Abort, touched: bool, value: u64, reply: KeptReply<u64, u64>) {
+        if touched {
+            self.kept = self.kept.wrapping_add(1);
+        } else {
+            self.removed = self.removed.wrapping_add(1);
+            ensure(
+                rt,
+                reply == KeptReply::Value(Some(value)),
+                "what was not touched is there",
+            );
+        }
+    }
+
+    // These keys were written or removed.
+    fn touch(&mut self, keys: u64) {
+        for known in self.parties.iter_mut() {
+            if known.watched.is_some_and(|pair| keys & set_of(pair.0) != 0) {
+                known.touched = true;
+            }
+        }
     }
 
     fn replies(&mut self, rt: &impl Abort, party: usize, reply: KeptReply<u64, u64>) {
@@ -271,11 +362,14 @@ impl<F: ComputeFn<u64, u64> + Copy> Checker<F> {
         let bins = 1usize
             .checked_shl(u32::from(table))
             .expect(rt, "the table has at most 2^30 bins");
+        let mut wiped = 0u64;
         for (key, value) in self.map.iter_mut().enumerate() {
             if key & bins.wrapping_sub(1) == index {
                 *value = None;
+                wiped |= set_of(key as u64);
             }
         }
+        self.touch(wiped);
     }
 
     fn reads(&mut self, rt: &impl Abort, party: usize, key: u64, value: u64) {
@@ -286,6 +380,9 @@ impl<F: ComputeFn<u64, u64> + Copy> Checker<F> {
         ensure(rt, matches!(&known.call, Call::Walk), "a walk reads");
         ensure(rt, known.read & set_of(key) == 0, "a walk reads a key once");
         known.read |= set_of(key);
+        known.watched = Some((key, value));
+        known.touched = false;
+        self.reader = party;
     }
 
     fn opens(&mut self, rt: &impl Abort, table: u8) {

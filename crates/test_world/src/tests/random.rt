@@ -92,6 +92,27 @@ impl<'k, F: ComputeFn<u64, u64> + Copy> Checked<'k, F> {
         party
     }
 
+    // Begins the removal of what a party has read last, where it is a walk that has read. Answers whether one began.
+    fn drop_seen(&mut self, rt: &impl Abort, walk: usize) -> bool
+        requires { (f : F) → F.can_change f }
+    {
+        let labels = self.world.trace().len();
+        let began = self
+            .world
+            .begin_remove_seen(walk)
+            .expect(rt, "memory for the call");
+        let has_read = self.checker.has_read(walk);
+        assert_eq!(rt; began.is_some(), has_read);
+        if began.is_none() {
+            assert_eq!(rt; self.world.trace().len(), labels);
+            return false;
+        }
+        self.check_last(rt);
+        self.checker.began_from(rt, walk);
+        self.steps.push(0).expect(rt, "memory for the count");
+        true
+    }
+
     // A look-up has decided after 32 steps.
     fn step(&mut self, rt: &impl Abort, party: usize)
         requires { (f : F) → F.can_change f }
@@ -143,7 +164,20 @@ fn random_party(random: &mut Random, parties: u64) -> usize {
     parties.saturating_sub(back) as usize
 }
 
-// 200 steps, of which every sixth or so is the beginning of a call. A party that is stepped is likely to be stepped again.
+// Mostly the party that has read last, else any one of so many.
+fn random_reader<F: ComputeFn<u64, u64> + Copy>(
+    random: &mut Random,
+    checker: &Checker<F>,
+    parties: u64,
+) -> usize {
+    if random.below(4) == 0 {
+        random_party(random, parties)
+    } else {
+        checker.reader()
+    }
+}
+
+// 200 steps, of which every sixth or so is the beginning of a call, and every fortieth that of a removal of what was read. A party that is stepped is likely to be stepped again.
 fn random_steps<'k, F: ComputeFn<u64, u64> + Copy>(
     rt: &impl Abort,
     checked: &mut Checked<'k, F>,
@@ -158,6 +192,11 @@ fn random_steps<'k, F: ComputeFn<u64, u64> + Copy>(
         if random.below(6) == 0 {
             let _ = checked.begin(rt, random_call(random, change));
             parties = parties.saturating_add(1);
+        } else if random.below(40) == 0 {
+            if checked.drop_seen(rt, random_reader(random, &checked.checker, parties)) {
+                going = parties as usize;
+                parties = parties.saturating_add(1);
+            }
         } else {
             if checked.checker.is_closed(going) || random.below(8) == 0 {
                 going = random_party(random, parties);
@@ -167,35 +206,52 @@ fn random_steps<'k, F: ComputeFn<u64, u64> + Copy>(
     }
 }
 
-// So many schedules, from a seed on. Answers how many calls have replied or ended in them, and how many growths were published.
+// What schedules did: how many calls replied or ended, how many growths were published, and how many removals of what a walk had read
+// found it as it was read, or did not.
+#[derive(Clone, Copy)]
+struct Totals {
+    closed: u64,
+    growths: u64,
+    removed: u64,
+    kept: u64,
+}
+
+// So many schedules, from a seed on.
 fn schedules<F: ComputeFn<u64, u64> + Copy>(
     rt: &impl Abort,
     alloc: Global,
     seed: u64,
     count: u64,
     change: F,
-) -> (u64, u64)
+) -> Totals
     requires { (f : F) → F.can_change f }
 {
     let mut random = Random { state: seed };
-    let mut closed = 0u64;
-    let mut growths = 0u64;
+    let mut totals = Totals {
+        closed: 0,
+        growths: 0,
+        removed: 0,
+        kept: 0,
+    };
     for _ in 0..count {
         let mut checked = Checked::new(rt, alloc, &mut random);
         random_steps(rt, &mut checked, &mut random, change);
-        closed = closed.wrapping_add(checked.closed);
-        growths = growths.wrapping_add(checked.checker.growths());
+        let (removed, kept) = checked.checker.drops();
+        totals.closed = totals.closed.wrapping_add(checked.closed);
+        totals.growths = totals.growths.wrapping_add(checked.checker.growths());
+        totals.removed = totals.removed.wrapping_add(removed);
+        totals.kept = totals.kept.wrapping_add(kept);
         checked.look_all_up(rt);
         drop(checked);
     }
-    (closed, growths)
+    totals
 }
 
 // 1000 schedules of 200 steps each. About one step in six begins a call, so that some 34,000 calls begin. Most of them reply or end,
-// and some hundred growths are published.
+// some hundred growths are published, and some hundred removals of what was read decide either way.
 #[test]
 fn random_schedules(rt: HostRuntime) {
-    let (closed, growths) = schedules(
+    let totals = schedules(
         &rt,
         rt.alloc(),
         88_172_645_463_325_252,
@@ -208,8 +264,10 @@ fn random_schedules(rt: HostRuntime) {
             }
         },
     );
+    let (closed, growths) = (totals.closed, totals.growths);
+    let (removed, kept) = (totals.removed, totals.kept);
     assert!(rt;
-        closed >= 15_000 && growths >= 300,
-        "{closed} and {growths}"
+        closed >= 15_000 && growths >= 300 && removed >= 100 && kept >= 100,
+        "{closed}, {growths}, {removed} and {kept}"
     );
 }

@@ -24,13 +24,7 @@ fn puts<'k, F: ComputeFn<u64, u64> + Copy>(
         Line::Silent(party),
         Line::Reply(party, value(None)),
     ];
-    assert_call(
-        rt,
-        world,
-        party,
-        OwnedCall::Insert(number, number),
-        &lines,
-    );
+    assert_call(rt, world, party, OwnedCall::Insert(number, number), &lines);
 }
 
 // So many steps of a party are silent.

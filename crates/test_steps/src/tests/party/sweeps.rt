@@ -4,9 +4,7 @@ ghost use Rattle.flurry_calls.specs.Part.{LookPart, BinPart};
 ghost use Rattle.flurry_calls.specs.Sweep.{swept_part};
 
 use super::super::{same, same_at};
-use super::{
-    Map, Told, call, empty_map, end, goes_on, insert, lent, moves_the_last_bin, plain,
-};
+use super::{Map, Told, call, empty_map, end, goes_on, insert, lent, moves_the_last_bin, plain};
 use flurry_calls::Sweep;
 use flurry_model::reply::KeptReply;
 use flurry_slots::{ComputeFn, NoFn, Slot};

@@ -1,0 +1,116 @@
+//! Removals of a pair that a walk has read, label by label.
+
+use super::{
+    Line, Numbers, assert_call, assert_reply, assert_steps, begin, last_line, same, value,
+    world_for,
+};
+use flurry_slots::{ComputeFn, NoFn};
+use flurry_steps::party::OwnedCall;
+use std::alloc::Global;
+use std::process::Abort;
+
+// A world of 16 bins with the pair of 1 and 1, which party 1, a walk, has read.
+fn has_read_one<'k, F: ComputeFn<u64, u64> + Copy>(rt: &impl Abort, alloc: Global) -> Numbers<'k, F>
+    requires { (f : F) → F.can_change f }
+{
+    let mut world: Numbers<'_, F> = world_for(rt, alloc, 8, 1);
+    assert_reply(rt, &mut world, OwnedCall::Insert(1, 1), value(None));
+    let lines = [Line::Silent(1), Line::Silent(1), Line::Read(1, 1, 1)];
+    assert_call(rt, &mut world, 1, OwnedCall::Walk, &lines);
+    world
+}
+
+// Begins the removal of what party 1 has read last, as the party of that number.
+fn drops<'k, F: ComputeFn<u64, u64> + Copy>(
+    rt: &impl Abort,
+    world: &mut Numbers<'k, F>,
+    party: usize,
+) {
+    let began = world.begin_remove_seen(1).expect(rt, "memory for the call");
+    same(rt, began, Some(party));
+    same(rt, last_line(rt, world), Line::Begin(party));
+}
+
+// No removal begins of what that party has read, and no label is added.
+fn drops_nothing<'k, F: ComputeFn<u64, u64> + Copy>(
+    rt: &impl Abort,
+    world: &mut Numbers<'k, F>,
+    party: usize,
+) {
+    let labels = world.trace().len();
+    let began = world
+        .begin_remove_seen(party)
+        .expect(rt, "memory for nothing");
+    same(rt, began, None);
+    same(rt, world.trace().len(), labels);
+}
+
+#[test]
+fn removal_of_a_rewritten_pair(rt: HostRuntime) {
+    keeps_what_was_rewritten::<NoFn>(&rt, rt.alloc())
+}
+
+fn keeps_what_was_rewritten<F: ComputeFn<u64, u64> + Copy>(rt: &impl Abort, alloc: Global)
+    requires { (f : F) → F.can_change f }
+{
+    let mut world: Numbers<'_, F> = has_read_one(rt, alloc);
+    assert_reply(rt, &mut world, OwnedCall::Insert(1, 9), value(Some(1)));
+    drops(rt, &mut world, 3);
+    let lines = [
+        Line::Silent(3),
+        Line::Decide(3, value(None)),
+        Line::Reply(3, value(None)),
+        Line::Silent(3),
+    ];
+    assert_steps(rt, &mut world, 3, &lines);
+    assert_reply(rt, &mut world, OwnedCall::Get(1), value(Some(9)));
+    drop(world);
+}
+
+#[test]
+fn removal_of_a_pair_that_stayed(rt: HostRuntime) {
+    removes_what_stayed::<NoFn>(&rt, rt.alloc())
+}
+
+fn removes_what_stayed<F: ComputeFn<u64, u64> + Copy>(rt: &impl Abort, alloc: Global)
+    requires { (f : F) → F.can_change f }
+{
+    let mut world: Numbers<'_, F> = has_read_one(rt, alloc);
+    assert_reply(rt, &mut world, OwnedCall::Insert(17, 17), value(None));
+    drops(rt, &mut world, 3);
+    let lines = [
+        Line::Silent(3),
+        Line::Decide(3, value(Some(1))),
+        Line::Silent(3),
+        Line::Reply(3, value(Some(1))),
+    ];
+    assert_steps(rt, &mut world, 3, &lines);
+    assert_reply(rt, &mut world, OwnedCall::Get(1), value(None));
+    // The pair is gone now, so that a second removal of it finds none.
+    drops(rt, &mut world, 5);
+    let lines = [
+        Line::Silent(5),
+        Line::Decide(5, value(None)),
+        Line::Reply(5, value(None)),
+    ];
+    assert_steps(rt, &mut world, 5, &lines);
+    drop(world);
+}
+
+#[test]
+fn removal_of_nothing(rt: HostRuntime) {
+    removes_nothing::<NoFn>(&rt, rt.alloc())
+}
+
+fn removes_nothing<F: ComputeFn<u64, u64> + Copy>(rt: &impl Abort, alloc: Global)
+    requires { (f : F) → F.can_change f }
+{
+    let mut world: Numbers<'_, F> = has_read_one(rt, alloc);
+    let walk = begin(rt, &mut world, OwnedCall::Walk);
+    let clear = begin(rt, &mut world, OwnedCall::Clear);
+    drops_nothing(rt, &mut world, walk);
+    drops_nothing(rt, &mut world, clear);
+    drops_nothing(rt, &mut world, 0);
+    drops_nothing(rt, &mut world, 100);
+    drop(world);
+}
