@@ -59,6 +59,26 @@ fn row_14(rt: HostRuntime) {
 }
 
 #[test]
+fn row_17(rt: HostRuntime) {
+    let lines = b"world 1 8\n\
+        begin insert 1 1\nstep 0 4\n\
+        begin walk\nstep 1 3\n\
+        begin insert 1 9\nstep 2 3\n\
+        begin drop 1\nstep 3 3\n\
+        begin get 1\nstep 4 3\n\
+        begin drop 0\nbegin drop 9\n"
+        .as_slice();
+    let want = b"begin 0\nsilent 0\ndecide 0 none\nsilent 0\nreply 0 none\n\
+        begin 1\nsilent 1\nsilent 1\nread 1 1 1\n\
+        begin 2\nsilent 2\ndecide 2 some 1\nreply 2 some 1\n\
+        begin 3\nsilent 3\ndecide 3 none\nreply 3 none\n\
+        begin 4\nsilent 4\ndecide 4 some 9\nreply 4 some 9\n\
+        no\nno\n"
+        .as_slice();
+    answers(&rt, lines, 0, want)
+}
+
+#[test]
 fn row_13(rt: HostRuntime) {
     let lines = b"world 1 8\n\
         begin insert 1 1\nstep 0 4\n\
@@ -172,7 +192,7 @@ fn bad_lines(rt: HostRuntime) {
         b"step 0 1 1".as_slice(),
         b"begin clear 1".as_slice(),
         b"begin walks".as_slice(),
-        b"begin drop 0".as_slice(),
+        b"begin drop".as_slice(),
         b"begin get 07".as_slice(),
         b"begin get  7".as_slice(),
         b"begin insert 7".as_slice(),
