@@ -104,6 +104,40 @@ fn insertion_into_a_world(rt: HostRuntime) -> Result<(), Fail> {
     refuse_each(&rt, &["world"], lines, &ends)
 }
 
+// The same, for a removal of what a walk has read, whose label is the ninth. After a refused insertion there is nothing to read.
+#[test]
+fn removal_in_a_world(rt: HostRuntime) -> Result<(), Fail> {
+    let lines = b"world 1 1\nbegin insert 1 1\nstep 0 3\nbegin walk\nstep 1 3\n\
+        begin drop 1\nbegin drop 0\nstep 2 2\n"
+        .as_slice();
+    let ends = [
+        (3, b"out of memory\n".as_slice()),
+        (
+            0,
+            b"begin 0\nsilent 0\nrefused 0\nsilent 0\nbegin 1\nsilent 1\nsilent 1\nsilent 1\n\
+            no\nno\nsilent 2\nsilent 2\n"
+                .as_slice(),
+        ),
+        (
+            3,
+            b"begin 0\nsilent 0\ndecide 0 none\nsilent 0\nout of memory\n".as_slice(),
+        ),
+        (
+            3,
+            b"begin 0\nsilent 0\ndecide 0 none\nsilent 0\nbegin 1\nsilent 1\nsilent 1\nread 1 1 1\n\
+            out of memory\n"
+                .as_slice(),
+        ),
+        (
+            0,
+            b"begin 0\nsilent 0\ndecide 0 none\nsilent 0\nbegin 1\nsilent 1\nsilent 1\nread 1 1 1\n\
+            begin 2\nno\nsilent 2\ndecide 2 some 1\n"
+                .as_slice(),
+        ),
+    ];
+    refuse_each(&rt, &["world"], lines, &ends)
+}
+
 // The same, for the first table of a world. A look-up after a refused one finds no table.
 #[test]
 fn first_table_of_a_world(rt: HostRuntime) -> Result<(), Fail> {
@@ -113,6 +147,10 @@ fn first_table_of_a_world(rt: HostRuntime) -> Result<(), Fail> {
         (
             0,
             b"begin 0\nrefused 0\nsilent 0\nbegin 1\ndecide 1 none\nreply 1 none\n".as_slice(),
+        ),
+        (
+            3,
+            b"begin 0\nopened 0\nsilent 0\nout of memory\n".as_slice(),
         ),
         (
             3,

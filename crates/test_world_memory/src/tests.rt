@@ -1,5 +1,6 @@
 //! Each request of a node refused in turn, and the calls of bins while each request is refused; the same of slots and of worlds.
 
+mod drops;
 mod slot;
 mod world;
 mod world_rows;

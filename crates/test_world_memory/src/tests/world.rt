@@ -526,7 +526,7 @@ fn run(rt: HostRuntime) -> Result<(), Fail> {
         let refused = runs_at::<NoFn>(&rt, rt.alloc(), memory, k);
         same_at(&rt, k, memory.blocks(), 0);
         if !refused {
-            same(&rt, k, 8);
+            same(&rt, k, 9);
             return Ok(());
         }
     }
@@ -550,7 +550,7 @@ fn runs_at<F: ComputeFn<u64, u64> + Copy + Debug>(
     let refused = memory.refused();
     memory.refuse_nothing();
     let done = world.trace().len();
-    let whole = !refused || 2 <= k && k < 6;
+    let whole = !refused || 3 <= k && k < 7;
     same_at(rt, k, (ran, done == STEPS), (whole, whole));
     world
         .run(steps_from(rt, memory, done))

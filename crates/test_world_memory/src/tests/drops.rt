@@ -1,0 +1,65 @@
+//! Each request of a removal that begins with what a walk has read, refused in turn.
+
+use super::world::{Numbers, begins, step_to, world_for};
+use super::{Memory, same_at};
+use flurry_slots::{ComputeFn, NoFn};
+use flurry_steps::party::OwnedCall;
+use metered_alloc::Metered;
+use std::process::Abort;
+use std::test::Fail;
+
+// A world of 16 bins whose party 1 has read the one pair. Three calls have begun, so that there is room for a fourth, and there are so
+// many labels more.
+fn has_read<F: ComputeFn<u64, u64> + Copy>(
+    rt: &impl Abort,
+    memory: Memory,
+    more: usize,
+) -> Numbers<F>
+    requires { (f : F) → F.can_change f }
+{
+    let mut world = world_for(rt, memory, 8);
+    let party = begins(rt, &mut world, OwnedCall::Insert(1, 1));
+    step_to(rt, &mut world, party, 5);
+    let walk = begins(rt, &mut world, OwnedCall::Walk);
+    step_to(rt, &mut world, walk, 9);
+    let other = begins(rt, &mut world, OwnedCall::Get(9));
+    step_to(rt, &mut world, other, 10usize.saturating_add(more));
+    world
+}
+
+// Begins a removal whose first request is refused, and answers whether it made one. The world is then as before, and with memory the
+// removal is its next party.
+fn drops_at<F: ComputeFn<u64, u64> + Copy>(rt: &impl Abort, memory: Memory, more: u64) -> bool
+    requires { (f : F) → F.can_change f }
+{
+    let mut world: Numbers<F> = has_read(rt, memory, more as usize);
+    let labels = world.trace().len();
+    memory.refuse_at(0);
+    let failed = world.begin_remove_seen(1).is_err();
+    let refused = memory.refused();
+    memory.refuse_nothing();
+    same_at(rt, more, failed, refused);
+    if refused {
+        same_at(rt, more, world.trace().len(), labels);
+        let began = world.begin_remove_seen(1).expect(rt, "memory for the call");
+        same_at(rt, more, began, Some(3));
+    }
+    same_at(rt, more, begins(rt, &mut world, OwnedCall::Get(1)), 4);
+    drop(world);
+    refused
+}
+
+// The list of labels grows now and then: of so many worlds, some ask for room.
+#[test]
+fn removals_of_what_was_read(rt: HostRuntime) -> Result<(), Fail> {
+    let memory = Metered::leaked(rt.alloc())?;
+    let mut refused = 0u64;
+    for more in 0..16u64 {
+        if drops_at::<NoFn>(&rt, memory, more) {
+            refused = refused.saturating_add(1);
+        }
+        same_at(&rt, more, memory.blocks(), 0);
+    }
+    assert!(&rt; refused > 0 && refused < 16, "{refused}");
+    Ok(())
+}
