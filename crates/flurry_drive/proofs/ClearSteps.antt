@@ -128,7 +128,7 @@ module _ {K V F S : Type 0} (cmp : K → K → Ordering) (total : IsTotalOrder c
   -- it begins at a table that was published
   pub goes_to_table : u.stage ≡ AtOutset → u'.errand ≡ Wipes n → (a : ℕ) → WasPublished cmp hash gives (state_of w) a → u'.stage ≡ OverBins (at_base a 0) → StepOf cmp hash gives w p x w.control_state w.tables c (label.Silent p)
   goes_to_table f errand a was h = goes_on n errand (OverBins (at_base a 0)) h (Finds a) _ refl refl (λ d o y. cc) (call.Clear, called, stands AtOutset f, was)
-      (ap (λ m. Clearing m a 0 (frames_of (at_base a 0))) (subst (FollowsSweep hash AtOutset) wipes (subst (λ z. FollowsSweep hash z u.errand) f own.1)) ∙ ap (λ o. found_by cmp hash gives o a) (sym called)) (tt, tt)
+      (ap (λ m. Clearing m a 0 (frames_of (at_base a 0))) (subst (FollowsSweep {V = V} hash AtOutset) wipes (subst (λ z. FollowsSweep hash z u.errand) f own.1)) ∙ ap (λ o. found_by cmp hash gives o a) (sym called)) (tt, tt)
 
   -- where there is no table it has ended
   pub finds_nothing : u.stage ≡ AtOutset → u'.errand ≡ Wipes n → w.control_state.published ≡ None → u'.stage ≡ AtEnd OutcomeEnded → StepOf cmp hash gives w p x w.control_state w.tables c (label.Silent p)

@@ -1,5 +1,5 @@
 -- A clear that is driven, as one more caller of a world: it leaves no pair, and counts what it wiped.
-use Rattle.std.specs.Prelude.{◌≡◌, ◌⊎◌, ℕ, ℤ, pos, neg_ℤ, ◌-ℤ◌, ◌≤ℤ◌, suc, ◌+◌, ◌^◌, ◌≤◌, Bool, true, false, cond, not, min, [], ◌∷◌, ◌++◌, filter, length, reverse, slice_get, slice_set, Option, Some, None, IsNone, if◌then◌else◌}
+use Rattle.std.specs.Prelude.{◌≡◌, ◌⊎◌, ℕ, ℤ, pos, neg_ℤ, ◌-ℤ◌, ◌≤ℤ◌, suc, ◌+◌, ◌-◌, ◌^◌, ◌≤◌, Bool, true, false, cond, not, min, [], ◌∷◌, ◌++◌, filter, length, reverse, slice_get, slice_set, Option, Some, None, IsNone, if◌then◌else◌}
 use Rattle.std.specs.declared.cmp.Ordering.{Ordering}
 use Rattle.std.specs.Cmp.{IsTotalOrder}
 use Rattle.std.proofs.Common.{arith, refl, sym, ◌∙◌, ap, subst, subst₂, inl, inr}
@@ -107,7 +107,7 @@ module _ {K V F : Type 0} (cmp : K → K → Ordering) (total : IsTotalOrder cmp
     module _ (w : WorldState K V F (Unit {0})) (k : IsWorld cmp hash gives w) (x : PartyRecord K V F) (at : slice_get w.party_records p ≡ Some x) (called : x.call ≡ call.Clear) (u : SweepState K V) (e : x.party_state.stage ≡ AtSweep u) (gone : StaysGone p (reverse w.trace)) (tally : Tally (pairs cmp hash (reverse w.trace)) w.control_state.count u.errand u.stage) where
       -- the world after a step
       stepped : (c : PartyState K V F) (b : ControlState) (t : Tables K V) (l : Label K V F) (u' : SweepState K V) → c.stage ≡ AtSweep u' → StepOf cmp hash gives w p x b t c l → Lessens (reverse w.trace) l → Tally (pairs cmp hash (l ∷ reverse w.trace)) b.count u'.errand u'.stage → InClear (record { control_state = b; tables = t }) c
-      stepped c b t l u' g step less then = record {
+      stepped c b t l u' g step less tallied = record {
         world = with_step w p x b t c l;
         is_world = kept cmp hash gives total lawful w p x b t c l k at step;
         caller = after;
@@ -118,7 +118,7 @@ module _ {K V F : Type 0} (cmp : K → K → Ordering) (total : IsTotalOrder cmp
         sweep_state = u';
         stage = g;
         gone = subst (StaysGone p) (sym turned) (gone_on p (reverse w.trace) l less gone);
-        tally = subst (λ r. Tally (pairs cmp hash r) b.count u'.errand u'.stage) (sym turned) then;
+        tally = subst (λ r. Tally (pairs cmp hash r) b.count u'.errand u'.stage) (sym turned) tallied;
       }
         where
           after : PartyRecord K V F
@@ -134,7 +134,7 @@ module _ {K V F : Type 0} (cmp : K → K → Ordering) (total : IsTotalOrder cmp
         module _ (c : PartyState K V F) (hashed : c.hash ≡ x.party_state.hash) (u' : SweepState K V) (g : c.stage ≡ AtSweep u') (last : u'.last ≡ u.last) where
           -- a step that leaves the parts
           quiet : StepOf cmp hash gives w p x w.control_state w.tables c (label.Silent p) → (a : SweepStage K V) → u'.errand ≡ Wipes i → u'.stage ≡ a → Tally (pairs cmp hash (reverse w.trace)) w.control_state.count (Wipes i) a → InClear (record { control_state = w.control_state; tables = w.tables }) c
-          quiet step a errand stands then = stepped c w.control_state w.tables (label.Silent p) u' g step (λ j h. h) (tally_of (pairs cmp hash (reverse w.trace)) w.control_state.count u' i a errand stands then)
+          quiet step a errand stands tallied = stepped c w.control_state w.tables (label.Silent p) u' g step (λ j h. h) (tally_of (pairs cmp hash (reverse w.trace)) w.control_state.count u' i a errand stands tallied)
 
           sets_out_at : u.stage ≡ AtOutset → u'.errand ≡ u.errand → (o : Option ℕ) → w.control_state.published ≡ o → u'.stage ≡ set_out_at o → InClear (record { control_state = w.control_state; tables = w.tables }) c
           sets_out_at f kept_errand None bare h =
