@@ -25,11 +25,10 @@ use Rattle.flurry_theory.specs.Machine.{State, Frame, Transition, Can, effect, g
 use Rattle.flurry_theory.specs.Invariant.{Inv, Named}
 use Rattle.flurry_theory.proofs.Ranges.{place_here, place_other, total-change}
 use Rattle.flurry_theory.proofs.Step.{inv_step}
-use Rattle.flurry_theory.specs.declared.Label.{Label}
 use Rattle.flurry_theory.specs.declared.Label.TheVariants as label
 use Rattle.flurry_world.specs.Entries.{slot_of, entries_of_held, Hashed}
 use Rattle.flurry_world.specs.Tables.{Tables, slots_of, place_at, content_at, put_place}
-use Rattle.flurry_world.specs.World.{PartyRecord, WorldState, Near, state_of, mode_of_stage, mode_of_sweep, frame_of, frames_of, claim_of_stage, AreHashed, FollowsErrand, FollowsSweep, FollowsStage, IsWorld}
+use Rattle.flurry_world.specs.World.{PartyRecord, WorldState, state_of, mode_of_stage, mode_of_sweep, frame_of, frames_of, claim_of_stage, AreHashed, FollowsErrand, FollowsSweep, FollowsStage, IsWorld}
 use Rattle.flurry_world.proofs.EntryLaws.{length-entries_of_held}
 use Rattle.flurry_world.proofs.PlaceLaws.{same_live}
 use Rattle.flurry_world.proofs.Frames.{same_frame, StepOf, step_of, in_range}

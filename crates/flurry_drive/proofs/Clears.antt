@@ -1,22 +1,21 @@
 -- A clear that is driven, as one more caller of a world: it leaves no pair, and counts what it wiped.
-use Rattle.std.specs.Prelude.{◌≡◌, ◌⊎◌, ℕ, ℤ, pos, neg_ℤ, ◌-ℤ◌, ◌≤ℤ◌, suc, ◌+◌, ◌-◌, ◌^◌, ◌≤◌, Bool, true, false, cond, not, min, [], ◌∷◌, ◌++◌, filter, length, reverse, slice_get, slice_set, Option, Some, None, IsNone, if◌then◌else◌}
+use Rattle.std.specs.Prelude.{◌≡◌, ◌⊎◌, ℕ, ℤ, pos, neg_ℤ, ◌-ℤ◌, ◌≤ℤ◌, suc, ◌+◌, ◌-◌, ◌^◌, ◌≤◌, Bool, true, false, cond, min, [], ◌∷◌, ◌++◌, length, reverse, slice_get, Option, Some, None, IsNone, if◌then◌else◌}
 use Rattle.std.specs.declared.cmp.Ordering.{Ordering}
 use Rattle.std.specs.Cmp.{IsTotalOrder}
 use Rattle.std.proofs.Common.{arith, refl, sym, ◌∙◌, ap, subst, subst₂, inl, inr}
 use Rattle.std.proofs.lemmas.Int.{ints}
 use Rattle.std.proofs.lemmas.List.{reverse-append}
 use Rattle.std.proofs.lemmas.Option.{slice_get_within}
-use Rattle.flurry_slots.specs.Slot.{SlotState, Content, IsLive, HasMoved, IsUnborn, Live, after_wipe}
+use Rattle.flurry_slots.specs.Slot.{Content, IsLive, HasMoved, IsUnborn, Live, after_wipe}
 use Rattle.flurry_control.specs.Control.{ControlState, after_count}
 use Rattle.flurry_calls.specs.Cursor.{CursorState, at_base, halved, after_top}
 use Rattle.flurry_calls.specs.Part.{BinPart}
-use Rattle.flurry_calls.specs.Outcome.{Outcome, OutcomeReply, OutcomeEnded, OutcomeRefused}
+use Rattle.flurry_calls.specs.Outcome.{Outcome, OutcomeEnded}
 use Rattle.flurry_calls.specs.Sweep as sweep
 use Rattle.flurry_calls.specs.Sweep.{Errand, Reads, Wipes, SweepStage, AtOutset, OverBins, AtTotal, AtEnd, AfterEnd, SweepState, SweepControl, ClearGives, BinGives, part_at, set_out_at, more_wiped, stage_cleared, swept_outcome, sets_out, fresh_sweep}
 use Rattle.flurry_calls.specs.declared.step.Event.{Event}
-use Rattle.flurry_calls.specs.declared.step.Event.TheVariants as event
 use Rattle.flurry_model.specs.declared.call.Call.TheVariants as call
-use Rattle.flurry_steps.specs.Party.{Stage, AtSweep, PartyState, part_of, wanted_part, locates, started_stage, final_outcome, with_stage}
+use Rattle.flurry_steps.specs.Party.{AtSweep, PartyState, part_of, wanted_part, locates, started_stage, final_outcome, with_stage}
 use Rattle.flurry_steps.specs.PartyControl.{StageAtControl, ControlStep}
 use Rattle.flurry_steps.specs.PartySlots.{StageAtSlot}
 use Rattle.flurry_theory.specs.Map.{Pairs, same, find}
@@ -38,7 +37,6 @@ use Rattle.flurry_world.proofs.SlotCases.{Put}
 use Rattle.flurry_world.proofs.Frames.{StepOf, kept}
 use Rattle.flurry_world.proofs.Cases.{calls, in_mode}
 use Rattle.flurry_drive.specs.Exact.{Holds, Answers, IsFresh}
-use Rattle.flurry_drive.specs.Tells.{StartStep, StepsIn}
 use Rattle.flurry_drive.proofs.Begins.{was_published, new, near, begun, new_at, same_parts, first_label}
 use Rattle.flurry_drive.proofs.ClearSteps.{put_back, count_less, goes_to_table, finds_nothing, follows_moved, no_unborn, wiped_pairs, wipes_bin, counts_all}
 use Rattle.flurry_drive.proofs.Trace.{itself}

@@ -6,7 +6,7 @@ use Rattle.std.proofs.Common.{refl, sym, ◌∙◌, ap, subst, inl, inr}
 use Rattle.flurry_steps.specs.Field.{Loan, Turn, StaysOrDone}
 use Rattle.flurry_calls.specs.Outcome.{Outcome}
 use Rattle.flurry_calls.specs.Part.{Part}
-use Rattle.flurry_steps.specs.Party.{PartyState, final_outcome, locates}
+use Rattle.flurry_steps.specs.Party.{PartyState, final_outcome}
 use Rattle.flurry_calls.specs.declared.step.Event.{Event}
 use Rattle.flurry_theory.specs.Map.{Pairs, same}
 use Rattle.flurry_theory.specs.Trace.{pairs}

@@ -1,10 +1,9 @@
 -- A walk that is driven leaves the parts as they are.
-use Rattle.std.specs.Prelude.{◌≡◌, ℕ, ◌+◌, Bool, true, Option, Some, None, MatchOption, ⊤}
+use Rattle.std.specs.Prelude.{◌≡◌, ℕ, ◌+◌, Option, Some, None, MatchOption, ⊤}
 use Rattle.std.specs.declared.cmp.Ordering.{Ordering}
 use Rattle.std.proofs.Common.{arith, refl, sym, ◌∙◌, ap, subst, subst₂, inl, inr}
 use Rattle.std.proofs.lemmas.Int.{ints}
 use Rattle.flurry_slots.specs.Slot.{PlainEntry, Content, IsLive, HasMoved, IsUnborn, next_of_live}
-use Rattle.flurry_control.specs.Control.{ControlState}
 use Rattle.flurry_calls.specs.Cursor.{CursorState, at_base, after_top}
 use Rattle.flurry_calls.specs.Outcome.{Outcome, OutcomeReply, OutcomeEnded, OutcomeRefused}
 use Rattle.flurry_calls.specs.Sweep as sweep
@@ -13,12 +12,12 @@ use Rattle.flurry_calls.specs.declared.step.Event.{Event}
 use Rattle.flurry_calls.specs.declared.step.Event.TheVariants as event
 use Rattle.flurry_model.specs.declared.call.Call.TheVariants as call
 use Rattle.flurry_model.specs.declared.call.Seen.{Seen}
-use Rattle.flurry_steps.specs.Party.{AtSweep, PartyState, part_of, locates, started_stage, final_outcome}
+use Rattle.flurry_steps.specs.Party.{AtSweep, PartyState, part_of, started_stage, final_outcome}
 use Rattle.flurry_steps.specs.PartyControl.{StageAtControl}
 use Rattle.flurry_steps.specs.PartySlots.{StageAtSlot}
 use Rattle.flurry_theory.specs.Map.{Pairs}
 use Rattle.flurry_world.specs.Parts.{Parts, PartStep}
-use Rattle.flurry_world.specs.Tables.{Tables, PlaceGives}
+use Rattle.flurry_world.specs.Tables.{PlaceGives}
 use Rattle.flurry_world.specs.World.{HasNoReply}
 use Rattle.flurry_drive.specs.Exact.{Holds, Answers, IsFresh}
 use Rattle.flurry_drive.specs.Tells.{StartStep, StepsIn}

@@ -1,13 +1,11 @@
 -- A call that is driven, as one more caller of a world.
-use Rattle.std.specs.Prelude.{◌≡◌, ◌⊎◌, ℕ, suc, ◌+◌, ◌^◌, ◌≤◌, ◌<◌, Bool, true, false, cond, [], ◌∷◌, ◌++◌, length, reverse, slice_get, nat_lt, Option, Some, None, is_some, ⊤}
+use Rattle.std.specs.Prelude.{◌≡◌, ◌⊎◌, ℕ, suc, ◌+◌, ◌^◌, ◌≤◌, Bool, true, false, cond, [], ◌∷◌, ◌++◌, length, reverse, slice_get, Option, Some, None, is_some, ⊤}
 use Rattle.std.specs.declared.cmp.Ordering.{Ordering}
 use Rattle.std.specs.Cmp.{IsTotalOrder}
 use Rattle.std.proofs.Common.{arith, refl, sym, ◌∙◌, ap, subst, inl, inr}
-use Rattle.std.proofs.lemmas.Bool.{ltb-true, ltb-false}
 use Rattle.std.proofs.lemmas.Int.{ints}
 use Rattle.std.proofs.lemmas.List.{reverse-append}
 use Rattle.std.proofs.lemmas.Option.{slice_get_within}
-use Rattle.flurry_slots.specs.Slot.{Content, IsLive, HasMoved, IsUnborn}
 use Rattle.flurry_control.specs.Control.{ControlState}
 use Rattle.flurry_calls.specs.Outcome.{OutcomeReply, OutcomeEnded, OutcomeRefused, Outcome}
 use Rattle.flurry_steps.specs.Party.{Stage, AtLocate, AtBin, AtClaim, AtMove, AtUncount, AtCount, AtRecount, AtBegin, AtGrow, AtReserve, AtSweep, IsSingle, final_outcome, AtDone, AtTaken, PartyState, wanted_part, with_stage, started_stage, locates, outcome_in, last_seen}
@@ -15,30 +13,24 @@ use Rattle.flurry_calls.specs.declared.step.Event.{Event}
 use Rattle.flurry_calls.specs.declared.step.Event.TheVariants as event
 use Rattle.flurry_calls.specs.Sweep.{Errand, Reads, Wipes}
 use Rattle.flurry_model.specs.declared.call.Seen.{Seen}
-use Rattle.flurry_steps.specs.declared.party.call.OwnedCall.{OwnedCall}
 use Rattle.flurry_model.specs.declared.reply.KeptReply.{KeptReply}
 use Rattle.flurry_theory.specs.Map.{Pairs, same, after, Allows, CanBeRefused}
-use Rattle.flurry_theory.specs.Machine as machine
-use Rattle.flurry_theory.specs.Machine.{Mode, Locating, Done, Finished, WasPublished, Finds}
+use Rattle.flurry_theory.specs.Machine.{Mode, Done, Finished, Finds}
 use Rattle.flurry_theory.specs.Trace.{decision, has_replied, has_closed, pairs}
 use Rattle.flurry_theory.specs.Legal.{EachMay, CallMay}
 use Rattle.flurry_theory.specs.Invariant.{PartyOk, one_key}
 use Rattle.flurry_model.specs.declared.call.Call.{Call}
 use Rattle.flurry_model.specs.declared.call.Call.TheVariants as call
-use Rattle.flurry_theory.specs.declared.Label.TheVariants as label
-use Rattle.flurry_world.specs.Entries.{slot_of}
-use Rattle.flurry_world.specs.Tables.{Tables, content_at, PlaceGives}
+use Rattle.flurry_world.specs.Tables.{Tables, PlaceGives}
 use Rattle.flurry_world.specs.Parts.{PartStep}
 use Rattle.flurry_world.specs.World.{PartyRecord, WorldState, Near, state_of, mode_of_stage, claim_of_stage, task_of_call, FollowsErrand, FollowsStage, IsWorld}
 use Rattle.flurry_world.specs.Steps.{with_step, with_party_record, label_of, decide_label}
-use Rattle.flurry_world.specs.Runs.{theory_call}
 use Rattle.flurry_world.proofs.StateLaws.{get_set}
 use Rattle.flurry_world.proofs.CallLaws.{found_task}
 use Rattle.flurry_world.proofs.TransitionLaws.{is_finds}
 use Rattle.flurry_world.proofs.Frames.{same_frame, step_of, kept, IsStep}
 use Rattle.flurry_world.proofs.Cases.{calls, in_mode}
-use Rattle.flurry_world.proofs.BeginLaws.{fresh_stage}
-use Rattle.flurry_world.proofs.WorldLaws.{began, goes_on, get_append}
+use Rattle.flurry_world.proofs.WorldLaws.{goes_on}
 use Rattle.flurry_steps.proofs.Events.{IsSweepEvent, single_at_control, single_at_slot, single_at_move}
 use Rattle.flurry_calls.specs.Part.{Part, ControlPart, LookPart, BinPart, MovePart, NoPart}
 use Rattle.flurry_world.specs.Parts.{Parts, PartStep, IsStart}
