@@ -3,22 +3,23 @@ use Rattle.std.specs.Prelude.{◌≡◌, ℕ, [], reverse, Option, None}
 use Rattle.std.specs.Cmp.{IsTotalOrder}
 use Rattle.std.specs.declared.cmp.Ordering.{Ordering}
 use Rattle.std.specs.declared.cmp.Ordering.TheVariants.{Equal}
-use Rattle.std.proofs.Common.{arith, refl, ◌∙◌}
+use Rattle.std.proofs.Common.{arith, refl, sym, ◌∙◌, subst}
 use Rattle.std.proofs.lemmas.Int.{ints}
 use Rattle.flurry_steps.specs.Party.{PartyState}
 use Rattle.flurry_steps.specs.PartyView.{owned_stage}
 use Rattle.flurry_steps.specs.declared.party.call.OwnedCall.{OwnedCall}
 use Rattle.flurry_theory.specs.Trace.{pairs}
 use Rattle.flurry_world.specs.Parts.{OwnLends, OwnLacks, no_parts}
-use Rattle.flurry_world.specs.Runs.{hash_for}
+use Rattle.flurry_world.specs.Runs.{theory_call, hash_for}
 use Rattle.flurry_world.specs.Steps.{fresh_world}
 use Rattle.flurry_world.specs.Tables.{PlaceGives, no_tables}
 use Rattle.flurry_world.specs.World.{WorldState, Near, IsWorld}
 use Rattle.flurry_world.proofs.BeginLaws.{own_hash}
 use Rattle.flurry_world.proofs.NewLaws.{new_without}
 use Rattle.flurry_world.proofs.WorldSteps.{alike_class}
-use Rattle.flurry_drive.specs.Exact.{Holds, IsFresh}
+use Rattle.flurry_drive.specs.Exact.{Holds, IsFirst, IsFresh}
 use Rattle.flurry_drive.specs.Tells.{Tells}
+use Rattle.flurry_drive.proofs.Begins.{owned_first}
 
 -- who is alone with the parts is told them
 pub own_tells : {K V : Type 0} → Tells {K = K} {V = V} (λ s. s) (λ r. r) PlaceGives OwnLends OwnLacks
@@ -26,8 +27,8 @@ own_tells = record { places = λ r e live ok r' h. h; lends_own = λ s l s' h. h
 
 module _ {K V F : Type 0} (cmp : K → K → Ordering) (hash : K → ℕ) (changes : F → K → V → Option V → Type 0) where
   -- a call that has its key, before its first step
-  pub fresh : (c : OwnedCall K V F) (p : PartyState K V F) → p.stage ≡ owned_stage c → p.hash ≡ hash_for hash c → IsFresh cmp hash changes c p
-  fresh c p stage hashed = record { stage = stage; hash_is = λ k h. hashed ∙ own_hash hash c k h }
+  pub fresh : (c : OwnedCall K V F) (p : PartyState K V F) → p.stage ≡ owned_stage c → p.hash ≡ hash_for hash c → IsFresh cmp hash changes (theory_call c) p
+  fresh c p stage hashed = record { stage = subst (IsFirst (theory_call c)) (sym stage) (owned_first c); hash_is = λ k h. hashed ∙ own_hash hash c k h }
 
   -- the parts of a world hold its map
   pub holds_world : {S : Type 0} (w : WorldState K V F S) (n : ℕ) → IsWorld cmp hash changes w → Near n w.control_state.count → Holds cmp hash changes n (record { control_state = w.control_state; tables = w.tables }) (pairs cmp hash (reverse w.trace))

@@ -1,6 +1,10 @@
 pub mod Trace
 pub mod CountLaws
+pub mod Begins
 pub mod Worlds
+pub mod Walks
+pub mod ClearSteps
+pub mod Clears
 pub mod OwnSteps
 pub mod Driven
 pub mod HoldsLaws

@@ -1,13 +1,11 @@
 -- A call that is driven, as one more caller of a world.
-use Rattle.std.specs.Prelude.{◌≡◌, ◌⊎◌, ℕ, suc, ◌+◌, ◌^◌, ◌≤◌, ◌<◌, Bool, true, false, cond, [], ◌∷◌, ◌++◌, length, reverse, slice_get, nat_lt, Option, Some, None, is_some, ⊤}
+use Rattle.std.specs.Prelude.{◌≡◌, ◌⊎◌, ℕ, suc, ◌+◌, ◌^◌, ◌≤◌, Bool, true, false, cond, [], ◌∷◌, ◌++◌, length, reverse, slice_get, Option, Some, None, is_some, ⊤}
 use Rattle.std.specs.declared.cmp.Ordering.{Ordering}
 use Rattle.std.specs.Cmp.{IsTotalOrder}
 use Rattle.std.proofs.Common.{arith, refl, sym, ◌∙◌, ap, subst, inl, inr}
-use Rattle.std.proofs.lemmas.Bool.{ltb-true, ltb-false}
 use Rattle.std.proofs.lemmas.Int.{ints}
 use Rattle.std.proofs.lemmas.List.{reverse-append}
 use Rattle.std.proofs.lemmas.Option.{slice_get_within}
-use Rattle.flurry_slots.specs.Slot.{Content, IsLive, HasMoved, IsUnborn}
 use Rattle.flurry_control.specs.Control.{ControlState}
 use Rattle.flurry_calls.specs.Outcome.{OutcomeReply, OutcomeEnded, OutcomeRefused, Outcome}
 use Rattle.flurry_steps.specs.Party.{Stage, AtLocate, AtBin, AtClaim, AtMove, AtUncount, AtCount, AtRecount, AtBegin, AtGrow, AtReserve, AtSweep, IsSingle, final_outcome, AtDone, AtTaken, PartyState, wanted_part, with_stage, started_stage, locates, outcome_in, last_seen}
@@ -15,37 +13,38 @@ use Rattle.flurry_calls.specs.declared.step.Event.{Event}
 use Rattle.flurry_calls.specs.declared.step.Event.TheVariants as event
 use Rattle.flurry_calls.specs.Sweep.{Errand, Reads, Wipes}
 use Rattle.flurry_model.specs.declared.call.Seen.{Seen}
-use Rattle.flurry_steps.specs.declared.party.call.OwnedCall.{OwnedCall}
 use Rattle.flurry_model.specs.declared.reply.KeptReply.{KeptReply}
 use Rattle.flurry_theory.specs.Map.{Pairs, same, after, Allows, CanBeRefused}
-use Rattle.flurry_theory.specs.Machine as machine
-use Rattle.flurry_theory.specs.Machine.{Mode, Locating, Done, Finished, WasPublished, Finds}
+use Rattle.flurry_theory.specs.Machine.{Mode, Done, Finished, Finds}
 use Rattle.flurry_theory.specs.Trace.{decision, has_replied, has_closed, pairs}
 use Rattle.flurry_theory.specs.Legal.{EachMay, CallMay}
 use Rattle.flurry_theory.specs.Invariant.{PartyOk, one_key}
 use Rattle.flurry_model.specs.declared.call.Call.{Call}
 use Rattle.flurry_model.specs.declared.call.Call.TheVariants as call
-use Rattle.flurry_theory.specs.declared.Label.TheVariants as label
-use Rattle.flurry_world.specs.Entries.{slot_of}
-use Rattle.flurry_world.specs.Tables.{Tables, content_at, PlaceGives}
+use Rattle.flurry_world.specs.Tables.{Tables, PlaceGives}
 use Rattle.flurry_world.specs.Parts.{PartStep}
 use Rattle.flurry_world.specs.World.{PartyRecord, WorldState, Near, state_of, mode_of_stage, claim_of_stage, task_of_call, FollowsErrand, FollowsStage, IsWorld}
 use Rattle.flurry_world.specs.Steps.{with_step, with_party_record, label_of, decide_label}
-use Rattle.flurry_world.specs.Runs.{theory_call}
 use Rattle.flurry_world.proofs.StateLaws.{get_set}
 use Rattle.flurry_world.proofs.CallLaws.{found_task}
 use Rattle.flurry_world.proofs.TransitionLaws.{is_finds}
 use Rattle.flurry_world.proofs.Frames.{same_frame, step_of, kept, IsStep}
 use Rattle.flurry_world.proofs.Cases.{calls, in_mode}
-use Rattle.flurry_world.proofs.BeginLaws.{fresh_stage}
-use Rattle.flurry_world.proofs.WorldLaws.{began, goes_on, get_append}
+use Rattle.flurry_world.proofs.WorldLaws.{goes_on}
 use Rattle.flurry_steps.proofs.Events.{IsSweepEvent, single_at_control, single_at_slot, single_at_move}
 use Rattle.flurry_calls.specs.Part.{Part, ControlPart, LookPart, BinPart, MovePart, NoPart}
 use Rattle.flurry_world.specs.Parts.{Parts, PartStep, IsStart}
-use Rattle.flurry_drive.specs.Exact.{Holds, Answers, IsFresh, IsPlain}
+use Rattle.flurry_drive.specs.Exact.{Holds, Answers, EndsOn, IsFirst, IsFresh, most_counted}
+use Rattle.flurry_drive.proofs.Begins.{was_published, new, begun, new_at, same_parts, first_label, unknown}
 use Rattle.flurry_drive.proofs.Trace.{IsOwnLabel, ByEnd, Alone, alone_more, alone_began, itself}
 use Rattle.flurry_drive.proofs.CountLaws.{left, left_most, Room, near_of, room_left}
 use Rattle.flurry_model.specs.declared.sizes.TheConstants.{MOST_LABELS}
+
+-- the call does not go over all bins
+abbrev pub IsPlain : {K V F : Type 0} → Call K V F → Type 0
+IsPlain call.Clear = ⊥
+IsPlain call.Walk = ⊥
+IsPlain d = ⊤
 
 -- a stage of such a call does not go over all bins either
 errand_plain : {K V F : Type 0} (d : Call K V F) (w : Errand) (z : Option (Seen K V)) → IsPlain d → FollowsErrand d w z → ⊥
@@ -153,18 +152,6 @@ module _ {K V F : Type 0} (cmp : K → K → Ordering) (total : IsTotalOrder cmp
     pub start_step : (e : ℕ) (c : PartyState K V F) (ev : Event) → locates x.party_state.stage ≡ true → IsStart (record { control_state = w.control_state; tables = w.tables }) e → ev ≡ event.Silent → c ≡ with_stage x.party_state (started_stage e x.party_state.stage) → InWorld (record { control_state = w.control_state; tables = w.tables }) c
     start_step e c ev loc start silent is = by_stage x.party_state.stage refl
       where
-        published : WasPublished cmp hash gives (state_of w) e
-        published = (not_early (nat_lt e (state_of w).start) refl, start.newest, start.published, start.within)
-          where
-            not_early : (b : Bool) → nat_lt e (state_of w).start ≡ b → (state_of w).start ≤ e
-            not_early true h = absurd (unborn (content_at w.tables e 0) refl (k.state.1.tables.early e 0 (ltb-true e (state_of w).start h)))
-              where
-                unborn : (z : Content K V) → content_at w.tables e 0 ≡ z → slot_of z ≡ machine.Unborn → ⊥
-                unborn (IsLive b) f g = cc
-                unborn HasMoved f g = cc
-                unborn IsUnborn f g = start.born f
-            not_early false h = ltb-false e (state_of w).start h
-
         not_there : locates x.party_state.stage ≡ false → ⊥
         not_there h = let no : true ≡ false = sym loc ∙ h in cc
 
@@ -173,7 +160,7 @@ module _ {K V F : Type 0} (cmp : K → K → Ordering) (total : IsTotalOrder cmp
             (kept cmp hash gives total lawful w p x w.control_state w.tables c (label_of p ev c.stage) k at (step_of cmp hash gives w p x w.control_state w.tables c (label_of p ev c.stage) at (ap (λ r. r.hash) is) (ap last_seen stands ∙ sym (ap last_seen f))
             (subst (λ v. IsStep cmp hash gives w p x w.control_state w.tables c (label_of p v c.stage)) (sym silent) (record {
               line = Finds e;
-              can = (x.call, calls cmp total hash lawful gives w k p x at c, in_mode cmp total hash lawful gives w k p x at c (AtLocate t) f, published);
+              can = (x.call, calls cmp total hash lawful gives w k p x at c, in_mode cmp total hash lawful gives w k p x at c (AtLocate t) f, was_published cmp hash gives w k e start);
               is = is_finds cmp hash gives w p x at c e (ap mode_of_stage stands ∙ sym (found_task x.call t e follows)) (ap claim_of_stage stands ∙ sym (ap claim_of_stage f));
               follows = subst (FollowsStage hash x.call) (sym stands) follows;
               frame = same_frame cmp hash gives w k;
@@ -240,7 +227,7 @@ module _ {K V F : Type 0} (cmp : K → K → Ordering) (total : IsTotalOrder cmp
             let none : decision (reverse w.trace) p ≡ None = ok.undecided (λ z a b h. other (sym (mode OutcomeEnded e) ∙ h)) (λ h. going (sym (mode OutcomeEnded e) ∙ h)) in
             let open_yet : has_closed (reverse w.trace) p ≡ false = (ok.going (λ h. going (sym (mode OutcomeEnded e) ∙ h))).1 in
             let (a, is) = subst (FollowsStage hash x.call) e (k.party_records p x at).stage in
-            (a, sym called ∙ is, subst (λ b. ByEnd cmp hash gives p d m None b (pairs cmp hash (reverse w.trace))) open_yet (subst (λ o. ByEnd cmp hash gives p d m o (has_closed (reverse w.trace) p) (pairs cmp hash (reverse w.trace))) none alone.end))
+            subst (λ c. EndsOn c m (pairs cmp hash (reverse w.trace))) (sym is ∙ called) (subst (λ b. ByEnd cmp hash gives p d m None b (pairs cmp hash (reverse w.trace))) open_yet (subst (λ o. ByEnd cmp hash gives p d m o (has_closed (reverse w.trace) p) (pairs cmp hash (reverse w.trace))) none alone.end))
           where
             other : {z : KeptReply K V} {a b : ℕ} → Done None 0 0 ≡ Done (Some z) a b → ⊥
             other h = cc
@@ -288,37 +275,40 @@ module _ {K V F : Type 0} (cmp : K → K → Ordering) (total : IsTotalOrder cmp
                 by_kind true h = let none : decision (reverse w.trace) p ≡ None = ok.refused refused (ap one_key (calls cmp total hash lawful gives w k p x at x.party_state) ∙ ap (λ z. one_key (Some z)) called ∙ h) in let no : Some q ≡ None = sym e ∙ none in cc
                 by_kind false h = no_reply d q m h allowed
 
+module _ {K V F : Type 0} where
+  -- it counts what it has left to count, at most
+  first_left : (d : Call K V F) (m : Pairs K V) (s : Stage K V F) → IsPlain d → IsFirst d s → left s ≤ most_counted d m
+  first_left (call.Get j) m s plain h = left_most s
+  first_left (call.GetKeyValue j) m s plain h = left_most s
+  first_left (call.ContainsKey j) m s plain h = left_most s
+  first_left (call.Insert j v) m s plain h = left_most s
+  first_left (call.TryInsert j v) m s plain h = left_most s
+  first_left (call.Compute j f) m s plain h = left_most s
+  first_left (call.Remove j) m s plain h = left_most s
+  first_left (call.RemoveEntry j) m s plain h = left_most s
+  first_left (call.RemoveSeen z) m s plain h = left_most s
+  first_left (call.Reserve a) m s plain h = omega (arith, ap left h)
+  first_left call.Clear m s plain h = absurd plain
+  first_left call.Walk m s plain h = absurd plain
+
 module _ {K V F : Type 0} (cmp : K → K → Ordering) (total : IsTotalOrder cmp) (hash : K → ℕ) (lawful : (j k : K) → same cmp j k ≡ true → hash j ≡ hash k) (gives : F → K → V → Option V → Type 0) where
-  module _ (n : ℕ) (few : n < MOST_LABELS) (m : Pairs K V) (s : Parts K V) (h : Holds cmp hash gives n s m) (c : OwnedCall K V F) (q : PartyState K V F) (fresh : IsFresh cmp hash gives c q) (plain : IsPlain (theory_call c)) where
-    pub small : n + 1 ≤ 2 ^ 62
-    small = omega (arith, few)
+  -- it begins as one more caller of the world
+  pub begins : (n : ℕ) (d : Call K V F) (m : Pairs K V) (few : n + most_counted d m ≤ MOST_LABELS) (s : Parts K V) (h : Holds cmp hash gives n s m) (q : PartyState K V F) → IsFresh cmp hash gives d q → IsPlain d → InWorld cmp total hash lawful gives (n + most_counted d m) few (length h.world.party_records) d m s q
+  begins n d m few s h q fresh plain = record {
+    world = with_party_record h.world d None q;
+    is_world = begun cmp hash gives total lawful n within m s h d q fresh;
+    caller = new cmp hash gives total lawful n within m s h d q fresh;
+    at = new_at cmp hash gives total lawful n within m s h d q fresh;
+    call = refl;
+    plain = plain;
+    party_state = refl;
+    parts = same_parts cmp hash gives total lawful n within m s h d q fresh;
+    alone = subst (Alone cmp hash gives (length h.world.party_records) d m) (sym (first_label cmp hash gives total lawful n within m s h d q fresh)) (alone_began cmp hash gives (length h.world.party_records) d m (reverse h.world.trace) nobody.4 nobody.3 nobody.5 h.map);
+    room = let more = first_left d m q.stage plain fresh.stage in record { most = omega (arith, ints, h.near.most, more); least = omega (arith, ints, h.near.least, more) };
+  }
+    where
+      within : n ≤ 2 ^ 62
+      within = omega (arith, few)
 
-    -- it begins as one more caller of the world
-    pub begins : InWorld cmp total hash lawful gives (n + 1) small (length h.world.party_records) (theory_call c) m s q
-    begins = record {
-      world = with_party_record h.world (theory_call c) None q;
-      is_world = began cmp total hash lawful gives h.world h.is_world near (theory_call c) None (λ v e. cc) q (ap mode_of_stage fresh.stage ∙ (fresh_stage hash c).1) (ap claim_of_stage fresh.stage ∙ (fresh_stage hash c).2) (ap last_seen fresh.stage ∙ (fresh_stage hash c).3) fresh.hash_is (subst (FollowsStage hash (theory_call c)) (sym fresh.stage) (fresh_stage hash c).0);
-      caller = new;
-      at = get_append h.world.party_records new (length h.world.party_records) ∙ ap (λ z. cond z (Some new) (slice_get h.world.party_records (length h.world.party_records))) (itself (length h.world.party_records));
-      call = refl;
-      plain = plain;
-      party_state = refl;
-      parts = (λ i. record { control_state = h.control_state i; tables = h.tables i });
-      alone = subst (Alone cmp hash gives (length h.world.party_records) (theory_call c) m) (sym turned) (alone_began cmp hash gives (length h.world.party_records) (theory_call c) m (reverse h.world.trace) unknown.4 unknown.3 unknown.5 h.map);
-      room = record { most = omega (arith, ints, h.near.most, left_most q.stage); least = omega (arith, ints, h.near.least, left_most q.stage) };
-    }
-      where
-        new : PartyRecord K V F
-        new = record { call = theory_call c; began_from = None; party_state = q; steps = 0 }
-
-        count : h.world.control_state.count ≡ s.control_state.count
-        count = ap (λ b. b.count) h.control_state
-
-        near : Near (2 ^ 62) h.world.control_state.count
-        near = record { most = omega (arith, ints, h.near.most, count, few); least = omega (arith, ints, h.near.least, count, few) }
-
-        turned : reverse (h.world.trace ++ label.Begin (length h.world.party_records) (theory_call c) ∷ []) ≡ label.Begin (length h.world.party_records) (theory_call c) ∷ reverse h.world.trace
-        turned = reverse-append h.world.trace (label.Begin (length h.world.party_records) (theory_call c) ∷ [])
-
-        unknown : ((state_of h.world).call (length h.world.party_records) ≡ None) × ((state_of h.world).mode (length h.world.party_records) ≡ Finished) × ((state_of h.world).claim (length h.world.party_records) ≡ None) × (decision (reverse h.world.trace) (length h.world.party_records) ≡ None) × (has_replied (reverse h.world.trace) (length h.world.party_records) ≡ false) × (has_closed (reverse h.world.trace) (length h.world.party_records) ≡ false)
-        unknown = (h.is_world.state.1.parties (length h.world.party_records)).unknown (omega arith)
+      nobody : ((state_of h.world).call (length h.world.party_records) ≡ None) × ((state_of h.world).mode (length h.world.party_records) ≡ Finished) × ((state_of h.world).claim (length h.world.party_records) ≡ None) × (decision (reverse h.world.trace) (length h.world.party_records) ≡ None) × (has_replied (reverse h.world.trace) (length h.world.party_records) ≡ false) × (has_closed (reverse h.world.trace) (length h.world.party_records) ≡ false)
+      nobody = unknown cmp hash gives total lawful n within m s h d q fresh

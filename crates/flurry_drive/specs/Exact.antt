@@ -1,29 +1,43 @@
 -- What a driven call answers and leaves, over a field that tells its parts and that nobody else changes.
-use Rattle.std.specs.Prelude.{◌≡◌, ℕ, ◌+◌, ◌<◌, Bool, Option, Some, reverse, ⊤}
+use Rattle.std.specs.Prelude.{◌≡◌, ℕ, ◌+◌, ◌≤◌, Bool, [], length, Option, Some, reverse}
 use Rattle.std.specs.declared.cmp.Ordering.{Ordering}
 use Rattle.std.specs.declared.cmp.Ordering.TheVariants.{Equal}
 use Rattle.flurry_steps.specs.Field.{Loan}
 use Rattle.flurry_calls.specs.Outcome.{Outcome, OutcomeReply, OutcomeEnded, OutcomeRefused}
 use Rattle.flurry_calls.specs.Part.{Part}
-use Rattle.flurry_steps.specs.Party.{PartyState}
-use Rattle.flurry_steps.specs.PartyView.{owned_stage}
-use Rattle.flurry_steps.specs.declared.party.call.OwnedCall.{OwnedCall}
+use Rattle.flurry_calls.specs.Sweep.{Reads, Wipes, fresh_sweep}
+use Rattle.flurry_steps.specs.Party.{Task, Stage, AtLocate, AtReserve, AtSweep, PartyState}
 use Rattle.flurry_theory.specs.Map.{Pairs, key_of, after, Allows, CanBeRefused}
 use Rattle.flurry_theory.specs.Trace.{pairs}
 use Rattle.flurry_model.specs.declared.call.Call.{Call}
 use Rattle.flurry_model.specs.declared.call.Call.TheVariants as call
 use Rattle.flurry_world.specs.Parts.{Parts}
-use Rattle.flurry_world.specs.Runs.{theory_call}
 use Rattle.flurry_world.specs.Tables.{Tables}
-use Rattle.flurry_world.specs.World.{WorldState, Near, IsWorld}
+use Rattle.flurry_world.specs.World.{WorldState, Near, task_of_call, IsWorld}
 use Rattle.flurry_drive.specs.Tells.{Tells}
 use Rattle.flurry_model.specs.declared.sizes.TheConstants.{MOST_LABELS}
 
--- the call does not go over all bins
-abbrev pub IsPlain : {K V F : Type 0} → Call K V F → Type 0
-IsPlain call.Clear = ⊥
-IsPlain call.Walk = ⊥
-IsPlain d = ⊤
+module _ {K V F : Type 0} where
+  -- the call stands there before its first step
+  abbrev pub IsFirst : Call K V F → Stage K V F → Type 0
+  IsFirst (call.Reserve a) s = s ≡ AtReserve a
+  IsFirst call.Clear s = s ≡ AtSweep (fresh_sweep (Wipes 0))
+  IsFirst call.Walk s = s ≡ AtSweep (fresh_sweep Reads)
+  IsFirst c s = (t : Task K V F) × (task_of_call c ≡ Some t) × (s ≡ AtLocate t)
+
+  -- how many pairs the call counts at most, on the map m
+  abbrev pub most_counted : Call K V F → Pairs K V → ℕ
+  most_counted (call.Reserve a) m = 0
+  most_counted call.Clear m = length m
+  most_counted call.Walk m = 0
+  most_counted c m = 1
+
+  -- what a call without a key leaves of the map m, once it has ended: a clear no pair, and the others all
+  abbrev pub EndsOn : Call K V F → Pairs K V → Pairs K V → Type 0
+  EndsOn (call.Reserve a) m m' = m' ≡ m
+  EndsOn call.Clear m m' = m' ≡ []
+  EndsOn call.Walk m m' = m' ≡ m
+  EndsOn c m m' = ⊥
 
 module _ {K V F : Type 0} (cmp : K → K → Ordering) (hash : K → ℕ) (changes : F → K → V → Option V → Type 0) where
   -- The parts stand as a world keeps them, whatever calls have begun there and wherever these stand. They hold the map m, and their
@@ -36,28 +50,27 @@ module _ {K V F : Type 0} (cmp : K → K → Ordering) (hash : K → ℕ) (chang
     pub map : pairs cmp hash (reverse world.trace) ≡ m
     pub near : Near n s.control_state.count
 
-  -- the call c, on the map m, answers r and leaves m'. A call of one key replies and leaves what the finite map does; a reserve that
-  -- ends leaves the map, and so does any call that is refused, as it may be.
+  -- the call c, on the map m, answers r and leaves m'. A call of one key replies and leaves what the finite map does; any call that is
+  -- refused leaves the map, and may be refused.
   abbrev pub Answers : Call K V F → Pairs K V → Outcome K V → Pairs K V → Type 0
   Answers c m (OutcomeReply r) m' = Allows cmp changes c m r × (m' ≡ after cmp c r m)
-  Answers c m OutcomeEnded m' = (a : ℕ) × (c ≡ call.Reserve a) × (m' ≡ m)
+  Answers c m OutcomeEnded m' = EndsOn c m m'
   Answers c m OutcomeRefused m' = CanBeRefused cmp changes c m × (m' ≡ m)
 
   -- the call c before its first step, with the hash of its key
-  pub record IsFresh (c : OwnedCall K V F) (p : PartyState K V F) : Type 0 where
-    pub stage : p.stage ≡ owned_stage c
-    pub hash_is : (k : K) → key_of (theory_call c) ≡ Some k → p.hash ≡ hash k
+  pub record IsFresh (c : Call K V F) (p : PartyState K V F) : Type 0 where
+    pub stage : IsFirst c p.stage
+    pub hash_is : (k : K) → key_of c ≡ Some k → p.hash ≡ hash k
 
   -- driven over the parts s, the call c answers r and leaves the parts s'
-  abbrev pub DrivesTo : OwnedCall K V F → ℕ → Parts K V → Pairs K V → Outcome K V → Parts K V → Type 0
-  DrivesTo c n s m r s' = (m' : Pairs K V) × Answers (theory_call c) m r m' × Holds (n + 1) s' m'
+  abbrev pub DrivesTo : Call K V F → ℕ → Parts K V → Pairs K V → Outcome K V → Parts K V → Type 0
+  DrivesTo c n s m r s' = (m' : Pairs K V) × Answers c m r m' × Holds (n + most_counted c m) s' m'
 
--- over a field that tells its parts, which stand as a world keeps them, a call that did no step yet, and does not go over all bins,
--- does what the finite map does
+-- over a field that tells its parts, which stand as a world keeps them, a call that did no step yet does what the finite map does
 abbrev pub IsExact : {S R K V F : Type 0} (place : R → ℕ → Bool → Bool → R → Type 0) (cmp : K → K → Ordering) (changes : F → K → V → Option V → Type 0) (lends : S → Loan K V R → S → Type 0) (lacks : S → Part → Type 0) → S → PartyState K V F → Outcome K V → S → Type 0
 IsExact {S} {R} {K} {V} {F} place cmp changes lends lacks s p r s' =
     (parts : S → Parts K V) (room : R → Tables K V) → Tells parts room place lends lacks
     → (hash : K → ℕ) → ((j k : K) → cmp j k ≡ Equal → hash j ≡ hash k)
-    → (c : OwnedCall K V F) → IsPlain (theory_call c) → IsFresh cmp hash changes c p
-    → (n : ℕ) (m : Pairs K V) → n < MOST_LABELS → Holds cmp hash changes n (parts s) m
+    → (c : Call K V F) → IsFresh cmp hash changes c p
+    → (n : ℕ) (m : Pairs K V) → n + most_counted c m ≤ MOST_LABELS → Holds cmp hash changes n (parts s) m
     → DrivesTo cmp hash changes c n (parts s) m r (parts s')

@@ -1,7 +1,7 @@
 //! Calls, driven to their end.
-ghost use Rattle.std.specs.Prelude.{◌≡◌, ◌<◌, ◌^◌, ℕ, []};
+ghost use Rattle.std.specs.Prelude.{◌≡◌, ◌+◌, ◌≤◌, ℕ, []};
 ghost use Rattle.std.specs.declared.cmp.Ordering.TheVariants.{Equal};
-ghost use Rattle.flurry_drive.specs.Exact.{Holds, DrivesTo, IsExact, IsPlain};
+ghost use Rattle.flurry_drive.specs.Exact.{Holds, DrivesTo, IsExact, most_counted};
 ghost use Rattle.flurry_drive.specs.Tells.{Tells};
 ghost use Rattle.flurry_drive.specs.Turns.{TurnsTo};
 ghost use Rattle.flurry_steps.specs.Field.{Turn};
@@ -24,6 +24,11 @@ use std::sync::Wait;
 
 /// Does the steps of a call until it is done, and answers its reply, which is then taken. A step whose part the field does not lend is
 /// tried again, so a call whose part never comes does not end.
+///
+/// Over a field that tells its parts, and that nobody else changes, a call before its first step does what the finite map does that the
+/// parts hold: a call of one key, a conditional removal among them, gives a reply that the map allows, and leaves the map after it; a
+/// walk and a reserve leave the map; a clear leaves no pair, and is never refused. A call that is refused leaves the map too. This holds
+/// where the count of pairs cannot go further from 0 than 2^62.
 ///
 /// As many steps as the call needs, and whatever the field takes to lend its parts.
 pub fn drive<
@@ -52,8 +57,9 @@ pub fn drive<
 }
 
 /// Does all steps of a call over parts that nobody else changes, and answers its reply: that of the finite map which the parts hold, and
-/// they hold the map after the call then; or the call is refused for memory, and they hold the same map. Of a walk and a clear this is not
-/// stated yet.
+/// they hold the map after the call then, which is the same map after a walk or a reserve and the empty one after a clear; or the call is
+/// refused for memory, which a clear never is, and they hold the same map. This holds where the count of pairs is so near to 0 that it
+/// cannot go further from it than 2^62, by the one pair that a call of one key counts, or the pairs that a clear wipes.
 ///
 /// As many steps as the call needs.
 pub fn drive_alone<
@@ -71,8 +77,8 @@ pub fn drive_alone<
     parts: &mut Parts<K, V, A>,
 ) -> Reply<K, V, A>
     requires { OwnedIsReady F.can_change call }
-    ensures { IsPlain (theory_call call) → (n : ℕ) (m : Pairs K V) → n < MOST_LABELS → Holds K.cmp (S.hash_of hasher.now) F.changes n parts.old m
-        → DrivesTo K.cmp (S.hash_of hasher.now) F.changes call n parts.old m (outcome_of result) parts.new }
+    ensures { (n : ℕ) (m : Pairs K V) → n + most_counted (theory_call call) m ≤ MOST_LABELS → Holds K.cmp (S.hash_of hasher.now) F.changes n parts.old m
+        → DrivesTo K.cmp (S.hash_of hasher.now) F.changes (theory_call call) n parts.old m (outcome_of result) parts.new }
 {
     let hash = hash_for(hasher, &call);
     let mut party = Party::from_owned(call, hash, processors);

@@ -1,0 +1,109 @@
+-- A call that is driven begins as one more caller of a world.
+use Rattle.std.specs.Prelude.{◌≡◌, ℕ, ◌^◌, ◌≤◌, Bool, true, false, cond, [], ◌∷◌, ◌++◌, length, reverse, slice_get, nat_lt, Option, Some, None}
+use Rattle.std.specs.declared.cmp.Ordering.{Ordering}
+use Rattle.std.specs.Cmp.{IsTotalOrder}
+use Rattle.std.proofs.Common.{arith, refl, sym, ◌∙◌, ap, subst}
+use Rattle.std.proofs.lemmas.Bool.{ltb-true, ltb-false}
+use Rattle.std.proofs.lemmas.Int.{ints}
+use Rattle.std.proofs.lemmas.List.{reverse-append}
+use Rattle.flurry_slots.specs.Slot.{Content, IsLive, HasMoved, IsUnborn}
+use Rattle.flurry_steps.specs.Party.{Task, AtLocate, PartyState, last_seen}
+use Rattle.flurry_steps.specs.PartyView.{owned_stage}
+use Rattle.flurry_steps.specs.declared.party.call.OwnedCall.{OwnedCall}
+use Rattle.flurry_steps.specs.declared.party.call.OwnedCall.TheVariants as owned
+use Rattle.flurry_theory.specs.Map.{Pairs, same, key_of}
+use Rattle.flurry_theory.specs.Machine as machine
+use Rattle.flurry_theory.specs.Machine.{Finished, WasPublished}
+use Rattle.flurry_theory.specs.Trace.{decision, has_replied, has_closed}
+use Rattle.flurry_model.specs.declared.call.Call.{Call}
+use Rattle.flurry_model.specs.declared.call.Call.TheVariants as call
+use Rattle.flurry_theory.specs.declared.Label.TheVariants as label
+use Rattle.flurry_world.specs.Entries.{slot_of}
+use Rattle.flurry_world.specs.Parts.{Parts, IsStart}
+use Rattle.flurry_world.specs.Runs.{theory_call}
+use Rattle.flurry_world.specs.Steps.{with_party_record}
+use Rattle.flurry_world.specs.Tables.{content_at}
+use Rattle.flurry_world.specs.World.{PartyRecord, WorldState, Near, state_of, mode_of_stage, claim_of_stage, task_of_call, FollowsStage, IsWorld}
+use Rattle.flurry_world.proofs.BeginLaws.{IsBeginning}
+use Rattle.flurry_world.proofs.WorldLaws.{began, get_append}
+use Rattle.flurry_drive.specs.Exact.{Holds, IsFirst, IsFresh}
+use Rattle.flurry_drive.proofs.Trace.{itself}
+use Rattle.flurry_model.specs.declared.sizes.TheConstants.{MOST_LABELS}
+
+module _ {K V F : Type 0} where
+  -- a call that has its key stands where the machine's call does
+  pub owned_first : (c : OwnedCall K V F) → IsFirst (theory_call c) (owned_stage c)
+  owned_first (owned.Get j) = (_, refl, refl)
+  owned_first (owned.GetKeyValue j) = (_, refl, refl)
+  owned_first (owned.ContainsKey j) = (_, refl, refl)
+  owned_first (owned.Remove j) = (_, refl, refl)
+  owned_first (owned.RemoveEntry j) = (_, refl, refl)
+  owned_first (owned.Insert j v) = (_, refl, refl)
+  owned_first (owned.TryInsert j v) = (_, refl, refl)
+  owned_first (owned.Compute j f) = (_, refl, refl)
+  owned_first (owned.Reserve a) = refl
+  owned_first owned.Clear = refl
+  owned_first owned.Walk = refl
+
+  module _ (hash : K → ℕ) where
+    at_task : (d : Call K V F) (q : PartyState K V F) → ((k : K) → key_of d ≡ Some k → q.hash ≡ hash k) → (t : Task K V F) → task_of_call d ≡ Some t → q.stage ≡ AtLocate t → IsBeginning hash d q
+    at_task d q own t is e = record { own_hash = own; follows = subst (FollowsStage hash d) (sym e) is; mode = ap mode_of_stage e; claim = ap claim_of_stage e; unread = ap last_seen e }
+
+    first_begins : (d : Call K V F) (q : PartyState K V F) → ((k : K) → key_of d ≡ Some k → q.hash ≡ hash k) → IsFirst d q.stage → IsBeginning hash d q
+    first_begins (call.Get j) q own (t, is, e) = at_task (call.Get j) q own t is e
+    first_begins (call.GetKeyValue j) q own (t, is, e) = at_task (call.GetKeyValue j) q own t is e
+    first_begins (call.ContainsKey j) q own (t, is, e) = at_task (call.ContainsKey j) q own t is e
+    first_begins (call.Insert j v) q own (t, is, e) = at_task (call.Insert j v) q own t is e
+    first_begins (call.TryInsert j v) q own (t, is, e) = at_task (call.TryInsert j v) q own t is e
+    first_begins (call.Compute j f) q own (t, is, e) = at_task (call.Compute j f) q own t is e
+    first_begins (call.Remove j) q own (t, is, e) = at_task (call.Remove j) q own t is e
+    first_begins (call.RemoveEntry j) q own (t, is, e) = at_task (call.RemoveEntry j) q own t is e
+    first_begins (call.RemoveSeen z) q own (t, is, e) = at_task (call.RemoveSeen z) q own t is e
+    first_begins (call.Reserve a) q own e = record { own_hash = own; follows = subst (FollowsStage hash (call.Reserve a)) (sym e) refl; mode = ap mode_of_stage e; claim = ap claim_of_stage e; unread = ap last_seen e }
+    first_begins call.Clear q own e = record { own_hash = own; follows = subst (FollowsStage hash call.Clear) (sym e) ((refl, refl), refl); mode = ap mode_of_stage e; claim = ap claim_of_stage e; unread = ap last_seen e }
+    first_begins call.Walk q own e = record { own_hash = own; follows = subst (FollowsStage hash call.Walk) (sym e) (refl, tt); mode = ap mode_of_stage e; claim = ap claim_of_stage e; unread = ap last_seen e }
+
+module _ {K V F : Type 0} (cmp : K → K → Ordering) (hash : K → ℕ) (gives : F → K → V → Option V → Type 0) where
+  -- a table where a call may begin was published
+  pub was_published : (w : WorldState K V F (Unit {0})) → IsWorld cmp hash gives w → (e : ℕ) → IsStart (record { control_state = w.control_state; tables = w.tables }) e → WasPublished cmp hash gives (state_of w) e
+  was_published w k e start = (not_early (nat_lt e (state_of w).start) refl, start.newest, start.published, start.within)
+    where
+      not_early : (b : Bool) → nat_lt e (state_of w).start ≡ b → (state_of w).start ≤ e
+      not_early true h = absurd (unborn (content_at w.tables e 0) refl (k.state.1.tables.early e 0 (ltb-true e (state_of w).start h)))
+        where
+          unborn : (z : Content K V) → content_at w.tables e 0 ≡ z → slot_of z ≡ machine.Unborn → ⊥
+          unborn (IsLive b) f g = cc
+          unborn HasMoved f g = cc
+          unborn IsUnborn f g = start.born f
+      not_early false h = ltb-false e (state_of w).start h
+
+  module _ (total : IsTotalOrder cmp) (lawful : (j k : K) → same cmp j k ≡ true → hash j ≡ hash k) (n : ℕ) (few : n ≤ MOST_LABELS) (m : Pairs K V) (s : Parts K V) (h : Holds cmp hash gives n s m) (d : Call K V F) (q : PartyState K V F) (fresh : IsFresh cmp hash gives d q) where
+    -- the new caller
+    abbrev pub new : PartyRecord K V F
+    new = record { call = d; began_from = None; party_state = q; steps = 0 }
+
+    -- the count is that of the parts
+    pub near : Near n h.world.control_state.count
+    near = subst (λ b. Near n b.count) (sym h.control_state) h.near
+
+    far : Near (2 ^ 62) h.world.control_state.count
+    far = record { most = omega (arith, ints, near.most, few); least = omega (arith, ints, near.least, few) }
+
+    -- the world with it
+    pub begun : IsWorld cmp hash gives (with_party_record h.world d None q)
+    begun =
+        let b = first_begins hash d q fresh.hash_is fresh.stage in
+        began cmp total hash lawful gives h.world h.is_world far d None (λ v e. cc) q b.mode b.claim b.unread b.own_hash b.follows
+
+    pub new_at : slice_get (h.world.party_records ++ new ∷ []) (length h.world.party_records) ≡ Some new
+    new_at = get_append h.world.party_records new (length h.world.party_records) ∙ ap (λ z. cond z (Some new) (slice_get h.world.party_records (length h.world.party_records))) (itself (length h.world.party_records))
+
+    pub same_parts : record { control_state = h.world.control_state; tables = h.world.tables } ≡ s
+    same_parts = λ i. record { control_state = h.control_state i; tables = h.tables i }
+
+    pub first_label : reverse (h.world.trace ++ label.Begin (length h.world.party_records) d ∷ []) ≡ label.Begin (length h.world.party_records) d ∷ reverse h.world.trace
+    first_label = reverse-append h.world.trace (label.Begin (length h.world.party_records) d ∷ [])
+
+    -- which nobody was before
+    pub unknown : ((state_of h.world).call (length h.world.party_records) ≡ None) × ((state_of h.world).mode (length h.world.party_records) ≡ Finished) × ((state_of h.world).claim (length h.world.party_records) ≡ None) × (decision (reverse h.world.trace) (length h.world.party_records) ≡ None) × (has_replied (reverse h.world.trace) (length h.world.party_records) ≡ false) × (has_closed (reverse h.world.trace) (length h.world.party_records) ≡ false)
+    unknown = (h.is_world.state.1.parties (length h.world.party_records)).unknown (omega arith)
