@@ -77,33 +77,38 @@ module _ {K V F : Type 0} (cmp : K → K → Ordering) (hash : K → ℕ) (gives
           unborn IsUnborn f g = start.born f
       not_early false h = ltb-false e (state_of w).start h
 
-  module _ (total : IsTotalOrder cmp) (lawful : (j k : K) → same cmp j k ≡ true → hash j ≡ hash k) (n : ℕ) (few : n ≤ MOST_LABELS) (m : Pairs K V) (s : Parts K V) (h : Holds cmp hash gives n s m) (d : Call K V F) (q : PartyState K V F) (fresh : IsFresh cmp hash gives d q) where
-    -- the new caller
-    abbrev pub new : PartyRecord K V F
-    new = record { call = d; began_from = None; party_state = q; steps = 0 }
+  -- the world w, whose parts are s and hold a map with a count of at most n from 0, with one more caller: the call d, which stands at q
+  pub record Begun (n : ℕ) (s : Parts K V) (w : WorldState K V F (Unit {0})) (d : Call K V F) (q : PartyState K V F) : Type 0 where
+    pub is_world : IsWorld cmp hash gives (with_party_record w d None q)
+    pub at : slice_get (w.party_records ++ record { call = d; began_from = None; party_state = q; steps = 0 } ∷ []) (length w.party_records) ≡ Some (record { call = d; began_from = None; party_state = q; steps = 0 })
+    pub parts : record { control_state = w.control_state; tables = w.tables } ≡ s
+    pub near : Near n w.control_state.count
+    pub trace : reverse (w.trace ++ label.Begin (length w.party_records) d ∷ []) ≡ label.Begin (length w.party_records) d ∷ reverse w.trace
+    -- it was nobody before
+    pub undecided : decision (reverse w.trace) (length w.party_records) ≡ None
+    pub unreplied : has_replied (reverse w.trace) (length w.party_records) ≡ false
+    pub going : has_closed (reverse w.trace) (length w.party_records) ≡ false
 
-    -- the count is that of the parts
-    pub near : Near n h.world.control_state.count
-    near = subst (λ b. Near n b.count) (sym h.control_state) h.near
+  pub begun : (total : IsTotalOrder cmp) (lawful : (j k : K) → same cmp j k ≡ true → hash j ≡ hash k) (n : ℕ) → n ≤ MOST_LABELS → (m : Pairs K V) (s : Parts K V) (h : Holds cmp hash gives n s m) (d : Call K V F) (q : PartyState K V F) → IsFresh cmp hash gives d q → Begun n s h.world d q
+  begun total lawful n few m s h d q fresh =
+      let is = first_begins hash d q fresh.hash_is fresh.stage in
+      let unknown = (h.is_world.state.1.parties (length h.world.party_records)).unknown (omega arith) in
+      record {
+        is_world = began cmp total hash lawful gives h.world h.is_world far d None (λ v e. cc) q is.mode is.claim is.unread is.own_hash is.follows;
+        at = get_append h.world.party_records new (length h.world.party_records) ∙ ap (λ z. cond z (Some new) (slice_get h.world.party_records (length h.world.party_records))) (itself (length h.world.party_records));
+        parts = λ i. record { control_state = h.control_state i; tables = h.tables i };
+        near = count;
+        trace = reverse-append h.world.trace (label.Begin (length h.world.party_records) d ∷ []);
+        undecided = unknown.3;
+        unreplied = unknown.4;
+        going = unknown.5;
+      }
+    where
+      new : PartyRecord K V F
+      new = record { call = d; began_from = None; party_state = q; steps = 0 }
 
-    far : Near (2 ^ 62) h.world.control_state.count
-    far = record { most = omega (arith, ints, near.most, few); least = omega (arith, ints, near.least, few) }
+      count : Near n h.world.control_state.count
+      count = subst (λ b. Near n b.count) (sym h.control_state) h.near
 
-    -- the world with it
-    pub begun : IsWorld cmp hash gives (with_party_record h.world d None q)
-    begun =
-        let b = first_begins hash d q fresh.hash_is fresh.stage in
-        began cmp total hash lawful gives h.world h.is_world far d None (λ v e. cc) q b.mode b.claim b.unread b.own_hash b.follows
-
-    pub new_at : slice_get (h.world.party_records ++ new ∷ []) (length h.world.party_records) ≡ Some new
-    new_at = get_append h.world.party_records new (length h.world.party_records) ∙ ap (λ z. cond z (Some new) (slice_get h.world.party_records (length h.world.party_records))) (itself (length h.world.party_records))
-
-    pub same_parts : record { control_state = h.world.control_state; tables = h.world.tables } ≡ s
-    same_parts = λ i. record { control_state = h.control_state i; tables = h.tables i }
-
-    pub first_label : reverse (h.world.trace ++ label.Begin (length h.world.party_records) d ∷ []) ≡ label.Begin (length h.world.party_records) d ∷ reverse h.world.trace
-    first_label = reverse-append h.world.trace (label.Begin (length h.world.party_records) d ∷ [])
-
-    -- which nobody was before
-    pub unknown : ((state_of h.world).call (length h.world.party_records) ≡ None) × ((state_of h.world).mode (length h.world.party_records) ≡ Finished) × ((state_of h.world).claim (length h.world.party_records) ≡ None) × (decision (reverse h.world.trace) (length h.world.party_records) ≡ None) × (has_replied (reverse h.world.trace) (length h.world.party_records) ≡ false) × (has_closed (reverse h.world.trace) (length h.world.party_records) ≡ false)
-    unknown = (h.is_world.state.1.parties (length h.world.party_records)).unknown (omega arith)
+      far : Near (2 ^ 62) h.world.control_state.count
+      far = record { most = omega (arith, ints, count.most, few); least = omega (arith, ints, count.least, few) }

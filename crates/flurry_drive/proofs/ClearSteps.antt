@@ -63,19 +63,19 @@ module _ {K V F : Type 0} (cmp : K → K → Ordering) (total : IsTotalOrder cmp
   pub wiped_away : (first : Option ℕ) (home : ℕ → ℕ) (s : State K V F) → Inv cmp hash gives first home s → (p : ℕ) → p < s.parties → (wiped e i : ℕ) (f : Frame K) (fs : List (Frame K)) (es : List (Entry K V)) (n : ℕ) → Can cmp hash gives s p (WipesBin wiped e i f fs es n)
       → length (pairs cmp hash (label.Wipe p f.table f.index ∷ s.trace)) + length es ≡ length (pairs cmp hash s.trace)
   wiped_away first home s inv p known wiped e i f fs es n can = omega (
-      arith,
-      ints,
-      inv.counted.balance,
-      balance,
-      changed owes_added,
-      changed owes_removed,
-      ap owes_added can.0,
-      ap owes_removed can.0,
-      ap owes_added (place_here s.mode p after),
-      ap owes_removed (place_here s.mode p after),
-      adds_onward K V (wiped + length es) e i fs,
-      owes_onward K V (wiped + length es) e i fs,
-    )
+    arith,
+    ints,
+    inv.counted.balance,
+    balance,
+    changed owes_added,
+    changed owes_removed,
+    ap owes_added can.0,
+    ap owes_removed can.0,
+    ap owes_added (place_here s.mode p after),
+    ap owes_removed (place_here s.mode p after),
+    adds_onward K V (wiped + length es) e i fs,
+    owes_onward K V (wiped + length es) e i fs,
+  )
     where
       after : Mode K V
       after = onward (Clearing (wiped + length es)) (Done None 0 (wiped + length es)) e i fs

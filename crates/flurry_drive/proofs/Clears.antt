@@ -37,7 +37,7 @@ use Rattle.flurry_world.proofs.SlotCases.{Put}
 use Rattle.flurry_world.proofs.Frames.{StepOf, kept}
 use Rattle.flurry_world.proofs.Cases.{calls, in_mode}
 use Rattle.flurry_drive.specs.Exact.{Holds, Answers, IsFresh}
-use Rattle.flurry_drive.proofs.Begins.{was_published, new, near, begun, new_at, same_parts, first_label}
+use Rattle.flurry_drive.proofs.Begins.{was_published, begun}
 use Rattle.flurry_drive.proofs.ClearSteps.{put_back, count_less, goes_to_table, finds_nothing, follows_moved, no_unborn, wiped_pairs, wipes_bin, counts_all}
 use Rattle.flurry_drive.proofs.Trace.{itself}
 use Rattle.flurry_model.specs.declared.sizes.TheConstants.{MOST_LABELS}
@@ -262,22 +262,21 @@ module _ {K V F : Type 0} (cmp : K → K → Ordering) (total : IsTotalOrder cmp
 
   -- it begins as one more caller of the world
   pub clear_begins : (n : ℕ) (m : Pairs K V) (few : n + length m ≤ MOST_LABELS) (s : Parts K V) (h : Holds cmp hash gives n s m) (q : PartyState K V F) → IsFresh cmp hash gives call.Clear q → InClear n m few (length h.world.party_records) s q
-  clear_begins n m few s h q fresh = record {
-    world = with_party_record h.world call.Clear None q;
-    is_world = begun cmp hash gives total lawful n within m s h call.Clear q fresh;
-    caller = new cmp hash gives total lawful n within m s h call.Clear q fresh;
-    at = new_at cmp hash gives total lawful n within m s h call.Clear q fresh;
-    call = refl;
-    party_state = refl;
-    parts = same_parts cmp hash gives total lawful n within m s h call.Clear q fresh;
-    sweep_state = fresh_sweep (Wipes 0);
-    stage = fresh.stage;
-    gone = subst (StaysGone (length h.world.party_records)) (sym (first_label cmp hash gives total lawful n within m s h call.Clear q fresh)) (λ j lacked. absurd (not_yet j lacked));
-    tally = subst (λ r. Tally n m few (length h.world.party_records) (pairs cmp hash r) h.world.control_state.count (Wipes 0) AtOutset) (sym (first_label cmp hash gives total lawful n within m s h call.Clear q fresh)) (omega (arith, ap length h.map), near cmp hash gives total lawful n within m s h call.Clear q fresh);
-  }
+  clear_begins n m few s h q fresh =
+      let b = begun cmp hash gives total lawful n (omega (arith, few)) m s h call.Clear q fresh in
+      record {
+        world = with_party_record h.world call.Clear None q;
+        is_world = b.is_world;
+        caller = record { call = call.Clear; began_from = None; party_state = q; steps = 0 };
+        at = b.at;
+        call = refl;
+        party_state = refl;
+        parts = b.parts;
+        sweep_state = fresh_sweep (Wipes 0);
+        stage = fresh.stage;
+        gone = subst (StaysGone (length h.world.party_records)) (sym b.trace) (λ j lacked. absurd (not_yet j lacked));
+        tally = subst (λ r. Tally n m few (length h.world.party_records) (pairs cmp hash r) h.world.control_state.count (Wipes 0) AtOutset) (sym b.trace) (omega (arith, ap length h.map), b.near);
+      }
     where
-      within : n ≤ 2 ^ 62
-      within = omega (arith, few)
-
       not_yet : (j : K) → Lacked cmp hash gives (names (length h.world.party_records)) (label.Begin (length h.world.party_records) call.Clear ∷ reverse h.world.trace) (length h.world.party_records) j → ⊥
       not_yet j lacked = let no : true ≡ false = sym (itself (length h.world.party_records)) ∙ lacked.0 in cc

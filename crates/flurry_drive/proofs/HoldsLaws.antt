@@ -3,7 +3,7 @@ use Rattle.std.specs.Prelude.{◌≡◌, ℕ, [], reverse, Option, None}
 use Rattle.std.specs.Cmp.{IsTotalOrder}
 use Rattle.std.specs.declared.cmp.Ordering.{Ordering}
 use Rattle.std.specs.declared.cmp.Ordering.TheVariants.{Equal}
-use Rattle.std.proofs.Common.{arith, refl, sym, ◌∙◌, subst}
+use Rattle.std.proofs.Common.{arith, refl, sym, ◌∙◌, ap, subst}
 use Rattle.std.proofs.lemmas.Int.{ints}
 use Rattle.flurry_steps.specs.Party.{PartyState}
 use Rattle.flurry_steps.specs.PartyView.{owned_stage}
@@ -27,8 +27,8 @@ own_tells = record { places = λ r e live ok r' h. h; lends_own = λ s l s' h. h
 
 module _ {K V F : Type 0} (cmp : K → K → Ordering) (hash : K → ℕ) (changes : F → K → V → Option V → Type 0) where
   -- a call that has its key, before its first step
-  pub fresh : (c : OwnedCall K V F) (p : PartyState K V F) → p.stage ≡ owned_stage c → p.hash ≡ hash_for hash c → IsFresh cmp hash changes (theory_call c) p
-  fresh c p stage hashed = record { stage = subst (IsFirst (theory_call c)) (sym stage) (owned_first c); hash_is = λ k h. hashed ∙ own_hash hash c k h }
+  pub fresh : (c : OwnedCall K V F) (i n : ℕ) (p : PartyState K V F) → p ≡ record { hash = i; processors = n; stage = owned_stage c } → i ≡ hash_for hash c → IsFresh cmp hash changes (theory_call c) p
+  fresh c i n p is hashed = record { stage = subst (λ z. IsFirst (theory_call c) z.stage) (sym is) (owned_first c); hash_is = λ k h. ap (λ z. z.hash) is ∙ hashed ∙ own_hash hash c k h }
 
   -- the parts of a world hold its map
   pub holds_world : {S : Type 0} (w : WorldState K V F S) (n : ℕ) → IsWorld cmp hash changes w → Near n w.control_state.count → Holds cmp hash changes n (record { control_state = w.control_state; tables = w.tables }) (pairs cmp hash (reverse w.trace))

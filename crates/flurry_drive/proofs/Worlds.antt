@@ -35,7 +35,7 @@ use Rattle.flurry_steps.proofs.Events.{IsSweepEvent, single_at_control, single_a
 use Rattle.flurry_calls.specs.Part.{Part, ControlPart, LookPart, BinPart, MovePart, NoPart}
 use Rattle.flurry_world.specs.Parts.{Parts, PartStep, IsStart}
 use Rattle.flurry_drive.specs.Exact.{Holds, Answers, EndsOn, IsFirst, IsFresh, most_counted}
-use Rattle.flurry_drive.proofs.Begins.{was_published, new, begun, new_at, same_parts, first_label, unknown}
+use Rattle.flurry_drive.proofs.Begins.{was_published, begun}
 use Rattle.flurry_drive.proofs.Trace.{IsOwnLabel, ByEnd, Alone, alone_more, alone_began, itself}
 use Rattle.flurry_drive.proofs.CountLaws.{left, left_most, Room, near_of, room_left}
 use Rattle.flurry_model.specs.declared.sizes.TheConstants.{MOST_LABELS}
@@ -294,21 +294,18 @@ module _ {K V F : Type 0} where
 module _ {K V F : Type 0} (cmp : K → K → Ordering) (total : IsTotalOrder cmp) (hash : K → ℕ) (lawful : (j k : K) → same cmp j k ≡ true → hash j ≡ hash k) (gives : F → K → V → Option V → Type 0) where
   -- it begins as one more caller of the world
   pub begins : (n : ℕ) (d : Call K V F) (m : Pairs K V) (few : n + most_counted d m ≤ MOST_LABELS) (s : Parts K V) (h : Holds cmp hash gives n s m) (q : PartyState K V F) → IsFresh cmp hash gives d q → IsPlain d → InWorld cmp total hash lawful gives (n + most_counted d m) few (length h.world.party_records) d m s q
-  begins n d m few s h q fresh plain = record {
-    world = with_party_record h.world d None q;
-    is_world = begun cmp hash gives total lawful n within m s h d q fresh;
-    caller = new cmp hash gives total lawful n within m s h d q fresh;
-    at = new_at cmp hash gives total lawful n within m s h d q fresh;
-    call = refl;
-    plain = plain;
-    party_state = refl;
-    parts = same_parts cmp hash gives total lawful n within m s h d q fresh;
-    alone = subst (Alone cmp hash gives (length h.world.party_records) d m) (sym (first_label cmp hash gives total lawful n within m s h d q fresh)) (alone_began cmp hash gives (length h.world.party_records) d m (reverse h.world.trace) nobody.4 nobody.3 nobody.5 h.map);
-    room = let more = first_left d m q.stage plain fresh.stage in record { most = omega (arith, ints, h.near.most, more); least = omega (arith, ints, h.near.least, more) };
-  }
-    where
-      within : n ≤ 2 ^ 62
-      within = omega (arith, few)
-
-      nobody : ((state_of h.world).call (length h.world.party_records) ≡ None) × ((state_of h.world).mode (length h.world.party_records) ≡ Finished) × ((state_of h.world).claim (length h.world.party_records) ≡ None) × (decision (reverse h.world.trace) (length h.world.party_records) ≡ None) × (has_replied (reverse h.world.trace) (length h.world.party_records) ≡ false) × (has_closed (reverse h.world.trace) (length h.world.party_records) ≡ false)
-      nobody = unknown cmp hash gives total lawful n within m s h d q fresh
+  begins n d m few s h q fresh plain =
+      let b = begun cmp hash gives total lawful n (omega (arith, few)) m s h d q fresh in
+      let more = first_left d m q.stage plain fresh.stage in
+      record {
+        world = with_party_record h.world d None q;
+        is_world = b.is_world;
+        caller = record { call = d; began_from = None; party_state = q; steps = 0 };
+        at = b.at;
+        call = refl;
+        plain = plain;
+        party_state = refl;
+        parts = b.parts;
+        alone = subst (Alone cmp hash gives (length h.world.party_records) d m) (sym b.trace) (alone_began cmp hash gives (length h.world.party_records) d m (reverse h.world.trace) b.unreplied b.undecided b.going h.map);
+        room = record { most = omega (arith, ints, h.near.most, more); least = omega (arith, ints, h.near.least, more) };
+      }

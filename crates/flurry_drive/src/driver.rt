@@ -25,10 +25,10 @@ use std::sync::Wait;
 /// Does the steps of a call until it is done, and answers its reply, which is then taken. A step whose part the field does not lend is
 /// tried again, so a call whose part never comes does not end.
 ///
-/// Over a field that tells its parts, and that nobody else changes, a call before its first step does what the finite map does that the
-/// parts hold: a call of one key, a conditional removal among them, gives a reply that the map allows, and leaves the map after it; a
-/// walk and a reserve leave the map; a clear leaves no pair, and is never refused. A call that is refused leaves the map too. This holds
-/// where the count of pairs cannot go further from 0 than 2^62.
+/// Over a field that tells its parts, which hold a finite map and which nobody else changes, a call before its first step does what that
+/// map does. A call of one key, also a conditional removal, gives a reply that the map allows, and the parts hold the map after it. A walk
+/// and a reserve leave the map, and a clear leaves no pair. Any call that is refused for memory leaves the map, and a clear never is. This
+/// holds where the count of pairs is at most 2^62 from 0, with the one pair that a call of one key may count, or those that a clear wipes.
 ///
 /// As many steps as the call needs, and whatever the field takes to lend its parts.
 pub fn drive<
@@ -57,9 +57,9 @@ pub fn drive<
 }
 
 /// Does all steps of a call over parts that nobody else changes, and answers its reply: that of the finite map which the parts hold, and
-/// they hold the map after the call then, which is the same map after a walk or a reserve and the empty one after a clear; or the call is
-/// refused for memory, which a clear never is, and they hold the same map. This holds where the count of pairs is so near to 0 that it
-/// cannot go further from it than 2^62, by the one pair that a call of one key counts, or the pairs that a clear wipes.
+/// they hold the map after the call then, which is the same map after a walk or a reserve, and has no pair after a clear. Or the call is
+/// refused for memory, which a clear never is, and they hold the same map. This holds where the count of pairs is at most 2^62 from 0,
+/// with the one pair that a call of one key may count, or those that a clear wipes.
 ///
 /// As many steps as the call needs.
 pub fn drive_alone<
@@ -77,8 +77,10 @@ pub fn drive_alone<
     parts: &mut Parts<K, V, A>,
 ) -> Reply<K, V, A>
     requires { OwnedIsReady F.can_change call }
-    ensures { (n : ℕ) (m : Pairs K V) → n + most_counted (theory_call call) m ≤ MOST_LABELS → Holds K.cmp (S.hash_of hasher.now) F.changes n parts.old m
-        → DrivesTo K.cmp (S.hash_of hasher.now) F.changes (theory_call call) n parts.old m (outcome_of result) parts.new }
+    ensures { (n : ℕ) (m : Pairs K V) → n + most_counted (theory_call call) m ≤ MOST_LABELS
+        → Holds K.cmp (S.hash_of hasher.now) F.changes n parts.old m
+        → DrivesTo K.cmp (S.hash_of hasher.now) F.changes (theory_call call) n parts.old m
+        (outcome_of result) parts.new }
 {
     let hash = hash_for(hasher, &call);
     let mut party = Party::from_owned(call, hash, processors);

@@ -1,8 +1,10 @@
 //! Calls that are driven to their end.
 
+mod drops;
 mod each_call;
 mod growth;
 mod refused;
+mod sweeps;
 
 use flurry_drive::drive;
 use flurry_model::hash::LowHashBuilder;

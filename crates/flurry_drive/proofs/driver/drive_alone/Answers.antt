@@ -1,5 +1,3 @@
-use Rattle.std.proofs.Common.{ap, ◌∙◌}
-use Rattle.flurry_steps.specs.Party.{PartyState}
 use Rattle.flurry_world.specs.Runs.{theory_call}
 use Rattle.flurry_drive.proofs.HoldsLaws.{own_tells, fresh}
 use Rattle.flurry_drive.proofs.driver.drive_alone.Goals as goal
@@ -7,7 +5,5 @@ use Rattle.flurry_drive.proofs.driver.drive_alone.Goals as goal
 pub returns : goal.returns
 returns g c = λ n m few holds.
     let hash_of = g.S.KeyHasher.hash_of c.args.hasher.now in
-    let stage = ap (λ (p : PartyState g.row.K.Denot g.row.V.Denot g.row.F.Denot). p.stage) c.from_owned-party.ensures in
-    let hashed = ap (λ (p : PartyState g.row.K.Denot g.row.V.Denot g.row.F.Denot). p.hash) c.from_owned-party.ensures in
     c.drive-reply.ensures.exact (λ s. s) (λ r. r) own_tells hash_of (g.met.S.KeyHasher.alike c.args.hasher.now) (theory_call c.args.call)
-    (fresh g.K.Ord.cmp hash_of g.F.ComputeFn.changes c.args.call _ stage (hashed ∙ c.hash_for-hash.ensures)) n m few holds
+    (fresh g.K.Ord.cmp hash_of g.F.ComputeFn.changes c.args.call _ _ _ c.from_owned-party.ensures c.hash_for-hash.ensures) n m few holds
