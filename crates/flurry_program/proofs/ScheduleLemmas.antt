@@ -1,10 +1,11 @@
 -- Steps of a world, and what is written for their labels.
-use Rattle.std.proofs.Common.{◌≡◌, ℕ, suc, ◌+◌, ◌-◌, ◌<◌, List, [], ◌∷◌, ◌++◌, replicate, Option, None, Some, MatchOption, refl, sym, ap, ◌∙◌, subst, append_assoc, append-nil, arith}
+use Rattle.std.proofs.Common.{◌≡◌, ℕ, suc, ◌+◌, ◌-◌, ◌<◌, List, [], ◌∷◌, ◌++◌, replicate, Option, None, Some, Result, IfOk, MatchOption, refl, sym, ap, ◌∙◌, subst, append_assoc, append-nil, arith}
 use Rattle.std.specs.Prelude.{slice_get}
 use Rattle.std.specs.Ordering.{nat_cmp}
 use Rattle.std.specs.Io.KnownBytes.{Appends}
 use Rattle.std.proofs.KnownBytes.{Appends-trans}
 use Rattle.std.proofs.lemmas.Grind.{replicate_next}
+use Rattle.std.proofs.lemmas.Result.{IfOk-weaker}
 use Rattle.std.proofs.lemmas.List.{replicate-append-replicate}
 use Rattle.flurry_steps.specs.declared.party.call.OwnedCall.{OwnedCall}
 use Rattle.flurry_theory.specs.declared.Label.{Label}
@@ -16,7 +17,9 @@ use Rattle.flurry_world.specs.declared.world.Step as world
 use Rattle.flurry_world.specs.declared.world.Step.TheVariants as step
 use Rattle.flurry_program.specs.Endings.{out_of_memory_text}
 use Rattle.flurry_program.specs.Labels.{label_text}
-use Rattle.flurry_program.specs.ScheduleRuns.{labels_text, Tells, AnswersSteps}
+use Rattle.flurry_program.specs.Runs.{Answered}
+use Rattle.flurry_program.specs.ScheduleRuns.{labels_text, drop_text, Tells, AnswersDrop, AnswersSteps, of_a_world}
+use Rattle.flurry_program.specs.declared.schedule.Line.TheVariants as line
 
 labels_text-append : {F : Type 0} (a b : List (Label ℕ ℕ F)) → labels_text (a ++ b) ≡ labels_text a ++ labels_text b
 labels_text-append [] b = refl
@@ -79,3 +82,11 @@ module _ {F S : Type 0} where
         → AnswersSteps changes (step.Begin c ∷ []) w v held holds (Some status)
     not_begun status w v c held holds same is written =
         ([], ([], [], step.Begin c, refl, same), rw same (tells_none w), is, written)
+
+    -- a removal of what was read began, or there was none, or memory was wanting for it: the line is answered so
+    pub drop_answers : (p n : ℕ) (w v : WorldState ℕ ℕ F S) (held holds : Option (List ℕ)) (r : Option ℕ) → AnswersDrop changes p w v held holds r → Answered (of_a_world changes) (line.Drop p) (Some w) (Some v) n held holds r
+    drop_answers p n w v held holds None d = (drop_text d.0, (d.0, v, d.1, refl, refl), d.2)
+    drop_answers p n w v held holds (Some status) d = (out_of_memory_text, (w, [], ([], [], step.Drop p, refl, refl), tells_none w, (refl, d.1)), d.2)
+
+    pub drop_line : {E : Type 0} (p n : ℕ) (w v : WorldState ℕ ℕ F S) (held holds : Option (List ℕ)) (r : Result (Option ℕ) E) → IfOk r (AnswersDrop changes p w v held holds) → IfOk r (Answered (of_a_world changes) (line.Drop p) (Some w) (Some v) n held holds)
+    drop_line p n w v held holds r d = IfOk-weaker r (AnswersDrop changes p w v held holds) (Answered (of_a_world changes) (line.Drop p) (Some w) (Some v) n held holds) (drop_answers p n w v held holds) d
