@@ -1,4 +1,2 @@
-pub mod AnswerLaws
 pub mod Crossing
 pub mod PlacingLemmas
-pub mod BeginLaws

@@ -4,7 +4,7 @@
 //! world runs in any order.
 #![tactic(auto)]
 
-mod first;
+pub mod iter;
 pub mod map;
 mod owned;
 

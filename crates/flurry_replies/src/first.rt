@@ -1,7 +1,7 @@
 //! The steps of a call over the locks: its first ones at once, where its table is known without the control's lock.
 ghost use Rattle.std.specs.Prelude.{◌≡◌};
 ghost use Rattle.flurry_locks.specs.declared.tables.Maker.{Maker};
-ghost use Rattle.flurry_map.specs.Driven.{BeginsOrStays, IsReplyOf};
+ghost use Rattle.flurry_replies.specs.Replies.{BeginsOrStays, IsReplyOf};
 ghost use Rattle.flurry_steps.specs.Party.{BeginsToWrite, IsTaken, LooksUp};
 ghost use Rattle.flurry_steps.specs.PartyTally.{ending_stage};
 ghost use Rattle.flurry_calls.specs.OutcomeView.{outcome_of};
@@ -17,10 +17,14 @@ use flurry_steps::party::{Call, Ending, Reply};
 use std::alloc::Allocator;
 use std::sync::Wait;
 
-// The reply of a call. Where a table is known to be published, and the bin there is live, a call of one key does its first two steps at
-// once. No party is made where these are all, or where the step at a tally is the last.
+/// The reply of a call over the locks of a map, by the hash of its key and the number of processors that share the work of a growth; 0
+/// counts as 1. A call without a key does not read the hash. It is copied into its callers, whose calls it then need not tell apart.
+///
+/// As many steps as the call needs, each of which waits for the locks of its part.
+// Where a table is known to be published, and the bin there is live, a call of one key does its first two steps at once. No party is
+// made where these are all, or where the step at a tally is the last.
 #[inline(always)]
-pub(crate) fn reply_to<K: Ord + Drop, V: Drop, F: ComputeFn<K, V>, A: Allocator + Copy, R: Wait>(
+pub fn reply_to<K: Ord + Drop, V: Drop, F: ComputeFn<K, V>, A: Allocator + Copy, R: Wait>(
     rt: &R,
     locks: &Locks<K, V, A>,
     call: Call<'_, K, V, F, A>,

@@ -1,6 +1,6 @@
 use Rattle.flurry_calls.specs.OutcomeView.{outcome_of}
-use Rattle.flurry_map.proofs.BeginLaws.{goes_on}
-use Rattle.flurry_map.proofs.first.write.Goals as goal
+use Rattle.flurry_replies.proofs.BeginLaws.{goes_on}
+use Rattle.flurry_replies.proofs.first.write.Goals as goal
 
 pub returns-in-Ok : goal.returns-in-Ok
 returns-in-Ok g c =
