@@ -121,4 +121,4 @@ module _ (M : Type 0) {K V : Type 0} (cmp : K → K → Ordering) where
   -- a walk that ends has ended well, or was refused
   pub can_end : (p p' : PartyState K V NoFn) (r : Outcome K V) → IsUnderWay M cmp p → EndsWith M cmp p r p' → CanWalk r
   can_end p p' r h t =
-      can_answer MakerStays cmp no_changes LockLends {p' = p'} {r = r} (record { last = t.last; turns = both h.steps (others_go t.turns); done = t.done; after = t.after }) call.Walk refl
+      can_answer MakerStays cmp no_changes LockLends {p' = p'} {r = r} (record { last = t.last; turns = both h.steps (others_go t.turns); done = t.done; after = t.after }) {A = Unit {0}} call.Walk refl

@@ -374,7 +374,7 @@ impl<K: Ord + Drop, V: Drop, S: KeyHasher<K>, A: Allocator + Copy> HashMap<K, V,
 
     // Does the steps of a call over the locks. It is copied into each call, with its first steps, which then do not ask which call it is.
     #[inline(always)]
-    fn run<F: ComputeFn<K, V>, R: Wait>(&self, rt: &R, call: Call<'_, K, V, F, A>) -> Reply<K, V, A>
+    pub(crate) fn run<F: ComputeFn<K, V>, R: Wait>(&self, rt: &R, call: Call<'_, K, V, F, A>) -> Reply<K, V, A>
         requires { CallIsReady F.can_change call }
         ensures driven { IsDriven (Maker K V A) K.cmp F.changes self.now
             (hash_in (S.hash_of self.now.hasher) call.entry) (first_stage call.entry) (outcome_of result) }

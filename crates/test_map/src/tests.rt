@@ -7,7 +7,6 @@ mod refused;
 mod removals;
 mod rows;
 mod threads;
-mod walks;
 mod workers;
 
 use flurry_map::HashMap;
