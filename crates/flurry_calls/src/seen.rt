@@ -1,8 +1,7 @@
 //! What a walk has read.
 ghost use Rattle.std.specs.Prelude.{◌≡◌, IfOk};
 ghost use Rattle.flurry_bins.specs.PlainEntries.{numbered_pair};
-ghost use Rattle.flurry_calls.specs.OutcomeView.{pair_value};
-ghost use Rattle.flurry_calls.specs.Sweep.{pair_seen, seen_at};
+ghost use Rattle.flurry_calls.specs.Sweep.{seen_at};
 
 use flurry_bins::bin::Entry;
 use std::alloc::{AllocError, Allocator, Global};
@@ -65,16 +64,6 @@ impl<K: Drop, V: Drop, A: Allocator> Seen<K, V, A> {
         ensures { result ≡ self.now.number }
     {
         self.number
-    }
-
-    /// Hands out the stored key and the value.
-    ///
-    /// Constant time.
-    pub fn into_pair(self) -> (Arc<K, A>, Arc<V, A>)
-        ensures { pair_value result ≡ pair_seen self }
-    {
-        let Seen { key, value, .. } = self;
-        (key, value)
     }
 
     /// A further one of the same pair.

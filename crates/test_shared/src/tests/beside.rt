@@ -136,10 +136,9 @@ fn walks_beside_insertions(rt: HostRuntime) -> Result<(), Fail> {
     let works = [
         Work::Insert(1000, 11_000),
         Work::Insert(11_000, 21_000),
-        Work::Walk(5),
-        Work::Walk(5),
-        Work::Walk(5),
-        Work::Walk(5),
+        Work::Walk(2),
+        Work::Walk(2),
+        Work::Walk(2),
     ];
 
     same(&rt, work_in_threads(&rt, &map, &works), 0);
