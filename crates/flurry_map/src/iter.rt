@@ -4,16 +4,12 @@ ghost use Rattle.std.specs.Option.{option_map};
 ghost use Rattle.std.specs.Arc.{arc_value};
 ghost use Rattle.flurry_calls.specs.OutcomeView.{outcome_of, pair_value};
 ghost use Rattle.flurry_calls.specs.Sweep.{pair_seen};
-ghost use Rattle.flurry_locks.specs.declared.tables.Maker.{Maker};
 ghost use Rattle.flurry_map.specs.Walks.{Answers, Begins, Gives, IsUnderWay, ReadsOn};
 
 use crate::HashMap;
-use flurry_calls::Seen;
+use flurry_calls::{Event, Reply, Seen, Sweep};
 use flurry_locks::{Lender, Locks};
 use flurry_model::hash::KeyHasher;
-use flurry_slots::NoFn;
-use flurry_steps::party::{Call, Event, Reply};
-use flurry_steps::{Party, act};
 use std::alloc::{AllocError, Allocator, Global};
 use std::marker::Model;
 use std::sync::{Arc, Wait};
@@ -26,32 +22,30 @@ use std::sync::{Arc, Wait};
 #[derive(Drop)]
 pub struct Iter<'m, R, K: Ord, V, A: Allocator = Global> {
     rt: &'m R,
-    walk: Party<'m, K, V, NoFn, A>,
+    walk: Sweep<K, V, A>,
     lender: Lender<'m, R, K, V, A>,
     has_ended: bool,
 }
 
 impl<'m, R, K: Ord, V, A: Allocator> Model for Iter<'m, R, K, V, A> {
     ghost use Rattle.std.specs.Prelude.{◌≡◌, false};
-    ghost use Rattle.flurry_locks.specs.declared.tables.Maker.{Maker};
     ghost use Rattle.flurry_map.specs.Walks.{Walking, IsUnderWay};
 
     ghost Value = { Walking K V };
 
     ghost view = { λ it. record { walk = it.walk; has_ended = it.has_ended } };
 
-    ghost invariant = { λ it. it.has_ended ≡ false → IsUnderWay (Maker K V A) K.cmp it.walk };
+    ghost invariant = { λ it. it.has_ended ≡ false → IsUnderWay K.cmp it.walk };
 }
 
 impl<'m, R: Wait, K: Ord + Drop, V: Drop, A: Allocator + Copy> Iter<'m, R, K, V, A> {
     // A walk over the parts under these locks, which has done its first step: it begins at the table that is published.
-    pub(crate) fn new(rt: &'m R, locks: &'m Locks<K, V, A>, processors: usize) -> Self
-        ensures { Begins (Maker K V A) K.cmp processors result }
+    pub(crate) fn new(rt: &'m R, locks: &'m Locks<K, V, A>) -> Self
+        ensures { Begins K.cmp result }
     {
-        let call: Call<'m, K, V, NoFn, A> = Call::Walk;
-        let mut walk = Party::new(call, 0, processors);
-        let mut lender = Lender::new(rt, locks);
-        let _ = act(&mut walk, &mut lender);
+        let mut walk = Sweep::walk();
+        let lender = Lender::new(rt, locks);
+        let _ = lender.walk_on(&mut walk);
         Iter {
             rt,
             walk,
@@ -69,7 +63,7 @@ impl<'m, R: Wait, K: Ord + Drop, V: Drop, A: Allocator + Copy> Iter<'m, R, K, V,
     ///
     /// [`AllocError`], where a further owner is refused. The iterator has ended then.
     pub fn next(&mut self) -> Result<Option<(Arc<K, A>, Arc<V, A>)>, AllocError>
-        ensures { Gives (Maker K V A) K.cmp pair_value pair_seen self.old result self.new }
+        ensures { Gives K.cmp pair_value pair_seen self.old result self.new }
     {
         match self.next_seen()? {
             Some(seen) => Ok(Some(into_pair(self.rt, seen))),
@@ -79,12 +73,12 @@ impl<'m, R: Wait, K: Ord + Drop, V: Drop, A: Allocator + Copy> Iter<'m, R, K, V,
 
     // The same with the write number of the value.
     pub(crate) fn next_seen(&mut self) -> Result<Option<Seen<K, V, A>>, AllocError>
-        ensures { Gives (Maker K V A) K.cmp (λ s. s) (λ s. s) self.old result self.new }
+        ensures { Gives K.cmp (λ s. s) (λ s. s) self.old result self.new }
     {
         if self.has_ended {
             return Ok(None);
         }
-        let answer = see_next(self.rt, &mut self.walk, &mut self.lender);
+        let answer = see_next(self.rt, &mut self.walk, &self.lender);
         self.has_ended = !matches!(answer, Ok(Some(_)));
         answer
     }
@@ -102,11 +96,11 @@ fn into_pair<R: Wait, K: Drop, V: Drop, A: Allocator>(rt: &R, seen: Seen<K, V, A
 // Does the steps of a walk up to its next read, and answers what it has read; none where it has ended, the error where it is refused.
 fn see_next<R: Wait, K: Ord + Drop, V: Drop, A: Allocator + Copy>(
     rt: &R,
-    walk: &mut Party<'_, K, V, NoFn, A>,
-    lender: &mut Lender<'_, R, K, V, A>,
+    walk: &mut Sweep<K, V, A>,
+    lender: &Lender<'_, R, K, V, A>,
 ) -> Result<Option<Seen<K, V, A>>, AllocError>
-    requires { IsUnderWay (Maker K V A) K.cmp walk.old }
-    ensures { Answers (Maker K V A) K.cmp (λ s. s) (λ s. s) walk.old result walk.new }
+    requires { IsUnderWay K.cmp walk.old }
+    ensures { Answers K.cmp (λ s. s) (λ s. s) walk.old result walk.new }
 {
     match read_next(rt, walk, lender) {
         None => match walk.seen()? {
@@ -122,13 +116,13 @@ fn see_next<R: Wait, K: Ord + Drop, V: Drop, A: Allocator + Copy>(
 // Does the steps of a walk up to its next read, and answers none; or, where it ends before, its reply, which is then taken.
 fn read_next<R: Wait, K: Ord + Drop, V: Drop, A: Allocator + Copy>(
     rt: &R,
-    walk: &mut Party<'_, K, V, NoFn, A>,
-    lender: &mut Lender<'_, R, K, V, A>,
+    walk: &mut Sweep<K, V, A>,
+    lender: &Lender<'_, R, K, V, A>,
 ) -> Option<Reply<K, V, A>>
-    ensures { ReadsOn (Maker K V A) K.cmp walk.old (option_map outcome_of result) walk.new }
+    ensures { ReadsOn K.cmp walk.old (option_map outcome_of result) walk.new }
 {
     for _ in rt.forever() {
-        match act(walk, lender) {
+        match lender.walk_on(walk) {
             Some(Event::Read) => return None,
             Some(_) => continue,
             None => {}
@@ -146,21 +140,21 @@ impl<K: Ord + Drop, V: Drop, S: KeyHasher<K>, A: Allocator + Copy> HashMap<K, V,
     /// Takes the control's lock, if no table is known to be published, and no memory. Constant time.
     // Which pairs it gives, no clause can tell, since other threads change them meanwhile.
     pub fn iter<'m, R: Wait>(&'m self, rt: &'m R) -> Iter<'m, R, K, V, A>
-        ensures { Begins (Maker K V A) K.cmp self.now.processors result }
+        ensures { Begins K.cmp result }
     {
-        Iter::new(rt, &self.locks, self.processors)
+        Iter::new(rt, &self.locks)
     }
 
     /// The keys, as [`HashMap::iter`] gives the pairs.
     pub fn keys<'m, R: Wait>(&'m self, rt: &'m R) -> Keys<'m, R, K, V, A>
-        ensures { Begins (Maker K V A) K.cmp self.now.processors result }
+        ensures { Begins K.cmp result }
     {
         Keys::of(self.iter(rt))
     }
 
     /// The values, as [`HashMap::iter`] gives the pairs.
     pub fn values<'m, R: Wait>(&'m self, rt: &'m R) -> Values<'m, R, K, V, A>
-        ensures { Begins (Maker K V A) K.cmp self.now.processors result }
+        ensures { Begins K.cmp result }
     {
         Values::of(self.iter(rt))
     }
@@ -196,7 +190,7 @@ impl<'m, R: Wait, K: Ord + Drop, V: Drop, A: Allocator + Copy> Keys<'m, R, K, V,
     ///
     /// [`AllocError`], where a further owner is refused. The iterator has ended then.
     pub fn next(&mut self) -> Result<Option<Arc<K, A>>, AllocError>
-        ensures { Gives (Maker K V A) K.cmp arc_value (λ s. s.key) self.old result self.new }
+        ensures { Gives K.cmp arc_value (λ s. s.key) self.old result self.new }
     {
         match self.pairs.next()? {
             Some((key, _)) => Ok(Some(key)),
@@ -235,7 +229,7 @@ impl<'m, R: Wait, K: Ord + Drop, V: Drop, A: Allocator + Copy> Values<'m, R, K, 
     ///
     /// [`AllocError`], where a further owner is refused. The iterator has ended then.
     pub fn next(&mut self) -> Result<Option<Arc<V, A>>, AllocError>
-        ensures { Gives (Maker K V A) K.cmp arc_value (λ s. s.value) self.old result self.new }
+        ensures { Gives K.cmp arc_value (λ s. s.value) self.old result self.new }
     {
         match self.pairs.next()? {
             Some((_, value)) => Ok(Some(value)),

@@ -75,21 +75,21 @@ impl<'m, R: Wait, K: Ord + Drop, V: Drop, S: KeyHasher<K>, A: Allocator> HashMap
 impl<'m, R: Wait, K: Ord + Drop, V: Drop, S: KeyHasher<K>, A: Allocator + Copy> HashMapRef<'m, R, K, V, S, A> {
     /// The pairs, one after another, as [`HashMap::iter`].
     pub fn iter(&self) -> Iter<'m, R, K, V, A>
-        ensures { Begins (Maker K V A) K.cmp self.now.map.now.processors result }
+        ensures { Begins K.cmp result }
     {
         self.map.iter(self.rt)
     }
 
     /// The keys, one after another, as [`HashMap::keys`].
     pub fn keys(&self) -> Keys<'m, R, K, V, A>
-        ensures { Begins (Maker K V A) K.cmp self.now.map.now.processors result }
+        ensures { Begins K.cmp result }
     {
         self.map.keys(self.rt)
     }
 
     /// The values, one after another, as [`HashMap::values`].
     pub fn values(&self) -> Values<'m, R, K, V, A>
-        ensures { Begins (Maker K V A) K.cmp self.now.map.now.processors result }
+        ensures { Begins K.cmp result }
     {
         self.map.values(self.rt)
     }

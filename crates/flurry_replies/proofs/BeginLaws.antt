@@ -78,8 +78,7 @@ write_wants call.Clear d h n writes = absurd writes
 write_wants call.Walk d h n writes = absurd writes
 
 module _ {S K V F : Type 0} {step : S → PartyState K V F → Event → S → PartyState K V F → Type 0} where
-  -- steps after steps
-  pub both : {s s' s'' : S} {p p' p'' : PartyState K V F} → Turns step s p s' p' → Turns step s' p' s'' p'' → Turns step s p s'' p''
+  both : {s s' s'' : S} {p p' p'' : PartyState K V F} → Turns step s p s' p' → Turns step s' p' s'' p'' → Turns step s p s'' p''
   both first still = first
   both first (further ev turns turn) = further ev (both first turns) turn
 
