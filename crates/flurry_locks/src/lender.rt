@@ -1,10 +1,14 @@
 //! What takes the locks of a shared map for the steps of a thread's calls.
 ghost use Rattle.std.specs.Prelude.{◌≡◌};
+ghost use Rattle.flurry_calls.specs.Part.{ControlPart, LookPart};
+ghost use Rattle.flurry_calls.specs.Sweep.{swept_part};
+ghost use Rattle.flurry_locks.specs.Walking.{WalkTurn, WalksOrStays};
 
 use crate::locks::Locks;
 use crate::tables::Maker;
+use flurry_calls::Sweep;
 use flurry_slots::ComputeFn;
-use flurry_steps::party::Event;
+use flurry_steps::party::{Event, Want};
 use flurry_steps::{Field, Party};
 use std::alloc::{Allocator, Global};
 use std::sync::Wait;
@@ -24,6 +28,48 @@ impl<'m, R, K: Ord, V, A: Allocator> Lender<'m, R, K, V, A> {
     // The locks' parts are known by their types alone, so no clause speaks of them.
     pub fn new(rt: &'m R, locks: &'m Locks<K, V, A>) -> Self {
         Lender { rt, locks }
+    }
+}
+
+impl<'m, R: Wait, K: Ord + Drop, V: Drop, A: Allocator> Lender<'m, R, K, V, A> {
+    /// Does the next step of a walk with the part that it wants, which is lent under its lock, and answers what the step was. Where the
+    /// walk is done, or a slot is not there, the answer is none, and the walk is as it was. The steps are those of a party that is a walk;
+    /// a walk that is kept alone names no type of function.
+    ///
+    /// A look-up in the bin, once its lock is there.
+    pub fn walk_on(&self, walk: &mut Sweep<K, V, A>) -> Option<Event>
+        ensures { WalksOrStays K.cmp walk.old result walk.new }
+    {
+        match walk.want() {
+            Want::Control => Some(self.walk_at_control(walk)),
+            Want::Look(table, index) => self.walk_at_slot(table, index, walk),
+            _ => None,
+        }
+    }
+
+    // Its step at the table that was published last, or else at the control.
+    fn walk_at_control(&self, walk: &mut Sweep<K, V, A>) -> Event
+        requires { swept_part walk.old ≡ ControlPart }
+        ensures { WalkTurn K.cmp walk.old result walk.new }
+    {
+        if walk.sets_out() {
+            if let Some(start) = self.locks.starts.newest() {
+                return walk.on_start(start);
+            }
+        }
+        walk.on_control(&mut *self.locks.control.lock(self.rt))
+    }
+
+    // Its step at the slot of that table and index, if it is there.
+    fn walk_at_slot(&self, table: u8, index: usize, walk: &mut Sweep<K, V, A>) -> Option<Event>
+        requires { swept_part walk.old ≡ LookPart table index }
+        ensures { WalksOrStays K.cmp walk.old result walk.new }
+    {
+        let slot = self.locks.tables.lock_of(table, index)?.read(self.rt);
+        if slot.at() != (table, index) {
+            return None;
+        }
+        Some(walk.on_look(&*slot))
     }
 }
 

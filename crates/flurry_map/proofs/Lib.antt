@@ -1,4 +1,3 @@
-pub mod AnswerLaws
 pub mod Crossing
 pub mod PlacingLemmas
-pub mod BeginLaws
+pub mod WalkLaws

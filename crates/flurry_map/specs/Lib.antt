@@ -1,4 +1,4 @@
-pub mod Answers
 pub mod Driven
 pub mod Placing
 pub mod Results
+pub mod Walks

@@ -4,8 +4,12 @@
 //! world runs in any order.
 #![tactic(auto)]
 
-mod first;
+mod bulk;
+pub mod iter;
 pub mod map;
+pub mod map_ref;
 mod owned;
+mod retain;
 
 pub use map::HashMap;
+pub use map_ref::HashMapRef;

@@ -1,7 +1,7 @@
 //! The shared map.
 ghost use Rattle.std.specs.Prelude.{◌≡◌, IfOk};
 ghost use Rattle.flurry_locks.specs.declared.tables.Maker.{Maker};
-ghost use Rattle.flurry_map.specs.Answers.{CanAnswerFrom, CanAdd, CanCompute};
+ghost use Rattle.flurry_replies.specs.Answers.{CanAnswerFrom, CanAdd, CanCompute};
 ghost use Rattle.flurry_map.specs.Driven.{IsDriven, hash_in, no_changes};
 ghost use Rattle.flurry_map.specs.Results.{value_outcome, pair_outcome, added_outcome, ended_outcome};
 ghost use Rattle.flurry_model.specs.Hashing.{seed_of};
@@ -15,7 +15,7 @@ ghost use Rattle.flurry_steps.specs.PartyView.{CallIsReady, first_stage};
 ghost use Rattle.std.specs.Option.{option_map};
 ghost use Rattle.std.specs.Arc.{arc_value};
 
-use crate::first::reply_to;
+use flurry_replies::reply_to;
 use flurry_control::wanted_table;
 use flurry_locks::Locks;
 use flurry_model::hash::{DefaultHashBuilder, KeyHasher};
@@ -40,7 +40,7 @@ use std::sync::{Arc, Wait};
 pub struct HashMap<K: Ord, V, S: KeyHasher<K> = DefaultHashBuilder, A: Allocator = Global> {
     pub(crate) locks: Locks<K, V, A>,
     pub(crate) hasher: S,
-    processors: usize,
+    pub(crate) processors: usize,
 }
 
 impl<K: Ord, V, S: KeyHasher<K>, A: Allocator> Model for HashMap<K, V, S, A> {
@@ -374,7 +374,7 @@ impl<K: Ord + Drop, V: Drop, S: KeyHasher<K>, A: Allocator + Copy> HashMap<K, V,
 
     // Does the steps of a call over the locks. It is copied into each call, with its first steps, which then do not ask which call it is.
     #[inline(always)]
-    fn run<F: ComputeFn<K, V>, R: Wait>(&self, rt: &R, call: Call<'_, K, V, F, A>) -> Reply<K, V, A>
+    pub(crate) fn run<F: ComputeFn<K, V>, R: Wait>(&self, rt: &R, call: Call<'_, K, V, F, A>) -> Reply<K, V, A>
         requires { CallIsReady F.can_change call }
         ensures driven { IsDriven (Maker K V A) K.cmp F.changes self.now
             (hash_in (S.hash_of self.now.hasher) call.entry) (first_stage call.entry) (outcome_of result) }

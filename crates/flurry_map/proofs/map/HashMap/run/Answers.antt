@@ -2,9 +2,10 @@ use Rattle.std.proofs.Common.{◌≡◌, ◌∙◌, ap, refl}
 use Rattle.flurry_locks.specs.Lending.{LockLends}
 use Rattle.flurry_calls.specs.OutcomeView.{outcome_of}
 use Rattle.flurry_steps.specs.PartyView.{first_stage}
-use Rattle.flurry_map.specs.Driven.{MakerStays, Shared, hash_in}
-use Rattle.flurry_map.proofs.AnswerLaws.{can_answer}
-use Rattle.flurry_map.proofs.BeginLaws.{of_equal}
+use Rattle.flurry_replies.specs.Replies.{MakerStays}
+use Rattle.flurry_map.specs.Driven.{Shared, hash_in}
+use Rattle.flurry_replies.proofs.AnswerLaws.{can_answer}
+use Rattle.flurry_replies.proofs.BeginLaws.{of_equal}
 use Rattle.flurry_map.proofs.map.HashMap.run.Goals as goal
 
 pub returns-clause-driven : goal.returns-clause-driven

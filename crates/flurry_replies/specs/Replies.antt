@@ -1,0 +1,30 @@
+-- What contracts say of the reply of a call over the locks.
+use Rattle.std.specs.Prelude.{◌≡◌, ℕ, Bool, Option, Result, Ok, Err}
+use Rattle.std.specs.declared.cmp.Ordering.{Ordering}
+use Rattle.flurry_drive.specs.Turns.{Turns, TurnsTo}
+use Rattle.flurry_locks.specs.Lending.{LockLends}
+use Rattle.flurry_steps.specs.Field.{Turn}
+use Rattle.flurry_steps.specs.PartyTally.{EndingState, ending_stage}
+use Rattle.flurry_calls.specs.Outcome.{Outcome}
+use Rattle.flurry_steps.specs.Party.{PartyState}
+use Rattle.flurry_steps.specs.PartyView.{first_stage}
+use Rattle.flurry_steps.specs.declared.party.call.Call.{Call}
+
+-- a table that is made under the control's lock is known by its place alone
+abbrev pub MakerStays : {M : Type 0} → M → ℕ → Bool → Bool → M → Type 0
+MakerStays m e live ok m' = m' ≡ m
+
+-- The reply r is that of the call in the state p, done in steps. Each step is one of the call's own, at a part that is lent to it under
+-- the part's lock; between two steps other threads may have left any other part of its type there. Nothing is said of who lends it.
+pub record IsReplyOf (M : Type 0) {K V F : Type 0} (cmp : K → K → Ordering) (changes : F → K → V → Option V → Type 0) (p : PartyState K V F) (r : Outcome K V) : Type 0 where
+  pub last : PartyState K V F
+  pub turns : TurnsTo {S = Unit {0}} (Turn (MakerStays {M = M}) cmp changes LockLends) tt p r tt last
+
+-- steps of the very call lead from p to p'
+abbrev pub GoesTo : (M : Type 0) → {K V F : Type 0} → (K → K → Ordering) → (F → K → V → Option V → Type 0) → PartyState K V F → PartyState K V F → Type 0
+GoesTo M cmp changes p p' = Turns {S = Unit {0}} (Turn (MakerStays {M = M}) cmp changes LockLends) tt p tt p'
+
+-- a call of that hash has begun, for however many processors; or it has done no step, and comes back
+abbrev pub BeginsOrStays : (M : Type 0) → {K V F A : Type 0} → (K → K → Ordering) → (F → K → V → Option V → Type 0) → ℕ → Call K V F A → Result (EndingState K V) (Call K V F A) → Type 0
+BeginsOrStays M cmp changes h c (Ok e) = (n : ℕ) → GoesTo M cmp changes (record { hash = h; processors = n; stage = first_stage c }) (record { hash = h; processors = n; stage = ending_stage e })
+BeginsOrStays M cmp changes h c (Err c') = c' ≡ c

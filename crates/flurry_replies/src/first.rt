@@ -1,0 +1,210 @@
+//! The steps of a call over the locks: its first ones at once, where its table is known without the control's lock.
+ghost use Rattle.std.specs.Prelude.{◌≡◌};
+ghost use Rattle.flurry_locks.specs.declared.tables.Maker.{Maker};
+ghost use Rattle.flurry_replies.specs.Replies.{BeginsOrStays, IsReplyOf};
+ghost use Rattle.flurry_steps.specs.Party.{BeginsToWrite, IsTaken, LooksUp};
+ghost use Rattle.flurry_steps.specs.PartyTally.{ending_stage};
+ghost use Rattle.flurry_calls.specs.OutcomeView.{outcome_of};
+ghost use Rattle.flurry_steps.specs.PartyView.{CallIsReady, first_stage};
+
+use flurry_control::PublishedTable;
+use flurry_drive::drive;
+use flurry_locks::{Lender, Locks};
+use flurry_model::sizes::bin_index;
+use flurry_slots::ComputeFn;
+use flurry_steps::Party;
+use flurry_steps::party::{Call, Ending, Reply};
+use std::alloc::Allocator;
+use std::sync::Wait;
+
+/// The reply of a call over the locks of a map, by the hash of its key and the number of processors that share the work of a growth; 0
+/// counts as 1. A call without a key does not read the hash. It is copied into its callers, whose calls it then need not tell apart.
+///
+/// As many steps as the call needs, each of which waits for the locks of its part.
+// Where a table is known to be published, and the bin there is live, a call of one key does its first two steps at once. No party is
+// made where these are all, or where the step at a tally is the last.
+#[inline(always)]
+pub fn reply_to<K: Ord + Drop, V: Drop, F: ComputeFn<K, V>, A: Allocator + Copy, R: Wait>(
+    rt: &R,
+    locks: &Locks<K, V, A>,
+    call: Call<'_, K, V, F, A>,
+    hash: u64,
+    processors: usize,
+) -> Reply<K, V, A>
+    requires { CallIsReady F.can_change call }
+    ensures { IsReplyOf (Maker K V A) K.cmp F.changes
+        (record { hash = hash; processors = processors; stage = first_stage call.entry }) (outcome_of result) }
+{
+    let Some(start) = locks.newest() else {
+        return drive_call(rt, locks, call, hash, processors);
+    };
+    match &call {
+        Call::Reserve(_) | Call::Clear | Call::Walk => {
+            return drive_call(rt, locks, call, hash, processors);
+        }
+        Call::Get(_) | Call::GetKeyValue(_) | Call::ContainsKey(_) => {
+            return look(rt, locks, start, call, hash, processors);
+        }
+        _ => return write(rt, locks, start, call, hash, processors),
+    }
+}
+
+// The reply of a look-up, which begins at that table.
+fn look<K: Ord + Drop, V: Drop, F: ComputeFn<K, V>, A: Allocator + Copy, R: Wait>(
+    rt: &R,
+    locks: &Locks<K, V, A>,
+    start: &PublishedTable,
+    call: Call<'_, K, V, F, A>,
+    hash: u64,
+    processors: usize,
+) -> Reply<K, V, A>
+    requires ready { CallIsReady F.can_change call }
+    requires looks { LooksUp (first_stage call) }
+    ensures { IsReplyOf (Maker K V A) K.cmp F.changes
+        (record { hash = hash; processors = processors; stage = first_stage call.entry }) (outcome_of result) }
+{
+    let table = start.table();
+    let index = bin_index(hash, table);
+    if let Some(lock) = locks.slot(table, index) {
+        let slot = lock.read(rt);
+        if slot.at() == (table, index) && slot.is_live() {
+            return Party::look_first(call, hash, start, &*slot);
+        }
+    }
+    drive_call(rt, locks, call, hash, processors)
+}
+
+// The reply of a call that may change its bin, which begins at that table.
+#[inline(always)]
+fn write<K: Ord + Drop, V: Drop, F: ComputeFn<K, V>, A: Allocator + Copy, R: Wait>(
+    rt: &R,
+    locks: &Locks<K, V, A>,
+    start: &PublishedTable,
+    call: Call<'_, K, V, F, A>,
+    hash: u64,
+    processors: usize,
+) -> Reply<K, V, A>
+    requires ready { CallIsReady F.can_change call }
+    requires writes { BeginsToWrite (first_stage call) }
+    ensures { IsReplyOf (Maker K V A) K.cmp F.changes
+        (record { hash = hash; processors = processors; stage = first_stage call.entry }) (outcome_of result) }
+{
+    match write_bin(rt, locks, start, call, hash) {
+        Ok(ending) => return end::<K, V, F, A, R>(rt, locks, ending, hash, processors),
+        Err(call) => return drive_call(rt, locks, call, hash, processors),
+    }
+}
+
+// Its first two steps. A call that cannot begin so has done no step, and comes back.
+#[inline(always)]
+fn write_bin<'k, K: Ord + Drop, V: Drop, F: ComputeFn<K, V>, A: Allocator + Copy, R: Wait>(
+    rt: &R,
+    locks: &Locks<K, V, A>,
+    start: &PublishedTable,
+    call: Call<'k, K, V, F, A>,
+    hash: u64,
+) -> Result<Ending<K, V, A>, Call<'k, K, V, F, A>>
+    requires ready { CallIsReady F.can_change call }
+    requires writes { BeginsToWrite (first_stage call) }
+    ensures { BeginsOrStays (Maker K V A) K.cmp F.changes hash call.entry result }
+{
+    let table = start.table();
+    let index = bin_index(hash, table);
+    if let Some(lock) = locks.slot(table, index) {
+        let mut slot = lock.write(rt);
+        if slot.at() == (table, index) && slot.is_live() {
+            return Ok(Party::write_first(call, hash, start, *locks.allocator(), &mut *slot));
+        }
+    }
+    Err(call)
+}
+
+// The reply of a call that has decided, or was refused.
+#[inline(always)]
+fn end<K: Ord + Drop, V: Drop, F: ComputeFn<K, V>, A: Allocator + Copy, R: Wait>(
+    rt: &R,
+    locks: &Locks<K, V, A>,
+    ending: Ending<K, V, A>,
+    hash: u64,
+    processors: usize,
+) -> Reply<K, V, A>
+    ensures { IsReplyOf (Maker K V A) K.cmp F.changes
+        (record { hash = hash; processors = processors; stage = ending_stage ending }) (outcome_of result) }
+{
+    match ending.into_reply() {
+        Ok(reply) => return reply,
+        Err(ending) => return count::<K, V, F, A, R>(rt, locks, ending, hash, processors),
+    }
+}
+
+// The same of a call that has more to do: where it counts a pair next, and pairs may wait at a tally, it does so there.
+#[inline(always)]
+fn count<K: Ord + Drop, V: Drop, F: ComputeFn<K, V>, A: Allocator + Copy, R: Wait>(
+    rt: &R,
+    locks: &Locks<K, V, A>,
+    ending: Ending<K, V, A>,
+    hash: u64,
+    processors: usize,
+) -> Reply<K, V, A>
+    ensures { IsReplyOf (Maker K V A) K.cmp F.changes
+        (record { hash = hash; processors = processors; stage = ending_stage ending }) (outcome_of result) }
+{
+    if ending.counts() {
+        if let Some((tally, most)) = locks.tally(hash) {
+            let mut counted = ending;
+            counted.on_tally::<F>(&mut *tally.lock(rt), most);
+            match counted.into_reply() {
+                Ok(reply) => return reply,
+                Err(ending) => return drive_ending::<K, V, F, A, R>(
+                    rt, locks, ending, hash, processors,
+                ),
+            }
+        }
+    }
+    drive_ending::<K, V, F, A, R>(rt, locks, ending, hash, processors)
+}
+
+// Does all steps of a call, one after another.
+fn drive_call<K: Ord + Drop, V: Drop, F: ComputeFn<K, V>, A: Allocator + Copy, R: Wait>(
+    rt: &R,
+    locks: &Locks<K, V, A>,
+    call: Call<'_, K, V, F, A>,
+    hash: u64,
+    processors: usize,
+) -> Reply<K, V, A>
+    requires { CallIsReady F.can_change call }
+    ensures { IsReplyOf (Maker K V A) K.cmp F.changes
+        (record { hash = hash; processors = processors; stage = first_stage call.entry }) (outcome_of result) }
+{
+    drive_party(rt, locks, Party::new(call, hash, processors))
+}
+
+// Does the steps that are left of a call that has decided.
+fn drive_ending<K: Ord + Drop, V: Drop, F: ComputeFn<K, V>, A: Allocator + Copy, R: Wait>(
+    rt: &R,
+    locks: &Locks<K, V, A>,
+    ending: Ending<K, V, A>,
+    hash: u64,
+    processors: usize,
+) -> Reply<K, V, A>
+    ensures { IsReplyOf (Maker K V A) K.cmp F.changes
+        (record { hash = hash; processors = processors; stage = ending_stage ending }) (outcome_of result) }
+{
+    drive_party(rt, locks, ending.into_party::<F>(hash, processors))
+}
+
+// Does the steps that are left of a call, and answers its reply.
+fn drive_party<K: Ord + Drop, V: Drop, F: ComputeFn<K, V>, A: Allocator + Copy, R: Wait>(
+    rt: &R,
+    locks: &Locks<K, V, A>,
+    party: Party<'_, K, V, F, A>,
+) -> Reply<K, V, A>
+    requires { IsTaken party.stage → ⊥ }
+    ensures { IsReplyOf (Maker K V A) K.cmp F.changes party.entry (outcome_of result) }
+{
+    let mut party = party;
+    let mut lender = Lender::new(rt, locks);
+    let reply = drive(rt, &mut party, &mut lender);
+    drop(party);
+    reply
+}

@@ -1,0 +1,90 @@
+//! Maps of lists, further maps, and equal ones.
+
+use super::{has_sums, numbers, same, taken};
+use flurry_map::HashMap;
+use flurry_model::hash::{DefaultHashBuilder, LowHashBuilder, ZeroHashBuilder};
+use std::alloc::{AllocError, Allocator};
+use std::sync::{Arc, Wait};
+use std::test::Fail;
+
+// The keys from the first one on to the last but one, each with this number more as its value.
+pub(super) fn list<A: Allocator>(
+    alloc: A,
+    from: u64,
+    to: u64,
+    more: u64,
+) -> Result<Vec<(u64, u64), A>, AllocError> {
+    let mut list = Vec::new(alloc);
+    for key in from..to {
+        list.push((key, key.saturating_add(more)))?;
+    }
+    Ok(list)
+}
+
+#[test]
+fn lists(rt: HostRuntime) -> Result<(), Fail> {
+    let map = HashMap::from_list(&rt, list(rt.alloc(), 0, 100, 0)?, LowHashBuilder)?;
+    has_sums(&rt, &map, (100, 4950, 4950))?;
+    map.extend(&rt, list(rt.alloc(), 90, 110, 1)?)?;
+    has_sums(&rt, &map, (110, 5995, 6015))?;
+    let map = HashMap::with_hasher(rt.alloc(), ZeroHashBuilder);
+    map.extend(&rt, list(rt.alloc(), 0, 50, 0)?)?;
+    has_sums(&rt, &map, (50, 1225, 1225))?;
+    map.extend(&rt, list(rt.alloc(), 0, 0, 0)?)?;
+    has_sums(&rt, &map, (50, 1225, 1225))
+}
+
+// An empty list makes no table: a walk that began before the first pair gives none.
+#[test]
+fn an_empty_list(rt: HostRuntime) -> Result<(), Fail> {
+    let map = HashMap::from_list(&rt, list(rt.alloc(), 0, 0, 0)?, LowHashBuilder)?;
+    let mut pairs = map.iter(&rt);
+    map.insert(&rt, 7, 8)?;
+    same(&rt, pairs.next()?.is_none(), true);
+    has_sums(&rt, &map, (1, 7, 8))
+}
+
+// It has the stored keys and values of the other, and goes on without it.
+#[test]
+fn a_further_map(rt: HostRuntime) -> Result<(), Fail> {
+    let map = numbers(&rt, rt.alloc(), 100);
+    let copy = map.try_clone(&rt)?;
+    has_sums(&rt, &copy, (100, 4950, 4950))?;
+    let Some(value) = map.get(&rt, &7)? else {
+        return Err(Fail::from("the key is present"));
+    };
+    same(&rt, Arc::strong_count(&value), 3);
+    same(&rt, taken(map.remove(&rt, &99)), Some(99));
+    same(&rt, copy.insert(&rt, 200, 0)?.is_none(), true);
+    has_sums(&rt, &map, (99, 4851, 4851))?;
+    has_sums(&rt, &copy, (101, 5150, 4950))?;
+    let empty: HashMap<u64, u64> = HashMap::new(rt.alloc());
+    same(&rt, empty.try_clone(&rt)?.is_empty(&rt), true);
+    Ok(())
+}
+
+// A map of these keys, each with this number more as its value, over a hasher of that seed.
+fn seeded<R: Wait + AllocGlobal>(
+    rt: &R,
+    to: u64,
+    more: u64,
+    seed: u64,
+) -> Result<HashMap<u64, u64>, AllocError> {
+    let list = list(rt.alloc(), 0, to, more)?;
+    HashMap::from_list(rt, list, DefaultHashBuilder::with_seed(seed))
+}
+
+#[test]
+fn equal_maps(rt: HostRuntime) -> Result<(), Fail> {
+    let map = seeded(&rt, 20, 0, 1)?;
+    let other = seeded(&rt, 20, 0, 2)?;
+    same(&rt, map.equals(&rt, &other)?, true);
+    same(&rt, map.equals(&rt, &map)?, true);
+    same(&rt, map.equals(&rt, &seeded(&rt, 19, 0, 1)?)?, false);
+    same(&rt, map.equals(&rt, &seeded(&rt, 20, 1, 1)?)?, false);
+    other.remove(&rt, &3);
+    other.insert(&rt, 30, 3)?;
+    same(&rt, map.equals(&rt, &other)?, false);
+    same(&rt, other.equals(&rt, &map)?, false);
+    Ok(())
+}
