@@ -38,11 +38,7 @@ impl<K: Ord + Drop, V: Drop, S: KeyHasher<K>, A: Allocator + Copy> HashMap<K, V,
     /// # Errors
     ///
     /// [`AllocError`], where memory is wanting. The list is dropped.
-    pub fn from_list<R: Wait>(
-        rt: &R,
-        list: Vec<(K, V), A>,
-        hasher: S,
-    ) -> Result<Self, AllocError>
+    pub fn from_list<R: Wait>(rt: &R, list: Vec<(K, V), A>, hasher: S) -> Result<Self, AllocError>
     where
         S: Drop,
         ensures { IfOk result (λ m. m ≡ record { hasher = hasher; processors = 1 }) }

@@ -85,7 +85,10 @@ impl<'m, R: Wait, K: Ord + Drop, V: Drop, A: Allocator + Copy> Iter<'m, R, K, V,
 }
 
 // TEMPORARY
-fn into_pair<R: Wait, K: Drop, V: Drop, A: Allocator>(rt: &R, seen: Seen<K, V, A>) -> (Arc<K, A>, Arc<V, A>)
+fn into_pair<R: Wait, K: Drop, V: Drop, A: Allocator>(
+    rt: &R,
+    seen: Seen<K, V, A>,
+) -> (Arc<K, A>, Arc<V, A>)
     ensures { pair_value result ≡ pair_seen seen }
 {
     drop(seen);

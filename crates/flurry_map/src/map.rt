@@ -15,11 +15,11 @@ ghost use Rattle.flurry_steps.specs.PartyView.{CallIsReady, first_stage};
 ghost use Rattle.std.specs.Option.{option_map};
 ghost use Rattle.std.specs.Arc.{arc_value};
 
-use flurry_replies::reply_to;
 use flurry_control::wanted_table;
 use flurry_locks::Locks;
 use flurry_model::hash::{DefaultHashBuilder, KeyHasher};
 use flurry_model::try_insert::TryInsertError;
+use flurry_replies::reply_to;
 use flurry_slots::{ComputeFn, NoFn};
 use flurry_steps::party::{Call, Reply};
 use std::alloc::{AllocError, Allocator, Global};
@@ -374,7 +374,11 @@ impl<K: Ord + Drop, V: Drop, S: KeyHasher<K>, A: Allocator + Copy> HashMap<K, V,
 
     // Does the steps of a call over the locks. It is copied into each call, with its first steps, which then do not ask which call it is.
     #[inline(always)]
-    pub(crate) fn run<F: ComputeFn<K, V>, R: Wait>(&self, rt: &R, call: Call<'_, K, V, F, A>) -> Reply<K, V, A>
+    pub(crate) fn run<F: ComputeFn<K, V>, R: Wait>(
+        &self,
+        rt: &R,
+        call: Call<'_, K, V, F, A>,
+    ) -> Reply<K, V, A>
         requires { CallIsReady F.can_change call }
         ensures driven { IsDriven (Maker K V A) K.cmp F.changes self.now
             (hash_in (S.hash_of self.now.hasher) call.entry) (first_stage call.entry) (outcome_of result) }

@@ -58,7 +58,14 @@ impl<K: Ord + Drop, V: Drop, S: KeyHasher<K>, A: Allocator> HashMap<K, V, S, A> 
     }
 }
 
-impl<'m, R: Wait, K: Ord + Drop, V: Drop, S: KeyHasher<K>, A: Allocator> HashMapRef<'m, R, K, V, S, A> {
+impl<'m, R: Wait, K: Ord + Drop, V: Drop, S: KeyHasher<K>, A: Allocator> HashMapRef<
+    'm,
+    R,
+    K,
+    V,
+    S,
+    A,
+> {
     /// The number of pairs, as [`HashMap::len`].
     // As there, no clause tells it.
     pub fn len(&self) -> usize {
@@ -72,7 +79,14 @@ impl<'m, R: Wait, K: Ord + Drop, V: Drop, S: KeyHasher<K>, A: Allocator> HashMap
     }
 }
 
-impl<'m, R: Wait, K: Ord + Drop, V: Drop, S: KeyHasher<K>, A: Allocator + Copy> HashMapRef<'m, R, K, V, S, A> {
+impl<'m, R: Wait, K: Ord + Drop, V: Drop, S: KeyHasher<K>, A: Allocator + Copy> HashMapRef<
+    'm,
+    R,
+    K,
+    V,
+    S,
+    A,
+> {
     /// The pairs, one after another, as [`HashMap::iter`].
     pub fn iter(&self) -> Iter<'m, R, K, V, A>
         ensures { Begins K.cmp result }

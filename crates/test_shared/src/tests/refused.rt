@@ -83,7 +83,11 @@ fn refuse_each<R: Abort + Wait>(
         same(rt, memory.blocks(), 0);
     }
     let seen = call_without(rt, memory, call, requests)?;
-    same(rt, (call, requests, seen), (call, requests, (false, true, left)));
+    same(
+        rt,
+        (call, requests, seen),
+        (call, requests, (false, true, left)),
+    );
     same(rt, memory.blocks(), 0);
     Ok(())
 }
@@ -114,6 +118,10 @@ fn an_extension(rt: HostRuntime) -> Result<(), Fail> {
         same(&rt, (k, seen), (k, (true, false, 3 + k as usize / 3)));
         same(&rt, memory.blocks(), 0);
     }
-    same(&rt, call_without(&rt, memory, Call::Extend, 9)?, (false, true, 6));
+    same(
+        &rt,
+        call_without(&rt, memory, Call::Extend, 9)?,
+        (false, true, 6),
+    );
     Ok(())
 }

@@ -9,9 +9,17 @@ fn look_ups(rt: HostRuntime) -> Result<(), Fail> {
     let view = map.pin(&rt);
     let again = view.clone()?;
     same(&rt, (view.len(), again.is_empty()), (3, false));
-    same(&rt, (view.contains_key(&1), view.contains_key(&3)), (true, false));
+    same(
+        &rt,
+        (view.contains_key(&1), view.contains_key(&3)),
+        (true, false),
+    );
     same(&rt, taken(view.get(&2)?), Some(2));
-    same(&rt, view.get_key_value(&2)?.map(|pair| (*pair.0, *pair.1)), Some((2, 2)));
+    same(
+        &rt,
+        view.get_key_value(&2)?.map(|pair| (*pair.0, *pair.1)),
+        Some((2, 2)),
+    );
     same(&rt, read_all(view.iter())?, (3, 3, 3));
     same(&rt, view.keys().next()?.map(|key| *key), Some(0));
     same(&rt, again.values().next()?.map(|value| *value), Some(0));
@@ -25,9 +33,17 @@ fn changes(rt: HostRuntime) -> Result<(), Fail> {
     let view = map.pin(&rt);
     same(&rt, taken(view.insert(9, 10)?), Some(9));
     same(&rt, view.try_insert(9, 11)?.is_err(), true);
-    same(&rt, taken(view.compute_if_present(&8, |_, value| Some(value.wrapping_add(1)))?), Some(9));
+    same(
+        &rt,
+        taken(view.compute_if_present(&8, |_, value| Some(value.wrapping_add(1)))?),
+        Some(9),
+    );
     same(&rt, taken(view.remove(&0)), Some(0));
-    same(&rt, view.remove_entry(&1).map(|pair| (*pair.0, *pair.1)), Some((1, 1)));
+    same(
+        &rt,
+        view.remove_entry(&1).map(|pair| (*pair.0, *pair.1)),
+        Some((1, 1)),
+    );
     view.reserve(100)?;
     has_sums(&rt, &map, (8, 44, 46))?;
     view.retain(|key, _| *key > 2)?;

@@ -62,7 +62,11 @@ fn walk_over<S: KeyHasher<u64> + Drop, R: Abort + Wait>(
 #[test]
 fn each_walk_gives_all_pairs(rt: HostRuntime) -> Result<(), Fail> {
     for count in [0u64, 1, 9, 10, 1000] {
-        walk_over(&rt, HashMap::with_hasher(rt.alloc(), ZeroHashBuilder), count)?;
+        walk_over(
+            &rt,
+            HashMap::with_hasher(rt.alloc(), ZeroHashBuilder),
+            count,
+        )?;
         walk_over(&rt, numbers(&rt, rt.alloc(), 0), count)?;
     }
     walk_over(
@@ -107,8 +111,16 @@ fn a_walk_sees_what_stands(rt: HostRuntime) -> Result<(), Fail> {
     same(&rt, taken(map.insert(&rt, 1, 8)?), Some(1));
     same(&rt, taken(map.remove(&rt, &2)), Some(2));
     same(&rt, *value, 0);
-    same(&rt, pairs.next()?.map(|pair| (*pair.0, *pair.1)), Some((1, 8)));
-    same(&rt, pairs.next()?.map(|pair| (*pair.0, *pair.1)), Some((3, 3)));
+    same(
+        &rt,
+        pairs.next()?.map(|pair| (*pair.0, *pair.1)),
+        Some((1, 8)),
+    );
+    same(
+        &rt,
+        pairs.next()?.map(|pair| (*pair.0, *pair.1)),
+        Some((3, 3)),
+    );
     same(&rt, pairs.next()?.is_none(), true);
     Ok(())
 }
