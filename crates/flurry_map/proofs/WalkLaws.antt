@@ -1,9 +1,9 @@
 -- Laws of walks over the locks.
-use Rattle.std.proofs.Common.{◌≡◌, ℕ, Option, Some, None, IsSome, MatchOption, refl, sym, ap, subst}
+use Rattle.std.proofs.Common.{◌≡◌, ℕ, Option, Some, None, IsSome, MatchOption, Result, Ok, refl, sym, ap, subst}
 use Rattle.std.specs.declared.cmp.Ordering.{Ordering}
 use Rattle.flurry_drive.specs.Turns.{Turns, still, further}
 use Rattle.flurry_locks.specs.Lending.{LockLends}
-use Rattle.flurry_locks.specs.Walking.{WalkTurn, AtControl, AtStart, AtSlot}
+use Rattle.flurry_locks.specs.Walking.{WalkTurn, WalksOrStays, AtControl, AtStart, AtSlot}
 use Rattle.flurry_model.specs.declared.call.Seen.{Seen}
 use Rattle.flurry_replies.specs.Replies.{GoesTo, MakerStays}
 use Rattle.flurry_replies.specs.Answers.{CanWalk}
@@ -12,21 +12,24 @@ use Rattle.flurry_slots.specs.Slot.{PlainEntry, Content, IsLive, HasMoved, IsUnb
 use Rattle.flurry_slots.specs.declared.compute_fn.NoFn.{NoFn}
 use Rattle.flurry_calls.specs.Cursor.{CursorState, after_top}
 use Rattle.flurry_calls.specs.Outcome.{Outcome}
-use Rattle.flurry_calls.specs.Sweep.{Errand, Reads, Wipes, SweepStage, AtOutset, OverBins, AtTotal, AtEnd, AfterEnd, SweepState, BinGives, WalkGives, ClearGives, ReadGives, stage_walked}
+use Rattle.flurry_calls.specs.OutcomeView.{outcome_of}
+use Rattle.flurry_calls.specs.declared.reply.Reply.{Reply}
+use Rattle.flurry_calls.specs.declared.reply.Reply.TheVariants as reply
+use Rattle.flurry_calls.specs.Sweep.{Errand, Reads, Wipes, SweepStage, AtOutset, OverBins, AtTotal, AtEnd, AfterEnd, SweepState, BinGives, WalkGives, ClearGives, ReadGives, fresh_sweep, stage_walked, swept_part}
 use Rattle.flurry_calls.specs.declared.step.Event.{Event}
 use Rattle.flurry_calls.specs.declared.step.Event.TheVariants as event
 use Rattle.flurry_steps.specs.Field.{Turn, ControlLoan, StartLoan, LookLoan}
 use Rattle.flurry_steps.specs.Party.{PartyState, AtSweep}
 use Rattle.flurry_steps.specs.declared.party.call.Call.TheVariants as call
 use Rattle.flurry_map.specs.Driven.{no_changes}
-use Rattle.flurry_map.specs.Walks.{AnyTurn, OtherTurn, ReadsNext, EndsWith, IsUnderWay}
+use Rattle.flurry_map.specs.Walks.{Answers, AnyTurn, OtherTurn, ReadsNext, EndsWith, IsUnderWay}
 
 -- ---- what a read leaves
 
 module _ {K V : Type 0} (cmp : K → K → Ordering) (l : Option (Seen K V)) (w' : SweepState K V) (c' : Content K V) where
   entry_read : (f : CursorState K) (o : Option (PlainEntry K V)) → MatchOption o ((event.Read ≡ event.Silent) × (w'.stage ≡ stage_walked (after_top f)) × (w'.last ≡ l)) (λ x. ReadGives f x l event.Read w'.stage w'.last) → IsSome w'.last
   entry_read f None h = let e : event.Read ≡ event.Silent = h.0 in cc
-  entry_read f (Some x) h = subst IsSome (sym h.1) tt
+  entry_read f (Some x) h = subst IsSome (sym h.1) refl
 
   walk_read : (f : CursorState K) (c : Content K V) → WalkGives cmp f c l event.Read w'.stage w'.last → IsSome w'.last
   walk_read f (IsLive b) h = entry_read f (next_of_live cmp f.top.bound b) h
@@ -88,3 +91,25 @@ module _ {K V : Type 0} (cmp : K → K → Ordering) where
   can_end p p' r h t =
       can_answer (MakerStays {M = Unit {0}}) cmp no_changes (LockLends {S = Unit {0}}) {s = tt} {s' = tt} {p' = party_of p'} {r = r}
       (record { last = party_of t.last; turns = turns_of (others_after h t.others); done = t.done; after = ap party_of t.after }) {A = Unit {0}} call.Walk refl
+
+  -- a walk that did no step yet does one
+  pub begins : (p p' : SweepState K V) (o : Option Event) → p ≡ fresh_sweep Reads → WalksOrStays cmp p o p' → (ev : Event) × WalkTurn cmp (fresh_sweep Reads) ev p'
+  begins p p' None fresh h = absurd (h.0 (ap swept_part fresh))
+  begins p p' (Some ev) fresh h = (ev, subst (λ z. WalkTurn cmp z ev p') fresh h)
+
+  pub turned : (o : Option Event) (ev : Event) (p p' : SweepState K V) → o ≡ Some ev → WalksOrStays cmp p o p' → WalkTurn cmp p ev p'
+  turned o ev p p' e h = subst (λ z. WalksOrStays cmp p z p') e h
+
+  -- of a walk that answered something
+  pub has_read : {X Y E : Type 0} (told : X → Y) (seen : Seen K V → Y) (r : Result (Option X) E) (x : X) (p p' : SweepState K V) → r ≡ Ok (Some x) → Answers cmp told seen p r p' → ReadsNext cmp p p'
+  has_read told seen r x p p' e h = (subst (λ z. Answers cmp told seen p z p') e h).0
+
+-- a walk has no other reply
+pub no_other : {K V A : Type 0} (r : Reply K V A) → CanWalk (outcome_of r) → (r ≡ reply.Ended → ⊥) → (r ≡ reply.Refused → ⊥) → ⊥
+no_other (reply.Value v) h ended refused = h
+no_other (reply.Pair p) h ended refused = h
+no_other (reply.Contains b) h ended refused = h
+no_other (reply.New v) h ended refused = h
+no_other (reply.Exists e) h ended refused = h
+no_other reply.Ended h ended refused = ended refl
+no_other reply.Refused h ended refused = refused refl

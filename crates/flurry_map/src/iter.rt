@@ -105,14 +105,16 @@ fn see_next<R: Wait, K: Ord + Drop, V: Drop, A: Allocator + Copy>(
     requires { IsUnderWay K.cmp walk.old }
     ensures { Answers K.cmp (λ s. s) (λ s. s) walk.old result walk.new }
 {
-    match read_next(rt, walk, lender) {
-        None => match walk.seen()? {
-            Some(seen) => Ok(Some(seen)),
-            None => unreachable!(),
-        },
-        Some(Reply::Ended) => Ok(None),
-        Some(Reply::Refused) => Err(AllocError),
-        Some(_) => unreachable!(),
+    if let Some(reply) = read_next(rt, walk, lender) {
+        match reply {
+            Reply::Ended => return Ok(None),
+            Reply::Refused => return Err(AllocError),
+            _ => unreachable!(),
+        }
+    }
+    match walk.seen()? {
+        Some(seen) => Ok(Some(seen)),
+        None => unreachable!(),
     }
 }
 
@@ -125,10 +127,11 @@ fn read_next<R: Wait, K: Ord + Drop, V: Drop, A: Allocator + Copy>(
     ensures { ReadsOn K.cmp walk.old (option_map outcome_of result) walk.new }
 {
     for _ in rt.forever() {
-        match lender.walk_on(walk) {
-            Some(Event::Read) => return None,
-            Some(_) => continue,
-            None => {}
+        if let Some(event) = lender.walk_on(walk) {
+            match event {
+                Event::Read => return None,
+                _ => continue,
+            }
         }
         if let Some(reply) = walk.take_reply() {
             return Some(reply);

@@ -69,12 +69,13 @@ impl<'m, R: Wait, K: Ord + Drop, V: Drop, S: KeyHasher<K>, A: Allocator> HashMap
     /// The number of pairs, as [`HashMap::len`].
     // As there, no clause tells it.
     pub fn len(&self) -> usize {
-        self.map.len(self.rt)
+        let HashMapRef { map, rt } = *self;
+        map.len(rt)
     }
 
     /// Whether that number is 0, as [`HashMap::is_empty`].
     // As of `len`.
-    pub fn is_empty(&self) -> bool {
+    pub fn is_empty(self) -> bool {
         self.map.is_empty(self.rt)
     }
 }
