@@ -66,7 +66,7 @@ impl<'m, R: Wait, K: Ord + Drop, V: Drop, A: Allocator + Copy> Iter<'m, R, K, V,
         ensures { Gives K.cmp pair_value pair_seen self.old result self.new }
     {
         match self.next_seen()? {
-            Some(seen) => Ok(Some(into_pair(self.rt, seen))),
+            Some(seen) => Ok(Some(seen.into_pair())),
             None => Ok(None),
         }
     }
@@ -82,18 +82,6 @@ impl<'m, R: Wait, K: Ord + Drop, V: Drop, A: Allocator + Copy> Iter<'m, R, K, V,
         self.has_ended = !matches!(answer, Ok(Some(_)));
         answer
     }
-}
-
-// TEMPORARY
-fn into_pair<R: Wait, K: Drop, V: Drop, A: Allocator>(
-    rt: &R,
-    seen: Seen<K, V, A>,
-) -> (Arc<K, A>, Arc<V, A>)
-    ensures { pair_value result ≡ pair_seen seen }
-{
-    drop(seen);
-    for _ in rt.forever() {}
-    unreachable!()
 }
 
 // Does the steps of a walk up to its next read, and answers what it has read; none where it has ended, the error where it is refused.
