@@ -4,7 +4,7 @@ ghost use Rattle.std.specs.Option.{option_map};
 ghost use Rattle.std.specs.Arc.{arc_value};
 ghost use Rattle.flurry_calls.specs.OutcomeView.{outcome_of, pair_value};
 ghost use Rattle.flurry_calls.specs.Sweep.{pair_seen};
-ghost use Rattle.flurry_map.specs.Walks.{Answers, Begins, Gives, IsUnderWay, ReadsOn};
+ghost use Rattle.flurry_map.specs.Walks.{Answers, Begins, Gives, IsUnderWay, ReadsOn, has_ended_after};
 
 use crate::HashMap;
 use flurry_calls::{Event, Reply, Seen, Sweep};
@@ -79,7 +79,7 @@ impl<'m, R: Wait, K: Ord + Drop, V: Drop, A: Allocator + Copy> Iter<'m, R, K, V,
             return Ok(None);
         }
         let answer = see_next(self.rt, &mut self.walk, &self.lender);
-        self.has_ended = !matches!(answer, Ok(Some(_)));
+        self.has_ended = is_last(&answer);
         answer
     }
 }
@@ -91,6 +91,16 @@ fn into_pair<R: Wait, K: Drop, V: Drop, A: Allocator>(rt: &R, seen: Seen<K, V, A
     drop(seen);
     for _ in rt.forever() {}
     unreachable!()
+}
+
+// Whether an iterator has ended that answers this.
+fn is_last<X, E>(answer: &Result<Option<X>, E>) -> bool
+    ensures { result ≡ has_ended_after answer.now }
+{
+    match answer {
+        Ok(Some(_)) => false,
+        _ => true,
+    }
 }
 
 // Does the steps of a walk up to its next read, and answers what it has read; none where it has ended, the error where it is refused.
