@@ -3,8 +3,8 @@
 //! [`SeqMap`] and [`SeqSet`] are the map and the set of one owner; more of them stands under [`seq_map`], [`calls`] and [`seq_iter`],
 //! [`seq_set`] and [`set_calls`]. Bins, hashers and sizes of tables are under [`bin`], [`hash`] and [`table`]. Of a map that threads
 //! share, the steps at one bin are under [`slots`], its control and one call in steps under [`steps`], and every interleaving of calls,
-//! run one step at a time, under [`world`]. [`HashMap`] is that map over locks, for threads; its iterators are
-//! under [`iter`], and [`HashMapRef`] is a view of it. [`HashSet`] and [`HashSetRef`] are the set of such a map and its view.
+//! run one step at a time, under [`world`]. [`HashMap`] is that map over locks, for threads; its iterators are under
+//! [`iter`]. [`HashSet`] is the set over it.
 #![tactic(auto)]
 
 pub mod slots;
@@ -12,9 +12,9 @@ pub mod steps;
 pub mod world;
 
 pub use flurry_bins::{bin, table};
-pub use flurry_map::{HashMap, HashMapRef, iter, map, map_ref};
+pub use flurry_map::{HashMap, iter, map};
 pub use flurry_model::hash::{DefaultHashBuilder, DefaultHasher};
 pub use flurry_model::{TryInsertError, hash};
 pub use flurry_seq::{SeqMap, calls, iter as seq_iter, seq_map};
 pub use flurry_set::{SeqSet, seq_set, set_calls};
-pub use flurry_shared_set::{HashSet, HashSetRef, set, set_ref};
+pub use flurry_shared_set::{HashSet, set};

@@ -1,5 +1,5 @@
 -- Laws of walks over the locks.
-use Rattle.std.proofs.Common.{◌≡◌, ℕ, Option, Some, None, IsSome, MatchOption, Result, Ok, refl, sym, ap, subst}
+use Rattle.std.proofs.Common.{◌≡◌, ℕ, Option, Some, None, IsSome, MatchOption, Result, Ok, Err, true, false, refl, sym, ap, subst}
 use Rattle.std.specs.declared.cmp.Ordering.{Ordering}
 use Rattle.flurry_drive.specs.Turns.{Turns, still, further}
 use Rattle.flurry_locks.specs.Lending.{LockLends}
@@ -22,7 +22,7 @@ use Rattle.flurry_steps.specs.Field.{Turn, ControlLoan, StartLoan, LookLoan}
 use Rattle.flurry_steps.specs.Party.{PartyState, AtSweep}
 use Rattle.flurry_steps.specs.declared.party.call.Call.TheVariants as call
 use Rattle.flurry_map.specs.Driven.{no_changes}
-use Rattle.flurry_map.specs.Walks.{Answers, AnyTurn, OtherTurn, ReadsNext, EndsWith, IsUnderWay}
+use Rattle.flurry_map.specs.Walks.{Answers, has_ended_after, AnyTurn, OtherTurn, ReadsNext, EndsWith, IsUnderWay}
 
 -- ---- what a read leaves
 
@@ -101,8 +101,10 @@ module _ {K V : Type 0} (cmp : K → K → Ordering) where
   turned o ev p p' e h = subst (λ z. WalksOrStays cmp p z p') e h
 
   -- of a walk that answered something
-  pub has_read : {X Y E : Type 0} (told : X → Y) (seen : Seen K V → Y) (r : Result (Option X) E) (x : X) (p p' : SweepState K V) → r ≡ Ok (Some x) → Answers cmp told seen p r p' → ReadsNext cmp p p'
-  has_read told seen r x p p' e h = (subst (λ z. Answers cmp told seen p z p') e h).0
+  pub goes_on : {X Y E : Type 0} (told : X → Y) (seen : Seen K V → Y) (p p' : SweepState K V) (r : Result (Option X) E) → IsUnderWay cmp p → Answers cmp told seen p r p' → has_ended_after r ≡ false → IsUnderWay cmp p'
+  goes_on told seen p p' (Ok (Some x)) u h e = still_under_way p p' u h.0
+  goes_on told seen p p' (Ok None) u h e = cc
+  goes_on told seen p p' (Err x) u h e = cc
 
 -- a walk has no other reply
 pub no_other : {K V A : Type 0} (r : Reply K V A) → CanWalk (outcome_of r) → (r ≡ reply.Ended → ⊥) → (r ≡ reply.Refused → ⊥) → ⊥

@@ -4,7 +4,7 @@ ghost use Rattle.std.specs.Option.{option_map};
 ghost use Rattle.std.specs.Arc.{arc_value};
 ghost use Rattle.flurry_calls.specs.OutcomeView.{outcome_of, pair_value};
 ghost use Rattle.flurry_calls.specs.Sweep.{pair_seen};
-ghost use Rattle.flurry_map.specs.Walks.{Answers, Begins, Gives, IsUnderWay, ReadsOn};
+ghost use Rattle.flurry_map.specs.Walks.{Answers, Begins, Gives, IsUnderWay, ReadsOn, has_ended_after};
 
 use crate::HashMap;
 use flurry_calls::{Event, Reply, Seen, Sweep};
@@ -79,7 +79,7 @@ impl<'m, R: Wait, K: Ord + Drop, V: Drop, A: Allocator + Copy> Iter<'m, R, K, V,
             return Ok(None);
         }
         let answer = see_next(self.rt, &mut self.walk, &self.lender);
-        self.has_ended = !matches!(answer, Ok(Some(_)));
+        self.has_ended = is_last(&answer);
         answer
     }
 }

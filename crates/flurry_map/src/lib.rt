@@ -7,9 +7,7 @@
 mod bulk;
 pub mod iter;
 pub mod map;
-pub mod map_ref;
 mod owned;
 mod retain;
 
 pub use map::HashMap;
-pub use map_ref::HashMapRef;

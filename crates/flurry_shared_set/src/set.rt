@@ -199,7 +199,7 @@ impl<T: Ord + Drop, S: KeyHasher<T>, A: Allocator + Copy> HashSet<T, S, A> {
 
     /// Further owners of the elements, one after another, while other calls go on. See [`HashMap::iter`].
     pub fn iter<'m, R: Wait>(&'m self, rt: &'m R) -> Keys<'m, R, T, (), A>
-        ensures { Begins (Maker T (Unit {0}) A) T.cmp self.now.processors result }
+        ensures { Begins T.cmp result }
     {
         self.map.keys(rt)
     }

@@ -4,7 +4,6 @@ mod beside;
 mod bulk;
 mod kept;
 mod refused;
-mod views;
 mod walks;
 
 use flurry_map::HashMap;

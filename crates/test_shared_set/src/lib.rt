@@ -1,4 +1,4 @@
-//! The shared set and its view, as tests.
+//! The shared set, as tests.
 #![tactic(auto)]
 
 #[cfg(test)]

@@ -1,8 +1,7 @@
-//! Tests of the shared set and its view.
+//! Tests of the shared set.
 
 mod refused;
 mod relations;
-mod views;
 
 use flurry_map::iter::Keys;
 use flurry_model::hash::{LowHashBuilder, ZeroHashBuilder};
