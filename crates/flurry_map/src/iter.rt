@@ -84,6 +84,16 @@ impl<'m, R: Wait, K: Ord + Drop, V: Drop, A: Allocator + Copy> Iter<'m, R, K, V,
     }
 }
 
+// Whether an iterator has ended that answers this.
+fn is_last<X, E>(answer: &Result<Option<X>, E>) -> bool
+    ensures { result ≡ has_ended_after answer.now }
+{
+    match answer {
+        Ok(Some(_)) => false,
+        _ => true,
+    }
+}
+
 // Does the steps of a walk up to its next read, and answers what it has read; none where it has ended, the error where it is refused.
 fn see_next<R: Wait, K: Ord + Drop, V: Drop, A: Allocator + Copy>(
     rt: &R,
