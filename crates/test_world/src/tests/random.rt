@@ -92,6 +92,15 @@ impl<'k, F: ComputeFn<u64, u64> + Copy> Checked<'k, F> {
         party
     }
 
+    // Mostly the party that has read last, else any one of so many.
+    fn random_reader(&self, random: &mut Random, parties: u64) -> usize {
+        if random.below(4) == 0 {
+            random_party(random, parties)
+        } else {
+            self.checker.reader()
+        }
+    }
+
     // Begins the removal of what a party has read last, where it is a walk that has read. Answers whether one began.
     fn drop_seen(&mut self, rt: &impl Abort, walk: usize) -> bool
         requires { (f : F) → F.can_change f }
@@ -164,19 +173,6 @@ fn random_party(random: &mut Random, parties: u64) -> usize {
     parties.saturating_sub(back) as usize
 }
 
-// Mostly the party that has read last, else any one of so many.
-fn random_reader<F: ComputeFn<u64, u64> + Copy>(
-    random: &mut Random,
-    checker: &Checker<F>,
-    parties: u64,
-) -> usize {
-    if random.below(4) == 0 {
-        random_party(random, parties)
-    } else {
-        checker.reader()
-    }
-}
-
 // 200 steps, of which every sixth or so is the beginning of a call, and every fortieth that of a removal of what was read. A party that is stepped is likely to be stepped again.
 fn random_steps<'k, F: ComputeFn<u64, u64> + Copy>(
     rt: &impl Abort,
@@ -193,7 +189,8 @@ fn random_steps<'k, F: ComputeFn<u64, u64> + Copy>(
             let _ = checked.begin(rt, random_call(random, change));
             parties = parties.saturating_add(1);
         } else if random.below(40) == 0 {
-            if checked.drop_seen(rt, random_reader(random, &checked.checker, parties)) {
+            let walk = checked.random_reader(random, parties);
+            if checked.drop_seen(rt, walk) {
                 going = parties as usize;
                 parties = parties.saturating_add(1);
             }

@@ -187,10 +187,21 @@ fn others_end<'k, F: ComputeFn<u64, u64> + Copy>(rt: &impl Abort, world: &mut Nu
     assert_reply(rt, world, OwnedCall::Remove(2), value(Some(2)));
     assert_reply(rt, world, OwnedCall::Get(114), value(Some(1)));
     assert_reply(rt, world, OwnedCall::Get(3), value(Some(3)));
-    for call in [OwnedCall::Reserve(60), OwnedCall::Walk, OwnedCall::Clear] {
-        let party = begin(rt, world, call);
-        same(rt, end_of(rt, world, party), Line::End(party));
-    }
+    ends(rt, world, OwnedCall::Reserve(60));
+    ends(rt, world, OwnedCall::Walk);
+    ends(rt, world, OwnedCall::Clear);
+}
+
+// A call without a key ends.
+fn ends<'k, F: ComputeFn<u64, u64> + Copy>(
+    rt: &impl Abort,
+    world: &mut Numbers<'k, F>,
+    call: OwnedCall<u64, u64, F>,
+)
+    requires { (f : F) → F.can_change f }
+{
+    let party = begin(rt, world, call);
+    same(rt, end_of(rt, world, party), Line::End(party));
 }
 
 #[test]
