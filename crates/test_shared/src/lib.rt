@@ -1,4 +1,4 @@
-//! Walks of the shared map, the calls that go over many pairs, and its view, as tests.
+//! Walks of the shared map, and the calls that go over many pairs, as tests.
 #![tactic(auto)]
 
 #[cfg(test)]
