@@ -61,16 +61,24 @@ impl<K: Ord + Drop, V: Drop, S: KeyHasher<K>, A: Allocator + Copy> HashMap<K, V,
         S: Copy + Drop,
         ensures { IfOk result (λ m. m ≡ self.now) }
     {
-        let mut pairs = SeqMap::with_capacity_and_hasher(
-            *self.locks.allocator(),
-            self.len(rt),
-            self.hasher,
-        )?;
-        share_pairs(rt, self.iter(rt), &mut pairs)?;
+        let pairs = self.owned_pairs(rt)?;
         match HashMap::from_seq(rt, pairs) {
             Ok(map) => Ok(map.with_processors(self.processors)),
             Err(_) => Err(AllocError),
         }
+    }
+
+    // An owned map of the pairs that a walk gives, which shares their keys and values.
+    fn owned_pairs<R: Wait>(&self, rt: &R) -> Result<SeqMap<K, V, S, A>, AllocError>
+    where
+        S: Copy + Drop,
+        ensures { IfOk result (λ m. m.hasher ≡ self.now.hasher) }
+    {
+        let alloc = *self.locks.allocator();
+        let count = self.len(rt);
+        let mut pairs = SeqMap::with_capacity_and_hasher(alloc, count, self.hasher)?;
+        share_pairs(rt, self.iter(rt), &mut pairs)?;
+        Ok(pairs)
     }
 
     /// Whether this map counts as many pairs as another, and each pair that [`HashMap::iter`] gives here has its value there. Where no
