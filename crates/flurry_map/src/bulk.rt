@@ -2,9 +2,7 @@
 ghost use Rattle.std.specs.Prelude.{◌≡◌, IfOk};
 
 use crate::HashMap;
-use crate::iter::Iter;
 use flurry_model::hash::KeyHasher;
-use flurry_seq::SeqMap;
 use std::alloc::{AllocError, Allocator};
 use std::sync::Wait;
 
@@ -46,39 +44,6 @@ impl<K: Ord + Drop, V: Drop, S: KeyHasher<K>, A: Allocator + Copy> HashMap<K, V,
         let map = HashMap::with_capacity_and_hasher(*list.allocator(), list.len(), hasher)?;
         map.insert_all(rt, list)?;
         Ok(map)
-    }
-
-    /// A further map of the pairs that [`HashMap::iter`] gives, over the same hasher, for as many processors. It begins as one with room
-    /// for as many pairs as the map then counts, and shares the stored keys and the values, of which none is copied.
-    ///
-    /// One insertion for each pair; takes the locks of the walk and of [`HashMap::len`].
-    ///
-    /// # Errors
-    ///
-    /// [`AllocError`], where memory is wanting, or where a key or a value has as many owners as can be counted.
-    pub fn try_clone<R: Wait>(&self, rt: &R) -> Result<Self, AllocError>
-    where
-        S: Copy + Drop,
-        ensures { IfOk result (λ m. m ≡ self.now) }
-    {
-        let pairs = self.owned_pairs(rt)?;
-        match HashMap::from_seq(rt, pairs) {
-            Ok(map) => Ok(map.with_processors(self.processors)),
-            Err(_) => Err(AllocError),
-        }
-    }
-
-    // An owned map of the pairs that a walk gives, which shares their keys and values.
-    fn owned_pairs<R: Wait>(&self, rt: &R) -> Result<SeqMap<K, V, S, A>, AllocError>
-    where
-        S: Copy + Drop,
-        ensures { IfOk result (λ m. m.hasher ≡ self.now.hasher) }
-    {
-        let alloc = *self.locks.allocator();
-        let count = self.len(rt);
-        let mut pairs = SeqMap::with_capacity_and_hasher(alloc, count, self.hasher)?;
-        share_pairs(rt, self.iter(rt), &mut pairs)?;
-        Ok(pairs)
     }
 
     /// Whether this map counts as many pairs as another, and each pair that [`HashMap::iter`] gives here has its value there. Where no
@@ -127,22 +92,4 @@ impl<K: Ord + Drop, V: Drop, S: KeyHasher<K>, A: Allocator + Copy> HashMap<K, V,
         }
         Ok(())
     }
-}
-
-// Inserts the pairs that an iterator gives into a map, which shares their keys and values.
-fn share_pairs<K: Ord + Drop, V: Drop, S: KeyHasher<K>, A: Allocator + Copy, R: Wait>(
-    rt: &R,
-    pairs: Iter<'_, R, K, V, A>,
-    map: &mut SeqMap<K, V, S, A>,
-) -> Result<(), AllocError>
-    ensures { map.new.hasher ≡ map.old.hasher }
-{
-    let mut pairs = pairs;
-    for _ in rt.forever() {
-        let Some((key, value)) = pairs.next()? else {
-            return Ok(());
-        };
-        map.insert_shared(key, value)?;
-    }
-    unreachable!()
 }

@@ -260,21 +260,6 @@ impl<T: Ord + Drop, S: KeyHasher<T>, A: Allocator + Copy> HashSet<T, S, A> {
         Ok(())
     }
 
-    /// A further set of the elements that a walk reads, over the same hasher and with as many processors. It shares the stored elements,
-    /// of which none is copied.
-    ///
-    /// # Errors
-    ///
-    /// [`AllocError`], where memory or a further owner is wanting. This set is as it was.
-    pub fn try_clone<R: Wait>(&self, rt: &R) -> Result<Self, AllocError>
-    where
-        S: Copy + Drop,
-        ensures { IfOk result (λ s. s ≡ self.now) }
-    {
-        let map = self.map.try_clone(rt)?;
-        Ok(HashSet { map })
-    }
-
     /// Whether both sets have as many elements, and each element that a walk of this one reads is of a class of the other.
     ///
     /// # Errors

@@ -1,10 +1,10 @@
-//! Maps of lists, further maps, and equal ones.
+//! Maps of lists, and equal ones.
 
-use super::{has_sums, numbers, same, taken};
+use super::{has_sums, same};
 use flurry_map::HashMap;
 use flurry_model::hash::{DefaultHashBuilder, LowHashBuilder, ZeroHashBuilder};
 use std::alloc::{AllocError, Allocator};
-use std::sync::{Arc, Wait};
+use std::sync::Wait;
 use std::test::Fail;
 
 // The keys from the first one on to the last but one, each with this number more as its value.
@@ -42,25 +42,6 @@ fn an_empty_list(rt: HostRuntime) -> Result<(), Fail> {
     map.insert(&rt, 7, 8)?;
     same(&rt, pairs.next()?.is_none(), true);
     has_sums(&rt, &map, (1, 7, 8))
-}
-
-// It has the stored keys and values of the other, and goes on without it.
-#[test]
-fn a_further_map(rt: HostRuntime) -> Result<(), Fail> {
-    let map = numbers(&rt, rt.alloc(), 100);
-    let copy = map.try_clone(&rt)?;
-    has_sums(&rt, &copy, (100, 4950, 4950))?;
-    let Some(value) = map.get(&rt, &7)? else {
-        return Err(Fail::from("the key is present"));
-    };
-    same(&rt, Arc::strong_count(&value), 3);
-    same(&rt, taken(map.remove(&rt, &99)), Some(99));
-    same(&rt, copy.insert(&rt, 200, 0)?.is_none(), true);
-    has_sums(&rt, &map, (99, 4851, 4851))?;
-    has_sums(&rt, &copy, (101, 5150, 4950))?;
-    let empty: HashMap<u64, u64> = HashMap::new(rt.alloc());
-    same(&rt, empty.try_clone(&rt)?.is_empty(&rt), true);
-    Ok(())
 }
 
 // A map of these keys, each with this number more as its value, over a hasher of that seed.

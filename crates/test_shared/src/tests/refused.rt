@@ -22,7 +22,6 @@ enum Call {
     RetainForce,
     Extend,
     FromList,
-    TryClone,
     Equals,
 }
 
@@ -41,7 +40,6 @@ fn make<R: Wait>(
         Call::RetainForce => map.retain_force(rt, |key, _| *key < 2)?,
         Call::Extend => map.extend(rt, list)?,
         Call::FromList => drop(HashMap::from_list(rt, list, LowHashBuilder)?),
-        Call::TryClone => drop(map.try_clone(rt)?),
         Call::Equals => drop(map.equals(rt, map)?),
     }
     Ok(())
@@ -101,12 +99,11 @@ fn calls_without_a_request(rt: HostRuntime) -> Result<(), Fail> {
     refuse_each(&rt, memory, Call::Equals, 0, 3)
 }
 
-// A table and its slots, and three for each pair; of a further map a node for each pair, and then a table of locks.
+// A table and its slots, and three for each pair.
 #[test]
 fn maps_that_are_made(rt: HostRuntime) -> Result<(), Fail> {
     let memory = Metered::leaked(rt.alloc())?;
-    refuse_each(&rt, memory, Call::FromList, 11, 3)?;
-    refuse_each(&rt, memory, Call::TryClone, 6, 3)
+    refuse_each(&rt, memory, Call::FromList, 11, 3)
 }
 
 // An extension keeps the pairs that it inserted before the refused request.

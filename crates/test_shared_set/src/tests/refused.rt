@@ -23,7 +23,6 @@ enum Call {
     Reserve,
     Extend,
     FromList,
-    TryClone,
 }
 
 // Makes the call, of a set or of a list.
@@ -40,7 +39,6 @@ fn make<R: Wait>(
         Call::Reserve => set.reserve(rt, 100)?,
         Call::Extend => set.extend(rt, list)?,
         Call::FromList => drop(HashSet::from_list(rt, list, LowHashBuilder)?),
-        Call::TryClone => drop(set.try_clone(rt)?),
     }
     Ok(())
 }
@@ -84,6 +82,5 @@ fn each_call(rt: HostRuntime) -> Result<(), Fail> {
     refuse_each(&rt, memory, Call::Insert, 3)?;
     refuse_each(&rt, memory, Call::Reserve, 2)?;
     refuse_each(&rt, memory, Call::Extend, 4)?;
-    refuse_each(&rt, memory, Call::FromList, 2)?;
-    refuse_each(&rt, memory, Call::TryClone, 2)
+    refuse_each(&rt, memory, Call::FromList, 2)
 }
