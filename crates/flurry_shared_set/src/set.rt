@@ -204,27 +204,13 @@ impl<T: Ord + Drop, S: KeyHasher<T>, A: Allocator + Copy> HashSet<T, S, A> {
         self.map.keys(rt)
     }
 
-    /// Calls a function on each element that a walk reads, outside every lock, and takes an element out where it answers false.
-    ///
-    /// # Errors
-    ///
-    /// [`AllocError`], where a further owner is refused. Elements that were taken out stay so.
-    // What other threads leave in the set, no clause can tell.
-    pub fn retain<F: FnMut(&T) -> bool, R: Wait>(&self, rt: &R, mut f: F) -> Result<(), AllocError>
-    where
-        F: Drop,
-        requires { F.IsAlwaysCallable f }
-    {
-        self.map.retain(rt, move |element: &T, _: &()| f(element))
-    }
-
     /// Puts elements in their order. Room is made first, for as many elements as the list has where the set is empty, and else for half
     /// as many, rounded up.
     ///
     /// # Errors
     ///
     /// [`AllocError`], where a table or an insertion is refused. The elements that were put before stay, and the rest is dropped.
-    // As of `retain`.
+    // What other threads leave in the set, no clause can tell.
     pub fn extend<R: Wait>(&self, rt: &R, list: Vec<T, A>) -> Result<(), AllocError> {
         let count = list.len();
         let room = if self.is_empty(rt) {
@@ -277,18 +263,7 @@ impl<T: Ord + Drop, S: KeyHasher<T>, A: Allocator + Copy> HashSet<T, S, A> {
     /// [`AllocError`], where a further owner is refused.
     // As of `equals`.
     pub fn is_disjoint<R: Wait>(&self, rt: &R, other: &Self) -> Result<bool, AllocError> {
-        let mut elements = self.iter(rt);
-        for _ in rt.forever() {
-            match elements.next()? {
-                Some(element) => {
-                    if other.contains(rt, &element) {
-                        return Ok(false);
-                    }
-                }
-                None => return Ok(true),
-            }
-        }
-        unreachable!()
+        self.each_is(rt, other, false)
     }
 
     /// Whether each element that a walk of this set reads is of a class of the other set. One look-up for each.
@@ -298,18 +273,7 @@ impl<T: Ord + Drop, S: KeyHasher<T>, A: Allocator + Copy> HashSet<T, S, A> {
     /// [`AllocError`], where a further owner is refused.
     // As of `equals`.
     pub fn is_subset<R: Wait>(&self, rt: &R, other: &Self) -> Result<bool, AllocError> {
-        let mut elements = self.iter(rt);
-        for _ in rt.forever() {
-            match elements.next()? {
-                Some(element) => {
-                    if !other.contains(rt, &element) {
-                        return Ok(false);
-                    }
-                }
-                None => return Ok(true),
-            }
-        }
-        unreachable!()
+        self.each_is(rt, other, true)
     }
 
     /// Whether each element that a walk of the other set reads is of a class of this one. One look-up for each.
@@ -320,5 +284,31 @@ impl<T: Ord + Drop, S: KeyHasher<T>, A: Allocator + Copy> HashSet<T, S, A> {
     // As of `equals`.
     pub fn is_superset<R: Wait>(&self, rt: &R, other: &Self) -> Result<bool, AllocError> {
         other.is_subset(rt, self)
+    }
+
+    // Whether each element that a walk reads is present in another set, or each is absent there.
+    fn each_is<R: Wait>(&self, rt: &R, other: &Self, present: bool) -> Result<bool, AllocError> {
+        let mut elements = self.iter(rt);
+        for _ in rt.forever() {
+            let Some(found) = other.has_next(rt, &mut elements)? else {
+                return Ok(true);
+            };
+            if found != present {
+                return Ok(false);
+            }
+        }
+        unreachable!()
+    }
+
+    // Whether the set has the next element that an iterator reads; none at its end.
+    fn has_next<R: Wait>(
+        &self,
+        rt: &R,
+        elements: &mut Keys<'_, R, T, (), A>,
+    ) -> Result<Option<bool>, AllocError> {
+        match elements.next()? {
+            Some(element) => Ok(Some(self.contains(rt, &element))),
+            None => Ok(None),
+        }
     }
 }
