@@ -3,7 +3,7 @@ use Rattle.std.specs.Prelude.{◌≡◌, ◌<◌, ◌++◌, ◌∷◌, ℕ, List
 use Rattle.std.specs.declared.cmp.Ordering.{Ordering}
 use Rattle.flurry_model.specs.declared.reply.KeptReply.{KeptReply}
 use Rattle.flurry_seq.specs.Contents.{Contents}
-use Rattle.flurry_recorded.specs.Histories.{Replays, KeptAnswers}
+use Rattle.flurry_recorded.specs.Histories.{Replays, KeptAnswers, entry}
 use Rattle.flurry_recorded.specs.Shares.{ShareContents, with_receipts, receipt}
 use Rattle.flurry_recorded.specs.declared.kept.KeptCall.{KeptCall}
 use Rattle.flurry_recorded.specs.declared.kept.KeptEntry.{KeptEntry}
@@ -22,9 +22,6 @@ module _ {K V S : Type 0} where
   abbrev pub book_contents : Contents K V S → List (KeptEntry K V) → List ℕ → BookContents K V S
   book_contents m h s = record { contents = m; history = h; shares = s }
 
-  abbrev pub entry : KeptCall K V → KeptReply K V → KeptEntry K V
-  entry c r = record { call = c; reply = r }
-
   -- what a book keeps: its history replays to its map, and its shares' numbers are those from 0 on
   pub record IsBook (cmp : K → K → Ordering) (b : BookContents K V S) : Type 0 where
     pub replays : Replays cmp b.history b.contents.pairs
@@ -38,6 +35,12 @@ module _ {K V S : Type 0} where
     pub history : new.history ≡ old.history ++ entry call reply ∷ []
     pub shares : new.shares ≡ old.shares
 
--- one receipt more, of that call and that reply
-abbrev pub AddsReceipt : {K V : Type 0} → ShareContents K V → KeptCall K V → KeptReply K V → ShareContents K V → Type 0
-AddsReceipt old call reply new = (place : ℕ) × (new ≡ with_receipts old (old.receipts ++ receipt place call reply ∷ []))
+  -- the call was recorded: it was added to the book, and the share has one receipt more, at the end, of that call and that reply
+  pub record IsRecorded (cmp : K → K → Ordering) (b : BookContents K V S) (old : ShareContents K V) (call : KeptCall K V) (reply : KeptReply K V) (after : BookContents K V S) (new : ShareContents K V) : Type 0 where
+    pub place : ℕ
+    pub appended : Appends cmp b call place reply after
+    pub kept : new ≡ with_receipts old (old.receipts ++ receipt place call reply ∷ [])
+
+-- so it was, in some book
+abbrev pub WasRecorded : {K V : Type 0} (S : Type 0) (cmp : K → K → Ordering) → ShareContents K V → KeptCall K V → KeptReply K V → ShareContents K V → Type 0
+WasRecorded {K} {V} S cmp old call reply new = (b : BookContents K V S) × (after : BookContents K V S) × IsBook cmp b × IsRecorded cmp b old call reply after new

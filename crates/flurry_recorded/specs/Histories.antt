@@ -20,6 +20,9 @@ module _ {K V : Type 0} where
   one_key_of (kept.Remove k) = one.Remove k
   one_key_of (kept.RemoveEntry k) = one.RemoveEntry k
 
+  abbrev pub entry : KeptCall K V → KeptReply K V → KeptEntry K V
+  entry c r = record { call = c; reply = r }
+
   module _ (cmp : K → K → Ordering) where
     -- on the map m the call may reply r and leave the map n
     abbrev pub KeptAnswers : KeptCall K V → List (K × V) → KeptReply K V → List (K × V) → Type 0

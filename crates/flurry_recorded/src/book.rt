@@ -1,9 +1,11 @@
 //! The book of a recorded map, as one caller at a time has it.
-ghost use Rattle.std.specs.Prelude.{◌≡◌, ◌++◌, ◌∷◌, [], length, OnOk, OnErr, IfOk};
+ghost use Rattle.std.specs.Prelude.{◌≡◌, ◌++◌, ◌∷◌, [], length, OnOk, OnErr, IfOk, IfErr};
 ghost use Rattle.flurry_seq.specs.Contents.{contents};
-ghost use Rattle.flurry_recorded.specs.Books.{book_contents, Appends};
-ghost use Rattle.flurry_recorded.specs.Shares.{receipt, with_receipts};
+ghost use Rattle.flurry_recorded.specs.Closing.{IsClosed, HasFault};
+ghost use Rattle.flurry_recorded.specs.Books.{book_contents, Appends, IsBook, IsRecorded};
 
+use crate::checks::{places_stand, receipts_stand, shares_stand};
+use crate::closed::{CloseFault, Closed};
 use crate::kept::{KeptCall, KeptEntry};
 use crate::replies::reply_to;
 use crate::share::{Receipt, Share};
@@ -24,7 +26,8 @@ pub struct Book<K: Ord, V, S: KeyHasher<K> = DefaultHashBuilder, A: Allocator = 
 }
 
 impl<K: Ord, V, S: KeyHasher<K>, A: Allocator> Model for Book<K, V, S, A> {
-    ghost use Rattle.flurry_recorded.specs.Books.{BookContents, book_contents, IsBook};
+    ghost use Rattle.flurry_recorded.specs.Closing.{IsClosed, HasFault};
+ghost use Rattle.flurry_recorded.specs.Books.{BookContents, book_contents, IsBook};
 
     ghost Value = { BookContents K V S };
 
@@ -57,6 +60,7 @@ impl<K: Ord + Copy, V: Copy, S: KeyHasher<K>, A: Allocator + Copy> Book<K, V, S,
         call: KeptCall<K, V>,
     ) -> Result<(usize, KeptReply<K, V>), AllocError>
         ensures ok { IfOk result (λ r. Appends K.cmp self.old call r.0 r.1 self.new) }
+        ensures book { IsBook K.cmp self.old }
         ensures err { OnErr result (self.new ≡ self.old) }
     {
         self.history.reserve(1)?;
@@ -64,5 +68,82 @@ impl<K: Ord + Copy, V: Copy, S: KeyHasher<K>, A: Allocator + Copy> Book<K, V, S,
         let place = self.history.len();
         self.history.push_reserved(KeptEntry { call, reply });
         Ok((place, reply))
+    }
+
+    /// Makes a call for a share, which keeps a receipt of it as its last. Answers the reply.
+    ///
+    /// The time of the map's call, but that the history and the receipts grow.
+    ///
+    /// # Errors
+    ///
+    /// [`AllocError`], where memory for the receipt, the entry or the map's call is wanting. The book and the share are then as they were.
+    pub fn call_for(
+        &mut self,
+        share: &mut Share<K, V, A>,
+        call: KeptCall<K, V>,
+    ) -> Result<KeptReply<K, V>, AllocError>
+        ensures ok { IfOk result (λ r. IsRecorded K.cmp self.old share.old call r self.new share.new) }
+        ensures book { OnOk result (IsBook K.cmp self.old) }
+        ensures err { OnErr result ((self.new ≡ self.old) × (share.new ≡ share.old)) }
+    {
+        share.receipts.reserve(1)?;
+        let (place, reply) = self.call(call)?;
+        share.receipts.push_reserved(Receipt { place, call, reply });
+        Ok(reply)
+    }
+
+    /// Ends the book, with the shares that are handed back: answers the map and the history, if the shares fit them.
+    ///
+    /// Linear in the history and in the number of shares.
+    ///
+    /// # Errors
+    ///
+    /// The first of these that is so; the book and the shares are then dropped. [`CloseFault::SharesDiffer`]: the shares are not those that
+    /// the book has numbered, each once, or their receipts are not as many as the calls of the history.
+    /// [`CloseFault::ReceiptsDiffer`]: the history has another call or another reply at the place of a receipt, or none.
+    /// [`CloseFault::PlacesDiffer`]: a share's places do not ascend in the order of its receipts, or two receipts name one place.
+    /// [`CloseFault::NoMemory`]: memory is wanting, which can be found before any of the others.
+    pub fn close(
+        self,
+        shares: Vec<Share<K, V, A>, A>,
+    ) -> Result<Closed<K, V, S, A>, CloseFault>
+    where
+        V: PartialEq,
+        S: Drop,
+        ensures ok { IfOk result (λ c. (c.map ≡ self.contents) × (c.history.items ≡ self.history)
+            × IsClosed K.cmp ⟦<KeptCall<K, V> as PartialEq>⟧.eq ⟦<KeptReply<K, V> as PartialEq>⟧.eq
+            self.history self.contents.pairs shares.items) }
+        ensures err { IfErr result
+            (HasFault ⟦<KeptCall<K, V> as PartialEq>⟧.eq ⟦<KeptReply<K, V> as PartialEq>⟧.eq self shares.items) }
+    {
+        let alloc = *self.map.allocator();
+        if !shares_stand(alloc, self.shares.len(), self.history.len(), &shares)? {
+            return Err(CloseFault::SharesDiffer);
+        }
+        if !receipts_stand(&self.history, &shares) {
+            return Err(CloseFault::ReceiptsDiffer);
+        }
+        if !places_stand(alloc, self.history.len(), &shares)? {
+            return Err(CloseFault::PlacesDiffer);
+        }
+        let Book { map, history, .. } = self;
+        Ok(Closed { map, history })
+    }
+
+    /// Adds the next share, and answers its number: they are numbered from 0 on.
+    ///
+    /// Constant time, but that the list of shares grows.
+    ///
+    /// # Errors
+    ///
+    /// [`AllocError`], where memory for the number is wanting. The book is then as it was.
+    pub fn share(&mut self) -> Result<usize, AllocError>
+        ensures ok { IfOk result (λ n. (n ≡ length self.old.shares)
+            × (self.new ≡ book_contents self.old.contents self.old.history (self.old.shares ++ n ∷ []))) }
+        ensures err { OnErr result (self.new ≡ self.old) }
+    {
+        let number = self.shares.len();
+        self.shares.push(number)?;
+        Ok(number)
     }
 }

@@ -15,6 +15,8 @@ mod replies;
 pub mod share;
 
 pub use book::Book;
+pub use closed::{CloseFault, Closed};
 pub use flurry_model::reply::KeptReply;
 pub use kept::{KeptCall, KeptEntry};
+pub use recorded::Recorded;
 pub use share::{Receipt, Share};
