@@ -1,13 +1,14 @@
 -- A history grows by one entry at a time.
-use Rattle.std.proofs.Common.{◌≡◌, ◌<◌, ◌+◌, ℕ, List, [], ◌∷◌, ◌++◌, map, length, slice_index, refl, subst, sym, ap, arith}
+use Rattle.std.proofs.Common.{◌≡◌, ◌<◌, ◌+◌, ℕ, List, [], ◌∷◌, ◌++◌, map, length, refl, Result, Ok, Err, IfOk, OnOk, arith}
 use Rattle.std.proofs.lemmas.List.{map-append}
 use Rattle.std.specs.declared.cmp.Ordering.{Ordering}
 use Rattle.flurry_model.specs.declared.reply.KeptReply.{KeptReply}
 use Rattle.flurry_seq.specs.CallLists.{RunsTo}
 use Rattle.flurry_seq.proofs.RunLaws.{HasRun, run_goes_on, run_ends}
 use Rattle.std.proofs.lemmas.Grind.{common_steps}
-use Rattle.flurry_recorded.specs.Books.{AreFromZero}
+use Rattle.flurry_recorded.specs.Books.{AreFromZero, BookContents, IsBook, IsRecorded, WasRecorded}
 use Rattle.flurry_recorded.specs.Histories.{KeptAnswers, Replays, entry}
+use Rattle.flurry_recorded.specs.Shares.{ShareContents}
 use Rattle.flurry_recorded.specs.declared.kept.KeptCall.{KeptCall}
 use Rattle.flurry_recorded.specs.declared.kept.KeptEntry.{KeptEntry}
 
@@ -29,3 +30,10 @@ module _ {K V : Type 0} (cmp : K → K → Ordering) where
 -- the next number after those from 0 on
 pub from_zero_more : (xs : List ℕ) (n : ℕ) → n ≡ length xs → AreFromZero xs → AreFromZero (xs ++ n ∷ [])
 from_zero_more xs n is before i below = grind (arith, common_steps, before i)
+
+module _ {K V S E : Type 0} (cmp : K → K → Ordering) where
+  -- what was recorded in a book was recorded in some book
+  pub was_recorded : (b after : BookContents K V S) (old new : ShareContents K V) (call : KeptCall K V) (r : Result (KeptReply K V) E)
+      → IfOk r (λ reply. IsRecorded cmp b old call reply after new) → OnOk r (IsBook cmp b) → IfOk r (λ reply. WasRecorded S cmp old call reply new)
+  was_recorded b after old new call (Ok reply) recorded is = (b, after, is, recorded)
+  was_recorded b after old new call (Err e) recorded is = tt

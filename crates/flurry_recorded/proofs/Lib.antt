@@ -1,1 +1,3 @@
 pub mod HistoryLaws
+pub mod MarkLemmas
+pub mod PlaceLemmas

@@ -27,7 +27,7 @@ pub struct Book<K: Ord, V, S: KeyHasher<K> = DefaultHashBuilder, A: Allocator = 
 
 impl<K: Ord, V, S: KeyHasher<K>, A: Allocator> Model for Book<K, V, S, A> {
     ghost use Rattle.flurry_recorded.specs.Closing.{IsClosed, HasFault};
-ghost use Rattle.flurry_recorded.specs.Books.{BookContents, book_contents, IsBook};
+    ghost use Rattle.flurry_recorded.specs.Books.{BookContents, book_contents, IsBook};
 
     ghost Value = { BookContents K V S };
 
@@ -55,10 +55,7 @@ impl<K: Ord + Copy, V: Copy, S: KeyHasher<K>, A: Allocator + Copy> Book<K, V, S,
     /// # Errors
     ///
     /// [`AllocError`], where memory for the entry or for the map's call is wanting. The book is then as it was.
-    pub fn call(
-        &mut self,
-        call: KeptCall<K, V>,
-    ) -> Result<(usize, KeptReply<K, V>), AllocError>
+    pub fn call(&mut self, call: KeptCall<K, V>) -> Result<(usize, KeptReply<K, V>), AllocError>
         ensures ok { IfOk result (λ r. Appends K.cmp self.old call r.0 r.1 self.new) }
         ensures book { IsBook K.cmp self.old }
         ensures err { OnErr result (self.new ≡ self.old) }
@@ -103,16 +100,13 @@ impl<K: Ord + Copy, V: Copy, S: KeyHasher<K>, A: Allocator + Copy> Book<K, V, S,
     /// [`CloseFault::ReceiptsDiffer`]: the history has another call or another reply at the place of a receipt, or none.
     /// [`CloseFault::PlacesDiffer`]: a share's places do not ascend in the order of its receipts, or two receipts name one place.
     /// [`CloseFault::NoMemory`]: memory is wanting, which can be found before any of the others.
-    pub fn close(
-        self,
-        shares: Vec<Share<K, V, A>, A>,
-    ) -> Result<Closed<K, V, S, A>, CloseFault>
+    pub fn close(self, shares: Vec<Share<K, V, A>, A>) -> Result<Closed<K, V, S, A>, CloseFault>
     where
         V: PartialEq,
         S: Drop,
         ensures ok { IfOk result (λ c. (c.map ≡ self.contents) × (c.history.items ≡ self.history)
-            × IsClosed K.cmp ⟦<KeptCall<K, V> as PartialEq>⟧.eq ⟦<KeptReply<K, V> as PartialEq>⟧.eq
-            self.history self.contents.pairs shares.items) }
+            × IsClosed ⟦<KeptCall<K, V> as PartialEq>⟧.eq ⟦<KeptReply<K, V> as PartialEq>⟧.eq
+            K.cmp self.history self.contents.pairs shares.items) }
         ensures err { IfErr result
             (HasFault ⟦<KeptCall<K, V> as PartialEq>⟧.eq ⟦<KeptReply<K, V> as PartialEq>⟧.eq self shares.items) }
     {

@@ -1,8 +1,8 @@
 //! Whether shares fit a book. Each check is linear in the receipts and the history.
-ghost use Rattle.std.specs.Prelude.{◌≡◌, ◌++◌, ◌∷◌, List, ℕ, length, map, All, Decides, MatchBool, IfOk, IfErr, IsTrue};
+ghost use Rattle.std.specs.Prelude.{◌≡◌, ◌<◌, ◌++◌, ◌∷◌, [], List, ℕ, length, All, Decides, MatchBool, IfOk, IfErr};
 ghost use Rattle.std.specs.List.{list_all};
 ghost use Rattle.std.specs.List.Sorted.{IsStrictlyIncreasing};
-ghost use Rattle.flurry_recorded.specs.Closing.{AreNumbered, SharesStand, ReceiptsStand, PlacesStand, AreDistinct, all_receipts, places, is_kept};
+ghost use Rattle.flurry_recorded.specs.Closing.{AreNumbered, SharesStand, ReceiptsStand, PlacesStand, all_receipts, places, is_kept};
 ghost use Rattle.flurry_recorded.specs.Marks.{AreMarked, AreOnce};
 ghost use Rattle.flurry_recorded.specs.declared.closed.CloseFault.TheVariants.{NoMemory};
 
@@ -68,12 +68,9 @@ pub(crate) fn receipts_stand<K: Copy + PartialEq, V: Copy + PartialEq, A: Alloca
     ensures { Decides result (ReceiptsStand ⟦<KeptCall<K, V> as PartialEq>⟧.eq
         ⟦<KeptReply<K, V> as PartialEq>⟧.eq history.now shares.now) }
 {
-    for share in shares {
-        if !are_kept(history, share.receipts()) {
-            return false;
-        }
-    }
-    true
+    shares
+        .iter()
+        .all(|share| are_kept(history, share.receipts()))
 }
 
 // So for the receipts of one share.
@@ -84,12 +81,7 @@ fn are_kept<K: Copy + PartialEq, V: Copy + PartialEq>(
     ensures { result ≡ list_all (is_kept ⟦<KeptCall<K, V> as PartialEq>⟧.eq
         ⟦<KeptReply<K, V> as PartialEq>⟧.eq history.now) receipts.now }
 {
-    for receipt in receipts {
-        if !stands(history, receipt) {
-            return false;
-        }
-    }
-    true
+    receipts.iter().all(|receipt| stands(history, receipt))
 }
 
 // So for one receipt.

@@ -178,15 +178,12 @@ impl<K: Ord + Copy, V: Copy, S: KeyHasher<K>, A: Allocator + Copy> Recorded<K, V
     /// # Errors
     ///
     /// [`CloseFault`], as of [`Book::close`]. The map and the shares are then dropped.
-    pub fn close(
-        self,
-        shares: Vec<Share<K, V, A>, A>,
-    ) -> Result<Closed<K, V, S, A>, CloseFault>
+    pub fn close(self, shares: Vec<Share<K, V, A>, A>) -> Result<Closed<K, V, S, A>, CloseFault>
     where
         V: PartialEq,
         S: Drop,
-        ensures { IfOk result (λ c. IsClosed K.cmp ⟦<KeptCall<K, V> as PartialEq>⟧.eq
-            ⟦<KeptReply<K, V> as PartialEq>⟧.eq c.history.items c.map.pairs shares.items) }
+        ensures { IfOk result (λ c. IsClosed ⟦<KeptCall<K, V> as PartialEq>⟧.eq
+            ⟦<KeptReply<K, V> as PartialEq>⟧.eq K.cmp c.history.items c.map.pairs shares.items) }
     {
         self.book.into_inner().close(shares)
     }
