@@ -1,3 +1,4 @@
 pub mod HistoryLaws
 pub mod MarkLemmas
 pub mod PlaceLemmas
+pub mod ShareLemmas

@@ -1,8 +1,8 @@
 //! Whether shares fit a book. Each check is linear in the receipts and the history.
-ghost use Rattle.std.specs.Prelude.{◌≡◌, ◌<◌, ◌++◌, ◌∷◌, [], List, ℕ, length, All, Decides, MatchBool, IfOk, IfErr};
+ghost use Rattle.std.specs.Prelude.{◌≡◌, ◌<◌, ◌++◌, ◌∷◌, [], List, ℕ, length, map, All, Decides, MatchBool, IfOk, IfErr};
 ghost use Rattle.std.specs.List.{list_all};
 ghost use Rattle.std.specs.List.Sorted.{IsStrictlyIncreasing};
-ghost use Rattle.flurry_recorded.specs.Closing.{AreNumbered, SharesStand, ReceiptsStand, PlacesStand, all_receipts, places, is_kept};
+ghost use Rattle.flurry_recorded.specs.Closing.{AreNumbered, SharesStand, PlacesStand, all_receipts, places, is_kept};
 ghost use Rattle.flurry_recorded.specs.Marks.{AreMarked, AreOnce};
 ghost use Rattle.flurry_recorded.specs.declared.closed.CloseFault.TheVariants.{NoMemory};
 
@@ -37,12 +37,7 @@ fn are_numbered<K: Copy, V: Copy, A: Allocator + Copy>(
     ensures err { IfErr result (λ e. e ≡ NoMemory) }
 {
     let mut marks = new_marks(alloc, shares.len())?;
-    for share in shares {
-        if !mark(&mut marks, share.number()) {
-            return Ok(false);
-        }
-    }
-    Ok(true)
+    Ok(mark_numbers(&mut marks, shares))
 }
 
 // Whether the shares have so many receipts.
@@ -65,8 +60,8 @@ pub(crate) fn receipts_stand<K: Copy + PartialEq, V: Copy + PartialEq, A: Alloca
     history: &[KeptEntry<K, V>],
     shares: &[Share<K, V, A>],
 ) -> bool
-    ensures { Decides result (ReceiptsStand ⟦<KeptCall<K, V> as PartialEq>⟧.eq
-        ⟦<KeptReply<K, V> as PartialEq>⟧.eq history.now shares.now) }
+    ensures { result ≡ list_all (λ s. list_all (is_kept ⟦<KeptCall<K, V> as PartialEq>⟧.eq
+        ⟦<KeptReply<K, V> as PartialEq>⟧.eq history.now) s.receipts) shares.now }
 {
     shares
         .iter()
@@ -112,12 +107,7 @@ pub(crate) fn places_stand<K: Copy, V: Copy, A: Allocator + Copy>(
         return Ok(false);
     }
     let mut marks = new_marks(alloc, calls)?;
-    for share in shares {
-        if !mark_places(&mut marks, share.receipts()) {
-            return Ok(false);
-        }
-    }
-    Ok(true)
+    Ok(mark_shares(&mut marks, shares))
 }
 
 // Whether the places of each share ascend.
@@ -150,6 +140,38 @@ fn new_marks<A: Allocator>(alloc: A, count: usize) -> Result<Vec<bool, A>, Close
     ensures err { IfErr result (λ e. e ≡ NoMemory) }
 {
     Vec::from_elem(alloc, false, count).map_err(|_| CloseFault::NoMemory)
+}
+
+// Marks the number of each share, where none has a mark. Answers whether each is there and comes once.
+fn mark_numbers<K: Copy, V: Copy, A: Allocator>(
+    marks: &mut [bool],
+    shares: &[Share<K, V, A>],
+) -> bool
+    ensures { AreMarked marks.old [] → Decides result
+        (AreOnce (length marks.old) (map (λ s. s.number) shares.now)) }
+{
+    for share in shares {
+        if !mark(marks, share.number()) {
+            return false;
+        }
+    }
+    true
+}
+
+// Marks the place of each receipt of each share, where none has a mark. Answers whether each is there and comes once.
+fn mark_shares<K: Copy, V: Copy, A: Allocator>(
+    marks: &mut [bool],
+    shares: &[Share<K, V, A>],
+) -> bool
+    ensures { AreMarked marks.old [] → Decides result
+        (AreOnce (length marks.old) (places (all_receipts shares.now))) }
+{
+    for share in shares {
+        if !mark_places(marks, share.receipts()) {
+            return false;
+        }
+    }
+    true
 }
 
 // Marks the place of each receipt, in their order, up to one that is not there or has a mark. Answers whether there is none.
