@@ -4,7 +4,7 @@ use Rattle.std.specs.Prelude.{All, ◌==◌}
 use Rattle.std.proofs.Math.ListN.{set}
 use Rattle.std.proofs.lemmas.Bool.Decides.{Decides-eqb, Decides-ltb, not_from_Decides}
 use Rattle.std.proofs.lemmas.List.{get_or-set_same, get_or-set_other}
-use Rattle.std.proofs.lemmas.List.Sums.{sum_by-append}
+use Rattle.std.proofs.lemmas.List.Sums.{sum_by-append, sum_by-cons}
 use Rattle.flurry_recorded.specs.Closing.{times, AreDistinct}
 use Rattle.flurry_recorded.specs.Marks.{AreMarked, AreOnce}
 
@@ -20,7 +20,7 @@ times-append : (x : ℕ) (xs ys : List ℕ) → times x (xs ++ ys) ≡ times x x
 times-append x xs ys = sum_by-append (λ y. cond (y == x) 1 0) xs ys
 
 times_cons : (x y : ℕ) (ys : List ℕ) → times x (y ∷ ys) ≡ bit (y == x) + times x ys
-times_cons x y ys = times-append x (y ∷ []) ys
+times_cons x y ys = sum_by-cons (λ z. cond (z == x) 1 0) y ys
 
 times_same : (x : ℕ) (ys : List ℕ) → times x (x ∷ ys) ≡ times x ys + 1
 times_same x ys = omega (arith, times_cons x x ys, ap bit ((Decides-eqb x x).1 refl))

@@ -7,14 +7,17 @@ use Rattle.std.proofs.lemmas.List.{append-nil, map-append, take_all}
 use Rattle.std.proofs.lemmas.List.Folds.{list_all-append}
 use Rattle.std.proofs.lemmas.List.Sums.{AllPass-from_list_all, list_all-from_AllPass}
 use Rattle.std.proofs.lemmas.Option.{slice_get_within}
-use Rattle.flurry_recorded.specs.Closing.{all_receipts, places, is_kept}
+use Rattle.flurry_recorded.specs.Closing.{all_receipts, places, is_kept, AreNumbered, PlacesStand}
 use Rattle.flurry_recorded.specs.Marks.{AreMarked, AreOnce}
 use Rattle.flurry_recorded.specs.Shares.{ShareContents}
 use Rattle.flurry_recorded.specs.declared.kept.KeptCall.{KeptCall}
 use Rattle.flurry_recorded.specs.declared.kept.KeptEntry.{KeptEntry}
 use Rattle.flurry_recorded.specs.declared.share.Receipt.{Receipt}
 use Rattle.flurry_model.specs.declared.reply.KeptReply.{KeptReply}
-use Rattle.flurry_recorded.proofs.PlaceLemmas.{take_next, parted}
+use Rattle.flurry_recorded.proofs.PlaceLemmas.{take_next, parted, all_from_map}
+use Rattle.flurry_recorded.proofs.MarkLemmas.{once_from_distinct, distinct_from_once, below_from_once}
+use Rattle.std.specs.List.Sorted.{IsStrictlyIncreasing}
+use Rattle.std.proofs.lemmas.List.Elements.{All-map}
 
 -- The next of some shares is s, at i.
 module _ {K V : Type 0} (ss : List (ShareContents K V)) (i : ℕ) (s : ShareContents K V) (within : i < length ss) (is : s ≡ get_or ss i s) where
@@ -60,6 +63,28 @@ module _ {K V : Type 0} where
   pub marked_shares : (marks : List Bool) (ss : List (ShareContents K V)) (i : ℕ) → length ss ≤ i → AreMarked marks (places (all_receipts (take i ss))) → AreMarked marks (places (all_receipts ss))
   marked_shares marks ss i past marked = subst (λ l. AreMarked marks (places (all_receipts l))) (take_all i ss past) marked
 
+  -- the shares' numbers, by a test of their marks
+  pub numbered : (k n : ℕ) (ss : List (ShareContents K V)) (b : Bool) → k ≡ n → length ss ≡ n → Decides b (AreOnce k (map (λ (s : ShareContents K V). s.number) ss)) → Decides b (AreNumbered n ss)
+  numbered k n ss b count as_many tells =
+      let number = λ (s : ShareContents K V). s.number in (
+        (λ yes.
+            let once = subst (λ m. AreOnce m (map number ss)) count (tells.0 yes) in
+            (as_many, all_from_map number (λ x. x < n) ss (below_from_once n (map number ss) once), distinct_from_once n (map number ss) once)),
+        (λ stand.
+            tells.1 (subst (λ m. AreOnce m (map number ss)) (sym count) (once_from_distinct n (map number ss) stand.2 (All-map (λ x. x < n) number ss stand.1)))),
+      )
+
+  -- the places of their receipts, by a test of the marks
+  pub placed : (k n : ℕ) (ss : List (ShareContents K V)) (b : Bool) → k ≡ n → All (λ s. IsStrictlyIncreasing (places s.receipts)) ss → All (λ r. r.place < n) (all_receipts ss)
+      → Decides b (AreOnce k (places (all_receipts ss))) → Decides b (PlacesStand ss)
+  placed k n ss b count ascend within tells = (
+    (λ yes. record { ascend = ascend; once = distinct_from_once k (places (all_receipts ss)) (tells.0 yes) }),
+    (λ stand.
+        tells.1
+        (subst (λ m. AreOnce m (places (all_receipts ss))) (sym count)
+        (once_from_distinct n (places (all_receipts ss)) stand.once (All-map (λ x. x < n) (λ (r : Receipt K V). r.place) (all_receipts ss) within)))),
+  )
+
   module _ (p : Receipt K V → Bool) where
     tests_all : (ss : List (ShareContents K V)) → list_all (λ (s : ShareContents K V). list_all p s.receipts) ss ≡ list_all p (all_receipts ss)
     tests_all [] = refl
@@ -78,4 +103,4 @@ module _ {K V : Type 0} where
     where
       by_case : (r : Receipt K V) (o : Option (KeptEntry K V)) → slice_get history r.place ≡ o → IsTrue (is_kept same_call same_reply history r) → r.place < length history
       by_case r (Some e) is kept = slice_get_within history r.place e is
-      by_case r None is kept = absurd (rw is at kept)
+      by_case r None is kept = let never = rw is at kept in cc

@@ -5,7 +5,6 @@ use Rattle.std.specs.List.Sorted.{IsStrictlyIncreasing}
 use Rattle.std.specs.Option.{option_map_or}
 use Rattle.std.specs.declared.cmp.Ordering.{Ordering}
 use Rattle.flurry_model.specs.declared.reply.KeptReply.{KeptReply}
-use Rattle.flurry_recorded.specs.Books.{BookContents}
 use Rattle.flurry_recorded.specs.Histories.{Replays}
 use Rattle.flurry_recorded.specs.Shares.{ShareContents}
 use Rattle.flurry_recorded.specs.declared.closed.CloseFault.{CloseFault}
@@ -53,16 +52,20 @@ module _ {K V : Type 0} where
     abbrev pub ReceiptsStand : List (KeptEntry K V) → List (ShareContents K V) → Type 0
     ReceiptsStand history shares = All (λ r. IsTrue (is_kept history r)) (all_receipts shares)
 
-    -- what shares and a history are that were closed
-    pub record IsClosed (cmp : K → K → Ordering) (history : List (KeptEntry K V)) (pairs : List (K × V)) (shares : List (ShareContents K V)) : Type 0 where
-      pub replays : Replays cmp history pairs
-      pub stand : SharesStand (length shares) (length history) shares
+    -- shares without a fault
+    pub record AllStand (given : ℕ) (history : List (KeptEntry K V)) (shares : List (ShareContents K V)) : Type 0 where
+      pub stand : SharesStand given (length history) shares
       pub kept : ReceiptsStand history shares
       pub placed : PlacesStand shares
 
+    -- what shares and a history are that were closed
+    pub record IsClosed (cmp : K → K → Ordering) (history : List (KeptEntry K V)) (pairs : List (K × V)) (shares : List (ShareContents K V)) : Type 0 where
+      pub replays : Replays cmp history pairs
+      pub stand : AllStand (length shares) history shares
+
     -- the fault is the first that the shares have; that memory is wanting says nothing of them
-    abbrev pub HasFault : {S : Type 0} → BookContents K V S → List (ShareContents K V) → CloseFault → Type 0
-    HasFault b shares SharesDiffer = ¬ SharesStand (length b.shares) (length b.history) shares
-    HasFault b shares ReceiptsDiffer = SharesStand (length b.shares) (length b.history) shares × ¬ ReceiptsStand b.history shares
-    HasFault b shares PlacesDiffer = SharesStand (length b.shares) (length b.history) shares × ReceiptsStand b.history shares × ¬ PlacesStand shares
-    HasFault b shares NoMemory = Unit {0}
+    abbrev pub HasFault : ℕ → List (KeptEntry K V) → List (ShareContents K V) → CloseFault → Type 0
+    HasFault given history shares SharesDiffer = ¬ SharesStand given (length history) shares
+    HasFault given history shares ReceiptsDiffer = SharesStand given (length history) shares × ¬ ReceiptsStand history shares
+    HasFault given history shares PlacesDiffer = SharesStand given (length history) shares × ReceiptsStand history shares × ¬ PlacesStand shares
+    HasFault given history shares NoMemory = Unit {0}

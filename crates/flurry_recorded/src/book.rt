@@ -4,7 +4,7 @@ ghost use Rattle.flurry_seq.specs.Contents.{contents};
 ghost use Rattle.flurry_recorded.specs.Closing.{IsClosed, HasFault};
 ghost use Rattle.flurry_recorded.specs.Books.{book_contents, Appends, IsBook, IsRecorded};
 
-use crate::checks::{places_stand, receipts_stand, shares_stand};
+use crate::checks::first_fault;
 use crate::closed::{CloseFault, Closed};
 use crate::kept::{KeptCall, KeptEntry};
 use crate::replies::reply_to;
@@ -108,18 +108,11 @@ impl<K: Ord + Copy, V: Copy, S: KeyHasher<K>, A: Allocator + Copy> Book<K, V, S,
             × IsClosed ⟦<KeptCall<K, V> as PartialEq>⟧.eq ⟦<KeptReply<K, V> as PartialEq>⟧.eq
             K.cmp self.history self.contents.pairs shares.items) }
         ensures err { IfErr result
-            (HasFault ⟦<KeptCall<K, V> as PartialEq>⟧.eq ⟦<KeptReply<K, V> as PartialEq>⟧.eq self shares.items) }
+            (HasFault ⟦<KeptCall<K, V> as PartialEq>⟧.eq ⟦<KeptReply<K, V> as PartialEq>⟧.eq
+            (length self.shares) self.history shares.items) }
     {
         let alloc = *self.map.allocator();
-        if !shares_stand(alloc, self.shares.len(), self.history.len(), &shares)? {
-            return Err(CloseFault::SharesDiffer);
-        }
-        if !receipts_stand(&self.history, &shares) {
-            return Err(CloseFault::ReceiptsDiffer);
-        }
-        if !places_stand(alloc, self.history.len(), &shares)? {
-            return Err(CloseFault::PlacesDiffer);
-        }
+        first_fault(alloc, self.shares.len(), &self.history, &shares)?;
         let Book { map, history, .. } = self;
         Ok(Closed { map, history })
     }

@@ -1,8 +1,8 @@
 //! Whether shares fit a book. Each check is linear in the receipts and the history.
-ghost use Rattle.std.specs.Prelude.{◌≡◌, ◌<◌, ◌++◌, ◌∷◌, [], List, ℕ, length, map, All, Decides, MatchBool, IfOk, IfErr};
+ghost use Rattle.std.specs.Prelude.{◌≡◌, ◌<◌, ◌++◌, ◌∷◌, [], List, ℕ, length, map, All, Decides, MatchBool, OnOk, IfOk, IfErr};
 ghost use Rattle.std.specs.List.{list_all};
 ghost use Rattle.std.specs.List.Sorted.{IsStrictlyIncreasing};
-ghost use Rattle.flurry_recorded.specs.Closing.{AreNumbered, SharesStand, PlacesStand, all_receipts, places, is_kept};
+ghost use Rattle.flurry_recorded.specs.Closing.{AllStand, HasFault, AreNumbered, SharesStand, PlacesStand, all_receipts, places, is_kept};
 ghost use Rattle.flurry_recorded.specs.Marks.{AreMarked, AreOnce};
 ghost use Rattle.flurry_recorded.specs.declared.closed.CloseFault.TheVariants.{NoMemory};
 
@@ -12,8 +12,32 @@ use crate::share::{Receipt, Share};
 use flurry_model::reply::KeptReply;
 use std::alloc::Allocator;
 
+// Finds the first fault of the shares that are handed back, of those that were given.
+pub(crate) fn first_fault<K: Copy + PartialEq, V: Copy + PartialEq, A: Allocator + Copy>(
+    alloc: A,
+    given: usize,
+    history: &[KeptEntry<K, V>],
+    shares: &[Share<K, V, A>],
+) -> Result<(), CloseFault>
+    ensures ok { OnOk result (AllStand ⟦<KeptCall<K, V> as PartialEq>⟧.eq
+        ⟦<KeptReply<K, V> as PartialEq>⟧.eq given history.now shares.now) }
+    ensures err { IfErr result (HasFault ⟦<KeptCall<K, V> as PartialEq>⟧.eq
+        ⟦<KeptReply<K, V> as PartialEq>⟧.eq given history.now shares.now) }
+{
+    if !shares_stand(alloc, given, history.len(), shares)? {
+        return Err(CloseFault::SharesDiffer);
+    }
+    if !receipts_stand(history, shares) {
+        return Err(CloseFault::ReceiptsDiffer);
+    }
+    if !places_stand(alloc, history.len(), shares)? {
+        return Err(CloseFault::PlacesDiffer);
+    }
+    Ok(())
+}
+
 // Whether the shares are those that were given, each once, and have as many receipts as there are calls.
-pub(crate) fn shares_stand<K: Copy, V: Copy, A: Allocator + Copy>(
+fn shares_stand<K: Copy, V: Copy, A: Allocator + Copy>(
     alloc: A,
     given: usize,
     calls: usize,
@@ -56,27 +80,28 @@ fn have_receipts<K: Copy, V: Copy, A: Allocator>(calls: usize, shares: &[Share<K
 }
 
 // Whether the history has each receipt at its place.
-pub(crate) fn receipts_stand<K: Copy + PartialEq, V: Copy + PartialEq, A: Allocator>(
+fn receipts_stand<K: Copy + PartialEq, V: Copy + PartialEq, A: Allocator>(
     history: &[KeptEntry<K, V>],
     shares: &[Share<K, V, A>],
 ) -> bool
     ensures { result ≡ list_all (λ s. list_all (is_kept ⟦<KeptCall<K, V> as PartialEq>⟧.eq
         ⟦<KeptReply<K, V> as PartialEq>⟧.eq history.now) s.receipts) shares.now }
 {
-    shares
-        .iter()
-        .all(|share| are_kept(history, share.receipts()))
+    shares.iter().all(|share| are_kept(history, share))
 }
 
 // So for the receipts of one share.
-fn are_kept<K: Copy + PartialEq, V: Copy + PartialEq>(
+fn are_kept<K: Copy + PartialEq, V: Copy + PartialEq, A: Allocator>(
     history: &[KeptEntry<K, V>],
-    receipts: &[Receipt<K, V>],
+    share: &Share<K, V, A>,
 ) -> bool
     ensures { result ≡ list_all (is_kept ⟦<KeptCall<K, V> as PartialEq>⟧.eq
-        ⟦<KeptReply<K, V> as PartialEq>⟧.eq history.now) receipts.now }
+        ⟦<KeptReply<K, V> as PartialEq>⟧.eq history.now) share.now.receipts }
 {
-    receipts.iter().all(|receipt| stands(history, receipt))
+    share
+        .receipts()
+        .iter()
+        .all(|receipt| stands(history, receipt))
 }
 
 // So for one receipt.
@@ -94,7 +119,7 @@ fn stands<K: Copy + PartialEq, V: Copy + PartialEq>(
 }
 
 // Whether the places of each share ascend, and no two receipts name one of these places, all of which are below the number of calls.
-pub(crate) fn places_stand<K: Copy, V: Copy, A: Allocator + Copy>(
+fn places_stand<K: Copy, V: Copy, A: Allocator + Copy>(
     alloc: A,
     calls: usize,
     shares: &[Share<K, V, A>],
