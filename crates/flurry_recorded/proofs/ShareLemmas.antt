@@ -7,7 +7,10 @@ use Rattle.std.proofs.lemmas.List.{append-nil, map-append, take_all}
 use Rattle.std.proofs.lemmas.List.Folds.{list_all-append}
 use Rattle.std.proofs.lemmas.List.Sums.{AllPass-from_list_all, list_all-from_AllPass}
 use Rattle.std.proofs.lemmas.Option.{slice_get_within}
-use Rattle.flurry_recorded.specs.Closing.{all_receipts, places, is_kept, AreNumbered, PlacesStand}
+use Rattle.flurry_recorded.specs.Closing.{all_receipts, places, is_kept, AreNumbered, PlacesStand, HasFault, AllStand, IsClosed}
+use Rattle.flurry_recorded.specs.Histories.{Replays}
+use Rattle.flurry_recorded.specs.declared.closed.CloseFault.{CloseFault}
+use Rattle.std.specs.declared.cmp.Ordering.{Ordering}
 use Rattle.flurry_recorded.specs.Marks.{AreMarked, AreOnce}
 use Rattle.flurry_recorded.specs.Shares.{ShareContents}
 use Rattle.flurry_recorded.specs.declared.kept.KeptCall.{KeptCall}
@@ -104,3 +107,15 @@ module _ {K V : Type 0} where
       by_case : (r : Receipt K V) (o : Option (KeptEntry K V)) → slice_get history r.place ≡ o → IsTrue (is_kept same_call same_reply history r) → r.place < length history
       by_case r (Some e) is kept = slice_get_within history r.place e is
       by_case r None is kept = let never = rw is at kept in cc
+
+module _ {K V : Type 0} (same_call : KeptCall K V → KeptCall K V → Bool) (same_reply : KeptReply K V → KeptReply K V → Bool) where
+  -- a fault, told of equal lists
+  pub fault_of : (n m : ℕ) (h k : List (KeptEntry K V)) (ss ts : List (ShareContents K V)) (f : CloseFault) → n ≡ m → h ≡ k → ss ≡ ts → HasFault same_call same_reply n h ss f → HasFault same_call same_reply m k ts f
+  fault_of n m h k ss ts f same_n same_h same_s has =
+      subst (λ x. HasFault same_call same_reply x k ts f) same_n (subst (λ x. HasFault same_call same_reply n x ts f) same_h (subst (λ x. HasFault same_call same_reply n h x f) same_s has))
+
+  -- shares without a fault, and a history that replays
+  pub closed_of : (cmp : K → K → Ordering) (n : ℕ) (h k : List (KeptEntry K V)) (ss ts : List (ShareContents K V)) (pairs : List (K × V)) → h ≡ k → ss ≡ ts → AllStand same_call same_reply n h ss → Replays cmp k pairs → IsClosed same_call same_reply cmp k pairs ts
+  closed_of cmp n h k ss ts pairs same_h same_s all replays =
+      let here : AllStand same_call same_reply n k ts = subst (λ x. AllStand same_call same_reply n x ts) same_h (subst (λ x. AllStand same_call same_reply n h x) same_s all) in
+      record { replays = replays; stand = subst (λ m. AllStand same_call same_reply m k ts) (sym here.stand.numbered.0) here }

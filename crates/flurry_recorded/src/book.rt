@@ -112,7 +112,9 @@ impl<K: Ord + Copy, V: Copy, S: KeyHasher<K>, A: Allocator + Copy> Book<K, V, S,
             (length self.shares) self.history shares.items) }
     {
         let alloc = *self.map.allocator();
-        first_fault(alloc, self.shares.len(), &self.history, &shares)?;
+        if let Err(fault) = first_fault(alloc, self.shares.len(), &self.history, &shares) {
+            return Err(fault);
+        }
         let Book { map, history, .. } = self;
         Ok(Closed { map, history })
     }
