@@ -3,9 +3,11 @@
 //! [`SeqMap`] and [`SeqSet`] are the map and the set of one owner; more of them stands under [`seq_map`], [`calls`] and [`seq_iter`],
 //! [`seq_set`] and [`set_calls`]. Bins, hashers and sizes of tables are under [`bin`], [`hash`] and [`table`]. Of a map that threads
 //! share, the steps at one bin are under [`slots`], its control and one call in steps under [`steps`], and every interleaving of calls,
-//! run one step at a time, under [`world`]. [`HashMap`] is that map over locks, for threads.
+//! run one step at a time, under [`world`]. [`HashMap`] is that map over locks, for threads. Under [`recorded`] is an owned map that
+//! records the calls of its threads.
 #![tactic(auto)]
 
+pub mod recorded;
 pub mod slots;
 pub mod steps;
 pub mod world;
