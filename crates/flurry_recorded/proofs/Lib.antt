@@ -1,4 +1,3 @@
-pub mod Crossing
 pub mod HistoryLaws
 pub mod MarkLemmas
 pub mod PlaceLemmas

@@ -1,7 +1,7 @@
 -- The receipts of shares, one share after another.
-use Rattle.std.proofs.Common.{◌≡◌, ◌≤◌, ◌<◌, ◌+◌, ◌&&◌, ℕ, Bool, true, false, List, [], ◌∷◌, ◌++◌, get_or, length, map, take, drop, refl, sym, ap, subst, ◌∙◌, append_assoc, length-append, arith}
+use Rattle.std.proofs.Common.{◌≡◌, ◌≤◌, ◌<◌, ◌+◌, ◌&&◌, ℕ, Bool, true, false, List, [], ◌∷◌, ◌++◌, get_or, length, map, take, drop, refl, sym, ap, subst, ◌∙◌, length-append, arith}
 use Rattle.std.specs.Prelude.{All, IsTrue, Decides, slice_get, Option, Some, None}
-use Rattle.std.specs.List.{flat_map, list_all}
+use Rattle.std.specs.List.{list_all}
 use Rattle.std.proofs.lemmas.Grind.{flat_map-append}
 use Rattle.std.proofs.lemmas.List.{append-nil, map-append, take_all}
 use Rattle.std.proofs.lemmas.List.Folds.{list_all-append}

@@ -1,5 +1,5 @@
 -- When the shares that are handed back fit a book.
-use Rattle.std.specs.Prelude.{◌≡◌, ◌==◌, ◌≤◌, ◌<◌, ◌&&◌, ℕ, Bool, false, cond, List, map, length, count_by, All, slice_get, MatchOption, IsTrue}
+use Rattle.std.specs.Prelude.{◌≡◌, ◌==◌, ◌≤◌, ◌<◌, ◌&&◌, ℕ, Bool, false, List, map, length, count_by, All, slice_get, IsTrue}
 use Rattle.std.specs.List.{flat_map}
 use Rattle.std.specs.List.Sorted.{IsStrictlyIncreasing}
 use Rattle.std.specs.Option.{option_map_or}

@@ -1,5 +1,5 @@
 -- Numbers that are marked in a list of marks.
-use Rattle.std.specs.Prelude.{◌≡◌, ◌≤◌, ◌<◌, ℕ, Bool, true, false, cond, List, get_or, length, ltb}
+use Rattle.std.specs.Prelude.{◌≡◌, ◌≤◌, ℕ, Bool, false, cond, List, get_or, ltb}
 use Rattle.flurry_recorded.specs.Closing.{times}
 
 -- each number that has a mark stands in the list once, and no other does

@@ -1,5 +1,5 @@
 -- What a share of a recorded map is seen as.
-use Rattle.std.specs.Prelude.{ℕ, List, []}
+use Rattle.std.specs.Prelude.{ℕ, List}
 use Rattle.flurry_model.specs.declared.reply.KeptReply.{KeptReply}
 use Rattle.flurry_recorded.specs.declared.kept.KeptCall.{KeptCall}
 use Rattle.flurry_recorded.specs.declared.share.Receipt.{Receipt}

@@ -104,9 +104,9 @@ impl<K: Ord + Copy, V: Copy, S: KeyHasher<K>, A: Allocator + Copy> Book<K, V, S,
     where
         V: PartialEq,
         S: Drop,
-        ensures ok { IfOk result (λ c. (c.map ≡ self.contents) × (c.history.items ≡ self.history)
-            × IsClosed ⟦<KeptCall<K, V> as PartialEq>⟧.eq ⟦<KeptReply<K, V> as PartialEq>⟧.eq
-            K.cmp self.history self.contents.pairs shares.items) }
+        ensures parts { IfOk result (λ c. (c.map ≡ self.contents) × (c.history.items ≡ self.history)) }
+        ensures closed { IfOk result (λ c. IsClosed ⟦<KeptCall<K, V> as PartialEq>⟧.eq
+            ⟦<KeptReply<K, V> as PartialEq>⟧.eq K.cmp c.history.items c.map.pairs shares.items) }
         ensures err { IfErr result
             (HasFault ⟦<KeptCall<K, V> as PartialEq>⟧.eq ⟦<KeptReply<K, V> as PartialEq>⟧.eq
             (length self.shares) self.history shares.items) }

@@ -1,6 +1,5 @@
 //! The recorded map, which threads share.
 ghost use Rattle.std.specs.Prelude.{◌≡◌, [], OnErr, IfOk};
-ghost use Rattle.flurry_model.specs.FiniteMap.{IsFiniteMap};
 ghost use Rattle.flurry_recorded.specs.Books.{WasRecorded};
 ghost use Rattle.flurry_recorded.specs.Closing.{IsClosed};
 ghost use Rattle.flurry_recorded.specs.declared.kept.KeptCall.TheVariants as kept;

@@ -1,4 +1,4 @@
-use Rattle.std.proofs.Common.{[], length, refl, sym, ap, subst, ◌∙◌, arith}
+use Rattle.std.proofs.Common.{[], length, refl, sym, ap, subst, ◌∙◌}
 use Rattle.flurry_recorded.specs.Marks.{AreMarked}
 use Rattle.flurry_recorded.proofs.ShareLemmas.{numbered}
 use Rattle.flurry_recorded.proofs.checks.are_numbered.Goals as goal

@@ -1,5 +1,4 @@
-use Rattle.std.proofs.Common.{◌≡◌, length, ap, arith}
-use Rattle.flurry_recorded.specs.Shares.{ShareContents}
+use Rattle.std.proofs.Common.{length, ap, arith}
 use Rattle.flurry_recorded.proofs.ShareLemmas.{count_next, count_up_to}
 use Rattle.flurry_recorded.proofs.checks.have_receipts.Goals as goal
 

@@ -1,4 +1,4 @@
-use Rattle.std.proofs.Common.{[], length, refl, sym, ap, subst, ◌∙◌, arith}
+use Rattle.std.proofs.Common.{[], length, refl, sym, ap, subst, ◌∙◌}
 use Rattle.flurry_recorded.specs.Marks.{AreMarked}
 use Rattle.flurry_recorded.proofs.ShareLemmas.{placed}
 use Rattle.flurry_recorded.proofs.checks.places_stand.Goals as goal

@@ -1,5 +1,3 @@
-use Rattle.std.proofs.Common.{◌≡◌, ◌++◌, ◌∷◌, [], ap, ◌∙◌}
-use Rattle.flurry_recorded.specs.Books.{IsBook}
 use Rattle.flurry_recorded.proofs.HistoryLaws.{replays_more}
 use Rattle.flurry_recorded.proofs.book.Book.call.Goals as goal
 

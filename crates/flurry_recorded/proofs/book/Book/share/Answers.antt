@@ -1,4 +1,4 @@
-use Rattle.std.proofs.Common.{rules, ◌≡◌, ◌++◌, ◌∷◌, [], length}
+use Rattle.std.proofs.Common.{rules}
 use Rattle.flurry_recorded.proofs.HistoryLaws.{from_zero_more}
 use Rattle.flurry_recorded.proofs.book.Book.share.Goals as goal
 
