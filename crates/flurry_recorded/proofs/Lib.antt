@@ -1,3 +1,4 @@
+pub mod Crossing
 pub mod HistoryLaws
 pub mod MarkLemmas
 pub mod PlaceLemmas
