@@ -11,6 +11,7 @@ use std::process::Abort;
 
 // A recorded map of numbers, and a share of it.
 type Numbers = Recorded<u64, u64, LowHashBuilder>;
+
 type NumberShare = Share<u64, u64>;
 
 // Sees that a value is the one that is wanted. A test of many assertions calls this, since each `assert_eq!` that stands in it makes
