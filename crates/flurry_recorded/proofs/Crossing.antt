@@ -7,7 +7,7 @@ use Rattle.std.specs.declared.alloc.Allocator.{Ghosts}
 use Rattle.std.specs.declared.cmp.Ord as ord
 use Rattle.std.specs.declared.cmp.PartialEq as eq
 use Rattle.std.specs.declared.cmp.PartialOrd as partial
-use Rattle.flurry_bins.proofs.Crossing.{bin_send, bin_sync}
+use Rattle.flurry_bins.proofs.Crossing.{bin_send}
 use Rattle.flurry_model.specs.declared.hash.KeyHasher as hasher
 use Rattle.flurry_recorded.proofs.kept.KeptEntry.TheSendSync as entry
 use Rattle.flurry_recorded.proofs.share.Receipt.TheSendSync as receipt
@@ -20,9 +20,6 @@ use Rattle.flurry_seq.specs.contracts.seq_map.SeqMap as SeqMap
 
 module _ (K V S A : RattleType) (g : Ghosts A.Denot) (sk : IsSend K) (yk : IsSync K) (sv : IsSend V) (yv : IsSync V) (ss : IsSend S) (sa : IsSend A) (ya : IsSync A) (f : Frees g g.dealloc_token)
     (o : ord.Ghosts K.Denot) (e : eq.Ghosts K.Denot) (p : partial.Ghosts K.Denot) (h : hasher.Ghosts S.Denot K.Denot) where
-  receipt_send : IsSend (Receipt.the_field K V).row
-  receipt_send = receipt.the_field_send K V sk sv
-
   entry_send : IsSend (KeptEntry.the_field K V).row
   entry_send = entry.the_field_send K V sk sv
 
@@ -37,6 +34,10 @@ module _ (K V S A : RattleType) (g : Ghosts A.Denot) (sk : IsSend K) (yk : IsSyn
 
   pub recorded_sync : IsSync (Recorded.the_row K V S A o e p h g)
   recorded_sync = let b = book_send in search (mutex.the_sync, sendable) depth 60
+
+module _ (K V A : RattleType) (g : Ghosts A.Denot) (sk : IsSend K) (sv : IsSend V) (sa : IsSend A) (f : Frees g g.dealloc_token) where
+  receipt_send : IsSend (Receipt.the_field K V).row
+  receipt_send = receipt.the_field_send K V sk sv
 
   pub share_send : IsSend (Share.the_row K V A g)
   share_send = let r = receipt_send in search (crosses, sendable) depth 60

@@ -10,7 +10,9 @@ use std::sync::Wait;
 use std::test::Fail;
 
 type Memory = &'static Metered<Global>;
+
 type Numbers = Recorded<u64, u64, LowHashBuilder, Memory>;
+
 type NumberShare = Share<u64, u64, Memory>;
 
 // No call makes so many requests.
@@ -22,10 +24,7 @@ fn same_at<T: PartialEq + Debug + Drop>(rt: &impl Abort, k: u64, seen: T, wanted
 }
 
 // A map of the pair (7, 0), with the share that made it.
-fn map_with_share<R: Wait>(
-    rt: &R,
-    memory: Memory,
-) -> Result<(Numbers, NumberShare), AllocError> {
+fn map_with_share<R: Wait>(rt: &R, memory: Memory) -> Result<(Numbers, NumberShare), AllocError> {
     let map = Numbers::with_hasher(memory, LowHashBuilder);
     let mut share = map.share(rt)?;
     let _ = map.insert(rt, &mut share, 7, 0)?;
@@ -54,7 +53,12 @@ fn insertion_of_a_first_pair(rt: HostRuntime) -> Result<(), Fail> {
         let refused = memory.refused();
         memory.refuse_nothing();
         if !refused {
-            same_at(&rt, k, (k > 0, seen), (true, (Some(KeptReply::Value(None)), 1)));
+            same_at(
+                &rt,
+                k,
+                (k > 0, seen),
+                (true, (Some(KeptReply::Value(None)), 1)),
+            );
             return Ok(());
         }
         same_at(&rt, k, seen, (None, 0));
@@ -82,7 +86,11 @@ fn end_with_an_honest_share(rt: HostRuntime) -> Result<(), Fail> {
         let fault = map.close(shares).err();
         let refused = memory.refused();
         memory.refuse_nothing();
-        let wanted = if refused { Some(CloseFault::NoMemory) } else { None };
+        let wanted = if refused {
+            Some(CloseFault::NoMemory)
+        } else {
+            None
+        };
         same_at(&rt, k, (fault, memory.blocks()), (wanted, 0));
         if !refused {
             same_at(&rt, k, k > 0, true);
