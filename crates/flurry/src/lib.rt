@@ -4,7 +4,7 @@
 //! [`seq_set`] and [`set_calls`]. Bins, hashers and sizes of tables are under [`bin`], [`hash`] and [`table`]. Of a map that threads
 //! share, the steps at one bin are under [`slots`], its control and one call in steps under [`steps`], and every interleaving of calls,
 //! run one step at a time, under [`world`]. [`HashMap`] is that map over locks, for threads; its iterators are under
-//! [`iter`]. [`HashSet`] is the set over it.
+//! [`iter`].
 #![tactic(auto)]
 
 pub mod slots;
@@ -17,4 +17,3 @@ pub use flurry_model::hash::{DefaultHashBuilder, DefaultHasher};
 pub use flurry_model::{TryInsertError, hash};
 pub use flurry_seq::{SeqMap, calls, iter as seq_iter, seq_map};
 pub use flurry_set::{SeqSet, seq_set, set_calls};
-pub use flurry_shared_set::{HashSet, set};

@@ -1,5 +1,0 @@
-//! The shared set, as tests.
-#![tactic(auto)]
-
-#[cfg(test)]
-mod tests;
