@@ -1,5 +1,0 @@
-//! Walks of the shared map, and the calls that go over many pairs, as tests.
-#![tactic(auto)]
-
-#[cfg(test)]
-mod tests;
