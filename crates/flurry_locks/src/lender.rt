@@ -7,11 +7,12 @@ ghost use Rattle.flurry_locks.specs.Walking.{WalkTurn, WalksOrStays};
 use crate::locks::Locks;
 use crate::tables::Maker;
 use flurry_calls::Sweep;
-use flurry_slots::ComputeFn;
+use flurry_control::{PublishedTable, Tally};
+use flurry_slots::{ComputeFn, Slot};
 use flurry_steps::party::{Event, Want};
 use flurry_steps::{Field, Party};
 use std::alloc::{Allocator, Global};
-use std::sync::Wait;
+use std::sync::{Mutex, RwLock, Wait};
 
 /// Lends the parts of a shared map to the steps of a thread's calls. Each part is lent under its lock, which is held for one step.
 ///
@@ -28,6 +29,57 @@ impl<'m, R, K: Ord, V, A: Allocator> Lender<'m, R, K, V, A> {
     // The locks' parts are known by their types alone, so no clause speaks of them.
     pub fn new(rt: &'m R, locks: &'m Locks<K, V, A>) -> Self {
         Lender { rt, locks }
+    }
+
+    /// A further one for the same locks. Constant time.
+    pub fn again(&self) -> Self {
+        Lender {
+            rt: self.rt,
+            locks: self.locks,
+        }
+    }
+
+    /// The runtime by which it waits. Constant time.
+    pub fn runtime(&self) -> &'m R {
+        self.rt
+    }
+
+    /// The allocator that the tables and the pairs are of. Constant time.
+    pub fn allocator(&self) -> A
+    where
+        A: Copy,
+    {
+        self.locks.alloc
+    }
+
+    /// The number that was published last, as far as that is known without the control's lock; none where no table is known. Constant
+    /// time.
+    pub fn newest(&self) -> Option<&PublishedTable> {
+        self.locks.starts.newest()
+    }
+
+    /// The tally where a call of that hash counts a pair, and how many pairs may wait there before a call that put one looks at the
+    /// control's count. None where calls count at the control: where the table is small, and as long as a growth is due. Constant time.
+    pub fn tally(&self, hash: u64) -> Option<(&Mutex<Tally>, i64)> {
+        self.locks.control.tally(hash, self.locks.starts.newest())
+    }
+
+    /// The lock of the slot at that table and index, if the table was made and has it. Whoever takes it holds no lock of a slot of a
+    /// greater table or index, and does not wait for the control's while it does. Constant time.
+    pub fn slot(&self, table: u8, index: usize) -> Option<&RwLock<Slot<K, V, A>>> {
+        self.locks.tables.lock_of(table, index)
+    }
+}
+
+impl<'m, R: Wait, K: Ord, V, A: Allocator> Lender<'m, R, K, V, A> {
+    /// The count of pairs, at one moment while the call runs. Takes the control's lock, then that of each tally in turn.
+    pub fn len(&self) -> usize {
+        self.locks.control.lock(self.rt).len()
+    }
+
+    /// Counts so many pairs more, which are in the slots already. Takes the control's lock.
+    pub fn count(&self, pairs: i64) {
+        self.locks.control.lock(self.rt).count(pairs);
     }
 }
 

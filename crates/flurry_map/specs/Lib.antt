@@ -1,4 +1,1 @@
-pub mod Driven
 pub mod Placing
-pub mod Results
-pub mod Walks

@@ -59,30 +59,7 @@ impl<K: Ord + Drop, V: Drop, S: KeyHasher<K>, A: Allocator + Copy> HashMap<K, V,
     where
         V: PartialEq,
     {
-        if self.len(rt) != other.len(rt) {
-            return Ok(false);
-        }
-        let mut pairs = self.iter(rt);
-        for _ in rt.forever() {
-            let Some((key, value)) = pairs.next()? else {
-                return Ok(true);
-            };
-            if !other.has(rt, &key, &value)? {
-                return Ok(false);
-            }
-        }
-        unreachable!()
-    }
-
-    // Whether an equal value stands at the key.
-    fn has<R: Wait>(&self, rt: &R, key: &K, value: &V) -> Result<bool, AllocError>
-    where
-        V: PartialEq,
-    {
-        match self.get(rt, key)? {
-            Some(found) => Ok(*value == *found),
-            None => Ok(false),
-        }
+        self.pin(rt).equals(&other.pin(rt))
     }
 
     // Inserts pairs in their order.

@@ -1,13 +1,11 @@
 //! The map that threads share.
 //!
-//! Each call of a [`HashMap`] is a [`flurry_steps::Party`] that is driven over the locks of the map's parts: its steps are those that a
-//! world runs in any order.
+//! A [`HashMap`] has the locks of the map's parts and a hasher. Its calls are those of its view, a [`flurry_map_ref::HashMapRef`].
 #![tactic(auto)]
 
 mod bulk;
-pub mod iter;
 pub mod map;
 mod owned;
-mod retain;
 
+pub use flurry_map_ref::iter;
 pub use map::HashMap;

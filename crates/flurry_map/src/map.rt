@@ -1,27 +1,27 @@
 //! The shared map.
 ghost use Rattle.std.specs.Prelude.{◌≡◌, IfOk};
 ghost use Rattle.flurry_locks.specs.declared.tables.Maker.{Maker};
-ghost use Rattle.flurry_replies.specs.Answers.{CanAnswerFrom, CanAdd, CanCompute};
-ghost use Rattle.flurry_map.specs.Driven.{IsDriven, hash_in, no_changes};
-ghost use Rattle.flurry_map.specs.Results.{value_outcome, pair_outcome, added_outcome, ended_outcome};
+ghost use Rattle.flurry_replies.specs.Answers.{CanAdd, CanCompute};
+ghost use Rattle.flurry_map_ref.specs.Driven.{IsDriven, no_changes};
+ghost use Rattle.flurry_map_ref.specs.Walks.{Begins};
+ghost use Rattle.flurry_map_ref.specs.Results.{value_outcome, pair_outcome, added_outcome, ended_outcome};
 ghost use Rattle.flurry_model.specs.Hashing.{seed_of};
 ghost use Rattle.flurry_model.specs.declared.reply.KeptReply.TheVariants as kept;
 ghost use Rattle.flurry_slots.specs.ComputeFn.{AnswersAtPair};
 ghost use Rattle.flurry_calls.specs.Outcome.{OutcomeReply, OutcomeEnded};
 ghost use Rattle.flurry_calls.specs.Sweep.{Wipes, fresh_sweep};
-ghost use Rattle.flurry_steps.specs.Party.{TheValue, ThePair, Presence, Finds, Removes, Inserts, Adds, Computes, AtLocate, AtReserve, AtSweep};
-ghost use Rattle.flurry_calls.specs.OutcomeView.{outcome_of, pair_value};
-ghost use Rattle.flurry_steps.specs.PartyView.{CallIsReady, first_stage};
+ghost use Rattle.flurry_steps.specs.Party.{TheValue, ThePair, Presence, Finds, Removes, RemovesSeen, Inserts, Adds, Computes, AtLocate, AtReserve, AtSweep};
+ghost use Rattle.flurry_calls.specs.OutcomeView.{pair_value};
 ghost use Rattle.std.specs.Option.{option_map};
 ghost use Rattle.std.specs.Arc.{arc_value};
 
+use flurry_calls::Seen;
 use flurry_control::wanted_table;
 use flurry_locks::Locks;
+use flurry_map_ref::HashMapRef;
+use flurry_map_ref::iter::{Iter, Keys, Values};
 use flurry_model::hash::{DefaultHashBuilder, KeyHasher};
 use flurry_model::try_insert::TryInsertError;
-use flurry_replies::reply_to;
-use flurry_slots::{ComputeFn, NoFn};
-use flurry_steps::party::{Call, Reply};
 use std::alloc::{AllocError, Allocator, Global};
 use std::hash::Hash;
 use std::marker::Model;
@@ -44,7 +44,7 @@ pub struct HashMap<K: Ord, V, S: KeyHasher<K> = DefaultHashBuilder, A: Allocator
 }
 
 impl<K: Ord, V, S: KeyHasher<K>, A: Allocator> Model for HashMap<K, V, S, A> {
-    ghost use Rattle.flurry_map.specs.Driven.{Shared};
+    ghost use Rattle.flurry_map_ref.specs.Driven.{Shared};
 
     ghost Value = { Shared S };
 
@@ -109,12 +109,20 @@ impl<K: Ord + Drop, V: Drop, S: KeyHasher<K>, A: Allocator> HashMap<K, V, S, A> 
         }
     }
 
+    /// The view of the map by this runtime, whose calls need not be handed it. Constant time; takes no memory.
+    #[inline(always)]
+    pub fn pin<'m, R>(&'m self, rt: &'m R) -> HashMapRef<'m, R, K, V, S, A>
+        ensures { result ≡ self.now }
+    {
+        HashMapRef::new(rt, &self.locks, &self.hasher, self.processors)
+    }
+
     /// The number of pairs, as they are counted at one moment while the call runs: a call that has decided may yet have to count.
     ///
     /// Takes the control's lock, then that of each tally in turn. Constant time.
     // The count is known by its type alone, since other threads change it.
     pub fn len<R: Wait>(&self, rt: &R) -> usize {
-        self.locks.len(rt)
+        self.pin(rt).len()
     }
 
     /// Whether that number is 0.
@@ -161,12 +169,7 @@ impl<K: Ord + Drop, V: Drop, S: KeyHasher<K>, A: Allocator + Copy> HashMap<K, V,
         ensures { IsDriven (Maker K V A) K.cmp no_changes self.now (S.hash_of self.now.hasher key.now)
             (AtLocate (Finds TheValue key.now)) (value_outcome result) }
     {
-        let call: Call<'_, K, V, NoFn, A> = Call::Get(key);
-        match self.run(rt, call) {
-            Reply::Value(value) => Ok(value),
-            Reply::Refused => Err(AllocError),
-            _ => unreachable!(),
-        }
+        self.pin(rt).get(key)
     }
 
     /// Further owners of the stored key and of its value.
@@ -184,12 +187,7 @@ impl<K: Ord + Drop, V: Drop, S: KeyHasher<K>, A: Allocator + Copy> HashMap<K, V,
         ensures { IsDriven (Maker K V A) K.cmp no_changes self.now (S.hash_of self.now.hasher key.now)
             (AtLocate (Finds ThePair key.now)) (pair_outcome result) }
     {
-        let call: Call<'_, K, V, NoFn, A> = Call::GetKeyValue(key);
-        match self.run(rt, call) {
-            Reply::Pair(pair) => Ok(pair),
-            Reply::Refused => Err(AllocError),
-            _ => unreachable!(),
-        }
+        self.pin(rt).get_key_value(key)
     }
 
     /// Whether the map has the key. It takes no memory.
@@ -199,11 +197,7 @@ impl<K: Ord + Drop, V: Drop, S: KeyHasher<K>, A: Allocator + Copy> HashMap<K, V,
         ensures { IsDriven (Maker K V A) K.cmp (no_changes {K = K} {V = V}) self.now
             (S.hash_of self.now.hasher key.now) (AtLocate (Finds Presence key.now)) (OutcomeReply (kept.Contains result)) }
     {
-        let call: Call<'_, K, V, NoFn, A> = Call::ContainsKey(key);
-        match self.run(rt, call) {
-            Reply::Contains(found) => found,
-            _ => unreachable!(),
-        }
+        self.pin(rt).contains_key(key)
     }
 
     /// Takes the pair of a key out, and answers its value. The table stays as large as it is.
@@ -215,11 +209,7 @@ impl<K: Ord + Drop, V: Drop, S: KeyHasher<K>, A: Allocator + Copy> HashMap<K, V,
             (S.hash_of self.now.hasher key.now) (AtLocate (Removes TheValue key.now))
             (OutcomeReply (kept.Value (option_map arc_value result))) }
     {
-        let call: Call<'_, K, V, NoFn, A> = Call::Remove(key);
-        match self.run(rt, call) {
-            Reply::Value(value) => value,
-            _ => unreachable!(),
-        }
+        self.pin(rt).remove(key)
     }
 
     /// Takes the pair of a key out, and answers the stored key and the value. The table stays as large as it is.
@@ -230,11 +220,19 @@ impl<K: Ord + Drop, V: Drop, S: KeyHasher<K>, A: Allocator + Copy> HashMap<K, V,
             (S.hash_of self.now.hasher key.now) (AtLocate (Removes ThePair key.now))
             (OutcomeReply (kept.Pair (option_map pair_value result))) }
     {
-        let call: Call<'_, K, V, NoFn, A> = Call::RemoveEntry(key);
-        match self.run(rt, call) {
-            Reply::Pair(pair) => pair,
-            _ => unreachable!(),
-        }
+        self.pin(rt).remove_entry(key)
+    }
+
+    /// Takes a pair out that an iterator has read, if its value still stands as it was read: nobody has written or removed it since. Answers
+    /// that value, or none where it does not. The table stays as large as it is.
+    ///
+    /// Takes the locks that [`HashMap::remove`] takes, and no memory.
+    pub fn remove_seen<R: Wait>(&self, rt: &R, seen: Seen<K, V, A>) -> Option<Arc<V, A>>
+        ensures { IsDriven (Maker K V A) K.cmp (no_changes {K = K} {V = V}) self.now
+            (S.hash_of self.now.hasher seen.key) (AtLocate (RemovesSeen seen))
+            (OutcomeReply (kept.Value (option_map arc_value result))) }
+    {
+        self.pin(rt).remove_seen(seen)
     }
 
     /// Sets the value of a key, and answers the old one. A key that is stored stays, and the one that was handed in is dropped.
@@ -247,21 +245,11 @@ impl<K: Ord + Drop, V: Drop, S: KeyHasher<K>, A: Allocator + Copy> HashMap<K, V,
     ///
     /// [`AllocError`], where memory for the pair or for a first table is wanting. No pair is changed by the call then, and the key and
     /// the value are dropped.
-    pub fn insert<'s, R: Wait>(
-        &'s self,
-        rt: &R,
-        key: K,
-        value: V,
-    ) -> Result<Option<Arc<V, A>>, AllocError>
+    pub fn insert<R: Wait>(&self, rt: &R, key: K, value: V) -> Result<Option<Arc<V, A>>, AllocError>
         ensures { IsDriven (Maker K V A) K.cmp no_changes self.now (S.hash_of self.now.hasher key)
             (AtLocate (Inserts key value)) (value_outcome result) }
     {
-        let call: Call<'s, K, V, NoFn, A> = Call::Insert(key, value);
-        match self.run(rt, call) {
-            Reply::Value(value) => Ok(value),
-            Reply::Refused => Err(AllocError),
-            _ => unreachable!(),
-        }
+        self.pin(rt).insert(key, value)
     }
 
     /// Puts a value at an absent key, and answers a further owner of it. At a present key nothing changes: the error has the value that
@@ -273,8 +261,8 @@ impl<K: Ord + Drop, V: Drop, S: KeyHasher<K>, A: Allocator + Copy> HashMap<K, V,
     ///
     /// [`AllocError`], as of [`HashMap::insert`], and also where a further owner of the answered value is refused. No pair is changed
     /// by the call then, and the key and the value are dropped.
-    pub fn try_insert<'s, R: Wait>(
-        &'s self,
+    pub fn try_insert<R: Wait>(
+        &self,
         rt: &R,
         key: K,
         value: V,
@@ -283,13 +271,7 @@ impl<K: Ord + Drop, V: Drop, S: KeyHasher<K>, A: Allocator + Copy> HashMap<K, V,
             (S.hash_of self.now.hasher key) (AtLocate (Adds key value)) (added_outcome result) }
         ensures added { CanAdd {K = K} value (added_outcome result) }
     {
-        let call: Call<'s, K, V, NoFn, A> = Call::TryInsert(key, value);
-        match self.run(rt, call) {
-            Reply::New(value) => Ok(Ok(value)),
-            Reply::Exists(error) => Ok(Err(error)),
-            Reply::Refused => Err(AllocError),
-            _ => unreachable!(),
-        }
+        self.pin(rt).try_insert(key, value)
     }
 
     /// Calls a function at most once, on the stored key and the value of a key that is present; else it calls nothing, asks for no
@@ -314,11 +296,7 @@ impl<K: Ord + Drop, V: Drop, S: KeyHasher<K>, A: Allocator + Copy> HashMap<K, V,
             (S.hash_of self.now.hasher key.now) (AtLocate (Computes key.now f)) (value_outcome result) }
         ensures computed { CanCompute (AnswersAtPair F.FnOnce f) (value_outcome result) }
     {
-        match self.run(rt, Call::Compute(key, f)) {
-            Reply::Value(value) => Ok(value),
-            Reply::Refused => Err(AllocError),
-            _ => unreachable!(),
-        }
+        self.pin(rt).compute_if_present(key, f)
     }
 
     /// Makes the table large enough for so many more pairs than the map then counts, unless another growth runs: it ends then at once.
@@ -328,63 +306,80 @@ impl<K: Ord + Drop, V: Drop, S: KeyHasher<K>, A: Allocator + Copy> HashMap<K, V,
     /// # Errors
     ///
     /// [`AllocError`], where memory for a table is wanting. The pairs stay, and so do the doublings that were done.
-    pub fn reserve<'s, R: Wait>(&'s self, rt: &R, additional: usize) -> Result<(), AllocError>
+    pub fn reserve<R: Wait>(&self, rt: &R, additional: usize) -> Result<(), AllocError>
         ensures { IsDriven (Maker K V A) K.cmp (no_changes {K = K} {V = V}) self.now 0
             (AtReserve additional) (ended_outcome result) }
     {
-        let call: Call<'s, K, V, NoFn, A> = Call::Reserve(additional);
-        match self.run(rt, call) {
-            Reply::Ended => Ok(()),
-            Reply::Refused => Err(AllocError),
-            _ => unreachable!(),
-        }
+        self.pin(rt).reserve(additional)
     }
 
     /// Removes all pairs, one bin after another. Other calls may put pairs meanwhile, which stay where the clear has passed by.
     ///
     /// Linear time in the bins and pairs, and takes the lock of each bin in turn, and then the control's; takes no memory.
-    pub fn clear<'s, R: Wait>(&'s self, rt: &R)
+    pub fn clear<R: Wait>(&self, rt: &R)
         ensures { IsDriven (Maker K V A) K.cmp (no_changes {K = K} {V = V}) self.now 0
             (AtSweep (fresh_sweep (Wipes 0))) OutcomeEnded }
     {
-        let call: Call<'s, K, V, NoFn, A> = Call::Clear;
-        match self.run(rt, call) {
-            Reply::Ended => {}
-            _ => unreachable!(),
-        }
+        self.pin(rt).clear();
     }
 
-    // The hash of the key of a call; 0 where it has none.
-    #[inline]
-    fn hash_of<F>(&self, call: &Call<'_, K, V, F, A>) -> u64
-        ensures { result ≡ hash_in (S.hash_of self.now.hasher) call.now }
+    /// Calls a function on the stored key and the value of each pair that [`HashMap::iter`] gives, and removes those at which it answers
+    /// false. A pair whose value was written or removed since it was shown stays as it is.
+    ///
+    /// The function runs while no lock is held, so it may call this map. One look-up for each pair besides the walk; takes the locks of
+    /// the walk, and of [`HashMap::remove`].
+    ///
+    /// # Errors
+    ///
+    /// [`AllocError`], where a further owner is refused. The pairs that were removed before stay removed.
+    // Which pairs it finds and leaves, no clause can tell, since other threads change them meanwhile.
+    pub fn retain<F: FnMut(&K, &V) -> bool, R: Wait>(&self, rt: &R, f: F) -> Result<(), AllocError>
+    where
+        F: Drop,
+        requires { F.IsAlwaysCallable f }
     {
-        match call {
-            Call::Get(key)
-            | Call::GetKeyValue(key)
-            | Call::ContainsKey(key)
-            | Call::Remove(key)
-            | Call::RemoveEntry(key)
-            | Call::Compute(key, _) => self.hasher.hash_one(key),
-            Call::RemoveSeen(seen) => self.hasher.hash_one(seen.key()),
-            Call::Insert(key, _) | Call::TryInsert(key, _) => self.hasher.hash_one(key),
-            Call::Reserve(_) | Call::Clear | Call::Walk => 0,
-        }
+        self.pin(rt).retain(f)
     }
 
-    // Does the steps of a call over the locks. It is copied into each call, with its first steps, which then do not ask which call it is.
-    #[inline(always)]
-    pub(crate) fn run<F: ComputeFn<K, V>, R: Wait>(
+    /// The same as [`HashMap::retain`], but it removes whatever value then stands at the key.
+    ///
+    /// # Errors
+    ///
+    /// [`AllocError`], as of [`HashMap::retain`].
+    // As of `retain`.
+    pub fn retain_force<F: FnMut(&K, &V) -> bool, R: Wait>(
         &self,
         rt: &R,
-        call: Call<'_, K, V, F, A>,
-    ) -> Reply<K, V, A>
-        requires { CallIsReady F.can_change call }
-        ensures driven { IsDriven (Maker K V A) K.cmp F.changes self.now
-            (hash_in (S.hash_of self.now.hasher) call.entry) (first_stage call.entry) (outcome_of result) }
-        ensures answers { CanAnswerFrom F.changes (first_stage call.entry) (outcome_of result) }
+        f: F,
+    ) -> Result<(), AllocError>
+    where
+        F: Drop,
+        requires { F.IsAlwaysCallable f }
     {
-        let hash = self.hash_of(&call);
-        reply_to(rt, &self.locks, call, hash, self.processors)
+        self.pin(rt).retain_force(f)
+    }
+
+    /// The pairs, one after another, while other calls go on.
+    ///
+    /// Takes the control's lock, if no table is known to be published, and no memory. Constant time.
+    // Which pairs it gives, no clause can tell, since other threads change them meanwhile.
+    pub fn iter<'m, R: Wait>(&'m self, rt: &'m R) -> Iter<'m, R, K, V, A>
+        ensures { Begins K.cmp result }
+    {
+        self.pin(rt).iter()
+    }
+
+    /// The keys, as [`HashMap::iter`] gives the pairs.
+    pub fn keys<'m, R: Wait>(&'m self, rt: &'m R) -> Keys<'m, R, K, V, A>
+        ensures { Begins K.cmp result }
+    {
+        self.pin(rt).keys()
+    }
+
+    /// The values, as [`HashMap::iter`] gives the pairs.
+    pub fn values<'m, R: Wait>(&'m self, rt: &'m R) -> Values<'m, R, K, V, A>
+        ensures { Begins K.cmp result }
+    {
+        self.pin(rt).values()
     }
 }

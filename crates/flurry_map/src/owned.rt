@@ -6,7 +6,7 @@ ghost use Rattle.flurry_seq.specs.Invariant.{IsTableSize};
 
 use crate::HashMap;
 use flurry_bins::bin::Bin;
-use flurry_locks::Locks;
+use flurry_locks::{Lender, Locks};
 use flurry_model::hash::KeyHasher;
 use flurry_model::sizes::{MOST_BINS, MOST_PAIRS, TABLES};
 use flurry_seq::SeqMap;
@@ -37,9 +37,10 @@ impl<K: Ord + Drop, V: Drop, S: KeyHasher<K>, A: Allocator + Copy> HashMap<K, V,
         let Ok(locks) = Locks::with_table(alloc, table) else {
             return Err(map);
         };
-        locks.count(rt, map.len() as i64);
+        let lender = Lender::new(rt, &locks);
+        lender.count(map.len() as i64);
         let (bins, hasher) = map.into_bins();
-        put_bins(rt, &locks, table, bins);
+        put_bins(&lender, table, bins);
         Ok(HashMap::of_locks(locks, hasher))
     }
 
@@ -59,12 +60,45 @@ impl<K: Ord + Drop, V: Drop, S: KeyHasher<K>, A: Allocator + Copy> HashMap<K, V,
     {
         let pairs = self.len(rt);
         let HashMap { locks, hasher, .. } = self;
-        let mut map = SeqMap::with_capacity_and_hasher(*locks.allocator(), pairs, hasher)?;
-        for table in 0..TABLES {
-            add_table(rt, &locks, table as u8, &mut map)?;
-        }
-        Ok(map)
+        collect(&Lender::new(rt, &locks), pairs, hasher)
     }
+
+    /// A further map, of the pairs that are found while other calls go on, over the same hasher and for as many processors. It has a
+    /// table of its own, and shares the stored keys and the values.
+    ///
+    /// Takes the control's lock and that of each slot, one after another, to read. Linear time in the bins of all tables that were made
+    /// and in the pairs.
+    ///
+    /// # Errors
+    ///
+    /// [`AllocError`], where memory for a table, a node or a further owner is wanting.
+    // Which pairs it has, no clause can tell, since other threads change them meanwhile.
+    pub fn try_clone<R: Wait>(&self, rt: &R) -> Result<Self, AllocError>
+    where
+        S: Copy + Drop,
+        ensures { IfOk result (λ m. m ≡ self.now) }
+    {
+        let copy = collect(&Lender::new(rt, &self.locks), self.len(rt), self.hasher)?;
+        match HashMap::from_seq(rt, copy) {
+            Ok(map) => Ok(map.with_processors(self.processors)),
+            Err(_) => Err(AllocError),
+        }
+    }
+}
+
+// The pairs that stand under these locks, in a map of one owner that begins as one with room for so many.
+fn collect<K: Ord + Drop, V: Drop, S: KeyHasher<K> + Drop, A: Allocator + Copy, R: Wait>(
+    lender: &Lender<'_, R, K, V, A>,
+    pairs: usize,
+    hasher: S,
+) -> Result<SeqMap<K, V, S, A>, AllocError>
+    ensures { IfOk result (λ m. m.hasher ≡ hasher) }
+{
+    let mut map = SeqMap::with_capacity_and_hasher(lender.allocator(), pairs, hasher)?;
+    for table in 0..TABLES {
+        add_table(lender, table as u8, &mut map)?;
+    }
+    Ok(map)
 }
 
 // The exponent of a table of so many bins.
@@ -79,8 +113,7 @@ fn exponent(bins: usize) -> u8
 
 // Puts each bin into its slot of a table that has as many.
 fn put_bins<K: Ord + Drop, V: Drop, A: Allocator + Copy, R: Wait>(
-    rt: &R,
-    locks: &Locks<K, V, A>,
+    lender: &Lender<'_, R, K, V, A>,
     table: u8,
     bins: Vec<Bin<K, V, A>, A>,
 )
@@ -90,8 +123,8 @@ fn put_bins<K: Ord + Drop, V: Drop, A: Allocator + Copy, R: Wait>(
 {
     let mut index = 0;
     for bin in bins {
-        if let Some(slot) = locks.slot(table, index) {
-            *slot.write(rt) = Slot::live(table, index, bin);
+        if let Some(slot) = lender.slot(table, index) {
+            *slot.write(lender.runtime()) = Slot::live(table, index, bin);
         }
         index += 1;
     }
@@ -99,18 +132,17 @@ fn put_bins<K: Ord + Drop, V: Drop, A: Allocator + Copy, R: Wait>(
 
 // Adds the pairs of a table's live bins.
 fn add_table<K: Ord + Drop, V: Drop, S: KeyHasher<K>, A: Allocator + Copy, R: Wait>(
-    rt: &R,
-    locks: &Locks<K, V, A>,
+    lender: &Lender<'_, R, K, V, A>,
     table: u8,
     map: &mut SeqMap<K, V, S, A>,
 ) -> Result<(), AllocError>
     ensures { map.new.hasher ≡ map.old.hasher }
 {
     for index in 0..MOST_BINS {
-        let Some(slot) = locks.slot(table, index) else {
+        let Some(slot) = lender.slot(table, index) else {
             return Ok(());
         };
-        add_bin(&*slot.read(rt), map)?;
+        add_bin(&*slot.read(lender.runtime()), map)?;
     }
     Ok(())
 }

@@ -9,7 +9,7 @@ ghost use Rattle.flurry_steps.specs.PartyView.{CallIsReady, first_stage};
 
 use flurry_control::PublishedTable;
 use flurry_drive::drive;
-use flurry_locks::{Lender, Locks};
+use flurry_locks::Lender;
 use flurry_model::sizes::bin_index;
 use flurry_slots::ComputeFn;
 use flurry_steps::Party;
@@ -25,8 +25,7 @@ use std::sync::Wait;
 // made where these are all, or where the step at a tally is the last.
 #[inline(always)]
 pub fn reply_to<K: Ord + Drop, V: Drop, F: ComputeFn<K, V>, A: Allocator + Copy, R: Wait>(
-    rt: &R,
-    locks: &Locks<K, V, A>,
+    lender: &Lender<'_, R, K, V, A>,
     call: Call<'_, K, V, F, A>,
     hash: u64,
     processors: usize,
@@ -35,24 +34,23 @@ pub fn reply_to<K: Ord + Drop, V: Drop, F: ComputeFn<K, V>, A: Allocator + Copy,
     ensures { IsReplyOf (Maker K V A) K.cmp F.changes
         (record { hash = hash; processors = processors; stage = first_stage call.entry }) (outcome_of result) }
 {
-    let Some(start) = locks.newest() else {
-        return drive_call(rt, locks, call, hash, processors);
+    let Some(start) = lender.newest() else {
+        return drive_call(lender, call, hash, processors);
     };
     match &call {
         Call::Reserve(_) | Call::Clear | Call::Walk => {
-            return drive_call(rt, locks, call, hash, processors);
+            return drive_call(lender, call, hash, processors);
         }
         Call::Get(_) | Call::GetKeyValue(_) | Call::ContainsKey(_) => {
-            return look(rt, locks, start, call, hash, processors);
+            return look(lender, start, call, hash, processors);
         }
-        _ => return write(rt, locks, start, call, hash, processors),
+        _ => return write(lender, start, call, hash, processors),
     }
 }
 
 // The reply of a look-up, which begins at that table.
 fn look<K: Ord + Drop, V: Drop, F: ComputeFn<K, V>, A: Allocator + Copy, R: Wait>(
-    rt: &R,
-    locks: &Locks<K, V, A>,
+    lender: &Lender<'_, R, K, V, A>,
     start: &PublishedTable,
     call: Call<'_, K, V, F, A>,
     hash: u64,
@@ -65,20 +63,19 @@ fn look<K: Ord + Drop, V: Drop, F: ComputeFn<K, V>, A: Allocator + Copy, R: Wait
 {
     let table = start.table();
     let index = bin_index(hash, table);
-    if let Some(lock) = locks.slot(table, index) {
-        let slot = lock.read(rt);
+    if let Some(lock) = lender.slot(table, index) {
+        let slot = lock.read(lender.runtime());
         if slot.at() == (table, index) && slot.is_live() {
             return Party::look_first(call, hash, start, &*slot);
         }
     }
-    drive_call(rt, locks, call, hash, processors)
+    drive_call(lender, call, hash, processors)
 }
 
 // The reply of a call that may change its bin, which begins at that table.
 #[inline(always)]
 fn write<K: Ord + Drop, V: Drop, F: ComputeFn<K, V>, A: Allocator + Copy, R: Wait>(
-    rt: &R,
-    locks: &Locks<K, V, A>,
+    lender: &Lender<'_, R, K, V, A>,
     start: &PublishedTable,
     call: Call<'_, K, V, F, A>,
     hash: u64,
@@ -89,17 +86,16 @@ fn write<K: Ord + Drop, V: Drop, F: ComputeFn<K, V>, A: Allocator + Copy, R: Wai
     ensures { IsReplyOf (Maker K V A) K.cmp F.changes
         (record { hash = hash; processors = processors; stage = first_stage call.entry }) (outcome_of result) }
 {
-    match write_bin(rt, locks, start, call, hash) {
-        Ok(ending) => return end::<K, V, F, A, R>(rt, locks, ending, hash, processors),
-        Err(call) => return drive_call(rt, locks, call, hash, processors),
+    match write_bin(lender, start, call, hash) {
+        Ok(ending) => return end::<K, V, F, A, R>(lender, ending, hash, processors),
+        Err(call) => return drive_call(lender, call, hash, processors),
     }
 }
 
 // Its first two steps. A call that cannot begin so has done no step, and comes back.
 #[inline(always)]
 fn write_bin<'k, K: Ord + Drop, V: Drop, F: ComputeFn<K, V>, A: Allocator + Copy, R: Wait>(
-    rt: &R,
-    locks: &Locks<K, V, A>,
+    lender: &Lender<'_, R, K, V, A>,
     start: &PublishedTable,
     call: Call<'k, K, V, F, A>,
     hash: u64,
@@ -110,10 +106,10 @@ fn write_bin<'k, K: Ord + Drop, V: Drop, F: ComputeFn<K, V>, A: Allocator + Copy
 {
     let table = start.table();
     let index = bin_index(hash, table);
-    if let Some(lock) = locks.slot(table, index) {
-        let mut slot = lock.write(rt);
+    if let Some(lock) = lender.slot(table, index) {
+        let mut slot = lock.write(lender.runtime());
         if slot.at() == (table, index) && slot.is_live() {
-            return Ok(Party::write_first(call, hash, start, *locks.allocator(), &mut *slot));
+            return Ok(Party::write_first(call, hash, start, lender.allocator(), &mut *slot));
         }
     }
     Err(call)
@@ -122,8 +118,7 @@ fn write_bin<'k, K: Ord + Drop, V: Drop, F: ComputeFn<K, V>, A: Allocator + Copy
 // The reply of a call that has decided, or was refused.
 #[inline(always)]
 fn end<K: Ord + Drop, V: Drop, F: ComputeFn<K, V>, A: Allocator + Copy, R: Wait>(
-    rt: &R,
-    locks: &Locks<K, V, A>,
+    lender: &Lender<'_, R, K, V, A>,
     ending: Ending<K, V, A>,
     hash: u64,
     processors: usize,
@@ -133,15 +128,14 @@ fn end<K: Ord + Drop, V: Drop, F: ComputeFn<K, V>, A: Allocator + Copy, R: Wait>
 {
     match ending.into_reply() {
         Ok(reply) => return reply,
-        Err(ending) => return count::<K, V, F, A, R>(rt, locks, ending, hash, processors),
+        Err(ending) => return count::<K, V, F, A, R>(lender, ending, hash, processors),
     }
 }
 
 // The same of a call that has more to do: where it counts a pair next, and pairs may wait at a tally, it does so there.
 #[inline(always)]
 fn count<K: Ord + Drop, V: Drop, F: ComputeFn<K, V>, A: Allocator + Copy, R: Wait>(
-    rt: &R,
-    locks: &Locks<K, V, A>,
+    lender: &Lender<'_, R, K, V, A>,
     ending: Ending<K, V, A>,
     hash: u64,
     processors: usize,
@@ -150,24 +144,23 @@ fn count<K: Ord + Drop, V: Drop, F: ComputeFn<K, V>, A: Allocator + Copy, R: Wai
         (record { hash = hash; processors = processors; stage = ending_stage ending }) (outcome_of result) }
 {
     if ending.counts() {
-        if let Some((tally, most)) = locks.tally(hash) {
+        if let Some((tally, most)) = lender.tally(hash) {
             let mut counted = ending;
-            counted.on_tally::<F>(&mut *tally.lock(rt), most);
+            counted.on_tally::<F>(&mut *tally.lock(lender.runtime()), most);
             match counted.into_reply() {
                 Ok(reply) => return reply,
                 Err(ending) => return drive_ending::<K, V, F, A, R>(
-                    rt, locks, ending, hash, processors,
+                    lender, ending, hash, processors,
                 ),
             }
         }
     }
-    drive_ending::<K, V, F, A, R>(rt, locks, ending, hash, processors)
+    drive_ending::<K, V, F, A, R>(lender, ending, hash, processors)
 }
 
 // Does all steps of a call, one after another.
 fn drive_call<K: Ord + Drop, V: Drop, F: ComputeFn<K, V>, A: Allocator + Copy, R: Wait>(
-    rt: &R,
-    locks: &Locks<K, V, A>,
+    lender: &Lender<'_, R, K, V, A>,
     call: Call<'_, K, V, F, A>,
     hash: u64,
     processors: usize,
@@ -176,13 +169,12 @@ fn drive_call<K: Ord + Drop, V: Drop, F: ComputeFn<K, V>, A: Allocator + Copy, R
     ensures { IsReplyOf (Maker K V A) K.cmp F.changes
         (record { hash = hash; processors = processors; stage = first_stage call.entry }) (outcome_of result) }
 {
-    drive_party(rt, locks, Party::new(call, hash, processors))
+    drive_party(lender, Party::new(call, hash, processors))
 }
 
 // Does the steps that are left of a call that has decided.
 fn drive_ending<K: Ord + Drop, V: Drop, F: ComputeFn<K, V>, A: Allocator + Copy, R: Wait>(
-    rt: &R,
-    locks: &Locks<K, V, A>,
+    lender: &Lender<'_, R, K, V, A>,
     ending: Ending<K, V, A>,
     hash: u64,
     processors: usize,
@@ -190,20 +182,20 @@ fn drive_ending<K: Ord + Drop, V: Drop, F: ComputeFn<K, V>, A: Allocator + Copy,
     ensures { IsReplyOf (Maker K V A) K.cmp F.changes
         (record { hash = hash; processors = processors; stage = ending_stage ending }) (outcome_of result) }
 {
-    drive_party(rt, locks, ending.into_party::<F>(hash, processors))
+    drive_party(lender, ending.into_party::<F>(hash, processors))
 }
 
 // Does the steps that are left of a call, and answers its reply.
 fn drive_party<K: Ord + Drop, V: Drop, F: ComputeFn<K, V>, A: Allocator + Copy, R: Wait>(
-    rt: &R,
-    locks: &Locks<K, V, A>,
+    lender: &Lender<'_, R, K, V, A>,
     party: Party<'_, K, V, F, A>,
 ) -> Reply<K, V, A>
     requires { IsTaken party.stage → ⊥ }
     ensures { IsReplyOf (Maker K V A) K.cmp F.changes party.entry (outcome_of result) }
 {
     let mut party = party;
-    let mut lender = Lender::new(rt, locks);
+    let mut lender = lender.again();
+    let rt = lender.runtime();
     let reply = drive(rt, &mut party, &mut lender);
     drop(party);
     reply

@@ -39,7 +39,7 @@ module _ {K V : Type 0} {cmp : K → K → Ordering} (o : IsTotalOrder cmp) wher
           by_back false f = refl
 
   -- alike keys find the same
-  alike_at : (ps : List (K × V)) (q k : K) → cmp q k ≡ Equal → pair_at cmp ps q ≡ pair_at cmp ps k
+  pub alike_at : (ps : List (K × V)) (q k : K) → cmp q k ≡ Equal → pair_at cmp ps q ≡ pair_at cmp ps k
   alike_at [] q k e = refl
   alike_at (p ∷ ps) q k e = ap (λ r. cond (is_eq r) (Some p) (pair_at cmp ps q)) (o.congr q k p.0 e) ∙ ap (λ w. cond (is_eq (cmp k p.0)) (Some p) w) (alike_at ps q k e)
 

@@ -1,5 +1,6 @@
 pub mod CallLemmas
 pub mod CloneLemmas
+pub mod Crossing
 pub mod EqualityLemmas
 pub mod GrowthLemmas
 pub mod HalvingLemmas

@@ -111,6 +111,16 @@ impl<K: Ord + Drop, V: Drop, S: KeyHasher<K>, A: Allocator> SeqMap<K, V, S, A> {
         self.table.allocator()
     }
 
+    /// The hasher of the map.
+    ///
+    /// Constant time.
+    pub fn hasher(&self) -> &S
+        ensures same { result.now ≡ self.now.hasher }
+        ensures ascend { IsFiniteMap K.cmp self.now.pairs }
+    {
+        &self.hasher
+    }
+
     /// The number of pairs.
     ///
     /// Constant time.
@@ -336,6 +346,42 @@ impl<K: Ord + Drop, V: Drop, S: KeyHasher<K>, A: Allocator + Copy> SeqMap<K, V, 
             number: 0,
         };
         let node = Node::new(*self.allocator(), entry)?;
+        self.add(node)?;
+        Ok(None)
+    }
+
+    /// Sets the value of a key and answers the old one, as [`SeqMap::insert`] does, by a node that has both and is in no bin. It gives
+    /// the node the hash that the map's hasher has for the key. Where the key is present, the node is dropped.
+    ///
+    /// # Errors
+    ///
+    /// [`AllocError`], where memory for a first table is wanting, or where the map has [`MOST_PAIRS`] pairs. The map is then as it was,
+    /// and the node is dropped.
+    pub fn insert_node(
+        &mut self,
+        node: Box<Node<K, V, A>, A>,
+    ) -> Result<Option<Arc<V, A>>, AllocError>
+        requires number { (entry_of node.value).number ≡ 0 }
+        ensures old { let e = entry_of node.value in
+            IfOk result (λ old. option_map arc_value old ≡ value_at K.cmp self.old.pairs (arc_value e.key)) }
+        ensures pairs { let e = entry_of node.value in
+            OnOk result (self.new.pairs ≡ with_pair K.cmp self.old.pairs (arc_value e.key) (arc_value e.value)) }
+        ensures hasher { self.new.hasher ≡ self.old.hasher }
+        ensures bins { IfOk result (λ old. IsSome old → self.new.bins ≡ self.old.bins) }
+        ensures grown { IfOk result (λ old. IsNone old
+            → IsTableAfter (first_bins self.old.bins FIRST_BINS) (length self.new.pairs) self.new.bins) }
+        ensures err { OnErr result (self.new ≡ self.old) }
+        ensures ascend { IsFiniteMap K.cmp self.old.pairs }
+    {
+        let mut node = node;
+        let key = node.entry().key.as_ref();
+        let hash = self.hash_of(key);
+        if self.find(hash, key).is_some() {
+            let Entry { key, value, .. } = Box::into_inner(node).into_entry();
+            let old = self.swap_value(hash, key.as_ref(), value);
+            return Ok(Some(old));
+        }
+        node.rehash(hash);
         self.add(node)?;
         Ok(None)
     }

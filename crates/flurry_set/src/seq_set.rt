@@ -2,15 +2,18 @@
 ghost use Rattle.std.specs.Prelude.{◌≡◌, ℕ, ◌+◌, ◌≤◌, ◌^◌, ◌↔◌, ◌++◌, [], List, length, OnOk, OnErr, IfOk, IsTrue, IsSome, is_some, is_none, not, ◌==◌, if◌then◌else◌, IsPermutation};
 ghost use Rattle.std.specs.Option.{option_map};
 ghost use Rattle.std.specs.Arc.{arc_value};
+ghost use Rattle.flurry_bins.specs.Chain.{entry_of};
+ghost use Rattle.flurry_model.specs.FiniteMap.{IsFiniteMap};
 ghost use Rattle.flurry_model.specs.FiniteSet.{IsFiniteSet, element_at, with_element, with_elements, without_element, IsSubset, AreDisjoint};
 ghost use Rattle.flurry_model.specs.Hashing.{seed_of};
 ghost use Rattle.flurry_model.specs.Sizes.{wanted_of, IsGrown};
 ghost use Rattle.flurry_seq.specs.Contents.{first_bins, IsLeftByReserve};
 ghost use Rattle.flurry_seq.specs.Growth.{bins_for, IsTableFrom, IsTableAfter, HasRoom};
-ghost use Rattle.flurry_set.specs.SetContents.{set_contents, holding, SameElements, asked_for, sets_eq, sets_eq_per, sets_eq_equiv};
+ghost use Rattle.flurry_set.specs.SetContents.{keys_in, set_contents, holding, SameElements, asked_for, sets_eq, sets_eq_per, sets_eq_equiv};
 ghost use Rattle.flurry_set.specs.SetRetain.{RetainsElements};
 ghost use Rattle.flurry_model.specs.declared.sizes.TheConstants.{FIRST_BINS, MOST_PAIRS};
 
+use flurry_bins::bin::Node;
 use flurry_model::hash::{DefaultHashBuilder, KeyHasher};
 use flurry_seq::{Keys, SeqMap};
 use std::alloc::{AllocError, Allocator, Global};
@@ -79,6 +82,16 @@ impl<T: Ord + Drop, S: KeyHasher<T>, A: Allocator> SeqSet<T, S, A> {
         }
     }
 
+    /// The set of the keys of a map, in its table and over its hasher. Constant time; takes no memory.
+    ///
+    /// The keys of each map ascend, as each of its calls tells.
+    pub fn from_map(map: SeqMap<T, (), S, A>) -> Self
+        requires ascend { IsFiniteMap T.cmp map.pairs }
+        ensures { result ≡ keys_in map }
+    {
+        SeqSet { map }
+    }
+
     /// The allocator of the set.
     ///
     /// Constant time.
@@ -86,6 +99,16 @@ impl<T: Ord + Drop, S: KeyHasher<T>, A: Allocator> SeqSet<T, S, A> {
         ensures ascend { IsFiniteSet T.cmp self.now.elements }
     {
         self.map.allocator()
+    }
+
+    /// The hasher of the set.
+    ///
+    /// Constant time.
+    pub fn hasher(&self) -> &S
+        ensures same { result.now ≡ self.now.hasher }
+        ensures ascend { IsFiniteSet T.cmp self.now.elements }
+    {
+        self.map.hasher()
     }
 
     /// The number of elements.
@@ -250,6 +273,25 @@ impl<T: Ord + Drop, S: KeyHasher<T>, A: Allocator + Copy> SeqSet<T, S, A> {
         ensures ascend { IsFiniteSet T.cmp self.old.elements }
     {
         Ok(self.map.try_insert(element, ())?.is_ok())
+    }
+
+    /// Puts an element, as [`SeqSet::insert`] does, by a node that has it and is in no bin; see [`SeqMap::insert_node`].
+    ///
+    /// # Errors
+    ///
+    /// [`AllocError`], where memory for a first table is wanting, or where the set has [`flurry_seq::seq_map::MOST_PAIRS`] elements. The
+    /// set is then as it was, and the node is dropped.
+    pub fn insert_node(&mut self, node: Box<Node<T, (), A>, A>) -> Result<bool, AllocError>
+        requires number { (entry_of node.value).number ≡ 0 }
+        ensures new { let e = entry_of node.value in
+            IfOk result (λ new. new ≡ is_none (element_at T.cmp self.old.elements (arc_value e.key))) }
+        ensures elements { let e = entry_of node.value in
+            OnOk result (self.new.elements ≡ with_element T.cmp self.old.elements (arc_value e.key)) }
+        ensures hasher { self.new.hasher ≡ self.old.hasher }
+        ensures err { OnErr result (self.new ≡ self.old) }
+        ensures ascend { IsFiniteSet T.cmp self.old.elements }
+    {
+        Ok(self.map.insert_node(node)?.is_none())
     }
 
     /// Puts elements in their order: of a class that comes twice the first stays. Room is made first, for as many elements as the

@@ -65,25 +65,18 @@ impl<'k, K, V, F: ComputeFn<K, V>, A: Allocator> Model for Party<'k, K, V, F, A>
 }
 
 impl<'k, K, V, F: ComputeFn<K, V>, A: Allocator> Party<'k, K, V, F, A> {
-    // A call that does not go over all bins.
-    fn of_single(single: Single<'k, K, V, F, A>) -> Self
-        ensures { result ≡ single.entry }
-    {
-        Party {
-            course: Course::Single(single),
-        }
-    }
-
-    // A call of one key that stands there.
+    // A call that does not go over all bins and stands there.
     fn of_stage(stage: Stage<'k, K, V, F, A>, hash: u64, processors: usize) -> Self
         requires { StageIsReady F.can_change (stage_of stage) }
         ensures { result ≡ record { hash = hash; processors = processors; stage = stage_of stage.entry } }
     {
-        Party::of_single(Single {
-            hash,
-            processors,
-            stage,
-        })
+        Party {
+            course: Course::Single(Single {
+                hash,
+                processors,
+                stage,
+            }),
+        }
     }
 }
 
@@ -94,7 +87,7 @@ impl<'k, K: Drop, V: Drop, F: ComputeFn<K, V>, A: Allocator> Party<'k, K, V, F, 
     {
         match call {
             Keyless::Reserve(more) => {
-                return Party::of_single(Single::of_reserve(more, hash, processors));
+                return Party::of_stage(Stage::Reserve(more), hash, processors);
             }
             Keyless::Clear => {
                 return Party {
@@ -118,7 +111,7 @@ impl<'k, K: Drop, V: Drop, F: ComputeFn<K, V>, A: Allocator> Party<'k, K, V, F, 
         ensures { result ≡ record { hash = hash; processors = processors; stage = first_stage call.entry } }
     {
         match task_for(call) {
-            Ok(task) => return Party::of_single(Single::of_task(task, hash, processors)),
+            Ok(task) => return Party::of_stage(Stage::Locate(task), hash, processors),
             Err(call) => return Party::of_keyless(call, hash, processors),
         }
     }
@@ -131,7 +124,7 @@ impl<'k, K: Drop, V: Drop, F: ComputeFn<K, V>, A: Allocator> Party<'k, K, V, F, 
         ensures { result ≡ record { hash = hash; processors = processors; stage = owned_stage call } }
     {
         match task_of_owned(call) {
-            Ok(task) => return Party::of_single(Single::of_task(task, hash, processors)),
+            Ok(task) => return Party::of_stage(Stage::Locate(task), hash, processors),
             Err(call) => return Party::of_keyless(call, hash, processors),
         }
     }

@@ -129,6 +129,32 @@ fn list_keeps_order(rt: HostRuntime) {
     same(&rt, high.len(), 0);
 }
 
+// The key of a node, if there is one.
+fn key_of(node: Option<Box<Node<u64, u64>>>) -> Option<u64> {
+    match node {
+        Some(node) => Some(*node.entry().key),
+        None => None,
+    }
+}
+
+// A list hands out its nodes from the front on.
+#[test]
+fn nodes_of_a_list(rt: HostRuntime) {
+    let mut list = list_of(&rt, 2);
+    same(&rt, key_of(list.pop_front()), Some(0));
+    same(&rt, list.len(), 1);
+    same(&rt, key_of(list.pop_front()), Some(1));
+    same(&rt, key_of(list.pop_front()), None);
+    same(&rt, list.len(), 0);
+}
+
+#[test]
+fn a_node_with_another_hash(rt: HostRuntime) {
+    let mut lone = node(&rt, 3, 5u64);
+    lone.rehash(9);
+    same(&rt, (lone.entry().hash, *lone.entry().key), (9, 5));
+}
+
 #[test]
 fn tree_stays_shallow(rt: HostRuntime) {
     let mut tree = tree_of(&rt, 50_000);

@@ -4,10 +4,16 @@ mod calls;
 mod threads;
 
 use calls::put_all;
-use flurry_locks::Locks;
+use flurry_locks::{Lender, Locks};
 use std::alloc::Global;
 use std::test::Fail;
 use threads::{count_in_thread, put_in_threads};
+
+// The exponent of the table that was published last, as far as that is known.
+fn newest_of<R>(rt: &R, locks: &Locks<u64, u64, Global>) -> Option<u8> {
+    let lender = Lender::new(rt, locks);
+    lender.newest().map(|start| start.table())
+}
 
 // Counts that wait at tallies are in the length, and the table grows by them.
 #[test]
@@ -16,8 +22,8 @@ fn four_threads_put_pairs_in(rt: HostRuntime) -> Result<(), Fail> {
 
     put_in_threads(&rt, &locks, 500);
 
-    assert_eq!(rt; locks.len(&rt), 2000);
-    let newest = locks.newest().map(|start| start.table());
+    assert_eq!(rt; Lender::new(&rt, &locks).len(), 2000);
+    let newest = newest_of(&rt, &locks);
     assert_eq!(rt;
         newest,
         Some(12),
@@ -33,10 +39,10 @@ fn a_table_grows_between_lengths(rt: HostRuntime) -> Result<(), Fail> {
 
     for number in 0..2000u64 {
         put_all(&rt, &locks, number, number + 1);
-        assert_eq!(rt; locks.len(&rt) as u64, number + 1);
+        assert_eq!(rt; Lender::new(&rt, &locks).len() as u64, number + 1);
     }
 
-    let newest = locks.newest().map(|start| start.table());
+    let newest = newest_of(&rt, &locks);
     assert_eq!(rt; newest, Some(12));
     Ok(())
 }

@@ -1,5 +1,5 @@
 //! A bin that is a list.
-ghost use Rattle.std.specs.Prelude.{◌≡◌, ◌^◌, ◌+◌, ◌<◌, ◌≤◌, ◌++◌, ◌∷◌, [], length, map, reverse, Option, Some, None, IsSome, IsNone};
+ghost use Rattle.std.specs.Prelude.{◌≡◌, ◌^◌, ◌+◌, ◌<◌, ◌≤◌, ◌++◌, ◌∷◌, [], length, map, reverse, MatchOption, Option, Some, None, IsSome, IsNone};
 ghost use Rattle.std.specs.Option.{option_map, option_copied};
 ghost use Rattle.std.specs.Arc.{arc_value};
 ghost use Rattle.flurry_bins.specs.Entries.{IsAscending, IsAscending-prop, AllBefore, NotBefore, list_way, entry_at, first_past, lent_bound, with_entry, with_value_at};
@@ -70,6 +70,23 @@ impl<K: Ord, V, A: Allocator> ListBin<K, V, A> {
     {
         let ListBin { head, len } = self;
         (head, len)
+    }
+}
+
+impl<K: Ord + Drop, V: Drop, A: Allocator> ListBin<K, V, A> {
+    ghost use Rattle.flurry_bins.specs.Bin.{entries_of_list};
+
+    /// Takes out the first node, if there is one. Constant time.
+    pub fn pop_front(&mut self) -> Option<BoxedNode<K, V, A>>
+        ensures { MatchOption result
+            ((entries_of_list self.old ≡ []) × (entries_of_list self.new ≡ []))
+            (λ b. entries_of_list self.old ≡ entry_of b.value ∷ entries_of_list self.new) }
+    {
+        let node = self.head.take()?;
+        let (node, behind) = detach_tail(node);
+        self.head = behind;
+        self.len -= 1;
+        Some(node)
     }
 }
 

@@ -2,7 +2,7 @@
 ghost use Rattle.std.specs.Prelude.{◌≡◌, IfOk};
 ghost use Rattle.std.specs.Arc.{arc_value};
 ghost use Rattle.flurry_bins.specs.Chain.{entry_of, with_entry};
-ghost use Rattle.flurry_bins.specs.Entries.{with_value};
+ghost use Rattle.flurry_bins.specs.Entries.{with_hash, with_value};
 
 use super::entry::Entry;
 use std::alloc::{AllocError, Allocator, Global};
@@ -94,6 +94,14 @@ impl<K: Drop, V: Drop, A: Allocator> Node<K, V, A> {
         let entry = &mut self.entry;
         entry.number = number;
         mem::replace(&mut entry.value, value)
+    }
+
+    /// Gives the entry another hash. Constant time.
+    pub fn rehash(&mut self, hash: u64)
+        ensures { self.new ≡ with_entry self.old (with_hash (entry_of self.old) hash) }
+    {
+        let entry = &mut self.entry;
+        entry.hash = hash;
     }
 
     /// The entry, out of its node. Constant time.

@@ -6,11 +6,10 @@ ghost use Rattle.flurry_calls.specs.Part.{LookPart, BinPart, MovePart, ControlPa
 ghost use Rattle.flurry_calls.specs.PartView.{part_of_want};
 ghost use Rattle.flurry_calls.specs.OutcomeView.{outcome_of};
 ghost use Rattle.flurry_calls.specs.Sweep.{pair_seen};
-ghost use Rattle.flurry_steps.specs.Party.{locates, started_stage, taken_stage, wanted_part, with_stage, outcome_in, final_outcome, last_seen, steps_left, LooksUp, AtLocate, AtReserve, TaskIsReady};
+ghost use Rattle.flurry_steps.specs.Party.{locates, started_stage, taken_stage, wanted_part, with_stage, outcome_in, final_outcome, last_seen, steps_left, LooksUp};
 ghost use Rattle.flurry_steps.specs.PartyControl.{ControlStep};
 ghost use Rattle.flurry_steps.specs.PartySlots.{SlotStep, MoveStep};
 ghost use Rattle.flurry_steps.specs.PartyTally.{TallyStep, counts};
-ghost use Rattle.flurry_steps.specs.PartyView.{task_of};
 ghost use Rattle.flurry_model.specs.declared.sizes.TheConstants.{GREATEST_TABLE};
 
 use super::at_control::step_control;
@@ -49,29 +48,6 @@ impl<'k, K, V, F: ComputeFn<K, V>, A: Allocator> Model for Single<'k, K, V, F, A
 }
 
 impl<'k, K: Drop, V: Drop, F: ComputeFn<K, V>, A: Allocator> Single<'k, K, V, F, A> {
-    // One of one key, before its first step.
-    pub(super) fn of_task(task: Task<'k, K, V, F, A>, hash: u64, processors: usize) -> Self
-        requires { TaskIsReady F.can_change (task_of task) }
-        ensures { result ≡ record { hash = hash; processors = processors; stage = AtLocate (task_of task.entry) } }
-    {
-        Single {
-            hash,
-            processors,
-            stage: Stage::Locate(task),
-        }
-    }
-
-    // One that makes room for so many pairs more, before its first step.
-    pub(super) fn of_reserve(more: usize, hash: u64, processors: usize) -> Self
-        ensures { result ≡ record { hash = hash; processors = processors; stage = AtReserve more } }
-    {
-        Single {
-            hash,
-            processors,
-            stage: Stage::Reserve(more),
-        }
-    }
-
     // The part that the next step needs.
     #[inline]
     pub(super) fn want(&self) -> Want

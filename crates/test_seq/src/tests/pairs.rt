@@ -2,7 +2,8 @@
 
 use super::keys::{Backward, Number, Tagged};
 use super::{holds, insert_new, lent, puts, same, same_at, taken};
-use flurry_model::hash::{LowHashBuilder, ZeroHashBuilder};
+use flurry_bins::bin::Node;
+use flurry_model::hash::{KeyHasher, LowHashBuilder, ZeroHashBuilder};
 use flurry_model::try_insert::TryInsertError;
 use flurry_seq::SeqMap;
 use std::cell::Cell;
@@ -39,6 +40,18 @@ fn row_02(rt: HostRuntime) {
     same(&rt, lent(map.get(&"foo")), None);
     same(&rt, taken(map.remove(&"foo")), None);
     same(&rt, map.capacity(), 0);
+}
+
+// A node goes in under the hash that the map gives its key, and at a present key its value goes in alone.
+#[test]
+fn nodes_of_pairs(rt: HostRuntime) {
+    let mut map: SeqMap<u64, u64, LowHashBuilder> = SeqMap::with_hasher(rt.alloc(), LowHashBuilder);
+    for (value, old) in [(10, None), (20, Some(10))] {
+        let node = Node::of_pair(rt.alloc(), 77, 3, value, 0).expect(&rt, "memory");
+        same(&rt, taken(map.insert_node(node).expect(&rt, "memory")), old);
+    }
+    same(&rt, lent(map.get(&3)), Some(20));
+    same(&rt, (map.len(), map.hasher().hash_one(&3)), (1, 3));
 }
 
 // A function that answers none takes the pair out, and the table stays.

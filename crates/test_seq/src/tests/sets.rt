@@ -3,7 +3,9 @@
 use super::calls::text_of_numbers;
 use super::keys::Tagged;
 use super::{queue_of, same};
+use flurry_bins::bin::Node;
 use flurry_model::hash::{KeyHasher, LowHashBuilder, ZeroHashBuilder};
+use flurry_seq::SeqMap;
 use flurry_set::SeqSet;
 use flurry_set::set_calls::{SetCall, SetReply};
 use std::alloc::Global;
@@ -63,6 +65,19 @@ fn stored_elements_stay(rt: HostRuntime) {
     same(&rt, set.get(&second).map(|element| element.tag), Some(10));
     same(&rt, set.remove(&second), true);
     same(&rt, set.is_empty(), true);
+}
+
+// The set of a map's keys takes elements that come as nodes.
+#[test]
+fn elements_of_maps_and_nodes(rt: HostRuntime) {
+    let pairs = Vec::from_array(rt.alloc(), [(1u64, ()), (2, ())]).expect(&rt, "memory");
+    let map = SeqMap::from_list(rt.alloc(), pairs, LowHashBuilder).expect(&rt, "memory");
+    let mut set = SeqSet::from_map(map);
+    for is_new in [true, false] {
+        let node = Node::of_pair(rt.alloc(), 77, 3u64, (), 0).expect(&rt, "memory");
+        same(&rt, set.insert_node(node).expect(&rt, "memory"), is_new);
+    }
+    same(&rt, (set.len(), sum_of(&set)), (3, 6));
 }
 
 #[test]

@@ -1,0 +1,5 @@
+//! A map that records its calls, so that their replies can be audited once its threads have ended.
+
+pub use flurry_recorded::{
+    Book, CloseFault, Closed, KeptCall, KeptEntry, KeptReply, Receipt, Recorded, Share,
+};

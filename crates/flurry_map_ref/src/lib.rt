@@ -1,0 +1,12 @@
+//! Views of the map that threads share.
+//!
+//! Each call of a [`HashMapRef`] is a [`flurry_steps::Party`] that is driven over the locks of the map's parts: its steps are those that a
+//! world runs in any order.
+#![tactic(auto)]
+
+mod equality;
+pub mod iter;
+pub mod map_ref;
+mod retain;
+
+pub use map_ref::HashMapRef;

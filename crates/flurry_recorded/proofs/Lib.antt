@@ -1,0 +1,5 @@
+pub mod Crossing
+pub mod HistoryLaws
+pub mod MarkLemmas
+pub mod PlaceLemmas
+pub mod ShareLemmas

@@ -1,0 +1,82 @@
+//! What one caller of a recorded map keeps of its calls.
+ghost use Rattle.std.specs.Prelude.{◌≡◌, [], Some, None, is_some, MatchOption, slice_get, slice_set};
+ghost use Rattle.flurry_recorded.specs.Shares.{share_contents, with_receipts, receipt};
+
+use crate::kept::KeptCall;
+use flurry_model::reply::KeptReply;
+use std::alloc::{Allocator, Global};
+use std::marker::Model;
+
+/// What a caller keeps of one call.
+#[derive(Clone, Copy, Debug, PartialEq, Eq)]
+pub struct Receipt<K, V> {
+    /// The place of the call in the history, from 0 on.
+    pub place: usize,
+    /// The call.
+    pub call: KeptCall<K, V>,
+    /// What it replied to the caller.
+    pub reply: KeptReply<K, V>,
+}
+
+/// One caller's part in a recorded map: its number, and a receipt of each of its calls, in its order.
+#[derive(Drop)]
+pub struct Share<K, V, A: Allocator = Global> {
+    number: usize,
+    pub(crate) receipts: Vec<Receipt<K, V>, A>,
+}
+
+impl<K, V, A: Allocator> Model for Share<K, V, A> {
+    ghost use Rattle.flurry_recorded.specs.Shares.{ShareContents, share_contents};
+
+    ghost Value = { ShareContents K V };
+
+    ghost view = { λ s. share_contents s.number s.receipts.items };
+}
+
+impl<K: Copy, V: Copy, A: Allocator> Share<K, V, A> {
+    // A share of that number without a receipt.
+    pub(crate) fn new(alloc: A, number: usize) -> Self
+        ensures { result ≡ share_contents number [] }
+    {
+        Share {
+            number,
+            receipts: Vec::new(alloc),
+        }
+    }
+
+    /// The number of the share: shares of one map are numbered from 0 on.
+    ///
+    /// Constant time.
+    pub fn number(&self) -> usize
+        ensures { result ≡ self.now.number }
+    {
+        self.number
+    }
+
+    /// The receipts, in the order of the calls.
+    ///
+    /// Constant time.
+    pub fn receipts(&self) -> &[Receipt<K, V>]
+        ensures { result.now ≡ self.now.receipts }
+    {
+        &self.receipts
+    }
+
+    /// Puts another place and another reply into a receipt, which no call does: it is for tests of damage. Answers whether there is a
+    /// receipt of that index; if not, nothing changes.
+    ///
+    /// Constant time; takes no memory.
+    pub fn replace_receipt(&mut self, at: usize, place: usize, reply: KeptReply<K, V>) -> bool
+        ensures found { result ≡ is_some (slice_get self.old.receipts at) }
+        ensures after { MatchOption (slice_get self.old.receipts at) (self.new ≡ self.old)
+            (λ r. self.new ≡ with_receipts self.old
+            (slice_set self.old.receipts at (receipt place r.call reply))) }
+    {
+        if at >= self.receipts.len() {
+            return false;
+        }
+        let call = self.receipts[at].call;
+        self.receipts[at] = Receipt { place, call, reply };
+        true
+    }
+}

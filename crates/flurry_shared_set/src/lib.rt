@@ -1,0 +1,11 @@
+//! The set that threads share.
+//!
+//! A [`HashSet`] is a [`flurry_map::HashMap`] whose values tell nothing, and its view, a [`HashSetRef`], is written over the public calls of
+//! the map's view alone.
+#![tactic(auto)]
+
+pub mod set;
+pub mod set_ref;
+
+pub use set::HashSet;
+pub use set_ref::HashSetRef;
