@@ -1,0 +1,5 @@
+//! The shared set, as tests.
+#![tactic(auto)]
+
+#[cfg(test)]
+mod tests;

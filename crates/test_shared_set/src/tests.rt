@@ -1,0 +1,103 @@
+//! Tests of the shared set.
+
+use flurry_map::iter::Keys;
+use flurry_model::hash::LowHashBuilder;
+use flurry_shared_set::HashSet;
+use std::alloc::{AllocError, Allocator};
+use std::fmt::Debug;
+use std::process::Abort;
+use std::sync::Wait;
+use std::test::Fail;
+
+// The most elements that a walk of a test gives.
+const MOST_READ: u32 = 10_000;
+
+// Sees that a value is the one that is wanted. A test of many assertions calls this, since each `assert_eq!` that stands in it makes
+// its proof longer.
+fn same<T: PartialEq + Debug + Drop>(rt: &impl Abort, seen: T, wanted: T) {
+    assert_eq!(rt; seen, wanted);
+}
+
+// A set of the numbers of a list, each its own hash.
+fn set_of<A: Allocator + Copy, R: Wait>(
+    rt: &R,
+    alloc: A,
+    numbers: &[u64],
+) -> Result<HashSet<u64, LowHashBuilder, A>, AllocError> {
+    let set = HashSet::with_hasher(alloc, LowHashBuilder);
+    for number in numbers {
+        set.insert(rt, *number)?;
+    }
+    Ok(set)
+}
+
+// How many elements an iterator gives up to its end, and their sum.
+fn read_all<A: Allocator + Copy, R: Wait>(
+    elements: Keys<'_, R, u64, (), A>,
+) -> Result<(u64, u64), AllocError> {
+    let mut elements = elements;
+    let mut count = 0u64;
+    let mut sum = 0u64;
+    for _ in 0..MOST_READ {
+        let Some(element) = elements.next()? else {
+            break;
+        };
+        count = count.saturating_add(1);
+        sum = sum.saturating_add(*element);
+    }
+    Ok((count, sum))
+}
+
+// Puts two elements, of which one is there already, and finds them.
+fn puts_and_finds<A: Allocator + Copy, R: Abort + Wait>(
+    rt: &R,
+    set: &HashSet<u64, LowHashBuilder, A>,
+) -> Result<(), Fail> {
+    same(rt, set.insert(rt, 7)?, true);
+    same(rt, set.insert(rt, 7)?, false);
+    same(rt, set.insert(rt, 8)?, true);
+    same(rt, set.contains(rt, &7), true);
+    same(rt, set.contains(rt, &9), false);
+    same(rt, set.get(rt, &7)?.map(|element| *element), Some(7));
+    Ok(())
+}
+
+// Takes them out again.
+fn takes_out<A: Allocator + Copy, R: Abort + Wait>(rt: &R, set: &HashSet<u64, LowHashBuilder, A>) {
+    same(rt, set.take(rt, &7).map(|element| *element), Some(7));
+    same(rt, set.take(rt, &7).is_none(), true);
+    same(rt, set.remove(rt, &8), true);
+    same(rt, set.remove(rt, &8), false);
+}
+
+#[test]
+fn calls_of_one_element(rt: HostRuntime) -> Result<(), Fail> {
+    let set = set_of(&rt, rt.alloc(), &[])?;
+    same(&rt, set.is_empty(&rt), true);
+    puts_and_finds(&rt, &set)?;
+    same(&rt, set.len(&rt), 2);
+    takes_out(&rt, &set);
+    same(&rt, set.is_empty(&rt), true);
+    Ok(())
+}
+
+// Whether a set has so many elements of that sum.
+fn has_sums<A: Allocator + Copy, R: Abort + Wait>(
+    rt: &R,
+    set: &HashSet<u64, LowHashBuilder, A>,
+    wanted: (u64, u64),
+) -> Result<(), Fail> {
+    same(rt, read_all(set.iter(rt))?, wanted);
+    same(rt, set.len(rt) as u64, wanted.0);
+    Ok(())
+}
+
+#[test]
+fn calls_of_many_elements(rt: HostRuntime) -> Result<(), Fail> {
+    let set = set_of(&rt, rt.alloc(), &[0, 1, 2, 3, 4])?;
+    has_sums(&rt, &set, (5, 10))?;
+    set.retain(&rt, |element| *element % 2 == 0)?;
+    has_sums(&rt, &set, (3, 6))?;
+    set.clear(&rt);
+    has_sums(&rt, &set, (0, 0))
+}
