@@ -71,6 +71,13 @@ impl<'m, R, K: Ord, V, S: KeyHasher<K>, A: Allocator> HashMapRef<'m, R, K, V, S,
         self.lender.runtime()
     }
 
+    /// The number of processors that share the work of a growth; 0 counts as one. Constant time.
+    pub fn processors(&self) -> usize
+        ensures { result ≡ self.now.processors }
+    {
+        self.processors
+    }
+
     /// A further view of the same map. Constant time; takes no memory.
     pub fn again(&self) -> Self
         ensures { result ≡ self.now }

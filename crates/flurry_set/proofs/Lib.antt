@@ -1,1 +1,1 @@
-mod SetLemmas
+pub mod SetLemmas

@@ -288,6 +288,9 @@ impl<T: Ord + Drop, S: KeyHasher<T>, A: Allocator + Copy> SeqSet<T, S, A> {
         ensures elements { let e = entry_of node.value in
             OnOk result (self.new.elements ≡ with_element T.cmp self.old.elements (arc_value e.key)) }
         ensures hasher { self.new.hasher ≡ self.old.hasher }
+        ensures bins { IfOk result (λ new. IsTrue (not new) → self.new.bins ≡ self.old.bins) }
+        ensures grown { IfOk result (λ new. IsTrue new
+            → IsTableAfter (first_bins self.old.bins FIRST_BINS) (length self.new.elements) self.new.bins) }
         ensures err { OnErr result (self.new ≡ self.old) }
         ensures ascend { IsFiniteSet T.cmp self.old.elements }
     {

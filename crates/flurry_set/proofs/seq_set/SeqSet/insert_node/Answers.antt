@@ -1,5 +1,6 @@
 use Rattle.std.proofs.Common.{◌≡◌, Bool, true, false, Option, None, Some, is_some, not, refl, sym, ap, ◌∙◌}
 use Rattle.std.specs.Prelude.{is_none}
+use Rattle.std.proofs.lemmas.List.{length-map}
 use Rattle.std.specs.Arc.{arc_value}
 use Rattle.std.specs.Map.{keys_of}
 use Rattle.flurry_bins.specs.Chain.{entry_of}
@@ -31,3 +32,9 @@ returns-clause-elements g c =
     let e = entry_of c.args.node.value in
     rw (← c.self.view_is)
     (ap keys_of c.in_ok-insert_node.ensures.pairs ∙ sym (with_element-keys g.T.Ord.cmp c.self.inside.map.pairs (arc_value e.key) (arc_value e.value)))
+
+pub returns-clause-bins : goal.returns-clause-bins
+returns-clause-bins g c = λ stood. c.in_ok-insert_node.ensures.bins (c.is_none.ensures ∙ stood)
+
+pub returns-clause-grown : goal.returns-clause-grown
+returns-clause-grown g c = λ new. rw (← c.self.view_is, length-map) (c.in_ok-insert_node.ensures.grown (c.is_none.ensures ∙ ap not new))

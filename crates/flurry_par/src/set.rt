@@ -1,0 +1,113 @@
+//! The set of one owner, built in parallel.
+ghost use Rattle.std.specs.Prelude.{◌≡◌, [], IfOk, OnOk, OnErr, map};
+ghost use Rattle.std.specs.Map.{keys_of};
+ghost use Rattle.flurry_bins.specs.Bin.{entries_of_list};
+ghost use Rattle.flurry_model.specs.FiniteSet.{IsFiniteSet, with_elements};
+ghost use Rattle.flurry_par.specs.Joins.{HasFirstOf, HasAnyOf, pairs_in, pairs_of_bins, with_unit};
+ghost use Rattle.flurry_seq.specs.Numbers.{BearZero, BinsBearZero};
+
+use crate::map;
+use flurry_bins::bin::{Bin, ListBin, Ordered};
+use flurry_model::hash::KeyHasher;
+use flurry_set::SeqSet;
+use std::alloc::{AllocError, Allocator};
+use std::thread::Threads;
+
+// The elements as the keys of pairs.
+fn as_pairs<T: Drop, A: Allocator + Copy>(
+    alloc: A,
+    list: Vec<T, A>,
+) -> Result<Vec<(T, ()), A>, AllocError>
+    ensures { IfOk result (λ pairs. pairs.items ≡ map with_unit list.items) }
+{
+    let mut pairs = Vec::with_capacity(alloc, list.len())?;
+    for element in list {
+        pairs.push((element, ()))?;
+    }
+    Ok(pairs)
+}
+
+/// A set of elements over a hasher, as [`SeqSet::from_list`] makes it, built in parallel; see [`map::from_par_list`].
+///
+/// # Errors
+///
+/// [`AllocError`], where memory is wanting. The list is dropped.
+pub fn from_par_list<
+    T: Ord + Drop + Send + Sync,
+    S: KeyHasher<T> + Copy + Send + Sync,
+    A: Allocator + Copy + Send + Sync,
+>(
+    rt: &(impl Threads + Sync),
+    alloc: A,
+    list: Vec<T, A>,
+    hasher: S,
+    part: usize,
+) -> Result<SeqSet<T, S, A>, AllocError>
+    ensures made { IfOk result (λ s. (s.elements ≡ with_elements T.cmp [] list.items) × (s.hasher ≡ hasher)) }
+{
+    let pairs = as_pairs(alloc, list)?;
+    let map = map::from_par_list(rt, alloc, pairs, hasher, part)?;
+    Ok(SeqSet::from_map(map))
+}
+
+/// Puts elements, as [`SeqSet::extend`] does, of which `rayon`'s workers first make a set, as [`from_par_list`] does, whose elements are
+/// then moved.
+///
+/// # Errors
+///
+/// [`AllocError`], where memory is wanting. Where the set of the new elements is refused, the set is as it was; else it has some of
+/// them, and the others are dropped.
+pub fn par_extend<
+    T: Ord + Drop + Send + Sync,
+    S: KeyHasher<T> + Copy + Send + Sync,
+    A: Allocator + Copy + Send + Sync,
+>(
+    rt: &(impl Threads + Sync),
+    set: &mut SeqSet<T, S, A>,
+    list: Vec<T, A>,
+    part: usize,
+) -> Result<(), AllocError>
+    ensures ok { OnOk result (set.new.elements ≡ with_elements T.cmp set.old.elements list.items) }
+    ensures hasher { set.new.hasher ≡ set.old.hasher }
+    ensures err { OnErr result (HasAnyOf T.cmp set.old.elements (with_elements T.cmp [] list.items) set.new.elements) }
+    ensures ascend { IsFiniteSet T.cmp set.old.elements }
+{
+    let alloc = *set.allocator();
+    let pairs = as_pairs(alloc, list)?;
+    let built = map::from_par_list(rt, alloc, pairs, *set.hasher(), part)?;
+    let (bins, _) = built.into_bins();
+    join_bins(set, bins)
+}
+
+// Moves the elements of bins into a set.
+fn join_bins<T: Ord + Drop, S: KeyHasher<T>, A: Allocator + Copy>(
+    set: &mut SeqSet<T, S, A>,
+    bins: Vec<Bin<T, (), A>, A>,
+) -> Result<(), AllocError>
+    requires numbers { BinsBearZero bins.items }
+    ensures ok { OnOk result (set.new.elements ≡ with_elements T.cmp set.old.elements (keys_of (pairs_of_bins bins.items))) }
+    ensures hasher { set.new.hasher ≡ set.old.hasher }
+    ensures err { OnErr result (HasFirstOf T.cmp set.old.elements (keys_of (pairs_of_bins bins.items)) set.new.elements) }
+{
+    for bin in bins {
+        join_list(set, bin.into_list())?;
+    }
+    Ok(())
+}
+
+// Moves the elements of a bin's nodes into a set.
+fn join_list<T: Ord + Drop, S: KeyHasher<T>, A: Allocator + Copy>(
+    set: &mut SeqSet<T, S, A>,
+    list: ListBin<T, (), A>,
+) -> Result<(), AllocError>
+    requires numbers { BearZero (entries_of_list list) }
+    ensures ok { OnOk result (set.new.elements ≡ with_elements T.cmp set.old.elements (keys_of (pairs_in (entries_of_list list)))) }
+    ensures hasher { set.new.hasher ≡ set.old.hasher }
+    ensures err { OnErr result (HasFirstOf T.cmp set.old.elements (keys_of (pairs_in (entries_of_list list))) set.new.elements) }
+{
+    let mut rest = list;
+    while let Some(node) = rest.pop_front() {
+        set.insert_node(node)?;
+    }
+    Ok(())
+}

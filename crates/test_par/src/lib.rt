@@ -1,0 +1,5 @@
+//! Tests of maps and sets that are built in parallel.
+#![tactic(auto)]
+
+#[cfg(test)]
+mod tests;

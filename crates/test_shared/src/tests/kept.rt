@@ -1,0 +1,69 @@
+//! Keeping some of the pairs.
+
+use super::{has_sums, numbers, same, taken};
+use flurry_map::HashMap;
+use flurry_model::hash::LowHashBuilder;
+use std::process::Abort;
+use std::sync::Wait;
+use std::test::Fail;
+
+#[test]
+fn the_even_keys(rt: HostRuntime) -> Result<(), Fail> {
+    let map = numbers(&rt, rt.alloc(), 100);
+    map.retain(&rt, |key, _| *key % 2 == 0)?;
+    has_sums(&rt, &map, (50, 2450, 2450))?;
+    map.retain_force(&rt, |_, value| *value % 4 == 0)?;
+    has_sums(&rt, &map, (25, 1200, 1200))?;
+    map.retain(&rt, |_, _| false)?;
+    same(&rt, map.is_empty(&rt), true);
+    Ok(())
+}
+
+// Inserts a value for the key that is shown, and says that the pair is to go.
+fn write_and_refuse<R: Wait>(rt: &R, map: &HashMap<u64, u64, LowHashBuilder>, key: u64) -> bool {
+    map.insert(rt, key, 100).is_err()
+}
+
+// A value that was written since stays, and `retain_force` removes it.
+#[test]
+fn a_pair_that_is_written_meanwhile(rt: HostRuntime) -> Result<(), Fail> {
+    let map = numbers(&rt, rt.alloc(), 20);
+    map.retain(&rt, |key, _| write_and_refuse(&rt, &map, *key))?;
+    has_sums(&rt, &map, (20, 190, 2000))?;
+    map.retain_force(&rt, |key, _| write_and_refuse(&rt, &map, *key))?;
+    same(&rt, map.is_empty(&rt), true);
+    Ok(())
+}
+
+// A pair that is removed and put again meanwhile is another one.
+#[test]
+fn a_pair_that_is_put_again_meanwhile(rt: HostRuntime) -> Result<(), Fail> {
+    let map = numbers(&rt, rt.alloc(), 1);
+    map.retain(&rt, |key, value| {
+        map.remove(&rt, key).is_none() || map.insert(&rt, *key, *value).is_err()
+    })?;
+    same(&rt, taken(map.get(&rt, &0)?), Some(0));
+    Ok(())
+}
+
+// A pair goes as it was read, and once; one that was written since stays.
+#[test]
+fn pairs_as_they_were_read(rt: HostRuntime) -> Result<(), Fail> {
+    let map = numbers(&rt, rt.alloc(), 2);
+    let mut pairs = map.iter(&rt);
+    let Some(first) = pairs.next_seen()? else {
+        return Err(Fail::from("two pairs stand"));
+    };
+    let Some(second) = pairs.next_seen()? else {
+        return Err(Fail::from("two pairs stand"));
+    };
+    map.insert(&rt, *second.key(), 9)?;
+    same(
+        &rt,
+        taken(map.remove_seen(&rt, first.try_clone()?)),
+        Some(0),
+    );
+    same(&rt, map.remove_seen(&rt, first).is_none(), true);
+    same(&rt, map.remove_seen(&rt, second).is_none(), true);
+    has_sums(&rt, &map, (1, 1, 9))
+}

@@ -1,0 +1,45 @@
+//! The calls of a view.
+
+use super::{numbers, read_all, same, taken};
+use flurry_map::HashMap;
+use flurry_model::hash::LowHashBuilder;
+use std::test::Fail;
+
+#[test]
+fn calls_of_one_key(rt: HostRuntime) -> Result<(), Fail> {
+    let map: HashMap<u64, u64> = HashMap::new(rt.alloc());
+    let view = map.pin(&rt);
+    same(&rt, view.is_empty(), true);
+    same(&rt, taken(view.insert(7, 0)?), None);
+    same(&rt, taken(view.insert(7, 1)?), Some(0));
+    same(&rt, view.try_insert(7, 2)?.is_err(), true);
+    same(&rt, taken(view.get(&7)?), Some(1));
+    same(&rt, view.get_key_value(&7)?.is_some(), true);
+    let doubled = view.compute_if_present(&7, |_, value| value.checked_mul(2))?;
+    same(&rt, taken(doubled), Some(2));
+    same(&rt, (view.contains_key(&7), view.len()), (true, 1));
+    same(&rt, taken(view.remove(&7)), Some(2));
+    same(&rt, view.remove_entry(&7).is_none(), true);
+    same(&rt, map.is_empty(&rt), true);
+    Ok(())
+}
+
+// A further view is of the same map.
+#[test]
+fn calls_of_many_pairs(rt: HostRuntime) -> Result<(), Fail> {
+    let map = numbers(&rt, rt.alloc(), 10);
+    let view = map.pin(&rt);
+    let other = view.again();
+    view.reserve(100)?;
+    same(&rt, view.equals(&other)?, true);
+    other.retain(|key, _| *key < 5)?;
+    same(&rt, read_all(view.iter())?, (5, 10, 10));
+    other.retain_force(|key, _| *key < 2)?;
+    same(&rt, (view.len(), view.keys().next()?.is_some()), (2, true));
+    same(&rt, view.values().next()?.is_some(), true);
+    let empty = HashMap::with_hasher(rt.alloc(), LowHashBuilder);
+    same(&rt, view.equals(&empty.pin(&rt))?, false);
+    view.clear();
+    same(&rt, read_all(other.iter())?, (0, 0, 0));
+    Ok(())
+}

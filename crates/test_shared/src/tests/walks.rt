@@ -1,0 +1,132 @@
+//! Iterators in one thread.
+
+use super::{has_sums, insert_all, numbers, read_all, same, taken};
+use flurry_map::HashMap;
+use flurry_map::iter::{Keys, Values};
+use flurry_model::hash::{DefaultHashBuilder, KeyHasher, LowHashBuilder, ZeroHashBuilder};
+use std::alloc::{AllocError, Allocator};
+use std::process::Abort;
+use std::sync::Wait;
+use std::test::Fail;
+
+// The sum of the keys that are left.
+fn sum_of_keys<R: Wait>(keys: Keys<'_, R, u64, u64>) -> Result<u64, AllocError> {
+    let mut keys = keys;
+    let mut sum = 0u64;
+    for _ in 0..super::MOST_READ {
+        let Some(key) = keys.next()? else {
+            break;
+        };
+        sum = sum.saturating_add(*key);
+    }
+    Ok(sum)
+}
+
+// The sum of the values that are left.
+fn sum_of_values<R: Wait>(values: Values<'_, R, u64, u64>) -> Result<u64, AllocError> {
+    let mut values = values;
+    let mut sum = 0u64;
+    for _ in 0..super::MOST_READ {
+        let Some(value) = values.next()? else {
+            break;
+        };
+        sum = sum.saturating_add(*value);
+    }
+    Ok(sum)
+}
+
+#[test]
+fn keys_and_values(rt: HostRuntime) -> Result<(), Fail> {
+    let map = HashMap::with_hasher(rt.alloc(), ZeroHashBuilder);
+    for key in 0..100u64 {
+        map.insert(&rt, key, key.saturating_mul(2))?;
+    }
+    has_sums(&rt, &map, (100, 4950, 9900))?;
+    same(&rt, sum_of_keys(map.keys(&rt))?, 4950);
+    same(&rt, sum_of_values(map.values(&rt))?, 9900);
+    Ok(())
+}
+
+// Inserts so many keys, each with its own number, and walks over them.
+fn walk_over<S: KeyHasher<u64> + Drop, R: Abort + Wait>(
+    rt: &R,
+    map: HashMap<u64, u64, S>,
+    count: u64,
+) -> Result<(), Fail> {
+    same(rt, insert_all(rt, &map, 0, count), 0);
+    let sum = count.saturating_mul(count.saturating_sub(1)) / 2;
+    has_sums(rt, &map, (count, sum, sum))
+}
+
+// Maps without a table, of one bin that is a list or a tree, and of many bins.
+#[test]
+fn each_walk_gives_all_pairs(rt: HostRuntime) -> Result<(), Fail> {
+    for count in [0u64, 1, 9, 10, 1000] {
+        walk_over(
+            &rt,
+            HashMap::with_hasher(rt.alloc(), ZeroHashBuilder),
+            count,
+        )?;
+        walk_over(&rt, numbers(&rt, rt.alloc(), 0), count)?;
+    }
+    walk_over(
+        &rt,
+        HashMap::with_hasher(rt.alloc(), DefaultHashBuilder::with_seed(5)),
+        50_000,
+    )
+}
+
+// What a walk gives that was made before the first table, though there are pairs then.
+pub(super) fn sums_of_later_pairs<A: Allocator + Copy, R: Wait>(
+    rt: &R,
+    map: &HashMap<u64, u64, LowHashBuilder, A>,
+) -> Result<(u64, u64, u64), AllocError> {
+    let pairs = map.iter(rt);
+    insert_all(rt, map, 0, 10);
+    read_all(pairs)
+}
+
+#[test]
+fn a_walk_without_a_table(rt: HostRuntime) -> Result<(), Fail> {
+    let map = numbers(&rt, rt.alloc(), 0);
+    same(&rt, sums_of_later_pairs(&rt, &map)?, (0, 0, 0));
+    has_sums(&rt, &map, (10, 45, 45))
+}
+
+#[test]
+fn a_walk_that_has_ended(rt: HostRuntime) -> Result<(), Fail> {
+    let map = numbers(&rt, rt.alloc(), 1);
+    let mut pairs = map.iter(&rt);
+    same(&rt, pairs.next()?.is_some(), true);
+    same(&rt, pairs.next()?.is_none(), true);
+    insert_all(&rt, &map, 1, 100);
+    same(&rt, pairs.next()?.is_none(), true);
+    Ok(())
+}
+
+// What it gave stays with its owner, and what is written or removed before it comes there is seen so.
+#[test]
+fn a_walk_sees_what_stands(rt: HostRuntime) -> Result<(), Fail> {
+    let map = numbers(&rt, rt.alloc(), 4);
+    let mut pairs = map.iter(&rt);
+    let Some((key, value)) = pairs.next()? else {
+        return Err(Fail::from("there are pairs"));
+    };
+    same(&rt, (*key, *value), (0, 0));
+    same(&rt, taken(map.insert(&rt, 0, 7)?), Some(0));
+    same(&rt, taken(map.insert(&rt, 1, 8)?), Some(1));
+    same(&rt, taken(map.remove(&rt, &2)), Some(2));
+    same(&rt, *value, 0);
+    same(
+        &rt,
+        pairs.next()?.map(|pair| (*pair.0, *pair.1)),
+        Some((1, 8)),
+    );
+    same(
+        &rt,
+        pairs.next()?.map(|pair| (*pair.0, *pair.1)),
+        Some((3, 3)),
+    );
+    same(&rt, pairs.next()?.is_none(), true);
+    Ok(())
+}
