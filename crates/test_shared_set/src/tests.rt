@@ -1,4 +1,9 @@
-//! Tests of the shared set.
+//! Tests of the shared set, and what they share.
+
+mod made;
+mod refused;
+mod relations;
+mod views;
 
 use flurry_map::iter::Keys;
 use flurry_model::hash::LowHashBuilder;
@@ -100,4 +105,38 @@ fn calls_of_many_elements(rt: HostRuntime) -> Result<(), Fail> {
     has_sums(&rt, &set, (3, 6))?;
     set.clear(&rt);
     has_sums(&rt, &set, (0, 0))
+}
+
+// Removes the odd elements and the element 0. While a walk shows the 4, it is removed and put again.
+fn keeps_what_is_put_again<A: Allocator + Copy, R: Wait>(
+    rt: &R,
+    set: &HashSet<u64, LowHashBuilder, A>,
+) -> Result<(), AllocError> {
+    set.retain(rt, |element| {
+        *element == 4 && set.remove(rt, element) && set.insert(rt, 4).is_err() || *element == 2
+    })
+}
+
+// An element that is removed and put again meanwhile stays.
+#[test]
+fn elements_are_kept(rt: HostRuntime) -> Result<(), Fail> {
+    let set = set_of(&rt, rt.alloc(), &[0, 1, 2, 3, 4])?;
+    keeps_what_is_put_again(&rt, &set)?;
+    has_sums(&rt, &set, (2, 6))
+}
+
+// The list of the numbers from the first one on to the last but one.
+fn list<A: Allocator + Copy>(alloc: A, from: u64, to: u64) -> Result<Vec<u64, A>, AllocError> {
+    let mut list = Vec::new(alloc);
+    for number in from..to {
+        list.push(number)?;
+    }
+    Ok(list)
+}
+
+#[test]
+fn a_list_of_a_hundred(rt: HostRuntime) -> Result<(), Fail> {
+    let set = set_of(&rt, rt.alloc(), &[0, 1])?;
+    set.extend(&rt, list(rt.alloc(), 0, 100)?)?;
+    has_sums(&rt, &set, (100, 4950))
 }

@@ -1,0 +1,81 @@
+//! How sets are made.
+
+use super::{has_sums, list, same, set_of};
+use flurry_model::hash::{KeyHasher, LowHashBuilder, ZeroHashBuilder};
+use flurry_shared_set::HashSet;
+use std::alloc::{AllocError, Allocator};
+use std::process::Abort;
+use std::sync::Wait;
+use std::test::Fail;
+
+// Puts one number into a set that has none, and finds it there.
+fn takes_one<A: Allocator + Copy, R: Abort + Wait>(
+    rt: &R,
+    set: &HashSet<u64, LowHashBuilder, A>,
+) -> Result<(), Fail> {
+    has_sums(rt, set, (0, 0))?;
+    set.insert(rt, 5)?;
+    has_sums(rt, set, (1, 5))
+}
+
+#[test]
+fn sets_with_room(rt: HostRuntime) -> Result<(), Fail> {
+    takes_one(
+        &rt,
+        &HashSet::with_capacity_and_hasher(rt.alloc(), 100, LowHashBuilder)?,
+    )?;
+    takes_one(
+        &rt,
+        &HashSet::with_capacity_and_hasher(rt.alloc(), 0, LowHashBuilder)?,
+    )?;
+    takes_one(
+        &rt,
+        &HashSet::from_list(&rt, Vec::new(rt.alloc()), LowHashBuilder)?,
+    )
+}
+
+// Whether a set is empty until a number is put.
+fn is_empty_at_first<S: KeyHasher<u64>, A: Allocator + Copy, R: Wait>(
+    rt: &R,
+    set: &HashSet<u64, S, A>,
+) -> Result<bool, AllocError> {
+    Ok(set.is_empty(rt) && set.insert(rt, 1)? && !set.is_empty(rt))
+}
+
+#[test]
+fn sets_of_other_hashers(rt: HostRuntime) -> Result<(), Fail> {
+    let plain: HashSet<u64> = HashSet::new(rt.alloc());
+    let sized: HashSet<u64> = HashSet::with_capacity(rt.alloc(), 100)?;
+    let single = HashSet::with_hasher(rt.alloc(), ZeroHashBuilder);
+    same(&rt, is_empty_at_first(&rt, &plain)?, true);
+    same(&rt, is_empty_at_first(&rt, &sized)?, true);
+    same(&rt, is_empty_at_first(&rt, &single)?, true);
+    Ok(())
+}
+
+#[test]
+fn a_set_of_four_processors(rt: HostRuntime) -> Result<(), Fail> {
+    let set = set_of(&rt, rt.alloc(), &[1, 2])?.with_processors(4);
+    set.reserve(&rt, 1000)?;
+    has_sums(&rt, &set, (2, 3))
+}
+
+// Of a class the element that was stored first stays.
+#[test]
+fn a_set_of_a_list(rt: HostRuntime) -> Result<(), Fail> {
+    let mut numbers = list(rt.alloc(), 1, 4)?;
+    numbers.push(2)?;
+    let set = HashSet::from_list(&rt, numbers, LowHashBuilder)?;
+    has_sums(&rt, &set, (3, 6))
+}
+
+// A further set has the elements of the first, and is another one.
+#[test]
+fn a_further_set(rt: HostRuntime) -> Result<(), Fail> {
+    let set = set_of(&rt, rt.alloc(), &[1, 2])?;
+    let copy = set.try_clone(&rt)?;
+    copy.insert(&rt, 3)?;
+    set.remove(&rt, &1);
+    has_sums(&rt, &copy, (3, 6))?;
+    has_sums(&rt, &set, (1, 2))
+}

@@ -1,0 +1,132 @@
+//! Each request for memory of a call that may be refused, refused in turn.
+
+use super::{list, read_all, same, set_of};
+use flurry_model::hash::LowHashBuilder;
+use flurry_shared_set::HashSet;
+use metered_alloc::Metered;
+use std::alloc::{AllocError, Global};
+use std::process::Abort;
+use std::sync::Wait;
+use std::test::Fail;
+
+type Memory = &'static Metered<Global>;
+
+type Numbers = HashSet<u64, LowHashBuilder, Memory>;
+
+// A call that may be refused.
+#[derive(Clone, Copy, Debug, PartialEq)]
+enum Call {
+    Get,
+    Insert,
+    Reserve,
+    Extend,
+    FromList,
+    TryClone,
+    Retain,
+    Relations,
+}
+
+// Makes the call, of a set or of a list.
+fn make<R: Wait>(
+    rt: &R,
+    set: &Numbers,
+    list: Vec<u64, Memory>,
+    call: Call,
+) -> Result<(), AllocError> {
+    match call {
+        Call::Get => drop(set.get(rt, &1)?),
+        Call::Insert => {
+            set.insert(rt, 10)?;
+        }
+        Call::Reserve => set.reserve(rt, 100)?,
+        Call::Extend => set.extend(rt, list)?,
+        Call::FromList => drop(HashSet::from_list(rt, list, LowHashBuilder)?),
+        Call::TryClone => drop(set.try_clone(rt)?),
+        Call::Retain => set.retain(rt, |element| *element < 2)?,
+        Call::Relations => return relate(rt, set),
+    }
+    Ok(())
+}
+
+// Asks for each relation of a set with itself.
+fn relate<R: Wait>(rt: &R, set: &Numbers) -> Result<(), AllocError> {
+    set.equals(rt, set)?;
+    set.is_subset(rt, set)?;
+    set.is_superset(rt, set)?;
+    set.is_disjoint(rt, set)?;
+    Ok(())
+}
+
+// The call with its request numbered k refused, on a set of 1 and 2 and with the list of 10 and 11: whether the request was made, whether
+// the call was done, and how many elements there are then.
+fn call_without<R: Wait>(
+    rt: &R,
+    memory: Memory,
+    call: Call,
+    k: u64,
+) -> Result<(bool, bool, u64), Fail> {
+    let set = set_of(rt, memory, &[1, 2])?;
+    let list = list(memory, 10, 12)?;
+    memory.refuse_at(k);
+    let done = make(rt, &set, list, call).is_ok();
+    let refused = memory.refused();
+    memory.refuse_nothing();
+    Ok((refused, done, read_all(set.iter(rt))?.0))
+}
+
+// Each of so many requests is refused in turn, and so is the call, which leaves two elements. Without a refusal so many are left.
+fn refuse_each<R: Abort + Wait>(
+    rt: &R,
+    memory: Memory,
+    call: Call,
+    requests: u64,
+    left: u64,
+) -> Result<(), Fail> {
+    for k in 0..requests {
+        let seen = call_without(rt, memory, call, k)?;
+        same(rt, (call, k, seen), (call, k, (true, false, 2)));
+        same(rt, memory.blocks(), 0);
+    }
+    let seen = call_without(rt, memory, call, requests)?;
+    same(
+        rt,
+        (call, requests, seen),
+        (call, requests, (false, true, left)),
+    );
+    same(rt, memory.blocks(), 0);
+    Ok(())
+}
+
+#[test]
+fn calls_without_a_request(rt: HostRuntime) -> Result<(), Fail> {
+    let memory = Metered::leaked(rt.alloc())?;
+    refuse_each(&rt, memory, Call::Get, 0, 2)?;
+    refuse_each(&rt, memory, Call::Retain, 0, 1)?;
+    refuse_each(&rt, memory, Call::Relations, 0, 2)
+}
+
+#[test]
+fn calls_with_requests(rt: HostRuntime) -> Result<(), Fail> {
+    let memory = Metered::leaked(rt.alloc())?;
+    refuse_each(&rt, memory, Call::Insert, 3, 3)?;
+    refuse_each(&rt, memory, Call::Reserve, 10, 2)?;
+    refuse_each(&rt, memory, Call::FromList, 8, 2)?;
+    refuse_each(&rt, memory, Call::TryClone, 5, 2)
+}
+
+// An extension keeps the elements that it put before the refused request.
+#[test]
+fn an_extension(rt: HostRuntime) -> Result<(), Fail> {
+    let memory = Metered::leaked(rt.alloc())?;
+    for k in 0..6u64 {
+        let seen = call_without(&rt, memory, Call::Extend, k)?;
+        same(&rt, (k, seen), (k, (true, false, 2 + k / 3)));
+        same(&rt, memory.blocks(), 0);
+    }
+    same(
+        &rt,
+        call_without(&rt, memory, Call::Extend, 6)?,
+        (false, true, 4),
+    );
+    Ok(())
+}

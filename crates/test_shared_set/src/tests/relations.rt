@@ -1,0 +1,119 @@
+//! Relations of two sets, and of their views.
+
+use super::{same, set_of};
+use flurry_model::hash::LowHashBuilder;
+use flurry_shared_set::{HashSet, HashSetRef};
+use std::alloc::{AllocError, Allocator};
+use std::process::Abort;
+use std::sync::Wait;
+use std::test::Fail;
+
+// How two sets stand to each other.
+#[derive(Clone, Copy, Debug, PartialEq)]
+struct Relations {
+    equals: bool,
+    is_subset: bool,
+    is_superset: bool,
+    is_disjoint: bool,
+}
+
+const EQUAL: Relations = Relations {
+    equals: true,
+    is_subset: true,
+    is_superset: true,
+    is_disjoint: false,
+};
+
+const LESS: Relations = Relations {
+    equals: false,
+    is_subset: true,
+    is_superset: false,
+    is_disjoint: false,
+};
+
+const MORE: Relations = Relations {
+    equals: false,
+    is_subset: false,
+    is_superset: true,
+    is_disjoint: false,
+};
+
+const APART: Relations = Relations {
+    equals: false,
+    is_subset: false,
+    is_superset: false,
+    is_disjoint: true,
+};
+
+fn of_sets<A: Allocator + Copy, R: Wait>(
+    rt: &R,
+    left: &HashSet<u64, LowHashBuilder, A>,
+    right: &HashSet<u64, LowHashBuilder, A>,
+) -> Result<Relations, AllocError> {
+    Ok(Relations {
+        equals: left.equals(rt, right)?,
+        is_subset: left.is_subset(rt, right)?,
+        is_superset: left.is_superset(rt, right)?,
+        is_disjoint: left.is_disjoint(rt, right)?,
+    })
+}
+
+fn of_views<A: Allocator + Copy, R: Wait>(
+    left: &HashSetRef<'_, R, u64, LowHashBuilder, A>,
+    right: &HashSetRef<'_, R, u64, LowHashBuilder, A>,
+) -> Result<Relations, AllocError> {
+    Ok(Relations {
+        equals: left.equals(right)?,
+        is_subset: left.is_subset(right)?,
+        is_superset: left.is_superset(right)?,
+        is_disjoint: left.is_disjoint(right)?,
+    })
+}
+
+// The sets of these numbers, and their views, stand so to each other.
+fn related<A: Allocator + Copy, R: Abort + Wait>(
+    rt: &R,
+    alloc: A,
+    left: &[u64],
+    right: &[u64],
+    wanted: Relations,
+) -> Result<(), Fail> {
+    let left = set_of(rt, alloc, left)?;
+    let right = set_of(rt, alloc, right)?;
+    same(rt, of_sets(rt, &left, &right)?, wanted);
+    same(rt, of_views(&left.pin(rt), &right.pin(rt))?, wanted);
+    Ok(())
+}
+
+#[test]
+fn sets_of_one_to_four(rt: HostRuntime) -> Result<(), Fail> {
+    related(&rt, rt.alloc(), &[1, 2], &[1, 2, 3], LESS)?;
+    related(&rt, rt.alloc(), &[1, 2, 3], &[1, 2], MORE)?;
+    related(&rt, rt.alloc(), &[1, 2], &[2, 1], EQUAL)?;
+    related(&rt, rt.alloc(), &[1, 2], &[4], APART)?;
+    let beside = Relations {
+        is_disjoint: false,
+        ..APART
+    };
+    related(&rt, rt.alloc(), &[1, 2], &[2, 3], beside)
+}
+
+// The empty set is a subset of each set, and disjoint from each, itself included.
+#[test]
+fn the_empty_set(rt: HostRuntime) -> Result<(), Fail> {
+    let less = Relations {
+        is_disjoint: true,
+        ..LESS
+    };
+    related(&rt, rt.alloc(), &[], &[1], less)?;
+    let more = Relations {
+        is_disjoint: true,
+        ..MORE
+    };
+    related(&rt, rt.alloc(), &[1], &[], more)?;
+    let equal = Relations {
+        is_disjoint: true,
+        ..EQUAL
+    };
+    related(&rt, rt.alloc(), &[], &[], equal)
+}

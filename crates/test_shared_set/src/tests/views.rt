@@ -1,0 +1,56 @@
+//! The calls of a view.
+
+use super::{has_sums, read_all, same, set_of};
+use flurry_model::hash::LowHashBuilder;
+use flurry_shared_set::HashSetRef;
+use std::alloc::Allocator;
+use std::process::Abort;
+use std::sync::Wait;
+use std::test::Fail;
+
+// Puts a third number by a further view, which is of the same set.
+fn puts_by_another<A: Allocator + Copy, R: Abort + Wait>(
+    rt: &R,
+    view: &HashSetRef<'_, R, u64, LowHashBuilder, A>,
+) -> Result<(), Fail> {
+    let other = view.again();
+    same(rt, view.insert(2)?, false);
+    same(rt, other.insert(3)?, true);
+    same(rt, view.len(), 3);
+    same(rt, view.is_empty(), false);
+    same(rt, view.contains(&3), true);
+    same(rt, view.get(&4)?.is_none(), true);
+    Ok(())
+}
+
+// Leaves the numbers other than 1, in a table with room for more.
+fn keeps_two<A: Allocator + Copy, R: Abort + Wait>(
+    rt: &R,
+    view: &HashSetRef<'_, R, u64, LowHashBuilder, A>,
+) -> Result<(), Fail> {
+    view.reserve(100)?;
+    view.retain(|element| *element != 1)?;
+    same(rt, read_all(view.iter())?, (2, 5));
+    Ok(())
+}
+
+// Takes a number out, which is then gone, and all that are left.
+fn takes_out<A: Allocator + Copy, R: Abort + Wait>(
+    rt: &R,
+    view: &HashSetRef<'_, R, u64, LowHashBuilder, A>,
+) {
+    same(rt, view.remove(&2), true);
+    same(rt, view.take(&2).is_none(), true);
+    same(rt, view.take(&3).map(|element| *element), Some(3));
+    view.clear();
+}
+
+#[test]
+fn calls_of_a_view(rt: HostRuntime) -> Result<(), Fail> {
+    let set = set_of(&rt, rt.alloc(), &[1, 2])?;
+    puts_by_another(&rt, &set.pin(&rt))?;
+    keeps_two(&rt, &set.pin(&rt))?;
+    has_sums(&rt, &set, (2, 5))?;
+    takes_out(&rt, &set.pin(&rt));
+    has_sums(&rt, &set, (0, 0))
+}
