@@ -4,7 +4,8 @@ use Rattle.flurry_bins.specs.Bin.{entries_of_bin}
 use Rattle.flurry_model.specs.FiniteMap.{with_all}
 use Rattle.flurry_seq.proofs.RunLaws.{on_err}
 use Rattle.flurry_par.specs.Joins.{pairs_in, pairs_of_bins}
-use Rattle.flurry_par.proofs.Joining.{with_all-append, pairs_of_bins-append, pairs_of_bins-push, front_later}
+use Rattle.flurry_par.proofs.Fronts.{pairs_of_bins-append, pairs_of_bins-push, front_later}
+use Rattle.flurry_par.proofs.Joining.{with_all-append}
 use Rattle.flurry_par.proofs.map.join_bins.Goals as goal
 
 pub loop-bin-preserved : goal.loop-bin-preserved
