@@ -17,9 +17,9 @@ returns-clause-ok g c =
     let cmp = g.K.Ord.cmp in
     let laws = g.met.K.Ord g.world.𝓛 g.world.𝓜 g.world.𝓡 ((λ s x. x), (λ x. x), (λ x. x), λ x. x) in
     let old = c.args.map.now.pairs in
-    on_ok_weaker c.join.result (λ e. e ∙ ap (with_all cmp old) c.in_ok-built.ensures.0 ∙ with_all-with_all laws.total old [] c.args.list.items c.join.ensures.ascend (IsFiniteMap-nil g.row.V.Denot cmp)) c.join.ensures.ok
+    on_ok_weaker c.join.result (λ e. e ∙ ap (with_all cmp old) c.in_ok-built.ensures.made.0 ∙ with_all-with_all laws.total old [] c.args.list.items c.join.ensures.ascend (IsFiniteMap-nil g.row.V.Denot cmp)) c.join.ensures.ok
 
 pub returns-clause-err : goal.returns-clause-err
 returns-clause-err g c =
     let cmp = g.K.Ord.cmp in
-    on_err_weaker c.join.result (subst (λ ps. HasSomeOf cmp c.args.map.now.pairs ps c.join.new.left.pairs) c.in_ok-built.ensures.0) c.join.ensures.err
+    on_err_weaker c.join.result (subst (λ ps. HasSomeOf cmp c.args.map.now.pairs ps c.join.new.left.pairs) c.in_ok-built.ensures.made.0) c.join.ensures.err

@@ -27,9 +27,9 @@ returns-clause-ok g c =
     let map = c.in_ok-built.built in
     let bins = c.into_bins-bins.result.0.items in
     let apart = all_apart laws.total (g.S.KeyHasher.hash_of map.hasher) (hashes.alike map.hasher) (length (maps_of_bins bins)) 0 (maps_of_bins bins) c.into_bins-bins.ensures.bins.placed in
-    let built = c.in_ok-built.ensures.0 ∙ ap (with_all cmp []) c.in_ok-pairs.ensures in
+    let built = c.in_ok-built.ensures.made.0 ∙ ap (with_all cmp []) c.in_ok-pairs.ensures in
     let same = subst (λ ps. IsPermutation ps (pairs_of_bins bins)) built c.into_bins-bins.ensures.bins.pairs in
-    on_ok_weaker c.join_bins.result (λ e. e ∙ with_elements-built laws.total old c.args.list.items (pairs_of_bins bins) c.allocator.ensures.ascend apart same) c.join_bins.ensures.ok
+    on_ok_weaker c.join_bins.result (λ e. e ∙ with_elements-built laws.total old c.args.list.items (pairs_of_bins bins) c.allocator-alloc.ensures.ascend apart same) c.join_bins.ensures.ok
 
 pub returns-clause-err : goal.returns-clause-err
 returns-clause-err g c =
@@ -37,6 +37,6 @@ returns-clause-err g c =
     let list = c.args.list.items in
     let map = c.in_ok-built.built in
     let bins = c.into_bins-bins.result.0.items in
-    let elements = ap keys_of (c.in_ok-built.ensures.0 ∙ ap (with_all cmp []) c.in_ok-pairs.ensures) ∙ elements_built cmp list in
+    let elements = ap keys_of (c.in_ok-built.ensures.made.0 ∙ ap (with_all cmp []) c.in_ok-pairs.ensures) ∙ elements_built cmp list in
     let same = subst (λ xs. IsPermutation xs (keys_of (pairs_of_bins bins))) elements (IsPermutation-map (λ p. p.0) map.pairs (pairs_of_bins bins) c.into_bins-bins.ensures.bins.pairs) in
     on_err_weaker c.join_bins.result (λ h. (h.0, h.1, subst (IsPermutation (with_elements cmp [] list)) h.2 same, h.3)) c.join_bins.ensures.err
