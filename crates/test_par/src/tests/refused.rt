@@ -33,23 +33,33 @@ trait Refused {
     ) -> Result<bool, AllocError>;
 }
 
-// Refuses each request of a call in turn, alone and then with all after it. Each block comes back.
+// Refuses each request of a call in turn, alone or with all after it. It makes at least one, and each block comes back.
+fn refuse_in_turn<C: Refused>(
+    rt: &(impl Abort + Threads + Sync),
+    memory: Memory,
+    call: &C,
+    all: bool,
+) -> Result<(), Fail> {
+    for k in 0..MOST_REQUESTS {
+        let refused = call.once(rt, memory, k, all)?;
+        same(rt, (k, memory.blocks()), (k, 0));
+        if !refused {
+            same(rt, k > 0, true);
+            return Ok(());
+        }
+    }
+    Err(Fail::from("it makes fewer requests"))
+}
+
+// Does both.
 fn refuse_each<C: Refused>(
     rt: &(impl Abort + Threads + Sync),
     alloc: Global,
     call: &C,
 ) -> Result<(), Fail> {
     let memory = Metered::leaked(alloc)?;
-    for all in [false, true] {
-        let mut k = 0;
-        while k < MOST_REQUESTS && call.once(rt, memory, k, all)? {
-            same(rt, (k, memory.blocks()), (k, 0));
-            k += 1;
-        }
-        same(rt, (0 < k, k < MOST_REQUESTS), (true, true));
-        same(rt, (k, memory.blocks()), (k, 0));
-    }
-    Ok(())
+    refuse_in_turn(rt, memory, call, false)?;
+    refuse_in_turn(rt, memory, call, true)
 }
 
 // From now on the request numbered k is refused, or that one and all after it.
@@ -82,7 +92,7 @@ fn numbers(memory: Memory, count: u64) -> Result<Numbers, AllocError> {
 
 // The keys below `old`, each its own value; with the new pairs also the keys 2 to 7, whose new values stand.
 fn holds(rt: &impl Abort, map: &Numbers, old: u64, new: bool) {
-    let mut count = 0;
+    let mut count = 0usize;
     for key in 0..8u64 {
         let wanted = if new && key >= 2 {
             Some(key + 100)
@@ -93,7 +103,7 @@ fn holds(rt: &impl Abort, map: &Numbers, old: u64, new: bool) {
         };
         same(rt, (key, lent(map.get(&key))), (key, wanted));
         if wanted.is_some() {
-            count += 1;
+            count = count.wrapping_add(1);
         }
     }
     same(rt, map.len(), count);
