@@ -20,28 +20,39 @@ type Numbers = SeqMap<u64, u64, LowHashBuilder, Memory>;
 // No call makes so many requests.
 const MOST_REQUESTS: u64 = 200;
 
-// A call whose requests are refused in turn.
-trait Refused {
-    // Makes the call with the request numbered k refused, or that one and all after it, sees to what it did, and answers whether it made
-    // that request.
-    fn once(
-        &self,
-        rt: &(impl Abort + Threads + Sync),
-        memory: Memory,
-        k: u64,
-        all: bool,
-    ) -> Result<bool, AllocError>;
+// A call whose requests are refused in turn; of those that change a map, how many pairs it has before.
+#[derive(Clone, Copy)]
+enum Call {
+    Builds,
+    Extends { old: u64 },
+    Joins { old: u64 },
+}
+
+// Makes the call with the request numbered k refused, or that one and all after it, sees to what it did, and answers whether it made that
+// request.
+fn make(
+    rt: &(impl Abort + Threads + Sync),
+    memory: Memory,
+    call: Call,
+    k: u64,
+    all: bool,
+) -> Result<bool, AllocError> {
+    match call {
+        Call::Builds => build(rt, memory, k, all),
+        Call::Extends { old } => extend(rt, memory, old, k, all),
+        Call::Joins { old } => join_to(rt, memory, old, k, all),
+    }
 }
 
 // Refuses each request of a call in turn, alone or with all after it. It makes at least one, and each block comes back.
-fn refuse_in_turn<C: Refused>(
+fn refuse_in_turn(
     rt: &(impl Abort + Threads + Sync),
     memory: Memory,
-    call: &C,
+    call: Call,
     all: bool,
 ) -> Result<(), Fail> {
     for k in 0..MOST_REQUESTS {
-        let refused = call.once(rt, memory, k, all)?;
+        let refused = make(rt, memory, call, k, all)?;
         same(rt, (k, memory.blocks()), (k, 0));
         if !refused {
             same(rt, k > 0, true);
@@ -52,11 +63,7 @@ fn refuse_in_turn<C: Refused>(
 }
 
 // Does both.
-fn refuse_each<C: Refused>(
-    rt: &(impl Abort + Threads + Sync),
-    alloc: Global,
-    call: &C,
-) -> Result<(), Fail> {
+fn refuse_each(rt: &(impl Abort + Threads + Sync), alloc: Global, call: Call) -> Result<(), Fail> {
     let memory = Metered::leaked(alloc)?;
     refuse_in_turn(rt, memory, call, false)?;
     refuse_in_turn(rt, memory, call, true)
@@ -116,101 +123,77 @@ fn refused_or_done(rt: &impl Abort, k: u64, refused: bool, done: bool) {
     same(rt, (k, done && k == 0), (k, false));
 }
 
-// A map of three pieces of a list.
-struct Builds;
-
-impl Refused for Builds {
-    fn once(
-        &self,
-        rt: &(impl Abort + Threads + Sync),
-        memory: Memory,
-        k: u64,
-        all: bool,
-    ) -> Result<bool, AllocError> {
-        let list = list(memory, 2, 6, 100)?;
-        refuse(memory, k, all);
-        let answer = map::from_par_list(rt, memory, list, LowHashBuilder, 2);
-        let refused = memory.refused();
-        memory.refuse_nothing();
-        refused_or_done(rt, k, refused, answer.is_ok());
-        if let Ok(map) = answer {
-            holds(rt, &map, 0, true);
-        }
-        Ok(refused)
+// Makes a map of three pieces of a list.
+fn build(
+    rt: &(impl Abort + Threads + Sync),
+    memory: Memory,
+    k: u64,
+    all: bool,
+) -> Result<bool, AllocError> {
+    let list = list(memory, 2, 6, 100)?;
+    refuse(memory, k, all);
+    let answer = map::from_par_list(rt, memory, list, LowHashBuilder, 2);
+    let refused = memory.refused();
+    memory.refuse_nothing();
+    refused_or_done(rt, k, refused, answer.is_ok());
+    if let Ok(map) = answer {
+        holds(rt, &map, 0, true);
     }
+    Ok(refused)
 }
 
 #[test]
 fn from_par_list(rt: HostRuntime) -> Result<(), Fail> {
-    refuse_each(&rt, rt.alloc(), &Builds)
+    refuse_each(&rt, rt.alloc(), Call::Builds)
 }
 
-// The list put into a map of so many pairs. One with a table is refused by the building alone, and one without may be refused where it
+// Puts the list into a map of so many pairs. One with a table is refused by the building alone, and one without may be refused where it
 // joins, before its first pair: either is left as it was.
-struct Extends {
+fn extend(
+    rt: &(impl Abort + Threads + Sync),
+    memory: Memory,
     old: u64,
-}
-
-impl Refused for Extends {
-    fn once(
-        &self,
-        rt: &(impl Abort + Threads + Sync),
-        memory: Memory,
-        k: u64,
-        all: bool,
-    ) -> Result<bool, AllocError> {
-        let mut map = numbers(memory, self.old)?;
-        let list = list(memory, 2, 6, 100)?;
-        refuse(memory, k, all);
-        let answer = map::par_extend(rt, &mut map, list, 2);
-        let refused = memory.refused();
-        memory.refuse_nothing();
-        refused_or_done(rt, k, refused, answer.is_ok());
-        holds(rt, &map, self.old, answer.is_ok());
-        Ok(refused)
-    }
+    k: u64,
+    all: bool,
+) -> Result<bool, AllocError> {
+    let mut map = numbers(memory, old)?;
+    let list = list(memory, 2, 6, 100)?;
+    refuse(memory, k, all);
+    let answer = map::par_extend(rt, &mut map, list, 2);
+    let refused = memory.refused();
+    memory.refuse_nothing();
+    refused_or_done(rt, k, refused, answer.is_ok());
+    holds(rt, &map, old, answer.is_ok());
+    Ok(refused)
 }
 
 #[test]
 fn par_extend(rt: HostRuntime) -> Result<(), Fail> {
-    refuse_each(&rt, rt.alloc(), &Extends { old: 4 })?;
-    refuse_each(&rt, rt.alloc(), &Extends { old: 0 })
+    refuse_each(&rt, rt.alloc(), Call::Extends { old: 4 })?;
+    refuse_each(&rt, rt.alloc(), Call::Extends { old: 0 })
 }
 
-// Another map joined to one of so many pairs. Only one without a table is refused, where all its requests are, and is left as it was.
-struct Joins {
+// Joins another map to one of so many pairs. Only one without a table is refused, where all its requests are, and is left as it was.
+fn join_to(
+    rt: &impl Abort,
+    memory: Memory,
     old: u64,
-}
-
-impl Refused for Joins {
-    fn once(
-        &self,
-        rt: &(impl Abort + Threads + Sync),
-        memory: Memory,
-        k: u64,
-        all: bool,
-    ) -> Result<bool, AllocError> {
-        let mut left = SeqMap::with_hasher(memory, LowHashBuilder);
-        if self.old > 0 {
-            left = numbers(memory, self.old)?;
-        }
-        let right = SeqMap::from_list(memory, list(memory, 2, 6, 100)?, LowHashBuilder)?;
-        refuse(memory, k, all);
-        let answer = map::join(&mut left, right);
-        let refused = memory.refused();
-        memory.refuse_nothing();
-        same(
-            rt,
-            (k, answer.is_err()),
-            (k, self.old == 0 && all && refused && k == 0),
-        );
-        holds(rt, &left, self.old, answer.is_ok());
-        Ok(refused)
-    }
+    k: u64,
+    all: bool,
+) -> Result<bool, AllocError> {
+    let mut left = numbers(memory, old)?;
+    let right = SeqMap::from_list(memory, list(memory, 2, 6, 100)?, LowHashBuilder)?;
+    refuse(memory, k, all);
+    let answer = map::join(&mut left, right);
+    let refused = memory.refused();
+    memory.refuse_nothing();
+    same(rt, (k, answer.is_err()), (k, old == 0 && all && k == 0));
+    holds(rt, &left, old, answer.is_ok());
+    Ok(refused)
 }
 
 #[test]
 fn join(rt: HostRuntime) -> Result<(), Fail> {
-    refuse_each(&rt, rt.alloc(), &Joins { old: 4 })?;
-    refuse_each(&rt, rt.alloc(), &Joins { old: 0 })
+    refuse_each(&rt, rt.alloc(), Call::Joins { old: 4 })?;
+    refuse_each(&rt, rt.alloc(), Call::Joins { old: 0 })
 }
