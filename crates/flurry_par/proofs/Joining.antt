@@ -12,10 +12,8 @@ use Rattle.std.proofs.lemmas.Map.Keys.{sorted_head, sorted_tail}
 use Rattle.flurry_model.specs.FiniteMap.{IsFiniteMap, pair_at, with_pair, with_all, stored_key}
 use Rattle.flurry_model.proofs.FiniteMapLaws.{IsFiniteMap-nil, IsFiniteMap-with_pair, pair_at-with_pair, pair_at_below, same_map}
 use Rattle.flurry_model.proofs.ListParts.{all_map}
-use Rattle.flurry_model.specs.FiniteSet.{with_elements}
-use Rattle.flurry_par.specs.Joins.{with_maps, with_unit}
+use Rattle.flurry_par.specs.Joins.{with_maps}
 use Rattle.flurry_seq.specs.Apart.{AreApart}
-use Rattle.flurry_set.proofs.SetLemmas.{with_element-keys}
 use Rattle.flurry_seq.proofs.CloneLemmas.{alike_at}
 
 eq_of : (r : Ordering) → is_eq r ≡ true → r ≡ Equal
@@ -133,15 +131,6 @@ module _ {K V : Type 0} (cmp : K → K → Ordering) where
   pub with_maps-push : {M : Type 0} (f : M → List (K × V)) (m : List (K × V)) (ns : List M) (n : M) → with_maps cmp m (map f (ns ++ n ∷ [])) ≡ with_all cmp (with_maps cmp m (map f ns)) (f n)
   with_maps-push f m [] n = refl
   with_maps-push f m (x ∷ ns) n = with_maps-push f (with_all cmp m (f x)) ns n
-
-  -- the elements of a set are the keys of a map
-  pub with_elements-keys : (m ps : List (K × V)) → with_elements cmp (keys_of m) (keys_of ps) ≡ keys_of (with_all cmp m ps)
-  with_elements-keys m [] = refl
-  with_elements-keys m (p ∷ ps) = ap (λ s. with_elements cmp s (keys_of ps)) (with_element-keys cmp m p.0 p.1) ∙ with_elements-keys (with_pair cmp m p.0 p.1) ps
-
-pub keys_of-units : {T : Type 0} (xs : List T) → keys_of (map with_unit xs) ≡ xs
-keys_of-units [] = refl
-keys_of-units (x ∷ xs) = ap (λ l. x ∷ l) (keys_of-units xs)
 
 module _ {K V P M E : Type 0} {cmp : K → K → Ordering} (o : IsTotalOrder cmp) (items : P → List (K × V)) (pairs : M → List (K × V)) (R : P → Result M E → Type 0) (made : (p : P) (m : M) → R p (Ok m) → pairs m ≡ with_all cmp [] (items p)) where
   built_each : (ps : List P) (ms : List M) → AllZip R ps (map Ok ms) → (l : List (K × V)) → IsFiniteMap cmp l → with_maps cmp l (map pairs ms) ≡ with_all cmp l (flat_map items ps)

@@ -111,6 +111,7 @@ pub fn from_par_list<
     part: usize,
 ) -> Result<SeqMap<K, V, S, A>, AllocError>
     ensures made { IfOk result (λ m. (m.pairs ≡ with_all K.cmp [] list.items) × (m.hasher ≡ hasher)) }
+    ensures ascend { IfOk result (λ m. IsFiniteMap K.cmp m.pairs) }
 {
     let count = list.len();
     let maps = pieces(alloc, list, part)?

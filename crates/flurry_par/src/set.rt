@@ -44,6 +44,7 @@ pub fn from_par_list<
     part: usize,
 ) -> Result<SeqSet<T, S, A>, AllocError>
     ensures made { IfOk result (λ s. (s.elements ≡ with_elements T.cmp [] list.items) × (s.hasher ≡ hasher)) }
+    ensures ascend { IfOk result (λ s. IsFiniteSet T.cmp s.elements) }
 {
     let pairs = as_pairs(alloc, list)?;
     let map = map::from_par_list(rt, alloc, pairs, hasher, part)?;

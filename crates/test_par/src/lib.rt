@@ -1,4 +1,4 @@
-//! Tests of maps and sets that are built in parallel.
+//! Tests of maps and sets that are built in parallel, and of their requests for memory, refused in turn.
 #![tactic(auto)]
 
 #[cfg(test)]

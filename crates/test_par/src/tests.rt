@@ -1,12 +1,17 @@
 //! What is built in parallel, and joined.
 
+mod refused;
+
 use flurry_model::hash::{LowHashBuilder, ZeroHashBuilder};
 use flurry_par::{map, set};
 use flurry_seq::SeqMap;
 use flurry_set::SeqSet;
+use std::alloc::Allocator;
 use std::fmt::Debug;
 use std::process::Abort;
 use std::sync::Arc;
+use std::test::Fail;
+use std::thread::Threads;
 
 // Sees that a value is the one that is wanted. A test of many assertions calls this, since each `assert_eq!` that stands in it makes
 // its proof longer.
@@ -14,9 +19,12 @@ fn same<T: PartialEq + Debug + Drop>(rt: &impl Abort, seen: T, wanted: T) {
     assert_eq!(rt; seen, wanted);
 }
 
-fn lent(value: Option<&Arc<u64>>) -> Option<u64> {
+fn lent<A: Allocator>(value: Option<&Arc<u64, A>>) -> Option<u64> {
     value.map(|value| **value)
 }
+
+// A map of numbers.
+type Numbers = SeqMap<u64, u64, LowHashBuilder>;
 
 // A hundred pairs: the keys from 100 on, each with ten times as much as it is past 100.
 fn pairs(rt: &(impl Abort + AllocGlobal)) -> Vec<(u64, u64)> {
@@ -27,70 +35,111 @@ fn pairs(rt: &(impl Abort + AllocGlobal)) -> Vec<(u64, u64)> {
     list
 }
 
-// Of a key that comes twice the last value stands, whatever the length of a piece.
+// The map of three pairs, of which two have one key, built of pieces of that length.
+fn doubled(rt: &(impl Abort + AllocGlobal + Threads + Sync), part: usize) -> Result<Numbers, Fail> {
+    let list = Vec::from_array(rt.alloc(), [(1, 10), (2, 20), (1, 30)])?;
+    Ok(map::from_par_list(rt, rt.alloc(), list, LowHashBuilder, part)?)
+}
+
+// It has two pairs, and the last value of the key that came twice.
+fn has_the_last(rt: &impl Abort, map: &Numbers) {
+    same(rt, map.len(), 2);
+    same(
+        rt,
+        (lent(map.get(&1)), lent(map.get(&2))),
+        (Some(30), Some(20)),
+    );
+}
+
+// Of a key that comes twice the last value stands, whatever the length of a piece. A length of 0 is read as 1.
 #[test]
-fn row_10(rt: HostRuntime) {
-    for part in 0..5 {
-        let list = Vec::from_array(rt.alloc(), [(1u64, 10u64), (2, 20), (1, 30)]).expect(
-            &rt, "memory",
-        );
-        let built = map::from_par_list(&rt, rt.alloc(), list, LowHashBuilder, part).expect(
-            &rt, "memory",
-        );
-        same(&rt, built.len(), 2);
-        same(&rt, lent(built.get(&1)), Some(30));
+fn row_10(rt: HostRuntime) -> Result<(), Fail> {
+    let one = doubled(&rt, 1)?;
+    has_the_last(&rt, &one);
+    for part in [0, 2, 3, usize::MAX] {
+        let map = doubled(&rt, part)?;
+        has_the_last(&rt, &map);
+        same(&rt, map == one, true);
     }
+    Ok(())
 }
 
 #[test]
-fn a_hundred_pairs(rt: HostRuntime) {
-    let built = map::from_par_list(&rt, rt.alloc(), pairs(&rt), LowHashBuilder, 7).expect(
-        &rt, "memory",
-    );
+fn a_hundred_pairs(rt: HostRuntime) -> Result<(), Fail> {
+    let built = map::from_par_list(&rt, rt.alloc(), pairs(&rt), LowHashBuilder, 7)?;
     same(&rt, built.len(), 100);
     same(
         &rt,
         (lent(built.get(&100)), lent(built.get(&199))),
         (Some(0), Some(990)),
     );
+    Ok(())
 }
 
 #[test]
-fn pairs_into_a_map(rt: HostRuntime) {
-    let list = Vec::from_array(rt.alloc(), [(1u64, 2u64), (3, 4)]).expect(&rt, "memory");
-    let mut map = SeqMap::from_list(rt.alloc(), list, LowHashBuilder).expect(&rt, "memory");
-    map::par_extend(&rt, &mut map, Vec::new(rt.alloc()), 7).expect(&rt, "memory");
+fn pairs_into_a_map(rt: HostRuntime) -> Result<(), Fail> {
+    let list = Vec::from_array(rt.alloc(), [(1u64, 2u64), (3, 4)])?;
+    let mut map = SeqMap::from_list(rt.alloc(), list, LowHashBuilder)?;
+    map::par_extend(&rt, &mut map, Vec::new(rt.alloc()), 7)?;
     same(&rt, map.len(), 2);
-    map::par_extend(&rt, &mut map, pairs(&rt), 7).expect(&rt, "memory");
+    map::par_extend(&rt, &mut map, pairs(&rt), 7)?;
     same(&rt, map.len(), 102);
     same(
         &rt,
         (lent(map.get(&3)), lent(map.get(&199))),
         (Some(4), Some(990)),
     );
+    Ok(())
+}
+
+// A key that compares, equals and hashes by its `id` alone.
+#[derive(Clone, Copy)]
+#[derive_where(Debug, PartialEq, Eq, PartialOrd, Ord, Hash)]
+struct Tagged {
+    id: u64,
+    #[derive_where(skip(EqHashOrd))]
+    tag: u64,
+}
+
+// Of a class that both maps have, the left one's key stays, and the right one's value stands.
+#[test]
+fn joined(rt: HostRuntime) -> Result<(), Fail> {
+    let (first, second) = (Tagged { id: 1, tag: 10 }, Tagged { id: 1, tag: 20 });
+    let mut left = SeqMap::with_hasher(rt.alloc(), ZeroHashBuilder);
+    let _ = left.insert(first, 1u64)?;
+    let mut right = SeqMap::with_hasher(rt.alloc(), ZeroHashBuilder);
+    let _ = right.insert(second, 2)?;
+    let _ = right.insert(Tagged { id: 2, tag: 30 }, 3)?;
+    map::join(&mut left, right)?;
+    same(&rt, left.len(), 2);
+    let (key, value) = left
+        .get_key_value(&second)
+        .expect(&rt, "the key is present");
+    same(&rt, (key.tag, **value), (10, 2));
+    Ok(())
 }
 
 #[test]
-fn sets_of_pairs(rt: HostRuntime) {
-    let mut built = set::from_par_list(&rt, rt.alloc(), pairs(&rt), ZeroHashBuilder, 7).expect(
-        &rt, "memory",
-    );
+fn sets_of_pairs(rt: HostRuntime) -> Result<(), Fail> {
+    let mut built: SeqSet<(u64, u64), ZeroHashBuilder> = set::from_par_list(
+        &rt,
+        rt.alloc(),
+        pairs(&rt),
+        ZeroHashBuilder,
+        7,
+    )?;
     same(&rt, built.len(), 100);
     same(
         &rt,
         (built.contains(&(100, 0)), built.contains(&(100, 10000))),
         (true, false),
     );
-    set::par_extend(
-        &rt,
-        &mut built,
-        Vec::from_array(rt.alloc(), [(100u64, 0u64), (100, 10000)]).expect(&rt, "memory"),
-        1,
-    )
-    .expect(&rt, "memory");
+    let more = Vec::from_array(rt.alloc(), [(100, 0), (100, 10000)])?;
+    set::par_extend(&rt, &mut built, more, 1)?;
     same(
         &rt,
         (built.len(), built.contains(&(100, 10000))),
         (101, true),
     );
+    Ok(())
 }
