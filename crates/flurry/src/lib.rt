@@ -5,9 +5,12 @@
 //! share, the steps at one bin are under [`slots`], its control and one call in steps under [`steps`], and every interleaving of calls,
 //! run one step at a time, under [`world`]. [`HashMap`] is that map over locks, for threads; its iterators are under
 //! [`iter`]. [`HashSet`] is the set over it. [`HashMapRef`] and [`HashSetRef`] are their views. Under [`recorded`] is a map under one
-//! lock that records the calls of its threads.
+//! lock that records the calls of its threads. Under [`par`] are calls that several threads do together, and under [`pairs`] lists of a
+//! map's pairs.
 #![tactic(auto)]
 
+pub mod pairs;
+pub mod par;
 pub mod recorded;
 pub mod slots;
 pub mod steps;
