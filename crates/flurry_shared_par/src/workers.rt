@@ -29,11 +29,18 @@ fn workers_for(processors: usize) -> usize
 // Where a piece, an item or the start of a worker is refused, no further piece is taken: the workers put the rest of those that they
 // have, the others are dropped, and the error is answered.
 pub(crate) fn put_all<
+    'm,
     T: Drop + Send,
     P: Put<T> + Sync,
     A: Allocator + Copy + Send + Sync,
     R: Threads + Wait + Sync,
->(rt: &R, into: &P, list: Vec<T, A>, part: usize, processors: usize) -> Result<(), AllocError> {
+>(
+    rt: &'m R,
+    into: &'m P,
+    list: Vec<T, A>,
+    part: usize,
+    processors: usize,
+) -> Result<(), AllocError> {
     let queue = Queue::new(list, part);
     let shared = &queue;
     thread::scope(thread::scope_env(), rt, |scope| {

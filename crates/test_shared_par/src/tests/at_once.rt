@@ -12,6 +12,7 @@ use std::thread;
 const TURNS: u32 = 1_000_000;
 
 // Where the hashes of two keys meet.
+#[derive(Drop)]
 struct Meeting {
     first: AtomicBool,
     second: AtomicBool,
