@@ -29,32 +29,34 @@ fn workers_for(processors: usize) -> usize
 // Where a piece, an item or the start of a worker is refused, no further piece is taken: the workers put the rest of those that they
 // have, the others are dropped, and the error is answered.
 pub(crate) fn put_all<
-    'm,
     T: Drop + Send,
     P: Put<T> + Sync,
     A: Allocator + Copy + Send + Sync,
     R: Threads + Wait + Sync,
->(
-    rt: &'m R,
-    into: &'m P,
-    list: Vec<T, A>,
-    part: usize,
-    processors: usize,
-) -> Result<(), AllocError> {
+>(rt: &R, into: &P, list: Vec<T, A>, part: usize, processors: usize) -> Result<(), AllocError> {
     let queue = Queue::new(list, part);
-    let shared = &queue;
-    thread::scope(thread::scope_env(), rt, |scope| {
-        for _ in 0..workers_for(processors) {
-            if scope.spawn(move || work(rt, into, shared)).is_err() {
-                shared.refuse();
-                break;
-            }
-        }
-    });
+    work_together(rt, into, &queue, workers_for(processors));
     if queue.is_refused() {
         return Err(AllocError);
     }
     Ok(())
+}
+
+// Starts so many workers, and waits for their ends.
+fn work_together<
+    T: Drop + Send,
+    P: Put<T> + Sync,
+    A: Allocator + Copy + Send + Sync,
+    R: Threads + Wait + Sync,
+>(rt: &R, into: &P, queue: &Queue<T, A>, workers: usize) {
+    thread::scope(thread::scope_env(), rt, |scope| {
+        for _ in 0..workers {
+            if scope.spawn(move || work(rt, into, queue)).is_err() {
+                queue.refuse();
+                break;
+            }
+        }
+    });
 }
 
 // What one worker does.
