@@ -1,4 +1,9 @@
 //! The view of the shared map, extended by several threads at once.
+ghost use Rattle.flurry_locks.specs.declared.tables.Maker.{Maker};
+ghost use Rattle.flurry_map_ref.specs.Driven.{IsDriven, no_changes};
+ghost use Rattle.flurry_map_ref.specs.Results.{value_outcome};
+ghost use Rattle.flurry_shared_par.specs.Answers.{IsWithoutValue};
+ghost use Rattle.flurry_steps.specs.Party.{Inserts, AtLocate};
 
 use crate::workers::{Put, put_all};
 use flurry_map_ref::HashMapRef;
@@ -9,6 +14,10 @@ use std::thread::Threads;
 
 impl<'m, R: Wait, K: Ord + Drop, V: Drop, S: KeyHasher<K>, A: Allocator + Copy> Put<(K, V)>
     for HashMapRef<'m, R, K, V, S, A> {
+    // An insertion answers so, but for the old value.
+    ghost put_gives = { λ m p. IsWithoutValue (λ r. IsDriven (Maker K V A) K.cmp no_changes m (S.hash_of m.hasher p.0)
+        (AtLocate (Inserts p.0 p.1)) (value_outcome {A = A} r)) };
+
     fn put(&self, item: (K, V)) -> Result<(), AllocError> {
         self.insert(item.0, item.1)?;
         Ok(())

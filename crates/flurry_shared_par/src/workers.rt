@@ -1,5 +1,6 @@
 //! Threads that put the items of a list into one map or set at once.
-ghost use Rattle.std.specs.Prelude.{◌≡◌, max, min};
+ghost use Rattle.std.specs.Prelude.{◌≡◌, All, IfOk, Ok, Result, max, min};
+ghost use Rattle.std.specs.declared.alloc.AllocError.{AllocError};
 
 use crate::queue::Queue;
 use std::alloc::{AllocError, Allocator};
@@ -12,8 +13,12 @@ pub const MOST_WORKERS: usize = 64;
 
 // What threads put items into.
 pub(crate) trait Put<T> {
+    // What putting an item answers, or that it was refused.
+    ghost put_gives: { Self → T → Result (Unit {0}) AllocError → Type 0 };
+
     // Puts an item. Where that is refused, the item is dropped.
-    fn put(&self, item: T) -> Result<(), AllocError>;
+    fn put(&self, item: T) -> Result<(), AllocError>
+        ensures { put_gives self.now item result };
 }
 
 // How many workers are started for so many processors, of which 0 counts as one.
@@ -82,10 +87,9 @@ fn put_pieces<T: Drop, P: Put<T>, A: Allocator + Copy, R: Wait>(
 }
 
 // Puts the items of a piece, until one is refused.
-fn put_piece<T: Drop, P: Put<T>, A: Allocator>(
-    into: &P,
-    piece: Vec<T, A>,
-) -> Result<(), AllocError> {
+fn put_piece<T: Drop, P: Put<T>, A: Allocator>(into: &P, piece: Vec<T, A>) -> Result<(), AllocError>
+    ensures { IfOk result (λ u. All (λ item. P.put_gives into.now item (Ok u)) piece.items) }
+{
     for item in piece {
         into.put(item)?;
     }
