@@ -15,8 +15,8 @@ use std::thread::Threads;
 ///
 /// # Errors
 ///
-/// [`AllocError`], where a piece, an insertion or the start of a thread is refused. No further piece is taken then, while the threads
-/// insert the rest of those that they have. The pairs that were inserted stay, and the others are dropped.
+/// [`AllocError`], where a piece, an insertion or the start of a thread is refused. No further piece is taken then; the other threads
+/// insert the rest of those that they have. The pairs that were inserted stay, and all others are dropped.
 // What other threads leave in the map, no clause can tell.
 pub fn par_extend<
     K: Ord + Drop + Send + Sync,

@@ -12,8 +12,8 @@ use std::thread::Threads;
 ///
 /// # Errors
 ///
-/// [`AllocError`], where a piece, an insertion or the start of a thread is refused. No further piece is taken then, while the threads
-/// put the rest of those that they have. The elements that were put stay, and the others are dropped.
+/// [`AllocError`], where a piece, an insertion or the start of a thread is refused. No further piece is taken then; the other threads
+/// put the rest of those that they have. The elements that were put stay, and all others are dropped.
 // What other threads leave in the set, no clause can tell.
 pub fn par_extend<
     T: Ord + Drop + Send + Sync,

@@ -31,8 +31,8 @@ fn workers_for(processors: usize) -> usize
 // Puts the items of a list, by as many workers as are for so many processors. They take pieces of that length, a length of 0 being read
 // as 1, until none is left. All have ended when it returns.
 //
-// Where a piece, an item or the start of a worker is refused, no further piece is taken: the workers put the rest of those that they
-// have, the others are dropped, and the error is answered.
+// Where a piece, an item or the start of a worker is refused, no further piece is taken: the other workers put the rest of those that
+// they have, all others are dropped, and the error is answered.
 pub(crate) fn put_all<
     T: Drop + Send,
     P: Put<T> + Sync,
