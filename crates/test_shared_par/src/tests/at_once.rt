@@ -3,7 +3,8 @@
 use super::{has_sums, same};
 use flurry_map::HashMap;
 use flurry_model::hash::KeyHasher;
-use flurry_shared_par::map;
+use flurry_shared_par::{map, set};
+use flurry_shared_set::HashSet;
 use std::sync::atomic::{AtomicBool, Ordering};
 use std::test::Fail;
 use std::thread;
@@ -76,4 +77,18 @@ fn pieces_at_once(rt: HostRuntime) -> Result<(), Fail> {
 
     same(&rt, meeting.missed.load(Ordering::SeqCst), false);
     has_sums(&rt, &map, (2, 1, 12))
+}
+
+#[test]
+fn elements_at_once(rt: HostRuntime) -> Result<(), Fail> {
+    let meeting = Meeting::new();
+    let hasher = MeetingHasher { meeting: &meeting };
+    let set = HashSet::with_hasher(rt.alloc(), hasher).with_processors(2);
+    let list = Vec::from_array(rt.alloc(), [0u64, 1])?;
+
+    set::par_extend(&set, &rt, list, 1)?;
+
+    same(&rt, meeting.missed.load(Ordering::SeqCst), false);
+    same(&rt, set.len(&rt), 2);
+    Ok(())
 }
