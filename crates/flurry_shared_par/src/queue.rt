@@ -15,7 +15,9 @@ pub(crate) struct Queue<T, A: Allocator> {
 
 impl<T: Drop, A: Allocator + Copy> Queue<T, A> {
     // The list, whose pieces are of that length. A length of 0 is read as 1.
-    pub(crate) fn new(list: Vec<T, A>, part: usize) -> Self {
+    pub(crate) fn new(list: Vec<T, A>, part: usize) -> Self
+        ensures { result.part ≡ max part 1 }
+    {
         Queue {
             rest: Mutex::new(list),
             part: part.max(1),

@@ -34,7 +34,7 @@ returns-clause-elements g c =
     (ap keys_of c.in_ok-insert_node.ensures.pairs ∙ sym (with_element-keys g.T.Ord.cmp c.self.inside.map.pairs (arc_value e.key) (arc_value e.value)))
 
 pub returns-clause-bins : goal.returns-clause-bins
-returns-clause-bins g c = λ stood. c.in_ok-insert_node.ensures.bins (c.is_none.ensures ∙ stood)
+returns-clause-bins g c = λ stood. rw (← c.self.view_is) (c.in_ok-insert_node.ensures.bins (c.is_none.ensures ∙ stood))
 
 pub returns-clause-grown : goal.returns-clause-grown
 returns-clause-grown g c = λ new. rw (← c.self.view_is, length-map) (c.in_ok-insert_node.ensures.grown (c.is_none.ensures ∙ ap not new))
