@@ -42,6 +42,18 @@ impl<'m, R, T: Ord, S: KeyHasher<T>, A: Allocator> HashSetRef<'m, R, T, S, A> {
         HashSetRef { map }
     }
 
+    /// The runtime by which it waits. Constant time.
+    pub fn runtime(&self) -> &'m R {
+        self.map.runtime()
+    }
+
+    /// The number of processors that share the work of a growth; 0 counts as one. Constant time.
+    pub fn processors(&self) -> usize
+        ensures { result ≡ self.now.processors }
+    {
+        self.map.processors()
+    }
+
     /// A further view of the same set. Constant time; takes no memory.
     pub fn again(&self) -> Self
         ensures { result ≡ self.now }

@@ -1,0 +1,15 @@
+//! Maps and sets that threads share, extended by several threads at once.
+//!
+//! Workers take pieces of a list, and insert them through the shared map. [`map`] has the call of the map, [`map_ref`] that of its view,
+//! and [`set`] and [`set_ref`] those of the set. What stands in the map afterwards, no clause can tell, since other threads change it
+//! meanwhile.
+#![tactic(auto)]
+
+pub mod map;
+pub mod map_ref;
+mod queue;
+pub mod set;
+pub mod set_ref;
+mod workers;
+
+pub use workers::MOST_WORKERS;

@@ -1,0 +1,46 @@
+//! The view of the shared map, extended by several threads at once.
+ghost use Rattle.flurry_locks.specs.declared.tables.Maker.{Maker};
+ghost use Rattle.flurry_map_ref.specs.Driven.{IsDriven, no_changes};
+ghost use Rattle.flurry_map_ref.specs.Results.{value_outcome};
+ghost use Rattle.flurry_shared_par.specs.Answers.{IsWithoutValue};
+ghost use Rattle.flurry_steps.specs.Party.{Inserts, AtLocate};
+
+use crate::workers::{Put, put_all};
+use flurry_map_ref::HashMapRef;
+use flurry_model::hash::KeyHasher;
+use std::alloc::{AllocError, Allocator};
+use std::sync::Wait;
+use std::thread::Threads;
+
+impl<'m, R: Wait, K: Ord + Drop, V: Drop, S: KeyHasher<K>, A: Allocator + Copy> Put<(K, V)>
+    for HashMapRef<'m, R, K, V, S, A> {
+    // An insertion answers so, but for the old value.
+    ghost put_gives = { λ m p. IsWithoutValue (λ r. IsDriven (Maker K V A) K.cmp no_changes m (S.hash_of m.hasher p.0)
+        (AtLocate (Inserts p.0 p.1)) (value_outcome {A = A} r)) };
+
+    fn put(&self, item: (K, V)) -> Result<(), AllocError> {
+        self.insert(item.0, item.1)?;
+        Ok(())
+    }
+}
+
+/// Inserts pairs by several threads at once; see [`crate::map::par_extend`].
+///
+/// # Errors
+///
+/// [`AllocError`], as of [`crate::map::par_extend`].
+// What other threads leave in the map, no clause can tell.
+pub fn par_extend<
+    'm,
+    R: Threads + Wait + Sync,
+    K: Ord + Drop + Send + Sync,
+    V: Drop + Send + Sync,
+    S: KeyHasher<K> + Sync,
+    A: Allocator + Copy + Send + Sync,
+>(
+    map: &HashMapRef<'m, R, K, V, S, A>,
+    list: Vec<(K, V), A>,
+    part: usize,
+) -> Result<(), AllocError> {
+    put_all(map.runtime(), map, list, part, map.processors())
+}

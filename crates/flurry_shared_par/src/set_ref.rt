@@ -1,0 +1,41 @@
+//! The view of the shared set, extended by several threads at once.
+ghost use Rattle.flurry_locks.specs.declared.tables.Maker.{Maker};
+ghost use Rattle.flurry_map_ref.specs.Driven.{IsDriven, no_changes};
+ghost use Rattle.flurry_shared_par.specs.Answers.{IsWithoutValue};
+ghost use Rattle.flurry_shared_set.specs.ElementResults.{added_outcome};
+ghost use Rattle.flurry_steps.specs.Party.{Adds, AtLocate};
+
+use crate::workers::{Put, put_all};
+use flurry_model::hash::KeyHasher;
+use flurry_shared_set::HashSetRef;
+use std::alloc::{AllocError, Allocator};
+use std::sync::Wait;
+use std::thread::Threads;
+
+impl<'m, R: Wait, T: Ord + Drop, S: KeyHasher<T>, A: Allocator + Copy> Put<T>
+    for HashSetRef<'m, R, T, S, A> {
+    // An insertion answers so, but for whether the element is new.
+    ghost put_gives = { λ s e. IsWithoutValue (λ r. IsDriven (Maker T (Unit {0}) A) T.cmp (no_changes {K = T} {V = Unit {0}}) s
+        (S.hash_of s.hasher e) (AtLocate (Adds e tt)) (added_outcome r)) };
+
+    fn put(&self, item: T) -> Result<(), AllocError> {
+        self.insert(item)?;
+        Ok(())
+    }
+}
+
+/// Puts elements by several threads at once; see [`crate::set::par_extend`].
+///
+/// # Errors
+///
+/// [`AllocError`], as of [`crate::set::par_extend`].
+// What other threads leave in the set, no clause can tell.
+pub fn par_extend<
+    'm,
+    R: Threads + Wait + Sync,
+    T: Ord + Drop + Send + Sync,
+    S: KeyHasher<T> + Sync,
+    A: Allocator + Copy + Send + Sync,
+>(set: &HashSetRef<'m, R, T, S, A>, list: Vec<T, A>, part: usize) -> Result<(), AllocError> {
+    put_all(set.runtime(), set, list, part, set.processors())
+}

@@ -1,0 +1,41 @@
+//! Elements that several threads put.
+
+use super::{pairs_from_100, same};
+use flurry_model::hash::KeyHasher;
+use flurry_shared_par::{set, set_ref};
+use flurry_shared_set::HashSet;
+use std::process::Abort;
+use std::sync::Wait;
+use std::test::Fail;
+
+// A set has the hundred pairs as elements, and no other.
+fn has_a_hundred<S: KeyHasher<(u64, u64)>, R: Abort + Wait>(rt: &R, set: &HashSet<(u64, u64), S>) {
+    same(rt, set.len(rt), 100);
+    same(rt, set.contains(rt, &(100, 0)), true);
+    same(rt, set.contains(rt, &(199, 990)), true);
+    same(rt, set.contains(rt, &(100, 10)), false);
+}
+
+#[test]
+fn a_hundred_elements(rt: HostRuntime) -> Result<(), Fail> {
+    let set = HashSet::new(rt.alloc()).with_processors(4);
+    set::par_extend(&set, &rt, Vec::new(rt.alloc()), 7)?;
+    same(&rt, set.is_empty(&rt), true);
+    set::par_extend(&set, &rt, pairs_from_100(rt.alloc(), 100)?, 7)?;
+    has_a_hundred(&rt, &set);
+    set::par_extend(&set, &rt, pairs_from_100(rt.alloc(), 50)?, 1)?;
+    has_a_hundred(&rt, &set);
+    Ok(())
+}
+
+#[test]
+fn a_hundred_elements_by_a_view(rt: HostRuntime) -> Result<(), Fail> {
+    let set = HashSet::new(rt.alloc()).with_processors(4);
+    set_ref::par_extend(&set.pin(&rt), Vec::new(rt.alloc()), 7)?;
+    same(&rt, set.is_empty(&rt), true);
+    set_ref::par_extend(&set.pin(&rt), pairs_from_100(rt.alloc(), 100)?, 7)?;
+    has_a_hundred(&rt, &set);
+    set_ref::par_extend(&set.pin(&rt), pairs_from_100(rt.alloc(), 50)?, 1)?;
+    has_a_hundred(&rt, &set);
+    Ok(())
+}
