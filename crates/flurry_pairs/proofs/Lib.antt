@@ -1,0 +1,2 @@
+pub mod DoubleLaws
+pub mod SortedLaws

@@ -1,5 +1,7 @@
 //! Why no map is made of pairs.
+ghost use Rattle.std.specs.Prelude.{◌≡◌};
 
+use std::alloc::AllocError;
 use thiserror::Error;
 
 /// Why [`crate::map::from_pairs`] makes no map.
@@ -8,7 +10,15 @@ pub enum FromPairsError {
     /// Memory is wanting.
     #[error("memory is wanting")]
     NoMemory,
-    /// The key at this position, from 0, stood before, and no key before it did.
+    /// The key of the pair at this position, from 0, stood before, and no key before it did.
     #[error("the key at position {0} stood before")]
     DoubledKey(usize),
+}
+
+impl From<AllocError> for FromPairsError {
+    ghost from_gives = { λ _ e. e ≡ FromPairsError.NoMemory };
+
+    fn from(_: AllocError) -> FromPairsError {
+        FromPairsError::NoMemory
+    }
 }
