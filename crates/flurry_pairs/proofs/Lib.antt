@@ -1,2 +1,3 @@
+pub mod CloneLaws
 pub mod DoubleLaws
 pub mod SortedLaws

@@ -1,5 +1,6 @@
 //! Why no map is made of pairs.
 ghost use Rattle.std.specs.Prelude.{◌≡◌};
+ghost use Rattle.flurry_pairs.specs.declared.faults.FromPairsError.TheVariants.{NoMemory};
 
 use std::alloc::AllocError;
 use thiserror::Error;
@@ -16,7 +17,7 @@ pub enum FromPairsError {
 }
 
 impl From<AllocError> for FromPairsError {
-    ghost from_gives = { λ _ e. e ≡ FromPairsError.NoMemory };
+    ghost from_gives = { λ _ e. e ≡ NoMemory };
 
     fn from(_: AllocError) -> FromPairsError {
         FromPairsError::NoMemory
