@@ -75,7 +75,7 @@ pub fn from_pairs<K: Ord + Drop, V: Drop, S: KeyHasher<K> + Drop, A: Allocator +
     let SortedPairs(list) = pairs;
     let mut map = SeqMap::with_capacity_and_hasher(*list.allocator(), list.len(), hasher)?;
     for (position, (key, value)) in list.into_iter().enumerate() {
-        if map.try_insert(key, value)?.is_err() {
+        if map.insert(key, value)?.is_some() {
             return Err(FromPairsError::DoubledKey(position));
         }
     }
