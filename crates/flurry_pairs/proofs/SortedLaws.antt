@@ -10,7 +10,7 @@ use Rattle.std.proofs.lemmas.List.Elements.{All-from_recursion, recursion_from_A
 use Rattle.std.proofs.lemmas.List.Sorted.{All-permutation, sum_by-IsPermutation, sorted_far, ranks_by}
 use Rattle.std.proofs.lemmas.List.Sums.{sum_by-cons}
 use native.Mathlib.Numerals.{unary_clauses}
-use Rattle.flurry_model.proofs.FiniteMapLaws.{below_all, turned}
+use Rattle.flurry_model.proofs.FiniteMapLaws.{IsFiniteMap-nil, below_all, turned}
 use Rattle.flurry_model.proofs.ListParts.{all_map, find_lost, sorted_cons, sorted_head, sorted_nil, sorted_tail}
 use Rattle.flurry_model.specs.FiniteMap.{IsFiniteMap}
 
@@ -92,7 +92,7 @@ module _ {X : Type 0} {R : X → X → Ordering} (o : IsTotalOrder R) where
       by_order Equal p ih =
           let one : x ≡ y = same_option (sym found.0 ∙ rw p refl) in
           let less : (z : X) → count_by (λ w. is_eq (R z w)) xs ≡ count_by (λ w. is_eq (R z w)) m =
-              λ z. let a = sum_by-cons (λ w. cond (is_eq (R z w)) 1 0) x xs in let b = sum_by-cons (λ w. cond (is_eq (R z w)) 1 0) y m in let e : ◌≡◌ {A = ℕ} (cond (is_eq (R z x)) 1 0) (cond (is_eq (R z y)) 1 0) = ap (λ w. cond (is_eq (R z w)) 1 0) one in omega (arith, count z) in
+          λ z. let a = sum_by-cons (λ w. cond (is_eq (R z w)) 1 0) x xs in let b = sum_by-cons (λ w. cond (is_eq (R z w)) 1 0) y m in let e : ◌≡◌ {A = ℕ} (cond (is_eq (R z x)) 1 0) (cond (is_eq (R z y)) 1 0) = ap (λ w. cond (is_eq (R z w)) 1 0) one in omega (arith, count z) in
           let tails = ih less (found_behind y m xs (none_alike y xs (less y ∙ none_counted y m (sorted_head R y m s))) found.1) in
           cc
 
@@ -104,6 +104,15 @@ module _ {X : Type 0} {R : X → X → Ordering} (o : IsTotalOrder R) where
     where
       Found : X → Type 0
       Found x = find (λ y. is_eq (R x y)) m ≡ Some x
+
+-- pairs whose keys ascend
+pub keys_ascend : {K V : Type 0} (cmp : K → K → Ordering) (m : List (K × V)) → IsStrictlySortedBy (λ (p q : K × V). cmp p.0 q.0) m → IsFiniteMap cmp m
+keys_ascend {V = V} cmp [] s = IsFiniteMap-nil V cmp
+keys_ascend {K} {V} cmp (p ∷ m) s = sorted_cons cmp p.0 (keys_of m) (below m (sorted_head _ p m s)) (keys_ascend cmp m (sorted_tail _ p m s))
+  where
+    below : (m : List (K × V)) → AllByRecursion (λ (q : K × V). cmp p.0 q.0 ≡ Less) m → AllByRecursion (λ k. cmp p.0 k ≡ Less) (keys_of m)
+    below [] h = tt
+    below (q ∷ m) h = (h.0, below m h.1)
 
 -- the same of pairs in the order of their keys
 pub same_pairs : {K V : Type 0} {cmp : K → K → Ordering} → IsTotalOrder cmp → (m ps : List (K × V)) → IsFiniteMap cmp m → IsPermutation m ps → IsSortedByKey (λ (p : K × V). p.0) cmp ps → ps ≡ m

@@ -1,6 +1,8 @@
 //! Lists that `serde` writes and reads.
 
-use serde::{Described, Deserialize, DeserializeOwned, Deserializer, Format, Serialize, Serializer};
+use serde::{
+    Described, Deserialize, DeserializeOwned, Deserializer, Format, Serialize, Serializer,
+};
 use std::alloc::{Allocator, Global};
 
 /// Pairs of keys and values; in ascending order of their keys, where they were made of a map.

@@ -12,9 +12,7 @@ use std::process::Abort;
 use std::test::Fail;
 
 // That the clones of numbers equal them is known here with no proof.
-fn listed(
-    map: &SeqMap<u64, u64, LowHashBuilder>,
-) -> Result<SortedPairs<u64, u64>, AllocError>
+fn listed(map: &SeqMap<u64, u64, LowHashBuilder>) -> Result<SortedPairs<u64, u64>, AllocError>
     ensures pairs { IfOk result (λ list. list.0.items ≡ map.now.pairs) }
 {
     to_sorted_pairs(map)

@@ -129,7 +129,9 @@ impl Refused for MakesSet {
     fn once(&self, rt: &impl Abort, memory: Memory, k: u64) -> bool {
         let list = Vec::from_array(memory, [2u64, 1, 2]).expect(rt, "memory for the list");
         memory.refuse_at(k);
-        let count = from_items(SortedItems(list), LowHashBuilder).ok().map(|set| set.len());
+        let count = from_items(SortedItems(list), LowHashBuilder)
+            .ok()
+            .map(|set| set.len());
         let refused = memory.refused();
         memory.refuse_nothing();
         same(rt, count, if refused { None } else { Some(2) });

@@ -70,7 +70,9 @@ fn a_set_through_text(rt: HostRuntime) -> Result<(), Fail> {
 #[test]
 fn lists_from_values(rt: HostRuntime) {
     let value = serde_json::from_str(rt.alloc(), "[[2,1],[0,0]]").expect(&rt, "a value");
-    let pairs: SortedPairs<u64, u64> = serde_json::from_value(rt.alloc(), value).expect(&rt, "a list");
+    let pairs: SortedPairs<u64, u64> = serde_json::from_value(rt.alloc(), value).expect(
+        &rt, "a list",
+    );
     same(&rt, pairs.0.as_slice(), [(2u64, 1u64), (0, 0)].as_slice());
     let value = serde_json::from_str(rt.alloc(), "[2,1,2]").expect(&rt, "a value");
     let items: SortedItems<u64> = serde_json::from_value(rt.alloc(), value).expect(&rt, "a list");

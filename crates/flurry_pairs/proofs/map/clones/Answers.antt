@@ -1,5 +1,6 @@
-use Rattle.std.proofs.Common.{rules, ◌++◌, map, ap, sym, ◌∙◌, append_assoc}
-use Rattle.std.proofs.lemmas.List.{map-append}
+use Rattle.std.proofs.Common.{rules, ◌≡◌, ◌++◌, map, ap, sym, ◌∙◌, subst, append_assoc}
+use Rattle.std.specs.List.{AllZip}
+use Rattle.std.proofs.lemmas.List.{append-nil, map-append}
 use Rattle.std.proofs.lemmas.List.Elements.{AllZip-push}
 use Rattle.flurry_seq.specs.Iter.{pair_of_item}
 use Rattle.flurry_pairs.specs.Clones.{IsClonedPair}
@@ -14,3 +15,9 @@ loop-key-preserved g c = record {
       (rw c.as_ref.ensures at c.in_ok-clone.ensures.cases, rw c.as_ref-in-loop-key.ensures at c.in_ok-clone-2.ensures.cases));
   room = search rules;
 }
+
+pub returns : goal.returns
+returns g c =
+    let seen = map pair_of_item c.loop-key.yielded in
+    let all : seen ≡ c.args.pairs = sym (append-nil seen) ∙ ap (λ l. seen ++ l) (sym c.in-None.ensures.steps.0) ∙ c.loop-key.invariant.split in
+    subst (λ l. AllZip (IsClonedPair g.K.Clone.is_clone g.V.Clone.is_clone) l c.loop-key.list.items) all c.loop-key.invariant.cloned

@@ -1,8 +1,9 @@
-use Rattle.std.proofs.Common.{rules, ◌≡◌, ℕ, ◌+◌, Bool, true, false, List, [], ◌∷◌, ◌++◌, length, map, Option, Some, None, IsSome, is_some, option_map, refl, sym, ap, ◌∙◌, append_assoc, Ordering, arith}
+use Rattle.std.proofs.Common.{rules, ◌≡◌, ℕ, ◌+◌, Bool, true, false, List, [], ◌∷◌, ◌++◌, length, map, Option, Some, None, IsSome, is_some, option_map, refl, sym, ap, ◌∙◌, subst, append_assoc, arith}
 use Rattle.std.specs.Arc.{arc_value}
+use Rattle.std.specs.List.Sorted.{IsPermutation}
 use Rattle.std.specs.Iterator.Adapters.{enumerate_source}
 use Rattle.std.specs.Vec.Iter.{into_iter_items}
-use Rattle.std.proofs.lemmas.List.{map-append, length-map, length-append}
+use Rattle.std.proofs.lemmas.List.{append-nil, length-append, length-map, map-append, nil_from_length}
 use Rattle.flurry_model.specs.FiniteMap.{pair_at, with_pair}
 use Rattle.std.proofs.lemmas.List.Sorted.{length_permutation}
 use Rattle.flurry_model.proofs.FiniteMapLaws.{IsFiniteMap-with_pair, length-with_pair, with_all-push}
@@ -31,25 +32,25 @@ room_new front back all x old new b m split few more from after =
     let long : length all ≡ length front + (length back + 1) = ap length (sym split) ∙ length-append front (x ∷ back) ∙ omega arith in
     room_more (bins_for (length all)) old new (length all) b m (room_for (length all)) (omega arith) (omega arith) (omega arith) from after
 
-pub loop-position-init : goal.loop-position-init
-loop-position-init g c = ?
-
 pub returns-then-is_some-clause-doubled : goal.returns-then-is_some-clause-doubled
 returns-then-is_some-clause-doubled g c = λ position same.
     let front = map (λ e. e.1) c.loop-position.yielded in
     let there : IsSome (pair_at g.K.Ord.cmp c.loop-position.map.pairs c.in-Some.key) =
-        found (λ p. p.1) arc_value (pair_at g.K.Ord.cmp c.loop-position.map.pairs c.in-Some.key) c.in_ok-insert.field-0 c.in_ok-insert.ensures.old ∙ sym c.is_some.ensures ∙ c.if-is_some.true in
-    (front, into_iter_items (enumerate_source c.next.new.self), (c.in-Some.key, c.in-Some.value),
-    sym c.loop-position.invariant.split ∙ ap (λ l. front ++ l) c.in-Some.ensures.steps.0.0,
-    length-map c.loop-position.yielded (λ e. e.1) ∙ sym c.loop-position.invariant.count ∙ sym c.in-Some.ensures.steps.1 ∙ same_position _ _ same,
-    c.loop-position.invariant.apart,
-    found_permuted g.K.Ord.cmp front c.loop-position.map.pairs c.in-Some.key c.loop-position.invariant.permuted ∙ there)
+    found (λ p. p.1) arc_value (pair_at g.K.Ord.cmp c.loop-position.map.pairs c.in-Some.key) c.in_ok-insert.field-0 c.in_ok-insert.ensures.old ∙ sym c.is_some.ensures ∙ c.if-is_some.true in (
+      front,
+      into_iter_items (enumerate_source c.next.new.self),
+      (c.in-Some.key, c.in-Some.value),
+      sym c.loop-position.invariant.split ∙ ap (λ l. front ++ l) c.in-Some.ensures.steps.0.0,
+      length-map c.loop-position.yielded (λ e. e.1) ∙ sym c.loop-position.invariant.count ∙ sym c.in-Some.ensures.steps.1 ∙ same_position _ _ same,
+      c.loop-position.invariant.apart,
+      found_permuted g.K.Ord.cmp front c.loop-position.map.pairs c.in-Some.key c.loop-position.invariant.permuted ∙ there,
+    )
 
 pub loop-position-preserved : goal.loop-position-preserved
 loop-position-preserved g c =
     let front = map (λ e. e.1) c.loop-position.yielded in
     let none : pair_at g.K.Ord.cmp c.loop-position.map.pairs c.in-Some.key ≡ None =
-        absent_is _ (found (λ p. p.1) arc_value (pair_at g.K.Ord.cmp c.loop-position.map.pairs c.in-Some.key) c.in_ok-insert.field-0 c.in_ok-insert.ensures.old ∙ sym c.is_some.ensures ∙ c.if-is_some.false) in
+    absent_is _ (found (λ p. p.1) arc_value (pair_at g.K.Ord.cmp c.loop-position.map.pairs c.in-Some.key) c.in_ok-insert.field-0 c.in_ok-insert.ensures.old ∙ sym c.is_some.ensures ∙ c.if-is_some.false) in
     record {
       ready = search rules;
       ends = search rules;
@@ -59,7 +60,7 @@ loop-position-preserved g c =
           (ap (λ l. front ++ l) (sym c.in-Some.ensures.steps.0.0) ∙ c.loop-position.invariant.split)
           (length_permutation front c.loop-position.map.pairs c.loop-position.invariant.permuted)
           (ap length c.in_ok-insert.ensures.pairs ∙ length-with_pair g.met.K.Ord.total c.loop-position.map.pairs c.in-Some.key c.in-Some.value c.loop-position.invariant.ascend ∙ rw none refl)
-          c.loop-position.invariant.room (c.in_ok-insert.ensures.grown ?);
+          c.loop-position.invariant.room (c.in_ok-insert.ensures.grown (sym c.is_some.ensures ∙ c.if-is_some.false));
       hasher = c.in_ok-insert.ensures.hasher ∙ c.loop-position.invariant.hasher;
       split = rw (map-append, append_assoc) (ap (λ l. front ++ l) (sym c.in-Some.ensures.steps.0.0) ∙ c.loop-position.invariant.split);
       pairs =
@@ -73,3 +74,10 @@ loop-position-preserved g c =
           (permuted_push g.met.K.Ord.total front c.loop-position.map.pairs (c.in-Some.key, c.in-Some.value) c.loop-position.invariant.permuted c.loop-position.invariant.ascend none);
       ascend = rw c.in_ok-insert.ensures.pairs (IsFiniteMap-with_pair g.met.K.Ord.total c.loop-position.map.pairs c.in-Some.key c.in-Some.value c.loop-position.invariant.ascend);
     }
+
+pub returns-clause-pairs : goal.returns-clause-pairs
+returns-clause-pairs g c =
+    let front = map (λ e. e.1) c.loop-position.yielded in
+    let rest = enumerate_source c.loop-position.position-iterator in
+    let none : into_iter_items rest ≡ [] = nil_from_length (into_iter_items rest) (omega (arith, rest.rest.ok.0, c.in-None.ensures.steps.0.0)) in
+    subst (λ l. IsPermutation l c.loop-position.map.pairs) (sym (append-nil front) ∙ ap (λ l. front ++ l) (sym none) ∙ c.loop-position.invariant.split) c.loop-position.invariant.permuted
