@@ -1,5 +1,5 @@
 -- Lists of pairs in which no key stands twice, and the maps of their pairs.
-use Rattle.std.proofs.Common.{◌≡◌, Bool, true, false, ◌||◌, List, [], ◌∷◌, ◌++◌, Option, Some, None, IsSome, is_some, refl, sym, ap, ◌∙◌, Ordering, Less, Equal, Greater}
+use Rattle.std.proofs.Common.{◌≡◌, Bool, true, false, List, [], ◌∷◌, ◌++◌, None, is_some, refl, sym, ap, ◌∙◌, Ordering, Less, Equal, Greater}
 use Rattle.std.specs.Ordering.{is_eq, ordering_reverse}
 use Rattle.std.specs.Cmp.{IsTotalOrder}
 use Rattle.std.specs.List.{list_any}
@@ -9,12 +9,9 @@ use Rattle.std.proofs.lemmas.List.Sorted.{IsPermutation-push_more, list_any-IsPe
 use Rattle.std.proofs.lemmas.Map.Keys.{sorted_head, sorted_tail}
 use Rattle.flurry_model.specs.FiniteMap.{IsFiniteMap, pair_at, with_pair, map_of_pairs}
 use Rattle.flurry_model.proofs.FiniteMapLaws.{IsFiniteMap-map_of_pairs, pair_at_below, pair_at-map_of_pairs, same_map, without_none}
+use Rattle.flurry_model.proofs.OptionLaws.{absent_is}
 use Rattle.flurry_seq.specs.Apart.{AreApart}
 use Rattle.flurry_seq.proofs.IterLemmas.{gathered_permutes}
-
-not_found : {X : Type 0} (w : Option X) → is_some w ≡ false → w ≡ None
-not_found None h = refl
-not_found (Some x) h = cc
 
 module _ {K V : Type 0} (cmp : K → K → Ordering) where
   found_any : (ps : List (K × V)) (k : K) → is_some (pair_at cmp ps k) ≡ list_any (λ p. is_eq (cmp k p.0)) ps
@@ -30,7 +27,7 @@ module _ {K V : Type 0} (cmp : K → K → Ordering) where
   found_permuted ps qs k h = found_any ps k ∙ list_any-IsPermutation (λ p. is_eq (cmp k p.0)) ps qs h ∙ sym (found_any qs k)
 
   pub none_permuted : (ps qs : List (K × V)) (k : K) → IsPermutation ps qs → pair_at cmp qs k ≡ None → pair_at cmp ps k ≡ None
-  none_permuted ps qs k h none = not_found _ (found_permuted ps qs k h ∙ ap is_some none)
+  none_permuted ps qs k h none = absent_is _ (found_permuted ps qs k h ∙ ap is_some none)
 
 module _ {K : Type 0} {cmp : K → K → Ordering} (o : IsTotalOrder cmp) where
   other_way : (j k : K) → is_eq (cmp j k) ≡ false → is_eq (cmp k j) ≡ false

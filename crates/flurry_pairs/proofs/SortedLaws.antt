@@ -1,6 +1,6 @@
 -- Two ascending lists of the same elements are one list.
-use Rattle.std.proofs.Common.{◌≡◌, ℕ, suc, ◌+◌, ◌<◌, ◌≤◌, Bool, true, false, cond, List, [], ◌∷◌, length, Option, Some, None, refl, sym, ap, ◌∙◌, add-one, arith, Ordering, Less, Equal, Greater}
-use Rattle.std.specs.Ordering.{is_eq, is_lt, ordering_reverse}
+use Rattle.std.proofs.Common.{◌≡◌, ℕ, suc, Bool, true, false, cond, List, [], ◌∷◌, Some, refl, sym, ap, ◌∙◌, add-one, arith, Ordering, Less, Equal, Greater}
+use Rattle.std.specs.Ordering.{is_eq, is_lt}
 use Rattle.std.specs.Cmp.{IsTotalOrder, tied_itself}
 use Rattle.std.specs.List.{AllByRecursion, find, count_by}
 use Rattle.std.specs.List.Sorted.{IsStrictlySortedBy, IsPermutation, IsSorted, IsSortedByKey}
@@ -17,9 +17,6 @@ use Rattle.flurry_model.specs.FiniteMap.{IsFiniteMap}
 one_or_none : (b : Bool) → ◌≡◌ {A = ℕ} (cond b 1 0) 0 → b ≡ false
 one_or_none true h = absurd (omega arith)
 one_or_none false h = refl
-
-same_option : {X : Type 0} {x y : X} → Some x ≡ Some y → x ≡ y
-same_option e = cc
 
 module _ {X : Type 0} {R : X → X → Ordering} (o : IsTotalOrder R) where
   -- the first of a list in order is the least
@@ -90,7 +87,8 @@ module _ {X : Type 0} {R : X → X → Ordering} (o : IsTotalOrder R) where
           let none = none_counted y (x ∷ xs) (less, below_first y x xs less (least_first x xs up)) in
           absurd (omega (arith, count y, first_counted y m s))
       by_order Equal p ih =
-          let one : x ≡ y = same_option (sym found.0 ∙ rw p refl) in
+          let at : Some y ≡ Some x = rw p at found.0 in
+          let one : x ≡ y = cc in
           let less : (z : X) → count_by (λ w. is_eq (R z w)) xs ≡ count_by (λ w. is_eq (R z w)) m =
           λ z. let a = sum_by-cons (λ w. cond (is_eq (R z w)) 1 0) x xs in let b = sum_by-cons (λ w. cond (is_eq (R z w)) 1 0) y m in let e : ◌≡◌ {A = ℕ} (cond (is_eq (R z x)) 1 0) (cond (is_eq (R z y)) 1 0) = ap (λ w. cond (is_eq (R z w)) 1 0) one in omega (arith, count z) in
           let tails = ih less (found_behind y m xs (none_alike y xs (less y ∙ none_counted y m (sorted_head R y m s))) found.1) in

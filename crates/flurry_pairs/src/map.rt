@@ -49,7 +49,8 @@ fn clones<K: Ord + Clone, V: Clone, A: Allocator + Copy>(
     Ok(list)
 }
 
-/// A map of pairs in any order, over a hasher, in the memory of their list. It begins as one with room for as many pairs as there are.
+/// A map of pairs in any order, over a hasher, in memory of their list's allocator. It begins as one with room for as many pairs as
+/// there are.
 ///
 /// One insertion for each pair.
 ///

@@ -46,8 +46,8 @@ fn clones<T: Ord + Clone, A: Allocator + Copy>(
     Ok(list)
 }
 
-/// A set of elements in any order, over a hasher, in the memory of their list: of a class that comes twice the first stays. It begins as
-/// one with room for as many elements as there are.
+/// A set of elements in any order, over a hasher, in memory of their list's allocator: of a class that comes twice the first stays. It
+/// begins as one with room for as many elements as there are.
 ///
 /// One insertion for each element.
 ///

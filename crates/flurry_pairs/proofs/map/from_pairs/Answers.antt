@@ -1,11 +1,11 @@
-use Rattle.std.proofs.Common.{rules, ◌≡◌, ℕ, ◌+◌, Bool, true, false, List, [], ◌∷◌, ◌++◌, length, map, Option, Some, None, IsSome, is_some, option_map, refl, sym, ap, ◌∙◌, subst, append_assoc, arith}
+use Rattle.std.proofs.Common.{rules, ◌≡◌, ℕ, ◌+◌, true, false, List, [], ◌∷◌, ◌++◌, length, map, Option, Some, None, IsSome, is_some, option_map, refl, sym, ap, ◌∙◌, subst, append_assoc, arith}
 use Rattle.std.specs.Arc.{arc_value}
 use Rattle.std.specs.List.Sorted.{IsPermutation}
 use Rattle.std.specs.Iterator.Adapters.{enumerate_source}
 use Rattle.std.specs.Vec.Iter.{into_iter_items}
 use Rattle.std.proofs.lemmas.List.{append-nil, length-append, length-map, map-append, nil_from_length}
-use Rattle.flurry_model.specs.FiniteMap.{pair_at, with_pair}
 use Rattle.std.proofs.lemmas.List.Sorted.{length_permutation}
+use Rattle.flurry_model.specs.FiniteMap.{pair_at, with_pair}
 use Rattle.flurry_model.proofs.FiniteMapLaws.{IsFiniteMap-with_pair, length-with_pair, with_all-push}
 use Rattle.flurry_model.proofs.OptionLaws.{absent_is}
 use Rattle.flurry_model.specs.declared.sizes.TheConstants.{FIRST_BINS}
@@ -20,11 +20,11 @@ same_position : (m n : ℕ) → DoubledKey m ≡ DoubledKey n → m ≡ n
 same_position m n e = cc
 
 -- an insertion answers a value just where it finds its key
-found : {X Y Z : Type 0} (f : X → Y) (h : Z → Y) (p : Option X) (w : Option Z) → option_map h w ≡ option_map f p → is_some p ≡ is_some w
-found f h None None e = refl
-found f h None (Some z) e = cc
-found f h (Some x) None e = cc
-found f h (Some x) (Some z) e = refl
+answers_where_present : {X Y Z : Type 0} (f : X → Y) (h : Z → Y) (p : Option X) (w : Option Z) → option_map h w ≡ option_map f p → is_some p ≡ is_some w
+answers_where_present f h None None e = refl
+answers_where_present f h None (Some z) e = cc
+answers_where_present f h (Some x) None e = cc
+answers_where_present f h (Some x) (Some z) e = refl
 
 -- a new pair in a table that was made for all pairs
 room_new : {X : Type 0} (front back all : List X) (x : X) (old new b m : ℕ) → front ++ x ∷ back ≡ all → old ≡ length front → new ≡ old + 1 → IsTableFrom (bins_for (length all)) old b → IsTableAfter (first_bins b FIRST_BINS) new m → IsTableFrom (bins_for (length all)) new m
@@ -36,7 +36,7 @@ pub returns-then-is_some-clause-doubled : goal.returns-then-is_some-clause-doubl
 returns-then-is_some-clause-doubled g c = λ position same.
     let front = map (λ e. e.1) c.loop-position.yielded in
     let there : IsSome (pair_at g.K.Ord.cmp c.loop-position.map.pairs c.in-Some.key) =
-    found (λ p. p.1) arc_value (pair_at g.K.Ord.cmp c.loop-position.map.pairs c.in-Some.key) c.in_ok-insert.field-0 c.in_ok-insert.ensures.old ∙ sym c.is_some.ensures ∙ c.if-is_some.true in (
+    answers_where_present (λ p. p.1) arc_value (pair_at g.K.Ord.cmp c.loop-position.map.pairs c.in-Some.key) c.in_ok-insert.field-0 c.in_ok-insert.ensures.old ∙ sym c.is_some.ensures ∙ c.if-is_some.true in (
       front,
       into_iter_items (enumerate_source c.next.new.self),
       (c.in-Some.key, c.in-Some.value),
@@ -50,7 +50,7 @@ pub loop-position-preserved : goal.loop-position-preserved
 loop-position-preserved g c =
     let front = map (λ e. e.1) c.loop-position.yielded in
     let none : pair_at g.K.Ord.cmp c.loop-position.map.pairs c.in-Some.key ≡ None =
-    absent_is _ (found (λ p. p.1) arc_value (pair_at g.K.Ord.cmp c.loop-position.map.pairs c.in-Some.key) c.in_ok-insert.field-0 c.in_ok-insert.ensures.old ∙ sym c.is_some.ensures ∙ c.if-is_some.false) in
+    absent_is _ (answers_where_present (λ p. p.1) arc_value (pair_at g.K.Ord.cmp c.loop-position.map.pairs c.in-Some.key) c.in_ok-insert.field-0 c.in_ok-insert.ensures.old ∙ sym c.is_some.ensures ∙ c.if-is_some.false) in
     record {
       ready = search rules;
       ends = search rules;
