@@ -9,10 +9,10 @@ use Rattle.std.proofs.lemmas.Cmp.{alike_right, on_total}
 use Rattle.std.proofs.lemmas.List.Elements.{All-from_recursion, recursion_from_All}
 use Rattle.std.proofs.lemmas.List.Sorted.{All-permutation, sum_by-IsPermutation, sorted_far, ranks_by}
 use Rattle.std.proofs.lemmas.List.Sums.{sum_by-cons}
-use native.Mathlib.Numerals.{unary_clauses}
+use Rattle.flurry_model.specs.FiniteMap.{IsFiniteMap}
 use Rattle.flurry_model.proofs.FiniteMapLaws.{IsFiniteMap-nil, below_all, turned}
 use Rattle.flurry_model.proofs.ListParts.{all_map, find_lost, sorted_cons, sorted_head, sorted_nil, sorted_tail}
-use Rattle.flurry_model.specs.FiniteMap.{IsFiniteMap}
+use native.Mathlib.Numerals.{unary_clauses}
 
 one_or_none : (b : Bool) → ◌≡◌ {A = ℕ} (cond b 1 0) 0 → b ≡ false
 one_or_none true h = absurd (omega arith)

@@ -9,7 +9,7 @@ use std::alloc::{Allocator, Global};
 ///
 /// It is written as a sequence of pairs. What is read may be in any order.
 #[derive(Drop)]
-#[derive_where(Debug, PartialEq; K, V)]
+#[derive_where(Debug, PartialEq, Eq; K, V)]
 pub struct SortedPairs<K, V, A: Allocator = Global>(pub Vec<(K, V), A>);
 
 impl<K: Described, V: Described, A: Allocator> Described for SortedPairs<K, V, A> {
@@ -44,7 +44,7 @@ impl<K: DeserializeOwned, V: DeserializeOwned> DeserializeOwned for SortedPairs<
 ///
 /// It is written as a sequence. What is read may be in any order, and may have an element twice.
 #[derive(Drop)]
-#[derive_where(Debug, PartialEq; T)]
+#[derive_where(Debug, PartialEq, Eq; T)]
 pub struct SortedItems<T, A: Allocator = Global>(pub Vec<T, A>);
 
 impl<T: Described, A: Allocator> Described for SortedItems<T, A> {
