@@ -1,0 +1,3 @@
+pub mod CloneLaws
+pub mod DoubleLaws
+pub mod SortedLaws

@@ -1,0 +1,28 @@
+//! The pairs of a shared map.
+ghost use Rattle.std.specs.Prelude.{IfOk};
+ghost use Rattle.flurry_model.specs.FiniteMap.{IsFiniteMap};
+
+use crate::map_ref;
+use flurry_map::HashMap;
+use flurry_model::hash::KeyHasher;
+use flurry_pairs::SortedPairs;
+use std::alloc::{AllocError, Allocator};
+use std::sync::Wait;
+
+/// The pairs that one walk gives, in ascending order of the keys. See [`map_ref::to_sorted_pairs`].
+///
+/// # Errors
+///
+/// [`AllocError`], as of [`map_ref::to_sorted_pairs`].
+pub fn to_sorted_pairs<
+    R: Wait,
+    K: Ord + Clone,
+    V: Clone,
+    S: KeyHasher<K>,
+    A: Allocator + Copy,
+    B: Allocator,
+>(rt: &R, alloc: B, map: &HashMap<K, V, S, A>) -> Result<SortedPairs<K, V, B>, AllocError>
+    ensures ascend { IfOk result (λ list. IsFiniteMap K.cmp list.0.items) }
+{
+    map_ref::to_sorted_pairs(alloc, &map.pin(rt))
+}

@@ -1,0 +1,38 @@
+//! The pairs of a shared map, by its view.
+ghost use Rattle.std.specs.Prelude.{IfOk};
+ghost use Rattle.flurry_model.specs.FiniteMap.{IsFiniteMap};
+
+use crate::ascending::ascending_pairs;
+use flurry_map_ref::HashMapRef;
+use flurry_model::hash::KeyHasher;
+use flurry_pairs::SortedPairs;
+use std::alloc::{AllocError, Allocator};
+use std::sync::Wait;
+
+/// The pairs that one walk gives, as of [`HashMapRef::iter`], whose keys and values are cloned, in ascending order of the keys. The list
+/// is in memory of its own allocator.
+///
+/// A whole walk, which holds no lock while a key or a value is cloned, and one sort.
+///
+/// # Errors
+///
+/// [`AllocError`], where memory for the list is wanting, or where a further owner or a clone is refused. The clones that were made are
+/// dropped.
+// Which pairs it has, no clause can tell, since other threads change them meanwhile.
+pub fn to_sorted_pairs<
+    R: Wait,
+    K: Ord + Clone,
+    V: Clone,
+    S: KeyHasher<K>,
+    A: Allocator + Copy,
+    B: Allocator,
+>(alloc: B, map: &HashMapRef<'_, R, K, V, S, A>) -> Result<SortedPairs<K, V, B>, AllocError>
+    ensures ascend { IfOk result (λ list. IsFiniteMap K.cmp list.0.items) }
+{
+    let mut list = Vec::new(alloc);
+    let mut pairs = map.iter();
+    while let Some((key, value)) = pairs.next()? {
+        list.push((key.as_ref().clone()?, value.as_ref().clone()?))?;
+    }
+    Ok(SortedPairs(ascending_pairs(list)))
+}

@@ -1,0 +1,81 @@
+//! Maps as lists of pairs, and back.
+ghost use Rattle.std.specs.Prelude.{◌≡◌, IfOk};
+ghost use Rattle.flurry_model.specs.FiniteMap.{IsFiniteMap};
+
+use super::{five, map_of, same};
+use flurry_model::hash::LowHashBuilder;
+use flurry_pairs::map::{from_pairs, to_sorted_pairs};
+use flurry_pairs::{FromPairsError, SortedPairs};
+use flurry_seq::SeqMap;
+use std::alloc::AllocError;
+use std::process::Abort;
+use std::test::Fail;
+
+// That the clones of numbers equal them is known here with no proof.
+fn listed(map: &SeqMap<u64, u64, LowHashBuilder>) -> Result<SortedPairs<u64, u64>, AllocError>
+    ensures pairs { IfOk result (λ list. list.0.items ≡ map.now.pairs) }
+{
+    to_sorted_pairs(map)
+}
+
+// Why no map is made of pairs.
+fn fault<const N: usize>(
+    rt: &(impl Abort + AllocGlobal),
+    pairs: [(u64, u64); N],
+) -> Option<FromPairsError> {
+    let list = Vec::from_array(rt.alloc(), pairs).expect(rt, "memory for the pairs");
+    from_pairs(SortedPairs(list), LowHashBuilder).err()
+}
+
+#[test]
+fn a_key_that_stood_before(rt: HostRuntime) {
+    same(
+        &rt,
+        fault(&rt, [(1, 2), (1, 3)]),
+        Some(FromPairsError::DoubledKey(1)),
+    );
+}
+
+#[test]
+fn the_first_of_two_keys_that_stood_before(rt: HostRuntime) {
+    same(
+        &rt,
+        fault(&rt, [(2, 0), (1, 0), (2, 0), (1, 0)]),
+        Some(FromPairsError::DoubledKey(2)),
+    );
+}
+
+#[test]
+fn pairs_of_no_key_twice(rt: HostRuntime) {
+    same(&rt, fault(&rt, [(2, 0), (1, 0), (0, 0)]), None);
+    same(&rt, fault(&rt, []), None);
+}
+
+#[test]
+fn there_and_back(rt: HostRuntime) {
+    let map = five(&rt);
+    let list = listed(&map).expect(&rt, "memory for the list");
+    let wanted = Vec::from_array(rt.alloc(), [(0u64, 4u64), (1, 3), (2, 2), (3, 1), (4, 0)]);
+    same(&rt, Some(&list.0), wanted.ok().as_ref());
+    let back = from_pairs(list, LowHashBuilder).expect(&rt, "memory for the map");
+    same(&rt, back == map, true);
+}
+
+#[test]
+fn any_order_is_read(rt: HostRuntime) {
+    let list = Vec::from_array(rt.alloc(), [(2u64, 20u64), (0, 0), (1, 10)]).expect(
+        &rt,
+        "memory for the pairs",
+    );
+    let map = from_pairs(SortedPairs(list), LowHashBuilder).expect(&rt, "memory for the map");
+    same(&rt, map == map_of(&rt, [(0, 0), (1, 10), (2, 20)]), true);
+}
+
+#[test]
+fn what_a_fault_prints(rt: HostRuntime) -> Result<(), Fail> {
+    let position = format!(in rt.alloc(); "{}", FromPairsError::DoubledKey(3))?;
+    assert_eq!(rt; position.as_str(), "the key at position 3 stood before");
+    let memory = format!(in rt.alloc(); "{}", FromPairsError::NoMemory)?;
+    assert_eq!(rt; memory.as_str(), "memory is wanting");
+    Ok(())
+}

@@ -1,0 +1,145 @@
+//! Each request for memory, refused in turn. A call that is refused gives back all that it took.
+
+use super::same;
+use flurry_model::hash::LowHashBuilder;
+use flurry_pairs::map::{from_pairs, to_sorted_pairs};
+use flurry_pairs::set::{from_items, to_sorted_items};
+use flurry_pairs::{FromPairsError, SortedItems, SortedPairs};
+use flurry_seq::SeqMap;
+use flurry_set::SeqSet;
+use metered_alloc::Metered;
+use std::alloc::{AllocError, Global};
+use std::process::Abort;
+use std::test::Fail;
+
+type Memory = &'static Metered<Global>;
+
+// A map of numbers to lists, whose clones take memory.
+type ListMap = SeqMap<u64, Vec<u64, Memory>, LowHashBuilder, Memory>;
+
+type NumberSet = SeqSet<u64, LowHashBuilder, Memory>;
+
+// No call makes so many requests.
+const MOST_REQUESTS: u64 = 100;
+
+// A call whose requests are refused in turn.
+trait Refused {
+    // Makes the call with the request numbered k refused, sees to what it did, and answers whether it made that request.
+    fn once(&self, rt: &impl Abort, memory: Memory, k: u64) -> bool;
+}
+
+// Refuses each request of a call in turn. It makes at least one, and each block comes back.
+fn refuse_each<C: Refused>(rt: &impl Abort, alloc: Global, call: &C) -> Result<(), Fail> {
+    let memory = Metered::leaked(alloc)?;
+    for k in 0..MOST_REQUESTS {
+        let refused = call.once(rt, memory, k);
+        same(rt, memory.blocks(), 0);
+        if !refused {
+            same(rt, k > 0, true);
+            return Ok(());
+        }
+    }
+    Err(Fail::from("it makes fewer requests"))
+}
+
+// The pairs of a map, each value a list of its key.
+fn lists(memory: Memory) -> Result<ListMap, AllocError> {
+    let mut map = SeqMap::with_hasher(memory, LowHashBuilder);
+    for key in 0..3u64 {
+        map.insert(key, Vec::from_array(memory, [key])?)?;
+    }
+    Ok(map)
+}
+
+// The list of a map of three pairs.
+struct ListsPairs;
+
+impl Refused for ListsPairs {
+    fn once(&self, rt: &impl Abort, memory: Memory, k: u64) -> bool {
+        let map = lists(memory).expect(rt, "memory for the map");
+        memory.refuse_at(k);
+        let count = to_sorted_pairs(&map).ok().map(|list| list.0.len());
+        let refused = memory.refused();
+        memory.refuse_nothing();
+        same(rt, count, if refused { None } else { Some(3) });
+        refused
+    }
+}
+
+#[test]
+fn pairs_of_a_map(rt: HostRuntime) -> Result<(), Fail> {
+    refuse_each(&rt, rt.alloc(), &ListsPairs)
+}
+
+// A map of three pairs.
+struct MakesMap;
+
+impl Refused for MakesMap {
+    fn once(&self, rt: &impl Abort, memory: Memory, k: u64) -> bool {
+        let list = Vec::from_array(memory, [(2u64, 0u64), (1, 1), (0, 2)]).expect(
+            rt,
+            "memory for the list",
+        );
+        memory.refuse_at(k);
+        let answer = from_pairs(SortedPairs(list), LowHashBuilder);
+        let refused = memory.refused();
+        memory.refuse_nothing();
+        let wanted = if refused {
+            Some(FromPairsError::NoMemory)
+        } else {
+            None
+        };
+        same(rt, answer.err(), wanted);
+        refused
+    }
+}
+
+#[test]
+fn a_map_of_pairs(rt: HostRuntime) -> Result<(), Fail> {
+    refuse_each(&rt, rt.alloc(), &MakesMap)
+}
+
+// The list of a set of three elements.
+struct ListsElements;
+
+impl Refused for ListsElements {
+    fn once(&self, rt: &impl Abort, memory: Memory, k: u64) -> bool {
+        let mut set: NumberSet = SeqSet::with_hasher(memory, LowHashBuilder);
+        for element in 0..3u64 {
+            same(rt, set.insert(element), Ok(true));
+        }
+        memory.refuse_at(k);
+        let count = to_sorted_items(&set).ok().map(|list| list.0.len());
+        let refused = memory.refused();
+        memory.refuse_nothing();
+        same(rt, count, if refused { None } else { Some(3) });
+        refused
+    }
+}
+
+#[test]
+fn elements_of_a_set(rt: HostRuntime) -> Result<(), Fail> {
+    refuse_each(&rt, rt.alloc(), &ListsElements)
+}
+
+// A set of two elements, one of which comes twice.
+struct MakesSet;
+
+impl Refused for MakesSet {
+    fn once(&self, rt: &impl Abort, memory: Memory, k: u64) -> bool {
+        let list = Vec::from_array(memory, [2u64, 1, 2]).expect(rt, "memory for the list");
+        memory.refuse_at(k);
+        let count = from_items(SortedItems(list), LowHashBuilder)
+            .ok()
+            .map(|set| set.len());
+        let refused = memory.refused();
+        memory.refuse_nothing();
+        same(rt, count, if refused { None } else { Some(2) });
+        refused
+    }
+}
+
+#[test]
+fn a_set_of_elements(rt: HostRuntime) -> Result<(), Fail> {
+    refuse_each(&rt, rt.alloc(), &MakesSet)
+}

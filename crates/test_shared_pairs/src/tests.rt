@@ -1,0 +1,143 @@
+//! Lists of maps and sets that no other thread changes meanwhile, and each request for memory that making one makes, refused in turn.
+
+use flurry_map::HashMap;
+use flurry_model::hash::LowHashBuilder;
+use flurry_pairs::{SortedItems, SortedPairs};
+use flurry_shared_pairs::{map, map_ref, set, set_ref};
+use flurry_shared_set::HashSet;
+use metered_alloc::Metered;
+use std::alloc::{AllocError, Allocator, Global};
+use std::fmt::Debug;
+use std::process::Abort;
+use std::sync::Wait;
+use std::test::Fail;
+
+// No call makes so many requests.
+const MOST_REQUESTS: u64 = 100;
+
+// Sees that a value is the one that is wanted. A test of many assertions calls this, since each `assert_eq!` that stands in it makes
+// its proof longer.
+fn same<T: PartialEq + Debug + Drop>(rt: &impl Abort, seen: T, wanted: T) {
+    assert_eq!(rt; seen, wanted);
+}
+
+// The keys 2, 0 and 1, each with ten times as much.
+fn three_pairs<A: Allocator + Copy, R: Wait>(
+    rt: &R,
+    alloc: A,
+) -> Result<HashMap<u64, u64, LowHashBuilder, A>, AllocError> {
+    let map = HashMap::with_hasher(alloc, LowHashBuilder);
+    map.insert(rt, 2, 20)?;
+    map.insert(rt, 0, 0)?;
+    map.insert(rt, 1, 10)?;
+    Ok(map)
+}
+
+fn three_elements<A: Allocator + Copy, R: Wait>(
+    rt: &R,
+    alloc: A,
+) -> Result<HashSet<u64, LowHashBuilder, A>, AllocError> {
+    let set = HashSet::with_hasher(alloc, LowHashBuilder);
+    set.insert(rt, 2)?;
+    set.insert(rt, 0)?;
+    set.insert(rt, 1)?;
+    Ok(set)
+}
+
+#[test]
+fn pairs_of_a_map(rt: HostRuntime) -> Result<(), Fail> {
+    let map = three_pairs(&rt, rt.alloc())?;
+    let wanted = SortedPairs(Vec::from_array(rt.alloc(), [(0u64, 0u64), (1, 10), (2, 20)])?);
+    same(&rt, &map::to_sorted_pairs(&rt, rt.alloc(), &map)?, &wanted);
+    same(
+        &rt,
+        &map_ref::to_sorted_pairs(rt.alloc(), &map.pin(&rt))?,
+        &wanted,
+    );
+    Ok(())
+}
+
+#[test]
+fn no_pairs(rt: HostRuntime) -> Result<(), Fail> {
+    let map: HashMap<u64, u64, LowHashBuilder> = HashMap::with_hasher(rt.alloc(), LowHashBuilder);
+    let list = map::to_sorted_pairs(&rt, rt.alloc(), &map)?;
+    same(&rt, list.0.len(), 0);
+    Ok(())
+}
+
+#[test]
+fn elements_of_a_set(rt: HostRuntime) -> Result<(), Fail> {
+    let set = three_elements(&rt, rt.alloc())?;
+    let wanted = SortedItems(Vec::from_array(rt.alloc(), [0u64, 1, 2])?);
+    same(&rt, &set::to_sorted_items(&rt, rt.alloc(), &set)?, &wanted);
+    same(
+        &rt,
+        &set_ref::to_sorted_items(rt.alloc(), &set.pin(&rt))?,
+        &wanted,
+    );
+    Ok(())
+}
+
+// Makes the list of a map with the request numbered k refused, and answers whether that request was made.
+fn pairs_without(
+    rt: &(impl Abort + Wait),
+    memory: &Metered<Global>,
+    map: &HashMap<u64, u64, LowHashBuilder>,
+    k: u64,
+) -> bool {
+    memory.refuse_at(k);
+    let count = map::to_sorted_pairs(rt, memory, map)
+        .ok()
+        .map(|list| list.0.len());
+    let refused = memory.refused();
+    memory.refuse_nothing();
+    same(rt, count, if refused { None } else { Some(3) });
+    refused
+}
+
+// The same of a set.
+fn elements_without(
+    rt: &(impl Abort + Wait),
+    memory: &Metered<Global>,
+    set: &HashSet<u64, LowHashBuilder>,
+    k: u64,
+) -> bool {
+    memory.refuse_at(k);
+    let count = set::to_sorted_items(rt, memory, set)
+        .ok()
+        .map(|list| list.0.len());
+    let refused = memory.refused();
+    memory.refuse_nothing();
+    same(rt, count, if refused { None } else { Some(3) });
+    refused
+}
+
+#[test]
+fn refused_pairs(rt: HostRuntime) -> Result<(), Fail> {
+    let memory = Metered::new(rt.alloc());
+    let map = three_pairs(&rt, rt.alloc())?;
+    for k in 0..MOST_REQUESTS {
+        let refused = pairs_without(&rt, &memory, &map, k);
+        same(&rt, memory.blocks(), 0);
+        if !refused {
+            same(&rt, k > 0, true);
+            return Ok(());
+        }
+    }
+    Err(Fail::from("it makes fewer requests"))
+}
+
+#[test]
+fn refused_elements(rt: HostRuntime) -> Result<(), Fail> {
+    let memory = Metered::new(rt.alloc());
+    let set = three_elements(&rt, rt.alloc())?;
+    for k in 0..MOST_REQUESTS {
+        let refused = elements_without(&rt, &memory, &set, k);
+        same(&rt, memory.blocks(), 0);
+        if !refused {
+            same(&rt, k > 0, true);
+            return Ok(());
+        }
+    }
+    Err(Fail::from("it makes fewer requests"))
+}
