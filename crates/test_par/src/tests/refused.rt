@@ -3,6 +3,8 @@
 //! How a list is cut among the threads may differ from run to run, and with it how many requests are made: each case ends with the first
 //! run in which the request was not made.
 
+mod sets;
+
 use super::{lent, same};
 use flurry_model::hash::LowHashBuilder;
 use flurry_par::map;
@@ -20,12 +22,14 @@ type Numbers = SeqMap<u64, u64, LowHashBuilder, Memory>;
 // No call makes so many requests.
 const MOST_REQUESTS: u64 = 200;
 
-// A call whose requests are refused in turn; of those that change a map, how many pairs it has before.
+// A call whose requests are refused in turn; of those that change a map or a set, how many pairs or elements it has before.
 #[derive(Clone, Copy)]
 enum Call {
     Builds,
     Extends { old: u64 },
     Joins { old: u64 },
+    BuildsSet,
+    ExtendsSet { old: u64 },
 }
 
 // Makes the call with the request numbered k refused, or that one and all after it, sees to what it did, and answers whether it made that
@@ -41,6 +45,8 @@ fn make(
         Call::Builds => build(rt, memory, k, all),
         Call::Extends { old } => extend(rt, memory, old, k, all),
         Call::Joins { old } => join_to(rt, memory, old, k, all),
+        Call::BuildsSet => sets::build(rt, memory, k, all),
+        Call::ExtendsSet { old } => sets::extend(rt, memory, old, k, all),
     }
 }
 
