@@ -1,7 +1,7 @@
 //! Each request for memory, refused in turn.
 //!
-//! How a list is cut among the threads may differ from run to run, and with it how many requests are made: each case ends with the first
-//! run in which the request was not made.
+//! How a list is cut among the threads may differ from run to run, and with it how many requests are made: each case ends with the
+//! first run in which the request was not made.
 
 mod sets;
 
@@ -32,8 +32,8 @@ enum Call {
     ExtendsSet { old: u64 },
 }
 
-// Makes the call with the request numbered k refused, or that one and all after it, sees to what it did, and answers whether it made that
-// request.
+// Makes the call with the request numbered k refused, or that one and all after it, sees to what it did, and answers whether it made
+// that request.
 fn make(
     rt: &(impl Abort + Threads + Sync),
     memory: Memory,
@@ -122,8 +122,8 @@ fn holds(rt: &impl Abort, map: &Numbers, old: u64, new: bool) {
     same(rt, map.len(), count);
 }
 
-// A building ends well where nothing was refused, and fails where its first request was. Between them a request may be one that `rayon`
-// does without.
+// A building ends well where nothing was refused, and fails where its first request was. Between them a request may be one that
+// `rayon` does without.
 fn refused_or_done(rt: &impl Abort, k: u64, refused: bool, done: bool) {
     same(rt, (k, refused || done), (k, true));
     same(rt, (k, done && k == 0), (k, false));
@@ -153,8 +153,8 @@ fn from_par_list(rt: HostRuntime) -> Result<(), Fail> {
     refuse_each(&rt, rt.alloc(), Call::Builds)
 }
 
-// Puts the list into a map of so many pairs. One with a table is refused by the building alone, and one without may be refused where it
-// joins, before its first pair: either is left as it was.
+// Puts the list into a map of so many pairs. One with a table is refused by the building alone, and one without may be refused where
+// it joins, before its first pair: either is left as it was.
 fn extend(
     rt: &(impl Abort + Threads + Sync),
     memory: Memory,
