@@ -95,8 +95,8 @@ fn join_all<K: Ord + Drop, V: Drop, S: KeyHasher<K> + Drop, A: Allocator + Copy>
 /// A map of pairs over a hasher, as [`SeqMap::from_list`] makes it, built in parallel: `rayon`'s workers make maps of pieces of the
 /// list, of `part` pairs each, which are then joined. A part of 0 is read as 1. Each worker has a copy of the hasher.
 ///
-/// One insertion for each pair by the workers, and one more where the maps are joined. A part of p pairs for a list of n takes time for
-/// n / p pieces beside that, and each piece is copied once.
+/// Each pair is moved to its piece, inserted by a worker, and inserted once more where the maps are joined. Takes memory for the pieces,
+/// for their maps, and for the table of the map that is made.
 ///
 /// # Errors
 ///
