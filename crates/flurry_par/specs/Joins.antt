@@ -6,6 +6,8 @@ use Rattle.std.specs.List.Sorted.{IsPermutation}
 use Rattle.flurry_bins.specs.declared.bin.entry.Entry.{Entry}
 use Rattle.flurry_bins.specs.PlainEntries.{pairs_of_entries}
 use Rattle.flurry_bins.specs.declared.bin.adaptive.Bin.{Bin}
+use Rattle.flurry_bins.specs.declared.bin.list.ListBin.{ListBin}
+use Rattle.flurry_bins.specs.Bin.{entries_of_list}
 use Rattle.flurry_model.specs.FiniteMap.{with_all}
 use Rattle.flurry_model.specs.FiniteSet.{with_elements}
 use Rattle.flurry_seq.specs.MapsOfBins.{maps_of_bins}
@@ -18,6 +20,13 @@ pairs_in es = map pair_of (pairs_of_entries es)
 -- the pairs of bins, in their order
 abbrev pub pairs_of_bins : {K V A : Type 0} {o : _} {e : _} {p : _} → List (Bin K V A o e p) → List (K × V)
 pairs_of_bins bins = all_pairs (maps_of_bins bins)
+
+-- the keys of a bin that is a list, and of bins, in their order
+abbrev pub elements_of_list : {K V A : Type 0} {o : _} {e : _} {p : _} → ListBin K V A o e p → List K
+elements_of_list list = keys_of (pairs_in (entries_of_list list))
+
+abbrev pub elements_of_bins : {K V A : Type 0} {o : _} {e : _} {p : _} → List (Bin K V A o e p) → List K
+elements_of_bins bins = keys_of (pairs_of_bins bins)
 
 module _ {K V : Type 0} (cmp : K → K → Ordering) where
   -- a front of these pairs was put into the map, in their order

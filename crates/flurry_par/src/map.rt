@@ -14,8 +14,8 @@ use std::alloc::{AllocError, Allocator};
 use std::thread::Threads;
 
 /// Moves the pairs of the right map into the left one. Of a key that both have, the key that the left one stores stays, and the right
-/// one's value stands. The hashes are those that the left one's hasher gives. Room is made first, as of [`SeqMap::extend`]; where memory
-/// for that is wanting, the table grows as pairs come in.
+/// one's value stands. The hashes are those that the left one's hasher gives. Room is made first, as of [`SeqMap::extend`]; where
+/// memory for that is wanting, the table grows as pairs come in.
 ///
 /// One insertion for each pair of the right map, whose nodes move; takes memory for tables alone.
 ///
@@ -92,8 +92,11 @@ fn join_all<K: Ord + Drop, V: Drop, S: KeyHasher<K> + Drop, A: Allocator + Copy>
     Ok(all)
 }
 
-/// A map of pairs over a hasher, as [`SeqMap::from_list`] makes it, built in parallel: `rayon`'s workers make maps of pieces of the list,
-/// of `part` pairs each, which are then joined. A part of 0 is read as 1. Each worker has a copy of the hasher.
+/// A map of pairs over a hasher, as [`SeqMap::from_list`] makes it, built in parallel: `rayon`'s workers make maps of pieces of the
+/// list, of `part` pairs each, which are then joined. A part of 0 is read as 1. Each worker has a copy of the hasher.
+///
+/// Each pair is moved to its piece, inserted by a worker, and inserted once more where the maps are joined. Takes memory for the pieces,
+/// for their maps, and for the table of the map that is made.
 ///
 /// # Errors
 ///
@@ -126,7 +129,8 @@ pub fn from_par_list<
     join_all(alloc, maps, count, hasher)
 }
 
-/// Inserts pairs, as [`SeqMap::extend`] does, of which `rayon`'s workers first make a map, as [`from_par_list`] does; that is then joined.
+/// Inserts pairs, as [`SeqMap::extend`] does, of which `rayon`'s workers first make a map, as [`from_par_list`] does; that is then
+/// joined, by one insertion more for each of its pairs.
 ///
 /// # Errors
 ///

@@ -2,6 +2,7 @@
 ghost use Rattle.std.specs.Prelude.{◌≡◌, IfOk, flat_map, vec_items};
 
 use std::alloc::{AllocError, Allocator};
+use std::mem;
 
 // The pieces of a list, in its order, each of that length, but for the last. A length of 0 is read as 1.
 pub(crate) fn pieces<T: Drop, A: Allocator + Copy>(
@@ -12,13 +13,16 @@ pub(crate) fn pieces<T: Drop, A: Allocator + Copy>(
     ensures { IfOk result (λ pieces. flat_map vec_items pieces.items ≡ list.items) }
 {
     let part = part.max(1);
-    let mut rest = list;
+    let size = part.min(list.len());
     let mut pieces = Vec::new(alloc);
-    while rest.len() > part {
-        let behind = rest.split_off(part)?;
-        pieces.push(rest)?;
-        rest = behind;
+    let mut piece = Vec::with_capacity(alloc, size)?;
+    for item in list {
+        if piece.len() == part {
+            let full = mem::replace(&mut piece, Vec::with_capacity(alloc, size)?);
+            pieces.push(full)?;
+        }
+        piece.push(item)?;
     }
-    pieces.push(rest)?;
+    pieces.push(piece)?;
     Ok(pieces)
 }

@@ -1,9 +1,8 @@
 //! The set of one owner, built in parallel.
 ghost use Rattle.std.specs.Prelude.{◌≡◌, [], IfOk, OnOk, OnErr, map};
-ghost use Rattle.std.specs.Map.{keys_of};
 ghost use Rattle.flurry_bins.specs.Bin.{entries_of_list};
 ghost use Rattle.flurry_model.specs.FiniteSet.{IsFiniteSet, with_elements};
-ghost use Rattle.flurry_par.specs.Joins.{HasFirstOf, HasAnyOf, pairs_in, pairs_of_bins, with_unit};
+ghost use Rattle.flurry_par.specs.Joins.{HasFirstOf, HasAnyOf, elements_of_list, elements_of_bins, with_unit};
 ghost use Rattle.flurry_seq.specs.Numbers.{BearZero, BinsBearZero};
 
 use crate::map;
@@ -27,7 +26,7 @@ fn as_pairs<T: Drop, A: Allocator + Copy>(
     Ok(pairs)
 }
 
-/// A set of elements over a hasher, as [`SeqSet::from_list`] makes it, built in parallel; see [`map::from_par_list`].
+/// A set of elements over a hasher, as [`SeqSet::from_list`] makes it, built in parallel, in the time of [`map::from_par_list`].
 ///
 /// # Errors
 ///
@@ -51,8 +50,8 @@ pub fn from_par_list<
     Ok(SeqSet::from_map(map))
 }
 
-/// Puts elements, as [`SeqSet::extend`] does, of which `rayon`'s workers first make a set, as [`from_par_list`] does, whose elements are
-/// then moved.
+/// Puts elements, as [`SeqSet::extend`] does, of which `rayon`'s workers first make a set, as [`from_par_list`] does, whose elements
+/// are then moved, by one insertion more for each.
 ///
 /// # Errors
 ///
@@ -86,9 +85,9 @@ fn join_bins<T: Ord + Drop, S: KeyHasher<T>, A: Allocator + Copy>(
     bins: Vec<Bin<T, (), A>, A>,
 ) -> Result<(), AllocError>
     requires numbers { BinsBearZero bins.items }
-    ensures ok { OnOk result (set.new.elements ≡ with_elements T.cmp set.old.elements (keys_of (pairs_of_bins bins.items))) }
+    ensures ok { OnOk result (set.new.elements ≡ with_elements T.cmp set.old.elements (elements_of_bins bins.items)) }
     ensures hasher { set.new.hasher ≡ set.old.hasher }
-    ensures err { OnErr result (HasFirstOf T.cmp set.old.elements (keys_of (pairs_of_bins bins.items)) set.new.elements) }
+    ensures err { OnErr result (HasFirstOf T.cmp set.old.elements (elements_of_bins bins.items) set.new.elements) }
 {
     for bin in bins {
         join_list(set, bin.into_list())?;
@@ -102,9 +101,9 @@ fn join_list<T: Ord + Drop, S: KeyHasher<T>, A: Allocator + Copy>(
     list: ListBin<T, (), A>,
 ) -> Result<(), AllocError>
     requires numbers { BearZero (entries_of_list list) }
-    ensures ok { OnOk result (set.new.elements ≡ with_elements T.cmp set.old.elements (keys_of (pairs_in (entries_of_list list)))) }
+    ensures ok { OnOk result (set.new.elements ≡ with_elements T.cmp set.old.elements (elements_of_list list)) }
     ensures hasher { set.new.hasher ≡ set.old.hasher }
-    ensures err { OnErr result (HasFirstOf T.cmp set.old.elements (keys_of (pairs_in (entries_of_list list))) set.new.elements) }
+    ensures err { OnErr result (HasFirstOf T.cmp set.old.elements (elements_of_list list) set.new.elements) }
 {
     let mut rest = list;
     while let Some(node) = rest.pop_front() {

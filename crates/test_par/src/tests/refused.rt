@@ -1,7 +1,9 @@
 //! Each request for memory, refused in turn.
 //!
-//! How a list is cut among the threads may differ from run to run, and with it how many requests are made: each case ends with the first
-//! run in which the request was not made.
+//! How a list is cut among the threads may differ from run to run, and with it how many requests are made: each case ends with the
+//! first run in which the request was not made.
+
+mod sets;
 
 use super::{lent, same};
 use flurry_model::hash::LowHashBuilder;
@@ -20,16 +22,18 @@ type Numbers = SeqMap<u64, u64, LowHashBuilder, Memory>;
 // No call makes so many requests.
 const MOST_REQUESTS: u64 = 200;
 
-// A call whose requests are refused in turn; of those that change a map, how many pairs it has before.
+// A call whose requests are refused in turn; of those that change a map or a set, how many pairs or elements it has before.
 #[derive(Clone, Copy)]
 enum Call {
     Builds,
     Extends { old: u64 },
     Joins { old: u64 },
+    BuildsSet,
+    ExtendsSet { old: u64 },
 }
 
-// Makes the call with the request numbered k refused, or that one and all after it, sees to what it did, and answers whether it made that
-// request.
+// Makes the call with the request numbered k refused, or that one and all after it, sees to what it did, and answers whether it made
+// that request.
 fn make(
     rt: &(impl Abort + Threads + Sync),
     memory: Memory,
@@ -41,6 +45,8 @@ fn make(
         Call::Builds => build(rt, memory, k, all),
         Call::Extends { old } => extend(rt, memory, old, k, all),
         Call::Joins { old } => join_to(rt, memory, old, k, all),
+        Call::BuildsSet => sets::build(rt, memory, k, all),
+        Call::ExtendsSet { old } => sets::extend(rt, memory, old, k, all),
     }
 }
 
@@ -116,8 +122,8 @@ fn holds(rt: &impl Abort, map: &Numbers, old: u64, new: bool) {
     same(rt, map.len(), count);
 }
 
-// A building ends well where nothing was refused, and fails where its first request was. Between them a request may be one that `rayon`
-// does without.
+// A building ends well where nothing was refused, and fails where its first request was. Between them a request may be one that
+// `rayon` does without.
 fn refused_or_done(rt: &impl Abort, k: u64, refused: bool, done: bool) {
     same(rt, (k, refused || done), (k, true));
     same(rt, (k, done && k == 0), (k, false));
@@ -147,8 +153,8 @@ fn from_par_list(rt: HostRuntime) -> Result<(), Fail> {
     refuse_each(&rt, rt.alloc(), Call::Builds)
 }
 
-// Puts the list into a map of so many pairs. One with a table is refused by the building alone, and one without may be refused where it
-// joins, before its first pair: either is left as it was.
+// Puts the list into a map of so many pairs. One with a table is refused by the building alone, and one without may be refused where
+// it joins, before its first pair: either is left as it was.
 fn extend(
     rt: &(impl Abort + Threads + Sync),
     memory: Memory,

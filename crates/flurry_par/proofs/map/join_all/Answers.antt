@@ -1,4 +1,4 @@
-use Rattle.std.proofs.Common.{[], refl, ap, sym, ◌∙◌}
+use Rattle.std.proofs.Common.{[], ap, sym, ◌∙◌}
 use Rattle.flurry_model.specs.FiniteMap.{with_all}
 use Rattle.flurry_par.proofs.Joining.{with_maps-push}
 use Rattle.flurry_par.proofs.map.join_all.Goals as goal

@@ -1,5 +1,4 @@
-use Rattle.std.proofs.Common.{[], ap, sym, refl, ◌∙◌, subst}
-use Rattle.std.specs.List.Sorted.{IsPermutation}
+use Rattle.std.proofs.Common.{[], ap, refl, ◌∙◌, subst}
 use Rattle.std.proofs.lemmas.List.Sorted.{IsPermutation-refl}
 use Rattle.std.proofs.lemmas.Result.{on_ok_weaker, on_err_weaker}
 use Rattle.flurry_model.specs.FiniteMap.{with_all}

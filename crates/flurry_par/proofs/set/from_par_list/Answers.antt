@@ -1,5 +1,4 @@
-use Rattle.std.proofs.Common.{[], ap, ◌∙◌, subst}
-use Rattle.std.specs.List.Sorted.{IsStrictlySortedBy}
+use Rattle.std.proofs.Common.{[], ap, ◌∙◌}
 use Rattle.std.specs.Map.{keys_of}
 use Rattle.flurry_model.specs.FiniteMap.{with_all}
 use Rattle.flurry_par.proofs.Elements.{elements_built}

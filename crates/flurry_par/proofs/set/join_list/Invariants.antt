@@ -1,14 +1,13 @@
 use Rattle.std.proofs.Common.{◌≡◌, ◌++◌, List, length}
-use Rattle.std.specs.Map.{keys_of}
 use Rattle.flurry_bins.specs.Bin.{entries_of_list}
 use Rattle.flurry_model.specs.FiniteSet.{with_elements}
 use Rattle.flurry_seq.specs.Numbers.{BearZero}
-use Rattle.flurry_par.specs.Joins.{pairs_in}
+use Rattle.flurry_par.specs.Joins.{elements_of_list}
 use Rattle.flurry_par.proofs.set.join_list.Given as goal
 
 abbrev pub invariant-loop-node : goal.invariant-loop-node
 invariant-loop-node g l = record {
-  put : (done : List g.row.T.Denot) × (done ++ keys_of (pairs_in (entries_of_list l.rest)) ≡ keys_of (pairs_in (entries_of_list l.fn.list))) × (l.set.elements ≡ with_elements g.T.Ord.cmp l.initial.set.elements done);
+  put : (done : List g.row.T.Denot) × (done ++ elements_of_list l.rest ≡ elements_of_list l.fn.list) × (l.set.elements ≡ with_elements g.T.Ord.cmp l.initial.set.elements done);
   numbers : BearZero (entries_of_list l.rest);
   hasher : l.set.hasher ≡ l.initial.set.hasher;
 }

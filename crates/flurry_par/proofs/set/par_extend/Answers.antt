@@ -1,4 +1,4 @@
-use Rattle.std.proofs.Common.{[], map, ap, sym, refl, ◌∙◌, subst, length}
+use Rattle.std.proofs.Common.{[], ap, refl, ◌∙◌, subst, length}
 use Rattle.std.specs.List.Sorted.{IsPermutation}
 use Rattle.std.specs.Map.{keys_of}
 use Rattle.std.proofs.lemmas.List.Sorted.{IsPermutation-refl, IsPermutation-map}
@@ -8,7 +8,7 @@ use Rattle.flurry_model.specs.FiniteSet.{with_elements}
 use Rattle.flurry_seq.specs.MapsOfBins.{maps_of_bins}
 use Rattle.flurry_seq.proofs.IterLemmas.{all_apart}
 use Rattle.flurry_seq.proofs.RunLaws.{on_err}
-use Rattle.flurry_par.specs.Joins.{pairs_of_bins, with_unit}
+use Rattle.flurry_par.specs.Joins.{pairs_of_bins}
 use Rattle.flurry_par.proofs.Elements.{with_elements-built, elements_built}
 use Rattle.flurry_par.proofs.set.par_extend.Goals as goal
 
