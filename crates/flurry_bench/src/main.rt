@@ -5,6 +5,7 @@
 #![tactic(auto)]
 
 mod board;
+mod builds;
 mod crews;
 mod hashers;
 mod keys;
@@ -17,6 +18,7 @@ mod words;
 mod workloads;
 
 use crate::board::Board;
+use crate::builds::measure_builds;
 use crate::maps::{measure_owned, measure_shared};
 use crate::measures::MEASURES;
 use crate::report::print_table;
@@ -51,6 +53,7 @@ fn run_rounds<R: Threads + Wait + Clock + Eprint + Sync>(
                 words,
             };
             measure_shared(bench, trial)?;
+            measure_builds(bench, trial)?;
             if threads == 1 {
                 measure_owned(bench, trial)?;
             }

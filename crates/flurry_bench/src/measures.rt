@@ -15,11 +15,12 @@ pub enum Measure {
     OneHashInsert,
     OneHashHit,
     OneHashRemove,
+    Build,
     BytesAPair,
 }
 
 /// All that is measured, in the order of the table.
-pub const MEASURES: [Measure; 11] = [
+pub const MEASURES: [Measure; 12] = [
     Measure::Hit,
     Measure::Miss,
     Measure::InsertIntoRoom,
@@ -30,6 +31,7 @@ pub const MEASURES: [Measure; 11] = [
     Measure::OneHashInsert,
     Measure::OneHashHit,
     Measure::OneHashRemove,
+    Measure::Build,
     Measure::BytesAPair,
 ];
 
@@ -67,6 +69,7 @@ impl Measure {
             Measure::OneHashInsert => "one hash: insertion",
             Measure::OneHashHit => "one hash: look-up",
             Measure::OneHashRemove => "one hash: removal",
+            Measure::Build => "building of a list",
             Measure::BytesAPair => "bytes a pair",
         }
     }
@@ -79,6 +82,14 @@ impl Measure {
         }
     }
 
+    /// The map whose numbers the ratios of its rows go by.
+    pub fn base(self) -> Kind {
+        match self {
+            Measure::Build => Kind::SeqFromList,
+            _ => Kind::Shared,
+        }
+    }
+
     /// The work that is timed, or after which the bytes are counted.
     pub fn work(self) -> Work {
         match self {
@@ -87,6 +98,7 @@ impl Measure {
             Measure::InsertIntoRoom
             | Measure::InsertAndGrow
             | Measure::OneHashInsert
+            | Measure::Build
             | Measure::BytesAPair => Work::Insert,
             Measure::Remove | Measure::OneHashRemove => Work::Remove,
             Measure::MostlyLookUps => Work::Mix(2),
@@ -110,10 +122,12 @@ pub enum Kind {
     MutexHash,
     BTree,
     LockedBTree,
+    SeqFromList,
+    SeqFromParList,
 }
 
 /// All maps, in the order of the table.
-pub const KINDS: [Kind; 9] = [
+pub const KINDS: [Kind; 11] = [
     Kind::Shared,
     Kind::SharedDefaultHash,
     Kind::Seq,
@@ -123,6 +137,8 @@ pub const KINDS: [Kind; 9] = [
     Kind::MutexHash,
     Kind::BTree,
     Kind::LockedBTree,
+    Kind::SeqFromList,
+    Kind::SeqFromParList,
 ];
 
 impl Kind {
@@ -138,6 +154,8 @@ impl Kind {
             Kind::MutexHash => "Mutex<std HashMap>",
             Kind::BTree => "std BTreeMap",
             Kind::LockedBTree => "RwLock<std BTreeMap>",
+            Kind::SeqFromList => "SeqMap::from_list",
+            Kind::SeqFromParList => "SeqMap by from_par_list",
         }
     }
 

@@ -1,7 +1,7 @@
 //! The table.
 
 use crate::board::{Board, Cell, Summary};
-use crate::measures::{KINDS, Kind, MEASURES};
+use crate::measures::{KINDS, MEASURES};
 use std::alloc::Global;
 
 const LEGEND: &str = "
@@ -12,7 +12,8 @@ locks     flurry HashMap locks its own bins; with RwLock<..> look-ups take the l
           each call takes it; SeqMap, HashMap and BTreeMap alone have one thread and no lock
 hashes    each hash map has the kit's default hash, but for the line with flurry's default, SipHash; BTreeMap has none
 room      BTreeMap has none to ask for either, and does the same calls beside the others
-one hash  std HashMap takes a step for each key of one hash, and is left out above 10,000 keys";
+one hash  std HashMap takes a step for each key of one hash, and is left out above 10,000 keys
+building  from_par_list cuts the list into as many pieces as threads; its ratio goes by SeqMap::from_list, which one thread runs";
 
 /// Prints the table: a line for each measure, number of keys, number of threads and map.
 pub fn print_table<R: Print>(
@@ -36,7 +37,7 @@ pub fn print_table<R: Print>(
             for number in threads {
                 let cell = Cell {
                     measure,
-                    kind: Kind::Shared,
+                    kind: measure.base(),
                     keys: *keys,
                     threads: *number,
                 };
@@ -50,24 +51,21 @@ pub fn print_table<R: Print>(
     Ok(())
 }
 
-// The lines of each map beside the cell of the shared map, where that was measured.
+// The lines of each map beside the cell of the map that the ratios go by, where that was measured.
 fn print_kinds<R: Print>(
     rt: &R,
     alloc: Global,
     board: &Board,
-    shared_cell: Cell,
+    base_cell: Cell,
     csv: bool,
 ) -> anyhow::Result<()> {
-    let Some(shared) = board.summary(alloc, shared_cell)? else {
+    let Some(base) = board.summary(alloc, base_cell)? else {
         return Ok(());
     };
     for kind in KINDS {
-        let cell = Cell {
-            kind,
-            ..shared_cell
-        };
+        let cell = Cell { kind, ..base_cell };
         if let Some(summary) = board.summary(alloc, cell)? {
-            print_line(rt, cell, summary, shared, csv)?;
+            print_line(rt, cell, summary, base, csv)?;
         }
     }
     Ok(())
@@ -77,7 +75,7 @@ fn print_line<R: Print>(
     rt: &R,
     cell: Cell,
     summary: Summary,
-    shared: Summary,
+    base: Summary,
     csv: bool,
 ) -> anyhow::Result<()> {
     let (measure, unit) = (cell.measure.name(), cell.measure.unit());
@@ -85,7 +83,7 @@ fn print_line<R: Print>(
     let (median, median_tenth) = (summary.median / 10, summary.median % 10);
     let (least, least_tenth) = (summary.least / 10, summary.least % 10);
     let (greatest, greatest_tenth) = (summary.greatest / 10, summary.greatest % 10);
-    let ratio = hundredths(summary.median, shared.median);
+    let ratio = hundredths(summary.median, base.median);
     let (whole, part) = (ratio / 100, ratio % 100);
     if csv {
         print!(rt; "{measure},{unit},{keys},{threads},{kind},{median}.{median_tenth}")?;

@@ -145,8 +145,8 @@ impl<'r, R: Threads + Wait + Clock + Sync> Bench<'r, R> {
         Ok(())
     }
 
-    // Adds the time of one call, in tenths of a nanosecond, if it is asked for and no answer was wrong.
-    fn add(
+    /// Adds the time of one call, in tenths of a nanosecond, if it is asked for and no answer was wrong.
+    pub fn add(
         &mut self,
         trial: Trial<'_>,
         kind: Kind,
