@@ -1,6 +1,6 @@
 //! Relations of two sets, and of their views.
 
-use super::{same, set_of};
+use super::{has_sums, same, set_of};
 use flurry_model::hash::LowHashBuilder;
 use flurry_shared_set::{HashSet, HashSetRef};
 use std::alloc::{AllocError, Allocator};
@@ -85,12 +85,25 @@ fn related<A: Allocator + Copy, R: Abort + Wait>(
     Ok(())
 }
 
+// Puts 1, which is there, and takes it out: of 1 and 2, 2 is left.
+fn leaves_two<A: Allocator + Copy, R: Abort + Wait>(rt: &R, alloc: A) -> Result<(), Fail> {
+    let set = set_of(rt, alloc, &[1, 2])?;
+    same(rt, set.insert(rt, 1)?, false);
+    same(rt, set.take(rt, &1).map(|element| *element), Some(1));
+    has_sums(rt, &set, (1, 2))
+}
+
 #[test]
-fn sets_of_one_to_four(rt: HostRuntime) -> Result<(), Fail> {
+fn row_21(rt: HostRuntime) -> Result<(), Fail> {
     related(&rt, rt.alloc(), &[1, 2], &[1, 2, 3], LESS)?;
     related(&rt, rt.alloc(), &[1, 2, 3], &[1, 2], MORE)?;
-    related(&rt, rt.alloc(), &[1, 2], &[2, 1], EQUAL)?;
     related(&rt, rt.alloc(), &[1, 2], &[4], APART)?;
+    leaves_two(&rt, rt.alloc())
+}
+
+#[test]
+fn other_sets(rt: HostRuntime) -> Result<(), Fail> {
+    related(&rt, rt.alloc(), &[1, 2], &[2, 1], EQUAL)?;
     let beside = Relations {
         is_disjoint: false,
         ..APART
