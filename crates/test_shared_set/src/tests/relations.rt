@@ -3,7 +3,7 @@
 use super::{has_sums, same, set_of};
 use flurry_model::hash::LowHashBuilder;
 use flurry_shared_set::{HashSet, HashSetRef};
-use std::alloc::{AllocError, Allocator};
+use std::alloc::{AllocError, Allocator, Global};
 use std::process::Abort;
 use std::sync::Wait;
 use std::test::Fail;
@@ -71,9 +71,9 @@ fn of_views<A: Allocator + Copy, R: Wait>(
 }
 
 // The sets of these numbers, and their views, stand so to each other.
-fn related<A: Allocator + Copy, R: Abort + Wait>(
+fn related<R: Abort + Wait>(
     rt: &R,
-    alloc: A,
+    alloc: Global,
     left: &[u64],
     right: &[u64],
     wanted: Relations,
@@ -86,7 +86,7 @@ fn related<A: Allocator + Copy, R: Abort + Wait>(
 }
 
 // Puts 1, which is there, and takes it out: of 1 and 2, 2 is left.
-fn leaves_two<A: Allocator + Copy, R: Abort + Wait>(rt: &R, alloc: A) -> Result<(), Fail> {
+fn leaves_two<R: Abort + Wait>(rt: &R, alloc: Global) -> Result<(), Fail> {
     let set = set_of(rt, alloc, &[1, 2])?;
     same(rt, set.insert(rt, 1)?, false);
     same(rt, set.take(rt, &1).map(|element| *element), Some(1));
