@@ -1,0 +1,217 @@
+-- What a caller of a map or a set says of its pairs or elements after a call.
+use Rattle.std.proofs.Common.{◌≡◌, ◌≢◌, ◌⊎◌, not, inl, inr, ◌≤◌, ◌+◌, ◌-◌, ℕ, Bool, true, false, cond, List, [], ◌∷◌, length, Option, Some, None, is_some, ap, sym, ◌∙◌, refl, Ordering, String, string_bytes, Less, Equal, Greater, arith}
+use Rattle.std.specs.String.{string_cmp, string_cmp_total}
+use Rattle.std.specs.Cmp.Lexicographic.{bytes_decides}
+use Rattle.std.proofs.lemmas.Map.Text.{is_eq-slice_cmp}
+use Rattle.std.specs.Ordering.{is_eq, nat_cmp}
+use Rattle.std.specs.Cmp.{IsTotalOrder, tied_itself}
+use Rattle.std.specs.Option.{option_map}
+use Rattle.std.proofs.lemmas.Cmp.{nat_cmp_total}
+use Rattle.std.proofs.lemmas.Map.Lookups.{exact_unsigned}
+use Rattle.std.specs.BTreeMap.{is_at}
+use Rattle.std.specs.List.{filter, find}
+use Rattle.flurry_model.specs.FiniteMap.{IsFiniteMap, pair_at, value_at, with_pair, without}
+use Rattle.flurry_model.specs.FiniteSet.{element_at, with_element, without_element}
+use Rattle.flurry_model.proofs.BinSizeLaws.{filter_no_longer}
+use Rattle.flurry_set.proofs.SetLemmas.{length-with_element}
+use Rattle.flurry_model.proofs.FiniteMapLaws.{alike_cond, both_alike, pair_at-without, length-without, length-with_pair}
+
+eq_of : (r : Ordering) → is_eq r ≡ true → r ≡ Equal
+eq_of Less e = cc
+eq_of Equal e = refl
+eq_of Greater e = cc
+
+module _ {K V : Type 0} {cmp : K → K → Ordering} (o : IsTotalOrder cmp) where
+  value_of : Option (K × V) → Option V
+  value_of x = option_map (λ (p : K × V). p.1) x
+
+  first : (b : Bool) (k : K) (v : V) (x : Option (K × V)) → option_map (λ (p : K × V). p.1) (cond b (Some (k, v)) x) ≡ cond b (Some v) (option_map (λ (p : K × V). p.1) x)
+  first true k v x = refl
+  first false k v x = refl
+
+  in_place : (b c : Bool) (k : K) (v : V) (e : K × V) (x : Option (K × V)) → b ≡ c
+      → option_map (λ (p : K × V). p.1) (cond c (Some (k, v)) x) ≡ cond b (Some v) (option_map (λ (p : K × V). p.1) (cond c (Some e) x))
+  in_place true true k v e x h = refl
+  in_place true false k v e x h = cc
+  in_place false true k v e x h = cc
+  in_place false false k v e x h = refl
+
+  past : (b c : Bool) (v : V) (e : K × V) (x y : Option (K × V)) → (b ≡ true → c ≡ true → ⊥) → option_map (λ (p : K × V). p.1) y ≡ cond b (Some v) (option_map (λ (p : K × V). p.1) x)
+      → option_map (λ (p : K × V). p.1) (cond c (Some e) y) ≡ cond b (Some v) (option_map (λ (p : K × V). p.1) (cond c (Some e) x))
+  past true true v e x y h i = absurd (h refl refl)
+  past true false v e x y h i = i
+  past false true v e x y h i = refl
+  past false false v e x y h i = i
+
+  -- it holds of any list of pairs, in whatever order
+  pub value_at-with_pair : (m : List (K × V)) (k : K) (v : V) (q : K) → value_at cmp (with_pair cmp m k v) q ≡ cond (is_eq (cmp q k)) (Some v) (value_at cmp m q)
+  value_at-with_pair [] k v q = first (is_eq (cmp q k)) k v None
+  value_at-with_pair (e ∷ m) k v q = by_order (cmp k e.0) refl (value_at-with_pair m k v q)
+    where
+      by_order : (r : Ordering) → cmp k e.0 ≡ r → value_at cmp (with_pair cmp m k v) q ≡ cond (is_eq (cmp q k)) (Some v) (value_at cmp m q)
+          → value_at cmp (with_pair cmp (e ∷ m) k v) q ≡ cond (is_eq (cmp q k)) (Some v) (value_at cmp (e ∷ m) q)
+      by_order Less p ih = rw p (first (is_eq (cmp q k)) k v (pair_at cmp (e ∷ m) q))
+      by_order Equal p ih = rw p (in_place (is_eq (cmp q k)) (is_eq (cmp q e.0)) e.0 v e (pair_at cmp m q) (alike_cond o q k e.0 p))
+      by_order Greater p ih = rw p (past (is_eq (cmp q k)) (is_eq (cmp q e.0)) v e (pair_at cmp m q) (pair_at cmp (with_pair cmp m k v) q) (λ a b. let x = sym p ∙ both_alike o q k e.0 a b in cc) ih)
+
+  pub value_at-put : (m : List (K × V)) (k : K) (v : V) → value_at cmp (with_pair cmp m k v) k ≡ Some v
+  value_at-put m k v = rw (value_at-with_pair m k v k, tied_itself o k) refl
+
+  pub value_at-without : (m : List (K × V)) (k q : K) → IsFiniteMap cmp m → value_at cmp (without cmp m k) q ≡ cond (is_eq (cmp q k)) None (value_at cmp m q)
+  value_at-without m k q s = rw (pair_at-without o m k q s) (by_test (is_eq (cmp q k)))
+    where
+      by_test : (b : Bool) → option_map (λ (p : K × V). p.1) (cond b None (pair_at cmp m q)) ≡ cond b None (value_at cmp m q)
+      by_test true = refl
+      by_test false = refl
+
+  pub value_at-taken : (m : List (K × V)) (k : K) → IsFiniteMap cmp m → value_at cmp (without cmp m k) k ≡ None
+  value_at-taken m k s = rw (value_at-without m k k s, tied_itself o k) refl
+
+  pub length-without-le : (m : List (K × V)) (k : K) → length (without cmp m k) ≤ length m
+  length-without-le m k = rw (length-without o m k) (by_test (is_some (pair_at cmp m k)))
+    where
+      by_test : (b : Bool) → cond b (length m - 1) (length m) ≤ length m
+      by_test true = omega arith
+      by_test false = omega arith
+
+module _ {K V : Type 0} (cmp : K → K → Ordering) where
+  pub length-with_pair-le : (m : List (K × V)) (k : K) (v : V) → length (with_pair cmp m k v) ≤ length m + 1
+  length-with_pair-le [] k v = omega arith
+  length-with_pair-le (e ∷ m) k v = by_order (cmp k e.0) refl (length-with_pair-le m k v)
+    where
+      by_order : (r : Ordering) → cmp k e.0 ≡ r → length (with_pair cmp m k v) ≤ length m + 1 → length (with_pair cmp (e ∷ m) k v) ≤ length (e ∷ m) + 1
+      by_order Less p ih = rw p (omega arith)
+      by_order Equal p ih = rw p (omega arith)
+      by_order Greater p ih = rw p (omega arith)
+
+-- at keys that are numbers
+module _ {V : Type 0} where
+  pub put_same : (m : List (ℕ × V)) (k : ℕ) (v : V) → value_at nat_cmp (with_pair nat_cmp m k v) k ≡ Some v
+  put_same m k v = value_at-put nat_cmp_total m k v
+
+  pub put_other : (m : List (ℕ × V)) (k : ℕ) (v : V) (q : ℕ) → q ≢ k → value_at nat_cmp (with_pair nat_cmp m k v) q ≡ value_at nat_cmp m q
+  put_other m k v q ne = rw (value_at-with_pair nat_cmp_total m k v q) (by_test (is_eq (nat_cmp q k)) refl)
+    where
+      by_test : (b : Bool) → is_eq (nat_cmp q k) ≡ b → cond b (Some v) (value_at nat_cmp m q) ≡ value_at nat_cmp m q
+      by_test true e = absurd (ne (exact_unsigned q k (eq_of _ e)))
+      by_test false e = refl
+
+  pub put_length : (m : List (ℕ × V)) (k : ℕ) (v : V) → length (with_pair nat_cmp m k v) ≤ length m + 1
+  put_length m k v = length-with_pair-le nat_cmp m k v
+
+  pub take_same : (m : List (ℕ × V)) (k : ℕ) → IsFiniteMap nat_cmp m → value_at nat_cmp (without nat_cmp m k) k ≡ None
+  take_same m k s = value_at-taken nat_cmp_total m k s
+
+  pub take_length : (m : List (ℕ × V)) (k : ℕ) → length (without nat_cmp m k) ≤ length m
+  take_length m k = length-without-le nat_cmp_total m k
+
+  pub take_at : (m : List (ℕ × V)) (k q : ℕ) → IsFiniteMap nat_cmp m → ((q ≡ k) × (value_at nat_cmp (without nat_cmp m k) q ≡ None)) ⊎ ((q ≢ k) × (value_at nat_cmp (without nat_cmp m k) q ≡ value_at nat_cmp m q))
+  take_at m k q s = rw (value_at-without nat_cmp_total m k q s) (by_test (is_eq (nat_cmp q k)) refl)
+    where
+      by_test : (b : Bool) → is_eq (nat_cmp q k) ≡ b → ((q ≡ k) × (cond b None (value_at nat_cmp m q) ≡ None)) ⊎ ((q ≢ k) × (cond b None (value_at nat_cmp m q) ≡ value_at nat_cmp m q))
+      by_test true e = inl (exact_unsigned q k (eq_of _ e), refl)
+      by_test false e = inr ((λ same. let x = sym e ∙ (ap (λ n. is_eq (nat_cmp n k)) same ∙ ap is_eq (tied_itself nat_cmp_total k)) in cc), refl)
+
+  pub put_exact : (m : List (ℕ × V)) (k : ℕ) (v : V) → IsFiniteMap nat_cmp m → length (with_pair nat_cmp m k v) ≡ cond (is_some (pair_at nat_cmp m k)) (length m) (length m + 1)
+  put_exact m k v s = length-with_pair nat_cmp_total m k v s
+
+pub ruleset map_calls = (put_same, put_other, put_length, put_exact, take_same, take_length, take_at)
+
+-- at keys that are texts
+module _ {Y V : Type 0} where
+  pub put_same_text : (m : List (String Y × V)) (k : String Y) (v : V) → value_at string_cmp (with_pair string_cmp m k v) k ≡ Some v
+  put_same_text m k v = value_at-put string_cmp_total m k v
+
+  pub put_other_text : (m : List (String Y × V)) (k : String Y) (v : V) (q : String Y) → string_bytes q ≢ string_bytes k
+      → value_at string_cmp (with_pair string_cmp m k v) q ≡ value_at string_cmp m q
+  put_other_text m k v q ne = rw (value_at-with_pair string_cmp_total m k v q) (by_test (is_eq (string_cmp q k)) refl)
+    where
+      by_test : (b : Bool) → is_eq (string_cmp q k) ≡ b → cond b (Some v) (value_at string_cmp m q) ≡ value_at string_cmp m q
+      by_test true e = absurd (ne ((bytes_decides (string_bytes q) (string_bytes k)).0 (sym (is_eq-slice_cmp (string_bytes q) (string_bytes k)) ∙ e)))
+      by_test false e = refl
+
+pub ruleset text_calls = (put_same_text, put_other_text)
+
+pub ruleset any_calls = (value_at-put, value_at-with_pair)
+
+-- different numbers are of different classes
+differs : (q x : ℕ) → q ≢ x → is_eq (nat_cmp q x) ≡ false
+differs q x ne = by_test (is_eq (nat_cmp q x)) refl
+  where
+    by_test : (b : Bool) → is_eq (nat_cmp q x) ≡ b → b ≡ false
+    by_test true e = absurd (ne (exact_unsigned q x (eq_of _ e)))
+    by_test false e = refl
+
+-- what is found is of the class that was looked for
+found_alike : {T : Type 0} (cmp : T → T → Ordering) (s : List T) (x y : T) → element_at cmp s x ≡ Some y → is_eq (cmp x y) ≡ true
+found_alike cmp [] x y e = cc
+found_alike cmp (z ∷ s) x y e = by_test (is_eq (cmp x z)) refl (found_alike cmp s x y)
+  where
+    by_test : (b : Bool) → is_eq (cmp x z) ≡ b → (element_at cmp s x ≡ Some y → is_eq (cmp x y) ≡ true) → is_eq (cmp x y) ≡ true
+    by_test true p ih = let same : Some z ≡ Some y = sym (ap (λ b. cond b (Some z) (find (is_at (cmp x)) s)) p) ∙ e in cc
+    by_test false p ih = ih (sym (ap (λ b. cond b (Some z) (find (is_at (cmp x)) s)) p) ∙ e)
+
+-- of sets
+module _ {T : Type 0} {cmp : T → T → Ordering} (o : IsTotalOrder cmp) where
+  -- what was put is of a class that is there
+  pub element_at-put : (s : List T) (x : T) → is_some (element_at cmp (with_element cmp s x) x) ≡ true
+  element_at-put [] x = rw (tied_itself o x) refl
+  element_at-put (y ∷ s) x = by_order (cmp x y) refl (element_at-put s x)
+    where
+      by_order : (r : Ordering) → cmp x y ≡ r → is_some (element_at cmp (with_element cmp s x) x) ≡ true → is_some (element_at cmp (with_element cmp (y ∷ s) x) x) ≡ true
+      by_order Less p ih = rw (p, tied_itself o x) refl
+      by_order Equal p ih = rw (p, p) refl
+      by_order Greater p ih = rw (p, p) ih
+
+  -- what is of another class stays
+  pub element_at-put_other : (s : List T) (x q : T) → is_eq (cmp q x) ≡ false → element_at cmp (with_element cmp s x) q ≡ element_at cmp s q
+  element_at-put_other [] x q other = rw other refl
+  element_at-put_other (y ∷ s) x q other = by_order (cmp x y) refl (element_at-put_other s x q other)
+    where
+      by_order : (r : Ordering) → cmp x y ≡ r → element_at cmp (with_element cmp s x) q ≡ element_at cmp s q → element_at cmp (with_element cmp (y ∷ s) x) q ≡ element_at cmp (y ∷ s) q
+      by_order Less p ih = rw (p, other) refl
+      by_order Equal p ih = rw p refl
+      by_order Greater p ih = rw (p, ih) refl
+
+  -- what is of a class that was taken is not there
+  pub element_at-taken : (s : List T) (x : T) → element_at cmp (without_element cmp s x) x ≡ None
+  element_at-taken [] x = refl
+  element_at-taken (y ∷ s) x = by_test (is_eq (cmp x y)) refl (element_at-taken s x)
+    where
+      by_test : (b : Bool) → is_eq (cmp x y) ≡ b → element_at cmp (without_element cmp s x) x ≡ None → element_at cmp (without_element cmp (y ∷ s) x) x ≡ None
+      by_test true p ih = rw p ih
+      by_test false p ih = rw (p, p) ih
+
+  pub element_at-taken_other : (s : List T) (x q : T) → is_eq (cmp q x) ≡ false → element_at cmp (without_element cmp s x) q ≡ element_at cmp s q
+  element_at-taken_other [] x q other = refl
+  element_at-taken_other (y ∷ s) x q other = by_order (cmp x y) refl (element_at-taken_other s x q other)
+    where
+      by_order : (r : Ordering) → cmp x y ≡ r → element_at cmp (without_element cmp s x) q ≡ element_at cmp s q → element_at cmp (without_element cmp (y ∷ s) x) q ≡ element_at cmp (y ∷ s) q
+      by_order Less p ih = rw (p, ih) refl
+      by_order Equal p ih = rw (p, sym (alike_cond o q x y p) ∙ other) ih
+      by_order Greater p ih = rw (p, ih) refl
+
+-- sets of numbers
+pub put_element : (s : List ℕ) (x : ℕ) → element_at nat_cmp (with_element nat_cmp s x) x ≡ Some x
+put_element s x = by_found (element_at nat_cmp (with_element nat_cmp s x) x) refl (element_at-put nat_cmp_total s x)
+  where
+    by_found : (w : Option ℕ) → element_at nat_cmp (with_element nat_cmp s x) x ≡ w → is_some w ≡ true → w ≡ Some x
+    by_found None e h = cc
+    by_found (Some y) e h = ap Some (sym (exact_unsigned x y (eq_of _ (found_alike nat_cmp (with_element nat_cmp s x) x y e))))
+
+pub put_other_element : (s : List ℕ) (x q : ℕ) → q ≢ x → element_at nat_cmp (with_element nat_cmp s x) q ≡ element_at nat_cmp s q
+put_other_element s x q ne = element_at-put_other nat_cmp_total s x q (differs q x ne)
+
+pub take_element : (s : List ℕ) (x : ℕ) → element_at nat_cmp (without_element nat_cmp s x) x ≡ None
+take_element s x = element_at-taken nat_cmp_total s x
+
+pub take_other_element : (s : List ℕ) (x q : ℕ) → q ≢ x → element_at nat_cmp (without_element nat_cmp s x) q ≡ element_at nat_cmp s q
+take_other_element s x q ne = element_at-taken_other nat_cmp_total s x q (differs q x ne)
+
+pub put_element_length : (s : List ℕ) (x : ℕ) → length (with_element nat_cmp s x) ≤ length s + 1
+put_element_length s x = (length-with_element nat_cmp s x).1
+
+pub take_element_length : (s : List ℕ) (x : ℕ) → length (without_element nat_cmp s x) ≤ length s
+take_element_length s x = filter_no_longer (λ y. not (is_at (nat_cmp x) y)) s
+
+pub ruleset set_calls = (put_element, put_other_element, take_element, take_other_element, put_element_length, take_element_length)
