@@ -1,7 +1,7 @@
 //! Each request for memory of a call that may be refused, refused in turn.
 
 use super::{list, read_all, same, set_of};
-use flurry_model::hash::LowHashBuilder;
+use flurry_model::hash::{DefaultHashBuilder, LowHashBuilder};
 use flurry_shared_set::HashSet;
 use metered_alloc::Metered;
 use std::alloc::{AllocError, Global};
@@ -12,6 +12,8 @@ use std::test::Fail;
 type Memory = &'static Metered<Global>;
 
 type Numbers = HashSet<u64, LowHashBuilder, Memory>;
+
+type DefaultNumbers = HashSet<u64, DefaultHashBuilder, Memory>;
 
 // A call that may be refused.
 #[derive(Clone, Copy, Debug, PartialEq)]
@@ -128,5 +130,34 @@ fn an_extension(rt: HostRuntime) -> Result<(), Fail> {
         call_without(&rt, memory, Call::Extend, 6)?,
         (false, true, 4),
     );
+    Ok(())
+}
+
+#[test]
+fn a_set_with_room(rt: HostRuntime) -> Result<(), Fail> {
+    let memory = Metered::leaked(rt.alloc())?;
+    for k in 0..3u64 {
+        memory.refuse_at(k);
+        let set: Result<Numbers, _> = HashSet::with_capacity_and_hasher(memory, 5, LowHashBuilder);
+        same(&rt, (k, set.is_ok()), (k, k == 2));
+        memory.refuse_nothing();
+        drop(set);
+        same(&rt, memory.blocks(), 0);
+    }
+    Ok(())
+}
+
+// The same by the default hasher, which takes no memory.
+#[test]
+fn a_set_with_room_by_default(rt: HostRuntime) -> Result<(), Fail> {
+    let memory = Metered::leaked(rt.alloc())?;
+    for k in 0..3u64 {
+        memory.refuse_at(k);
+        let set: Result<DefaultNumbers, _> = HashSet::with_capacity(memory, 5);
+        same(&rt, (k, set.is_ok()), (k, k == 2));
+        memory.refuse_nothing();
+        drop(set);
+        same(&rt, memory.blocks(), 0);
+    }
     Ok(())
 }
