@@ -3,43 +3,16 @@ ghost use Rattle.std.specs.Prelude.{◌≡◌, ◌≤◌, true, false, Ok, IfOk,
 ghost use Rattle.std.specs.Ordering.{nat_cmp};
 ghost use Rattle.flurry.specs.FiniteMap.{IsFiniteMap};
 
-use flurry::hash::KeyHasher;
 use flurry::iter::Iter;
 use flurry::pairs::{self, SortedPairs};
 use flurry::{HashMap, HashSet, SeqMap};
-use std::alloc::{AllocError, Allocator, Global};
+use std::alloc::{AllocError, Global};
 use std::sync::Wait;
-use std::thread;
-use std::thread::Threads;
 
 type Shared = HashMap<u64, u64>;
 
-/// Puts a pair from each of two threads, and answers how many were put.
-pub fn put_two<
-    S: KeyHasher<u64> + Sync,
-    A: Allocator + Copy + Send + Sync,
-    R: Threads + Wait + Sync,
->(rt: &R, map: &HashMap<u64, u64, S, A>) -> u64
-    ensures { result ≤ 2 }
-{
-    let (first, second) = thread::join(
-        rt,
-        || -> u64
-            ensures { result ≤ 1 }
-        { put_one(rt, map, 1) },
-        || -> u64
-            ensures { result ≤ 1 }
-        { put_one(rt, map, 2) },
-    );
-    first + second
-}
-
-// 1 where the pair was put, 0 where memory was wanting.
-fn put_one<S: KeyHasher<u64>, A: Allocator + Copy, R: Wait>(
-    rt: &R,
-    map: &HashMap<u64, u64, S, A>,
-    key: u64,
-) -> u64
+/// Puts a pair, and answers how many were put: none where memory was wanting.
+pub fn put_one<R: Wait>(rt: &R, map: &Shared, key: u64) -> u64
     ensures { result ≤ 1 }
 {
     match map.insert(rt, key, key) {
@@ -106,19 +79,6 @@ pub fn after_end<R: Wait>(pairs: &mut Iter<'_, R, u64, u64>) -> Result<bool, All
     ensures { result ≡ Ok false }
 {
     Ok(pairs.next()?.is_some())
-}
-
-/// The number of pairs that a walk gives.
-pub fn count<R: Wait>(rt: &R, map: &Shared) -> Result<u64, AllocError> {
-    let mut pairs = map.iter(rt);
-    let mut count: u64 = 0;
-    for _ in rt.forever() {
-        if pairs.next()?.is_none() {
-            return Ok(count);
-        }
-        count = count.saturating_add(1);
-    }
-    unreachable!()
 }
 
 /// The pairs of a walk, in ascending order of the keys.
