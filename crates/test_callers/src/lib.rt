@@ -8,6 +8,11 @@ ghost use Rattle.std.specs.String.{string_cmp};
 ghost use Rattle.flurry.specs.FiniteMap.{value_at};
 ghost use Rattle.flurry.specs.FiniteSet.{element_at};
 
+pub mod pairs;
+pub mod par;
+pub mod recorded;
+pub mod shared;
+
 use flurry::{SeqMap, SeqSet};
 use std::alloc::{AllocError, Global};
 use std::hash::Hash;

@@ -1,0 +1,42 @@
+//! Callers of sorted pairs.
+ghost use Rattle.std.specs.Prelude.{◌≡◌, IfOk, IsPermutation};
+ghost use Rattle.std.specs.Ordering.{nat_cmp};
+ghost use Rattle.flurry.specs.Apart.{AreApart};
+ghost use Rattle.flurry.specs.FiniteMap.{IsFiniteMap};
+
+use flurry::hash::DefaultHashBuilder;
+use flurry::pairs::{FromPairsError, SortedItems, SortedPairs, seq_map, seq_set};
+use flurry::{SeqMap, SeqSet};
+use std::alloc::AllocError;
+
+type Map = SeqMap<u64, u64>;
+
+/// The list has exactly the pairs of the map.
+pub fn save(map: &Map) -> Result<SortedPairs<u64, u64>, AllocError>
+    ensures pairs { IfOk result (λ s. s.0.items ≡ map.now.pairs) }
+    ensures ascend { IfOk result (λ s. IsFiniteMap nat_cmp s.0.items) }
+{
+    seq_map::to_sorted_pairs(map)
+}
+
+/// A map of a list in which no key stands twice has its pairs.
+pub fn load(list: SortedPairs<u64, u64>) -> Result<Map, FromPairsError>
+    ensures pairs { IfOk result (λ m. IsPermutation list.0.items m.pairs) }
+    ensures apart { IfOk result (λ m. AreApart nat_cmp list.0.items) }
+{
+    seq_map::from_pairs(list, DefaultHashBuilder::default())
+}
+
+/// The list has exactly the elements of the set.
+pub fn save_set(set: &SeqSet<u64>) -> Result<SortedItems<u64>, AllocError>
+    ensures { IfOk result (λ s. s.0.items ≡ set.now.elements) }
+{
+    seq_set::to_sorted_items(set)
+}
+
+/// There and back: the pairs are the same.
+pub fn copy(map: &Map) -> Result<Map, FromPairsError>
+    ensures { IfOk result (λ m. IsPermutation map.now.pairs m.pairs) }
+{
+    load(save(map)?)
+}

@@ -1,0 +1,69 @@
+//! Callers of the recorded map.
+ghost use Rattle.std.specs.Prelude.{◌≡◌, ◌+◌, [], length, IfOk, OnOk, OnErr};
+ghost use Rattle.std.specs.Ordering.{nat_cmp};
+ghost use Rattle.flurry.specs.Closing.{PlacesStand, all_receipts};
+ghost use Rattle.flurry.specs.Histories.{Replays};
+
+use flurry::hash::LowHashBuilder;
+use flurry::recorded::{CloseFault, Closed, KeptReply, Recorded, Share};
+use std::alloc::{AllocError, Global};
+use std::sync::Wait;
+
+type Map = Recorded<u64, u64, LowHashBuilder>;
+
+/// One call, one receipt.
+pub fn record<R: Wait>(
+    rt: &R,
+    map: &Map,
+    share: &mut Share<u64, u64>,
+    key: u64,
+    value: u64,
+) -> Result<(), AllocError>
+    ensures ok { OnOk result (length share.new.receipts ≡ length share.old.receipts + 1) }
+    ensures err { OnErr result (share.new ≡ share.old) }
+{
+    map.insert(rt, share, key, value)?;
+    Ok(())
+}
+
+/// A share keeps its number.
+pub fn look<R: Wait>(
+    rt: &R,
+    map: &Map,
+    share: &mut Share<u64, u64>,
+    key: u64,
+) -> Result<KeptReply<u64, u64>, AllocError>
+    ensures { share.new.number ≡ share.old.number }
+{
+    map.get(rt, share, key)
+}
+
+/// A new share has no receipt.
+pub fn join_in<R: Wait>(rt: &R, map: &Map) -> Result<Share<u64, u64>, AllocError>
+    ensures { IfOk result (λ s. s.receipts ≡ []) }
+{
+    map.share(rt)
+}
+
+/// What is closed replays to its map, and has as many calls as the shares have receipts.
+pub fn audit(
+    map: Map,
+    shares: Vec<Share<u64, u64>>,
+) -> Result<Closed<u64, u64, LowHashBuilder>, CloseFault>
+    ensures replays { IfOk result (λ c. Replays nat_cmp c.history.items c.map.pairs) }
+    ensures calls { IfOk result (λ c. length (all_receipts shares.items) ≡ length c.history.items) }
+    ensures places { IfOk result (λ c. PlacesStand shares.items) }
+{
+    map.close(shares)
+}
+
+/// One caller's whole use.
+pub fn session<R: Wait>(rt: &R, alloc: Global) -> Result<bool, AllocError> {
+    let map: Map = Recorded::with_hasher(alloc, LowHashBuilder);
+    let mut share = map.share(rt)?;
+    record(rt, &map, &mut share, 1, 10)?;
+    look(rt, &map, &mut share, 1)?;
+    let mut shares = Vec::new(alloc);
+    shares.push(share)?;
+    Ok(audit(map, shares).is_ok())
+}

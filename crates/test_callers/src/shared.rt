@@ -1,0 +1,110 @@
+//! Callers of the map and the set that threads share.
+ghost use Rattle.std.specs.Prelude.{◌≡◌, ◌≤◌, true, false, Ok, IfOk, IfErr, IfSome};
+ghost use Rattle.std.specs.Ordering.{nat_cmp};
+ghost use Rattle.flurry.specs.FiniteMap.{IsFiniteMap};
+
+use flurry::iter::Iter;
+use flurry::pairs::{self, SortedPairs};
+use flurry::{HashMap, HashSet, SeqMap};
+use std::alloc::{AllocError, Global};
+use std::sync::Wait;
+
+type Shared = HashMap<u64, u64>;
+
+/// Puts a pair, and answers how many were put: none where memory was wanting.
+pub fn put_one<R: Wait>(rt: &R, map: &Shared, key: u64) -> u64
+    ensures { result ≤ 1 }
+{
+    match map.insert(rt, key, key) {
+        Ok(_) => 1,
+        Err(_) => 0,
+    }
+}
+
+/// The value that was handed in is the one that was put, or it comes back.
+pub fn offer<R: Wait>(rt: &R, map: &Shared, key: u64, value: u64) -> Result<u64, AllocError>
+    ensures { IfOk result (λ r. r ≡ value) }
+{
+    match map.try_insert(rt, key, value)? {
+        Ok(put) => Ok(*put),
+        Err(e) => Ok(e.not_inserted),
+    }
+}
+
+/// A value that is answered is one that the function answered.
+pub fn lower<R: Wait>(rt: &R, map: &Shared, key: u64, limit: u64) -> Result<Option<u64>, AllocError>
+    ensures { IfOk result (λ r. IfSome r (λ v. v ≤ limit)) }
+{
+    let answer = map.compute_if_present(
+        rt,
+        &key,
+        move |_key: &u64, old: &u64| -> Option<u64>
+            ensures { IfSome result (λ v. v ≤ limit) }
+        { Some((*old).min(limit)) },
+    )?;
+    Ok(answer.map(|value| *value))
+}
+
+/// A call by the view. Its reply hangs on other threads.
+pub fn take<R: Wait>(rt: &R, map: &Shared, key: u64) -> bool {
+    let view = map.pin(rt);
+    view.remove(&key).is_some() && !view.contains_key(&key)
+}
+
+/// A value, and 0 where there is none.
+pub fn value_or_zero<R: Wait>(rt: &R, map: &Shared, key: u64) -> Result<u64, AllocError> {
+    match map.get(rt, &key)? {
+        Some(value) => Ok(*value),
+        None => Ok(0),
+    }
+}
+
+/// A map for so many processors.
+pub fn for_processors(alloc: Global, processors: usize) -> Shared
+    ensures { result.processors ≡ processors }
+{
+    HashMap::new(alloc).with_processors(processors)
+}
+
+/// Refused, the owned map comes back as it was.
+pub fn share<R: Wait>(rt: &R, map: SeqMap<u64, u64>) -> Result<Shared, SeqMap<u64, u64>>
+    ensures { IfErr result (λ m. m ≡ map) }
+{
+    HashMap::from_seq(rt, map)
+}
+
+/// An iterator that has ended answers none.
+pub fn after_end<R: Wait>(pairs: &mut Iter<'_, R, u64, u64>) -> Result<bool, AllocError>
+    requires { pairs.old.has_ended ≡ true }
+    ensures { result ≡ Ok false }
+{
+    Ok(pairs.next()?.is_some())
+}
+
+/// The pairs of a walk, in ascending order of the keys.
+pub fn list<R: Wait>(
+    rt: &R,
+    alloc: Global,
+    map: &Shared,
+) -> Result<SortedPairs<u64, u64>, AllocError>
+    ensures { IfOk result (λ s. IsFiniteMap nat_cmp s.0.items) }
+{
+    pairs::map::to_sorted_pairs(rt, alloc, map)
+}
+
+/// Keeps the even keys. Which these are, no contract tells.
+pub fn keep_even<R: Wait>(rt: &R, map: &Shared) -> Result<(), AllocError> {
+    map.retain(rt, |key: &u64, _value: &u64| -> bool { *key % 2 == 0 })
+}
+
+/// Whether an element is new to the set.
+pub fn visit<R: Wait>(rt: &R, seen: &HashSet<u64>, x: u64) -> Result<bool, AllocError> {
+    seen.insert(rt, x)
+}
+
+/// A further view of a set is for as many processors.
+pub fn processors_of_view<R: Wait>(rt: &R, set: &HashSet<u64>) -> usize
+    ensures { result ≡ set.now.processors }
+{
+    set.pin(rt).again().processors()
+}
