@@ -5,7 +5,7 @@ ghost use Rattle.flurry_calls.specs.Sweep.{swept_part};
 
 use super::super::{same, same_at};
 use super::{Map, Told, call, empty_map, end, goes_on, insert, lent, moves_the_last_bin, plain};
-use flurry_calls::Sweep;
+use flurry_calls::{Seen, Sweep};
 use flurry_model::reply::KeptReply;
 use flurry_slots::{ComputeFn, NoFn, Slot};
 use flurry_steps::party::{Call, Event, Party, Want};
@@ -78,6 +78,11 @@ fn has_ended(rt: &impl Abort, sweep: &mut Sweep<u64, u64>) {
         sweep.reply().is_some() || sweep.take_reply().is_some(),
         false,
     );
+}
+
+// Sees that this is key 1 as it was put first.
+fn is_one(rt: &impl Abort, seen: &Seen<u64, u64>) {
+    same(rt, (seen.key(), seen.value()), (&1, &0));
 }
 
 // A map of 16 bins with the keys 1 and 17, whose hash is the key; both stand in bin 1.
@@ -156,7 +161,8 @@ fn what_was_read_stays(rt: HostRuntime) {
     let seen = seen.expect(&rt, "a pair was read");
     let further = seen.try_clone().expect(&rt, "a further owner");
     drop(seen);
-    same(&rt, (further.key(), further.value()), (&1, &0));
+    is_one(&rt, &further);
+    drop(further);
 }
 
 // The call ends at its first step, and has read nothing.
@@ -268,7 +274,8 @@ fn reads_one<'k, F: ComputeFn<u64, u64>>(
     same(rt, walk.last_read(), Some((&1, &0)));
     let seen = walk.seen().expect(rt, "a further owner");
     let seen = seen.expect(rt, "a pair was read");
-    same(rt, (seen.key(), seen.value()), (&1, &0));
+    is_one(rt, &seen);
+    drop(seen);
 }
 
 // It goes on to its end, and keeps what it read last.
