@@ -20,6 +20,7 @@ fn a_cursor_goes_over_each_bin_of_its_table(rt: HostRuntime) {
     rest_of(&rt, &mut cursor, &[(2, 0), (2, 1), (2, 2), (2, 3)]);
     same(&rt, cursor.at(), (2, 3));
     same(&rt, cursor.leave(), false);
+    drop(cursor);
 }
 
 // Bin 1 of two has moved, and so has its high half: what it had stands in bin 1 of four, and in bins 3 and 7 of eight.
@@ -34,6 +35,7 @@ fn a_bin_that_has_moved_is_followed_to_its_halves(rt: HostRuntime) {
     same(&rt, cursor.at(), (2, 3));
     same(&rt, cursor.split().is_ok(), true);
     rest_of(&rt, &mut cursor, &[(3, 3), (3, 7)]);
+    drop(cursor);
 }
 
 // Each half of a bin begins at the bound that the bin had.
@@ -50,6 +52,7 @@ fn both_halves_begin_at_the_bound(rt: HostRuntime) {
     same(&rt, cursor.at(), (1, 1));
     same(&rt, cursor.bound(), Some((9, &7)));
     same(&rt, cursor.leave(), false);
+    drop(cursor);
 }
 
 // Follows the bin to its halves, where there is a further table.
@@ -75,4 +78,5 @@ fn a_cursor_follows_a_bin_through_all_tables(rt: HostRuntime) {
         same_at(&rt, table, cursor.at(), (table, 1 << (table - 1)));
     }
     same(&rt, cursor.leave(), false);
+    drop(cursor);
 }

@@ -130,13 +130,20 @@ fn value(value: Option<u64>) -> Told {
     Told::Key(KeptReply::Value(value))
 }
 
+// Sees that a slot is this one.
+fn is_at(rt: &impl Abort, slot: &Slot<u64, u64>, table: u8, index: usize)
+    ensures { (slot.now.table ≡ table) × (slot.now.index ≡ index) }
+{
+    let at = slot.at();
+    assert!(rt; at.0 == table && at.1 == index);
+}
+
 // Takes out the slot that a call wants.
 fn lent(rt: &impl Abort, map: &mut Map, table: u8, index: usize) -> Slot<u64, u64>
     ensures { (result.table ≡ table) × (result.index ≡ index) }
 {
     let slot = map.tables.take(rt, table, index);
-    let at = slot.at();
-    assert!(rt; at.0 == table && at.1 == index);
+    is_at(rt, &slot, table, index);
     slot
 }
 

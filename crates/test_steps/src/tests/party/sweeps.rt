@@ -1,11 +1,11 @@
-//! Walks and clears, between the steps of other calls.
+//! Walks and clears, between the steps of other calls. Each is dropped by name, as a call in progress is.
 ghost use Rattle.std.specs.Prelude.{◌≡◌};
 ghost use Rattle.flurry_calls.specs.Part.{LookPart, BinPart};
 ghost use Rattle.flurry_calls.specs.Sweep.{swept_part};
 
 use super::super::{same, same_at};
 use super::{Map, Told, call, empty_map, end, goes_on, insert, lent, moves_the_last_bin, plain};
-use flurry_calls::Sweep;
+use flurry_calls::{Seen, Sweep};
 use flurry_model::reply::KeptReply;
 use flurry_slots::{ComputeFn, NoFn, Slot};
 use flurry_steps::party::{Call, Event, Party, Want};
@@ -80,6 +80,11 @@ fn has_ended(rt: &impl Abort, sweep: &mut Sweep<u64, u64>) {
     );
 }
 
+// Sees that this is key 1 as it was put first.
+fn is_one(rt: &impl Abort, seen: &Seen<u64, u64>) {
+    same(rt, (seen.key(), seen.value()), (&1, &0));
+}
+
 // A map of 16 bins with the keys 1 and 17, whose hash is the key; both stand in bin 1.
 fn one_and_seventeen(rt: &(impl Abort + AllocGlobal)) -> Map {
     let mut map = empty_map(rt.alloc(), 1, 0);
@@ -110,6 +115,7 @@ fn a_walk_reads_each_pair_once(rt: HostRuntime) {
     silent(&rt, &mut walk, &mut map, 15);
     has_ended(&rt, &mut walk);
     same(&rt, walk.last_read(), Some((&17, &0)));
+    drop(walk);
 }
 
 // Between its reads the table is doubled twice: the walk follows bin 1 to its four parts, and every other bin too.
@@ -124,6 +130,7 @@ fn a_walk_follows_bins_that_move(rt: HostRuntime) {
     reads(&rt, &mut walk, &mut map, 17, 0);
     silent(&rt, &mut walk, &mut map, 100);
     has_ended(&rt, &mut walk);
+    drop(walk);
 }
 
 // The key that was read is removed, and comes back with another value: it is not read again.
@@ -138,6 +145,7 @@ fn a_walk_reads_no_key_twice(rt: HostRuntime) {
     reads(&rt, &mut walk, &mut map, 17, 0);
     silent(&rt, &mut walk, &mut map, 15);
     has_ended(&rt, &mut walk);
+    drop(walk);
 }
 
 // What was read last stays as it was read, whoever writes its key.
@@ -153,19 +161,26 @@ fn what_was_read_stays(rt: HostRuntime) {
     let seen = seen.expect(&rt, "a pair was read");
     let further = seen.try_clone().expect(&rt, "a further owner");
     drop(seen);
-    same(&rt, (further.key(), further.value()), (&1, &0));
+    is_one(&rt, &further);
+    drop(further);
+}
+
+// The call ends at its first step, and has read nothing.
+fn ends_at_once(rt: &impl Abort, sweep: &mut Sweep<u64, u64>, map: &mut Map) {
+    silent(rt, sweep, map, 1);
+    has_ended(rt, sweep);
+    same(rt, sweep.last_read().is_none(), true);
 }
 
 #[test]
 fn a_map_without_a_table_has_nothing_to_go_over(rt: HostRuntime) {
     let mut map = empty_map(rt.alloc(), 1, 0);
     let mut walk = Sweep::walk();
-    silent(&rt, &mut walk, &mut map, 1);
-    has_ended(&rt, &mut walk);
-    same(&rt, walk.last_read().is_none(), true);
+    ends_at_once(&rt, &mut walk, &mut map);
+    drop(walk);
     let mut clear = Sweep::clear();
-    silent(&rt, &mut clear, &mut map, 1);
-    has_ended(&rt, &mut clear);
+    ends_at_once(&rt, &mut clear, &mut map);
+    drop(clear);
     same(&rt, map.control.locate(), None);
 }
 
@@ -182,6 +197,7 @@ fn a_walk_sets_out_from_a_published_table(rt: HostRuntime) {
     same(&rt, walk.want(), Want::Look(4, 0));
     silent(&rt, &mut walk, &mut map, 1);
     reads(&rt, &mut walk, &mut map, 1, 0);
+    drop(walk);
 }
 
 // Where no bin is yet, a walk and a clear stay.
@@ -196,8 +212,10 @@ fn an_unborn_bin_is_met_again(rt: HostRuntime) {
     map.tables.put_back(&rt, Slot::unborn(4, 0));
     silent(&rt, &mut walk, &mut map, 2);
     same(&rt, walk.want(), Want::Look(4, 0));
+    drop(walk);
     silent(&rt, &mut clear, &mut map, 2);
     same(&rt, clear.want(), Want::Bin(4, 0));
+    drop(clear);
 }
 
 // Steps of a clear that wipe the bins of that table from the first on.
@@ -233,6 +251,7 @@ fn a_clear_beside_a_growth_wipes_every_bin(rt: HostRuntime) {
     same(&rt, map.control.len(), 2);
     silent(&rt, &mut clear, &mut map, 1);
     has_ended(&rt, &mut clear);
+    drop(clear);
     same(&rt, map.control.len(), 0);
     let (_, reply) = call(&rt, &mut map, 2, Call::Get(&2));
     same(&rt, reply, Told::Key(KeptReply::Value(None)));
@@ -255,7 +274,8 @@ fn reads_one<'k, F: ComputeFn<u64, u64>>(
     same(rt, walk.last_read(), Some((&1, &0)));
     let seen = walk.seen().expect(rt, "a further owner");
     let seen = seen.expect(rt, "a pair was read");
-    same(rt, (seen.key(), seen.value()), (&1, &0));
+    is_one(rt, &seen);
+    drop(seen);
 }
 
 // It goes on to its end, and keeps what it read last.

@@ -9,7 +9,28 @@ use flurry_slots::{ComputeFn, NoFn};
 use flurry_steps::party::{Call, Event, Party, Want};
 use std::process::Abort;
 
-// Runs a call of hash 3, which counts at the tally. Answers what it wants after that, and its reply.
+// Does the steps of a call, which counts at the tally. Answers what it wants after that, and its reply.
+fn counts_at<'k, F: ComputeFn<u64, u64>>(
+    rt: &(impl Abort + AllocGlobal),
+    party: &mut Party<'k, u64, u64, F>,
+    map: &mut Map,
+    tally: &mut Tally,
+) -> (Want, Told) {
+    for _ in 0..3u8 {
+        if party.counts() {
+            break;
+        }
+        step(rt, party, map);
+    }
+    assert!(rt; party.counts(), "the call put or removed a pair");
+    same(rt, party.on_tally(tally, 2), Event::Silent);
+    same(rt, party.counts(), false);
+    let wanted = party.want();
+    let (_, reply) = end(rt, party, map);
+    (wanted, reply)
+}
+
+// Runs a call of hash 3, and sees to its hash.
 fn counted<'k, F: ComputeFn<u64, u64>>(
     rt: &(impl Abort + AllocGlobal),
     map: &mut Map,
@@ -20,19 +41,9 @@ fn counted<'k, F: ComputeFn<u64, u64>>(
 {
     let mut party = Party::new(asked, 3, 1);
     same(rt, party.hash(), 3);
-    for _ in 0..3u8 {
-        if party.counts() {
-            break;
-        }
-        step(rt, &mut party, map);
-    }
-    assert!(rt; party.counts(), "the call put or removed a pair");
-    same(rt, party.on_tally(tally, 2), Event::Silent);
-    same(rt, party.counts(), false);
-    let wanted = party.want();
-    let (_, reply) = end(rt, &mut party, map);
+    let seen = counts_at(rt, &mut party, map, tally);
     drop(party);
-    (wanted, reply)
+    seen
 }
 
 // The same of a call without a function.
