@@ -1,6 +1,7 @@
 //! Keeping some of the pairs of a shared map.
 
 use crate::HashMapRef;
+use crate::iter::Iter;
 use flurry_model::hash::KeyHasher;
 use std::alloc::{AllocError, Allocator};
 use std::sync::Wait;
@@ -30,6 +31,20 @@ impl<'m, R: Wait, K: Ord + Drop, V: Drop, S: KeyHasher<K>, A: Allocator + Copy> 
     {
         let mut keep = f;
         let mut pairs = self.iter();
+        let ended = self.retain_rest(&mut pairs, &mut keep);
+        drop(pairs);
+        ended
+    }
+
+    // Goes over the pairs that are left. It borrows the iterator, since each way out of a body that owns it has a proof of its drop.
+    fn retain_rest<F: FnMut(&K, &V) -> bool>(
+        &self,
+        pairs: &mut Iter<'_, R, K, V, A>,
+        keep: &mut F,
+    ) -> Result<(), AllocError>
+    where
+        requires { F.IsAlwaysCallable keep.old }
+    {
         for _ in self.runtime().forever() {
             let Some(seen) = pairs.next_seen()? else {
                 return Ok(());
@@ -53,6 +68,20 @@ impl<'m, R: Wait, K: Ord + Drop, V: Drop, S: KeyHasher<K>, A: Allocator + Copy> 
     {
         let mut keep = f;
         let mut pairs = self.iter();
+        let ended = self.retain_force_rest(&mut pairs, &mut keep);
+        drop(pairs);
+        ended
+    }
+
+    // The same whatever value stands.
+    fn retain_force_rest<F: FnMut(&K, &V) -> bool>(
+        &self,
+        pairs: &mut Iter<'_, R, K, V, A>,
+        keep: &mut F,
+    ) -> Result<(), AllocError>
+    where
+        requires { F.IsAlwaysCallable keep.old }
+    {
         for _ in self.runtime().forever() {
             let Some((key, value)) = pairs.next()? else {
                 return Ok(());
