@@ -13,3 +13,6 @@ returns-in-seq-clause-other g c = search (rules, one_word)
 
 pub returns-in-world-clause-world : goal.returns-in-world-clause-world
 returns-in-world-clause-world g c = search rules
+
+pub returns-in-Some-clause-threads : goal.returns-in-Some-clause-threads
+returns-in-Some-clause-threads g c = search rules
