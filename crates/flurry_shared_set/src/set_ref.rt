@@ -11,7 +11,7 @@ ghost use Rattle.flurry_shared_set.specs.ElementResults.{element_outcome, found_
 ghost use Rattle.flurry_steps.specs.Party.{TheValue, ThePair, Presence, Finds, Removes, Adds, AtLocate, AtReserve, AtSweep};
 
 use flurry_map_ref::HashMapRef;
-use flurry_map_ref::iter::Keys;
+use flurry_map_ref::iter::{Iter, Keys};
 use flurry_model::hash::{DefaultHashBuilder, KeyHasher};
 use std::alloc::{AllocError, Allocator, Global};
 use std::marker::Model;
@@ -226,6 +226,20 @@ impl<'m, R: Wait, T: Ord + Drop, S: KeyHasher<T>, A: Allocator + Copy> HashSetRe
     {
         let mut keep = f;
         let mut pairs = self.map.iter();
+        let ended = self.retain_rest(&mut pairs, &mut keep);
+        drop(pairs);
+        ended
+    }
+
+    // Goes over the elements that are left. It borrows the iterator, since each way out of a body that owns it has a proof of its drop.
+    fn retain_rest<F: FnMut(&T) -> bool>(
+        &self,
+        pairs: &mut Iter<'_, R, T, (), A>,
+        keep: &mut F,
+    ) -> Result<(), AllocError>
+    where
+        requires { F.IsAlwaysCallable keep.old }
+    {
         for _ in self.map.runtime().forever() {
             let Some(seen) = pairs.next_seen()? else {
                 return Ok(());
@@ -240,11 +254,22 @@ impl<'m, R: Wait, T: Ord + Drop, S: KeyHasher<T>, A: Allocator + Copy> HashSetRe
     // Whether each element that a walk reads is present in another set, or each is absent there.
     fn each_is(&self, other: &Self, present: bool) -> Result<bool, AllocError> {
         let mut pairs = self.map.iter();
+        let answer = other.each_left_is(&mut pairs, present);
+        drop(pairs);
+        answer
+    }
+
+    // Whether each element that is left of a walk is present in this set, or each is absent here.
+    fn each_left_is(
+        &self,
+        pairs: &mut Iter<'_, R, T, (), A>,
+        present: bool,
+    ) -> Result<bool, AllocError> {
         for _ in self.map.runtime().forever() {
             let Some((element, nothing)) = pairs.next()? else {
                 return Ok(true);
             };
-            if !other.has_as(&element, &nothing, present)? {
+            if !self.has_as(&element, &nothing, present)? {
                 return Ok(false);
             }
         }
