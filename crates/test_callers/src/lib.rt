@@ -1,4 +1,4 @@
-//! What a caller of the maps and sets gets with no proof file: each function is proved by the laws that its attribute names.
+//! What a caller of the maps and sets gets with no proof file: where a function wants laws, its attribute names them.
 #![tactic(auto)]
 
 ghost use Rattle.std.specs.Prelude.{◌≡◌, ◌≢◌, ◌+◌, ◌≤◌, ℕ, [], ◌∷◌, length, Some, None, OnOk, IfOk, is_some, String, string_bytes};

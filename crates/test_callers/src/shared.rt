@@ -51,7 +51,7 @@ pub fn take<R: Wait>(rt: &R, map: &Shared, key: u64) -> bool {
     view.remove(&key).is_some() && !view.contains_key(&key)
 }
 
-/// A value, and 0 where there is none.
+/// A value, and 0 where there is none. Which value a shared map finds, no contract tells.
 pub fn value_or_zero<R: Wait>(rt: &R, map: &Shared, key: u64) -> Result<u64, AllocError> {
     match map.get(rt, &key)? {
         Some(value) => Ok(*value),
@@ -97,7 +97,7 @@ pub fn keep_even<R: Wait>(rt: &R, map: &Shared) -> Result<(), AllocError> {
     map.retain(rt, |key: &u64, _value: &u64| -> bool { *key % 2 == 0 })
 }
 
-/// Whether an element is new to the set.
+/// Whether an element is new to the set, which hangs on other threads.
 pub fn visit<R: Wait>(rt: &R, seen: &HashSet<u64>, x: u64) -> Result<bool, AllocError> {
     seen.insert(rt, x)
 }
