@@ -5,7 +5,6 @@ use Rattle.std.proofs.lemmas.Bool.{eqb-true}
 use Rattle.std.proofs.lemmas.Bool.Decides.{nat_tests}
 use Rattle.flurry_model.specs.BinSizes.{grows_into_tree}
 use Rattle.flurry_bins.specs.Bin.{shape_by}
-use Rattle.flurry_bins.specs.declared.bin.adaptive.Shape.{Shape}
 use Rattle.flurry_bins.specs.declared.bin.adaptive.Shape.TheVariants as shape
 
 -- a list of eight takes one more

@@ -15,6 +15,7 @@ use Rattle.flurry_bins.specs.Entries.{place_cmp, entry_cmp, IsAscending, entry_a
 use Rattle.flurry_bins.specs.Tree.{Tree, fork, shape, shape_from, node_shape, inorder, tree_way}
 use Rattle.flurry_model.proofs.ListParts.{sorted_back, sorted_front}
 use Rattle.flurry_model.proofs.ListParts as sides
+use Rattle.flurry_bins.proofs.OneHash.{or_again}
 use Rattle.flurry_bins.proofs.Places.{AllPast, place, past_rest, entry_at-back, entry_at-front, first_past-front}
 
 pub node_shape-out : {K V A : Type 0} (n : Node K V A) → node_shape n ≡ fork (out-Node K V A n).colour (shape (out-Node K V A n).left) (out-Node K V A n).entry (shape (out-Node K V A n).right)
@@ -80,14 +81,10 @@ module _ {K V A : Type 0} {cmp : K → K → Ordering} (o : IsTotalOrder cmp) (h
 
 -- the first entry past a bound, in a fork
 module _ {K V A : Type 0} (cmp : K → K → Ordering) (b : Option (ℕ × K)) (l : List (Entry K V A)) (e : Entry K V A) (r : List (Entry K V A)) where
-  or_again : (o p : Option (Entry K V A)) → option_or (option_or o (Some e)) p ≡ option_or o (Some e)
-  or_again None p = refl
-  or_again (Some x) p = refl
-
   pub next_left : is_past_bound cmp b e ≡ true → (p : Option (Entry K V A)) → option_or (first_past cmp b (l ++ e ∷ r)) p ≡ option_or (first_past cmp b l) (Some e)
   next_left q p =
       let at = find-append (is_past_bound cmp b) l (e ∷ r) ∙ ap (λ t. option_or (first_past cmp b l) (cond t (Some e) (first_past cmp b r))) q in
-      ap (λ t. option_or t p) at ∙ or_again (first_past cmp b l) p
+      ap (λ t. option_or t p) at ∙ or_again (first_past cmp b l) e p
 
 pub next_right : {K V A : Type 0} {cmp : K → K → Ordering} (o : IsTotalOrder cmp) (b : Option (ℕ × K)) (l : List (Entry K V A)) (e : Entry K V A) (r : List (Entry K V A)) → IsAscending cmp (l ++ e ∷ r) → is_past_bound cmp b e ≡ false → first_past cmp b (l ++ e ∷ r) ≡ first_past cmp b r
 next_right o None l e r up q = cc

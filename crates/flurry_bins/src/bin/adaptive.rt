@@ -1,11 +1,11 @@
 //! A bin that is a list while it is small, and a tree else.
-ghost use Rattle.std.specs.Prelude.{◌≡◌, ◌<◌, ◌^◌, ◌||◌, ◌&&◌, ◌+◌, nat_le, [], length, map, true, false, Some, IsSome, IsNone};
+ghost use Rattle.std.specs.Prelude.{◌≡◌, ◌<◌, ◌≤◌, ◌^◌, ◌||◌, ◌&&◌, ◌+◌, nat_le, [], length, map, true, false, Some, IsSome, IsNone};
 ghost use Rattle.std.specs.Option.{option_map};
 ghost use Rattle.std.specs.Arc.{arc_value};
 ghost use Rattle.flurry_bins.specs.Chain.{chain, entry_of};
 ghost use Rattle.flurry_bins.specs.Entries.{entry_at, with_entry, with_value_at, without, with_bit};
 ghost use Rattle.flurry_model.specs.Greatest.{greatest};
-ghost use Rattle.flurry_bins.specs.Tree.{shape, inorder};
+ghost use Rattle.flurry_bins.specs.Tree.{shape, node_shape, inorder};
 ghost use Rattle.flurry_bins.specs.WayBound.{way_bound};
 ghost use Rattle.flurry_bins.specs.Kind.{kind_entries, kind_is_tree};
 ghost use Rattle.flurry_model.specs.BinSizes.{IsSized, IsSized-prop};
@@ -69,7 +69,8 @@ fn list_kind<K: Ord + Drop, V: Drop, A: Allocator>(list: ListBin<K, V, A>) -> Ki
         return Kind::Empty;
     };
     if len == 1 {
-        Kind::One(LoneNode::new(head))
+        let hash = head.entry().hash;
+        Kind::One(LoneNode { hash, node: head })
     } else {
         Kind::AsList(NodeList { len, head })
     }
@@ -143,7 +144,10 @@ fn put_into<K: Ord + Drop, V: Drop, A: Allocator>(
     ensures kind { kind_is_tree result ≡ (kind_is_tree kind || nat_le MOST_IN_LIST (length (kind_entries kind))) }
 {
     match kind {
-        Kind::Empty => Kind::One(LoneNode::new(node)),
+        Kind::Empty => {
+            let hash = node.entry().hash;
+            Kind::One(LoneNode { hash, node })
+        }
         Kind::One(lone) => {
             let mut list = list_of(Kind::One(lone));
             list.put_node(node);
@@ -215,9 +219,9 @@ fn write_into<K: Ord + Drop, V: Drop, A: Allocator>(
     match kind {
         Kind::Empty => unreachable!(),
         Kind::One(lone) => {
-            let mut node = lone.node;
+            let LoneNode { hash, mut node } = lone;
             let old = node.write(value, number);
-            (Kind::One(LoneNode::new(node)), old)
+            (Kind::One(LoneNode { hash, node }), old)
         }
         Kind::AsList(list) => {
             let mut list = list.into_list();
@@ -232,12 +236,39 @@ fn write_into<K: Ord + Drop, V: Drop, A: Allocator>(
     }
 }
 
+// The same of a tree. One whose entries have one hash goes to one side as it stands.
+fn split_tree<K: Ord + Drop, V: Drop, A: Allocator>(
+    tree: NodeTree<K, V, A>,
+    bit: u8,
+) -> (Kind<K, V, A>, Kind<K, V, A>)
+    requires bit { bit < 64 }
+    requires sized { LEAST_IN_TREE ≤ length (inorder (node_shape tree.root.value)) }
+    ensures low { kind_entries result.0 ≡ with_bit bit 0 (inorder (node_shape tree.root.value)) }
+    ensures high { kind_entries result.1 ≡ with_bit bit 1 (inorder (node_shape tree.root.value)) }
+    ensures low_kind { kind_is_tree result.0 ≡ nat_le LEAST_IN_TREE (length (kind_entries result.0)) }
+    ensures high_kind { kind_is_tree result.1 ≡ nat_le LEAST_IN_TREE (length (kind_entries result.1)) }
+{
+    let Some(hash) = tree::only_hash(Some(tree.root.as_ref())) else {
+        let (low, high) = tree.into_tree().into_list().split(bit);
+        return (
+            kind_from(low, LEAST_IN_TREE),
+            kind_from(high, LEAST_IN_TREE),
+        );
+    };
+    if (hash >> bit) & 1 == 0 {
+        (Kind::AsTree(tree), Kind::Empty)
+    } else {
+        (Kind::Empty, Kind::AsTree(tree))
+    }
+}
+
 // The entries whose hash has this bit 0, and those that have it 1. A half of a tree is a tree from seven nodes on.
 fn split_kind<K: Ord + Drop, V: Drop, A: Allocator>(
     kind: Kind<K, V, A>,
     bit: u8,
 ) -> (Kind<K, V, A>, Kind<K, V, A>)
-    requires { bit < 64 }
+    requires bit { bit < 64 }
+    requires sized { IsSized (kind_is_tree kind) (length (kind_entries kind)) }
     ensures low { kind_entries result.0 ≡ with_bit bit 0 (kind_entries kind) }
     ensures high { kind_entries result.1 ≡ with_bit bit 1 (kind_entries kind) }
     ensures low_kind { kind_is_tree result.0
@@ -258,13 +289,7 @@ fn split_kind<K: Ord + Drop, V: Drop, A: Allocator>(
             let (low, high) = list.into_list().split(bit);
             (list_kind(low), list_kind(high))
         }
-        Kind::AsTree(tree) => {
-            let (low, high) = tree.into_tree().into_list().split(bit);
-            (
-                kind_from(low, LEAST_IN_TREE),
-                kind_from(high, LEAST_IN_TREE),
-            )
-        }
+        Kind::AsTree(tree) => split_tree(tree, bit),
     }
 }
 

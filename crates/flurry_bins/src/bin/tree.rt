@@ -1,8 +1,8 @@
 //! A bin that is a red-black tree.
-ghost use Rattle.std.specs.Prelude.{◌≡◌, ◌^◌, ◌*◌, ◌+◌, ◌<◌, ◌≤◌, ◌++◌, length, map, Option, Some, None, IsSome, IsNone};
+ghost use Rattle.std.specs.Prelude.{◌≡◌, ◌^◌, ◌*◌, ◌+◌, ◌<◌, ◌≤◌, ◌++◌, length, map, Option, Some, None, IfSome, IsSome, IsNone};
 ghost use Rattle.std.specs.Option.{option_map, option_copied};
 ghost use Rattle.std.specs.Arc.{arc_value};
-ghost use Rattle.flurry_bins.specs.Entries.{IsAscending, IsAscending-prop, entry_at, first_past, lent_bound, with_entry, with_value_at};
+ghost use Rattle.flurry_bins.specs.Entries.{IsAscending, IsAscending-prop, AllHashed, last_of, entry_at, first_past, lent_bound, with_entry, with_value_at};
 ghost use Rattle.flurry_bins.specs.Chain.{chain, entry_of, colour_of};
 ghost use Rattle.flurry_model.specs.Greatest.{greatest};
 ghost use Rattle.flurry_bins.specs.Balance.{red_root, with_black_root, balance_left, balance_right, put_tree};
@@ -225,6 +225,34 @@ pub(crate) fn next_in<'a, K: Ord, V, A: Allocator>(
         }
     }
     best
+}
+
+// The last entry in the tree below a node.
+fn last_in<'a, K, V, A: Allocator>(root: Option<&'a Node<K, V, A>>) -> Option<&'a Entry<K, V, A>>
+    ensures { option_copied result ≡ last_of (inorder (shape_from root.entry)) }
+{
+    let mut link = root;
+    let mut best = None;
+    while let Some(node) = link {
+        best = Some(&node.entry);
+        link = follow(&node.right);
+    }
+    best
+}
+
+// The hash of each entry in the tree below a node, where all have the same: where the first and the last have it.
+pub(crate) fn only_hash<'a, K: Ord, V, A: Allocator>(root: Option<&'a Node<K, V, A>>) -> Option<u64>
+    requires { IsAscending K.cmp (inorder (shape_from root)) }
+    ensures { IfSome result (λ h. AllHashed h (inorder (shape_from root.entry))) }
+{
+    let bound: Option<(u64, &'a K)> = None;
+    let first = next_in(root, bound)?;
+    let last = last_in(root)?;
+    if first.hash == last.hash {
+        Some(last.hash)
+    } else {
+        None
+    }
 }
 
 // The greatest write number in the tree below a node.

@@ -19,15 +19,6 @@ pub(super) struct LoneNode<K: Ord, V, A: Allocator = Global> {
 }
 
 impl<K: Ord + Drop, V: Drop, A: Allocator> LoneNode<K, V, A> {
-    pub(super) fn new(node: BoxedNode<K, V, A>) -> Self
-        ensures { entry_of result.node.value ≡ entry_of node.value }
-    {
-        LoneNode {
-            hash: node.entry().hash,
-            node,
-        }
-    }
-
     // Whether the node is the one of a hash and a key.
     pub(super) fn is_at(&self, hash: u64, key: &K) -> bool
         ensures { result ≡ is_at K.cmp hash key.now (entry_of self.now.node.value) }
