@@ -1,9 +1,11 @@
--- A list of eight entries, which takes one more.
-use Rattle.std.proofs.Common.{◌≡◌, ℕ, ◌+◌, ◌<◌, ◌≤◌, arith, refl, ◌∙◌, Bool, true, false, not, ◌&&◌, ◌||◌, nat_le}
+-- How many entries a bin has: a list of eight or nine, which takes one more, and the shape of a list.
+use Rattle.std.proofs.Common.{◌≡◌, ℕ, List, ◌∷◌, length, ap, ◌+◌, ◌<◌, ◌≤◌, arith, refl, ◌∙◌, Bool, true, false, not, ◌&&◌, ◌||◌, nat_le}
 use Rattle.std.specs.Prelude.{◌==◌}
 use Rattle.std.proofs.lemmas.Bool.{eqb-true}
 use Rattle.std.proofs.lemmas.Bool.Decides.{nat_tests}
 use Rattle.flurry_model.specs.BinSizes.{grows_into_tree}
+use Rattle.flurry_bins.specs.Bin.{shape_by}
+use Rattle.flurry_bins.specs.declared.bin.adaptive.Shape.TheVariants as shape
 
 -- a list of eight takes one more
 pub long_facts : (tree : Bool) (n : ℕ) → (not tree && (n == 8)) ≡ true → (tree ≡ false) × (n ≡ 8)
@@ -22,3 +24,13 @@ long_in_small bins old new n long k small =
     let facts = long_facts old n long in
     let few : nat_le 64 bins ≡ false = grind (arith, nat_tests) in
     k ∙ rw (facts.0, facts.1, few) refl
+
+pub one_more_than_nine : (n : ℕ) → nat_le 10 (n + 1) ≡ nat_le 9 n
+one_more_than_nine n = grind (arith, nat_tests)
+
+-- n entries of which e is the first
+pub shape_of_nodes : {X : Type 0} {n : ℕ} {xs es : List X} {e : X} → n ≡ length xs → xs ≡ e ∷ es → shape.List n ≡ shape_by false (length xs)
+shape_of_nodes {xs = xs} p q =
+    let longer = ap length q in
+    let some : (length xs == 0) ≡ false = grind (arith, nat_tests) in
+    rw (p, some) refl

@@ -10,6 +10,9 @@ use Rattle.std.specs.declared.cmp.PartialOrd as partial
 use Rattle.flurry_bins.proofs.bin.entry.Entry.TheSendSync as entry
 use Rattle.flurry_bins.proofs.bin.node.Node.TheLaws.TheKnot as knot
 use Rattle.flurry_bins.specs.contracts.bin.adaptive.Bin as Bin
+use Rattle.flurry_bins.specs.contracts.bin.adaptive.nodes.LoneNode as LoneNode
+use Rattle.flurry_bins.specs.contracts.bin.adaptive.nodes.NodeList as NodeList
+use Rattle.flurry_bins.specs.contracts.bin.adaptive.nodes.NodeTree as NodeTree
 use Rattle.flurry_bins.specs.contracts.bin.list.ListBin as ListBin
 use Rattle.flurry_bins.specs.contracts.bin.node.Node as Node
 use Rattle.flurry_bins.specs.contracts.bin.tree.TreeBin as TreeBin
@@ -34,8 +37,26 @@ module _ (K V A : RattleType) (g : Ghosts A.Denot) (sk : IsSend K) (yk : IsSync 
     pub tree_bin_sync : IsSync (TreeBin.the_field K V A o e p g).row
     tree_bin_sync = let n = node_sync in search (crosses, sendable) depth 60
 
+    lone_node_send : IsSend (LoneNode.the_field K V A o e p g).row
+    lone_node_send = let n = node_send in search (crosses, sendable) depth 60
+
+    lone_node_sync : IsSync (LoneNode.the_field K V A o e p g).row
+    lone_node_sync = let n = node_sync in search (crosses, sendable) depth 60
+
+    node_list_send : IsSend (NodeList.the_field K V A o e p g).row
+    node_list_send = let n = node_send in search (crosses, sendable) depth 60
+
+    node_list_sync : IsSync (NodeList.the_field K V A o e p g).row
+    node_list_sync = let n = node_sync in search (crosses, sendable) depth 60
+
+    node_tree_send : IsSend (NodeTree.the_field K V A o e p g).row
+    node_tree_send = let n = node_send in search (crosses, sendable) depth 60
+
+    node_tree_sync : IsSync (NodeTree.the_field K V A o e p g).row
+    node_tree_sync = let n = node_sync in search (crosses, sendable) depth 60
+
     pub bin_send : IsSend (Bin.the_field K V A o e p g).row
-    bin_send = let l = list_bin_send in let t = tree_bin_send in search sendable depth 60
+    bin_send = let n = lone_node_send in let l = node_list_send in let t = node_tree_send in search sendable depth 60
 
     pub bin_sync : IsSync (Bin.the_field K V A o e p g).row
-    bin_sync = let l = list_bin_sync in let t = tree_bin_sync in search sendable depth 60
+    bin_sync = let n = lone_node_sync in let l = node_list_sync in let t = node_tree_sync in search sendable depth 60

@@ -6,6 +6,7 @@ pub mod GreatestLaws
 pub mod Insertion
 pub mod DeficitResults
 pub mod EntryCallLaws
+pub mod OneHash
 pub mod Places
 pub mod PlainEntryLaws
 pub mod Powers

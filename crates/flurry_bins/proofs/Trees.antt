@@ -1,6 +1,7 @@
 -- A tree at its root, and a walk down it.
 use Rattle.std.proofs.Common.{◌≡◌, ℕ, ◌+◌, ◌≤◌, true, false, arith, List, [], ◌∷◌, ◌++◌, length, Option, Some, None, Box, refl, sym, ap, ◌∙◌, cond}
 use Rattle.std.proofs.lemmas.List.{length-append}
+use Rattle.std.specs.Borrow.{Bor}
 use Rattle.std.specs.Option.{option_or}
 use Rattle.std.proofs.lemmas.List.Folds.{find-append}
 use Rattle.std.specs.declared.cmp.Ordering.{Ordering}
@@ -11,9 +12,10 @@ use Rattle.flurry_bins.specs.declared.bin.entry.Entry.{Entry}
 use Rattle.flurry_bins.specs.declared.bin.node.Colour.{Colour}
 use Rattle.flurry_bins.specs.declared.bin.node.Node.{Node, Node', out-Node, None', Some'}
 use Rattle.flurry_bins.specs.Entries.{place_cmp, entry_cmp, IsAscending, entry_at, AllBefore, is_past_bound, first_past}
-use Rattle.flurry_bins.specs.Tree.{Tree, fork, shape, node_shape, inorder, tree_way}
+use Rattle.flurry_bins.specs.Tree.{Tree, fork, shape, shape_from, node_shape, inorder, tree_way}
 use Rattle.flurry_model.proofs.ListParts.{sorted_back, sorted_front}
 use Rattle.flurry_model.proofs.ListParts as sides
+use Rattle.flurry_bins.proofs.OneHash.{or_again}
 use Rattle.flurry_bins.proofs.Places.{AllPast, place, past_rest, entry_at-back, entry_at-front, first_past-front}
 
 pub node_shape-out : {K V A : Type 0} (n : Node K V A) → node_shape n ≡ fork (out-Node K V A n).colour (shape (out-Node K V A n).left) (out-Node K V A n).entry (shape (out-Node K V A n).right)
@@ -26,6 +28,17 @@ node_shape-out (Node' entry (Some' q n) (Some' p m) colour) = refl
 -- the link leads to the node n
 pub shape_at : {K V A : Type 0} {l : Option (Box (Node K V A) A)} {b : Box (Node K V A) A} {n : Node K V A} → l ≡ Some b → n ≡ b.value → shape l ≡ fork (out-Node K V A n).colour (shape (out-Node K V A n).left) (out-Node K V A n).entry (shape (out-Node K V A n).right)
 shape_at {K} {V} {A} {l} {b} {n} e f = ap shape e ∙ ap node_shape (sym f) ∙ node_shape-out n
+
+-- the link leads to the node that n lends
+pub shape_from_at : {K V A : Type 0} {l : Option (Bor (Node K V A))} {n : Bor (Node K V A)} → l ≡ Some n → shape_from l ≡ fork (out-Node K V A n.now).colour (shape (out-Node K V A n.now).left) (out-Node K V A n.now).entry (shape (out-Node K V A n.now).right)
+shape_from_at {K} {V} {A} {l} {n} e = ap shape_from e ∙ node_shape-out n.now
+
+-- and t is left of it, or right of it
+pub step_to_left : {K V A : Type 0} {l : Option (Bor (Node K V A))} {n : Bor (Node K V A)} {t : Tree (Entry K V A)} → l ≡ Some n → t ≡ shape (out-Node K V A n.now).left → shape_from l ≡ fork (out-Node K V A n.now).colour t (out-Node K V A n.now).entry (shape (out-Node K V A n.now).right)
+step_to_left {K} {V} {A} {l} {n} {t} e f = shape_from_at e ∙ ap (λ u. fork (out-Node K V A n.now).colour u (out-Node K V A n.now).entry (shape (out-Node K V A n.now).right)) (sym f)
+
+pub step_to_right : {K V A : Type 0} {l : Option (Bor (Node K V A))} {n : Bor (Node K V A)} {t : Tree (Entry K V A)} → l ≡ Some n → t ≡ shape (out-Node K V A n.now).right → shape_from l ≡ fork (out-Node K V A n.now).colour (shape (out-Node K V A n.now).left) (out-Node K V A n.now).entry t
+step_to_right {K} {V} {A} {l} {n} {t} e f = shape_from_at e ∙ ap (λ u. fork (out-Node K V A n.now).colour (shape (out-Node K V A n.now).left) (out-Node K V A n.now).entry u) (sym f)
 
 -- what is known of a fork in the order
 module _ {K V A : Type 0} {cmp : K → K → Ordering} (o : IsTotalOrder cmp) (h : ℕ) (k : K) (l : List (Entry K V A)) (e : Entry K V A) (r : List (Entry K V A)) (up : IsAscending cmp (l ++ e ∷ r)) where
@@ -68,14 +81,10 @@ module _ {K V A : Type 0} {cmp : K → K → Ordering} (o : IsTotalOrder cmp) (h
 
 -- the first entry past a bound, in a fork
 module _ {K V A : Type 0} (cmp : K → K → Ordering) (b : Option (ℕ × K)) (l : List (Entry K V A)) (e : Entry K V A) (r : List (Entry K V A)) where
-  or_again : (o p : Option (Entry K V A)) → option_or (option_or o (Some e)) p ≡ option_or o (Some e)
-  or_again None p = refl
-  or_again (Some x) p = refl
-
   pub next_left : is_past_bound cmp b e ≡ true → (p : Option (Entry K V A)) → option_or (first_past cmp b (l ++ e ∷ r)) p ≡ option_or (first_past cmp b l) (Some e)
   next_left q p =
       let at = find-append (is_past_bound cmp b) l (e ∷ r) ∙ ap (λ t. option_or (first_past cmp b l) (cond t (Some e) (first_past cmp b r))) q in
-      ap (λ t. option_or t p) at ∙ or_again (first_past cmp b l) p
+      ap (λ t. option_or t p) at ∙ or_again (first_past cmp b l) e p
 
 pub next_right : {K V A : Type 0} {cmp : K → K → Ordering} (o : IsTotalOrder cmp) (b : Option (ℕ × K)) (l : List (Entry K V A)) (e : Entry K V A) (r : List (Entry K V A)) → IsAscending cmp (l ++ e ∷ r) → is_past_bound cmp b e ≡ false → first_past cmp b (l ++ e ∷ r) ≡ first_past cmp b r
 next_right o None l e r up q = cc

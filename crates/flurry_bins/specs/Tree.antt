@@ -1,6 +1,7 @@
 -- A search tree of entries, as a plain tree with colours.
 use Rattle.std.specs.Prelude.{◌≡◌, ℕ, ◌+◌, ◌-◌, ◌≤◌, ⊤, List, [], ◌∷◌, ◌++◌, Option, Some, None, Box}
 use Rattle.std.specs.declared.cmp.Ordering.{Ordering}
+use Rattle.std.specs.Borrow.{Bor}
 use Rattle.std.specs.Ordering.{match_ordering}
 use Rattle.std.specs.Coded.{×_prop, Unit-prop, le_prop, Coded-set, coded_ℕ}
 use Rattle.flurry_bins.specs.declared.bin.entry.Entry.{Entry}
@@ -26,6 +27,11 @@ abbrev mutual
 abbrev pub shape : {K V A : Type 0} → Option (Box (Node K V A) A) → Tree (Entry K V A)
 shape None = leaf
 shape (Some b) = node_shape b.value
+
+-- the same from a node on that is lent
+abbrev pub shape_from : {K V A : Type 0} → Option (Bor (Node K V A)) → Tree (Entry K V A)
+shape_from None = leaf
+shape_from (Some b) = node_shape b.now
 
 -- its entries from left to right
 abbrev pub inorder : {E : Type 0} → Tree E → List E

@@ -10,13 +10,13 @@ use Rattle.flurry_slots.specs.declared.slot.MoveAnswer.TheVariants.{Done, Alread
 use Rattle.flurry_slots.specs.declared.slot.Receipt.{Receipt}
 use Rattle.flurry_slots.specs.declared.slot.Slot.TheInside.{Inside}
 
-abbrev pub content_of : {K V A : Type 0} → State K V A → Content K V
-content_of (state.Live b) = IsLive b
-content_of state.Moved = HasMoved
-content_of state.Unborn = IsUnborn
+abbrev pub content_of : {K V : Type 0} → State → Live K V → Content K V
+content_of state.Live b = IsLive b
+content_of state.Moved b = HasMoved
+content_of state.Unborn b = IsUnborn
 
 abbrev pub place_of : {K V A : Type 0} → Inside K V A → SlotState K V
-place_of s = record { table = s.table; index = s.index; content = content_of s.state }
+place_of s = record { table = s.table; index = s.index; content = content_of s.state s.live }
 
 -- a step answers f of the live bin, or what was lent in
 abbrev pub answer_with : {K V T B : Type 0} → Content K V → (Live K V → T) → B → Answer T B

@@ -72,9 +72,9 @@ pub enum MoveAnswer {
     Clash,
 }
 
-#[derive(Drop)]
-enum State<K: Ord, V, A: Allocator> {
-    Live(LiveBin<K, V, A>),
+#[derive(Clone, Copy)]
+enum State {
+    Live,
     Moved,
     Unborn,
 }
@@ -85,9 +85,13 @@ enum State<K: Ord, V, A: Allocator> {
 /// `u64::MAX`.
 #[derive(Drop)]
 pub struct Slot<K: Ord, V, A: Allocator = Global> {
+    // An index is below 2^30. In 32 bits it shares a word with the two bytes before it, so that a slot under its lock is as large as
+    // a line of a cache.
     table: u8,
-    index: usize,
-    state: State<K, V, A>,
+    state: State,
+    index: u32,
+    // Empty where no bin is live.
+    live: LiveBin<K, V, A>,
 }
 
 impl<K: Ord, V, A: Allocator> Model for Slot<K, V, A> {
@@ -130,8 +134,9 @@ impl<K: Ord + Drop, V: Drop, A: Allocator> Slot<K, V, A> {
     {
         Slot {
             table,
-            index,
-            state: State::Live(LiveBin::new(bin, writes)),
+            state: State::Live,
+            index: index as u32,
+            live: LiveBin::new(bin, writes),
         }
     }
 
@@ -143,8 +148,9 @@ impl<K: Ord + Drop, V: Drop, A: Allocator> Slot<K, V, A> {
     {
         Slot {
             table,
-            index,
             state: State::Unborn,
+            index: index as u32,
+            live: LiveBin::new(Bin::new(), 0),
         }
     }
 
@@ -157,7 +163,7 @@ impl<K: Ord + Drop, V: Drop, A: Allocator> Slot<K, V, A> {
         ensures within { IsSlot K.cmp self }
     {
         match self.state {
-            State::Live(live) => Some(live.into_bin()),
+            State::Live => Some(self.live.into_bin()),
             State::Moved | State::Unborn => None,
         }
     }
@@ -167,7 +173,7 @@ impl<K: Ord + Drop, V: Drop, A: Allocator> Slot<K, V, A> {
         ensures at { (result.0 ≡ self.now.table) × (result.1 ≡ self.now.index) }
         ensures within { IsSlot K.cmp self.now }
     {
-        (self.table, self.index)
+        (self.table, self.index as usize)
     }
 
     /// Whether a bin is live here. Else it has moved, or no bin is there yet. Constant time.
@@ -175,7 +181,7 @@ impl<K: Ord + Drop, V: Drop, A: Allocator> Slot<K, V, A> {
     pub fn is_live(&self) -> bool
         ensures { result ≡ is_live self.now.content }
     {
-        matches!(self.state, State::Live(_))
+        matches!(self.state, State::Live)
     }
 
     /// The entry of a hash and a key, if there is one. As many steps as a look-up in the bin.
@@ -185,8 +191,8 @@ impl<K: Ord + Drop, V: Drop, A: Allocator> Slot<K, V, A> {
             ≡ answer_with self.now.content (λ b. entry_of_live K.cmp b hash key.now) tt }
         ensures within { IsSlot K.cmp self.now }
     {
-        match &self.state {
-            State::Live(live) => Answer::Here(live.find(hash, key)),
+        match self.state {
+            State::Live => Answer::Here(self.live.find(hash, key)),
             State::Moved => Answer::Moved(()),
             State::Unborn => Answer::Unborn(()),
         }
@@ -198,8 +204,8 @@ impl<K: Ord + Drop, V: Drop, A: Allocator> Slot<K, V, A> {
             ≡ answer_with self.now.content (λ b. next_of_live K.cmp (lent_bound bound.entry) b) tt }
         ensures within { IsSlot K.cmp self.now }
     {
-        match &self.state {
-            State::Live(live) => Answer::Here(live.next_after(bound)),
+        match self.state {
+            State::Live => Answer::Here(self.live.next_after(bound)),
             State::Moved => Answer::Moved(()),
             State::Unborn => Answer::Unborn(()),
         }
@@ -214,8 +220,8 @@ impl<K: Ord + Drop, V: Drop, A: Allocator> Slot<K, V, A> {
         ensures after { self.new ≡ slot_with (λ b. after_take K.cmp b hash key.now) self.old }
         ensures within { IsSlot K.cmp self.old }
     {
-        match &mut self.state {
-            State::Live(live) => Answer::Here(live.take(hash, key)),
+        match self.state {
+            State::Live => Answer::Here(self.live.take(hash, key)),
             State::Moved => Answer::Moved(()),
             State::Unborn => Answer::Unborn(()),
         }
@@ -231,8 +237,8 @@ impl<K: Ord + Drop, V: Drop, A: Allocator> Slot<K, V, A> {
         ensures after { self.new ≡ slot_with (λ b. after_take_if K.cmp number b hash key.now) self.old }
         ensures within { IsSlot K.cmp self.old }
     {
-        match &mut self.state {
-            State::Live(live) => Answer::Here(live.take_if(hash, key, number)),
+        match self.state {
+            State::Live => Answer::Here(self.live.take_if(hash, key, number)),
             State::Moved => Answer::Moved(()),
             State::Unborn => Answer::Unborn(()),
         }
@@ -245,8 +251,8 @@ impl<K: Ord + Drop, V: Drop, A: Allocator> Slot<K, V, A> {
         ensures after { self.new ≡ slot_with after_wipe self.old }
         ensures within { IsSlot K.cmp self.old }
     {
-        match &mut self.state {
-            State::Live(live) => Answer::Here(live.wipe()),
+        match self.state {
+            State::Live => Answer::Here(self.live.wipe()),
             State::Moved => Answer::Moved(()),
             State::Unborn => Answer::Unborn(()),
         }
@@ -266,24 +272,22 @@ impl<K: Ord + Drop, V: Drop, A: Allocator> Slot<K, V, A> {
         ensures same { IfNotDone result ((self.new ≡ self.old) × ((low.new ≡ low.old) × (high.new ≡ high.old))) }
         ensures within { IsSlot K.cmp self.old }
     {
-        if let State::Moved = &self.state {
-            return MoveAnswer::Already(self.receipt());
+        match self.state {
+            State::Moved => return MoveAnswer::Already(self.receipt()),
+            State::Unborn => return MoveAnswer::Clash,
+            State::Live => {}
         }
         if !self.has_halves(low, high) {
             return MoveAnswer::Clash;
         }
-        match mem::replace(&mut self.state, State::Moved) {
-            State::Live(live) => {
-                let (lows, highs) = live.split(self.table);
-                low.state = State::Live(lows);
-                high.state = State::Live(highs);
-                MoveAnswer::Done(self.receipt())
-            }
-            other => {
-                self.state = other;
-                MoveAnswer::Clash
-            }
-        }
+        let live = mem::replace(&mut self.live, LiveBin::new(Bin::new(), 0));
+        let (lows, highs) = live.split(self.table);
+        self.state = State::Moved;
+        low.state = State::Live;
+        low.live = lows;
+        high.state = State::Live;
+        high.live = highs;
+        MoveAnswer::Done(self.receipt())
     }
 }
 
@@ -301,7 +305,7 @@ impl<K: Ord + Drop, V: Drop, A: Allocator> Slot<K, V, A> {
     fn has_halves(&self, low: &Self, high: &Self) -> bool
         ensures { IsTrue result ↔ AreHalves self.now low.now high.now }
     {
-        let unborn = match (&low.state, &high.state) {
+        let unborn = match (low.state, high.state) {
             (State::Unborn, State::Unborn) => true,
             _ => false,
         };
@@ -309,7 +313,7 @@ impl<K: Ord + Drop, V: Drop, A: Allocator> Slot<K, V, A> {
             && low.table == self.table + 1
             && high.table == self.table + 1
             && low.index == self.index
-            && high.index == self.index + (1usize << self.table)
+            && high.index == self.index + (1u32 << self.table)
     }
 }
 
@@ -340,8 +344,8 @@ impl<K: Ord + Drop, V: Drop, A: Allocator + Copy> Slot<K, V, A> {
         ensures within { IsSlot K.cmp self.old }
     {
         let bins = 1usize << self.table;
-        match &mut self.state {
-            State::Live(live) => Ok(Answer::Here(live.put(alloc, bins, hash, key, value)?)),
+        match self.state {
+            State::Live => Ok(Answer::Here(self.live.put(alloc, bins, hash, key, value)?)),
             State::Moved => Ok(Answer::Moved((key, value))),
             State::Unborn => Ok(Answer::Unborn((key, value))),
         }
@@ -373,8 +377,8 @@ impl<K: Ord + Drop, V: Drop, A: Allocator + Copy> Slot<K, V, A> {
         ensures within { IsSlot K.cmp self.old }
     {
         let bins = 1usize << self.table;
-        match &mut self.state {
-            State::Live(live) => Ok(Answer::Here(live.put_absent(alloc, bins, hash, key, value)?)),
+        match self.state {
+            State::Live => Ok(Answer::Here(self.live.put_absent(alloc, bins, hash, key, value)?)),
             State::Moved => Ok(Answer::Moved((key, value))),
             State::Unborn => Ok(Answer::Unborn((key, value))),
         }
@@ -410,8 +414,8 @@ impl<K: Ord + Drop, V: Drop, A: Allocator + Copy> Slot<K, V, A> {
         ensures within { IsSlot K.cmp self.old }
     {
         let bins = 1usize << self.table;
-        match &mut self.state {
-            State::Live(live) => Ok(Answer::Here(live.compute(alloc, bins, hash, key, f)?)),
+        match self.state {
+            State::Live => Ok(Answer::Here(self.live.compute(alloc, bins, hash, key, f)?)),
             State::Moved => Ok(Answer::Moved(f)),
             State::Unborn => Ok(Answer::Unborn(f)),
         }

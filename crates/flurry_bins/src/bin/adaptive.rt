@@ -1,23 +1,26 @@
 //! A bin that is a list while it is small, and a tree else.
-ghost use Rattle.std.specs.Prelude.{◌≡◌, ◌<◌, ◌^◌, ◌||◌, ◌&&◌, ◌+◌, nat_le, [], length, map, false, Some, IsSome, IsNone};
+ghost use Rattle.std.specs.Prelude.{◌≡◌, ◌<◌, ◌≤◌, ◌^◌, ◌||◌, ◌&&◌, ◌+◌, nat_le, [], length, map, true, false, Some, IsSome, IsNone};
 ghost use Rattle.std.specs.Option.{option_map};
 ghost use Rattle.std.specs.Arc.{arc_value};
 ghost use Rattle.flurry_bins.specs.Chain.{chain, entry_of};
 ghost use Rattle.flurry_bins.specs.Entries.{entry_at, with_entry, with_value_at, without, with_bit};
 ghost use Rattle.flurry_model.specs.Greatest.{greatest};
+ghost use Rattle.flurry_bins.specs.Tree.{shape, node_shape, inorder};
 ghost use Rattle.flurry_bins.specs.WayBound.{way_bound};
 ghost use Rattle.flurry_bins.specs.Kind.{kind_entries, kind_is_tree};
 ghost use Rattle.flurry_model.specs.BinSizes.{IsSized, IsSized-prop};
 ghost use Rattle.flurry_model.specs.declared.sizes.TheConstants.{LEAST_IN_TREE, MOST_IN_LIST, MOST_PAIRS};
 
+mod nodes;
 mod retain;
 
 use super::entry::Entry;
-use super::list::ListBin;
+use super::list::{self, ListBin};
 use super::node::{BoxedNode, Link, Node};
 use super::ordered::Ordered;
-use super::tree::TreeBin;
+use super::tree::{self, TreeBin};
 use flurry_model::sizes::{LEAST_IN_TREE, MOST_IN_LIST};
+use nodes::{LoneNode, NodeList, NodeTree};
 use std::alloc::{Allocator, Global};
 use std::mem;
 use std::sync::Arc;
@@ -35,8 +38,10 @@ pub enum Shape {
 
 #[derive(Drop)]
 enum Kind<K: Ord, V, A: Allocator = Global> {
-    AsList(ListBin<K, V, A>),
-    AsTree(TreeBin<K, V, A>),
+    Empty,
+    One(LoneNode<K, V, A>),
+    AsList(NodeList<K, V, A>),
+    AsTree(NodeTree<K, V, A>),
 }
 
 /// A list of at most nine nodes, or a tree of at least seven. A look-up among `n` entries visits at most nine nodes, or twice
@@ -54,18 +59,63 @@ pub struct Bin<K: Ord, V, A: Allocator = Global> {
     ghost sized: { IsSized (kind_is_tree kind) (length (kind_entries kind)) } by { IsSized-prop (kind_is_tree kind) (length (kind_entries kind)) },
 }
 
+// A list, however long.
+fn list_kind<K: Ord + Drop, V: Drop, A: Allocator>(list: ListBin<K, V, A>) -> Kind<K, V, A>
+    ensures entries { kind_entries result ≡ chain list.head }
+    ensures kind { kind_is_tree result ≡ false }
+{
+    let (head, len) = list.into_chain();
+    let Some(head) = head else {
+        return Kind::Empty;
+    };
+    if len == 1 {
+        let hash = head.entry().hash;
+        Kind::One(LoneNode { hash, node: head })
+    } else {
+        Kind::AsList(NodeList { len, head })
+    }
+}
+
+// A tree that has a node.
+fn tree_kind<K: Ord + Drop, V: Drop, A: Allocator>(tree: TreeBin<K, V, A>) -> Kind<K, V, A>
+    requires { 0 < length (inorder (shape tree.root)) }
+    ensures entries { kind_entries result ≡ inorder (shape tree.root) }
+    ensures kind { kind_is_tree result ≡ true }
+{
+    let TreeBin { root, len } = tree;
+    let Some(root) = root else { unreachable!() };
+    Kind::AsTree(NodeTree { len, root })
+}
+
 // A tree from so many entries on, and a list below.
 fn kind_from<K: Ord + Drop, V: Drop, A: Allocator>(
     list: ListBin<K, V, A>,
     least_tree: usize,
 ) -> Kind<K, V, A>
+    requires { 0 < least_tree }
     ensures entries { kind_entries result ≡ chain list.head }
     ensures kind { kind_is_tree result ≡ nat_le least_tree (length (chain list.head)) }
 {
     if list.len() >= least_tree {
-        Kind::AsTree(TreeBin::from_list(list))
+        tree_kind(TreeBin::from_list(list))
     } else {
-        Kind::AsList(list)
+        list_kind(list)
+    }
+}
+
+// The entries as a list.
+fn list_of<K: Ord + Drop, V: Drop, A: Allocator>(kind: Kind<K, V, A>) -> ListBin<K, V, A>
+    ensures { chain result.head ≡ kind_entries kind }
+{
+    match kind {
+        Kind::Empty => ListBin::new(),
+        Kind::One(lone) => {
+            let mut list = ListBin::new();
+            list.put_node(lone.node);
+            list
+        }
+        Kind::AsList(list) => list.into_list(),
+        Kind::AsTree(tree) => tree.into_tree().into_list(),
     }
 }
 
@@ -75,12 +125,14 @@ fn plant_kind<K: Ord + Drop, V: Drop, A: Allocator>(kind: Kind<K, V, A>) -> Kind
     ensures kind { kind_is_tree result ≡ (kind_is_tree kind || nat_le MOST_IN_LIST (length (kind_entries kind))) }
 {
     match kind {
-        Kind::AsList(list) => kind_from(list, MOST_IN_LIST),
+        Kind::Empty => Kind::Empty,
+        Kind::One(lone) => Kind::One(lone),
+        Kind::AsList(list) => kind_from(list.into_list(), MOST_IN_LIST),
         Kind::AsTree(tree) => Kind::AsTree(tree),
     }
 }
 
-// Puts in a node whose place is free.
+// Puts in a node whose place is free; a list of nine is a tree then.
 fn put_into<K: Ord + Drop, V: Drop, A: Allocator>(
     kind: Kind<K, V, A>,
     node: BoxedNode<K, V, A>,
@@ -89,16 +141,27 @@ fn put_into<K: Ord + Drop, V: Drop, A: Allocator>(
         IsNone (entry_at K.cmp e.hash (arc_value e.key) (kind_entries kind)) }
     requires room { length (kind_entries kind) < MOST_PAIRS }
     ensures entries { kind_entries result ≡ with_entry K.cmp (entry_of node.value) (kind_entries kind) }
-    ensures kind { kind_is_tree result ≡ kind_is_tree kind }
+    ensures kind { kind_is_tree result ≡ (kind_is_tree kind || nat_le MOST_IN_LIST (length (kind_entries kind))) }
 {
     match kind {
-        Kind::AsList(mut list) => {
-            list.put_node(node);
-            Kind::AsList(list)
+        Kind::Empty => {
+            let hash = node.entry().hash;
+            Kind::One(LoneNode { hash, node })
         }
-        Kind::AsTree(mut tree) => {
+        Kind::One(lone) => {
+            let mut list = list_of(Kind::One(lone));
+            list.put_node(node);
+            list_kind(list)
+        }
+        Kind::AsList(list) => {
+            let mut list = list.into_list();
+            list.put_node(node);
+            kind_from(list, MOST_IN_LIST + 1)
+        }
+        Kind::AsTree(tree) => {
+            let mut tree = tree.into_tree();
             tree.put_node(node);
-            Kind::AsTree(tree)
+            tree_kind(tree)
         }
     }
 }
@@ -115,16 +178,26 @@ fn take_from<K: Ord + Drop, V: Drop, A: Allocator>(
         ≡ (kind_is_tree kind && nat_le LEAST_IN_TREE (length (kind_entries result.0))) }
 {
     match kind {
-        Kind::AsList(mut list) => {
-            let node = list.remove(hash, key);
-            (Kind::AsList(list), node)
+        Kind::Empty => (Kind::Empty, None),
+        Kind::One(lone) => {
+            if lone.is_at(hash, key) {
+                (Kind::Empty, Some(lone.node))
+            } else {
+                (Kind::One(lone), None)
+            }
         }
-        Kind::AsTree(mut tree) => {
+        Kind::AsList(list) => {
+            let mut list = list.into_list();
+            let node = list.remove(hash, key);
+            (list_kind(list), node)
+        }
+        Kind::AsTree(tree) => {
+            let mut tree = tree.into_tree();
             let node = tree.remove(hash, key);
             if tree.len() < LEAST_IN_TREE {
-                (Kind::AsList(tree.into_list()), node)
+                (list_kind(tree.into_list()), node)
             } else {
-                (Kind::AsTree(tree), node)
+                (tree_kind(tree), node)
             }
         }
     }
@@ -144,14 +217,79 @@ fn write_into<K: Ord + Drop, V: Drop, A: Allocator>(
     ensures kind { kind_is_tree result.0 ≡ kind_is_tree kind }
 {
     match kind {
-        Kind::AsList(mut list) => {
+        Kind::Empty => unreachable!(),
+        Kind::One(lone) => {
+            let LoneNode { hash, mut node } = lone;
+            let old = node.write(value, number);
+            (Kind::One(LoneNode { hash, node }), old)
+        }
+        Kind::AsList(list) => {
+            let mut list = list.into_list();
             let old = list.replace(hash, key, value, number);
-            (Kind::AsList(list), old)
+            (list_kind(list), old)
         }
-        Kind::AsTree(mut tree) => {
+        Kind::AsTree(tree) => {
+            let mut tree = tree.into_tree();
             let old = tree.replace(hash, key, value, number);
-            (Kind::AsTree(tree), old)
+            (tree_kind(tree), old)
         }
+    }
+}
+
+// The same of a tree. One whose entries have one hash goes to one side as it stands.
+fn split_tree<K: Ord + Drop, V: Drop, A: Allocator>(
+    tree: NodeTree<K, V, A>,
+    bit: u8,
+) -> (Kind<K, V, A>, Kind<K, V, A>)
+    requires bit { bit < 64 }
+    requires sized { LEAST_IN_TREE ≤ length (inorder (node_shape tree.root.value)) }
+    ensures low { kind_entries result.0 ≡ with_bit bit 0 (inorder (node_shape tree.root.value)) }
+    ensures high { kind_entries result.1 ≡ with_bit bit 1 (inorder (node_shape tree.root.value)) }
+    ensures low_kind { kind_is_tree result.0 ≡ nat_le LEAST_IN_TREE (length (kind_entries result.0)) }
+    ensures high_kind { kind_is_tree result.1 ≡ nat_le LEAST_IN_TREE (length (kind_entries result.1)) }
+{
+    let Some(hash) = tree::only_hash(Some(tree.root.as_ref())) else {
+        let (low, high) = tree.into_tree().into_list().split(bit);
+        return (
+            kind_from(low, LEAST_IN_TREE),
+            kind_from(high, LEAST_IN_TREE),
+        );
+    };
+    if (hash >> bit) & 1 == 0 {
+        (Kind::AsTree(tree), Kind::Empty)
+    } else {
+        (Kind::Empty, Kind::AsTree(tree))
+    }
+}
+
+// The entries whose hash has this bit 0, and those that have it 1. A half of a tree is a tree from seven nodes on.
+fn split_kind<K: Ord + Drop, V: Drop, A: Allocator>(
+    kind: Kind<K, V, A>,
+    bit: u8,
+) -> (Kind<K, V, A>, Kind<K, V, A>)
+    requires bit { bit < 64 }
+    requires sized { IsSized (kind_is_tree kind) (length (kind_entries kind)) }
+    ensures low { kind_entries result.0 ≡ with_bit bit 0 (kind_entries kind) }
+    ensures high { kind_entries result.1 ≡ with_bit bit 1 (kind_entries kind) }
+    ensures low_kind { kind_is_tree result.0
+        ≡ (kind_is_tree kind && nat_le LEAST_IN_TREE (length (kind_entries result.0))) }
+    ensures high_kind { kind_is_tree result.1
+        ≡ (kind_is_tree kind && nat_le LEAST_IN_TREE (length (kind_entries result.1))) }
+{
+    match kind {
+        Kind::Empty => (Kind::Empty, Kind::Empty),
+        Kind::One(lone) => {
+            if (lone.hash >> bit) & 1 == 0 {
+                (Kind::One(lone), Kind::Empty)
+            } else {
+                (Kind::Empty, Kind::One(lone))
+            }
+        }
+        Kind::AsList(list) => {
+            let (low, high) = list.into_list().split(bit);
+            (list_kind(low), list_kind(high))
+        }
+        Kind::AsTree(tree) => split_tree(tree, bit),
     }
 }
 
@@ -164,9 +302,7 @@ impl<K: Ord, V, A: Allocator> Bin<K, V, A> {
         ensures entries { entries_of_bin result ≡ [] }
         ensures kind { is_tree result ≡ false }
     {
-        Bin {
-            kind: Kind::AsList(ListBin::new()),
-        }
+        Bin { kind: Kind::Empty }
     }
 }
 
@@ -179,15 +315,10 @@ impl<K: Ord + Drop, V: Drop, A: Allocator> Bin<K, V, A> {
         ensures { result ≡ shape_of_bin self.now }
     {
         match &self.kind {
-            Kind::AsList(list) => {
-                let count = list.len();
-                if count == 0 {
-                    Shape::Empty
-                } else {
-                    Shape::List(count)
-                }
-            }
-            Kind::AsTree(tree) => Shape::Tree(tree.len()),
+            Kind::Empty => Shape::Empty,
+            Kind::One(_lone) => Shape::List(1),
+            Kind::AsList(list) => Shape::List(list.len),
+            Kind::AsTree(tree) => Shape::Tree(tree.len),
         }
     }
 
@@ -196,8 +327,10 @@ impl<K: Ord + Drop, V: Drop, A: Allocator> Bin<K, V, A> {
         ensures { result ≡ greatest (map (λ e. e.number) (entries_of_bin self.now)) }
     {
         match &self.kind {
-            Kind::AsList(list) => list.greatest_number(),
-            Kind::AsTree(tree) => tree.greatest_number(),
+            Kind::Empty => 0,
+            Kind::One(lone) => lone.node.entry().number,
+            Kind::AsList(list) => list::greatest_in(Some(list.head.as_ref())),
+            Kind::AsTree(tree) => tree::greatest_in(Some(tree.root.as_ref())),
         }
     }
 
@@ -206,7 +339,7 @@ impl<K: Ord + Drop, V: Drop, A: Allocator> Bin<K, V, A> {
         ensures entries { entries_of_bin self.new ≡ entries_of_bin self.old }
         ensures kind { is_tree self.new ≡ (is_tree self.old || nat_le MOST_IN_LIST (length (entries_of_bin self.old))) }
     {
-        let kind = mem::replace(&mut self.kind, Kind::AsList(ListBin::new()));
+        let kind = mem::replace(&mut self.kind, Kind::Empty);
         self.kind = plant_kind(kind);
     }
 }
@@ -241,22 +374,41 @@ impl<K: Ord + Drop, V: Drop, A: Allocator> Ordered<K, V, A> for Bin<K, V, A> {
 
     fn len(&self) -> usize {
         match &self.kind {
-            Kind::AsList(list) => list.len(),
-            Kind::AsTree(tree) => tree.len(),
+            Kind::Empty => 0,
+            Kind::One(_lone) => 1,
+            Kind::AsList(list) => list.len,
+            Kind::AsTree(tree) => tree.len,
         }
     }
 
     fn find(&self, hash: u64, key: &K) -> (Option<&Entry<K, V, A>>, u64) {
         match &self.kind {
-            Kind::AsList(list) => list.find(hash, key),
-            Kind::AsTree(tree) => tree.find(hash, key),
+            Kind::Empty => (None, 0),
+            Kind::One(lone) => {
+                if lone.is_at(hash, key) {
+                    (Some(lone.node.entry()), 1)
+                } else {
+                    (None, 1)
+                }
+            }
+            Kind::AsList(list) => list::find_in(Some(list.head.as_ref()), hash, key),
+            Kind::AsTree(tree) => tree::find_in(Some(tree.root.as_ref()), hash, key),
         }
     }
 
     fn next_after(&self, bound: Option<(u64, &K)>) -> Option<&Entry<K, V, A>> {
         match &self.kind {
-            Kind::AsList(list) => list.next_after(bound),
-            Kind::AsTree(tree) => tree.next_after(bound),
+            Kind::Empty => None,
+            Kind::One(lone) => {
+                let entry = lone.node.entry();
+                if entry.is_past(bound) {
+                    Some(entry)
+                } else {
+                    None
+                }
+            }
+            Kind::AsList(list) => list::next_in(Some(list.head.as_ref()), bound),
+            Kind::AsTree(tree) => tree::next_in(Some(tree.root.as_ref()), bound),
         }
     }
 
@@ -267,7 +419,7 @@ impl<K: Ord + Drop, V: Drop, A: Allocator> Ordered<K, V, A> for Bin<K, V, A> {
             ≡ with_value_at K.cmp hash key.now value number (entries_of_bin self.old) }
         ensures kind { is_tree self.new ≡ is_tree self.old }
     {
-        let kind = mem::replace(&mut self.kind, Kind::AsList(ListBin::new()));
+        let kind = mem::replace(&mut self.kind, Kind::Empty);
         let (kind, old) = write_into(kind, hash, key, value, number);
         self.kind = kind;
         old
@@ -281,8 +433,8 @@ impl<K: Ord + Drop, V: Drop, A: Allocator> Ordered<K, V, A> for Bin<K, V, A> {
         ensures after { entries_of_bin self.new ≡ with_entry K.cmp (entry_of node.value) (entries_of_bin self.old) }
         ensures kind { is_tree self.new ≡ (is_tree self.old || nat_le MOST_IN_LIST (length (entries_of_bin self.old))) }
     {
-        let kind = mem::replace(&mut self.kind, Kind::AsList(ListBin::new()));
-        self.kind = put_into(plant_kind(kind), node);
+        let kind = mem::replace(&mut self.kind, Kind::Empty);
+        self.kind = put_into(kind, node);
     }
 
     // A tree that is left with six nodes is made a list.
@@ -293,7 +445,7 @@ impl<K: Ord + Drop, V: Drop, A: Allocator> Ordered<K, V, A> for Bin<K, V, A> {
         ensures kind { is_tree self.new
             ≡ (is_tree self.old && nat_le LEAST_IN_TREE (length (entries_of_bin self.new))) }
     {
-        let kind = mem::replace(&mut self.kind, Kind::AsList(ListBin::new()));
+        let kind = mem::replace(&mut self.kind, Kind::Empty);
         let (kind, node) = take_from(kind, hash, key);
         self.kind = kind;
         node
@@ -310,36 +462,13 @@ impl<K: Ord + Drop, V: Drop, A: Allocator> Ordered<K, V, A> for Bin<K, V, A> {
             ≡ (is_tree self && nat_le LEAST_IN_TREE (length (entries_of_bin result.1))) }
     {
         let Bin { kind } = self;
-        match kind {
-            Kind::AsList(list) => {
-                let (low, high) = list.split(bit);
-                let low = Bin {
-                    kind: Kind::AsList(low),
-                };
-                let high = Bin {
-                    kind: Kind::AsList(high),
-                };
-                (low, high)
-            }
-            Kind::AsTree(tree) => {
-                let (low, high) = tree.into_list().split(bit);
-                let low = Bin {
-                    kind: kind_from(low, LEAST_IN_TREE),
-                };
-                let high = Bin {
-                    kind: kind_from(high, LEAST_IN_TREE),
-                };
-                (low, high)
-            }
-        }
+        let (low, high) = split_kind(kind, bit);
+        (Bin { kind: low }, Bin { kind: high })
     }
 
     fn into_list(self) -> ListBin<K, V, A> {
         let Bin { kind } = self;
-        match kind {
-            Kind::AsList(list) => list,
-            Kind::AsTree(tree) => tree.into_list(),
-        }
+        list_of(kind)
     }
 
     // More than nine nodes are made a tree.

@@ -5,13 +5,13 @@ ghost use Rattle.std.specs.Arc.{arc_value};
 ghost use Rattle.flurry_bins.specs.Entries.{IsAscending, IsAscending-prop, AllBefore, NotBefore, list_way, entry_at, first_past, lent_bound, with_entry, with_value_at};
 ghost use Rattle.flurry_model.specs.Greatest.{greatest};
 ghost use Rattle.flurry_bins.specs.Short.{list_way-short};
-ghost use Rattle.flurry_bins.specs.Chain.{chain, node_chain, entry_of};
+ghost use Rattle.flurry_bins.specs.Chain.{chain, chain_from, node_chain, entry_of};
 ghost use Rattle.flurry_model.specs.declared.sizes.TheConstants.{MOST_PAIRS};
 
 mod retain;
 
 use super::entry::Entry;
-use super::node::{BoxedNode, Link, Node};
+use super::node::{BoxedNode, Link, Node, follow};
 use super::ordered::Ordered;
 use std::alloc::{Allocator, Global};
 use std::cmp::Ordering;
@@ -43,14 +43,7 @@ impl<K: Ord, V, A: Allocator> ListBin<K, V, A> {
     pub fn greatest_number(&self) -> u64
         ensures { result ≡ greatest (map (λ e. e.number) (entries_of_list self.now)) }
     {
-        let mut greatest = 0;
-        let mut link = &self.head;
-        while let Some(node) = link {
-            let node = node.as_ref();
-            greatest = node.entry.number.max(greatest);
-            link = &node.right;
-        }
-        greatest
+        greatest_in(follow(&self.head))
     }
 
     pub(crate) fn from_chain(head: Link<K, V, A>, len: usize) -> Self
@@ -147,47 +140,58 @@ fn prepend_reversed<K, V, A: Allocator>(front: Link<K, V, A>, back: Link<K, V, A
     to
 }
 
-// The entry of a place in a chain, and how many nodes were visited.
-fn find_in<'a, K: Ord, V, A: Allocator>(
-    head: &'a Link<K, V, A>,
+// The entry of a place in the chain from a node on, and how many nodes were visited.
+pub(crate) fn find_in<'a, K: Ord, V, A: Allocator>(
+    first: Option<&'a Node<K, V, A>>,
     hash: u64,
     key: &K,
 ) -> (Option<&'a Entry<K, V, A>>, u64)
-    requires ascending { IsAscending K.cmp (chain head.now) }
-    requires short { length (chain head.now) ≤ MOST_PAIRS }
-    ensures found { option_copied result.0 ≡ entry_at K.cmp hash key.now (chain head.now) }
-    ensures visits { result.1 ≡ length (list_way K.cmp hash key.now (chain head.now)) }
+    requires ascending { IsAscending K.cmp (chain_from first) }
+    requires short { length (chain_from first) ≤ MOST_PAIRS }
+    ensures found { option_copied result.0 ≡ entry_at K.cmp hash key.now (chain_from first.entry) }
+    ensures visits { result.1 ≡ length (list_way K.cmp hash key.now (chain_from first.entry)) }
 {
     let mut visits = 0;
-    let mut link = head;
+    let mut link = first;
     while let Some(node) = link {
-        let node = node.as_ref();
         visits += 1;
         match node.entry.compare_place(hash, key) {
             Ordering::Less => return (None, visits),
             Ordering::Equal => return (Some(&node.entry), visits),
-            Ordering::Greater => link = &node.right,
+            Ordering::Greater => link = follow(&node.right),
         }
     }
     (None, visits)
 }
 
-// The first entry of a chain that is past a bound.
-fn next_in<'a, K: Ord, V, A: Allocator>(
-    head: &'a Link<K, V, A>,
+// The first entry that is past a bound, in the chain from a node on.
+pub(crate) fn next_in<'a, K: Ord, V, A: Allocator>(
+    first: Option<&'a Node<K, V, A>>,
     bound: Option<(u64, &K)>,
 ) -> Option<&'a Entry<K, V, A>>
-    ensures { option_copied result ≡ first_past K.cmp (lent_bound bound.entry) (chain head.now) }
+    ensures { option_copied result ≡ first_past K.cmp (lent_bound bound.entry) (chain_from first.entry) }
 {
-    let mut link = head;
+    let mut link = first;
     while let Some(node) = link {
-        let node = node.as_ref();
         if node.entry.is_past(bound) {
             return Some(&node.entry);
         }
-        link = &node.right;
+        link = follow(&node.right);
     }
     None
+}
+
+// The greatest write number in the chain from a node on.
+pub(crate) fn greatest_in<K, V, A: Allocator>(first: Option<&Node<K, V, A>>) -> u64
+    ensures { result ≡ greatest (map (λ e. e.number) (chain_from first.entry)) }
+{
+    let mut greatest = 0;
+    let mut link = first;
+    while let Some(node) = link {
+        greatest = node.entry.number.max(greatest);
+        link = follow(&node.right);
+    }
+    greatest
 }
 
 impl<K: Ord + Drop, V: Drop, A: Allocator> Drop for ListBin<K, V, A> {
@@ -233,11 +237,11 @@ impl<K: Ord + Drop, V: Drop, A: Allocator> Ordered<K, V, A> for ListBin<K, V, A>
     }
 
     fn find(&self, hash: u64, key: &K) -> (Option<&Entry<K, V, A>>, u64) {
-        find_in(&self.head, hash, key)
+        find_in(follow(&self.head), hash, key)
     }
 
     fn next_after(&self, bound: Option<(u64, &K)>) -> Option<&Entry<K, V, A>> {
-        next_in(&self.head, bound)
+        next_in(follow(&self.head), bound)
     }
 
     fn replace(&mut self, hash: u64, key: &K, value: Arc<V, A>, number: u64) -> Arc<V, A>

@@ -1,8 +1,9 @@
 //! A boxed entry, with room for two links and a colour, so that the same node serves in a list and in a tree.
 ghost use Rattle.std.specs.Prelude.{◌≡◌, IfOk};
 ghost use Rattle.std.specs.Arc.{arc_value};
-ghost use Rattle.flurry_bins.specs.Chain.{entry_of, with_entry};
+ghost use Rattle.flurry_bins.specs.Chain.{chain, chain_from, entry_of, with_entry};
 ghost use Rattle.flurry_bins.specs.Entries.{with_hash, with_value};
+ghost use Rattle.flurry_bins.specs.Tree.{shape, shape_from};
 
 use super::entry::Entry;
 use std::alloc::{AllocError, Allocator, Global};
@@ -109,5 +110,16 @@ impl<K: Drop, V: Drop, A: Allocator> Node<K, V, A> {
         ensures { result ≡ entry_of self }
     {
         self.entry
+    }
+}
+
+// The node that a link leads to.
+pub(crate) fn follow<'a, K, V, A: Allocator>(link: &'a Link<K, V, A>) -> Option<&'a Node<K, V, A>>
+    ensures chain { chain_from result ≡ chain link.now }
+    ensures tree { shape_from result ≡ shape link.now }
+{
+    match link {
+        None => None,
+        Some(node) => Some(node.as_ref()),
     }
 }

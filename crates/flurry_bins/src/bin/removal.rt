@@ -3,7 +3,7 @@ ghost use Rattle.std.specs.Prelude.{◌≡◌, Option};
 ghost use Rattle.std.specs.Option.{option_map};
 ghost use Rattle.flurry_bins.specs.Chain.{entry_of};
 ghost use Rattle.flurry_bins.specs.Tree.{shape, node_shape};
-ghost use Rattle.flurry_bins.specs.Removal.{short_left, fix_left, short_right, fix_right, settled_left, settled_right, IsOutOf, join_of, tree_removal, tree_entry};
+ghost use Rattle.flurry_bins.specs.Removal.{short_left, short_right, settled_left, settled_right, IsOutOf, join_of, tree_removal, tree_entry};
 
 use super::node::{BoxedNode, Colour, Link, Node};
 use super::tree::{blacken, has_red_root, link_children, take_children};
@@ -43,15 +43,19 @@ fn with_deficit_left<K: Drop, V: Drop, A: Allocator>(
     )
 }
 
-// A node with a short left side, and whether it is short itself.
-fn fix_left<K: Drop, V: Drop, A: Allocator>(
+// A node with these sides, of which the left one may be short, and whether it is short itself.
+fn settle_left<K: Drop, V: Drop, A: Allocator>(
+    short: bool,
     colour: Colour,
     left: Link<K, V, A>,
     node: BoxedNode<K, V, A>,
     right: Link<K, V, A>,
 ) -> (BoxedNode<K, V, A>, bool)
-    ensures { (node_shape result.0.value, result.1) ≡ fix_left colour (shape left) (entry_of node.value) (shape right) }
+    ensures { (node_shape result.0.value, result.1) ≡ settled_left short colour (shape left) (entry_of node.value) (shape right) }
 {
+    if !short {
+        return (link_children(colour, left, node, right), false);
+    }
     let Some(right) = right else {
         return (link_children(colour, left, node, None), false);
     };
@@ -102,16 +106,20 @@ fn with_deficit_right<K: Drop, V: Drop, A: Allocator>(
     )
 }
 
-// A node with a short right side, and whether it is short itself.
-fn fix_right<K: Drop, V: Drop, A: Allocator>(
+// A node with these sides, of which the right one may be short, and whether it is short itself.
+fn settle_right<K: Drop, V: Drop, A: Allocator>(
+    short: bool,
     colour: Colour,
     left: Link<K, V, A>,
     node: BoxedNode<K, V, A>,
     right: Link<K, V, A>,
 ) -> (BoxedNode<K, V, A>, bool)
     ensures { (node_shape result.0.value, result.1)
-        ≡ fix_right colour (shape left) (entry_of node.value) (shape right) }
+        ≡ settled_right short colour (shape left) (entry_of node.value) (shape right) }
 {
+    if !short {
+        return (link_children(colour, left, node, right), false);
+    }
     let Some(left) = left else {
         return (link_children(colour, None, node, right), false);
     };
@@ -127,42 +135,6 @@ fn fix_right<K: Drop, V: Drop, A: Allocator>(
     let (a, near, b) = take_children(near);
     let (low, _) = with_deficit_right(Colour::Red, a, near, b, node, right);
     (link_children(Colour::Black, far, left, Some(low)), false)
-}
-
-// A node with these sides, of which the left one may be short, and whether it is short itself.
-fn settle_left<K: Drop, V: Drop, A: Allocator>(
-    short: bool,
-    colour: Colour,
-    left: Link<K, V, A>,
-    node: BoxedNode<K, V, A>,
-    right: Link<K, V, A>,
-) -> (BoxedNode<K, V, A>, bool)
-    ensures { (node_shape result.0.value, result.1)
-        ≡ settled_left short colour (shape left) (entry_of node.value) (shape right) }
-{
-    if short {
-        fix_left(colour, left, node, right)
-    } else {
-        (link_children(colour, left, node, right), false)
-    }
-}
-
-// The same, where the right one may be short.
-fn settle_right<K: Drop, V: Drop, A: Allocator>(
-    short: bool,
-    colour: Colour,
-    left: Link<K, V, A>,
-    node: BoxedNode<K, V, A>,
-    right: Link<K, V, A>,
-) -> (BoxedNode<K, V, A>, bool)
-    ensures { (node_shape result.0.value, result.1)
-        ≡ settled_right short colour (shape left) (entry_of node.value) (shape right) }
-{
-    if short {
-        fix_right(colour, left, node, right)
-    } else {
-        (link_children(colour, left, node, right), false)
-    }
 }
 
 // A tree without its first node, that node, and whether the tree is short.

@@ -1,20 +1,20 @@
 //! A bin that is a red-black tree.
-ghost use Rattle.std.specs.Prelude.{◌≡◌, ◌^◌, ◌*◌, ◌+◌, ◌<◌, ◌≤◌, ◌++◌, length, map, Option, Some, None, IsSome, IsNone};
+ghost use Rattle.std.specs.Prelude.{◌≡◌, ◌^◌, ◌*◌, ◌+◌, ◌<◌, ◌≤◌, ◌++◌, length, map, Option, Some, None, IfSome, IsSome, IsNone};
 ghost use Rattle.std.specs.Option.{option_map, option_copied};
 ghost use Rattle.std.specs.Arc.{arc_value};
-ghost use Rattle.flurry_bins.specs.Entries.{IsAscending, IsAscending-prop, entry_at, first_past, lent_bound, with_entry, with_value_at};
+ghost use Rattle.flurry_bins.specs.Entries.{IsAscending, IsAscending-prop, AllHashed, last_of, entry_at, first_past, lent_bound, with_entry, with_value_at};
 ghost use Rattle.flurry_bins.specs.Chain.{chain, entry_of, colour_of};
 ghost use Rattle.flurry_model.specs.Greatest.{greatest};
 ghost use Rattle.flurry_bins.specs.Balance.{red_root, with_black_root, balance_left, balance_right, put_tree};
 ghost use Rattle.flurry_bins.specs.Tree as tree;
-ghost use Rattle.flurry_bins.specs.Tree.{shape, node_shape, inorder, IsRedBlack, IsRedBlack-prop, black_height, tree_way};
+ghost use Rattle.flurry_bins.specs.Tree.{shape, shape_from, node_shape, inorder, IsRedBlack, IsRedBlack-prop, black_height, tree_way};
 ghost use Rattle.flurry_bins.specs.WayBound.{way_bound, way_within};
 ghost use Rattle.flurry_bins.specs.Rewrite.{tree_with_value, tree_value};
 ghost use Rattle.flurry_model.specs.declared.sizes.TheConstants.{MOST_PAIRS};
 
 use super::entry::Entry;
 use super::list::{ListBin, detach_tail, prepend};
-use super::node::{BoxedNode, Colour, Link, Node};
+use super::node::{BoxedNode, Colour, Link, Node, follow};
 use super::ordered::Ordered;
 use super::removal::remove_in;
 use std::alloc::{Allocator, Global};
@@ -27,34 +27,33 @@ use std::sync::Arc;
 /// Its calls recurse along the height alone.
 #[derive(Drop)]
 pub struct TreeBin<K: Ord, V, A: Allocator = Global> {
-    root: Link<K, V, A>,
-    len: usize,
+    pub(crate) root: Link<K, V, A>,
+    pub(crate) len: usize,
     ghost ascending: { IsAscending K.cmp (inorder (shape root)) } by { IsAscending-prop K.cmp (inorder (shape root)) },
     ghost balanced: { IsRedBlack (shape root) } by { IsRedBlack-prop (shape root) },
     ghost counted: { len ≡ length (inorder (shape root)) },
     ghost short: { len ≤ MOST_PAIRS },
 }
 
-// The entry of a place in a tree, and how many nodes were visited.
-fn find_in<'a, K: Ord, V, A: Allocator>(
-    root: &'a Link<K, V, A>,
+// The entry of a place in the tree below a node, and how many nodes were visited.
+pub(crate) fn find_in<'a, K: Ord, V, A: Allocator>(
+    root: Option<&'a Node<K, V, A>>,
     hash: u64,
     key: &K,
 ) -> (Option<&'a Entry<K, V, A>>, u64)
-    requires ascending { IsAscending K.cmp (inorder (shape root.now)) }
-    requires short { length (inorder (shape root.now)) ≤ MOST_PAIRS }
-    ensures found { option_copied result.0 ≡ entry_at K.cmp hash key.now (inorder (shape root.now)) }
-    ensures visits { result.1 ≡ length (tree_way K.cmp hash key.now (shape root.now)) }
+    requires ascending { IsAscending K.cmp (inorder (shape_from root)) }
+    requires short { length (inorder (shape_from root)) ≤ MOST_PAIRS }
+    ensures found { option_copied result.0 ≡ entry_at K.cmp hash key.now (inorder (shape_from root.entry)) }
+    ensures visits { result.1 ≡ length (tree_way K.cmp hash key.now (shape_from root.entry)) }
 {
     let mut visits = 0;
     let mut link = root;
     while let Some(node) = link {
-        let node = node.as_ref();
         visits += 1;
         match node.entry.compare_place(hash, key) {
-            Ordering::Less => link = &node.left,
+            Ordering::Less => link = follow(&node.left),
             Ordering::Equal => return (Some(&node.entry), visits),
-            Ordering::Greater => link = &node.right,
+            Ordering::Greater => link = follow(&node.right),
         }
     }
     (None, visits)
@@ -207,36 +206,62 @@ fn write_in<K: Ord + Drop, V: Drop, A: Allocator>(
     }
 }
 
-// The first entry of a tree that is past a bound.
-fn next_in<'a, K: Ord, V, A: Allocator>(
-    root: &'a Link<K, V, A>,
+// The first entry that is past a bound, in the tree below a node.
+pub(crate) fn next_in<'a, K: Ord, V, A: Allocator>(
+    root: Option<&'a Node<K, V, A>>,
     bound: Option<(u64, &K)>,
 ) -> Option<&'a Entry<K, V, A>>
-    requires { IsAscending K.cmp (inorder (shape root.now)) }
-    ensures { option_copied result ≡ first_past K.cmp (lent_bound bound.entry) (inorder (shape root.now)) }
+    requires { IsAscending K.cmp (inorder (shape_from root)) }
+    ensures { option_copied result ≡ first_past K.cmp (lent_bound bound.entry) (inorder (shape_from root.entry)) }
 {
     let mut link = root;
     let mut best = None;
     while let Some(node) = link {
-        let node = node.as_ref();
         if node.entry.is_past(bound) {
             best = Some(&node.entry);
-            link = &node.left;
+            link = follow(&node.left);
         } else {
-            link = &node.right;
+            link = follow(&node.right);
         }
     }
     best
 }
 
-// The greatest write number of a tree's entries.
-fn greatest_in<K: Ord, V, A: Allocator>(root: &Link<K, V, A>) -> u64
-    ensures { result ≡ greatest (map (λ e. e.number) (inorder (shape root.now))) }
+// The last entry in the tree below a node.
+fn last_in<'a, K, V, A: Allocator>(root: Option<&'a Node<K, V, A>>) -> Option<&'a Entry<K, V, A>>
+    ensures { option_copied result ≡ last_of (inorder (shape_from root.entry)) }
+{
+    let mut link = root;
+    let mut best = None;
+    while let Some(node) = link {
+        best = Some(&node.entry);
+        link = follow(&node.right);
+    }
+    best
+}
+
+// The hash of each entry in the tree below a node, where all have the same: where the first and the last have it.
+pub(crate) fn only_hash<'a, K: Ord, V, A: Allocator>(root: Option<&'a Node<K, V, A>>) -> Option<u64>
+    requires { IsAscending K.cmp (inorder (shape_from root)) }
+    ensures { IfSome result (λ h. AllHashed h (inorder (shape_from root.entry))) }
+{
+    let bound: Option<(u64, &'a K)> = None;
+    let first = next_in(root, bound)?;
+    let last = last_in(root)?;
+    if first.hash == last.hash {
+        Some(last.hash)
+    } else {
+        None
+    }
+}
+
+// The greatest write number in the tree below a node.
+pub(crate) fn greatest_in<K, V, A: Allocator>(root: Option<&Node<K, V, A>>) -> u64
+    ensures { result ≡ greatest (map (λ e. e.number) (inorder (shape_from root.entry))) }
 {
     let Some(node) = root else { return 0 };
-    let node = node.as_ref();
-    let left = greatest_in(&node.left);
-    let right = greatest_in(&node.right);
+    let left = greatest_in(follow(&node.left));
+    let right = greatest_in(follow(&node.right));
     left.max(node.entry.number.max(right))
 }
 
@@ -247,7 +272,7 @@ impl<K: Ord, V, A: Allocator> TreeBin<K, V, A> {
     pub fn greatest_number(&self) -> u64
         ensures { result ≡ greatest (map (λ e. e.number) (entries_of_tree self.now)) }
     {
-        greatest_in(&self.root)
+        greatest_in(follow(&self.root))
     }
 }
 
@@ -329,11 +354,11 @@ impl<K: Ord + Drop, V: Drop, A: Allocator> Ordered<K, V, A> for TreeBin<K, V, A>
     }
 
     fn find(&self, hash: u64, key: &K) -> (Option<&Entry<K, V, A>>, u64) {
-        find_in(&self.root, hash, key)
+        find_in(follow(&self.root), hash, key)
     }
 
     fn next_after(&self, bound: Option<(u64, &K)>) -> Option<&Entry<K, V, A>> {
-        next_in(&self.root, bound)
+        next_in(follow(&self.root), bound)
     }
 
     fn replace(&mut self, hash: u64, key: &K, value: Arc<V, A>, number: u64) -> Arc<V, A>

@@ -5,8 +5,7 @@ ghost use Rattle.flurry_bins.specs.EntryCall.{CalledAtEntry};
 ghost use Rattle.flurry_bins.specs.Kind.{kind_entries, kind_is_tree};
 ghost use Rattle.flurry_model.specs.declared.sizes.TheConstants.{LEAST_IN_TREE};
 
-use super::{Bin, Kind, kind_from};
-use crate::bin::list::ListBin;
+use super::{Bin, Kind, kind_from, list_kind, list_of};
 use crate::bin::ordered::Ordered;
 use flurry_model::sizes::LEAST_IN_TREE;
 use std::alloc::Allocator;
@@ -23,14 +22,15 @@ fn retained<K: Ord + Drop, V: Drop, A: Allocator, F: FnMut(&K, &V) -> bool>(
     ensures callable { F.IsAlwaysCallable keep.new }
 {
     match kind {
-        Kind::AsList(mut list) => {
-            list.retain(keep);
-            Kind::AsList(list)
-        }
         Kind::AsTree(tree) => {
-            let mut list = tree.into_list();
+            let mut list = tree.into_tree().into_list();
             list.retain(keep);
             kind_from(list, LEAST_IN_TREE)
+        }
+        few => {
+            let mut list = list_of(few);
+            list.retain(keep);
+            list_kind(list)
         }
     }
 }
@@ -52,7 +52,7 @@ impl<K: Ord + Drop, V: Drop, A: Allocator> Bin<K, V, A> {
             ≡ (is_tree self.old && nat_le LEAST_IN_TREE (length (entries_of_bin self.new))) }
         ensures callable { F.IsAlwaysCallable keep.new }
     {
-        let kind = mem::replace(&mut self.kind, Kind::AsList(ListBin::new()));
+        let kind = mem::replace(&mut self.kind, Kind::Empty);
         self.kind = retained(kind, keep);
     }
 }

@@ -1,16 +1,11 @@
-use Rattle.std.proofs.Common.{rules}
 use Rattle.flurry_slots.proofs.SlotLaws.{live_in_taken}
 use Rattle.flurry_slots.proofs.slot.Slot.take.Goals as goal
-use Rattle.flurry_slots.proofs.slot.Slot.take.Goals.{in-Live, in-Moved, in-Unborn}
 
 pub invariant_of-self : goal.invariant_of-self
-invariant_of-self g c = elim c.match-self.branch [
-  | in-Live w ↦
-      rw w.self-inside-is
-      (record { table = c.self.invariant.table; index = c.self.invariant.index; content = rw w.take.ensures.after (live_in_taken g.met.K.Ord.total _ _ _ c.args.hash c.args.key.now (rw w.in-Live.is at c.self.invariant.content)) })
-  | in-Moved w ↦ rw w.self-inside-is c.self.invariant
-  | in-Unborn w ↦ rw w.self-inside-is c.self.invariant
-]
-
-pub returns-clause-reply : goal.returns-clause-reply
-returns-clause-reply g c = search rules
+invariant_of-self g c =
+    rw c.in-Live.is
+    (record {
+      table = c.self.invariant.table;
+      index = c.self.invariant.index;
+      content = rw c.take.ensures.after (live_in_taken g.met.K.Ord.total _ _ _ c.args.hash c.args.key.now (rw c.in-Live.is at c.self.invariant.content));
+    })

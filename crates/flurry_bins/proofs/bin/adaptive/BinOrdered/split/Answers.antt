@@ -1,22 +1,19 @@
-use Rattle.std.proofs.Common.{◌==◌, ◌≤◌, ap, length, arith, rules}
+use Rattle.std.proofs.Common.{◌==◌, ap, length, ◌≤◌, arith}
 use Rattle.std.specs.Int.{bit_at}
-use Rattle.flurry_bins.specs.Chain.{chain}
-use Rattle.flurry_model.proofs.BinSizeLaws.{filter_no_longer}
-use Rattle.flurry_bins.specs.Bin.{entries_of_bin, is_tree, bin_way}
+use Rattle.flurry_bins.specs.Kind.{kind_entries, kind_is_tree}
+use Rattle.flurry_model.proofs.BinSizeLaws.{filter_no_longer, IsSized-kept}
 use Rattle.flurry_bins.proofs.bin.adaptive.BinOrdered.split.Goals as goal
 
-pub invariant_of-low : goal.invariant_of-low
-invariant_of-low g c =
-    let list = c.in-AsList.list in
-    let few : length (chain list.head) ≤ 9 = rw c.in-AsList.is at c.args.self.sized in
-    record { sized = omega (arith, few, ap length c.split-low.ensures.low, filter_no_longer (λ e. bit_at e.hash c.args.bit == 0) (chain list.head)) }
+pub invariant_of-result : goal.invariant_of-result
+invariant_of-result g c =
+    let old = c.args.self.kind in
+    let half = c.split_kind-low.result.0 in
+    let le : length (kind_entries half) ≤ length (kind_entries old) = omega (arith, ap length c.split_kind-low.ensures.low, filter_no_longer (λ e. bit_at e.hash c.args.bit == 0) (kind_entries old)) in
+    record { sized = rw c.split_kind-low.ensures.low_kind (IsSized-kept (kind_is_tree old) (length (kind_entries old)) (length (kind_entries half)) c.args.self.sized le) }
 
-pub invariant_of-high : goal.invariant_of-high
-invariant_of-high g c =
-    let list = c.in-AsList.list in
-    let few : length (chain list.head) ≤ 9 = rw c.in-AsList.is at c.args.self.sized in
-    record { sized = omega (arith, few, ap length c.split-low.ensures.high, filter_no_longer (λ e. bit_at e.hash c.args.bit == 1) (chain list.head)) }
-
-pub returns-in-AsTree-clause-high_kind : goal.returns-in-AsTree-clause-high_kind
-unfolding entries_of_bin is_tree bin_way
-returns-in-AsTree-clause-high_kind g c = search rules
+pub invariant_of-result-2 : goal.invariant_of-result-2
+invariant_of-result-2 g c =
+    let old = c.args.self.kind in
+    let half = c.split_kind-low.result.1 in
+    let le : length (kind_entries half) ≤ length (kind_entries old) = omega (arith, ap length c.split_kind-low.ensures.high, filter_no_longer (λ e. bit_at e.hash c.args.bit == 1) (kind_entries old)) in
+    record { sized = rw c.split_kind-low.ensures.high_kind (IsSized-kept (kind_is_tree old) (length (kind_entries old)) (length (kind_entries half)) c.args.self.sized le) }

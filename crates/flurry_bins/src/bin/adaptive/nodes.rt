@@ -1,0 +1,68 @@
+//! The nodes of a bin, by how many there are. Each of the three is one box and one number, so that a bin is small.
+ghost use Rattle.std.specs.Prelude.{◌≡◌, ◌^◌, ◌<◌, ◌≤◌, [], ◌∷◌, length};
+ghost use Rattle.flurry_bins.specs.Chain.{chain, node_chain, entry_of};
+ghost use Rattle.flurry_bins.specs.Entries.{IsAscending, IsAscending-prop, is_at};
+ghost use Rattle.flurry_bins.specs.Tree.{shape, node_shape, inorder, IsRedBlack, IsRedBlack-prop};
+ghost use Rattle.flurry_model.specs.declared.sizes.TheConstants.{MOST_PAIRS};
+
+use crate::bin::list::ListBin;
+use crate::bin::node::{BoxedNode, Node};
+use crate::bin::tree::TreeBin;
+use std::alloc::{Allocator, Global};
+
+// A node with its hash beside it, so that a look-up of another hash does not touch the node.
+#[derive(Drop)]
+pub(super) struct LoneNode<K: Ord, V, A: Allocator = Global> {
+    pub(super) hash: u64,
+    pub(super) node: BoxedNode<K, V, A>,
+    ghost hashed: { hash ≡ (entry_of node.value).hash },
+}
+
+impl<K: Ord + Drop, V: Drop, A: Allocator> LoneNode<K, V, A> {
+    // Whether the node is the one of a hash and a key.
+    pub(super) fn is_at(&self, hash: u64, key: &K) -> bool
+        ensures { result ≡ is_at K.cmp hash key.now (entry_of self.now.node.value) }
+    {
+        self.hash == hash && self.node.entry().is_at(hash, key)
+    }
+}
+
+// A list of at least one node.
+#[derive(Drop)]
+pub(super) struct NodeList<K: Ord, V, A: Allocator = Global> {
+    pub(super) len: usize,
+    pub(super) head: BoxedNode<K, V, A>,
+    ghost ascending: { IsAscending K.cmp (node_chain head.value) } by { IsAscending-prop K.cmp (node_chain head.value) },
+    ghost counted: { len ≡ length (node_chain head.value) },
+    ghost short: { len ≤ MOST_PAIRS },
+}
+
+impl<K: Ord, V, A: Allocator> NodeList<K, V, A> {
+    pub(super) fn into_list(self) -> ListBin<K, V, A>
+        ensures { chain result.head ≡ node_chain self.head.value }
+    {
+        ListBin::from_chain(Some(self.head), self.len)
+    }
+}
+
+// A tree of at least one node.
+#[derive(Drop)]
+pub(super) struct NodeTree<K: Ord, V, A: Allocator = Global> {
+    pub(super) len: usize,
+    pub(super) root: BoxedNode<K, V, A>,
+    ghost ascending: { IsAscending K.cmp (inorder (node_shape root.value)) } by { IsAscending-prop K.cmp (inorder (node_shape root.value)) },
+    ghost balanced: { IsRedBlack (node_shape root.value) } by { IsRedBlack-prop (node_shape root.value) },
+    ghost counted: { len ≡ length (inorder (node_shape root.value)) },
+    ghost short: { len ≤ MOST_PAIRS },
+}
+
+impl<K: Ord, V, A: Allocator> NodeTree<K, V, A> {
+    pub(super) fn into_tree(self) -> TreeBin<K, V, A>
+        ensures { shape result.root ≡ node_shape self.root.value }
+    {
+        TreeBin {
+            root: Some(self.root),
+            len: self.len,
+        }
+    }
+}
