@@ -1,5 +1,5 @@
 -- What a caller of a map or a set says of its pairs or elements after a call.
-use Rattle.std.proofs.Common.{◌≡◌, ◌≢◌, ◌⊎◌, not, inl, inr, ◌≤◌, ◌+◌, ◌-◌, ℕ, Bool, true, false, cond, List, [], ◌∷◌, length, Option, Some, None, is_some, ap, sym, ◌∙◌, refl, Ordering, String, string_bytes, Less, Equal, Greater, arith}
+use Rattle.std.proofs.Common.{◌≡◌, ◌≢◌, ◌⊎◌, not, inl, inr, ◌≤◌, ◌+◌, ◌-◌, ℕ, Bool, true, false, cond, List, [], ◌∷◌, length, Option, Some, None, IsSome, is_some, ap, sym, ◌∙◌, refl, Ordering, String, string_bytes, Less, Equal, Greater, arith}
 use Rattle.std.specs.String.{string_cmp, string_cmp_total}
 use Rattle.std.specs.Cmp.Lexicographic.{bytes_decides}
 use Rattle.std.proofs.lemmas.Map.Text.{is_eq-slice_cmp}
@@ -10,11 +10,11 @@ use Rattle.std.proofs.lemmas.Cmp.{nat_cmp_total}
 use Rattle.std.proofs.lemmas.Map.Lookups.{exact_unsigned}
 use Rattle.std.specs.BTreeMap.{is_at}
 use Rattle.std.specs.List.{filter, find}
-use Rattle.flurry_model.specs.FiniteMap.{IsFiniteMap, pair_at, value_at, with_pair, without}
+use Rattle.flurry_model.specs.FiniteMap.{IsFiniteMap, pair_at, value_at, with_pair, without, stored_key}
 use Rattle.flurry_model.specs.FiniteSet.{element_at, with_element, without_element}
 use Rattle.flurry_model.proofs.BinSizeLaws.{filter_no_longer}
 use Rattle.flurry_set.proofs.SetLemmas.{length-with_element}
-use Rattle.flurry_model.proofs.FiniteMapLaws.{alike_cond, both_alike, pair_at-without, length-without, length-with_pair}
+use Rattle.flurry_model.proofs.FiniteMapLaws.{alike_cond, both_alike, pair_at-without, length-without, length-with_pair, pair_at-with_pair}
 
 eq_of : (r : Ordering) → is_eq r ≡ true → r ≡ Equal
 eq_of Less e = cc
@@ -133,6 +133,60 @@ module _ {Y V : Type 0} where
 pub ruleset text_calls = (put_same_text, put_other_text)
 
 pub ruleset any_calls = (value_at-put, value_at-with_pair)
+
+module _ {K V : Type 0} {cmp : K → K → Ordering} (o : IsTotalOrder cmp) where
+  -- keys of one class find one pair
+  alike_find : (m : List (K × V)) (q k : K) → cmp q k ≡ Equal → pair_at cmp m q ≡ pair_at cmp m k
+  alike_find [] q k e = refl
+  alike_find (x ∷ m) q k e = rw (o.congr q k x.0 e, alike_find m q k e) refl
+
+  -- the stored key that is found is of the class that was looked for
+  found_tied : (m : List (K × V)) (k : K) (p : K × V) → pair_at cmp m k ≡ Some p → cmp k p.0 ≡ Equal
+  found_tied [] k p e = cc
+  found_tied (x ∷ m) k p e = by_test (is_eq (cmp k x.0)) refl e (found_tied m k p)
+    where
+      by_test : (b : Bool) → is_eq (cmp k x.0) ≡ b → cond b (Some x) (pair_at cmp m k) ≡ Some p → (pair_at cmp m k ≡ Some p → cmp k p.0 ≡ Equal) → cmp k p.0 ≡ Equal
+      by_test true t h rest = let same : x ≡ p = cc in ap (λ (y : K × V). cmp k y.0) (sym same) ∙ eq_of _ t
+      by_test false t h rest = rest h
+
+  -- a stored key finds its own pair
+  pub pair_at-stored : (m : List (K × V)) (k : K) (p : K × V) → pair_at cmp m k ≡ Some p → pair_at cmp m p.0 ≡ Some p
+  pair_at-stored m k p e = sym (alike_find m k p.0 (found_tied m k p e)) ∙ e
+
+  -- a new key is stored
+  pub pair_at-new : (m : List (K × V)) (k : K) (v : V) → IsFiniteMap cmp m → pair_at cmp m k ≡ None → pair_at cmp (with_pair cmp m k v) k ≡ Some (k, v)
+  pair_at-new m k v s e = rw (pair_at-with_pair o m k v k s, tied_itself o k, e) refl
+
+  -- beside a new key, what is stored stays
+  pub pair_at-beside : (m : List (K × V)) (k : K) (v : V) (q : K) → IsFiniteMap cmp m → pair_at cmp m k ≡ None → IsSome (pair_at cmp m q)
+      → pair_at cmp (with_pair cmp m k v) q ≡ pair_at cmp m q
+  pair_at-beside m k v q s absent there = pair_at-with_pair o m k v q s ∙ by_test (is_eq (cmp q k)) refl
+    where
+      clash : (x : Option (K × V)) → x ≡ None → IsSome x → ⊥
+      clash None e h = cc
+      clash (Some x) e h = cc
+
+      by_test : (b : Bool) → is_eq (cmp q k) ≡ b → cond b (Some (stored_key cmp m k, v)) (pair_at cmp m q) ≡ pair_at cmp m q
+      by_test true t = absurd (clash _ (alike_find m q k (eq_of _ t) ∙ absent) there)
+      by_test false t = refl
+
+-- of the pairs at keys that are texts
+module _ {Y V : Type 0} where
+  -- what is found has the text that was looked for
+  pub found_text : (m : List (String Y × V)) (k : String Y) (p : String Y × V) → pair_at string_cmp m k ≡ Some p → string_bytes p.0 ≡ string_bytes k
+  found_text m k p e = sym ((bytes_decides (string_bytes k) (string_bytes p.0)).0 (sym (is_eq-slice_cmp (string_bytes k) (string_bytes p.0)) ∙ ap is_eq (found_tied string_cmp_total m k p e)))
+
+  pub stored_text : (m : List (String Y × V)) (k : String Y) (p : String Y × V) → pair_at string_cmp m k ≡ Some p → pair_at string_cmp m p.0 ≡ Some p
+  stored_text m k p e = pair_at-stored string_cmp_total m k p e
+
+  pub new_text : (m : List (String Y × V)) (k : String Y) (v : V) → IsFiniteMap string_cmp m → pair_at string_cmp m k ≡ None → pair_at string_cmp (with_pair string_cmp m k v) k ≡ Some (k, v)
+  new_text m k v s e = pair_at-new string_cmp_total m k v s e
+
+  pub text_beside : (m : List (String Y × V)) (k : String Y) (v : V) (q : String Y) → IsFiniteMap string_cmp m → pair_at string_cmp m k ≡ None → IsSome (pair_at string_cmp m q)
+      → pair_at string_cmp (with_pair string_cmp m k v) q ≡ pair_at string_cmp m q
+  text_beside m k v q s absent there = pair_at-beside string_cmp_total m k v q s absent there
+
+pub ruleset text_pairs = (found_text, stored_text, new_text, text_beside)
 
 -- different numbers are of different classes
 differs : (q x : ℕ) → q ≢ x → is_eq (nat_cmp q x) ≡ false

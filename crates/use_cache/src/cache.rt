@@ -1,0 +1,123 @@
+//! A cache with a bound on its pairs. The key that was put first is forgotten first.
+
+ghost use Rattle.std.specs.Prelude.{◌≡◌, ◌≢◌, ◌≤◌, ◌<◌, ℕ, [], length, Some, None, IfOk, OnOk, OnErr};
+ghost use Rattle.std.specs.Ordering.{nat_cmp};
+ghost use Rattle.flurry.specs.FiniteMap.{IsFiniteMap, value_at};
+ghost use Rattle.use_cache.specs.Cache.{Keeps};
+ghost use Rattle.use_cache.specs.Calls.{AreLawful};
+
+use flurry::SeqMap;
+use std::alloc::{AllocError, Global};
+use std::collections::VecDeque;
+use std::marker::Model;
+
+/// A cache of numbers. It never has more pairs than its bound.
+#[derive(Drop)]
+pub struct Cache {
+    map: SeqMap<u64, u64>,
+    // The keys of the map, the oldest first.
+    order: VecDeque<u64>,
+    bound: usize,
+}
+
+impl Model for Cache {
+    ghost use Rattle.std.specs.Prelude.{◌≤◌, ◌<◌, length};
+    ghost use Rattle.use_cache.specs.Cache.{Cached, cached_code};
+
+    ghost Value = { Cached };
+
+    ghost coded = { cached_code };
+
+    ghost view = { λ c. record { pairs = c.map.pairs; bound = c.bound } };
+
+    ghost invariant = { λ c. (length c.map.pairs ≤ c.bound) × (0 < c.bound) };
+}
+
+impl Cache {
+    /// An empty cache for so many pairs.
+    pub fn new(alloc: Global, bound: usize) -> Self
+        requires { 0 < bound }
+        ensures { result ≡ record { pairs = []; bound = bound } }
+    {
+        Cache {
+            map: SeqMap::new(alloc),
+            order: VecDeque::new(alloc),
+            bound,
+        }
+    }
+
+    /// The number of pairs.
+    pub fn len(&self) -> usize
+        ensures pairs { result ≡ length self.now.pairs }
+        ensures bound { result ≤ self.now.bound }
+    {
+        self.map.len()
+    }
+
+    /// The value of a key.
+    pub fn get(&self, key: u64) -> Option<u64>
+        ensures { result ≡ value_at nat_cmp self.now.pairs key }
+    {
+        self.map.get(&key).map(|value| **value)
+    }
+
+    /// Puts a value. Where the cache is full, another key is forgotten.
+    #[tactic(auto, using(flurry::proofs::CallerLaws::map_calls))]
+    pub fn put(&mut self, key: u64, value: u64) -> Result<(), AllocError>
+        ensures put { OnOk result (value_at nat_cmp self.new.pairs key ≡ Some value) }
+        ensures others { (q : ℕ) → q ≢ key → Keeps (value_at nat_cmp self.old.pairs q) (value_at nat_cmp self.new.pairs q) }
+        ensures err { OnErr result (Keeps (value_at nat_cmp self.old.pairs key) (value_at nat_cmp self.new.pairs key)) }
+        ensures bound { self.new.bound ≡ self.old.bound }
+    {
+        if !self.map.contains_key(&key) {
+            make_room(&mut self.map, &mut self.order, self.bound);
+            self.order.push_back(key)?;
+        }
+        self.map.insert(key, value)?;
+        Ok(())
+    }
+}
+
+// Forgets keys, the oldest first, until there is room for one more.
+#[tactic(auto, using(flurry::proofs::CallerLaws::map_calls))]
+fn make_room(map: &mut SeqMap<u64, u64>, order: &mut VecDeque<u64>, bound: usize)
+    requires { 0 < bound }
+    ensures room { length map.new.pairs < bound }
+    ensures ascend { IsFiniteMap nat_cmp map.new.pairs }
+    ensures keeps { (q : ℕ) → Keeps (value_at nat_cmp map.old.pairs q) (value_at nat_cmp map.new.pairs q) }
+{
+    while map.len() >= bound {
+        match order.pop_front() {
+            Some(oldest) => {
+                map.remove(&oldest);
+            }
+            None => map.clear(),
+        }
+    }
+}
+
+/// A call of a cache.
+#[derive(Clone, Copy, Debug)]
+pub enum Call {
+    /// Puts a value under a key.
+    Put(u64, u64),
+    /// Looks a key up.
+    Get(u64),
+}
+
+/// Makes the calls in their order on a new cache, and answers what the look-ups gave. Each gave nothing, or the value that was put
+/// last under its key.
+pub fn run(alloc: Global, bound: usize, calls: &[Call]) -> Result<Vec<Option<u64>>, AllocError>
+    requires { 0 < bound }
+    ensures { IfOk result (λ replies. AreLawful (λ _. None) calls.now replies.items) }
+{
+    let mut cache = Cache::new(alloc, bound);
+    let mut replies = Vec::new(alloc);
+    for call in calls {
+        match *call {
+            Call::Put(key, value) => cache.put(key, value)?,
+            Call::Get(key) => replies.push(cache.get(key))?,
+        }
+    }
+    Ok(replies)
+}

@@ -1,0 +1,104 @@
+//! Threads that open, touch and expire sessions at the same time.
+#![tactic(auto)]
+
+mod sessions;
+
+use sessions::Sessions;
+use std::sync::Wait;
+use std::sync::atomic::{AtomicU64, Ordering};
+use std::thread::Threads;
+use std::{io, thread};
+
+// How many sessions a thread opens, or touches.
+const EACH: u64 = 250;
+
+// What one thread does.
+#[derive(Clone, Copy)]
+enum Work {
+    // Opens the sessions from this one on.
+    Open(u64),
+    // Touches them.
+    Touch(u64),
+    // Expires the sessions that were seen before this time.
+    Expire(u64),
+}
+
+// Does that, and counts the sessions that were new, or that were open when they were touched.
+fn do_work<R: Wait>(rt: &R, sessions: &Sessions, work: Work, count: &AtomicU64) {
+    let done = match work {
+        Work::Open(first) => open_all(rt, sessions, first),
+        Work::Touch(first) => touch_all(rt, sessions, first),
+        Work::Expire(time) => {
+            let _ = sessions.expire(rt, time);
+            0
+        }
+    };
+    count.fetch_add(done, Ordering::SeqCst);
+}
+
+// Opens sessions, and answers how many were new.
+fn open_all<R: Wait>(rt: &R, sessions: &Sessions, first: u64) -> u64 {
+    let mut opened = 0u64;
+    for id in first..first.saturating_add(EACH) {
+        if let Ok(true) = sessions.open(rt, id, 1) {
+            opened = opened.saturating_add(1);
+        }
+    }
+    opened
+}
+
+// Touches sessions, and answers how many were still open.
+fn touch_all<R: Wait>(rt: &R, sessions: &Sessions, first: u64) -> u64 {
+    let mut touched = 0u64;
+    for id in first..first.saturating_add(EACH) {
+        if let Ok(Some(_)) = sessions.touch(rt, id, 9) {
+            touched = touched.saturating_add(1);
+        }
+    }
+    touched
+}
+
+// Does each of these in a thread of its own, and answers what they have counted.
+fn in_threads<R: Threads + Wait + Sync>(rt: &R, sessions: &Sessions, works: &[Work]) -> u64 {
+    let counted = AtomicU64::new(0);
+    let count = &counted;
+    thread::scope(thread::scope_env(), rt, |scope| {
+        for work in works {
+            let work = *work;
+            let child = scope.spawn(move || do_work(rt, sessions, work, count));
+            if child.is_err() {
+                do_work(rt, sessions, work, count);
+            }
+        }
+    });
+    counted.load(Ordering::SeqCst)
+}
+
+fn main(rt: HostRuntime) -> io::Result<()> {
+    let sessions = Sessions::new(rt.alloc(), 4);
+    let opens = [
+        Work::Open(0),
+        Work::Open(250),
+        Work::Open(500),
+        Work::Open(750),
+    ];
+    let opened = in_threads(&rt, &sessions, &opens);
+    println!(rt; "opened: {opened}, open: {}", sessions.count(&rt))?;
+
+    // Which sessions are touched before they can expire, hangs on the threads. That none of them expires then does not.
+    let works = [
+        Work::Touch(0),
+        Work::Touch(250),
+        Work::Expire(5),
+        Work::Touch(500),
+        Work::Touch(750),
+    ];
+    let touched = in_threads(&rt, &sessions, &works);
+    let open = sessions.count(&rt) as u64;
+    println!(rt; "touched and not open: {}", touched.saturating_sub(open))?;
+    println!(rt; "open and not touched: {}", open.saturating_sub(touched))?;
+
+    sessions.expire(&rt, 10)?;
+    let left = sessions.list(&rt, rt.alloc())?;
+    println!(rt; "open at the end: {}", left.0.len())
+}
