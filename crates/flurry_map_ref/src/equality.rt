@@ -1,6 +1,7 @@
 //! Equality of shared maps.
 
 use crate::HashMapRef;
+use crate::iter::Iter;
 use flurry_model::hash::KeyHasher;
 use std::alloc::{AllocError, Allocator};
 use std::sync::Wait;
@@ -31,11 +32,22 @@ impl<'m, R: Wait, K: Ord + Drop, V: Drop, S: KeyHasher<K>, A: Allocator + Copy> 
             return Ok(false);
         }
         let mut pairs = self.iter();
+        let answer = other.has_rest(&mut pairs);
+        drop(pairs);
+        answer
+    }
+
+    // Whether each pair that is left has its value here. It borrows the iterator, since each way out of a body that owns it has a proof of
+    // its drop.
+    fn has_rest(&self, pairs: &mut Iter<'_, R, K, V, A>) -> Result<bool, AllocError>
+    where
+        V: PartialEq,
+    {
         for _ in self.runtime().forever() {
             let Some((key, value)) = pairs.next()? else {
                 return Ok(true);
             };
-            if !other.has(&key, &value)? {
+            if !self.has(&key, &value)? {
                 return Ok(false);
             }
         }

@@ -4,6 +4,7 @@ ghost use Rattle.flurry_model.specs.FiniteMap.{IsFiniteMap};
 
 use crate::ascending::ascending_pairs;
 use flurry_map_ref::HashMapRef;
+use flurry_map_ref::iter::Iter;
 use flurry_model::hash::KeyHasher;
 use flurry_pairs::SortedPairs;
 use std::alloc::{AllocError, Allocator};
@@ -29,10 +30,20 @@ pub fn to_sorted_pairs<
 >(alloc: B, map: &HashMapRef<'_, R, K, V, S, A>) -> Result<SortedPairs<K, V, B>, AllocError>
     ensures ascend { IfOk result (λ list. IsFiniteMap K.cmp list.0.items) }
 {
-    let mut list = Vec::new(alloc);
     let mut pairs = map.iter();
+    let list = clones_of_rest(alloc, &mut pairs);
+    drop(pairs);
+    Ok(SortedPairs(ascending_pairs(list?)))
+}
+
+// Clones of the pairs that are left. It borrows the iterator, since each way out of a body that owns it has a proof of its drop.
+fn clones_of_rest<R: Wait, K: Ord + Clone, V: Clone, A: Allocator + Copy, B: Allocator>(
+    alloc: B,
+    pairs: &mut Iter<'_, R, K, V, A>,
+) -> Result<Vec<(K, V), B>, AllocError> {
+    let mut list = Vec::new(alloc);
     while let Some((key, value)) = pairs.next()? {
         list.push((key.as_ref().clone()?, value.as_ref().clone()?))?;
     }
-    Ok(SortedPairs(ascending_pairs(list)))
+    Ok(list)
 }

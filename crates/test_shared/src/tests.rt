@@ -19,6 +19,9 @@ use std::test::Fail;
 // The most pairs that a walk of a test gives.
 const MOST_READ: u32 = 100_000;
 
+// A map of numbers that are their own hashes.
+type Numbers = HashMap<u64, u64, LowHashBuilder>;
+
 // Sees that a value is the one that is wanted. A test of many assertions calls this, since each `assert_eq!` that stands in it makes
 // its proof longer.
 fn same<T: PartialEq + Debug + Drop>(rt: &impl Abort, seen: T, wanted: T) {
@@ -62,6 +65,15 @@ fn read_all<A: Allocator + Copy, R: Wait>(
     pairs: Iter<'_, R, u64, u64, A>,
 ) -> Result<(u64, u64, u64), AllocError> {
     let mut pairs = pairs;
+    let sums = read_rest(&mut pairs);
+    drop(pairs);
+    sums
+}
+
+// The same of the pairs that are left. It borrows the iterator, since each way out of a body that owns it has a proof of its drop.
+fn read_rest<A: Allocator + Copy, R: Wait>(
+    pairs: &mut Iter<'_, R, u64, u64, A>,
+) -> Result<(u64, u64, u64), AllocError> {
     let mut count = 0u64;
     let mut keys = 0u64;
     let mut values = 0u64;

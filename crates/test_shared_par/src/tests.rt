@@ -62,6 +62,15 @@ fn read_all<A: Allocator + Copy, R: Wait>(
     pairs: Iter<'_, R, u64, u64, A>,
 ) -> Result<(u64, u64, u64), AllocError> {
     let mut pairs = pairs;
+    let sums = read_rest(&mut pairs);
+    drop(pairs);
+    sums
+}
+
+// The same of the pairs that are left. It borrows the iterator, since each way out of a body that owns it has a proof of its drop.
+fn read_rest<A: Allocator + Copy, R: Wait>(
+    pairs: &mut Iter<'_, R, u64, u64, A>,
+) -> Result<(u64, u64, u64), AllocError> {
     let mut count = 0u64;
     let mut keys = 0u64;
     let mut values = 0u64;

@@ -41,6 +41,15 @@ fn read_all<A: Allocator + Copy, R: Wait>(
     elements: Keys<'_, R, u64, (), A>,
 ) -> Result<(u64, u64), AllocError> {
     let mut elements = elements;
+    let sums = read_rest(&mut elements);
+    drop(elements);
+    sums
+}
+
+// The same of the elements that are left. It borrows the iterator, since each way out of a body that owns it has a proof of its drop.
+fn read_rest<A: Allocator + Copy, R: Wait>(
+    elements: &mut Keys<'_, R, u64, (), A>,
+) -> Result<(u64, u64), AllocError> {
     let mut count = 0u64;
     let mut sum = 0u64;
     for _ in 0..MOST_READ {

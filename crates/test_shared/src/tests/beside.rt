@@ -2,6 +2,7 @@
 
 use super::{insert_all, numbers, read_all, same};
 use flurry_map::HashMap;
+use flurry_map::iter::Keys;
 use flurry_model::hash::{KeyHasher, ZeroHashBuilder};
 use std::alloc::Allocator;
 use std::sync::Wait;
@@ -99,6 +100,16 @@ fn walk_once<S: KeyHasher<u64>, A: Allocator + Copy, R: Wait>(
 ) -> u64 {
     let mut given = [0u8; STANDING];
     let mut keys = map.keys(rt);
+    count_given(&mut keys, &mut given);
+    drop(keys);
+    given.iter().filter(|times| **times != 1).count() as u64
+}
+
+// Counts how often a walk gives each standing key.
+fn count_given<A: Allocator + Copy, R: Wait>(
+    keys: &mut Keys<'_, R, u64, u64, A>,
+    given: &mut [u8; STANDING],
+) {
     for _ in 0..super::MOST_READ {
         let Ok(Some(key)) = keys.next() else {
             break;
@@ -107,7 +118,6 @@ fn walk_once<S: KeyHasher<u64>, A: Allocator + Copy, R: Wait>(
             *times = times.saturating_add(1);
         }
     }
-    given.iter().filter(|times| **times != 1).count() as u64
 }
 
 // Does each of these in a thread of its own, and answers how much failed.

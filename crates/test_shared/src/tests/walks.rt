@@ -1,8 +1,8 @@
 //! Iterators in one thread.
 
-use super::{has_sums, insert_all, numbers, read_all, same, taken};
+use super::{Numbers, has_sums, insert_all, numbers, read_all, same, taken};
 use flurry_map::HashMap;
-use flurry_map::iter::{Keys, Values};
+use flurry_map::iter::{Iter, Keys, Values};
 use flurry_model::hash::{DefaultHashBuilder, KeyHasher, LowHashBuilder, ZeroHashBuilder};
 use std::alloc::{AllocError, Allocator};
 use std::process::Abort;
@@ -10,8 +10,7 @@ use std::sync::Wait;
 use std::test::Fail;
 
 // The sum of the keys that are left.
-fn sum_of_keys<R: Wait>(keys: Keys<'_, R, u64, u64>) -> Result<u64, AllocError> {
-    let mut keys = keys;
+fn sum_of_keys<R: Wait>(keys: &mut Keys<'_, R, u64, u64>) -> Result<u64, AllocError> {
     let mut sum = 0u64;
     for _ in 0..super::MOST_READ {
         let Some(key) = keys.next()? else {
@@ -23,8 +22,7 @@ fn sum_of_keys<R: Wait>(keys: Keys<'_, R, u64, u64>) -> Result<u64, AllocError> 
 }
 
 // The sum of the values that are left.
-fn sum_of_values<R: Wait>(values: Values<'_, R, u64, u64>) -> Result<u64, AllocError> {
-    let mut values = values;
+fn sum_of_values<R: Wait>(values: &mut Values<'_, R, u64, u64>) -> Result<u64, AllocError> {
     let mut sum = 0u64;
     for _ in 0..super::MOST_READ {
         let Some(value) = values.next()? else {
@@ -42,8 +40,14 @@ fn keys_and_values(rt: HostRuntime) -> Result<(), Fail> {
         map.insert(&rt, key, key.saturating_mul(2))?;
     }
     has_sums(&rt, &map, (100, 4950, 9900))?;
-    same(&rt, sum_of_keys(map.keys(&rt))?, 4950);
-    same(&rt, sum_of_values(map.values(&rt))?, 9900);
+    let mut keys = map.keys(&rt);
+    let sum = sum_of_keys(&mut keys);
+    drop(keys);
+    same(&rt, sum?, 4950);
+    let mut values = map.values(&rt);
+    let sum = sum_of_values(&mut values);
+    drop(values);
+    same(&rt, sum?, 9900);
     Ok(())
 }
 
@@ -93,14 +97,57 @@ fn a_walk_without_a_table(rt: HostRuntime) -> Result<(), Fail> {
     has_sums(&rt, &map, (10, 45, 45))
 }
 
+// Reads the one pair of a map, and no other once the walk has ended, though there are more then.
+fn read_past_the_end<R: Abort + Wait>(
+    rt: &R,
+    map: &Numbers,
+    pairs: &mut Iter<'_, R, u64, u64>,
+) -> Result<(), Fail> {
+    same(rt, pairs.next()?.is_some(), true);
+    same(rt, pairs.next()?.is_none(), true);
+    insert_all(rt, map, 1, 100);
+    same(rt, pairs.next()?.is_none(), true);
+    Ok(())
+}
+
 #[test]
 fn a_walk_that_has_ended(rt: HostRuntime) -> Result<(), Fail> {
     let map = numbers(&rt, rt.alloc(), 1);
     let mut pairs = map.iter(&rt);
-    same(&rt, pairs.next()?.is_some(), true);
-    same(&rt, pairs.next()?.is_none(), true);
-    insert_all(&rt, &map, 1, 100);
-    same(&rt, pairs.next()?.is_none(), true);
+    let ended = read_past_the_end(&rt, &map, &mut pairs);
+    drop(pairs);
+    ended
+}
+
+// The next pair of a walk, as numbers.
+fn next_pair<R: Wait>(
+    pairs: &mut Iter<'_, R, u64, u64>,
+) -> Result<Option<(u64, u64)>, AllocError> {
+    Ok(pairs.next()?.map(|pair| (*pair.0, *pair.1)))
+}
+
+// Replaces the values of the keys 0 and 1, and removes the key 2.
+fn write_and_remove<R: Abort + Wait>(rt: &R, map: &Numbers) -> Result<(), AllocError> {
+    same(rt, taken(map.insert(rt, 0, 7)?), Some(0));
+    same(rt, taken(map.insert(rt, 1, 8)?), Some(1));
+    same(rt, taken(map.remove(rt, &2)), Some(2));
+    Ok(())
+}
+
+// Walks over the keys 0 to 3, which are written and removed once the first of them was read.
+fn read_beside_writes<R: Abort + Wait>(
+    rt: &R,
+    map: &Numbers,
+    pairs: &mut Iter<'_, R, u64, u64>,
+) -> Result<(), Fail> {
+    let Some((_, value)) = pairs.next()? else {
+        return Err(Fail::from("there are pairs"));
+    };
+    write_and_remove(rt, map)?;
+    same(rt, *value, 0);
+    same(rt, next_pair(pairs)?, Some((1, 8)));
+    same(rt, next_pair(pairs)?, Some((3, 3)));
+    same(rt, next_pair(pairs)?, None);
     Ok(())
 }
 
@@ -109,24 +156,7 @@ fn a_walk_that_has_ended(rt: HostRuntime) -> Result<(), Fail> {
 fn a_walk_sees_what_stands(rt: HostRuntime) -> Result<(), Fail> {
     let map = numbers(&rt, rt.alloc(), 4);
     let mut pairs = map.iter(&rt);
-    let Some((key, value)) = pairs.next()? else {
-        return Err(Fail::from("there are pairs"));
-    };
-    same(&rt, (*key, *value), (0, 0));
-    same(&rt, taken(map.insert(&rt, 0, 7)?), Some(0));
-    same(&rt, taken(map.insert(&rt, 1, 8)?), Some(1));
-    same(&rt, taken(map.remove(&rt, &2)), Some(2));
-    same(&rt, *value, 0);
-    same(
-        &rt,
-        pairs.next()?.map(|pair| (*pair.0, *pair.1)),
-        Some((1, 8)),
-    );
-    same(
-        &rt,
-        pairs.next()?.map(|pair| (*pair.0, *pair.1)),
-        Some((3, 3)),
-    );
-    same(&rt, pairs.next()?.is_none(), true);
-    Ok(())
+    let ended = read_beside_writes(&rt, &map, &mut pairs);
+    drop(pairs);
+    ended
 }

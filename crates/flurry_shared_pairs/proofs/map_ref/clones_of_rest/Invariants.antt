@@ -1,0 +1,6 @@
+use Rattle.std.proofs.Common.{◌-◌, ◌^◌}
+use Rattle.std.specs.Vec.{vec_len}
+use Rattle.flurry_shared_pairs.proofs.map_ref.clones_of_rest.Given as goal
+
+abbrev pub decreases-loop-list : goal.decreases-loop-list
+decreases-loop-list g l = 2 ^ 64 - vec_len l.list
