@@ -13,5 +13,6 @@ pub mod Powers
 pub mod RedBlack
 pub mod Removals
 pub mod Rewriting
+pub mod Settled
 pub mod Shortness
 pub mod Trees

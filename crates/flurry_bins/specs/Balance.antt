@@ -1,5 +1,5 @@
 -- What an insertion into a red-black tree makes of it.
-use Rattle.std.specs.Prelude.{Bool, true, false, ◌&&◌, cond}
+use Rattle.std.specs.Prelude.{Bool, true, false, ◌&&◌, ◌||◌, cond}
 use Rattle.std.specs.declared.cmp.Ordering.{Ordering}
 use Rattle.std.specs.Ordering.{is_lt}
 use Rattle.flurry_bins.specs.declared.bin.entry.Entry.{Entry}
@@ -20,6 +20,20 @@ module _ {E : Type 0} where
   abbrev pub red_root : Tree E → Bool
   red_root leaf = false
   red_root (fork c l e r) = is_red c
+
+  -- the root is red and has a red child
+  abbrev pub red_over_red : Tree E → Bool
+  red_over_red leaf = false
+  red_over_red (fork c l e r) = is_red c && (red_root l || red_root r)
+
+  -- the root is black, and left of it, or right of it, is a red node over a red one
+  abbrev pub leans_left : Tree E → Bool
+  leans_left leaf = false
+  leans_left (fork c l e r) = is_black c && red_over_red l
+
+  abbrev pub leans_right : Tree E → Bool
+  leans_right leaf = false
+  leans_right (fork c l e r) = is_black c && red_over_red r
 
   -- the same with a black root
   abbrev pub with_black_root : Tree E → Tree E
@@ -51,6 +65,16 @@ module _ {E : Type 0} where
   balance_right c l e leaf = fork c l e leaf
   balance_right c l e (fork d b y a) =
       cond (is_black c && is_red d && red_root a) (fork Red (fork Black l e b) y (with_black_root a)) (cond (is_black c && is_red d && red_root b) (right_inner_up_by l e b y a) (fork c l e (fork d b y a)))
+
+module _ {E : Type 0} where
+  -- a tree whose left side, or right side, may have a red root over a red child
+  abbrev pub balanced_left : Tree E → Tree E
+  balanced_left leaf = leaf
+  balanced_left (fork c l e r) = balance_left c l e r
+
+  abbrev pub balanced_right : Tree E → Tree E
+  balanced_right leaf = leaf
+  balanced_right (fork c l e r) = balance_right c l e r
 
 -- the tree with a new entry
 abbrev pub put_tree : {K V A : Type 0} → (K → K → Ordering) → Entry K V A → Tree (Entry K V A) → Tree (Entry K V A)

@@ -51,7 +51,8 @@ fn settle_left<K: Drop, V: Drop, A: Allocator>(
     node: BoxedNode<K, V, A>,
     right: Link<K, V, A>,
 ) -> (BoxedNode<K, V, A>, bool)
-    ensures { (node_shape result.0.value, result.1) ≡ settled_left short colour (shape left) (entry_of node.value) (shape right) }
+    ensures { (node_shape result.0.value, result.1)
+        ≡ settled_left short colour (shape left) (entry_of node.value) (shape right) }
 {
     if !short {
         return (link_children(colour, left, node, right), false);

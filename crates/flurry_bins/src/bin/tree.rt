@@ -5,7 +5,7 @@ ghost use Rattle.std.specs.Arc.{arc_value};
 ghost use Rattle.flurry_bins.specs.Entries.{IsAscending, IsAscending-prop, AllHashed, last_of, entry_at, first_past, lent_bound, with_entry, with_value_at};
 ghost use Rattle.flurry_bins.specs.Chain.{chain, entry_of, colour_of};
 ghost use Rattle.flurry_model.specs.Greatest.{greatest};
-ghost use Rattle.flurry_bins.specs.Balance.{red_root, with_black_root, balance_left, balance_right, put_tree};
+ghost use Rattle.flurry_bins.specs.Balance.{red_root, red_over_red, leans_left, leans_right, with_black_root, balance_left, balance_right, balanced_left, balanced_right, put_tree};
 ghost use Rattle.flurry_bins.specs.Tree as tree;
 ghost use Rattle.flurry_bins.specs.Tree.{shape, shape_from, node_shape, inorder, IsRedBlack, IsRedBlack-prop, black_height, tree_way};
 ghost use Rattle.flurry_bins.specs.WayBound.{way_bound, way_within};
@@ -168,22 +168,79 @@ fn balance_right<K: Drop, V: Drop, A: Allocator>(
     link_children(colour, left, node, Some(right))
 }
 
-// Puts a node into a tree. Where the root was red, the new one may be red over a red child.
-fn put_in<K: Ord + Drop, V: Drop, A: Allocator>(
-    root: Link<K, V, A>,
-    node: BoxedNode<K, V, A>,
-) -> BoxedNode<K, V, A>
-    ensures { node_shape result.value ≡ put_tree K.cmp (entry_of node.value) (shape root) }
+// Whether the root of a tree is red and has a red child.
+fn is_red_over_red<K, V, A: Allocator>(link: &Link<K, V, A>) -> bool
+    ensures { result ≡ red_over_red (shape link.now) }
 {
-    let Some(root) = root else {
-        return link_children(Colour::Red, None, node, None);
+    match link {
+        None => false,
+        Some(node) => {
+            node.colour == Colour::Red && (has_red_root(&node.left) || has_red_root(&node.right))
+        }
+    }
+}
+
+// Whether the root of a tree is black, and left of it is a red node over a red one.
+fn leans_left<K, V, A: Allocator>(root: &Link<K, V, A>) -> bool
+    ensures { result ≡ leans_left (shape root.now) }
+{
+    match root {
+        None => false,
+        Some(node) => node.colour == Colour::Black && is_red_over_red(&node.left),
+    }
+}
+
+// Whether the root of a tree is black, and right of it is a red node over a red one.
+fn leans_right<K, V, A: Allocator>(root: &Link<K, V, A>) -> bool
+    ensures { result ≡ leans_right (shape root.now) }
+{
+    match root {
+        None => false,
+        Some(node) => node.colour == Colour::Black && is_red_over_red(&node.right),
+    }
+}
+
+// Balances a tree in its place, whose left side may have a red root over a red child. Mostly it has not, and nothing is written.
+fn settle_left<K: Drop, V: Drop, A: Allocator>(root: &mut Link<K, V, A>)
+    ensures { shape root.new ≡ balanced_left (shape root.old) }
+{
+    if !leans_left(root) {
+        return;
+    }
+    let Some(node) = root.take() else { return };
+    let (left, node, right) = take_children(node);
+    let Some(left) = left else { unreachable!() };
+    *root = Some(balance_left(left, node, right));
+}
+
+// The same, where the right side may.
+fn settle_right<K: Drop, V: Drop, A: Allocator>(root: &mut Link<K, V, A>)
+    ensures { shape root.new ≡ balanced_right (shape root.old) }
+{
+    if !leans_right(root) {
+        return;
+    }
+    let Some(node) = root.take() else { return };
+    let (left, node, right) = take_children(node);
+    let Some(right) = right else { unreachable!() };
+    *root = Some(balance_right(left, node, right));
+}
+
+// Puts a node into a tree. Where the root was red, the new one may be red over a red child.
+fn put_in<K: Ord + Drop, V: Drop, A: Allocator>(root: &mut Link<K, V, A>, node: BoxedNode<K, V, A>)
+    ensures { shape root.new ≡ put_tree K.cmp (entry_of node.value) (shape root.old) }
+{
+    let Some(top) = root else {
+        *root = Some(link_children(Colour::Red, None, node, None));
+        return;
     };
-    let (left, root, right) = take_children(root);
     let entry = node.entry();
-    if root.entry().compare_place(entry.hash, entry.key.as_ref()) == Ordering::Less {
-        balance_left(put_in(left, node), root, right)
+    if top.entry.compare_place(entry.hash, entry.key.as_ref()) == Ordering::Less {
+        put_in(&mut top.left, node);
+        settle_left(root);
     } else {
-        balance_right(left, root, put_in(right, node))
+        put_in(&mut top.right, node);
+        settle_right(root);
     }
 }
 
@@ -379,8 +436,8 @@ impl<K: Ord + Drop, V: Drop, A: Allocator> Ordered<K, V, A> for TreeBin<K, V, A>
         requires room { length (entries_of_tree self.old) < MOST_PAIRS }
         ensures { entries_of_tree self.new ≡ with_entry K.cmp (entry_of node.value) (entries_of_tree self.old) }
     {
-        let root = put_in(self.root.take(), node);
-        self.root = blacken(Some(root));
+        put_in(&mut self.root, node);
+        self.root = blacken(self.root.take());
         self.len += 1;
     }
 
