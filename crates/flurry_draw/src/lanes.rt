@@ -1,0 +1,107 @@
+//! Where each mark of a picture stands.
+
+use crate::label::Kind;
+use flurry_program::schedule::{Line, parse_line};
+use std::alloc::{AllocError, Global};
+
+// The last place of a row.
+const LAST_PLACE: u64 = 17;
+
+/// A mark: the step that it is for, its lane, and its place there.
+#[derive(Clone, Copy, Debug)]
+pub struct Mark {
+    pub kind: Kind,
+    pub lane: u64,
+    pub row: u64,
+    pub place: u64,
+}
+
+/// A lane: the first and the last row of its party, and what its call is, as a range of bytes of the schedule.
+#[derive(Clone, Copy, Debug)]
+pub struct Lane {
+    pub first: u64,
+    pub last: u64,
+    pub from: usize,
+    pub to: usize,
+}
+
+/// The marks of a run, in their order, and its lanes.
+#[derive(Drop)]
+pub struct Plan {
+    pub marks: Vec<Mark>,
+    pub lanes: Vec<Lane>,
+    /// How many rows are used.
+    pub rows: u64,
+}
+
+impl Plan {
+    /// Where the labels stand which the run of a schedule has written.
+    pub fn new(alloc: Global, schedule: &[u8], text: &[u8]) -> Result<Self, AllocError> {
+        let mut plan = Plan {
+            marks: Vec::new(alloc),
+            lanes: Vec::new(alloc),
+            rows: 0,
+        };
+        let mut labels = text.split(|byte| *byte == b'\n');
+        let mut from = 0usize;
+        for line in schedule.split(|byte| *byte == b'\n') {
+            let to = from.saturating_add(line.len());
+            let (party, steps) = match parse_line(line) {
+                Some(Line::World(_, _)) | None => (0, 0),
+                Some(Line::Step(party, steps)) => (party, steps),
+                Some(Line::Drop(party)) => (party, 1),
+                Some(_) => (0, 1),
+            };
+            for _ in 0..steps {
+                let Some(label) = labels.next() else { break };
+                match Kind::of_line(label) {
+                    Kind::Begins => plan.begin(from, to)?,
+                    kind => plan.add(party, kind)?,
+                }
+            }
+            from = to.saturating_add(1);
+        }
+        Ok(plan)
+    }
+
+    // A call begins, which is told by so much of the schedule.
+    fn begin(&mut self, from: usize, to: usize) -> Result<(), AllocError> {
+        let party = self.lanes.len() as u64;
+        self.lanes.push(Lane {
+            first: self.rows,
+            last: self.rows,
+            from,
+            to,
+        })?;
+        self.add(party, Kind::Begins)
+    }
+
+    // Adds the mark of a step.
+    fn add(&mut self, party: u64, kind: Kind) -> Result<(), AllocError> {
+        let lane = party.min(self.lanes.len() as u64);
+        let (row, place) = self.next_place(lane, kind);
+        self.marks.push(Mark {
+            kind,
+            lane,
+            row,
+            place,
+        })?;
+        self.rows = row.saturating_add(1);
+        if let Some(lane) = self.lanes.get_mut(lane as usize) {
+            lane.last = row;
+        }
+        Ok(())
+    }
+
+    // The place of the next mark: beside the last one if both are small, else in a new row.
+    fn next_place(&self, lane: u64, kind: Kind) -> (u64, u64) {
+        match self.marks.last() {
+            Some(last)
+                if last.lane == lane
+                    && last.kind.is_small()
+                    && kind.is_small()
+                    && last.place < LAST_PLACE => { (last.row, last.place.saturating_add(1)) }
+            _ => (self.rows, 0),
+        }
+    }
+}

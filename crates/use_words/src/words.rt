@@ -1,0 +1,80 @@
+//! Counts of words, which threads share.
+
+ghost use Rattle.std.specs.Prelude.{◌≡◌, ◌≤◌, sum_by, IfOk, IfSome};
+
+use flurry::hash::DefaultHashBuilder;
+use flurry::{HashMap, SeqMap, par};
+use std::alloc::{AllocError, Global};
+use std::sync::Wait;
+use std::thread::Threads;
+
+/// How often each word was counted.
+#[derive(Drop)]
+pub struct Words {
+    counts: HashMap<String, u64>,
+}
+
+impl Words {
+    /// The words of a text, of which none is counted yet. Threads build their map.
+    pub fn of_text<R: Threads + Wait + Sync>(
+        rt: &R,
+        alloc: Global,
+        text: &str,
+    ) -> Result<Self, AllocError> {
+        let mut list = Vec::new(alloc);
+        for word in text.split_whitespace() {
+            list.push((String::from_str(alloc, word)?, 0))?;
+        }
+        let words = par::seq_map::from_par_list(rt, alloc, list, DefaultHashBuilder::default(), 4)?;
+        match HashMap::from_seq(rt, words) {
+            Ok(counts) => Ok(Words { counts }),
+            Err(_) => Err(AllocError),
+        }
+    }
+
+    /// Counts a word once more, and answers its count.
+    pub fn add<R: Wait>(&self, rt: &R, alloc: Global, word: &str) -> Result<u64, AllocError>
+        ensures { IfOk result (λ count. 1 ≤ count) }
+    {
+        let key = String::from_str(alloc, word)?;
+        if let Some(count) = self.raise(rt, &key)? {
+            return Ok(count);
+        }
+        if let Ok(first) = self.counts.try_insert(rt, key.clone()?, 1)? {
+            return Ok(*first);
+        }
+        // Another thread has put the word meanwhile, and none takes a word out.
+        self.raise(rt, &key)?.ok_or(AllocError)
+    }
+
+    // Raises the count of a word that is there.
+    fn raise<R: Wait>(&self, rt: &R, word: &String) -> Result<Option<u64>, AllocError>
+        ensures { IfOk result (λ count. IfSome count (λ n. 1 ≤ n)) }
+    {
+        let count = self.counts.compute_if_present(
+            rt,
+            word,
+            move |_word: &String, count: &u64| -> Option<u64>
+                ensures { IfSome result (λ n. 1 ≤ n) }
+            { Some((*count).saturating_add(1)) },
+        )?;
+        Ok(count.map(|count| *count))
+    }
+
+    /// The counts, once no thread counts any more.
+    pub fn finish<R: Wait>(self, rt: &R) -> Result<SeqMap<String, u64>, AllocError> {
+        let Words { counts } = self;
+        counts.into_seq(rt)
+    }
+}
+
+/// The sum of the counts, if it has 64 bits.
+pub fn total(counts: &SeqMap<String, u64>) -> Option<u64>
+    ensures { IfSome result (λ sum. sum ≡ sum_by (λ p. p.1) counts.now.pairs) }
+{
+    let mut sum: u64 = 0;
+    for count in counts.values() {
+        sum = sum.checked_add(**count)?;
+    }
+    Some(sum)
+}
