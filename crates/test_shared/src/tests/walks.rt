@@ -120,9 +120,7 @@ fn a_walk_that_has_ended(rt: HostRuntime) -> Result<(), Fail> {
 }
 
 // The next pair of a walk, as numbers.
-fn next_pair<R: Wait>(
-    pairs: &mut Iter<'_, R, u64, u64>,
-) -> Result<Option<(u64, u64)>, AllocError> {
+fn next_pair<R: Wait>(pairs: &mut Iter<'_, R, u64, u64>) -> Result<Option<(u64, u64)>, AllocError> {
     Ok(pairs.next()?.map(|pair| (*pair.0, *pair.1)))
 }
 
