@@ -20,10 +20,10 @@ use Rattle.flurry_bins.proofs.Places.{AllPast, place, past_rest, entry_at-back, 
 
 pub node_shape-out : {K V A : Type 0} (n : Node K V A) → node_shape n ≡ fork (out-Node K V A n).colour (shape (out-Node K V A n).left) (out-Node K V A n).entry (shape (out-Node K V A n).right)
 unfolding out-Node denote.Hole.Carrier.out
-node_shape-out (Node' entry None' None' colour) = refl
-node_shape-out (Node' entry None' (Some' p m) colour) = refl
-node_shape-out (Node' entry (Some' q n) None' colour) = refl
-node_shape-out (Node' entry (Some' q n) (Some' p m) colour) = refl
+node_shape-out (Node' None' entry None' colour) = refl
+node_shape-out (Node' (Some' p m) entry None' colour) = refl
+node_shape-out (Node' None' entry (Some' q n) colour) = refl
+node_shape-out (Node' (Some' p m) entry (Some' q n) colour) = refl
 
 -- the link leads to the node n
 pub shape_at : {K V A : Type 0} {l : Option (Box (Node K V A) A)} {b : Box (Node K V A) A} {n : Node K V A} → l ≡ Some b → n ≡ b.value → shape l ≡ fork (out-Node K V A n).colour (shape (out-Node K V A n).left) (out-Node K V A n).entry (shape (out-Node K V A n).right)

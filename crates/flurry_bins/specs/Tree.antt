@@ -7,7 +7,7 @@ use Rattle.std.specs.Coded.{×_prop, Unit-prop, le_prop, Coded-set, coded_ℕ}
 use Rattle.flurry_bins.specs.declared.bin.entry.Entry.{Entry}
 use Rattle.flurry_bins.specs.declared.bin.node.Colour.{Colour}
 use Rattle.flurry_bins.specs.declared.bin.node.Colour.TheVariants.{Red, Black}
-use Rattle.flurry_bins.specs.declared.bin.node.Node.{Node, Node', Held-Node-left, None', Some'}
+use Rattle.flurry_bins.specs.declared.bin.node.Node.{Node, Node', Held-Node-right, None', Some'}
 use Rattle.flurry_bins.specs.Entries.{place_cmp}
 
 pub data Tree (E : Type 0) : Type 0 where
@@ -17,9 +17,9 @@ pub data Tree (E : Type 0) : Type 0 where
 abbrev mutual
   -- the tree below a node
   pub node_shape : {K V A : Type 0} → Node K V A → Tree (Entry K V A)
-  node_shape (Node' entry left right colour) = fork colour (held_shape left) entry (held_shape right)
+  node_shape (Node' right entry left colour) = fork colour (held_shape left) entry (held_shape right)
 
-  pub held_shape : {K V A : Type 0} → Held-Node-left K V A → Tree (Entry K V A)
+  pub held_shape : {K V A : Type 0} → Held-Node-right K V A → Tree (Entry K V A)
   held_shape None' = leaf
   held_shape (Some' p n) = node_shape n
 

@@ -28,9 +28,10 @@ pub(crate) type Link<K, V, A> = Option<Box<Node<K, V, A>, A>>;
 /// An entry in a box of its own, linked into at most one bin.
 #[derive(Drop)]
 pub struct Node<K, V, A: Allocator = Global> {
+    // What a walk along a list reads stands first, in the order of the memory.
+    pub(crate) right: Option<Box<Node<K, V, A>, A>>,
     pub(crate) entry: Entry<K, V, A>,
     pub(crate) left: Option<Box<Node<K, V, A>, A>>,
-    pub(crate) right: Option<Box<Node<K, V, A>, A>>,
     pub(crate) colour: Colour,
 }
 
@@ -42,9 +43,9 @@ impl<K: Drop, V: Drop, A: Allocator> Node<K, V, A> {
         Ok(Box::new(
             alloc,
             Node {
+                right: None,
                 entry,
                 left: None,
-                right: None,
                 colour: Colour::Red,
             },
         )?)
