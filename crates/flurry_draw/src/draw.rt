@@ -2,7 +2,7 @@
 ghost use Rattle.std.specs.Prelude.{◌≡◌, ◌++◌, IfOk, OnOk};
 ghost use Rattle.flurry_draw.specs.Reading.{AddsNames};
 
-use crate::label::Kind;
+use crate::label::{Kind, split_line};
 use crate::lanes::{Lane, Mark, Plan};
 use crate::page::Page;
 use std::alloc::{AllocError, Global};
@@ -122,16 +122,6 @@ fn draw_text(
     page.tag(&format!(in alloc; "text class=\"{class}\" x=\"{x}\" y=\"{y}\"")?)?;
     page.text(text)?;
     page.tag("/text")
-}
-
-// A line with its end, and what follows it.
-fn split_line(text: &[u8]) -> (&[u8], &[u8])
-    ensures { result.0.now ++ result.1.now ≡ text.now }
-{
-    match text.iter().position(|byte| *byte == b'\n') {
-        Some(end) => text.split_at(end + 1),
-        None => (text, &[]),
-    }
 }
 
 // Draws the name of each lane, and what its call is.

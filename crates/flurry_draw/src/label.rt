@@ -1,4 +1,5 @@
 //! A label, as its line tells it.
+ghost use Rattle.std.specs.Prelude.{◌≡◌, ◌++◌};
 
 use std::str;
 
@@ -70,5 +71,15 @@ fn number(word: Option<&str>) -> u64 {
     match word {
         Some(digits) => digits.parse().unwrap_or(0),
         None => 0,
+    }
+}
+
+/// A line with its end, and what follows it.
+pub fn split_line(text: &[u8]) -> (&[u8], &[u8])
+    ensures { result.0.now ++ result.1.now ≡ text.now }
+{
+    match text.iter().position(|byte| *byte == b'\n') {
+        Some(end) => text.split_at(end + 1),
+        None => (text, &[]),
     }
 }

@@ -1,6 +1,6 @@
 //! Where each mark of a picture stands.
 
-use crate::label::Kind;
+use crate::label::{Kind, split_line};
 use flurry_program::schedule::{Line, parse_line};
 use std::alloc::{AllocError, Global};
 
@@ -42,7 +42,7 @@ impl Plan {
             lanes: Vec::new(alloc),
             rows: 0,
         };
-        let mut labels = text.split(|byte| *byte == b'\n');
+        let mut rest = text;
         let mut from = 0usize;
         for line in schedule.split(|byte| *byte == b'\n') {
             let to = from.saturating_add(line.len());
@@ -52,16 +52,34 @@ impl Plan {
                 Some(Line::Drop(party)) => (party, 1),
                 Some(_) => (0, 1),
             };
-            for _ in 0..steps {
-                let Some(label) = labels.next() else { break };
-                match Kind::of_line(label) {
-                    Kind::Begins => plan.begin(from, to)?,
-                    kind => plan.add(party, kind)?,
-                }
-            }
+            rest = plan.add_labels(rest, party, steps, from, to)?;
             from = to.saturating_add(1);
         }
         Ok(plan)
+    }
+
+    // Adds the marks of so many labels, which a line of the schedule has written, and answers the text after them.
+    fn add_labels<'t>(
+        &mut self,
+        text: &'t [u8],
+        party: u64,
+        steps: u64,
+        from: usize,
+        to: usize,
+    ) -> Result<&'t [u8], AllocError> {
+        let mut rest = text;
+        for _ in 0..steps {
+            if rest.is_empty() {
+                break;
+            }
+            let (label, after) = split_line(rest);
+            match Kind::of_line(label) {
+                Kind::Begins => self.begin(from, to)?,
+                kind => self.add(party, kind)?,
+            }
+            rest = after;
+        }
+        Ok(rest)
     }
 
     // A call begins, which is told by so much of the schedule.

@@ -12,6 +12,7 @@ pub mod pairs;
 pub mod par;
 pub mod recorded;
 pub mod shared;
+pub mod world;
 
 use flurry::{SeqMap, SeqSet};
 use std::alloc::{AllocError, Global};

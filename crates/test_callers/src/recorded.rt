@@ -61,9 +61,9 @@ pub fn audit(
 pub fn session<R: Wait>(rt: &R, alloc: Global) -> Result<bool, AllocError> {
     let map: Map = Recorded::with_hasher(alloc, LowHashBuilder);
     let mut share = map.share(rt)?;
-    record(rt, &map, &mut share, 1, 10)?;
-    look(rt, &map, &mut share, 1)?;
+    map.insert(rt, &mut share, 1, 10)?;
+    map.get(rt, &mut share, 1)?;
     let mut shares = Vec::new(alloc);
     shares.push(share)?;
-    Ok(audit(map, shares).is_ok())
+    Ok(map.close(shares).is_ok())
 }

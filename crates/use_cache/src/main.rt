@@ -1,9 +1,9 @@
-//! A cache of two pairs, as calls are made on it.
+//! A cache of two pairs, as calls are made on it, and one that keeps three of ten.
 #![tactic(auto)]
 
 mod cache;
 
-use cache::{Call, run};
+use cache::{Cache, Call, run};
 use std::io;
 
 fn main(rt: HostRuntime) -> io::Result<()> {
@@ -24,5 +24,10 @@ fn main(rt: HostRuntime) -> io::Result<()> {
             None => println!(rt; "none")?,
         }
     }
-    Ok(())
+
+    let mut tens = Cache::new(rt.alloc(), 3);
+    for number in 0..10u64 {
+        tens.put(number, 10 * number)?;
+    }
+    println!(rt; "{} of 10 are kept", tens.len())
 }
