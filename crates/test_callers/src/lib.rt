@@ -1,4 +1,4 @@
-//! What a caller of the maps and sets gets with no proof file: where a function wants laws, its attribute names them.
+//! What a caller of the maps and sets gets with no proof file, but for `retain`: where a function wants laws, its attribute names them.
 #![tactic(auto)]
 
 ghost use Rattle.std.specs.Prelude.{◌≡◌, ◌≢◌, ◌+◌, ◌≤◌, ℕ, [], ◌∷◌, length, Some, None, OnOk, IfOk, is_some, String, string_bytes};
@@ -11,6 +11,7 @@ ghost use Rattle.flurry.specs.FiniteSet.{element_at};
 pub mod pairs;
 pub mod par;
 pub mod recorded;
+pub mod retain;
 pub mod shared;
 pub mod world;
 
