@@ -36,6 +36,10 @@ use std::sync::{Arc, Wait};
 ///
 /// A table is doubled when it has three pairs for four bins, while there is memory and it has fewer than 2^30 bins. Threads that meet a
 /// growth as they write help it along.
+///
+/// ```
+/// HashMap::new(alloc).with_processors(processors)
+/// ```
 #[derive(Drop)]
 pub struct HashMap<K: Ord, V, S: KeyHasher<K> = DefaultHashBuilder, A: Allocator = Global> {
     pub(crate) locks: Locks<K, V, A>,
@@ -162,6 +166,13 @@ impl<K: Ord + Drop, V: Drop, S: KeyHasher<K>, A: Allocator + Copy> HashMap<K, V,
     /// Takes the lock of the key's bin, to read, or the control's where no table was published yet. Where the bin has moved, it goes on
     /// in the next table, and helps no growth.
     ///
+    /// ```
+    /// match map.get(rt, &key)? {
+    ///     Some(value) => Ok(*value),
+    ///     None => Ok(0),
+    /// }
+    /// ```
+    ///
     /// # Errors
     ///
     /// [`AllocError`], where a further owner is refused. It is not where the key is absent.
@@ -241,6 +252,13 @@ impl<K: Ord + Drop, V: Drop, S: KeyHasher<K>, A: Allocator + Copy> HashMap<K, V,
     /// Takes the lock of the key's bin, to write, and, where the key was absent, then a tally's or the control's, to count; before the
     /// first table the control's, to make it. Where the bin has moved, or the control counts while a growth runs, it helps the growth.
     ///
+    /// ```
+    /// match map.insert(rt, key, key) {
+    ///     Ok(_) => 1,
+    ///     Err(_) => 0,
+    /// }
+    /// ```
+    ///
     /// # Errors
     ///
     /// [`AllocError`], where memory for the pair or for a first table is wanting. No pair is changed by the call then, and the key and
@@ -256,6 +274,13 @@ impl<K: Ord + Drop, V: Drop, S: KeyHasher<K>, A: Allocator + Copy> HashMap<K, V,
     /// stands and the one that was handed in, and the key is dropped.
     ///
     /// Takes the locks that [`HashMap::insert`] takes.
+    ///
+    /// ```
+    /// match map.try_insert(rt, key, value)? {
+    ///     Ok(put) => Ok(*put),
+    ///     Err(e) => Ok(e.not_inserted),
+    /// }
+    /// ```
     ///
     /// # Errors
     ///
@@ -280,6 +305,17 @@ impl<K: Ord + Drop, V: Drop, S: KeyHasher<K>, A: Allocator + Copy> HashMap<K, V,
     ///
     /// The function runs while the key's bin is locked. It must not call this map: a call for a key of the same bin would wait for
     /// itself. Takes the locks that [`HashMap::remove`] takes.
+    ///
+    /// ```
+    /// let answer = map.compute_if_present(
+    ///     rt,
+    ///     &key,
+    ///     move |_key: &u64, old: &u64| -> Option<u64>
+    ///         ensures { IfSome result (λ v. v ≤ limit) }
+    ///     { Some((*old).min(limit)) },
+    /// )?;
+    /// Ok(answer.map(|value| *value))
+    /// ```
     ///
     /// # Errors
     ///
@@ -328,6 +364,10 @@ impl<K: Ord + Drop, V: Drop, S: KeyHasher<K>, A: Allocator + Copy> HashMap<K, V,
     ///
     /// The function runs while no lock is held, so it may call this map. One look-up for each pair besides the walk; takes the locks of
     /// the walk, and of [`HashMap::remove`].
+    ///
+    /// ```
+    /// map.retain(rt, |key: &u64, _value: &u64| -> bool { *key % 2 == 0 })
+    /// ```
     ///
     /// # Errors
     ///

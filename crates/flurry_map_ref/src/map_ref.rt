@@ -31,6 +31,11 @@ use std::sync::{Arc, Wait};
 /// what all calls agree upon, the control. No step waits for a lock of the control while it has one of a bin. A call of one key decides
 /// in one step, under the lock of one bin. It gives the key one hash, and visits at most as many pairs of the bin as the greater of 9
 /// and twice the binary digits of their number and 1.
+///
+/// ```
+/// let view = map.pin(rt);
+/// view.remove(&key).is_some() && !view.contains_key(&key)
+/// ```
 #[derive(Drop)]
 pub struct HashMapRef<
     'm,

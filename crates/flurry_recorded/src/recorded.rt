@@ -17,6 +17,16 @@ use std::sync::{Mutex, Wait};
 ///
 /// Its [`Book`] stands under one lock, which each call takes for its time. A call is recorded for a share: the book keeps the call with
 /// its reply in its history, and the share keeps a receipt.
+///
+/// ```
+/// let map: Map = Recorded::with_hasher(alloc, LowHashBuilder);
+/// let mut share = map.share(rt)?;
+/// map.insert(rt, &mut share, 1, 10)?;
+/// map.get(rt, &mut share, 1)?;
+/// let mut shares = Vec::new(alloc);
+/// shares.push(share)?;
+/// Ok(map.close(shares).is_ok())
+/// ```
 #[derive(Drop)]
 pub struct Recorded<K: Ord, V, S: KeyHasher<K> = DefaultHashBuilder, A: Allocator = Global> {
     book: Mutex<Book<K, V, S, A>>,

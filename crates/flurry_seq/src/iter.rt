@@ -239,6 +239,10 @@ impl<K: Ord + Drop, V: Drop, S: KeyHasher<K>, A: Allocator> SeqMap<K, V, S, A> {
     /// The pairs of a stored key and its value, each once, in an open order.
     ///
     /// A step takes at most as many steps as a look-up and the empty bins that it passes; a whole run passes each bin once.
+    ///
+    /// ```
+    /// map.iter().count()
+    /// ```
     pub fn iter(&self) -> Iter<'_, K, V, A>
         ensures pairs { IsPermutation self.now.pairs result }
         ensures count { length result ≡ length self.now.pairs }

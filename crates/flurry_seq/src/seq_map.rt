@@ -39,6 +39,12 @@ use std::sync::Arc;
 /// A call of one key gives the key one hash and looks into one bin. Where that has n pairs, it visits at most as many as the greater
 /// of 9 and twice the binary digits of n + 1, though all hashes are equal. Hashes that spread keep bins short: a table is doubled when
 /// it has three pairs for four bins, while there is memory and it has fewer than 2^30 bins. That moves every pair.
+///
+/// ```
+/// let mut map = SeqMap::new(alloc);
+/// map.insert(key, value)?;
+/// Ok(map)
+/// ```
 #[derive(Drop)]
 pub struct SeqMap<K: Ord, V, S: KeyHasher<K> = DefaultHashBuilder, A: Allocator = Global> {
     pub(crate) table: Table<K, V, A>,
@@ -155,6 +161,10 @@ impl<K: Ord + Drop, V: Drop, S: KeyHasher<K>, A: Allocator> SeqMap<K, V, S, A> {
     }
 
     /// The value of a key.
+    ///
+    /// ```
+    /// Ok(map.get(&key).map(|value| **value))
+    /// ```
     pub fn get(&self, key: &K) -> Option<&Arc<V, A>>
         ensures value { option_map (λ v. arc_value v.now) result ≡ value_at K.cmp self.now.pairs key.now }
         ensures ascend { IsFiniteMap K.cmp self.now.pairs }
@@ -178,6 +188,10 @@ impl<K: Ord + Drop, V: Drop, S: KeyHasher<K>, A: Allocator> SeqMap<K, V, S, A> {
     }
 
     /// Whether the map has the key.
+    ///
+    /// ```
+    /// map.contains_key(&key)
+    /// ```
     pub fn contains_key(&self, key: &K) -> bool
         ensures found { result ≡ is_some (pair_at K.cmp self.now.pairs key.now) }
         ensures ascend { IsFiniteMap K.cmp self.now.pairs }
@@ -186,6 +200,10 @@ impl<K: Ord + Drop, V: Drop, S: KeyHasher<K>, A: Allocator> SeqMap<K, V, S, A> {
     }
 
     /// Takes the pair of a key out, and answers its value. The table stays as large as it is.
+    ///
+    /// ```
+    /// let _ = map.remove(&key);
+    /// ```
     pub fn remove(&mut self, key: &K) -> Option<Arc<V, A>>
         ensures value { option_map arc_value result ≡ value_at K.cmp self.old.pairs key.now }
         ensures after { self.new ≡ with_pairs self.old (without K.cmp self.old.pairs key.now) }
@@ -291,6 +309,11 @@ impl<K: Ord + Drop, V: Drop, S: KeyHasher<K>, A: Allocator + Copy> SeqMap<K, V, 
     /// Sets the value of a key, and answers the old one. A key that is stored stays, and the one that was handed in is dropped.
     /// A new key may make the table larger; where the larger table finds no memory, the map stays in the old one.
     ///
+    /// ```
+    /// map.insert(key, value)?;
+    /// Ok(map.get(&key).map(|value| **value))
+    /// ```
+    ///
     /// # Errors
     ///
     /// [`AllocError`], where memory for the pair or for a first table is wanting, or where the map has [`MOST_PAIRS`] pairs. The
@@ -389,6 +412,13 @@ impl<K: Ord + Drop, V: Drop, S: KeyHasher<K>, A: Allocator + Copy> SeqMap<K, V, 
     /// Puts a value at an absent key, and answers it. At a present key nothing changes: the error has the value that stands and
     /// the one that was handed in, and the key is dropped.
     ///
+    /// ```
+    /// match map.try_insert(key, value)? {
+    ///     Ok(new) => Ok(*new),
+    ///     Err(e) => Ok(*e.current),
+    /// }
+    /// ```
+    ///
     /// # Errors
     ///
     /// [`AllocError`], as of [`SeqMap::insert`], and also where a further owner of the answered value is refused. The map is then
@@ -425,6 +455,16 @@ impl<K: Ord + Drop, V: Drop, S: KeyHasher<K>, A: Allocator + Copy> SeqMap<K, V, 
     /// Calls a function once on the stored key and the value of a key, if it is present; else it calls nothing, asks for no memory
     /// and answers none. What the function answers is the new value, and is answered; where it answers none, the pair is taken out.
     /// The table stays as large as it is. The function need be fit for that one pair alone.
+    ///
+    /// ```
+    /// let answer = map.compute_if_present(
+    ///     &key,
+    ///     move |_key: &u64, _old: &u64| -> Option<u64>
+    ///         ensures { result ≡ Some value }
+    ///     { Some(value) },
+    /// )?;
+    /// Ok(answer.is_some())
+    /// ```
     ///
     /// # Errors
     ///

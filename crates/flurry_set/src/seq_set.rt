@@ -26,6 +26,11 @@ use std::sync::Arc;
 /// Its elements are a finite set: of each class of equal elements it has the one that was stored first.
 ///
 /// A call of one element is as fast as the call of [`SeqMap`] that it makes.
+///
+/// ```
+/// set.insert(x)?;
+/// Ok(())
+/// ```
 #[derive(Drop)]
 pub struct SeqSet<T: Ord, S: KeyHasher<T> = DefaultHashBuilder, A: Allocator = Global> {
     map: SeqMap<T, (), S, A>,

@@ -24,6 +24,10 @@ use std::sync::{Arc, Wait};
 ///
 /// Of each class of equal elements it has the one that was stored first. A call of one element takes the locks, the time and the memory
 /// of the call of [`HashMap`] that it makes.
+///
+/// ```
+/// seen.insert(rt, x)
+/// ```
 #[derive(Drop)]
 pub struct HashSet<T: Ord, S: KeyHasher<T> = DefaultHashBuilder, A: Allocator = Global> {
     map: HashMap<T, (), S, A>,

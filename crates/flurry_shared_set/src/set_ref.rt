@@ -21,6 +21,10 @@ use std::sync::{Arc, Wait};
 ///
 /// Of each class of equal elements the set has the one that was stored first. A call of one element takes the locks, the time and the
 /// memory of the call of [`HashMapRef`] that it makes.
+///
+/// ```
+/// set.pin(rt).again().processors()
+/// ```
 #[derive(Drop)]
 pub struct HashSetRef<'m, R, T: Ord, S: KeyHasher<T> = DefaultHashBuilder, A: Allocator = Global> {
     map: HashMapRef<'m, R, T, (), S, A>,

@@ -40,6 +40,20 @@ pub enum Step<K, V, F> {
 /// A key, a value and a function are `Copy`, since the labels keep the calls. The contracts see a world as plain data
 /// (`specs/World.antt`): its hasher and processors, the table that it began with, the control, the tables, the calls and the labels.
 /// Whatever steps it ran, its labels are lawful, which [`World::trace`] says.
+///
+/// ```
+/// let mut world: World<'_, u64, u64, F, LowHashBuilder> = World::new(
+///     alloc,
+///     8,
+///     LowHashBuilder,
+///     1,
+/// )?;
+/// let party = world.begin(OwnedCall::Insert(key, value))?;
+/// for _ in 0..4u32 {
+///     world.step(party)?;
+/// }
+/// Ok(world.trace().len())
+/// ```
 #[derive(Drop)]
 pub struct World<
     'k,

@@ -1,4 +1,5 @@
 //! What a caller of the maps and sets gets with no proof file, but for `retain`: where a function wants laws, its attribute names them.
+//! The examples in the doc comments of the library are bodies of functions that stand here.
 #![tactic(auto)]
 
 ghost use Rattle.std.specs.Prelude.{◌≡◌, ◌≢◌, ◌+◌, ◌≤◌, ℕ, [], ◌∷◌, length, Some, None, OnOk, IfOk, is_some, String, string_bytes};
