@@ -1,6 +1,6 @@
 -- What a picture shows to a reader who leaves its tags out.
-use Rattle.std.specs.Prelude.{◌≡◌, ℕ, ◌==◌, List, [], ◌∷◌, ◌++◌, codes, cond}
-use Rattle.std.specs.List.{fold}
+use Rattle.std.specs.Prelude.{◌≡◌, ◌≢◌, ℕ, ◌==◌, List, [], ◌∷◌, ◌++◌, codes, cond}
+use Rattle.std.specs.List.{fold, AllByRecursion}
 use Rattle.std.specs.Str.{bytes_eq}
 
 -- where a reader stands: between tags, in a tag, or in an entity of which this much was read
@@ -45,6 +45,14 @@ Shows bytes text = (shown : List ℕ) → reads_on (between_tags shown) bytes �
 abbrev pub BeginsTag : List ℕ → Type 0
 BeginsTag bytes = (shown : List ℕ) → reads_on (between_tags shown) bytes ≡ record { place = Tag; shown = shown }
 
--- what was shown, and then some names of lanes and tables
+-- no line ends here
+abbrev pub IsOneLine : List ℕ → Type 0
+IsOneLine bytes = AllByRecursion (λ b. b ≢ 10) bytes
+
+-- what was shown, and then some names of lanes and tables, in none of which a line ends
 abbrev pub AddsNames : List ℕ → List ℕ → Type 0
-AddsNames old new = (names : List ℕ) × (new ≡ old ++ names)
+AddsNames old new = (names : List ℕ) × IsOneLine names × (new ≡ old ++ names)
+
+-- a text, then names, and then the end of their line
+abbrev pub IsDrawing : List ℕ → List ℕ → Type 0
+IsDrawing text page = (named : List ℕ) × AddsNames text named × (page ≡ named ++ 10 ∷ [])

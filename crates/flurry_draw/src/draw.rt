@@ -1,6 +1,6 @@
 //! Draws the run of a schedule.
 ghost use Rattle.std.specs.Prelude.{◌≡◌, ◌++◌, IfOk, OnOk};
-ghost use Rattle.flurry_draw.specs.Reading.{AddsNames};
+ghost use Rattle.flurry_draw.specs.Reading.{AddsNames, IsDrawing, IsOneLine};
 
 use crate::label::{Kind, split_line};
 use crate::lanes::{Lane, Mark, Plan};
@@ -23,9 +23,11 @@ circle, .bin { fill: currentColor; stroke: currentColor; } .bin { stroke: none; 
 // The greatest exponent of a table.
 const MOST_TABLE: u64 = 30;
 
-/// Draws the run of a schedule which has written this text. Without its tags the page is that text, and then names of lanes and tables.
+/// Draws the run of a schedule which has written this text. Without its tags the page is that text, and then one line with the names of
+/// lanes and tables.
+#[tactic(auto, using(crate::proofs::Names::names))]
 pub fn draw(alloc: Global, plan: &Plan, schedule: &[u8], text: &[u8]) -> Result<Page, AllocError>
-    ensures { IfOk result (AddsNames text.now) }
+    ensures { IfOk result (IsDrawing text.now) }
 {
     let mut page = Page::new(alloc);
     let tables = tables_of(alloc, plan)?;
@@ -124,7 +126,33 @@ fn draw_text(
     page.tag("/text")
 }
 
+// Draws the first line of a text at a place.
+#[tactic(auto, using(crate::proofs::Names::names))]
+fn draw_line(
+    page: &mut Page,
+    alloc: Global,
+    class: &str,
+    x: u64,
+    y: u64,
+    text: &[u8],
+) -> Result<(), AllocError>
+    ensures { OnOk result (AddsNames page.old page.new) }
+{
+    draw_text(page, alloc, class, x, y, first_line(text))
+}
+
+// The first line of a text, without its end.
+fn first_line(text: &[u8]) -> &[u8]
+    ensures { IsOneLine result.now }
+{
+    match text.iter().position(|byte| *byte == b'\n') {
+        Some(end) => text.split_at(end).0,
+        None => text,
+    }
+}
+
 // Draws the name of each lane, and what its call is.
+#[tactic(auto, using(crate::proofs::Names::names))]
 fn draw_names(
     page: &mut Page,
     alloc: Global,
@@ -142,6 +170,7 @@ fn draw_names(
 }
 
 // Draws the name of a lane, and what its call is.
+#[tactic(auto, using(crate::proofs::Names::names))]
 fn draw_name(
     page: &mut Page,
     alloc: Global,
@@ -153,13 +182,14 @@ fn draw_name(
 {
     let name = format!(in alloc; "party {number}")?;
     let x = lane_x(number);
-    draw_text(page, alloc, "name", x, 20, name.as_bytes())?;
+    draw_line(page, alloc, "name", x, 20, name.as_bytes())?;
     let line = schedule.get(lane.from..lane.to).unwrap_or(b"");
     let call = line.strip_prefix(b"begin ").unwrap_or(line);
-    draw_text(page, alloc, "call", x, 36, call)
+    draw_line(page, alloc, "call", x, 36, call)
 }
 
 // Draws each of these tables.
+#[tactic(auto, using(crate::proofs::Names::names))]
 fn draw_tables(
     page: &mut Page,
     alloc: Global,
@@ -179,6 +209,7 @@ fn draw_tables(
 }
 
 // Draws a table: its name, and the bins that were moved or wiped, each in the colour of the party that did it.
+#[tactic(auto, using(crate::proofs::Names::names))]
 fn draw_table(
     page: &mut Page,
     alloc: Global,
@@ -191,7 +222,7 @@ fn draw_table(
 {
     let bins = 2u64.saturating_pow(table.min(MOST_TABLE) as u32);
     let name = format!(in alloc; "table {table}, of {bins} bins: moved above, wiped below")?;
-    draw_text(page, alloc, "name", 20, y, name.as_bytes())?;
+    draw_line(page, alloc, "name", 20, y, name.as_bytes())?;
     let (top, wide) = (y.saturating_add(6), width.saturating_sub(40));
     page.tag(&format!(in alloc;
         "rect class=\"table\" x=\"20\" y=\"{top}\" width=\"{wide}\" height=\"20\"/"

@@ -3,12 +3,12 @@ ghost use Rattle.std.specs.Prelude.{◌≡◌, ◌≤◌, ℕ, List, [], None, S
 ghost use Rattle.std.specs.Io.KnownBytes.{Appends};
 ghost use Rattle.flurry_program.specs.Runs.{Ends};
 ghost use Rattle.flurry_program.specs.ScheduleRuns.{of_a_schedule};
-ghost use Rattle.flurry_draw.specs.Picture.{IsPictureOf};
+ghost use Rattle.flurry_draw.specs.Picture.{Draws, IsPictureOf};
 
 use crate::draw::draw;
 use crate::lanes::Plan;
 use flurry_program::{Output, world_lines};
-use std::alloc::Global;
+use std::alloc::{AllocError, Global};
 use std::io::{self, ErrorKind, Read, Write};
 
 /// Reads a schedule to its end, does its steps and writes a picture of them. Answers the status of the run.
@@ -29,10 +29,18 @@ pub fn draw_schedule<R: Read, W: Write>(
     let mut schedule = Vec::new(alloc);
     reader.read_to_end(&mut schedule)?;
     let (text, status) = run_of(alloc, &schedule)?;
-    let plan = Plan::new(alloc, &schedule, &text)?;
-    let page = draw(alloc, &plan, &schedule, &text)?;
-    writer.write_all(&page.into_bytes())?;
+    let picture = picture_of(alloc, &schedule, &text)?;
+    writer.write_all(&picture)?;
     Ok(status)
+}
+
+// The picture of a run that has written this text.
+fn picture_of(alloc: Global, schedule: &[u8], text: &[u8]) -> Result<Vec<u8>, AllocError>
+    ensures { IfOk result (λ picture. Draws text.now picture.items) }
+{
+    let plan = Plan::new(alloc, schedule, text)?;
+    let page = draw(alloc, &plan, schedule, text)?;
+    Ok(page.into_bytes())
 }
 
 // What the run of a schedule writes, and its status.
