@@ -47,42 +47,23 @@ fn a_pair_that_is_put_again_meanwhile(rt: HostRuntime) -> Result<(), Fail> {
     Ok(())
 }
 
-// Removes a pair as it was read, which goes once alone.
-fn remove_twice<R: Abort + Wait>(
+// Reads two pairs, writes the second, and removes both as they were read.
+fn remove_as_read<R: Abort + Wait>(
     rt: &R,
     map: &Numbers,
     pairs: &mut Iter<'_, R, u64, u64>,
 ) -> Result<(), Fail> {
-    let Some(seen) = pairs.next_seen()? else {
+    let Some(first) = pairs.next_seen()? else {
         return Err(Fail::from("two pairs stand"));
     };
-    same(rt, taken(map.remove_seen(rt, seen.try_clone()?)), Some(0));
-    same(rt, map.remove_seen(rt, seen).is_none(), true);
-    Ok(())
-}
-
-// Writes a pair once it was read, which then stays.
-fn write_then_remove<R: Abort + Wait>(
-    rt: &R,
-    map: &Numbers,
-    pairs: &mut Iter<'_, R, u64, u64>,
-) -> Result<(), Fail> {
-    let Some(seen) = pairs.next_seen()? else {
+    let Some(second) = pairs.next_seen()? else {
         return Err(Fail::from("two pairs stand"));
     };
-    map.insert(rt, *seen.key(), 9)?;
-    same(rt, map.remove_seen(rt, seen).is_none(), true);
+    map.insert(rt, *second.key(), 9)?;
+    same(rt, taken(map.remove_seen(rt, first.try_clone()?)), Some(0));
+    same(rt, map.remove_seen(rt, first).is_none(), true);
+    same(rt, map.remove_seen(rt, second).is_none(), true);
     Ok(())
-}
-
-// The one pair is removed, and the other one written.
-fn remove_and_write<R: Abort + Wait>(
-    rt: &R,
-    map: &Numbers,
-    pairs: &mut Iter<'_, R, u64, u64>,
-) -> Result<(), Fail> {
-    remove_twice(rt, map, pairs)?;
-    write_then_remove(rt, map, pairs)
 }
 
 // A pair goes as it was read, and once; one that was written since stays.
@@ -90,7 +71,7 @@ fn remove_and_write<R: Abort + Wait>(
 fn pairs_as_they_were_read(rt: HostRuntime) -> Result<(), Fail> {
     let map = numbers(&rt, rt.alloc(), 2);
     let mut pairs = map.iter(&rt);
-    let ended = remove_and_write(&rt, &map, &mut pairs);
+    let ended = remove_as_read(&rt, &map, &mut pairs);
     drop(pairs);
     ended?;
     has_sums(&rt, &map, (1, 1, 9))

@@ -138,9 +138,10 @@ fn read_beside_writes<R: Abort + Wait>(
     map: &Numbers,
     pairs: &mut Iter<'_, R, u64, u64>,
 ) -> Result<(), Fail> {
-    let Some((_, value)) = pairs.next()? else {
+    let Some((key, value)) = pairs.next()? else {
         return Err(Fail::from("there are pairs"));
     };
+    same(rt, (*key, *value), (0, 0));
     write_and_remove(rt, map)?;
     same(rt, *value, 0);
     same(rt, next_pair(pairs)?, Some((1, 8)));
