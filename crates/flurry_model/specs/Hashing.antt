@@ -2,22 +2,17 @@
 use Rattle.std.specs.Prelude.{◌≡◌, ℕ, List, Bool, true}
 use Rattle.std.proofs.Common.{ap, refl, ◌∙◌}
 use Rattle.std.specs.List.{fold}
-use Rattle.std.specs.Hash as fed
 use Rattle.std.specs.Hash.DefaultHasher as sip
-use Rattle.std.specs.declared.hash.DefaultHasher.{DefaultHasher}
 use Rattle.std.specs.declared.cmp.Ordering.TheVariants.{Equal}
 use Rattle.std.specs.Ordering.{nat_cmp, is_eq}
 use Rattle.std.specs.declared.cmp.Ordering.{Ordering}
 use Rattle.std.proofs.lemmas.Cmp.{ranked}
 use Rattle.flurry_model.specs.declared.hash.DefaultHashBuilder.{DefaultHashBuilder}
+pub use Rattle.flurry_model.specs.SeededHasher.{hasher_of_seed}
 
 -- the seed of a builder
 abbrev pub seed_of : DefaultHashBuilder → ℕ
 seed_of b = b.seed
-
--- std's hasher after the seed
-abbrev pub hasher_of_seed : ℕ → DefaultHasher
-hasher_of_seed seed = fold sip.write sip.initial (fed.u64 seed)
 
 -- the hash that it gives for these writes after the seed
 abbrev pub hash_with_seed : ℕ → List (List ℕ) → ℕ

@@ -2,6 +2,7 @@ pub mod FiniteMap
 pub mod FiniteSet
 pub mod OneKey
 pub mod HashOrder
+pub mod SeededHasher
 pub mod Hashing
 pub mod Sizes
 pub mod BinSizes

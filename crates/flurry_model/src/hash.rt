@@ -1,8 +1,10 @@
 //! The hash of a key.
 ghost use Rattle.std.specs.Prelude.{◌≡◌, ℕ, refl};
 ghost use Rattle.std.specs.declared.cmp.Ordering.TheVariants.{Equal};
-ghost use Rattle.flurry_model.specs.Hashing.{seed_of, hasher_of_seed, hash_with_seed, hash_with_seed-alike, equal_from_tie};
+ghost use Rattle.std.specs.Coded.{Coded-set};
+ghost use Rattle.flurry_model.specs.SeededHasher.{hasher_of_seed};
 
+use std::fmt::{self, Debug, Formatter};
 pub use std::hash::DefaultHasher;
 use std::hash::{Hash, Hasher};
 
@@ -64,31 +66,53 @@ impl KeyHasher<u64> for LowHashBuilder {
     }
 }
 
-/// Gives each key the hash that std's hasher gives it after a seed.
-#[derive(Clone, Copy, Debug, Default)]
+/// Gives each key the hash that std's hasher gives it after a seed. It keeps the hasher that was fed the seed.
+#[derive(Clone, Copy)]
 pub struct DefaultHashBuilder {
     seed: u64,
+    hasher: DefaultHasher,
+    ghost seeded: { hasher ≡ hasher_of_seed seed } by { Coded-set hasher-code hasher (hasher_of_seed seed) },
 }
 
 impl DefaultHashBuilder {
+    ghost use Rattle.flurry_model.specs.Hashing.{seed_of};
+
     /// The builder with this seed.
     pub fn with_seed(seed: u64) -> Self
         ensures { seed_of result ≡ seed }
     {
-        DefaultHashBuilder { seed }
+        let mut hasher = DefaultHasher::new();
+        hasher.write_u64(seed);
+        DefaultHashBuilder { seed, hasher }
     }
 
     /// A hasher that was fed the seed.
     pub fn build_hasher(&self) -> DefaultHasher
         ensures { result ≡ hasher_of_seed (seed_of self.now) }
     {
-        let mut hasher = DefaultHasher::new();
-        hasher.write_u64(self.seed);
-        hasher
+        self.hasher
+    }
+}
+
+impl Default for DefaultHashBuilder {
+    ghost is_default = { λ b. b.seed ≡ 0 };
+
+    fn default() -> Self {
+        DefaultHashBuilder::with_seed(0)
+    }
+}
+
+impl Debug for DefaultHashBuilder {
+    fn fmt<W: fmt::Write>(&self, f: &mut Formatter<W>) -> fmt::Result {
+        f.debug_struct("DefaultHashBuilder")
+            .field("seed", &self.seed)
+            .finish()
     }
 }
 
 impl<K: Hash + Ord> KeyHasher<K> for DefaultHashBuilder {
+    ghost use Rattle.flurry_model.specs.Hashing.{seed_of, hash_with_seed, hash_with_seed-alike, equal_from_tie};
+
     ghost hash_of = { λ s k. hash_with_seed (seed_of s) (K.hash_input k) };
 
     ghost alike = { λ s x y e. hash_with_seed-alike (seed_of s) (K.respects_eq x y (equal_from_tie (K.matches_eq x y) e)) };

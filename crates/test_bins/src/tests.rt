@@ -273,6 +273,17 @@ fn hashes(rt: HostRuntime) {
 }
 
 #[test]
+fn debug_text_of_a_builder(rt: HostRuntime) {
+    for (builder, wanted) in [
+        (DefaultHashBuilder::default(), "DefaultHashBuilder { seed: 0 }"),
+        (DefaultHashBuilder::with_seed(7), "DefaultHashBuilder { seed: 7 }"),
+    ] {
+        let text = format!(in rt.alloc(); "{builder:?}").expect(&rt, "memory");
+        same(&rt, text.as_str(), wanted);
+    }
+}
+
+#[test]
 fn the_greatest_number_of_a_bin(rt: HostRuntime) {
     let mut bin: Bin<u64, u64> = Bin::new();
     for key in 0u64..20 {
