@@ -5,16 +5,16 @@ use Rattle.std.specs.Borrow.{Bor}
 use Rattle.std.specs.Ordering.{is_eq, eq_by_cmp}
 use Rattle.std.specs.Cmp.{IsTotalOrder, tied_itself}
 use Rattle.std.specs.Cmp.Lexicographic.{pointwise}
-use Rattle.std.specs.Option.{option_eq, MatchOption}
+use Rattle.std.specs.Option.{option_eq, option_map_or, MatchOption}
 use Rattle.std.specs.Result.{IsOkAnd, IsErrAnd}
 use Rattle.std.specs.Map.{keys_of}
 use Rattle.std.specs.List.{AllByRecursion, list_all}
 use Rattle.std.proofs.lemmas.List.Sorted.{IsPermutation-map}
 use Rattle.std.proofs.lemmas.Map.Keys.{sorted_head, sorted_tail}
 use Rattle.flurry_model.specs.FiniteMap.{IsFiniteMap, pair_at, value_at, with_pair, without, map_of_pairs}
-use Rattle.flurry_model.specs.FiniteSet.{element_at, with_element, with_elements, without_element, set_of_elements, IsSubset, AreDisjoint}
+use Rattle.flurry_model.specs.FiniteSet.{IsFiniteSet, element_at, with_element, with_elements, without_element, set_of_elements, IsSubset, AreDisjoint}
 use Rattle.flurry_model.specs.Keeping.{Keeps, CalledAtPair}
-use Rattle.flurry_model.proofs.FiniteMapLaws.{below_all, alike_all, pair_at_below, IsFiniteMap-with_pair, IsFiniteMap-map_of_pairs}
+use Rattle.flurry_model.proofs.FiniteMapLaws.{below_all, alike_all, pair_at-with_pair, IsFiniteMap-with_pair, IsFiniteMap-map_of_pairs}
 use Rattle.flurry_seq.specs.Contents.{Contents}
 use Rattle.flurry_seq.specs.Equality.{pair_eq}
 use Rattle.flurry_seq.specs.Retain.{Retains}
@@ -101,18 +101,35 @@ module _ {K : Type 0} {cmp : K → K → Ordering} (o : IsTotalOrder cmp) where
       by_test true p ih = rw p (without_above (keys_of m) x (alike_all o (keys_of m) x e.0 (eq_of _ p) (sorted_head cmp e.0 (keys_of m) s)))
       by_test false p ih = rw p (ap (λ l. e.0 ∷ l) ih)
 
+  -- an element below all others is not found
+  element_below : (s : List K) (x : K) → AllByRecursion (λ y. cmp x y ≡ Less) s → element_at cmp s x ≡ None
+  element_below [] x h = refl
+  element_below (y ∷ s) x h = rw (h.0) (element_below s x h.1)
+
   -- a class that is there stays as it is
-  pub with_element_present : {V : Type 0} (m : List (K × V)) (x : K) → IsFiniteMap cmp m → IsSome (pair_at cmp m x) → with_element cmp (keys_of m) x ≡ keys_of m
-  with_element_present [] x s h = cc
-  with_element_present {V} (e ∷ m) x s h = by_order (cmp x e.0) refl (with_element_present m x (sorted_tail cmp e.0 (keys_of m) s))
+  pub with_element_present : (s : List K) (x : K) → IsFiniteSet cmp s → IsSome (element_at cmp s x) → with_element cmp s x ≡ s
+  with_element_present [] x a h = cc
+  with_element_present (y ∷ s) x a h = by_order (cmp x y) refl (with_element_present s x (sorted_tail cmp y s a))
     where
-      by_order : (r : Ordering) → cmp x e.0 ≡ r → (IsSome (pair_at cmp m x) → with_element cmp (keys_of m) x ≡ keys_of m) → with_element cmp (keys_of (e ∷ m)) x ≡ keys_of (e ∷ m)
+      by_order : (r : Ordering) → cmp x y ≡ r → (IsSome (element_at cmp s x) → with_element cmp s x ≡ s) → with_element cmp (y ∷ s) x ≡ y ∷ s
       by_order Less p ih =
-          let none : pair_at cmp (e ∷ m) x ≡ None = pair_at_below o (e ∷ m) x (p, below_all o x e.0 (keys_of m) p (sorted_head cmp e.0 (keys_of m) s)) in
+          let none : element_at cmp (y ∷ s) x ≡ None = element_below (y ∷ s) x (p, below_all o x y s p (sorted_head cmp y s a)) in
           let no : false ≡ true = ap is_some (sym none) ∙ h in
           cc
       by_order Equal p ih = rw p refl
-      by_order Greater p ih = rw p (ap (λ l. e.0 ∷ l) (ih (rw p at h)))
+      by_order Greater p ih = rw p (ap (λ l. y ∷ l) (ih (rw p at h)))
+
+  -- an element that was absent is found once it is put
+  pub put_is_found : {V : Type 0} (m : List (K × V)) (x : K) (v : V) → IsFiniteMap cmp m → is_some (element_at cmp (keys_of m) x) ≡ false → element_at cmp (keys_of (with_pair cmp m x v)) x ≡ Some x
+  put_is_found {V} m x v s absent =
+      element_at-keys cmp (with_pair cmp m x v) x ∙ ap (option_map (λ (p : K × V). p.0)) (pair_at-with_pair o m x v x s)
+      ∙ by_pair (is_eq (cmp x x)) (pair_at cmp m x) (ap is_eq (tied_itself o x)) (sym (has_element-keys cmp m x) ∙ absent)
+    where
+      by_pair : (b : Bool) (p : Option (K × V)) → b ≡ true → is_some p ≡ false
+          → option_map (λ (p : K × V). p.0) (cond b (Some (option_map_or (λ (p : K × V). p.0) p x, v)) p) ≡ Some x
+      by_pair true None e h = refl
+      by_pair true (Some p) e h = cc
+      by_pair false p e h = cc
 
   -- elements of one class are at the same element
   pub same_class : (s : List K) (x y : K) → cmp x y ≡ Equal → element_at cmp s x ≡ element_at cmp s y
@@ -195,7 +212,7 @@ put_key {K} {V} {S} {X} {E} {cmp} o m n x v P Q r h s = by_value (value_at cmp m
     by_value (Some w) (Ok a) e h = absurd h.0
     by_value (Some w) (Err a) e h = (
       sym (is_none_of (element_at cmp (keys_of m.pairs) x) true (sym (has_value-keys cmp m.pairs x) ∙ ap is_some e)),
-      ap (λ c. keys_of c.pairs) h.1 ∙ sym (with_element_present o m.pairs x s (sym (has_element-keys cmp m.pairs x) ∙ sym (has_value-keys cmp m.pairs x) ∙ ap is_some e)),
+      ap (λ c. keys_of c.pairs) h.1 ∙ sym (with_element_present o (keys_of m.pairs) x s (sym (has_value-keys cmp m.pairs x) ∙ ap is_some e)),
       rw h.1 s,
     )
 

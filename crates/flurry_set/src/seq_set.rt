@@ -1,5 +1,5 @@
 //! The owned set.
-ghost use Rattle.std.specs.Prelude.{◌≡◌, ℕ, ◌+◌, ◌≤◌, ◌^◌, ◌↔◌, ◌++◌, [], List, length, OnOk, OnErr, IfOk, IsTrue, IsSome, is_some, is_none, not, ◌==◌, if◌then◌else◌, IsPermutation};
+ghost use Rattle.std.specs.Prelude.{◌≡◌, ℕ, ◌+◌, ◌≤◌, ◌^◌, ◌↔◌, ◌++◌, [], List, length, Some, OnOk, OnErr, IfOk, IsTrue, IsSome, IsNone, is_some, is_none, not, ◌==◌, if◌then◌else◌, IsPermutation};
 ghost use Rattle.std.specs.Option.{option_map};
 ghost use Rattle.std.specs.Arc.{arc_value};
 ghost use Rattle.flurry_bins.specs.Chain.{entry_of};
@@ -14,6 +14,7 @@ ghost use Rattle.flurry_set.specs.SetRetain.{RetainsElements};
 ghost use Rattle.flurry_model.specs.declared.sizes.TheConstants.{FIRST_BINS, MOST_PAIRS};
 
 use flurry_bins::bin::Node;
+use flurry_bins::table::two_owners;
 use flurry_model::hash::{DefaultHashBuilder, KeyHasher};
 use flurry_seq::{Keys, SeqMap};
 use std::alloc::{AllocError, Allocator, Global};
@@ -278,6 +279,47 @@ impl<T: Ord + Drop, S: KeyHasher<T>, A: Allocator + Copy> SeqSet<T, S, A> {
         ensures ascend { IsFiniteSet T.cmp self.old.elements }
     {
         Ok(self.map.try_insert(element, ())?.is_ok())
+    }
+
+    /// The stored element of an element's class: the one that is there, or else the one that is handed in, which is put. What is
+    /// answered is a further owner of it. An element that is stored stays, and the one that was handed in is dropped. A new element may
+    /// make the table larger, as of [`SeqMap::insert`].
+    ///
+    /// # Errors
+    ///
+    /// [`AllocError`], where a further owner, or memory for a new element or for a first table is wanting, or where the set has
+    /// [`flurry_seq::seq_map::MOST_PAIRS`] elements. The set is then as it was, and the element is dropped.
+    pub fn get_or_insert(&mut self, element: T) -> Result<Arc<T, A>, AllocError>
+        ensures stored { IfOk result (λ stored. element_at T.cmp self.new.elements element ≡ Some (arc_value stored)) }
+        ensures elements { OnOk result (self.new.elements ≡ with_element T.cmp self.old.elements element) }
+        ensures hasher { self.new.hasher ≡ self.old.hasher }
+        ensures bins { IsSome (element_at T.cmp self.old.elements element) → self.new.bins ≡ self.old.bins }
+        ensures grown { IsNone (element_at T.cmp self.old.elements element) → OnOk result
+            (IsTableAfter (first_bins self.old.bins FIRST_BINS) (length self.new.elements) self.new.bins) }
+        ensures err { OnErr result (self.new ≡ self.old) }
+        ensures ascend { IsFiniteSet T.cmp self.old.elements }
+    {
+        if let Some(stored) = self.get(&element) {
+            return Arc::try_clone(stored);
+        }
+        self.put_new(element)
+    }
+
+    // Puts an element whose class is absent, and answers a further owner of it.
+    fn put_new(&mut self, element: T) -> Result<Arc<T, A>, AllocError>
+        requires { IsNone (element_at T.cmp self.old.elements element) }
+        ensures stored { IfOk result (λ stored. element_at T.cmp self.new.elements element ≡ Some (arc_value stored)) }
+        ensures elements { OnOk result (self.new.elements ≡ with_element T.cmp self.old.elements element) }
+        ensures hasher { self.new.hasher ≡ self.old.hasher }
+        ensures grown { OnOk result
+            (IsTableAfter (first_bins self.old.bins FIRST_BINS) (length self.new.elements) self.new.bins) }
+        ensures err { OnErr result (self.new ≡ self.old) }
+    {
+        let alloc = *self.map.allocator();
+        let (stored, answer) = two_owners(alloc, element)?;
+        let nothing = Arc::new(alloc, ())?;
+        self.map.insert_shared(stored, nothing)?;
+        Ok(answer)
     }
 
     /// Puts an element, as [`SeqSet::insert`] does, by a node that has it and is in no bin; see [`SeqMap::insert_node`].

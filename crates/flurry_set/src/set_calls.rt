@@ -12,7 +12,8 @@ use std::sync::Arc;
 /// A call of an owned set. `P` is the type of the tests of `Retain`.
 ///
 /// The constructors and [`SeqSet::from_list`] make the set that a list of calls begins with, so none of these is a call on a set.
-/// [`SeqSet::allocator`] tells nothing of its elements. Every other public call of [`SeqSet`] is here.
+/// [`SeqSet::allocator`] and [`SeqSet::hasher`] tell nothing of its elements. [`SeqSet::insert_node`] does what `Insert` does, and
+/// [`SeqSet::get_or_insert`] what `Get` and `Insert` do. Every other public call of [`SeqSet`] is here.
 #[derive(Drop)]
 pub enum SetCall<T: Ord, S: KeyHasher<T>, P, A: Allocator = Global> {
     /// [`SeqSet::contains`].

@@ -80,6 +80,22 @@ fn elements_of_maps_and_nodes(rt: HostRuntime) {
     same(&rt, (set.len(), sum_of(&set)), (3, 6));
 }
 
+// Of equal elements the one that came first is answered each time.
+#[test]
+fn one_element_for_equal_ones(rt: HostRuntime) {
+    let mut set: SeqSet<Tagged> = SeqSet::new(rt.alloc());
+    for tag in [10, 20] {
+        let stored = set
+            .get_or_insert(Tagged { id: 1, tag })
+            .expect(&rt, "memory");
+        same(&rt, (stored.id, stored.tag), (1, 10));
+    }
+    let other = set
+        .get_or_insert(Tagged { id: 2, tag: 30 })
+        .expect(&rt, "memory");
+    same(&rt, (other.tag, set.len()), (30, 2));
+}
+
 #[test]
 fn copies_and_what_is_kept(rt: HostRuntime) {
     let mut set = low_set_of(&rt, rt.alloc(), [1, 2, 1, 3]);

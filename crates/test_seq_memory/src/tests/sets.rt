@@ -63,6 +63,31 @@ fn set_insert(rt: HostRuntime) -> Result<(), Fail> {
     refuse_each(&rt, rt.alloc(), &InsertsOne)
 }
 
+// The stored element of a class that is new. A second one asks for nothing.
+struct GetsOrInserts;
+
+impl Refused for GetsOrInserts {
+    fn once(&self, rt: &impl Abort, memory: Memory, k: u64) -> bool {
+        let mut set = set_of(rt, memory, 0);
+        memory.refuse_at(k);
+        let failed = set.get_or_insert(1).is_err();
+        let refused = memory.refused();
+        memory.refuse_from(0);
+        same_at(rt, k, (failed, set.contains(&1)), (refused, !refused));
+        if !refused {
+            same(rt, set.get_or_insert(1).map(|stored| *stored), Ok(1));
+            same(rt, memory.asked(), 0);
+        }
+        memory.refuse_nothing();
+        refused
+    }
+}
+
+#[test]
+fn set_get_or_insert(rt: HostRuntime) -> Result<(), Fail> {
+    refuse_each(&rt, rt.alloc(), &GetsOrInserts)
+}
+
 #[test]
 fn set_with_capacity(rt: HostRuntime) -> Result<(), Fail> {
     let memory = Metered::leaked(rt.alloc())?;
