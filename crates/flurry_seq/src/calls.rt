@@ -14,8 +14,8 @@ use std::sync::Arc;
 /// A call of an owned map. `F` is the type of the function that `ComputeIfPresent` calls, and `P` that of the tests of `Retain`.
 ///
 /// The constructors and [`SeqMap::from_list`] make the map that a list of calls begins with, and [`SeqMap::into_bins`] uses up the one
-/// that a list leaves, so none of these is a call on a map. [`SeqMap::allocator`] tells nothing of its pairs. Every other public call
-/// of [`SeqMap`] is here.
+/// that a list leaves, so none of these is a call on a map. [`SeqMap::allocator`] and [`SeqMap::hasher`] tell nothing of its pairs.
+/// [`SeqMap::insert_shared`] and [`SeqMap::insert_node`] do what `Insert` does. Every other public call of [`SeqMap`] is here.
 #[derive(Drop)]
 pub enum Call<K: Ord, V, S: KeyHasher<K>, F, P, A: Allocator = Global> {
     /// [`SeqMap::get`].
