@@ -10,7 +10,7 @@ use Rattle.std.specs.Ordering.{is_eq, is_lt, is_gt, match_ordering}
 use Rattle.std.specs.Cmp.{IsTotalOrder}
 use Rattle.flurry_bins.specs.declared.bin.entry.Entry.{Entry}
 use Rattle.flurry_bins.specs.declared.bin.node.Colour.{Colour}
-use Rattle.flurry_bins.specs.declared.bin.node.Node.{Node, Node', out-Node, None', Some'}
+use Rattle.flurry_bins.specs.declared.bin.node.Node.{Node, Node', out-Node, roll-Node, None', Some'}
 use Rattle.flurry_bins.specs.Entries.{place_cmp, entry_cmp, IsAscending, entry_at, AllBefore, is_past_bound, first_past}
 use Rattle.flurry_bins.specs.Tree.{Tree, fork, shape, shape_from, node_shape, inorder, tree_way}
 use Rattle.flurry_model.proofs.ListParts.{sorted_back, sorted_front}
@@ -24,6 +24,14 @@ node_shape-out (Node' None' entry None' colour) = refl
 node_shape-out (Node' (Some' p m) entry None' colour) = refl
 node_shape-out (Node' None' entry (Some' q n) colour) = refl
 node_shape-out (Node' (Some' p m) entry (Some' q n) colour) = refl
+
+-- a node that is made of its parts
+pub node_shape-roll : {K V A : Type 0} (right : Option (Box (Node K V A) A)) (entry : Entry K V A) (left : Option (Box (Node K V A) A)) (colour : Colour) → node_shape (roll-Node K V A (record { right = right; entry = entry; left = left; colour = colour })) ≡ fork colour (shape left) entry (shape right)
+unfolding roll-Node denote.Hole.Carrier.roll
+node_shape-roll None entry None colour = refl
+node_shape-roll (Some b) entry None colour = refl
+node_shape-roll None entry (Some d) colour = refl
+node_shape-roll (Some b) entry (Some d) colour = refl
 
 -- the link leads to the node n
 pub shape_at : {K V A : Type 0} {l : Option (Box (Node K V A) A)} {b : Box (Node K V A) A} {n : Node K V A} → l ≡ Some b → n ≡ b.value → shape l ≡ fork (out-Node K V A n).colour (shape (out-Node K V A n).left) (out-Node K V A n).entry (shape (out-Node K V A n).right)

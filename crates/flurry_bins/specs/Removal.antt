@@ -50,6 +50,21 @@ module _ {E : Type 0} where
   abbrev pub settled_right : Bool → Colour → Tree E → E → Tree E → Tree E × Bool
   settled_right short c l e r = cond short (fix_right c l e r) (fork c l e r, false)
 
+  -- a tree whose left side, or right side, is short, and one where it may be
+  abbrev pub fixed_left : Tree E → Tree E × Bool
+  fixed_left leaf = (leaf, false)
+  fixed_left (fork c l e r) = fix_left c l e r
+
+  abbrev pub mended_left : Bool → Tree E → Tree E × Bool
+  mended_left short t = cond short (fixed_left t) (t, false)
+
+  abbrev pub fixed_right : Tree E → Tree E × Bool
+  fixed_right leaf = (leaf, false)
+  fixed_right (fork c l e r) = fix_right c l e r
+
+  abbrev pub mended_right : Bool → Tree E → Tree E × Bool
+  mended_right short t = cond short (fixed_right t) (t, false)
+
   abbrev pub least_out : Colour → Tree E → E → Tree E → Out E
   least_out c leaf e r = record { rest = with_black_root r; least = e; short = is_black c && not (red_root r) }
   least_out c (fork d a x b) e r =

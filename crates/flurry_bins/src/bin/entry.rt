@@ -26,9 +26,12 @@ impl<K: Ord, V, A: Allocator> Entry<K, V, A> {
     pub fn compare_place(&self, hash: u64, key: &K) -> Ordering
         ensures { result ≡ place_cmp K.cmp hash key.now self.now }
     {
-        match hash.cmp(&self.hash) {
-            Ordering::Equal => key.cmp(self.key.as_ref()),
-            other => other,
+        if hash == self.hash {
+            key.cmp(self.key.as_ref())
+        } else if hash < self.hash {
+            Ordering::Less
+        } else {
+            Ordering::Greater
         }
     }
 

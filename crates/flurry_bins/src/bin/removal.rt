@@ -1,9 +1,9 @@
 //! Removal from a red-black tree.
-ghost use Rattle.std.specs.Prelude.{◌≡◌, Option};
+ghost use Rattle.std.specs.Prelude.{◌≡◌, Option, IsSome};
 ghost use Rattle.std.specs.Option.{option_map};
 ghost use Rattle.flurry_bins.specs.Chain.{entry_of};
 ghost use Rattle.flurry_bins.specs.Tree.{shape, node_shape};
-ghost use Rattle.flurry_bins.specs.Removal.{short_left, short_right, settled_left, settled_right, IsOutOf, join_of, tree_removal, tree_entry};
+ghost use Rattle.flurry_bins.specs.Removal.{short_left, short_right, fix_left, fix_right, mended_left, mended_right, IsOutOf, join_of, tree_removal, tree_entry};
 
 use super::node::{BoxedNode, Colour, Link, Node};
 use super::tree::{blacken, has_red_root, link_children, take_children};
@@ -43,20 +43,15 @@ fn with_deficit_left<K: Drop, V: Drop, A: Allocator>(
     )
 }
 
-// A node with these sides, of which the left one may be short, and whether it is short itself.
-fn settle_left<K: Drop, V: Drop, A: Allocator>(
-    short: bool,
+// A node with these sides, of which the left one is short, and whether it is short itself.
+fn fix_left<K: Drop, V: Drop, A: Allocator>(
     colour: Colour,
     left: Link<K, V, A>,
     node: BoxedNode<K, V, A>,
     right: Link<K, V, A>,
 ) -> (BoxedNode<K, V, A>, bool)
-    ensures { (node_shape result.0.value, result.1)
-        ≡ settled_left short colour (shape left) (entry_of node.value) (shape right) }
+    ensures { (node_shape result.0.value, result.1) ≡ fix_left colour (shape left) (entry_of node.value) (shape right) }
 {
-    if !short {
-        return (link_children(colour, left, node, right), false);
-    }
     let Some(right) = right else {
         return (link_children(colour, left, node, None), false);
     };
@@ -72,6 +67,24 @@ fn settle_left<K: Drop, V: Drop, A: Allocator>(
     let (a, near, b) = take_children(near);
     let (low, _) = with_deficit_left(Colour::Red, left, node, a, near, b);
     (link_children(Colour::Black, Some(low), right, far), false)
+}
+
+// Mends a tree in its place, whose left side may be short, and says whether it is short itself. Where the side is not short,
+// nothing is written.
+fn settle_left<K: Drop, V: Drop, A: Allocator>(short: bool, root: &mut Link<K, V, A>) -> bool
+    ensures { (shape root.new, result) ≡ mended_left short (shape root.old) }
+{
+    if !short {
+        return false;
+    }
+    let Some(node) = root.take() else {
+        return false;
+    };
+    let colour = node.colour;
+    let (left, node, right) = take_children(node);
+    let (node, short) = fix_left(colour, left, node, right);
+    *root = Some(node);
+    short
 }
 
 // A node with a short right side, and left of it a black node with these sides.
@@ -107,20 +120,15 @@ fn with_deficit_right<K: Drop, V: Drop, A: Allocator>(
     )
 }
 
-// A node with these sides, of which the right one may be short, and whether it is short itself.
-fn settle_right<K: Drop, V: Drop, A: Allocator>(
-    short: bool,
+// A node with these sides, of which the right one is short, and whether it is short itself.
+fn fix_right<K: Drop, V: Drop, A: Allocator>(
     colour: Colour,
     left: Link<K, V, A>,
     node: BoxedNode<K, V, A>,
     right: Link<K, V, A>,
 ) -> (BoxedNode<K, V, A>, bool)
-    ensures { (node_shape result.0.value, result.1)
-        ≡ settled_right short colour (shape left) (entry_of node.value) (shape right) }
+    ensures { (node_shape result.0.value, result.1) ≡ fix_right colour (shape left) (entry_of node.value) (shape right) }
 {
-    if !short {
-        return (link_children(colour, left, node, right), false);
-    }
     let Some(left) = left else {
         return (link_children(colour, None, node, right), false);
     };
@@ -138,69 +146,94 @@ fn settle_right<K: Drop, V: Drop, A: Allocator>(
     (link_children(Colour::Black, far, left, Some(low)), false)
 }
 
-// A tree without its first node, that node, and whether the tree is short.
-fn take_least<K: Drop, V: Drop, A: Allocator>(
-    root: BoxedNode<K, V, A>,
-) -> (Link<K, V, A>, BoxedNode<K, V, A>, bool)
-    ensures { IsOutOf (node_shape root.value)
-        (record { rest = shape result.0; least = entry_of result.1.value; short = result.2 }) }
+// The same, where the right side may be short.
+fn settle_right<K: Drop, V: Drop, A: Allocator>(short: bool, root: &mut Link<K, V, A>) -> bool
+    ensures { (shape root.new, result) ≡ mended_right short (shape root.old) }
 {
-    let colour = root.colour;
-    let (left, root, right) = take_children(root);
-    let Some(left) = left else {
-        let short = colour == Colour::Black && !has_red_root(&right);
-        return (blacken(right), root, short);
+    if !short {
+        return false;
+    }
+    let Some(node) = root.take() else {
+        return false;
     };
-    let (left, least, short) = take_least(left);
-    let (rest, short) = settle_left(short, colour, left, root, right);
-    (Some(rest), least, short)
+    let colour = node.colour;
+    let (left, node, right) = take_children(node);
+    let (node, short) = fix_right(colour, left, node, right);
+    *root = Some(node);
+    short
+}
+
+// Takes out the first node of a tree in its place, and says whether the tree is short then.
+fn take_least<K: Drop, V: Drop, A: Allocator>(
+    root: &mut Link<K, V, A>,
+) -> (BoxedNode<K, V, A>, bool)
+    requires { IsSome root.old }
+    ensures { IsOutOf (shape root.old)
+        (record { rest = shape root.new; least = entry_of result.0.value; short = result.1 }) }
+{
+    let Some(top) = root else { unreachable!() };
+    if top.left.is_some() {
+        let (least, short) = take_least(&mut top.left);
+        return (least, settle_left(short, root));
+    }
+    let Some(node) = root.take() else {
+        unreachable!()
+    };
+    let colour = node.colour;
+    let (_, node, right) = take_children(node);
+    let short = colour == Colour::Black && !has_red_root(&right);
+    *root = blacken(right);
+    (node, short)
 }
 
 // What stood left and right of a node, as one tree, and whether it is short.
 fn join_sides<K: Drop, V: Drop, A: Allocator>(
     colour: Colour,
     left: Link<K, V, A>,
-    right: Link<K, V, A>,
+    mut right: Link<K, V, A>,
 ) -> (Link<K, V, A>, bool)
     ensures { (shape result.0, result.1) ≡ join_of colour (shape left) (shape right) }
 {
-    let Some(right) = right else {
+    if right.is_none() {
         let short = colour == Colour::Black && !has_red_root(&left);
         return (blacken(left), short);
-    };
-    let (right, least, short) = take_least(right);
-    let (root, short) = settle_right(short, colour, left, least, right);
-    (Some(root), short)
+    }
+    let (least, short) = take_least(&mut right);
+    let mut root = Some(link_children(colour, left, least, right));
+    let short = settle_right(short, &mut root);
+    (root, short)
 }
 
-// A tree without what stands at a place, the node from there, and whether the tree is short.
+// Takes what stands at a place out of a tree in its place: the node from there, and whether the tree is short then.
 pub(crate) fn remove_in<K: Ord + Drop, V: Drop, A: Allocator>(
-    root: Link<K, V, A>,
+    root: &mut Link<K, V, A>,
     hash: u64,
     key: &K,
-) -> (Link<K, V, A>, Link<K, V, A>, bool)
-    ensures tree { (shape result.0, result.2) ≡ tree_removal K.cmp hash key.now (shape root) }
-    ensures node { option_map (λ b. entry_of b.value) result.1 ≡ tree_entry K.cmp hash key.now (shape root) }
+) -> (Link<K, V, A>, bool)
+    ensures tree { (shape root.new, result.1) ≡ tree_removal K.cmp hash key.now (shape root.old) }
+    ensures node { option_map (λ b. entry_of b.value) result.0 ≡ tree_entry K.cmp hash key.now (shape root.old) }
 {
-    let Some(root) = root else {
-        return (None, None, false);
+    let Some(top) = root else {
+        return (None, false);
     };
-    let colour = root.colour;
-    let (left, root, right) = take_children(root);
-    match root.entry().compare_place(hash, key) {
+    match top.entry.compare_place(hash, key) {
         Ordering::Less => {
-            let (left, node, short) = remove_in(left, hash, key);
-            let (root, short) = settle_left(short, colour, left, root, right);
-            (Some(root), node, short)
+            let (node, short) = remove_in(&mut top.left, hash, key);
+            (node, settle_left(short, root))
         }
         Ordering::Equal => {
+            let Some(node) = root.take() else {
+                unreachable!()
+            };
+            let colour = node.colour;
+            let (left, node, right) = take_children(node);
             let (rest, short) = join_sides(colour, left, right);
-            (rest, Some(root), short)
+            *root = rest;
+            (Some(node), short)
         }
         Ordering::Greater => {
-            let (right, node, short) = remove_in(right, hash, key);
-            let (root, short) = settle_right(short, colour, left, root, right);
-            (Some(root), node, short)
+            let (node, short) = remove_in(&mut top.right, hash, key);
+            (node, settle_right(short, root))
         }
     }
 }

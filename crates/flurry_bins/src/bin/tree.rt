@@ -442,8 +442,7 @@ impl<K: Ord + Drop, V: Drop, A: Allocator> Ordered<K, V, A> for TreeBin<K, V, A>
     }
 
     fn remove(&mut self, hash: u64, key: &K) -> Link<K, V, A> {
-        let (root, node, _) = remove_in(self.root.take(), hash, key);
-        self.root = root;
+        let (node, _) = remove_in(&mut self.root, hash, key);
         if node.is_some() {
             self.len -= 1;
         }

@@ -9,6 +9,7 @@ use crate::bin::list::ListBin;
 use crate::bin::node::{BoxedNode, Node};
 use crate::bin::tree::TreeBin;
 use std::alloc::{Allocator, Global};
+use std::cmp::Ordering;
 
 // A node with its hash beside it, so that a look-up of another hash does not touch the node.
 #[derive(Drop)]
@@ -23,7 +24,7 @@ impl<K: Ord + Drop, V: Drop, A: Allocator> LoneNode<K, V, A> {
     pub(super) fn is_at(&self, hash: u64, key: &K) -> bool
         ensures { result ≡ is_at K.cmp hash key.now (entry_of self.now.node.value) }
     {
-        self.hash == hash && self.node.entry().is_at(hash, key)
+        self.hash == hash && key.cmp(self.node.entry().key.as_ref()) == Ordering::Equal
     }
 }
 

@@ -1,5 +1,5 @@
 use Rattle.std.proofs.Common.{rules}
 use Rattle.flurry_bins.proofs.bin.entry.Entry.compare_place.Goals as goal
 
-pub returns-in-Equal : goal.returns-in-Equal
-returns-in-Equal g c = search rules
+pub returns-then-hash-self : goal.returns-then-hash-self
+returns-then-hash-self g c = search rules
