@@ -275,8 +275,14 @@ fn hashes(rt: HostRuntime) {
 #[test]
 fn debug_text_of_a_builder(rt: HostRuntime) {
     for (builder, wanted) in [
-        (DefaultHashBuilder::default(), "DefaultHashBuilder { seed: 0 }"),
-        (DefaultHashBuilder::with_seed(7), "DefaultHashBuilder { seed: 7 }"),
+        (
+            DefaultHashBuilder::default(),
+            "DefaultHashBuilder { seed: 0 }",
+        ),
+        (
+            DefaultHashBuilder::with_seed(7),
+            "DefaultHashBuilder { seed: 7 }",
+        ),
     ] {
         let text = format!(in rt.alloc(); "{builder:?}").expect(&rt, "memory");
         same(&rt, text.as_str(), wanted);
