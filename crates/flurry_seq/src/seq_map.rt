@@ -270,6 +270,7 @@ impl<K: Ord + Drop, V: Drop, S: KeyHasher<K>, A: Allocator> SeqMap<K, V, S, A> {
     }
 
     // The entry of a key with this hash.
+    #[inline(always)]
     fn find(&self, hash: u64, key: &K) -> Option<&Entry<K, V, A>>
         requires { hash ≡ S.hash_of self.now.hasher key.now }
         ensures { option_map (λ e. (arc_value e.now.key, arc_value e.now.value)) result

@@ -80,7 +80,9 @@ impl<K: Ord + Drop, V: Drop, A: Allocator> Table<K, V, A> {
         self.bins.len()
     }
 
-    // The entry of a hash and a key.
+    // The entry of a hash and a key. It is copied into each call, so that what is found is handed on by a branch: a pointer that is
+    // chosen by the outcome of the comparison of keys would wait for it.
+    #[inline(always)]
     pub(crate) fn find(&self, hash: u64, key: &K) -> Option<&Entry<K, V, A>>
         ensures { option_map (λ e. pair_of_entry e.now) result ≡ entry_in K.cmp self.now hash key.now }
     {

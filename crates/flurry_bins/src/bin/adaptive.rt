@@ -15,7 +15,7 @@ mod nodes;
 mod retain;
 
 use super::entry::Entry;
-use super::list::{self, ListBin};
+use super::list::{self, ListBin, prepend};
 use super::node::{BoxedNode, Link, Node};
 use super::ordered::Ordered;
 use super::tree::{self, TreeBin};
@@ -145,6 +145,7 @@ fn put_into<K: Ord + Drop, V: Drop, A: Allocator>(
 {
     match kind {
         Kind::Empty => {
+            let node = prepend(node, None);
             let hash = node.entry().hash;
             Kind::One(LoneNode { hash, node })
         }
@@ -385,11 +386,10 @@ impl<K: Ord + Drop, V: Drop, A: Allocator> Ordered<K, V, A> for Bin<K, V, A> {
         match &self.kind {
             Kind::Empty => (None, 0),
             Kind::One(lone) => {
-                if lone.is_at(hash, key) {
-                    (Some(lone.node.entry()), 1)
-                } else {
-                    (None, 1)
+                if lone.hash != hash {
+                    return (None, 1);
                 }
+                list::find_in(Some(lone.node.as_ref()), hash, key)
             }
             Kind::AsList(list) => list::find_in(Some(list.head.as_ref()), hash, key),
             Kind::AsTree(tree) => tree::find_in(Some(tree.root.as_ref()), hash, key),

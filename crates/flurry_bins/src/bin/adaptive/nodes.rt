@@ -11,12 +11,13 @@ use crate::bin::tree::TreeBin;
 use std::alloc::{Allocator, Global};
 use std::cmp::Ordering;
 
-// A node with its hash beside it, so that a look-up of another hash does not touch the node.
+// A node with its hash beside it, so that a look-up of another hash does not touch the node. No other node stands behind it.
 #[derive(Drop)]
 pub(super) struct LoneNode<K: Ord, V, A: Allocator = Global> {
     pub(super) hash: u64,
     pub(super) node: BoxedNode<K, V, A>,
     ghost hashed: { hash ≡ (entry_of node.value).hash },
+    ghost alone: { length (node_chain node.value) ≡ 1 },
 }
 
 impl<K: Ord + Drop, V: Drop, A: Allocator> LoneNode<K, V, A> {
