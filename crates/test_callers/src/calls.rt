@@ -7,7 +7,7 @@ use flurry::bin::Shape;
 use flurry::calls::{Call, Reply};
 use flurry::recorded::KeptReply;
 use flurry::set_calls::{SetCall, SetReply};
-use flurry::{SeqMap, SeqSet, TryInsertError};
+use flurry::{SeqMap, SeqSet};
 use std::alloc::{AllocError, Global};
 use std::collections::VecDeque;
 
@@ -23,12 +23,7 @@ pub fn standing_and_new(
 {
     match map.try_insert(key, value)? {
         Ok(_) => Ok(None),
-        Err(
-            TryInsertError {
-                current,
-                not_inserted,
-            },
-        ) => Ok(Some((*current, not_inserted))),
+        Err(error) => Ok(Some((*error.current, error.not_inserted))),
     }
 }
 

@@ -1,5 +1,5 @@
 //! Callers that choose how keys are hashed.
-ghost use Rattle.std.specs.Prelude.{◌≡◌, ℕ, ◌%◌, []};
+ghost use Rattle.std.specs.Prelude.{◌≡◌, ℕ, ◌+◌, ◌%◌, ◌^◌, []};
 ghost use Rattle.std.proofs.Common.{ap};
 ghost use Rattle.flurry.specs.Hashing.{same_number, seed_of};
 
@@ -9,25 +9,25 @@ use flurry::hash::{
 };
 use std::alloc::Global;
 
-/// Gives each key its lowest byte.
+/// Gives each key its sum with a number.
 #[derive(Clone, Copy, Debug, Default)]
-pub struct LowByte;
+pub struct Shifted(pub u64);
 
-impl KeyHasher<u64> for LowByte {
-    ghost hash_of = { λ s k. k % 256 };
+impl KeyHasher<u64> for Shifted {
+    ghost hash_of = { λ s k. (s.0 + k) % 2 ^ 64 };
 
-    ghost alike = { λ s x y e. ap (λ (k : ℕ). k % 256) (same_number x y e) };
+    ghost alike = { λ s x y e. ap (λ (k : ℕ). (s.0 + k) % 2 ^ 64) (same_number x y e) };
 
     fn hash_one(&self, key: &u64) -> u64 {
-        *key % 256
+        self.0.wrapping_add(*key)
     }
 }
 
 /// A map over a hasher of one's own.
-pub fn by_low_byte(alloc: Global) -> SeqMap<u64, u64, LowByte>
+pub fn with_shift(alloc: Global, shift: u64) -> SeqMap<u64, u64, Shifted>
     ensures { result.pairs ≡ [] }
 {
-    SeqMap::with_hasher(alloc, LowByte)
+    SeqMap::with_hasher(alloc, Shifted(shift))
 }
 
 /// A map in which all keys have the least hash.
