@@ -19,6 +19,10 @@ use std::sync::{Arc, Wait};
 /// It begins at the table that was published when it was made: where there was none it gives nothing, whatever is put later. It gives no
 /// key twice, and each pair that stands from before it was made until it has ended. A pair that is put or removed meanwhile it may give or
 /// not. It holds no lock between two calls of [`Iter::next`].
+///
+/// ```
+/// Ok(pairs.next()?.is_some())
+/// ```
 #[derive(Drop)]
 pub struct Iter<'m, R, K: Ord, V, A: Allocator = Global> {
     walk: Sweep<K, V, A>,
