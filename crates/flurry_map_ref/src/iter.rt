@@ -177,6 +177,11 @@ impl<'m, R: Wait, K: Ord + Drop, V: Drop, S: KeyHasher<K>, A: Allocator + Copy> 
 }
 
 /// The keys of a shared map, as [`Iter`] gives its pairs.
+///
+/// ```
+/// let key = keys.next()?;
+/// Ok(key.map(|key| *key))
+/// ```
 #[derive(Drop)]
 pub struct Keys<'m, R, K: Ord, V, A: Allocator = Global> {
     pairs: Iter<'m, R, K, V, A>,
@@ -216,6 +221,11 @@ impl<'m, R: Wait, K: Ord + Drop, V: Drop, A: Allocator + Copy> Keys<'m, R, K, V,
 }
 
 /// The values of a shared map, as [`Iter`] gives its pairs.
+///
+/// ```
+/// let value = values.next()?;
+/// Ok(value.map(|value| *value))
+/// ```
 #[derive(Drop)]
 pub struct Values<'m, R, K: Ord, V, A: Allocator = Global> {
     pairs: Iter<'m, R, K, V, A>,

@@ -19,6 +19,7 @@ pub mod recorded;
 pub mod retain;
 pub mod shared;
 pub mod steps;
+pub mod walks;
 pub mod world;
 
 use flurry::{SeqMap, SeqSet};
