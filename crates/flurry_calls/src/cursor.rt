@@ -16,6 +16,14 @@ use std::sync::Arc;
 /// It goes over the bins of its base table one after another. One that has moved is left for its two halves in the next table, and so
 /// on, so that each hash is met once. At most 32 frames stand: the one that is gone over now, and below it at most one of each table. A
 /// cursor takes no memory but for further owners of the keys that are its bounds.
+///
+/// ```
+/// let mut cursor: Cursor<u64> = Cursor::new(1);
+/// let _ = cursor.leave();
+/// let at = cursor.at();
+/// drop(cursor);
+/// at
+/// ```
 #[derive(Drop)]
 pub struct Cursor<K, A: Allocator = Global> {
     base: u8,

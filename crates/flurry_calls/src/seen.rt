@@ -10,6 +10,13 @@ use std::marker::Model;
 use std::sync::Arc;
 
 /// A pair that a walk has read, with the write number of its value. A walk's read alone makes one.
+///
+/// ```
+/// match pairs.next_seen()? {
+///     Some(seen) => Ok(view.remove_seen(seen).is_some()),
+///     None => Ok(false),
+/// }
+/// ```
 #[derive(Drop)]
 pub struct Seen<K, V, A: Allocator = Global> {
     key: Arc<K, A>,

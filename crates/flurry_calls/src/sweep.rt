@@ -55,6 +55,14 @@ pub(crate) enum Stage<K, V, A: Allocator> {
 /// It begins at the table that is published at its first step, and goes over its bins one after another. One that has moved meanwhile is
 /// left for its halves in the next table. So each hash is met once, whichever steps of other calls come between. It goes on by its steps
 /// alone, each of which takes the part that [`Sweep::want`] names.
+///
+/// ```
+/// let mut walk: Sweep<u64, u64> = Sweep::walk();
+/// let _ = walk.on_control(&mut Control::new());
+/// let has_ended = walk.reply().is_some();
+/// drop(walk);
+/// has_ended
+/// ```
 #[derive(Drop)]
 pub struct Sweep<K, V, A: Allocator = Global> {
     errand: Errand,

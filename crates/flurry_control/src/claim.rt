@@ -11,6 +11,11 @@ use std::marker::Model;
 ///
 /// A control's `claim` alone makes one, and it can't be cloned, so no two holders have one bin. A range that is dropped before its
 /// bins have moved stays unmoved for good, and its growth never ends.
+///
+/// ```
+/// let claim: Claim = control.claim(1)?;
+/// claim.next()
+/// ```
 #[derive(Drop)]
 pub struct Claim {
     table: u8,

@@ -63,6 +63,12 @@ enum State {
 /// ranges from the top down, and the report that makes all of them moved publishes the next table and ends the growth.
 ///
 /// A control takes no memory, and has no table: a [`Room`] makes them.
+///
+/// ```
+/// let mut control = Control::new();
+/// control.open(4, &mut Counted(0))?;
+/// Ok(control.locate())
+/// ```
 #[derive(Drop)]
 pub struct Control {
     published: Option<u8>,

@@ -8,6 +8,17 @@ use std::alloc::AllocError;
 ///
 /// A control asks its room for a table and never reads one. So an impl may keep tables in whatever form it likes, and says in
 /// `place_gives` what they are.
+///
+/// ```
+/// impl Room for Counted {
+///     ghost place_gives = { λ before table live done after. done ≡ true };
+///
+///     fn place(&mut self, _table: u8, _live: bool) -> Result<(), AllocError> {
+///         self.0 = self.0.saturating_add(1);
+///         Ok(())
+///     }
+/// }
+/// ```
 pub trait Room {
     /// What `place` does: from the room before the call, the exponent of the table, whether its bins are to be live, and whether the
     /// call succeeded, to the room after the call. An impl states here which tables it has then, and what a refused call leaves.

@@ -19,6 +19,10 @@ use std::sync::{Arc, Wait};
 /// It begins at the table that was published when it was made: where there was none it gives nothing, whatever is put later. It gives no
 /// key twice, and each pair that stands from before it was made until it has ended. A pair that is put or removed meanwhile it may give or
 /// not. It holds no lock between two calls of [`Iter::next`].
+///
+/// ```
+/// Ok(pairs.next()?.is_some())
+/// ```
 #[derive(Drop)]
 pub struct Iter<'m, R, K: Ord, V, A: Allocator = Global> {
     walk: Sweep<K, V, A>,
@@ -173,6 +177,11 @@ impl<'m, R: Wait, K: Ord + Drop, V: Drop, S: KeyHasher<K>, A: Allocator + Copy> 
 }
 
 /// The keys of a shared map, as [`Iter`] gives its pairs.
+///
+/// ```
+/// let key = keys.next()?;
+/// Ok(key.map(|key| *key))
+/// ```
 #[derive(Drop)]
 pub struct Keys<'m, R, K: Ord, V, A: Allocator = Global> {
     pairs: Iter<'m, R, K, V, A>,
@@ -212,6 +221,11 @@ impl<'m, R: Wait, K: Ord + Drop, V: Drop, A: Allocator + Copy> Keys<'m, R, K, V,
 }
 
 /// The values of a shared map, as [`Iter`] gives its pairs.
+///
+/// ```
+/// let value = values.next()?;
+/// Ok(value.map(|value| *value))
+/// ```
 #[derive(Drop)]
 pub struct Values<'m, R, K: Ord, V, A: Allocator = Global> {
     pairs: Iter<'m, R, K, V, A>,

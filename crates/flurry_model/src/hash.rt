@@ -9,6 +9,18 @@ pub use std::hash::DefaultHasher;
 use std::hash::{Hash, Hasher};
 
 /// Gives each key a hash, and equal keys one hash.
+///
+/// ```
+/// impl KeyHasher<u64> for Shifted {
+///     ghost hash_of = { λ s k. (s.0 + k) % 2 ^ 64 };
+///
+///     ghost alike = { λ s x y e. ap (λ (k : ℕ). (s.0 + k) % 2 ^ 64) (same_number x y e) };
+///
+///     fn hash_one(&self, key: &u64) -> u64 {
+///         self.0.wrapping_add(*key)
+///     }
+/// }
+/// ```
 pub trait KeyHasher<K: Ord> {
     // The hash of the key.
     ghost hash_of: { Self → K → ℕ };
@@ -21,6 +33,10 @@ pub trait KeyHasher<K: Ord> {
 }
 
 /// Gives each key the least hash, 0.
+///
+/// ```
+/// SeqMap::with_hasher(alloc, ZeroHashBuilder)
+/// ```
 #[derive(Clone, Copy, Debug, Default)]
 pub struct ZeroHashBuilder;
 
@@ -35,6 +51,10 @@ impl<K: Ord> KeyHasher<K> for ZeroHashBuilder {
 }
 
 /// Gives each key the greatest hash.
+///
+/// ```
+/// SeqMap::with_hasher(alloc, MaxHashBuilder)
+/// ```
 #[derive(Clone, Copy, Debug, Default)]
 pub struct MaxHashBuilder;
 
@@ -51,6 +71,10 @@ impl<K: Ord> KeyHasher<K> for MaxHashBuilder {
 }
 
 /// Gives each key itself.
+///
+/// ```
+/// LowHashBuilder.hash_one(&key)
+/// ```
 #[derive(Clone, Copy, Debug, Default)]
 pub struct LowHashBuilder;
 
@@ -67,6 +91,10 @@ impl KeyHasher<u64> for LowHashBuilder {
 }
 
 /// Gives each key the hash that std's hasher gives it after a seed. It keeps the hasher that was fed the seed.
+///
+/// ```
+/// SeqMap::with_hasher(alloc, DefaultHashBuilder::with_seed(seed))
+/// ```
 #[derive(Clone, Copy)]
 pub struct DefaultHashBuilder {
     seed: u64,

@@ -1,6 +1,16 @@
 //! The reply of a call of one key, with plain keys and values.
 
 /// What a call of one key replied, as it is kept in a history.
+///
+/// ```
+/// match reply {
+///     KeptReply::Value(value) => value,
+///     KeptReply::Pair(pair) => pair.map(|(_, value)| value),
+///     KeptReply::Contains(_) => None,
+///     KeptReply::New(value) => Some(value),
+///     KeptReply::Exists { current, .. } => Some(current),
+/// }
+/// ```
 #[derive(Clone, Copy, Debug, PartialEq, Eq)]
 pub enum KeptReply<K, V> {
     /// A value, or none.

@@ -11,6 +11,13 @@ use std::sync::Arc;
 ///
 /// It prints `Insert of "A" failed as key was already present with value "B"`, where A and B are the debug forms of
 /// `not_inserted` and `current`.
+///
+/// ```
+/// match map.try_insert(key, value)? {
+///     Ok(_) => Ok(None),
+///     Err(error) => Ok(Some((*error.current, error.not_inserted))),
+/// }
+/// ```
 #[derive(Drop)]
 #[derive_where(Debug, PartialEq, Eq; V)]
 pub struct TryInsertError<V, A: Allocator = Global> {

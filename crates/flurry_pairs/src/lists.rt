@@ -8,6 +8,10 @@ use std::alloc::{Allocator, Global};
 /// Pairs of keys and values; in ascending order of their keys, where they were made of a map.
 ///
 /// It is written as a sequence of pairs. What is read may be in any order.
+///
+/// ```
+/// seq_map::to_sorted_pairs(map)
+/// ```
 #[derive(Drop)]
 #[derive_where(Debug, PartialEq, Eq; K, V)]
 pub struct SortedPairs<K, V, A: Allocator = Global>(pub Vec<(K, V), A>);
@@ -43,6 +47,10 @@ impl<K: DeserializeOwned, V: DeserializeOwned> DeserializeOwned for SortedPairs<
 /// Elements; in ascending order, where they were made of a set.
 ///
 /// It is written as a sequence. What is read may be in any order, and may have an element twice.
+///
+/// ```
+/// seq_set::to_sorted_items(set)
+/// ```
 #[derive(Drop)]
 #[derive_where(Debug, PartialEq, Eq; T)]
 pub struct SortedItems<T, A: Allocator = Global>(pub Vec<T, A>);

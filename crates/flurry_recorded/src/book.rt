@@ -18,6 +18,12 @@ use std::marker::Model;
 /// An owned map, the history of its calls, and the numbers of its shares.
 ///
 /// The calls of the history, made one after another on an empty map, give its replies and leave the map. The numbers are those from 0 on.
+///
+/// ```
+/// let mut book = Book::new(alloc, LowHashBuilder);
+/// let (place, _reply) = book.call(KeptCall::Insert(key, value))?;
+/// Ok(place)
+/// ```
 #[derive(Drop)]
 pub struct Book<K: Ord, V, S: KeyHasher<K> = DefaultHashBuilder, A: Allocator = Global> {
     pub(crate) map: SeqMap<K, V, S, A>,

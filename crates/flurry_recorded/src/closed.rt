@@ -10,6 +10,10 @@ use std::error::Error;
 use std::fmt;
 
 /// The map and the history of a recorded map that has ended.
+///
+/// ```
+/// (closed.history.len(), closed.map.len())
+/// ```
 #[derive(Drop)]
 pub struct Closed<K: Ord, V, S: KeyHasher<K> = DefaultHashBuilder, A: Allocator = Global> {
     /// The map, as the calls of the history left it.
@@ -19,6 +23,13 @@ pub struct Closed<K: Ord, V, S: KeyHasher<K> = DefaultHashBuilder, A: Allocator 
 }
 
 /// Why a recorded map and its shares do not fit.
+///
+/// ```
+/// match fault {
+///     CloseFault::SharesDiffer | CloseFault::ReceiptsDiffer | CloseFault::PlacesDiffer => true,
+///     CloseFault::NoMemory => false,
+/// }
+/// ```
 #[derive(Clone, Copy, Debug, PartialEq, Eq)]
 pub enum CloseFault {
     /// A share of the map is missing or comes twice, or a share is none of the map's; or the receipts are not as many as its calls.

@@ -3,6 +3,11 @@
 use flurry_model::reply::KeptReply;
 
 /// A call of one key, as a history keeps it. A call that computes has no place in a history, since its function cannot be kept.
+///
+/// ```
+/// let (place, _reply) = book.call(KeptCall::Insert(key, value))?;
+/// Ok(place)
+/// ```
 #[derive(Clone, Copy, Debug, PartialEq, Eq)]
 pub enum KeptCall<K, V> {
     /// The value of a key.
@@ -22,6 +27,13 @@ pub enum KeptCall<K, V> {
 }
 
 /// A call, and what it replied.
+///
+/// ```
+/// match (entry.call, entry.reply) {
+///     (KeptCall::Insert(_, _), KeptReply::Value(None)) => true,
+///     _ => false,
+/// }
+/// ```
 #[derive(Clone, Copy, Debug, PartialEq, Eq)]
 pub struct KeptEntry<K, V> {
     /// The call.

@@ -8,6 +8,11 @@ use std::alloc::{Allocator, Global};
 use std::marker::Model;
 
 /// What a caller keeps of one call.
+///
+/// ```
+/// let last: &Receipt<u64, u64> = share.receipts().last()?;
+/// Some(last.place)
+/// ```
 #[derive(Clone, Copy, Debug, PartialEq, Eq)]
 pub struct Receipt<K, V> {
     /// The place of the call in the history, from 0 on.
@@ -19,6 +24,11 @@ pub struct Receipt<K, V> {
 }
 
 /// One caller's part in a recorded map: its number, and a receipt of each of its calls, in its order.
+///
+/// ```
+/// map.insert(rt, share, key, value)?;
+/// Ok(())
+/// ```
 #[derive(Drop)]
 pub struct Share<K, V, A: Allocator = Global> {
     number: usize,

@@ -16,6 +16,15 @@ use std::sync::Arc;
 /// The constructors and [`SeqMap::from_list`] make the map that a list of calls begins with, and [`SeqMap::into_bins`] uses up the one
 /// that a list leaves, so none of these is a call on a map. [`SeqMap::allocator`] and [`SeqMap::hasher`] tell nothing of its pairs.
 /// [`SeqMap::insert_shared`] and [`SeqMap::insert_node`] do what `Insert` does. Every other public call of [`SeqMap`] is here.
+///
+/// ```
+/// let mut calls = VecDeque::new(alloc);
+/// calls.push_back(Call::Insert(key, value))?;
+/// calls.push_back(Call::ComputeIfPresent(key, one_more))?;
+/// calls.push_back(Call::Retain(is_even))?;
+/// let replies = map.run(alloc, calls)?;
+/// Ok(replies.len())
+/// ```
 #[derive(Drop)]
 pub enum Call<K: Ord, V, S: KeyHasher<K>, F, P, A: Allocator = Global> {
     /// [`SeqMap::get`].
@@ -65,6 +74,15 @@ pub enum Call<K: Ord, V, S: KeyHasher<K>, F, P, A: Allocator = Global> {
 }
 
 /// What a call replied. It has further owners of what the map lends.
+///
+/// ```
+/// match reply {
+///     Reply::Value(Some(value)) => Some(**value),
+///     Reply::New(value) => Some(**value),
+///     Reply::Exists(error) => Some(*error.current),
+///     _ => None,
+/// }
+/// ```
 #[derive(Drop)]
 pub enum Reply<K: Ord, V, S: KeyHasher<K> = DefaultHashBuilder, A: Allocator = Global> {
     /// A value, or none.

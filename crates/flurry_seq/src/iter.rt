@@ -97,6 +97,12 @@ impl<'a, K: Ord + Drop, V: Drop, A: Allocator> ExactSizeIterator for Entries<'a,
 }
 
 /// The pairs of a map, each once, in an open order. It is seen as the list of the pairs that are left.
+///
+/// ```
+/// let mut pairs: Iter<'_, u64, u64> = map.iter();
+/// let _ = pairs.next();
+/// pairs.len()
+/// ```
 #[derive(Drop)]
 pub struct Iter<'a, K: Ord, V, A: Allocator = Global> {
     entries: Entries<'a, K, V, A>,
@@ -140,6 +146,11 @@ impl<'a, K: Ord + Drop, V: Drop, A: Allocator> ExactSizeIterator for Iter<'a, K,
 }
 
 /// The keys of a map, one of each class, in an open order. It is seen as the list of the keys that are left.
+///
+/// ```
+/// let keys: Keys<'_, u64, u64> = map.keys();
+/// keys.len()
+/// ```
 #[derive(Drop)]
 pub struct Keys<'a, K: Ord, V, A: Allocator = Global> {
     entries: Entries<'a, K, V, A>,
@@ -182,6 +193,15 @@ impl<'a, K: Ord + Drop, V: Drop, A: Allocator> ExactSizeIterator for Keys<'a, K,
 }
 
 /// The values of a map, one of each pair, in an open order. It is seen as the list of the values that are left.
+///
+/// ```
+/// let mut sum = 0u64;
+/// let values: Values<'_, u64, u64> = map.values();
+/// for value in values {
+///     sum = sum.saturating_add(**value);
+/// }
+/// sum
+/// ```
 #[derive(Drop)]
 pub struct Values<'a, K: Ord, V, A: Allocator = Global> {
     entries: Entries<'a, K, V, A>,

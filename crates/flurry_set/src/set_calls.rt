@@ -14,6 +14,15 @@ use std::sync::Arc;
 /// The constructors and [`SeqSet::from_list`] make the set that a list of calls begins with, so none of these is a call on a set.
 /// [`SeqSet::allocator`] and [`SeqSet::hasher`] tell nothing of its elements. [`SeqSet::insert_node`] does what `Insert` does, and
 /// [`SeqSet::get_or_insert`] what `Get` and `Insert` do. Every other public call of [`SeqSet`] is here.
+///
+/// ```
+/// let mut calls = VecDeque::new(alloc);
+/// calls.push_back(SetCall::Insert(x))?;
+/// calls.push_back(SetCall::Contains(x))?;
+/// calls.push_back(SetCall::Retain(is_small))?;
+/// let replies = set.run(alloc, calls)?;
+/// Ok(replies.len())
+/// ```
 #[derive(Drop)]
 pub enum SetCall<T: Ord, S: KeyHasher<T>, P, A: Allocator = Global> {
     /// [`SeqSet::contains`].
@@ -53,6 +62,14 @@ pub enum SetCall<T: Ord, S: KeyHasher<T>, P, A: Allocator = Global> {
 }
 
 /// What a call replied. It has further owners of what the set lends.
+///
+/// ```
+/// match reply {
+///     SetReply::Truth(truth) => *truth,
+///     SetReply::Element(element) => element.is_some(),
+///     _ => false,
+/// }
+/// ```
 #[derive(Drop)]
 pub enum SetReply<T: Ord, S: KeyHasher<T> = DefaultHashBuilder, A: Allocator = Global> {
     /// A stored element, or none.

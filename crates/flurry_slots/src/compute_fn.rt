@@ -5,6 +5,18 @@ ghost use Rattle.flurry_slots.specs.ComputeFn.{AnswersAtPair};
 /// A call on a key and its value that answers the new value, or none to take the pair out.
 ///
 /// Each `FnOnce(&K, &V) -> Option<V>` that may be dropped is one.
+///
+/// ```
+/// impl ComputeFn<u64, u64> for AtMost {
+///     ghost can_change = { λ _. Unit {0} };
+///
+///     ghost changes = { λ f _ v r. r ≡ Some (min v f.0) };
+///
+///     fn change(self, _key: &u64, value: &u64) -> Option<u64> {
+///         Some((*value).min(self.0))
+///     }
+/// }
+/// ```
 pub trait ComputeFn<K, V>: Drop {
     // That it may be called.
     ghost can_change: { Self → Type 0 };
@@ -29,6 +41,10 @@ impl<K, V, F: FnOnce(&K, &V) -> Option<V> + Drop> ComputeFn<K, V> for F {
 }
 
 /// Stands for the function of a call that has none; it takes the pair out.
+///
+/// ```
+/// let call: OwnedCall<u64, u64, NoFn> = OwnedCall::Insert(key, value);
+/// ```
 #[derive(Clone, Copy, Debug)]
 pub struct NoFn;
 

@@ -20,7 +20,7 @@ use std::alloc::{AllocError, Allocator, Global};
 use std::marker::Model;
 use std::mem;
 
-/// What a step at a slot answers.
+/// What a step at a slot answers. The example of [`Slot`] reads one.
 #[derive(Drop)]
 pub enum Answer<T, B> {
     /// The bin is live: the step was done there, and answered this.
@@ -32,6 +32,14 @@ pub enum Answer<T, B> {
 }
 
 /// The note that the bin of a slot was moved. [`Slot::move_into`] alone makes it, and it can't be cloned.
+///
+/// ```
+/// match slot.move_into(low, high) {
+///     MoveAnswer::Done(receipt) => Some(receipt.at()),
+///     MoveAnswer::Already(receipt) => Some(receipt.at()),
+///     MoveAnswer::Clash => None,
+/// }
+/// ```
 #[derive(Drop)]
 pub struct Receipt {
     at: (u8, usize),
@@ -61,7 +69,7 @@ fn receipts_can_be_cloned() -> bool
     Cloning::<Receipt>::is_there()
 }
 
-/// What [`Slot::move_into`] answers.
+/// What [`Slot::move_into`] answers. The example of [`Receipt`] reads one.
 #[derive(Drop)]
 pub enum MoveAnswer {
     /// The bin was moved.
@@ -83,6 +91,13 @@ enum State {
 ///
 /// A value that is written bears the count after it, its write number. The count goes with a bin that moves, and stays at
 /// `u64::MAX`.
+///
+/// ```
+/// match slot.next_after(None) {
+///     Answer::Here(entry) => entry.map(|entry| *entry.value),
+///     Answer::Moved(()) | Answer::Unborn(()) => None,
+/// }
+/// ```
 #[derive(Drop)]
 pub struct Slot<K: Ord, V, A: Allocator = Global> {
     // An index is below 2^30. In 32 bits it shares a word with the two bytes before it, so that a slot under its lock is as large as

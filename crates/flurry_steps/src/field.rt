@@ -11,6 +11,10 @@ use std::alloc::Allocator;
 
 /// Lends the part of a map that a call wants to exactly one step of that call, and answers what the step was. A part that is not there,
 /// or a slot that stands elsewhere, is not lent; the answer is then none, and the call and the field are as they were.
+///
+/// ```
+/// act(party, field)
+/// ```
 pub trait Field<K: Ord + Drop, V: Drop, A: Allocator + Copy> {
     /// Where the control makes tables.
     type Room: Room;

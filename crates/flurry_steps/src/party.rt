@@ -41,6 +41,13 @@ use std::marker::Model;
 ///
 /// It goes on by its steps alone, each of which takes the part that [`Party::want`] names. A look-up makes at most 32 steps where no bin
 /// that it meets is unborn: one at the control, and one in each of 31 tables.
+///
+/// ```
+/// let party: Party<'_, u64, u64, F> = Party::from_owned(OwnedCall::Get(key), key, 1);
+/// let want = party.want();
+/// drop(party);
+/// want
+/// ```
 #[derive(Drop)]
 pub struct Party<'k, K, V, F: ComputeFn<K, V>, A: Allocator = Global> {
     course: Course<'k, K, V, F, A>,

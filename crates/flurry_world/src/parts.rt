@@ -14,6 +14,14 @@ use std::alloc::{AllocError, Allocator, Global};
 use std::marker::Model;
 
 /// The control and the tables of a map, of one owner, who lends each of them to the steps of calls.
+///
+/// ```
+/// let call: OwnedCall<u64, u64, NoFn> = OwnedCall::Insert(key, value);
+/// match drive_alone(rt, call, &LowHashBuilder, 1, parts) {
+///     Reply::Value(_) => true,
+///     _ => false,
+/// }
+/// ```
 #[derive(Drop)]
 pub struct Parts<K: Ord, V, A: Allocator = Global> {
     alloc: A,

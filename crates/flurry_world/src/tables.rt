@@ -19,6 +19,12 @@ use std::marker::Model;
 use std::mem;
 
 /// The tables of a map, by their exponents: the table of exponent e has `2^e` slots, and a table that was not made has none.
+///
+/// ```
+/// let mut tables: Tables<u64, u64, Global> = Tables::new(alloc)?;
+/// tables.place(4, true)?;
+/// Ok(tables.has(4, index))
+/// ```
 #[derive(Drop)]
 pub struct Tables<K: Ord, V, A: Allocator> {
     tables: Vec<Vec<Slot<K, V, A>, A>, A>,

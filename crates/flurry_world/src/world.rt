@@ -24,6 +24,13 @@ use std::alloc::{AllocError, Allocator, Global};
 use std::marker::Model;
 
 /// One step of a list that a world runs.
+///
+/// ```
+/// let mut steps = Vec::new(alloc);
+/// steps.push(Step::Begin(OwnedCall::Insert(7, 70)))?;
+/// steps.push(Step::Step(0))?;
+/// world.run(steps)
+/// ```
 #[derive(Clone, Copy, Debug)]
 pub enum Step<K, V, F> {
     /// A call begins.

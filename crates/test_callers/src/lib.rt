@@ -1,5 +1,5 @@
 //! What a caller of the maps and sets gets with no proof file, but for `retain`: where a function wants laws, its attribute names them.
-//! The examples in the doc comments of the library are bodies of functions that stand here.
+//! The examples in the doc comments of the library are bodies of functions that stand here, or impls.
 #![tactic(auto)]
 
 ghost use Rattle.std.specs.Prelude.{◌≡◌, ◌≢◌, ◌+◌, ◌≤◌, ℕ, [], ◌∷◌, length, Some, None, OnOk, IfOk, is_some, String, string_bytes};
@@ -9,11 +9,17 @@ ghost use Rattle.std.specs.String.{string_cmp};
 ghost use Rattle.flurry.specs.FiniteMap.{value_at};
 ghost use Rattle.flurry.specs.FiniteSet.{element_at};
 
+pub mod bins;
+pub mod calls;
+pub mod hashers;
+pub mod iterators;
 pub mod pairs;
 pub mod par;
 pub mod recorded;
 pub mod retain;
 pub mod shared;
+pub mod steps;
+pub mod walks;
 pub mod world;
 
 use flurry::{SeqMap, SeqSet};

@@ -1,11 +1,13 @@
 //! Callers of the recorded map.
-ghost use Rattle.std.specs.Prelude.{◌≡◌, ◌+◌, [], length, IfOk, OnOk, OnErr};
+ghost use Rattle.std.specs.Prelude.{◌≡◌, ◌≢◌, ◌+◌, ℕ, [], length, true, false, None, IfOk, OnOk, OnErr};
 ghost use Rattle.std.specs.Ordering.{nat_cmp};
 ghost use Rattle.flurry.specs.Closing.{PlacesStand, all_receipts};
 ghost use Rattle.flurry.specs.Histories.{Replays};
 
 use flurry::hash::LowHashBuilder;
-use flurry::recorded::{CloseFault, Closed, KeptReply, Recorded, Share};
+use flurry::recorded::{
+    Book, CloseFault, Closed, KeptCall, KeptEntry, KeptReply, Receipt, Recorded, Share,
+};
 use std::alloc::{AllocError, Global};
 use std::sync::Wait;
 
@@ -66,4 +68,48 @@ pub fn session<R: Wait>(rt: &R, alloc: Global) -> Result<bool, AllocError> {
     let mut shares = Vec::new(alloc);
     shares.push(share)?;
     Ok(map.close(shares).is_ok())
+}
+
+/// The place of a caller's last call in the history, if it has made one.
+pub fn last_place(share: &Share<u64, u64>) -> Option<usize>
+    ensures { share.now.receipts ≡ [] → result ≡ None }
+{
+    let last: &Receipt<u64, u64> = share.receipts().last()?;
+    Some(last.place)
+}
+
+/// The number of calls in a history, and of pairs in the map that they left.
+pub fn sizes(closed: &Closed<u64, u64, LowHashBuilder>) -> (usize, usize)
+    ensures { result ≡ (length closed.now.history.items, length closed.now.map.pairs) }
+{
+    (closed.history.len(), closed.map.len())
+}
+
+/// Whether a fault says that the shares are damaged.
+pub fn is_damage(fault: CloseFault) -> bool
+    ensures { result ≡ true → fault ≢ CloseFault.NoMemory }
+{
+    match fault {
+        CloseFault::SharesDiffer | CloseFault::ReceiptsDiffer | CloseFault::PlacesDiffer => true,
+        CloseFault::NoMemory => false,
+    }
+}
+
+/// Whether an entry of a history is an insertion of a new key.
+pub fn is_new_key(entry: &KeptEntry<u64, u64>) -> bool
+    ensures { (k : ℕ) → entry.now.call ≡ KeptCall.Get k → result ≡ false }
+{
+    match (entry.call, entry.reply) {
+        (KeptCall::Insert(_, _), KeptReply::Value(None)) => true,
+        _ => false,
+    }
+}
+
+/// The place of the first call of a book.
+pub fn first_in_book(alloc: Global, key: u64, value: u64) -> Result<usize, AllocError>
+    ensures { IfOk result (λ place. place ≡ 0) }
+{
+    let mut book = Book::new(alloc, LowHashBuilder);
+    let (place, _reply) = book.call(KeptCall::Insert(key, value))?;
+    Ok(place)
 }

@@ -1,8 +1,15 @@
 //! Callers of a world, whose calls are done step by step.
+ghost use Rattle.std.specs.Prelude.{OnOk};
+ghost use Rattle.std.specs.Ordering.{nat_cmp};
+ghost use Rattle.flurry.specs.Lawful.{IsLawful};
 
-use flurry::hash::LowHashBuilder;
-use flurry::world::{ComputeFn, OwnedCall, World};
+use flurry::hash::{KeyHasher, LowHashBuilder};
+use flurry::steps::control::Room;
+use flurry::steps::party::{Event, Reply};
+use flurry::steps::{Field, Party, act};
+use flurry::world::{ComputeFn, NoFn, OwnedCall, Parts, Step, Tables, World, drive_alone};
 use std::alloc::{AllocError, Global};
+use std::sync::Wait;
 
 /// One insertion, and how many labels its steps have.
 pub fn insert_alone<F: ComputeFn<u64, u64> + Copy>(
@@ -21,4 +28,41 @@ pub fn insert_alone<F: ComputeFn<u64, u64> + Copy>(
         world.step(party)?;
     }
     Ok(world.trace().len())
+}
+
+/// A list of steps, whose labels are lawful.
+pub fn run_steps<F: ComputeFn<u64, u64> + Copy, S: KeyHasher<u64> + Drop>(
+    alloc: Global,
+    world: &mut World<'_, u64, u64, F, S>,
+) -> Result<(), AllocError>
+    ensures { OnOk result (IsLawful nat_cmp (S.hash_of world.old.hasher) F.changes world.new) }
+{
+    let mut steps = Vec::new(alloc);
+    steps.push(Step::Begin(OwnedCall::Insert(7, 70)))?;
+    steps.push(Step::Step(0))?;
+    world.run(steps)
+}
+
+/// Whether a table that is made has a slot of an index.
+pub fn has_slot(alloc: Global, index: usize) -> Result<bool, AllocError> {
+    let mut tables: Tables<u64, u64, Global> = Tables::new(alloc)?;
+    tables.place(4, true)?;
+    Ok(tables.has(4, index))
+}
+
+/// A call over parts of one owner, and whether it was done.
+pub fn insert_driven<R: Wait>(rt: &R, parts: &mut Parts<u64, u64>, key: u64, value: u64) -> bool {
+    let call: OwnedCall<u64, u64, NoFn> = OwnedCall::Insert(key, value);
+    match drive_alone(rt, call, &LowHashBuilder, 1, parts) {
+        Reply::Value(_) => true,
+        _ => false,
+    }
+}
+
+/// The next step of a call, over whatever lends it the parts of its map.
+pub fn next_step<F: ComputeFn<u64, u64>, X: Field<u64, u64, Global>>(
+    party: &mut Party<'_, u64, u64, F>,
+    field: &mut X,
+) -> Option<Event> {
+    act(party, field)
 }

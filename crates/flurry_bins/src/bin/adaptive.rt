@@ -26,6 +26,14 @@ use std::mem;
 use std::sync::Arc;
 
 /// Which kind of bin a [`Bin`] is, and how many entries it has.
+///
+/// ```
+/// match map.shape_of(hash) {
+///     Shape::Empty => 0,
+///     Shape::List(count) => count,
+///     Shape::Tree(count) => count,
+/// }
+/// ```
 #[derive(Clone, Copy, Debug, PartialEq, Eq)]
 pub enum Shape {
     /// A list with no entry.
@@ -53,6 +61,12 @@ enum Kind<K: Ord, V, A: Allocator = Global> {
 /// - A tree that a removal leaves with six nodes becomes a list.
 /// - The halves of a list are lists. A half of a tree is a tree if it has at least seven nodes, and a list else.
 /// - A list that is taken over becomes a tree if it has more than nine nodes.
+///
+/// ```
+/// let mut bin = Bin::new();
+/// bin.put_node(Node::of_pair(alloc, hash, key, value, 0)?);
+/// Ok(bin.len())
+/// ```
 #[derive(Drop)]
 pub struct Bin<K: Ord, V, A: Allocator = Global> {
     kind: Kind<K, V, A>,

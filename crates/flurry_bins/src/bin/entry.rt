@@ -7,6 +7,11 @@ use std::cmp::Ordering;
 use std::sync::Arc;
 
 /// A hash, a key and a value, which other holders may share, and the write number of the value.
+///
+/// ```
+/// let Entry { value, .. } = Box::into_inner(node).into_entry();
+/// Ok(*value)
+/// ```
 #[derive(Drop)]
 pub struct Entry<K, V, A: Allocator = Global> {
     /// The hash of the key.

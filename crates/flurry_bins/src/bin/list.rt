@@ -21,6 +21,11 @@ use std::sync::Arc;
 /// The entries of a bin as a chain of nodes. It suits a few entries: a look-up visits each node before its place.
 ///
 /// A drop walks the chain, so a long one does not run out of stack.
+///
+/// ```
+/// let mut list = ListBin::new();
+/// list.put_node(Node::of_pair(alloc, hash, key, value, 0)?);
+/// ```
 pub struct ListBin<K: Ord, V, A: Allocator = Global> {
     pub(crate) head: Link<K, V, A>,
     len: usize,

@@ -26,6 +26,12 @@ pub type BoxedNode<K, V, A = Global> = Box<Node<K, V, A>, A>;
 pub(crate) type Link<K, V, A> = Option<Box<Node<K, V, A>, A>>;
 
 /// An entry in a box of its own, linked into at most one bin.
+///
+/// ```
+/// let node = Node::of_pair(alloc, hash, key, value, 0)?;
+/// let Entry { value, .. } = Box::into_inner(node).into_entry();
+/// Ok(*value)
+/// ```
 #[derive(Drop)]
 pub struct Node<K, V, A: Allocator = Global> {
     // What a walk along a list reads stands first, in the order of the memory.

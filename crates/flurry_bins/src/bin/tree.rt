@@ -25,6 +25,11 @@ use std::sync::Arc;
 /// binary digits.
 ///
 /// Its calls recurse along the height alone.
+///
+/// ```
+/// let tree = TreeBin::from_list(list);
+/// Ok(tree.len())
+/// ```
 #[derive(Drop)]
 pub struct TreeBin<K: Ord, V, A: Allocator = Global> {
     pub(crate) root: Link<K, V, A>,

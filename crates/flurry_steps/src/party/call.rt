@@ -36,6 +36,13 @@ pub enum Call<'k, K, V, F, A: Allocator = Global> {
 }
 
 /// A call of a shared map that has its key, as a list of calls keeps it.
+///
+/// ```
+/// let party = world.begin(OwnedCall::Insert(key, value))?;
+/// for _ in 0..4u32 {
+///     world.step(party)?;
+/// }
+/// ```
 #[derive(Clone, Copy, Debug)]
 pub enum OwnedCall<K, V, F> {
     /// [`Call::Get`].

@@ -1,0 +1,59 @@
+//! Callers that choose how keys are hashed.
+ghost use Rattle.std.specs.Prelude.{◌≡◌, ℕ, ◌+◌, ◌%◌, ◌^◌, []};
+ghost use Rattle.std.proofs.Common.{ap};
+ghost use Rattle.flurry.specs.Hashing.{same_number, seed_of};
+
+use flurry::SeqMap;
+use flurry::hash::{
+    DefaultHashBuilder, KeyHasher, LowHashBuilder, MaxHashBuilder, ZeroHashBuilder,
+};
+use std::alloc::Global;
+
+/// Gives each key its sum with a number.
+#[derive(Clone, Copy, Debug, Default)]
+pub struct Shifted(pub u64);
+
+impl KeyHasher<u64> for Shifted {
+    ghost hash_of = { λ s k. (s.0 + k) % 2 ^ 64 };
+
+    ghost alike = { λ s x y e. ap (λ (k : ℕ). (s.0 + k) % 2 ^ 64) (same_number x y e) };
+
+    fn hash_one(&self, key: &u64) -> u64 {
+        self.0.wrapping_add(*key)
+    }
+}
+
+/// A map over a hasher of one's own.
+pub fn with_shift(alloc: Global, shift: u64) -> SeqMap<u64, u64, Shifted>
+    ensures { result.pairs ≡ [] }
+{
+    SeqMap::with_hasher(alloc, Shifted(shift))
+}
+
+/// A map in which all keys have the least hash.
+pub fn with_least_hash(alloc: Global) -> SeqMap<u64, u64, ZeroHashBuilder>
+    ensures { result.pairs ≡ [] }
+{
+    SeqMap::with_hasher(alloc, ZeroHashBuilder)
+}
+
+/// A map in which all keys have the greatest hash.
+pub fn with_greatest_hash(alloc: Global) -> SeqMap<u64, u64, MaxHashBuilder>
+    ensures { result.pairs ≡ [] }
+{
+    SeqMap::with_hasher(alloc, MaxHashBuilder)
+}
+
+/// The hash of a number that is its own hash.
+pub fn own_hash(key: u64) -> u64
+    ensures { result ≡ key }
+{
+    LowHashBuilder.hash_one(&key)
+}
+
+/// A map whose hashes hang on a seed.
+pub fn with_seed(alloc: Global, seed: u64) -> SeqMap<u64, u64>
+    ensures { seed_of result.hasher ≡ seed }
+{
+    SeqMap::with_hasher(alloc, DefaultHashBuilder::with_seed(seed))
+}
