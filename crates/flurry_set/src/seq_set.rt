@@ -285,6 +285,10 @@ impl<T: Ord + Drop, S: KeyHasher<T>, A: Allocator + Copy> SeqSet<T, S, A> {
     /// answered is a further owner of it. An element that is stored stays, and the one that was handed in is dropped. A new element may
     /// make the table larger, as of [`SeqMap::insert`].
     ///
+    /// ```
+    /// Ok(*set.get_or_insert(x)?)
+    /// ```
+    ///
     /// # Errors
     ///
     /// [`AllocError`], where a further owner, or memory for a new element or for a first table is wanting, or where the set has

@@ -148,6 +148,13 @@ pub fn put_element(set: &mut SeqSet<u64>, x: u64) -> Result<(), AllocError>
     Ok(())
 }
 
+/// The stored one of equal elements.
+pub fn keep_one(set: &mut SeqSet<u64>, x: u64) -> Result<u64, AllocError>
+    ensures { IfOk result (λ r. element_at nat_cmp set.new.elements x ≡ Some r) }
+{
+    Ok(*set.get_or_insert(x)?)
+}
+
 /// A value that is there is found, and others were not asked for.
 #[tactic(auto, using(flurry::proofs::CallerLaws::map_calls))]
 pub fn get_or_put(map: &mut Map, key: u64, value: u64) -> Result<u64, AllocError>
