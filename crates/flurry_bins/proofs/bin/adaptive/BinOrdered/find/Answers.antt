@@ -1,4 +1,4 @@
-use Rattle.std.proofs.Common.{◌≡◌, ◌≤◌, ℕ, List, [], ◌∷◌, length, true, false, cond, Ordering, refl, ap, ◌∙◌, arith}
+use Rattle.std.proofs.Common.{◌≡◌, ◌≤◌, ℕ, [], ◌∷◌, length, true, false, cond, Ordering, refl, ap, ◌∙◌, arith}
 use Rattle.flurry_model.proofs.ListParts.{sorted_cons, sorted_nil}
 use Rattle.flurry_bins.specs.declared.bin.entry.Entry.{Entry}
 use Rattle.flurry_bins.specs.Chain.{node_chain, entry_of}
