@@ -6,6 +6,13 @@ use std::alloc::AllocError;
 use thiserror::Error;
 
 /// Why [`crate::map::from_pairs`] makes no map.
+///
+/// ```
+/// match seq_map::from_pairs(list, DefaultHashBuilder::default()) {
+///     Err(FromPairsError::DoubledKey(position)) => Some(position),
+///     _ => None,
+/// }
+/// ```
 #[derive(Clone, Copy, Debug, PartialEq, Eq, Error)]
 pub enum FromPairsError {
     /// Memory is wanting.

@@ -1,7 +1,8 @@
 //! Callers of sorted pairs.
-ghost use Rattle.std.specs.Prelude.{◌≡◌, IfOk, IsPermutation};
+ghost use Rattle.std.specs.Prelude.{◌≡◌, IfOk, IfSome, IsPermutation};
 ghost use Rattle.std.specs.Ordering.{nat_cmp};
 ghost use Rattle.flurry.specs.Apart.{AreApart};
+ghost use Rattle.flurry.specs.Doubles.{IsFirstDouble};
 ghost use Rattle.flurry.specs.FiniteMap.{IsFiniteMap};
 
 use flurry::hash::DefaultHashBuilder;
@@ -39,4 +40,14 @@ pub fn copy(map: &Map) -> Result<Map, FromPairsError>
     ensures { IfOk result (λ m. IsPermutation map.now.pairs m.pairs) }
 {
     load(save(map)?)
+}
+
+/// The first position whose key stood before, where that is why no map is made of a list.
+pub fn first_doubled(list: SortedPairs<u64, u64>) -> Option<usize>
+    ensures { IfSome result (λ position. IsFirstDouble nat_cmp list.0.items position) }
+{
+    match seq_map::from_pairs(list, DefaultHashBuilder::default()) {
+        Err(FromPairsError::DoubledKey(position)) => Some(position),
+        _ => None,
+    }
 }
