@@ -1,4 +1,4 @@
-//! What a caller of the maps and sets gets with no proof file, but for `retain`: where a function wants laws, its attribute names them.
+//! What a caller of the maps and sets gets with no proof file: where a function wants laws, its attribute names them.
 //! The examples in the doc comments of the library are bodies of functions that stand here, or impls.
 #![tactic(auto)]
 
@@ -16,7 +16,6 @@ pub mod iterators;
 pub mod pairs;
 pub mod par;
 pub mod recorded;
-pub mod retain;
 pub mod shared;
 pub mod steps;
 pub mod walks;

@@ -1,4 +1,6 @@
 //! What a caller says of `retain`, where its function is a test of the key and the value. It wants one answer, which names the test.
+#![tactic(auto)]
+
 ghost use Rattle.std.specs.Prelude.{◌≡◌, ltb};
 ghost use Rattle.std.specs.List.{filter};
 
