@@ -33,7 +33,7 @@ pub fn tree_of_one(alloc: Global, hash: u64, key: u64, value: u64) -> Result<usi
     Ok(tree.len())
 }
 
-/// The first value at a slot whose bin is live, if it has one.
+/// The first value at a slot whose bin is live, if it has one. An example alone.
 pub fn first_at(slot: &Slot<u64, u64>) -> Option<u64> {
     match slot.next_after(None) {
         Answer::Here(entry) => entry.map(|entry| *entry.value),

@@ -73,7 +73,7 @@ pub fn run_calls(alloc: Global, map: &mut Map, key: u64, value: u64) -> Result<u
     Ok(replies.len())
 }
 
-/// The value that a reply has, if it has one.
+/// The value that a reply has, if it has one. An example alone.
 pub fn value_of(reply: &Reply<u64, u64>) -> Option<u64> {
     match reply {
         Reply::Value(Some(value)) => Some(**value),
@@ -100,7 +100,7 @@ pub fn run_set_calls(alloc: Global, set: &mut SeqSet<u64>, x: u64) -> Result<usi
     Ok(replies.len())
 }
 
-/// Whether a reply says yes, or has an element.
+/// Whether a reply says yes, or has an element. An example alone.
 pub fn says_yes(reply: &SetReply<u64>) -> bool {
     match reply {
         SetReply::Truth(truth) => *truth,
