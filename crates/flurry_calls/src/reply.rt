@@ -5,6 +5,13 @@ use std::alloc::{Allocator, Global};
 use std::sync::Arc;
 
 /// What a call of a shared map answers.
+///
+/// ```
+/// match drive_alone(rt, call, &LowHashBuilder, 1, parts) {
+///     Reply::Value(_) => true,
+///     _ => false,
+/// }
+/// ```
 #[derive(Drop)]
 pub enum Reply<K, V, A: Allocator = Global> {
     /// A value, or none: of `Get`, `Remove` and `RemoveSeen` the one that stands or stood there, of `Insert` the one before, of `Compute`

@@ -1,6 +1,15 @@
 //! What a call needs for its next step, and what a step was.
 
 /// The part of a shared map that the next step of a call needs.
+///
+/// ```
+/// match want {
+///     Want::Look(table, index) | Want::Bin(table, index) | Want::Move(table, index) => {
+///         Some((table, index))
+///     }
+///     Want::Control | Want::Done => None,
+/// }
+/// ```
 #[derive(Clone, Copy, Debug, PartialEq, Eq)]
 pub enum Want {
     /// The control, and the room where tables are made.
@@ -16,6 +25,13 @@ pub enum Want {
 }
 
 /// What a step of a call was.
+///
+/// ```
+/// match event {
+///     Event::Opened(table) | Event::Published(table) => Some(table),
+///     _ => None,
+/// }
+/// ```
 #[derive(Clone, Copy, Debug, PartialEq, Eq)]
 pub enum Event {
     /// A call of one key decided: it has its reply, and changed the map.

@@ -24,6 +24,13 @@ pub fn wanted_table(pairs: usize) -> u8
 }
 
 /// What a caller is to do once it has counted.
+///
+/// ```
+/// match control.count(1) {
+///     Advice::Enough => false,
+///     Advice::Join | Advice::Begin => true,
+/// }
+/// ```
 #[derive(Clone, Copy, Debug, PartialEq, Eq)]
 pub enum Advice {
     /// Nothing more.
@@ -35,6 +42,13 @@ pub enum Advice {
 }
 
 /// How a call of [`Control::begin`] ended.
+///
+/// ```
+/// match control.begin(table, &mut Counted(0)) {
+///     BeginOutcome::Begun => true,
+///     BeginOutcome::Refused | BeginOutcome::Busy => false,
+/// }
+/// ```
 #[derive(Clone, Copy, Debug, PartialEq, Eq)]
 pub enum BeginOutcome {
     /// The growth has begun.

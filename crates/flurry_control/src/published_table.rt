@@ -8,6 +8,11 @@ use std::marker::Model;
 ///
 /// It may be kept outside the control, and be behind it: a call may begin at any table that was once published, since bins of older
 /// tables have moved and lead on.
+///
+/// ```
+/// let start: PublishedTable = control.start()?;
+/// Some(start.table())
+/// ```
 #[derive(Drop)]
 pub struct PublishedTable {
     table: u8,

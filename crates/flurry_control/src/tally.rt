@@ -8,6 +8,13 @@ use std::marker::Model;
 ///
 /// Whoever has pairs to count counts them here in the control's place, and the control that collects the tally empties it. So what waits
 /// at the tallies of a map and what its control has counted is, together, what the control would have counted alone.
+///
+/// ```
+/// let mut tally = Tally::new();
+/// tally.count(1);
+/// control.collect(&mut tally);
+/// control.len()
+/// ```
 #[derive(Drop)]
 pub struct Tally {
     count: i64,

@@ -18,6 +18,11 @@ use std::sync::{Mutex, RwLock, Wait};
 ///
 /// A step that moves a bin holds the lock of the bin, then that of its low half, then that of its high half. A call begins at the
 /// table that was published last, as far as that is known without the control's lock.
+///
+/// ```
+/// let lender = Lender::new(rt, locks);
+/// lender.newest().map(|start| start.table())
+/// ```
 #[derive(Drop)]
 pub struct Lender<'m, R, K: Ord, V, A: Allocator = Global> {
     rt: &'m R,

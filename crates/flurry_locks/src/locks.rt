@@ -13,6 +13,14 @@ use std::alloc::{AllocError, Allocator, Global};
 ///
 /// What each lock keeps is what the type of its part keeps: the ranges of a control, and the order, the region and the sizes of a
 /// slot's bin. A [`Lender`](crate::Lender) takes them.
+///
+/// ```
+/// let locks: Locks<u64, u64, Global> = Locks::new(rt.alloc());
+///
+/// put_in_threads(&rt, &locks, 500);
+///
+/// assert_eq!(rt; Lender::new(&rt, &locks).len(), 2000);
+/// ```
 #[derive(Drop)]
 pub struct Locks<K: Ord, V, A: Allocator = Global> {
     pub(crate) tables: Tables<K, V, A>,

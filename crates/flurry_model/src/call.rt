@@ -1,6 +1,14 @@
 //! Calls of a map as plain values.
 
 /// What a walk's read knows of a pair.
+///
+/// ```
+/// match call {
+///     Call::Insert(_, value) | Call::TryInsert(_, value) => Some(value),
+///     Call::RemoveSeen(Seen { value, .. }) => Some(value),
+///     _ => None,
+/// }
+/// ```
 #[derive(Clone, Copy, Debug)]
 pub struct Seen<K, V> {
     /// The stored key.
@@ -12,6 +20,14 @@ pub struct Seen<K, V> {
 }
 
 /// A call, with its key and value.
+///
+/// ```
+/// match call {
+///     Call::Insert(_, value) | Call::TryInsert(_, value) => Some(value),
+///     Call::RemoveSeen(Seen { value, .. }) => Some(value),
+///     _ => None,
+/// }
+/// ```
 #[derive(Clone, Copy, Debug)]
 pub enum Call<K, V, F> {
     /// The value of a key.

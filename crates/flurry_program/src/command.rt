@@ -1,6 +1,14 @@
 //! What a line may ask for.
 
 /// A line, as a command on the map.
+///
+/// ```
+/// match parse(line)? {
+///     Command::Insert(key, _) | Command::Try(key, _) => Some(key),
+///     Command::Get(key) | Command::Remove(key) => Some(key),
+///     Command::Len | Command::Bins => None,
+/// }
+/// ```
 #[derive(Clone, Copy, Debug, PartialEq, Eq)]
 pub enum Command {
     /// `insert K V`

@@ -9,6 +9,13 @@ use crate::parse::{number, strip, two_numbers};
 const MOST_STEPS: u64 = 100_000;
 
 /// A line of a schedule.
+///
+/// ```
+/// match parse_line(line)? {
+///     Line::Step(_, steps) => Some(steps),
+///     _ => None,
+/// }
+/// ```
 #[derive(Clone, Copy, Debug, PartialEq, Eq)]
 pub enum Line {
     /// `world P C`

@@ -7,6 +7,10 @@ ghost use Rattle.std.specs.Prelude.{◌≡◌, true, false};
 use std::marker::PhantomData;
 
 /// A type that is asked about.
+///
+/// ```
+/// Cloning::<u64>::is_there()
+/// ```
 pub struct Cloning<T> {
     of: PhantomData<T>,
 }
@@ -21,6 +25,10 @@ impl<T: Clone> Cloning<T> {
 }
 
 /// What is answered of a type that is not `Clone`.
+///
+/// ```
+/// Cloning::<Receipt>::is_there()
+/// ```
 pub trait NoCloning {
     /// The values of the type cannot be cloned.
     fn is_there() -> bool

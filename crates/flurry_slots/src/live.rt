@@ -19,6 +19,13 @@ use std::marker::Model;
 use std::sync::Arc;
 
 /// What a write did.
+///
+/// ```
+/// match answer {
+///     Answer::Here(written) => written.old.map(|old| *old),
+///     Answer::Moved(_) | Answer::Unborn(_) => None,
+/// }
+/// ```
 #[derive(Drop)]
 pub struct Written<V, A: Allocator> {
     /// The value that stood before, or none where the key is new.
@@ -28,6 +35,14 @@ pub struct Written<V, A: Allocator> {
 }
 
 /// What an addition did.
+///
+/// ```
+/// match answer {
+///     Answer::Here(Ok(added)) => Some(*added.value),
+///     Answer::Here(Err(error)) => Some(*error.current),
+///     Answer::Moved(_) | Answer::Unborn(_) => None,
+/// }
+/// ```
 #[derive(Drop)]
 pub struct Added<V, A: Allocator> {
     /// The new value.
@@ -37,6 +52,13 @@ pub struct Added<V, A: Allocator> {
 }
 
 /// What a computation did.
+///
+/// ```
+/// match answer {
+///     Answer::Here(Computed::Changed(value)) => Some(*value),
+///     _ => None,
+/// }
+/// ```
 #[derive(Drop)]
 pub enum Computed<V, F, A: Allocator> {
     /// The key is absent; the function was not called, and comes back.

@@ -20,7 +20,14 @@ use std::alloc::{AllocError, Allocator, Global};
 use std::marker::Model;
 use std::mem;
 
-/// What a step at a slot answers. The example of [`Slot`] reads one.
+/// What a step at a slot answers.
+///
+/// ```
+/// match answer {
+///     Answer::Here(written) => written.old.map(|old| *old),
+///     Answer::Moved(_) | Answer::Unborn(_) => None,
+/// }
+/// ```
 #[derive(Drop)]
 pub enum Answer<T, B> {
     /// The bin is live: the step was done there, and answered this.
@@ -69,7 +76,14 @@ fn receipts_can_be_cloned() -> bool
     Cloning::<Receipt>::is_there()
 }
 
-/// What [`Slot::move_into`] answers. The example of [`Receipt`] reads one.
+/// What [`Slot::move_into`] answers.
+///
+/// ```
+/// match slot.move_into(low, high) {
+///     MoveAnswer::Done(_) | MoveAnswer::Already(_) => true,
+///     MoveAnswer::Clash => false,
+/// }
+/// ```
 #[derive(Drop)]
 pub enum MoveAnswer {
     /// The bin was moved.

@@ -14,6 +14,13 @@ use flurry_model::reply::KeptReply;
 pub use flurry_model::{Call, Seen};
 
 /// What one step did.
+///
+/// ```
+/// match label {
+///     Label::Decide(party, _) => Some(party),
+///     _ => None,
+/// }
+/// ```
 #[derive(Clone, Copy, Debug)]
 pub enum Label<K, V, F> {
     /// The party began with this call.

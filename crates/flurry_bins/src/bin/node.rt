@@ -11,6 +11,13 @@ use std::mem;
 use std::sync::Arc;
 
 /// The colour of a node in a red-black tree.
+///
+/// ```
+/// match colour {
+///     Colour::Red => 0,
+///     Colour::Black => 1,
+/// }
+/// ```
 #[derive(Clone, Copy, Debug, PartialEq, Eq)]
 pub enum Colour {
     /// No child of it is red.
@@ -20,6 +27,11 @@ pub enum Colour {
 }
 
 /// A node in a box of its own.
+///
+/// ```
+/// let node: BoxedNode<u64, u64> = Node::of_pair(alloc, hash, key, value, 0)?;
+/// Ok(node.entry().hash)
+/// ```
 pub type BoxedNode<K, V, A = Global> = Box<Node<K, V, A>, A>;
 
 /// What leads to a node, if there is one.

@@ -13,6 +13,11 @@ use std::alloc::Allocator;
 /// The entries of a bin, in strictly ascending order of hash and key.
 ///
 /// No call takes memory: nodes come in and go out as boxes, and are linked anew.
+///
+/// ```
+/// let (_entry, visits) = bin.find(hash, &key);
+/// visits
+/// ```
 pub trait Ordered<K: Ord, V, A: Allocator>: Sized {
     // Each bin has the same three types. They stand here under names of the trait's own, since a method of a trait takes no
     // value of a type whose parameters have bounds with ghost members.

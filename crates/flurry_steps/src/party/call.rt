@@ -6,6 +6,13 @@ use flurry_calls::Seen;
 use std::alloc::{Allocator, Global};
 
 /// A call of a shared map.
+///
+/// ```
+/// let party: Party<'_, u64, u64, NoFn> = Party::new(Call::ContainsKey(key), *key, 1);
+/// let want = party.want();
+/// drop(party);
+/// want
+/// ```
 #[derive(Drop)]
 pub enum Call<'k, K, V, F, A: Allocator = Global> {
     /// The value of a key.

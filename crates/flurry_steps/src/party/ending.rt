@@ -14,6 +14,14 @@ use std::alloc::{Allocator, Global};
 use std::marker::Model;
 
 /// What a call whose reply is known does next.
+///
+/// ```
+/// match rest {
+///     Rest::Count | Rest::Grow(_) => 1,
+///     Rest::Uncount => -1,
+///     Rest::Nothing | Rest::Recount => 0,
+/// }
+/// ```
 #[derive(Clone, Copy, Drop)]
 pub enum Rest {
     /// Nothing: it is done.
@@ -32,6 +40,13 @@ pub enum Rest {
 ///
 /// It is smaller than a [`Party`]. It has neither the hash of its key nor the number of processors that share the work of a growth; it
 /// is given again those with which it began.
+///
+/// ```
+/// match ending.into_reply() {
+///     Ok(_reply) => None,
+///     Err(ending) => Some(ending.into_party(hash, 1)),
+/// }
+/// ```
 #[derive(Drop)]
 pub struct Ending<K, V, A: Allocator = Global> {
     rest: Rest,
