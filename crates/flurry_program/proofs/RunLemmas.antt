@@ -6,7 +6,7 @@ use Rattle.std.proofs.KnownBytes.{Appends-trans, Appends-nil}
 use borrow.Author.Tests.{eqb-true}
 use Rattle.flurry_program.specs.Lines.{lines_of, onto_first}
 use Rattle.flurry_program.specs.Endings.{bad_line_text, input_failed_text}
-use Rattle.flurry_program.specs.LineEnds.{HasNoBreak}
+use Rattle.flurry_streams.specs.LineEnds.{HasNoBreak}
 use Rattle.flurry_program.specs.Runs.{Script, IsNoCommand, EndsAtLine, Writes, AnswersLine, RefusesLine, Goes, Ends}
 
 not_ten : (b : ℕ) → b ≢ 10 → (b == 10) ≡ false

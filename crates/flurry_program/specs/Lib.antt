@@ -1,12 +1,9 @@
 pub mod SeqReplies
 pub mod Arguments
-pub mod Buffers
-pub mod Bytes
 pub mod Commands
 pub mod Endings
 pub mod Labels
 pub mod Lengths
-pub mod LineEnds
 pub mod Lines
 pub mod Runs
 pub mod ScheduleRuns
@@ -31,3 +28,6 @@ pub use Rattle.flurry_seq.specs.HandedOut
 pub use Rattle.flurry_seq.specs.Iter
 pub use Rattle.flurry_seq.specs.Retain
 pub use Rattle.flurry_seq.specs.Shapes
+pub use Rattle.flurry_streams.specs.Buffers
+pub use Rattle.flurry_streams.specs.Bytes
+pub use Rattle.flurry_streams.specs.LineEnds

@@ -3,7 +3,7 @@ ghost use Rattle.std.specs.Prelude.{◌≡◌, OnOk, OnErr, IfOk, IsTrue};
 ghost use Rattle.std.specs.Io.KnownBytes.{Appends};
 ghost use Rattle.flurry_program.specs.Endings.{bad_line_text, input_failed_text, out_of_memory_text};
 
-use crate::streams::Sink;
+use flurry_streams::Sink;
 use std::io;
 
 /// A run makes so many reads of a line at most. A further one counts as failed.

@@ -4,8 +4,8 @@ ghost use Rattle.std.specs.Fmt.{decimal};
 ghost use Rattle.std.specs.Io.KnownBytes.{Appends};
 ghost use Rattle.flurry_program.specs.Labels.{label_text, reply_text};
 
-use crate::streams::Sink;
 use flurry_model::reply::KeptReply;
+use flurry_streams::Sink;
 use flurry_theory::Label;
 use std::io;
 

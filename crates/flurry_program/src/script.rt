@@ -1,11 +1,11 @@
 //! Lines that are done in their order, up to the run's end.
 ghost use Rattle.std.specs.Prelude.{◌≡◌, ℕ, ◌+◌, ◌≤◌, ◌^◌, ◌⊎◌, length, OnOk, OnErr, IfOk, IfSome, MatchOption, IsTrue};
+ghost use Rattle.std.specs.Io.KnownBytes.{Keeps};
 ghost use Rattle.flurry_program.specs.Runs as runs;
 ghost use Rattle.flurry_program.specs.Runs.{AnswersLine, RefusesLine, Goes, Ends, RunsLines, FailsForCause};
 
 use crate::ends::{MOST_READS, bad_line, input_failed};
-use crate::input::{LineEnd, flush_before_wait, read_line};
-use crate::streams::{Sink, Source};
+use flurry_streams::{LineEnd, Sink, Source, read_line};
 use std::io;
 
 /// Does one line after another, and keeps something between them, such as a map.
@@ -105,6 +105,18 @@ fn step<S: Script, R: Source, W: Sink>(
 {
     flush_before_wait(reader, writer)?;
     answer_next(script, number, reader, writer)
+}
+
+// Hands on what the writer holds back, where the reader's next line may have to be waited for.
+fn flush_before_wait<R: Source, W: Sink>(reader: &R, writer: &mut W) -> io::Result<()>
+    ensures failed { OnErr result (IsTrue (W.has_failed writer.new)) }
+    ensures bytes { OnOk result (Keeps (W.contents writer.old) (W.contents writer.new)) }
+    ensures flushed { OnOk result (R.can_wait reader.now → W.flushed writer.new ≡ W.contents writer.new) }
+{
+    if reader.may_wait() {
+        writer.flush()?;
+    }
+    Ok(())
 }
 
 // Reads a line and does it. Some status is the run's end.

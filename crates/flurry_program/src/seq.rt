@@ -10,9 +10,9 @@ use crate::command::Command;
 use crate::ends::bad_line;
 use crate::parse::parse;
 use crate::script::{Script, run_lines};
-use crate::streams::{Sink, Source};
 use flurry_model::hash::LowHashBuilder;
 use flurry_seq::SeqMap;
+use flurry_streams::{Sink, Source};
 use std::alloc::Allocator;
 use std::io;
 

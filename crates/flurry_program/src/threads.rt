@@ -5,9 +5,9 @@ ghost use Rattle.flurry_program.specs.Threads.{TellsLength};
 ghost use Rattle.flurry_program.specs.declared.threads.TheConstants.{MOST_THREADS, MOST_KEYS};
 
 use crate::ends::out_of_memory;
-use crate::streams::Sink;
 use flurry_map::HashMap;
 use flurry_model::hash::KeyHasher;
+use flurry_streams::Sink;
 use std::alloc::Allocator;
 use std::sync::Wait;
 use std::sync::atomic::{AtomicBool, Ordering};

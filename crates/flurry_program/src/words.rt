@@ -9,9 +9,9 @@ ghost use Rattle.flurry_program.specs.Threads.{TellsLength};
 
 use crate::parse::number;
 use crate::seq::seq_lines;
-use crate::streams::{Sink, Source};
 use crate::threads::{MOST_KEYS, MOST_THREADS, thread_lines};
 use crate::world::world_lines;
+use flurry_streams::{Sink, Source};
 use std::alloc::Allocator;
 use std::sync::Wait;
 use std::thread::Threads;

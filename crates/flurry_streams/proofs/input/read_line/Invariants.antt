@@ -1,7 +1,7 @@
 use Rattle.std.proofs.Common.{◌≡◌, length}
 use Rattle.std.specs.Io.KnownBytes.{Consumes}
-use Rattle.flurry_program.specs.LineEnds.{HasNoBreak}
-use Rattle.flurry_program.proofs.input.read_line.Given as goal
+use Rattle.flurry_streams.specs.LineEnds.{HasNoBreak}
+use Rattle.flurry_streams.proofs.input.read_line.Given as goal
 
 abbrev pub invariant-loop : goal.invariant-loop
 invariant-loop g l = record {

@@ -1,5 +1,5 @@
 //! Buffers in front of any reader and any writer.
-ghost use Rattle.flurry_program.specs.Buffers.{input_remaining, input_has_failed, input_can_wait, output_contents, output_flushed, output_has_failed};
+ghost use Rattle.flurry_streams.specs.Buffers.{input_remaining, input_has_failed, input_can_wait, output_contents, output_flushed, output_has_failed};
 ghost use Rattle.std.specs.Prelude.{◌≡◌, IfOk, IfErr, false};
 ghost use Rattle.std.specs.IoError.{error_kind};
 

@@ -1,5 +1,5 @@
 use Rattle.std.proofs.Common.{rules}
-use Rattle.flurry_program.proofs.buffers.Output.new.Goals as goal
+use Rattle.flurry_streams.proofs.buffers.Output.new.Goals as goal
 
 pub returns-clause-bytes : goal.returns-clause-bytes
 returns-clause-bytes g c = search rules

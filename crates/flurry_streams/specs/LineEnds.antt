@@ -2,8 +2,8 @@
 use Rattle.std.specs.Prelude.{◌≢◌, ℕ, ◌<◌, ◌++◌, ◌∷◌, [], List, length, Option}
 use Rattle.std.specs.List.{AllByRecursion}
 use Rattle.std.specs.Io.KnownBytes.{Consumes, IsAtEnd}
-use Rattle.flurry_program.specs.declared.input.LineEnd.{LineEnd}
-use Rattle.flurry_program.specs.declared.input.LineEnd.TheVariants.{Break, End, Long}
+use Rattle.flurry_streams.specs.declared.input.LineEnd.{LineEnd}
+use Rattle.flurry_streams.specs.declared.input.LineEnd.TheVariants.{Break, End, Long}
 
 abbrev pub HasNoBreak : List ℕ → Type 0
 HasNoBreak line = AllByRecursion (λ b. b ≢ 10) line

@@ -1,9 +1,9 @@
 -- What a clause reads of the buffers.
 use Rattle.std.specs.Prelude.{ℕ, List, Bool, Option}
 use Rattle.std.specs.Io.Buffered.{reader_remaining, reader_buffer, writer_contents, writer_inner}
-use Rattle.flurry_program.specs.LineEnds.{HasNoBreak}
-use Rattle.flurry_program.specs.declared.buffers.Input.{Input}
-use Rattle.flurry_program.specs.declared.buffers.Output.{Output}
+use Rattle.flurry_streams.specs.LineEnds.{HasNoBreak}
+use Rattle.flurry_streams.specs.declared.buffers.Input.{Input}
+use Rattle.flurry_streams.specs.declared.buffers.Output.{Output}
 
 -- the buffer and then the bytes of the reader behind, where those are known
 abbrev pub input_remaining : {R A : Type 0} → (R → Option (List ℕ)) → Input R A → Option (List ℕ)

@@ -1,9 +1,8 @@
 //! The lines of a reader.
-ghost use Rattle.std.specs.Prelude.{◌≡◌, IfOk, OnOk, OnErr, IsTrue};
-ghost use Rattle.std.specs.Io.KnownBytes.{Keeps};
-ghost use Rattle.flurry_program.specs.LineEnds.{Gave};
+ghost use Rattle.std.specs.Prelude.{IfOk, OnErr, IsTrue};
+ghost use Rattle.flurry_streams.specs.LineEnds.{Gave};
 
-use crate::streams::{Sink, Source};
+use crate::streams::Source;
 use arrayvec::ArrayVec;
 use std::io;
 
@@ -36,16 +35,4 @@ pub fn read_line<R: Source>(reader: &mut R) -> io::Result<(ArrayVec<u8, 65>, Lin
         }
     }
     Ok((line, LineEnd::Long))
-}
-
-/// Hands on what the writer holds back, where the reader's next line may have to be waited for.
-pub(crate) fn flush_before_wait<R: Source, W: Sink>(reader: &R, writer: &mut W) -> io::Result<()>
-    ensures failed { OnErr result (IsTrue (W.has_failed writer.new)) }
-    ensures bytes { OnOk result (Keeps (W.contents writer.old) (W.contents writer.new)) }
-    ensures flushed { OnOk result (R.can_wait reader.now → W.flushed writer.new ≡ W.contents writer.new) }
-{
-    if reader.may_wait() {
-        writer.flush()?;
-    }
-    Ok(())
 }

@@ -2,7 +2,7 @@
 ghost use Rattle.std.specs.Prelude.{◌≡◌, ◌↔◌, ℕ, List, Option, Some, Bool, false, IsTrue, OnOk, OnErr, IfOk, IfSome};
 ghost use Rattle.std.specs.Io.KnownBytes.{Appends, Keeps};
 ghost use Rattle.std.specs.Fmt.{with_newline};
-ghost use Rattle.flurry_program.specs.Bytes.{GivesByte};
+ghost use Rattle.flurry_streams.specs.Bytes.{GivesByte};
 
 use std::fmt::Display;
 use std::io;

@@ -1,5 +1,5 @@
 use Rattle.std.proofs.Common.{rules}
-use Rattle.flurry_program.proofs.buffers.OutputSink.flush.Goals as goal
+use Rattle.flurry_streams.proofs.buffers.OutputSink.flush.Goals as goal
 
 pub returns-in-Ok-clause-flushed : goal.returns-in-Ok-clause-flushed
 returns-in-Ok-clause-flushed g c = search rules
