@@ -9,6 +9,11 @@ use std::fmt::Display;
 use std::io::{self, BufReader, BufWriter, ErrorKind, Read, Write};
 
 /// A buffer in front of a reader.
+///
+/// ```
+/// let mut input = Input::new(alloc, bytes)?;
+/// input.read_byte()
+/// ```
 #[derive(Drop)]
 pub struct Input<R, A: Allocator = Global> {
     reader: BufReader<R, A>,
@@ -63,6 +68,12 @@ impl<R: Read, A: Allocator> Source for Input<R, A> {
 /// A buffer in front of a writer.
 ///
 /// What it holds is written as it is dropped, unless a write has failed.
+///
+/// ```
+/// let mut output = Output::new(alloc, Vec::new(alloc))?;
+/// write_number(&mut output, number)?;
+/// Ok(output)
+/// ```
 pub struct Output<W: Write + Drop, A: Allocator = Global> {
     writer: BufWriter<W, A>,
     failed: bool,

@@ -7,6 +7,14 @@ use arrayvec::ArrayVec;
 use std::io;
 
 /// How a line ended.
+///
+/// ```
+/// let (_line, end) = read_line(reader)?;
+/// match end {
+///     LineEnd::Break => Ok(true),
+///     LineEnd::End | LineEnd::Long => Ok(false),
+/// }
+/// ```
 #[derive(Clone, Copy, Debug, PartialEq, Eq)]
 pub enum LineEnd {
     /// At a line feed.

@@ -8,6 +8,10 @@ use std::fmt::Display;
 use std::io;
 
 /// A reader of single bytes.
+///
+/// ```
+/// Ok(reader.read_byte()?.is_none())
+/// ```
 pub trait Source {
     /// The bytes that it will give, where they are known.
     ghost remaining: { Self → Option (List ℕ) };
@@ -34,6 +38,11 @@ pub trait Source {
 }
 
 /// A writer of lines, which may hold some of them back.
+///
+/// ```
+/// writer.write_line(format_args!("some {number}"))?;
+/// writer.flush()
+/// ```
 pub trait Sink {
     /// The bytes that were written, where they are known.
     ghost contents: { Self → Option (List ℕ) };
