@@ -15,7 +15,7 @@ check_first_example() {
 }
 
 # check_makers CRATE TYPE FUNCTION..: outside of the crate these functions alone make a value of the type. A contract says what is true of
-# a claim, a receipt or a read that somebody has, and none can say that no further function hands out another one.
+# a claim, a receipt or a read that somebody has, and none can say that there is no further function that makes one.
 check_makers() {
     local crate=$1 type=$2 faults
     shift 2
@@ -31,6 +31,7 @@ check_sources() {
     local status=0
     check_first_example || status=1
     check_makers flurry_control Claim claim || status=1
+    check_makers flurry_control PublishedTable start || status=1
     check_makers flurry_slots Receipt || status=1
     check_makers flurry_calls Seen seen try_clone || status=1
     return "$status"
