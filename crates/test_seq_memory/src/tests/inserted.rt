@@ -3,10 +3,12 @@
 use super::{
     Memory, NumberMap, Refused, map_of, number_at, refuse_each, same, same_at, size_of, taken,
 };
+use flurry_bins::bin::Node;
 use flurry_model::hash::LowHashBuilder;
 use flurry_model::reply::KeptReply;
 use metered_alloc::Metered;
 use std::process::Abort;
+use std::sync::Arc;
 use std::test::Fail;
 
 // An insertion of a key and a value.
@@ -14,6 +16,22 @@ use std::test::Fail;
 enum Write {
     Insert(u64, u64),
     TryInsert(u64, u64),
+    InsertShared(u64, u64),
+    InsertNode(u64, u64),
+}
+
+// Inserts a key and a value that have owners, and answers the old value; nothing where memory for one of them is wanting too.
+fn insert_shared(map: &mut NumberMap<LowHashBuilder>, key: u64, value: u64) -> Option<Option<u64>> {
+    let memory = *map.allocator();
+    let key = Arc::new(memory, key).ok()?;
+    let value = Arc::new(memory, value).ok()?;
+    Some(taken(map.insert_shared(key, value).ok()?))
+}
+
+// The same by a node, which is made under another hash.
+fn insert_node(map: &mut NumberMap<LowHashBuilder>, key: u64, value: u64) -> Option<Option<u64>> {
+    let node = Node::of_pair(*map.allocator(), 77, key, value, 0).ok()?;
+    Some(taken(map.insert_node(node).ok()?))
 }
 
 // What it replies, or nothing where it is refused.
@@ -30,6 +48,10 @@ fn reply_of(map: &mut NumberMap<LowHashBuilder>, write: Write) -> Option<KeptRep
                 not_inserted: error.not_inserted,
             }),
         },
+        Write::InsertShared(key, value) => {
+            Some(KeptReply::Value(insert_shared(map, key, value)?))
+        }
+        Write::InsertNode(key, value) => Some(KeptReply::Value(insert_node(map, key, value)?)),
     }
 }
 
@@ -43,7 +65,8 @@ fn stands(map: &NumberMap<LowHashBuilder>) -> Stands {
     )
 }
 
-// An insertion into a map of so many keys: what stands where it is refused, and what it replies and what stands where it is not.
+// An insertion into a map of so many keys: what stands where it is refused, and what it replies and what stands where it is not, also
+// where it was refused before.
 #[derive(Drop)]
 struct Inserts {
     keys: u64,
@@ -58,15 +81,20 @@ impl Refused for Inserts {
         let mut map = map_of(rt, memory, self.keys);
         let before = memory.blocks();
         memory.refuse_at(k);
-        let reply = reply_of(&mut map, self.write);
+        let mut reply = reply_of(&mut map, self.write);
         let refused = memory.refused();
         memory.refuse_nothing();
         if refused {
             same_at(rt, k, (reply, stands(&map)), (None, self.kept));
             same_at(rt, k, memory.blocks(), before);
-        } else {
-            same(rt, (reply, stands(&map)), (Some(self.reply), self.written));
+            reply = reply_of(&mut map, self.write);
         }
+        same_at(
+            rt,
+            k,
+            (reply, stands(&map)),
+            (Some(self.reply), self.written),
+        );
         refused
     }
 }
@@ -103,6 +131,30 @@ fn insert_into_a_table(rt: HostRuntime) -> Result<(), Fail> {
         kept: ((16, 2), [Some(0), Some(1), None]),
         reply: KeptReply::Value(None),
         written: ((16, 3), [Some(0), Some(1), Some(5)]),
+    };
+    refuse_each(&rt, rt.alloc(), &call)
+}
+
+#[test]
+fn insert_shared_into_a_new_map(rt: HostRuntime) -> Result<(), Fail> {
+    let call = Inserts {
+        keys: 0,
+        write: Write::InsertShared(1, 5),
+        kept: ((0, 0), [None, None, None]),
+        reply: KeptReply::Value(None),
+        written: ((16, 1), [None, Some(5), None]),
+    };
+    refuse_each(&rt, rt.alloc(), &call)
+}
+
+#[test]
+fn insert_node_into_a_new_map(rt: HostRuntime) -> Result<(), Fail> {
+    let call = Inserts {
+        keys: 0,
+        write: Write::InsertNode(1, 5),
+        kept: ((0, 0), [None, None, None]),
+        reply: KeptReply::Value(None),
+        written: ((16, 1), [None, Some(5), None]),
     };
     refuse_each(&rt, rt.alloc(), &call)
 }

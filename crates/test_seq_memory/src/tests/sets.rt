@@ -1,6 +1,7 @@
 //! The calls of a set that take memory.
 
 use super::{Memory, Refused, refuse_each, same, same_at};
+use flurry_bins::bin::Node;
 use flurry_model::hash::LowHashBuilder;
 use flurry_set::SeqSet;
 use flurry_set::set_calls::SetCall;
@@ -61,6 +62,37 @@ impl Refused for InsertsOne {
 #[test]
 fn set_insert(rt: HostRuntime) -> Result<(), Fail> {
     refuse_each(&rt, rt.alloc(), &InsertsOne)
+}
+
+// A node of the element 1 put into a set: whether its class is new, or nothing where memory for the node or for a table is wanting.
+fn put_node(set: &mut Set) -> Option<bool> {
+    let node = Node::of_pair(*set.allocator(), 77, 1u64, (), 0).ok()?;
+    set.insert_node(node).ok()
+}
+
+// A node put into a new set, and again where it is refused.
+struct InsertsNode;
+
+impl Refused for InsertsNode {
+    fn once(&self, rt: &impl Abort, memory: Memory, k: u64) -> bool {
+        let mut set = set_of(rt, memory, 0);
+        memory.refuse_at(k);
+        let mut new = put_node(&mut set);
+        let refused = memory.refused();
+        memory.refuse_nothing();
+        if refused {
+            same_at(rt, k, (new, set.len(), memory.blocks()), (None, 0, 0));
+            new = put_node(&mut set);
+        }
+        same_at(rt, k, (new, set.contains(&1)), (Some(true), true));
+        same_at(rt, k, (put_node(&mut set), set.len()), (Some(false), 1));
+        refused
+    }
+}
+
+#[test]
+fn set_insert_node(rt: HostRuntime) -> Result<(), Fail> {
+    refuse_each(&rt, rt.alloc(), &InsertsNode)
 }
 
 // The stored element of a class that is new. A second one asks for nothing.

@@ -1,0 +1,38 @@
+# shellcheck shell=bash
+# Sourced by `test`, at the top of the repository: what is seen in the sources before anything is proved, since no proof sees it. Each
+# fault is told on standard error.
+
+# The first example of README is the code of `test_first`, which is proved and run. So it cannot go stale.
+check_first_example() {
+    local code=crates/test_first/src/tests.rt
+    # The first block of README, and the file from its first line that is code.
+    if ! diff -u --label README.md --label "$code" \
+        <(awk '/^```rust$/ { inside = 1; next } /^```$/ && inside { exit } inside' README.md) \
+        <(awk 'begun || (NF && !/^\/\//) { begun = 1; print }' "$code") >&2; then
+        echo "test: the first example of README is not the code of $code" >&2
+        return 1
+    fi
+}
+
+# check_makers CRATE TYPE FUNCTION..: outside of the crate these functions alone make a value of the type. A contract says what is true of
+# a claim, a receipt or a read that somebody has, and none can say that there is no further function that makes one.
+check_makers() {
+    local crate=$1 type=$2 faults
+    shift 2
+    faults=$(find "crates/$crate/src" -name '*.rt' -exec awk -v type="$type" -v makers="$*" -f scripts/makers.awk {} +) || return 1
+    if [[ -n $faults ]]; then
+        echo "test: ${faults//$'\n'/$'\n'test: }" >&2
+        return 1
+    fi
+}
+
+# All of these checks.
+check_sources() {
+    local status=0
+    check_first_example || status=1
+    check_makers flurry_control Claim claim || status=1
+    check_makers flurry_control PublishedTable start || status=1
+    check_makers flurry_slots Receipt || status=1
+    check_makers flurry_calls Seen seen try_clone || status=1
+    return "$status"
+}
