@@ -1,3 +1,4 @@
+use Rattle.std.proofs.Common.{rules}
 use Rattle.flurry_slots.proofs.SlotLaws.{live_in_taken}
 use Rattle.flurry_slots.proofs.slot.Slot.take.Goals as goal
 
@@ -9,3 +10,6 @@ invariant_of-self g c =
       index = c.self.invariant.index;
       content = rw c.take.ensures.after (live_in_taken g.met.K.Ord.total _ _ _ c.args.hash c.args.key.now (rw c.in-Live.is at c.self.invariant.content));
     })
+
+pub returns-in-Live-clause-reply : goal.returns-in-Live-clause-reply
+returns-in-Live-clause-reply g c = search rules
