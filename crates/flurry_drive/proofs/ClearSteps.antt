@@ -14,7 +14,7 @@ use Rattle.flurry_slots.specs.Slot as slots
 use Rattle.flurry_slots.specs.Slot.{SlotState, Content, IsLive, HasMoved, IsUnborn, after_wipe}
 use Rattle.flurry_control.specs.Control as control
 use Rattle.flurry_calls.specs.Outcome.{OutcomeEnded}
-use Rattle.flurry_calls.specs.Cursor.{CursorState, at_base, halved, after_top}
+use Rattle.flurry_calls.specs.Cursor.{CursorState, at_base, after_split, after_top}
 use Rattle.flurry_calls.specs.Sweep.{Wipes, SweepStage, AtOutset, OverBins, AtTotal, AtEnd, SweepState, more_wiped, stage_cleared}
 use Rattle.flurry_steps.specs.Party.{AtSweep, PartyState, last_seen}
 use Rattle.flurry_theory.specs.Bin.{Entry}
@@ -22,11 +22,11 @@ use Rattle.flurry_theory.specs.Map.{same}
 use Rattle.flurry_theory.specs.Trace.{is_lookup, pairs}
 use Rattle.flurry_theory.specs.Machine as machine
 use Rattle.flurry_theory.specs.Machine.{State, Frame, Transition, Can, effect, goes, does, found_by, onward, Mode, Clearing, Done, Live, Moved, at_bin, at_place, total as sum, owes_added, owes_removed, WasPublished, Begins, Counts, Finds, FindsNothing, Wipes as WipesBin, SplitsClear}
-use Rattle.flurry_theory.specs.Invariant.{Inv, Named}
+use Rattle.flurry_theory.specs.Invariant.{Inv, NamesBorn}
 use Rattle.flurry_theory.proofs.Ranges.{place_here, place_other, total-change}
 use Rattle.flurry_theory.proofs.Step.{inv_step}
 use Rattle.flurry_theory.specs.declared.Label.TheVariants as label
-use Rattle.flurry_world.specs.Entries.{slot_of, entries_of_held, Hashed}
+use Rattle.flurry_world.specs.Entries.{slot_of, entries_of_held, IsHashed}
 use Rattle.flurry_world.specs.Tables.{Tables, slots_of, place_at, content_at, put_place}
 use Rattle.flurry_world.specs.World.{PartyRecord, WorldState, state_of, mode_of_stage, mode_of_sweep, frame_of, frames_of, claim_of_stage, AreHashed, FollowsErrand, FollowsSweep, FollowsStage, IsWorld}
 use Rattle.flurry_world.proofs.EntryLaws.{length-entries_of_held}
@@ -138,13 +138,13 @@ module _ {K V F S : Type 0} (cmp : K → K → Ordering) (total : IsTotalOrder c
     bounds : AreHashed hash (f.top ∷ f.below)
     bounds = subst (λ z. FollowsSweep hash z u.errand) over own.1
 
-    pub follows_moved : u'.errand ≡ Wipes n → content_at w.tables f.top.table f.top.index ≡ HasMoved → u'.stage ≡ OverBins (halved f) → StepOf cmp hash gives w p x w.control_state w.tables c (label.Silent p)
-    follows_moved errand moved h = goes_on n errand (OverBins (halved f)) h (SplitsClear n f.base f.index (frame_of f.top) (map frame_of f.below)) _ refl refl (λ d o y. cc) (stands (OverBins f) over, ap slot_of moved) (ap (Clearing n f.base f.index) (halved_frames f)) (bounds.0, (bounds.0, bounds.1))
+    pub follows_moved : u'.errand ≡ Wipes n → content_at w.tables f.top.table f.top.index ≡ HasMoved → u'.stage ≡ OverBins (after_split f) → StepOf cmp hash gives w p x w.control_state w.tables c (label.Silent p)
+    follows_moved errand moved h = goes_on n errand (OverBins (after_split f)) h (SplitsClear n f.base f.index (frame_of f.top) (map frame_of f.below)) _ refl refl (λ d o y. cc) (stands (OverBins f) over, ap slot_of moved) (ap (Clearing n f.base f.index) (halved_frames f)) (bounds.0, (bounds.0, bounds.1))
 
     -- it meets no bin that is not there yet
     pub no_unborn : content_at w.tables f.top.table f.top.index ≡ IsUnborn → ⊥
     no_unborn unborn =
-        let named = subst (Named hash (is_some w.control_state.published) k.state.0 (state_of w).start ((state_of w).call p)) (stands (OverBins f) over) (k.state.1.named p) in
+        let named = subst (NamesBorn hash (is_some w.control_state.published) k.state.0 (state_of w).start ((state_of w).call p)) (stands (OverBins f) over) (k.state.1.named p) in
         frame_is_born cmp hash k.state.0 (state_of w) (frame_of f.top) (map frame_of f.below) k.state.1.tables named.0 named.3 (ap slot_of unborn)
 
     -- it wipes a live bin
@@ -194,8 +194,8 @@ module _ {K V F S : Type 0} (cmp : K → K → Ordering) (total : IsTotalOrder c
               through true = refl
               through false = refl
 
-          hashed_in : (a i : ℕ) (l : slots.Live K V) (z : Bool) → (if z then IsLive (after_wipe d) else content_at w.tables a i) ≡ IsLive l → Hashed hash l.held
-          hashed_in a i l true y = subst (λ z. Hashed hash z.held) (same_live y) tt
+          hashed_in : (a i : ℕ) (l : slots.Live K V) (z : Bool) → (if z then IsLive (after_wipe d) else content_at w.tables a i) ≡ IsLive l → IsHashed hash l.held
+          hashed_in a i l true y = subst (λ z. IsHashed hash z.held) (same_live y) tt
           hashed_in a i l false y = k.hashed a i l y
 
   -- it counts what it wiped

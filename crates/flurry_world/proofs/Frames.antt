@@ -13,7 +13,7 @@ use Rattle.flurry_theory.specs.Machine.{Transition, Can, does}
 use Rattle.flurry_theory.specs.Invariant.{Inv, home_after}
 use Rattle.flurry_theory.specs.declared.Label.{Label}
 use Rattle.flurry_theory.proofs.Step.{inv_step}
-use Rattle.flurry_world.specs.Entries.{Hashed}
+use Rattle.flurry_world.specs.Entries.{IsHashed}
 use Rattle.flurry_world.specs.Tables.{Tables, AreTables, slots_of, content_at}
 use Rattle.flurry_world.specs.World.{PartyRecord, WorldState, state_of, FollowsStage, Follows, IsWorld, DoesTransition}
 use Rattle.flurry_world.specs.Steps.{with_step}
@@ -29,7 +29,7 @@ in_range (negsuc m) n l u d = ap negsuc (omega (arith, ints, d, l))
 module _ {K V : Type 0} (hash : K → ℕ) where
   -- what a board and tables keep, beside the machine's invariant
   pub record Frame (b : ControlState) (t : Tables K V) : Type 0 where
-    pub hashed : (e i : ℕ) (l : Live K V) → content_at t e i ≡ IsLive l → Hashed hash l.held
+    pub hashed : (e i : ℕ) (l : Live K V) → content_at t e i ≡ IsLive l → IsHashed hash l.held
     pub control_state : IsControl b
     pub tables : AreTables t
     pub unmade : b.published ≡ None → (e : ℕ) → slots_of t e ≡ []

@@ -13,12 +13,12 @@ use Rattle.flurry_steps.specs.PartyControl.{OpensFor, LocatesNone, MakesFor, Res
 use Rattle.flurry_calls.specs.declared.step.Event.{Event}
 use Rattle.flurry_calls.specs.declared.step.Event.TheVariants as event
 use Rattle.flurry_theory.specs.Map.{same}
-use Rattle.flurry_theory.specs.Trace.{published}
+use Rattle.flurry_theory.specs.Trace.{published_in}
 use Rattle.flurry_theory.specs.Machine.{Locating, Done, Live, Finds as FindsTable, Opens, IsRefused, DecidesEmpty, Opening, RefusedAt, mode_at_table}
 use Rattle.flurry_model.specs.declared.call.Call.TheVariants as call
 use Rattle.flurry_theory.specs.declared.Label.{Label}
 use Rattle.flurry_theory.specs.declared.Label.TheVariants as label
-use Rattle.flurry_world.specs.Entries.{slot_of, Hashed}
+use Rattle.flurry_world.specs.Entries.{slot_of, IsHashed}
 use Rattle.flurry_world.specs.Tables.{Tables, content_at, is_made, fresh, with_table, MadeGives, PlaceGives}
 use Rattle.flurry_world.specs.World.{PartyRecord, WorldState, state_of, task_of_call, mode_of_stage, claim_of_stage, FollowsStage, IsWorld}
 use Rattle.flurry_world.specs.Steps.{label_of}
@@ -31,7 +31,7 @@ use Rattle.flurry_world.proofs.Cases.{calls, in_mode, in_claim, settled}
 use Rattle.flurry_model.specs.declared.sizes.TheConstants.{GREATEST_TABLE}
 
 -- a trace that publishes nothing began with nothing
-none_first : {K V F : Type 0} (first : Option ℕ) (t : List (Label K V F)) → published first t ≡ None → first ≡ None
+none_first : {K V F : Type 0} (first : Option ℕ) (t : List (Label K V F)) → published_in first t ≡ None → first ≡ None
 none_first first [] h = h
 none_first first (label.Begin q c ∷ t) h = none_first first t h
 none_first first (label.Decide q r ∷ t) h = none_first first t h
@@ -97,8 +97,8 @@ module _ {K V F S : Type 0} (cmp : K → K → Ordering) (total : IsTotalOrder c
           through true = refl
           through false = refl
 
-      hashed_in : (d i : ℕ) (l : slots.Live K V) (b : Bool) → (if b then fresh true else content_at w.tables d i) ≡ IsLive l → Hashed hash l.held
-      hashed_in d i l true h = subst (λ z. Hashed hash z.held) (same_live h) tt
+      hashed_in : (d i : ℕ) (l : slots.Live K V) (b : Bool) → (if b then fresh true else content_at w.tables d i) ≡ IsLive l → IsHashed hash l.held
+      hashed_in d i l true h = subst (λ z. IsHashed hash z.held) (same_live h) tt
       hashed_in d i l false h = k.hashed d i l h
 
   -- or is refused it

@@ -13,9 +13,9 @@ use Rattle.flurry_calls.specs.declared.step.Event.{Event}
 use Rattle.flurry_calls.specs.declared.step.Event.TheVariants as event
 use Rattle.flurry_theory.specs.Map.{same, key_of}
 use Rattle.flurry_theory.specs.Machine.{Live, Looking, Decides, Passes, IsRefused, RefusedAt, at_bin}
-use Rattle.flurry_theory.specs.Invariant.{is_live, key_in, writes_in, Named}
+use Rattle.flurry_theory.specs.Invariant.{is_live, key_in, writes_in, NamesBorn}
 use Rattle.flurry_theory.proofs.NoUnbornBin.{looks_at}
-use Rattle.flurry_world.specs.Entries.{slot_of, entries_of_held, Hashed}
+use Rattle.flurry_world.specs.Entries.{slot_of, entries_of_held, IsHashed}
 use Rattle.flurry_world.specs.Tables.{Tables, AreTables, slots_of, content_at}
 use Rattle.flurry_world.specs.World.{PartyRecord, WorldState, state_of, task_of_call, mode_of_stage, claim_of_stage, FollowsStage, IsWorld}
 use Rattle.flurry_world.specs.Steps.{label_of, decide_label}
@@ -55,7 +55,7 @@ module _ {K V F S : Type 0} (cmp : K → K → Ordering) (total : IsTotalOrder c
     of_call = calls cmp total hash lawful gives w k p x at c
 
     made_from : (is_some w.control_state.published ≡ true) × ((state_of w).start ≤ e)
-    made_from = let n = subst (λ m. Named hash (is_some w.control_state.published) k.state.0 (state_of w).start ((state_of w).call p) m) looking (k.state.1.named p) in (n.0, n.1)
+    made_from = let n = subst (λ m. NamesBorn hash (is_some w.control_state.published) k.state.0 (state_of w).start ((state_of w).call p) m) looking (k.state.1.named p) in (n.0, n.1)
 
     -- the bin that it decides at
     decides_live : (j : K) (b d : slots.Live K V) (t' : Tables K V) → key_of x.call ≡ Some j → q.content ≡ IsLive b → DecidesAt cmp gives x.party_state.hash t e b c.stage d → Put w.tables e (x.party_state.hash % 2 ^ e) (IsLive d) t' → IsStep cmp hash gives w p x w.control_state t' c (decide_label p (outcome_in c.stage))
@@ -85,7 +85,7 @@ module _ {K V F S : Type 0} (cmp : K → K → Ordering) (total : IsTotalOrder c
         held : IsLiveIn cmp e (x.party_state.hash % 2 ^ e) b
         held = subst (IsContent cmp e (x.party_state.hash % 2 ^ e)) live inside
 
-        hashes : Hashed hash b.held
+        hashes : IsHashed hash b.held
         hashes = k.hashed e (x.party_state.hash % 2 ^ e) b (here ∙ live)
 
         homed : k.state.0 (hash j) ≡ e
@@ -105,8 +105,8 @@ module _ {K V F S : Type 0} (cmp : K → K → Ordering) (total : IsTotalOrder c
             through true = refl
             through false = refl
 
-        hashed_in : (g i : ℕ) (l : slots.Live K V) (z : Bool) → (if z then IsLive d else content_at w.tables g i) ≡ IsLive l → Hashed hash l.held
-        hashed_in g i l true h = subst (λ z. Hashed hash z.held) (same_live h) decision.hashed
+        hashed_in : (g i : ℕ) (l : slots.Live K V) (z : Bool) → (if z then IsLive d else content_at w.tables g i) ≡ IsLive l → IsHashed hash l.held
+        hashed_in g i l true h = subst (λ z. IsHashed hash z.held) (same_live h) decision.hashed
         hashed_in g i l false h = k.hashed g i l h
 
     module _ (ev : Event) (content : Content K V) (t' : Tables K V) (put : Put w.tables e (x.party_state.hash % 2 ^ e) content t') where

@@ -19,7 +19,7 @@ use Rattle.flurry_control.specs.Control as control
 use Rattle.flurry_control.specs.Control.{ControlState}
 use Rattle.flurry_calls.specs.Outcome.{OutcomeEnded, OutcomeRefused}
 use Rattle.flurry_calls.specs.Cursor as cursor
-use Rattle.flurry_calls.specs.Cursor.{CursorState, at_base, halved, after_top}
+use Rattle.flurry_calls.specs.Cursor.{CursorState, at_base, after_split, after_top}
 use Rattle.flurry_calls.specs.Sweep as sweep
 use Rattle.flurry_calls.specs.Sweep.{Errand, Reads, Wipes, SweepStage, AtOutset, OverBins, AtTotal, AtEnd, AfterEnd, SweepState, SweepControl, WalkGives, ClearGives, SplitGives, ReadGives, BinGives, part_at, bin_part, set_out_at, more_wiped, stage_walked, stage_cleared}
 use Rattle.flurry_calls.specs.declared.step.Event.{Event}
@@ -37,7 +37,7 @@ use Rattle.flurry_theory.proofs.Ranges.{part-total, place_here}
 use Rattle.flurry_theory.proofs.Step.{inv_step}
 use Rattle.flurry_theory.specs.declared.Label.{Label}
 use Rattle.flurry_theory.specs.declared.Label.TheVariants as label
-use Rattle.flurry_world.specs.Entries.{slot_of, entry_of_held, entries_of_held, Hashed}
+use Rattle.flurry_world.specs.Entries.{slot_of, entry_of_held, entries_of_held, IsHashed}
 use Rattle.flurry_world.specs.Tables.{Tables, place_at, content_at, put_place, PlaceGives}
 use Rattle.flurry_world.specs.Parts.{PartStep}
 use Rattle.flurry_world.specs.World.{PartyRecord, WorldState, Near, state_of, mode_of_stage, mode_of_sweep, mode_over, frame_of, frames_of, claim_of_stage, IsOwnHash, AreHashed, FollowsErrand, FollowsSweep, FollowsStage, IsWorld}
@@ -209,7 +209,7 @@ module _ {K V F S : Type 0} (cmp : K → K → Ordering) (total : IsTotalOrder c
           seen : last_seen c.stage ≡ Some (sweep.seen_at y)
           seen = ap last_seen g ∙ last
 
-          hashes : Hashed hash d.held
+          hashes : IsHashed hash d.held
           hashes = k.hashed f.top.table f.top.index d (here ∙ live)
 
           slot_here : (state_of w).slot f.top.table f.top.index ≡ Live (entries_of_held d.held) d.writes
@@ -309,11 +309,11 @@ module _ {K V F S : Type 0} (cmp : K → K → Ordering) (total : IsTotalOrder c
                 through true = refl
                 through false = refl
 
-            hashed_in : (a i : ℕ) (l : slots.Live K V) (z : Bool) → (if z then IsLive (after_wipe d) else content_at w.tables a i) ≡ IsLive l → Hashed hash l.held
-            hashed_in a i l true h = subst (λ z. Hashed hash z.held) (same_live h) tt
+            hashed_in : (a i : ℕ) (l : slots.Live K V) (z : Bool) → (if z then IsLive (after_wipe d) else content_at w.tables a i) ≡ IsLive l → IsHashed hash l.held
+            hashed_in a i l true h = subst (λ z. IsHashed hash z.held) (same_live h) tt
             hashed_in a i l false h = k.hashed a i l h
 
-      clears_moved : content ≡ HasMoved → (u'.errand ≡ Wipes n) × (u'.stage ≡ OverBins (halved f)) → StepOf cmp hash gives w p x w.control_state w.tables c (label.Silent p)
+      clears_moved : content ≡ HasMoved → (u'.errand ≡ Wipes n) × (u'.stage ≡ OverBins (after_split f)) → StepOf cmp hash gives w p x w.control_state w.tables c (label.Silent p)
       clears_moved moved (q, h) = moves_on u' g hashed (SplitsClear n f.base f.index (frame_of f.top) (map frame_of f.below)) _ refl refl (λ d f y. cc) last (clearing, ap slot_of (here ∙ moved)) (to_clear n _ q h ∙ ap (Clearing n f.base f.index) (halved_frames f)) (reaches n _ q h (bounds.0, (bounds.0, bounds.1)))
 
       clears_unborn : (u'.errand ≡ Wipes n) × (u'.stage ≡ OverBins f) → StepOf cmp hash gives w p x w.control_state w.tables c (label.Silent p)
