@@ -114,12 +114,12 @@ module _ {K V F S : Type 0} (cmp : K → K → Ordering) (total : IsTotalOrder c
     follows_then h = subst (FollowsStage hash x.call) (sym g) (subst (λ z. FollowsErrand x.call z u'.last) (sym errand) (is_clear.0, last ∙ is_clear.1), subst (λ z. FollowsSweep hash z u'.errand) (sym at_stage) (subst (FollowsSweep hash s') (sym errand) h))
 
     -- a step after which the machine's clear alone stands elsewhere
-    goes_on : (line : Transition K V F) (m : Mode K V) → effect cmp hash gives (state_of w) p line ≡ goes cmp hash gives (state_of w) p m → label.Silent p ≡ machine.label cmp hash gives p line → ((d : Call K V F) (f : Option ℕ) → line ≡ Begins d f → ⊥)
-        → Can cmp hash gives (state_of w) p line → mode_of_sweep s' (Wipes n') ≡ m → FollowsSweep hash s' (Wipes n') → StepOf cmp hash gives w p x w.control_state w.tables c (label.Silent p)
-    goes_on line m is named other can mode follows = step_of cmp hash gives w p x w.control_state w.tables c (label.Silent p) at hashed unread (record {
-      line = line;
+    goes_on : (transition : Transition K V F) (m : Mode K V) → effect cmp hash gives (state_of w) p transition ≡ goes cmp hash gives (state_of w) p m → label.Silent p ≡ machine.label cmp hash gives p transition → ((d : Call K V F) (f : Option ℕ) → transition ≡ Begins d f → ⊥)
+        → Can cmp hash gives (state_of w) p transition → mode_of_sweep s' (Wipes n') ≡ m → FollowsSweep hash s' (Wipes n') → StepOf cmp hash gives w p x w.control_state w.tables c (label.Silent p)
+    goes_on transition m is named other can mode follows = step_of cmp hash gives w p x w.control_state w.tables c (label.Silent p) at hashed unread (record {
+      transition = transition;
       can = can;
-      is = is_goes cmp hash gives w p x at c (label.Silent p) line m is named other refl (mode_then ∙ mode) unclaimed;
+      is = is_goes cmp hash gives w p x at c (label.Silent p) transition m is named other refl (mode_then ∙ mode) unclaimed;
       follows = follows_then follows;
       frame = same_frame cmp hash gives w k;
     })
@@ -149,10 +149,10 @@ module _ {K V F S : Type 0} (cmp : K → K → Ordering) (total : IsTotalOrder c
 
     -- it wipes a live bin
     module _ (d : slots.Live K V) (live : content_at w.tables f.top.table f.top.index ≡ IsLive d) where
-      abbrev line : Transition K V F
-      line = WipesBin n f.base f.index (frame_of f.top) (map frame_of f.below) (entries_of_held d.held) d.writes
+      abbrev transition : Transition K V F
+      transition = WipesBin n f.base f.index (frame_of f.top) (map frame_of f.below) (entries_of_held d.held) d.writes
 
-      can_wipe : Can cmp hash gives (state_of w) p line
+      can_wipe : Can cmp hash gives (state_of w) p transition
       can_wipe = (stands (OverBins f) over, ap slot_of live)
 
       pub wiped_pairs : length (pairs cmp hash (label.Wipe p f.top.table f.top.index ∷ reverse w.trace)) + length d.held ≡ length (pairs cmp hash (reverse w.trace))
@@ -162,7 +162,7 @@ module _ {K V F S : Type 0} (cmp : K → K → Ordering) (total : IsTotalOrder c
 
       pub wipes_bin : (t : Tables K V) → Put w.tables f.top.table f.top.index (IsLive (after_wipe d)) t → length (pairs cmp hash (reverse w.trace)) + n ≤ MOST_LABELS → u'.errand ≡ Wipes (more_wiped n (length d.held)) → u'.stage ≡ stage_cleared (after_top f) → StepOf cmp hash gives w p x w.control_state t c (label.Wipe p f.top.table f.top.index)
       wipes_bin t put few q h = step_of cmp hash gives w p x w.control_state t c (label.Wipe p f.top.table f.top.index) at hashed unread (record {
-        line = line;
+        transition = transition;
         can = can_wipe;
         is = is_wiped cmp hash gives w p x at c n f.base f.index (frame_of f.top) (map frame_of f.below) (entries_of_held d.held) d.writes t slots_after (mode_then _ errand _ h ∙ cleared (n + length (entries_of_held d.held)) f.base f.index f.below) unclaimed;
         follows = follows_then _ errand _ h (cleared_hashed V hash f.base f.index f.below _ bounds.1);
@@ -202,7 +202,7 @@ module _ {K V F S : Type 0} (cmp : K → K → Ordering) (total : IsTotalOrder c
   pub counts_all : u.stage ≡ AtTotal → u'.errand ≡ Wipes n → u'.stage ≡ AtEnd OutcomeEnded → (control.after_count (neg_ℤ (pos (min n (2 ^ 63 - 1)))) w.control_state).count ≡ w.control_state.count -ℤ pos n
       → StepOf cmp hash gives w p x (control.after_count (neg_ℤ (pos (min n (2 ^ 63 - 1)))) w.control_state) w.tables c (label.Silent p)
   counts_all f errand h counted = step_of cmp hash gives w p x _ w.tables c (label.Silent p) at hashed unread (record {
-    line = Counts (λ q. p == q);
+    transition = Counts (λ q. p == q);
     can = ap is_lookup called;
     is = is_counted cmp hash gives w p x at c None 0 n _ (stands AtTotal f) (counted ∙ omega (arith, ints)) (mode_then n errand (AtEnd OutcomeEnded) h) unclaimed;
     follows = follows_then n errand (AtEnd OutcomeEnded) h tt;

@@ -106,7 +106,7 @@ module _ {K V F : Type 0} (cmp : K → K → Ordering) (hash : K → ℕ) (gives
   growth_lawful first home s p (Replies r) can o t u w = tt
   growth_lawful first home s p Ends can o t u w = tt
 
-  -- the reply that the line decides is one that the map allows, and so is a refusal
+  -- the reply that the transition decides is one that the map allows, and so is a refusal
   abbrev pub AllowsNow : State K V F → ℕ → Transition K V F → Type 0
   AllowsNow s p (DecidesEmpty c r) = Allows cmp gives c (pairs cmp hash s.trace) r
   AllowsNow s p (Decides c k e es n r fs m) = Allows cmp gives c (pairs cmp hash s.trace) r

@@ -101,7 +101,7 @@ module _ {K V F : Type 0} (cmp : K → K → Ordering) (total : IsTotalOrder cmp
           (other_keeps cmp total hash lawful gives (λ m. Waits (s.call q) m (at_place s.steps p (steps_after cmp hash gives s p l) q)) (waits_settled (s.call q) (at_place s.steps p (steps_after cmp hash gives s p l) q)) l q (s.mode q)
           (subst (λ n. Waits (s.call q) (s.mode q) n) (sym (place_other s.steps p q (steps_after cmp hash gives s p l) ne)) (w q)))
 
-  -- a line is one step at most
+  -- a transition is one step at most
   by_call : (call : Option (Call K V F)) (n : ℕ) → (if is_some call then suc n else n) ≤ suc n
   by_call None n = omega arith
   by_call (Some c) n = omega arith

@@ -55,7 +55,7 @@ module _ {K V F : Type 0} (cmp : K → K → Ordering) (hash : K → ℕ) where
     pub was_moved : (d j : ℕ) → s.slot d j ≡ Moved → was_moved_in s.trace d j ≡ true
     pub is_moved : (d j : ℕ) → was_moved_in s.trace d j ≡ true → s.slot d j ≡ Moved
 
--- the homes after a line
+-- the homes after a transition
 abbrev pub home_after : {K V F : Type 0} → (ℕ → ℕ) → Transition K V F → ℕ → ℕ
 home_after home (Opens e) h = e
 home_after home (Moves a i es n) h = if h % 2 ^ a.table == i then suc a.table else home h

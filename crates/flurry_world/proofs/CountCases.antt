@@ -75,7 +75,7 @@ module _ {K V F S : Type 0} (cmp : K → K → Ordering) (total : IsTotalOrder c
       let (there, idle, below) = can_begin_is e w.control_state.published w.control_state.growth can in
       let next_table : e + 1 ≡ suc e = omega arith in
       subst (λ n. IsStep cmp hash gives w p x (after_begin e w.control_state) t c (label.Placed n)) (sym next_table) (record {
-        line = Places e;
+        transition = Places e;
         can = (there, ap growth_of idle, below, no_lookup cmp total hash lawful gives w k p x at c lookup);
         is = is_placed cmp hash gives w p x at c e t (λ d j. contents d j) (mode ∙ sym (in_mode cmp total hash lawful gives w k p x at c s f)) (claim ∙ sym (ap claim_of_stage f ∙ none));
         follows = follows;
@@ -144,7 +144,7 @@ module _ {K V F S : Type 0} (cmp : K → K → Ordering) (total : IsTotalOrder c
             let (m, reserve) = subst (FollowsGrowFor x.call) is had in
             let (there, idle, below) = can_begin_is e w.control_state.published w.control_state.growth can in
             settled cmp total hash lawful gives w k p x at c ev event.Refused (AtDone OutcomeRefused) b w.control_state t' w.tables q g y z (record {
-              line = IsRefused;
+              transition = IsRefused;
               can = (x.call, calls cmp total hash lawful gives w k p x at c, in_claim cmp total hash lawful gives w k p x at c (AtGrow n u) f, subst (RefusedAt cmp hash gives (state_of w) x.call) (sym (in_mode cmp total hash lawful gives w k p x at c (AtGrow n u) f ∙ ap mode_of_grow_for is)) (m, e, reserve, refl, refl, there, ap growth_of idle, below));
               is = is_refused cmp hash gives w p x at c (ap mode_of_stage g) (ap claim_of_stage g ∙ sym (ap claim_of_stage f));
               follows = subst (FollowsStage hash x.call) (sym g) tt;

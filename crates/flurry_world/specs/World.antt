@@ -290,4 +290,4 @@ module _ {K V F : Type 0} where
 
     -- party p takes the world w to w' by one transition of the machine
     abbrev pub DoesTransition : WorldState K V F S → ℕ → WorldState K V F S → Type 0
-    DoesTransition w p w' = (line : machine.Transition K V F) × machine.Can cmp hash gives (state_of w) p line × (state_of w' ≡ machine.does cmp hash gives (state_of w) p line)
+    DoesTransition w p w' = (transition : machine.Transition K V F) × machine.Can cmp hash gives (state_of w) p transition × (state_of w' ≡ machine.does cmp hash gives (state_of w) p transition)
