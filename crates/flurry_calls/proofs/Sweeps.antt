@@ -9,7 +9,7 @@ use Rattle.flurry_slots.specs.SlotView.{answer_with}
 use Rattle.flurry_slots.specs.declared.slot.Answer.{Answer}
 use Rattle.flurry_slots.specs.declared.slot.Answer.TheVariants.{Here, Moved, Unborn}
 use Rattle.flurry_calls.specs.Outcome.{OutcomeEnded, OutcomeRefused}
-use Rattle.flurry_calls.specs.Cursor.{Frame, CursorState, at_base, with_top, with_bound, halved, after_top, onward}
+use Rattle.flurry_calls.specs.Cursor.{Frame, CursorState, at_base, with_top, with_bound, after_split, after_top, onward}
 use Rattle.flurry_calls.specs.declared.step.Event.TheVariants as event
 use Rattle.flurry_calls.specs.Sweep.{SweepStage, OverBins, AtEnd, HasNoBound, WalkGives, ReadGives, stage_walked, seen_at}
 

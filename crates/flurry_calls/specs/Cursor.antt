@@ -40,8 +40,8 @@ module _ {K : Type 0} where
   with_top c f = record { base = c.base; index = c.index; top = f; below = c.below }
 
   -- the bin on top has moved: its halves take its place, the low one first
-  abbrev pub halved : CursorState K → CursorState K
-  halved c = record { base = c.base; index = c.index; top = low_half c.top; below = high_half c.top ∷ c.below }
+  abbrev pub after_split : CursorState K → CursorState K
+  after_split c = record { base = c.base; index = c.index; top = low_half c.top; below = high_half c.top ∷ c.below }
 
   -- the frame on top is done, and these are below it: the next of them, or else the next bin of the base table, up to the last one
   abbrev pub onward : ℕ → ℕ → List (Frame K) → Option (CursorState K)

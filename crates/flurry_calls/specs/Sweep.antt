@@ -9,7 +9,7 @@ use Rattle.flurry_calls.specs.Outcome.{Outcome, OutcomeEnded, OutcomeRefused}
 use Rattle.flurry_calls.specs.Part.{Part, ControlPart, LookPart, BinPart, NoPart}
 use Rattle.flurry_calls.specs.declared.step.Event.{Event}
 use Rattle.flurry_calls.specs.declared.step.Event.TheVariants.{Read, Wipe, Refused, Silent}
-use Rattle.flurry_calls.specs.Cursor.{Frame, CursorState, at_base, with_top, with_bound, halved, after_top}
+use Rattle.flurry_calls.specs.Cursor.{Frame, CursorState, at_base, with_top, with_bound, after_split, after_top}
 
 -- what it does at each bin: it reads the pairs, or wipes them, and has wiped so many
 pub data Errand : Type 0 where
@@ -136,7 +136,7 @@ module _ {K V : Type 0} where
 
   -- a bin that has moved is left for its halves; a further owner of a bound that both need may be refused
   abbrev pub SplitGives : CursorState K → Event → SweepStage K V → Type 0
-  SplitGives f Silent s = s ≡ OverBins (halved f)
+  SplitGives f Silent s = s ≡ OverBins (after_split f)
   SplitGives f Refused s = (s ≡ AtEnd OutcomeRefused) × IsSome f.top.bound
   SplitGives f _ s = ⊥
 
@@ -164,7 +164,7 @@ module _ {K V : Type 0} where
   abbrev pub ClearGives : ℕ → CursorState K → Content K V → Event → Errand → SweepStage K V → Content K V → Type 0
   ClearGives n f (IsLive b) ev w s c =
       (ev ≡ Wipe f.top.table f.top.index) × (w ≡ Wipes (more_wiped n (length b.held))) × (s ≡ stage_cleared (after_top f)) × (c ≡ IsLive (after_wipe b))
-  ClearGives n f HasMoved ev w s c = (ev ≡ Silent) × (w ≡ Wipes n) × (s ≡ OverBins (halved f)) × (c ≡ HasMoved)
+  ClearGives n f HasMoved ev w s c = (ev ≡ Silent) × (w ≡ Wipes n) × (s ≡ OverBins (after_split f)) × (c ≡ HasMoved)
   ClearGives n f IsUnborn ev w s c = (ev ≡ Silent) × (w ≡ Wipes n) × (s ≡ OverBins f) × (c ≡ IsUnborn)
 
 -- ---- a step at a bin

@@ -2,7 +2,7 @@
 ghost use Rattle.std.specs.Prelude.{◌≡◌, ◌<◌, ◌≤◌, IsSome, OnOk, OnErr, MatchOption, false, true};
 ghost use Rattle.std.specs.Option.{option_map};
 ghost use Rattle.std.specs.Arc.{arc_value};
-ghost use Rattle.flurry_calls.specs.Cursor.{at_base, with_top, with_bound, halved, after_top};
+ghost use Rattle.flurry_calls.specs.Cursor.{at_base, with_top, with_bound, after_split, after_top};
 ghost use Rattle.flurry_model.specs.declared.sizes.TheConstants.{GREATEST_TABLE};
 
 use crate::frames::{Frame, Frames};
@@ -102,7 +102,7 @@ impl<K: Drop, A: Allocator> Cursor<K, A> {
     /// [`AllocError`], where that owner is refused; the cursor is then as it was. Without a bound nothing is refused.
     pub fn split(&mut self) -> Result<(), AllocError>
         requires { self.old.top.table < GREATEST_TABLE }
-        ensures ok { OnOk result (self.new ≡ halved self.old) }
+        ensures ok { OnOk result (self.new ≡ after_split self.old) }
         ensures err { OnErr result ((self.new ≡ self.old) × IsSome self.old.top.bound) }
     {
         let bound = match &self.top.bound {

@@ -149,12 +149,12 @@ count_of (pos n) = n
 count_of (negsuc n) = 0
 
 -- the count, with so many pairs more; a sum past 64 bits stays at the greatest or the least number
-abbrev pub counted : ℤ → ℤ → ℤ
-counted d n = saturate_signed w64 (n +ℤ d)
+abbrev pub count_after : ℤ → ℤ → ℤ
+count_after d n = saturate_signed w64 (n +ℤ d)
 
 -- the control, with so many pairs more
 abbrev pub after_count : ℤ → ControlState → ControlState
-after_count d b = record { published = b.published; growth = b.growth; count = counted d b.count }
+after_count d b = record { published = b.published; growth = b.growth; count = count_after d b.count }
 
 -- a growth with unclaimed bins is to be joined. A table that no growth moves is to be doubled once it has its threshold of pairs
 abbrev pub advice_by : Option ℕ → Growth → ℤ → Advice

@@ -62,7 +62,7 @@ pub enum BeginOutcome {
 #[derive(Clone, Copy)]
 enum State {
     Idle,
-    GrowFor {
+    Growing {
         // The bins below this index are in no claim yet.
         unclaimed: usize,
         // So many bins were in claims that came back with all bins moved.
@@ -178,7 +178,7 @@ impl Control {
                 if room.place(table + 1, false).is_err() {
                     return BeginOutcome::Refused;
                 }
-                self.state = State::GrowFor {
+                self.state = State::Growing {
                     unclaimed: 1 << table,
                     reported: 0,
                 };
@@ -200,13 +200,13 @@ impl Control {
         match (self.published, self.state) {
             (
                 Some(table),
-                State::GrowFor {
+                State::Growing {
                     unclaimed,
                     reported,
                 },
             ) if unclaimed > 0 => {
                 let low = unclaimed.saturating_sub(stride(1 << table, processors));
-                self.state = State::GrowFor {
+                self.state = State::Growing {
                     unclaimed: low,
                     reported,
                 };
@@ -236,7 +236,7 @@ impl Control {
         match (self.published, self.state) {
             (
                 Some(table),
-                State::GrowFor {
+                State::Growing {
                     unclaimed,
                     reported,
                 },
@@ -253,7 +253,7 @@ impl Control {
                     self.state = State::Idle;
                     Some(table + 1)
                 } else {
-                    self.state = State::GrowFor {
+                    self.state = State::Growing {
                         unclaimed,
                         reported: all,
                     };
@@ -274,7 +274,7 @@ impl Control {
     {
         self.count = self.count.saturating_add(delta);
         match (self.published, self.state) {
-            (_, State::GrowFor { unclaimed, .. }) => {
+            (_, State::Growing { unclaimed, .. }) => {
                 if unclaimed > 0 {
                     Advice::Join
                 } else {

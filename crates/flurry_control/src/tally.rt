@@ -1,6 +1,6 @@
 //! Counts that wait.
 ghost use Rattle.std.specs.Prelude.{◌≡◌, pos, int_le};
-ghost use Rattle.flurry_control.specs.Control.{counted};
+ghost use Rattle.flurry_control.specs.Control.{count_after};
 
 use std::marker::Model;
 
@@ -43,7 +43,7 @@ impl Tally {
     ///
     /// Constant time.
     pub fn count(&mut self, delta: i64)
-        ensures { self.new ≡ counted delta self.old }
+        ensures { self.new ≡ count_after delta self.old }
     {
         self.count = self.count.saturating_add(delta);
     }

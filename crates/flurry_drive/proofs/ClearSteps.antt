@@ -14,7 +14,7 @@ use Rattle.flurry_slots.specs.Slot as slots
 use Rattle.flurry_slots.specs.Slot.{SlotState, Content, IsLive, HasMoved, IsUnborn, after_wipe}
 use Rattle.flurry_control.specs.Control as control
 use Rattle.flurry_calls.specs.Outcome.{OutcomeEnded}
-use Rattle.flurry_calls.specs.Cursor.{CursorState, at_base, halved, after_top}
+use Rattle.flurry_calls.specs.Cursor.{CursorState, at_base, after_split, after_top}
 use Rattle.flurry_calls.specs.Sweep.{Wipes, SweepStage, AtOutset, OverBins, AtTotal, AtEnd, SweepState, more_wiped, stage_cleared}
 use Rattle.flurry_steps.specs.Party.{AtSweep, PartyState, last_seen}
 use Rattle.flurry_theory.specs.Bin.{Entry}
@@ -22,11 +22,11 @@ use Rattle.flurry_theory.specs.Map.{same}
 use Rattle.flurry_theory.specs.Trace.{is_lookup, pairs}
 use Rattle.flurry_theory.specs.Machine as machine
 use Rattle.flurry_theory.specs.Machine.{State, Frame, Transition, Can, effect, goes, does, found_by, onward, Mode, Clearing, Done, Live, Moved, at_bin, at_place, total as sum, owes_added, owes_removed, WasPublished, Begins, Counts, Finds, FindsNothing, Wipes as WipesBin, SplitsClear}
-use Rattle.flurry_theory.specs.Invariant.{Inv, Named}
+use Rattle.flurry_theory.specs.Invariant.{Inv, NamesBorn}
 use Rattle.flurry_theory.proofs.Ranges.{place_here, place_other, total-change}
 use Rattle.flurry_theory.proofs.Step.{inv_step}
 use Rattle.flurry_theory.specs.declared.Label.TheVariants as label
-use Rattle.flurry_world.specs.Entries.{slot_of, entries_of_held, Hashed}
+use Rattle.flurry_world.specs.Entries.{slot_of, entries_of_held, IsHashed}
 use Rattle.flurry_world.specs.Tables.{Tables, slots_of, place_at, content_at, put_place}
 use Rattle.flurry_world.specs.World.{PartyRecord, WorldState, state_of, mode_of_stage, mode_of_sweep, frame_of, frames_of, claim_of_stage, AreHashed, FollowsErrand, FollowsSweep, FollowsStage, IsWorld}
 use Rattle.flurry_world.proofs.EntryLaws.{length-entries_of_held}
@@ -114,12 +114,12 @@ module _ {K V F S : Type 0} (cmp : K → K → Ordering) (total : IsTotalOrder c
     follows_then h = subst (FollowsStage hash x.call) (sym g) (subst (λ z. FollowsErrand x.call z u'.last) (sym errand) (is_clear.0, last ∙ is_clear.1), subst (λ z. FollowsSweep hash z u'.errand) (sym at_stage) (subst (FollowsSweep hash s') (sym errand) h))
 
     -- a step after which the machine's clear alone stands elsewhere
-    goes_on : (line : Transition K V F) (m : Mode K V) → effect cmp hash gives (state_of w) p line ≡ goes cmp hash gives (state_of w) p m → label.Silent p ≡ machine.label cmp hash gives p line → ((d : Call K V F) (f : Option ℕ) → line ≡ Begins d f → ⊥)
-        → Can cmp hash gives (state_of w) p line → mode_of_sweep s' (Wipes n') ≡ m → FollowsSweep hash s' (Wipes n') → StepOf cmp hash gives w p x w.control_state w.tables c (label.Silent p)
-    goes_on line m is named other can mode follows = step_of cmp hash gives w p x w.control_state w.tables c (label.Silent p) at hashed unread (record {
-      line = line;
+    goes_on : (transition : Transition K V F) (m : Mode K V) → effect cmp hash gives (state_of w) p transition ≡ goes cmp hash gives (state_of w) p m → label.Silent p ≡ machine.label cmp hash gives p transition → ((d : Call K V F) (f : Option ℕ) → transition ≡ Begins d f → ⊥)
+        → Can cmp hash gives (state_of w) p transition → mode_of_sweep s' (Wipes n') ≡ m → FollowsSweep hash s' (Wipes n') → StepOf cmp hash gives w p x w.control_state w.tables c (label.Silent p)
+    goes_on transition m is named other can mode follows = step_of cmp hash gives w p x w.control_state w.tables c (label.Silent p) at hashed unread (record {
+      transition = transition;
       can = can;
-      is = is_goes cmp hash gives w p x at c (label.Silent p) line m is named other refl (mode_then ∙ mode) unclaimed;
+      is = is_goes cmp hash gives w p x at c (label.Silent p) transition m is named other refl (mode_then ∙ mode) unclaimed;
       follows = follows_then follows;
       frame = same_frame cmp hash gives w k;
     })
@@ -138,21 +138,21 @@ module _ {K V F S : Type 0} (cmp : K → K → Ordering) (total : IsTotalOrder c
     bounds : AreHashed hash (f.top ∷ f.below)
     bounds = subst (λ z. FollowsSweep hash z u.errand) over own.1
 
-    pub follows_moved : u'.errand ≡ Wipes n → content_at w.tables f.top.table f.top.index ≡ HasMoved → u'.stage ≡ OverBins (halved f) → StepOf cmp hash gives w p x w.control_state w.tables c (label.Silent p)
-    follows_moved errand moved h = goes_on n errand (OverBins (halved f)) h (SplitsClear n f.base f.index (frame_of f.top) (map frame_of f.below)) _ refl refl (λ d o y. cc) (stands (OverBins f) over, ap slot_of moved) (ap (Clearing n f.base f.index) (halved_frames f)) (bounds.0, (bounds.0, bounds.1))
+    pub follows_moved : u'.errand ≡ Wipes n → content_at w.tables f.top.table f.top.index ≡ HasMoved → u'.stage ≡ OverBins (after_split f) → StepOf cmp hash gives w p x w.control_state w.tables c (label.Silent p)
+    follows_moved errand moved h = goes_on n errand (OverBins (after_split f)) h (SplitsClear n f.base f.index (frame_of f.top) (map frame_of f.below)) _ refl refl (λ d o y. cc) (stands (OverBins f) over, ap slot_of moved) (ap (Clearing n f.base f.index) (halved_frames f)) (bounds.0, (bounds.0, bounds.1))
 
     -- it meets no bin that is not there yet
     pub no_unborn : content_at w.tables f.top.table f.top.index ≡ IsUnborn → ⊥
     no_unborn unborn =
-        let named = subst (Named hash (is_some w.control_state.published) k.state.0 (state_of w).start ((state_of w).call p)) (stands (OverBins f) over) (k.state.1.named p) in
+        let named = subst (NamesBorn hash (is_some w.control_state.published) k.state.0 (state_of w).start ((state_of w).call p)) (stands (OverBins f) over) (k.state.1.named p) in
         frame_is_born cmp hash k.state.0 (state_of w) (frame_of f.top) (map frame_of f.below) k.state.1.tables named.0 named.3 (ap slot_of unborn)
 
     -- it wipes a live bin
     module _ (d : slots.Live K V) (live : content_at w.tables f.top.table f.top.index ≡ IsLive d) where
-      abbrev line : Transition K V F
-      line = WipesBin n f.base f.index (frame_of f.top) (map frame_of f.below) (entries_of_held d.held) d.writes
+      abbrev transition : Transition K V F
+      transition = WipesBin n f.base f.index (frame_of f.top) (map frame_of f.below) (entries_of_held d.held) d.writes
 
-      can_wipe : Can cmp hash gives (state_of w) p line
+      can_wipe : Can cmp hash gives (state_of w) p transition
       can_wipe = (stands (OverBins f) over, ap slot_of live)
 
       pub wiped_pairs : length (pairs cmp hash (label.Wipe p f.top.table f.top.index ∷ reverse w.trace)) + length d.held ≡ length (pairs cmp hash (reverse w.trace))
@@ -162,7 +162,7 @@ module _ {K V F S : Type 0} (cmp : K → K → Ordering) (total : IsTotalOrder c
 
       pub wipes_bin : (t : Tables K V) → Put w.tables f.top.table f.top.index (IsLive (after_wipe d)) t → length (pairs cmp hash (reverse w.trace)) + n ≤ MOST_LABELS → u'.errand ≡ Wipes (more_wiped n (length d.held)) → u'.stage ≡ stage_cleared (after_top f) → StepOf cmp hash gives w p x w.control_state t c (label.Wipe p f.top.table f.top.index)
       wipes_bin t put few q h = step_of cmp hash gives w p x w.control_state t c (label.Wipe p f.top.table f.top.index) at hashed unread (record {
-        line = line;
+        transition = transition;
         can = can_wipe;
         is = is_wiped cmp hash gives w p x at c n f.base f.index (frame_of f.top) (map frame_of f.below) (entries_of_held d.held) d.writes t slots_after (mode_then _ errand _ h ∙ cleared (n + length (entries_of_held d.held)) f.base f.index f.below) unclaimed;
         follows = follows_then _ errand _ h (cleared_hashed V hash f.base f.index f.below _ bounds.1);
@@ -194,15 +194,15 @@ module _ {K V F S : Type 0} (cmp : K → K → Ordering) (total : IsTotalOrder c
               through true = refl
               through false = refl
 
-          hashed_in : (a i : ℕ) (l : slots.Live K V) (z : Bool) → (if z then IsLive (after_wipe d) else content_at w.tables a i) ≡ IsLive l → Hashed hash l.held
-          hashed_in a i l true y = subst (λ z. Hashed hash z.held) (same_live y) tt
+          hashed_in : (a i : ℕ) (l : slots.Live K V) (z : Bool) → (if z then IsLive (after_wipe d) else content_at w.tables a i) ≡ IsLive l → IsHashed hash l.held
+          hashed_in a i l true y = subst (λ z. IsHashed hash z.held) (same_live y) tt
           hashed_in a i l false y = k.hashed a i l y
 
   -- it counts what it wiped
   pub counts_all : u.stage ≡ AtTotal → u'.errand ≡ Wipes n → u'.stage ≡ AtEnd OutcomeEnded → (control.after_count (neg_ℤ (pos (min n (2 ^ 63 - 1)))) w.control_state).count ≡ w.control_state.count -ℤ pos n
       → StepOf cmp hash gives w p x (control.after_count (neg_ℤ (pos (min n (2 ^ 63 - 1)))) w.control_state) w.tables c (label.Silent p)
   counts_all f errand h counted = step_of cmp hash gives w p x _ w.tables c (label.Silent p) at hashed unread (record {
-    line = Counts (λ q. p == q);
+    transition = Counts (λ q. p == q);
     can = ap is_lookup called;
     is = is_counted cmp hash gives w p x at c None 0 n _ (stands AtTotal f) (counted ∙ omega (arith, ints)) (mode_then n errand (AtEnd OutcomeEnded) h) unclaimed;
     follows = follows_then n errand (AtEnd OutcomeEnded) h tt;

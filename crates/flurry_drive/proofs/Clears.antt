@@ -8,7 +8,7 @@ use Rattle.std.proofs.lemmas.List.{reverse-append}
 use Rattle.std.proofs.lemmas.Option.{slice_get_within}
 use Rattle.flurry_slots.specs.Slot.{Content, IsLive, HasMoved, IsUnborn, Live, after_wipe}
 use Rattle.flurry_control.specs.Control.{ControlState, after_count}
-use Rattle.flurry_calls.specs.Cursor.{CursorState, at_base, halved, after_top}
+use Rattle.flurry_calls.specs.Cursor.{CursorState, at_base, after_split, after_top}
 use Rattle.flurry_calls.specs.Part.{BinPart}
 use Rattle.flurry_calls.specs.Outcome.{Outcome, OutcomeEnded}
 use Rattle.flurry_calls.specs.Sweep as sweep
@@ -20,7 +20,7 @@ use Rattle.flurry_steps.specs.PartyControl.{StageAtControl, ControlStep}
 use Rattle.flurry_steps.specs.PartySlots.{StageAtSlot}
 use Rattle.flurry_theory.specs.Map.{Pairs, same, find}
 use Rattle.flurry_theory.specs.Trace.{Trace, in_region, names, pairs}
-use Rattle.flurry_theory.specs.Legal.{Lacked}
+use Rattle.flurry_theory.specs.Legal.{HasLacked}
 use Rattle.flurry_theory.specs.Machine.{Mode, Done, Finished}
 use Rattle.flurry_theory.specs.Invariant.{Remains}
 use Rattle.flurry_theory.specs.declared.Label.{Label}
@@ -58,7 +58,7 @@ module _ {K V F : Type 0} (cmp : K → K → Ordering) (total : IsTotalOrder cmp
 
   -- what party p has seen to be lacking is lacking still
   abbrev pub StaysGone : ℕ → Trace K V F → Type 0
-  StaysGone p t = (j : K) → Lacked cmp hash gives (names p) t p j → find cmp (pairs cmp hash t) j ≡ None
+  StaysGone p t = (j : K) → HasLacked cmp hash gives (names p) t p j → find cmp (pairs cmp hash t) j ≡ None
 
   wipe_lessens : (p e i : ℕ) (t : Trace K V F) → Lessens t (label.Wipe p e i)
   wipe_lessens p e i t j gone = find-wiped cmp total hash lawful e i (pairs cmp hash t) j ∙ by_place (in_region e i (hash j))
@@ -161,8 +161,8 @@ module _ {K V F : Type 0} (cmp : K → K → Ordering) (total : IsTotalOrder cmp
               (wipes_bin cmp total hash lawful gives w k p x at u e i wipes c u' g hashed last f over d live t put (omega (arith, whole, few)) errand h) (wipe_lessens p f.top.table f.top.index (reverse w.trace))
               (tally_of _ w.control_state.count u' (more_wiped i (length d.held)) (stage_cleared (after_top f)) errand h (tally_cleared _ w.control_state.count (more_wiped i (length d.held)) (after_top f) (omega (arith, lost, whole, sums), within)))
 
-          moved : (f : CursorState K) → u.stage ≡ OverBins f → content_at w.tables f.top.table f.top.index ≡ HasMoved → u'.errand ≡ Wipes i → u'.stage ≡ OverBins (halved f) → InClear (record { control_state = w.control_state; tables = w.tables }) c
-          moved f over has_moved errand h = quiet (follows_moved cmp total hash lawful gives w k p x at u e i wipes c u' g hashed last f over errand has_moved h) (OverBins (halved f)) errand h (held (OverBins f) over)
+          moved : (f : CursorState K) → u.stage ≡ OverBins f → content_at w.tables f.top.table f.top.index ≡ HasMoved → u'.errand ≡ Wipes i → u'.stage ≡ OverBins (after_split f) → InClear (record { control_state = w.control_state; tables = w.tables }) c
+          moved f over has_moved errand h = quiet (follows_moved cmp total hash lawful gives w k p x at u e i wipes c u' g hashed last f over errand has_moved h) (OverBins (after_split f)) errand h (held (OverBins f) over)
 
         -- a step at the part that it wants
         module _ (c : PartyState K V F) (b : ControlState) (t : Tables K V) (ev : Event) where
@@ -237,7 +237,7 @@ module _ {K V F : Type 0} (cmp : K → K → Ordering) (total : IsTotalOrder cmp
       ended r done = by_stage u.errand refl u.stage refl (sym (ap final_outcome e) ∙ done)
         where
           empty : {q : Outcome K V} (i : ℕ) → u.errand ≡ Wipes i → u.stage ≡ AtEnd q → q ≡ OutcomeEnded → pairs cmp hash (reverse w.trace) ≡ []
-          empty i wipes f ends = none_left cmp total (pairs cmp hash (reverse w.trace)) (λ j. over j (subst (λ z. Lacked cmp hash gives (names p) (reverse w.trace) p j ⊎ Remains cmp hash gives z j) mode ((k.state.1.progress p).cleared (calls cmp total hash lawful gives w k p x at x.party_state ∙ ap Some called) going j)))
+          empty i wipes f ends = none_left cmp total (pairs cmp hash (reverse w.trace)) (λ j. over j (subst (λ z. HasLacked cmp hash gives (names p) (reverse w.trace) p j ⊎ Remains cmp hash gives z j) mode ((k.state.1.progress p).cleared (calls cmp total hash lawful gives w k p x at x.party_state ∙ ap Some called) going j)))
             where
               mode : (state_of w).mode p ≡ Done None 0 0
               mode = in_mode cmp total hash lawful gives w k p x at x.party_state (AtSweep u) e ∙ ap (λ z. mode_of_sweep z u.errand) (f ∙ ap AtEnd ends)
@@ -245,7 +245,7 @@ module _ {K V F : Type 0} (cmp : K → K → Ordering) (total : IsTotalOrder cmp
               going : (state_of w).mode p ≡ Finished → ⊥
               going h = let no : ◌≡◌ {A = Mode K V} (Done None 0 0) Finished = sym mode ∙ h in cc
 
-              over : (j : K) → Lacked cmp hash gives (names p) (reverse w.trace) p j ⊎ Remains {F = F} cmp hash gives (Done None 0 0) j → find cmp (pairs cmp hash (reverse w.trace)) j ≡ None
+              over : (j : K) → HasLacked cmp hash gives (names p) (reverse w.trace) p j ⊎ Remains {F = F} cmp hash gives (Done None 0 0) j → find cmp (pairs cmp hash (reverse w.trace)) j ≡ None
               over j (inl h) = gone j h
               over j (inr h) = absurd h
 
@@ -278,5 +278,5 @@ module _ {K V F : Type 0} (cmp : K → K → Ordering) (total : IsTotalOrder cmp
         tally = subst (λ r. Tally n m few (length h.world.party_records) (pairs cmp hash r) h.world.control_state.count (Wipes 0) AtOutset) (sym b.trace) (omega (arith, ap length h.map), b.near);
       }
     where
-      not_yet : (j : K) → Lacked cmp hash gives (names (length h.world.party_records)) (label.Begin (length h.world.party_records) call.Clear ∷ reverse h.world.trace) (length h.world.party_records) j → ⊥
+      not_yet : (j : K) → HasLacked cmp hash gives (names (length h.world.party_records)) (label.Begin (length h.world.party_records) call.Clear ∷ reverse h.world.trace) (length h.world.party_records) j → ⊥
       not_yet j lacked = let no : true ≡ false = sym (itself (length h.world.party_records)) ∙ lacked.0 in cc

@@ -159,7 +159,7 @@ module _ {K V F : Type 0} (cmp : K → K → Ordering) (total : IsTotalOrder cmp
         by_stage (AtLocate t) f = stepped c w.control_state w.tables ev (λ u. subst IsSweepEvent silent u)
             (kept cmp hash gives total lawful w p x w.control_state w.tables c (label_of p ev c.stage) k at (step_of cmp hash gives w p x w.control_state w.tables c (label_of p ev c.stage) at (ap (λ r. r.hash) is) (ap last_seen stands ∙ sym (ap last_seen f))
             (subst (λ v. IsStep cmp hash gives w p x w.control_state w.tables c (label_of p v c.stage)) (sym silent) (record {
-              line = Finds e;
+              transition = Finds e;
               can = (x.call, calls cmp total hash lawful gives w k p x at c, in_mode cmp total hash lawful gives w k p x at c (AtLocate t) f, was_published cmp hash gives w k e start);
               is = is_finds cmp hash gives w p x at c e (ap mode_of_stage stands ∙ sym (found_task x.call t e follows)) (ap claim_of_stage stands ∙ sym (ap claim_of_stage f));
               follows = subst (FollowsStage hash x.call) (sym stands) follows;

@@ -57,7 +57,7 @@ impl<'m, R, K: Ord, V, A: Allocator> Lender<'m, R, K, V, A> {
         self.locks.alloc
     }
 
-    /// The number that was published last, as far as that is known without the control's lock; none where no table is known. Constant
+    /// The exponent that was published last, as far as that is known without the control's lock; none where no table is known. Constant
     /// time.
     pub fn newest(&self) -> Option<&PublishedTable> {
         self.locks.starts.newest()

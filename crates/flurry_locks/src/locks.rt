@@ -8,7 +8,7 @@ use crate::tables::{Maker, Tables};
 use flurry_control::Control;
 use std::alloc::{AllocError, Allocator, Global};
 
-/// The control and the tables of a map that threads share, each part under a lock of its own, and the numbers that the control has
+/// The control and the tables of a map that threads share, each part under a lock of its own, and the exponents that the control has
 /// published, which are read without a lock. Beside the control stand tallies, each under its lock, where counts of pairs wait for it.
 ///
 /// What each lock keeps is what the type of its part keeps: the ranges of a control, and the order, the region and the sizes of a

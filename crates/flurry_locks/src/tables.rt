@@ -1,4 +1,4 @@
-//! The tables of a shared map, each at the place of its number.
+//! The tables of a shared map, each at the place of its exponent.
 ghost use Rattle.std.specs.Prelude.{◌≤◌};
 ghost use Rattle.flurry_model.specs.declared.sizes.TheConstants.{GREATEST_TABLE};
 
@@ -20,7 +20,7 @@ type LocksOfMove<'m, K, V, A> = (
     &'m RwLock<Slot<K, V, A>>,
 );
 
-/// A place for each table, by its number. A table is put in at most once, and stays.
+/// A place for each table, by its exponent. A table is put in at most once, and stays.
 #[derive(Drop)]
 pub(crate) struct Tables<K: Ord, V, A: Allocator = Global> {
     places: [OnceLock<Arc<Vec<RwLock<Slot<K, V, A>>, A>, A>>; TABLES],

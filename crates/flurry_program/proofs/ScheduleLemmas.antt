@@ -11,7 +11,7 @@ use Rattle.flurry_steps.specs.declared.party.call.OwnedCall.{OwnedCall}
 use Rattle.flurry_theory.specs.declared.Label.{Label}
 use Rattle.flurry_theory.specs.declared.Label.TheVariants as label
 use Rattle.flurry_world.specs.World.{PartyRecord, WorldState}
-use Rattle.flurry_world.specs.Steps.{CallerStep, WorldStep, with_label}
+use Rattle.flurry_world.specs.Steps.{RecordStep, WorldStep, with_label}
 use Rattle.flurry_world.specs.Runs.{DoesStep, Runs}
 use Rattle.flurry_world.specs.declared.world.Step as world
 use Rattle.flurry_world.specs.declared.world.Step.TheVariants as step
@@ -45,7 +45,7 @@ module _ {F S : Type 0} where
     pub label_of_step : (w v : WorldState ℕ ℕ F S) (p : ℕ) → WorldStep nat_cmp changes w p v → (l : Label ℕ ℕ F) × (v.trace ≡ w.trace ++ l ∷ [])
     label_of_step w v p h = by_caller (slice_get w.party_records p) h
       where
-        by_caller : (x : Option (PartyRecord ℕ ℕ F)) → MatchOption x (v ≡ with_label w (label.Silent p)) (λ x. CallerStep nat_cmp changes w p x v) → (l : Label ℕ ℕ F) × (v.trace ≡ w.trace ++ l ∷ [])
+        by_caller : (x : Option (PartyRecord ℕ ℕ F)) → MatchOption x (v ≡ with_label w (label.Silent p)) (λ x. RecordStep nat_cmp changes w p x v) → (l : Label ℕ ℕ F) × (v.trace ≡ w.trace ++ l ∷ [])
         by_caller None h = (label.Silent p, ap (λ u. u.trace) h)
         by_caller (Some x) h = (h.step_label, ap (λ u. u.trace) h.after)
 

@@ -10,7 +10,7 @@ use Rattle.flurry_calls.specs.declared.step.Event.TheVariants.{Decide, Refused, 
 use Rattle.flurry_control.specs.declared.control.Advice.{Advice}
 use Rattle.flurry_control.specs.declared.control.Advice.TheVariants.{Enough, Join, Begin}
 use Rattle.flurry_control.specs.declared.control.BeginOutcome.{BeginOutcome}
-use Rattle.flurry_control.specs.declared.control.BeginOutcome.TheVariants as started_stage
+use Rattle.flurry_control.specs.declared.control.BeginOutcome.TheVariants as begin
 use Rattle.flurry_model.specs.declared.sizes.TheConstants.{FIRST_TABLE}
 
 module _ {K V F : Type 0} where
@@ -27,9 +27,9 @@ module _ {K V F : Type 0} where
 
   -- the call tried to begin the growth that was advised
   abbrev pub stage_begun : Outcome K V → BeginOutcome → Stage K V F
-  stage_begun r started_stage.Begun = AtClaim (ThenRecount r)
-  stage_begun r started_stage.Refused = AtDone r
-  stage_begun r started_stage.Busy = AtRecount r
+  stage_begun r begin.Begun = AtClaim (ThenRecount r)
+  stage_begun r begin.Refused = AtDone r
+  stage_begun r begin.Busy = AtRecount r
 
   -- growing ends
   abbrev pub stage_grown : GrowFor K V → Stage K V F
@@ -43,13 +43,13 @@ module _ {K V F : Type 0} where
 
   -- the call tried to begin a growth on the way to table w
   abbrev pub stage_growing : ℕ → GrowFor K V → BeginOutcome → Stage K V F
-  stage_growing w g started_stage.Begun = AtClaim (ThenGrow w g)
-  stage_growing w g started_stage.Refused = stage_not_grown g
-  stage_growing w g started_stage.Busy = stage_grown g
+  stage_growing w g begin.Begun = AtClaim (ThenGrow w g)
+  stage_growing w g begin.Refused = stage_not_grown g
+  stage_growing w g begin.Busy = stage_grown g
 
 -- the event of a call that tried to begin a growth from table e, which was advised
 abbrev pub event_begun : ℕ → BeginOutcome → Event
-event_begun e started_stage.Begun = Placed (e + 1)
+event_begun e begin.Begun = Placed (e + 1)
 event_begun e _ = Silent
 
 abbrev pub event_not_grown : {K V : Type 0} → GrowFor K V → Event
@@ -58,9 +58,9 @@ event_not_grown ForReserve = Refused
 
 -- the same of one that is on the way to a table
 abbrev pub event_growing : {K V : Type 0} → ℕ → GrowFor K V → BeginOutcome → Event
-event_growing e g started_stage.Begun = Placed (e + 1)
-event_growing e g started_stage.Refused = event_not_grown g
-event_growing e g started_stage.Busy = Silent
+event_growing e g begin.Begun = Placed (e + 1)
+event_growing e g begin.Refused = event_not_grown g
+event_growing e g begin.Busy = Silent
 
 -- over a room whose `place` is the relation, with p processors
 module _ {K V F R : Type 0} (place : R → ℕ → Bool → Bool → R → Type 0) (p : ℕ) where

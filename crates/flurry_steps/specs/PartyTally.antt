@@ -1,6 +1,6 @@
 -- What a step of a call is at a tally.
 use Rattle.std.specs.Prelude.{◌≡◌, ℤ, pos, negsuc, Bool, true, false, if◌then◌else◌, int_le, ◌≤◌, ⊤}
-use Rattle.flurry_control.specs.Control.{counted}
+use Rattle.flurry_control.specs.Control.{count_after}
 use Rattle.flurry_calls.specs.Outcome.{Outcome}
 use Rattle.flurry_steps.specs.Party.{Stage, AtUncount, AtCount, AtRecount, AtGrow, AtDone, ForInsert, IsDecided, PartyState}
 use Rattle.flurry_calls.specs.declared.step.Event.{Event}
@@ -22,8 +22,8 @@ module _ {K V F : Type 0} where
 
   -- the step of a call at a tally, at which n pairs waited before and n' wait after
   abbrev pub StageAtTally : ℤ → Stage K V F → ℤ → Stage K V F → ℤ → Type 0
-  StageAtTally most (AtUncount r) n st' n' = (st' ≡ AtDone r) × (n' ≡ counted (negsuc 0) n)
-  StageAtTally most (AtCount r) n st' n' = (st' ≡ stage_tallied most n' r) × (n' ≡ counted (pos 1) n)
+  StageAtTally most (AtUncount r) n st' n' = (st' ≡ AtDone r) × (n' ≡ count_after (negsuc 0) n)
+  StageAtTally most (AtCount r) n st' n' = (st' ≡ stage_tallied most n' r) × (n' ≡ count_after (pos 1) n)
   StageAtTally most _ n st' n' = ⊥
 
 -- a call whose reply is known, and what it does next

@@ -10,7 +10,7 @@ use Rattle.flurry_theory.specs.Trace.{map_after_decision, in_region, pairs, at}
 use Rattle.flurry_theory.specs.Bin.{Entry}
 use Rattle.flurry_theory.specs.Machine.{RefusedAt, Mode, Locating, Looking, Walking, Clearing, Done, halves, onward, found_by, owes_added, owes_removed, mode_after_count, State, Transition, Can, does, at_bin, at_place, Live, Finished, Frame, Begins, Quiet, Counts, Finds, Opens, FindsNothing, IsRefused, DecidesEmpty, Passes, Decides, Places, Claims, Moves, Reports, Publishes, Reads, Leaves, Splits, Wipes, SplitsClear, Replies, Ends}
 use Rattle.flurry_theory.specs.Machine.{total}
-use Rattle.flurry_theory.specs.Invariant.{PartyOk, Tables, home_after, Counted}
+use Rattle.flurry_theory.specs.Invariant.{PartyOk, Tables, home_after, IsCounted}
 use Rattle.flurry_theory.proofs.Bins.{find-after_other, find-wiped}
 use Rattle.flurry_theory.proofs.Ranges.{place_here, place_other, total-change, total-same, total-zero}
 use Rattle.flurry_theory.proofs.Count.{length-after, unique-filter, unique-after, same_length, balance}
@@ -98,7 +98,7 @@ module _ {K V F : Type 0} (cmp : K → K → Ordering) (total_order : IsTotalOrd
   refused_owed s c Finished h = absurd h
 
   -- where a party's mode changes, and not what it owes, nor the map
-  moves_on : (s : State K V F) (p : ℕ) (m : Mode K V) → PartyOk s p → (s.mode p ≡ Finished → ⊥) → owes_added m ≡ owes_added (s.mode p) → owes_removed m ≡ owes_removed (s.mode p) → Counted cmp hash s
+  moves_on : (s : State K V F) (p : ℕ) (m : Mode K V) → PartyOk s p → (s.mode p ≡ Finished → ⊥) → owes_added m ≡ owes_added (s.mode p) → owes_removed m ≡ owes_removed (s.mode p) → IsCounted cmp hash s
       → (pos (length (pairs cmp hash s.trace)) ≡ s.count +ℤ pos (total (λ q. owes_added (at_place s.mode p m q)) s.parties) -ℤ pos (total (λ q. owes_removed (at_place s.mode p m q)) s.parties))
       × (length (pairs cmp hash s.trace) + total (λ q. owes_removed (at_place s.mode p m q)) s.parties ≤ suc (length s.trace)) × (total (λ q. owes_added (at_place s.mode p m q)) s.parties ≤ suc (length s.trace))
   moves_on s p m o f a b v =
@@ -106,7 +106,7 @@ module _ {K V F : Type 0} (cmp : K → K → Ordering) (total_order : IsTotalOrd
       let y : total (λ q. owes_removed (at_place s.mode p m q)) s.parties ≡ total (λ q. owes_removed (s.mode q)) s.parties = omega (arith, b, placed_owed owes_removed s.mode p s.parties m (known s p o f)) in
       (omega (arith, ints, v.balance, x, y), omega (arith, v.held, y), omega (arith, v.owed, x))
 
-  counts_counted : (s : State K V F) (p : ℕ) (whose : ℕ → Bool) → Counted cmp hash s → Counted cmp hash (does cmp hash gives s p (Counts whose))
+  counts_counted : (s : State K V F) (p : ℕ) (whose : ℕ → Bool) → IsCounted cmp hash s → IsCounted cmp hash (does cmp hash gives s p (Counts whose))
   counts_counted s p whose v = record {
     unique = v.unique;
     balance = omega (arith, ints, v.balance, still_owed owes_added s.mode whose s.parties settled_added, still_owed owes_removed s.mode whose s.parties settled_removed);
@@ -114,7 +114,7 @@ module _ {K V F : Type 0} (cmp : K → K → Ordering) (total_order : IsTotalOrd
     owed = omega (arith, v.owed, still_owed owes_added s.mode whose s.parties settled_added);
   }
 
-  begins_counted : (s : State K V F) (p : ℕ) (c : Call K V F) (y : Option ℕ) → Can cmp hash gives s p (Begins c y) → Counted cmp hash s → Counted cmp hash (does cmp hash gives s p (Begins c y))
+  begins_counted : (s : State K V F) (p : ℕ) (c : Call K V F) (y : Option ℕ) → Can cmp hash gives s p (Begins c y) → IsCounted cmp hash s → IsCounted cmp hash (does cmp hash gives s p (Begins c y))
   begins_counted s p c y can v = record {
     unique = v.unique;
     balance = omega (arith, ints, v.balance, begun_owed owes_added s.mode p Locating refl, begun_owed owes_removed s.mode p Locating refl, ap (total (λ q. owes_added (s.mode q))) can.0, ap (total (λ q. owes_removed (s.mode q))) can.0);
@@ -122,7 +122,7 @@ module _ {K V F : Type 0} (cmp : K → K → Ordering) (total_order : IsTotalOrd
     owed = omega (arith, v.owed, begun_owed owes_added s.mode p Locating refl, begun_owed owes_removed s.mode p Locating refl, ap (total (λ q. owes_added (s.mode q))) can.0, ap (total (λ q. owes_removed (s.mode q))) can.0);
   }
 
-  decides_counted : (home : ℕ → ℕ) (s : State K V F) (p : ℕ) (c : Call K V F) (k : K) (e : ℕ) (es : List (Entry K V)) (n : ℕ) (r : KeptReply K V) (fs : List (Entry K V)) (m : ℕ) → Can cmp hash gives s p (Decides c k e es n r fs m) → PartyOk s p → Tables cmp hash home s → Tables cmp hash home (does cmp hash gives s p (Decides c k e es n r fs m)) → Counted cmp hash s → Counted cmp hash (does cmp hash gives s p (Decides c k e es n r fs m))
+  decides_counted : (home : ℕ → ℕ) (s : State K V F) (p : ℕ) (c : Call K V F) (k : K) (e : ℕ) (es : List (Entry K V)) (n : ℕ) (r : KeptReply K V) (fs : List (Entry K V)) (m : ℕ) → Can cmp hash gives s p (Decides c k e es n r fs m) → PartyOk s p → Tables cmp hash home s → Tables cmp hash home (does cmp hash gives s p (Decides c k e es n r fs m)) → IsCounted cmp hash s → IsCounted cmp hash (does cmp hash gives s p (Decides c k e es n r fs m))
   decides_counted home s p c k e es n r fs m can o t t' v = record {
     unique = unique;
     balance = omega (arith, ints, v.balance, moves, ap owes_added can.2, ap owes_removed can.2, placed_owed owes_added s.mode p s.parties (Done (Some r) (length fs - length es) (length es - length fs)) l, placed_owed owes_removed s.mode p s.parties (Done (Some r) (length fs - length es) (length es - length fs)) l);
@@ -151,7 +151,7 @@ module _ {K V F : Type 0} (cmp : K → K → Ordering) (total_order : IsTotalOrd
           (λ j g. held cmp total_order hash lawful gives home (does cmp hash gives s p (Decides c k e es n r fs m)) e (hash k % 2 ^ e) fs m j t' now g)
           (λ j g. sym (ap (λ u. find cmp u j) is ∙ find-after_other cmp total_order c r (pairs cmp hash s.trace) k j can.1 (false_from_ne_true (same cmp k j) (λ y. g (ap (λ h. h % 2 ^ e) (sym (lawful k j y)))))))
 
-  wipes_counted : (home : ℕ → ℕ) (s : State K V F) (p wiped e i : ℕ) (f : Frame K) (fs : List (Frame K)) (es : List (Entry K V)) (n : ℕ) → Can cmp hash gives s p (Wipes wiped e i f fs es n) → PartyOk s p → Tables cmp hash home s → Tables cmp hash home (does cmp hash gives s p (Wipes wiped e i f fs es n)) → Counted cmp hash s → Counted cmp hash (does cmp hash gives s p (Wipes wiped e i f fs es n))
+  wipes_counted : (home : ℕ → ℕ) (s : State K V F) (p wiped e i : ℕ) (f : Frame K) (fs : List (Frame K)) (es : List (Entry K V)) (n : ℕ) → Can cmp hash gives s p (Wipes wiped e i f fs es n) → PartyOk s p → Tables cmp hash home s → Tables cmp hash home (does cmp hash gives s p (Wipes wiped e i f fs es n)) → IsCounted cmp hash s → IsCounted cmp hash (does cmp hash gives s p (Wipes wiped e i f fs es n))
   wipes_counted home s p wiped e i f fs es n can o t t' v = record {
     unique = unique;
     balance = omega (
@@ -205,7 +205,7 @@ module _ {K V F : Type 0} (cmp : K → K → Ordering) (total_order : IsTotalOrd
           (λ j g. held cmp total_order hash lawful gives home (does cmp hash gives s p (Wipes wiped e i f fs es n)) f.table f.index [] n j t' now g)
           (λ j g. sym (find-wiped cmp total_order hash lawful f.table f.index (pairs cmp hash s.trace) j ∙ cond-false (in_region f.table f.index (hash j)) None (at cmp hash s.trace j) (ne_eqb _ _ g)))
 
-  empty_counted : (home : ℕ → ℕ) (s : State K V F) (p : ℕ) (c : Call K V F) (r : KeptReply K V) → Can cmp hash gives s p (DecidesEmpty c r) → PartyOk s p → Tables cmp hash home s → Tables cmp hash home (does cmp hash gives s p (DecidesEmpty c r)) → Counted cmp hash s → Counted cmp hash (does cmp hash gives s p (DecidesEmpty c r))
+  empty_counted : (home : ℕ → ℕ) (s : State K V F) (p : ℕ) (c : Call K V F) (r : KeptReply K V) → Can cmp hash gives s p (DecidesEmpty c r) → PartyOk s p → Tables cmp hash home s → Tables cmp hash home (does cmp hash gives s p (DecidesEmpty c r)) → IsCounted cmp hash s → IsCounted cmp hash (does cmp hash gives s p (DecidesEmpty c r))
   empty_counted home s p c r can o t t' v = record {
     unique = unique;
     balance = omega (arith, ints, same.0, same_length cmp total_order (pairs cmp hash s.trace) [] v.unique tt (t.empty can.2), same_length cmp total_order (pairs cmp hash (Decide p r ∷ s.trace)) [] unique tt (t'.empty can.2));
@@ -220,7 +220,7 @@ module _ {K V F : Type 0} (cmp : K → K → Ordering) (total_order : IsTotalOrd
       unique : Unique cmp (pairs cmp hash (Decide p r ∷ s.trace))
       unique = subst (Unique cmp) (sym (ap (λ u. map_after_decision cmp hash u r (pairs cmp hash s.trace)) (o.call ∙ can.0))) (unique-after cmp total_order c r (pairs cmp hash s.trace) v.unique)
 
-  pub counted_ok : (home : ℕ → ℕ) (s : State K V F) (p : ℕ) (l : Transition K V F) → Can cmp hash gives s p l → PartyOk s p → Tables cmp hash home s → Tables cmp hash (home_after home l) (does cmp hash gives s p l) → Counted cmp hash s → Counted cmp hash (does cmp hash gives s p l)
+  pub counted_ok : (home : ℕ → ℕ) (s : State K V F) (p : ℕ) (l : Transition K V F) → Can cmp hash gives s p l → PartyOk s p → Tables cmp hash home s → Tables cmp hash (home_after home l) (does cmp hash gives s p l) → IsCounted cmp hash s → IsCounted cmp hash (does cmp hash gives s p l)
   counted_ok home s p (Begins c y) can o t u v = begins_counted s p c y can v
   counted_ok home s p Quiet can o t u v = record { unique = v.unique; balance = v.balance; held = omega (arith, v.held); owed = omega (arith, v.owed) }
   counted_ok home s p (Counts whose) can o t u v = counts_counted s p whose v
@@ -245,12 +245,12 @@ module _ {K V F : Type 0} (cmp : K → K → Ordering) (total_order : IsTotalOrd
   counted_ok home s p Ends can o t u v = let b = moves_on s p (Finished) o (λ h. grind (arith, h, can.3)) (sym (ap owes_added can.3)) (sym (ap owes_removed can.3)) v in record { unique = v.unique; balance = b.0; held = b.1; owed = b.2 }
 
   -- once every party is finished, nobody owes, and the count is the number of pairs
-  pub nothing_owed : (s : State K V F) → Counted cmp hash s → ((p : ℕ) → p < s.parties → s.mode p ≡ Finished) → pos (length (pairs cmp hash s.trace)) ≡ s.count
+  pub nothing_owed : (s : State K V F) → IsCounted cmp hash s → ((p : ℕ) → p < s.parties → s.mode p ≡ Finished) → pos (length (pairs cmp hash s.trace)) ≡ s.count
   nothing_owed s v f = omega (arith, ints, v.balance, none owes_added (λ p l. ap owes_added (f p l)), none owes_removed (λ p l. ap owes_removed (f p l)))
     where
       none : (owes : Mode K V → ℕ) → ((p : ℕ) → p < s.parties → owes (s.mode p) ≡ 0) → total (λ q. owes (s.mode q)) s.parties ≡ 0
       none owes h = total-same (λ q. owes (s.mode q)) (λ _. 0) s.parties h ∙ total-zero (λ _. 0) s.parties (λ _. refl)
 
   -- so the count stays within the number of labels
-  pub count_within : (s : State K V F) → Counted cmp hash s → (s.count ≤ℤ pos (length s.trace)) × (neg_ℤ (pos (length s.trace)) ≤ℤ s.count)
+  pub count_within : (s : State K V F) → IsCounted cmp hash s → (s.count ≤ℤ pos (length s.trace)) × (neg_ℤ (pos (length s.trace)) ≤ℤ s.count)
   count_within s v = (omega (arith, ints, v.balance, v.held), omega (arith, ints, v.balance, v.owed))

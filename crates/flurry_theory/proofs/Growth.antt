@@ -7,7 +7,7 @@ use Rattle.flurry_theory.specs.Map.{Allows, CanBeRefused}
 use Rattle.flurry_theory.specs.Trace.{was_moved_in, pairs}
 use Rattle.flurry_theory.specs.Bin.{Entry}
 use Rattle.flurry_theory.specs.Machine.{State, Claim, Growth, Transition, Can, does, label, Live, Done, Finished, Begins, Quiet, Counts, Finds, Opens, FindsNothing, IsRefused, DecidesEmpty, Passes, Decides, Places, Claims, Moves, Reports, Publishes, Reads, Leaves, Splits, Wipes, SplitsClear, Replies, Ends}
-use Rattle.flurry_theory.specs.Invariant.{PartyOk, Tables, Cut, Grown}
+use Rattle.flurry_theory.specs.Invariant.{PartyOk, Tables, IsCut, HasGrown}
 use Rattle.flurry_theory.proofs.Ranges.{all_moved}
 use Rattle.flurry_theory.proofs.Refusals.{refused_at_work}
 use Rattle.flurry_theory.specs.Legal.{CallMay, GrowthMay}
@@ -17,7 +17,7 @@ use Rattle.flurry_model.specs.declared.reply.KeptReply.{KeptReply}
 use Rattle.flurry_theory.specs.declared.Label.TheVariants.{Refused}
 
 module _ {K V F : Type 0} (cmp : K → K → Ordering) (hash : K → ℕ) (gives : F → K → V → Option V → Type 0) where
-  pub grown_ok : (first : Option ℕ) (s : State K V F) (p : ℕ) (l : Transition K V F) → Can cmp hash gives s p l → Cut s → Grown first s → Grown first (does cmp hash gives s p l)
+  pub grown_ok : (first : Option ℕ) (s : State K V F) (p : ℕ) (l : Transition K V F) → Can cmp hash gives s p l → IsCut s → HasGrown first s → HasGrown first (does cmp hash gives s p l)
   grown_ok first s p (Begins c z) can u w = record { number = w.number; placed_next = w.placed_next; unplaced = w.unplaced; unplaced_idle = w.unplaced_idle; unplaced_above = w.unplaced_above }
   grown_ok first s p Quiet can u w = record { number = w.number; placed_next = w.placed_next; unplaced = w.unplaced; unplaced_idle = w.unplaced_idle; unplaced_above = w.unplaced_above }
   grown_ok first s p (Counts whose) can u w = record { number = w.number; placed_next = w.placed_next; unplaced = w.unplaced; unplaced_idle = w.unplaced_idle; unplaced_above = w.unplaced_above }
@@ -74,7 +74,7 @@ module _ {K V F : Type 0} (cmp : K → K → Ordering) (hash : K → ℕ) (gives
   not_moved : (home : ℕ → ℕ) (s : State K V F) (d j : ℕ) (es : List (Entry K V)) (n : ℕ) → Tables cmp hash home s → s.slot d j ≡ Live es n → was_moved_in s.trace d j ≡ false
   not_moved home s d j es n t l = false_from_ne_true (was_moved_in s.trace d j) (λ m. grind (arith, t.is_moved d j m, l))
 
-  growing : (s : State K V F) (p : ℕ) (a : Claim) → s.claim p ≡ Some a → Cut s → (g : Growth) × (s.growth ≡ Some g)
+  growing : (s : State K V F) (p : ℕ) (a : Claim) → s.claim p ≡ Some a → IsCut s → (g : Growth) × (s.growth ≡ Some g)
   growing s p a h u = go s.growth refl
     where
       go : (b : Option Growth) → s.growth ≡ b → (g : Growth) × (s.growth ≡ Some g)
@@ -82,7 +82,7 @@ module _ {K V F : Type 0} (cmp : K → K → Ordering) (hash : K → ℕ) (gives
       go (Some g) e = (g, e)
 
   -- each label of a growth is lawful
-  pub growth_lawful : (first : Option ℕ) (home : ℕ → ℕ) (s : State K V F) (p : ℕ) (l : Transition K V F) → Can cmp hash gives s p l → ((q : ℕ) → PartyOk s q) → Tables cmp hash home s → Cut s → Grown first s → GrowthMay first s.trace (label cmp hash gives p l)
+  pub growth_lawful : (first : Option ℕ) (home : ℕ → ℕ) (s : State K V F) (p : ℕ) (l : Transition K V F) → Can cmp hash gives s p l → ((q : ℕ) → PartyOk s q) → Tables cmp hash home s → IsCut s → HasGrown first s → GrowthMay first s.trace (label cmp hash gives p l)
   growth_lawful first home s p (Begins c z) can o t u w = tt
   growth_lawful first home s p Quiet can o t u w = tt
   growth_lawful first home s p (Counts whose) can o t u w = tt
@@ -106,7 +106,7 @@ module _ {K V F : Type 0} (cmp : K → K → Ordering) (hash : K → ℕ) (gives
   growth_lawful first home s p (Replies r) can o t u w = tt
   growth_lawful first home s p Ends can o t u w = tt
 
-  -- the reply that the line decides is one that the map allows, and so is a refusal
+  -- the reply that the transition decides is one that the map allows, and so is a refusal
   abbrev pub AllowsNow : State K V F → ℕ → Transition K V F → Type 0
   AllowsNow s p (DecidesEmpty c r) = Allows cmp gives c (pairs cmp hash s.trace) r
   AllowsNow s p (Decides c k e es n r fs m) = Allows cmp gives c (pairs cmp hash s.trace) r

@@ -8,7 +8,7 @@ use Rattle.flurry_theory.specs.Map.{same}
 use Rattle.flurry_theory.specs.Trace.{decision, has_replied, has_closed, is_lookup}
 use Rattle.flurry_theory.specs.Legal.{IsWalk, IsClear}
 use Rattle.flurry_theory.specs.Machine.{State, Transition, Can, does, steps_after, at_place, found_by, Mode, Locating, Looking, Walking, Clearing, Done, Finished, Begins, Quiet, Counts, Finds, Opens, FindsNothing, IsRefused, DecidesEmpty, Passes, Decides, Places, Claims, Moves, Reports, Publishes, Reads, Leaves, Splits, Wipes, SplitsClear, Replies, Ends}
-use Rattle.flurry_theory.specs.Invariant.{PartyOk, Tables, Cut, Named, key_in, one_key, Waits, LooksUp}
+use Rattle.flurry_theory.specs.Invariant.{PartyOk, Tables, IsCut, NamesBorn, key_in, one_key, Waits, LooksUp}
 use Rattle.flurry_theory.proofs.Refusals.{refused_at_work}
 use Rattle.flurry_theory.proofs.Ranges.{home_limit, place_here, place_other}
 use Rattle.flurry_theory.proofs.Tables.{same_some}
@@ -101,7 +101,7 @@ module _ {K V F : Type 0} (cmp : K → K → Ordering) (total : IsTotalOrder cmp
           (other_keeps cmp total hash lawful gives (λ m. Waits (s.call q) m (at_place s.steps p (steps_after cmp hash gives s p l) q)) (waits_settled (s.call q) (at_place s.steps p (steps_after cmp hash gives s p l) q)) l q (s.mode q)
           (subst (λ n. Waits (s.call q) (s.mode q) n) (sym (place_other s.steps p q (steps_after cmp hash gives s p l) ne)) (w q)))
 
-  -- a line is one step at most
+  -- a transition is one step at most
   by_call : (call : Option (Call K V F)) (n : ℕ) → (if is_some call then suc n else n) ≤ suc n
   by_call None n = omega arith
   by_call (Some c) n = omega arith
@@ -138,7 +138,7 @@ module _ {K V F : Type 0} (cmp : K → K → Ordering) (total : IsTotalOrder cmp
       go (inr ne) = omega (arith, place_other s.steps p q (steps_after cmp hash gives s p l) ne, h q)
 
   -- THE LAW
-  in_time : (home : ℕ → ℕ) (s : State K V F) (p : ℕ) → PartyOk s p → Tables cmp hash home s → Cut s → Named hash (is_some s.published) home s.start (s.call p) (s.mode p) → Waits (s.call p) (s.mode p) (s.steps p)
+  in_time : (home : ℕ → ℕ) (s : State K V F) (p : ℕ) → PartyOk s p → Tables cmp hash home s → IsCut s → NamesBorn hash (is_some s.published) home s.start (s.call p) (s.mode p) → Waits (s.call p) (s.mode p) (s.steps p)
       → is_lookup (s.call p) ≡ true → decision s.trace p ≡ None → has_closed s.trace p ≡ false → s.steps p < TABLES + 1
   in_time home s p o t u nm w h d c = go (s.mode p) refl
     where
@@ -149,7 +149,7 @@ module _ {K V F : Type 0} (cmp : K → K → Ordering) (total : IsTotalOrder cmp
       go : (m : Mode K V) → s.mode p ≡ m → s.steps p < TABLES + 1
       go Locating e = omega (arith, (w h).0 e)
       go (Looking i) e =
-          let q : Named hash (is_some s.published) home s.start (s.call p) (Looking i) = subst (λ m. Named hash (is_some s.published) home s.start (s.call p) m) e nm in
+          let q : NamesBorn hash (is_some s.published) home s.start (s.call p) (Looking i) = subst (λ m. NamesBorn hash (is_some s.published) home s.start (s.call p) m) e nm in
           let k : (k : K) × (key_in (s.call p) ≡ Some k) × ((e : ℕ) → found_by cmp hash gives (s.call p) e ≡ Looking e) = lookup_key (s.call p) h in
           omega (arith, (w h).1 i e, q.2 k.0 k.1, home_limit cmp hash gives home s (hash k.0) t u q.0)
       go (Walking i j fs) e = absurd (grind (arith, h, o.walking i j fs e))
@@ -186,5 +186,5 @@ module _ {K V F : Type 0} (cmp : K → K → Ordering) (total : IsTotalOrder cmp
   next_reply s p o h r d rp (Replies q) can = ap Replies (same_some (sym (o.decided q 0 0 can.3) ∙ d))
   next_reply s p o h r d rp Ends can = absurd (grind (arith, can.2, lookup_one_key (Some can.0) (subst (λ c. is_lookup c ≡ true) can.1 h)))
 
-  pub looks_up : (home : ℕ → ℕ) (s : State K V F) (p : ℕ) → PartyOk s p → Tables cmp hash home s → Cut s → Named hash (is_some s.published) home s.start (s.call p) (s.mode p) → Waits (s.call p) (s.mode p) (s.steps p) → LooksUp cmp hash gives s p
+  pub looks_up : (home : ℕ → ℕ) (s : State K V F) (p : ℕ) → PartyOk s p → Tables cmp hash home s → IsCut s → NamesBorn hash (is_some s.published) home s.start (s.call p) (s.mode p) → Waits (s.call p) (s.mode p) (s.steps p) → LooksUp cmp hash gives s p
   looks_up home s p o t u nm w = record { in_time = in_time home s p o t u nm w; replies_next = next_reply s p o }

@@ -10,13 +10,13 @@ use Rattle.flurry_theory.specs.Map.{same, key_of, Allows}
 use Rattle.flurry_theory.specs.Trace.{Trace, begins, call_begun_by, decision, last_read, read_before}
 use Rattle.flurry_theory.specs.Bin.{Entry, number_of, bump, has_number, past, first_past, Ascending, InRegion, half}
 use Rattle.flurry_theory.specs.Machine.{State, Slot, Claim, Transition, Can, does, label, at_bin, at_place, Live, Frame, Begins, Quiet, Counts, Finds, Opens, FindsNothing, IsRefused, DecidesEmpty, Passes, Decides, Places, Claims, Moves, Reports, Publishes, Reads, Leaves, Splits, Wipes, SplitsClear, Replies, Ends}
-use Rattle.flurry_theory.specs.Invariant.{PartyOk, Tables, home_after, Origins, pair_seen, number_in, writes_in, newer, number_at, writes_at, Judged, Numbers}
+use Rattle.flurry_theory.specs.Invariant.{PartyOk, Tables, home_after, Origins, pair_seen, number_in, writes_in, newer, number_at, writes_at, JudgesRead, Numbers}
 use Rattle.flurry_theory.proofs.Bins.{one_class, past-same, region-first_past, found-first_past, in_a_half, in_low_half, in_high_half}
 use Rattle.flurry_theory.proofs.Tables.{at_bin_elim, same_some, homes}
 use Rattle.flurry_theory.proofs.Ranges.{place_here, place_other}
 use Rattle.flurry_theory.proofs.Origins.{begun_after}
 use Rattle.flurry_theory.specs.Legal
-use Rattle.flurry_theory.specs.Legal.{touches, changed_by, is_class, changes, removes, is_untouched, untouched_for, RemovalMay, HasRead, Lacked, Stays, EachMay, RemovesPair}
+use Rattle.flurry_theory.specs.Legal.{touches, changed_by, is_class, changes, removes, is_untouched, untouched_for, RemovalMay, HasRead, HasLacked, Stays, EachMay, RemovesPair}
 use Rattle.flurry_model.specs.declared.call.Seen.{Seen}
 use Rattle.flurry_model.specs.declared.call.Call.{Call}
 use Rattle.flurry_model.specs.declared.call.Call.TheVariants.{RemoveSeen}
@@ -164,7 +164,7 @@ module _ {K V F : Type 0} (cmp : K → K → Ordering) (total : IsTotalOrder cmp
 
   -- JUDGED
   judge_step : (t : Trace K V F) (l : Label K V F) (number number' : K → Option ℕ) (writes writes' : K → ℕ) (b : Bool) (z : Seen K V) → Change t l number number' writes writes' → writes z.key ≤ 2 ^ 64 - 1
-      → Judged cmp hash gives b z (number z.key) (writes z.key) → Judged cmp hash gives (not (touches cmp hash gives t l z.key) && b) z (number' z.key) (writes' z.key)
+      → JudgesRead cmp hash gives b z (number z.key) (writes z.key) → JudgesRead cmp hash gives (not (touches cmp hash gives t l z.key) && b) z (number' z.key) (writes' z.key)
   judge_step t l number number' writes writes' b z ch top j = record {
     known = omega (arith, j.known, (ch.grows z.key).0);
     same_number = λ h. grind (arith, h, and_parts, ch.kept z.key, j.same_number);
@@ -229,7 +229,7 @@ module _ {K V F : Type 0} (cmp : K → K → Ordering) (total : IsTotalOrder cmp
   begins_touch t (Published e) w k h = refl
 
   judge_same : (t : Trace K V F) (l : Label K V F) (number number' : K → Option ℕ) (writes writes' : K → ℕ) (b : Bool) (z : Seen K V) → Change t l number number' writes writes' → touches cmp hash gives t l z.key ≡ false
-      → Judged cmp hash gives b z (number z.key) (writes z.key) → Judged cmp hash gives b z (number' z.key) (writes' z.key)
+      → JudgesRead cmp hash gives b z (number z.key) (writes z.key) → JudgesRead cmp hash gives b z (number' z.key) (writes' z.key)
   judge_same t l number number' writes writes' b z ch u j = record {
     known = omega (arith, j.known, (ch.grows z.key).0);
     same_number = λ h. ch.kept z.key u ∙ j.same_number h;
@@ -275,18 +275,18 @@ module _ {K V F : Type 0} (cmp : K → K → Ordering) (total : IsTotalOrder cmp
       ch = change home s p l can o t
 
       see : (w : ℕ) (z : Seen K V) → ((s.seen w ≡ Some z) × (Legal.reads cmp hash gives w (label cmp hash gives p l) ≡ false)) ⊎ ((Legal.reads cmp hash gives w (label cmp hash gives p l) ≡ true) × (number_at cmp hash gives home s z.key ≡ Some z.number))
-          → Judged cmp hash gives (Legal.reads cmp hash gives w (label cmp hash gives p l) || (not (touches cmp hash gives s.trace (label cmp hash gives p l) z.key) && is_untouched cmp hash gives s.trace w z.key)) z (number_at cmp hash gives (home_after home l) (does cmp hash gives s p l) z.key) (writes_at cmp hash gives (home_after home l) (does cmp hash gives s p l) z.key)
+          → JudgesRead cmp hash gives (Legal.reads cmp hash gives w (label cmp hash gives p l) || (not (touches cmp hash gives s.trace (label cmp hash gives p l) z.key) && is_untouched cmp hash gives s.trace w z.key)) z (number_at cmp hash gives (home_after home l) (does cmp hash gives s p l) z.key) (writes_at cmp hash gives (home_after home l) (does cmp hash gives s p l) z.key)
       see w z (inl h) = rw h.1 (judge_step s.trace (label cmp hash gives p l) (number_at cmp hash gives home s) (number_at cmp hash gives (home_after home l) (does cmp hash gives s p l)) (writes_at cmp hash gives home s) (writes_at cmp hash gives (home_after home l) (does cmp hash gives s p l)) (is_untouched cmp hash gives s.trace w z.key) z ch (v.limit z.key) (v.fresh w z h.0))
       see w z (inr h) = rw h.0 (judge_same s.trace (label cmp hash gives p l) (number_at cmp hash gives home s) (number_at cmp hash gives (home_after home l) (does cmp hash gives s p l)) (writes_at cmp hash gives home s) (writes_at cmp hash gives (home_after home l) (does cmp hash gives s p l)) true z ch (reads_touch s.trace (label cmp hash gives p l) w z.key h.0) (record { known = v.bounded z.key z.number h.1; same_number = λ _. h.1; new_number = λ e. absurd (grind (arith, e)) }))
 
       wait : (q w : ℕ) (z : Seen K V) → ((s.began_from q ≡ Some w) × (s.call q ≡ Some (RemoveSeen z)) × (begins q (label cmp hash gives p l) ≡ false)) ⊎ ((begins q (label cmp hash gives p l) ≡ true) × (s.seen w ≡ Some z))
-          → Judged cmp hash gives (if begins q (label cmp hash gives p l) then is_untouched cmp hash gives s.trace w z.key else not (touches cmp hash gives s.trace (label cmp hash gives p l) z.key) && untouched_for cmp hash gives s.trace q w z.key) z (number_at cmp hash gives (home_after home l) (does cmp hash gives s p l) z.key) (writes_at cmp hash gives (home_after home l) (does cmp hash gives s p l) z.key)
+          → JudgesRead cmp hash gives (if begins q (label cmp hash gives p l) then is_untouched cmp hash gives s.trace w z.key else not (touches cmp hash gives s.trace (label cmp hash gives p l) z.key) && untouched_for cmp hash gives s.trace q w z.key) z (number_at cmp hash gives (home_after home l) (does cmp hash gives s p l) z.key) (writes_at cmp hash gives (home_after home l) (does cmp hash gives s p l) z.key)
       wait q w z (inl h) = rw h.2 (judge_step s.trace (label cmp hash gives p l) (number_at cmp hash gives home s) (number_at cmp hash gives (home_after home l) (does cmp hash gives s p l)) (writes_at cmp hash gives home s) (writes_at cmp hash gives (home_after home l) (does cmp hash gives s p l)) (untouched_for cmp hash gives s.trace q w z.key) z ch (v.limit z.key) (v.pending q w z h.0 h.1))
       wait q w z (inr h) = rw h.0 (judge_same s.trace (label cmp hash gives p l) (number_at cmp hash gives home s) (number_at cmp hash gives (home_after home l) (does cmp hash gives s p l)) (writes_at cmp hash gives home s) (writes_at cmp hash gives (home_after home l) (does cmp hash gives s p l)) (is_untouched cmp hash gives s.trace w z.key) z ch (begins_touch s.trace (label cmp hash gives p l) q z.key h.0) (v.fresh w z h.1))
 
   -- REMOVALS
   -- what is removed bears the number that was read, so nothing has touched it
-  only_untouched : (b : Bool) (z : Seen K V) (number : Option ℕ) (writes : ℕ) → Judged cmp hash gives b z number writes → has_number number z.number ≡ true → b ≡ true
+  only_untouched : (b : Bool) (z : Seen K V) (number : Option ℕ) (writes : ℕ) → JudgesRead cmp hash gives b z number writes → has_number number z.number ≡ true → b ≡ true
   only_untouched true z number writes j h = refl
   only_untouched false z number writes j h = absurd (go number h (j.new_number refl))
     where
@@ -296,7 +296,7 @@ module _ {K V F : Type 0} (cmp : K → K → Ordering) (total : IsTotalOrder cmp
       go (Some m) h (inr n) = omega (arith, same_some n, eqb-true m z.number (and_parts (m == z.number) (nat_lt z.number (2 ^ 64 - 1)) h).0, ltb-true z.number (2 ^ 64 - 1) (and_parts (m == z.number) (nat_lt z.number (2 ^ 64 - 1)) h).1)
 
   -- what nothing has touched bears the number that was read, which is below the greatest in a short run
-  untouched_removed : (b : Bool) (z : Seen K V) (number : Option ℕ) (writes : ℕ) → writes < 2 ^ 64 - 1 → Judged cmp hash gives b z number writes → b ≡ true → has_number number z.number ≡ true
+  untouched_removed : (b : Bool) (z : Seen K V) (number : Option ℕ) (writes : ℕ) → writes < 2 ^ 64 - 1 → JudgesRead cmp hash gives b z number writes → b ≡ true → has_number number z.number ≡ true
   untouched_removed b z number writes l j h = rw (j.same_number h) (grind (arith, j.known, l, eq-eqb, lt-ltb))
 
   removal : (home : ℕ → ℕ) (s : State K V F) (p : ℕ) (c : Call K V F) (k : K) (e : ℕ) (es : List (Entry K V)) (n : ℕ) (r : KeptReply K V) (fs : List (Entry K V)) (m w : ℕ) → Can cmp hash gives s p (Decides c k e es n r fs m) → PartyOk s p → Tables cmp hash home s → Origins s → Numbers cmp hash gives home s
@@ -307,7 +307,7 @@ module _ {K V F : Type 0} (cmp : K → K → Ordering) (total : IsTotalOrder cmp
       let kz : Some z.0.key ≡ Some k = subst (λ c. key_of c ≡ Some k) is can.1 in
       let here : number_at cmp hash gives home s z.0.key ≡ number_of cmp es z.0.key = ap (λ v. number_in cmp v z.0.key) (subst (λ k. s.slot (home (hash k)) (hash k % 2 ^ home (hash k)) ≡ Live es n) (sym (same_some kz)) (let q : s.slot (home (hash k)) (hash k % 2 ^ home (hash k)) ≡ Live es n = grind (arith, can.4, homes cmp total hash lawful gives home s e (hash k % 2 ^ e) es n (hash k) t can.4 refl) in q)) in
       let found : removes cmp hash gives r ≡ has_number (number_at cmp hash gives home s z.0.key) z.0.number = can.5.conditional z.0 is ∙ ap (λ u. has_number u z.0.number) (sym here) in
-      let judged : Judged cmp hash gives (untouched_for cmp hash gives s.trace p w z.0.key) z.0 (number_at cmp hash gives home s z.0.key) (writes_at cmp hash gives home s z.0.key) = v.pending p w z.0 b z.1 in (
+      let judged : JudgesRead cmp hash gives (untouched_for cmp hash gives s.trace p w z.0.key) z.0 (number_at cmp hash gives home s z.0.key) (writes_at cmp hash gives home s z.0.key) = v.pending p w z.0 b z.1 in (
         pair_seen z.0,
         u.before p w z.0 b z.1,
         λ h. only_untouched (untouched_for cmp hash gives s.trace p w z.0.key) z.0 (number_at cmp hash gives home s z.0.key) (writes_at cmp hash gives home s z.0.key) judged (sym found ∙ h),

@@ -1,4 +1,4 @@
--- The mode and the call of a party after a line, its own or another's.
+-- The mode and the call of a party after a transition, its own or another's.
 use Rattle.std.specs.Prelude.{length, ℕ, suc, ◌+◌, ◌-◌, ◌==◌, Bool, true, false, cond, ◌∷◌, Option, Some, None, ◌≡◌}
 use Rattle.std.specs.declared.cmp.Ordering.{Ordering}
 use Rattle.std.specs.Cmp.{IsTotalOrder}
@@ -15,7 +15,7 @@ if_settled P h true m g = h m g
 if_settled P h false m g = g
 
 module _ {K V F : Type 0} (cmp : K → K → Ordering) (total : IsTotalOrder cmp) (hash : K → ℕ) (lawful : (j k : K) → same cmp j k ≡ true → hash j ≡ hash k) (gives : F → K → V → Option V → Type 0) where
-  -- the party's own mode and call after its line
+  -- the party's own mode and call after its transition
   unfoldable pub next_mode : State K V F → ℕ → Transition K V F → Mode K V
   next_mode s p (Begins c w) = Locating
   next_mode s p Quiet = s.mode p

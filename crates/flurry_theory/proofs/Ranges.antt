@@ -7,7 +7,7 @@ use Rattle.std.proofs.lemmas.Nat.{mod_below, pow_pos}
 use Rattle.flurry_theory.specs.Bin.{Entry}
 use Rattle.flurry_theory.specs.Machine.{State, Claim, Growth, Transition, Opening, Can, does, at_place, Moved, Frame, Begins, Quiet, Counts, Finds, Opens, FindsNothing, IsRefused, DecidesEmpty, Passes, Decides, Places, Claims, Moves, Reports, Publishes, Reads, Leaves, Splits, Wipes, SplitsClear, Replies, Ends}
 use Rattle.flurry_theory.specs.Machine.{total}
-use Rattle.flurry_theory.specs.Invariant.{PartyOk, Tables, size, holds, Cut}
+use Rattle.flurry_theory.specs.Invariant.{PartyOk, Tables, size, holds, IsCut}
 use Rattle.flurry_theory.proofs.Bins.{small_mod}
 use Rattle.flurry_model.specs.declared.call.Call.{Call}
 use Rattle.flurry_model.specs.declared.call.Call.TheVariants.{Get, GetKeyValue, ContainsKey, Insert, TryInsert, Compute, Remove, RemoveEntry, RemoveSeen, Reserve, Clear, Walk}
@@ -55,7 +55,7 @@ module _ {K V F : Type 0} (cmp : K → K → Ordering) (hash : K → ℕ) (gives
       go (inl l) = l
       go (inr l) = grind (arith, o.unknown l, h)
 
-  claims_cover : (s : State K V F) (p e : ℕ) (g : Growth) (low : ℕ) → Can cmp hash gives s p (Claims e g low) → Cut s → (d j : ℕ) → s.published ≡ Some d → j < 2 ^ d → (z : Growth) → Some (record { unclaimed = low; reported = g.reported }) ≡ Some z
+  claims_cover : (s : State K V F) (p e : ℕ) (g : Growth) (low : ℕ) → Can cmp hash gives s p (Claims e g low) → IsCut s → (d j : ℕ) → s.published ≡ Some d → j < 2 ^ d → (z : Growth) → Some (record { unclaimed = low; reported = g.reported }) ≡ Some z
       → (s.slot d j ≡ Moved) ⊎ ((j < z.unclaimed) ⊎ ((q : ℕ) × (holds ((does cmp hash gives s p (Claims e g low)).claim q) j ≡ true)))
   claims_cover s p e g low can u d j h l z y = go (cases_lt j low) (u.cover d j g h can.3 l)
     where
@@ -65,7 +65,7 @@ module _ {K V F : Type 0} (cmp : K → K → Ordering) (hash : K → ℕ) (gives
       go (inr m) (inr (inl w)) = inr (inr (p, rw (place_here s.claim p (Some (record { table = e; low = low; left = g.unclaimed; high = g.unclaimed }))) (and_from _ _ (le-leb _ _ m) (lt-ltb _ _ w))))
       go (inr m) (inr (inr w)) = inr (inr (w.0, grind (arith, w.1, can.0, eqb-true)))
 
-  reports_cover : (s : State K V F) (p : ℕ) (a : Claim) (g : Growth) → Can cmp hash gives s p (Reports a g) → Cut s → (d j : ℕ) → s.published ≡ Some d → j < 2 ^ d → (z : Growth) → Some (record { unclaimed = g.unclaimed; reported = g.reported + (a.high - a.low) }) ≡ Some z
+  reports_cover : (s : State K V F) (p : ℕ) (a : Claim) (g : Growth) → Can cmp hash gives s p (Reports a g) → IsCut s → (d j : ℕ) → s.published ≡ Some d → j < 2 ^ d → (z : Growth) → Some (record { unclaimed = g.unclaimed; reported = g.reported + (a.high - a.low) }) ≡ Some z
       → (s.slot d j ≡ Moved) ⊎ ((j < z.unclaimed) ⊎ ((q : ℕ) × (holds ((does cmp hash gives s p (Reports a g)).claim q) j ≡ true)))
   reports_cover s p a g can u d j h l z y = go (u.cover d j g h can.2 l)
     where
@@ -84,7 +84,7 @@ module _ {K V F : Type 0} (cmp : K → K → Ordering) (hash : K → ℕ) (gives
   none_left (Some a) h l = absurd (omega (arith, h, l a refl))
 
   -- the report that completes the growth finds no other claim, and every bin moved
-  counts : (s : State K V F) (p : ℕ) (a : Claim) (g : Growth) → Can cmp hash gives s p (Publishes a g) → PartyOk s p → Cut s → (g.unclaimed ≡ 0) × (total (λ q. size (at_place s.claim p None q)) s.parties ≡ 0)
+  counts : (s : State K V F) (p : ℕ) (a : Claim) (g : Growth) → Can cmp hash gives s p (Publishes a g) → PartyOk s p → IsCut s → (g.unclaimed ≡ 0) × (total (λ q. size (at_place s.claim p None q)) s.parties ≡ 0)
   counts s p a g can o u =
       let l : p < s.parties = claims_known s p a o can.0 in
       let w : g.unclaimed + g.reported + total (λ q. size (s.claim q)) s.parties ≡ 2 ^ a.table = u.sum a.table g (u.claims p a can.0).0 can.2 in
@@ -93,14 +93,14 @@ module _ {K V F : Type 0} (cmp : K → K → Ordering) (hash : K → ℕ) (gives
       let y : size (at_place s.claim p None p) ≡ 0 = ap size (place_here s.claim p None) in
       (omega (arith, w, v, y, z, can.3), omega (arith, w, v, y, z, can.3))
 
-  pub no_other : (s : State K V F) (p : ℕ) (a : Claim) (g : Growth) → Can cmp hash gives s p (Publishes a g) → ((q : ℕ) → PartyOk s q) → Cut s → (q : ℕ) → (q ≡ p → ⊥) → s.claim q ≡ None
+  pub no_other : (s : State K V F) (p : ℕ) (a : Claim) (g : Growth) → Can cmp hash gives s p (Publishes a g) → ((q : ℕ) → PartyOk s q) → IsCut s → (q : ℕ) → (q ≡ p → ⊥) → s.claim q ≡ None
   no_other s p a g can o u q ne = go (cases_lt q s.parties)
     where
       go : (q < s.parties) ⊎ (s.parties ≤ q) → s.claim q ≡ None
       go (inl l) = none_left (s.claim q) (sym (ap size (place_other s.claim p q None ne)) ∙ (let w : size (at_place s.claim p None q) ≤ total (λ q. size (at_place s.claim p None q)) s.parties = part-total (λ q. size (at_place s.claim p None q)) q s.parties l in omega (arith, w, (counts s p a g can (o p) u).1))) (λ b h. (u.claims q b h).1)
       go (inr l) = ((o q).unknown l).2
 
-  pub all_moved : (s : State K V F) (p : ℕ) (a : Claim) (g : Growth) → Can cmp hash gives s p (Publishes a g) → ((q : ℕ) → PartyOk s q) → Cut s → (s.published ≡ Some a.table) × ((i : ℕ) → i < 2 ^ a.table → s.slot a.table i ≡ Moved)
+  pub all_moved : (s : State K V F) (p : ℕ) (a : Claim) (g : Growth) → Can cmp hash gives s p (Publishes a g) → ((q : ℕ) → PartyOk s q) → IsCut s → (s.published ≡ Some a.table) × ((i : ℕ) → i < 2 ^ a.table → s.slot a.table i ≡ Moved)
   all_moved s p a g can o u = ((u.claims p a can.0).0, λ i l. go i (u.cover a.table i g (u.claims p a can.0).0 can.2 l))
     where
       here : (i q : ℕ) → holds (s.claim q) i ≡ true → (q ≡ p) ⊎ ((q < p) ⊎ (p < q)) → s.slot a.table i ≡ Moved
@@ -112,7 +112,7 @@ module _ {K V F : Type 0} (cmp : K → K → Ordering) (hash : K → ℕ) (gives
       go i (inr (inl w)) = absurd (omega (arith, w, (counts s p a g can (o p) u).0))
       go i (inr (inr w)) = here i w.0 w.1 (cases_order w.0 p)
 
-  none_after : (s : State K V F) (p : ℕ) (a : Claim) (g : Growth) → Can cmp hash gives s p (Publishes a g) → ((q : ℕ) → PartyOk s q) → Cut s → (q : ℕ) → at_place s.claim p None q ≡ None
+  none_after : (s : State K V F) (p : ℕ) (a : Claim) (g : Growth) → Can cmp hash gives s p (Publishes a g) → ((q : ℕ) → PartyOk s q) → IsCut s → (q : ℕ) → at_place s.claim p None q ≡ None
   none_after s p a g can o u q = go (cases_eq q p)
     where
       go : (q ≡ p) ⊎ (q ≡ p → ⊥) → at_place s.claim p None q ≡ None
@@ -133,7 +133,7 @@ module _ {K V F : Type 0} (cmp : K → K → Ordering) (hash : K → ℕ) (gives
   opening_limit Clear e h = absurd h
   opening_limit Walk e h = absurd h
 
-  cut_begins : (home : ℕ → ℕ) (s : State K V F) (p : ℕ) (c : Call K V F) (w : Option ℕ) → Can cmp hash gives s p (Begins c w) → ((q : ℕ) → PartyOk s q) → Tables cmp hash home s → Cut s → Cut (does cmp hash gives s p (Begins c w))
+  cut_begins : (home : ℕ → ℕ) (s : State K V F) (p : ℕ) (c : Call K V F) (w : Option ℕ) → Can cmp hash gives s p (Begins c w) → ((q : ℕ) → PartyOk s q) → Tables cmp hash home s → IsCut s → IsCut (does cmp hash gives s p (Begins c w))
   cut_begins home s p c w can o t u = record {
     made = u.made;
     idle = λ h q. grind (arith, h, can, o p, u.idle, eqb-true, eqb-false, eq-eqb, ne_eqb, and_parts, and_cases);
@@ -151,7 +151,7 @@ module _ {K V F : Type 0} (cmp : K → K → Ordering) (hash : K → ℕ) (gives
     growth_limit = u.growth_limit;
   }
 
-  cut_opens : (home : ℕ → ℕ) (s : State K V F) (p : ℕ) (e : ℕ) → Can cmp hash gives s p (Opens e) → ((q : ℕ) → PartyOk s q) → Tables cmp hash home s → Cut s → Cut (does cmp hash gives s p (Opens e))
+  cut_opens : (home : ℕ → ℕ) (s : State K V F) (p : ℕ) (e : ℕ) → Can cmp hash gives s p (Opens e) → ((q : ℕ) → PartyOk s q) → Tables cmp hash home s → IsCut s → IsCut (does cmp hash gives s p (Opens e))
   cut_opens home s p e can o t u = record {
     made = λ z h. grind (arith, h, can, u.made, u.idle, mod_below, lt-ltb, ltb-true, ltb-false, u.made z, eqb-true, eqb-false, eq-eqb, ne_eqb, and_parts, and_cases);
     idle = λ h q. grind (arith, h, can, u.made, u.idle, mod_below, lt-ltb, ltb-true, ltb-false, u.idle, eqb-true, eqb-false, eq-eqb, ne_eqb, and_parts, and_cases);
@@ -169,7 +169,7 @@ module _ {K V F : Type 0} (cmp : K → K → Ordering) (hash : K → ℕ) (gives
     growth_limit = λ d z h y. grind (arith, y, can.3, u.made z);
   }
 
-  cut_decides : (home : ℕ → ℕ) (s : State K V F) (p : ℕ) (c : Call K V F) (k : K) (e : ℕ) (es : List (Entry K V)) (n : ℕ) (r : KeptReply K V) (fs : List (Entry K V)) (m : ℕ) → Can cmp hash gives s p (Decides c k e es n r fs m) → ((q : ℕ) → PartyOk s q) → Tables cmp hash home s → Cut s → Cut (does cmp hash gives s p (Decides c k e es n r fs m))
+  cut_decides : (home : ℕ → ℕ) (s : State K V F) (p : ℕ) (c : Call K V F) (k : K) (e : ℕ) (es : List (Entry K V)) (n : ℕ) (r : KeptReply K V) (fs : List (Entry K V)) (m : ℕ) → Can cmp hash gives s p (Decides c k e es n r fs m) → ((q : ℕ) → PartyOk s q) → Tables cmp hash home s → IsCut s → IsCut (does cmp hash gives s p (Decides c k e es n r fs m))
   cut_decides home s p c k e es n r fs m can o t u = record {
     made = u.made;
     idle = u.idle;
@@ -187,7 +187,7 @@ module _ {K V F : Type 0} (cmp : K → K → Ordering) (hash : K → ℕ) (gives
     growth_limit = u.growth_limit;
   }
 
-  cut_places : (home : ℕ → ℕ) (s : State K V F) (p : ℕ) (e : ℕ) → Can cmp hash gives s p (Places e) → ((q : ℕ) → PartyOk s q) → Tables cmp hash home s → Cut s → Cut (does cmp hash gives s p (Places e))
+  cut_places : (home : ℕ → ℕ) (s : State K V F) (p : ℕ) (e : ℕ) → Can cmp hash gives s p (Places e) → ((q : ℕ) → PartyOk s q) → Tables cmp hash home s → IsCut s → IsCut (does cmp hash gives s p (Places e))
   cut_places home s p e can o t u = record {
     made = λ z h. grind (arith, h, can, u.made, u.idle, u.made z, eqb-true, eqb-false, eq-eqb, ne_eqb, and_parts, and_cases);
     idle = λ h q. grind (arith, h, can, u.made, u.idle, u.idle, eqb-true, eqb-false, eq-eqb, ne_eqb, and_parts, and_cases);
@@ -205,7 +205,7 @@ module _ {K V F : Type 0} (cmp : K → K → Ordering) (hash : K → ℕ) (gives
     growth_limit = λ d z h y. grind (arith, h, can);
   }
 
-  cut_claims : (home : ℕ → ℕ) (s : State K V F) (p : ℕ) (e : ℕ) (g : Growth) (low : ℕ) → Can cmp hash gives s p (Claims e g low) → ((q : ℕ) → PartyOk s q) → Tables cmp hash home s → Cut s → Cut (does cmp hash gives s p (Claims e g low))
+  cut_claims : (home : ℕ → ℕ) (s : State K V F) (p : ℕ) (e : ℕ) (g : Growth) (low : ℕ) → Can cmp hash gives s p (Claims e g low) → ((q : ℕ) → PartyOk s q) → Tables cmp hash home s → IsCut s → IsCut (does cmp hash gives s p (Claims e g low))
   cut_claims home s p e g low can o t u = record {
     made = λ z h. grind (arith, h, can, u.made z, eqb-true, eqb-false, eq-eqb, ne_eqb, and_parts, and_cases);
     idle = λ h q. grind (arith, h, can, u.idle, eqb-true, eqb-false, eq-eqb, ne_eqb, and_parts, and_cases);
@@ -223,7 +223,7 @@ module _ {K V F : Type 0} (cmp : K → K → Ordering) (hash : K → ℕ) (gives
     growth_limit = λ d z h y. u.growth_limit d g h can.3;
   }
 
-  cut_moves : (home : ℕ → ℕ) (s : State K V F) (p : ℕ) (a : Claim) (i : ℕ) (es : List (Entry K V)) (n : ℕ) → Can cmp hash gives s p (Moves a i es n) → ((q : ℕ) → PartyOk s q) → Tables cmp hash home s → Cut s → Cut (does cmp hash gives s p (Moves a i es n))
+  cut_moves : (home : ℕ → ℕ) (s : State K V F) (p : ℕ) (a : Claim) (i : ℕ) (es : List (Entry K V)) (n : ℕ) → Can cmp hash gives s p (Moves a i es n) → ((q : ℕ) → PartyOk s q) → Tables cmp hash home s → IsCut s → IsCut (does cmp hash gives s p (Moves a i es n))
   cut_moves home s p a i es n can o t u = record {
     made = u.made;
     idle = λ h q. grind (arith, h, can, u.claims p a can.0, u.idle, eqb-true, eqb-false, eq-eqb, ne_eqb, and_parts, and_cases);
@@ -241,7 +241,7 @@ module _ {K V F : Type 0} (cmp : K → K → Ordering) (hash : K → ℕ) (gives
     growth_limit = u.growth_limit;
   }
 
-  cut_reports : (home : ℕ → ℕ) (s : State K V F) (p : ℕ) (a : Claim) (g : Growth) → Can cmp hash gives s p (Reports a g) → ((q : ℕ) → PartyOk s q) → Tables cmp hash home s → Cut s → Cut (does cmp hash gives s p (Reports a g))
+  cut_reports : (home : ℕ → ℕ) (s : State K V F) (p : ℕ) (a : Claim) (g : Growth) → Can cmp hash gives s p (Reports a g) → ((q : ℕ) → PartyOk s q) → Tables cmp hash home s → IsCut s → IsCut (does cmp hash gives s p (Reports a g))
   cut_reports home s p a g can o t u = record {
     made = λ z h. grind (arith, h, can, u.claims p a can.0, u.made z, eqb-true, eqb-false, eq-eqb, ne_eqb, and_parts, and_cases);
     idle = λ h q. grind (arith, h, can, u.claims p a can.0, u.idle, eqb-true, eqb-false, eq-eqb, ne_eqb, and_parts, and_cases);
@@ -259,7 +259,7 @@ module _ {K V F : Type 0} (cmp : K → K → Ordering) (hash : K → ℕ) (gives
     growth_limit = λ d z h y. u.growth_limit d g h can.2;
   }
 
-  cut_publishes : (home : ℕ → ℕ) (s : State K V F) (p : ℕ) (a : Claim) (g : Growth) → Can cmp hash gives s p (Publishes a g) → ((q : ℕ) → PartyOk s q) → Tables cmp hash home s → Cut s → Cut (does cmp hash gives s p (Publishes a g))
+  cut_publishes : (home : ℕ → ℕ) (s : State K V F) (p : ℕ) (a : Claim) (g : Growth) → Can cmp hash gives s p (Publishes a g) → ((q : ℕ) → PartyOk s q) → Tables cmp hash home s → IsCut s → IsCut (does cmp hash gives s p (Publishes a g))
   cut_publishes home s p a g can o t u = record {
     made = λ z h. grind (arith, h, can, u.claims p a can.0, u.made z, eqb-true, eqb-false, eq-eqb, ne_eqb, and_parts, and_cases);
     idle = λ h q. none_after s p a g can o u q;
@@ -277,7 +277,7 @@ module _ {K V F : Type 0} (cmp : K → K → Ordering) (hash : K → ℕ) (gives
     growth_limit = λ d z h y. grind (arith, y);
   }
 
-  cut_wipes : (home : ℕ → ℕ) (s : State K V F) (p wiped e i : ℕ) (f : Frame K) (fs : List (Frame K)) (es : List (Entry K V)) (n : ℕ) → Can cmp hash gives s p (Wipes wiped e i f fs es n) → ((q : ℕ) → PartyOk s q) → Tables cmp hash home s → Cut s → Cut (does cmp hash gives s p (Wipes wiped e i f fs es n))
+  cut_wipes : (home : ℕ → ℕ) (s : State K V F) (p wiped e i : ℕ) (f : Frame K) (fs : List (Frame K)) (es : List (Entry K V)) (n : ℕ) → Can cmp hash gives s p (Wipes wiped e i f fs es n) → ((q : ℕ) → PartyOk s q) → Tables cmp hash home s → IsCut s → IsCut (does cmp hash gives s p (Wipes wiped e i f fs es n))
   cut_wipes home s p wiped e i f fs es n can o t u = record {
     made = u.made;
     idle = u.idle;
@@ -295,7 +295,7 @@ module _ {K V F : Type 0} (cmp : K → K → Ordering) (hash : K → ℕ) (gives
     growth_limit = u.growth_limit;
   }
 
-  pub cut_ok : (home : ℕ → ℕ) (s : State K V F) (p : ℕ) (l : Transition K V F) → Can cmp hash gives s p l → ((q : ℕ) → PartyOk s q) → Tables cmp hash home s → Cut s → Cut (does cmp hash gives s p l)
+  pub cut_ok : (home : ℕ → ℕ) (s : State K V F) (p : ℕ) (l : Transition K V F) → Can cmp hash gives s p l → ((q : ℕ) → PartyOk s q) → Tables cmp hash home s → IsCut s → IsCut (does cmp hash gives s p l)
   cut_ok home s p (Begins c w) can o t u = cut_begins home s p c w can o t u
   cut_ok home s p Quiet can o t u = record { made = u.made; idle = u.idle; limit = u.limit; growth_limit = u.growth_limit; near = u.near; idle_live = u.idle_live; claims = u.claims; above_unclaimed = u.above_unclaimed; left_live = u.left_live; rest_moved = u.rest_moved; unclaimed_live = u.unclaimed_live; apart = u.apart; cover = u.cover; sum = u.sum }
   cut_ok home s p (Counts whose) can o t u = record { made = u.made; idle = u.idle; limit = u.limit; growth_limit = u.growth_limit; near = u.near; idle_live = u.idle_live; claims = u.claims; above_unclaimed = u.above_unclaimed; left_live = u.left_live; rest_moved = u.rest_moved; unclaimed_live = u.unclaimed_live; apart = u.apart; cover = u.cover; sum = u.sum }
@@ -320,7 +320,7 @@ module _ {K V F : Type 0} (cmp : K → K → Ordering) (hash : K → ℕ) (gives
   cut_ok home s p Ends can o t u = record { made = u.made; idle = u.idle; limit = u.limit; growth_limit = u.growth_limit; near = u.near; idle_live = u.idle_live; claims = u.claims; above_unclaimed = u.above_unclaimed; left_live = u.left_live; rest_moved = u.rest_moved; unclaimed_live = u.unclaimed_live; apart = u.apart; cover = u.cover; sum = u.sum }
 
   -- no table has an exponent above the greatest
-  pub home_limit : (home : ℕ → ℕ) (s : State K V F) (h : ℕ) → Tables cmp hash home s → Cut s → is_some s.published ≡ true → home h ≤ GREATEST_TABLE
+  pub home_limit : (home : ℕ → ℕ) (s : State K V F) (h : ℕ) → Tables cmp hash home s → IsCut s → is_some s.published ≡ true → home h ≤ GREATEST_TABLE
   home_limit home s h t u m = go s.published refl s.growth refl
     where
       go : (o : Option ℕ) → s.published ≡ o → (b : Option Growth) → s.growth ≡ b → home h ≤ GREATEST_TABLE

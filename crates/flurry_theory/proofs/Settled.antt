@@ -5,7 +5,7 @@ use Rattle.std.proofs.Common.{arith}
 use Rattle.std.proofs.lemmas.Grind.{common_steps}
 use Rattle.flurry_theory.specs.Trace.{Trace}
 use Rattle.flurry_theory.specs.Machine.{State, settle, mode_after_count, Mode, Locating, Looking, Walking, Clearing, Done, Finished}
-use Rattle.flurry_theory.specs.Invariant.{PartyOk, Progress, Named, Waits}
+use Rattle.flurry_theory.specs.Invariant.{PartyOk, Progress, NamesBorn, Waits}
 use Rattle.flurry_model.specs.declared.call.Call.{Call}
 
 module _ {K V F : Type 0} where
@@ -33,7 +33,7 @@ module _ {K V F : Type 0} where
   waits_settled call steps Finished w = w
 
 module _ {K V F : Type 0} (hash : K → ℕ) where
-  pub named_settled : (made : Bool) (home : ℕ → ℕ) (start : ℕ) (call : Option (Call K V F)) (m : Mode K V) → Named hash made home start call m → Named hash made home start call (mode_after_count m)
+  pub named_settled : (made : Bool) (home : ℕ → ℕ) (start : ℕ) (call : Option (Call K V F)) (m : Mode K V) → NamesBorn hash made home start call m → NamesBorn hash made home start call (mode_after_count m)
   named_settled made home start call Locating n = n
   named_settled made home start call (Looking e) n = n
   named_settled made home start call (Walking e i fs) n = n

@@ -5,13 +5,13 @@ use Rattle.std.specs.Cmp.{IsTotalOrder}
 use Rattle.std.proofs.Common.{arith, refl, sym, ◌∙◌}
 use Rattle.flurry_theory.specs.Map.{same}
 use Rattle.flurry_theory.specs.Machine.{State, Transition, Can, WasPublished, does, Begins, Quiet, Counts, Finds, Opens, FindsNothing, IsRefused, DecidesEmpty, Passes, Decides, Places, Claims, Moves, Reports, Publishes, Reads, Leaves, Splits, Wipes, SplitsClear, Replies, Ends}
-use Rattle.flurry_theory.specs.Invariant.{Inv, Cut, CanAll, after_all, new_world}
+use Rattle.flurry_theory.specs.Invariant.{Inv, IsCut, CanAll, after_all, new_world}
 use Rattle.flurry_theory.proofs.Tables.{same_some}
 use Rattle.flurry_theory.proofs.Step.{inv_after}
 use Rattle.flurry_model.specs.declared.sizes.TheConstants.{GREATEST_TABLE}
 
 module _ {K V F : Type 0} (cmp : K → K → Ordering) (total : IsTotalOrder cmp) (hash : K → ℕ) (lawful : (j k : K) → same cmp j k ≡ true → hash j ≡ hash k) (gives : F → K → V → Option V → Type 0) where
-  was_step : (s : State K V F) (p : ℕ) (l : Transition K V F) (e : ℕ) → Can cmp hash gives s p l → Cut s → WasPublished cmp hash gives s e → WasPublished cmp hash gives (does cmp hash gives s p l) e
+  was_step : (s : State K V F) (p : ℕ) (l : Transition K V F) (e : ℕ) → Can cmp hash gives s p l → IsCut s → WasPublished cmp hash gives s e → WasPublished cmp hash gives (does cmp hash gives s p l) e
   was_step s p (Begins c y) e can u o = o
   was_step s p Quiet e can u o = o
   was_step s p (Counts whose) e can u o = o

@@ -9,11 +9,11 @@ use Rattle.flurry_theory.specs.Map.{Pairs, same, find, key_of, Allows}
 use Rattle.flurry_theory.specs.Trace.{names, pairs}
 use Rattle.flurry_theory.specs.Bin.{Entry, pairs_of, Ascending, InRegion}
 use Rattle.flurry_theory.specs.Machine.{State, Claim, Growth, Transition, Can, does, label, halves, Live, Moved, Unborn, Locating, Looking, Walking, Clearing, Done, Begins, Quiet, Counts, Finds, Opens, FindsNothing, IsRefused, DecidesEmpty, Passes, Decides, Places, Claims, Moves, Reports, Publishes, Reads, Leaves, Splits, Wipes, SplitsClear, Replies, Ends}
-use Rattle.flurry_theory.specs.Invariant.{PartyOk, Tables, home_after, Progress, Remains, Cut, Named, Waits, Inv, Numbers, new_world, CanAll, after_all}
+use Rattle.flurry_theory.specs.Invariant.{PartyOk, Tables, home_after, Progress, Remains, IsCut, NamesBorn, Waits, Inv, Numbers, new_world, CanAll, after_all}
 use Rattle.flurry_theory.proofs.Bins.{Allows-same}
 use Rattle.flurry_theory.proofs.Tables.{same_some, same_live}
 use Rattle.flurry_theory.proofs.Ranges.{all_moved}
-use Rattle.flurry_theory.specs.Legal.{HasRead, Lacked, WalkMay, ClearMay, IsWalk, IsClear}
+use Rattle.flurry_theory.specs.Legal.{HasRead, HasLacked, WalkMay, ClearMay, IsWalk, IsClear}
 use Rattle.flurry_model.specs.declared.call.Call.{Call}
 use Rattle.flurry_model.specs.declared.call.Call.TheVariants.{Get, GetKeyValue, ContainsKey, Insert, TryInsert, Compute, Remove, RemoveEntry, RemoveSeen, Reserve, Clear, Walk}
 use Rattle.flurry_model.specs.declared.reply.KeptReply.{KeptReply}
@@ -111,7 +111,7 @@ module _ {K V F : Type 0} (cmp : K → K → Ordering) (total : IsTotalOrder cmp
       none : Remains cmp hash gives (s.mode p) k → ⊥
       none r = subst (λ m. Remains cmp hash gives m k) can.3 r
 
-      go : HasRead cmp hash gives s.trace p k ⊎ (Lacked cmp hash gives (λ _. true) s.trace p k ⊎ Remains cmp hash gives (s.mode p) k) → HasRead cmp hash gives s.trace p k
+      go : HasRead cmp hash gives s.trace p k ⊎ (HasLacked cmp hash gives (λ _. true) s.trace p k ⊎ Remains cmp hash gives (s.mode p) k) → HasRead cmp hash gives s.trace p k
       go (inl h) = h
       go (inr (inl h)) = absurd (stays_not_missing cmp hash gives (λ _. true) s.trace p k st h)
       go (inr (inr h)) = absurd (none h)
@@ -122,7 +122,7 @@ module _ {K V F : Type 0} (cmp : K → K → Ordering) (total : IsTotalOrder cmp
       none : Remains cmp hash gives (s.mode p) k → ⊥
       none r = subst (λ m. Remains cmp hash gives m k) can.3 r
 
-      go : Lacked cmp hash gives (names p) s.trace p k ⊎ Remains cmp hash gives (s.mode p) k → Lacked cmp hash gives (names p) s.trace p k
+      go : HasLacked cmp hash gives (names p) s.trace p k ⊎ Remains cmp hash gives (s.mode p) k → HasLacked cmp hash gives (names p) s.trace p k
       go (inl h) = h
       go (inr h) = absurd (none h)
 
@@ -213,7 +213,7 @@ module _ {K V F : Type 0} (cmp : K → K → Ordering) (total : IsTotalOrder cmp
   allows_now home s p (Replies r) can o t = tt
   allows_now home s p Ends can o t = tt
 
-  ready : (s : State K V F) (p : ℕ) (l : Transition K V F) → Can cmp hash gives s p l → ((q : ℕ) → PartyOk s q) → Cut s → (a : Claim) (g : Growth) → l ≡ Publishes a g → (s.published ≡ Some a.table) × ((i : ℕ) → i < 2 ^ a.table → s.slot a.table i ≡ Moved)
+  ready : (s : State K V F) (p : ℕ) (l : Transition K V F) → Can cmp hash gives s p l → ((q : ℕ) → PartyOk s q) → IsCut s → (a : Claim) (g : Growth) → l ≡ Publishes a g → (s.published ≡ Some a.table) × ((i : ℕ) → i < 2 ^ a.table → s.slot a.table i ≡ Moved)
   ready s p l can o u a g e = all_moved cmp hash gives s p a g (subst (λ l. Can cmp hash gives s p l) e can) o u
 
   -- a step of the machine keeps the whole
@@ -246,10 +246,10 @@ module _ {K V F : Type 0} (cmp : K → K → Ordering) (total : IsTotalOrder cmp
       tables : Tables cmp hash (home_after home l) (does cmp hash gives s p l)
       tables = tables_ok cmp total hash lawful gives home s p l can (v.parties p) (ready s p l can v.parties v.cut) v.tables
 
-      cut : Cut (does cmp hash gives s p l)
+      cut : IsCut (does cmp hash gives s p l)
       cut = cut_ok cmp hash gives home s p l can v.parties v.tables v.cut
 
-      named : (q : ℕ) → Named hash (is_some (does cmp hash gives s p l).published) (home_after home l) (does cmp hash gives s p l).start ((does cmp hash gives s p l).call q) ((does cmp hash gives s p l).mode q)
+      named : (q : ℕ) → NamesBorn hash (is_some (does cmp hash gives s p l).published) (home_after home l) (does cmp hash gives s p l).start ((does cmp hash gives s p l).call q) ((does cmp hash gives s p l).mode q)
       named = λ q. named_ok cmp total hash lawful gives home s p q l can v.tables v.named
 
       waits : (q : ℕ) → Waits ((does cmp hash gives s p l).call q) ((does cmp hash gives s p l).mode q) ((does cmp hash gives s p l).steps q)
@@ -276,7 +276,7 @@ module _ {K V F : Type 0} (cmp : K → K → Ordering) (total : IsTotalOrder cmp
     is_moved = λ d j h. absurd (grind (arith, h));
   }
 
-  new_cut : (e : ℕ) (b : Bool) → e ≤ GREATEST_TABLE → Cut (new_world {K = K} {V = V} {F = F} e b)
+  new_cut : (e : ℕ) (b : Bool) → e ≤ GREATEST_TABLE → IsCut (new_world {K = K} {V = V} {F = F} e b)
   new_cut e b l = record {
     made = λ g h. grind (arith, h);
     idle = λ _ p. refl;

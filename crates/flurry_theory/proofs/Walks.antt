@@ -12,7 +12,7 @@ use Rattle.flurry_theory.specs.Machine.{State, Can, found_by, onward, halves, Li
 use Rattle.flurry_theory.specs.Invariant.{Tables, Progress, Remains, InFrame, InFrames, Off, Within, Apart, FramesOk}
 use Rattle.flurry_theory.proofs.Bins.{find-wiped, region-first_past, past_trans, past_differs, find-first_past, find-none_past, found-first_past, in_a_half, in_low_half, in_high_half}
 use Rattle.flurry_theory.proofs.Tables.{homes, content_at}
-use Rattle.flurry_theory.specs.Legal.{HasRead, Lacked, Stays, WalkMay}
+use Rattle.flurry_theory.specs.Legal.{HasRead, HasLacked, Stays, WalkMay}
 use Rattle.flurry_model.specs.declared.call.Call.{Call}
 use Rattle.flurry_model.specs.declared.call.Call.TheVariants.{Get, GetKeyValue, ContainsKey, Insert, TryInsert, Compute, Remove, RemoveEntry, RemoveSeen, Reserve, Clear, Walk}
 use Rattle.flurry_theory.specs.declared.Label.{Label}
@@ -63,16 +63,16 @@ module _ {K V F : Type 0} (cmp : K → K → Ordering) (hash : K → ℕ) (gives
   not_begun (Published e) p n = refl
 
   Missing : (Label K V F → Bool) → Trace K V F → ℕ → K → Type 0
-  Missing test t p k = Lacked cmp hash gives test t p k
+  Missing test t p k = HasLacked cmp hash gives test t p k
 
-  missing_more : (test : Label K V F → Bool) (t : Trace K V F) (l : Label K V F) (p : ℕ) (k : K) → begins p l ≡ false → Lacked cmp hash gives test t p k → Lacked cmp hash gives test (l ∷ t) p k
+  missing_more : (test : Label K V F → Bool) (t : Trace K V F) (l : Label K V F) (p : ℕ) (k : K) → begins p l ≡ false → HasLacked cmp hash gives test t p k → HasLacked cmp hash gives test (l ∷ t) p k
   missing_more test t l p k b h = (b, inr h)
 
-  pub missing_now : (test : Label K V F → Bool) (t : Trace K V F) (l : Label K V F) (p : ℕ) (k : K) → begins p l ≡ false → test l ≡ true → at cmp hash (l ∷ t) k ≡ None → Lacked cmp hash gives test (l ∷ t) p k
+  pub missing_now : (test : Label K V F → Bool) (t : Trace K V F) (l : Label K V F) (p : ℕ) (k : K) → begins p l ≡ false → test l ≡ true → at cmp hash (l ∷ t) k ≡ None → HasLacked cmp hash gives test (l ∷ t) p k
   missing_now test t l p k b y h = (b, inl (y, grind (arith, h)))
 
   -- a class that stayed was not missing
-  pub stays_not_missing : (test : Label K V F → Bool) (t : Trace K V F) (p : ℕ) (k : K) → Stays cmp hash gives t p k → Lacked cmp hash gives test t p k → ⊥
+  pub stays_not_missing : (test : Label K V F → Bool) (t : Trace K V F) (p : ℕ) (k : K) → Stays cmp hash gives t p k → HasLacked cmp hash gives test t p k → ⊥
   stays_not_missing test [] p k h m = h
   stays_not_missing test (l ∷ t) p k (h, inl b) (m, n) = grind (arith, b, m)
   stays_not_missing test (l ∷ t) p k (h, inr b) (m, inl n) = grind (arith, h, n)
@@ -80,8 +80,8 @@ module _ {K V F : Type 0} (cmp : K → K → Ordering) (hash : K → ℕ) (gives
 
   -- a label after which the party's mode is another one
   pub advance : (call : Option (Call K V F)) (m n : Mode K V) (t : Trace K V F) (l : Label K V F) (p : ℕ) → begins p l ≡ false → ((k : K) → HasRead cmp hash gives (l ∷ t) p k → HasRead cmp hash gives t p k) → (m ≡ Finished → n ≡ Finished)
-      → (call ≡ Some Walk → (k : K) → Remains cmp hash gives m k → HasRead cmp hash gives (l ∷ t) p k ⊎ (Lacked cmp hash gives (λ _. true) (l ∷ t) p k ⊎ Remains cmp hash gives n k))
-      → (call ≡ Some Clear → (k : K) → Remains cmp hash gives m k → Lacked cmp hash gives (names p) (l ∷ t) p k ⊎ Remains cmp hash gives n k)
+      → (call ≡ Some Walk → (k : K) → Remains cmp hash gives m k → HasRead cmp hash gives (l ∷ t) p k ⊎ (HasLacked cmp hash gives (λ _. true) (l ∷ t) p k ⊎ Remains cmp hash gives n k))
+      → (call ≡ Some Clear → (k : K) → Remains cmp hash gives m k → HasLacked cmp hash gives (names p) (l ∷ t) p k ⊎ Remains cmp hash gives n k)
       → ((k : K) → Remains cmp hash gives n k → Remains cmp hash gives m k) → FramesOk cmp hash gives n → Progress cmp hash gives call m t p → Progress cmp hash gives call n (l ∷ t) p
   advance call m n t l p b back fin see clear fewer fr g = record {
     unbegun = λ e k h. g.unbegun e k (back k h);
@@ -91,12 +91,12 @@ module _ {K V F : Type 0} (cmp : K → K → Ordering) (hash : K → ℕ) (gives
     frames = fr;
   }
     where
-      go : call ≡ Some Walk → (k : K) → HasRead cmp hash gives t p k ⊎ (Lacked cmp hash gives (λ _. true) t p k ⊎ Remains cmp hash gives m k) → HasRead cmp hash gives (l ∷ t) p k ⊎ (Lacked cmp hash gives (λ _. true) (l ∷ t) p k ⊎ Remains cmp hash gives n k)
+      go : call ≡ Some Walk → (k : K) → HasRead cmp hash gives t p k ⊎ (HasLacked cmp hash gives (λ _. true) t p k ⊎ Remains cmp hash gives m k) → HasRead cmp hash gives (l ∷ t) p k ⊎ (HasLacked cmp hash gives (λ _. true) (l ∷ t) p k ⊎ Remains cmp hash gives n k)
       go e k (inl h) = inl (read_more t l p k h)
       go e k (inr (inl h)) = inr (inl (missing_more (λ _. true) t l p k b h))
       go e k (inr (inr h)) = see e k h
 
-      go' : call ≡ Some Clear → (k : K) → Lacked cmp hash gives (names p) t p k ⊎ Remains cmp hash gives m k → Lacked cmp hash gives (names p) (l ∷ t) p k ⊎ Remains cmp hash gives n k
+      go' : call ≡ Some Clear → (k : K) → HasLacked cmp hash gives (names p) t p k ⊎ Remains cmp hash gives m k → HasLacked cmp hash gives (names p) (l ∷ t) p k ⊎ Remains cmp hash gives n k
       go' e k (inl h) = inl (missing_more (names p) t l p k b h)
       go' e k (inr h) = clear e k h
 
@@ -274,16 +274,16 @@ module _ {K V F : Type 0} (cmp : K → K → Ordering) (total : IsTotalOrder cmp
       fewer k (inr (inr h)) = inr (inr h)
 
       here : (k : K) → hash k % 2 ^ f.table ≡ f.index → past cmp hash f.bound k ≡ true → (b : Bool) → past cmp hash (Some x.key) k ≡ b
-          → HasRead cmp hash gives (Read p x.key x.value ∷ s.trace) p k ⊎ (Lacked cmp hash gives (λ _. true) (Read p x.key x.value ∷ s.trace) p k ⊎ Remains cmp hash gives (Walking e i (record { table = f.table; index = f.index; bound = Some x.key } ∷ fs)) k)
+          → HasRead cmp hash gives (Read p x.key x.value ∷ s.trace) p k ⊎ (HasLacked cmp hash gives (λ _. true) (Read p x.key x.value ∷ s.trace) p k ⊎ Remains cmp hash gives (Walking e i (record { table = f.table; index = f.index; bound = Some x.key } ∷ fs)) k)
       here k r y true z = inr (inr (inr (inl (r, z))))
       here k r y false z = go (find-first_past cmp total hash lawful f.bound es x k asc.0 can.2 y z)
         where
-          go : (same cmp x.key k ≡ true) ⊎ (find cmp (pairs_of es) k ≡ None) → HasRead cmp hash gives (Read p x.key x.value ∷ s.trace) p k ⊎ (Lacked cmp hash gives (λ _. true) (Read p x.key x.value ∷ s.trace) p k ⊎ Remains cmp hash gives (Walking e i (record { table = f.table; index = f.index; bound = Some x.key } ∷ fs)) k)
+          go : (same cmp x.key k ≡ true) ⊎ (find cmp (pairs_of es) k ≡ None) → HasRead cmp hash gives (Read p x.key x.value ∷ s.trace) p k ⊎ (HasLacked cmp hash gives (λ _. true) (Read p x.key x.value ∷ s.trace) p k ⊎ Remains cmp hash gives (Walking e i (record { table = f.table; index = f.index; bound = Some x.key } ∷ fs)) k)
           go (inl h) = inl (inl (refl, h))
           go (inr h) = inr (inl (missing_now cmp hash gives (λ _. true) s.trace (Read p x.key x.value) p k refl refl (sym (held home s f.table f.index es n k t can.1 r) ∙ h)))
 
-      seen : (k : K) → HasRead cmp hash gives s.trace p k ⊎ (Lacked cmp hash gives (λ _. true) s.trace p k ⊎ Remains cmp hash gives (Walking e i (f ∷ fs)) k)
-          → HasRead cmp hash gives (Read p x.key x.value ∷ s.trace) p k ⊎ (Lacked cmp hash gives (λ _. true) (Read p x.key x.value ∷ s.trace) p k ⊎ Remains cmp hash gives (Walking e i (record { table = f.table; index = f.index; bound = Some x.key } ∷ fs)) k)
+      seen : (k : K) → HasRead cmp hash gives s.trace p k ⊎ (HasLacked cmp hash gives (λ _. true) s.trace p k ⊎ Remains cmp hash gives (Walking e i (f ∷ fs)) k)
+          → HasRead cmp hash gives (Read p x.key x.value ∷ s.trace) p k ⊎ (HasLacked cmp hash gives (λ _. true) (Read p x.key x.value ∷ s.trace) p k ⊎ Remains cmp hash gives (Walking e i (record { table = f.table; index = f.index; bound = Some x.key } ∷ fs)) k)
       seen k (inl h) = inl (inr h)
       seen k (inr (inl h)) = inr (inl (missing_more cmp hash gives (λ _. true) s.trace (Read p x.key x.value) p k refl h))
       seen k (inr (inr (inl h))) = inr (inr (inl h))
@@ -309,7 +309,7 @@ module _ {K V F : Type 0} (cmp : K → K → Ordering) (total : IsTotalOrder cmp
   leaves home s p e i f fs es n can t w g = advance cmp hash gives (s.call p) (Walking e i (f ∷ fs)) (onward Walking (Done None 0 0) e i fs) s.trace (Silent p) p refl (λ k h. h) (λ h. grind (arith, h))
       (λ _ k r. go k (w_rest cmp hash gives e i f fs k r)) (λ h. absurd (grind (arith, h, w))) (λ k r. w_fewer cmp hash gives e i f fs k r) (w_frames cmp hash gives e i f fs g.frames) g
     where
-      go : (k : K) → InFrame cmp hash gives f k ⊎ Remains cmp hash gives (onward Walking (Done None 0 0) e i fs) k → HasRead cmp hash gives (Silent p ∷ s.trace) p k ⊎ (Lacked cmp hash gives (λ _. true) (Silent p ∷ s.trace) p k ⊎ Remains cmp hash gives (onward Walking (Done None 0 0) e i fs) k)
+      go : (k : K) → InFrame cmp hash gives f k ⊎ Remains cmp hash gives (onward Walking (Done None 0 0) e i fs) k → HasRead cmp hash gives (Silent p ∷ s.trace) p k ⊎ (HasLacked cmp hash gives (λ _. true) (Silent p ∷ s.trace) p k ⊎ Remains cmp hash gives (onward Walking (Done None 0 0) e i fs) k)
       go k (inr h) = inr (inr h)
       go k (inl h) = inr (inl (missing_now cmp hash gives (λ _. true) s.trace (Silent p) p k refl refl (sym (held home s f.table f.index es n k t can.1 h.0) ∙ find-none_past cmp total hash lawful f.bound es k can.2 h.1)))
 
@@ -318,6 +318,6 @@ module _ {K V F : Type 0} (cmp : K → K → Ordering) (total : IsTotalOrder cmp
   wipes home s p wiped e i f fs es n can w g = advance cmp hash gives (s.call p) (Clearing wiped e i (f ∷ fs)) (onward (Clearing (wiped + length es)) (Done None 0 (wiped + length es)) e i fs) s.trace (Wipe p f.table f.index) p refl (λ k h. h) (λ h. grind (arith, h))
       (λ h. absurd (grind (arith, h, w))) (λ _ k r. go k (c_rest cmp hash gives wiped (wiped + length es) e i f fs k r)) (λ k r. c_fewer cmp hash gives wiped (wiped + length es) e i f fs k r) (c_frames cmp hash gives wiped (wiped + length es) e i f fs g.frames) g
     where
-      go : (k : K) → InFrame cmp hash gives f k ⊎ Remains cmp hash gives (onward (Clearing (wiped + length es)) (Done None 0 (wiped + length es)) e i fs) k → Lacked cmp hash gives (names p) (Wipe p f.table f.index ∷ s.trace) p k ⊎ Remains cmp hash gives (onward (Clearing (wiped + length es)) (Done None 0 (wiped + length es)) e i fs) k
+      go : (k : K) → InFrame cmp hash gives f k ⊎ Remains cmp hash gives (onward (Clearing (wiped + length es)) (Done None 0 (wiped + length es)) e i fs) k → HasLacked cmp hash gives (names p) (Wipe p f.table f.index ∷ s.trace) p k ⊎ Remains cmp hash gives (onward (Clearing (wiped + length es)) (Done None 0 (wiped + length es)) e i fs) k
       go k (inr h) = inr h
       go k (inl h) = inl (missing_now cmp hash gives (names p) s.trace (Wipe p f.table f.index) p k refl (eq-eqb p p refl) (find-wiped cmp total hash lawful f.table f.index (pairs cmp hash s.trace) k ∙ cond-true (in_region f.table f.index (hash k)) None (at cmp hash s.trace k) (eq-eqb _ _ h.0)))

@@ -2,8 +2,8 @@
 use Rattle.std.specs.Prelude.{⊤, length, ℕ, pos, ◌+ℤ◌, ◌-ℤ◌, suc, ◌+◌, ◌-◌, ◌%◌, ◌^◌, ◌<◌, ◌≤◌, ◌==◌, ◌&&◌, nat_le, nat_lt, if◌then◌else◌, Bool, true, false, List, [], ◌∷◌, Option, Some, None, is_some, option_map, ◌≡◌, ◌⊎◌}
 use Rattle.std.specs.declared.cmp.Ordering.{Ordering}
 use Rattle.flurry_theory.specs.Map.{Unique, find, key_of}
-use Rattle.flurry_theory.specs.Trace.{Trace, is_lookup, call_begun_by, decision, has_replied, has_closed, published, was_placed, was_moved_in, names, last_read, read_before, pairs, at}
-use Rattle.flurry_theory.specs.Legal.{is_untouched, untouched_for, RemovalMay, HasRead, Lacked, EachMay, CallMay, WalkMay, ClearMay, GrowthMay}
+use Rattle.flurry_theory.specs.Trace.{Trace, is_lookup, call_begun_by, decision, has_replied, has_closed, published_in, was_placed, was_moved_in, names, last_read, read_before, pairs, at}
+use Rattle.flurry_theory.specs.Legal.{is_untouched, untouched_for, RemovalMay, HasRead, HasLacked, EachMay, CallMay, WalkMay, ClearMay, GrowthMay}
 use Rattle.flurry_theory.specs.Bin.{Entry, number_of, pairs_of, Ascending, InRegion, past}
 use Rattle.flurry_theory.specs.Machine.{total, owes_added, owes_removed, State, Slot, Transition, Opens, Moves, Claim, Growth, Can, does, Live, Moved, Unborn, Mode, Locating, Looking, Walking, Clearing, Done, Finished, Frame, Replies}
 use Rattle.flurry_model.specs.declared.call.Call.{Call}
@@ -55,7 +55,7 @@ module _ {K V F : Type 0} (cmp : K → K → Ordering) (hash : K → ℕ) where
     pub was_moved : (d j : ℕ) → s.slot d j ≡ Moved → was_moved_in s.trace d j ≡ true
     pub is_moved : (d j : ℕ) → was_moved_in s.trace d j ≡ true → s.slot d j ≡ Moved
 
--- the homes after a line
+-- the homes after a transition
 abbrev pub home_after : {K V F : Type 0} → (ℕ → ℕ) → Transition K V F → ℕ → ℕ
 home_after home (Opens e) h = e
 home_after home (Moves a i es n) h = if h % 2 ^ a.table == i then suc a.table else home h
@@ -73,7 +73,7 @@ holds (Some a) i = nat_le a.low i && nat_lt i a.high
 
 module _ {K V F : Type 0} where
   -- the unclaimed, the claimed and the reported bins cut the growing table
-  pub record Cut (s : State K V F) : Type 0 where
+  pub record IsCut (s : State K V F) : Type 0 where
     pub made : (g : Growth) → s.growth ≡ Some g → is_some s.published ≡ true
     pub idle : s.growth ≡ None → (p : ℕ) → s.claim p ≡ None
     pub limit : (e : ℕ) → s.published ≡ Some e → e ≤ GREATEST_TABLE
@@ -90,8 +90,8 @@ module _ {K V F : Type 0} where
     pub sum : (e : ℕ) (g : Growth) → s.published ≡ Some e → s.growth ≡ Some g → g.unclaimed + g.reported + total (λ p. size (s.claim p)) s.parties ≡ 2 ^ e
 
   -- what the labels say of the tables
-  pub record Grown (first : Option ℕ) (s : State K V F) : Type 0 where
-    pub number : published first s.trace ≡ s.published
+  pub record HasGrown (first : Option ℕ) (s : State K V F) : Type 0 where
+    pub number : published_in first s.trace ≡ s.published
     pub placed_next : (e : ℕ) (g : Growth) → s.published ≡ Some e → s.growth ≡ Some g → was_placed s.trace (suc e) ≡ true
     pub unplaced : s.published ≡ None → (d : ℕ) → was_placed s.trace d ≡ false
     pub unplaced_idle : (e d : ℕ) → s.growth ≡ None → s.published ≡ Some e → e < d → was_placed s.trace d ≡ false
@@ -139,9 +139,9 @@ module _ {K V F : Type 0} (cmp : K → K → Ordering) (hash : K → ℕ) (gives
   -- how far a walk or a clear has come
   pub record Progress (call : Option (Call K V F)) (mode : Mode K V) (t : Trace K V F) (p : ℕ) : Type 0 where
     pub unbegun : call ≡ None → (k : K) → HasRead cmp hash gives t p k → ⊥
-    pub seen : call ≡ Some Walk → (mode ≡ Finished → ⊥) → (k : K) → HasRead cmp hash gives t p k ⊎ (Lacked cmp hash gives (λ _. true) t p k ⊎ Remains mode k)
+    pub seen : call ≡ Some Walk → (mode ≡ Finished → ⊥) → (k : K) → HasRead cmp hash gives t p k ⊎ (HasLacked cmp hash gives (λ _. true) t p k ⊎ Remains mode k)
     pub unread : call ≡ Some Walk → (mode ≡ Finished → ⊥) → (k : K) → Remains mode k → HasRead cmp hash gives t p k → ⊥
-    pub cleared : call ≡ Some Clear → (mode ≡ Finished → ⊥) → (k : K) → Lacked cmp hash gives (names p) t p k ⊎ Remains mode k
+    pub cleared : call ≡ Some Clear → (mode ≡ Finished → ⊥) → (k : K) → HasLacked cmp hash gives (names p) t p k ⊎ Remains mode k
     pub frames : FramesOk mode
 
 -- READS AND ORIGINS
@@ -185,7 +185,7 @@ module _ {K V F : Type 0} (cmp : K → K → Ordering) (hash : K → ℕ) (gives
 
   -- What a read tells of its class now, where b says that nothing has touched the class since: it bears the number that was read,
   -- or else none, a newer one or the greatest, at which the numbers stay.
-  pub record Judged (b : Bool) (z : Seen K V) (number : Option ℕ) (writes : ℕ) : Type 0 where
+  pub record JudgesRead (b : Bool) (z : Seen K V) (number : Option ℕ) (writes : ℕ) : Type 0 where
     pub known : z.number ≤ writes
     pub same_number : b ≡ true → number ≡ Some z.number
     pub new_number : b ≡ false → (newer number z.number ≡ true) ⊎ (number ≡ Some (2 ^ 64 - 1))
@@ -195,8 +195,8 @@ module _ {K V F : Type 0} (cmp : K → K → Ordering) (hash : K → ℕ) (gives
     pub bounded : (k : K) (m : ℕ) → number_at home s k ≡ Some m → m ≤ writes_at home s k
     pub limit : (k : K) → writes_at home s k ≤ 2 ^ 64 - 1
     pub small : (k : K) → writes_at home s k ≤ length s.trace
-    pub fresh : (w : ℕ) (z : Seen K V) → s.seen w ≡ Some z → Judged (is_untouched cmp hash gives s.trace w z.key) z (number_at home s z.key) (writes_at home s z.key)
-    pub pending : (p w : ℕ) (z : Seen K V) → s.began_from p ≡ Some w → s.call p ≡ Some (RemoveSeen z) → Judged (untouched_for cmp hash gives s.trace p w z.key) z (number_at home s z.key) (writes_at home s z.key)
+    pub fresh : (w : ℕ) (z : Seen K V) → s.seen w ≡ Some z → JudgesRead (is_untouched cmp hash gives s.trace w z.key) z (number_at home s z.key) (writes_at home s z.key)
+    pub pending : (p w : ℕ) (z : Seen K V) → s.began_from p ≡ Some w → s.call p ≡ Some (RemoveSeen z) → JudgesRead (untouched_for cmp hash gives s.trace p w z.key) z (number_at home s z.key) (writes_at home s z.key)
 
 -- NAMED BINS
 abbrev pub key_in : {K V F : Type 0} → Option (Call K V F) → Option K
@@ -204,22 +204,22 @@ key_in None = None
 key_in (Some c) = key_of c
 
 -- each frame names a bin of a table that has come to be there
-abbrev pub Born : {K : Type 0} → (ℕ → ℕ) → ℕ → List (Frame K) → Type 0
-Born home start [] = ⊤
-Born home start (f ∷ fs) = ((start ≤ f.table) × (f.index < 2 ^ f.table) × ((h : ℕ) → h % 2 ^ f.table ≡ f.index → f.table ≤ home h)) × Born home start fs
+abbrev pub AreBorn : {K : Type 0} → (ℕ → ℕ) → ℕ → List (Frame K) → Type 0
+AreBorn home start [] = ⊤
+AreBorn home start (f ∷ fs) = ((start ≤ f.table) × (f.index < 2 ^ f.table) × ((h : ℕ) → h % 2 ^ f.table ≡ f.index → f.table ≤ home h)) × AreBorn home start fs
 
 module _ {K V F : Type 0} (hash : K → ℕ) where
   -- the bins that a party names, now or later, are no longer unborn
-  abbrev pub Named : Bool → (ℕ → ℕ) → ℕ → Option (Call K V F) → Mode K V → Type 0
-  Named made home start call (Looking e) = (made ≡ true) × (start ≤ e) × ((k : K) → key_in call ≡ Some k → e ≤ home (hash k))
-  Named made home start call (Walking e i fs) = (made ≡ true) × (start ≤ e) × ((h : ℕ) → e ≤ home h) × Born home start fs
-  Named made home start call (Clearing wiped e i fs) = (made ≡ true) × (start ≤ e) × ((h : ℕ) → e ≤ home h) × Born home start fs
-  Named made home start call m = ⊤
+  abbrev pub NamesBorn : Bool → (ℕ → ℕ) → ℕ → Option (Call K V F) → Mode K V → Type 0
+  NamesBorn made home start call (Looking e) = (made ≡ true) × (start ≤ e) × ((k : K) → key_in call ≡ Some k → e ≤ home (hash k))
+  NamesBorn made home start call (Walking e i fs) = (made ≡ true) × (start ≤ e) × ((h : ℕ) → e ≤ home h) × AreBorn home start fs
+  NamesBorn made home start call (Clearing wiped e i fs) = (made ≡ true) × (start ≤ e) × ((h : ℕ) → e ≤ home h) × AreBorn home start fs
+  NamesBorn made home start call m = ⊤
 
 -- COUNT
 module _ {K V F : Type 0} (cmp : K → K → Ordering) (hash : K → ℕ) where
   -- the number of pairs is the count and what the parties owe, as their modes say
-  pub record Counted (s : State K V F) : Type 0 where
+  pub record IsCounted (s : State K V F) : Type 0 where
     pub unique : Unique cmp (pairs cmp hash s.trace)
     pub balance : pos (length (pairs cmp hash s.trace)) ≡ s.count +ℤ pos (total (λ p. owes_added (s.mode p)) s.parties) -ℤ pos (total (λ p. owes_removed (s.mode p)) s.parties)
     -- a label adds one pair at most, so neither side outgrows the labels
@@ -251,11 +251,11 @@ module _ {K V F : Type 0} (cmp : K → K → Ordering) (hash : K → ℕ) (gives
   pub record Inv (first : Option ℕ) (home : ℕ → ℕ) (s : State K V F) : Type 0 where
     pub parties : (p : ℕ) → PartyOk s p
     pub tables : Tables cmp hash home s
-    pub cut : Cut s
-    pub grown : Grown first s
+    pub cut : IsCut s
+    pub grown : HasGrown first s
     pub progress : (p : ℕ) → Progress cmp hash gives (s.call p) (s.mode p) s.trace p
-    pub named : (p : ℕ) → Named {F = F} hash (is_some s.published) home s.start (s.call p) (s.mode p)
-    pub counted : Counted cmp hash s
+    pub named : (p : ℕ) → NamesBorn {F = F} hash (is_some s.published) home s.start (s.call p) (s.mode p)
+    pub counted : IsCounted cmp hash s
     pub waits : (p : ℕ) → Waits (s.call p) (s.mode p) (s.steps p)
     pub lookups : (p : ℕ) → LooksUp cmp hash gives s p
     -- each step adds a label, so that a counter of a party's steps holds them

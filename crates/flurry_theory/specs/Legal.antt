@@ -2,7 +2,7 @@
 use Rattle.std.specs.Prelude.{⊤, length, ℕ, suc, Bool, true, false, not, ◌&&◌, ◌||◌, [], ◌∷◌, Option, Some, None, if◌then◌else◌, IfSome, IsSome, IsNone, IsTrue, ◌≡◌, ◌==◌, ◌^◌, ◌<◌, ◌⊎◌}
 use Rattle.std.specs.declared.cmp.Ordering.{Ordering}
 use Rattle.flurry_theory.specs.Map.{same, key_of, Allows, CanBeRefused}
-use Rattle.flurry_theory.specs.Trace.{Trace, in_region, call_begun_by, decision, has_replied, has_closed, begins, names, last_read, read_before, published, was_placed, was_moved_in, pairs, at}
+use Rattle.flurry_theory.specs.Trace.{Trace, in_region, call_begun_by, decision, has_replied, has_closed, begins, names, last_read, read_before, published_in, was_placed, was_moved_in, pairs, at}
 use Rattle.flurry_model.specs.declared.call.Call.{Call}
 use Rattle.flurry_model.specs.declared.call.Call.TheVariants.{Insert, TryInsert, Compute, Remove, RemoveEntry, RemoveSeen, Clear, Walk}
 use Rattle.flurry_model.specs.declared.reply.KeptReply.{KeptReply}
@@ -74,13 +74,13 @@ module _ {K V F : Type 0} where
 
     -- CLEARS
     -- the map lacked k's class after a label, since p's Begin, that passes the test
-    abbrev pub Lacked : (Label K V F → Bool) → Trace K V F → ℕ → K → Type 0
-    Lacked test [] p k = ⊥
-    Lacked test (l ∷ t) p k = (begins p l ≡ false) × ((IsTrue (test l) × IsNone (at cmp hash (l ∷ t) k)) ⊎ Lacked test t p k)
+    abbrev pub HasLacked : (Label K V F → Bool) → Trace K V F → ℕ → K → Type 0
+    HasLacked test [] p k = ⊥
+    HasLacked test (l ∷ t) p k = (begins p l ≡ false) × ((IsTrue (test l) × IsNone (at cmp hash (l ∷ t) k)) ⊎ HasLacked test t p k)
 
     -- At a clear's End, the labels before it show of each class one of the clear's own, since its Begin, after which the map lacked it.
     abbrev pub ClearMay : Trace K V F → Label K V F → Type 0
-    ClearMay t (End p) = Began IsClear t p → (k : K) → Lacked (names p) t p k
+    ClearMay t (End p) = Began IsClear t p → (k : K) → HasLacked (names p) t p k
     ClearMay t l = ⊤
 
     -- CONDITIONAL REMOVALS
@@ -139,8 +139,8 @@ module _ {K V F : Type 0} where
 
   -- GROWTH. first is the exponent of the table that the world began with.
   abbrev pub GrowthMay : Option ℕ → Trace K V F → Label K V F → Type 0
-  GrowthMay first t (Opened e) = published first t ≡ None
-  GrowthMay first t (Placed d) = (e : ℕ) × (published first t ≡ Some e) × (d ≡ suc e) × (was_placed t d ≡ false)
+  GrowthMay first t (Opened e) = published_in first t ≡ None
+  GrowthMay first t (Placed d) = (e : ℕ) × (published_in first t ≡ Some e) × (d ≡ suc e) × (was_placed t d ≡ false)
   GrowthMay first t (Moved e i) = (i < 2 ^ e) × (was_placed t (suc e) ≡ true) × (was_moved_in t e i ≡ false)
-  GrowthMay first t (Published d) = (e : ℕ) × (published first t ≡ Some e) × (d ≡ suc e) × ((i : ℕ) → i < 2 ^ e → was_moved_in t e i ≡ true)
+  GrowthMay first t (Published d) = (e : ℕ) × (published_in first t ≡ Some e) × (d ≡ suc e) × ((i : ℕ) → i < 2 ^ e → was_moved_in t e i ≡ true)
   GrowthMay first t l = ⊤

@@ -189,7 +189,7 @@ module _ {K V F : Type 0} where
     RefusedAt s c (Done None added removed) = (n e : ℕ) × (c ≡ Reserve n) × (added ≡ 0) × (removed ≡ 0) × (s.published ≡ Some e) × (s.growth ≡ None) × (e < GREATEST_TABLE)
     RefusedAt s c m = ⊥
 
-    -- when party p may do this line
+    -- when party p may do this transition
     abbrev pub Can : State K V F → ℕ → Transition K V F → Type 0
     Can s p (Begins c from) = (p ≡ s.parties) × ((w : ℕ) → from ≡ Some w → (z : Seen K V) × (s.seen w ≡ Some z) × (c ≡ RemoveSeen z))
     Can s p Quiet = is_lookup (s.call p) ≡ true → s.mode p ≡ Finished
@@ -223,7 +223,7 @@ module _ {K V F : Type 0} where
     abbrev pub goes : State K V F → ℕ → Mode K V → State K V F
     goes s p m = record s { mode = at_place s.mode p m }
 
-    -- what the line does, beside its label
+    -- what the transition does, beside its label
     abbrev pub effect : State K V F → ℕ → Transition K V F → State K V F
     effect s p (Begins c from) = record s { seen = at_place s.seen p None; began_from = at_place s.began_from p from; parties = suc p; call = at_place s.call p (Some c); mode = at_place s.mode p Locating; claim = at_place s.claim p None }
     effect s p Quiet = s
@@ -251,7 +251,7 @@ module _ {K V F : Type 0} where
     effect s p (Replies r) = goes s p Finished
     effect s p Ends = goes s p Finished
 
-    -- the label that the line adds
+    -- the label that the transition adds
     abbrev pub label : ℕ → Transition K V F → Label K V F
     label p (Begins c from) = Begin p c
     label p (Opens e) = Opened e
@@ -267,12 +267,12 @@ module _ {K V F : Type 0} where
     label p Ends = End p
     label p l = Silent p
 
-    -- how many steps the party has done after the line: its beginning is none of them
+    -- how many steps the party has done after the transition: its beginning is none of them
     abbrev pub steps_after : State K V F → ℕ → Transition K V F → ℕ
     steps_after s p (Begins c from) = 0
     steps_after s p l = if is_some (s.call p) then suc (s.steps p) else s.steps p
 
-    -- the line, as it is done: what it does, one more step of its party, and its label
+    -- the transition, as it is done: what it does, one more step of its party, and its label
     abbrev pub does : State K V F → ℕ → Transition K V F → State K V F
     does s p l = record (effect s p l) { steps = at_place s.steps p (steps_after s p l); trace = label p l ∷ s.trace }
 

@@ -71,11 +71,11 @@ module _ {K V F : Type 0} where
   read_before (l ∷ t) p w = if begins p l then last_read t w else read_before t p w
 
   -- the published exponent; first is that of the table which the world began with
-  abbrev pub published : Option ℕ → Trace K V F → Option ℕ
-  published first [] = first
-  published first (Opened e ∷ t) = Some e
-  published first (Published e ∷ t) = Some e
-  published first (l ∷ t) = published first t
+  abbrev pub published_in : Option ℕ → Trace K V F → Option ℕ
+  published_in first [] = first
+  published_in first (Opened e ∷ t) = Some e
+  published_in first (Published e ∷ t) = Some e
+  published_in first (l ∷ t) = published_in first t
 
   -- table e was made by a growth
   abbrev pub was_placed : Trace K V F → ℕ → Bool

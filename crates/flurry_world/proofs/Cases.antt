@@ -47,7 +47,7 @@ module _ {K V F S : Type 0} (cmp : K → K → Ordering) (total : IsTotalOrder c
   pub quiet : (s : Stage K V F) → x.party_state.stage ≡ s → mode_of_stage c.stage ≡ mode_of_stage s → claim_of_stage c.stage ≡ claim_of_stage s → is_lookup (Some x.call) ≡ false → FollowsStage hash x.call c.stage
       → IsStep cmp hash gives w p x w.control_state w.tables c (label.Silent p)
   quiet s e mode claim lookup follows = record {
-    line = Quiet;
+    transition = Quiet;
     can = λ h. absurd (grind (arith, h, no_lookup lookup));
     is = is_quiet cmp hash gives w p x at c (mode ∙ sym (in_mode s e)) (claim ∙ ap claim_of_stage (sym e));
     follows = follows;
@@ -59,7 +59,7 @@ module _ {K V F S : Type 0} (cmp : K → K → Ordering) (total : IsTotalOrder c
       → mode_of_stage c.stage ≡ Done (reply_in r) 0 0 → claim_of_stage c.stage ≡ None → is_lookup (Some x.call) ≡ false → FollowsStage hash x.call c.stage
       → IsStep cmp hash gives w p x (control.after_count d w.control_state) w.tables c (label.Silent p)
   counts s r added removed d e before none near delta small mode claim lookup follows = record {
-    line = Counts (λ q. p == q);
+    transition = Counts (λ q. p == q);
     can = no_lookup lookup;
     is = is_counted cmp hash gives w p x at c (reply_in r) added removed _ (in_mode s e ∙ before) summed mode (claim ∙ sym (ap claim_of_stage e ∙ none));
     follows = follows;

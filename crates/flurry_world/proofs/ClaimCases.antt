@@ -63,7 +63,7 @@ module _ {K V F S : Type 0} (cmp : K → K → Ordering) (order : IsTotalOrder c
   claims a e u r low f had there growth some g =
       let inside : GrowthIsIn (Some e) (Grows u r) = subst (λ o. GrowthIsIn o (Grows u r)) there (subst (GrowthIsIn w.control_state.published) growth k.control_state.growth) in
       record {
-        line = Claims e (record { unclaimed = u; reported = r }) low;
+        transition = Claims e (record { unclaimed = u; reported = r }) low;
         can = (in_claim cmp order hash lawful gives w k p x at c (AtClaim a) f, slice_get_within w.party_records p x at, there, ap growth_of growth, some, no_lookup cmp order hash lawful gives w k p x at c (helper_writes x.call a had));
         is = is_claimed cmp hash gives w p x at c e u r low (ap mode_of_stage g ∙ sym (in_mode cmp order hash lawful gives w k p x at c (AtClaim a) f)) (ap claim_of_stage g);
         follows = subst (FollowsStage hash x.call) (sym g) had;
@@ -147,7 +147,7 @@ module _ {K V F S : Type 0} (cmp : K → K → Ordering) (order : IsTotalOrder c
         by_last u r true s can last fits all =
             settled cmp order hash lawful gives w k p x at c ev (event.Published (m.table + 1)) (AtClaim a) b (record { published = Some (suc m.table); growth = IsIdle; count = w.control_state.count }) t' w.tables published h.1 control_state h.3
             (subst (λ z. IsStep cmp hash gives w p x (record { published = Some (suc m.table); growth = IsIdle; count = w.control_state.count }) w.tables c (label.Published z)) (sym next_table) (record {
-              line = Publishes held (record { unclaimed = u; reported = r });
+              transition = Publishes held (record { unclaimed = u; reported = r });
               can = (holds, all_moved, ap growth_of s, eqb-true (r + bins_in m) (2 ^ m.table) all, no_lookup cmp order hash lawful gives w k p x at c (helper_writes x.call a had));
               is = is_published cmp hash gives w p x at c held (record { unclaimed = u; reported = r }) mode_stays (ap claim_of_stage h.1);
               follows = follows;
@@ -174,7 +174,7 @@ module _ {K V F S : Type 0} (cmp : K → K → Ordering) (order : IsTotalOrder c
                 ∙ ap (λ z. record { published = next_published z; growth = IsIdle; count = w.control_state.count }) claim_ok.0 ∙ ap (λ z. record { published = Some z; growth = IsIdle; count = w.control_state.count }) next_table
         by_last u r false s can last fits all =
             settled cmp order hash lawful gives w k p x at c ev event.Silent (AtClaim a) b (record { published = w.control_state.published; growth = Grows u (r + bins_in m); count = w.control_state.count }) t' w.tables silent h.1 control_state h.3 (record {
-              line = Reports held (record { unclaimed = u; reported = r });
+              transition = Reports held (record { unclaimed = u; reported = r });
               can = (holds, all_moved, ap growth_of s, (λ z. eqb-false (r + bins_in m) (2 ^ m.table) all z), no_lookup cmp order hash lawful gives w k p x at c (helper_writes x.call a had));
               is = is_reported cmp hash gives w p x at c held u r mode_stays (ap claim_of_stage h.1);
               follows = follows;

@@ -10,7 +10,7 @@ use Rattle.flurry_control.specs.Control.{ControlState, IsControl, IsIdle, Grows,
 use Rattle.flurry_control.specs.declared.control.Advice.{Advice}
 use Rattle.flurry_control.specs.declared.control.Advice.TheVariants.{Enough, Join, Begin}
 use Rattle.flurry_control.specs.declared.control.BeginOutcome.{BeginOutcome}
-use Rattle.flurry_control.specs.declared.control.BeginOutcome.TheVariants as started_stage
+use Rattle.flurry_control.specs.declared.control.BeginOutcome.TheVariants as begin
 use Rattle.flurry_calls.specs.Outcome.{Outcome, OutcomeReply, OutcomeEnded, OutcomeRefused}
 use Rattle.flurry_steps.specs.Party.{GrowFor, ForInsert, ForReserve, ThenRecount, ThenGrow, Stage, AtClaim, AtUncount, AtCount, AtRecount, AtBegin, AtGrow, AtDone, PartyState}
 use Rattle.flurry_steps.specs.PartyControl.{stage_advised, stage_begun, stage_grown, stage_not_grown, stage_growing, event_begun, event_growing, event_not_grown}
@@ -75,7 +75,7 @@ module _ {K V F S : Type 0} (cmp : K → K → Ordering) (total : IsTotalOrder c
       let (there, idle, below) = can_begin_is e w.control_state.published w.control_state.growth can in
       let next_table : e + 1 ≡ suc e = omega arith in
       subst (λ n. IsStep cmp hash gives w p x (after_begin e w.control_state) t c (label.Placed n)) (sym next_table) (record {
-        line = Places e;
+        transition = Places e;
         can = (there, ap growth_of idle, below, no_lookup cmp total hash lawful gives w k p x at c lookup);
         is = is_placed cmp hash gives w p x at c e t (λ d j. contents d j) (mode ∙ sym (in_mode cmp total hash lawful gives w k p x at c s f)) (claim ∙ sym (ap claim_of_stage f ∙ none));
         follows = follows;
@@ -113,13 +113,13 @@ module _ {K V F S : Type 0} (cmp : K → K → Ordering) (total : IsTotalOrder c
 
     -- a growth that was advised
     pub begins : (e : ℕ) (r : Outcome K V) → x.party_state.stage ≡ AtBegin e r → HasDecided x.call r → (a : BeginOutcome) × BeginGives PlaceGives e w.control_state w.tables a b t' × (ev ≡ event_begun e a) × (c.stage ≡ stage_begun r a) → IsStep cmp hash gives w p x b t' c (label_of p ev c.stage)
-    begins e r f had (started_stage.Begun, gave, q, g) =
+    begins e r f had (begin.Begun, gave, q, g) =
         settled cmp total hash lawful gives w k p x at c ev (event.Placed (e + 1)) (AtClaim (ThenRecount r)) b (after_begin e w.control_state) t' t' q g gave.1 refl
         (places (AtBegin e r) e t' f gave.0 gave.2 refl (ap mode_of_stage g) (ap claim_of_stage g) had.writes (subst (FollowsStage hash x.call) (sym g) had))
-    begins e r f had (started_stage.Refused, gave, q, g) =
+    begins e r f had (begin.Refused, gave, q, g) =
         settled cmp total hash lawful gives w k p x at c ev event.Silent (AtDone r) b w.control_state t' w.tables q g gave.1 (refused_place w.tables (e + 1) false t' gave.2)
         (quiet cmp total hash lawful gives w k p x at c (AtBegin e r) f (ap mode_of_stage g ∙ done_mode x.call r had.reply) (ap claim_of_stage g) had.writes (subst (FollowsStage hash x.call) (sym g) (done_follows hash x.call r had)))
-    begins e r f had (started_stage.Busy, gave, q, g) =
+    begins e r f had (begin.Busy, gave, q, g) =
         settled cmp total hash lawful gives w k p x at c ev event.Silent (AtRecount r) b w.control_state t' w.tables q g gave.1 gave.2
         (quiet cmp total hash lawful gives w k p x at c (AtBegin e r) f (ap mode_of_stage g) (ap claim_of_stage g) had.writes (subst (FollowsStage hash x.call) (sym g) had))
 
@@ -144,7 +144,7 @@ module _ {K V F S : Type 0} (cmp : K → K → Ordering) (total : IsTotalOrder c
             let (m, reserve) = subst (FollowsGrowFor x.call) is had in
             let (there, idle, below) = can_begin_is e w.control_state.published w.control_state.growth can in
             settled cmp total hash lawful gives w k p x at c ev event.Refused (AtDone OutcomeRefused) b w.control_state t' w.tables q g y z (record {
-              line = IsRefused;
+              transition = IsRefused;
               can = (x.call, calls cmp total hash lawful gives w k p x at c, in_claim cmp total hash lawful gives w k p x at c (AtGrow n u) f, subst (RefusedAt cmp hash gives (state_of w) x.call) (sym (in_mode cmp total hash lawful gives w k p x at c (AtGrow n u) f ∙ ap mode_of_grow_for is)) (m, e, reserve, refl, refl, there, ap growth_of idle, below));
               is = is_refused cmp hash gives w p x at c (ap mode_of_stage g) (ap claim_of_stage g ∙ sym (ap claim_of_stage f));
               follows = subst (FollowsStage hash x.call) (sym g) tt;
@@ -152,11 +152,11 @@ module _ {K V F S : Type 0} (cmp : K → K → Ordering) (total : IsTotalOrder c
             })
 
         by_start : (e : ℕ) (a : BeginOutcome) → BeginGives PlaceGives e w.control_state w.tables a b t' → ev ≡ event_growing e u a → c.stage ≡ stage_growing n u a → IsStep cmp hash gives w p x b t' c (label_of p ev c.stage)
-        by_start e started_stage.Begun gave q g =
+        by_start e begin.Begun gave q g =
             settled cmp total hash lawful gives w k p x at c ev (event.Placed (e + 1)) (AtClaim (ThenGrow n u)) b (after_begin e w.control_state) t' t' q g gave.1 refl
             (places (AtGrow n u) e t' f gave.0 gave.2 refl (ap mode_of_stage g) (ap claim_of_stage g) (growing_writes x.call u had) (subst (FollowsStage hash x.call) (sym g) had))
-        by_start e started_stage.Refused gave q g = not_grown u e refl gave.0 q g gave.1 (refused_place w.tables (e + 1) false t' gave.2)
-        by_start e started_stage.Busy gave q g = ends event.Silent q refl g gave.1 gave.2
+        by_start e begin.Refused gave q g = not_grown u e refl gave.0 q g gave.1 (refused_place w.tables (e + 1) false t' gave.2)
+        by_start e begin.Busy gave q g = ends event.Silent q refl g gave.1 gave.2
 
         by_table : (o : Option ℕ) → MatchOption o ((ev ≡ event.Silent) × (c.stage ≡ stage_grown u) × (b ≡ w.control_state) × (t' ≡ w.tables)) (λ e. (a : BeginOutcome) × BeginGives PlaceGives e w.control_state w.tables a b t' × (ev ≡ event_growing e u a) × (c.stage ≡ stage_growing n u a))
             → IsStep cmp hash gives w p x b t' c (label_of p ev c.stage)

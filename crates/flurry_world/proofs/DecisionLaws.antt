@@ -28,9 +28,9 @@ use Rattle.flurry_model.specs.declared.call.Seen.{Seen}
 use Rattle.flurry_model.specs.declared.call.Call.{Call}
 use Rattle.flurry_model.specs.declared.call.Call.TheVariants.{Get, GetKeyValue, ContainsKey, Insert, TryInsert, Compute, Remove, RemoveEntry, RemoveSeen, Reserve, Clear, Walk}
 use Rattle.flurry_theory.proofs.BinSteps.{bin_did}
-use Rattle.flurry_world.specs.Entries.{entries_of_held, Hashed}
+use Rattle.flurry_world.specs.Entries.{entries_of_held, IsHashed}
 use Rattle.flurry_world.specs.World.{task_of_call, mode_of_stage, claim_of_stage, HasDecided, FollowsStage}
-use Rattle.flurry_world.proofs.EntryLaws.{next_number-bump, length-entries_of_held, InRegion-entries, Ascending-entries, find-entries, number-entries, place-entries, rewrite-entries, write-entries, leave_out-none, leave_out-entries, Hashed-with_pair, Hashed-without}
+use Rattle.flurry_world.proofs.EntryLaws.{next_number-bump, length-entries_of_held, InRegion-entries, Ascending-entries, find-entries, number-entries, place-entries, rewrite-entries, write-entries, leave_out-none, leave_out-entries, IsHashed-with_pair, IsHashed-without}
 
 -- ---- where a call stands that has decided
 
@@ -66,7 +66,7 @@ pub record Decision {K V F : Type 0} (cmp : K → K → Ordering) (hash : K → 
   pub said : outcome_in s ≡ Some (OutcomeReply reply)
   pub did : BinDid cmp hash gives c reply (entries_of_held b.held) b.writes (entries_of_held d.held) d.writes
   pub in_region : InRegion hash e i (entries_of_held d.held)
-  pub hashed : Hashed hash d.held
+  pub hashed : IsHashed hash d.held
   pub mode : mode_of_stage s ≡ Done (Some reply) (length (entries_of_held d.held) - length (entries_of_held b.held)) (length (entries_of_held b.held) - length (entries_of_held d.held))
   pub claim : claim_of_stage s ≡ None
   pub follows : FollowsStage hash c s
@@ -89,7 +89,7 @@ module _ {K V : Type 0} where
 
 module _ {K V F : Type 0} (cmp : K → K → Ordering) (total : IsTotalOrder cmp) (hash : K → ℕ) (lawful : (j k : K) → same cmp j k ≡ true → hash j ≡ hash k) (gives : F → K → V → Option V → Type 0) where
   -- a live bin whose entries ascend, each at the hash of its key, in region (e, i), and whose count of writes is at most the greatest
-  module _ (b : Live K V) (e i : ℕ) (up : IsFiniteMap (hash_then_key cmp) b.held) (hd : Hashed hash b.held) (room : b.writes ≤ 2 ^ 64 - 1) (lies : AllByRecursion (λ (k : ℕ × K). region.InRegion e i k.0) (keys_of b.held)) where
+  module _ (b : Live K V) (e i : ℕ) (up : IsFiniteMap (hash_then_key cmp) b.held) (hd : IsHashed hash b.held) (room : b.writes ≤ 2 ^ 64 - 1) (lies : AllByRecursion (λ (k : ℕ × K). region.InRegion e i k.0) (keys_of b.held)) where
     -- a conditional removal removes exactly if the number is the one that was seen
     abbrev IsJudged : Call K V F → KeptReply K V → Type 0
     IsJudged c r = (z : Seen K V) → c ≡ RemoveSeen z → removes cmp hash gives r ≡ has_number (number_of cmp (entries_of_held b.held) z.key) z.number
@@ -142,7 +142,7 @@ module _ {K V F : Type 0} (cmp : K → K → Ordering) (total : IsTotalOrder cmp
     decision_taken : (c : Call K V F) (r : KeptReply K V) (s : Stage K V F) (k : K) → HasReply hash c r s 0 (cond (is_some (entry_of_live cmp b (hash k) k)) 1 0) → IsJudged c r → Allows cmp gives c (pairs_of (entries_of_held b.held)) r
         → bin_after cmp hash c r (entries_of_held b.held) b.writes ≡ (leave_out cmp hash k (entries_of_held b.held), b.writes) → Decision cmp hash gives c b s (after_take cmp b (hash k) k) e i
     decision_taken c r s k stands judged allowed after =
-        let hashed : Hashed hash (after_take cmp b (hash k) k).held = Hashed-without cmp total hash lawful b.held k hd in
+        let hashed : IsHashed hash (after_take cmp b (hash k) k).held = IsHashed-without cmp total hash lawful b.held k hd in
         record {
           reply = r;
           said = stands.said;
@@ -180,7 +180,7 @@ module _ {K V F : Type 0} (cmp : K → K → Ordering) (total : IsTotalOrder cmp
         → bin_after cmp hash c r (entries_of_held b.held) b.writes ≡ (entries_of_held (with_pair (hash_then_key cmp) b.held (hash k, k) (v, bump b.writes)), bump b.writes)
         → Decision cmp hash gives c b s (after_write cmp bins b (hash k) k v) e i
     decision_written c r s bins k v stands judged allowed here after =
-        let hashed : Hashed hash (after_write cmp bins b (hash k) k v).held = Hashed-with_pair cmp total hash lawful b.held k v (next_number b.writes) hd in
+        let hashed : IsHashed hash (after_write cmp bins b (hash k) k v).held = IsHashed-with_pair cmp total hash lawful b.held k v (next_number b.writes) hd in
         record {
           reply = r;
           said = stands.said;
@@ -293,7 +293,7 @@ module _ {K V F : Type 0} (cmp : K → K → Ordering) (total : IsTotalOrder cmp
 
   -- ---- memory that is wanting at a live bin
 
-  module _ (b : Live K V) (hd : Hashed hash b.held) where
+  module _ (b : Live K V) (hd : IsHashed hash b.held) where
     present : (k : K) → IsSome (entry_of_live cmp b (hash k) k) → IsSome (find cmp (pairs_of (entries_of_held b.held)) k)
     present k there = ap is_some (find-entries cmp total hash lawful b.held k hd) ∙ sym (presence_found (entry_of_live cmp b (hash k) k)) ∙ there
 

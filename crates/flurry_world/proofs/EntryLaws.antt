@@ -23,7 +23,7 @@ use Rattle.flurry_theory.specs.Map.{same, find}
 use Rattle.flurry_theory.specs.Trace.{in_region}
 use Rattle.flurry_theory.specs.Bin.{pairs_of, number_of, bump, order, Above, Ascending, InRegion, half, place, rewrite, leave_out, write_entry}
 use Rattle.flurry_theory.proofs.Bins.{one_class, same-order}
-use Rattle.flurry_world.specs.Entries.{entry_of_held, entries_of_held, Hashed}
+use Rattle.flurry_world.specs.Entries.{entry_of_held, entries_of_held, IsHashed}
 
 -- the next write number, where the count of writes is at most the greatest number
 pub next_number-bump : (n : ℕ) → n ≤ 2 ^ 64 - 1 → next_number n ≡ bump n
@@ -35,16 +35,16 @@ module _ {K V : Type 0} where
 
 module _ {K V : Type 0} (hash : K → ℕ) where
   -- each entry that a test leaves has its key's hash
-  pub Hashed-filter : (test : PlainEntry K V → Bool) (held : List (PlainEntry K V)) → Hashed hash held → Hashed hash (filter test held)
-  Hashed-filter test [] hd = tt
-  Hashed-filter test (x ∷ held) hd = by_test (test x) refl (Hashed-filter test held hd.1)
+  pub IsHashed-filter : (test : PlainEntry K V → Bool) (held : List (PlainEntry K V)) → IsHashed hash held → IsHashed hash (filter test held)
+  IsHashed-filter test [] hd = tt
+  IsHashed-filter test (x ∷ held) hd = by_test (test x) refl (IsHashed-filter test held hd.1)
     where
-      by_test : (b : Bool) → test x ≡ b → Hashed hash (filter test held) → Hashed hash (filter test (x ∷ held))
+      by_test : (b : Bool) → test x ≡ b → IsHashed hash (filter test held) → IsHashed hash (filter test (x ∷ held))
       by_test true p ih = rw p (hd.0, ih)
       by_test false p ih = rw p ih
 
   -- the machine's entries lie in the region of the hashes
-  pub InRegion-entries : (e i : ℕ) (held : List (PlainEntry K V)) → Hashed hash held → AllByRecursion (λ (k : ℕ × K). region.InRegion e i k.0) (keys_of held) → InRegion hash e i (entries_of_held held)
+  pub InRegion-entries : (e i : ℕ) (held : List (PlainEntry K V)) → IsHashed hash held → AllByRecursion (λ (k : ℕ × K). region.InRegion e i k.0) (keys_of held) → InRegion hash e i (entries_of_held held)
   InRegion-entries e i [] hd r = tt
   InRegion-entries e i (x ∷ held) hd r = (ap (λ n. n % 2 ^ e) (sym hd.0) ∙ r.0, InRegion-entries e i held hd.1 r.1)
 
@@ -72,7 +72,7 @@ module _ {K V : Type 0} (cmp : K → K → Ordering) (total : IsTotalOrder cmp) 
   -- ---- what is found
 
   -- the stored key and the value
-  pub find-entries : (held : List (PlainEntry K V)) (k : K) → Hashed hash held → find cmp (pairs_of (entries_of_held held)) k ≡ option_map (λ (x : PlainEntry K V). (x.0.1, x.1.0)) (pair_at (hash_then_key cmp) held (hash k, k))
+  pub find-entries : (held : List (PlainEntry K V)) (k : K) → IsHashed hash held → find cmp (pairs_of (entries_of_held held)) k ≡ option_map (λ (x : PlainEntry K V). (x.0.1, x.1.0)) (pair_at (hash_then_key cmp) held (hash k, k))
   find-entries [] k hd = refl
   find-entries (x ∷ held) k hd = by_test (same cmp x.0.1 k) refl (find-entries held k hd.1)
     where
@@ -82,7 +82,7 @@ module _ {K V : Type 0} (cmp : K → K → Ordering) (total : IsTotalOrder cmp) 
       by_test false p ih = rw (p, at_place cmp total hash lawful k x.0 hd.0, p) ih
 
   -- the number of the write
-  pub number-entries : (held : List (PlainEntry K V)) (k : K) → Hashed hash held → number_of cmp (entries_of_held held) k ≡ option_map (λ (x : PlainEntry K V). x.1.1) (pair_at (hash_then_key cmp) held (hash k, k))
+  pub number-entries : (held : List (PlainEntry K V)) (k : K) → IsHashed hash held → number_of cmp (entries_of_held held) k ≡ option_map (λ (x : PlainEntry K V). x.1.1) (pair_at (hash_then_key cmp) held (hash k, k))
   number-entries [] k hd = refl
   number-entries (x ∷ held) k hd = by_test (same cmp x.0.1 k) refl (number-entries held k hd.1)
     where
@@ -93,11 +93,11 @@ module _ {K V : Type 0} (cmp : K → K → Ordering) (total : IsTotalOrder cmp) 
 
   -- ---- the order
 
-  Above-entries : (q : ℕ × K) (held : List (PlainEntry K V)) → q.0 ≡ hash q.1 → Hashed hash held → AllByRecursion (λ y. hash_then_key cmp q y ≡ Less) (keys_of held) → Above cmp hash q.1 (entries_of_held held)
+  Above-entries : (q : ℕ × K) (held : List (PlainEntry K V)) → q.0 ≡ hash q.1 → IsHashed hash held → AllByRecursion (λ y. hash_then_key cmp q y ≡ Less) (keys_of held) → Above cmp hash q.1 (entries_of_held held)
   Above-entries q [] hq hd a = tt
   Above-entries q (x ∷ held) hq hd a = (sym (order_at cmp total hash lawful q x.0 hq hd.0) ∙ a.0, Above-entries q held hq hd.1 a.1)
 
-  pub Ascending-entries : (held : List (PlainEntry K V)) → IsFiniteMap (hash_then_key cmp) held → Hashed hash held → Ascending cmp hash (entries_of_held held)
+  pub Ascending-entries : (held : List (PlainEntry K V)) → IsFiniteMap (hash_then_key cmp) held → IsHashed hash held → Ascending cmp hash (entries_of_held held)
   Ascending-entries [] up hd = tt
   Ascending-entries (x ∷ held) up hd =
       (Above-entries x.0 held hd.0 hd.1 (sorted_head (hash_then_key cmp) x.0 (keys_of held) up), Ascending-entries held (sorted_tail (hash_then_key cmp) x.0 (keys_of held) up) hd.1)
@@ -109,7 +109,7 @@ module _ {K V : Type 0} (cmp : K → K → Ordering) (total : IsTotalOrder cmp) 
   none_below x held q up p = pair_at_below (hash_then_key_total total) (x ∷ held) q (p, below_all (hash_then_key_total total) q x.0 (keys_of held) p (sorted_head (hash_then_key cmp) x.0 (keys_of held) up))
 
   -- a new key comes to its place
-  pub place-entries : (held : List (PlainEntry K V)) (k : K) (v : V) (n : ℕ) → Hashed hash held → pair_at (hash_then_key cmp) held (hash k, k) ≡ None
+  pub place-entries : (held : List (PlainEntry K V)) (k : K) (v : V) (n : ℕ) → IsHashed hash held → pair_at (hash_then_key cmp) held (hash k, k) ≡ None
       → entries_of_held (with_pair (hash_then_key cmp) held (hash k, k) (v, n)) ≡ place cmp hash (record { key = k; value = v; number = n }) (entries_of_held held)
   place-entries [] k v n hd none = refl
   place-entries (x ∷ held) k v n hd none = by_order (hash_then_key cmp (hash k, k) x.0) refl (place-entries held k v n hd.1)
@@ -125,7 +125,7 @@ module _ {K V : Type 0} (cmp : K → K → Ordering) (total : IsTotalOrder cmp) 
           rw (p, o) (ap (λ es. entry_of_held x ∷ es) (ih further))
 
   -- a key that is stored stays, and takes the value
-  pub rewrite-entries : (held : List (PlainEntry K V)) (k : K) (v : V) (n : ℕ) (y : PlainEntry K V) → IsFiniteMap (hash_then_key cmp) held → Hashed hash held → pair_at (hash_then_key cmp) held (hash k, k) ≡ Some y
+  pub rewrite-entries : (held : List (PlainEntry K V)) (k : K) (v : V) (n : ℕ) (y : PlainEntry K V) → IsFiniteMap (hash_then_key cmp) held → IsHashed hash held → pair_at (hash_then_key cmp) held (hash k, k) ≡ Some y
       → entries_of_held (with_pair (hash_then_key cmp) held (hash k, k) (v, n)) ≡ rewrite cmp hash k v n (entries_of_held held)
   rewrite-entries [] k v n y up hd some = cc
   rewrite-entries (x ∷ held) k v n y up hd some = by_order (hash_then_key cmp (hash k, k) x.0) refl (rewrite-entries held k v n y (sorted_tail (hash_then_key cmp) x.0 (keys_of held) up) hd.1)
@@ -141,7 +141,7 @@ module _ {K V : Type 0} (cmp : K → K → Ordering) (total : IsTotalOrder cmp) 
           rw (p, s) (ap (λ es. entry_of_held x ∷ es) (ih further))
 
   -- so a value is written as the machine writes it
-  pub write-entries : (held : List (PlainEntry K V)) (k : K) (v : V) (n : ℕ) → IsFiniteMap (hash_then_key cmp) held → Hashed hash held
+  pub write-entries : (held : List (PlainEntry K V)) (k : K) (v : V) (n : ℕ) → IsFiniteMap (hash_then_key cmp) held → IsHashed hash held
       → entries_of_held (with_pair (hash_then_key cmp) held (hash k, k) (v, n)) ≡ write_entry cmp hash k v n (entries_of_held held)
   write-entries held k v n up hd = by_found (pair_at (hash_then_key cmp) held (hash k, k)) refl
     where
@@ -150,7 +150,7 @@ module _ {K V : Type 0} (cmp : K → K → Ordering) (total : IsTotalOrder cmp) 
       by_found (Some y) p = rw (number-entries held k hd, p) (rewrite-entries held k v n y up hd p)
 
   -- where no entry is found, none is left out
-  pub leave_out-none : (held : List (PlainEntry K V)) (k : K) → Hashed hash held → pair_at (hash_then_key cmp) held (hash k, k) ≡ None → leave_out cmp hash k (entries_of_held held) ≡ entries_of_held held
+  pub leave_out-none : (held : List (PlainEntry K V)) (k : K) → IsHashed hash held → pair_at (hash_then_key cmp) held (hash k, k) ≡ None → leave_out cmp hash k (entries_of_held held) ≡ entries_of_held held
   leave_out-none [] k hd none = refl
   leave_out-none (x ∷ held) k hd none = by_test (same cmp x.0.1 k) refl (leave_out-none held k hd.1)
     where
@@ -160,7 +160,7 @@ module _ {K V : Type 0} (cmp : K → K → Ordering) (total : IsTotalOrder cmp) 
       by_test false p ih = let further = rw (at_place cmp total hash lawful k x.0 hd.0, p) at none in rw p (ap (λ es. entry_of_held x ∷ es) (ih further))
 
   -- an entry is left out as the machine leaves it out
-  pub leave_out-entries : (held : List (PlainEntry K V)) (k : K) → IsFiniteMap (hash_then_key cmp) held → Hashed hash held
+  pub leave_out-entries : (held : List (PlainEntry K V)) (k : K) → IsFiniteMap (hash_then_key cmp) held → IsHashed hash held
       → entries_of_held (without (hash_then_key cmp) held (hash k, k)) ≡ leave_out cmp hash k (entries_of_held held)
   leave_out-entries [] k up hd = refl
   leave_out-entries (x ∷ held) k up hd = by_order (hash_then_key cmp (hash k, k) x.0) refl (leave_out-entries held k (sorted_tail (hash_then_key cmp) x.0 (keys_of held) up) hd.1)
@@ -177,11 +177,11 @@ module _ {K V : Type 0} (cmp : K → K → Ordering) (total : IsTotalOrder cmp) 
           (alike_all (hash_then_key_total total) (keys_of held) (hash k, k) x.0 p (sorted_head (hash_then_key cmp) x.0 (keys_of held) up)))))
 
   -- each key keeps its hash
-  pub Hashed-with_pair : (held : List (PlainEntry K V)) (k : K) (v : V) (n : ℕ) → Hashed hash held → Hashed hash (with_pair (hash_then_key cmp) held (hash k, k) (v, n))
-  Hashed-with_pair held k v n hd = all_with_pair (hash_then_key_total total) (λ (q : ℕ × K). q.0 ≡ hash q.1) held (hash k, k) (v, n) refl hd
+  pub IsHashed-with_pair : (held : List (PlainEntry K V)) (k : K) (v : V) (n : ℕ) → IsHashed hash held → IsHashed hash (with_pair (hash_then_key cmp) held (hash k, k) (v, n))
+  IsHashed-with_pair held k v n hd = all_with_pair (hash_then_key_total total) (λ (q : ℕ × K). q.0 ≡ hash q.1) held (hash k, k) (v, n) refl hd
 
-  pub Hashed-without : (held : List (PlainEntry K V)) (k : K) → Hashed hash held → Hashed hash (without (hash_then_key cmp) held (hash k, k))
-  Hashed-without held k hd = all_without (hash_then_key_total total) (λ (q : ℕ × K). q.0 ≡ hash q.1) held (hash k, k) hd
+  pub IsHashed-without : (held : List (PlainEntry K V)) (k : K) → IsHashed hash held → IsHashed hash (without (hash_then_key cmp) held (hash k, k))
+  IsHashed-without held k hd = all_without (hash_then_key_total total) (λ (q : ℕ × K). q.0 ≡ hash q.1) held (hash k, k) hd
 
 -- ---- halves
 
@@ -207,7 +207,7 @@ high_half h e i g = high_bit (bit_at h e) (2 ^ e) (h % 2 ^ suc e) (h % 2 ^ e) (m
 
 module _ {K V : Type 0} (hash : K → ℕ) where
   -- the entries that a test leaves, where it tells the machine's region of each
-  filtered : (test : PlainEntry K V → Bool) (P : ℕ → Type 0) (e i : ℕ) (held : List (PlainEntry K V)) → ((x : PlainEntry K V) → P x.0.0 → test x ≡ in_region e i x.0.0) → Hashed hash held → AllByRecursion (λ (k : ℕ × K). P k.0) (keys_of held)
+  filtered : (test : PlainEntry K V → Bool) (P : ℕ → Type 0) (e i : ℕ) (held : List (PlainEntry K V)) → ((x : PlainEntry K V) → P x.0.0 → test x ≡ in_region e i x.0.0) → IsHashed hash held → AllByRecursion (λ (k : ℕ × K). P k.0) (keys_of held)
       → entries_of_held (filter test held) ≡ half hash e i (entries_of_held held)
   filtered test P e i [] tells hd r = refl
   filtered test P e i (x ∷ held) tells hd r = by_test (test x) refl (filtered test P e i held tells hd.1 r.1)
@@ -217,10 +217,10 @@ module _ {K V : Type 0} (hash : K → ℕ) where
       by_test false p ih = let elsewhere : in_region e i (hash x.0.1) ≡ false = ap (in_region e i) (sym hd.0) ∙ sym (tells x r.0) ∙ p in rw (p, elsewhere) ih
 
   -- the low half and the high half of a bin
-  pub low-entries : (e i : ℕ) (held : List (PlainEntry K V)) → Hashed hash held → AllByRecursion (λ (k : ℕ × K). region.InRegion e i k.0) (keys_of held)
+  pub low-entries : (e i : ℕ) (held : List (PlainEntry K V)) → IsHashed hash held → AllByRecursion (λ (k : ℕ × K). region.InRegion e i k.0) (keys_of held)
       → entries_of_held (filter (λ x. bit_at x.0.0 e == 0) held) ≡ half hash (suc e) i (entries_of_held held)
   low-entries e i held hd r = filtered _ (region.InRegion e i) (suc e) i held (λ x g. low_half x.0.0 e i g) hd r
 
-  pub high-entries : (e i : ℕ) (held : List (PlainEntry K V)) → Hashed hash held → AllByRecursion (λ (k : ℕ × K). region.InRegion e i k.0) (keys_of held)
+  pub high-entries : (e i : ℕ) (held : List (PlainEntry K V)) → IsHashed hash held → AllByRecursion (λ (k : ℕ × K). region.InRegion e i k.0) (keys_of held)
       → entries_of_held (filter (λ x. bit_at x.0.0 e == 1) held) ≡ half hash (suc e) (i + 2 ^ e) (entries_of_held held)
   high-entries e i held hd r = filtered _ (region.InRegion e i) (suc e) (i + 2 ^ e) held (λ x g. high_half x.0.0 e i g) hd r

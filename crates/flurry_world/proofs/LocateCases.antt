@@ -13,12 +13,12 @@ use Rattle.flurry_steps.specs.PartyControl.{OpensFor, LocatesNone, MakesFor, Res
 use Rattle.flurry_calls.specs.declared.step.Event.{Event}
 use Rattle.flurry_calls.specs.declared.step.Event.TheVariants as event
 use Rattle.flurry_theory.specs.Map.{same}
-use Rattle.flurry_theory.specs.Trace.{published}
+use Rattle.flurry_theory.specs.Trace.{published_in}
 use Rattle.flurry_theory.specs.Machine.{Locating, Done, Live, Finds as FindsTable, Opens, IsRefused, DecidesEmpty, Opening, RefusedAt, mode_at_table}
 use Rattle.flurry_model.specs.declared.call.Call.TheVariants as call
 use Rattle.flurry_theory.specs.declared.Label.{Label}
 use Rattle.flurry_theory.specs.declared.Label.TheVariants as label
-use Rattle.flurry_world.specs.Entries.{slot_of, Hashed}
+use Rattle.flurry_world.specs.Entries.{slot_of, IsHashed}
 use Rattle.flurry_world.specs.Tables.{Tables, content_at, is_made, fresh, with_table, MadeGives, PlaceGives}
 use Rattle.flurry_world.specs.World.{PartyRecord, WorldState, state_of, task_of_call, mode_of_stage, claim_of_stage, FollowsStage, IsWorld}
 use Rattle.flurry_world.specs.Steps.{label_of}
@@ -31,7 +31,7 @@ use Rattle.flurry_world.proofs.Cases.{calls, in_mode, in_claim, settled}
 use Rattle.flurry_model.specs.declared.sizes.TheConstants.{GREATEST_TABLE}
 
 -- a trace that publishes nothing began with nothing
-none_first : {K V F : Type 0} (first : Option ℕ) (t : List (Label K V F)) → published first t ≡ None → first ≡ None
+none_first : {K V F : Type 0} (first : Option ℕ) (t : List (Label K V F)) → published_in first t ≡ None → first ≡ None
 none_first first [] h = h
 none_first first (label.Begin q c ∷ t) h = none_first first t h
 none_first first (label.Decide q r ∷ t) h = none_first first t h
@@ -57,7 +57,7 @@ module _ {K V F S : Type 0} (cmp : K → K → Ordering) (total : IsTotalOrder c
   pub finds : (s : Stage K V F) (e : ℕ) → x.party_state.stage ≡ s → mode_of_stage s ≡ Locating → claim_of_stage s ≡ None → w.control_state.published ≡ Some e → mode_of_stage c.stage ≡ mode_at_table e x.call → claim_of_stage c.stage ≡ None → FollowsStage hash x.call c.stage
       → IsStep cmp hash gives w p x w.control_state w.tables c (label.Silent p)
   finds s e f locating none there mode claim follows = record {
-    line = FindsTable e;
+    transition = FindsTable e;
     can = (x.call, calls cmp total hash lawful gives w k p x at c, in_mode cmp total hash lawful gives w k p x at c s f ∙ locating, ((k.state.1.tables.from e there).0, e, there, omega arith));
     is = is_finds cmp hash gives w p x at c e mode (claim ∙ sym (ap claim_of_stage f ∙ none));
     follows = follows;
@@ -68,7 +68,7 @@ module _ {K V F S : Type 0} (cmp : K → K → Ordering) (total : IsTotalOrder c
   opens : (s : Stage K V F) (e : ℕ) (t : Tables K V) → x.party_state.stage ≡ s → mode_of_stage s ≡ Locating → claim_of_stage s ≡ None → w.control_state.published ≡ None → e ≤ GREATEST_TABLE → Opening x.call e → PlaceGives w.tables e true true t
       → mode_of_stage c.stage ≡ mode_at_table e x.call → claim_of_stage c.stage ≡ None → FollowsStage hash x.call c.stage → IsStep cmp hash gives w p x (after_open e w.control_state) t c (label.Opened e)
   opens s e t f locating none bare le may gives_table mode claim follows = record {
-    line = Opens e;
+    transition = Opens e;
     can = (x.call, calls cmp total hash lawful gives w k p x at c, in_mode cmp total hash lawful gives w k p x at c s f ∙ locating, bare, may);
     is = is_opened cmp hash gives w p x at c e t first filled mode (claim ∙ sym (ap claim_of_stage f ∙ none));
     follows = follows;
@@ -97,14 +97,14 @@ module _ {K V F S : Type 0} (cmp : K → K → Ordering) (total : IsTotalOrder c
           through true = refl
           through false = refl
 
-      hashed_in : (d i : ℕ) (l : slots.Live K V) (b : Bool) → (if b then fresh true else content_at w.tables d i) ≡ IsLive l → Hashed hash l.held
-      hashed_in d i l true h = subst (λ z. Hashed hash z.held) (same_live h) tt
+      hashed_in : (d i : ℕ) (l : slots.Live K V) (b : Bool) → (if b then fresh true else content_at w.tables d i) ≡ IsLive l → IsHashed hash l.held
+      hashed_in d i l true h = subst (λ z. IsHashed hash z.held) (same_live h) tt
       hashed_in d i l false h = k.hashed d i l h
 
   -- or is refused it
   refused : (s : Stage K V F) (e : ℕ) → x.party_state.stage ≡ s → mode_of_stage s ≡ Locating → claim_of_stage s ≡ None → w.control_state.published ≡ None → Opening x.call e → c.stage ≡ AtDone OutcomeRefused → IsStep cmp hash gives w p x w.control_state w.tables c (label.Refused p)
   refused s e f locating none bare may g = record {
-    line = IsRefused;
+    transition = IsRefused;
     can = (x.call, calls cmp total hash lawful gives w k p x at c, in_claim cmp total hash lawful gives w k p x at c s f ∙ none, subst (RefusedAt cmp hash gives (state_of w) x.call) (sym (in_mode cmp total hash lawful gives w k p x at c s f ∙ locating)) (bare, e, may));
     is = is_refused cmp hash gives w p x at c (ap mode_of_stage g) (ap claim_of_stage g ∙ sym (ap claim_of_stage f ∙ none));
     follows = subst (FollowsStage hash x.call) (sym g) tt;
@@ -114,7 +114,7 @@ module _ {K V F S : Type 0} (cmp : K → K → Ordering) (total : IsTotalOrder c
   -- or decides on the empty map
   decides_empty : (t : Task K V F) → x.party_state.stage ≡ AtLocate t → w.control_state.published ≡ None → task_of_call x.call ≡ Some t → AddsNothing t → c.stage ≡ AtDone (OutcomeReply (empty_reply t)) → IsStep cmp hash gives w p x w.control_state w.tables c (label.Decide p (empty_reply t))
   decides_empty t f bare task nothing g = record {
-    line = DecidesEmpty x.call (empty_reply t);
+    transition = DecidesEmpty x.call (empty_reply t);
     can = let (adds, allowed) = empty_allowed cmp gives x.call t task nothing in (calls cmp total hash lawful gives w k p x at c, in_mode cmp total hash lawful gives w k p x at c (AtLocate t) f, bare, adds, allowed);
     is = is_decided_empty cmp hash gives w p x at c x.call (empty_reply t) (ap mode_of_stage g) (ap claim_of_stage g ∙ sym (ap claim_of_stage f));
     follows = subst (FollowsStage hash x.call) (sym g) (key_of_task x.call t task);

@@ -18,11 +18,11 @@ use Rattle.flurry_theory.specs.Machine as machine
 use Rattle.flurry_theory.specs.Machine.{Slot, Live, Moved, Unborn, Moves, at_bin}
 use Rattle.flurry_theory.specs.Invariant.{is_live}
 use Rattle.flurry_theory.specs.declared.Label.TheVariants as label
-use Rattle.flurry_world.specs.Entries.{slot_of, entries_of_held, Hashed}
+use Rattle.flurry_world.specs.Entries.{slot_of, entries_of_held, IsHashed}
 use Rattle.flurry_world.specs.Tables.{Tables, slots_of, place_at, content_at, put_place}
 use Rattle.flurry_world.specs.World.{PartyRecord, WorldState, state_of, mode_of_stage, claim_of_stage, FollowsResume, FollowsStage, IsWorld}
 use Rattle.flurry_world.specs.Steps.{label_of}
-use Rattle.flurry_world.proofs.EntryLaws.{Hashed-filter, low-entries, high-entries}
+use Rattle.flurry_world.proofs.EntryLaws.{IsHashed-filter, low-entries, high-entries}
 use Rattle.flurry_world.proofs.TableLaws.{content_of_place, place_at-put_other, AreTables-put, length_of_put_slots}
 use Rattle.flurry_world.proofs.TransitionLaws.{is_moved}
 use Rattle.flurry_world.proofs.HomeLaws.{low_unborn, high_unborn, unborn_content, put_content}
@@ -151,7 +151,7 @@ module _ {K V F S : Type 0} (cmp : K → K → Ordering) (total : IsTotalOrder c
       moves : (b : slots.Live K V) (t' : Tables K V) → q.content ≡ IsLive b → t' ≡ moved_tables → q' ≡ record q { content = HasMoved } → low' ≡ record low { content = IsLive (half q.table 0 b) } → high' ≡ record high { content = IsLive (half q.table 1 b) }
           → c ≡ with_stage x.party_state (moved_stage x.party_state.stage) → IsStep cmp hash gives w p x w.control_state t' c (label.Moved e i)
       moves b t' live after q_after low_after high_after goes = subst (λ z. IsStep cmp hash gives w p x w.control_state z c (label.Moved e i)) (sym after) (subst (λ z. IsStep cmp hash gives w p x w.control_state moved_tables c (label.Moved z i)) (sym is_next.table) (record {
-        line = Moves held i (entries_of_held b.held) b.writes;
+        transition = Moves held i (entries_of_held b.held) b.writes;
         can = (holds, is_next.above, is_next.left, ap (λ n. slot_of (content_at w.tables n i)) (sym is_next.table) ∙ ap slot_of (q_here ∙ live), no_lookup cmp total hash lawful gives w k p x at c (helper_writes x.call a had));
         is = is_moved cmp hash gives w p x at c held i (entries_of_held b.held) b.writes moved_tables (λ d j. subst (λ n. slot_of (content_at moved_tables d j) ≡ at_bin (at_bin (at_bin (state_of w).slot n i Moved) (suc n) i (Live (bin.half hash (suc n) i (entries_of_held b.held)) b.writes)) (suc n) (i + 2 ^ n) (Live (bin.half hash (suc n) (i + 2 ^ n) (entries_of_held b.held)) b.writes) d j) is_next.table (slots_after d j)) (mode_after) claim_after;
         follows = subst (FollowsStage hash x.call) (sym stage_after) had;
@@ -179,7 +179,7 @@ module _ {K V F S : Type 0} (cmp : K → K → Ordering) (total : IsTotalOrder c
           lies : IsLiveIn cmp e i b
           lies = subst (λ n. IsLiveIn cmp n i b) q_is.0 (subst (λ n. IsLiveIn cmp q.table n b) q_is.1 inside_live)
 
-          hashes : Hashed hash b.held
+          hashes : IsHashed hash b.held
           hashes = k.hashed e i b (q_here ∙ live)
 
           low_content : slot_of low'.content ≡ Live (bin.half hash (suc e) i (entries_of_held b.held)) b.writes
@@ -198,15 +198,15 @@ module _ {K V F S : Type 0} (cmp : K → K → Ordering) (total : IsTotalOrder c
               through false false true = ap (λ z. slot_of z.content) q_after
               through false false false = refl
 
-          hashed_in : (d j : ℕ) (l : slots.Live K V) (y z u : Bool) → (if y then high'.content else (if z then low'.content else (if u then q'.content else content_at w.tables d j))) ≡ IsLive l → Hashed hash l.held
-          hashed_in d j l true z u h = same_hashed (half q.table 1 b) (ap (λ z. z.content) (sym high_after) ∙ h) (Hashed-filter hash _ b.held hashes)
+          hashed_in : (d j : ℕ) (l : slots.Live K V) (y z u : Bool) → (if y then high'.content else (if z then low'.content else (if u then q'.content else content_at w.tables d j))) ≡ IsLive l → IsHashed hash l.held
+          hashed_in d j l true z u h = same_hashed (half q.table 1 b) (ap (λ z. z.content) (sym high_after) ∙ h) (IsHashed-filter hash _ b.held hashes)
             where
-              same_hashed : (y : slots.Live K V) → IsLive y ≡ IsLive l → Hashed hash y.held → Hashed hash l.held
-              same_hashed y g s = let one : y ≡ l = cc in subst (λ z. Hashed hash z.held) one s
-          hashed_in d j l false true u h = same_hashed (half q.table 0 b) (ap (λ z. z.content) (sym low_after) ∙ h) (Hashed-filter hash _ b.held hashes)
+              same_hashed : (y : slots.Live K V) → IsLive y ≡ IsLive l → IsHashed hash y.held → IsHashed hash l.held
+              same_hashed y g s = let one : y ≡ l = cc in subst (λ z. IsHashed hash z.held) one s
+          hashed_in d j l false true u h = same_hashed (half q.table 0 b) (ap (λ z. z.content) (sym low_after) ∙ h) (IsHashed-filter hash _ b.held hashes)
             where
-              same_hashed : (y : slots.Live K V) → IsLive y ≡ IsLive l → Hashed hash y.held → Hashed hash l.held
-              same_hashed y g s = let one : y ≡ l = cc in subst (λ z. Hashed hash z.held) one s
+              same_hashed : (y : slots.Live K V) → IsLive y ≡ IsLive l → IsHashed hash y.held → IsHashed hash l.held
+              same_hashed y g s = let one : y ≡ l = cc in subst (λ z. IsHashed hash z.held) one s
           hashed_in d j l false false true h = let no : HasMoved ≡ IsLive l = ap (λ z. z.content) (sym q_after) ∙ h in cc
           hashed_in d j l false false false h = k.hashed d j l h
 

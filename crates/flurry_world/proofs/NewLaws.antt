@@ -12,7 +12,7 @@ use Rattle.flurry_theory.specs.Map.{same}
 use Rattle.flurry_theory.specs.Machine.{Live, Unborn}
 use Rattle.flurry_theory.specs.Invariant.{Inv, new_world}
 use Rattle.flurry_theory.proofs.Step.{inv_new}
-use Rattle.flurry_world.specs.Entries.{slot_of, Hashed}
+use Rattle.flurry_world.specs.Entries.{slot_of, IsHashed}
 use Rattle.flurry_world.specs.Tables.{Tables, AreTables, slots_of, content_at, is_made, no_tables, fresh, with_table, MadeGives, PlaceGives}
 use Rattle.flurry_world.specs.World.{state_of, mode_in, IsWorld}
 use Rattle.flurry_world.specs.Steps.{fresh_world}
@@ -90,8 +90,8 @@ module _ {K V F S : Type 0} (cmp : K → K → Ordering) (total : IsTotalOrder c
       contents : (d j : ℕ) → content_at (with_table (no_tables {K = K} {V = V}) e true) d j ≡ (if e == d && nat_lt j (2 ^ e) then fresh true else IsUnborn)
       contents d j = content_at-made no_tables e true AreTables-no_tables le d j ∙ ap (λ c. if e == d && nat_lt j (2 ^ e) then fresh true else c) (nothing d j)
 
-      hashed_in : (b : slots.Live K V) (z : Bool) → (if z then fresh true else IsUnborn) ≡ IsLive b → Hashed hash b.held
-      hashed_in b true h = let one : record { held = []; tree = false; writes = 0 } ≡ b = cc in subst (λ l. Hashed hash l.held) one tt
+      hashed_in : (b : slots.Live K V) (z : Bool) → (if z then fresh true else IsUnborn) ≡ IsLive b → IsHashed hash b.held
+      hashed_in b true h = let one : record { held = []; tree = false; writes = 0 } ≡ b = cc in subst (λ l. IsHashed hash l.held) one tt
       hashed_in b false h = cc
 
       filled : (d j : ℕ) (z : Bool) → slot_of {K = K} {V = V} (if z then fresh true else IsUnborn) ≡ (if z then Live [] 0 else Unborn)

@@ -13,9 +13,9 @@ use Rattle.flurry_calls.specs.declared.step.Event.{Event}
 use Rattle.flurry_calls.specs.declared.step.Event.TheVariants as event
 use Rattle.flurry_theory.specs.Map.{same, key_of}
 use Rattle.flurry_theory.specs.Machine.{Live, Looking, Decides, Passes, IsRefused, RefusedAt, at_bin}
-use Rattle.flurry_theory.specs.Invariant.{is_live, key_in, writes_in, Named}
+use Rattle.flurry_theory.specs.Invariant.{is_live, key_in, writes_in, NamesBorn}
 use Rattle.flurry_theory.proofs.NoUnbornBin.{looks_at}
-use Rattle.flurry_world.specs.Entries.{slot_of, entries_of_held, Hashed}
+use Rattle.flurry_world.specs.Entries.{slot_of, entries_of_held, IsHashed}
 use Rattle.flurry_world.specs.Tables.{Tables, AreTables, slots_of, content_at}
 use Rattle.flurry_world.specs.World.{PartyRecord, WorldState, state_of, task_of_call, mode_of_stage, claim_of_stage, FollowsStage, IsWorld}
 use Rattle.flurry_world.specs.Steps.{label_of, decide_label}
@@ -55,12 +55,12 @@ module _ {K V F S : Type 0} (cmp : K → K → Ordering) (total : IsTotalOrder c
     of_call = calls cmp total hash lawful gives w k p x at c
 
     made_from : (is_some w.control_state.published ≡ true) × ((state_of w).start ≤ e)
-    made_from = let n = subst (λ m. Named hash (is_some w.control_state.published) k.state.0 (state_of w).start ((state_of w).call p) m) looking (k.state.1.named p) in (n.0, n.1)
+    made_from = let n = subst (λ m. NamesBorn hash (is_some w.control_state.published) k.state.0 (state_of w).start ((state_of w).call p) m) looking (k.state.1.named p) in (n.0, n.1)
 
     -- the bin that it decides at
     decides_live : (j : K) (b d : slots.Live K V) (t' : Tables K V) → key_of x.call ≡ Some j → q.content ≡ IsLive b → DecidesAt cmp gives x.party_state.hash t e b c.stage d → Put w.tables e (x.party_state.hash % 2 ^ e) (IsLive d) t' → IsStep cmp hash gives w p x w.control_state t' c (decide_label p (outcome_in c.stage))
     decides_live j b d t' key live did put = subst (λ z. IsStep cmp hash gives w p x w.control_state t' c (decide_label p z)) (sym decision.said) (record {
-      line = Decides x.call j e (entries_of_held b.held) b.writes decision.reply (entries_of_held d.held) d.writes;
+      transition = Decides x.call j e (entries_of_held b.held) b.writes decision.reply (entries_of_held d.held) d.writes;
       can = (of_call, key, looking, free, at_slot, decision.did, decision.in_region);
       is = is_decided cmp hash gives w p x at c x.call j e (entries_of_held b.held) b.writes decision.reply (entries_of_held d.held) d.writes t' slots_after decision.mode (decision.claim ∙ sym (ap claim_of_stage f));
       follows = decision.follows;
@@ -85,7 +85,7 @@ module _ {K V F S : Type 0} (cmp : K → K → Ordering) (total : IsTotalOrder c
         held : IsLiveIn cmp e (x.party_state.hash % 2 ^ e) b
         held = subst (IsContent cmp e (x.party_state.hash % 2 ^ e)) live inside
 
-        hashes : Hashed hash b.held
+        hashes : IsHashed hash b.held
         hashes = k.hashed e (x.party_state.hash % 2 ^ e) b (here ∙ live)
 
         homed : k.state.0 (hash j) ≡ e
@@ -105,14 +105,14 @@ module _ {K V F S : Type 0} (cmp : K → K → Ordering) (total : IsTotalOrder c
             through true = refl
             through false = refl
 
-        hashed_in : (g i : ℕ) (l : slots.Live K V) (z : Bool) → (if z then IsLive d else content_at w.tables g i) ≡ IsLive l → Hashed hash l.held
-        hashed_in g i l true h = subst (λ z. Hashed hash z.held) (same_live h) decision.hashed
+        hashed_in : (g i : ℕ) (l : slots.Live K V) (z : Bool) → (if z then IsLive d else content_at w.tables g i) ≡ IsLive l → IsHashed hash l.held
+        hashed_in g i l true h = subst (λ z. IsHashed hash z.held) (same_live h) decision.hashed
         hashed_in g i l false h = k.hashed g i l h
 
     module _ (ev : Event) (content : Content K V) (t' : Tables K V) (put : Put w.tables e (x.party_state.hash % 2 ^ e) content t') where
       nothing_changed : content ≡ q.content → IsStep cmp hash gives w p x w.control_state w.tables c (label_of p ev c.stage) → IsStep cmp hash gives w p x w.control_state t' c (label_of p ev c.stage)
       nothing_changed stays step = record {
-        line = step.line;
+        transition = step.transition;
         can = step.can;
         is = record {
           label_is = step.is.label_is;
@@ -152,7 +152,7 @@ module _ {K V F S : Type 0} (cmp : K → K → Ordering) (total : IsTotalOrder c
           at_live : (b : slots.Live K V) → q.content ≡ IsLive b → (a : Event) → ev ≡ a → LiveGives cmp gives x.party_state.hash t e b a c.stage content → IsStep cmp hash gives w p x w.control_state t' c (label_of p ev c.stage)
           at_live b live event.Decide is (d, did, after) = subst (λ z. IsStep cmp hash gives w p x w.control_state t' c (label_of p z c.stage)) (sym is) (decides_live j b d t' key live did (subst (λ z. Put w.tables e (x.party_state.hash % 2 ^ e) z t') after put))
           at_live b live event.Refused is (g, after, may) = nothing_changed (after ∙ sym live) (subst (λ z. IsStep cmp hash gives w p x w.control_state w.tables c (label_of p z c.stage)) (sym is) (record {
-            line = IsRefused;
+            transition = IsRefused;
             can = (
               x.call,
               of_call,
@@ -181,7 +181,7 @@ module _ {K V F S : Type 0} (cmp : K → K → Ordering) (total : IsTotalOrder c
           by_content : (z : Content K V) → q.content ≡ z → ContentGives cmp gives x.party_state.hash t e z ev c.stage content → IsStep cmp hash gives w p x w.control_state t' c (label_of p ev c.stage)
           by_content (IsLive b) live h = at_live b live ev refl h
           by_content HasMoved moved (is, g, after) = nothing_changed (after ∙ sym moved) (subst (λ z. IsStep cmp hash gives w p x w.control_state w.tables c (label_of p z c.stage)) (sym is) (record {
-            line = Passes e;
+            transition = Passes e;
             can = (x.call, j, of_call, key, looking, ap (λ n. slot_of (content_at w.tables e (n % 2 ^ e))) (sym own) ∙ ap slot_of (here ∙ moved));
             is = is_passed cmp hash gives w p x at c e (ap mode_of_stage g ∙ moved_mode t e) (ap claim_of_stage g ∙ moved_claim t e ∙ sym (ap claim_of_stage f));
             follows = subst (FollowsStage hash x.call) (sym g) (moved_follows hash x.call t e task);

@@ -46,7 +46,7 @@ same_place f p y h q = through (p == q) refl
     through false e = refl
 
 module _ {K V F : Type 0} (cmp : K → K → Ordering) (hash : K → ℕ) (gives : F → K → V → Option V → Type 0) where
-  -- a line other than a beginning is one more step of its party
+  -- a transition other than a beginning is one more step of its party
   pub one_more_step : (s : State K V F) (p n : ℕ) (c : Call K V F) (l : Transition K V F) → s.call p ≡ Some c → s.steps p ≡ n → ((d : Call K V F) (f : Option ℕ) → l ≡ Begins d f → ⊥) → steps_after cmp hash gives s p l ≡ suc n
   one_more_step s p n c (Begins d f) h k other = absurd (other d f refl)
   one_more_step s p n c Quiet h k other = grind (arith, h, k)
@@ -72,8 +72,8 @@ module _ {K V F : Type 0} (cmp : K → K → Ordering) (hash : K → ℕ) (gives
   one_more_step s p n c Ends h k other = grind (arith, h, k)
 
 module _ {K V F S : Type 0} (cmp : K → K → Ordering) (hash : K → ℕ) (gives : F → K → V → Option V → Type 0) where
-  -- what a line has to do, so that it is a step of party p that leaves the control b, the tables t and its call at c
-  pub record IsLine (w : WorldState K V F S) (p : ℕ) (b : ControlState) (t : Tables K V) (c : PartyState K V F) (lab : Label K V F) (l : Transition K V F) : Type 0 where
+  -- what a transition has to do, so that it is a step of party p that leaves the control b, the tables t and its call at c
+  pub record IsTransition (w : WorldState K V F S) (p : ℕ) (b : ControlState) (t : Tables K V) (c : PartyState K V F) (lab : Label K V F) (l : Transition K V F) : Type 0 where
     pub label_is : lab ≡ label cmp hash gives p l
     pub steps_are : steps_after cmp hash gives (state_of w) p l ≡ suc ((state_of w).steps p)
     pub start : start_of w.first (lab ∷ reverse w.trace) ≡ (effect cmp hash gives (state_of w) p l).start
@@ -88,9 +88,9 @@ module _ {K V F S : Type 0} (cmp : K → K → Ordering) (hash : K → ℕ) (giv
     pub seen : (q : ℕ) → (state_of w).seen q ≡ (effect cmp hash gives (state_of w) p l).seen q
     pub began_from : (q : ℕ) → (state_of w).began_from q ≡ (effect cmp hash gives (state_of w) p l).began_from q
 
-  pub does_line : (w : WorldState K V F S) (p : ℕ) (x : PartyRecord K V F) (b : ControlState) (t : Tables K V) (c : PartyState K V F) (lab : Label K V F) (l : Transition K V F) → slice_get w.party_records p ≡ Some x → last_seen c.stage ≡ last_seen x.party_state.stage → IsLine w p b t c lab l
+  pub does_transition : (w : WorldState K V F S) (p : ℕ) (x : PartyRecord K V F) (b : ControlState) (t : Tables K V) (c : PartyState K V F) (lab : Label K V F) (l : Transition K V F) → slice_get w.party_records p ≡ Some x → last_seen c.stage ≡ last_seen x.party_state.stage → IsTransition w p b t c lab l
       → state_of (with_step w p x b t c lab) ≡ does cmp hash gives (state_of w) p l
-  does_line w p x b t c lab l h last is = λ i. record {
+  does_transition w p x b t c lab l h last is = λ i. record {
     start = (ap (start_of w.first) turned ∙ is.start) i;
     published = is.published i;
     growth = is.growth i;

@@ -19,7 +19,7 @@ use Rattle.flurry_control.specs.Control as control
 use Rattle.flurry_control.specs.Control.{ControlState}
 use Rattle.flurry_calls.specs.Outcome.{OutcomeEnded, OutcomeRefused}
 use Rattle.flurry_calls.specs.Cursor as cursor
-use Rattle.flurry_calls.specs.Cursor.{CursorState, at_base, halved, after_top}
+use Rattle.flurry_calls.specs.Cursor.{CursorState, at_base, after_split, after_top}
 use Rattle.flurry_calls.specs.Sweep as sweep
 use Rattle.flurry_calls.specs.Sweep.{Errand, Reads, Wipes, SweepStage, AtOutset, OverBins, AtTotal, AtEnd, AfterEnd, SweepState, SweepControl, WalkGives, ClearGives, SplitGives, ReadGives, BinGives, part_at, bin_part, set_out_at, more_wiped, stage_walked, stage_cleared}
 use Rattle.flurry_calls.specs.declared.step.Event.{Event}
@@ -37,12 +37,12 @@ use Rattle.flurry_theory.proofs.Ranges.{part-total, place_here}
 use Rattle.flurry_theory.proofs.Step.{inv_step}
 use Rattle.flurry_theory.specs.declared.Label.{Label}
 use Rattle.flurry_theory.specs.declared.Label.TheVariants as label
-use Rattle.flurry_world.specs.Entries.{slot_of, entry_of_held, entries_of_held, Hashed}
+use Rattle.flurry_world.specs.Entries.{slot_of, entry_of_held, entries_of_held, IsHashed}
 use Rattle.flurry_world.specs.Tables.{Tables, place_at, content_at, put_place, PlaceGives}
 use Rattle.flurry_world.specs.Parts.{PartStep}
 use Rattle.flurry_world.specs.World.{PartyRecord, WorldState, Near, state_of, mode_of_stage, mode_of_sweep, mode_over, frame_of, frames_of, claim_of_stage, IsOwnHash, AreHashed, FollowsErrand, FollowsSweep, FollowsStage, IsWorld}
 use Rattle.flurry_world.specs.Steps.{label_of, read_label, with_step}
-use Rattle.flurry_world.proofs.StateLaws.{IsLine}
+use Rattle.flurry_world.proofs.StateLaws.{IsTransition}
 use Rattle.flurry_world.proofs.EntryLaws.{length-entries_of_held}
 use Rattle.flurry_world.proofs.TableLaws.{content_of_place}
 use Rattle.flurry_world.proofs.PlaceLaws.{same_live}
@@ -82,13 +82,13 @@ module _ {K V F S : Type 0} (cmp : K → K → Ordering) (total : IsTotalOrder c
     goes_on f s = subst (FollowsStage hash x.call) (sym g) (f, s)
 
     -- a step that leaves the control and the tables
-    one : (lab : Label K V F) (line : Transition K V F) → u'.last ≡ u.last → Can cmp hash gives (state_of w) p line → IsLine cmp hash gives w p w.control_state w.tables c lab line → FollowsStage hash x.call c.stage → StepOf cmp hash gives w p x w.control_state w.tables c lab
-    one lab line last can is follows = step_of cmp hash gives w p x w.control_state w.tables c lab at hashed (unread last) (record { line = line; can = can; is = is; follows = follows; frame = same_frame cmp hash gives w k })
+    one : (lab : Label K V F) (transition : Transition K V F) → u'.last ≡ u.last → Can cmp hash gives (state_of w) p transition → IsTransition cmp hash gives w p w.control_state w.tables c lab transition → FollowsStage hash x.call c.stage → StepOf cmp hash gives w p x w.control_state w.tables c lab
+    one lab transition last can is follows = step_of cmp hash gives w p x w.control_state w.tables c lab at hashed (unread last) (record { transition = transition; can = can; is = is; follows = follows; frame = same_frame cmp hash gives w k })
 
     -- that changes the mode alone
-    moves_on : (line : Transition K V F) (m : Mode K V) → effect cmp hash gives (state_of w) p line ≡ goes cmp hash gives (state_of w) p m → label.Silent p ≡ machine.label cmp hash gives p line → ((d : Call K V F) (f : Option ℕ) → line ≡ Begins d f → ⊥)
-        → u'.last ≡ u.last → Can cmp hash gives (state_of w) p line → mode_of_sweep u'.stage u'.errand ≡ m → FollowsStage hash x.call c.stage → StepOf cmp hash gives w p x w.control_state w.tables c (label.Silent p)
-    moves_on line m is named other last can mode follows = one (label.Silent p) line last can (is_goes cmp hash gives w p x at c (label.Silent p) line m is named other refl (after_mode m mode) unclaimed) follows
+    moves_on : (transition : Transition K V F) (m : Mode K V) → effect cmp hash gives (state_of w) p transition ≡ goes cmp hash gives (state_of w) p m → label.Silent p ≡ machine.label cmp hash gives p transition → ((d : Call K V F) (f : Option ℕ) → transition ≡ Begins d f → ⊥)
+        → u'.last ≡ u.last → Can cmp hash gives (state_of w) p transition → mode_of_sweep u'.stage u'.errand ≡ m → FollowsStage hash x.call c.stage → StepOf cmp hash gives w p x w.control_state w.tables c (label.Silent p)
+    moves_on transition m is named other last can mode follows = one (label.Silent p) transition last can (is_goes cmp hash gives w p x at c (label.Silent p) transition m is named other refl (after_mode m mode) unclaimed) follows
 
     -- that changes nothing which the machine sees
     rests : is_lookup (Some x.call) ≡ false → u'.last ≡ u.last → mode_of_sweep u'.stage u'.errand ≡ mode_of_sweep u.stage u.errand → FollowsStage hash x.call c.stage → StepOf cmp hash gives w p x w.control_state w.tables c (label.Silent p)
@@ -122,7 +122,7 @@ module _ {K V F S : Type 0} (cmp : K → K → Ordering) (total : IsTotalOrder c
   totals : (u' : SweepState K V) → c.stage ≡ AtSweep u' → c.hash ≡ x.party_state.hash → (n : ℕ) → u.stage ≡ AtTotal → u.errand ≡ Wipes n → u'.errand ≡ u.errand → u'.last ≡ u.last → u'.stage ≡ AtEnd OutcomeEnded
       → StepOf cmp hash gives w p x (control.after_count (neg_ℤ (pos (min n (2 ^ 63 - 1)))) w.control_state) w.tables c (label.Silent p)
   totals u' g hashed n s er q r h = step_of cmp hash gives w p x _ w.tables c (label.Silent p) at hashed (unread u' g hashed r) (record {
-    line = Counts (λ q. p == q);
+    transition = Counts (λ q. p == q);
     can = ap is_lookup called ∙ looks_not x.call u.errand u.last own.0;
     is = is_counted cmp hash gives w p x at c None 0 n _ before summed (after_mode u' g hashed _ (ap (λ z. mode_of_sweep z u'.errand) h)) (unclaimed u' g hashed);
     follows = goes_on u' g hashed (keeps_errand u' q r) (subst (λ z. FollowsSweep hash z u'.errand) (sym h) tt);
@@ -199,7 +199,7 @@ module _ {K V F S : Type 0} (cmp : K → K → Ordering) (total : IsTotalOrder c
       at_entry : (d : slots.Live K V) → content ≡ IsLive d → (y : PlainEntry K V) → find (is_pair_past cmp f.top.bound) d.held ≡ Some y → (v : Event) → ReadGives f y u.last v u'.stage u'.last → StepOf cmp hash gives w p x w.control_state w.tables c (label_of p v c.stage)
       at_entry d live y next event.Read (h, last) = subst (λ o. StepOf cmp hash gives w p x w.control_state w.tables c (read_label p o)) (sym seen) (record {
         hash_stays = hashed;
-        line = ReadsOne f.base f.index (frame_of f.top) (map frame_of f.below) (entries_of_held d.held) d.writes (entry_of_held y);
+        transition = ReadsOne f.base f.index (frame_of f.top) (map frame_of f.below) (entries_of_held d.held) d.writes (entry_of_held y);
         can = (walking, slot_here, first);
         after = does_read cmp hash gives w p x at c f.base f.index (frame_of f.top) (map frame_of f.below) (entries_of_held d.held) d.writes (entry_of_held y) (after_mode u' g hashed _ (to _ h)) (unclaimed u' g hashed) seen;
         follows = arrives _ h (found_hashed hash (is_pair_past cmp f.top.bound) d.held y hashes next, bounds.1);
@@ -209,7 +209,7 @@ module _ {K V F S : Type 0} (cmp : K → K → Ordering) (total : IsTotalOrder c
           seen : last_seen c.stage ≡ Some (sweep.seen_at y)
           seen = ap last_seen g ∙ last
 
-          hashes : Hashed hash d.held
+          hashes : IsHashed hash d.held
           hashes = k.hashed f.top.table f.top.index d (here ∙ live)
 
           slot_here : (state_of w).slot f.top.table f.top.index ≡ Live (entries_of_held d.held) d.writes
@@ -268,19 +268,19 @@ module _ {K V F S : Type 0} (cmp : K → K → Ordering) (total : IsTotalOrder c
       reaches m s q h y = goes_on u' g hashed (subst (λ z. FollowsErrand x.call z u'.last) (sym q) (is_clear.0, last ∙ is_clear.1)) (subst (λ z. FollowsSweep hash z u'.errand) (sym h) (subst (FollowsSweep hash s) (sym q) y))
 
       module _ (d : slots.Live K V) (live : content ≡ IsLive d) where
-        abbrev line : Transition K V F
-        line = WipesBin n f.base f.index (frame_of f.top) (map frame_of f.below) (entries_of_held d.held) d.writes
+        abbrev transition : Transition K V F
+        transition = WipesBin n f.base f.index (frame_of f.top) (map frame_of f.below) (entries_of_held d.held) d.writes
 
-        can_wipe : Can cmp hash gives (state_of w) p line
+        can_wipe : Can cmp hash gives (state_of w) p transition
         can_wipe = (clearing, ap slot_of (here ∙ live))
 
         -- what is wiped is so little that no number cuts it off
         all_counted : more_wiped n (length d.held) ≡ n + length (entries_of_held d.held)
         all_counted =
-            let next = inv_step cmp total hash lawful gives w.first k.state.0 (state_of w) p line can_wipe k.state.1 in
-            let one : owes_removed ((does cmp hash gives (state_of w) p line).mode p) ≤ sum (λ q. owes_removed ((does cmp hash gives (state_of w) p line).mode q)) (length w.party_records) = part-total (λ q. owes_removed ((does cmp hash gives (state_of w) p line).mode q)) p (length w.party_records) (slice_get_within w.party_records p x at) in
-            let mine : owes_removed ((does cmp hash gives (state_of w) p line).mode p) ≡ n + length (entries_of_held d.held) = ap owes_removed (place_here (state_of w).mode p _) ∙ owes_onward K V (n + length (entries_of_held d.held)) f.base f.index (map frame_of f.below) in
-            let held : sum (λ q. owes_removed ((does cmp hash gives (state_of w) p line).mode q)) (length w.party_records) ≤ suc (length (reverse w.trace)) = omega (arith, next.counted.held) in
+            let next = inv_step cmp total hash lawful gives w.first k.state.0 (state_of w) p transition can_wipe k.state.1 in
+            let one : owes_removed ((does cmp hash gives (state_of w) p transition).mode p) ≤ sum (λ q. owes_removed ((does cmp hash gives (state_of w) p transition).mode q)) (length w.party_records) = part-total (λ q. owes_removed ((does cmp hash gives (state_of w) p transition).mode q)) p (length w.party_records) (slice_get_within w.party_records p x at) in
+            let mine : owes_removed ((does cmp hash gives (state_of w) p transition).mode p) ≡ n + length (entries_of_held d.held) = ap owes_removed (place_here (state_of w).mode p _) ∙ owes_onward K V (n + length (entries_of_held d.held)) f.base f.index (map frame_of f.below) in
+            let held : sum (λ q. owes_removed ((does cmp hash gives (state_of w) p transition).mode q)) (length w.party_records) ≤ suc (length (reverse w.trace)) = omega (arith, next.counted.held) in
             let long : length (reverse w.trace) ≡ length w.trace = length-reverse w.trace in
             let same_length : length (entries_of_held d.held) ≡ length d.held = length-entries_of_held d.held in
             let small : n + length d.held ≤ 2 ^ 64 - 1 = omega (arith, one, mine, held, long, few, same_length) in
@@ -288,7 +288,7 @@ module _ {K V F S : Type 0} (cmp : K → K → Ordering) (total : IsTotalOrder c
 
         wiped_bin : (t : Tables K V) → Put w.tables f.top.table f.top.index (IsLive (after_wipe d)) t → (u'.errand ≡ Wipes (more_wiped n (length d.held))) × (u'.stage ≡ stage_cleared (after_top f)) → StepOf cmp hash gives w p x w.control_state t c (label.Wipe p f.top.table f.top.index)
         wiped_bin t put (q, h) = step_of cmp hash gives w p x w.control_state t c (label.Wipe p f.top.table f.top.index) at hashed (unread u' g hashed last) (record {
-          line = line;
+          transition = transition;
           can = can_wipe;
           is = is_wiped cmp hash gives w p x at c n f.base f.index (frame_of f.top) (map frame_of f.below) (entries_of_held d.held) d.writes t slots_after
               (after_mode u' g hashed _ (to_clear _ _ q h ∙ ap (λ m. mode_of_sweep (stage_cleared (after_top f)) (Wipes m)) all_counted ∙ cleared (n + length (entries_of_held d.held)) f.base f.index f.below)) (unclaimed u' g hashed);
@@ -309,11 +309,11 @@ module _ {K V F S : Type 0} (cmp : K → K → Ordering) (total : IsTotalOrder c
                 through true = refl
                 through false = refl
 
-            hashed_in : (a i : ℕ) (l : slots.Live K V) (z : Bool) → (if z then IsLive (after_wipe d) else content_at w.tables a i) ≡ IsLive l → Hashed hash l.held
-            hashed_in a i l true h = subst (λ z. Hashed hash z.held) (same_live h) tt
+            hashed_in : (a i : ℕ) (l : slots.Live K V) (z : Bool) → (if z then IsLive (after_wipe d) else content_at w.tables a i) ≡ IsLive l → IsHashed hash l.held
+            hashed_in a i l true h = subst (λ z. IsHashed hash z.held) (same_live h) tt
             hashed_in a i l false h = k.hashed a i l h
 
-      clears_moved : content ≡ HasMoved → (u'.errand ≡ Wipes n) × (u'.stage ≡ OverBins (halved f)) → StepOf cmp hash gives w p x w.control_state w.tables c (label.Silent p)
+      clears_moved : content ≡ HasMoved → (u'.errand ≡ Wipes n) × (u'.stage ≡ OverBins (after_split f)) → StepOf cmp hash gives w p x w.control_state w.tables c (label.Silent p)
       clears_moved moved (q, h) = moves_on u' g hashed (SplitsClear n f.base f.index (frame_of f.top) (map frame_of f.below)) _ refl refl (λ d f y. cc) last (clearing, ap slot_of (here ∙ moved)) (to_clear n _ q h ∙ ap (Clearing n f.base f.index) (halved_frames f)) (reaches n _ q h (bounds.0, (bounds.0, bounds.1)))
 
       clears_unborn : (u'.errand ≡ Wipes n) × (u'.stage ≡ OverBins f) → StepOf cmp hash gives w p x w.control_state w.tables c (label.Silent p)
@@ -341,7 +341,7 @@ module _ {K V F S : Type 0} (cmp : K → K → Ordering) (total : IsTotalOrder c
       put_back : {lab : Label K V F} → q'.content ≡ q.content → StepOf cmp hash gives w p x w.control_state w.tables c lab → StepOf cmp hash gives w p x w.control_state t' c lab
       put_back {lab} stays step = record {
         hash_stays = step.hash_stays;
-        line = step.line;
+        transition = step.transition;
         can = step.can;
         after = (λ i. record (state_of (with_step w p x w.control_state w.tables c lab)) { slot = λ d j. ap slot_of (as_before d j) i }) ∙ step.after;
         follows = step.follows;

@@ -11,15 +11,15 @@ use Rattle.flurry_model.specs.declared.call.Call.{Call}
 use Rattle.flurry_model.specs.declared.call.Seen.{Seen}
 use Rattle.flurry_slots.specs.Slot.{PlainEntry}
 use Rattle.flurry_calls.specs.Cursor as cursor
-use Rattle.flurry_calls.specs.Cursor.{CursorState, at_base, halved, after_top}
+use Rattle.flurry_calls.specs.Cursor.{CursorState, at_base, after_split, after_top}
 use Rattle.flurry_calls.specs.Sweep.{Errand, Reads, Wipes, OverBins, AtTotal, stage_walked, stage_cleared}
 use Rattle.flurry_theory.specs.Map.{same}
 use Rattle.flurry_theory.specs.Bin.{Entry, order, past, first_past}
 use Rattle.flurry_theory.specs.Machine.{State, Mode, Walking, Clearing, Done, Live, Moved, Unborn, Frame, halves, owes_removed, mode_at_table}
 use Rattle.flurry_theory.specs.Machine as machine
-use Rattle.flurry_theory.specs.Invariant.{Tables, Born, is_live}
+use Rattle.flurry_theory.specs.Invariant.{Tables, AreBorn, is_live}
 use Rattle.flurry_theory.proofs.Bins.{small_mod}
-use Rattle.flurry_world.specs.Entries.{entry_of_held, entries_of_held, Hashed}
+use Rattle.flurry_world.specs.Entries.{entry_of_held, entries_of_held, IsHashed}
 use Rattle.flurry_world.specs.World.{frame_of, frames_of, mode_over, mode_of_sweep, IsOwnHash, AreHashed, FollowsErrand, IsFresh, FollowsSweep}
 use Rattle.flurry_world.proofs.EntryLaws.{order_at}
 
@@ -34,7 +34,7 @@ module _ {K V F : Type 0} where
 
 module _ {K : Type 0} where
   -- the halves of a frame
-  pub halved_frames : (c : CursorState K) → frames_of (halved c) ≡ halves (frame_of c.top) (map frame_of c.below)
+  pub halved_frames : (c : CursorState K) → frames_of (after_split c) ≡ halves (frame_of c.top) (map frame_of c.below)
   halved_frames c = ap (λ n. record { table = n; index = c.top.index; bound = option_map (λ b. b.1) c.top.bound } ∷ record { table = n; index = c.top.index + 2 ^ c.top.table; bound = option_map (λ b. b.1) c.top.bound } ∷ map frame_of c.below) (one_more c.top.table)
 
 module _ {K V : Type 0} where
@@ -85,7 +85,7 @@ module _ {K : Type 0} (V : Type 0) (hash : K → ℕ) where
 
 module _ {K V : Type 0} (hash : K → ℕ) where
   -- an entry that is found has its key's hash
-  pub found_hashed : (test : PlainEntry K V → Bool) (held : List (PlainEntry K V)) (y : PlainEntry K V) → Hashed hash held → find test held ≡ Some y → y.0.0 ≡ hash y.0.1
+  pub found_hashed : (test : PlainEntry K V → Bool) (held : List (PlainEntry K V)) (y : PlainEntry K V) → IsHashed hash held → find test held ≡ Some y → y.0.0 ≡ hash y.0.1
   found_hashed test [] y hd h = cc
   found_hashed test (x ∷ held) y hd h = by_test (test x) refl (found_hashed test held y hd.1)
     where
@@ -99,7 +99,7 @@ module _ {K V : Type 0} (cmp : K → K → Ordering) (total : IsTotalOrder cmp) 
   past_alike (Some b) x own hd = sym (ap is_lt (order_at cmp total hash lawful b x.0 own hd))
 
   -- the next entry past a bound
-  pub next_entry : (bound : Option (ℕ × K)) (held : List (PlainEntry K V)) → IsOwnHash hash bound → Hashed hash held → first_past cmp hash (option_map (λ b. b.1) bound) (entries_of_held held) ≡ option_map entry_of_held (find (is_pair_past cmp bound) held)
+  pub next_entry : (bound : Option (ℕ × K)) (held : List (PlainEntry K V)) → IsOwnHash hash bound → IsHashed hash held → first_past cmp hash (option_map (λ b. b.1) bound) (entries_of_held held) ≡ option_map entry_of_held (find (is_pair_past cmp bound) held)
   next_entry bound [] own hd = refl
   next_entry bound (x ∷ held) own hd = by_test (is_pair_past cmp bound x) refl (next_entry bound held own hd.1)
     where
@@ -109,7 +109,7 @@ module _ {K V : Type 0} (cmp : K → K → Ordering) (total : IsTotalOrder cmp) 
 
 module _ {K V F : Type 0} (cmp : K → K → Ordering) (hash : K → ℕ) where
   -- a frame's bin is there
-  pub frame_is_born : (home : ℕ → ℕ) (s : State K V F) (f : Frame K) (fs : List (Frame K)) → Tables cmp hash home s → is_some s.published ≡ true → Born home s.start (f ∷ fs) → s.slot f.table f.index ≡ Unborn → ⊥
+  pub frame_is_born : (home : ℕ → ℕ) (s : State K V F) (f : Frame K) (fs : List (Frame K)) → Tables cmp hash home s → is_some s.published ≡ true → AreBorn home s.start (f ∷ fs) → s.slot f.table f.index ≡ Unborn → ⊥
   frame_is_born home s f fs t made born unborn =
       let here : f.index % 2 ^ f.table ≡ f.index = small_mod f.table f.index born.0.1 in
       let least : f.table ≤ home f.index = born.0.2 f.index here in

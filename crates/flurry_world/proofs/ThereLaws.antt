@@ -14,7 +14,7 @@ use Rattle.flurry_calls.specs.Sweep.{Errand, Reads, Wipes, SweepStage, AtOutset,
 use Rattle.flurry_steps.specs.Party.{Task, Finds, Removes, RemovesSeen, Inserts, Adds, Computes, Resume, Stage, AtLocate, AtBin, AtClaim, AtMove, AtUncount, AtCount, AtRecount, AtBegin, AtGrow, AtReserve, AtSweep, AtDone, AtTaken, part_of, wanted_part, bin_part, move_part}
 use Rattle.flurry_theory.specs.Map.{same, key_of}
 use Rattle.flurry_theory.specs.Machine.{Unborn}
-use Rattle.flurry_theory.specs.Invariant.{is_live, key_in, Named}
+use Rattle.flurry_theory.specs.Invariant.{is_live, key_in, NamesBorn}
 use Rattle.flurry_theory.proofs.Bins.{double}
 use Rattle.flurry_theory.proofs.NoUnbornBin.{looks_at}
 use Rattle.flurry_world.specs.Entries.{slot_of}
@@ -90,13 +90,13 @@ module _ {K V F S : Type 0} (cmp : K → K → Ordering) (total : IsTotalOrder c
       in_stage : (state_of w).mode p ≡ mode_over er f
       in_stage = in_mode cmp total hash lawful gives w k p x at x.party_state (AtSweep u) e ∙ ap (λ z. mode_of_sweep z u.errand) over ∙ ap (λ z. mode_over z f) q
 
-      named : Named {F = F} hash (is_some w.control_state.published) k.state.0 (state_of w).start ((state_of w).call p) (mode_over er f)
-      named = subst (λ m. Named {F = F} hash (is_some w.control_state.published) k.state.0 (state_of w).start ((state_of w).call p) m) in_stage (k.state.1.named p)
+      named : NamesBorn {F = F} hash (is_some w.control_state.published) k.state.0 (state_of w).start ((state_of w).call p) (mode_over er f)
+      named = subst (λ m. NamesBorn {F = F} hash (is_some w.control_state.published) k.state.0 (state_of w).start ((state_of w).call p) m) in_stage (k.state.1.named p)
 
       not_unborn : (state_of w).slot f.top.table f.top.index ≡ Unborn → ⊥
       not_unborn z = by_errand er named
         where
-          by_errand : (r : Errand) → Named {F = F} hash (is_some w.control_state.published) k.state.0 (state_of w).start ((state_of w).call p) (mode_over r f) → ⊥
+          by_errand : (r : Errand) → NamesBorn {F = F} hash (is_some w.control_state.published) k.state.0 (state_of w).start ((state_of w).call p) (mode_over r f) → ⊥
           by_errand Reads n = frame_is_born cmp hash k.state.0 (state_of w) (frame_of f.top) (map frame_of f.below) k.state.1.tables n.0 n.3 z
           by_errand (Wipes m) n = frame_is_born cmp hash k.state.0 (state_of w) (frame_of f.top) (map frame_of f.below) k.state.1.tables n.0 n.3 z
 

@@ -20,7 +20,7 @@ use Rattle.flurry_world.specs.Entries.{slot_of}
 use Rattle.flurry_world.specs.Tables.{Tables, content_at}
 use Rattle.flurry_world.specs.World.{PartyRecord, WorldState, state_of, start_of, mode_of_stage, mode_in, claim_of_stage, claim_in, seen_in, began_from_in, steps_in}
 use Rattle.flurry_world.specs.Steps.{with_step}
-use Rattle.flurry_world.proofs.StateLaws.{IsLine, one_more_step, read_set, same_place}
+use Rattle.flurry_world.proofs.StateLaws.{IsTransition, one_more_step, read_set, same_place}
 
 -- the sum at one number alone
 total-own : (f : ℕ → ℕ) (p n : ℕ) → p < n → total (λ q. if p == q then f q else 0) n ≡ f p
@@ -47,9 +47,9 @@ module _ {K V F S : Type 0} (cmp : K → K → Ordering) (hash : K → ℕ) (giv
   stepped : (l : Transition K V F) → ((d : Call K V F) (f : Option ℕ) → l ≡ Begins d f → ⊥) → machine.steps_after cmp hash gives (state_of w) p l ≡ suc ((state_of w).steps p)
   stepped l other = one_more_step cmp hash gives (state_of w) p _ x.call l begun refl other
 
-  -- a line that changes the party's mode alone
+  -- a transition that changes the party's mode alone
   pub is_goes : (lab : Label K V F) (l : Transition K V F) (m : Mode K V) → effect cmp hash gives (state_of w) p l ≡ goes cmp hash gives (state_of w) p m → lab ≡ label cmp hash gives p l → ((d : Call K V F) (f : Option ℕ) → l ≡ Begins d f → ⊥)
-      → start_of w.first (lab ∷ reverse w.trace) ≡ (state_of w).start → mode_of_stage c.stage ≡ m → claim_of_stage c.stage ≡ claim_of_stage x.party_state.stage → IsLine cmp hash gives w p w.control_state w.tables c lab l
+      → start_of w.first (lab ∷ reverse w.trace) ≡ (state_of w).start → mode_of_stage c.stage ≡ m → claim_of_stage c.stage ≡ claim_of_stage x.party_state.stage → IsTransition cmp hash gives w p w.control_state w.tables c lab l
   is_goes lab l m e named other start mode claim = record {
     label_is = named;
     steps_are = stepped l other;
@@ -66,30 +66,30 @@ module _ {K V F S : Type 0} (cmp : K → K → Ordering) (hash : K → ℕ) (giv
     began_from = λ q. ap (λ z. z.began_from q) (sym e);
   }
 
-  pub is_quiet : mode_of_stage c.stage ≡ (state_of w).mode p → claim_of_stage c.stage ≡ claim_of_stage x.party_state.stage → IsLine cmp hash gives w p w.control_state w.tables c (label.Silent p) Quiet
+  pub is_quiet : mode_of_stage c.stage ≡ (state_of w).mode p → claim_of_stage c.stage ≡ claim_of_stage x.party_state.stage → IsTransition cmp hash gives w p w.control_state w.tables c (label.Silent p) Quiet
   is_quiet mode claim = is_goes (label.Silent p) Quiet ((state_of w).mode p) (λ i. record (state_of w) { mode = λ q. sym (same_place (state_of w).mode p ((state_of w).mode p) refl q) i }) refl (λ d f h. grind (arith, h)) refl mode claim
 
-  pub is_finds : (e : ℕ) → mode_of_stage c.stage ≡ found_by cmp hash gives (Some x.call) e → claim_of_stage c.stage ≡ claim_of_stage x.party_state.stage → IsLine cmp hash gives w p w.control_state w.tables c (label.Silent p) (Finds e)
+  pub is_finds : (e : ℕ) → mode_of_stage c.stage ≡ found_by cmp hash gives (Some x.call) e → claim_of_stage c.stage ≡ claim_of_stage x.party_state.stage → IsTransition cmp hash gives w p w.control_state w.tables c (label.Silent p) (Finds e)
   is_finds e mode claim = is_goes (label.Silent p) (Finds e) _ refl refl (λ d f h. grind (arith, h)) refl (mode ∙ ap (λ o. found_by cmp hash gives o e) (sym begun)) claim
 
-  pub is_refused : mode_of_stage c.stage ≡ machine.Finished → claim_of_stage c.stage ≡ claim_of_stage x.party_state.stage → IsLine cmp hash gives w p w.control_state w.tables c (label.Refused p) IsRefused
+  pub is_refused : mode_of_stage c.stage ≡ machine.Finished → claim_of_stage c.stage ≡ claim_of_stage x.party_state.stage → IsTransition cmp hash gives w p w.control_state w.tables c (label.Refused p) IsRefused
   is_refused mode claim = is_goes (label.Refused p) IsRefused _ refl refl (λ d f h. grind (arith, h)) refl mode claim
 
-  pub is_decided_empty : (d : Call K V F) (r : KeptReply K V) → mode_of_stage c.stage ≡ Done (Some r) 0 0 → claim_of_stage c.stage ≡ claim_of_stage x.party_state.stage → IsLine cmp hash gives w p w.control_state w.tables c (label.Decide p r) (DecidesEmpty d r)
+  pub is_decided_empty : (d : Call K V F) (r : KeptReply K V) → mode_of_stage c.stage ≡ Done (Some r) 0 0 → claim_of_stage c.stage ≡ claim_of_stage x.party_state.stage → IsTransition cmp hash gives w p w.control_state w.tables c (label.Decide p r) (DecidesEmpty d r)
   is_decided_empty d r mode claim = is_goes (label.Decide p r) (DecidesEmpty d r) _ refl refl (λ d f h. grind (arith, h)) refl mode claim
 
-  pub is_passed : (e : ℕ) → mode_of_stage c.stage ≡ machine.Looking (suc e) → claim_of_stage c.stage ≡ claim_of_stage x.party_state.stage → IsLine cmp hash gives w p w.control_state w.tables c (label.Silent p) (Passes e)
+  pub is_passed : (e : ℕ) → mode_of_stage c.stage ≡ machine.Looking (suc e) → claim_of_stage c.stage ≡ claim_of_stage x.party_state.stage → IsTransition cmp hash gives w p w.control_state w.tables c (label.Silent p) (Passes e)
   is_passed e mode claim = is_goes (label.Silent p) (Passes e) _ refl refl (λ d f h. grind (arith, h)) refl mode claim
 
-  pub is_replied : (r : KeptReply K V) → mode_of_stage c.stage ≡ machine.Finished → claim_of_stage c.stage ≡ claim_of_stage x.party_state.stage → IsLine cmp hash gives w p w.control_state w.tables c (label.Reply p r) (Replies r)
+  pub is_replied : (r : KeptReply K V) → mode_of_stage c.stage ≡ machine.Finished → claim_of_stage c.stage ≡ claim_of_stage x.party_state.stage → IsTransition cmp hash gives w p w.control_state w.tables c (label.Reply p r) (Replies r)
   is_replied r mode claim = is_goes (label.Reply p r) (Replies r) _ refl refl (λ d f h. grind (arith, h)) refl mode claim
 
-  pub is_ended : mode_of_stage c.stage ≡ machine.Finished → claim_of_stage c.stage ≡ claim_of_stage x.party_state.stage → IsLine cmp hash gives w p w.control_state w.tables c (label.End p) Ends
+  pub is_ended : mode_of_stage c.stage ≡ machine.Finished → claim_of_stage c.stage ≡ claim_of_stage x.party_state.stage → IsTransition cmp hash gives w p w.control_state w.tables c (label.End p) Ends
   is_ended mode claim = is_goes (label.End p) Ends _ refl refl (λ d f h. grind (arith, h)) refl mode claim
 
   -- the pairs that it added or removed are counted
   pub is_counted : (r : Option (KeptReply K V)) (added removed : ℕ) (n : ℤ) → (state_of w).mode p ≡ Done r added removed → n ≡ w.control_state.count +ℤ pos added -ℤ pos removed → mode_of_stage c.stage ≡ Done r 0 0 → claim_of_stage c.stage ≡ claim_of_stage x.party_state.stage
-      → IsLine cmp hash gives w p (record { published = w.control_state.published; growth = w.control_state.growth; count = n }) w.tables c (label.Silent p) (Counts (λ q. p == q))
+      → IsTransition cmp hash gives w p (record { published = w.control_state.published; growth = w.control_state.growth; count = n }) w.tables c (label.Silent p) (Counts (λ q. p == q))
   is_counted r added removed n before count mode claim = record {
     label_is = refl;
     steps_are = stepped (Counts (λ q. p == q)) (λ d f h. grind (arith, h));
@@ -109,7 +109,7 @@ module _ {K V F S : Type 0} (cmp : K → K → Ordering) (hash : K → ℕ) (giv
   -- the first table is made and published
   pub is_opened : (e : ℕ) (t : Tables K V) → w.first ≡ None → ((d j : ℕ) → slot_of (content_at t d j) ≡ (if e == d && nat_lt j (2 ^ e) then Live [] 0 else slot_of (content_at w.tables d j)))
       → mode_of_stage c.stage ≡ found_by cmp hash gives (Some x.call) e → claim_of_stage c.stage ≡ claim_of_stage x.party_state.stage
-      → IsLine cmp hash gives w p (record { published = Some e; growth = w.control_state.growth; count = w.control_state.count }) t c (label.Opened e) (Opens e)
+      → IsTransition cmp hash gives w p (record { published = Some e; growth = w.control_state.growth; count = w.control_state.count }) t c (label.Opened e) (Opens e)
   is_opened e t none slot mode claim = record {
     label_is = refl;
     steps_are = stepped (Opens e) (λ d f h. grind (arith, h));
@@ -128,7 +128,7 @@ module _ {K V F S : Type 0} (cmp : K → K → Ordering) (hash : K → ℕ) (giv
 
   -- a growth begins: its table has no bins yet
   pub is_placed : (e : ℕ) (t : Tables K V) → ((d j : ℕ) → content_at t d j ≡ content_at w.tables d j) → mode_of_stage c.stage ≡ (state_of w).mode p → claim_of_stage c.stage ≡ claim_of_stage x.party_state.stage
-      → IsLine cmp hash gives w p (record { published = w.control_state.published; growth = Grows (2 ^ e) 0; count = w.control_state.count }) t c (label.Placed (suc e)) (Places e)
+      → IsTransition cmp hash gives w p (record { published = w.control_state.published; growth = Grows (2 ^ e) 0; count = w.control_state.count }) t c (label.Placed (suc e)) (Places e)
   is_placed e t slot mode claim = record {
     label_is = refl;
     steps_are = stepped (Places e) (λ d f h. grind (arith, h));
@@ -147,7 +147,7 @@ module _ {K V F S : Type 0} (cmp : K → K → Ordering) (hash : K → ℕ) (giv
 
   -- bins are claimed
   pub is_claimed : (e u r low : ℕ) → mode_of_stage c.stage ≡ (state_of w).mode p → claim_of_stage c.stage ≡ Some (record { table = e; low = low; left = u; high = u })
-      → IsLine cmp hash gives w p (record { published = w.control_state.published; growth = Grows low r; count = w.control_state.count }) w.tables c (label.Silent p) (Claims e (record { unclaimed = u; reported = r }) low)
+      → IsTransition cmp hash gives w p (record { published = w.control_state.published; growth = Grows low r; count = w.control_state.count }) w.tables c (label.Silent p) (Claims e (record { unclaimed = u; reported = r }) low)
   is_claimed e u r low mode claim = record {
     label_is = refl;
     steps_are = stepped (Claims e (record { unclaimed = u; reported = r }) low) (λ d f h. grind (arith, h));
@@ -166,7 +166,7 @@ module _ {K V F S : Type 0} (cmp : K → K → Ordering) (hash : K → ℕ) (giv
 
   -- a claim is reported, and is not the last one
   pub is_reported : (a : machine.Claim) (u r : ℕ) → mode_of_stage c.stage ≡ (state_of w).mode p → claim_of_stage c.stage ≡ None
-      → IsLine cmp hash gives w p (record { published = w.control_state.published; growth = Grows u (r + (a.high - a.low)); count = w.control_state.count }) w.tables c (label.Silent p) (Reports a (record { unclaimed = u; reported = r }))
+      → IsTransition cmp hash gives w p (record { published = w.control_state.published; growth = Grows u (r + (a.high - a.low)); count = w.control_state.count }) w.tables c (label.Silent p) (Reports a (record { unclaimed = u; reported = r }))
   is_reported a u r mode claim = record {
     label_is = refl;
     steps_are = stepped (Reports a (record { unclaimed = u; reported = r })) (λ d f h. grind (arith, h));
@@ -185,7 +185,7 @@ module _ {K V F S : Type 0} (cmp : K → K → Ordering) (hash : K → ℕ) (giv
 
   -- the last claim is reported, and the next table published
   pub is_published : (a : machine.Claim) (g : machine.Growth) → mode_of_stage c.stage ≡ (state_of w).mode p → claim_of_stage c.stage ≡ None
-      → IsLine cmp hash gives w p (record { published = Some (suc a.table); growth = IsIdle; count = w.control_state.count }) w.tables c (label.Published (suc a.table)) (Publishes a g)
+      → IsTransition cmp hash gives w p (record { published = Some (suc a.table); growth = IsIdle; count = w.control_state.count }) w.tables c (label.Published (suc a.table)) (Publishes a g)
   is_published a g mode claim = record {
     label_is = refl;
     steps_are = stepped (Publishes a g) (λ d f h. grind (arith, h));
@@ -206,7 +206,7 @@ module _ {K V F S : Type 0} (cmp : K → K → Ordering) (hash : K → ℕ) (giv
   pub is_moved : (a : machine.Claim) (i : ℕ) (es : List (Entry K V)) (n : ℕ) (t : Tables K V)
       → ((d j : ℕ) → slot_of (content_at t d j) ≡ at_bin (at_bin (at_bin (state_of w).slot a.table i Moved) (suc a.table) i (Live (half hash (suc a.table) i es) n)) (suc a.table) (i + 2 ^ a.table) (Live (half hash (suc a.table) (i + 2 ^ a.table) es) n) d j)
       → mode_of_stage c.stage ≡ (state_of w).mode p → claim_of_stage c.stage ≡ Some (record { table = a.table; low = a.low; left = i; high = a.high })
-      → IsLine cmp hash gives w p w.control_state t c (label.Moved a.table i) (Moves a i es n)
+      → IsTransition cmp hash gives w p w.control_state t c (label.Moved a.table i) (Moves a i es n)
   is_moved a i es n t slot mode claim = record {
     label_is = refl;
     steps_are = stepped (Moves a i es n) (λ d f h. grind (arith, h));
@@ -227,7 +227,7 @@ module _ {K V F S : Type 0} (cmp : K → K → Ordering) (hash : K → ℕ) (giv
   pub is_decided : (d : Call K V F) (k : K) (e : ℕ) (es : List (Entry K V)) (n : ℕ) (r : KeptReply K V) (fs : List (Entry K V)) (m : ℕ) (t : Tables K V)
       → ((g j : ℕ) → slot_of (content_at t g j) ≡ at_bin (state_of w).slot e (hash k % 2 ^ e) (Live fs m) g j)
       → mode_of_stage c.stage ≡ Done (Some r) (length fs - length es) (length es - length fs) → claim_of_stage c.stage ≡ claim_of_stage x.party_state.stage
-      → IsLine cmp hash gives w p w.control_state t c (label.Decide p r) (Decides d k e es n r fs m)
+      → IsTransition cmp hash gives w p w.control_state t c (label.Decide p r) (Decides d k e es n r fs m)
   is_decided d k e es n r fs m t slot mode claim = record {
     label_is = refl;
     steps_are = stepped (Decides d k e es n r fs m) (λ d f h. grind (arith, h));
@@ -248,7 +248,7 @@ module _ {K V F S : Type 0} (cmp : K → K → Ordering) (hash : K → ℕ) (giv
   pub is_wiped : (d e i : ℕ) (f : machine.Frame K) (fs : List (machine.Frame K)) (es : List (Entry K V)) (n : ℕ) (t : Tables K V)
       → ((g j : ℕ) → slot_of (content_at t g j) ≡ at_bin (state_of w).slot f.table f.index (Live [] n) g j)
       → mode_of_stage c.stage ≡ machine.onward (machine.Clearing (d + length es)) (Done None 0 (d + length es)) e i fs → claim_of_stage c.stage ≡ claim_of_stage x.party_state.stage
-      → IsLine cmp hash gives w p w.control_state t c (label.Wipe p f.table f.index) (machine.Wipes d e i f fs es n)
+      → IsTransition cmp hash gives w p w.control_state t c (label.Wipe p f.table f.index) (machine.Wipes d e i f fs es n)
   is_wiped d e i f fs es n t slot mode claim = record {
     label_is = refl;
     steps_are = stepped (machine.Wipes d e i f fs es n) (λ d f h. grind (arith, h));

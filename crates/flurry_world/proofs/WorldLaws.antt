@@ -149,7 +149,7 @@ module _ {K V F S : Type 0} (cmp : K → K → Ordering) (total : IsTotalOrder c
     -- a party that has finished does nothing
     finished : (s : Stage K V F) → x.party_state.stage ≡ s → mode_of_stage s ≡ Finished → claim_of_stage s ≡ None → (c : PartyState K V F) → c.hash ≡ x.party_state.hash → last_seen c.stage ≡ last_seen x.party_state.stage → mode_of_stage c.stage ≡ Finished → claim_of_stage c.stage ≡ None → FollowsStage hash x.call c.stage → StepOf cmp hash gives w p x w.control_state w.tables c (label.Silent p)
     finished s e over none c h seen mode claim follows = step_of cmp hash gives w p x w.control_state w.tables c (label.Silent p) at h seen (record {
-      line = Quiet;
+      transition = Quiet;
       can = λ _. in_mode cmp total hash lawful gives w k p x at c s e ∙ over;
       is = is_quiet cmp hash gives w p x at c (mode ∙ sym (in_mode cmp total hash lawful gives w k p x at c s e ∙ over)) (claim ∙ sym (ap claim_of_stage e ∙ none));
       follows = follows;
@@ -159,7 +159,7 @@ module _ {K V F S : Type 0} (cmp : K → K → Ordering) (total : IsTotalOrder c
     -- a call without a key ends
     ends : (s : Stage K V F) → x.party_state.stage ≡ s → mode_of_stage s ≡ Done None 0 0 → claim_of_stage s ≡ None → IsNone (key_of x.call) → (c : PartyState K V F) → c.hash ≡ x.party_state.hash → last_seen c.stage ≡ last_seen x.party_state.stage → mode_of_stage c.stage ≡ Finished → claim_of_stage c.stage ≡ None → FollowsStage hash x.call c.stage → StepOf cmp hash gives w p x w.control_state w.tables c (label.End p)
     ends s e done none no_key c h seen mode claim follows = step_of cmp hash gives w p x w.control_state w.tables c (label.End p) at h seen (record {
-      line = Ends;
+      transition = Ends;
       can = (x.call, calls cmp total hash lawful gives w k p x at c, no_key, in_mode cmp total hash lawful gives w k p x at c s e ∙ done, in_claim cmp total hash lawful gives w k p x at c s e ∙ none);
       is = is_ended cmp hash gives w p x at c mode (claim ∙ sym (ap claim_of_stage e ∙ none));
       follows = follows;
@@ -169,7 +169,7 @@ module _ {K V F S : Type 0} (cmp : K → K → Ordering) (total : IsTotalOrder c
     -- the step of a call that is done
     closes : (r : Outcome K V) → x.party_state.stage ≡ AtDone r → StepOf cmp hash gives w p x w.control_state w.tables (with_stage x.party_state AtTaken) (closing_label p r)
     closes (OutcomeReply r) e = step_of cmp hash gives w p x w.control_state w.tables (with_stage x.party_state AtTaken) (label.Reply p r) at refl (sym (ap last_seen e)) (record {
-      line = Replies r;
+      transition = Replies r;
       can = (x.call, calls cmp total hash lawful gives w k p x at x.party_state, subst (FollowsStage hash x.call) e (k.party_records p x at).stage, in_mode cmp total hash lawful gives w k p x at x.party_state (AtDone (OutcomeReply r)) e, in_claim cmp total hash lawful gives w k p x at x.party_state (AtDone (OutcomeReply r)) e);
       is = is_replied cmp hash gives w p x at (with_stage x.party_state AtTaken) r refl (sym (ap claim_of_stage e));
       follows = tt;

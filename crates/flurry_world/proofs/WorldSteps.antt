@@ -19,7 +19,7 @@ use Rattle.flurry_theory.specs.declared.Label.TheVariants as label
 use Rattle.flurry_world.specs.Tables.{Tables}
 use Rattle.flurry_world.specs.Parts.{IsGoing, IsThere}
 use Rattle.flurry_world.specs.World.{PartyRecord, WorldState, Near, state_of, seen_in, steps_in, IsWorld, IsBounded, DoesTransition}
-use Rattle.flurry_world.specs.Steps.{with_label, with_party_record, with_step, StepByStage, CallerStep, WorldStep}
+use Rattle.flurry_world.specs.Steps.{with_label, with_party_record, with_step, StepByStage, RecordStep, WorldStep}
 use Rattle.flurry_world.proofs.BeginLaws.{IsBeginning}
 use Rattle.flurry_world.proofs.WorldLaws.{silent, silent_line, began, begin_line, stepped, one_line}
 use Rattle.flurry_world.proofs.ThereLaws.{is_there}
@@ -53,7 +53,7 @@ module _ {K V F S : Type 0} (cmp : K → K → Ordering) (total : IsTotalOrder c
       × DoesTransition cmp hash gives w p (record { hasher = w.hasher; processors = w.processors; first = w.first; control_state = w.control_state; tables = w.tables; party_records = w.party_records; trace = t })
   unknown_step before is short p past t added = (
     subst (λ u. IsBounded cmp hash gives (record { hasher = w.hasher; processors = w.processors; first = w.first; control_state = w.control_state; tables = w.tables; party_records = w.party_records; trace = u })) (sym e) (record { world = silent cmp total hash (alike_class cmp hash alike) gives w k.world near p unknown; few = omega (arith, length-append w.trace (label.Silent p ∷ []), few) }),
-    subst (λ o. MatchOption o (shown ≡ with_label w (label.Silent p)) (λ x. CallerStep cmp gives w p x shown)) (sym unknown) (ap (λ u. record { hasher = w.hasher; processors = w.processors; first = w.first; control_state = w.control_state; tables = w.tables; party_records = w.party_records; trace = u }) e),
+    subst (λ o. MatchOption o (shown ≡ with_label w (label.Silent p)) (λ x. RecordStep cmp gives w p x shown)) (sym unknown) (ap (λ u. record { hasher = w.hasher; processors = w.processors; first = w.first; control_state = w.control_state; tables = w.tables; party_records = w.party_records; trace = u }) e),
     subst (λ u. DoesTransition cmp hash gives w p (record { hasher = w.hasher; processors = w.processors; first = w.first; control_state = w.control_state; tables = w.tables; party_records = w.party_records; trace = u })) (sym e) (silent_line cmp total hash (alike_class cmp hash alike) gives w k.world near p unknown),
   )
     where
@@ -88,7 +88,7 @@ module _ {K V F S : Type 0} (cmp : K → K → Ordering) (total : IsTotalOrder c
       × DoesTransition cmp hash gives w p (record { hasher = w.hasher; processors = w.processors; first = w.first; control_state = b; tables = t; party_records = party_records; trace = trace })
   party_step before is short p x at c b t l does party_records d trace added = (
     subst (IsBounded cmp hash gives) (sym after) (record { world = stepped cmp total hash (alike_class cmp hash alike) gives w k.world near k.few p x at l c b t does; few = omega (arith, length-append w.trace (l ∷ []), few) }),
-    subst (λ o. MatchOption o (shown ≡ with_label w (label.Silent p)) (λ x. CallerStep cmp gives w p x shown)) (sym at) (record { step_label = l; party_state = c; control_state = b; tables = t; does = does; after = after }),
+    subst (λ o. MatchOption o (shown ≡ with_label w (label.Silent p)) (λ x. RecordStep cmp gives w p x shown)) (sym at) (record { step_label = l; party_state = c; control_state = b; tables = t; does = does; after = after }),
     subst (DoesTransition cmp hash gives w p) (sym after) (one_line cmp total hash (alike_class cmp hash alike) gives w k.world near k.few p x at l c b t does),
   )
     where

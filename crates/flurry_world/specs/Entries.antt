@@ -15,8 +15,8 @@ module _ {K V : Type 0} where
   entries_of_held held = map entry_of_held held
 
   -- each entry has its key's hash
-  abbrev pub Hashed : (K → ℕ) → List (PlainEntry K V) → Type 0
-  Hashed hash held = AllByRecursion (λ (k : ℕ × K). k.0 ≡ hash k.1) (keys_of held)
+  abbrev pub IsHashed : (K → ℕ) → List (PlainEntry K V) → Type 0
+  IsHashed hash held = AllByRecursion (λ (k : ℕ × K). k.0 ≡ hash k.1) (keys_of held)
 
   abbrev pub slot_of : Content K V → Slot K V
   slot_of (IsLive b) = Live (entries_of_held b.held) b.writes

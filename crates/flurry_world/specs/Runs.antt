@@ -41,9 +41,7 @@ module _ {K V F : Type 0} where
   hash_for hash (owned.Insert k v) = hash k
   hash_for hash (owned.TryInsert k v) = hash k
   hash_for hash (owned.Compute k f) = hash k
-  hash_for hash (owned.Reserve n) = 0
-  hash_for hash owned.Clear = 0
-  hash_for hash owned.Walk = 0
+  hash_for hash _ = 0
 
   -- the function of a call that begins, if it has one, may be called
   abbrev pub StepIsReady : (F → Type 0) → Step K V F → Type 0

@@ -118,7 +118,7 @@ module _ {K V F S : Type 0} where
 
   module _ (cmp : K → K → Ordering) (changes : F → K → V → Option V → Type 0) where
     -- a step of party p, which is x: everything beside its call, the control and the tables stays, and there is one more label
-    pub record CallerStep (w : WorldState K V F S) (p : ℕ) (x : PartyRecord K V F) (w' : WorldState K V F S) : Type 0 where
+    pub record RecordStep (w : WorldState K V F S) (p : ℕ) (x : PartyRecord K V F) (w' : WorldState K V F S) : Type 0 where
       pub step_label : Label K V F
       pub party_state : PartyState K V F
       pub control_state : ControlState
@@ -128,4 +128,4 @@ module _ {K V F S : Type 0} where
 
     -- a step of any party; an unknown one does nothing
     abbrev pub WorldStep : WorldState K V F S → ℕ → WorldState K V F S → Type 0
-    WorldStep w p w' = MatchOption (slice_get w.party_records p) (w' ≡ with_label w (label.Silent p)) (λ x. CallerStep w p x w')
+    WorldStep w p w' = MatchOption (slice_get w.party_records p) (w' ≡ with_label w (label.Silent p)) (λ x. RecordStep w p x w')

@@ -21,7 +21,7 @@ use Rattle.flurry_model.specs.declared.call.Seen.{Seen}
 use Rattle.flurry_model.specs.declared.call.Call.TheVariants as call
 use Rattle.flurry_theory.specs.declared.Label.{Label}
 use Rattle.flurry_theory.specs.declared.Label.TheVariants as label
-use Rattle.flurry_world.specs.Entries.{slot_of, Hashed}
+use Rattle.flurry_world.specs.Entries.{slot_of, IsHashed}
 use Rattle.flurry_world.specs.Tables.{Tables, AreTables, slots_of, content_at}
 use Rattle.flurry_model.specs.declared.sizes.TheConstants.{MOST_LABELS}
 
@@ -277,7 +277,7 @@ module _ {K V F : Type 0} where
     pub record IsWorld (w : WorldState K V F S) : Type 0 where
       pub state : (home : ℕ → ℕ) × Inv cmp hash gives w.first home (state_of w)
       pub party_records : (p : ℕ) (x : PartyRecord K V F) → slice_get w.party_records p ≡ Some x → Follows hash x
-      pub hashed : (e i : ℕ) (b : Live K V) → content_at w.tables e i ≡ IsLive b → Hashed hash b.held
+      pub hashed : (e i : ℕ) (b : Live K V) → content_at w.tables e i ≡ IsLive b → IsHashed hash b.held
       pub control_state : IsControl w.control_state
       pub tables : AreTables w.tables
       pub unmade : w.control_state.published ≡ None → (e : ℕ) → slots_of w.tables e ≡ []
@@ -290,4 +290,4 @@ module _ {K V F : Type 0} where
 
     -- party p takes the world w to w' by one transition of the machine
     abbrev pub DoesTransition : WorldState K V F S → ℕ → WorldState K V F S → Type 0
-    DoesTransition w p w' = (line : machine.Transition K V F) × machine.Can cmp hash gives (state_of w) p line × (state_of w' ≡ machine.does cmp hash gives (state_of w) p line)
+    DoesTransition w p w' = (transition : machine.Transition K V F) × machine.Can cmp hash gives (state_of w) p transition × (state_of w' ≡ machine.does cmp hash gives (state_of w) p transition)

@@ -152,7 +152,7 @@ impl<
         requires { OwnedIsReady F.can_change call }
         ensures party { IfOk result (λ p. p ≡ length self.old.party_records) }
         ensures ok { OnOk result (self.new ≡ begun_with (S.hash_of self.old.hasher) self.old call) }
-        ensures line { IfOk result
+        ensures transition { IfOk result
             (λ p. DoesTransition K.cmp (S.hash_of self.old.hasher) F.changes self.old p self.new) }
         ensures err { OnErr result (self.new ≡ self.old) }
     {
@@ -182,7 +182,7 @@ impl<
     /// [`AllocError`], where memory for the party, its label, or further owners of the pair is wanting. The world is then as before.
     pub fn begin_remove_seen(&mut self, walk: usize) -> Result<Option<usize>, AllocError>
         ensures ok { IfOk result (λ p. Drops (S.hash_of self.old.hasher) self.old walk p self.new) }
-        ensures line { IfOk result (λ p. IfSome p
+        ensures transition { IfOk result (λ p. IfSome p
             (λ q. DoesTransition K.cmp (S.hash_of self.old.hasher) F.changes self.old q self.new)) }
         ensures err { OnErr result (self.new ≡ self.old) }
     {
@@ -221,7 +221,7 @@ impl<
     /// itself needs, the step is done, and its label or the party's later ones say so.)
     pub fn step(&mut self, party: usize) -> Result<(), AllocError>
         ensures ok { OnOk result (WorldStep K.cmp F.changes self.old party self.new) }
-        ensures line { OnOk result
+        ensures transition { OnOk result
             (DoesTransition K.cmp (S.hash_of self.old.hasher) F.changes self.old party self.new) }
         ensures err { OnErr result (self.new ≡ self.old) }
     {

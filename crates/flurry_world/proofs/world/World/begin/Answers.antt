@@ -16,8 +16,8 @@ invariant_of-self-2 g c =
     c.make_room.new.list.items c.in_ok-make_room.ensures.same c.in_ok-make_room.ensures.few c.make_room-2.new.list.items c.in_ok-make_room-2.ensures.same c.push_reserved.new.self.items
     (rw (c.push_reserved.ensures.items, c.theory_call-kept.ensures, c.from_owned.ensures, c.hash_for-hash.ensures) refl) c.len-party.result (numbered ∙ ap length c.in_ok-make_room-2.ensures.same) c.push_reserved-2.new.self.items (rw (c.push_reserved-2.ensures.items, c.theory_call-kept.ensures) refl)).0
 
-pub returns-clause-line : goal.returns-clause-line
-returns-clause-line g c =
+pub returns-clause-transition : goal.returns-clause-transition
+returns-clause-transition g c =
     let numbered : c.len-party.result ≡ length c.make_room-2.new.list.items = grind (arith, common_steps, c.len-party.ensures) in
     let number = numbered ∙ ap length c.in_ok-make_room-2.ensures.same in
     rw (← c.self.view_is)

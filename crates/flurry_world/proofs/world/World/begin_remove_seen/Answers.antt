@@ -20,8 +20,8 @@ invariant_of-self-2 g c =
     c.make_room.new.list.items c.in_ok-make_room.ensures.same c.in_ok-make_room.ensures.few c.make_room-2.new.list.items c.in_ok-make_room-2.ensures.same c.push_reserved.new.self.items
     (rw (c.push_reserved.ensures.items, c.of_seen-party_record.ensures, c.hash_one-hash.ensures, c.key.ensures) refl) c.len-party.result (numbered ∙ ap length c.in_ok-make_room-2.ensures.same) c.push_reserved-2.new.self.items (rw (c.push_reserved-2.ensures.items, kept) refl)).0
 
-pub returns-clause-line : goal.returns-clause-line
-returns-clause-line g c =
+pub returns-clause-transition : goal.returns-clause-transition
+returns-clause-transition g c =
     let numbered : c.len-party.result ≡ length c.make_room-2.new.list.items = grind (arith, common_steps, c.len-party.ensures) in
     let kept : c.party_record.inside.call ≡ call.RemoveSeen c.in-Some.seen = ap (λ r. r.call) (c.party_record.view_is ∙ c.of_seen-party_record.ensures) in
     let read : Some c.in-Some.seen ≡ seen_in (slice_get c.self.inside.party_records.items c.args.walk) = rw (← c.self.view_is) at (rw c.in-Some.is at c.in_ok-seen.ensures) in

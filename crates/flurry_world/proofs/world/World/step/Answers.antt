@@ -35,14 +35,14 @@ returns-clause-ok g c =
     (lent_at c.self.inside.party_records.items c.args.party c.index_mut-party_record.result.now _ (grind (arith, common_steps, c.if-party-len.false, c.len.ensures)) c.index_mut-party_record.ensures.value c.party_record.view_is)
     c.step_party-label.new.call c.step_party-label.new.parts.control_state c.step_party-label.new.parts.tables c.step_party-label.result c.step_party-label.ensures _ refl c.push_reserved-2.new.self.items c.push_reserved-2.ensures.items).1
 
-pub returns-then-party-len-clause-line : goal.returns-then-party-len-clause-line
-returns-then-party-len-clause-line g c =
+pub returns-then-party-len-clause-transition : goal.returns-then-party-len-clause-transition
+returns-then-party-len-clause-transition g c =
     rw (← c.self.view_is)
     (unknown_step g.K.Ord.cmp g.met.K.Ord.total (g.S.KeyHasher.hash_of c.self.inside.hasher) (g.met.S.KeyHasher.alike c.self.inside.hasher) g.F.ComputeFn.changes (world_state_of c.self.inside) c.self.invariant
     c.make_room.new.list.items c.in_ok-make_room.ensures.same c.in_ok-make_room.ensures.few c.args.party (grind (arith, common_steps, c.if-party-len.true, c.len.ensures)) c.push_reserved.new.self.items c.push_reserved.ensures.items).2
 
-pub returns-clause-line : goal.returns-clause-line
-returns-clause-line g c =
+pub returns-clause-transition : goal.returns-clause-transition
+returns-clause-transition g c =
     rw (← c.self.view_is)
     (party_step g.K.Ord.cmp g.met.K.Ord.total (g.S.KeyHasher.hash_of c.self.inside.hasher) (g.met.S.KeyHasher.alike c.self.inside.hasher) g.F.ComputeFn.changes (world_state_of c.self.inside) c.self.invariant
     c.make_room.new.list.items c.in_ok-make_room.ensures.same c.in_ok-make_room.ensures.few c.args.party _
