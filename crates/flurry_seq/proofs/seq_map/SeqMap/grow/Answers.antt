@@ -4,8 +4,8 @@ use Rattle.flurry_seq.specs.Contents.{first_bins}
 use Rattle.flurry_seq.specs.Growth.{IsTableFrom}
 use Rattle.flurry_seq.specs.Invariant.{IsTableSize}
 use Rattle.flurry_seq.proofs.RoomLaws.{way_up, asked_most}
-use Rattle.flurry_seq.proofs.seq_map.SeqMap.add.Goals as goal
-use Rattle.flurry_seq.proofs.seq_map.SeqMap.add.Goals.{then-branch, else-branch}
+use Rattle.flurry_seq.proofs.seq_map.SeqMap.grow.Goals as goal
+use Rattle.flurry_seq.proofs.seq_map.SeqMap.grow.Goals.{then-branch, else-branch}
 use Rattle.flurry_model.specs.declared.sizes.TheConstants.{FIRST_BINS}
 
 pub returns-clause-bins : goal.returns-clause-bins
