@@ -1,5 +1,5 @@
 -- An insertion at a place, into a tree and into a list, and what is known of the entries after it.
-use Rattle.std.proofs.Common.{◌≡◌, ℕ, ◌+◌, arith, true, false, List, [], ◌∷◌, ◌++◌, length, Option, Some, None, refl, sym, ap, ◌∙◌, cond, append_assoc}
+use Rattle.std.proofs.Common.{◌≡◌, ℕ, ◌+◌, arith, true, false, List, [], ◌∷◌, ◌++◌, length, reverse, ◌≤◌, Option, Some, None, Result, Ok, Err, IfOk, OnErr, refl, sym, ap, ◌∙◌, cond, append_assoc}
 use Rattle.std.specs.List.{filter}
 use Rattle.std.specs.declared.cmp.Ordering.{Ordering}
 use Rattle.std.specs.declared.cmp.Ordering.TheVariants.{Less, Equal, Greater}
@@ -9,6 +9,7 @@ use Rattle.std.specs.Prelude.{if◌then◌else◌}
 use Rattle.std.specs.Option.{option_map, is_some, IsNone}
 use Rattle.std.specs.Arc.{arc_value}
 use Rattle.std.specs.declared.sync.Arc.{Arc}
+use Rattle.std.specs.declared.alloc.AllocError.{AllocError}
 use Rattle.flurry_bins.specs.declared.bin.entry.Entry.{Entry}
 use Rattle.flurry_bins.specs.declared.bin.node.Colour.{Colour}
 use Rattle.flurry_bins.specs.Entries.{place_cmp, entry_cmp, IsAscending, is_at, is_before, is_past, entry_at, with_entry, with_value_at, with_value, AllBefore, NotBefore, IsEntryOf, IsInsertion}
@@ -16,7 +17,8 @@ use Rattle.flurry_bins.specs.Balance.{balance_left, balance_right, put_tree, wit
 use Rattle.flurry_bins.specs.Rewrite.{tree_with_value, tree_value}
 use Rattle.flurry_bins.specs.Tree.{Tree, leaf, fork, inorder, IsRedBlack}
 use Rattle.flurry_bins.specs.TreeInsertion.{IsTreeInsertion}
-use Rattle.flurry_bins.proofs.Edits.{IsPut, found_there, none_at, replaced_there, put_at}
+use Rattle.flurry_model.proofs.ListParts.{sorted_back}
+use Rattle.flurry_bins.proofs.Edits.{IsCut, all_reverse, found_there, none_at, replaced_there, put_at}
 use Rattle.flurry_bins.proofs.Insertion.{with_entry-ok, inorder-put_tree, put_tree-grown}
 use Rattle.flurry_bins.proofs.RedBlack.{with_black_root-ok}
 use Rattle.flurry_bins.proofs.Places.{AllPast, past_rest, entry_at-back, entry_at-front, before-front, past-front, with_value_at-front}
@@ -106,9 +108,18 @@ module _ {K V A : Type 0} {cmp : K → K → Ordering} (o : IsTotalOrder cmp) (h
   insertion-ascending (Some old) es new up i = rw i.1 (with_value_at-ascending cmp h k v n es up)
 
   -- one more entry where the place was free, and else as many
-  pub insertion-length : (old : Option (Arc V A)) (es new : List (Entry K V A)) → IsAscending cmp es → IsInsertion cmp h k v n old es new → length new ≡ (if is_some old then length es else length es + 1)
-  insertion-length None es new up i = let x = i.1 in ap length i.3 ∙ (with_entry-ok o x es up (absent es x i.2 i.0)).longer
-  insertion-length (Some old) es new up i = ap length i.1 ∙ length-with_value_at cmp h k v n es
+  pub insertion-longer : (old : Option (Arc V A)) (es new : List (Entry K V A)) → is_some old ≡ false → IsAscending cmp es → IsInsertion cmp h k v n old es new → length new ≡ length es + 1
+  insertion-longer None es new is up i = let x = i.1 in ap length i.3 ∙ (with_entry-ok o x es up (absent es x i.2 i.0)).longer
+  insertion-longer (Some old) es new is up i = cc
+
+  pub insertion-as_long : (old : Option (Arc V A)) (es new : List (Entry K V A)) → is_some old ≡ true → IsInsertion cmp h k v n old es new → length new ≡ length es
+  insertion-as_long None es new is i = cc
+  insertion-as_long (Some old) es new is i = ap length i.1 ∙ length-with_value_at cmp h k v n es
+
+  pub insertion-no_shorter : (r : Result (Option (Arc V A)) AllocError) (es new : List (Entry K V A)) → IsAscending cmp es → IfOk r (λ old. IsInsertion cmp h k v n old es new) → OnErr r (new ≡ es) → length es ≤ length new
+  insertion-no_shorter (Ok None) es new up ok err = omega (arith, insertion-longer None es new refl up ok)
+  insertion-no_shorter (Ok (Some old)) es new up ok err = omega (arith, insertion-as_long (Some old) es new refl ok)
+  insertion-no_shorter (Err e) es new up ok err = omega (arith, ap length err)
 
   -- into a list that nothing stands before the place in
   pub insertion-at : (e : Entry K V A) (es : List (Entry K V A)) → IsAscending cmp (e ∷ es) → is_at cmp h k e ≡ true → IsInsertion cmp h k v n (Some e.value) (e ∷ es) (with_value e v n ∷ es)
@@ -121,3 +132,10 @@ module _ {K V A : Type 0} {cmp : K → K → Ordering} (o : IsTotalOrder cmp) (h
 
   pub insertion-before : (e : Entry K V A) (es : List (Entry K V A)) (x : Entry K V A) → IsAscending cmp (e ∷ es) → is_before cmp h k e ≡ false → is_at cmp h k e ≡ false → IsEntryOf h k v n x → IsInsertion cmp h k v n None (e ∷ es) (x ∷ e ∷ es)
   insertion-before e es x up stops at of = insertion-past (e ∷ es) x up (none_at (place_cmp cmp h k e) stops at, past_rest o h k e es up stops) of
+
+  -- the entries before the place are put back in front
+  pub insertion-joined : (old : Option (Arc V A)) (all front rest after new : List (Entry K V A)) → IsCut cmp h k all front rest → IsInsertion cmp h k v n old rest after → new ≡ reverse front ++ after → IsInsertion cmp h k v n old all new
+  insertion-joined old all front rest after new c i is = rw (is, ← c.whole) (insertion-front old (reverse front) rest after (all_reverse _ front c.before) i)
+
+  pub cut_ascending : (all front rest : List (Entry K V A)) → IsCut cmp h k all front rest → IsAscending cmp all → IsAscending cmp rest
+  cut_ascending all front rest c up = sorted_back (entry_cmp cmp) (reverse front) rest (rw (← c.whole) at up)

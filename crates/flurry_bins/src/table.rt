@@ -77,9 +77,9 @@ pub fn insert_in_table<K: Ord + Drop, V: Drop, A: Allocator + Copy>(
     ensures err { OnErr result (entries_of_bin bin.new ≡ entries_of_bin bin.old) }
     ensures err_kind { OnErr result (is_tree bin.new ≡ is_tree bin.old) }
 {
-    let is_long = is_long_list(bin);
+    let was_long = is_long_list(bin);
     let old = bin.insert(alloc, hash, key, value, number)?;
-    if old.is_some() || !is_long {
+    if old.is_some() || !was_long {
         return Ok((old, false));
     }
     let is_large = bins >= LEAST_FOR_TREES;

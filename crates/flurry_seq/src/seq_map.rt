@@ -330,7 +330,7 @@ impl<K: Ord + Drop, V: Drop, S: KeyHasher<K>, A: Allocator + Copy> SeqMap<K, V, 
         ensures ascend { IsFiniteMap K.cmp self.old.pairs }
     {
         let hash = self.hash_of(&key);
-        if self.capacity() == 0 || self.len == MOST_PAIRS {
+        if self.capacity() == 0 || self.len() == MOST_PAIRS {
             return self.look_and_insert(hash, key, value);
         }
         let value = Arc::new(*self.allocator(), value)?;
@@ -643,7 +643,7 @@ impl<K: Ord + Drop, V: Drop, S: KeyHasher<K>, A: Allocator + Copy> SeqMap<K, V, 
         requires table { 0 < self.old.bins }
         requires asks { IsTrue asks → (self.old.bins < 64) × (8 < length self.old.pairs) }
         ensures same { SamePairs self.old self.new }
-        ensures bins { IsTableAfter self.old.bins (length self.old.pairs) self.new.bins }
+        ensures bins { IsTableAfter self.old.bins (length self.new.pairs) self.new.bins }
     {
         if asks {
             let _ = self.grow_to(wanted(2 * self.capacity()));

@@ -245,10 +245,11 @@ impl<K: Ord + Drop, V: Drop, A: Allocator + Copy> ListBin<K, V, A> {
         let (front, mut rest) = split_before(self.head.take(), hash, &key);
         let reply = insert_first(&mut rest, alloc, hash, key, value, number);
         self.head = prepend_reversed(front, rest);
-        if let Ok(None) = reply {
+        let old = reply?;
+        if old.is_none() {
             self.len += 1;
         }
-        reply
+        Ok(old)
     }
 }
 

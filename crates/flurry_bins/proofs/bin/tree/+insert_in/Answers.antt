@@ -24,8 +24,8 @@ returns-after-is_none-clause-ok g t c =
     elim c.if-is_none.branch [
       | then-is_none w ↦
           let rest = w.settle_left.ensures ∙ ap balanced_left (node_shape-roll sides.right (entry_of n) new (colour_of n)) in
-          rw (here, w.root-is, rest) (put_left _ _ _ _ _ (colour_of n) (shape sides.left) (entry_of n) (shape sides.right) _ (shape new) turn (c.is_none.ensures ∙ ap not w.if-is_none.true) below)
-      | else-is_none w ↦ rw (here, w.root-is, node_shape-roll sides.right (entry_of n) new (colour_of n)) (written_left _ _ _ _ _ (colour_of n) (shape sides.left) (entry_of n) (shape sides.right) _ (shape new) turn (c.is_none.ensures ∙ ap not w.if-is_none.false) below)
+          rw (here, w.root-is, rest) (put_left g.K.Ord.cmp c.args.hash c.args.key c.args.value c.args.number (colour_of n) (shape sides.left) (entry_of n) (shape sides.right) _ (shape new) turn (c.is_none.ensures ∙ ap not w.if-is_none.true) below)
+      | else-is_none w ↦ rw (here, w.root-is, node_shape-roll sides.right (entry_of n) new (colour_of n)) (written_left g.K.Ord.cmp c.args.hash c.args.key c.args.value c.args.number (colour_of n) (shape sides.left) (entry_of n) (shape sides.right) _ (shape new) turn (c.is_none.ensures ∙ ap not w.if-is_none.false) below)
     ]
 
 pub returns-after-is_none-2-clause-ok : goal.returns-after-is_none-2-clause-ok
@@ -39,6 +39,6 @@ returns-after-is_none-2-clause-ok g t c =
     elim c.if-is_none-2.branch [
       | then-is_none-2 w ↦
           let rest = w.settle_right.ensures ∙ ap balanced_right (node_shape-roll new (entry_of n) sides.left (colour_of n)) in
-          rw (here, w.root-is, rest) (put_right _ _ _ _ _ (colour_of n) (shape sides.left) (entry_of n) (shape sides.right) _ (shape new) turn (c.is_none-in-Greater.ensures ∙ ap not w.if-is_none-2.true) below)
-      | else-is_none-2 w ↦ rw (here, w.root-is, node_shape-roll new (entry_of n) sides.left (colour_of n)) (written_right _ _ _ _ _ (colour_of n) (shape sides.left) (entry_of n) (shape sides.right) _ (shape new) turn (c.is_none-in-Greater.ensures ∙ ap not w.if-is_none-2.false) below)
+          rw (here, w.root-is, rest) (put_right g.K.Ord.cmp c.args.hash c.args.key c.args.value c.args.number (colour_of n) (shape sides.left) (entry_of n) (shape sides.right) _ (shape new) turn (c.is_none-in-Greater.ensures ∙ ap not w.if-is_none-2.true) below)
+      | else-is_none-2 w ↦ rw (here, w.root-is, node_shape-roll new (entry_of n) sides.left (colour_of n)) (written_right g.K.Ord.cmp c.args.hash c.args.key c.args.value c.args.number (colour_of n) (shape sides.left) (entry_of n) (shape sides.right) _ (shape new) turn (c.is_none-in-Greater.ensures ∙ ap not w.if-is_none-2.false) below)
     ]
