@@ -36,6 +36,19 @@ sized_by_ten false n m h le = elim (leb_tells 10 m) [
   | inr f ↦ rw f.0 (omega arith)
 ]
 
+pub kept_by_ten : (tree new : Bool) (n m : ℕ) → IsSized tree n → m ≡ n → new ≡ (tree || nat_le 10 m) → new ≡ tree
+kept_by_ten true new n m h e k = k
+kept_by_ten false new n m h e k = let few : nat_le 10 m ≡ false = grind (arith, nat_tests) in k ∙ few
+
+-- one more entry in a bin that is no list of eight
+pub one_more : (bins : ℕ) (tree new : Bool) (n m : ℕ) → (not tree && (n == 8)) ≡ false → m ≡ n + 1 → new ≡ (tree || nat_le 10 m) → new ≡ grows_into_tree bins tree n
+one_more bins true new n m short e k = k
+one_more bins false new n m short e k = k ∙ ap (nat_le 10) e ∙ one_more_than_nine n ∙ by_or (nat_le 9 n) (n == 8) (nat_le 64 bins) short
+  where
+    by_or : (a b c : Bool) → b ≡ false → a ≡ (a || (b && c))
+    by_or true b c h = refl
+    by_or false b c h = rw h refl
+
 -- n entries of which e is the first
 pub shape_of_nodes : {X : Type 0} {n : ℕ} {xs es : List X} {e : X} → n ≡ length xs → xs ≡ e ∷ es → shape.List n ≡ shape_by false (length xs)
 shape_of_nodes {xs = xs} p q =

@@ -107,6 +107,11 @@ module _ {K V A : Type 0} {cmp : K → K → Ordering} (o : IsTotalOrder cmp) (h
   insertion-ascending None es new up i = let x = i.1 in rw i.3 (with_entry-ok o x es up (absent es x i.2 i.0)).ascending
   insertion-ascending (Some old) es new up i = rw i.1 (with_value_at-ascending cmp h k v n es up)
 
+  -- no old value: there was no entry
+  pub insertion-none : (old : Option (Arc V A)) (es new : List (Entry K V A)) → is_some old ≡ false → IsInsertion cmp h k v n old es new → IsInsertion cmp h k v n None es new
+  insertion-none None es new is i = i
+  insertion-none (Some old) es new is i = cc
+
   -- one more entry where the place was free, and else as many
   pub insertion-longer : (old : Option (Arc V A)) (es new : List (Entry K V A)) → is_some old ≡ false → IsAscending cmp es → IsInsertion cmp h k v n old es new → length new ≡ length es + 1
   insertion-longer None es new is up i = let x = i.1 in ap length i.3 ∙ (with_entry-ok o x es up (absent es x i.2 i.0)).longer

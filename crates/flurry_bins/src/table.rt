@@ -82,11 +82,11 @@ pub fn insert_in_table<K: Ord + Drop, V: Drop, A: Allocator + Copy>(
     if old.is_some() || !was_long {
         return Ok((old, false));
     }
-    let is_large = bins >= LEAST_FOR_TREES;
-    if is_large {
-        bin.plant();
+    if bins < LEAST_FOR_TREES {
+        return Ok((None, true));
     }
-    Ok((None, !is_large))
+    bin.plant();
+    Ok((None, false))
 }
 
 /// A value with two owners. Constant time; takes memory for the value.

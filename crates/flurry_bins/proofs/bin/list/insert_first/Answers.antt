@@ -26,7 +26,7 @@ returns-clause-ok g c =
           let rest = chain (out-Node _ _ _ n).right in
           let back : chain c.args.rest.now ≡ entry_of n ∷ rest = ap chain w.in-Some.is ∙ node_chain-out n in
           let at = sym (rw w.deref.ensures at w.if-is_at.ensures) in
-          rw (put, ap chain w.rest-is, back) (insertion-before o c.args.hash c.args.key c.args.value c.args.number (entry_of n) rest x (rw back at c.requires.ascending) (rw back at c.requires.stops) at c.in_ok-node.ensures)
+          rw (put, ap chain w.rest-is, back, node_chain-out n) (insertion-before o c.args.hash c.args.key c.args.value c.args.number (entry_of n) rest x (rw back at c.requires.ascending) (rw back at c.requires.stops) at c.in_ok-node.ensures)
       | in_default w ↦
           let empty = ap chain w.in_default.is in
           rw (put, ap chain w.rest-is, empty) (insertion-past o c.args.hash c.args.key c.args.value c.args.number [] x (rw empty at c.requires.ascending) tt c.in_ok-node.ensures)
