@@ -48,7 +48,7 @@ module _ {K V A : Type 0} {cmp : K → K → Ordering} (o : IsTotalOrder cmp) wh
       sorted_cons (entry_cmp cmp) d (ds ++ with_value x v n ∷ es) (all_append _ ds (with_value x v n ∷ es) (all_first _ ds (x ∷ es) head) (back.0, back.1)) (sorted_revalued ds x es v n (sorted_tail (entry_cmp cmp) d (ds ++ x ∷ es) up))
 
 -- the place is at none of them, and not before the first
-none_at : (r : Ordering) → is_gt r ≡ false → is_eq r ≡ false → r ≡ Less
+pub none_at : (r : Ordering) → is_gt r ≡ false → is_eq r ≡ false → r ≡ Less
 none_at Less g e = refl
 none_at Equal g e = cc
 none_at Greater g e = cc

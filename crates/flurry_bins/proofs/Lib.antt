@@ -4,6 +4,7 @@ pub mod Crossing
 pub mod Edits
 pub mod GreatestLaws
 pub mod Insertion
+pub mod Insertions
 pub mod DeficitResults
 pub mod EntryCallLaws
 pub mod OneHash

@@ -1,5 +1,5 @@
 -- A tree at its root, and a walk down it.
-use Rattle.std.proofs.Common.{◌≡◌, ℕ, ◌+◌, ◌≤◌, true, false, arith, List, [], ◌∷◌, ◌++◌, length, Option, Some, None, Box, refl, sym, ap, ◌∙◌, cond}
+use Rattle.std.proofs.Common.{◌≡◌, ℕ, ◌+◌, ◌<◌, ◌≤◌, true, false, arith, List, [], ◌∷◌, ◌++◌, length, Option, Some, None, Box, refl, sym, ap, ◌∙◌, cond}
 use Rattle.std.proofs.lemmas.List.{length-append}
 use Rattle.std.specs.Borrow.{Bor}
 use Rattle.std.specs.Option.{option_or}
@@ -36,6 +36,10 @@ node_shape-roll (Some b) entry (Some d) colour = refl
 -- the link leads to the node n
 pub shape_at : {K V A : Type 0} {l : Option (Box (Node K V A) A)} {b : Box (Node K V A) A} {n : Node K V A} → l ≡ Some b → n ≡ b.value → shape l ≡ fork (out-Node K V A n).colour (shape (out-Node K V A n).left) (out-Node K V A n).entry (shape (out-Node K V A n).right)
 shape_at {K} {V} {A} {l} {b} {n} e f = ap shape e ∙ ap node_shape (sym f) ∙ node_shape-out n
+
+-- the tree below a node has an entry
+pub node_some : {K V A : Type 0} (n : Node K V A) → 0 < length (inorder (node_shape n))
+node_some {K} {V} {A} n = rw (node_shape-out n) (omega (arith, length-append (inorder (shape (out-Node K V A n).left)) ((out-Node K V A n).entry ∷ inorder (shape (out-Node K V A n).right))))
 
 -- the link leads to the node that n lends
 pub shape_from_at : {K V A : Type 0} {l : Option (Bor (Node K V A))} {n : Bor (Node K V A)} → l ≡ Some n → shape_from l ≡ fork (out-Node K V A n.now).colour (shape (out-Node K V A n.now).left) (out-Node K V A n.now).entry (shape (out-Node K V A n.now).right)

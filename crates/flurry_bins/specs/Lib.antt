@@ -9,4 +9,5 @@ pub mod Removal
 pub mod Rewrite
 pub mod Short
 pub mod Tree
+pub mod TreeInsertion
 pub mod WayBound

@@ -1,10 +1,10 @@
 //! A new node in a table's bin, and a value with two owners. Sizes of tables, the place of a hash in one and what calls answer are handed
 //! on from [`flurry_model`].
-ghost use Rattle.std.specs.Prelude.{◌≡◌, ◌^◌, ◌<◌, ◌==◌, ◌&&◌, not, length, IfOk, IsNone};
+ghost use Rattle.std.specs.Prelude.{◌≡◌, ◌^◌, ◌<◌, ◌==◌, ◌&&◌, not, length, IfOk, OnErr, IsNone, is_some, if◌then◌else◌};
 ghost use Rattle.std.specs.Arc.{arc_value};
 ghost use Rattle.flurry_bins.specs.Bin.{entries_of_bin, is_tree};
 ghost use Rattle.flurry_bins.specs.Chain.{entry_of};
-ghost use Rattle.flurry_bins.specs.Entries.{entry_at, with_entry};
+ghost use Rattle.flurry_bins.specs.Entries.{entry_at, with_entry, IsInsertion};
 ghost use Rattle.flurry_model.specs.BinSizes.{grows_into_tree, asks_for_growth};
 ghost use Rattle.flurry_model.specs.declared.sizes.TheConstants.{MOST_PAIRS};
 
@@ -48,6 +48,45 @@ pub fn put_in_table<K: Ord + Drop, V: Drop, A: Allocator>(
         bin.plant();
     }
     is_long && bins < LEAST_FOR_TREES
+}
+
+/// Puts a value at a hash and a key in their bin, in a table of so many bins, by one way down the bin. Answers the value that stood
+/// there, and none where the key was absent; and whether the bin asks for a larger table, as [`put_in_table`] does for a new key.
+///
+/// As many steps as a look-up. An absent key takes memory for itself and for a node; a present one stays as it was stored.
+///
+/// # Errors
+///
+/// [`AllocError`], where that memory is wanting. The entries are then as they were, and the key and the value are dropped.
+pub fn insert_in_table<K: Ord + Drop, V: Drop, A: Allocator + Copy>(
+    bin: &mut Bin<K, V, A>,
+    alloc: A,
+    hash: u64,
+    key: K,
+    value: Arc<V, A>,
+    number: u64,
+    bins: usize,
+) -> Result<(Option<Arc<V, A>>, bool), AllocError>
+    requires { length (entries_of_bin bin.old) < MOST_PAIRS }
+    ensures entries { IfOk result (λ r.
+        IsInsertion K.cmp hash key value number r.0 (entries_of_bin bin.old) (entries_of_bin bin.new)) }
+    ensures kind { IfOk result (λ r. is_tree bin.new ≡ (if is_some r.0 then is_tree bin.old
+        else grows_into_tree bins (is_tree bin.old) (length (entries_of_bin bin.old)))) }
+    ensures asks { IfOk result (λ r. r.1
+        ≡ (not (is_some r.0) && asks_for_growth bins (is_tree bin.old) (length (entries_of_bin bin.old)))) }
+    ensures err { OnErr result (entries_of_bin bin.new ≡ entries_of_bin bin.old) }
+    ensures err_kind { OnErr result (is_tree bin.new ≡ is_tree bin.old) }
+{
+    let was_long = is_long_list(bin);
+    let old = bin.insert(alloc, hash, key, value, number)?;
+    if old.is_some() || !was_long {
+        return Ok((old, false));
+    }
+    if bins < LEAST_FOR_TREES {
+        return Ok((None, true));
+    }
+    bin.plant();
+    Ok((None, false))
 }
 
 /// A value with two owners. Constant time; takes memory for the value.

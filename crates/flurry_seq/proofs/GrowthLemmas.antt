@@ -72,6 +72,9 @@ first_some n w some = elim (cases_lt 0 n) [
   | inr ge ↦ let t : (n == 0) ≡ true = grind (arith, nat_tests) in rw t some
 ]
 
+pub first_standing : (n w : ℕ) → 0 < n → first_bins n w ≡ n
+first_standing n w some = let t : (n == 0) ≡ false = grind (arith, nat_tests) in rw t refl
+
 -- each size that is wanted is one of a table
 pub wanted_size : (s : ℕ) → (e : ℕ) × (e ≤ GREATEST_TABLE) × (wanted_of s ≡ 2 ^ e)
 wanted_size s = elim (cases_lt s (2 ^ 29)) [

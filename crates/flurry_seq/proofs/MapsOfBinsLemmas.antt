@@ -5,6 +5,7 @@ use Rattle.std.specs.Arc.{arc_value}
 use Rattle.std.specs.declared.sync.Arc.{Arc}
 use Rattle.std.specs.Cmp.{IsTotalOrder}
 use Rattle.std.proofs.lemmas.List.{get_or-map, map-set, map-append, length-map}
+use Rattle.std.proofs.Math.Seq.{map-set_same}
 use Rattle.std.proofs.lemmas.Bool.{cases_lt}
 use Rattle.flurry_bins.specs.declared.bin.adaptive.Bin.{Bin}
 use Rattle.flurry_bins.specs.Bin.{entries_of_bin, ascending_of_bin, is_tree, shape_by, shape_of_bin, sized_of_bin}
@@ -13,7 +14,7 @@ use Rattle.flurry_seq.specs.Shapes.{count_in, IsFit}
 use Rattle.std.specs.Prelude.{◌==◌, Bool}
 use Rattle.std.proofs.lemmas.Bool.Decides.{nat_tests}
 use Rattle.flurry_bins.specs.declared.bin.entry.Entry.{Entry}
-use Rattle.flurry_bins.specs.Entries.{entry_at, with_entry, with_value_at, without as without_place, with_bit}
+use Rattle.flurry_bins.specs.Entries.{entry_at, with_entry, with_value_at, without as without_place, with_bit, IsInsertion}
 use Rattle.flurry_model.specs.FiniteMap.{pair_at, with_pair, without}
 use Rattle.flurry_model.specs.HashOrder.{hash_then_key}
 use Rattle.flurry_bins.specs.PlainEntries.{pair_of_entry, pairs_of_entries}
@@ -61,6 +62,28 @@ module _ {K V A : Type 0} {o : _} {e : _} {p : _} (xs : List (Bin K V A o e p)) 
 pub value_mapped : {K V A : Type 0} (w : Option (Entry K V A)) (v : Arc V A) → option_map (λ (e : Entry K V A). e.value) w ≡ Some v → option_map (λ (e : (ℕ × K) × V). e.1) (option_map pair_of_entry w) ≡ Some (arc_value v)
 value_mapped None v h = cc
 value_mapped (Some x) v h = let same : x.value ≡ v = cc in ap (λ y. Some (arc_value y)) same
+
+value_some : {K V A : Type 0} (w : Option (Entry K V A)) (v : Arc V A) → option_map (λ (e : Entry K V A). e.value) w ≡ Some v → IsSome w
+value_some None v h = cc
+value_some (Some x) v h = refl
+
+-- an insertion into the bin b of the place of the hash h
+module _ {K V A : Type 0} {o : _} {e : _} {p : _} (xs : List (Bin K V A o e p)) (h i : ℕ) (b c : Bin K V A o e p) (lt : i < length xs) (is : b ≡ get_or xs i b) (at : i ≡ bin_of (length xs) h) (k : K) (v : Arc V A) (n : ℕ) where
+  pub inserted_here : IsTotalOrder o.cmp → (old : Option (Arc V A)) → IsInsertion o.cmp h k v n old (entries_of_bin b) (entries_of_bin c) → maps_of_bins (set xs i c) ≡ bins_with o.cmp (maps_of_bins xs) h k (arc_value v)
+  inserted_here total None put =
+      let x = put.1 in
+      let of = put.2 in
+      let none : IsNone (entry_at o.cmp x.hash (arc_value x.key) (entries_of_bin b)) = rw (of.0, of.1, put.0) refl in
+      rw (of.0, of.1, of.2) at placed_here xs h i b x c lt is at total of.0 none put.3
+  inserted_here total (Some old) put = replaced_here xs h i b lt is at total k v n c (value_some (entry_at o.cmp h k (entries_of_bin b)) old put.0) put.1
+
+  pub old_here : (old : Option (Arc V A)) → IsInsertion o.cmp h k v n old (entries_of_bin b) (entries_of_bin c) → option_map arc_value old ≡ option_map (λ (e : (ℕ × K) × V). e.1) (entry_in o.cmp (maps_of_bins xs) h k)
+  old_here None put = sym (ap (option_map (λ (e : (ℕ × K) × V). e.1)) (entry_here xs h i b lt is at k ∙ ap (option_map pair_of_entry) put.0))
+  old_here (Some old) put = sym (ap (option_map (λ (e : (ℕ × K) × V). e.1)) (entry_here xs h i b lt is at k) ∙ value_mapped (entry_at o.cmp h k (entries_of_bin b)) old put.0)
+
+-- a bin whose entries stay
+pub kept_here : {K V A : Type 0} {o : _} {e : _} {p : _} (xs : List (Bin K V A o e p)) (i : ℕ) (b c : Bin K V A o e p) → b ≡ get_or xs i b → entries_of_bin c ≡ entries_of_bin b → maps_of_bins (set xs i c) ≡ maps_of_bins xs
+kept_here xs i b c is e = map-set_same plain_bin xs i c b (ap pairs_of_entries e ∙ ap plain_bin is)
 
 -- where something stands, there is a table
 pub entry_some : {K V A : Type 0} {o : _} {e : _} {p : _} (xs : List (Bin K V A o e p)) (h : ℕ) (k : K) → IsSome (entry_in o.cmp (maps_of_bins xs) h k) → 0 < length xs

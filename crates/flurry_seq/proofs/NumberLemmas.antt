@@ -1,11 +1,12 @@
 -- Entries that bear the number 0 stay so where a bin changes.
-use Rattle.std.proofs.Common.{◌≡◌, ℕ, zero, suc, ◌<◌, Bool, true, false, List, [], ◌∷◌, length, filter, get_or, set, refl, sym, subst, arith, Ordering}
+use Rattle.std.proofs.Common.{◌≡◌, ℕ, zero, suc, ◌<◌, Bool, true, false, List, [], ◌∷◌, length, filter, get_or, set, Option, Some, None, Result, Ok, Err, IfOk, OnErr, refl, sym, subst, arith, Ordering}
 use Rattle.std.specs.Prelude.{if◌then◌else◌}
 use Rattle.std.specs.List.{AllByRecursion}
 use Rattle.std.specs.Arc.{arc_value}
+use Rattle.std.specs.declared.alloc.AllocError.{AllocError}
 use Rattle.std.specs.declared.sync.Arc.{Arc}
 use Rattle.flurry_bins.specs.declared.bin.entry.Entry.{Entry}
-use Rattle.flurry_bins.specs.Entries.{is_at, is_before, is_past, with_entry, with_value_at, with_value}
+use Rattle.flurry_bins.specs.Entries.{is_at, is_before, is_past, with_entry, with_value_at, with_value, IsInsertion}
 use Rattle.flurry_model.proofs.ListParts.{all_append}
 use Rattle.flurry_seq.specs.Numbers.{BearZero}
 
@@ -46,3 +47,11 @@ module _ {K V A : Type 0} (cmp : K → K → Ordering) where
       by_test : (b : Bool) → (if b then with_value e v 0 else e).number ≡ 0
       by_test true = refl
       by_test false = all.0
+
+  pub zero-insertion : (h : ℕ) (k : K) (v : Arc V A) (old : Option (Arc V A)) (es new : List (Entry K V A)) → IsInsertion cmp h k v 0 old es new → BearZero es → BearZero new
+  zero-insertion h k v None es new put all = let x = put.1 in rw put.3 (zero-with_entry x es put.2.3 all)
+  zero-insertion h k v (Some old) es new put all = rw put.1 (zero-with_value_at h k v es all)
+
+  pub zero-answered : (h : ℕ) (k : K) (v : Arc V A) (r : Result (Option (Arc V A) × Bool) AllocError) (es new : List (Entry K V A)) → IfOk r (λ a. IsInsertion cmp h k v 0 a.0 es new) → OnErr r (new ≡ es) → BearZero es → BearZero new
+  zero-answered h k v (Ok a) es new ok err all = zero-insertion h k v a.0 es new ok all
+  zero-answered h k v (Err e) es new ok err all = rw err all

@@ -330,6 +330,33 @@ impl<K: Ord + Drop, V: Drop, S: KeyHasher<K>, A: Allocator + Copy> SeqMap<K, V, 
         ensures ascend { IsFiniteMap K.cmp self.old.pairs }
     {
         let hash = self.hash_of(&key);
+        if self.capacity() == 0 || self.len() == MOST_PAIRS {
+            return self.look_and_insert(hash, key, value);
+        }
+        let value = Arc::new(*self.allocator(), value)?;
+        let (old, asks) = self.insert_in_table(hash, key, value)?;
+        if old.is_none() {
+            self.grow(asks);
+        }
+        Ok(old)
+    }
+
+    // Sets the value of a key with this hash, where there may be no table or no room: looks for the key before it takes memory.
+    fn look_and_insert(
+        &mut self,
+        hash: u64,
+        key: K,
+        value: V,
+    ) -> Result<Option<Arc<V, A>>, AllocError>
+        requires { hash ≡ S.hash_of self.old.hasher key }
+        ensures old { IfOk result (λ old. option_map arc_value old ≡ value_at K.cmp self.old.pairs key) }
+        ensures pairs { OnOk result (self.new.pairs ≡ with_pair K.cmp self.old.pairs key value) }
+        ensures hasher { self.new.hasher ≡ self.old.hasher }
+        ensures bins { IfOk result (λ old. IsSome old → self.new.bins ≡ self.old.bins) }
+        ensures grown { IfOk result (λ old. IsNone old
+            → IsTableAfter (first_bins self.old.bins FIRST_BINS) (length self.new.pairs) self.new.bins) }
+        ensures err { OnErr result (self.new ≡ self.old) }
+    {
         if self.find(hash, &key).is_some() {
             let value = Arc::new(*self.allocator(), value)?;
             return Ok(Some(self.swap_value(hash, &key, value)));
@@ -337,6 +364,31 @@ impl<K: Ord + Drop, V: Drop, S: KeyHasher<K>, A: Allocator + Copy> SeqMap<K, V, 
         let node = Node::of_pair(*self.allocator(), hash, key, value, 0)?;
         self.add(node)?;
         Ok(None)
+    }
+
+    // Sets the value of a key with this hash, by one way down its bin. Answers the old value, and whether the bin of a new key asks for
+    // a larger table.
+    fn insert_in_table(
+        &mut self,
+        hash: u64,
+        key: K,
+        value: Arc<V, A>,
+    ) -> Result<(Option<Arc<V, A>>, bool), AllocError>
+        requires hash { hash ≡ S.hash_of self.old.hasher key }
+        requires table { 0 < self.old.bins }
+        requires room { length self.old.pairs < MOST_PAIRS }
+        ensures old { IfOk result (λ r. option_map arc_value r.0 ≡ value_at K.cmp self.old.pairs key) }
+        ensures after { OnOk result
+            (self.new ≡ with_pairs self.old (with_pair K.cmp self.old.pairs key (arc_value value))) }
+        ensures asks { IfOk result (λ r. IsNone r.0 → IsTrue r.1
+            → (self.new.bins < 64) × (8 < length self.new.pairs)) }
+        ensures err { OnErr result (self.new ≡ self.old) }
+    {
+        let (old, asks) = self.table.insert(hash, key, value)?;
+        if old.is_none() {
+            self.len += 1;
+        }
+        Ok((old, asks))
     }
 
     /// Sets the value of a key and answers the old one, as [`SeqMap::insert`] does. The key and the value may have other owners.
@@ -581,11 +633,22 @@ impl<K: Ord + Drop, V: Drop, S: KeyHasher<K>, A: Allocator + Copy> SeqMap<K, V, 
         ensures hasher { self.new.hasher ≡ self.old.hasher }
         ensures err { OnErr result (self.new ≡ self.old) }
     {
-        if self.put(node)? {
+        let asks = self.put(node)?;
+        self.grow(asks);
+        Ok(())
+    }
+
+    // Makes the table larger where that is due after a new key, whose bin may ask for it.
+    fn grow(&mut self, asks: bool)
+        requires table { 0 < self.old.bins }
+        requires asks { IsTrue asks → (self.old.bins < 64) × (8 < length self.old.pairs) }
+        ensures same { SamePairs self.old self.new }
+        ensures bins { IsTableAfter self.old.bins (length self.new.pairs) self.new.bins }
+    {
+        if asks {
             let _ = self.grow_to(wanted(2 * self.capacity()));
         }
         self.grow_while_full();
-        Ok(())
     }
 
     // Puts a node of a new key into its bin. Answers whether the bin asks for a larger table.

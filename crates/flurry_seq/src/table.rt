@@ -1,5 +1,5 @@
 //! The table of an owned map: a power of two of bins, or none.
-ghost use Rattle.std.specs.Prelude.{◌≡◌, ℕ, [], ◌*◌, ◌<◌, ◌≤◌, ◌^◌, length, replicate, OnOk, OnErr, None, IsSome, IsNone, IsTrue, Some};
+ghost use Rattle.std.specs.Prelude.{◌≡◌, ℕ, [], ◌*◌, ◌<◌, ◌≤◌, ◌^◌, length, replicate, OnOk, OnErr, IfOk, None, IsSome, IsNone, IsTrue, Some};
 ghost use Rattle.std.specs.Vec.{vec_capacity};
 ghost use Rattle.std.specs.Option.{option_map};
 ghost use Rattle.std.specs.Arc.{arc_value};
@@ -17,7 +17,7 @@ ghost use Rattle.flurry_model.specs.declared.sizes.TheConstants.{GREATEST_TABLE,
 mod retain;
 
 use flurry_bins::bin::{Bin, Entry, Node, Ordered, Shape};
-use flurry_bins::table::put_in_table;
+use flurry_bins::table::{insert_in_table, put_in_table};
 use flurry_model::sizes::bin_index;
 use std::alloc::{AllocError, Allocator};
 use std::marker::Model;
@@ -170,6 +170,27 @@ impl<K: Ord + Drop, V: Drop, A: Allocator> Table<K, V, A> {
 }
 
 impl<K: Ord + Drop, V: Drop, A: Allocator + Copy> Table<K, V, A> {
+    // Puts a value at a hash and a key. Answers the value that stood there, if one did, and whether the bin asks for a larger table.
+    pub(crate) fn insert(
+        &mut self,
+        hash: u64,
+        key: K,
+        value: Arc<V, A>,
+    ) -> Result<(Option<Arc<V, A>>, bool), AllocError>
+        requires table { 0 < length self.old }
+        requires room { length (bin_at self.old hash) < MOST_PAIRS }
+        ensures old { IfOk result (λ r. option_map arc_value r.0 ≡ option_map (λ e. e.1) (entry_in K.cmp self.old hash key)) }
+        ensures after { OnOk result (self.new ≡ bins_with K.cmp self.old hash key (arc_value value)) }
+        ensures asks { IfOk result (λ r. IsTrue r.1 → (length self.old < 64) × (length (bin_at self.old hash) ≡ 8)) }
+        ensures err { OnErr result (self.new ≡ self.old) }
+    {
+        let alloc = *self.bins.allocator();
+        let count = self.bins.len();
+        let at = place(&self.bins, hash);
+        let bin = &mut self.bins[at];
+        insert_in_table(bin, alloc, hash, key, value, 0, count)
+    }
+
     // Makes so many empty bins.
     pub(crate) fn begin(&mut self, bins: usize) -> Result<(), AllocError>
         requires { IsTableSize bins }

@@ -3,6 +3,7 @@ ghost use Rattle.std.specs.Prelude.{◌≡◌};
 ghost use Rattle.std.specs.Arc.{arc_value};
 ghost use Rattle.flurry_bins.specs.Chain.{entry_of};
 
+mod insertions;
 mod slots;
 
 use flurry_bins::bin::{Bin, Entry, ListBin, Node, Ordered, Shape, TreeBin};

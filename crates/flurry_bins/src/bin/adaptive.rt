@@ -1,9 +1,9 @@
 //! A bin that is a list while it is small, and a tree else.
-ghost use Rattle.std.specs.Prelude.{◌≡◌, ◌<◌, ◌≤◌, ◌^◌, ◌||◌, ◌&&◌, ◌+◌, nat_le, [], length, map, true, false, Some, IsSome, IsNone};
+ghost use Rattle.std.specs.Prelude.{◌≡◌, ◌<◌, ◌≤◌, ◌^◌, ◌||◌, ◌&&◌, ◌+◌, nat_le, [], length, map, true, false, Some, IsSome, IsNone, IfOk, OnErr};
 ghost use Rattle.std.specs.Option.{option_map};
 ghost use Rattle.std.specs.Arc.{arc_value};
 ghost use Rattle.flurry_bins.specs.Chain.{chain, entry_of};
-ghost use Rattle.flurry_bins.specs.Entries.{entry_at, with_entry, with_value_at, without, with_bit};
+ghost use Rattle.flurry_bins.specs.Entries.{entry_at, with_entry, with_value_at, without, with_bit, IsInsertion};
 ghost use Rattle.flurry_model.specs.Greatest.{greatest};
 ghost use Rattle.flurry_bins.specs.Tree.{shape, node_shape, inorder};
 ghost use Rattle.flurry_bins.specs.WayBound.{way_bound};
@@ -21,7 +21,7 @@ use super::ordered::Ordered;
 use super::tree::{self, TreeBin};
 use flurry_model::sizes::{LEAST_IN_TREE, MOST_IN_LIST};
 use nodes::{LoneNode, NodeList, NodeTree};
-use std::alloc::{Allocator, Global};
+use std::alloc::{AllocError, Allocator, Global};
 use std::mem;
 use std::sync::Arc;
 
@@ -251,6 +251,37 @@ fn write_into<K: Ord + Drop, V: Drop, A: Allocator>(
     }
 }
 
+// Puts a value at a place, and answers the one that stood there, or none with a new node; more than nine nodes are a tree then.
+// Where memory for the node is wanting, the entries stay.
+fn insert_into<K: Ord + Drop, V: Drop, A: Allocator + Copy>(
+    kind: Kind<K, V, A>,
+    alloc: A,
+    hash: u64,
+    key: K,
+    value: Arc<V, A>,
+    number: u64,
+) -> (Kind<K, V, A>, Result<Option<Arc<V, A>>, AllocError>)
+    requires { length (kind_entries kind) < MOST_PAIRS }
+    ensures ok { IfOk result.1 (λ old.
+        IsInsertion K.cmp hash key value number old (kind_entries kind) (kind_entries result.0)) }
+    ensures err { OnErr result.1 (kind_entries result.0 ≡ kind_entries kind) }
+    ensures kind { kind_is_tree result.0
+        ≡ (kind_is_tree kind || nat_le (MOST_IN_LIST + 1) (length (kind_entries result.0))) }
+{
+    match kind {
+        Kind::AsTree(tree) => {
+            let mut tree = tree.into_tree();
+            let reply = tree.insert(alloc, hash, key, value, number);
+            (tree_kind(tree), reply)
+        }
+        few => {
+            let mut list = list_of(few);
+            let reply = list.insert(alloc, hash, key, value, number);
+            (kind_from(list, MOST_IN_LIST + 1), reply)
+        }
+    }
+}
+
 // The same of a tree. One whose entries have one hash goes to one side as it stands.
 fn split_tree<K: Ord + Drop, V: Drop, A: Allocator>(
     tree: NodeTree<K, V, A>,
@@ -356,6 +387,34 @@ impl<K: Ord + Drop, V: Drop, A: Allocator> Bin<K, V, A> {
     {
         let kind = mem::replace(&mut self.kind, Kind::Empty);
         self.kind = plant_kind(kind);
+    }
+}
+
+#[tactic(auto, unfolding(crate::specs::Bin::entries_of_bin, crate::specs::Bin::is_tree))]
+impl<K: Ord + Drop, V: Drop, A: Allocator + Copy> Bin<K, V, A> {
+    ghost use Rattle.flurry_bins.specs.Bin.{entries_of_bin, is_tree};
+
+    // Puts a value at a place, and answers the one that stood there, or none with a new node; a list of nine nodes is made a tree then.
+    // Where memory for the node is wanting, the bin is as it was.
+    pub(crate) fn insert(
+        &mut self,
+        alloc: A,
+        hash: u64,
+        key: K,
+        value: Arc<V, A>,
+        number: u64,
+    ) -> Result<Option<Arc<V, A>>, AllocError>
+        requires { length (entries_of_bin self.old) < MOST_PAIRS }
+        ensures ok { IfOk result (λ old.
+            IsInsertion K.cmp hash key value number old (entries_of_bin self.old) (entries_of_bin self.new)) }
+        ensures err { OnErr result (entries_of_bin self.new ≡ entries_of_bin self.old) }
+        ensures kind { is_tree self.new
+            ≡ (is_tree self.old || nat_le (MOST_IN_LIST + 1) (length (entries_of_bin self.new))) }
+    {
+        let kind = mem::replace(&mut self.kind, Kind::Empty);
+        let (kind, reply) = insert_into(kind, alloc, hash, key, value, number);
+        self.kind = kind;
+        reply
     }
 }
 

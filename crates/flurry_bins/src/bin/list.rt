@@ -1,8 +1,8 @@
 //! A bin that is a list.
-ghost use Rattle.std.specs.Prelude.{◌≡◌, ◌^◌, ◌+◌, ◌<◌, ◌≤◌, ◌++◌, ◌∷◌, [], length, map, reverse, MatchOption, Option, Some, None, IsSome, IsNone};
+ghost use Rattle.std.specs.Prelude.{◌≡◌, ◌^◌, ◌+◌, ◌<◌, ◌≤◌, ◌++◌, ◌∷◌, [], length, map, reverse, MatchOption, Option, Some, None, IsSome, IsNone, IfOk, OnErr};
 ghost use Rattle.std.specs.Option.{option_map, option_copied};
 ghost use Rattle.std.specs.Arc.{arc_value};
-ghost use Rattle.flurry_bins.specs.Entries.{IsAscending, IsAscending-prop, AllBefore, NotBefore, list_way, entry_at, first_past, lent_bound, with_entry, with_value_at};
+ghost use Rattle.flurry_bins.specs.Entries.{IsAscending, IsAscending-prop, AllBefore, NotBefore, list_way, entry_at, first_past, lent_bound, with_entry, with_value_at, IsInsertion};
 ghost use Rattle.flurry_model.specs.Greatest.{greatest};
 ghost use Rattle.flurry_bins.specs.Short.{list_way-short};
 ghost use Rattle.flurry_bins.specs.Chain.{chain, chain_from, node_chain, entry_of};
@@ -13,7 +13,7 @@ mod retain;
 use super::entry::Entry;
 use super::node::{BoxedNode, Link, Node, follow};
 use super::ordered::Ordered;
-use std::alloc::{Allocator, Global};
+use std::alloc::{AllocError, Allocator, Global};
 use std::cmp::Ordering;
 use std::mem;
 use std::sync::Arc;
@@ -145,6 +145,31 @@ fn prepend_reversed<K, V, A: Allocator>(front: Link<K, V, A>, back: Link<K, V, A
     to
 }
 
+// Puts a value at a place that no node of a chain stands before: into the first node if that is there, and into a new one in front
+// else. Where memory for that is wanting, the chain is as it was.
+fn insert_first<K: Ord + Drop, V: Drop, A: Allocator + Copy>(
+    rest: &mut Link<K, V, A>,
+    alloc: A,
+    hash: u64,
+    key: K,
+    value: Arc<V, A>,
+    number: u64,
+) -> Result<Option<Arc<V, A>>, AllocError>
+    requires ascending { IsAscending K.cmp (chain rest.old) }
+    requires stops { NotBefore K.cmp hash key (chain rest.old) }
+    ensures ok { IfOk result (λ old. IsInsertion K.cmp hash key value number old (chain rest.old) (chain rest.new)) }
+    ensures err { OnErr result (chain rest.new ≡ chain rest.old) }
+{
+    if let Some(first) = rest {
+        if first.entry.is_at(hash, &key) {
+            return Ok(Some(first.write(value, number)));
+        }
+    }
+    let node = Node::of_key(alloc, hash, key, value, number)?;
+    *rest = Some(prepend(node, rest.take()));
+    Ok(None)
+}
+
 // The entry of a place in the chain from a node on, and how many nodes were visited.
 pub(crate) fn find_in<'a, K: Ord, V, A: Allocator>(
     first: Option<&'a Node<K, V, A>>,
@@ -197,6 +222,35 @@ pub(crate) fn greatest_in<K, V, A: Allocator>(first: Option<&Node<K, V, A>>) -> 
         link = follow(&node.right);
     }
     greatest
+}
+
+impl<K: Ord + Drop, V: Drop, A: Allocator + Copy> ListBin<K, V, A> {
+    ghost use Rattle.flurry_bins.specs.Bin.{entries_of_list};
+
+    // Puts a value at a place, and answers the one that stood there. Where none did it takes memory for the key and a node; where that
+    // is wanting, the list is as it was.
+    pub(crate) fn insert(
+        &mut self,
+        alloc: A,
+        hash: u64,
+        key: K,
+        value: Arc<V, A>,
+        number: u64,
+    ) -> Result<Option<Arc<V, A>>, AllocError>
+        requires { length (entries_of_list self.old) < MOST_PAIRS }
+        ensures ok { IfOk result (λ old.
+            IsInsertion K.cmp hash key value number old (entries_of_list self.old) (entries_of_list self.new)) }
+        ensures err { OnErr result (entries_of_list self.new ≡ entries_of_list self.old) }
+    {
+        let (front, mut rest) = split_before(self.head.take(), hash, &key);
+        let reply = insert_first(&mut rest, alloc, hash, key, value, number);
+        self.head = prepend_reversed(front, rest);
+        let old = reply?;
+        if old.is_none() {
+            self.len += 1;
+        }
+        Ok(old)
+    }
 }
 
 impl<K: Ord + Drop, V: Drop, A: Allocator> Drop for ListBin<K, V, A> {

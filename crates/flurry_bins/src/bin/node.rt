@@ -2,7 +2,7 @@
 ghost use Rattle.std.specs.Prelude.{◌≡◌, IfOk};
 ghost use Rattle.std.specs.Arc.{arc_value};
 ghost use Rattle.flurry_bins.specs.Chain.{chain, chain_from, entry_of, with_entry};
-ghost use Rattle.flurry_bins.specs.Entries.{with_hash, with_value};
+ghost use Rattle.flurry_bins.specs.Entries.{IsEntryOf, with_hash, with_value};
 ghost use Rattle.flurry_bins.specs.Tree.{shape, shape_from};
 
 use super::entry::Entry;
@@ -88,8 +88,23 @@ impl<K: Drop, V: Drop, A: Allocator> Node<K, V, A> {
         ensures value { IfOk result (λ b. arc_value (entry_of b.value).value ≡ value) }
         ensures number { IfOk result (λ b. (entry_of b.value).number ≡ number) }
     {
-        let key = Arc::new(alloc, key)?;
         let value = Arc::new(alloc, value)?;
+        Node::of_key(alloc, hash, key, value, number)
+    }
+
+    // A node of a key and of a value that has an owner.
+    pub(crate) fn of_key(
+        alloc: A,
+        hash: u64,
+        key: K,
+        value: Arc<V, A>,
+        number: u64,
+    ) -> Result<BoxedNode<K, V, A>, AllocError>
+    where
+        A: Copy,
+        ensures { IfOk result (λ b. IsEntryOf hash key value number (entry_of b.value)) }
+    {
+        let key = Arc::new(alloc, key)?;
         let entry = Entry {
             hash,
             key,

@@ -1,8 +1,8 @@
 //! A bin that is a red-black tree.
-ghost use Rattle.std.specs.Prelude.{◌≡◌, ◌^◌, ◌*◌, ◌+◌, ◌<◌, ◌≤◌, ◌++◌, length, map, Option, Some, None, IfSome, IsSome, IsNone};
+ghost use Rattle.std.specs.Prelude.{◌≡◌, ◌^◌, ◌*◌, ◌+◌, ◌<◌, ◌≤◌, ◌++◌, length, map, Option, Some, None, IfSome, IsSome, IsNone, IfOk, OnErr};
 ghost use Rattle.std.specs.Option.{option_map, option_copied};
 ghost use Rattle.std.specs.Arc.{arc_value};
-ghost use Rattle.flurry_bins.specs.Entries.{IsAscending, IsAscending-prop, AllHashed, last_of, entry_at, first_past, lent_bound, with_entry, with_value_at};
+ghost use Rattle.flurry_bins.specs.Entries.{IsAscending, IsAscending-prop, AllHashed, last_of, entry_at, first_past, lent_bound, with_entry, with_value_at, IsInsertion};
 ghost use Rattle.flurry_bins.specs.Chain.{chain, entry_of, colour_of};
 ghost use Rattle.flurry_model.specs.Greatest.{greatest};
 ghost use Rattle.flurry_bins.specs.Balance.{red_root, red_over_red, leans_left, leans_right, with_black_root, balance_left, balance_right, balanced_left, balanced_right, put_tree};
@@ -10,6 +10,7 @@ ghost use Rattle.flurry_bins.specs.Tree as tree;
 ghost use Rattle.flurry_bins.specs.Tree.{shape, shape_from, node_shape, inorder, IsRedBlack, IsRedBlack-prop, black_height, tree_way};
 ghost use Rattle.flurry_bins.specs.WayBound.{way_bound, way_within};
 ghost use Rattle.flurry_bins.specs.Rewrite.{tree_with_value, tree_value};
+ghost use Rattle.flurry_bins.specs.TreeInsertion.{IsTreeInsertion};
 ghost use Rattle.flurry_model.specs.declared.sizes.TheConstants.{MOST_PAIRS};
 
 use super::entry::Entry;
@@ -17,7 +18,7 @@ use super::list::{ListBin, detach_tail, prepend};
 use super::node::{BoxedNode, Colour, Link, Node, follow};
 use super::ordered::Ordered;
 use super::removal::remove_in;
-use std::alloc::{Allocator, Global};
+use std::alloc::{AllocError, Allocator, Global};
 use std::cmp::Ordering;
 use std::sync::Arc;
 
@@ -268,6 +269,44 @@ fn write_in<K: Ord + Drop, V: Drop, A: Allocator>(
     }
 }
 
+// Puts a value at a place by one way down: where another stands it answers that one, and else it makes a node. Where memory for that
+// is wanting, the tree is as it was.
+fn insert_in<K: Ord + Drop, V: Drop, A: Allocator + Copy>(
+    root: &mut Link<K, V, A>,
+    alloc: A,
+    hash: u64,
+    key: K,
+    value: Arc<V, A>,
+    number: u64,
+) -> Result<Option<Arc<V, A>>, AllocError>
+    ensures ok { IfOk result (λ old.
+        IsTreeInsertion K.cmp hash key value number old (shape root.old) (shape root.new)) }
+    ensures err { OnErr result (shape root.new ≡ shape root.old) }
+{
+    let Some(top) = root else {
+        let node = Node::of_key(alloc, hash, key, value, number)?;
+        *root = Some(link_children(Colour::Red, None, node, None));
+        return Ok(None);
+    };
+    match top.entry.compare_place(hash, &key) {
+        Ordering::Less => {
+            let old = insert_in(&mut top.left, alloc, hash, key, value, number)?;
+            if old.is_none() {
+                settle_left(root);
+            }
+            Ok(old)
+        }
+        Ordering::Equal => Ok(Some(top.write(value, number))),
+        Ordering::Greater => {
+            let old = insert_in(&mut top.right, alloc, hash, key, value, number)?;
+            if old.is_none() {
+                settle_right(root);
+            }
+            Ok(old)
+        }
+    }
+}
+
 // The first entry that is past a bound, in the tree below a node.
 pub(crate) fn next_in<'a, K: Ord, V, A: Allocator>(
     root: Option<&'a Node<K, V, A>>,
@@ -335,6 +374,33 @@ impl<K: Ord, V, A: Allocator> TreeBin<K, V, A> {
         ensures { result ≡ greatest (map (λ e. e.number) (entries_of_tree self.now)) }
     {
         greatest_in(follow(&self.root))
+    }
+}
+
+impl<K: Ord + Drop, V: Drop, A: Allocator + Copy> TreeBin<K, V, A> {
+    ghost use Rattle.flurry_bins.specs.Bin.{entries_of_tree};
+
+    // Puts a value at a place, and answers the one that stood there. Where none did it takes memory for the key and a node; where that
+    // is wanting, the tree is as it was.
+    pub(crate) fn insert(
+        &mut self,
+        alloc: A,
+        hash: u64,
+        key: K,
+        value: Arc<V, A>,
+        number: u64,
+    ) -> Result<Option<Arc<V, A>>, AllocError>
+        requires { length (entries_of_tree self.old) < MOST_PAIRS }
+        ensures ok { IfOk result (λ old.
+            IsInsertion K.cmp hash key value number old (entries_of_tree self.old) (entries_of_tree self.new)) }
+        ensures err { OnErr result (entries_of_tree self.new ≡ entries_of_tree self.old) }
+    {
+        let old = insert_in(&mut self.root, alloc, hash, key, value, number)?;
+        if old.is_none() {
+            self.root = blacken(self.root.take());
+            self.len += 1;
+        }
+        Ok(old)
     }
 }
 

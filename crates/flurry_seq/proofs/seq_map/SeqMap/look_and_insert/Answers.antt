@@ -1,5 +1,5 @@
 use Rattle.std.proofs.Common.{rules}
-use Rattle.flurry_seq.proofs.seq_map.SeqMap.insert.Goals as goal
+use Rattle.flurry_seq.proofs.seq_map.SeqMap.look_and_insert.Goals as goal
 
 pub add-requires-clause-absent : goal.add-requires-clause-absent
 add-requires-clause-absent g c = search rules

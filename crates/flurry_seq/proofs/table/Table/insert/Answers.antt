@@ -1,0 +1,34 @@
+use Rattle.std.proofs.Common.{◌≡◌, ◌<◌, length, length-set, sym, ap, ◌∙◌, arith}
+use Rattle.std.proofs.lemmas.List.{length-map}
+use Rattle.std.proofs.lemmas.Result.{IfOk-weaker}
+use Rattle.flurry_bins.specs.Bin.{entries_of_bin, is_tree}
+use Rattle.flurry_bins.specs.PlainEntries.{pair_of_entry}
+use Rattle.flurry_seq.proofs.MapsOfBinsLemmas.{bin_here, inserted_here, old_here, kept_here}
+use Rattle.flurry_seq.proofs.NumberLemmas.{all_at, all_set, zero-answered}
+use Rattle.flurry_seq.proofs.RoomLaws.{asks_true}
+use Rattle.flurry_seq.specs.MapsOfBins.{maps_of_bins}
+use Rattle.flurry_seq.specs.Table.{bin_at}
+use Rattle.flurry_seq.proofs.table.Table.insert.Goals as goal
+
+pub insert_in_table-requires : goal.insert_in_table-requires
+insert_in_table-requires g c =
+    let here = bin_here c.self.inside.bins.items c.args.hash c.place-at.result c.index_mut-bin.result.now c.place-at.ensures.below c.index_mut-bin.ensures.value c.place-at.ensures.place in
+    rw (← c.self.view_is, here, length-map) at c.requires.room
+
+pub invariant_of-self : goal.invariant_of-self
+invariant_of-self g c =
+    let xs = c.self.inside.bins.items in
+    let b = c.index_mut-bin.result.now in
+    let put = c.insert_in_table in
+    let zero = all_at _ xs c.place-at.result b c.place-at.ensures.below c.index_mut-bin.ensures.value c.self.invariant.1 in
+    (rw length-set c.self.invariant.0, all_set _ xs c.place-at.result put.new.bin (zero-answered g.K.Ord.cmp c.args.hash c.args.key c.args.value put.result (entries_of_bin b) (entries_of_bin put.new.bin) put.ensures.entries put.ensures.err zero) c.self.invariant.1)
+
+pub returns-clause-old : goal.returns-clause-old
+returns-clause-old g c =
+    let put = c.insert_in_table in
+    IfOk-weaker put.result _ _ (λ r is. rw (← c.self.view_is) (old_here c.self.inside.bins.items c.args.hash c.place-at.result c.index_mut-bin.result.now put.new.bin c.place-at.ensures.below c.index_mut-bin.ensures.value c.place-at.ensures.place c.args.key c.args.value 0 r.0 is)) put.ensures.entries
+
+pub returns-clause-after : goal.returns-clause-after
+returns-clause-after g c =
+    let put = c.insert_in_table in
+    IfOk-weaker put.result _ _ (λ r is. rw (← c.self.view_is) (inserted_here c.self.inside.bins.items c.args.hash c.place-at.result c.index_mut-bin.result.now put.new.bin c.place-at.ensures.below c.index_mut-bin.ensures.value c.place-at.ensures.place c.args.key c.args.value 0 g.met.K.Ord.total r.0 is)) put.ensures.entries

@@ -1,0 +1,113 @@
+//! Insertions by one way down a bin.
+
+use super::same;
+use flurry_bins::bin::{Bin, Ordered, Shape};
+use flurry_bins::table::insert_in_table;
+use metered_alloc::Metered;
+use std::alloc::{AllocError, Global};
+use std::process::Abort;
+use std::sync::Arc;
+use std::test::Fail;
+
+type Memory = &'static Metered<Global>;
+
+// The value that stood there, if one did, and whether the bin asks for a larger table.
+type Reply = (Option<u64>, bool);
+
+// Inserts a key whose hash is 3 into a bin of a table of so many bins.
+fn insert(
+    bin: &mut Bin<u64, u64, Memory>,
+    memory: Memory,
+    key: u64,
+    value: u64,
+    bins: usize,
+) -> Result<Reply, AllocError> {
+    if bin.len() >= 1000 {
+        return Err(AllocError);
+    }
+    let value = Arc::new(memory, value)?;
+    let (old, asks) = insert_in_table(bin, memory, 3, key, value, 0, bins)?;
+    match old {
+        Some(old) => Ok((Some(*old), asks)),
+        None => Ok((None, asks)),
+    }
+}
+
+// A bin of so many even keys, each its own value.
+fn bin_of(
+    memory: Memory,
+    count: u64,
+    bins: usize,
+) -> Result<Bin<u64, u64, Memory>, AllocError> {
+    let mut bin = Bin::new();
+    for i in 0..count {
+        let key = 2 * ((i * 7) % count);
+        insert(&mut bin, memory, key, key, bins)?;
+    }
+    Ok(bin)
+}
+
+fn value_at(bin: &Bin<u64, u64, Memory>, key: u64) -> Option<u64> {
+    match bin.find(3, &key).0 {
+        Some(entry) => Some(*entry.value),
+        None => None,
+    }
+}
+
+#[test]
+fn a_bin_that_grows_by_insertions(rt: HostRuntime) -> Result<(), Fail> {
+    let memory = Metered::leaked(rt.alloc())?;
+    let mut bin = bin_of(memory, 8, 16)?;
+    same(&rt, bin.shape(), Shape::List(8));
+    same(&rt, insert(&mut bin, memory, 6, 60, 16)?, (Some(6), false));
+    same(&rt, insert(&mut bin, memory, 7, 7, 16)?, (None, true));
+    same(&rt, bin.shape(), Shape::List(9));
+    same(&rt, insert(&mut bin, memory, 1, 1, 16)?, (None, false));
+    same(&rt, bin.shape(), Shape::Tree(10));
+    same(&rt, insert(&mut bin, memory, 6, 61, 16)?, (Some(60), false));
+    same(&rt, bin.shape(), Shape::Tree(10));
+    same(&rt, value_at(&bin, 6), Some(61));
+    same(&rt, value_at(&bin, 7), Some(7));
+    let few = bin_of(memory, 8, 64)?;
+    same(&rt, few.shape(), Shape::List(8));
+    let planted = bin_of(memory, 9, 64)?;
+    same(&rt, planted.shape(), Shape::Tree(9));
+    Ok(())
+}
+
+// Inserts a key into a bin of so many even keys, where the request numbered k is refused, if it is made; the bin is then as it was.
+fn refused(rt: &impl Abort, memory: Memory, count: u64, key: u64, k: u64) -> Result<bool, Fail> {
+    let mut bin = bin_of(memory, count, 64)?;
+    let before = (bin.shape(), value_at(&bin, key), memory.blocks());
+    memory.refuse_at(k);
+    let reply = insert(&mut bin, memory, key, 1000, 64);
+    let refused = memory.refused();
+    memory.refuse_nothing();
+    if refused {
+        same(rt, reply.is_err(), true);
+        same(rt, (bin.shape(), value_at(&bin, key), memory.blocks()), before);
+        for i in 0..count {
+            same(rt, value_at(&bin, 2 * i), Some(2 * i));
+        }
+    } else {
+        same(rt, reply.ok(), Some((before.1, false)));
+        same(rt, value_at(&bin, key), Some(1000));
+    }
+    Ok(refused)
+}
+
+// Each request that an insertion makes is refused in turn: three for an absent key, and one for a present one.
+#[test]
+fn refused_insertions(rt: HostRuntime) -> Result<(), Fail> {
+    let memory = Metered::leaked(rt.alloc())?;
+    for count in [0u64, 1, 2, 8, 9, 30] {
+        for key in [1u64, 4] {
+            let wanted = if key == 4 && count > 2 { 1u64 } else { 3 };
+            for k in 0u64..4 {
+                same(&rt, refused(&rt, memory, count, key, k)?, k < wanted);
+            }
+        }
+    }
+    same(&rt, memory.blocks(), 0);
+    Ok(())
+}
