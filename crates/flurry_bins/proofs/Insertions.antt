@@ -2,20 +2,19 @@
 use Rattle.std.proofs.Common.{◌≡◌, ℕ, ◌+◌, arith, true, false, List, [], ◌∷◌, ◌++◌, length, reverse, ◌≤◌, Option, Some, None, Result, Ok, Err, IfOk, OnErr, refl, sym, ap, ◌∙◌, cond, append_assoc}
 use Rattle.std.specs.List.{filter}
 use Rattle.std.specs.declared.cmp.Ordering.{Ordering}
-use Rattle.std.specs.declared.cmp.Ordering.TheVariants.{Less, Equal, Greater}
-use Rattle.std.specs.Ordering.{is_eq, is_lt, match_ordering}
+use Rattle.std.specs.declared.cmp.Ordering.TheVariants.{Less, Greater}
+use Rattle.std.specs.Ordering.{is_lt, match_ordering}
 use Rattle.std.specs.Cmp.{IsTotalOrder}
-use Rattle.std.specs.Prelude.{if◌then◌else◌}
 use Rattle.std.specs.Option.{option_map, is_some, IsNone}
 use Rattle.std.specs.Arc.{arc_value}
 use Rattle.std.specs.declared.sync.Arc.{Arc}
 use Rattle.std.specs.declared.alloc.AllocError.{AllocError}
 use Rattle.flurry_bins.specs.declared.bin.entry.Entry.{Entry}
 use Rattle.flurry_bins.specs.declared.bin.node.Colour.{Colour}
-use Rattle.flurry_bins.specs.Entries.{place_cmp, entry_cmp, IsAscending, is_at, is_before, is_past, entry_at, with_entry, with_value_at, with_value, AllBefore, NotBefore, IsEntryOf, IsInsertion}
+use Rattle.flurry_bins.specs.Entries.{place_cmp, entry_cmp, IsAscending, is_at, is_before, is_past, entry_at, with_entry, with_value, AllBefore, IsEntryOf, IsInsertion}
 use Rattle.flurry_bins.specs.Balance.{balance_left, balance_right, put_tree, with_black_root}
 use Rattle.flurry_bins.specs.Rewrite.{tree_with_value, tree_value}
-use Rattle.flurry_bins.specs.Tree.{Tree, leaf, fork, inorder, IsRedBlack}
+use Rattle.flurry_bins.specs.Tree.{Tree, fork, inorder, IsRedBlack}
 use Rattle.flurry_bins.specs.TreeInsertion.{IsTreeInsertion}
 use Rattle.flurry_model.proofs.ListParts.{sorted_back}
 use Rattle.flurry_bins.proofs.Edits.{IsCut, all_reverse, found_there, none_at, replaced_there, put_at}

@@ -334,11 +334,7 @@ impl<K: Ord + Drop, V: Drop, S: KeyHasher<K>, A: Allocator + Copy> SeqMap<K, V, 
             return self.look_and_insert(hash, key, value);
         }
         let value = Arc::new(*self.allocator(), value)?;
-        let (old, asks) = self.insert_in_table(hash, key, value)?;
-        if old.is_none() {
-            self.grow(asks);
-        }
-        Ok(old)
+        self.insert_in_table(hash, key, value)
     }
 
     // Sets the value of a key with this hash, where there may be no table or no room: looks for the key before it takes memory.
@@ -366,29 +362,32 @@ impl<K: Ord + Drop, V: Drop, S: KeyHasher<K>, A: Allocator + Copy> SeqMap<K, V, 
         Ok(None)
     }
 
-    // Sets the value of a key with this hash, by one way down its bin. Answers the old value, and whether the bin of a new key asks for
-    // a larger table.
+    // Sets the value of a key with this hash, where there is a table and room, by one way down the key's bin.
     fn insert_in_table(
         &mut self,
         hash: u64,
         key: K,
         value: Arc<V, A>,
-    ) -> Result<(Option<Arc<V, A>>, bool), AllocError>
+    ) -> Result<Option<Arc<V, A>>, AllocError>
         requires hash { hash ≡ S.hash_of self.old.hasher key }
         requires table { 0 < self.old.bins }
         requires room { length self.old.pairs < MOST_PAIRS }
-        ensures old { IfOk result (λ r. option_map arc_value r.0 ≡ value_at K.cmp self.old.pairs key) }
-        ensures after { OnOk result
-            (self.new ≡ with_pairs self.old (with_pair K.cmp self.old.pairs key (arc_value value))) }
-        ensures asks { IfOk result (λ r. IsNone r.0 → IsTrue r.1
-            → (self.new.bins < 64) × (8 < length self.new.pairs)) }
+        ensures old { IfOk result (λ old. option_map arc_value old ≡ value_at K.cmp self.old.pairs key) }
+        ensures pairs { OnOk result (self.new.pairs ≡ with_pair K.cmp self.old.pairs key (arc_value value)) }
+        ensures hasher { self.new.hasher ≡ self.old.hasher }
+        ensures bins { IfOk result (λ old. IsSome old → self.new.bins ≡ self.old.bins) }
+        ensures grown { IfOk result (λ old. IsNone old
+            → IsTableAfter (first_bins self.old.bins FIRST_BINS) (length self.new.pairs) self.new.bins) }
         ensures err { OnErr result (self.new ≡ self.old) }
     {
-        let (old, asks) = self.table.insert(hash, key, value)?;
-        if old.is_none() {
-            self.len += 1;
+        match self.table.insert(hash, key, value)? {
+            (Some(old), _) => Ok(Some(old)),
+            (None, asks) => {
+                self.len += 1;
+                self.grow(asks);
+                Ok(None)
+            }
         }
-        Ok((old, asks))
     }
 
     /// Sets the value of a key and answers the old one, as [`SeqMap::insert`] does. The key and the value may have other owners.

@@ -1,4 +1,4 @@
-use Rattle.std.proofs.Common.{◌≡◌, ◌||◌, Result, Ok, Err, OnErr, length, nat_le, not, sym, ap, ◌∙◌}
+use Rattle.std.proofs.Common.{◌||◌, Result, Ok, Err, OnErr, length, nat_le, sym, ap, ◌∙◌}
 use Rattle.flurry_bins.specs.Bin.{entries_of_bin, ascending_of_bin, is_tree, sized_of_bin}
 use Rattle.flurry_bins.proofs.BinSizes.{kept_by_ten, long_in_large, long_in_small, one_more, one_more_than_nine}
 use Rattle.flurry_bins.proofs.Insertions.{insertion-as_long, insertion-longer, insertion-none}

@@ -1,4 +1,4 @@
-use Rattle.std.proofs.Common.{◌≤◌, length, arith, ap}
+use Rattle.std.proofs.Common.{◌≤◌, length}
 use Rattle.flurry_bins.specs.Bin.{entries_of_bin, is_tree}
 use Rattle.flurry_bins.specs.Kind.{kind_entries, kind_is_tree, kind_ascending}
 use Rattle.flurry_bins.proofs.BinSizes.{sized_by_ten}
