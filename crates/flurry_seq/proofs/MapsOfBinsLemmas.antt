@@ -74,7 +74,8 @@ module _ {K V A : Type 0} {o : _} {e : _} {p : _} (xs : List (Bin K V A o e p)) 
       let x = put.1 in
       let of = put.2 in
       let none : IsNone (entry_at o.cmp x.hash (arc_value x.key) (entries_of_bin b)) = rw (of.0, of.1, put.0) refl in
-      rw (of.0, of.1, of.2) at placed_here xs h i b x c lt is at total of.0 none put.3
+      let made : maps_of_bins (set xs i c) ≡ bins_with o.cmp (maps_of_bins xs) x.hash (arc_value x.key) (arc_value x.value) = placed_here xs h i b x c lt is at total of.0 none put.3 in
+      rw (of.0, of.1, of.2) at made
   inserted_here total (Some old) put = replaced_here xs h i b lt is at total k v n c (value_some (entry_at o.cmp h k (entries_of_bin b)) old put.0) put.1
 
   pub old_here : (old : Option (Arc V A)) → IsInsertion o.cmp h k v n old (entries_of_bin b) (entries_of_bin c) → option_map arc_value old ≡ option_map (λ (e : (ℕ × K) × V). e.1) (entry_in o.cmp (maps_of_bins xs) h k)

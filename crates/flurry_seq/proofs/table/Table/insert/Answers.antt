@@ -1,13 +1,9 @@
-use Rattle.std.proofs.Common.{◌≡◌, ◌<◌, length, length-set, sym, ap, ◌∙◌, arith}
+use Rattle.std.proofs.Common.{◌≡◌, Result, Ok, Err, OnErr, length, length-set}
 use Rattle.std.proofs.lemmas.List.{length-map}
 use Rattle.std.proofs.lemmas.Result.{IfOk-weaker}
-use Rattle.flurry_bins.specs.Bin.{entries_of_bin, is_tree}
-use Rattle.flurry_bins.specs.PlainEntries.{pair_of_entry}
+use Rattle.flurry_bins.specs.Bin.{entries_of_bin}
 use Rattle.flurry_seq.proofs.MapsOfBinsLemmas.{bin_here, inserted_here, old_here, kept_here}
 use Rattle.flurry_seq.proofs.NumberLemmas.{all_at, all_set, zero-answered}
-use Rattle.flurry_seq.proofs.RoomLaws.{asks_true}
-use Rattle.flurry_seq.specs.MapsOfBins.{maps_of_bins}
-use Rattle.flurry_seq.specs.Table.{bin_at}
 use Rattle.flurry_seq.proofs.table.Table.insert.Goals as goal
 
 pub insert_in_table-requires : goal.insert_in_table-requires
@@ -32,3 +28,12 @@ pub returns-clause-after : goal.returns-clause-after
 returns-clause-after g c =
     let put = c.insert_in_table in
     IfOk-weaker put.result _ _ (λ r is. rw (← c.self.view_is) (inserted_here c.self.inside.bins.items c.args.hash c.place-at.result c.index_mut-bin.result.now put.new.bin c.place-at.ensures.below c.index_mut-bin.ensures.value c.place-at.ensures.place c.args.key c.args.value 0 g.met.K.Ord.total r.0 is)) put.ensures.entries
+
+where_err : {T E : Type 0} {P Q : Type 0} (r : Result T E) → (P → Q) → OnErr r P → OnErr r Q
+where_err (Ok x) f h = tt
+where_err (Err e) f h = f h
+
+pub returns-clause-err : goal.returns-clause-err
+returns-clause-err g c =
+    let put = c.insert_in_table in
+    where_err put.result (λ same. rw (← c.self.view_is) (kept_here c.self.inside.bins.items c.place-at.result c.index_mut-bin.result.now put.new.bin c.index_mut-bin.ensures.value same)) put.ensures.err
