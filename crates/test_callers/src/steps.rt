@@ -1,7 +1,7 @@
 //! Callers of the control of a shared map, and of calls in steps.
 ghost use Rattle.std.specs.Prelude.{◌≡◌, ℕ, true, Some, IfOk, IfSome, min, pos};
 
-use flurry::slots::{ComputeFn, NoFn};
+use flurry::slots::ComputeFn;
 use flurry::steps::control::{Advice, BeginOutcome, Claim, Control, PublishedTable, Room, Tally};
 use flurry::steps::party::{Call, Ending, Event, OwnedCall, Rest, Want};
 use flurry::steps::{Cursor, Party, Sweep};
@@ -120,10 +120,10 @@ pub fn begin_growth(control: &mut Control, table: u8) -> bool
 }
 
 /// The first step of a call that borrows its key needs the same.
-pub fn first_want_of_borrowed(key: &u64) -> Want
+pub fn first_want_of_borrowed<F: ComputeFn<u64, u64>>(key: &u64) -> Want
     ensures { result ≡ Want.Control }
 {
-    let party: Party<'_, u64, u64, NoFn> = Party::new(Call::ContainsKey(key), *key, 1);
+    let party: Party<'_, u64, u64, F> = Party::new(Call::ContainsKey(key), *key, 1);
     let want = party.want();
     drop(party);
     want
