@@ -1,8 +1,10 @@
 //! Callers of bins, and of the slots of a table.
-ghost use Rattle.std.specs.Prelude.{◌≡◌, IfOk, IfSome};
+ghost use Rattle.std.specs.Prelude.{◌≡◌, ◌≤◌, ℕ, length, false, None, Some, IfOk, IfSome};
 
-use flurry::bin::{Bin, Entry, ListBin, Node, Ordered, TreeBin};
-use flurry::slots::{Answer, MoveAnswer, Slot};
+use flurry::TryInsertError;
+use flurry::bin::node::Colour;
+use flurry::bin::{Bin, BoxedNode, Entry, ListBin, Node, Ordered, TreeBin};
+use flurry::slots::{Added, Answer, Computed, MoveAnswer, Slot, Written};
 use std::alloc::{AllocError, Global};
 
 /// The value of a pair, out of its node.
@@ -53,5 +55,78 @@ pub fn move_to_halves(
         MoveAnswer::Done(receipt) => Some(receipt.at()),
         MoveAnswer::Already(receipt) => Some(receipt.at()),
         MoveAnswer::Clash => None,
+    }
+}
+
+/// The hash of a pair, as its node has it.
+pub fn hash_of_node(alloc: Global, hash: u64, key: u64, value: u64) -> Result<u64, AllocError>
+    ensures { IfOk result (λ h. h ≡ hash) }
+{
+    let node: BoxedNode<u64, u64> = Node::of_pair(alloc, hash, key, value, 0)?;
+    Ok(node.entry().hash)
+}
+
+/// What a node of a colour adds to the height of its tree.
+pub fn height_of(colour: Colour) -> usize
+    ensures { result ≤ 1 }
+{
+    match colour {
+        Colour::Red => 0,
+        Colour::Black => 1,
+    }
+}
+
+/// How many nodes a look-up visits, in a bin of any kind.
+pub fn visits<B: Ordered<u64, u64, Global>>(bin: &B, hash: u64, key: u64) -> u64
+    ensures { result ≤ B.most_met (length (B.entries bin.now)) }
+{
+    let (_entry, visits) = bin.find(hash, &key);
+    visits
+}
+
+/// The value that a write found at its key.
+pub fn value_before(answer: Answer<Written<u64, Global>, (u64, u64)>) -> Option<u64>
+    ensures { (lent : ℕ × ℕ) → answer ≡ Answer.Moved lent → result ≡ None }
+{
+    match answer {
+        Answer::Here(written) => written.old.map(|old| *old),
+        Answer::Moved(_) | Answer::Unborn(_) => None,
+    }
+}
+
+/// The value that stands after an addition.
+pub fn value_after(
+    answer: Answer<Result<Added<u64, Global>, TryInsertError<u64>>, (u64, u64)>,
+) -> Option<u64>
+    ensures { (lent : ℕ × ℕ) → answer ≡ Answer.Moved lent → result ≡ None }
+{
+    match answer {
+        Answer::Here(Ok(added)) => Some(*added.value),
+        Answer::Here(Err(error)) => Some(*error.current),
+        Answer::Moved(_) | Answer::Unborn(_) => None,
+    }
+}
+
+/// The value that a computation put.
+pub fn value_computed<F: Drop>(answer: Answer<Computed<u64, F, Global>, F>) -> Option<u64>
+    ensures { (f : F) → answer ≡ Answer.Moved f → result ≡ None }
+{
+    match answer {
+        Answer::Here(Computed::Changed(value)) => Some(*value),
+        _ => None,
+    }
+}
+
+/// Whether the bin of a slot has moved. If not, its slot is as it was.
+pub fn move_bin(
+    slot: &mut Slot<u64, u64>,
+    low: &mut Slot<u64, u64>,
+    high: &mut Slot<u64, u64>,
+) -> bool
+    ensures { result ≡ false → slot.new ≡ slot.old }
+{
+    match slot.move_into(low, high) {
+        MoveAnswer::Done(_) | MoveAnswer::Already(_) => true,
+        MoveAnswer::Clash => false,
     }
 }

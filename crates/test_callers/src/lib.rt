@@ -1,5 +1,6 @@
 //! What a caller of the maps and sets gets with no proof file: where a function wants laws, its attribute names them.
-//! The examples in the doc comments of the library are bodies of functions that stand here, or impls.
+//! The examples in the doc comments of the library are bodies of functions that stand here, or impls; those of what `flurry` does not
+//! hand on stand in the crates of tests.
 #![tactic(auto)]
 
 ghost use Rattle.std.specs.Prelude.{◌≡◌, ◌≢◌, ◌+◌, ◌≤◌, ℕ, [], ◌∷◌, length, Some, None, OnOk, IfOk, is_some, String, string_bytes};

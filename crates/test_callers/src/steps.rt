@@ -1,9 +1,9 @@
 //! Callers of the control of a shared map, and of calls in steps.
-ghost use Rattle.std.specs.Prelude.{◌≡◌, true, Some, IfOk, min};
+ghost use Rattle.std.specs.Prelude.{◌≡◌, ℕ, true, Some, IfOk, IfSome, min, pos};
 
 use flurry::slots::ComputeFn;
-use flurry::steps::control::{Claim, Control, Room};
-use flurry::steps::party::{OwnedCall, Want};
+use flurry::steps::control::{Advice, BeginOutcome, Claim, Control, PublishedTable, Room, Tally};
+use flurry::steps::party::{Call, Ending, Event, OwnedCall, Rest, Want};
 use flurry::steps::{Cursor, Party, Sweep};
 use std::alloc::AllocError;
 
@@ -79,4 +79,98 @@ pub fn second_of_two() -> (u8, usize)
     let at = cursor.at();
     drop(cursor);
     at
+}
+
+/// The table that a control has published.
+pub fn published_by(control: &Control) -> Option<u8>
+    ensures { result ≡ control.now.published }
+{
+    let start: PublishedTable = control.start()?;
+    Some(start.table())
+}
+
+/// Counts a pair, and answers whether a growth wants the caller's help.
+pub fn count_one(control: &mut Control) -> bool
+    ensures { control.new.published ≡ control.old.published }
+{
+    match control.count(1) {
+        Advice::Enough => false,
+        Advice::Join | Advice::Begin => true,
+    }
+}
+
+/// A pair that is counted at a tally is counted once a control has collected it.
+pub fn count_at_tally(control: &mut Control) -> usize
+    ensures { control.new.published ≡ control.old.published }
+{
+    let mut tally = Tally::new();
+    tally.count(1);
+    control.collect(&mut tally);
+    control.len()
+}
+
+/// Whether a growth from a table has begun.
+pub fn begin_growth(control: &mut Control, table: u8) -> bool
+    ensures { control.new.published ≡ control.old.published }
+{
+    match control.begin(table, &mut Counted(0)) {
+        BeginOutcome::Begun => true,
+        BeginOutcome::Refused | BeginOutcome::Busy => false,
+    }
+}
+
+/// The first step of a call that borrows its key needs the same.
+pub fn first_want_of_borrowed<F: ComputeFn<u64, u64>>(key: &u64) -> Want
+    ensures { result ≡ Want.Control }
+{
+    let party: Party<'_, u64, u64, F> = Party::new(Call::ContainsKey(key), *key, 1);
+    let want = party.want();
+    drop(party);
+    want
+}
+
+/// The slot that a call wants.
+pub fn slot_wanted(want: Want) -> Option<(u8, usize)>
+    ensures { (table index : ℕ) → want ≡ Want.Move table index → result ≡ Some (table, index) }
+{
+    match want {
+        Want::Look(table, index) | Want::Bin(table, index) | Want::Move(table, index) => {
+            Some((table, index))
+        }
+        Want::Control | Want::Done => None,
+    }
+}
+
+/// The table that a step published.
+pub fn table_published(event: Event) -> Option<u8>
+    ensures { (table : ℕ) → event ≡ Event.Published table → result ≡ Some table }
+{
+    match event {
+        Event::Opened(table) | Event::Published(table) => Some(table),
+        _ => None,
+    }
+}
+
+/// By how much a call whose reply is known will change the count of pairs.
+pub fn owed_count(rest: Rest) -> i64
+    ensures { rest ≡ Rest.Count → result ≡ pos 1 }
+{
+    match rest {
+        Rest::Count | Rest::Grow(_) => 1,
+        Rest::Uncount => -1,
+        Rest::Nothing | Rest::Recount => 0,
+    }
+}
+
+/// The call that goes on, where its reply is known and it is not done.
+pub fn rest_of_call<'k, F: ComputeFn<u64, u64>>(
+    ending: Ending<u64, u64>,
+    hash: u64,
+) -> Option<Party<'k, u64, u64, F>>
+    ensures { IfSome result (λ party. party.hash ≡ hash) }
+{
+    match ending.into_reply() {
+        Ok(_reply) => None,
+        Err(ending) => Some(ending.into_party(hash, 1)),
+    }
 }

@@ -1,5 +1,5 @@
 //! Callers of a world, whose calls are done step by step.
-ghost use Rattle.std.specs.Prelude.{OnOk};
+ghost use Rattle.std.specs.Prelude.{◌≡◌, ℕ, Some, OnOk};
 ghost use Rattle.std.specs.Ordering.{nat_cmp};
 ghost use Rattle.flurry.specs.Lawful.{IsLawful};
 
@@ -7,7 +7,9 @@ use flurry::hash::{KeyHasher, LowHashBuilder};
 use flurry::steps::control::Room;
 use flurry::steps::party::{Event, Reply};
 use flurry::steps::{Field, Party, act};
-use flurry::world::{ComputeFn, NoFn, OwnedCall, Parts, Step, Tables, World, drive_alone};
+use flurry::world::{
+    Call, ComputeFn, Label, NoFn, OwnedCall, Parts, Seen, Step, Tables, World, drive_alone,
+};
 use std::alloc::{AllocError, Global};
 use std::sync::Wait;
 
@@ -65,4 +67,25 @@ pub fn next_step<F: ComputeFn<u64, u64>, X: Field<u64, u64, Global>>(
     field: &mut X,
 ) -> Option<Event> {
     act(party, field)
+}
+
+/// The party that decided at a label of a trace.
+pub fn who_decided(label: Label<u64, u64, NoFn>) -> Option<usize>
+    ensures { (p : ℕ) (r : KeptReply ℕ ℕ) → label ≡ Label.Decide p r → result ≡ Some p }
+{
+    match label {
+        Label::Decide(party, _) => Some(party),
+        _ => None,
+    }
+}
+
+/// The value that a call writes, or that it removes.
+pub fn value_in_call(call: Call<u64, u64, NoFn>) -> Option<u64>
+    ensures { (s : Seen ℕ ℕ) → call ≡ Call.RemoveSeen s → result ≡ Some s.value }
+{
+    match call {
+        Call::Insert(_, value) | Call::TryInsert(_, value) => Some(value),
+        Call::RemoveSeen(Seen { value, .. }) => Some(value),
+        _ => None,
+    }
 }

@@ -1,5 +1,6 @@
 //! The program over bytes in memory, and over streams that fail.
 
+mod lines;
 mod threads;
 mod waits;
 mod world;

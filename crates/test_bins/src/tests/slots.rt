@@ -6,7 +6,8 @@ ghost use Rattle.flurry_slots.specs.Slot.{LiesIn};
 use super::same;
 use flurry_bins::bin::Bin;
 use flurry_model::sizes::bin_index;
-use flurry_slots::{Answer, Computed, MoveAnswer, NoFn, Slot};
+use flurry_slots::clones::{Cloning, NoCloning};
+use flurry_slots::{Answer, Computed, MoveAnswer, NoFn, Receipt, Slot};
 use std::alloc::{AllocError, Global};
 
 // Why a step did not answer at a live bin.
@@ -298,4 +299,11 @@ fn the_ninth_entry_asks_for_growth(rt: HostRuntime) {
         Ok((Some(0), false)),
     );
     same(&rt, here(small.wipe()), Ok(12));
+}
+
+// So no two holders have the receipt of one move.
+#[test]
+fn a_receipt_cannot_be_cloned(rt: HostRuntime) {
+    same(&rt, Cloning::<u64>::is_there(), true);
+    same(&rt, Cloning::<Receipt>::is_there(), false);
 }
