@@ -34,11 +34,7 @@ fn insert(
 }
 
 // A bin of so many even keys, each its own value.
-fn bin_of(
-    memory: Memory,
-    count: u64,
-    bins: usize,
-) -> Result<Bin<u64, u64, Memory>, AllocError> {
+fn bin_of(memory: Memory, count: u64, bins: usize) -> Result<Bin<u64, u64, Memory>, AllocError> {
     let mut bin = Bin::new();
     for i in 0..count {
         let key = 2 * ((i * 7) % count);
@@ -85,7 +81,11 @@ fn refused(rt: &impl Abort, memory: Memory, count: u64, key: u64, k: u64) -> Res
     memory.refuse_nothing();
     if refused {
         same(rt, reply.is_err(), true);
-        same(rt, (bin.shape(), value_at(&bin, key), memory.blocks()), before);
+        same(
+            rt,
+            (bin.shape(), value_at(&bin, key), memory.blocks()),
+            before,
+        );
         for i in 0..count {
             same(rt, value_at(&bin, 2 * i), Some(2 * i));
         }
