@@ -8,7 +8,7 @@ use std::alloc::{Allocator, Global};
 /// A call of a shared map.
 ///
 /// ```
-/// let party: Party<'_, u64, u64, NoFn> = Party::new(Call::ContainsKey(key), *key, 1);
+/// let party: Party<'_, u64, u64, F> = Party::new(Call::ContainsKey(key), *key, 1);
 /// let want = party.want();
 /// drop(party);
 /// want
