@@ -1,3 +1,4 @@
+pub use Rattle.flurry_bins.specs.Chain
 pub use Rattle.flurry_model.specs.FiniteMap
 pub use Rattle.flurry_model.specs.FiniteSet
 pub use Rattle.flurry_model.specs.Hashing
@@ -5,6 +6,7 @@ pub use Rattle.flurry_model.specs.Keeping
 pub use Rattle.flurry_model.specs.OneKey
 pub use Rattle.flurry_model.specs.Sizes
 pub use Rattle.flurry_model.specs.TryInsert
+pub use Rattle.flurry_model.specs.declared.sizes.TheConstants
 pub use Rattle.flurry_pairs.specs.Clones
 pub use Rattle.flurry_pairs.specs.Doubles
 pub use Rattle.flurry_par.specs.Joins
@@ -16,12 +18,20 @@ pub use Rattle.flurry_recorded.specs.Marks
 pub use Rattle.flurry_recorded.specs.Shares
 pub use Rattle.flurry_seq.specs.Apart
 pub use Rattle.flurry_seq.specs.CallLists
+pub use Rattle.flurry_seq.specs.Callable
+pub use Rattle.flurry_seq.specs.Calls
 pub use Rattle.flurry_seq.specs.Contents
 pub use Rattle.flurry_seq.specs.Equality
 pub use Rattle.flurry_seq.specs.Growth
 pub use Rattle.flurry_seq.specs.HandedOut
+pub use Rattle.flurry_seq.specs.Invariant
 pub use Rattle.flurry_seq.specs.Iter
+pub use Rattle.flurry_seq.specs.MapsOfBins
+pub use Rattle.flurry_seq.specs.Numbers
 pub use Rattle.flurry_seq.specs.Retain
+pub use Rattle.flurry_seq.specs.Shapes
+pub use Rattle.flurry_seq.specs.Table
+pub use Rattle.flurry_set.specs.SetCalls
 pub use Rattle.flurry_set.specs.SetContents
 pub use Rattle.flurry_set.specs.SetRetain
 pub use Rattle.flurry_world.specs.Lawful

@@ -1,7 +1,8 @@
-//! What a caller says of `retain`, where its function is a test of the key and the value. It wants one answer, which names the test.
+//! Callers whose proofs want answers: `retain` with a function that is a test of the key and the value, where one answer names the
+//! test, and loops over all pairs.
 #![tactic(auto)]
 
-ghost use Rattle.std.specs.Prelude.{◌≡◌, ltb};
+ghost use Rattle.std.specs.Prelude.{◌≡◌, ◌≤◌, ◌<◌, ◌^◌, All, false, ltb, sum_by};
 ghost use Rattle.std.specs.List.{filter};
 
 use flurry::SeqMap;
@@ -11,4 +12,28 @@ pub fn keep_below(map: &mut SeqMap<u64, u64>, bound: u64)
     ensures { map.new.pairs ≡ filter (λ p. ltb p.1 bound) map.old.pairs }
 {
     map.retain(|_key: &u64, value: &u64| -> bool { *value < bound });
+}
+
+/// Whether a value is above a number.
+pub fn any_above(map: &SeqMap<u64, u64>, bound: u64) -> bool
+    ensures { result ≡ false → All (λ p. p.1 ≤ bound) map.now.pairs }
+{
+    for (_, value) in map.iter() {
+        if **value > bound {
+            return true;
+        }
+    }
+    false
+}
+
+/// The sum of the values.
+pub fn sum_of(map: &SeqMap<u64, u64>) -> u64
+    requires { sum_by (λ p. p.1) map.now.pairs < 2 ^ 64 }
+    ensures { result ≡ sum_by (λ p. p.1) map.now.pairs }
+{
+    let mut sum: u64 = 0;
+    for value in map.values() {
+        sum += **value;
+    }
+    sum
 }

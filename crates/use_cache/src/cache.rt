@@ -1,6 +1,6 @@
 //! A cache with a bound on its pairs. The key that was put first is forgotten first.
 
-ghost use Rattle.std.specs.Prelude.{◌≡◌, ◌≢◌, ◌≤◌, ◌<◌, ℕ, [], length, Some, None, IfOk, OnOk, OnErr};
+ghost use Rattle.std.specs.Prelude.{◌≡◌, ◌≢◌, ◌<◌, ℕ, [], length, Some, None, IfOk, OnOk, OnErr};
 ghost use Rattle.std.specs.Ordering.{nat_cmp};
 ghost use Rattle.flurry.specs.FiniteMap.{IsFiniteMap, value_at};
 ghost use Rattle.use_cache.specs.Cache.{Keeps};
@@ -44,14 +44,6 @@ impl Cache {
             order: VecDeque::new(alloc),
             bound,
         }
-    }
-
-    /// The number of pairs.
-    pub fn len(&self) -> usize
-        ensures pairs { result ≡ length self.now.pairs }
-        ensures bound { result ≤ self.now.bound }
-    {
-        self.map.len()
     }
 
     /// The value of a key.

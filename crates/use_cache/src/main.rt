@@ -1,9 +1,9 @@
-//! A cache of two pairs, as calls are made on it, and one that keeps three of ten.
+//! A cache of two pairs, as calls are made on it.
 #![tactic(auto)]
 
 mod cache;
 
-use cache::{Cache, Call, run};
+use cache::{Call, run};
 use std::io;
 
 fn main(rt: HostRuntime) -> io::Result<()> {
@@ -24,10 +24,5 @@ fn main(rt: HostRuntime) -> io::Result<()> {
             None => println!(rt; "none")?,
         }
     }
-
-    let mut tens = Cache::new(rt.alloc(), 3);
-    for number in 0..10u64 {
-        tens.put(number, 10 * number)?;
-    }
-    println!(rt; "{} of 10 are kept", tens.len())
+    Ok(())
 }

@@ -1,8 +1,8 @@
 -- What is kept.
 use Rattle.std.specs.Prelude.{◌≡◌, List, Some, String}
 use Rattle.std.specs.String.{string_cmp}
-use Rattle.flurry.specs.FiniteMap.{pair_at}
+use Rattle.flurry.specs.FiniteSet.{element_at}
 
 -- this very string is the one that is kept for its text
-abbrev pub IsKept : {Y : Type 0} → List (String Y × Unit {0}) → String Y → Type 0
-IsKept pairs text = pair_at string_cmp pairs text ≡ Some (text, tt)
+abbrev pub IsKept : {Y : Type 0} → List (String Y) → String Y → Type 0
+IsKept texts text = element_at string_cmp texts text ≡ Some text

@@ -10,7 +10,7 @@ use std::thread::Threads;
 use std::{io, thread};
 
 // How many sessions a thread opens, or touches.
-const EACH: u64 = 250;
+const EACH: u64 = 500;
 
 // What one thread does.
 #[derive(Clone, Copy)]
@@ -25,37 +25,24 @@ enum Work {
 
 // Does that, and counts the sessions that were new, or that were open when they were touched.
 fn do_work<R: Wait>(rt: &R, sessions: &Sessions, work: Work, count: &AtomicU64) {
-    let done = match work {
-        Work::Open(first) => open_all(rt, sessions, first),
-        Work::Touch(first) => touch_all(rt, sessions, first),
+    let (first, opens) = match work {
+        Work::Open(first) => (first, true),
+        Work::Touch(first) => (first, false),
         Work::Expire(time) => {
             let _ = sessions.expire(rt, time);
-            0
+            return;
         }
     };
-    count.fetch_add(done, Ordering::SeqCst);
-}
-
-// Opens sessions, and answers how many were new.
-fn open_all<R: Wait>(rt: &R, sessions: &Sessions, first: u64) -> u64 {
-    let mut opened = 0u64;
     for id in first..first.saturating_add(EACH) {
-        if let Ok(true) = sessions.open(rt, id, 1) {
-            opened = opened.saturating_add(1);
+        let is_done = if opens {
+            matches!(sessions.open(rt, id, 1), Ok(true))
+        } else {
+            matches!(sessions.touch(rt, id, 9), Ok(Some(_)))
+        };
+        if is_done {
+            count.fetch_add(1, Ordering::SeqCst);
         }
     }
-    opened
-}
-
-// Touches sessions, and answers how many were still open.
-fn touch_all<R: Wait>(rt: &R, sessions: &Sessions, first: u64) -> u64 {
-    let mut touched = 0u64;
-    for id in first..first.saturating_add(EACH) {
-        if let Ok(Some(_)) = sessions.touch(rt, id, 9) {
-            touched = touched.saturating_add(1);
-        }
-    }
-    touched
 }
 
 // Does each of these in a thread of its own, and answers what they have counted.
@@ -76,23 +63,12 @@ fn in_threads<R: Threads + Wait + Sync>(rt: &R, sessions: &Sessions, works: &[Wo
 
 fn main(rt: HostRuntime) -> io::Result<()> {
     let sessions = Sessions::new(rt.alloc(), 4);
-    let opens = [
-        Work::Open(0),
-        Work::Open(250),
-        Work::Open(500),
-        Work::Open(750),
-    ];
+    let opens = [Work::Open(0), Work::Open(500)];
     let opened = in_threads(&rt, &sessions, &opens);
     println!(rt; "opened: {opened}, open: {}", sessions.count(&rt))?;
 
     // Which sessions are touched before they can expire, hangs on the threads. That none of them expires then does not.
-    let works = [
-        Work::Touch(0),
-        Work::Touch(250),
-        Work::Expire(5),
-        Work::Touch(500),
-        Work::Touch(750),
-    ];
+    let works = [Work::Touch(0), Work::Expire(5), Work::Touch(500)];
     let touched = in_threads(&rt, &sessions, &works);
     let open = sessions.count(&rt) as u64;
     println!(rt; "touched and not open: {}", touched.saturating_sub(open))?;

@@ -1,0 +1,69 @@
+//! Callers of the owned map: what stays, exact lengths, and what was removed at keys of other types.
+ghost use Rattle.std.specs.Prelude.{◌≡◌, ◌≢◌, ◌+◌, ◌-◌, ◌≤◌, ℕ, length, None, OnOk, is_some, if◌then◌else◌, String, string_bytes, false};
+ghost use Rattle.std.specs.Global.{Global};
+ghost use Rattle.std.specs.Ordering.{is_eq, nat_cmp};
+ghost use Rattle.std.specs.String.{string_cmp};
+ghost use Rattle.flurry.specs.FiniteMap.{value_at};
+ghost use Rattle.flurry.specs.Invariant.{IsTableSize};
+ghost use Rattle.flurry.specs.TheConstants.{MOST_PAIRS};
+
+use flurry::SeqMap;
+use std::alloc::AllocError;
+use std::hash::Hash;
+
+type Map = SeqMap<u64, u64>;
+
+/// Other keys stay after a removal.
+#[tactic(auto, using(flurry::proofs::CallerLaws::map_calls))]
+pub fn drop_others(map: &mut Map, key: u64)
+    ensures { (q : ℕ) → q ≢ key → value_at nat_cmp map.new.pairs q ≡ value_at nat_cmp map.old.pairs q }
+{
+    let _ = map.remove(&key);
+}
+
+/// The exact number after an insertion.
+#[tactic(auto, using(flurry::proofs::CallerLaws::map_calls))]
+pub fn put_exact_len(map: &mut Map, key: u64, value: u64) -> Result<(), AllocError>
+    ensures { let n = length map.old.pairs in let is_there = is_some (value_at nat_cmp map.old.pairs key) in
+        OnOk result (length map.new.pairs ≡ (if is_there then n else n + 1)) }
+{
+    map.insert(key, value)?;
+    Ok(())
+}
+
+/// The exact number after a removal.
+#[tactic(auto, using(flurry::proofs::CallerLaws::map_calls))]
+pub fn drop_exact_len(map: &mut Map, key: u64) -> bool
+    ensures { let n = length map.old.pairs in length map.new.pairs ≡ (if result then n - 1 else n) }
+{
+    map.remove(&key).is_some()
+}
+
+/// At any key type, what was removed is gone.
+#[tactic(auto, using(flurry::proofs::CallerLaws::any_calls))]
+pub fn drop_any<K: Hash + Ord + Drop, V: Drop>(map: &mut SeqMap<K, V>, key: &K)
+    ensures gone { value_at K.cmp map.new.pairs key.now ≡ None }
+    ensures others { (q : K) → is_eq (K.cmp q key.now) ≡ false
+        → value_at K.cmp map.new.pairs q ≡ value_at K.cmp map.old.pairs q }
+    ensures fewer { length map.new.pairs ≤ length map.old.pairs }
+{
+    let _ = map.remove(key);
+}
+
+/// At text keys, what was removed is gone.
+#[tactic(auto, using(flurry::proofs::CallerLaws::text_calls))]
+pub fn drop_text(map: &mut SeqMap<String, u64>, key: &String)
+    ensures gone { value_at string_cmp map.new.pairs key.now ≡ None }
+    ensures others { (q : String Global) → string_bytes q ≢ string_bytes key.now
+        → value_at string_cmp map.new.pairs q ≡ value_at string_cmp map.old.pairs q }
+{
+    let _ = map.remove(key);
+}
+
+/// The number of pairs has a bound, and the number of bins is one that a table can have.
+pub fn pairs_and_bins(map: &Map) -> (usize, usize)
+    ensures pairs { result.0 ≤ MOST_PAIRS }
+    ensures bins { IsTableSize result.1 }
+{
+    (map.len(), map.capacity())
+}
