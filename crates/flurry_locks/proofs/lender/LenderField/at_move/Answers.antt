@@ -8,3 +8,6 @@ returns g c = record {
   lent = refl;
   step = (search (rules, c.requires, c.ne.ensures, c.if-ne.false, c.at.ensures.at), c.on_move.ensures.within, c.on_move.ensures.step);
 }
+
+pub on_move-requires : goal.on_move-requires
+on_move-requires g c = search rules
