@@ -1,5 +1,5 @@
 //! Callers of the owned map: what stays, exact lengths, and what was removed at keys of other types.
-ghost use Rattle.std.specs.Prelude.{◌≡◌, ◌≢◌, ◌+◌, ◌-◌, ◌≤◌, ℕ, length, None, OnOk, is_some, if◌then◌else◌, String, string_bytes, false};
+ghost use Rattle.std.specs.Prelude.{◌≡◌, ◌≢◌, ◌+◌, ◌≤◌, ℕ, length, None, OnOk, is_some, if◌then◌else◌, String, string_bytes, false};
 ghost use Rattle.std.specs.Global.{Global};
 ghost use Rattle.std.specs.Ordering.{is_eq, nat_cmp};
 ghost use Rattle.std.specs.String.{string_cmp};
@@ -34,7 +34,7 @@ pub fn put_exact_len(map: &mut Map, key: u64, value: u64) -> Result<(), AllocErr
 /// The exact number after a removal.
 #[tactic(auto, using(flurry::proofs::CallerLaws::map_calls))]
 pub fn drop_exact_len(map: &mut Map, key: u64) -> bool
-    ensures { let n = length map.old.pairs in length map.new.pairs ≡ (if result then n - 1 else n) }
+    ensures { let n = length map.new.pairs in length map.old.pairs ≡ (if result then n + 1 else n) }
 {
     map.remove(&key).is_some()
 }
