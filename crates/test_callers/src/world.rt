@@ -71,7 +71,7 @@ pub fn next_step<F: ComputeFn<u64, u64>, X: Field<u64, u64, Global>>(
 
 /// The party that decided at a label of a trace.
 pub fn who_decided(label: Label<u64, u64, NoFn>) -> Option<usize>
-    ensures { (p : ℕ) (r : KeptReply ℕ ℕ) → label ≡ Label.Decide p r → result ≡ Some p }
+    ensures { (p : ℕ) (r : _) → label ≡ Label.Decide p r → result ≡ Some p }
 {
     match label {
         Label::Decide(party, _) => Some(party),
