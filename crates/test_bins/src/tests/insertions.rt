@@ -37,7 +37,7 @@ fn insert(
 fn bin_of(memory: Memory, count: u64, bins: usize) -> Result<Bin<u64, u64, Memory>, AllocError> {
     let mut bin = Bin::new();
     for i in 0..count {
-        let key = 2 * ((i * 7) % count);
+        let key = (i.wrapping_mul(7) % count).wrapping_mul(2);
         insert(&mut bin, memory, key, key, bins)?;
     }
     Ok(bin)
@@ -87,7 +87,8 @@ fn refused(rt: &impl Abort, memory: Memory, count: u64, key: u64, k: u64) -> Res
             before,
         );
         for i in 0..count {
-            same(rt, value_at(&bin, 2 * i), Some(2 * i));
+            let even = i.wrapping_mul(2);
+            same(rt, value_at(&bin, even), Some(even));
         }
     } else {
         same(rt, reply.ok(), Some((before.1, false)));
