@@ -1,13 +1,19 @@
 //! Callers of the map and the set that threads share.
-ghost use Rattle.std.specs.Prelude.{◌≡◌, ◌≤◌, true, false, Ok, IfOk, IfErr, IfSome};
+ghost use Rattle.std.specs.Prelude.{◌≡◌, ◌≤◌, ℕ, true, false, Ok, IfOk, IfErr, IfSome};
 ghost use Rattle.std.specs.Ordering.{nat_cmp};
+ghost use Rattle.std.specs.Global.{Global};
+ghost use Rattle.flurry.specs.Driven.{IsDriven, no_changes};
 ghost use Rattle.flurry.specs.FiniteMap.{IsFiniteMap};
+ghost use Rattle.flurry.specs.Maker.{Maker};
+ghost use Rattle.flurry.specs.Party.{TheValue, Finds, AtLocate};
+ghost use Rattle.flurry.specs.Results.{value_outcome};
 
+use flurry::hash::KeyHasher;
 use flurry::iter::Iter;
 use flurry::pairs::{self, SortedPairs};
 use flurry::{HashMap, HashSet, SeqMap};
 use std::alloc::{AllocError, Global};
-use std::sync::Wait;
+use std::sync::{Arc, Wait};
 
 type Shared = HashMap<u64, u64>;
 
@@ -49,6 +55,18 @@ pub fn lower<R: Wait>(rt: &R, map: &Shared, key: u64, limit: u64) -> Result<Opti
 pub fn take<R: Wait>(rt: &R, map: &Shared, key: u64) -> bool {
     let view = map.pin(rt);
     view.remove(&key).is_some() && !view.contains_key(&key)
+}
+
+/// What a look-up finds is what its steps lead to.
+pub fn look_up<S: KeyHasher<u64>, R: Wait>(
+    rt: &R,
+    map: &HashMap<u64, u64, S>,
+    key: u64,
+) -> Result<Option<Arc<u64>>, AllocError>
+    ensures { IsDriven (Maker ℕ ℕ Global) nat_cmp no_changes map.now (S.hash_of map.now.hasher key)
+        (AtLocate (Finds TheValue key)) (value_outcome result) }
+{
+    map.get(rt, &key)
 }
 
 /// A value, and 0 where there is none. Which value a shared map finds, no contract tells.
