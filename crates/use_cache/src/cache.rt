@@ -1,6 +1,6 @@
 //! A cache with a bound on its pairs. The key that was put first is forgotten first.
 
-ghost use Rattle.std.specs.Prelude.{◌≡◌, ◌≢◌, ◌<◌, ℕ, [], length, Some, None, IfOk, OnOk, OnErr};
+ghost use Rattle.std.specs.Prelude.{◌≡◌, ◌≢◌, ◌≤◌, ◌<◌, ℕ, [], length, Some, None, IfOk, OnOk, OnErr};
 ghost use Rattle.std.specs.Ordering.{nat_cmp};
 ghost use Rattle.flurry.specs.FiniteMap.{IsFiniteMap, value_at};
 ghost use Rattle.use_cache.specs.Cache.{Keeps};
@@ -60,6 +60,7 @@ impl Cache {
         ensures others { (q : ℕ) → q ≢ key → Keeps (value_at nat_cmp self.old.pairs q) (value_at nat_cmp self.new.pairs q) }
         ensures err { OnErr result (Keeps (value_at nat_cmp self.old.pairs key) (value_at nat_cmp self.new.pairs key)) }
         ensures bound { self.new.bound ≡ self.old.bound }
+        ensures room { length self.new.pairs ≤ self.new.bound }
     {
         if !self.map.contains_key(&key) {
             make_room(&mut self.map, &mut self.order, self.bound);
