@@ -64,7 +64,7 @@ pub short_of_bin : {K V A : Type 0} {o : _} {e : _} {p : _} (b : Bin K V A o e p
 unfolding entries_of_bin
 short_of_bin b = kind_short b.kind
 
--- a tree has at least 7 nodes, and a list at most 9
+-- a tree has at least `LEAST_IN_TREE` nodes, and a list at most `MOST_IN_LIST`
 pub sized_of_bin : {K V A : Type 0} {o : _} {e : _} {p : _} (b : Bin K V A o e p) → IsSized (is_tree b) (length (entries_of_bin b))
 unfolding entries_of_bin is_tree
 sized_of_bin b = b.sized

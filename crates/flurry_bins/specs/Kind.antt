@@ -13,7 +13,7 @@ use Rattle.flurry_bins.specs.WayBound.{way_bound, way_within}
 use Rattle.std.specs.declared.cmp.Ordering.{Ordering}
 use Rattle.std.proofs.Common.{arith, refl}
 use Rattle.flurry_model.proofs.ListParts.{sorted_cons, sorted_nil}
-use Rattle.flurry_model.specs.declared.sizes.TheConstants.{MOST_PAIRS}
+use Rattle.flurry_model.specs.declared.sizes.TheConstants.{MOST_PAIRS, MOST_IN_LIST}
 
 abbrev pub kind_entries : {K V A : Type 0} {o : _} {e : _} {p : _} → Kind K V A o e p → List (Entry K V A)
 kind_entries Empty = []
@@ -52,11 +52,11 @@ kind_short (One n) = omega arith
 kind_short (AsList l) = short_list l.counted l.short
 kind_short (AsTree t) = short_list t.counted t.short
 
-pub nine_within : {n m : ℕ} → n ≤ m → m ≤ 9 → n ≤ way_bound m
-nine_within h k = omega arith
+pub list_within : {n m : ℕ} → n ≤ m → m ≤ MOST_IN_LIST → n ≤ way_bound m
+list_within h k = omega arith
 
 pub kind_way-bounded : {K V A : Type 0} {o : _} {e : _} {p : _} (cmp : K → K → Ordering) (h : ℕ) (k : K) (b : Kind K V A o e p) → IsSized (kind_is_tree b) (length (kind_entries b)) → length (kind_way cmp h k b) ≤ way_bound (length (kind_entries b))
 kind_way-bounded cmp h k Empty s = omega arith
-kind_way-bounded cmp h k (One n) s = nine_within (omega arith) s
-kind_way-bounded cmp h k (AsList l) s = nine_within (list_way-short cmp h k (node_chain l.head.value)) s
+kind_way-bounded cmp h k (One n) s = list_within (omega arith) s
+kind_way-bounded cmp h k (AsList l) s = list_within (list_way-short cmp h k (node_chain l.head.value)) s
 kind_way-bounded cmp h k (AsTree t) s = way_within cmp h k (node_shape t.root.value) t.balanced

@@ -28,9 +28,7 @@ hash_in hash (call.RemoveSeen z) = hash z.key
 hash_in hash (call.Insert k v) = hash k
 hash_in hash (call.TryInsert k v) = hash k
 hash_in hash (call.Compute k f) = hash k.now
-hash_in hash (call.Reserve a) = 0
-hash_in hash call.Clear = 0
-hash_in hash call.Walk = 0
+hash_in hash _ = 0
 
 -- the reply of the call that begins at that stage, over a shared map
 abbrev pub IsDriven : (M : Type 0) → {K V F S : Type 0} → (K → K → Ordering) → (F → K → V → Option V → Type 0) → Shared S → ℕ → Stage K V F → Outcome K V → Type 0

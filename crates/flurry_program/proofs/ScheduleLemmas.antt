@@ -17,7 +17,7 @@ use Rattle.flurry_world.specs.declared.world.Step as world
 use Rattle.flurry_world.specs.declared.world.Step.TheVariants as step
 use Rattle.flurry_program.specs.Endings.{out_of_memory_text}
 use Rattle.flurry_program.specs.Labels.{label_text}
-use Rattle.flurry_program.specs.Runs.{Answered}
+use Rattle.flurry_program.specs.Runs.{IsAnswered}
 use Rattle.flurry_program.specs.ScheduleRuns.{labels_text, drop_text, Tells, AnswersDrop, AnswersSteps, of_a_world}
 use Rattle.flurry_program.specs.declared.schedule.Line.TheVariants as line
 
@@ -84,9 +84,9 @@ module _ {F S : Type 0} where
         ([], ([], [], step.Begin c, refl, same), rw same (tells_none w), is, written)
 
     -- a removal of what was read began, or there was none, or memory was wanting for it: the line is answered so
-    pub drop_answers : (p n : ℕ) (w v : WorldState ℕ ℕ F S) (held holds : Option (List ℕ)) (r : Option ℕ) → AnswersDrop changes p w v held holds r → Answered (of_a_world changes) (line.Drop p) (Some w) (Some v) n held holds r
+    pub drop_answers : (p n : ℕ) (w v : WorldState ℕ ℕ F S) (held holds : Option (List ℕ)) (r : Option ℕ) → AnswersDrop changes p w v held holds r → IsAnswered (of_a_world changes) (line.Drop p) (Some w) (Some v) n held holds r
     drop_answers p n w v held holds None d = (drop_text d.0, (d.0, v, d.1, refl, refl), d.2)
     drop_answers p n w v held holds (Some status) d = (out_of_memory_text, (w, [], ([], [], step.Drop p, refl, refl), tells_none w, (refl, d.1)), d.2)
 
-    pub drop_line : {E : Type 0} (p n : ℕ) (w v : WorldState ℕ ℕ F S) (held holds : Option (List ℕ)) (r : Result (Option ℕ) E) → IfOk r (AnswersDrop changes p w v held holds) → IfOk r (Answered (of_a_world changes) (line.Drop p) (Some w) (Some v) n held holds)
-    drop_line p n w v held holds r d = IfOk-weaker r (AnswersDrop changes p w v held holds) (Answered (of_a_world changes) (line.Drop p) (Some w) (Some v) n held holds) (drop_answers p n w v held holds) d
+    pub drop_line : {E : Type 0} (p n : ℕ) (w v : WorldState ℕ ℕ F S) (held holds : Option (List ℕ)) (r : Result (Option ℕ) E) → IfOk r (AnswersDrop changes p w v held holds) → IfOk r (IsAnswered (of_a_world changes) (line.Drop p) (Some w) (Some v) n held holds)
+    drop_line p n w v held holds r d = IfOk-weaker r (AnswersDrop changes p w v held holds) (IsAnswered (of_a_world changes) (line.Drop p) (Some w) (Some v) n held holds) (drop_answers p n w v held holds) d

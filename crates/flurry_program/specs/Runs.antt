@@ -59,9 +59,9 @@ module _ {M C : Type 0} (s : Script M C) where
   RefusesLine m n line held holds status = (out : List ℕ) × EndsAtLine m n line out status × Appends held holds out
 
   -- the command is answered as the line n, and what it writes is written: the run goes on, or ends with a status
-  abbrev pub Answered : C → M → M → ℕ → Option (List ℕ) → Option (List ℕ) → Option ℕ → Type 0
-  Answered c m after n held holds None = (printed : List ℕ) × s.Does c m printed after × Appends held holds printed
-  Answered c m after n held holds (Some status) = (out : List ℕ) × s.Stops c m n out status × Appends held holds out
+  abbrev pub IsAnswered : C → M → M → ℕ → Option (List ℕ) → Option (List ℕ) → Option ℕ → Type 0
+  IsAnswered c m after n held holds None = (printed : List ℕ) × s.Does c m printed after × Appends held holds printed
+  IsAnswered c m after n held holds (Some status) = (out : List ℕ) × s.Stops c m n out status × Appends held holds out
 
   -- from what is kept and the line n on, an input was read up to some bytes that are left, and what was written is what the run writes
   -- first: it goes on from what it keeps after, and from the line n'. Each line took a byte at least

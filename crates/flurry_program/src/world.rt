@@ -5,7 +5,7 @@ ghost use Rattle.flurry_steps.specs.PartyView.{OwnedIsReady};
 ghost use Rattle.flurry_theory.specs.declared.Label.{Label};
 ghost use Rattle.flurry_world.specs.declared.world.Step.TheVariants as step;
 ghost use Rattle.flurry_program.specs.Labels.{label_text};
-ghost use Rattle.flurry_program.specs.Runs.{Answered, RunsLines, FailsForCause};
+ghost use Rattle.flurry_program.specs.Runs.{IsAnswered, RunsLines, FailsForCause};
 ghost use Rattle.flurry_program.specs.ScheduleRuns.{of_a_schedule, of_a_world, AnswersDrop, AnswersSteps};
 ghost use Rattle.flurry_program.specs.declared.schedule.Line.{Line};
 ghost use Rattle.flurry_program.specs.Lengths.{short_line};
@@ -128,7 +128,7 @@ fn answer<F: ComputeFn<u64, u64> + Copy, W: Sink, A: Allocator + Copy>(
     ensures failed { OnErr result (IsTrue (W.has_failed writer.new)) }
     ensures status { IfOk result (λ ended. IfSome ended (λ status. (2 ≤ status) × (status ≤ 3))) }
     ensures answer { IfOk result
-        (Answered (of_a_world F.changes) line world.old world.new number (W.contents writer.old)
+        (IsAnswered (of_a_world F.changes) line world.old world.new number (W.contents writer.old)
         (W.contents writer.new)) }
 {
     match world {
@@ -149,7 +149,7 @@ fn make_world<F: ComputeFn<u64, u64> + Copy, W: Sink, A: Allocator + Copy>(
     ensures failed { OnErr result (IsTrue (W.has_failed writer.new)) }
     ensures status { IfOk result (λ ended. IfSome ended (λ status. (2 ≤ status) × (status ≤ 3))) }
     ensures answer { IfOk result
-        (Answered (of_a_world F.changes) line None world.new number (W.contents writer.old) (W.contents writer.new)) }
+        (IsAnswered (of_a_world F.changes) line None world.new number (W.contents writer.old) (W.contents writer.new)) }
 {
     match line {
         Line::World(processors, capacity) => {
@@ -180,7 +180,7 @@ fn answer_in<F: ComputeFn<u64, u64> + Copy, W: Sink, A: Allocator + Copy>(
     ensures failed { OnErr result (IsTrue (W.has_failed writer.new)) }
     ensures status { IfOk result (λ ended. IfSome ended (λ status. (2 ≤ status) × (status ≤ 3))) }
     ensures answer { IfOk result
-        (Answered (of_a_world F.changes) line (Some world.old) (Some world.new) number (W.contents writer.old)
+        (IsAnswered (of_a_world F.changes) line (Some world.old) (Some world.new) number (W.contents writer.old)
         (W.contents writer.new)) }
 {
     match line {

@@ -1,16 +1,17 @@
 -- How many bins a table may have after keys were put.
-use Rattle.std.specs.Prelude.{◌≡◌, ℕ, ◌+◌, ◌^◌, ◌<◌, ◌≤◌, ◌⊎◌, ◌==◌, if◌then◌else◌}
+use Rattle.std.specs.Prelude.{◌≡◌, ℕ, ◌+◌, ◌*◌, ◌^◌, ◌<◌, ◌≤◌, ◌⊎◌, ◌==◌, if◌then◌else◌}
 use Rattle.flurry_model.specs.Sizes.{wanted_of, threshold_of, IsOnTheWay}
-use Rattle.flurry_model.specs.declared.sizes.TheConstants.{GREATEST_TABLE}
+use Rattle.flurry_model.specs.declared.sizes.TheConstants.{GREATEST_TABLE, LONG_LIST, LEAST_FOR_TREES}
 
 -- the bins that a table has which is made for so many pairs; none for none
 abbrev pub bins_for : ℕ → ℕ
 bins_for count = if count == 0 then 0 else wanted_of count
 
--- what a table that began with n bins may be where the count gives no cause to double it: it has these bins still. Or n is below 64
--- and there are more than eight pairs, as where a bin has nine: then n was doubled some times, while it was too few for 128
+-- what a table that began with n bins may be where the count gives no cause to double it: it has these bins still. Or it had too few
+-- for a tree, and there are more pairs than a long list has, as where a bin has: then n was doubled some times, on the way to twice the
+-- least for trees
 abbrev pub IsTableFrom : ℕ → ℕ → ℕ → Type 0
-IsTableFrom n count m = (m ≡ n) ⊎ ((n < 64) × (8 < count) × IsOnTheWay n 128 m)
+IsTableFrom n count m = (m ≡ n) ⊎ ((n < LEAST_FOR_TREES) × (LONG_LIST < count) × IsOnTheWay n (2 * LEAST_FOR_TREES) m)
 
 -- what a table of n bins may be once a new key made so many pairs: first the key's bin may have had it doubled so, and then the
 -- count, while it was no less than the threshold

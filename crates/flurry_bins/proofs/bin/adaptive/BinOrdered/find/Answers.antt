@@ -8,7 +8,7 @@ use Rattle.flurry_bins.proofs.bin.adaptive.BinOrdered.find.Given
 use Rattle.flurry_bins.specs.Tree.{node_shape}
 use Rattle.flurry_bins.specs.Short.{list_way-short}
 use Rattle.flurry_bins.specs.WayBound.{way_within}
-use Rattle.flurry_bins.specs.Kind.{nine_within}
+use Rattle.flurry_bins.specs.Kind.{list_within}
 use Rattle.flurry_bins.specs.Bin.{entries_of_bin, is_tree, bin_way}
 use Rattle.flurry_bins.proofs.bin.adaptive.BinOrdered.find.Goals as goal
 
@@ -17,7 +17,7 @@ unfolding entries_of_bin is_tree bin_way
 returns-in-AsList-clause-bounded g c =
     let list = c.in-AsList.list in
     let few : length (node_chain list.head.value) ≤ 9 = rw c.in-AsList.is at c.args.self.now.sized in
-    rw (c.find_in-in-AsList.ensures.visits, c.as_ref-in-AsList.ensures, c.in-AsList.is) (nine_within (list_way-short g.K.Ord.cmp c.args.hash c.args.key.now (node_chain list.head.value)) few)
+    rw (c.find_in-in-AsList.ensures.visits, c.as_ref-in-AsList.ensures, c.in-AsList.is) (list_within (list_way-short g.K.Ord.cmp c.args.hash c.args.key.now (node_chain list.head.value)) few)
 
 pub returns-in-AsTree-clause-bounded : goal.returns-in-AsTree-clause-bounded
 unfolding entries_of_bin is_tree bin_way
@@ -50,4 +50,4 @@ returns-else-lone-hash-clause-visits g c = rw c.in-One.is (visited g c)
 
 pub returns-else-lone-hash-clause-bounded : goal.returns-else-lone-hash-clause-bounded
 unfolding entries_of_bin
-returns-else-lone-hash-clause-bounded g c = rw c.in-One.is (nine_within {m = 1} (omega (arith, visited g c)) (omega arith))
+returns-else-lone-hash-clause-bounded g c = rw c.in-One.is (list_within {m = 1} (omega (arith, visited g c)) (omega arith))
