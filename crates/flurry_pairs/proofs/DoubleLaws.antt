@@ -11,7 +11,7 @@ use Rattle.flurry_model.specs.FiniteMap.{IsFiniteMap, pair_at, with_pair, map_of
 use Rattle.flurry_model.proofs.FiniteMapLaws.{IsFiniteMap-map_of_pairs, pair_at_below, pair_at-map_of_pairs, same_map, without_none}
 use Rattle.flurry_model.proofs.OptionLaws.{absent_is}
 use Rattle.flurry_seq.specs.Apart.{AreApart}
-use Rattle.flurry_seq.proofs.IterLemmas.{gathered_permutes}
+use Rattle.flurry_seq.proofs.IterLaws.{gathered_permutes}
 
 module _ {K V : Type 0} (cmp : K → K → Ordering) where
   found_any : (ps : List (K × V)) (k : K) → is_some (pair_at cmp ps k) ≡ list_any (λ p. is_eq (cmp k p.0)) ps

@@ -7,7 +7,7 @@ use Rattle.flurry_model.specs.FiniteMap.{IsFiniteMap, with_pair, with_all}
 use Rattle.flurry_model.specs.FiniteSet.{IsFiniteSet, with_element, with_elements}
 use Rattle.flurry_model.proofs.FiniteMapLaws.{IsFiniteMap-nil}
 use Rattle.flurry_seq.specs.Apart.{AreApart}
-use Rattle.flurry_set.proofs.SetLemmas.{with_element-keys}
+use Rattle.flurry_set.proofs.SetLaws.{with_element-keys}
 use Rattle.flurry_par.specs.Joins.{with_unit}
 use Rattle.flurry_par.proofs.Joining.{IsFiniteMap-with_all, map_apart, with_all-permuted, with_all-with_all}
 

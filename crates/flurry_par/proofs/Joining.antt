@@ -14,7 +14,7 @@ use Rattle.flurry_model.proofs.FiniteMapLaws.{IsFiniteMap-nil, IsFiniteMap-with_
 use Rattle.flurry_model.proofs.ListParts.{all_map}
 use Rattle.flurry_par.specs.Joins.{with_maps}
 use Rattle.flurry_seq.specs.Apart.{AreApart}
-use Rattle.flurry_seq.proofs.CloneLemmas.{alike_at}
+use Rattle.flurry_seq.proofs.CloneLaws.{alike_at}
 
 eq_of : (r : Ordering) → is_eq r ≡ true → r ≡ Equal
 eq_of Less e = cc

@@ -16,7 +16,7 @@ use Rattle.flurry_seq.specs.Retain.{CalledAtPlain, KeepsBins}
 use Rattle.flurry_seq.specs.MapsOfBins.{plain_bin, maps_of_bins}
 use Rattle.flurry_seq.specs.Table.{pair_of, all_pairs, bin_of}
 use Rattle.flurry_seq.specs.Invariant.{IsBinAt, AreBinsFrom, IsTable}
-use Rattle.flurry_seq.proofs.IterLemmas.{pairs_permute}
+use Rattle.flurry_seq.proofs.IterLaws.{pairs_permute}
 
 -- how many entries the first n bins have
 abbrev pub front_len : {X : Type 0} → ℕ → List (List X) → ℕ

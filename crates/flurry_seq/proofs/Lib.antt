@@ -1,10 +1,10 @@
 pub mod CallLemmas
-pub mod CloneLemmas
+pub mod CloneLaws
 pub mod Crossing
 pub mod EqualityLemmas
 pub mod GrowthLemmas
 pub mod HalvingLemmas
-pub mod IterLemmas
+pub mod IterLaws
 pub mod KeepingLemmas
 pub mod RemainingLemmas
 pub mod ListLaws

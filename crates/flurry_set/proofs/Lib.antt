@@ -1,1 +1,1 @@
-pub mod SetLemmas
+pub mod SetLaws

@@ -3,7 +3,7 @@ use Rattle.std.specs.List.Sorted.{IsPermutation}
 use Rattle.std.proofs.lemmas.Result.{on_ok_weaker, on_err_weaker}
 use Rattle.flurry_model.specs.FiniteMap.{with_all}
 use Rattle.flurry_seq.specs.MapsOfBins.{maps_of_bins}
-use Rattle.flurry_seq.proofs.IterLemmas.{all_apart}
+use Rattle.flurry_seq.proofs.IterLaws.{all_apart}
 use Rattle.flurry_par.specs.Joins.{pairs_of_bins}
 use Rattle.flurry_par.proofs.Joining.{map_apart, with_all-permuted}
 use Rattle.flurry_par.proofs.map.join.Goals as goal

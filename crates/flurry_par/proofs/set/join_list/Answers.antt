@@ -5,7 +5,7 @@ use Rattle.flurry_bins.specs.Bin.{entries_of_list}
 use Rattle.flurry_bins.specs.Chain.{entry_of}
 use Rattle.flurry_model.specs.FiniteSet.{with_element}
 use Rattle.flurry_seq.proofs.RunLaws.{on_err}
-use Rattle.flurry_set.proofs.SetLemmas.{with_elements-push}
+use Rattle.flurry_set.proofs.SetLaws.{with_elements-push}
 use Rattle.flurry_par.specs.Joins.{pairs_in}
 use Rattle.flurry_par.proofs.set.join_list.Goals as goal
 

@@ -6,7 +6,7 @@ use Rattle.std.proofs.lemmas.Result.{on_ok_weaker, on_err_weaker}
 use Rattle.flurry_model.specs.FiniteMap.{with_all}
 use Rattle.flurry_model.specs.FiniteSet.{with_elements}
 use Rattle.flurry_seq.specs.MapsOfBins.{maps_of_bins}
-use Rattle.flurry_seq.proofs.IterLemmas.{all_apart}
+use Rattle.flurry_seq.proofs.IterLaws.{all_apart}
 use Rattle.flurry_seq.proofs.RunLaws.{on_err}
 use Rattle.flurry_par.specs.Joins.{pairs_of_bins}
 use Rattle.flurry_par.proofs.Elements.{with_elements-built, elements_built}

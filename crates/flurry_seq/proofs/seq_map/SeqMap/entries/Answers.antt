@@ -3,7 +3,7 @@ use Rattle.std.proofs.lemmas.List.{length-map}
 use Rattle.std.proofs.lemmas.List.Sorted.{length_permutation}
 use Rattle.flurry_model.specs.FiniteMap.{map_of_pairs}
 use Rattle.flurry_seq.specs.Table.{pair_of, all_pairs, all_entries}
-use Rattle.flurry_seq.proofs.IterLemmas.{pairs_permute, all_apart}
+use Rattle.flurry_seq.proofs.IterLaws.{pairs_permute, all_apart}
 use Rattle.flurry_seq.proofs.RemainingLemmas.{all_pairs-of_entries, all_hashed}
 use Rattle.flurry_seq.proofs.seq_map.SeqMap.entries.Goals as goal
 

@@ -6,7 +6,7 @@ use Rattle.flurry_model.specs.FiniteMap.{map_of_pairs, pair_at, with_pair}
 use Rattle.flurry_seq.specs.Table.{all_pairs, entry_in}
 use Rattle.flurry_seq.proofs.TableLemmas.{map_of_pairs-with}
 use Rattle.flurry_seq.proofs.GrowthLemmas.{IsTable-added, entry_absent, first_some}
-use Rattle.flurry_seq.proofs.IterLemmas.{bin_short}
+use Rattle.flurry_seq.proofs.IterLaws.{bin_short}
 use Rattle.flurry_seq.proofs.seq_map.SeqMap.put.Goals as goal
 use Rattle.flurry_model.specs.declared.sizes.TheConstants.{FIRST_BINS, MOST_PAIRS}
 

@@ -4,7 +4,7 @@ use Rattle.flurry_model.proofs.FiniteMapLaws.{length-with_pair}
 use Rattle.flurry_seq.specs.Growth.{bins_for}
 use Rattle.flurry_seq.proofs.RoomLaws.{one_more, room_for, room_more}
 use Rattle.flurry_bins.specs.PlainEntries.{pair_of_entry}
-use Rattle.flurry_seq.proofs.CloneLemmas.{rest_first, rest_next}
+use Rattle.flurry_seq.proofs.CloneLaws.{rest_first, rest_next}
 use Rattle.flurry_seq.proofs.seq_map.SeqMap.try_clone.Goals as goal
 
 pub loop-entry-init : goal.loop-entry-init

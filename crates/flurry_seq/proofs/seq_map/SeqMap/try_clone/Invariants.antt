@@ -1,6 +1,6 @@
 use Rattle.std.proofs.Common.{◌≡◌, ◌+◌, ◌≤◌, length}
 use Rattle.flurry_seq.specs.Growth.{bins_for, IsTableFrom}
-use Rattle.flurry_seq.proofs.CloneLemmas.{IsRest}
+use Rattle.flurry_seq.proofs.CloneLaws.{IsRest}
 use Rattle.flurry_seq.proofs.seq_map.SeqMap.try_clone.Given as goal
 
 abbrev pub invariant-loop-entry : goal.invariant-loop-entry

@@ -1,5 +1,5 @@
 use Rattle.std.proofs.Common.{sym, ◌∙◌}
-use Rattle.flurry_set.proofs.SetLemmas.{has_element-keys}
+use Rattle.flurry_set.proofs.SetLaws.{has_element-keys}
 use Rattle.flurry_set.proofs.seq_set.SeqSet.contains.Goals as goal
 
 pub returns-clause-found : goal.returns-clause-found

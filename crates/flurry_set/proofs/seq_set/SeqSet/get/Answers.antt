@@ -1,5 +1,5 @@
 use Rattle.std.proofs.Common.{option_map, sym, ap, ◌∙◌}
-use Rattle.flurry_set.proofs.SetLemmas.{element_at-keys}
+use Rattle.flurry_set.proofs.SetLaws.{element_at-keys}
 use Rattle.flurry_set.proofs.seq_set.SeqSet.get.Goals as goal
 
 pub returns-in_err-stored-clause-element : goal.returns-in_err-stored-clause-element

@@ -1,6 +1,6 @@
 use Rattle.std.proofs.Common.{Result, Ok, Err, sym, ap, is_some}
 use Rattle.std.specs.Prelude.{OnOk}
-use Rattle.flurry_set.proofs.SetLemmas.{with_element_present}
+use Rattle.flurry_set.proofs.SetLaws.{with_element_present}
 use Rattle.flurry_set.proofs.seq_set.SeqSet.get_or_insert.Goals as goal
 
 on_ok : {T E : Type 0} (r : Result T E) (P : Type 0) → P → OnOk r P

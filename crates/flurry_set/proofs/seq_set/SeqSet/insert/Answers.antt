@@ -1,7 +1,7 @@
 use Rattle.std.proofs.Common.{◌≡◌, sym, ◌∙◌}
 use Rattle.std.proofs.lemmas.List.{length-map}
 use Rattle.std.specs.Arc.{arc_value}
-use Rattle.flurry_set.proofs.SetLemmas.{put_key}
+use Rattle.flurry_set.proofs.SetLaws.{put_key}
 use Rattle.flurry_set.proofs.seq_set.SeqSet.insert.Goals as goal
 
 pub invariant_of-self-2 : goal.invariant_of-self-2

@@ -3,7 +3,7 @@ use Rattle.std.specs.Vec.Iter.{into_iter_items}
 use Rattle.flurry_model.specs.FiniteSet.{with_element}
 use Rattle.flurry_seq.proofs.RunLaws.{on_err}
 use Rattle.flurry_seq.proofs.RoomLaws.{count_put, of_test, room_put}
-use Rattle.flurry_set.proofs.SetLemmas.{length-with_element, with_elements-push}
+use Rattle.flurry_set.proofs.SetLaws.{length-with_element, with_elements-push}
 use Rattle.flurry_set.proofs.seq_set.SeqSet.insert_all.Goals as goal
 
 pub loop-element-preserved : goal.loop-element-preserved

@@ -6,7 +6,7 @@ use Rattle.std.specs.Map.{keys_of}
 use Rattle.flurry_bins.specs.Chain.{entry_of}
 use Rattle.flurry_model.specs.FiniteSet.{element_at}
 use Rattle.flurry_model.proofs.FiniteMapLaws.{IsFiniteMap-with_pair}
-use Rattle.flurry_set.proofs.SetLemmas.{some_mapped, has_value-keys, with_element-keys}
+use Rattle.flurry_set.proofs.SetLaws.{some_mapped, has_value-keys, with_element-keys}
 use Rattle.flurry_set.proofs.seq_set.SeqSet.insert_node.Goals as goal
 
 none_by : {X : Type 0} (b : Bool) (w : Option X) → not b ≡ is_some w → b ≡ is_none w

@@ -2,7 +2,7 @@ use Rattle.std.proofs.Common.{not, false, true, ◌&&◌, is_some, sym, ap, ◌�
 use Rattle.std.specs.List.{list_all}
 use Rattle.flurry_model.specs.FiniteSet.{element_at}
 use Rattle.flurry_seq.proofs.ListLaws.{list_all_permuted}
-use Rattle.flurry_set.proofs.SetLemmas.{decides_disjoint}
+use Rattle.flurry_set.proofs.SetLaws.{decides_disjoint}
 use Rattle.flurry_set.proofs.seq_set.SeqSet.is_disjoint.Goals as goal
 
 pub loop-element-init : goal.loop-element-init

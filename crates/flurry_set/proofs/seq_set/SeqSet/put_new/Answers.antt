@@ -3,7 +3,7 @@ use Rattle.std.proofs.lemmas.List.{length-map}
 use Rattle.std.specs.Arc.{arc_value}
 use Rattle.std.specs.Map.{keys_of}
 use Rattle.flurry_model.proofs.FiniteMapLaws.{IsFiniteMap-with_pair}
-use Rattle.flurry_set.proofs.SetLemmas.{some_mapped, has_value-keys, put_is_found, with_element-keys}
+use Rattle.flurry_set.proofs.SetLaws.{some_mapped, has_value-keys, put_is_found, with_element-keys}
 use Rattle.flurry_set.proofs.seq_set.SeqSet.put_new.Goals as goal
 
 pub invariant_of-self-2 : goal.invariant_of-self-2

@@ -2,7 +2,7 @@ use Rattle.std.proofs.Common.{sym, ap, ◌∙◌, is_some}
 use Rattle.std.specs.Arc.{arc_value}
 use Rattle.flurry_model.proofs.FiniteMapLaws.{IsFiniteMap-without}
 use Rattle.flurry_set.specs.SetContents.{set_contents}
-use Rattle.flurry_set.proofs.SetLemmas.{some_mapped, has_value-keys, without_element-keys}
+use Rattle.flurry_set.proofs.SetLaws.{some_mapped, has_value-keys, without_element-keys}
 use Rattle.flurry_set.proofs.seq_set.SeqSet.remove.Goals as goal
 
 pub invariant_of-self : goal.invariant_of-self

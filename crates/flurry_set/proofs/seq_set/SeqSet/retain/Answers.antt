@@ -1,6 +1,6 @@
 use Rattle.std.proofs.Common.{refl, of_calls}
 use denote.Param.Always.{always_mut, mut_by, mut_next}
-use Rattle.flurry_set.proofs.SetLemmas.{retains_keys, IsFiniteMap-retained}
+use Rattle.flurry_set.proofs.SetLaws.{retains_keys, IsFiniteMap-retained}
 use Rattle.flurry_set.proofs.seq_set.SeqSet.retain.Goals as goal
 
 pub retain-requires : goal.retain-requires

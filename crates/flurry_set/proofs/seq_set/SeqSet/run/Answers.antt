@@ -1,7 +1,7 @@
 use Rattle.std.proofs.Common.{arith}
 use Rattle.flurry_seq.proofs.RunLaws.{on_err, run_begins, run_goes_on, run_ends, run_stops, ends_before_all}
 use Rattle.flurry_set.specs.SetCalls.{SetCallAnswers, SetCallRefused}
-use Rattle.flurry_set.proofs.SetLemmas.{same_set_refused}
+use Rattle.flurry_set.proofs.SetLaws.{same_set_refused}
 use Rattle.flurry_set.proofs.seq_set.SeqSet.run.Goals as goal
 
 pub returns-in_err-replies-clause-err : goal.returns-in_err-replies-clause-err

@@ -1,7 +1,7 @@
 use Rattle.std.proofs.Common.{option_map, sym, ap, ◌∙◌}
 use Rattle.flurry_model.proofs.FiniteMapLaws.{IsFiniteMap-without}
 use Rattle.flurry_set.specs.SetContents.{set_contents}
-use Rattle.flurry_set.proofs.SetLemmas.{element_at-keys, without_element-keys}
+use Rattle.flurry_set.proofs.SetLaws.{element_at-keys, without_element-keys}
 use Rattle.flurry_set.proofs.seq_set.SeqSet.take.Goals as goal
 
 pub invariant_of-self : goal.invariant_of-self

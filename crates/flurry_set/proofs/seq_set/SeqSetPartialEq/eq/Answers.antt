@@ -1,5 +1,5 @@
 use Rattle.std.proofs.Common.{true, refl, ◌∙◌}
-use Rattle.flurry_set.proofs.SetLemmas.{keys_eq, same_keys}
+use Rattle.flurry_set.proofs.SetLaws.{keys_eq, same_keys}
 use Rattle.flurry_set.proofs.seq_set.SeqSetPartialEq.eq.Goals as goal
 
 pub returns-clause-value : goal.returns-clause-value
