@@ -1,5 +1,5 @@
 -- The frames below the one that is gone over now.
-use Rattle.std.specs.Prelude.{◌≡◌, ℕ, ◌≤◌, List, [], ◌∷◌, length}
+use Rattle.std.specs.Prelude.{ℕ, ◌≤◌, List, [], ◌∷◌, length}
 use Rattle.std.proofs.Common.{arith}
 use Rattle.flurry_calls.specs.Cursor.{Frame, AreBelow}
 

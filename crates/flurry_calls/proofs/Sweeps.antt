@@ -1,7 +1,6 @@
 -- The steps at a bin of a call that goes over all bins, by what its slot answered.
-use Rattle.std.specs.Prelude.{◌≡◌, ℕ, ◌+◌, ◌^◌, nat_lt, Bool, true, false, List, [], ◌∷◌, Option, Some, None, IsSome, MatchOption, if◌then◌else◌}
+use Rattle.std.specs.Prelude.{◌≡◌, Bool, true, false, [], Option, Some, None, MatchOption}
 use Rattle.std.specs.declared.cmp.Ordering.{Ordering}
-use Rattle.std.specs.List.{AllByRecursion}
 use Rattle.std.proofs.Common.{refl, sym, ◌∙◌, ap, subst}
 use Rattle.flurry_model.specs.declared.call.Seen.{Seen}
 use Rattle.flurry_slots.specs.Slot.{PlainEntry, Content, IsLive, HasMoved, IsUnborn, next_of_live}
@@ -9,9 +8,9 @@ use Rattle.flurry_slots.specs.SlotView.{answer_with}
 use Rattle.flurry_slots.specs.declared.slot.Answer.{Answer}
 use Rattle.flurry_slots.specs.declared.slot.Answer.TheVariants.{Here, Moved, Unborn}
 use Rattle.flurry_calls.specs.Outcome.{OutcomeEnded, OutcomeRefused}
-use Rattle.flurry_calls.specs.Cursor.{Frame, CursorState, at_base, with_top, with_bound, after_split, after_top, onward}
+use Rattle.flurry_calls.specs.Cursor.{CursorState, with_top, with_bound, after_top}
 use Rattle.flurry_calls.specs.declared.step.Event.TheVariants as event
-use Rattle.flurry_calls.specs.Sweep.{SweepStage, OverBins, AtEnd, HasNoBound, WalkGives, ReadGives, stage_walked, seen_at}
+use Rattle.flurry_calls.specs.Sweep.{SweepStage, OverBins, AtEnd, WalkGives, ReadGives, stage_walked, seen_at}
 
 -- a walk's step at a slot of this content, where its cursor stands, and what it read last
 module _ {K V : Type 0} (cmp : K → K → Ordering) (f : CursorState K) (l : Option (Seen K V)) where

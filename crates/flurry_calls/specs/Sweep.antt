@@ -4,7 +4,7 @@ use Rattle.std.specs.declared.cmp.Ordering.{Ordering}
 use Rattle.std.specs.List.{AllByRecursion}
 use Rattle.flurry_model.specs.declared.call.Seen.{Seen}
 use Rattle.flurry_control.specs.Control.{ControlState, after_count}
-use Rattle.flurry_slots.specs.Slot.{PlainEntry, Live, Content, IsLive, HasMoved, IsUnborn, SlotState, next_of_live, after_wipe}
+use Rattle.flurry_slots.specs.Slot.{PlainEntry, Content, IsLive, HasMoved, IsUnborn, SlotState, next_of_live, after_wipe}
 use Rattle.flurry_calls.specs.Outcome.{Outcome, OutcomeEnded, OutcomeRefused}
 use Rattle.flurry_calls.specs.Part.{Part, ControlPart, LookPart, BinPart, NoPart}
 use Rattle.flurry_calls.specs.declared.step.Event.{Event}

@@ -13,7 +13,7 @@ use Rattle.flurry_steps.specs.declared.party.call.OwnedCall.{OwnedCall}
 use Rattle.flurry_steps.specs.declared.party.call.OwnedCall.TheVariants as owned
 use Rattle.flurry_theory.specs.Map.{Pairs, same, key_of}
 use Rattle.flurry_theory.specs.Machine as machine
-use Rattle.flurry_theory.specs.Machine.{Finished, WasPublished}
+use Rattle.flurry_theory.specs.Machine.{WasPublished}
 use Rattle.flurry_theory.specs.Trace.{decision, has_replied, has_closed}
 use Rattle.flurry_model.specs.declared.call.Call.{Call}
 use Rattle.flurry_model.specs.declared.call.Call.TheVariants as call

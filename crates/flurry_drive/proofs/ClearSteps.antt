@@ -11,7 +11,7 @@ use Rattle.std.proofs.lemmas.Option.{slice_get_within, get_or_from_slice_get}
 use Rattle.flurry_model.specs.declared.call.Call.{Call}
 use Rattle.flurry_model.specs.declared.call.Call.TheVariants as call
 use Rattle.flurry_slots.specs.Slot as slots
-use Rattle.flurry_slots.specs.Slot.{SlotState, Content, IsLive, HasMoved, IsUnborn, after_wipe}
+use Rattle.flurry_slots.specs.Slot.{SlotState, IsLive, HasMoved, IsUnborn, after_wipe}
 use Rattle.flurry_control.specs.Control as control
 use Rattle.flurry_calls.specs.Outcome.{OutcomeEnded}
 use Rattle.flurry_calls.specs.Cursor.{CursorState, at_base, after_split, after_top}
@@ -21,7 +21,7 @@ use Rattle.flurry_theory.specs.Bin.{Entry}
 use Rattle.flurry_theory.specs.Map.{same}
 use Rattle.flurry_theory.specs.Trace.{is_lookup, pairs}
 use Rattle.flurry_theory.specs.Machine as machine
-use Rattle.flurry_theory.specs.Machine.{State, Frame, Transition, Can, effect, goes, does, found_by, onward, Mode, Clearing, Done, Live, Moved, at_bin, at_place, total as sum, owes_added, owes_removed, WasPublished, Begins, Counts, Finds, FindsNothing, Wipes as WipesBin, SplitsClear}
+use Rattle.flurry_theory.specs.Machine.{State, Frame, Transition, Can, effect, goes, found_by, onward, Mode, Clearing, Done, Live, at_bin, at_place, total as sum, owes_added, owes_removed, WasPublished, Begins, Counts, Finds, FindsNothing, Wipes as WipesBin, SplitsClear}
 use Rattle.flurry_theory.specs.Invariant.{Inv, NamesBorn}
 use Rattle.flurry_theory.proofs.Ranges.{place_here, place_other, total-change}
 use Rattle.flurry_theory.proofs.Step.{inv_step}

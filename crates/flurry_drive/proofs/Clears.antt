@@ -12,7 +12,7 @@ use Rattle.flurry_calls.specs.Cursor.{CursorState, at_base, after_split, after_t
 use Rattle.flurry_calls.specs.Part.{BinPart}
 use Rattle.flurry_calls.specs.Outcome.{Outcome, OutcomeEnded}
 use Rattle.flurry_calls.specs.Sweep as sweep
-use Rattle.flurry_calls.specs.Sweep.{Errand, Reads, Wipes, SweepStage, AtOutset, OverBins, AtTotal, AtEnd, AfterEnd, SweepState, SweepControl, ClearGives, BinGives, part_at, set_out_at, more_wiped, stage_cleared, swept_outcome, sets_out, fresh_sweep}
+use Rattle.flurry_calls.specs.Sweep.{Errand, Reads, Wipes, SweepStage, AtOutset, OverBins, AtTotal, AtEnd, AfterEnd, SweepState, ClearGives, BinGives, part_at, set_out_at, more_wiped, stage_cleared, swept_outcome, sets_out, fresh_sweep}
 use Rattle.flurry_calls.specs.declared.step.Event.{Event}
 use Rattle.flurry_model.specs.declared.call.Call.TheVariants as call
 use Rattle.flurry_steps.specs.Party.{AtSweep, PartyState, part_of, wanted_part, locates, started_stage, final_outcome, with_stage}

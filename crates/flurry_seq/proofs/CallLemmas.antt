@@ -10,7 +10,6 @@ use Rattle.flurry_model.specs.declared.try_insert.TryInsertError.{TryInsertError
 use Rattle.flurry_model.specs.declared.reply.KeptReply.{KeptReply}
 use Rattle.flurry_model.specs.declared.reply.KeptReply.TheVariants as kept
 use Rattle.flurry_model.specs.FiniteMap.{pair_at, value_at, with_pair, without}
-use Rattle.flurry_model.specs.OneKey.{OneKey, Answers}
 use Rattle.flurry_model.specs.OneKey as one
 use Rattle.flurry_seq.specs.Contents.{Contents, with_pairs}
 use Rattle.flurry_seq.specs.Calls.{OneKeyAnswers, CallRefused}

@@ -2,14 +2,14 @@
 use Rattle.std.specs.Prelude.{◌≡◌, ℕ, ◌+◌, Bool, Option, Some, None, MatchOption, ⊤}
 use Rattle.std.specs.declared.cmp.Ordering.{Ordering}
 use Rattle.std.proofs.Common.{subst}
-use Rattle.flurry_slots.specs.Slot.{Live, Content, IsLive, HasMoved, IsUnborn, SlotState}
+use Rattle.flurry_slots.specs.Slot.{Content, IsLive, HasMoved, IsUnborn, SlotState}
 use Rattle.flurry_control.specs.Control.{ControlState, BeginGives, grows_from, report_of}
 use Rattle.flurry_control.specs.declared.control.BeginOutcome.{BeginOutcome}
 use Rattle.flurry_control.specs.declared.control.BeginOutcome.TheVariants as outcome
 use Rattle.flurry_calls.specs.declared.step.Event.{Event}
 use Rattle.flurry_calls.specs.declared.step.Event.TheVariants as event
 use Rattle.flurry_steps.specs.Party.{Task, Finds, Removes, RemovesSeen, Inserts, Adds, Computes, GrowFor, ForInsert, ForReserve, Stage, AtLocate, AtBin, AtClaim, AtMove, AtUncount, AtCount, AtRecount, AtBegin, AtGrow, AtReserve, AtSweep, AtDone, AtTaken, PartyState, IsSingle}
-use Rattle.flurry_steps.specs.PartyControl.{OpensFor, LocatesNone, MakesFor, ReservesFor, StageAtControl, event_begun, event_growing, stage_grown, stage_growing}
+use Rattle.flurry_steps.specs.PartyControl.{OpensFor, LocatesNone, MakesFor, StageAtControl, event_begun, event_growing, stage_grown, stage_growing}
 use Rattle.flurry_steps.specs.PartySlots.{LiveGives, ContentGives, StageAtSlot, MoveGives}
 
 abbrev pub IsSweepEvent : Event → Type 0

@@ -1,7 +1,7 @@
 -- A call that does not go over all bins.
 use Rattle.std.specs.Prelude.{◌≡◌, ℕ, None}
 use Rattle.std.proofs.Common.{refl}
-use Rattle.flurry_calls.specs.Part.{Part, ControlPart, LookPart, BinPart, MovePart, NoPart}
+use Rattle.flurry_calls.specs.Part.{ControlPart, LookPart, BinPart, MovePart, NoPart}
 use Rattle.flurry_calls.specs.Sweep.{Errand, Reads, Wipes, SweepStage, AtOutset, OverBins, AtTotal, AtEnd, AfterEnd, part_at}
 use Rattle.flurry_calls.specs.Outcome.{Outcome}
 use Rattle.flurry_calls.specs.declared.reply.Reply.{Reply}

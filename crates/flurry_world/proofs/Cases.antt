@@ -6,7 +6,7 @@ use Rattle.std.specs.Cmp.{IsTotalOrder}
 use Rattle.std.proofs.Common.{arith, sym, ◌∙◌, ap, subst}
 use Rattle.std.proofs.lemmas.Int.{ints}
 use Rattle.flurry_control.specs.Control as control
-use Rattle.flurry_control.specs.Control.{ControlState, IsIdle, Grows}
+use Rattle.flurry_control.specs.Control.{ControlState}
 use Rattle.flurry_calls.specs.Outcome.{Outcome}
 use Rattle.flurry_steps.specs.Party.{Stage, PartyState}
 use Rattle.flurry_calls.specs.declared.step.Event.{Event}

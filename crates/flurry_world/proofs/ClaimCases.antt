@@ -8,7 +8,7 @@ use Rattle.std.proofs.lemmas.Option.{slice_get_within}
 use Rattle.flurry_model.specs.Sizes.{stride_of}
 use Rattle.flurry_control.specs.Claim.{Range, bins_in, next_of}
 use Rattle.flurry_control.specs.Control as control
-use Rattle.flurry_control.specs.Control.{ControlState, IsControl, IsIdle, Grows, GrowthIsIn, claim_by, claim_of, after_claim, growth_after_claim, can_report, reports_last, report_of, after_report, next_published, after_growth, with_report}
+use Rattle.flurry_control.specs.Control.{ControlState, IsIdle, Grows, GrowthIsIn, claim_by, claim_of, after_claim, growth_after_claim, can_report, reports_last, report_of, after_report, next_published, after_growth, with_report}
 use Rattle.flurry_steps.specs.Party.{Resume, ThenBin, ThenRecount, ThenGrow, ForInsert, ForReserve, AtClaim, AtMove, PartyState, resumed_stage}
 use Rattle.flurry_calls.specs.declared.step.Event.{Event}
 use Rattle.flurry_calls.specs.declared.step.Event.TheVariants as event

@@ -6,7 +6,7 @@ use Rattle.std.proofs.Common.{arith, refl, sym, ◌∙◌, ap, subst}
 use Rattle.std.proofs.lemmas.Bool.{eqb-true, and_parts, ltb-true}
 use Rattle.std.proofs.lemmas.Nat.{pow_pos}
 use Rattle.flurry_control.specs.Control as control
-use Rattle.flurry_control.specs.Control.{ControlState, IsControl, IsIdle, Grows, after_begin, after_count, can_begin, BeginGives, grows_from, grows_by}
+use Rattle.flurry_control.specs.Control.{ControlState, IsIdle, Grows, after_begin, after_count, can_begin, BeginGives, grows_from}
 use Rattle.flurry_control.specs.declared.control.Advice.{Advice}
 use Rattle.flurry_control.specs.declared.control.Advice.TheVariants.{Enough, Join, Begin}
 use Rattle.flurry_control.specs.declared.control.BeginOutcome.{BeginOutcome}

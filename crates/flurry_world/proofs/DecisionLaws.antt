@@ -14,7 +14,7 @@ use Rattle.flurry_model.specs.declared.reply.KeptReply.TheVariants.{Value, Pair,
 use Rattle.flurry_model.proofs.FiniteMapLaws.{all_with_pair, all_without, length-with_pair, length-without, found_in}
 use Rattle.flurry_model.proofs.HashOrderLaws.{hash_then_key_total}
 use Rattle.flurry_slots.specs.Slot as slot
-use Rattle.flurry_slots.specs.Slot.{PlainEntry, Live, ComputeOutcome, WasAbsent, WasRemoved, WasChanged, next_number, entry_of_live, after_write, after_add, after_take, asks, is_unwritten_since}
+use Rattle.flurry_slots.specs.Slot.{PlainEntry, Live, ComputeOutcome, WasAbsent, WasRemoved, WasChanged, next_number, entry_of_live, after_write, after_take, asks, is_unwritten_since}
 use Rattle.flurry_calls.specs.Outcome.{OutcomeReply}
 use Rattle.flurry_steps.specs.Party.{Sought, TheValue, ThePair, Presence, Task, Finds, Removes, RemovesSeen, Inserts, Adds, Computes, Stage, AtDone, reply_for, outcome_in, IsWriter}
 use Rattle.flurry_steps.specs.PartySlots as party

@@ -4,9 +4,9 @@ use Rattle.std.specs.declared.cmp.Ordering.{Ordering}
 use Rattle.std.specs.Cmp.{IsTotalOrder}
 use Rattle.std.proofs.Common.{arith, refl, sym, ◌∙◌, ap, subst}
 use Rattle.flurry_slots.specs.Slot as slots
-use Rattle.flurry_slots.specs.Slot.{SlotState, Content, IsLive, IsUnborn}
+use Rattle.flurry_slots.specs.Slot.{IsLive}
 use Rattle.flurry_control.specs.Control as control
-use Rattle.flurry_control.specs.Control.{ControlState, IsControl, IsIdle, Grows, after_open, count_of, GrowthIsIn}
+use Rattle.flurry_control.specs.Control.{ControlState, IsIdle, Grows, after_open, GrowthIsIn}
 use Rattle.flurry_calls.specs.Outcome.{OutcomeReply, OutcomeRefused}
 use Rattle.flurry_steps.specs.Party.{Task, Finds, Removes, RemovesSeen, Inserts, Adds, Computes, ForReserve, Stage, AtLocate, AtBin, AtGrow, AtReserve, AtDone, PartyState, reply_for}
 use Rattle.flurry_steps.specs.PartyControl.{OpensFor, LocatesNone, MakesFor, ReservesFor}

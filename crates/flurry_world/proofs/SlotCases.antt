@@ -5,10 +5,10 @@ use Rattle.std.specs.Cmp.{IsTotalOrder}
 use Rattle.std.proofs.Common.{arith, refl, sym, ◌∙◌, ap, subst}
 use Rattle.std.proofs.lemmas.Bool.{eqb-true}
 use Rattle.flurry_slots.specs.Slot as slots
-use Rattle.flurry_slots.specs.Slot.{SlotState, Content, IsLive, HasMoved, IsUnborn, IsSlot, IsLiveIn, IsContent}
+use Rattle.flurry_slots.specs.Slot.{SlotState, Content, IsLive, HasMoved, IsUnborn, IsLiveIn, IsContent}
 use Rattle.flurry_steps.specs.Party.{Task, AtBin, PartyState, outcome_in}
 use Rattle.flurry_steps.specs.PartySlots as party
-use Rattle.flurry_steps.specs.PartySlots.{DecidesAt, LiveGives, ContentGives, stage_moved}
+use Rattle.flurry_steps.specs.PartySlots.{DecidesAt, LiveGives, ContentGives}
 use Rattle.flurry_calls.specs.declared.step.Event.{Event}
 use Rattle.flurry_calls.specs.declared.step.Event.TheVariants as event
 use Rattle.flurry_theory.specs.Map.{same, key_of}

@@ -1,5 +1,5 @@
 -- The state after a step, against what a transition of the machine does.
-use Rattle.std.specs.Prelude.{Option, ℕ, suc, zero, ◌<◌, ◌==◌, Bool, true, false, cond, List, [], ◌∷◌, ◌++◌, length, reverse, slice_get, slice_set, Some, None, option_map, ◌≡◌, unwrap_or}
+use Rattle.std.specs.Prelude.{Option, ℕ, suc, zero, ◌<◌, ◌==◌, Bool, true, false, cond, List, [], ◌∷◌, ◌++◌, length, reverse, slice_get, slice_set, Some, option_map, ◌≡◌, unwrap_or}
 use Rattle.std.specs.declared.cmp.Ordering.{Ordering}
 use Rattle.std.proofs.Common.{arith, refl, sym, ◌∙◌, ap}
 use Rattle.std.proofs.lemmas.Bool.{eqb-true, eqb-false, eq-eqb, ne_eqb}

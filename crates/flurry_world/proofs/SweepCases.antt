@@ -1,9 +1,8 @@
 -- Each step of a walk or a clear at the part that it wants is a transition of the machine.
-use Rattle.std.specs.Prelude.{◌≡◌, ◌⊎◌, ℕ, ℤ, pos, neg_ℤ, ◌+ℤ◌, ◌-ℤ◌, ◌≤ℤ◌, suc, ◌+◌, ◌-◌, ◌^◌, ◌≤◌, ◌<◌, ◌==◌, ◌&&◌, min, Bool, true, false, List, [], ◌∷◌, find, length, map, reverse, slice_get, Option, Some, None, IsSome, MatchOption, option_map, is_some, if◌then◌else◌}
+use Rattle.std.specs.Prelude.{◌≡◌, ◌⊎◌, ℕ, pos, neg_ℤ, ◌+ℤ◌, ◌-ℤ◌, ◌≤ℤ◌, suc, ◌+◌, ◌-◌, ◌^◌, ◌≤◌, ◌==◌, ◌&&◌, min, Bool, true, false, [], ◌∷◌, find, length, map, reverse, slice_get, Option, Some, None, IsSome, MatchOption, option_map, if◌then◌else◌}
 use Rattle.std.specs.declared.cmp.Ordering.{Ordering}
 use Rattle.std.specs.Cmp.{IsTotalOrder}
 use Rattle.std.specs.Int.{saturate_signed, w64}
-use Rattle.std.specs.List.{AllByRecursion}
 use Rattle.std.proofs.Common.{arith, refl, sym, ◌∙◌, ap, subst, subst₂, inl, inr}
 use Rattle.std.proofs.lemmas.Int.{ints}
 use Rattle.std.proofs.lemmas.List.{length-reverse}
@@ -14,39 +13,38 @@ use Rattle.flurry_model.specs.declared.call.Call.TheVariants as call
 use Rattle.flurry_model.specs.declared.call.Seen.{Seen}
 use Rattle.flurry_model.specs.declared.sizes.TheConstants.{MOST_LABELS}
 use Rattle.flurry_slots.specs.Slot as slots
-use Rattle.flurry_slots.specs.Slot.{PlainEntry, SlotState, Content, IsLive, HasMoved, IsUnborn, IsSlot, after_wipe}
+use Rattle.flurry_slots.specs.Slot.{PlainEntry, Content, IsLive, HasMoved, IsUnborn, after_wipe}
 use Rattle.flurry_control.specs.Control as control
 use Rattle.flurry_control.specs.Control.{ControlState}
 use Rattle.flurry_calls.specs.Outcome.{OutcomeEnded, OutcomeRefused}
-use Rattle.flurry_calls.specs.Cursor as cursor
 use Rattle.flurry_calls.specs.Cursor.{CursorState, at_base, after_split, after_top}
 use Rattle.flurry_calls.specs.Sweep as sweep
-use Rattle.flurry_calls.specs.Sweep.{Errand, Reads, Wipes, SweepStage, AtOutset, OverBins, AtTotal, AtEnd, AfterEnd, SweepState, SweepControl, WalkGives, ClearGives, SplitGives, ReadGives, BinGives, part_at, bin_part, set_out_at, more_wiped, stage_walked, stage_cleared}
+use Rattle.flurry_calls.specs.Sweep.{Errand, Reads, Wipes, SweepStage, AtOutset, OverBins, AtTotal, AtEnd, AfterEnd, SweepState, WalkGives, ClearGives, SplitGives, ReadGives, BinGives, part_at, bin_part, set_out_at, more_wiped, stage_walked, stage_cleared}
 use Rattle.flurry_calls.specs.declared.step.Event.{Event}
 use Rattle.flurry_calls.specs.declared.step.Event.TheVariants as event
-use Rattle.flurry_steps.specs.Party.{Stage, AtSweep, PartyState, part_of, last_seen}
+use Rattle.flurry_steps.specs.Party.{AtSweep, PartyState, part_of, last_seen}
 use Rattle.flurry_steps.specs.PartyControl.{StageAtControl, ControlStep}
-use Rattle.flurry_steps.specs.PartySlots.{SlotStep, StageAtSlot}
+use Rattle.flurry_steps.specs.PartySlots.{StageAtSlot}
 use Rattle.flurry_theory.specs.Map.{same}
 use Rattle.flurry_theory.specs.Bin.{first_past}
-use Rattle.flurry_theory.specs.Trace.{is_lookup, pairs}
+use Rattle.flurry_theory.specs.Trace.{is_lookup}
 use Rattle.flurry_theory.specs.Legal.{IsWalk, IsClear}
 use Rattle.flurry_theory.specs.Machine as machine
-use Rattle.flurry_theory.specs.Machine.{Transition, Can, effect, goes, does, Mode, Locating, Walking, Clearing, Done, Live, Moved, at_bin, total as sum, owes_added, owes_removed, RefusedAt, Begins, Quiet, Counts, Finds, FindsNothing, IsRefused, Reads as ReadsOne, Leaves, Splits, Wipes as WipesBin, SplitsClear}
+use Rattle.flurry_theory.specs.Machine.{Transition, Can, effect, goes, does, Mode, Walking, Clearing, Done, Live, Moved, at_bin, total as sum, owes_removed, RefusedAt, Begins, Quiet, Counts, Finds, FindsNothing, IsRefused, Reads as ReadsOne, Leaves, Splits, Wipes as WipesBin, SplitsClear}
 use Rattle.flurry_theory.proofs.Ranges.{part-total, place_here}
 use Rattle.flurry_theory.proofs.Step.{inv_step}
 use Rattle.flurry_theory.specs.declared.Label.{Label}
 use Rattle.flurry_theory.specs.declared.Label.TheVariants as label
 use Rattle.flurry_world.specs.Entries.{slot_of, entry_of_held, entries_of_held, IsHashed}
-use Rattle.flurry_world.specs.Tables.{Tables, place_at, content_at, put_place, PlaceGives}
+use Rattle.flurry_world.specs.Tables.{Tables, content_at, PlaceGives}
 use Rattle.flurry_world.specs.Parts.{PartStep}
-use Rattle.flurry_world.specs.World.{PartyRecord, WorldState, Near, state_of, mode_of_stage, mode_of_sweep, mode_over, frame_of, frames_of, claim_of_stage, IsOwnHash, AreHashed, FollowsErrand, FollowsSweep, FollowsStage, IsWorld}
+use Rattle.flurry_world.specs.World.{PartyRecord, WorldState, Near, state_of, mode_of_stage, mode_of_sweep, mode_over, frame_of, frames_of, claim_of_stage, AreHashed, FollowsErrand, FollowsSweep, FollowsStage, IsWorld}
 use Rattle.flurry_world.specs.Steps.{label_of, read_label, with_step}
 use Rattle.flurry_world.proofs.StateLaws.{IsTransition}
 use Rattle.flurry_world.proofs.EntryLaws.{length-entries_of_held}
 use Rattle.flurry_world.proofs.TableLaws.{content_of_place}
 use Rattle.flurry_world.proofs.PlaceLaws.{same_live}
-use Rattle.flurry_world.proofs.Frames.{same_frame, IsStep, StepOf, step_of, in_range}
+use Rattle.flurry_world.proofs.Frames.{same_frame, StepOf, step_of, in_range}
 use Rattle.flurry_world.proofs.TransitionLaws.{is_goes, is_quiet, is_finds, is_refused, is_counted, is_wiped, does_read}
 use Rattle.flurry_world.proofs.SlotCases.{Put, put_nothing}
 use Rattle.flurry_world.proofs.PartyCases.{put_other}

@@ -1,23 +1,22 @@
 -- Walks and clears, as the code and the machine have them: their frames, the next entry, and what is left.
-use Rattle.std.specs.Prelude.{◌≡◌, ℕ, suc, ◌+◌, ◌^◌, ◌%◌, ◌≤◌, ◌<◌, nat_lt, Bool, true, false, List, [], ◌∷◌, find, map, length, Option, Some, None, option_map, is_some, if◌then◌else◌}
+use Rattle.std.specs.Prelude.{◌≡◌, ℕ, suc, ◌+◌, ◌^◌, ◌%◌, ◌≤◌, nat_lt, Bool, true, false, List, [], ◌∷◌, find, map, Option, Some, None, option_map, is_some, if◌then◌else◌}
 use Rattle.std.specs.declared.cmp.Ordering.{Ordering}
 use Rattle.std.specs.Ordering.{is_lt}
 use Rattle.std.specs.Cmp.{IsTotalOrder}
-use Rattle.std.specs.List.{AllByRecursion}
-use Rattle.std.proofs.Common.{arith, refl, sym, ◌∙◌, ap, subst}
+use Rattle.std.proofs.Common.{arith, refl, sym, ◌∙◌, ap}
 use Rattle.std.proofs.lemmas.Bool.{cases_lt}
-use Rattle.flurry_model.specs.HashOrder.{hash_then_key, is_pair_past}
+use Rattle.flurry_model.specs.HashOrder.{is_pair_past}
 use Rattle.flurry_model.specs.declared.call.Call.{Call}
 use Rattle.flurry_model.specs.declared.call.Seen.{Seen}
 use Rattle.flurry_slots.specs.Slot.{PlainEntry}
 use Rattle.flurry_calls.specs.Cursor as cursor
-use Rattle.flurry_calls.specs.Cursor.{CursorState, at_base, after_split, after_top}
-use Rattle.flurry_calls.specs.Sweep.{Errand, Reads, Wipes, OverBins, AtTotal, stage_walked, stage_cleared}
+use Rattle.flurry_calls.specs.Cursor.{CursorState, at_base, after_split}
+use Rattle.flurry_calls.specs.Sweep.{Errand, Reads, Wipes, stage_walked, stage_cleared}
 use Rattle.flurry_theory.specs.Map.{same}
-use Rattle.flurry_theory.specs.Bin.{Entry, order, past, first_past}
-use Rattle.flurry_theory.specs.Machine.{State, Mode, Walking, Clearing, Done, Live, Moved, Unborn, Frame, halves, owes_removed, mode_at_table}
+use Rattle.flurry_theory.specs.Bin.{past, first_past}
+use Rattle.flurry_theory.specs.Machine.{State, Walking, Clearing, Done, Unborn, Frame, halves, owes_removed, mode_at_table}
 use Rattle.flurry_theory.specs.Machine as machine
-use Rattle.flurry_theory.specs.Invariant.{Tables, AreBorn, is_live}
+use Rattle.flurry_theory.specs.Invariant.{Tables, AreBorn}
 use Rattle.flurry_theory.proofs.Bins.{small_mod}
 use Rattle.flurry_world.specs.Entries.{entry_of_held, entries_of_held, IsHashed}
 use Rattle.flurry_world.specs.World.{frame_of, frames_of, mode_over, mode_of_sweep, IsOwnHash, AreHashed, FollowsErrand, IsFresh, FollowsSweep}

@@ -10,7 +10,7 @@ use Rattle.flurry_theory.proofs.Ranges.{place_here, total-change, total-zero}
 use Rattle.flurry_model.specs.declared.reply.KeptReply.{KeptReply}
 use Rattle.flurry_theory.specs.Bin.{Entry, half}
 use Rattle.flurry_theory.specs.Machine as machine
-use Rattle.flurry_theory.specs.Machine.{State, Mode, Done, Slot, Live, Moved, Transition, total, owes_added, owes_removed, mode_after_count, at_place, at_bin, effect, does, goes, label, Begins, Quiet, Counts, Finds, Opens, FindsNothing, IsRefused, DecidesEmpty, Passes, Decides, Places, Claims, Moves, Reports, Publishes, Replies, Ends, found_by}
+use Rattle.flurry_theory.specs.Machine.{Mode, Done, Live, Moved, Transition, total, owes_added, owes_removed, mode_after_count, at_place, at_bin, effect, does, goes, label, Begins, Quiet, Counts, Finds, Opens, IsRefused, DecidesEmpty, Passes, Decides, Places, Claims, Moves, Reports, Publishes, Replies, Ends, found_by}
 use Rattle.flurry_model.specs.declared.call.Call.{Call}
 use Rattle.flurry_theory.specs.declared.Label.{Label}
 use Rattle.flurry_theory.specs.declared.Label.TheVariants as label

@@ -9,7 +9,7 @@ use Rattle.flurry_control.specs.Control.{ControlState, IsControl, IsIdle, Grows}
 use Rattle.flurry_calls.specs.Outcome.{Outcome, OutcomeReply, OutcomeEnded, OutcomeRefused}
 use Rattle.flurry_calls.specs.Cursor as cursor
 use Rattle.flurry_calls.specs.Cursor.{CursorState}
-use Rattle.flurry_calls.specs.Sweep.{Errand, Reads, Wipes, SweepStage, AtOutset, OverBins, AtTotal, AtEnd, AfterEnd, SweepState}
+use Rattle.flurry_calls.specs.Sweep.{Errand, Reads, Wipes, SweepStage, AtOutset, OverBins, AtTotal, AtEnd, AfterEnd}
 use Rattle.flurry_steps.specs.Party.{TheValue, ThePair, Presence, Task, Finds, Removes, RemovesSeen, Inserts, Adds, Computes, GrowFor, ForInsert, ForReserve, Resume, ThenBin, ThenRecount, ThenGrow, Stage, AtLocate, AtBin, AtClaim, AtMove, AtUncount, AtCount, AtRecount, AtBegin, AtGrow, AtReserve, AtSweep, AtDone, AtTaken, PartyState, last_seen}
 use Rattle.flurry_theory.specs.Machine as machine
 use Rattle.flurry_theory.specs.Machine.{State, Mode, Locating, Looking, Walking, Clearing, Done, Finished}

@@ -1,4 +1,4 @@
-use Rattle.std.proofs.Common.{◌≡◌, Result, Ok, Err, OnErr, length, length-set}
+use Rattle.std.proofs.Common.{Result, Ok, Err, OnErr, length-set}
 use Rattle.std.proofs.lemmas.List.{length-map}
 use Rattle.std.proofs.lemmas.Result.{IfOk-weaker}
 use Rattle.flurry_bins.specs.Bin.{entries_of_bin}

@@ -1,6 +1,6 @@
 use Rattle.std.proofs.Common.{◌≡◌, ◌∙◌, sym, ap}
 use Rattle.flurry_steps.specs.CourseView.{course_state}
-use Rattle.flurry_steps.specs.Party.{PartyState, AtSweep}
+use Rattle.flurry_steps.specs.Party.{AtSweep}
 use Rattle.flurry_steps.proofs.Singles.{no_move}
 use Rattle.flurry_steps.proofs.party.Party.on_move.Goals as goal
 

@@ -2,7 +2,7 @@ use denote.Param.{param, copied}
 use denote.Param.Send.{IsSend, IsSync, sendable}
 use Rattle.std.proofs.Crossing as plain
 use Rattle.std.proofs.CrossingOver.{crosses}
-use Rattle.test_map.proofs.Crossing.{numbers, numbers_send, numbers_sync, flag_sync}
+use Rattle.test_map.proofs.Crossing.{numbers, numbers_send, numbers_sync}
 use Rattle.test_map.proofs.tests.order.Phase.TheSendSync as phase
 use Rattle.test_map.proofs.tests.order.in_thread.Goals as goal
 
