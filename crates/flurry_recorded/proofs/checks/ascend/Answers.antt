@@ -1,4 +1,4 @@
-use Rattle.std.proofs.Common.{refl, arith}
+use Rattle.std.proofs.Common.{refl, arith, rules}
 use Rattle.flurry_recorded.proofs.PlaceLemmas.{falls, rises, as_many_places}
 use Rattle.flurry_recorded.proofs.checks.ascend.Goals as goal
 
@@ -12,6 +12,9 @@ returns-then-receipts-next g c = (
 pub loop-next-preserved : goal.loop-next-preserved
 loop-next-preserved g c =
     rises c.args.receipts.now c.loop-next.next c.index-receipts-next.result c.index-receipts-next-in-loop-next.result (omega arith) c.loop-next-test.true c.if-receipts-next.false c.loop-next.invariant
+
+pub loop-next-init : goal.loop-next-init
+loop-next-init g c = search rules
 
 pub returns : goal.returns
 returns g c = (
