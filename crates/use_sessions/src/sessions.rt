@@ -15,8 +15,8 @@ pub struct Sessions {
     seen: HashMap<u64, u64>,
 }
 
-// What `open` and `count` answer, and what `expire` leaves, hangs on the other threads, and `new` makes what none has seen yet: these
-// promise safety alone.
+// What `open` and `count` answer, and what `expire` leaves, hangs on the other threads, and `new` makes what none has
+// seen yet: these promise safety alone.
 impl Sessions {
     /// No sessions, for so many threads.
     pub fn new(alloc: Global, threads: usize) -> Self {
