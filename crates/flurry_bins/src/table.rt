@@ -1,6 +1,6 @@
 //! A new node in a table's bin, and a value with two owners. Sizes of tables, the place of a hash in one and what calls answer are handed
 //! on from [`flurry_model`].
-ghost use Rattle.std.specs.Prelude.{◌≡◌, ◌^◌, ◌<◌, ◌==◌, ◌&&◌, not, length, IfOk, OnErr, IsNone, is_some, if◌then◌else◌};
+ghost use Rattle.std.specs.Prelude.{◌≡◌, ◌<◌, ◌==◌, ◌&&◌, not, length, IfOk, OnErr, IsNone, is_some, if◌then◌else◌};
 ghost use Rattle.std.specs.Arc.{arc_value};
 ghost use Rattle.flurry_bins.specs.Bin.{entries_of_bin, is_tree};
 ghost use Rattle.flurry_bins.specs.Chain.{entry_of};

@@ -1,5 +1,5 @@
 -- The steps at a bin of a call that goes over all bins, by what its slot answered.
-use Rattle.std.specs.Prelude.{◌≡◌, Bool, true, false, [], Option, Some, None, MatchOption}
+use Rattle.std.specs.Prelude.{◌≡◌, Bool, true, false, Option, Some, None, MatchOption}
 use Rattle.std.specs.declared.cmp.Ordering.{Ordering}
 use Rattle.std.proofs.Common.{refl, sym, ◌∙◌, ap, subst}
 use Rattle.flurry_model.specs.declared.call.Seen.{Seen}

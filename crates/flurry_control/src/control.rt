@@ -1,5 +1,5 @@
 //! What the calls on a shared map agree upon: the published table, the growth that runs, and the count of pairs.
-ghost use Rattle.std.specs.Prelude.{◌≡◌, ℕ, ◌^◌, ◌<◌, ◌≤◌, pos, IfSome, IfOk, None};
+ghost use Rattle.std.specs.Prelude.{◌≡◌, ◌^◌, ◌<◌, ◌≤◌, pos, IfSome, IfOk, None};
 ghost use Rattle.flurry_model.specs.Sizes.{wanted_of};
 ghost use Rattle.flurry_control.specs.Claim.{IsRange};
 ghost use Rattle.flurry_control.specs.Control.{IsIdle, IsControl, OpenGives, BeginGives, claim_of, after_claim, report_of, after_report, after_count, advice_of, count_of, grows_from};

@@ -1,5 +1,5 @@
 //! From the bytes of a schedule to those of its picture.
-ghost use Rattle.std.specs.Prelude.{◌≡◌, ◌≤◌, ℕ, List, [], None, Some, IfOk, IfSome};
+ghost use Rattle.std.specs.Prelude.{◌≤◌, ℕ, List, [], None, Some, IfOk, IfSome};
 ghost use Rattle.std.specs.Io.KnownBytes.{Appends};
 ghost use Rattle.flurry_program.specs.Runs.{Ends};
 ghost use Rattle.flurry_program.specs.ScheduleRuns.{of_a_schedule};

@@ -1,5 +1,5 @@
 //! Lines that are done in their order, up to the run's end.
-ghost use Rattle.std.specs.Prelude.{◌≡◌, ℕ, ◌+◌, ◌≤◌, ◌^◌, ◌⊎◌, length, OnOk, OnErr, IfOk, IfSome, MatchOption, IsTrue};
+ghost use Rattle.std.specs.Prelude.{◌≡◌, ◌+◌, ◌≤◌, ◌^◌, ◌⊎◌, length, OnOk, OnErr, IfOk, IfSome, MatchOption, IsTrue};
 ghost use Rattle.std.specs.Io.KnownBytes.{Keeps};
 ghost use Rattle.flurry_program.specs.Runs as runs;
 ghost use Rattle.flurry_program.specs.Runs.{AnswersLine, RefusesLine, Goes, Ends, RunsLines, FailsForCause};

@@ -1,5 +1,5 @@
 //! The lines of one owned map.
-ghost use Rattle.std.specs.Prelude.{◌≡◌, ℕ, [], ◌∷◌, ◌++◌, List, OnOk, OnErr, IsTrue};
+ghost use Rattle.std.specs.Prelude.{ℕ, [], ◌∷◌, ◌++◌, List, OnOk, OnErr, IsTrue};
 ghost use Rattle.std.specs.Io.KnownBytes.{Appends};
 ghost use Rattle.flurry_program.specs.SeqReplies.{option_text, of_one_map, Answers};
 ghost use Rattle.flurry_program.specs.Runs.{RunsLines, FailsForCause};

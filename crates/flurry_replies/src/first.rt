@@ -1,5 +1,4 @@
 //! The steps of a call over the locks: its first ones at once, where its table is known without the control's lock.
-ghost use Rattle.std.specs.Prelude.{◌≡◌};
 ghost use Rattle.flurry_locks.specs.declared.tables.Maker.{Maker};
 ghost use Rattle.flurry_replies.specs.Replies.{BeginsOrStays, IsReplyOf};
 ghost use Rattle.flurry_steps.specs.Party.{BeginsToWrite, IsTaken, LooksUp};

@@ -7,9 +7,9 @@ use Rattle.flurry_model.specs.declared.sizes.TheConstants.{GREATEST_TABLE, LONG_
 abbrev pub bins_for : ℕ → ℕ
 bins_for count = if count == 0 then 0 else wanted_of count
 
--- what a table that began with n bins may be where the count gives no cause to double it: it has these bins still. Or it had too few
--- for a tree, and there are more pairs than a long list has, as where a bin has: then n was doubled some times, on the way to twice the
--- least for trees
+-- what a table that began with n bins may be where the count gives no cause to double it. It has these bins still. Or n is too few
+-- bins for trees, and there are more pairs than a long list has, as where one bin has more: then n was doubled some times, on the way
+-- to twice the least for trees
 abbrev pub IsTableFrom : ℕ → ℕ → ℕ → Type 0
 IsTableFrom n count m = (m ≡ n) ⊎ ((n < LEAST_FOR_TREES) × (LONG_LIST < count) × IsOnTheWay n (2 * LEAST_FOR_TREES) m)
 

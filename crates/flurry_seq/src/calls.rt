@@ -1,5 +1,5 @@
 //! Calls of an owned map as values, and lists of them.
-ghost use Rattle.std.specs.Prelude.{◌≡◌, ◌++◌, ◌∷◌, List, Option, OnErr, IfOk};
+ghost use Rattle.std.specs.Prelude.{◌≡◌, Option, OnErr, IfOk};
 ghost use Rattle.std.specs.Borrow.{Bor};
 
 use crate::owners::{owner_of, owners_of_keys, owners_of_pair, owners_of_pairs, owners_of_values};
@@ -117,7 +117,6 @@ impl<K: Ord + Drop, V: Drop, S: KeyHasher<K>, A: Allocator + Copy> SeqMap<K, V, 
     ghost use Rattle.flurry_seq.specs.Kinds.{Reads, Shares, Writes, ChangesMany};
     ghost use Rattle.flurry_seq.specs.declared.calls.Call.{Call};
     ghost use Rattle.flurry_seq.specs.declared.calls.Reply.{Reply};
-    ghost use Rattle.flurry_seq.specs.Contents.{Contents};
 
     /// Makes one call.
     ///

@@ -1,6 +1,5 @@
 //! Equality of owned maps.
 ghost use Rattle.std.specs.Prelude.{◌≡◌, ◌↔◌, IsTrue};
-ghost use Rattle.std.specs.Arc.{arc_value};
 ghost use Rattle.std.specs.Option.{option_eq};
 ghost use Rattle.flurry_model.specs.FiniteMap.{IsFiniteMap, value_at};
 ghost use Rattle.flurry_seq.specs.Equality.{maps_eq, maps_eq_per, maps_eq_equiv, has_pair};

@@ -1,11 +1,9 @@
 //! The table of an owned map: a power of two of bins, or none.
-ghost use Rattle.std.specs.Prelude.{◌≡◌, ℕ, [], ◌*◌, ◌<◌, ◌≤◌, ◌^◌, length, replicate, OnOk, OnErr, IfOk, None, IsSome, IsNone, IsTrue, Some};
+ghost use Rattle.std.specs.Prelude.{◌≡◌, ℕ, [], ◌*◌, ◌<◌, ◌≤◌, ◌^◌, length, replicate, OnOk, OnErr, IfOk, None, IsSome, IsTrue, Some};
 ghost use Rattle.std.specs.Vec.{vec_capacity};
 ghost use Rattle.std.specs.Option.{option_map};
 ghost use Rattle.std.specs.Arc.{arc_value};
 ghost use Rattle.flurry_bins.specs.Chain.{entry_of};
-ghost use Rattle.flurry_bins.specs.Bin.{entries_of_bin};
-ghost use Rattle.flurry_bins.specs.Entries.{entry_at, with_entry};
 ghost use Rattle.flurry_bins.specs.PlainEntries.{pair_of_entry};
 ghost use Rattle.flurry_seq.specs.Invariant.{IsTableSize};
 ghost use Rattle.flurry_seq.specs.Numbers.{BinsBearZero};

@@ -1,5 +1,5 @@
 //! The owned set.
-ghost use Rattle.std.specs.Prelude.{◌≡◌, ℕ, ◌+◌, ◌≤◌, ◌^◌, ◌↔◌, ◌++◌, [], List, length, Some, OnOk, OnErr, IfOk, IsTrue, IsSome, IsNone, is_some, is_none, not, ◌==◌, if◌then◌else◌, IsPermutation};
+ghost use Rattle.std.specs.Prelude.{◌≡◌, ℕ, ◌+◌, ◌≤◌, ◌↔◌, ◌++◌, [], List, length, Some, OnOk, OnErr, IfOk, IsTrue, IsSome, IsNone, is_some, is_none, not, ◌==◌, if◌then◌else◌, IsPermutation};
 ghost use Rattle.std.specs.Option.{option_map};
 ghost use Rattle.std.specs.Arc.{arc_value};
 ghost use Rattle.flurry_bins.specs.Chain.{entry_of};

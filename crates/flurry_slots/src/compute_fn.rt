@@ -1,5 +1,5 @@
 //! A function that a computation calls on the pair of a present key.
-ghost use Rattle.std.specs.Prelude.{None, ◌≡◌, ℕ, Option};
+ghost use Rattle.std.specs.Prelude.{None, ◌≡◌, Option};
 ghost use Rattle.flurry_slots.specs.ComputeFn.{AnswersAtPair};
 
 /// A call on a key and its value that answers the new value, or none to take the pair out.

@@ -16,7 +16,7 @@ use Rattle.flurry_theory.proofs.Tables.{at_bin_elim, same_some, homes}
 use Rattle.flurry_theory.proofs.Ranges.{place_here, place_other}
 use Rattle.flurry_theory.proofs.Origins.{begun_after}
 use Rattle.flurry_theory.specs.Legal
-use Rattle.flurry_theory.specs.Legal.{touches, changed_by, is_class, changes, removes, is_untouched, untouched_for, RemovalMay, HasRead, HasLacked, Stays, EachMay, RemovesPair}
+use Rattle.flurry_theory.specs.Legal.{touches, changed_by, is_class, changes, removes, is_untouched, untouched_for, RemovalMay, EachMay, RemovesPair}
 use Rattle.flurry_model.specs.declared.call.Seen.{Seen}
 use Rattle.flurry_model.specs.declared.call.Call.{Call}
 use Rattle.flurry_model.specs.declared.call.Call.TheVariants.{RemoveSeen}

@@ -2,7 +2,7 @@
 ghost use Rattle.std.specs.Prelude.{◌≡◌, ◌≤◌, IfOk};
 ghost use Rattle.flurry_control.specs.Control.{OpenGives};
 ghost use Rattle.flurry_world.specs.Parts.{no_parts};
-ghost use Rattle.flurry_world.specs.Tables.{AreTables, PlaceGives};
+ghost use Rattle.flurry_world.specs.Tables.{PlaceGives};
 ghost use Rattle.flurry_model.specs.declared.sizes.TheConstants.{GREATEST_TABLE};
 
 use crate::tables::Tables;

@@ -1,8 +1,7 @@
 //! A call of a world.
-ghost use Rattle.std.specs.Prelude.{◌≡◌, None, Some};
+ghost use Rattle.std.specs.Prelude.{◌≡◌, Some};
 ghost use Rattle.flurry_model.specs.declared.call.Call.TheVariants as call;
 ghost use Rattle.flurry_steps.specs.Party.{RemovesSeen, AtLocate};
-ghost use Rattle.flurry_steps.specs.PartyView.{owned_stage};
 ghost use Rattle.flurry_world.specs.Runs.{theory_call, hash_for};
 
 use flurry_calls::Seen;

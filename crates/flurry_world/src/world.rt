@@ -1,5 +1,5 @@
 //! A world: calls of a map in any order of steps.
-ghost use Rattle.std.specs.Prelude.{◌≡◌, ◌<◌, ◌^◌, length, pos, slice_get, All, OnOk, OnErr, IfOk, IfSome};
+ghost use Rattle.std.specs.Prelude.{◌≡◌, ◌<◌, length, pos, slice_get, All, OnOk, OnErr, IfOk, IfSome};
 ghost use Rattle.std.specs.Vec.{vec_len, vec_capacity};
 ghost use Rattle.flurry_control.specs.Control.{IsIdle};
 ghost use Rattle.flurry_steps.specs.PartyView.{OwnedIsReady};

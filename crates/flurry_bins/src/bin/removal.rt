@@ -1,5 +1,5 @@
 //! Removal from a red-black tree.
-ghost use Rattle.std.specs.Prelude.{◌≡◌, Option, IsSome};
+ghost use Rattle.std.specs.Prelude.{◌≡◌, IsSome};
 ghost use Rattle.std.specs.Option.{option_map};
 ghost use Rattle.flurry_bins.specs.Chain.{entry_of};
 ghost use Rattle.flurry_bins.specs.Tree.{shape, node_shape};

@@ -1,5 +1,4 @@
 //! Keeping some of the pairs of an owned map.
-ghost use Rattle.std.specs.Prelude.{◌≡◌};
 ghost use Rattle.flurry_model.specs.FiniteMap.{IsFiniteMap};
 ghost use Rattle.flurry_seq.specs.Retain.{Retains};
 

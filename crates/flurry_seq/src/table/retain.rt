@@ -1,5 +1,5 @@
 //! Keeping some of the entries of a table.
-ghost use Rattle.std.specs.Prelude.{◌≡◌, ◌≤◌, ◌^◌, length};
+ghost use Rattle.std.specs.Prelude.{◌≡◌, ◌≤◌, length};
 ghost use Rattle.flurry_seq.specs.Table.{all_pairs};
 ghost use Rattle.flurry_seq.specs.Retain.{KeepsBins};
 ghost use Rattle.flurry_model.specs.declared.sizes.TheConstants.{MOST_PAIRS};

@@ -3,10 +3,10 @@ ghost use Rattle.std.specs.Prelude.{◌≡◌, MatchResult, true};
 ghost use Rattle.flurry_slots.specs.Slot.{IsSlot, is_live};
 ghost use Rattle.flurry_steps.specs.FirstSteps.{BeginsAt, begun_at};
 ghost use Rattle.flurry_calls.specs.Part.{LookPart, BinPart};
-ghost use Rattle.flurry_steps.specs.Party.{wanted_part, LooksUp, BeginsToWrite, AtLocate, AtReserve, AtDone};
+ghost use Rattle.flurry_steps.specs.Party.{wanted_part, LooksUp, BeginsToWrite, AtLocate, AtDone};
 ghost use Rattle.flurry_steps.specs.PartyTally.{ending_stage};
 ghost use Rattle.flurry_calls.specs.OutcomeView.{outcome_of};
-ghost use Rattle.flurry_steps.specs.PartyView.{CallIsReady, first_stage, keyless_stage, owned_stage, stage_of, task_of};
+ghost use Rattle.flurry_steps.specs.PartyView.{CallIsReady, first_stage, keyless_stage, owned_stage, task_of};
 
 use super::at_slot::{step_lookup, step_write};
 use super::call::{Call, Key, OwnedCall, Sought, Task};

@@ -1,6 +1,5 @@
 //! Maps as lists of pairs, and back.
 ghost use Rattle.std.specs.Prelude.{◌≡◌, IfOk};
-ghost use Rattle.flurry_model.specs.FiniteMap.{IsFiniteMap};
 
 use super::{five, map_of, same};
 use flurry_model::hash::LowHashBuilder;

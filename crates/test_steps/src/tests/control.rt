@@ -1,5 +1,5 @@
 //! The control: each row of what its calls answer and change, with tables that can be refused.
-ghost use Rattle.std.specs.Prelude.{◌<◌, ◌≤◌, ◌^◌, ◌≡◌, ◌++◌, ◌∷◌, [], if◌then◌else◌};
+ghost use Rattle.std.specs.Prelude.{◌<◌, ◌^◌, ◌≡◌, ◌++◌, ◌∷◌, [], if◌then◌else◌};
 
 mod claims;
 mod count;

@@ -1,5 +1,5 @@
 //! The nodes of a bin, by how many there are. Each of the three is one box and one number, so that a bin is small.
-ghost use Rattle.std.specs.Prelude.{◌≡◌, ◌^◌, ◌<◌, ◌≤◌, [], ◌∷◌, length};
+ghost use Rattle.std.specs.Prelude.{◌≡◌, ◌<◌, ◌≤◌, length};
 ghost use Rattle.flurry_bins.specs.Chain.{chain, node_chain, entry_of};
 ghost use Rattle.flurry_bins.specs.Entries.{IsAscending, IsAscending-prop, is_at};
 ghost use Rattle.flurry_bins.specs.Tree.{shape, node_shape, inorder, IsRedBlack, IsRedBlack-prop};
