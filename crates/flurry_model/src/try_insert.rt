@@ -1,5 +1,4 @@
 //! The error of an insertion that finds its key present.
-ghost use Rattle.std.specs.Prelude.{Some, None};
 ghost use Rattle.flurry_model.specs.TryInsert.{try_insert_text};
 
 use std::alloc::{Allocator, Global};

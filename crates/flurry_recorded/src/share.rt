@@ -1,5 +1,5 @@
 //! What one caller of a recorded map keeps of its calls.
-ghost use Rattle.std.specs.Prelude.{◌≡◌, [], Some, is_some, MatchOption, slice_get, slice_set};
+ghost use Rattle.std.specs.Prelude.{◌≡◌, [], is_some, MatchOption, slice_get, slice_set};
 ghost use Rattle.flurry_recorded.specs.Shares.{share_contents, with_receipts, receipt};
 
 use crate::kept::KeptCall;
