@@ -112,6 +112,7 @@ pub enum Reply<K: Ord, V, S: KeyHasher<K> = DefaultHashBuilder, A: Allocator = G
 }
 
 impl<K: Ord + Drop, V: Drop, S: KeyHasher<K>, A: Allocator + Copy> SeqMap<K, V, S, A> {
+    ghost use Rattle.flurry_model.specs.FiniteMap.{IsFiniteMap};
     ghost use Rattle.flurry_seq.specs.Calls.{CallAnswers, CallRefused};
     ghost use Rattle.flurry_seq.specs.CallLists.{RunsTo, EndsEarly};
     ghost use Rattle.flurry_seq.specs.Kinds.{Reads, Shares, Writes, ChangesMany};
@@ -138,6 +139,7 @@ impl<K: Ord + Drop, V: Drop, S: KeyHasher<K>, A: Allocator + Copy> SeqMap<K, V, 
             (λ f k v o. (x : Bor K) × (y : Bor V) × (x.now ≡ k) × (y.now ≡ v) × F.post f x y o)
             P.step call self.old reply self.new) }
         ensures err { OnErr result (CallRefused K.cmp call self.old self.new) }
+        ensures ascend { IsFiniteMap K.cmp self.old.pairs }
     {
         match call {
             Call::ContainsKey(_)
@@ -176,9 +178,10 @@ impl<K: Ord + Drop, V: Drop, S: KeyHasher<K>, A: Allocator + Copy> SeqMap<K, V, 
         F: Drop,
         P: Drop,
         requires { Reads call }
-        ensures { CallAnswers K.cmp V.eq S.hash_of
+        ensures answer { CallAnswers K.cmp V.eq S.hash_of
             (λ f k v o. (x : Bor K) × (y : Bor V) × (x.now ≡ k) × (y.now ≡ v) × F.post f x y o)
             P.step call self.now result self.now }
+        ensures ascend { IsFiniteMap K.cmp self.now.pairs }
     {
         match call {
             Call::ContainsKey(key) => Reply::Truth(self.contains_key(&key)),
@@ -202,9 +205,10 @@ impl<K: Ord + Drop, V: Drop, S: KeyHasher<K>, A: Allocator + Copy> SeqMap<K, V, 
         F: Drop,
         P: Drop,
         requires { Shares call }
-        ensures { IfOk result (λ reply. CallAnswers K.cmp V.eq S.hash_of
+        ensures ok { IfOk result (λ reply. CallAnswers K.cmp V.eq S.hash_of
             (λ f k v o. (x : Bor K) × (y : Bor V) × (x.now ≡ k) × (y.now ≡ v) × F.post f x y o)
             P.step call self.now reply self.now) }
+        ensures ascend { IsFiniteMap K.cmp self.now.pairs }
     {
         match call {
             Call::Get(key) => Ok(Reply::Value(owner_of(self.get(&key))?)),
@@ -233,6 +237,7 @@ impl<K: Ord + Drop, V: Drop, S: KeyHasher<K>, A: Allocator + Copy> SeqMap<K, V, 
             (λ f k v o. (x : Bor K) × (y : Bor V) × (x.now ≡ k) × (y.now ≡ v) × F.post f x y o)
             P.step call self.old reply self.new) }
         ensures err { OnErr result (CallRefused K.cmp call self.old self.new) }
+        ensures ascend { IsFiniteMap K.cmp self.old.pairs }
     {
         match call {
             Call::Insert(key, value) => Ok(Reply::Value(self.insert(key, value)?)),
@@ -263,6 +268,7 @@ impl<K: Ord + Drop, V: Drop, S: KeyHasher<K>, A: Allocator + Copy> SeqMap<K, V, 
             (λ f k v o. (x : Bor K) × (y : Bor V) × (x.now ≡ k) × (y.now ≡ v) × F.post f x y o)
             P.step call self.old reply self.new) }
         ensures err { OnErr result (CallRefused K.cmp call self.old self.new) }
+        ensures ascend { IsFiniteMap K.cmp self.old.pairs }
     {
         match call {
             Call::Retain(test) => self.retain(test),
@@ -299,7 +305,10 @@ impl<K: Ord + Drop, V: Drop, S: KeyHasher<K>, A: Allocator + Copy> SeqMap<K, V, 
             (CallAnswers K.cmp V.eq S.hash_of
             (λ f k v o. (x : Bor K) × (y : Bor V) × (x.now ≡ k) × (y.now ≡ v) × F.post f x y o) P.step)
             (CallRefused K.cmp) calls.items self.old self.new) }
+        ensures ascend { IsFiniteMap K.cmp self.old.pairs }
     {
+        // No call but this one tells that the keys ascend, where the list is empty.
+        let _ = self.is_empty();
         let mut replies = Vec::with_capacity(alloc, calls.len())?;
         while let Some(call) = calls.pop_front() {
             let reply = self.call(call)?;
