@@ -20,7 +20,7 @@ pub use Rattle.flurry_map_ref.specs.Walks
 pub use Rattle.flurry_model.specs.FiniteMap
 pub use Rattle.flurry_model.specs.FiniteSet
 pub use Rattle.flurry_model.specs.Hashing
-pub use Rattle.flurry_model.specs.Keeping
+pub use Rattle.flurry_model.specs.Keeps
 pub use Rattle.flurry_model.specs.OneKey
 pub use Rattle.flurry_model.specs.Sizes
 pub use Rattle.flurry_model.specs.TryInsert
@@ -65,6 +65,10 @@ pub use Rattle.flurry_steps.specs.PartyControl
 pub use Rattle.flurry_steps.specs.PartySlots
 pub use Rattle.flurry_steps.specs.PartyTally
 pub use Rattle.flurry_steps.specs.PartyView
+pub use Rattle.flurry_theory.specs.Legal
+pub use Rattle.flurry_theory.specs.Map
+pub use Rattle.flurry_theory.specs.OneKeyCalls
+pub use Rattle.flurry_theory.specs.Trace
 pub use Rattle.flurry_world.specs.Lawful
 pub use Rattle.flurry_world.specs.Parts
 pub use Rattle.flurry_world.specs.Runs

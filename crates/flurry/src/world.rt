@@ -4,6 +4,7 @@ pub use flurry_drive::{drive, drive_alone};
 pub use flurry_slots::{ComputeFn, NoFn};
 pub use flurry_steps::party::OwnedCall;
 pub use flurry_theory::{Call, Label, Seen, laws};
+pub use flurry_world::laws::one_key_calls_agree;
 pub use flurry_world::tables::Tables;
 pub use flurry_world::world::Step;
 pub use flurry_world::{Parts, World};

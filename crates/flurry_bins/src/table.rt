@@ -6,7 +6,7 @@ ghost use Rattle.flurry_bins.specs.Bin.{entries_of_bin, is_tree};
 ghost use Rattle.flurry_bins.specs.Chain.{entry_of};
 ghost use Rattle.flurry_bins.specs.Entries.{entry_at, with_entry, IsInsertion};
 ghost use Rattle.flurry_model.specs.BinSizes.{grows_into_tree, asks_for_growth};
-ghost use Rattle.flurry_model.specs.declared.sizes.TheConstants.{MOST_PAIRS};
+ghost use Rattle.flurry_model.specs.declared.sizes.TheConstants.{LONG_LIST, MOST_PAIRS};
 
 use crate::bin::{Bin, BoxedNode, Ordered, Shape};
 pub use flurry_model::reply::KeptReply;
@@ -18,7 +18,7 @@ use std::sync::Arc;
 
 // Whether one more entry makes a tree of the bin in a large table, or asks for a larger one.
 fn is_long_list<K: Ord + Drop, V: Drop, A: Allocator>(bin: &Bin<K, V, A>) -> bool
-    ensures { result ≡ (not (is_tree bin.now) && (length (entries_of_bin bin.now) == 8)) }
+    ensures { result ≡ (not (is_tree bin.now) && (length (entries_of_bin bin.now) == LONG_LIST)) }
 {
     match bin.shape() {
         Shape::List(count) => count == LONG_LIST,

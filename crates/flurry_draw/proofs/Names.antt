@@ -1,7 +1,7 @@
 -- Names that are added to what a page shows.
 use Rattle.std.proofs.Common.{◌∙◌, sym, ap, refl, ℕ, List, [], ◌∷◌, ◌++◌}
 use Rattle.std.proofs.lemmas.List.{append-nil, append_assoc}
-use Rattle.flurry_draw.specs.Reading.{IsOneLine, AddsNames}
+use Rattle.flurry_draw.specs.ReaderState.{IsOneLine, AddsNames}
 
 one_line-append : (a b : List ℕ) → IsOneLine a → IsOneLine b → IsOneLine (a ++ b)
 one_line-append [] b h k = k

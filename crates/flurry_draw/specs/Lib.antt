@@ -1,2 +1,2 @@
 pub mod Picture
-pub mod Reading
+pub mod ReaderState

@@ -2,7 +2,7 @@
 use Rattle.std.specs.Prelude.{◌≡◌, ℕ, List, [], None, Some}
 use Rattle.flurry_program.specs.Runs.{Ends}
 use Rattle.flurry_program.specs.ScheduleRuns.{of_a_schedule}
-use Rattle.flurry_draw.specs.Reading.{reads, between_tags, IsDrawing}
+use Rattle.flurry_draw.specs.ReaderState.{reads, between_tags, IsDrawing}
 
 -- without its tags a picture is this text, and then one line of names
 abbrev pub Draws : List ℕ → List ℕ → Type 0

@@ -1,6 +1,6 @@
 //! Draws the run of a schedule.
 ghost use Rattle.std.specs.Prelude.{◌≡◌, ◌++◌, IfOk, OnOk};
-ghost use Rattle.flurry_draw.specs.Reading.{AddsNames, IsDrawing, IsOneLine};
+ghost use Rattle.flurry_draw.specs.ReaderState.{AddsNames, IsDrawing, IsOneLine};
 
 use crate::label::{Kind, split_line};
 use crate::lanes::{Lane, Mark, Plan};

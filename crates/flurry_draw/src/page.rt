@@ -1,6 +1,6 @@
 //! A picture that is written from its start to its end.
 ghost use Rattle.std.specs.Prelude.{◌≡◌, [], ◌++◌, OnOk, OnErr, IfOk};
-ghost use Rattle.flurry_draw.specs.Reading.{reads, between_tags, Shows};
+ghost use Rattle.flurry_draw.specs.ReaderState.{reads, between_tags, Shows};
 
 use std::alloc::{AllocError, Global};
 use std::marker::Model;
@@ -13,7 +13,7 @@ pub struct Page {
 
 impl Model for Page {
     ghost use Rattle.std.specs.Prelude.{◌≡◌, ℕ, List};
-    ghost use Rattle.flurry_draw.specs.Reading.{reads, Text};
+    ghost use Rattle.flurry_draw.specs.ReaderState.{reads, Text};
 
     ghost Value = { List ℕ };
 

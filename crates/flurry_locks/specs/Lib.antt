@@ -1,2 +1,2 @@
-pub mod Lending
-pub mod Walking
+pub mod LockLoans
+pub mod WalkTurns

@@ -2,7 +2,7 @@
 ghost use Rattle.std.specs.Prelude.{◌≡◌};
 ghost use Rattle.flurry_calls.specs.Part.{ControlPart, LookPart};
 ghost use Rattle.flurry_calls.specs.Sweep.{swept_part};
-ghost use Rattle.flurry_locks.specs.Walking.{WalkTurn, WalksOrStays};
+ghost use Rattle.flurry_locks.specs.WalkTurns.{WalkTurn, WalksOrStays};
 
 use crate::locks::Locks;
 use crate::tables::Maker;
@@ -132,7 +132,7 @@ impl<'m, R: Wait, K: Ord + Drop, V: Drop, A: Allocator> Lender<'m, R, K, V, A> {
 
 impl<'m, R: Wait, K: Ord + Drop, V: Drop, A: Allocator + Copy> Field<K, V, A>
     for Lender<'m, R, K, V, A> {
-    ghost use Rattle.flurry_locks.specs.Lending.{LockLends, LockLacks};
+    ghost use Rattle.flurry_locks.specs.LockLoans.{LockLends, LockLacks};
 
     type Room = Maker<'m, K, V, A>;
 

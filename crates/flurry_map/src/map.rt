@@ -48,9 +48,9 @@ pub struct HashMap<K: Ord, V, S: KeyHasher<K> = DefaultHashBuilder, A: Allocator
 }
 
 impl<K: Ord, V, S: KeyHasher<K>, A: Allocator> Model for HashMap<K, V, S, A> {
-    ghost use Rattle.flurry_map_ref.specs.Driven.{Shared};
+    ghost use Rattle.flurry_map_ref.specs.Driven.{MapSettings};
 
-    ghost Value = { Shared S };
+    ghost Value = { MapSettings S };
 
     ghost view = { λ m. record { hasher = m.hasher; processors = m.processors } };
 }

@@ -2,8 +2,8 @@
 use Rattle.std.proofs.Common.{◌≡◌, ℕ, Option, Some, None, IsSome, MatchOption, Result, Ok, Err, false, refl, sym, ap, subst}
 use Rattle.std.specs.declared.cmp.Ordering.{Ordering}
 use Rattle.flurry_drive.specs.Turns.{Turns, still, further}
-use Rattle.flurry_locks.specs.Lending.{LockLends}
-use Rattle.flurry_locks.specs.Walking.{WalkTurn, WalksOrStays, AtControl, AtStart, AtSlot}
+use Rattle.flurry_locks.specs.LockLoans.{LockLends}
+use Rattle.flurry_locks.specs.WalkTurns.{WalkTurn, WalksOrStays, AtControl, AtStart, AtSlot}
 use Rattle.flurry_model.specs.declared.call.Seen.{Seen}
 use Rattle.flurry_replies.specs.Replies.{GoesTo, MakerStays}
 use Rattle.flurry_replies.specs.Answers.{CanWalk}

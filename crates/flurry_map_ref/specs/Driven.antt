@@ -9,7 +9,7 @@ use Rattle.flurry_steps.specs.declared.party.call.Call.{Call}
 use Rattle.flurry_steps.specs.declared.party.call.Call.TheVariants as call
 
 -- what of a shared map stays as it is
-pub record Shared (S : Type 0) : Type 0 where
+pub record MapSettings (S : Type 0) : Type 0 where
   pub hasher : S
   pub processors : ℕ
 
@@ -31,5 +31,5 @@ hash_in hash (call.Compute k f) = hash k.now
 hash_in hash _ = 0
 
 -- the reply of the call that begins at that stage, over a shared map
-abbrev pub IsDriven : (M : Type 0) → {K V F S : Type 0} → (K → K → Ordering) → (F → K → V → Option V → Type 0) → Shared S → ℕ → Stage K V F → Outcome K V → Type 0
+abbrev pub IsDriven : (M : Type 0) → {K V F S : Type 0} → (K → K → Ordering) → (F → K → V → Option V → Type 0) → MapSettings S → ℕ → Stage K V F → Outcome K V → Type 0
 IsDriven M cmp changes m hash first r = IsReplyOf M cmp changes (record { hash = hash; processors = m.processors; stage = first }) r

@@ -3,7 +3,7 @@ use Rattle.std.specs.Prelude.{◌≡◌, ◌≢◌, ◌⊎◌, Bool, true, false
 use Rattle.std.specs.Option.{option_map}
 use Rattle.std.specs.declared.cmp.Ordering.{Ordering}
 use Rattle.flurry_drive.specs.Turns.{Turns}
-use Rattle.flurry_locks.specs.Walking.{WalkTurn}
+use Rattle.flurry_locks.specs.WalkTurns.{WalkTurn}
 use Rattle.flurry_model.specs.declared.call.Seen.{Seen}
 use Rattle.flurry_calls.specs.Outcome.{Outcome, OutcomeEnded, OutcomeRefused}
 use Rattle.flurry_calls.specs.Sweep.{SweepState, Reads, AfterEnd, fresh_sweep, swept_outcome, with_stage}
@@ -11,7 +11,7 @@ use Rattle.flurry_calls.specs.declared.step.Event.{Event}
 use Rattle.flurry_calls.specs.declared.step.Event.TheVariants as event
 
 -- an iterator: its walk, and whether it has ended
-pub record Walking (K V : Type 0) : Type 0 where
+pub record IteratorState (K V : Type 0) : Type 0 where
   pub walk : SweepState K V
   pub has_ended : Bool
 
@@ -54,7 +54,7 @@ module _ {K V : Type 0} (cmp : K → K → Ordering) where
   IsUnderWay p = Turns {S = Unit {0}} AnyTurn tt (fresh_sweep Reads) tt p
 
   -- an iterator that has done its first step, by which its walk begins at the table that is published, or has ended without one
-  pub record Begins (it : Walking K V) : Type 0 where
+  pub record Begins (it : IteratorState K V) : Type 0 where
     pub event : Event
     pub step : WalkTurn cmp (fresh_sweep Reads) event it.walk
     pub goes_on : it.has_ended ≡ false
@@ -65,7 +65,7 @@ has_ended_after (Ok (Some x)) = false
 has_ended_after _ = true
 
 -- What an iterator answers, and what it is then: one that has ended stays as it is, and answers none.
-pub record Gives {K V X Y E : Type 0} (cmp : K → K → Ordering) (told : X → Y) (seen : Seen K V → Y) (it : Walking K V) (r : Result (Option X) E) (it' : Walking K V) : Type 0 where
+pub record Gives {K V X Y E : Type 0} (cmp : K → K → Ordering) (told : X → Y) (seen : Seen K V → Y) (it : IteratorState K V) (r : Result (Option X) E) (it' : IteratorState K V) : Type 0 where
   pub ended : it.has_ended ≡ true → (r ≡ Ok None) × (it' ≡ it)
   pub answers : it.has_ended ≡ false → Answers cmp told seen it.walk r it'.walk
   pub goes_on : it.has_ended ≡ false → it'.has_ended ≡ has_ended_after r

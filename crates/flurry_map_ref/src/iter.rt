@@ -32,9 +32,9 @@ pub struct Iter<'m, R, K: Ord, V, A: Allocator = Global> {
 
 impl<'m, R, K: Ord, V, A: Allocator> Model for Iter<'m, R, K, V, A> {
     ghost use Rattle.std.specs.Prelude.{◌≡◌, false};
-    ghost use Rattle.flurry_map_ref.specs.Walks.{Walking, IsUnderWay};
+    ghost use Rattle.flurry_map_ref.specs.Walks.{IteratorState, IsUnderWay};
 
-    ghost Value = { Walking K V };
+    ghost Value = { IteratorState K V };
 
     ghost view = { λ it. record { walk = it.walk; has_ended = it.has_ended } };
 
@@ -188,9 +188,9 @@ pub struct Keys<'m, R, K: Ord, V, A: Allocator = Global> {
 }
 
 impl<'m, R, K: Ord, V, A: Allocator> Model for Keys<'m, R, K, V, A> {
-    ghost use Rattle.flurry_map_ref.specs.Walks.{Walking};
+    ghost use Rattle.flurry_map_ref.specs.Walks.{IteratorState};
 
-    ghost Value = { Walking K V };
+    ghost Value = { IteratorState K V };
 
     ghost view = { λ it. it.pairs };
 }
@@ -232,9 +232,9 @@ pub struct Values<'m, R, K: Ord, V, A: Allocator = Global> {
 }
 
 impl<'m, R, K: Ord, V, A: Allocator> Model for Values<'m, R, K, V, A> {
-    ghost use Rattle.flurry_map_ref.specs.Walks.{Walking};
+    ghost use Rattle.flurry_map_ref.specs.Walks.{IteratorState};
 
-    ghost Value = { Walking K V };
+    ghost Value = { IteratorState K V };
 
     ghost view = { λ it. it.pairs };
 }

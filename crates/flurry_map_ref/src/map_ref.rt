@@ -51,9 +51,9 @@ pub struct HashMapRef<
 }
 
 impl<'m, R, K: Ord, V, S: KeyHasher<K>, A: Allocator> Model for HashMapRef<'m, R, K, V, S, A> {
-    ghost use Rattle.flurry_map_ref.specs.Driven.{Shared};
+    ghost use Rattle.flurry_map_ref.specs.Driven.{MapSettings};
 
-    ghost Value = { Shared S };
+    ghost Value = { MapSettings S };
 
     ghost view = { λ m. record { hasher = m.hasher.now; processors = m.processors } };
 }

@@ -5,4 +5,4 @@ pub mod HashOrderLaws
 pub mod RegionLaws
 pub mod SizeLaws
 pub mod BinSizeLaws
-pub mod KeepingLaws
+pub mod KeepsLaws

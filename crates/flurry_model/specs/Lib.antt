@@ -6,6 +6,6 @@ pub mod SeededHasher
 pub mod Hashing
 pub mod Sizes
 pub mod BinSizes
-pub mod Keeping
+pub mod Keeps
 pub mod Greatest
 pub mod TryInsert

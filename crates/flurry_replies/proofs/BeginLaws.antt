@@ -2,7 +2,7 @@
 use Rattle.std.proofs.Common.{◌≡◌, ℕ, ℤ, ◌%◌, ◌^◌, ◌≤◌, true, Option, refl, subst}
 use Rattle.std.specs.declared.cmp.Ordering.{Ordering}
 use Rattle.flurry_drive.specs.Turns.{Turns, TurnsTo, still, further}
-use Rattle.flurry_locks.specs.Lending.{LockLends}
+use Rattle.flurry_locks.specs.LockLoans.{LockLends}
 use Rattle.flurry_replies.specs.Replies.{GoesTo, IsReplyOf, MakerStays}
 use Rattle.flurry_model.specs.declared.sizes.TheConstants.{GREATEST_TABLE}
 use Rattle.flurry_slots.specs.Slot.{SlotState, IsSlot}

@@ -2,7 +2,7 @@
 use Rattle.std.specs.Prelude.{◌≡◌, ℕ, Bool, Option, Result, Ok, Err}
 use Rattle.std.specs.declared.cmp.Ordering.{Ordering}
 use Rattle.flurry_drive.specs.Turns.{Turns, TurnsTo}
-use Rattle.flurry_locks.specs.Lending.{LockLends}
+use Rattle.flurry_locks.specs.LockLoans.{LockLends}
 use Rattle.flurry_steps.specs.Field.{Turn}
 use Rattle.flurry_steps.specs.PartyTally.{EndingState, ending_stage}
 use Rattle.flurry_calls.specs.Outcome.{Outcome}

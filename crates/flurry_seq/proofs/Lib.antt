@@ -5,7 +5,7 @@ pub mod EqualityLemmas
 pub mod GrowthLemmas
 pub mod HalvingLemmas
 pub mod IterLaws
-pub mod KeepingLemmas
+pub mod KeepsLemmas
 pub mod RemainingLemmas
 pub mod ListLaws
 pub mod NumberLemmas

@@ -21,7 +21,7 @@ pub use Rattle.flurry_model.specs.BinSizes
 pub use Rattle.flurry_model.specs.FiniteMap
 pub use Rattle.flurry_model.specs.HashOrder
 pub use Rattle.flurry_model.specs.Hashing
-pub use Rattle.flurry_model.specs.Keeping
+pub use Rattle.flurry_model.specs.Keeps
 pub use Rattle.flurry_model.specs.OneKey
 pub use Rattle.flurry_model.specs.Sizes
 pub use Rattle.flurry_model.specs.TryInsert

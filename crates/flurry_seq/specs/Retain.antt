@@ -4,7 +4,7 @@ use Rattle.std.specs.declared.cmp.Ordering.{Ordering}
 use Rattle.std.specs.Borrow.{Bor}
 use Rattle.std.specs.List.Sorted.{IsPermutation}
 use Rattle.flurry_model.specs.FiniteMap.{map_of_pairs}
-use Rattle.flurry_model.specs.Keeping.{Keeps, CalledAtPair}
+use Rattle.flurry_model.specs.Keeps.{Keeps, CalledAtPair}
 use Rattle.flurry_seq.specs.Contents.{Contents, with_pairs}
 use Rattle.flurry_seq.specs.Table.{pair_of}
 

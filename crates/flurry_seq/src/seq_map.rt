@@ -16,7 +16,7 @@ ghost use Rattle.flurry_seq.specs.MapsOfBins.{maps_of_bins};
 ghost use Rattle.flurry_seq.specs.Shapes.{count_in, IsFit};
 ghost use Rattle.flurry_seq.specs.Table.{bin_of};
 ghost use Rattle.flurry_seq.specs.Contents.{contents, with_pairs, SamePairs, asked_for, first_bins, IsLeftByReserve};
-ghost use Rattle.flurry_model.specs.declared.sizes.TheConstants.{FIRST_BINS, GREATEST_TABLE, MOST_PAIRS};
+ghost use Rattle.flurry_model.specs.declared.sizes.TheConstants.{FIRST_BINS, GREATEST_TABLE, LEAST_FOR_TREES, LONG_LIST, MOST_PAIRS};
 
 mod retain;
 
@@ -640,7 +640,7 @@ impl<K: Ord + Drop, V: Drop, S: KeyHasher<K>, A: Allocator + Copy> SeqMap<K, V, 
     // Makes the table larger where that is due after a new key, whose bin may ask for it.
     fn grow(&mut self, asks: bool)
         requires table { 0 < self.old.bins }
-        requires asks { IsTrue asks → (self.old.bins < 64) × (8 < length self.old.pairs) }
+        requires asks { IsTrue asks → (self.old.bins < LEAST_FOR_TREES) × (LONG_LIST < length self.old.pairs) }
         ensures same { SamePairs self.old self.new }
         ensures bins { IsTableAfter self.old.bins (length self.new.pairs) self.new.bins }
     {
@@ -658,7 +658,8 @@ impl<K: Ord + Drop, V: Drop, S: KeyHasher<K>, A: Allocator + Copy> SeqMap<K, V, 
         ensures pairs { let e = entry_of node.value in
             OnOk result (self.new.pairs ≡ with_pair K.cmp self.old.pairs (arc_value e.key) (arc_value e.value)) }
         ensures bins { OnOk result (self.new.bins ≡ first_bins self.old.bins FIRST_BINS) }
-        ensures asks { IfOk result (λ asks. IsTrue asks → (self.new.bins < 64) × (8 < length self.new.pairs)) }
+        ensures asks { IfOk result (λ asks. IsTrue asks
+            → (self.new.bins < LEAST_FOR_TREES) × (LONG_LIST < length self.new.pairs)) }
         ensures table { OnOk result (0 < self.new.bins) }
         ensures hasher { self.new.hasher ≡ self.old.hasher }
         ensures err { OnErr result (self.new ≡ self.old) }

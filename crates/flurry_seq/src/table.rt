@@ -10,7 +10,7 @@ ghost use Rattle.flurry_seq.specs.Numbers.{BinsBearZero};
 ghost use Rattle.flurry_seq.specs.MapsOfBins.{maps_of_bins};
 ghost use Rattle.flurry_seq.specs.Shapes.{count_in, IsFit};
 ghost use Rattle.flurry_seq.specs.Table.{bin_of, bin_at, entry_in, bins_with, bins_without, bins_doubled};
-ghost use Rattle.flurry_model.specs.declared.sizes.TheConstants.{GREATEST_TABLE, MOST_PAIRS};
+ghost use Rattle.flurry_model.specs.declared.sizes.TheConstants.{GREATEST_TABLE, LEAST_FOR_TREES, LONG_LIST, MOST_PAIRS};
 
 mod retain;
 
@@ -132,7 +132,7 @@ impl<K: Ord + Drop, V: Drop, A: Allocator> Table<K, V, A> {
         ensures after { let e = entry_of node.value in
             self.new ≡ bins_with K.cmp self.old e.hash (arc_value e.key) (arc_value e.value) }
         ensures asks { IsTrue result
-            → (length self.old < 64) × (length (bin_at self.old (entry_of node.value).hash) ≡ 8) }
+            → (length self.old < LEAST_FOR_TREES) × (length (bin_at self.old (entry_of node.value).hash) ≡ LONG_LIST) }
     {
         let count = self.bins.len();
         let at = place(&self.bins, node.entry().hash);
@@ -179,7 +179,8 @@ impl<K: Ord + Drop, V: Drop, A: Allocator + Copy> Table<K, V, A> {
         requires room { length (bin_at self.old hash) < MOST_PAIRS }
         ensures old { IfOk result (λ r. option_map arc_value r.0 ≡ option_map (λ e. e.1) (entry_in K.cmp self.old hash key)) }
         ensures after { OnOk result (self.new ≡ bins_with K.cmp self.old hash key (arc_value value)) }
-        ensures asks { IfOk result (λ r. IsTrue r.1 → (length self.old < 64) × (length (bin_at self.old hash) ≡ 8)) }
+        ensures asks { IfOk result (λ r. IsTrue r.1
+            → (length self.old < LEAST_FOR_TREES) × (length (bin_at self.old hash) ≡ LONG_LIST)) }
         ensures err { OnErr result (self.new ≡ self.old) }
     {
         let alloc = *self.bins.allocator();

@@ -13,7 +13,7 @@ use Rattle.std.proofs.lemmas.List.Sorted.{IsPermutation-map}
 use Rattle.std.proofs.lemmas.Map.Keys.{sorted_head, sorted_tail}
 use Rattle.flurry_model.specs.FiniteMap.{IsFiniteMap, pair_at, value_at, with_pair, without, map_of_pairs}
 use Rattle.flurry_model.specs.FiniteSet.{IsFiniteSet, element_at, with_element, with_elements, without_element, set_of_elements, IsSubset, AreDisjoint}
-use Rattle.flurry_model.specs.Keeping.{Keeps, CalledAtPair}
+use Rattle.flurry_model.specs.Keeps.{Keeps, CalledAtPair}
 use Rattle.flurry_model.proofs.FiniteMapLaws.{below_all, alike_all, pair_at-with_pair, IsFiniteMap-with_pair, IsFiniteMap-map_of_pairs}
 use Rattle.flurry_seq.specs.Contents.{Contents}
 use Rattle.flurry_seq.specs.Equality.{pair_eq}

@@ -5,7 +5,7 @@ pub mod SetRetain
 pub use Rattle.flurry_model.specs.FiniteMap
 pub use Rattle.flurry_model.specs.FiniteSet
 pub use Rattle.flurry_model.specs.Hashing
-pub use Rattle.flurry_model.specs.Keeping
+pub use Rattle.flurry_model.specs.Keeps
 pub use Rattle.flurry_model.specs.Sizes
 pub use Rattle.flurry_seq.specs.CallLists
 pub use Rattle.flurry_seq.specs.Contents

@@ -8,7 +8,7 @@ use Rattle.flurry_model.specs.FiniteSet.{element_at, with_element, with_elements
 use Rattle.flurry_model.specs.Sizes.{IsGrown}
 use Rattle.flurry_seq.specs.Contents.{first_bins, IsLeftByReserve}
 use Rattle.flurry_set.specs.SetRetain.{RetainsElements}
-use Rattle.flurry_set.specs.SetContents.{SetContents, SameElements, holding, asked_for, sets_eq}
+use Rattle.flurry_set.specs.SetContents.{SetContents, SameElements, set_with, asked_for, sets_eq}
 use Rattle.flurry_set.specs.declared.set_calls.SetCall.{SetCall}
 use Rattle.flurry_set.specs.declared.set_calls.SetCall.TheVariants.{Contains, Get, Insert, Remove, Take, Retain, Len, IsEmpty, Elements, IsDisjoint, IsSuperset, Equals, TryClone, Clear, Reserve, Extend}
 use Rattle.flurry_set.specs.declared.set_calls.SetCall.TheVariants as call
@@ -35,8 +35,8 @@ module _ {T S A : Type 0} where
     SetCallAnswers (Insert x) s r n =
         (r ≡ Truth (is_none (element_at cmp s.elements x))) × (n.elements ≡ with_element cmp s.elements x) × (n.hasher ≡ s.hasher)
         × (IsSome (element_at cmp s.elements x) → n.bins ≡ s.bins)
-    SetCallAnswers (Remove x) s r n = (r ≡ Truth (is_some (element_at cmp s.elements x))) × (n ≡ holding s (without_element cmp s.elements x))
-    SetCallAnswers (Take x) s r n = (plain_element r ≡ Some (element_at cmp s.elements x)) × (n ≡ holding s (without_element cmp s.elements x))
+    SetCallAnswers (Remove x) s r n = (r ≡ Truth (is_some (element_at cmp s.elements x))) × (n ≡ set_with s (without_element cmp s.elements x))
+    SetCallAnswers (Take x) s r n = (plain_element r ≡ Some (element_at cmp s.elements x)) × (n ≡ set_with s (without_element cmp s.elements x))
     SetCallAnswers (Retain p) s r n = (r ≡ Done) × RetainsElements tests cmp p s n
     SetCallAnswers Len s r n = (r ≡ Number (length s.elements)) × (n ≡ s)
     SetCallAnswers IsEmpty s r n = (r ≡ Truth (length s.elements == 0)) × (n ≡ s)
@@ -46,7 +46,7 @@ module _ {T S A : Type 0} where
     SetCallAnswers (IsSuperset other) s r n = (yes : Bool) × (r ≡ Truth yes) × (IsTrue yes ↔ IsSubset cmp other.elements s.elements) × (n ≡ s)
     SetCallAnswers (Equals other) s r n = (r ≡ Truth (sets_eq cmp s other)) × (n ≡ s)
     SetCallAnswers TryClone s r n = (copy : SetContents T S) × (r ≡ reply.Set copy) × SameElements s copy × (n ≡ s)
-    SetCallAnswers Clear s r n = (r ≡ Done) × (n ≡ holding s [])
+    SetCallAnswers Clear s r n = (r ≡ Done) × (n ≡ set_with s [])
     SetCallAnswers (Reserve a) s r n = (r ≡ Done) × SameElements s n × IsGrown (first_bins s.bins (asked_for s a)) (asked_for s a) n.bins
     SetCallAnswers (Extend list) s r n = (r ≡ Done) × (n.elements ≡ with_elements cmp s.elements list.items) × (n.hasher ≡ s.hasher)
 

@@ -24,8 +24,8 @@ module _ {T S : Type 0} where
   keys_in m = set_contents (keys_of m.pairs) m.bins m.hasher
 
   -- the set with other elements, in as many bins
-  abbrev pub holding : SetContents T S → List T → SetContents T S
-  holding s xs = record s { elements = xs }
+  abbrev pub set_with : SetContents T S → List T → SetContents T S
+  set_with s xs = record s { elements = xs }
 
   abbrev pub set_contents_code : Coded T → Coded S → Coded (SetContents T S)
   set_contents_code t s = code_by (List T × (ℕ × S)) (coded× (coded_list t) (coded× coded_ℕ s)) (λ c. (c.elements, (c.bins, c.hasher))) (λ p. set_contents p.0 p.1.0 p.1.1) (λ _. refl)

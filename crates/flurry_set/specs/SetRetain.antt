@@ -4,8 +4,8 @@ use Rattle.std.specs.declared.cmp.Ordering.{Ordering}
 use Rattle.std.specs.Borrow.{Bor}
 use Rattle.std.specs.List.Sorted.{IsPermutation}
 use Rattle.flurry_model.specs.FiniteSet.{set_of_elements}
-use Rattle.flurry_model.specs.Keeping.{Keeps}
-use Rattle.flurry_set.specs.SetContents.{SetContents, holding}
+use Rattle.flurry_model.specs.Keeps.{Keeps}
+use Rattle.flurry_set.specs.SetContents.{SetContents, set_with}
 
 module _ {F T : Type 0} (step : F → Bor T → Bool → F → Type 0) where
   -- a call at a reference to an element
@@ -18,4 +18,4 @@ module _ {F T : Type 0} (step : F → Bor T → Bool → F → Type 0) where
   -- left. The bins and the hasher stay
   abbrev pub RetainsElements : {S : Type 0} → (T → T → Ordering) → F → SetContents T S → SetContents T S → Type 0
   RetainsElements cmp first old new =
-      (order kept : List T) × (last : F) × IsPermutation old.elements order × Keeps CalledAtElement first order kept last × (new ≡ holding old (set_of_elements cmp kept))
+      (order kept : List T) × (last : F) × IsPermutation old.elements order × Keeps CalledAtElement first order kept last × (new ≡ set_with old (set_of_elements cmp kept))

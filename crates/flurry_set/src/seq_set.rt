@@ -9,7 +9,7 @@ ghost use Rattle.flurry_model.specs.Hashing.{seed_of};
 ghost use Rattle.flurry_model.specs.Sizes.{wanted_of, IsGrown};
 ghost use Rattle.flurry_seq.specs.Contents.{first_bins, IsLeftByReserve};
 ghost use Rattle.flurry_seq.specs.Growth.{bins_for, IsTableFrom, IsTableAfter, HasRoom};
-ghost use Rattle.flurry_set.specs.SetContents.{keys_in, set_contents, holding, SameElements, asked_for, sets_eq, sets_eq_per, sets_eq_equiv};
+ghost use Rattle.flurry_set.specs.SetContents.{keys_in, set_contents, set_with, SameElements, asked_for, sets_eq, sets_eq_per, sets_eq_equiv};
 ghost use Rattle.flurry_set.specs.SetRetain.{RetainsElements};
 ghost use Rattle.flurry_model.specs.declared.sizes.TheConstants.{FIRST_BINS, MOST_PAIRS};
 
@@ -158,7 +158,7 @@ impl<T: Ord + Drop, S: KeyHasher<T>, A: Allocator> SeqSet<T, S, A> {
     /// Takes the element of the class out, and answers whether there was one. The table stays as large as it is.
     pub fn remove(&mut self, element: &T) -> bool
         ensures found { result ≡ is_some (element_at T.cmp self.old.elements element.now) }
-        ensures after { self.new ≡ holding self.old (without_element T.cmp self.old.elements element.now) }
+        ensures after { self.new ≡ set_with self.old (without_element T.cmp self.old.elements element.now) }
         ensures ascend { IsFiniteSet T.cmp self.old.elements }
     {
         self.map.remove(element).is_some()
@@ -167,7 +167,7 @@ impl<T: Ord + Drop, S: KeyHasher<T>, A: Allocator> SeqSet<T, S, A> {
     /// Takes the element of the class out, and answers it. The table stays as large as it is.
     pub fn take(&mut self, element: &T) -> Option<Arc<T, A>>
         ensures element { option_map arc_value result ≡ element_at T.cmp self.old.elements element.now }
-        ensures after { self.new ≡ holding self.old (without_element T.cmp self.old.elements element.now) }
+        ensures after { self.new ≡ set_with self.old (without_element T.cmp self.old.elements element.now) }
         ensures ascend { IsFiniteSet T.cmp self.old.elements }
     {
         let (stored, _) = self.map.remove_entry(element)?;
@@ -176,7 +176,7 @@ impl<T: Ord + Drop, S: KeyHasher<T>, A: Allocator> SeqSet<T, S, A> {
 
     /// Takes all elements out. The table stays as large as it is.
     pub fn clear(&mut self)
-        ensures after { self.new ≡ holding self.old [] }
+        ensures after { self.new ≡ set_with self.old [] }
         ensures ascend { IsFiniteSet T.cmp self.old.elements }
     {
         self.map.clear();
@@ -208,8 +208,11 @@ impl<T: Ord + Drop, S: KeyHasher<T>, A: Allocator> SeqSet<T, S, A> {
     /// Whether no element is of a class of the other set. One look-up for each element.
     pub fn is_disjoint(&self, other: &Self) -> bool
         ensures disjoint { IsTrue result ↔ AreDisjoint T.cmp self.now.elements other.now.elements }
-        ensures ascend { IsFiniteSet T.cmp self.now.elements }
+        ensures ascend { IsFiniteSet T.cmp self.now.elements × IsFiniteSet T.cmp other.now.elements }
     {
+        if other.is_empty() {
+            return true;
+        }
         for element in self.iter() {
             if other.contains(element.as_ref()) {
                 return false;
@@ -221,8 +224,11 @@ impl<T: Ord + Drop, S: KeyHasher<T>, A: Allocator> SeqSet<T, S, A> {
     /// Whether each element is of a class of the other set. One look-up for each element.
     pub fn is_subset(&self, other: &Self) -> bool
         ensures subset { IsTrue result ↔ IsSubset T.cmp self.now.elements other.now.elements }
-        ensures ascend { IsFiniteSet T.cmp self.now.elements }
+        ensures ascend { IsFiniteSet T.cmp self.now.elements × IsFiniteSet T.cmp other.now.elements }
     {
+        if other.is_empty() {
+            return self.is_empty();
+        }
         for element in self.iter() {
             if !other.contains(element.as_ref()) {
                 return false;
@@ -234,7 +240,7 @@ impl<T: Ord + Drop, S: KeyHasher<T>, A: Allocator> SeqSet<T, S, A> {
     /// Whether each element of the other set is of a class of this one. One look-up for each.
     pub fn is_superset(&self, other: &Self) -> bool
         ensures superset { IsTrue result ↔ IsSubset T.cmp other.now.elements self.now.elements }
-        ensures ascend { IsFiniteSet T.cmp other.now.elements }
+        ensures ascend { IsFiniteSet T.cmp self.now.elements × IsFiniteSet T.cmp other.now.elements }
     {
         other.is_subset(self)
     }

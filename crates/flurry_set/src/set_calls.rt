@@ -87,6 +87,7 @@ pub enum SetReply<T: Ord, S: KeyHasher<T> = DefaultHashBuilder, A: Allocator = G
 }
 
 impl<T: Ord + Drop, S: KeyHasher<T>, A: Allocator + Copy> SeqSet<T, S, A> {
+    ghost use Rattle.flurry_model.specs.FiniteSet.{IsFiniteSet};
     ghost use Rattle.flurry_set.specs.SetCalls.{SetCallAnswers, SetCallRefused};
     ghost use Rattle.flurry_set.specs.SetKinds.{Reads, Shares, Writes, ChangesMany};
 
@@ -105,6 +106,7 @@ impl<T: Ord + Drop, S: KeyHasher<T>, A: Allocator + Copy> SeqSet<T, S, A> {
         requires { (p : P) → P.IsAlwaysCallable p }
         ensures ok { IfOk result (λ reply. SetCallAnswers T.cmp P.step call self.old reply self.new) }
         ensures err { OnErr result (SetCallRefused T.cmp call self.old self.new) }
+        ensures ascend { IsFiniteSet T.cmp self.old.elements }
     {
         match call {
             SetCall::Contains(_)
@@ -128,7 +130,8 @@ impl<T: Ord + Drop, S: KeyHasher<T>, A: Allocator + Copy> SeqSet<T, S, A> {
         S: Drop,
         P: Drop,
         requires { Reads call }
-        ensures { SetCallAnswers T.cmp P.step call self.now result self.now }
+        ensures answer { SetCallAnswers T.cmp P.step call self.now result self.now }
+        ensures ascend { IsFiniteSet T.cmp self.now.elements }
     {
         match call {
             SetCall::Contains(element) => SetReply::Truth(self.contains(&element)),
@@ -151,7 +154,8 @@ impl<T: Ord + Drop, S: KeyHasher<T>, A: Allocator + Copy> SeqSet<T, S, A> {
         S: Copy + Drop,
         P: Drop,
         requires { Shares call }
-        ensures { IfOk result (λ reply. SetCallAnswers T.cmp P.step call self.now reply self.now) }
+        ensures ok { IfOk result (λ reply. SetCallAnswers T.cmp P.step call self.now reply self.now) }
+        ensures ascend { IsFiniteSet T.cmp self.now.elements }
     {
         match call {
             SetCall::Get(element) => Ok(SetReply::Element(owner_of(self.get(&element))?)),
@@ -175,6 +179,7 @@ impl<T: Ord + Drop, S: KeyHasher<T>, A: Allocator + Copy> SeqSet<T, S, A> {
         requires { Writes call }
         ensures ok { IfOk result (λ reply. SetCallAnswers T.cmp P.step call self.old reply self.new) }
         ensures err { OnErr result (SetCallRefused T.cmp call self.old self.new) }
+        ensures ascend { IsFiniteSet T.cmp self.old.elements }
     {
         match call {
             SetCall::Insert(element) => Ok(SetReply::Truth(self.insert(element)?)),
@@ -196,6 +201,7 @@ impl<T: Ord + Drop, S: KeyHasher<T>, A: Allocator + Copy> SeqSet<T, S, A> {
         requires tests { (p : P) → P.IsAlwaysCallable p }
         ensures ok { IfOk result (λ reply. SetCallAnswers T.cmp P.step call self.old reply self.new) }
         ensures err { OnErr result (SetCallRefused T.cmp call self.old self.new) }
+        ensures ascend { IsFiniteSet T.cmp self.old.elements }
     {
         match call {
             SetCall::Retain(test) => self.retain(test),
@@ -225,7 +231,10 @@ impl<T: Ord + Drop, S: KeyHasher<T>, A: Allocator + Copy> SeqSet<T, S, A> {
             (λ replies. RunsTo (SetCallAnswers T.cmp P.step) calls.items self.old replies.items self.new) }
         ensures err { OnErr result (EndsEarly (SetCallAnswers T.cmp P.step) (SetCallRefused T.cmp)
             calls.items self.old self.new) }
+        ensures ascend { IsFiniteSet T.cmp self.old.elements }
     {
+        // No call but this one tells that the elements ascend, where the list is empty.
+        let _ = self.is_empty();
         let mut replies = Vec::with_capacity(alloc, calls.len())?;
         while let Some(call) = calls.pop_front() {
             let reply = self.call(call)?;

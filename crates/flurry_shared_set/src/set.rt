@@ -34,9 +34,9 @@ pub struct HashSet<T: Ord, S: KeyHasher<T> = DefaultHashBuilder, A: Allocator = 
 }
 
 impl<T: Ord, S: KeyHasher<T>, A: Allocator> Model for HashSet<T, S, A> {
-    ghost use Rattle.flurry_map_ref.specs.Driven.{Shared};
+    ghost use Rattle.flurry_map_ref.specs.Driven.{MapSettings};
 
-    ghost Value = { Shared S };
+    ghost Value = { MapSettings S };
 
     ghost view = { λ s. s.map };
 }

@@ -31,9 +31,9 @@ pub struct HashSetRef<'m, R, T: Ord, S: KeyHasher<T> = DefaultHashBuilder, A: Al
 }
 
 impl<'m, R, T: Ord, S: KeyHasher<T>, A: Allocator> Model for HashSetRef<'m, R, T, S, A> {
-    ghost use Rattle.flurry_map_ref.specs.Driven.{Shared};
+    ghost use Rattle.flurry_map_ref.specs.Driven.{MapSettings};
 
-    ghost Value = { Shared S };
+    ghost Value = { MapSettings S };
 
     ghost view = { λ s. s.map };
 }

@@ -7,7 +7,7 @@ use Rattle.std.specs.Cmp.{IsTotalOrder}
 use Rattle.std.proofs.Common.{arith, refl, sym, ◌∙◌, ap, subst, inl, inr}
 use Rattle.std.proofs.lemmas.Grind.{common_steps}
 use Rattle.flurry_theory.specs.Map.{same, find, write, Allows}
-use Rattle.flurry_theory.specs.Bin.{place, rewrite, leave_out, write_entry, bin_after, number_of, bump, has_number, Entry, pairs_of, order, Above, Ascending}
+use Rattle.flurry_theory.specs.Bin.{place, rewrite, leave_out, write_entry, bin_after, number_of, bump, has_number, Entry, pairs_of, order, Above, IsAscending}
 use Rattle.flurry_model.specs.declared.call.Call.{Call}
 use Rattle.flurry_model.specs.declared.call.Call.TheVariants.{Get, GetKeyValue, ContainsKey, Insert, TryInsert, Compute, Remove, RemoveEntry, RemoveSeen, Reserve, Clear, Walk}
 use Rattle.flurry_model.specs.declared.reply.KeptReply.{KeptReply}
@@ -43,11 +43,11 @@ module _ {K V : Type 0} (cmp : K → K → Ordering) (total : IsTotalOrder cmp) 
   trans_above j k [] h a = tt
   trans_above j k (x ∷ es) h a = ((order_total cmp total hash lawful).trans j k x.key h a.0, trans_above j k es h a.1)
 
-  ascending-place : (x : Entry K V) (es : List (Entry K V)) → number_of cmp es x.key ≡ None → Ascending cmp hash es → Ascending cmp hash (place cmp hash x es)
+  ascending-place : (x : Entry K V) (es : List (Entry K V)) → number_of cmp es x.key ≡ None → IsAscending cmp hash es → IsAscending cmp hash (place cmp hash x es)
   ascending-place x [] h a = (tt, tt)
   ascending-place x (y ∷ es) h a = go (λ g. ascending-place x es g a.1) (is_lt (order cmp hash x.key y.key)) refl
     where
-      go : (number_of cmp es x.key ≡ None → Ascending cmp hash (place cmp hash x es)) → (b : Bool) → is_lt (order cmp hash x.key y.key) ≡ b → Ascending cmp hash (place cmp hash x (y ∷ es))
+      go : (number_of cmp es x.key ≡ None → IsAscending cmp hash (place cmp hash x es)) → (b : Bool) → is_lt (order cmp hash x.key y.key) ≡ b → IsAscending cmp hash (place cmp hash x (y ∷ es))
       go more true e = rw e (let l : order cmp hash x.key y.key ≡ Less = is_less _ e in ((l, trans_above x.key y.key es l a.0), a))
         where
           is_less : (o : Ordering) → is_lt o ≡ true → o ≡ Less
@@ -77,11 +77,11 @@ module _ {K V : Type 0} (cmp : K → K → Ordering) (total : IsTotalOrder cmp) 
       go more true e = rw e (a.0, a.1)
       go more false e = rw e (a.0, more)
 
-  ascending-rewrite : (k : K) (v : V) (n : ℕ) (es : List (Entry K V)) → Ascending cmp hash es → Ascending cmp hash (rewrite cmp hash k v n es)
+  ascending-rewrite : (k : K) (v : V) (n : ℕ) (es : List (Entry K V)) → IsAscending cmp hash es → IsAscending cmp hash (rewrite cmp hash k v n es)
   ascending-rewrite k v n [] a = tt
   ascending-rewrite k v n (x ∷ es) a = go (ascending-rewrite k v n es a.1) (same cmp x.key k) refl
     where
-      go : Ascending cmp hash (rewrite cmp hash k v n es) → (b : Bool) → same cmp x.key k ≡ b → Ascending cmp hash (rewrite cmp hash k v n (x ∷ es))
+      go : IsAscending cmp hash (rewrite cmp hash k v n es) → (b : Bool) → same cmp x.key k ≡ b → IsAscending cmp hash (rewrite cmp hash k v n (x ∷ es))
       go more true e = rw e (a.0, a.1)
       go more false e = rw e (above-rewrite x.key k v n es a.0, more)
 
@@ -101,11 +101,11 @@ module _ {K V : Type 0} (cmp : K → K → Ordering) (total : IsTotalOrder cmp) 
       go more true e = rw e more
       go more false e = rw e (a.0, more)
 
-  ascending-leave_out : (k : K) (es : List (Entry K V)) → Ascending cmp hash es → Ascending cmp hash (leave_out cmp hash k es)
+  ascending-leave_out : (k : K) (es : List (Entry K V)) → IsAscending cmp hash es → IsAscending cmp hash (leave_out cmp hash k es)
   ascending-leave_out k [] a = tt
   ascending-leave_out k (x ∷ es) a = go (ascending-leave_out k es a.1) (same cmp x.key k) refl
     where
-      go : Ascending cmp hash (leave_out cmp hash k es) → (b : Bool) → same cmp x.key k ≡ b → Ascending cmp hash (leave_out cmp hash k (x ∷ es))
+      go : IsAscending cmp hash (leave_out cmp hash k es) → (b : Bool) → same cmp x.key k ≡ b → IsAscending cmp hash (leave_out cmp hash k (x ∷ es))
       go more true e = rw e more
       go more false e = rw e (above-leave_out x.key k es a.0, more)
 
@@ -136,17 +136,17 @@ module _ {K V : Type 0} (cmp : K → K → Ordering) (total : IsTotalOrder cmp) 
         go (Some x) e = grind (arith, e, number-rewrite k v n es j)
         go None e = grind (arith, e, number-place (record { key = k; value = v; number = n }) es j e)
 
-    ascending-write : (es : List (Entry K V)) (k : K) (v : V) (n : ℕ) → Ascending cmp hash es → Ascending cmp hash (write_entry cmp hash k v n es)
+    ascending-write : (es : List (Entry K V)) (k : K) (v : V) (n : ℕ) → IsAscending cmp hash es → IsAscending cmp hash (write_entry cmp hash k v n es)
     ascending-write es k v n a = go (number_of cmp es k) refl
       where
-        go : (o : Option ℕ) → number_of cmp es k ≡ o → Ascending cmp hash (write_entry cmp hash k v n es)
+        go : (o : Option ℕ) → number_of cmp es k ≡ o → IsAscending cmp hash (write_entry cmp hash k v n es)
         go (Some x) e = rw e (ascending-rewrite k v n es a)
         go None e = rw e (ascending-place (record { key = k; value = v; number = n }) es e a)
 
     key_is : {k j : K} → Some k ≡ Some j → k ≡ j
     key_is {k} h = ap (λ o. unwrap_or o k) h
 
-    try_did : (k : K) (v w : V) (es : List (Entry K V)) (n : ℕ) → Ascending cmp hash es → Allows cmp gives (TryInsert k v) (pairs_of es) (New w) → ((z : Seen K V) → ◌≡◌ {A = Call K V F} (TryInsert k v) (RemoveSeen z) → removes cmp hash gives (New w) ≡ has_number (number_of cmp es z.key) z.number) → BinDid cmp hash gives (TryInsert k v) (New w) es n (place cmp hash (record { key = k; value = v; number = bump n }) es) (bump n)
+    try_did : (k : K) (v w : V) (es : List (Entry K V)) (n : ℕ) → IsAscending cmp hash es → Allows cmp gives (TryInsert k v) (pairs_of es) (New w) → ((z : Seen K V) → ◌≡◌ {A = Call K V F} (TryInsert k v) (RemoveSeen z) → removes cmp hash gives (New w) ≡ has_number (number_of cmp es z.key) z.number) → BinDid cmp hash gives (TryInsert k v) (New w) es n (place cmp hash (record { key = k; value = v; number = bump n }) es) (bump n)
     try_did k v w es n s a q = go (find cmp (pairs_of es) k) refl
       where
         go : (o : Option (K × V)) → find cmp (pairs_of es) k ≡ o → BinDid cmp hash gives (TryInsert k v) (New w) es n (place cmp hash (record { key = k; value = v; number = bump n }) es) (bump n)
@@ -164,7 +164,7 @@ module _ {K V : Type 0} (cmp : K → K → Ordering) (total : IsTotalOrder cmp) 
               conditional = q;
             }
 
-    compute_did : (k : K) (f : F) (w : V) (es : List (Entry K V)) (n : ℕ) → Ascending cmp hash es → Allows cmp gives (Compute k f) (pairs_of es) (Value (Some w)) → ((z : Seen K V) → ◌≡◌ {A = Call K V F} (Compute k f) (RemoveSeen z) → removes cmp hash gives (Value (Some w)) ≡ has_number (number_of cmp es z.key) z.number) → BinDid cmp hash gives (Compute k f) (Value (Some w)) es n (rewrite cmp hash k w (bump n) es) (bump n)
+    compute_did : (k : K) (f : F) (w : V) (es : List (Entry K V)) (n : ℕ) → IsAscending cmp hash es → Allows cmp gives (Compute k f) (pairs_of es) (Value (Some w)) → ((z : Seen K V) → ◌≡◌ {A = Call K V F} (Compute k f) (RemoveSeen z) → removes cmp hash gives (Value (Some w)) ≡ has_number (number_of cmp es z.key) z.number) → BinDid cmp hash gives (Compute k f) (Value (Some w)) es n (rewrite cmp hash k w (bump n) es) (bump n)
     compute_did k f w es n s a q = go (find cmp (pairs_of es) k) refl
       where
         go : (o : Option (K × V)) → find cmp (pairs_of es) k ≡ o → BinDid cmp hash gives (Compute k f) (Value (Some w)) es n (rewrite cmp hash k w (bump n) es) (bump n)
@@ -181,7 +181,7 @@ module _ {K V : Type 0} (cmp : K → K → Ordering) (total : IsTotalOrder cmp) 
         }
 
     -- each call does at a bin what the machine says
-    pub bin_did : (c : Call K V F) (r : KeptReply K V) (es : List (Entry K V)) (n : ℕ) → Ascending cmp hash es → Allows cmp gives c (pairs_of es) r → ((z : Seen K V) → c ≡ RemoveSeen z → removes cmp hash gives r ≡ has_number (number_of cmp es z.key) z.number) → BinDid cmp hash gives c r es n (bin_after cmp hash c r es n).0 (bin_after cmp hash c r es n).1
+    pub bin_did : (c : Call K V F) (r : KeptReply K V) (es : List (Entry K V)) (n : ℕ) → IsAscending cmp hash es → Allows cmp gives c (pairs_of es) r → ((z : Seen K V) → c ≡ RemoveSeen z → removes cmp hash gives r ≡ has_number (number_of cmp es z.key) z.number) → BinDid cmp hash gives c r es n (bin_after cmp hash c r es n).0 (bin_after cmp hash c r es n).1
     bin_did (Insert k v) r es n s a q = record { allowed = a; ascending = ascending-write es k v (bump n) s; after = λ j. writes es k v (bump n) j; count = inr refl; other_numbers = λ i j h g. grind (arith, key_is h, g, number-write es k v (bump n) j); kept_numbers = λ h. absurd (grind (arith, h)); new_number = λ _ i h. inr (grind (arith, key_is h, number-write es k v (bump n) i, (one_class cmp total).refl i), refl); conditional = q }
     bin_did (TryInsert k v) (Value None) es n s a q = record { allowed = a; ascending = s; after = λ j. refl; count = inl refl; other_numbers = λ k j _ _. refl; kept_numbers = λ _ j. refl; new_number = λ h. absurd (grind (arith, h)); conditional = q }
     bin_did (TryInsert k v) (Value (Some w)) es n s a q = record { allowed = a; ascending = s; after = λ j. refl; count = inl refl; other_numbers = λ k j _ _. refl; kept_numbers = λ _ j. refl; new_number = λ h. absurd (grind (arith, h)); conditional = q }

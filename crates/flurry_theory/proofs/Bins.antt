@@ -11,7 +11,7 @@ use Rattle.std.proofs.lemmas.Grind.{common_steps, pow_more}
 use Rattle.std.proofs.lemmas.Bool.{eqb-true, eq-eqb, ne_eqb}
 use Rattle.flurry_theory.specs.Map.{Pairs, same, find, without, after, Allows, CanBeRefused, key_of}
 use Rattle.flurry_theory.specs.Trace.{in_region}
-use Rattle.flurry_theory.specs.Bin.{Entry, pairs_of, order, past, first_past, Above, Ascending, InRegion, half}
+use Rattle.flurry_theory.specs.Bin.{Entry, pairs_of, order, past, first_past, Above, IsAscending, InRegion, half}
 use Rattle.flurry_model.specs.declared.call.Call.{Call}
 use Rattle.flurry_model.specs.declared.call.Call.TheVariants.{Get, GetKeyValue, ContainsKey, Insert, TryInsert, Compute, Remove, RemoveEntry, RemoveSeen, Reserve, Clear, Walk}
 use Rattle.flurry_model.specs.declared.reply.KeptReply.{KeptReply}
@@ -181,7 +181,7 @@ module _ {K : Type 0} (cmp : K → K → Ordering) (total : IsTotalOrder cmp) (h
     absent_below k (x ∷ es) a = grind (arith, absent_below k es a.1, less_differs k x.key a.0)
 
     -- a class past the bound that is not past the first entry past it is that entry's, or not there
-    pub find-first_past : (b : Option K) (es : List (Entry K V)) (x : Entry K V) (k : K) → Ascending cmp hash es → first_past cmp hash b es ≡ Some x → past cmp hash b k ≡ true → past cmp hash (Some x.key) k ≡ false
+    pub find-first_past : (b : Option K) (es : List (Entry K V)) (x : Entry K V) (k : K) → IsAscending cmp hash es → first_past cmp hash b es ≡ Some x → past cmp hash b k ≡ true → past cmp hash (Some x.key) k ≡ false
         → (same cmp x.key k ≡ true) ⊎ (find cmp (pairs_of es) k ≡ None)
     find-first_past b [] x k a f p q = grind (arith, f)
     find-first_past b (y ∷ es) x k a f p q = go (λ g. find-first_past b es x k a.1 g p q) (past cmp hash b y.key) refl
@@ -199,7 +199,7 @@ module _ {K : Type 0} (cmp : K → K → Ordering) (total : IsTotalOrder cmp) (h
     find-none_past b [] k f p = refl
     find-none_past b (x ∷ es) k f p = grind (arith, f, p, past-same b x.key k, find-none_past b es k)
 
-    pub found-first_past : (b : Option K) (es : List (Entry K V)) (x : Entry K V) → Ascending cmp hash es → first_past cmp hash b es ≡ Some x → (find cmp (pairs_of es) x.key ≡ Some (x.key, x.value)) × (past cmp hash b x.key ≡ true)
+    pub found-first_past : (b : Option K) (es : List (Entry K V)) (x : Entry K V) → IsAscending cmp hash es → first_past cmp hash b es ≡ Some x → (find cmp (pairs_of es) x.key ≡ Some (x.key, x.value)) × (past cmp hash b x.key ≡ true)
     found-first_past b [] x a f = grind (arith, f)
     found-first_past b (y ∷ es) x a f = go (found-first_past b es x a.1) (past cmp hash b y.key) refl
       where
@@ -219,11 +219,11 @@ module _ {K : Type 0} (cmp : K → K → Ordering) (total : IsTotalOrder cmp) (h
         by_test more true u = rw u (h.0, more)
         by_test more false u = rw u more
 
-    pub ascending-half : (e i : ℕ) (es : List (Entry K V)) → Ascending cmp hash es → Ascending cmp hash (half hash e i es)
+    pub ascending-half : (e i : ℕ) (es : List (Entry K V)) → IsAscending cmp hash es → IsAscending cmp hash (half hash e i es)
     ascending-half e i [] h = tt
     ascending-half e i (x ∷ es) h = by_test (ascending-half e i es h.1) (in_region e i (hash x.key)) refl
       where
-        by_test : Ascending cmp hash (half hash e i es) → (t : Bool) → in_region e i (hash x.key) ≡ t → Ascending cmp hash (half hash e i (x ∷ es))
+        by_test : IsAscending cmp hash (half hash e i es) → (t : Bool) → in_region e i (hash x.key) ≡ t → IsAscending cmp hash (half hash e i (x ∷ es))
         by_test more true u = rw u (above-half e i es x.key h.0, more)
         by_test more false u = rw u more
 

@@ -8,7 +8,7 @@ use Rattle.std.proofs.lemmas.Bool.{eqb-true, eqb-false, cond-true}
 use Rattle.std.proofs.lemmas.List.Filters.{length-filter_both}
 use Rattle.flurry_theory.specs.Map.{Pairs, Unique, same, find, without, write, after}
 use Rattle.flurry_theory.specs.Trace.{in_region}
-use Rattle.flurry_theory.specs.Bin.{Entry, pairs_of, Ascending, InRegion}
+use Rattle.flurry_theory.specs.Bin.{Entry, pairs_of, IsAscending, InRegion}
 use Rattle.flurry_theory.proofs.Bins.{one_class, find-class, find-without, absent_below, absent_elsewhere}
 use Rattle.flurry_model.specs.declared.call.Call.{Call}
 use Rattle.flurry_model.specs.declared.call.Call.TheVariants.{Get, GetKeyValue, ContainsKey, Insert, TryInsert, Compute, Remove, RemoveEntry, RemoveSeen, Reserve, Clear, Walk}
@@ -122,7 +122,7 @@ module _ {K V : Type 0} (cmp : K → K → Ordering) (total : IsTotalOrder cmp) 
   unique-after Walk r m u = u
 
 module _ {K V : Type 0} (cmp : K → K → Ordering) (total : IsTotalOrder cmp) (hash : K → ℕ) (lawful : (j k : K) → same cmp j k ≡ true → hash j ≡ hash k) where
-  unique-bin : (es : List (Entry K V)) → Ascending cmp hash es → Unique cmp (pairs_of es)
+  unique-bin : (es : List (Entry K V)) → IsAscending cmp hash es → Unique cmp (pairs_of es)
   unique-bin [] a = tt
   unique-bin (x ∷ es) a = (absent_below cmp total hash lawful x.key es a.0, unique-bin es a.1)
 
@@ -136,12 +136,12 @@ module _ {K V : Type 0} (cmp : K → K → Ordering) (total : IsTotalOrder cmp) 
   length-pairs (x ∷ es) = grind (arith, length-pairs es)
 
   -- where one bin's region alone changes, the map's length changes as the bin's
-  pub balance : (e i : ℕ) (m n : Pairs K V) (es fs : List (Entry K V)) → Unique cmp m → Unique cmp n → Ascending cmp hash es → Ascending cmp hash fs → InRegion hash e i es → InRegion hash e i fs
+  pub balance : (e i : ℕ) (m n : Pairs K V) (es fs : List (Entry K V)) → Unique cmp m → Unique cmp n → IsAscending cmp hash es → IsAscending cmp hash fs → InRegion hash e i es → InRegion hash e i fs
       → ((j : K) → hash j % 2 ^ e ≡ i → find cmp (pairs_of es) j ≡ find cmp m j) → ((j : K) → hash j % 2 ^ e ≡ i → find cmp (pairs_of fs) j ≡ find cmp n j) → ((j : K) → (hash j % 2 ^ e ≡ i → ⊥) → find cmp m j ≡ find cmp n j)
       → length m + length fs ≡ length n + length es
   balance e i m n es fs u v a b p q g h o = omega (arith, length-pairs es, length-pairs fs, inside m es u a p g, inside n fs v b q h, outside, length-filter_both (λ x. in_region e i (hash x.0)) (λ x. not (in_region e i (hash x.0))) (λ _. refl) m, length-filter_both (λ x. in_region e i (hash x.0)) (λ x. not (in_region e i (hash x.0))) (λ _. refl) n)
     where
-      inside : (m : Pairs K V) (es : List (Entry K V)) → Unique cmp m → Ascending cmp hash es → InRegion hash e i es → ((j : K) → hash j % 2 ^ e ≡ i → find cmp (pairs_of es) j ≡ find cmp m j) → length (filter (λ x. in_region e i (hash x.0)) m) ≡ length (pairs_of es)
+      inside : (m : Pairs K V) (es : List (Entry K V)) → Unique cmp m → IsAscending cmp hash es → InRegion hash e i es → ((j : K) → hash j % 2 ^ e ≡ i → find cmp (pairs_of es) j ≡ find cmp m j) → length (filter (λ x. in_region e i (hash x.0)) m) ≡ length (pairs_of es)
       inside m es u a p g = same_length cmp total (filter (λ x. in_region e i (hash x.0)) m) (pairs_of es) (unique-filter cmp total (λ x. in_region e i (hash x.0)) m u) (unique-bin es a)
           (λ j. find-within true e i m j ∙ there j (in_region e i (hash j)) refl)
         where

@@ -8,7 +8,7 @@ use Rattle.std.proofs.lemmas.Bool.{eqb-true, eqb-false, eq-eqb, ne_eqb, cases_Bo
 use Rattle.std.proofs.lemmas.Nat.{mod_below, pow_pos}
 use Rattle.flurry_theory.specs.Map.{same, key_of, Allows}
 use Rattle.flurry_theory.specs.Trace.{Trace, begins, call_begun_by, decision, last_read, read_before}
-use Rattle.flurry_theory.specs.Bin.{Entry, number_of, bump, has_number, past, first_past, Ascending, InRegion, half}
+use Rattle.flurry_theory.specs.Bin.{Entry, number_of, bump, has_number, past, first_past, IsAscending, InRegion, half}
 use Rattle.flurry_theory.specs.Machine.{State, Slot, Claim, Transition, Can, does, label, at_bin, at_place, Live, Frame, Begins, Quiet, Counts, Finds, Opens, FindsNothing, IsRefused, DecidesEmpty, Passes, Decides, Places, Claims, Moves, Reports, Publishes, Reads, Leaves, Splits, Wipes, SplitsClear, Replies, Ends}
 use Rattle.flurry_theory.specs.Invariant.{PartyOk, Tables, home_after, Origins, pair_seen, number_in, writes_in, newer, number_at, writes_at, JudgesRead, Numbers}
 use Rattle.flurry_theory.proofs.Bins.{one_class, past-same, region-first_past, found-first_past, in_a_half, in_low_half, in_high_half}
@@ -48,7 +48,7 @@ module _ {K V F : Type 0} (cmp : K → K → Ordering) (total : IsTotalOrder cmp
   number-half e i [] k h = refl
   number-half e i (x ∷ es) k h = grind (arith, common_steps, number-half e i es k h, lawful x.key k, ne_eqb, eq-eqb)
 
-  number-first_past : (b : Option K) (es : List (Entry K V)) (x : Entry K V) → Ascending cmp hash es → first_past cmp hash b es ≡ Some x → number_of cmp es x.key ≡ Some x.number
+  number-first_past : (b : Option K) (es : List (Entry K V)) (x : Entry K V) → IsAscending cmp hash es → first_past cmp hash b es ≡ Some x → number_of cmp es x.key ≡ Some x.number
   number-first_past b [] x a f = grind (arith, f)
   number-first_past b (y ∷ es) x a f = go (number-first_past b es x a.1) (past cmp hash b y.key) refl
     where
@@ -187,7 +187,7 @@ module _ {K V F : Type 0} (cmp : K → K → Ordering) (total : IsTotalOrder cmp
       → ((s.seen w ≡ Some z) × ((p == w) ≡ false)) ⊎ (((p == w) ≡ true) × (number_at cmp hash gives home s z.key ≡ Some z.number))
   reads_seen home s p e i f fs es n x can t w z h = go (p == w) refl h
     where
-      asc : Ascending cmp hash es × InRegion hash f.table f.index es
+      asc : IsAscending cmp hash es × InRegion hash f.table f.index es
       asc = t.ascending f.table f.index es n can.1
 
       place : hash x.key % 2 ^ f.table ≡ f.index

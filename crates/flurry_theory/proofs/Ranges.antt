@@ -5,7 +5,7 @@ use Rattle.std.proofs.Common.{arith, refl, sym, ◌∙◌, ap, inl, inr}
 use Rattle.std.proofs.lemmas.Bool.{eqb-true, eqb-false, eq-eqb, ne_eqb, cases_order, cases_lt, cases_eq, and_parts, and_from, and_cases, lt-ltb, ltb-true, ltb-false, leb-true, le-leb}
 use Rattle.std.proofs.lemmas.Nat.{mod_below, pow_pos}
 use Rattle.flurry_theory.specs.Bin.{Entry}
-use Rattle.flurry_theory.specs.Machine.{State, Claim, Growth, Transition, Opening, Can, does, at_place, Moved, Frame, Begins, Quiet, Counts, Finds, Opens, FindsNothing, IsRefused, DecidesEmpty, Passes, Decides, Places, Claims, Moves, Reports, Publishes, Reads, Leaves, Splits, Wipes, SplitsClear, Replies, Ends}
+use Rattle.flurry_theory.specs.Machine.{State, Claim, Growth, Transition, MayOpen, Can, does, at_place, Moved, Frame, Begins, Quiet, Counts, Finds, Opens, FindsNothing, IsRefused, DecidesEmpty, Passes, Decides, Places, Claims, Moves, Reports, Publishes, Reads, Leaves, Splits, Wipes, SplitsClear, Replies, Ends}
 use Rattle.flurry_theory.specs.Machine.{total}
 use Rattle.flurry_theory.specs.Invariant.{PartyOk, Tables, size, holds, IsCut}
 use Rattle.flurry_theory.proofs.Bins.{small_mod}
@@ -119,7 +119,7 @@ module _ {K V F : Type 0} (cmp : K → K → Ordering) (hash : K → ℕ) (gives
       go (inl e) = rw e (place_here s.claim p None)
       go (inr ne) = place_other s.claim p q None ne ∙ no_other s p a g can o u q ne
 
-  opening_limit : (c : Call K V F) (e : ℕ) → Opening c e → e ≤ GREATEST_TABLE
+  opening_limit : (c : Call K V F) (e : ℕ) → MayOpen c e → e ≤ GREATEST_TABLE
   opening_limit (Get k) e h = absurd h
   opening_limit (GetKeyValue k) e h = absurd h
   opening_limit (ContainsKey k) e h = absurd h

@@ -6,7 +6,7 @@ use Rattle.std.proofs.Common.{arith, refl, sym, ◌∙◌, subst}
 use Rattle.flurry_theory.specs.Map.{Pairs, same, CanBeRefused}
 use Rattle.flurry_theory.specs.Trace.{pairs}
 use Rattle.flurry_theory.specs.Bin.{pairs_of}
-use Rattle.flurry_theory.specs.Machine.{State, Can, RefusedAt, Opening, Mode, Locating, Looking, Walking, Clearing, Done, Finished, IsRefused}
+use Rattle.flurry_theory.specs.Machine.{State, Can, RefusedAt, MayOpen, Mode, Locating, Looking, Walking, Clearing, Done, Finished, IsRefused}
 use Rattle.flurry_theory.specs.Invariant.{PartyOk, Tables}
 use Rattle.flurry_theory.proofs.Bins.{CanBeRefused-same}
 use Rattle.flurry_theory.proofs.Tables.{same_some}
@@ -30,7 +30,7 @@ module _ {K V F : Type 0} (cmp : K → K → Ordering) (hash : K → ℕ) (gives
   refused_at_work s p can = at_work s can.0 (s.mode p) can.3
 
   -- a call that may open the first table may be refused
-  opening_refused : (c : Call K V F) (m : Pairs K V) (e : ℕ) → Opening c e → CanBeRefused cmp gives c m
+  opening_refused : (c : Call K V F) (m : Pairs K V) (e : ℕ) → MayOpen c e → CanBeRefused cmp gives c m
   opening_refused (Get k) m e h = absurd h
   opening_refused (GetKeyValue k) m e h = absurd h
   opening_refused (ContainsKey k) m e h = absurd h

@@ -7,7 +7,7 @@ use Rattle.std.proofs.lemmas.Bool.{eqb-true, eq-eqb, ne_eqb, cases_eq, cond-true
 use Rattle.std.proofs.lemmas.Nat.{mod_below, pow_pos}
 use Rattle.flurry_theory.specs.Map.{Pairs, same, find, key_of, Allows}
 use Rattle.flurry_theory.specs.Trace.{names, pairs}
-use Rattle.flurry_theory.specs.Bin.{Entry, pairs_of, Ascending, InRegion}
+use Rattle.flurry_theory.specs.Bin.{Entry, pairs_of, IsAscending, InRegion}
 use Rattle.flurry_theory.specs.Machine.{State, Claim, Growth, Transition, Can, does, label, halves, Live, Moved, Unborn, Locating, Looking, Walking, Clearing, Done, Begins, Quiet, Counts, Finds, Opens, FindsNothing, IsRefused, DecidesEmpty, Passes, Decides, Places, Claims, Moves, Reports, Publishes, Reads, Leaves, Splits, Wipes, SplitsClear, Replies, Ends}
 use Rattle.flurry_theory.specs.Invariant.{PartyOk, Tables, home_after, Progress, Remains, IsCut, NamesBorn, Waits, Inv, Numbers, new_world, CanAll, after_all}
 use Rattle.flurry_theory.proofs.Bins.{Allows-same}
@@ -269,7 +269,7 @@ module _ {K V F : Type 0} (cmp : K → K → Ordering) (total : IsTotalOrder cmp
     above = λ h x d l. grind (arith, l, eqb-true, and_parts);
     early = λ d j l. grind (arith, l, eqb-true, and_parts);
     outside = λ d j l. grind (arith, l, eqb-true, and_parts, ltb-true);
-    ascending = λ d j es n h. new_bin (λ fs. Ascending cmp hash fs × InRegion hash d j fs) (b && (e == d && nat_lt j (2 ^ e))) es n (tt, tt) h;
+    ascending = λ d j es n h. new_bin (λ fs. IsAscending cmp hash fs × InRegion hash d j fs) (b && (e == d && nat_lt j (2 ^ e))) es n (tt, tt) h;
     empty = λ _ k. refl;
     content = λ k es n h. new_bin (λ fs. find cmp (pairs_of fs) k ≡ None) (b && (e == e && nat_lt (hash k % 2 ^ e) (2 ^ e))) es n refl h;
     was_moved = λ d j h. absurd (grind (arith, h));

@@ -7,7 +7,7 @@ use Rattle.std.proofs.lemmas.Bool.{eqb-true, eqb-false, eq-eqb, ne_eqb, cases_or
 use Rattle.std.proofs.lemmas.Nat.{mod_below, pow_pos}
 use Rattle.flurry_theory.specs.Map.{same, find, after, key_of, Allows}
 use Rattle.flurry_theory.specs.Trace.{map_after_decision, in_region, pairs, at}
-use Rattle.flurry_theory.specs.Bin.{Entry, pairs_of, Ascending, InRegion, half}
+use Rattle.flurry_theory.specs.Bin.{Entry, pairs_of, IsAscending, InRegion, half}
 use Rattle.flurry_theory.specs.Machine.{State, Slot, Claim, Growth, Transition, Adds, Can, does, at_bin, Live, Moved, Unborn, Frame, Begins, Quiet, Counts, Finds, Opens, FindsNothing, IsRefused, DecidesEmpty, Passes, Decides, Places, Claims, Moves, Reports, Publishes, Reads, Leaves, Splits, Wipes, SplitsClear, Replies, Ends}
 use Rattle.flurry_theory.specs.Invariant.{PartyOk, is_live, Tables, home_after}
 use Rattle.flurry_theory.proofs.Bins.{find-after, find-after_other, find-half, ascending-half, region-half, find-wiped, in_a_half, in_low_half, in_high_half, small_mod, high_mod, double}
@@ -86,18 +86,18 @@ module _ {K V F : Type 0} (cmp : K → K → Ordering) (total : IsTotalOrder cmp
       (λ ne'' b c hd hj u. content_at home s k d j fs m t (grind (arith, is (hash k), hd, hj, b, c, eqb-true, eqb-false, in_a_half (hash k) a.table i)) hj u) ne' ne))
 
   moves_ascending : (home : ℕ → ℕ) (s : State K V F) (p : ℕ) (a : Claim) (i : ℕ) (es : List (Entry K V)) (n : ℕ) → Can cmp hash gives s p (Moves a i es n) → Tables cmp hash home s
-      → (d j : ℕ) (fs : List (Entry K V)) (m : ℕ) → (does cmp hash gives s p (Moves a i es n)).slot d j ≡ Live fs m → Ascending cmp hash fs × InRegion hash d j fs
+      → (d j : ℕ) (fs : List (Entry K V)) (m : ℕ) → (does cmp hash gives s p (Moves a i es n)).slot d j ≡ Live fs m → IsAscending cmp hash fs × InRegion hash d j fs
   moves_ascending home s p a i es n can t d j fs m =
       let l : s.slot a.table i ≡ Live es n = can.3 in
-      let asc : Ascending cmp hash es × InRegion hash a.table i es = t.ascending a.table i es n l in
+      let asc : IsAscending cmp hash es × InRegion hash a.table i es = t.ascending a.table i es n l in
       at_bin_elim (at_bin (at_bin s.slot a.table i Moved) (suc a.table) i (Live (half hash (suc a.table) i es) n)) (suc a.table) (i + 2 ^ a.table) (Live (half hash (suc a.table) (i + 2 ^ a.table) es) n)
-      (λ d j v. v ≡ Live fs m → Ascending cmp hash fs × InRegion hash d j fs) d j
-      (λ u. subst (λ fs. Ascending cmp hash fs × InRegion hash (suc a.table) (i + 2 ^ a.table) fs) (same_live u) (ascending-half cmp total hash lawful (suc a.table) (i + 2 ^ a.table) es asc.0, region-half cmp total hash lawful (suc a.table) (i + 2 ^ a.table) es))
+      (λ d j v. v ≡ Live fs m → IsAscending cmp hash fs × InRegion hash d j fs) d j
+      (λ u. subst (λ fs. IsAscending cmp hash fs × InRegion hash (suc a.table) (i + 2 ^ a.table) fs) (same_live u) (ascending-half cmp total hash lawful (suc a.table) (i + 2 ^ a.table) es asc.0, region-half cmp total hash lawful (suc a.table) (i + 2 ^ a.table) es))
       (λ _. at_bin_elim (at_bin s.slot a.table i Moved) (suc a.table) i (Live (half hash (suc a.table) i es) n)
-      (λ d j v. v ≡ Live fs m → Ascending cmp hash fs × InRegion hash d j fs) d j
-      (λ u. subst (λ fs. Ascending cmp hash fs × InRegion hash (suc a.table) i fs) (same_live u) (ascending-half cmp total hash lawful (suc a.table) i es asc.0, region-half cmp total hash lawful (suc a.table) i es))
+      (λ d j v. v ≡ Live fs m → IsAscending cmp hash fs × InRegion hash d j fs) d j
+      (λ u. subst (λ fs. IsAscending cmp hash fs × InRegion hash (suc a.table) i fs) (same_live u) (ascending-half cmp total hash lawful (suc a.table) i es asc.0, region-half cmp total hash lawful (suc a.table) i es))
       (λ _. at_bin_elim s.slot a.table i Moved
-      (λ d j v. v ≡ Live fs m → Ascending cmp hash fs × InRegion hash d j fs) d j
+      (λ d j v. v ≡ Live fs m → IsAscending cmp hash fs × InRegion hash d j fs) d j
       (λ u. absurd (grind (arith, u)))
       (λ _ u. t.ascending d j fs m u)))
 
@@ -306,7 +306,7 @@ module _ {K V F : Type 0} (cmp : K → K → Ordering) (total : IsTotalOrder cmp
     above = grind (arith, can, o.call, t.unmade, t.live, t.above, t.below, t.early, t.outside, mod_below, pow_pos, t.empty, t.is_moved, t.was_moved, t.above, eqb-true, eqb-false, eq-eqb, ne_eqb, and_parts, and_cases);
     early = grind (arith, can, o.call, t.unmade, t.live, t.above, t.below, t.early, t.outside, mod_below, pow_pos, t.empty, t.is_moved, t.was_moved, t.early, eqb-true, eqb-false, eq-eqb, ne_eqb, and_parts, and_cases);
     outside = grind (arith, can, o.call, t.unmade, t.live, t.above, t.below, t.early, t.outside, mod_below, pow_pos, t.empty, t.is_moved, t.was_moved, t.outside, eqb-true, eqb-false, eq-eqb, ne_eqb, and_parts, and_cases);
-    ascending = λ d j es' n'. at_bin_elim s.slot e (hash k % 2 ^ e) (Live fs m) (λ d j v. v ≡ Live es' n' → Ascending cmp hash es' × InRegion hash d j es') d j (λ u. subst (λ es. Ascending cmp hash es × InRegion hash e (hash k % 2 ^ e) es) (same_live u) (can.5.ascending, can.6)) (λ _. t.ascending d j es' n');
+    ascending = λ d j es' n'. at_bin_elim s.slot e (hash k % 2 ^ e) (Live fs m) (λ d j v. v ≡ Live es' n' → IsAscending cmp hash es' × InRegion hash d j es') d j (λ u. subst (λ es. IsAscending cmp hash es × InRegion hash e (hash k % 2 ^ e) es) (same_live u) (can.5.ascending, can.6)) (λ _. t.ascending d j es' n');
     empty = grind (arith, can, t.unmade);
     content = decides_content home s p c k e es n r fs m can o t;
     was_moved = grind (arith, can, o.call, t.unmade, t.live, t.above, t.below, t.early, t.outside, mod_below, pow_pos, t.empty, t.is_moved, t.was_moved, t.was_moved, eqb-true, eqb-false, eq-eqb, ne_eqb, and_parts, and_cases);

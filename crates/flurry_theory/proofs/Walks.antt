@@ -7,7 +7,7 @@ use Rattle.std.proofs.lemmas.Bool.{eqb-false, eq-eqb, cases_eq, cond-true, ltb-f
 use Rattle.std.proofs.lemmas.Nat.{mod_below, pow_pos}
 use Rattle.flurry_theory.specs.Map.{same, find}
 use Rattle.flurry_theory.specs.Trace.{Trace, begins, names, in_region, pairs, at}
-use Rattle.flurry_theory.specs.Bin.{Entry, pairs_of, past, Ascending, InRegion}
+use Rattle.flurry_theory.specs.Bin.{Entry, pairs_of, past, IsAscending, InRegion}
 use Rattle.flurry_theory.specs.Machine.{State, Can, found_by, onward, halves, Live, Mode, Locating, Looking, Walking, Clearing, Done, Finished, Frame, Reads, Leaves, Wipes}
 use Rattle.flurry_theory.specs.Invariant.{Tables, Progress, Remains, InFrame, InFrames, Off, Within, Apart, FramesOk}
 use Rattle.flurry_theory.proofs.Bins.{find-wiped, region-first_past, past_trans, past_differs, find-first_past, find-none_past, found-first_past, in_a_half, in_low_half, in_high_half}
@@ -262,7 +262,7 @@ module _ {K V F : Type 0} (cmp : K → K → Ordering) (total : IsTotalOrder cmp
     frames = g.frames;
   }
     where
-      asc : Ascending cmp hash es × InRegion hash f.table f.index es
+      asc : IsAscending cmp hash es × InRegion hash f.table f.index es
       asc = t.ascending f.table f.index es n can.1
 
       place : hash x.key % 2 ^ f.table ≡ f.index
@@ -299,7 +299,7 @@ module _ {K V F : Type 0} (cmp : K → K → Ordering) (total : IsTotalOrder cmp
   pub read_lawful : (home : ℕ → ℕ) (s : State K V F) (p e i : ℕ) (f : Frame K) (fs : List (Frame K)) (es : List (Entry K V)) (n : ℕ) (x : Entry K V) → Can cmp hash gives s p (Reads e i f fs es n x) → Tables cmp hash home s → s.call p ≡ Some Walk
       → Progress cmp hash gives (s.call p) (Walking e i (f ∷ fs)) s.trace p → WalkMay cmp hash gives s.trace (Read p x.key x.value)
   read_lawful home s p e i f fs es n x can t w g =
-      let asc : Ascending cmp hash es × InRegion hash f.table f.index es = t.ascending f.table f.index es n can.1 in
+      let asc : IsAscending cmp hash es × InRegion hash f.table f.index es = t.ascending f.table f.index es n can.1 in
       let place : hash x.key % 2 ^ f.table ≡ f.index = region-first_past cmp total hash lawful f.bound es x f.table f.index asc.1 can.2 in
       let there : (find cmp (pairs_of es) x.key ≡ Some (x.key, x.value)) × (past cmp hash f.bound x.key ≡ true) = found-first_past cmp total hash lawful f.bound es x asc.0 can.2 in
       (sym (held home s f.table f.index es n x.key t can.1 place) ∙ there.0, g.unread w (λ z. grind (arith, z)) x.key (inr (inl (place, there.1))))

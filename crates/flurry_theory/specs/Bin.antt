@@ -57,9 +57,9 @@ module _ {K : Type 0} (cmp : K → K → Ordering) (hash : K → ℕ) where
     Above k (x ∷ es) = (order k x.key ≡ Less) × Above k es
 
     -- each entry comes after those before it
-    abbrev pub Ascending : List (Entry K V) → Type 0
-    Ascending [] = ⊤
-    Ascending (x ∷ es) = Above x.key es × Ascending es
+    abbrev pub IsAscending : List (Entry K V) → Type 0
+    IsAscending [] = ⊤
+    IsAscending (x ∷ es) = Above x.key es × IsAscending es
 
 module _ {K V : Type 0} (hash : K → ℕ) where
   -- every entry's hash is in region (e, i)

@@ -4,7 +4,7 @@ use Rattle.std.specs.declared.cmp.Ordering.{Ordering}
 use Rattle.flurry_theory.specs.Map.{Unique, find, key_of}
 use Rattle.flurry_theory.specs.Trace.{Trace, is_lookup, call_begun_by, decision, has_replied, has_closed, published_in, was_placed, was_moved_in, names, last_read, read_before, pairs, at}
 use Rattle.flurry_theory.specs.Legal.{is_untouched, untouched_for, RemovalMay, HasRead, HasLacked, EachMay, CallMay, WalkMay, ClearMay, GrowthMay}
-use Rattle.flurry_theory.specs.Bin.{Entry, number_of, pairs_of, Ascending, InRegion, past}
+use Rattle.flurry_theory.specs.Bin.{Entry, number_of, pairs_of, IsAscending, InRegion, past}
 use Rattle.flurry_theory.specs.Machine.{total, owes_added, owes_removed, State, Slot, Transition, Opens, Moves, Claim, Growth, Can, does, Live, Moved, Unborn, Mode, Locating, Looking, Walking, Clearing, Done, Finished, Frame, Replies}
 use Rattle.flurry_model.specs.declared.call.Call.{Call}
 use Rattle.flurry_model.specs.declared.call.Call.TheVariants.{RemoveSeen, Walk, Clear}
@@ -48,7 +48,7 @@ module _ {K V F : Type 0} (cmp : K → K → Ordering) (hash : K → ℕ) where
     pub above : is_some s.published ≡ true → (h d : ℕ) → home h < d → s.slot d (h % 2 ^ d) ≡ Unborn
     pub early : (d j : ℕ) → d < s.start → s.slot d j ≡ Unborn
     pub outside : (d j : ℕ) → 2 ^ d ≤ j → s.slot d j ≡ Unborn
-    pub ascending : (d j : ℕ) (es : List (Entry K V)) (n : ℕ) → s.slot d j ≡ Live es n → Ascending cmp hash es × InRegion hash d j es
+    pub ascending : (d j : ℕ) (es : List (Entry K V)) (n : ℕ) → s.slot d j ≡ Live es n → IsAscending cmp hash es × InRegion hash d j es
     pub empty : s.published ≡ None → (k : K) → at cmp hash s.trace k ≡ None
     -- the live bins together hold the map
     pub content : (k : K) (es : List (Entry K V)) (n : ℕ) → s.slot (home (hash k)) (hash k % 2 ^ home (hash k)) ≡ Live es n → find cmp (pairs_of es) k ≡ at cmp hash s.trace k

@@ -4,7 +4,7 @@ use Rattle.std.specs.Prelude.{⊤, length, ℕ, ℤ, pos, ◌+ℤ◌, ◌-ℤ◌
 use Rattle.std.specs.declared.cmp.Ordering.{Ordering}
 use Rattle.flurry_theory.specs.Map.{same, find, key_of, after, Allows, CanBeRefused}
 use Rattle.flurry_theory.specs.Trace.{is_lookup, Trace}
-use Rattle.flurry_theory.specs.Bin.{Entry, number_of, bump, has_number, pairs_of, first_past, Ascending, InRegion, half}
+use Rattle.flurry_theory.specs.Bin.{Entry, number_of, bump, has_number, pairs_of, first_past, IsAscending, InRegion, half}
 use Rattle.flurry_theory.specs.Legal.{IsOneKey, IsWalk, IsClear, changes, removes}
 use Rattle.flurry_model.specs.declared.call.Seen.{Seen}
 use Rattle.flurry_model.specs.declared.call.Call.{Call}
@@ -143,11 +143,11 @@ module _ {K V F : Type 0} where
   mode_at_table e c = Looking e
 
   -- may open the first table
-  abbrev pub Opening : Call K V F → ℕ → Type 0
-  Opening (Insert k v) e = e ≡ FIRST_TABLE
-  Opening (TryInsert k v) e = e ≡ FIRST_TABLE
-  Opening (Reserve n) e = e ≤ GREATEST_TABLE
-  Opening c e = ⊥
+  abbrev pub MayOpen : Call K V F → ℕ → Type 0
+  MayOpen (Insert k v) e = e ≡ FIRST_TABLE
+  MayOpen (TryInsert k v) e = e ≡ FIRST_TABLE
+  MayOpen (Reserve n) e = e ≤ GREATEST_TABLE
+  MayOpen c e = ⊥
 
   -- what the parties that pass the test owe is counted, and they owe nothing more
   abbrev pub settle : (ℕ → Bool) → State K V F → State K V F
@@ -167,7 +167,7 @@ module _ {K V F : Type 0} where
     -- count of writes after it; a conditional removal removes exactly if the number is the one seen, below the greatest.
     pub record BinDid (c : Call K V F) (r : KeptReply K V) (es : List (Entry K V)) (n : ℕ) (fs : List (Entry K V)) (m : ℕ) : Type 0 where
       pub allowed : Allows cmp gives c (pairs_of es) r
-      pub ascending : Ascending cmp hash fs
+      pub ascending : IsAscending cmp hash fs
       pub after : (j : K) → find cmp (pairs_of fs) j ≡ find cmp (after cmp c r (pairs_of es)) j
       pub count : (m ≡ n) ⊎ (m ≡ bump n)
       pub other_numbers : (k j : K) → key_of c ≡ Some k → same cmp k j ≡ false → number_of cmp fs j ≡ number_of cmp es j
@@ -183,7 +183,7 @@ module _ {K V F : Type 0} where
     -- Where a party of this call and mode may be refused memory: at a first table, which could not be made; at the live bin of its key,
     -- as that bin's pairs allow; as a walk, for the pair that it reads or the bound that both halves need; as a reserve, at a larger table.
     abbrev pub RefusedAt : State K V F → Call K V F → Mode K V → Type 0
-    RefusedAt s c Locating = (s.published ≡ None) × (e : ℕ) × Opening c e
+    RefusedAt s c Locating = (s.published ≡ None) × (e : ℕ) × MayOpen c e
     RefusedAt s c (Looking e) = (k : K) × (es : List (Entry K V)) × (n : ℕ) × (key_of c ≡ Some k) × (s.slot e (hash k % 2 ^ e) ≡ Live es n) × CanBeRefused cmp gives c (pairs_of es)
     RefusedAt s c (Walking e i (f ∷ fs)) = ((es : List (Entry K V)) × (n : ℕ) × (s.slot f.table f.index ≡ Live es n) × IsSome (first_past cmp hash f.bound es)) ⊎ ((s.slot f.table f.index ≡ Moved) × IsSome f.bound)
     RefusedAt s c (Done None added removed) = (n e : ℕ) × (c ≡ Reserve n) × (added ≡ 0) × (removed ≡ 0) × (s.published ≡ Some e) × (s.growth ≡ None) × (e < GREATEST_TABLE)
@@ -195,7 +195,7 @@ module _ {K V F : Type 0} where
     Can s p Quiet = is_lookup (s.call p) ≡ true → s.mode p ≡ Finished
     Can s p (Counts whose) = is_lookup (s.call p) ≡ false
     Can s p (Finds e) = (c : Call K V F) × (s.call p ≡ Some c) × (s.mode p ≡ Locating) × WasPublished s e
-    Can s p (Opens e) = (c : Call K V F) × (s.call p ≡ Some c) × (s.mode p ≡ Locating) × (s.published ≡ None) × Opening c e
+    Can s p (Opens e) = (c : Call K V F) × (s.call p ≡ Some c) × (s.mode p ≡ Locating) × (s.published ≡ None) × MayOpen c e
     Can s p FindsNothing = (c : Call K V F) × (s.call p ≡ Some c) × (s.mode p ≡ Locating) × (s.published ≡ None) × (IsWalk c ⊎ IsClear c)
     Can s p IsRefused = (c : Call K V F) × (s.call p ≡ Some c) × (s.claim p ≡ None) × RefusedAt s c (s.mode p)
     Can s p (DecidesEmpty c r) = (s.call p ≡ Some c) × (s.mode p ≡ Locating) × (s.published ≡ None) × (Adds c → ⊥) × Allows cmp gives c [] r

@@ -4,7 +4,7 @@ use Rattle.std.specs.declared.cmp.Ordering.{Ordering}
 use Rattle.std.proofs.Common.{refl, sym, ap, subst, inl}
 use Rattle.flurry_model.specs.declared.reply.KeptReply.{KeptReply}
 use Rattle.flurry_model.specs.declared.reply.KeptReply.TheVariants.{Value}
-use Rattle.flurry_theory.specs.Machine.{Looking, mode_at_table, Opening, Adds as AddsPair}
+use Rattle.flurry_theory.specs.Machine.{Looking, mode_at_table, MayOpen, Adds as AddsPair}
 use Rattle.flurry_theory.specs.Map.{key_of, Allows}
 use Rattle.flurry_model.specs.declared.call.Call.{Call}
 use Rattle.flurry_model.specs.declared.call.Call.TheVariants.{Get, GetKeyValue, ContainsKey, Insert, TryInsert, Compute, Remove, RemoveEntry, RemoveSeen, Reserve, Clear, Walk}
@@ -66,7 +66,7 @@ module _ {K V F : Type 0} where
   key_of_task Walk t h = cc
 
   -- an insertion may open table 4
-  pub opens_first : (c : Call K V F) (t : Task K V F) → task_of_call c ≡ Some t → (AddsNothing t → ⊥) → Opening c 4
+  pub opens_first : (c : Call K V F) (t : Task K V F) → task_of_call c ≡ Some t → (AddsNothing t → ⊥) → MayOpen c 4
   opens_first (Get k) t h no_less = absurd (no_less (subst AddsNothing (same_task h) tt))
   opens_first (GetKeyValue k) t h no_less = absurd (no_less (subst AddsNothing (same_task h) tt))
   opens_first (ContainsKey k) t h no_less = absurd (no_less (subst AddsNothing (same_task h) tt))

@@ -30,7 +30,7 @@ use Rattle.flurry_model.specs.declared.call.Call.TheVariants.{Get, GetKeyValue, 
 use Rattle.flurry_theory.proofs.BinSteps.{bin_did}
 use Rattle.flurry_world.specs.Entries.{entries_of_held, IsHashed}
 use Rattle.flurry_world.specs.World.{task_of_call, mode_of_stage, claim_of_stage, HasDecided, FollowsStage}
-use Rattle.flurry_world.proofs.EntryLaws.{next_number-bump, length-entries_of_held, InRegion-entries, Ascending-entries, find-entries, number-entries, place-entries, rewrite-entries, write-entries, leave_out-none, leave_out-entries, IsHashed-with_pair, IsHashed-without}
+use Rattle.flurry_world.proofs.EntryLaws.{next_number-bump, length-entries_of_held, InRegion-entries, IsAscending-entries, find-entries, number-entries, place-entries, rewrite-entries, write-entries, leave_out-none, leave_out-entries, IsHashed-with_pair, IsHashed-without}
 
 -- ---- where a call stands that has decided
 
@@ -103,7 +103,7 @@ module _ {K V F : Type 0} (cmp : K → K → Ordering) (total : IsTotalOrder cmp
         → BinDid cmp hash gives c r (entries_of_held b.held) b.writes (entries_of_held d.held) d.writes
     did_at c r d judged allowed after =
         subst (λ (p : List (Entry K V) × ℕ). BinDid cmp hash gives c r (entries_of_held b.held) b.writes p.0 p.1) after
-        (bin_did cmp total hash lawful gives c r (entries_of_held b.held) b.writes (Ascending-entries cmp total hash lawful b.held up hd) allowed judged)
+        (bin_did cmp total hash lawful gives c r (entries_of_held b.held) b.writes (IsAscending-entries cmp total hash lawful b.held up hd) allowed judged)
 
     -- ---- the bin stays
 

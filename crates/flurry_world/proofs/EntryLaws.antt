@@ -21,7 +21,7 @@ use Rattle.flurry_model.proofs.HashOrderLaws.{hash_then_key_total}
 use Rattle.flurry_slots.specs.Slot.{PlainEntry, next_number}
 use Rattle.flurry_theory.specs.Map.{same, find}
 use Rattle.flurry_theory.specs.Trace.{in_region}
-use Rattle.flurry_theory.specs.Bin.{pairs_of, number_of, bump, order, Above, Ascending, InRegion, half, place, rewrite, leave_out, write_entry}
+use Rattle.flurry_theory.specs.Bin.{pairs_of, number_of, bump, order, Above, IsAscending, InRegion, half, place, rewrite, leave_out, write_entry}
 use Rattle.flurry_theory.proofs.Bins.{one_class, same-order}
 use Rattle.flurry_world.specs.Entries.{entry_of_held, entries_of_held, IsHashed}
 
@@ -97,10 +97,10 @@ module _ {K V : Type 0} (cmp : K → K → Ordering) (total : IsTotalOrder cmp) 
   Above-entries q [] hq hd a = tt
   Above-entries q (x ∷ held) hq hd a = (sym (order_at cmp total hash lawful q x.0 hq hd.0) ∙ a.0, Above-entries q held hq hd.1 a.1)
 
-  pub Ascending-entries : (held : List (PlainEntry K V)) → IsFiniteMap (hash_then_key cmp) held → IsHashed hash held → Ascending cmp hash (entries_of_held held)
-  Ascending-entries [] up hd = tt
-  Ascending-entries (x ∷ held) up hd =
-      (Above-entries x.0 held hd.0 hd.1 (sorted_head (hash_then_key cmp) x.0 (keys_of held) up), Ascending-entries held (sorted_tail (hash_then_key cmp) x.0 (keys_of held) up) hd.1)
+  pub IsAscending-entries : (held : List (PlainEntry K V)) → IsFiniteMap (hash_then_key cmp) held → IsHashed hash held → IsAscending cmp hash (entries_of_held held)
+  IsAscending-entries [] up hd = tt
+  IsAscending-entries (x ∷ held) up hd =
+      (Above-entries x.0 held hd.0 hd.1 (sorted_head (hash_then_key cmp) x.0 (keys_of held) up), IsAscending-entries held (sorted_tail (hash_then_key cmp) x.0 (keys_of held) up) hd.1)
 
   -- ---- what is written and left out
 

@@ -14,7 +14,7 @@ use Rattle.flurry_calls.specs.declared.step.Event.{Event}
 use Rattle.flurry_calls.specs.declared.step.Event.TheVariants as event
 use Rattle.flurry_theory.specs.Map.{same}
 use Rattle.flurry_theory.specs.Trace.{published_in}
-use Rattle.flurry_theory.specs.Machine.{Locating, Done, Live, Finds as FindsTable, Opens, IsRefused, DecidesEmpty, Opening, RefusedAt, mode_at_table}
+use Rattle.flurry_theory.specs.Machine.{Locating, Done, Live, Finds as FindsTable, Opens, IsRefused, DecidesEmpty, MayOpen, RefusedAt, mode_at_table}
 use Rattle.flurry_model.specs.declared.call.Call.TheVariants as call
 use Rattle.flurry_theory.specs.declared.Label.{Label}
 use Rattle.flurry_theory.specs.declared.Label.TheVariants as label
@@ -65,7 +65,7 @@ module _ {K V F S : Type 0} (cmp : K → K → Ordering) (total : IsTotalOrder c
   }
 
   -- or makes the first one
-  opens : (s : Stage K V F) (e : ℕ) (t : Tables K V) → x.party_state.stage ≡ s → mode_of_stage s ≡ Locating → claim_of_stage s ≡ None → w.control_state.published ≡ None → e ≤ GREATEST_TABLE → Opening x.call e → PlaceGives w.tables e true true t
+  opens : (s : Stage K V F) (e : ℕ) (t : Tables K V) → x.party_state.stage ≡ s → mode_of_stage s ≡ Locating → claim_of_stage s ≡ None → w.control_state.published ≡ None → e ≤ GREATEST_TABLE → MayOpen x.call e → PlaceGives w.tables e true true t
       → mode_of_stage c.stage ≡ mode_at_table e x.call → claim_of_stage c.stage ≡ None → FollowsStage hash x.call c.stage → IsStep cmp hash gives w p x (after_open e w.control_state) t c (label.Opened e)
   opens s e t f locating none bare le may gives_table mode claim follows = record {
     transition = Opens e;
@@ -102,7 +102,7 @@ module _ {K V F S : Type 0} (cmp : K → K → Ordering) (total : IsTotalOrder c
       hashed_in d i l false h = k.hashed d i l h
 
   -- or is refused it
-  refused : (s : Stage K V F) (e : ℕ) → x.party_state.stage ≡ s → mode_of_stage s ≡ Locating → claim_of_stage s ≡ None → w.control_state.published ≡ None → Opening x.call e → c.stage ≡ AtDone OutcomeRefused → IsStep cmp hash gives w p x w.control_state w.tables c (label.Refused p)
+  refused : (s : Stage K V F) (e : ℕ) → x.party_state.stage ≡ s → mode_of_stage s ≡ Locating → claim_of_stage s ≡ None → w.control_state.published ≡ None → MayOpen x.call e → c.stage ≡ AtDone OutcomeRefused → IsStep cmp hash gives w p x w.control_state w.tables c (label.Refused p)
   refused s e f locating none bare may g = record {
     transition = IsRefused;
     can = (x.call, calls cmp total hash lawful gives w k p x at c, in_claim cmp total hash lawful gives w k p x at c s f ∙ none, subst (RefusedAt cmp hash gives (state_of w) x.call) (sym (in_mode cmp total hash lawful gives w k p x at c s f ∙ locating)) (bare, e, may));
@@ -166,8 +166,8 @@ module _ {K V F S : Type 0} (cmp : K → K → Ordering) (total : IsTotalOrder c
         at_found : (e : ℕ) → Done None 0 0 ≡ mode_at_table e x.call
         at_found e = ap (mode_at_table e) (sym is)
 
-        may : Opening x.call n
-        may = subst (λ z. Opening z n) (sym is) le
+        may : MayOpen x.call n
+        may = subst (λ z. MayOpen z n) (sym is) le
 
         makes : w.control_state.published ≡ None → (o : Event) → ev ≡ o → MakesFor PlaceGives x.party_state.processors n w.control_state w.tables o c.stage b t' → IsStep cmp hash gives w p x b t' c (label_of p ev c.stage)
         makes bare (event.Opened e) q g =

@@ -18,10 +18,8 @@ use Rattle.flurry_world.specs.World.{PartyRecord, WorldState}
 module _ {K V F : Type 0} where
   -- the label of a decision
   abbrev pub decide_label : ℕ → Option (Outcome K V) → Label K V F
-  decide_label p None = label.Silent p
   decide_label p (Some (OutcomeReply r)) = label.Decide p r
-  decide_label p (Some OutcomeEnded) = label.Silent p
-  decide_label p (Some OutcomeRefused) = label.Silent p
+  decide_label p _ = label.Silent p
 
   -- the label of a read of that pair
   abbrev pub read_label : ℕ → Option (Seen K V) → Label K V F

@@ -1,6 +1,7 @@
 //! Every interleaving of the calls of a shared map, run one step at a time.
 #![tactic(auto)]
 
+pub mod laws;
 pub mod parts;
 mod party_record;
 mod step;

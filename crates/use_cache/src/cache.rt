@@ -22,11 +22,11 @@ pub struct Cache {
 
 impl Model for Cache {
     ghost use Rattle.std.specs.Prelude.{◌≤◌, ◌<◌, length};
-    ghost use Rattle.use_cache.specs.Cache.{Cached, cached_code};
+    ghost use Rattle.use_cache.specs.Cache.{CacheContents, cache_contents_code};
 
-    ghost Value = { Cached };
+    ghost Value = { CacheContents };
 
-    ghost coded = { cached_code };
+    ghost coded = { cache_contents_code };
 
     ghost view = { λ c. record { pairs = c.map.pairs; bound = c.bound } };
 

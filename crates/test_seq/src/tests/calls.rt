@@ -199,6 +199,25 @@ fn calls_as_values(rt: HostRuntime) {
     read_as(&rt, replies.as_slice(), want);
 }
 
+// A call that computes, made as a value, calls its function once at a present key, and at no pair where the key is absent.
+#[test]
+fn computes_at_a_present_key_alone(rt: HostRuntime) {
+    let times = Cell::new(0u64);
+    let mut map = three_pairs(&rt, rt.alloc());
+    for (key, wanted) in [(3, 1), (4, 0)] {
+        times.set(0);
+        let keep = |_: &u64, value: &u64| {
+            times.set(times.get().wrapping_add(1));
+            Some(*value)
+        };
+        for call in [Call::ComputeIfPresent(key, keep), Call::RetainForce(is_nine_or_more)] {
+            let _ = map.call(call).expect(&rt, "memory");
+        }
+        same_at(&rt, key, times.get(), wanted);
+    }
+    same(&rt, map.len(), 3);
+}
+
 #[test]
 fn one_call_as_a_value(rt: HostRuntime) {
     let mut map = three_pairs(&rt, rt.alloc());

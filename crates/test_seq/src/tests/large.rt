@@ -58,6 +58,7 @@ fn remove_half(map: &mut SeqMap<u64, u64>) -> u64 {
 fn row_09(rt: HostRuntime) {
     let mut map = SeqMap::new(rt.alloc());
     same(&rt, insert_all(&mut map).expect(&rt, "memory"), 50_000);
+    holds(&rt, &map, 131_072, 50_000);
     same(&rt, insert_all(&mut map).expect(&rt, "memory"), 0);
     same(&rt, remove_half(&mut map), 25_000);
     same(&rt, insert_all(&mut map).expect(&rt, "memory"), 25_000);

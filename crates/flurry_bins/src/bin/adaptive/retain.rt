@@ -1,6 +1,6 @@
 //! Keeping some of the entries of a bin.
 ghost use Rattle.std.specs.Prelude.{◌≡◌, ◌&&◌, nat_le, length};
-ghost use Rattle.flurry_model.specs.Keeping.{Keeps};
+ghost use Rattle.flurry_model.specs.Keeps.{Keeps};
 ghost use Rattle.flurry_bins.specs.EntryCall.{CalledAtEntry};
 ghost use Rattle.flurry_bins.specs.Kind.{kind_entries, kind_is_tree};
 ghost use Rattle.flurry_model.specs.declared.sizes.TheConstants.{LEAST_IN_TREE};

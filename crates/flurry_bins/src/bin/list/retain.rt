@@ -1,7 +1,7 @@
 //! Keeping some of the entries of a list.
 ghost use Rattle.std.specs.Prelude.{◌≡◌, ◌≤◌, length};
 ghost use Rattle.flurry_bins.specs.Chain.{chain};
-ghost use Rattle.flurry_model.specs.Keeping.{Keeps};
+ghost use Rattle.flurry_model.specs.Keeps.{Keeps};
 ghost use Rattle.flurry_bins.specs.EntryCall.{CalledAtEntry};
 ghost use Rattle.flurry_model.specs.declared.sizes.TheConstants.{MOST_PAIRS};
 

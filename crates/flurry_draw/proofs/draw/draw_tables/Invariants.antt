@@ -1,4 +1,4 @@
-use Rattle.flurry_draw.specs.Reading.{AddsNames}
+use Rattle.flurry_draw.specs.ReaderState.{AddsNames}
 use Rattle.flurry_draw.proofs.draw.draw_tables.Given as goal
 
 abbrev pub invariant-loop-table : goal.invariant-loop-table

@@ -1,5 +1,5 @@
 use Rattle.std.proofs.Common.{take}
-use Rattle.flurry_draw.specs.Reading.{Shows}
+use Rattle.flurry_draw.specs.ReaderState.{Shows}
 use Rattle.flurry_draw.proofs.page.escaped.Given as goal
 
 abbrev pub invariant-loop-byte : goal.invariant-loop-byte

@@ -1,4 +1,4 @@
-use Rattle.flurry_draw.specs.Reading.{BeginsTag}
+use Rattle.flurry_draw.specs.ReaderState.{BeginsTag}
 use Rattle.flurry_draw.proofs.page.tag_of.Given as goal
 
 abbrev pub invariant-loop-byte : goal.invariant-loop-byte

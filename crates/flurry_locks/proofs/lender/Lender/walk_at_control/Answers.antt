@@ -1,5 +1,5 @@
 use Rattle.std.proofs.Common.{sym, ◌∙◌}
-use Rattle.flurry_locks.specs.Walking.{AtControl, AtStart}
+use Rattle.flurry_locks.specs.WalkTurns.{AtControl, AtStart}
 use Rattle.flurry_locks.proofs.lender.Lender.walk_at_control.Goals as goal
 
 pub returns-in-Some : goal.returns-in-Some

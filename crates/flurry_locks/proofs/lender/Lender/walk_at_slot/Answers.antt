@@ -1,5 +1,5 @@
 use Rattle.std.proofs.Common.{rules}
-use Rattle.flurry_locks.specs.Walking.{AtSlot}
+use Rattle.flurry_locks.specs.WalkTurns.{AtSlot}
 use Rattle.flurry_locks.proofs.lender.Lender.walk_at_slot.Goals as goal
 
 pub returns : goal.returns

@@ -3,7 +3,7 @@ use Rattle.flurry_model.specs.FiniteMap.{map_of_pairs}
 use Rattle.flurry_seq.specs.Contents.{contents}
 use Rattle.flurry_seq.specs.Table.{all_pairs}
 use Rattle.flurry_seq.proofs.IterLaws.{pairs_permute}
-use Rattle.flurry_seq.proofs.KeepingLemmas.{as_many, IsTable-kept, KeepsBins-length, KeepsBins-pairs}
+use Rattle.flurry_seq.proofs.KeepsLemmas.{as_many, IsTable-kept, KeepsBins-length, KeepsBins-pairs}
 use Rattle.flurry_model.proofs.FiniteMapLaws.{IsFiniteMap-map_of_pairs}
 use Rattle.flurry_seq.proofs.seq_map.SeqMap.retain.Goals as goal
 

@@ -3,9 +3,9 @@ use Rattle.std.proofs.lemmas.List.{length-map}
 use Rattle.flurry_seq.specs.Invariant.{IsTableSize}
 use Rattle.flurry_seq.specs.MapsOfBins.{maps_of_bins}
 use Rattle.flurry_bins.specs.Bin.{entries_of_bin}
-use Rattle.flurry_model.proofs.KeepingLaws.{Keeps-all}
+use Rattle.flurry_model.proofs.KeepsLaws.{Keeps-all}
 use Rattle.flurry_seq.proofs.NumberLemmas.{all_at, all_set}
-use Rattle.flurry_seq.proofs.KeepingLemmas.{KeepsBefore-all, keeps_here, seen_length, front_len-all}
+use Rattle.flurry_seq.proofs.KeepsLemmas.{KeepsBefore-all, keeps_here, seen_length, front_len-all}
 use Rattle.flurry_seq.proofs.table.Table.retain.Goals as goal
 
 pub invariant_of-self : goal.invariant_of-self

@@ -1,7 +1,7 @@
 use Rattle.std.proofs.Common.{◌≡◌}
 use Rattle.flurry_seq.specs.Numbers.{BinsBearZero}
 use Rattle.flurry_seq.specs.MapsOfBins.{maps_of_bins}
-use Rattle.flurry_seq.proofs.KeepingLemmas.{KeepsBefore, front_len}
+use Rattle.flurry_seq.proofs.KeepsLemmas.{KeepsBefore, front_len}
 use Rattle.flurry_seq.proofs.table.Table.retain.Given as goal
 
 abbrev pub invariant-loop-at : goal.invariant-loop-at

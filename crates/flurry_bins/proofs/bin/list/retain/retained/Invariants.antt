@@ -1,7 +1,7 @@
 use Rattle.std.proofs.Common.{◌≡◌, ◌+◌, ◌≤◌, length}
 use Rattle.flurry_bins.specs.Chain.{chain}
 use Rattle.flurry_bins.specs.EntryCall.{CalledAtEntry}
-use Rattle.flurry_model.proofs.KeepingLaws.{KeepsOn}
+use Rattle.flurry_model.proofs.KeepsLaws.{KeepsOn}
 use Rattle.flurry_bins.proofs.bin.list.retain.retained.Given as goal
 use Rattle.flurry_model.specs.declared.sizes.TheConstants.{MOST_PAIRS}
 

@@ -10,7 +10,7 @@ pub data Place : Type 0 where
   Entity : List ℕ → Place
 
 -- where a reader stands, and what was shown so far
-pub record Reading : Type 0 where
+pub record ReaderState : Type 0 where
   pub place : Place
   pub shown : List ℕ
 
@@ -19,22 +19,22 @@ abbrev pub byte_of : List ℕ → List ℕ
 byte_of name = cond (bytes_eq name (codes "lt")) (60 ∷ []) (cond (bytes_eq name (codes "amp")) (38 ∷ []) [])
 
 -- a tag goes from `<` to `>`, an entity from `&` to `;`
-abbrev pub next : Place → List ℕ → ℕ → Reading
+abbrev pub next : Place → List ℕ → ℕ → ReaderState
 next Text shown b = cond (b == 60) (record { place = Tag; shown = shown })
     (cond (b == 38) (record { place = Entity []; shown = shown }) (record { place = Text; shown = shown ++ b ∷ [] }))
 next Tag shown b = cond (b == 62) (record { place = Text; shown = shown }) (record { place = Tag; shown = shown })
 next (Entity name) shown b = cond (b == 59) (record { place = Text; shown = shown ++ byte_of name }) (record { place = Entity (name ++ b ∷ []); shown = shown })
 
 -- after so many bytes more
-abbrev pub reads_on : Reading → List ℕ → Reading
+abbrev pub reads_on : ReaderState → List ℕ → ReaderState
 reads_on reading bytes = fold (λ r b. next r.place r.shown b) reading bytes
 
 -- what was shown, between tags
-abbrev pub between_tags : List ℕ → Reading
+abbrev pub between_tags : List ℕ → ReaderState
 between_tags shown = record { place = Text; shown = shown }
 
 -- after all bytes of a picture
-abbrev pub reads : List ℕ → Reading
+abbrev pub reads : List ℕ → ReaderState
 reads bytes = reads_on (between_tags []) bytes
 
 -- between tags, they show this text, and end between tags

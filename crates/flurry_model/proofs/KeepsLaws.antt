@@ -7,7 +7,7 @@ use Rattle.std.specs.declared.cmp.Ordering.TheVariants.{Less}
 use Rattle.std.proofs.lemmas.List.{append_assoc, reverse-append}
 use Rattle.std.specs.Map.{keys_of}
 use Rattle.flurry_model.specs.FiniteMap.{IsFiniteMap}
-use Rattle.flurry_model.specs.Keeping.{Keeps}
+use Rattle.flurry_model.specs.Keeps.{Keeps}
 
 -- what holds of a list with an element in front and without it holds of the one that an answer chooses
 either : {X : Type 0} (P : List X → Type 0) (answer : Bool) (x : X) (rest kept : List X) → kept ≡ cond answer (x ∷ rest) rest → P (x ∷ rest) → P rest → P kept
