@@ -1,11 +1,12 @@
 //! The calls that no row names, and the calls as values.
 
-use super::{insert_new, lent, puts, queue_of, same, taken};
+use super::{insert_new, lent, puts, queue_of, same, same_at, taken};
 use flurry_bins::bin::{Ordered, Shape};
 use flurry_model::hash::LowHashBuilder;
 use flurry_seq::SeqMap;
 use flurry_seq::calls::{Call, Reply};
 use std::alloc::Global;
+use std::cell::Cell;
 use std::fmt::Display;
 use std::process::Abort;
 use std::sync::Arc;

@@ -1,6 +1,6 @@
 //! Many keys.
 
-use super::{same, same_at};
+use super::{holds, same, same_at};
 use flurry_model::hash::{DefaultHashBuilder, KeyHasher, MaxHashBuilder, ZeroHashBuilder};
 use flurry_seq::SeqMap;
 use std::alloc::AllocError;

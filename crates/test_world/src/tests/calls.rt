@@ -244,7 +244,7 @@ fn rewritten_value(rt: HostRuntime) {
 }
 
 // With memory enough no call is refused, in a table of 8192 bins and whatever number a value has: a value is written ten times, and
-// looked up between.
+// looked up between. Nor is the next larger table.
 fn rewrites<F: ComputeFn<u64, u64> + Copy>(rt: &impl Abort, alloc: Global, change: F)
     requires { (f : F) → F.can_change f }
 {
@@ -268,5 +268,7 @@ fn rewrites<F: ComputeFn<u64, u64> + Copy>(rt: &impl Abort, alloc: Global, chang
         assert_reply(rt, &mut world, OwnedCall::GetKeyValue(8191), pair);
         assert_reply(rt, &mut world, OwnedCall::Get(8191), value(Some(0)));
     }
+    let lines = [Line::Silent(61), Line::Placed(14)];
+    assert_call(rt, &mut world, 61, OwnedCall::Reserve(8192), &lines);
     drop(world);
 }
