@@ -36,7 +36,8 @@ pub(crate) trait Stack<T: Drop> {
     /// Takes the item on top.
     fn pop(&mut self) -> Option<T>
         requires { fills_up self.old }
-        ensures items { MatchOption result ((items self.old ≡ []) × (self.new ≡ self.old)) (λ x. items self.old ≡ x ∷ items self.new) }
+        ensures items { MatchOption result ((items self.old ≡ []) × (self.new ≡ self.old))
+            (λ x. items self.old ≡ x ∷ items self.new) }
         ensures fills_up { fills_up self.new };
 }
 

@@ -49,7 +49,7 @@ impl Kind {
         }
     }
 
-    /// The exponent of the table that it speaks of.
+    /// The exponent of the table that it speaks of. No clause tells it: where a picture draws a bin is no part of its text.
     pub fn table(self) -> Option<u64> {
         match self {
             Kind::Moved(table, _)
@@ -60,7 +60,7 @@ impl Kind {
         }
     }
 
-    /// Whether its mark is drawn small, with its text as a hint, beside others of its kind.
+    /// Whether its mark is drawn small, with its text as a hint, beside others of its kind. No clause tells it: the text is the same.
     pub fn is_small(self) -> bool {
         matches!(self, Kind::Silent | Kind::Moved(_, _) | Kind::Wiped(_, _))
     }

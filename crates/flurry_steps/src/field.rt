@@ -29,7 +29,8 @@ pub trait Field<K: Ord + Drop, V: Drop, A: Allocator + Copy> {
     /// asks for the published table, and a tally to a call that counts a pair.
     fn at_control<F: ComputeFn<K, V>>(&mut self, party: &mut Party<'_, K, V, F, A>) -> Option<Event>
         requires { wanted_part party.old ≡ ControlPart }
-        ensures { TurnsOrStays Self.Room.place_gives K.cmp F.changes lends lacks self.old party.old result self.new party.new };
+        ensures { TurnsOrStays Self.Room.place_gives K.cmp F.changes lends lacks self.old party.old
+            result self.new party.new };
 
     /// Lends the slot of that table and index, to read it.
     fn at_look<F: ComputeFn<K, V>>(
@@ -39,7 +40,8 @@ pub trait Field<K: Ord + Drop, V: Drop, A: Allocator + Copy> {
         party: &mut Party<'_, K, V, F, A>,
     ) -> Option<Event>
         requires { wanted_part party.old ≡ LookPart table index }
-        ensures { TurnsOrStays Self.Room.place_gives K.cmp F.changes lends lacks self.old party.old result self.new party.new };
+        ensures { TurnsOrStays Self.Room.place_gives K.cmp F.changes lends lacks self.old party.old
+            result self.new party.new };
 
     /// Lends the slot of that table and index, to write it.
     fn at_bin<F: ComputeFn<K, V>>(
@@ -49,7 +51,8 @@ pub trait Field<K: Ord + Drop, V: Drop, A: Allocator + Copy> {
         party: &mut Party<'_, K, V, F, A>,
     ) -> Option<Event>
         requires { wanted_part party.old ≡ BinPart table index }
-        ensures { TurnsOrStays Self.Room.place_gives K.cmp F.changes lends lacks self.old party.old result self.new party.new };
+        ensures { TurnsOrStays Self.Room.place_gives K.cmp F.changes lends lacks self.old party.old
+            result self.new party.new };
 
     /// Lends the slot of that table and index, and its two halves in the next table, to move its bin into these.
     fn at_move<F: ComputeFn<K, V>>(
@@ -59,7 +62,8 @@ pub trait Field<K: Ord + Drop, V: Drop, A: Allocator + Copy> {
         party: &mut Party<'_, K, V, F, A>,
     ) -> Option<Event>
         requires { wanted_part party.old ≡ MovePart table index }
-        ensures { TurnsOrStays Self.Room.place_gives K.cmp F.changes lends lacks self.old party.old result self.new party.new };
+        ensures { TurnsOrStays Self.Room.place_gives K.cmp F.changes lends lacks self.old party.old
+            result self.new party.new };
 }
 
 /// Does the next step of a call over a field, and answers what it was. Where the call is done, or the field did not lend the part, the
@@ -71,7 +75,8 @@ pub fn act<K: Ord + Drop, V: Drop, A: Allocator + Copy, F: ComputeFn<K, V>, X: F
     party: &mut Party<'_, K, V, F, A>,
     field: &mut X,
 ) -> Option<Event>
-    ensures { ActsOrStays X.Room.place_gives K.cmp F.changes X.lends X.lacks field.old party.old result field.new party.new }
+    ensures { ActsOrStays X.Room.place_gives K.cmp F.changes X.lends X.lacks field.old party.old
+        result field.new party.new }
 {
     match party.want() {
         Want::Control => field.at_control(party),

@@ -62,7 +62,8 @@ impl<K: Ord + Drop, V: Drop, A: Allocator + Copy> Parts<K, V, A> {
     /// [`AllocError`], where memory for the table is wanting. The parts are then as before.
     pub fn open(&mut self, table: u8) -> Result<u8, AllocError>
         requires { table ≤ GREATEST_TABLE }
-        ensures gives { OpenGives PlaceGives table self.old.control_state self.old.tables result self.new.control_state self.new.tables }
+        ensures gives { OpenGives PlaceGives table self.old.control_state self.old.tables
+            result self.new.control_state self.new.tables }
         ensures within { IfOk result (λ e. e ≤ GREATEST_TABLE) }
     {
         self.control.open(table, &mut self.tables)

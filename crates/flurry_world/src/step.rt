@@ -89,7 +89,8 @@ pub(crate) fn step_party<
     A: Allocator + Copy,
 >(party: usize, call: &mut Party<'_, K, V, F, A>, parts: &mut Parts<K, V, A>) -> Label<K, V, F>
     requires { IsGoing call.old.stage → IsThere parts.old.tables (wanted_part call.old) }
-    ensures { StepByStage K.cmp F.changes party call.old.stage call.old parts.old.control_state parts.old.tables result call.new parts.new.control_state parts.new.tables }
+    ensures { StepByStage K.cmp F.changes party call.old.stage call.old parts.old.control_state parts.old.tables
+        result call.new parts.new.control_state parts.new.tables }
 {
     match act(call, parts) {
         Some(event) => label_of(party, event, call),

@@ -135,7 +135,8 @@ pub fn put_any<K: Hash + Ord + Drop, V: Drop>(
 #[tactic(auto, using(flurry::proofs::CallerLaws::text_calls))]
 pub fn put_text(map: &mut SeqMap<String, u64>, key: String, value: u64) -> Result<(), AllocError>
     ensures same { OnOk result (value_at string_cmp map.new.pairs key ≡ Some value) }
-    ensures others { OnOk result ((q : String Global) → string_bytes q ≢ string_bytes key → value_at string_cmp map.new.pairs q ≡ value_at string_cmp map.old.pairs q) }
+    ensures others { OnOk result ((q : String Global) → string_bytes q ≢ string_bytes key
+        → value_at string_cmp map.new.pairs q ≡ value_at string_cmp map.old.pairs q) }
 {
     map.insert(key, value)?;
     Ok(())
@@ -171,7 +172,8 @@ pub fn get_or_put(map: &mut Map, key: u64, value: u64) -> Result<u64, AllocError
 /// Other elements stay.
 #[tactic(auto, using(flurry::proofs::CallerLaws::set_calls))]
 pub fn put_other_element(set: &mut SeqSet<u64>, x: u64) -> Result<(), AllocError>
-    ensures { OnOk result ((q : ℕ) → q ≢ x → element_at nat_cmp set.new.elements q ≡ element_at nat_cmp set.old.elements q) }
+    ensures { OnOk result ((q : ℕ) → q ≢ x
+        → element_at nat_cmp set.new.elements q ≡ element_at nat_cmp set.old.elements q) }
 {
     set.insert(x)?;
     Ok(())

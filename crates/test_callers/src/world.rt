@@ -61,7 +61,7 @@ pub fn insert_driven<R: Wait>(rt: &R, parts: &mut Parts<u64, u64>, key: u64, val
     }
 }
 
-/// The next step of a call, over whatever lends it the parts of its map.
+/// The next step of a call, over whatever lends it the parts of its map. It promises safety alone: what a step does hangs on the field.
 pub fn next_step<F: ComputeFn<u64, u64>, X: Field<u64, u64, Global>>(
     party: &mut Party<'_, u64, u64, F>,
     field: &mut X,

@@ -57,7 +57,8 @@ impl Cache {
     #[tactic(auto, using(flurry::proofs::CallerLaws::map_calls))]
     pub fn put(&mut self, key: u64, value: u64) -> Result<(), AllocError>
         ensures put { OnOk result (value_at nat_cmp self.new.pairs key ≡ Some value) }
-        ensures others { (q : ℕ) → q ≢ key → Keeps (value_at nat_cmp self.old.pairs q) (value_at nat_cmp self.new.pairs q) }
+        ensures others { (q : ℕ) → q ≢ key
+            → Keeps (value_at nat_cmp self.old.pairs q) (value_at nat_cmp self.new.pairs q) }
         ensures err { OnErr result (Keeps (value_at nat_cmp self.old.pairs key) (value_at nat_cmp self.new.pairs key)) }
         ensures bound { self.new.bound ≡ self.old.bound }
         ensures room { length self.new.pairs ≤ self.new.bound }

@@ -23,7 +23,8 @@ fn read<K: Drop, V: Drop, A: Allocator>(
     entry: &Entry<K, V, A>,
 ) -> Result<Seen<K, V, A>, AllocError>
     ensures seen { OnOk result (result ≡ Ok (seen_at (numbered_pair entry.now))) }
-    ensures ok { OnOk result (cursor.new ≡ with_top cursor.old (with_bound cursor.old.top (entry.now.hash, arc_value entry.now.key))) }
+    ensures ok { OnOk result (cursor.new
+        ≡ with_top cursor.old (with_bound cursor.old.top (entry.now.hash, arc_value entry.now.key))) }
     ensures err { OnErr result (cursor.new ≡ cursor.old) }
 {
     let seen = Seen::of(entry)?;
@@ -39,7 +40,8 @@ pub(super) fn step_walk<K: Ord + Drop, V: Drop, A: Allocator>(
 ) -> (Option<Reply<K, V, A>>, Event)
     requires { slot.now.table ≡ cursor.old.top.table }
     ensures within { IsSlot K.cmp slot.now }
-    ensures step { WalkGives K.cmp cursor.old slot.now.content last.old result.1 (walked_to cursor.new result.0) last.new }
+    ensures step { WalkGives K.cmp cursor.old slot.now.content last.old
+        result.1 (walked_to cursor.new result.0) last.new }
 {
     match slot.next_after(cursor.bound()) {
         Answer::Here(Some(entry)) => match read(cursor, entry) {
