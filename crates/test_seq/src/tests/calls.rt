@@ -211,7 +211,10 @@ fn computes_at_a_present_key_alone(rt: HostRuntime) {
             times.set(times.get().wrapping_add(1));
             Some(*value)
         };
-        for call in [Call::ComputeIfPresent(key, keep), Call::RetainForce(is_nine_or_more)] {
+        for call in [
+            Call::ComputeIfPresent(key, keep),
+            Call::RetainForce(is_nine_or_more),
+        ] {
             let _ = map.call(call).expect(&rt, "memory");
         }
         same_at(&rt, key, times.get(), wanted);
