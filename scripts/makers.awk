@@ -1,5 +1,5 @@
 # Of the sources of a crate: tells each way beside the functions `makers` by which somebody outside makes a value of the type `type`. Such
-# a way is a function that anybody calls and that answers one, a public field, or a derived trait that makes one.
+# a way is a function that anybody calls and that answers one, a public field or constant, or a derived trait that makes one.
 
 function names(text, word) {
     return text ~ ("(^|[^A-Za-z0-9_])" word "([^A-Za-z0-9_]|$)")
@@ -59,6 +59,10 @@ in_derives { derives = derives " " $0; in_derives = !/\)\]$/; next }
     derives = ""
 }
 in_type && (/^ +pub / || /\(pub /) { fault("a field of '" type "' is public") }
+
+# A constant, or a field of another type, that anybody reads and that is one, or holds one.
+/^ *pub (const|static) [A-Z]/ && names($0, type) { fault("a public constant is a '" type "'") }
+!in_type && /^ +pub [a-z_0-9]+: / && names($0, type) { fault("a public field is a '" type "'") }
 
 END {
     if (!found) {
