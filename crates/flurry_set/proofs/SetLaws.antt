@@ -1,6 +1,6 @@
 -- A set is the keys of a map.
 use Rattle.std.proofs.Common.{◌+◌, ◌≤◌, length, arith, ◌≡◌, ℕ, Bool, true, false, cond, not, ◌&&◌, List, [], ◌∷◌, ◌++◌, Option, Some, None, is_some, option_map, Result, Ok, Err, refl, inl, sym, ap, ◌∙◌, Ordering, Less, Equal, Greater}
-use Rattle.std.specs.Prelude.{IsTrue, IsSome, ◌↔◌, is_none, is_ok, if◌then◌else◌}
+use Rattle.std.specs.Prelude.{IsTrue, IsSome, ◌↔◌, ◌==◌, is_none, is_ok, if◌then◌else◌}
 use Rattle.std.specs.Borrow.{Bor}
 use Rattle.std.specs.Ordering.{is_eq, eq_by_cmp}
 use Rattle.std.specs.Cmp.{IsTotalOrder, tied_itself}
@@ -9,6 +9,7 @@ use Rattle.std.specs.Option.{option_eq, option_map_or, MatchOption}
 use Rattle.std.specs.Result.{IsOkAnd, IsErrAnd}
 use Rattle.std.specs.Map.{keys_of}
 use Rattle.std.specs.List.{AllByRecursion, list_all}
+use Rattle.std.proofs.lemmas.Bool.Decides.{nat_tests}
 use Rattle.std.proofs.lemmas.List.Sorted.{IsPermutation-map}
 use Rattle.std.proofs.lemmas.Map.Keys.{sorted_head, sorted_tail}
 use Rattle.flurry_model.specs.FiniteMap.{IsFiniteMap, pair_at, value_at, with_pair, without, map_of_pairs}
@@ -175,6 +176,18 @@ module _ {K : Type 0} {cmp : K → K → Ordering} (o : IsTotalOrder cmp) where
       turned : (b : Bool) → not b ≡ true → b ≡ false
       turned true e = sym e
       turned false e = refl
+
+  -- there is no class in an empty set
+  empty_of : (t : List K) → (length t == 0) ≡ true → t ≡ []
+  empty_of [] e = refl
+  empty_of (y ∷ t) e = let some : (length (y ∷ t) == 0) ≡ false = grind (arith, nat_tests) in cc
+
+  pub subset_of_none : (s t : List K) → (length t == 0) ≡ true → IsTrue (length s == 0) ↔ IsSubset cmp s t
+  subset_of_none s t e = rw (empty_of t e) (decides_subset s [] (length s == 0) (none s))
+    where
+      none : (s : List K) → (length s == 0) ≡ list_all (λ y. is_some (element_at cmp [] y)) s
+      none [] = refl
+      none (x ∷ s) = let some : (length (x ∷ s) == 0) ≡ false = grind (arith, nat_tests) in rw some refl
 
 -- one element more
 -- a set to which an element was put has as many elements, or one more

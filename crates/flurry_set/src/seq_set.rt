@@ -210,7 +210,7 @@ impl<T: Ord + Drop, S: KeyHasher<T>, A: Allocator> SeqSet<T, S, A> {
         ensures disjoint { IsTrue result ↔ AreDisjoint T.cmp self.now.elements other.now.elements }
         ensures ascend { IsFiniteSet T.cmp self.now.elements × IsFiniteSet T.cmp other.now.elements }
     {
-        if other.is_empty() {
+        if self.is_empty() | other.is_empty() {
             return true;
         }
         for element in self.iter() {

@@ -2,7 +2,7 @@ use Rattle.std.proofs.Common.{false, true, ◌&&◌, is_some, sym, ap, ◌∙◌
 use Rattle.std.specs.List.{list_all}
 use Rattle.flurry_model.specs.FiniteSet.{element_at}
 use Rattle.flurry_seq.proofs.ListLaws.{list_all_permuted}
-use Rattle.flurry_set.proofs.SetLaws.{decides_subset}
+use Rattle.flurry_set.proofs.SetLaws.{decides_subset, subset_of_none}
 use Rattle.flurry_set.proofs.seq_set.SeqSet.is_subset.Goals as goal
 
 pub loop-element-init : goal.loop-element-init
@@ -20,3 +20,8 @@ pub returns-clause-subset : goal.returns-clause-subset
 returns-clause-subset g c =
     let all = ap (list_all (λ y. is_some (element_at g.T.Ord.cmp c.args.other.now.elements y))) c.in-None.ensures.steps.0 in
     decides_subset g.met.T.Ord.total c.args.self.now.elements c.args.other.now.elements true (sym all ∙ c.loop-element.invariant)
+
+pub returns-then-is_empty-clause-subset : goal.returns-then-is_empty-clause-subset
+returns-then-is_empty-clause-subset g c =
+    rw c.is_empty-then-is_empty.ensures.empty
+    (subset_of_none g.met.T.Ord.total c.args.self.now.elements c.args.other.now.elements (sym c.is_empty.ensures.empty ∙ c.if-is_empty.true))
