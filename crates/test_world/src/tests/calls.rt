@@ -6,7 +6,6 @@ use super::{
 use flurry_model::reply::KeptReply;
 use flurry_slots::{ComputeFn, NoFn};
 use flurry_steps::party::OwnedCall;
-use flurry_world::laws::one_key_calls_agree;
 use flurry_world::world::Step;
 use std::alloc::Global;
 use std::process::Abort;
@@ -272,10 +271,4 @@ fn rewrites<F: ComputeFn<u64, u64> + Copy>(rt: &impl Abort, alloc: Global, chang
     let lines = [Line::Silent(61), Line::Placed(14)];
     assert_call(rt, &mut world, 61, OwnedCall::Reserve(8192), &lines);
     drop(world);
-}
-
-// A law has no code. It is called for what it ensures, here at numbers.
-#[test]
-fn law_of_one_key_calls() {
-    one_key_calls_agree::<u64, u64, NoFn>()
 }
