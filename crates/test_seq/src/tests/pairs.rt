@@ -181,21 +181,28 @@ fn whole_owned_table_of_half_rounded_up(rt: HostRuntime) {
     }
 }
 
-// A map that is made of a list has room for each pair, and no more: of 16 bins the threshold, 12, is too low for 12 pairs. So has a
-// further map of it.
+// A map that is made of a list has room for each pair.
 #[test]
 fn whole_owned_table_of_lists(rt: HostRuntime) {
-    for (count, bins) in [(3, 8), (12, 32)] {
-        let mut list = Vec::new(rt.alloc());
-        for key in 0..count {
-            list.push((key, key)).expect(&rt, "memory");
-        }
-        let map = SeqMap::from_list(rt.alloc(), list, LowHashBuilder).expect(&rt, "memory");
-        same_at(&rt, count, map.capacity(), bins);
-        let copy = map.try_clone().expect(&rt, "memory");
-        same_at(&rt, count, copy.capacity(), bins);
-        same(&rt, lent(copy.get(&2)), Some(2));
+    let list = Vec::from_array(rt.alloc(), [(1, 10), (2, 20), (3, 30)]).expect(&rt, "memory");
+    let map = SeqMap::from_list(rt.alloc(), list, LowHashBuilder).expect(&rt, "memory");
+    holds(&rt, &map, 8, 3);
+    same(&rt, lent(map.get(&2)), Some(20));
+}
+
+// It has room for no more pairs than there are: of 16 bins the threshold, 12, is too low for 12 pairs, and 32 are enough. So has a
+// further map of it.
+#[test]
+fn whole_owned_table_of_a_longer_list(rt: HostRuntime) {
+    let mut list = Vec::new(rt.alloc());
+    for key in 0..12u64 {
+        list.push((key, key)).expect(&rt, "memory");
     }
+    let map = SeqMap::from_list(rt.alloc(), list, LowHashBuilder).expect(&rt, "memory");
+    holds(&rt, &map, 32, 12);
+    let copy = map.try_clone().expect(&rt, "memory");
+    holds(&rt, &copy, 32, 12);
+    same(&rt, lent(copy.get(&2)), Some(2));
 }
 
 // A further map of no pairs has no table.
