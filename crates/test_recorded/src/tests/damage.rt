@@ -55,6 +55,17 @@ fn a_share_is_missing(rt: HostRuntime) -> Result<(), Fail> {
     Ok(())
 }
 
+// A share that made no call belongs to the map as the others do.
+#[test]
+fn a_share_without_a_receipt_is_missing(rt: HostRuntime) -> Result<(), Fail> {
+    let map = Numbers::with_hasher(rt.alloc(), LowHashBuilder);
+    let (first, second) = three_calls(&rt, &map)?;
+    let _ = map.share(&rt)?;
+    let fault = fault_of(map, vec![in rt.alloc(); first, second]?);
+    same(&rt, fault, Some(CloseFault::SharesDiffer));
+    Ok(())
+}
+
 #[test]
 fn a_share_of_another_map(rt: HostRuntime) -> Result<(), Fail> {
     let map = Numbers::with_hasher(rt.alloc(), LowHashBuilder);
