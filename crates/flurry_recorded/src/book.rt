@@ -113,6 +113,7 @@ impl<K: Ord + Copy, V: Copy, S: KeyHasher<K>, A: Allocator + Copy> Book<K, V, S,
         ensures parts { IfOk result (λ c. (c.map ≡ self.contents) × (c.history.items ≡ self.history)) }
         ensures closed { IfOk result (λ c. IsClosed ⟦<KeptCall<K, V> as PartialEq>⟧.eq
             ⟦<KeptReply<K, V> as PartialEq>⟧.eq K.cmp c.history.items c.map.pairs shares.items) }
+        ensures all { OnOk result (length shares.items ≡ length self.shares) }
         ensures err { IfErr result
             (HasFault ⟦<KeptCall<K, V> as PartialEq>⟧.eq ⟦<KeptReply<K, V> as PartialEq>⟧.eq
             (length self.shares) self.history shares.items) }
