@@ -1,6 +1,4 @@
 //! What a caller of the maps and sets gets with no proof file: where a function wants laws, its attribute names them.
-//! The examples in the doc comments of the library are bodies of functions that stand here, or impls; those of what `flurry` does not
-//! hand on stand in the crates of tests.
 #![tactic(auto)]
 
 ghost use Rattle.std.specs.Prelude.{◌≡◌, ◌≢◌, ◌+◌, ◌≤◌, ℕ, [], ◌∷◌, length, Some, None, OnOk, IfOk, is_some, String, string_bytes};
@@ -10,19 +8,8 @@ ghost use Rattle.std.specs.String.{string_cmp};
 ghost use Rattle.flurry.specs.FiniteMap.{value_at};
 ghost use Rattle.flurry.specs.FiniteSet.{element_at};
 
-pub mod bins;
-pub mod calls;
-pub mod hashers;
-pub mod iterators;
-pub mod owned;
-pub mod pairs;
-pub mod par;
-pub mod recorded;
-pub mod sets;
+pub mod compute;
 pub mod shared;
-pub mod steps;
-pub mod walks;
-pub mod world;
 
 use flurry::{SeqMap, SeqSet};
 use std::alloc::{AllocError, Global};

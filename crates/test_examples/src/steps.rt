@@ -1,5 +1,5 @@
 //! Callers of the control of a shared map, and of calls in steps.
-ghost use Rattle.std.specs.Prelude.{◌≡◌, ℕ, true, Some, IfOk, IfSome, min, pos};
+ghost use Rattle.std.specs.Prelude.{◌≡◌, ℕ, true, Some, IfOk, IfSome, pos};
 
 use flurry::slots::ComputeFn;
 use flurry::steps::control::{Advice, BeginOutcome, Claim, Control, PublishedTable, Room, Tally};
@@ -33,20 +33,6 @@ pub fn open_first() -> Result<Option<u8>, AllocError>
 pub fn first_of_claim(control: &mut Control) -> Option<(u8, usize)> {
     let claim: Claim = control.claim(1)?;
     claim.next()
-}
-
-/// Answers a limit in the place of a greater value.
-#[derive(Clone, Copy, Debug)]
-pub struct AtMost(pub u64);
-
-impl ComputeFn<u64, u64> for AtMost {
-    ghost can_change = { λ _. Unit {0} };
-
-    ghost changes = { λ f _ v r. r ≡ Some (min v f.0) };
-
-    fn change(self, _key: &u64, value: &u64) -> Option<u64> {
-        Some((*value).min(self.0))
-    }
 }
 
 /// What the first step of a call needs.
