@@ -4,3 +4,6 @@ use Rattle.flurry_calls.proofs.cursor.Cursor.split.Goals as goal
 
 pub push-requires : goal.push-requires
 push-requires g c = search (rules, few_below)
+
+pub returns-clause-ok : goal.returns-clause-ok
+returns-clause-ok g c = search rules

@@ -3,3 +3,6 @@ use Rattle.flurry_model.proofs.hash.DefaultHashBuilder.with_seed.Goals as goal
 
 pub returns : goal.returns
 returns c = search rules
+
+pub invariant_of-result : goal.invariant_of-result
+invariant_of-result = search rules

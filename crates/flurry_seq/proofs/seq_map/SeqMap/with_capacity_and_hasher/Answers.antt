@@ -1,4 +1,4 @@
-use Rattle.std.proofs.Common.{inr, subst, sym}
+use Rattle.std.proofs.Common.{inr, subst, sym, rules}
 use Rattle.flurry_model.proofs.FiniteMapLaws.{IsFiniteMap-nil}
 use Rattle.flurry_seq.specs.Invariant.{IsTableSize}
 use Rattle.flurry_seq.proofs.GrowthLemmas.{wanted_size}
@@ -15,3 +15,6 @@ returns-clause-ascend g c =
       | then-capacity-gt0+in_ok-begin w ↦ rw (w.map-is, w.in_ok-begin.ensures.ok, c.with_hasher-map.ensures) none
       | else-capacity-gt0 w ↦ rw (w.map-is, c.with_hasher-map.ensures) none
     ]
+
+pub returns-clause-empty : goal.returns-clause-empty
+returns-clause-empty g c = search rules
