@@ -1,3 +1,4 @@
+use Rattle.std.proofs.Common.{rules}
 use Rattle.flurry_recorded.proofs.HistoryLaws.{replays_more}
 use Rattle.flurry_recorded.proofs.book.Book.call.Goals as goal
 
@@ -8,3 +9,6 @@ invariant_of-self-2 g c = record {
       (replays_more g.K.Ord.cmp c.self.inside.history.items c.self.inside.map.pairs c.args.call c.in_ok-reply.reply c.reply_to.new.map.pairs c.self.invariant.replays c.in_ok-reply.ensures.ok);
   numbers = c.self.invariant.numbers;
 }
+
+pub returns-clause-ok : goal.returns-clause-ok
+returns-clause-ok g c = search rules

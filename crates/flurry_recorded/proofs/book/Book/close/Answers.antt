@@ -16,3 +16,6 @@ pub returns-clause-closed : goal.returns-clause-closed
 returns-clause-closed g c =
     closed_of (call.ghosts g.row.K g.row.V g.K.PartialEq g.K.PartialEq-dict g.V.PartialEq g.V.PartialEq-dict).eq (reply.ghosts g.row.K g.row.V g.K.PartialEq g.K.PartialEq-dict g.V.PartialEq g.V.PartialEq-dict).eq
     g.K.Ord.cmp c.len.result c.deref.result.now _ c.deref-2.result.now _ _ c.deref.ensures.value c.deref-2.ensures.value c.in_default.ensures.ok c.self.invariant.replays
+
+pub returns-clause-all : goal.returns-clause-all
+returns-clause-all g c = search rules

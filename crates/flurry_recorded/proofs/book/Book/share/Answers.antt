@@ -7,3 +7,6 @@ invariant_of-self-2 g c = record {
   replays = c.self.invariant.replays;
   numbers = rw c.in_ok-push.ensures.items (from_zero_more c.self.inside.shares.items c.len-number.result (search rules) c.self.invariant.numbers);
 }
+
+pub returns-clause-ok : goal.returns-clause-ok
+returns-clause-ok g c = search rules
