@@ -16,3 +16,6 @@ pub returns-in-Some-take_reply-clause-exact : goal.returns-in-Some-take_reply-cl
 returns-in-Some-take_reply-clause-exact g c =
     let end : final_outcome c.act.new.party.stage ≡ Some (outcome_of c.in-Some-take_reply.reply) = search rules in
     exact g.X.Room.Room.place_gives g.K.Ord.cmp g.met.K.Ord.total g.F.ComputeFn.changes g.X.Field.lends g.X.Field.lacks _ _ _ _ _ (turns_on _ g.X.Field.lacks _ _ _ _ _ _ c.act.result c.act.ensures c.loop.invariant.2) end
+
+pub returns-in-Some-take_reply-clause-turns : goal.returns-in-Some-take_reply-clause-turns
+returns-in-Some-take_reply-clause-turns g c = search rules

@@ -1,4 +1,4 @@
-use Rattle.std.proofs.Common.{◌≡◌, ◌+◌, length, inl, subst, ap, ◌∙◌, arith}
+use Rattle.std.proofs.Common.{◌≡◌, ◌+◌, length, inl, subst, ap, ◌∙◌, arith, rules}
 use Rattle.flurry_seq.specs.Growth.{bins_for, HasRoom}
 use Rattle.flurry_seq.proofs.RoomLaws.{room_for}
 use Rattle.flurry_set.proofs.seq_set.SeqSet.from_list.Goals as goal
@@ -12,3 +12,6 @@ returns-clause-bins g c =
     let none : length c.in_ok-set.set.elements ≡ 0 = ap (λ s. length s.elements) made in
     let all : count ≡ length c.in_ok-set.set.elements + count = omega (arith, none) in
     c.in_ok-insert_all.ensures.room (bins_for count) (subst (HasRoom (bins_for count)) all (room_for count)) (inl bins)
+
+pub returns-clause-made : goal.returns-clause-made
+returns-clause-made g c = search rules

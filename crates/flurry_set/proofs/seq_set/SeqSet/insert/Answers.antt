@@ -1,4 +1,4 @@
-use Rattle.std.proofs.Common.{◌≡◌, sym, ◌∙◌}
+use Rattle.std.proofs.Common.{◌≡◌, sym, ◌∙◌, rules}
 use Rattle.std.proofs.lemmas.List.{length-map}
 use Rattle.std.specs.Arc.{arc_value}
 use Rattle.flurry_set.proofs.SetLaws.{put_key}
@@ -21,3 +21,6 @@ returns-clause-elements g c =
 
 pub returns-clause-grown : goal.returns-clause-grown
 returns-clause-grown g c = λ new. rw (← c.self.view_is, length-map) (c.in_ok-try_insert.ensures.grown (sym c.is_ok.ensures.value ∙ new))
+
+pub returns-clause-bins : goal.returns-clause-bins
+returns-clause-bins g c = search rules

@@ -1,4 +1,4 @@
-use Rattle.std.proofs.Common.{not, false, true, ◌&&◌, is_some, sym, ap, ◌∙◌}
+use Rattle.std.proofs.Common.{not, false, true, ◌&&◌, is_some, sym, ap, ◌∙◌, rules}
 use Rattle.std.specs.List.{list_all}
 use Rattle.flurry_model.specs.FiniteSet.{element_at}
 use Rattle.flurry_seq.proofs.ListLaws.{list_all_permuted}
@@ -20,3 +20,6 @@ pub returns-clause-disjoint : goal.returns-clause-disjoint
 returns-clause-disjoint g c =
     let all = ap (list_all (λ y. not (is_some (element_at g.T.Ord.cmp c.args.other.now.elements y)))) c.in-None.ensures.steps.0 in
     decides_disjoint g.met.T.Ord.total c.args.self.now.elements c.args.other.now.elements true (sym all ∙ c.loop-element.invariant)
+
+pub loop-element-preserved : goal.loop-element-preserved
+loop-element-preserved g c = search rules
