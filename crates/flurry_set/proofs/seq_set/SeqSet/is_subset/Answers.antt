@@ -1,4 +1,4 @@
-use Rattle.std.proofs.Common.{false, true, ◌&&◌, is_some, sym, ap, ◌∙◌}
+use Rattle.std.proofs.Common.{false, true, ◌&&◌, is_some, sym, ap, ◌∙◌, rules}
 use Rattle.std.specs.List.{list_all}
 use Rattle.flurry_model.specs.FiniteSet.{element_at}
 use Rattle.flurry_seq.proofs.ListLaws.{list_all_permuted}
@@ -25,3 +25,6 @@ pub returns-then-is_empty-clause-subset : goal.returns-then-is_empty-clause-subs
 returns-then-is_empty-clause-subset g c =
     rw c.is_empty-then-is_empty.ensures.empty
     (subset_of_none g.met.T.Ord.total c.args.self.now.elements c.args.other.now.elements (sym c.is_empty.ensures.empty ∙ c.if-is_empty.true))
+
+pub loop-element-preserved : goal.loop-element-preserved
+loop-element-preserved g c = search rules
