@@ -1,4 +1,4 @@
-use Rattle.std.proofs.Common.{◌≡◌, length, refl, ap, ◌∙◌, arith, None}
+use Rattle.std.proofs.Common.{◌≡◌, length, refl, ap, ◌∙◌, arith, None, rules}
 use Rattle.std.proofs.lemmas.Grind.{common_steps}
 use Rattle.flurry_steps.specs.PartyView.{owned_stage}
 use Rattle.flurry_world.specs.Runs.{theory_call, hash_for}
@@ -26,3 +26,6 @@ returns-clause-transition g c =
     (owned_begins (g.S.KeyHasher.hash_of c.self.inside.hasher) c.self.inside.processors c.args.call)
     c.make_room.new.list.items c.in_ok-make_room.ensures.same c.in_ok-make_room.ensures.few c.make_room-2.new.list.items c.in_ok-make_room-2.ensures.same c.push_reserved.new.self.items
     (rw (c.push_reserved.ensures.items, c.theory_call-kept.ensures, c.from_owned.ensures, c.hash_for-hash.ensures) refl) c.len-party.result number c.push_reserved-2.new.self.items (rw (c.push_reserved-2.ensures.items, c.theory_call-kept.ensures) refl)).2
+
+pub returns-clause-ok : goal.returns-clause-ok
+returns-clause-ok g c = search rules
