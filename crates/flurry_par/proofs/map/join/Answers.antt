@@ -1,4 +1,4 @@
-use Rattle.std.proofs.Common.{sym, ap, ◌∙◌, length, subst}
+use Rattle.std.proofs.Common.{sym, ap, ◌∙◌, length, subst, rules}
 use Rattle.std.specs.List.Sorted.{IsPermutation}
 use Rattle.std.proofs.lemmas.Result.{on_ok_weaker, on_err_weaker}
 use Rattle.flurry_model.specs.FiniteMap.{with_all}
@@ -25,3 +25,6 @@ returns-clause-err g c =
     let cmp = g.K.Ord.cmp in
     let right = c.args.right.pairs in
     on_err_weaker c.join_bins.result (λ h. (h.0, h.1, subst (IsPermutation right) h.2 c.into_bins-bins.ensures.bins.pairs, h.3 ∙ ap (λ m. with_all cmp m h.0) c.reserve.ensures.same.0)) c.join_bins.ensures.err
+
+pub returns-clause-hasher : goal.returns-clause-hasher
+returns-clause-hasher g c = search rules
