@@ -1,4 +1,4 @@
-use Rattle.std.proofs.Common.{◌≡◌, refl, sym, arith}
+use Rattle.std.proofs.Common.{◌≡◌, refl, sym, arith, rules}
 use Rattle.std.specs.Int.{bit_at}
 use Rattle.std.proofs.lemmas.Nat.Bits.{bit_at-lt, shr_and_one}
 use Rattle.flurry_bins.specs.Tree.{node_shape, inorder}
@@ -28,3 +28,6 @@ returns-else-hash-bit-eq0-clause-high g c =
     let all = rw c.as_ref.ensures at c.in-Some.ensures in
     let one : bit_at c.in-Some.hash c.args.bit ≡ 1 = omega (arith, shr_and_one c.in-Some.hash c.args.bit, bit_at-lt c.in-Some.hash c.args.bit) in
     sym (with_bit-all c.in-Some.hash c.args.bit 1 (inorder (node_shape c.args.tree.root.value)) all one)
+
+pub returns-in_default-clause-high_kind : goal.returns-in_default-clause-high_kind
+returns-in_default-clause-high_kind g c = search rules

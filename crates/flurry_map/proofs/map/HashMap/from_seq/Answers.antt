@@ -13,3 +13,6 @@ put_bins-requires g c =
     let placed : AreBinsOfTable c.exponent-table.result 0 bins =
     bins_of_table (g.S.KeyHasher.hash_of c.args.map.hasher) c.exponent-table.result g.K.Ord.cmp 0 bins (rw maps at c.into_bins-bins.ensures.bins.placed) in
     search rules
+
+pub returns-in_default-clause-same : goal.returns-in_default-clause-same
+returns-in_default-clause-same g c = search rules

@@ -1,4 +1,4 @@
-use Rattle.std.proofs.Common.{◌≡◌, suc, ◌+◌, ◌≤◌, [], length, is_some, inl, ap, ◌∙◌, arith}
+use Rattle.std.proofs.Common.{◌≡◌, suc, ◌+◌, ◌≤◌, [], length, is_some, inl, ap, ◌∙◌, arith, rules}
 use Rattle.flurry_model.specs.FiniteMap.{pair_at}
 use Rattle.flurry_model.proofs.FiniteMapLaws.{length-with_pair}
 use Rattle.flurry_seq.specs.Growth.{bins_for}
@@ -38,3 +38,6 @@ loop-entry-preserved g c =
       count = omega (arith, long.1, count);
       hasher = c.in_ok-add.ensures.hasher ∙ c.loop-entry.invariant.hasher;
     }
+
+pub returns-clause-pairs : goal.returns-clause-pairs
+returns-clause-pairs g c = search rules
