@@ -5,6 +5,7 @@ ghost use Rattle.flurry_draw.specs.ReaderState.{AddsNames, IsDrawing, IsOneLine}
 use crate::label::{Kind, split_line};
 use crate::lanes::{Lane, Mark, Plan};
 use crate::page::Page;
+use flurry_model::sizes::GREATEST_TABLE;
 use std::alloc::{AllocError, Global};
 
 const STYLE: &str = "![CDATA[
@@ -19,9 +20,6 @@ circle, .bin { fill: currentColor; stroke: currentColor; } .bin { stroke: none; 
   .c3 { color: #ab7df8; } .c4 { color: #f85149; } .c5 { color: #d29922; }
 }
 ]]";
-
-// The greatest exponent of a table.
-const MOST_TABLE: u64 = 30;
 
 /// Draws the run of a schedule which has written this text. Without its tags the page is that text, and then one line with the names of
 /// lanes and tables.
@@ -220,7 +218,7 @@ fn draw_table(
 ) -> Result<(), AllocError>
     ensures { OnOk result (AddsNames page.old page.new) }
 {
-    let bins = 2u64.saturating_pow(table.min(MOST_TABLE) as u32);
+    let bins = 2u64.saturating_pow(table.min(u64::from(GREATEST_TABLE)) as u32);
     let name = format!(in alloc; "table {table}, of {bins} bins: moved above, wiped below")?;
     draw_line(page, alloc, "name", 20, y, name.as_bytes())?;
     let (top, wide) = (y.saturating_add(6), width.saturating_sub(40));
@@ -257,7 +255,7 @@ fn draw_bins(page: &mut Page, alloc: Global, plan: &Plan, table: u64) -> Result<
 // The exponents of the tables that the marks speak of.
 fn tables_of(alloc: Global, plan: &Plan) -> Result<Vec<u64>, AllocError> {
     let mut tables = Vec::new(alloc);
-    for table in 0..=MOST_TABLE {
+    for table in 0..=u64::from(GREATEST_TABLE) {
         if plan
             .marks
             .iter()

@@ -206,7 +206,8 @@ impl<K: Ord + Drop, V: Drop, S: KeyHasher<K>, A: Allocator + Copy> HashMap<K, V,
     /// Takes the locks that [`HashMap::get`] takes.
     pub fn contains_key<R: Wait>(&self, rt: &R, key: &K) -> bool
         ensures { IsDriven (Maker K V A) K.cmp (no_changes {K = K} {V = V}) self.now
-            (S.hash_of self.now.hasher key.now) (AtLocate (Finds Presence key.now)) (OutcomeReply (kept.Contains result)) }
+            (S.hash_of self.now.hasher key.now) (AtLocate (Finds Presence key.now))
+            (OutcomeReply (kept.Contains result)) }
     {
         self.pin(rt).contains_key(key)
     }

@@ -165,7 +165,8 @@ impl<'m, R: Wait, K: Ord + Drop, V: Drop, S: KeyHasher<K>, A: Allocator + Copy> 
     /// Takes the locks that [`HashMapRef::get`] takes.
     pub fn contains_key(&self, key: &K) -> bool
         ensures { IsDriven (Maker K V A) K.cmp (no_changes {K = K} {V = V}) self.now
-            (S.hash_of self.now.hasher key.now) (AtLocate (Finds Presence key.now)) (OutcomeReply (kept.Contains result)) }
+            (S.hash_of self.now.hasher key.now) (AtLocate (Finds Presence key.now))
+            (OutcomeReply (kept.Contains result)) }
     {
         let call: Call<'_, K, V, NoFn, A> = Call::ContainsKey(key);
         match self.run(call) {

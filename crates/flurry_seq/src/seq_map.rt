@@ -99,7 +99,8 @@ impl<K: Hash + Ord + Drop, V: Drop, A: Allocator> SeqMap<K, V, DefaultHashBuilde
 impl<K: Ord + Drop, V: Drop, S: KeyHasher<K>, A: Allocator> SeqMap<K, V, S, A> {
     /// An empty map without a table, over a hasher. It takes no memory.
     pub fn with_hasher(alloc: A, hasher: S) -> Self
-        ensures { result ≡ contents [] 0 hasher }
+        ensures empty { result ≡ contents [] 0 hasher }
+        ensures ascend { IsFiniteMap K.cmp result.pairs }
     {
         SeqMap {
             table: Table::new(alloc),
@@ -263,7 +264,7 @@ impl<K: Ord + Drop, V: Drop, S: KeyHasher<K>, A: Allocator> SeqMap<K, V, S, A> {
 
     // The hash of a key. Each call of one key makes this one first, and is told by it that the keys ascend.
     fn hash_of(&self, key: &K) -> u64
-        ensures number { result ≡ S.hash_of self.now.hasher key.now }
+        ensures hash { result ≡ S.hash_of self.now.hasher key.now }
         ensures ascend { IsFiniteMap K.cmp self.now.pairs }
     {
         self.hasher.hash_one(key)
@@ -402,7 +403,8 @@ impl<K: Ord + Drop, V: Drop, S: KeyHasher<K>, A: Allocator + Copy> SeqMap<K, V, 
         value: Arc<V, A>,
     ) -> Result<Option<Arc<V, A>>, AllocError>
         ensures old { IfOk result (λ old. option_map arc_value old ≡ value_at K.cmp self.old.pairs (arc_value key)) }
-        ensures pairs { OnOk result (self.new.pairs ≡ with_pair K.cmp self.old.pairs (arc_value key) (arc_value value)) }
+        ensures pairs { OnOk result
+            (self.new.pairs ≡ with_pair K.cmp self.old.pairs (arc_value key) (arc_value value)) }
         ensures hasher { self.new.hasher ≡ self.old.hasher }
         ensures bins { IfOk result (λ old. IsSome old → self.new.bins ≡ self.old.bins) }
         ensures grown { IfOk result (λ old. IsNone old

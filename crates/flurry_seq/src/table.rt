@@ -177,7 +177,8 @@ impl<K: Ord + Drop, V: Drop, A: Allocator + Copy> Table<K, V, A> {
     ) -> Result<(Option<Arc<V, A>>, bool), AllocError>
         requires table { 0 < length self.old }
         requires room { length (bin_at self.old hash) < MOST_PAIRS }
-        ensures old { IfOk result (λ r. option_map arc_value r.0 ≡ option_map (λ e. e.1) (entry_in K.cmp self.old hash key)) }
+        ensures old { IfOk result
+            (λ r. option_map arc_value r.0 ≡ option_map (λ e. e.1) (entry_in K.cmp self.old hash key)) }
         ensures after { OnOk result (self.new ≡ bins_with K.cmp self.old hash key (arc_value value)) }
         ensures asks { IfOk result (λ r. IsTrue r.1
             → (length self.old < LEAST_FOR_TREES) × (length (bin_at self.old hash) ≡ LONG_LIST)) }

@@ -81,7 +81,8 @@ impl<T: Hash + Ord + Drop, A: Allocator> SeqSet<T, DefaultHashBuilder, A> {
 impl<T: Ord + Drop, S: KeyHasher<T>, A: Allocator> SeqSet<T, S, A> {
     /// An empty set without a table, over a hasher. It takes no memory.
     pub fn with_hasher(alloc: A, hasher: S) -> Self
-        ensures { result ≡ set_contents [] 0 hasher }
+        ensures empty { result ≡ set_contents [] 0 hasher }
+        ensures ascend { IsFiniteSet T.cmp result.elements }
     {
         SeqSet {
             map: SeqMap::with_hasher(alloc, hasher),
@@ -93,7 +94,8 @@ impl<T: Ord + Drop, S: KeyHasher<T>, A: Allocator> SeqSet<T, S, A> {
     /// The keys of each map ascend, as each of its calls tells.
     pub fn from_map(map: SeqMap<T, (), S, A>) -> Self
         requires ascend { IsFiniteMap T.cmp map.pairs }
-        ensures { result ≡ keys_in map }
+        ensures keys { result ≡ keys_in map }
+        ensures ascend { IsFiniteSet T.cmp result.elements }
     {
         SeqSet { map }
     }

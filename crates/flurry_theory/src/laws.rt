@@ -27,7 +27,7 @@ pub fn every_interleaving<K: Ord, V, F: Fn(&K, &V) -> Option<V>>()
 
 /// An exponent that was published after some steps of a run is one at which a call may begin after any further steps. So a party
 /// may take it from wherever it was written down, without the control's lock.
-pub fn numbers_stay_published<K: Ord, V, F: Fn(&K, &V) -> Option<V>>()
+pub fn exponents_stay_published<K: Ord, V, F: Fn(&K, &V) -> Option<V>>()
     ensures { (hash : K → ℕ) → ((j k : K) → same K.cmp j k ≡ true → hash j ≡ hash k)
         → (e : ℕ) (b : Bool) → e ≤ GREATEST_TABLE → (more steps : List (ℕ × Transition K V F))
         → CanAll K.cmp hash (answers F.Fn) (new_world e b) (more ++ steps)

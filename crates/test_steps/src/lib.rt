@@ -1,4 +1,4 @@
-//! The control and single calls of a shared map, as tests over tables that can be refused.
+//! Single calls of a shared map, as tests over tables that can be refused.
 #![tactic(auto)]
 
 #[cfg(test)]

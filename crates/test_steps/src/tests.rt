@@ -1,9 +1,6 @@
-//! The control, slots, calls in steps, and cursors over all bins.
+//! Calls in steps.
 
-mod control;
-mod cursor;
 mod party;
-mod slot;
 
 use std::fmt::{Debug, Display};
 use std::process::Abort;

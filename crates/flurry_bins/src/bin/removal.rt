@@ -127,7 +127,8 @@ fn fix_right<K: Drop, V: Drop, A: Allocator>(
     node: BoxedNode<K, V, A>,
     right: Link<K, V, A>,
 ) -> (BoxedNode<K, V, A>, bool)
-    ensures { (node_shape result.0.value, result.1) ≡ fix_right colour (shape left) (entry_of node.value) (shape right) }
+    ensures { (node_shape result.0.value, result.1)
+        ≡ fix_right colour (shape left) (entry_of node.value) (shape right) }
 {
     let Some(left) = left else {
         return (link_children(colour, None, node, right), false);

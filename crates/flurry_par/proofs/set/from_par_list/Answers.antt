@@ -7,6 +7,6 @@ use Rattle.flurry_par.proofs.set.from_par_list.Goals as goal
 pub returns-clause-made : goal.returns-clause-made
 returns-clause-made g c =
     let cmp = g.T.Ord.cmp in (
-      ap (λ s. s.elements) c.from_map.ensures ∙ ap keys_of c.in_ok-map.ensures.made.0 ∙ ap (λ ps. keys_of (with_all cmp [] ps)) c.in_ok-pairs.ensures ∙ elements_built cmp c.args.list.items,
-      ap (λ s. s.hasher) c.from_map.ensures ∙ c.in_ok-map.ensures.made.1,
+      ap (λ s. s.elements) c.from_map.ensures.keys ∙ ap keys_of c.in_ok-map.ensures.made.0 ∙ ap (λ ps. keys_of (with_all cmp [] ps)) c.in_ok-pairs.ensures ∙ elements_built cmp c.args.list.items,
+      ap (λ s. s.hasher) c.from_map.ensures.keys ∙ c.in_ok-map.ensures.made.1,
     )

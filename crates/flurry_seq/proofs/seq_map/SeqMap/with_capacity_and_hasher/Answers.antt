@@ -12,8 +12,8 @@ pub returns-clause-ascend : goal.returns-clause-ascend
 returns-clause-ascend g c =
     let none = IsFiniteMap-nil g.row.V.Denot g.K.Ord.cmp in
     elim c.if-capacity-gt0.branch [
-      | then-capacity-gt0+in_ok-begin w ↦ rw (w.map-is, w.in_ok-begin.ensures.ok, c.with_hasher-map.ensures) none
-      | else-capacity-gt0 w ↦ rw (w.map-is, c.with_hasher-map.ensures) none
+      | then-capacity-gt0+in_ok-begin w ↦ rw (w.map-is, w.in_ok-begin.ensures.ok, c.with_hasher-map.ensures.empty) none
+      | else-capacity-gt0 w ↦ rw (w.map-is, c.with_hasher-map.ensures.empty) none
     ]
 
 pub returns-clause-empty : goal.returns-clause-empty

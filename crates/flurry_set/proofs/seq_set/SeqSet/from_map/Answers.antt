@@ -4,5 +4,5 @@ use Rattle.flurry_set.proofs.seq_set.SeqSet.from_map.Goals as goal
 pub invariant_of-result : goal.invariant_of-result
 invariant_of-result g c = search rules
 
-pub returns : goal.returns
-returns g c = search rules
+pub returns-clause-keys : goal.returns-clause-keys
+returns-clause-keys g c = search rules
