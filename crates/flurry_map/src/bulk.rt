@@ -11,7 +11,7 @@ impl<K: Ord + Drop, V: Drop, S: KeyHasher<K>, A: Allocator + Copy> HashMap<K, V,
     /// Inserts pairs in their order: of a key that comes twice the last value is put last. Room is made first, for as many pairs as the
     /// list has where the map is empty, and else for half as many, rounded up.
     ///
-    /// Takes the locks of [`HashMap::reserve`], and for each pair those of [`HashMap::insert`].
+    /// One insertion for each pair. Takes the locks of [`HashMap::reserve`], and for each pair those of [`HashMap::insert`].
     ///
     /// # Errors
     ///
@@ -31,7 +31,7 @@ impl<K: Ord + Drop, V: Drop, S: KeyHasher<K>, A: Allocator + Copy> HashMap<K, V,
     /// A map of pairs, inserted in their order, over a hasher. It begins as one with room for as many pairs as the list has, without a
     /// table for an empty list, and is of the list's allocator.
     ///
-    /// Takes the locks of [`HashMap::insert`] for each pair.
+    /// One insertion for each pair; takes the locks of [`HashMap::insert`] for each.
     ///
     /// # Errors
     ///

@@ -66,6 +66,8 @@ impl<K: Hash + Ord + Drop, V: Drop, A: Allocator> HashMap<K, V, DefaultHashBuild
 
     /// An empty map with a table for so many pairs, without one for 0. It is over the default hasher whose seed is zero.
     ///
+    /// Linear time in the bins.
+    ///
     /// # Errors
     ///
     /// [`AllocError`], where memory for the table is wanting.
@@ -140,6 +142,8 @@ impl<K: Ord + Drop, V: Drop, S: KeyHasher<K>, A: Allocator> HashMap<K, V, S, A> 
 
 impl<K: Ord + Drop, V: Drop, S: KeyHasher<K>, A: Allocator + Copy> HashMap<K, V, S, A> {
     /// An empty map over a hasher, with a table for so many pairs; without one for 0.
+    ///
+    /// Linear time in the bins.
     ///
     /// # Errors
     ///
@@ -338,7 +342,7 @@ impl<K: Ord + Drop, V: Drop, S: KeyHasher<K>, A: Allocator + Copy> HashMap<K, V,
 
     /// Makes the table large enough for so many more pairs than the map then counts, unless another growth runs: it ends then at once.
     ///
-    /// Takes the control's lock, and those of the bins that it moves.
+    /// Each doubling moves every pair. Takes the control's lock, and those of the bins that it moves.
     ///
     /// # Errors
     ///
@@ -363,8 +367,8 @@ impl<K: Ord + Drop, V: Drop, S: KeyHasher<K>, A: Allocator + Copy> HashMap<K, V,
     /// Calls a function on the stored key and the value of each pair that [`HashMap::iter`] gives, and removes those at which it answers
     /// false. A pair whose value was written or removed since it was shown stays as it is.
     ///
-    /// The function runs while no lock is held, so it may call this map. One look-up for each pair besides the walk; takes the locks of
-    /// the walk, and of [`HashMap::remove`].
+    /// The function runs while no lock is held, so it may call this map. One removal for each pair at which it answers false, besides the
+    /// walk; takes the locks of the walk, and of [`HashMap::remove`].
     ///
     /// ```
     /// map.retain(rt, |key: &u64, _value: &u64| -> bool { *key % 2 == 0 })

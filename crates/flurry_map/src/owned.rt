@@ -45,14 +45,14 @@ impl<K: Ord + Drop, V: Drop, S: KeyHasher<K>, A: Allocator + Copy> HashMap<K, V,
     }
 
     /// The map as one owner has it, with its pairs and its hasher. It is built anew: it takes memory for a table and for a node of each
-    /// pair.
+    /// pair, and a further owner of each key and each value.
     ///
     /// Takes the control's lock and that of each slot, one after another, to read. Linear time in the bins of all tables that were made
     /// and in the pairs.
     ///
     /// # Errors
     ///
-    /// [`AllocError`], where memory is wanting. The map is dropped then.
+    /// [`AllocError`], where memory for a table or a node, or a further owner, is wanting. The map is dropped then.
     pub fn into_seq<R: Wait>(self, rt: &R) -> Result<SeqMap<K, V, S, A>, AllocError>
     where
         S: Drop,

@@ -301,7 +301,7 @@ impl<'m, R: Wait, K: Ord + Drop, V: Drop, S: KeyHasher<K>, A: Allocator + Copy> 
 
     /// Makes the table large enough for so many more pairs than the map then counts, unless another growth runs: it ends then at once.
     ///
-    /// Takes the control's lock, and those of the bins that it moves.
+    /// Each doubling moves every pair. Takes the control's lock, and those of the bins that it moves.
     ///
     /// # Errors
     ///

@@ -18,8 +18,8 @@ impl<'m, R: Wait, K: Ord + Drop, V: Drop, S: KeyHasher<K>, A: Allocator + Copy> 
     /// Calls a function on the stored key and the value of each pair that [`HashMapRef::iter`] gives, and removes those at which it answers
     /// false. A pair whose value was written or removed since it was shown stays as it is.
     ///
-    /// The function runs while no lock is held, so it may call this map. One look-up for each pair besides the walk; takes the locks of
-    /// the walk, and of [`HashMapRef::remove`].
+    /// The function runs while no lock is held, so it may call this map. One removal for each pair at which it answers false, besides the
+    /// walk; takes the locks of the walk, and of [`HashMapRef::remove`].
     ///
     /// # Errors
     ///

@@ -21,8 +21,8 @@ use std::thread::Threads;
 ///
 /// # Errors
 ///
-/// [`AllocError`], where memory for a first table is wanting, or where the left map has [`flurry_seq::seq_map::MOST_PAIRS`] pairs. It
-/// then has some of the right one's pairs, and the others are dropped.
+/// [`AllocError`], where memory for a first table is wanting, or where a key is new and the left map has
+/// [`flurry_seq::seq_map::MOST_PAIRS`] pairs. It then has some of the right one's pairs, and the others are dropped.
 pub fn join<K: Ord + Drop, V: Drop, S: KeyHasher<K> + Drop, A: Allocator + Copy>(
     left: &mut SeqMap<K, V, S, A>,
     right: SeqMap<K, V, S, A>,

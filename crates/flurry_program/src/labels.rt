@@ -9,7 +9,7 @@ use flurry_streams::Sink;
 use flurry_theory::Label;
 use std::io;
 
-/// Writes a label on a line of its own.
+/// Writes a label on a line of its own. Linear in the line.
 ///
 /// # Errors
 ///

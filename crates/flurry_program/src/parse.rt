@@ -7,7 +7,7 @@ ghost use Rattle.flurry_program.specs.Words.{HasNoSpace, IsDigits};
 use crate::command::Command;
 use std::str;
 
-/// The command that is written so, if one is.
+/// The command that is written so, if one is. Linear in the line.
 pub fn parse(line: &[u8]) -> Option<Command>
     ensures { MatchOption result (IsNoCommand line.now) (λ c. IsCommand c × (line.now ≡ text_of c)) }
 {

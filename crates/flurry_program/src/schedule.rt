@@ -40,7 +40,7 @@ pub enum Line {
     Step(u64, u64),
 }
 
-/// The line of a schedule that is written so, if one is.
+/// The line of a schedule that is written so, if one is. Linear in the line.
 pub fn parse_line(line: &[u8]) -> Option<Line>
     ensures { MatchOption result (IsNoLine line.now) (λ l. IsLine l × (line.now ≡ text_of l)) }
 {

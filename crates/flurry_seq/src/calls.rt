@@ -121,9 +121,12 @@ impl<K: Ord + Drop, V: Drop, S: KeyHasher<K>, A: Allocator + Copy> SeqMap<K, V, 
 
     /// Makes one call.
     ///
+    /// The time of that call; an iterator is run to its end.
+    ///
     /// # Errors
     ///
-    /// [`AllocError`], where the call was refused, or a further owner of what it answers.
+    /// [`AllocError`], where the call was refused, or a further owner of what it answers. The map is then as that call leaves it where
+    /// it is refused.
     pub fn call<F: FnOnce(&K, &V) -> Option<V>, P: FnMut(&K, &V) -> bool>(
         &mut self,
         call: Call<K, V, S, F, P, A>,
@@ -283,9 +286,12 @@ impl<K: Ord + Drop, V: Drop, S: KeyHasher<K>, A: Allocator + Copy> SeqMap<K, V, 
 
     /// Makes calls in their order, and answers their replies.
     ///
+    /// The time of those calls.
+    ///
     /// # Errors
     ///
-    /// [`AllocError`], where memory for the replies is wanting or a call is refused. The calls before it were made.
+    /// [`AllocError`], where memory for the replies is wanting or a call is refused. The calls before it were made, and those after it are
+    /// dropped.
     pub fn run<F: FnOnce(&K, &V) -> Option<V>, P: FnMut(&K, &V) -> bool>(
         &mut self,
         alloc: A,

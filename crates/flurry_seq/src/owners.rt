@@ -41,7 +41,7 @@ pub fn owners_of_pair<K: Drop, V: Drop, A: Allocator + Copy>(
     }
 }
 
-/// Further owners of the pairs that an iterator has left, in its order.
+/// Further owners of the pairs that an iterator has left, in its order. One further owner for each key and each value.
 ///
 /// # Errors
 ///
@@ -59,7 +59,7 @@ pub fn owners_of_pairs<K: Ord + Drop, V: Drop, A: Allocator + Copy>(
     Ok(list)
 }
 
-/// Further owners of the keys that an iterator has left, in its order.
+/// Further owners of the keys that an iterator has left, in its order. One further owner for each.
 ///
 /// # Errors
 ///
@@ -77,7 +77,7 @@ pub fn owners_of_keys<K: Ord + Drop, V: Drop, A: Allocator + Copy>(
     Ok(list)
 }
 
-/// Further owners of the values that an iterator has left, in its order.
+/// Further owners of the values that an iterator has left, in its order. One further owner for each.
 ///
 /// # Errors
 ///

@@ -81,6 +81,8 @@ impl<K: Hash + Ord + Drop, V: Drop, A: Allocator> SeqMap<K, V, DefaultHashBuilde
 
     /// An empty map with a table for so many pairs, without one for 0. It is over the default hasher whose seed is zero.
     ///
+    /// Linear time in the bins.
+    ///
     /// # Errors
     ///
     /// [`AllocError`], where memory for the table is wanting.
@@ -225,6 +227,8 @@ impl<K: Ord + Drop, V: Drop, S: KeyHasher<K>, A: Allocator> SeqMap<K, V, S, A> {
     }
 
     /// Takes all pairs out. The table stays as large as it is.
+    ///
+    /// Linear time in the bins and pairs.
     pub fn clear(&mut self)
         ensures after { self.new ≡ with_pairs self.old [] }
         ensures ascend { IsFiniteMap K.cmp self.old.pairs }
@@ -318,8 +322,8 @@ impl<K: Ord + Drop, V: Drop, S: KeyHasher<K>, A: Allocator + Copy> SeqMap<K, V, 
     ///
     /// # Errors
     ///
-    /// [`AllocError`], where memory for the pair or for a first table is wanting, or where the map has [`MOST_PAIRS`] pairs. The
-    /// map is then as it was, and the key and the value are dropped.
+    /// [`AllocError`], where memory for the pair or for a first table is wanting, or where the key is new and the map has
+    /// [`MOST_PAIRS`] pairs. The map is then as it was, and the key and the value are dropped.
     pub fn insert(&mut self, key: K, value: V) -> Result<Option<Arc<V, A>>, AllocError>
         ensures old { IfOk result (λ old. option_map arc_value old ≡ value_at K.cmp self.old.pairs key) }
         ensures pairs { OnOk result (self.new.pairs ≡ with_pair K.cmp self.old.pairs key value) }
@@ -395,8 +399,8 @@ impl<K: Ord + Drop, V: Drop, S: KeyHasher<K>, A: Allocator + Copy> SeqMap<K, V, 
     ///
     /// # Errors
     ///
-    /// [`AllocError`], where memory for the pair's node or for a first table is wanting, or where the map has [`MOST_PAIRS`] pairs. The
-    /// map is then as it was.
+    /// [`AllocError`], where memory for the pair's node or for a first table is wanting, or where the key is new and the map has
+    /// [`MOST_PAIRS`] pairs. The map is then as it was.
     pub fn insert_shared(
         &mut self,
         key: Arc<K, A>,
@@ -432,8 +436,8 @@ impl<K: Ord + Drop, V: Drop, S: KeyHasher<K>, A: Allocator + Copy> SeqMap<K, V, 
     ///
     /// # Errors
     ///
-    /// [`AllocError`], where memory for a first table is wanting, or where the map has [`MOST_PAIRS`] pairs. The map is then as it was,
-    /// and the node is dropped.
+    /// [`AllocError`], where memory for a first table is wanting, or where the key is new and the map has [`MOST_PAIRS`] pairs. The map
+    /// is then as it was, and the node is dropped.
     pub fn insert_node(
         &mut self,
         node: Box<Node<K, V, A>, A>,
@@ -568,6 +572,8 @@ impl<K: Ord + Drop, V: Drop, S: KeyHasher<K>, A: Allocator + Copy> SeqMap<K, V, 
     /// Inserts pairs in their order: of a key that comes twice the last value stands. Room is made first, for as many pairs as the
     /// list has where the map is empty, and else for half as many, rounded up.
     ///
+    /// One insertion for each pair.
+    ///
     /// # Errors
     ///
     /// [`AllocError`], where a table or an insertion is refused. The pairs that were inserted before stay, and so may a larger table;
@@ -590,6 +596,8 @@ impl<K: Ord + Drop, V: Drop, S: KeyHasher<K>, A: Allocator + Copy> SeqMap<K, V, 
     }
 
     /// A map of pairs, inserted in their order, over a hasher. It begins as one with room for as many pairs as the list has.
+    ///
+    /// One insertion for each pair.
     ///
     /// # Errors
     ///
@@ -714,6 +722,8 @@ impl<K: Ord + Drop, V: Drop, S: KeyHasher<K>, A: Allocator + Copy> SeqMap<K, V, 
 
     /// An empty map over a hasher, with a table for so many pairs; without one for 0.
     ///
+    /// Linear time in the bins.
+    ///
     /// # Errors
     ///
     /// [`AllocError`], where memory for the table is wanting.
@@ -760,6 +770,8 @@ impl<K: Ord + Drop, V: Drop, S: KeyHasher<K>, A: Allocator + Copy> SeqMap<K, V, 
     /// Makes the table large enough for so many more pairs. The number of bins that are asked for is [`wanted`] of the length and
     /// `additional`, whose sum stops at `usize::MAX`; a table is doubled until its [`threshold`] is at least that, or it has
     /// [`MOST_BINS`] bins. Without a table, one of so many bins is made first.
+    ///
+    /// Each doubling moves every pair.
     ///
     /// # Errors
     ///

@@ -63,6 +63,8 @@ impl<T: Hash + Ord + Drop, A: Allocator> SeqSet<T, DefaultHashBuilder, A> {
 
     /// An empty set with a table for so many elements, without one for 0. It is over the default hasher whose seed is zero.
     ///
+    /// Linear time in the bins.
+    ///
     /// # Errors
     ///
     /// [`AllocError`], where memory for the table is wanting.
@@ -177,6 +179,8 @@ impl<T: Ord + Drop, S: KeyHasher<T>, A: Allocator> SeqSet<T, S, A> {
     }
 
     /// Takes all elements out. The table stays as large as it is.
+    ///
+    /// Linear time in the bins and elements.
     pub fn clear(&mut self)
         ensures after { self.new ≡ set_with self.old [] }
         ensures ascend { IsFiniteSet T.cmp self.old.elements }
@@ -251,6 +255,8 @@ impl<T: Ord + Drop, S: KeyHasher<T>, A: Allocator> SeqSet<T, S, A> {
 impl<T: Ord + Drop, S: KeyHasher<T>, A: Allocator + Copy> SeqSet<T, S, A> {
     /// An empty set over a hasher, with a table for so many elements; without one for 0.
     ///
+    /// Linear time in the bins.
+    ///
     /// # Errors
     ///
     /// [`AllocError`], where memory for the table is wanting.
@@ -274,7 +280,7 @@ impl<T: Ord + Drop, S: KeyHasher<T>, A: Allocator + Copy> SeqSet<T, S, A> {
     ///
     /// # Errors
     ///
-    /// [`AllocError`], where memory for a new element or for a first table is wanting, or where the set has
+    /// [`AllocError`], where memory for a new element or for a first table is wanting, or where the element is new and the set has
     /// [`flurry_seq::seq_map::MOST_PAIRS`] elements. The set is then as it was, and the element is dropped.
     pub fn insert(&mut self, element: T) -> Result<bool, AllocError>
         ensures new { IfOk result (λ new. new ≡ is_none (element_at T.cmp self.old.elements element)) }
@@ -299,8 +305,8 @@ impl<T: Ord + Drop, S: KeyHasher<T>, A: Allocator + Copy> SeqSet<T, S, A> {
     ///
     /// # Errors
     ///
-    /// [`AllocError`], where a further owner, or memory for a new element or for a first table is wanting, or where the set has
-    /// [`flurry_seq::seq_map::MOST_PAIRS`] elements. The set is then as it was, and the element is dropped.
+    /// [`AllocError`], where a further owner, or memory for a new element or for a first table is wanting, or where the element is new
+    /// and the set has [`flurry_seq::seq_map::MOST_PAIRS`] elements. The set is then as it was, and the element is dropped.
     pub fn get_or_insert(&mut self, element: T) -> Result<Arc<T, A>, AllocError>
         ensures stored { IfOk result (λ stored. element_at T.cmp self.new.elements element ≡ Some (arc_value stored)) }
         ensures elements { OnOk result (self.new.elements ≡ with_element T.cmp self.old.elements element) }
@@ -338,8 +344,8 @@ impl<T: Ord + Drop, S: KeyHasher<T>, A: Allocator + Copy> SeqSet<T, S, A> {
     ///
     /// # Errors
     ///
-    /// [`AllocError`], where memory for a first table is wanting, or where the set has [`flurry_seq::seq_map::MOST_PAIRS`] elements. The
-    /// set is then as it was, and the node is dropped.
+    /// [`AllocError`], where memory for a first table is wanting, or where the element is new and the set has
+    /// [`flurry_seq::seq_map::MOST_PAIRS`] elements. The set is then as it was, and the node is dropped.
     pub fn insert_node(&mut self, node: Box<Node<T, (), A>, A>) -> Result<bool, AllocError>
         requires number { (entry_of node.value).number ≡ 0 }
         ensures new { let e = entry_of node.value in
@@ -358,6 +364,8 @@ impl<T: Ord + Drop, S: KeyHasher<T>, A: Allocator + Copy> SeqSet<T, S, A> {
 
     /// Puts elements in their order: of a class that comes twice the first stays. Room is made first, for as many elements as the
     /// list has where the set is empty, and else for half as many, rounded up.
+    ///
+    /// One insertion for each element.
     ///
     /// # Errors
     ///
@@ -381,6 +389,8 @@ impl<T: Ord + Drop, S: KeyHasher<T>, A: Allocator + Copy> SeqSet<T, S, A> {
     }
 
     /// A set of elements, put in their order, over a hasher. It begins as one with room for as many elements as the list has.
+    ///
+    /// One insertion for each element.
     ///
     /// # Errors
     ///
@@ -434,6 +444,8 @@ impl<T: Ord + Drop, S: KeyHasher<T>, A: Allocator + Copy> SeqSet<T, S, A> {
     }
 
     /// Makes the table large enough for so many more elements, as [`SeqMap::reserve`] does for pairs.
+    ///
+    /// Each doubling moves every element.
     ///
     /// # Errors
     ///

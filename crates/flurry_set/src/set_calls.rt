@@ -93,9 +93,12 @@ impl<T: Ord + Drop, S: KeyHasher<T>, A: Allocator + Copy> SeqSet<T, S, A> {
 
     /// Makes one call.
     ///
+    /// The time of that call; an iterator is run to its end.
+    ///
     /// # Errors
     ///
-    /// [`AllocError`], where the call was refused, or a further owner of what it answers.
+    /// [`AllocError`], where the call was refused, or a further owner of what it answers. The set is then as that call leaves it where
+    /// it is refused.
     pub fn call<P: FnMut(&T) -> bool>(
         &mut self,
         call: SetCall<T, S, P, A>,
@@ -215,9 +218,12 @@ impl<T: Ord + Drop, S: KeyHasher<T>, A: Allocator + Copy> SeqSet<T, S, A> {
 
     /// Makes calls in their order, and answers their replies.
     ///
+    /// The time of those calls.
+    ///
     /// # Errors
     ///
-    /// [`AllocError`], where memory for the replies is wanting or a call is refused. The calls before it were made.
+    /// [`AllocError`], where memory for the replies is wanting or a call is refused. The calls before it were made, and those after it are
+    /// dropped.
     pub fn run<P: FnMut(&T) -> bool>(
         &mut self,
         alloc: A,

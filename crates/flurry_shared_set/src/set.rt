@@ -52,6 +52,8 @@ impl<T: Hash + Ord + Drop, A: Allocator> HashSet<T, DefaultHashBuilder, A> {
 
     /// An empty set with a table for so many elements, without one for 0. It is over the default hasher whose seed is zero.
     ///
+    /// Linear time in the bins.
+    ///
     /// # Errors
     ///
     /// [`AllocError`], where memory for the table is wanting.
@@ -110,6 +112,8 @@ impl<T: Ord + Drop, S: KeyHasher<T>, A: Allocator> HashSet<T, S, A> {
 
 impl<T: Ord + Drop, S: KeyHasher<T>, A: Allocator + Copy> HashSet<T, S, A> {
     /// An empty set over a hasher, with a table for so many elements; without one for 0.
+    ///
+    /// Linear time in the bins.
     ///
     /// # Errors
     ///
@@ -180,6 +184,8 @@ impl<T: Ord + Drop, S: KeyHasher<T>, A: Allocator + Copy> HashSet<T, S, A> {
 
     /// Makes the table large enough for so many more elements than the set then counts. See [`HashMap::reserve`].
     ///
+    /// Each doubling moves every element.
+    ///
     /// # Errors
     ///
     /// [`AllocError`], where memory for a table is wanting. The elements stay, and so do the doublings that were done.
@@ -208,6 +214,8 @@ impl<T: Ord + Drop, S: KeyHasher<T>, A: Allocator + Copy> HashSet<T, S, A> {
     /// Puts elements in their order. Room is made first, for as many elements as the list has where the set is empty, and else for half
     /// as many, rounded up.
     ///
+    /// One insertion for each element.
+    ///
     /// # Errors
     ///
     /// [`AllocError`], where a table or an insertion is refused. The elements that were put before stay, and the rest is dropped.
@@ -225,6 +233,8 @@ impl<T: Ord + Drop, S: KeyHasher<T>, A: Allocator + Copy> HashSet<T, S, A> {
 
     /// A set of elements, put in their order, over a hasher. It begins as one with room for as many elements as the list has, without a
     /// table for an empty list, and is of the list's allocator.
+    ///
+    /// One insertion for each element.
     ///
     /// # Errors
     ///
@@ -304,8 +314,8 @@ impl<T: Ord + Drop, S: KeyHasher<T>, A: Allocator + Copy> HashSet<T, S, A> {
     /// Calls a function on each element that [`HashSet::iter`] gives, and removes those at which it answers false. An element that was
     /// removed meanwhile, and put again, stays.
     ///
-    /// The function runs while no lock is held, so it may call this set. One look-up for each element besides the walk; takes the locks
-    /// of [`HashMap::retain`].
+    /// The function runs while no lock is held, so it may call this set. One removal for each element at which it answers false, besides
+    /// the walk; takes the locks of [`HashMap::retain`].
     ///
     /// # Errors
     ///

@@ -148,6 +148,8 @@ impl<'m, R: Wait, T: Ord + Drop, S: KeyHasher<T>, A: Allocator + Copy> HashSetRe
 
     /// Makes the table large enough for so many more elements than the set then counts. See [`HashMapRef::reserve`].
     ///
+    /// Each doubling moves every element.
+    ///
     /// # Errors
     ///
     /// [`AllocError`], where memory for a table is wanting. The elements stay, and so do the doublings that were done.
@@ -216,8 +218,8 @@ impl<'m, R: Wait, T: Ord + Drop, S: KeyHasher<T>, A: Allocator + Copy> HashSetRe
     /// Calls a function on each element that [`HashSetRef::iter`] gives, and removes those at which it answers false. An element that was
     /// removed meanwhile, and put again, stays.
     ///
-    /// The function runs while no lock is held, so it may call this set. One look-up for each element besides the walk; takes the locks
-    /// of [`HashMapRef::retain`].
+    /// The function runs while no lock is held, so it may call this set. One removal for each element at which it answers false, besides
+    /// the walk; takes the locks of [`HashMapRef::retain`].
     ///
     /// # Errors
     ///

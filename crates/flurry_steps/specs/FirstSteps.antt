@@ -6,7 +6,7 @@ use Rattle.flurry_steps.specs.Party.{PartyState, Stage, started_stage}
 use Rattle.flurry_steps.specs.PartySlots.{StageAtSlot}
 use Rattle.flurry_calls.specs.declared.step.Event.{Event}
 
--- a call after its first step, at the published table of that number
+-- a call after its first step, at the published table of that exponent
 abbrev pub begun_at : {K V F : Type 0} → ℕ → ℕ → ℕ → Stage K V F → PartyState K V F
 begun_at d h n s = record { hash = h; processors = n; stage = started_stage d s }
 

@@ -25,7 +25,7 @@ pub enum LineEnd {
     Long,
 }
 
-/// The next line, without its line feed. Of one that is too long, the first 65 bytes.
+/// The next line, without its line feed. Of one that is too long, the first 65 bytes. Linear in the line.
 ///
 /// # Errors
 ///

@@ -147,7 +147,8 @@ impl<
     ///
     /// # Errors
     ///
-    /// [`AllocError`], where memory for the party or its label is wanting. The world is then as before, and the call is dropped.
+    /// [`AllocError`], where memory for the party or its label is wanting, or where the world has [`MOST_LABELS`] labels. The world is then
+    /// as before, and the call is dropped.
     pub fn begin(&mut self, call: OwnedCall<K, V, F>) -> Result<usize, AllocError>
         requires { OwnedIsReady F.can_change call }
         ensures party { IfOk result (λ p. p ≡ length self.old.party_records) }
@@ -179,7 +180,8 @@ impl<
     ///
     /// # Errors
     ///
-    /// [`AllocError`], where memory for the party, its label, or further owners of the pair is wanting. The world is then as before.
+    /// [`AllocError`], where memory for the party, its label, or further owners of the pair is wanting, or where the world has
+    /// [`MOST_LABELS`] labels. The world is then as before.
     pub fn begin_remove_seen(&mut self, walk: usize) -> Result<Option<usize>, AllocError>
         ensures ok { IfOk result (λ p. Drops (S.hash_of self.old.hasher) self.old walk p self.new) }
         ensures transition { IfOk result (λ p. IfSome p
@@ -217,8 +219,8 @@ impl<
     ///
     /// # Errors
     ///
-    /// [`AllocError`], where memory for the label is wanting. The world is then as before. (Where memory is wanting for what the step
-    /// itself needs, the step is done, and its label or the party's later ones say so.)
+    /// [`AllocError`], where memory for the label is wanting, or where the world has [`MOST_LABELS`] labels. The world is then as before.
+    /// (Where memory is wanting for what the step itself needs, the step is done, and its label or the party's later ones say so.)
     pub fn step(&mut self, party: usize) -> Result<(), AllocError>
         ensures ok { OnOk result (WorldStep K.cmp F.changes self.old party self.new) }
         ensures transition { OnOk result
@@ -243,8 +245,8 @@ impl<
     ///
     /// # Errors
     ///
-    /// [`AllocError`], where memory for a party or a label is wanting. A front of the list is done then, which is not the whole of it, and
-    /// the world is as after its last label.
+    /// [`AllocError`], where memory for a party, a label, or further owners of a pair is wanting, or where the world has [`MOST_LABELS`]
+    /// labels. A front of the list is done then, which is not the whole of it, and the world is as after its last label.
     pub fn run(&mut self, steps: Vec<Step<K, V, F>, A>) -> Result<(), AllocError>
         requires { All (StepIsReady F.can_change) steps.items }
         ensures ok { OnOk result (Runs K.cmp (S.hash_of self.old.hasher) F.changes steps.items self.old self.new) }

@@ -54,7 +54,11 @@ pub struct Node<K, V, A: Allocator = Global> {
 }
 
 impl<K: Drop, V: Drop, A: Allocator> Node<K, V, A> {
-    /// A node that is in no bin yet. Constant time; takes memory for one node, and an error says that there was none.
+    /// A node that is in no bin yet. Constant time; takes memory for one node.
+    ///
+    /// # Errors
+    ///
+    /// [`AllocError`], where memory is wanting; the entry is dropped.
     pub fn new(alloc: A, entry: Entry<K, V, A>) -> Result<BoxedNode<K, V, A>, AllocError>
         ensures { IfOk result (λ b. entry_of b.value ≡ entry) }
     {
