@@ -33,6 +33,9 @@ check_sources() {
     check_makers flurry_control Claim claim || status=1
     check_makers flurry_control PublishedTable start || status=1
     check_makers flurry_slots Receipt || status=1
+    check_makers flurry_slots MoveAnswer move_into || status=1
+    check_makers flurry_slots Slot live live_at unborn || status=1
     check_makers flurry_calls Seen seen try_clone || status=1
+    check_makers flurry_calls Sweep clear walk || status=1
     return "$status"
 }
