@@ -23,7 +23,7 @@ pub fn take<R: Wait>(rt: &R, map: &Shared, key: u64) -> bool {
     view.remove(&key).is_some() && !view.contains_key(&key)
 }
 
-/// What a look-up finds is what its steps lead to.
+/// What a look-up answers is an answer to which steps of it lead.
 pub fn look_up<S: KeyHasher<u64>, R: Wait>(
     rt: &R,
     map: &HashMap<u64, u64, S>,
