@@ -1,0 +1,5 @@
+use Rattle.std.proofs.Common.{rules}
+use Rattle.flurry_bins.proofs.bin.list.ListBinOrdered.next_after.Goals as goal
+
+pub returns : goal.returns
+returns g c = search rules
