@@ -26,10 +26,25 @@ check_makers() {
     fi
 }
 
+# Each library that a line of crates.txt lists is named in that crate's texts: one that is not costs the gate minutes, and proves nothing.
+check_libraries() {
+    local crate libraries library status=0
+    while IFS=: read -r crate libraries; do
+        for library in $libraries; do
+            if ! grep -rqsE "\b(Rattle\.$library\b|$library::|use $library\b)" "crates/$crate"/{src,specs,proofs,must-fail}; then
+                echo "test: crates.txt lists $library for $crate, whose texts do not name it" >&2
+                status=1
+            fi
+        done
+    done <crates.txt
+    return "$status"
+}
+
 # All of these checks.
 check_sources() {
     local status=0
     check_first_example || status=1
+    check_libraries || status=1
     check_makers flurry_control Claim claim || status=1
     check_makers flurry_control PublishedTable start || status=1
     check_makers flurry_slots Receipt || status=1
