@@ -1,0 +1,113 @@
+#!/usr/bin/env python3
+"""Tries `wrong_bodies` on a crate of its own, whose edits have each to come to what stands beside them here. It takes the prover a minute."""
+import pathlib
+import sys
+import tempfile
+
+import wrong_bodies
+
+SOURCE = """\
+//! Numbers, for a test.
+#![tactic(auto)]
+ghost use Rattle.std.specs.Prelude.{◌≡◌, ◌≤◌, ◌+◌, true, false};
+
+use std::marker::PhantomData;
+
+pub fn one_more(number: u8) -> u64
+    ensures { result ≡ number + 1 }
+{
+    u64::from(number) + 1
+}
+
+pub fn two_more(number: u8) -> u64
+    ensures { result ≡ number + 2 }
+{
+    one_more(number) + 1
+}
+
+pub fn three_more(number: u8) -> u64
+    ensures { result ≡ number + 3 }
+{
+    two_more(number) + 1
+}
+
+pub fn at_most_nine() -> u64
+    ensures { result ≤ 9 }
+{
+    9
+}
+
+pub struct Asked<T> {
+    of: PhantomData<T>,
+}
+
+impl<T: Clone> Asked<T> {
+    pub fn is_clone() -> bool
+        ensures { result ≡ true }
+    {
+        true
+    }
+}
+
+pub trait NoClone {
+    fn is_clone() -> bool
+        ensures { result ≡ false };
+}
+
+impl<T> NoClone for Asked<T> {
+    fn is_clone() -> bool {
+        false
+    }
+}
+
+#[derive(Drop)]
+pub struct Token {
+    number: u64,
+}
+
+pub fn token_is_clone() -> bool
+    ensures { result ≡ false }
+{
+    Asked::<Token>::is_clone()
+}
+"""
+
+# Each edit with its old and new text, and what it has to come to.
+EDITS = {
+    "one_more_is_two_more": ("u64::from(number) + 1", "u64::from(number) + 2", wrong_bodies.REFUSED),
+    "one_more_is_itself": ("u64::from(number) + 1", "u64::from(number)", wrong_bodies.REFUSED),
+    "two_more_is_one_more": ("one_more(number) + 1", "one_more(number)", wrong_bodies.REFUSED),
+    # waits for the two above, and means the same as before
+    "three_more_the_other_way_round": ("two_more(number) + 1", "1 + two_more(number)", wrong_bodies.LET_THROUGH),
+    "nine_is_eight": ("    9", "    8", wrong_bodies.LET_THROUGH),
+    "no_such_name": ("    false", "    untrue", wrong_bodies.BAD),
+    "stands_twice": ("result ≡ false", "result ≡ true", wrong_bodies.BAD),
+    "token_is_cloned": ("pub struct Token {", "#[derive(Clone)] pub struct Token {", wrong_bodies.REFUSED),
+}
+
+
+def make_repository(root):
+    crate = root / "crates/sample"
+    (crate / "src").mkdir(parents=True)
+    (crate / "must-fail").mkdir()
+    (root / "crates.txt").write_text("sample:\n", encoding="utf-8")
+    (crate / "src/lib.rt").write_text(SOURCE, encoding="utf-8")
+    for name, (old, new, _) in EDITS.items():
+        (crate / f"must-fail/{name}.edit").write_text(f"file: src/lib.rt\nold: {old}\nnew: {new}\n", encoding="utf-8")
+
+
+def main():
+    with tempfile.TemporaryDirectory(prefix="test-wrong-bodies-") as room:
+        root = pathlib.Path(room)
+        make_repository(root)
+        _, outcomes = wrong_bodies.try_all(root, root)
+    came_to = {label.removeprefix("sample/").removesuffix(".edit"): (outcome, reason) for label, outcome, reason in outcomes}
+    faults = [f"{name} came to {came_to.get(name)}, not to {wanted}" for name, (_, _, wanted) in EDITS.items() if came_to.get(name, [""])[0] != wanted]
+    for fault in faults:
+        print(f"test_wrong_bodies: {fault}", file=sys.stderr)
+    print(f"test_wrong_bodies: {'FAILED' if faults else 'passed'}")
+    return 1 if faults else 0
+
+
+if __name__ == "__main__":
+    sys.exit(main())
