@@ -74,11 +74,15 @@ def below(name, libraries):
     return found
 
 
-def words_for(name, folder, built, libraries):
+def kit_folder():
+    """Returns the folder of the kit, whose first page `rt doc` names."""
+    return pathlib.Path(subprocess.run(["rt", "doc"], capture_output=True, text=True, check=True).stdout.strip()).parent
+
+
+def words_for(name, folder, built, libraries, kit):
     """Returns the words of a check over the libraries that `rt ci` built."""
-    kit = pathlib.Path(subprocess.run(["rt", "doc"], capture_output=True, text=True, check=True).stdout.strip()).parent
     root = "src/main.rt" if (folder / "src/main.rt").exists() else "src/lib.rt"
-    words = ["rattle", "check", "--crate-name", name, root, "--extern", f"std={kit}/rlibs/std.rlib"]
+    words = [f"{kit}/bin/rattle", "check", "--crate-name", name, root, "--extern", f"std={kit}/rlibs/std.rlib"]
     for library in libraries[name]:
         place = f"{built}/crates/{library}/out/rlib" if library in libraries else f"{kit}/rlibs"
         words += ["--extern", f"{library}={place}/{library}.rlib"]
@@ -101,13 +105,19 @@ def checked(crate, batch, kept, only=()):
         words = [*crate.words, "--incremental", kept]
         for path in only:
             words += ["--only", path]
-        how = {"cwd": room, "stdin": subprocess.DEVNULL, "stdout": subprocess.PIPE, "stderr": subprocess.STDOUT, "text": True, "errors": "replace"}
-        with subprocess.Popen(words, **how) as run:
-            printed = run.stdout.read()
-            _, status, used = os.wait4(run.pid, 0)
-            run.returncode = os.waitstatus_to_exitcode(status)
-        crate.seconds += used.ru_utime + used.ru_stime
-        return Check(run.returncode, printed)
+        status, printed, seconds = run_alone(words, room)
+        crate.seconds += seconds
+        return Check(status, printed)
+
+
+def run_alone(words, folder):
+    """Runs a command there, and returns its status, what it printed, and the processor seconds that it and all that it started took."""
+    how = {"stdin": subprocess.DEVNULL, "stdout": subprocess.PIPE, "stderr": subprocess.STDOUT, "text": True, "errors": "replace"}
+    with subprocess.Popen(words, cwd=folder, **how) as run:
+        printed = run.stdout.read()
+        _, status, used = os.wait4(run.pid, 0)
+        run.returncode = os.waitstatus_to_exitcode(status)
+    return run.returncode, printed, used.ru_utime + used.ru_stime
 
 
 def batch_of(left):
@@ -191,13 +201,14 @@ def are_found(batch, found):
     return all(any(verdicts.is_of(path, function) for path in found) for edit in batch for function in edit.functions)
 
 
-def tried(crate, group, kept):
+def tried(crate, group, kept, say):
     """Tries each edit of the group, and yields it with what it came to and the reason."""
-    groups = [group]
+    groups = [group] if group else []
     while groups:
         group = groups.pop()
         batch = batch_of(group)
         rest = [edit for edit in group if edit not in batch]
+        say(f"{crate.name}: trying {len(batch)} of the {len(group) + sum(map(len, groups))} that are left")
         check = checked_by_name(crate, batch, kept)
         if check.status == -signal.SIGKILL:
             check = checked_by_name(crate, batch, kept)
@@ -216,27 +227,28 @@ def tried(crate, group, kept):
         groups = [it for it in [*groups, rest] if it]
 
 
-def try_crate(crate, printing):
-    """Tries the edits of a crate, and returns what each came to: its label, the outcome and the reason."""
-    outcomes, group = [], []
+def edits_of(crate):
+    """Returns the edits of a crate, and what each came to that cannot be read or applied."""
+    found, bad = [], []
     for path in sorted((crate.folder / "must-fail").iterdir()):
         try:
             if not path.is_file() or not re.fullmatch(r"[A-Za-z0-9_-][A-Za-z0-9_.-]*\.edit", path.name):
-                raise edits.BadEdit("an edit is a file whose name is of letters, digits, _, - and . and ends in .edit")
-            group.append(edits.Edit(crate.folder, path))
-        except (edits.BadEdit, OSError) as error:
-            outcomes.append((f"{crate.name}/{path.name}", BAD, str(error)))
-    total = len(group) + len(outcomes)
+                raise edits.BadEdit("the name of an edit is of letters, digits, _, - and . and ends in .edit")
+            found.append(edits.Edit(crate.folder, path))
+        except (edits.BadEdit, OSError, UnicodeDecodeError) as error:
+            bad.append((f"{crate.name}/{path.name}", BAD, str(error)))
+    return found, bad
+
+
+def try_crate(crate, say):
+    """Tries the edits of a crate, and returns what each came to: its label, the outcome and the reason."""
+    found, outcomes = edits_of(crate)
     with tempfile.TemporaryDirectory(prefix="wrong-bodies-kept-") as kept:
-        for edit, outcome, reason in tried(crate, group, kept):
-            outcomes.append((edit.label, outcome, reason))
-            with printing:
-                print(f"must-fail {edit.label}: {outcome}: {reason[:160]}", flush=True)
+        outcomes += [(edit.label, outcome, reason) for edit, outcome, reason in tried(crate, found, kept, say)]
     refused = sum(outcome == REFUSED for _, outcome, _ in outcomes)
-    with printing:
-        print(
-            f"wrong bodies: {crate.name}: {refused} of {total} refused, by {crate.rounds} checks, {crate.seconds:.0f} s of processor", flush=True
-        )
+    say(f"{crate.name}: {refused} of {len(outcomes)} refused, by {crate.rounds} checks, {crate.seconds:.0f} processor seconds")
+    for label, outcome, reason in outcomes:
+        say(f"{label}: {outcome}: {reason[:160]}")
     return outcomes
 
 
@@ -248,17 +260,21 @@ def jobs_here():
 
 def try_all(repository, built, names=(), jobs=None):
     """Tries the edits of these crates, or of all that have some, side by side, and returns the crates and what each edit came to."""
-    libraries = libraries_of(repository)
-    crates = []
+    libraries, kit, crates = libraries_of(repository), kit_folder(), []
     for name in libraries:
         folder = repository / "crates" / name
         if (not names or name in names) and (folder / "must-fail").is_dir():
-            crates.append(Crate(name, folder, words_for(name, folder, built, libraries)))
+            crates.append(Crate(name, folder, words_for(name, folder, built, libraries, kit)))
     # the dearest first
     crates.sort(key=lambda it: -sum(file.stat().st_size for part in PARTS for file in (it.folder / part).rglob("*") if file.is_file()))
     printing = threading.Lock()
+
+    def say(text):
+        with printing:
+            print(f"must-fail {text}", flush=True)
+
     with concurrent.futures.ThreadPoolExecutor(jobs or jobs_here()) as pool:
-        outcomes = [it for of_crate in pool.map(lambda crate: try_crate(crate, printing), crates) for it in of_crate]
+        outcomes = [it for of_crate in pool.map(lambda crate: try_crate(crate, say), crates) for it in of_crate]
     return crates, outcomes
 
 
@@ -266,7 +282,7 @@ def failed_of(outcomes):
     """Returns those that did not come to a refusal, and says each."""
     failed = [it for it in outcomes if it[1] != REFUSED]
     for label, outcome, reason in failed:
-        print(f"must-fail {label}: {outcome}: {reason}", file=sys.stderr)
+        print(f"must-fail: not refused by a contract: {label}: {outcome}: {reason}", flush=True)
     return failed
 
 
