@@ -81,6 +81,30 @@ pub fn keep_even<R: Wait>(rt: &R, map: &Shared) -> Result<(), AllocError> {
     map.retain(rt, |key: &u64, _value: &u64| -> bool { *key % 2 == 0 })
 }
 
+/// The sum of the values that a walk gives: `next` returns a `Result`, so the loop is none over an iterator.
+pub fn sum<R: Wait>(rt: &R, map: &Shared) -> Result<u64, AllocError> {
+    let mut sum: u64 = 0;
+    let mut values = map.values(rt);
+    for _ in rt.forever() {
+        let Some(value) = values.next()? else {
+            break;
+        };
+        sum = sum.saturating_add(*value);
+    }
+    Ok(sum)
+}
+
+/// Takes a token of a key, and returns whether there was one: the function tells that by a captured `&mut`.
+pub fn take_token<R: Wait>(rt: &R, map: &Shared, key: u64) -> Result<bool, AllocError> {
+    let mut was_taken = false;
+    let taken = &mut was_taken;
+    map.compute_if_present(rt, &key, move |_key: &u64, tokens: &u64| -> Option<u64> {
+        *taken = *tokens > 0;
+        Some((*tokens).saturating_sub(1))
+    })?;
+    Ok(was_taken)
+}
+
 /// Whether an element is new to the set, which hangs on other threads.
 pub fn visit<R: Wait>(rt: &R, seen: &HashSet<u64>, x: u64) -> Result<bool, AllocError> {
     seen.insert(rt, x)
