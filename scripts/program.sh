@@ -138,11 +138,15 @@ keep_work() {
 }
 
 # Starts the proof and the build of a crate. A library has a folder of its own, since `rt` keeps all below a crate to itself while it builds
-# that, and so would build no two side by side in one. The first of those that run has the processors before the others.
+# that, and so would build no two side by side in one. The one with the longest chain above it has up to four processors, before others.
 start() {
-    local it at=$root behind=10
-    local -a those command=(rt run -- "$word")
-    ((${#builder[@]})) || behind=0
+    local it at=$root behind=0 jobs=4
+    local -a those command=(rt run ${word:+-- "$word"})
+    for it in "${crates[@]}"; do
+        [[ $it != "$1" ]] || break
+        [[ -z ${builder[$it]-} ]] || behind=10 jobs=2
+    done
+    ((jobs <= processors)) || jobs=$processors
     mkdir -- "$room/$1"
     : >"$room/$1/log"
     : >"$room/$1/started"
@@ -209,12 +213,11 @@ is_ready() {
 # Builds the program, and before it what it stands on, side by side: as many crates as there are processors and memory, of which each may
 # take 3 GB.
 build_crates() {
-    local it processors memory most=3 jobs=4
+    local it processors memory most=3
     processors=$(nproc)
     memory=$(awk '$1 == "MemAvailable:" { print int($2 / 3000000) }' /proc/meminfo)
     ((most <= processors)) || most=$processors
     ((most <= memory)) || most=$((memory ? memory : 1))
-    ((jobs <= processors)) || jobs=$processors
     for it in "${crates[@]}"; do
         if [[ $it != "$crate" ]] && is_library_fresh "$it"; then
             built[$it]=yes
@@ -236,7 +239,7 @@ build_crates() {
 }
 
 # Proves and builds the program, unless another of these scripts does while this one waits for it. `rt run` also runs it: here on an empty
-# input, and on a word with which it ends at once.
+# input, and on the word with which it ends at once.
 build() {
     local out=$root/crates/$crate/out
     if ! command -v rt >/dev/null 2>&1; then
@@ -259,7 +262,8 @@ build() {
 }
 
 # run_program ROOT NAME CRATE WORD ARG..: becomes the program of the crate with these arguments. It is proved and built first where it is
-# not there, or where what it stands on has changed. WORD is one with which the program ends at once with status 0.
+# not there, or where what it stands on has changed. WORD is one with which the program ends at once with status 0, or empty where it does
+# so with none.
 run_program() {
     root=$1 name=$2 crate=$3 word=$4
     shift 4
