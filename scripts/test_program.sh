@@ -7,29 +7,33 @@ set -euo pipefail
 
 scripts=$(CDPATH='' cd -- "$(dirname -- "$(readlink -f -- "${BASH_SOURCE[0]}")")" && pwd -P)
 
-# Writes the false `rt`, which notes in `calls` when it begins and ends, and keeps others out of the crate and of those below it.
+# Writes the false `rt`, which notes in the file `$CALLS` when it begins and ends, and keeps others out of the crate and of those below it.
+# The text of a crate says what becomes of it: `right`; `wrong`; `beside NAME`, which ends once NAME has begun; or `signal NAME`, which the
+# one that started it then gets.
 write_rt() {
     cat >"$1" <<'RT'
 #!/usr/bin/env bash
 set -euo pipefail
 crate=${PWD##*/}
+below=$(sed -n "s/^$crate://p" ../../crates.txt)
+read -r text other <src/lib.rt
 note() { echo "$1 $crate" >>"$CALLS"; }
-for it in $(sed -n "s/^$crate://p" ../../crates.txt) "$crate"; do
+for it in $below "$crate"; do
     exec {lock}<"../$it"
     flock -n "$lock" || { echo "rt: waiting for another rt to finish in $it" >&2; flock "$lock"; }
 done
-made=out/$crate
-[[ $1 == run ]] || made=out/rlib/stamp
-for it in $(sed -n "s/^$crate://p" ../../crates.txt); do
-    [[ -e ../$it/out/rlib/stamp ]] || note "$it is not built before"
+for it in $below; do
+    [[ -e ../$it/out/rlib/stamp ]] || note "no $it for"
 done
 note begin
 echo $$ >>"$CALLS.processes"
-sleep 0.4
-if [[ $(<src/lib.rt) == wrong ]]; then
-    echo "it is not proved"
-    exit 1
-fi
+case $text in
+    wrong) echo "it is not proved" && exit 1 ;;
+    beside) until grep -q "begin $other" "$CALLS"; do sleep 0.1; done ;;
+    signal) kill -s "$other" "$PPID" && sleep 60 ;;
+esac
+made=out/$crate
+[[ $1 == run ]] || made=out/rlib/stamp
 mkdir -p out/rlib
 printf '%s\n' '#!/usr/bin/env bash' 'echo "ran $*"; exit "${2-0}"' >"$made"
 chmod +x "$made"
@@ -69,15 +73,30 @@ renew() {
     touch -d '+10 seconds' -- "$@"
 }
 
+# Prints the status. (`timeout` also has the signal INT come through to what is started beside others.)
 run_it() {
     local status=0
-    bash it "$@" >out 2>err </dev/null || status=$?
+    timeout --preserve-status 60 bash it "$@" >out 2>err </dev/null || status=$?
     echo "$status"
+}
+
+# Keeps others out of a crate until it is said that somebody waits.
+hold() {
+    rm -f held
+    : >err
+    (
+        flock 9
+        : >held
+        timeout 30 bash -c 'until grep -q waiting err; do sleep 0.1; done' || :
+    ) 9<"crates/$1" &
+    until [[ -e held ]]; do sleep 0.1; done
 }
 
 # Each library after those below it, `left` and `right` side by side, and all once.
 test_order() {
     begin order
+    echo 'beside right' >crates/left/src/lib.rt
+    echo 'beside left' >crates/right/src/lib.rt
     is 'status of the program' "$(run_it a 3)" 3
     is 'output' "$(<out)" 'ran a 3'
     is 'first built' "$(head -n 2 calls | tr '\n' ' ')" 'begin base end base '
@@ -116,21 +135,13 @@ test_line() {
 # Where the lock of a crate is held, by whoever, that is said.
 test_waiting() {
     begin waiting
-    (
-        flock 9
-        sleep 1.5
-    ) 9<crates/base &
-    sleep 0.1
+    hold base
     is 'status after waiting' "$(run_it)" 0
     has 'waiting for a library' err 'it: waiting for another rt in crates/base'
     renew crates/top/src/lib.rt
-    (
-        flock 9
-        sleep 1.5
-    ) 9<crates/top &
-    sleep 0.1
+    hold top
     is 'status after waiting' "$(run_it)" 0
-    has 'waiting for the program' err 'it: waiting for another rt'
+    has 'waiting for the program' err 'it: waiting for another rt, before top'
 }
 
 test_together() {
@@ -153,6 +164,7 @@ test_faults() {
     has 'what rt said' err 'it is not proved'
     has 'message' err 'it: the program could not be proved and built'
     ! grep -E 'upper|top' calls >&2 || return 1
+    echo right >crates/left/src/lib.rt
     if ! PATH=/usr/bin:/bin command -v rt >/dev/null; then
         is 'status without rt' "$(PATH=/usr/bin:/bin run_it)" 127
     fi
@@ -178,16 +190,17 @@ test_no_permission() {
     chmod 755 crates/*
 }
 
-# interrupt SIGNAL STATUS
+# interrupt SIGNAL STATUS: all ends, and what was built is kept.
 interrupt() {
-    local status=0 it
+    local it
     begin "interrupt-$1"
-    timeout --preserve-status -s "$1" 1 bash it >out 2>err </dev/null || status=$?
-    is "status after $1" "$status" "$2"
+    echo "signal $1" >crates/right/src/lib.rt
+    is "status after $1" "$(run_it)" "$2"
     while read -r it; do
         ! kill -0 "$it" 2>/dev/null || { echo "test_program: a build outlives $1" >&2 && return 1; }
     done <calls.processes
     is "left behind after $1" "$(find crates -name 'building.*')" ''
+    echo right >crates/right/src/lib.rt
     is "status of a start after $1" "$(run_it)" 0
     is "built again after $1" "$(grep -c 'end base' calls)" 1
 }
