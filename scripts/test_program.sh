@@ -8,8 +8,8 @@ set -euo pipefail
 scripts=$(CDPATH='' cd -- "$(dirname -- "$(readlink -f -- "${BASH_SOURCE[0]}")")" && pwd -P)
 
 # Writes the false `rt`, which notes in the file `$CALLS` when it begins and ends, and keeps others out of the crate and of those below it.
-# The text of a crate says what becomes of it: `right`; `wrong`; `beside NAME`, which ends once NAME has begun; or `signal NAME`, which the
-# one that started it then gets.
+# The text of a crate says what becomes of it: `right`; `wrong`; `beside NAME`, which ends once NAME has begun; `edit`, a source that is
+# written meanwhile; or `signal NAME`, which the one that started it gets when part of the work is done.
 write_rt() {
     cat >"$1" <<'RT'
 #!/usr/bin/env bash
@@ -30,7 +30,8 @@ echo $$ >>"$CALLS.processes"
 case $text in
     wrong) echo "it is not proved" && exit 1 ;;
     beside) until grep -q "begin $other" "$CALLS"; do sleep 0.1; done ;;
-    signal) kill -s "$other" "$PPID" && sleep 60 ;;
+    edit) touch -- "${CALLS%/*}/crates/$crate/src/lib.rt" ;;
+    signal) mkdir -p out && echo part >out/part && kill -s "$other" "$PPID" && sleep 90 ;;
 esac
 made=out/$crate
 [[ $1 == run ]] || made=out/rlib/stamp
@@ -76,7 +77,7 @@ renew() {
 # Prints the status. (`timeout` also has the signal INT come through to what is started beside others.)
 run_it() {
     local status=0
-    timeout --preserve-status 60 bash it "$@" >out 2>err </dev/null || status=$?
+    timeout --preserve-status -k 1 60 bash it "$@" >out 2>err </dev/null || status=$?
     echo "$status"
 }
 
@@ -130,6 +131,17 @@ test_line() {
     sed -i 's/^left: base/left: base apart/' crates.txt
     is 'status after a line changed' "$(run_it)" 0
     has 'built after a line changed' calls 'end top'
+}
+
+# What is written while it is built is newer than what was built.
+test_edit() {
+    begin edit
+    echo edit >crates/left/src/lib.rt
+    echo wrong >crates/upper/src/lib.rt
+    is 'first status' "$(run_it)" 126
+    echo right >crates/upper/src/lib.rt
+    is 'second status' "$(run_it)" 0
+    is 'built twice' "$(grep -c 'begin left' calls)" 2
 }
 
 # Where the lock of a crate is held, by whoever, that is said.
@@ -200,6 +212,7 @@ interrupt() {
         ! kill -0 "$it" 2>/dev/null || { echo "test_program: a build outlives $1" >&2 && return 1; }
     done <calls.processes
     is "left behind after $1" "$(find crates -name 'building.*')" ''
+    has "what was done before $1" crates/right/out/part part
     echo right >crates/right/src/lib.rt
     is "status of a start after $1" "$(run_it)" 0
     is "built again after $1" "$(grep -c 'end base' calls)" 1
@@ -222,7 +235,7 @@ PATH=$room/bin:$PATH
 
 # Each case by itself, all side by side. (`set -e` holds in each, since none is part of a condition.)
 declare -A case_of=()
-for it in order renewal line waiting together faults no_permission interrupt end; do
+for it in order renewal line edit waiting together faults no_permission interrupt end; do
     ("test_$it") &
     case_of[$!]=$it
 done
