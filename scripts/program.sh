@@ -150,7 +150,9 @@ start() {
     mkdir -- "$room/$1"
     : >"$room/$1/log"
     : >"$room/$1/started"
-    if [[ $1 != "$crate" ]]; then
+    if [[ $1 == "$crate" ]]; then
+        exec 7<&-
+    else
         at=$room/$1
         command=(rt lib --jobs "$jobs")
         read -ra those <<<"${below[$1]}"
@@ -160,7 +162,7 @@ start() {
         copy_crate "$1" "$at" all
     fi
     # It runs in a group of processes of its own, so that all of it ends where this script is interrupted.
-    (cd -- "$at/crates/$1" && exec setsid nice -n "$behind" "${command[@]}") </dev/null >"$room/$1/log" 2>&1 8<&- &
+    (cd -- "$at/crates/$1" && exec setsid nice -n "$behind" "${command[@]}") </dev/null >"$room/$1/log" 2>&1 7<&- 8<&- &
     builder[$1]=$!
 }
 
@@ -184,7 +186,7 @@ end() {
 
 # Says what is proved, and what waits. On a terminal that is one line, which is overwritten and says how far it is.
 tell_progress() {
-    local it doing far all=
+    local it doing far all="${#built[@]} of ${#crates[@]} crates"
     for it in "${crates[@]}"; do
         [[ -n ${builder[$it]-} ]] || continue
         doing="proving $it"
@@ -192,11 +194,11 @@ tell_progress() {
         if [[ $(tail -n 1 -- "$room/$it/log") == rt:*waiting\ for* ]]; then
             doing="waiting for another rt, before $it"
         fi
-        all+="${all:+, }$doing${far:+: $far}"
+        all+=", $doing${far:+: $far}"
         [[ -t 2 || ${said[$it]-} == "$doing" ]] || say "$doing"
         said[$it]=$doing
     done
-    [[ ! -t 2 ]] || printf '\r\033[K%s' "${name}: ${all:0:60}" >&2
+    [[ ! -t 2 ]] || printf '\r\033[K%s' "$name: ${all:0:65}" >&2
 }
 
 # Whether the crate is still to be built, and all below it is built.
@@ -248,6 +250,9 @@ build() {
     check_writable
     exec 8<"$root/crates"
     lock 8 "another start, which builds a program"
+    # (until the program itself is built, so that no `rt` takes its folder away)
+    exec 7<"$root/crates/$crate"
+    lock 7 "another rt in crates/$crate"
     if ! is_program_fresh; then
         say "proving and building the program; the first time takes minutes"
         mkdir -p -- "$out"
@@ -258,7 +263,7 @@ build() {
         rm -rf -- "$room"
         room=
     fi
-    exec 8<&-
+    exec 7<&- 8<&-
 }
 
 # run_program ROOT NAME CRATE WORD ARG..: becomes the program of the crate with these arguments. It is proved and built first where it is

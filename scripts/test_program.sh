@@ -151,9 +151,13 @@ test_waiting() {
     is 'status after waiting' "$(run_it)" 0
     has 'waiting for a library' err 'it: waiting for another rt in crates/base'
     renew crates/top/src/lib.rt
+    hold upper
+    is 'status after waiting' "$(run_it)" 0
+    has 'waiting of rt' err 'it: waiting for another rt, before top'
+    renew crates/top/src
     hold top
     is 'status after waiting' "$(run_it)" 0
-    has 'waiting for the program' err 'it: waiting for another rt, before top'
+    has 'waiting for the program' err 'it: waiting for another rt in crates/top'
 }
 
 test_together() {
