@@ -257,7 +257,7 @@ build() {
         say "proving and building the program; the first time takes minutes"
         mkdir -p -- "$out"
         # (what was left by a start that was killed)
-        rm -rf -- "$out"/building.*
+        rm -rf -- "$out"/building.* || :
         room=$(mktemp -d -- "$out/building.XXXXXX")
         build_crates
         rm -rf -- "$room"
