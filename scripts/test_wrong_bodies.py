@@ -4,6 +4,7 @@ import pathlib
 import sys
 import tempfile
 
+import verdicts
 import wrong_bodies
 
 SOURCE = """\
@@ -86,6 +87,17 @@ EDITS = {
 }
 
 
+# What an edit says of its function, the prover's paths, and those of them that are that function.
+PATHS = [
+    (("list", "", "find"), ["list::find", "tree::find", "list::List::find"], ["list::find"]),
+    (("list", "List", "find"), ["list::List::find", "list::ListIterator::find", "list::ListOrdered::find"], ["list::List::find"]),
+    (("map::retain", "Map", "keep"), ["map::Map::keep", "set::Set::keep"], ["map::Map::keep"]),
+    (("map", "Map", "new"), ["map::Map+K+V+Hasher::new", "map::MapIterator::new"], ["map::Map+K+V+Hasher::new"]),
+    (("hash", "LowHash", "of"), ["hash::LowHashU64::of"], ["hash::LowHashU64::of"]),
+    (("hash", "LowHash", "of"), ["hash::LowHashU64::of", "hash::LowHashU32::of"], []),
+]
+
+
 def make_repository(root):
     crate = root / "crates/sample"
     (crate / "src").mkdir(parents=True)
@@ -103,6 +115,9 @@ def main():
         _, outcomes = wrong_bodies.try_all(root, root)
     came_to = {label.removeprefix("sample/").removesuffix(".edit"): (outcome, reason) for label, outcome, reason in outcomes}
     faults = [f"{name} came to {came_to.get(name)}, not to {wanted}" for name, (_, _, wanted) in EDITS.items() if came_to.get(name, [""])[0] != wanted]
+    for function, paths, wanted in PATHS:
+        if verdicts.paths_of(function, paths) != wanted:
+            faults.append(f"{function} is {verdicts.paths_of(function, paths)}, not {wanted}")
     for fault in faults:
         print(f"test_wrong_bodies: {fault}", file=sys.stderr)
     print(f"test_wrong_bodies: {'FAILED' if faults else 'passed'}")

@@ -69,14 +69,19 @@ def verdicts_of(printed):
     return found
 
 
-def is_of(path, function):
-    """Whether the prover's path is that of the function, as `edits.function_at` tells it."""
+def paths_of(function, paths):
+    """Returns those of the prover's paths that are the function, as `edits.function_at` tells it: none where that is not certain."""
     module, block, name = function
-    above, _, last = path.rpartition("::")
-    if last != name:
-        return False
     if not block:
-        return above == module
-    of, _, last = above.rpartition("::")
-    # a block that is for one type of several goes on with that type, and one for a reference or a slice begins with these
-    return last.startswith(block) or (of == module and last.endswith(block))
+        return [path for path in paths if path == "::".join(part for part in (module, name) if part)]
+    found = [path.rpartition("::")[0] for path in paths if path.rpartition("::")[2] == name]
+    places = [(above.rpartition("::")[0], above.rpartition("::")[2], above) for above in found]
+    # a block for certain arguments of a type goes on with these, behind a sign +
+    exact = [it for it in places if it[1] == block or it[1].startswith(f"{block}+")]
+    here = [it for it in exact if it[0] == module]
+    # a block may stand in a private module below that of its type
+    above = [it for it in exact if module.startswith(it[0])]
+    # a trait's block for one type of several goes on with that type, and one for a reference or a slice begins with these
+    loose = [it for it in places if it[0] == module and (it[1].startswith(block) or it[1].endswith(block))]
+    chosen = here or above or exact or loose
+    return [f"{it[2]}::{name}" for it in chosen] if len(chosen) == 1 else []

@@ -14,6 +14,7 @@ function goes alone, and so do all of a batch in which a function that no edit t
 import argparse
 import concurrent.futures
 import dataclasses
+import functools
 import os
 import pathlib
 import re
@@ -50,7 +51,7 @@ class Check:
     status: int
     printed: str
 
-    @property
+    @functools.cached_property
     def found(self):
         return verdicts.verdicts_of(self.printed)
 
@@ -137,18 +138,23 @@ def batch_of(left):
     return batch or left[:1]
 
 
+def paths_of(edit, found):
+    """Returns the prover's paths of the functions that an edit turns."""
+    return [path for function in edit.functions for path in verdicts.paths_of(function, found)]
+
+
 def judged(edit, found):
     """Returns what an edit of a batch came to, and the reason, by the verdicts of the functions that it turns."""
-    own = [it for path, it in found.items() if any(verdicts.is_of(path, function) for function in edit.functions)]
+    own = [found[path] for path in paths_of(edit, found)]
     goal = next((it.goal for it in own if it.goal), "")
     misses = next((it.misses for it in own if it.misses), "")
     if goal:
         return REFUSED, goal
-    if not own or any(it.waits for it in own):
-        return WAITS, "its function waits for another" if own else "its function is not found"
-    if misses:
+    if own and all(it.is_proved for it in own):
+        return LET_THROUGH, "its function is proved"
+    if misses and not any(it.waits for it in own):
         return WRONG_REASON, misses
-    return (LET_THROUGH, "its function is proved") if all(it.is_proved for it in own) else (REFUSED, "its function is not proved")
+    return WAITS, "its function is not found, or waits for another"
 
 
 def judged_alone(edit, check):
@@ -177,8 +183,8 @@ def is_reached(check):
 
 def is_sound(batch, found):
     """Whether each goal that is not met is one of a function that an edit turns: else an edit reaches beyond its function."""
-    turned = [function for edit in batch for function in edit.functions]
-    return all(any(verdicts.is_of(path, it) for it in turned) for path, verdict in found.items() if verdict.goal or verdict.misses)
+    turned = {path for edit in batch for path in paths_of(edit, found)}
+    return all(path in turned for path, verdict in found.items() if verdict.goal or verdict.misses)
 
 
 def names_for(batch):
@@ -198,7 +204,7 @@ def checked_by_name(crate, batch, kept):
 
 def are_found(batch, found):
     """Whether each function that the batch turns has a verdict."""
-    return all(any(verdicts.is_of(path, function) for path in found) for edit in batch for function in edit.functions)
+    return all(verdicts.paths_of(function, found) for edit in batch for function in edit.functions)
 
 
 def tried(crate, group, kept, say):
