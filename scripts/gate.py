@@ -1,11 +1,11 @@
 #!/usr/bin/env python3
 """What `./test` does once the sources were looked at: each proof, each wrong body, each program and each test.
 
-    gate.py [--each] REPOSITORY
+    gate.py [--each] [--anew] REPOSITORY
 
 It runs `rt ci` over a copy of the repository without its wrong bodies, and then tries these many at a time, by `wrong_bodies`. With --each
-the whole is the kit's own: `rt ci` where the repository stands, which tries each wrong body by a check of its own. The last line is
-'N passed, M failed'.
+the whole is the kit's own: `rt ci` where the repository stands, which tries each wrong body by a check of its own. With --anew nothing is
+taken of what earlier runs on this machine passed. The last line is 'N passed, M failed'.
 """
 import argparse
 import collections
@@ -134,9 +134,9 @@ def tell_times(parts, crates, started):
     print(f"test: the dearest crates: {', '.join(f'{crate} {seconds / 60:.1f}' for crate, seconds in crates.most_common(10))}")
 
 
-def try_each(repository, started):
+def try_each(repository, words, started):
     """The kit's own gate, whole."""
-    status, lines, parts, crates = run_ci(repository)
+    status, lines, parts, crates = run_ci(repository, words)
     tell_times(parts, crates, started)
     wrong = [line for line in lines if NO_CONTRACT.search(line)]
     for line in wrong:
@@ -146,17 +146,17 @@ def try_each(repository, started):
     return 1 if status or wrong or failed else 0
 
 
-def try_many(repository, started):
+def try_many(repository, words, started):
     """The gate: all but the wrong bodies by `rt ci`, and then these, many at a time."""
     with tempfile.TemporaryDirectory(prefix="flurry-gate-") as room:
         copy = pathlib.Path(room, "copy")
         copy_without_wrong_bodies(repository, copy)
-        status, lines, parts, crates = run_ci(copy)
+        status, lines, parts, crates = run_ci(copy, words)
         passed, failed = counts_of(lines)
         if status:
             print("test: the wrong bodies were not tried, since all else has to pass first", file=sys.stderr)
         else:
-            tried, outcomes = wrong_bodies.try_all(repository, copy)
+            tried, outcomes = wrong_bodies.try_all(repository, copy, is_anew=bool(words))
             for crate in tried:
                 parts["wrong bodies"] += crate.seconds
                 crates[crate.name] += crate.seconds
@@ -170,10 +170,10 @@ def try_many(repository, started):
 def main():
     told = argparse.ArgumentParser(description=__doc__, formatter_class=argparse.RawDescriptionHelpFormatter)
     told.add_argument("--each", action="store_true", help="each wrong body by a check of its own, as the kit's gate does it")
+    told.add_argument("--anew", action="store_true", help="takes nothing from earlier runs")
     told.add_argument("repository", type=pathlib.Path)
     given = told.parse_args()
-    started = time.time()
-    return (try_each if given.each else try_many)(given.repository.resolve(), started)
+    return (try_each if given.each else try_many)(given.repository.resolve(), ["--anew"] * given.anew, time.time())
 
 
 if __name__ == "__main__":

@@ -112,7 +112,7 @@ def main():
     with tempfile.TemporaryDirectory(prefix="test-wrong-bodies-") as room:
         root = pathlib.Path(room)
         make_repository(root)
-        _, outcomes = wrong_bodies.try_all(root, root)
+        _, outcomes = wrong_bodies.try_all(root, root, is_anew=True)
     came_to = {label.removeprefix("sample/").removesuffix(".edit"): (outcome, reason) for label, outcome, reason in outcomes}
     faults = [f"{name} came to {came_to.get(name)}, not to {wanted}" for name, (_, _, wanted) in EDITS.items() if came_to.get(name, [""])[0] != wanted]
     for function, paths, wanted in PATHS:

@@ -1,7 +1,7 @@
 #!/usr/bin/env python3
 """Tries the wrong bodies of crates/NAME/must-fail/*.edit, many at a time: each has to be refused by a contract.
 
-    wrong_bodies.py [--jobs N] REPOSITORY BUILT [CRATE..]
+    wrong_bodies.py [--jobs N] [--anew] REPOSITORY BUILT [CRATE..]
 
 REPOSITORY has the edits. BUILT is a copy of it, or the same folder, in which `rt ci` passed: its libraries are read, and nothing there is
 changed. The last line is 'N refused, M failed'; the status is 1 where one failed.
@@ -10,6 +10,9 @@ A proof is of one function, and stands on the contracts of what that function ca
 tried by one check, and each function has a verdict of its own there. An edit is refused where a function that it turns has a goal of its
 own that is not met. One whose function only waits for the proof of another is tried again without the refused ones. One that stands in no
 function goes alone, and so do all of a batch in which a function that no edit turns has such a goal.
+
+Where an earlier run on this machine saw all edits of a crate refused, over the same texts of it and of all below it, by the same kit and the
+same scripts, that is taken, but with --anew.
 """
 import argparse
 import concurrent.futures
@@ -27,8 +30,8 @@ import threading
 
 import edits
 import verdicts
+from kept import PARTS, Kept
 
-PARTS = ("src", "specs", "proofs")
 REFUSED, LET_THROUGH, BAD, WRONG_REASON, NOT_TRIED, WAITS = "refused", "LET THROUGH", "BAD EDIT", "WRONG REASON", "NOT TRIED", "waits"
 
 
@@ -92,7 +95,7 @@ def words_for(name, folder, built, libraries, kit):
     return [*words, "--antt-project", f"{kit}/rattle/logic/antt-project.json", "--logic-built", f"{kit}/logic_built", "--jobs", "1"]
 
 
-def checked(crate, batch, kept, only=()):
+def checked(crate, batch, work, only=()):
     """Checks a copy of the crate with these edits in it, over what earlier checks of it kept."""
     texts = {}
     for edit in batch:
@@ -103,7 +106,7 @@ def checked(crate, batch, kept, only=()):
                 shutil.copytree(crate.folder / part, f"{room}/{part}")
         for file, text in texts.items():
             pathlib.Path(room, file).write_text(text, encoding="utf-8")
-        words = [*crate.words, "--incremental", kept]
+        words = [*crate.words, "--incremental", work]
         for path in only:
             words += ["--only", path]
         status, printed, seconds = run_alone(words, room)
@@ -192,14 +195,14 @@ def names_for(batch):
     return sorted({"::".join(part for part in (block or module, name) if part) for edit in batch for module, block, name in edit.functions})
 
 
-def checked_by_name(crate, batch, kept):
+def checked_by_name(crate, batch, work):
     """Checks the functions that the batch turns and those that they call: the whole crate where an edit stands in none, or a name fits none."""
     if all(edit.functions for edit in batch) and not crate.is_whole:
-        check = checked(crate, batch, kept, names_for(batch))
+        check = checked(crate, batch, work, names_for(batch))
         crate.is_whole = check.status == 2 or (check.status in (0, 1) and bool(check.found) and not are_found(batch, check.found))
         if not crate.is_whole:
             return check
-    return checked(crate, batch, kept)
+    return checked(crate, batch, work)
 
 
 def are_found(batch, found):
@@ -207,7 +210,7 @@ def are_found(batch, found):
     return all(verdicts.paths_of(function, found) for edit in batch for function in edit.functions)
 
 
-def tried(crate, group, kept, say):
+def tried(crate, group, work, say):
     """Tries each edit of the group, and yields it with what it came to and the reason."""
     groups = [group] if group else []
     while groups:
@@ -215,9 +218,9 @@ def tried(crate, group, kept, say):
         batch = batch_of(group)
         rest = [edit for edit in group if edit not in batch]
         say(f"{crate.name}: trying {len(batch)} of the {len(group) + sum(map(len, groups))} that are left")
-        check = checked_by_name(crate, batch, kept)
+        check = checked_by_name(crate, batch, work)
         if check.status == -signal.SIGKILL:
-            check = checked_by_name(crate, batch, kept)
+            check = checked_by_name(crate, batch, work)
         crate.rounds += 1
         if len(batch) == 1:
             yield batch[0], *judged_alone(batch[0], check)
@@ -246,15 +249,22 @@ def edits_of(crate):
     return found, bad
 
 
-def try_crate(crate, say):
+def try_crate(crate, kept, say):
     """Tries the edits of a crate, and returns what each came to: its label, the outcome and the reason."""
+    key = kept.key_of(crate.name, below(crate.name, kept.libraries))
+    outcomes = kept.give(key)
+    if outcomes is not None:
+        say(f"{crate.name}: {len(outcomes)} of {len(outcomes)} refused, by an earlier run on this machine over the same files")
+        return outcomes
     found, outcomes = edits_of(crate)
-    with tempfile.TemporaryDirectory(prefix="wrong-bodies-kept-") as kept:
-        outcomes += [(edit.label, outcome, reason) for edit, outcome, reason in tried(crate, found, kept, say)]
-    refused = sum(outcome == REFUSED for _, outcome, _ in outcomes)
+    with tempfile.TemporaryDirectory(prefix="wrong-bodies-kept-") as work:
+        outcomes += [(edit.label, outcome, reason) for edit, outcome, reason in tried(crate, found, work, say)]
+    refused = [outcome for _, outcome, _ in outcomes].count(REFUSED)
     say(f"{crate.name}: {refused} of {len(outcomes)} refused, by {crate.rounds} checks, {crate.seconds:.0f} processor seconds")
     for label, outcome, reason in outcomes:
         say(f"{label}: {outcome}: {reason[:160]}")
+    if refused == len(outcomes) and key == kept.key_of(crate.name, below(crate.name, kept.libraries)):
+        kept.keep(key, outcomes)
     return outcomes
 
 
@@ -264,13 +274,14 @@ def jobs_here():
     return max(1, min(len(os.sched_getaffinity(0)), memory // 3))
 
 
-def try_all(repository, built, names=(), jobs=None):
+def try_all(repository, built, names=(), jobs=None, is_anew=False):
     """Tries the edits of these crates, or of all that have some, side by side, and returns the crates and what each edit came to."""
     libraries, kit, crates = libraries_of(repository), kit_folder(), []
     for name in libraries:
         folder = repository / "crates" / name
         if (not names or name in names) and (folder / "must-fail").is_dir():
             crates.append(Crate(name, folder, words_for(name, folder, built, libraries, kit)))
+    kept = Kept(repository, libraries, kit, is_anew)
     # the dearest first
     crates.sort(key=lambda it: -sum(file.stat().st_size for part in PARTS for file in (it.folder / part).rglob("*") if file.is_file()))
     printing = threading.Lock()
@@ -280,7 +291,7 @@ def try_all(repository, built, names=(), jobs=None):
             print(f"must-fail {text}", flush=True)
 
     with concurrent.futures.ThreadPoolExecutor(jobs or jobs_here()) as pool:
-        outcomes = [it for of_crate in pool.map(lambda crate: try_crate(crate, say), crates) for it in of_crate]
+        outcomes = [it for of_crate in pool.map(lambda crate: try_crate(crate, kept, say), crates) for it in of_crate]
     return crates, outcomes
 
 
@@ -295,11 +306,12 @@ def failed_of(outcomes):
 def main():
     told = argparse.ArgumentParser(description=__doc__, formatter_class=argparse.RawDescriptionHelpFormatter)
     told.add_argument("--jobs", type=int, help="how many checks at once (as the machine has processors and memory for)")
+    told.add_argument("--anew", action="store_true", help="takes nothing from earlier runs")
     told.add_argument("repository", type=pathlib.Path)
     told.add_argument("built", type=pathlib.Path)
     told.add_argument("crates", nargs="*")
     given = told.parse_args()
-    crates, outcomes = try_all(given.repository.resolve(), given.built.resolve(), given.crates, given.jobs)
+    crates, outcomes = try_all(given.repository.resolve(), given.built.resolve(), given.crates, given.jobs, given.anew)
     failed = failed_of(outcomes)
     print(f"wrong bodies: {sum(crate.seconds for crate in crates) / 60:.1f} processor minutes")
     print(f"{len(outcomes) - len(failed)} refused, {len(failed)} failed")
