@@ -149,6 +149,8 @@ unsafe impl<A: Allocator> Allocator for Metered<A> {
 #[cfg(test)]
 mod tests {
     use super::*;
+    use std::fmt::Debug;
+    use std::process::Abort;
     use std::sync::{Arc, RwLock, Wait};
     use std::test::Fail;
     use std::thread;
@@ -184,60 +186,79 @@ mod tests {
         Ok(numbers.len())
     }
 
+    // Sees that a value is the one that is wanted. A test of many assertions calls this, since each `assert_eq!` that stands in it
+    // makes its proof longer.
+    fn same<T: PartialEq + Debug + Drop>(rt: &impl Abort, seen: T, wanted: T) {
+        assert_eq!(rt; seen, wanted);
+    }
+
+    // What `three` answers with the request numbered k refused, and whether it made that request.
+    fn three_without(memory: &Metered<Global>, k: u64) -> (Result<usize, AllocError>, bool) {
+        memory.refuse_during(k, || three(memory))
+    }
+
+    // It makes four requests.
     #[test]
     fn each_request_is_refused_in_turn(rt: HostRuntime) {
         let memory = Metered::new(rt.alloc());
-        let mut requests = None;
-        for k in 0..100u64 {
-            let (answer, refused) = memory.refuse_during(k, || three(&memory));
-            if !refused {
-                assert_eq!(rt; answer, Ok(10));
-                requests = Some(k);
-                break;
-            }
-            assert_eq!(rt; answer, Err(AllocError), "at {k}");
-            assert_eq!(rt; memory.blocks(), 0);
+        for k in 0..4u64 {
+            let seen = three_without(&memory, k);
+            same(&rt, (k, seen), (k, (Err(AllocError), true)));
+            same(&rt, memory.blocks(), 0);
         }
-        assert_eq!(rt; requests, Some(4));
+        same(&rt, three_without(&memory, 4), (Ok(10), false));
     }
 
-    #[test]
-    fn all_from_one_on_are_refused(rt: HostRuntime) -> Result<(), Fail> {
-        let memory = Metered::new(rt.alloc());
-        memory.refuse_from(2);
-        let mut numbers = Vec::new(&memory);
+    // A list of nine numbers.
+    fn nine<A: Allocator + Copy>(memory: A) -> Result<Vec<u8, A>, AllocError> {
+        let mut numbers = Vec::new(memory);
         for i in 0..9u8 {
             numbers.push(i)?;
         }
-        assert_eq!(rt; memory.asked(), 2);
-        assert!(rt; !memory.refused());
-        assert!(rt; Box::new(&memory, 1u8).is_err());
-        assert!(rt; Box::new(&memory, 1u8).is_err());
-        assert!(rt; numbers.reserve(100).is_err());
-        assert_eq!(rt; numbers.len(), 9);
-        assert!(rt; memory.refused());
-        memory.refuse_nothing();
-        numbers.reserve(100)?;
-        assert_eq!(rt; memory.asked(), 1);
-        Ok(())
+        Ok(numbers)
+    }
+
+    // Each request of these calls is refused.
+    fn refuses_all(
+        rt: &impl Abort,
+        memory: &Metered<Global>,
+        numbers: &mut Vec<u8, &Metered<Global>>,
+    ) {
+        same(rt, (memory.asked(), memory.refused()), (2, false));
+        same(rt, Box::new(memory, 1u8).is_err(), true);
+        same(rt, Box::new(memory, 1u8).is_err(), true);
+        same(rt, numbers.reserve(100).is_err(), true);
+        same(rt, (numbers.len(), memory.refused()), (9, true));
     }
 
     #[test]
-    fn a_type_of_ones_own(rt: HostRuntime) -> Result<(), Fail> {
+    fn all_from_one_on_are_refused(rt: HostRuntime) {
+        let memory = Metered::new(rt.alloc());
+        memory.refuse_from(2);
+        let mut numbers = nine(&memory).expect(&rt, "two requests");
+        refuses_all(&rt, &memory, &mut numbers);
+        memory.refuse_nothing();
+        same(&rt, numbers.reserve(100).is_err(), false);
+        same(&rt, memory.asked(), 1);
+    }
+
+    // Makes a value of that type with the request numbered k refused, of which it makes two, and sees to what was made.
+    fn makes_link(rt: &impl Abort, memory: &Metered<Global>, k: u64) {
+        let (answer, refused) = memory.refuse_during(k, || Link::new(memory, 7u64));
+        same(rt, (refused, answer.is_err()), (k < 2, k < 2));
+        if let Ok(link) = answer {
+            same(rt, (memory.blocks(), memory.bytes() > 16), (2, true));
+            same(rt, (*link.key, link.next.is_some()), (7, true));
+        }
+    }
+
+    #[test]
+    fn a_type_of_ones_own(rt: HostRuntime) {
         let memory = Metered::new(rt.alloc());
         for k in 0..3u64 {
-            let (answer, refused) = memory.refuse_during(k, || Link::new(&memory, 7u64));
-            assert_eq!(rt; refused, k < 2);
-            assert_eq!(rt; answer.is_err(), refused);
-            if let Ok(link) = answer {
-                assert_eq!(rt; memory.blocks(), 2);
-                assert!(rt; memory.bytes() > 16);
-                assert_eq!(rt; *link.key, 7);
-                assert!(rt; link.next.is_some());
-            }
+            makes_link(&rt, &memory, k);
         }
-        assert_eq!(rt; memory.blocks(), 0);
-        Ok(())
+        same(&rt, memory.blocks(), 0);
     }
 
     fn on_two<A: Allocator + Copy + Send + Sync>(
@@ -254,18 +275,24 @@ mod tests {
         Ok(*Box::new(memory, number)?)
     }
 
+    // What they answer with the request numbered k refused, and whether it was made.
+    fn on_two_without(
+        rt: &impl Threads,
+        memory: &Metered<Global>,
+        k: u64,
+    ) -> (Result<(u64, u64), AllocError>, bool) {
+        memory.refuse_during(k, || on_two(rt, memory))
+    }
+
+    // They make three requests.
     #[test]
     fn threads_share_it(rt: HostRuntime) {
         let memory = Metered::new(rt.alloc());
-        for k in 0..100u64 {
-            let (answer, refused) = memory.refuse_during(k, || on_two(&rt, &memory));
-            if !refused {
-                assert_eq!(rt; answer, Ok((3, 3)));
-                assert_eq!(rt; k, 3);
-                break;
-            }
-            assert_eq!(rt; answer, Err(AllocError), "at {k}");
+        for k in 0..3u64 {
+            let seen = on_two_without(&rt, &memory, k);
+            same(&rt, (k, seen), (k, (Err(AllocError), true)));
         }
+        same(&rt, on_two_without(&rt, &memory, 3), (Ok((3, 3)), false));
     }
 
     #[test]
@@ -273,7 +300,7 @@ mod tests {
         let memory = Metered::leaked(rt.alloc())?;
         memory.refuse_at(1);
         let child = thread::spawn(&rt, move || (boxed(memory, 1), boxed(memory, 2)))?;
-        assert_eq!(rt; child.join(&rt), (Ok(1), Err(AllocError)));
+        same(&rt, child.join(&rt), (Ok(1), Err(AllocError)));
         Ok(())
     }
 
@@ -319,9 +346,9 @@ mod tests {
         let shelf: Shelf<u64, &'static Metered<Global>> = Shelf::new(memory);
         memory.refuse_at(2);
         let (one, two) = thread::join(&rt, || shelf.put(&rt, 1), || shelf.put(&rt, 2));
-        assert!(rt; one.is_err() != two.is_err());
-        assert!(rt; memory.refused());
-        assert_eq!(rt; one_put(&rt, &shelf), Ok(2));
+        same(&rt, one.is_err() != two.is_err(), true);
+        same(&rt, memory.refused(), true);
+        same(&rt, one_put(&rt, &shelf), Ok(2));
         Ok(())
     }
 }

@@ -8,6 +8,7 @@ use flurry_model::hash::LowHashBuilder;
 use flurry_recorded::{CloseFault, KeptReply, Recorded, Share};
 use std::fmt::Debug;
 use std::process::Abort;
+use std::sync::Wait;
 
 // A recorded map of numbers, and a share of it.
 type Numbers = Recorded<u64, u64, LowHashBuilder>;
@@ -25,10 +26,32 @@ fn reply(value: Option<u64>) -> KeptReply<u64, u64> {
     KeptReply::Value(value)
 }
 
-// Why the map does not end with these shares; none where it does.
-fn fault_of(map: Numbers, shares: Vec<NumberShare>) -> Option<CloseFault> {
+// A further share of a map.
+fn share_of<R: Wait + Abort>(rt: &R, map: &Numbers) -> NumberShare {
+    map.share(rt).expect(rt, "memory for the share")
+}
+
+// What there is of a map that ended: how many calls its history has and how many pairs it has, and its value at the key 7.
+type End = (usize, usize, Option<u64>);
+
+// How the map ends with these shares, or why it does not.
+fn end_of(map: Numbers, shares: Vec<NumberShare>) -> Result<End, CloseFault> {
     match map.close(shares) {
-        Ok(_) => None,
-        Err(fault) => Some(fault),
+        Ok(closed) => {
+            let value = closed.map.get(&7).map(|value| **value);
+            Ok((closed.history.len(), closed.map.len(), value))
+        }
+        Err(fault) => Err(fault),
     }
+}
+
+// Sees to how the map ends with these shares.
+fn ends<const N: usize>(
+    rt: &(impl Abort + AllocGlobal),
+    map: Numbers,
+    shares: [NumberShare; N],
+    wanted: Result<End, CloseFault>,
+) {
+    let shares = Vec::from_array(rt.alloc(), shares).expect(rt, "memory for the shares");
+    same(rt, end_of(map, shares), wanted);
 }

@@ -3,11 +3,10 @@
 use flurry_model::hash::LowHashBuilder;
 use flurry_recorded::{CloseFault, KeptReply, Recorded, Share};
 use metered_alloc::Metered;
-use std::alloc::{AllocError, Global};
+use std::alloc::Global;
 use std::fmt::Debug;
 use std::process::Abort;
 use std::sync::Wait;
-use std::test::Fail;
 
 type Memory = &'static Metered<Global>;
 
@@ -23,12 +22,18 @@ fn same_at<T: PartialEq + Debug + Drop>(rt: &impl Abort, k: u64, seen: T, wanted
     assert_eq!(rt; seen, wanted, "at {k}");
 }
 
+// A share of a map.
+fn share_of<R: Wait + Abort>(rt: &R, map: &Numbers) -> NumberShare {
+    map.share(rt).expect(rt, "memory for the share")
+}
+
 // A map of the pair (7, 0), with the share that made it.
-fn map_with_share<R: Wait>(rt: &R, memory: Memory) -> Result<(Numbers, NumberShare), AllocError> {
+fn map_with_share<R: Wait + Abort>(rt: &R, memory: Memory) -> (Numbers, NumberShare) {
     let map = Numbers::with_hasher(memory, LowHashBuilder);
-    let mut share = map.share(rt)?;
-    let _ = map.insert(rt, &mut share, 7, 0)?;
-    Ok((map, share))
+    let mut share = share_of(rt, &map);
+    let reply = map.insert(rt, &mut share, 7, 0);
+    same_at(rt, 0, reply, Ok(KeptReply::Value(None)));
+    (map, share)
 }
 
 // What a call replied, or nothing where it was refused, and how many receipts its share has then.
@@ -42,72 +47,84 @@ fn insert_once<R: Wait>(
     (reply.ok(), share.receipts().len())
 }
 
-#[test]
-fn insertion_of_a_first_pair(rt: HostRuntime) -> Result<(), Fail> {
-    let memory = Metered::leaked(rt.alloc())?;
-    for k in 0..MOST_REQUESTS {
-        let map = Numbers::with_hasher(memory, LowHashBuilder);
-        let mut share = map.share(&rt)?;
-        memory.refuse_at(k);
-        let seen = insert_once(&rt, &map, &mut share, 7);
-        let refused = memory.refused();
-        memory.refuse_nothing();
-        if !refused {
-            same_at(
-                &rt,
-                k,
-                (k > 0, seen),
-                (true, (Some(KeptReply::Value(None)), 1)),
-            );
-            return Ok(());
-        }
-        same_at(&rt, k, seen, (None, 0));
-        let fault = end(map, memory, share)?;
-        same_at(&rt, k, fault, Some(0));
-    }
-    Err(Fail::from("it makes fewer requests"))
+// A list of one share.
+fn list_of(rt: &impl Abort, memory: Memory, share: NumberShare) -> Vec<NumberShare, Memory> {
+    Vec::from_array(memory, [share]).expect(rt, "memory for the list")
 }
 
-// How many calls the history of a map has that ends with one share; none where it does not end.
-fn end(map: Numbers, memory: Memory, share: NumberShare) -> Result<Option<usize>, AllocError> {
-    match map.close(vec![in memory; share]?) {
-        Ok(closed) => Ok(Some(closed.history.len())),
-        Err(_) => Ok(None),
+// How many calls the history of a map has that ends with these shares; none where it does not end.
+fn end(map: Numbers, shares: Vec<NumberShare, Memory>) -> Option<usize> {
+    match map.close(shares) {
+        Ok(closed) => Some(closed.history.len()),
+        Err(_) => None,
     }
 }
 
+// Inserts into a new map with the request numbered k refused, and answers whether that request was made.
+fn insertion_is_refused<R: Wait + Abort>(rt: &R, memory: Memory, k: u64) -> bool {
+    let map = Numbers::with_hasher(memory, LowHashBuilder);
+    let mut share = share_of(rt, &map);
+    memory.refuse_at(k);
+    let seen = insert_once(rt, &map, &mut share, 7);
+    let refused = memory.refused();
+    memory.refuse_nothing();
+    let (reply, calls) = if refused {
+        (None, 0)
+    } else {
+        (Some(KeptReply::Value(None)), 1)
+    };
+    same_at(rt, k, seen, (reply, calls));
+    same_at(rt, k, end(map, list_of(rt, memory, share)), Some(calls));
+    refused
+}
+
 #[test]
-fn end_with_an_honest_share(rt: HostRuntime) -> Result<(), Fail> {
-    let memory = Metered::leaked(rt.alloc())?;
+fn insertion_of_a_first_pair(rt: HostRuntime) {
+    let memory = Metered::leaked(rt.alloc()).expect(&rt, "memory for the allocator");
     for k in 0..MOST_REQUESTS {
-        let (map, share) = map_with_share(&rt, memory)?;
-        let shares = vec![in memory; share]?;
-        memory.refuse_at(k);
-        let fault = map.close(shares).err();
-        let refused = memory.refused();
-        memory.refuse_nothing();
-        let wanted = if refused {
-            Some(CloseFault::NoMemory)
-        } else {
-            None
-        };
-        same_at(&rt, k, (fault, memory.blocks()), (wanted, 0));
-        if !refused {
+        if !insertion_is_refused(&rt, memory, k) {
             same_at(&rt, k, k > 0, true);
-            return Ok(());
+            return;
         }
     }
-    Err(Fail::from("it makes fewer requests"))
+    panic!(rt; "it makes fewer requests");
+}
+
+// Ends a map of one call with the request numbered k refused, and answers whether that request was made.
+fn end_is_refused<R: Wait + Abort>(rt: &R, memory: Memory, k: u64) -> bool {
+    let (map, share) = map_with_share(rt, memory);
+    let shares = list_of(rt, memory, share);
+    memory.refuse_at(k);
+    let fault = map.close(shares).err();
+    let refused = memory.refused();
+    memory.refuse_nothing();
+    let wanted = if refused {
+        Some(CloseFault::NoMemory)
+    } else {
+        None
+    };
+    same_at(rt, k, (fault, memory.blocks()), (wanted, 0));
+    refused
 }
 
 #[test]
-fn a_share_is_refused(rt: HostRuntime) -> Result<(), Fail> {
-    let memory = Metered::leaked(rt.alloc())?;
+fn end_with_an_honest_share(rt: HostRuntime) {
+    let memory = Metered::leaked(rt.alloc()).expect(&rt, "memory for the allocator");
+    for k in 0..MOST_REQUESTS {
+        if !end_is_refused(&rt, memory, k) {
+            same_at(&rt, k, k > 0, true);
+            return;
+        }
+    }
+    panic!(rt; "it makes fewer requests");
+}
+
+#[test]
+fn a_share_is_refused(rt: HostRuntime) {
+    let memory = Metered::leaked(rt.alloc()).expect(&rt, "memory for the allocator");
     let map = Numbers::with_hasher(memory, LowHashBuilder);
     memory.refuse_from(0);
     let none = map.share(&rt).is_err();
     memory.refuse_nothing();
-    let number = map.share(&rt)?.number();
-    same_at(&rt, 0, (none, number), (true, 0));
-    Ok(())
+    same_at(&rt, 0, (none, share_of(&rt, &map).number()), (true, 0));
 }

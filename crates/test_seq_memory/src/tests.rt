@@ -12,10 +12,10 @@ use flurry_model::hash::{KeyHasher, LowHashBuilder};
 use flurry_seq::SeqMap;
 use metered_alloc::Metered;
 use std::alloc::Global;
+use std::collections::VecDeque;
 use std::fmt::Debug;
 use std::process::Abort;
 use std::sync::Arc;
-use std::test::Fail;
 
 type Memory = &'static Metered<Global>;
 
@@ -42,18 +42,23 @@ trait Refused {
     fn once(&self, rt: &impl Abort, memory: Memory, k: u64) -> bool;
 }
 
+// An allocator that is told what to refuse.
+fn metered(rt: &impl Abort, alloc: Global) -> Memory {
+    Metered::leaked(alloc).expect(rt, "memory for the allocator")
+}
+
 // Refuses each request of a call in turn. It makes at least one, and each block comes back.
-fn refuse_each<C: Refused>(rt: &impl Abort, alloc: Global, call: &C) -> Result<(), Fail> {
-    let memory = Metered::leaked(alloc)?;
+fn refuse_each<C: Refused>(rt: &impl Abort, alloc: Global, call: &C) {
+    let memory = metered(rt, alloc);
     for k in 0..MOST_REQUESTS {
         let refused = call.once(rt, memory, k);
         same_at(rt, k, memory.blocks(), 0);
         if !refused {
             same(rt, k > 0, true);
-            return Ok(());
+            return;
         }
     }
-    Err(Fail::from("it makes fewer requests"))
+    panic!(rt; "it makes fewer requests");
 }
 
 // Inserts an absent key.
@@ -73,17 +78,36 @@ fn map_of(rt: &impl Abort, memory: Memory, count: u64) -> NumberMap<LowHashBuild
 
 // The number in a value that a call lent.
 fn lent(value: Option<&Arc<u64, Memory>>) -> Option<u64> {
-    value.map(|value| **value)
+    match value {
+        Some(value) => Some(**value),
+        None => None,
+    }
 }
 
 // The number in a value that a call handed out.
 fn taken(value: Option<Arc<u64, Memory>>) -> Option<u64> {
-    value.map(|value| *value)
+    match value {
+        Some(value) => Some(*value),
+        None => None,
+    }
 }
 
 // The number at a key.
 fn number_at<S: KeyHasher<u64>>(map: &NumberMap<S>, key: u64) -> Option<u64> {
     lent(map.get(&key))
+}
+
+// Calls as values, in their order.
+fn queue_of<T: Drop, const N: usize>(
+    rt: &impl Abort,
+    memory: Memory,
+    calls: [T; N],
+) -> VecDeque<T, Memory> {
+    let mut queue = VecDeque::new(memory);
+    for call in Vec::from_array(memory, calls).expect(rt, "memory for the list") {
+        queue.push_back(call).expect(rt, "memory for the call");
+    }
+    queue
 }
 
 // How many bins and pairs there are.

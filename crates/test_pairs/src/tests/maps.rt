@@ -8,7 +8,6 @@ use flurry_pairs::{FromPairsError, SortedPairs};
 use flurry_seq::SeqMap;
 use std::alloc::AllocError;
 use std::process::Abort;
-use std::test::Fail;
 
 // That the clones of numbers equal them is known here with no proof.
 fn listed(map: &SeqMap<u64, u64, LowHashBuilder>) -> Result<SortedPairs<u64, u64>, AllocError>
@@ -70,11 +69,15 @@ fn any_order_is_read(rt: HostRuntime) {
     same(&rt, map == map_of(&rt, [(0, 0), (1, 10), (2, 20)]), true);
 }
 
+// Sees to the text of a fault.
+fn prints(rt: &(impl Abort + AllocGlobal), fault: FromPairsError, wanted: &str) {
+    let text = format!(in rt.alloc(); "{fault}").expect(rt, "memory for the text");
+    same(rt, text.as_str(), wanted);
+}
+
 #[test]
-fn what_a_fault_prints(rt: HostRuntime) -> Result<(), Fail> {
-    let position = format!(in rt.alloc(); "{}", FromPairsError::DoubledKey(3))?;
-    assert_eq!(rt; position.as_str(), "the key at position 3 stood before");
-    let memory = format!(in rt.alloc(); "{}", FromPairsError::NoMemory)?;
-    assert_eq!(rt; memory.as_str(), "memory is wanting");
-    Ok(())
+fn what_a_fault_prints(rt: HostRuntime) {
+    let doubled = FromPairsError::DoubledKey(3);
+    prints(&rt, doubled, "the key at position 3 stood before");
+    prints(&rt, FromPairsError::NoMemory, "memory is wanting");
 }

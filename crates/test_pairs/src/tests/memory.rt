@@ -8,9 +8,8 @@ use flurry_pairs::{FromPairsError, SortedItems, SortedPairs};
 use flurry_seq::SeqMap;
 use flurry_set::SeqSet;
 use metered_alloc::Metered;
-use std::alloc::{AllocError, Global};
+use std::alloc::Global;
 use std::process::Abort;
-use std::test::Fail;
 
 type Memory = &'static Metered<Global>;
 
@@ -29,26 +28,27 @@ trait Refused {
 }
 
 // Refuses each request of a call in turn. It makes at least one, and each block comes back.
-fn refuse_each<C: Refused>(rt: &impl Abort, alloc: Global, call: &C) -> Result<(), Fail> {
-    let memory = Metered::leaked(alloc)?;
+fn refuse_each<C: Refused>(rt: &impl Abort, alloc: Global, call: &C) {
+    let memory = Metered::leaked(alloc).expect(rt, "memory for the allocator");
     for k in 0..MOST_REQUESTS {
         let refused = call.once(rt, memory, k);
         same(rt, memory.blocks(), 0);
         if !refused {
             same(rt, k > 0, true);
-            return Ok(());
+            return;
         }
     }
-    Err(Fail::from("it makes fewer requests"))
+    panic!(rt; "it makes fewer requests");
 }
 
 // The pairs of a map, each value a list of its key.
-fn lists(memory: Memory) -> Result<ListMap, AllocError> {
+fn lists(rt: &impl Abort, memory: Memory) -> ListMap {
     let mut map = SeqMap::with_hasher(memory, LowHashBuilder);
     for key in 0..3u64 {
-        map.insert(key, Vec::from_array(memory, [key])?)?;
+        let list = Vec::from_array(memory, [key]).expect(rt, "memory for the list");
+        map.insert(key, list).expect(rt, "memory for the pair");
     }
-    Ok(map)
+    map
 }
 
 // The list of a map of three pairs.
@@ -56,7 +56,7 @@ struct ListsPairs;
 
 impl Refused for ListsPairs {
     fn once(&self, rt: &impl Abort, memory: Memory, k: u64) -> bool {
-        let map = lists(memory).expect(rt, "memory for the map");
+        let map = lists(rt, memory);
         memory.refuse_at(k);
         let count = to_sorted_pairs(&map).ok().map(|list| list.0.len());
         let refused = memory.refused();
@@ -67,8 +67,8 @@ impl Refused for ListsPairs {
 }
 
 #[test]
-fn pairs_of_a_map(rt: HostRuntime) -> Result<(), Fail> {
-    refuse_each(&rt, rt.alloc(), &ListsPairs)
+fn pairs_of_a_map(rt: HostRuntime) {
+    refuse_each(&rt, rt.alloc(), &ListsPairs);
 }
 
 // A map of three pairs.
@@ -95,8 +95,8 @@ impl Refused for MakesMap {
 }
 
 #[test]
-fn a_map_of_pairs(rt: HostRuntime) -> Result<(), Fail> {
-    refuse_each(&rt, rt.alloc(), &MakesMap)
+fn a_map_of_pairs(rt: HostRuntime) {
+    refuse_each(&rt, rt.alloc(), &MakesMap);
 }
 
 // The list of a set of three elements.
@@ -118,8 +118,8 @@ impl Refused for ListsElements {
 }
 
 #[test]
-fn elements_of_a_set(rt: HostRuntime) -> Result<(), Fail> {
-    refuse_each(&rt, rt.alloc(), &ListsElements)
+fn elements_of_a_set(rt: HostRuntime) {
+    refuse_each(&rt, rt.alloc(), &ListsElements);
 }
 
 // A set of two elements, one of which comes twice.
@@ -140,6 +140,6 @@ impl Refused for MakesSet {
 }
 
 #[test]
-fn a_set_of_elements(rt: HostRuntime) -> Result<(), Fail> {
-    refuse_each(&rt, rt.alloc(), &MakesSet)
+fn a_set_of_elements(rt: HostRuntime) {
+    refuse_each(&rt, rt.alloc(), &MakesSet);
 }

@@ -8,7 +8,6 @@ use flurry_pairs::set::{from_items, to_sorted_items};
 use flurry_set::SeqSet;
 use std::alloc::AllocError;
 use std::process::Abort;
-use std::test::Fail;
 
 // That the clones of numbers equal them is known here with no proof.
 fn listed(set: &SeqSet<u64, LowHashBuilder>) -> Result<SortedItems<u64>, AllocError>
@@ -17,13 +16,19 @@ fn listed(set: &SeqSet<u64, LowHashBuilder>) -> Result<SortedItems<u64>, AllocEr
     to_sorted_items(set)
 }
 
+// A list of elements.
+fn list_of<const N: usize>(
+    rt: &(impl Abort + AllocGlobal),
+    elements: [u64; N],
+) -> SortedItems<u64> {
+    SortedItems(Vec::from_array(rt.alloc(), elements).expect(rt, "memory for the list"))
+}
+
 #[test]
-fn an_element_that_comes_twice(rt: HostRuntime) -> Result<(), Fail> {
-    let list = Vec::from_array(rt.alloc(), [2u64, 1, 2])?;
-    let set = from_items(SortedItems(list), LowHashBuilder)?;
+fn an_element_that_comes_twice(rt: HostRuntime) {
+    let made = from_items(list_of(&rt, [2, 1, 2]), LowHashBuilder);
+    let set = made.expect(&rt, "memory for the set");
     same(&rt, set.len(), 2);
-    let list = listed(&set)?;
-    let wanted = Vec::from_array(rt.alloc(), [1u64, 2])?;
-    same(&rt, list, SortedItems(wanted));
-    Ok(())
+    let list = listed(&set).expect(&rt, "memory for the list");
+    same(&rt, list, list_of(&rt, [1, 2]));
 }

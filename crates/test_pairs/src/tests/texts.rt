@@ -5,47 +5,54 @@ use flurry_model::hash::LowHashBuilder;
 use flurry_pairs::map::{from_pairs, to_sorted_pairs};
 use flurry_pairs::set::{from_items, to_sorted_items};
 use flurry_pairs::{FromPairsError, SortedItems, SortedPairs};
+use flurry_seq::SeqMap;
+use flurry_set::SeqSet;
 use std::alloc::Global;
 use std::process::Abort;
-use std::test::Fail;
 
 // Whether a text is no list of pairs of numbers.
 fn is_no_list(alloc: Global, text: &str) -> bool {
     serde_json::from_str::<SortedPairs<u64, u64>>(alloc, text).is_err()
 }
 
-#[test]
-fn the_text_of_a_map_ascends(rt: HostRuntime) -> Result<(), Fail> {
-    let list = to_sorted_pairs(&map_of(&rt, [(1, 3), (0, 4)]))?;
-    let text = serde_json::to_string(rt.alloc(), &list).expect(&rt, "a text");
-    assert_eq!(rt; text.as_str(), "[[0,4],[1,3]]");
-    Ok(())
+// The list of a map's pairs.
+fn listed(rt: &impl Abort, map: &SeqMap<u64, u64, LowHashBuilder>) -> SortedPairs<u64, u64> {
+    to_sorted_pairs(map).expect(rt, "memory for the list")
+}
+
+// The text of a list.
+fn text_of(rt: &impl Abort, alloc: Global, list: &SortedPairs<u64, u64>) -> String {
+    serde_json::to_string(alloc, list).expect(rt, "a text")
+}
+
+// The list of a text.
+fn read(rt: &impl Abort, alloc: Global, text: &str) -> SortedPairs<u64, u64> {
+    serde_json::from_str(alloc, text).expect(rt, "a list")
 }
 
 #[test]
-fn a_map_through_text(rt: HostRuntime) -> Result<(), Fail> {
+fn the_text_of_a_map_ascends(rt: HostRuntime) {
+    let list = listed(&rt, &map_of(&rt, [(1, 3), (0, 4)]));
+    let text = text_of(&rt, rt.alloc(), &list);
+    same(&rt, text.as_str(), "[[0,4],[1,3]]");
+}
+
+#[test]
+fn a_map_through_text(rt: HostRuntime) {
     let map = five(&rt);
-    let list = to_sorted_pairs(&map)?;
-    let text = serde_json::to_string(rt.alloc(), &list).expect(&rt, "a text");
-    let read: SortedPairs<u64, u64> = serde_json::from_str(rt.alloc(), text.as_str()).expect(
-        &rt, "a list",
-    );
-    same(&rt, &read, &list);
-    let back = from_pairs(read, LowHashBuilder).expect(&rt, "memory for the map");
+    let list = listed(&rt, &map);
+    let text = text_of(&rt, rt.alloc(), &list);
+    let again = read(&rt, rt.alloc(), text.as_str());
+    same(&rt, &again, &list);
+    let back = from_pairs(again, LowHashBuilder).expect(&rt, "memory for the map");
     same(&rt, back == map, true);
-    Ok(())
 }
 
 #[test]
 fn a_text_with_a_key_twice(rt: HostRuntime) {
-    let read: SortedPairs<u64, u64> = serde_json::from_str(rt.alloc(), "[[1,2],[1,3]]").expect(
-        &rt, "a list",
-    );
-    same(
-        &rt,
-        from_pairs(read, LowHashBuilder).err(),
-        Some(FromPairsError::DoubledKey(1)),
-    );
+    let list = read(&rt, rt.alloc(), "[[1,2],[1,3]]");
+    let fault = from_pairs(list, LowHashBuilder).err();
+    same(&rt, fault, Some(FromPairsError::DoubledKey(1)));
 }
 
 #[test]
@@ -57,13 +64,18 @@ fn malformed_texts(rt: HostRuntime) {
     same(&rt, is_no_list(rt.alloc(), "{\"0\":4}"), true);
 }
 
+// The set of a text.
+fn read_set(rt: &impl Abort, alloc: Global, text: &str) -> SeqSet<u64, LowHashBuilder> {
+    let read: SortedItems<u64> = serde_json::from_str(alloc, text).expect(rt, "a list");
+    from_items(read, LowHashBuilder).expect(rt, "memory for the set")
+}
+
 #[test]
-fn a_set_through_text(rt: HostRuntime) -> Result<(), Fail> {
-    let read: SortedItems<u64> = serde_json::from_str(rt.alloc(), "[2,1,2]").expect(&rt, "a list");
-    let set = from_items(read, LowHashBuilder)?;
-    let text = serde_json::to_string(rt.alloc(), &to_sorted_items(&set)?).expect(&rt, "a text");
-    assert_eq!(rt; text.as_str(), "[1,2]");
-    Ok(())
+fn a_set_through_text(rt: HostRuntime) {
+    let set = read_set(&rt, rt.alloc(), "[2,1,2]");
+    let list = to_sorted_items(&set).expect(&rt, "memory for the list");
+    let text = serde_json::to_string(rt.alloc(), &list).expect(&rt, "a text");
+    same(&rt, text.as_str(), "[1,2]");
 }
 
 // The same, read from a value and not from a text.

@@ -1,11 +1,11 @@
 //! Two threads with a share each.
 
-use super::{fault_of, same};
+use super::{NumberShare, Numbers, ends, same, share_of};
 use flurry_model::hash::{KeyHasher, LowHashBuilder};
 use flurry_recorded::{CloseFault, KeptReply, Recorded, Share};
 use std::alloc::Allocator;
+use std::process::Abort;
 use std::sync::Wait;
-use std::test::Fail;
 use std::thread;
 use std::thread::Threads;
 
@@ -45,53 +45,40 @@ fn make_calls_in_threads<
     )
 }
 
-// The share of a thread whose calls were all made.
-fn share_of<A: Allocator>(share: Option<Share<u64, u64, A>>) -> Result<Share<u64, u64, A>, Fail> {
-    match share {
-        Some(share) => Ok(share),
-        None => Err(Fail::from("a call was refused")),
-    }
+// A map's two shares, each with the calls of a thread.
+fn shares_of_threads<R: Threads + Wait + Sync + Abort>(
+    rt: &R,
+    map: &Numbers,
+) -> (NumberShare, NumberShare) {
+    let first = share_of(rt, map);
+    let second = share_of(rt, map);
+    let (first, second) = make_calls_in_threads(rt, map, first, second);
+    (
+        first.expect(rt, "no call was refused"),
+        second.expect(rt, "no call was refused"),
+    )
 }
 
 #[test]
-fn honest_shares_close(rt: HostRuntime) -> Result<(), Fail> {
+fn honest_shares_close(rt: HostRuntime) {
     let map = Recorded::with_hasher(rt.alloc(), LowHashBuilder);
-    let first = map.share(&rt)?;
-    let second = map.share(&rt)?;
-    let (first, second) = make_calls_in_threads(&rt, &map, first, second);
-    let first = share_of(first)?;
-    let second = share_of(second)?;
-    let Ok(closed) = map.close(vec![in rt.alloc(); first, second]?) else {
-        return Err(Fail::from("the shares do not fit"));
-    };
-    same(&rt, closed.history.len(), 200);
-    same(&rt, closed.map.len(), 8);
-    Ok(())
+    let (first, second) = shares_of_threads(&rt, &map);
+    ends(&rt, map, [first, second], Ok((200, 8, Some(47))));
 }
 
 #[test]
-fn a_share_of_a_thread_is_missing(rt: HostRuntime) -> Result<(), Fail> {
+fn a_share_of_a_thread_is_missing(rt: HostRuntime) {
     let map = Recorded::with_hasher(rt.alloc(), LowHashBuilder);
-    let first = map.share(&rt)?;
-    let second = map.share(&rt)?;
-    let (first, _) = make_calls_in_threads(&rt, &map, first, second);
-    let fault = fault_of(map, vec![in rt.alloc(); share_of(first)?]?);
-    same(&rt, fault, Some(CloseFault::SharesDiffer));
-    Ok(())
+    let (first, _) = shares_of_threads(&rt, &map);
+    ends(&rt, map, [first], Err(CloseFault::SharesDiffer));
 }
 
 #[test]
-fn another_reply_to_a_thread(rt: HostRuntime) -> Result<(), Fail> {
+fn another_reply_to_a_thread(rt: HostRuntime) {
     let map = Recorded::with_hasher(rt.alloc(), LowHashBuilder);
-    let first = map.share(&rt)?;
-    let second = map.share(&rt)?;
-    let (first, second) = make_calls_in_threads(&rt, &map, first, second);
-    let mut first = share_of(first)?;
-    let second = share_of(second)?;
+    let (mut first, second) = shares_of_threads(&rt, &map);
     let place = first.receipts().get(40).map_or(0, |receipt| receipt.place);
     let damaged = first.replace_receipt(40, place, KeptReply::Contains(true));
     same(&rt, damaged, true);
-    let fault = fault_of(map, vec![in rt.alloc(); first, second]?);
-    same(&rt, fault, Some(CloseFault::ReceiptsDiffer));
-    Ok(())
+    ends(&rt, map, [first, second], Err(CloseFault::ReceiptsDiffer));
 }

@@ -1,12 +1,11 @@
 //! `compute_if_present`. By the bound on its function, it calls it at most once.
 
 use super::{
-    Memory, NumberMap, Refused, adds, map_of, number_at, refuse_each, same, same_at, size_of, taken,
+    Memory, NumberMap, Refused, adds, map_of, metered, number_at, refuse_each, same, same_at,
+    size_of, taken,
 };
 use flurry_model::hash::LowHashBuilder;
-use metered_alloc::Metered;
 use std::process::Abort;
-use std::test::Fail;
 
 // Computes this value at a key: whether the function was called, and the number that was answered, or nothing where it failed.
 fn compute(
@@ -26,8 +25,8 @@ fn compute(
 }
 
 #[test]
-fn compute_at_an_absent_key(rt: HostRuntime) -> Result<(), Fail> {
-    let memory = Metered::leaked(rt.alloc())?;
+fn compute_at_an_absent_key(rt: HostRuntime) {
+    let memory = metered(&rt, rt.alloc());
     let mut map = map_of(&rt, memory, 2);
     memory.refuse_from(0);
     let seen = compute(&mut map, 7, Some(9));
@@ -35,7 +34,6 @@ fn compute_at_an_absent_key(rt: HostRuntime) -> Result<(), Fail> {
     memory.refuse_nothing();
     same(&rt, (asked, seen), (0, (false, Some(None))));
     same(&rt, map.len(), 2);
-    Ok(())
 }
 
 // The value 9 at the key 7, whose value is 0.
@@ -67,13 +65,13 @@ impl Refused for ComputesNine {
 }
 
 #[test]
-fn compute_of_a_value(rt: HostRuntime) -> Result<(), Fail> {
-    refuse_each(&rt, rt.alloc(), &ComputesNine)
+fn compute_of_a_value(rt: HostRuntime) {
+    refuse_each(&rt, rt.alloc(), &ComputesNine);
 }
 
 #[test]
-fn compute_of_none(rt: HostRuntime) -> Result<(), Fail> {
-    let memory = Metered::leaked(rt.alloc())?;
+fn compute_of_none(rt: HostRuntime) {
+    let memory = metered(&rt, rt.alloc());
     let mut map = map_of(&rt, memory, 2);
     memory.refuse_from(0);
     let seen = compute(&mut map, 1, None);
@@ -82,5 +80,4 @@ fn compute_of_none(rt: HostRuntime) -> Result<(), Fail> {
     same(&rt, (asked, seen), (0, (true, Some(None))));
     same(&rt, size_of(&map), (16, 1));
     same(&rt, number_at(&map, 1), None);
-    Ok(())
 }

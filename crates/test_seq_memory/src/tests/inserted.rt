@@ -1,15 +1,15 @@
 //! Insertions.
 
 use super::{
-    Memory, NumberMap, Refused, map_of, number_at, refuse_each, same, same_at, size_of, taken,
+    Memory, NumberMap, Refused, map_of, metered, number_at, refuse_each, same, same_at, size_of,
+    taken,
 };
 use flurry_bins::bin::Node;
 use flurry_model::hash::LowHashBuilder;
 use flurry_model::reply::KeptReply;
-use metered_alloc::Metered;
+use std::alloc::AllocError;
 use std::process::Abort;
 use std::sync::Arc;
-use std::test::Fail;
 
 // An insertion of a key and a value.
 #[derive(Clone, Copy)]
@@ -20,38 +20,77 @@ enum Write {
     InsertNode(u64, u64),
 }
 
-// Inserts a key and a value that have owners, and answers the old value; nothing where memory for one of them is wanting too.
-fn insert_shared(map: &mut NumberMap<LowHashBuilder>, key: u64, value: u64) -> Option<Option<u64>> {
+// A key and a value that have owners.
+fn owners(
+    memory: Memory,
+    key: u64,
+    value: u64,
+) -> Result<(Arc<u64, Memory>, Arc<u64, Memory>), AllocError> {
+    let key = Arc::new(memory, key)?;
+    let value = Arc::new(memory, value)?;
+    Ok((key, value))
+}
+
+// Inserts a key and a value that have owners, and answers the old value. It is refused where memory for one of them is wanting too.
+fn insert_shared(
+    map: &mut NumberMap<LowHashBuilder>,
+    key: u64,
+    value: u64,
+) -> Result<Option<u64>, AllocError> {
     let memory = *map.allocator();
-    let key = Arc::new(memory, key).ok()?;
-    let value = Arc::new(memory, value).ok()?;
-    Some(taken(map.insert_shared(key, value).ok()?))
+    let (key, value) = owners(memory, key, value)?;
+    let old = map.insert_shared(key, value)?;
+    Ok(taken(old))
 }
 
 // The same by a node, which is made under another hash.
-fn insert_node(map: &mut NumberMap<LowHashBuilder>, key: u64, value: u64) -> Option<Option<u64>> {
-    let node = Node::of_pair(*map.allocator(), 77, key, value, 0).ok()?;
-    Some(taken(map.insert_node(node).ok()?))
+fn insert_node(
+    map: &mut NumberMap<LowHashBuilder>,
+    key: u64,
+    value: u64,
+) -> Result<Option<u64>, AllocError> {
+    let node = Node::of_pair(*map.allocator(), 77, key, value, 0)?;
+    let old = map.insert_node(node)?;
+    Ok(taken(old))
+}
+
+// Inserts a key and a value, and answers the old value.
+fn insert(
+    map: &mut NumberMap<LowHashBuilder>,
+    key: u64,
+    value: u64,
+) -> Result<Option<u64>, AllocError> {
+    let old = map.insert(key, value)?;
+    Ok(taken(old))
+}
+
+// What an insertion at absent keys alone replies, or nothing where it is refused.
+fn try_insert(
+    map: &mut NumberMap<LowHashBuilder>,
+    key: u64,
+    value: u64,
+) -> Option<KeptReply<u64, u64>> {
+    match map.try_insert(key, value) {
+        Ok(Ok(new)) => Some(KeptReply::New(*new)),
+        Ok(Err(error)) => Some(KeptReply::Exists {
+            current: *error.current,
+            not_inserted: error.not_inserted,
+        }),
+        Err(_) => None,
+    }
 }
 
 // What it replies, or nothing where it is refused.
 fn reply_of(map: &mut NumberMap<LowHashBuilder>, write: Write) -> Option<KeptReply<u64, u64>> {
-    match write {
-        Write::Insert(key, value) => {
-            let old = map.insert(key, value).ok()?;
-            Some(KeptReply::Value(taken(old)))
-        }
-        Write::TryInsert(key, value) => match map.try_insert(key, value).ok()? {
-            Ok(new) => Some(KeptReply::New(*new)),
-            Err(error) => Some(KeptReply::Exists {
-                current: *error.current,
-                not_inserted: error.not_inserted,
-            }),
-        },
-        Write::InsertShared(key, value) => {
-            Some(KeptReply::Value(insert_shared(map, key, value)?))
-        }
-        Write::InsertNode(key, value) => Some(KeptReply::Value(insert_node(map, key, value)?)),
+    let answer = match write {
+        Write::Insert(key, value) => insert(map, key, value),
+        Write::TryInsert(key, value) => return try_insert(map, key, value),
+        Write::InsertShared(key, value) => insert_shared(map, key, value),
+        Write::InsertNode(key, value) => insert_node(map, key, value),
+    };
+    match answer {
+        Ok(old) => Some(KeptReply::Value(old)),
+        Err(_) => None,
     }
 }
 
@@ -100,7 +139,7 @@ impl Refused for Inserts {
 }
 
 #[test]
-fn insert_into_a_new_map(rt: HostRuntime) -> Result<(), Fail> {
+fn insert_into_a_new_map(rt: HostRuntime) {
     let call = Inserts {
         keys: 0,
         write: Write::Insert(1, 1),
@@ -108,11 +147,11 @@ fn insert_into_a_new_map(rt: HostRuntime) -> Result<(), Fail> {
         reply: KeptReply::Value(None),
         written: ((16, 1), [None, Some(1), None]),
     };
-    refuse_each(&rt, rt.alloc(), &call)
+    refuse_each(&rt, rt.alloc(), &call);
 }
 
 #[test]
-fn insert_of_a_present_key(rt: HostRuntime) -> Result<(), Fail> {
+fn insert_of_a_present_key(rt: HostRuntime) {
     let call = Inserts {
         keys: 2,
         write: Write::Insert(1, 5),
@@ -120,11 +159,11 @@ fn insert_of_a_present_key(rt: HostRuntime) -> Result<(), Fail> {
         reply: KeptReply::Value(Some(1)),
         written: ((16, 2), [Some(0), Some(5), None]),
     };
-    refuse_each(&rt, rt.alloc(), &call)
+    refuse_each(&rt, rt.alloc(), &call);
 }
 
 #[test]
-fn insert_into_a_table(rt: HostRuntime) -> Result<(), Fail> {
+fn insert_into_a_table(rt: HostRuntime) {
     let call = Inserts {
         keys: 2,
         write: Write::Insert(2, 5),
@@ -132,11 +171,11 @@ fn insert_into_a_table(rt: HostRuntime) -> Result<(), Fail> {
         reply: KeptReply::Value(None),
         written: ((16, 3), [Some(0), Some(1), Some(5)]),
     };
-    refuse_each(&rt, rt.alloc(), &call)
+    refuse_each(&rt, rt.alloc(), &call);
 }
 
 #[test]
-fn insert_shared_into_a_new_map(rt: HostRuntime) -> Result<(), Fail> {
+fn insert_shared_into_a_new_map(rt: HostRuntime) {
     let call = Inserts {
         keys: 0,
         write: Write::InsertShared(1, 5),
@@ -144,11 +183,11 @@ fn insert_shared_into_a_new_map(rt: HostRuntime) -> Result<(), Fail> {
         reply: KeptReply::Value(None),
         written: ((16, 1), [None, Some(5), None]),
     };
-    refuse_each(&rt, rt.alloc(), &call)
+    refuse_each(&rt, rt.alloc(), &call);
 }
 
 #[test]
-fn insert_node_into_a_new_map(rt: HostRuntime) -> Result<(), Fail> {
+fn insert_node_into_a_new_map(rt: HostRuntime) {
     let call = Inserts {
         keys: 0,
         write: Write::InsertNode(1, 5),
@@ -156,11 +195,11 @@ fn insert_node_into_a_new_map(rt: HostRuntime) -> Result<(), Fail> {
         reply: KeptReply::Value(None),
         written: ((16, 1), [None, Some(5), None]),
     };
-    refuse_each(&rt, rt.alloc(), &call)
+    refuse_each(&rt, rt.alloc(), &call);
 }
 
 #[test]
-fn try_insert_of_a_new_key(rt: HostRuntime) -> Result<(), Fail> {
+fn try_insert_of_a_new_key(rt: HostRuntime) {
     let call = Inserts {
         keys: 0,
         write: Write::TryInsert(1, 5),
@@ -168,13 +207,13 @@ fn try_insert_of_a_new_key(rt: HostRuntime) -> Result<(), Fail> {
         reply: KeptReply::New(5),
         written: ((16, 1), [None, Some(5), None]),
     };
-    refuse_each(&rt, rt.alloc(), &call)
+    refuse_each(&rt, rt.alloc(), &call);
 }
 
 // It takes a further owner of the value that stands, and no memory.
 #[test]
-fn try_insert_of_a_present_key(rt: HostRuntime) -> Result<(), Fail> {
-    let memory = Metered::leaked(rt.alloc())?;
+fn try_insert_of_a_present_key(rt: HostRuntime) {
+    let memory = metered(&rt, rt.alloc());
     let mut map = map_of(&rt, memory, 2);
     memory.refuse_from(0);
     let reply = reply_of(&mut map, Write::TryInsert(1, 5));
@@ -185,5 +224,4 @@ fn try_insert_of_a_present_key(rt: HostRuntime) -> Result<(), Fail> {
         not_inserted: 5,
     };
     same(&rt, (asked, reply), (0, Some(exists)));
-    Ok(())
 }

@@ -1,12 +1,12 @@
 //! Lists of pairs and of calls.
 
-use super::{Memory, NumberMap, Refused, map_of, number_at, refuse_each, same, same_at, size_of};
+use super::{
+    Memory, NumberMap, Refused, map_of, number_at, queue_of, refuse_each, same, same_at, size_of,
+};
 use flurry_model::hash::LowHashBuilder;
 use flurry_seq::SeqMap;
 use flurry_seq::calls::Call;
-use std::collections::VecDeque;
 use std::process::Abort;
-use std::test::Fail;
 
 fn three_pairs(rt: &impl Abort, memory: Memory) -> Vec<(u64, u64), Memory> {
     Vec::from_array(memory, [(5, 5), (6, 6), (7, 7)]).expect(rt, "memory for the list")
@@ -59,8 +59,8 @@ impl Refused for Extends {
 }
 
 #[test]
-fn extend(rt: HostRuntime) -> Result<(), Fail> {
-    refuse_each(&rt, rt.alloc(), &Extends)
+fn extend(rt: HostRuntime) {
+    refuse_each(&rt, rt.alloc(), &Extends);
 }
 
 // The list of three pairs put into a new map. Room for them is asked for as 8 bins, and these are doubled once.
@@ -81,8 +81,8 @@ impl Refused for ExtendsNew {
 }
 
 #[test]
-fn extend_of_a_new_map(rt: HostRuntime) -> Result<(), Fail> {
-    refuse_each(&rt, rt.alloc(), &ExtendsNew)
+fn extend_of_a_new_map(rt: HostRuntime) {
+    refuse_each(&rt, rt.alloc(), &ExtendsNew);
 }
 
 // A map made of the list of three pairs.
@@ -108,8 +108,8 @@ impl Refused for MakesOfList {
 }
 
 #[test]
-fn from_list(rt: HostRuntime) -> Result<(), Fail> {
-    refuse_each(&rt, rt.alloc(), &MakesOfList)
+fn from_list(rt: HostRuntime) {
+    refuse_each(&rt, rt.alloc(), &MakesOfList);
 }
 
 // What the calls pass to `compute_if_present`.
@@ -128,20 +128,21 @@ struct Runs;
 impl Refused for Runs {
     fn once(&self, rt: &impl Abort, memory: Memory, k: u64) -> bool {
         let mut map = map_of(rt, memory, 0);
-        let mut calls = VecDeque::new(memory);
-        for call in [
-            Call::Insert(5, 5),
-            Call::Insert(6, 6),
-            Call::ComputeIfPresent(6, unchanged),
-            Call::Retain(is_own_value),
-            Call::Insert(7, 7),
-            Call::Pairs,
-            Call::Keys,
-            Call::Values,
-            Call::TryClone,
-        ] {
-            calls.push_back(call).expect(rt, "memory for the call");
-        }
+        let calls = queue_of(
+            rt,
+            memory,
+            [
+                Call::Insert(5, 5),
+                Call::Insert(6, 6),
+                Call::ComputeIfPresent(6, unchanged),
+                Call::Retain(is_own_value),
+                Call::Insert(7, 7),
+                Call::Pairs,
+                Call::Keys,
+                Call::Values,
+                Call::TryClone,
+            ],
+        );
         memory.refuse_at(k);
         let failed = map.run(memory, calls).is_err();
         let refused = memory.refused();
@@ -154,6 +155,6 @@ impl Refused for Runs {
 }
 
 #[test]
-fn calls_in_their_order(rt: HostRuntime) -> Result<(), Fail> {
-    refuse_each(&rt, rt.alloc(), &Runs)
+fn calls_in_their_order(rt: HostRuntime) {
+    refuse_each(&rt, rt.alloc(), &Runs);
 }

@@ -1,11 +1,9 @@
 //! Calls that take no memory.
 
-use super::{Memory, NumberMap, lent, map_of, same, size_of};
+use super::{Memory, NumberMap, lent, map_of, metered, same, size_of};
 use flurry_bins::bin::{Ordered, Shape};
 use flurry_model::hash::LowHashBuilder;
-use metered_alloc::Metered;
 use std::process::Abort;
-use std::test::Fail;
 
 // Looks at the map of nine pairs.
 fn reads(rt: &impl Abort, map: &NumberMap<LowHashBuilder>) {
@@ -43,8 +41,8 @@ fn gives_its_bins(rt: &impl Abort, map: NumberMap<LowHashBuilder>) {
 }
 
 #[test]
-fn calls_that_take_no_memory(rt: HostRuntime) -> Result<(), Fail> {
-    let memory: Memory = Metered::leaked(rt.alloc())?;
+fn calls_that_take_no_memory(rt: HostRuntime) {
+    let memory = metered(&rt, rt.alloc());
     let mut map = map_of(&rt, memory, 9);
     let other = map_of(&rt, memory, 9);
     memory.refuse_from(0);
@@ -53,5 +51,4 @@ fn calls_that_take_no_memory(rt: HostRuntime) -> Result<(), Fail> {
     removes(&rt, &mut map);
     gives_its_bins(&rt, other);
     same(&rt, memory.asked(), 0);
-    Ok(())
 }

@@ -1,14 +1,11 @@
 //! The calls of a set that take memory.
 
-use super::{Memory, Refused, refuse_each, same, same_at};
+use super::{Memory, Refused, metered, queue_of, refuse_each, same, same_at};
 use flurry_bins::bin::Node;
 use flurry_model::hash::LowHashBuilder;
 use flurry_set::SeqSet;
 use flurry_set::set_calls::SetCall;
-use metered_alloc::Metered;
-use std::collections::VecDeque;
 use std::process::Abort;
-use std::test::Fail;
 
 type Set = SeqSet<u64, LowHashBuilder, Memory>;
 
@@ -60,14 +57,16 @@ impl Refused for InsertsOne {
 }
 
 #[test]
-fn set_insert(rt: HostRuntime) -> Result<(), Fail> {
-    refuse_each(&rt, rt.alloc(), &InsertsOne)
+fn set_insert(rt: HostRuntime) {
+    refuse_each(&rt, rt.alloc(), &InsertsOne);
 }
 
 // A node of the element 1 put into a set: whether its class is new, or nothing where memory for the node or for a table is wanting.
 fn put_node(set: &mut Set) -> Option<bool> {
-    let node = Node::of_pair(*set.allocator(), 77, 1u64, (), 0).ok()?;
-    set.insert_node(node).ok()
+    match Node::of_pair(*set.allocator(), 77, 1u64, (), 0) {
+        Ok(node) => set.insert_node(node).ok(),
+        Err(_) => None,
+    }
 }
 
 // A node put into a new set, and again where it is refused.
@@ -91,8 +90,8 @@ impl Refused for InsertsNode {
 }
 
 #[test]
-fn set_insert_node(rt: HostRuntime) -> Result<(), Fail> {
-    refuse_each(&rt, rt.alloc(), &InsertsNode)
+fn set_insert_node(rt: HostRuntime) {
+    refuse_each(&rt, rt.alloc(), &InsertsNode);
 }
 
 // The stored element of a class that is new. A second one asks for nothing.
@@ -116,23 +115,29 @@ impl Refused for GetsOrInserts {
 }
 
 #[test]
-fn set_get_or_insert(rt: HostRuntime) -> Result<(), Fail> {
-    refuse_each(&rt, rt.alloc(), &GetsOrInserts)
+fn set_get_or_insert(rt: HostRuntime) {
+    refuse_each(&rt, rt.alloc(), &GetsOrInserts);
+}
+
+// A set with room for so many elements: whether it is empty, or nothing where it is refused.
+fn is_empty_for(memory: Memory, capacity: usize) -> Option<bool> {
+    let set: Result<Set, _> = SeqSet::with_capacity_and_hasher(memory, capacity, LowHashBuilder);
+    match set {
+        Ok(set) => Some(set.is_empty()),
+        Err(_) => None,
+    }
 }
 
 #[test]
-fn set_with_capacity(rt: HostRuntime) -> Result<(), Fail> {
-    let memory = Metered::leaked(rt.alloc())?;
+fn set_with_capacity(rt: HostRuntime) {
+    let memory = metered(&rt, rt.alloc());
     memory.refuse_from(0);
-    let none: Result<Set, _> = SeqSet::with_capacity_and_hasher(memory, 0, LowHashBuilder);
-    assert!(rt; none?.is_empty());
+    same(&rt, is_empty_for(memory, 0), Some(true));
     same(&rt, memory.asked(), 0);
-    let refused: Result<Set, _> = SeqSet::with_capacity_and_hasher(memory, 5, LowHashBuilder);
-    same(&rt, refused.is_err(), true);
+    same(&rt, is_empty_for(memory, 5), None);
     let refused: Result<SeqSet<u64, _, Memory>, _> = SeqSet::with_capacity(memory, 5);
     same(&rt, refused.is_err(), true);
     same(&rt, memory.blocks(), 0);
-    Ok(())
 }
 
 // Room for 32 elements more in a set of one. It asks for 32, for 64 and for 128 bins.
@@ -152,8 +157,8 @@ impl Refused for Reserves {
 }
 
 #[test]
-fn set_reserve(rt: HostRuntime) -> Result<(), Fail> {
-    refuse_each(&rt, rt.alloc(), &Reserves)
+fn set_reserve(rt: HostRuntime) {
+    refuse_each(&rt, rt.alloc(), &Reserves);
 }
 
 // The list of three elements put into a set of two.
@@ -175,8 +180,8 @@ impl Refused for Extends {
 }
 
 #[test]
-fn set_extend(rt: HostRuntime) -> Result<(), Fail> {
-    refuse_each(&rt, rt.alloc(), &Extends)
+fn set_extend(rt: HostRuntime) {
+    refuse_each(&rt, rt.alloc(), &Extends);
 }
 
 // A set made of the list of three elements.
@@ -202,8 +207,8 @@ impl Refused for MakesOfList {
 }
 
 #[test]
-fn set_from_list(rt: HostRuntime) -> Result<(), Fail> {
-    refuse_each(&rt, rt.alloc(), &MakesOfList)
+fn set_from_list(rt: HostRuntime) {
+    refuse_each(&rt, rt.alloc(), &MakesOfList);
 }
 
 // A copy of a set of three elements.
@@ -228,8 +233,8 @@ impl Refused for Copies {
 }
 
 #[test]
-fn set_try_clone(rt: HostRuntime) -> Result<(), Fail> {
-    refuse_each(&rt, rt.alloc(), &Copies)
+fn set_try_clone(rt: HostRuntime) {
+    refuse_each(&rt, rt.alloc(), &Copies);
 }
 
 // What the calls pass to `retain`.
@@ -243,18 +248,19 @@ struct Runs;
 impl Refused for Runs {
     fn once(&self, rt: &impl Abort, memory: Memory, k: u64) -> bool {
         let mut set = set_of(rt, memory, 0);
-        let mut calls = VecDeque::new(memory);
-        for call in [
-            SetCall::Insert(5),
-            SetCall::Get(5),
-            SetCall::Insert(6),
-            SetCall::Retain(is_below_nine),
-            SetCall::Insert(7),
-            SetCall::Elements,
-            SetCall::TryClone,
-        ] {
-            calls.push_back(call).expect(rt, "memory for the call");
-        }
+        let calls = queue_of(
+            rt,
+            memory,
+            [
+                SetCall::Insert(5),
+                SetCall::Get(5),
+                SetCall::Insert(6),
+                SetCall::Retain(is_below_nine),
+                SetCall::Insert(7),
+                SetCall::Elements,
+                SetCall::TryClone,
+            ],
+        );
         memory.refuse_at(k);
         let failed = set.run(memory, calls).is_err();
         let refused = memory.refused();
@@ -267,6 +273,6 @@ impl Refused for Runs {
 }
 
 #[test]
-fn set_calls_in_their_order(rt: HostRuntime) -> Result<(), Fail> {
-    refuse_each(&rt, rt.alloc(), &Runs)
+fn set_calls_in_their_order(rt: HostRuntime) {
+    refuse_each(&rt, rt.alloc(), &Runs);
 }

@@ -1,28 +1,25 @@
 //! First tables and larger ones.
 
 use super::{
-    Memory, NumberMap, Refused, adds, map_of, number_at, refuse_each, same, same_at, size_of, taken,
+    Memory, NumberMap, Refused, adds, map_of, metered, number_at, refuse_each, same, same_at,
+    size_of, taken,
 };
 use flurry_bins::bin::Shape;
 use flurry_model::hash::{KeyHasher, LowHashBuilder, ZeroHashBuilder};
 use flurry_seq::SeqMap;
-use metered_alloc::Metered;
 use std::process::Abort;
-use std::test::Fail;
 
 // A map with room for so many pairs: how many bins and pairs it has, or nothing where it is refused.
 fn size_for(memory: Memory, capacity: usize) -> Option<(usize, usize)> {
-    let map: NumberMap<LowHashBuilder> = SeqMap::with_capacity_and_hasher(
-        memory,
-        capacity,
-        LowHashBuilder,
-    ).ok()?;
-    Some(size_of(&map))
+    match SeqMap::with_capacity_and_hasher(memory, capacity, LowHashBuilder) {
+        Ok(map) => Some(size_of(&map)),
+        Err(_) => None,
+    }
 }
 
 #[test]
-fn with_capacity(rt: HostRuntime) -> Result<(), Fail> {
-    let memory = Metered::leaked(rt.alloc())?;
+fn with_capacity(rt: HostRuntime) {
+    let memory = metered(&rt, rt.alloc());
     memory.refuse_from(0);
     same(&rt, size_for(memory, 0), Some((0, 0)));
     same(&rt, memory.asked(), 0);
@@ -31,7 +28,6 @@ fn with_capacity(rt: HostRuntime) -> Result<(), Fail> {
     memory.refuse_nothing();
     same(&rt, size_for(memory, 5), Some((8, 0)));
     same(&rt, memory.asked(), 1);
-    Ok(())
 }
 
 // Asks for room for 32 pairs with the request numbered k refused: whether that request was made and the call failed.
@@ -41,6 +37,11 @@ fn reserve_is_refused(memory: Memory, map: &mut NumberMap<LowHashBuilder>, k: u6
     let refused = memory.refused();
     memory.refuse_nothing();
     refused && failed
+}
+
+// Sees to the number of bins, and to the shape of the bin of hash 0.
+fn has_shape(rt: &impl Abort, map: &NumberMap<ZeroHashBuilder>, k: u64, bins: usize, shape: Shape) {
+    same_at(rt, k, (map.capacity(), map.shape_of(0)), (bins, shape));
 }
 
 // Refused at the request numbered k, a map of 16 bins and one pair has so many bins. It goes to 128 when it is asked again.
@@ -60,13 +61,12 @@ fn keeps_the_doublings(rt: &impl Abort, memory: Memory, k: u64, bins: usize) {
 }
 
 #[test]
-fn reserve_keeps_the_doublings_done(rt: HostRuntime) -> Result<(), Fail> {
-    let memory = Metered::leaked(rt.alloc())?;
+fn reserve_keeps_the_doublings_done(rt: HostRuntime) {
+    let memory = metered(&rt, rt.alloc());
     for (k, bins) in [(0, 16), (1, 32), (2, 64)] {
         keeps_the_doublings(&rt, memory, k, bins);
     }
     same(&rt, memory.blocks(), 0);
-    Ok(())
 }
 
 // Refused at the request numbered k, a new map has so many bins.
@@ -77,13 +77,12 @@ fn keeps_the_first_table(rt: &impl Abort, memory: Memory, k: u64, bins: usize) {
 }
 
 #[test]
-fn reserve_of_a_new_map(rt: HostRuntime) -> Result<(), Fail> {
-    let memory = Metered::leaked(rt.alloc())?;
+fn reserve_of_a_new_map(rt: HostRuntime) {
+    let memory = metered(&rt, rt.alloc());
     for (k, bins) in [(0, 0), (1, 64)] {
         keeps_the_first_table(&rt, memory, k, bins);
     }
     same(&rt, memory.blocks(), 0);
-    Ok(())
 }
 
 // Inserts an absent key with the request of a larger table refused, which is the one numbered k. The insertion does not fail.
@@ -104,8 +103,8 @@ fn adds_without_a_table<S: KeyHasher<u64>>(
 
 // The twelfth pair asks for its key, its value, its node, and then for the larger table.
 #[test]
-fn row_15(rt: HostRuntime) -> Result<(), Fail> {
-    let memory = Metered::leaked(rt.alloc())?;
+fn row_15(rt: HostRuntime) {
+    let memory = metered(&rt, rt.alloc());
     let mut map: NumberMap<LowHashBuilder> = SeqMap::with_hasher(memory, LowHashBuilder);
     adds(&rt, &mut map, 42, 0);
     for key in 0..10u64 {
@@ -118,7 +117,6 @@ fn row_15(rt: HostRuntime) -> Result<(), Fail> {
     same(&rt, number_at(&map, 10), Some(42));
     adds(&rt, &mut map, 11, 42);
     same(&rt, size_of(&map), (32, 13));
-    Ok(())
 }
 
 // The ninth key of one hash, whose request numbered k is refused, leaves so many bins, and so does the tenth.
@@ -128,38 +126,27 @@ fn grows_in_part(rt: &impl Abort, memory: Memory, k: u64, bins: usize) {
         adds(rt, &mut map, key, key);
     }
     adds_without_a_table(rt, memory, &mut map, (8, 8), k);
-    same_at(
-        rt,
-        k,
-        (map.capacity(), map.shape_of(0)),
-        (bins, Shape::List(9)),
-    );
+    has_shape(rt, &map, k, bins, Shape::List(9));
     same_at(rt, k, number_at(&map, 8), Some(8));
     adds(rt, &mut map, 9, 9);
-    same_at(
-        rt,
-        k,
-        (map.capacity(), map.shape_of(0)),
-        (bins, Shape::Tree(10)),
-    );
+    has_shape(rt, &map, k, bins, Shape::Tree(10));
 }
 
 // The ninth key of one hash asks for 128 bins, by doublings from 16. The tenth makes the list a tree in any table.
 #[test]
-fn refused_growth_keeps_insert(rt: HostRuntime) -> Result<(), Fail> {
-    let memory = Metered::leaked(rt.alloc())?;
+fn refused_growth_keeps_insert(rt: HostRuntime) {
+    let memory = metered(&rt, rt.alloc());
     for (k, bins) in [(3, 16), (4, 32), (5, 64)] {
         grows_in_part(&rt, memory, k, bins);
     }
     same(&rt, memory.blocks(), 0);
-    Ok(())
 }
 
 // In 16 bins, eleven pairs of which eight stand in one bin. The ninth of that bin asks for 128 bins, which are refused at the first
 // doubling; then the count, which is the threshold, asks for 32.
 #[test]
-fn count_grows_after_a_refused_growth(rt: HostRuntime) -> Result<(), Fail> {
-    let memory = Metered::leaked(rt.alloc())?;
+fn count_grows_after_a_refused_growth(rt: HostRuntime) {
+    let memory = metered(&rt, rt.alloc());
     let mut map = map_of(&rt, memory, 4);
     for k in 1..8u64 {
         adds(&rt, &mut map, 16 * k, k);
@@ -167,13 +154,12 @@ fn count_grows_after_a_refused_growth(rt: HostRuntime) -> Result<(), Fail> {
     same(&rt, size_of(&map), (16, 11));
     adds_without_a_table(&rt, memory, &mut map, (128, 8), 3);
     same(&rt, size_of(&map), (32, 12));
-    Ok(())
 }
 
 // Thirteen insertions reach or pass the threshold of 16 bins and each finds no memory for a larger table. The next doubles it twice.
 #[test]
-fn count_grows_until_there_is_room(rt: HostRuntime) -> Result<(), Fail> {
-    let memory = Metered::leaked(rt.alloc())?;
+fn count_grows_until_there_is_room(rt: HostRuntime) {
+    let memory = metered(&rt, rt.alloc());
     let mut map = map_of(&rt, memory, 11);
     for key in 11..24u64 {
         memory.refuse_from(3);
@@ -183,7 +169,6 @@ fn count_grows_until_there_is_room(rt: HostRuntime) -> Result<(), Fail> {
     same(&rt, size_of(&map), (16, 24));
     adds(&rt, &mut map, 24, 24);
     same(&rt, size_of(&map), (64, 25));
-    Ok(())
 }
 
 // The insertion that grows a map of eleven pairs to 32 bins.
@@ -193,21 +178,22 @@ impl Refused for Grows {
     fn once(&self, rt: &impl Abort, memory: Memory, k: u64) -> bool {
         let mut map = map_of(rt, memory, 11);
         memory.refuse_at(k);
-        let old = map.insert(11, 11).map(taken);
+        let is_new = match map.insert(11, 11) {
+            Ok(old) => Some(old.is_none()),
+            Err(_) => None,
+        };
         let refused = memory.refused();
         memory.refuse_nothing();
-        let len = if old.is_err() { 11 } else { 12 };
+        let len = if is_new.is_none() { 11 } else { 12 };
         let bins = if refused { 16 } else { 32 };
         same_at(rt, k, size_of(&map), (bins, len));
-        same_at(rt, k, map.contains_key(&11), old.is_ok());
-        if !refused {
-            same(rt, old, Ok(None));
-        }
+        same_at(rt, k, map.contains_key(&11), is_new.is_some());
+        same_at(rt, k, refused || is_new == Some(true), true);
         refused
     }
 }
 
 #[test]
-fn each_request_of_a_growing_insert(rt: HostRuntime) -> Result<(), Fail> {
-    refuse_each(&rt, rt.alloc(), &Grows)
+fn each_request_of_a_growing_insert(rt: HostRuntime) {
+    refuse_each(&rt, rt.alloc(), &Grows);
 }
