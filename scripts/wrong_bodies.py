@@ -196,11 +196,12 @@ def names_for(batch):
 
 
 def checked_by_name(crate, batch, work):
-    """Checks the functions that the batch turns and those that they call: the whole crate where an edit stands in none, or a name fits none."""
+    """Checks the functions that the batch turns and those that they call: the whole crate where an edit stands in none, or a name fits none.
+    Where a name fitted another function, what is told of the others counts, and the next check is of the whole crate."""
     if all(edit.functions for edit in batch) and not crate.is_whole:
         check = checked(crate, batch, work, names_for(batch))
         crate.is_whole = check.status == 2 or (check.status in (0, 1) and bool(check.found) and not are_found(batch, check.found))
-        if not crate.is_whole:
+        if not crate.is_whole or (check.status != 2 and len(batch) > 1):
             return check
     return checked(crate, batch, work)
 
