@@ -1,88 +1,127 @@
 //! Each call once, in one thread.
+//!
+//! A test makes a map and lends it to the calls: a body that owns a map has a proof of its drop at each way out.
 
 use super::{number_at, same, taken};
 use flurry_map::HashMap;
+use flurry_model::TryInsertError;
 use flurry_model::hash::{DefaultHashBuilder, LowHashBuilder};
 use std::process::Abort;
-use std::sync::Wait;
+use std::sync::{Arc, Wait};
 use std::test::Fail;
 
+type Numbers = HashMap<u64, u64, LowHashBuilder>;
+
 // The map of 1 at key 10 and 2 at key 20.
-fn two_pairs<R: Wait + AllocGlobal>(rt: &R) -> Result<HashMap<u64, u64, LowHashBuilder>, Fail> {
+fn two_pairs<R: Wait + AllocGlobal>(rt: &R) -> Result<Numbers, Fail> {
     let map = HashMap::with_hasher(rt.alloc(), LowHashBuilder);
     map.insert(rt, 10, 1)?;
     map.insert(rt, 20, 2)?;
     Ok(map)
 }
 
+// The numbers of a pair that a call handed out.
+fn pair_of(pair: Option<(Arc<u64>, Arc<u64>)>) -> Option<(u64, u64)> {
+    pair.map(|pair| (*pair.0, *pair.1))
+}
+
+fn inserts<R: Abort + Wait>(rt: &R, map: &Numbers) -> Result<(), Fail> {
+    same(rt, taken(map.insert(rt, 10, 3)?), Some(1));
+    same(rt, taken(map.insert(rt, 30, 4)?), None);
+    same(rt, number_at(rt, map, &10)?, Some(3));
+    same(rt, number_at(rt, map, &30)?, Some(4));
+    same(rt, map.len(rt), 3);
+    Ok(())
+}
+
 #[test]
 fn insertions(rt: HostRuntime) -> Result<(), Fail> {
-    let map = two_pairs(&rt)?;
-    same(&rt, taken(map.insert(&rt, 10, 3)?), Some(1));
-    same(&rt, taken(map.insert(&rt, 30, 4)?), None);
-    same(&rt, number_at(&rt, &map, &10)?, Some(3));
-    same(&rt, number_at(&rt, &map, &30)?, Some(4));
-    same(&rt, map.len(&rt), 3);
+    inserts(&rt, &two_pairs(&rt)?)
+}
+
+// The value that was put, or the one that stands and the one that was not put.
+fn put_or_kept(answer: Result<Arc<u64>, TryInsertError<u64>>) -> Result<u64, (u64, u64)> {
+    match answer {
+        Ok(new) => Ok(*new),
+        Err(error) => Err((*error.current, error.not_inserted)),
+    }
+}
+
+fn inserts_once<R: Abort + Wait>(rt: &R, map: &Numbers) -> Result<(), Fail> {
+    same(rt, put_or_kept(map.try_insert(rt, 30, 3)?), Ok(3));
+    same(rt, put_or_kept(map.try_insert(rt, 30, 4)?), Err((3, 4)));
+    same(rt, number_at(rt, map, &30)?, Some(3));
+    same(rt, map.len(rt), 3);
     Ok(())
 }
 
 #[test]
 fn insertions_at_absent_keys_alone(rt: HostRuntime) -> Result<(), Fail> {
-    let map = two_pairs(&rt)?;
-    let Ok(new) = map.try_insert(&rt, 30, 3)? else {
-        return Err(Fail::from("the key is absent"));
-    };
-    same(&rt, *new, 3);
-    let Err(error) = map.try_insert(&rt, 30, 4)? else {
-        return Err(Fail::from("the key is present"));
-    };
-    same(&rt, (*error.current, error.not_inserted), (3, 4));
-    same(&rt, number_at(&rt, &map, &30)?, Some(3));
-    same(&rt, map.len(&rt), 3);
+    inserts_once(&rt, &two_pairs(&rt)?)
+}
+
+fn looks_up<R: Abort + Wait>(rt: &R, map: &Numbers) -> Result<(), Fail> {
+    same(rt, pair_of(map.get_key_value(rt, &20)?), Some((20, 2)));
+    same(rt, map.get_key_value(rt, &30)?.is_none(), true);
+    same(rt, number_at(rt, map, &10)?, Some(1));
+    same(rt, number_at(rt, map, &30)?, None);
+    same(rt, map.contains_key(rt, &10), true);
+    same(rt, map.contains_key(rt, &30), false);
     Ok(())
 }
 
 #[test]
 fn look_ups(rt: HostRuntime) -> Result<(), Fail> {
-    let map = two_pairs(&rt)?;
-    let Some((key, value)) = map.get_key_value(&rt, &20)? else {
-        return Err(Fail::from("the key is present"));
-    };
-    same(&rt, (*key, *value), (20, 2));
-    same(&rt, map.get_key_value(&rt, &30)?.is_none(), true);
-    same(&rt, number_at(&rt, &map, &10)?, Some(1));
-    same(&rt, number_at(&rt, &map, &30)?, None);
-    same(&rt, map.contains_key(&rt, &10), true);
-    same(&rt, map.contains_key(&rt, &30), false);
-    Ok(())
+    looks_up(&rt, &two_pairs(&rt)?)
+}
+
+fn removes<R: Abort + Wait>(rt: &R, map: &Numbers) {
+    same(rt, taken(map.remove(rt, &10)), Some(1));
+    same(rt, taken(map.remove(rt, &10)), None);
+    same(rt, pair_of(map.remove_entry(rt, &20)), Some((20, 2)));
+    same(rt, map.remove_entry(rt, &20).is_none(), true);
+    same(rt, map.is_empty(rt), true);
 }
 
 #[test]
 fn removals(rt: HostRuntime) -> Result<(), Fail> {
-    let map = two_pairs(&rt)?;
-    same(&rt, taken(map.remove(&rt, &10)), Some(1));
-    same(&rt, taken(map.remove(&rt, &10)), None);
-    let Some((key, value)) = map.remove_entry(&rt, &20) else {
-        return Err(Fail::from("the key is present"));
-    };
-    same(&rt, (*key, *value), (20, 2));
-    same(&rt, map.remove_entry(&rt, &20).is_none(), true);
-    same(&rt, map.is_empty(&rt), true);
+    removes(&rt, &two_pairs(&rt)?);
+    Ok(())
+}
+
+fn computes<R: Abort + Wait>(rt: &R, map: &Numbers) -> Result<(), Fail> {
+    let doubled = map.compute_if_present(rt, &20, |key, value| Some(key.wrapping_add(*value)))?;
+    same(rt, taken(doubled), Some(22));
+    same(rt, number_at(rt, map, &20)?, Some(22));
+    let absent = map.compute_if_present(rt, &30, |_, _| Some(9))?;
+    same(rt, taken(absent), None);
+    let gone = map.compute_if_present(rt, &20, |_, _| None)?;
+    same(rt, taken(gone), None);
+    same(rt, map.contains_key(rt, &20), false);
+    same(rt, map.len(rt), 1);
     Ok(())
 }
 
 #[test]
 fn computations(rt: HostRuntime) -> Result<(), Fail> {
-    let map = two_pairs(&rt)?;
-    let doubled = map.compute_if_present(&rt, &20, |key, value| Some(key.wrapping_add(*value)))?;
-    same(&rt, taken(doubled), Some(22));
-    same(&rt, number_at(&rt, &map, &20)?, Some(22));
-    let absent = map.compute_if_present(&rt, &30, |_, _| Some(9))?;
-    same(&rt, taken(absent), None);
-    let gone = map.compute_if_present(&rt, &20, |_, _| None)?;
-    same(&rt, taken(gone), None);
-    same(&rt, map.contains_key(&rt, &20), false);
-    same(&rt, map.len(&rt), 1);
+    computes(&rt, &two_pairs(&rt)?)
+}
+
+// An empty map makes room, and takes a pair then.
+fn makes_room<R: Abort + Wait>(rt: &R, map: &HashMap<u64, u64>) -> Result<(), Fail> {
+    same(rt, map.is_empty(rt), true);
+    map.reserve(rt, 100)?;
+    same(rt, taken(map.insert(rt, 7, 8)?), None);
+    same(rt, number_at(rt, map, &7)?, Some(8));
+    Ok(())
+}
+
+// A map that was made with room for five pairs takes a thousand.
+fn takes_a_thousand<R: Abort + Wait>(rt: &R, map: &HashMap<u64, u64>) -> Result<(), Fail> {
+    for key in 0..1000 {
+        map.insert(rt, key, key)?;
+    }
+    same(rt, map.len(rt), 1000);
     Ok(())
 }
 
@@ -90,21 +129,35 @@ fn computations(rt: HostRuntime) -> Result<(), Fail> {
 #[test]
 fn rooms(rt: HostRuntime) -> Result<(), Fail> {
     for capacity in [0usize, 1, 5, 16, 1000] {
-        let map: HashMap<u64, u64> = HashMap::with_capacity(rt.alloc(), capacity)?;
-        same(&rt, map.is_empty(&rt), true);
-        map.reserve(&rt, 100)?;
-        same(&rt, taken(map.insert(&rt, 7, 8)?), None);
-        same(&rt, number_at(&rt, &map, &7)?, Some(8));
+        makes_room(&rt, &HashMap::with_capacity(rt.alloc(), capacity)?)?;
     }
-    let map: HashMap<u64, u64> = HashMap::with_capacity_and_hasher(
-        rt.alloc(),
-        5,
-        DefaultHashBuilder::with_seed(3),
-    )?.with_processors(4);
+    let map = HashMap::with_capacity_and_hasher(rt.alloc(), 5, DefaultHashBuilder::with_seed(3))?;
+    takes_a_thousand(&rt, &map.with_processors(4))
+}
+
+// Inserts a thousand keys, each of which is new, and removes all.
+fn grows_and_clears<R: Abort + Wait>(rt: &R, map: &Numbers) -> Result<(), Fail> {
     for key in 0..1000 {
-        map.insert(&rt, key, key)?;
+        same(rt, taken(map.insert(rt, key, key)?), None);
     }
-    same(&rt, map.len(&rt), 1000);
+    map.clear(rt);
+    same(rt, map.is_empty(rt), true);
+    Ok(())
+}
+
+// Has none of the thousand keys.
+fn has_none<R: Abort + Wait>(rt: &R, map: &Numbers) {
+    for key in 0..1000 {
+        same(rt, map.contains_key(rt, &key), false);
+    }
+}
+
+fn clears_two_pairs<R: Abort + Wait>(rt: &R, map: &Numbers) -> Result<(), Fail> {
+    map.clear(rt);
+    same(rt, map.len(rt), 0);
+    same(rt, map.contains_key(rt, &10), false);
+    grows_and_clears(rt, map)?;
+    has_none(rt, map);
     Ok(())
 }
 
@@ -114,17 +167,5 @@ fn clears(rt: HostRuntime) -> Result<(), Fail> {
     let empty: HashMap<u64, u64> = HashMap::new(rt.alloc());
     empty.clear(&rt);
     same(&rt, empty.is_empty(&rt), true);
-    let map = two_pairs(&rt)?;
-    map.clear(&rt);
-    same(&rt, map.len(&rt), 0);
-    same(&rt, map.contains_key(&rt, &10), false);
-    for key in 0..1000 {
-        same(&rt, taken(map.insert(&rt, key, key)?), None);
-    }
-    map.clear(&rt);
-    same(&rt, map.is_empty(&rt), true);
-    for key in 0..1000 {
-        same(&rt, map.contains_key(&rt, &key), false);
-    }
-    Ok(())
+    clears_two_pairs(&rt, &two_pairs(&rt)?)
 }

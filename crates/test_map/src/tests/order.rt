@@ -1,11 +1,12 @@
 //! Which parts the locks lend, and which of them are held together.
 
-use super::same;
 use super::threads::is_set_in_time;
 use super::workers::{count_own, insert_all, remove_even};
+use super::{number_at, same};
 use flurry_map::HashMap;
 use flurry_model::hash::{KeyHasher, LowHashBuilder};
 use std::alloc::{AllocError, Allocator};
+use std::process::Abort;
 use std::sync::atomic::{AtomicBool, Ordering};
 use std::sync::{Arc, Wait};
 use std::test::Fail;
@@ -59,20 +60,23 @@ fn hold_and_insert<
     )
 }
 
+// Of two keys in bins of their own, one takes a new value while the bin of the other is held.
+fn holds_two_bins<R: Abort + Threads + Wait + Sync>(
+    rt: &R,
+    map: &HashMap<u64, u64, LowHashBuilder>,
+) -> Result<(), Fail> {
+    map.insert(rt, 1, 11)?;
+    map.insert(rt, 2, 12)?;
+    same(rt, hold_and_insert(rt, map), (true, true));
+    same(rt, number_at(rt, map, &2)?, Some(22));
+    Ok(())
+}
+
 // A key is inserted while another thread holds the bin of another key.
 #[test]
 fn two_bins_at_once(rt: HostRuntime) -> Result<(), Fail> {
     let map = HashMap::with_capacity_and_hasher(rt.alloc(), 10, LowHashBuilder)?;
-    map.insert(&rt, 1, 11)?;
-    map.insert(&rt, 2, 12)?;
-
-    same(&rt, hold_and_insert(&rt, &map), (true, true));
-
-    let Some(value) = map.get(&rt, &2)? else {
-        return Err(Fail::from("the key is present"));
-    };
-    same(&rt, *value, 22);
-    Ok(())
+    holds_two_bins(&rt, &map)
 }
 
 // What one thread does with the map of `lent_parts`.

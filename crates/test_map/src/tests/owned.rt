@@ -86,17 +86,30 @@ fn a_shared_map_of_an_owned_one_grows(rt: HostRuntime) -> Result<(), Fail> {
     Ok(())
 }
 
+// A further owner of the value of the key 0.
+fn value_at_0(map: &SeqMap<u64, u64, LowHashBuilder>) -> Result<Arc<u64>, Fail> {
+    match map.get(&0) {
+        Some(value) => Ok(Arc::try_clone(value)?),
+        None => Err(Fail::from("the key is present")),
+    }
+}
+
+// Shares a map, sets the value of the key 0, and owns the map again.
+fn set_while_shared<R: Abort + Wait>(
+    rt: &R,
+    map: SeqMap<u64, u64, LowHashBuilder>,
+) -> Result<SeqMap<u64, u64, LowHashBuilder>, Fail> {
+    let map = shared(rt, map)?;
+    same(rt, taken(map.insert(rt, 0, 7)?), Some(0));
+    Ok(map.into_seq(rt)?)
+}
+
 // What was handed out before stays with its owners.
 #[test]
 fn a_value_has_its_other_owner_still(rt: HostRuntime) -> Result<(), Fail> {
     let map = owned(rt.alloc(), LowHashBuilder, 1)?;
-    let Some(value) = map.get(&0) else {
-        return Err(Fail::from("the key is present"));
-    };
-    let value = Arc::try_clone(value)?;
-    let map = shared(&rt, map)?;
-    same(&rt, taken(map.insert(&rt, 0, 7)?), Some(0));
-    let map = map.into_seq(&rt)?;
+    let value = value_at_0(&map)?;
+    let map = set_while_shared(&rt, map)?;
     same(&rt, map.get(&0).map(|value| **value), Some(7));
     same(&rt, *value, 0);
     Ok(())

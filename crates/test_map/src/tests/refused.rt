@@ -7,16 +7,21 @@ use flurry_map::HashMap;
 use flurry_model::hash::{DefaultHashBuilder, LowHashBuilder};
 use flurry_seq::SeqMap;
 use metered_alloc::Metered;
-use std::alloc::Global;
+use std::alloc::{AllocError, Allocator, Global};
 use std::process::Abort;
 use std::sync::Wait;
 use std::test::Fail;
+use std::thread::Threads;
 
 type Memory = &'static Metered<Global>;
 
-type Numbers = HashMap<u64, u64, LowHashBuilder, Memory>;
+// A map of numbers. Its allocator is a parameter, since a proof over `Memory` has to see through it in each step.
+type Numbers<A> = HashMap<u64, u64, LowHashBuilder, A>;
 
 type DefaultNumbers = HashMap<u64, u64, DefaultHashBuilder, Memory>;
+
+// A map of numbers of one owner.
+type Owned<A> = SeqMap<u64, u64, LowHashBuilder, A>;
 
 // A call that may be refused.
 #[derive(Clone, Copy)]
@@ -29,7 +34,7 @@ enum Call {
 }
 
 // Makes the call, of key 99 or of the key 0, and answers whether it was done.
-fn is_done<R: Wait>(rt: &R, map: &Numbers, call: Call) -> bool {
+fn is_done<A: Allocator + Copy, R: Wait>(rt: &R, map: &Numbers<A>, call: Call) -> bool {
     match call {
         Call::Insert => map.insert(rt, 99, 1).is_ok(),
         Call::TryInsert => map.try_insert(rt, 99, 1).is_ok(),
@@ -40,30 +45,46 @@ fn is_done<R: Wait>(rt: &R, map: &Numbers, call: Call) -> bool {
 }
 
 // A map of the keys below a count, each with its own number.
-fn numbers<R: Wait>(rt: &R, memory: Memory, count: u64) -> Result<Numbers, Fail> {
-    let map = HashMap::with_hasher(memory, LowHashBuilder);
+fn numbers<A: Allocator + Copy, R: Wait>(
+    rt: &R,
+    alloc: A,
+    count: u64,
+) -> Result<Numbers<A>, AllocError> {
+    let map = HashMap::with_hasher(alloc, LowHashBuilder);
     for key in 0..count {
         map.insert(rt, key, key)?;
     }
     Ok(map)
 }
 
-// The call with its request numbered k refused: whether that request was made, whether the call was done, whether the pairs that stood
-// stand, and how many there are.
+// The call with its request numbered k refused, of a map of so many keys in this memory: whether that request was made, whether the call
+// was done, whether the pairs that stood stand, and how many there are.
+fn refuse_in<A: Allocator + Copy, R: Wait>(
+    rt: &R,
+    memory: &Metered<Global>,
+    k: u64,
+    map: &Numbers<A>,
+    keys: u64,
+    call: Call,
+) -> (bool, bool, bool, usize) {
+    memory.refuse_at(k);
+    let done = is_done(rt, map, call);
+    let refused = memory.refused();
+    memory.refuse_nothing();
+    let stand = count_own(rt, map, 0, keys) == keys;
+    (refused, done, stand, map.len(rt))
+}
+
+// The same of a map that is made for it.
 fn call_without<R: Wait>(
     rt: &R,
     memory: Memory,
     keys: u64,
     call: Call,
     k: u64,
-) -> Result<(bool, bool, bool, usize), Fail> {
+) -> Result<(bool, bool, bool, usize), AllocError> {
     let map = numbers(rt, memory, keys)?;
-    memory.refuse_at(k);
-    let done = is_done(rt, &map, call);
-    let refused = memory.refused();
-    memory.refuse_nothing();
-    let stand = count_own(rt, &map, 0, keys) == keys;
-    Ok((refused, done, stand, map.len(rt)))
+    Ok(refuse_in(rt, memory, k, &map, keys, call))
 }
 
 // Each of so many requests of the call is refused in turn, in a map of so many keys: the call is refused, and the pairs stay.
@@ -109,18 +130,33 @@ fn a_larger_table_of_an_insertion(rt: HostRuntime) -> Result<(), Fail> {
     Ok(())
 }
 
+// Whether a map with room for five pairs is made.
+fn has_room(memory: Memory) -> bool {
+    let map: Result<Numbers<Memory>, _> = HashMap::with_capacity_and_hasher(
+        memory,
+        5,
+        LowHashBuilder,
+    );
+    map.is_ok()
+}
+
 #[test]
 fn a_map_with_room(rt: HostRuntime) -> Result<(), Fail> {
     let memory = Metered::leaked(rt.alloc())?;
     for k in 0..3u64 {
         memory.refuse_at(k);
-        let map: Result<Numbers, _> = HashMap::with_capacity_and_hasher(memory, 5, LowHashBuilder);
-        same(&rt, (k, map.is_ok()), (k, k == 2));
+        let made = has_room(memory);
         memory.refuse_nothing();
-        drop(map);
+        same(&rt, (k, made), (k, k == 2));
         same(&rt, memory.blocks(), 0);
     }
     Ok(())
+}
+
+// Whether one is made by the default hasher.
+fn has_room_by_default(memory: Memory) -> bool {
+    let map: Result<DefaultNumbers, _> = HashMap::with_capacity(memory, 5);
+    map.is_ok()
 }
 
 // The same by the default hasher, which takes no memory.
@@ -129,41 +165,60 @@ fn a_map_with_room_by_default(rt: HostRuntime) -> Result<(), Fail> {
     let memory = Metered::leaked(rt.alloc())?;
     for k in 0..3u64 {
         memory.refuse_at(k);
-        let map: Result<DefaultNumbers, _> = HashMap::with_capacity(memory, 5);
-        same(&rt, (k, map.is_ok()), (k, k == 2));
+        let made = has_room_by_default(memory);
         memory.refuse_nothing();
-        drop(map);
+        same(&rt, (k, made), (k, k == 2));
         same(&rt, memory.blocks(), 0);
     }
     Ok(())
 }
 
 // An owned map of three keys, each with its own number.
-fn three_keys(memory: Memory) -> Result<SeqMap<u64, u64, LowHashBuilder, Memory>, Fail> {
-    let mut map = SeqMap::with_hasher(memory, LowHashBuilder);
+fn three_keys<A: Allocator + Copy>(alloc: A) -> Result<Owned<A>, AllocError> {
+    let mut map = SeqMap::with_hasher(alloc, LowHashBuilder);
     for key in 0..3u64 {
         map.insert(key, key)?;
     }
     Ok(map)
 }
 
-// The owned map comes back with its pairs.
+// The map that could not be shared has its room and its three keys still.
+fn has_three_keys<A: Allocator + Copy>(
+    rt: &impl Abort,
+    alloc: A,
+    map: &Owned<A>,
+    k: u64,
+) -> Result<(), AllocError> {
+    same(rt, (k, map.len(), map.capacity()), (k, 3, 16));
+    same(rt, *map == three_keys(alloc)?, true);
+    Ok(())
+}
+
+// An owned map of three keys is to be shared, with the request numbered k refused, and comes back with its pairs.
+fn share_without<R: Abort + Wait>(rt: &R, memory: Memory, k: u64) -> Result<(), Fail> {
+    let map = three_keys(memory)?;
+    memory.refuse_at(k);
+    let answer = HashMap::from_seq(rt, map);
+    memory.refuse_nothing();
+    match answer {
+        Ok(_) => Err(Fail::from("the request was refused")),
+        Err(map) => Ok(has_three_keys(rt, memory, &map, k)?),
+    }
+}
+
 #[test]
 fn the_tables_of_a_shared_map(rt: HostRuntime) -> Result<(), Fail> {
     let memory = Metered::leaked(rt.alloc())?;
     for k in 0..2u64 {
-        let map = three_keys(memory)?;
-        memory.refuse_at(k);
-        let answer = HashMap::from_seq(&rt, map);
-        memory.refuse_nothing();
-        let Err(map) = answer else {
-            return Err(Fail::from("the request was refused"));
-        };
-        same(&rt, (k, map.len(), map.capacity()), (k, 3, 16));
-        same(&rt, map == three_keys(memory)?, true);
+        share_without(&rt, memory, k)?;
     }
     same(&rt, memory.blocks(), 0);
     Ok(())
+}
+
+// Whether one owner has a map again.
+fn is_owned_again<A: Allocator + Copy, R: Wait>(rt: &R, map: Numbers<A>) -> bool {
+    map.into_seq(rt).is_ok()
 }
 
 // The owned map again asks for its table and a node of each pair.
@@ -173,13 +228,27 @@ fn the_requests_of_an_owned_map_again(rt: HostRuntime) -> Result<(), Fail> {
     for k in 0..5u64 {
         let map = numbers(&rt, memory, 3)?;
         memory.refuse_at(k);
-        let answer = map.into_seq(&rt);
+        let done = is_owned_again(&rt, map);
         memory.refuse_nothing();
-        same(&rt, (k, answer.is_ok()), (k, k == 4));
-        drop(answer);
+        same(&rt, (k, done), (k, k == 4));
         same(&rt, memory.blocks(), 0);
     }
     Ok(())
+}
+
+// Four threads insert into a map of sixteen pairs while this memory runs out.
+fn run_out<A: Allocator + Copy + Send + Sync, R: Abort + Threads + Wait + Sync>(
+    rt: &R,
+    memory: &Metered<Global>,
+    k: u64,
+    map: &Numbers<A>,
+) {
+    memory.refuse_from(k);
+    insert_in_threads(rt, map, 4, 1000, 1000);
+    memory.refuse_nothing();
+    same(rt, (k, count_own(rt, map, 0, 16)), (k, 16));
+    let there = count_own(rt, map, 0, 4000);
+    same(rt, (k, map.len(rt) as u64), (k, there));
 }
 
 // Four threads insert while memory runs out: the pairs that stood stay, and the count is that of the keys which are there.
@@ -188,12 +257,7 @@ fn threads_without_memory(rt: HostRuntime) -> Result<(), Fail> {
     let memory = Metered::leaked(rt.alloc())?;
     for k in [0u64, 100, 1000] {
         let map = numbers(&rt, memory, 16)?;
-        memory.refuse_from(k);
-        insert_in_threads(&rt, &map, 4, 1000, 1000);
-        memory.refuse_nothing();
-        same(&rt, (k, count_own(&rt, &map, 0, 16)), (k, 16));
-        let there = count_own(&rt, &map, 0, 4000);
-        same(&rt, (k, map.len(&rt) as u64), (k, there));
+        run_out(&rt, memory, k, &map);
         drop(map);
         same(&rt, memory.blocks(), 0);
     }

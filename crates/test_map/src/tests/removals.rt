@@ -3,7 +3,8 @@
 use super::same;
 use flurry_map::HashMap;
 use flurry_model::hash::KeyHasher;
-use std::alloc::Allocator;
+use std::alloc::{AllocError, Allocator};
+use std::process::Abort;
 use std::sync::Wait;
 use std::test::Fail;
 use std::thread;
@@ -52,25 +53,59 @@ fn remove_in_threads<
     )
 }
 
-// Each key is taken out once, with its own number.
-#[test]
-fn two_threads_remove_the_same_keys(rt: HostRuntime) -> Result<(), Fail> {
-    let map: HashMap<&'static str, u64> = HashMap::new(rt.alloc());
-    let mut keys = Vec::new(rt.alloc());
+// The keys, each of one sign.
+fn signs<A: Allocator>(alloc: A) -> Result<Vec<&'static str, A>, Fail> {
+    let mut keys = Vec::new(alloc);
     for place in 0..KEYS {
         let Some(key) = SIGNS.get(place..place.saturating_add(1)) else {
             return Err(Fail::from("there are so many signs"));
         };
         keys.push(key)?;
-        map.insert(&rt, key, place as u64)?;
     }
-    same(&rt, map.len(&rt), 64);
+    Ok(keys)
+}
 
-    same(&rt, remove_in_threads(&rt, &map, &keys), (64, 0));
-
-    for key in &keys {
-        same(&rt, map.contains_key(&rt, key), false);
+// Inserts keys, each with its place in the list.
+fn insert_all<K: Ord + Drop + Copy, S: KeyHasher<K>, A: Allocator + Copy, R: Wait>(
+    rt: &R,
+    map: &HashMap<K, u64, S, A>,
+    keys: &[K],
+) -> Result<(), AllocError> {
+    for (place, key) in keys.iter().enumerate() {
+        map.insert(rt, *key, place as u64)?;
     }
-    same(&rt, map.is_empty(&rt), true);
+    Ok(())
+}
+
+// Has none of these keys, and no other.
+fn has_none<K: Ord + Drop, S: KeyHasher<K>, A: Allocator + Copy, R: Abort + Wait>(
+    rt: &R,
+    map: &HashMap<K, u64, S, A>,
+    keys: &[K],
+) {
+    for key in keys {
+        same(rt, map.contains_key(rt, key), false);
+    }
+    same(rt, map.is_empty(rt), true);
+}
+
+// Inserts all keys, of which two threads remove each once, with its own number.
+fn come_and_go<R: Abort + Threads + Wait + Sync>(
+    rt: &R,
+    map: &HashMap<&'static str, u64>,
+    keys: &[&'static str],
+) -> Result<(), AllocError> {
+    insert_all(rt, map, keys)?;
+    same(rt, map.len(rt), 64);
+    same(rt, remove_in_threads(rt, map, keys), (64, 0));
+    has_none(rt, map, keys);
+    Ok(())
+}
+
+// Each key is taken out once, with its own number.
+#[test]
+fn two_threads_remove_the_same_keys(rt: HostRuntime) -> Result<(), Fail> {
+    let keys = signs(rt.alloc())?;
+    come_and_go(&rt, &HashMap::new(rt.alloc()), &keys)?;
     Ok(())
 }

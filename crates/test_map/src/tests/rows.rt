@@ -7,49 +7,72 @@ use std::process::Abort;
 use std::sync::Wait;
 use std::test::Fail;
 
+type Words = HashMap<&'static str, u64>;
+
+fn takes_a_new_value<R: Abort + Wait>(rt: &R, map: &Words) -> Result<(), Fail> {
+    same(rt, taken(map.insert(rt, "foo", 0)?), None);
+    same(rt, taken(map.insert(rt, "foo", 1)?), Some(0));
+    same(rt, number_at(rt, map, &"foo")?, Some(1));
+    same(rt, map.len(rt), 1);
+    Ok(())
+}
+
 // A present key takes the new value, and the old one is answered.
 #[test]
 fn row_01(rt: HostRuntime) -> Result<(), Fail> {
-    let map: HashMap<&'static str, u64> = HashMap::new(rt.alloc());
-    same(&rt, taken(map.insert(&rt, "foo", 0)?), None);
-    same(&rt, taken(map.insert(&rt, "foo", 1)?), Some(0));
-    same(&rt, number_at(&rt, &map, &"foo")?, Some(1));
-    same(&rt, map.len(&rt), 1);
+    takes_a_new_value(&rt, &HashMap::new(rt.alloc()))
+}
+
+fn has_no_key<R: Abort + Wait>(rt: &R, map: &Words) -> Result<(), Fail> {
+    same(rt, number_at(rt, map, &"foo")?, None);
+    same(rt, taken(map.remove(rt, &"foo")), None);
     Ok(())
 }
 
 // A new map has no key.
 #[test]
 fn row_02(rt: HostRuntime) -> Result<(), Fail> {
-    let map: HashMap<&'static str, u64> = HashMap::new(rt.alloc());
-    same(&rt, number_at(&rt, &map, &"foo")?, None);
-    same(&rt, taken(map.remove(&rt, &"foo")), None);
+    has_no_key(&rt, &HashMap::new(rt.alloc()))
+}
+
+// Inserts the keys below a thousand, each of which is new.
+fn insert_a_thousand<S: KeyHasher<i32>, R: Abort + Wait>(
+    rt: &R,
+    map: &HashMap<i32, i32, S>,
+) -> Result<(), Fail> {
+    for key in 0..1000i32 {
+        same(rt, (key, map.insert(rt, key, key)?.is_none()), (key, true));
+    }
+    same(rt, map.len(rt), 1000);
     Ok(())
 }
 
-fn row_08_with<S: KeyHasher<i32> + Drop, R: Abort + Wait>(
+// Has these keys, and no others.
+fn has_a_thousand<S: KeyHasher<i32>, R: Abort + Wait>(rt: &R, map: &HashMap<i32, i32, S>) {
+    for key in 0..1000i32 {
+        same(rt, (key, map.contains_key(rt, &key)), (key, true));
+    }
+    same(rt, map.contains_key(rt, &-1), false);
+    same(rt, map.contains_key(rt, &1000), false);
+    same(rt, map.contains_key(rt, &i32::MIN), false);
+    same(rt, map.contains_key(rt, &i32::MAX), false);
+}
+
+fn row_08_with<S: KeyHasher<i32>, R: Abort + Wait>(
     rt: &R,
-    map: HashMap<i32, i32, S>,
+    map: &HashMap<i32, i32, S>,
 ) -> Result<(), Fail> {
-    for key in 0..1000i32 {
-        assert!(rt; map.insert(rt, key, key)?.is_none(), "at {key}");
-    }
-    same(rt, map.len(rt), 1000);
-    for key in 0..1000i32 {
-        assert!(rt; map.contains_key(rt, &key), "at {key}");
-    }
-    for key in [-1, 1000, i32::MIN, i32::MAX] {
-        assert!(rt; !map.contains_key(rt, &key), "at {key}");
-    }
+    insert_a_thousand(rt, map)?;
+    has_a_thousand(rt, map);
     Ok(())
 }
 
 // A thousand signed keys, with one hash for all too.
 #[test]
 fn row_08(rt: HostRuntime) -> Result<(), Fail> {
-    row_08_with(&rt, HashMap::new(rt.alloc()))?;
-    row_08_with(&rt, HashMap::with_hasher(rt.alloc(), ZeroHashBuilder))?;
-    row_08_with(&rt, HashMap::with_hasher(rt.alloc(), MaxHashBuilder))
+    row_08_with(&rt, &HashMap::new(rt.alloc()))?;
+    row_08_with(&rt, &HashMap::with_hasher(rt.alloc(), ZeroHashBuilder))?;
+    row_08_with(&rt, &HashMap::with_hasher(rt.alloc(), MaxHashBuilder))
 }
 
 const KEYS: u64 = 50_000;
@@ -76,14 +99,17 @@ fn remove_half<R: Wait>(rt: &R, map: &HashMap<u64, u64>) -> u64 {
     removed
 }
 
+fn halves_and_fills<R: Abort + Wait>(rt: &R, map: &HashMap<u64, u64>) -> Result<(), Fail> {
+    same(rt, insert_all(rt, map)?, 50_000);
+    same(rt, insert_all(rt, map)?, 0);
+    same(rt, remove_half(rt, map), 25_000);
+    same(rt, insert_all(rt, map)?, 25_000);
+    same(rt, map.len(rt), 50_000);
+    Ok(())
+}
+
 // Fifty thousand keys, half of which go and come back.
 #[test]
 fn row_09(rt: HostRuntime) -> Result<(), Fail> {
-    let map = HashMap::new(rt.alloc());
-    same(&rt, insert_all(&rt, &map)?, 50_000);
-    same(&rt, insert_all(&rt, &map)?, 0);
-    same(&rt, remove_half(&rt, &map), 25_000);
-    same(&rt, insert_all(&rt, &map)?, 25_000);
-    same(&rt, map.len(&rt), 50_000);
-    Ok(())
+    halves_and_fills(&rt, &HashMap::new(rt.alloc()))
 }

@@ -1,10 +1,11 @@
 //! Maps of lists, further ones, and equal ones.
 
 use super::walks::sums_of_later_pairs;
-use super::{has_sums, numbers, same};
+use super::{Numbers, has_sums, numbers, same};
 use flurry_map::HashMap;
-use flurry_model::hash::{DefaultHashBuilder, LowHashBuilder, ZeroHashBuilder};
+use flurry_model::hash::{DefaultHashBuilder, KeyHasher, LowHashBuilder, ZeroHashBuilder};
 use std::alloc::{AllocError, Allocator};
+use std::process::Abort;
 use std::sync::Wait;
 use std::test::Fail;
 
@@ -22,17 +23,33 @@ pub(super) fn list<A: Allocator>(
     Ok(list)
 }
 
+// Puts the pairs of a further list into a map, which has these sums then.
+fn extends_to<S: KeyHasher<u64>, R: Abort + Wait + AllocGlobal>(
+    rt: &R,
+    map: &HashMap<u64, u64, S>,
+    further: (u64, u64, u64),
+    wanted: (u64, u64, u64),
+) -> Result<(), Fail> {
+    map.extend(rt, list(rt.alloc(), further.0, further.1, further.2)?)?;
+    has_sums(rt, map, wanted)
+}
+
+fn lists_of_many_bins<R: Abort + Wait + AllocGlobal>(rt: &R) -> Result<(), Fail> {
+    let map = HashMap::from_list(rt, list(rt.alloc(), 0, 100, 0)?, LowHashBuilder)?;
+    has_sums(rt, &map, (100, 4950, 4950))?;
+    extends_to(rt, &map, (90, 110, 1), (110, 5995, 6015))
+}
+
+fn lists_of_one_bin<R: Abort + Wait + AllocGlobal>(rt: &R) -> Result<(), Fail> {
+    let map = HashMap::with_hasher(rt.alloc(), ZeroHashBuilder);
+    extends_to(rt, &map, (0, 50, 0), (50, 1225, 1225))?;
+    extends_to(rt, &map, (0, 0, 0), (50, 1225, 1225))
+}
+
 #[test]
 fn lists(rt: HostRuntime) -> Result<(), Fail> {
-    let map = HashMap::from_list(&rt, list(rt.alloc(), 0, 100, 0)?, LowHashBuilder)?;
-    has_sums(&rt, &map, (100, 4950, 4950))?;
-    map.extend(&rt, list(rt.alloc(), 90, 110, 1)?)?;
-    has_sums(&rt, &map, (110, 5995, 6015))?;
-    let map = HashMap::with_hasher(rt.alloc(), ZeroHashBuilder);
-    map.extend(&rt, list(rt.alloc(), 0, 50, 0)?)?;
-    has_sums(&rt, &map, (50, 1225, 1225))?;
-    map.extend(&rt, list(rt.alloc(), 0, 0, 0)?)?;
-    has_sums(&rt, &map, (50, 1225, 1225))
+    lists_of_many_bins(&rt)?;
+    lists_of_one_bin(&rt)
 }
 
 // An empty list makes no table: a walk that began before the first pair gives none.
@@ -43,15 +60,20 @@ fn an_empty_list(rt: HostRuntime) -> Result<(), Fail> {
     has_sums(&rt, &map, (10, 45, 45))
 }
 
+// Inserts a pair into the copy of a map of a hundred pairs, and removes one from the map: neither changes the other.
+fn are_apart<R: Abort + Wait>(rt: &R, map: &Numbers, copy: &Numbers) -> Result<(), Fail> {
+    copy.insert(rt, 200, 0)?;
+    map.remove(rt, &3);
+    has_sums(rt, copy, (101, 5150, 4950))?;
+    has_sums(rt, map, (99, 4947, 4947))
+}
+
 // A further map has the pairs of the first, and is another one.
 #[test]
 fn a_further_map(rt: HostRuntime) -> Result<(), Fail> {
     let map = numbers(&rt, rt.alloc(), 100);
     let copy = map.try_clone(&rt)?;
-    copy.insert(&rt, 200, 0)?;
-    map.remove(&rt, &3);
-    has_sums(&rt, &copy, (101, 5150, 4950))?;
-    has_sums(&rt, &map, (99, 4947, 4947))
+    are_apart(&rt, &map, &copy)
 }
 
 // A map of these keys, each with this number more as its value, over a hasher of that seed.
@@ -65,17 +87,55 @@ fn seeded<R: Wait + AllocGlobal>(
     HashMap::from_list(rt, list, DefaultHashBuilder::with_seed(seed))
 }
 
+// Whether a map is equal to one of these keys, each with this number more as its value.
+fn equals_further<R: Wait + AllocGlobal>(
+    rt: &R,
+    map: &HashMap<u64, u64>,
+    to: u64,
+    more: u64,
+) -> Result<bool, AllocError> {
+    let further = seeded(rt, to, more, 1)?;
+    map.equals(rt, &further)
+}
+
+// A map of twenty pairs is equal to itself and to another of them, and to no other map.
+fn equals_its_like<R: Abort + Wait + AllocGlobal>(
+    rt: &R,
+    map: &HashMap<u64, u64>,
+    other: &HashMap<u64, u64>,
+) -> Result<(), Fail> {
+    same(rt, map.equals(rt, other)?, true);
+    same(rt, map.equals(rt, map)?, true);
+    same(rt, equals_further(rt, map, 19, 0)?, false);
+    same(rt, equals_further(rt, map, 20, 1)?, false);
+    Ok(())
+}
+
+// The other map has another key in the place of one.
+fn differs_by_a_key<R: Abort + Wait>(
+    rt: &R,
+    map: &HashMap<u64, u64>,
+    other: &HashMap<u64, u64>,
+) -> Result<(), Fail> {
+    other.remove(rt, &3);
+    other.insert(rt, 30, 3)?;
+    same(rt, map.equals(rt, other)?, false);
+    same(rt, other.equals(rt, map)?, false);
+    Ok(())
+}
+
+// All of that.
+fn compares<R: Abort + Wait + AllocGlobal>(
+    rt: &R,
+    map: &HashMap<u64, u64>,
+    other: &HashMap<u64, u64>,
+) -> Result<(), Fail> {
+    equals_its_like(rt, map, other)?;
+    differs_by_a_key(rt, map, other)
+}
+
 #[test]
 fn equal_maps(rt: HostRuntime) -> Result<(), Fail> {
     let map = seeded(&rt, 20, 0, 1)?;
-    let other = seeded(&rt, 20, 0, 2)?;
-    same(&rt, map.equals(&rt, &other)?, true);
-    same(&rt, map.equals(&rt, &map)?, true);
-    same(&rt, map.equals(&rt, &seeded(&rt, 19, 0, 1)?)?, false);
-    same(&rt, map.equals(&rt, &seeded(&rt, 20, 1, 1)?)?, false);
-    other.remove(&rt, &3);
-    other.insert(&rt, 30, 3)?;
-    same(&rt, map.equals(&rt, &other)?, false);
-    same(&rt, other.equals(&rt, &map)?, false);
-    Ok(())
+    compares(&rt, &map, &seeded(&rt, 20, 0, 2)?)
 }

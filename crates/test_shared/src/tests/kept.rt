@@ -1,50 +1,62 @@
 //! Keeping some of the pairs.
 
 use super::{Numbers, has_sums, numbers, same, taken};
-use flurry_map::HashMap;
 use flurry_map::iter::Iter;
-use flurry_model::hash::LowHashBuilder;
 use std::process::Abort;
 use std::sync::Wait;
 use std::test::Fail;
 
-#[test]
-fn the_even_keys(rt: HostRuntime) -> Result<(), Fail> {
-    let map = numbers(&rt, rt.alloc(), 100);
-    map.retain(&rt, |key, _| *key % 2 == 0)?;
-    has_sums(&rt, &map, (50, 2450, 2450))?;
-    map.retain_force(&rt, |_, value| *value % 4 == 0)?;
-    has_sums(&rt, &map, (25, 1200, 1200))?;
-    map.retain(&rt, |_, _| false)?;
-    same(&rt, map.is_empty(&rt), true);
+// Keeps half of a hundred pairs, half of these, and none.
+fn keeps_less<R: Abort + Wait>(rt: &R, map: &Numbers) -> Result<(), Fail> {
+    map.retain(rt, |key, _| *key % 2 == 0)?;
+    has_sums(rt, map, (50, 2450, 2450))?;
+    map.retain_force(rt, |_, value| *value % 4 == 0)?;
+    has_sums(rt, map, (25, 1200, 1200))?;
+    map.retain(rt, |_, _| false)?;
+    same(rt, map.is_empty(rt), true);
     Ok(())
 }
 
+#[test]
+fn the_even_keys(rt: HostRuntime) -> Result<(), Fail> {
+    keeps_less(&rt, &numbers(&rt, rt.alloc(), 100))
+}
+
 // Inserts a value for the key that is shown, and says that the pair is to go.
-fn write_and_refuse<R: Wait>(rt: &R, map: &HashMap<u64, u64, LowHashBuilder>, key: u64) -> bool {
+fn write_and_refuse<R: Wait>(rt: &R, map: &Numbers, key: u64) -> bool {
     map.insert(rt, key, 100).is_err()
+}
+
+// Keeps what was written meanwhile of twenty pairs, and removes it then.
+fn keeps_what_is_written<R: Abort + Wait>(rt: &R, map: &Numbers) -> Result<(), Fail> {
+    map.retain(rt, |key, _| write_and_refuse(rt, map, *key))?;
+    has_sums(rt, map, (20, 190, 2000))?;
+    map.retain_force(rt, |key, _| write_and_refuse(rt, map, *key))?;
+    same(rt, map.is_empty(rt), true);
+    Ok(())
 }
 
 // A value that was written since stays, and `retain_force` removes it.
 #[test]
 fn a_pair_that_is_written_meanwhile(rt: HostRuntime) -> Result<(), Fail> {
-    let map = numbers(&rt, rt.alloc(), 20);
-    map.retain(&rt, |key, _| write_and_refuse(&rt, &map, *key))?;
-    has_sums(&rt, &map, (20, 190, 2000))?;
-    map.retain_force(&rt, |key, _| write_and_refuse(&rt, &map, *key))?;
-    same(&rt, map.is_empty(&rt), true);
-    Ok(())
+    keeps_what_is_written(&rt, &numbers(&rt, rt.alloc(), 20))
+}
+
+// Removes the pair that is shown and puts it again, and says that it is to go.
+fn put_again_and_refuse<R: Wait>(rt: &R, map: &Numbers, key: u64, value: u64) -> bool {
+    map.remove(rt, &key).is_none() || map.insert(rt, key, value).is_err()
 }
 
 // A pair that is removed and put again meanwhile is another one.
+fn keeps_what_is_put_again<R: Abort + Wait>(rt: &R, map: &Numbers) -> Result<(), Fail> {
+    map.retain(rt, |key, value| put_again_and_refuse(rt, map, *key, *value))?;
+    same(rt, taken(map.get(rt, &0)?), Some(0));
+    Ok(())
+}
+
 #[test]
 fn a_pair_that_is_put_again_meanwhile(rt: HostRuntime) -> Result<(), Fail> {
-    let map = numbers(&rt, rt.alloc(), 1);
-    map.retain(&rt, |key, value| {
-        map.remove(&rt, key).is_none() || map.insert(&rt, *key, *value).is_err()
-    })?;
-    same(&rt, taken(map.get(&rt, &0)?), Some(0));
-    Ok(())
+    keeps_what_is_put_again(&rt, &numbers(&rt, rt.alloc(), 1))
 }
 
 // Reads two pairs, writes the second, and removes both as they were read.

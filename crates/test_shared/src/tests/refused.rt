@@ -5,14 +5,15 @@ use super::{numbers, read_all, same};
 use flurry_map::HashMap;
 use flurry_model::hash::LowHashBuilder;
 use metered_alloc::Metered;
-use std::alloc::{AllocError, Global};
+use std::alloc::{Allocator, Global};
 use std::process::Abort;
 use std::sync::Wait;
 use std::test::Fail;
 
 type Memory = &'static Metered<Global>;
 
-type Numbers = HashMap<u64, u64, LowHashBuilder, Memory>;
+// A map of numbers. Its allocator is a parameter, since a proof over `Memory` has to see through it in each step.
+type Numbers<A> = HashMap<u64, u64, LowHashBuilder, A>;
 
 // A call that may be refused.
 #[derive(Clone, Copy, Debug, PartialEq)]
@@ -26,47 +27,61 @@ enum Call {
     TryClone,
 }
 
-// Makes the call, of a map or of a list.
-fn make<R: Wait>(
+// Makes the call, of a map or of a list, and answers whether it was done.
+fn is_done<A: Allocator + Copy, R: Wait>(
     rt: &R,
-    map: &Numbers,
-    list: Vec<(u64, u64), Memory>,
+    map: &Numbers<A>,
+    list: Vec<(u64, u64), A>,
     call: Call,
-) -> Result<(), AllocError> {
+) -> bool {
     match call {
-        Call::Walk => {
-            let _ = read_all(map.iter(rt))?;
-        }
-        Call::Retain => map.retain(rt, |key, _| *key < 2)?,
-        Call::RetainForce => map.retain_force(rt, |key, _| *key < 2)?,
-        Call::Extend => map.extend(rt, list)?,
-        Call::FromList => drop(HashMap::from_list(rt, list, LowHashBuilder)?),
-        Call::Equals => drop(map.equals(rt, map)?),
-        Call::TryClone => drop(map.try_clone(rt)?),
+        Call::Walk => read_all(map.iter(rt)).is_ok(),
+        Call::Retain => map.retain(rt, |key, _| *key < 2).is_ok(),
+        Call::RetainForce => map.retain_force(rt, |key, _| *key < 2).is_ok(),
+        Call::Extend => map.extend(rt, list).is_ok(),
+        Call::FromList => HashMap::from_list(rt, list, LowHashBuilder).is_ok(),
+        Call::Equals => map.equals(rt, map).is_ok(),
+        Call::TryClone => map.try_clone(rt).is_ok(),
     }
-    Ok(())
 }
 
-// The call with its request numbered k refused, on a map of the keys 0 to 2 and with the list of 10 to 12: whether the request was made,
-// whether the call was done, and how many pairs there are then.
+// How many pairs a walk gives, which is to be the count of the map.
+fn count_there<A: Allocator + Copy, R: Wait>(rt: &R, map: &Numbers<A>) -> Result<usize, Fail> {
+    let there = read_all(map.iter(rt))?.0 as usize;
+    if there == map.len(rt) {
+        Ok(there)
+    } else {
+        Err(Fail::from("the count is that of the pairs"))
+    }
+}
+
+// The call with its request numbered k refused, of a map and a list in this memory: whether the request was made, whether the call was
+// done, and how many pairs there are then.
+fn refuse_in<A: Allocator + Copy, R: Wait>(
+    rt: &R,
+    memory: &Metered<Global>,
+    k: u64,
+    map: &Numbers<A>,
+    list: Vec<(u64, u64), A>,
+    call: Call,
+) -> Result<(bool, bool, usize), Fail> {
+    memory.refuse_at(k);
+    let done = is_done(rt, map, list, call);
+    let refused = memory.refused();
+    memory.refuse_nothing();
+    Ok((refused, done, count_there(rt, map)?))
+}
+
+// The same of a map of the keys 0 to 2 and of the list of 10 to 12.
 fn call_without<R: Wait>(
     rt: &R,
     memory: Memory,
     call: Call,
     k: u64,
 ) -> Result<(bool, bool, usize), Fail> {
-    let map = numbers(rt, memory, 3);
     let list = list(memory, 10, 13, 0)?;
-    memory.refuse_at(k);
-    let done = make(rt, &map, list, call).is_ok();
-    let refused = memory.refused();
-    memory.refuse_nothing();
-    let there = read_all(map.iter(rt))?.0 as usize;
-    if there == map.len(rt) {
-        Ok((refused, done, there))
-    } else {
-        Err(Fail::from("the count is that of the pairs"))
-    }
+    let map = numbers(rt, memory, 3);
+    refuse_in(rt, memory, k, &map, list, call)
 }
 
 // Each of so many requests is refused in turn, and so is the call, which leaves three pairs. Without a refusal so many are left.

@@ -3,26 +3,51 @@
 use super::{numbers, read_all, same, taken};
 use flurry_map::HashMap;
 use flurry_map_ref::HashMapRef;
-use flurry_model::hash::LowHashBuilder;
+use flurry_model::hash::{DefaultHashBuilder, LowHashBuilder};
 use std::alloc::{AllocError, Global};
+use std::process::Abort;
 use std::sync::Wait;
 use std::test::Fail;
+
+type DefaultRef<'m, R> = HashMapRef<'m, R, u64, u64, DefaultHashBuilder, Global>;
+
+// Inserts one key twice, and no third time.
+fn inserts_a_key<R: Abort + Wait>(rt: &R, view: &DefaultRef<'_, R>) -> Result<(), Fail> {
+    same(rt, view.is_empty(), true);
+    same(rt, taken(view.insert(7, 0)?), None);
+    same(rt, taken(view.insert(7, 1)?), Some(0));
+    same(rt, view.try_insert(7, 2)?.is_err(), true);
+    Ok(())
+}
+
+// Looks it up, and doubles its value.
+fn doubles_its_value<R: Abort + Wait>(rt: &R, view: &DefaultRef<'_, R>) -> Result<(), Fail> {
+    same(rt, taken(view.get(&7)?), Some(1));
+    same(rt, view.get_key_value(&7)?.is_some(), true);
+    let doubled = view.compute_if_present(&7, |_, value| value.checked_mul(2))?;
+    same(rt, taken(doubled), Some(2));
+    Ok(())
+}
+
+// Removes it, once.
+fn removes_it<R: Abort + Wait>(rt: &R, view: &DefaultRef<'_, R>) {
+    same(rt, (view.contains_key(&7), view.len()), (true, 1));
+    same(rt, taken(view.remove(&7)), Some(2));
+    same(rt, view.remove_entry(&7).is_none(), true);
+}
+
+// All of that.
+fn comes_and_goes<R: Abort + Wait>(rt: &R, view: &DefaultRef<'_, R>) -> Result<(), Fail> {
+    inserts_a_key(rt, view)?;
+    doubles_its_value(rt, view)?;
+    removes_it(rt, view);
+    Ok(())
+}
 
 #[test]
 fn calls_of_one_key(rt: HostRuntime) -> Result<(), Fail> {
     let map: HashMap<u64, u64> = HashMap::new(rt.alloc());
-    let view = map.pin(&rt);
-    same(&rt, view.is_empty(), true);
-    same(&rt, taken(view.insert(7, 0)?), None);
-    same(&rt, taken(view.insert(7, 1)?), Some(0));
-    same(&rt, view.try_insert(7, 2)?.is_err(), true);
-    same(&rt, taken(view.get(&7)?), Some(1));
-    same(&rt, view.get_key_value(&7)?.is_some(), true);
-    let doubled = view.compute_if_present(&7, |_, value| value.checked_mul(2))?;
-    same(&rt, taken(doubled), Some(2));
-    same(&rt, (view.contains_key(&7), view.len()), (true, 1));
-    same(&rt, taken(view.remove(&7)), Some(2));
-    same(&rt, view.remove_entry(&7).is_none(), true);
+    comes_and_goes(&rt, &map.pin(&rt))?;
     same(&rt, map.is_empty(&rt), true);
     Ok(())
 }
@@ -45,23 +70,56 @@ fn has_a_value<R: Wait>(view: &NumbersRef<'_, R>) -> Result<bool, AllocError> {
     Ok(first?.is_some())
 }
 
-// A further view is of the same map.
+// Keeps five of ten pairs by a further view, which is of the same map, and then two.
+fn keeps_two<R: Abort + Wait>(rt: &R, view: &NumbersRef<'_, R>) -> Result<(), Fail> {
+    let other = view.again();
+    view.reserve(100)?;
+    same(rt, view.equals(&other)?, true);
+    other.retain(|key, _| *key < 5)?;
+    same(rt, read_all(view.iter())?, (5, 10, 10));
+    other.retain_force(|key, _| *key < 2)?;
+    same(rt, view.len(), 2);
+    Ok(())
+}
+
+// Has keys and values.
+fn is_not_empty<R: Abort + Wait>(rt: &R, view: &NumbersRef<'_, R>) -> Result<(), Fail> {
+    same(rt, has_a_key(view)?, true);
+    same(rt, has_a_value(view)?, true);
+    Ok(())
+}
+
+// Is not equal to a view of an empty map.
+fn differs_from_none<R: Abort + Wait + AllocGlobal>(
+    rt: &R,
+    view: &NumbersRef<'_, R>,
+) -> Result<(), Fail> {
+    let empty = HashMap::with_hasher(rt.alloc(), LowHashBuilder);
+    same(rt, view.equals(&empty.pin(rt))?, false);
+    Ok(())
+}
+
+// Removes all pairs, of which a further view has none then.
+fn clears<R: Abort + Wait>(rt: &R, view: &NumbersRef<'_, R>) -> Result<(), Fail> {
+    let other = view.again();
+    view.clear();
+    same(rt, read_all(other.iter())?, (0, 0, 0));
+    Ok(())
+}
+
+// All of that, of ten pairs.
+fn keeps_and_clears<R: Abort + Wait + AllocGlobal>(
+    rt: &R,
+    view: &NumbersRef<'_, R>,
+) -> Result<(), Fail> {
+    keeps_two(rt, view)?;
+    is_not_empty(rt, view)?;
+    differs_from_none(rt, view)?;
+    clears(rt, view)
+}
+
 #[test]
 fn calls_of_many_pairs(rt: HostRuntime) -> Result<(), Fail> {
     let map = numbers(&rt, rt.alloc(), 10);
-    let view = map.pin(&rt);
-    let other = view.again();
-    view.reserve(100)?;
-    same(&rt, view.equals(&other)?, true);
-    other.retain(|key, _| *key < 5)?;
-    same(&rt, read_all(view.iter())?, (5, 10, 10));
-    other.retain_force(|key, _| *key < 2)?;
-    same(&rt, view.len(), 2);
-    same(&rt, has_a_key(&view)?, true);
-    same(&rt, has_a_value(&view)?, true);
-    let empty = HashMap::with_hasher(rt.alloc(), LowHashBuilder);
-    same(&rt, view.equals(&empty.pin(&rt))?, false);
-    view.clear();
-    same(&rt, read_all(other.iter())?, (0, 0, 0));
-    Ok(())
+    keeps_and_clears(&rt, &map.pin(&rt))
 }
