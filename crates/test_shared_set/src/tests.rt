@@ -1,4 +1,6 @@
 //! Tests of the shared set, and what they share.
+//!
+//! A test makes its sets and lends them: a body that owns a set has a proof of its drop at each way out.
 
 mod made;
 mod refused;
@@ -84,15 +86,22 @@ fn takes_out<A: Allocator + Copy, R: Abort + Wait>(rt: &R, set: &HashSet<u64, Lo
     same(rt, set.remove(rt, &8), false);
 }
 
+// All of that.
+fn comes_and_goes<A: Allocator + Copy, R: Abort + Wait>(
+    rt: &R,
+    set: &HashSet<u64, LowHashBuilder, A>,
+) -> Result<(), Fail> {
+    same(rt, set.is_empty(rt), true);
+    puts_and_finds(rt, set)?;
+    same(rt, set.len(rt), 2);
+    takes_out(rt, set);
+    same(rt, set.is_empty(rt), true);
+    Ok(())
+}
+
 #[test]
 fn calls_of_one_element(rt: HostRuntime) -> Result<(), Fail> {
-    let set = set_of(&rt, rt.alloc(), &[])?;
-    same(&rt, set.is_empty(&rt), true);
-    puts_and_finds(&rt, &set)?;
-    same(&rt, set.len(&rt), 2);
-    takes_out(&rt, &set);
-    same(&rt, set.is_empty(&rt), true);
-    Ok(())
+    comes_and_goes(&rt, &set_of(&rt, rt.alloc(), &[])?)
 }
 
 // Whether a set has so many elements of that sum.
@@ -106,14 +115,21 @@ fn has_sums<A: Allocator + Copy, R: Abort + Wait>(
     Ok(())
 }
 
+// Keeps the even elements of five, and none.
+fn keeps_less<A: Allocator + Copy, R: Abort + Wait>(
+    rt: &R,
+    set: &HashSet<u64, LowHashBuilder, A>,
+) -> Result<(), Fail> {
+    has_sums(rt, set, (5, 10))?;
+    set.retain(rt, |element| *element % 2 == 0)?;
+    has_sums(rt, set, (3, 6))?;
+    set.clear(rt);
+    has_sums(rt, set, (0, 0))
+}
+
 #[test]
 fn calls_of_many_elements(rt: HostRuntime) -> Result<(), Fail> {
-    let set = set_of(&rt, rt.alloc(), &[0, 1, 2, 3, 4])?;
-    has_sums(&rt, &set, (5, 10))?;
-    set.retain(&rt, |element| *element % 2 == 0)?;
-    has_sums(&rt, &set, (3, 6))?;
-    set.clear(&rt);
-    has_sums(&rt, &set, (0, 0))
+    keeps_less(&rt, &set_of(&rt, rt.alloc(), &[0, 1, 2, 3, 4])?)
 }
 
 // Removes the odd elements and the element 0. While a walk shows the 4, it is removed and put again.

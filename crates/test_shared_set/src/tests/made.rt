@@ -34,22 +34,26 @@ fn sets_with_room(rt: HostRuntime) -> Result<(), Fail> {
     )
 }
 
-// Whether a set is empty until a number is put.
-fn is_empty_at_first<S: KeyHasher<u64>, A: Allocator + Copy, R: Wait>(
+// A set is empty until a number is put.
+fn is_empty_at_first<S: KeyHasher<u64>, A: Allocator + Copy, R: Abort + Wait>(
     rt: &R,
     set: &HashSet<u64, S, A>,
-) -> Result<bool, AllocError> {
-    Ok(set.is_empty(rt) && set.insert(rt, 1)? && !set.is_empty(rt))
+) -> Result<(), AllocError> {
+    same(rt, set.is_empty(rt), true);
+    same(rt, set.insert(rt, 1)?, true);
+    same(rt, set.is_empty(rt), false);
+    Ok(())
 }
 
 #[test]
 fn sets_of_other_hashers(rt: HostRuntime) -> Result<(), Fail> {
     let plain: HashSet<u64> = HashSet::new(rt.alloc());
+    is_empty_at_first(&rt, &plain)?;
+    drop(plain);
     let sized: HashSet<u64> = HashSet::with_capacity(rt.alloc(), 100)?;
-    let single = HashSet::with_hasher(rt.alloc(), ZeroHashBuilder);
-    same(&rt, is_empty_at_first(&rt, &plain)?, true);
-    same(&rt, is_empty_at_first(&rt, &sized)?, true);
-    same(&rt, is_empty_at_first(&rt, &single)?, true);
+    is_empty_at_first(&rt, &sized)?;
+    drop(sized);
+    is_empty_at_first(&rt, &HashSet::with_hasher(rt.alloc(), ZeroHashBuilder))?;
     Ok(())
 }
 
@@ -69,13 +73,21 @@ fn a_set_of_a_list(rt: HostRuntime) -> Result<(), Fail> {
     has_sums(&rt, &set, (3, 6))
 }
 
+// Puts an element into the copy of a set of two, and removes one from the set: neither changes the other.
+fn are_apart<A: Allocator + Copy, R: Abort + Wait>(
+    rt: &R,
+    set: &HashSet<u64, LowHashBuilder, A>,
+    copy: &HashSet<u64, LowHashBuilder, A>,
+) -> Result<(), Fail> {
+    copy.insert(rt, 3)?;
+    set.remove(rt, &1);
+    has_sums(rt, copy, (3, 6))?;
+    has_sums(rt, set, (1, 2))
+}
+
 // A further set has the elements of the first, and is another one.
 #[test]
 fn a_further_set(rt: HostRuntime) -> Result<(), Fail> {
     let set = set_of(&rt, rt.alloc(), &[1, 2])?;
-    let copy = set.try_clone(&rt)?;
-    copy.insert(&rt, 3)?;
-    set.remove(&rt, &1);
-    has_sums(&rt, &copy, (3, 6))?;
-    has_sums(&rt, &set, (1, 2))
+    are_apart(&rt, &set, &set.try_clone(&rt)?)
 }

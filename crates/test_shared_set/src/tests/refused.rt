@@ -4,14 +4,15 @@ use super::{list, read_all, same, set_of};
 use flurry_model::hash::{DefaultHashBuilder, LowHashBuilder};
 use flurry_shared_set::HashSet;
 use metered_alloc::Metered;
-use std::alloc::{AllocError, Global};
+use std::alloc::{AllocError, Allocator, Global};
 use std::process::Abort;
 use std::sync::Wait;
 use std::test::Fail;
 
 type Memory = &'static Metered<Global>;
 
-type Numbers = HashSet<u64, LowHashBuilder, Memory>;
+// A set of numbers. Its allocator is a parameter, since a proof over `Memory` has to see through it in each step.
+type Numbers<A> = HashSet<u64, LowHashBuilder, A>;
 
 type DefaultNumbers = HashSet<u64, DefaultHashBuilder, Memory>;
 
@@ -28,52 +29,60 @@ enum Call {
     Relations,
 }
 
-// Makes the call, of a set or of a list.
-fn make<R: Wait>(
+// Makes the call, of a set or of a list, and answers whether it was done.
+fn is_done<A: Allocator + Copy, R: Wait>(
     rt: &R,
-    set: &Numbers,
-    list: Vec<u64, Memory>,
+    set: &Numbers<A>,
+    list: Vec<u64, A>,
     call: Call,
-) -> Result<(), AllocError> {
+) -> bool {
     match call {
-        Call::Get => drop(set.get(rt, &1)?),
-        Call::Insert => {
-            set.insert(rt, 10)?;
-        }
-        Call::Reserve => set.reserve(rt, 100)?,
-        Call::Extend => set.extend(rt, list)?,
-        Call::FromList => drop(HashSet::from_list(rt, list, LowHashBuilder)?),
-        Call::TryClone => drop(set.try_clone(rt)?),
-        Call::Retain => set.retain(rt, |element| *element < 2)?,
-        Call::Relations => return relate(rt, set),
+        Call::Get => set.get(rt, &1).is_ok(),
+        Call::Insert => set.insert(rt, 10).is_ok(),
+        Call::Reserve => set.reserve(rt, 100).is_ok(),
+        Call::Extend => set.extend(rt, list).is_ok(),
+        Call::FromList => HashSet::from_list(rt, list, LowHashBuilder).is_ok(),
+        Call::TryClone => set.try_clone(rt).is_ok(),
+        Call::Retain => set.retain(rt, |element| *element < 2).is_ok(),
+        Call::Relations => are_related(rt, set),
     }
-    Ok(())
 }
 
-// Asks for each relation of a set with itself.
-fn relate<R: Wait>(rt: &R, set: &Numbers) -> Result<(), AllocError> {
-    set.equals(rt, set)?;
-    set.is_subset(rt, set)?;
-    set.is_superset(rt, set)?;
-    set.is_disjoint(rt, set)?;
-    Ok(())
+// Asks for each relation of a set with itself, and answers whether all were found out.
+fn are_related<A: Allocator + Copy, R: Wait>(rt: &R, set: &Numbers<A>) -> bool {
+    set.equals(rt, set).is_ok()
+        && set.is_subset(rt, set).is_ok()
+        && set.is_superset(rt, set).is_ok()
+        && set.is_disjoint(rt, set).is_ok()
 }
 
-// The call with its request numbered k refused, on a set of 1 and 2 and with the list of 10 and 11: whether the request was made, whether
-// the call was done, and how many elements there are then.
+// The call with its request numbered k refused, of a set and a list in this memory: whether the request was made, whether the call was
+// done, and how many elements there are then.
+fn refuse_in<A: Allocator + Copy, R: Wait>(
+    rt: &R,
+    memory: &Metered<Global>,
+    k: u64,
+    set: &Numbers<A>,
+    list: Vec<u64, A>,
+    call: Call,
+) -> Result<(bool, bool, u64), AllocError> {
+    memory.refuse_at(k);
+    let done = is_done(rt, set, list, call);
+    let refused = memory.refused();
+    memory.refuse_nothing();
+    Ok((refused, done, read_all(set.iter(rt))?.0))
+}
+
+// The same of a set of 1 and 2 and of the list of 10 and 11.
 fn call_without<R: Wait>(
     rt: &R,
     memory: Memory,
     call: Call,
     k: u64,
-) -> Result<(bool, bool, u64), Fail> {
-    let set = set_of(rt, memory, &[1, 2])?;
+) -> Result<(bool, bool, u64), AllocError> {
     let list = list(memory, 10, 12)?;
-    memory.refuse_at(k);
-    let done = make(rt, &set, list, call).is_ok();
-    let refused = memory.refused();
-    memory.refuse_nothing();
-    Ok((refused, done, read_all(set.iter(rt))?.0))
+    let set = set_of(rt, memory, &[1, 2])?;
+    refuse_in(rt, memory, k, &set, list, call)
 }
 
 // Each of so many requests is refused in turn, and so is the call, which leaves two elements. Without a refusal so many are left.
@@ -138,7 +147,11 @@ fn a_set_with_room(rt: HostRuntime) -> Result<(), Fail> {
     let memory = Metered::leaked(rt.alloc())?;
     for k in 0..3u64 {
         memory.refuse_at(k);
-        let set: Result<Numbers, _> = HashSet::with_capacity_and_hasher(memory, 5, LowHashBuilder);
+        let set: Result<Numbers<Memory>, _> = HashSet::with_capacity_and_hasher(
+            memory,
+            5,
+            LowHashBuilder,
+        );
         same(&rt, (k, set.is_ok()), (k, k == 2));
         memory.refuse_nothing();
         drop(set);

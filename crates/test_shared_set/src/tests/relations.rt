@@ -70,6 +70,18 @@ fn of_views<A: Allocator + Copy, R: Wait>(
     })
 }
 
+// Two sets, and their views, stand so to each other.
+fn stand_so<A: Allocator + Copy, R: Abort + Wait>(
+    rt: &R,
+    left: &HashSet<u64, LowHashBuilder, A>,
+    right: &HashSet<u64, LowHashBuilder, A>,
+    wanted: Relations,
+) -> Result<(), AllocError> {
+    same(rt, of_sets(rt, left, right)?, wanted);
+    same(rt, of_views(&left.pin(rt), &right.pin(rt))?, wanted);
+    Ok(())
+}
+
 // The sets of these numbers, and their views, stand so to each other.
 fn related<R: Abort + Wait>(
     rt: &R,
@@ -77,20 +89,20 @@ fn related<R: Abort + Wait>(
     left: &[u64],
     right: &[u64],
     wanted: Relations,
-) -> Result<(), Fail> {
+) -> Result<(), AllocError> {
     let left = set_of(rt, alloc, left)?;
     let right = set_of(rt, alloc, right)?;
-    same(rt, of_sets(rt, &left, &right)?, wanted);
-    same(rt, of_views(&left.pin(rt), &right.pin(rt))?, wanted);
-    Ok(())
+    stand_so(rt, &left, &right, wanted)
 }
 
 // Puts 1, which is there, and takes it out: of 1 and 2, 2 is left.
-fn leaves_two<R: Abort + Wait>(rt: &R, alloc: Global) -> Result<(), Fail> {
-    let set = set_of(rt, alloc, &[1, 2])?;
+fn leaves_two<A: Allocator + Copy, R: Abort + Wait>(
+    rt: &R,
+    set: &HashSet<u64, LowHashBuilder, A>,
+) -> Result<(), Fail> {
     same(rt, set.insert(rt, 1)?, false);
     same(rt, set.take(rt, &1).map(|element| *element), Some(1));
-    has_sums(rt, &set, (1, 2))
+    has_sums(rt, set, (1, 2))
 }
 
 #[test]
@@ -98,7 +110,7 @@ fn row_21(rt: HostRuntime) -> Result<(), Fail> {
     related(&rt, rt.alloc(), &[1, 2], &[1, 2, 3], LESS)?;
     related(&rt, rt.alloc(), &[1, 2, 3], &[1, 2], MORE)?;
     related(&rt, rt.alloc(), &[1, 2], &[4], APART)?;
-    leaves_two(&rt, rt.alloc())
+    leaves_two(&rt, &set_of(&rt, rt.alloc(), &[1, 2])?)
 }
 
 #[test]
@@ -108,7 +120,8 @@ fn other_sets(rt: HostRuntime) -> Result<(), Fail> {
         is_disjoint: false,
         ..APART
     };
-    related(&rt, rt.alloc(), &[1, 2], &[2, 3], beside)
+    related(&rt, rt.alloc(), &[1, 2], &[2, 3], beside)?;
+    Ok(())
 }
 
 // The empty set is a subset of each set, and disjoint from each, itself included.
@@ -128,5 +141,6 @@ fn the_empty_set(rt: HostRuntime) -> Result<(), Fail> {
         is_disjoint: true,
         ..EQUAL
     };
-    related(&rt, rt.alloc(), &[], &[], equal)
+    related(&rt, rt.alloc(), &[], &[], equal)?;
+    Ok(())
 }

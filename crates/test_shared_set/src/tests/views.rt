@@ -2,7 +2,7 @@
 
 use super::{has_sums, read_all, same, set_of};
 use flurry_model::hash::LowHashBuilder;
-use flurry_shared_set::HashSetRef;
+use flurry_shared_set::{HashSet, HashSetRef};
 use std::alloc::Allocator;
 use std::process::Abort;
 use std::sync::Wait;
@@ -45,12 +45,21 @@ fn takes_out<A: Allocator + Copy, R: Abort + Wait>(
     view.clear();
 }
 
+// All of that, which the set has too.
+fn changes_the_set<A: Allocator + Copy, R: Abort + Wait>(
+    rt: &R,
+    set: &HashSet<u64, LowHashBuilder, A>,
+    view: &HashSetRef<'_, R, u64, LowHashBuilder, A>,
+) -> Result<(), Fail> {
+    puts_by_another(rt, view)?;
+    keeps_two(rt, view)?;
+    has_sums(rt, set, (2, 5))?;
+    takes_out(rt, view);
+    has_sums(rt, set, (0, 0))
+}
+
 #[test]
 fn calls_of_a_view(rt: HostRuntime) -> Result<(), Fail> {
     let set = set_of(&rt, rt.alloc(), &[1, 2])?;
-    puts_by_another(&rt, &set.pin(&rt))?;
-    keeps_two(&rt, &set.pin(&rt))?;
-    has_sums(&rt, &set, (2, 5))?;
-    takes_out(&rt, &set.pin(&rt));
-    has_sums(&rt, &set, (0, 0))
+    changes_the_set(&rt, &set, &set.pin(&rt))
 }
