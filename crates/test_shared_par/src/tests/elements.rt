@@ -7,6 +7,7 @@ use flurry_shared_set::HashSet;
 use std::process::Abort;
 use std::sync::Wait;
 use std::test::Fail;
+use std::thread::Threads;
 
 // A set has the hundred pairs as elements, and no other.
 fn has_a_hundred<S: KeyHasher<(u64, u64)>, R: Abort + Wait>(rt: &R, set: &HashSet<(u64, u64), S>) {
@@ -16,26 +17,40 @@ fn has_a_hundred<S: KeyHasher<(u64, u64)>, R: Abort + Wait>(rt: &R, set: &HashSe
     same(rt, set.contains(rt, &(100, 10)), false);
 }
 
+// Extends a set by no elements, by a hundred, and by half of these again.
+fn extends<R: Abort + AllocGlobal + Threads + Wait + Sync>(
+    rt: &R,
+    set: &HashSet<(u64, u64)>,
+) -> Result<(), Fail> {
+    set::par_extend(set, rt, Vec::new(rt.alloc()), 7)?;
+    same(rt, set.is_empty(rt), true);
+    set::par_extend(set, rt, pairs_from_100(rt.alloc(), 100)?, 7)?;
+    has_a_hundred(rt, set);
+    set::par_extend(set, rt, pairs_from_100(rt.alloc(), 50)?, 1)?;
+    has_a_hundred(rt, set);
+    Ok(())
+}
+
 #[test]
 fn a_hundred_elements(rt: HostRuntime) -> Result<(), Fail> {
-    let set = HashSet::new(rt.alloc()).with_processors(4);
-    set::par_extend(&set, &rt, Vec::new(rt.alloc()), 7)?;
-    same(&rt, set.is_empty(&rt), true);
-    set::par_extend(&set, &rt, pairs_from_100(rt.alloc(), 100)?, 7)?;
-    has_a_hundred(&rt, &set);
-    set::par_extend(&set, &rt, pairs_from_100(rt.alloc(), 50)?, 1)?;
-    has_a_hundred(&rt, &set);
+    extends(&rt, &HashSet::new(rt.alloc()).with_processors(4))
+}
+
+// The same by a view of the set.
+fn extends_by_a_view<R: Abort + AllocGlobal + Threads + Wait + Sync>(
+    rt: &R,
+    set: &HashSet<(u64, u64)>,
+) -> Result<(), Fail> {
+    set_ref::par_extend(&set.pin(rt), Vec::new(rt.alloc()), 7)?;
+    same(rt, set.is_empty(rt), true);
+    set_ref::par_extend(&set.pin(rt), pairs_from_100(rt.alloc(), 100)?, 7)?;
+    has_a_hundred(rt, set);
+    set_ref::par_extend(&set.pin(rt), pairs_from_100(rt.alloc(), 50)?, 1)?;
+    has_a_hundred(rt, set);
     Ok(())
 }
 
 #[test]
 fn a_hundred_elements_by_a_view(rt: HostRuntime) -> Result<(), Fail> {
-    let set = HashSet::new(rt.alloc()).with_processors(4);
-    set_ref::par_extend(&set.pin(&rt), Vec::new(rt.alloc()), 7)?;
-    same(&rt, set.is_empty(&rt), true);
-    set_ref::par_extend(&set.pin(&rt), pairs_from_100(rt.alloc(), 100)?, 7)?;
-    has_a_hundred(&rt, &set);
-    set_ref::par_extend(&set.pin(&rt), pairs_from_100(rt.alloc(), 50)?, 1)?;
-    has_a_hundred(&rt, &set);
-    Ok(())
+    extends_by_a_view(&rt, &HashSet::new(rt.alloc()).with_processors(4))
 }

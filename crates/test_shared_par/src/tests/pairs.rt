@@ -1,6 +1,6 @@
 //! Pairs that several threads insert.
 
-use super::{has_sums, insert_two, pairs_from_100, same, taken, values_at};
+use super::{has_sums, insert_two, pairs_from_100, same, values_at};
 use flurry_map::HashMap;
 use flurry_model::hash::LowHashBuilder;
 use flurry_shared_par::{map, map_ref};
@@ -9,28 +9,45 @@ use std::sync::Wait;
 use std::test::Fail;
 use std::thread::Threads;
 
+// Beside the two pairs that stood before, a map has a hundred.
+fn has_a_hundred_more<R: Abort + Wait>(rt: &R, map: &HashMap<u64, u64>) -> Result<(), Fail> {
+    has_sums(rt, map, (102, 14_954, 49_506))?;
+    same(rt, values_at(rt, map, 100, 199)?, (Some(0), Some(990)));
+    Ok(())
+}
+
+// Extends a map by no pairs, and by a hundred.
+fn extends<R: Abort + AllocGlobal + Threads + Wait + Sync>(
+    rt: &R,
+    map: &HashMap<u64, u64>,
+) -> Result<(), Fail> {
+    insert_two(rt, map)?;
+    map::par_extend(map, rt, Vec::new(rt.alloc()), 7)?;
+    has_sums(rt, map, (2, 4, 6))?;
+    map::par_extend(map, rt, pairs_from_100(rt.alloc(), 100)?, 7)?;
+    has_a_hundred_more(rt, map)
+}
+
 #[test]
 fn a_hundred_pairs(rt: HostRuntime) -> Result<(), Fail> {
-    let map = HashMap::new(rt.alloc()).with_processors(4);
-    insert_two(&rt, &map)?;
-    map::par_extend(&map, &rt, Vec::new(rt.alloc()), 7)?;
-    has_sums(&rt, &map, (2, 4, 6))?;
-    map::par_extend(&map, &rt, pairs_from_100(rt.alloc(), 100)?, 7)?;
-    has_sums(&rt, &map, (102, 14_954, 49_506))?;
-    same(&rt, values_at(&rt, &map, 100, 199)?, (Some(0), Some(990)));
-    Ok(())
+    extends(&rt, &HashMap::new(rt.alloc()).with_processors(4))
+}
+
+// The same by a view of the map.
+fn extends_by_a_view<R: Abort + AllocGlobal + Threads + Wait + Sync>(
+    rt: &R,
+    map: &HashMap<u64, u64>,
+) -> Result<(), Fail> {
+    insert_two(rt, map)?;
+    map_ref::par_extend(&map.pin(rt), Vec::new(rt.alloc()), 7)?;
+    has_sums(rt, map, (2, 4, 6))?;
+    map_ref::par_extend(&map.pin(rt), pairs_from_100(rt.alloc(), 100)?, 7)?;
+    has_a_hundred_more(rt, map)
 }
 
 #[test]
 fn a_hundred_pairs_by_a_view(rt: HostRuntime) -> Result<(), Fail> {
-    let map = HashMap::new(rt.alloc()).with_processors(4);
-    insert_two(&rt, &map)?;
-    map_ref::par_extend(&map.pin(&rt), Vec::new(rt.alloc()), 7)?;
-    has_sums(&rt, &map, (2, 4, 6))?;
-    map_ref::par_extend(&map.pin(&rt), pairs_from_100(rt.alloc(), 100)?, 7)?;
-    has_sums(&rt, &map, (102, 14_954, 49_506))?;
-    same(&rt, values_at(&rt, &map, 100, 199)?, (Some(0), Some(990)));
-    Ok(())
+    extends_by_a_view(&rt, &HashMap::new(rt.alloc()).with_processors(4))
 }
 
 // A new map of so many processors has a hundred pairs after they were inserted in such pieces.
@@ -54,17 +71,25 @@ fn processors_and_parts(rt: HostRuntime) -> Result<(), Fail> {
     Ok(())
 }
 
-// One of the values of a doubled key stands, and the key is counted once.
+// Inserts three pairs in such pieces, of which two have one key: one of their values stands, and the key is counted once.
+fn has_one_of_two<R: Abort + AllocGlobal + Threads + Wait + Sync>(
+    rt: &R,
+    map: &HashMap<u64, u64>,
+    part: usize,
+) -> Result<(), Fail> {
+    let list = Vec::from_array(rt.alloc(), [(1u64, 10u64), (2, 20), (1, 30)])?;
+    map::par_extend(map, rt, list, part)?;
+    same(rt, map.len(rt), 2);
+    let (value, other) = values_at(rt, map, 1, 2)?;
+    same(rt, other, Some(20));
+    same(rt, value == Some(10) || value == Some(30), true);
+    Ok(())
+}
+
 #[test]
 fn a_doubled_key(rt: HostRuntime) -> Result<(), Fail> {
     for part in 0..5usize {
-        let map = HashMap::new(rt.alloc()).with_processors(2);
-        let list = Vec::from_array(rt.alloc(), [(1u64, 10u64), (2, 20), (1, 30)])?;
-        map::par_extend(&map, &rt, list, part)?;
-        same(&rt, map.len(&rt), 2);
-        same(&rt, taken(map.get(&rt, &2)?), Some(20));
-        let value = taken(map.get(&rt, &1)?);
-        same(&rt, value == Some(10) || value == Some(30), true);
+        has_one_of_two(&rt, &HashMap::new(rt.alloc()).with_processors(2), part)?;
     }
     Ok(())
 }

@@ -5,37 +5,48 @@ use flurry_map::HashMap;
 use flurry_model::hash::LowHashBuilder;
 use flurry_shared_par::map;
 use metered_alloc::Metered;
-use std::alloc::Global;
-use std::process::Abort;
+use std::alloc::{AllocError, Allocator, Global};
 use std::sync::Wait;
 use std::test::Fail;
 use std::thread::Threads;
 
 type Memory = &'static Metered<Global>;
 
-type Numbers = HashMap<u64, u64, LowHashBuilder, Memory>;
+// A map of numbers. Its allocator is a parameter, since a proof over `Memory` has to see through it in each step.
+type Numbers<A> = HashMap<u64, u64, LowHashBuilder, A>;
 
 // Whether the two pairs stand that stood before, and the count is that of the pairs of a walk.
-fn is_whole<R: Wait>(rt: &R, map: &Numbers) -> Result<bool, Fail> {
+fn is_whole<A: Allocator + Copy, R: Wait>(rt: &R, map: &Numbers<A>) -> Result<bool, AllocError> {
     let stand = values_at(rt, map, 1, 3)? == (Some(2), Some(4));
     Ok(stand && read_all(map.iter(rt))?.0 == map.len(rt) as u64)
 }
 
-// Two threads are to insert six pairs into a map of two, in pieces of two, with the request numbered k refused: whether that request was
-// made, whether the call was done, whether the map is whole, and how many pairs it has.
+// A list is inserted in pieces of two, with the request numbered k of this memory refused: whether that request was made, whether the call
+// was done, whether the map is whole, and how many pairs it has.
+fn refuse_in<A: Allocator + Copy + Send + Sync, R: Threads + Wait + Sync>(
+    rt: &R,
+    memory: &Metered<Global>,
+    k: u64,
+    map: &Numbers<A>,
+    list: Vec<(u64, u64), A>,
+) -> Result<(bool, bool, bool, usize), AllocError> {
+    memory.refuse_at(k);
+    let done = map::par_extend(map, rt, list, 2).is_ok();
+    let refused = memory.refused();
+    memory.refuse_nothing();
+    Ok((refused, done, is_whole(rt, map)?, map.len(rt)))
+}
+
+// The same of six pairs, which two threads are to insert into a map of two.
 fn extend_without<R: Threads + Wait + Sync>(
     rt: &R,
     memory: Memory,
     k: u64,
-) -> Result<(bool, bool, bool, usize), Fail> {
+) -> Result<(bool, bool, bool, usize), AllocError> {
+    let list = pairs_from_100(memory, 6)?;
     let map = HashMap::with_hasher(memory, LowHashBuilder).with_processors(2);
     insert_two(rt, &map)?;
-    let list = pairs_from_100(memory, 6)?;
-    memory.refuse_at(k);
-    let done = map::par_extend(&map, rt, list, 2).is_ok();
-    let refused = memory.refused();
-    memory.refuse_nothing();
-    Ok((refused, done, is_whole(rt, &map)?, map.len(rt)))
+    refuse_in(rt, memory, k, &map, list)
 }
 
 // A request for each of three pieces, and three for each pair: where one is refused, so is the call, and what stood stays.
@@ -54,19 +65,39 @@ fn each_request(rt: HostRuntime) -> Result<(), Fail> {
     Ok(())
 }
 
+// A list is inserted in pieces of ten, with this memory's requests refused from the one numbered k on: whether the call was refused, and
+// whether the map is whole.
+fn refuse_from<A: Allocator + Copy + Send + Sync, R: Threads + Wait + Sync>(
+    rt: &R,
+    memory: &Metered<Global>,
+    k: u64,
+    map: &Numbers<A>,
+    list: Vec<(u64, u64), A>,
+) -> Result<(bool, bool), AllocError> {
+    memory.refuse_from(k);
+    let refused = map::par_extend(map, rt, list, 10).is_err();
+    memory.refuse_nothing();
+    Ok((refused, is_whole(rt, map)?))
+}
+
+// The same of a thousand pairs, which four threads are to insert into a map of two.
+fn run_out<R: Threads + Wait + Sync>(
+    rt: &R,
+    memory: Memory,
+    k: u64,
+) -> Result<(bool, bool), AllocError> {
+    let list = pairs_from_100(memory, 1000)?;
+    let map = HashMap::with_hasher(memory, LowHashBuilder).with_processors(4);
+    insert_two(rt, &map)?;
+    refuse_from(rt, memory, k, &map, list)
+}
+
 // Four threads insert a thousand pairs while memory runs out: the call is refused, and what stood stays.
 #[test]
 fn memory_that_runs_out(rt: HostRuntime) -> Result<(), Fail> {
     let memory = Metered::leaked(rt.alloc())?;
     for k in [0u64, 100, 1000] {
-        let map = HashMap::with_hasher(memory, LowHashBuilder).with_processors(4);
-        insert_two(&rt, &map)?;
-        let list = pairs_from_100(memory, 1000)?;
-        memory.refuse_from(k);
-        let refused = map::par_extend(&map, &rt, list, 10).is_err();
-        memory.refuse_nothing();
-        same(&rt, (k, refused, is_whole(&rt, &map)?), (k, true, true));
-        drop(map);
+        same(&rt, (k, run_out(&rt, memory, k)?), (k, (true, true)));
         same(&rt, (k, memory.blocks()), (k, 0));
     }
     Ok(())

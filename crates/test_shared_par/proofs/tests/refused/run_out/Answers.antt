@@ -1,5 +1,5 @@
 use Rattle.std.proofs.Crossing.{frees}
-use Rattle.test_shared_par.proofs.tests.refused.memory_that_runs_out.Goals as goal
+use Rattle.test_shared_par.proofs.tests.refused.run_out.Goals as goal
 
-pub par_extend-requires-frees-A-Allocator : goal.par_extend-requires-frees-A-Allocator
-par_extend-requires-frees-A-Allocator c κs within = record { frees = λ lent. frees.frees lent.now.inner }
+pub refuse_from-requires-frees-A-Allocator : goal.refuse_from-requires-frees-A-Allocator
+refuse_from-requires-frees-A-Allocator g c κs within = record { frees = λ lent. frees.frees lent.now.inner }
