@@ -130,33 +130,22 @@ fn a_larger_table_of_an_insertion(rt: HostRuntime) -> Result<(), Fail> {
     Ok(())
 }
 
-// Whether a map with room for five pairs is made.
-fn has_room(memory: Memory) -> bool {
-    let map: Result<Numbers<Memory>, _> = HashMap::with_capacity_and_hasher(
-        memory,
-        5,
-        LowHashBuilder,
-    );
-    map.is_ok()
-}
-
 #[test]
 fn a_map_with_room(rt: HostRuntime) -> Result<(), Fail> {
     let memory = Metered::leaked(rt.alloc())?;
     for k in 0..3u64 {
         memory.refuse_at(k);
-        let made = has_room(memory);
+        let map: Result<Numbers<Memory>, _> = HashMap::with_capacity_and_hasher(
+            memory,
+            5,
+            LowHashBuilder,
+        );
+        same(&rt, (k, map.is_ok()), (k, k == 2));
         memory.refuse_nothing();
-        same(&rt, (k, made), (k, k == 2));
+        drop(map);
         same(&rt, memory.blocks(), 0);
     }
     Ok(())
-}
-
-// Whether one is made by the default hasher.
-fn has_room_by_default(memory: Memory) -> bool {
-    let map: Result<DefaultNumbers, _> = HashMap::with_capacity(memory, 5);
-    map.is_ok()
 }
 
 // The same by the default hasher, which takes no memory.
@@ -165,9 +154,10 @@ fn a_map_with_room_by_default(rt: HostRuntime) -> Result<(), Fail> {
     let memory = Metered::leaked(rt.alloc())?;
     for k in 0..3u64 {
         memory.refuse_at(k);
-        let made = has_room_by_default(memory);
+        let map: Result<DefaultNumbers, _> = HashMap::with_capacity(memory, 5);
+        same(&rt, (k, map.is_ok()), (k, k == 2));
         memory.refuse_nothing();
-        same(&rt, (k, made), (k, k == 2));
+        drop(map);
         same(&rt, memory.blocks(), 0);
     }
     Ok(())
@@ -206,6 +196,7 @@ fn share_without<R: Abort + Wait>(rt: &R, memory: Memory, k: u64) -> Result<(), 
     }
 }
 
+// Each of the two tables of a shared map is refused.
 #[test]
 fn the_tables_of_a_shared_map(rt: HostRuntime) -> Result<(), Fail> {
     let memory = Metered::leaked(rt.alloc())?;
