@@ -134,8 +134,9 @@ fn value(value: Option<u64>) -> Told {
 fn is_at(rt: &impl Abort, slot: &Slot<u64, u64>, table: u8, index: usize)
     ensures { (slot.now.table ≡ table) × (slot.now.index ≡ index) }
 {
-    let at = slot.at();
-    assert!(rt; at.0 == table && at.1 == index);
+    let (slot_table, slot_index) = slot.at();
+    assert!(rt; slot_table == table);
+    assert!(rt; slot_index == index);
 }
 
 // Takes out the slot that a call wants.
@@ -277,6 +278,59 @@ fn run<'k, F: ComputeFn<u64, u64>>(
     ended
 }
 
+// What a test does with a call in progress.
+#[derive(Clone, Copy)]
+enum Script {
+    // The insertion of a twelfth key, which doubles the table.
+    TwelfthKey,
+    // A reserve that makes the first table.
+    Reserve,
+    // The insertion of a ninth key of one hash.
+    NinthKey,
+    // A reserve that others help.
+    Helped,
+    // A look-up that begins at the certificate of the table.
+    LookUp,
+    // A reserve that moves one bin, and stops there for good.
+    GrowthStops,
+    // A walk, over two pairs.
+    Walk,
+}
+
+// Begins a call and lends it to its script.
+fn follows_script<'k, F: ComputeFn<u64, u64>>(
+    rt: &(impl Abort + AllocGlobal),
+    map: &mut Map,
+    hash: u64,
+    call: Call<'k, u64, u64, F>,
+    script: Script,
+)
+    requires { CallIsReady F.can_change call }
+{
+    let mut party = Party::new(call, hash, map.processors);
+    match script {
+        Script::TwelfthKey => growth::twelfth_key_ends(rt, &mut party, map),
+        Script::Reserve => growth::reserve_ends(rt, &mut party, map),
+        Script::NinthKey => growth::ninth_key_ends(rt, &mut party, map),
+        Script::Helped => helping::reserve_ends(rt, &mut party, map),
+        Script::LookUp => one_key::looks_up_from_a_start(rt, &mut party, map),
+        Script::GrowthStops => moves_the_last_bin(rt, &mut party, map),
+        Script::Walk => sweeps::walks_as_a_party(rt, &mut party, map),
+    }
+    drop(party);
+}
+
+// The same of a call without a function.
+fn follows<'k>(
+    rt: &(impl Abort + AllocGlobal),
+    map: &mut Map,
+    hash: u64,
+    asked: Call<'k, u64, u64, NoFn>,
+    script: Script,
+) {
+    follows_script(rt, map, hash, asked, script)
+}
+
 // Runs a call without a function, whose hash is its key.
 fn call<'k>(
     rt: &(impl Abort + AllocGlobal),
@@ -287,11 +341,57 @@ fn call<'k>(
     run(rt, map, hash, call)
 }
 
+// Runs a call, and sees to its reply.
+fn replies<'k>(
+    rt: &(impl Abort + AllocGlobal),
+    map: &mut Map,
+    hash: u64,
+    asked: Call<'k, u64, u64, NoFn>,
+    reply: Told,
+) {
+    let (_, seen) = call(rt, map, hash, asked);
+    same(rt, seen, reply);
+}
+
+// Runs a call without a key, and sees to the number of its steps.
+fn ends_after<'k>(
+    rt: &(impl Abort + AllocGlobal),
+    map: &mut Map,
+    asked: Call<'k, u64, u64, NoFn>,
+    steps: usize,
+) {
+    let (events, reply) = call(rt, map, 0, asked);
+    same(rt, (events.len(), reply), (steps, Told::Ended));
+}
+
 // Inserts a key and value 0, and answers how many steps that took.
 fn insert(rt: &(impl Abort + AllocGlobal), map: &mut Map, hash: u64, key: u64) -> usize {
     let (events, reply) = call(rt, map, hash, Call::Insert(key, 0));
     same(rt, reply, value(None));
     events.len()
+}
+
+// Inserts a key and value 0, and sees to the number of steps.
+fn inserts(rt: &(impl Abort + AllocGlobal), map: &mut Map, hash: u64, key: u64, steps: usize) {
+    same(rt, insert(rt, map, hash, key), steps);
+}
+
+// Sees to the table that is published.
+fn has_table(rt: &impl Abort, map: &Map, table: Option<u8>) {
+    same(rt, map.control.locate(), table);
+}
+
+// Sees to the number of pairs that the control has counted.
+fn has_pairs(rt: &impl Abort, map: &Map, count: usize) {
+    same(rt, map.control.len(), count);
+}
+
+// A map of 16 bins with the keys 1 and 17, whose hash is the key; both stand in bin 1.
+fn one_and_seventeen(rt: &(impl Abort + AllocGlobal)) -> Map {
+    let mut map = empty_map(rt.alloc(), 1, 0);
+    inserts(rt, &mut map, 1, 1, 3);
+    inserts(rt, &mut map, 17, 17, 3);
+    map
 }
 
 // Runs a call, and sees to its events and its reply.

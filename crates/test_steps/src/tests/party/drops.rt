@@ -1,19 +1,14 @@
 //! Removals of a pair that a walk has read.
 
 use super::super::same;
-use super::{Map, answers, call, empty_map, goes_on, insert, value};
+use super::{
+    Map, answers, empty_map, ends_after, goes_on, has_pairs, has_table, one_and_seventeen, replies,
+    value,
+};
 use flurry_calls::Seen;
 use flurry_slots::{ComputeFn, NoFn};
 use flurry_steps::party::{Call, Event, Party};
 use std::process::Abort;
-
-// A map of 16 bins with the keys 1 and 17, whose hash is the key; both stand in bin 1.
-fn one_and_seventeen(rt: &(impl Abort + AllocGlobal)) -> Map {
-    let mut map = empty_map(rt.alloc(), 1, 0);
-    same(rt, insert(rt, &mut map, 1, 1), 3);
-    same(rt, insert(rt, &mut map, 17, 17), 3);
-    map
-}
 
 // What a walk of it reads first: key 1.
 fn first_read<F: ComputeFn<u64, u64>>(
@@ -48,11 +43,9 @@ fn a_pair_is_removed_as_it_was_read(rt: HostRuntime) {
         &events,
         value(Some(0)),
     );
-    let (_, reply) = call(&rt, &mut map, 1, Call::Get(&1));
-    same(&rt, reply, value(None));
-    let (_, reply) = call(&rt, &mut map, 17, Call::Get(&17));
-    same(&rt, reply, value(Some(0)));
-    same(&rt, map.control.len(), 1);
+    replies(&rt, &mut map, 1, Call::Get(&1), value(None));
+    replies(&rt, &mut map, 17, Call::Get(&17), value(Some(0)));
+    has_pairs(&rt, &map, 1);
 }
 
 // Its value was written again, so the pair stays.
@@ -60,8 +53,7 @@ fn a_pair_is_removed_as_it_was_read(rt: HostRuntime) {
 fn a_pair_that_was_rewritten_stays(rt: HostRuntime) {
     let mut map = one_and_seventeen(&rt);
     let seen = first_read::<NoFn>(&rt, &mut map);
-    let (_, reply) = call(&rt, &mut map, 1, Call::Insert(1, 0));
-    same(&rt, reply, value(Some(0)));
+    replies(&rt, &mut map, 1, Call::Insert(1, 0), value(Some(0)));
     let events = [Event::Silent, Event::Decide];
     answers(
         &rt,
@@ -71,8 +63,7 @@ fn a_pair_that_was_rewritten_stays(rt: HostRuntime) {
         &events,
         value(None),
     );
-    let (_, reply) = call(&rt, &mut map, 1, Call::Get(&1));
-    same(&rt, reply, value(Some(0)));
+    replies(&rt, &mut map, 1, Call::Get(&1), value(Some(0)));
 }
 
 // The key was removed and came again, so the pair that is there now stays.
@@ -80,16 +71,12 @@ fn a_pair_that_was_rewritten_stays(rt: HostRuntime) {
 fn a_pair_that_came_again_stays(rt: HostRuntime) {
     let mut map = one_and_seventeen(&rt);
     let seen = first_read::<NoFn>(&rt, &mut map);
-    let (_, reply) = call(&rt, &mut map, 1, Call::Remove(&1));
-    same(&rt, reply, value(Some(0)));
+    replies(&rt, &mut map, 1, Call::Remove(&1), value(Some(0)));
     let further = seen.try_clone().expect(&rt, "a further owner");
-    let (_, reply) = call(&rt, &mut map, 1, Call::RemoveSeen(further));
-    same(&rt, reply, value(None));
-    let (_, reply) = call(&rt, &mut map, 1, Call::Insert(1, 0));
-    same(&rt, reply, value(None));
-    let (_, reply) = call(&rt, &mut map, 1, Call::RemoveSeen(seen));
-    same(&rt, reply, value(None));
-    same(&rt, map.control.len(), 2);
+    replies(&rt, &mut map, 1, Call::RemoveSeen(further), value(None));
+    replies(&rt, &mut map, 1, Call::Insert(1, 0), value(None));
+    replies(&rt, &mut map, 1, Call::RemoveSeen(seen), value(None));
+    has_pairs(&rt, &map, 2);
 }
 
 // Between the read and the removal the table is doubled twice, and the bin moves along.
@@ -97,11 +84,9 @@ fn a_pair_that_came_again_stays(rt: HostRuntime) {
 fn a_pair_that_moved_is_removed(rt: HostRuntime) {
     let mut map = one_and_seventeen(&rt);
     let seen = first_read::<NoFn>(&rt, &mut map);
-    let (events, _) = call(&rt, &mut map, 0, Call::Reserve(16));
-    same(&rt, events.len(), 58);
-    let (_, reply) = call(&rt, &mut map, 1, Call::RemoveSeen(seen));
-    same(&rt, reply, value(Some(0)));
-    same(&rt, map.control.len(), 1);
+    ends_after(&rt, &mut map, Call::Reserve(16), 58);
+    replies(&rt, &mut map, 1, Call::RemoveSeen(seen), value(Some(0)));
+    has_pairs(&rt, &map, 1);
 }
 
 #[test]
@@ -117,5 +102,5 @@ fn a_map_without_a_table_has_no_such_pair(rt: HostRuntime) {
         &[Event::Decide],
         value(None),
     );
-    same(&rt, map.control.locate(), None);
+    has_table(&rt, &map, None);
 }

@@ -1,9 +1,12 @@
 //! Calls that make the table larger.
 
 use super::super::same;
-use super::{Map, Told, answers, call, empty_map, goes_on, insert, reply_of, step, steps, value};
+use super::{
+    Map, Script, Told, answers, empty_map, follows, goes_on, has_pairs, has_table, inserts,
+    replies, reply_of, step, steps, value,
+};
 use flurry_model::reply::KeptReply;
-use flurry_slots::{ComputeFn, NoFn};
+use flurry_slots::ComputeFn;
 use flurry_steps::party::{Call, Event, Party, Want};
 use std::process::Abort;
 
@@ -11,7 +14,7 @@ use std::process::Abort;
 fn map_of(rt: &(impl Abort + AllocGlobal), count: u64) -> Map {
     let mut map = empty_map(rt.alloc(), 1, 0);
     for key in 0..count {
-        same(rt, insert(rt, &mut map, key, key), 3);
+        inserts(rt, &mut map, key, key, 3);
     }
     map
 }
@@ -47,14 +50,14 @@ fn twelfth_key_moves<'k, F: ComputeFn<u64, u64>>(
             Event::Silent,
         ],
     );
-    same(rt, party.reply().is_some(), true);
-    same(rt, party.take_reply().is_none(), true);
+    let is_kept = party.reply().is_some() && party.take_reply().is_none();
+    same(rt, is_kept, true);
     moves_sixteen(rt, party, map);
-    same(rt, map.control.locate(), Some(4));
+    has_table(rt, map, Some(4));
 }
 
 // Its last steps. Before the larger table is published, a look-up follows the bin that has moved.
-fn twelfth_key_ends<'k, F: ComputeFn<u64, u64>>(
+pub(super) fn twelfth_key_ends<'k, F: ComputeFn<u64, u64>>(
     rt: &(impl Abort + AllocGlobal),
     party: &mut Party<'k, u64, u64, F>,
     map: &mut Map,
@@ -75,29 +78,22 @@ fn twelfth_key_ends<'k, F: ComputeFn<u64, u64>>(
         100,
         &[Event::Published(5), Event::Silent, Event::Silent],
     );
-    same(rt, map.control.locate(), Some(5));
-}
-
-fn twelfth_key<F: ComputeFn<u64, u64>>(rt: &(impl Abort + AllocGlobal), map: &mut Map) {
-    let mut party: Party<'_, u64, u64, F> = Party::new(Call::Insert(11, 0), 11, 1);
-    twelfth_key_ends(rt, &mut party, map);
-    drop(party);
+    has_table(rt, map, Some(5));
 }
 
 // Removes the keys below 12, and sees to their values.
 fn removes_twelve(rt: &(impl Abort + AllocGlobal), map: &mut Map) {
-    same(rt, map.control.len(), 12);
+    has_pairs(rt, map, 12);
     for key in 0..12 {
-        let (_events, answer) = call(rt, map, key, Call::Remove(&key));
-        same(rt, answer, value(Some(0)));
+        replies(rt, map, key, Call::Remove(&key), value(Some(0)));
     }
-    same(rt, map.control.len(), 0);
+    has_pairs(rt, map, 0);
 }
 
 #[test]
 fn twelfth_key_doubles_the_table(rt: HostRuntime) {
     let mut map = map_of(&rt, 11);
-    twelfth_key::<NoFn>(&rt, &mut map);
+    follows(&rt, &mut map, 11, Call::Insert(11, 0), Script::TwelfthKey);
     removes_twelve(&rt, &mut map)
 }
 
@@ -115,7 +111,7 @@ fn reserve_of_nothing_opens_one_bin(rt: HostRuntime) {
 }
 
 // The steps of the reserve for 32 pairs. Their table has 64 bins, whose threshold is below 64: it is doubled once.
-fn reserve_ends<'k, F: ComputeFn<u64, u64>>(
+pub(super) fn reserve_ends<'k, F: ComputeFn<u64, u64>>(
     rt: &(impl Abort + AllocGlobal),
     party: &mut Party<'k, u64, u64, F>,
     map: &mut Map,
@@ -137,19 +133,13 @@ fn reserve_ends<'k, F: ComputeFn<u64, u64>>(
         &[Event::Published(7), Event::Silent, Event::Silent],
     );
     same(rt, reply_of(rt, party), Told::Ended);
-    same(rt, map.control.locate(), Some(7));
-}
-
-fn reserve<F: ComputeFn<u64, u64>>(rt: &(impl Abort + AllocGlobal), map: &mut Map) {
-    let mut party: Party<'_, u64, u64, F> = Party::new(Call::Reserve(32), 0, 1);
-    reserve_ends(rt, &mut party, map);
-    drop(party);
+    has_table(rt, map, Some(7));
 }
 
 #[test]
 fn reserves(rt: HostRuntime) {
     let mut map = empty_map(rt.alloc(), 1, 0);
-    reserve::<NoFn>(&rt, &mut map);
+    follows(&rt, &mut map, 0, Call::Reserve(32), Script::Reserve);
     // There is room already.
     answers(
         &rt,
@@ -162,7 +152,7 @@ fn reserves(rt: HostRuntime) {
 }
 
 // The steps of the insertion of a ninth key of one hash.
-fn ninth_key_ends<'k, F: ComputeFn<u64, u64>>(
+pub(super) fn ninth_key_ends<'k, F: ComputeFn<u64, u64>>(
     rt: &(impl Abort + AllocGlobal),
     party: &mut Party<'k, u64, u64, F>,
     map: &mut Map,
@@ -174,25 +164,19 @@ fn ninth_key_ends<'k, F: ComputeFn<u64, u64>>(
         3,
         &[Event::Silent, Event::Decide, Event::Placed(5)],
     );
-    same(rt, map.control.len(), 8);
+    has_pairs(rt, map, 8);
     let after = steps(rt, party, map, 1000);
     same(rt, after.last(), Some(&Event::Silent));
-    same(rt, map.control.locate(), Some(7));
-    same(rt, map.control.len(), 9);
+    has_table(rt, map, Some(7));
+    has_pairs(rt, map, 9);
     same(rt, reply_of(rt, party), Told::Key(KeptReply::New(1)));
-}
-
-fn ninth_key<F: ComputeFn<u64, u64>>(rt: &(impl Abort + AllocGlobal), map: &mut Map) {
-    let mut party: Party<'_, u64, u64, F> = Party::new(Call::TryInsert(8, 1), 0, 1);
-    ninth_key_ends(rt, &mut party, map);
-    drop(party);
 }
 
 #[test]
 fn list_of_eight_grows_before_the_count(rt: HostRuntime) {
     let mut map = empty_map(rt.alloc(), 1, 0);
     for key in 0..8 {
-        same(&rt, insert(&rt, &mut map, 0, key), 3);
+        inserts(&rt, &mut map, 0, key, 3);
     }
-    ninth_key::<NoFn>(&rt, &mut map)
+    follows(&rt, &mut map, 0, Call::TryInsert(8, 1), Script::NinthKey)
 }

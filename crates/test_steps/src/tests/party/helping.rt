@@ -1,8 +1,11 @@
 //! Calls that meet the growth of another call.
 
 use super::super::same;
-use super::{Map, answers, call, empty_map, insert, moves_the_last_bin, steps, value};
-use flurry_slots::{ComputeFn, NoFn};
+use super::{
+    Map, Script, answers, empty_map, follows, has_table, inserts, moves_the_last_bin, replies,
+    steps, value,
+};
+use flurry_slots::ComputeFn;
 use flurry_steps::party::{Call, Event, Party};
 use std::process::Abort;
 
@@ -20,8 +23,8 @@ fn reserve_begins<'k, F: ComputeFn<u64, u64>>(
 // Calls that meet that growth.
 fn others_meet_the_growth(rt: &(impl Abort + AllocGlobal), map: &mut Map) {
     // Its bin has not moved: it decides, counts and then moves the three lower ranges.
-    same(rt, insert(rt, map, 2, 2), 59);
-    same(rt, map.control.locate(), Some(6));
+    inserts(rt, map, 2, 2, 59);
+    has_table(rt, map, Some(6));
     // Its bin has moved: it finds nothing to help with, and goes on to the next table.
     answers(
         rt,
@@ -34,7 +37,7 @@ fn others_meet_the_growth(rt: &(impl Abort + AllocGlobal), map: &mut Map) {
 }
 
 // The steps of the reserve, which those of the others stand between.
-fn reserve_ends<'k, F: ComputeFn<u64, u64>>(
+pub(super) fn reserve_ends<'k, F: ComputeFn<u64, u64>>(
     rt: &(impl Abort + AllocGlobal),
     reserve: &mut Party<'k, u64, u64, F>,
     map: &mut Map,
@@ -43,19 +46,12 @@ fn reserve_ends<'k, F: ComputeFn<u64, u64>>(
     others_meet_the_growth(rt, map);
     let rest = steps(rt, reserve, map, 1000);
     same(rt, rest.len(), 18);
-    same(rt, map.control.locate(), Some(7));
-    let (_events, answer) = call(rt, map, 2, Call::Get(&2));
-    same(rt, answer, value(Some(0)));
-}
-
-fn helping<F: ComputeFn<u64, u64>>(rt: &(impl Abort + AllocGlobal), map: &mut Map) {
-    let mut reserve: Party<'_, u64, u64, F> = Party::new(Call::Reserve(31), 0, 2);
-    reserve_ends(rt, &mut reserve, map);
-    drop(reserve);
+    has_table(rt, map, Some(7));
+    replies(rt, map, 2, Call::Get(&2), value(Some(0)));
 }
 
 #[test]
 fn insertion_helps(rt: HostRuntime) {
     let mut map = empty_map(rt.alloc(), 2, 0);
-    helping::<NoFn>(&rt, &mut map)
+    follows(&rt, &mut map, 0, Call::Reserve(31), Script::Helped)
 }

@@ -1,26 +1,36 @@
 //! Calls of one key, in a table that does not grow.
 
 use super::super::same;
-use super::{Becomes, Map, Told, answers, call, empty_map, insert, reply_of, run, step, value};
+use super::{
+    Becomes, Map, Script, Told, answers, call, empty_map, follows, has_pairs, has_table, insert,
+    reply_of, run, step, value,
+};
 use flurry_model::reply::KeptReply;
 use flurry_slots::{ComputeFn, NoFn};
 use flurry_steps::party::{Call, Event, Party, Want};
 use std::cell::Cell;
 use std::process::Abort;
 
+// Runs a call of hash 3, which decides in its one step, and sees to its reply.
+fn decides<'k>(
+    rt: &(impl Abort + AllocGlobal),
+    map: &mut Map,
+    asked: Call<'k, u64, u64, NoFn>,
+    reply: KeptReply<u64, u64>,
+) {
+    answers(rt, map, 3, asked, &[Event::Decide], Told::Key(reply))
+}
+
 #[test]
 fn calls_without_a_table(rt: HostRuntime) {
     let mut map = empty_map(rt.alloc(), 1, 0);
-    for (asked, reply) in [
-        (Call::Get(&3), KeptReply::Value(None)),
-        (Call::GetKeyValue(&3), KeptReply::Pair(None)),
-        (Call::ContainsKey(&3), KeptReply::Contains(false)),
-        (Call::Remove(&3), KeptReply::Value(None)),
-        (Call::RemoveEntry(&3), KeptReply::Pair(None)),
-    ] {
-        answers(&rt, &mut map, 3, asked, &[Event::Decide], Told::Key(reply));
-    }
-    same(&rt, map.control.locate(), None);
+    decides(&rt, &mut map, Call::Get(&3), KeptReply::Value(None));
+    decides(&rt, &mut map, Call::GetKeyValue(&3), KeptReply::Pair(None));
+    let absent = KeptReply::Contains(false);
+    decides(&rt, &mut map, Call::ContainsKey(&3), absent);
+    decides(&rt, &mut map, Call::Remove(&3), KeptReply::Value(None));
+    decides(&rt, &mut map, Call::RemoveEntry(&3), KeptReply::Pair(None));
+    has_table(&rt, &map, None);
     same(&rt, map.tables.requests, 0);
 }
 
@@ -30,7 +40,7 @@ fn computation_without_a_table(rt: HostRuntime) {
     let (events, answer) = run(&rt, &mut map, 3, Call::Compute(&3, Becomes(Some(1))));
     same(&rt, events.as_slice(), [Event::Decide].as_slice());
     same(&rt, answer, value(None));
-    same(&rt, map.control.locate(), None);
+    has_table(&rt, &map, None);
     same(&rt, map.tables.requests, 0);
 }
 
@@ -45,7 +55,7 @@ fn map_of_three(rt: &(impl Abort + AllocGlobal)) -> Map {
         &[Event::Opened(4), Event::Decide, Event::Silent],
         value(None),
     );
-    same(rt, map.control.len(), 1);
+    has_pairs(rt, &map, 1);
     map
 }
 
@@ -61,7 +71,7 @@ fn answers_in<'k>(
     let (events, answer) = call(rt, map, 3, asked);
     same(rt, answer, Told::Key(reply));
     same(rt, events.len(), steps);
-    same(rt, map.control.len(), len);
+    has_pairs(rt, map, len);
 }
 
 #[test]
@@ -81,25 +91,23 @@ fn look_ups(rt: HostRuntime) {
 #[test]
 fn writes(rt: HostRuntime) {
     let mut map = map_of_three(&rt);
-    for (asked, reply, steps, len) in [
-        (Call::Insert(3, 5), KeptReply::Value(Some(4)), 2, 1),
-        (Call::TryInsert(19, 6), KeptReply::New(6), 3, 2),
-        (
-            Call::TryInsert(19, 7),
-            KeptReply::Exists {
-                current: 6,
-                not_inserted: 7,
-            },
-            2,
-            2,
-        ),
-        (Call::Remove(&35), KeptReply::Value(None), 2, 2),
-        (Call::Remove(&3), KeptReply::Value(Some(5)), 3, 1),
-        (Call::RemoveEntry(&3), KeptReply::Pair(None), 2, 1),
-        (Call::RemoveEntry(&19), KeptReply::Pair(Some((19, 6))), 3, 0),
-    ] {
-        answers_in(&rt, &mut map, asked, reply, steps, len);
-    }
+    let old = KeptReply::Value(Some(4));
+    answers_in(&rt, &mut map, Call::Insert(3, 5), old, 2, 1);
+    let new = KeptReply::New(6);
+    answers_in(&rt, &mut map, Call::TryInsert(19, 6), new, 3, 2);
+    let exists = KeptReply::Exists {
+        current: 6,
+        not_inserted: 7,
+    };
+    answers_in(&rt, &mut map, Call::TryInsert(19, 7), exists, 2, 2);
+    let none = KeptReply::Value(None);
+    answers_in(&rt, &mut map, Call::Remove(&35), none, 2, 2);
+    let old = KeptReply::Value(Some(5));
+    answers_in(&rt, &mut map, Call::Remove(&3), old, 3, 1);
+    let none = KeptReply::Pair(None);
+    answers_in(&rt, &mut map, Call::RemoveEntry(&3), none, 2, 1);
+    let pair = KeptReply::Pair(Some((19, 6)));
+    answers_in(&rt, &mut map, Call::RemoveEntry(&19), pair, 3, 0);
 }
 
 // Runs a computation, and sees to its reply, its number of steps and the number of pairs after it.
@@ -115,7 +123,7 @@ fn computes(
     let (events, answer) = run(rt, map, 3, Call::Compute(&key, Becomes(becomes)));
     same(rt, answer, value(reply));
     same(rt, events.len(), steps);
-    same(rt, map.control.len(), len);
+    has_pairs(rt, map, len);
 }
 
 #[test]
@@ -170,32 +178,34 @@ fn function_is_called_for_a_present_key_alone(rt: HostRuntime) {
     same(&rt, calls_at(&rt, &mut map, 3), 1);
 }
 
-// The steps of a look-up of the key 3 that begins at the certificate of the table.
+// The first step of a look-up of the key 3, at the certificate of the table.
 fn begins_at_a_start<'k, F: ComputeFn<u64, u64>>(
-    rt: &(impl Abort + AllocGlobal),
+    rt: &impl Abort,
     party: &mut Party<'k, u64, u64, F>,
-    map: &mut Map,
+    map: &Map,
 ) {
     let start = map.control.start().expect(rt, "a table is published");
     assert!(rt; party.locates(), "a look-up locates first");
     same(rt, party.want(), Want::Control);
     same(rt, party.on_start(&start), Event::Silent);
-    same(rt, party.locates(), false);
-    same(rt, party.want(), Want::Look(4, 3));
-    same(rt, step(rt, party, map), Event::Decide);
-    same(rt, reply_of(rt, party), value(Some(0)));
 }
 
-fn look_up_of_three<F: ComputeFn<u64, u64>>(rt: &(impl Abort + AllocGlobal), map: &mut Map) {
-    let key = 3;
-    let mut party: Party<'_, u64, u64, F> = Party::new(Call::Get(&key), 3, 1);
-    begins_at_a_start(rt, &mut party, map);
-    drop(party);
+// All its steps.
+pub(super) fn looks_up_from_a_start<'k, F: ComputeFn<u64, u64>>(
+    rt: &(impl Abort + AllocGlobal),
+    party: &mut Party<'k, u64, u64, F>,
+    map: &mut Map,
+) {
+    begins_at_a_start(rt, party, map);
+    let seen = (party.locates(), party.want());
+    same(rt, seen, (false, Want::Look(4, 3)));
+    same(rt, step(rt, party, map), Event::Decide);
+    same(rt, reply_of(rt, party), value(Some(0)));
 }
 
 #[test]
 fn call_begins_at_a_start(rt: HostRuntime) {
     let mut map = empty_map(rt.alloc(), 1, 0);
     let _steps = insert(&rt, &mut map, 3, 3);
-    look_up_of_three::<NoFn>(&rt, &mut map)
+    follows(&rt, &mut map, 3, Call::Get(&3), Script::LookUp)
 }

@@ -1,7 +1,6 @@
 //! Calls whose tables are refused.
 
-use super::super::same;
-use super::{Told, answers, empty_map, insert};
+use super::{Told, answers, empty_map, has_pairs, has_table, inserts};
 use flurry_steps::party::{Call, Event};
 
 #[test]
@@ -15,8 +14,8 @@ fn refused_first_table_refuses_an_insertion(rt: HostRuntime) {
         &[Event::Refused],
         Told::Refused,
     );
-    same(&rt, map.control.locate(), None);
-    same(&rt, insert(&rt, &mut map, 1, 1), 3);
+    has_table(&rt, &map, None);
+    inserts(&rt, &mut map, 1, 1, 3);
 }
 
 #[test]
@@ -43,7 +42,7 @@ fn refused_larger_table_refuses_a_reserve(rt: HostRuntime) {
         &[Event::Opened(6), Event::Refused],
         Told::Refused,
     );
-    same(&rt, map.control.locate(), Some(6));
+    has_table(&rt, &map, Some(6));
 }
 
 // The twelfth pair stays, though its larger table is refused, and the thirteenth doubles the table.
@@ -51,13 +50,13 @@ fn refused_larger_table_refuses_a_reserve(rt: HostRuntime) {
 fn refused_larger_table_leaves_the_pair(rt: HostRuntime) {
     let mut map = empty_map(rt.alloc(), 1, 2);
     for key in 0..11 {
-        same(&rt, insert(&rt, &mut map, key, key), 3);
+        inserts(&rt, &mut map, key, key, 3);
     }
-    same(&rt, insert(&rt, &mut map, 11, 11), 4);
-    same(&rt, map.control.len(), 12);
-    same(&rt, map.control.locate(), Some(4));
-    same(&rt, insert(&rt, &mut map, 12, 12), 24);
-    same(&rt, map.control.locate(), Some(5));
+    inserts(&rt, &mut map, 11, 11, 4);
+    has_pairs(&rt, &map, 12);
+    has_table(&rt, &map, Some(4));
+    inserts(&rt, &mut map, 12, 12, 24);
+    has_table(&rt, &map, Some(5));
 }
 
 // A list of eight whose growth is refused: the pair stays and is counted.
@@ -65,9 +64,9 @@ fn refused_larger_table_leaves_the_pair(rt: HostRuntime) {
 fn refused_larger_table_leaves_the_list(rt: HostRuntime) {
     let mut map = empty_map(rt.alloc(), 1, 2);
     for key in 0..9 {
-        let steps = insert(&rt, &mut map, 0, key);
-        same(&rt, steps, if key < 8 { 3 } else { 4 });
+        let steps = if key < 8 { 3 } else { 4 };
+        inserts(&rt, &mut map, 0, key, steps);
     }
-    same(&rt, map.control.len(), 9);
-    same(&rt, map.control.locate(), Some(4));
+    has_pairs(&rt, &map, 9);
+    has_table(&rt, &map, Some(4));
 }

@@ -1,32 +1,35 @@
 //! A key that is written again and again: no call is refused at any write number while there is memory.
 
 use super::super::same;
-use super::{Becomes, Map, Told, answers, call, empty_map, insert, run, value};
+use super::{Becomes, Map, Told, answers, empty_map, insert, replies, run, value};
 use flurry_model::reply::KeptReply;
 use flurry_slots::NoFn;
 use flurry_steps::party::{Call, Event};
 use std::process::Abort;
 
+// Runs a call of hash 3, and sees to its reply.
+fn tells<'k>(
+    rt: &(impl Abort + AllocGlobal),
+    map: &mut Map,
+    asked: Call<'k, u64, u64, NoFn>,
+    reply: KeptReply<u64, u64>,
+) {
+    replies(rt, map, 3, asked, Told::Key(reply))
+}
+
 // The calls that leave the key 3, which has this value, as it is.
 fn stays(rt: &(impl Abort + AllocGlobal), map: &mut Map, there: u64) {
-    let asked: [(Call<'_, u64, u64, NoFn>, KeptReply<u64, u64>); 6] = [
-        (Call::Get(&3), KeptReply::Value(Some(there))),
-        (Call::GetKeyValue(&3), KeptReply::Pair(Some((3, there)))),
-        (Call::ContainsKey(&3), KeptReply::Contains(true)),
-        (
-            Call::TryInsert(3, 0),
-            KeptReply::Exists {
-                current: there,
-                not_inserted: 0,
-            },
-        ),
-        (Call::Remove(&19), KeptReply::Value(None)),
-        (Call::RemoveEntry(&19), KeptReply::Pair(None)),
-    ];
-    for (asked, reply) in asked {
-        let (_events, reply_for) = call(rt, map, 3, asked);
-        same(rt, reply_for, Told::Key(reply));
-    }
+    let exists = KeptReply::Exists {
+        current: there,
+        not_inserted: 0,
+    };
+    tells(rt, map, Call::Get(&3), KeptReply::Value(Some(there)));
+    let pair = KeptReply::Pair(Some((3, there)));
+    tells(rt, map, Call::GetKeyValue(&3), pair);
+    tells(rt, map, Call::ContainsKey(&3), KeptReply::Contains(true));
+    tells(rt, map, Call::TryInsert(3, 0), exists);
+    tells(rt, map, Call::Remove(&19), KeptReply::Value(None));
+    tells(rt, map, Call::RemoveEntry(&19), KeptReply::Pair(None));
     answers(
         rt,
         map,
@@ -39,8 +42,7 @@ fn stays(rt: &(impl Abort + AllocGlobal), map: &mut Map, there: u64) {
 
 // An insertion and a computation, each of which writes the key 3, which has the first value before.
 fn writes(rt: &(impl Abort + AllocGlobal), map: &mut Map, before: u64, then: u64, after: u64) {
-    let (_events, reply_for) = call(rt, map, 3, Call::Insert(3, then));
-    same(rt, reply_for, value(Some(before)));
+    replies(rt, map, 3, Call::Insert(3, then), value(Some(before)));
     stays(rt, map, then);
     let (_events, reply_for) = run(rt, map, 3, Call::Compute(&3, Becomes(Some(after))));
     same(rt, reply_for, value(Some(after)));
@@ -62,9 +64,19 @@ fn a_key_comes_and_goes_ten_times(rt: HostRuntime) {
     let mut map = empty_map(rt.alloc(), 1, 0);
     let _steps = insert(&rt, &mut map, 3, 3);
     for round in 0..10u64 {
-        let (_events, reply_for) = call(&rt, &mut map, 3, Call::RemoveEntry(&3));
-        same(&rt, reply_for, Told::Key(KeptReply::Pair(Some((3, round)))));
-        let (_events, reply_for) = call(&rt, &mut map, 3, Call::TryInsert(3, round + 1));
-        same(&rt, reply_for, Told::Key(KeptReply::New(round + 1)));
+        replies(
+            &rt,
+            &mut map,
+            3,
+            Call::RemoveEntry(&3),
+            Told::Key(KeptReply::Pair(Some((3, round)))),
+        );
+        replies(
+            &rt,
+            &mut map,
+            3,
+            Call::TryInsert(3, round + 1),
+            Told::Key(KeptReply::New(round + 1)),
+        );
     }
 }

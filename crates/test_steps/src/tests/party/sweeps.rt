@@ -4,10 +4,13 @@ ghost use Rattle.flurry_calls.specs.Part.{LookPart, BinPart};
 ghost use Rattle.flurry_calls.specs.Sweep.{swept_part};
 
 use super::super::{same, same_at};
-use super::{Map, Told, call, empty_map, end, goes_on, insert, lent, moves_the_last_bin, plain};
+use super::{
+    Map, Script, Told, empty_map, end, ends_after, follows, goes_on, has_pairs, has_table, inserts,
+    lent, one_and_seventeen, plain, replies, value,
+};
 use flurry_calls::{Seen, Sweep};
 use flurry_model::reply::KeptReply;
-use flurry_slots::{ComputeFn, NoFn, Slot};
+use flurry_slots::{ComputeFn, Slot};
 use flurry_steps::party::{Call, Event, Party, Want};
 use std::process::Abort;
 
@@ -68,11 +71,11 @@ fn reads(rt: &impl Abort, walk: &mut Sweep<u64, u64>, map: &mut Map, key: u64, v
 
 // The call has ended. Its reply is taken once.
 fn has_ended(rt: &impl Abort, sweep: &mut Sweep<u64, u64>) {
-    same(rt, sweep.want(), Want::Done);
-    same(rt, sweep.reply().is_some(), true);
+    let seen = (sweep.want(), sweep.reply().is_some());
+    same(rt, seen, (Want::Done, true));
     let reply = sweep.take_reply().expect(rt, "the call has ended");
-    same(rt, plain(reply), Told::Ended);
-    same(rt, sweep.want(), Want::Done);
+    let seen = (plain(reply), sweep.want());
+    same(rt, seen, (Told::Ended, Want::Done));
     same(
         rt,
         sweep.reply().is_some() || sweep.take_reply().is_some(),
@@ -83,14 +86,6 @@ fn has_ended(rt: &impl Abort, sweep: &mut Sweep<u64, u64>) {
 // Sees that this is key 1 as it was put first.
 fn is_one(rt: &impl Abort, seen: &Seen<u64, u64>) {
     same(rt, (seen.key(), seen.value()), (&1, &0));
-}
-
-// A map of 16 bins with the keys 1 and 17, whose hash is the key; both stand in bin 1.
-fn one_and_seventeen(rt: &(impl Abort + AllocGlobal)) -> Map {
-    let mut map = empty_map(rt.alloc(), 1, 0);
-    same(rt, insert(rt, &mut map, 1, 1), 3);
-    same(rt, insert(rt, &mut map, 17, 17), 3);
-    map
 }
 
 // A walk of it, which has read key 1.
@@ -123,9 +118,7 @@ fn a_walk_reads_each_pair_once(rt: HostRuntime) {
 fn a_walk_follows_bins_that_move(rt: HostRuntime) {
     let mut map = one_and_seventeen(&rt);
     let mut walk = has_read_one(&rt, &mut map);
-    let (events, reply) = call(&rt, &mut map, 0, Call::Reserve(16));
-    same(&rt, events.len(), 58);
-    same(&rt, reply, Told::Ended);
+    ends_after(&rt, &mut map, Call::Reserve(16), 58);
     silent(&rt, &mut walk, &mut map, 5);
     reads(&rt, &mut walk, &mut map, 17, 0);
     silent(&rt, &mut walk, &mut map, 100);
@@ -138,10 +131,20 @@ fn a_walk_follows_bins_that_move(rt: HostRuntime) {
 fn a_walk_reads_no_key_twice(rt: HostRuntime) {
     let mut map = one_and_seventeen(&rt);
     let mut walk = has_read_one(&rt, &mut map);
-    let (_, reply) = call(&rt, &mut map, 1, Call::Remove(&1));
-    same(&rt, reply, Told::Key(KeptReply::Value(Some(0))));
-    let (_, reply) = call(&rt, &mut map, 1, Call::Insert(1, 5));
-    same(&rt, reply, Told::Key(KeptReply::Value(None)));
+    replies(
+        &rt,
+        &mut map,
+        1,
+        Call::Remove(&1),
+        Told::Key(KeptReply::Value(Some(0))),
+    );
+    replies(
+        &rt,
+        &mut map,
+        1,
+        Call::Insert(1, 5),
+        Told::Key(KeptReply::Value(None)),
+    );
     reads(&rt, &mut walk, &mut map, 17, 0);
     silent(&rt, &mut walk, &mut map, 15);
     has_ended(&rt, &mut walk);
@@ -153,8 +156,13 @@ fn a_walk_reads_no_key_twice(rt: HostRuntime) {
 fn what_was_read_stays(rt: HostRuntime) {
     let mut map = one_and_seventeen(&rt);
     let walk = has_read_one(&rt, &mut map);
-    let (_, reply) = call(&rt, &mut map, 1, Call::Insert(1, 5));
-    same(&rt, reply, Told::Key(KeptReply::Value(Some(0))));
+    replies(
+        &rt,
+        &mut map,
+        1,
+        Call::Insert(1, 5),
+        Told::Key(KeptReply::Value(Some(0))),
+    );
     same(&rt, walk.last_read(), Some((&1, &0)));
     let seen = walk.seen().expect(&rt, "a further owner");
     drop(walk);
@@ -181,7 +189,7 @@ fn a_map_without_a_table_has_nothing_to_go_over(rt: HostRuntime) {
     let mut clear = Sweep::clear();
     ends_at_once(&rt, &mut clear, &mut map);
     drop(clear);
-    same(&rt, map.control.locate(), None);
+    has_table(&rt, &map, None);
 }
 
 // The first step may also be done at a table that is known to be published.
@@ -189,12 +197,11 @@ fn a_map_without_a_table_has_nothing_to_go_over(rt: HostRuntime) {
 fn a_walk_sets_out_from_a_published_table(rt: HostRuntime) {
     let mut map = one_and_seventeen(&rt);
     let mut walk = Sweep::walk();
-    same(&rt, walk.sets_out(), true);
     let start = map.control.start().expect(&rt, "there is a table");
     assert!(&rt; walk.sets_out());
     same(&rt, walk.on_start(&start), Event::Silent);
-    same(&rt, walk.sets_out(), false);
-    same(&rt, walk.want(), Want::Look(4, 0));
+    let seen = (walk.sets_out(), walk.want());
+    same(&rt, seen, (false, Want::Look(4, 0)));
     silent(&rt, &mut walk, &mut map, 1);
     reads(&rt, &mut walk, &mut map, 1, 0);
     drop(walk);
@@ -225,22 +232,14 @@ fn wipes(rt: &impl Abort, clear: &mut Sweep<u64, u64>, map: &mut Map, table: u8,
     }
 }
 
-// A growth that has moved one bin, and whose call stops there for good.
-fn growth_stops<F: ComputeFn<u64, u64>>(rt: &(impl Abort + AllocGlobal), map: &mut Map) {
-    let mut reserve: Party<'_, u64, u64, F> = Party::new(Call::Reserve(30), 0, 2);
-    moves_the_last_bin(rt, &mut reserve, map);
-    drop(reserve);
-}
-
 // Beside that growth the clear wipes the other 63, and of that one its halves.
 #[test]
 fn a_clear_beside_a_growth_wipes_every_bin(rt: HostRuntime) {
     let mut map = empty_map(rt.alloc(), 2, 0);
-    let (_, reply) = call(&rt, &mut map, 0, Call::Reserve(20));
-    same(&rt, reply, Told::Ended);
-    same(&rt, insert(&rt, &mut map, 50, 50), 3);
-    same(&rt, insert(&rt, &mut map, 2, 2), 3);
-    growth_stops::<NoFn>(&rt, &mut map);
+    replies(&rt, &mut map, 0, Call::Reserve(20), Told::Ended);
+    inserts(&rt, &mut map, 50, 50, 3);
+    inserts(&rt, &mut map, 2, 2, 3);
+    follows(&rt, &mut map, 0, Call::Reserve(30), Script::GrowthStops);
     let mut clear = Sweep::clear();
     silent(&rt, &mut clear, &mut map, 1);
     for index in 0..63usize {
@@ -248,13 +247,18 @@ fn a_clear_beside_a_growth_wipes_every_bin(rt: HostRuntime) {
     }
     silent(&rt, &mut clear, &mut map, 1);
     wipes(&rt, &mut clear, &mut map, 7, &[63, 127]);
-    same(&rt, map.control.len(), 2);
+    has_pairs(&rt, &map, 2);
     silent(&rt, &mut clear, &mut map, 1);
     has_ended(&rt, &mut clear);
     drop(clear);
-    same(&rt, map.control.len(), 0);
-    let (_, reply) = call(&rt, &mut map, 2, Call::Get(&2));
-    same(&rt, reply, Told::Key(KeptReply::Value(None)));
+    has_pairs(&rt, &map, 0);
+    replies(
+        &rt,
+        &mut map,
+        2,
+        Call::Get(&2),
+        Told::Key(KeptReply::Value(None)),
+    );
 }
 
 // A walk as a party, which has read key 1.
@@ -279,29 +283,33 @@ fn reads_one<'k, F: ComputeFn<u64, u64>>(
 }
 
 // It goes on to its end, and keeps what it read last.
-fn walks_as_a_party<F: ComputeFn<u64, u64>>(rt: &(impl Abort + AllocGlobal), map: &mut Map) {
-    let mut walk: Party<'_, u64, u64, F> = Party::new(Call::Walk, 0, 1);
-    reads_one(rt, &mut walk, map);
-    let (events, reply) = end(rt, &mut walk, map);
-    same(rt, events.len(), 16);
-    same(rt, reply, Told::Ended);
+pub(super) fn walks_as_a_party<'k, F: ComputeFn<u64, u64>>(
+    rt: &(impl Abort + AllocGlobal),
+    walk: &mut Party<'k, u64, u64, F>,
+    map: &mut Map,
+) {
+    reads_one(rt, walk, map);
+    let (events, reply) = end(rt, walk, map);
+    same(rt, (events.len(), reply), (16, Told::Ended));
     same(rt, walk.last_read(), Some((&17, &0)));
-    drop(walk);
 }
 
 #[test]
 fn a_walk_is_a_party(rt: HostRuntime) {
     let mut map = one_and_seventeen(&rt);
-    walks_as_a_party::<NoFn>(&rt, &mut map);
+    follows(&rt, &mut map, 0, Call::Walk, Script::Walk);
 }
 
 #[test]
 fn a_clear_is_a_party(rt: HostRuntime) {
     let mut map = one_and_seventeen(&rt);
-    let (events, reply) = call(&rt, &mut map, 0, Call::Clear);
-    same(&rt, events.len(), 18);
-    same(&rt, reply, Told::Ended);
-    same(&rt, map.control.len(), 0);
-    let (_, reply) = call(&rt, &mut map, 17, Call::Get(&17));
-    same(&rt, reply, Told::Key(KeptReply::Value(None)));
+    ends_after(&rt, &mut map, Call::Clear, 18);
+    has_pairs(&rt, &map, 0);
+    replies(
+        &rt,
+        &mut map,
+        17,
+        Call::Get(&17),
+        Told::Key(KeptReply::Value(None)),
+    );
 }

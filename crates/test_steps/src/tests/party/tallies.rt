@@ -1,8 +1,8 @@
 //! Pairs that calls count at a tally.
 ghost use Rattle.flurry_steps.specs.PartyView.{CallIsReady};
 
-use super::super::{same, same_at};
-use super::{Map, Told, empty_map, end, step, value};
+use super::super::same;
+use super::{Map, Told, empty_map, end, has_pairs, step, value};
 use flurry_control::Tally;
 use flurry_model::reply::KeptReply;
 use flurry_slots::{ComputeFn, NoFn};
@@ -56,32 +56,51 @@ fn call_counted<'k>(
     counted(rt, map, tally, asked)
 }
 
+// Runs such a call, and sees to what it wants and replies. The control has counted nothing yet.
+fn waits<'k>(
+    rt: &(impl Abort + AllocGlobal),
+    map: &mut Map,
+    tally: &mut Tally,
+    asked: Call<'k, u64, u64, NoFn>,
+    wanted: (Want, Told),
+) {
+    let seen = call_counted(rt, map, tally, asked);
+    same(rt, seen, wanted);
+    has_pairs(rt, map, 0);
+}
+
 // An insertion looks at the control's count where two pairs wait; a removal never does.
 #[test]
 fn pairs_wait_at_a_tally(rt: HostRuntime) {
     let mut map = empty_map(rt.alloc(), 1, 0);
     let mut tally = Tally::new();
-    for (at, asked, wanted, reply) in [
-        (0, Call::Insert(1, 10), Want::Done, value(None)),
-        (1, Call::Insert(2, 20), Want::Control, value(None)),
-        (2, Call::Insert(3, 30), Want::Control, value(None)),
-        (3, Call::Remove(&1), Want::Done, value(Some(10))),
-        (4, Call::Remove(&2), Want::Done, value(Some(20))),
-        (
-            5,
-            Call::TryInsert(4, 40),
-            Want::Control,
-            Told::Key(KeptReply::New(40)),
-        ),
-    ] {
-        let seen = call_counted(&rt, &mut map, &mut tally, asked);
-        same_at(&rt, at, seen, (wanted, reply));
-        same_at(&rt, at, map.control.len(), 0);
-    }
+    let (looks, ends) = (Want::Control, Want::Done);
+    let none = value(None);
+    waits(&rt, &mut map, &mut tally, Call::Insert(1, 10), (ends, none));
+    waits(
+        &rt,
+        &mut map,
+        &mut tally,
+        Call::Insert(2, 20),
+        (looks, none),
+    );
+    waits(
+        &rt,
+        &mut map,
+        &mut tally,
+        Call::Insert(3, 30),
+        (looks, none),
+    );
+    let seen = (ends, value(Some(10)));
+    waits(&rt, &mut map, &mut tally, Call::Remove(&1), seen);
+    let seen = (ends, value(Some(20)));
+    waits(&rt, &mut map, &mut tally, Call::Remove(&2), seen);
+    let seen = (looks, Told::Key(KeptReply::New(40)));
+    waits(&rt, &mut map, &mut tally, Call::TryInsert(4, 40), seen);
     map.control.collect(&mut tally);
-    same(&rt, map.control.len(), 2);
+    has_pairs(&rt, &map, 2);
     map.control.collect(&mut tally);
-    same(&rt, map.control.len(), 2);
+    has_pairs(&rt, &map, 2);
 }
 
 // Fewer pairs than none may wait.
@@ -96,7 +115,7 @@ fn removals_wait_at_a_tally(rt: HostRuntime) {
     let seen = call_counted(&rt, &mut map, &mut second, Call::Remove(&1));
     same(&rt, seen, (Want::Done, value(Some(10))));
     map.control.collect(&mut second);
-    same(&rt, map.control.len(), 4);
+    has_pairs(&rt, &map, 4);
     map.control.collect(&mut first);
-    same(&rt, map.control.len(), 5);
+    has_pairs(&rt, &map, 5);
 }
