@@ -15,63 +15,77 @@ fn two_more(value: u64) -> Option<u64> {
     value.checked_add(2).filter(|sum| *sum < 10)
 }
 
-#[test]
-fn calls_without_a_table(rt: HostRuntime) {
-    absent_key(&rt, rt.alloc(), |_key: &u64, value: &u64| two_more(*value))
+// Calls of one key, with a function.
+#[derive(Clone, Copy)]
+enum Row {
+    AbsentKey,
+    OneKey,
+    Rewrites,
 }
 
-fn absent_key<F: ComputeFn<u64, u64> + Copy>(rt: &impl Abort, alloc: Global, change: F)
+// Goes through a row in a world of its own, which it lends: where a world is dropped, the proof goes through all that it can hold.
+fn goes_through<F: ComputeFn<u64, u64> + Copy>(rt: &impl Abort, alloc: Global, row: Row, change: F)
     requires { (f : F) → F.can_change f }
 {
-    let mut world = world_for(rt, alloc, 0, 1);
+    let capacity = match row {
+        Row::AbsentKey | Row::OneKey => 0,
+        Row::Rewrites => 5000,
+    };
+    let mut world = world_for(rt, alloc, capacity, 1);
+    match row {
+        Row::AbsentKey => absent_key(rt, &mut world, change),
+        Row::OneKey => one_key(rt, &mut world, change),
+        Row::Rewrites => rewrites(rt, &mut world, change),
+    }
+    drop(world);
+}
+
+// The same where the function adds 2.
+fn adds_two(rt: &impl Abort, alloc: Global, row: Row) {
+    goes_through(rt, alloc, row, |_key: &u64, value: &u64| two_more(*value))
+}
+
+#[test]
+fn calls_without_a_table(rt: HostRuntime) {
+    adds_two(&rt, rt.alloc(), Row::AbsentKey)
+}
+
+fn absent_key<'k, F: ComputeFn<u64, u64> + Copy>(
+    rt: &impl Abort,
+    world: &mut Numbers<'k, F>,
+    change: F,
+)
+    requires { (f : F) → F.can_change f }
+{
     let none = value(None);
     let absent = KeptReply::Contains(false);
-    assert_reply(rt, &mut world, OwnedCall::Get(3), none);
-    assert_reply(
-        rt,
-        &mut world,
-        OwnedCall::GetKeyValue(3),
-        KeptReply::Pair(None),
-    );
-    assert_reply(rt, &mut world, OwnedCall::ContainsKey(3), absent);
-    assert_reply(rt, &mut world, OwnedCall::Remove(3), none);
-    assert_reply(
-        rt,
-        &mut world,
-        OwnedCall::RemoveEntry(3),
-        KeptReply::Pair(None),
-    );
-    assert_reply(rt, &mut world, OwnedCall::Compute(3, change), none);
-    let party = begin(rt, &mut world, OwnedCall::Reserve(40));
-    same(rt, end_of(rt, &mut world, party), Line::End(party));
-    drop(world);
+    assert_reply(rt, world, OwnedCall::Get(3), none);
+    assert_reply(rt, world, OwnedCall::GetKeyValue(3), KeptReply::Pair(None));
+    assert_reply(rt, world, OwnedCall::ContainsKey(3), absent);
+    assert_reply(rt, world, OwnedCall::Remove(3), none);
+    assert_reply(rt, world, OwnedCall::RemoveEntry(3), KeptReply::Pair(None));
+    assert_reply(rt, world, OwnedCall::Compute(3, change), none);
+    let party = begin(rt, world, OwnedCall::Reserve(40));
+    same(rt, end_of(rt, world, party), Line::End(party));
 }
 
 #[test]
 fn calls_of_one_key(rt: HostRuntime) {
-    one_key(&rt, rt.alloc(), |_key: &u64, value: &u64| two_more(*value))
+    adds_two(&rt, rt.alloc(), Row::OneKey)
 }
 
-fn one_key<F: ComputeFn<u64, u64> + Copy>(rt: &impl Abort, alloc: Global, change: F)
+fn one_key<'k, F: ComputeFn<u64, u64> + Copy>(
+    rt: &impl Abort,
+    world: &mut Numbers<'k, F>,
+    change: F,
+)
     requires { (f : F) → F.can_change f }
 {
-    let mut world = world_for(rt, alloc, 0, 1);
-    puts(rt, &mut world);
-    assert_reply(
-        rt,
-        &mut world,
-        OwnedCall::Compute(3, change),
-        value(Some(7)),
-    );
-    assert_reply(
-        rt,
-        &mut world,
-        OwnedCall::Compute(19, change),
-        value(Some(8)),
-    );
-    assert_reply(rt, &mut world, OwnedCall::Compute(19, change), value(None));
-    removes(rt, &mut world);
-    drop(world);
+    puts(rt, world);
+    assert_reply(rt, world, OwnedCall::Compute(3, change), value(Some(7)));
+    assert_reply(rt, world, OwnedCall::Compute(19, change), value(Some(8)));
+    assert_reply(rt, world, OwnedCall::Compute(19, change), value(None));
+    removes(rt, world);
 }
 
 // Puts 5 at key 3, and 6 at key 19.
@@ -112,57 +126,85 @@ fn removes<'k, F: ComputeFn<u64, u64> + Copy>(rt: &impl Abort, world: &mut Numbe
     assert_reply(rt, world, OwnedCall::Remove(35), value(Some(1)))
 }
 
+// A list of steps and the same steps one by one have the same labels. Party 0 has read nothing, so that no removal begins of it.
 #[test]
 fn list_of_steps(rt: HostRuntime) {
-    runs_a_list::<NoFn>(&rt, rt.alloc())
+    runs_a_list::<NoFn>(&rt, rt.alloc(), true);
+    runs_a_list::<NoFn>(&rt, rt.alloc(), false)
 }
 
-// The steps, each by the call that does it.
-fn does_singly<'k, F: ComputeFn<u64, u64> + Copy>(
+// How many steps the list has.
+const STEPS: usize = 16;
+
+// The step of the list at this place.
+fn step_at<F>(at: usize) -> Step<u64, u64, F> {
+    match at {
+        0 => Step::Begin(OwnedCall::TryInsert(3, 4)),
+        1 => Step::Begin(OwnedCall::TryInsert(19, 4)),
+        2 | 5 | 7 => Step::Step(0),
+        3 | 4 => Step::Step(1),
+        6 => Step::Step(7),
+        8 => Step::Drop(0),
+        9 => Step::Begin(OwnedCall::Walk),
+        15 => Step::Drop(2),
+        _ => Step::Step(2),
+    }
+}
+
+// Does the steps in a world of its own, as a list or singly.
+fn runs_a_list<F: ComputeFn<u64, u64> + Copy>(rt: &impl Abort, alloc: Global, listed: bool)
+    requires { (f : F) → F.can_change f }
+{
+    let mut world: Numbers<'_, F> = world_for(rt, alloc, 0, 1);
+    if listed {
+        does_listed(rt, alloc, &mut world);
+    } else {
+        does_singly(rt, &mut world);
+    }
+    has_labels_of_the_list(rt, &world);
+    drop(world);
+}
+
+// The steps as a list.
+#[tactic(auto, using(flurry_world::proofs::RunLaws::step_ready))]
+fn does_listed<'k, F: ComputeFn<u64, u64> + Copy>(
     rt: &impl Abort,
+    alloc: Global,
     world: &mut Numbers<'k, F>,
-    steps: &[Step<u64, u64, F>],
 )
     requires { (f : F) → F.can_change f }
 {
-    for step in steps {
-        match step {
+    let mut list = Vec::new(alloc);
+    for at in 0..STEPS {
+        list.push(step_at(at)).expect(rt, "memory for the step");
+    }
+    world.run(list).expect(rt, "memory for the steps");
+}
+
+// The steps, each by the call that does it.
+fn does_singly<'k, F: ComputeFn<u64, u64> + Copy>(rt: &impl Abort, world: &mut Numbers<'k, F>)
+    requires { (f : F) → F.can_change f }
+{
+    for at in 0..STEPS {
+        match step_at(at) {
             Step::Begin(call) => {
-                let _ = begin(rt, world, *call);
+                let _ = begin(rt, world, call);
             }
             Step::Drop(walk) => {
                 let _ = world
-                    .begin_remove_seen(*walk)
+                    .begin_remove_seen(walk)
                     .expect(rt, "memory for the call");
             }
-            Step::Step(party) => world.step(*party).expect(rt, "memory for the step"),
+            Step::Step(party) => world.step(party).expect(rt, "memory for the step"),
         }
     }
 }
 
-// A list of steps and the same steps one by one have the same labels. Party 0 has read nothing, so that no removal begins of it.
-#[tactic(auto, using(flurry_world::proofs::RunLaws::step_ready))]
-fn runs_a_list<F: ComputeFn<u64, u64> + Copy>(rt: &impl Abort, alloc: Global)
-    requires { (f : F) → F.can_change f }
-{
-    let mut list = Vec::new(alloc);
-    list.push(Step::Begin(OwnedCall::TryInsert(3, 4)))
-        .expect(rt, "memory");
-    list.push(Step::Begin(OwnedCall::TryInsert(19, 4)))
-        .expect(rt, "memory");
-    for party in [0, 1, 1, 0, 7, 0] {
-        list.push(Step::Step(party)).expect(rt, "memory");
-    }
-    list.push(Step::Drop(0)).expect(rt, "memory");
-    list.push(Step::Begin(OwnedCall::Walk)).expect(rt, "memory");
-    for _ in 0..5u64 {
-        list.push(Step::Step(2)).expect(rt, "memory");
-    }
-    list.push(Step::Drop(2)).expect(rt, "memory");
-    let mut single: Numbers<'_, F> = world_for(rt, alloc, 0, 1);
-    does_singly(rt, &mut single, list.as_slice());
-    let mut listed: Numbers<'_, F> = world_for(rt, alloc, 0, 1);
-    listed.run(list).expect(rt, "memory for the steps");
+// The labels of the world are those of the list.
+fn has_labels_of_the_list<'k, F: ComputeFn<u64, u64> + Copy>(
+    rt: &impl Abort,
+    world: &Numbers<'k, F>,
+) {
     let lines = [
         Line::Begin(0),
         Line::Begin(1),
@@ -180,10 +222,7 @@ fn runs_a_list<F: ComputeFn<u64, u64> + Copy>(rt: &impl Abort, alloc: Global)
         Line::Read(2, 3, 4),
         Line::Begin(3),
     ];
-    assert_trace(rt, &listed, &lines);
-    assert_trace(rt, &single, &lines);
-    drop(listed);
-    drop(single);
+    assert_trace(rt, world, &lines);
 }
 
 // The labels of a world are these.
@@ -198,77 +237,76 @@ fn assert_trace<'k, F: ComputeFn<u64, u64> + Copy>(
     }
 }
 
+// Without room for a pair the first table has 16 bins; for 1 pair it has 2, for 5 pairs 8, and for 16 pairs 32.
 #[test]
 fn first_table(rt: HostRuntime) {
-    first_tables::<NoFn>(&rt, rt.alloc())
+    for (capacity, table) in [(0, 4), (1, 1), (5, 3), (16, 5)] {
+        has_first_table::<NoFn>(&rt, rt.alloc(), capacity, table);
+    }
 }
 
-// The table for 1 pair has 2 bins, for 5 pairs 8, and for 16 pairs 32.
-fn first_tables<F: ComputeFn<u64, u64> + Copy>(rt: &impl Abort, alloc: Global)
+// The first table of a world with room for so many pairs.
+fn has_first_table<F: ComputeFn<u64, u64> + Copy>(
+    rt: &impl Abort,
+    alloc: Global,
+    capacity: usize,
+    table: u8,
+)
     requires { (f : F) → F.can_change f }
 {
-    let mut empty: Numbers<'_, F> = world_for(rt, alloc, 0, 1);
-    assert_call(
-        rt,
-        &mut empty,
-        0,
-        OwnedCall::Insert(0, 0),
-        &[Line::Opened(4)],
-    );
-    drop(empty);
-    for (capacity, table) in [(1, 1), (5, 3), (16, 5)] {
-        let world: Numbers<'_, F> = world_for(rt, alloc, capacity, 1);
-        begins_with(rt, world, table);
+    let mut world: Numbers<'_, F> = world_for(rt, alloc, capacity, 1);
+    if capacity == 0 {
+        let lines = [Line::Opened(table)];
+        assert_call(rt, &mut world, 0, OwnedCall::Insert(0, 0), &lines);
+    } else {
+        begins_with(rt, &mut world, table);
     }
+    drop(world);
 }
 
 // An insertion decides in the first table, and the next one that a reserve makes tells which one it is.
 fn begins_with<'k, F: ComputeFn<u64, u64> + Copy>(
     rt: &impl Abort,
-    mut world: Numbers<'k, F>,
+    world: &mut Numbers<'k, F>,
     table: u8,
 )
     requires { (f : F) → F.can_change f }
 {
     let lines = [Line::Silent(0), Line::Decide(0, value(None))];
-    assert_call(rt, &mut world, 0, OwnedCall::Insert(0, 0), &lines);
-    same(rt, end_of(rt, &mut world, 0), Line::Reply(0, value(None)));
+    assert_call(rt, world, 0, OwnedCall::Insert(0, 0), &lines);
+    same(rt, end_of(rt, world, 0), Line::Reply(0, value(None)));
     let lines = [Line::Silent(1), Line::Placed(table.saturating_add(1))];
-    assert_call(rt, &mut world, 1, OwnedCall::Reserve(64), &lines);
-    drop(world);
+    assert_call(rt, world, 1, OwnedCall::Reserve(64), &lines);
 }
 
 #[test]
 fn rewritten_value(rt: HostRuntime) {
-    rewrites(&rt, rt.alloc(), |_key: &u64, value: &u64| two_more(*value))
+    adds_two(&rt, rt.alloc(), Row::Rewrites)
 }
 
 // With memory enough no call is refused, in a table of 8192 bins and whatever number a value has: a value is written ten times, and
 // looked up between. Nor is the next larger table.
-fn rewrites<F: ComputeFn<u64, u64> + Copy>(rt: &impl Abort, alloc: Global, change: F)
+fn rewrites<'k, F: ComputeFn<u64, u64> + Copy>(
+    rt: &impl Abort,
+    world: &mut Numbers<'k, F>,
+    change: F,
+)
     requires { (f : F) → F.can_change f }
 {
-    let mut world = world_for(rt, alloc, 5000, 1);
-    assert_reply(rt, &mut world, OwnedCall::Insert(8191, 0), value(None));
+    assert_reply(rt, world, OwnedCall::Insert(8191, 0), value(None));
     for _ in 0..10u8 {
-        assert_reply(rt, &mut world, OwnedCall::Insert(8191, 1), value(Some(0)));
+        assert_reply(rt, world, OwnedCall::Insert(8191, 1), value(Some(0)));
         let exists = KeptReply::Exists {
             current: 1,
             not_inserted: 7,
         };
-        assert_reply(rt, &mut world, OwnedCall::TryInsert(8191, 7), exists);
-        assert_reply(
-            rt,
-            &mut world,
-            OwnedCall::Compute(8191, change),
-            value(Some(3)),
-        );
-        assert_reply(rt, &mut world, OwnedCall::Insert(8191, 0), value(Some(3)));
+        assert_reply(rt, world, OwnedCall::TryInsert(8191, 7), exists);
+        assert_reply(rt, world, OwnedCall::Compute(8191, change), value(Some(3)));
+        assert_reply(rt, world, OwnedCall::Insert(8191, 0), value(Some(3)));
         let pair = KeptReply::Pair(Some((8191, 0)));
-        assert_reply(rt, &mut world, OwnedCall::GetKeyValue(8191), pair);
-        assert_reply(rt, &mut world, OwnedCall::Get(8191), value(Some(0)));
+        assert_reply(rt, world, OwnedCall::GetKeyValue(8191), pair);
+        assert_reply(rt, world, OwnedCall::Get(8191), value(Some(0)));
     }
     let lines = [Line::Silent(61), Line::Placed(14)];
-    assert_call(rt, &mut world, 61, OwnedCall::Reserve(8192), &lines);
-    drop(world);
+    assert_call(rt, world, 61, OwnedCall::Reserve(8192), &lines);
 }

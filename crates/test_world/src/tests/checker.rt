@@ -322,8 +322,8 @@ impl<F: ComputeFn<u64, u64> + Copy> Checker<F> {
     // These keys were written or removed.
     fn touch(&mut self, keys: u64) {
         for known in self.parties.iter_mut() {
-            if known.watched.is_some_and(|pair| keys & set_of(pair.0) != 0) {
-                known.touched = true;
+            if let Some((key, _)) = known.watched {
+                known.touched = known.touched || keys & set_of(key) != 0;
             }
         }
     }

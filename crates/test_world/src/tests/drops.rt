@@ -9,15 +9,35 @@ use flurry_steps::party::OwnedCall;
 use std::alloc::Global;
 use std::process::Abort;
 
-// A world of 16 bins with the pair of 1 and 1, which party 1, a walk, has read.
-fn has_read_one<'k, F: ComputeFn<u64, u64> + Copy>(rt: &impl Abort, alloc: Global) -> Numbers<'k, F>
+// In a world of 16 bins stands the pair of 1 and 1, which party 1, a walk, has read.
+fn reads_one<'k, F: ComputeFn<u64, u64> + Copy>(rt: &impl Abort, world: &mut Numbers<'k, F>)
+    requires { (f : F) → F.can_change f }
+{
+    assert_reply(rt, world, OwnedCall::Insert(1, 1), value(None));
+    let lines = [Line::Silent(1), Line::Silent(1), Line::Read(1, 1, 1)];
+    assert_call(rt, world, 1, OwnedCall::Walk, &lines);
+}
+
+// What became of the pair that was read.
+#[derive(Clone, Copy)]
+enum Pair {
+    Rewritten,
+    Stayed,
+    NotAskedFor,
+}
+
+// Reads it in a world of its own, and removes what was read.
+fn goes_through<F: ComputeFn<u64, u64> + Copy>(rt: &impl Abort, alloc: Global, pair: Pair)
     requires { (f : F) → F.can_change f }
 {
     let mut world: Numbers<'_, F> = world_for(rt, alloc, 8, 1);
-    assert_reply(rt, &mut world, OwnedCall::Insert(1, 1), value(None));
-    let lines = [Line::Silent(1), Line::Silent(1), Line::Read(1, 1, 1)];
-    assert_call(rt, &mut world, 1, OwnedCall::Walk, &lines);
-    world
+    reads_one(rt, &mut world);
+    match pair {
+        Pair::Rewritten => keeps_what_was_rewritten(rt, &mut world),
+        Pair::Stayed => removes_what_stayed(rt, &mut world),
+        Pair::NotAskedFor => removes_nothing(rt, &mut world),
+    }
+    drop(world);
 }
 
 // Begins the removal of what party 1 has read last, as the party of that number.
@@ -47,70 +67,70 @@ fn drops_nothing<'k, F: ComputeFn<u64, u64> + Copy>(
 
 #[test]
 fn removal_of_a_rewritten_pair(rt: HostRuntime) {
-    keeps_what_was_rewritten::<NoFn>(&rt, rt.alloc())
+    goes_through::<NoFn>(&rt, rt.alloc(), Pair::Rewritten)
 }
 
-fn keeps_what_was_rewritten<F: ComputeFn<u64, u64> + Copy>(rt: &impl Abort, alloc: Global)
+fn keeps_what_was_rewritten<'k, F: ComputeFn<u64, u64> + Copy>(
+    rt: &impl Abort,
+    world: &mut Numbers<'k, F>,
+)
     requires { (f : F) → F.can_change f }
 {
-    let mut world: Numbers<'_, F> = has_read_one(rt, alloc);
-    assert_reply(rt, &mut world, OwnedCall::Insert(1, 9), value(Some(1)));
-    drops(rt, &mut world, 3);
+    assert_reply(rt, world, OwnedCall::Insert(1, 9), value(Some(1)));
+    drops(rt, world, 3);
     let lines = [
         Line::Silent(3),
         Line::Decide(3, value(None)),
         Line::Reply(3, value(None)),
         Line::Silent(3),
     ];
-    assert_steps(rt, &mut world, 3, &lines);
-    assert_reply(rt, &mut world, OwnedCall::Get(1), value(Some(9)));
-    drop(world);
+    assert_steps(rt, world, 3, &lines);
+    assert_reply(rt, world, OwnedCall::Get(1), value(Some(9)));
 }
 
 #[test]
 fn removal_of_a_pair_that_stayed(rt: HostRuntime) {
-    removes_what_stayed::<NoFn>(&rt, rt.alloc())
+    goes_through::<NoFn>(&rt, rt.alloc(), Pair::Stayed)
 }
 
-fn removes_what_stayed<F: ComputeFn<u64, u64> + Copy>(rt: &impl Abort, alloc: Global)
+fn removes_what_stayed<'k, F: ComputeFn<u64, u64> + Copy>(
+    rt: &impl Abort,
+    world: &mut Numbers<'k, F>,
+)
     requires { (f : F) → F.can_change f }
 {
-    let mut world: Numbers<'_, F> = has_read_one(rt, alloc);
-    assert_reply(rt, &mut world, OwnedCall::Insert(17, 17), value(None));
-    drops(rt, &mut world, 3);
+    assert_reply(rt, world, OwnedCall::Insert(17, 17), value(None));
+    drops(rt, world, 3);
     let lines = [
         Line::Silent(3),
         Line::Decide(3, value(Some(1))),
         Line::Silent(3),
         Line::Reply(3, value(Some(1))),
     ];
-    assert_steps(rt, &mut world, 3, &lines);
-    assert_reply(rt, &mut world, OwnedCall::Get(1), value(None));
+    assert_steps(rt, world, 3, &lines);
+    assert_reply(rt, world, OwnedCall::Get(1), value(None));
     // The pair is gone now, so that a second removal of it finds none.
-    drops(rt, &mut world, 5);
+    drops(rt, world, 5);
     let lines = [
         Line::Silent(5),
         Line::Decide(5, value(None)),
         Line::Reply(5, value(None)),
     ];
-    assert_steps(rt, &mut world, 5, &lines);
-    drop(world);
+    assert_steps(rt, world, 5, &lines);
 }
 
 #[test]
 fn removal_of_nothing(rt: HostRuntime) {
-    removes_nothing::<NoFn>(&rt, rt.alloc())
+    goes_through::<NoFn>(&rt, rt.alloc(), Pair::NotAskedFor)
 }
 
-fn removes_nothing<F: ComputeFn<u64, u64> + Copy>(rt: &impl Abort, alloc: Global)
+fn removes_nothing<'k, F: ComputeFn<u64, u64> + Copy>(rt: &impl Abort, world: &mut Numbers<'k, F>)
     requires { (f : F) → F.can_change f }
 {
-    let mut world: Numbers<'_, F> = has_read_one(rt, alloc);
-    let walk = begin(rt, &mut world, OwnedCall::Walk);
-    let clear = begin(rt, &mut world, OwnedCall::Clear);
-    drops_nothing(rt, &mut world, walk);
-    drops_nothing(rt, &mut world, clear);
-    drops_nothing(rt, &mut world, 0);
-    drops_nothing(rt, &mut world, 100);
-    drop(world);
+    let walk = begin(rt, world, OwnedCall::Walk);
+    let clear = begin(rt, world, OwnedCall::Clear);
+    drops_nothing(rt, world, walk);
+    drops_nothing(rt, world, clear);
+    drops_nothing(rt, world, 0);
+    drops_nothing(rt, world, 100);
 }

@@ -41,48 +41,74 @@ fn found_further_on(party: usize, number: u64) -> [Line; 5] {
     ]
 }
 
-#[test]
-fn look_up_after_an_insertion(rt: HostRuntime) {
-    insertion_and_look_up::<NoFn>(&rt, rt.alloc())
+// A worked schedule.
+#[derive(Clone, Copy)]
+enum Row {
+    LookUp,
+    ReserveOfNothing,
+    StopsAndGoesOn,
+    StopsForGood,
+    UnknownParties,
 }
 
-fn insertion_and_look_up<F: ComputeFn<u64, u64> + Copy>(rt: &impl Abort, alloc: Global)
+// Goes through a row in a world of its own, which it lends: where a world is dropped, the proof goes through all that it can hold.
+fn goes_through<F: ComputeFn<u64, u64> + Copy>(rt: &impl Abort, alloc: Global, row: Row)
     requires { (f : F) → F.can_change f }
 {
-    let mut world: Numbers<'_, F> = world_for(rt, alloc, 0, 1);
-    let lines = inserted(0, Line::Opened(4));
-    assert_call(rt, &mut world, 0, OwnedCall::Insert(3, 4), &lines);
-    assert_call(rt, &mut world, 1, OwnedCall::Get(3), &found(1, 4));
-    same(rt, world.trace().len(), 11);
+    let (capacity, processors) = match row {
+        Row::StopsAndGoesOn | Row::StopsForGood => (32, 2),
+        _ => (0, 1),
+    };
+    let mut world: Numbers<'_, F> = world_for(rt, alloc, capacity, processors);
+    match row {
+        Row::LookUp => insertion_and_look_up(rt, &mut world),
+        Row::ReserveOfNothing => reserves_nothing(rt, &mut world),
+        Row::StopsAndGoesOn => stops_and_goes_on(rt, &mut world),
+        Row::StopsForGood => stops_for_good(rt, &mut world),
+        Row::UnknownParties => does_nothing(rt, &mut world),
+    }
     drop(world);
+}
+
+#[test]
+fn look_up_after_an_insertion(rt: HostRuntime) {
+    goes_through::<NoFn>(&rt, rt.alloc(), Row::LookUp)
+}
+
+fn insertion_and_look_up<'k, F: ComputeFn<u64, u64> + Copy>(
+    rt: &impl Abort,
+    world: &mut Numbers<'k, F>,
+)
+    requires { (f : F) → F.can_change f }
+{
+    let lines = inserted(0, Line::Opened(4));
+    assert_call(rt, world, 0, OwnedCall::Insert(3, 4), &lines);
+    assert_call(rt, world, 1, OwnedCall::Get(3), &found(1, 4));
+    same(rt, world.trace().len(), 11);
 }
 
 #[test]
 fn reserve_of_nothing(rt: HostRuntime) {
-    reserves_nothing::<NoFn>(&rt, rt.alloc())
+    goes_through::<NoFn>(&rt, rt.alloc(), Row::ReserveOfNothing)
 }
 
-fn reserves_nothing<F: ComputeFn<u64, u64> + Copy>(rt: &impl Abort, alloc: Global)
+fn reserves_nothing<'k, F: ComputeFn<u64, u64> + Copy>(rt: &impl Abort, world: &mut Numbers<'k, F>)
     requires { (f : F) → F.can_change f }
 {
-    let mut world: Numbers<'_, F> = world_for(rt, alloc, 0, 1);
     let lines = [Line::Opened(0), Line::Silent(0), Line::End(0)];
-    assert_call(rt, &mut world, 0, OwnedCall::Reserve(0), &lines);
-    drop(world);
+    assert_call(rt, world, 0, OwnedCall::Reserve(0), &lines);
 }
 
-// A world of two processors whose table of 64 bins grows: party 0 has put key 50. Party 1 has begun the growth, holds the bins 48 to 63
+// In a world of two processors a table of 64 bins grows: party 0 has put key 50. Party 1 has begun the growth, holds the bins 48 to 63
 // and moved none. Party 2 has put key 2, and moved all other bins.
-fn half_grown<'k, F: ComputeFn<u64, u64> + Copy>(rt: &impl Abort, alloc: Global) -> Numbers<'k, F>
+fn half_grows<'k, F: ComputeFn<u64, u64> + Copy>(rt: &impl Abort, world: &mut Numbers<'k, F>)
     requires { (f : F) → F.can_change f }
 {
-    let mut world: Numbers<'_, F> = world_for(rt, alloc, 32, 2);
     let lines = inserted(0, Line::Silent(0));
-    assert_call(rt, &mut world, 0, OwnedCall::Insert(50, 50), &lines);
+    assert_call(rt, world, 0, OwnedCall::Insert(50, 50), &lines);
     let lines = [Line::Silent(1), Line::Placed(7), Line::Silent(1)];
-    assert_call(rt, &mut world, 1, OwnedCall::Reserve(30), &lines);
-    puts_two_and_helps(rt, &mut world);
-    world
+    assert_call(rt, world, 1, OwnedCall::Reserve(30), &lines);
+    puts_two_and_helps(rt, world);
 }
 
 // The 60 steps of party 2.
@@ -134,49 +160,41 @@ fn nothing_published<'k, F: ComputeFn<u64, u64> + Copy>(rt: &impl Abort, world: 
 
 #[test]
 fn helper_that_stops_and_goes_on(rt: HostRuntime) {
-    stops_and_goes_on::<NoFn>(&rt, rt.alloc())
+    goes_through::<NoFn>(&rt, rt.alloc(), Row::StopsAndGoesOn)
 }
 
-fn stops_and_goes_on<F: ComputeFn<u64, u64> + Copy>(rt: &impl Abort, alloc: Global)
+fn stops_and_goes_on<'k, F: ComputeFn<u64, u64> + Copy>(rt: &impl Abort, world: &mut Numbers<'k, F>)
     requires { (f : F) → F.can_change f }
 {
-    let mut world: Numbers<'_, F> = half_grown(rt, alloc);
-    nothing_published(rt, &world);
-    assert_call(rt, &mut world, 3, OwnedCall::Get(50), &found(3, 50));
-    assert_call(
-        rt,
-        &mut world,
-        4,
-        OwnedCall::Get(2),
-        &found_further_on(4, 2),
-    );
-    moves_range(rt, &mut world, 1, 48);
+    half_grows(rt, world);
+    nothing_published(rt, world);
+    assert_call(rt, world, 3, OwnedCall::Get(50), &found(3, 50));
+    assert_call(rt, world, 4, OwnedCall::Get(2), &found_further_on(4, 2));
+    moves_range(rt, world, 1, 48);
     let lines = [
         Line::Published(7),
         Line::Silent(1),
         Line::Silent(1),
         Line::End(1),
     ];
-    assert_steps(rt, &mut world, 1, &lines);
-    drop(world);
+    assert_steps(rt, world, 1, &lines);
 }
 
 #[test]
 fn helper_that_stops_for_good(rt: HostRuntime) {
-    stops_for_good::<NoFn>(&rt, rt.alloc())
+    goes_through::<NoFn>(&rt, rt.alloc(), Row::StopsForGood)
 }
 
 // Bin 50 of 64, the bin of key 114 too, has not moved: its insertion decides there.
-fn stops_for_good<F: ComputeFn<u64, u64> + Copy>(rt: &impl Abort, alloc: Global)
+fn stops_for_good<'k, F: ComputeFn<u64, u64> + Copy>(rt: &impl Abort, world: &mut Numbers<'k, F>)
     requires { (f : F) → F.can_change f }
 {
-    let mut world: Numbers<'_, F> = half_grown(rt, alloc);
+    half_grows(rt, world);
     let lines = [Line::Silent(3), Line::Decide(3, value(None))];
-    assert_call(rt, &mut world, 3, OwnedCall::Insert(114, 1), &lines);
-    same(rt, end_of(rt, &mut world, 3), Line::Reply(3, value(None)));
-    others_end(rt, &mut world);
-    nothing_published(rt, &world);
-    drop(world);
+    assert_call(rt, world, 3, OwnedCall::Insert(114, 1), &lines);
+    same(rt, end_of(rt, world, 3), Line::Reply(3, value(None)));
+    others_end(rt, world);
+    nothing_published(rt, world);
 }
 
 // Further calls, while party 1 stands still.
@@ -206,23 +224,21 @@ fn ends<'k, F: ComputeFn<u64, u64> + Copy>(
 
 #[test]
 fn unknown_and_finished_parties(rt: HostRuntime) {
-    does_nothing::<NoFn>(&rt, rt.alloc())
+    goes_through::<NoFn>(&rt, rt.alloc(), Row::UnknownParties)
 }
 
-fn does_nothing<F: ComputeFn<u64, u64> + Copy>(rt: &impl Abort, alloc: Global)
+fn does_nothing<'k, F: ComputeFn<u64, u64> + Copy>(rt: &impl Abort, world: &mut Numbers<'k, F>)
     requires { (f : F) → F.can_change f }
 {
-    let mut world: Numbers<'_, F> = world_for(rt, alloc, 0, 1);
-    assert_steps(rt, &mut world, 7, &[Line::Silent(7)]);
-    assert_steps(rt, &mut world, 0, &[Line::Silent(0)]);
+    assert_steps(rt, world, 7, &[Line::Silent(7)]);
+    assert_steps(rt, world, 0, &[Line::Silent(0)]);
     let lines = [
         Line::Decide(0, value(None)),
         Line::Reply(0, value(None)),
         Line::Silent(0),
         Line::Silent(0),
     ];
-    assert_call(rt, &mut world, 0, OwnedCall::Get(1), &lines);
-    assert_steps(rt, &mut world, usize::MAX, &[Line::Silent(usize::MAX)]);
+    assert_call(rt, world, 0, OwnedCall::Get(1), &lines);
+    assert_steps(rt, world, usize::MAX, &[Line::Silent(usize::MAX)]);
     same(rt, world.trace().len(), 8);
-    drop(world);
 }

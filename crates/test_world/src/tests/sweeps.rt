@@ -52,97 +52,124 @@ fn ends_after<'k, F: ComputeFn<u64, u64> + Copy>(
     same(rt, step(rt, world, party), Line::End(party));
 }
 
-// A world of 16 bins with the keys 1 and 17 in one of them, where party 2 walks and has read 1.
-fn walks_half_a_bin<'k, F: ComputeFn<u64, u64> + Copy>(
-    rt: &impl Abort,
-    alloc: Global,
-) -> Numbers<'k, F>
+// In a world of 16 bins with the keys 1 and 17 in one of them party 2 walks and has read 1.
+fn walks_half_a_bin<'k, F: ComputeFn<u64, u64> + Copy>(rt: &impl Abort, world: &mut Numbers<'k, F>)
     requires { (f : F) → F.can_change f }
 {
-    let mut world: Numbers<'_, F> = world_for(rt, alloc, 8, 1);
-    puts(rt, &mut world, 0, 1);
-    puts(rt, &mut world, 1, 17);
+    puts(rt, world, 0, 1);
+    puts(rt, world, 1, 17);
     let lines = [Line::Silent(2), Line::Silent(2), Line::Read(2, 1, 1)];
-    assert_call(rt, &mut world, 2, OwnedCall::Walk, &lines);
-    world
+    assert_call(rt, world, 2, OwnedCall::Walk, &lines);
+}
+
+// A worked schedule.
+#[derive(Clone, Copy)]
+enum Row {
+    TwoDoublings,
+    KeyComesAgain,
+    FiveDoublings,
+    GrowthStops,
+    NoTable,
+}
+
+// Goes through a row in a world of its own, which it lends: where a world is dropped, the proof goes through all that it can hold.
+fn goes_through<F: ComputeFn<u64, u64> + Copy>(rt: &impl Abort, alloc: Global, row: Row)
+    requires { (f : F) → F.can_change f }
+{
+    let (capacity, processors) = match row {
+        Row::TwoDoublings | Row::KeyComesAgain => (8, 1),
+        Row::FiveDoublings => (2, 1),
+        Row::GrowthStops => (32, 2),
+        Row::NoTable => (0, 1),
+    };
+    let mut world: Numbers<'_, F> = world_for(rt, alloc, capacity, processors);
+    match row {
+        Row::TwoDoublings => walks_across_doublings(rt, &mut world),
+        Row::KeyComesAgain => walks_past_a_key(rt, &mut world),
+        Row::FiveDoublings => walks_across_five(rt, &mut world),
+        Row::GrowthStops => clears_while_growing(rt, &mut world),
+        Row::NoTable => sweeps_nothing(rt, &mut world),
+    }
+    drop(world);
 }
 
 #[test]
 fn walk_beside_two_doublings(rt: HostRuntime) {
-    walks_across_doublings::<NoFn>(&rt, rt.alloc())
+    goes_through::<NoFn>(&rt, rt.alloc(), Row::TwoDoublings)
 }
 
-fn walks_across_doublings<F: ComputeFn<u64, u64> + Copy>(rt: &impl Abort, alloc: Global)
+fn walks_across_doublings<'k, F: ComputeFn<u64, u64> + Copy>(
+    rt: &impl Abort,
+    world: &mut Numbers<'k, F>,
+)
     requires { (f : F) → F.can_change f }
 {
-    let mut world: Numbers<'_, F> = walks_half_a_bin(rt, alloc);
-    let grower = begin(rt, &mut world, OwnedCall::Reserve(16));
-    ends_after(rt, &mut world, grower, 59);
-    rests(rt, &mut world, 2, 5);
-    assert_steps(rt, &mut world, 2, &[Line::Read(2, 17, 17)]);
-    rests(rt, &mut world, 2, 100);
-    assert_steps(rt, &mut world, 2, &[Line::End(2), Line::Silent(2)]);
-    drop(world);
+    walks_half_a_bin(rt, world);
+    let grower = begin(rt, world, OwnedCall::Reserve(16));
+    ends_after(rt, world, grower, 59);
+    rests(rt, world, 2, 5);
+    assert_steps(rt, world, 2, &[Line::Read(2, 17, 17)]);
+    rests(rt, world, 2, 100);
+    assert_steps(rt, world, 2, &[Line::End(2), Line::Silent(2)]);
 }
 
 #[test]
 fn walk_beside_a_key_that_comes_again(rt: HostRuntime) {
-    walks_past_a_key::<NoFn>(&rt, rt.alloc())
+    goes_through::<NoFn>(&rt, rt.alloc(), Row::KeyComesAgain)
 }
 
-fn walks_past_a_key<F: ComputeFn<u64, u64> + Copy>(rt: &impl Abort, alloc: Global)
+fn walks_past_a_key<'k, F: ComputeFn<u64, u64> + Copy>(rt: &impl Abort, world: &mut Numbers<'k, F>)
     requires { (f : F) → F.can_change f }
 {
-    let mut world: Numbers<'_, F> = walks_half_a_bin(rt, alloc);
-    assert_reply(rt, &mut world, OwnedCall::Remove(1), value(Some(1)));
-    assert_reply(rt, &mut world, OwnedCall::Insert(1, 5), value(None));
-    assert_steps(rt, &mut world, 2, &[Line::Read(2, 17, 17)]);
-    rests(rt, &mut world, 2, 15);
-    assert_steps(rt, &mut world, 2, &[Line::End(2)]);
-    drop(world);
+    walks_half_a_bin(rt, world);
+    assert_reply(rt, world, OwnedCall::Remove(1), value(Some(1)));
+    assert_reply(rt, world, OwnedCall::Insert(1, 5), value(None));
+    assert_steps(rt, world, 2, &[Line::Read(2, 17, 17)]);
+    rests(rt, world, 2, 15);
+    assert_steps(rt, world, 2, &[Line::End(2)]);
 }
 
 #[test]
 fn walk_beside_five_doublings(rt: HostRuntime) {
-    walks_across_five::<NoFn>(&rt, rt.alloc())
+    goes_through::<NoFn>(&rt, rt.alloc(), Row::FiveDoublings)
 }
 
-fn walks_across_five<F: ComputeFn<u64, u64> + Copy>(rt: &impl Abort, alloc: Global)
+fn walks_across_five<'k, F: ComputeFn<u64, u64> + Copy>(rt: &impl Abort, world: &mut Numbers<'k, F>)
     requires { (f : F) → F.can_change f }
 {
-    let mut world: Numbers<'_, F> = world_for(rt, alloc, 2, 1);
-    puts(rt, &mut world, 0, 2);
-    assert_call(rt, &mut world, 1, OwnedCall::Walk, &[Line::Silent(1)]);
-    let grower = begin(rt, &mut world, OwnedCall::Reserve(40));
-    ends_after(rt, &mut world, grower, 147);
-    rests(rt, &mut world, 1, 131);
-    assert_steps(rt, &mut world, 1, &[Line::Read(1, 2, 2)]);
-    rests(rt, &mut world, 1, 121);
-    assert_steps(rt, &mut world, 1, &[Line::End(1)]);
-    drop(world);
+    puts(rt, world, 0, 2);
+    assert_call(rt, world, 1, OwnedCall::Walk, &[Line::Silent(1)]);
+    let grower = begin(rt, world, OwnedCall::Reserve(40));
+    ends_after(rt, world, grower, 147);
+    rests(rt, world, 1, 131);
+    assert_steps(rt, world, 1, &[Line::Read(1, 2, 2)]);
+    rests(rt, world, 1, 121);
+    assert_steps(rt, world, 1, &[Line::End(1)]);
 }
 
 #[test]
 fn clear_beside_a_growth_that_stops(rt: HostRuntime) {
-    clears_while_growing::<NoFn>(&rt, rt.alloc())
+    goes_through::<NoFn>(&rt, rt.alloc(), Row::GrowthStops)
 }
 
-fn clears_while_growing<F: ComputeFn<u64, u64> + Copy>(rt: &impl Abort, alloc: Global)
+fn clears_while_growing<'k, F: ComputeFn<u64, u64> + Copy>(
+    rt: &impl Abort,
+    world: &mut Numbers<'k, F>,
+)
     requires { (f : F) → F.can_change f }
 {
-    let mut world: Numbers<'_, F> = world_for(rt, alloc, 32, 2);
-    puts(rt, &mut world, 0, 50);
-    puts(rt, &mut world, 1, 2);
+    puts(rt, world, 0, 50);
+    puts(rt, world, 1, 2);
     let lines = [
         Line::Silent(2),
         Line::Placed(7),
         Line::Silent(2),
         Line::Moved(6, 63),
     ];
-    assert_call(rt, &mut world, 2, OwnedCall::Reserve(30), &lines);
-    assert_call(rt, &mut world, 3, OwnedCall::Clear, &[Line::Silent(3)]);
+    assert_call(rt, world, 2, OwnedCall::Reserve(30), &lines);
+    assert_call(rt, world, 3, OwnedCall::Clear, &[Line::Silent(3)]);
     for index in 0..63usize {
-        same(rt, step(rt, &mut world, 3), Line::Wipe(3, 6, index));
+        same(rt, step(rt, world, 3), Line::Wipe(3, 6, index));
     }
     let lines = [
         Line::Silent(3),
@@ -151,23 +178,20 @@ fn clears_while_growing<F: ComputeFn<u64, u64> + Copy>(rt: &impl Abort, alloc: G
         Line::Silent(3),
         Line::End(3),
     ];
-    assert_steps(rt, &mut world, 3, &lines);
-    assert_reply(rt, &mut world, OwnedCall::Get(2), value(None));
-    drop(world);
+    assert_steps(rt, world, 3, &lines);
+    assert_reply(rt, world, OwnedCall::Get(2), value(None));
 }
 
 #[test]
 fn sweeps_without_a_table(rt: HostRuntime) {
-    sweeps_nothing::<NoFn>(&rt, rt.alloc())
+    goes_through::<NoFn>(&rt, rt.alloc(), Row::NoTable)
 }
 
-fn sweeps_nothing<F: ComputeFn<u64, u64> + Copy>(rt: &impl Abort, alloc: Global)
+fn sweeps_nothing<'k, F: ComputeFn<u64, u64> + Copy>(rt: &impl Abort, world: &mut Numbers<'k, F>)
     requires { (f : F) → F.can_change f }
 {
-    let mut world: Numbers<'_, F> = world_for(rt, alloc, 0, 1);
     let lines = [Line::Silent(0), Line::End(0), Line::Silent(0)];
-    assert_call(rt, &mut world, 0, OwnedCall::Walk, &lines);
-    let clear = begin(rt, &mut world, OwnedCall::Clear);
-    same(rt, end_of(rt, &mut world, clear), Line::End(clear));
-    drop(world);
+    assert_call(rt, world, 0, OwnedCall::Walk, &lines);
+    let clear = begin(rt, world, OwnedCall::Clear);
+    same(rt, end_of(rt, world, clear), Line::End(clear));
 }
