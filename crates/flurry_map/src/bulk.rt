@@ -1,4 +1,4 @@
-//! Calls of a shared map that go over many pairs.
+//! Calls of a shared map that visit many pairs.
 ghost use Rattle.std.specs.Prelude.{◌≡◌, IfOk};
 
 use crate::HashMap;
@@ -6,17 +6,17 @@ use flurry_model::hash::KeyHasher;
 use std::alloc::{AllocError, Allocator};
 use std::sync::Wait;
 
-// Which pairs these calls find and leave, no clause can tell, since other threads change them meanwhile.
+// No contract specifies which pairs these calls find and leave, since other threads change them meanwhile.
 impl<K: Ord + Drop, V: Drop, S: KeyHasher<K>, A: Allocator + Copy> HashMap<K, V, S, A> {
-    /// Inserts pairs in their order: of a key that comes twice the last value is put last. Room is made first, for as many pairs as the
-    /// list has where the map is empty, and else for half as many, rounded up.
+    /// Inserts the pairs of `list` in their order: if a key comes twice, its last value is inserted last. First it makes room, for as many
+    /// pairs as `list` has if the map is empty, and for half as many, rounded up, if it is not.
     ///
     /// One insertion for each pair. Takes the locks of [`HashMap::reserve`], and for each pair those of [`HashMap::insert`].
     ///
     /// # Errors
     ///
-    /// [`AllocError`], where a table or an insertion is refused. The pairs that were inserted before stay, and so may a larger table;
-    /// the rest is dropped.
+    /// Returns [`AllocError`] if memory for a table cannot be allocated, or if an insertion fails. The pairs that were already inserted
+    /// stay, and so may a larger table; the rest is dropped.
     pub fn extend<R: Wait>(&self, rt: &R, list: Vec<(K, V), A>) -> Result<(), AllocError> {
         let count = list.len();
         let room = if self.is_empty(rt) {
@@ -28,14 +28,14 @@ impl<K: Ord + Drop, V: Drop, S: KeyHasher<K>, A: Allocator + Copy> HashMap<K, V,
         self.insert_all(rt, list)
     }
 
-    /// A map of pairs, inserted in their order, over a hasher. It begins as one with room for as many pairs as the list has, without a
-    /// table for an empty list, and is of the list's allocator.
+    /// Creates a map of the pairs of `list`, inserted in their order, with the given hasher. It starts with room for as many pairs as
+    /// `list` has, or without a table if `list` is empty, and has the allocator of `list`.
     ///
-    /// One insertion for each pair; takes the locks of [`HashMap::insert`] for each.
+    /// One insertion for each pair. Takes the locks of [`HashMap::insert`] for each.
     ///
     /// # Errors
     ///
-    /// [`AllocError`], where memory is wanting. The list is dropped.
+    /// Returns [`AllocError`] if memory cannot be allocated. The list is dropped.
     pub fn from_list<R: Wait>(rt: &R, list: Vec<(K, V), A>, hasher: S) -> Result<Self, AllocError>
     where
         S: Drop,
@@ -46,15 +46,15 @@ impl<K: Ord + Drop, V: Drop, S: KeyHasher<K>, A: Allocator + Copy> HashMap<K, V,
         Ok(map)
     }
 
-    /// Whether this map counts as many pairs as another, and each pair that [`HashMap::iter`] gives here has its value there. Where no
-    /// thread changes either map, that is whether they are equal.
+    /// Returns `true` if this map counts as many pairs as `other`, and if `other` has an equal value for each pair that [`HashMap::iter`]
+    /// gives of this map. If no thread changes either map, it returns whether the maps are equal.
     ///
-    /// One look-up for each pair, where the maps are as long; takes the locks of [`HashMap::len`] of both, of the walk, and of
-    /// [`HashMap::get`] of the other.
+    /// One look-up for each pair if the maps are equally long. Takes the locks of [`HashMap::len`] of both maps, those of the walk, and
+    /// those of [`HashMap::get`] of `other`.
     ///
     /// # Errors
     ///
-    /// [`AllocError`], where a further owner is refused.
+    /// Returns [`AllocError`] if cloning an `Arc` fails.
     pub fn equals<R: Wait>(&self, rt: &R, other: &Self) -> Result<bool, AllocError>
     where
         V: PartialEq,
@@ -62,7 +62,7 @@ impl<K: Ord + Drop, V: Drop, S: KeyHasher<K>, A: Allocator + Copy> HashMap<K, V,
         self.pin(rt).equals(&other.pin(rt))
     }
 
-    // Inserts pairs in their order.
+    // Inserts the pairs of `list` in their order.
     fn insert_all<R: Wait>(&self, rt: &R, list: Vec<(K, V), A>) -> Result<(), AllocError> {
         for (key, value) in list {
             self.insert(rt, key, value)?;

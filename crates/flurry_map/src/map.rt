@@ -27,15 +27,15 @@ use std::hash::Hash;
 use std::marker::Model;
 use std::sync::{Arc, Wait};
 
-/// A map that threads share: each call takes `&self`, and may wait for others.
+/// A map that threads share. Each call takes `&self`, and may wait for others.
 ///
-/// Every call is done in steps, and each step holds the lock of what it reads or changes: of one bin, of the bins of one move, or of
-/// what all calls agree upon, the control. No step waits for a lock of the control while it has one of a bin. A call of one key decides
-/// in one step, under the lock of one bin. It gives the key one hash, and visits at most as many pairs of the bin as the greater of 9
-/// and twice the binary digits of their number and 1.
+/// Every call is done in steps. Each step holds the lock of what it reads or changes: of one bin, of the bins of one move, or of the
+/// control, the state that all calls agree upon. No step waits for a lock of the control while it holds one of a bin. A one-key call has
+/// one deciding step, under the lock of one bin. It hashes the key once, and visits at most `max(9, 2 * d)` pairs of a bin of `n` pairs,
+/// where `d` is the number of binary digits of `n + 1`.
 ///
-/// A table is doubled when it has three pairs for four bins, while there is memory and it has fewer than 2^30 bins. Threads that meet a
-/// growth as they write help it along.
+/// A table is doubled when it has three pairs for every four bins, as long as memory can be allocated and it has fewer than 2^30 bins.
+/// Threads that meet a growth while they write help it.
 ///
 /// ```
 /// HashMap::new(alloc).with_processors(processors)
@@ -56,7 +56,7 @@ impl<K: Ord, V, S: KeyHasher<K>, A: Allocator> Model for HashMap<K, V, S, A> {
 }
 
 impl<K: Hash + Ord + Drop, V: Drop, A: Allocator> HashMap<K, V, DefaultHashBuilder, A> {
-    /// An empty map without a table, over the default hasher whose seed is zero. It takes no memory.
+    /// Creates an empty map without a table, with the default hasher whose seed is zero. It takes no memory.
     pub fn new(alloc: A) -> Self
         ensures seed { seed_of result.hasher ≡ 0 }
         ensures processors { result.processors ≡ 1 }
@@ -64,13 +64,14 @@ impl<K: Hash + Ord + Drop, V: Drop, A: Allocator> HashMap<K, V, DefaultHashBuild
         HashMap::with_hasher(alloc, DefaultHashBuilder::default())
     }
 
-    /// An empty map with a table for so many pairs, without one for 0. It is over the default hasher whose seed is zero.
+    /// Creates an empty map with a table for `capacity` pairs, with the default hasher whose seed is zero. If `capacity` is 0, it has no
+    /// table.
     ///
-    /// Linear time in the bins.
+    /// Linear in the number of bins.
     ///
     /// # Errors
     ///
-    /// [`AllocError`], where memory for the table is wanting.
+    /// Returns [`AllocError`] if memory for the table cannot be allocated.
     pub fn with_capacity(alloc: A, capacity: usize) -> Result<Self, AllocError>
     where
         A: Copy,
@@ -82,14 +83,14 @@ impl<K: Hash + Ord + Drop, V: Drop, A: Allocator> HashMap<K, V, DefaultHashBuild
 }
 
 impl<K: Ord + Drop, V: Drop, S: KeyHasher<K>, A: Allocator> HashMap<K, V, S, A> {
-    /// An empty map without a table, over a hasher. It takes no memory.
+    /// Creates an empty map without a table, with the given hasher. It takes no memory.
     pub fn with_hasher(alloc: A, hasher: S) -> Self
         ensures { result ≡ record { hasher = hasher; processors = 1 } }
     {
         HashMap::of_locks(Locks::new(alloc), hasher)
     }
 
-    // The map whose parts are under these locks.
+    // Creates the map whose parts are under `locks`.
     pub(crate) fn of_locks(locks: Locks<K, V, A>, hasher: S) -> Self
         ensures { result ≡ record { hasher = hasher; processors = 1 } }
     {
@@ -100,8 +101,8 @@ impl<K: Ord + Drop, V: Drop, S: KeyHasher<K>, A: Allocator> HashMap<K, V, S, A> 
         }
     }
 
-    /// The map with so many processors that share the work of a growth; 0 counts as 1. A thread that helps claims fewer bins at once
-    /// where they are many.
+    /// Sets the number of threads among which a growth is divided; `0` means 1. The greater it is, the fewer bins a helping thread claims
+    /// at once.
     ///
     /// Constant time.
     pub fn with_processors(self, processors: usize) -> Self
@@ -115,7 +116,7 @@ impl<K: Ord + Drop, V: Drop, S: KeyHasher<K>, A: Allocator> HashMap<K, V, S, A> 
         }
     }
 
-    /// The view of the map by this runtime, whose calls need not be handed it. Constant time; takes no memory.
+    /// Returns a view of the map. It keeps the runtime `rt`, so its calls do not take it as an argument. Constant time; takes no memory.
     #[inline(always)]
     pub fn pin<'m, R>(&'m self, rt: &'m R) -> HashMapRef<'m, R, K, V, S, A>
         ensures { result ≡ self.now }
@@ -123,31 +124,32 @@ impl<K: Ord + Drop, V: Drop, S: KeyHasher<K>, A: Allocator> HashMap<K, V, S, A> 
         HashMapRef::new(rt, &self.locks, &self.hasher, self.processors)
     }
 
-    /// The number of pairs, as they are counted at one moment while the call runs: a call that has decided may yet have to count.
+    /// Returns the number of pairs, counted at one moment during the call. A concurrent call that has already taken effect may not be
+    /// counted yet.
     ///
-    /// Takes the control's lock, then that of each tally in turn. Constant time.
-    // The count is known by its type alone, since other threads change it.
+    /// Takes the control's lock, then the lock of each tally in turn. Constant time.
+    // No contract specifies the count, since other threads change it.
     pub fn len<R: Wait>(&self, rt: &R) -> usize {
         self.pin(rt).len()
     }
 
-    /// Whether that number is 0.
+    /// Returns `true` if the map has no pairs. They are counted as by [`HashMap::len`].
     ///
-    /// Takes the control's lock, then that of each tally in turn. Constant time.
-    // As of `len`.
+    /// Takes the control's lock, then the lock of each tally in turn. Constant time.
+    // No contract specifies the result, since other threads change the count.
     pub fn is_empty<R: Wait>(&self, rt: &R) -> bool {
         self.len(rt) == 0
     }
 }
 
 impl<K: Ord + Drop, V: Drop, S: KeyHasher<K>, A: Allocator + Copy> HashMap<K, V, S, A> {
-    /// An empty map over a hasher, with a table for so many pairs; without one for 0.
+    /// Creates an empty map with a table for `capacity` pairs, with the given hasher. If `capacity` is 0, it has no table.
     ///
-    /// Linear time in the bins.
+    /// Linear in the number of bins.
     ///
     /// # Errors
     ///
-    /// [`AllocError`], where memory for the table is wanting.
+    /// Returns [`AllocError`] if memory for the table cannot be allocated.
     pub fn with_capacity_and_hasher(
         alloc: A,
         capacity: usize,
@@ -165,10 +167,10 @@ impl<K: Ord + Drop, V: Drop, S: KeyHasher<K>, A: Allocator + Copy> HashMap<K, V,
         Ok(HashMap::of_locks(locks, hasher))
     }
 
-    /// A further owner of the value of a key.
+    /// Returns a clone of the value's `Arc`, or `None` if the key is absent.
     ///
-    /// Takes the lock of the key's bin, to read, or the control's where no table was published yet. Where the bin has moved, it goes on
-    /// in the next table, and helps no growth.
+    /// Takes the lock of the key's bin for reading, or the control's lock if no table has been published yet. If the bin has moved, the
+    /// call continues in the next table; it does not help the growth.
     ///
     /// ```
     /// match map.get(rt, &key)? {
@@ -179,7 +181,7 @@ impl<K: Ord + Drop, V: Drop, S: KeyHasher<K>, A: Allocator + Copy> HashMap<K, V,
     ///
     /// # Errors
     ///
-    /// [`AllocError`], where a further owner is refused. It is not where the key is absent.
+    /// Returns [`AllocError`] if cloning the `Arc` fails, which it cannot if the key is absent.
     pub fn get<R: Wait>(&self, rt: &R, key: &K) -> Result<Option<Arc<V, A>>, AllocError>
         ensures { IsDriven (Maker K V A) K.cmp no_changes self.now (S.hash_of self.now.hasher key.now)
             (AtLocate (Finds TheValue key.now)) (value_outcome result) }
@@ -187,13 +189,13 @@ impl<K: Ord + Drop, V: Drop, S: KeyHasher<K>, A: Allocator + Copy> HashMap<K, V,
         self.pin(rt).get(key)
     }
 
-    /// Further owners of the stored key and of its value.
+    /// Returns clones of the `Arc`s of the stored key and of its value, or `None` if the key is absent.
     ///
-    /// Takes the locks that [`HashMap::get`] takes.
+    /// Takes the same locks as [`HashMap::get`].
     ///
     /// # Errors
     ///
-    /// [`AllocError`], where a further owner is refused. It is not where the key is absent.
+    /// Returns [`AllocError`] if cloning an `Arc` fails, which it cannot if the key is absent.
     pub fn get_key_value<R: Wait>(
         &self,
         rt: &R,
@@ -205,9 +207,9 @@ impl<K: Ord + Drop, V: Drop, S: KeyHasher<K>, A: Allocator + Copy> HashMap<K, V,
         self.pin(rt).get_key_value(key)
     }
 
-    /// Whether the map has the key. It takes no memory.
+    /// Returns `true` if the map has the key. It takes no memory.
     ///
-    /// Takes the locks that [`HashMap::get`] takes.
+    /// Takes the same locks as [`HashMap::get`].
     pub fn contains_key<R: Wait>(&self, rt: &R, key: &K) -> bool
         ensures { IsDriven (Maker K V A) K.cmp (no_changes {K = K} {V = V}) self.now
             (S.hash_of self.now.hasher key.now) (AtLocate (Finds Presence key.now))
@@ -216,10 +218,10 @@ impl<K: Ord + Drop, V: Drop, S: KeyHasher<K>, A: Allocator + Copy> HashMap<K, V,
         self.pin(rt).contains_key(key)
     }
 
-    /// Takes the pair of a key out, and answers its value. The table stays as large as it is.
+    /// Removes the pair of a key, and returns its value, or `None` if the key is absent. The table keeps its size.
     ///
-    /// Takes the lock of the key's bin, to write, and, where the key was present, then a tally's or the control's, to count. Where the
-    /// bin has moved it helps the growth first.
+    /// Takes the lock of the key's bin for writing and, if the key was present, then the lock of a tally or of the control, to count. If
+    /// the bin has moved, the call helps the growth first.
     pub fn remove<R: Wait>(&self, rt: &R, key: &K) -> Option<Arc<V, A>>
         ensures { IsDriven (Maker K V A) K.cmp (no_changes {K = K} {V = V}) self.now
             (S.hash_of self.now.hasher key.now) (AtLocate (Removes TheValue key.now))
@@ -228,9 +230,9 @@ impl<K: Ord + Drop, V: Drop, S: KeyHasher<K>, A: Allocator + Copy> HashMap<K, V,
         self.pin(rt).remove(key)
     }
 
-    /// Takes the pair of a key out, and answers the stored key and the value. The table stays as large as it is.
+    /// Removes the pair of a key, and returns the stored key and the value, or `None` if the key is absent. The table keeps its size.
     ///
-    /// Takes the locks that [`HashMap::remove`] takes.
+    /// Takes the same locks as [`HashMap::remove`].
     pub fn remove_entry<R: Wait>(&self, rt: &R, key: &K) -> Option<(Arc<K, A>, Arc<V, A>)>
         ensures { IsDriven (Maker K V A) K.cmp (no_changes {K = K} {V = V}) self.now
             (S.hash_of self.now.hasher key.now) (AtLocate (Removes ThePair key.now))
@@ -239,10 +241,10 @@ impl<K: Ord + Drop, V: Drop, S: KeyHasher<K>, A: Allocator + Copy> HashMap<K, V,
         self.pin(rt).remove_entry(key)
     }
 
-    /// Takes a pair out that an iterator has read, if its value still stands as it was read: nobody has written or removed it since. Answers
-    /// that value, or none where it does not. The table stays as large as it is.
+    /// Removes a pair that an iterator has read, if its value is still the one that was read: nobody has written or removed it since.
+    /// Returns that value, or `None` if the pair was not removed. The table keeps its size.
     ///
-    /// Takes the locks that [`HashMap::remove`] takes, and no memory.
+    /// Takes the same locks as [`HashMap::remove`], and no memory.
     pub fn remove_seen<R: Wait>(&self, rt: &R, seen: Seen<K, V, A>) -> Option<Arc<V, A>>
         ensures { IsDriven (Maker K V A) K.cmp (no_changes {K = K} {V = V}) self.now
             (S.hash_of self.now.hasher seen.key) (AtLocate (RemovesSeen seen))
@@ -251,11 +253,13 @@ impl<K: Ord + Drop, V: Drop, S: KeyHasher<K>, A: Allocator + Copy> HashMap<K, V,
         self.pin(rt).remove_seen(seen)
     }
 
-    /// Sets the value of a key, and answers the old one. A key that is stored stays, and the one that was handed in is dropped.
-    /// A new key may make the table larger; where the larger table finds no memory, the map stays in the old one.
+    /// Sets the value of a key, and returns the old value, or `None` if the key was absent. If the key is present, the stored key stays,
+    /// and the argument `key` is dropped. A new key may make the table grow; if memory for the larger table cannot be allocated, the map
+    /// stays in the old table.
     ///
-    /// Takes the lock of the key's bin, to write, and, where the key was absent, then a tally's or the control's, to count; before the
-    /// first table the control's, to make it. Where the bin has moved, or the control counts while a growth runs, it helps the growth.
+    /// Takes the lock of the key's bin for writing and, if the key was absent, then the lock of a tally or of the control, to count. Before
+    /// the first table, it takes the control's lock, to make that table. If the bin has moved, or if the pair is counted at the control
+    /// while a growth is running, the call helps the growth.
     ///
     /// ```
     /// match map.insert(rt, key, key) {
@@ -266,8 +270,8 @@ impl<K: Ord + Drop, V: Drop, S: KeyHasher<K>, A: Allocator + Copy> HashMap<K, V,
     ///
     /// # Errors
     ///
-    /// [`AllocError`], where memory for the pair or for a first table is wanting. No pair is changed by the call then, and the key and
-    /// the value are dropped.
+    /// Returns [`AllocError`] if memory for the pair or for a first table cannot be allocated. The call then changes no pair, and the key
+    /// and the value are dropped.
     pub fn insert<R: Wait>(&self, rt: &R, key: K, value: V) -> Result<Option<Arc<V, A>>, AllocError>
         ensures { IsDriven (Maker K V A) K.cmp no_changes self.now (S.hash_of self.now.hasher key)
             (AtLocate (Inserts key value)) (value_outcome result) }
@@ -275,10 +279,10 @@ impl<K: Ord + Drop, V: Drop, S: KeyHasher<K>, A: Allocator + Copy> HashMap<K, V,
         self.pin(rt).insert(key, value)
     }
 
-    /// Puts a value at an absent key, and answers a further owner of it. At a present key nothing changes: the error has the value that
-    /// stands and the one that was handed in, and the key is dropped.
+    /// Inserts a pair if the key is absent, and returns a clone of the value's `Arc`. If the key is present, nothing changes: the returned
+    /// error has the stored value and the argument `value`, and the argument `key` is dropped.
     ///
-    /// Takes the locks that [`HashMap::insert`] takes.
+    /// Takes the same locks as [`HashMap::insert`].
     ///
     /// ```
     /// match map.try_insert(rt, key, value)? {
@@ -289,8 +293,8 @@ impl<K: Ord + Drop, V: Drop, S: KeyHasher<K>, A: Allocator + Copy> HashMap<K, V,
     ///
     /// # Errors
     ///
-    /// [`AllocError`], as of [`HashMap::insert`], and also where a further owner of the answered value is refused. No pair is changed
-    /// by the call then, and the key and the value are dropped.
+    /// Returns [`AllocError`] if memory for the pair or for a first table cannot be allocated, or if cloning the `Arc` of the new or of the
+    /// stored value fails. The call then changes no pair, and the key and the value are dropped.
     pub fn try_insert<R: Wait>(
         &self,
         rt: &R,
@@ -304,12 +308,12 @@ impl<K: Ord + Drop, V: Drop, S: KeyHasher<K>, A: Allocator + Copy> HashMap<K, V,
         self.pin(rt).try_insert(key, value)
     }
 
-    /// Calls a function at most once, on the stored key and the value of a key that is present; else it calls nothing, asks for no
-    /// memory and answers none. What the function answers is the new value, and is answered; where it answers none, the pair is taken
-    /// out. The table stays as large as it is.
+    /// Calls `f` once on the stored key and its value if the key is present, and stores what `f` returns as the new value. Returns the new
+    /// value. If `f` returns `None`, the pair is removed, and `None` is returned. If the key is absent, `f` is not called, no memory is
+    /// taken, and `None` is returned. The table keeps its size.
     ///
-    /// The function runs while the key's bin is locked. It must not call this map: a call for a key of the same bin would wait for
-    /// itself. Takes the locks that [`HashMap::remove`] takes.
+    /// `f` runs while the key's bin is locked. It must not call this map: a call with a key of the same bin would wait for itself. Takes
+    /// the same locks as [`HashMap::remove`].
     ///
     /// ```
     /// let answer = map.compute_if_present(
@@ -324,8 +328,8 @@ impl<K: Ord + Drop, V: Drop, S: KeyHasher<K>, A: Allocator + Copy> HashMap<K, V,
     ///
     /// # Errors
     ///
-    /// [`AllocError`], where memory for the new value, or for its further owner, is wanting. The function was called then; the
-    /// value that it computed is dropped, and the pair stays as it was.
+    /// Returns [`AllocError`] if memory for the new value cannot be allocated, or if cloning its `Arc` fails. `f` has been called then; the
+    /// value that it computed is dropped, and the pair is unchanged.
     pub fn compute_if_present<F: FnOnce(&K, &V) -> Option<V> + Drop, R: Wait>(
         &self,
         rt: &R,
@@ -340,13 +344,13 @@ impl<K: Ord + Drop, V: Drop, S: KeyHasher<K>, A: Allocator + Copy> HashMap<K, V,
         self.pin(rt).compute_if_present(key, f)
     }
 
-    /// Makes the table large enough for so many more pairs than the map then counts, unless another growth runs: it ends then at once.
+    /// Grows the table so that `additional` more pairs fit than the map then counts. If another growth is running, it returns at once.
     ///
-    /// Each doubling moves every pair. Takes the control's lock, and those of the bins that it moves.
+    /// Each doubling moves every pair. Takes the control's lock, and the locks of the bins that it moves.
     ///
     /// # Errors
     ///
-    /// [`AllocError`], where memory for a table is wanting. The pairs stay, and so do the doublings that were done.
+    /// Returns [`AllocError`] if memory for a table cannot be allocated. The pairs stay, and so do the doublings that were done.
     pub fn reserve<R: Wait>(&self, rt: &R, additional: usize) -> Result<(), AllocError>
         ensures { IsDriven (Maker K V A) K.cmp (no_changes {K = K} {V = V}) self.now 0
             (AtReserve additional) (ended_outcome result) }
@@ -354,9 +358,9 @@ impl<K: Ord + Drop, V: Drop, S: KeyHasher<K>, A: Allocator + Copy> HashMap<K, V,
         self.pin(rt).reserve(additional)
     }
 
-    /// Removes all pairs, one bin after another. Other calls may put pairs meanwhile, which stay where the clear has passed by.
+    /// Removes all pairs, one bin after another. Other calls may insert pairs meanwhile; those in bins that are already cleared remain.
     ///
-    /// Linear time in the bins and pairs, and takes the lock of each bin in turn, and then the control's; takes no memory.
+    /// Linear in the number of bins and pairs. Takes the lock of each bin in turn, and then the control's lock; takes no memory.
     pub fn clear<R: Wait>(&self, rt: &R)
         ensures { IsDriven (Maker K V A) K.cmp (no_changes {K = K} {V = V}) self.now 0
             (AtSweep (fresh_sweep (Wipes 0))) OutcomeEnded }
@@ -364,11 +368,11 @@ impl<K: Ord + Drop, V: Drop, S: KeyHasher<K>, A: Allocator + Copy> HashMap<K, V,
         self.pin(rt).clear();
     }
 
-    /// Calls a function on the stored key and the value of each pair that [`HashMap::iter`] gives, and removes those at which it answers
-    /// false. A pair whose value was written or removed since it was shown stays as it is.
+    /// Calls `f` on the stored key and the value of each pair that [`HashMap::iter`] gives, and removes the pairs for which it returns
+    /// `false`. A pair whose value was written or removed since the iterator read it is left as it is.
     ///
-    /// The function runs while no lock is held, so it may call this map. One removal for each pair at which it answers false, besides the
-    /// walk; takes the locks of the walk, and of [`HashMap::remove`].
+    /// `f` runs while no lock is held, so it may call this map. One removal for each pair for which `f` returns `false`, besides the walk.
+    /// Takes the locks of the walk, and those of [`HashMap::remove`].
     ///
     /// ```
     /// map.retain(rt, |key: &u64, _value: &u64| -> bool { *key % 2 == 0 })
@@ -376,8 +380,8 @@ impl<K: Ord + Drop, V: Drop, S: KeyHasher<K>, A: Allocator + Copy> HashMap<K, V,
     ///
     /// # Errors
     ///
-    /// [`AllocError`], where a further owner is refused. The pairs that were removed before stay removed.
-    // Which pairs it finds and leaves, no clause can tell, since other threads change them meanwhile.
+    /// Returns [`AllocError`] if cloning an `Arc` fails. The pairs that were already removed stay removed.
+    // No contract specifies which pairs it finds and leaves, since other threads change them meanwhile.
     pub fn retain<F: FnMut(&K, &V) -> bool, R: Wait>(&self, rt: &R, f: F) -> Result<(), AllocError>
     where
         F: Drop,
@@ -386,12 +390,17 @@ impl<K: Ord + Drop, V: Drop, S: KeyHasher<K>, A: Allocator + Copy> HashMap<K, V,
         self.pin(rt).retain(f)
     }
 
-    /// The same as [`HashMap::retain`], but it removes whatever value then stands at the key.
+    /// Calls `f` on the stored key and the value of each pair that [`HashMap::iter`] gives, and removes the keys for which it returns
+    /// `false`, with any value that they then have. Unlike [`HashMap::retain`], it also removes a value that was written since the iterator
+    /// read the pair.
+    ///
+    /// `f` runs while no lock is held, so it may call this map. One removal for each pair for which `f` returns `false`, besides the walk.
+    /// Takes the locks of the walk, and those of [`HashMap::remove`].
     ///
     /// # Errors
     ///
-    /// [`AllocError`], as of [`HashMap::retain`].
-    // As of `retain`.
+    /// Returns [`AllocError`] if cloning an `Arc` fails. The pairs that were already removed stay removed.
+    // No contract specifies which pairs it finds and leaves, since other threads change them meanwhile.
     pub fn retain_force<F: FnMut(&K, &V) -> bool, R: Wait>(
         &self,
         rt: &R,
@@ -404,24 +413,24 @@ impl<K: Ord + Drop, V: Drop, S: KeyHasher<K>, A: Allocator + Copy> HashMap<K, V,
         self.pin(rt).retain_force(f)
     }
 
-    /// The pairs, one after another, while other calls go on.
+    /// Returns an iterator over the pairs. Other calls may run meanwhile.
     ///
-    /// Takes the control's lock, if no table is known to be published, and no memory. Constant time.
-    // Which pairs it gives, no clause can tell, since other threads change them meanwhile.
+    /// Takes the control's lock if no table is known to be published. Takes no memory. Constant time.
+    // No contract specifies which pairs it gives, since other threads change them meanwhile.
     pub fn iter<'m, R: Wait>(&'m self, rt: &'m R) -> Iter<'m, R, K, V, A>
         ensures { Begins K.cmp result }
     {
         self.pin(rt).iter()
     }
 
-    /// The keys, as [`HashMap::iter`] gives the pairs.
+    /// Returns an iterator over the keys. It visits the pairs as [`HashMap::iter`] does.
     pub fn keys<'m, R: Wait>(&'m self, rt: &'m R) -> Keys<'m, R, K, V, A>
         ensures { Begins K.cmp result }
     {
         self.pin(rt).keys()
     }
 
-    /// The values, as [`HashMap::iter`] gives the pairs.
+    /// Returns an iterator over the values. It visits the pairs as [`HashMap::iter`] does.
     pub fn values<'m, R: Wait>(&'m self, rt: &'m R) -> Values<'m, R, K, V, A>
         ensures { Begins K.cmp result }
     {

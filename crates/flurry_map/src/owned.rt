@@ -1,4 +1,4 @@
-//! A map of one owner as one that threads share, and back.
+//! Converts a map of one owner into one that threads share, and back.
 ghost use Rattle.std.specs.Prelude.{◌≡◌, ◌<◌, ◌≤◌, ◌^◌, length, IfOk, IfErr};
 ghost use Rattle.flurry_map.specs.Placing.{AreBinsOfTable};
 ghost use Rattle.flurry_model.specs.declared.sizes.TheConstants.{GREATEST_TABLE};
@@ -15,14 +15,14 @@ use std::alloc::{AllocError, Allocator};
 use std::sync::{Arc, Wait};
 
 impl<K: Ord + Drop, V: Drop, S: KeyHasher<K>, A: Allocator + Copy> HashMap<K, V, S, A> {
-    /// The map as threads may share it, with the pairs, the hasher and as many bins. It takes memory for a table of its bins' locks, and
-    /// moves each bin.
+    /// Converts a map of one owner into one that threads share, with the same pairs, the same hasher and as many bins. It takes memory for
+    /// a table of the bins' locks, and moves each bin into it.
     ///
-    /// Takes the control's lock, to count, and then that of each slot, one after another. Linear time in the bins and the pairs.
+    /// Takes the control's lock, to count, and then the lock of each slot, one after another. Linear in the number of bins and pairs.
     ///
     /// # Errors
     ///
-    /// The owned map as it was, where memory for the table is wanting.
+    /// Returns the argument `map`, unchanged, if memory for the table cannot be allocated.
     pub fn from_seq<R: Wait>(rt: &R, map: SeqMap<K, V, S, A>) -> Result<Self, SeqMap<K, V, S, A>>
         ensures made { IfOk result (λ m. m ≡ record { hasher = map.hasher; processors = 1 }) }
         ensures same { IfErr result (λ m. m ≡ map) }
@@ -44,15 +44,15 @@ impl<K: Ord + Drop, V: Drop, S: KeyHasher<K>, A: Allocator + Copy> HashMap<K, V,
         Ok(HashMap::of_locks(locks, hasher))
     }
 
-    /// The map as one owner has it, with its pairs and its hasher. It is built anew: it takes memory for a table and for a node of each
-    /// pair, and a further owner of each key and each value.
+    /// Converts the map into one of a single owner, with the same pairs and the same hasher. The new map is built anew: it takes memory for
+    /// a table and for a node of each pair, and a clone of the `Arc` of each key and each value.
     ///
-    /// Takes the control's lock and that of each slot, one after another, to read. Linear time in the bins of all tables that were made
-    /// and in the pairs.
+    /// Takes the control's lock, and then the lock of each slot for reading, one after another. Linear in the number of bins of all tables
+    /// that were made, and in the number of pairs.
     ///
     /// # Errors
     ///
-    /// [`AllocError`], where memory for a table or a node, or a further owner, is wanting. The map is dropped then.
+    /// Returns [`AllocError`] if memory for a table or a node cannot be allocated, or if cloning an `Arc` fails. The map is then dropped.
     pub fn into_seq<R: Wait>(self, rt: &R) -> Result<SeqMap<K, V, S, A>, AllocError>
     where
         S: Drop,
@@ -63,16 +63,16 @@ impl<K: Ord + Drop, V: Drop, S: KeyHasher<K>, A: Allocator + Copy> HashMap<K, V,
         collect(&Lender::new(rt, &locks), pairs, hasher)
     }
 
-    /// A further map, of the pairs that are found while other calls go on, over the same hasher and for as many processors. It has a
-    /// table of its own, and shares the stored keys and the values.
+    /// Creates another map, of the pairs that are found while other calls run, with the same hasher and the same number of processors. It
+    /// has a table of its own, and shares the stored keys and the values with this map.
     ///
-    /// Takes the control's lock and that of each slot, one after another, to read. Linear time in the bins of all tables that were made
-    /// and in the pairs.
+    /// Takes the control's lock, and then the lock of each slot for reading, one after another. Linear in the number of bins of all tables
+    /// that were made, and in the number of pairs.
     ///
     /// # Errors
     ///
-    /// [`AllocError`], where memory for a table, a node or a further owner is wanting.
-    // Which pairs it has, no clause can tell, since other threads change them meanwhile.
+    /// Returns [`AllocError`] if memory for a table or a node cannot be allocated, or if cloning an `Arc` fails.
+    // No contract specifies which pairs it has, since other threads change them meanwhile.
     pub fn try_clone<R: Wait>(&self, rt: &R) -> Result<Self, AllocError>
     where
         S: Copy + Drop,
@@ -86,7 +86,7 @@ impl<K: Ord + Drop, V: Drop, S: KeyHasher<K>, A: Allocator + Copy> HashMap<K, V,
     }
 }
 
-// The pairs that stand under these locks, in a map of one owner that begins as one with room for so many.
+// Collects the pairs that are under the locks of `lender` in a map of one owner, which starts with room for `pairs` pairs.
 fn collect<K: Ord + Drop, V: Drop, S: KeyHasher<K> + Drop, A: Allocator + Copy, R: Wait>(
     lender: &Lender<'_, R, K, V, A>,
     pairs: usize,
@@ -101,7 +101,7 @@ fn collect<K: Ord + Drop, V: Drop, S: KeyHasher<K> + Drop, A: Allocator + Copy, 
     Ok(map)
 }
 
-// The exponent of a table of so many bins.
+// Returns the exponent of a table of `bins` bins.
 fn exponent(bins: usize) -> u8
     requires size { IsTableSize bins }
     requires some { 0 < bins }
@@ -111,7 +111,7 @@ fn exponent(bins: usize) -> u8
     bins.ilog2() as u8
 }
 
-// Puts each bin into its slot of a table that has as many.
+// Puts each of `bins` into its slot of a table that has as many slots.
 fn put_bins<K: Ord + Drop, V: Drop, A: Allocator + Copy, R: Wait>(
     lender: &Lender<'_, R, K, V, A>,
     table: u8,
@@ -130,7 +130,7 @@ fn put_bins<K: Ord + Drop, V: Drop, A: Allocator + Copy, R: Wait>(
     }
 }
 
-// Adds the pairs of a table's live bins.
+// Adds the pairs of a table's live bins to `map`.
 fn add_table<K: Ord + Drop, V: Drop, S: KeyHasher<K>, A: Allocator + Copy, R: Wait>(
     lender: &Lender<'_, R, K, V, A>,
     table: u8,
@@ -147,7 +147,7 @@ fn add_table<K: Ord + Drop, V: Drop, S: KeyHasher<K>, A: Allocator + Copy, R: Wa
     Ok(())
 }
 
-// Adds the pairs of a slot's bin, if it is live.
+// Adds the pairs of a slot's bin to `map`, if the bin is live.
 fn add_bin<K: Ord + Drop, V: Drop, S: KeyHasher<K>, A: Allocator + Copy>(
     slot: &Slot<K, V, A>,
     map: &mut SeqMap<K, V, S, A>,
