@@ -6,7 +6,7 @@ use flurry_model::hash::KeyHasher;
 use std::alloc::{AllocError, Allocator};
 use std::sync::Wait;
 
-// Which pairs these calls find, no clause can tell, since other threads change them meanwhile.
+// No contract specifies which pairs these calls find, since other threads change them meanwhile.
 impl<'m, R: Wait, K: Ord + Drop, V: Drop, S: KeyHasher<K>, A: Allocator + Copy> HashMapRef<
     'm,
     R,
@@ -15,15 +15,15 @@ impl<'m, R: Wait, K: Ord + Drop, V: Drop, S: KeyHasher<K>, A: Allocator + Copy> 
     S,
     A,
 > {
-    /// Whether this map counts as many pairs as another, and each pair that [`HashMapRef::iter`] gives here has its value there. Where no
-    /// thread changes either map, that is whether they are equal.
+    /// Returns `true` if this map counts as many pairs as `other`, and if `other` has an equal value for each pair that
+    /// [`HashMapRef::iter`] gives of this map. If no thread changes either map, it returns whether the maps are equal.
     ///
-    /// One look-up for each pair, where the maps are as long; takes the locks of [`HashMapRef::len`] of both, of the walk, and of
-    /// [`HashMapRef::get`] of the other.
+    /// One look-up for each pair if the maps are equally long. Takes the locks of [`HashMapRef::len`] of both maps, those of the walk, and
+    /// those of [`HashMapRef::get`] of `other`.
     ///
     /// # Errors
     ///
-    /// [`AllocError`], where a further owner is refused.
+    /// Returns [`AllocError`] if cloning an `Arc` fails.
     pub fn equals(&self, other: &Self) -> Result<bool, AllocError>
     where
         V: PartialEq,
@@ -37,8 +37,8 @@ impl<'m, R: Wait, K: Ord + Drop, V: Drop, S: KeyHasher<K>, A: Allocator + Copy> 
         answer
     }
 
-    // Whether each pair that is left has its value here. It borrows the iterator, since each way out of a body that owns it has a proof of
-    // its drop.
+    // Whether this map has an equal value for each pair that is left. It borrows the iterator, since a body that owns it needs a proof of
+    // its drop at each way out.
     fn has_rest(&self, pairs: &mut Iter<'_, R, K, V, A>) -> Result<bool, AllocError>
     where
         V: PartialEq,
@@ -54,7 +54,7 @@ impl<'m, R: Wait, K: Ord + Drop, V: Drop, S: KeyHasher<K>, A: Allocator + Copy> 
         unreachable!()
     }
 
-    // Whether an equal value stands at the key.
+    // Whether this map has an equal value at the key.
     fn has(&self, key: &K, value: &V) -> Result<bool, AllocError>
     where
         V: PartialEq,

@@ -14,11 +14,11 @@ use std::alloc::{AllocError, Allocator, Global};
 use std::marker::Model;
 use std::sync::{Arc, Wait};
 
-/// The pairs of a shared map, one after another, in an open order, while other calls go on.
+/// An iterator over the pairs of a shared map, in an unspecified order. Other calls may run meanwhile.
 ///
-/// It begins at the table that was published when it was made: where there was none it gives nothing, whatever is put later. It gives no
-/// key twice, and each pair that stands from before it was made until it has ended. A pair that is put or removed meanwhile it may give or
-/// not. It holds no lock between two calls of [`Iter::next`].
+/// It starts at the table that was published when it was created. If there was none, it gives nothing, even if pairs are inserted later. It
+/// gives no key twice, and it gives each pair that is present from before it was created until it has ended. A pair that is inserted or
+/// removed meanwhile may be given or not. It holds no lock between two calls of [`Iter::next`].
 ///
 /// ```
 /// Ok(pairs.next()?.is_some())
@@ -42,7 +42,8 @@ impl<'m, R, K: Ord, V, A: Allocator> Model for Iter<'m, R, K, V, A> {
 }
 
 impl<'m, R: Wait, K: Ord + Drop, V: Drop, A: Allocator + Copy> Iter<'m, R, K, V, A> {
-    // A walk over the parts that are lent, which has done its first step: it begins at the table that is published.
+    // Creates an iterator over the parts to which `lender` gives access. Its walk has done its first step, by which it starts at the
+    // published table.
     pub(crate) fn new(lender: Lender<'m, R, K, V, A>) -> Self
         ensures { Begins K.cmp result }
     {
@@ -55,14 +56,15 @@ impl<'m, R: Wait, K: Ord + Drop, V: Drop, A: Allocator + Copy> Iter<'m, R, K, V,
         }
     }
 
-    /// Further owners of the next key and its value; none at the end. Once it has ended it answers none.
+    /// Returns clones of the `Arc`s of the next key and its value, or `None` at the end. Once the iterator has ended, it always returns
+    /// `None`.
     ///
-    /// Takes the lock of one bin after another, to read, up to the next pair, which takes a look-up in its bin. Takes no memory but for
-    /// further owners.
+    /// Takes the lock of one bin after another for reading, up to the next pair, which costs a look-up in its bin. Takes no memory except
+    /// for clones of `Arc`s.
     ///
     /// # Errors
     ///
-    /// [`AllocError`], where a further owner is refused. The iterator has ended then.
+    /// Returns [`AllocError`] if cloning an `Arc` fails. The iterator has then ended.
     pub fn next(&mut self) -> Result<Option<(Arc<K, A>, Arc<V, A>)>, AllocError>
         ensures { Gives K.cmp pair_value pair_seen self.old result self.new }
     {
@@ -72,13 +74,14 @@ impl<'m, R: Wait, K: Ord + Drop, V: Drop, A: Allocator + Copy> Iter<'m, R, K, V,
         }
     }
 
-    /// The same with the write number of the value, by which [`HashMapRef::remove_seen`] tells whether it still stands.
+    /// Returns the next pair with the write number of its value, or `None` at the end. By that number, [`HashMapRef::remove_seen`] knows
+    /// whether the value is still the one that was read. Once the iterator has ended, it always returns `None`.
     ///
-    /// Takes the locks, the time and the memory of [`Iter::next`].
+    /// Takes the same locks, time and memory as [`Iter::next`].
     ///
     /// # Errors
     ///
-    /// [`AllocError`], as of [`Iter::next`].
+    /// Returns [`AllocError`] if cloning an `Arc` fails. The iterator has then ended.
     pub fn next_seen(&mut self) -> Result<Option<Seen<K, V, A>>, AllocError>
         ensures { Gives K.cmp (λ s. s) (λ s. s) self.old result self.new }
     {
@@ -91,7 +94,7 @@ impl<'m, R: Wait, K: Ord + Drop, V: Drop, A: Allocator + Copy> Iter<'m, R, K, V,
     }
 }
 
-// Whether an iterator has ended that answers this.
+// Whether an iterator that returns `answer` has ended.
 fn is_last<X, E>(answer: &Result<Option<X>, E>) -> bool
     ensures { result ≡ has_ended_after answer.now }
 {
@@ -101,7 +104,8 @@ fn is_last<X, E>(answer: &Result<Option<X>, E>) -> bool
     }
 }
 
-// Does the steps of a walk up to its next read, and answers what it has read; none where it has ended, the error where it is refused.
+// Does the steps of `walk` up to its next read, and returns what it has read. Returns `None` if the walk has ended, and the error if it
+// failed.
 fn see_next<R: Wait, K: Ord + Drop, V: Drop, A: Allocator + Copy>(
     walk: &mut Sweep<K, V, A>,
     lender: &Lender<'_, R, K, V, A>,
@@ -122,7 +126,7 @@ fn see_next<R: Wait, K: Ord + Drop, V: Drop, A: Allocator + Copy>(
     }
 }
 
-// Does the steps of a walk up to its next read, and answers none; or, where it ends before, its reply, which is then taken.
+// Does the steps of `walk` up to its next read, and returns `None`. If the walk ends before that, it takes the walk's reply and returns it.
 fn read_next<R: Wait, K: Ord + Drop, V: Drop, A: Allocator + Copy>(
     walk: &mut Sweep<K, V, A>,
     lender: &Lender<'_, R, K, V, A>,
@@ -151,24 +155,24 @@ impl<'m, R: Wait, K: Ord + Drop, V: Drop, S: KeyHasher<K>, A: Allocator + Copy> 
     S,
     A,
 > {
-    /// The pairs, one after another, while other calls go on.
+    /// Returns an iterator over the pairs. Other calls may run meanwhile.
     ///
-    /// Takes the control's lock, if no table is known to be published, and no memory. Constant time.
-    // Which pairs it gives, no clause can tell, since other threads change them meanwhile.
+    /// Takes the control's lock if no table is known to be published. Takes no memory. Constant time.
+    // No contract specifies which pairs it gives, since other threads change them meanwhile.
     pub fn iter(&self) -> Iter<'m, R, K, V, A>
         ensures { Begins K.cmp result }
     {
         Iter::new(self.lender.again())
     }
 
-    /// The keys, as [`HashMapRef::iter`] gives the pairs.
+    /// Returns an iterator over the keys. It visits the pairs as [`HashMapRef::iter`] does.
     pub fn keys(&self) -> Keys<'m, R, K, V, A>
         ensures { Begins K.cmp result }
     {
         Keys::of(self.iter())
     }
 
-    /// The values, as [`HashMapRef::iter`] gives the pairs.
+    /// Returns an iterator over the values. It visits the pairs as [`HashMapRef::iter`] does.
     pub fn values(&self) -> Values<'m, R, K, V, A>
         ensures { Begins K.cmp result }
     {
@@ -176,7 +180,7 @@ impl<'m, R: Wait, K: Ord + Drop, V: Drop, S: KeyHasher<K>, A: Allocator + Copy> 
     }
 }
 
-/// The keys of a shared map, as [`Iter`] gives its pairs.
+/// An iterator over the keys of a shared map. It visits the pairs as [`Iter`] does.
 ///
 /// ```
 /// let key = keys.next()?;
@@ -196,20 +200,20 @@ impl<'m, R, K: Ord, V, A: Allocator> Model for Keys<'m, R, K, V, A> {
 }
 
 impl<'m, R: Wait, K: Ord + Drop, V: Drop, A: Allocator + Copy> Keys<'m, R, K, V, A> {
-    // The keys of these pairs.
+    // Creates an iterator over the keys of `pairs`.
     pub(crate) fn of(pairs: Iter<'m, R, K, V, A>) -> Self
         ensures { result ≡ pairs.entry }
     {
         Keys { pairs }
     }
 
-    /// A further owner of the next key; none at the end. Once it has ended it answers none.
+    /// Returns a clone of the next key's `Arc`, or `None` at the end. Once the iterator has ended, it always returns `None`.
     ///
-    /// Takes the locks and the time of [`Iter::next`].
+    /// Takes the same locks and time as [`Iter::next`].
     ///
     /// # Errors
     ///
-    /// [`AllocError`], where a further owner is refused. The iterator has ended then.
+    /// Returns [`AllocError`] if cloning an `Arc` fails. The iterator has then ended.
     pub fn next(&mut self) -> Result<Option<Arc<K, A>>, AllocError>
         ensures { Gives K.cmp arc_value (λ s. s.key) self.old result self.new }
     {
@@ -220,7 +224,7 @@ impl<'m, R: Wait, K: Ord + Drop, V: Drop, A: Allocator + Copy> Keys<'m, R, K, V,
     }
 }
 
-/// The values of a shared map, as [`Iter`] gives its pairs.
+/// An iterator over the values of a shared map. It visits the pairs as [`Iter`] does.
 ///
 /// ```
 /// let value = values.next()?;
@@ -240,20 +244,20 @@ impl<'m, R, K: Ord, V, A: Allocator> Model for Values<'m, R, K, V, A> {
 }
 
 impl<'m, R: Wait, K: Ord + Drop, V: Drop, A: Allocator + Copy> Values<'m, R, K, V, A> {
-    // The values of these pairs.
+    // Creates an iterator over the values of `pairs`.
     pub(crate) fn of(pairs: Iter<'m, R, K, V, A>) -> Self
         ensures { result ≡ pairs.entry }
     {
         Values { pairs }
     }
 
-    /// A further owner of the next value; none at the end. Once it has ended it answers none.
+    /// Returns a clone of the next value's `Arc`, or `None` at the end. Once the iterator has ended, it always returns `None`.
     ///
-    /// Takes the locks and the time of [`Iter::next`].
+    /// Takes the same locks and time as [`Iter::next`].
     ///
     /// # Errors
     ///
-    /// [`AllocError`], where a further owner is refused. The iterator has ended then.
+    /// Returns [`AllocError`] if cloning an `Arc` fails. The iterator has then ended.
     pub fn next(&mut self) -> Result<Option<Arc<V, A>>, AllocError>
         ensures { Gives K.cmp arc_value (λ s. s.value) self.old result self.new }
     {

@@ -1,6 +1,6 @@
 //! Views of the map that threads share.
 //!
-//! Each call of a [`HashMapRef`] is a [`flurry_steps::Party`] that is driven over the locks of the map's parts: its steps are those that a
+//! Each call of a [`HashMapRef`] is a [`flurry_steps::Party`] that is run over the locks of the map's parts. Its steps are those that a
 //! world runs in any order.
 #![tactic(auto)]
 

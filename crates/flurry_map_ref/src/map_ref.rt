@@ -25,12 +25,12 @@ use std::alloc::{AllocError, Allocator, Global};
 use std::marker::Model;
 use std::sync::{Arc, Wait};
 
-/// A borrow of a shared map with the runtime by which its calls wait, so that they need not be handed it.
+/// A view of a map that threads share. It borrows the map and the runtime by which its calls wait, so they do not take one as an argument.
 ///
-/// Every call is done in steps, and each step holds the lock of what it reads or changes: of one bin, of the bins of one move, or of
-/// what all calls agree upon, the control. No step waits for a lock of the control while it has one of a bin. A call of one key decides
-/// in one step, under the lock of one bin. It gives the key one hash, and visits at most as many pairs of the bin as the greater of 9
-/// and twice the binary digits of their number and 1.
+/// Every call is done in steps. Each step holds the lock of what it reads or changes: of one bin, of the bins of one move, or of the
+/// control, the state that all calls agree upon. No step waits for a lock of the control while it holds one of a bin. A one-key call has
+/// one deciding step, under the lock of one bin. It hashes the key once, and visits at most `max(9, 2 * d)` pairs of a bin of `n` pairs,
+/// where `d` is the number of binary digits of `n + 1`.
 ///
 /// ```
 /// let view = map.pin(rt);
@@ -59,8 +59,8 @@ impl<'m, R, K: Ord, V, S: KeyHasher<K>, A: Allocator> Model for HashMapRef<'m, R
 }
 
 impl<'m, R, K: Ord, V, S: KeyHasher<K>, A: Allocator> HashMapRef<'m, R, K, V, S, A> {
-    /// The view of a map whose parts are under these locks, by its hasher and the number of processors that share the work of a growth; 0
-    /// counts as 1. Constant time; takes no memory.
+    /// Creates a view of the map whose parts are under `locks`, with the map's hasher. A growth is divided among `processors` threads; `0`
+    /// means 1. Constant time; takes no memory.
     pub fn new(rt: &'m R, locks: &'m Locks<K, V, A>, hasher: &'m S, processors: usize) -> Self
         ensures { result ≡ record { hasher = hasher.now; processors = processors } }
     {
@@ -71,19 +71,19 @@ impl<'m, R, K: Ord, V, S: KeyHasher<K>, A: Allocator> HashMapRef<'m, R, K, V, S,
         }
     }
 
-    /// The runtime by which it waits. Constant time.
+    /// Returns the runtime by which the view's calls wait. Constant time.
     pub fn runtime(&self) -> &'m R {
         self.lender.runtime()
     }
 
-    /// The number of processors that share the work of a growth; 0 counts as one. Constant time.
+    /// Returns the number of threads among which a growth is divided; `0` means 1. Constant time.
     pub fn processors(&self) -> usize
         ensures { result ≡ self.now.processors }
     {
         self.processors
     }
 
-    /// A further view of the same map. Constant time; takes no memory.
+    /// Returns another view of the same map. Constant time; takes no memory.
     pub fn again(&self) -> Self
         ensures { result ≡ self.now }
     {
@@ -96,18 +96,19 @@ impl<'m, R, K: Ord, V, S: KeyHasher<K>, A: Allocator> HashMapRef<'m, R, K, V, S,
 }
 
 impl<'m, R: Wait, K: Ord, V, S: KeyHasher<K>, A: Allocator> HashMapRef<'m, R, K, V, S, A> {
-    /// The number of pairs, as they are counted at one moment while the call runs: a call that has decided may yet have to count.
+    /// Returns the number of pairs, counted at one moment during the call. A concurrent call that has already taken effect may not be
+    /// counted yet.
     ///
-    /// Takes the control's lock, then that of each tally in turn. Constant time.
-    // The count is known by its type alone, since other threads change it.
+    /// Takes the control's lock, then the lock of each tally in turn. Constant time.
+    // No contract specifies the count, since other threads change it.
     pub fn len(&self) -> usize {
         self.lender.len()
     }
 
-    /// Whether that number is 0.
+    /// Returns `true` if the map has no pairs. They are counted as by [`HashMapRef::len`].
     ///
-    /// Takes the control's lock, then that of each tally in turn. Constant time.
-    // As of `len`.
+    /// Takes the control's lock, then the lock of each tally in turn. Constant time.
+    // No contract specifies the result, since other threads change the count.
     pub fn is_empty(&self) -> bool {
         self.len() == 0
     }
@@ -121,14 +122,14 @@ impl<'m, R: Wait, K: Ord + Drop, V: Drop, S: KeyHasher<K>, A: Allocator + Copy> 
     S,
     A,
 > {
-    /// A further owner of the value of a key.
+    /// Returns a clone of the value's `Arc`, or `None` if the key is absent.
     ///
-    /// Takes the lock of the key's bin, to read, or the control's where no table was published yet. Where the bin has moved, it goes on
-    /// in the next table, and helps no growth.
+    /// Takes the lock of the key's bin for reading, or the control's lock if no table has been published yet. If the bin has moved, the
+    /// call continues in the next table; it does not help the growth.
     ///
     /// # Errors
     ///
-    /// [`AllocError`], where a further owner is refused. It is not where the key is absent.
+    /// Returns [`AllocError`] if cloning the `Arc` fails, which it cannot if the key is absent.
     pub fn get(&self, key: &K) -> Result<Option<Arc<V, A>>, AllocError>
         ensures { IsDriven (Maker K V A) K.cmp no_changes self.now (S.hash_of self.now.hasher key.now)
             (AtLocate (Finds TheValue key.now)) (value_outcome result) }
@@ -141,13 +142,13 @@ impl<'m, R: Wait, K: Ord + Drop, V: Drop, S: KeyHasher<K>, A: Allocator + Copy> 
         }
     }
 
-    /// Further owners of the stored key and of its value.
+    /// Returns clones of the `Arc`s of the stored key and of its value, or `None` if the key is absent.
     ///
-    /// Takes the locks that [`HashMapRef::get`] takes.
+    /// Takes the same locks as [`HashMapRef::get`].
     ///
     /// # Errors
     ///
-    /// [`AllocError`], where a further owner is refused. It is not where the key is absent.
+    /// Returns [`AllocError`] if cloning an `Arc` fails, which it cannot if the key is absent.
     pub fn get_key_value(&self, key: &K) -> Result<Option<(Arc<K, A>, Arc<V, A>)>, AllocError>
         ensures { IsDriven (Maker K V A) K.cmp no_changes self.now (S.hash_of self.now.hasher key.now)
             (AtLocate (Finds ThePair key.now)) (pair_outcome result) }
@@ -160,9 +161,9 @@ impl<'m, R: Wait, K: Ord + Drop, V: Drop, S: KeyHasher<K>, A: Allocator + Copy> 
         }
     }
 
-    /// Whether the map has the key. It takes no memory.
+    /// Returns `true` if the map has the key. It takes no memory.
     ///
-    /// Takes the locks that [`HashMapRef::get`] takes.
+    /// Takes the same locks as [`HashMapRef::get`].
     pub fn contains_key(&self, key: &K) -> bool
         ensures { IsDriven (Maker K V A) K.cmp (no_changes {K = K} {V = V}) self.now
             (S.hash_of self.now.hasher key.now) (AtLocate (Finds Presence key.now))
@@ -175,10 +176,10 @@ impl<'m, R: Wait, K: Ord + Drop, V: Drop, S: KeyHasher<K>, A: Allocator + Copy> 
         }
     }
 
-    /// Takes the pair of a key out, and answers its value. The table stays as large as it is.
+    /// Removes the pair of a key, and returns its value, or `None` if the key is absent. The table keeps its size.
     ///
-    /// Takes the lock of the key's bin, to write, and, where the key was present, then a tally's or the control's, to count. Where the
-    /// bin has moved it helps the growth first.
+    /// Takes the lock of the key's bin for writing and, if the key was present, then the lock of a tally or of the control, to count. If
+    /// the bin has moved, the call helps the growth first.
     pub fn remove(&self, key: &K) -> Option<Arc<V, A>>
         ensures { IsDriven (Maker K V A) K.cmp (no_changes {K = K} {V = V}) self.now
             (S.hash_of self.now.hasher key.now) (AtLocate (Removes TheValue key.now))
@@ -191,9 +192,9 @@ impl<'m, R: Wait, K: Ord + Drop, V: Drop, S: KeyHasher<K>, A: Allocator + Copy> 
         }
     }
 
-    /// Takes the pair of a key out, and answers the stored key and the value. The table stays as large as it is.
+    /// Removes the pair of a key, and returns the stored key and the value, or `None` if the key is absent. The table keeps its size.
     ///
-    /// Takes the locks that [`HashMapRef::remove`] takes.
+    /// Takes the same locks as [`HashMapRef::remove`].
     pub fn remove_entry(&self, key: &K) -> Option<(Arc<K, A>, Arc<V, A>)>
         ensures { IsDriven (Maker K V A) K.cmp (no_changes {K = K} {V = V}) self.now
             (S.hash_of self.now.hasher key.now) (AtLocate (Removes ThePair key.now))
@@ -206,10 +207,10 @@ impl<'m, R: Wait, K: Ord + Drop, V: Drop, S: KeyHasher<K>, A: Allocator + Copy> 
         }
     }
 
-    /// Takes a pair out that an iterator has read, if its value still stands as it was read: nobody has written or removed it since. Answers
-    /// that value, or none where it does not. The table stays as large as it is.
+    /// Removes a pair that an iterator has read, if its value is still the one that was read: nobody has written or removed it since.
+    /// Returns that value, or `None` if the pair was not removed. The table keeps its size.
     ///
-    /// Takes the locks that [`HashMapRef::remove`] takes, and no memory.
+    /// Takes the same locks as [`HashMapRef::remove`], and no memory.
     pub fn remove_seen<'s>(&'s self, seen: Seen<K, V, A>) -> Option<Arc<V, A>>
         ensures { IsDriven (Maker K V A) K.cmp (no_changes {K = K} {V = V}) self.now
             (S.hash_of self.now.hasher seen.key) (AtLocate (RemovesSeen seen))
@@ -222,16 +223,18 @@ impl<'m, R: Wait, K: Ord + Drop, V: Drop, S: KeyHasher<K>, A: Allocator + Copy> 
         }
     }
 
-    /// Sets the value of a key, and answers the old one. A key that is stored stays, and the one that was handed in is dropped.
-    /// A new key may make the table larger; where the larger table finds no memory, the map stays in the old one.
+    /// Sets the value of a key, and returns the old value, or `None` if the key was absent. If the key is present, the stored key stays,
+    /// and the argument `key` is dropped. A new key may make the table grow; if memory for the larger table cannot be allocated, the map
+    /// stays in the old table.
     ///
-    /// Takes the lock of the key's bin, to write, and, where the key was absent, then a tally's or the control's, to count; before the
-    /// first table the control's, to make it. Where the bin has moved, or the control counts while a growth runs, it helps the growth.
+    /// Takes the lock of the key's bin for writing and, if the key was absent, then the lock of a tally or of the control, to count. Before
+    /// the first table, it takes the control's lock, to make that table. If the bin has moved, or if the pair is counted at the control
+    /// while a growth is running, the call helps the growth.
     ///
     /// # Errors
     ///
-    /// [`AllocError`], where memory for the pair or for a first table is wanting. No pair is changed by the call then, and the key and
-    /// the value are dropped.
+    /// Returns [`AllocError`] if memory for the pair or for a first table cannot be allocated. The call then changes no pair, and the key
+    /// and the value are dropped.
     pub fn insert<'s>(&'s self, key: K, value: V) -> Result<Option<Arc<V, A>>, AllocError>
         ensures { IsDriven (Maker K V A) K.cmp no_changes self.now (S.hash_of self.now.hasher key)
             (AtLocate (Inserts key value)) (value_outcome result) }
@@ -244,15 +247,15 @@ impl<'m, R: Wait, K: Ord + Drop, V: Drop, S: KeyHasher<K>, A: Allocator + Copy> 
         }
     }
 
-    /// Puts a value at an absent key, and answers a further owner of it. At a present key nothing changes: the error has the value that
-    /// stands and the one that was handed in, and the key is dropped.
+    /// Inserts a pair if the key is absent, and returns a clone of the value's `Arc`. If the key is present, nothing changes: the returned
+    /// error has the stored value and the argument `value`, and the argument `key` is dropped.
     ///
-    /// Takes the locks that [`HashMapRef::insert`] takes.
+    /// Takes the same locks as [`HashMapRef::insert`].
     ///
     /// # Errors
     ///
-    /// [`AllocError`], as of [`HashMapRef::insert`], and also where a further owner of the answered value is refused. No pair is changed
-    /// by the call then, and the key and the value are dropped.
+    /// Returns [`AllocError`] if memory for the pair or for a first table cannot be allocated, or if cloning the `Arc` of the new or of the
+    /// stored value fails. The call then changes no pair, and the key and the value are dropped.
     pub fn try_insert<'s>(
         &'s self,
         key: K,
@@ -271,17 +274,17 @@ impl<'m, R: Wait, K: Ord + Drop, V: Drop, S: KeyHasher<K>, A: Allocator + Copy> 
         }
     }
 
-    /// Calls a function at most once, on the stored key and the value of a key that is present; else it calls nothing, asks for no
-    /// memory and answers none. What the function answers is the new value, and is answered; where it answers none, the pair is taken
-    /// out. The table stays as large as it is.
+    /// Calls `f` once on the stored key and its value if the key is present, and stores what `f` returns as the new value. Returns the new
+    /// value. If `f` returns `None`, the pair is removed, and `None` is returned. If the key is absent, `f` is not called, no memory is
+    /// taken, and `None` is returned. The table keeps its size.
     ///
-    /// The function runs while the key's bin is locked. It must not call this map: a call for a key of the same bin would wait for
-    /// itself. Takes the locks that [`HashMapRef::remove`] takes.
+    /// `f` runs while the key's bin is locked. It must not call this map: a call with a key of the same bin would wait for itself. Takes
+    /// the same locks as [`HashMapRef::remove`].
     ///
     /// # Errors
     ///
-    /// [`AllocError`], where memory for the new value, or for its further owner, is wanting. The function was called then; the
-    /// value that it computed is dropped, and the pair stays as it was.
+    /// Returns [`AllocError`] if memory for the new value cannot be allocated, or if cloning its `Arc` fails. `f` has been called then; the
+    /// value that it computed is dropped, and the pair is unchanged.
     pub fn compute_if_present<F: FnOnce(&K, &V) -> Option<V> + Drop>(
         &self,
         key: &K,
@@ -299,13 +302,13 @@ impl<'m, R: Wait, K: Ord + Drop, V: Drop, S: KeyHasher<K>, A: Allocator + Copy> 
         }
     }
 
-    /// Makes the table large enough for so many more pairs than the map then counts, unless another growth runs: it ends then at once.
+    /// Grows the table so that `additional` more pairs fit than the map then counts. If another growth is running, it returns at once.
     ///
-    /// Each doubling moves every pair. Takes the control's lock, and those of the bins that it moves.
+    /// Each doubling moves every pair. Takes the control's lock, and the locks of the bins that it moves.
     ///
     /// # Errors
     ///
-    /// [`AllocError`], where memory for a table is wanting. The pairs stay, and so do the doublings that were done.
+    /// Returns [`AllocError`] if memory for a table cannot be allocated. The pairs stay, and so do the doublings that were done.
     pub fn reserve<'s>(&'s self, additional: usize) -> Result<(), AllocError>
         ensures { IsDriven (Maker K V A) K.cmp (no_changes {K = K} {V = V}) self.now 0
             (AtReserve additional) (ended_outcome result) }
@@ -318,9 +321,9 @@ impl<'m, R: Wait, K: Ord + Drop, V: Drop, S: KeyHasher<K>, A: Allocator + Copy> 
         }
     }
 
-    /// Removes all pairs, one bin after another. Other calls may put pairs meanwhile, which stay where the clear has passed by.
+    /// Removes all pairs, one bin after another. Other calls may insert pairs meanwhile; those in bins that are already cleared remain.
     ///
-    /// Linear time in the bins and pairs, and takes the lock of each bin in turn, and then the control's; takes no memory.
+    /// Linear in the number of bins and pairs. Takes the lock of each bin in turn, and then the control's lock; takes no memory.
     pub fn clear<'s>(&'s self)
         ensures { IsDriven (Maker K V A) K.cmp (no_changes {K = K} {V = V}) self.now 0
             (AtSweep (fresh_sweep (Wipes 0))) OutcomeEnded }
@@ -332,7 +335,7 @@ impl<'m, R: Wait, K: Ord + Drop, V: Drop, S: KeyHasher<K>, A: Allocator + Copy> 
         }
     }
 
-    // The hash of the key of a call; 0 where it has none.
+    // Returns the hash of the key of `call`, or 0 if it has no key.
     #[inline]
     fn hash_of<F>(&self, call: &Call<'_, K, V, F, A>) -> u64
         ensures { result ≡ hash_in (S.hash_of self.now.hasher) call.now }
@@ -350,7 +353,8 @@ impl<'m, R: Wait, K: Ord + Drop, V: Drop, S: KeyHasher<K>, A: Allocator + Copy> 
         }
     }
 
-    // Does the steps of a call over the locks. It is copied into each call, with its first steps, which then do not ask which call it is.
+    // Does the steps of `call` over the locks. It is copied into each caller together with its first steps, which then do not ask which
+    // call it is.
     #[inline(always)]
     fn run<F: ComputeFn<K, V>>(&self, call: Call<'_, K, V, F, A>) -> Reply<K, V, A>
         requires { CallIsReady F.can_change call }

@@ -1,4 +1,4 @@
-//! Keeping some of the pairs of a shared map.
+//! Calls that keep some of the pairs of a shared map.
 
 use crate::HashMapRef;
 use crate::iter::Iter;
@@ -6,7 +6,7 @@ use flurry_model::hash::KeyHasher;
 use std::alloc::{AllocError, Allocator};
 use std::sync::Wait;
 
-// Which pairs a walk reads, and which stand when they are removed, no clause can tell, since other threads change them meanwhile.
+// No contract specifies which pairs a walk reads, and which are present when they are removed, since other threads change them meanwhile.
 impl<'m, R: Wait, K: Ord + Drop, V: Drop, S: KeyHasher<K>, A: Allocator + Copy> HashMapRef<
     'm,
     R,
@@ -15,15 +15,15 @@ impl<'m, R: Wait, K: Ord + Drop, V: Drop, S: KeyHasher<K>, A: Allocator + Copy> 
     S,
     A,
 > {
-    /// Calls a function on the stored key and the value of each pair that [`HashMapRef::iter`] gives, and removes those at which it answers
-    /// false. A pair whose value was written or removed since it was shown stays as it is.
+    /// Calls `f` on the stored key and the value of each pair that [`HashMapRef::iter`] gives, and removes the pairs for which it returns
+    /// `false`. A pair whose value was written or removed since the iterator read it is left as it is.
     ///
-    /// The function runs while no lock is held, so it may call this map. One removal for each pair at which it answers false, besides the
-    /// walk; takes the locks of the walk, and of [`HashMapRef::remove`].
+    /// `f` runs while no lock is held, so it may call this map. One removal for each pair for which `f` returns `false`, besides the walk.
+    /// Takes the locks of the walk, and those of [`HashMapRef::remove`].
     ///
     /// # Errors
     ///
-    /// [`AllocError`], where a further owner is refused. The pairs that were removed before stay removed.
+    /// Returns [`AllocError`] if cloning an `Arc` fails. The pairs that were already removed stay removed.
     pub fn retain<F: FnMut(&K, &V) -> bool>(&self, f: F) -> Result<(), AllocError>
     where
         F: Drop,
@@ -36,7 +36,7 @@ impl<'m, R: Wait, K: Ord + Drop, V: Drop, S: KeyHasher<K>, A: Allocator + Copy> 
         ended
     }
 
-    // Goes over the pairs that are left. It borrows the iterator, since each way out of a body that owns it has a proof of its drop.
+    // Visits the pairs that are left. It borrows the iterator, since a body that owns it needs a proof of its drop at each way out.
     fn retain_rest<F: FnMut(&K, &V) -> bool>(
         &self,
         pairs: &mut Iter<'_, R, K, V, A>,
@@ -56,11 +56,16 @@ impl<'m, R: Wait, K: Ord + Drop, V: Drop, S: KeyHasher<K>, A: Allocator + Copy> 
         unreachable!()
     }
 
-    /// The same as [`HashMapRef::retain`], but it removes whatever value then stands at the key.
+    /// Calls `f` on the stored key and the value of each pair that [`HashMapRef::iter`] gives, and removes the keys for which it returns
+    /// `false`, with any value that they then have. Unlike [`HashMapRef::retain`], it also removes a value that was written since the
+    /// iterator read the pair.
+    ///
+    /// `f` runs while no lock is held, so it may call this map. One removal for each pair for which `f` returns `false`, besides the walk.
+    /// Takes the locks of the walk, and those of [`HashMapRef::remove`].
     ///
     /// # Errors
     ///
-    /// [`AllocError`], as of [`HashMapRef::retain`].
+    /// Returns [`AllocError`] if cloning an `Arc` fails. The pairs that were already removed stay removed.
     pub fn retain_force<F: FnMut(&K, &V) -> bool>(&self, f: F) -> Result<(), AllocError>
     where
         F: Drop,
@@ -73,7 +78,8 @@ impl<'m, R: Wait, K: Ord + Drop, V: Drop, S: KeyHasher<K>, A: Allocator + Copy> 
         ended
     }
 
-    // The same whatever value stands.
+    // Visits the pairs that are left, and removes a key with any value that it then has. It borrows the iterator, since a body that owns it
+    // needs a proof of its drop at each way out.
     fn retain_force_rest<F: FnMut(&K, &V) -> bool>(
         &self,
         pairs: &mut Iter<'_, R, K, V, A>,
