@@ -1,7 +1,7 @@
 //! The set that threads share.
 //!
-//! A [`HashSet`] is a [`flurry_map::HashMap`] whose values tell nothing, and its view, a [`HashSetRef`], is written over the public calls of
-//! the map's view alone.
+//! A [`HashSet`] is a [`flurry_map::HashMap`] whose values are `()`. Its view, a [`HashSetRef`], is written over the public calls of the
+//! map's view alone.
 #![tactic(auto)]
 
 pub mod set;

@@ -20,10 +20,10 @@ use std::hash::Hash;
 use std::marker::Model;
 use std::sync::{Arc, Wait};
 
-/// A set that threads share: each call takes `&self`, and may wait for others.
+/// A set that threads share. Each call takes `&self`, and may wait for others.
 ///
-/// Of each class of equal elements it has the one that was stored first. A call of one element takes the locks, the time and the memory
-/// of the call of [`HashMap`] that it makes.
+/// Of each class of equal elements it has the one that was stored first. A one-element call takes the same locks, time and memory as the
+/// call of [`HashMap`] that it makes.
 ///
 /// ```
 /// seen.insert(rt, x)
@@ -42,7 +42,7 @@ impl<T: Ord, S: KeyHasher<T>, A: Allocator> Model for HashSet<T, S, A> {
 }
 
 impl<T: Hash + Ord + Drop, A: Allocator> HashSet<T, DefaultHashBuilder, A> {
-    /// An empty set without a table, over the default hasher whose seed is zero. It takes no memory.
+    /// Creates an empty set without a table, with the default hasher whose seed is zero. It takes no memory.
     pub fn new(alloc: A) -> Self
         ensures seed { seed_of result.hasher ≡ 0 }
         ensures processors { result.processors ≡ 1 }
@@ -50,13 +50,14 @@ impl<T: Hash + Ord + Drop, A: Allocator> HashSet<T, DefaultHashBuilder, A> {
         HashSet::with_hasher(alloc, DefaultHashBuilder::default())
     }
 
-    /// An empty set with a table for so many elements, without one for 0. It is over the default hasher whose seed is zero.
+    /// Creates an empty set with a table for `capacity` elements, with the default hasher whose seed is zero. If `capacity` is 0, it has no
+    /// table.
     ///
-    /// Linear time in the bins.
+    /// Linear in the number of bins.
     ///
     /// # Errors
     ///
-    /// [`AllocError`], where memory for the table is wanting.
+    /// Returns [`AllocError`] if memory for the table cannot be allocated.
     pub fn with_capacity(alloc: A, capacity: usize) -> Result<Self, AllocError>
     where
         A: Copy,
@@ -68,7 +69,7 @@ impl<T: Hash + Ord + Drop, A: Allocator> HashSet<T, DefaultHashBuilder, A> {
 }
 
 impl<T: Ord + Drop, S: KeyHasher<T>, A: Allocator> HashSet<T, S, A> {
-    /// An empty set without a table, over a hasher. It takes no memory.
+    /// Creates an empty set without a table, with the given hasher. It takes no memory.
     pub fn with_hasher(alloc: A, hasher: S) -> Self
         ensures { result ≡ record { hasher = hasher; processors = 1 } }
     {
@@ -77,7 +78,7 @@ impl<T: Ord + Drop, S: KeyHasher<T>, A: Allocator> HashSet<T, S, A> {
         }
     }
 
-    /// The set with so many processors that share the work of a growth; 0 counts as 1. See [`HashMap::with_processors`].
+    /// Sets the number of threads among which a growth is divided; `0` means 1. See [`HashMap::with_processors`].
     ///
     /// Constant time.
     pub fn with_processors(self, processors: usize) -> Self
@@ -89,7 +90,7 @@ impl<T: Ord + Drop, S: KeyHasher<T>, A: Allocator> HashSet<T, S, A> {
         }
     }
 
-    /// The view of the set by this runtime, whose calls need not be handed it. Constant time; takes no memory.
+    /// Returns a view of the set. It keeps the runtime `rt`, so its calls do not take it as an argument. Constant time; takes no memory.
     #[inline(always)]
     pub fn pin<'m, R>(&'m self, rt: &'m R) -> HashSetRef<'m, R, T, S, A>
         ensures { result ≡ self.now }
@@ -97,27 +98,27 @@ impl<T: Ord + Drop, S: KeyHasher<T>, A: Allocator> HashSet<T, S, A> {
         HashSetRef::of(self.map.pin(rt))
     }
 
-    /// The number of elements, as they are counted at one moment while the call runs. See [`HashMap::len`].
-    // The count is known by its type alone, since other threads change it.
+    /// Returns the number of elements, counted at one moment during the call. See [`HashMap::len`].
+    // No contract specifies the count, since other threads change it.
     pub fn len<R: Wait>(&self, rt: &R) -> usize {
         self.map.len(rt)
     }
 
-    /// Whether that number is 0.
-    // As of `len`.
+    /// Returns `true` if the set has no elements. They are counted as by [`HashSet::len`].
+    // No contract specifies the result, since other threads change the count.
     pub fn is_empty<R: Wait>(&self, rt: &R) -> bool {
         self.map.is_empty(rt)
     }
 }
 
 impl<T: Ord + Drop, S: KeyHasher<T>, A: Allocator + Copy> HashSet<T, S, A> {
-    /// An empty set over a hasher, with a table for so many elements; without one for 0.
+    /// Creates an empty set with a table for `capacity` elements, with the given hasher. If `capacity` is 0, it has no table.
     ///
-    /// Linear time in the bins.
+    /// Linear in the number of bins.
     ///
     /// # Errors
     ///
-    /// [`AllocError`], where memory for the table is wanting.
+    /// Returns [`AllocError`] if memory for the table cannot be allocated.
     pub fn with_capacity_and_hasher(
         alloc: A,
         capacity: usize,
@@ -131,7 +132,7 @@ impl<T: Ord + Drop, S: KeyHasher<T>, A: Allocator + Copy> HashSet<T, S, A> {
         Ok(HashSet { map })
     }
 
-    /// Whether the set has an element of the class. It takes no memory.
+    /// Returns `true` if the set has an element equal to `element`. It takes no memory.
     pub fn contains<R: Wait>(&self, rt: &R, element: &T) -> bool
         ensures { IsDriven (Maker T (Unit {0}) A) T.cmp (no_changes {K = T} {V = Unit {0}}) self.now
             (S.hash_of self.now.hasher element.now) (AtLocate (Finds Presence element.now))
@@ -140,11 +141,11 @@ impl<T: Ord + Drop, S: KeyHasher<T>, A: Allocator + Copy> HashSet<T, S, A> {
         self.pin(rt).contains(element)
     }
 
-    /// A further owner of the stored element of the class.
+    /// Returns a clone of the `Arc` of the stored element that is equal to `element`, or `None` if there is none.
     ///
     /// # Errors
     ///
-    /// [`AllocError`], where a further owner is refused. It is not where the set has no element of the class.
+    /// Returns [`AllocError`] if cloning an `Arc` fails, which it cannot if the set has no element equal to `element`.
     pub fn get<R: Wait>(&self, rt: &R, element: &T) -> Result<Option<Arc<T, A>>, AllocError>
         ensures { IsDriven (Maker T (Unit {0}) A) T.cmp (no_changes {K = T} {V = Unit {0}}) self.now
             (S.hash_of self.now.hasher element.now) (AtLocate (Finds ThePair element.now)) (found_outcome result) }
@@ -152,13 +153,14 @@ impl<T: Ord + Drop, S: KeyHasher<T>, A: Allocator + Copy> HashSet<T, S, A> {
         self.pin(rt).get(element)
     }
 
-    /// Puts an element, and answers whether its class is new. An element that is stored stays, and the one that was handed in is
-    /// dropped. A new element may make the table larger; where the larger table finds no memory, the set stays in the old one.
+    /// Inserts an element, and returns `true` if the set had no equal one. If it had one, the stored element stays, and the argument
+    /// `element` is dropped. A new element may make the table grow; if memory for the larger table cannot be allocated, the set stays in
+    /// the old table.
     ///
     /// # Errors
     ///
-    /// [`AllocError`], where memory for a new element or for a first table is wanting, or where a further owner of what is stored is
-    /// refused. No element is changed by the call then, and the element is dropped.
+    /// Returns [`AllocError`] if memory for a new element or for a first table cannot be allocated, or if cloning an `Arc` of what is
+    /// stored fails. The call then changes no element, and the argument `element` is dropped.
     pub fn insert<R: Wait>(&self, rt: &R, element: T) -> Result<bool, AllocError>
         ensures { IsDriven (Maker T (Unit {0}) A) T.cmp (no_changes {K = T} {V = Unit {0}}) self.now
             (S.hash_of self.now.hasher element) (AtLocate (Adds element tt)) (added_outcome result) }
@@ -166,7 +168,7 @@ impl<T: Ord + Drop, S: KeyHasher<T>, A: Allocator + Copy> HashSet<T, S, A> {
         self.pin(rt).insert(element)
     }
 
-    /// Takes the element of the class out, and answers whether there was one. The table stays as large as it is. It takes no memory.
+    /// Removes the element equal to `element`, and returns `true` if there was one. The table keeps its size. It takes no memory.
     pub fn remove<R: Wait>(&self, rt: &R, element: &T) -> bool
         ensures { IsDriven (Maker T (Unit {0}) A) T.cmp (no_changes {K = T} {V = Unit {0}}) self.now
             (S.hash_of self.now.hasher element.now) (AtLocate (Removes TheValue element.now)) (removed_outcome result) }
@@ -174,7 +176,7 @@ impl<T: Ord + Drop, S: KeyHasher<T>, A: Allocator + Copy> HashSet<T, S, A> {
         self.pin(rt).remove(element)
     }
 
-    /// Takes the element of the class out, and answers it. The table stays as large as it is. It takes no memory.
+    /// Removes the element equal to `element`, and returns it, or `None` if there is none. The table keeps its size. It takes no memory.
     pub fn take<R: Wait>(&self, rt: &R, element: &T) -> Option<Arc<T, A>>
         ensures { IsDriven (Maker T (Unit {0}) A) T.cmp (no_changes {K = T} {V = Unit {0}}) self.now
             (S.hash_of self.now.hasher element.now) (AtLocate (Removes ThePair element.now)) (element_outcome result) }
@@ -182,13 +184,13 @@ impl<T: Ord + Drop, S: KeyHasher<T>, A: Allocator + Copy> HashSet<T, S, A> {
         self.pin(rt).take(element)
     }
 
-    /// Makes the table large enough for so many more elements than the set then counts. See [`HashMap::reserve`].
+    /// Grows the table so that `additional` more elements fit than the set then counts. See [`HashMap::reserve`].
     ///
     /// Each doubling moves every element.
     ///
     /// # Errors
     ///
-    /// [`AllocError`], where memory for a table is wanting. The elements stay, and so do the doublings that were done.
+    /// Returns [`AllocError`] if memory for a table cannot be allocated. The elements stay, and so do the doublings that were done.
     pub fn reserve<R: Wait>(&self, rt: &R, additional: usize) -> Result<(), AllocError>
         ensures { IsDriven (Maker T (Unit {0}) A) T.cmp (no_changes {K = T} {V = Unit {0}}) self.now 0
             (AtReserve additional) (ended_outcome result) }
@@ -204,22 +206,23 @@ impl<T: Ord + Drop, S: KeyHasher<T>, A: Allocator + Copy> HashSet<T, S, A> {
         self.pin(rt).clear();
     }
 
-    /// Further owners of the elements, one after another, while other calls go on. See [`HashMap::iter`].
+    /// Returns an iterator that gives clones of the `Arc`s of the elements. Other calls may run meanwhile. See [`HashMap::iter`].
     pub fn iter<'m, R: Wait>(&'m self, rt: &'m R) -> Keys<'m, R, T, (), A>
         ensures { Begins T.cmp result }
     {
         self.pin(rt).iter()
     }
 
-    /// Puts elements in their order. Room is made first, for as many elements as the list has where the set is empty, and else for half
-    /// as many, rounded up.
+    /// Inserts the elements of `list` in their order. First it makes room, for as many elements as `list` has if the set is empty, and for
+    /// half as many, rounded up, if it is not.
     ///
     /// One insertion for each element.
     ///
     /// # Errors
     ///
-    /// [`AllocError`], where a table or an insertion is refused. The elements that were put before stay, and the rest is dropped.
-    // What other threads leave in the set, no clause can tell.
+    /// Returns [`AllocError`] if memory for a table cannot be allocated, or if an insertion fails. The elements that were already inserted
+    /// stay, and the rest is dropped.
+    // No contract specifies what other threads leave in the set.
     pub fn extend<R: Wait>(&self, rt: &R, list: Vec<T, A>) -> Result<(), AllocError> {
         let count = list.len();
         let room = if self.is_empty(rt) {
@@ -231,14 +234,14 @@ impl<T: Ord + Drop, S: KeyHasher<T>, A: Allocator + Copy> HashSet<T, S, A> {
         self.insert_all(rt, list)
     }
 
-    /// A set of elements, put in their order, over a hasher. It begins as one with room for as many elements as the list has, without a
-    /// table for an empty list, and is of the list's allocator.
+    /// Creates a set of the elements of `list`, inserted in their order, with the given hasher. It starts with room for as many elements as
+    /// `list` has, or without a table if `list` is empty, and has the allocator of `list`.
     ///
     /// One insertion for each element.
     ///
     /// # Errors
     ///
-    /// [`AllocError`], where memory is wanting. The list is dropped.
+    /// Returns [`AllocError`] if memory cannot be allocated. The list is dropped.
     pub fn from_list<R: Wait>(rt: &R, list: Vec<T, A>, hasher: S) -> Result<Self, AllocError>
     where
         S: Drop,
@@ -249,11 +252,11 @@ impl<T: Ord + Drop, S: KeyHasher<T>, A: Allocator + Copy> HashSet<T, S, A> {
         Ok(set)
     }
 
-    /// A further set, of the elements that are found while other calls go on. See [`HashMap::try_clone`].
+    /// Creates another set, of the elements that are found while other calls run. See [`HashMap::try_clone`].
     ///
     /// # Errors
     ///
-    /// [`AllocError`], where memory is wanting.
+    /// Returns [`AllocError`] if memory cannot be allocated.
     pub fn try_clone<R: Wait>(&self, rt: &R) -> Result<Self, AllocError>
     where
         S: Copy + Drop,
@@ -263,7 +266,7 @@ impl<T: Ord + Drop, S: KeyHasher<T>, A: Allocator + Copy> HashSet<T, S, A> {
         Ok(HashSet { map })
     }
 
-    // Puts elements in their order.
+    // Inserts the elements of `list` in their order.
     fn insert_all<R: Wait>(&self, rt: &R, list: Vec<T, A>) -> Result<(), AllocError> {
         for element in list {
             self.insert(rt, element)?;
@@ -271,56 +274,57 @@ impl<T: Ord + Drop, S: KeyHasher<T>, A: Allocator + Copy> HashSet<T, S, A> {
         Ok(())
     }
 
-    /// Whether both sets have as many elements, and each element that a walk of this one reads is of a class of the other.
+    /// Returns `true` if both sets count equally many elements, and if each element that a walk of this set reads is equal to one of
+    /// `other`.
     ///
     /// # Errors
     ///
-    /// [`AllocError`], where a further owner is refused.
-    // While other threads write, it tells of no one moment.
+    /// Returns [`AllocError`] if cloning an `Arc` fails.
+    // While other threads write, the result does not describe any one moment.
     pub fn equals<R: Wait>(&self, rt: &R, other: &Self) -> Result<bool, AllocError> {
         self.pin(rt).equals(&other.pin(rt))
     }
 
-    /// Whether no element that a walk of this set reads is of a class of the other set. One look-up for each.
+    /// Returns `true` if no element that a walk of this set reads is equal to one of `other`. One look-up for each element.
     ///
     /// # Errors
     ///
-    /// [`AllocError`], where a further owner is refused.
-    // As of `equals`.
+    /// Returns [`AllocError`] if cloning an `Arc` fails.
+    // While other threads write, the result does not describe any one moment.
     pub fn is_disjoint<R: Wait>(&self, rt: &R, other: &Self) -> Result<bool, AllocError> {
         self.pin(rt).is_disjoint(&other.pin(rt))
     }
 
-    /// Whether each element that a walk of this set reads is of a class of the other set. One look-up for each.
+    /// Returns `true` if each element that a walk of this set reads is equal to one of `other`. One look-up for each element.
     ///
     /// # Errors
     ///
-    /// [`AllocError`], where a further owner is refused.
-    // As of `equals`.
+    /// Returns [`AllocError`] if cloning an `Arc` fails.
+    // While other threads write, the result does not describe any one moment.
     pub fn is_subset<R: Wait>(&self, rt: &R, other: &Self) -> Result<bool, AllocError> {
         self.pin(rt).is_subset(&other.pin(rt))
     }
 
-    /// Whether each element that a walk of the other set reads is of a class of this one. One look-up for each.
+    /// Returns `true` if each element that a walk of `other` reads is equal to one of this set. One look-up for each element.
     ///
     /// # Errors
     ///
-    /// [`AllocError`], where a further owner is refused.
-    // As of `equals`.
+    /// Returns [`AllocError`] if cloning an `Arc` fails.
+    // While other threads write, the result does not describe any one moment.
     pub fn is_superset<R: Wait>(&self, rt: &R, other: &Self) -> Result<bool, AllocError> {
         self.pin(rt).is_superset(&other.pin(rt))
     }
 
-    /// Calls a function on each element that [`HashSet::iter`] gives, and removes those at which it answers false. An element that was
-    /// removed meanwhile, and put again, stays.
+    /// Calls `f` on each element that [`HashSet::iter`] gives, and removes the elements for which it returns `false`. An element that was
+    /// removed meanwhile, and inserted again, stays.
     ///
-    /// The function runs while no lock is held, so it may call this set. One removal for each element at which it answers false, besides
-    /// the walk; takes the locks of [`HashMap::retain`].
+    /// `f` runs while no lock is held, so it may call this set. One removal for each element for which `f` returns `false`, besides the
+    /// walk. Takes the locks of [`HashMap::retain`].
     ///
     /// # Errors
     ///
-    /// [`AllocError`], where a further owner is refused. The elements that were removed before stay removed.
-    // As of `extend`.
+    /// Returns [`AllocError`] if cloning an `Arc` fails. The elements that were already removed stay removed.
+    // No contract specifies what other threads leave in the set.
     pub fn retain<F: FnMut(&T) -> bool, R: Wait>(&self, rt: &R, f: F) -> Result<(), AllocError>
     where
         F: Drop,

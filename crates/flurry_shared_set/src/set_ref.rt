@@ -17,10 +17,10 @@ use std::alloc::{AllocError, Allocator, Global};
 use std::marker::Model;
 use std::sync::{Arc, Wait};
 
-/// A borrow of a shared set with the runtime by which its calls wait, so that they need not be handed it.
+/// A view of a set that threads share. It borrows the set and the runtime by which its calls wait, so they do not take one as an argument.
 ///
-/// Of each class of equal elements the set has the one that was stored first. A call of one element takes the locks, the time and the
-/// memory of the call of [`HashMapRef`] that it makes.
+/// Of each class of equal elements the set has the one that was stored first. A one-element call takes the same locks, time and memory as
+/// the call of [`HashMapRef`] that it makes.
 ///
 /// ```
 /// set.pin(rt).again().processors()
@@ -39,26 +39,26 @@ impl<'m, R, T: Ord, S: KeyHasher<T>, A: Allocator> Model for HashSetRef<'m, R, T
 }
 
 impl<'m, R, T: Ord, S: KeyHasher<T>, A: Allocator> HashSetRef<'m, R, T, S, A> {
-    // The view of the set over this map.
+    // Creates the view of a set from the view of its map.
     pub(crate) fn of(map: HashMapRef<'m, R, T, (), S, A>) -> Self
         ensures { result ≡ map.entry }
     {
         HashSetRef { map }
     }
 
-    /// The runtime by which it waits. Constant time.
+    /// Returns the runtime by which the view's calls wait. Constant time.
     pub fn runtime(&self) -> &'m R {
         self.map.runtime()
     }
 
-    /// The number of processors that share the work of a growth; 0 counts as one. Constant time.
+    /// Returns the number of threads among which a growth is divided; `0` means 1. Constant time.
     pub fn processors(&self) -> usize
         ensures { result ≡ self.now.processors }
     {
         self.map.processors()
     }
 
-    /// A further view of the same set. Constant time; takes no memory.
+    /// Returns another view of the same set. Constant time; takes no memory.
     pub fn again(&self) -> Self
         ensures { result ≡ self.now }
     {
@@ -69,21 +69,21 @@ impl<'m, R, T: Ord, S: KeyHasher<T>, A: Allocator> HashSetRef<'m, R, T, S, A> {
 }
 
 impl<'m, R: Wait, T: Ord, S: KeyHasher<T>, A: Allocator> HashSetRef<'m, R, T, S, A> {
-    /// The number of elements, as they are counted at one moment while the call runs. See [`HashMapRef::len`].
-    // The count is known by its type alone, since other threads change it.
+    /// Returns the number of elements, counted at one moment during the call. See [`HashMapRef::len`].
+    // No contract specifies the count, since other threads change it.
     pub fn len(&self) -> usize {
         self.map.len()
     }
 
-    /// Whether that number is 0.
-    // As of `len`.
+    /// Returns `true` if the set has no elements. They are counted as by [`HashSetRef::len`].
+    // No contract specifies the result, since other threads change the count.
     pub fn is_empty(&self) -> bool {
         self.map.is_empty()
     }
 }
 
 impl<'m, R: Wait, T: Ord + Drop, S: KeyHasher<T>, A: Allocator + Copy> HashSetRef<'m, R, T, S, A> {
-    /// Whether the set has an element of the class. It takes no memory.
+    /// Returns `true` if the set has an element equal to `element`. It takes no memory.
     pub fn contains(&self, element: &T) -> bool
         ensures { IsDriven (Maker T (Unit {0}) A) T.cmp (no_changes {K = T} {V = Unit {0}}) self.now
             (S.hash_of self.now.hasher element.now) (AtLocate (Finds Presence element.now))
@@ -92,11 +92,11 @@ impl<'m, R: Wait, T: Ord + Drop, S: KeyHasher<T>, A: Allocator + Copy> HashSetRe
         self.map.contains_key(element)
     }
 
-    /// A further owner of the stored element of the class.
+    /// Returns a clone of the `Arc` of the stored element that is equal to `element`, or `None` if there is none.
     ///
     /// # Errors
     ///
-    /// [`AllocError`], where a further owner is refused. It is not where the set has no element of the class.
+    /// Returns [`AllocError`] if cloning an `Arc` fails, which it cannot if the set has no element equal to `element`.
     pub fn get(&self, element: &T) -> Result<Option<Arc<T, A>>, AllocError>
         ensures { IsDriven (Maker T (Unit {0}) A) T.cmp (no_changes {K = T} {V = Unit {0}}) self.now
             (S.hash_of self.now.hasher element.now) (AtLocate (Finds ThePair element.now)) (found_outcome result) }
@@ -107,13 +107,14 @@ impl<'m, R: Wait, T: Ord + Drop, S: KeyHasher<T>, A: Allocator + Copy> HashSetRe
         }
     }
 
-    /// Puts an element, and answers whether its class is new. An element that is stored stays, and the one that was handed in is
-    /// dropped. A new element may make the table larger; where the larger table finds no memory, the set stays in the old one.
+    /// Inserts an element, and returns `true` if the set had no equal one. If it had one, the stored element stays, and the argument
+    /// `element` is dropped. A new element may make the table grow; if memory for the larger table cannot be allocated, the set stays in
+    /// the old table.
     ///
     /// # Errors
     ///
-    /// [`AllocError`], where memory for a new element or for a first table is wanting, or where a further owner of what is stored is
-    /// refused. No element is changed by the call then, and the element is dropped.
+    /// Returns [`AllocError`] if memory for a new element or for a first table cannot be allocated, or if cloning an `Arc` of what is
+    /// stored fails. The call then changes no element, and the argument `element` is dropped.
     pub fn insert(&self, element: T) -> Result<bool, AllocError>
         ensures { IsDriven (Maker T (Unit {0}) A) T.cmp (no_changes {K = T} {V = Unit {0}}) self.now
             (S.hash_of self.now.hasher element) (AtLocate (Adds element tt)) (added_outcome result) }
@@ -124,7 +125,7 @@ impl<'m, R: Wait, T: Ord + Drop, S: KeyHasher<T>, A: Allocator + Copy> HashSetRe
         }
     }
 
-    /// Takes the element of the class out, and answers whether there was one. The table stays as large as it is. It takes no memory.
+    /// Removes the element equal to `element`, and returns `true` if there was one. The table keeps its size. It takes no memory.
     pub fn remove(&self, element: &T) -> bool
         ensures { IsDriven (Maker T (Unit {0}) A) T.cmp (no_changes {K = T} {V = Unit {0}}) self.now
             (S.hash_of self.now.hasher element.now) (AtLocate (Removes TheValue element.now)) (removed_outcome result) }
@@ -135,7 +136,7 @@ impl<'m, R: Wait, T: Ord + Drop, S: KeyHasher<T>, A: Allocator + Copy> HashSetRe
         }
     }
 
-    /// Takes the element of the class out, and answers it. The table stays as large as it is. It takes no memory.
+    /// Removes the element equal to `element`, and returns it, or `None` if there is none. The table keeps its size. It takes no memory.
     pub fn take(&self, element: &T) -> Option<Arc<T, A>>
         ensures { IsDriven (Maker T (Unit {0}) A) T.cmp (no_changes {K = T} {V = Unit {0}}) self.now
             (S.hash_of self.now.hasher element.now) (AtLocate (Removes ThePair element.now)) (element_outcome result) }
@@ -146,13 +147,13 @@ impl<'m, R: Wait, T: Ord + Drop, S: KeyHasher<T>, A: Allocator + Copy> HashSetRe
         }
     }
 
-    /// Makes the table large enough for so many more elements than the set then counts. See [`HashMapRef::reserve`].
+    /// Grows the table so that `additional` more elements fit than the set then counts. See [`HashMapRef::reserve`].
     ///
     /// Each doubling moves every element.
     ///
     /// # Errors
     ///
-    /// [`AllocError`], where memory for a table is wanting. The elements stay, and so do the doublings that were done.
+    /// Returns [`AllocError`] if memory for a table cannot be allocated. The elements stay, and so do the doublings that were done.
     pub fn reserve(&self, additional: usize) -> Result<(), AllocError>
         ensures { IsDriven (Maker T (Unit {0}) A) T.cmp (no_changes {K = T} {V = Unit {0}}) self.now 0
             (AtReserve additional) (ended_outcome result) }
@@ -168,63 +169,64 @@ impl<'m, R: Wait, T: Ord + Drop, S: KeyHasher<T>, A: Allocator + Copy> HashSetRe
         self.map.clear();
     }
 
-    /// Further owners of the elements, one after another, while other calls go on. See [`HashMapRef::iter`].
+    /// Returns an iterator that gives clones of the `Arc`s of the elements. Other calls may run meanwhile. See [`HashMapRef::iter`].
     pub fn iter(&self) -> Keys<'m, R, T, (), A>
         ensures { Begins T.cmp result }
     {
         self.map.keys()
     }
 
-    /// Whether both sets have as many elements, and each element that a walk of this one reads is of a class of the other.
+    /// Returns `true` if both sets count equally many elements, and if each element that a walk of this set reads is equal to one of
+    /// `other`.
     ///
     /// # Errors
     ///
-    /// [`AllocError`], where a further owner is refused.
-    // While other threads write, it tells of no one moment.
+    /// Returns [`AllocError`] if cloning an `Arc` fails.
+    // While other threads write, the result does not describe any one moment.
     pub fn equals(&self, other: &Self) -> Result<bool, AllocError> {
         self.map.equals(&other.map)
     }
 
-    /// Whether no element that a walk of this set reads is of a class of the other set. One look-up for each.
+    /// Returns `true` if no element that a walk of this set reads is equal to one of `other`. One look-up for each element.
     ///
     /// # Errors
     ///
-    /// [`AllocError`], where a further owner is refused.
-    // As of `equals`.
+    /// Returns [`AllocError`] if cloning an `Arc` fails.
+    // While other threads write, the result does not describe any one moment.
     pub fn is_disjoint(&self, other: &Self) -> Result<bool, AllocError> {
         self.each_is(other, false)
     }
 
-    /// Whether each element that a walk of this set reads is of a class of the other set. One look-up for each.
+    /// Returns `true` if each element that a walk of this set reads is equal to one of `other`. One look-up for each element.
     ///
     /// # Errors
     ///
-    /// [`AllocError`], where a further owner is refused.
-    // As of `equals`.
+    /// Returns [`AllocError`] if cloning an `Arc` fails.
+    // While other threads write, the result does not describe any one moment.
     pub fn is_subset(&self, other: &Self) -> Result<bool, AllocError> {
         self.each_is(other, true)
     }
 
-    /// Whether each element that a walk of the other set reads is of a class of this one. One look-up for each.
+    /// Returns `true` if each element that a walk of `other` reads is equal to one of this set. One look-up for each element.
     ///
     /// # Errors
     ///
-    /// [`AllocError`], where a further owner is refused.
-    // As of `equals`.
+    /// Returns [`AllocError`] if cloning an `Arc` fails.
+    // While other threads write, the result does not describe any one moment.
     pub fn is_superset(&self, other: &Self) -> Result<bool, AllocError> {
         other.is_subset(self)
     }
 
-    /// Calls a function on each element that [`HashSetRef::iter`] gives, and removes those at which it answers false. An element that was
-    /// removed meanwhile, and put again, stays.
+    /// Calls `f` on each element that [`HashSetRef::iter`] gives, and removes the elements for which it returns `false`. An element that
+    /// was removed meanwhile, and inserted again, stays.
     ///
-    /// The function runs while no lock is held, so it may call this set. One removal for each element at which it answers false, besides
-    /// the walk; takes the locks of [`HashMapRef::retain`].
+    /// `f` runs while no lock is held, so it may call this set. One removal for each element for which `f` returns `false`, besides the
+    /// walk. Takes the locks of [`HashMapRef::retain`].
     ///
     /// # Errors
     ///
-    /// [`AllocError`], where a further owner is refused. The elements that were removed before stay removed.
-    // As of `equals`.
+    /// Returns [`AllocError`] if cloning an `Arc` fails. The elements that were already removed stay removed.
+    // While other threads write, what it finds does not describe any one moment.
     pub fn retain<F: FnMut(&T) -> bool>(&self, f: F) -> Result<(), AllocError>
     where
         F: Drop,
@@ -237,7 +239,7 @@ impl<'m, R: Wait, T: Ord + Drop, S: KeyHasher<T>, A: Allocator + Copy> HashSetRe
         ended
     }
 
-    // Goes over the elements that are left. It borrows the iterator, since each way out of a body that owns it has a proof of its drop.
+    // Visits the elements that are left. It borrows the iterator, since a body that owns it needs a proof of its drop at each way out.
     fn retain_rest<F: FnMut(&T) -> bool>(
         &self,
         pairs: &mut Iter<'_, R, T, (), A>,
@@ -257,7 +259,8 @@ impl<'m, R: Wait, T: Ord + Drop, S: KeyHasher<T>, A: Allocator + Copy> HashSetRe
         unreachable!()
     }
 
-    // Whether each element that a walk reads is present in another set, or each is absent there.
+    // Whether each element that a walk of this set reads is in `other`, if `present` is `true`; or whether none of them is, if it is
+    // `false`.
     fn each_is(&self, other: &Self, present: bool) -> Result<bool, AllocError> {
         let mut pairs = self.map.iter();
         let answer = other.each_left_is(&mut pairs, present);
@@ -265,7 +268,7 @@ impl<'m, R: Wait, T: Ord + Drop, S: KeyHasher<T>, A: Allocator + Copy> HashSetRe
         answer
     }
 
-    // Whether each element that is left of a walk is present in this set, or each is absent here.
+    // Whether each element that is left of a walk is in this set, if `present` is `true`; or whether none of them is, if it is `false`.
     fn each_left_is(
         &self,
         pairs: &mut Iter<'_, R, T, (), A>,
@@ -282,8 +285,8 @@ impl<'m, R: Wait, T: Ord + Drop, S: KeyHasher<T>, A: Allocator + Copy> HashSetRe
         unreachable!()
     }
 
-    // Whether the set has an element of the class, or, as is asked, has none.
-    // It is shaped as the look-up of the map's `equals`, and has no clause: both shorten the proof of the loop above.
+    // Whether the set has an element equal to `element`, if `present` is `true`; or whether it has none, if it is `false`.
+    // It has the shape of the look-up in the map's `equals`, and no contract: both shorten the proof of the loop above.
     fn has_as(&self, element: &T, _nothing: &(), present: bool) -> Result<bool, AllocError> {
         Ok(self.contains(element) == present)
     }
