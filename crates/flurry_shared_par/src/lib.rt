@@ -1,7 +1,7 @@
-//! Maps and sets that threads share, extended by several threads at once.
+//! Calls that extend a shared map or a shared set by several threads at once.
 //!
 //! Workers take pieces of a list, and insert them through the shared map. [`map`] has the call of the map, [`map_ref`] that of its view,
-//! and [`set`] and [`set_ref`] those of the set. What stands in the map afterwards, no clause can tell, since other threads change it
+//! and [`set`] and [`set_ref`] those of the set. No contract specifies what is in the map afterwards, since other threads change it
 //! meanwhile.
 #![tactic(auto)]
 

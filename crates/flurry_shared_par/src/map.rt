@@ -1,4 +1,4 @@
-//! The shared map, extended by several threads at once.
+//! The call that extends a shared map by several threads at once.
 
 use crate::map_ref;
 use flurry_map::HashMap;
@@ -7,17 +7,18 @@ use std::alloc::{AllocError, Allocator};
 use std::sync::Wait;
 use std::thread::Threads;
 
-/// Inserts pairs by several threads at once. As many are started as the map has processors, of which 0 counts as one, but at most
-/// [`crate::MOST_WORKERS`]. They take pieces of the list, of `part` pairs each, until none is left; a part of 0 is read as 1. Of a key
-/// that comes twice any of its values stays. All have ended when the call returns.
+/// Inserts the pairs of `list` by several threads at once. It starts as many threads as the map has processors, but at least 1 and at most
+/// [`crate::MOST_WORKERS`]; [`HashMap::with_processors`] sets that number. The threads take pieces of `list`, of `part` pairs each, until
+/// none is left; a `part` of `0` means 1. If a key comes twice, any one of its values stays. All threads have ended when the call returns.
 ///
-/// One insertion for each pair; takes the locks of [`HashMap::insert`] for each, and memory for each piece besides.
+/// One insertion for each pair. Takes the locks of [`HashMap::insert`] for each pair, and memory for each piece besides.
 ///
 /// # Errors
 ///
-/// [`AllocError`], where a piece, an insertion or the start of a thread is refused. No further piece is taken then; the other threads
-/// insert the rest of those that they have. The pairs that were inserted stay, and all others are dropped.
-// What other threads leave in the map, no clause can tell.
+/// Returns [`AllocError`] if memory for a piece cannot be allocated, if an insertion fails, or if a thread cannot be started. No further
+/// piece is taken then; the other threads insert the rest of the pieces that they have. The pairs that were inserted stay, and all others
+/// are dropped.
+// No contract specifies what other threads leave in the map.
 pub fn par_extend<
     K: Ord + Drop + Send + Sync,
     V: Drop + Send + Sync,

@@ -1,4 +1,4 @@
-//! The view of the shared map, extended by several threads at once.
+//! The call that extends a shared map, by its view, by several threads at once.
 ghost use Rattle.flurry_locks.specs.declared.tables.Maker.{Maker};
 ghost use Rattle.flurry_map_ref.specs.Driven.{IsDriven, no_changes};
 ghost use Rattle.flurry_map_ref.specs.Results.{value_outcome};
@@ -14,7 +14,7 @@ use std::thread::Threads;
 
 impl<'m, R: Wait, K: Ord + Drop, V: Drop, S: KeyHasher<K>, A: Allocator + Copy> Put<(K, V)>
     for HashMapRef<'m, R, K, V, S, A> {
-    // An insertion answers so, but for the old value.
+    // What an insertion returns, without the old value.
     ghost put_gives = { λ m p. IsWithoutValue (λ r. IsDriven (Maker K V A) K.cmp no_changes m (S.hash_of m.hasher p.0)
         (AtLocate (Inserts p.0 p.1)) (value_outcome {A = A} r)) };
 
@@ -24,12 +24,13 @@ impl<'m, R: Wait, K: Ord + Drop, V: Drop, S: KeyHasher<K>, A: Allocator + Copy> 
     }
 }
 
-/// Inserts pairs by several threads at once; see [`crate::map::par_extend`].
+/// Inserts the pairs of `list` by several threads at once. See [`crate::map::par_extend`].
 ///
 /// # Errors
 ///
-/// [`AllocError`], as of [`crate::map::par_extend`].
-// What other threads leave in the map, no clause can tell.
+/// Returns [`AllocError`] if memory for a piece cannot be allocated, if an insertion fails, or if a thread cannot be started. What then
+/// remains is described at [`crate::map::par_extend`].
+// No contract specifies what other threads leave in the map.
 pub fn par_extend<
     'm,
     R: Threads + Wait + Sync,

@@ -1,11 +1,11 @@
-//! A list, of which several threads take pieces.
+//! A list from which several threads take pieces.
 ghost use Rattle.std.specs.Prelude.{◌≡◌, ◌++◌, IfOk, OnErr, length, max, min};
 
 use std::alloc::{AllocError, Allocator};
 use std::sync::atomic::{AtomicBool, Ordering};
 use std::sync::{Mutex, Wait};
 
-// What is left of a list whose pieces threads take, how long a piece is, and whether something was refused.
+// The rest of a list from which threads take pieces, the length of a piece, and whether something has failed.
 #[derive(Drop)]
 pub(crate) struct Queue<T, A: Allocator> {
     rest: Mutex<Vec<T, A>>,
@@ -14,7 +14,7 @@ pub(crate) struct Queue<T, A: Allocator> {
 }
 
 impl<T: Drop, A: Allocator + Copy> Queue<T, A> {
-    // The list, whose pieces are of that length. A length of 0 is read as 1.
+    // Creates a queue of `list`, whose pieces have `part` items; `0` means 1.
     pub(crate) fn new(list: Vec<T, A>, part: usize) -> Self
         ensures { result.part ≡ max part 1 }
     {
@@ -25,7 +25,7 @@ impl<T: Drop, A: Allocator + Copy> Queue<T, A> {
         }
     }
 
-    // The next piece; none where nothing is left, or something was refused.
+    // Takes the next piece. Returns `None` if nothing is left, or if something has failed.
     pub(crate) fn take<R: Wait>(&self, rt: &R) -> Result<Option<Vec<T, A>>, AllocError> {
         if self.is_refused() {
             return Ok(None);
@@ -38,18 +38,18 @@ impl<T: Drop, A: Allocator + Copy> Queue<T, A> {
         }
     }
 
-    // Says that something was refused: no further piece is taken.
+    // Says that something has failed, so that no further piece is taken.
     pub(crate) fn refuse(&self) {
         self.refused.store(true, Ordering::SeqCst);
     }
 
-    // Whether something was refused.
+    // Whether something has failed.
     pub(crate) fn is_refused(&self) -> bool {
         self.refused.load(Ordering::SeqCst)
     }
 }
 
-// Takes a piece of that length off the end of a list, or all of a shorter one.
+// Removes a piece of `part` items from the end of `rest`, or all of its items if it has fewer.
 fn take_piece<T: Drop, A: Allocator + Copy>(
     rest: &mut Vec<T, A>,
     part: usize,

@@ -1,4 +1,4 @@
-//! The shared set, extended by several threads at once.
+//! The call that extends a shared set by several threads at once.
 
 use crate::set_ref;
 use flurry_model::hash::KeyHasher;
@@ -7,14 +7,15 @@ use std::alloc::{AllocError, Allocator};
 use std::sync::Wait;
 use std::thread::Threads;
 
-/// Puts elements by several threads at once, as [`crate::map::par_extend`] inserts pairs. Of equal elements any stays, unless one is
-/// stored already, which stays then.
+/// Inserts the elements of `list` by several threads at once, as [`crate::map::par_extend`] inserts pairs. Of equal elements any one stays;
+/// but if the set has an equal element already, that one stays.
 ///
 /// # Errors
 ///
-/// [`AllocError`], where a piece, an insertion or the start of a thread is refused. No further piece is taken then; the other threads
-/// put the rest of those that they have. The elements that were put stay, and all others are dropped.
-// What other threads leave in the set, no clause can tell.
+/// Returns [`AllocError`] if memory for a piece cannot be allocated, if an insertion fails, or if a thread cannot be started. No further
+/// piece is taken then; the other threads insert the rest of the pieces that they have. The elements that were inserted stay, and all
+/// others are dropped.
+// No contract specifies what other threads leave in the set.
 pub fn par_extend<
     T: Ord + Drop + Send + Sync,
     S: KeyHasher<T> + Sync,

@@ -1,4 +1,4 @@
-//! The view of the shared set, extended by several threads at once.
+//! The call that extends a shared set, by its view, by several threads at once.
 ghost use Rattle.flurry_locks.specs.declared.tables.Maker.{Maker};
 ghost use Rattle.flurry_map_ref.specs.Driven.{IsDriven, no_changes};
 ghost use Rattle.flurry_shared_par.specs.Answers.{IsWithoutValue};
@@ -14,7 +14,7 @@ use std::thread::Threads;
 
 impl<'m, R: Wait, T: Ord + Drop, S: KeyHasher<T>, A: Allocator + Copy> Put<T>
     for HashSetRef<'m, R, T, S, A> {
-    // An insertion answers so, but for whether the element is new.
+    // What an insertion returns, without whether the element is new.
     ghost put_gives = { λ s e. IsWithoutValue (λ r. IsDriven (Maker T (Unit {0}) A) T.cmp (no_changes {K = T} {V = Unit {0}}) s
         (S.hash_of s.hasher e) (AtLocate (Adds e tt)) (added_outcome r)) };
 
@@ -24,12 +24,13 @@ impl<'m, R: Wait, T: Ord + Drop, S: KeyHasher<T>, A: Allocator + Copy> Put<T>
     }
 }
 
-/// Puts elements by several threads at once; see [`crate::set::par_extend`].
+/// Inserts the elements of `list` by several threads at once. See [`crate::set::par_extend`].
 ///
 /// # Errors
 ///
-/// [`AllocError`], as of [`crate::set::par_extend`].
-// What other threads leave in the set, no clause can tell.
+/// Returns [`AllocError`] if memory for a piece cannot be allocated, if an insertion fails, or if a thread cannot be started. What then
+/// remains is described at [`crate::set::par_extend`].
+// No contract specifies what other threads leave in the set.
 pub fn par_extend<
     'm,
     R: Threads + Wait + Sync,

@@ -1,4 +1,4 @@
-//! Threads that put the items of a list into one map or set at once.
+//! Threads that insert the items of a list into one map or set at once.
 ghost use Rattle.std.specs.Prelude.{◌≡◌, All, IfOk, Ok, Result, max, min};
 ghost use Rattle.std.specs.declared.alloc.AllocError.{AllocError};
 
@@ -8,31 +8,31 @@ use std::sync::Wait;
 use std::thread;
 use std::thread::Threads;
 
-/// The most workers that one call starts.
+/// The greatest number of workers that one call starts.
 pub const MOST_WORKERS: usize = 64;
 
-// What threads put items into.
+// What threads insert items into.
 pub(crate) trait Put<T> {
-    // What putting an item answers, or that it was refused.
+    // What an insertion of an item returns, be it an error.
     ghost put_gives: { Self → T → Result (Unit {0}) AllocError → Type 0 };
 
-    // Puts an item. Where that is refused, the item is dropped.
+    // Inserts an item. If that fails, the item is dropped.
     fn put(&self, item: T) -> Result<(), AllocError>
         ensures { put_gives self.now item result };
 }
 
-// How many workers are started for so many processors, of which 0 counts as one.
+// Returns the number of workers that are started for `processors`; `0` means 1.
 fn workers_for(processors: usize) -> usize
     ensures { result ≡ min (max processors 1) MOST_WORKERS }
 {
     processors.max(1).min(MOST_WORKERS)
 }
 
-// Puts the items of a list, by as many workers as are for so many processors. They take pieces of that length, a length of 0 being read
-// as 1, until none is left. All have ended when it returns.
+// Inserts the items of `list`, by as many workers as are started for `processors`. They take pieces of `part` items, where `0` means 1,
+// until none is left. All workers have ended when it returns.
 //
-// Where a piece, an item or the start of a worker is refused, no further piece is taken: the other workers put the rest of those that
-// they have, all others are dropped, and the error is answered.
+// If memory for a piece cannot be allocated, if an item cannot be inserted, or if a worker cannot be started, no further piece is taken:
+// the other workers insert the rest of the pieces that they have, all other items are dropped, and the error is returned.
 pub(crate) fn put_all<
     T: Drop + Send,
     P: Put<T> + Sync,
@@ -47,7 +47,7 @@ pub(crate) fn put_all<
     Ok(())
 }
 
-// Starts so many workers, and waits for their ends.
+// Starts `workers` workers, and waits until they have ended.
 fn work_together<
     T: Drop + Send,
     P: Put<T> + Sync,
@@ -64,14 +64,14 @@ fn work_together<
     });
 }
 
-// What one worker does.
+// Does the work of one worker.
 fn work<T: Drop, P: Put<T>, A: Allocator + Copy, R: Wait>(rt: &R, into: &P, queue: &Queue<T, A>) {
     if put_pieces(rt, into, queue).is_err() {
         queue.refuse();
     }
 }
 
-// Takes pieces, and puts their items, until none is left, or one is refused.
+// Takes pieces, and inserts their items, until none is left, or one fails.
 fn put_pieces<T: Drop, P: Put<T>, A: Allocator + Copy, R: Wait>(
     rt: &R,
     into: &P,
@@ -86,7 +86,7 @@ fn put_pieces<T: Drop, P: Put<T>, A: Allocator + Copy, R: Wait>(
     unreachable!()
 }
 
-// Puts the items of a piece, until one is refused.
+// Inserts the items of a piece, until one fails.
 fn put_piece<T: Drop, P: Put<T>, A: Allocator>(into: &P, piece: Vec<T, A>) -> Result<(), AllocError>
     ensures { IfOk result (λ u. All (λ item. P.put_gives into.now item (Ok u)) piece.items) }
 {
