@@ -4,7 +4,7 @@ ghost use Rattle.flurry_model.specs.FiniteSet.{IsFiniteSet};
 
 use std::alloc::Allocator;
 
-// The pairs in ascending order of their keys, of each class of keys one.
+// Sorts the pairs of `list` in ascending order of their keys, and keeps one of each class of equal keys.
 pub(crate) fn ascending_pairs<K: Ord + Drop, V: Drop, A: Allocator>(
     list: Vec<(K, V), A>,
 ) -> Vec<(K, V), A>
@@ -16,7 +16,7 @@ pub(crate) fn ascending_pairs<K: Ord + Drop, V: Drop, A: Allocator>(
     list
 }
 
-// The elements in ascending order, of each class one.
+// Sorts the elements of `list` in ascending order, and keeps one of each class of equal elements.
 pub(crate) fn ascending_elements<T: Ord + Drop, A: Allocator>(list: Vec<T, A>) -> Vec<T, A>
     ensures { IsFiniteSet T.cmp result.items }
 {

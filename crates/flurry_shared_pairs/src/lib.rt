@@ -1,6 +1,6 @@
-//! The pairs of a map and the elements of a set that threads share, as lists, which `serde` writes.
+//! The pairs of a shared map and the elements of a shared set, as lists that `serde` writes.
 //!
-//! A list has what one walk gives while other calls go on, and ascends. A shared map is made of such a list by
+//! A list has what one walk gives while other calls run, in ascending order. A shared map is made of such a list by
 //! [`flurry_pairs::map::from_pairs`] and `from_seq`, and a shared set by its `from_list`.
 #![tactic(auto)]
 

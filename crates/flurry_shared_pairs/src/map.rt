@@ -9,11 +9,12 @@ use flurry_pairs::SortedPairs;
 use std::alloc::{AllocError, Allocator};
 use std::sync::Wait;
 
-/// The pairs that one walk gives, in ascending order of the keys. See [`map_ref::to_sorted_pairs`].
+/// Returns the pairs that one walk gives, in ascending order of the keys. See [`map_ref::to_sorted_pairs`].
 ///
 /// # Errors
 ///
-/// [`AllocError`], as of [`map_ref::to_sorted_pairs`].
+/// Returns [`AllocError`] if memory for the list cannot be allocated, or if cloning an `Arc`, a key or a value fails. The clones that were
+/// made are dropped.
 pub fn to_sorted_pairs<
     R: Wait,
     K: Ord + Clone,

@@ -10,16 +10,16 @@ use flurry_pairs::SortedPairs;
 use std::alloc::{AllocError, Allocator};
 use std::sync::Wait;
 
-/// The pairs that one walk gives, as of [`HashMapRef::iter`], whose keys and values are cloned, in ascending order of the keys. The list
-/// is in memory of its own allocator.
+/// Returns clones of the keys and the values of the pairs that one walk gives, in ascending order of the keys. The walk is that of
+/// [`HashMapRef::iter`]. The list is in memory of the allocator `alloc`.
 ///
 /// A whole walk, which holds no lock while a key or a value is cloned, and one sort.
 ///
 /// # Errors
 ///
-/// [`AllocError`], where memory for the list is wanting, or where a further owner or a clone is refused. The clones that were made are
-/// dropped.
-// Which pairs it has, no clause can tell, since other threads change them meanwhile.
+/// Returns [`AllocError`] if memory for the list cannot be allocated, or if cloning an `Arc`, a key or a value fails. The clones that were
+/// made are dropped.
+// No contract specifies which pairs it has, since other threads change them meanwhile.
 pub fn to_sorted_pairs<
     R: Wait,
     K: Ord + Clone,
@@ -36,7 +36,7 @@ pub fn to_sorted_pairs<
     Ok(SortedPairs(ascending_pairs(list?)))
 }
 
-// Clones of the pairs that are left. It borrows the iterator, since each way out of a body that owns it has a proof of its drop.
+// Clones the pairs that are left. It borrows the iterator, since a body that owns it needs a proof of its drop at each way out.
 fn clones_of_rest<R: Wait, K: Ord + Clone, V: Clone, A: Allocator + Copy, B: Allocator>(
     alloc: B,
     pairs: &mut Iter<'_, R, K, V, A>,

@@ -9,11 +9,12 @@ use flurry_shared_set::HashSet;
 use std::alloc::{AllocError, Allocator};
 use std::sync::Wait;
 
-/// The elements that one walk gives, in ascending order. See [`set_ref::to_sorted_items`].
+/// Returns the elements that one walk gives, in ascending order. See [`set_ref::to_sorted_items`].
 ///
 /// # Errors
 ///
-/// [`AllocError`], as of [`set_ref::to_sorted_items`].
+/// Returns [`AllocError`] if memory for the list cannot be allocated, or if cloning an `Arc` or an element fails. The clones that were made
+/// are dropped.
 pub fn to_sorted_items<R: Wait, T: Ord + Clone, S: KeyHasher<T>, A: Allocator + Copy, B: Allocator>(
     rt: &R,
     alloc: B,

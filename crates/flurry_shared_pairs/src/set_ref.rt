@@ -10,15 +10,16 @@ use flurry_shared_set::HashSetRef;
 use std::alloc::{AllocError, Allocator};
 use std::sync::Wait;
 
-/// The elements that one walk gives, as of [`HashSetRef::iter`], cloned, in ascending order. The list is in memory of its own allocator.
+/// Returns clones of the elements that one walk gives, in ascending order. The walk is that of [`HashSetRef::iter`]. The list is in memory
+/// of the allocator `alloc`.
 ///
 /// A whole walk, which holds no lock while an element is cloned, and one sort.
 ///
 /// # Errors
 ///
-/// [`AllocError`], where memory for the list is wanting, or where a further owner or a clone is refused. The clones that were made are
-/// dropped.
-// Which elements it has, no clause can tell, since other threads change them meanwhile.
+/// Returns [`AllocError`] if memory for the list cannot be allocated, or if cloning an `Arc` or an element fails. The clones that were made
+/// are dropped.
+// No contract specifies which elements it has, since other threads change them meanwhile.
 pub fn to_sorted_items<R: Wait, T: Ord + Clone, S: KeyHasher<T>, A: Allocator + Copy, B: Allocator>(
     alloc: B,
     set: &HashSetRef<'_, R, T, S, A>,
@@ -31,7 +32,7 @@ pub fn to_sorted_items<R: Wait, T: Ord + Clone, S: KeyHasher<T>, A: Allocator + 
     Ok(SortedItems(ascending_elements(list?)))
 }
 
-// Clones of the elements that are left. It borrows the iterator, since each way out of a body that owns it has a proof of its drop.
+// Clones the elements that are left. It borrows the iterator, since a body that owns it needs a proof of its drop at each way out.
 fn clones_of_rest<R: Wait, T: Ord + Clone, A: Allocator + Copy, B: Allocator>(
     alloc: B,
     elements: &mut Keys<'_, R, T, (), A>,
