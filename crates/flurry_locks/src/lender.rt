@@ -1,4 +1,4 @@
-//! What takes the locks of a shared map for the steps of a thread's calls.
+//! A lender, which takes the locks of a shared map for the steps of a thread's calls.
 ghost use Rattle.std.specs.Prelude.{◌≡◌};
 ghost use Rattle.flurry_calls.specs.Part.{ControlPart, LookPart};
 ghost use Rattle.flurry_calls.specs.Sweep.{swept_part};
@@ -14,10 +14,11 @@ use flurry_steps::{Field, Party};
 use std::alloc::{Allocator, Global};
 use std::sync::{Mutex, RwLock, Wait};
 
-/// Lends the parts of a shared map to the steps of a thread's calls. Each part is lent under its lock, which is held for one step.
+/// A handle that gives the steps of a thread's calls the parts of a shared map. Each part is given under its lock, which is held for one
+/// step.
 ///
-/// A step that moves a bin holds the lock of the bin, then that of its low half, then that of its high half. A call begins at the
-/// table that was published last, as far as that is known without the control's lock.
+/// A step that moves a bin takes the lock of the bin, then the lock of its low half, then the lock of its high half, and holds all three. A
+/// call starts at the table that was published last, as far as that is known without the control's lock.
 ///
 /// ```
 /// let lender = Lender::new(rt, locks);
@@ -30,13 +31,13 @@ pub struct Lender<'m, R, K: Ord, V, A: Allocator = Global> {
 }
 
 impl<'m, R, K: Ord, V, A: Allocator> Lender<'m, R, K, V, A> {
-    /// Takes these locks, and waits for them by that runtime. Constant time.
-    // The locks' parts are known by their types alone, so no clause speaks of them.
+    /// Creates a lender that takes `locks`, and waits for them by the runtime `rt`. Constant time.
+    // The parts under the locks are known by their types alone, so no contract specifies them.
     pub fn new(rt: &'m R, locks: &'m Locks<K, V, A>) -> Self {
         Lender { rt, locks }
     }
 
-    /// A further one for the same locks. Constant time.
+    /// Returns another lender for the same locks. Constant time.
     pub fn again(&self) -> Self {
         Lender {
             rt: self.rt,
@@ -44,12 +45,12 @@ impl<'m, R, K: Ord, V, A: Allocator> Lender<'m, R, K, V, A> {
         }
     }
 
-    /// The runtime by which it waits. Constant time.
+    /// Returns the runtime by which the lender waits. Constant time.
     pub fn runtime(&self) -> &'m R {
         self.rt
     }
 
-    /// The allocator that the tables and the pairs are of. Constant time.
+    /// Returns the allocator of the tables and the pairs. Constant time.
     pub fn allocator(&self) -> A
     where
         A: Copy,
@@ -57,43 +58,46 @@ impl<'m, R, K: Ord, V, A: Allocator> Lender<'m, R, K, V, A> {
         self.locks.alloc
     }
 
-    /// The exponent that was published last, as far as that is known without the control's lock; none where no table is known. Constant
-    /// time.
+    /// Returns the exponent of the table that was published last, as far as that is known without the control's lock, or `None` if no table
+    /// is known. Constant time.
     pub fn newest(&self) -> Option<&PublishedTable> {
         self.locks.starts.newest()
     }
 
-    /// The tally where a call of that hash counts a pair, and how many pairs may wait there before a call that put one looks at the
-    /// control's count. None where calls count at the control: where the table is small, and as long as a growth is due. Constant time.
+    /// Returns the tally where a call with the hash `hash` counts a pair, and how many pairs may wait there before a call that inserted one
+    /// looks at the control's count. Returns `None` if calls count at the control: if the table is small, and as long as a growth is due.
+    /// Constant time.
     pub fn tally(&self, hash: u64) -> Option<(&Mutex<Tally>, i64)> {
         self.locks.control.tally(hash, self.locks.starts.newest())
     }
 
-    /// The lock of the slot at that table and index, if the table was made and has it. Whoever takes it holds no lock of a slot of a
-    /// greater table or index, and does not wait for the control's while it does. Constant time.
+    /// Returns the lock of the slot at `table` and `index`, or `None` if that table was not made or has no such slot. Whoever takes the
+    /// lock must hold no lock of a slot of a greater table or index, and must not wait for the control's lock while holding it. Constant
+    /// time.
     pub fn slot(&self, table: u8, index: usize) -> Option<&RwLock<Slot<K, V, A>>> {
         self.locks.tables.lock_of(table, index)
     }
 }
 
 impl<'m, R: Wait, K: Ord, V, A: Allocator> Lender<'m, R, K, V, A> {
-    /// The count of pairs, at one moment while the call runs. Takes the control's lock, then that of each tally in turn.
+    /// Returns the number of pairs, counted at one moment during the call. Takes the control's lock, then the lock of each tally in turn.
     pub fn len(&self) -> usize {
         self.locks.control.lock(self.rt).len()
     }
 
-    /// Counts so many pairs more, which are in the slots already. Takes the control's lock.
+    /// Adds `pairs` to the count of pairs, for pairs that come into the slots without being counted. Takes the control's lock, then the
+    /// lock of each tally in turn.
     pub fn count(&self, pairs: i64) {
         self.locks.control.lock(self.rt).count(pairs);
     }
 }
 
 impl<'m, R: Wait, K: Ord + Drop, V: Drop, A: Allocator> Lender<'m, R, K, V, A> {
-    /// Does the next step of a walk with the part that it wants, which is lent under its lock, and answers what the step was. Where the
-    /// walk is done, or a slot is not there, the answer is none, and the walk is as it was. The steps are those of a party that is a walk;
-    /// a walk that is kept alone names no type of function.
+    /// Does the next step of `walk` with the part that it needs, under that part's lock, and returns what the step was. If the walk is
+    /// done, or a slot is not there, it returns `None`, and the walk is unchanged. The steps are those of a party that is a walk; a walk on
+    /// its own names no type of function.
     ///
-    /// A look-up in the bin, once its lock is there.
+    /// Costs a look-up in the bin, once its lock is taken.
     pub fn walk_on(&self, walk: &mut Sweep<K, V, A>) -> Option<Event>
         ensures { WalksOrStays K.cmp walk.old result walk.new }
     {
@@ -104,7 +108,7 @@ impl<'m, R: Wait, K: Ord + Drop, V: Drop, A: Allocator> Lender<'m, R, K, V, A> {
         }
     }
 
-    // Its step at the table that was published last, or else at the control.
+    // Does the next step of `walk` at the table that was published last, or else at the control.
     fn walk_at_control(&self, walk: &mut Sweep<K, V, A>) -> Event
         requires { swept_part walk.old ≡ ControlPart }
         ensures { WalkTurn K.cmp walk.old result walk.new }
@@ -117,7 +121,7 @@ impl<'m, R: Wait, K: Ord + Drop, V: Drop, A: Allocator> Lender<'m, R, K, V, A> {
         walk.on_control(&mut *self.locks.control.lock(self.rt))
     }
 
-    // Its step at the slot of that table and index, if it is there.
+    // Does the next step of `walk` at the slot at `table` and `index`. Returns `None` if the slot is not there.
     fn walk_at_slot(&self, table: u8, index: usize, walk: &mut Sweep<K, V, A>) -> Option<Event>
         requires { swept_part walk.old ≡ LookPart table index }
         ensures { WalksOrStays K.cmp walk.old result walk.new }

@@ -9,10 +9,11 @@ use flurry_control::Control;
 use std::alloc::{AllocError, Allocator, Global};
 
 /// The control and the tables of a map that threads share, each part under a lock of its own, and the exponents that the control has
-/// published, which are read without a lock. Beside the control stand tallies, each under its lock, where counts of pairs wait for it.
+/// published, which are read without a lock. Beside the control there are tallies, each under its own lock, where counts of pairs wait
+/// until the control collects them.
 ///
-/// What each lock keeps is what the type of its part keeps: the ranges of a control, and the order, the region and the sizes of a
-/// slot's bin. A [`Lender`](crate::Lender) takes them.
+/// Each lock keeps what the type of its part keeps: the ranges of a control, and the order, the region and the sizes of a slot's bin. A
+/// [`Lender`](crate::Lender) takes the locks.
 ///
 /// ```
 /// let locks: Locks<u64, u64, Global> = Locks::new(rt.alloc());
@@ -29,9 +30,9 @@ pub struct Locks<K: Ord, V, A: Allocator = Global> {
     pub(crate) alloc: A,
 }
 
-// What stands under a lock is known by its type alone, since whoever shares the locks may change it. So no clause speaks of it.
+// What is under a lock is known by its type alone, since any thread that shares the locks may change it. So no contract specifies it.
 impl<K: Ord, V, A: Allocator> Locks<K, V, A> {
-    /// The locks of a map without a table. Constant time; takes no memory.
+    /// Creates the locks of a map without a table. Constant time; takes no memory.
     pub fn new(alloc: A) -> Self {
         Locks {
             tables: Tables::new(),
@@ -43,11 +44,11 @@ impl<K: Ord, V, A: Allocator> Locks<K, V, A> {
 }
 
 impl<K: Ord + Drop, V: Drop, A: Allocator + Copy> Locks<K, V, A> {
-    /// The locks of a map whose first table is the one of this exponent, with empty bins. Linear time in the bins.
+    /// Creates the locks of a map whose first table has the exponent `table`, with empty bins. Linear in the number of bins.
     ///
     /// # Errors
     ///
-    /// [`AllocError`], where memory for the table is wanting.
+    /// Returns [`AllocError`] if memory for the table cannot be allocated.
     pub fn with_table(alloc: A, table: u8) -> Result<Self, AllocError>
         requires { table ≤ GREATEST_TABLE }
     {

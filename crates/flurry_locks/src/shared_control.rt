@@ -1,4 +1,4 @@
-//! The control of a shared map, under its lock, and where counts of pairs wait for it.
+//! The control of a shared map, under its lock, and the tallies where counts of pairs wait for it.
 
 use crossbeam_utils::CachePadded;
 use flurry_control::{Advice, Control, PublishedTable, Tally};
@@ -6,24 +6,23 @@ use std::array;
 use std::sync::atomic::{AtomicBool, Ordering};
 use std::sync::{Mutex, MutexGuard, Wait};
 
-// How many tallies there are.
+// The number of tallies.
 const TALLIES: usize = 16;
 
-// Of so many bins each tally may have one pair wait, so that a growth begins late by about a pair for 16 bins.
+// The number of bins for which one pair may wait at each tally. So a growth starts late by about one pair for 16 bins.
 const BINS_A_WAITING_PAIR: i64 = 256;
 
-/// A control and its tallies, each under a lock of its own. A call that counts does so at the tally of its hash, and so waits for few
-/// others.
+/// A control and its tallies, each under a lock of its own. A call counts a pair at the tally of its hash, and so waits for few others.
 #[derive(Drop)]
 pub(crate) struct SharedControl {
     control: Mutex<Control>,
     tallies: [CachePadded<Mutex<Tally>>; TALLIES],
-    // Whether a growth was to begin or to be helped when the control was locked last.
+    // Whether a growth was to be started or helped when the control was locked last.
     is_growth_due: CachePadded<AtomicBool>,
 }
 
 impl SharedControl {
-    // Puts a control under its lock. Nothing waits at its tallies.
+    // Puts a control under its lock, with tallies where nothing waits.
     pub(crate) fn new(control: Control) -> Self {
         SharedControl {
             control: Mutex::new(control),
@@ -32,7 +31,8 @@ impl SharedControl {
         }
     }
 
-    // The control, which has counted all that waited. Takes its lock, and then that of each tally in turn.
+    // Locks the control, which first counts all pairs that wait at tallies. Takes the control's lock, and then the lock of each tally in
+    // turn.
     pub(crate) fn lock<R: Wait>(&self, rt: &R) -> MutexGuard<'_, Control> {
         let mut control = self.control.lock(rt);
         for tally in &self.tallies {
@@ -45,8 +45,8 @@ impl SharedControl {
         control
     }
 
-    // The tally of that hash, and how many pairs may wait there before a call looks at the control's count, of a map whose newest table
-    // is this one. None where calls count at the control: where the table is small, and as long as a growth is due.
+    // Returns the tally of `hash`, and how many pairs may wait there before a call looks at the control's count, in a map whose newest
+    // table is `newest`. Returns `None` if calls count at the control: if the table is small, and as long as a growth is due.
     pub(crate) fn tally(
         &self,
         hash: u64,

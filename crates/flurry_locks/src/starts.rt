@@ -1,4 +1,4 @@
-//! The exponents that a control has published, as calls read them without its lock.
+//! The exponents that a control has published, which calls read without its lock.
 
 use flurry_control::PublishedTable;
 use flurry_model::sizes::TABLES;
@@ -6,9 +6,9 @@ use std::array;
 use std::sync::OnceLock;
 use std::sync::atomic::{AtomicUsize, Ordering};
 
-/// A place for each exponent that was published, and which one was put in last.
+/// A place for each published exponent, and which exponent was added last.
 ///
-/// Whoever has the control's lock puts exponents in; a reader may be behind.
+/// Exponents are added under the control's lock. A reader may see an older one as the last.
 #[derive(Drop)]
 pub(crate) struct Starts {
     places: [OnceLock<PublishedTable>; TABLES],
@@ -16,7 +16,7 @@ pub(crate) struct Starts {
 }
 
 impl Starts {
-    // No exponent.
+    // Creates the places, without an exponent.
     pub(crate) fn new() -> Self {
         Starts {
             places: array::from_fn(|_| OnceLock::new()),
@@ -24,12 +24,12 @@ impl Starts {
         }
     }
 
-    // The exponent that was put in last, if there is one.
+    // Returns the exponent that was added last, or `None` if there is none.
     pub(crate) fn newest(&self) -> Option<&PublishedTable> {
         self.places.get(self.newest.load(Ordering::SeqCst))?.get()
     }
 
-    // Puts in an exponent. One that is there already stays.
+    // Adds an exponent. If it was added before, the stored one stays.
     pub(crate) fn add(&self, start: PublishedTable) {
         let place = usize::from(start.table());
         let _ = self.places[place].try_set(start);

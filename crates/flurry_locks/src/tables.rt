@@ -10,36 +10,37 @@ use std::alloc::{AllocError, Allocator, Global};
 use std::array;
 use std::sync::{Arc, OnceLock, RwLock};
 
-/// A table: each of its slots under a lock of its own.
+/// A table, with each of its slots under a lock of its own.
 type Table<K, V, A> = Vec<RwLock<Slot<K, V, A>>, A>;
 
-/// The locks that a step takes which moves a bin, in the order in which it takes them.
+/// The locks of a step that moves a bin, in the order in which the step takes them.
 type LocksOfMove<'m, K, V, A> = (
     &'m RwLock<Slot<K, V, A>>,
     &'m RwLock<Slot<K, V, A>>,
     &'m RwLock<Slot<K, V, A>>,
 );
 
-/// A place for each table, by its exponent. A table is put in at most once, and stays.
+/// A place for each table, by its exponent. A table is put into its place at most once, and stays there.
 #[derive(Drop)]
 pub(crate) struct Tables<K: Ord, V, A: Allocator = Global> {
     places: [OnceLock<Arc<Vec<RwLock<Slot<K, V, A>>, A>, A>>; TABLES],
 }
 
 impl<K: Ord, V, A: Allocator> Tables<K, V, A> {
-    // No table at any place.
+    // Creates the places, without a table.
     pub(crate) fn new() -> Self {
         Tables {
             places: array::from_fn(|_| OnceLock::new()),
         }
     }
 
-    // The lock of the slot that is put in at that table and index, if there is one.
+    // Returns the lock of the slot at `table` and `index`, or `None` if there is no such slot.
     pub(crate) fn lock_of(&self, table: u8, index: usize) -> Option<&RwLock<Slot<K, V, A>>> {
         self.places.get(usize::from(table))?.get()?.get(index)
     }
 
-    // The locks of the slot at that table and index, and of its low and its high half in the next table, if all are there.
+    // Returns the locks of the slot at `table` and `index`, and of its low and its high half in the next table, or `None` if one of them is
+    // missing.
     pub(crate) fn locks_of_move(
         &self,
         table: u8,
@@ -55,7 +56,7 @@ impl<K: Ord, V, A: Allocator> Tables<K, V, A> {
     }
 }
 
-/// Where a control makes tables, for as long as it is lent to one step.
+/// A [`Room`] where a control makes tables, during one step.
 #[derive(Drop)]
 pub struct Maker<'m, K: Ord, V, A: Allocator = Global> {
     tables: &'m Tables<K, V, A>,
@@ -63,7 +64,7 @@ pub struct Maker<'m, K: Ord, V, A: Allocator = Global> {
 }
 
 impl<'m, K: Ord, V, A: Allocator> Maker<'m, K, V, A> {
-    // Makes tables at these places, of memory of that allocator.
+    // Creates a room that makes tables at the places of `tables`, in memory of the allocator `alloc`.
     pub(crate) fn new(tables: &'m Tables<K, V, A>, alloc: A) -> Self {
         Maker { tables, alloc }
     }
@@ -86,7 +87,7 @@ impl<'m, K: Ord + Drop, V: Drop, A: Allocator + Copy> Room for Maker<'m, K, V, A
     }
 }
 
-// The slots of a new table, with live and empty bins, or with bins that are not born yet.
+// Creates the slots of a new table, with live and empty bins if `live` is `true`, and else with unborn bins.
 fn new_table<K: Ord + Drop, V: Drop, A: Allocator + Copy>(
     alloc: A,
     table: u8,
