@@ -1,4 +1,4 @@
-//! The steps of a call over the locks: its first ones at once, where its table is known without the control's lock.
+//! The steps of a call over the locks: its first ones in one go, if its table is known without the control's lock.
 ghost use Rattle.flurry_locks.specs.declared.tables.Maker.{Maker};
 ghost use Rattle.flurry_replies.specs.Replies.{BeginsOrStays, IsReplyOf};
 ghost use Rattle.flurry_steps.specs.Party.{BeginsToWrite, IsTaken, LooksUp};
@@ -16,12 +16,13 @@ use flurry_steps::party::{Call, Ending, Reply};
 use std::alloc::Allocator;
 use std::sync::Wait;
 
-/// The reply of a call over the locks of a map, by the hash of its key and the number of processors that share the work of a growth; 0
-/// counts as 1. A call without a key does not read the hash. It is copied into its callers, whose calls it then need not tell apart.
+/// Runs a call over the locks of a map, and returns its reply. `hash` is the hash of the call's key; a call without a key does not read it.
+/// A growth is divided among `processors` threads; `0` means 1. The function is copied into its callers, and then need not test which call
+/// it runs.
 ///
 /// As many steps as the call needs, each of which waits for the locks of its part.
-// Where a table is known to be published, and the bin there is live, a call of one key does its first two steps at once. No party is
-// made where these are all, or where the step at a tally is the last.
+// If a table is known to be published, and the bin there is live, a one-key call does its first two steps in one go. No party is made if
+// these are all, or if the step at a tally is the last.
 #[inline(always)]
 pub fn reply_to<K: Ord + Drop, V: Drop, F: ComputeFn<K, V>, A: Allocator + Copy, R: Wait>(
     lender: &Lender<'_, R, K, V, A>,
@@ -47,7 +48,7 @@ pub fn reply_to<K: Ord + Drop, V: Drop, F: ComputeFn<K, V>, A: Allocator + Copy,
     }
 }
 
-// The reply of a look-up, which begins at that table.
+// Runs a look-up that starts at the table `start`, and returns its reply.
 fn look<K: Ord + Drop, V: Drop, F: ComputeFn<K, V>, A: Allocator + Copy, R: Wait>(
     lender: &Lender<'_, R, K, V, A>,
     start: &PublishedTable,
@@ -71,7 +72,7 @@ fn look<K: Ord + Drop, V: Drop, F: ComputeFn<K, V>, A: Allocator + Copy, R: Wait
     drive_call(lender, call, hash, processors)
 }
 
-// The reply of a call that may change its bin, which begins at that table.
+// Runs a call that may change its bin and that starts at the table `start`, and returns its reply.
 #[inline(always)]
 fn write<K: Ord + Drop, V: Drop, F: ComputeFn<K, V>, A: Allocator + Copy, R: Wait>(
     lender: &Lender<'_, R, K, V, A>,
@@ -91,7 +92,7 @@ fn write<K: Ord + Drop, V: Drop, F: ComputeFn<K, V>, A: Allocator + Copy, R: Wai
     }
 }
 
-// Its first two steps. A call that cannot begin so has done no step, and comes back.
+// Does the first two steps of a call that may change its bin. If the call cannot start so, it has done no step, and is returned.
 #[inline(always)]
 fn write_bin<'k, K: Ord + Drop, V: Drop, F: ComputeFn<K, V>, A: Allocator + Copy, R: Wait>(
     lender: &Lender<'_, R, K, V, A>,
@@ -114,7 +115,7 @@ fn write_bin<'k, K: Ord + Drop, V: Drop, F: ComputeFn<K, V>, A: Allocator + Copy
     Err(call)
 }
 
-// The reply of a call that has decided, or was refused.
+// Finishes a call that has done its deciding step or has failed, and returns its reply.
 #[inline(always)]
 fn end<K: Ord + Drop, V: Drop, F: ComputeFn<K, V>, A: Allocator + Copy, R: Wait>(
     lender: &Lender<'_, R, K, V, A>,
@@ -131,7 +132,8 @@ fn end<K: Ord + Drop, V: Drop, F: ComputeFn<K, V>, A: Allocator + Copy, R: Wait>
     }
 }
 
-// The same of a call that has more to do: where it counts a pair next, and pairs may wait at a tally, it does so there.
+// Finishes a call that has more to do, and returns its reply. If the call counts a pair next, and pairs may wait at a tally, it counts
+// there.
 #[inline(always)]
 fn count<K: Ord + Drop, V: Drop, F: ComputeFn<K, V>, A: Allocator + Copy, R: Wait>(
     lender: &Lender<'_, R, K, V, A>,
@@ -157,7 +159,7 @@ fn count<K: Ord + Drop, V: Drop, F: ComputeFn<K, V>, A: Allocator + Copy, R: Wai
     drive_ending::<K, V, F, A, R>(lender, ending, hash, processors)
 }
 
-// Does all steps of a call, one after another.
+// Does all steps of a call, one after another, and returns its reply.
 fn drive_call<K: Ord + Drop, V: Drop, F: ComputeFn<K, V>, A: Allocator + Copy, R: Wait>(
     lender: &Lender<'_, R, K, V, A>,
     call: Call<'_, K, V, F, A>,
@@ -171,7 +173,7 @@ fn drive_call<K: Ord + Drop, V: Drop, F: ComputeFn<K, V>, A: Allocator + Copy, R
     drive_party(lender, Party::new(call, hash, processors))
 }
 
-// Does the steps that are left of a call that has decided.
+// Does the steps that are left of a call that has done its deciding step, and returns its reply.
 fn drive_ending<K: Ord + Drop, V: Drop, F: ComputeFn<K, V>, A: Allocator + Copy, R: Wait>(
     lender: &Lender<'_, R, K, V, A>,
     ending: Ending<K, V, A>,
@@ -184,7 +186,7 @@ fn drive_ending<K: Ord + Drop, V: Drop, F: ComputeFn<K, V>, A: Allocator + Copy,
     drive_party(lender, ending.into_party::<F>(hash, processors))
 }
 
-// Does the steps that are left of a call, and answers its reply.
+// Does the steps that are left of a call, and returns its reply.
 fn drive_party<K: Ord + Drop, V: Drop, F: ComputeFn<K, V>, A: Allocator + Copy, R: Wait>(
     lender: &Lender<'_, R, K, V, A>,
     party: Party<'_, K, V, F, A>,
