@@ -1,12 +1,12 @@
 //! Whether the values of a type can be cloned.
 //!
-//! A contract speaks of values, and cannot say that a type lacks an impl. A call of [`Cloning::is_there`] by its type is the one
-//! below where the type is `Clone`, and else that of [`NoCloning`], so what it answers is known where the call stands.
+//! A contract is about values, and cannot say that a type lacks an impl. A call of [`Cloning::is_there`] by its type is the inherent
+//! function if the type is `Clone`, and else that of [`NoCloning`]. So its result is known where the call is written.
 ghost use Rattle.std.specs.Prelude.{◌≡◌, true, false};
 
 use std::marker::PhantomData;
 
-/// A type that is asked about.
+/// A type of which [`Cloning::is_there`] says whether its values can be cloned.
 ///
 /// ```
 /// Cloning::<u64>::is_there()
@@ -16,7 +16,7 @@ pub struct Cloning<T> {
 }
 
 impl<T: Clone> Cloning<T> {
-    /// The values of the type can be cloned.
+    /// Returns `true`: the values of the type can be cloned.
     pub fn is_there() -> bool
         ensures { result ≡ true }
     {
@@ -24,13 +24,13 @@ impl<T: Clone> Cloning<T> {
     }
 }
 
-/// What is answered of a type that is not `Clone`.
+/// The result of [`Cloning::is_there`] for a type that is not `Clone`.
 ///
 /// ```
 /// Cloning::<Receipt>::is_there()
 /// ```
 pub trait NoCloning {
-    /// The values of the type cannot be cloned.
+    /// Returns `false`: the values of the type cannot be cloned.
     fn is_there() -> bool
         ensures { result ≡ false };
 }

@@ -2,7 +2,7 @@
 ghost use Rattle.std.specs.Prelude.{None, ◌≡◌, Option};
 ghost use Rattle.flurry_slots.specs.ComputeFn.{AnswersAtPair};
 
-/// A call on a key and its value that answers the new value, or none to take the pair out.
+/// A function of a key and its value that returns the new value, or `None` to remove the pair.
 ///
 /// Each `FnOnce(&K, &V) -> Option<V>` that may be dropped is one.
 ///
@@ -18,13 +18,13 @@ ghost use Rattle.flurry_slots.specs.ComputeFn.{AnswersAtPair};
 /// }
 /// ```
 pub trait ComputeFn<K, V>: Drop {
-    // That it may be called.
+    // That the function may be called.
     ghost can_change: { Self → Type 0 };
 
-    // What it may answer.
+    // What the function may return.
     ghost changes: { Self → K → V → Option V → Type 0 };
 
-    /// Calls it.
+    /// Calls the function on `key` and `value`.
     fn change(self, key: &K, value: &V) -> Option<V>
         requires { can_change self }
         ensures { changes self key.now value.now result };
@@ -40,7 +40,7 @@ impl<K, V, F: FnOnce(&K, &V) -> Option<V> + Drop> ComputeFn<K, V> for F {
     }
 }
 
-/// Stands for the function of a call that has none; it takes the pair out.
+/// A stand-in for the function of a call that has none. It returns `None`, which removes the pair.
 ///
 /// ```
 /// let call: OwnedCall<u64, u64, NoFn> = OwnedCall::Insert(key, value);

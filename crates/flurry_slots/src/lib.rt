@@ -1,8 +1,8 @@
-//! The slots of a table: the place of one bin each, and the steps that are done at one slot.
+//! The slots of a table, each of which is the place of one bin, and the steps that are done at one slot.
 //!
-//! A shared map keeps each bin behind a lock of its own. What a call does under one bin's lock is one step at its slot, and moving a
-//! bin into its two halves in the next larger table is one step at three. Each step is that of a finite map, or it changes nothing,
-//! since the bin moved or is not there yet. Contracts see a slot as plain data.
+//! A shared map keeps each bin behind a lock of its own. What a call does under one bin's lock is one step at its slot. Moving a bin into
+//! its two halves in the next larger table is one step at three slots. Each step does what a finite map does; or it changes nothing, since
+//! the bin has moved or is not there yet. Contracts see a slot as plain data.
 #![tactic(auto)]
 
 pub mod clones;

@@ -28,9 +28,9 @@ use std::sync::Arc;
 /// ```
 #[derive(Drop)]
 pub struct Written<V, A: Allocator> {
-    /// The value that stood before, or none where the key is new.
+    /// The value that the key had, or `None` if the key is new.
     pub old: Option<Arc<V, A>>,
-    /// Whether a larger table is asked for.
+    /// Whether the bin asks for a larger table.
     pub asks_for_growth: bool,
 }
 
@@ -45,9 +45,9 @@ pub struct Written<V, A: Allocator> {
 /// ```
 #[derive(Drop)]
 pub struct Added<V, A: Allocator> {
-    /// The new value.
+    /// A clone of the new value's `Arc`.
     pub value: Arc<V, A>,
-    /// Whether a larger table is asked for.
+    /// Whether the bin asks for a larger table.
     pub asks_for_growth: bool,
 }
 
@@ -61,11 +61,11 @@ pub struct Added<V, A: Allocator> {
 /// ```
 #[derive(Drop)]
 pub enum Computed<V, F, A: Allocator> {
-    /// The key is absent; the function was not called, and comes back.
+    /// The key is absent. The function was not called, and is given back.
     Absent(F),
-    /// The function answered none, and the pair was taken out.
+    /// The function returned `None`, and the pair was removed.
     Removed,
-    /// The function answered this value, which stands now.
+    /// The function returned this value, which is now stored.
     Changed(Arc<V, A>),
 }
 
@@ -85,7 +85,7 @@ impl<K: Ord, V, A: Allocator> Model for LiveBin<K, V, A> {
 }
 
 impl<K: Ord + Drop, V: Drop, A: Allocator> LiveBin<K, V, A> {
-    // Counts as many writes as were made.
+    // Creates a live bin whose count of writes is `writes`.
     pub(crate) fn new(bin: Bin<K, V, A>, writes: u64) -> Self
         ensures { result ≡ live_of bin writes }
     {
@@ -110,7 +110,7 @@ impl<K: Ord + Drop, V: Drop, A: Allocator> LiveBin<K, V, A> {
         self.bin.next_after(bound)
     }
 
-    // Writes another value at a hash and a key that are there.
+    // Writes another value at a hash and a key that are present, and returns the old value.
     fn rewrite(&mut self, bins: usize, hash: u64, key: &K, value: Arc<V, A>) -> Arc<V, A>
         requires { IsSome (entry_of_live K.cmp self.old hash key.now) }
         ensures old { value_of_live K.cmp self.old hash key.now ≡ Some (arc_value result) }
@@ -120,7 +120,7 @@ impl<K: Ord + Drop, V: Drop, A: Allocator> LiveBin<K, V, A> {
         self.bin.replace(hash, key, value, self.writes)
     }
 
-    // Puts in a node, of the next write number, whose hash and key are not there. Answers whether a larger table is asked for.
+    // Inserts a node, of the next write number, whose hash and key are absent. Returns whether the bin asks for a larger table.
     fn add(&mut self, bins: usize, node: BoxedNode<K, V, A>) -> bool
         requires absent { let e = entry_of node.value in entry_of_live K.cmp self.old e.hash (arc_value e.key) ≡ None }
         requires room { length self.old.held < MOST_PAIRS }
@@ -165,7 +165,7 @@ impl<K: Ord + Drop, V: Drop, A: Allocator> LiveBin<K, V, A> {
         count
     }
 
-    // The bin alone.
+    // Returns the bin alone, without the count of writes.
     pub(crate) fn into_bin(self) -> Bin<K, V, A>
         ensures { live_of result self.writes ≡ self }
     {
@@ -173,7 +173,7 @@ impl<K: Ord + Drop, V: Drop, A: Allocator> LiveBin<K, V, A> {
         bin
     }
 
-    // The entries whose hash has this bit 0, and the others, each with the count of writes.
+    // Splits the bin into the entries whose hash has 0 at bit `bit`, and the others. Each half has the count of writes.
     pub(crate) fn split(self, bit: u8) -> (Self, Self)
         requires { bit < 64 }
         ensures low { result.0 ≡ half bit 0 self }
@@ -186,7 +186,7 @@ impl<K: Ord + Drop, V: Drop, A: Allocator> LiveBin<K, V, A> {
 }
 
 impl<K: Ord + Drop, V: Drop, A: Allocator + Copy> LiveBin<K, V, A> {
-    // The node of a new key, for the next write.
+    // Creates the node of a new key, for the next write.
     fn new_node(
         &self,
         alloc: A,

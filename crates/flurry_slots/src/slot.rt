@@ -1,4 +1,4 @@
-//! A slot of a table, where one bin stands, and the steps that are done at one slot.
+//! A slot of a table, which is the place of one bin, and the steps that are done at one slot.
 ghost use Rattle.std.specs.Prelude.{◌≡◌, ℕ, ◌+◌, ◌^◌, ◌<◌, ◌≤◌, ◌⊎◌, ⊤, length, map, IfNone, IfOk, IfSome, OnErr, OnOk, IsTrue, false, ◌↔◌};
 ghost use Rattle.std.specs.Option.{option_map};
 ghost use Rattle.flurry_bins.specs.Bin.{entries_of_bin};
@@ -20,7 +20,7 @@ use std::alloc::{AllocError, Allocator, Global};
 use std::marker::Model;
 use std::mem;
 
-/// What a step at a slot answers.
+/// What a step at a slot returns.
 ///
 /// ```
 /// match answer {
@@ -30,15 +30,15 @@ use std::mem;
 /// ```
 #[derive(Drop)]
 pub enum Answer<T, B> {
-    /// The bin is live: the step was done there, and answered this.
+    /// The bin is live. The step was done there, and returned this.
     Here(T),
-    /// The bin moved to the next larger table. Nothing was changed, and what was lent in comes back.
+    /// The bin has moved to the next larger table. Nothing was changed, and what was passed in is given back.
     Moved(B),
-    /// No bin is there yet. Nothing was changed, and what was lent in comes back.
+    /// No bin is there yet. Nothing was changed, and what was passed in is given back.
     Unborn(B),
 }
 
-/// The note that the bin of a slot was moved. [`Slot::move_into`] alone makes it, and it can't be cloned.
+/// A note that the bin of a slot was moved. Only [`Slot::move_into`] makes one, and it cannot be cloned.
 ///
 /// ```
 /// match slot.move_into(low, high) {
@@ -61,7 +61,7 @@ impl Model for Receipt {
 }
 
 impl Receipt {
-    /// The table and the index of the slot.
+    /// Returns the table and the index of the slot.
     pub fn at(&self) -> (u8, usize)
         ensures { result ≡ self.now }
     {
@@ -69,14 +69,14 @@ impl Receipt {
     }
 }
 
-// A receipt can't be cloned, so it is handed in once.
+// Returns `false`: a receipt cannot be cloned, so it is passed in once.
 fn receipts_can_be_cloned() -> bool
     ensures { result ≡ false }
 {
     Cloning::<Receipt>::is_there()
 }
 
-/// What [`Slot::move_into`] answers.
+/// What [`Slot::move_into`] returns.
 ///
 /// ```
 /// match slot.move_into(low, high) {
@@ -90,7 +90,7 @@ pub enum MoveAnswer {
     Done(Receipt),
     /// The bin had moved before.
     Already(Receipt),
-    /// No bin is there yet, or a slot that was lent in is not the half where it goes, or already has a bin. Nothing was changed.
+    /// No bin is there yet; or a slot that was passed in is not the half that it should be, or already has a bin. Nothing was changed.
     Clash,
 }
 
@@ -103,8 +103,8 @@ enum State {
 
 /// The place of one bin in a table of 2^table bins, with the count of the values that were written to the bin.
 ///
-/// A value that is written bears the count after it, its write number. The count goes with a bin that moves, and stays at
-/// `u64::MAX`.
+/// A written value gets, as its write number, the count after the write. The count goes along with a bin that moves. Once it is `u64::MAX`,
+/// it stays so.
 ///
 /// ```
 /// match slot.next_after(None) {
@@ -114,12 +114,12 @@ enum State {
 /// ```
 #[derive(Drop)]
 pub struct Slot<K: Ord, V, A: Allocator = Global> {
-    // An index is below 2^30. In 32 bits it shares a word with the two bytes before it, so that a slot under its lock is as large as
-    // a line of a cache.
+    // An index is below 2^30. In 32 bits it shares a word with the two bytes before it, so that a slot under its lock is as large as a
+    // cache line.
     table: u8,
     state: State,
     index: u32,
-    // Empty where no bin is live.
+    // Empty if no bin is live.
     live: LiveBin<K, V, A>,
 }
 
@@ -135,8 +135,8 @@ impl<K: Ord, V, A: Allocator> Model for Slot<K, V, A> {
 }
 
 impl<K: Ord + Drop, V: Drop, A: Allocator> Slot<K, V, A> {
-    /// The slot of a bin whose hashes lie in its region. Its count of writes is the greatest write number in the bin, 0 for an
-    /// empty one. Linear time.
+    /// Creates the slot of a live bin whose hashes lie in the slot's region. The count of writes is the greatest write number in the bin,
+    /// or 0 if the bin is empty. Linear in the number of entries.
     pub fn live(table: u8, index: usize, bin: Bin<K, V, A>) -> Self
         requires table { table ≤ GREATEST_TABLE }
         requires index { index < 2 ^ table }
@@ -152,8 +152,8 @@ impl<K: Ord + Drop, V: Drop, A: Allocator> Slot<K, V, A> {
         Slot::live_at(table, index, bin, writes)
     }
 
-    /// The slot of a bin whose hashes lie in its region, with a count of writes, which no write number in the bin exceeds. Constant
-    /// time.
+    /// Creates the slot of a live bin whose hashes lie in the slot's region. The count of writes is `writes`, which no write number in the
+    /// bin exceeds. Constant time.
     pub fn live_at(table: u8, index: usize, bin: Bin<K, V, A>, writes: u64) -> Self
         requires table { table ≤ GREATEST_TABLE }
         requires index { index < 2 ^ table }
@@ -169,7 +169,7 @@ impl<K: Ord + Drop, V: Drop, A: Allocator> Slot<K, V, A> {
         }
     }
 
-    /// A slot that waits for its bin. Constant time.
+    /// Creates a slot that waits for its bin. Constant time.
     pub fn unborn(table: u8, index: usize) -> Self
         requires table { table ≤ GREATEST_TABLE }
         requires index { index < 2 ^ table }
@@ -183,8 +183,8 @@ impl<K: Ord + Drop, V: Drop, A: Allocator> Slot<K, V, A> {
         }
     }
 
-    /// Gives the live bin back, to be owned again: the inverse of [`Slot::live`]. None where the bin moved or is not there yet. The
-    /// entries keep their write numbers, and the count of writes is gone. Constant time.
+    /// Returns the live bin, to be owned again, or `None` if the bin has moved or is not there yet. It is the inverse of [`Slot::live`].
+    /// The entries keep their write numbers, and the count of writes is lost. Constant time.
     pub fn into_bin(self) -> Option<Bin<K, V, A>>
         ensures bin { IfSome result (λ b. IfLive self.content (λ d. live_of b d.writes ≡ d)) }
         ensures region { IfSome result (λ b. AllInRegion self.table self.index (entries_of_bin b)) }
@@ -197,7 +197,7 @@ impl<K: Ord + Drop, V: Drop, A: Allocator> Slot<K, V, A> {
         }
     }
 
-    /// The exponent of the table, which has 2 to that power bins, and the index there. Constant time.
+    /// Returns the exponent of the table, which has 2 to that power bins, and the index of the slot in it. Constant time.
     pub fn at(&self) -> (u8, usize)
         ensures at { (result.0 ≡ self.now.table) × (result.1 ≡ self.now.index) }
         ensures within { IsSlot K.cmp self.now }
@@ -205,7 +205,7 @@ impl<K: Ord + Drop, V: Drop, A: Allocator> Slot<K, V, A> {
         (self.table, self.index as usize)
     }
 
-    /// Whether a bin is live here. Else it has moved, or no bin is there yet. Constant time.
+    /// Returns `true` if a bin is live here. If not, the bin has moved, or no bin is there yet. Constant time.
     #[inline]
     pub fn is_live(&self) -> bool
         ensures { result ≡ is_live self.now.content }
@@ -213,7 +213,7 @@ impl<K: Ord + Drop, V: Drop, A: Allocator> Slot<K, V, A> {
         matches!(self.state, State::Live)
     }
 
-    /// The entry of a hash and a key, if there is one. As many steps as a look-up in the bin.
+    /// Finds the entry of a hash and a key, if there is one. As many steps as a look-up in the bin.
     pub fn find(&self, hash: u64, key: &K) -> Answer<Option<&Entry<K, V, A>>, ()>
         requires { LiesIn hash self.now }
         ensures reply { answer_map (option_map (λ e. numbered_pair e.now)) result
@@ -227,7 +227,7 @@ impl<K: Ord + Drop, V: Drop, A: Allocator> Slot<K, V, A> {
         }
     }
 
-    /// The first entry past a bound, or with no bound the first. As many steps as a look-up in the bin.
+    /// Finds the first entry past `bound`, or the first of all if there is no bound. As many steps as a look-up in the bin.
     pub fn next_after(&self, bound: Option<(u64, &K)>) -> Answer<Option<&Entry<K, V, A>>, ()>
         ensures reply { answer_map (option_map (λ e. numbered_pair e.now)) result
             ≡ answer_with self.now.content (λ b. next_of_live K.cmp (lent_bound bound.entry) b) tt }
@@ -241,7 +241,7 @@ impl<K: Ord + Drop, V: Drop, A: Allocator> Slot<K, V, A> {
     }
 
     #[tactic(auto, using(crate::proofs::SlotLaws::live_in_taken))]
-    /// Takes the entry of a hash and a key out, if there is one. As many steps as a look-up in the bin; takes no memory.
+    /// Removes the entry of a hash and a key, if there is one, and returns it. As many steps as a look-up in the bin; takes no memory.
     pub fn take(&mut self, hash: u64, key: &K) -> Answer<Option<Entry<K, V, A>>, ()>
         requires { LiesIn hash self.old }
         ensures reply { answer_map (option_map numbered_pair) result
@@ -257,8 +257,8 @@ impl<K: Ord + Drop, V: Drop, A: Allocator> Slot<K, V, A> {
     }
 
     #[tactic(auto, using(crate::proofs::SlotLaws::live_in_taken_if))]
-    /// Takes the entry of a hash and a key out exactly if its value still bears this write number, which is below `u64::MAX`. As
-    /// many steps as a look-up in the bin; takes no memory.
+    /// Removes the entry of a hash and a key, and returns it, if and only if its value still has the write number `number`, and `number` is
+    /// below `u64::MAX`. As many steps as a look-up in the bin; takes no memory.
     pub fn take_if(&mut self, hash: u64, key: &K, number: u64) -> Answer<Option<Entry<K, V, A>>, ()>
         requires { LiesIn hash self.old }
         ensures reply { answer_map (option_map numbered_pair) result
@@ -274,7 +274,7 @@ impl<K: Ord + Drop, V: Drop, A: Allocator> Slot<K, V, A> {
     }
 
     #[tactic(auto, using(crate::proofs::SlotLaws::live_in_wiped))]
-    /// Takes all entries out, and answers how many there were. Linear time; takes no memory.
+    /// Removes all entries, and returns how many there were. Linear in the number of entries; takes no memory.
     pub fn wipe(&mut self) -> Answer<usize, ()>
         ensures reply { result ≡ answer_with self.old.content (λ b. length b.held) tt }
         ensures after { self.new ≡ slot_with after_wipe self.old }
@@ -288,9 +288,9 @@ impl<K: Ord + Drop, V: Drop, A: Allocator> Slot<K, V, A> {
     }
 
     #[tactic(auto, using(crate::proofs::SlotLaws::live_in_low, crate::proofs::SlotLaws::live_in_high))]
-    /// Moves the live bin into its two halves in the next larger table: the entries whose hash has bit `table` 0 into the low half
-    /// at the same index, and the others into the high half, as many bins further on as this table has. Both take the count of
-    /// writes over. Linear time; takes no memory.
+    /// Moves the live bin into its two halves in the next larger table. The entries whose hash has 0 at the bit that is numbered by this
+    /// table's exponent go into `low`, at the same index. The others go into `high`, as many bins further on as this table has. Both halves
+    /// get the count of writes. Linear in the number of entries; takes no memory.
     pub fn move_into(&mut self, low: &mut Self, high: &mut Self) -> MoveAnswer
         ensures done { IfDone result
             (λ r. (r ≡ (self.old.table, self.old.index))
@@ -323,14 +323,14 @@ impl<K: Ord + Drop, V: Drop, A: Allocator> Slot<K, V, A> {
 impl<K: Ord + Drop, V: Drop, A: Allocator> Slot<K, V, A> {
     ghost use Rattle.flurry_slots.specs.Slot.{AreHalves};
 
-    // The note of a slot that was moved.
+    // Creates the note that the bin of this slot was moved.
     fn receipt(&self) -> Receipt
         ensures { result ≡ (self.now.table, self.now.index) }
     {
         Receipt { at: self.at() }
     }
 
-    // Whether these slots are the halves of the bin, and have no bin yet.
+    // Whether `low` and `high` are the halves of this slot's bin, and have no bin yet.
     fn has_halves(&self, low: &Self, high: &Self) -> bool
         ensures { IsTrue result ↔ AreHalves self.now low.now high.now }
     {
@@ -348,13 +348,13 @@ impl<K: Ord + Drop, V: Drop, A: Allocator> Slot<K, V, A> {
 
 impl<K: Ord + Drop, V: Drop, A: Allocator + Copy> Slot<K, V, A> {
     #[tactic(auto, using(crate::proofs::SlotLaws::live_in_written))]
-    /// Writes a value: at a key that is there it takes the place of the old one, which is answered, and the stored key stays; else
-    /// the pair is put in. The answer says too whether a larger table is asked for. As many steps as a look-up in the bin.
+    /// Sets the value of a key. If the key is present, the stored key stays, and the old value is returned; if it is absent, the pair is
+    /// inserted. The result also says whether the bin asks for a larger table. As many steps as a look-up in the bin.
     ///
     /// # Errors
     ///
-    /// [`AllocError`], where memory for the pair is wanting, or where the bin has 2^62 entries. The bin is then as it was, and the
-    /// key and the value are dropped.
+    /// Returns [`AllocError`] if memory for the pair cannot be allocated, or if the bin has 2^62 entries. The bin is unchanged, and the key
+    /// and the value are dropped.
     pub fn put(
         &mut self,
         alloc: A,
@@ -381,13 +381,14 @@ impl<K: Ord + Drop, V: Drop, A: Allocator + Copy> Slot<K, V, A> {
     }
 
     #[tactic(auto, using(crate::proofs::SlotLaws::live_in_added))]
-    /// Puts a pair in whose key is absent, and answers its value, and whether a larger table is asked for. At a key that is there
-    /// nothing changes; the answer has the value that stands and the one that was not put. As many steps as a look-up in the bin.
+    /// Inserts a pair if its key is absent, and returns a clone of the value's `Arc`, and whether the bin asks for a larger table. If the
+    /// key is present, nothing changes: the result has the stored value and the one that was not inserted. As many steps as a look-up in
+    /// the bin.
     ///
     /// # Errors
     ///
-    /// [`AllocError`], as of [`Slot::put`], and also where a further owner of the value is refused. The bin is then as it was, and
-    /// the key and the value are dropped.
+    /// Returns [`AllocError`] if memory for the pair cannot be allocated, if the bin has 2^62 entries, or if cloning the `Arc` of the value
+    /// fails. The bin is unchanged, and the key and the value are dropped.
     pub fn put_absent(
         &mut self,
         alloc: A,
@@ -414,14 +415,13 @@ impl<K: Ord + Drop, V: Drop, A: Allocator + Copy> Slot<K, V, A> {
     }
 
     #[tactic(auto, using(crate::proofs::SlotLaws::live_in_written, crate::proofs::SlotLaws::live_in_taken))]
-    /// Calls a function once on the stored key and the value of a key that is there, and on nothing else. Its answer is the new
-    /// value; where it answers none, the pair is taken out. Where it was not called it comes back. As many steps as a look-up in
-    /// the bin.
+    /// Calls `f` once on the stored key and its value if the key is present, and stores what `f` returns as the new value. If `f` returns
+    /// `None`, the pair is removed. If `f` was not called, it is given back. As many steps as a look-up in the bin.
     ///
     /// # Errors
     ///
-    /// [`AllocError`], where memory for the new value, or for its further owner, is wanting. The function was called; the value that
-    /// it computed is dropped, and the bin is as it was.
+    /// Returns [`AllocError`] if memory for the new value cannot be allocated, or if cloning its `Arc` fails. `f` has been called then; the
+    /// value that it computed is dropped, and the bin is unchanged.
     pub fn compute<F: ComputeFn<K, V>>(
         &mut self,
         alloc: A,
