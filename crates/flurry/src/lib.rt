@@ -1,12 +1,15 @@
-//! A hash map whose every function is proved.
+//! A verified, linearizable concurrent hash map: every function is proved. One-key calls of the shared map are linearizable, in every
+//! interleaving of its steps, and the deciding step of a call is its linearization point.
 //!
-//! [`SeqMap`] and [`SeqSet`] are the map and the set of one owner; more of them stands under [`seq_map`], [`calls`] and [`seq_iter`],
-//! [`seq_set`] and [`set_calls`]. Bins, hashers and sizes of tables are under [`bin`], [`hash`] and [`table`]. Of a map that threads
-//! share, the steps at one bin are under [`slots`], its control and one call in steps under [`steps`], and every interleaving of calls,
-//! run one step at a time, under [`world`]. [`HashMap`] is that map over locks, for threads; its iterators are under
-//! [`iter`]. [`HashSet`] is the set over it. [`HashMapRef`] and [`HashSetRef`] are their views. Under [`recorded`] is a map under one
-//! lock that records the calls of its threads. Under [`par`] are calls that several threads do together, and under [`pairs`] lists of a
-//! map's pairs.
+//! [`HashMap`] is the map that threads share, over locks; its iterators are in [`iter`]. [`HashSet`] is the set over it. [`HashMapRef`] and
+//! [`HashSetRef`] are their views. Of the shared map, the steps at one bin are in [`slots`], its control and one call in steps in
+//! [`steps`], and every interleaving of calls, run one step at a time, in [`world`].
+//!
+//! [`SeqMap`] and [`SeqSet`] are the map and the set of one owner. More about them is in [`seq_map`], [`calls`] and [`seq_iter`], and in
+//! [`seq_set`] and [`set_calls`]. Bins, hashers and sizes of tables are in [`bin`], [`hash`] and [`table`].
+//!
+//! [`recorded`] has a map under one lock that records the calls of its threads. [`par`] has calls that several threads do together, and
+//! [`pairs`] has lists of a map's pairs.
 #![tactic(auto)]
 
 pub mod pairs;

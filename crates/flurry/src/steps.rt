@@ -1,4 +1,5 @@
-//! The control of a shared map, one call in steps, what lends a call the parts that its steps need, and walks and clears in steps.
+//! The control of a shared map, one call in steps, the field that gives a call the parts that its steps need, and walks and clears in
+//! steps.
 
 pub use flurry_calls::{Cursor, Seen, Sweep, cursor, sweep};
 pub use flurry_control as control;

@@ -1,4 +1,4 @@
-//! Every interleaving of calls of a shared map, run one step at a time; and single calls, driven to their end.
+//! Every interleaving of calls of a shared map, run one step at a time; and single calls, run to their end.
 
 pub use flurry_drive::{drive, drive_alone};
 pub use flurry_slots::{ComputeFn, NoFn};
