@@ -1,6 +1,6 @@
-//! Calls of a map as plain values.
+//! Calls on a map, as plain values.
 
-/// What a walk's read knows of a pair.
+/// A pair that a walk has read, with the write number of its value.
 ///
 /// ```
 /// match call {
@@ -19,7 +19,7 @@ pub struct Seen<K, V> {
     pub number: u64,
 }
 
-/// A call, with its key and value.
+/// A call on a map, with its key and value.
 ///
 /// ```
 /// match call {
@@ -30,28 +30,28 @@ pub struct Seen<K, V> {
 /// ```
 #[derive(Clone, Copy, Debug)]
 pub enum Call<K, V, F> {
-    /// The value of a key.
+    /// A look-up of the value of a key.
     Get(K),
-    /// The stored key and the value of a key.
+    /// A look-up of the stored key and the value of a key.
     GetKeyValue(K),
-    /// Whether a key is present.
+    /// A check whether a key is present.
     ContainsKey(K),
-    /// Writes a value.
+    /// A write of a value at a key.
     Insert(K, V),
-    /// Writes a value where the key is absent.
+    /// A write of a value at a key, if the key is absent.
     TryInsert(K, V),
-    /// Calls a function on the pair of a key, and writes what it answers, or removes the pair.
+    /// A call of a function on the pair of a key. The value that it returns is written; if it returns `None`, the pair is removed.
     Compute(K, F),
-    /// Removes the pair of a key, and answers its value.
+    /// A removal of the pair of a key, which returns the value.
     Remove(K),
-    /// Removes the pair of a key, and answers the stored key too.
+    /// A removal of the pair of a key, which returns the stored key and the value.
     RemoveEntry(K),
-    /// Removes a pair that was read, if it still stands as it was read.
+    /// A removal of a pair that was read, if it is still as it was read.
     RemoveSeen(Seen<K, V>),
-    /// Makes room for so many pairs more.
+    /// A reservation of room for the given number of additional pairs.
     Reserve(usize),
-    /// Removes all pairs, one bin after another.
+    /// A removal of all pairs, one bin after another.
     Clear,
-    /// Reads all pairs, one bin after another.
+    /// A walk, which reads all pairs, one bin after another.
     Walk,
 }

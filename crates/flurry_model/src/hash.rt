@@ -1,4 +1,4 @@
-//! The hash of a key.
+//! Hashes of keys.
 ghost use Rattle.std.specs.Prelude.{◌≡◌, ℕ, refl};
 ghost use Rattle.std.specs.declared.cmp.Ordering.TheVariants.{Equal};
 ghost use Rattle.std.specs.Coded.{Coded-set};
@@ -8,7 +8,7 @@ use std::fmt::{self, Debug, Formatter};
 pub use std::hash::DefaultHasher;
 use std::hash::{Hash, Hasher};
 
-/// Gives each key a hash, and equal keys one hash.
+/// A hasher of keys, which gives equal keys the same hash.
 ///
 /// ```
 /// impl KeyHasher<u64> for Shifted {
@@ -25,14 +25,14 @@ pub trait KeyHasher<K: Ord> {
     // The hash of the key.
     ghost hash_of: { Self → K → ℕ };
 
-    /// The hash of a key.
+    /// Returns the hash of `key`.
     fn hash_one(&self, key: &K) -> u64
         ensures { result ≡ hash_of self.now key.now };
 
     ghost alike: { (s : Self) (x y : K) → K.cmp x y ≡ Equal → hash_of s x ≡ hash_of s y };
 }
 
-/// Gives each key the least hash, 0.
+/// A hasher that gives every key the least hash, 0.
 ///
 /// ```
 /// SeqMap::with_hasher(alloc, ZeroHashBuilder)
@@ -50,7 +50,7 @@ impl<K: Ord> KeyHasher<K> for ZeroHashBuilder {
     }
 }
 
-/// Gives each key the greatest hash.
+/// A hasher that gives every key the greatest hash.
 ///
 /// ```
 /// SeqMap::with_hasher(alloc, MaxHashBuilder)
@@ -70,7 +70,7 @@ impl<K: Ord> KeyHasher<K> for MaxHashBuilder {
     }
 }
 
-/// Gives each key itself.
+/// A hasher of `u64` keys that uses each key itself as its hash.
 ///
 /// ```
 /// LowHashBuilder.hash_one(&key)
@@ -90,7 +90,8 @@ impl KeyHasher<u64> for LowHashBuilder {
     }
 }
 
-/// Gives each key the hash that std's hasher gives it after a seed. It keeps the hasher that was fed the seed.
+/// A hasher that gives each key the hash that std's [`DefaultHasher`] computes of it after a seed. It keeps the `DefaultHasher` that was
+/// fed the seed.
 ///
 /// ```
 /// SeqMap::with_hasher(alloc, DefaultHashBuilder::with_seed(seed))
@@ -105,7 +106,7 @@ pub struct DefaultHashBuilder {
 impl DefaultHashBuilder {
     ghost use Rattle.flurry_model.specs.Hashing.{seed_of};
 
-    /// The builder with this seed.
+    /// Creates a hash builder with the seed `seed`.
     pub fn with_seed(seed: u64) -> Self
         ensures { seed_of result ≡ seed }
     {
@@ -114,7 +115,7 @@ impl DefaultHashBuilder {
         DefaultHashBuilder { seed, hasher }
     }
 
-    /// A hasher that was fed the seed.
+    /// Returns a hasher that was fed the seed.
     pub fn build_hasher(&self) -> DefaultHasher
         ensures { result ≡ hasher_of_seed (seed_of self.now) }
     {

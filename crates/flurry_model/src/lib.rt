@@ -1,7 +1,7 @@
-//! The words that all layers of the map speak: hashes of keys, sizes of tables, what a call is and what it replies.
+//! The terms that all layers of the map share: hashes of keys, sizes of tables, calls and their replies.
 //!
-//! Its definitions (`specs`) are the finite map and the finite set, the calls of one key on them, the order of hashes and keys, the
-//! hashes of a bin, and when a bin is a list or a tree. They speak of plain data and of no code, and their laws stand in `proofs`.
+//! The definitions in `specs` are the finite map and the finite set, the one-key calls on them, the order of hashes and keys, the hashes
+//! of a bin, and when a bin is a list or a tree. They are about plain data and not about code; their laws are in `proofs`.
 #![tactic(auto)]
 
 pub mod call;

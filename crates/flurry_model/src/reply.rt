@@ -1,6 +1,6 @@
-//! The reply of a call of one key, with plain keys and values.
+//! The reply of a one-key call, with plain keys and values.
 
-/// What a call of one key replied, as it is kept in a history.
+/// The reply of a one-key call, as a history keeps it.
 ///
 /// ```
 /// match reply {
@@ -13,19 +13,19 @@
 /// ```
 #[derive(Clone, Copy, Debug, PartialEq, Eq)]
 pub enum KeptReply<K, V> {
-    /// A value, or none.
+    /// A value, or `None`.
     Value(Option<V>),
-    /// A stored key and its value, or none.
+    /// A stored key and its value, or `None`.
     Pair(Option<(K, V)>),
     /// Whether the key is present.
     Contains(bool),
-    /// The value that was put at an absent key.
+    /// The value that was inserted at an absent key.
     New(V),
-    /// The value that stands at a present key, and the one that was not put.
+    /// The value that a present key has, and the value that was not inserted.
     Exists {
-        /// The value that stands.
+        /// The value that the key has.
         current: V,
-        /// The value that was not put.
+        /// The value that was not inserted.
         not_inserted: V,
     },
 }

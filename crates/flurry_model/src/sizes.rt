@@ -1,48 +1,48 @@
-//! The sizes of tables and of bins, and the place of a hash in a table.
+//! The sizes of tables and of bins, and the index of a hash in a table.
 //!
-//! A table is known by its exponent: the table `e` has `2^e` bins.
+//! A table is identified by its exponent: table `e` has `2^e` bins.
 ghost use Rattle.std.specs.Prelude.{◌≡◌, ◌+◌, ◌-◌, ◌/◌, ◌%◌, ◌^◌, ◌<◌, ◌≤◌};
 ghost use Rattle.std.specs.Int.{IsNextPowerOfTwo};
 ghost use Rattle.flurry_model.specs.Sizes.{wanted_of, threshold_of, stride_of};
 
-/// The exponent of the first table, where none was asked for.
+/// The exponent of the first table, if no size was asked for.
 pub const FIRST_TABLE: u8 = 4;
 
-/// The bins of the first table.
+/// The number of bins of the first table, if no size was asked for.
 pub const FIRST_BINS: usize = 1 << FIRST_TABLE;
 
-/// The exponent of the greatest table.
+/// The exponent of the largest table.
 pub const GREATEST_TABLE: u8 = 30;
 
-/// How many tables there can be: their exponents are the numbers below.
+/// The number of tables that there can be. Their exponents are the numbers below it.
 pub const TABLES: usize = GREATEST_TABLE as usize + 1;
 
-/// The bins of the greatest table.
+/// The number of bins of the largest table.
 pub const MOST_BINS: usize = 1 << GREATEST_TABLE;
 
-/// The least bins that a helper claims at once.
+/// The least number of bins that a helper claims at once, if that many are left.
 pub const LEAST_STRIDE: usize = 16;
 
-/// The most pairs of a map, and the most entries of a bin.
+/// The greatest number of pairs of a map, and of entries of a bin.
 pub const MOST_PAIRS: usize = 1 << 62;
 
-/// The most labels of a run.
+/// The greatest number of labels of a run.
 pub const MOST_LABELS: usize = 1 << 62;
 
-/// The most entries of a bin that is a list.
+/// The greatest number of entries of a list bin.
 pub const MOST_IN_LIST: usize = 9;
 
-/// The least entries of a bin that is a tree.
+/// The least number of entries of a tree bin.
 pub const LEAST_IN_TREE: usize = 7;
 
-/// A list of so many entries becomes a tree when one more is put in, or asks for a larger table.
+/// The number of entries of a list that, when one more is inserted, becomes a tree or asks for a larger table.
 pub const LONG_LIST: usize = 8;
 
-/// A table of fewer bins grows before it makes trees.
+/// The number of bins below which a table grows before it makes trees.
 pub const LEAST_FOR_TREES: usize = 64;
 
-/// The number of bins of a table that is made for so many pairs: the least power of two that is at least one more than one and
-/// a half times as many, and at most [`MOST_BINS`].
+/// Returns the number of bins of a table that is made for `pairs` pairs: the least power of two that is at least `pairs + pairs / 2 + 1`,
+/// but at most [`MOST_BINS`].
 ///
 /// Constant time.
 pub fn wanted(pairs: usize) -> usize
@@ -56,7 +56,7 @@ pub fn wanted(pairs: usize) -> usize
     (pairs + pairs / 2 + 1).next_power_of_two()
 }
 
-/// The number of pairs from which on a table of so many bins is doubled: three quarters of the bins, rounded up.
+/// Returns the number of pairs from which on a table of `bins` bins is doubled: three quarters of the bins, rounded up.
 ///
 /// Constant time.
 #[inline]
@@ -66,7 +66,7 @@ pub fn threshold(bins: usize) -> usize
     bins - bins / 4
 }
 
-/// The index of the bin of a hash in a table of `2^table` bins: the hash's lowest `table` bits.
+/// Returns the index of the bin of `hash` in a table of `2^table` bins: the lowest `table` bits of `hash`.
 ///
 /// Constant time.
 #[inline]
@@ -78,7 +78,7 @@ pub fn bin_index(hash: u64, table: u8) -> usize
     (hash % (1 << table)) as usize
 }
 
-/// How many bins of a table of so many a helper claims at once, where so many processors share the work; 0 counts as 1.
+/// Returns how many bins of a table of `bins` bins a helper claims at once, if `processors` processors share the work; `0` counts as 1.
 ///
 /// Constant time.
 pub fn stride(bins: usize, processors: usize) -> usize
@@ -91,7 +91,7 @@ pub fn stride(bins: usize, processors: usize) -> usize
     }
 }
 
-/// The first table and the greatest one have as many bins as their exponents say.
+/// States that the first and the largest table have as many bins as their exponents say. Does nothing; its contract is a law.
 pub fn bins_of_named_tables()
     ensures first { FIRST_BINS ≡ 2 ^ FIRST_TABLE }
     ensures greatest { MOST_BINS ≡ 2 ^ GREATEST_TABLE }

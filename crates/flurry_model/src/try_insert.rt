@@ -1,4 +1,4 @@
-//! The error of an insertion that finds its key present.
+//! The error of an insertion whose key is present.
 ghost use Rattle.flurry_model.specs.TryInsert.{try_insert_text};
 
 use std::alloc::{Allocator, Global};
@@ -6,9 +6,9 @@ use std::error::Error;
 use std::fmt;
 use std::sync::Arc;
 
-/// What `try_insert` answers where the key is present: the value that stands, and the one that was not put.
+/// The error of `try_insert` if the key is present: the value that the key has, and the value that was not inserted.
 ///
-/// It prints `Insert of "A" failed as key was already present with value "B"`, where A and B are the debug forms of
+/// Its `Display` form is `Insert of "A" failed as key was already present with value "B"`, where A and B are the `Debug` forms of
 /// `not_inserted` and `current`.
 ///
 /// ```
@@ -20,9 +20,9 @@ use std::sync::Arc;
 #[derive(Drop)]
 #[derive_where(Debug, PartialEq, Eq; V)]
 pub struct TryInsertError<V, A: Allocator = Global> {
-    /// The value that stands at the key.
+    /// The value that the key has.
     pub current: Arc<V, A>,
-    /// The value that was handed in.
+    /// The value that was passed in, which was not inserted.
     pub not_inserted: V,
 }
 
