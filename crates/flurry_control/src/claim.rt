@@ -7,10 +7,10 @@ use flurry_slots::Receipt;
 use flurry_slots::clones::{Cloning, NoCloning};
 use std::marker::Model;
 
-/// A range of bins of a table that is being moved into the next one. Its holder alone moves them, from the last one down.
+/// A range of bins of a growing table. Only its holder moves these bins into the next table, from the last one down.
 ///
-/// A control's `claim` alone makes one, and it can't be cloned, so no two holders have one bin. A range that is dropped before its
-/// bins have moved stays unmoved for good, and its growth never ends.
+/// Only a control's `claim` makes one, and it cannot be cloned, so no bin has two holders. If a claim is dropped before all its bins have
+/// moved, the bins that are left stay unmoved for good, and the growth never ends.
 ///
 /// ```
 /// let claim: Claim = control.claim(1)?;
@@ -34,7 +34,7 @@ impl Model for Claim {
     ghost invariant = { λ c. IsRange (record { table = c.table; low = c.low; left = c.left; high = c.high }) };
 }
 
-// A claim can't be cloned, so its holder alone has its bins.
+// A claim cannot be cloned, so only its holder has its bins.
 fn claims_can_be_cloned() -> bool
     ensures { result ≡ false }
 {
@@ -42,7 +42,7 @@ fn claims_can_be_cloned() -> bool
 }
 
 impl Claim {
-    // For a control that hands the range out.
+    // Creates the claim of a range that a control gives out.
     pub(crate) fn of(table: u8, low: usize, high: usize) -> Self
         requires table { table < GREATEST_TABLE }
         requires some { low < high }
@@ -57,7 +57,7 @@ impl Claim {
         }
     }
 
-    /// The bin to move next, by its table's exponent and its index, or none once all have moved.
+    /// Returns the exponent of the table and the index of the bin to move next, or `None` once all bins have moved.
     ///
     /// Constant time.
     pub fn next(&self) -> Option<(u8, usize)>
@@ -72,7 +72,8 @@ impl Claim {
         }
     }
 
-    /// Goes on to the bin below, if the receipt is of the bin to move next. Answers whether it was; if not, the claim is as before.
+    /// Goes on to the bin below if `receipt` is that of the bin to move next, and returns `true`. Otherwise returns `false`, and the
+    /// claim is unchanged.
     ///
     /// Constant time.
     pub fn advance(&mut self, receipt: Receipt) -> bool
@@ -89,7 +90,7 @@ impl Claim {
         }
     }
 
-    // How many bins the range has, if it is of this table and all of them have moved.
+    // The number of bins of the range, if it is of `table` and all of its bins have moved.
     pub(crate) fn moved_in(&self, table: u8) -> Option<usize>
         ensures value { result ≡ (if self.now.table == table
             && is_moved self.now then Some (bins_in self.now) else None) }

@@ -1,4 +1,4 @@
-//! What the calls on a shared map agree upon: the published table, the growth that runs, and the count of pairs.
+//! The state on which the calls of a shared map agree: the published table, the running growth, and the count of pairs.
 ghost use Rattle.std.specs.Prelude.{◌≡◌, ◌^◌, ◌<◌, ◌≤◌, pos, IfSome, IfOk, None};
 ghost use Rattle.flurry_model.specs.Sizes.{wanted_of};
 ghost use Rattle.flurry_control.specs.Claim.{IsRange};
@@ -13,7 +13,7 @@ use flurry_model::sizes::{GREATEST_TABLE, stride, threshold, wanted};
 use std::alloc::AllocError;
 use std::marker::Model;
 
-/// The exponent of the table that is made for so many pairs: it has [`wanted`] bins.
+/// Returns the exponent of the table that is made for `pairs` pairs. That table has [`wanted`] bins.
 ///
 /// Constant time.
 pub fn wanted_table(pairs: usize) -> u8
@@ -23,7 +23,7 @@ pub fn wanted_table(pairs: usize) -> u8
     wanted(pairs).ilog2() as u8
 }
 
-/// What a caller is to do once it has counted.
+/// What a caller is to do after it has counted pairs.
 ///
 /// ```
 /// match control.count(1) {
@@ -35,13 +35,13 @@ pub fn wanted_table(pairs: usize) -> u8
 pub enum Advice {
     /// Nothing more.
     Enough,
-    /// To help the growth that runs: it has bins that nobody has claimed.
+    /// Help the running growth: it has bins that nobody has claimed.
     Join,
-    /// To begin a growth: the table has as many pairs as its threshold.
+    /// Begin a growth: the number of pairs has reached the threshold of the table.
     Begin,
 }
 
-/// How a call of [`Control::begin`] ended.
+/// The result of [`Control::begin`].
 ///
 /// ```
 /// match control.begin(table, &mut Counted(0)) {
@@ -53,9 +53,9 @@ pub enum Advice {
 pub enum BeginOutcome {
     /// The growth has begun.
     Begun,
-    /// Memory for the next table is wanting.
+    /// Memory for the next table could not be allocated.
     Refused,
-    /// No growth can begin from this table now.
+    /// No growth can begin from the table now.
     Busy,
 }
 
@@ -63,20 +63,21 @@ pub enum BeginOutcome {
 enum State {
     Idle,
     Growing {
-        // The bins below this index are in no claim yet.
+        // The index below which no bin is in a claim yet.
         unclaimed: usize,
-        // So many bins were in claims that came back with all bins moved.
+        // The number of bins in the claims that came back with all their bins moved.
         reported: usize,
     },
 }
 
-/// The published table, the growth that runs, and the count of pairs.
+/// The published table, the running growth, and the count of pairs.
 ///
-/// Tables are known by their exponents: the table of exponent e has `2^e` bins, and e is at most 30. The first table is opened, and each
-/// later one is published by the growth that fills it. A growth moves the published table into the next one: its bins are claimed in
-/// ranges from the top down, and the report that makes all of them moved publishes the next table and ends the growth.
+/// Tables are identified by their exponents: table `e` has `2^e` bins, and `e` is at most 30. The first table is made by
+/// [`Control::open`], and each later one is published by the growth that fills it. A growth moves the published table into the next one.
+/// Its bins are claimed in ranges, from the top down. The report after which all bins have moved publishes the next table and ends the
+/// growth.
 ///
-/// A control takes no memory, and has no table: a [`Room`] makes them.
+/// A control takes no memory and has no table; a [`Room`] makes the tables.
 ///
 /// ```
 /// let mut control = Control::new();
@@ -103,7 +104,7 @@ impl Model for Control {
 }
 
 impl Control {
-    /// A control without a table, growth or pairs.
+    /// Creates a control without a table, a growth or pairs.
     ///
     /// Constant time.
     pub fn new() -> Self
@@ -116,7 +117,7 @@ impl Control {
         }
     }
 
-    /// The exponent of the published table, or none before the first.
+    /// Returns the exponent of the published table, or `None` before the first table.
     ///
     /// Constant time.
     #[inline]
@@ -128,7 +129,7 @@ impl Control {
         self.published
     }
 
-    /// The exponent of the published table as a certificate of its own, which tells that it was published; none before the first.
+    /// Returns the exponent of the published table as a certificate that it was published, or `None` before the first table.
     ///
     /// Constant time.
     #[inline]
@@ -142,13 +143,14 @@ impl Control {
         }
     }
 
-    /// The exponent of the published table. Where there is none, this table is made, with live and empty bins, and published.
+    /// Returns the exponent of the published table. If there is none, makes the table of exponent `table` in `room`, with live and empty
+    /// bins, and publishes it.
     ///
-    /// Constant time, but for the making of a table.
+    /// Constant time, except for making the table.
     ///
     /// # Errors
     ///
-    /// [`AllocError`], where memory for the table is wanting. The control is then as before.
+    /// Returns [`AllocError`] if memory for the table cannot be allocated. The control is unchanged.
     pub fn open<R: Room>(&mut self, table: u8, room: &mut R) -> Result<u8, AllocError>
         requires { table ≤ GREATEST_TABLE }
         ensures gives { OpenGives R.place_gives table self.old room.old result self.new room.new }
@@ -164,12 +166,13 @@ impl Control {
         }
     }
 
-    /// Begins a growth from this table: the next one is made, with bins that are not born yet, and all bins of this one are unclaimed.
+    /// Begins a growth from the table of exponent `table`: makes the next table in `room`, with unborn bins, after which all bins of
+    /// `table` are unclaimed.
     ///
-    /// It answers [`BeginOutcome::Busy`] and changes nothing, where a growth runs, this table is not the published one, or it is the
-    /// greatest. It answers [`BeginOutcome::Refused`] where memory for the next table is wanting; the control is then as before.
+    /// Returns [`BeginOutcome::Busy`] and changes nothing if a growth is running, if `table` is not the published table, or if it is the
+    /// largest table. Returns [`BeginOutcome::Refused`] if memory for the next table cannot be allocated; the control is then unchanged.
     ///
-    /// Constant time, but for the making of a table.
+    /// Constant time, except for making the table.
     pub fn begin<R: Room>(&mut self, table: u8, room: &mut R) -> BeginOutcome
         ensures { BeginGives R.place_gives table self.old room.old result self.new room.new }
     {
@@ -188,8 +191,10 @@ impl Control {
         }
     }
 
-    /// Claims the uppermost bins that nobody has claimed, as many as a caller moves at once where so many processors share the work; 0
-    /// counts as 1. Answers none where no growth runs, or all its bins are claimed.
+    /// Claims the uppermost bins that nobody has claimed. Returns `None` if no growth is running, or all its bins are claimed.
+    ///
+    /// The claim has as many bins as a caller moves at once if `processors` processors share the work, or all that are left. `0`
+    /// processors count as 1.
     ///
     /// Constant time.
     pub fn claim(&mut self, processors: usize) -> Option<Claim>
@@ -216,16 +221,15 @@ impl Control {
         }
     }
 
-    /// Takes back a claim whose bins have moved. Where these were the last ones of the growth, the next table is published, its exponent
-    /// is answered, and the growth is over.
+    /// Takes back a claim whose bins have moved. If they were the last bins of the growth, publishes the next table, ends the growth, and
+    /// returns the exponent of the next table. Otherwise returns `None`.
     ///
-    /// A claim of a table that does not grow, one that has bins left to move, and one of more bins than are unreported change nothing,
-    /// and none is answered.
+    /// If `claim` is of a table that is not growing, has bins left to move, or has more bins than are unreported, nothing changes.
     ///
-    /// The claim is one that this control has handed out. A claim does not say of which control it is, so no contract can ask for that:
-    /// where another control grows a table of the same exponent, its claim is taken too if it has no more bins than are unreported. It
-    /// then counts for bins of this table that were not moved, and the next table is published before it is complete. No claim leaves
-    /// a `World`, and whoever keeps a control, its calls and their claims private is safe from it too.
+    /// The claim must be one that this control has given out. A claim does not say to which control it belongs, so no contract can ask
+    /// for that. If another control grows a table of the same exponent, its claim is accepted too if it has no more bins than are
+    /// unreported. It then counts for bins of this table that have not moved, and the next table is published before it is complete. No
+    /// claim leaves a `World`, and whoever keeps a control, its calls and their claims private is safe from this too.
     ///
     /// Constant time.
     pub fn report(&mut self, claim: Claim) -> Option<u8>
@@ -264,8 +268,8 @@ impl Control {
         }
     }
 
-    /// Counts so many pairs more, or fewer where the number is negative, and says what is to be done then. A count past the range of
-    /// its type stays at the greatest or the least number.
+    /// Adds `delta`, which may be negative, to the count of pairs, and returns what is to be done then. The count saturates at the bounds
+    /// of `i64`.
     ///
     /// Constant time.
     pub fn count(&mut self, delta: i64) -> Advice
@@ -289,7 +293,7 @@ impl Control {
         }
     }
 
-    /// Counts what waits at the tally, at which nothing waits then.
+    /// Adds the count that waits at `tally` to the count of pairs, and empties the tally.
     ///
     /// Constant time.
     pub fn collect(&mut self, tally: &mut Tally)
@@ -299,7 +303,7 @@ impl Control {
         let _advice = self.count(tally.take());
     }
 
-    /// The count of pairs, 0 where it is negative.
+    /// Returns the count of pairs, or 0 if the count is negative.
     ///
     /// Constant time.
     #[inline]
@@ -313,8 +317,8 @@ impl Control {
         }
     }
 
-    /// The exponent of the published table, if no growth runs and that table is to be doubled on the way to `2^wanted` bins: it is not
-    /// the greatest, and its threshold is below `2^wanted`.
+    /// Returns the exponent of the published table if no growth is running and that table is to be doubled on the way to `2^wanted` bins:
+    /// it is not the largest table, and its threshold is below `2^wanted`. Otherwise returns `None`.
     ///
     /// Constant time.
     pub fn grows_from(&self, wanted: u8) -> Option<u8>

@@ -1,9 +1,9 @@
-//! What the calls on a shared map agree upon.
+//! The state on which the calls of a shared map agree.
 //!
-//! A shared map is read and written by many calls at once. What they agree upon is the [`Control`]: which table is published, whether
-//! a larger one is being filled and who moves which of its bins, and how many pairs there are. Each of its calls is one step, which a
-//! caller does alone, as under a lock. A [`Claim`] is a range of bins that its holder alone moves, a [`Tally`] a count that waits until
-//! the control collects it, and a [`Room`] the place where tables are made. Contracts see all of them as plain data.
+//! Many calls read and write a shared map at once. What they agree on is the [`Control`]: which table is published, whether a larger
+//! table is being filled and who moves which bins into it, and the number of pairs. Each call of a control is one step, which its caller
+//! does alone, for example under a lock. A [`Claim`] is a range of bins that only its holder moves, a [`Tally`] is a count that waits
+//! until the control collects it, and a [`Room`] is the place where tables are made. Contracts see all of them as plain data.
 #![tactic(auto)]
 
 mod claim;

@@ -1,13 +1,13 @@
-//! Where calls begin.
+//! The table at which a call starts.
 ghost use Rattle.std.specs.Prelude.{◌≡◌, ◌≤◌};
 ghost use Rattle.flurry_model.specs.declared.sizes.TheConstants.{GREATEST_TABLE};
 
 use std::marker::Model;
 
-/// The exponent of a table that a control has published. A control alone makes one.
+/// The exponent of a table that a control has published. Only a control makes one.
 ///
-/// It may be kept outside the control, and be behind it: a call may begin at any table that was once published, since bins of older
-/// tables have moved and lead on.
+/// It may be kept outside the control, and may be older than the exponent that is published now. A call may start at any table that was
+/// once published, since the bins of older tables have moved and lead on to newer ones.
 ///
 /// ```
 /// let start: PublishedTable = control.start()?;
@@ -30,7 +30,7 @@ impl Model for PublishedTable {
 }
 
 impl PublishedTable {
-    // For a control that has published this table.
+    // Creates the certificate of a control that has published `table`.
     pub(crate) fn of(table: u8) -> Self
         requires { table ≤ GREATEST_TABLE }
         ensures { result ≡ table }
@@ -38,7 +38,7 @@ impl PublishedTable {
         PublishedTable { table }
     }
 
-    /// The exponent of the table.
+    /// Returns the exponent of the table.
     ///
     /// Constant time.
     #[inline]

@@ -1,4 +1,4 @@
-//! Counts that wait.
+//! Counts that wait to be collected.
 ghost use Rattle.std.specs.Prelude.{◌≡◌, pos, int_le};
 ghost use Rattle.flurry_control.specs.Control.{count_after};
 
@@ -6,8 +6,8 @@ use std::marker::Model;
 
 /// A count of pairs that waits until a control collects it.
 ///
-/// Whoever has pairs to count counts them here in the control's place, and the control that collects the tally empties it. So what waits
-/// at the tallies of a map and what its control has counted is, together, what the control would have counted alone.
+/// A call can count pairs at a tally instead of at the control. The control that collects the tally empties it. So what waits at the
+/// tallies of a map and what its control has counted are, together, what the control alone would have counted.
 ///
 /// ```
 /// let mut tally = Tally::new();
@@ -29,7 +29,7 @@ impl Model for Tally {
 }
 
 impl Tally {
-    /// A tally at which nothing waits.
+    /// Creates a tally at which nothing waits.
     ///
     /// Constant time.
     pub fn new() -> Self
@@ -38,8 +38,7 @@ impl Tally {
         Tally { count: 0 }
     }
 
-    /// So many pairs more wait, or fewer where the number is negative. A count past the range of its type stays at the greatest or the
-    /// least number.
+    /// Adds `delta`, which may be negative, to the count that waits. The count saturates at the bounds of `i64`.
     ///
     /// Constant time.
     pub fn count(&mut self, delta: i64)
@@ -48,7 +47,7 @@ impl Tally {
         self.count = self.count.saturating_add(delta);
     }
 
-    /// Whether at least so many pairs wait.
+    /// Returns `true` if at least `pairs` pairs wait.
     ///
     /// Constant time.
     pub fn has(&self, pairs: i64) -> bool
@@ -57,7 +56,7 @@ impl Tally {
         pairs <= self.count
     }
 
-    // Empties the tally, and answers what waited.
+    // Empties the tally, and returns the count that waited.
     pub(crate) fn take(&mut self) -> i64
         ensures value { result ≡ self.old }
         ensures after { self.new ≡ pos 0 }
