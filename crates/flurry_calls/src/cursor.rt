@@ -1,4 +1,4 @@
-//! Where a call stands that goes over all bins.
+//! The position of a call that visits all bins.
 ghost use Rattle.std.specs.Prelude.{◌≡◌, ◌<◌, ◌≤◌, IsSome, OnOk, OnErr, MatchOption, false, true};
 ghost use Rattle.std.specs.Option.{option_map};
 ghost use Rattle.std.specs.Arc.{arc_value};
@@ -11,11 +11,11 @@ use std::marker::Model;
 use std::mem;
 use std::sync::Arc;
 
-/// Where a call stands that goes over all bins of a map, of which other calls may move any at any time.
+/// The position of a call that visits all bins of a map, while other calls may move any bin at any time.
 ///
-/// It goes over the bins of its base table one after another. One that has moved is left for its two halves in the next table, and so
-/// on, so that each hash is met once. At most 32 frames stand: the one that is gone over now, and below it at most one of each table. A
-/// cursor takes no memory but for further owners of the keys that are its bounds.
+/// It visits the bins of its base table one after another. If a bin has moved, it visits the two halves of the bin in the next table
+/// instead, and so on, so that it visits each hash once. It has at most 32 frames: the one that it visits now, and below it at most one
+/// of each table. A cursor takes no memory except for clones of the `Arc`s of the keys that are its bounds.
 ///
 /// ```
 /// let mut cursor: Cursor<u64> = Cursor::new(1);
@@ -44,9 +44,9 @@ impl<K, A: Allocator> Model for Cursor<K, A> {
 }
 
 impl<K: Drop, A: Allocator> Cursor<K, A> {
-    /// A cursor at the first bin of that table, which is to go over all of them.
+    /// Creates a cursor at the first bin of table `base`, which is to visit all bins of that table.
     ///
-    /// Constant time; takes no memory.
+    /// Constant time. Takes no memory.
     pub fn new(base: u8) -> Self
         requires { base ≤ GREATEST_TABLE }
         ensures { result ≡ at_base base 0 }
@@ -63,7 +63,7 @@ impl<K: Drop, A: Allocator> Cursor<K, A> {
         }
     }
 
-    /// The table and the index of the bin that is gone over now.
+    /// Returns the table and the index of the bin that is visited now.
     ///
     /// Constant time.
     pub fn at(&self) -> (u8, usize)
@@ -72,7 +72,7 @@ impl<K: Drop, A: Allocator> Cursor<K, A> {
         (self.top.table, self.top.index)
     }
 
-    /// The hash and the key past which the rest of that bin lies; none where all of it is left.
+    /// Returns the hash and the key past which the rest of the current bin lies, or `None` if all of that bin is left.
     ///
     /// Constant time.
     pub fn bound(&self) -> Option<(u64, &K)>
@@ -84,7 +84,7 @@ impl<K: Drop, A: Allocator> Cursor<K, A> {
         }
     }
 
-    /// Goes on past that hash and key in the same bin.
+    /// Goes on past `hash` and `key` in the same bin.
     ///
     /// Constant time.
     pub fn pass(&mut self, hash: u64, key: Arc<K, A>)
@@ -93,13 +93,13 @@ impl<K: Drop, A: Allocator> Cursor<K, A> {
         drop(mem::replace(&mut self.top.bound, Some((hash, key))));
     }
 
-    /// Leaves a bin that has moved for its two halves, of which the low one comes first.
+    /// Goes from a bin that has moved to its two halves, of which the low half comes first.
     ///
-    /// Constant time; takes no memory but for a further owner of the key of the bound.
+    /// Constant time. Takes no memory except for a clone of the `Arc` of the bound's key.
     ///
     /// # Errors
     ///
-    /// [`AllocError`], where that owner is refused; the cursor is then as it was. Without a bound nothing is refused.
+    /// Returns [`AllocError`] if cloning that `Arc` fails, which it cannot without a bound. The cursor is unchanged.
     pub fn split(&mut self) -> Result<(), AllocError>
         requires { self.old.top.table < GREATEST_TABLE }
         ensures ok { OnOk result (self.new ≡ after_split self.old) }
@@ -119,8 +119,8 @@ impl<K: Drop, A: Allocator> Cursor<K, A> {
         Ok(())
     }
 
-    /// Leaves a bin that is done, for the frame below it or else for the next bin of the base table. Answers false where there is
-    /// none; the cursor is then as it was.
+    /// Goes from a bin that is done to the frame below it, or else to the next bin of the base table. Returns `false` if there is none;
+    /// the cursor is then unchanged.
     ///
     /// Constant time.
     pub fn leave(&mut self) -> bool

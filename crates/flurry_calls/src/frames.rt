@@ -1,4 +1,4 @@
-//! The parts of bins that are yet to be gone over.
+//! The parts of bins that are still to be visited.
 ghost use Rattle.std.specs.Prelude.{◌≡◌, ◌<◌, [], ◌∷◌, length, MatchOption};
 ghost use Rattle.flurry_calls.specs.FrameView.{frame_of};
 
@@ -7,7 +7,7 @@ use std::alloc::Allocator;
 use std::marker::Model;
 use std::sync::Arc;
 
-/// A bin of a table, and the bound past which its entries are yet to be gone over; with none all of them are.
+/// A bin of a table, and the bound past which its entries are still to be visited. Without a bound, all of them are.
 #[derive(Drop)]
 pub(crate) struct Frame<K, A: Allocator> {
     pub(crate) table: u8,
@@ -15,7 +15,7 @@ pub(crate) struct Frame<K, A: Allocator> {
     pub(crate) bound: Option<(u64, Arc<K, A>)>,
 }
 
-/// A stack of 32 frames at most: one of each table, and one more.
+/// A stack of at most 32 frames: one of each table, and one more.
 #[derive(Drop)]
 pub(crate) struct Frames<K, A: Allocator> {
     stack: Twice<Twice<Twice<Twice<Twice<Option<Frame<K, A>>>>>>>,

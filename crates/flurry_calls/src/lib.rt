@@ -1,9 +1,9 @@
-//! What all calls of a shared map in steps have in common, and the calls among them that go over all bins.
+//! What the calls of a shared map have in common when they are done in steps, and the calls that visit all bins.
 //!
-//! A call in progress says what it wants ([`Want`]), is lent that part of the map, and does one step, which tells what it was
-//! ([`Event`]); at its end it has a [`Reply`]. A [`Sweep`] is such a call that goes over all bins: a walk, which reads the pairs, or a
-//! clear, which wipes them. Other calls may do any steps in between, and move bins; its [`Cursor`] knows which hashes are yet to be met.
-//! Contracts see all of them as plain data.
+//! A call in progress says which part of the map it needs next ([`Want`]), borrows that part, and does one step, which returns what it
+//! did ([`Event`]). At its end it has a [`Reply`]. A [`Sweep`] is a call that visits all bins: a walk, which reads the pairs, or a clear,
+//! which removes them. Other calls may do any steps in between, and may move bins; the [`Cursor`] of a sweep knows which hashes are still
+//! to be visited. Contracts see all of them as plain data.
 #![tactic(auto)]
 
 pub mod cursor;

@@ -1,10 +1,10 @@
-//! What calls of a shared map answer.
+//! The replies of the calls of a shared map.
 
 use flurry_model::try_insert::TryInsertError;
 use std::alloc::{Allocator, Global};
 use std::sync::Arc;
 
-/// What a call of a shared map answers.
+/// The reply of a call of a shared map.
 ///
 /// ```
 /// match drive_alone(rt, call, &LowHashBuilder, 1, parts) {
@@ -14,19 +14,19 @@ use std::sync::Arc;
 /// ```
 #[derive(Drop)]
 pub enum Reply<K, V, A: Allocator = Global> {
-    /// A value, or none: of `Get`, `Remove` and `RemoveSeen` the one that stands or stood there, of `Insert` the one before, of `Compute`
-    /// the new one.
+    /// A value, or `None`: the stored value for `Get`, the removed value for `Remove` and `RemoveSeen`, the old value for `Insert`, and
+    /// the new value for `Compute`.
     Value(Option<Arc<V, A>>),
-    /// The stored key and its value, or none: of `GetKeyValue` and `RemoveEntry`.
+    /// The stored key and its value, or `None`, for `GetKeyValue` and `RemoveEntry`.
     Pair(Option<(Arc<K, A>, Arc<V, A>)>),
-    /// Whether the key is present: of `ContainsKey`.
+    /// Whether the key is present, for `ContainsKey`.
     Contains(bool),
-    /// The value that was put: of `TryInsert` where the key was absent.
+    /// The value that was inserted, for `TryInsert` if the key was absent.
     New(Arc<V, A>),
-    /// The value that stands, and the one that was not put: of `TryInsert` where the key is present.
+    /// The value that the key has, and the value that was not inserted, for `TryInsert` if the key is present.
     Exists(TryInsertError<V, A>),
-    /// A call without an answer has ended: of `Reserve`.
+    /// The end of a call that returns nothing: `Reserve`, `Clear` or `Walk`.
     Ended,
-    /// Memory was wanting.
+    /// The failure of a call: memory could not be allocated.
     Refused,
 }

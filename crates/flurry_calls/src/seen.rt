@@ -1,4 +1,4 @@
-//! What a walk has read.
+//! Pairs that a walk has read.
 ghost use Rattle.std.specs.Prelude.{◌≡◌, IfOk};
 ghost use Rattle.flurry_bins.specs.PlainEntries.{numbered_pair};
 ghost use Rattle.flurry_calls.specs.OutcomeView.{pair_value};
@@ -9,7 +9,7 @@ use std::alloc::{AllocError, Allocator, Global};
 use std::marker::Model;
 use std::sync::Arc;
 
-/// A pair that a walk has read, with the write number of its value. A walk's read alone makes one.
+/// A pair that a walk has read, with the write number of its value. Only a walk's read makes one, and [`Seen::try_clone`] clones it.
 ///
 /// ```
 /// match pairs.next_seen()? {
@@ -34,7 +34,7 @@ impl<K, V, A: Allocator> Model for Seen<K, V, A> {
 }
 
 impl<K: Drop, V: Drop, A: Allocator> Seen<K, V, A> {
-    // What a walk knows of an entry that it reads.
+    // The pair of an entry that a walk reads, with the write number of its value.
     pub(crate) fn of(entry: &Entry<K, V, A>) -> Result<Self, AllocError>
         ensures { IfOk result (λ s. s ≡ seen_at (numbered_pair entry.now)) }
     {
@@ -47,7 +47,7 @@ impl<K: Drop, V: Drop, A: Allocator> Seen<K, V, A> {
         })
     }
 
-    /// The stored key.
+    /// Returns a reference to the stored key.
     ///
     /// Constant time.
     pub fn key(&self) -> &K
@@ -56,7 +56,7 @@ impl<K: Drop, V: Drop, A: Allocator> Seen<K, V, A> {
         &self.key
     }
 
-    /// The value.
+    /// Returns a reference to the value.
     ///
     /// Constant time.
     pub fn value(&self) -> &V
@@ -65,7 +65,7 @@ impl<K: Drop, V: Drop, A: Allocator> Seen<K, V, A> {
         &self.value
     }
 
-    /// The write number of the value.
+    /// Returns the write number of the value.
     ///
     /// Constant time.
     pub fn number(&self) -> u64
@@ -74,7 +74,7 @@ impl<K: Drop, V: Drop, A: Allocator> Seen<K, V, A> {
         self.number
     }
 
-    /// Hands out the stored key and the value.
+    /// Converts the pair into the `Arc`s of the stored key and the value.
     ///
     /// Constant time.
     pub fn into_pair(self) -> (Arc<K, A>, Arc<V, A>)
@@ -84,13 +84,13 @@ impl<K: Drop, V: Drop, A: Allocator> Seen<K, V, A> {
         (key, value)
     }
 
-    /// A further one of the same pair.
+    /// Returns a clone of the pair, with its write number.
     ///
-    /// Constant time; takes no memory but for further owners of the key and the value.
+    /// Constant time. Takes no memory except for clones of the `Arc`s of the key and the value.
     ///
     /// # Errors
     ///
-    /// [`AllocError`], where such an owner is refused.
+    /// Returns [`AllocError`] if cloning one of these `Arc`s fails.
     pub fn try_clone(&self) -> Result<Self, AllocError>
         ensures { IfOk result (λ s. s ≡ self.now) }
     {

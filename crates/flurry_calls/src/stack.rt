@@ -1,39 +1,39 @@
-//! A stack of a few places that lies in its owner, for items whose size is the owner's to choose.
+//! A stack with a few places that is stored in its owner itself, for items whose size the owner chooses.
 ghost use Rattle.std.specs.Prelude.{◌≡◌, ◌<◌, ◌+◌, ℕ, List, [], ◌∷◌, length, MatchOption, true, false};
 
 use std::mem;
 
-/// A stack of so many places at most. An array would do, but each function that is lent one of items of an unknown size has to know that
-/// it fits into memory; two halves fit as two fields do.
+/// A stack with a fixed number of places. An array would do, but each function that borrows an array of items of unknown size has to know
+/// that it fits into memory; two halves fit as two fields do.
 pub(crate) trait Stack<T: Drop> {
     /// The items, the newest first.
     ghost items: { Self → List T };
 
-    /// How many places there are.
+    /// The number of places.
     ghost places: { ℕ };
 
-    /// The older half is full before the newer one is begun, and neither has more items than places.
+    /// The older half is full before the newer half has an item, and neither half has more items than places.
     ghost fills_up: { Self → Type 0 };
 
-    /// A stack without an item.
+    /// Creates a stack without items.
     fn empty() -> Self
         ensures items { items result ≡ [] }
         ensures fills_up { fills_up result };
 
-    /// Whether each place is taken.
+    /// Returns `true` if every place is taken.
     fn is_full(&self) -> bool
         requires { fills_up self.now }
         ensures yes { result ≡ true → length (items self.now) ≡ places }
         ensures no { result ≡ false → length (items self.now) < places };
 
-    /// Puts an item on top.
+    /// Pushes `item` on top.
     fn push(&mut self, item: T)
         requires room { length (items self.old) < places }
         requires fills_up { fills_up self.old }
         ensures items { items self.new ≡ item ∷ items self.old }
         ensures fills_up { fills_up self.new };
 
-    /// Takes the item on top.
+    /// Removes the item on top and returns it, or returns `None` if there is no item.
     fn pop(&mut self) -> Option<T>
         requires { fills_up self.old }
         ensures items { MatchOption result ((items self.old ≡ []) × (self.new ≡ self.old))
@@ -41,7 +41,7 @@ pub(crate) trait Stack<T: Drop> {
         ensures fills_up { fills_up self.new };
 }
 
-/// One place.
+/// A stack with one place.
 impl<T: Drop> Stack<T> for Option<T> {
     ghost use Rattle.std.specs.Prelude.{⊤};
     ghost use Rattle.flurry_calls.specs.Stack.{place_items};
@@ -69,7 +69,7 @@ impl<T: Drop> Stack<T> for Option<T> {
     }
 }
 
-/// Twice as many places.
+/// A stack with twice as many places as `S`.
 #[derive(Drop)]
 pub(crate) struct Twice<S> {
     older: S,

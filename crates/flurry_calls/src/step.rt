@@ -1,4 +1,4 @@
-//! What a call needs for its next step, and what a step was.
+//! What a call needs for its next step, and what a step did.
 
 /// The part of a shared map that the next step of a call needs.
 ///
@@ -14,17 +14,17 @@
 pub enum Want {
     /// The control, and the room where tables are made.
     Control,
-    /// The slot of that table and index, to read.
+    /// The slot of the given table and index, to read.
     Look(u8, usize),
-    /// The slot of that table and index, to write.
+    /// The slot of the given table and index, to write.
     Bin(u8, usize),
-    /// The slot of that table and index, and its two halves in the next table, to move.
+    /// The slot of the given table and index, and its two halves in the next table, to move the bin.
     Move(u8, usize),
     /// Nothing: the call is done.
     Done,
 }
 
-/// What a step of a call was.
+/// What a step of a call did.
 ///
 /// ```
 /// match event {
@@ -34,21 +34,21 @@ pub enum Want {
 /// ```
 #[derive(Clone, Copy, Debug, PartialEq, Eq)]
 pub enum Event {
-    /// A call of one key decided: it has its reply, and changed the map.
+    /// A one-key call decided: it has its reply, and has made its change to the map, if any.
     Decide,
     /// A walk read a pair.
     Read,
-    /// A clear wiped the bin of that table and index.
+    /// A clear emptied the bin of the given table and index.
     Wipe(u8, usize),
-    /// The call was refused for memory, and is done.
+    /// Memory for the call could not be allocated, and the call is done.
     Refused,
-    /// The first table, of that exponent, was made and published.
+    /// The first table, of the given exponent, was made and published.
     Opened(u8),
-    /// The table of that exponent was made, and its growth began.
+    /// The table of the given exponent was made, and the growth that fills it began.
     Placed(u8),
-    /// The bin of that table and index was moved.
+    /// The bin of the given table and index was moved.
     Moved(u8, usize),
-    /// The table of that exponent was published.
+    /// The table of the given exponent was published.
     Published(u8),
     /// Any other step.
     Silent,

@@ -1,4 +1,4 @@
-//! A walk or a clear as a machine whose steps each need one part of the map.
+//! A walk or a clear, as a machine each of whose steps needs one part of the map.
 ghost use Rattle.std.specs.Prelude.{◌≡◌, ◌≤◌, IsSome, IfNone, IfSome, IfOk, OnErr, true};
 ghost use Rattle.std.specs.Option.{option_map, option_copied};
 ghost use Rattle.flurry_model.specs.declared.sizes.TheConstants.{GREATEST_TABLE};
@@ -23,38 +23,38 @@ use std::alloc::{AllocError, Allocator, Global};
 use std::marker::Model;
 use std::mem;
 
-// The most pairs that one count takes away.
+// The greatest number of pairs that one count takes away.
 const MOST_COUNTED: usize = i64::MAX as usize;
 
 /// What a sweep does at each bin.
 #[derive(Clone, Copy, Drop)]
 pub(crate) enum Errand {
-    /// It reads the pairs.
+    /// A walk, which reads the pairs.
     Read,
-    /// It wipes them, and has wiped so many.
+    /// A clear, which removes the pairs, with the number of pairs that it has removed.
     Wipe(usize),
 }
 
-/// Where a sweep stands.
+/// The stage of a sweep.
 #[derive(Drop)]
 pub(crate) enum Stage<K, V, A: Allocator> {
-    /// It asks for the published table.
+    /// Asking for the published table.
     Outset,
-    /// It goes over the bins, and is to stand there.
+    /// Visiting the bins; the cursor is at the next one.
     Bins(Cursor<K, A>),
-    /// It counts the pairs that it wiped.
+    /// Counting the pairs that the clear removed.
     Total,
-    /// It has ended, and its reply was not taken yet.
+    /// The end, with a reply that has not been taken yet.
     End(Reply<K, V, A>),
-    /// Its reply was taken.
+    /// The end, after the reply was taken.
     Taken,
 }
 
 /// A walk or a clear of a shared map in progress.
 ///
-/// It begins at the table that is published at its first step, and goes over its bins one after another. One that has moved meanwhile is
-/// left for its halves in the next table. So each hash is met once, whichever steps of other calls come between. It goes on by its steps
-/// alone, each of which takes the part that [`Sweep::want`] names.
+/// It starts at the table that is published at its first step, and visits the bins of that table one after another. If a bin has moved
+/// meanwhile, it visits the two halves of the bin in the next table instead. So it visits each hash once, whichever steps of other calls
+/// come in between. It advances only by its steps, each of which takes the part that [`Sweep::want`] returns.
 ///
 /// ```
 /// let mut walk: Sweep<u64, u64> = Sweep::walk();
@@ -66,7 +66,7 @@ pub(crate) enum Stage<K, V, A: Allocator> {
 #[derive(Drop)]
 pub struct Sweep<K, V, A: Allocator = Global> {
     errand: Errand,
-    // A stage is put in its place by `mem::replace`, and the one before goes to `drop`: at an assignment the proof would go through all
+    // A stage is set by `mem::replace`, and the stage before is passed to `drop`: for an assignment the proof would go through everything
     // that a stage can hold.
     stage: Stage<K, V, A>,
     last: Option<Seen<K, V, A>>,
@@ -84,9 +84,9 @@ impl<K, V, A: Allocator> Model for Sweep<K, V, A> {
 }
 
 impl<K: Drop, V: Drop, A: Allocator> Sweep<K, V, A> {
-    /// A walk before its first step, which is to read all pairs, one a step.
+    /// Creates a walk, which is to read all pairs, at most one in each step. It has done no step yet.
     ///
-    /// Constant time; takes no memory.
+    /// Constant time. Takes no memory.
     pub fn walk() -> Self
         ensures { result ≡ fresh_sweep Reads }
     {
@@ -97,9 +97,9 @@ impl<K: Drop, V: Drop, A: Allocator> Sweep<K, V, A> {
         }
     }
 
-    /// A clear before its first step, which is to wipe all bins, one a step.
+    /// Creates a clear, which is to empty all bins, at most one in each step. It has done no step yet.
     ///
-    /// Constant time; takes no memory.
+    /// Constant time. Takes no memory.
     pub fn clear() -> Self
         ensures { result ≡ fresh_sweep (Wipes 0) }
     {
@@ -110,7 +110,7 @@ impl<K: Drop, V: Drop, A: Allocator> Sweep<K, V, A> {
         }
     }
 
-    /// The part that the next step needs.
+    /// Returns the part of the map that the next step needs.
     ///
     /// Constant time.
     pub fn want(&self) -> Want
@@ -129,7 +129,7 @@ impl<K: Drop, V: Drop, A: Allocator> Sweep<K, V, A> {
         }
     }
 
-    /// The reply, from the end on until it is taken.
+    /// Returns the reply of a call that has ended, until it is taken. Otherwise returns `None`.
     ///
     /// Constant time.
     pub fn reply(&self) -> Option<&Reply<K, V, A>>
@@ -141,8 +141,8 @@ impl<K: Drop, V: Drop, A: Allocator> Sweep<K, V, A> {
         }
     }
 
-    /// Moves the reply out of a call that has ended. Answers none exactly where the call has not ended, or its reply was taken before;
-    /// the call is then as it was.
+    /// Takes the reply of a call that has ended. Returns `None` if and only if the call has not ended, or its reply was taken before; the
+    /// call is then unchanged.
     ///
     /// Constant time.
     pub fn take_reply(&mut self) -> Option<Reply<K, V, A>>
@@ -159,7 +159,7 @@ impl<K: Drop, V: Drop, A: Allocator> Sweep<K, V, A> {
         }
     }
 
-    /// The pair that a walk has read last, which stays once it has ended; none of a clear.
+    /// Returns the pair that a walk has read last, also after the walk has ended. Returns `None` for a clear, and before the first read.
     ///
     /// Constant time.
     pub fn last_read(&self) -> Option<(&K, &V)>
@@ -171,13 +171,14 @@ impl<K: Drop, V: Drop, A: Allocator> Sweep<K, V, A> {
         }
     }
 
-    /// The same with the write number of the value.
+    /// Returns the pair that a walk has read last, with the write number of its value. Returns `None` for a clear, and before the first
+    /// read.
     ///
-    /// Constant time; takes no memory but for further owners of the key and the value.
+    /// Constant time. Takes no memory except for clones of the `Arc`s of the key and the value.
     ///
     /// # Errors
     ///
-    /// [`AllocError`], where such an owner is refused.
+    /// Returns [`AllocError`] if cloning one of these `Arc`s fails.
     pub fn seen(&self) -> Result<Option<Seen<K, V, A>>, AllocError>
         ensures ok { IfOk result (λ s. s ≡ self.now.last) }
         ensures err { OnErr result (IsSome self.now.last) }
@@ -188,7 +189,7 @@ impl<K: Drop, V: Drop, A: Allocator> Sweep<K, V, A> {
         }
     }
 
-    /// The step at the control: the first one, or of a clear the last one, which counts the pairs that it wiped.
+    /// Does the step at the control: the first step, or the last step of a clear, which counts the pairs that it removed.
     ///
     /// Constant time.
     pub fn on_control(&mut self, control: &mut Control) -> Event
@@ -207,7 +208,7 @@ impl<K: Drop, V: Drop, A: Allocator> Sweep<K, V, A> {
         Event::Silent
     }
 
-    /// Whether the next step only asks the control for the published table.
+    /// Returns `true` if the next step only asks the control for the published table.
     ///
     /// Constant time.
     pub fn sets_out(&self) -> bool
@@ -216,7 +217,8 @@ impl<K: Drop, V: Drop, A: Allocator> Sweep<K, V, A> {
         matches!(self.stage, Stage::Outset)
     }
 
-    /// That step, at a table that a control has published: the call goes on to its first bin.
+    /// Does the step that asks for the published table, at the published table `start` instead of the control. The call goes on to the
+    /// first bin of that table.
     ///
     /// Constant time.
     pub fn on_start(&mut self, start: &PublishedTable) -> Event
@@ -232,10 +234,10 @@ impl<K: Drop, V: Drop, A: Allocator> Sweep<K, V, A> {
 }
 
 impl<K: Ord + Drop, V: Drop, A: Allocator> Sweep<K, V, A> {
-    /// The step of a walk at its slot.
+    /// Does the step of a walk at its slot.
     ///
-    /// As many steps as a look-up in the bin; takes no memory but for further owners of a key and a value. Where one is refused, the
-    /// walk has ended, and what it read before stays ([`Event::Refused`]).
+    /// Takes as many steps as a look-up in the bin. Takes no memory except for clones of the `Arc`s of a key and a value. If cloning one
+    /// of them fails, returns [`Event::Refused`]; the walk has then ended, and what it read before remains.
     pub fn on_look(&mut self, slot: &Slot<K, V, A>) -> Event
         requires { swept_part self.old ≡ LookPart slot.now.table slot.now.index }
         ensures within { IsSlot K.cmp slot.now }
@@ -251,9 +253,9 @@ impl<K: Ord + Drop, V: Drop, A: Allocator> Sweep<K, V, A> {
         event
     }
 
-    /// The step of a clear at its slot.
+    /// Does the step of a clear at its slot.
     ///
-    /// Linear time in the bin; takes no memory, and is never refused.
+    /// Linear in the number of entries of the bin. Takes no memory, and never fails.
     pub fn on_bin(&mut self, slot: &mut Slot<K, V, A>) -> Event
         requires { swept_part self.old ≡ BinPart slot.old.table slot.old.index }
         ensures within { IsSlot K.cmp slot.old }
@@ -273,7 +275,7 @@ impl<K: Ord + Drop, V: Drop, A: Allocator> Sweep<K, V, A> {
     }
 }
 
-// Goes to the first bin of the published table; without one the call has ended.
+// The stage at the first bin of the published table, or the end of the call if there is no such table.
 fn set_out<K: Drop, V: Drop, A: Allocator>(published: Option<u8>) -> Stage<K, V, A>
     requires { IfSome published (λ e. e ≤ GREATEST_TABLE) }
     ensures { stage_of result ≡ set_out_at published }

@@ -17,7 +17,7 @@ use std::alloc::{AllocError, Allocator};
 use std::mem;
 use std::sync::Arc;
 
-// Reads an entry, past which the cursor goes on.
+// Reads an entry, and moves the cursor past it.
 fn read<K: Drop, V: Drop, A: Allocator>(
     cursor: &mut Cursor<K, A>,
     entry: &Entry<K, V, A>,
@@ -32,7 +32,7 @@ fn read<K: Drop, V: Drop, A: Allocator>(
     Ok(seen)
 }
 
-// The step of a walk, and its reply where it has ended.
+// Does the step of a walk. Returns its reply if it has ended, and what the step did.
 pub(super) fn step_walk<K: Ord + Drop, V: Drop, A: Allocator>(
     cursor: &mut Cursor<K, A>,
     last: &mut Option<Seen<K, V, A>>,
@@ -66,7 +66,7 @@ pub(super) fn step_walk<K: Ord + Drop, V: Drop, A: Allocator>(
     }
 }
 
-// The step of a clear that has wiped so many pairs, and whether it goes on.
+// Does the step of a clear that has removed `wiped` pairs. Returns whether it goes on, and what the step did.
 pub(super) fn step_clear<K: Ord + Drop, V: Drop, A: Allocator>(
     cursor: &mut Cursor<K, A>,
     wiped: &mut usize,
