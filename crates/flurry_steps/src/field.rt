@@ -9,30 +9,36 @@ use flurry_control::Room;
 use flurry_slots::ComputeFn;
 use std::alloc::Allocator;
 
-/// Lends the part of a map that a call wants to exactly one step of that call, and answers what the step was. A part that is not there,
-/// or a slot that stands elsewhere, is not lent; the answer is then none, and the call and the field are as they were.
+/// A place that has the parts of a map, and passes the part that a call needs to exactly one step of that call.
+///
+/// Each method returns what the step did. If the part is not there, or a slot is at another place, no step is done, and the method
+/// returns `None`; the call and the field are then unchanged.
 ///
 /// ```
 /// act(party, field)
 /// ```
 pub trait Field<K: Ord + Drop, V: Drop, A: Allocator + Copy> {
-    /// Where the control makes tables.
+    /// The room where the control makes tables.
     type Room: Room;
 
-    /// What is known of a loan: the field before, what was lent as it stood before and after the step, and the field after.
+    /// What is known of a loan, as a relation of the field before, the part as it was before and after the step, and the field after.
     ghost lends: { Self → Loan K V Self.Room → Self → Type 0 };
 
-    /// What is known where a part was not lent.
+    /// What is known if a part was not passed to a step.
     ghost lacks: { Self → Part → Type 0 };
 
-    /// Lends the control with the room where it makes tables. In its place it may lend a table that was published to a call that only
-    /// asks for the published table, and a tally to a call that counts a pair.
+    /// Passes the control, with the room where it makes tables, to the next step of `party`, and returns what the step did, or `None` if
+    /// no step was done.
+    ///
+    /// Instead of the control, it may pass a published table to a call that only asks for the published table, and a tally to a call that
+    /// counts a pair.
     fn at_control<F: ComputeFn<K, V>>(&mut self, party: &mut Party<'_, K, V, F, A>) -> Option<Event>
         requires { wanted_part party.old ≡ ControlPart }
         ensures { TurnsOrStays Self.Room.place_gives K.cmp F.changes lends lacks self.old party.old
             result self.new party.new };
 
-    /// Lends the slot of that table and index, to read it.
+    /// Passes the slot of `table` and `index`, to read it, to the next step of `party`. Returns what the step did, or `None` if no step
+    /// was done.
     fn at_look<F: ComputeFn<K, V>>(
         &mut self,
         table: u8,
@@ -43,7 +49,8 @@ pub trait Field<K: Ord + Drop, V: Drop, A: Allocator + Copy> {
         ensures { TurnsOrStays Self.Room.place_gives K.cmp F.changes lends lacks self.old party.old
             result self.new party.new };
 
-    /// Lends the slot of that table and index, to write it.
+    /// Passes the slot of `table` and `index`, to write it, to the next step of `party`. Returns what the step did, or `None` if no step
+    /// was done.
     fn at_bin<F: ComputeFn<K, V>>(
         &mut self,
         table: u8,
@@ -54,7 +61,8 @@ pub trait Field<K: Ord + Drop, V: Drop, A: Allocator + Copy> {
         ensures { TurnsOrStays Self.Room.place_gives K.cmp F.changes lends lacks self.old party.old
             result self.new party.new };
 
-    /// Lends the slot of that table and index, and its two halves in the next table, to move its bin into these.
+    /// Passes the slot of `table` and `index`, and its two halves in the next table, to the next step of `party`, which moves the bin of
+    /// the slot into the halves. Returns what the step did, or `None` if no step was done.
     fn at_move<F: ComputeFn<K, V>>(
         &mut self,
         table: u8,
@@ -66,10 +74,10 @@ pub trait Field<K: Ord + Drop, V: Drop, A: Allocator + Copy> {
             result self.new party.new };
 }
 
-/// Does the next step of a call over a field, and answers what it was. Where the call is done, or the field did not lend the part, the
-/// answer is none, and both are as they were.
+/// Does the next step of `party` over `field`, and returns what the step did. If the call is done, or the field does not pass the part,
+/// returns `None`, and both are unchanged.
 ///
-/// As many steps as the call's step takes, and whatever the field takes to lend the part.
+/// Takes as many steps as the call's step, and as many as the field needs to pass the part.
 #[inline]
 pub fn act<K: Ord + Drop, V: Drop, A: Allocator + Copy, F: ComputeFn<K, V>, X: Field<K, V, A>>(
     party: &mut Party<'_, K, V, F, A>,

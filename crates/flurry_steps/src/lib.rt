@@ -1,8 +1,8 @@
-//! One call of a shared map in steps.
+//! One call of a shared map, done in steps.
 //!
-//! A shared map is read and written by many calls at once, which agree upon its control (`flurry_control`). A [`Party`] is one call. It
-//! names the part of the map that its next step needs, is lent it, and does that step alone. A [`Field`] lends parts, wherever they are
-//! kept, and [`act`] does one step of a call over a field. Contracts see parts and calls as plain data.
+//! Many calls read and write a shared map at once, and agree on its control (`flurry_control`). A [`Party`] is one call. It says which
+//! part of the map its next step needs, borrows that part, and does that step alone. A [`Field`] gives parts, wherever they are kept, and
+//! [`act`] does one step of a call over a field. Contracts see parts and calls as plain data.
 #![tactic(auto)]
 
 pub mod field;

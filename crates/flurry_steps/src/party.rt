@@ -1,7 +1,8 @@
-//! One call of a shared map in progress, as a machine whose steps each need one part of the map.
+//! One call of a shared map in progress, as a machine each of whose steps needs one part of the map.
 //!
-//! A caller asks a [`Party`] what it wants, lends it that part, and so on until the party is done. What it does to the part, and what
-//! it becomes, are plain data in contracts; each step is one line of what a call does, whichever steps of other calls come between.
+//! A caller asks a [`Party`] which part it needs, passes that part to it, and so on until the party is done. In contracts, what a step
+//! does to the part and to the party is plain data. Each step is one line of what a call does, whichever steps of other calls come in
+//! between.
 ghost use Rattle.std.specs.Prelude.{◌≡◌, ◌<◌, ◌≤◌, ◌⊎◌, IsSome, IfNone, IfSome, IfOk, OnErr, true};
 ghost use Rattle.std.specs.Option.{option_map, option_copied};
 ghost use Rattle.flurry_slots.specs.Slot.{IsSlot, IsUnborn};
@@ -39,7 +40,7 @@ use std::marker::Model;
 
 /// One call of a shared map in progress.
 ///
-/// It goes on by its steps alone, each of which takes the part that [`Party::want`] names. A look-up makes at most 32 steps where no bin
+/// It advances only by its steps, each of which takes the part that [`Party::want`] returns. A look-up takes at most 32 steps if no bin
 /// that it meets is unborn: one at the control, and one in each of 31 tables.
 ///
 /// ```
@@ -53,10 +54,10 @@ pub struct Party<'k, K, V, F: ComputeFn<K, V>, A: Allocator = Global> {
     course: Course<'k, K, V, F, A>,
 }
 
-/// What a call is. A sweep's frames would lengthen the proofs of all other steps, so those are of a type of their own.
+/// The two kinds of calls. The frames of a sweep would lengthen the proofs of all other steps, so the two kinds are of two types.
 #[derive(Drop)]
 pub(crate) enum Course<'k, K, V, F: ComputeFn<K, V>, A: Allocator> {
-    /// One of one key, or one that makes room.
+    /// A one-key call, or a call that makes room.
     Single(Single<'k, K, V, F, A>),
     /// A walk or a clear, with the hash and the number of processors that it was given; it reads neither.
     Sweep(u64, usize, Sweep<K, V, A>),
@@ -72,7 +73,7 @@ impl<'k, K, V, F: ComputeFn<K, V>, A: Allocator> Model for Party<'k, K, V, F, A>
 }
 
 impl<'k, K, V, F: ComputeFn<K, V>, A: Allocator> Party<'k, K, V, F, A> {
-    // A call that does not go over all bins and stands there.
+    // Creates a call that does not visit all bins, at the given stage.
     fn of_stage(stage: Stage<'k, K, V, F, A>, hash: u64, processors: usize) -> Self
         requires { StageIsReady F.can_change (stage_of stage) }
         ensures { result ≡ record { hash = hash; processors = processors; stage = stage_of stage.entry } }
@@ -88,7 +89,7 @@ impl<'k, K, V, F: ComputeFn<K, V>, A: Allocator> Party<'k, K, V, F, A> {
 }
 
 impl<'k, K: Drop, V: Drop, F: ComputeFn<K, V>, A: Allocator> Party<'k, K, V, F, A> {
-    // A call without a key, before its first step.
+    // Creates a call without a key, before its first step.
     fn of_keyless(call: Keyless, hash: u64, processors: usize) -> Self
         ensures { result ≡ record { hash = hash; processors = processors; stage = keyless_stage call } }
     {
@@ -109,10 +110,12 @@ impl<'k, K: Drop, V: Drop, F: ComputeFn<K, V>, A: Allocator> Party<'k, K, V, F, 
         }
     }
 
-    /// A call before its first step, by the hash of its key and the number of processors that share the work of a growth; 0 counts
-    /// as 1. A call without a key does not read the hash.
+    /// Creates a call that has done no step yet.
     ///
-    /// Constant time; takes no memory.
+    /// `hash` is the hash of its key; a call without a key does not read it. `processors` is the number of processors that share the work
+    /// of a growth; `0` counts as 1.
+    ///
+    /// Constant time. Takes no memory.
     pub fn new(call: Call<'k, K, V, F, A>, hash: u64, processors: usize) -> Self
         requires { CallIsReady F.can_change call }
         ensures { result ≡ record { hash = hash; processors = processors; stage = first_stage call.entry } }
@@ -123,9 +126,12 @@ impl<'k, K: Drop, V: Drop, F: ComputeFn<K, V>, A: Allocator> Party<'k, K, V, F, 
         }
     }
 
-    /// The same of a call that has its key.
+    /// Creates a call that owns its key, and has done no step yet.
     ///
-    /// Constant time; takes no memory.
+    /// `hash` is the hash of its key; a call without a key does not read it. `processors` is the number of processors that share the work
+    /// of a growth; `0` counts as 1.
+    ///
+    /// Constant time. Takes no memory.
     pub fn from_owned(call: OwnedCall<K, V, F>, hash: u64, processors: usize) -> Self
         requires { OwnedIsReady F.can_change call }
         ensures { result ≡ record { hash = hash; processors = processors; stage = owned_stage call } }
@@ -136,7 +142,7 @@ impl<'k, K: Drop, V: Drop, F: ComputeFn<K, V>, A: Allocator> Party<'k, K, V, F, 
         }
     }
 
-    /// The part that the next step needs.
+    /// Returns the part of the map that the next step needs.
     ///
     /// Constant time.
     #[inline]
@@ -149,7 +155,7 @@ impl<'k, K: Drop, V: Drop, F: ComputeFn<K, V>, A: Allocator> Party<'k, K, V, F, 
         }
     }
 
-    /// The reply, from the decision or the end on until it is taken.
+    /// Returns the reply of a call that has decided or ended, until it is taken. Otherwise returns `None`.
     ///
     /// Constant time.
     pub fn reply(&self) -> Option<&Reply<K, V, A>>
@@ -161,8 +167,8 @@ impl<'k, K: Drop, V: Drop, F: ComputeFn<K, V>, A: Allocator> Party<'k, K, V, F, 
         }
     }
 
-    /// Moves the reply out of a call that is done, which stays done. Answers none exactly where the call is not done, or its reply was
-    /// taken before; the call is then as it was.
+    /// Takes the reply of a call that is done, which stays done. Returns `None` if and only if the call is not done, or its reply was
+    /// taken before; the call is then unchanged.
     ///
     /// Constant time.
     pub fn take_reply(&mut self) -> Option<Reply<K, V, A>>
@@ -176,7 +182,8 @@ impl<'k, K: Drop, V: Drop, F: ComputeFn<K, V>, A: Allocator> Party<'k, K, V, F, 
         }
     }
 
-    /// The pair that a walk has read last, which stays once it has ended; none of any other call.
+    /// Returns the pair that a walk has read last, also after the walk has ended. Returns `None` for any other call, and before the first
+    /// read.
     ///
     /// Constant time.
     pub fn last_read(&self) -> Option<(&K, &V)>
@@ -188,13 +195,14 @@ impl<'k, K: Drop, V: Drop, F: ComputeFn<K, V>, A: Allocator> Party<'k, K, V, F, 
         }
     }
 
-    /// The same with the write number of the value.
+    /// Returns the pair that a walk has read last, with the write number of its value. Returns `None` for any other call, and before the
+    /// first read.
     ///
-    /// Constant time; takes no memory but for further owners of the key and the value.
+    /// Constant time. Takes no memory except for clones of the `Arc`s of the key and the value.
     ///
     /// # Errors
     ///
-    /// [`AllocError`], where such an owner is refused.
+    /// Returns [`AllocError`] if cloning one of these `Arc`s fails.
     pub fn seen(&self) -> Result<Option<Seen<K, V, A>>, AllocError>
         ensures ok { IfOk result (λ s. s ≡ last_seen self.now.stage) }
         ensures err { OnErr result (IsSome (last_seen self.now.stage)) }
@@ -205,9 +213,9 @@ impl<'k, K: Drop, V: Drop, F: ComputeFn<K, V>, A: Allocator> Party<'k, K, V, F, 
         }
     }
 
-    /// The step at the control, with the room where tables are made.
+    /// Does the step at the control, with the room where tables are made.
     ///
-    /// Constant time, but for the making of a table.
+    /// Constant time, except for making a table.
     pub fn on_control<R: Room>(&mut self, control: &mut Control, room: &mut R) -> Event
         requires { wanted_part self.old ≡ ControlPart }
         ensures { ControlStep R.place_gives self.old control.old room.old result self.new control.new room.new }
@@ -218,7 +226,7 @@ impl<'k, K: Drop, V: Drop, F: ComputeFn<K, V>, A: Allocator> Party<'k, K, V, F, 
         }
     }
 
-    /// Whether the next step only asks the control for the published table.
+    /// Returns `true` if the next step only asks the control for the published table.
     ///
     /// Constant time.
     #[inline]
@@ -231,7 +239,8 @@ impl<'k, K: Drop, V: Drop, F: ComputeFn<K, V>, A: Allocator> Party<'k, K, V, F, 
         }
     }
 
-    /// That step, at a table that a control has published: the call goes on to its bin there, or to the first one.
+    /// Does the step that asks for the published table, at the published table `start` instead of the control. The call goes on to its
+    /// bin in that table, or, if it visits all bins, to the first one.
     ///
     /// Constant time.
     #[inline]
@@ -247,7 +256,7 @@ impl<'k, K: Drop, V: Drop, F: ComputeFn<K, V>, A: Allocator> Party<'k, K, V, F, 
         }
     }
 
-    /// Whether the next step counts one pair, which the call has put or removed.
+    /// Returns `true` if the next step counts one pair, which the call has inserted or removed.
     ///
     /// Constant time.
     #[inline]
@@ -260,8 +269,8 @@ impl<'k, K: Drop, V: Drop, F: ComputeFn<K, V>, A: Allocator> Party<'k, K, V, F, 
         }
     }
 
-    /// That step, at a tally in the control's place. A call that put a pair looks at the control's count next where at least so many
-    /// pairs wait at the tally then; any other call is done.
+    /// Does the step that counts one pair, at a tally instead of the control. If the call inserted a pair and at least `most` pairs then
+    /// wait at the tally, it looks at the control's count next; otherwise the call is done.
     ///
     /// Constant time.
     pub fn on_tally(&mut self, tally: &mut Tally, most: i64) -> Event
@@ -274,7 +283,7 @@ impl<'k, K: Drop, V: Drop, F: ComputeFn<K, V>, A: Allocator> Party<'k, K, V, F, 
         }
     }
 
-    /// The hash that the call was made with.
+    /// Returns the hash that the call was created with.
     ///
     /// Constant time.
     #[inline]
@@ -289,9 +298,9 @@ impl<'k, K: Drop, V: Drop, F: ComputeFn<K, V>, A: Allocator> Party<'k, K, V, F, 
 }
 
 impl<'k, K: Ord + Drop, V: Drop, F: ComputeFn<K, V>, A: Allocator> Party<'k, K, V, F, A> {
-    /// The step of a look-up or a walk at its slot. A look-up has fewer steps left than before, unless the bin is unborn.
+    /// Does the step of a look-up or a walk at its slot. A look-up has fewer steps left than before, unless the bin is unborn.
     ///
-    /// As many steps as a look-up in the bin.
+    /// Takes as many steps as a look-up in the bin.
     pub fn on_look(&mut self, slot: &Slot<K, V, A>) -> Event
         requires { wanted_part self.old ≡ LookPart slot.now.table slot.now.index }
         ensures within { IsSlot K.cmp slot.now }
@@ -305,9 +314,9 @@ impl<'k, K: Ord + Drop, V: Drop, F: ComputeFn<K, V>, A: Allocator> Party<'k, K, 
         }
     }
 
-    /// The step of a helper at a slot and its two halves in the next table.
+    /// Does the step of a helper at a slot and its two halves in the next table.
     ///
-    /// Linear time in the bin; takes no memory.
+    /// Linear in the number of entries of the bin. Takes no memory.
     pub fn on_move(
         &mut self,
         old: &mut Slot<K, V, A>,
@@ -326,9 +335,9 @@ impl<'k, K: Ord + Drop, V: Drop, F: ComputeFn<K, V>, A: Allocator> Party<'k, K, 
 }
 
 impl<'k, K: Ord + Drop, V: Drop, F: ComputeFn<K, V>, A: Allocator + Copy> Party<'k, K, V, F, A> {
-    /// The step at its slot of a call that may change it.
+    /// Does the step, at its slot, of a call that may change its bin.
     ///
-    /// As many steps as a look-up in the bin; of a clear linear time in the bin.
+    /// Takes as many steps as a look-up in the bin. For a clear, linear in the number of entries of the bin.
     pub fn on_bin(&mut self, alloc: A, slot: &mut Slot<K, V, A>) -> Event
         requires { wanted_part self.old ≡ BinPart slot.old.table slot.old.index }
         ensures within { IsSlot K.cmp slot.old }

@@ -16,7 +16,7 @@ use flurry_model::sizes::FIRST_TABLE;
 use flurry_slots::ComputeFn;
 use std::alloc::Allocator;
 
-// The step of a call that is at the control.
+// Does the step of a call that is at the control. Returns the stage after it, and what the step did.
 pub(super) fn step_control<'k, K: Drop, V: Drop, F: ComputeFn<K, V>, A: Allocator, R: Room>(
     stage: Stage<'k, K, V, F, A>,
     processors: usize,
@@ -46,7 +46,7 @@ pub(super) fn step_control<'k, K: Drop, V: Drop, F: ComputeFn<K, V>, A: Allocato
     }
 }
 
-// What a call that seeks this answers where the key is absent.
+// The reply of a call that looks for `sought` if the key is absent.
 pub(super) fn absent_reply<K, V, A: Allocator>(sought: Sought) -> Reply<K, V, A>
     ensures { outcome_of result ≡ OutcomeReply (reply_for (sought_of sought) None) }
 {

@@ -22,7 +22,7 @@ use flurry_slots::{Added, Answer, ComputeFn, Computed, Slot, Written};
 use std::alloc::{AllocError, Allocator};
 use std::sync::Arc;
 
-// What a look-up answers of an entry.
+// The reply of a look-up that finds `entry`.
 fn reply_of<K: Drop, V: Drop, A: Allocator>(
     sought: Sought,
     entry: &Entry<K, V, A>,
@@ -42,7 +42,7 @@ fn reply_of<K: Drop, V: Drop, A: Allocator>(
     }
 }
 
-// The step of a look-up.
+// Does the step of a look-up. Returns the stage after it, and what the step did.
 pub(super) fn step_lookup<'k, K: Ord + Drop, V: Drop, F: ComputeFn<K, V>, A: Allocator>(
     hash: u64,
     sought: Sought,
@@ -73,7 +73,7 @@ pub(super) fn step_lookup<'k, K: Ord + Drop, V: Drop, F: ComputeFn<K, V>, A: All
     }
 }
 
-// The step of a call that may change its bin.
+// Does the step of a call that may change its bin. Returns the stage after it, and what the step did.
 #[inline(always)]
 pub(super) fn step_write<'k, K: Ord + Drop, V: Drop, F: ComputeFn<K, V>, A: Allocator + Copy>(
     alloc: A,
@@ -103,7 +103,7 @@ pub(super) fn step_write<'k, K: Ord + Drop, V: Drop, F: ComputeFn<K, V>, A: Allo
     }
 }
 
-// What a removal answers of the entry that it took out.
+// The reply of a removal that has removed `entry`.
 fn owned_reply<K: Drop, V: Drop, A: Allocator>(
     sought: Sought,
     entry: Entry<K, V, A>,
@@ -174,7 +174,7 @@ fn remove_seen<'k, K: Ord + Drop, V: Drop, F: ComputeFn<K, V>, A: Allocator>(
     }
 }
 
-// Where a call goes on that put a new key into a bin of this table: it is counted, once the growth that is asked for is done.
+// The stage of a call that inserted a new key into a bin of `table`: the pair is counted, after the growth if one is asked for.
 fn after_new_pair<'k, K, V, F: ComputeFn<K, V>, A: Allocator>(
     table: u8,
     reply: Reply<K, V, A>,

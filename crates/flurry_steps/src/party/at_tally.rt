@@ -10,7 +10,7 @@ use flurry_control::Tally;
 use flurry_slots::ComputeFn;
 use std::alloc::Allocator;
 
-// The stage after the step at a tally.
+// Does the step at a tally, and returns the stage after it.
 pub(super) fn step_tally<'k, K: Drop, V: Drop, F: ComputeFn<K, V>, A: Allocator>(
     stage: Stage<'k, K, V, F, A>,
     tally: &mut Tally,

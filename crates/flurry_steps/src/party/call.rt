@@ -15,34 +15,34 @@ use std::alloc::{Allocator, Global};
 /// ```
 #[derive(Drop)]
 pub enum Call<'k, K, V, F, A: Allocator = Global> {
-    /// The value of a key.
+    /// A look-up of the value of a key.
     Get(&'k K),
-    /// The stored key and the value of a key.
+    /// A look-up of the stored key and the value of a key.
     GetKeyValue(&'k K),
-    /// Whether a key is present.
+    /// A check whether a key is present.
     ContainsKey(&'k K),
-    /// Removes the pair of a key, and answers its value.
+    /// A removal of the pair of a key, which returns the value.
     Remove(&'k K),
-    /// Removes the pair of a key, and answers the stored key and the value.
+    /// A removal of the pair of a key, which returns the stored key and the value.
     RemoveEntry(&'k K),
-    /// Removes a pair that a walk has read exactly if its value still stands as it was read, and answers it.
+    /// A removal of a pair that a walk has read, if and only if its value is still as it was read. It returns the value.
     RemoveSeen(Seen<K, V, A>),
-    /// Puts a value at a key, and answers the value before.
+    /// An insertion of a value at a key, which returns the value that the key had.
     Insert(K, V),
-    /// Puts a value at a key that is absent.
+    /// An insertion of a value at a key, if the key is absent.
     TryInsert(K, V),
-    /// Calls the function on the pair of a key that is present, and puts its answer in the value's place, or removes the pair where
-    /// that is none. Answers the new value.
+    /// A call of the function on the pair of a present key. The value that it returns replaces the value of the key; if it returns
+    /// `None`, the pair is removed. The call returns the new value.
     Compute(&'k K, F),
-    /// Makes room for so many pairs more.
+    /// A reservation of room for the given number of additional pairs.
     Reserve(usize),
-    /// Removes all pairs, one bin after another.
+    /// A removal of all pairs, one bin after another.
     Clear,
-    /// Reads all pairs, one after another.
+    /// A walk, which reads all pairs, one after another.
     Walk,
 }
 
-/// A call of a shared map that has its key, as a list of calls keeps it.
+/// A call of a shared map that owns its key, as a list of calls keeps it.
 ///
 /// ```
 /// let party = world.begin(OwnedCall::Insert(key, value))?;
@@ -52,31 +52,31 @@ pub enum Call<'k, K, V, F, A: Allocator = Global> {
 /// ```
 #[derive(Clone, Copy, Debug)]
 pub enum OwnedCall<K, V, F> {
-    /// [`Call::Get`].
+    /// A look-up of the value of a key, as [`Call::Get`].
     Get(K),
-    /// [`Call::GetKeyValue`].
+    /// A look-up of the stored key and the value of a key, as [`Call::GetKeyValue`].
     GetKeyValue(K),
-    /// [`Call::ContainsKey`].
+    /// A check whether a key is present, as [`Call::ContainsKey`].
     ContainsKey(K),
-    /// [`Call::Remove`].
+    /// A removal of the pair of a key, as [`Call::Remove`].
     Remove(K),
-    /// [`Call::RemoveEntry`].
+    /// A removal of the pair of a key, as [`Call::RemoveEntry`].
     RemoveEntry(K),
-    /// [`Call::Insert`].
+    /// An insertion of a value at a key, as [`Call::Insert`].
     Insert(K, V),
-    /// [`Call::TryInsert`].
+    /// An insertion of a value at a key, if the key is absent, as [`Call::TryInsert`].
     TryInsert(K, V),
-    /// [`Call::Compute`].
+    /// A call of a function on the pair of a present key, as [`Call::Compute`].
     Compute(K, F),
-    /// [`Call::Reserve`].
+    /// A reservation of room for the given number of additional pairs, as [`Call::Reserve`].
     Reserve(usize),
-    /// [`Call::Clear`].
+    /// A removal of all pairs, as [`Call::Clear`].
     Clear,
-    /// [`Call::Walk`].
+    /// A walk, as [`Call::Walk`].
     Walk,
 }
 
-/// A key that is lent for the time of a call, or is the call's own.
+/// A key that is borrowed for the time of a call, or that the call owns.
 #[derive(Drop)]
 pub(crate) enum Key<'k, K> {
     Lent(&'k K),
@@ -94,18 +94,18 @@ impl<'k, K> Key<'k, K> {
     }
 }
 
-/// What of the entry of a key a call answers.
+/// What a call returns of the entry of a key.
 #[derive(Clone, Copy, Drop)]
 pub(crate) enum Sought {
-    /// Its value.
+    /// The value.
     Value,
     /// The stored key and the value.
     Pair,
-    /// Whether there is one.
+    /// Whether there is an entry.
     Presence,
 }
 
-/// A call of one key that did not decide yet.
+/// A one-key call that has not decided yet.
 #[derive(Drop)]
 pub(crate) enum Task<'k, K, V, F, A: Allocator> {
     Find(Sought, Key<'k, K>),

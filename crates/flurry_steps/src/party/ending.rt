@@ -24,22 +24,23 @@ use std::marker::Model;
 /// ```
 #[derive(Clone, Copy, Drop)]
 pub enum Rest {
-    /// Nothing: it is done.
+    /// Nothing: the call is done.
     Nothing,
-    /// It counts the pair that it put.
+    /// Counting the pair that it inserted.
     Count,
-    /// It counts the pair that it removed.
+    /// Counting the pair that it removed.
     Uncount,
-    /// It counts nothing, and hears what is to be done.
+    /// Asking what is to be done, without counting a pair.
     Recount,
-    /// It begins a growth on the way to that table, and counts the pair that it put.
+    /// Beginning a growth on the way to the given table, and then counting the pair that it inserted.
     Grow(u8),
 }
 
-/// A call whose reply is known: it has decided, and may have more to do, or it was refused. A call's first steps alone make one.
+/// A call whose reply is known: it has decided, and may have more to do, or memory for it could not be allocated. Only the first steps of
+/// a call make one.
 ///
-/// It is smaller than a [`Party`]. It has neither the hash of its key nor the number of processors that share the work of a growth; it
-/// is given again those with which it began.
+/// It is smaller than a [`Party`]. It has neither the hash of its key nor the number of processors that share the work of a growth;
+/// [`Ending::into_party`] takes them again, as they were when the call started.
 ///
 /// ```
 /// match ending.into_reply() {
@@ -66,7 +67,7 @@ impl<K, V, A: Allocator> Model for Ending<K, V, A> {
 }
 
 impl<K, V, A: Allocator> Ending<K, V, A> {
-    // The same of where a call stands.
+    // Creates the ending of a call at the given stage.
     pub(super) fn of_stage<'k, F: ComputeFn<K, V>>(stage: Stage<'k, K, V, F, A>) -> Self
         requires ready { StageIsReady F.can_change (stage_of stage) }
         requires decided { HasDecided (stage_of stage) }
@@ -83,7 +84,7 @@ impl<K, V, A: Allocator> Ending<K, V, A> {
         Ending { rest, reply }
     }
 
-    // Where the call stands.
+    // The stage of the call.
     pub(super) fn into_stage<'k, F: ComputeFn<K, V>>(self) -> Stage<'k, K, V, F, A>
         ensures ready { StageIsReady F.can_change (stage_of result) }
         ensures stage { stage_of result ≡ ending_stage self }
@@ -98,7 +99,7 @@ impl<K, V, A: Allocator> Ending<K, V, A> {
         }
     }
 
-    /// Whether it counts a pair next.
+    /// Returns `true` if the call counts a pair next.
     ///
     /// Constant time.
     #[inline]
@@ -108,7 +109,8 @@ impl<K, V, A: Allocator> Ending<K, V, A> {
         matches!(self.rest, Rest::Count | Rest::Uncount)
     }
 
-    /// The step at a tally in the control's place, as of [`Party::on_tally`].
+    /// Does the step that counts one pair, at a tally instead of the control, as [`Party::on_tally`] does. If the call inserted a pair
+    /// and at least `most` pairs then wait at the tally, it looks at the control's count next; otherwise the call is done.
     ///
     /// Constant time.
     pub fn on_tally<F: ComputeFn<K, V>>(&mut self, tally: &mut Tally, most: i64)
@@ -128,9 +130,13 @@ impl<K, V, A: Allocator> Ending<K, V, A> {
         }
     }
 
-    /// The reply of a call that is done; else the call comes back.
+    /// Returns the reply of a call that is done.
     ///
     /// Constant time.
+    ///
+    /// # Errors
+    ///
+    /// Returns the call, unchanged, if it is not done.
     pub fn into_reply(self) -> Result<Reply<K, V, A>, Self>
         ensures { MatchResult result (λ r. self ≡ record { rest = rest.Nothing; reply = outcome_of r })
             (λ e. (e ≡ self) × (self.rest ≡ rest.Nothing → ⊥)) }
@@ -141,7 +147,7 @@ impl<K, V, A: Allocator> Ending<K, V, A> {
         }
     }
 
-    /// The call itself, which goes on step by step.
+    /// Converts the call into a [`Party`], which goes on step by step. `hash` and `processors` are those with which the call started.
     ///
     /// Constant time.
     pub fn into_party<'k, F: ComputeFn<K, V>>(

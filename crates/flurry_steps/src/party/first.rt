@@ -1,4 +1,4 @@
-//! The first two steps of a call at once.
+//! The first two steps of a call, done at once.
 ghost use Rattle.std.specs.Prelude.{◌≡◌, MatchResult, true};
 ghost use Rattle.flurry_slots.specs.Slot.{IsSlot, is_live};
 ghost use Rattle.flurry_steps.specs.FirstSteps.{BeginsAt, begun_at};
@@ -25,7 +25,7 @@ pub(crate) enum Keyless {
     Walk,
 }
 
-// The task of a call of one key.
+// The task of a one-key call, or the call without a key.
 pub(super) fn task_for<'k, K, V, F, A: Allocator>(
     call: Call<'k, K, V, F, A>,
 ) -> Result<Task<'k, K, V, F, A>, Keyless>
@@ -48,7 +48,7 @@ pub(super) fn task_for<'k, K, V, F, A: Allocator>(
     }
 }
 
-// The same of a call that has its key.
+// The task of a one-key call that owns its key, or the call without a key.
 pub(super) fn task_of_owned<'k, K, V, F, A: Allocator>(
     call: OwnedCall<K, V, F>,
 ) -> Result<Task<'k, K, V, F, A>, Keyless>
@@ -71,10 +71,10 @@ pub(super) fn task_of_owned<'k, K, V, F, A: Allocator>(
 }
 
 impl<'k, K: Ord + Drop, V: Drop, F: ComputeFn<K, V>, A: Allocator> Party<'k, K, V, F, A> {
-    /// The first two steps of a look-up at once, that at a published table and that at its slot there, where the bin is live. Answers
-    /// its reply, since it is done by them.
+    /// Does at once the first two steps of a look-up: the step at the published table `start`, and the step at the slot there, whose bin
+    /// is live. Returns the reply, since these steps finish the call.
     ///
-    /// As many steps as a look-up in the bin.
+    /// Takes as many steps as a look-up in the bin.
     pub fn look_first(
         call: Call<'k, K, V, F, A>,
         hash: u64,
@@ -101,9 +101,10 @@ impl<'k, K: Ord + Drop, V: Drop, F: ComputeFn<K, V>, A: Allocator> Party<'k, K, 
 }
 
 impl<'k, K: Ord + Drop, V: Drop, F: ComputeFn<K, V>, A: Allocator + Copy> Party<'k, K, V, F, A> {
-    /// The same of a call that may change its bin. It has decided then, or is refused.
+    /// Does at once the first two steps of a call that may change its bin: the step at the published table `start`, and the step at the
+    /// slot there, whose bin is live. The call has then decided, or memory for it could not be allocated.
     ///
-    /// As many steps as a look-up in the bin.
+    /// Takes as many steps as a look-up in the bin.
     #[inline(always)]
     pub fn write_first(
         call: Call<'k, K, V, F, A>,

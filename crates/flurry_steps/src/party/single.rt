@@ -1,4 +1,4 @@
-//! A call in progress of one key, or one that makes room.
+//! A one-key call in progress, or a call in progress that makes room.
 ghost use Rattle.std.specs.Prelude.{◌≡◌, ◌<◌, ◌≤◌, ◌⊎◌, IfNone, IfSome, true};
 ghost use Rattle.std.specs.Option.{option_map, option_copied};
 ghost use Rattle.flurry_slots.specs.Slot.{IsSlot, IsUnborn};
@@ -26,12 +26,12 @@ use std::alloc::Allocator;
 use std::marker::Model;
 use std::mem;
 
-// A call in progress that does not go over all bins: one of one key, or one that makes room.
+// A call in progress that does not visit all bins: a one-key call, or a call that makes room.
 #[derive(Drop)]
 pub(crate) struct Single<'k, K, V, F: ComputeFn<K, V>, A: Allocator> {
     pub(super) hash: u64,
     pub(super) processors: usize,
-    // A stage is put in its place by `mem::replace`, and the one before goes to `drop`: at an assignment the proof would go through all
+    // A stage is set by `mem::replace`, and the stage before is passed to `drop`: for an assignment the proof would go through everything
     // that a stage can hold.
     pub(super) stage: Stage<'k, K, V, F, A>,
 }
@@ -48,7 +48,7 @@ impl<'k, K, V, F: ComputeFn<K, V>, A: Allocator> Model for Single<'k, K, V, F, A
 }
 
 impl<'k, K: Drop, V: Drop, F: ComputeFn<K, V>, A: Allocator> Single<'k, K, V, F, A> {
-    // The part that the next step needs.
+    // The part of the map that the next step needs.
     #[inline]
     pub(super) fn want(&self) -> Want
         ensures { part_of_want result ≡ wanted_part self.now }
@@ -70,7 +70,7 @@ impl<'k, K: Drop, V: Drop, F: ComputeFn<K, V>, A: Allocator> Single<'k, K, V, F,
         }
     }
 
-    // The reply, from the decision or the end on until it is taken.
+    // The reply of a call that has decided or ended, until it is taken.
     pub(super) fn reply(&self) -> Option<&Reply<K, V, A>>
         ensures { option_map outcome_of (option_copied result) ≡ outcome_in self.now.stage }
     {
@@ -89,8 +89,8 @@ impl<'k, K: Drop, V: Drop, F: ComputeFn<K, V>, A: Allocator> Single<'k, K, V, F,
         }
     }
 
-    // Moves the reply out of a call that is done, which stays done. Answers none exactly where the call is not done, or its reply was
-    // taken before; the call is then as it was.
+    // Takes the reply of a call that is done, which stays done. Returns `None` if and only if the call is not done, or its reply was
+    // taken before; the call is then unchanged.
     pub(super) fn take_reply(&mut self) -> Option<Reply<K, V, A>>
         ensures value { option_map outcome_of result ≡ final_outcome self.old.stage }
         ensures none { IfNone result (self.new ≡ self.old) }
@@ -105,7 +105,7 @@ impl<'k, K: Drop, V: Drop, F: ComputeFn<K, V>, A: Allocator> Single<'k, K, V, F,
         }
     }
 
-    // No call but a walk reads.
+    // Returns `None`, since only a walk reads pairs.
     pub(super) fn last_read(&self) -> Option<(&K, &V)>
         ensures { option_map (λ p. (p.0.now, p.1.now)) result ≡ option_map pair_seen (last_seen self.now.stage) }
     {
@@ -114,7 +114,7 @@ impl<'k, K: Drop, V: Drop, F: ComputeFn<K, V>, A: Allocator> Single<'k, K, V, F,
         }
     }
 
-    // The same with the write number.
+    // Returns `None`, since only a walk reads pairs.
     pub(super) fn seen(&self) -> Option<Seen<K, V, A>>
         ensures { result ≡ last_seen self.now.stage }
     {
@@ -123,7 +123,7 @@ impl<'k, K: Drop, V: Drop, F: ComputeFn<K, V>, A: Allocator> Single<'k, K, V, F,
         }
     }
 
-    // The step at the control, with the room where tables are made.
+    // Does the step at the control, with the room where tables are made.
     pub(super) fn on_control<R: Room>(&mut self, control: &mut Control, room: &mut R) -> Event
         requires { wanted_part self.old ≡ ControlPart }
         ensures { ControlStep R.place_gives self.old control.old room.old result self.new control.new room.new }
@@ -142,7 +142,7 @@ impl<'k, K: Drop, V: Drop, F: ComputeFn<K, V>, A: Allocator> Single<'k, K, V, F,
         matches!(self.stage, Stage::Locate(_))
     }
 
-    // That step, at a table that a control has published: the call goes on to its bin there.
+    // Does the step that asks for the published table, at the published table `start`. The call goes on to its bin in that table.
     #[inline]
     pub(super) fn on_start(&mut self, start: &PublishedTable) -> Event
         requires { locates self.old.stage ≡ true }
@@ -162,7 +162,7 @@ impl<'k, K: Drop, V: Drop, F: ComputeFn<K, V>, A: Allocator> Single<'k, K, V, F,
 }
 
 impl<'k, K: Ord + Drop, V: Drop, F: ComputeFn<K, V>, A: Allocator> Single<'k, K, V, F, A> {
-    // The step of a look-up at its slot. Unless the bin is unborn, fewer steps are left than before.
+    // Does the step of a look-up at its slot. Unless the bin is unborn, fewer steps are left than before.
     pub(super) fn on_look(&mut self, slot: &Slot<K, V, A>) -> Event
         requires { wanted_part self.old ≡ LookPart slot.now.table slot.now.index }
         ensures within { IsSlot K.cmp slot.now }
@@ -182,7 +182,7 @@ impl<'k, K: Ord + Drop, V: Drop, F: ComputeFn<K, V>, A: Allocator> Single<'k, K,
         event
     }
 
-    // The step of a helper at a slot and its two halves in the next table.
+    // Does the step of a helper at a slot and its two halves in the next table.
     pub(super) fn on_move(
         &mut self,
         old: &mut Slot<K, V, A>,
@@ -212,7 +212,7 @@ impl<'k, K: Ord + Drop, V: Drop, F: ComputeFn<K, V>, A: Allocator> Single<'k, K,
 }
 
 impl<'k, K: Ord + Drop, V: Drop, F: ComputeFn<K, V>, A: Allocator + Copy> Single<'k, K, V, F, A> {
-    // The step at its slot of a call that may change it.
+    // Does the step, at its slot, of a call that may change its bin.
     pub(super) fn on_bin(&mut self, alloc: A, slot: &mut Slot<K, V, A>) -> Event
         requires { wanted_part self.old ≡ BinPart slot.old.table slot.old.index }
         ensures within { IsSlot K.cmp slot.old }
@@ -230,7 +230,7 @@ impl<'k, K: Ord + Drop, V: Drop, F: ComputeFn<K, V>, A: Allocator + Copy> Single
 }
 
 impl<'k, K: Drop, V: Drop, F: ComputeFn<K, V>, A: Allocator> Single<'k, K, V, F, A> {
-    // Whether the next step counts one pair, which the call has put or removed.
+    // Whether the next step counts one pair, which the call has inserted or removed.
     #[inline]
     pub(super) fn counts(&self) -> bool
         ensures { result ≡ counts self.now.stage }
@@ -238,8 +238,8 @@ impl<'k, K: Drop, V: Drop, F: ComputeFn<K, V>, A: Allocator> Single<'k, K, V, F,
         matches!(self.stage, Stage::Count(_) | Stage::Uncount(_))
     }
 
-    // That step, at a tally in the control's place. A call that put a pair looks at the control's count next where at least so many
-    // pairs wait at the tally then; any other call is done.
+    // Does the step that counts one pair, at a tally instead of the control. If the call inserted a pair and at least `most` pairs then
+    // wait at the tally, it looks at the control's count next; otherwise the call is done.
     pub(super) fn on_tally(&mut self, tally: &mut Tally, most: i64) -> Event
         requires { counts self.old.stage ≡ true }
         ensures { TallyStep most self.old tally.old result self.new tally.new }
@@ -250,7 +250,7 @@ impl<'k, K: Drop, V: Drop, F: ComputeFn<K, V>, A: Allocator> Single<'k, K, V, F,
         Event::Silent
     }
 
-    // The hash that the call was made with.
+    // The hash that the call was created with.
     #[inline]
     pub(super) fn hash(&self) -> u64
         ensures { result ≡ self.now.hash }

@@ -1,4 +1,4 @@
-//! Where a call stands between its steps.
+//! The stages of a call between its steps.
 ghost use Rattle.std.specs.Prelude.{◌≡◌};
 ghost use Rattle.flurry_steps.specs.Party.{StageIsReady, GrowForIsReady};
 ghost use Rattle.flurry_steps.specs.PartyControl.{stage_grown};
@@ -13,7 +13,7 @@ use std::alloc::Allocator;
 /// What a table is made larger for.
 #[derive(Drop)]
 pub(crate) enum GrowFor<K, V, A: Allocator> {
-    /// An insertion, which has this reply.
+    /// An insertion, with its reply.
     Insert(Reply<K, V, A>),
     Reserve,
 }
@@ -21,47 +21,47 @@ pub(crate) enum GrowFor<K, V, A: Allocator> {
 /// What a call goes on with when it stops helping.
 #[derive(Drop)]
 pub(crate) enum Resume<'k, K, V, F, A: Allocator> {
-    /// Its bin in that table.
+    /// Its bin in the given table.
     Bin(Task<'k, K, V, F, A>, u8),
     /// Another look at the count.
     Recount(Reply<K, V, A>),
-    /// Growing to that table.
+    /// Growing to the given table.
     Grow(u8, GrowFor<K, V, A>),
 }
 
-/// Where a call stands.
+/// The stage of a call.
 #[derive(Drop)]
 pub(crate) enum Stage<'k, K, V, F, A: Allocator> {
-    /// It asks for the published table.
+    /// Asking for the published table.
     Locate(Task<'k, K, V, F, A>),
-    /// It goes to its bin in that table.
+    /// Going to its bin in the given table.
     Bin(Task<'k, K, V, F, A>, u8),
-    /// It claims bins to move.
+    /// Claiming bins to move.
     Claim(Resume<'k, K, V, F, A>),
-    /// It moves those bins, and reports once all have moved.
+    /// Moving the claimed bins, and reporting the claim once all of them have moved.
     Move(Claim, Resume<'k, K, V, F, A>),
-    /// It counts the pair that it removed.
+    /// Counting the pair that it removed.
     Uncount(Reply<K, V, A>),
-    /// It counts the pair that it put.
+    /// Counting the pair that it inserted.
     Count(Reply<K, V, A>),
-    /// It counts nothing, and hears what is to be done.
+    /// Asking what is to be done, without counting a pair.
     Recount(Reply<K, V, A>),
-    /// It begins a growth from that table.
+    /// Beginning a growth from the given table.
     Begin(u8, Reply<K, V, A>),
-    /// It begins a growth on the way to that table.
+    /// Beginning a growth on the way to the given table.
     Grow(u8, GrowFor<K, V, A>),
-    /// It makes room for so many pairs more.
+    /// Making room for the given number of additional pairs.
     Reserve(usize),
-    /// It has ended, and its reply was not taken yet.
+    /// The end, with a reply that has not been taken yet.
     Done(Reply<K, V, A>),
-    /// Its reply was taken.
+    /// The end, after the reply was taken.
     Taken,
 }
 
 impl<'k, K, V, F, A: Allocator> Resume<'k, K, V, F, A> {
     ghost use Rattle.flurry_steps.specs.Party.{resumed_stage};
 
-    // Where the call goes on when helping ends.
+    // The stage at which the call goes on when helping ends.
     pub(super) fn resume(self) -> Stage<'k, K, V, F, A>
         ensures { stage_of result ≡ resumed_stage (resume_of self.entry) }
     {
@@ -74,7 +74,7 @@ impl<'k, K, V, F, A: Allocator> Resume<'k, K, V, F, A> {
 }
 
 impl<K, V, A: Allocator> GrowFor<K, V, A> {
-    // Where the call goes on when growing ends.
+    // The stage at which the call goes on when growing ends.
     pub(super) fn end<'k, F: ComputeFn<K, V>>(self) -> Stage<'k, K, V, F, A>
         requires { GrowForIsReady (grow_for_of self) }
         ensures ready { StageIsReady F.can_change (stage_of result) }
