@@ -1,4 +1,4 @@
-//! The laws over every run, and that their finite map is the owned map's.
+//! The laws over every run, and that their finite map is that of the owned map.
 ghost use Rattle.std.specs.Prelude.{◌≡◌, ℕ, pos, neg_ℤ, ◌≤ℤ◌, Bool, true, ◌<◌, ◌≤◌, List, ◌++◌, length, Option, Some, None, if◌then◌else◌};
 ghost use Rattle.flurry_model.specs.declared.reply.KeptReply.{KeptReply};
 ghost use Rattle.flurry_model.specs.FiniteMap.{IsFiniteMap, map_of_pairs};
@@ -11,11 +11,14 @@ ghost use Rattle.flurry_theory.specs.Machine.{Finished, Transition, WasPublished
 ghost use Rattle.flurry_theory.specs.Invariant.{Inv, CanAll, after_all, new_world};
 ghost use Rattle.flurry_model.specs.declared.sizes.TheConstants.{GREATEST_TABLE};
 
-/// Whatever steps any parties do, in any order, the trace is lawful: each reply is the finite map's at its decision, growths
-/// move each bin once and publish complete tables, and walks give present pairs, no class twice, and miss none that stayed.
-/// The bins that are live hold the map, and the claims cut the growing table. A conditional removal removes only what nobody
-/// has touched since its walk read it, and, within the first 2^62 labels, all of that. Memory is refused only where the map lets
-/// it be. A look-up decides or is refused by its 32nd step, and replies at the next. The pairs are the count and what is owed.
+/// States that the trace is lawful, whichever steps the parties do, and in any order. Does nothing; its contract is a law.
+///
+/// Each reply is that of the finite map at the deciding step of its call. Growths move each bin once and publish complete tables. Walks
+/// give pairs that are present, give no class twice, and miss no class that stayed. The live bins hold the map, and the unclaimed,
+/// claimed and reported bins make up the growing table without overlap. A conditional removal removes only a pair that nobody has written
+/// or removed since its walk read it, and, within the first 2^62 labels, it removes every such pair. A call fails for lack of memory only
+/// if the map allows that failure. A look-up decides or fails by its 32nd step, and replies at the next one. The number of pairs is the
+/// count plus what is still to be counted.
 pub fn every_interleaving<K: Ord, V, F: Fn(&K, &V) -> Option<V>>()
     ensures { (hash : K → ℕ) → ((j k : K) → same K.cmp j k ≡ true → hash j ≡ hash k)
         → (e : ℕ) (b : Bool) → e ≤ GREATEST_TABLE → (steps : List (ℕ × Transition K V F))
@@ -25,8 +28,8 @@ pub fn every_interleaving<K: Ord, V, F: Fn(&K, &V) -> Option<V>>()
         (after_all K.cmp hash (answers F.Fn) (new_world e b) steps) }
 {}
 
-/// An exponent that was published after some steps of a run is one at which a call may begin after any further steps. So a party
-/// may take it from wherever it was written down, without the control's lock.
+/// States that a call may start at an exponent that was published after some steps of a run, also after any further steps. So a party may
+/// take the exponent from wherever it was written down, without the control's lock. Does nothing; its contract is a law.
 pub fn exponents_stay_published<K: Ord, V, F: Fn(&K, &V) -> Option<V>>()
     ensures { (hash : K → ℕ) → ((j k : K) → same K.cmp j k ≡ true → hash j ≡ hash k)
         → (e : ℕ) (b : Bool) → e ≤ GREATEST_TABLE → (more steps : List (ℕ × Transition K V F))
@@ -36,8 +39,8 @@ pub fn exponents_stay_published<K: Ord, V, F: Fn(&K, &V) -> Option<V>>()
         (after_all K.cmp hash (answers F.Fn) (new_world e b) (more ++ steps)) x }
 {}
 
-/// Once every party that began has finished, the count is the number of pairs, whoever counted for whom: nobody replies, ends or
-/// is refused while it owes.
+/// States that the count is the number of pairs once every party that started has finished, whichever party counted for which: no party
+/// replies, ends or fails while pairs that it added or removed are still to be counted. Does nothing; its contract is a law.
 pub fn count_is_exact<K: Ord, V, F: Fn(&K, &V) -> Option<V>>()
     ensures { (hash : K → ℕ) → ((j k : K) → same K.cmp j k ≡ true → hash j ≡ hash k)
         → (e : ℕ) (b : Bool) → e ≤ GREATEST_TABLE → (steps : List (ℕ × Transition K V F))
@@ -48,7 +51,8 @@ pub fn count_is_exact<K: Ord, V, F: Fn(&K, &V) -> Option<V>>()
         ≡ (after_all K.cmp hash (answers F.Fn) (new_world e b) steps).count }
 {}
 
-/// The count is never further from 0 than there were labels, so that 64 bits hold it in any run of fewer than 2^63 steps.
+/// States that the count is never further from 0 than the number of labels, so that 64 bits hold it in any run of fewer than 2^63 steps.
+/// Does nothing; its contract is a law.
 pub fn count_stays_within_labels<K: Ord, V, F: Fn(&K, &V) -> Option<V>>()
     ensures { (hash : K → ℕ) → ((j k : K) → same K.cmp j k ≡ true → hash j ≡ hash k)
         → (e : ℕ) (b : Bool) → e ≤ GREATEST_TABLE → (steps : List (ℕ × Transition K V F))
@@ -59,10 +63,12 @@ pub fn count_stays_within_labels<K: Ord, V, F: Fn(&K, &V) -> Option<V>>()
         (after_all K.cmp hash (answers F.Fn) (new_world e b) steps).count) }
 {}
 
-/// What the laws above call the finite map's reply is what a caller of the owned map calls so. Each one-key call is told of the
-/// owned map, in the order of its keys, and of the pairs along a trace, which have no order. Where these are the same at each
-/// class, either may reply exactly what the other may, and they are the same after it. Any pairs are those of some finite map, and
-/// a list looked up in either way has the same at each class.
+/// States that the reply of the finite map means the same in the laws of a run as for a caller of the owned map. Does nothing; its
+/// contract is a law.
+///
+/// A one-key call has one definition on the owned map, in the order of its keys, and one on the pairs along a trace, which have no order.
+/// If both have the same pair at each class, each may reply exactly what the other may, and both have the same pairs after the call. Any
+/// pairs are those of some finite map, and a list that is looked up in either way has the same pair at each class.
 pub fn one_key_calls_agree<K: Ord, V, F: Fn(&K, &V) -> Option<V>>()
     ensures calls { (c : Call K V F) (o : OneKey K V F) (m : List (K × V)) (n : Pairs K V) (r : KeptReply K V)
         → one_key_of c ≡ Some o → IsFiniteMap K.cmp m → HasSamePairs K.cmp m n

@@ -1,11 +1,11 @@
 //! Every interleaving of the steps of calls on a concurrent map, as a machine over plain data, and what holds of it.
 //!
-//! A run is a list of steps of any parties, in any order; any of them may stop for good. Each step is one transition of the machine
-//! (`specs/Machine.antt`) and adds one label to the trace. The laws of a trace (`specs/Legal.antt`) say of each label what has to hold
-//! of the labels before it, and name no table, bin or claim. [`laws`] states that each trace of the machine keeps them.
+//! A run is a list of steps of any parties, in any order; any party may stop for good. Each step is one transition of the machine
+//! (`specs/Machine.antt`) and adds one label to the trace. The laws of a trace (`specs/Legal.antt`) say for each label what must hold of
+//! the labels before it, and name no table, bin or claim. [`laws`] states that every trace of the machine obeys them.
 //!
-//! No code runs here. The machine leaves open what no law hangs on: when a party counts, and for whom, and when it helps or
-//! begins a growth.
+//! No code runs here. The machine leaves open everything on which no law depends: when a party counts, and for which party, and when it
+//! helps or begins a growth.
 #![tactic(auto)]
 
 pub mod laws;
@@ -23,13 +23,13 @@ pub use flurry_model::{Call, Seen};
 /// ```
 #[derive(Clone, Copy, Debug)]
 pub enum Label<K, V, F> {
-    /// The party began with this call.
+    /// The party started this call.
     Begin(usize, Call<K, V, F>),
-    /// The call of one key of the party decided, with this reply.
+    /// The one-key call of the party decided, with this reply.
     Decide(usize, KeptReply<K, V>),
-    /// The party replied.
+    /// The party gave this reply.
     Reply(usize, KeptReply<K, V>),
-    /// The party was refused for memory, and is done.
+    /// Memory for the party could not be allocated, and the party is done.
     Refused(usize),
     /// The clear of the party emptied the bin of this table and index.
     Wipe(usize, u8, usize),
@@ -39,7 +39,7 @@ pub enum Label<K, V, F> {
     End(usize),
     /// The first table, of this exponent, was made and published.
     Opened(u8),
-    /// The table of this exponent was made, and its growth began.
+    /// The table of this exponent was made, and the growth that fills it began.
     Placed(u8),
     /// The bin of this table and index moved to its halves.
     Moved(u8, usize),
