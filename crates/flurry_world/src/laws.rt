@@ -1,4 +1,4 @@
-//! That the finite map of a world's labels is the owned map's.
+//! The law that the finite map of a world's labels is that of the owned map.
 ghost use Rattle.std.specs.Prelude.{◌≡◌, List, Some};
 ghost use Rattle.flurry_model.specs.FiniteMap.{IsFiniteMap};
 ghost use Rattle.flurry_model.specs.OneKey.{OneKey};
@@ -9,9 +9,11 @@ ghost use Rattle.flurry_theory.specs.OneKeyCalls.{one_key_of, HasSamePairs, Agre
 
 use flurry_slots::ComputeFn;
 
-/// What the labels of a world call the finite map's reply is what a caller of the owned map calls so, whatever functions the calls of
-/// the world have. Where the pairs along the labels are those of a finite map, a call of one key may reply exactly what the finite map
-/// may, and the pairs are the same after it.
+/// States that the reply of the finite map means the same for the labels of a world as for a caller of the owned map, whichever functions
+/// the calls of the world have. Does nothing; its contract is a law.
+///
+/// If the pairs along the labels are those of a finite map, a one-key call may reply exactly what the finite map may, and both have the
+/// same pairs after the call.
 pub fn one_key_calls_agree<K: Ord, V, F: ComputeFn<K, V>>()
     ensures { (c : Call K V F) (o : OneKey K V F) (m : List (K × V)) (n : Pairs K V) (r : KeptReply K V)
         → one_key_of c ≡ Some o → IsFiniteMap K.cmp m → HasSamePairs K.cmp m n

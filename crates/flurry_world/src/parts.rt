@@ -1,4 +1,4 @@
-//! The parts of a map that one owner has: its control and its tables.
+//! The parts of a map that has one owner: its control and its tables.
 ghost use Rattle.std.specs.Prelude.{◌≡◌, ◌≤◌, IfOk};
 ghost use Rattle.flurry_control.specs.Control.{OpenGives};
 ghost use Rattle.flurry_world.specs.Parts.{no_parts};
@@ -13,7 +13,7 @@ use flurry_steps::{Field, Party};
 use std::alloc::{AllocError, Allocator, Global};
 use std::marker::Model;
 
-/// The control and the tables of a map, of one owner, who lends each of them to the steps of calls.
+/// The control and the tables of a map that has one owner, who passes each of them to the steps of calls.
 ///
 /// ```
 /// let call: OwnedCall<u64, u64, NoFn> = OwnedCall::Insert(key, value);
@@ -38,11 +38,11 @@ impl<K: Ord, V, A: Allocator> Model for Parts<K, V, A> {
 }
 
 impl<K: Ord + Drop, V: Drop, A: Allocator + Copy> Parts<K, V, A> {
-    /// A map without a table.
+    /// Creates the parts of a map without a table.
     ///
     /// # Errors
     ///
-    /// [`AllocError`], where memory for the places of tables is wanting.
+    /// Returns [`AllocError`] if memory for the places of tables cannot be allocated.
     pub fn new(alloc: A) -> Result<Self, AllocError>
         ensures { IfOk result (λ s. s ≡ no_parts) }
     {
@@ -53,13 +53,14 @@ impl<K: Ord + Drop, V: Drop, A: Allocator + Copy> Parts<K, V, A> {
         })
     }
 
-    /// The exponent of the published table. Where there is none, this table is made, with live and empty bins, and published.
+    /// Returns the exponent of the published table. If there is none, makes the table of exponent `table`, with live and empty bins, and
+    /// publishes it.
     ///
-    /// Constant time, but for the making of a table.
+    /// Constant time, except for making the table.
     ///
     /// # Errors
     ///
-    /// [`AllocError`], where memory for the table is wanting. The parts are then as before.
+    /// Returns [`AllocError`] if memory for the table cannot be allocated. The parts are unchanged.
     pub fn open(&mut self, table: u8) -> Result<u8, AllocError>
         requires { table ≤ GREATEST_TABLE }
         ensures gives { OpenGives PlaceGives table self.old.control_state self.old.tables
@@ -69,7 +70,7 @@ impl<K: Ord + Drop, V: Drop, A: Allocator + Copy> Parts<K, V, A> {
         self.control.open(table, &mut self.tables)
     }
 
-    /// The control.
+    /// Returns a reference to the control.
     ///
     /// Constant time.
     pub fn control(&self) -> &Control
@@ -78,7 +79,7 @@ impl<K: Ord + Drop, V: Drop, A: Allocator + Copy> Parts<K, V, A> {
         &self.control
     }
 
-    /// The tables.
+    /// Returns a reference to the tables.
     ///
     /// Constant time.
     pub fn tables(&self) -> &Tables<K, V, A>

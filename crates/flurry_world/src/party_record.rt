@@ -14,8 +14,8 @@ use flurry_theory::Call;
 use std::alloc::Allocator;
 use std::marker::Model;
 
-/// A call that began, the walk with whose last read it began, if it is a removal of that pair, where it stands, and how many steps it
-/// has done.
+/// A call that has begun, with the walk from whose last read it began, if it is a removal of that pair, with its party, and with the
+/// number of steps that it has done.
 #[derive(Drop)]
 pub(crate) struct PartyRecord<'k, K, V, F: ComputeFn<K, V>, A: Allocator> {
     pub(crate) call: Call<K, V, F>,
@@ -39,7 +39,7 @@ impl<'k, K: Copy + Drop, V: Copy + Drop, F: ComputeFn<K, V>, A: Allocator> Party
     F,
     A,
 > {
-    // The removal of the pair that a walk has read last, before its first step.
+    // Creates the record of a removal of the pair that a walk has read last. The removal has done no step yet.
     pub(crate) fn of_seen(seen: Seen<K, V, A>, walk: usize, hash: u64, processors: usize) -> Self
         ensures { result ≡ record {
           call = call.RemoveSeen seen;
@@ -81,9 +81,9 @@ pub(crate) fn theory_call<K, V, F>(call: OwnedCall<K, V, F>) -> Call<K, V, F>
     }
 }
 
-/// The hash by which a call goes: that of its key, and 0 of a call that has no key.
+/// Returns the hash of the key of `call`, or 0 if the call has no key.
 ///
-/// One hash of a key.
+/// Computes one hash of a key.
 pub fn hash_for<K: Ord, V, F, S: KeyHasher<K>>(hasher: &S, call: &OwnedCall<K, V, F>) -> u64
     ensures { result ≡ hash_for (S.hash_of hasher.now) call.now }
 {

@@ -14,7 +14,7 @@ use flurry_steps::{Party, act};
 use flurry_theory::Label;
 use std::alloc::Allocator;
 
-// The reply of a call of one key, with plain keys and values.
+// The reply of a one-key call, with plain keys and values, or `None` for any other reply.
 fn kept<K: Copy + Drop, V: Copy + Drop, A: Allocator>(
     reply: &Reply<K, V, A>,
 ) -> Option<KeptReply<K, V>>
@@ -51,7 +51,7 @@ fn closing<K: Copy + Drop, V: Copy + Drop, F, A: Allocator>(
     }
 }
 
-// The label of a step with that event, after which the call stands as it does.
+// The label of a step of `party` that did `event`, where `call` is the call after that step.
 fn label_of<'k, K: Copy + Drop, V: Copy + Drop, F: ComputeFn<K, V>, A: Allocator>(
     party: usize,
     event: Event,
@@ -81,7 +81,7 @@ fn label_of<'k, K: Copy + Drop, V: Copy + Drop, F: ComputeFn<K, V>, A: Allocator
     }
 }
 
-// One step of a party, and its label.
+// Does one step of a party, and returns its label.
 pub(crate) fn step_party<
     K: Ord + Copy + Drop,
     V: Copy + Drop,

@@ -18,7 +18,7 @@ use std::alloc::{AllocError, Allocator};
 use std::marker::Model;
 use std::mem;
 
-/// The tables of a map, by their exponents: the table of exponent e has `2^e` slots, and a table that was not made has none.
+/// The tables of a map, by their exponents. Table `e` has `2^e` slots, or no slot if it has not been made.
 ///
 /// ```
 /// let mut tables: Tables<u64, u64, Global> = Tables::new(alloc)?;
@@ -43,11 +43,11 @@ impl<K: Ord, V, A: Allocator> Model for Tables<K, V, A> {
 }
 
 impl<K: Ord + Drop, V: Drop, A: Allocator + Copy> Tables<K, V, A> {
-    /// No table at any place.
+    /// Creates the places of all tables, without a table at any of them.
     ///
     /// # Errors
     ///
-    /// [`AllocError`], where memory for the places is wanting.
+    /// Returns [`AllocError`] if memory for the places cannot be allocated.
     pub fn new(alloc: A) -> Result<Self, AllocError>
         ensures { IfOk result (λ t. t ≡ no_tables) }
     {
@@ -73,7 +73,7 @@ impl<K: Ord + Drop, V: Drop, A: Allocator + Copy> Room for Tables<K, V, A> {
 }
 
 impl<K: Ord + Drop, V: Drop, A: Allocator> Tables<K, V, A> {
-    /// The slot of that table and index.
+    /// Returns a reference to the slot of `table` and `index`.
     ///
     /// Constant time.
     pub fn slot(&self, table: u8, index: usize) -> &Slot<K, V, A>
@@ -85,7 +85,7 @@ impl<K: Ord + Drop, V: Drop, A: Allocator> Tables<K, V, A> {
         &self.tables[table as usize][index]
     }
 
-    /// Whether there is a slot of that table and index.
+    /// Returns `true` if there is a slot of `table` and `index`.
     ///
     /// Constant time.
     pub fn has(&self, table: u8, index: usize) -> bool
@@ -98,7 +98,7 @@ impl<K: Ord + Drop, V: Drop, A: Allocator> Tables<K, V, A> {
         }
     }
 
-    // Whether there is a slot of that table and index, and its two halves in the next table.
+    // Whether there is a slot of `table` and `index`, and its two halves in the next table.
     pub(crate) fn has_halves(&self, table: u8, index: usize) -> bool
         ensures there { IsTrue result ↔ (IsThere self.now (MovePart table index)) }
         ensures within { AreTables self.now }
@@ -115,7 +115,7 @@ impl<K: Ord + Drop, V: Drop, A: Allocator> Tables<K, V, A> {
 }
 
 impl<K: Ord + Drop, V: Drop, A: Allocator + Copy> Tables<K, V, A> {
-    // Lends the slot there to the step of a call that may change its bin.
+    // Passes the slot of `table` and `index` to the step of a call that may change its bin.
     pub(crate) fn lend_bin<F: ComputeFn<K, V>>(
         &mut self,
         alloc: A,
@@ -135,7 +135,7 @@ impl<K: Ord + Drop, V: Drop, A: Allocator + Copy> Tables<K, V, A> {
 }
 
 impl<K: Ord + Drop, V: Drop, A: Allocator> Tables<K, V, A> {
-    // Lends the slot there and its two halves in the next table to the step of a helper.
+    // Passes the slot of `table` and `index`, and its two halves in the next table, to the step of a helper.
     pub(crate) fn lend_halves<F: ComputeFn<K, V>>(
         &mut self,
         table: u8,
@@ -155,7 +155,8 @@ impl<K: Ord + Drop, V: Drop, A: Allocator> Tables<K, V, A> {
     }
 }
 
-// The same, with the slot and the next table. Its low half is taken out of there for the step, since both halves are lent at once.
+// Passes the slot `old`, and its two halves in the next table `news`, to the step of a helper. The low half is taken out of `news` for
+// the step, since both halves are borrowed at once.
 fn move_between<'k, K: Ord + Drop, V: Drop, F: ComputeFn<K, V>, A: Allocator>(
     party: &mut Party<'k, K, V, F, A>,
     old: &mut Slot<K, V, A>,
@@ -179,7 +180,7 @@ fn move_between<'k, K: Ord + Drop, V: Drop, F: ComputeFn<K, V>, A: Allocator>(
     event
 }
 
-// The slots of a new table, with live and empty bins, or with bins that are not born yet.
+// Creates the slots of a new table: with live and empty bins if `live` is `true`, or else with unborn bins.
 fn new_slots<K: Ord + Drop, V: Drop, A: Allocator>(
     alloc: A,
     table: u8,
@@ -196,7 +197,7 @@ fn new_slots<K: Ord + Drop, V: Drop, A: Allocator>(
     Ok(slots)
 }
 
-// One of them.
+// Creates one slot of a new table: with a live and empty bin if `live` is `true`, or else with an unborn bin.
 fn new_slot<K: Ord + Drop, V: Drop, A: Allocator>(
     table: u8,
     index: usize,

@@ -1,4 +1,4 @@
-//! A world: calls of a map in any order of steps.
+//! A world: calls on a map, whose steps come in any order.
 ghost use Rattle.std.specs.Prelude.{◌≡◌, ◌<◌, length, pos, slice_get, All, OnOk, OnErr, IfOk, IfSome};
 ghost use Rattle.std.specs.Vec.{vec_len, vec_capacity};
 ghost use Rattle.flurry_control.specs.Control.{IsIdle};
@@ -33,20 +33,20 @@ use std::marker::Model;
 /// ```
 #[derive(Clone, Copy, Debug)]
 pub enum Step<K, V, F> {
-    /// A call begins.
+    /// The start of a call.
     Begin(OwnedCall<K, V, F>),
-    /// The removal begins of the pair that the party of that number has read last; nothing where it has read nothing.
+    /// The start of a removal of the pair that the party of this number has read last. Nothing starts if the party has read nothing.
     Drop(usize),
-    /// The party of that number does its next step.
+    /// The next step of the party of this number.
     Step(usize),
 }
 
-/// A map and any number of calls on it, each of which is a party, whose steps are done one at a time, in the order that its owner gives.
-/// Any party may be left where it stands for good.
+/// A map and any number of calls on it. Each call is a party, whose steps are done one at a time, in the order that the owner of the
+/// world gives. Any party may be left unfinished for good.
 ///
-/// A key, a value and a function are `Copy`, since the labels keep the calls. The contracts see a world as plain data
-/// (`specs/World.antt`): its hasher and processors, the table that it began with, the control, the tables, the calls and the labels.
-/// Whatever steps it ran, its labels are lawful, which [`World::trace`] says.
+/// Keys, values and functions are `Copy`, since the labels keep the calls. Contracts see a world as plain data (`specs/World.antt`): its
+/// hasher and processors, the table that it started with, the control, the tables, the calls and the labels. Whichever steps a world ran,
+/// its labels are lawful, as [`World::trace`] says.
 ///
 /// ```
 /// let mut world: World<'_, u64, u64, F, LowHashBuilder> = World::new(
@@ -104,14 +104,16 @@ impl<
     S: KeyHasher<K> + Drop,
     A: Allocator + Copy,
 > World<'k, K, V, F, S, A> {
-    /// A world where no call has begun, for so many pairs: with 0 it has no table, and else a table of as many bins as a map of that
-    /// capacity. The processors share the work of a growth; 0 counts as 1.
+    /// Creates a world in which no call has begun, for `capacity` pairs.
     ///
-    /// Linear time in the bins.
+    /// With a capacity of 0 the world has no table, and otherwise it has a table of as many bins as a map of that capacity. `processors`
+    /// is the number of processors that share the work of a growth; `0` counts as 1.
+    ///
+    /// Linear in the number of bins.
     ///
     /// # Errors
     ///
-    /// [`AllocError`], where memory for the table is wanting, or for the places of tables.
+    /// Returns [`AllocError`] if memory for the table, or for the places of tables, cannot be allocated.
     pub fn new(alloc: A, capacity: usize, hasher: S, processors: usize) -> Result<Self, AllocError>
         ensures { IfOk result (NewGives capacity hasher processors) }
     {
@@ -123,7 +125,7 @@ impl<
         Ok(World::of(alloc, hasher, processors, Some(first), parts))
     }
 
-    // A world where no call has begun, that begins with this table.
+    // Creates a world in which no call has begun, and which starts with the table `first`.
     fn of(alloc: A, hasher: S, processors: usize, first: Option<u8>, parts: Parts<K, V, A>) -> Self
         requires control_state { parts.control_state ≡ record { published = first; growth = IsIdle; count = pos 0 } }
         requires world { IsBounded K.cmp (S.hash_of hasher) F.changes
@@ -140,15 +142,15 @@ impl<
         }
     }
 
-    /// Begins a call, and answers the number of its party: parties are numbered from 0 in the order in which they begin. The call has
+    /// Begins a call, and returns the number of its party. Parties are numbered from 0 in the order in which they begin. The call has
     /// done no step yet.
     ///
-    /// Constant time, but that the lists of parties and labels grow.
+    /// Constant time and at most one hash of a key, except for growing the lists of parties and labels.
     ///
     /// # Errors
     ///
-    /// [`AllocError`], where memory for the party or its label is wanting, or where the world has [`MOST_LABELS`] labels. The world is then
-    /// as before, and the call is dropped.
+    /// Returns [`AllocError`] if memory for the party or its label cannot be allocated, or if the world has [`MOST_LABELS`] labels. The
+    /// world is unchanged, and the call is dropped.
     pub fn begin(&mut self, call: OwnedCall<K, V, F>) -> Result<usize, AllocError>
         requires { OwnedIsReady F.can_change call }
         ensures party { IfOk result (λ p. p ≡ length self.old.party_records) }
@@ -172,16 +174,17 @@ impl<
         Ok(party)
     }
 
-    /// Begins a removal of the pair that a walk has read last, and answers the number of its party. It removes the pair exactly if its
-    /// value still stands as it was read. Where the party of that number is no walk, or has read nothing, none begins, the answer is none,
-    /// and the world is as before.
+    /// Begins a removal of the pair that the walk of party `walk` has read last, and returns the number of the removal's party.
     ///
-    /// Constant time, and one hash of a key, but that the lists of parties and labels grow.
+    /// The removal removes the pair if and only if its value is still as it was read. If party `walk` is no walk, or has read nothing, no
+    /// removal begins, `None` is returned, and the world is unchanged.
+    ///
+    /// Constant time and one hash of a key, except for growing the lists of parties and labels.
     ///
     /// # Errors
     ///
-    /// [`AllocError`], where memory for the party, its label, or further owners of the pair is wanting, or where the world has
-    /// [`MOST_LABELS`] labels. The world is then as before.
+    /// Returns [`AllocError`] if memory for the party or its label cannot be allocated, if cloning the `Arc`s of the pair fails, or if
+    /// the world has [`MOST_LABELS`] labels. The world is unchanged.
     pub fn begin_remove_seen(&mut self, walk: usize) -> Result<Option<usize>, AllocError>
         ensures ok { IfOk result (λ p. Drops (S.hash_of self.old.hasher) self.old walk p self.new) }
         ensures transition { IfOk result (λ p. IfSome p
@@ -202,7 +205,7 @@ impl<
         Ok(Some(party))
     }
 
-    // What the party of that number has read last; none of one that never began.
+    // What the party of number `party` has read last, or `None` if it has read nothing or never began.
     fn last_seen(&self, party: usize) -> Result<Option<Seen<K, V, A>>, AllocError>
         ensures { IfOk result (λ z. z ≡ seen_in (slice_get self.now.party_records party)) }
     {
@@ -212,15 +215,18 @@ impl<
         Ok(None)
     }
 
-    /// Does one step of a party, and adds its label. A party that has finished, and one that never began, does nothing, and its label
-    /// is silent.
+    /// Does one step of the party of number `party`, and adds its label. A party that has finished or never began does nothing, and its
+    /// label is silent.
     ///
-    /// As many steps as the party's step takes, which makes a table, moves a bin or looks into one at most.
+    /// Takes as many steps as the party's step, which at most makes a table, moves a bin or looks into one.
     ///
     /// # Errors
     ///
-    /// [`AllocError`], where memory for the label is wanting, or where the world has [`MOST_LABELS`] labels. The world is then as before.
-    /// (Where memory is wanting for what the step itself needs, the step is done, and its label or the party's later ones say so.)
+    /// Returns [`AllocError`] if memory for the label cannot be allocated, or if the world has [`MOST_LABELS`] labels. The world is
+    /// unchanged.
+    ///
+    /// If memory that the step itself needs cannot be allocated, this is no error of this function: the step is done, and its label or
+    /// later labels of the party say so.
     pub fn step(&mut self, party: usize) -> Result<(), AllocError>
         ensures ok { OnOk result (WorldStep K.cmp F.changes self.old party self.new) }
         ensures transition { OnOk result
@@ -239,14 +245,15 @@ impl<
         Ok(())
     }
 
-    /// Does the steps of a list, one after another. [`World::trace`] has their labels then.
+    /// Does the steps of the list `steps`, one after another. [`World::trace`] then returns their labels too.
     ///
-    /// As many steps as those of the list take.
+    /// Takes as many steps as the steps of the list take.
     ///
     /// # Errors
     ///
-    /// [`AllocError`], where memory for a party, a label, or further owners of a pair is wanting, or where the world has [`MOST_LABELS`]
-    /// labels. A front of the list is done then, which is not the whole of it, and the world is as after its last label.
+    /// Returns [`AllocError`] if memory for a party or a label cannot be allocated, if cloning the `Arc`s of a pair fails, or if the
+    /// world has [`MOST_LABELS`] labels. Then the steps before the one that failed have been done, and the world is as it was after the
+    /// last of their labels.
     pub fn run(&mut self, steps: Vec<Step<K, V, F>, A>) -> Result<(), AllocError>
         requires { All (StepIsReady F.can_change) steps.items }
         ensures ok { OnOk result (Runs K.cmp (S.hash_of self.old.hasher) F.changes steps.items self.old self.new) }
@@ -257,7 +264,7 @@ impl<
         for step in steps {
             self.do_step(step)?;
         }
-        // The proof learns here that the labels are lawful.
+        // Here the proof learns that the labels are lawful.
         let _ = self.trace();
         Ok(())
     }
@@ -281,7 +288,7 @@ impl<
         }
     }
 
-    /// The labels since the world was made, the oldest first.
+    /// Returns the labels since the world was created, the oldest first. They are lawful.
     ///
     /// Constant time.
     pub fn trace(&self) -> &[Label<K, V, F>]
@@ -293,7 +300,7 @@ impl<
     }
 }
 
-// Room for one more in a list that has less than the most.
+// Makes room for one more item in a list that has fewer than `MOST_LABELS` items.
 fn make_room<T, A: Allocator>(list: &mut Vec<T, A>) -> Result<(), AllocError>
     ensures same { list.new.items ≡ list.old.items }
     ensures few { OnOk result (length list.new.items < MOST_LABELS) }
