@@ -1,4 +1,4 @@
-//! Calls, driven to their end.
+//! Calls that are driven to their end.
 ghost use Rattle.std.specs.Prelude.{◌≡◌, ◌+◌, ◌≤◌, ℕ, []};
 ghost use Rattle.std.specs.declared.cmp.Ordering.TheVariants.{Equal};
 ghost use Rattle.flurry_drive.specs.Exact.{Holds, DrivesTo, IsExact, most_counted};
@@ -22,15 +22,17 @@ use flurry_world::{Parts, hash_for};
 use std::alloc::Allocator;
 use std::sync::Wait;
 
-/// Does the steps of a call until it is done, and answers its reply, which is then taken. A step whose part the field does not lend is
-/// tried again, so a call whose part never comes does not end.
+/// Does the steps of `party` until it is done, and returns its reply, which is then taken from it. A step whose part `field` does not
+/// pass is tried again, so a call whose part never comes does not end.
 ///
-/// Over a field that tells its parts, which hold a finite map and which nobody else changes, a call before its first step does what that
-/// map does. A call of one key, also a conditional removal, gives a reply that the map allows, and the parts hold the map after it. A walk
-/// and a reserve leave the map, and a clear leaves no pair. Any call that is refused for memory leaves the map, and a clear never is. This
-/// holds where the count of pairs is at most 2^62 from 0, with the one pair that a call of one key may count, or those that a clear wipes.
+/// A field tells its parts if what it passes is its own, and what it does not pass is not there. Over such a field, whose parts hold a
+/// finite map and which nobody else changes, a call before its first step behaves as it does on that map. A one-key call, also a
+/// conditional removal, returns a reply that the map allows, and the parts then hold the map after the call. A walk and a reserve leave
+/// the map unchanged, and a clear leaves no pair. Any call that fails for lack of memory leaves the map unchanged; a clear never fails
+/// that way. This holds if the distance of the count of pairs from 0, plus the one pair that a one-key call may count or the pairs that a
+/// clear removes, is at most 2^62.
 ///
-/// As many steps as the call needs, and whatever the field takes to lend its parts.
+/// Takes as many steps as the call needs, and as many as the field needs to pass its parts.
 pub fn drive<
     K: Ord + Drop,
     V: Drop,
@@ -56,12 +58,14 @@ pub fn drive<
     unreachable!()
 }
 
-/// Does all steps of a call over parts that nobody else changes, and answers its reply: that of the finite map which the parts hold, and
-/// they hold the map after the call then, which is the same map after a walk or a reserve, and has no pair after a clear. Or the call is
-/// refused for memory, which a clear never is, and they hold the same map. This holds where the count of pairs is at most 2^62 from 0,
-/// with the one pair that a call of one key may count, or those that a clear wipes.
+/// Does all steps of `call` over `parts`, which nobody else changes, and returns the reply.
 ///
-/// As many steps as the call needs.
+/// The reply is that of the finite map which the parts hold, and the parts then hold the map after the call: the same map after a walk or
+/// a reserve, and a map without pairs after a clear. A call that fails for lack of memory leaves the map unchanged; a clear never fails
+/// that way. This holds if the distance of the count of pairs from 0, plus the one pair that a one-key call may count or the pairs that a
+/// clear removes, is at most 2^62.
+///
+/// Takes as many steps as the call needs.
 pub fn drive_alone<
     K: Ord + Drop,
     V: Drop,
@@ -89,12 +93,13 @@ pub fn drive_alone<
     reply
 }
 
-/// The parts of one owner are a field that tells its parts. This does nothing: its contract is a law.
+/// States that the parts of one owner are a field that tells its parts: what it passes is its own, and what it does not pass is not
+/// there. Does nothing; its contract is a law.
 pub fn own_parts_tell<K: Ord, V>()
     ensures { Tells {K = K} {V = V} (λ s. s) (λ r. r) PlaceGives OwnLends OwnLacks }
 {}
 
-/// Parts without a table hold no pair. This does nothing: its contract is a law.
+/// States that parts without a table hold no pair. Does nothing; its contract is a law.
 pub fn no_parts_hold_nothing<K: Ord, V, F: ComputeFn<K, V>>()
     ensures { (hash : K → ℕ) → ((j k : K) → K.cmp j k ≡ Equal → hash j ≡ hash k)
         → Holds {V = V} K.cmp hash F.changes 0 no_parts [] }
