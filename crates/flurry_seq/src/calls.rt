@@ -1,4 +1,4 @@
-//! Calls of an owned map as values, and lists of them.
+//! Calls on an owned map as values, and lists of such calls.
 ghost use Rattle.std.specs.Prelude.{◌≡◌, Option, OnErr, IfOk};
 ghost use Rattle.std.specs.Borrow.{Bor};
 
@@ -11,10 +11,11 @@ use std::alloc::{AllocError, Allocator, Global};
 use std::collections::VecDeque;
 use std::sync::Arc;
 
-/// A call of an owned map. `F` is the type of the function that `ComputeIfPresent` calls, and `P` that of the tests of `Retain`.
+/// A call on an owned map. `F` is the type of the function that `ComputeIfPresent` calls, and `P` is the type of the predicates of `Retain`
+/// and `RetainForce`.
 ///
-/// The constructors and [`SeqMap::from_list`] make the map that a list of calls begins with, and [`SeqMap::into_bins`] uses up the one
-/// that a list leaves, so none of these is a call on a map. [`SeqMap::allocator`] and [`SeqMap::hasher`] tell nothing of its pairs.
+/// The constructors and [`SeqMap::from_list`] make the map on which a list of calls starts, and [`SeqMap::into_bins`] consumes the map that
+/// a list of calls leaves, so none of these is a call on a map. [`SeqMap::allocator`] and [`SeqMap::hasher`] say nothing about the pairs.
 /// [`SeqMap::insert_shared`] and [`SeqMap::insert_node`] do what `Insert` does. Every other public call of [`SeqMap`] is here.
 ///
 /// ```
@@ -27,53 +28,53 @@ use std::sync::Arc;
 /// ```
 #[derive(Drop)]
 pub enum Call<K: Ord, V, S: KeyHasher<K>, F, P, A: Allocator = Global> {
-    /// [`SeqMap::get`].
+    /// A call of [`SeqMap::get`].
     Get(K),
-    /// [`SeqMap::get_key_value`].
+    /// A call of [`SeqMap::get_key_value`].
     GetKeyValue(K),
-    /// [`SeqMap::contains_key`].
+    /// A call of [`SeqMap::contains_key`].
     ContainsKey(K),
-    /// [`SeqMap::len`].
+    /// A call of [`SeqMap::len`].
     Len,
-    /// [`SeqMap::is_empty`].
+    /// A call of [`SeqMap::is_empty`].
     IsEmpty,
-    /// [`SeqMap::capacity`].
+    /// A call of [`SeqMap::capacity`].
     Capacity,
-    /// [`SeqMap::shape_of`].
+    /// A call of [`SeqMap::shape_of`].
     ShapeOf(u64),
-    /// [`SeqMap::iter`], to its end.
+    /// A call of [`SeqMap::iter`], whose iterator is run to its end.
     Pairs,
-    /// [`SeqMap::keys`], to its end.
+    /// A call of [`SeqMap::keys`], whose iterator is run to its end.
     Keys,
-    /// [`SeqMap::values`], to its end.
+    /// A call of [`SeqMap::values`], whose iterator is run to its end.
     Values,
-    /// `==` with another map, which is dropped.
+    /// A comparison by `==` with another map, which is then dropped.
     Equals(SeqMap<K, V, S, A>),
-    /// [`SeqMap::try_clone`].
+    /// A call of [`SeqMap::try_clone`].
     TryClone,
-    /// [`SeqMap::insert`].
+    /// A call of [`SeqMap::insert`].
     Insert(K, V),
-    /// [`SeqMap::try_insert`].
+    /// A call of [`SeqMap::try_insert`].
     TryInsert(K, V),
-    /// [`SeqMap::compute_if_present`].
+    /// A call of [`SeqMap::compute_if_present`].
     ComputeIfPresent(K, F),
-    /// [`SeqMap::remove`].
+    /// A call of [`SeqMap::remove`].
     Remove(K),
-    /// [`SeqMap::remove_entry`].
+    /// A call of [`SeqMap::remove_entry`].
     RemoveEntry(K),
-    /// [`SeqMap::retain`].
+    /// A call of [`SeqMap::retain`].
     Retain(P),
-    /// [`SeqMap::retain_force`].
+    /// A call of [`SeqMap::retain_force`].
     RetainForce(P),
-    /// [`SeqMap::clear`].
+    /// A call of [`SeqMap::clear`].
     Clear,
-    /// [`SeqMap::reserve`].
+    /// A call of [`SeqMap::reserve`].
     Reserve(usize),
-    /// [`SeqMap::extend`].
+    /// A call of [`SeqMap::extend`].
     Extend(Vec<(K, V), A>),
 }
 
-/// What a call replied. It has further owners of what the map lends.
+/// The reply of a [`Call`]. Where the map returns references, the reply has clones of the `Arc`s.
 ///
 /// ```
 /// match reply {
@@ -85,15 +86,15 @@ pub enum Call<K: Ord, V, S: KeyHasher<K>, F, P, A: Allocator = Global> {
 /// ```
 #[derive(Drop)]
 pub enum Reply<K: Ord, V, S: KeyHasher<K> = DefaultHashBuilder, A: Allocator = Global> {
-    /// A value, or none.
+    /// A value, or `None`.
     Value(Option<Arc<V, A>>),
-    /// A stored key and its value, or none.
+    /// A stored key and its value, or `None`.
     Pair(Option<(Arc<K, A>, Arc<V, A>)>),
-    /// Yes or no.
+    /// `true` or `false`.
     Truth(bool),
-    /// The value that `try_insert` put.
+    /// The value that `try_insert` inserted.
     New(Arc<V, A>),
-    /// What `try_insert` met.
+    /// The error of a `try_insert` whose key was present.
     Exists(TryInsertError<V, A>),
     /// A number of pairs or of bins.
     Number(usize),
@@ -105,9 +106,9 @@ pub enum Reply<K: Ord, V, S: KeyHasher<K> = DefaultHashBuilder, A: Allocator = G
     Keys(Vec<Arc<K, A>, A>),
     /// All values, one of each pair, in the order of the iterator.
     Values(Vec<Arc<V, A>, A>),
-    /// A further map.
+    /// Another map, which `try_clone` made.
     Map(SeqMap<K, V, S, A>),
-    /// A call that answers nothing was done.
+    /// The end of a call that returns nothing.
     Done,
 }
 
@@ -119,14 +120,14 @@ impl<K: Ord + Drop, V: Drop, S: KeyHasher<K>, A: Allocator + Copy> SeqMap<K, V, 
     ghost use Rattle.flurry_seq.specs.declared.calls.Call.{Call};
     ghost use Rattle.flurry_seq.specs.declared.calls.Reply.{Reply};
 
-    /// Makes one call.
+    /// Makes one call, and returns its reply.
     ///
-    /// The time of that call; an iterator is run to its end.
+    /// Takes the time of that call. An iterator is run to its end.
     ///
     /// # Errors
     ///
-    /// [`AllocError`], where the call was refused, or a further owner of what it answers. The map is then as that call leaves it where
-    /// it is refused.
+    /// Returns [`AllocError`] if the call fails, or if the clones of the `Arc`s in its reply cannot be made. The map is then as a failure
+    /// of that call leaves it.
     pub fn call<F: FnOnce(&K, &V) -> Option<V>, P: FnMut(&K, &V) -> bool>(
         &mut self,
         call: Call<K, V, S, F, P, A>,
@@ -197,7 +198,7 @@ impl<K: Ord + Drop, V: Drop, S: KeyHasher<K>, A: Allocator + Copy> SeqMap<K, V, 
         }
     }
 
-    // Makes a call that answers further owners of what the map has.
+    // Makes a call that returns clones of the map's `Arc`s.
     fn call_to_share<F: FnOnce(&K, &V) -> Option<V>, P: FnMut(&K, &V) -> bool>(
         &self,
         call: Call<K, V, S, F, P, A>,
@@ -284,14 +285,14 @@ impl<K: Ord + Drop, V: Drop, S: KeyHasher<K>, A: Allocator + Copy> SeqMap<K, V, 
         Ok(Reply::Done)
     }
 
-    /// Makes calls in their order, and answers their replies.
+    /// Makes `calls` in order, and returns their replies.
     ///
-    /// The time of those calls.
+    /// Takes the time of the calls.
     ///
     /// # Errors
     ///
-    /// [`AllocError`], where memory for the replies is wanting or a call is refused. The calls before it were made, and those after it are
-    /// dropped.
+    /// Returns [`AllocError`] if memory for the replies cannot be allocated, or if a call fails. The calls before the failed call have been
+    /// made, and those after it are dropped.
     pub fn run<F: FnOnce(&K, &V) -> Option<V>, P: FnMut(&K, &V) -> bool>(
         &mut self,
         alloc: A,
@@ -313,7 +314,7 @@ impl<K: Ord + Drop, V: Drop, S: KeyHasher<K>, A: Allocator + Copy> SeqMap<K, V, 
             (CallRefused K.cmp) calls.items self.old self.new) }
         ensures ascend { IsFiniteMap K.cmp self.old.pairs }
     {
-        // No call but this one tells that the keys ascend, where the list is empty.
+        // The contract of this call says that the keys ascend. If the list is empty, no other call is made that says so.
         let _ = self.is_empty();
         let mut replies = Vec::with_capacity(alloc, calls.len())?;
         while let Some(call) = calls.pop_front() {

@@ -1,4 +1,4 @@
-//! A further map of the same keys and values.
+//! Cloning an owned map, into a map that shares its keys and values.
 ghost use Rattle.std.specs.Prelude.{◌≡◌, length, IfOk};
 ghost use Rattle.std.specs.Arc.{arc_value};
 ghost use Rattle.flurry_bins.specs.Chain.{entry_of};
@@ -11,7 +11,7 @@ use flurry_model::hash::KeyHasher;
 use std::alloc::{AllocError, Allocator};
 use std::sync::Arc;
 
-// A node that owns an entry's key and value too, under its hash.
+// A node with the entry's hash, and with clones of the `Arc`s of its key and its value.
 fn shared_node<K: Drop, V: Drop, A: Allocator + Copy>(
     alloc: A,
     entry: &Entry<K, V, A>,
@@ -33,14 +33,14 @@ fn shared_node<K: Drop, V: Drop, A: Allocator + Copy>(
 }
 
 impl<K: Ord + Drop, V: Drop, S: KeyHasher<K>, A: Allocator + Copy> SeqMap<K, V, S, A> {
-    /// A further map of the same pairs over the same hasher. It has a table of its own for so many pairs, and shares the stored keys
-    /// and the values, of which none is copied or hashed again.
+    /// Returns another map with the same pairs and the same hasher. It has a table of its own, with room for as many pairs, and shares the
+    /// stored keys and the values, none of which is copied or hashed again.
     ///
     /// One insertion for each pair.
     ///
     /// # Errors
     ///
-    /// [`AllocError`], where memory is wanting, or where a key or a value has as many owners as can be counted.
+    /// Returns [`AllocError`] if memory cannot be allocated, or if the `Arc` of a key or of a value has as many owners as can be counted.
     pub fn try_clone(&self) -> Result<Self, AllocError>
     where
         S: Copy + Drop,

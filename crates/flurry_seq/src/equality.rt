@@ -22,10 +22,10 @@ fn has<K: Ord + Drop, V: PartialEq + Drop, S: KeyHasher<K>, A: Allocator>(
     }
 }
 
-/// Two maps are equal where they have the same classes of keys, and equal values there. Which key of a class was stored, in which
-/// order the pairs were put, the tables and the hashers tell nothing.
+/// Two maps are equal if they have the same classes of keys, with equal values. Which key of a class is stored, the order in which the
+/// pairs were inserted, the tables and the hashers make no difference.
 ///
-/// One look-up for each pair, where the maps are as long.
+/// At most one look-up for each pair, and none if the maps have different numbers of pairs.
 impl<K: Ord + Drop, V: PartialEq + Drop, S: KeyHasher<K>, A: Allocator> PartialEq
     for SeqMap<K, V, S, A> {
     ghost eq = { maps_eq K.cmp V.eq };

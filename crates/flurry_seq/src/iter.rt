@@ -17,10 +17,10 @@ use std::alloc::{Allocator, Global};
 use std::marker::Model;
 use std::sync::Arc;
 
-// The entries of a table, in its order. They are seen as the list of those that are left.
+// An iterator over the entries of a table, in the table's order. Contracts see it as the list of the entries that are left.
 #[derive(Drop)]
 pub(crate) struct Entries<'a, K: Ord, V, A: Allocator> {
-    // The first of these bins is passed up to and with the last entry.
+    // The first of these bins has been visited up to and including the entry `last`.
     bins: &'a [Bin<K, V, A>],
     last: Option<&'a Entry<K, V, A>>,
     left: usize,
@@ -37,7 +37,7 @@ impl<'a, K: Ord, V, A: Allocator> Model for Entries<'a, K, V, A> {
     ghost invariant = { λ it. it.left ≡ length (entries_left K.cmp it.bins.now it.last) };
 }
 
-// The place of an entry.
+// The place of an entry: its hash and its key.
 fn place_of_last<'a, K, V, A: Allocator>(last: Option<&'a Entry<K, V, A>>) -> Option<(u64, &'a K)>
     ensures { lent_bound result ≡ place_of last.entry }
 {
@@ -96,7 +96,7 @@ impl<'a, K: Ord + Drop, V: Drop, A: Allocator> ExactSizeIterator for Entries<'a,
     }
 }
 
-/// The pairs of a map, each once, in an open order. It is seen as the list of the pairs that are left.
+/// An iterator over the pairs of a map, each once, in unspecified order. Contracts see it as the list of the pairs that are left.
 ///
 /// ```
 /// let mut pairs: Iter<'_, u64, u64> = map.iter();
@@ -145,7 +145,8 @@ impl<'a, K: Ord + Drop, V: Drop, A: Allocator> ExactSizeIterator for Iter<'a, K,
     }
 }
 
-/// The keys of a map, one of each class, in an open order. It is seen as the list of the keys that are left.
+/// An iterator over the stored keys of a map, one of each class, in unspecified order. Contracts see it as the list of the keys that are
+/// left.
 ///
 /// ```
 /// let keys: Keys<'_, u64, u64> = map.keys();
@@ -192,7 +193,7 @@ impl<'a, K: Ord + Drop, V: Drop, A: Allocator> ExactSizeIterator for Keys<'a, K,
     }
 }
 
-/// The values of a map, one of each pair, in an open order. It is seen as the list of the values that are left.
+/// An iterator over the values of a map, one of each pair, in unspecified order. Contracts see it as the list of the values that are left.
 ///
 /// ```
 /// let mut sum = 0u64;
@@ -256,9 +257,10 @@ impl<K: Ord + Drop, V: Drop, S: KeyHasher<K>, A: Allocator> SeqMap<K, V, S, A> {
         Entries::new(self.table.bins(), self.len())
     }
 
-    /// The pairs of a stored key and its value, each once, in an open order.
+    /// Returns an iterator over the pairs of a stored key and its value, each once, in unspecified order.
     ///
-    /// A step takes at most as many steps as a look-up and the empty bins that it passes; a whole run passes each bin once.
+    /// Each step of the iterator costs at most a look-up, plus one step for each empty bin that it passes. A whole run passes each bin
+    /// once.
     ///
     /// ```
     /// map.iter().count()
@@ -273,7 +275,7 @@ impl<K: Ord + Drop, V: Drop, S: KeyHasher<K>, A: Allocator> SeqMap<K, V, S, A> {
         }
     }
 
-    /// The stored keys, one of each class, in an open order; as fast as [`SeqMap::iter`].
+    /// Returns an iterator over the stored keys, one of each class, in unspecified order. It is as fast as [`SeqMap::iter`].
     pub fn keys(&self) -> Keys<'_, K, V, A>
         ensures keys { IsPermutation (map (λ p. p.0) self.now.pairs) result }
         ensures count { length result ≡ length self.now.pairs }
@@ -284,7 +286,7 @@ impl<K: Ord + Drop, V: Drop, S: KeyHasher<K>, A: Allocator> SeqMap<K, V, S, A> {
         }
     }
 
-    /// The values, one of each pair, in an open order; as fast as [`SeqMap::iter`].
+    /// Returns an iterator over the values, one of each pair, in unspecified order. It is as fast as [`SeqMap::iter`].
     pub fn values(&self) -> Values<'_, K, V, A>
         ensures values { IsPermutation (map (λ p. p.1) self.now.pairs) result }
         ensures count { length result ≡ length self.now.pairs }

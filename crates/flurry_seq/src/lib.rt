@@ -1,9 +1,9 @@
-//! The owned map.
+//! The owned map: a hash map with one owner.
 //!
-//! [`SeqMap`] keeps its pairs in a table of bins, each a list or a tree. Its contracts see it as its pairs, which are a finite map:
-//! of each class of equal keys the key that was stored first, and a value; with the number of bins and the hasher beside them. The
-//! table, the hashes and the shapes of bins are in no contract but those that speak of sizes. [`calls`] has calls as values, and
-//! [`owners`] makes further owners of what a call lends.
+//! [`SeqMap`] keeps its pairs in a table of bins, each a list or a tree. Its contracts see it as its pairs, which are a finite map,
+//! together with the number of bins and the hasher. The finite map has, for each class of equal keys that is present, the key that was
+//! stored first, and a value. The table, the hashes and the shapes of bins occur only in the contracts that speak of sizes. [`calls`] has
+//! the calls as values, and [`owners`] clones the `Arc`s to which a call returns references.
 #![tactic(auto)]
 
 pub mod calls;

@@ -1,4 +1,4 @@
-//! Further owners of what a map or a set lends. They outlive the loan.
+//! Clones of the `Arc`s to which a map or a set returns references. The clones outlive the borrow.
 ghost use Rattle.std.specs.Prelude.{◌≡◌, map, IfOk};
 ghost use Rattle.std.specs.Option.{option_map};
 ghost use Rattle.std.specs.Arc.{arc_value};
@@ -9,11 +9,11 @@ use crate::iter::{Iter, Keys, Values};
 use std::alloc::{AllocError, Allocator};
 use std::sync::Arc;
 
-/// A further owner of a value that may be there.
+/// Returns a clone of the `Arc` in `lent`, or `None` if `lent` is `None`.
 ///
 /// # Errors
 ///
-/// [`AllocError`], where it has as many owners as can be counted.
+/// Returns [`AllocError`] if the `Arc` has as many owners as can be counted.
 pub fn owner_of<T, A: Allocator + Copy>(
     lent: Option<&Arc<T, A>>,
 ) -> Result<Option<Arc<T, A>>, AllocError>
@@ -25,11 +25,11 @@ pub fn owner_of<T, A: Allocator + Copy>(
     }
 }
 
-/// A further owner of a key and one of its value, which may be there.
+/// Returns clones of the `Arc`s of the key and the value in `lent`, or `None` if `lent` is `None`.
 ///
 /// # Errors
 ///
-/// [`AllocError`], where the key or the value has as many owners as can be counted.
+/// Returns [`AllocError`] if the `Arc` of the key or of the value has as many owners as can be counted.
 pub fn owners_of_pair<K: Drop, V: Drop, A: Allocator + Copy>(
     lent: Option<(&Arc<K, A>, &Arc<V, A>)>,
 ) -> Result<Option<(Arc<K, A>, Arc<V, A>)>, AllocError>
@@ -41,11 +41,13 @@ pub fn owners_of_pair<K: Drop, V: Drop, A: Allocator + Copy>(
     }
 }
 
-/// Further owners of the pairs that an iterator has left, in its order. One further owner for each key and each value.
+/// Returns a list of clones of the `Arc`s of the pairs that the iterator `pairs` has left, in its order. One clone for each key and each
+/// value.
 ///
 /// # Errors
 ///
-/// [`AllocError`], where memory for the list is wanting, or where a key or a value has as many owners as can be counted.
+/// Returns [`AllocError`] if memory for the list cannot be allocated, or if the `Arc` of a key or of a value has as many owners as can be
+/// counted.
 pub fn owners_of_pairs<K: Ord + Drop, V: Drop, A: Allocator + Copy>(
     alloc: A,
     pairs: Iter<'_, K, V, A>,
@@ -59,11 +61,11 @@ pub fn owners_of_pairs<K: Ord + Drop, V: Drop, A: Allocator + Copy>(
     Ok(list)
 }
 
-/// Further owners of the keys that an iterator has left, in its order. One further owner for each.
+/// Returns a list of clones of the `Arc`s of the keys that the iterator `keys` has left, in its order. One clone for each key.
 ///
 /// # Errors
 ///
-/// [`AllocError`], where memory for the list is wanting, or where a key has as many owners as can be counted.
+/// Returns [`AllocError`] if memory for the list cannot be allocated, or if the `Arc` of a key has as many owners as can be counted.
 pub fn owners_of_keys<K: Ord + Drop, V: Drop, A: Allocator + Copy>(
     alloc: A,
     keys: Keys<'_, K, V, A>,
@@ -77,11 +79,11 @@ pub fn owners_of_keys<K: Ord + Drop, V: Drop, A: Allocator + Copy>(
     Ok(list)
 }
 
-/// Further owners of the values that an iterator has left, in its order. One further owner for each.
+/// Returns a list of clones of the `Arc`s of the values that the iterator `values` has left, in its order. One clone for each value.
 ///
 /// # Errors
 ///
-/// [`AllocError`], where memory for the list is wanting, or where a value has as many owners as can be counted.
+/// Returns [`AllocError`] if memory for the list cannot be allocated, or if the `Arc` of a value has as many owners as can be counted.
 pub fn owners_of_values<K: Ord + Drop, V: Drop, A: Allocator + Copy>(
     alloc: A,
     values: Values<'_, K, V, A>,

@@ -1,4 +1,4 @@
-//! The owned map.
+//! The owned map: a hash map with one owner.
 ghost use Rattle.std.specs.Prelude.{◌≡◌, ◌⊎◌, ℕ, [], ◌<◌, ◌≤◌, ◌+◌, ◌*◌, ◌^◌, ◌++◌, List, length, count_by, OnOk, OnErr, IfOk, IfSome, IsOkAnd, IsErrAnd, MatchOption, MatchResult, Option, Some, None, Ok, IsSome, IsNone, IsOk, IsTrue, is_some, ◌==◌, if◌then◌else◌};
 ghost use Rattle.std.specs.Option.{option_map, ForSome};
 ghost use Rattle.std.specs.Arc.{arc_value};
@@ -32,13 +32,14 @@ use std::hash::Hash;
 use std::marker::Model;
 use std::sync::Arc;
 
-/// A map that one owner has.
+/// A hash map with one owner.
 ///
-/// Its pairs are a finite map: of each class of equal keys it has the key that was stored first, and a value.
+/// Its pairs are a finite map: for each class of equal keys that is present, it has the key that was stored first, and a value.
 ///
-/// A call of one key gives the key one hash and looks into one bin. Where that has n pairs, it visits at most as many as the greater
-/// of 9 and twice the binary digits of n + 1, though all hashes are equal. Hashes that spread keep bins short: a table is doubled when
-/// it has three pairs for four bins, while there is memory and it has fewer than 2^30 bins. That moves every pair.
+/// A one-key call hashes the key once and looks into one bin. In a bin of `n` pairs it visits at most 9 of them, or twice as many as
+/// `n + 1` has binary digits, whichever is more, even if all hashes are equal. Hashes that spread keep the bins short: the table is doubled
+/// when it has three pairs for every four bins, as long as memory can be allocated and it has fewer than 2^30 bins. A doubling moves every
+/// pair.
 ///
 /// ```
 /// let mut map = SeqMap::new(alloc);
@@ -69,7 +70,7 @@ impl<K: Ord, V, S: KeyHasher<K>, A: Allocator> Model for SeqMap<K, V, S, A> {
 }
 
 impl<K: Hash + Ord + Drop, V: Drop, A: Allocator> SeqMap<K, V, DefaultHashBuilder, A> {
-    /// An empty map without a table, over the default hasher whose seed is zero. It takes no memory.
+    /// Creates an empty map without a table, which uses the default hasher with seed 0. Takes no memory.
     pub fn new(alloc: A) -> Self
         ensures pairs { result.pairs ≡ [] }
         ensures ascend { IsFiniteMap K.cmp result.pairs }
@@ -79,13 +80,14 @@ impl<K: Hash + Ord + Drop, V: Drop, A: Allocator> SeqMap<K, V, DefaultHashBuilde
         SeqMap::with_hasher(alloc, DefaultHashBuilder::default())
     }
 
-    /// An empty map with a table for so many pairs, without one for 0. It is over the default hasher whose seed is zero.
+    /// Creates an empty map with room for `capacity` pairs, which uses the default hasher with seed 0. If `capacity` is `0`, the map has no
+    /// table.
     ///
-    /// Linear time in the bins.
+    /// Linear in the number of bins.
     ///
     /// # Errors
     ///
-    /// [`AllocError`], where memory for the table is wanting.
+    /// Returns [`AllocError`] if memory for the table cannot be allocated.
     pub fn with_capacity(alloc: A, capacity: usize) -> Result<Self, AllocError>
     where
         A: Copy,
@@ -99,7 +101,7 @@ impl<K: Hash + Ord + Drop, V: Drop, A: Allocator> SeqMap<K, V, DefaultHashBuilde
 }
 
 impl<K: Ord + Drop, V: Drop, S: KeyHasher<K>, A: Allocator> SeqMap<K, V, S, A> {
-    /// An empty map without a table, over a hasher. It takes no memory.
+    /// Creates an empty map without a table, which uses `hasher`. Takes no memory.
     pub fn with_hasher(alloc: A, hasher: S) -> Self
         ensures empty { result ≡ contents [] 0 hasher }
         ensures ascend { IsFiniteMap K.cmp result.pairs }
@@ -111,7 +113,7 @@ impl<K: Ord + Drop, V: Drop, S: KeyHasher<K>, A: Allocator> SeqMap<K, V, S, A> {
         }
     }
 
-    /// The allocator of the map.
+    /// Returns a reference to the map's allocator.
     ///
     /// Constant time.
     pub fn allocator(&self) -> &A
@@ -120,7 +122,7 @@ impl<K: Ord + Drop, V: Drop, S: KeyHasher<K>, A: Allocator> SeqMap<K, V, S, A> {
         self.table.allocator()
     }
 
-    /// The hasher of the map.
+    /// Returns a reference to the map's hasher.
     ///
     /// Constant time.
     pub fn hasher(&self) -> &S
@@ -130,7 +132,7 @@ impl<K: Ord + Drop, V: Drop, S: KeyHasher<K>, A: Allocator> SeqMap<K, V, S, A> {
         &self.hasher
     }
 
-    /// The number of pairs.
+    /// Returns the number of pairs in the map.
     ///
     /// Constant time.
     pub fn len(&self) -> usize
@@ -141,7 +143,7 @@ impl<K: Ord + Drop, V: Drop, S: KeyHasher<K>, A: Allocator> SeqMap<K, V, S, A> {
         self.len
     }
 
-    /// Whether the map has no pair.
+    /// Returns `true` if the map has no pairs.
     ///
     /// Constant time.
     pub fn is_empty(&self) -> bool
@@ -151,7 +153,7 @@ impl<K: Ord + Drop, V: Drop, S: KeyHasher<K>, A: Allocator> SeqMap<K, V, S, A> {
         self.len() == 0
     }
 
-    /// The number of bins of the table, a power of two; 0 without one.
+    /// Returns the number of bins of the table, which is a power of two, or 0 if there is no table.
     ///
     /// Constant time.
     pub fn capacity(&self) -> usize
@@ -163,7 +165,7 @@ impl<K: Ord + Drop, V: Drop, S: KeyHasher<K>, A: Allocator> SeqMap<K, V, S, A> {
         self.table.len()
     }
 
-    /// The value of a key.
+    /// Returns a reference to the `Arc` of the key's value, or `None` if the key is absent.
     ///
     /// ```
     /// Ok(map.get(&key).map(|value| **value))
@@ -178,7 +180,7 @@ impl<K: Ord + Drop, V: Drop, S: KeyHasher<K>, A: Allocator> SeqMap<K, V, S, A> {
         }
     }
 
-    /// The stored key and its value.
+    /// Returns references to the `Arc`s of the stored key and of its value, or `None` if the key is absent.
     pub fn get_key_value(&self, key: &K) -> Option<(&Arc<K, A>, &Arc<V, A>)>
         ensures pair { option_map (λ p. (arc_value p.0.now, arc_value p.1.now)) result
             ≡ pair_at K.cmp self.now.pairs key.now }
@@ -190,7 +192,7 @@ impl<K: Ord + Drop, V: Drop, S: KeyHasher<K>, A: Allocator> SeqMap<K, V, S, A> {
         }
     }
 
-    /// Whether the map has the key.
+    /// Returns `true` if the map contains the key.
     ///
     /// ```
     /// map.contains_key(&key)
@@ -202,7 +204,7 @@ impl<K: Ord + Drop, V: Drop, S: KeyHasher<K>, A: Allocator> SeqMap<K, V, S, A> {
         self.find(self.hash_of(key), key).is_some()
     }
 
-    /// Takes the pair of a key out, and answers its value. The table stays as large as it is.
+    /// Removes the pair of a key, and returns the value, or `None` if the key is absent. The size of the table does not change.
     ///
     /// ```
     /// let _ = map.remove(&key);
@@ -216,7 +218,8 @@ impl<K: Ord + Drop, V: Drop, S: KeyHasher<K>, A: Allocator> SeqMap<K, V, S, A> {
         Some(value)
     }
 
-    /// Takes the pair of a key out, and answers the stored key and the value. The table stays as large as it is.
+    /// Removes the pair of a key, and returns the stored key and the value, or `None` if the key is absent. The size of the table does not
+    /// change.
     pub fn remove_entry(&mut self, key: &K) -> Option<(Arc<K, A>, Arc<V, A>)>
         ensures pair { option_map (λ p. (arc_value p.0, arc_value p.1)) result ≡ pair_at K.cmp self.old.pairs key.now }
         ensures after { self.new ≡ with_pairs self.old (without K.cmp self.old.pairs key.now) }
@@ -226,9 +229,9 @@ impl<K: Ord + Drop, V: Drop, S: KeyHasher<K>, A: Allocator> SeqMap<K, V, S, A> {
         self.take(hash, key)
     }
 
-    /// Takes all pairs out. The table stays as large as it is.
+    /// Removes all pairs. The size of the table does not change.
     ///
-    /// Linear time in the bins and pairs.
+    /// Linear in the number of bins and pairs.
     pub fn clear(&mut self)
         ensures after { self.new ≡ with_pairs self.old [] }
         ensures ascend { IsFiniteMap K.cmp self.old.pairs }
@@ -237,7 +240,7 @@ impl<K: Ord + Drop, V: Drop, S: KeyHasher<K>, A: Allocator> SeqMap<K, V, S, A> {
         self.len = 0;
     }
 
-    /// The shape of the bin of a hash; empty without a table.
+    /// Returns the shape of the bin to which `hash` belongs, or [`Shape::Empty`] if there is no table.
     ///
     /// Constant time.
     pub fn shape_of(&self, hash: u64) -> Shape
@@ -250,8 +253,8 @@ impl<K: Ord + Drop, V: Drop, S: KeyHasher<K>, A: Allocator> SeqMap<K, V, S, A> {
         self.table.shape_of(hash)
     }
 
-    /// Hands out the bins, by their index, and the hasher; no bins without a table. Each entry bears the write number 0. It takes no
-    /// memory.
+    /// Consumes the map, and returns its bins in the order of their indices, and its hasher. Without a table there are no bins. Each entry
+    /// has the write number 0. Takes no memory.
     pub fn into_bins(self) -> (Vec<Bin<K, V, A>, A>, S)
         ensures bins { AreBinsOf K.cmp (S.hash_of self.hasher) self (maps_of_bins result.0.items) }
         ensures numbers { BinsBearZero result.0.items }
@@ -266,7 +269,7 @@ impl<K: Ord + Drop, V: Drop, S: KeyHasher<K>, A: Allocator> SeqMap<K, V, S, A> {
         (table.into_bins(), hasher)
     }
 
-    // The hash of a key. Each call of one key makes this one first, and is told by it that the keys ascend.
+    // The hash of a key. Each one-key call starts with this call, whose contract says that the keys ascend.
     fn hash_of(&self, key: &K) -> u64
         ensures hash { result ≡ S.hash_of self.now.hasher key.now }
         ensures ascend { IsFiniteMap K.cmp self.now.pairs }
@@ -274,7 +277,7 @@ impl<K: Ord + Drop, V: Drop, S: KeyHasher<K>, A: Allocator> SeqMap<K, V, S, A> {
         self.hasher.hash_one(key)
     }
 
-    // The entry of a key with this hash.
+    // The entry of a key whose hash is `hash`.
     #[inline(always)]
     fn find(&self, hash: u64, key: &K) -> Option<&Entry<K, V, A>>
         requires { hash ≡ S.hash_of self.now.hasher key.now }
@@ -284,7 +287,7 @@ impl<K: Ord + Drop, V: Drop, S: KeyHasher<K>, A: Allocator> SeqMap<K, V, S, A> {
         self.table.find(hash, key)
     }
 
-    // Takes the pair of a key with this hash out.
+    // Removes the pair of a key whose hash is `hash`, and returns the stored key and the value.
     fn take(&mut self, hash: u64, key: &K) -> Option<(Arc<K, A>, Arc<V, A>)>
         requires { hash ≡ S.hash_of self.old.hasher key.now }
         ensures pair { option_map (λ p. (arc_value p.0, arc_value p.1)) result ≡ pair_at K.cmp self.old.pairs key.now }
@@ -300,7 +303,7 @@ impl<K: Ord + Drop, V: Drop, S: KeyHasher<K>, A: Allocator> SeqMap<K, V, S, A> {
         }
     }
 
-    // Swaps the value of a key with this hash that is there.
+    // Replaces the value of a present key whose hash is `hash`, and returns the old value.
     fn swap_value(&mut self, hash: u64, key: &K, value: Arc<V, A>) -> Arc<V, A>
         requires hash { hash ≡ S.hash_of self.old.hasher key.now }
         requires present { IsSome (pair_at K.cmp self.old.pairs key.now) }
@@ -312,8 +315,9 @@ impl<K: Ord + Drop, V: Drop, S: KeyHasher<K>, A: Allocator> SeqMap<K, V, S, A> {
 }
 
 impl<K: Ord + Drop, V: Drop, S: KeyHasher<K>, A: Allocator + Copy> SeqMap<K, V, S, A> {
-    /// Sets the value of a key, and answers the old one. A key that is stored stays, and the one that was handed in is dropped.
-    /// A new key may make the table larger; where the larger table finds no memory, the map stays in the old one.
+    /// Inserts a pair, and returns the value that the key had, or `None` if the key was absent. If the key is present, the stored key
+    /// stays, and `key` is dropped. A new key may enlarge the table; if memory for the larger table cannot be allocated, the map keeps the
+    /// old table.
     ///
     /// ```
     /// map.insert(key, value)?;
@@ -322,8 +326,8 @@ impl<K: Ord + Drop, V: Drop, S: KeyHasher<K>, A: Allocator + Copy> SeqMap<K, V, 
     ///
     /// # Errors
     ///
-    /// [`AllocError`], where memory for the pair or for a first table is wanting, or where the key is new and the map has
-    /// [`MOST_PAIRS`] pairs. The map is then as it was, and the key and the value are dropped.
+    /// Returns [`AllocError`] if memory for the pair or for a first table cannot be allocated, or if the key is new and the map has
+    /// [`MOST_PAIRS`] pairs. The map is unchanged, and the key and the value are dropped.
     pub fn insert(&mut self, key: K, value: V) -> Result<Option<Arc<V, A>>, AllocError>
         ensures old { IfOk result (λ old. option_map arc_value old ≡ value_at K.cmp self.old.pairs key) }
         ensures pairs { OnOk result (self.new.pairs ≡ with_pair K.cmp self.old.pairs key value) }
@@ -342,7 +346,7 @@ impl<K: Ord + Drop, V: Drop, S: KeyHasher<K>, A: Allocator + Copy> SeqMap<K, V, 
         self.insert_in_table(hash, key, value)
     }
 
-    // Sets the value of a key with this hash, where there may be no table or no room: looks for the key before it takes memory.
+    // Sets the value of a key whose hash is `hash`, when there may be no table or no room. Looks for the key before it allocates memory.
     fn look_and_insert(
         &mut self,
         hash: u64,
@@ -367,7 +371,7 @@ impl<K: Ord + Drop, V: Drop, S: KeyHasher<K>, A: Allocator + Copy> SeqMap<K, V, 
         Ok(None)
     }
 
-    // Sets the value of a key with this hash, where there is a table and room, by one way down the key's bin.
+    // Sets the value of a key whose hash is `hash`, when there is a table and room, in one pass down the key's bin.
     fn insert_in_table(
         &mut self,
         hash: u64,
@@ -395,12 +399,13 @@ impl<K: Ord + Drop, V: Drop, S: KeyHasher<K>, A: Allocator + Copy> SeqMap<K, V, 
         }
     }
 
-    /// Sets the value of a key and answers the old one, as [`SeqMap::insert`] does. The key and the value may have other owners.
+    /// Inserts a pair as [`SeqMap::insert`] does, with the key and the value in `Arc`s that may have other owners. Returns the value that
+    /// the key had, or `None` if the key was absent.
     ///
     /// # Errors
     ///
-    /// [`AllocError`], where memory for the pair's node or for a first table is wanting, or where the key is new and the map has
-    /// [`MOST_PAIRS`] pairs. The map is then as it was.
+    /// Returns [`AllocError`] if memory for the pair's node or for a first table cannot be allocated, or if the key is new and the map has
+    /// [`MOST_PAIRS`] pairs. The map is unchanged.
     pub fn insert_shared(
         &mut self,
         key: Arc<K, A>,
@@ -431,13 +436,14 @@ impl<K: Ord + Drop, V: Drop, S: KeyHasher<K>, A: Allocator + Copy> SeqMap<K, V, 
         Ok(None)
     }
 
-    /// Sets the value of a key and answers the old one, as [`SeqMap::insert`] does, by a node that has both and is in no bin. It gives
-    /// the node the hash that the map's hasher has for the key. Where the key is present, the node is dropped.
+    /// Inserts the pair of a node that is in no bin, as [`SeqMap::insert`] does. Returns the value that the key had, or `None` if the key
+    /// was absent. The node gets the hash that the map's hasher gives its key. If the key is present, its value is replaced, and the node
+    /// is dropped.
     ///
     /// # Errors
     ///
-    /// [`AllocError`], where memory for a first table is wanting, or where the key is new and the map has [`MOST_PAIRS`] pairs. The map
-    /// is then as it was, and the node is dropped.
+    /// Returns [`AllocError`] if memory for a first table cannot be allocated, or if the key is new and the map has [`MOST_PAIRS`] pairs.
+    /// The map is unchanged, and the node is dropped.
     pub fn insert_node(
         &mut self,
         node: Box<Node<K, V, A>, A>,
@@ -467,8 +473,8 @@ impl<K: Ord + Drop, V: Drop, S: KeyHasher<K>, A: Allocator + Copy> SeqMap<K, V, 
         Ok(None)
     }
 
-    /// Puts a value at an absent key, and answers it. At a present key nothing changes: the error has the value that stands and
-    /// the one that was handed in, and the key is dropped.
+    /// Inserts a pair if the key is absent, and returns a clone of the value's `Arc`. If the key is present, nothing changes: the returned
+    /// [`TryInsertError`] has a clone of the current value's `Arc`, and `value`; `key` is dropped.
     ///
     /// ```
     /// match map.try_insert(key, value)? {
@@ -479,8 +485,8 @@ impl<K: Ord + Drop, V: Drop, S: KeyHasher<K>, A: Allocator + Copy> SeqMap<K, V, 
     ///
     /// # Errors
     ///
-    /// [`AllocError`], as of [`SeqMap::insert`], and also where a further owner of the answered value is refused. The map is then
-    /// as it was, and the key and the value are dropped.
+    /// Returns [`AllocError`] in the cases of [`SeqMap::insert`], and also if cloning the `Arc` of the returned value fails. The map is
+    /// unchanged, and the key and the value are dropped.
     pub fn try_insert(
         &mut self,
         key: K,
@@ -510,9 +516,10 @@ impl<K: Ord + Drop, V: Drop, S: KeyHasher<K>, A: Allocator + Copy> SeqMap<K, V, 
         Ok(Ok(value))
     }
 
-    /// Calls a function once on the stored key and the value of a key, if it is present; else it calls nothing, asks for no memory
-    /// and answers none. What the function answers is the new value, and is answered; where it answers none, the pair is taken out.
-    /// The table stays as large as it is. The function need be fit for that one pair alone.
+    /// Calls `f` once on the stored key and the value of `key`, if it is present. What `f` returns becomes the new value, and a clone of
+    /// its `Arc` is returned; if `f` returns `None`, the pair is removed, and `None` is returned. If the key is absent, `f` is not called,
+    /// no memory is allocated, and `None` is returned. The size of the table does not change. The precondition of `f` needs to hold for
+    /// that one pair only.
     ///
     /// ```
     /// let answer = map.compute_if_present(
@@ -526,8 +533,8 @@ impl<K: Ord + Drop, V: Drop, S: KeyHasher<K>, A: Allocator + Copy> SeqMap<K, V, 
     ///
     /// # Errors
     ///
-    /// [`AllocError`], where memory for the new value, or for its further owner, is wanting. The function was called then; the
-    /// value that it computed is dropped, and the map is as it was.
+    /// Returns [`AllocError`] if memory for the new value cannot be allocated, or if cloning its `Arc` fails. `f` has been called by then;
+    /// the value that it returned is dropped, and the map is unchanged.
     pub fn compute_if_present<F: FnOnce(&K, &V) -> Option<V>>(
         &mut self,
         key: &K,
@@ -569,15 +576,15 @@ impl<K: Ord + Drop, V: Drop, S: KeyHasher<K>, A: Allocator + Copy> SeqMap<K, V, 
         }
     }
 
-    /// Inserts pairs in their order: of a key that comes twice the last value stands. Room is made first, for as many pairs as the
-    /// list has where the map is empty, and else for half as many, rounded up.
+    /// Inserts the pairs of `list` in order. If a key occurs more than once, its last value stays. Room is made first: for as many pairs as
+    /// the list has if the map is empty, and otherwise for half as many, rounded up.
     ///
     /// One insertion for each pair.
     ///
     /// # Errors
     ///
-    /// [`AllocError`], where a table or an insertion is refused. The pairs that were inserted before stay, and so may a larger table;
-    /// the rest is dropped.
+    /// Returns [`AllocError`] if memory for a table cannot be allocated, or if an insertion fails. The pairs inserted before stay, and so
+    /// may a larger table; the rest is dropped.
     pub fn extend(&mut self, list: Vec<(K, V), A>) -> Result<(), AllocError>
         ensures ok { OnOk result (self.new.pairs ≡ with_all K.cmp self.old.pairs list.items) }
         ensures hasher { self.new.hasher ≡ self.old.hasher }
@@ -595,13 +602,13 @@ impl<K: Ord + Drop, V: Drop, S: KeyHasher<K>, A: Allocator + Copy> SeqMap<K, V, 
         self.insert_all(list)
     }
 
-    /// A map of pairs, inserted in their order, over a hasher. It begins as one with room for as many pairs as the list has.
+    /// Creates a map that uses `hasher` from the pairs of `list`, inserted in order. It starts with room for as many pairs as the list has.
     ///
     /// One insertion for each pair.
     ///
     /// # Errors
     ///
-    /// [`AllocError`], where memory is wanting. The list is dropped.
+    /// Returns [`AllocError`] if memory cannot be allocated. The list is dropped.
     pub fn from_list(alloc: A, list: Vec<(K, V), A>, hasher: S) -> Result<Self, AllocError>
     where
         S: Drop,
@@ -614,7 +621,7 @@ impl<K: Ord + Drop, V: Drop, S: KeyHasher<K>, A: Allocator + Copy> SeqMap<K, V, 
         Ok(map)
     }
 
-    // Inserts pairs in their order.
+    // Inserts the pairs of `list` in order.
     fn insert_all(&mut self, list: Vec<(K, V), A>) -> Result<(), AllocError>
         ensures ok { OnOk result (self.new.pairs ≡ with_all K.cmp self.old.pairs list.items) }
         ensures hasher { self.new.hasher ≡ self.old.hasher }
@@ -630,7 +637,7 @@ impl<K: Ord + Drop, V: Drop, S: KeyHasher<K>, A: Allocator + Copy> SeqMap<K, V, 
         Ok(())
     }
 
-    // Adds a node of a new key, and makes the table larger where that is due.
+    // Adds a node with a new key, and enlarges the table if that is due.
     pub(crate) fn add(&mut self, node: Box<Node<K, V, A>, A>) -> Result<(), AllocError>
         requires hash { let e = entry_of node.value in e.hash ≡ S.hash_of self.old.hasher (arc_value e.key) }
         requires absent { pair_at K.cmp self.old.pairs (arc_value (entry_of node.value).key) ≡ None }
@@ -647,7 +654,7 @@ impl<K: Ord + Drop, V: Drop, S: KeyHasher<K>, A: Allocator + Copy> SeqMap<K, V, 
         Ok(())
     }
 
-    // Makes the table larger where that is due after a new key, whose bin may ask for it.
+    // Enlarges the table if that is due after a new key was added; `asks` says whether the key's bin asks for it.
     fn grow(&mut self, asks: bool)
         requires table { 0 < self.old.bins }
         requires asks { IsTrue asks → (self.old.bins < LEAST_FOR_TREES) × (LONG_LIST < length self.old.pairs) }
@@ -660,7 +667,7 @@ impl<K: Ord + Drop, V: Drop, S: KeyHasher<K>, A: Allocator + Copy> SeqMap<K, V, 
         self.grow_while_full();
     }
 
-    // Puts a node of a new key into its bin. Answers whether the bin asks for a larger table.
+    // Puts a node with a new key into its bin. Returns whether the bin asks for a larger table.
     fn put(&mut self, node: Box<Node<K, V, A>, A>) -> Result<bool, AllocError>
         requires hash { let e = entry_of node.value in e.hash ≡ S.hash_of self.old.hasher (arc_value e.key) }
         requires absent { pair_at K.cmp self.old.pairs (arc_value (entry_of node.value).key) ≡ None }
@@ -683,7 +690,7 @@ impl<K: Ord + Drop, V: Drop, S: KeyHasher<K>, A: Allocator + Copy> SeqMap<K, V, 
         Ok(asks)
     }
 
-    // Doubles the table on the way to so many bins.
+    // Doubles the table while its threshold is below `least`, and it has fewer than `MOST_BINS` bins.
     fn grow_to(&mut self, least: usize) -> Result<(), AllocError>
         requires { 0 < self.old.bins }
         ensures same { SamePairs self.old self.new }
@@ -696,7 +703,7 @@ impl<K: Ord + Drop, V: Drop, S: KeyHasher<K>, A: Allocator + Copy> SeqMap<K, V, 
         Ok(())
     }
 
-    // Doubles the table while it has as many pairs as its threshold. Where memory is wanting, it stays as it is.
+    // Doubles the table while it has as many pairs as its threshold. If memory cannot be allocated, it stays as it is.
     fn grow_while_full(&mut self)
         requires { 0 < self.old.bins }
         ensures same { SamePairs self.old self.new }
@@ -720,13 +727,13 @@ impl<K: Ord + Drop, V: Drop, S: KeyHasher<K>, A: Allocator + Copy> SeqMap<K, V, 
         Ok(())
     }
 
-    /// An empty map over a hasher, with a table for so many pairs; without one for 0.
+    /// Creates an empty map with room for `capacity` pairs, which uses `hasher`. If `capacity` is `0`, the map has no table.
     ///
-    /// Linear time in the bins.
+    /// Linear in the number of bins.
     ///
     /// # Errors
     ///
-    /// [`AllocError`], where memory for the table is wanting.
+    /// Returns [`AllocError`] if memory for the table cannot be allocated.
     pub fn with_capacity_and_hasher(
         alloc: A,
         capacity: usize,
@@ -744,7 +751,7 @@ impl<K: Ord + Drop, V: Drop, S: KeyHasher<K>, A: Allocator + Copy> SeqMap<K, V, 
         Ok(map)
     }
 
-    // Makes a table of so many bins, if there is none.
+    // Makes a table of `bins` bins, if there is none.
     fn ensure_table(&mut self, bins: usize) -> Result<(), AllocError>
         requires { IsTableSize bins }
         ensures ok { OnOk result (self.new ≡ contents self.old.pairs (first_bins self.old.bins bins) self.old.hasher) }
@@ -756,7 +763,7 @@ impl<K: Ord + Drop, V: Drop, S: KeyHasher<K>, A: Allocator + Copy> SeqMap<K, V, 
         Ok(())
     }
 
-    // Makes a first table of so many bins.
+    // Makes a first table, of `bins` bins.
     fn begin(&mut self, bins: usize) -> Result<(), AllocError>
         requires none { self.old.bins ≡ 0 }
         requires size { IsTableSize bins }
@@ -767,15 +774,15 @@ impl<K: Ord + Drop, V: Drop, S: KeyHasher<K>, A: Allocator + Copy> SeqMap<K, V, 
         Ok(())
     }
 
-    /// Makes the table large enough for so many more pairs. The number of bins that are asked for is [`wanted`] of the length and
-    /// `additional`, whose sum stops at `usize::MAX`; a table is doubled until its [`threshold`] is at least that, or it has
-    /// [`MOST_BINS`] bins. Without a table, one of so many bins is made first.
+    /// Grows the table so that `additional` more pairs fit. The number of bins asked for is [`wanted`] of the length plus `additional`, a
+    /// sum that saturates at `usize::MAX`. If there is no table, one with that number of bins is made first. The table is then doubled
+    /// until its [`threshold`] is at least that number, or it has [`MOST_BINS`] bins.
     ///
     /// Each doubling moves every pair.
     ///
     /// # Errors
     ///
-    /// [`AllocError`], where memory for a table is wanting. The pairs stay, and so do the doublings that were done.
+    /// Returns [`AllocError`] if memory for a table cannot be allocated. The pairs stay, and so do the doublings that were done.
     pub fn reserve(&mut self, additional: usize) -> Result<(), AllocError>
         ensures same { SamePairs self.old self.new }
         ensures ascend { IsFiniteMap K.cmp self.old.pairs }

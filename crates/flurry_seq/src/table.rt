@@ -1,4 +1,4 @@
-//! The table of an owned map: a power of two of bins, or none.
+//! The table of an owned map: a power of two of bins, or no bins.
 ghost use Rattle.std.specs.Prelude.{◌≡◌, ℕ, [], ◌*◌, ◌<◌, ◌≤◌, ◌^◌, length, replicate, OnOk, OnErr, IfOk, None, IsSome, IsTrue, Some};
 ghost use Rattle.std.specs.Vec.{vec_capacity};
 ghost use Rattle.std.specs.Option.{option_map};
@@ -78,8 +78,8 @@ impl<K: Ord + Drop, V: Drop, A: Allocator> Table<K, V, A> {
         self.bins.len()
     }
 
-    // The entry of a hash and a key. It is copied into each call, so that what is found is handed on by a branch: a pointer that is
-    // chosen by the outcome of the comparison of keys would wait for it.
+    // The entry of a hash and a key. The function is inlined into each caller, so that the found entry is passed on by a branch: a pointer
+    // that is selected by the result of the comparison of keys would have to wait for it.
     #[inline(always)]
     pub(crate) fn find(&self, hash: u64, key: &K) -> Option<&Entry<K, V, A>>
         ensures { option_map (λ e. pair_of_entry e.now) result ≡ entry_in K.cmp self.now hash key.now }
@@ -103,7 +103,7 @@ impl<K: Ord + Drop, V: Drop, A: Allocator> Table<K, V, A> {
         bin.shape()
     }
 
-    // Hands out the bins.
+    // Returns the bins.
     pub(crate) fn into_bins(self) -> Vec<Bin<K, V, A>, A>
         ensures bins { maps_of_bins result.items ≡ self }
         ensures numbers { BinsBearZero result.items }
@@ -112,7 +112,7 @@ impl<K: Ord + Drop, V: Drop, A: Allocator> Table<K, V, A> {
         bins
     }
 
-    // Swaps the value of a hash and a key that are there.
+    // Replaces the value at a hash and a key that are present, and returns the old value.
     pub(crate) fn replace(&mut self, hash: u64, key: &K, value: Arc<V, A>) -> Arc<V, A>
         requires { IsSome (entry_in K.cmp self.old hash key.now) }
         ensures old { option_map (λ e. e.1) (entry_in K.cmp self.old hash key.now) ≡ Some (arc_value result) }
@@ -123,7 +123,7 @@ impl<K: Ord + Drop, V: Drop, A: Allocator> Table<K, V, A> {
         bin.replace(hash, key, value, 0)
     }
 
-    // Puts a node in whose hash and key are not there. Answers whether the bin asks for a larger table.
+    // Inserts a node whose hash and key are absent. Returns whether the bin asks for a larger table.
     pub(crate) fn put(&mut self, node: Box<Node<K, V, A>, A>) -> bool
         requires table { 0 < length self.old }
         requires number { (entry_of node.value).number ≡ 0 }
@@ -140,7 +140,7 @@ impl<K: Ord + Drop, V: Drop, A: Allocator> Table<K, V, A> {
         put_in_table(bin, node, count)
     }
 
-    // Takes a key's entry out of its bin.
+    // Removes the entry of a hash and a key from its bin, and returns it.
     pub(crate) fn remove(&mut self, hash: u64, key: &K) -> Option<Entry<K, V, A>>
         ensures entry { option_map pair_of_entry result ≡ entry_in K.cmp self.old hash key.now }
         ensures after { self.new ≡ bins_without K.cmp self.old hash key.now }
@@ -156,7 +156,7 @@ impl<K: Ord + Drop, V: Drop, A: Allocator> Table<K, V, A> {
         }
     }
 
-    // Takes all entries out.
+    // Removes all entries.
     pub(crate) fn clear(&mut self)
         ensures { self.new ≡ replicate (length self.old) [] }
     {
@@ -168,7 +168,7 @@ impl<K: Ord + Drop, V: Drop, A: Allocator> Table<K, V, A> {
 }
 
 impl<K: Ord + Drop, V: Drop, A: Allocator + Copy> Table<K, V, A> {
-    // Puts a value at a hash and a key. Answers the value that stood there, if one did, and whether the bin asks for a larger table.
+    // Sets the value at a hash and a key. Returns the old value, if there was one, and whether the bin asks for a larger table.
     pub(crate) fn insert(
         &mut self,
         hash: u64,
@@ -191,7 +191,7 @@ impl<K: Ord + Drop, V: Drop, A: Allocator + Copy> Table<K, V, A> {
         insert_in_table(bin, alloc, hash, key, value, 0, count)
     }
 
-    // Makes so many empty bins.
+    // Makes `bins` empty bins.
     pub(crate) fn begin(&mut self, bins: usize) -> Result<(), AllocError>
         requires { IsTableSize bins }
         ensures ok { OnOk result (self.new ≡ replicate bins []) }
@@ -205,7 +205,7 @@ impl<K: Ord + Drop, V: Drop, A: Allocator + Copy> Table<K, V, A> {
         Ok(())
     }
 
-    // Makes twice as many bins, and moves each entry to its own.
+    // Doubles the number of bins, and moves each entry to its bin.
     pub(crate) fn double(&mut self) -> Result<(), AllocError>
         requires some { 0 < length self.old }
         requires less { length self.old < 2 ^ GREATEST_TABLE }
@@ -218,7 +218,7 @@ impl<K: Ord + Drop, V: Drop, A: Allocator + Copy> Table<K, V, A> {
     }
 }
 
-// Leaves the low half of each bin in its place, and puts the high halves behind them.
+// Leaves the low half of each bin in its place, and appends the high halves in the same order.
 fn halve<K: Ord + Drop, V: Drop, A: Allocator>(bins: &mut Vec<Bin<K, V, A>, A>)
     requires size { IsTableSize (length bins.old.items) }
     requires some { 0 < length bins.old.items }

@@ -7,11 +7,10 @@ use flurry_model::hash::KeyHasher;
 use std::alloc::Allocator;
 
 impl<K: Ord + Drop, V: Drop, S: KeyHasher<K>, A: Allocator> SeqMap<K, V, S, A> {
-    /// Calls a function once on the stored key and the value of each pair, and keeps the pairs at which it answers true. The order
-    /// of the calls is open.
+    /// Calls `f` once on the stored key and the value of each pair, and keeps only the pairs for which it returns `true`. The order of the
+    /// calls is unspecified. The size of the table does not change.
     ///
-    /// As many calls as there are pairs, and as many steps again as the table has bins; takes no memory. The table stays as large
-    /// as it is.
+    /// One call for each pair, and as many steps again as the table has bins. Takes no memory.
     pub fn retain<F: FnMut(&K, &V) -> bool>(&mut self, f: F)
     where
         F: Drop,
@@ -23,7 +22,8 @@ impl<K: Ord + Drop, V: Drop, S: KeyHasher<K>, A: Allocator> SeqMap<K, V, S, A> {
         self.len = self.table.retain(&mut keep);
     }
 
-    /// The same as [`SeqMap::retain`]: no other owner can change a value between a call and the removal.
+    /// Keeps only the pairs for which `f` returns `true`, exactly as [`SeqMap::retain`] does: no other owner can change a value between the
+    /// call of `f` and the removal.
     pub fn retain_force<F: FnMut(&K, &V) -> bool>(&mut self, f: F)
     where
         F: Drop,

@@ -9,7 +9,7 @@ use flurry_bins::bin::Ordered;
 use std::alloc::Allocator;
 
 impl<K: Ord + Drop, V: Drop, A: Allocator> Table<K, V, A> {
-    // Keeps the entries at whose keys and values the function answers true, and answers how many they are.
+    // Keeps the entries for whose key and value `keep` returns `true`, and returns their number.
     pub(crate) fn retain<F: FnMut(&K, &V) -> bool>(&mut self, keep: &mut F) -> usize
         requires callable { F.IsAlwaysCallable keep.old }
         requires few { length (all_pairs self.old) ≤ MOST_PAIRS }
