@@ -1,8 +1,8 @@
-//! The owned set.
+//! The owned set: a hash set with one owner.
 //!
-//! [`SeqSet`] stands on the public calls of the owned map, [`flurry_seq::SeqMap`], whose keys are its elements. Its contracts see it as a
-//! finite set, which has of each class of equal elements the one that was stored first; with the number of bins and the hasher beside
-//! them.
+//! [`SeqSet`] is built on the public calls of the owned map, [`flurry_seq::SeqMap`], whose keys are its elements. Its contracts see it as a
+//! finite set, together with the number of bins and the hasher. The finite set has, of each class of equal elements that is present, the
+//! element that was stored first.
 #![tactic(auto)]
 
 pub mod seq_set;

@@ -1,4 +1,4 @@
-//! The owned set.
+//! The owned set: a hash set with one owner.
 ghost use Rattle.std.specs.Prelude.{◌≡◌, ℕ, ◌+◌, ◌≤◌, ◌↔◌, ◌++◌, [], List, length, Some, OnOk, OnErr, IfOk, IsTrue, IsSome, IsNone, is_some, is_none, not, ◌==◌, if◌then◌else◌, IsPermutation};
 ghost use Rattle.std.specs.Option.{option_map};
 ghost use Rattle.std.specs.Arc.{arc_value};
@@ -22,11 +22,11 @@ use std::hash::Hash;
 use std::marker::Model;
 use std::sync::Arc;
 
-/// A set that one owner has.
+/// A hash set with one owner.
 ///
-/// Its elements are a finite set: of each class of equal elements it has the one that was stored first.
+/// Its elements are a finite set: of each class of equal elements that is present, it has the one that was stored first.
 ///
-/// A call of one element is as fast as the call of [`SeqMap`] that it makes.
+/// A call on one element is as fast as the call of [`SeqMap`] that it makes.
 ///
 /// ```
 /// set.insert(x)?;
@@ -51,7 +51,7 @@ impl<T: Ord, S: KeyHasher<T>, A: Allocator> Model for SeqSet<T, S, A> {
 }
 
 impl<T: Hash + Ord + Drop, A: Allocator> SeqSet<T, DefaultHashBuilder, A> {
-    /// An empty set without a table, over the default hasher whose seed is zero. It takes no memory.
+    /// Creates an empty set without a table, which uses the default hasher with seed 0. Takes no memory.
     pub fn new(alloc: A) -> Self
         ensures elements { result.elements ≡ [] }
         ensures ascend { IsFiniteSet T.cmp result.elements }
@@ -61,13 +61,14 @@ impl<T: Hash + Ord + Drop, A: Allocator> SeqSet<T, DefaultHashBuilder, A> {
         SeqSet::with_hasher(alloc, DefaultHashBuilder::default())
     }
 
-    /// An empty set with a table for so many elements, without one for 0. It is over the default hasher whose seed is zero.
+    /// Creates an empty set with room for `capacity` elements, which uses the default hasher with seed 0. If `capacity` is `0`, the set has
+    /// no table.
     ///
-    /// Linear time in the bins.
+    /// Linear in the number of bins.
     ///
     /// # Errors
     ///
-    /// [`AllocError`], where memory for the table is wanting.
+    /// Returns [`AllocError`] if memory for the table cannot be allocated.
     pub fn with_capacity(alloc: A, capacity: usize) -> Result<Self, AllocError>
     where
         A: Copy,
@@ -81,7 +82,7 @@ impl<T: Hash + Ord + Drop, A: Allocator> SeqSet<T, DefaultHashBuilder, A> {
 }
 
 impl<T: Ord + Drop, S: KeyHasher<T>, A: Allocator> SeqSet<T, S, A> {
-    /// An empty set without a table, over a hasher. It takes no memory.
+    /// Creates an empty set without a table, which uses `hasher`. Takes no memory.
     pub fn with_hasher(alloc: A, hasher: S) -> Self
         ensures empty { result ≡ set_contents [] 0 hasher }
         ensures ascend { IsFiniteSet T.cmp result.elements }
@@ -91,9 +92,9 @@ impl<T: Ord + Drop, S: KeyHasher<T>, A: Allocator> SeqSet<T, S, A> {
         }
     }
 
-    /// The set of the keys of a map, in its table and over its hasher. Constant time; takes no memory.
+    /// Creates a set of the keys of `map`, with the table and the hasher of the map. Constant time. Takes no memory.
     ///
-    /// The keys of each map ascend, as each of its calls tells.
+    /// The precondition that the keys ascend holds for every map: the contract of each of its calls says so.
     pub fn from_map(map: SeqMap<T, (), S, A>) -> Self
         requires ascend { IsFiniteMap T.cmp map.pairs }
         ensures keys { result ≡ keys_in map }
@@ -102,7 +103,7 @@ impl<T: Ord + Drop, S: KeyHasher<T>, A: Allocator> SeqSet<T, S, A> {
         SeqSet { map }
     }
 
-    /// The allocator of the set.
+    /// Returns a reference to the set's allocator.
     ///
     /// Constant time.
     pub fn allocator(&self) -> &A
@@ -111,7 +112,7 @@ impl<T: Ord + Drop, S: KeyHasher<T>, A: Allocator> SeqSet<T, S, A> {
         self.map.allocator()
     }
 
-    /// The hasher of the set.
+    /// Returns a reference to the set's hasher.
     ///
     /// Constant time.
     pub fn hasher(&self) -> &S
@@ -121,7 +122,7 @@ impl<T: Ord + Drop, S: KeyHasher<T>, A: Allocator> SeqSet<T, S, A> {
         self.map.hasher()
     }
 
-    /// The number of elements.
+    /// Returns the number of elements in the set.
     ///
     /// Constant time.
     pub fn len(&self) -> usize
@@ -132,7 +133,7 @@ impl<T: Ord + Drop, S: KeyHasher<T>, A: Allocator> SeqSet<T, S, A> {
         self.map.len()
     }
 
-    /// Whether the set has no element.
+    /// Returns `true` if the set has no elements.
     ///
     /// Constant time.
     pub fn is_empty(&self) -> bool
@@ -142,7 +143,7 @@ impl<T: Ord + Drop, S: KeyHasher<T>, A: Allocator> SeqSet<T, S, A> {
         self.map.is_empty()
     }
 
-    /// Whether the set has an element of the class. One look-up.
+    /// Returns `true` if the set contains an element equal to `element`. One look-up.
     pub fn contains(&self, element: &T) -> bool
         ensures found { result ≡ is_some (element_at T.cmp self.now.elements element.now) }
         ensures ascend { IsFiniteSet T.cmp self.now.elements }
@@ -150,7 +151,7 @@ impl<T: Ord + Drop, S: KeyHasher<T>, A: Allocator> SeqSet<T, S, A> {
         self.map.contains_key(element)
     }
 
-    /// The stored element of the class. One look-up.
+    /// Returns a reference to the `Arc` of the stored element that is equal to `element`, or `None` if there is none. One look-up.
     pub fn get(&self, element: &T) -> Option<&Arc<T, A>>
         ensures element { option_map (λ x. arc_value x.now) result ≡ element_at T.cmp self.now.elements element.now }
         ensures ascend { IsFiniteSet T.cmp self.now.elements }
@@ -159,7 +160,7 @@ impl<T: Ord + Drop, S: KeyHasher<T>, A: Allocator> SeqSet<T, S, A> {
         Some(stored)
     }
 
-    /// Takes the element of the class out, and answers whether there was one. The table stays as large as it is.
+    /// Removes the element equal to `element`, and returns `true` if there was one. The size of the table does not change.
     pub fn remove(&mut self, element: &T) -> bool
         ensures found { result ≡ is_some (element_at T.cmp self.old.elements element.now) }
         ensures after { self.new ≡ set_with self.old (without_element T.cmp self.old.elements element.now) }
@@ -168,7 +169,7 @@ impl<T: Ord + Drop, S: KeyHasher<T>, A: Allocator> SeqSet<T, S, A> {
         self.map.remove(element).is_some()
     }
 
-    /// Takes the element of the class out, and answers it. The table stays as large as it is.
+    /// Removes the element equal to `element`, and returns it, or `None` if there is none. The size of the table does not change.
     pub fn take(&mut self, element: &T) -> Option<Arc<T, A>>
         ensures element { option_map arc_value result ≡ element_at T.cmp self.old.elements element.now }
         ensures after { self.new ≡ set_with self.old (without_element T.cmp self.old.elements element.now) }
@@ -178,9 +179,9 @@ impl<T: Ord + Drop, S: KeyHasher<T>, A: Allocator> SeqSet<T, S, A> {
         Some(stored)
     }
 
-    /// Takes all elements out. The table stays as large as it is.
+    /// Removes all elements. The size of the table does not change.
     ///
-    /// Linear time in the bins and elements.
+    /// Linear in the number of bins and elements.
     pub fn clear(&mut self)
         ensures after { self.new ≡ set_with self.old [] }
         ensures ascend { IsFiniteSet T.cmp self.old.elements }
@@ -188,10 +189,10 @@ impl<T: Ord + Drop, S: KeyHasher<T>, A: Allocator> SeqSet<T, S, A> {
         self.map.clear();
     }
 
-    /// Calls a function once on each element, and keeps the elements at which it answers true. The order of the calls is open.
+    /// Calls `f` once on each element, and keeps only the elements for which it returns `true`. The order of the calls is unspecified. The
+    /// size of the table does not change.
     ///
-    /// As many calls as there are elements, and as many steps again as the table has bins; takes no memory. The table stays as
-    /// large as it is.
+    /// One call for each element, and as many steps again as the table has bins. Takes no memory.
     pub fn retain<F: FnMut(&T) -> bool>(&mut self, mut f: F)
     where
         F: Drop,
@@ -202,7 +203,7 @@ impl<T: Ord + Drop, S: KeyHasher<T>, A: Allocator> SeqSet<T, S, A> {
         self.map.retain(move |element: &T, _: &()| f(element));
     }
 
-    /// The elements, each once, in an open order; as fast as [`SeqMap::iter`]. It takes no memory.
+    /// Returns an iterator over the elements, each once, in unspecified order. It is as fast as [`SeqMap::iter`]. Takes no memory.
     pub fn iter(&self) -> Keys<'_, T, (), A>
         ensures elements { IsPermutation self.now.elements result }
         ensures count { length result ≡ length self.now.elements }
@@ -211,7 +212,7 @@ impl<T: Ord + Drop, S: KeyHasher<T>, A: Allocator> SeqSet<T, S, A> {
         self.map.keys()
     }
 
-    /// Whether no element is of a class of the other set. One look-up for each element.
+    /// Returns `true` if no element of the set is equal to an element of `other`. At most one look-up for each element of the set.
     pub fn is_disjoint(&self, other: &Self) -> bool
         ensures disjoint { IsTrue result ↔ AreDisjoint T.cmp self.now.elements other.now.elements }
         ensures ascend { IsFiniteSet T.cmp self.now.elements × IsFiniteSet T.cmp other.now.elements }
@@ -227,7 +228,7 @@ impl<T: Ord + Drop, S: KeyHasher<T>, A: Allocator> SeqSet<T, S, A> {
         true
     }
 
-    /// Whether each element is of a class of the other set. One look-up for each element.
+    /// Returns `true` if each element of the set is equal to an element of `other`. At most one look-up for each element of the set.
     pub fn is_subset(&self, other: &Self) -> bool
         ensures subset { IsTrue result ↔ IsSubset T.cmp self.now.elements other.now.elements }
         ensures ascend { IsFiniteSet T.cmp self.now.elements × IsFiniteSet T.cmp other.now.elements }
@@ -243,7 +244,7 @@ impl<T: Ord + Drop, S: KeyHasher<T>, A: Allocator> SeqSet<T, S, A> {
         true
     }
 
-    /// Whether each element of the other set is of a class of this one. One look-up for each.
+    /// Returns `true` if each element of `other` is equal to an element of the set. At most one look-up for each element of `other`.
     pub fn is_superset(&self, other: &Self) -> bool
         ensures superset { IsTrue result ↔ IsSubset T.cmp other.now.elements self.now.elements }
         ensures ascend { IsFiniteSet T.cmp self.now.elements × IsFiniteSet T.cmp other.now.elements }
@@ -253,13 +254,13 @@ impl<T: Ord + Drop, S: KeyHasher<T>, A: Allocator> SeqSet<T, S, A> {
 }
 
 impl<T: Ord + Drop, S: KeyHasher<T>, A: Allocator + Copy> SeqSet<T, S, A> {
-    /// An empty set over a hasher, with a table for so many elements; without one for 0.
+    /// Creates an empty set with room for `capacity` elements, which uses `hasher`. If `capacity` is `0`, the set has no table.
     ///
-    /// Linear time in the bins.
+    /// Linear in the number of bins.
     ///
     /// # Errors
     ///
-    /// [`AllocError`], where memory for the table is wanting.
+    /// Returns [`AllocError`] if memory for the table cannot be allocated.
     pub fn with_capacity_and_hasher(
         alloc: A,
         capacity: usize,
@@ -275,13 +276,13 @@ impl<T: Ord + Drop, S: KeyHasher<T>, A: Allocator + Copy> SeqSet<T, S, A> {
         Ok(SeqSet { map })
     }
 
-    /// Puts an element, and answers whether its class is new. An element that is stored stays, and the one that was handed in is
-    /// dropped; no memory is asked for then. A new element may make the table larger, as of [`SeqMap::insert`].
+    /// Inserts an element, and returns `true` if the set had no equal element. If it had one, the stored element stays, `element` is
+    /// dropped, and no memory is allocated. A new element may enlarge the table, as in [`SeqMap::insert`].
     ///
     /// # Errors
     ///
-    /// [`AllocError`], where memory for a new element or for a first table is wanting, or where the element is new and the set has
-    /// [`flurry_seq::seq_map::MOST_PAIRS`] elements. The set is then as it was, and the element is dropped.
+    /// Returns [`AllocError`] if memory for a new element or for a first table cannot be allocated, or if the element is new and the set
+    /// has [`flurry_seq::seq_map::MOST_PAIRS`] elements. The set is unchanged, and the element is dropped.
     pub fn insert(&mut self, element: T) -> Result<bool, AllocError>
         ensures new { IfOk result (λ new. new ≡ is_none (element_at T.cmp self.old.elements element)) }
         ensures elements { OnOk result (self.new.elements ≡ with_element T.cmp self.old.elements element) }
@@ -295,9 +296,8 @@ impl<T: Ord + Drop, S: KeyHasher<T>, A: Allocator + Copy> SeqSet<T, S, A> {
         Ok(self.map.try_insert(element, ())?.is_ok())
     }
 
-    /// The stored element of an element's class: the one that is there, or else the one that is handed in, which is put. What is
-    /// answered is a further owner of it. An element that is stored stays, and the one that was handed in is dropped. A new element may
-    /// make the table larger, as of [`SeqMap::insert`].
+    /// Inserts `element` if the set has no equal element, and returns a clone of the `Arc` of the stored element. If an equal element is
+    /// stored, it stays, and `element` is dropped. A new element may enlarge the table, as in [`SeqMap::insert`].
     ///
     /// ```
     /// Ok(*set.get_or_insert(x)?)
@@ -305,8 +305,8 @@ impl<T: Ord + Drop, S: KeyHasher<T>, A: Allocator + Copy> SeqSet<T, S, A> {
     ///
     /// # Errors
     ///
-    /// [`AllocError`], where a further owner, or memory for a new element or for a first table is wanting, or where the element is new
-    /// and the set has [`flurry_seq::seq_map::MOST_PAIRS`] elements. The set is then as it was, and the element is dropped.
+    /// Returns [`AllocError`] if cloning the `Arc` fails, if memory for a new element or for a first table cannot be allocated, or if the
+    /// element is new and the set has [`flurry_seq::seq_map::MOST_PAIRS`] elements. The set is unchanged, and the element is dropped.
     pub fn get_or_insert(&mut self, element: T) -> Result<Arc<T, A>, AllocError>
         ensures stored { IfOk result (λ stored. element_at T.cmp self.new.elements element ≡ Some (arc_value stored)) }
         ensures elements { OnOk result (self.new.elements ≡ with_element T.cmp self.old.elements element) }
@@ -323,7 +323,7 @@ impl<T: Ord + Drop, S: KeyHasher<T>, A: Allocator + Copy> SeqSet<T, S, A> {
         self.put_new(element)
     }
 
-    // Puts an element whose class is absent, and answers a further owner of it.
+    // Inserts an element to which no stored one is equal, and returns a clone of its `Arc`.
     fn put_new(&mut self, element: T) -> Result<Arc<T, A>, AllocError>
         requires { IsNone (element_at T.cmp self.old.elements element) }
         ensures stored { IfOk result (λ stored. element_at T.cmp self.new.elements element ≡ Some (arc_value stored)) }
@@ -340,12 +340,13 @@ impl<T: Ord + Drop, S: KeyHasher<T>, A: Allocator + Copy> SeqSet<T, S, A> {
         Ok(answer)
     }
 
-    /// Puts an element, as [`SeqSet::insert`] does, by a node that has it and is in no bin; see [`SeqMap::insert_node`].
+    /// Inserts the element of a node that is in no bin, as [`SeqSet::insert`] does, and returns `true` if the set had no equal element. See
+    /// [`SeqMap::insert_node`].
     ///
     /// # Errors
     ///
-    /// [`AllocError`], where memory for a first table is wanting, or where the element is new and the set has
-    /// [`flurry_seq::seq_map::MOST_PAIRS`] elements. The set is then as it was, and the node is dropped.
+    /// Returns [`AllocError`] if memory for a first table cannot be allocated, or if the element is new and the set has
+    /// [`flurry_seq::seq_map::MOST_PAIRS`] elements. The set is unchanged, and the node is dropped.
     pub fn insert_node(&mut self, node: Box<Node<T, (), A>, A>) -> Result<bool, AllocError>
         requires number { (entry_of node.value).number ≡ 0 }
         ensures new { let e = entry_of node.value in
@@ -362,15 +363,15 @@ impl<T: Ord + Drop, S: KeyHasher<T>, A: Allocator + Copy> SeqSet<T, S, A> {
         Ok(self.map.insert_node(node)?.is_none())
     }
 
-    /// Puts elements in their order: of a class that comes twice the first stays. Room is made first, for as many elements as the
-    /// list has where the set is empty, and else for half as many, rounded up.
+    /// Inserts the elements of `list` in order. Of equal elements, the first stays. Room is made first: for as many elements as the list
+    /// has if the set is empty, and otherwise for half as many, rounded up.
     ///
     /// One insertion for each element.
     ///
     /// # Errors
     ///
-    /// [`AllocError`], where a table or an insertion is refused. The elements that were put before stay, and so may a larger table;
-    /// the rest is dropped.
+    /// Returns [`AllocError`] if memory for a table cannot be allocated, or if an insertion fails. The elements inserted before stay, and
+    /// so may a larger table; the rest is dropped.
     pub fn extend(&mut self, list: Vec<T, A>) -> Result<(), AllocError>
         ensures ok { OnOk result (self.new.elements ≡ with_elements T.cmp self.old.elements list.items) }
         ensures hasher { self.new.hasher ≡ self.old.hasher }
@@ -388,13 +389,14 @@ impl<T: Ord + Drop, S: KeyHasher<T>, A: Allocator + Copy> SeqSet<T, S, A> {
         self.insert_all(list)
     }
 
-    /// A set of elements, put in their order, over a hasher. It begins as one with room for as many elements as the list has.
+    /// Creates a set that uses `hasher` from the elements of `list`, inserted in order. It starts with room for as many elements as the
+    /// list has.
     ///
     /// One insertion for each element.
     ///
     /// # Errors
     ///
-    /// [`AllocError`], where memory is wanting. The list is dropped.
+    /// Returns [`AllocError`] if memory cannot be allocated. The list is dropped.
     pub fn from_list(alloc: A, list: Vec<T, A>, hasher: S) -> Result<Self, AllocError>
     where
         S: Drop,
@@ -407,7 +409,7 @@ impl<T: Ord + Drop, S: KeyHasher<T>, A: Allocator + Copy> SeqSet<T, S, A> {
         Ok(set)
     }
 
-    // Puts elements in their order.
+    // Inserts the elements of `list` in order.
     fn insert_all(&mut self, list: Vec<T, A>) -> Result<(), AllocError>
         ensures ok { OnOk result (self.new.elements ≡ with_elements T.cmp self.old.elements list.items) }
         ensures hasher { self.new.hasher ≡ self.old.hasher }
@@ -423,14 +425,14 @@ impl<T: Ord + Drop, S: KeyHasher<T>, A: Allocator + Copy> SeqSet<T, S, A> {
         Ok(())
     }
 
-    /// A further set of the same elements over the same hasher. It has a table of its own for so many elements, and shares the
-    /// stored elements, of which none is copied or hashed again.
+    /// Returns another set with the same elements and the same hasher. It has a table of its own, with room for as many elements, and
+    /// shares the stored elements, none of which is copied or hashed again.
     ///
     /// One insertion for each element.
     ///
     /// # Errors
     ///
-    /// [`AllocError`], where memory is wanting, or where an element has as many owners as can be counted.
+    /// Returns [`AllocError`] if memory cannot be allocated, or if the `Arc` of an element has as many owners as can be counted.
     pub fn try_clone(&self) -> Result<Self, AllocError>
     where
         S: Copy + Drop,
@@ -443,13 +445,13 @@ impl<T: Ord + Drop, S: KeyHasher<T>, A: Allocator + Copy> SeqSet<T, S, A> {
         Ok(SeqSet { map })
     }
 
-    /// Makes the table large enough for so many more elements, as [`SeqMap::reserve`] does for pairs.
+    /// Grows the table so that `additional` more elements fit, as [`SeqMap::reserve`] does for pairs.
     ///
     /// Each doubling moves every element.
     ///
     /// # Errors
     ///
-    /// [`AllocError`], where memory for a table is wanting. The elements stay, and so do the doublings that were done.
+    /// Returns [`AllocError`] if memory for a table cannot be allocated. The elements stay, and so do the doublings that were done.
     pub fn reserve(&mut self, additional: usize) -> Result<(), AllocError>
         ensures same { SameElements self.old self.new }
         ensures ascend { IsFiniteSet T.cmp self.old.elements }
@@ -461,10 +463,10 @@ impl<T: Ord + Drop, S: KeyHasher<T>, A: Allocator + Copy> SeqSet<T, S, A> {
     }
 }
 
-/// Two sets are equal where they have the same classes of elements. Which element of a class was stored, in which order the elements
-/// were put, the tables and the hashers tell nothing.
+/// Two sets are equal if they have the same classes of elements. Which element of a class is stored, the order in which the elements were
+/// inserted, the tables and the hashers make no difference.
 ///
-/// One look-up for each element, where the sets are as long.
+/// At most one look-up for each element, and none if the sets have different numbers of elements.
 impl<T: Ord + Drop, S: KeyHasher<T>, A: Allocator> PartialEq for SeqSet<T, S, A> {
     ghost eq = { sets_eq T.cmp };
 

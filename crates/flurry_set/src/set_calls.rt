@@ -1,4 +1,4 @@
-//! Calls of an owned set as values, and lists of them.
+//! Calls on an owned set as values, and lists of such calls.
 ghost use Rattle.std.specs.Prelude.{OnErr, IfOk};
 ghost use Rattle.flurry_seq.specs.CallLists.{RunsTo, EndsEarly};
 
@@ -9,11 +9,11 @@ use std::alloc::{AllocError, Allocator, Global};
 use std::collections::VecDeque;
 use std::sync::Arc;
 
-/// A call of an owned set. `P` is the type of the tests of `Retain`.
+/// A call on an owned set. `P` is the type of the predicates of `Retain`.
 ///
-/// The constructors and [`SeqSet::from_list`] make the set that a list of calls begins with, so none of these is a call on a set.
-/// [`SeqSet::allocator`] and [`SeqSet::hasher`] tell nothing of its elements. [`SeqSet::insert_node`] does what `Insert` does, and
-/// [`SeqSet::get_or_insert`] what `Get` and `Insert` do. Every other public call of [`SeqSet`] is here.
+/// The constructors and [`SeqSet::from_list`] make the set on which a list of calls starts, so none of these is a call on a set.
+/// [`SeqSet::allocator`] and [`SeqSet::hasher`] say nothing about the elements. [`SeqSet::insert_node`] does what `Insert` does, and
+/// [`SeqSet::get_or_insert`] does what `Get` and `Insert` do. Every other public call of [`SeqSet`] is here.
 ///
 /// ```
 /// let mut calls = VecDeque::new(alloc);
@@ -25,43 +25,43 @@ use std::sync::Arc;
 /// ```
 #[derive(Drop)]
 pub enum SetCall<T: Ord, S: KeyHasher<T>, P, A: Allocator = Global> {
-    /// [`SeqSet::contains`].
+    /// A call of [`SeqSet::contains`].
     Contains(T),
-    /// [`SeqSet::get`].
+    /// A call of [`SeqSet::get`].
     Get(T),
-    /// [`SeqSet::insert`].
+    /// A call of [`SeqSet::insert`].
     Insert(T),
-    /// [`SeqSet::remove`].
+    /// A call of [`SeqSet::remove`].
     Remove(T),
-    /// [`SeqSet::take`].
+    /// A call of [`SeqSet::take`].
     Take(T),
-    /// [`SeqSet::retain`].
+    /// A call of [`SeqSet::retain`].
     Retain(P),
-    /// [`SeqSet::len`].
+    /// A call of [`SeqSet::len`].
     Len,
-    /// [`SeqSet::is_empty`].
+    /// A call of [`SeqSet::is_empty`].
     IsEmpty,
-    /// [`SeqSet::iter`], to its end.
+    /// A call of [`SeqSet::iter`], whose iterator is run to its end.
     Elements,
-    /// [`SeqSet::is_disjoint`] of another set, which is dropped.
+    /// A call of [`SeqSet::is_disjoint`] with another set, which is then dropped.
     IsDisjoint(SeqSet<T, S, A>),
-    /// [`SeqSet::is_subset`] of another set, which is dropped.
+    /// A call of [`SeqSet::is_subset`] with another set, which is then dropped.
     IsSubset(SeqSet<T, S, A>),
-    /// [`SeqSet::is_superset`] of another set, which is dropped.
+    /// A call of [`SeqSet::is_superset`] with another set, which is then dropped.
     IsSuperset(SeqSet<T, S, A>),
-    /// `==` with another set, which is dropped.
+    /// A comparison by `==` with another set, which is then dropped.
     Equals(SeqSet<T, S, A>),
-    /// [`SeqSet::try_clone`].
+    /// A call of [`SeqSet::try_clone`].
     TryClone,
-    /// [`SeqSet::clear`].
+    /// A call of [`SeqSet::clear`].
     Clear,
-    /// [`SeqSet::reserve`].
+    /// A call of [`SeqSet::reserve`].
     Reserve(usize),
-    /// [`SeqSet::extend`].
+    /// A call of [`SeqSet::extend`].
     Extend(Vec<T, A>),
 }
 
-/// What a call replied. It has further owners of what the set lends.
+/// The reply of a [`SetCall`]. Where the set returns references, the reply has clones of the `Arc`s.
 ///
 /// ```
 /// match reply {
@@ -72,17 +72,17 @@ pub enum SetCall<T: Ord, S: KeyHasher<T>, P, A: Allocator = Global> {
 /// ```
 #[derive(Drop)]
 pub enum SetReply<T: Ord, S: KeyHasher<T> = DefaultHashBuilder, A: Allocator = Global> {
-    /// A stored element, or none.
+    /// A stored element, or `None`.
     Element(Option<Arc<T, A>>),
-    /// Yes or no.
+    /// `true` or `false`.
     Truth(bool),
     /// A number of elements.
     Number(usize),
     /// All elements, each once, in the order of the iterator.
     Elements(Vec<Arc<T, A>, A>),
-    /// A further set.
+    /// Another set, which `try_clone` made.
     Set(SeqSet<T, S, A>),
-    /// A call that answers nothing was done.
+    /// The end of a call that returns nothing.
     Done,
 }
 
@@ -91,14 +91,14 @@ impl<T: Ord + Drop, S: KeyHasher<T>, A: Allocator + Copy> SeqSet<T, S, A> {
     ghost use Rattle.flurry_set.specs.SetCalls.{SetCallAnswers, SetCallRefused};
     ghost use Rattle.flurry_set.specs.SetKinds.{Reads, Shares, Writes, ChangesMany};
 
-    /// Makes one call.
+    /// Makes one call, and returns its reply.
     ///
-    /// The time of that call; an iterator is run to its end.
+    /// Takes the time of that call. An iterator is run to its end.
     ///
     /// # Errors
     ///
-    /// [`AllocError`], where the call was refused, or a further owner of what it answers. The set is then as that call leaves it where
-    /// it is refused.
+    /// Returns [`AllocError`] if the call fails, or if the clones of the `Arc`s in its reply cannot be made. The set is then as a failure
+    /// of that call leaves it.
     pub fn call<P: FnMut(&T) -> bool>(
         &mut self,
         call: SetCall<T, S, P, A>,
@@ -148,7 +148,7 @@ impl<T: Ord + Drop, S: KeyHasher<T>, A: Allocator + Copy> SeqSet<T, S, A> {
         }
     }
 
-    // Makes a call that answers further owners of what the set has.
+    // Makes a call that returns clones of the set's `Arc`s.
     fn call_to_share<P: FnMut(&T) -> bool>(
         &self,
         call: SetCall<T, S, P, A>,
@@ -171,7 +171,7 @@ impl<T: Ord + Drop, S: KeyHasher<T>, A: Allocator + Copy> SeqSet<T, S, A> {
         }
     }
 
-    // Makes a call that puts or takes an element.
+    // Makes a call that inserts or removes an element.
     fn call_to_write<P: FnMut(&T) -> bool>(
         &mut self,
         call: SetCall<T, S, P, A>,
@@ -216,14 +216,14 @@ impl<T: Ord + Drop, S: KeyHasher<T>, A: Allocator + Copy> SeqSet<T, S, A> {
         Ok(SetReply::Done)
     }
 
-    /// Makes calls in their order, and answers their replies.
+    /// Makes `calls` in order, and returns their replies.
     ///
-    /// The time of those calls.
+    /// Takes the time of the calls.
     ///
     /// # Errors
     ///
-    /// [`AllocError`], where memory for the replies is wanting or a call is refused. The calls before it were made, and those after it are
-    /// dropped.
+    /// Returns [`AllocError`] if memory for the replies cannot be allocated, or if a call fails. The calls before the failed call have been
+    /// made, and those after it are dropped.
     pub fn run<P: FnMut(&T) -> bool>(
         &mut self,
         alloc: A,
@@ -239,7 +239,7 @@ impl<T: Ord + Drop, S: KeyHasher<T>, A: Allocator + Copy> SeqSet<T, S, A> {
             calls.items self.old self.new) }
         ensures ascend { IsFiniteSet T.cmp self.old.elements }
     {
-        // No call but this one tells that the elements ascend, where the list is empty.
+        // The contract of this call says that the elements ascend. If the list is empty, no other call is made that says so.
         let _ = self.is_empty();
         let mut replies = Vec::with_capacity(alloc, calls.len())?;
         while let Some(call) = calls.pop_front() {
