@@ -1,4 +1,4 @@
-//! The book of a recorded map, as one caller at a time has it.
+//! The book of a recorded map, which one caller at a time uses.
 ghost use Rattle.std.specs.Prelude.{◌≡◌, ◌++◌, ◌∷◌, [], length, OnOk, OnErr, IfOk, IfErr};
 ghost use Rattle.flurry_seq.specs.Contents.{contents};
 ghost use Rattle.flurry_recorded.specs.Closing.{IsClosed, HasFault};
@@ -17,7 +17,8 @@ use std::marker::Model;
 
 /// An owned map, the history of its calls, and the numbers of its shares.
 ///
-/// The calls of the history, made one after another on an empty map, give its replies and leave the map. The numbers are those from 0 on.
+/// The calls of the history, made one after another on an empty map, give the recorded replies and leave the map. The shares are numbered
+/// from 0.
 ///
 /// ```
 /// let mut book = Book::new(alloc, LowHashBuilder);
@@ -43,7 +44,7 @@ impl<K: Ord, V, S: KeyHasher<K>, A: Allocator> Model for Book<K, V, S, A> {
 }
 
 impl<K: Ord + Copy, V: Copy, S: KeyHasher<K>, A: Allocator + Copy> Book<K, V, S, A> {
-    /// A book of an empty map over a hasher, with an empty history and no share. It takes no memory.
+    /// Creates a book of an empty map that uses `hasher`, with an empty history and no shares. Takes no memory.
     pub fn new(alloc: A, hasher: S) -> Self
         ensures { result ≡ book_contents (contents [] 0 hasher) [] [] }
     {
@@ -54,13 +55,14 @@ impl<K: Ord + Copy, V: Copy, S: KeyHasher<K>, A: Allocator + Copy> Book<K, V, S,
         }
     }
 
-    /// Makes a call on the map, and adds it with its reply at the end of the history. Answers the place there, from 0 on, and the reply.
+    /// Makes `call` on the map, and appends it with its reply to the history. Returns the place of the call in the history, counted from 0,
+    /// and the reply.
     ///
-    /// The time of the map's call, but that the history grows.
+    /// Takes the time of the map's call, apart from the growth of the history.
     ///
     /// # Errors
     ///
-    /// [`AllocError`], where memory for the entry or for the map's call is wanting. The book is then as it was.
+    /// Returns [`AllocError`] if memory for the entry or for the map's call cannot be allocated. The book is unchanged.
     pub fn call(&mut self, call: KeptCall<K, V>) -> Result<(usize, KeptReply<K, V>), AllocError>
         ensures ok { IfOk result (λ r. Appends K.cmp self.old call r.0 r.1 self.new) }
         ensures book { IsBook K.cmp self.old }
@@ -73,13 +75,14 @@ impl<K: Ord + Copy, V: Copy, S: KeyHasher<K>, A: Allocator + Copy> Book<K, V, S,
         Ok((place, reply))
     }
 
-    /// Makes a call for a share, which keeps a receipt of it as its last. Answers the reply.
+    /// Makes `call` for `share`, which keeps a receipt of it as its last receipt, and returns the reply.
     ///
-    /// The time of the map's call, but that the history and the receipts grow.
+    /// Takes the time of the map's call, apart from the growth of the history and of the receipts.
     ///
     /// # Errors
     ///
-    /// [`AllocError`], where memory for the receipt, the entry or the map's call is wanting. The book and the share are then as they were.
+    /// Returns [`AllocError`] if memory for the receipt, the entry or the map's call cannot be allocated. The book and the share are
+    /// unchanged.
     pub fn call_for(
         &mut self,
         share: &mut Share<K, V, A>,
@@ -95,17 +98,20 @@ impl<K: Ord + Copy, V: Copy, S: KeyHasher<K>, A: Allocator + Copy> Book<K, V, S,
         Ok(reply)
     }
 
-    /// Ends the book, with the shares that are handed back: answers the map and the history, if the shares fit them.
+    /// Takes back `shares`, closes the book, and returns the map and the history if the shares fit them.
     ///
-    /// Linear in the history and in the number of shares.
+    /// Linear in the length of the history and in the number of shares.
     ///
     /// # Errors
     ///
-    /// The first of these that is so; the book and the shares are then dropped. [`CloseFault::SharesDiffer`]: the shares are not those that
-    /// the book has numbered, each once, or their receipts are not as many as the calls of the history.
-    /// [`CloseFault::ReceiptsDiffer`]: the history has another call or another reply at the place of a receipt, or none.
-    /// [`CloseFault::PlacesDiffer`]: a share's places do not ascend in the order of its receipts, or two receipts name one place.
-    /// [`CloseFault::NoMemory`]: memory is wanting, which can be found before any of the others.
+    /// Returns the first of these faults that applies. The book and the shares are dropped.
+    ///
+    /// - [`CloseFault::SharesDiffer`] if the shares are not those that the book has numbered, each once, or if the number of their receipts
+    ///   is not the number of calls in the history.
+    /// - [`CloseFault::ReceiptsDiffer`] if the history has another call or another reply, or none, at the place of a receipt.
+    /// - [`CloseFault::PlacesDiffer`] if the places of a share do not ascend in the order of its receipts, or if two receipts name one
+    ///   place.
+    /// - [`CloseFault::NoMemory`] if memory cannot be allocated, which can be found before any of the others.
     pub fn close(self, shares: Vec<Share<K, V, A>, A>) -> Result<Closed<K, V, S, A>, CloseFault>
     where
         V: PartialEq,
@@ -126,13 +132,13 @@ impl<K: Ord + Copy, V: Copy, S: KeyHasher<K>, A: Allocator + Copy> Book<K, V, S,
         Ok(Closed { map, history })
     }
 
-    /// Adds the next share, and answers its number: they are numbered from 0 on.
+    /// Adds the next share, and returns its number. Shares are numbered from 0.
     ///
-    /// Constant time, but that the list of shares grows.
+    /// Constant time, apart from the growth of the list of shares.
     ///
     /// # Errors
     ///
-    /// [`AllocError`], where memory for the number is wanting. The book is then as it was.
+    /// Returns [`AllocError`] if memory for the number cannot be allocated. The book is unchanged.
     pub fn share(&mut self) -> Result<usize, AllocError>
         ensures ok { IfOk result (λ n. (n ≡ length self.old.shares)
             × (self.new ≡ book_contents self.old.contents self.old.history (self.old.shares ++ n ∷ []))) }

@@ -1,4 +1,4 @@
-//! Whether shares fit a book. Each check is linear in the receipts and the history.
+//! Checks whether shares fit a book. Each check is linear in the receipts and the history.
 ghost use Rattle.std.specs.Prelude.{◌≡◌, ◌<◌, ◌++◌, ◌∷◌, [], List, ℕ, length, map, All, Decides, MatchBool, OnOk, IfOk, IfErr};
 ghost use Rattle.std.specs.List.{list_all};
 ghost use Rattle.std.specs.List.Sorted.{IsStrictlyIncreasing};
@@ -12,7 +12,8 @@ use crate::share::{Receipt, Share};
 use flurry_model::reply::KeptReply;
 use std::alloc::Allocator;
 
-// Finds the first fault of the shares that are handed back, of those that were given.
+// Returns the first fault of the shares that are handed back, or `Ok` if there is none. `given` is the number of shares that were given
+// out.
 pub(crate) fn first_fault<K: Copy + PartialEq, V: Copy + PartialEq, A: Allocator + Copy>(
     alloc: A,
     given: usize,
@@ -36,7 +37,7 @@ pub(crate) fn first_fault<K: Copy + PartialEq, V: Copy + PartialEq, A: Allocator
     Ok(())
 }
 
-// Whether the shares are those that were given, each once, and have as many receipts as there are calls.
+// Whether the shares are those that were given out, each once, and have as many receipts as there are calls.
 fn shares_stand<K: Copy, V: Copy, A: Allocator + Copy>(
     alloc: A,
     given: usize,
@@ -52,7 +53,7 @@ fn shares_stand<K: Copy, V: Copy, A: Allocator + Copy>(
     are_numbered(alloc, shares)
 }
 
-// Whether the shares' numbers are those below the number of shares, each once.
+// Whether the numbers of the shares are those below the number of shares, each once.
 fn are_numbered<K: Copy, V: Copy, A: Allocator + Copy>(
     alloc: A,
     shares: &[Share<K, V, A>],
@@ -64,7 +65,7 @@ fn are_numbered<K: Copy, V: Copy, A: Allocator + Copy>(
     Ok(mark_numbers(&mut marks, shares))
 }
 
-// Whether the shares have so many receipts.
+// Whether the number of receipts of all shares is `calls`.
 fn have_receipts<K: Copy, V: Copy, A: Allocator>(calls: usize, shares: &[Share<K, V, A>]) -> bool
     ensures { Decides result (length (all_receipts shares.now) ≡ calls) }
 {
@@ -79,7 +80,7 @@ fn have_receipts<K: Copy, V: Copy, A: Allocator>(calls: usize, shares: &[Share<K
     left == 0
 }
 
-// Whether the history has each receipt at its place.
+// Whether the history has each receipt of all shares at its place.
 fn receipts_stand<K: Copy + PartialEq, V: Copy + PartialEq, A: Allocator>(
     history: &[KeptEntry<K, V>],
     shares: &[Share<K, V, A>],
@@ -90,7 +91,7 @@ fn receipts_stand<K: Copy + PartialEq, V: Copy + PartialEq, A: Allocator>(
     shares.iter().all(|share| are_kept(history, share))
 }
 
-// So for the receipts of one share.
+// Whether the history has each receipt of one share at its place.
 fn are_kept<K: Copy + PartialEq, V: Copy + PartialEq, A: Allocator>(
     history: &[KeptEntry<K, V>],
     share: &Share<K, V, A>,
@@ -104,7 +105,7 @@ fn are_kept<K: Copy + PartialEq, V: Copy + PartialEq, A: Allocator>(
         .all(|receipt| stands(history, receipt))
 }
 
-// So for one receipt.
+// Whether the history has one receipt at its place: the same call and the same reply.
 fn stands<K: Copy + PartialEq, V: Copy + PartialEq>(
     history: &[KeptEntry<K, V>],
     receipt: &Receipt<K, V>,
@@ -118,7 +119,7 @@ fn stands<K: Copy + PartialEq, V: Copy + PartialEq>(
     }
 }
 
-// Whether the places of each share ascend, and no two receipts name one of these places, all of which are below the number of calls.
+// Whether the places of each share ascend, and no two receipts name one place. All places are below `calls`.
 fn places_stand<K: Copy, V: Copy, A: Allocator + Copy>(
     alloc: A,
     calls: usize,
@@ -159,7 +160,7 @@ fn ascend<K: Copy, V: Copy>(receipts: &[Receipt<K, V>]) -> bool
     true
 }
 
-// So many places without a mark.
+// A list of `count` places without a mark.
 fn new_marks<A: Allocator>(alloc: A, count: usize) -> Result<Vec<bool, A>, CloseFault>
     ensures ok { IfOk result (λ m. AreMarked m.items [] × (length m.items ≡ count)) }
     ensures err { IfErr result (λ e. e ≡ NoMemory) }
@@ -167,7 +168,7 @@ fn new_marks<A: Allocator>(alloc: A, count: usize) -> Result<Vec<bool, A>, Close
     Vec::from_elem(alloc, false, count).map_err(|_| CloseFault::NoMemory)
 }
 
-// Marks the number of each share, where none has a mark. Answers whether each is there and comes once.
+// Marks the number of each share in `marks`, none of which is set at first. Returns whether each number has a place there and comes once.
 fn mark_numbers<K: Copy, V: Copy, A: Allocator>(
     marks: &mut [bool],
     shares: &[Share<K, V, A>],
@@ -183,7 +184,8 @@ fn mark_numbers<K: Copy, V: Copy, A: Allocator>(
     true
 }
 
-// Marks the place of each receipt of each share, where none has a mark. Answers whether each is there and comes once.
+// Marks the place of each receipt of each share in `marks`, none of which is set at first. Returns whether each place is there and comes
+// once.
 fn mark_shares<K: Copy, V: Copy, A: Allocator>(
     marks: &mut [bool],
     shares: &[Share<K, V, A>],
@@ -199,7 +201,8 @@ fn mark_shares<K: Copy, V: Copy, A: Allocator>(
     true
 }
 
-// Marks the place of each receipt, in their order, up to one that is not there or has a mark. Answers whether there is none.
+// Marks the place of each receipt in order, up to the first place that is not there or has a mark already. Returns whether there is no such
+// place.
 fn mark_places<K: Copy, V: Copy>(marks: &mut [bool], receipts: &[Receipt<K, V>]) -> bool
     ensures { (xs : List ℕ) → AreMarked marks.old xs → MatchBool result
         (AreMarked marks.new (xs ++ places receipts.now))
@@ -213,7 +216,7 @@ fn mark_places<K: Copy, V: Copy>(marks: &mut [bool], receipts: &[Receipt<K, V>])
     true
 }
 
-// Marks a place, if it is there and has no mark. Answers whether it did.
+// Marks a place, if it is there and has no mark. Returns whether it did.
 fn mark(marks: &mut [bool], place: usize) -> bool
     ensures { (xs : List ℕ) → AreMarked marks.old xs → MatchBool result
         (AreMarked marks.new (xs ++ place ∷ []))

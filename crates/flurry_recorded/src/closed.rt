@@ -1,4 +1,4 @@
-//! A recorded map that has ended, and what can stand against its end.
+//! A recorded map that has been closed, and the faults for which it cannot be closed.
 ghost use Rattle.std.specs.Prelude.{◌≡◌};
 ghost use Rattle.flurry_recorded.specs.Faults.{fault_number, fault_text};
 
@@ -9,7 +9,7 @@ use std::alloc::{Allocator, Global};
 use std::error::Error;
 use std::fmt;
 
-/// The map and the history of a recorded map that has ended.
+/// The map and the history of a recorded map that has been closed.
 ///
 /// ```
 /// (closed.history.len(), closed.map.len())
@@ -22,7 +22,7 @@ pub struct Closed<K: Ord, V, S: KeyHasher<K> = DefaultHashBuilder, A: Allocator 
     pub history: Vec<KeptEntry<K, V>, A>,
 }
 
-/// Why a recorded map and its shares do not fit.
+/// The reason why a recorded map and its shares do not fit.
 ///
 /// ```
 /// match fault {
@@ -32,18 +32,20 @@ pub struct Closed<K: Ord, V, S: KeyHasher<K> = DefaultHashBuilder, A: Allocator 
 /// ```
 #[derive(Clone, Copy, Debug, PartialEq, Eq)]
 pub enum CloseFault {
-    /// A share of the map is missing or comes twice, or a share is none of the map's; or the receipts are not as many as its calls.
+    /// A share of the map is missing or comes twice, a share is not one of the map's, or the number of receipts is not the number of the
+    /// map's calls.
     SharesDiffer,
-    /// A receipt is not the call and the reply that the history has at its place.
+    /// A receipt does not have the call and the reply that the history has at its place.
     ReceiptsDiffer,
-    /// A share's places do not ascend in the order of its receipts, or two receipts name one place.
+    /// The places of a share do not ascend in the order of its receipts, or two receipts name one place.
     PlacesDiffer,
-    /// Memory is wanting.
+    /// Memory could not be allocated.
     NoMemory,
 }
 
 impl CloseFault {
-    /// The number of the fault, in the order in which the faults are looked for: from 1 to 4, as they stand above.
+    /// Returns the number of the fault, in the order in which the faults are looked for: 1 for [`CloseFault::SharesDiffer`], 2 for
+    /// [`CloseFault::ReceiptsDiffer`], 3 for [`CloseFault::PlacesDiffer`], and 4 for [`CloseFault::NoMemory`].
     pub fn number(self) -> u8
         ensures { result ≡ fault_number self }
     {

@@ -2,7 +2,7 @@
 
 use flurry_model::reply::KeptReply;
 
-/// A call of one key, as a history keeps it. A call that computes has no place in a history, since its function cannot be kept.
+/// A one-key call, as a history keeps it. A call that computes cannot be in a history, since its function cannot be kept.
 ///
 /// ```
 /// let (place, _reply) = book.call(KeptCall::Insert(key, value))?;
@@ -10,23 +10,23 @@ use flurry_model::reply::KeptReply;
 /// ```
 #[derive(Clone, Copy, Debug, PartialEq, Eq)]
 pub enum KeptCall<K, V> {
-    /// The value of a key.
+    /// A look-up of the value of a key.
     Get(K),
-    /// The stored key and the value of a key.
+    /// A look-up of the stored key and the value of a key.
     GetKeyValue(K),
-    /// Whether a key is present.
+    /// A test whether a key is present.
     ContainsKey(K),
-    /// Writes a value.
+    /// A write of a value.
     Insert(K, V),
-    /// Writes a value where the key is absent.
+    /// A write of a value if the key is absent.
     TryInsert(K, V),
-    /// Removes the pair of a key, and answers its value.
+    /// A removal of the pair of a key, which returns its value.
     Remove(K),
-    /// Removes the pair of a key, and answers the stored key too.
+    /// A removal of the pair of a key, which returns the stored key and the value.
     RemoveEntry(K),
 }
 
-/// A call, and what it replied.
+/// A call, and its reply.
 ///
 /// ```
 /// match (entry.call, entry.reply) {
@@ -38,6 +38,6 @@ pub enum KeptCall<K, V> {
 pub struct KeptEntry<K, V> {
     /// The call.
     pub call: KeptCall<K, V>,
-    /// What it replied.
+    /// The reply of the call.
     pub reply: KeptReply<K, V>,
 }

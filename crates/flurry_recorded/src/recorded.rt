@@ -13,10 +13,10 @@ use flurry_model::reply::KeptReply;
 use std::alloc::{AllocError, Allocator, Global};
 use std::sync::{Mutex, Wait};
 
-/// A map that records its calls, and that threads share.
+/// A map that threads share, and that records its calls.
 ///
-/// Its [`Book`] stands under one lock, which each call takes for its time. A call is recorded for a share: the book keeps the call with
-/// its reply in its history, and the share keeps a receipt.
+/// Its [`Book`] is under one lock, which each call holds while it runs. A call is recorded for a share: the book keeps the call with its
+/// reply in its history, and the share keeps a receipt.
 ///
 /// ```
 /// let map: Map = Recorded::with_hasher(alloc, LowHashBuilder);
@@ -34,8 +34,8 @@ pub struct Recorded<K: Ord, V, S: KeyHasher<K> = DefaultHashBuilder, A: Allocato
 }
 
 impl<K: Ord + Copy, V: Copy, S: KeyHasher<K>, A: Allocator + Copy> Recorded<K, V, S, A> {
-    /// An empty map over a hasher, without a share. It takes no memory.
-    // What stands under a lock is known by its type alone.
+    /// Creates an empty map that uses `hasher`, without shares. Takes no memory.
+    // It has no contract, since what is under a lock is known by its type alone.
     pub fn with_hasher(alloc: A, hasher: S) -> Self {
         Recorded {
             book: Mutex::new(Book::new(alloc, hasher)),
@@ -43,13 +43,13 @@ impl<K: Ord + Copy, V: Copy, S: KeyHasher<K>, A: Allocator + Copy> Recorded<K, V
         }
     }
 
-    /// The next share, without a receipt: shares are numbered from 0 on.
+    /// Returns the next share, which has no receipts. Shares are numbered from 0.
     ///
-    /// Takes the lock. Constant time, but that the list of shares grows.
+    /// Takes the lock. Constant time, apart from the growth of the list of shares.
     ///
     /// # Errors
     ///
-    /// [`AllocError`], where memory for its number is wanting. The map is then as it was.
+    /// Returns [`AllocError`] if memory for the number of the share cannot be allocated. The map is unchanged.
     pub fn share<R: Wait>(&self, rt: &R) -> Result<Share<K, V, A>, AllocError>
         ensures { IfOk result (λ s. s.receipts ≡ []) }
     {
@@ -57,9 +57,13 @@ impl<K: Ord + Copy, V: Copy, S: KeyHasher<K>, A: Allocator + Copy> Recorded<K, V
         Ok(Share::new(self.alloc, number))
     }
 
-    /// The value of a key, or none, as `Value`.
+    /// Returns the value of `key`, or `None` if the key is absent, as [`KeptReply::Value`].
     ///
-    /// Takes the lock. Time and errors are those of [`Book::call_for`]; refused, neither the map nor the share has changed.
+    /// Takes the lock. The time is that of [`Book::call_for`].
+    ///
+    /// # Errors
+    ///
+    /// Returns [`AllocError`] in the cases of [`Book::call_for`]. Neither the map nor the share changes.
     pub fn get<R: Wait>(
         &self,
         rt: &R,
@@ -72,9 +76,13 @@ impl<K: Ord + Copy, V: Copy, S: KeyHasher<K>, A: Allocator + Copy> Recorded<K, V
         self.call(rt, share, KeptCall::Get(key))
     }
 
-    /// The stored key and the value of a key, or none, as `Pair`.
+    /// Returns the stored key and the value of `key`, or `None` if the key is absent, as [`KeptReply::Pair`].
     ///
-    /// Takes the lock. Time and errors are those of [`Book::call_for`]; refused, neither the map nor the share has changed.
+    /// Takes the lock. The time is that of [`Book::call_for`].
+    ///
+    /// # Errors
+    ///
+    /// Returns [`AllocError`] in the cases of [`Book::call_for`]. Neither the map nor the share changes.
     pub fn get_key_value<R: Wait>(
         &self,
         rt: &R,
@@ -87,9 +95,13 @@ impl<K: Ord + Copy, V: Copy, S: KeyHasher<K>, A: Allocator + Copy> Recorded<K, V
         self.call(rt, share, KeptCall::GetKeyValue(key))
     }
 
-    /// Whether the map has the key, as `Contains`.
+    /// Returns whether the map contains `key`, as [`KeptReply::Contains`].
     ///
-    /// Takes the lock. Time and errors are those of [`Book::call_for`]; refused, neither the map nor the share has changed.
+    /// Takes the lock. The time is that of [`Book::call_for`].
+    ///
+    /// # Errors
+    ///
+    /// Returns [`AllocError`] in the cases of [`Book::call_for`]. Neither the map nor the share changes.
     pub fn contains_key<R: Wait>(
         &self,
         rt: &R,
@@ -102,9 +114,14 @@ impl<K: Ord + Copy, V: Copy, S: KeyHasher<K>, A: Allocator + Copy> Recorded<K, V
         self.call(rt, share, KeptCall::ContainsKey(key))
     }
 
-    /// Sets the value of a key, and answers the old one, or none, as `Value`. The key that was stored first stays.
+    /// Inserts a pair, and returns the value that the key had, or `None` if the key was absent, as [`KeptReply::Value`]. The key that was
+    /// stored first stays.
     ///
-    /// Takes the lock. Time and errors are those of [`Book::call_for`]; refused, neither the map nor the share has changed.
+    /// Takes the lock. The time is that of [`Book::call_for`].
+    ///
+    /// # Errors
+    ///
+    /// Returns [`AllocError`] in the cases of [`Book::call_for`]. Neither the map nor the share changes.
     pub fn insert<R: Wait>(
         &self,
         rt: &R,
@@ -118,10 +135,14 @@ impl<K: Ord + Copy, V: Copy, S: KeyHasher<K>, A: Allocator + Copy> Recorded<K, V
         self.call(rt, share, KeptCall::Insert(key, value))
     }
 
-    /// Puts a value at an absent key, and answers it as `New`. At a present key nothing changes: the answer is `Exists`, with the value that
-    /// stands and the one that was handed in.
+    /// Inserts a pair if the key is absent, and returns the value as [`KeptReply::New`]. If the key is present, nothing changes, and the
+    /// reply is [`KeptReply::Exists`] with the current value and `value`.
     ///
-    /// Takes the lock. Time and errors are those of [`Book::call_for`]; refused, neither the map nor the share has changed.
+    /// Takes the lock. The time is that of [`Book::call_for`].
+    ///
+    /// # Errors
+    ///
+    /// Returns [`AllocError`] in the cases of [`Book::call_for`]. Neither the map nor the share changes.
     pub fn try_insert<R: Wait>(
         &self,
         rt: &R,
@@ -135,9 +156,13 @@ impl<K: Ord + Copy, V: Copy, S: KeyHasher<K>, A: Allocator + Copy> Recorded<K, V
         self.call(rt, share, KeptCall::TryInsert(key, value))
     }
 
-    /// Takes the pair of a key out, and answers its value, or none, as `Value`.
+    /// Removes the pair of a key, and returns the value, or `None` if the key is absent, as [`KeptReply::Value`].
     ///
-    /// Takes the lock. Time and errors are those of [`Book::call_for`]; refused, neither the map nor the share has changed.
+    /// Takes the lock. The time is that of [`Book::call_for`].
+    ///
+    /// # Errors
+    ///
+    /// Returns [`AllocError`] in the cases of [`Book::call_for`]. Neither the map nor the share changes.
     pub fn remove<R: Wait>(
         &self,
         rt: &R,
@@ -150,9 +175,13 @@ impl<K: Ord + Copy, V: Copy, S: KeyHasher<K>, A: Allocator + Copy> Recorded<K, V
         self.call(rt, share, KeptCall::Remove(key))
     }
 
-    /// Takes the pair of a key out, and answers the stored key and the value, or none, as `Pair`.
+    /// Removes the pair of a key, and returns the stored key and the value, or `None` if the key is absent, as [`KeptReply::Pair`].
     ///
-    /// Takes the lock. Time and errors are those of [`Book::call_for`]; refused, neither the map nor the share has changed.
+    /// Takes the lock. The time is that of [`Book::call_for`].
+    ///
+    /// # Errors
+    ///
+    /// Returns [`AllocError`] in the cases of [`Book::call_for`]. Neither the map nor the share changes.
     pub fn remove_entry<R: Wait>(
         &self,
         rt: &R,
@@ -178,15 +207,14 @@ impl<K: Ord + Copy, V: Copy, S: KeyHasher<K>, A: Allocator + Copy> Recorded<K, V
         self.book.lock(rt).call_for(share, call)
     }
 
-    /// Ends the map, with its shares: answers the map and the history, if each receipt of each share stands in the history, and the
-    /// history has no further calls. Then the replies that all callers were given are those of one map, each call once, in its caller's
-    /// order.
+    /// Closes the map with its shares, and returns the map and the history if each receipt of each share is in the history, and the history
+    /// has no other calls. The replies that all callers received are then those of one map, each call once, in its caller's order.
     ///
-    /// Linear in the history and in the number of shares.
+    /// Linear in the length of the history and in the number of shares.
     ///
     /// # Errors
     ///
-    /// [`CloseFault`], as of [`Book::close`]. The map and the shares are then dropped.
+    /// Returns [`CloseFault`] in the cases of [`Book::close`]. The map and the shares are dropped.
     pub fn close(self, shares: Vec<Share<K, V, A>, A>) -> Result<Closed<K, V, S, A>, CloseFault>
     where
         V: PartialEq,

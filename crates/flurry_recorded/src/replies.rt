@@ -8,7 +8,7 @@ use flurry_model::reply::KeptReply;
 use flurry_seq::SeqMap;
 use std::alloc::{AllocError, Allocator};
 
-// Makes the call. Refused, the map is as it was.
+// Makes `call` on `map`, and returns its reply. If the call fails, the map is unchanged.
 pub(crate) fn reply_to<K: Ord + Copy, V: Copy, S: KeyHasher<K>, A: Allocator + Copy>(
     map: &mut SeqMap<K, V, S, A>,
     call: KeptCall<K, V>,

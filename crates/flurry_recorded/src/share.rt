@@ -7,7 +7,7 @@ use flurry_model::reply::KeptReply;
 use std::alloc::{Allocator, Global};
 use std::marker::Model;
 
-/// What a caller keeps of one call.
+/// A receipt: what a caller keeps of one call.
 ///
 /// ```
 /// let last: &Receipt<u64, u64> = share.receipts().last()?;
@@ -15,15 +15,15 @@ use std::marker::Model;
 /// ```
 #[derive(Clone, Copy, Debug, PartialEq, Eq)]
 pub struct Receipt<K, V> {
-    /// The place of the call in the history, from 0 on.
+    /// The place of the call in the history, counted from 0.
     pub place: usize,
     /// The call.
     pub call: KeptCall<K, V>,
-    /// What it replied to the caller.
+    /// The reply that the caller received.
     pub reply: KeptReply<K, V>,
 }
 
-/// One caller's part in a recorded map: its number, and a receipt of each of its calls, in its order.
+/// One caller's part in a recorded map: its number, and a receipt of each of its calls, in the order of the calls.
 ///
 /// ```
 /// map.insert(rt, share, key, value)?;
@@ -44,7 +44,7 @@ impl<K, V, A: Allocator> Model for Share<K, V, A> {
 }
 
 impl<K: Copy, V: Copy, A: Allocator> Share<K, V, A> {
-    // A share of that number without a receipt.
+    // A share with the number `number` and no receipts.
     pub(crate) fn new(alloc: A, number: usize) -> Self
         ensures { result ≡ share_contents number [] }
     {
@@ -54,7 +54,7 @@ impl<K: Copy, V: Copy, A: Allocator> Share<K, V, A> {
         }
     }
 
-    /// The number of the share: shares of one map are numbered from 0 on.
+    /// Returns the number of the share. The shares of one map are numbered from 0.
     ///
     /// Constant time.
     pub fn number(&self) -> usize
@@ -63,7 +63,7 @@ impl<K: Copy, V: Copy, A: Allocator> Share<K, V, A> {
         self.number
     }
 
-    /// The receipts, in the order of the calls.
+    /// Returns the receipts, in the order of the calls.
     ///
     /// Constant time.
     pub fn receipts(&self) -> &[Receipt<K, V>]
@@ -72,10 +72,10 @@ impl<K: Copy, V: Copy, A: Allocator> Share<K, V, A> {
         &self.receipts
     }
 
-    /// Puts another place and another reply into a receipt, which no call does: it is for tests of damage. Answers whether there is a
-    /// receipt of that index; if not, nothing changes.
+    /// Replaces the place and the reply of the receipt at index `at`. Returns `true` if there is such a receipt; otherwise nothing changes.
+    /// No recorded call does this: it is for tests with damaged receipts.
     ///
-    /// Constant time; takes no memory.
+    /// Constant time. Takes no memory.
     pub fn replace_receipt(&mut self, at: usize, place: usize, reply: KeptReply<K, V>) -> bool
         ensures found { result ≡ is_some (slice_get self.old.receipts at) }
         ensures after { MatchOption (slice_get self.old.receipts at) (self.new ≡ self.old)
