@@ -1,4 +1,4 @@
-//! The map of one owner, built in parallel, and joined.
+//! The owned map, built in parallel, and joined.
 ghost use Rattle.std.specs.Prelude.{◌≡◌, [], IfOk, OnOk, OnErr, map};
 ghost use Rattle.flurry_bins.specs.Bin.{entries_of_list};
 ghost use Rattle.flurry_model.specs.FiniteMap.{IsFiniteMap, with_all};
@@ -13,16 +13,16 @@ use rayon::prelude::*;
 use std::alloc::{AllocError, Allocator};
 use std::thread::Threads;
 
-/// Moves the pairs of the right map into the left one. Of a key that both have, the key that the left one stores stays, and the right
-/// one's value stands. The hashes are those that the left one's hasher gives. Room is made first, as of [`SeqMap::extend`]; where
-/// memory for that is wanting, the table grows as pairs come in.
+/// Moves the pairs of `right` into `left`. If both have a key, `left` keeps its stored key, and takes the value of `right`. The hashes are
+/// those of the hasher of `left`. Room is made first, as in [`SeqMap::extend`]; if memory for that cannot be allocated, the table grows as
+/// pairs come in.
 ///
-/// One insertion for each pair of the right map, whose nodes move; takes memory for tables alone.
+/// One insertion for each pair of `right`, whose nodes are moved. Takes memory for tables only.
 ///
 /// # Errors
 ///
-/// [`AllocError`], where memory for a first table is wanting, or where a key is new and the left map has
-/// [`flurry_seq::seq_map::MOST_PAIRS`] pairs. It then has some of the right one's pairs, and the others are dropped.
+/// Returns [`AllocError`] if memory for a first table cannot be allocated, or if a key is new and `left` has
+/// [`flurry_seq::seq_map::MOST_PAIRS`] pairs. `left` then has some of the pairs of `right`, and the others are dropped.
 pub fn join<K: Ord + Drop, V: Drop, S: KeyHasher<K> + Drop, A: Allocator + Copy>(
     left: &mut SeqMap<K, V, S, A>,
     right: SeqMap<K, V, S, A>,
@@ -43,7 +43,7 @@ pub fn join<K: Ord + Drop, V: Drop, S: KeyHasher<K> + Drop, A: Allocator + Copy>
     join_bins(left, bins)
 }
 
-// Moves the pairs of bins into a map.
+// Moves the pairs of `bins` into `left`.
 fn join_bins<K: Ord + Drop, V: Drop, S: KeyHasher<K>, A: Allocator + Copy>(
     left: &mut SeqMap<K, V, S, A>,
     bins: Vec<Bin<K, V, A>, A>,
@@ -59,7 +59,7 @@ fn join_bins<K: Ord + Drop, V: Drop, S: KeyHasher<K>, A: Allocator + Copy>(
     Ok(())
 }
 
-// Moves the pairs of a bin's nodes into a map.
+// Moves the pairs of a bin's nodes into `left`.
 fn join_list<K: Ord + Drop, V: Drop, S: KeyHasher<K>, A: Allocator + Copy>(
     left: &mut SeqMap<K, V, S, A>,
     list: ListBin<K, V, A>,
@@ -76,7 +76,7 @@ fn join_list<K: Ord + Drop, V: Drop, S: KeyHasher<K>, A: Allocator + Copy>(
     Ok(())
 }
 
-// The maps, joined in their order, over a hasher, with room for so many pairs.
+// The maps, joined in order, as one map that uses `hasher` and starts with room for `count` pairs.
 fn join_all<K: Ord + Drop, V: Drop, S: KeyHasher<K> + Drop, A: Allocator + Copy>(
     alloc: A,
     maps: Vec<SeqMap<K, V, S, A>, A>,
@@ -92,15 +92,15 @@ fn join_all<K: Ord + Drop, V: Drop, S: KeyHasher<K> + Drop, A: Allocator + Copy>
     Ok(all)
 }
 
-/// A map of pairs over a hasher, as [`SeqMap::from_list`] makes it, built in parallel: `rayon`'s workers make maps of pieces of the
-/// list, of `part` pairs each, which are then joined. A part of 0 is read as 1. Each worker has a copy of the hasher.
+/// Creates a map that uses `hasher` from the pairs of `list`, as [`SeqMap::from_list`] does, but in parallel: `rayon`'s workers build maps
+/// of pieces of the list, of `part` pairs each, which are then joined. A `part` of `0` means 1. Each worker has a copy of the hasher.
 ///
-/// Each pair is moved to its piece, inserted by a worker, and inserted once more where the maps are joined. Takes memory for the pieces,
-/// for their maps, and for the table of the map that is made.
+/// Each pair is moved to its piece, inserted by a worker, and inserted once more when the maps are joined. Takes memory for the pieces, for
+/// their maps, and for the table of the resulting map.
 ///
 /// # Errors
 ///
-/// [`AllocError`], where memory is wanting. The list is dropped.
+/// Returns [`AllocError`] if memory cannot be allocated. The list is dropped.
 pub fn from_par_list<
     K: Ord + Drop + Send + Sync,
     V: Drop + Send + Sync,
@@ -129,13 +129,13 @@ pub fn from_par_list<
     join_all(alloc, maps, count, hasher)
 }
 
-/// Inserts pairs, as [`SeqMap::extend`] does, of which `rayon`'s workers first make a map, as [`from_par_list`] does; that is then
-/// joined, by one insertion more for each of its pairs.
+/// Inserts the pairs of `list`, as [`SeqMap::extend`] does, but in parallel: `rayon`'s workers first build a map of them, as in
+/// [`from_par_list`], which is then joined into `map`, with one more insertion for each of its pairs.
 ///
 /// # Errors
 ///
-/// [`AllocError`], where memory is wanting. Where the map of the new pairs is refused, the map is as it was; else it has some of its
-/// pairs, and the others are dropped.
+/// Returns [`AllocError`] if memory cannot be allocated. If the map of the new pairs cannot be built, `map` is unchanged; otherwise it has
+/// some of the new pairs, and the others are dropped.
 pub fn par_extend<
     K: Ord + Drop + Send + Sync,
     V: Drop + Send + Sync,

@@ -4,7 +4,7 @@ ghost use Rattle.std.specs.Prelude.{◌≡◌, IfOk, flat_map, vec_items};
 use std::alloc::{AllocError, Allocator};
 use std::mem;
 
-// The pieces of a list, in its order, each of that length, but for the last. A length of 0 is read as 1.
+// The pieces of `list`, in its order, each of length `part` except the last. A `part` of `0` means 1.
 pub(crate) fn pieces<T: Drop, A: Allocator + Copy>(
     alloc: A,
     list: Vec<T, A>,

@@ -1,4 +1,4 @@
-//! The set of one owner, built in parallel.
+//! The owned set, built in parallel.
 ghost use Rattle.std.specs.Prelude.{◌≡◌, [], IfOk, OnOk, OnErr, map};
 ghost use Rattle.flurry_bins.specs.Bin.{entries_of_list};
 ghost use Rattle.flurry_model.specs.FiniteSet.{IsFiniteSet, with_elements};
@@ -26,11 +26,12 @@ fn as_pairs<T: Drop, A: Allocator + Copy>(
     Ok(pairs)
 }
 
-/// A set of elements over a hasher, as [`SeqSet::from_list`] makes it, built in parallel, in the time of [`map::from_par_list`].
+/// Creates a set that uses `hasher` from the elements of `list`, as [`SeqSet::from_list`] does, but in parallel. Takes the time of
+/// [`map::from_par_list`].
 ///
 /// # Errors
 ///
-/// [`AllocError`], where memory is wanting. The list is dropped.
+/// Returns [`AllocError`] if memory cannot be allocated. The list is dropped.
 pub fn from_par_list<
     T: Ord + Drop + Send + Sync,
     S: KeyHasher<T> + Copy + Send + Sync,
@@ -50,13 +51,13 @@ pub fn from_par_list<
     Ok(SeqSet::from_map(map))
 }
 
-/// Puts elements, as [`SeqSet::extend`] does, of which `rayon`'s workers first make a set, as [`from_par_list`] does, whose elements
-/// are then moved, by one insertion more for each.
+/// Inserts the elements of `list`, as [`SeqSet::extend`] does, but in parallel: `rayon`'s workers first build a set of them, as in
+/// [`from_par_list`], whose elements are then moved into `set`, with one more insertion for each.
 ///
 /// # Errors
 ///
-/// [`AllocError`], where memory is wanting. Where the set of the new elements is refused, the set is as it was; else it has some of
-/// them, and the others are dropped.
+/// Returns [`AllocError`] if memory cannot be allocated. If the set of the new elements cannot be built, `set` is unchanged; otherwise it
+/// has some of the new elements, and the others are dropped.
 pub fn par_extend<
     T: Ord + Drop + Send + Sync,
     S: KeyHasher<T> + Copy + Send + Sync,
@@ -79,7 +80,7 @@ pub fn par_extend<
     join_bins(set, bins)
 }
 
-// Moves the elements of bins into a set.
+// Moves the elements of `bins` into `set`.
 fn join_bins<T: Ord + Drop, S: KeyHasher<T>, A: Allocator + Copy>(
     set: &mut SeqSet<T, S, A>,
     bins: Vec<Bin<T, (), A>, A>,
@@ -95,7 +96,7 @@ fn join_bins<T: Ord + Drop, S: KeyHasher<T>, A: Allocator + Copy>(
     Ok(())
 }
 
-// Moves the elements of a bin's nodes into a set.
+// Moves the elements of a bin's nodes into `set`.
 fn join_list<T: Ord + Drop, S: KeyHasher<T>, A: Allocator + Copy>(
     set: &mut SeqSet<T, S, A>,
     list: ListBin<T, (), A>,
