@@ -1,11 +1,11 @@
-//! Why no map is made of pairs.
+//! The error of making a map from pairs.
 ghost use Rattle.std.specs.Prelude.{◌≡◌};
 ghost use Rattle.flurry_pairs.specs.declared.faults.FromPairsError.TheVariants.{NoMemory};
 
 use std::alloc::AllocError;
 use thiserror::Error;
 
-/// Why [`crate::map::from_pairs`] makes no map.
+/// The reason why [`crate::map::from_pairs`] makes no map.
 ///
 /// ```
 /// match seq_map::from_pairs(list, DefaultHashBuilder::default()) {
@@ -15,10 +15,10 @@ use thiserror::Error;
 /// ```
 #[derive(Clone, Copy, Debug, PartialEq, Eq, Error)]
 pub enum FromPairsError {
-    /// Memory is wanting.
+    /// Memory could not be allocated.
     #[error("memory is wanting")]
     NoMemory,
-    /// The key of the pair at this position, from 0, stood before, and no key before it did.
+    /// The position, counted from 0, of the first pair whose key is equal to an earlier key.
     #[error("the key at position {0} stood before")]
     DoubledKey(usize),
 }

@@ -5,9 +5,9 @@ use serde::{
 };
 use std::alloc::{Allocator, Global};
 
-/// Pairs of keys and values; in ascending order of their keys, where they were made of a map.
+/// A list of pairs of keys and values, in ascending order of the keys if it was made from a map.
 ///
-/// It is written as a sequence of pairs. What is read may be in any order.
+/// It is written as a sequence of pairs. A list that is read may be in any order.
 ///
 /// ```
 /// seq_map::to_sorted_pairs(map)
@@ -44,9 +44,9 @@ impl<K: DeserializeOwned, V: DeserializeOwned> DeserializeOwned for SortedPairs<
     }
 }
 
-/// Elements; in ascending order, where they were made of a set.
+/// A list of elements, in ascending order if it was made from a set.
 ///
-/// It is written as a sequence. What is read may be in any order, and may have an element twice.
+/// It is written as a sequence. A list that is read may be in any order, and may have an element twice.
 ///
 /// ```
 /// seq_set::to_sorted_items(set)

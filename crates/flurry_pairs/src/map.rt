@@ -1,4 +1,4 @@
-//! The pairs of a map of one owner.
+//! The pairs of an owned map as a list.
 ghost use Rattle.std.specs.Prelude.{◌≡◌, [], ℕ, length, IfOk, IfErr, IsPermutation};
 ghost use Rattle.std.specs.List.{AllZip};
 ghost use Rattle.std.specs.List.Sorted.{IsSortedByKey};
@@ -14,13 +14,13 @@ use flurry_model::hash::KeyHasher;
 use flurry_seq::{Iter, SeqMap};
 use std::alloc::{AllocError, Allocator};
 
-/// The pairs of a map, whose keys and values are cloned, in ascending order of the keys.
+/// Returns the pairs of a map, with clones of the keys and the values, in ascending order of the keys.
 ///
-/// A whole run of [`SeqMap::iter`], a clone of each key and value, and one sort.
+/// Costs a whole run of [`SeqMap::iter`], a clone of each key and each value, and one sort.
 ///
 /// # Errors
 ///
-/// [`AllocError`], where memory for the list is wanting, or where a clone is refused. The clones that were made are dropped.
+/// Returns [`AllocError`] if memory for the list cannot be allocated, or if a clone fails. The clones that were made are dropped.
 pub fn to_sorted_pairs<K: Ord + Clone, V: Clone, S: KeyHasher<K>, A: Allocator + Copy>(
     map: &SeqMap<K, V, S, A>,
 ) -> Result<SortedPairs<K, V, A>, AllocError>
@@ -35,7 +35,7 @@ pub fn to_sorted_pairs<K: Ord + Clone, V: Clone, S: KeyHasher<K>, A: Allocator +
     Ok(SortedPairs(pairs))
 }
 
-// The clones of the pairs that an iterator has left, in its order.
+// The clones of the pairs that the iterator `pairs` has left, in its order.
 fn clones<K: Ord + Clone, V: Clone, A: Allocator + Copy>(
     alloc: A,
     pairs: Iter<'_, K, V, A>,
@@ -49,16 +49,16 @@ fn clones<K: Ord + Clone, V: Clone, A: Allocator + Copy>(
     Ok(list)
 }
 
-/// A map of pairs in any order, over a hasher, in memory of their list's allocator. It begins as one with room for as many pairs as
+/// Creates a map that uses `hasher` from pairs in any order, in memory of their list's allocator. It starts with room for as many pairs as
 /// there are.
 ///
 /// One insertion for each pair.
 ///
 /// # Errors
 ///
-/// 1. [`FromPairsError::NoMemory`], where memory for the table or for a pair is wanting, or where there are more than
+/// 1. Returns [`FromPairsError::NoMemory`] if memory for the table or for a pair cannot be allocated, or if there are more than
 ///    [`flurry_seq::seq_map::MOST_PAIRS`] pairs.
-/// 2. [`FromPairsError::DoubledKey`], at the first position whose key stood before.
+/// 2. Returns [`FromPairsError::DoubledKey`] with the first position whose key is equal to an earlier one.
 ///
 /// The list is dropped.
 pub fn from_pairs<K: Ord + Drop, V: Drop, S: KeyHasher<K> + Drop, A: Allocator + Copy>(

@@ -1,4 +1,4 @@
-//! The elements of a set of one owner.
+//! The elements of an owned set as a list.
 ghost use Rattle.std.specs.Prelude.{◌≡◌, [], length, IfOk};
 ghost use Rattle.std.specs.List.{AllZip};
 ghost use Rattle.std.specs.List.Sorted.{IsSorted};
@@ -12,13 +12,13 @@ use flurry_seq::Keys;
 use flurry_set::SeqSet;
 use std::alloc::{AllocError, Allocator};
 
-/// The elements of a set, cloned, in ascending order.
+/// Returns clones of the elements of a set, in ascending order.
 ///
-/// A whole run of [`SeqSet::iter`], a clone of each element, and one sort.
+/// Costs a whole run of [`SeqSet::iter`], a clone of each element, and one sort.
 ///
 /// # Errors
 ///
-/// [`AllocError`], where memory for the list is wanting, or where a clone is refused. The clones that were made are dropped.
+/// Returns [`AllocError`] if memory for the list cannot be allocated, or if a clone fails. The clones that were made are dropped.
 pub fn to_sorted_items<T: Ord + Clone, S: KeyHasher<T>, A: Allocator + Copy>(
     set: &SeqSet<T, S, A>,
 ) -> Result<SortedItems<T, A>, AllocError>
@@ -32,7 +32,7 @@ pub fn to_sorted_items<T: Ord + Clone, S: KeyHasher<T>, A: Allocator + Copy>(
     Ok(SortedItems(items))
 }
 
-// The clones of the elements that an iterator has left, in its order.
+// The clones of the elements that the iterator `elements` has left, in its order.
 fn clones<T: Ord + Clone, A: Allocator + Copy>(
     alloc: A,
     elements: Keys<'_, T, (), A>,
@@ -46,15 +46,15 @@ fn clones<T: Ord + Clone, A: Allocator + Copy>(
     Ok(list)
 }
 
-/// A set of elements in any order, over a hasher, in memory of their list's allocator: of a class that comes twice the first stays. It
-/// begins as one with room for as many elements as there are.
+/// Creates a set that uses `hasher` from elements in any order, in memory of their list's allocator. Of equal elements, the first stays.
+/// The set starts with room for as many elements as there are.
 ///
 /// One insertion for each element.
 ///
 /// # Errors
 ///
-/// [`AllocError`], where memory for the table or for an element is wanting, or where there are more than
-/// [`flurry_seq::seq_map::MOST_PAIRS`] classes. The list is dropped.
+/// Returns [`AllocError`] if memory for the table or for an element cannot be allocated, or if there are more than
+/// [`flurry_seq::seq_map::MOST_PAIRS`] classes of equal elements. The list is dropped.
 pub fn from_items<T: Ord + Drop, S: KeyHasher<T> + Drop, A: Allocator + Copy>(
     items: SortedItems<T, A>,
     hasher: S,
