@@ -1,6 +1,6 @@
-//! A bin: the entries of one place of a table, in strictly ascending order of hash and key.
+//! A bin: the entries at one place of a table, in strictly ascending order of hash and key.
 //!
-//! A bin is a [`ListBin`], a [`TreeBin`], or a [`Bin`], which is whichever of the two fits its size. All three meet the trait
+//! A bin is a [`ListBin`], a [`TreeBin`], or a [`Bin`], which is the one of the two that fits its size. All three implement the trait
 //! [`Ordered`], and their nodes are the same boxes, so a list turns into a tree and back without taking memory.
 pub mod adaptive;
 pub mod entry;

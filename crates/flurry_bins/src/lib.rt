@@ -1,4 +1,4 @@
-//! The bins of a hash map: the lists and trees of entries that stand at one place of a table.
+//! The bins of a hash map: the lists and trees of the entries at one place of a table.
 #![tactic(auto)]
 
 pub mod bin;

@@ -1,5 +1,5 @@
-//! A new node in a table's bin, and a value with two owners. Sizes of tables, the place of a hash in one and what calls answer are handed
-//! on from [`flurry_model`].
+//! Insertion into a bin of a table, and a value with two owners. The sizes of tables, the place of a hash in a table and the replies of
+//! calls are re-exported from [`flurry_model`].
 ghost use Rattle.std.specs.Prelude.{◌≡◌, ◌<◌, ◌==◌, ◌&&◌, not, length, IfOk, OnErr, IsNone, is_some, if◌then◌else◌};
 ghost use Rattle.std.specs.Arc.{arc_value};
 ghost use Rattle.flurry_bins.specs.Bin.{entries_of_bin, is_tree};
@@ -16,7 +16,7 @@ pub use flurry_model::try_insert::TryInsertError;
 use std::alloc::{AllocError, Allocator};
 use std::sync::Arc;
 
-// Whether one more entry makes a tree of the bin in a large table, or asks for a larger one.
+// Whether one more entry turns the bin into a tree, if the table is large, or else makes it ask for a larger table.
 fn is_long_list<K: Ord + Drop, V: Drop, A: Allocator>(bin: &Bin<K, V, A>) -> bool
     ensures { result ≡ (not (is_tree bin.now) && (length (entries_of_bin bin.now) == LONG_LIST)) }
 {
@@ -26,10 +26,10 @@ fn is_long_list<K: Ord + Drop, V: Drop, A: Allocator>(bin: &Bin<K, V, A>) -> boo
     }
 }
 
-/// Puts a node, whose hash and key are absent, into its bin in a table of so many bins. Answers whether the bin asks for a larger
-/// table: a list of eight does in a table of fewer than 64 bins, and becomes a tree in a larger one.
+/// Inserts a node whose hash and key are absent into its bin, in a table of `bins` bins. Returns `true` if the bin asks for a larger table:
+/// a list of eight entries does so in a table of fewer than 64 bins, and becomes a tree in a table of 64 bins or more.
 ///
-/// As many steps as a look-up; takes no memory.
+/// As many steps as a look-up. Takes no memory.
 pub fn put_in_table<K: Ord + Drop, V: Drop, A: Allocator>(
     bin: &mut Bin<K, V, A>,
     node: BoxedNode<K, V, A>,
@@ -50,14 +50,15 @@ pub fn put_in_table<K: Ord + Drop, V: Drop, A: Allocator>(
     is_long && bins < LEAST_FOR_TREES
 }
 
-/// Puts a value at a hash and a key in their bin, in a table of so many bins, by one way down the bin. Answers the value that stood
-/// there, and none where the key was absent; and whether the bin asks for a larger table, as [`put_in_table`] does for a new key.
+/// Sets the value at a hash and a key in their bin, in a table of `bins` bins, in one pass down the bin. Returns the old value, or `None`
+/// if the key was absent, and whether the bin asks for a larger table, as in [`put_in_table`], which it does for a new key only.
 ///
-/// As many steps as a look-up. An absent key takes memory for itself and for a node; a present one stays as it was stored.
+/// As many steps as a look-up. If the key is absent, memory for the key and for a node is taken; if it is present, the stored key stays.
 ///
 /// # Errors
 ///
-/// [`AllocError`], where that memory is wanting. The entries are then as they were, and the key and the value are dropped.
+/// Returns [`AllocError`] if memory for the key or for the node cannot be allocated. The entries are unchanged, and the key and the value
+/// are dropped.
 pub fn insert_in_table<K: Ord + Drop, V: Drop, A: Allocator + Copy>(
     bin: &mut Bin<K, V, A>,
     alloc: A,
@@ -89,11 +90,11 @@ pub fn insert_in_table<K: Ord + Drop, V: Drop, A: Allocator + Copy>(
     Ok((None, false))
 }
 
-/// A value with two owners. Constant time; takes memory for the value.
+/// Returns two `Arc`s that share `value`. Constant time. Takes memory for the value.
 ///
 /// # Errors
 ///
-/// [`AllocError`], where memory for the value or for its further owner is wanting; the value is dropped.
+/// Returns [`AllocError`] if memory for the value cannot be allocated, or if cloning its `Arc` fails. The value is dropped.
 pub fn two_owners<V: Drop, A: Allocator>(
     alloc: A,
     value: V,

@@ -1,4 +1,4 @@
-//! A bin that is a list while it is small, and a tree else.
+//! A bin that is a list while it is small, and a tree otherwise.
 ghost use Rattle.std.specs.Prelude.{◌≡◌, ◌<◌, ◌≤◌, ◌||◌, ◌&&◌, ◌+◌, nat_le, [], length, map, true, false, Some, IsSome, IsNone, IfOk, OnErr};
 ghost use Rattle.std.specs.Option.{option_map};
 ghost use Rattle.std.specs.Arc.{arc_value};
@@ -25,7 +25,7 @@ use std::alloc::{AllocError, Allocator, Global};
 use std::mem;
 use std::sync::Arc;
 
-/// Which kind of bin a [`Bin`] is, and how many entries it has.
+/// The kind of a [`Bin`], and the number of its entries.
 ///
 /// ```
 /// match map.shape_of(hash) {
@@ -36,11 +36,11 @@ use std::sync::Arc;
 /// ```
 #[derive(Clone, Copy, Debug, PartialEq, Eq)]
 pub enum Shape {
-    /// A list with no entry.
+    /// A list without entries.
     Empty,
-    /// A list of so many entries, at least one and at most nine.
+    /// A list, with the number of its entries, which is at least one and at most nine.
     List(usize),
-    /// A tree of so many entries, at least seven.
+    /// A tree, with the number of its entries, which is at least seven.
     Tree(usize),
 }
 
@@ -52,15 +52,15 @@ enum Kind<K: Ord, V, A: Allocator = Global> {
     AsTree(NodeTree<K, V, A>),
 }
 
-/// A list of at most nine nodes, or a tree of at least seven. A look-up among `n` entries visits at most nine nodes, or twice
-/// as many as `n + 1` has binary digits, whichever is more.
+/// A list of at most nine nodes, or a tree of at least seven nodes. A look-up among `n` entries visits at most nine nodes, or twice as many
+/// as `n + 1` has binary digits, whichever is more.
 ///
-/// No call takes memory: a list and a tree are made of the same nodes, so each turns into the other as it stands.
+/// None of its public calls takes memory: a list and a tree are made of the same nodes, so each turns into the other in place.
 ///
-/// - A list of nine nodes becomes a tree when a tenth is put in, or when it is planted.
+/// - A list of nine nodes becomes a tree when a tenth node is inserted, or when it is planted by [`Bin::plant`].
 /// - A tree that a removal leaves with six nodes becomes a list.
-/// - The halves of a list are lists. A half of a tree is a tree if it has at least seven nodes, and a list else.
-/// - A list that is taken over becomes a tree if it has more than nine nodes.
+/// - The halves of a list are lists. A half of a tree is a tree if it has at least seven nodes, and a list otherwise.
+/// - A list from which [`Ordered::from_list`] makes a bin becomes a tree if it has more than nine nodes.
 ///
 /// ```
 /// let mut bin = Bin::new();
@@ -73,7 +73,7 @@ pub struct Bin<K: Ord, V, A: Allocator = Global> {
     ghost sized: { IsSized (kind_is_tree kind) (length (kind_entries kind)) } by { IsSized-prop (kind_is_tree kind) (length (kind_entries kind)) },
 }
 
-// A list, however long.
+// The kind of a list of any length.
 fn list_kind<K: Ord + Drop, V: Drop, A: Allocator>(list: ListBin<K, V, A>) -> Kind<K, V, A>
     ensures entries { kind_entries result ≡ chain list.head }
     ensures kind { kind_is_tree result ≡ false }
@@ -90,7 +90,7 @@ fn list_kind<K: Ord + Drop, V: Drop, A: Allocator>(list: ListBin<K, V, A>) -> Ki
     }
 }
 
-// A tree that has a node.
+// The kind of a tree that has at least one node.
 fn tree_kind<K: Ord + Drop, V: Drop, A: Allocator>(tree: TreeBin<K, V, A>) -> Kind<K, V, A>
     requires { 0 < length (inorder (shape tree.root)) }
     ensures entries { kind_entries result ≡ inorder (shape tree.root) }
@@ -101,7 +101,7 @@ fn tree_kind<K: Ord + Drop, V: Drop, A: Allocator>(tree: TreeBin<K, V, A>) -> Ki
     Kind::AsTree(NodeTree { len, root })
 }
 
-// A tree from so many entries on, and a list below.
+// The kind for the entries of `list`: a tree if there are at least `least_tree`, and a list otherwise.
 fn kind_from<K: Ord + Drop, V: Drop, A: Allocator>(
     list: ListBin<K, V, A>,
     least_tree: usize,
@@ -133,7 +133,7 @@ fn list_of<K: Ord + Drop, V: Drop, A: Allocator>(kind: Kind<K, V, A>) -> ListBin
     }
 }
 
-// A list of nine as a tree, and anything else as it is.
+// Turns a list of nine nodes into a tree, and leaves anything else as it is.
 fn plant_kind<K: Ord + Drop, V: Drop, A: Allocator>(kind: Kind<K, V, A>) -> Kind<K, V, A>
     ensures entries { kind_entries result ≡ kind_entries kind }
     ensures kind { kind_is_tree result ≡ (kind_is_tree kind || nat_le MOST_IN_LIST (length (kind_entries kind))) }
@@ -146,7 +146,7 @@ fn plant_kind<K: Ord + Drop, V: Drop, A: Allocator>(kind: Kind<K, V, A>) -> Kind
     }
 }
 
-// Puts in a node whose place is free; a list of nine is a tree then.
+// Inserts a node whose place is free. A list of nine nodes then becomes a tree.
 fn put_into<K: Ord + Drop, V: Drop, A: Allocator>(
     kind: Kind<K, V, A>,
     node: BoxedNode<K, V, A>,
@@ -181,7 +181,7 @@ fn put_into<K: Ord + Drop, V: Drop, A: Allocator>(
     }
 }
 
-// Takes out the node of a place; a tree that is left with six nodes is a list then.
+// Removes the node at a place, and returns the rest and the node, if there is one. A tree that is left with six nodes then becomes a list.
 fn take_from<K: Ord + Drop, V: Drop, A: Allocator>(
     kind: Kind<K, V, A>,
     hash: u64,
@@ -218,7 +218,7 @@ fn take_from<K: Ord + Drop, V: Drop, A: Allocator>(
     }
 }
 
-// Puts another value at a place that is taken, and hands out the old one.
+// Replaces the value at a place that is taken, and returns the old value.
 fn write_into<K: Ord + Drop, V: Drop, A: Allocator>(
     kind: Kind<K, V, A>,
     hash: u64,
@@ -251,8 +251,8 @@ fn write_into<K: Ord + Drop, V: Drop, A: Allocator>(
     }
 }
 
-// Puts a value at a place, and answers the one that stood there, or none with a new node; more than nine nodes are a tree then.
-// Where memory for the node is wanting, the entries stay.
+// Sets the value at a place, and returns the old value, or `None` if a new node was inserted. More than nine nodes then become a tree. If
+// memory for the node cannot be allocated, the entries stay.
 fn insert_into<K: Ord + Drop, V: Drop, A: Allocator + Copy>(
     kind: Kind<K, V, A>,
     alloc: A,
@@ -282,7 +282,8 @@ fn insert_into<K: Ord + Drop, V: Drop, A: Allocator + Copy>(
     }
 }
 
-// The same of a tree. One whose entries have one hash goes to one side as it stands.
+// Splits a tree into the entries whose hash has a 0 at bit `bit`, and those whose hash has a 1 there. Each half is a tree if it has at
+// least seven nodes, and a list otherwise. A tree whose entries have one hash goes to one side as it is.
 fn split_tree<K: Ord + Drop, V: Drop, A: Allocator>(
     tree: NodeTree<K, V, A>,
     bit: u8,
@@ -308,7 +309,8 @@ fn split_tree<K: Ord + Drop, V: Drop, A: Allocator>(
     }
 }
 
-// The entries whose hash has this bit 0, and those that have it 1. A half of a tree is a tree from seven nodes on.
+// Splits the entries into those whose hash has a 0 at bit `bit`, and those whose hash has a 1 there. A half of a tree is a tree if it has
+// at least seven nodes.
 fn split_kind<K: Ord + Drop, V: Drop, A: Allocator>(
     kind: Kind<K, V, A>,
     bit: u8,
@@ -343,7 +345,7 @@ fn split_kind<K: Ord + Drop, V: Drop, A: Allocator>(
 impl<K: Ord, V, A: Allocator> Bin<K, V, A> {
     ghost use Rattle.flurry_bins.specs.Bin.{entries_of_bin, is_tree};
 
-    /// A bin with no entry. Constant time.
+    /// Creates an empty bin. Constant time.
     pub fn new() -> Self
         ensures entries { entries_of_bin result ≡ [] }
         ensures kind { is_tree result ≡ false }
@@ -356,7 +358,7 @@ impl<K: Ord, V, A: Allocator> Bin<K, V, A> {
 impl<K: Ord + Drop, V: Drop, A: Allocator> Bin<K, V, A> {
     ghost use Rattle.flurry_bins.specs.Bin.{entries_of_bin, is_tree, shape_of_bin};
 
-    /// Whether the bin is a list or a tree, and of how many entries. Constant time.
+    /// Returns whether the bin is a list or a tree, with the number of its entries. Constant time.
     pub fn shape(&self) -> Shape
         ensures { result ≡ shape_of_bin self.now }
     {
@@ -368,7 +370,7 @@ impl<K: Ord + Drop, V: Drop, A: Allocator> Bin<K, V, A> {
         }
     }
 
-    /// The greatest write number of the entries, 0 where there is none. Linear time.
+    /// Returns the greatest write number of the entries, or 0 if there are none. Linear time.
     pub fn greatest_number(&self) -> u64
         ensures { result ≡ greatest (map (λ e. e.number) (entries_of_bin self.now)) }
     {
@@ -380,7 +382,7 @@ impl<K: Ord + Drop, V: Drop, A: Allocator> Bin<K, V, A> {
         }
     }
 
-    /// Makes a tree of a list of nine nodes, and leaves any other bin as it is. Constant time; takes no memory.
+    /// Turns a list of nine nodes into a tree, and leaves any other bin as it is. Constant time. Takes no memory.
     pub fn plant(&mut self)
         ensures entries { entries_of_bin self.new ≡ entries_of_bin self.old }
         ensures kind { is_tree self.new ≡ (is_tree self.old || nat_le MOST_IN_LIST (length (entries_of_bin self.old))) }
@@ -394,8 +396,8 @@ impl<K: Ord + Drop, V: Drop, A: Allocator> Bin<K, V, A> {
 impl<K: Ord + Drop, V: Drop, A: Allocator + Copy> Bin<K, V, A> {
     ghost use Rattle.flurry_bins.specs.Bin.{entries_of_bin, is_tree};
 
-    // Puts a value at a place, and answers the one that stood there, or none with a new node; a list of nine nodes is made a tree then.
-    // Where memory for the node is wanting, the bin is as it was.
+    // Sets the value at a place, and returns the old value, or `None` if a new node was inserted. In that case a list of nine nodes becomes
+    // a tree. If memory for the node cannot be allocated, the bin is unchanged.
     pub(crate) fn insert(
         &mut self,
         alloc: A,
@@ -498,7 +500,7 @@ impl<K: Ord + Drop, V: Drop, A: Allocator> Ordered<K, V, A> for Bin<K, V, A> {
         old
     }
 
-    // A list of nine nodes is made a tree first.
+    // A list of nine nodes becomes a tree.
     fn put_node(&mut self, node: BoxedNode<K, V, A>)
         requires absent { let e = entry_of node.value in
             IsNone (entry_at K.cmp e.hash (arc_value e.key) (entries_of_bin self.old)) }
@@ -510,7 +512,7 @@ impl<K: Ord + Drop, V: Drop, A: Allocator> Ordered<K, V, A> for Bin<K, V, A> {
         self.kind = put_into(kind, node);
     }
 
-    // A tree that is left with six nodes is made a list.
+    // A tree that is left with six nodes becomes a list.
     fn remove(&mut self, hash: u64, key: &K) -> Link<K, V, A>
         ensures removed { option_map (λ b. entry_of b.value) result
             ≡ entry_at K.cmp hash key.now (entries_of_bin self.old) }
@@ -524,7 +526,7 @@ impl<K: Ord + Drop, V: Drop, A: Allocator> Ordered<K, V, A> for Bin<K, V, A> {
         node
     }
 
-    // A half of a tree is a tree from seven nodes on, and a half of a list is a list.
+    // A half of a tree is a tree if it has at least seven nodes, and a half of a list is a list.
     fn split(self, bit: u8) -> (Self, Self)
         requires { bit < 64 }
         ensures low { entries_of_bin result.0 ≡ with_bit bit 0 (entries_of_bin self) }
@@ -544,7 +546,7 @@ impl<K: Ord + Drop, V: Drop, A: Allocator> Ordered<K, V, A> for Bin<K, V, A> {
         list_of(kind)
     }
 
-    // More than nine nodes are made a tree.
+    // More than nine nodes become a tree.
     fn from_list(list: ListBin<K, V, A>) -> Self
         ensures entries { entries_of_bin result ≡ entries_of_list list }
         ensures kind { is_tree result ≡ nat_le (MOST_IN_LIST + 1) (length (entries_of_list list)) }

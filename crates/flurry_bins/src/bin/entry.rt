@@ -6,7 +6,7 @@ use std::alloc::{Allocator, Global};
 use std::cmp::Ordering;
 use std::sync::Arc;
 
-/// A hash, a key and a value, which other holders may share, and the write number of the value.
+/// A hash, a key and a value, and the write number of the value. The key and the value may have other owners.
 ///
 /// ```
 /// let Entry { value, .. } = Box::into_inner(node).into_entry();
@@ -16,18 +16,18 @@ use std::sync::Arc;
 pub struct Entry<K, V, A: Allocator = Global> {
     /// The hash of the key.
     pub hash: u64,
-    /// The key, as it was first put.
+    /// The key, as it was first inserted.
     pub key: Arc<K, A>,
-    /// The value that was put last.
+    /// The value that was written last.
     pub value: Arc<V, A>,
     /// The write number of the value.
     pub number: u64,
 }
 
 impl<K: Ord, V, A: Allocator> Entry<K, V, A> {
-    /// How the place of a hash and a key compares to this entry's: by the hash, and then by the key.
+    /// Returns how the place of `hash` and `key` compares with the place of the entry: by the hash, and then by the key.
     ///
-    /// One comparison of numbers, and one of keys where the hashes are equal; takes no memory.
+    /// A comparison of the hashes, and one comparison of keys if the hashes are equal. Takes no memory.
     pub fn compare_place(&self, hash: u64, key: &K) -> Ordering
         ensures { result ≡ place_cmp K.cmp hash key.now self.now }
     {
@@ -40,14 +40,14 @@ impl<K: Ord, V, A: Allocator> Entry<K, V, A> {
         }
     }
 
-    /// Whether this entry is the one of a hash and a key. At most one comparison of keys; takes no memory.
+    /// Returns `true` if the entry is the one of `hash` and `key`. At most one comparison of keys. Takes no memory.
     pub fn is_at(&self, hash: u64, key: &K) -> bool
         ensures { result ≡ is_at K.cmp hash key.now self.now }
     {
         self.compare_place(hash, key) == Ordering::Equal
     }
 
-    /// Whether this entry stands past a bound; with no bound each one does. At most one comparison of keys; takes no memory.
+    /// Returns `true` if the entry is past `bound`, or if there is no bound. At most one comparison of keys. Takes no memory.
     pub fn is_past(&self, bound: Option<(u64, &K)>) -> bool
         ensures { result ≡ is_past_bound K.cmp (lent_bound bound.entry) self.now }
     {

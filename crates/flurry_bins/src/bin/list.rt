@@ -20,7 +20,7 @@ use std::sync::Arc;
 
 /// The entries of a bin as a chain of nodes. It suits a few entries: a look-up visits each node before its place.
 ///
-/// A drop walks the chain, so a long one does not run out of stack.
+/// Dropping the bin walks along the chain, so that a long chain does not overflow the stack.
 ///
 /// ```
 /// let mut list = ListBin::new();
@@ -37,14 +37,14 @@ pub struct ListBin<K: Ord, V, A: Allocator = Global> {
 impl<K: Ord, V, A: Allocator> ListBin<K, V, A> {
     ghost use Rattle.flurry_bins.specs.Bin.{entries_of_list};
 
-    /// A bin with no entry. Constant time.
+    /// Creates an empty bin. Constant time.
     pub fn new() -> Self
         ensures { entries_of_list result ≡ [] }
     {
         ListBin { head: None, len: 0 }
     }
 
-    /// The greatest write number of the entries, 0 where there is none. Linear time.
+    /// Returns the greatest write number of the entries, or 0 if there are none. Linear time.
     pub fn greatest_number(&self) -> u64
         ensures { result ≡ greatest (map (λ e. e.number) (entries_of_list self.now)) }
     {
@@ -74,7 +74,7 @@ impl<K: Ord, V, A: Allocator> ListBin<K, V, A> {
 impl<K: Ord + Drop, V: Drop, A: Allocator> ListBin<K, V, A> {
     ghost use Rattle.flurry_bins.specs.Bin.{entries_of_list};
 
-    /// Takes out the first node, if there is one. Constant time.
+    /// Removes the first node, and returns it, or `None` if the list is empty. Constant time.
     pub fn pop_front(&mut self) -> Option<BoxedNode<K, V, A>>
         ensures { MatchOption result
             ((entries_of_list self.old ≡ []) × (entries_of_list self.new ≡ []))
@@ -88,7 +88,7 @@ impl<K: Ord + Drop, V: Drop, A: Allocator> ListBin<K, V, A> {
     }
 }
 
-// The node in front of a chain.
+// Puts a node in front of the chain `behind`.
 pub(crate) fn prepend<K: Drop, V: Drop, A: Allocator>(
     mut node: BoxedNode<K, V, A>,
     behind: Link<K, V, A>,
@@ -99,7 +99,7 @@ pub(crate) fn prepend<K: Drop, V: Drop, A: Allocator>(
     node
 }
 
-// The first node of a chain, and those behind it.
+// Detaches the first node of a chain from those behind it, and returns both.
 pub(crate) fn detach_tail<K, V, A: Allocator>(
     mut node: BoxedNode<K, V, A>,
 ) -> (BoxedNode<K, V, A>, Link<K, V, A>)
@@ -110,7 +110,7 @@ pub(crate) fn detach_tail<K, V, A: Allocator>(
     (node, behind)
 }
 
-// The nodes before a place, turned round, and those from it on.
+// The nodes before a place, in reverse order, and those from the place on.
 fn split_before<K: Ord, V, A: Allocator>(
     head: Link<K, V, A>,
     hash: u64,
@@ -132,7 +132,7 @@ fn split_before<K: Ord, V, A: Allocator>(
     (front, None)
 }
 
-// The nodes of the first chain, turned round, and then those of the second.
+// The nodes of the chain `front` in reverse order, and then those of the chain `back`.
 fn prepend_reversed<K, V, A: Allocator>(front: Link<K, V, A>, back: Link<K, V, A>) -> Link<K, V, A>
     ensures { chain result ≡ reverse (chain front) ++ chain back }
 {
@@ -145,8 +145,9 @@ fn prepend_reversed<K, V, A: Allocator>(front: Link<K, V, A>, back: Link<K, V, A
     to
 }
 
-// Puts a value at a place that no node of a chain stands before: into the first node if that is there, and into a new one in front
-// else. Where memory for that is wanting, the chain is as it was.
+// Sets the value at a place that no node of the chain is before: in the first node if it is at the place, and otherwise in a new node in
+// front of the chain. Returns the old value, or `None` for a new node. If memory for the new node cannot be allocated, the chain is
+// unchanged.
 fn insert_first<K: Ord + Drop, V: Drop, A: Allocator + Copy>(
     rest: &mut Link<K, V, A>,
     alloc: A,
@@ -170,7 +171,7 @@ fn insert_first<K: Ord + Drop, V: Drop, A: Allocator + Copy>(
     Ok(None)
 }
 
-// The entry of a place in the chain from a node on, and how many nodes were visited.
+// The entry at a place in the chain from a node on, and the number of nodes that were visited.
 pub(crate) fn find_in<'a, K: Ord, V, A: Allocator>(
     first: Option<&'a Node<K, V, A>>,
     hash: u64,
@@ -227,8 +228,8 @@ pub(crate) fn greatest_in<K, V, A: Allocator>(first: Option<&Node<K, V, A>>) -> 
 impl<K: Ord + Drop, V: Drop, A: Allocator + Copy> ListBin<K, V, A> {
     ghost use Rattle.flurry_bins.specs.Bin.{entries_of_list};
 
-    // Puts a value at a place, and answers the one that stood there. Where none did it takes memory for the key and a node; where that
-    // is wanting, the list is as it was.
+    // Sets the value at a place, and returns the old value, or `None` if there was none. In that case memory for the key and a node is
+    // taken; if it cannot be allocated, the list is unchanged.
     pub(crate) fn insert(
         &mut self,
         alloc: A,
@@ -254,7 +255,7 @@ impl<K: Ord + Drop, V: Drop, A: Allocator + Copy> ListBin<K, V, A> {
 }
 
 impl<K: Ord + Drop, V: Drop, A: Allocator> Drop for ListBin<K, V, A> {
-    // A long chain is walked, so that it does not run out of stack.
+    // Walks along the chain, so that a long one does not overflow the stack.
     fn drop(self) {
         let ListBin { head, len: _ } = self;
         let mut rest = head;

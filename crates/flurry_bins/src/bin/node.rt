@@ -20,9 +20,9 @@ use std::sync::Arc;
 /// ```
 #[derive(Clone, Copy, Debug, PartialEq, Eq)]
 pub enum Colour {
-    /// No child of it is red.
+    /// The red colour: a red node has no red child.
     Red,
-    /// It counts for the height of the tree.
+    /// The black colour: a black node counts for the height of the tree.
     Black,
 }
 
@@ -34,7 +34,7 @@ pub enum Colour {
 /// ```
 pub type BoxedNode<K, V, A = Global> = Box<Node<K, V, A>, A>;
 
-/// What leads to a node, if there is one.
+/// A link to a node, or `None`.
 pub(crate) type Link<K, V, A> = Option<Box<Node<K, V, A>, A>>;
 
 /// An entry in a box of its own, linked into at most one bin.
@@ -46,7 +46,7 @@ pub(crate) type Link<K, V, A> = Option<Box<Node<K, V, A>, A>>;
 /// ```
 #[derive(Drop)]
 pub struct Node<K, V, A: Allocator = Global> {
-    // What a walk along a list reads stands first, in the order of the memory.
+    // The fields that a walk along a list reads come first in memory.
     pub(crate) right: Option<Box<Node<K, V, A>, A>>,
     pub(crate) entry: Entry<K, V, A>,
     pub(crate) left: Option<Box<Node<K, V, A>, A>>,
@@ -54,11 +54,11 @@ pub struct Node<K, V, A: Allocator = Global> {
 }
 
 impl<K: Drop, V: Drop, A: Allocator> Node<K, V, A> {
-    /// A node that is in no bin yet. Constant time; takes memory for one node.
+    /// Creates a node that is in no bin yet. Constant time. Takes memory for one node.
     ///
     /// # Errors
     ///
-    /// [`AllocError`], where memory is wanting; the entry is dropped.
+    /// Returns [`AllocError`] if memory for the node cannot be allocated. The entry is dropped.
     pub fn new(alloc: A, entry: Entry<K, V, A>) -> Result<BoxedNode<K, V, A>, AllocError>
         ensures { IfOk result (λ b. entry_of b.value ≡ entry) }
     {
@@ -73,11 +73,11 @@ impl<K: Drop, V: Drop, A: Allocator> Node<K, V, A> {
         )?)
     }
 
-    /// A node of a pair that is in no bin yet. Constant time; takes memory for the key, the value and the node.
+    /// Creates a node of a pair that is in no bin yet. Constant time. Takes memory for the key, the value and the node.
     ///
     /// # Errors
     ///
-    /// [`AllocError`], where memory is wanting; the key and the value are dropped.
+    /// Returns [`AllocError`] if memory cannot be allocated. The key and the value are dropped.
     pub fn of_pair(
         alloc: A,
         hash: u64,
@@ -96,7 +96,7 @@ impl<K: Drop, V: Drop, A: Allocator> Node<K, V, A> {
         Node::of_key(alloc, hash, key, value, number)
     }
 
-    // A node of a key and of a value that has an owner.
+    // A node of a key, and of a value that is in an `Arc` already.
     pub(crate) fn of_key(
         alloc: A,
         hash: u64,
@@ -118,14 +118,14 @@ impl<K: Drop, V: Drop, A: Allocator> Node<K, V, A> {
         Node::new(alloc, entry)
     }
 
-    /// The entry. Constant time.
+    /// Returns a reference to the entry. Constant time.
     pub fn entry(&self) -> &Entry<K, V, A>
         ensures { result.now ≡ entry_of self.now }
     {
         &self.entry
     }
 
-    // Writes another value, and hands out the old one.
+    // Replaces the value and its write number, and returns the old value.
     pub(crate) fn write(&mut self, value: Arc<V, A>, number: u64) -> Arc<V, A>
         ensures old { result ≡ (entry_of self.old).value }
         ensures after { self.new ≡ with_entry self.old (with_value (entry_of self.old) value number) }
@@ -135,7 +135,7 @@ impl<K: Drop, V: Drop, A: Allocator> Node<K, V, A> {
         mem::replace(&mut entry.value, value)
     }
 
-    /// Gives the entry another hash. Constant time.
+    /// Sets the hash of the entry. Constant time.
     pub fn rehash(&mut self, hash: u64)
         ensures { self.new ≡ with_entry self.old (with_hash (entry_of self.old) hash) }
     {
@@ -143,7 +143,7 @@ impl<K: Drop, V: Drop, A: Allocator> Node<K, V, A> {
         entry.hash = hash;
     }
 
-    /// The entry, out of its node. Constant time.
+    /// Consumes the node, and returns its entry. Constant time.
     pub fn into_entry(self) -> Entry<K, V, A>
         ensures { result ≡ entry_of self }
     {
@@ -151,7 +151,7 @@ impl<K: Drop, V: Drop, A: Allocator> Node<K, V, A> {
     }
 }
 
-// The node that a link leads to.
+// The node to which a link leads, or `None`.
 pub(crate) fn follow<'a, K, V, A: Allocator>(link: &'a Link<K, V, A>) -> Option<&'a Node<K, V, A>>
     ensures chain { chain_from result ≡ chain link.now }
     ensures tree { shape_from result ≡ shape link.now }

@@ -10,7 +10,8 @@ use super::tree::{blacken, has_red_root, link_children, take_children};
 use std::alloc::Allocator;
 use std::cmp::Ordering;
 
-// A node with a short left side, and right of it a black node with these sides.
+// Makes a tree of `node`, whose left side is short, and of the black node `other` on its right, whose sides are `near` and `far`. Returns
+// the tree, and whether it is short.
 fn with_deficit_left<K: Drop, V: Drop, A: Allocator>(
     colour: Colour,
     left: Link<K, V, A>,
@@ -43,7 +44,7 @@ fn with_deficit_left<K: Drop, V: Drop, A: Allocator>(
     )
 }
 
-// A node with these sides, of which the left one is short, and whether it is short itself.
+// Makes a tree of `node` and its sides, of which the left one is short. Returns the tree, and whether it is short.
 fn fix_left<K: Drop, V: Drop, A: Allocator>(
     colour: Colour,
     left: Link<K, V, A>,
@@ -69,8 +70,8 @@ fn fix_left<K: Drop, V: Drop, A: Allocator>(
     (link_children(Colour::Black, Some(low), right, far), false)
 }
 
-// Mends a tree in its place, whose left side may be short, and says whether it is short itself. Where the side is not short,
-// nothing is written.
+// Mends a tree in place whose left side is short if `short` is `true`, and returns whether the tree is then short itself. If the side is
+// not short, nothing is written.
 fn settle_left<K: Drop, V: Drop, A: Allocator>(short: bool, root: &mut Link<K, V, A>) -> bool
     ensures { (shape root.new, result) ≡ mended_left short (shape root.old) }
 {
@@ -87,7 +88,8 @@ fn settle_left<K: Drop, V: Drop, A: Allocator>(short: bool, root: &mut Link<K, V
     short
 }
 
-// A node with a short right side, and left of it a black node with these sides.
+// Makes a tree of `node`, whose right side is short, and of the black node `other` on its left, whose sides are `far` and `near`. Returns
+// the tree, and whether it is short.
 fn with_deficit_right<K: Drop, V: Drop, A: Allocator>(
     colour: Colour,
     far: Link<K, V, A>,
@@ -120,7 +122,7 @@ fn with_deficit_right<K: Drop, V: Drop, A: Allocator>(
     )
 }
 
-// A node with these sides, of which the right one is short, and whether it is short itself.
+// Makes a tree of `node` and its sides, of which the right one is short. Returns the tree, and whether it is short.
 fn fix_right<K: Drop, V: Drop, A: Allocator>(
     colour: Colour,
     left: Link<K, V, A>,
@@ -147,7 +149,8 @@ fn fix_right<K: Drop, V: Drop, A: Allocator>(
     (link_children(Colour::Black, far, left, Some(low)), false)
 }
 
-// The same, where the right side may be short.
+// Mends a tree in place whose right side is short if `short` is `true`, and returns whether the tree is then short itself. If the side is
+// not short, nothing is written.
 fn settle_right<K: Drop, V: Drop, A: Allocator>(short: bool, root: &mut Link<K, V, A>) -> bool
     ensures { (shape root.new, result) ≡ mended_right short (shape root.old) }
 {
@@ -164,7 +167,7 @@ fn settle_right<K: Drop, V: Drop, A: Allocator>(short: bool, root: &mut Link<K, 
     short
 }
 
-// Takes out the first node of a tree in its place, and says whether the tree is short then.
+// Removes the first node of a tree in place. Returns the node, and whether the tree is then short.
 fn take_least<K: Drop, V: Drop, A: Allocator>(
     root: &mut Link<K, V, A>,
 ) -> (BoxedNode<K, V, A>, bool)
@@ -187,7 +190,7 @@ fn take_least<K: Drop, V: Drop, A: Allocator>(
     (node, short)
 }
 
-// What stood left and right of a node, as one tree, and whether it is short.
+// Joins what was left and right of a removed node into one tree. Returns the tree, and whether it is short.
 fn join_sides<K: Drop, V: Drop, A: Allocator>(
     colour: Colour,
     left: Link<K, V, A>,
@@ -205,7 +208,8 @@ fn join_sides<K: Drop, V: Drop, A: Allocator>(
     (root, short)
 }
 
-// Takes what stands at a place out of a tree in its place: the node from there, and whether the tree is short then.
+// Removes the node of `hash` and `key` from a tree in place. Returns the node, or `None` if there is none, and whether the tree is then
+// short.
 pub(crate) fn remove_in<K: Ord + Drop, V: Drop, A: Allocator>(
     root: &mut Link<K, V, A>,
     hash: u64,

@@ -22,10 +22,9 @@ use std::alloc::{AllocError, Allocator, Global};
 use std::cmp::Ordering;
 use std::sync::Arc;
 
-/// The entries of a bin as a red-black tree. A look-up among `n` entries visits at most twice as many nodes as `n + 1` has
-/// binary digits.
+/// The entries of a bin as a red-black tree. A look-up among `n` entries visits at most twice as many nodes as `n + 1` has binary digits.
 ///
-/// Its calls recurse along the height alone.
+/// Its calls recurse no deeper than the height of the tree.
 ///
 /// ```
 /// let tree = TreeBin::from_list(list);
@@ -41,7 +40,7 @@ pub struct TreeBin<K: Ord, V, A: Allocator = Global> {
     ghost short: { len ≤ MOST_PAIRS },
 }
 
-// The entry of a place in the tree below a node, and how many nodes were visited.
+// The entry at a place in the tree below a node, and the number of nodes that were visited.
 pub(crate) fn find_in<'a, K: Ord, V, A: Allocator>(
     root: Option<&'a Node<K, V, A>>,
     hash: u64,
@@ -65,7 +64,7 @@ pub(crate) fn find_in<'a, K: Ord, V, A: Allocator>(
     (None, visits)
 }
 
-// A node with these sides.
+// The node with this colour and the sides `left` and `right`.
 pub(crate) fn link_children<K: Drop, V: Drop, A: Allocator>(
     colour: Colour,
     left: Link<K, V, A>,
@@ -80,7 +79,7 @@ pub(crate) fn link_children<K: Drop, V: Drop, A: Allocator>(
     node
 }
 
-// A node, and what was left and right of it.
+// Detaches the sides of a node. Returns the left side, the node, and the right side.
 pub(crate) fn take_children<K, V, A: Allocator>(
     mut node: BoxedNode<K, V, A>,
 ) -> (Link<K, V, A>, BoxedNode<K, V, A>, Link<K, V, A>)
@@ -103,7 +102,7 @@ pub(crate) fn has_red_root<K, V, A: Allocator>(link: &Link<K, V, A>) -> bool
     }
 }
 
-// The same tree with a black root.
+// The tree with its root made black.
 pub(crate) fn blacken<K, V, A: Allocator>(link: Link<K, V, A>) -> Link<K, V, A>
     ensures { shape result ≡ with_black_root (shape link) }
 {
@@ -116,7 +115,7 @@ pub(crate) fn blacken<K, V, A: Allocator>(link: Link<K, V, A>) -> Link<K, V, A>
     }
 }
 
-// A node with a left side that may have a red root over a red child.
+// Balances a node and its sides, of which the left one may have a red root over a red child, and returns the root.
 fn balance_left<K: Drop, V: Drop, A: Allocator>(
     left: BoxedNode<K, V, A>,
     node: BoxedNode<K, V, A>,
@@ -145,7 +144,7 @@ fn balance_left<K: Drop, V: Drop, A: Allocator>(
     link_children(colour, Some(left), node, right)
 }
 
-// A node with a right side that may have a red root over a red child.
+// Balances a node and its sides, of which the right one may have a red root over a red child, and returns the root.
 fn balance_right<K: Drop, V: Drop, A: Allocator>(
     left: Link<K, V, A>,
     node: BoxedNode<K, V, A>,
@@ -186,7 +185,7 @@ fn is_red_over_red<K, V, A: Allocator>(link: &Link<K, V, A>) -> bool
     }
 }
 
-// Whether the root of a tree is black, and left of it is a red node over a red one.
+// Whether the root of a tree is black, and its left child is red and has a red child.
 fn leans_left<K, V, A: Allocator>(root: &Link<K, V, A>) -> bool
     ensures { result ≡ leans_left (shape root.now) }
 {
@@ -196,7 +195,7 @@ fn leans_left<K, V, A: Allocator>(root: &Link<K, V, A>) -> bool
     }
 }
 
-// Whether the root of a tree is black, and right of it is a red node over a red one.
+// Whether the root of a tree is black, and its right child is red and has a red child.
 fn leans_right<K, V, A: Allocator>(root: &Link<K, V, A>) -> bool
     ensures { result ≡ leans_right (shape root.now) }
 {
@@ -206,7 +205,7 @@ fn leans_right<K, V, A: Allocator>(root: &Link<K, V, A>) -> bool
     }
 }
 
-// Balances a tree in its place, whose left side may have a red root over a red child. Mostly it has not, and nothing is written.
+// Balances a tree in place whose left side may have a red root over a red child. Mostly it has not, and nothing is written.
 fn settle_left<K: Drop, V: Drop, A: Allocator>(root: &mut Link<K, V, A>)
     ensures { shape root.new ≡ balanced_left (shape root.old) }
 {
@@ -219,7 +218,7 @@ fn settle_left<K: Drop, V: Drop, A: Allocator>(root: &mut Link<K, V, A>)
     *root = Some(balance_left(left, node, right));
 }
 
-// The same, where the right side may.
+// Balances a tree in place whose right side may have a red root over a red child. Mostly it has not, and nothing is written.
 fn settle_right<K: Drop, V: Drop, A: Allocator>(root: &mut Link<K, V, A>)
     ensures { shape root.new ≡ balanced_right (shape root.old) }
 {
@@ -232,7 +231,7 @@ fn settle_right<K: Drop, V: Drop, A: Allocator>(root: &mut Link<K, V, A>)
     *root = Some(balance_right(left, node, right));
 }
 
-// Puts a node into a tree. Where the root was red, the new one may be red over a red child.
+// Inserts a node into a tree. If the root was red, the new root may be red over a red child.
 fn put_in<K: Ord + Drop, V: Drop, A: Allocator>(root: &mut Link<K, V, A>, node: BoxedNode<K, V, A>)
     ensures { shape root.new ≡ put_tree K.cmp (entry_of node.value) (shape root.old) }
 {
@@ -250,7 +249,7 @@ fn put_in<K: Ord + Drop, V: Drop, A: Allocator>(root: &mut Link<K, V, A>, node: 
     }
 }
 
-// Writes another value at a place, and hands out the old one.
+// Replaces the value at a place, and returns the old value, or `None` if there is none.
 fn write_in<K: Ord + Drop, V: Drop, A: Allocator>(
     root: &mut Link<K, V, A>,
     hash: u64,
@@ -269,8 +268,8 @@ fn write_in<K: Ord + Drop, V: Drop, A: Allocator>(
     }
 }
 
-// Puts a value at a place by one way down: where another stands it answers that one, and else it makes a node. Where memory for that
-// is wanting, the tree is as it was.
+// Sets the value at a place, in one pass down the tree. Returns the old value, or `None` if a new node was inserted. If memory for the new
+// node cannot be allocated, the tree is unchanged.
 fn insert_in<K: Ord + Drop, V: Drop, A: Allocator + Copy>(
     root: &mut Link<K, V, A>,
     alloc: A,
@@ -341,7 +340,8 @@ fn last_in<'a, K, V, A: Allocator>(root: Option<&'a Node<K, V, A>>) -> Option<&'
     best
 }
 
-// The hash of each entry in the tree below a node, where all have the same: where the first and the last have it.
+// The hash that all entries in the tree below a node have in common, if there is one: it is so if the first and the last entry have the
+// same hash.
 pub(crate) fn only_hash<'a, K: Ord, V, A: Allocator>(root: Option<&'a Node<K, V, A>>) -> Option<u64>
     requires { IsAscending K.cmp (inorder (shape_from root)) }
     ensures { IfSome result (λ h. AllHashed h (inorder (shape_from root.entry))) }
@@ -369,7 +369,7 @@ pub(crate) fn greatest_in<K, V, A: Allocator>(root: Option<&Node<K, V, A>>) -> u
 impl<K: Ord, V, A: Allocator> TreeBin<K, V, A> {
     ghost use Rattle.flurry_bins.specs.Bin.{entries_of_tree};
 
-    /// The greatest write number of the entries, 0 where there is none. Linear time.
+    /// Returns the greatest write number of the entries, or 0 if there are none. Linear time.
     pub fn greatest_number(&self) -> u64
         ensures { result ≡ greatest (map (λ e. e.number) (entries_of_tree self.now)) }
     {
@@ -380,8 +380,8 @@ impl<K: Ord, V, A: Allocator> TreeBin<K, V, A> {
 impl<K: Ord + Drop, V: Drop, A: Allocator + Copy> TreeBin<K, V, A> {
     ghost use Rattle.flurry_bins.specs.Bin.{entries_of_tree};
 
-    // Puts a value at a place, and answers the one that stood there. Where none did it takes memory for the key and a node; where that
-    // is wanting, the tree is as it was.
+    // Sets the value at a place, and returns the old value, or `None` if there was none. In that case memory for the key and a node is
+    // taken; if it cannot be allocated, the tree is unchanged.
     pub(crate) fn insert(
         &mut self,
         alloc: A,
@@ -404,7 +404,7 @@ impl<K: Ord + Drop, V: Drop, A: Allocator + Copy> TreeBin<K, V, A> {
     }
 }
 
-// The nodes of a tree as a chain, in front of another chain.
+// The nodes of a tree as a chain, in front of the chain `behind`.
 fn flatten_onto<K: Drop, V: Drop, A: Allocator>(
     root: Link<K, V, A>,
     behind: Link<K, V, A>,
@@ -419,7 +419,7 @@ fn flatten_onto<K: Drop, V: Drop, A: Allocator>(
     flatten_onto(left, Some(prepend(root, behind)))
 }
 
-// A tree of so many nodes from the front of a chain, with so many black nodes on each way, and the rest of the chain.
+// A tree of the first `count` nodes of a chain, with `blacks` black nodes on each path down, and the rest of the chain.
 fn build_balanced<K: Drop, V: Drop, A: Allocator>(
     count: usize,
     blacks: u32,

@@ -1,4 +1,4 @@
-//! The nodes of a bin, by how many there are. Each of the three is one box and one number, so that a bin is small.
+//! The nodes of a bin, in one of three types, by how many nodes there are. Each type has one box and one number, so that a bin is small.
 ghost use Rattle.std.specs.Prelude.{◌≡◌, ◌<◌, ◌≤◌, length};
 ghost use Rattle.flurry_bins.specs.Chain.{chain, node_chain, entry_of};
 ghost use Rattle.flurry_bins.specs.Entries.{IsAscending, IsAscending-prop, is_at};
@@ -11,7 +11,7 @@ use crate::bin::tree::TreeBin;
 use std::alloc::{Allocator, Global};
 use std::cmp::Ordering;
 
-// A node with its hash beside it, so that a look-up of another hash does not touch the node. No other node stands behind it.
+// A node with its hash beside it, so that a look-up of another hash does not touch the node. No other node is linked behind it.
 #[derive(Drop)]
 pub(super) struct LoneNode<K: Ord, V, A: Allocator = Global> {
     pub(super) hash: u64,

@@ -11,7 +11,7 @@ use flurry_model::sizes::LEAST_IN_TREE;
 use std::alloc::Allocator;
 use std::mem;
 
-// Keeps the entries at which the function answers true; a tree that is left with fewer than seven nodes is a list then.
+// Keeps the entries for which `keep` returns `true`. A tree that is left with fewer than seven nodes then becomes a list.
 fn retained<K: Ord + Drop, V: Drop, A: Allocator, F: FnMut(&K, &V) -> bool>(
     kind: Kind<K, V, A>,
     keep: &mut F,
@@ -39,11 +39,11 @@ impl<K: Ord + Drop, V: Drop, A: Allocator> Bin<K, V, A> {
     ghost use Rattle.flurry_bins.specs.Bin.{entries_of_bin, is_tree};
 
     #[tactic(auto, unfolding(crate::specs::Bin::entries_of_bin, crate::specs::Bin::is_tree))]
-    /// Calls a function once on the key and the value of each entry, in the order of the entries, and keeps the entries at which
-    /// it answers true.
+    /// Calls `keep` once on the key and the value of each entry, in the order of the entries, and keeps only the entries for which it
+    /// returns `true`.
     ///
-    /// A list stays a list. A tree stays a tree if it keeps at least seven entries, and becomes a list else. As many calls as
-    /// there are entries; takes no memory.
+    /// A list stays a list. A tree stays a tree if it keeps at least seven entries, and becomes a list otherwise. One call for each entry.
+    /// Takes no memory.
     pub fn retain<F: FnMut(&K, &V) -> bool>(&mut self, keep: &mut F)
         requires { F.IsAlwaysCallable keep.old }
         ensures kept { Keeps (CalledAtEntry F.step) keep.old (entries_of_bin self.old)

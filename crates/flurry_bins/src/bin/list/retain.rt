@@ -10,7 +10,7 @@ use crate::bin::node::{Link, Node};
 use std::alloc::Allocator;
 use std::mem;
 
-// The nodes of a chain at whose entries the function answers true, in their order, and how many they are.
+// The nodes of a chain for whose entries `keep` returns `true`, in their order, and the number of these nodes.
 fn retained<K: Drop, V: Drop, A: Allocator, F: FnMut(&K, &V) -> bool>(
     head: Link<K, V, A>,
     keep: &mut F,
@@ -39,8 +39,8 @@ fn retained<K: Drop, V: Drop, A: Allocator, F: FnMut(&K, &V) -> bool>(
 impl<K: Ord + Drop, V: Drop, A: Allocator> ListBin<K, V, A> {
     ghost use Rattle.flurry_bins.specs.Bin.{entries_of_list};
 
-    /// Calls a function once on the key and the value of each entry, in the order of the entries, and keeps the entries at which
-    /// it answers true. As many calls as there are entries; takes no memory.
+    /// Calls `keep` once on the key and the value of each entry, in the order of the entries, and keeps only the entries for which it
+    /// returns `true`. One call for each entry. Takes no memory.
     pub fn retain<F: FnMut(&K, &V) -> bool>(&mut self, keep: &mut F)
         requires { F.IsAlwaysCallable keep.old }
         ensures kept { Keeps (CalledAtEntry F.step) keep.old (entries_of_list self.old)
