@@ -1,6 +1,6 @@
-//! What a line may ask for.
+//! The commands that a line can give.
 
-/// A line, as a command on the map.
+/// A command on the map, as a line gives it.
 ///
 /// ```
 /// match parse(line)? {
@@ -11,16 +11,16 @@
 /// ```
 #[derive(Clone, Copy, Debug, PartialEq, Eq)]
 pub enum Command {
-    /// `insert K V`
+    /// The line `insert K V`.
     Insert(u64, u64),
-    /// `try K V`
+    /// The line `try K V`.
     Try(u64, u64),
-    /// `get K`
+    /// The line `get K`.
     Get(u64),
-    /// `remove K`
+    /// The line `remove K`.
     Remove(u64),
-    /// `len`
+    /// The line `len`.
     Len,
-    /// `bins`
+    /// The line `bins`.
     Bins,
 }

@@ -6,10 +6,14 @@ ghost use Rattle.flurry_program.specs.Endings.{bad_line_text, input_failed_text,
 use flurry_streams::Sink;
 use std::io;
 
-/// A run makes so many reads of a line at most. A further one counts as failed.
+/// The greatest number of lines that a run reads. Any further read counts as failed.
 pub(crate) const MOST_READS: u64 = 1 << 62;
 
-/// Says that the line of this number is bad, with status 2.
+/// Writes that line `number` is bad, and returns status 2.
+///
+/// # Errors
+///
+/// Returns an error if `writer` fails.
 pub(crate) fn bad_line<W: Sink>(number: u64, writer: &mut W) -> io::Result<u8>
     ensures failed { OnErr result (IsTrue (W.has_failed writer.new)) }
     ensures bytes { OnOk result (Appends (W.contents writer.old) (W.contents writer.new) (bad_line_text number)) }
@@ -19,7 +23,11 @@ pub(crate) fn bad_line<W: Sink>(number: u64, writer: &mut W) -> io::Result<u8>
     Ok(2)
 }
 
-/// Says that a read failed, with status 1.
+/// Writes that a read failed, and returns status 1.
+///
+/// # Errors
+///
+/// Returns an error if `writer` fails.
 pub(crate) fn input_failed<W: Sink>(writer: &mut W) -> io::Result<u8>
     ensures failed { OnErr result (IsTrue (W.has_failed writer.new)) }
     ensures bytes { OnOk result (Appends (W.contents writer.old) (W.contents writer.new) input_failed_text) }
@@ -29,7 +37,11 @@ pub(crate) fn input_failed<W: Sink>(writer: &mut W) -> io::Result<u8>
     Ok(1)
 }
 
-/// Says that memory is wanting, with status 3.
+/// Writes that memory could not be allocated, and returns status 3.
+///
+/// # Errors
+///
+/// Returns an error if `writer` fails.
 pub(crate) fn out_of_memory<W: Sink>(writer: &mut W) -> io::Result<u8>
     ensures failed { OnErr result (IsTrue (W.has_failed writer.new)) }
     ensures bytes { OnOk result (Appends (W.contents writer.old) (W.contents writer.new) out_of_memory_text) }

@@ -1,10 +1,10 @@
-//! How the program exits.
+//! The exit code of the program.
 ghost use Rattle.std.specs.Prelude.{◌≡◌};
 ghost use Rattle.std.specs.Process.{exit_status};
 
 use std::process::ExitCode;
 
-/// The exit code of a status that [`run_words`](crate::run_words) answered.
+/// Returns the exit code for a status that [`run_words`](crate::run_words) returned.
 pub fn exit_code(status: u8) -> ExitCode
     ensures { exit_status result ≡ status }
 {

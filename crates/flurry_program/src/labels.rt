@@ -1,4 +1,4 @@
-//! Labels of a world, as lines.
+//! The labels of a world, written as lines.
 ghost use Rattle.std.specs.Prelude.{◌++◌, ◌∷◌, [], OnOk, OnErr, IsTrue};
 ghost use Rattle.std.specs.Fmt.{decimal};
 ghost use Rattle.std.specs.Io.KnownBytes.{Appends};
@@ -9,11 +9,13 @@ use flurry_streams::Sink;
 use flurry_theory::Label;
 use std::io;
 
-/// Writes a label on a line of its own. Linear in the line.
+/// Writes a label on a line of its own.
+///
+/// Linear in the length of the line.
 ///
 /// # Errors
 ///
-/// Fails where the writer does.
+/// Returns an error if `writer` fails.
 pub fn write_label<F, W: Sink>(label: &Label<u64, u64, F>, writer: &mut W) -> io::Result<()>
     ensures failed { OnErr result (IsTrue (W.has_failed writer.new)) }
     ensures bytes { OnOk result
@@ -39,7 +41,7 @@ pub fn write_label<F, W: Sink>(label: &Label<u64, u64, F>, writer: &mut W) -> io
     }
 }
 
-// Writes a word, a party and its reply.
+// Writes a word, the number of a party, and its reply.
 fn write_reply<W: Sink>(
     word: &str,
     party: usize,

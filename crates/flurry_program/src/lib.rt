@@ -1,9 +1,9 @@
-//! The program `flurry-run`: its words and lines, over the streams of [`flurry_streams`].
+//! The program `flurry-run`: the words that it is run with and the lines that it reads, over the streams of [`flurry_streams`].
 //!
-//! [`run_words`] does what the program's words ask for, over any reader and any writer. The word `seq` asks for [`seq_lines`],
-//! which answers the lines of an input from one owned map, the word `world` for [`world_lines`], which does the steps that they ask
-//! for and writes each label, and the word `threads` for [`thread_lines`], in which threads insert into one shared map. [`exit_code`]
-//! is how the program exits with a status.
+//! [`run_words`] runs what the program's words ask for, over any reader and any writer. The word `seq` runs [`seq_lines`], which
+//! carries out the lines of an input on one owned map and writes an answer to each. The word `world` runs [`world_lines`], which does
+//! the steps that the lines ask for and writes the label of each. The word `threads` runs [`thread_lines`], in which threads insert
+//! into one shared map. [`exit_code`] turns a status into the exit code of the program.
 #![tactic(auto)]
 
 pub mod command;

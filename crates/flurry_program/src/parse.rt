@@ -1,4 +1,4 @@
-//! Reads a line as a command.
+//! Parsing of a line as a command.
 ghost use Rattle.std.specs.Prelude.{◌≡◌, ◌≢◌, ℕ, ◌<◌, ◌^◌, List, ◌∷◌, ◌++◌, MatchOption, IsTrue, ◌↔◌};
 ghost use Rattle.std.specs.Fmt.{decimal};
 ghost use Rattle.flurry_program.specs.Commands.{text_of, IsCommand, IsNoCommand};
@@ -7,7 +7,9 @@ ghost use Rattle.flurry_program.specs.Words.{HasNoSpace, IsDigits};
 use crate::command::Command;
 use std::str;
 
-/// The command that is written so, if one is. Linear in the line.
+/// Parses a line as a command, and returns `None` if it is not one.
+///
+/// Linear in the length of the line.
 pub fn parse(line: &[u8]) -> Option<Command>
     ensures { MatchOption result (IsNoCommand line.now) (λ c. IsCommand c × (line.now ≡ text_of c)) }
 {
@@ -40,7 +42,7 @@ pub fn parse(line: &[u8]) -> Option<Command>
     }
 }
 
-// What follows the front, if the line begins with it.
+// Returns what follows `front` in `line`, or `None` if `line` does not start with it.
 pub(crate) fn strip<'a>(line: &'a [u8], front: &[u8]) -> Option<&'a [u8]>
     ensures { MatchOption result ((rest : List ℕ) → line.now ≢ front.now ++ rest)
         (λ rest. line.now ≡ front.now ++ rest.now) }
@@ -48,7 +50,7 @@ pub(crate) fn strip<'a>(line: &'a [u8], front: &[u8]) -> Option<&'a [u8]>
     line.strip_prefix(front)
 }
 
-// Two numbers with a space between them.
+// Parses two numbers with one space between them.
 pub(crate) fn two_numbers(words: &[u8]) -> Option<(u64, u64)>
     ensures { MatchOption result ((k v : ℕ) → k < 2 ^ 64 → v < 2 ^ 64 → words.now ≢ decimal k ++ 32 ∷ decimal v)
         (λ p. (p.0 < 2 ^ 64) × (p.1 < 2 ^ 64) × (words.now ≡ decimal p.0 ++ 32 ∷ decimal p.1)) }
@@ -65,7 +67,7 @@ pub(crate) fn two_numbers(words: &[u8]) -> Option<(u64, u64)>
     }
 }
 
-// The parts before and after the first space.
+// Returns the parts before and after the first space, or `None` if there is no space.
 fn split_at_space(words: &[u8]) -> Option<(&[u8], &[u8])>
     ensures { MatchOption result (HasNoSpace words.now)
         (λ p. HasNoSpace p.0.now × (words.now ≡ p.0.now ++ 32 ∷ p.1.now)) }
@@ -78,7 +80,7 @@ fn split_at_space(words: &[u8]) -> Option<(&[u8], &[u8])>
     None
 }
 
-// A number of 64 bits in digits, without a sign or leading zeros.
+// Parses a decimal number of 64 bits, without a sign or leading zeros.
 pub(crate) fn number(word: &[u8]) -> Option<u64>
     ensures { MatchOption result ((n : ℕ) → n < 2 ^ 64 → word.now ≢ decimal n)
         (λ n. (n < 2 ^ 64) × (word.now ≡ decimal n)) }
@@ -98,7 +100,7 @@ pub(crate) fn number(word: &[u8]) -> Option<u64>
     }
 }
 
-// Whether each byte is a digit.
+// Whether every byte is a digit.
 fn all_digits(word: &[u8]) -> bool
     ensures { IsTrue result ↔ IsDigits word.now }
 {

@@ -1,11 +1,11 @@
-//! Reads a line as one of a schedule.
+//! Parsing of a line of a schedule.
 ghost use Rattle.std.specs.Prelude.{◌≡◌, ◌≢◌, ℕ, ◌<◌, ◌≤◌, ◌^◌, ◌∷◌, ◌++◌, codes, MatchOption};
 ghost use Rattle.std.specs.Fmt.{decimal};
 ghost use Rattle.flurry_program.specs.Schedules.{text_of, IsLine, IsNoLine, IsNoCall};
 
 use crate::parse::{number, strip, two_numbers};
 
-// A line asks for so many steps of a party at most.
+// The greatest number of steps of a party that one line can ask for.
 const MOST_STEPS: u64 = 100_000;
 
 /// A line of a schedule.
@@ -18,29 +18,31 @@ const MOST_STEPS: u64 = 100_000;
 /// ```
 #[derive(Clone, Copy, Debug, PartialEq, Eq)]
 pub enum Line {
-    /// `world P C`
+    /// The line `world P C`.
     World(u64, u64),
-    /// `begin insert K V`
+    /// The line `begin insert K V`.
     Insert(u64, u64),
-    /// `begin try K V`
+    /// The line `begin try K V`.
     Try(u64, u64),
-    /// `begin get K`
+    /// The line `begin get K`.
     Get(u64),
-    /// `begin remove K`
+    /// The line `begin remove K`.
     Remove(u64),
-    /// `begin reserve N`
+    /// The line `begin reserve N`.
     Reserve(u64),
-    /// `begin clear`
+    /// The line `begin clear`.
     Clear,
-    /// `begin walk`
+    /// The line `begin walk`.
     Walk,
-    /// `begin drop P`
+    /// The line `begin drop P`.
     Drop(u64),
-    /// `step P N`
+    /// The line `step P N`.
     Step(u64, u64),
 }
 
-/// The line of a schedule that is written so, if one is. Linear in the line.
+/// Parses a line of a schedule, and returns `None` if it is not one.
+///
+/// Linear in the length of the line.
 pub fn parse_line(line: &[u8]) -> Option<Line>
     ensures { MatchOption result (IsNoLine line.now) (λ l. IsLine l × (line.now ≡ text_of l)) }
 {
@@ -61,7 +63,7 @@ pub fn parse_line(line: &[u8]) -> Option<Line>
     }
 }
 
-// The number of a party, and how many steps it does.
+// Parses the number of a party and the number of its steps, which is at most `MOST_STEPS`.
 fn party_and_steps(words: &[u8]) -> Option<(u64, u64)>
     ensures { MatchOption result ((p n : ℕ) → p < 2 ^ 64 → n ≤ 100000 → words.now ≢ decimal p ++ 32 ∷ decimal n)
         (λ r. (r.0 < 2 ^ 64) × (r.1 ≤ 100000) × (words.now ≡ decimal r.0 ++ 32 ∷ decimal r.1)) }
@@ -77,7 +79,7 @@ fn party_and_steps(words: &[u8]) -> Option<(u64, u64)>
     }
 }
 
-// The line that begins the call of these words.
+// Parses the words that follow `begin` in a line that begins a call.
 fn parse_call(words: &[u8]) -> Option<Line>
     ensures { MatchOption result (IsNoCall words.now) (λ l. IsLine l × (codes "begin " ++ words.now ≡ text_of l)) }
 {

@@ -1,4 +1,4 @@
-//! Lines that are done in their order, up to the run's end.
+//! Runs of lines, which are carried out in their order until the run ends.
 ghost use Rattle.std.specs.Prelude.{◌≡◌, ◌+◌, ◌≤◌, ◌^◌, ◌⊎◌, length, OnOk, OnErr, IfOk, IfSome, MatchOption, IsTrue};
 ghost use Rattle.std.specs.Io.KnownBytes.{Keeps};
 ghost use Rattle.flurry_program.specs.Runs as runs;
@@ -8,7 +8,7 @@ use crate::ends::{MOST_READS, bad_line, input_failed};
 use flurry_streams::{LineEnd, Sink, Source, read_line};
 use std::io;
 
-/// Does one line after another, and keeps something between them, such as a map.
+/// What carries out one line after another, and keeps something between them, such as a map.
 pub(crate) trait Script {
     /// What is kept between lines.
     ghost Kept: { Type 0 };
@@ -19,14 +19,16 @@ pub(crate) trait Script {
     /// What the lines mean.
     ghost meaning: { runs.Script Kept Command };
 
-    /// What it keeps.
+    /// What a value of this type keeps between lines.
     ghost kept: { Self → Kept };
 
-    /// Does what the line of this number asks for, and writes its answer. Some status is the run's end.
+    /// Carries out line `number`, and writes its answer.
+    ///
+    /// Returns `Some(status)` if the run ends at this line, and `None` if it goes on.
     ///
     /// # Errors
     ///
-    /// Fails where the writer does.
+    /// Returns an error if `writer` fails.
     fn answer_line<W: Sink>(
         &mut self,
         number: u64,
@@ -41,12 +43,13 @@ pub(crate) trait Script {
             (RefusesLine meaning (kept self.old) number line.now
             (W.contents writer.old) (W.contents writer.new))) };
 
-    /// No command is longer than a line may be.
+    /// No command is longer than a line can be.
     ghost short: { (c : Command) → meaning.IsCommand c → length (meaning.text_of c) ≤ 64 };
 }
 
-/// Does the lines of a reader, and answers the program's status. All that was written is flushed at the end, and before a line that is
-/// not all there yet is read.
+/// Carries out the lines of `reader`, and returns the program's status.
+///
+/// Everything that was written is flushed at the end, and before a line that has not yet arrived in full is read.
 pub(crate) fn run_lines<S: Script, R: Source, W: Sink>(
     script: &mut S,
     reader: &mut R,
@@ -67,7 +70,7 @@ pub(crate) fn run_lines<S: Script, R: Source, W: Sink>(
     }
 }
 
-// Does the lines, and answers what they end in. A failed write is an error.
+// Carries out the lines, and returns the status with which they end. A failed write is an error.
 fn answer_lines<S: Script, R: Source, W: Sink>(
     script: &mut S,
     reader: &mut R,
@@ -88,7 +91,7 @@ fn answer_lines<S: Script, R: Source, W: Sink>(
     input_failed(writer)
 }
 
-// Reads a line and does it. Some status is the run's end. What was written goes out before a wait.
+// Reads a line and carries it out. Returns `Some(status)` if the run ends. What was written is flushed before any wait for input.
 fn step<S: Script, R: Source, W: Sink>(
     script: &mut S,
     number: u64,
@@ -107,7 +110,7 @@ fn step<S: Script, R: Source, W: Sink>(
     answer_next(script, number, reader, writer)
 }
 
-// Hands on what the writer holds back, where the reader's next line may have to be waited for.
+// Flushes the writer if the reader's next line may have to be waited for.
 fn flush_before_wait<R: Source, W: Sink>(reader: &R, writer: &mut W) -> io::Result<()>
     ensures failed { OnErr result (IsTrue (W.has_failed writer.new)) }
     ensures bytes { OnOk result (Keeps (W.contents writer.old) (W.contents writer.new)) }
@@ -119,7 +122,7 @@ fn flush_before_wait<R: Source, W: Sink>(reader: &R, writer: &mut W) -> io::Resu
     Ok(())
 }
 
-// Reads a line and does it. Some status is the run's end.
+// Reads a line and carries it out. Returns `Some(status)` if the run ends.
 fn answer_next<S: Script, R: Source, W: Sink>(
     script: &mut S,
     number: u64,

@@ -1,4 +1,4 @@
-//! The lines of one owned map.
+//! Lines that are commands on one owned map.
 ghost use Rattle.std.specs.Prelude.{ℕ, [], ◌∷◌, ◌++◌, List, OnOk, OnErr, IsTrue};
 ghost use Rattle.std.specs.Io.KnownBytes.{Appends};
 ghost use Rattle.flurry_program.specs.SeqReplies.{option_text, of_one_map, Answers};
@@ -16,36 +16,36 @@ use flurry_streams::{Sink, Source};
 use std::alloc::Allocator;
 use std::io;
 
-// The map that the lines speak of.
+// The map on which the lines act.
 type Numbers<A> = SeqMap<u64, u64, LowHashBuilder, A>;
 
-/// Answers the lines of a reader, from an empty map on. Answers the program's status.
+/// Carries out the lines of `reader` on a map that is empty at first, writes an answer to each, and returns the program's status.
 ///
 /// | Line | Answer |
 /// |---|---|
-/// | `insert K V` | the old value of the key; `refused` where there is no memory, and the map stays |
-/// | `try K V` | `new V` where the key was absent; else what stands at it, and the map stays; `refused` as above |
+/// | `insert K V` | the value that the key had |
+/// | `try K V` | `new V` if the key was absent; otherwise a text with the value that is present, and the map is unchanged |
 /// | `get K` | the value of the key |
-/// | `remove K` | the value of the key, which goes |
+/// | `remove K` | the value of the key, whose pair is removed |
 /// | `len` | the number of keys |
 /// | `bins` | the number of bins of the map's table |
 ///
-/// A value is written `some V`, and `none` where there is none. Words are parted by one space. A number is
-/// a decimal of 64 bits, with no sign and no zero in front. A line has at most 64 bytes, and the last one may
-/// lack its line feed.
+/// A value is written `some V`, or `none` if there is none. If memory for an `insert` or a `try` cannot be allocated, the answer is
+/// `refused`, and the map is unchanged. Words are separated by one space. A number is decimal and has 64 bits, without a sign and without
+/// leading zeros. A line has at most 64 bytes, and the last line may lack its line feed.
 ///
-/// The first line that is no such command gets `bad line N`, counted from 1, and is the run's end, with status 2.
-/// The end of the input is the end with status 0. After a failed read comes `input failed`, with status 1, and
-/// a read of a line past the first 2^62 counts as failed. What was answered before stays, and is flushed at the
-/// end and before a line that is not all there yet is read. A failed write or flush is the end with status 1.
+/// At the first line that is no such command, `bad line N` is written, where N counts from 1, and the run ends with status 2. At the end
+/// of the input, the run ends with status 0. If a read fails, `input failed` is written, and the run ends with status 1; a read of a line
+/// after the first 2^62 lines counts as failed. The earlier answers remain, and are flushed at the end, and before a line that has not yet
+/// arrived in full is read. If a write or a flush fails, the run ends with status 1.
 ///
-/// A line costs what the map's call does.
+/// A line costs what its call on the map costs.
 pub fn seq_lines<R: Source, W: Sink, A: Allocator + Copy>(
     alloc: A,
     reader: &mut R,
     writer: &mut W,
 ) -> u8
-    // Over a reader and a writer that tell their bytes.
+    // For a reader and a writer whose bytes are known.
     ensures run { RunsLines of_one_map [] (R.remaining reader.old) (W.contents writer.old) (W.flushed writer.new)
         (W.has_failed writer.new) result }
     ensures cause { FailsForCause (R.remaining reader.old) (R.has_failed reader.new) (W.has_failed writer.new) result }
@@ -81,7 +81,7 @@ impl<A: Allocator + Copy> Script for Numbers<A> {
     ghost short = { short_command };
 }
 
-// Does a command, and writes its answer.
+// Carries out a command, and writes its answer.
 fn answer<W: Sink, A: Allocator + Copy>(
     map: &mut Numbers<A>,
     command: Command,
@@ -107,7 +107,7 @@ fn answer<W: Sink, A: Allocator + Copy>(
     }
 }
 
-// Puts a value at an absent key, and writes what that answers.
+// Inserts a pair if its key is absent, and writes the answer.
 fn answer_try<W: Sink, A: Allocator + Copy>(
     map: &mut Numbers<A>,
     key: u64,
@@ -125,7 +125,7 @@ fn answer_try<W: Sink, A: Allocator + Copy>(
     }
 }
 
-// Writes a value, or that there is none.
+// Writes a value, or `none` if there is none.
 fn write_value<W: Sink>(writer: &mut W, value: Option<u64>) -> io::Result<()>
     ensures failed { OnErr result (IsTrue (W.has_failed writer.new)) }
     ensures bytes { OnOk result

@@ -14,18 +14,18 @@ use std::sync::atomic::{AtomicBool, Ordering};
 use std::thread::Threads;
 use std::{io, thread};
 
-/// The most threads that [`thread_lines`] can be asked for.
+/// The greatest number of threads that [`thread_lines`] can be asked for.
 pub const MOST_THREADS: u64 = 64;
 
-/// The most keys that each of them can be asked to insert.
+/// The greatest number of keys that each thread of [`thread_lines`] can be asked to insert.
 pub const MOST_KEYS: u64 = 100_000;
 
-/// Inserts keys into one map in so many threads, so many in each, and writes how many keys the map then has. Answers the program's
-/// status.
+/// Inserts `keys` keys in each of `threads` threads into one map, writes the number of keys that the map then has, and returns the
+/// program's status.
 ///
-/// Thread t, counted from 0, inserts the keys from t times `keys` on, each with itself as its value. The keys of a thread that cannot be
-/// started are inserted by the caller's own. Where memory for a key is wanting, `out of memory` is written in place of the length, with
-/// status 3. A failed write or flush is status 1, and all else status 0.
+/// Thread t, counted from 0, inserts the keys from t times `keys` on, each with itself as its value. If a thread cannot be started, the
+/// caller's thread inserts its keys. If memory for a key cannot be allocated, `out of memory` is written in place of the length, and the
+/// status is 3. If a write or a flush fails, the status is 1. Otherwise it is 0.
 pub fn thread_lines<R: Threads + Wait + Sync, W: Sink, A: Allocator + Send + Sync>(
     rt: &R,
     alloc: A,
@@ -38,7 +38,7 @@ pub fn thread_lines<R: Threads + Wait + Sync, W: Sink, A: Allocator + Send + Syn
     ensures { UnlessWriteFailed (W.has_failed writer.new) result
         (TellsLength (W.contents writer.old) (W.flushed writer.new) result) }
 {
-    // The allocator is lent to the map, which then has the same size whatever the allocator is.
+    // The map borrows the allocator, so that it has the same size for any allocator.
     let map = HashMap::new(&alloc).with_processors(threads as usize);
     match tell_length(fill(rt, map, threads, keys), writer) {
         Ok(status) => match writer.flush() {
@@ -49,7 +49,7 @@ pub fn thread_lines<R: Threads + Wait + Sync, W: Sink, A: Allocator + Send + Syn
     }
 }
 
-// Writes how many keys there are, or that memory was wanting.
+// Writes the number of keys, or that memory could not be allocated.
 fn tell_length<W: Sink>(length: Option<usize>, writer: &mut W) -> io::Result<u8>
     ensures failed { OnErr result (IsTrue (W.has_failed writer.new)) }
     ensures length { IfOk result (TellsLength (W.contents writer.old) (W.contents writer.new)) }
@@ -63,7 +63,8 @@ fn tell_length<W: Sink>(length: Option<usize>, writer: &mut W) -> io::Result<u8>
     }
 }
 
-// Fills a map in so many threads with so many keys in each, and answers how many it then has; none where one was refused.
+// Inserts `keys` keys in each of `threads` threads into a map, and returns the number of keys that it then has. Returns `None` if memory
+// for a key could not be allocated.
 fn fill<
     S: KeyHasher<u64> + Sync + Drop,
     R: Threads + Wait + Sync,
@@ -76,7 +77,7 @@ fn fill<
     }
 }
 
-// Inserts so many keys in each of so many threads, and answers whether all were inserted.
+// Inserts `keys` keys in each of `threads` threads, and returns `true` if all were inserted.
 fn insert_in_threads<
     S: KeyHasher<u64> + Sync,
     R: Threads + Wait + Sync,
@@ -96,7 +97,7 @@ fn insert_in_threads<
     !refused.load(Ordering::SeqCst)
 }
 
-// Inserts so many keys from the first one on, until one is refused, and tells it if one is.
+// Inserts `keys` keys from `first` on. If memory for one cannot be allocated, it stops there and sets `refused`.
 fn insert_keys<S: KeyHasher<u64>, R: Wait, A: Allocator + Copy>(
     rt: &R,
     map: &HashMap<u64, u64, S, A>,

@@ -1,4 +1,4 @@
-//! The words of the program.
+//! The words that the program is run with.
 ghost use Rattle.std.specs.Prelude.{◌≡◌, ◌≢◌, ◌≤◌, ℕ, [], None, MatchOption};
 ghost use Rattle.std.specs.Fmt.{decimal};
 ghost use Rattle.flurry_program.specs.Arguments.{IsSeq, IsWorld, AsksThreads, TellsUsage};
@@ -16,10 +16,11 @@ use std::alloc::Allocator;
 use std::sync::Wait;
 use std::thread::Threads;
 
-/// Does what the words ask for, and answers the program's status.
+/// Runs what `words` ask for, and returns the program's status.
 ///
-/// `["seq"]` runs [`seq_lines`], and `["world"]` runs [`world_lines`]. `["threads", n, m]` runs [`thread_lines`], where n is a number
-/// from 1 to 64, and m one from 0 to 100000. Other words write a line of usage, with status 2, or 1 where the write fails.
+/// `["seq"]` runs [`seq_lines`], and `["world"]` runs [`world_lines`]. `["threads", n, m]` runs [`thread_lines`] in n threads with m keys
+/// each, where n is a number from 1 to 64 and m a number from 0 to 100000. For any other words, a line of usage is written, and the status
+/// is 2, or 1 if the write fails.
 pub fn run_words<T: Threads + Wait + Sync, R: Source, W: Sink, A: Allocator + Copy + Send + Sync>(
     rt: &T,
     alloc: A,
@@ -54,7 +55,7 @@ pub fn run_words<T: Threads + Wait + Sync, R: Source, W: Sink, A: Allocator + Co
     }
 }
 
-// How many threads the words ask for, and how many keys for each.
+// The number of threads that the words ask for, and the number of keys for each thread.
 fn threads_and_keys(words: &[&str]) -> Option<(u64, u64)>
     ensures { MatchOption result ((n m : ℕ) → ¬ AsksThreads words.now n m) (λ p. AsksThreads words.now p.0 p.1) }
 {
@@ -68,7 +69,7 @@ fn threads_and_keys(words: &[&str]) -> Option<(u64, u64)>
     }
 }
 
-// The number that the word is, if it is one from the least to the most.
+// Parses a number from `least` to `most`.
 fn number_within(word: &str, least: u64, most: u64) -> Option<u64>
     ensures { MatchOption result ((n : ℕ) → least ≤ n → n ≤ most → word.now ≢ decimal n)
         (λ n. (least ≤ n) × (n ≤ most) × (word.now ≡ decimal n)) }
@@ -79,7 +80,7 @@ fn number_within(word: &str, least: u64, most: u64) -> Option<u64>
     }
 }
 
-// Says what the words may be.
+// Writes the line of usage, and returns status 2, or 1 if the write fails.
 fn tell_usage<W: Sink>(writer: &mut W) -> u8
     ensures { UnlessWriteFailed (W.has_failed writer.new) result
         (TellsUsage (W.contents writer.old) (W.flushed writer.new) result) }

@@ -1,4 +1,4 @@
-//! The lines of a world.
+//! Lines that run the calls of a world.
 ghost use Rattle.std.specs.Prelude.{◌≡◌, ℕ, ◌≤◌, [], ◌∷◌, ◌++◌, Option, None, Some, List, replicate, OnOk, OnErr, IfOk, IfSome, IsTrue};
 ghost use Rattle.std.specs.Io.KnownBytes.{Appends};
 ghost use Rattle.flurry_steps.specs.PartyView.{OwnedIsReady};
@@ -24,46 +24,52 @@ use flurry_world::World;
 use std::alloc::Allocator;
 use std::io;
 
-// The world that the lines speak of. No line begins a call that has a function.
+// The world on which the lines act. No line begins a call that has a function.
 type Numbers<'k, F, A> = World<'k, u64, u64, F, LowHashBuilder, A>;
 
-/// Makes the calls of a reader's lines, in the order of steps that they ask for, and writes each label. Answers the program's status.
+/// Runs the calls that the lines of `reader` begin, in the order of steps that the lines ask for, writes the label of each step, and
+/// returns the program's status.
 ///
-/// | Line | What it does | Answer |
+/// | Line | What it does | What is written |
 /// |---|---|---|
-/// | `world P C` | a world of P processors for C pairs, over the hasher that gives each key itself | none |
-/// | `begin insert K V`, `begin try K V`, `begin get K`, `begin remove K` | a call of one key begins; the first is party 0, the next party 1 | `begin P` |
-/// | `begin reserve N` | a call that makes room for N pairs more begins | `begin P` |
-/// | `begin clear`, `begin walk` | a call that goes over all bins begins | `begin P` |
-/// | `begin drop P` | the removal begins of the pair that party P, a walk, has read last; nothing where it has read nothing | `begin Q`, or `no` |
-/// | `step P N` | N steps of party P, at most 100000 | the label of each step |
+/// | `world P C` | makes a world of P processors for C pairs, in which the hash of each key is the key | nothing |
+/// | `begin insert K V`, `begin try K V` | begins a one-key call; the first call is party 0, the next party 1 | `begin P` |
+/// | `begin get K`, `begin remove K` | begins a one-key call | `begin P` |
+/// | `begin reserve N` | begins a call that makes room for N more pairs | `begin P` |
+/// | `begin clear`, `begin walk` | begins a call that visits all bins | `begin P` |
+/// | `begin drop P` | begins the removal of the pair that party P, a walk, read last; nothing if it has read none | `begin Q`, or `no` |
+/// | `step P N` | does N steps of party P, at most 100000 | the label of each step |
 ///
-/// A label has a line of its own.
+/// A label is on a line of its own.
 ///
 /// | Label | What the step did |
 /// |---|---|
-/// | `decide P R` | party P decided on this reply |
-/// | `reply P R`, `end P` | the party is done, with a reply if it is a call of one key |
-/// | `refused P` | it was refused for memory, and is done |
-/// | `read P K V`, `wipe P E I` | it read this pair, as a walk; it wiped bin I of the table E, as a clear |
+/// | `decide P R` | party P decided, with the reply R |
+/// | `reply P R`, `end P` | party P is done, with the reply R if it is a one-key call |
+/// | `refused P` | memory for the call of party P could not be allocated, and the party is done |
+/// | `read P K V` | party P, a walk, read the pair of K and V |
+/// | `wipe P E I` | party P, a clear, wiped bin I of table E |
 /// | `opened E` | the first table was made, of 2^E bins |
-/// | `placed E`, `moved E I`, `published E` | the table E was made, and a growth to it began; bin I of the table E moved to the next one; the table E was published, and the growth to it ended |
-/// | `silent P` | anything else. Nothing at all where the party is done, or no party has this number |
+/// | `placed E` | table E was made, and a growth to it started |
+/// | `moved E I` | bin I of table E moved to the next table |
+/// | `published E` | table E was published, and the growth to it finished |
+/// | `silent P` | anything else; nothing at all if party P is done, or if no party has this number |
 ///
-/// A reply R is `some V` or `none`, and to a `try` `new V`, or `exists V` with the value that stands.
+/// A reply R is `some V` or `none`. The reply to a `try` is `new V`, or `exists V` with the value that is present.
 ///
-/// The first line has to be a `world`, and no other line may be one. The form of lines, the end at the first bad line with status 2
-/// and those after the input, a failed read or a failed write are those of [`seq_lines`](crate::seq_lines). An input with no line is
-/// answered by nothing. Where memory for the world, a party or a label is wanting, `out of memory` is the run's end, with status 3.
+/// The first line must be a `world`, and no other line may be one. Lines have the form that [`seq_lines`](crate::seq_lines) describes. As
+/// there, the run ends at the first bad line, with status 2, at the end of the input, at a failed read or at a failed write. For an input
+/// without lines, nothing is written. If memory for the world, a party or a label cannot be allocated, `out of memory` is written, and the
+/// run ends with status 3.
 ///
-/// A line costs what its calls of the world do.
+/// A line costs what its calls of the world cost.
 pub fn world_lines<R: Source, W: Sink, A: Allocator + Copy>(
     alloc: A,
     reader: &mut R,
     writer: &mut W,
 ) -> u8
     ensures status { result ≤ 3 }
-    // Over a reader and a writer that tell their bytes.
+    // For a reader and a writer whose bytes are known.
     ensures run { RunsLines of_a_schedule None
         (R.remaining reader.old) (W.contents writer.old) (W.flushed writer.new) (W.has_failed writer.new) result }
     ensures cause { FailsForCause (R.remaining reader.old) (R.has_failed reader.new) (W.has_failed writer.new) result }
@@ -71,7 +77,7 @@ pub fn world_lines<R: Source, W: Sink, A: Allocator + Copy>(
     lines_of_a_world::<NoFn, R, W, A>(alloc, reader, writer)
 }
 
-// The same in a world whose calls may have functions of any one type.
+// Does what `world_lines` does, in a world whose calls may have functions of the type `F`.
 fn lines_of_a_world<F: ComputeFn<u64, u64> + Copy, R: Source, W: Sink, A: Allocator + Copy>(
     alloc: A,
     reader: &mut R,
@@ -86,7 +92,7 @@ fn lines_of_a_world<F: ComputeFn<u64, u64> + Copy, R: Source, W: Sink, A: Alloca
     run_lines(&mut schedule, reader, writer)
 }
 
-// What the lines speak of: the world, once the first line has made it.
+// What is kept between lines: the world, once the first line has made it.
 #[derive(Drop)]
 struct Schedule<'k, F: ComputeFn<u64, u64> + Copy, A: Allocator + Copy> {
     alloc: A,
@@ -117,7 +123,7 @@ impl<'k, F: ComputeFn<u64, u64> + Copy, A: Allocator + Copy> Script for Schedule
     ghost short = { short_line };
 }
 
-// Does what a line of a schedule asks for. Some status is the program's end.
+// Carries out a line of a schedule. Returns `Some(status)` if the run ends.
 fn answer<F: ComputeFn<u64, u64> + Copy, W: Sink, A: Allocator + Copy>(
     alloc: A,
     world: &mut Option<Numbers<'_, F, A>>,
@@ -137,7 +143,7 @@ fn answer<F: ComputeFn<u64, u64> + Copy, W: Sink, A: Allocator + Copy>(
     }
 }
 
-// Makes the world that the first line asks for. Some status is the program's end.
+// Makes the world that the first line asks for. Returns `Some(status)` if the run ends.
 fn make_world<F: ComputeFn<u64, u64> + Copy, W: Sink, A: Allocator + Copy>(
     alloc: A,
     world: &mut Option<Numbers<'_, F, A>>,
@@ -170,7 +176,7 @@ fn make_world<F: ComputeFn<u64, u64> + Copy, W: Sink, A: Allocator + Copy>(
     }
 }
 
-// Does in the world what a line asks for. Some status is the program's end.
+// Carries out a line in the world. Returns `Some(status)` if the run ends.
 fn answer_in<F: ComputeFn<u64, u64> + Copy, W: Sink, A: Allocator + Copy>(
     world: &mut Numbers<'_, F, A>,
     number: u64,
@@ -197,7 +203,7 @@ fn answer_in<F: ComputeFn<u64, u64> + Copy, W: Sink, A: Allocator + Copy>(
     }
 }
 
-// Begins a call, and writes its label. Some status is the program's end.
+// Begins a call, and writes its label. Returns `Some(status)` if the run ends.
 fn begin<F: ComputeFn<u64, u64> + Copy, W: Sink, A: Allocator + Copy>(
     world: &mut Numbers<'_, F, A>,
     call: OwnedCall<u64, u64, F>,
@@ -219,8 +225,8 @@ fn begin<F: ComputeFn<u64, u64> + Copy, W: Sink, A: Allocator + Copy>(
     }
 }
 
-// Begins the removal of the pair that a walk has read last, and writes its label, or that there is none. Some status is the program's
-// end.
+// Begins the removal of the pair that party `walk` has read last, and writes its label, or `no` if there is no such pair. Returns
+// `Some(status)` if the run ends.
 fn begin_drop<F: ComputeFn<u64, u64> + Copy, W: Sink, A: Allocator + Copy>(
     world: &mut Numbers<'_, F, A>,
     walk: usize,
@@ -244,7 +250,7 @@ fn begin_drop<F: ComputeFn<u64, u64> + Copy, W: Sink, A: Allocator + Copy>(
     }
 }
 
-// Does so many steps of a party, and writes the label of each. Some status is the program's end.
+// Does `steps` steps of `party`, and writes the label of each. Returns `Some(status)` if the run ends.
 fn do_steps<F: ComputeFn<u64, u64> + Copy, W: Sink, A: Allocator + Copy>(
     world: &mut Numbers<'_, F, A>,
     party: usize,
@@ -266,7 +272,7 @@ fn do_steps<F: ComputeFn<u64, u64> + Copy, W: Sink, A: Allocator + Copy>(
     Ok(None)
 }
 
-// Writes the newest label of a world.
+// Writes the last label of the world's trace.
 fn write_last<F: ComputeFn<u64, u64> + Copy, W: Sink, A: Allocator + Copy>(
     world: &Numbers<'_, F, A>,
     writer: &mut W,
