@@ -21,11 +21,11 @@ pub struct Input<R, A: Allocator = Global> {
 }
 
 impl<R: Read, A: Allocator> Input<R, A> {
-    /// A buffer in front of the reader.
+    /// Creates a buffer in front of `reader`.
     ///
     /// # Errors
     ///
-    /// Fails where there is no memory for the buffer.
+    /// Returns an error of the kind [`ErrorKind::OutOfMemory`] if memory for the buffer cannot be allocated.
     pub fn new(alloc: A, reader: R) -> io::Result<Self>
     where
         R: Drop,
@@ -67,7 +67,7 @@ impl<R: Read, A: Allocator> Source for Input<R, A> {
 
 /// A buffer in front of a writer.
 ///
-/// What it holds is written as it is dropped, unless a write has failed.
+/// When it is dropped, the bytes that it holds are written to the writer, unless a write has failed.
 ///
 /// ```
 /// let mut output = Output::new(alloc, Vec::new(alloc))?;
@@ -80,11 +80,11 @@ pub struct Output<W: Write + Drop, A: Allocator = Global> {
 }
 
 impl<W: Write + Drop, A: Allocator> Output<W, A> {
-    /// A buffer in front of the writer.
+    /// Creates a buffer in front of `writer`.
     ///
     /// # Errors
     ///
-    /// Fails where there is no memory for the buffer.
+    /// Returns an error of the kind [`ErrorKind::OutOfMemory`] if memory for the buffer cannot be allocated.
     pub fn new(alloc: A, writer: W) -> io::Result<Self>
         ensures bytes { IfOk result (λ output. output_contents W.contents output ≡ W.contents writer) }
         ensures flushed { IfOk result (λ output. output_flushed W.contents output ≡ W.contents writer) }
@@ -98,7 +98,7 @@ impl<W: Write + Drop, A: Allocator> Output<W, A> {
         })
     }
 
-    /// The writer behind the buffer.
+    /// Returns a reference to the writer behind the buffer.
     pub fn get_ref(&self) -> &W
         ensures { W.contents result.now ≡ output_flushed W.contents self.now }
     {

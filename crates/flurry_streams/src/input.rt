@@ -1,4 +1,4 @@
-//! The lines of a reader.
+//! Reading of lines.
 ghost use Rattle.std.specs.Prelude.{IfOk, OnErr, IsTrue};
 ghost use Rattle.flurry_streams.specs.LineEnds.{Gave};
 
@@ -17,19 +17,22 @@ use std::io;
 /// ```
 #[derive(Clone, Copy, Debug, PartialEq, Eq)]
 pub enum LineEnd {
-    /// At a line feed.
+    /// A line that ended at a line feed.
     Break,
-    /// At the end of the input.
+    /// A line that ended at the end of the input.
     End,
-    /// It is longer than any line may be.
+    /// A line of more than 64 bytes, which is longer than any line may be.
     Long,
 }
 
-/// The next line, without its line feed. Of one that is too long, the first 65 bytes. Linear in the line.
+/// Reads the next line, and returns it without its line feed, together with how it ended. Of a line that is too long, the first 65 bytes
+/// are read and returned.
+///
+/// Linear in the length of the line.
 ///
 /// # Errors
 ///
-/// Fails where the reader does.
+/// Returns an error if `reader` fails.
 pub fn read_line<R: Source>(reader: &mut R) -> io::Result<(ArrayVec<u8, 65>, LineEnd)>
     ensures gave { IfOk result (λ got. Gave (R.remaining reader.old) (R.remaining reader.new) got.0.items got.1) }
     ensures failed { OnErr result (IsTrue (R.has_failed reader.new)) }

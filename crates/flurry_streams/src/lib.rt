@@ -1,7 +1,7 @@
-//! Readers of bytes and writers of lines, which tell their bytes and whether they failed.
+//! Readers of bytes and writers of lines, whose contracts say which bytes they read or write and whether they failed.
 //!
-//! [`Source`] and [`Sink`] are what a program of lines is written over, bytes in memory among them, and [`Input`] and [`Output`] are
-//! buffers in front of any reader and any writer. [`read_line`] takes a line from a source.
+//! A program of lines is written over the traits [`Source`] and [`Sink`]. Bytes in memory are a [`Source`]. [`Input`] and [`Output`] are
+//! buffers in front of any reader and any writer. [`read_line`] reads a line from a source.
 #![tactic(auto)]
 
 pub mod buffers;

@@ -13,7 +13,7 @@ use std::io;
 /// Ok(reader.read_byte()?.is_none())
 /// ```
 pub trait Source {
-    /// The bytes that it will give, where they are known.
+    /// The bytes that are still to be read, if they are known.
     ghost remaining: { Self → Option (List ℕ) };
 
     /// Whether a read has failed.
@@ -22,17 +22,17 @@ pub trait Source {
     /// Whether the next line may have to be waited for.
     ghost can_wait: { Self → Type 0 };
 
-    /// The next byte, or `None` at the end.
+    /// Reads the next byte, and returns `None` at the end of the input.
     ///
     /// # Errors
     ///
-    /// Fails where the reader behind does. No claim is made on its bytes from then on.
+    /// Returns an error if the underlying reader fails. From then on, no contract specifies its bytes.
     fn read_byte(&mut self) -> io::Result<Option<u8>>
         ensures byte { IfOk result (GivesByte (remaining self.old) (remaining self.new)) }
         ensures fine { OnOk result (has_failed self.new ≡ has_failed self.old) }
         ensures failed { OnErr result (IsTrue (has_failed self.new)) };
 
-    /// Whether the next line may have to be waited for, since not all of its bytes are here yet.
+    /// Returns `true` if the next line may have to be waited for, because not all of its bytes have arrived yet.
     fn may_wait(&self) -> bool
         ensures { IsTrue result ↔ can_wait self.now };
 }
@@ -44,31 +44,31 @@ pub trait Source {
 /// writer.flush()
 /// ```
 pub trait Sink {
-    /// The bytes that were written, where they are known.
+    /// The bytes that were written, if they are known.
     ghost contents: { Self → Option (List ℕ) };
 
-    /// Those of them that are not held back.
+    /// The bytes that were written and are not held back, if they are known.
     ghost flushed: { Self → Option (List ℕ) };
 
     /// Whether a write has failed.
     ghost has_failed: { Self → Bool };
 
-    /// Writes a text and a line feed.
+    /// Writes `text` and a line feed.
     ///
     /// # Errors
     ///
-    /// Fails where the writer behind does. Some of the line may be written then.
+    /// Returns an error if the underlying writer fails. A part of the line may then have been written.
     fn write_line<D: Display + Drop>(&mut self, text: D) -> io::Result<()>
         ensures bytes { OnOk result
             (IfSome (with_newline (D.output text)) (Appends (contents self.old) (contents self.new))) }
         ensures fine { OnOk result (has_failed self.new ≡ has_failed self.old) }
         ensures failed { OnErr result (IsTrue (has_failed self.new)) };
 
-    /// Hands on what is held back.
+    /// Passes the bytes that are held back on to the underlying writer.
     ///
     /// # Errors
     ///
-    /// Fails where the writer behind does. It counts as a failed write.
+    /// Returns an error if the underlying writer fails. This counts as a failed write.
     fn flush(&mut self) -> io::Result<()>
         ensures bytes { OnOk result (Keeps (contents self.old) (contents self.new)) }
         ensures flushed { OnOk result (Keeps (contents self.old) (flushed self.new)) }
@@ -77,7 +77,7 @@ pub trait Sink {
         ensures failed { OnErr result (IsTrue (has_failed self.new)) };
 }
 
-/// Bytes in memory, which never fail.
+/// A reader of bytes in memory, which never fails.
 impl Source for &[u8] {
     ghost remaining = { λ r. Some r.now };
 
