@@ -1,4 +1,4 @@
-//! Runs the program on its words, standard input and standard output, and exits with its status.
+//! Runs the program with the words of its command line, over standard input and standard output, and exits with its status.
 #![tactic(auto)]
 
 use flurry_program::{Input, Output, exit_code, run_words};
@@ -8,7 +8,7 @@ use std::{env, io};
 fn main(rt: HostRuntime) -> io::Result<ExitCode> {
     let args: Vec<String> = match env::args(&rt) {
         Ok(args) => args.skip(1).collect(rt.alloc())?,
-        // A word that is no text asks for nothing.
+        // If a word is not text, the program runs without words.
         Err(error) if error.kind() == io::ErrorKind::InvalidData => Vec::new(rt.alloc()),
         Err(error) => return Err(error),
     };
