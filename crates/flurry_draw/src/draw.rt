@@ -1,4 +1,4 @@
-//! Draws the run of a schedule.
+//! The drawing of a schedule's run.
 ghost use Rattle.std.specs.Prelude.{◌≡◌, ◌++◌, IfOk, OnOk};
 ghost use Rattle.flurry_draw.specs.ReaderState.{AddsNames, IsDrawing, IsOneLine};
 
@@ -21,8 +21,13 @@ circle, .bin { fill: currentColor; stroke: currentColor; } .bin { stroke: none; 
 }
 ]]";
 
-/// Draws the run of a schedule which has written this text. Without its tags the page is that text, and then one line with the names of
-/// lanes and tables.
+/// Draws the run of `schedule`, which has written `text`.
+///
+/// Without its tags, the page is `text`, followed by one line with the names of lanes and tables.
+///
+/// # Errors
+///
+/// Returns [`AllocError`] if memory for the page cannot be allocated.
 #[tactic(auto, using(crate::proofs::Names::names))]
 pub fn draw(alloc: Global, plan: &Plan, schedule: &[u8], text: &[u8]) -> Result<Page, AllocError>
     ensures { IfOk result (IsDrawing text.now) }
@@ -61,7 +66,7 @@ fn draw_lines(page: &mut Page, alloc: Global, plan: &Plan) -> Result<(), AllocEr
     Ok(())
 }
 
-// Draws the marks, each with its line of the text, and then what is left of the text.
+// Draws each mark with its line of `text`, and then the rest of `text`.
 fn draw_marks(page: &mut Page, alloc: Global, plan: &Plan, text: &[u8]) -> Result<(), AllocError>
     ensures { OnOk result (page.new ≡ page.old ++ text.now) }
 {
@@ -75,7 +80,7 @@ fn draw_marks(page: &mut Page, alloc: Global, plan: &Plan, text: &[u8]) -> Resul
     draw_text(page, alloc, "rest", 20, y, rest)
 }
 
-// Draws a mark with its text: beside it, or, of a small mark, as a hint.
+// Draws a mark, with its text beside it, or as a hint if the mark is small.
 fn draw_mark(page: &mut Page, alloc: Global, mark: Mark, line: &[u8]) -> Result<(), AllocError>
     ensures { OnOk result (page.new ≡ page.old ++ line.now) }
 {
@@ -108,7 +113,7 @@ fn draw_mark(page: &mut Page, alloc: Global, mark: Mark, line: &[u8]) -> Result<
     )
 }
 
-// Draws a text at a place.
+// Draws a text at the position `x`, `y`.
 fn draw_text(
     page: &mut Page,
     alloc: Global,
@@ -124,7 +129,7 @@ fn draw_text(
     page.tag("/text")
 }
 
-// Draws the first line of a text at a place.
+// Draws the first line of a text at the position `x`, `y`.
 #[tactic(auto, using(crate::proofs::Names::names))]
 fn draw_line(
     page: &mut Page,
@@ -139,7 +144,7 @@ fn draw_line(
     draw_text(page, alloc, class, x, y, first_line(text))
 }
 
-// The first line of a text, without its end.
+// Returns the first line of a text, without its line feed.
 fn first_line(text: &[u8]) -> &[u8]
     ensures { IsOneLine result.now }
 {
@@ -149,7 +154,7 @@ fn first_line(text: &[u8]) -> &[u8]
     }
 }
 
-// Draws the name of each lane, and what its call is.
+// Draws the name of each lane, and the call of its party.
 #[tactic(auto, using(crate::proofs::Names::names))]
 fn draw_names(
     page: &mut Page,
@@ -167,7 +172,7 @@ fn draw_names(
     Ok(())
 }
 
-// Draws the name of a lane, and what its call is.
+// Draws the name of a lane, and the call of its party.
 #[tactic(auto, using(crate::proofs::Names::names))]
 fn draw_name(
     page: &mut Page,
@@ -186,7 +191,7 @@ fn draw_name(
     draw_line(page, alloc, "call", x, 36, call)
 }
 
-// Draws each of these tables.
+// Draws each of `tables`.
 #[tactic(auto, using(crate::proofs::Names::names))]
 fn draw_tables(
     page: &mut Page,
@@ -206,7 +211,7 @@ fn draw_tables(
     Ok(())
 }
 
-// Draws a table: its name, and the bins that were moved or wiped, each in the colour of the party that did it.
+// Draws the name of a table, and those of its bins that were moved or wiped, each in the colour of the party that did so.
 #[tactic(auto, using(crate::proofs::Names::names))]
 fn draw_table(
     page: &mut Page,
@@ -232,7 +237,7 @@ fn draw_table(
     page.tag("/svg")
 }
 
-// Draws the bins of a table that were moved or wiped.
+// Draws those bins of a table that were moved or wiped.
 fn draw_bins(page: &mut Page, alloc: Global, plan: &Plan, table: u64) -> Result<(), AllocError>
     ensures { page.new ≡ page.old }
 {
@@ -252,7 +257,7 @@ fn draw_bins(page: &mut Page, alloc: Global, plan: &Plan, table: u64) -> Result<
     Ok(())
 }
 
-// The exponents of the tables that the marks speak of.
+// Returns the exponents of the tables that the marks are about, in ascending order.
 fn tables_of(alloc: Global, plan: &Plan) -> Result<Vec<u64>, AllocError> {
     let mut tables = Vec::new(alloc);
     for table in 0..=u64::from(GREATEST_TABLE) {
@@ -267,24 +272,24 @@ fn tables_of(alloc: Global, plan: &Plan) -> Result<Vec<u64>, AllocError> {
     Ok(tables)
 }
 
-// Where a lane begins.
+// The x coordinate at which a lane starts.
 fn lane_x(lane: u64) -> u64 {
     lane.saturating_mul(170).saturating_add(20)
 }
 
-// Where a mark stands in its row.
+// The x coordinate of a mark in its row.
 fn mark_x(lane: u64, place: u64) -> u64 {
     lane_x(lane)
         .saturating_add(place.saturating_mul(8))
         .saturating_add(8)
 }
 
-// Where a row stands.
+// The y coordinate of a row.
 fn row_y(row: u64) -> u64 {
     row.saturating_mul(18).saturating_add(58)
 }
 
-// Where a table's name stands, below the rows.
+// The y coordinate of a table's name, below the rows.
 fn table_y(below: u64, number: u64) -> u64 {
     number.saturating_mul(46).saturating_add(below)
 }

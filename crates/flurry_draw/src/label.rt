@@ -1,4 +1,4 @@
-//! A label, as its line tells it.
+//! Labels, as read from their lines.
 ghost use Rattle.std.specs.Prelude.{◌≡◌, ◌++◌};
 
 use std::str;
@@ -6,28 +6,28 @@ use std::str;
 /// What a step did.
 #[derive(Clone, Copy, Debug, PartialEq, Eq)]
 pub enum Kind {
-    /// Nothing that others see.
+    /// A step that does nothing that others see.
     Silent,
-    /// It moved this bin of the table with this exponent.
+    /// A step that moved a bin: the exponent of its table, and the index of the bin.
     Moved(u64, u64),
-    /// It wiped this bin of the table with this exponent.
+    /// A step that wiped a bin: the exponent of its table, and the index of the bin.
     Wiped(u64, u64),
-    /// The table with this exponent was made.
+    /// A step that made the table with this exponent.
     Made(u64),
-    /// The table with this exponent was published.
+    /// A step that published the table with this exponent.
     Published(u64),
-    /// A call begins.
+    /// The start of a call.
     Begins,
-    /// A call decides.
+    /// The deciding step of a call.
     Decides,
-    /// A call is done.
+    /// The step after which a call is done.
     Ends,
     /// Anything else.
     Other,
 }
 
 impl Kind {
-    /// What the line of a label says.
+    /// Returns what the step did whose label is `line`, or [`Kind::Other`] if `line` fits no other variant.
     pub fn of_line(line: &[u8]) -> Self {
         let Ok(text) = str::from_utf8(line) else {
             return Kind::Other;
@@ -49,7 +49,9 @@ impl Kind {
         }
     }
 
-    /// The exponent of the table that it speaks of. No clause tells it: where a picture draws a bin is no part of its text.
+    /// Returns the exponent of the table that the step is about, or `None` if it is about no table.
+    ///
+    /// No contract specifies it, because where a picture draws a bin is not part of its text.
     pub fn table(self) -> Option<u64> {
         match self {
             Kind::Moved(table, _)
@@ -60,13 +62,15 @@ impl Kind {
         }
     }
 
-    /// Whether its mark is drawn small, with its text as a hint, beside others of its kind. No clause tells it: the text is the same.
+    /// Returns `true` if the step's mark is drawn small, beside other small marks, with its text as a hint.
+    ///
+    /// No contract specifies it, because the text is the same either way.
     pub fn is_small(self) -> bool {
         matches!(self, Kind::Silent | Kind::Moved(_, _) | Kind::Wiped(_, _))
     }
 }
 
-// The number of a word, and 0 of another one.
+// Parses a word as a number, and returns 0 if it is not one.
 fn number(word: Option<&str>) -> u64 {
     match word {
         Some(digits) => digits.parse().unwrap_or(0),
@@ -74,7 +78,7 @@ fn number(word: Option<&str>) -> u64 {
     }
 }
 
-/// A line with its end, and what follows it.
+/// Splits a text after its first line feed, and returns the two parts. Without a line feed, the second part is empty.
 pub fn split_line(text: &[u8]) -> (&[u8], &[u8])
     ensures { result.0.now ++ result.1.now ≡ text.now }
 {

@@ -1,13 +1,13 @@
-//! Where each mark of a picture stands.
+//! The positions of the marks of a picture.
 
 use crate::label::{Kind, split_line};
 use flurry_program::schedule::{Line, parse_line};
 use std::alloc::{AllocError, Global};
 
-// The last place of a row.
+// The last place in a row.
 const LAST_PLACE: u64 = 17;
 
-/// A mark: the step that it is for, its lane, and its place there.
+/// A mark, which stands for a step: the kind of the step, its lane, its row, and its place in the row.
 #[derive(Clone, Copy, Debug)]
 pub struct Mark {
     pub kind: Kind,
@@ -16,7 +16,7 @@ pub struct Mark {
     pub place: u64,
 }
 
-/// A lane: the first and the last row of its party, and what its call is, as a range of bytes of the schedule.
+/// A lane: the first and the last row of its party, and the range of bytes of the schedule that is the line of its call.
 #[derive(Clone, Copy, Debug)]
 pub struct Lane {
     pub first: u64,
@@ -30,12 +30,16 @@ pub struct Lane {
 pub struct Plan {
     pub marks: Vec<Mark>,
     pub lanes: Vec<Lane>,
-    /// How many rows are used.
+    /// The number of rows that are used.
     pub rows: u64,
 }
 
 impl Plan {
-    /// Where the labels stand which the run of a schedule has written.
+    /// Creates the plan of the labels in `text`, which the run of `schedule` has written.
+    ///
+    /// # Errors
+    ///
+    /// Returns [`AllocError`] if memory for the plan cannot be allocated.
     pub fn new(alloc: Global, schedule: &[u8], text: &[u8]) -> Result<Self, AllocError> {
         let mut plan = Plan {
             marks: Vec::new(alloc),
@@ -58,7 +62,7 @@ impl Plan {
         Ok(plan)
     }
 
-    // Adds the marks of so many labels, which a line of the schedule has written, and answers the text after them.
+    // Adds the marks of up to `steps` labels, which one line of the schedule has written, and returns the text after them.
     fn add_labels<'t>(
         &mut self,
         text: &'t [u8],
@@ -82,7 +86,7 @@ impl Plan {
         Ok(rest)
     }
 
-    // A call begins, which is told by so much of the schedule.
+    // Adds the lane and the first mark of a call, whose line is the bytes from `from` to `to` of the schedule.
     fn begin(&mut self, from: usize, to: usize) -> Result<(), AllocError> {
         let party = self.lanes.len() as u64;
         self.lanes.push(Lane {
@@ -111,7 +115,7 @@ impl Plan {
         Ok(())
     }
 
-    // The place of the next mark: beside the last one if both are small, else in a new row.
+    // Returns the row and the place of the next mark, which is beside the last mark if both are small, and otherwise in a new row.
     fn next_place(&self, lane: u64, kind: Kind) -> (u64, u64) {
         match self.marks.last() {
             Some(last)

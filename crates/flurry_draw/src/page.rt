@@ -5,7 +5,7 @@ ghost use Rattle.flurry_draw.specs.ReaderState.{reads, between_tags, Shows};
 use std::alloc::{AllocError, Global};
 use std::marker::Model;
 
-/// The bytes of a picture so far. It is seen as what it shows to a reader who leaves its tags out.
+/// The bytes of a picture so far. Contracts view it as the text that it shows to a reader who leaves out its tags.
 #[derive(Drop)]
 pub struct Page {
     bytes: Vec<u8>,
@@ -23,7 +23,7 @@ impl Model for Page {
 }
 
 impl Page {
-    /// An empty page.
+    /// Creates an empty page.
     pub fn new(alloc: Global) -> Self
         ensures { result ≡ [] }
     {
@@ -32,7 +32,11 @@ impl Page {
         }
     }
 
-    /// Writes a tag. A `>` in it is left out.
+    /// Appends a tag with the text `inner`, without any `>` in it.
+    ///
+    /// # Errors
+    ///
+    /// Returns [`AllocError`] if memory for the tag cannot be allocated. The shown text is unchanged.
     pub fn tag(&mut self, inner: &str) -> Result<(), AllocError>
         ensures { self.new ≡ self.old }
     {
@@ -40,7 +44,11 @@ impl Page {
         self.bytes.extend_from_slice(&tag)
     }
 
-    /// Writes a text.
+    /// Appends `text`, which a reader sees.
+    ///
+    /// # Errors
+    ///
+    /// Returns [`AllocError`] if memory for the text cannot be allocated. The shown text is unchanged.
     pub fn text(&mut self, text: &[u8]) -> Result<(), AllocError>
         ensures ok { OnOk result (self.new ≡ self.old ++ text.now) }
         ensures err { OnErr result (self.new ≡ self.old) }
@@ -49,7 +57,7 @@ impl Page {
         self.bytes.extend_from_slice(&text)
     }
 
-    /// The bytes of the picture.
+    /// Returns the bytes of the picture.
     pub fn into_bytes(self) -> Vec<u8>
         ensures { reads result.items ≡ between_tags self }
     {
@@ -58,7 +66,7 @@ impl Page {
     }
 }
 
-// A tag, which shows nothing.
+// Returns the bytes of a tag, which shows nothing.
 fn tag_of(alloc: Global, inner: &[u8]) -> Result<Vec<u8>, AllocError>
     ensures { IfOk result (λ tag. Shows tag.items []) }
 {
@@ -73,7 +81,7 @@ fn tag_of(alloc: Global, inner: &[u8]) -> Result<Vec<u8>, AllocError>
     Ok(tag)
 }
 
-// A text, with entities for the bytes that begin a tag or an entity.
+// Returns the bytes of a text, with entities in place of the bytes that start a tag or an entity.
 fn escaped(alloc: Global, text: &[u8]) -> Result<Vec<u8>, AllocError>
     ensures { IfOk result (λ bytes. Shows bytes.items text.now) }
 {

@@ -1,4 +1,4 @@
-//! From the bytes of a schedule to those of its picture.
+//! The drawing of a schedule, from its bytes to the bytes of its picture.
 ghost use Rattle.std.specs.Prelude.{◌≤◌, ℕ, List, [], None, Some, IfOk, IfSome};
 ghost use Rattle.std.specs.Io.KnownBytes.{Appends};
 ghost use Rattle.flurry_program.specs.Runs.{Ends};
@@ -11,11 +11,11 @@ use flurry_program::{Output, world_lines};
 use std::alloc::{AllocError, Global};
 use std::io::{self, ErrorKind, Read, Write};
 
-/// Reads a schedule to its end, does its steps and writes a picture of them. Answers the status of the run.
+/// Reads a schedule from `reader` to its end, does its steps, and writes a picture of them to `writer`. Returns the status of the run.
 ///
 /// # Errors
 ///
-/// Fails where the reader or the writer does, or where memory is wanting.
+/// Returns an error if `reader` or `writer` fails, or if memory cannot be allocated.
 pub fn draw_schedule<R: Read, W: Write>(
     alloc: Global,
     reader: &mut R,
@@ -34,7 +34,7 @@ pub fn draw_schedule<R: Read, W: Write>(
     Ok(status)
 }
 
-// The picture of a run that has written this text.
+// Returns the picture of the run of `schedule`, which has written `text`.
 fn picture_of(alloc: Global, schedule: &[u8], text: &[u8]) -> Result<Vec<u8>, AllocError>
     ensures { IfOk result (λ picture. Draws text.now picture.items) }
 {
@@ -43,7 +43,7 @@ fn picture_of(alloc: Global, schedule: &[u8], text: &[u8]) -> Result<Vec<u8>, Al
     Ok(page.into_bytes())
 }
 
-// What the run of a schedule writes, and its status.
+// Runs a schedule, and returns what the run writes and its status.
 fn run_of(alloc: Global, schedule: &[u8]) -> io::Result<(Vec<u8>, u8)>
     ensures status { IfOk result (λ run. run.1 ≤ 3) }
     ensures run { IfOk result (λ run. Ends of_a_schedule None 1 schedule.now (Some []) (Some run.0.items) run.1) }
