@@ -1,9 +1,9 @@
-//! What was measured.
+//! The samples of a run, and their summaries.
 
 use crate::measures::{Kind, Measure};
 use std::alloc::{AllocError, Global};
 
-/// Where in the table a sample belongs.
+/// The place in the table to which a sample belongs.
 #[derive(Clone, Copy, PartialEq, Eq)]
 pub struct Cell {
     pub measure: Measure,
@@ -24,7 +24,7 @@ pub struct Board {
     samples: Vec<Sample>,
 }
 
-/// The samples of one cell, in tenths of a unit.
+/// The median, the least and the greatest of the samples of one cell, in tenths of a unit.
 #[derive(Clone, Copy)]
 pub struct Summary {
     pub median: u64,
@@ -39,13 +39,21 @@ impl Board {
         }
     }
 
-    /// Adds a sample, in tenths of a unit.
+    /// Adds a sample of `cell`, where `value` is in tenths of a unit.
+    ///
+    /// # Errors
+    ///
+    /// Returns [`AllocError`] if memory for the sample cannot be allocated.
     pub fn add(&mut self, cell: Cell, value: u64) -> Result<(), AllocError> {
         self.samples.push(Sample { cell, value })?;
         Ok(())
     }
 
-    /// The samples of a cell, if it has any.
+    /// Returns the summary of the samples of `cell`, or `None` if there are none.
+    ///
+    /// # Errors
+    ///
+    /// Returns [`AllocError`] if memory for a list of the samples cannot be allocated.
     pub fn summary(&self, alloc: Global, cell: Cell) -> Result<Option<Summary>, AllocError> {
         let mut values: Vec<u64> = Vec::new(alloc);
         for sample in &self.samples {
@@ -58,7 +66,7 @@ impl Board {
     }
 }
 
-// The summary of sorted values. Of an even number of them the median is the lower one of the two in the middle.
+// Returns the summary of sorted values. If their number is even, the median is the lower of the two values in the middle.
 fn summary_of(values: &[u64]) -> Option<Summary> {
     let least = *values.first()?;
     let greatest = *values.last()?;

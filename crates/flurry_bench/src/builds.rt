@@ -1,4 +1,4 @@
-//! A round of building: an owned map is made of a list of all pairs, by the plain call and in parallel.
+//! A round of building: an owned map is built from a list of all pairs, by the plain call and in parallel.
 
 use crate::hashers::{Fold, OfKit};
 use crate::keys::key_of;
@@ -13,7 +13,7 @@ use std::time::{Clock, Instant};
 
 type Seq = SeqMap<u64, u64, OfKit<Fold>>;
 
-/// Measures the building of a map by one thread, and from as many pieces of the list as the trial has threads.
+/// Measures the building of a map by one thread, and then from as many pieces of the list as the trial has threads.
 pub fn measure_builds<R: Threads + Wait + Clock + Sync>(
     bench: &mut Bench<'_, R>,
     trial: Trial<'_>,
@@ -50,7 +50,7 @@ pub fn measure_builds<R: Threads + Wait + Clock + Sync>(
     )
 }
 
-// The pairs of all keys, each with its index.
+// Returns a list of the pairs of all keys, each with its index as the value.
 fn pairs(alloc: Global, keys: u64) -> Result<Vec<(u64, u64)>, AllocError> {
     let mut pairs = Vec::with_capacity(alloc, keys as usize)?;
     for index in 0..keys {
@@ -59,7 +59,7 @@ fn pairs(alloc: Global, keys: u64) -> Result<Vec<(u64, u64)>, AllocError> {
     Ok(pairs)
 }
 
-// How many keys a map has no value of, or another one than their index.
+// Returns the number of keys that have no value in the map, or a value other than their index.
 fn wrong_in(map: &Seq, keys: u64) -> u64 {
     let mut wrong = 0u64;
     for index in 0..keys {

@@ -1,4 +1,4 @@
-//! Who does the work on a map: the caller's thread alone, or several threads.
+//! The threads that do the work on a map: the caller's thread alone, or several threads.
 
 use crate::subjects::Subject;
 use crate::workloads::{Part, Work};
@@ -7,17 +7,17 @@ use std::sync::atomic::{AtomicU64, Ordering};
 use std::thread;
 use std::thread::Threads;
 
-/// How much work all threads do together.
+/// The amount of work that all threads do together.
 #[derive(Clone, Copy)]
 pub struct Size {
     /// The number of keys of the map.
     pub keys: u64,
-    /// How many calls a look-up or a mix makes.
+    /// The number of calls of a look-up or a mix.
     pub calls: u64,
 }
 
 impl Size {
-    /// How many calls a work makes, in all threads together.
+    /// Returns the number of calls of `work`, in all threads together.
     pub fn calls_of(self, work: Work) -> u64 {
         match work {
             Work::Insert | Work::Remove => self.keys,
@@ -25,7 +25,7 @@ impl Size {
         }
     }
 
-    // The part of a thread, counted from 0. The last one has the keys that the division leaves over.
+    // Returns the part of thread `number`, counted from 0. The part of the last thread also has the keys that the division leaves over.
     fn part(self, number: u64, threads: u64) -> Part {
         let share = self.keys / threads.max(1);
         let first = share.saturating_mul(number);
@@ -44,13 +44,16 @@ impl Size {
     }
 }
 
-/// Does all of the work in the caller's thread, and answers how many calls gave a wrong answer or found no memory.
+/// Does all of the work in the caller's thread, and returns the number of calls that returned a wrong result or for which memory could not
+/// be allocated.
 pub fn work_alone<R: Wait, S: Subject>(rt: &R, map: &S, work: Work, size: Size) -> u64 {
     work.run(rt, map, size.part(0, 1))
 }
 
-/// Does the work in so many threads, of which a single one is the caller's own, and answers how many calls gave a wrong answer or
-/// found no memory. A thread that cannot be started counts as one of these.
+/// Does the work in `threads` threads, and returns the number of calls that returned a wrong result or for which memory could not be
+/// allocated.
+///
+/// If `threads` is 1, the work is done in the caller's thread. A thread that cannot be started counts as one such call.
 pub fn work_together<R: Threads + Wait + Sync, S: Subject + Sync>(
     rt: &R,
     map: &S,

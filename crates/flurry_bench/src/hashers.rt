@@ -1,13 +1,13 @@
-//! The hashers, of which each hash map gets the same.
+//! The hashers. Each hash map is measured with the same ones.
 ghost use Rattle.flurry_bench.specs.NumberHashes.{number_hash, number_hash-alike};
 
 use flurry_model::hash::KeyHasher;
 use std::hash::{BuildHasher, BuildHasherDefault, FoldHasher, Hasher};
 
-/// The hasher that the kit's `HashMap` has where it is given none.
+/// The hasher that the kit's `HashMap` uses by default.
 pub type Fold = BuildHasherDefault<FoldHasher>;
 
-/// A hasher of the kit, for the maps of this repository.
+/// A hasher of the kit, as a hasher for the maps of this repository.
 #[derive(Clone, Copy, Default)]
 pub struct OfKit<B> {
     builder: B,
@@ -23,7 +23,7 @@ impl<B: BuildHasher> KeyHasher<u64> for OfKit<B> {
     }
 }
 
-/// Gives each key the hash 0.
+/// A hasher that gives every key the hash 0.
 #[derive(Clone, Copy, Default)]
 pub struct OneHash;
 

@@ -1,7 +1,7 @@
-//! Measures the maps of this repository beside those of the kit, and prints one table.
+//! Measures the maps of this repository beside the maps of the kit, and prints one table.
 //!
-//! Its functions are proved to be safe. What they measure and print is told by no contract: a run compares each answer of a map with what
-//! it must be, and ends at one that is wrong.
+//! The functions are proved to be safe. No contract specifies what they measure and print. Instead, a run compares each result of a map
+//! with what it must be, and ends at a wrong one.
 #![tactic(auto)]
 
 mod board;
@@ -30,12 +30,12 @@ use std::sync::Wait;
 use std::thread::Threads;
 use std::time::Clock;
 
-// The numbers of keys and of threads; the first number of keys is that of a quick run.
+// The numbers of keys and of threads. A quick run has the first number of keys alone.
 const SIZES: [u64; 2] = [10_000, 1_000_000];
 
 const THREADS: [u64; 3] = [1, 2, 4];
 
-// Measures each map in each number of threads, so many times, one map after another.
+// Measures each map with each number of threads, one map after another, in 3 or 5 rounds.
 fn run_rounds<R: Threads + Wait + Clock + Eprint + Sync>(
     bench: &mut Bench<'_, R>,
     keys: u64,
@@ -62,7 +62,7 @@ fn run_rounds<R: Threads + Wait + Clock + Eprint + Sync>(
     Ok(())
 }
 
-// Tells which measures there are, where a word names none of them.
+// Prints the names of the measures, of which none contains `only`.
 fn print_names<R: Eprint>(rt: &R, only: &str) -> anyhow::Result<()> {
     eprintln!(rt; "bench: no measure has '{only}' in its name; these are the measures:")?;
     for measure in MEASURES {

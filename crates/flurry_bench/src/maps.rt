@@ -1,4 +1,4 @@
-//! A round: each map is made, measured and dropped, one after another.
+//! The maps of a round, which are created, measured and dropped one after another.
 
 use crate::hashers::{Fold, OfKit, OneHash};
 use crate::measures::Kind;
@@ -24,7 +24,7 @@ type BTree<A = Global> = BTreeMap<u64, u64, A>;
 
 type Memory = &'static Metered<Global>;
 
-/// Measures the maps that threads share, or whose lock they share.
+/// Measures the maps that threads share, and the owned maps whose lock they share.
 pub fn measure_shared<R: Threads + Wait + Clock + Sync>(
     bench: &mut Bench<'_, R>,
     trial: Trial<'_>,
@@ -37,7 +37,7 @@ pub fn measure_shared<R: Threads + Wait + Clock + Sync>(
     bench.time_together::<RwLock<BTree>, RwLock<BTree>>(trial, Kind::LockedBTree)
 }
 
-/// Measures the maps that one thread has alone, and the bytes of each map.
+/// Measures the maps that one thread uses alone, and the bytes of each map.
 pub fn measure_owned<R: Threads + Wait + Clock + Sync>(
     bench: &mut Bench<'_, R>,
     trial: Trial<'_>,

@@ -1,4 +1,4 @@
-//! The rows of the table: what is measured, and of which map.
+//! The rows of the table: what is measured, and on which map.
 
 use crate::workloads::Work;
 
@@ -19,7 +19,7 @@ pub enum Measure {
     BytesAPair,
 }
 
-/// All that is measured, in the order of the table.
+/// All measures, in the order of the table.
 pub const MEASURES: [Measure; 12] = [
     Measure::Hit,
     Measure::Miss,
@@ -35,7 +35,7 @@ pub const MEASURES: [Measure; 12] = [
     Measure::BytesAPair,
 ];
 
-/// What is measured on one map that begins empty and small, in this order.
+/// The measures on one map that is small and empty at first, in the order in which they are taken.
 pub const GROWING: [Measure; 6] = [
     Measure::InsertAndGrow,
     Measure::Hit,
@@ -45,10 +45,10 @@ pub const GROWING: [Measure; 6] = [
     Measure::Remove,
 ];
 
-/// What is measured on a map that begins empty with room for all keys.
+/// The measures on a map that is empty at first, with room for all keys.
 pub const ROOMY: [Measure; 1] = [Measure::InsertIntoRoom];
 
-/// What is measured on one map that gives all keys one hash, in this order.
+/// The measures on one map that gives all keys one hash, in the order in which they are taken.
 pub const ONE_HASH: [Measure; 3] = [
     Measure::OneHashInsert,
     Measure::OneHashHit,
@@ -56,7 +56,7 @@ pub const ONE_HASH: [Measure; 3] = [
 ];
 
 impl Measure {
-    /// The name of its rows.
+    /// Returns the name of the measure's rows.
     pub fn name(self) -> &'static str {
         match self {
             Measure::Hit => "look-up that hits",
@@ -74,7 +74,7 @@ impl Measure {
         }
     }
 
-    /// The unit of its numbers.
+    /// Returns the unit of the measure's numbers.
     pub fn unit(self) -> &'static str {
         match self {
             Measure::BytesAPair => "bytes",
@@ -82,7 +82,7 @@ impl Measure {
         }
     }
 
-    /// The map whose numbers the ratios of its rows go by.
+    /// Returns the map to whose numbers the ratios in the measure's rows refer.
     pub fn base(self) -> Kind {
         match self {
             Measure::Build => Kind::SeqFromList,
@@ -90,7 +90,7 @@ impl Measure {
         }
     }
 
-    /// The work that is timed, or after which the bytes are counted.
+    /// Returns the work that is timed, or after which the bytes are counted.
     pub fn work(self) -> Work {
         match self {
             Measure::Hit | Measure::OneHashHit => Work::Hit,
@@ -107,7 +107,7 @@ impl Measure {
     }
 }
 
-// The most keys with one hash that the kit's hash map is given.
+// The greatest number of keys with one hash for which the kit's hash map is measured.
 const MOST_OF_ONE_HASH: u64 = 10_000;
 
 /// A map that is measured.
@@ -142,7 +142,7 @@ pub const KINDS: [Kind; 11] = [
 ];
 
 impl Kind {
-    /// The name in its rows.
+    /// Returns the name of the map in its rows.
     pub fn name(self) -> &'static str {
         match self {
             Kind::Shared => "flurry HashMap",
@@ -159,8 +159,10 @@ impl Kind {
         }
     }
 
-    /// Whether the map can be given one hash for so many keys. The kit's hash map then takes as many steps as it has keys, and the
-    /// default hasher cannot be told to give one.
+    /// Returns `true` if the map is measured with one hash for all of `keys` keys.
+    ///
+    /// The default hasher cannot give one hash to all keys. With one hash, a call of the kit's hash map takes as many steps as the map has
+    /// keys, so the number of keys has a limit.
     pub fn takes_one_hash(self, keys: u64) -> bool {
         match self {
             Kind::SharedDefaultHash => false,

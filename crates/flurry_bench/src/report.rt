@@ -15,7 +15,7 @@ room      BTreeMap has none to ask for either, and does the same calls beside th
 one hash  std HashMap takes a step for each key of one hash, and is left out above 10,000 keys
 building  from_par_list cuts the list into as many pieces as threads; its ratio goes by SeqMap::from_list, which one thread runs";
 
-/// Prints the table: a line for each measure, number of keys, number of threads and map.
+/// Prints the table, with a line for each measure, number of keys, number of threads and map.
 pub fn print_table<R: Print>(
     rt: &R,
     alloc: Global,
@@ -51,7 +51,8 @@ pub fn print_table<R: Print>(
     Ok(())
 }
 
-// The lines of each map beside the cell of the map that the ratios go by, where that was measured.
+// Prints the lines of all maps for the measure, keys and threads of `base_cell`, if the map of `base_cell`, to which the ratios refer, was
+// measured.
 fn print_kinds<R: Print>(
     rt: &R,
     alloc: Global,
@@ -96,7 +97,7 @@ fn print_line<R: Print>(
     Ok(())
 }
 
-// How many hundredths of the whole the part is, rounded.
+// Returns `part` divided by `whole`, in hundredths and rounded.
 fn hundredths(part: u64, whole: u64) -> u64 {
     part.saturating_mul(100).saturating_add(whole / 2) / whole.max(1)
 }

@@ -1,4 +1,4 @@
-//! What is measured: maps of numbers that threads share, and maps of one owner, with a lock round them or without.
+//! The maps that are measured: maps of numbers that threads share, and maps of one owner, with a lock around them or without.
 
 use flurry_map::HashMap as SharedMap;
 use flurry_model::hash::KeyHasher;
@@ -9,9 +9,14 @@ use std::collections::{BTreeMap, HashMap};
 use std::hash::BuildHasher;
 use std::sync::{Arc, Mutex, RwLock, Wait};
 
-/// Makes an empty map.
+/// A map that can be created empty.
 pub trait Make<A: Allocator>: Sized {
-    /// It has room for so many pairs, where such a map can have room, and gets so many processors for its growth, where it can use them.
+    /// Creates an empty map. It has room for `room` pairs if such a map can have room, and its growths are divided among `processors`
+    /// threads if it can use them.
+    ///
+    /// # Errors
+    ///
+    /// Returns [`AllocError`] if memory for the map cannot be allocated.
     fn make(alloc: A, room: usize, processors: usize) -> Result<Self, AllocError>;
 }
 
@@ -19,10 +24,10 @@ pub trait Make<A: Allocator>: Sized {
 pub trait Subject: Sized {
     fn get<R: Wait>(&self, rt: &R, key: u64) -> Result<Option<u64>, AllocError>;
 
-    /// Answers the value that was there before.
+    /// Inserts a pair, and returns the value that the key had.
     fn insert<R: Wait>(&self, rt: &R, key: u64, value: u64) -> Result<Option<u64>, AllocError>;
 
-    /// Answers the value that was there.
+    /// Removes the pair of a key, and returns the value that the key had.
     fn remove<R: Wait>(&self, rt: &R, key: u64) -> Result<Option<u64>, AllocError>;
 }
 
@@ -30,14 +35,14 @@ pub trait Subject: Sized {
 pub trait Owned {
     fn get(&self, key: u64) -> Option<u64>;
 
-    /// Answers the value that was there before.
+    /// Inserts a pair, and returns the value that the key had.
     fn insert(&mut self, key: u64, value: u64) -> Result<Option<u64>, AllocError>;
 
-    /// Answers the value that was there.
+    /// Removes the pair of a key, and returns the value that the key had.
     fn remove(&mut self, key: u64) -> Option<u64>;
 }
 
-// What the owner owns.
+// Returns the number in the `Arc`.
 fn number<A: Allocator>(owner: Option<Arc<u64, A>>) -> Option<u64> {
     match owner {
         Some(number) => Some(*number),
@@ -87,7 +92,7 @@ impl<M: Owned> Subject for Mutex<M> {
     }
 }
 
-/// A map that one thread alone uses, with no lock round it.
+/// A map that one thread uses alone, without a lock around it.
 impl<M: Owned> Subject for RefCell<M> {
     fn get<R: Wait>(&self, _rt: &R, key: u64) -> Result<Option<u64>, AllocError> {
         let Ok(map) = self.try_borrow() else {

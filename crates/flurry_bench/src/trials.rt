@@ -1,4 +1,4 @@
-//! A round: each map is made, measured and dropped.
+//! The trials of a round: each map is created, measured and dropped.
 
 use crate::board::{Board, Cell};
 use crate::crews::{Size, work_alone, work_together};
@@ -13,7 +13,7 @@ use std::sync::Wait;
 use std::thread::Threads;
 use std::time::{Clock, Duration, Instant};
 
-/// What a round measures.
+/// The numbers of keys and threads of a round, and the words that say what to measure.
 #[derive(Clone, Copy)]
 pub struct Trial<'w> {
     pub keys: u64,
@@ -34,7 +34,7 @@ impl<'w> Trial<'w> {
         }
     }
 
-    // Where all keys have one hash, a look-up may take as many steps as there are keys, so there are fewer of them.
+    // If all keys have one hash, a look-up may take as many steps as there are keys, so fewer look-ups are made.
     fn size(self, measure: Measure) -> Size {
         let calls = if measure == Measure::OneHashHit {
             self.keys.min(LEAST_CALLS)
@@ -47,13 +47,13 @@ impl<'w> Trial<'w> {
         }
     }
 
-    // Whether the work has to be done: it is asked for, or puts in the keys that the other work on the map needs.
+    // Whether the work must be done, because it is asked for, or because it inserts the keys that the other work on the map needs.
     fn needs(self, measure: Measure) -> bool {
         measure.work() == Work::Insert || self.words.want(&[measure])
     }
 }
 
-/// What measures maps in rounds, and all that it measured.
+/// The runtime and the allocator with which maps are measured, and all that was measured.
 #[derive(Drop)]
 pub struct Bench<'r, R> {
     pub rt: &'r R,
@@ -62,7 +62,8 @@ pub struct Bench<'r, R> {
 }
 
 impl<'r, R: Threads + Wait + Clock + Sync> Bench<'r, R> {
-    /// Measures a map of one kind in the trial's threads: `S` hashes its keys, and `Z` gives them one hash.
+    /// Measures a map of one kind in the trial's threads. The map is an `S`, which hashes its keys, or a `Z`, which gives all keys one
+    /// hash.
     pub fn time_together<
         S: Subject + Make<Global> + Drop + Sync,
         Z: Subject + Make<Global> + Drop + Sync,
@@ -83,7 +84,8 @@ impl<'r, R: Threads + Wait + Clock + Sync> Bench<'r, R> {
         Ok(())
     }
 
-    /// Measures a map of one kind in the caller's thread alone: `S` hashes its keys, and `Z` gives them one hash.
+    /// Measures a map of one kind in the caller's thread alone. The map is an `S`, which hashes its keys, or a `Z`, which gives all keys
+    /// one hash.
     pub fn time_alone<S: Subject + Make<Global> + Drop, Z: Subject + Make<Global> + Drop>(
         &mut self,
         trial: Trial<'_>,
@@ -105,7 +107,7 @@ impl<'r, R: Threads + Wait + Clock + Sync> Bench<'r, R> {
         Ok(())
     }
 
-    // Does the work of each measure on the map in the trial's threads.
+    // Does the work of each measure on the map in the trial's threads, and adds its time.
     fn work_together_through<S: Subject + Sync>(
         &mut self,
         map: &S,
@@ -125,7 +127,7 @@ impl<'r, R: Threads + Wait + Clock + Sync> Bench<'r, R> {
         Ok(())
     }
 
-    // Does the work of each measure on the map in the caller's thread.
+    // Does the work of each measure on the map in the caller's thread, and adds its time.
     fn work_alone_through<S: Subject>(
         &mut self,
         map: &S,
@@ -145,7 +147,11 @@ impl<'r, R: Threads + Wait + Clock + Sync> Bench<'r, R> {
         Ok(())
     }
 
-    /// Adds the time of one call, in tenths of a nanosecond, if it is asked for and no answer was wrong.
+    /// Adds the time of one call, in tenths of a nanosecond, if `measure` is asked for.
+    ///
+    /// # Errors
+    ///
+    /// Returns an error if `wrong` is not 0, or if memory for the sample cannot be allocated.
     pub fn add(
         &mut self,
         trial: Trial<'_>,
@@ -164,7 +170,8 @@ impl<'r, R: Threads + Wait + Clock + Sync> Bench<'r, R> {
         Ok(())
     }
 
-    /// Measures how many bytes a map of one kind has out for each pair, in tenths, if it is asked for. One thread puts the pairs in.
+    /// Measures how many bytes of memory a map of one kind holds for each pair, in tenths of a byte, if this is asked for. One thread
+    /// inserts the pairs.
     pub fn bytes<S: Subject + Make<&'static Metered<Global>> + Drop>(
         &mut self,
         trial: Trial<'_>,

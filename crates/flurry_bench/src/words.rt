@@ -1,17 +1,17 @@
-//! The words that the program is given.
+//! The words of the command line.
 
 use crate::measures::Measure;
 
-/// What a run is asked for.
+/// What the words of the command line ask for.
 #[derive(Clone, Copy)]
 pub struct Words<'w> {
-    /// The usage alone.
+    /// Whether to print the usage alone.
     pub help: bool,
-    /// Fewer keys and rounds.
+    /// Whether to measure with fewer keys and in fewer rounds.
     pub quick: bool,
-    /// Lines with commas in place of columns.
+    /// Whether to print lines with commas in place of columns.
     pub csv: bool,
-    /// What the names of the measures have to contain.
+    /// The text that the names of the measures must contain.
     pub only: &'w str,
 }
 
@@ -24,7 +24,7 @@ Measures the maps and prints one table; progress goes to standard error.
   --csv         lines with commas, without the legend";
 
 impl<'w> Words<'w> {
-    /// What the words ask for; none where one is not known or wanting.
+    /// Parses `words`, and returns `None` if one of them is unknown or missing.
     pub fn parse(words: &[&'w str]) -> Option<Words<'w>> {
         let mut found = Words {
             help: false,
@@ -49,7 +49,7 @@ impl<'w> Words<'w> {
         if is_name { None } else { Some(found) }
     }
 
-    /// Whether the rows of one of these are asked for.
+    /// Returns `true` if the rows of at least one of `measures` are asked for.
     pub fn want(&self, measures: &[Measure]) -> bool {
         measures
             .iter()

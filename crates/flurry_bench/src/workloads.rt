@@ -1,44 +1,46 @@
-//! What a thread does with a map, each answer checked.
+//! What a thread does with a map. Each result is checked.
 
 use crate::keys::{Draws, key_of};
 use crate::subjects::Subject;
 use std::sync::Wait;
 
-// The keys of look-ups that miss begin at this index.
+// The first index of the keys for look-ups that miss.
 const ABSENT: u64 = 1 << 40;
 
-// The keys of the changes in a mix begin at this index, so many for each thread, which is more than it makes calls.
+// The first index of the keys for the changes in a mix, and the number of them for each thread, which is more than it makes calls.
 const FRESH: u64 = 1 << 41;
 
 const FRESH_OF_A_THREAD: u64 = 1 << 32;
 
-/// What is done to a map, which has all its keys but for `Insert`, which puts them in, and after `Remove`, which takes them out.
+/// The work that is done on a map. The map has all its keys, except before [`Work::Insert`], which inserts them, and after
+/// [`Work::Remove`], which removes them.
 #[derive(Clone, Copy, PartialEq, Eq)]
 pub enum Work {
     Insert,
     Hit,
     Miss,
-    /// Look-ups that hit, and so many changes in a hundred calls: a new key is put in, and then taken out.
+    /// Look-ups that hit, with this number of changes in a hundred calls. A change inserts a new key, and the next change removes it.
     Mix(u64),
     Remove,
 }
 
-/// The part of one thread.
+/// The part of a work that one thread does.
 #[derive(Clone, Copy)]
 pub struct Part {
     /// The number of the thread, counted from 0.
     pub number: u64,
     /// The number of keys of the map.
     pub keys: u64,
-    /// The first index that is this part's own, and how many are.
+    /// The first index of the part's own keys.
     pub first: u64,
+    /// The number of the part's own keys.
     pub own: u64,
-    /// How many calls a look-up or a mix does.
+    /// The number of calls of a look-up or a mix.
     pub calls: u64,
 }
 
 impl Work {
-    /// Does the work's part, and answers how many calls gave a wrong answer or found no memory.
+    /// Does the part of the work, and returns the number of calls that returned a wrong result or for which memory could not be allocated.
     pub fn run<R: Wait, S: Subject>(self, rt: &R, map: &S, part: Part) -> u64 {
         match self {
             Work::Insert => insert_own(rt, map, part),
@@ -118,7 +120,7 @@ fn mix<R: Wait, S: Subject>(rt: &R, map: &S, part: Part, changes: u64) -> u64 {
     wrong
 }
 
-// The index of a part's next change, and whether its key is in the map.
+// The index of the key of a part's next change, and whether this key is in the map.
 #[derive(Drop)]
 struct Fresh {
     index: u64,
@@ -126,7 +128,7 @@ struct Fresh {
 }
 
 impl Fresh {
-    // Puts the key in or takes it out, and answers whether the map answered as it should.
+    // Inserts the key or removes it, and returns `true` if the map returned what it should.
     fn change<R: Wait, S: Subject>(&mut self, rt: &R, map: &S) -> bool {
         let index = self.index;
         if self.present {
@@ -140,7 +142,7 @@ impl Fresh {
     }
 }
 
-// Whether the answer is this value.
+// Whether `answer` is `value`.
 fn is_value<E: Drop>(answer: Result<Option<u64>, E>, value: u64) -> bool {
     match answer {
         Ok(Some(found)) => found == value,
