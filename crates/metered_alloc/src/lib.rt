@@ -1,14 +1,15 @@
-//! An allocator that meters another: it numbers the requests for memory, refuses those that it is told to, and counts the blocks and
-//! the bytes that are out.
+//! An allocator that meters another one. It numbers the requests for memory, makes those fail that it is told to, and counts the blocks
+//! and the bytes that are allocated.
 //!
-//! Its numbers are atomics, which other owners may change at any time, so a contract can say nothing of them: its calls are proved
-//! safe, and what they count is only tested.
+//! Its counts are atomics, which other owners may change at any time, so no contract can specify them. Its calls are proved safe, and what
+//! they count is only tested.
 #![tactic(auto)]
 
 use std::alloc::{AllocError, Allocator, Global};
 use std::sync::atomic::{AtomicU64, Ordering};
 
-// How many requests were made, which ones are refused (those from `first` to `last`), and how many blocks and bytes are out.
+// The number of requests that were made, the first and the last of the requests that fail, and the numbers of blocks and of bytes that are
+// allocated.
 #[derive(Drop)]
 struct Budget {
     asked: AtomicU64,
@@ -36,7 +37,7 @@ impl Budget {
         self.first.store(first, Ordering::SeqCst);
     }
 
-    // Counts the request that is now made, for so many bytes, and says whether it is refused.
+    // Counts a request for `size` bytes, and returns `true` if it is to fail.
     fn refuses(&self, size: usize) -> bool {
         let number = self.asked.fetch_add(1, Ordering::SeqCst);
         let refused = self.first.load(Ordering::SeqCst) <= number
@@ -48,16 +49,16 @@ impl Budget {
         refused
     }
 
-    // Counts a block of so many bytes that comes back.
+    // Counts the deallocation of a block of `size` bytes.
     fn takes_back(&self, size: usize) {
         self.blocks.fetch_sub(1, Ordering::SeqCst);
         self.bytes.fetch_sub(size as u64, Ordering::SeqCst);
     }
 }
 
-/// An allocator that passes each request on to another, but for those that it refuses.
+/// An allocator that passes each request on to another one, except for the requests that it makes fail.
 ///
-/// A test lends it: `&Metered<Global>` is an allocator too, and `Copy`.
+/// A test passes it by reference: `&Metered<Global>` is an allocator too, and is `Copy`.
 #[derive(Drop)]
 pub struct Metered<A: Allocator> {
     inner: A,
@@ -65,7 +66,7 @@ pub struct Metered<A: Allocator> {
 }
 
 impl<A: Allocator> Metered<A> {
-    /// It refuses nothing until it is told to.
+    /// Creates an allocator over `inner`, which makes no request fail until it is told to.
     pub fn new(inner: A) -> Metered<A> {
         Metered {
             inner,
@@ -73,22 +74,25 @@ impl<A: Allocator> Metered<A> {
         }
     }
 
-    /// From now on it counts anew, and refuses the request numbered `k` alone.
+    /// Counts the requests from 0 again, and from now on makes the request numbered `k` fail, and no other.
     pub fn refuse_at(&self, k: u64) {
         self.budget.start(k, k);
     }
 
-    /// From now on it counts anew, and refuses the request numbered `k` and all that follow it.
+    /// Counts the requests from 0 again, and from now on makes the request numbered `k` and all later requests fail.
     pub fn refuse_from(&self, k: u64) {
         self.budget.start(k, u64::MAX);
     }
 
-    /// From now on it counts anew, and refuses nothing.
+    /// Counts the requests from 0 again, and from now on makes no request fail.
     pub fn refuse_nothing(&self) {
         self.budget.start(u64::MAX, 0);
     }
 
-    /// Makes a call in which the request numbered `k` is refused, and says whether the call made that request.
+    /// Calls `call` and makes the request numbered `k` fail, counted from 0. Returns the result of `call`, and `true` if it made that
+    /// request.
+    ///
+    /// Afterwards the requests are counted from 0 again, and none fails.
     pub fn refuse_during<T, F: FnOnce() -> T>(&self, k: u64, call: F) -> (T, bool)
         requires { F.pre call }
         ensures { F.post call result.0 }
@@ -100,29 +104,34 @@ impl<A: Allocator> Metered<A> {
         (answer, refused)
     }
 
-    /// The number of requests since it began to count.
+    /// Returns the number of requests since the count last started from 0.
     pub fn asked(&self) -> u64 {
         self.budget.asked.load(Ordering::SeqCst)
     }
 
-    /// Whether it has refused a request since it began to count.
+    /// Returns `true` if the allocator has made a request fail since the count last started from 0.
     pub fn refused(&self) -> bool {
         self.budget.first.load(Ordering::SeqCst) < self.asked()
     }
 
-    /// The number of blocks that it gave and that have not come back, where the inner allocator never refuses.
+    /// Returns the number of blocks that were allocated and not yet deallocated, provided that the inner allocator never fails.
     pub fn blocks(&self) -> u64 {
         self.budget.blocks.load(Ordering::SeqCst)
     }
 
-    /// The bytes that were asked for in those blocks.
+    /// Returns the number of bytes that were requested for the blocks that were allocated and not yet deallocated, provided that the inner
+    /// allocator never fails.
     pub fn bytes(&self) -> u64 {
         self.budget.bytes.load(Ordering::SeqCst)
     }
 }
 
 impl Metered<Global> {
-    /// One that lives to the end of the process, so that a test names no lifetime.
+    /// Creates an allocator that lives until the end of the process, so that a test need not name a lifetime.
+    ///
+    /// # Errors
+    ///
+    /// Returns [`AllocError`] if memory for the allocator itself cannot be allocated.
     pub fn leaked(inner: Global) -> Result<&'static Metered<Global>, AllocError> {
         let boxed = Box::new(inner, Metered::new(inner))?;
         let leaked: &'static Metered<Global> = Box::leak(boxed);
@@ -156,7 +165,7 @@ mod tests {
     use std::thread;
     use std::thread::Threads;
 
-    // A type of a crate's own, generic in the allocator.
+    // A type that a crate defines itself, generic in the allocator.
     #[derive(Drop)]
     struct Link<K, A: Allocator> {
         key: Arc<K, A>,
@@ -186,18 +195,18 @@ mod tests {
         Ok(numbers.len())
     }
 
-    // Sees that a value is the one that is wanted. A test of many assertions calls this, since each `assert_eq!` that stands in it
-    // makes its proof longer.
+    // Asserts that a value is the expected one. A test with many assertions calls this, because each `assert_eq!` in its own body makes its
+    // proof longer.
     fn same<T: PartialEq + Debug + Drop>(rt: &impl Abort, seen: T, wanted: T) {
         assert_eq!(rt; seen, wanted);
     }
 
-    // What `three` answers with the request numbered k refused, and whether it made that request.
+    // Returns what `three` returns if the request numbered `k` fails, and whether it made that request.
     fn three_without(memory: &Metered<Global>, k: u64) -> (Result<usize, AllocError>, bool) {
         memory.refuse_during(k, || three(memory))
     }
 
-    // It makes four requests.
+    // `three` makes four requests.
     #[test]
     fn each_request_is_refused_in_turn(rt: HostRuntime) {
         let memory = Metered::new(rt.alloc());
@@ -218,7 +227,7 @@ mod tests {
         Ok(numbers)
     }
 
-    // Each request of these calls is refused.
+    // Asserts that each request of some calls fails.
     fn refuses_all(
         rt: &impl Abort,
         memory: &Metered<Global>,
@@ -242,7 +251,7 @@ mod tests {
         same(&rt, memory.asked(), 1);
     }
 
-    // Makes a value of that type with the request numbered k refused, of which it makes two, and sees to what was made.
+    // Creates a `Link`, which takes two requests, while the request numbered `k` fails, and checks what was created.
     fn makes_link(rt: &impl Abort, memory: &Metered<Global>, k: u64) {
         let (answer, refused) = memory.refuse_during(k, || Link::new(memory, 7u64));
         same(rt, (refused, answer.is_err()), (k < 2, k < 2));
@@ -275,7 +284,7 @@ mod tests {
         Ok(*Box::new(memory, number)?)
     }
 
-    // What they answer with the request numbered k refused, and whether it was made.
+    // Returns what `on_two` returns if the request numbered `k` fails, and whether that request was made.
     fn on_two_without(
         rt: &impl Threads,
         memory: &Metered<Global>,
@@ -284,7 +293,7 @@ mod tests {
         memory.refuse_during(k, || on_two(rt, memory))
     }
 
-    // They make three requests.
+    // `on_two` makes three requests.
     #[test]
     fn threads_share_it(rt: HostRuntime) {
         let memory = Metered::new(rt.alloc());
@@ -304,7 +313,7 @@ mod tests {
         Ok(())
     }
 
-    // A shared type of a crate's own: its lock and its keys come from one allocator.
+    // A shared type that a crate defines itself. The list in its lock and its keys come from one allocator.
     #[derive(Drop)]
     struct Shelf<K, A: Allocator> {
         keys: RwLock<Vec<Arc<K, A>, A>>,
