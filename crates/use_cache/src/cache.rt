@@ -1,4 +1,4 @@
-//! A cache with a bound on its pairs. The key that was put first is forgotten first.
+//! A cache with a bound on the number of its pairs. The key that was put first is forgotten first.
 
 ghost use Rattle.std.specs.Prelude.{◌≡◌, ◌≢◌, ◌≤◌, ◌<◌, ℕ, [], length, Some, None, IfOk, OnOk, OnErr};
 ghost use Rattle.std.specs.Ordering.{nat_cmp};
@@ -11,7 +11,7 @@ use std::alloc::{AllocError, Global};
 use std::collections::VecDeque;
 use std::marker::Model;
 
-/// A cache of numbers. It never has more pairs than its bound.
+/// A cache of pairs of numbers, which never has more pairs than its bound.
 #[derive(Drop)]
 pub struct Cache {
     map: SeqMap<u64, u64>,
@@ -34,7 +34,7 @@ impl Model for Cache {
 }
 
 impl Cache {
-    /// An empty cache for so many pairs.
+    /// Creates an empty cache for at most `bound` pairs.
     pub fn new(alloc: Global, bound: usize) -> Self
         requires { 0 < bound }
         ensures { result ≡ record { pairs = []; bound = bound } }
@@ -46,14 +46,18 @@ impl Cache {
         }
     }
 
-    /// The value of a key.
+    /// Returns the value of `key`, or `None` if the key is not in the cache.
     pub fn get(&self, key: u64) -> Option<u64>
         ensures { result ≡ value_at nat_cmp self.now.pairs key }
     {
         self.map.get(&key).map(|value| **value)
     }
 
-    /// Puts a value. Where the cache is full, another key is forgotten.
+    /// Sets the value of `key`. If the cache is full and the key is not in it, another key is forgotten.
+    ///
+    /// # Errors
+    ///
+    /// Returns [`AllocError`] if memory for the pair cannot be allocated. The key then has its old value or none.
     #[tactic(auto, using(flurry::proofs::CallerLaws::map_calls))]
     pub fn put(&mut self, key: u64, value: u64) -> Result<(), AllocError>
         ensures put { OnOk result (value_at nat_cmp self.new.pairs key ≡ Some value) }
@@ -93,14 +97,19 @@ fn make_room(map: &mut SeqMap<u64, u64>, order: &mut VecDeque<u64>, bound: usize
 /// A call of a cache.
 #[derive(Clone, Copy, Debug)]
 pub enum Call {
-    /// Puts a value under a key.
+    /// A call of [`Cache::put`] with a key and a value.
     Put(u64, u64),
-    /// Looks a key up.
+    /// A call of [`Cache::get`] with a key.
     Get(u64),
 }
 
-/// Makes the calls in their order on a new cache, and answers what the look-ups gave. Each gave nothing, or the value that was put
-/// last under its key.
+/// Makes `calls` in their order on a new cache for at most `bound` pairs, and returns the results of the look-ups.
+///
+/// Each result is `None`, or the value that was put last under the key.
+///
+/// # Errors
+///
+/// Returns [`AllocError`] if memory for a pair or a result cannot be allocated.
 pub fn run(alloc: Global, bound: usize, calls: &[Call]) -> Result<Vec<Option<u64>>, AllocError>
     requires { 0 < bound }
     ensures { IfOk result (λ replies. AreLawful (λ _. None) calls.now replies.items) }

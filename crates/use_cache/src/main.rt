@@ -1,4 +1,4 @@
-//! A cache of two pairs, as calls are made on it.
+//! Makes calls on a cache for two pairs, and prints their results.
 #![tactic(auto)]
 
 mod cache;
