@@ -1,4 +1,4 @@
-//! Texts of which equal ones are kept once.
+//! Interns texts, of which equal ones are kept once.
 #![tactic(auto)]
 
 mod interner;
