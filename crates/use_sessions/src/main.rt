@@ -9,21 +9,21 @@ use std::sync::atomic::{AtomicU64, Ordering};
 use std::thread::Threads;
 use std::{io, thread};
 
-// How many sessions a thread opens, or touches.
+// The number of sessions that a thread opens or touches.
 const EACH: u64 = 500;
 
-// What one thread does.
+// The work of one thread.
 #[derive(Clone, Copy)]
 enum Work {
-    // Opens the sessions from this one on.
+    // Opens `EACH` sessions, from this number on.
     Open(u64),
-    // Touches them.
+    // Touches `EACH` sessions, from this number on.
     Touch(u64),
-    // Expires the sessions that were seen before this time.
+    // Expires the sessions that were last seen before this time.
     Expire(u64),
 }
 
-// Does that, and counts the sessions that were new, or that were open when they were touched.
+// Does the work of one thread, and counts the sessions that were new when opened, or open when touched.
 fn do_work<R: Wait>(rt: &R, sessions: &Sessions, work: Work, count: &AtomicU64) {
     let (first, opens) = match work {
         Work::Open(first) => (first, true),
@@ -45,7 +45,7 @@ fn do_work<R: Wait>(rt: &R, sessions: &Sessions, work: Work, count: &AtomicU64) 
     }
 }
 
-// Does each of these in a thread of its own, and answers what they have counted.
+// Does each of `works` in a thread of its own, and returns how many sessions all of them have counted.
 fn in_threads<R: Threads + Wait + Sync>(rt: &R, sessions: &Sessions, works: &[Work]) -> u64 {
     let counted = AtomicU64::new(0);
     let count = &counted;
@@ -67,7 +67,7 @@ fn main(rt: HostRuntime) -> io::Result<()> {
     let opened = in_threads(&rt, &sessions, &opens);
     println!(rt; "opened: {opened}, open: {}", sessions.count(&rt))?;
 
-    // Which sessions are touched before they can expire, hangs on the threads. That none of them expires then does not.
+    // Which sessions are touched before they can expire depends on the threads. That none of these expires does not.
     let works = [Work::Touch(0), Work::Expire(5), Work::Touch(500)];
     let touched = in_threads(&rt, &sessions, &works);
     let open = sessions.count(&rt) as u64;
