@@ -1,4 +1,4 @@
-//! Counts the words of lines in threads.
+//! Counts the words of lines, each line in a thread of its own.
 #![tactic(auto)]
 
 mod words;
@@ -20,7 +20,7 @@ const LINES: [&str; 4] = [
     "say what a lot of fish there are",
 ];
 
-// Counts the words of a line, and adds how many there are to the sum.
+// Counts the words of `line`, and adds their number to `sum`.
 fn count_line<R: Wait>(rt: &R, alloc: Global, words: &Words, line: &str, sum: &AtomicU64) {
     for word in line.split_whitespace() {
         if words.add(rt, alloc, word).is_ok() {
@@ -29,7 +29,7 @@ fn count_line<R: Wait>(rt: &R, alloc: Global, words: &Words, line: &str, sum: &A
     }
 }
 
-// Counts the words of each line in a thread of its own, and answers how many words there were.
+// Counts the words of each line in a thread of its own, and returns the number of words.
 fn count_lines<R: Threads + Wait + Sync>(
     rt: &R,
     alloc: Global,

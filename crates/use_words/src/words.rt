@@ -8,14 +8,18 @@ use std::alloc::{AllocError, Global};
 use std::sync::Wait;
 use std::thread::Threads;
 
-/// How often each word was counted.
+/// The number of times that each word was counted.
 #[derive(Drop)]
 pub struct Words {
     counts: HashMap<String, u64>,
 }
 
 impl Words {
-    /// The words of a text, of which none is counted yet. Threads build their map.
+    /// Creates the counts of the words of `text`, all of which are 0. Several threads build their map.
+    ///
+    /// # Errors
+    ///
+    /// Returns [`AllocError`] if memory for the words cannot be allocated.
     pub fn of_text<R: Threads + Wait + Sync>(
         rt: &R,
         alloc: Global,
@@ -32,7 +36,11 @@ impl Words {
         }
     }
 
-    /// Counts a word once more, and answers its count.
+    /// Counts `word` once more, and returns its new count.
+    ///
+    /// # Errors
+    ///
+    /// Returns [`AllocError`] if memory for the word or its count cannot be allocated.
     pub fn add<R: Wait>(&self, rt: &R, alloc: Global, word: &str) -> Result<u64, AllocError>
         ensures { IfOk result (λ count. 1 ≤ count) }
     {
@@ -43,11 +51,11 @@ impl Words {
         if let Ok(first) = self.counts.try_insert(rt, key.clone()?, 1)? {
             return Ok(*first);
         }
-        // Another thread has put the word meanwhile, and none takes a word out.
+        // Another thread has inserted the word meanwhile, and no thread removes a word.
         self.raise(rt, &key)?.ok_or(AllocError)
     }
 
-    // Raises the count of a word that is there.
+    // Counts a word once more if it is present, and returns its new count, or `None` if it is absent.
     fn raise<R: Wait>(&self, rt: &R, word: &String) -> Result<Option<u64>, AllocError>
         ensures { IfOk result (λ count. IfSome count (λ n. 1 ≤ n)) }
     {
@@ -61,14 +69,18 @@ impl Words {
         Ok(count.map(|count| *count))
     }
 
-    /// The counts, once no thread counts any more.
+    /// Returns the counts, once no thread counts any more.
+    ///
+    /// # Errors
+    ///
+    /// Returns [`AllocError`] if memory for the owned map cannot be allocated. The counts are then dropped.
     pub fn finish<R: Wait>(self, rt: &R) -> Result<SeqMap<String, u64>, AllocError> {
         let Words { counts } = self;
         counts.into_seq(rt)
     }
 }
 
-/// The sum of the counts, if it has 64 bits.
+/// Returns the sum of the counts, or `None` if it does not fit in 64 bits.
 pub fn total(counts: &SeqMap<String, u64>) -> Option<u64>
     ensures { IfSome result (λ sum. sum ≡ sum_by (λ p. p.1) counts.now.pairs) }
 {
