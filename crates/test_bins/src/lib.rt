@@ -1,4 +1,4 @@
-//! Hash numbers, bins and slots, as tests.
+//! Tests of the hashes of numbers, of bins and of slots.
 #![tactic(auto)]
 
 #[cfg(test)]

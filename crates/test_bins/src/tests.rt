@@ -1,4 +1,4 @@
-//! The bins and the hashes on their happy paths, through their traits, and the depths of large bins.
+//! Bins and hashes where nothing fails, through their traits, and the depths of large bins.
 ghost use Rattle.std.specs.Prelude.{◌≡◌};
 ghost use Rattle.std.specs.Arc.{arc_value};
 ghost use Rattle.flurry_bins.specs.Chain.{entry_of};
@@ -16,8 +16,8 @@ use std::hash::{Hash, Hasher};
 use std::process::Abort;
 use std::sync::Arc;
 
-// Sees that a value is the one that is wanted. A test of many assertions calls this, since each `assert_eq!` that stands in it makes
-// its proof longer.
+// Asserts that a value is the expected one. A test with many assertions calls this, because each `assert_eq!` in its own body makes its
+// proof longer.
 fn same<T: PartialEq + Debug + Drop>(rt: &impl Abort, seen: T, wanted: T) {
     assert_eq!(rt; seen, wanted);
 }
@@ -35,7 +35,7 @@ fn node<K: Drop>(rt: &(impl Abort + AllocGlobal), hash: u64, key: K) -> Box<Node
     Node::new(rt.alloc(), entry).expect(rt, "memory for the node")
 }
 
-// A list of so many keys. They are put from the greatest on, so that each goes to the front.
+// Returns a list of the keys below `count`. They are inserted from the greatest down, so that each goes to the front.
 fn list_of(rt: &(impl Abort + AllocGlobal), count: u64) -> ListBin<u64, u64> {
     let mut list = ListBin::new();
     for i in 0..count {
@@ -47,7 +47,7 @@ fn list_of(rt: &(impl Abort + AllocGlobal), count: u64) -> ListBin<u64, u64> {
     list
 }
 
-// A tree of so many keys, put in ascending order.
+// Returns a tree of the keys below `count`, inserted in ascending order.
 fn tree_of(rt: &(impl Abort + AllocGlobal), count: u64) -> TreeBin<u64, u64> {
     let mut tree = TreeBin::from_list(ListBin::new());
     for key in 0..count {
@@ -58,7 +58,7 @@ fn tree_of(rt: &(impl Abort + AllocGlobal), count: u64) -> TreeBin<u64, u64> {
     tree
 }
 
-// The most nodes that a look-up of one of the keys visits, or none where one of them is absent.
+// Returns the greatest number of nodes that a look-up of one of the keys visits, or `None` if one of the keys is absent.
 fn most_visits(tree: &TreeBin<u64, u64>, count: u64, odd_alone: bool) -> Option<u64> {
     let mut most = 0;
     for key in 0..count {
@@ -73,7 +73,7 @@ fn most_visits(tree: &TreeBin<u64, u64>, count: u64, odd_alone: bool) -> Option<
     Some(most)
 }
 
-// Takes out the even keys.
+// Removes the even keys below `count`.
 fn remove_even(tree: &mut TreeBin<u64, u64>, count: u64) {
     for key in 0..count {
         if key % 2 == 0 {
@@ -82,7 +82,7 @@ fn remove_even(tree: &mut TreeBin<u64, u64>, count: u64) {
     }
 }
 
-// Puts the keys that are absent.
+// Inserts those keys below `count` that are absent.
 fn put_below(rt: &(impl Abort + AllocGlobal), bin: &mut Bin<u64, u64>, count: u64) {
     for key in 0..count {
         if bin.find(0, &key).0.is_none() && bin.len() < 1000 {
@@ -91,7 +91,7 @@ fn put_below(rt: &(impl Abort + AllocGlobal), bin: &mut Bin<u64, u64>, count: u6
     }
 }
 
-// A bin of a thousand signed keys with one hash.
+// Returns a bin of a thousand signed keys with one hash.
 fn signed_bin(rt: &(impl Abort + AllocGlobal)) -> Bin<i32, u64> {
     let mut bin = Bin::new();
     for key in 0i32..1000 {
@@ -103,7 +103,7 @@ fn signed_bin(rt: &(impl Abort + AllocGlobal)) -> Bin<i32, u64> {
     bin
 }
 
-// Takes out the keys that are present.
+// Removes those keys below `count` that are present.
 fn remove_below(bin: &mut Bin<u64, u64>, count: u64) {
     for key in 0..count {
         let _gone = bin.remove(0, &key);
@@ -130,7 +130,7 @@ fn list_keeps_order(rt: HostRuntime) {
     same(&rt, high.len(), 0);
 }
 
-// The key of a node, if there is one.
+// Returns the key of a node, if there is one.
 fn key_of(node: Option<Box<Node<u64, u64>>>) -> Option<u64> {
     match node {
         Some(node) => Some(*node.entry().key),
@@ -138,7 +138,7 @@ fn key_of(node: Option<Box<Node<u64, u64>>>) -> Option<u64> {
     }
 }
 
-// A list hands out its nodes from the front on.
+// A list gives its nodes from the front on.
 #[test]
 fn nodes_of_a_list(rt: HostRuntime) {
     let mut list = list_of(&rt, 2);
@@ -218,7 +218,7 @@ fn shapes_of_halves_and_of_lists(rt: HostRuntime) {
     same(&rt, high.shape(), Shape::Empty);
 }
 
-// A bin of twelve keys that keeps those below a bound.
+// Returns a bin of twelve keys, after it has kept those below `bound`.
 fn kept_below(rt: &(impl Abort + AllocGlobal), bound: u64) -> Bin<u64, u64> {
     let mut bin: Bin<u64, u64> = Bin::from_list(list_of(rt, 12));
     bin.retain(&mut |key: &u64, _: &u64| *key < bound);

@@ -1,9 +1,9 @@
-//! A function of one's own that a computation calls, as a type.
+//! A function that a caller defines for computations, as a type.
 ghost use Rattle.std.specs.Prelude.{◌≡◌, Some, min};
 
 use flurry::slots::ComputeFn;
 
-/// Answers a limit in the place of a greater value.
+/// A function that replaces each value above a limit by the limit.
 #[derive(Clone, Copy, Debug)]
 pub struct AtMost(pub u64);
 

@@ -1,4 +1,4 @@
-//! What a caller of the maps and sets gets with no proof file: where a function wants laws, its attribute names them.
+//! What a caller of the maps and sets gets without a proof file. If a function needs laws, its attribute names them.
 #![tactic(auto)]
 
 ghost use Rattle.std.specs.Prelude.{◌≡◌, ◌≢◌, ◌+◌, ◌≤◌, ℕ, [], ◌∷◌, length, Some, None, OnOk, IfOk, is_some, String, string_bytes};
@@ -17,7 +17,7 @@ use std::hash::Hash;
 
 type Map = SeqMap<u64, u64>;
 
-/// What was put is there.
+/// Inserts a value, and returns what a look-up then finds: the value that was inserted.
 #[tactic(auto, using(flurry::proofs::CallerLaws::map_calls))]
 pub fn put_get(map: &mut Map, key: u64, value: u64) -> Result<Option<u64>, AllocError>
     ensures { IfOk result (λ r. r ≡ Some value) }
@@ -26,7 +26,7 @@ pub fn put_get(map: &mut Map, key: u64, value: u64) -> Result<Option<u64>, Alloc
     Ok(map.get(&key).map(|value| **value))
 }
 
-/// What was put is there, as a fact on the map.
+/// Inserts a value, and says as a fact on the map that the key then has it.
 #[tactic(auto, using(flurry::proofs::CallerLaws::map_calls))]
 pub fn put(map: &mut Map, key: u64, value: u64) -> Result<(), AllocError>
     ensures { OnOk result (value_at nat_cmp map.new.pairs key ≡ Some value) }
@@ -35,7 +35,7 @@ pub fn put(map: &mut Map, key: u64, value: u64) -> Result<(), AllocError>
     Ok(())
 }
 
-/// Other keys stay.
+/// Inserts a pair. Other keys keep their values.
 #[tactic(auto, using(flurry::proofs::CallerLaws::map_calls))]
 pub fn put_others(map: &mut Map, key: u64, value: u64) -> Result<(), AllocError>
     ensures { OnOk result ((q : ℕ) → q ≢ key → value_at nat_cmp map.new.pairs q ≡ value_at nat_cmp map.old.pairs q) }
@@ -44,7 +44,7 @@ pub fn put_others(map: &mut Map, key: u64, value: u64) -> Result<(), AllocError>
     Ok(())
 }
 
-/// What was removed is gone.
+/// Removes a key, which is then absent.
 #[tactic(auto, using(flurry::proofs::CallerLaws::map_calls))]
 pub fn drop_key(map: &mut Map, key: u64)
     ensures { value_at nat_cmp map.new.pairs key ≡ None }
@@ -52,7 +52,7 @@ pub fn drop_key(map: &mut Map, key: u64)
     let _ = map.remove(&key);
 }
 
-/// The number after a removal.
+/// Removes a key. The number of pairs does not grow.
 #[tactic(auto, using(flurry::proofs::CallerLaws::map_calls))]
 pub fn drop_len(map: &mut Map, key: u64)
     ensures { length map.new.pairs ≤ length map.old.pairs }
@@ -60,7 +60,7 @@ pub fn drop_len(map: &mut Map, key: u64)
     let _ = map.remove(&key);
 }
 
-/// The number after an insertion.
+/// Inserts a pair. The number of pairs grows by at most one.
 #[tactic(auto, using(flurry::proofs::CallerLaws::map_calls))]
 pub fn put_len(map: &mut Map, key: u64, value: u64) -> Result<(), AllocError>
     ensures { OnOk result (length map.new.pairs ≤ length map.old.pairs + 1) }
@@ -69,7 +69,7 @@ pub fn put_len(map: &mut Map, key: u64, value: u64) -> Result<(), AllocError>
     Ok(())
 }
 
-/// A map of one pair.
+/// Returns a map of one pair.
 pub fn one(alloc: Global, key: u64, value: u64) -> Result<Map, AllocError>
     ensures { IfOk result (λ m. m.pairs ≡ (key, value) ∷ []) }
 {
@@ -78,14 +78,14 @@ pub fn one(alloc: Global, key: u64, value: u64) -> Result<Map, AllocError>
     Ok(map)
 }
 
-/// A value in a map is found.
+/// Returns `true` if a key has a value in the map.
 pub fn has(map: &Map, key: u64) -> bool
     ensures { result ≡ is_some (value_at nat_cmp map.now.pairs key) }
 {
     map.contains_key(&key)
 }
 
-/// A value is swapped where it is.
+/// Replaces the value of a key if it is present, and returns `true` if it was.
 pub fn set(map: &mut Map, key: u64, value: u64) -> Result<bool, AllocError>
     ensures { IfOk result (λ r. r ≡ is_some (value_at nat_cmp map.old.pairs key)) }
 {
@@ -98,14 +98,14 @@ pub fn set(map: &mut Map, key: u64, value: u64) -> Result<bool, AllocError>
     Ok(answer.is_some())
 }
 
-/// A count of the pairs, by walking.
+/// Returns the number of pairs, counted by iterating over them.
 pub fn walk(map: &Map) -> usize
     ensures { result ≡ length map.now.pairs }
 {
     map.iter().count()
 }
 
-/// At any key type.
+/// Inserts a pair whose key has any type.
 #[tactic(auto, using(flurry::proofs::CallerLaws::any_calls))]
 pub fn put_any<K: Hash + Ord + Drop, V: Drop>(
     map: &mut SeqMap<K, V>,
@@ -118,7 +118,7 @@ pub fn put_any<K: Hash + Ord + Drop, V: Drop>(
     Ok(())
 }
 
-/// At text keys.
+/// Inserts a pair whose key is a text.
 #[tactic(auto, using(flurry::proofs::CallerLaws::text_calls))]
 pub fn put_text(map: &mut SeqMap<String, u64>, key: String, value: u64) -> Result<(), AllocError>
     ensures same { OnOk result (value_at string_cmp map.new.pairs key ≡ Some value) }
@@ -129,7 +129,7 @@ pub fn put_text(map: &mut SeqMap<String, u64>, key: String, value: u64) -> Resul
     Ok(())
 }
 
-/// A set.
+/// Inserts an element into a set.
 #[tactic(auto, using(flurry::proofs::CallerLaws::set_calls))]
 pub fn put_element(set: &mut SeqSet<u64>, x: u64) -> Result<(), AllocError>
     ensures { OnOk result (element_at nat_cmp set.new.elements x ≡ Some x) }
@@ -138,14 +138,14 @@ pub fn put_element(set: &mut SeqSet<u64>, x: u64) -> Result<(), AllocError>
     Ok(())
 }
 
-/// The stored one of equal elements.
+/// Returns the stored one of equal elements, and inserts `x` if there is none.
 pub fn keep_one(set: &mut SeqSet<u64>, x: u64) -> Result<u64, AllocError>
     ensures { IfOk result (λ r. element_at nat_cmp set.new.elements x ≡ Some r) }
 {
     Ok(*set.get_or_insert(x)?)
 }
 
-/// A value that is there is found, and others were not asked for.
+/// Returns the value of a key, which is `value` if the key was absent and the pair is inserted.
 #[tactic(auto, using(flurry::proofs::CallerLaws::map_calls))]
 pub fn get_or_put(map: &mut Map, key: u64, value: u64) -> Result<u64, AllocError>
     ensures { IfOk result (λ r. value_at nat_cmp map.new.pairs key ≡ Some r) }
@@ -156,7 +156,7 @@ pub fn get_or_put(map: &mut Map, key: u64, value: u64) -> Result<u64, AllocError
     }
 }
 
-/// Other elements stay.
+/// Inserts an element. Other elements stay.
 #[tactic(auto, using(flurry::proofs::CallerLaws::set_calls))]
 pub fn put_other_element(set: &mut SeqSet<u64>, x: u64) -> Result<(), AllocError>
     ensures { OnOk result ((q : ℕ) → q ≢ x
@@ -166,7 +166,7 @@ pub fn put_other_element(set: &mut SeqSet<u64>, x: u64) -> Result<(), AllocError
     Ok(())
 }
 
-/// What was removed is gone.
+/// Removes an element, which is then absent.
 #[tactic(auto, using(flurry::proofs::CallerLaws::set_calls))]
 pub fn drop_element(set: &mut SeqSet<u64>, x: u64)
     ensures { element_at nat_cmp set.new.elements x ≡ None }

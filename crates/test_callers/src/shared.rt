@@ -7,7 +7,7 @@ use std::sync::Wait;
 
 type Shared = HashMap<u64, u64>;
 
-/// Puts a pair, and answers how many were put: none where memory was wanting.
+/// Inserts a pair, and returns the number of pairs that were inserted, which is 0 if memory cannot be allocated.
 pub fn put_one<R: Wait>(rt: &R, map: &Shared, key: u64) -> u64
     ensures { result ≤ 1 }
 {
@@ -17,7 +17,8 @@ pub fn put_one<R: Wait>(rt: &R, map: &Shared, key: u64) -> u64
     }
 }
 
-/// The value that was handed in is the one that was put, or it comes back.
+/// Inserts a pair if the key is absent. The returned value is the one that was inserted, or the one that was not: it is `value` in each
+/// case.
 pub fn offer<R: Wait>(rt: &R, map: &Shared, key: u64, value: u64) -> Result<u64, AllocError>
     ensures { IfOk result (λ r. r ≡ value) }
 {
@@ -27,7 +28,7 @@ pub fn offer<R: Wait>(rt: &R, map: &Shared, key: u64, value: u64) -> Result<u64,
     }
 }
 
-/// A value that is answered is one that the function answered.
+/// Lowers a value to at most `limit`. A value that is returned is one that the function returned.
 pub fn lower<R: Wait>(rt: &R, map: &Shared, key: u64, limit: u64) -> Result<Option<u64>, AllocError>
     ensures { IfOk result (λ r. IfSome r (λ v. v ≤ limit)) }
 {

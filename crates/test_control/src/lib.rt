@@ -1,4 +1,4 @@
-//! The control, slots, and the cursor of walks and clears, as tests.
+//! Tests of the control, of slots, and of the cursor of walks and clears.
 #![tactic(auto)]
 
 #[cfg(test)]

@@ -1,4 +1,4 @@
-//! Parts of one owner, beside a table that was published, where calls begin without asking the control.
+//! Parts of one owner, beside a published table at which calls start without asking the control.
 ghost use Rattle.std.specs.Prelude.{◌≡◌, true};
 ghost use Rattle.flurry_drive.specs.Tells.{Tells};
 ghost use Rattle.flurry_world.specs.Parts.{IsStart};
@@ -13,7 +13,7 @@ use flurry_world::Parts;
 use flurry_world::tables::Tables;
 use std::alloc::{Allocator, Global};
 
-/// Parts, and a number that some control has published, which may be far behind.
+/// The parts of a map, and the number of a table that some control has published, which may be far behind.
 #[derive(Drop)]
 pub struct Beside<K: Ord, V, A: Allocator = Global> {
     parts: Parts<K, V, A>,
@@ -21,7 +21,7 @@ pub struct Beside<K: Ord, V, A: Allocator = Global> {
 }
 
 impl<K: Ord + Drop, V: Drop, A: Allocator + Copy> Beside<K, V, A> {
-    /// These parts, beside that number.
+    /// Creates a field of `parts`, beside the published table `start`.
     pub fn new(parts: Parts<K, V, A>, start: PublishedTable) -> Self
         ensures { parts_of result ≡ parts }
     {
@@ -29,7 +29,7 @@ impl<K: Ord + Drop, V: Drop, A: Allocator + Copy> Beside<K, V, A> {
     }
 }
 
-// Whether a call may begin at that table: it was published, and its bins have come to be.
+// Returns `true` if a call may start at `table`: it has been published, and its bins are no longer unborn.
 fn is_start<'s, K: Ord + Drop + 's, V: Drop, A: Allocator + Copy>(
     parts: &'s Parts<K, V, A>,
     table: u8,
@@ -96,7 +96,7 @@ impl<K: Ord + Drop, V: Drop, A: Allocator + Copy> Field<K, V, A> for Beside<K, V
     }
 }
 
-/// Parts beside a number are a field that tells its parts. This does nothing: its contract is a law.
+/// Parts beside a published table are a field of which `Tells` holds. The function does nothing: its contract is a law.
 pub fn beside_tells<K: Ord, V, A: Allocator>()
     ensures { Tells (parts_of {K = K} {V = V} {A = A}) (λ r. r) PlaceGives BesideLends BesideLacks }
 {}

@@ -1,4 +1,4 @@
-//! Driven calls, as tests: over the parts of one owner, and over such parts beside a table that was published.
+//! Tests of driven calls, over the parts of one owner, and over such parts beside a published table.
 #![tactic(auto)]
 
 pub mod beside;

@@ -18,7 +18,7 @@ use std::fmt::Debug;
 use std::process::Abort;
 use std::sync::Wait;
 
-// What a call answers, without the owners of its keys and values.
+// The reply of a call, without the owners of its keys and values.
 #[derive(Clone, Copy, Debug, PartialEq, Eq)]
 enum Plain {
     OutcomeReply(KeptReply<u64, u64>),
@@ -26,17 +26,17 @@ enum Plain {
     Refused,
 }
 
-// Sees that a value is the one that is wanted. The proof of the caller does not learn of the value, so it stays short.
+// Asserts that a value is the expected one. The proof of the caller does not learn of the value, so it stays short.
 fn same<T: PartialEq + Debug + Drop>(rt: &impl Abort, seen: T, wanted: T) {
     assert_eq!(rt; seen, wanted);
 }
 
-// The reply of a value, or of none.
+// Returns the reply of a value, or of `None`.
 fn value(value: Option<u64>) -> Plain {
     Plain::OutcomeReply(KeptReply::Value(value))
 }
 
-// The reply without owners.
+// Returns the reply without the owners of its keys and values.
 fn without_owners<A: Allocator>(reply: Reply<u64, u64, A>) -> Plain {
     let reply = match reply {
         Reply::Value(None) => KeptReply::Value(None),
@@ -55,7 +55,7 @@ fn without_owners<A: Allocator>(reply: Reply<u64, u64, A>) -> Plain {
     Plain::OutcomeReply(reply)
 }
 
-// Drives a call whose key is its hash, and answers its reply.
+// Drives a call whose key is its hash, and returns its reply.
 fn reply_of<F: ComputeFn<u64, u64>, A: Allocator + Copy, X: Field<u64, u64, A>, R: Wait>(
     rt: &R,
     field: &mut X,
@@ -70,7 +70,7 @@ fn reply_of<F: ComputeFn<u64, u64>, A: Allocator + Copy, X: Field<u64, u64, A>, 
     without_owners(reply)
 }
 
-// Drives a call, and sees that it answers what is wanted.
+// Drives a call, and asserts that its reply is `wanted`.
 fn answers<F: ComputeFn<u64, u64>, A: Allocator + Copy, X: Field<u64, u64, A>, R: Wait + Abort>(
     rt: &R,
     field: &mut X,

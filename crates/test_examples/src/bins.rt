@@ -7,7 +7,7 @@ use flurry::bin::{Bin, BoxedNode, Entry, ListBin, Node, Ordered, TreeBin};
 use flurry::slots::{Added, Answer, Computed, MoveAnswer, Slot, Written};
 use std::alloc::{AllocError, Global};
 
-/// The value of a pair, out of its node.
+/// Returns the value of a pair, taken out of its node.
 pub fn value_of_node(alloc: Global, hash: u64, key: u64, value: u64) -> Result<u64, AllocError>
     ensures { IfOk result (λ v. v ≡ value) }
 {
@@ -16,7 +16,7 @@ pub fn value_of_node(alloc: Global, hash: u64, key: u64, value: u64) -> Result<u
     Ok(*value)
 }
 
-/// A bin of one pair.
+/// Makes a bin of one pair, and returns its length.
 pub fn bin_of_one(alloc: Global, hash: u64, key: u64, value: u64) -> Result<usize, AllocError>
     ensures { IfOk result (λ n. n ≡ 1) }
 {
@@ -25,7 +25,7 @@ pub fn bin_of_one(alloc: Global, hash: u64, key: u64, value: u64) -> Result<usiz
     Ok(bin.len())
 }
 
-/// A list of one pair as a tree.
+/// Makes a tree from a list of one pair, and returns its length.
 pub fn tree_of_one(alloc: Global, hash: u64, key: u64, value: u64) -> Result<usize, AllocError>
     ensures { IfOk result (λ n. n ≡ 1) }
 {
@@ -35,7 +35,7 @@ pub fn tree_of_one(alloc: Global, hash: u64, key: u64, value: u64) -> Result<usi
     Ok(tree.len())
 }
 
-/// The first value at a slot whose bin is live, if it has one. An example alone.
+/// Returns the first value at a slot whose bin is live, if it has one. This is an example only.
 pub fn first_at(slot: &Slot<u64, u64>) -> Option<u64> {
     match slot.next_after(None) {
         Answer::Here(entry) => entry.map(|entry| *entry.value),
@@ -43,7 +43,7 @@ pub fn first_at(slot: &Slot<u64, u64>) -> Option<u64> {
     }
 }
 
-/// A bin that moves to its halves leaves a receipt of its slot.
+/// Moves a bin to its halves, and returns the table and the index of its slot, which the receipt names.
 pub fn move_to_halves(
     slot: &mut Slot<u64, u64>,
     low: &mut Slot<u64, u64>,
@@ -58,7 +58,7 @@ pub fn move_to_halves(
     }
 }
 
-/// The hash of a pair, as its node has it.
+/// Returns the hash of a pair, as its node has it.
 pub fn hash_of_node(alloc: Global, hash: u64, key: u64, value: u64) -> Result<u64, AllocError>
     ensures { IfOk result (λ h. h ≡ hash) }
 {
@@ -66,7 +66,7 @@ pub fn hash_of_node(alloc: Global, hash: u64, key: u64, value: u64) -> Result<u6
     Ok(node.entry().hash)
 }
 
-/// What a node of a colour adds to the height of its tree.
+/// Returns what a node of `colour` adds to the height of its tree.
 pub fn height_of(colour: Colour) -> usize
     ensures { result ≤ 1 }
 {
@@ -76,7 +76,7 @@ pub fn height_of(colour: Colour) -> usize
     }
 }
 
-/// How many nodes a look-up visits, in a bin of any kind.
+/// Returns the number of nodes that a look-up visits, in a bin of any kind.
 pub fn visits<B: Ordered<u64, u64, Global>>(bin: &B, hash: u64, key: u64) -> u64
     ensures { result ≤ B.most_met (length (B.entries bin.now)) }
 {
@@ -84,7 +84,7 @@ pub fn visits<B: Ordered<u64, u64, Global>>(bin: &B, hash: u64, key: u64) -> u64
     visits
 }
 
-/// The value that a write found at its key.
+/// Returns the value that a write found at its key.
 pub fn value_before(answer: Answer<Written<u64, Global>, (u64, u64)>) -> Option<u64>
     ensures { (lent : ℕ × ℕ) → answer ≡ Answer.Moved lent → result ≡ None }
 {
@@ -94,7 +94,7 @@ pub fn value_before(answer: Answer<Written<u64, Global>, (u64, u64)>) -> Option<
     }
 }
 
-/// The value that stands after an addition.
+/// Returns the value that is present after an addition.
 pub fn value_after(
     answer: Answer<Result<Added<u64, Global>, TryInsertError<u64>>, (u64, u64)>,
 ) -> Option<u64>
@@ -107,7 +107,7 @@ pub fn value_after(
     }
 }
 
-/// The value that a computation put.
+/// Returns the value that a computation wrote.
 pub fn value_computed<F: Drop>(answer: Answer<Computed<u64, F, Global>, F>) -> Option<u64>
     ensures { (f : F) → answer ≡ Answer.Moved f → result ≡ None }
 {
@@ -117,7 +117,7 @@ pub fn value_computed<F: Drop>(answer: Answer<Computed<u64, F, Global>, F>) -> O
     }
 }
 
-/// Whether the bin of a slot has moved. If not, its slot is as it was.
+/// Moves the bin of a slot, and returns `true` if it has moved. If not, the slot is unchanged.
 pub fn move_bin(
     slot: &mut Slot<u64, u64>,
     low: &mut Slot<u64, u64>,

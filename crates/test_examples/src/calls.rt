@@ -1,4 +1,4 @@
-//! Callers of calls as values, and of what calls answer.
+//! Callers of calls as values, and of the results of calls.
 ghost use Rattle.std.specs.Prelude.{◌≡◌, ℕ, [], Some, IfOk, IfSome};
 ghost use Rattle.std.specs.Ordering.{nat_cmp};
 ghost use Rattle.flurry.specs.FiniteMap.{value_at};
@@ -13,7 +13,7 @@ use std::collections::VecDeque;
 
 type Map = SeqMap<u64, u64>;
 
-/// What stands, and what was not put, where the key is present.
+/// Returns the value that is present and the value that was not inserted, if the key is present.
 pub fn standing_and_new(
     map: &mut Map,
     key: u64,
@@ -27,7 +27,7 @@ pub fn standing_and_new(
     }
 }
 
-/// The value that a kept reply tells, if it tells one.
+/// Returns the value that a kept reply contains, if it contains one.
 pub fn value_in(reply: KeptReply<u64, u64>) -> Option<u64>
     ensures { (v : ℕ) → reply ≡ KeptReply.New v → result ≡ Some v }
 {
@@ -40,7 +40,7 @@ pub fn value_in(reply: KeptReply<u64, u64>) -> Option<u64>
     }
 }
 
-/// The number of pairs in the bin of a hash, by its shape.
+/// Returns the number of pairs in the bin of a hash, by its shape.
 pub fn pairs_in_bin(map: &Map, hash: u64) -> usize
     ensures { map.now.pairs ≡ [] → result ≡ 0 }
 {
@@ -51,7 +51,7 @@ pub fn pairs_in_bin(map: &Map, hash: u64) -> usize
     }
 }
 
-// Adds one to a value, where that fits.
+// Adds one to a value, or returns `None` if the result does not fit.
 fn one_more(_key: &u64, value: &u64) -> Option<u64> {
     value.checked_add(1)
 }
@@ -61,7 +61,7 @@ fn is_even(_key: &u64, value: &u64) -> bool {
     *value % 2 == 0
 }
 
-/// Calls of a list have a reply each.
+/// Runs a list of calls, and returns the number of replies. Each call has one.
 pub fn run_calls(alloc: Global, map: &mut Map, key: u64, value: u64) -> Result<usize, AllocError>
     ensures { IfOk result (λ n. n ≡ 3) }
 {
@@ -73,7 +73,7 @@ pub fn run_calls(alloc: Global, map: &mut Map, key: u64, value: u64) -> Result<u
     Ok(replies.len())
 }
 
-/// The value that a reply has, if it has one. An example alone.
+/// Returns the value that a reply has, if it has one. This is an example only.
 pub fn value_of(reply: &Reply<u64, u64>) -> Option<u64> {
     match reply {
         Reply::Value(Some(value)) => Some(**value),
@@ -88,7 +88,7 @@ fn is_small(element: &u64) -> bool {
     *element < 100
 }
 
-/// Calls of a list have a reply each.
+/// Runs a list of calls, and returns the number of replies. Each call has one.
 pub fn run_set_calls(alloc: Global, set: &mut SeqSet<u64>, x: u64) -> Result<usize, AllocError>
     ensures { IfOk result (λ n. n ≡ 3) }
 {
@@ -100,7 +100,7 @@ pub fn run_set_calls(alloc: Global, set: &mut SeqSet<u64>, x: u64) -> Result<usi
     Ok(replies.len())
 }
 
-/// Whether a reply says yes, or has an element. An example alone.
+/// Returns `true` if a reply says yes, or has an element. This is an example only.
 pub fn says_yes(reply: &SetReply<u64>) -> bool {
     match reply {
         SetReply::Truth(truth) => *truth,

@@ -9,7 +9,7 @@ use flurry::hash::{
 };
 use std::alloc::Global;
 
-/// Gives each key its sum with a number.
+/// A hasher that gives each key the sum of the key and a number.
 #[derive(Clone, Copy, Debug, Default)]
 pub struct Shifted(pub u64);
 
@@ -23,35 +23,35 @@ impl KeyHasher<u64> for Shifted {
     }
 }
 
-/// A map over a hasher of one's own.
+/// Creates an empty map over a hasher that the caller defines.
 pub fn with_shift(alloc: Global, shift: u64) -> SeqMap<u64, u64, Shifted>
     ensures { result.pairs ≡ [] }
 {
     SeqMap::with_hasher(alloc, Shifted(shift))
 }
 
-/// A map in which all keys have the least hash.
+/// Creates a map in which all keys have the least hash.
 pub fn with_least_hash(alloc: Global) -> SeqMap<u64, u64, ZeroHashBuilder>
     ensures { result.pairs ≡ [] }
 {
     SeqMap::with_hasher(alloc, ZeroHashBuilder)
 }
 
-/// A map in which all keys have the greatest hash.
+/// Creates a map in which all keys have the greatest hash.
 pub fn with_greatest_hash(alloc: Global) -> SeqMap<u64, u64, MaxHashBuilder>
     ensures { result.pairs ≡ [] }
 {
     SeqMap::with_hasher(alloc, MaxHashBuilder)
 }
 
-/// The hash of a number that is its own hash.
+/// Returns the hash of a number that is its own hash.
 pub fn own_hash(key: u64) -> u64
     ensures { result ≡ key }
 {
     LowHashBuilder.hash_one(&key)
 }
 
-/// A map whose hashes hang on a seed.
+/// Creates a map whose hashes depend on `seed`.
 pub fn with_seed(alloc: Global, seed: u64) -> SeqMap<u64, u64>
     ensures { seed_of result.hasher ≡ seed }
 {

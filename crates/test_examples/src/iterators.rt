@@ -6,7 +6,7 @@ use flurry::seq_iter::{Iter, Keys, Values};
 
 type Map = SeqMap<u64, u64>;
 
-/// So many pairs are left, once one was given.
+/// Returns the number of pairs that are left after an iterator has given one.
 pub fn after_one(map: &Map) -> usize
     ensures { result ≡ length map.now.pairs - 1 }
 {
@@ -15,7 +15,7 @@ pub fn after_one(map: &Map) -> usize
     pairs.len()
 }
 
-/// The number of the keys.
+/// Returns the number of keys.
 pub fn count_keys(map: &Map) -> usize
     ensures { result ≡ length map.now.pairs }
 {
@@ -23,7 +23,7 @@ pub fn count_keys(map: &Map) -> usize
     keys.len()
 }
 
-/// The sum of the values, up to the greatest number. An example alone.
+/// Returns the sum of the values, up to the greatest number. This is an example only.
 pub fn sum_values(map: &Map) -> u64 {
     let mut sum = 0u64;
     let values: Values<'_, u64, u64> = map.values();

@@ -1,5 +1,5 @@
-//! The examples in the doc comments of the library are bodies of functions that stand here, or impls, with no proof file; some are
-//! callers of the crate `test_callers`, and those of what `flurry` does not hand on stand in the crates of tests.
+//! The examples in the doc comments of the library are bodies of functions of this crate, or impls in it, without a proof file. Some are
+//! functions of the crate `test_callers`. The examples of what `flurry` does not re-export are in the crates of tests.
 #![tactic(auto)]
 
 pub mod bins;

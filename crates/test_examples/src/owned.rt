@@ -1,4 +1,4 @@
-//! Callers of the owned map: what stays, exact lengths, and what was removed at keys of other types.
+//! Callers of the owned map: pairs that stay, exact lengths, and removals at keys of other types.
 ghost use Rattle.std.specs.Prelude.{◌≡◌, ◌≢◌, ◌+◌, ◌≤◌, ℕ, length, None, OnOk, is_some, if◌then◌else◌, String, string_bytes, false};
 ghost use Rattle.std.specs.Global.{Global};
 ghost use Rattle.std.specs.Ordering.{is_eq, nat_cmp};
@@ -13,7 +13,7 @@ use std::hash::Hash;
 
 type Map = SeqMap<u64, u64>;
 
-/// Other keys stay after a removal.
+/// Removes a key. Other keys keep their values.
 #[tactic(auto, using(flurry::proofs::CallerLaws::map_calls))]
 pub fn drop_others(map: &mut Map, key: u64)
     ensures { (q : ℕ) → q ≢ key → value_at nat_cmp map.new.pairs q ≡ value_at nat_cmp map.old.pairs q }
@@ -21,7 +21,7 @@ pub fn drop_others(map: &mut Map, key: u64)
     let _ = map.remove(&key);
 }
 
-/// The exact number after an insertion.
+/// Inserts a pair. The contract says exactly how many pairs the map then has.
 #[tactic(auto, using(flurry::proofs::CallerLaws::map_calls))]
 pub fn put_exact_len(map: &mut Map, key: u64, value: u64) -> Result<(), AllocError>
     ensures { let n = length map.old.pairs in let is_there = is_some (value_at nat_cmp map.old.pairs key) in
@@ -31,7 +31,7 @@ pub fn put_exact_len(map: &mut Map, key: u64, value: u64) -> Result<(), AllocErr
     Ok(())
 }
 
-/// The exact number after a removal.
+/// Removes a key, and returns `true` if it was present. The contract says exactly how many pairs the map then has.
 #[tactic(auto, using(flurry::proofs::CallerLaws::map_calls))]
 pub fn drop_exact_len(map: &mut Map, key: u64) -> bool
     ensures { let n = length map.new.pairs in length map.old.pairs ≡ (if result then n + 1 else n) }
@@ -39,7 +39,7 @@ pub fn drop_exact_len(map: &mut Map, key: u64) -> bool
     map.remove(&key).is_some()
 }
 
-/// At any key type, what was removed is gone.
+/// Removes a key of any type, which is then absent.
 #[tactic(auto, using(flurry::proofs::CallerLaws::any_calls))]
 pub fn drop_any<K: Hash + Ord + Drop, V: Drop>(map: &mut SeqMap<K, V>, key: &K)
     ensures gone { value_at K.cmp map.new.pairs key.now ≡ None }
@@ -50,7 +50,7 @@ pub fn drop_any<K: Hash + Ord + Drop, V: Drop>(map: &mut SeqMap<K, V>, key: &K)
     let _ = map.remove(key);
 }
 
-/// At text keys, what was removed is gone.
+/// Removes a key that is a text, which is then absent.
 #[tactic(auto, using(flurry::proofs::CallerLaws::text_calls))]
 pub fn drop_text(map: &mut SeqMap<String, u64>, key: &String)
     ensures gone { value_at string_cmp map.new.pairs key.now ≡ None }
@@ -60,7 +60,7 @@ pub fn drop_text(map: &mut SeqMap<String, u64>, key: &String)
     let _ = map.remove(key);
 }
 
-/// The number of pairs has a bound, and the number of bins is one that a table can have.
+/// Returns the number of pairs, which has a bound, and the number of bins, which is one that a table can have.
 pub fn pairs_and_bins(map: &Map) -> (usize, usize)
     ensures pairs { result.0 ≤ MOST_PAIRS }
     ensures bins { IsTableSize result.1 }

@@ -12,7 +12,7 @@ use std::alloc::AllocError;
 
 type Map = SeqMap<u64, u64>;
 
-/// The list has exactly the pairs of the map.
+/// Returns the list of a map's pairs, which has exactly these pairs.
 pub fn save(map: &Map) -> Result<SortedPairs<u64, u64>, AllocError>
     ensures pairs { IfOk result (λ s. s.0.items ≡ map.now.pairs) }
     ensures ascend { IfOk result (λ s. IsFiniteMap nat_cmp s.0.items) }
@@ -20,7 +20,7 @@ pub fn save(map: &Map) -> Result<SortedPairs<u64, u64>, AllocError>
     seq_map::to_sorted_pairs(map)
 }
 
-/// A map of a list in which no key stands twice has its pairs.
+/// Creates a map from a list in which no key occurs twice. The map has the list's pairs.
 pub fn load(list: SortedPairs<u64, u64>) -> Result<Map, FromPairsError>
     ensures pairs { IfOk result (λ m. IsPermutation list.0.items m.pairs) }
     ensures apart { IfOk result (λ m. AreApart nat_cmp list.0.items) }
@@ -28,21 +28,21 @@ pub fn load(list: SortedPairs<u64, u64>) -> Result<Map, FromPairsError>
     seq_map::from_pairs(list, DefaultHashBuilder::default())
 }
 
-/// The list has exactly the elements of the set.
+/// Returns the list of a set's elements, which has exactly these elements.
 pub fn save_set(set: &SeqSet<u64>) -> Result<SortedItems<u64>, AllocError>
     ensures { IfOk result (λ s. s.0.items ≡ set.now.elements) }
 {
     seq_set::to_sorted_items(set)
 }
 
-/// There and back: the pairs are the same.
+/// Copies a map by a list of its pairs. The copy has the same pairs.
 pub fn copy(map: &Map) -> Result<Map, FromPairsError>
     ensures { IfOk result (λ m. IsPermutation map.now.pairs m.pairs) }
 {
     load(save(map)?)
 }
 
-/// The first position whose key stood before, where that is why no map is made of a list.
+/// Returns the first position whose key occurs at an earlier position, if this is why no map can be made from the list.
 pub fn first_doubled(list: SortedPairs<u64, u64>) -> Option<usize>
     ensures { IfSome result (λ position. IsFirstDouble nat_cmp list.0.items position) }
 {

@@ -12,7 +12,7 @@ use std::thread::Threads;
 
 type Map = SeqMap<u64, u64>;
 
-/// The map that is built in parallel is the one of the list, put in its order.
+/// Builds a map in parallel. It is the map of the list's pairs, inserted in their order.
 pub fn build(
     rt: &(impl Threads + Sync),
     alloc: Global,
@@ -23,7 +23,7 @@ pub fn build(
     par::seq_map::from_par_list(rt, alloc, list, DefaultHashBuilder::default(), 1024)
 }
 
-/// Two lists, one after the other.
+/// Builds a map from two lists, one after the other.
 pub fn build_two(
     rt: &(impl Threads + Sync),
     alloc: Global,
@@ -37,14 +37,14 @@ pub fn build_two(
     Ok(map)
 }
 
-/// One map put into another.
+/// Inserts the pairs of one map into another.
 pub fn merge(left: &mut Map, right: Map) -> Result<(), AllocError>
     ensures { OnOk result (left.new.pairs ≡ with_all nat_cmp left.old.pairs right.pairs) }
 {
     par::seq_map::join(left, right)
 }
 
-/// A set of a list.
+/// Builds a set from a list.
 pub fn build_set(
     rt: &(impl Threads + Sync),
     alloc: Global,
@@ -55,7 +55,7 @@ pub fn build_set(
     par::seq_set::from_par_list(rt, alloc, list, DefaultHashBuilder::default(), 1024)
 }
 
-/// A shared map, extended by several threads. What stands in it then, no contract tells.
+/// Extends a shared map by several threads. No contract specifies what the map then has.
 pub fn fill<R: Threads + Wait + Sync>(
     rt: &R,
     map: &HashMap<u64, u64>,

@@ -13,7 +13,7 @@ use std::sync::Wait;
 
 type Map = Recorded<u64, u64, LowHashBuilder>;
 
-/// One call, one receipt.
+/// Makes one call, which adds one receipt to the share.
 pub fn record<R: Wait>(
     rt: &R,
     map: &Map,
@@ -28,7 +28,7 @@ pub fn record<R: Wait>(
     Ok(())
 }
 
-/// A share keeps its number.
+/// Looks up a key. The share keeps its number.
 pub fn look<R: Wait>(
     rt: &R,
     map: &Map,
@@ -40,14 +40,14 @@ pub fn look<R: Wait>(
     map.get(rt, share, key)
 }
 
-/// A new share has no receipt.
+/// Returns a new share, which has no receipt.
 pub fn join_in<R: Wait>(rt: &R, map: &Map) -> Result<Share<u64, u64>, AllocError>
     ensures { IfOk result (λ s. s.receipts ≡ []) }
 {
     map.share(rt)
 }
 
-/// What is closed replays to its map, and has as many calls as the shares have receipts.
+/// Closes a map. The history replays to the map, and has as many calls as the shares have receipts.
 pub fn audit(
     map: Map,
     shares: Vec<Share<u64, u64>>,
@@ -59,7 +59,7 @@ pub fn audit(
     map.close(shares)
 }
 
-/// One caller's whole use.
+/// Makes all calls of one caller, and returns `true` if the map could be closed.
 pub fn session<R: Wait>(rt: &R, alloc: Global) -> Result<bool, AllocError> {
     let map: Map = Recorded::with_hasher(alloc, LowHashBuilder);
     let mut share = map.share(rt)?;
@@ -70,7 +70,7 @@ pub fn session<R: Wait>(rt: &R, alloc: Global) -> Result<bool, AllocError> {
     Ok(map.close(shares).is_ok())
 }
 
-/// The place of a caller's last call in the history, if it has made one.
+/// Returns the place of a caller's last call in the history, or `None` if the caller has made none.
 pub fn last_place(share: &Share<u64, u64>) -> Option<usize>
     ensures { share.now.receipts ≡ [] → result ≡ None }
 {
@@ -78,14 +78,14 @@ pub fn last_place(share: &Share<u64, u64>) -> Option<usize>
     Some(last.place)
 }
 
-/// The number of calls in a history, and of pairs in the map that they left.
+/// Returns the number of calls in a history, and the number of pairs in the map that they left.
 pub fn sizes(closed: &Closed<u64, u64, LowHashBuilder>) -> (usize, usize)
     ensures { result ≡ (length closed.now.history.items, length closed.now.map.pairs) }
 {
     (closed.history.len(), closed.map.len())
 }
 
-/// Whether a fault says that the shares are damaged.
+/// Returns `true` if a fault says that the shares are damaged.
 pub fn is_damage(fault: CloseFault) -> bool
     ensures { result ≡ true → fault ≢ CloseFault.NoMemory }
 {
@@ -95,7 +95,7 @@ pub fn is_damage(fault: CloseFault) -> bool
     }
 }
 
-/// Whether an entry of a history is an insertion of a new key.
+/// Returns `true` if an entry of a history is an insertion of a new key.
 pub fn is_new_key(entry: &KeptEntry<u64, u64>) -> bool
     ensures { (k : ℕ) → entry.now.call ≡ KeptCall.Get k → result ≡ false }
 {
@@ -105,7 +105,7 @@ pub fn is_new_key(entry: &KeptEntry<u64, u64>) -> bool
     }
 }
 
-/// The place of the first call of a book.
+/// Returns the place of the first call of a book.
 pub fn first_in_book(alloc: Global, key: u64, value: u64) -> Result<usize, AllocError>
     ensures { IfOk result (λ place. place ≡ 0) }
 {

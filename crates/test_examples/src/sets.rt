@@ -1,4 +1,4 @@
-//! Callers of the owned set: what stays, numbers of elements, and elements of other types.
+//! Callers of the owned set: elements that stay, numbers of elements, and elements of other types.
 ghost use Rattle.std.specs.Prelude.{◌≡◌, ◌≢◌, ◌+◌, ◌≤◌, ℕ, length, None, IfOk, OnOk, IsSome, if◌then◌else◌, String, string_bytes};
 ghost use Rattle.std.specs.Arc.{arc_value};
 ghost use Rattle.std.specs.Global.{Global};
@@ -11,7 +11,7 @@ use std::alloc::AllocError;
 use std::hash::Hash;
 use std::sync::Arc;
 
-/// Other elements stay after a removal.
+/// Removes an element. Other elements stay.
 #[tactic(auto, using(flurry::proofs::CallerLaws::set_calls))]
 pub fn drop_other_element(set: &mut SeqSet<u64>, x: u64)
     ensures { (q : ℕ) → q ≢ x → element_at nat_cmp set.new.elements q ≡ element_at nat_cmp set.old.elements q }
@@ -19,7 +19,7 @@ pub fn drop_other_element(set: &mut SeqSet<u64>, x: u64)
     let _ = set.remove(&x);
 }
 
-/// The number after an insertion.
+/// Inserts an element, and returns `true` if it is new. The contract says how many elements the set then has.
 #[tactic(auto, using(flurry::proofs::CallerLaws::set_calls))]
 pub fn put_element_len(set: &mut SeqSet<u64>, x: u64) -> Result<bool, AllocError>
     ensures { let n = length set.old.elements in
@@ -28,7 +28,7 @@ pub fn put_element_len(set: &mut SeqSet<u64>, x: u64) -> Result<bool, AllocError
     set.insert(x)
 }
 
-/// At any type, what was removed is gone.
+/// Removes an element of any type, which is then absent.
 #[tactic(auto, using(flurry::proofs::CallerLaws::any_elements))]
 pub fn drop_any_element<T: Hash + Ord + Drop>(set: &mut SeqSet<T>, x: &T)
     ensures gone { element_at T.cmp set.new.elements x.now ≡ None }
@@ -37,7 +37,7 @@ pub fn drop_any_element<T: Hash + Ord + Drop>(set: &mut SeqSet<T>, x: &T)
     let _ = set.remove(x);
 }
 
-/// A text is kept once: what is answered has the text, and the strings that are kept stay.
+/// Keeps a text once. The returned string has the text, and the strings that are kept stay.
 #[tactic(auto, using(flurry::proofs::CallerLaws::text_elements))]
 pub fn keep_text(set: &mut SeqSet<String>, text: String) -> Result<Arc<String>, AllocError>
     ensures text { IfOk result (λ kept. string_bytes (arc_value kept) ≡ string_bytes text) }

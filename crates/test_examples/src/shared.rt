@@ -17,13 +17,13 @@ use std::sync::{Arc, Wait};
 
 type Shared = HashMap<u64, u64>;
 
-/// A call by the view. Its reply hangs on other threads.
+/// Removes a key by the view. The result depends on other threads.
 pub fn take<R: Wait>(rt: &R, map: &Shared, key: u64) -> bool {
     let view = map.pin(rt);
     view.remove(&key).is_some() && !view.contains_key(&key)
 }
 
-/// What a look-up answers is an answer to which steps of it lead.
+/// Looks up a key. The result is one to which steps of the look-up lead.
 pub fn look_up<S: KeyHasher<u64>, R: Wait>(
     rt: &R,
     map: &HashMap<u64, u64, S>,
@@ -35,7 +35,7 @@ pub fn look_up<S: KeyHasher<u64>, R: Wait>(
     map.get(rt, &key)
 }
 
-/// A value, and 0 where there is none. Which value a shared map finds, no contract tells.
+/// Returns the value of a key, or 0 if there is none. No contract specifies which value a shared map finds.
 pub fn value_or_zero<R: Wait>(rt: &R, map: &Shared, key: u64) -> Result<u64, AllocError> {
     match map.get(rt, &key)? {
         Some(value) => Ok(*value),
@@ -43,21 +43,21 @@ pub fn value_or_zero<R: Wait>(rt: &R, map: &Shared, key: u64) -> Result<u64, All
     }
 }
 
-/// A map for so many processors.
+/// Creates a map whose growths are divided among `processors` threads.
 pub fn for_processors(alloc: Global, processors: usize) -> Shared
     ensures { result.processors ≡ processors }
 {
     HashMap::new(alloc).with_processors(processors)
 }
 
-/// Refused, the owned map comes back as it was.
+/// Shares an owned map. If memory cannot be allocated, the owned map is returned unchanged.
 pub fn share<R: Wait>(rt: &R, map: SeqMap<u64, u64>) -> Result<Shared, SeqMap<u64, u64>>
     ensures { IfErr result (λ m. m ≡ map) }
 {
     HashMap::from_seq(rt, map)
 }
 
-/// An iterator that has ended answers none.
+/// Returns `false`: an iterator that has ended returns `None`.
 pub fn after_end<R: Wait>(pairs: &mut Iter<'_, R, u64, u64>) -> Result<bool, AllocError>
     requires { pairs.old.has_ended ≡ true }
     ensures { result ≡ Ok false }
@@ -65,7 +65,7 @@ pub fn after_end<R: Wait>(pairs: &mut Iter<'_, R, u64, u64>) -> Result<bool, All
     Ok(pairs.next()?.is_some())
 }
 
-/// The pairs of a walk, in ascending order of the keys.
+/// Returns the pairs of a walk, in ascending order of the keys.
 pub fn list<R: Wait>(
     rt: &R,
     alloc: Global,
@@ -76,12 +76,12 @@ pub fn list<R: Wait>(
     pairs::map::to_sorted_pairs(rt, alloc, map)
 }
 
-/// Keeps the even keys. Which these are, no contract tells.
+/// Keeps the even keys. No contract specifies which keys these are.
 pub fn keep_even<R: Wait>(rt: &R, map: &Shared) -> Result<(), AllocError> {
     map.retain(rt, |key: &u64, _value: &u64| -> bool { *key % 2 == 0 })
 }
 
-/// The sum of the values that a walk gives: `next` returns a `Result`, so the loop is none over an iterator.
+/// Returns the sum of the values that a walk gives. `next` returns a `Result`, so the loop is not one over an iterator.
 pub fn sum<R: Wait>(rt: &R, map: &Shared) -> Result<u64, AllocError> {
     let mut sum: u64 = 0;
     let mut values = map.values(rt);
@@ -94,7 +94,7 @@ pub fn sum<R: Wait>(rt: &R, map: &Shared) -> Result<u64, AllocError> {
     Ok(sum)
 }
 
-/// Takes a token of a key, and returns whether there was one: the function tells that by a captured `&mut`.
+/// Takes a token of a key, and returns `true` if there was one. The function reports this through a captured `&mut`.
 pub fn take_token<R: Wait>(rt: &R, map: &Shared, key: u64) -> Result<bool, AllocError> {
     let mut was_taken = false;
     let taken = &mut was_taken;
@@ -105,12 +105,12 @@ pub fn take_token<R: Wait>(rt: &R, map: &Shared, key: u64) -> Result<bool, Alloc
     Ok(was_taken)
 }
 
-/// Whether an element is new to the set, which hangs on other threads.
+/// Returns `true` if an element is new to the set, which depends on other threads.
 pub fn visit<R: Wait>(rt: &R, seen: &HashSet<u64>, x: u64) -> Result<bool, AllocError> {
     seen.insert(rt, x)
 }
 
-/// A further view of a set is for as many processors.
+/// Returns the number of processors of another view of a set, which is that of the set.
 pub fn processors_of_view<R: Wait>(rt: &R, set: &HashSet<u64>) -> usize
     ensures { result ≡ set.now.processors }
 {

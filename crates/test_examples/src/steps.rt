@@ -20,7 +20,7 @@ impl Room for Counted {
     }
 }
 
-/// A control whose first table is made has published it.
+/// Makes the first table of a control, and returns the table that the control has then published.
 pub fn open_first() -> Result<Option<u8>, AllocError>
     ensures { IfOk result (λ e. e ≡ Some 4) }
 {
@@ -29,13 +29,13 @@ pub fn open_first() -> Result<Option<u8>, AllocError>
     Ok(control.locate())
 }
 
-/// The first bin that a helper of a growth moves.
+/// Returns the first bin that a helper of a growth moves.
 pub fn first_of_claim(control: &mut Control) -> Option<(u8, usize)> {
     let claim: Claim = control.claim(1)?;
     claim.next()
 }
 
-/// What the first step of a call needs.
+/// Returns what the first step of a call needs.
 pub fn first_want<F: ComputeFn<u64, u64>>(key: u64) -> Want
     ensures { result ≡ Want.Control }
 {
@@ -45,7 +45,7 @@ pub fn first_want<F: ComputeFn<u64, u64>>(key: u64) -> Want
     want
 }
 
-/// A walk of a map without a table ends at its first step.
+/// Returns `true`: a walk of a map without a table ends at its first step.
 pub fn walk_of_nothing() -> bool
     ensures { result ≡ true }
 {
@@ -56,7 +56,7 @@ pub fn walk_of_nothing() -> bool
     has_ended
 }
 
-/// The second bin of two, to which a cursor goes on from the first.
+/// Returns the second bin of two, to which a cursor goes on from the first.
 pub fn second_of_two() -> (u8, usize)
     ensures { result ≡ (1, 1) }
 {
@@ -67,7 +67,7 @@ pub fn second_of_two() -> (u8, usize)
     at
 }
 
-/// The table that a control has published.
+/// Returns the table that a control has published, if any.
 pub fn published_by(control: &Control) -> Option<u8>
     ensures { result ≡ control.now.published }
 {
@@ -75,7 +75,7 @@ pub fn published_by(control: &Control) -> Option<u8>
     Some(start.table())
 }
 
-/// Counts a pair, and answers whether a growth wants the caller's help.
+/// Counts a pair, and returns `true` if a growth needs the caller's help.
 pub fn count_one(control: &mut Control) -> bool
     ensures { control.new.published ≡ control.old.published }
 {
@@ -85,7 +85,7 @@ pub fn count_one(control: &mut Control) -> bool
     }
 }
 
-/// A pair that is counted at a tally is counted once a control has collected it.
+/// Returns the number of pairs of a control, after a pair was counted at a tally and the control has collected it.
 pub fn count_at_tally(control: &mut Control) -> usize
     ensures { control.new.published ≡ control.old.published }
 {
@@ -95,7 +95,7 @@ pub fn count_at_tally(control: &mut Control) -> usize
     control.len()
 }
 
-/// Whether a growth from a table has begun.
+/// Returns `true` if a growth from `table` has begun.
 pub fn begin_growth(control: &mut Control, table: u8) -> bool
     ensures { control.new.published ≡ control.old.published }
 {
@@ -105,7 +105,7 @@ pub fn begin_growth(control: &mut Control, table: u8) -> bool
     }
 }
 
-/// The first step of a call that borrows its key needs the same.
+/// Returns what the first step of a call that borrows its key needs.
 pub fn first_want_of_borrowed<F: ComputeFn<u64, u64>>(key: &u64) -> Want
     ensures { result ≡ Want.Control }
 {
@@ -115,7 +115,7 @@ pub fn first_want_of_borrowed<F: ComputeFn<u64, u64>>(key: &u64) -> Want
     want
 }
 
-/// The slot that a call wants.
+/// Returns the slot that a call needs.
 pub fn slot_wanted(want: Want) -> Option<(u8, usize)>
     ensures { (table index : ℕ) → want ≡ Want.Move table index → result ≡ Some (table, index) }
 {
@@ -127,7 +127,7 @@ pub fn slot_wanted(want: Want) -> Option<(u8, usize)>
     }
 }
 
-/// The table that a step published.
+/// Returns the table that a step published.
 pub fn table_published(event: Event) -> Option<u8>
     ensures { (table : ℕ) → event ≡ Event.Published table → result ≡ Some table }
 {
@@ -137,7 +137,7 @@ pub fn table_published(event: Event) -> Option<u8>
     }
 }
 
-/// By how much a call whose reply is known will change the count of pairs.
+/// Returns by how much a call whose reply is known will still change the count of pairs.
 pub fn owed_count(rest: Rest) -> i64
     ensures { rest ≡ Rest.Count → result ≡ pos 1 }
 {
@@ -148,7 +148,7 @@ pub fn owed_count(rest: Rest) -> i64
     }
 }
 
-/// The call that goes on, where its reply is known and it is not done.
+/// Returns the call that continues, if its reply is known and it is not done.
 pub fn rest_of_call<'k, F: ComputeFn<u64, u64>>(
     ending: Ending<u64, u64>,
     hash: u64,

@@ -1,4 +1,4 @@
-//! Callers of walks of a map that threads share. What a walk gives hangs on other threads.
+//! Callers of walks of a map that threads share. What a walk gives depends on other threads.
 ghost use Rattle.std.specs.Prelude.{◌≡◌, true, false, Ok, None};
 
 use flurry::HashMapRef;
@@ -6,7 +6,7 @@ use flurry::iter::{Iter, Keys, Values};
 use std::alloc::AllocError;
 use std::sync::Wait;
 
-/// Takes out the next pair of a walk, if it still stands then.
+/// Removes the next pair of a walk if it is still as it was read, and returns `true` if it was removed.
 pub fn take_next<R: Wait>(
     view: &HashMapRef<'_, R, u64, u64>,
     pairs: &mut Iter<'_, R, u64, u64>,
@@ -19,7 +19,7 @@ pub fn take_next<R: Wait>(
     }
 }
 
-/// The next key of a walk; none once it has ended.
+/// Returns the next key of a walk, or `None` once it has ended.
 pub fn next_key<R: Wait>(keys: &mut Keys<'_, R, u64, u64>) -> Result<Option<u64>, AllocError>
     ensures { keys.old.has_ended ≡ true → result ≡ Ok None }
 {
@@ -27,7 +27,7 @@ pub fn next_key<R: Wait>(keys: &mut Keys<'_, R, u64, u64>) -> Result<Option<u64>
     Ok(key.map(|key| *key))
 }
 
-/// The next value of a walk; none once it has ended.
+/// Returns the next value of a walk, or `None` once it has ended.
 pub fn next_value<R: Wait>(values: &mut Values<'_, R, u64, u64>) -> Result<Option<u64>, AllocError>
     ensures { values.old.has_ended ≡ true → result ≡ Ok None }
 {

@@ -13,7 +13,7 @@ use flurry::world::{
 use std::alloc::{AllocError, Global};
 use std::sync::Wait;
 
-/// One insertion, and how many labels its steps have.
+/// Does the steps of one insertion, and returns how many labels there are.
 pub fn insert_alone<F: ComputeFn<u64, u64> + Copy>(
     alloc: Global,
     key: u64,
@@ -32,7 +32,7 @@ pub fn insert_alone<F: ComputeFn<u64, u64> + Copy>(
     Ok(world.trace().len())
 }
 
-/// A list of steps, whose labels are lawful.
+/// Runs a list of steps, whose labels are lawful.
 pub fn run_steps<F: ComputeFn<u64, u64> + Copy, S: KeyHasher<u64> + Drop>(
     alloc: Global,
     world: &mut World<'_, u64, u64, F, S>,
@@ -45,14 +45,14 @@ pub fn run_steps<F: ComputeFn<u64, u64> + Copy, S: KeyHasher<u64> + Drop>(
     world.run(steps)
 }
 
-/// Whether a table that is made has a slot of an index.
+/// Returns `true` if a table that is made has a slot with the index `index`.
 pub fn has_slot(alloc: Global, index: usize) -> Result<bool, AllocError> {
     let mut tables: Tables<u64, u64, Global> = Tables::new(alloc)?;
     tables.place(4, true)?;
     Ok(tables.has(4, index))
 }
 
-/// A call over parts of one owner, and whether it was done.
+/// Runs a call over parts of one owner, and returns `true` if it was done.
 pub fn insert_driven<R: Wait>(rt: &R, parts: &mut Parts<u64, u64>, key: u64, value: u64) -> bool {
     let call: OwnedCall<u64, u64, NoFn> = OwnedCall::Insert(key, value);
     match drive_alone(rt, call, &LowHashBuilder, 1, parts) {
@@ -61,7 +61,8 @@ pub fn insert_driven<R: Wait>(rt: &R, parts: &mut Parts<u64, u64>, key: u64, val
     }
 }
 
-/// The next step of a call, over whatever lends it the parts of its map. It promises safety alone: what a step does hangs on the field.
+/// Does the next step of a call, over any field that gives it the parts of its map. The contract promises safety alone, because what a step
+/// does depends on the field.
 pub fn next_step<F: ComputeFn<u64, u64>, X: Field<u64, u64, Global>>(
     party: &mut Party<'_, u64, u64, F>,
     field: &mut X,
@@ -69,7 +70,7 @@ pub fn next_step<F: ComputeFn<u64, u64>, X: Field<u64, u64, Global>>(
     act(party, field)
 }
 
-/// The party that decided at a label of a trace.
+/// Returns the party that decided at a label of a trace.
 pub fn who_decided(label: Label<u64, u64, NoFn>) -> Option<usize>
     ensures { (p : ℕ) (r : _) → label ≡ Label.Decide p r → result ≡ Some p }
 {
@@ -79,7 +80,7 @@ pub fn who_decided(label: Label<u64, u64, NoFn>) -> Option<usize>
     }
 }
 
-/// The value that a call writes, or that it removes.
+/// Returns the value that a call writes, or that it removes.
 pub fn value_in_call(call: Call<u64, u64, NoFn>) -> Option<u64>
     ensures { (s : Seen ℕ ℕ) → call ≡ Call.RemoveSeen s → result ≡ Some s.value }
 {

@@ -1,4 +1,4 @@
-//! The locks of a shared map, as tests: moved into a thread, and lent to threads that run calls beside one another.
+//! Tests of the locks of a shared map, which are moved into a thread, or borrowed by threads that run calls at the same time.
 #![tactic(auto)]
 
 #[cfg(test)]

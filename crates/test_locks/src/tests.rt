@@ -1,4 +1,4 @@
-//! Locks in threads, at numbers as keys and values.
+//! Locks in threads, with numbers as keys and values.
 
 mod calls;
 mod threads;
@@ -9,13 +9,13 @@ use std::alloc::Global;
 use std::test::Fail;
 use threads::{count_in_thread, put_in_threads};
 
-// The exponent of the table that was published last, as far as that is known.
+// Returns the exponent of the table that was published last, as far as it is known.
 fn newest_of<R>(rt: &R, locks: &Locks<u64, u64, Global>) -> Option<u8> {
     let lender = Lender::new(rt, locks);
     lender.newest().map(|start| start.table())
 }
 
-// Counts that wait at tallies are in the length, and the table grows by them.
+// The length includes the pairs that are still counted at tallies, and the table grows by them.
 #[test]
 fn four_threads_put_pairs_in(rt: HostRuntime) -> Result<(), Fail> {
     let locks: Locks<u64, u64, Global> = Locks::new(rt.alloc());
@@ -32,7 +32,7 @@ fn four_threads_put_pairs_in(rt: HostRuntime) -> Result<(), Fail> {
     Ok(())
 }
 
-// Whoever asks for the length collects what waits at tallies. The table grows all the same.
+// A call for the length collects what is counted at tallies. The table grows all the same.
 #[test]
 fn a_table_grows_between_lengths(rt: HostRuntime) -> Result<(), Fail> {
     let locks: Locks<u64, u64, Global> = Locks::new(rt.alloc());

@@ -1,4 +1,4 @@
-//! The shared map, as tests: each call in one thread, and calls of several threads beside one another.
+//! Tests of the shared map: each call in one thread, and calls of several threads at the same time.
 #![tactic(auto)]
 
 #[cfg(test)]

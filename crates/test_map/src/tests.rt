@@ -16,21 +16,21 @@ use std::fmt::Debug;
 use std::process::Abort;
 use std::sync::{Arc, Wait};
 
-// The turns that one thread waits for another.
+// The greatest number of turns that one thread waits for another.
 const TURNS: u32 = 1_000_000;
 
-// Sees that a value is the one that is wanted. A test of many assertions calls this, since each `assert_eq!` that stands in it makes
-// its proof longer.
+// Asserts that a value is the expected one. A test with many assertions calls this, because each `assert_eq!` in its own body makes its
+// proof longer.
 fn same<T: PartialEq + Debug + Drop>(rt: &impl Abort, seen: T, wanted: T) {
     assert_eq!(rt; seen, wanted);
 }
 
-// The number in a value that a call handed out.
+// Returns the number in a value that a call returned.
 fn taken(value: Option<Arc<u64>>) -> Option<u64> {
     value.map(|value| *value)
 }
 
-// The number that stands at a key.
+// Returns the number at a key, or `None` if the key is absent.
 fn number_at<K: Ord + Drop, S: KeyHasher<K>, R: Wait>(
     rt: &R,
     map: &HashMap<K, u64, S>,

@@ -1,4 +1,4 @@
-//! What the tests share.
+//! The tests, and what they share.
 
 mod maps;
 mod memory;
@@ -10,13 +10,13 @@ use flurry_seq::SeqMap;
 use std::fmt::Debug;
 use std::process::Abort;
 
-// Sees that a value is the one that is wanted. A test of many assertions calls this, since each `assert_eq!` that stands in it makes
-// its proof longer.
+// Asserts that a value is the expected one. A test with many assertions calls this, because each `assert_eq!` in its own body makes its
+// proof longer.
 fn same<T: PartialEq + Debug + Drop>(rt: &impl Abort, seen: T, wanted: T) {
     assert_eq!(rt; seen, wanted);
 }
 
-// A map of pairs, of which a later one of the same key stands.
+// Returns the map of `pairs`. Of a key that comes twice, it has the later value.
 fn map_of<const N: usize>(
     rt: &(impl Abort + AllocGlobal),
     pairs: [(u64, u64); N],
@@ -25,7 +25,7 @@ fn map_of<const N: usize>(
     SeqMap::from_list(rt.alloc(), list, LowHashBuilder).expect(rt, "memory for the map")
 }
 
-// The map that is written and read back.
+// Returns the map that is written and read back.
 fn five(rt: &(impl Abort + AllocGlobal)) -> SeqMap<u64, u64, LowHashBuilder> {
     map_of(rt, [(0, 4), (1, 3), (2, 2), (3, 1), (4, 0)])
 }

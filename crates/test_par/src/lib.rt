@@ -1,4 +1,4 @@
-//! Tests of maps and sets that are built in parallel, and of their requests for memory, refused in turn.
+//! Tests of maps and sets that are built in parallel, and of their requests for memory, which fail in turn.
 #![tactic(auto)]
 
 #[cfg(test)]

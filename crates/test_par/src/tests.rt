@@ -1,4 +1,4 @@
-//! What is built in parallel, and joined.
+//! Maps and sets that are built in parallel, and joined.
 
 mod refused;
 
@@ -13,8 +13,8 @@ use std::sync::Arc;
 use std::test::Fail;
 use std::thread::Threads;
 
-// Sees that a value is the one that is wanted. A test of many assertions calls this, since each `assert_eq!` that stands in it makes
-// its proof longer.
+// Asserts that a value is the expected one. A test with many assertions calls this, because each `assert_eq!` in its own body makes its
+// proof longer.
 fn same<T: PartialEq + Debug + Drop>(rt: &impl Abort, seen: T, wanted: T) {
     assert_eq!(rt; seen, wanted);
 }
@@ -26,7 +26,7 @@ fn lent<A: Allocator>(value: Option<&Arc<u64, A>>) -> Option<u64> {
 // A map of numbers.
 type Numbers = SeqMap<u64, u64, LowHashBuilder>;
 
-// A hundred pairs: the keys from 100 on, each with ten times as much as it is past 100.
+// Returns a hundred pairs: the keys from 100 on, each with ten times its distance from 100.
 fn pairs(rt: &(impl Abort + AllocGlobal)) -> Vec<(u64, u64)> {
     let mut list = Vec::new(rt.alloc());
     for i in 0..100u64 {
@@ -35,13 +35,13 @@ fn pairs(rt: &(impl Abort + AllocGlobal)) -> Vec<(u64, u64)> {
     list
 }
 
-// The map of three pairs, of which two have one key, built of pieces of that length.
+// Returns the map of three pairs, two of which have one key, built from pieces of the length `part`.
 fn doubled(rt: &(impl Abort + AllocGlobal + Threads + Sync), part: usize) -> Result<Numbers, Fail> {
     let list = Vec::from_array(rt.alloc(), [(1, 10), (2, 20), (1, 30)])?;
     Ok(map::from_par_list(rt, rt.alloc(), list, LowHashBuilder, part)?)
 }
 
-// It has two pairs, and the last value of the key that came twice.
+// Asserts that the map has two pairs, and the last value of the key that came twice.
 fn has_the_last(rt: &impl Abort, map: &Numbers) {
     same(rt, map.len(), 2);
     same(
@@ -51,7 +51,7 @@ fn has_the_last(rt: &impl Abort, map: &Numbers) {
     );
 }
 
-// Of a key that comes twice the last value stands, whatever the length of a piece. A length of 0 is read as 1.
+// Of a key that comes twice, the last value is stored, for any length of a piece. A length of 0 counts as 1.
 #[test]
 fn row_10(rt: HostRuntime) -> Result<(), Fail> {
     let one = doubled(&rt, 1)?;
@@ -101,7 +101,7 @@ struct Tagged {
     tag: u64,
 }
 
-// Of a class that both maps have, the left one's key stays, and the right one's value stands.
+// For a class that both maps have, the key of the left map stays, and the value of the right map is stored.
 #[test]
 fn joined(rt: HostRuntime) -> Result<(), Fail> {
     let (first, second) = (Tagged { id: 1, tag: 10 }, Tagged { id: 1, tag: 20 });

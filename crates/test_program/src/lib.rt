@@ -1,4 +1,4 @@
-//! The program's lines, as tests: over bytes in memory, over streams that fail, and over readers that give pieces.
+//! Tests of the program's lines: over bytes in memory, over streams that fail, and over readers that give pieces.
 #![tactic(auto)]
 
 #[cfg(test)]

@@ -12,7 +12,7 @@ use std::process::Abort;
 use std::sync::Wait;
 use std::thread::Threads;
 
-/// A reader of these bytes that then fails.
+/// A reader that gives some bytes and then fails.
 #[derive(Drop)]
 struct FailsAfter<'a>(&'a [u8]);
 
@@ -46,8 +46,8 @@ impl Write for FailsFirst {
     }
 }
 
-// Sees that a value is the one that is wanted. A test of many assertions calls this, since each `assert_eq!` that stands in it
-// makes its proof longer.
+// Asserts that a value is the expected one. A test with many assertions calls this, because each `assert_eq!` in its own body makes its
+// proof longer.
 fn same<T: PartialEq + Debug + Drop>(rt: &impl Abort, seen: T, wanted: T) {
     assert_eq!(rt; seen, wanted);
 }
@@ -56,7 +56,7 @@ fn output(rt: &(impl Abort + AllocGlobal)) -> Output<Vec<u8>> {
     Output::new(rt.alloc(), Vec::new(rt.alloc())).expect(rt, "memory for the output")
 }
 
-// The lines of one map end in the status, and are answered by so much.
+// Asserts that the run of the lines on one map ends with `status` and has written `want`.
 fn answers(rt: &(impl Abort + AllocGlobal), lines: &[u8], status: u8, want: &[u8]) {
     let mut lines = lines;
     let mut output = output(rt);
@@ -131,7 +131,7 @@ fn last_line_without_its_end(rt: HostRuntime) {
     answers(&rt, lines, 0, want);
 }
 
-// Where the read after the line fails, the run of the word ends in 1, and wrote so much.
+// Asserts that, if the read after the line fails, the run of `word` ends with status 1 and has written `want`.
 fn fails_after(
     rt: &(impl Abort + AllocGlobal + Threads + Wait + Sync),
     word: &str,
@@ -167,7 +167,7 @@ fn failed_read(rt: HostRuntime) {
     }
 }
 
-// Where the first write fails, the run of the words ends in 1, and wrote nothing.
+// Asserts that, if the first write fails, the run of `words` ends with status 1 and has written nothing.
 fn fails_first(rt: &(impl Abort + AllocGlobal + Threads + Wait + Sync), words: &[&str]) {
     let mut lines = b"insert 7 0\nget 7\n".as_slice();
     let mut writer = FailsFirst {

@@ -1,4 +1,4 @@
-//! The program's lines where memory is wanting: each request of a run, refused in turn.
+//! Tests of the program's lines when memory cannot be allocated: each request of a run fails in turn.
 #![tactic(auto)]
 
 #[cfg(test)]

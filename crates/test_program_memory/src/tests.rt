@@ -1,4 +1,4 @@
-//! What a run writes and ends in where a request is refused, and that each block comes back.
+//! What a run writes and the status that it ends with if a request fails, and that every block is deallocated.
 
 use flurry_program::{Output, run_words};
 use metered_alloc::Metered;
@@ -11,13 +11,14 @@ use std::thread::Threads;
 
 type Memory = &'static Metered<Global>;
 
-// A status, and what was written.
+// The status of a run, and what it wrote.
 type End<'a> = (u8, &'a [u8]);
 
-// No run makes so many requests.
+// More requests than any run makes.
 const MOST_REQUESTS: u64 = 100;
 
-// Runs the words on the lines with the request numbered k refused: the status, what was written, and whether it made that request.
+// Runs the words on the lines while the request numbered `k` fails. Returns the status, what was written, and whether the run made that
+// request.
 fn run_without(
     rt: &(impl AllocGlobal + Threads + Wait + Sync),
     memory: Memory,
@@ -34,8 +35,7 @@ fn run_without(
     Ok((status, output, refused))
 }
 
-// Refuses each request of a run in turn. The run comes to each of these ends, in their order, and to the last where nothing is
-// refused.
+// Makes each request of a run fail in turn. The run has each of `ends` in their order, and the last one if no request fails.
 fn refuse_each(
     rt: &(impl Abort + AllocGlobal + Threads + Wait + Sync),
     words: &[&str],
@@ -82,7 +82,7 @@ fn tries_at_one_map(rt: HostRuntime) -> Result<(), Fail> {
     refuse_each(&rt, &["seq"], lines, &ends)
 }
 
-// Memory is wanting for the world or its first call, for the insertion, or for the fifth label.
+// Memory cannot be allocated for the world or its first call, for the insertion, or for the fifth label.
 #[test]
 fn insertion_into_a_world(rt: HostRuntime) -> Result<(), Fail> {
     let lines = b"world 1 8\nbegin insert 1 1\nstep 0 4\n".as_slice();
@@ -104,7 +104,8 @@ fn insertion_into_a_world(rt: HostRuntime) -> Result<(), Fail> {
     refuse_each(&rt, &["world"], lines, &ends)
 }
 
-// The same, for a removal of what a walk has read, whose label is the ninth. After a refused insertion there is nothing to read.
+// Memory cannot be allocated in the removal of what a walk has read, whose label is the ninth. After an insertion that failed there is
+// nothing to read.
 #[test]
 fn removal_in_a_world(rt: HostRuntime) -> Result<(), Fail> {
     let lines = b"world 1 1\nbegin insert 1 1\nstep 0 3\nbegin walk\nstep 1 3\n\
@@ -138,7 +139,7 @@ fn removal_in_a_world(rt: HostRuntime) -> Result<(), Fail> {
     refuse_each(&rt, &["world"], lines, &ends)
 }
 
-// The same, for the first table of a world. A look-up after a refused one finds no table.
+// Memory cannot be allocated for the first table of a world. A look-up after that finds no table.
 #[test]
 fn first_table_of_a_world(rt: HostRuntime) -> Result<(), Fail> {
     let lines = b"world 1 0\nbegin reserve 0\nstep 0 2\nbegin get 1\nstep 1 2\n".as_slice();
@@ -164,7 +165,7 @@ fn first_table_of_a_world(rt: HostRuntime) -> Result<(), Fail> {
     refuse_each(&rt, &["world"], lines, &ends)
 }
 
-// The map's table, and each key with its value and its node.
+// Memory cannot be allocated for the map's table, or for a key, its value or its node.
 #[test]
 fn insertions_of_a_thread(rt: HostRuntime) -> Result<(), Fail> {
     let ends = [(3, b"out of memory\n".as_slice()), (0, b"3\n".as_slice())];

@@ -1,4 +1,4 @@
-//! The recorded map, as tests: each call, shares that fit and shares that do not, and threads beside one another.
+//! Tests of the recorded map: each call, shares that fit and shares that do not, and threads at the same time.
 #![tactic(auto)]
 
 #[cfg(test)]

@@ -15,26 +15,26 @@ type Numbers = Recorded<u64, u64, LowHashBuilder>;
 
 type NumberShare = Share<u64, u64>;
 
-// Sees that a value is the one that is wanted. A test of many assertions calls this, since each `assert_eq!` that stands in it makes
-// its proof longer.
+// Asserts that a value is the expected one. A test with many assertions calls this, because each `assert_eq!` in its own body makes its
+// proof longer.
 fn same<T: PartialEq + Debug + Drop>(rt: &impl Abort, seen: T, wanted: T) {
     assert_eq!(rt; seen, wanted);
 }
 
-// The reply that is this value, or none.
+// Returns the reply of a value, or of `None`.
 fn reply(value: Option<u64>) -> KeptReply<u64, u64> {
     KeptReply::Value(value)
 }
 
-// A further share of a map.
+// Returns a new share of a map.
 fn share_of<R: Wait + Abort>(rt: &R, map: &Numbers) -> NumberShare {
     map.share(rt).expect(rt, "memory for the share")
 }
 
-// What there is of a map that ended: how many calls its history has and how many pairs it has, and its value at the key 7.
+// The end of a map: the number of calls in its history, the number of its pairs, and its value at the key 7.
 type End = (usize, usize, Option<u64>);
 
-// How the map ends with these shares, or why it does not.
+// Closes the map with these shares, and returns its end, or the fault.
 fn end_of(map: Numbers, shares: Vec<NumberShare>) -> Result<End, CloseFault> {
     match map.close(shares) {
         Ok(closed) => {
@@ -45,7 +45,7 @@ fn end_of(map: Numbers, shares: Vec<NumberShare>) -> Result<End, CloseFault> {
     }
 }
 
-// Sees to how the map ends with these shares.
+// Checks how the map ends with these shares.
 fn ends<const N: usize>(
     rt: &(impl Abort + AllocGlobal),
     map: Numbers,

@@ -1,4 +1,4 @@
-//! Each request for memory of the recorded map's calls, refused in turn.
+//! Tests in which each request for memory of the recorded map's calls fails in turn.
 #![tactic(auto)]
 
 #[cfg(test)]

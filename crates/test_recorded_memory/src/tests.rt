@@ -1,4 +1,4 @@
-//! The refusals of a call, of a share and of the end.
+//! A call, a share and the end of a map when memory cannot be allocated.
 
 use flurry_model::hash::LowHashBuilder;
 use flurry_recorded::{CloseFault, KeptReply, Recorded, Share};
@@ -14,20 +14,20 @@ type Numbers = Recorded<u64, u64, LowHashBuilder, Memory>;
 
 type NumberShare = Share<u64, u64, Memory>;
 
-// No call makes so many requests.
+// More requests than any call makes.
 const MOST_REQUESTS: u64 = 100;
 
-// Sees that a value is the one that is wanted, where the request numbered k was refused.
+// Asserts that a value is the expected one after the request numbered `k` has failed.
 fn same_at<T: PartialEq + Debug + Drop>(rt: &impl Abort, k: u64, seen: T, wanted: T) {
     assert_eq!(rt; seen, wanted, "at {k}");
 }
 
-// A share of a map.
+// Returns a share of a map.
 fn share_of<R: Wait + Abort>(rt: &R, map: &Numbers) -> NumberShare {
     map.share(rt).expect(rt, "memory for the share")
 }
 
-// A map of the pair (7, 0), with the share that made it.
+// Returns a map of the pair (7, 0), with the share of the call that inserted it.
 fn map_with_share<R: Wait + Abort>(rt: &R, memory: Memory) -> (Numbers, NumberShare) {
     let map = Numbers::with_hasher(memory, LowHashBuilder);
     let mut share = share_of(rt, &map);
@@ -47,12 +47,12 @@ fn insert_once<R: Wait>(
     (reply.ok(), share.receipts().len())
 }
 
-// A list of one share.
+// Returns a list of one share.
 fn list_of(rt: &impl Abort, memory: Memory, share: NumberShare) -> Vec<NumberShare, Memory> {
     Vec::from_array(memory, [share]).expect(rt, "memory for the list")
 }
 
-// How many calls the history of a map has that ends with these shares; none where it does not end.
+// Closes a map with these shares, and returns the number of calls in its history, or `None` if it cannot be closed.
 fn end(map: Numbers, shares: Vec<NumberShare, Memory>) -> Option<usize> {
     match map.close(shares) {
         Ok(closed) => Some(closed.history.len()),
@@ -90,7 +90,7 @@ fn insertion_of_a_first_pair(rt: HostRuntime) {
     panic!(rt; "it makes fewer requests");
 }
 
-// Ends a map of one call with the request numbered k refused, and answers whether that request was made.
+// Closes a map of one call while the request numbered `k` fails, and returns whether that request was made.
 fn end_is_refused<R: Wait + Abort>(rt: &R, memory: Memory, k: u64) -> bool {
     let (map, share) = map_with_share(rt, memory);
     let shares = list_of(rt, memory, share);

@@ -1,4 +1,4 @@
-//! Worked examples of the owned map, as tests. Each row's values were worked out by hand.
+//! Tests of the owned map by worked examples. The values of each row were worked out by hand.
 #![tactic(auto)]
 
 #[cfg(test)]

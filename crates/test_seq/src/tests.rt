@@ -1,4 +1,4 @@
-//! The rows by topic, and what they share.
+//! Tests by topic, and what they share.
 
 mod calls;
 mod growth;
@@ -20,23 +20,23 @@ use std::fmt::{Debug, Display};
 use std::process::Abort;
 use std::sync::Arc;
 
-// The number in a value that a call handed out.
+// Returns the number in a value that a call returned.
 fn taken(value: Option<Arc<u64>>) -> Option<u64> {
     value.map(|value| *value)
 }
 
-// The number in a value that a call lent.
+// Returns the number in a value to which a call returned a reference.
 fn lent(value: Option<&Arc<u64>>) -> Option<u64> {
     value.map(|value| **value)
 }
 
-// Sees that a value is the one that is wanted. A test of many assertions calls this, since each `assert_eq!` that stands in it makes
-// its proof longer. The proof of the caller does not learn of the value.
+// Asserts that a value is the expected one. A test with many assertions calls this, because each `assert_eq!` in its own body makes its
+// proof longer. The proof of the caller does not learn of the value.
 fn same<T: PartialEq + Debug + Drop>(rt: &impl Abort, seen: T, wanted: T) {
     assert_eq!(rt; seen, wanted);
 }
 
-// The same at a number that the failure tells.
+// Asserts that a value is the expected one. A failure also reports `at`.
 fn same_at<T: PartialEq + Debug + Drop>(
     rt: &impl Abort,
     at: impl Display + Drop,
@@ -46,7 +46,7 @@ fn same_at<T: PartialEq + Debug + Drop>(
     assert_eq!(rt; seen, wanted, "at {at}");
 }
 
-// Inserts absent keys, each with its own number.
+// Inserts absent keys, each with its number as its value.
 fn insert_new<K: Number, S: KeyHasher<K>>(
     rt: &impl Abort,
     map: &mut SeqMap<K, u64, S>,
@@ -59,7 +59,7 @@ fn insert_new<K: Number, S: KeyHasher<K>>(
     }
 }
 
-// Inserts a pair, and sees to the value that stood there.
+// Inserts a pair, and checks the value that the key had.
 fn puts<K: Ord + Drop, S: KeyHasher<K>>(
     rt: &impl Abort,
     map: &mut SeqMap<K, u64, S>,
@@ -71,13 +71,13 @@ fn puts<K: Ord + Drop, S: KeyHasher<K>>(
     same(rt, taken(seen), old);
 }
 
-// A map with room for so many pairs, whose hashes are its keys.
+// Returns a map with room for `capacity` pairs, in which the hash of each key is the key.
 fn map_for(rt: &impl Abort, alloc: Global, capacity: usize) -> SeqMap<u64, u64, LowHashBuilder> {
     let map = SeqMap::with_capacity_and_hasher(alloc, capacity, LowHashBuilder);
     map.expect(rt, "memory for the table")
 }
 
-// Sees to the number of bins and of pairs.
+// Checks the number of bins and the number of pairs.
 fn holds<K: Ord + Drop, S: KeyHasher<K>>(
     rt: &impl Abort,
     map: &SeqMap<K, u64, S>,
@@ -87,7 +87,7 @@ fn holds<K: Ord + Drop, S: KeyHasher<K>>(
     same(rt, (map.capacity(), map.len()), (bins, pairs));
 }
 
-// Sees to the number of bins, and to the shape of the bin of hash 0.
+// Checks the number of bins, and the shape of the bin of the hash 0.
 fn stands<K: Ord + Drop, S: KeyHasher<K>>(
     rt: &impl Abort,
     map: &SeqMap<K, u64, S>,
@@ -97,7 +97,7 @@ fn stands<K: Ord + Drop, S: KeyHasher<K>>(
     same(rt, (map.capacity(), map.shape_of(0)), (bins, shape));
 }
 
-// Calls as values, in their order.
+// Returns a queue of calls as values, in their order.
 fn queue_of<T: Drop, const N: usize>(rt: &impl Abort, alloc: Global, calls: [T; N]) -> VecDeque<T> {
     let mut queue = VecDeque::new(alloc);
     for call in Vec::from_array(alloc, calls).expect(rt, "memory") {

@@ -1,7 +1,7 @@
-//! Each request for memory of the owned map's calls, refused in turn.
+//! Tests in which each request for memory of the owned map's calls fails in turn.
 //!
-//! `Arc::try_clone` asks the allocator for nothing: it is refused only where an `Arc` has about 2^63 owners. That its refusal
-//! leaves the map as it was rests on the contracts alone.
+//! `Arc::try_clone` makes no request to the allocator. It fails only if an `Arc` has about 2^63 owners. That the map is unchanged if it
+//! fails is known from the contracts alone.
 #![tactic(auto)]
 
 #[cfg(test)]

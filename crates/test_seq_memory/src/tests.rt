@@ -1,4 +1,4 @@
-//! The refusals by topic, and what they share.
+//! Failed requests by topic, and what the tests share.
 
 mod computed;
 mod copies;
@@ -22,32 +22,32 @@ type Memory = &'static Metered<Global>;
 // A map of numbers.
 type NumberMap<S> = SeqMap<u64, u64, S, Memory>;
 
-// No call makes so many requests.
+// More requests than any call makes.
 const MOST_REQUESTS: u64 = 100;
 
-// Sees that a value is the one that is wanted. A test of many assertions calls this, since each `assert_eq!` that stands in it makes
-// its proof longer.
+// Asserts that a value is the expected one. A test with many assertions calls this, because each `assert_eq!` in its own body makes its
+// proof longer.
 fn same<T: PartialEq + Debug + Drop>(rt: &impl Abort, seen: T, wanted: T) {
     assert_eq!(rt; seen, wanted);
 }
 
-// The same where the request numbered k was refused.
+// Asserts that a value is the expected one after the request numbered `k` has failed.
 fn same_at<T: PartialEq + Debug + Drop>(rt: &impl Abort, k: u64, seen: T, wanted: T) {
     assert_eq!(rt; seen, wanted, "at {k}");
 }
 
-// A call whose requests are refused in turn.
+// A call whose requests fail in turn.
 trait Refused {
-    // Makes the call with the request numbered k refused, sees to what it did, and answers whether it made that request.
+    // Makes the call while the request numbered `k` fails, checks what it did, and returns whether it made that request.
     fn once(&self, rt: &impl Abort, memory: Memory, k: u64) -> bool;
 }
 
-// An allocator that is told what to refuse.
+// Returns an allocator that can be told which requests fail.
 fn metered(rt: &impl Abort, alloc: Global) -> Memory {
     Metered::leaked(alloc).expect(rt, "memory for the allocator")
 }
 
-// Refuses each request of a call in turn. It makes at least one, and each block comes back.
+// Makes each request of a call fail in turn. The call makes at least one request, and every block is deallocated.
 fn refuse_each<C: Refused>(rt: &impl Abort, alloc: Global, call: &C) {
     let memory = metered(rt, alloc);
     for k in 0..MOST_REQUESTS {
@@ -67,7 +67,7 @@ fn adds<S: KeyHasher<u64>>(rt: &impl Abort, map: &mut NumberMap<S>, key: u64, va
     same(rt, taken(old), None);
 }
 
-// The keys from 0 on, each its own value.
+// Returns the map of the keys below `count`, each with itself as its value.
 fn map_of(rt: &impl Abort, memory: Memory, count: u64) -> NumberMap<LowHashBuilder> {
     let mut map = SeqMap::with_hasher(memory, LowHashBuilder);
     for key in 0..count {
@@ -76,7 +76,7 @@ fn map_of(rt: &impl Abort, memory: Memory, count: u64) -> NumberMap<LowHashBuild
     map
 }
 
-// The number in a value that a call lent.
+// Returns the number in a value to which a call returned a reference.
 fn lent(value: Option<&Arc<u64, Memory>>) -> Option<u64> {
     match value {
         Some(value) => Some(**value),
@@ -84,7 +84,7 @@ fn lent(value: Option<&Arc<u64, Memory>>) -> Option<u64> {
     }
 }
 
-// The number in a value that a call handed out.
+// Returns the number in a value that a call returned.
 fn taken(value: Option<Arc<u64, Memory>>) -> Option<u64> {
     match value {
         Some(value) => Some(*value),
@@ -92,12 +92,12 @@ fn taken(value: Option<Arc<u64, Memory>>) -> Option<u64> {
     }
 }
 
-// The number at a key.
+// Returns the number at a key, or `None` if the key is absent.
 fn number_at<S: KeyHasher<u64>>(map: &NumberMap<S>, key: u64) -> Option<u64> {
     lent(map.get(&key))
 }
 
-// Calls as values, in their order.
+// Returns a queue of calls as values, in their order.
 fn queue_of<T: Drop, const N: usize>(
     rt: &impl Abort,
     memory: Memory,
@@ -110,7 +110,7 @@ fn queue_of<T: Drop, const N: usize>(
     queue
 }
 
-// How many bins and pairs there are.
+// Returns the numbers of bins and pairs.
 fn size_of<S: KeyHasher<u64>>(map: &NumberMap<S>) -> (usize, usize) {
     (map.capacity(), map.len())
 }

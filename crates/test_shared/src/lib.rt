@@ -1,4 +1,4 @@
-//! Walks of the shared map, and the calls that go over many pairs, as tests.
+//! Tests of walks of the shared map, and of the calls that visit many pairs.
 #![tactic(auto)]
 
 #[cfg(test)]

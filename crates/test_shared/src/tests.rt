@@ -16,24 +16,25 @@ use std::process::Abort;
 use std::sync::{Arc, Wait};
 use std::test::Fail;
 
-// The most pairs that a walk of a test gives.
+// The greatest number of pairs that a walk of a test gives.
 const MOST_READ: u32 = 100_000;
 
-// A map of numbers that are their own hashes.
+// A map of numbers, in which the hash of each key is the key.
 type Numbers = HashMap<u64, u64, LowHashBuilder>;
 
-// Sees that a value is the one that is wanted. A test of many assertions calls this, since each `assert_eq!` that stands in it makes
-// its proof longer.
+// Asserts that a value is the expected one. A test with many assertions calls this, because each `assert_eq!` in its own body makes its
+// proof longer.
 fn same<T: PartialEq + Debug + Drop>(rt: &impl Abort, seen: T, wanted: T) {
     assert_eq!(rt; seen, wanted);
 }
 
-// The number in a value that a call handed out.
+// Returns the number in a value that a call returned.
 fn taken(value: Option<Arc<u64>>) -> Option<u64> {
     value.map(|value| *value)
 }
 
-// Inserts the keys from the first one on to the last but one, each with its own number, and answers how many were refused.
+// Inserts the keys from `from` to `to`, without `to`, each with itself as its value. Returns for how many of them memory could not be
+// allocated.
 fn insert_all<S: KeyHasher<u64>, A: Allocator + Copy, R: Wait>(
     rt: &R,
     map: &HashMap<u64, u64, S, A>,
@@ -49,7 +50,7 @@ fn insert_all<S: KeyHasher<u64>, A: Allocator + Copy, R: Wait>(
     refused
 }
 
-// A map of the keys below a count, each with its own number, whose hash it is.
+// Returns a map of the keys below `count`, each with itself as its value and its hash.
 fn numbers<A: Allocator + Copy, R: Wait>(
     rt: &R,
     alloc: A,
@@ -60,7 +61,7 @@ fn numbers<A: Allocator + Copy, R: Wait>(
     map
 }
 
-// How many pairs an iterator gives up to its end, and the sums of their keys and of their values.
+// Returns the number of pairs that an iterator gives up to its end, and the sums of their keys and of their values.
 fn read_all<A: Allocator + Copy, R: Wait>(
     pairs: Iter<'_, R, u64, u64, A>,
 ) -> Result<(u64, u64, u64), AllocError> {
@@ -70,7 +71,8 @@ fn read_all<A: Allocator + Copy, R: Wait>(
     sums
 }
 
-// The same of the pairs that are left. It borrows the iterator, since each way out of a body that owns it has a proof of its drop.
+// Returns the number of pairs that are left in an iterator, and the sums of their keys and of their values. It borrows the iterator,
+// because a body that owns it has a proof of its drop at each way out.
 fn read_rest<A: Allocator + Copy, R: Wait>(
     pairs: &mut Iter<'_, R, u64, u64, A>,
 ) -> Result<(u64, u64, u64), AllocError> {
@@ -88,7 +90,7 @@ fn read_rest<A: Allocator + Copy, R: Wait>(
     Ok((count, keys, values))
 }
 
-// The same of a map that is to have so many pairs, of which the keys and the values have these sums.
+// Asserts that `wanted` is the number of pairs of a map, and the sums of their keys and of their values.
 fn has_sums<S: KeyHasher<u64>, A: Allocator + Copy, R: Abort + Wait>(
     rt: &R,
     map: &HashMap<u64, u64, S, A>,

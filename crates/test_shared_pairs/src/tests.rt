@@ -1,4 +1,4 @@
-//! Lists of maps and sets that no other thread changes meanwhile, and each request for memory that making one makes, refused in turn.
+//! Lists of maps and sets that no other thread changes, and each request for memory that making a list makes, which fails in turn.
 
 use flurry_map::HashMap;
 use flurry_model::hash::LowHashBuilder;
@@ -12,16 +12,16 @@ use std::process::Abort;
 use std::sync::Wait;
 use std::test::Fail;
 
-// No call makes so many requests.
+// More requests than any call makes.
 const MOST_REQUESTS: u64 = 100;
 
-// Sees that a value is the one that is wanted. A test of many assertions calls this, since each `assert_eq!` that stands in it makes
-// its proof longer.
+// Asserts that a value is the expected one. A test with many assertions calls this, because each `assert_eq!` in its own body makes its
+// proof longer.
 fn same<T: PartialEq + Debug + Drop>(rt: &impl Abort, seen: T, wanted: T) {
     assert_eq!(rt; seen, wanted);
 }
 
-// The keys 2, 0 and 1, each with ten times as much.
+// Returns a map of the keys 2, 0 and 1, each with ten times itself as its value.
 fn three_pairs<A: Allocator + Copy, R: Wait>(
     rt: &R,
     alloc: A,
@@ -78,7 +78,7 @@ fn elements_of_a_set(rt: HostRuntime) -> Result<(), Fail> {
     Ok(())
 }
 
-// Makes the list of a map with the request numbered k refused, and answers whether that request was made.
+// Makes the list of a map while the request numbered `k` fails, and returns whether that request was made.
 fn pairs_without(
     rt: &(impl Abort + Wait),
     memory: &Metered<Global>,
@@ -95,7 +95,7 @@ fn pairs_without(
     refused
 }
 
-// The same of a set.
+// Makes the list of a set while the request numbered `k` fails, and returns whether that request was made.
 fn elements_without(
     rt: &(impl Abort + Wait),
     memory: &Metered<Global>,

@@ -1,4 +1,4 @@
-//! Tests of shared maps and sets that several threads extend at once.
+//! Tests of shared maps and sets that several threads extend at the same time.
 #![tactic(auto)]
 
 #[cfg(test)]

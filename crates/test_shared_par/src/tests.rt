@@ -14,21 +14,21 @@ use std::process::Abort;
 use std::sync::{Arc, Wait};
 use std::test::Fail;
 
-// The most pairs that a walk of a test gives.
+// The greatest number of pairs that a walk of a test gives.
 const MOST_READ: u32 = 10_000;
 
-// Sees that a value is the one that is wanted. A test of many assertions calls this, since each `assert_eq!` that stands in it makes
-// its proof longer.
+// Asserts that a value is the expected one. A test with many assertions calls this, because each `assert_eq!` in its own body makes its
+// proof longer.
 fn same<T: PartialEq + Debug + Drop>(rt: &impl Abort, seen: T, wanted: T) {
     assert_eq!(rt; seen, wanted);
 }
 
-// The number in a value that a call handed out.
+// Returns the number in a value that a call returned.
 fn taken<A: Allocator>(value: Option<Arc<u64, A>>) -> Option<u64> {
     value.map(|value| *value)
 }
 
-// So many pairs: the keys from 100 on, each with ten times as much as it is past 100.
+// Returns `count` pairs: the keys from 100 on, each with ten times its distance from 100 as its value.
 fn pairs_from_100<A: Allocator>(alloc: A, count: u64) -> Result<Vec<(u64, u64), A>, AllocError> {
     let mut list = Vec::new(alloc);
     for i in 0..count {
@@ -37,7 +37,7 @@ fn pairs_from_100<A: Allocator>(alloc: A, count: u64) -> Result<Vec<(u64, u64), 
     Ok(list)
 }
 
-// Inserts the pairs that stand before a call: 1 with 2, and 3 with 4.
+// Inserts the earlier pairs of a test: the key 1 with the value 2, and the key 3 with the value 4.
 fn insert_two<S: KeyHasher<u64>, A: Allocator + Copy, R: Wait>(
     rt: &R,
     map: &HashMap<u64, u64, S, A>,
@@ -47,7 +47,7 @@ fn insert_two<S: KeyHasher<u64>, A: Allocator + Copy, R: Wait>(
     Ok(())
 }
 
-// What stands at two keys.
+// Returns the values of two keys.
 fn values_at<S: KeyHasher<u64>, A: Allocator + Copy, R: Wait>(
     rt: &R,
     map: &HashMap<u64, u64, S, A>,
@@ -57,7 +57,7 @@ fn values_at<S: KeyHasher<u64>, A: Allocator + Copy, R: Wait>(
     Ok((taken(map.get(rt, &first)?), taken(map.get(rt, &second)?)))
 }
 
-// How many pairs an iterator gives up to its end, and the sums of their keys and of their values.
+// Returns the number of pairs that an iterator gives up to its end, and the sums of their keys and of their values.
 fn read_all<A: Allocator + Copy, R: Wait>(
     pairs: Iter<'_, R, u64, u64, A>,
 ) -> Result<(u64, u64, u64), AllocError> {
@@ -67,7 +67,8 @@ fn read_all<A: Allocator + Copy, R: Wait>(
     sums
 }
 
-// The same of the pairs that are left. It borrows the iterator, since each way out of a body that owns it has a proof of its drop.
+// Returns the number of pairs that are left in an iterator, and the sums of their keys and of their values. It borrows the iterator,
+// because a body that owns it has a proof of its drop at each way out.
 fn read_rest<A: Allocator + Copy, R: Wait>(
     pairs: &mut Iter<'_, R, u64, u64, A>,
 ) -> Result<(u64, u64, u64), AllocError> {
@@ -85,7 +86,7 @@ fn read_rest<A: Allocator + Copy, R: Wait>(
     Ok((count, keys, values))
 }
 
-// The same of a map that is to have so many pairs, of which the keys and the values have these sums.
+// Asserts that `wanted` is the number of pairs of a map, and the sums of their keys and of their values.
 fn has_sums<S: KeyHasher<u64>, A: Allocator + Copy, R: Abort + Wait>(
     rt: &R,
     map: &HashMap<u64, u64, S, A>,

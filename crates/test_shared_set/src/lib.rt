@@ -1,4 +1,4 @@
-//! The shared set, as tests.
+//! Tests of the shared set.
 #![tactic(auto)]
 
 #[cfg(test)]

@@ -1,6 +1,6 @@
 //! Tests of the shared set, and what they share.
 //!
-//! A test makes its sets and lends them: a body that owns a set has a proof of its drop at each way out.
+//! A test creates its sets and passes them by reference, because a body that owns a set has a proof of its drop at each way out.
 
 mod made;
 mod refused;
@@ -16,16 +16,16 @@ use std::process::Abort;
 use std::sync::Wait;
 use std::test::Fail;
 
-// The most elements that a walk of a test gives.
+// The greatest number of elements that a walk of a test gives.
 const MOST_READ: u32 = 10_000;
 
-// Sees that a value is the one that is wanted. A test of many assertions calls this, since each `assert_eq!` that stands in it makes
-// its proof longer.
+// Asserts that a value is the expected one. A test with many assertions calls this, because each `assert_eq!` in its own body makes its
+// proof longer.
 fn same<T: PartialEq + Debug + Drop>(rt: &impl Abort, seen: T, wanted: T) {
     assert_eq!(rt; seen, wanted);
 }
 
-// A set of the numbers of a list, each its own hash.
+// Returns a set of the numbers of a list, in which the hash of each number is the number.
 fn set_of<A: Allocator + Copy, R: Wait>(
     rt: &R,
     alloc: A,
@@ -38,7 +38,7 @@ fn set_of<A: Allocator + Copy, R: Wait>(
     Ok(set)
 }
 
-// How many elements an iterator gives up to its end, and their sum.
+// Returns the number of elements that an iterator gives up to its end, and their sum.
 fn read_all<A: Allocator + Copy, R: Wait>(
     elements: Keys<'_, R, u64, (), A>,
 ) -> Result<(u64, u64), AllocError> {
@@ -48,7 +48,8 @@ fn read_all<A: Allocator + Copy, R: Wait>(
     sums
 }
 
-// The same of the elements that are left. It borrows the iterator, since each way out of a body that owns it has a proof of its drop.
+// Returns the number of elements that are left in an iterator, and their sum. It borrows the iterator, because a body that owns it has a
+// proof of its drop at each way out.
 fn read_rest<A: Allocator + Copy, R: Wait>(
     elements: &mut Keys<'_, R, u64, (), A>,
 ) -> Result<(u64, u64), AllocError> {
@@ -64,7 +65,7 @@ fn read_rest<A: Allocator + Copy, R: Wait>(
     Ok((count, sum))
 }
 
-// Puts two elements, of which one is there already, and finds them.
+// Inserts two elements, one of them twice, and finds them.
 fn puts_and_finds<A: Allocator + Copy, R: Abort + Wait>(
     rt: &R,
     set: &HashSet<u64, LowHashBuilder, A>,
@@ -78,7 +79,7 @@ fn puts_and_finds<A: Allocator + Copy, R: Abort + Wait>(
     Ok(())
 }
 
-// Takes them out again.
+// Removes the elements again.
 fn takes_out<A: Allocator + Copy, R: Abort + Wait>(rt: &R, set: &HashSet<u64, LowHashBuilder, A>) {
     same(rt, set.take(rt, &7).map(|element| *element), Some(7));
     same(rt, set.take(rt, &7).is_none(), true);
@@ -86,7 +87,7 @@ fn takes_out<A: Allocator + Copy, R: Abort + Wait>(rt: &R, set: &HashSet<u64, Lo
     same(rt, set.remove(rt, &8), false);
 }
 
-// All of that.
+// Inserts elements into an empty set, finds them and removes them.
 fn comes_and_goes<A: Allocator + Copy, R: Abort + Wait>(
     rt: &R,
     set: &HashSet<u64, LowHashBuilder, A>,
@@ -104,7 +105,7 @@ fn calls_of_one_element(rt: HostRuntime) -> Result<(), Fail> {
     comes_and_goes(&rt, &set_of(&rt, rt.alloc(), &[])?)
 }
 
-// Whether a set has so many elements of that sum.
+// Asserts that `wanted` is the number of elements of a set, and their sum.
 fn has_sums<A: Allocator + Copy, R: Abort + Wait>(
     rt: &R,
     set: &HashSet<u64, LowHashBuilder, A>,
@@ -115,7 +116,7 @@ fn has_sums<A: Allocator + Copy, R: Abort + Wait>(
     Ok(())
 }
 
-// Keeps the even elements of five, and none.
+// Keeps the even elements of five, and then none.
 fn keeps_less<A: Allocator + Copy, R: Abort + Wait>(
     rt: &R,
     set: &HashSet<u64, LowHashBuilder, A>,
@@ -132,7 +133,7 @@ fn calls_of_many_elements(rt: HostRuntime) -> Result<(), Fail> {
     keeps_less(&rt, &set_of(&rt, rt.alloc(), &[0, 1, 2, 3, 4])?)
 }
 
-// Removes the odd elements and the element 0. While a walk shows the 4, it is removed and put again.
+// Keeps the elements 2 and 4. While a walk shows the 4, it is removed and inserted again.
 fn keeps_what_is_put_again<A: Allocator + Copy, R: Wait>(
     rt: &R,
     set: &HashSet<u64, LowHashBuilder, A>,
@@ -142,7 +143,7 @@ fn keeps_what_is_put_again<A: Allocator + Copy, R: Wait>(
     })
 }
 
-// An element that is removed and put again meanwhile stays.
+// An element that is removed and inserted again during the call stays.
 #[test]
 fn elements_are_kept(rt: HostRuntime) -> Result<(), Fail> {
     let set = set_of(&rt, rt.alloc(), &[0, 1, 2, 3, 4])?;
@@ -150,7 +151,7 @@ fn elements_are_kept(rt: HostRuntime) -> Result<(), Fail> {
     has_sums(&rt, &set, (2, 6))
 }
 
-// The list of the numbers from the first one on to the last but one.
+// Returns the list of the numbers from `from` to `to`, without `to`.
 fn list<A: Allocator + Copy>(alloc: A, from: u64, to: u64) -> Result<Vec<u64, A>, AllocError> {
     let mut list = Vec::new(alloc);
     for number in from..to {

@@ -1,4 +1,4 @@
-//! Single calls of a shared map, as tests over tables that can be refused.
+//! Tests of single calls of a shared map, over tables for which memory can fail.
 #![tactic(auto)]
 
 #[cfg(test)]

@@ -1,4 +1,4 @@
-//! Worlds, as tests: each call, schedules that were worked by hand, and schedules that are drawn.
+//! Tests of worlds: each call, schedules that were worked out by hand, and random schedules.
 #![tactic(auto)]
 
 #[cfg(test)]

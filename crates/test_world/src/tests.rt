@@ -17,10 +17,10 @@ use std::alloc::Global;
 use std::fmt::Debug;
 use std::process::Abort;
 
-/// A world whose hashes are its keys.
+/// A world in which the hash of each key is the key.
 type Numbers<'k, F> = World<'k, u64, u64, F, LowHashBuilder>;
 
-/// A label, of whose call only the party is told.
+/// A label, which of a call names only the party.
 #[derive(Clone, Copy, Debug, PartialEq, Eq)]
 enum Line {
     Begin(usize),
@@ -37,8 +37,8 @@ enum Line {
     Read(usize, u64, u64),
 }
 
-// Sees that a value is the one that is wanted. A test of many assertions calls this, since each `assert_eq!` that stands in it makes
-// its proof longer.
+// Asserts that a value is the expected one. A test with many assertions calls this, because each `assert_eq!` in its own body makes its
+// proof longer.
 fn same<T: PartialEq + Debug + Drop>(rt: &impl Abort, seen: T, wanted: T) {
     assert_eq!(rt; seen, wanted);
 }
@@ -60,17 +60,17 @@ fn line_of<F>(label: &Label<u64, u64, F>) -> Line {
     }
 }
 
-// The last label.
+// Returns the last label.
 fn last_line<'k, F: ComputeFn<u64, u64> + Copy>(rt: &impl Abort, world: &Numbers<'k, F>) -> Line {
     line_of(world.trace().last().expect(rt, "a label was added"))
 }
 
-// The reply that is a value, or none.
+// Returns the reply of a value, or of `None`.
 fn value(value: Option<u64>) -> KeptReply<u64, u64> {
     KeptReply::Value(value)
 }
 
-// A world with room for so many pairs.
+// Returns a world with room for `capacity` pairs.
 fn world_for<'k, F: ComputeFn<u64, u64> + Copy>(
     rt: &impl Abort,
     alloc: Global,
@@ -80,7 +80,7 @@ fn world_for<'k, F: ComputeFn<u64, u64> + Copy>(
     Numbers::new(alloc, capacity, LowHashBuilder, processors).expect(rt, "memory for the world")
 }
 
-// The label of the party's next step.
+// Does the party's next step, and returns its label.
 fn step<'k, F: ComputeFn<u64, u64> + Copy>(
     rt: &impl Abort,
     world: &mut Numbers<'k, F>,
@@ -90,7 +90,7 @@ fn step<'k, F: ComputeFn<u64, u64> + Copy>(
     last_line(rt, world)
 }
 
-// The labels of the party's next steps are these.
+// Asserts that `lines` are the labels of the party's next steps.
 fn assert_steps<'k, F: ComputeFn<u64, u64> + Copy>(
     rt: &impl Abort,
     world: &mut Numbers<'k, F>,
@@ -102,7 +102,7 @@ fn assert_steps<'k, F: ComputeFn<u64, u64> + Copy>(
     }
 }
 
-// Begins a call, whatever its function is.
+// Begins a call, with any function.
 fn begin<'k, F: ComputeFn<u64, u64> + Copy>(
     rt: &impl Abort,
     world: &mut Numbers<'k, F>,
@@ -113,7 +113,7 @@ fn begin<'k, F: ComputeFn<u64, u64> + Copy>(
     world.begin(call).expect(rt, "memory for the call")
 }
 
-// Begins a call, whose labels are these from its first step on.
+// Begins a call, and asserts that `lines` are its labels from its first step on.
 fn assert_call<'k, F: ComputeFn<u64, u64> + Copy>(
     rt: &impl Abort,
     world: &mut Numbers<'k, F>,
@@ -128,7 +128,7 @@ fn assert_call<'k, F: ComputeFn<u64, u64> + Copy>(
     assert_steps(rt, world, party, lines);
 }
 
-// The reply or the end of a party, after its next steps.
+// Does the next steps of a party until it replies or ends, and returns that label.
 fn end_of<'k, F: ComputeFn<u64, u64> + Copy>(
     rt: &impl Abort,
     world: &mut Numbers<'k, F>,
@@ -143,7 +143,7 @@ fn end_of<'k, F: ComputeFn<u64, u64> + Copy>(
     panic!(rt; "the party ends")
 }
 
-// A call that is run to its end has this reply.
+// Runs a call to its end, and asserts that its reply is `reply`.
 fn assert_reply<'k, F: ComputeFn<u64, u64> + Copy>(
     rt: &impl Abort,
     world: &mut Numbers<'k, F>,

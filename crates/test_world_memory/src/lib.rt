@@ -1,4 +1,4 @@
-//! What bins, slots and worlds ask of their allocator. In a bin a node asks once, and no other call asks at all.
+//! Tests of the requests of bins, slots and worlds to their allocator. In a bin, a node makes one request, and no other call makes any.
 #![tactic(auto)]
 
 #[cfg(test)]

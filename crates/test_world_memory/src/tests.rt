@@ -1,4 +1,4 @@
-//! Each request of a node refused in turn, and the calls of bins while each request is refused; the same of slots and of worlds.
+//! Each request of a node fails in turn, and the calls of bins run while every request fails; likewise for slots and for worlds.
 
 mod drops;
 mod slot;
@@ -15,13 +15,13 @@ use std::test::Fail;
 
 type Memory = &'static Metered<Global>;
 
-// Sees that a value is the one that is wanted. A test of many assertions calls this, since each `assert_eq!` that stands in it makes
-// its proof longer.
+// Asserts that a value is the expected one. A test with many assertions calls this, because each `assert_eq!` in its own body makes its
+// proof longer.
 fn same<T: PartialEq + Debug + Drop>(rt: &impl Abort, seen: T, wanted: T) {
     assert_eq!(rt; seen, wanted);
 }
 
-// The same where the request numbered k was refused.
+// Asserts that a value is the expected one after the request numbered `k` has failed.
 fn same_at<T: PartialEq + Debug + Drop>(rt: &impl Abort, k: u64, seen: T, wanted: T) {
     assert_eq!(rt; seen, wanted, "at {k}");
 }
@@ -30,7 +30,7 @@ type NumberBin = Bin<u64, u64, Memory>;
 
 type BoxedNode = Box<Node<u64, u64, Memory>, Memory>;
 
-// A node of a key whose hash is its last bit.
+// Returns a node of a key whose hash is its last bit.
 fn node(memory: Memory, key: u64) -> Result<BoxedNode, AllocError> {
     let entry = Entry {
         hash: key % 2,
@@ -41,7 +41,7 @@ fn node(memory: Memory, key: u64) -> Result<BoxedNode, AllocError> {
     Node::new(memory, entry)
 }
 
-// The nodes of the keys below a count.
+// Returns the nodes of the keys below `count`.
 fn nodes(memory: Memory, count: u64) -> Result<Vec<BoxedNode, Memory>, Fail> {
     let mut nodes = Vec::new(memory);
     for key in 0..count {
@@ -50,7 +50,7 @@ fn nodes(memory: Memory, count: u64) -> Result<Vec<BoxedNode, Memory>, Fail> {
     Ok(nodes)
 }
 
-// Puts in the nodes that are absent.
+// Inserts those nodes whose keys are absent.
 fn put_all(bin: &mut NumberBin, nodes: Vec<BoxedNode, Memory>) {
     for node in nodes {
         let entry = node.entry();
@@ -60,7 +60,7 @@ fn put_all(bin: &mut NumberBin, nodes: Vec<BoxedNode, Memory>) {
     }
 }
 
-// A list of the nodes.
+// Returns a list of the nodes.
 fn list_of(nodes: Vec<BoxedNode, Memory>) -> ListBin<u64, u64, Memory> {
     let mut list = ListBin::new();
     for node in nodes {
@@ -72,7 +72,7 @@ fn list_of(nodes: Vec<BoxedNode, Memory>) -> ListBin<u64, u64, Memory> {
     list
 }
 
-// Makes an entry's node with its one request refused: whether the request was made, and whether there is no node.
+// Makes the node of an entry while its only request fails. Returns whether the request was made, and whether there is no node.
 fn refused_node(memory: Memory) -> Result<(bool, bool), Fail> {
     let entry = Entry {
         hash: 1,
@@ -87,7 +87,7 @@ fn refused_node(memory: Memory) -> Result<(bool, bool), Fail> {
     Ok((refused, failed))
 }
 
-// The same of an entry and its node, whose request numbered k is refused.
+// Makes an entry and its node while the request numbered `k` fails. Returns whether the request was made, and whether there is no node.
 fn refused_entry(memory: Memory, k: u64) -> (bool, bool) {
     memory.refuse_at(k);
     let failed = node(memory, 7).is_err();
@@ -109,7 +109,7 @@ fn a_node(rt: HostRuntime) -> Result<(), Fail> {
     Ok(())
 }
 
-// A bin that the nodes of the keys below a count were put into while each request is refused.
+// Returns a bin into which the nodes of the keys below `count` were inserted while every request fails.
 fn bin_of(memory: Memory, count: u64) -> Result<NumberBin, Fail> {
     let nodes = nodes(memory, count)?;
     memory.refuse_from(0);
@@ -118,7 +118,7 @@ fn bin_of(memory: Memory, count: u64) -> Result<NumberBin, Fail> {
     Ok(bin)
 }
 
-// Replaces the value of the key 4, where the bin has it, and answers the old one.
+// Replaces the value of the key 4, if the bin has it, and returns the old value.
 fn replaced(bin: &mut NumberBin, value: Arc<u64, Memory>) -> Option<u64> {
     if bin.find(0, &4).0.is_none() {
         return None;

@@ -1,4 +1,4 @@
-//! Insertions by one way down a bin.
+//! Insertions that go one way down a bin.
 
 use super::same;
 use flurry_bins::bin::{Bin, Ordered, Shape};
@@ -11,10 +11,10 @@ use std::test::Fail;
 
 type Memory = &'static Metered<Global>;
 
-// The value that stood there, if one did, and whether the bin asks for a larger table.
+// The value that the key had, if any, and whether the bin asks for a larger table.
 type Reply = (Option<u64>, bool);
 
-// Inserts a key whose hash is 3 into a bin of a table of so many bins.
+// Inserts a key with the hash 3 into a bin of a table of `bins` bins.
 fn insert(
     bin: &mut Bin<u64, u64, Memory>,
     memory: Memory,
@@ -33,7 +33,7 @@ fn insert(
     }
 }
 
-// A bin of so many even keys, each its own value.
+// Returns a bin of `count` even keys, each with itself as its value, in a table of `bins` bins.
 fn bin_of(memory: Memory, count: u64, bins: usize) -> Result<Bin<u64, u64, Memory>, AllocError> {
     let mut bin = Bin::new();
     for i in 0..count {
@@ -71,7 +71,8 @@ fn a_bin_that_grows_by_insertions(rt: HostRuntime) -> Result<(), Fail> {
     Ok(())
 }
 
-// Inserts a key into a bin of so many even keys, where the request numbered k is refused, if it is made; the bin is then as it was.
+// Inserts a key into a bin of `count` even keys, where the request numbered `k` fails, and returns whether that request was made. If it
+// was, the bin is unchanged.
 fn refused(rt: &impl Abort, memory: Memory, count: u64, key: u64, k: u64) -> Result<bool, Fail> {
     let mut bin = bin_of(memory, count, 64)?;
     let before = (bin.shape(), value_at(&bin, key), memory.blocks());
@@ -97,7 +98,7 @@ fn refused(rt: &impl Abort, memory: Memory, count: u64, key: u64, k: u64) -> Res
     Ok(refused)
 }
 
-// Each request that an insertion makes is refused in turn: three for an absent key, and one for a present one.
+// Each request of an insertion fails in turn: there are three for an absent key, and one for a present one.
 #[test]
 fn refused_insertions(rt: HostRuntime) -> Result<(), Fail> {
     let memory = Metered::leaked(rt.alloc())?;

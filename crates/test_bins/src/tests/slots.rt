@@ -1,4 +1,4 @@
-//! Slots: each step where the bin is live, where it moved, and where it is not there yet.
+//! Slots: each step where the bin is live, where it has moved, and where it is unborn.
 
 ghost use Rattle.std.specs.Prelude.{OnOk};
 ghost use Rattle.flurry_slots.specs.Slot.{LiesIn};
@@ -10,7 +10,7 @@ use flurry_slots::clones::{Cloning, NoCloning};
 use flurry_slots::{Answer, Computed, MoveAnswer, NoFn, Receipt, Slot};
 use std::alloc::{AllocError, Global};
 
-// Why a step did not answer at a live bin.
+// Why a step was not done at a live bin.
 #[derive(Clone, Copy, Debug, PartialEq, Eq)]
 enum Away {
     Moved,
@@ -19,7 +19,7 @@ enum Away {
     NoMemory,
 }
 
-// Whether a hash lies in the region of the slot.
+// Checks that a hash lies in the region of the slot.
 fn lies_in(slot: &Slot<u64, u64>, hash: u64) -> Result<(), Away>
     ensures { OnOk result (LiesIn hash slot.now) }
 {
@@ -31,7 +31,7 @@ fn lies_in(slot: &Slot<u64, u64>, hash: u64) -> Result<(), Away>
     }
 }
 
-// What a step answered where the bin is live.
+// Returns the result of a step, if the bin is live.
 fn here<T, B: Drop>(answer: Answer<T, B>) -> Result<T, Away> {
     match answer {
         Answer::Here(value) => Ok(value),
@@ -40,7 +40,7 @@ fn here<T, B: Drop>(answer: Answer<T, B>) -> Result<T, Away> {
     }
 }
 
-// The same of a step that may be refused.
+// Returns the result of a step that may run out of memory, if the bin is live.
 fn given<T, B: Drop>(answer: Result<Answer<T, B>, AllocError>) -> Result<T, Away> {
     match answer {
         Ok(answer) => here(answer),
@@ -48,7 +48,7 @@ fn given<T, B: Drop>(answer: Result<Answer<T, B>, AllocError>) -> Result<T, Away
     }
 }
 
-// The value of an entry and its write number.
+// Returns the value of an entry and its write number.
 fn find(slot: &Slot<u64, u64>, hash: u64, key: u64) -> Result<Option<(u64, u64)>, Away> {
     lies_in(slot, hash)?;
     let entry = here(slot.find(hash, &key))?;
@@ -63,7 +63,7 @@ fn next_after(
     Ok(entry.map(|entry| (*entry.value, entry.number)))
 }
 
-// The value before, and whether a larger table is asked for.
+// Writes a pair, and returns the value that the key had, and whether a larger table is asked for.
 fn put(
     alloc: Global,
     slot: &mut Slot<u64, u64>,
@@ -76,7 +76,7 @@ fn put(
     Ok((written.old.map(|old| *old), written.asks_for_growth))
 }
 
-// The new value, or the one that stands and the one that was not put.
+// Adds a pair, and returns its value. If the key is present, returns the value that it has and the value that was not inserted.
 fn put_absent(
     alloc: Global,
     slot: &mut Slot<u64, u64>,
@@ -91,7 +91,7 @@ fn put_absent(
     }
 }
 
-// What a computation did, to half the value.
+// Halves the value of a key by a computation, and returns what the computation did.
 fn halve(
     alloc: Global,
     slot: &mut Slot<u64, u64>,
@@ -107,7 +107,7 @@ fn halve(
     }
 }
 
-// Whether a computation without a value took the pair out.
+// Runs a computation that gives no value, and returns whether it removed the pair.
 fn remove(alloc: Global, slot: &mut Slot<u64, u64>, hash: u64, key: u64) -> Result<bool, Away> {
     lies_in(slot, hash)?;
     match given(slot.compute(alloc, hash, &key, NoFn))? {
@@ -133,7 +133,7 @@ fn take_if(
     Ok(entry.map(|entry| (*entry.value, entry.number)))
 }
 
-// Where a move was done, or had been done, or none where there was nothing to move.
+// Returns whether a move was done (0), had been done (1) or clashed (2), and the slot that its receipt names, if there is one.
 fn moved(answer: MoveAnswer) -> (u64, Option<(u8, usize)>) {
     match answer {
         MoveAnswer::Done(receipt) => (0, Some(receipt.at())),
@@ -281,7 +281,7 @@ fn a_half_that_has_a_bin_is_not_moved_into(rt: HostRuntime) {
     same(&rt, find(&high, 19, 19), Err(Away::Unborn));
 }
 
-// The ninth entry of a list asks for a larger table where the table has fewer than 64 bins, and never more than that one does.
+// The ninth entry of a list asks for a larger table if the table has fewer than 64 bins, and no other entry does.
 #[test]
 fn the_ninth_entry_asks_for_growth(rt: HostRuntime) {
     let mut small: Slot<u64, u64> = Slot::live(5, 3, Bin::new());
@@ -301,7 +301,7 @@ fn the_ninth_entry_asks_for_growth(rt: HostRuntime) {
     same(&rt, here(small.wipe()), Ok(12));
 }
 
-// So no two holders have the receipt of one move.
+// So no two holders can have the receipt of one move.
 #[test]
 fn a_receipt_cannot_be_cloned(rt: HostRuntime) {
     same(&rt, Cloning::<u64>::is_there(), true);

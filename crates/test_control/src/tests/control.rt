@@ -1,4 +1,4 @@
-//! The control: each row of what its calls answer and change, with tables that can be refused.
+//! The control: each case of what its calls return and change, with tables for which memory can fail.
 ghost use Rattle.std.specs.Prelude.{◌<◌, ◌^◌, ◌≡◌, ◌++◌, ◌∷◌, [], if◌then◌else◌};
 
 mod claims;
@@ -13,8 +13,8 @@ use flurry_slots::{MoveAnswer, Receipt, Slot};
 use std::alloc::{AllocError, Global};
 use std::process::Abort;
 
-// The tables that were made, by number and whether their bins are live. The request of the number `refused` is refused, the first
-// one being 1.
+// The tables that were made, by number and whether their bins are live. The request with the number `refused` fails, where the first
+// request has the number 1.
 #[derive(Drop)]
 struct Tables {
     placed: Vec<(u8, bool)>,
@@ -43,7 +43,7 @@ fn empty_room(alloc: Global, refused: u8) -> Tables {
     }
 }
 
-// A control whose first table is this one, and the room that has it, where the request of the number `refused` is refused.
+// Returns a control whose first table is `table`, and the room that has it. The request with the number `refused` fails.
 fn opened(rt: &(impl Abort + AllocGlobal), table: u8, refused: u8) -> (Control, Tables) {
     let mut room = empty_room(rt.alloc(), refused);
     let mut control = Control::new();
@@ -55,20 +55,20 @@ fn opened(rt: &(impl Abort + AllocGlobal), table: u8, refused: u8) -> (Control, 
     (control, room)
 }
 
-// A control that grows from this table, and the room that has its two tables.
+// Returns a control that grows from `table`, and the room that has its two tables.
 fn growing(rt: &(impl Abort + AllocGlobal), table: u8) -> (Control, Tables) {
     let (mut control, mut room) = opened(rt, table, 0);
     same(rt, control.begin(table, &mut room), BeginOutcome::Begun);
     (control, room)
 }
 
-// The next claim of one of so many processors.
+// Returns the next claim of one of `processors` threads that share a growth.
 fn claimed(rt: &impl Abort, control: &mut Control, processors: usize) -> Claim {
     let claim = control.claim(processors);
     claim.expect(rt, "there are unclaimed bins")
 }
 
-// The note that this bin of this table moved.
+// Returns the receipt of the move of bin `index` of `table`.
 fn receipt_of(rt: &impl Abort, table: u8, index: usize) -> Receipt
     requires table { table < 30 }
     requires index { index < 2 ^ table }
@@ -82,7 +82,7 @@ fn receipt_of(rt: &impl Abort, table: u8, index: usize) -> Receipt
     }
 }
 
-// Moves the bins of a claim, and answers its lowest bin and the first one above it.
+// Moves the bins of a claim, and returns its lowest bin and the bin that follows its highest one.
 fn move_all(rt: &impl Abort, claim: &mut Claim) -> (usize, usize) {
     let (_, highest) = claim.next().expect(rt, "the claim has bins left");
     let mut low = highest;
@@ -100,7 +100,7 @@ fn move_all(rt: &impl Abort, claim: &mut Claim) -> (usize, usize) {
     (low, highest + 1)
 }
 
-// The next claim of one of so many processors, with all its bins moved.
+// Returns the next claim of one of `processors` threads that share a growth, after all its bins were moved.
 fn moved(rt: &impl Abort, control: &mut Control, processors: usize) -> Claim {
     let mut claim = claimed(rt, control, processors);
     let _ends = move_all(rt, &mut claim);

@@ -6,7 +6,7 @@ use flurry_model::sizes::GREATEST_TABLE;
 use std::process::Abort;
 use std::sync::Arc;
 
-// The bins that a cursor meets to its end, from where it stands.
+// Asserts which bins a cursor meets from its place to its end.
 fn rest_of(rt: &impl Abort, cursor: &mut Cursor<u64>, bins: &[(u8, usize)]) {
     for at in 0..bins.len() {
         same_at(rt, at, cursor.at(), bins[at]);
@@ -23,7 +23,7 @@ fn a_cursor_goes_over_each_bin_of_its_table(rt: HostRuntime) {
     drop(cursor);
 }
 
-// Bin 1 of two has moved, and so has its high half: what it had stands in bin 1 of four, and in bins 3 and 7 of eight.
+// Bin 1 of two has moved, and so has its high half: their entries are in bin 1 of four, and in bins 3 and 7 of eight.
 #[test]
 fn a_bin_that_has_moved_is_followed_to_its_halves(rt: HostRuntime) {
     let mut cursor: Cursor<u64> = Cursor::new(1);
@@ -38,7 +38,7 @@ fn a_bin_that_has_moved_is_followed_to_its_halves(rt: HostRuntime) {
     drop(cursor);
 }
 
-// Each half of a bin begins at the bound that the bin had.
+// Each half of a bin starts at the bound that the bin had.
 #[test]
 fn both_halves_begin_at_the_bound(rt: HostRuntime) {
     let mut cursor = Cursor::new(0);
@@ -55,7 +55,7 @@ fn both_halves_begin_at_the_bound(rt: HostRuntime) {
     drop(cursor);
 }
 
-// Follows the bin to its halves, where there is a further table.
+// Follows the bin to its halves, if there is a next table.
 fn split(rt: &impl Abort, cursor: &mut Cursor<u64>) {
     let (table, _) = cursor.at();
     if table < GREATEST_TABLE {
@@ -63,7 +63,7 @@ fn split(rt: &impl Abort, cursor: &mut Cursor<u64>) {
     }
 }
 
-// Past the last split there are frames of each table but the first, and one more of the greatest.
+// After the last split there is a frame of each table except the first, and one more of the greatest.
 #[test]
 fn a_cursor_follows_a_bin_through_all_tables(rt: HostRuntime) {
     let mut cursor: Cursor<u64> = Cursor::new(0);

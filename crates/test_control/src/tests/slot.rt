@@ -1,4 +1,4 @@
-//! Slots: how often a computation calls its function, and bins that are owned again.
+//! Slots: how often a computation calls its function, and bins that have one owner again.
 ghost use Rattle.flurry_slots.specs.Slot.{LiesIn};
 
 use super::same;
@@ -8,7 +8,7 @@ use flurry_slots::{Answer, MoveAnswer, Slot};
 use std::cell::Cell;
 use std::process::Abort;
 
-// Sees that the hash of the tests lies in the region of the slot.
+// Asserts that the hash of the tests lies in the region of the slot.
 fn lies_in(rt: &impl Abort, slot: &Slot<u64, u64>)
     ensures { LiesIn 3 slot.now }
 {
@@ -16,7 +16,7 @@ fn lies_in(rt: &impl Abort, slot: &Slot<u64, u64>)
     assert!(rt; bin_index(3, table) == index);
 }
 
-// Writes a value at a key, where the bin is live.
+// Writes the value of a key, if the bin is live.
 fn put(rt: &(impl Abort + AllocGlobal), slot: &mut Slot<u64, u64>, key: u64, value: u64) {
     lies_in(rt, slot);
     let answer = slot
@@ -25,7 +25,7 @@ fn put(rt: &(impl Abort + AllocGlobal), slot: &mut Slot<u64, u64>, key: u64, val
     same(rt, matches!(&answer, Answer::Here(_)), true);
 }
 
-// The value of a key and its write number, where the bin is live.
+// Returns the value of a key and its write number, if the bin is live.
 fn find(rt: &impl Abort, slot: &Slot<u64, u64>, key: u64) -> Option<(u64, u64)> {
     lies_in(rt, slot);
     match slot.find(3, &key) {
@@ -34,7 +34,7 @@ fn find(rt: &impl Abort, slot: &Slot<u64, u64>, key: u64) -> Option<(u64, u64)> 
     }
 }
 
-// How often a computation at a key calls its function.
+// Returns how often a computation at a key calls its function.
 fn calls_at(rt: &(impl Abort + AllocGlobal), slot: &mut Slot<u64, u64>, key: u64) -> u64 {
     let calls = Cell::new(0u64);
     lies_in(rt, slot);
@@ -61,7 +61,7 @@ fn function_is_not_called_where_no_bin_is(rt: HostRuntime) {
     same(&rt, calls_at(&rt, &mut slot, 3), 0);
 }
 
-// Takes the bin out of a slot, and puts it into another one at the same place.
+// Takes the bin out of a slot, and puts it into another slot at the same place.
 fn owned_again(slot: Slot<u64, u64>) -> Option<Slot<u64, u64>> {
     let (table, index) = slot.at();
     let bin = slot.into_bin()?;

@@ -1,4 +1,4 @@
-//! Driven removals of the pair that a driven walk has read last.
+//! Driven removals of the pair that a driven walk read last.
 
 use super::{Plain, answers, same, value, without_owners};
 use flurry_calls::Seen;
@@ -12,7 +12,7 @@ use std::process::Abort;
 use std::sync::Wait;
 use std::test::Fail;
 
-// Drives a walk, and answers what it read last.
+// Drives a walk, and returns what it read last.
 fn walked<F: ComputeFn<u64, u64>, R: Wait>(
     rt: &R,
     parts: &mut Parts<u64, u64>,
@@ -25,7 +25,7 @@ fn walked<F: ComputeFn<u64, u64>, R: Wait>(
     }
 }
 
-// Drives the removal of that pair, and answers its reply.
+// Drives the removal of the pair that a walk has read, and returns the reply.
 fn removal<F: ComputeFn<u64, u64>, R: Wait>(
     rt: &R,
     parts: &mut Parts<u64, u64>,
@@ -38,7 +38,7 @@ fn removal<F: ComputeFn<u64, u64>, R: Wait>(
     without_owners(reply)
 }
 
-// The pair stands as it was read, and is removed; a second removal of it finds none.
+// The pair is as it was read, and is removed. A second removal of it finds nothing.
 fn removed<F: ComputeFn<u64, u64>, R: Wait + Abort>(
     rt: &R,
     parts: &mut Parts<u64, u64>,
@@ -57,7 +57,7 @@ fn removed<F: ComputeFn<u64, u64>, R: Wait + Abort>(
     Ok(())
 }
 
-// The same value was written anew since the pair was read, so it stays.
+// The same value was written again after the pair was read, so the pair stays.
 fn rewritten<F: ComputeFn<u64, u64>, R: Wait + Abort>(
     rt: &R,
     parts: &mut Parts<u64, u64>,

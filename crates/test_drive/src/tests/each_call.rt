@@ -1,4 +1,4 @@
-//! Each kind of call, driven over both fields, with its reply and the map that it leaves.
+//! Each kind of call, driven over both fields, with its reply and the map after it.
 
 use super::{Plain, answers, value};
 use crate::Beside;
@@ -12,12 +12,12 @@ use std::process::Abort;
 use std::sync::Wait;
 use std::test::Fail;
 
-// Adds 2 to a value, and takes out the pair of one that would be 10 or more.
+// Adds 2 to a value, or removes the pair if the result would be 10 or more.
 fn two_more(value: u64) -> Option<u64> {
     value.checked_add(2).filter(|sum| *sum < 10)
 }
 
-// Parts with a table of 16 bins, beside its number.
+// Returns parts with a table of 16 bins, beside the number of that table.
 pub(super) fn beside_sixteen(alloc: Global) -> Result<Beside<u64, u64>, Fail> {
     let mut parts = Parts::new(alloc)?;
     parts.open(4)?;
@@ -41,7 +41,7 @@ fn each_call_beside_a_start(rt: HostRuntime) -> Result<(), Fail> {
     Ok(())
 }
 
-// Each of the nine kinds of call, on an empty map.
+// Makes each of the nine kinds of call, on an empty map.
 fn each_call<F: ComputeFn<u64, u64> + Copy, X: Field<u64, u64, Global>, R: Wait + Abort>(
     rt: &R,
     field: &mut X,
@@ -54,7 +54,7 @@ fn each_call<F: ComputeFn<u64, u64> + Copy, X: Field<u64, u64, Global>, R: Wait 
     removals(rt, field, change);
 }
 
-// No call finds the key 3, and none of these puts it.
+// No call finds the key 3, and none of these calls inserts it.
 fn absent_key<F: ComputeFn<u64, u64> + Copy, X: Field<u64, u64, Global>, R: Wait + Abort>(
     rt: &R,
     field: &mut X,
@@ -72,7 +72,7 @@ fn absent_key<F: ComputeFn<u64, u64> + Copy, X: Field<u64, u64, Global>, R: Wait
     answers::<F, _, _, _>(rt, field, OwnedCall::Get(3), value(None));
 }
 
-// The keys 3 and 19, which share a bin of 16, have the values 8 and 7 then.
+// Afterwards, the keys 3 and 19, which share a bin of 16, have the values 8 and 7.
 fn present_key<F: ComputeFn<u64, u64> + Copy, X: Field<u64, u64, Global>, R: Wait + Abort>(
     rt: &R,
     field: &mut X,
@@ -109,7 +109,7 @@ fn present_key<F: ComputeFn<u64, u64> + Copy, X: Field<u64, u64, Global>, R: Wai
     answers::<F, _, _, _>(rt, field, OwnedCall::Get(19), value(Some(7)));
 }
 
-// Both are taken out again, the one by its function.
+// Both keys are removed again, one of them by its function.
 fn removals<F: ComputeFn<u64, u64> + Copy, X: Field<u64, u64, Global>, R: Wait + Abort>(
     rt: &R,
     field: &mut X,

@@ -13,7 +13,7 @@ use std::process::Abort;
 use std::sync::Wait;
 use std::test::Fail;
 
-// Puts the keys 0 to 99 and finds each, and the key 100 not.
+// Inserts the keys 0 to 99, and checks that each of them is found and that the key 100 is not.
 fn hundred_keys<F: ComputeFn<u64, u64>, X: Field<u64, u64, Global>, R: Wait + Abort>(
     rt: &R,
     field: &mut X,
@@ -40,7 +40,7 @@ fn hundred_keys_over_own_parts(rt: HostRuntime) -> Result<(), Fail> {
     Ok(())
 }
 
-// The start stays at the table of 16 bins, which is left long before the end.
+// The start stays at the table of 16 bins, which the map leaves long before the end.
 #[test]
 fn hundred_keys_beside_a_start(rt: HostRuntime) -> Result<(), Fail> {
     let mut field = beside_sixteen(rt.alloc())?;

@@ -1,4 +1,4 @@
-//! Each request of a driven insertion, refused in turn.
+//! Each request of a driven insertion fails in turn.
 
 use super::{Plain, reply_of, same, value};
 use flurry_slots::{ComputeFn, NoFn};
@@ -12,7 +12,8 @@ use std::test::Fail;
 
 type Memory = &'static Metered<Global>;
 
-// The reply of an insertion whose request numbered k is refused, then of a look-up with memory enough, and whether one was refused.
+// Returns the reply of an insertion whose request numbered `k` fails, the reply of a look-up with enough memory, and whether that request
+// was made.
 fn insertion<F: ComputeFn<u64, u64>, R: Wait + Abort>(
     rt: &R,
     memory: Memory,
@@ -30,7 +31,7 @@ fn insertion<F: ComputeFn<u64, u64>, R: Wait + Abort>(
     Ok((reply, reply_of(rt, &mut parts, look), refused))
 }
 
-// A table, the key, the value and the node: a call that was refused one of them leaves the empty map.
+// The requests are for a table, the key, the value and the node. If one of them fails, the map is empty afterwards.
 #[test]
 fn refused_insertions(rt: HostRuntime) -> Result<(), Fail> {
     let memory = Metered::leaked(rt.alloc())?;

@@ -11,7 +11,7 @@ use std::process::Abort;
 use std::sync::Wait;
 use std::test::Fail;
 
-// Puts the keys 0 to 39, which grow a table of 16 bins.
+// Inserts the keys 0 to 39, by which a table of 16 bins grows.
 fn forty_keys<F: ComputeFn<u64, u64>, X: Field<u64, u64, Global>, R: Wait + Abort>(
     rt: &R,
     field: &mut X,
@@ -24,7 +24,7 @@ fn forty_keys<F: ComputeFn<u64, u64>, X: Field<u64, u64, Global>, R: Wait + Abor
     }
 }
 
-// Sees that each of these keys has itself as its value, or that none is there.
+// Asserts that each of these keys has itself as its value if `there` is `true`, and is absent if it is `false`.
 fn each_key<F: ComputeFn<u64, u64>, X: Field<u64, u64, Global>, R: Wait + Abort>(
     rt: &R,
     field: &mut X,
@@ -39,7 +39,7 @@ fn each_key<F: ComputeFn<u64, u64>, X: Field<u64, u64, Global>, R: Wait + Abort>
     }
 }
 
-// A walk leaves the pairs of many bins, and a clear leaves none of them; a key is put anew then.
+// A walk leaves the pairs of many bins, and a clear removes them all. Then a key is inserted again.
 fn walked_and_cleared<F: ComputeFn<u64, u64>, X: Field<u64, u64, Global>, R: Wait + Abort>(
     rt: &R,
     field: &mut X,

@@ -7,9 +7,9 @@ use flurry_steps::{Party, act};
 use std::alloc::Allocator;
 use std::sync::Wait;
 
-// A key or a value that has a number.
+// A key or a value with a number.
 pub(super) trait Numbered {
-    // The one of that number.
+    // Returns the key or the value with this number.
     fn of(number: u64) -> Self;
 }
 
@@ -19,7 +19,7 @@ impl Numbered for u64 {
     }
 }
 
-// Does the steps of a call until it is done, and answers its reply.
+// Does the steps of a call until it is done, and returns its reply.
 fn reply_of<K: Ord + Drop, V: Drop, A: Allocator + Copy, F: ComputeFn<K, V>, R: Wait>(
     rt: &R,
     locks: &Locks<K, V, A>,
@@ -42,7 +42,7 @@ fn reply_of<K: Ord + Drop, V: Drop, A: Allocator + Copy, F: ComputeFn<K, V>, R: 
     unreachable!()
 }
 
-// Puts in the pairs of these numbers, each with its number as its hash.
+// Inserts the pairs of the numbers from `from` to `to`, each with its number as its hash.
 pub(super) fn put_all<K: Ord + Drop + Numbered, V: Drop + Numbered, A: Allocator + Copy, R: Wait>(
     rt: &R,
     locks: &Locks<K, V, A>,
@@ -55,7 +55,7 @@ pub(super) fn put_all<K: Ord + Drop + Numbered, V: Drop + Numbered, A: Allocator
     }
 }
 
-// How many of the pairs of these numbers are there.
+// Returns how many of the pairs of the numbers from `from` to `to` are present.
 pub(super) fn count_found<K: Ord + Drop + Numbered, V: Drop, A: Allocator + Copy, R: Wait>(
     rt: &R,
     locks: &Locks<K, V, A>,

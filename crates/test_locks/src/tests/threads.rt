@@ -1,4 +1,4 @@
-//! Threads that own locks, or that share them.
+//! Threads that own locks, and threads that share them.
 
 use super::calls::{Numbered, count_found, put_all};
 use flurry_locks::Locks;
@@ -7,7 +7,7 @@ use std::sync::Wait;
 use std::thread;
 use std::thread::Threads;
 
-// Puts pairs in by several threads at once, each of which has numbers of its own, so many for each thread.
+// Inserts pairs in four threads at the same time, `each` pairs in every thread, where each thread has its own numbers.
 pub(super) fn put_in_threads<
     K: Ord + Drop + Numbered + Send + Sync,
     V: Drop + Numbered + Send + Sync,
@@ -25,7 +25,8 @@ pub(super) fn put_in_threads<
     });
 }
 
-// Moves locks into a thread of its own, which counts the pairs of the numbers below this one, and drops the locks.
+// Moves locks into a thread of its own, which counts the pairs of the numbers below `below` and drops the locks. Returns `None` if the
+// thread cannot be started.
 pub(super) fn count_in_thread<
     K: Ord + Drop + Numbered + Send + Sync,
     V: Drop + Send + Sync,

@@ -1,6 +1,6 @@
 //! Each call once, in one thread.
 //!
-//! A test makes a map and lends it to the calls: a body that owns a map has a proof of its drop at each way out.
+//! A test creates a map and passes it to the calls by reference, because a body that owns a map has a proof of its drop at each way out.
 
 use super::{number_at, same, taken};
 use flurry_map::HashMap;
@@ -12,7 +12,7 @@ use std::test::Fail;
 
 type Numbers = HashMap<u64, u64, LowHashBuilder>;
 
-// The map of 1 at key 10 and 2 at key 20.
+// Returns the map with the value 1 at key 10 and the value 2 at key 20.
 fn two_pairs<R: Wait + AllocGlobal>(rt: &R) -> Result<Numbers, Fail> {
     let map = HashMap::with_hasher(rt.alloc(), LowHashBuilder);
     map.insert(rt, 10, 1)?;
@@ -20,7 +20,7 @@ fn two_pairs<R: Wait + AllocGlobal>(rt: &R) -> Result<Numbers, Fail> {
     Ok(map)
 }
 
-// The numbers of a pair that a call handed out.
+// Returns the numbers of a pair that a call returned.
 fn pair_of(pair: Option<(Arc<u64>, Arc<u64>)>) -> Option<(u64, u64)> {
     pair.map(|pair| (*pair.0, *pair.1))
 }
@@ -39,7 +39,7 @@ fn insertions(rt: HostRuntime) -> Result<(), Fail> {
     inserts(&rt, &two_pairs(&rt)?)
 }
 
-// The value that was put, or the one that stands and the one that was not put.
+// Returns the value that was inserted, or the value that is present and the value that was not inserted.
 fn put_or_kept(answer: Result<Arc<u64>, TryInsertError<u64>>) -> Result<u64, (u64, u64)> {
     match answer {
         Ok(new) => Ok(*new),
@@ -107,7 +107,7 @@ fn computations(rt: HostRuntime) -> Result<(), Fail> {
     computes(&rt, &two_pairs(&rt)?)
 }
 
-// An empty map makes room, and takes a pair then.
+// An empty map makes room, and then takes a pair.
 fn makes_room<R: Abort + Wait>(rt: &R, map: &HashMap<u64, u64>) -> Result<(), Fail> {
     same(rt, map.is_empty(rt), true);
     map.reserve(rt, 100)?;
@@ -116,7 +116,7 @@ fn makes_room<R: Abort + Wait>(rt: &R, map: &HashMap<u64, u64>) -> Result<(), Fa
     Ok(())
 }
 
-// A map that was made with room for five pairs takes a thousand.
+// A map that was created with room for five pairs takes a thousand.
 fn takes_a_thousand<R: Abort + Wait>(rt: &R, map: &HashMap<u64, u64>) -> Result<(), Fail> {
     for key in 0..1000 {
         map.insert(rt, key, key)?;
@@ -125,7 +125,7 @@ fn takes_a_thousand<R: Abort + Wait>(rt: &R, map: &HashMap<u64, u64>) -> Result<
     Ok(())
 }
 
-// A map that is made with room, and one that makes room.
+// Maps that are created with room, and make room.
 #[test]
 fn rooms(rt: HostRuntime) -> Result<(), Fail> {
     for capacity in [0usize, 1, 5, 16, 1000] {
@@ -135,7 +135,7 @@ fn rooms(rt: HostRuntime) -> Result<(), Fail> {
     takes_a_thousand(&rt, &map.with_processors(4))
 }
 
-// Inserts a thousand keys, each of which is new, and removes all.
+// Inserts a thousand keys, each of which is new, and removes them all.
 fn grows_and_clears<R: Abort + Wait>(rt: &R, map: &Numbers) -> Result<(), Fail> {
     for key in 0..1000 {
         same(rt, taken(map.insert(rt, key, key)?), None);
@@ -145,7 +145,7 @@ fn grows_and_clears<R: Abort + Wait>(rt: &R, map: &Numbers) -> Result<(), Fail> 
     Ok(())
 }
 
-// Has none of the thousand keys.
+// Asserts that none of the thousand keys is present.
 fn has_none<R: Abort + Wait>(rt: &R, map: &Numbers) {
     for key in 0..1000 {
         same(rt, map.contains_key(rt, &key), false);
@@ -161,7 +161,7 @@ fn clears_two_pairs<R: Abort + Wait>(rt: &R, map: &Numbers) -> Result<(), Fail> 
     Ok(())
 }
 
-// A clear of a map without a table, of one with two pairs, and of one that has grown.
+// Clears a map without a table, a map with two pairs, and a map that has grown.
 #[test]
 fn clears(rt: HostRuntime) -> Result<(), Fail> {
     let empty: HashMap<u64, u64> = HashMap::new(rt.alloc());

@@ -1,4 +1,4 @@
-//! Which parts the locks lend, and which of them are held together.
+//! The parts that the locks give, and the parts that are held together.
 
 use super::threads::is_set_in_time;
 use super::workers::{count_own, insert_all, remove_even};
@@ -13,7 +13,7 @@ use std::test::Fail;
 use std::thread;
 use std::thread::Threads;
 
-// Holds the bin of key 1 until the flag of another thread is set, and answers whether it was in time.
+// Holds the bin of key 1 until another thread sets `inserted`, and returns whether it did so in time.
 fn hold_bin<S: KeyHasher<u64>, A: Allocator + Copy, R: Wait>(
     rt: &R,
     map: &HashMap<u64, u64, S, A>,
@@ -45,7 +45,7 @@ fn insert_beside<S: KeyHasher<u64>, A: Allocator + Copy, R: Wait>(
     answer.is_ok()
 }
 
-// Both at once.
+// Holds the bin of key 1 and inserts key 2, in two threads at the same time.
 fn hold_and_insert<
     S: KeyHasher<u64> + Sync,
     A: Allocator + Copy + Send + Sync,
@@ -60,7 +60,7 @@ fn hold_and_insert<
     )
 }
 
-// Of two keys in bins of their own, one takes a new value while the bin of the other is held.
+// Two keys are in bins of their own. One of them takes a new value while the bin of the other is held.
 fn holds_two_bins<R: Abort + Threads + Wait + Sync>(
     rt: &R,
     map: &HashMap<u64, u64, LowHashBuilder>,
@@ -87,7 +87,7 @@ enum Phase {
     LookAfter,
 }
 
-// Does that, and answers whether all was as it must be.
+// Does what `phase` says, and returns whether everything was as it must be.
 fn run_phase<S: KeyHasher<u64>, A: Allocator + Copy, R: Wait>(
     rt: &R,
     map: &HashMap<u64, u64, S, A>,
@@ -104,7 +104,7 @@ fn run_phase<S: KeyHasher<u64>, A: Allocator + Copy, R: Wait>(
     }
 }
 
-// Whether of the keys below 100 the odd ones have their own numbers as values, and the even ones are absent.
+// Returns whether, of the keys below 100, the odd ones have themselves as values and the even ones are absent.
 fn has_odd_alone<S: KeyHasher<u64>, A: Allocator + Copy, R: Wait>(
     rt: &R,
     map: &HashMap<u64, u64, S, A>,
@@ -123,7 +123,7 @@ fn has_odd_alone<S: KeyHasher<u64>, A: Allocator + Copy, R: Wait>(
     true
 }
 
-// Does the work in a thread of its own, and answers what it answered; none where it was not done in time.
+// Does a phase in a thread of its own, and returns its result, or `None` if it was not done in time.
 fn in_thread<
     S: KeyHasher<u64> + Send + Sync + Drop + 'static,
     A: Allocator + Copy + Send + Sync + 'static,
@@ -148,7 +148,7 @@ fn in_thread<
     Ok(Some(child.join(&rt)))
 }
 
-// Threads one after another see what those before them did, while the table is doubled four times.
+// Threads that run one after another see what earlier threads did, while the table is doubled four times.
 #[test]
 fn lent_parts(rt: HostRuntime) -> Result<(), Fail> {
     let map = HashMap::with_capacity_and_hasher(rt.alloc(), 10, LowHashBuilder)?.with_processors(2);

@@ -1,4 +1,4 @@
-//! A map of one owner that threads share, and that one owner has again.
+//! An owned map that threads share, and that becomes an owned map again.
 
 use super::workers::{count_own, insert_all, remove_even};
 use super::{same, taken};
@@ -10,7 +10,7 @@ use std::process::Abort;
 use std::sync::{Arc, Wait};
 use std::test::Fail;
 
-// An owned map of the keys below a count, each with its own number.
+// Returns an owned map of the keys below `count`, each with itself as its value.
 fn owned<S: KeyHasher<u64> + Drop>(
     alloc: Global,
     hasher: S,
@@ -23,7 +23,7 @@ fn owned<S: KeyHasher<u64> + Drop>(
     Ok(map)
 }
 
-// How many of the odd keys below a count have their own number in an owned map.
+// Returns how many of the odd keys below `below` have themselves as values in an owned map.
 fn count_odd<S: KeyHasher<u64>>(map: &SeqMap<u64, u64, S>, below: u64) -> u64 {
     let mut own = 0u64;
     for half in 0..below / 2 {
@@ -37,7 +37,7 @@ fn count_odd<S: KeyHasher<u64>>(map: &SeqMap<u64, u64, S>, below: u64) -> u64 {
     own
 }
 
-// The shared map of an owned one.
+// Returns the shared map that an owned map becomes.
 fn shared<S: KeyHasher<u64> + Drop, R: Wait>(
     rt: &R,
     map: SeqMap<u64, u64, S>,
@@ -48,7 +48,7 @@ fn shared<S: KeyHasher<u64> + Drop, R: Wait>(
     }
 }
 
-// Of the keys below a count, half go from the shared map, and one owner has the others.
+// Half of the keys below `count` are removed from the shared map. The owned map that it becomes has the others.
 fn halve_and_own<S: KeyHasher<u64> + Drop, R: Abort + Wait>(
     rt: &R,
     map: HashMap<u64, u64, S>,
@@ -86,7 +86,7 @@ fn a_shared_map_of_an_owned_one_grows(rt: HostRuntime) -> Result<(), Fail> {
     Ok(())
 }
 
-// A further owner of the value of the key 0.
+// Returns a clone of the `Arc` of the value of the key 0.
 fn value_at_0(map: &SeqMap<u64, u64, LowHashBuilder>) -> Result<Arc<u64>, Fail> {
     match map.get(&0) {
         Some(value) => Ok(Arc::try_clone(value)?),
@@ -94,7 +94,7 @@ fn value_at_0(map: &SeqMap<u64, u64, LowHashBuilder>) -> Result<Arc<u64>, Fail> 
     }
 }
 
-// Shares a map, sets the value of the key 0, and owns the map again.
+// Shares a map, sets the value of the key 0, and returns the owned map that it becomes again.
 fn set_while_shared<R: Abort + Wait>(
     rt: &R,
     map: SeqMap<u64, u64, LowHashBuilder>,
@@ -104,7 +104,7 @@ fn set_while_shared<R: Abort + Wait>(
     Ok(map.into_seq(rt)?)
 }
 
-// What was handed out before stays with its owners.
+// A value that was returned before stays with its owner.
 #[test]
 fn a_value_has_its_other_owner_still(rt: HostRuntime) -> Result<(), Fail> {
     let map = owned(rt.alloc(), LowHashBuilder, 1)?;

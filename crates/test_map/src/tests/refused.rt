@@ -1,4 +1,4 @@
-//! Calls of a shared map of which a request for memory is refused.
+//! Calls of a shared map in which a request for memory fails.
 
 use super::same;
 use super::threads::insert_in_threads;
@@ -15,15 +15,15 @@ use std::thread::Threads;
 
 type Memory = &'static Metered<Global>;
 
-// A map of numbers. Its allocator is a parameter, since a proof over `Memory` has to see through it in each step.
+// A map of numbers. Its allocator is a parameter, because a proof over `Memory` would have to unfold it in each step.
 type Numbers<A> = HashMap<u64, u64, LowHashBuilder, A>;
 
 type DefaultNumbers = HashMap<u64, u64, DefaultHashBuilder, Memory>;
 
-// A map of numbers of one owner.
+// An owned map of numbers.
 type Owned<A> = SeqMap<u64, u64, LowHashBuilder, A>;
 
-// A call that may be refused.
+// A call that may fail to allocate memory.
 #[derive(Clone, Copy)]
 enum Call {
     Insert,
@@ -33,7 +33,7 @@ enum Call {
     Reserve,
 }
 
-// Makes the call, of key 99 or of the key 0, and answers whether it was done.
+// Makes the call, of key 99 or of the key 0, and returns whether it succeeded.
 fn is_done<A: Allocator + Copy, R: Wait>(rt: &R, map: &Numbers<A>, call: Call) -> bool {
     match call {
         Call::Insert => map.insert(rt, 99, 1).is_ok(),
@@ -44,7 +44,7 @@ fn is_done<A: Allocator + Copy, R: Wait>(rt: &R, map: &Numbers<A>, call: Call) -
     }
 }
 
-// A map of the keys below a count, each with its own number.
+// Returns a map of the keys below `count`, each with itself as its value.
 fn numbers<A: Allocator + Copy, R: Wait>(
     rt: &R,
     alloc: A,
@@ -57,8 +57,8 @@ fn numbers<A: Allocator + Copy, R: Wait>(
     Ok(map)
 }
 
-// The call with its request numbered k refused, of a map of so many keys in this memory: whether that request was made, whether the call
-// was done, whether the pairs that stood stand, and how many there are.
+// Makes the call while the request numbered `k` fails, on a map of `keys` keys in this memory. Returns whether that request was made,
+// whether the call succeeded, whether the earlier pairs are present, and the number of pairs.
 fn refuse_in<A: Allocator + Copy, R: Wait>(
     rt: &R,
     memory: &Metered<Global>,
@@ -75,7 +75,7 @@ fn refuse_in<A: Allocator + Copy, R: Wait>(
     (refused, done, stand, map.len(rt))
 }
 
-// The same of a map that is made for it.
+// Does the same as `refuse_in`, on a map that is created for the call.
 fn call_without<R: Wait>(
     rt: &R,
     memory: Memory,
@@ -87,7 +87,7 @@ fn call_without<R: Wait>(
     Ok(refuse_in(rt, memory, k, &map, keys, call))
 }
 
-// Each of so many requests of the call is refused in turn, in a map of so many keys: the call is refused, and the pairs stay.
+// Makes each of `requests` requests of the call fail in turn, on a map of `keys` keys: the call fails, and the pairs stay.
 fn refuse_each<R: Abort + Wait>(
     rt: &R,
     memory: Memory,
@@ -119,7 +119,7 @@ fn each_request_of_a_call(rt: HostRuntime) -> Result<(), Fail> {
     refuse_each(&rt, memory, 1, Call::Reserve, 10)
 }
 
-// Where the larger table finds no memory, the insertion is done in the old one.
+// If memory for the larger table cannot be allocated, the insertion is done in the old table.
 #[test]
 fn a_larger_table_of_an_insertion(rt: HostRuntime) -> Result<(), Fail> {
     let memory = Metered::leaked(rt.alloc())?;
@@ -148,7 +148,7 @@ fn a_map_with_room(rt: HostRuntime) -> Result<(), Fail> {
     Ok(())
 }
 
-// The same by the default hasher, which takes no memory.
+// A map with room and the default hasher, which takes no memory.
 #[test]
 fn a_map_with_room_by_default(rt: HostRuntime) -> Result<(), Fail> {
     let memory = Metered::leaked(rt.alloc())?;
@@ -163,7 +163,7 @@ fn a_map_with_room_by_default(rt: HostRuntime) -> Result<(), Fail> {
     Ok(())
 }
 
-// An owned map of three keys, each with its own number.
+// Returns an owned map of three keys, each with itself as its value.
 fn three_keys<A: Allocator + Copy>(alloc: A) -> Result<Owned<A>, AllocError> {
     let mut map = SeqMap::with_hasher(alloc, LowHashBuilder);
     for key in 0..3u64 {
@@ -172,7 +172,7 @@ fn three_keys<A: Allocator + Copy>(alloc: A) -> Result<Owned<A>, AllocError> {
     Ok(map)
 }
 
-// The map that could not be shared has its room and its three keys still.
+// Asserts that the map that could not be shared still has its room and its three keys.
 fn has_three_keys<A: Allocator + Copy>(
     rt: &impl Abort,
     alloc: A,
@@ -184,7 +184,7 @@ fn has_three_keys<A: Allocator + Copy>(
     Ok(())
 }
 
-// An owned map of three keys is to be shared, with the request numbered k refused, and comes back with its pairs.
+// Shares an owned map of three keys while the request numbered `k` fails, and checks that it comes back with its pairs.
 fn share_without<R: Abort + Wait>(rt: &R, memory: Memory, k: u64) -> Result<(), Fail> {
     let map = three_keys(memory)?;
     memory.refuse_at(k);
@@ -196,7 +196,7 @@ fn share_without<R: Abort + Wait>(rt: &R, memory: Memory, k: u64) -> Result<(), 
     }
 }
 
-// Each of the two tables of a shared map is refused.
+// Memory for each of the two tables of a shared map cannot be allocated.
 #[test]
 fn the_tables_of_a_shared_map(rt: HostRuntime) -> Result<(), Fail> {
     let memory = Metered::leaked(rt.alloc())?;
@@ -207,12 +207,12 @@ fn the_tables_of_a_shared_map(rt: HostRuntime) -> Result<(), Fail> {
     Ok(())
 }
 
-// Whether one owner has a map again.
+// Turns a shared map into an owned one, and returns whether that succeeded.
 fn is_owned_again<A: Allocator + Copy, R: Wait>(rt: &R, map: Numbers<A>) -> bool {
     map.into_seq(rt).is_ok()
 }
 
-// The owned map again asks for its table and a node of each pair.
+// The owned map that a shared map becomes requests memory for its table and for a node of each pair.
 #[test]
 fn the_requests_of_an_owned_map_again(rt: HostRuntime) -> Result<(), Fail> {
     let memory = Metered::leaked(rt.alloc())?;
@@ -242,7 +242,7 @@ fn run_out<A: Allocator + Copy + Send + Sync, R: Abort + Threads + Wait + Sync>(
     same(rt, (k, map.len(rt) as u64), (k, there));
 }
 
-// Four threads insert while memory runs out: the pairs that stood stay, and the count is that of the keys which are there.
+// Four threads insert while memory runs out. The earlier pairs stay, and the count is that of the keys that are present.
 #[test]
 fn threads_without_memory(rt: HostRuntime) -> Result<(), Fail> {
     let memory = Metered::leaked(rt.alloc())?;

@@ -10,13 +10,13 @@ use std::test::Fail;
 use std::thread;
 use std::thread::Threads;
 
-// How many text keys there are.
+// The number of text keys.
 const KEYS: usize = 64;
 
-// Each is one sign of these.
+// The signs of the keys. Each key is one of them.
 const SIGNS: &str = "ABCDEFGHIJKLMNOPQRSTUVWXYZabcdefghijklmnopqrstuvwxyz0123456789+/";
 
-// Removes all keys, and answers how many it took out, and how many of these had another value than their place in the list.
+// Removes all keys. Returns how many it removed, and how many of these had a value other than their place in the list.
 fn remove_all<K: Ord + Drop, S: KeyHasher<K>, A: Allocator + Copy, R: Wait>(
     rt: &R,
     map: &HashMap<K, u64, S, A>,
@@ -35,7 +35,7 @@ fn remove_all<K: Ord + Drop, S: KeyHasher<K>, A: Allocator + Copy, R: Wait>(
     (taken, others)
 }
 
-// Two threads remove all keys.
+// Removes all keys in each of two threads.
 fn remove_in_threads<
     K: Ord + Send + Sync + Drop,
     S: KeyHasher<K> + Sync,
@@ -53,7 +53,7 @@ fn remove_in_threads<
     )
 }
 
-// The keys, each of one sign.
+// Returns the keys, each of one sign.
 fn signs<A: Allocator>(alloc: A) -> Result<Vec<&'static str, A>, Fail> {
     let mut keys = Vec::new(alloc);
     for place in 0..KEYS {
@@ -77,7 +77,7 @@ fn insert_all<K: Ord + Drop + Copy, S: KeyHasher<K>, A: Allocator + Copy, R: Wai
     Ok(())
 }
 
-// Has none of these keys, and no other.
+// Asserts that none of these keys is present, and no other.
 fn has_none<K: Ord + Drop, S: KeyHasher<K>, A: Allocator + Copy, R: Abort + Wait>(
     rt: &R,
     map: &HashMap<K, u64, S, A>,
@@ -89,7 +89,7 @@ fn has_none<K: Ord + Drop, S: KeyHasher<K>, A: Allocator + Copy, R: Abort + Wait
     same(rt, map.is_empty(rt), true);
 }
 
-// Inserts all keys, of which two threads remove each once, with its own number.
+// Inserts all keys. Two threads then remove each of them once, with its own number.
 fn come_and_go<R: Abort + Threads + Wait + Sync>(
     rt: &R,
     map: &HashMap<&'static str, u64>,
@@ -102,7 +102,7 @@ fn come_and_go<R: Abort + Threads + Wait + Sync>(
     Ok(())
 }
 
-// Each key is taken out once, with its own number.
+// Each key is removed once, with its own number.
 #[test]
 fn two_threads_remove_the_same_keys(rt: HostRuntime) -> Result<(), Fail> {
     let keys = signs(rt.alloc())?;

@@ -17,7 +17,7 @@ fn takes_a_new_value<R: Abort + Wait>(rt: &R, map: &Words) -> Result<(), Fail> {
     Ok(())
 }
 
-// A present key takes the new value, and the old one is answered.
+// A present key takes the new value, and the old value is returned.
 #[test]
 fn row_01(rt: HostRuntime) -> Result<(), Fail> {
     takes_a_new_value(&rt, &HashMap::new(rt.alloc()))
@@ -47,7 +47,7 @@ fn insert_a_thousand<S: KeyHasher<i32>, R: Abort + Wait>(
     Ok(())
 }
 
-// Has these keys, and no others.
+// Asserts that these keys are present, and no others.
 fn has_a_thousand<S: KeyHasher<i32>, R: Abort + Wait>(rt: &R, map: &HashMap<i32, i32, S>) {
     for key in 0..1000i32 {
         same(rt, (key, map.contains_key(rt, &key)), (key, true));
@@ -67,7 +67,7 @@ fn row_08_with<S: KeyHasher<i32>, R: Abort + Wait>(
     Ok(())
 }
 
-// A thousand signed keys, with one hash for all too.
+// A thousand signed keys, with different hashes and with one hash for all.
 #[test]
 fn row_08(rt: HostRuntime) -> Result<(), Fail> {
     row_08_with(&rt, &HashMap::new(rt.alloc()))?;
@@ -77,7 +77,7 @@ fn row_08(rt: HostRuntime) -> Result<(), Fail> {
 
 const KEYS: u64 = 50_000;
 
-// Inserts all keys, and answers how many of them were new.
+// Inserts all keys, and returns how many of them were new.
 fn insert_all<R: Wait>(rt: &R, map: &HashMap<u64, u64>) -> Result<u64, Fail> {
     let mut new = 0u64;
     for key in 0..KEYS {
@@ -88,7 +88,7 @@ fn insert_all<R: Wait>(rt: &R, map: &HashMap<u64, u64>) -> Result<u64, Fail> {
     Ok(new)
 }
 
-// Removes every second key, from the last but one down, and answers how many were there.
+// Removes every second key, from the last but one down, and returns how many were present.
 fn remove_half<R: Wait>(rt: &R, map: &HashMap<u64, u64>) -> u64 {
     let mut removed = 0u64;
     for half in 1..=KEYS / 2 {
@@ -108,7 +108,7 @@ fn halves_and_fills<R: Abort + Wait>(rt: &R, map: &HashMap<u64, u64>) -> Result<
     Ok(())
 }
 
-// Fifty thousand keys, half of which go and come back.
+// Fifty thousand keys, half of which are removed and inserted again.
 #[test]
 fn row_09(rt: HostRuntime) -> Result<(), Fail> {
     halves_and_fills(&rt, &HashMap::new(rt.alloc()))

@@ -1,4 +1,4 @@
-//! Calls of several threads beside one another.
+//! Calls of several threads at the same time.
 
 use super::workers::{count_missed, count_own, insert_all};
 use super::{TURNS, same};
@@ -11,7 +11,7 @@ use std::test::Fail;
 use std::thread;
 use std::thread::Threads;
 
-// Waits until a flag is set, for a bounded number of turns, and answers whether it was.
+// Waits for a bounded number of turns until a flag is set, and returns whether it was.
 pub(super) fn is_set_in_time(flag: &AtomicBool) -> bool {
     for _ in 0..TURNS {
         if flag.load(Ordering::SeqCst) {
@@ -22,7 +22,7 @@ pub(super) fn is_set_in_time(flag: &AtomicBool) -> bool {
     false
 }
 
-// Inserts keys in several threads, so many in each: those of a thread begin at its number times the distance.
+// Inserts `each` keys in each of `threads` threads. The first key of a thread is its number times `distance`.
 pub(super) fn insert_in_threads<
     S: KeyHasher<u64> + Sync,
     A: Allocator + Copy + Send + Sync,
@@ -61,7 +61,7 @@ fn four_threads_insert_keys_of_one_hash(rt: HostRuntime) -> Result<(), Fail> {
     Ok(())
 }
 
-// Inserts 64 keys, waits for the other thread to have done so, and answers how many of its keys are found.
+// Inserts 64 keys, waits until the other thread has done so, and returns how many of its keys are found.
 fn insert_and_read<S: KeyHasher<u64>, A: Allocator + Copy, R: Wait>(
     rt: &R,
     map: &HashMap<u64, u64, S, A>,
@@ -76,7 +76,7 @@ fn insert_and_read<S: KeyHasher<u64>, A: Allocator + Copy, R: Wait>(
     count_own(rt, map, other.0, other.0.saturating_add(64))
 }
 
-// Two threads insert 64 keys each; then each reads those of the other, and answers how many it found.
+// Two threads insert 64 keys each. Then each thread reads the keys of the other one, and returns how many it found.
 fn insert_and_read_in_threads<
     S: KeyHasher<u64> + Sync,
     A: Allocator + Copy + Send + Sync,
@@ -102,7 +102,7 @@ fn two_threads_read_each_other(rt: HostRuntime) -> Result<(), Fail> {
     Ok(())
 }
 
-// Makes room, and then inserts so many keys from 16 on.
+// Makes room, and then inserts `keys` keys from 16 on.
 fn grow<S: KeyHasher<u64>, A: Allocator + Copy, R: Wait>(
     rt: &R,
     map: &HashMap<u64, u64, S, A>,
@@ -113,7 +113,8 @@ fn grow<S: KeyHasher<u64>, A: Allocator + Copy, R: Wait>(
     insert_all(rt, map, 16, keys.saturating_add(16));
 }
 
-// Looks in eight threads for the keys below 16, 512 times in each, while a ninth makes the map larger. Answers how often one was missed.
+// Looks for the keys below 16 in eight threads, 512 times in each, while a ninth thread makes the map larger. Returns how often a key was
+// missed.
 fn look_while_it_grows<
     S: KeyHasher<u64> + Sync,
     A: Allocator + Copy + Send + Sync,
@@ -145,7 +146,7 @@ fn eight_threads_look_while_a_ninth_makes_room(rt: HostRuntime) -> Result<(), Fa
     Ok(())
 }
 
-// Look-ups that begin at a table that is old by the time they look.
+// Look-ups that start at a table that is old by the time they look.
 #[test]
 fn eight_threads_look_while_a_ninth_inserts(rt: HostRuntime) -> Result<(), Fail> {
     let map = HashMap::new(rt.alloc()).with_processors(4);
@@ -158,7 +159,8 @@ fn eight_threads_look_while_a_ninth_inserts(rt: HostRuntime) -> Result<(), Fail>
     Ok(())
 }
 
-// Moves a map into a thread of its own, which counts the keys below this one and drops the map.
+// Moves a map into a thread of its own, which counts the keys below `below` and drops the map. Returns `None` if the thread cannot be
+// started.
 fn count_in_thread<
     S: KeyHasher<u64> + Send + Sync + Drop,
     A: Allocator + Copy + Send + Sync,

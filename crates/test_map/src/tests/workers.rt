@@ -6,7 +6,8 @@ use std::alloc::Allocator;
 use std::sync::Wait;
 use std::sync::atomic::{AtomicU64, Ordering};
 
-// Inserts the keys from the first one on to the last but one, each with its own number, and answers how many were refused.
+// Inserts the keys from `from` to `to`, without `to`, each with itself as its value. Returns for how many of them memory could not be
+// allocated.
 pub(super) fn insert_all<S: KeyHasher<u64>, A: Allocator + Copy, R: Wait>(
     rt: &R,
     map: &HashMap<u64, u64, S, A>,
@@ -22,7 +23,7 @@ pub(super) fn insert_all<S: KeyHasher<u64>, A: Allocator + Copy, R: Wait>(
     refused
 }
 
-// How many of these keys have their own number as their value.
+// Returns how many of the keys from `from` to `to` have themselves as values.
 pub(super) fn count_own<S: KeyHasher<u64>, A: Allocator + Copy, R: Wait>(
     rt: &R,
     map: &HashMap<u64, u64, S, A>,
@@ -40,7 +41,7 @@ pub(super) fn count_own<S: KeyHasher<u64>, A: Allocator + Copy, R: Wait>(
     own
 }
 
-// Looks so many times for the keys below this one, in their order, and counts how often one was missed.
+// Looks `times` times for the keys below `below`, in their order, and counts how often one was missed.
 pub(super) fn count_missed<S: KeyHasher<u64>, A: Allocator + Copy, R: Wait>(
     rt: &R,
     map: &HashMap<u64, u64, S, A>,
@@ -56,7 +57,7 @@ pub(super) fn count_missed<S: KeyHasher<u64>, A: Allocator + Copy, R: Wait>(
     }
 }
 
-// Removes the even keys below this one, and answers how many were there with their own number as their value.
+// Removes the even keys below `below`, and returns how many were present with themselves as values.
 pub(super) fn remove_even<S: KeyHasher<u64>, A: Allocator + Copy, R: Wait>(
     rt: &R,
     map: &HashMap<u64, u64, S, A>,

@@ -9,14 +9,14 @@ use flurry_seq::SeqMap;
 use std::alloc::AllocError;
 use std::process::Abort;
 
-// That the clones of numbers equal them is known here with no proof.
+// It is known here without a proof that the clones of numbers equal the numbers.
 fn listed(map: &SeqMap<u64, u64, LowHashBuilder>) -> Result<SortedPairs<u64, u64>, AllocError>
     ensures pairs { IfOk result (λ list. list.0.items ≡ map.now.pairs) }
 {
     to_sorted_pairs(map)
 }
 
-// Why no map is made of pairs.
+// Returns why no map is made of pairs.
 fn fault<const N: usize>(
     rt: &(impl Abort + AllocGlobal),
     pairs: [(u64, u64); N],
@@ -69,7 +69,7 @@ fn any_order_is_read(rt: HostRuntime) {
     same(&rt, map == map_of(&rt, [(0, 0), (1, 10), (2, 20)]), true);
 }
 
-// Sees to the text of a fault.
+// Checks the text of a fault.
 fn prints(rt: &(impl Abort + AllocGlobal), fault: FromPairsError, wanted: &str) {
     let text = format!(in rt.alloc(); "{fault}").expect(rt, "memory for the text");
     same(rt, text.as_str(), wanted);

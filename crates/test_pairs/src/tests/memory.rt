@@ -1,4 +1,4 @@
-//! Each request for memory, refused in turn. A call that is refused gives back all that it took.
+//! Each request for memory fails in turn. A call that fails deallocates all that it has allocated.
 
 use super::same;
 use flurry_model::hash::LowHashBuilder;
@@ -18,16 +18,16 @@ type ListMap = SeqMap<u64, Vec<u64, Memory>, LowHashBuilder, Memory>;
 
 type NumberSet = SeqSet<u64, LowHashBuilder, Memory>;
 
-// No call makes so many requests.
+// More requests than any call makes.
 const MOST_REQUESTS: u64 = 100;
 
-// A call whose requests are refused in turn.
+// A call whose requests fail in turn.
 trait Refused {
-    // Makes the call with the request numbered k refused, sees to what it did, and answers whether it made that request.
+    // Makes the call while the request numbered `k` fails, checks what it did, and returns whether it made that request.
     fn once(&self, rt: &impl Abort, memory: Memory, k: u64) -> bool;
 }
 
-// Refuses each request of a call in turn. It makes at least one, and each block comes back.
+// Makes each request of a call fail in turn. The call makes at least one request, and every block is deallocated.
 fn refuse_each<C: Refused>(rt: &impl Abort, alloc: Global, call: &C) {
     let memory = Metered::leaked(alloc).expect(rt, "memory for the allocator");
     for k in 0..MOST_REQUESTS {
@@ -41,7 +41,7 @@ fn refuse_each<C: Refused>(rt: &impl Abort, alloc: Global, call: &C) {
     panic!(rt; "it makes fewer requests");
 }
 
-// The pairs of a map, each value a list of its key.
+// Returns a map of three pairs, in which each value is a list of its key.
 fn lists(rt: &impl Abort, memory: Memory) -> ListMap {
     let mut map = SeqMap::with_hasher(memory, LowHashBuilder);
     for key in 0..3u64 {
@@ -51,7 +51,7 @@ fn lists(rt: &impl Abort, memory: Memory) -> ListMap {
     map
 }
 
-// The list of a map of three pairs.
+// The making of the list of a map of three pairs.
 struct ListsPairs;
 
 impl Refused for ListsPairs {
@@ -71,7 +71,7 @@ fn pairs_of_a_map(rt: HostRuntime) {
     refuse_each(&rt, rt.alloc(), &ListsPairs);
 }
 
-// A map of three pairs.
+// The making of a map of three pairs.
 struct MakesMap;
 
 impl Refused for MakesMap {
@@ -99,7 +99,7 @@ fn a_map_of_pairs(rt: HostRuntime) {
     refuse_each(&rt, rt.alloc(), &MakesMap);
 }
 
-// The list of a set of three elements.
+// The making of the list of a set of three elements.
 struct ListsElements;
 
 impl Refused for ListsElements {
@@ -122,7 +122,7 @@ fn elements_of_a_set(rt: HostRuntime) {
     refuse_each(&rt, rt.alloc(), &ListsElements);
 }
 
-// A set of two elements, one of which comes twice.
+// The making of a set of two elements, one of which comes twice.
 struct MakesSet;
 
 impl Refused for MakesSet {

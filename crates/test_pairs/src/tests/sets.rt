@@ -9,14 +9,14 @@ use flurry_set::SeqSet;
 use std::alloc::AllocError;
 use std::process::Abort;
 
-// That the clones of numbers equal them is known here with no proof.
+// It is known here without a proof that the clones of numbers equal the numbers.
 fn listed(set: &SeqSet<u64, LowHashBuilder>) -> Result<SortedItems<u64>, AllocError>
     ensures elements { IfOk result (λ list. list.0.items ≡ set.now.elements) }
 {
     to_sorted_items(set)
 }
 
-// A list of elements.
+// Returns a list of elements.
 fn list_of<const N: usize>(
     rt: &(impl Abort + AllocGlobal),
     elements: [u64; N],

@@ -10,22 +10,22 @@ use flurry_set::SeqSet;
 use std::alloc::Global;
 use std::process::Abort;
 
-// Whether a text is no list of pairs of numbers.
+// Whether a text is not a list of pairs of numbers.
 fn is_no_list(alloc: Global, text: &str) -> bool {
     serde_json::from_str::<SortedPairs<u64, u64>>(alloc, text).is_err()
 }
 
-// The list of a map's pairs.
+// Returns the list of a map's pairs.
 fn listed(rt: &impl Abort, map: &SeqMap<u64, u64, LowHashBuilder>) -> SortedPairs<u64, u64> {
     to_sorted_pairs(map).expect(rt, "memory for the list")
 }
 
-// The text of a list.
+// Returns the text of a list.
 fn text_of(rt: &impl Abort, alloc: Global, list: &SortedPairs<u64, u64>) -> String {
     serde_json::to_string(alloc, list).expect(rt, "a text")
 }
 
-// The list of a text.
+// Returns the list that a text gives.
 fn read(rt: &impl Abort, alloc: Global, text: &str) -> SortedPairs<u64, u64> {
     serde_json::from_str(alloc, text).expect(rt, "a list")
 }
@@ -64,7 +64,7 @@ fn malformed_texts(rt: HostRuntime) {
     same(&rt, is_no_list(rt.alloc(), "{\"0\":4}"), true);
 }
 
-// The set of a text.
+// Returns the set that a text gives.
 fn read_set(rt: &impl Abort, alloc: Global, text: &str) -> SeqSet<u64, LowHashBuilder> {
     let read: SortedItems<u64> = serde_json::from_str(alloc, text).expect(rt, "a list");
     from_items(read, LowHashBuilder).expect(rt, "memory for the set")
@@ -78,7 +78,7 @@ fn a_set_through_text(rt: HostRuntime) {
     same(&rt, text.as_str(), "[1,2]");
 }
 
-// The same, read from a value and not from a text.
+// Lists that are read from values instead of texts.
 #[test]
 fn lists_from_values(rt: HostRuntime) {
     let value = serde_json::from_str(rt.alloc(), "[[2,1],[0,0]]").expect(&rt, "a value");

@@ -1,7 +1,7 @@
-//! Each request for memory, refused in turn.
+//! Each request for memory fails in turn.
 //!
-//! How a list is cut among the threads may differ from run to run, and with it how many requests are made: each case ends with the
-//! first run in which the request was not made.
+//! How a list is cut among the threads may differ from run to run, and so may the number of requests. Each case ends with the first run in
+//! which the request was not made.
 
 mod sets;
 
@@ -19,10 +19,10 @@ type Memory = &'static Metered<Global>;
 
 type Numbers = SeqMap<u64, u64, LowHashBuilder, Memory>;
 
-// No call makes so many requests.
+// More requests than any call makes.
 const MOST_REQUESTS: u64 = 200;
 
-// A call whose requests are refused in turn; of those that change a map or a set, how many pairs or elements it has before.
+// A call whose requests fail in turn. A call that changes a map or a set has the number of its pairs or elements before the call.
 #[derive(Clone, Copy)]
 enum Call {
     Builds,
@@ -32,8 +32,8 @@ enum Call {
     ExtendsSet { old: u64 },
 }
 
-// Makes the call with the request numbered k refused, or that one and all after it, sees to what it did, and answers whether it made
-// that request.
+// Makes the call while the request numbered `k` fails, or that request and all later ones. Checks what the call did, and returns whether it
+// made that request.
 fn make(
     rt: &(impl Abort + Threads + Sync),
     memory: Memory,
@@ -50,7 +50,8 @@ fn make(
     }
 }
 
-// Refuses each request of a call in turn, alone or with all after it. It makes at least one, and each block comes back.
+// Makes each request of a call fail in turn, alone or with all later ones. The call makes at least one request, and every block is
+// deallocated.
 fn refuse_in_turn(
     rt: &(impl Abort + Threads + Sync),
     memory: Memory,
@@ -68,14 +69,14 @@ fn refuse_in_turn(
     Err(Fail::from("it makes fewer requests"))
 }
 
-// Does both.
+// Makes each request fail, alone and with all later ones.
 fn refuse_each(rt: &(impl Abort + Threads + Sync), alloc: Global, call: Call) -> Result<(), Fail> {
     let memory = Metered::leaked(alloc)?;
     refuse_in_turn(rt, memory, call, false)?;
     refuse_in_turn(rt, memory, call, true)
 }
 
-// From now on the request numbered k is refused, or that one and all after it.
+// Makes the request numbered `k` fail from now on, or that request and all later ones.
 fn refuse(memory: Memory, k: u64, all: bool) {
     if all {
         memory.refuse_from(k);
@@ -84,7 +85,7 @@ fn refuse(memory: Memory, k: u64, all: bool) {
     }
 }
 
-// The keys from `from` on, each with its own value and `add`.
+// Returns a list of `count` keys from `from` on. The value of a key is the key plus `add`.
 fn list(
     memory: Memory,
     from: u64,
@@ -103,7 +104,8 @@ fn numbers(memory: Memory, count: u64) -> Result<Numbers, AllocError> {
     SeqMap::from_list(memory, list(memory, 0, count, 0)?, LowHashBuilder)
 }
 
-// The keys below `old`, each its own value; with the new pairs also the keys 2 to 7, whose new values stand.
+// Asserts that the map has the keys below `old`, each with itself as its value. If `new` is `true`, it also has the keys 2 to 7 with their
+// new values.
 fn holds(rt: &impl Abort, map: &Numbers, old: u64, new: bool) {
     let mut count = 0usize;
     for key in 0..8u64 {
@@ -122,14 +124,14 @@ fn holds(rt: &impl Abort, map: &Numbers, old: u64, new: bool) {
     same(rt, map.len(), count);
 }
 
-// A building ends well where nothing was refused, and fails where its first request was. Between them a request may be one that
+// Asserts that a building succeeds if no request failed, and fails if its first request did. If a later request failed, it may be one that
 // `rayon` does without.
 fn refused_or_done(rt: &impl Abort, k: u64, refused: bool, done: bool) {
     same(rt, (k, refused || done), (k, true));
     same(rt, (k, done && k == 0), (k, false));
 }
 
-// Makes a map of three pieces of a list.
+// Makes a map from three pieces of a list.
 fn build(
     rt: &(impl Abort + Threads + Sync),
     memory: Memory,
@@ -153,8 +155,8 @@ fn from_par_list(rt: HostRuntime) -> Result<(), Fail> {
     refuse_each(&rt, rt.alloc(), Call::Builds)
 }
 
-// Puts the list into a map of so many pairs. One with a table is refused by the building alone, and one without may be refused where
-// it joins, before its first pair: either is left as it was.
+// Extends a map of `old` pairs by the list. If the map has a table, only the building can fail. If it has none, joining may also fail,
+// before the first pair. In either case the map is unchanged.
 fn extend(
     rt: &(impl Abort + Threads + Sync),
     memory: Memory,
@@ -179,7 +181,7 @@ fn par_extend(rt: HostRuntime) -> Result<(), Fail> {
     refuse_each(&rt, rt.alloc(), Call::Extends { old: 0 })
 }
 
-// Joins another map to one of so many pairs. Only one without a table is refused, where all its requests are, and is left as it was.
+// Joins another map to a map of `old` pairs. This fails only if the map has no table and all requests fail, and the map is then unchanged.
 fn join_to(
     rt: &impl Abort,
     memory: Memory,

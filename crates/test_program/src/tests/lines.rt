@@ -10,7 +10,7 @@ use std::alloc::Global;
 use std::io;
 use std::test::Fail;
 
-// The key of a command that has one.
+// Returns the key of a command, if it has one.
 fn key_in(line: &[u8]) -> Option<u64> {
     match parse(line)? {
         Command::Insert(key, _) | Command::Try(key, _) => Some(key),
@@ -19,7 +19,7 @@ fn key_in(line: &[u8]) -> Option<u64> {
     }
 }
 
-// How many steps a line of a schedule asks for.
+// Returns the number of steps that a line of a schedule asks for.
 fn steps_in(line: &[u8]) -> Option<u64> {
     match parse_line(line)? {
         Line::Step(_, steps) => Some(steps),
@@ -27,7 +27,7 @@ fn steps_in(line: &[u8]) -> Option<u64> {
     }
 }
 
-// The first of these bytes, read through a buffer.
+// Returns the first of some bytes, read through a buffer.
 fn first_byte(alloc: Global, bytes: &[u8]) -> io::Result<Option<u8>> {
     let mut input = Input::new(alloc, bytes)?;
     input.read_byte()
@@ -47,13 +47,13 @@ fn has_line_feed<R: Source>(reader: &mut R) -> io::Result<bool> {
     }
 }
 
-// Writes a number as a line, and holds nothing back.
+// Writes a number as a line, and flushes it.
 fn write_number<W: Sink>(writer: &mut W, number: u64) -> io::Result<()> {
     writer.write_line(format_args!("some {number}"))?;
     writer.flush()
 }
 
-// A line that was written through a buffer.
+// Returns a line that was written through a buffer.
 fn written_line(alloc: Global, number: u64) -> io::Result<Output<Vec<u8>>> {
     let mut output = Output::new(alloc, Vec::new(alloc))?;
     write_number(&mut output, number)?;

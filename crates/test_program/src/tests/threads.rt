@@ -6,7 +6,7 @@ use std::process::Abort;
 use std::sync::Wait;
 use std::thread::Threads;
 
-// So many threads, with so many keys each, leave a map of that length.
+// Asserts that `threads` threads with `keys` keys each leave a map of the length `length`.
 fn leave(
     rt: &(impl Abort + AllocGlobal + Threads + Wait + Sync),
     threads: &str,

@@ -1,4 +1,4 @@
-//! What was answered is written out before a read that may wait.
+//! Answers are flushed before a read that may wait.
 
 use super::same;
 use flurry_program::{Input, Output, run_words};
@@ -8,7 +8,7 @@ use std::process::Abort;
 use std::sync::Wait;
 use std::thread::Threads;
 
-/// A reader that gives a piece at each read, and knows how many bytes are to be written out before it.
+/// A reader that gives one piece at each read, and knows how many bytes must have been flushed before it.
 #[derive(Drop)]
 struct Pieces<'a> {
     pieces: &'a [(usize, &'a [u8])],
@@ -31,7 +31,7 @@ impl Read for Pieces<'_> {
     }
 }
 
-/// A writer that counts what is written out.
+/// A writer that counts the bytes that are written to it.
 #[derive(Drop)]
 struct Counts<'a>(&'a Cell<usize>);
 
@@ -46,7 +46,7 @@ impl Write for Counts<'_> {
     }
 }
 
-// Each piece is read once so many bytes are written out.
+// Asserts that each piece is read when its number of bytes has been flushed.
 fn writes_before(
     rt: &(impl Abort + AllocGlobal + Threads + Wait + Sync),
     word: &str,

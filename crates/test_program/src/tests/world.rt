@@ -4,7 +4,7 @@ use super::{output, same};
 use flurry_program::world_lines;
 use std::process::Abort;
 
-// The lines end in the status, and are answered by so much.
+// Asserts that the run of the lines ends with `status` and has written `want`.
 fn answers(rt: &(impl Abort + AllocGlobal), lines: &[u8], status: u8, want: &[u8]) {
     let mut lines = lines;
     let mut output = output(rt);
@@ -169,7 +169,7 @@ fn bad_first_lines(rt: HostRuntime) {
     }
 }
 
-// The line is bad after a call began.
+// Asserts that the line is bad after a call began.
 fn is_bad(rt: &(impl Abort + AllocGlobal), line: &[u8]) {
     let mut lines = Vec::new(rt.alloc());
     lines

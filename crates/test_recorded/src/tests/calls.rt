@@ -6,7 +6,7 @@ use flurry_recorded::{Book, CloseFault, KeptCall, KeptReply};
 use std::process::Abort;
 use std::sync::Wait;
 
-// Makes the calls that look, where the key 7 has the value 0.
+// Makes the calls that look up, where the key 7 has the value 0.
 fn look<R: Wait + Abort>(rt: &R, map: &Numbers, share: &mut NumberShare) {
     same(rt, map.get(rt, share, 7), Ok(reply(Some(0))));
     let pair = map.get_key_value(rt, share, 7);

@@ -6,7 +6,7 @@ use flurry_recorded::CloseFault;
 use std::process::Abort;
 use std::sync::Wait;
 
-// Inserts at the key 7, and sees to the value that stood there.
+// Sets the value of the key 7, and checks the value that it had.
 fn insert<R: Wait + Abort>(
     rt: &R,
     map: &Numbers,
@@ -17,12 +17,12 @@ fn insert<R: Wait + Abort>(
     same(rt, map.insert(rt, share, 7, value), Ok(reply(old)));
 }
 
-// Looks at the key 7, and sees to its value.
+// Looks up the key 7, and checks its value.
 fn look<R: Wait + Abort>(rt: &R, map: &Numbers, share: &mut NumberShare, value: u64) {
     same(rt, map.get(rt, share, 7), Ok(reply(Some(value))));
 }
 
-// By a first share `insert(7, 0)`, by a second `insert(7, 1)`, and by the first again `get(7)`.
+// Makes `insert(7, 0)` for a first share, `insert(7, 1)` for a second one, and `get(7)` for the first one again.
 fn three_calls<R: Wait + Abort>(rt: &R, map: &Numbers) -> (NumberShare, NumberShare) {
     let mut first = share_of(rt, map);
     let mut second = share_of(rt, map);
@@ -32,7 +32,7 @@ fn three_calls<R: Wait + Abort>(rt: &R, map: &Numbers) -> (NumberShare, NumberSh
     (first, second)
 }
 
-// By one share `insert(7, 0)`, and then `get(7)` twice.
+// Makes `insert(7, 0)` and then `get(7)` twice, all for one share.
 fn insert_and_look_twice<R: Wait + Abort>(rt: &R, map: &Numbers) -> NumberShare {
     let mut share = share_of(rt, map);
     insert(rt, map, &mut share, 0, None);
@@ -55,7 +55,7 @@ fn a_share_is_missing(rt: HostRuntime) {
     ends(&rt, map, [first], Err(CloseFault::SharesDiffer));
 }
 
-// A share that made no call belongs to the map as the others do.
+// A share that made no call belongs to the map as the other shares do.
 #[test]
 fn a_share_without_a_receipt_is_missing(rt: HostRuntime) {
     let map = Numbers::with_hasher(rt.alloc(), LowHashBuilder);

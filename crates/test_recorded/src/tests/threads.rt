@@ -45,7 +45,7 @@ fn make_calls_in_threads<
     )
 }
 
-// A map's two shares, each with the calls of a thread.
+// Returns the two shares of a map, each with the calls of one thread.
 fn shares_of_threads<R: Threads + Wait + Sync + Abort>(
     rt: &R,
     map: &Numbers,

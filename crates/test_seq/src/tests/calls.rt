@@ -1,4 +1,4 @@
-//! The calls that no row names, and the calls as values.
+//! The calls that no row names, and calls as values.
 
 use super::{insert_new, lent, puts, queue_of, same, same_at, taken};
 use flurry_bins::bin::{Ordered, Shape};
@@ -85,17 +85,17 @@ fn clear_and_into_bins(rt: HostRuntime) {
     same(&rt, bins[2].len(), 0);
 }
 
-// What the calls as values pass to `compute_if_present`.
+// The function that the calls as values pass to `compute_if_present`.
 fn up_to_nine(_key: &u64, value: &u64) -> Option<u64> {
     if *value < 9 { Some(*value + 1) } else { None }
 }
 
-// What the calls as values pass to `retain` and `retain_force`.
+// The function that the calls as values pass to `retain` and `retain_force`.
 fn is_nine_or_more(_key: &u64, value: &u64) -> bool {
     *value >= 9
 }
 
-// The pairs in their order.
+// Returns the text of the pairs, in their order.
 fn text_of_pairs(rt: &impl Abort, alloc: Global, pairs: &[(Arc<u64>, Arc<u64>)]) -> String {
     let mut text = String::new(alloc);
     for (key, value) in pairs {
@@ -105,7 +105,7 @@ fn text_of_pairs(rt: &impl Abort, alloc: Global, pairs: &[(Arc<u64>, Arc<u64>)])
     text
 }
 
-// The numbers in their order.
+// Returns the text of the numbers, in their order.
 pub(super) fn text_of_numbers(rt: &impl Abort, alloc: Global, numbers: &[Arc<u64>]) -> String {
     let mut text = String::new(alloc);
     for number in numbers {
@@ -115,12 +115,12 @@ pub(super) fn text_of_numbers(rt: &impl Abort, alloc: Global, numbers: &[Arc<u64
     text
 }
 
-// A line of two parts.
+// Returns a line of two parts.
 fn line(rt: &impl Abort, alloc: Global, name: &str, reply_for: impl Display + Drop) -> String {
     format!(in alloc; "{name}{reply_for}\n").expect(rt, "memory")
 }
 
-// The line of one reply.
+// Returns the line of one reply.
 fn line_of(rt: &impl Abort, alloc: Global, reply: &Reply<u64, u64, LowHashBuilder>) -> String {
     match reply {
         Reply::Value(Some(value)) => line(rt, alloc, "value ", **value),
@@ -151,7 +151,7 @@ fn line_of(rt: &impl Abort, alloc: Global, reply: &Reply<u64, u64, LowHashBuilde
     }
 }
 
-// One line for each reply.
+// Returns one line for each reply.
 fn text_of(rt: &impl Abort, alloc: Global, replies: &[Reply<u64, u64, LowHashBuilder>]) -> String {
     let mut text = String::new(alloc);
     for reply in replies {
@@ -161,7 +161,7 @@ fn text_of(rt: &impl Abort, alloc: Global, replies: &[Reply<u64, u64, LowHashBui
     text
 }
 
-// Sees to the lines of the replies.
+// Checks the lines of the replies.
 fn read_as(
     rt: &(impl Abort + AllocGlobal),
     replies: &[Reply<u64, u64, LowHashBuilder>],
@@ -200,7 +200,7 @@ fn calls_as_values(rt: HostRuntime) {
     read_as(&rt, replies.as_slice(), want);
 }
 
-// A call that computes, made as a value, calls its function once at a present key, and at no pair where the key is absent.
+// A call as a value that computes calls its function once if the key is present, and on no pair if it is absent.
 #[test]
 fn computes_at_a_present_key_alone(rt: HostRuntime) {
     let times = Cell::new(0u64);

@@ -6,7 +6,7 @@ use flurry_model::hash::{LowHashBuilder, ZeroHashBuilder};
 use flurry_model::sizes::{threshold, wanted};
 use flurry_seq::SeqMap;
 
-// The twelfth pair, key 10, fills three quarters of 16 bins.
+// The twelfth pair, with the key 10, fills three quarters of 16 bins.
 #[test]
 fn row_03(rt: HostRuntime) {
     let mut map: SeqMap<u64, u64, LowHashBuilder> = SeqMap::with_hasher(rt.alloc(), LowHashBuilder);
@@ -20,7 +20,8 @@ fn row_03(rt: HostRuntime) {
     holds(&rt, &map, 32, 17);
 }
 
-// The bins for a capacity, and those of room that is made in a new map: 64 bins hold 48 pairs, and 64 were asked for.
+// The number of bins for a capacity, and after room is made in a new map: 32 more pairs ask for 64 bins, and the table is doubled because
+// 64 bins hold only 48 pairs.
 #[test]
 fn row_04(rt: HostRuntime) {
     for (pairs, bins) in [(0, 0), (1, 2), (5, 8), (16, 32)] {
@@ -71,7 +72,7 @@ fn row_19(rt: HostRuntime) {
     }
 }
 
-// The ninth key of one bin asks for 64 pairs' room, and the tenth makes its list a tree.
+// The ninth key of one bin asks for room for 64 pairs, and the tenth makes its list a tree.
 #[test]
 fn owned_growth_table(rt: HostRuntime) {
     let mut map: SeqMap<u64, u64, ZeroHashBuilder> = SeqMap::with_hasher(

@@ -1,11 +1,11 @@
-//! Iterators, equality and further maps, through maps whose sums are known.
+//! Iterators, equality and copies of maps, through maps whose sums are known.
 use super::same;
 use flurry_model::hash::{DefaultHashBuilder, KeyHasher, LowHashBuilder, ZeroHashBuilder};
 use flurry_seq::SeqMap;
 use std::alloc::{AllocError, Global};
 use std::sync::Arc;
 
-// A key whose mark tells nothing to a comparison.
+// A key whose mark plays no part in comparisons.
 #[derive(Drop)]
 #[derive_where(PartialEq, Eq, PartialOrd, Ord)]
 struct Marked {
@@ -14,7 +14,7 @@ struct Marked {
     mark: u64,
 }
 
-// The keys below 101, put in steps that reach each of them, with the value 2 * key + 1.
+// Returns the map of the keys below 101, inserted in steps that reach each of them. The value of a key is 2 * key + 1.
 fn filled<S: KeyHasher<u64> + Drop>(
     alloc: Global,
     hasher: S,
@@ -28,7 +28,7 @@ fn filled<S: KeyHasher<u64> + Drop>(
     Ok(map)
 }
 
-// The ids below 7 with this mark, each with the value 5.
+// Returns the map of the ids below 7 with the mark `mark`, each with the value 5.
 fn filled_with_mark(
     alloc: Global,
     mark: u64,

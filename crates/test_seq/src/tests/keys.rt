@@ -7,7 +7,7 @@ ghost use Rattle.std.specs.Ordering.{nat_cmp, on, flip_args, as_partial_cmp};
 use std::cmp::Ordering;
 use std::hash::Hash;
 
-/// A key that is made of a number.
+/// A key that can be made from a number.
 pub(super) trait Number: Ord + Hash + Drop {
     fn of(number: u64) -> Self;
 }
@@ -18,7 +18,7 @@ impl Number for u64 {
     }
 }
 
-/// In its order the greater number comes first.
+/// A number in reverse order: the greater number comes first.
 #[derive(Clone, Copy, Debug, PartialEq, Eq, Hash)]
 pub(super) struct Backward(u64);
 

@@ -21,7 +21,7 @@ fn row_08_with<S: KeyHasher<i32> + Drop>(rt: &(impl Abort + AllocGlobal), hasher
     }
 }
 
-// A thousand signed keys, with one hash for all too.
+// A thousand signed keys, with different hashes and with one hash for all.
 #[test]
 fn row_08(rt: HostRuntime) {
     row_08_with(&rt, DefaultHashBuilder::default());
@@ -31,7 +31,7 @@ fn row_08(rt: HostRuntime) {
 
 const KEYS: u64 = 50_000;
 
-// Inserts all keys, and answers how many of them were new.
+// Inserts all keys, and returns how many of them were new.
 fn insert_all(map: &mut SeqMap<u64, u64>) -> Result<u64, AllocError> {
     let mut new = 0u64;
     for key in 0..KEYS {
@@ -42,7 +42,7 @@ fn insert_all(map: &mut SeqMap<u64, u64>) -> Result<u64, AllocError> {
     Ok(new)
 }
 
-// Removes every second key, from the last but one down, and answers how many were there.
+// Removes every second key, from the last but one down, and returns how many were present.
 fn remove_half(map: &mut SeqMap<u64, u64>) -> u64 {
     let mut removed = 0u64;
     for half in 1..=KEYS / 2 {
@@ -53,7 +53,7 @@ fn remove_half(map: &mut SeqMap<u64, u64>) -> u64 {
     removed
 }
 
-// Fifty thousand keys, half of which go and come back.
+// Fifty thousand keys, half of which are removed and inserted again.
 #[test]
 fn row_09(rt: HostRuntime) {
     let mut map = SeqMap::new(rt.alloc());

@@ -1,4 +1,4 @@
-//! What the calls of one key answer, and what stands after them.
+//! The results of one-key calls, and the map after them.
 
 use super::keys::{Backward, Number, Tagged};
 use super::{holds, insert_new, lent, puts, same, same_at, taken};
@@ -9,7 +9,7 @@ use flurry_seq::SeqMap;
 use std::cell::Cell;
 use std::process::Abort;
 
-// A present key takes the new value, and the old one is answered.
+// A present key takes the new value, and the old value is returned.
 #[test]
 fn row_01(rt: HostRuntime) {
     let mut map: SeqMap<&'static str, u64> = SeqMap::new(rt.alloc());
@@ -42,7 +42,7 @@ fn row_02(rt: HostRuntime) {
     same(&rt, map.capacity(), 0);
 }
 
-// A node goes in under the hash that the map gives its key, and at a present key its value goes in alone.
+// A node is inserted under the hash that the map gives its key. If the key is present, only the node's value is inserted.
 #[test]
 fn nodes_of_pairs(rt: HostRuntime) {
     let mut map: SeqMap<u64, u64, LowHashBuilder> = SeqMap::with_hasher(rt.alloc(), LowHashBuilder);
@@ -54,7 +54,7 @@ fn nodes_of_pairs(rt: HostRuntime) {
     same(&rt, (map.len(), map.hasher().hash_one(&3)), (1, 3));
 }
 
-// A function that answers none takes the pair out, and the table stays.
+// If the function returns `None`, the pair is removed, and the table stays.
 #[test]
 fn row_16(rt: HostRuntime) {
     let mut map: SeqMap<u64, u64, LowHashBuilder> = SeqMap::with_hasher(rt.alloc(), LowHashBuilder);
@@ -66,7 +66,7 @@ fn row_16(rt: HostRuntime) {
     holds(&rt, &map, 16, 10);
 }
 
-// The function is called once where the key is present, and at no pair where it is absent.
+// The function is called once if the key is present, and on no pair if it is absent.
 #[test]
 fn calls_at_a_present_key_alone(rt: HostRuntime) {
     let calls = Cell::new(0u64);
@@ -87,7 +87,7 @@ fn calls_at_a_present_key_alone(rt: HostRuntime) {
     holds(&rt, &map, 32, 20);
 }
 
-// What an insertion at absent keys alone says of a present one.
+// The text of the error of `try_insert` for a present key.
 #[test]
 fn row_16_text(rt: HostRuntime) {
     let mut map: SeqMap<u64, u64> = SeqMap::new(rt.alloc());
@@ -100,7 +100,7 @@ fn row_16_text(rt: HostRuntime) {
     same(&rt, lent(map.get(&7)), Some(0));
 }
 
-// The error of an insertion of 1 at key 7, where another value stands.
+// Returns the error of `try_insert` of the value 1 at key 7, which has the value `stands`.
 fn failed(rt: &(impl Abort + AllocGlobal), stands: u64) -> TryInsertError<u64> {
     let mut map: SeqMap<u64, u64> = SeqMap::new(rt.alloc());
     puts(rt, &mut map, 7, stands, None);
@@ -108,7 +108,7 @@ fn failed(rt: &(impl Abort + AllocGlobal), stands: u64) -> TryInsertError<u64> {
     answer.expect_err(rt, "the key is present")
 }
 
-// Two errors are told apart by the value that stands alone.
+// Two errors that differ only in the value that is present are not equal.
 #[test]
 fn errors_that_differ_in_the_value_that_stands(rt: HostRuntime) {
     let first = failed(&rt, 0);
@@ -154,7 +154,7 @@ fn whole_owned_table_of_no_pairs(rt: HostRuntime) {
     holds(&rt, &map, 1, 0);
 }
 
-// Where there are pairs, room is made for half as many as the list has.
+// If the map has pairs, room is made for half as many as the list has.
 #[test]
 fn whole_owned_table_of_more_pairs(rt: HostRuntime) {
     let mut map: SeqMap<u64, u64> = SeqMap::new(rt.alloc());
@@ -165,8 +165,8 @@ fn whole_owned_table_of_more_pairs(rt: HostRuntime) {
     same(&rt, lent(map.get(&3)), Some(30));
 }
 
-// Half of an odd number of pairs is rounded up. With one pair there, room for 4 more asks for 8 bins, and room for 5 more for 16, of
-// which the threshold, 12, is too low.
+// Half of an odd number of pairs is rounded up. In a map of one pair, room for 4 more needs 8 bins. Room for 5 more needs 16 bins, and
+// their threshold, 12, is then too low.
 #[test]
 fn whole_owned_table_of_half_rounded_up(rt: HostRuntime) {
     for (count, bins) in [(8, 16), (9, 32)] {
@@ -181,7 +181,7 @@ fn whole_owned_table_of_half_rounded_up(rt: HostRuntime) {
     }
 }
 
-// A map that is made of a list has room for each pair.
+// A map that is made from a list has room for each pair.
 #[test]
 fn whole_owned_table_of_lists(rt: HostRuntime) {
     let list = Vec::from_array(rt.alloc(), [(1, 10), (2, 20), (3, 30)]).expect(&rt, "memory");
@@ -190,8 +190,8 @@ fn whole_owned_table_of_lists(rt: HostRuntime) {
     same(&rt, lent(map.get(&2)), Some(20));
 }
 
-// It has room for no more pairs than there are: of 16 bins the threshold, 12, is too low for 12 pairs, and 32 are enough. So has a
-// further map of it.
+// A map that is made from a list has room for no more pairs than it has: the threshold of 16 bins, 12, is too low for 12 pairs, and 32 bins
+// are enough. A clone of the map has the same room.
 #[test]
 fn whole_owned_table_of_a_longer_list(rt: HostRuntime) {
     let mut list = Vec::new(rt.alloc());
@@ -205,7 +205,7 @@ fn whole_owned_table_of_a_longer_list(rt: HostRuntime) {
     same(&rt, lent(copy.get(&2)), Some(2));
 }
 
-// A further map of no pairs has no table.
+// A clone of a map without pairs has no table.
 #[test]
 fn whole_owned_table_of_clones(rt: HostRuntime) {
     let mut map: SeqMap<u64, u64> = SeqMap::new(rt.alloc());
@@ -219,7 +219,7 @@ fn whole_owned_table_of_clones(rt: HostRuntime) {
     holds(&rt, &map, 8, 0);
 }
 
-// A further map begins with room for its pairs alone.
+// A clone starts with room for its pairs alone.
 #[test]
 fn whole_owned_table_of_a_clone_of_one_pair(rt: HostRuntime) {
     let mut map: SeqMap<u64, u64> = SeqMap::new(rt.alloc());

@@ -1,4 +1,4 @@
-//! What a map keeps of a hundred pairs.
+//! The pairs that a map keeps of a hundred.
 use super::same;
 use flurry_seq::SeqMap;
 

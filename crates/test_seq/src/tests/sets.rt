@@ -1,4 +1,4 @@
-//! What the calls of an owned set answer, and what stands after them.
+//! The results of the calls of an owned set, and the set after them.
 
 use super::calls::text_of_numbers;
 use super::keys::Tagged;
@@ -12,7 +12,7 @@ use std::alloc::Global;
 use std::fmt::Display;
 use std::process::Abort;
 
-// The numbers from a first one up to an end.
+// Returns the set of the numbers from `first` to `end`, without `end`.
 fn set_of(rt: &impl Abort, alloc: Global, first: u64, end: u64) -> SeqSet<u64> {
     let mut set = SeqSet::new(alloc);
     for element in first..end {
@@ -67,7 +67,7 @@ fn stored_elements_stay(rt: HostRuntime) {
     same(&rt, set.is_empty(), true);
 }
 
-// The set of a map's keys takes elements that come as nodes.
+// The set of a map's keys takes elements that are passed as nodes.
 #[test]
 fn elements_of_maps_and_nodes(rt: HostRuntime) {
     let pairs = Vec::from_array(rt.alloc(), [(1u64, ()), (2, ())]).expect(&rt, "memory");
@@ -80,7 +80,7 @@ fn elements_of_maps_and_nodes(rt: HostRuntime) {
     same(&rt, (set.len(), sum_of(&set)), (3, 6));
 }
 
-// Of equal elements the one that came first is answered each time.
+// Of equal elements, the one that was stored first is returned each time.
 #[test]
 fn one_element_for_equal_ones(rt: HostRuntime) {
     let mut set: SeqSet<Tagged> = SeqSet::new(rt.alloc());
@@ -112,7 +112,7 @@ fn copies_and_what_is_kept(rt: HostRuntime) {
     same(&rt, set.is_empty(), true);
 }
 
-// The sum of the elements.
+// Returns the sum of the elements.
 fn sum_of(set: &SeqSet<u64, LowHashBuilder>) -> u64 {
     let mut sum = 0u64;
     for element in set.iter() {
@@ -128,17 +128,17 @@ fn room_for_elements(rt: HostRuntime) {
     same(&rt, roomy.len(), 0);
 }
 
-// What the calls as values pass to `retain`.
+// The function that the calls as values pass to `retain`.
 fn is_even(element: &u64) -> bool {
     *element % 2 == 0
 }
 
-// A word, and a space after it.
+// Returns a word with a space after it.
 fn word(rt: &impl Abort, alloc: Global, reply_for: impl Display + Drop) -> String {
     format!(in alloc; "{reply_for} ").expect(rt, "memory")
 }
 
-// The word of one reply.
+// Returns the word of one reply.
 fn word_of<S: KeyHasher<u64>>(rt: &impl Abort, alloc: Global, reply: &SetReply<u64, S>) -> String {
     match reply {
         SetReply::Element(Some(element)) => word(rt, alloc, **element),
@@ -154,7 +154,7 @@ fn word_of<S: KeyHasher<u64>>(rt: &impl Abort, alloc: Global, reply: &SetReply<u
     }
 }
 
-// One word for each reply.
+// Returns one word for each reply.
 fn words_of<S: KeyHasher<u64>>(
     rt: &impl Abort,
     alloc: Global,
@@ -168,7 +168,7 @@ fn words_of<S: KeyHasher<u64>>(
     text
 }
 
-// Sees to the words of the replies.
+// Checks the words of the replies.
 fn read_as<S: KeyHasher<u64>>(
     rt: &(impl Abort + AllocGlobal),
     replies: &[SetReply<u64, S>],
@@ -205,7 +205,7 @@ fn set_calls_as_values(rt: HostRuntime) {
     read_as(&rt, replies.as_slice(), want);
 }
 
-// The numbers, in bins of their own.
+// Returns the set of the numbers, each in a bin of its own.
 fn low_set_of<const N: usize>(
     rt: &impl Abort,
     alloc: Global,

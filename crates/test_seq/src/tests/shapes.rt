@@ -1,4 +1,4 @@
-//! Lists and trees of keys of one bin.
+//! Lists and trees of keys in one bin.
 
 use super::keys::{Backward, Number, Tagged};
 use super::{holds, insert_new, lent, map_for, puts, same, same_at, stands, taken};
@@ -20,7 +20,7 @@ fn row_06_map<K: Number>(rt: &(impl Abort + AllocGlobal)) -> OneHash<K> {
     map
 }
 
-// Removes keys, each of which gives its number.
+// Removes keys, and checks that each removal returns the key's number.
 fn remove_numbers<K: Number>(rt: &impl Abort, map: &mut OneHash<K>, first: u64, end: u64) {
     for number in first..end {
         same(rt, taken(map.remove(&K::of(number))), Some(number));
@@ -38,7 +38,7 @@ fn row_07_by_remove_with<K: Number>(rt: &(impl Abort + AllocGlobal)) {
     same(rt, lent(map.get(&K::of(9))), Some(9));
 }
 
-// Removes keys by a function that answers none.
+// Removes keys by a function that returns `None`.
 fn compute_none<K: Number>(rt: &impl Abort, map: &mut OneHash<K>, first: u64, end: u64) {
     for number in first..end {
         let before = map.len();
@@ -59,7 +59,7 @@ fn row_07_by_compute_with<K: Number>(rt: &(impl Abort + AllocGlobal)) {
     same(rt, lent(map.get(&K::of(9))), Some(9));
 }
 
-// Ten keys of one hash end in a tree.
+// Ten keys of one hash are in a tree at the end.
 #[test]
 fn row_06(rt: HostRuntime) {
     let map = row_06_map::<u64>(&rt);
@@ -78,7 +78,7 @@ fn row_07_by_remove(rt: HostRuntime) {
     row_07_by_remove_with::<Tagged>(&rt)
 }
 
-// The same, where a function answers none.
+// A tree that is left with six nodes by a function that returns `None` becomes a list.
 #[test]
 fn row_07_by_compute(rt: HostRuntime) {
     row_07_by_compute_with::<u64>(&rt);
@@ -86,7 +86,7 @@ fn row_07_by_compute(rt: HostRuntime) {
     row_07_by_compute_with::<Tagged>(&rt)
 }
 
-// In 64 bins the ninth key of one bin makes a tree. In 256 its list has the keys 0, 256 and 512.
+// In 64 bins, the ninth key of one bin makes a tree. In 256 bins, the list of that bin has the keys 0, 256 and 512.
 #[test]
 fn shapes_row(rt: HostRuntime) {
     let mut map = map_for(&rt, rt.alloc(), 32);

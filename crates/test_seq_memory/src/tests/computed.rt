@@ -1,4 +1,4 @@
-//! `compute_if_present`. By the bound on its function, it calls it at most once.
+//! Calls of `compute_if_present`. By the bound on its function, the function is called at most once.
 
 use super::{
     Memory, NumberMap, Refused, adds, map_of, metered, number_at, refuse_each, same, same_at,
@@ -7,7 +7,7 @@ use super::{
 use flurry_model::hash::LowHashBuilder;
 use std::process::Abort;
 
-// Computes this value at a key: whether the function was called, and the number that was answered, or nothing where it failed.
+// Computes `value` at a key. Returns whether the function was called, and the number that was returned, or `None` if the call failed.
 fn compute(
     map: &mut NumberMap<LowHashBuilder>,
     key: u64,
@@ -36,7 +36,7 @@ fn compute_at_an_absent_key(rt: HostRuntime) {
     same(&rt, map.len(), 2);
 }
 
-// The value 9 at the key 7, whose value is 0.
+// The computation of the value 9 at the key 7, whose value is 0.
 struct ComputesNine;
 
 impl Refused for ComputesNine {

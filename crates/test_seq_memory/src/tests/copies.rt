@@ -1,9 +1,9 @@
-//! A further map of the same pairs.
+//! Clones of a map, with the same pairs.
 
 use super::{Memory, Refused, map_of, refuse_each, same_at};
 use std::process::Abort;
 
-// A copy of a map of three pairs.
+// The cloning of a map of three pairs.
 struct Copies;
 
 impl Refused for Copies {

@@ -20,7 +20,7 @@ enum Write {
     InsertNode(u64, u64),
 }
 
-// A key and a value that have owners.
+// Returns a key and a value, each in an `Arc`.
 fn owners(
     memory: Memory,
     key: u64,
@@ -31,7 +31,8 @@ fn owners(
     Ok((key, value))
 }
 
-// Inserts a key and a value that have owners, and answers the old value. It is refused where memory for one of them is wanting too.
+// Inserts a key and a value that are each in an `Arc`, and returns the old value. It also fails if memory for one of the `Arc`s cannot be
+// allocated.
 fn insert_shared(
     map: &mut NumberMap<LowHashBuilder>,
     key: u64,
@@ -43,7 +44,8 @@ fn insert_shared(
     Ok(taken(old))
 }
 
-// The same by a node, which is made under another hash.
+// Inserts a key and a value by a node, which is made under another hash, and returns the old value. It also fails if memory for the node
+// cannot be allocated.
 fn insert_node(
     map: &mut NumberMap<LowHashBuilder>,
     key: u64,
@@ -54,7 +56,7 @@ fn insert_node(
     Ok(taken(old))
 }
 
-// Inserts a key and a value, and answers the old value.
+// Inserts a key and a value, and returns the old value.
 fn insert(
     map: &mut NumberMap<LowHashBuilder>,
     key: u64,
@@ -64,7 +66,7 @@ fn insert(
     Ok(taken(old))
 }
 
-// What an insertion at absent keys alone replies, or nothing where it is refused.
+// Returns the reply of `try_insert`, or `None` if it fails.
 fn try_insert(
     map: &mut NumberMap<LowHashBuilder>,
     key: u64,
@@ -80,7 +82,7 @@ fn try_insert(
     }
 }
 
-// What it replies, or nothing where it is refused.
+// Returns the reply of an insertion, or `None` if it fails.
 fn reply_of(map: &mut NumberMap<LowHashBuilder>, write: Write) -> Option<KeptReply<u64, u64>> {
     let answer = match write {
         Write::Insert(key, value) => insert(map, key, value),
@@ -94,7 +96,7 @@ fn reply_of(map: &mut NumberMap<LowHashBuilder>, write: Write) -> Option<KeptRep
     }
 }
 
-// How many bins and pairs there are, and the numbers at the keys 0, 1 and 2.
+// The numbers of bins and pairs, and the numbers at the keys 0, 1 and 2.
 type Stands = ((usize, usize), [Option<u64>; 3]);
 
 fn stands(map: &NumberMap<LowHashBuilder>) -> Stands {
@@ -104,8 +106,8 @@ fn stands(map: &NumberMap<LowHashBuilder>) -> Stands {
     )
 }
 
-// An insertion into a map of so many keys: what stands where it is refused, and what it replies and what stands where it is not, also
-// where it was refused before.
+// An insertion into a map of `keys` keys: what the map has if the insertion fails, what the insertion replies if it succeeds, also after it
+// has failed, and what the map has then.
 #[derive(Drop)]
 struct Inserts {
     keys: u64,
@@ -210,7 +212,7 @@ fn try_insert_of_a_new_key(rt: HostRuntime) {
     refuse_each(&rt, rt.alloc(), &call);
 }
 
-// It takes a further owner of the value that stands, and no memory.
+// It makes a clone of the `Arc` of the value that is present, and takes no memory.
 #[test]
 fn try_insert_of_a_present_key(rt: HostRuntime) {
     let memory = metered(&rt, rt.alloc());

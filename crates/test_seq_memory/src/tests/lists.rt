@@ -12,7 +12,8 @@ fn three_pairs(rt: &impl Abort, memory: Memory) -> Vec<(u64, u64), Memory> {
     Vec::from_array(memory, [(5, 5), (6, 6), (7, 7)]).expect(rt, "memory for the list")
 }
 
-// Of the keys from 5 on, each its own value, the map has as many as it has pairs beside its first ones.
+// Asserts that the map has a front of the keys from 5 on, each with itself as its value, and as many of them as it has pairs beside its
+// `first` ones.
 fn has_a_front(rt: &impl Abort, map: &NumberMap<LowHashBuilder>, first: usize) {
     let mut count = first;
     for key in 5..8u64 {
@@ -27,7 +28,7 @@ fn has_a_front(rt: &impl Abort, map: &NumberMap<LowHashBuilder>, first: usize) {
     same(rt, count, map.len());
 }
 
-// Extends a map of so many pairs with the request numbered k refused, and answers whether that request was made.
+// Extends a map of `first` pairs while the request numbered `k` fails, and returns whether that request was made.
 fn extended(
     rt: &impl Abort,
     memory: Memory,
@@ -45,7 +46,7 @@ fn extended(
     refused
 }
 
-// The list of three pairs put into a map of two.
+// The extension of a map of two pairs by the list of three pairs.
 struct Extends;
 
 impl Refused for Extends {
@@ -63,7 +64,7 @@ fn extend(rt: HostRuntime) {
     refuse_each(&rt, rt.alloc(), &Extends);
 }
 
-// The list of three pairs put into a new map. Room for them is asked for as 8 bins, and these are doubled once.
+// The extension of a new map by the list of three pairs. Room for them starts at 8 bins, which are doubled once.
 struct ExtendsNew;
 
 impl Refused for ExtendsNew {
@@ -85,7 +86,7 @@ fn extend_of_a_new_map(rt: HostRuntime) {
     refuse_each(&rt, rt.alloc(), &ExtendsNew);
 }
 
-// A map made of the list of three pairs.
+// The making of a map from the list of three pairs.
 struct MakesOfList;
 
 impl Refused for MakesOfList {
@@ -112,17 +113,17 @@ fn from_list(rt: HostRuntime) {
     refuse_each(&rt, rt.alloc(), &MakesOfList);
 }
 
-// What the calls pass to `compute_if_present`.
+// The function that the calls pass to `compute_if_present`.
 fn unchanged(_key: &u64, value: &u64) -> Option<u64> {
     Some(*value)
 }
 
-// What the calls pass to `retain`.
+// The function that the calls pass to `retain`.
 fn is_own_value(key: &u64, value: &u64) -> bool {
     *key == *value
 }
 
-// Calls as values, run on a new map.
+// The run of calls as values on a new map.
 struct Runs;
 
 impl Refused for Runs {

@@ -5,7 +5,7 @@ use flurry_bins::bin::{Ordered, Shape};
 use flurry_model::hash::LowHashBuilder;
 use std::process::Abort;
 
-// Looks at the map of nine pairs.
+// Reads the map of nine pairs.
 fn reads(rt: &impl Abort, map: &NumberMap<LowHashBuilder>) {
     same(rt, lent(map.get(&3)), Some(3));
     same(
@@ -18,7 +18,7 @@ fn reads(rt: &impl Abort, map: &NumberMap<LowHashBuilder>) {
     same(rt, map.shape_of(3), Shape::List(1));
 }
 
-// Takes pairs out of it, and at last all of them.
+// Removes pairs from the map, and at last all of them.
 fn removes(rt: &impl Abort, map: &mut NumberMap<LowHashBuilder>) {
     same(
         rt,
@@ -33,7 +33,7 @@ fn removes(rt: &impl Abort, map: &mut NumberMap<LowHashBuilder>) {
     same(rt, map.is_empty(), true);
 }
 
-// Takes it apart.
+// Takes the map apart into its bins.
 fn gives_its_bins(rt: &impl Abort, map: NumberMap<LowHashBuilder>) {
     let (bins, _) = map.into_bins();
     same(rt, bins.len(), 16);

@@ -9,7 +9,7 @@ use std::process::Abort;
 
 type Set = SeqSet<u64, LowHashBuilder, Memory>;
 
-// The elements from 0 on.
+// Returns the set of the elements below `count`.
 fn set_of(rt: &impl Abort, memory: Memory, count: u64) -> Set {
     let mut set = SeqSet::with_hasher(memory, LowHashBuilder);
     for element in 0..count {
@@ -22,7 +22,7 @@ fn three_elements(rt: &impl Abort, memory: Memory) -> Vec<u64, Memory> {
     Vec::from_array(memory, [5, 6, 7]).expect(rt, "memory for the list")
 }
 
-// Of the elements from 5 on, the set has as many as it has elements beside its first ones.
+// Asserts that the set has a front of the elements from 5 on, and as many of them as it has elements beside its `first` ones.
 fn has_a_front(rt: &impl Abort, set: &Set, first: usize) {
     let mut count = first;
     for element in 5..8u64 {
@@ -35,7 +35,7 @@ fn has_a_front(rt: &impl Abort, set: &Set, first: usize) {
     same(rt, count, set.len());
 }
 
-// An insertion into a new set. A second one, and taking the element out, ask for nothing.
+// An insertion into a new set. A second insertion, and taking the element, request no memory.
 struct InsertsOne;
 
 impl Refused for InsertsOne {
@@ -61,7 +61,8 @@ fn set_insert(rt: HostRuntime) {
     refuse_each(&rt, rt.alloc(), &InsertsOne);
 }
 
-// A node of the element 1 put into a set: whether its class is new, or nothing where memory for the node or for a table is wanting.
+// Inserts a node of the element 1 into a set. Returns whether its class is new, or `None` if memory for the node or for a table cannot be
+// allocated.
 fn put_node(set: &mut Set) -> Option<bool> {
     match Node::of_pair(*set.allocator(), 77, 1u64, (), 0) {
         Ok(node) => set.insert_node(node).ok(),
@@ -69,7 +70,7 @@ fn put_node(set: &mut Set) -> Option<bool> {
     }
 }
 
-// A node put into a new set, and again where it is refused.
+// The insertion of a node into a new set, which is repeated if it fails.
 struct InsertsNode;
 
 impl Refused for InsertsNode {
@@ -94,7 +95,7 @@ fn set_insert_node(rt: HostRuntime) {
     refuse_each(&rt, rt.alloc(), &InsertsNode);
 }
 
-// The stored element of a class that is new. A second one asks for nothing.
+// A call of `get_or_insert` for a class that is new. A second one requests no memory.
 struct GetsOrInserts;
 
 impl Refused for GetsOrInserts {
@@ -119,7 +120,7 @@ fn set_get_or_insert(rt: HostRuntime) {
     refuse_each(&rt, rt.alloc(), &GetsOrInserts);
 }
 
-// A set with room for so many elements: whether it is empty, or nothing where it is refused.
+// Creates a set with room for `capacity` elements, and returns whether it is empty, or `None` if this fails.
 fn is_empty_for(memory: Memory, capacity: usize) -> Option<bool> {
     let set: Result<Set, _> = SeqSet::with_capacity_and_hasher(memory, capacity, LowHashBuilder);
     match set {
@@ -140,7 +141,7 @@ fn set_with_capacity(rt: HostRuntime) {
     same(&rt, memory.blocks(), 0);
 }
 
-// Room for 32 elements more in a set of one. It asks for 32, for 64 and for 128 bins.
+// A call of `reserve` for 32 more elements in a set of one. It requests tables of 32, 64 and 128 bins.
 struct Reserves;
 
 impl Refused for Reserves {
@@ -161,7 +162,7 @@ fn set_reserve(rt: HostRuntime) {
     refuse_each(&rt, rt.alloc(), &Reserves);
 }
 
-// The list of three elements put into a set of two.
+// The extension of a set of two elements by the list of three elements.
 struct Extends;
 
 impl Refused for Extends {
@@ -184,7 +185,7 @@ fn set_extend(rt: HostRuntime) {
     refuse_each(&rt, rt.alloc(), &Extends);
 }
 
-// A set made of the list of three elements.
+// The making of a set from the list of three elements.
 struct MakesOfList;
 
 impl Refused for MakesOfList {
@@ -211,7 +212,7 @@ fn set_from_list(rt: HostRuntime) {
     refuse_each(&rt, rt.alloc(), &MakesOfList);
 }
 
-// A copy of a set of three elements.
+// The cloning of a set of three elements.
 struct Copies;
 
 impl Refused for Copies {
@@ -237,12 +238,12 @@ fn set_try_clone(rt: HostRuntime) {
     refuse_each(&rt, rt.alloc(), &Copies);
 }
 
-// What the calls pass to `retain`.
+// The function that the calls pass to `retain`.
 fn is_below_nine(element: &u64) -> bool {
     *element < 9
 }
 
-// Calls as values, run on a new set.
+// The run of calls as values on a new set.
 struct Runs;
 
 impl Refused for Runs {

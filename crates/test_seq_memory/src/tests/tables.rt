@@ -9,7 +9,7 @@ use flurry_model::hash::{KeyHasher, LowHashBuilder, ZeroHashBuilder};
 use flurry_seq::SeqMap;
 use std::process::Abort;
 
-// A map with room for so many pairs: how many bins and pairs it has, or nothing where it is refused.
+// Creates a map with room for `capacity` pairs, and returns the numbers of its bins and pairs, or `None` if this fails.
 fn size_for(memory: Memory, capacity: usize) -> Option<(usize, usize)> {
     match SeqMap::with_capacity_and_hasher(memory, capacity, LowHashBuilder) {
         Ok(map) => Some(size_of(&map)),
@@ -30,7 +30,7 @@ fn with_capacity(rt: HostRuntime) {
     same(&rt, memory.asked(), 1);
 }
 
-// Asks for room for 32 pairs with the request numbered k refused: whether that request was made and the call failed.
+// Reserves room for 32 pairs while the request numbered `k` fails. Returns whether that request was made and the call failed.
 fn reserve_is_refused(memory: Memory, map: &mut NumberMap<LowHashBuilder>, k: u64) -> bool {
     memory.refuse_at(k);
     let failed = map.reserve(32).is_err();
@@ -39,12 +39,13 @@ fn reserve_is_refused(memory: Memory, map: &mut NumberMap<LowHashBuilder>, k: u6
     refused && failed
 }
 
-// Sees to the number of bins, and to the shape of the bin of hash 0.
+// Checks the number of bins, and the shape of the bin of the hash 0.
 fn has_shape(rt: &impl Abort, map: &NumberMap<ZeroHashBuilder>, k: u64, bins: usize, shape: Shape) {
     same_at(rt, k, (map.capacity(), map.shape_of(0)), (bins, shape));
 }
 
-// Refused at the request numbered k, a map of 16 bins and one pair has so many bins. It goes to 128 when it is asked again.
+// Asserts that a map of 16 bins and one pair has `bins` bins after a `reserve` whose request numbered `k` failed, and 128 bins after a
+// second `reserve`.
 fn keeps_the_doublings(rt: &impl Abort, memory: Memory, k: u64, bins: usize) {
     let mut map = map_of(rt, memory, 1);
     let before = memory.blocks();
@@ -69,7 +70,7 @@ fn reserve_keeps_the_doublings_done(rt: HostRuntime) {
     same(&rt, memory.blocks(), 0);
 }
 
-// Refused at the request numbered k, a new map has so many bins.
+// Asserts that a new map has `bins` bins after a `reserve` whose request numbered `k` failed.
 fn keeps_the_first_table(rt: &impl Abort, memory: Memory, k: u64, bins: usize) {
     let mut map = map_of(rt, memory, 0);
     same_at(rt, k, reserve_is_refused(memory, &mut map, k), true);
@@ -85,7 +86,7 @@ fn reserve_of_a_new_map(rt: HostRuntime) {
     same(&rt, memory.blocks(), 0);
 }
 
-// Inserts an absent key with the request of a larger table refused, which is the one numbered k. The insertion does not fail.
+// Inserts an absent key while the request numbered `k`, which is for a larger table, fails. The insertion does not fail.
 fn adds_without_a_table<S: KeyHasher<u64>>(
     rt: &impl Abort,
     memory: Memory,
@@ -101,7 +102,7 @@ fn adds_without_a_table<S: KeyHasher<u64>>(
     same_at(rt, k, taken(answer.expect(rt, "memory for the pair")), None);
 }
 
-// The twelfth pair asks for its key, its value, its node, and then for the larger table.
+// The twelfth pair makes requests for its key, its value and its node, and then for the larger table.
 #[test]
 fn row_15(rt: HostRuntime) {
     let memory = metered(&rt, rt.alloc());
@@ -119,7 +120,7 @@ fn row_15(rt: HostRuntime) {
     same(&rt, size_of(&map), (32, 13));
 }
 
-// The ninth key of one hash, whose request numbered k is refused, leaves so many bins, and so does the tenth.
+// Asserts that after the ninth key of one hash, whose request numbered `k` fails, the map has `bins` bins, and after the tenth key as well.
 fn grows_in_part(rt: &impl Abort, memory: Memory, k: u64, bins: usize) {
     let mut map: NumberMap<ZeroHashBuilder> = SeqMap::with_hasher(memory, ZeroHashBuilder);
     for key in 0..8u64 {
@@ -132,7 +133,7 @@ fn grows_in_part(rt: &impl Abort, memory: Memory, k: u64, bins: usize) {
     has_shape(rt, &map, k, bins, Shape::Tree(10));
 }
 
-// The ninth key of one hash asks for 128 bins, by doublings from 16. The tenth makes the list a tree in any table.
+// The ninth key of one hash asks for 128 bins, by doublings from 16 bins. The tenth key makes the list a tree in a table of any size.
 #[test]
 fn refused_growth_keeps_insert(rt: HostRuntime) {
     let memory = metered(&rt, rt.alloc());
@@ -142,8 +143,8 @@ fn refused_growth_keeps_insert(rt: HostRuntime) {
     same(&rt, memory.blocks(), 0);
 }
 
-// In 16 bins, eleven pairs of which eight stand in one bin. The ninth of that bin asks for 128 bins, which are refused at the first
-// doubling; then the count, which is the threshold, asks for 32.
+// Of eleven pairs in 16 bins, eight are in one bin. The ninth of that bin asks for 128 bins, and the first doubling fails. Then the count,
+// which is the threshold, asks for 32 bins.
 #[test]
 fn count_grows_after_a_refused_growth(rt: HostRuntime) {
     let memory = metered(&rt, rt.alloc());
@@ -156,7 +157,8 @@ fn count_grows_after_a_refused_growth(rt: HostRuntime) {
     same(&rt, size_of(&map), (32, 12));
 }
 
-// Thirteen insertions reach or pass the threshold of 16 bins and each finds no memory for a larger table. The next doubles it twice.
+// Thirteen insertions reach or pass the threshold of 16 bins, and for none of them memory for a larger table can be allocated. The next
+// insertion doubles the table twice.
 #[test]
 fn count_grows_until_there_is_room(rt: HostRuntime) {
     let memory = metered(&rt, rt.alloc());

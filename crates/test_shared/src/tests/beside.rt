@@ -1,4 +1,4 @@
-//! Walks, and calls over many pairs, beside other threads.
+//! Walks, and calls over many pairs, while other threads work.
 
 use super::{insert_all, numbers, read_all, same};
 use flurry_map::HashMap;
@@ -11,25 +11,25 @@ use std::test::Fail;
 use std::thread;
 use std::thread::Threads;
 
-// How many keys stand before the threads begin.
+// The number of keys that are present before the threads start.
 const STANDING: usize = 1000;
 
-// What one thread does.
+// The work of one thread.
 #[derive(Clone, Copy)]
 enum Work {
-    // Inserts the keys from the one to the other, each with its own number.
+    // Inserts the keys from the first number to the second, without the second, each with itself as its value.
     Insert(u64, u64),
-    // Removes them.
+    // Removes the keys from the first number to the second, without the second.
     Remove(u64, u64),
-    // Looks them up.
+    // Looks up the keys from the first number to the second, without the second.
     Look(u64, u64),
-    // Walks so many times, and fails where a standing key is not given once.
+    // Walks this number of times, and fails if a walk does not give each of the earlier keys once.
     Walk(u32),
     // Keeps the even keys.
     KeepEven,
 }
 
-// Does that, and counts what fails.
+// Does the work of one thread, and counts what fails.
 fn do_work<S: KeyHasher<u64>, A: Allocator + Copy, R: Wait>(
     rt: &R,
     map: &HashMap<u64, u64, S, A>,
@@ -46,7 +46,7 @@ fn do_work<S: KeyHasher<u64>, A: Allocator + Copy, R: Wait>(
     failures.fetch_add(failed, Ordering::SeqCst);
 }
 
-// Removes keys, and answers how many had another value than their own number.
+// Removes keys, and returns how many had a value other than themselves.
 fn remove_all<S: KeyHasher<u64>, A: Allocator + Copy, R: Wait>(
     rt: &R,
     map: &HashMap<u64, u64, S, A>,
@@ -62,7 +62,7 @@ fn remove_all<S: KeyHasher<u64>, A: Allocator + Copy, R: Wait>(
     others
 }
 
-// Looks keys up, and answers how many had another value than their own number.
+// Looks keys up, and returns how many had a value other than themselves.
 fn look_all<S: KeyHasher<u64>, A: Allocator + Copy, R: Wait>(
     rt: &R,
     map: &HashMap<u64, u64, S, A>,
@@ -80,7 +80,7 @@ fn look_all<S: KeyHasher<u64>, A: Allocator + Copy, R: Wait>(
     others
 }
 
-// Walks so many times, and answers how many standing keys were not given once.
+// Walks `times` times, and returns how many of the earlier keys were not given once.
 fn walk_often<S: KeyHasher<u64>, A: Allocator + Copy, R: Wait>(
     rt: &R,
     map: &HashMap<u64, u64, S, A>,
@@ -93,7 +93,7 @@ fn walk_often<S: KeyHasher<u64>, A: Allocator + Copy, R: Wait>(
     failed
 }
 
-// How many standing keys one walk does not give once.
+// Returns how many of the earlier keys one walk does not give once.
 fn walk_once<S: KeyHasher<u64>, A: Allocator + Copy, R: Wait>(
     rt: &R,
     map: &HashMap<u64, u64, S, A>,
@@ -105,7 +105,7 @@ fn walk_once<S: KeyHasher<u64>, A: Allocator + Copy, R: Wait>(
     given.iter().filter(|times| **times != 1).count() as u64
 }
 
-// Counts how often a walk gives each standing key.
+// Counts how often a walk gives each of the earlier keys.
 fn count_given<A: Allocator + Copy, R: Wait>(
     keys: &mut Keys<'_, R, u64, u64, A>,
     given: &mut [u8; STANDING],
@@ -120,7 +120,7 @@ fn count_given<A: Allocator + Copy, R: Wait>(
     }
 }
 
-// Does each of these in a thread of its own, and answers how much failed.
+// Does each of `works` in a thread of its own, and returns how much failed.
 fn work_in_threads<
     S: KeyHasher<u64> + Sync,
     A: Allocator + Copy + Send + Sync,
@@ -139,7 +139,7 @@ fn work_in_threads<
     failures.load(Ordering::SeqCst)
 }
 
-// Each walk gives every key that stood before it began, once, while the table is doubled several times.
+// Each walk gives each key that was present before it started once, while the table is doubled several times.
 #[test]
 fn walks_beside_insertions(rt: HostRuntime) -> Result<(), Fail> {
     let map = numbers(&rt, rt.alloc(), STANDING as u64).with_processors(4);
@@ -158,7 +158,7 @@ fn walks_beside_insertions(rt: HostRuntime) -> Result<(), Fail> {
     Ok(())
 }
 
-// Once all threads have ended, the count is that of the pairs that a walk gives.
+// After all threads have ended, the count is that of the pairs that a walk gives.
 #[test]
 fn writers_removers_and_readers_of_one_bin(rt: HostRuntime) -> Result<(), Fail> {
     let map = HashMap::with_hasher(rt.alloc(), ZeroHashBuilder);
@@ -187,7 +187,7 @@ fn writers_removers_and_readers_of_one_bin(rt: HostRuntime) -> Result<(), Fail> 
     Ok(())
 }
 
-// The even keys stay, and those that were put before go, if they are odd.
+// The even keys stay, and of the earlier keys the odd ones are removed.
 #[test]
 fn a_retain_beside_insertions(rt: HostRuntime) -> Result<(), Fail> {
     let map = numbers(&rt, rt.alloc(), STANDING as u64);

@@ -1,4 +1,4 @@
-//! Maps of lists, further ones, and equal ones.
+//! Maps that are made from lists, their clones, and equal maps.
 
 use super::walks::sums_of_later_pairs;
 use super::{Numbers, has_sums, numbers, same};
@@ -9,7 +9,7 @@ use std::process::Abort;
 use std::sync::Wait;
 use std::test::Fail;
 
-// The keys from the first one on to the last but one, each with this number more as its value.
+// Returns a list of the keys from `from` to `to`, without `to`. The value of a key is the key plus `more`.
 pub(super) fn list<A: Allocator>(
     alloc: A,
     from: u64,
@@ -23,7 +23,7 @@ pub(super) fn list<A: Allocator>(
     Ok(list)
 }
 
-// Puts the pairs of a further list into a map, which has these sums then.
+// Extends a map by the pairs of a list, and checks the map's sums afterwards.
 fn extends_to<S: KeyHasher<u64>, R: Abort + Wait + AllocGlobal>(
     rt: &R,
     map: &HashMap<u64, u64, S>,
@@ -52,7 +52,7 @@ fn lists(rt: HostRuntime) -> Result<(), Fail> {
     lists_of_one_bin(&rt)
 }
 
-// An empty list makes no table: a walk that began before the first pair gives none.
+// An empty list makes no table: a walk that starts before the first pair gives no pairs.
 #[test]
 fn an_empty_list(rt: HostRuntime) -> Result<(), Fail> {
     let map = HashMap::from_list(&rt, list(rt.alloc(), 0, 0, 0)?, LowHashBuilder)?;
@@ -60,7 +60,7 @@ fn an_empty_list(rt: HostRuntime) -> Result<(), Fail> {
     has_sums(&rt, &map, (10, 45, 45))
 }
 
-// Inserts a pair into the copy of a map of a hundred pairs, and removes one from the map: neither changes the other.
+// Inserts a pair into the clone of a map of a hundred pairs, and removes a pair from the map. Neither changes the other.
 fn are_apart<R: Abort + Wait>(rt: &R, map: &Numbers, copy: &Numbers) -> Result<(), Fail> {
     copy.insert(rt, 200, 0)?;
     map.remove(rt, &3);
@@ -68,7 +68,7 @@ fn are_apart<R: Abort + Wait>(rt: &R, map: &Numbers, copy: &Numbers) -> Result<(
     has_sums(rt, map, (99, 4947, 4947))
 }
 
-// A further map has the pairs of the first, and is another one.
+// A clone of a map has the map's pairs, and is a map of its own.
 #[test]
 fn a_further_map(rt: HostRuntime) -> Result<(), Fail> {
     let map = numbers(&rt, rt.alloc(), 100);
@@ -76,7 +76,7 @@ fn a_further_map(rt: HostRuntime) -> Result<(), Fail> {
     are_apart(&rt, &map, &copy)
 }
 
-// A map of these keys, each with this number more as its value, over a hasher of that seed.
+// Returns a map of the keys below `to`, with the hasher of `seed`. The value of a key is the key plus `more`.
 fn seeded<R: Wait + AllocGlobal>(
     rt: &R,
     to: u64,
@@ -87,7 +87,7 @@ fn seeded<R: Wait + AllocGlobal>(
     HashMap::from_list(rt, list, DefaultHashBuilder::with_seed(seed))
 }
 
-// Whether a map is equal to one of these keys, each with this number more as its value.
+// Returns whether a map is equal to the map of the keys below `to`, in which the value of a key is the key plus `more`.
 fn equals_further<R: Wait + AllocGlobal>(
     rt: &R,
     map: &HashMap<u64, u64>,
@@ -98,7 +98,7 @@ fn equals_further<R: Wait + AllocGlobal>(
     map.equals(rt, &further)
 }
 
-// A map of twenty pairs is equal to itself and to another of them, and to no other map.
+// A map of twenty pairs is equal to itself and to another map of these pairs, and to no other map.
 fn equals_its_like<R: Abort + Wait + AllocGlobal>(
     rt: &R,
     map: &HashMap<u64, u64>,
@@ -111,7 +111,7 @@ fn equals_its_like<R: Abort + Wait + AllocGlobal>(
     Ok(())
 }
 
-// The other map has another key in the place of one.
+// The other map has another key in place of one key.
 fn differs_by_a_key<R: Abort + Wait>(
     rt: &R,
     map: &HashMap<u64, u64>,
@@ -124,7 +124,7 @@ fn differs_by_a_key<R: Abort + Wait>(
     Ok(())
 }
 
-// All of that.
+// Compares a map with an equal one, and then with one that has another key.
 fn compares<R: Abort + Wait + AllocGlobal>(
     rt: &R,
     map: &HashMap<u64, u64>,

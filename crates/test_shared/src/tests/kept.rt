@@ -1,4 +1,4 @@
-//! Keeping some of the pairs.
+//! Calls that keep some of the pairs.
 
 use super::{Numbers, has_sums, numbers, same, taken};
 use flurry_map::iter::Iter;
@@ -6,7 +6,7 @@ use std::process::Abort;
 use std::sync::Wait;
 use std::test::Fail;
 
-// Keeps half of a hundred pairs, half of these, and none.
+// Keeps half of a hundred pairs, then half of these, and then none.
 fn keeps_less<R: Abort + Wait>(rt: &R, map: &Numbers) -> Result<(), Fail> {
     map.retain(rt, |key, _| *key % 2 == 0)?;
     has_sums(rt, map, (50, 2450, 2450))?;
@@ -22,12 +22,12 @@ fn the_even_keys(rt: HostRuntime) -> Result<(), Fail> {
     keeps_less(&rt, &numbers(&rt, rt.alloc(), 100))
 }
 
-// Inserts a value for the key that is shown, and says that the pair is to go.
+// Inserts a value for the key that is shown, and returns `false`, by which the pair is to be removed.
 fn write_and_refuse<R: Wait>(rt: &R, map: &Numbers, key: u64) -> bool {
     map.insert(rt, key, 100).is_err()
 }
 
-// Keeps what was written meanwhile of twenty pairs, and removes it then.
+// Twenty pairs that are written during a `retain` are kept, and during a `retain_force` they are removed.
 fn keeps_what_is_written<R: Abort + Wait>(rt: &R, map: &Numbers) -> Result<(), Fail> {
     map.retain(rt, |key, _| write_and_refuse(rt, map, *key))?;
     has_sums(rt, map, (20, 190, 2000))?;
@@ -36,18 +36,18 @@ fn keeps_what_is_written<R: Abort + Wait>(rt: &R, map: &Numbers) -> Result<(), F
     Ok(())
 }
 
-// A value that was written since stays, and `retain_force` removes it.
+// A value that was written after it was shown stays, and `retain_force` removes it.
 #[test]
 fn a_pair_that_is_written_meanwhile(rt: HostRuntime) -> Result<(), Fail> {
     keeps_what_is_written(&rt, &numbers(&rt, rt.alloc(), 20))
 }
 
-// Removes the pair that is shown and puts it again, and says that it is to go.
+// Removes the pair that is shown and inserts it again, and returns `false`, by which the pair is to be removed.
 fn put_again_and_refuse<R: Wait>(rt: &R, map: &Numbers, key: u64, value: u64) -> bool {
     map.remove(rt, &key).is_none() || map.insert(rt, key, value).is_err()
 }
 
-// A pair that is removed and put again meanwhile is another one.
+// A pair that is removed and inserted again during the call is another pair.
 fn keeps_what_is_put_again<R: Abort + Wait>(rt: &R, map: &Numbers) -> Result<(), Fail> {
     map.retain(rt, |key, value| put_again_and_refuse(rt, map, *key, *value))?;
     same(rt, taken(map.get(rt, &0)?), Some(0));
@@ -59,7 +59,7 @@ fn a_pair_that_is_put_again_meanwhile(rt: HostRuntime) -> Result<(), Fail> {
     keeps_what_is_put_again(&rt, &numbers(&rt, rt.alloc(), 1))
 }
 
-// Reads two pairs, writes the second, and removes both as they were read.
+// Reads two pairs, writes the second one, and removes both as they were read.
 fn remove_as_read<R: Abort + Wait>(
     rt: &R,
     map: &Numbers,
@@ -78,7 +78,7 @@ fn remove_as_read<R: Abort + Wait>(
     Ok(())
 }
 
-// A pair goes as it was read, and once; one that was written since stays.
+// A pair is removed if it is as it was read, and only once. A pair that was written after it was read stays.
 #[test]
 fn pairs_as_they_were_read(rt: HostRuntime) -> Result<(), Fail> {
     let map = numbers(&rt, rt.alloc(), 2);

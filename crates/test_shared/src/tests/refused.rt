@@ -1,4 +1,4 @@
-//! Each request for memory of a walk, or of a call over many pairs, refused in turn.
+//! Each request for memory of a walk, or of a call over many pairs, fails in turn.
 
 use super::bulk::list;
 use super::{numbers, read_all, same};
@@ -12,10 +12,10 @@ use std::test::Fail;
 
 type Memory = &'static Metered<Global>;
 
-// A map of numbers. Its allocator is a parameter, since a proof over `Memory` has to see through it in each step.
+// A map of numbers. Its allocator is a parameter, because a proof over `Memory` would have to unfold it in each step.
 type Numbers<A> = HashMap<u64, u64, LowHashBuilder, A>;
 
-// A call that may be refused.
+// A call that may fail to allocate memory.
 #[derive(Clone, Copy, Debug, PartialEq)]
 enum Call {
     Walk,
@@ -27,7 +27,7 @@ enum Call {
     TryClone,
 }
 
-// Makes the call, of a map or of a list, and answers whether it was done.
+// Makes the call, of a map or of a list, and returns whether it succeeded.
 fn is_done<A: Allocator + Copy, R: Wait>(
     rt: &R,
     map: &Numbers<A>,
@@ -45,7 +45,7 @@ fn is_done<A: Allocator + Copy, R: Wait>(
     }
 }
 
-// How many pairs a walk gives, which is to be the count of the map.
+// Returns the number of pairs that a walk gives, which must be the count of the map.
 fn count_there<A: Allocator + Copy, R: Wait>(rt: &R, map: &Numbers<A>) -> Result<usize, Fail> {
     let there = read_all(map.iter(rt))?.0 as usize;
     if there == map.len(rt) {
@@ -55,8 +55,8 @@ fn count_there<A: Allocator + Copy, R: Wait>(rt: &R, map: &Numbers<A>) -> Result
     }
 }
 
-// The call with its request numbered k refused, of a map and a list in this memory: whether the request was made, whether the call was
-// done, and how many pairs there are then.
+// Makes the call while the request numbered `k` fails, of a map and a list in this memory. Returns whether the request was made, whether
+// the call succeeded, and the number of pairs afterwards.
 fn refuse_in<A: Allocator + Copy, R: Wait>(
     rt: &R,
     memory: &Metered<Global>,
@@ -72,7 +72,7 @@ fn refuse_in<A: Allocator + Copy, R: Wait>(
     Ok((refused, done, count_there(rt, map)?))
 }
 
-// The same of a map of the keys 0 to 2 and of the list of 10 to 12.
+// Does the same as `refuse_in`, with a map of the keys 0 to 2 and a list of the keys 10 to 12.
 fn call_without<R: Wait>(
     rt: &R,
     memory: Memory,
@@ -84,7 +84,7 @@ fn call_without<R: Wait>(
     refuse_in(rt, memory, k, &map, list, call)
 }
 
-// Each of so many requests is refused in turn, and so is the call, which leaves three pairs. Without a refusal so many are left.
+// Makes each of `requests` requests fail in turn: the call then fails, and leaves three pairs. If no request fails, it leaves `left` pairs.
 fn refuse_each<R: Abort + Wait>(
     rt: &R,
     memory: Memory,
@@ -116,7 +116,8 @@ fn calls_without_a_request(rt: HostRuntime) -> Result<(), Fail> {
     refuse_each(&rt, memory, Call::Equals, 0, 3)
 }
 
-// A table and its slots, and three for each pair; a further map shares keys and values, and is built in a table of its own first.
+// The requests are for a table and its slots, and three for each pair. A clone of a map shares its keys and values, and is built in a table
+// of its own first.
 #[test]
 fn maps_that_are_made(rt: HostRuntime) -> Result<(), Fail> {
     let memory = Metered::leaked(rt.alloc())?;
@@ -124,7 +125,7 @@ fn maps_that_are_made(rt: HostRuntime) -> Result<(), Fail> {
     refuse_each(&rt, memory, Call::TryClone, 6, 3)
 }
 
-// An extension keeps the pairs that it inserted before the refused request.
+// An extension keeps the pairs that it inserted before the request that failed.
 #[test]
 fn an_extension(rt: HostRuntime) -> Result<(), Fail> {
     let memory = Metered::leaked(rt.alloc())?;

@@ -11,7 +11,7 @@ use std::test::Fail;
 
 type DefaultRef<'m, R> = HashMapRef<'m, R, u64, u64, DefaultHashBuilder, Global>;
 
-// Inserts one key twice, and no third time.
+// Inserts one key twice, but not a third time.
 fn inserts_a_key<R: Abort + Wait>(rt: &R, view: &DefaultRef<'_, R>) -> Result<(), Fail> {
     same(rt, view.is_empty(), true);
     same(rt, taken(view.insert(7, 0)?), None);
@@ -20,7 +20,7 @@ fn inserts_a_key<R: Abort + Wait>(rt: &R, view: &DefaultRef<'_, R>) -> Result<()
     Ok(())
 }
 
-// Looks it up, and doubles its value.
+// Looks up the key, and doubles its value.
 fn doubles_its_value<R: Abort + Wait>(rt: &R, view: &DefaultRef<'_, R>) -> Result<(), Fail> {
     same(rt, taken(view.get(&7)?), Some(1));
     same(rt, view.get_key_value(&7)?.is_some(), true);
@@ -29,14 +29,14 @@ fn doubles_its_value<R: Abort + Wait>(rt: &R, view: &DefaultRef<'_, R>) -> Resul
     Ok(())
 }
 
-// Removes it, once.
+// Removes the key, once.
 fn removes_it<R: Abort + Wait>(rt: &R, view: &DefaultRef<'_, R>) {
     same(rt, (view.contains_key(&7), view.len()), (true, 1));
     same(rt, taken(view.remove(&7)), Some(2));
     same(rt, view.remove_entry(&7).is_none(), true);
 }
 
-// All of that.
+// Inserts a key, doubles its value, and removes it.
 fn comes_and_goes<R: Abort + Wait>(rt: &R, view: &DefaultRef<'_, R>) -> Result<(), Fail> {
     inserts_a_key(rt, view)?;
     doubles_its_value(rt, view)?;
@@ -54,7 +54,7 @@ fn calls_of_one_key(rt: HostRuntime) -> Result<(), Fail> {
 
 type NumbersRef<'m, R> = HashMapRef<'m, R, u64, u64, LowHashBuilder, Global>;
 
-// Whether the keys that a view gives are not none.
+// Returns whether a view gives at least one key.
 fn has_a_key<R: Wait>(view: &NumbersRef<'_, R>) -> Result<bool, AllocError> {
     let mut keys = view.keys();
     let first = keys.next();
@@ -62,7 +62,7 @@ fn has_a_key<R: Wait>(view: &NumbersRef<'_, R>) -> Result<bool, AllocError> {
     Ok(first?.is_some())
 }
 
-// Whether the values that a view gives are not none.
+// Returns whether a view gives at least one value.
 fn has_a_value<R: Wait>(view: &NumbersRef<'_, R>) -> Result<bool, AllocError> {
     let mut values = view.values();
     let first = values.next();
@@ -70,7 +70,7 @@ fn has_a_value<R: Wait>(view: &NumbersRef<'_, R>) -> Result<bool, AllocError> {
     Ok(first?.is_some())
 }
 
-// Keeps five of ten pairs by a further view, which is of the same map, and then two.
+// Keeps five of ten pairs by another view of the same map, and then two.
 fn keeps_two<R: Abort + Wait>(rt: &R, view: &NumbersRef<'_, R>) -> Result<(), Fail> {
     let other = view.again();
     view.reserve(100)?;
@@ -82,14 +82,14 @@ fn keeps_two<R: Abort + Wait>(rt: &R, view: &NumbersRef<'_, R>) -> Result<(), Fa
     Ok(())
 }
 
-// Has keys and values.
+// Asserts that a view has keys and values.
 fn is_not_empty<R: Abort + Wait>(rt: &R, view: &NumbersRef<'_, R>) -> Result<(), Fail> {
     same(rt, has_a_key(view)?, true);
     same(rt, has_a_value(view)?, true);
     Ok(())
 }
 
-// Is not equal to a view of an empty map.
+// Asserts that a view is not equal to a view of an empty map.
 fn differs_from_none<R: Abort + Wait + AllocGlobal>(
     rt: &R,
     view: &NumbersRef<'_, R>,
@@ -99,7 +99,7 @@ fn differs_from_none<R: Abort + Wait + AllocGlobal>(
     Ok(())
 }
 
-// Removes all pairs, of which a further view has none then.
+// Removes all pairs. Another view of the map then has none.
 fn clears<R: Abort + Wait>(rt: &R, view: &NumbersRef<'_, R>) -> Result<(), Fail> {
     let other = view.again();
     view.clear();
@@ -107,7 +107,7 @@ fn clears<R: Abort + Wait>(rt: &R, view: &NumbersRef<'_, R>) -> Result<(), Fail>
     Ok(())
 }
 
-// All of that, of ten pairs.
+// Keeps some of ten pairs, compares the view, and clears the map.
 fn keeps_and_clears<R: Abort + Wait + AllocGlobal>(
     rt: &R,
     view: &NumbersRef<'_, R>,

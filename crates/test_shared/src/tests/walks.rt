@@ -9,7 +9,7 @@ use std::process::Abort;
 use std::sync::Wait;
 use std::test::Fail;
 
-// The sum of the keys that are left.
+// Returns the sum of the keys that are left.
 fn sum_of_keys<R: Wait>(keys: &mut Keys<'_, R, u64, u64>) -> Result<u64, AllocError> {
     let mut sum = 0u64;
     for _ in 0..super::MOST_READ {
@@ -21,7 +21,7 @@ fn sum_of_keys<R: Wait>(keys: &mut Keys<'_, R, u64, u64>) -> Result<u64, AllocEr
     Ok(sum)
 }
 
-// The sum of the values that are left.
+// Returns the sum of the values that are left.
 fn sum_of_values<R: Wait>(values: &mut Values<'_, R, u64, u64>) -> Result<u64, AllocError> {
     let mut sum = 0u64;
     for _ in 0..super::MOST_READ {
@@ -51,7 +51,7 @@ fn keys_and_values(rt: HostRuntime) -> Result<(), Fail> {
     Ok(())
 }
 
-// Inserts so many keys, each with its own number, and walks over them.
+// Inserts `count` keys, each with itself as its value, and walks over them.
 fn walk_over<S: KeyHasher<u64> + Drop, R: Abort + Wait>(
     rt: &R,
     map: HashMap<u64, u64, S>,
@@ -62,7 +62,7 @@ fn walk_over<S: KeyHasher<u64> + Drop, R: Abort + Wait>(
     has_sums(rt, &map, (count, sum, sum))
 }
 
-// Maps without a table, of one bin that is a list or a tree, and of many bins.
+// Maps without a table, with one bin that is a list or a tree, and with many bins.
 #[test]
 fn each_walk_gives_all_pairs(rt: HostRuntime) -> Result<(), Fail> {
     for count in [0u64, 1, 9, 10, 1000] {
@@ -80,7 +80,7 @@ fn each_walk_gives_all_pairs(rt: HostRuntime) -> Result<(), Fail> {
     )
 }
 
-// What a walk gives that was made before the first table, though there are pairs then.
+// Returns what a walk gives that was created before the first table, although there are pairs then.
 pub(super) fn sums_of_later_pairs<A: Allocator + Copy, R: Wait>(
     rt: &R,
     map: &HashMap<u64, u64, LowHashBuilder, A>,
@@ -97,7 +97,7 @@ fn a_walk_without_a_table(rt: HostRuntime) -> Result<(), Fail> {
     has_sums(&rt, &map, (10, 45, 45))
 }
 
-// Reads the one pair of a map, and no other once the walk has ended, though there are more then.
+// Reads the one pair of a map, and no other pair after the walk has ended, although there are more pairs then.
 fn read_past_the_end<R: Abort + Wait>(
     rt: &R,
     map: &Numbers,
@@ -119,7 +119,7 @@ fn a_walk_that_has_ended(rt: HostRuntime) -> Result<(), Fail> {
     ended
 }
 
-// The next pair of a walk, as numbers.
+// Returns the next pair of a walk, as numbers.
 fn next_pair<R: Wait>(pairs: &mut Iter<'_, R, u64, u64>) -> Result<Option<(u64, u64)>, AllocError> {
     Ok(pairs.next()?.map(|pair| (*pair.0, *pair.1)))
 }
@@ -132,7 +132,7 @@ fn write_and_remove<R: Abort + Wait>(rt: &R, map: &Numbers) -> Result<(), AllocE
     Ok(())
 }
 
-// Walks over the keys 0 to 3, which are written and removed once the first of them was read.
+// Walks over the keys 0 to 3, which are written and removed after the first of them was read.
 fn read_beside_writes<R: Abort + Wait>(
     rt: &R,
     map: &Numbers,
@@ -150,7 +150,7 @@ fn read_beside_writes<R: Abort + Wait>(
     Ok(())
 }
 
-// What it gave stays with its owner, and what is written or removed before it comes there is seen so.
+// A value that a walk gave stays with its owner. The walk sees what is written or removed before it reaches it.
 #[test]
 fn a_walk_sees_what_stands(rt: HostRuntime) -> Result<(), Fail> {
     let map = numbers(&rt, rt.alloc(), 4);

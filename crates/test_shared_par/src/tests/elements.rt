@@ -1,4 +1,4 @@
-//! Elements that several threads put.
+//! Elements that several threads insert.
 
 use super::{pairs_from_100, same};
 use flurry_model::hash::KeyHasher;
@@ -9,7 +9,7 @@ use std::sync::Wait;
 use std::test::Fail;
 use std::thread::Threads;
 
-// A set has the hundred pairs as elements, and no other.
+// Asserts that a set has the hundred pairs as elements, and no others.
 fn has_a_hundred<S: KeyHasher<(u64, u64)>, R: Abort + Wait>(rt: &R, set: &HashSet<(u64, u64), S>) {
     same(rt, set.len(rt), 100);
     same(rt, set.contains(rt, &(100, 0)), true);
@@ -36,7 +36,7 @@ fn a_hundred_elements(rt: HostRuntime) -> Result<(), Fail> {
     extends(&rt, &HashSet::new(rt.alloc()).with_processors(4))
 }
 
-// The same by a view of the set.
+// Extends a set by a view, by no elements, by a hundred, and by half of these again.
 fn extends_by_a_view<R: Abort + AllocGlobal + Threads + Wait + Sync>(
     rt: &R,
     set: &HashSet<(u64, u64)>,

@@ -9,7 +9,7 @@ use std::sync::Wait;
 use std::test::Fail;
 use std::thread::Threads;
 
-// Beside the two pairs that stood before, a map has a hundred.
+// Asserts that a map has a hundred pairs besides the two earlier ones.
 fn has_a_hundred_more<R: Abort + Wait>(rt: &R, map: &HashMap<u64, u64>) -> Result<(), Fail> {
     has_sums(rt, map, (102, 14_954, 49_506))?;
     same(rt, values_at(rt, map, 100, 199)?, (Some(0), Some(990)));
@@ -33,7 +33,7 @@ fn a_hundred_pairs(rt: HostRuntime) -> Result<(), Fail> {
     extends(&rt, &HashMap::new(rt.alloc()).with_processors(4))
 }
 
-// The same by a view of the map.
+// Extends a map by a view, by no pairs, and by a hundred.
 fn extends_by_a_view<R: Abort + AllocGlobal + Threads + Wait + Sync>(
     rt: &R,
     map: &HashMap<u64, u64>,
@@ -50,7 +50,7 @@ fn a_hundred_pairs_by_a_view(rt: HostRuntime) -> Result<(), Fail> {
     extends_by_a_view(&rt, &HashMap::new(rt.alloc()).with_processors(4))
 }
 
-// A new map of so many processors has a hundred pairs after they were inserted in such pieces.
+// A new map for `processors` threads has a hundred pairs after they were inserted in pieces of the length `part`.
 fn extends_to_a_hundred<R: Abort + AllocGlobal + Threads + Wait + Sync>(
     rt: &R,
     processors: usize,
@@ -71,7 +71,7 @@ fn processors_and_parts(rt: HostRuntime) -> Result<(), Fail> {
     Ok(())
 }
 
-// Inserts three pairs in such pieces, of which two have one key: one of their values stands, and the key is counted once.
+// Inserts three pairs in pieces of the length `part`. Two of them have one key: one of their values is stored, and the key is counted once.
 fn has_one_of_two<R: Abort + AllocGlobal + Threads + Wait + Sync>(
     rt: &R,
     map: &HashMap<u64, u64>,

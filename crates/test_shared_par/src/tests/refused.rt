@@ -1,4 +1,4 @@
-//! Calls of which a request for memory is refused.
+//! Calls in which a request for memory fails.
 
 use super::{insert_two, pairs_from_100, read_all, same, values_at};
 use flurry_map::HashMap;
@@ -12,17 +12,17 @@ use std::thread::Threads;
 
 type Memory = &'static Metered<Global>;
 
-// A map of numbers. Its allocator is a parameter, since a proof over `Memory` has to see through it in each step.
+// A map of numbers. Its allocator is a parameter, because a proof over `Memory` would have to unfold it in each step.
 type Numbers<A> = HashMap<u64, u64, LowHashBuilder, A>;
 
-// Whether the two pairs stand that stood before, and the count is that of the pairs of a walk.
+// Returns whether the two earlier pairs are present, and the count is that of the pairs that a walk gives.
 fn is_whole<A: Allocator + Copy, R: Wait>(rt: &R, map: &Numbers<A>) -> Result<bool, AllocError> {
     let stand = values_at(rt, map, 1, 3)? == (Some(2), Some(4));
     Ok(stand && read_all(map.iter(rt))?.0 == map.len(rt) as u64)
 }
 
-// A list is inserted in pieces of two, with the request numbered k of this memory refused: whether that request was made, whether the call
-// was done, whether the map is whole, and how many pairs it has.
+// Inserts a list in pieces of two while the request numbered `k` of this memory fails. Returns whether that request was made, whether the
+// call succeeded, whether the map is whole, and the number of its pairs.
 fn refuse_in<A: Allocator + Copy + Send + Sync, R: Threads + Wait + Sync>(
     rt: &R,
     memory: &Metered<Global>,
@@ -37,7 +37,7 @@ fn refuse_in<A: Allocator + Copy + Send + Sync, R: Threads + Wait + Sync>(
     Ok((refused, done, is_whole(rt, map)?, map.len(rt)))
 }
 
-// The same of six pairs, which two threads are to insert into a map of two.
+// Does the same as `refuse_in` with six pairs, which two threads insert into a map of two.
 fn extend_without<R: Threads + Wait + Sync>(
     rt: &R,
     memory: Memory,
@@ -49,7 +49,7 @@ fn extend_without<R: Threads + Wait + Sync>(
     refuse_in(rt, memory, k, &map, list)
 }
 
-// A request for each of three pieces, and three for each pair: where one is refused, so is the call, and what stood stays.
+// There is a request for each of three pieces, and three for each pair. If one of them fails, the call fails, and the earlier pairs stay.
 #[test]
 fn each_request(rt: HostRuntime) -> Result<(), Fail> {
     let memory = Metered::leaked(rt.alloc())?;
@@ -65,7 +65,7 @@ fn each_request(rt: HostRuntime) -> Result<(), Fail> {
     Ok(())
 }
 
-// A list is inserted in pieces of ten, with this memory's requests refused from the one numbered k on: whether the call was refused, and
+// Inserts a list in pieces of ten while the requests of this memory fail from the one numbered `k` on. Returns whether the call failed, and
 // whether the map is whole.
 fn refuse_from<A: Allocator + Copy + Send + Sync, R: Threads + Wait + Sync>(
     rt: &R,
@@ -80,7 +80,7 @@ fn refuse_from<A: Allocator + Copy + Send + Sync, R: Threads + Wait + Sync>(
     Ok((refused, is_whole(rt, map)?))
 }
 
-// The same of a thousand pairs, which four threads are to insert into a map of two.
+// Does the same as `refuse_from` with a thousand pairs, which four threads insert into a map of two.
 fn run_out<R: Threads + Wait + Sync>(
     rt: &R,
     memory: Memory,
@@ -92,7 +92,7 @@ fn run_out<R: Threads + Wait + Sync>(
     refuse_from(rt, memory, k, &map, list)
 }
 
-// Four threads insert a thousand pairs while memory runs out: the call is refused, and what stood stays.
+// Four threads insert a thousand pairs while memory runs out: the call fails, and the earlier pairs stay.
 #[test]
 fn memory_that_runs_out(rt: HostRuntime) -> Result<(), Fail> {
     let memory = Metered::leaked(rt.alloc())?;

@@ -1,4 +1,4 @@
-//! How sets are made.
+//! The ways in which sets are created.
 
 use super::{has_sums, list, same, set_of};
 use flurry_model::hash::{KeyHasher, LowHashBuilder, ZeroHashBuilder};
@@ -8,7 +8,7 @@ use std::process::Abort;
 use std::sync::Wait;
 use std::test::Fail;
 
-// Puts one number into a set that has none, and finds it there.
+// Inserts a number into an empty set, and finds it there.
 fn takes_one<A: Allocator + Copy, R: Abort + Wait>(
     rt: &R,
     set: &HashSet<u64, LowHashBuilder, A>,
@@ -34,7 +34,7 @@ fn sets_with_room(rt: HostRuntime) -> Result<(), Fail> {
     )
 }
 
-// A set is empty until a number is put.
+// A set is empty until a number is inserted.
 fn is_empty_at_first<S: KeyHasher<u64>, A: Allocator + Copy, R: Abort + Wait>(
     rt: &R,
     set: &HashSet<u64, S, A>,
@@ -64,7 +64,7 @@ fn a_set_of_four_processors(rt: HostRuntime) -> Result<(), Fail> {
     has_sums(&rt, &set, (2, 3))
 }
 
-// Of a class the element that was stored first stays.
+// Of a class, the element that was stored first stays.
 #[test]
 fn a_set_of_a_list(rt: HostRuntime) -> Result<(), Fail> {
     let mut numbers = list(rt.alloc(), 1, 4)?;
@@ -73,7 +73,7 @@ fn a_set_of_a_list(rt: HostRuntime) -> Result<(), Fail> {
     has_sums(&rt, &set, (3, 6))
 }
 
-// Puts an element into the copy of a set of two, and removes one from the set: neither changes the other.
+// Inserts an element into the clone of a set of two elements, and removes an element from the set. Neither changes the other.
 fn are_apart<A: Allocator + Copy, R: Abort + Wait>(
     rt: &R,
     set: &HashSet<u64, LowHashBuilder, A>,
@@ -85,7 +85,7 @@ fn are_apart<A: Allocator + Copy, R: Abort + Wait>(
     has_sums(rt, set, (1, 2))
 }
 
-// A further set has the elements of the first, and is another one.
+// A clone of a set has the set's elements, and is a set of its own.
 #[test]
 fn a_further_set(rt: HostRuntime) -> Result<(), Fail> {
     let set = set_of(&rt, rt.alloc(), &[1, 2])?;

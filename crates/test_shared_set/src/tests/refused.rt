@@ -1,4 +1,4 @@
-//! Each request for memory of a call that may be refused, refused in turn.
+//! Each request for memory of a call that may fail, which fails in turn.
 
 use super::{list, read_all, same, set_of};
 use flurry_model::hash::{DefaultHashBuilder, LowHashBuilder};
@@ -11,12 +11,12 @@ use std::test::Fail;
 
 type Memory = &'static Metered<Global>;
 
-// A set of numbers. Its allocator is a parameter, since a proof over `Memory` has to see through it in each step.
+// A set of numbers. Its allocator is a parameter, because a proof over `Memory` would have to unfold it in each step.
 type Numbers<A> = HashSet<u64, LowHashBuilder, A>;
 
 type DefaultNumbers = HashSet<u64, DefaultHashBuilder, Memory>;
 
-// A call that may be refused.
+// A call that may fail to allocate memory.
 #[derive(Clone, Copy, Debug, PartialEq)]
 enum Call {
     Get,
@@ -29,7 +29,7 @@ enum Call {
     Relations,
 }
 
-// Makes the call, of a set or of a list, and answers whether it was done.
+// Makes the call, of a set or of a list, and returns whether it succeeded.
 fn is_done<A: Allocator + Copy, R: Wait>(
     rt: &R,
     set: &Numbers<A>,
@@ -48,7 +48,7 @@ fn is_done<A: Allocator + Copy, R: Wait>(
     }
 }
 
-// Asks for each relation of a set with itself, and answers whether all were found out.
+// Asks for each relation of a set with itself, and returns whether all these calls succeeded.
 fn are_related<A: Allocator + Copy, R: Wait>(rt: &R, set: &Numbers<A>) -> bool {
     set.equals(rt, set).is_ok()
         && set.is_subset(rt, set).is_ok()
@@ -56,8 +56,8 @@ fn are_related<A: Allocator + Copy, R: Wait>(rt: &R, set: &Numbers<A>) -> bool {
         && set.is_disjoint(rt, set).is_ok()
 }
 
-// The call with its request numbered k refused, of a set and a list in this memory: whether the request was made, whether the call was
-// done, and how many elements there are then.
+// Makes the call while the request numbered `k` fails, of a set and a list in this memory. Returns whether the request was made, whether
+// the call succeeded, and the number of elements afterwards.
 fn refuse_in<A: Allocator + Copy, R: Wait>(
     rt: &R,
     memory: &Metered<Global>,
@@ -73,7 +73,7 @@ fn refuse_in<A: Allocator + Copy, R: Wait>(
     Ok((refused, done, read_all(set.iter(rt))?.0))
 }
 
-// The same of a set of 1 and 2 and of the list of 10 and 11.
+// Does the same as `refuse_in`, with a set of 1 and 2 and a list of 10 and 11.
 fn call_without<R: Wait>(
     rt: &R,
     memory: Memory,
@@ -85,7 +85,8 @@ fn call_without<R: Wait>(
     refuse_in(rt, memory, k, &set, list, call)
 }
 
-// Each of so many requests is refused in turn, and so is the call, which leaves two elements. Without a refusal so many are left.
+// Makes each of `requests` requests fail in turn: the call then fails, and leaves two elements. If no request fails, it leaves `left`
+// elements.
 fn refuse_each<R: Abort + Wait>(
     rt: &R,
     memory: Memory,
@@ -125,7 +126,7 @@ fn calls_with_requests(rt: HostRuntime) -> Result<(), Fail> {
     refuse_each(&rt, memory, Call::TryClone, 5, 2)
 }
 
-// An extension keeps the elements that it put before the refused request.
+// An extension keeps the elements that it inserted before the request that failed.
 #[test]
 fn an_extension(rt: HostRuntime) -> Result<(), Fail> {
     let memory = Metered::leaked(rt.alloc())?;
@@ -160,7 +161,7 @@ fn a_set_with_room(rt: HostRuntime) -> Result<(), Fail> {
     Ok(())
 }
 
-// The same by the default hasher, which takes no memory.
+// A set with room and the default hasher, which takes no memory.
 #[test]
 fn a_set_with_room_by_default(rt: HostRuntime) -> Result<(), Fail> {
     let memory = Metered::leaked(rt.alloc())?;

@@ -8,7 +8,7 @@ use std::process::Abort;
 use std::sync::Wait;
 use std::test::Fail;
 
-// How two sets stand to each other.
+// The relations of one set to another.
 #[derive(Clone, Copy, Debug, PartialEq)]
 struct Relations {
     equals: bool,
@@ -70,7 +70,7 @@ fn of_views<A: Allocator + Copy, R: Wait>(
     })
 }
 
-// Two sets, and their views, stand so to each other.
+// Asserts that `wanted` are the relations of two sets, and of their views.
 fn stand_so<A: Allocator + Copy, R: Abort + Wait>(
     rt: &R,
     left: &HashSet<u64, LowHashBuilder, A>,
@@ -82,7 +82,7 @@ fn stand_so<A: Allocator + Copy, R: Abort + Wait>(
     Ok(())
 }
 
-// The sets of these numbers, and their views, stand so to each other.
+// Asserts that `wanted` are the relations of the sets of these numbers, and of their views.
 fn related<R: Abort + Wait>(
     rt: &R,
     alloc: Global,
@@ -95,7 +95,7 @@ fn related<R: Abort + Wait>(
     stand_so(rt, &left, &right, wanted)
 }
 
-// Puts 1, which is there, and takes it out: of 1 and 2, 2 is left.
+// Inserts 1, which is present, and takes it: of 1 and 2, 2 is left.
 fn leaves_two<A: Allocator + Copy, R: Abort + Wait>(
     rt: &R,
     set: &HashSet<u64, LowHashBuilder, A>,
@@ -124,7 +124,7 @@ fn other_sets(rt: HostRuntime) -> Result<(), Fail> {
     Ok(())
 }
 
-// The empty set is a subset of each set, and disjoint from each, itself included.
+// The empty set is a subset of every set, and is disjoint from every set, including itself.
 #[test]
 fn the_empty_set(rt: HostRuntime) -> Result<(), Fail> {
     let less = Relations {

@@ -8,7 +8,7 @@ use std::process::Abort;
 use std::sync::Wait;
 use std::test::Fail;
 
-// Puts a third number by a further view, which is of the same set.
+// Inserts a third number by another view of the same set.
 fn puts_by_another<A: Allocator + Copy, R: Abort + Wait>(
     rt: &R,
     view: &HashSetRef<'_, R, u64, LowHashBuilder, A>,
@@ -23,7 +23,7 @@ fn puts_by_another<A: Allocator + Copy, R: Abort + Wait>(
     Ok(())
 }
 
-// Leaves the numbers other than 1, in a table with room for more.
+// Keeps the numbers other than 1, in a table with room for more.
 fn keeps_two<A: Allocator + Copy, R: Abort + Wait>(
     rt: &R,
     view: &HashSetRef<'_, R, u64, LowHashBuilder, A>,
@@ -34,7 +34,7 @@ fn keeps_two<A: Allocator + Copy, R: Abort + Wait>(
     Ok(())
 }
 
-// Takes a number out, which is then gone, and all that are left.
+// Removes a number, which is then absent, and then all numbers that are left.
 fn takes_out<A: Allocator + Copy, R: Abort + Wait>(
     rt: &R,
     view: &HashSetRef<'_, R, u64, LowHashBuilder, A>,
@@ -45,7 +45,7 @@ fn takes_out<A: Allocator + Copy, R: Abort + Wait>(
     view.clear();
 }
 
-// All of that, which the set has too.
+// Changes a set by its view, and checks that the set has the changes.
 fn changes_the_set<A: Allocator + Copy, R: Abort + Wait>(
     rt: &R,
     set: &HashSet<u64, LowHashBuilder, A>,

@@ -1,7 +1,7 @@
-//! Calls in steps: what each step is, over tables that can be refused.
+//! Calls in steps: what each step does, over tables for which memory can fail.
 //!
-//! A function that owns a call in progress lends it to another one and then drops it by name: where it is dropped at the end of a
-//! body, the proof goes through all that it can hold.
+//! A function that owns a call in progress passes it to another function by reference, and then drops it explicitly. If it were dropped at
+//! the end of a body, the proof would go through everything that it can hold.
 ghost use Rattle.std.specs.Prelude.{◌≡◌, ⊤};
 ghost use Rattle.flurry_calls.specs.Part.{LookPart, BinPart, MovePart};
 ghost use Rattle.flurry_steps.specs.Party.{wanted_part};
@@ -25,7 +25,7 @@ use flurry_steps::party::{Call, Event, Party, Reply, Want};
 use std::alloc::{AllocError, Global};
 use std::process::Abort;
 
-// The slots of all tables, in any order. The request for a table of the number `refused` is refused, the first one being 1.
+// The slots of all tables, in any order. The request for a table with the number `refused` fails, where the first request has the number 1.
 #[derive(Drop)]
 struct Tables {
     slots: Vec<Slot<u64, u64>>,
@@ -34,7 +34,7 @@ struct Tables {
 }
 
 impl Tables {
-    // Takes a slot out.
+    // Takes a slot out of the list.
     fn take(&mut self, rt: &impl Abort, table: u8, index: usize) -> Slot<u64, u64> {
         for place in 0..self.slots.len() {
             if self.slots[place].at() == (table, index) {
@@ -44,7 +44,7 @@ impl Tables {
         panic!(rt; "the slot is there")
     }
 
-    // Puts a slot back.
+    // Puts a slot back into the list.
     fn put_back(&mut self, rt: &impl Abort, slot: Slot<u64, u64>) {
         self.slots.push(slot).expect(rt, "memory for the slot");
     }
@@ -76,7 +76,7 @@ struct Map {
     processors: usize,
 }
 
-// A map without a table, whose request for a table of that number is refused.
+// Returns a map without a table, in which the request for a table with the number `refused` fails.
 fn empty_map(alloc: Global, processors: usize, refused: u8) -> Map {
     Map {
         control: Control::new(),
@@ -89,7 +89,7 @@ fn empty_map(alloc: Global, processors: usize, refused: u8) -> Map {
     }
 }
 
-// A function that answers this whatever the pair is.
+// A function that returns this result for any pair.
 #[derive(Clone, Copy)]
 struct Becomes(Option<u64>);
 
@@ -103,7 +103,7 @@ impl ComputeFn<u64, u64> for Becomes {
     }
 }
 
-// What a call replied.
+// The reply of a call.
 #[derive(Clone, Copy, Debug, PartialEq, Eq)]
 enum Told {
     Key(KeptReply<u64, u64>),
@@ -130,7 +130,7 @@ fn value(value: Option<u64>) -> Told {
     Told::Key(KeptReply::Value(value))
 }
 
-// Sees that a slot is this one.
+// Asserts that a slot is the one at `index` of `table`.
 fn is_at(rt: &impl Abort, slot: &Slot<u64, u64>, table: u8, index: usize)
     ensures { (slot.now.table ≡ table) × (slot.now.index ≡ index) }
 {
@@ -139,7 +139,7 @@ fn is_at(rt: &impl Abort, slot: &Slot<u64, u64>, table: u8, index: usize)
     assert!(rt; slot_index == index);
 }
 
-// Takes out the slot that a call wants.
+// Takes the slot that a call needs out of the tables.
 fn lent(rt: &impl Abort, map: &mut Map, table: u8, index: usize) -> Slot<u64, u64>
     ensures { (result.table ≡ table) × (result.index ≡ index) }
 {
@@ -148,7 +148,7 @@ fn lent(rt: &impl Abort, map: &mut Map, table: u8, index: usize) -> Slot<u64, u6
     slot
 }
 
-// The step of a call that wants to read this slot.
+// Does the step of a call that needs to read a slot.
 fn look<'k, F: ComputeFn<u64, u64>>(
     rt: &impl Abort,
     party: &mut Party<'k, u64, u64, F>,
@@ -164,7 +164,7 @@ fn look<'k, F: ComputeFn<u64, u64>>(
     event
 }
 
-// The step of a call that wants to write this slot.
+// Does the step of a call that needs to write a slot.
 fn change<'k, F: ComputeFn<u64, u64>>(
     rt: &(impl Abort + AllocGlobal),
     party: &mut Party<'k, u64, u64, F>,
@@ -180,7 +180,7 @@ fn change<'k, F: ComputeFn<u64, u64>>(
     event
 }
 
-// The step of a call that wants to move this slot into its halves.
+// Does the step of a call that needs to move a slot into its halves.
 fn move_bin<'k, F: ComputeFn<u64, u64>>(
     rt: &impl Abort,
     party: &mut Party<'k, u64, u64, F>,
@@ -203,7 +203,7 @@ fn move_bin<'k, F: ComputeFn<u64, u64>>(
     event
 }
 
-// The next step, at the part that the call wants.
+// Does the next step of a call, at the part that it needs.
 fn step<'k, F: ComputeFn<u64, u64>>(
     rt: &(impl Abort + AllocGlobal),
     party: &mut Party<'k, u64, u64, F>,
@@ -218,7 +218,7 @@ fn step<'k, F: ComputeFn<u64, u64>>(
     }
 }
 
-// The events of the next steps, up to so many.
+// Does the next steps of a call, at most `count`, and returns their events.
 fn steps<'k, F: ComputeFn<u64, u64>>(
     rt: &(impl Abort + AllocGlobal),
     party: &mut Party<'k, u64, u64, F>,
@@ -236,7 +236,7 @@ fn steps<'k, F: ComputeFn<u64, u64>>(
     events
 }
 
-// The reply of a call that is done. It stays done, and its reply is taken once.
+// Returns the reply of a call that is done. The call stays done, and its reply can be taken only once.
 fn reply_of<'k, F: ComputeFn<u64, u64>>(
     rt: &impl Abort,
     party: &mut Party<'k, u64, u64, F>,
@@ -252,7 +252,7 @@ fn reply_of<'k, F: ComputeFn<u64, u64>>(
     told
 }
 
-// The events of a call up to its end, and its reply.
+// Does the steps of a call to its end, and returns their events and the reply.
 fn end<'k, F: ComputeFn<u64, u64>>(
     rt: &(impl Abort + AllocGlobal),
     party: &mut Party<'k, u64, u64, F>,
@@ -263,7 +263,7 @@ fn end<'k, F: ComputeFn<u64, u64>>(
     (events, reply)
 }
 
-// The events of a whole call, and its reply.
+// Runs a whole call, and returns its events and its reply.
 fn run<'k, F: ComputeFn<u64, u64>>(
     rt: &(impl Abort + AllocGlobal),
     map: &mut Map,
@@ -289,7 +289,7 @@ enum Script {
     NinthKey,
     // A reserve that others help.
     Helped,
-    // A look-up that begins at the certificate of the table.
+    // A look-up that starts at the certificate of the table.
     LookUp,
     // A reserve that moves one bin, and stops there for good.
     GrowthStops,
@@ -297,7 +297,7 @@ enum Script {
     Walk,
 }
 
-// Begins a call and lends it to its script.
+// Begins a call, and passes it to its script by reference.
 fn follows_script<'k, F: ComputeFn<u64, u64>>(
     rt: &(impl Abort + AllocGlobal),
     map: &mut Map,
@@ -320,7 +320,7 @@ fn follows_script<'k, F: ComputeFn<u64, u64>>(
     drop(party);
 }
 
-// The same of a call without a function.
+// Begins a call without a function, and passes it to its script by reference.
 fn follows<'k>(
     rt: &(impl Abort + AllocGlobal),
     map: &mut Map,
@@ -341,7 +341,7 @@ fn call<'k>(
     run(rt, map, hash, call)
 }
 
-// Runs a call, and sees to its reply.
+// Runs a call, and checks its reply.
 fn replies<'k>(
     rt: &(impl Abort + AllocGlobal),
     map: &mut Map,
@@ -353,7 +353,7 @@ fn replies<'k>(
     same(rt, seen, reply);
 }
 
-// Runs a call without a key, and sees to the number of its steps.
+// Runs a call without a key, and checks the number of its steps.
 fn ends_after<'k>(
     rt: &(impl Abort + AllocGlobal),
     map: &mut Map,
@@ -364,29 +364,29 @@ fn ends_after<'k>(
     same(rt, (events.len(), reply), (steps, Told::Ended));
 }
 
-// Inserts a key and value 0, and answers how many steps that took.
+// Inserts a key with the value 0, and returns the number of steps.
 fn insert(rt: &(impl Abort + AllocGlobal), map: &mut Map, hash: u64, key: u64) -> usize {
     let (events, reply) = call(rt, map, hash, Call::Insert(key, 0));
     same(rt, reply, value(None));
     events.len()
 }
 
-// Inserts a key and value 0, and sees to the number of steps.
+// Inserts a key with the value 0, and checks the number of steps.
 fn inserts(rt: &(impl Abort + AllocGlobal), map: &mut Map, hash: u64, key: u64, steps: usize) {
     same(rt, insert(rt, map, hash, key), steps);
 }
 
-// Sees to the table that is published.
+// Checks which table is published.
 fn has_table(rt: &impl Abort, map: &Map, table: Option<u8>) {
     same(rt, map.control.locate(), table);
 }
 
-// Sees to the number of pairs that the control has counted.
+// Checks the number of pairs that the control has counted.
 fn has_pairs(rt: &impl Abort, map: &Map, count: usize) {
     same(rt, map.control.len(), count);
 }
 
-// A map of 16 bins with the keys 1 and 17, whose hash is the key; both stand in bin 1.
+// Returns a map of 16 bins with the keys 1 and 17, in which the hash of each key is the key. Both keys are in bin 1.
 fn one_and_seventeen(rt: &(impl Abort + AllocGlobal)) -> Map {
     let mut map = empty_map(rt.alloc(), 1, 0);
     inserts(rt, &mut map, 1, 1, 3);
@@ -394,7 +394,7 @@ fn one_and_seventeen(rt: &(impl Abort + AllocGlobal)) -> Map {
     map
 }
 
-// Runs a call, and sees to its events and its reply.
+// Runs a call, and checks its events and its reply.
 fn answers<'k>(
     rt: &(impl Abort + AllocGlobal),
     map: &mut Map,
@@ -408,7 +408,7 @@ fn answers<'k>(
     same(rt, reply_for, reply);
 }
 
-// Does the next steps of a call, up to so many, and sees to their events.
+// Does the next steps of a call, at most `count`, and checks their events.
 fn goes_on<'k, F: ComputeFn<u64, u64>>(
     rt: &(impl Abort + AllocGlobal),
     party: &mut Party<'k, u64, u64, F>,
@@ -420,7 +420,7 @@ fn goes_on<'k, F: ComputeFn<u64, u64>>(
     same(rt, seen.as_slice(), events);
 }
 
-// The first steps of a reserve, which moves the last of 64 bins.
+// Does the first steps of a reserve, which moves the last of 64 bins.
 fn moves_the_last_bin<'k, F: ComputeFn<u64, u64>>(
     rt: &(impl Abort + AllocGlobal),
     reserve: &mut Party<'k, u64, u64, F>,

@@ -10,12 +10,12 @@ use flurry_world::world::Step;
 use std::alloc::Global;
 use std::process::Abort;
 
-// Adds 2 to a value, and takes out the pair of one that would be 10 or more.
+// Adds 2 to a value, or removes the pair if the result would be 10 or more.
 fn two_more(value: u64) -> Option<u64> {
     value.checked_add(2).filter(|sum| *sum < 10)
 }
 
-// Calls of one key, with a function.
+// One-key calls, with a function.
 #[derive(Clone, Copy)]
 enum Row {
     AbsentKey,
@@ -23,7 +23,8 @@ enum Row {
     Rewrites,
 }
 
-// Goes through a row in a world of its own, which it lends: where a world is dropped, the proof goes through all that it can hold.
+// Goes through a row in a world of its own, which it passes by reference: where a world is dropped, the proof goes through everything that
+// it can hold.
 fn goes_through<F: ComputeFn<u64, u64> + Copy>(rt: &impl Abort, alloc: Global, row: Row, change: F)
     requires { (f : F) → F.can_change f }
 {
@@ -40,7 +41,7 @@ fn goes_through<F: ComputeFn<u64, u64> + Copy>(rt: &impl Abort, alloc: Global, r
     drop(world);
 }
 
-// The same where the function adds 2.
+// Goes through a row with the function that adds 2.
 fn adds_two(rt: &impl Abort, alloc: Global, row: Row) {
     goes_through(rt, alloc, row, |_key: &u64, value: &u64| two_more(*value))
 }
@@ -88,7 +89,7 @@ fn one_key<'k, F: ComputeFn<u64, u64> + Copy>(
     removes(rt, world);
 }
 
-// Puts 5 at key 3, and 6 at key 19.
+// Sets the value of key 3 to 5, and the value of key 19 to 6.
 fn puts<'k, F: ComputeFn<u64, u64> + Copy>(rt: &impl Abort, world: &mut Numbers<'k, F>)
     requires { (f : F) → F.can_change f }
 {
@@ -126,17 +127,17 @@ fn removes<'k, F: ComputeFn<u64, u64> + Copy>(rt: &impl Abort, world: &mut Numbe
     assert_reply(rt, world, OwnedCall::Remove(35), value(Some(1)))
 }
 
-// A list of steps and the same steps one by one have the same labels. Party 0 has read nothing, so that no removal begins of it.
+// A list of steps and the same steps one by one have the same labels. Party 0 has read nothing, so no removal of what it has read begins.
 #[test]
 fn list_of_steps(rt: HostRuntime) {
     runs_a_list::<NoFn>(&rt, rt.alloc(), true);
     runs_a_list::<NoFn>(&rt, rt.alloc(), false)
 }
 
-// How many steps the list has.
+// The number of steps of the list.
 const STEPS: usize = 16;
 
-// The step of the list at this place.
+// Returns the step of the list at the place `at`.
 fn step_at<F>(at: usize) -> Step<u64, u64, F> {
     match at {
         0 => Step::Begin(OwnedCall::TryInsert(3, 4)),
@@ -151,7 +152,7 @@ fn step_at<F>(at: usize) -> Step<u64, u64, F> {
     }
 }
 
-// Does the steps in a world of its own, as a list or singly.
+// Does the steps in a world of its own, as a list or one by one.
 fn runs_a_list<F: ComputeFn<u64, u64> + Copy>(rt: &impl Abort, alloc: Global, listed: bool)
     requires { (f : F) → F.can_change f }
 {
@@ -165,7 +166,7 @@ fn runs_a_list<F: ComputeFn<u64, u64> + Copy>(rt: &impl Abort, alloc: Global, li
     drop(world);
 }
 
-// The steps as a list.
+// Does the steps as a list.
 #[tactic(auto, using(flurry_world::proofs::RunLaws::step_ready))]
 fn does_listed<'k, F: ComputeFn<u64, u64> + Copy>(
     rt: &impl Abort,
@@ -181,7 +182,7 @@ fn does_listed<'k, F: ComputeFn<u64, u64> + Copy>(
     world.run(list).expect(rt, "memory for the steps");
 }
 
-// The steps, each by the call that does it.
+// Does the steps one by one, each by the call that does it.
 fn does_singly<'k, F: ComputeFn<u64, u64> + Copy>(rt: &impl Abort, world: &mut Numbers<'k, F>)
     requires { (f : F) → F.can_change f }
 {
@@ -200,7 +201,7 @@ fn does_singly<'k, F: ComputeFn<u64, u64> + Copy>(rt: &impl Abort, world: &mut N
     }
 }
 
-// The labels of the world are those of the list.
+// Asserts that the labels of the world are those of the list.
 fn has_labels_of_the_list<'k, F: ComputeFn<u64, u64> + Copy>(
     rt: &impl Abort,
     world: &Numbers<'k, F>,
@@ -225,7 +226,7 @@ fn has_labels_of_the_list<'k, F: ComputeFn<u64, u64> + Copy>(
     assert_trace(rt, world, &lines);
 }
 
-// The labels of a world are these.
+// Asserts that `lines` are the labels of a world.
 fn assert_trace<'k, F: ComputeFn<u64, u64> + Copy>(
     rt: &impl Abort,
     world: &Numbers<'k, F>,
@@ -237,7 +238,7 @@ fn assert_trace<'k, F: ComputeFn<u64, u64> + Copy>(
     }
 }
 
-// Without room for a pair the first table has 16 bins; for 1 pair it has 2, for 5 pairs 8, and for 16 pairs 32.
+// Without room for pairs, the first table has 16 bins. With room for 1 pair it has 2 bins, for 5 pairs 8, and for 16 pairs 32.
 #[test]
 fn first_table(rt: HostRuntime) {
     for (capacity, table) in [(0, 4), (1, 1), (5, 3), (16, 5)] {
@@ -245,7 +246,7 @@ fn first_table(rt: HostRuntime) {
     }
 }
 
-// The first table of a world with room for so many pairs.
+// Asserts that `table` is the first table of a world with room for `capacity` pairs.
 fn has_first_table<F: ComputeFn<u64, u64> + Copy>(
     rt: &impl Abort,
     alloc: Global,
@@ -264,7 +265,7 @@ fn has_first_table<F: ComputeFn<u64, u64> + Copy>(
     drop(world);
 }
 
-// An insertion decides in the first table, and the next one that a reserve makes tells which one it is.
+// Asserts that the first table is `table`: an insertion decides in it, and the next table that a reserve makes shows which one it is.
 fn begins_with<'k, F: ComputeFn<u64, u64> + Copy>(
     rt: &impl Abort,
     world: &mut Numbers<'k, F>,
@@ -284,8 +285,8 @@ fn rewritten_value(rt: HostRuntime) {
     adds_two(&rt, rt.alloc(), Row::Rewrites)
 }
 
-// With memory enough no call is refused, in a table of 8192 bins and whatever number a value has: a value is written ten times, and
-// looked up between. Nor is the next larger table.
+// With enough memory, no call fails in a table of 8192 bins, for any write number of a value, and the next larger table can be made too. A
+// value is written ten times, and looked up in between.
 fn rewrites<'k, F: ComputeFn<u64, u64> + Copy>(
     rt: &impl Abort,
     world: &mut Numbers<'k, F>,

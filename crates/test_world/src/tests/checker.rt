@@ -1,4 +1,4 @@
-//! A checker of labels: it keeps a plain map, the call of each party and the state of the tables, by the labels alone.
+//! A checker of labels. From the labels alone it keeps a plain map, the call of each party and the state of the tables.
 
 use flurry_model::reply::KeptReply;
 use flurry_slots::ComputeFn;
@@ -6,12 +6,12 @@ use flurry_theory::{Call, Label};
 use std::alloc::Global;
 use std::process::Abort;
 
-/// The keys that calls may have are the numbers below this one.
+/// The keys of calls are the numbers below this one.
 pub(super) const KEYS: u64 = 32;
 
-// What is known of a party. Of sets of keys each key is a bit: those that were present after each label since it began, those that it
-// has read, and those that were absent after a label of its own. A walk, and the removal of what it has read, watch the pair that was read
-// last, and whether it was touched since.
+// What is known of a party. In a set of keys, each key is a bit. There are the keys that were present after each label since the party
+// began, the keys that it has read, and the keys that were absent after a label of its own. A walk, and the removal of what it has read,
+// watch the pair that was read last, and whether it was touched since.
 #[derive(Clone, Copy)]
 struct Known<F> {
     call: Call<u64, u64, F>,
@@ -24,7 +24,7 @@ struct Known<F> {
     touched: bool,
 }
 
-// The party whose label it is, other than that of its beginning.
+// Returns the party of a label, unless it is the label of a party's beginning.
 fn party_of<F>(label: &Label<u64, u64, F>) -> Option<usize> {
     match label {
         Label::Decide(party, _)
@@ -42,12 +42,12 @@ fn party_of<F>(label: &Label<u64, u64, F>) -> Option<usize> {
     }
 }
 
-// The set of this key.
+// Returns the set of one key.
 fn set_of(key: u64) -> u64 {
     1u64.wrapping_shl((key % 64) as u32)
 }
 
-// The key of a call of one key.
+// Returns the key of a one-key call.
 fn key_of<F>(call: &Call<u64, u64, F>) -> Option<u64> {
     match call {
         Call::Get(key)
@@ -63,7 +63,7 @@ fn key_of<F>(call: &Call<u64, u64, F>) -> Option<u64> {
     }
 }
 
-// Whether a call of one key that has this reply writes or removes the key.
+// Returns whether a one-key call with this reply writes or removes the key.
 fn touches<F>(call: &Call<u64, u64, F>, reply: KeptReply<u64, u64>) -> bool {
     match call {
         Call::Insert(_, _) | Call::Compute(_, _) | Call::Remove(_) | Call::RemoveEntry(_) => true,
@@ -73,7 +73,7 @@ fn touches<F>(call: &Call<u64, u64, F>, reply: KeptReply<u64, u64>) -> bool {
     }
 }
 
-// The reply of a call of one key, and the value after it, where the key has that value.
+// Returns the reply of a one-key call, and the value of the key after it, if the key has the value `value` before.
 fn outcome<F: ComputeFn<u64, u64>>(
     call: Call<u64, u64, F>,
     key: u64,
@@ -113,7 +113,7 @@ fn outcome<F: ComputeFn<u64, u64>>(
     }
 }
 
-/// What the labels so far have told.
+/// What the labels so far have shown.
 #[derive(Drop)]
 pub(super) struct Checker<F> {
     alloc: Global,
@@ -121,13 +121,13 @@ pub(super) struct Checker<F> {
     map: Vec<Option<u64>>,
     parties: Vec<Known<F>>,
     published: Option<u8>,
-    // While the next table is placed, which bins of the published one have moved.
+    // The bins of the published table that have moved, while the next table is placed.
     moved: Option<Vec<bool>>,
     growths: u64,
-    // How many removals of what a walk has read found it untouched, and how many did not.
+    // The number of removals of what a walk has read that found it untouched, and the number of those that did not.
     removed: u64,
     kept: u64,
-    // The party that has read last.
+    // The last party that has read.
     reader: usize,
 }
 
@@ -136,7 +136,7 @@ fn ensure(rt: &impl Abort, holds: bool, what: &'static str) {
 }
 
 impl<F: ComputeFn<u64, u64> + Copy> Checker<F> {
-    /// A checker of a world that began with that table.
+    /// Creates a checker of a world that began with the table `published`.
     pub(super) fn new(rt: &impl Abort, alloc: Global, published: Option<u8>) -> Self {
         Checker {
             alloc,
@@ -151,28 +151,28 @@ impl<F: ComputeFn<u64, u64> + Copy> Checker<F> {
         }
     }
 
-    /// The number of growths that were published.
+    /// Returns the number of growths that were published.
     pub(super) fn growths(&self) -> u64 {
         self.growths
     }
 
-    /// The numbers of removals of what a walk has read that found it as it was read, and of those that did not.
+    /// Returns the number of removals of what a walk has read that found it as it was read, and the number of those that did not.
     pub(super) fn drops(&self) -> (u64, u64) {
         (self.removed, self.kept)
     }
 
-    /// The party that has read last; 0 where none has.
+    /// Returns the last party that has read, or 0 if none has.
     pub(super) fn reader(&self) -> usize {
         self.reader
     }
 
-    /// Whether the party has read a pair.
+    /// Returns `true` if the party, a walk, has read a pair.
     pub(super) fn has_read(&self, party: usize) -> bool {
         self.parties.get(party).is_some_and(|known| known.watched.is_some()
             && matches!(&known.call, Call::Walk))
     }
 
-    /// The last party is the removal of the pair that this walk has read last.
+    /// Notes that the last party is the removal of the pair that the party `walk` has read last.
     pub(super) fn began_from(&mut self, rt: &impl Abort, walk: usize) {
         let read = self.known(rt, walk);
         let (watched, touched) = (read.watched, read.touched);
@@ -190,12 +190,12 @@ impl<F: ComputeFn<u64, u64> + Copy> Checker<F> {
         );
     }
 
-    /// Whether the party has replied or ended.
+    /// Returns `true` if the party has replied or ended.
     pub(super) fn is_closed(&self, party: usize) -> bool {
         self.parties.get(party).is_some_and(|known| known.closed)
     }
 
-    /// Whether the party looks up and has not decided.
+    /// Returns `true` if the party looks up and has not decided.
     pub(super) fn looks_up(&self, party: usize) -> bool {
         self.parties.get(party).is_some_and(|known| {
             let looks = matches!(
@@ -206,7 +206,7 @@ impl<F: ComputeFn<u64, u64> + Copy> Checker<F> {
         })
     }
 
-    /// Takes the next label, and sees that it may come after those before it.
+    /// Takes the next label, and checks that it may follow the labels before it.
     pub(super) fn check(&mut self, rt: &impl Abort, label: &Label<u64, u64, F>)
         requires { (f : F) → F.can_change f }
     {
@@ -231,7 +231,7 @@ impl<F: ComputeFn<u64, u64> + Copy> Checker<F> {
         self.note_keys(party_of(label));
     }
 
-    // The keys that are present.
+    // Returns the keys that are present.
     fn present(&self) -> u64 {
         let mut keys = 0u64;
         for (key, value) in self.map.iter().enumerate() {
@@ -242,7 +242,7 @@ impl<F: ComputeFn<u64, u64> + Copy> Checker<F> {
         keys
     }
 
-    // Notes for each party which keys are present after a label, which is of that party.
+    // Notes for each party which keys are present after a label, which is a label of the party `named`, if any.
     fn note_keys(&mut self, named: Option<usize>) {
         let present = self.present();
         for known in self.parties.iter_mut() {
@@ -305,7 +305,7 @@ impl<F: ComputeFn<u64, u64> + Copy> Checker<F> {
         }
     }
 
-    // A removal of what a walk has read takes that very value out, or none where the key was touched since.
+    // Checks that a removal of what a walk has read removes this very value, or nothing if the key was touched since.
     fn removes(&mut self, rt: &impl Abort, touched: bool, value: u64, reply: KeptReply<u64, u64>) {
         if touched {
             self.kept = self.kept.wrapping_add(1);
@@ -319,7 +319,7 @@ impl<F: ComputeFn<u64, u64> + Copy> Checker<F> {
         }
     }
 
-    // These keys were written or removed.
+    // Notes that these keys were written or removed.
     fn touch(&mut self, keys: u64) {
         for known in self.parties.iter_mut() {
             if let Some((key, _)) = known.watched {
@@ -339,7 +339,7 @@ impl<F: ComputeFn<u64, u64> + Copy> Checker<F> {
         known.closed = true;
     }
 
-    // A walk has read each key that stayed. Each of the few keys was absent after a label of a clear.
+    // Checks that a walk has read each key that stayed, and that each of the few keys was absent after a label of a clear.
     fn ends(&mut self, rt: &impl Abort, party: usize) {
         let known = self.known(rt, party);
         ensure(rt, !known.closed, "a call ends once");
@@ -354,7 +354,7 @@ impl<F: ComputeFn<u64, u64> + Copy> Checker<F> {
         }
     }
 
-    // Each key is its own hash.
+    // The hash of each key is the key.
     fn wipes(&mut self, rt: &impl Abort, party: usize, table: u8, index: usize) {
         let known = self.known(rt, party);
         ensure(rt, !known.closed, "a clear that goes on wipes");

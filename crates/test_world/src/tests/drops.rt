@@ -9,7 +9,7 @@ use flurry_steps::party::OwnedCall;
 use std::alloc::Global;
 use std::process::Abort;
 
-// In a world of 16 bins stands the pair of 1 and 1, which party 1, a walk, has read.
+// Makes a world of 16 bins with the pair of 1 and 1, which party 1, a walk, has read.
 fn reads_one<'k, F: ComputeFn<u64, u64> + Copy>(rt: &impl Abort, world: &mut Numbers<'k, F>)
     requires { (f : F) → F.can_change f }
 {
@@ -18,7 +18,7 @@ fn reads_one<'k, F: ComputeFn<u64, u64> + Copy>(rt: &impl Abort, world: &mut Num
     assert_call(rt, world, 1, OwnedCall::Walk, &lines);
 }
 
-// What became of the pair that was read.
+// What happened to the pair that was read.
 #[derive(Clone, Copy)]
 enum Pair {
     Rewritten,
@@ -26,7 +26,7 @@ enum Pair {
     NotAskedFor,
 }
 
-// Reads it in a world of its own, and removes what was read.
+// Reads the pair in a world of its own, and removes what was read.
 fn goes_through<F: ComputeFn<u64, u64> + Copy>(rt: &impl Abort, alloc: Global, pair: Pair)
     requires { (f : F) → F.can_change f }
 {
@@ -40,7 +40,7 @@ fn goes_through<F: ComputeFn<u64, u64> + Copy>(rt: &impl Abort, alloc: Global, p
     drop(world);
 }
 
-// Begins the removal of what party 1 has read last, as the party of that number.
+// Begins the removal of what party 1 has read last, as the party with the number `party`.
 fn drops<'k, F: ComputeFn<u64, u64> + Copy>(
     rt: &impl Abort,
     world: &mut Numbers<'k, F>,
@@ -51,7 +51,7 @@ fn drops<'k, F: ComputeFn<u64, u64> + Copy>(
     same(rt, last_line(rt, world), Line::Begin(party));
 }
 
-// No removal begins of what that party has read, and no label is added.
+// Asserts that no removal of what the party has read begins, and that no label is added.
 fn drops_nothing<'k, F: ComputeFn<u64, u64> + Copy>(
     rt: &impl Abort,
     world: &mut Numbers<'k, F>,
@@ -109,7 +109,7 @@ fn removes_what_stayed<'k, F: ComputeFn<u64, u64> + Copy>(
     ];
     assert_steps(rt, world, 3, &lines);
     assert_reply(rt, world, OwnedCall::Get(1), value(None));
-    // The pair is gone now, so that a second removal of it finds none.
+    // The pair is absent now, so a second removal of it finds nothing.
     drops(rt, world, 5);
     let lines = [
         Line::Silent(5),

@@ -1,4 +1,4 @@
-//! Random schedules, each label of which is checked.
+//! Random schedules, in which each label is checked.
 ghost use Rattle.std.specs.Prelude.{◌<◌};
 
 use super::checker::{Checker, KEYS};
@@ -16,7 +16,7 @@ struct Random {
 }
 
 impl Random {
-    // A number below the bound.
+    // Returns a number below `bound`.
     fn below(&mut self, bound: u64) -> u64
         requires { 0 < bound }
         ensures { result < bound }
@@ -30,7 +30,7 @@ impl Random {
     }
 }
 
-// A call of one of the few keys, a reserve of up to 64, a clear or a walk.
+// Returns a call with one of the few keys, a reserve of at most 64, a clear or a walk.
 fn random_call<F: ComputeFn<u64, u64>>(random: &mut Random, change: F) -> OwnedCall<u64, u64, F> {
     let key = random.below(KEYS);
     let value = random.below(1000);
@@ -49,7 +49,7 @@ fn random_call<F: ComputeFn<u64, u64>>(random: &mut Random, change: F) -> OwnedC
     }
 }
 
-// A world, the checker of its labels, the number of steps of each party, and how many calls have closed.
+// A world, the checker of its labels, the number of steps of each party, and the number of calls that have closed.
 #[derive(Drop)]
 struct Checked<'k, F: ComputeFn<u64, u64> + Copy> {
     world: Numbers<'k, F>,
@@ -59,7 +59,7 @@ struct Checked<'k, F: ComputeFn<u64, u64> + Copy> {
 }
 
 impl<'k, F: ComputeFn<u64, u64> + Copy> Checked<'k, F> {
-    // A world for up to 16 pairs and of up to 4 processors, where no call has begun.
+    // Creates a world for up to 16 pairs and with up to 4 processors, in which no call has begun.
     fn new(rt: &impl Abort, alloc: Global, random: &mut Random) -> Self {
         let capacity = random.below(17) as usize;
         let processors = random.below(4) as usize + 1;
@@ -92,7 +92,7 @@ impl<'k, F: ComputeFn<u64, u64> + Copy> Checked<'k, F> {
         party
     }
 
-    // Mostly the party that has read last, else any one of so many.
+    // Returns mostly the last party that has read, and otherwise any of `parties` parties.
     fn random_reader(&self, random: &mut Random, parties: u64) -> usize {
         if random.below(4) == 0 {
             random_party(random, parties)
@@ -101,7 +101,7 @@ impl<'k, F: ComputeFn<u64, u64> + Copy> Checked<'k, F> {
         }
     }
 
-    // Begins the removal of what a party has read last, where it is a walk that has read. Answers whether one began.
+    // Begins the removal of what a party has read last, if it is a walk that has read. Returns whether a removal began.
     fn drop_seen(&mut self, rt: &impl Abort, walk: usize) -> bool
         requires { (f : F) → F.can_change f }
     {
@@ -122,7 +122,7 @@ impl<'k, F: ComputeFn<u64, u64> + Copy> Checked<'k, F> {
         true
     }
 
-    // A look-up has decided after 32 steps.
+    // Does a step of a party. A look-up must have decided after 32 steps.
     fn step(&mut self, rt: &impl Abort, party: usize)
         requires { (f : F) → F.can_change f }
     {
@@ -138,7 +138,7 @@ impl<'k, F: ComputeFn<u64, u64> + Copy> Checked<'k, F> {
         assert!(rt; !is_late, "a look-up decides within 32 steps");
     }
 
-    // Looks each key up. What each call answers is checked with its labels.
+    // Looks up each key. The results of these calls are checked with their labels.
     fn look_all_up(&mut self, rt: &impl Abort)
         requires { (f : F) → F.can_change f }
     {
@@ -148,7 +148,7 @@ impl<'k, F: ComputeFn<u64, u64> + Copy> Checked<'k, F> {
         }
     }
 
-    // Steps a look-up to its reply.
+    // Does the steps of a look-up until it replies.
     fn close(&mut self, rt: &impl Abort, party: usize)
         requires { (f : F) → F.can_change f }
     {
@@ -162,7 +162,7 @@ impl<'k, F: ComputeFn<u64, u64> + Copy> Checked<'k, F> {
     }
 }
 
-// One of so many parties: mostly one of the latest five.
+// Returns one of `parties` parties, mostly one of the latest five.
 fn random_party(random: &mut Random, parties: u64) -> usize {
     let among = if random.below(4) == 0 {
         parties
@@ -173,7 +173,8 @@ fn random_party(random: &mut Random, parties: u64) -> usize {
     parties.saturating_sub(back) as usize
 }
 
-// 200 steps, of which every sixth or so is the beginning of a call, and every fortieth that of a removal of what was read. A party that is stepped is likely to be stepped again.
+// Does 200 steps. About every sixth step begins a call, and every fortieth begins a removal of what was read. A party that does a step is
+// likely to do the next step too.
 fn random_steps<'k, F: ComputeFn<u64, u64> + Copy>(
     rt: &impl Abort,
     checked: &mut Checked<'k, F>,
@@ -203,8 +204,8 @@ fn random_steps<'k, F: ComputeFn<u64, u64> + Copy>(
     }
 }
 
-// What schedules did: how many calls replied or ended, how many growths were published, and how many removals of what a walk had read
-// found it as it was read, or did not.
+// What schedules did: the number of calls that replied or ended, the number of growths that were published, and the numbers of removals of
+// what a walk had read that found it as it was read, or did not.
 #[derive(Clone, Copy)]
 struct Totals {
     closed: u64,

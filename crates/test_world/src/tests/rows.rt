@@ -9,7 +9,7 @@ use flurry_steps::party::OwnedCall;
 use std::alloc::Global;
 use std::process::Abort;
 
-// The labels of the insertion of an absent key, where it meets no growth: the first one is of the step that finds a table.
+// Returns the labels of the insertion of an absent key that meets no growth. The first label is that of the step that finds a table.
 fn inserted(party: usize, first: Line) -> [Line; 5] {
     [
         first,
@@ -20,7 +20,7 @@ fn inserted(party: usize, first: Line) -> [Line; 5] {
     ]
 }
 
-// The labels of a look-up that finds a number in the published table.
+// Returns the labels of a look-up that finds a number in the published table.
 fn found(party: usize, number: u64) -> [Line; 4] {
     [
         Line::Silent(party),
@@ -30,7 +30,7 @@ fn found(party: usize, number: u64) -> [Line; 4] {
     ]
 }
 
-// The labels of a look-up that finds a number in the next table.
+// Returns the labels of a look-up that finds a number in the next table.
 fn found_further_on(party: usize, number: u64) -> [Line; 5] {
     [
         Line::Silent(party),
@@ -51,7 +51,8 @@ enum Row {
     UnknownParties,
 }
 
-// Goes through a row in a world of its own, which it lends: where a world is dropped, the proof goes through all that it can hold.
+// Goes through a row in a world of its own, which it passes by reference: where a world is dropped, the proof goes through everything that
+// it can hold.
 fn goes_through<F: ComputeFn<u64, u64> + Copy>(rt: &impl Abort, alloc: Global, row: Row)
     requires { (f : F) → F.can_change f }
 {
@@ -99,8 +100,8 @@ fn reserves_nothing<'k, F: ComputeFn<u64, u64> + Copy>(rt: &impl Abort, world: &
     assert_call(rt, world, 0, OwnedCall::Reserve(0), &lines);
 }
 
-// In a world of two processors a table of 64 bins grows: party 0 has put key 50. Party 1 has begun the growth, holds the bins 48 to 63
-// and moved none. Party 2 has put key 2, and moved all other bins.
+// In a world of two processors, a table of 64 bins grows. Party 0 has inserted key 50. Party 1 has started the growth, holds the bins 48 to
+// 63 and has moved none of them. Party 2 has inserted key 2, and has moved all other bins.
 fn half_grows<'k, F: ComputeFn<u64, u64> + Copy>(rt: &impl Abort, world: &mut Numbers<'k, F>)
     requires { (f : F) → F.can_change f }
 {
@@ -111,7 +112,7 @@ fn half_grows<'k, F: ComputeFn<u64, u64> + Copy>(rt: &impl Abort, world: &mut Nu
     puts_two_and_helps(rt, world);
 }
 
-// The 60 steps of party 2.
+// Does the 60 steps of party 2.
 fn puts_two_and_helps<'k, F: ComputeFn<u64, u64> + Copy>(
     rt: &impl Abort,
     world: &mut Numbers<'k, F>,
@@ -137,7 +138,7 @@ fn puts_two_and_helps<'k, F: ComputeFn<u64, u64> + Copy>(
     assert_steps(rt, world, 2, &lines)
 }
 
-// Sixteen steps of a party that move the bins of a table of 64 from so many on, the last of them first.
+// Does sixteen steps of a party, which move the bins of a table of 64 from `low` on, the last of them first.
 fn moves_range<'k, F: ComputeFn<u64, u64> + Copy>(
     rt: &impl Abort,
     world: &mut Numbers<'k, F>,
@@ -150,7 +151,7 @@ fn moves_range<'k, F: ComputeFn<u64, u64> + Copy>(
     }
 }
 
-// No growth was published.
+// Asserts that no growth was published.
 fn nothing_published<'k, F: ComputeFn<u64, u64> + Copy>(rt: &impl Abort, world: &Numbers<'k, F>) {
     for label in world.trace() {
         let published = matches!(&line_of(label), Line::Published(_));
@@ -185,7 +186,7 @@ fn helper_that_stops_for_good(rt: HostRuntime) {
     goes_through::<NoFn>(&rt, rt.alloc(), Row::StopsForGood)
 }
 
-// Bin 50 of 64, the bin of key 114 too, has not moved: its insertion decides there.
+// Bin 50 of 64, which is also the bin of key 114, has not moved, so the insertion of key 114 decides there.
 fn stops_for_good<'k, F: ComputeFn<u64, u64> + Copy>(rt: &impl Abort, world: &mut Numbers<'k, F>)
     requires { (f : F) → F.can_change f }
 {
@@ -197,7 +198,7 @@ fn stops_for_good<'k, F: ComputeFn<u64, u64> + Copy>(rt: &impl Abort, world: &mu
     nothing_published(rt, world);
 }
 
-// Further calls, while party 1 stands still.
+// Makes further calls, while party 1 does no step.
 fn others_end<'k, F: ComputeFn<u64, u64> + Copy>(rt: &impl Abort, world: &mut Numbers<'k, F>)
     requires { (f : F) → F.can_change f }
 {
@@ -210,7 +211,7 @@ fn others_end<'k, F: ComputeFn<u64, u64> + Copy>(rt: &impl Abort, world: &mut Nu
     ends(rt, world, OwnedCall::Clear);
 }
 
-// A call without a key ends.
+// Asserts that a call without a key ends.
 fn ends<'k, F: ComputeFn<u64, u64> + Copy>(
     rt: &impl Abort,
     world: &mut Numbers<'k, F>,

@@ -9,7 +9,7 @@ use flurry_steps::party::OwnedCall;
 use std::alloc::Global;
 use std::process::Abort;
 
-// Puts a number at itself, as a party that meets no growth and is run to its reply.
+// Inserts a number with itself as its value, as a party that meets no growth and runs to its reply.
 fn puts<'k, F: ComputeFn<u64, u64> + Copy>(
     rt: &impl Abort,
     world: &mut Numbers<'k, F>,
@@ -27,7 +27,7 @@ fn puts<'k, F: ComputeFn<u64, u64> + Copy>(
     assert_call(rt, world, party, OwnedCall::Insert(number, number), &lines);
 }
 
-// So many steps of a party are silent.
+// Asserts that `steps` steps of a party are silent.
 fn rests<'k, F: ComputeFn<u64, u64> + Copy>(
     rt: &impl Abort,
     world: &mut Numbers<'k, F>,
@@ -39,7 +39,7 @@ fn rests<'k, F: ComputeFn<u64, u64> + Copy>(
     }
 }
 
-// A party ends at its step of that number.
+// Asserts that a party ends at its step with the number `steps`.
 fn ends_after<'k, F: ComputeFn<u64, u64> + Copy>(
     rt: &impl Abort,
     world: &mut Numbers<'k, F>,
@@ -52,7 +52,7 @@ fn ends_after<'k, F: ComputeFn<u64, u64> + Copy>(
     same(rt, step(rt, world, party), Line::End(party));
 }
 
-// In a world of 16 bins with the keys 1 and 17 in one of them party 2 walks and has read 1.
+// In a world of 16 bins, with the keys 1 and 17 in one of them, party 2 walks and has read 1.
 fn walks_half_a_bin<'k, F: ComputeFn<u64, u64> + Copy>(rt: &impl Abort, world: &mut Numbers<'k, F>)
     requires { (f : F) → F.can_change f }
 {
@@ -72,7 +72,8 @@ enum Row {
     NoTable,
 }
 
-// Goes through a row in a world of its own, which it lends: where a world is dropped, the proof goes through all that it can hold.
+// Goes through a row in a world of its own, which it passes by reference: where a world is dropped, the proof goes through everything that
+// it can hold.
 fn goes_through<F: ComputeFn<u64, u64> + Copy>(rt: &impl Abort, alloc: Global, row: Row)
     requires { (f : F) → F.can_change f }
 {

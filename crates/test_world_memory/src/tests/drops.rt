@@ -1,4 +1,4 @@
-//! Each request of a removal that begins with what a walk has read, refused in turn.
+//! Each request of a removal that begins with what a walk has read fails in turn.
 
 use super::world::{Numbers, begins, step_to, world_for};
 use super::{Memory, same_at};
@@ -8,8 +8,8 @@ use metered_alloc::Metered;
 use std::process::Abort;
 use std::test::Fail;
 
-// A world of 16 bins whose party 1 has read the one pair. Three calls have begun, so that there is room for a fourth, and there are so
-// many labels more.
+// Returns a world of 16 bins, in which party 1 has read the only pair. Three calls have begun, so that there is room for a fourth, and
+// there are `more` labels more.
 fn has_read<F: ComputeFn<u64, u64> + Copy>(
     rt: &impl Abort,
     memory: Memory,
@@ -27,8 +27,8 @@ fn has_read<F: ComputeFn<u64, u64> + Copy>(
     world
 }
 
-// Begins a removal whose first request is refused, and answers whether it made one. The world is then as before, and with memory the
-// removal is its next party.
+// Begins a removal whose first request fails, and returns whether it made one. If it did, the world is unchanged, and with memory the
+// removal is the next party.
 fn drops_at<F: ComputeFn<u64, u64> + Copy>(rt: &impl Abort, memory: Memory, more: u64) -> bool
     requires { (f : F) → F.can_change f }
 {
@@ -49,7 +49,7 @@ fn drops_at<F: ComputeFn<u64, u64> + Copy>(rt: &impl Abort, memory: Memory, more
     refused
 }
 
-// The list of labels grows now and then: of so many worlds, some ask for room.
+// The list of labels grows now and then, so some of these worlds need room for it.
 #[test]
 fn removals_of_what_was_read(rt: HostRuntime) -> Result<(), Fail> {
     let memory = Metered::leaked(rt.alloc())?;

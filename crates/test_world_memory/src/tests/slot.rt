@@ -1,4 +1,4 @@
-//! Each request of a slot's steps, refused in turn.
+//! Each request of a slot's steps fails in turn.
 ghost use Rattle.flurry_slots.specs.Slot.{LiesIn};
 
 use super::{Memory, same, same_at};
@@ -11,16 +11,16 @@ use std::test::Fail;
 
 type NumberSlot = Slot<u64, u64, Memory>;
 
-// What the refusal of one request did: whether the call made that request, whether it failed, and the value and the write number
-// that stand at the key of the tests then.
+// What happened when one request failed: whether the call made that request, whether the call failed, and the value and the write number at
+// the key of the tests afterwards.
 type Seen = (bool, bool, Option<(u64, u64)>);
 
-// A live slot of an empty bin, where the key of the tests lies.
+// Returns a live slot of an empty bin, to which the key of the tests belongs.
 fn empty_slot() -> NumberSlot {
     Slot::live(4, 3, Bin::new())
 }
 
-// Sees that the hash of the tests lies in the region of the slot.
+// Asserts that the hash of the tests lies in the region of the slot.
 fn lies_in(rt: &impl Abort, slot: &NumberSlot)
     ensures { LiesIn 3 slot.now }
 {
@@ -28,7 +28,7 @@ fn lies_in(rt: &impl Abort, slot: &NumberSlot)
     assert!(rt; bin_index(3, table) == index);
 }
 
-// The value of the key of the tests and its write number, where the bin is live.
+// Returns the value of the key of the tests and its write number, if the bin is live.
 fn found(rt: &impl Abort, slot: &NumberSlot) -> Option<(u64, u64)> {
     lies_in(rt, slot);
     match slot.find(3, &3) {
@@ -37,7 +37,7 @@ fn found(rt: &impl Abort, slot: &NumberSlot) -> Option<(u64, u64)> {
     }
 }
 
-// Puts a value in at the key of the tests, and sees what the refusal of one request did.
+// Sets the value of the key of the tests while one request fails, and returns what happened.
 fn put_at(rt: &impl Abort, memory: Memory, slot: &mut NumberSlot, k: u64, value: u64) -> Seen {
     lies_in(rt, slot);
     memory.refuse_at(k);
@@ -47,7 +47,7 @@ fn put_at(rt: &impl Abort, memory: Memory, slot: &mut NumberSlot, k: u64, value:
     (refused, failed, found(rt, slot))
 }
 
-// A slot where 10 stands at the key of the tests.
+// Returns a slot in which the key of the tests has the value 10.
 fn slot_of_ten(rt: &impl Abort, memory: Memory) -> NumberSlot {
     let mut slot = empty_slot();
     let seen = put_at(rt, memory, &mut slot, u64::MAX, 10);
@@ -55,7 +55,7 @@ fn slot_of_ten(rt: &impl Abort, memory: Memory) -> NumberSlot {
     slot
 }
 
-// A new key asks for its key, its value and its node.
+// A new key makes requests for its key, its value and its node.
 #[test]
 fn put_of_a_new_key(rt: HostRuntime) -> Result<(), Fail> {
     let memory = Metered::leaked(rt.alloc())?;
@@ -69,7 +69,7 @@ fn put_of_a_new_key(rt: HostRuntime) -> Result<(), Fail> {
     Ok(())
 }
 
-// A key that is there asks for the value alone.
+// A present key makes a request for the value alone.
 #[test]
 fn put_of_a_present_key(rt: HostRuntime) -> Result<(), Fail> {
     let memory = Metered::leaked(rt.alloc())?;
@@ -83,7 +83,7 @@ fn put_of_a_present_key(rt: HostRuntime) -> Result<(), Fail> {
     Ok(())
 }
 
-// Adds a value at the key of the tests, and sees the same.
+// Adds a value at the key of the tests while one request fails, and returns what happened.
 fn add_at(rt: &impl Abort, memory: Memory, slot: &mut NumberSlot, k: u64, value: u64) -> Seen {
     lies_in(rt, slot);
     memory.refuse_at(k);
@@ -93,7 +93,7 @@ fn add_at(rt: &impl Abort, memory: Memory, slot: &mut NumberSlot, k: u64, value:
     (refused, failed, found(rt, slot))
 }
 
-// At a present key an addition asks the allocator for nothing: a further owner of the value is refused only at a count of about 2^63.
+// At a present key, an addition makes no request to the allocator: cloning the value's `Arc` fails only at a count of about 2^63.
 #[test]
 fn put_absent(rt: HostRuntime) -> Result<(), Fail> {
     let memory = Metered::leaked(rt.alloc())?;
@@ -114,7 +114,7 @@ fn put_absent(rt: HostRuntime) -> Result<(), Fail> {
     Ok(())
 }
 
-// Halves the value at the key of the tests, and sees the same.
+// Halves the value of the key of the tests while one request fails, and returns what happened.
 fn halve_at(rt: &impl Abort, memory: Memory, slot: &mut NumberSlot, k: u64) -> Seen {
     lies_in(rt, slot);
     memory.refuse_at(k);
@@ -126,7 +126,7 @@ fn halve_at(rt: &impl Abort, memory: Memory, slot: &mut NumberSlot, k: u64) -> S
     (refused, failed, found(rt, slot))
 }
 
-// Whether a function that answers none took the key of the tests out, while each request was refused.
+// Returns whether a function that returns `None` removed the key of the tests while every request fails.
 fn is_removed(rt: &impl Abort, memory: Memory, slot: &mut NumberSlot) -> bool {
     lies_in(rt, slot);
     memory.refuse_from(0);
@@ -135,7 +135,7 @@ fn is_removed(rt: &impl Abort, memory: Memory, slot: &mut NumberSlot) -> bool {
     matches!(&answer, Ok(Answer::Here(Computed::Removed)))
 }
 
-// Whether a function was not called, since the key of the tests is absent, while each request was refused.
+// Returns whether a function was not called because the key of the tests is absent, while every request fails.
 fn is_absent(rt: &impl Abort, memory: Memory, slot: &mut NumberSlot) -> bool {
     lies_in(rt, slot);
     memory.refuse_from(0);
@@ -144,7 +144,8 @@ fn is_absent(rt: &impl Abort, memory: Memory, slot: &mut NumberSlot) -> bool {
     matches!(&answer, Ok(Answer::Here(Computed::Absent(_))))
 }
 
-// A computed value asks for its memory; a function that answers none asks for nothing, and is not called for an absent key.
+// A computed value makes a request for its memory. A function that returns `None` makes none, and for an absent key the function is not
+// called.
 #[test]
 fn compute(rt: HostRuntime) -> Result<(), Fail> {
     let memory = Metered::leaked(rt.alloc())?;

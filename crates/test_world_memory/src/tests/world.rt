@@ -1,4 +1,4 @@
-//! Each request of a world's calls, refused in turn.
+//! Each request of a world's calls fails in turn.
 
 use super::{Memory, same, same_at};
 use flurry_model::hash::LowHashBuilder;
@@ -14,10 +14,10 @@ use std::fmt::Debug;
 use std::process::Abort;
 use std::test::Fail;
 
-// A world whose hashes are its keys.
+// A world in which the hash of each key is the key.
 pub(super) type Numbers<F> = World<'static, u64, u64, F, LowHashBuilder, Memory>;
 
-// No call makes so many requests, and none needs so many steps.
+// More requests and more steps than any call makes.
 const MOST: u64 = 1000;
 
 // How a call closes.
@@ -28,18 +28,18 @@ enum Close {
     Refused,
 }
 
-// What it did to a call that one of its requests was refused.
+// What the failure of one of its requests did to a call.
 #[derive(Clone, Copy, Debug, PartialEq, Eq)]
 enum Told {
-    // A step was, and it was done when it was asked for again.
+    // A step failed, and succeeded when it was repeated.
     Step,
-    // The call was.
+    // The call failed.
     Call,
-    // It went on without what it had asked for.
+    // The call continued without what it had requested.
     Nothing,
 }
 
-// How that label closes the call of the party, if it does.
+// Returns how a label closes the call of its party, if it does.
 fn close_of<F>(label: Option<&Label<u64, u64, F>>) -> Option<Close> {
     match label {
         Some(Label::Reply(_, reply)) => Some(Close::Reply(*reply)),
@@ -49,7 +49,7 @@ fn close_of<F>(label: Option<&Label<u64, u64, F>>) -> Option<Close> {
     }
 }
 
-// Begins the call, with memory enough.
+// Begins the call, with enough memory.
 pub(super) fn begins<F: ComputeFn<u64, u64> + Copy>(
     rt: &impl Abort,
     world: &mut Numbers<F>,
@@ -60,7 +60,8 @@ pub(super) fn begins<F: ComputeFn<u64, u64> + Copy>(
     world.begin(call).expect(rt, "memory for the call")
 }
 
-// The next steps of a party until its call closes, and whether one of them was refused. A refused step adds no label.
+// Does the next steps of a party until its call closes. Returns how it closed, and whether one of the steps failed. A step that fails adds
+// no label.
 fn finish<F: ComputeFn<u64, u64> + Copy>(
     rt: &impl Abort,
     world: &mut Numbers<F>,
@@ -79,7 +80,7 @@ fn finish<F: ComputeFn<u64, u64> + Copy>(
     panic!(rt; "the call closes")
 }
 
-// Begins the call and finishes it, with memory enough.
+// Begins the call and finishes it, with enough memory.
 fn whole<F: ComputeFn<u64, u64> + Copy>(
     rt: &impl Abort,
     world: &mut Numbers<F>,
@@ -91,19 +92,19 @@ fn whole<F: ComputeFn<u64, u64> + Copy>(
     finish(rt, world, party).0
 }
 
-// The value of the key, where it has one.
+// Returns the reply of a look-up of the key.
 fn value<F: ComputeFn<u64, u64> + Copy>(rt: &impl Abort, world: &mut Numbers<F>, key: u64) -> Close
     requires { (f : F) → F.can_change f }
 {
     whole(rt, world, OwnedCall::Get(key))
 }
 
-// The reply that is a value, or none.
+// Returns the reply of a value, or of `None`.
 fn reply(value: Option<u64>) -> Close {
     Close::Reply(KeptReply::Value(value))
 }
 
-// The labels from that one on as text.
+// Returns the labels from `first` on, as text.
 pub(super) fn labels_from<F: ComputeFn<u64, u64> + Copy + Debug>(
     rt: &impl Abort,
     alloc: Global,
@@ -117,7 +118,7 @@ pub(super) fn labels_from<F: ComputeFn<u64, u64> + Copy + Debug>(
     format!(in alloc; "{labels:?}").expect(rt, "memory for the text")
 }
 
-// Whether the labels say that.
+// Returns whether the text of the labels contains `part`.
 fn say<F: ComputeFn<u64, u64> + Copy + Debug>(
     rt: &impl Abort,
     alloc: Global,
@@ -127,7 +128,7 @@ fn say<F: ComputeFn<u64, u64> + Copy + Debug>(
     labels_from(rt, alloc, world, 0).contains(part)
 }
 
-// The next steps of a party, until the world has so many labels.
+// Does the next steps of a party, until the world has `labels` labels.
 pub(super) fn step_to<F: ComputeFn<u64, u64> + Copy>(
     rt: &impl Abort,
     world: &mut Numbers<F>,
@@ -139,7 +140,7 @@ pub(super) fn step_to<F: ComputeFn<u64, u64> + Copy>(
     }
 }
 
-// A world with room for so many pairs.
+// Returns a world with room for `capacity` pairs.
 pub(super) fn world_for<F: ComputeFn<u64, u64> + Copy>(
     rt: &impl Abort,
     memory: Memory,
@@ -148,7 +149,7 @@ pub(super) fn world_for<F: ComputeFn<u64, u64> + Copy>(
     World::new(memory, capacity, LowHashBuilder, 1).expect(rt, "memory for the world")
 }
 
-// A world of the keys from 0 on, each its own value.
+// Returns a world of the keys below `count`, each with itself as its value.
 fn world_of<F: ComputeFn<u64, u64> + Copy>(
     rt: &impl Abort,
     memory: Memory,
@@ -163,7 +164,7 @@ fn world_of<F: ComputeFn<u64, u64> + Copy>(
     world
 }
 
-// What the refusal of one request did to a call, and how the call closed; none where it makes no such request.
+// Makes the call while one request fails. Returns what that did to the call, and how the call closed, or `None` if it made no such request.
 fn refused_at<F: ComputeFn<u64, u64> + Copy>(
     rt: &impl Abort,
     memory: Memory,
@@ -201,7 +202,7 @@ fn a_world_with_a_table(rt: HostRuntime) -> Result<(), Fail> {
     requests_of_a_new_world::<NoFn>(&rt, rt.alloc(), 16, 2)
 }
 
-// Makes a world with the request numbered k refused: whether it was made, and whether there is no world.
+// Creates a world while the request numbered `k` fails. Returns whether that request was made, and whether there is no world.
 fn refused_world<F: ComputeFn<u64, u64> + Copy>(
     memory: Memory,
     capacity: usize,
@@ -216,7 +217,7 @@ fn refused_world<F: ComputeFn<u64, u64> + Copy>(
     (refused, failed)
 }
 
-// A world with room for so many pairs makes so many requests.
+// Asserts that creating a world with room for `capacity` pairs makes `requests` requests.
 fn requests_of_a_new_world<F: ComputeFn<u64, u64> + Copy>(
     rt: &impl Abort,
     alloc: Global,
@@ -237,7 +238,8 @@ fn requests_of_a_new_world<F: ComputeFn<u64, u64> + Copy>(
     Ok(())
 }
 
-// The first call asks for the room of labels and that of calls. A refused one is none: the next party has its number.
+// The first call makes requests for the room of labels and for the room of calls. A call that fails is no party: the next party has its
+// number.
 #[test]
 fn begin(rt: HostRuntime) -> Result<(), Fail> {
     let memory = Metered::leaked(rt.alloc())?;
@@ -265,7 +267,7 @@ fn begins_at<F: ComputeFn<u64, u64> + Copy>(rt: &impl Abort, memory: Memory, k: 
     drop(world);
 }
 
-// An insertion asks for the first table, its key, its value and its node, and then for room for its reply's label.
+// An insertion makes requests for the first table, its key, its value and its node, and then for room for the label of its reply.
 #[test]
 fn insertion_into_a_new_world(rt: HostRuntime) -> Result<(), Fail> {
     let memory = Metered::leaked(rt.alloc())?;
@@ -280,7 +282,7 @@ fn insertion_into_a_new_world(rt: HostRuntime) -> Result<(), Fail> {
     Err(Fail::from("it makes fewer requests"))
 }
 
-// The labels of a new world with an insertion alone, with memory enough.
+// Returns the labels of a new world with one insertion, with enough memory.
 fn text_of_an_insertion<F: ComputeFn<u64, u64> + Copy + Debug>(
     rt: &impl Abort,
     alloc: Global,
@@ -295,7 +297,7 @@ fn text_of_an_insertion<F: ComputeFn<u64, u64> + Copy + Debug>(
     text
 }
 
-// Whether the insertion made the request numbered k.
+// Returns whether the insertion made the request numbered `k`.
 fn inserts_at<F: ComputeFn<u64, u64> + Copy + Debug>(
     rt: &impl Abort,
     alloc: Global,
@@ -313,7 +315,7 @@ fn inserts_at<F: ComputeFn<u64, u64> + Copy + Debug>(
     seen.is_some()
 }
 
-// What stands after the refusal of that request.
+// Checks the world after the request numbered `k` has failed.
 fn inserted_at<F: ComputeFn<u64, u64> + Copy + Debug>(
     rt: &impl Abort,
     alloc: Global,
@@ -338,7 +340,8 @@ fn inserted_at<F: ComputeFn<u64, u64> + Copy + Debug>(
     same_at(rt, k, value(rt, world, 3), reply(Some(found)));
 }
 
-// The insertion that reaches the threshold asks for a larger table too. Where that is refused it goes on, and the next one asks again.
+// The insertion that reaches the threshold also makes a request for a larger table. If that fails, the insertion continues, and the next
+// one makes the request again.
 #[test]
 fn insertion_that_grows(rt: HostRuntime) -> Result<(), Fail> {
     let memory = Metered::leaked(rt.alloc())?;
@@ -353,7 +356,7 @@ fn insertion_that_grows(rt: HostRuntime) -> Result<(), Fail> {
     Err(Fail::from("it makes fewer requests"))
 }
 
-// Whether the insertion made the request numbered k.
+// Returns whether the insertion made the request numbered `k`.
 fn grows_at<F: ComputeFn<u64, u64> + Copy + Debug>(
     rt: &impl Abort,
     alloc: Global,
@@ -371,7 +374,7 @@ fn grows_at<F: ComputeFn<u64, u64> + Copy + Debug>(
     seen.is_some()
 }
 
-// What stands after the refusal of that request.
+// Checks the world after the request numbered `k` has failed.
 fn grown_at<F: ComputeFn<u64, u64> + Copy + Debug>(
     rt: &impl Abort,
     alloc: Global,
@@ -395,7 +398,7 @@ fn grown_at<F: ComputeFn<u64, u64> + Copy + Debug>(
     same_at(rt, k, say(rt, alloc, world, "Published(5)"), true);
 }
 
-// A look-up asks for room for its labels, and for nothing else.
+// A look-up makes a request for room for its labels, and no other.
 #[test]
 fn look_up(rt: HostRuntime) -> Result<(), Fail> {
     let memory = Metered::leaked(rt.alloc())?;
@@ -424,8 +427,8 @@ fn looks_up_at<F: ComputeFn<u64, u64> + Copy>(
     seen
 }
 
-// Where there is no table it asks for one of 256 bins, and then, as everywhere, for each table on the way to 512, the first whose
-// threshold is no less than 256.
+// If there is no table, a reserve makes a request for a table of 256 bins. Then, as in every case, it makes a request for each table up to
+// the one of 512 bins, the first whose threshold is at least 256.
 #[test]
 fn reserve_in_a_new_world(rt: HostRuntime) -> Result<(), Fail> {
     let memory = Metered::leaked(rt.alloc())?;
@@ -440,7 +443,7 @@ fn reserve_in_a_world_of_16_bins(rt: HostRuntime) -> Result<(), Fail> {
     Ok(())
 }
 
-// How many requests of a reserve refuse it, in a world of so many keys.
+// Returns how many requests of a reserve make it fail, in a world of `count` keys.
 fn refusals_of_a_reserve(rt: &impl Abort, memory: Memory, count: u64) -> u64 {
     let mut refusals = 0u64;
     for k in 0..MOST {
@@ -455,7 +458,7 @@ fn refusals_of_a_reserve(rt: &impl Abort, memory: Memory, count: u64) -> u64 {
     panic!(rt; "it makes fewer requests")
 }
 
-// What the refusal of one request did to a reserve. The pairs stay, and it succeeds when it is asked for again.
+// Returns what the failure of one request did to a reserve. The pairs stay, and a second reserve succeeds.
 fn reserves_at<F: ComputeFn<u64, u64> + Copy>(
     rt: &impl Abort,
     memory: Memory,
@@ -478,10 +481,10 @@ fn reserves_at<F: ComputeFn<u64, u64> + Copy>(
     seen
 }
 
-// How many steps the list has.
+// The number of steps of the list.
 const STEPS: usize = 9;
 
-// The list's steps from that one on.
+// Returns the list's steps from `first` on.
 fn steps_from<F: ComputeFn<u64, u64> + Copy>(
     rt: &impl Abort,
     memory: Memory,
@@ -500,7 +503,7 @@ fn steps_from<F: ComputeFn<u64, u64> + Copy>(
     steps
 }
 
-// The labels of a new world that ran those steps, with memory enough.
+// Returns the labels of a new world that ran the list's steps, with enough memory.
 #[tactic(auto, using(flurry_world::proofs::RunLaws::step_ready))]
 fn text_of_steps<F: ComputeFn<u64, u64> + Copy + Debug>(
     rt: &impl Abort,
@@ -518,7 +521,8 @@ fn text_of_steps<F: ComputeFn<u64, u64> + Copy + Debug>(
     text
 }
 
-// A list whose label or party is refused stops there, and the rest of it may be run later. A refused call is a step like another.
+// A list stops if memory for a label or a party cannot be allocated, and the rest of it may be run later. A call that fails is a step like
+// any other.
 #[test]
 fn run(rt: HostRuntime) -> Result<(), Fail> {
     let memory = Metered::leaked(rt.alloc())?;
@@ -533,7 +537,7 @@ fn run(rt: HostRuntime) -> Result<(), Fail> {
     Err(Fail::from("it makes fewer requests"))
 }
 
-// Whether the steps made the request numbered k.
+// Returns whether the steps made the request numbered `k`.
 #[tactic(auto, using(flurry_world::proofs::RunLaws::step_ready))]
 fn runs_at<F: ComputeFn<u64, u64> + Copy + Debug>(
     rt: &impl Abort,

@@ -1,4 +1,4 @@
-//! Worked schedules in which a table is refused, label by label.
+//! Worked schedules in which memory for a table cannot be allocated, label by label.
 
 use super::world::{Numbers, begins, labels_from, step_to, world_for};
 use super::{Memory, same};
@@ -10,7 +10,7 @@ use std::fmt::Debug;
 use std::process::Abort;
 use std::test::Fail;
 
-// Sees that the labels from that one on are these.
+// Asserts that `labels` are the labels from `first` on.
 fn shows<F: ComputeFn<u64, u64> + Copy + Debug>(
     rt: &impl Abort,
     alloc: Global,
@@ -56,7 +56,7 @@ fn larger_table_of_an_insertion_refused(rt: HostRuntime) -> Result<(), Fail> {
     Ok(())
 }
 
-// A world of 16 bins whose parties 0 to 10 have put their numbers as keys.
+// Returns a world of 16 bins, in which the parties 0 to 10 have inserted their numbers as keys.
 fn eleven_keys<F: ComputeFn<u64, u64> + Copy>(rt: &impl Abort, memory: Memory) -> Numbers<F>
     requires { (f : F) → F.can_change f }
 {

@@ -1,4 +1,4 @@
-//! Which bins a claim has, and how it goes on.
+//! The bins of a claim, and how a claim goes on.
 
 use super::super::{same, same_at};
 use super::{claimed, growing, move_all, receipt_of};
@@ -18,7 +18,7 @@ fn claims_go_from_the_top_down(rt: HostRuntime) {
     same(&rt, control.locate(), Some(6));
 }
 
-// A table of fewer bins than a range is claimed whole.
+// A table with fewer bins than a range is claimed as a whole.
 #[test]
 fn small_table_is_claimed_whole(rt: HostRuntime) {
     let (mut small, _room) = growing(&rt, 3);
@@ -27,7 +27,7 @@ fn small_table_is_claimed_whole(rt: HostRuntime) {
     same(&rt, small.claim(2).is_none(), true);
 }
 
-// A claim of 16 bins goes on from the last bin down, by the receipt of each bin in turn, and is reported once all have moved.
+// A claim of 16 bins goes on from the last bin down, by the receipt of each bin in turn. It can be reported once all bins have moved.
 #[test]
 fn a_claim_goes_on_by_receipts(rt: HostRuntime) {
     let (mut control, _) = growing(&rt, 4);

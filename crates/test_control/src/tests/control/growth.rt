@@ -1,4 +1,4 @@
-//! The first table, and how growths begin.
+//! The first table, and how growths start.
 
 use super::super::same;
 use super::{empty_room, growing, opened};

@@ -1,4 +1,4 @@
-//! Reports of claims, and those that change nothing.
+//! Reports of claims, and reports that change nothing.
 
 use super::super::same;
 use super::{claimed, growing, move_all, moved};
@@ -40,7 +40,7 @@ fn report_with_bins_left_changes_nothing(rt: HostRuntime) {
     same(&rt, control.grows_from(30), None);
 }
 
-// One of a table that does not grow, and one where no growth runs.
+// A report for a table that does not grow, and a report while no growth runs.
 #[test]
 fn reports_of_another_growth_change_nothing(rt: HostRuntime) {
     let (mut other, _room) = growing(&rt, 6);
@@ -51,7 +51,7 @@ fn reports_of_another_growth_change_nothing(rt: HostRuntime) {
     same(&rt, Control::new().report(of_other), None);
 }
 
-// 16 bins are reported, and 48 are not.
+// 16 bins are reported, and 48 are not yet.
 #[test]
 fn report_of_more_bins_than_are_unreported_changes_nothing(rt: HostRuntime) {
     let (mut whole, _room) = growing(&rt, 6);

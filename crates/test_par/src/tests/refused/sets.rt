@@ -12,7 +12,7 @@ use std::thread::Threads;
 
 type Elements = SeqSet<u64, LowHashBuilder, Memory>;
 
-// The numbers from one on, below another.
+// Returns a list of the numbers from `from` to `to`, without `to`.
 fn list(memory: Memory, from: u64, to: u64) -> Result<Vec<u64, Memory>, AllocError> {
     let mut list = Vec::new(memory);
     for element in from..to {
@@ -21,7 +21,7 @@ fn list(memory: Memory, from: u64, to: u64) -> Result<Vec<u64, Memory>, AllocErr
     Ok(list)
 }
 
-// The elements below `old`; with the new ones also 2 to 7.
+// Asserts that the set has the elements below `old`, and if `new` is `true` also the elements 2 to 7.
 fn holds(rt: &impl Abort, set: &Elements, old: u64, new: bool) {
     let mut count = 0usize;
     for element in 0..8u64 {
@@ -34,7 +34,7 @@ fn holds(rt: &impl Abort, set: &Elements, old: u64, new: bool) {
     same(rt, set.len(), count);
 }
 
-// Makes a set of three pieces of a list.
+// Makes a set from three pieces of a list.
 pub(super) fn build(
     rt: &(impl Abort + Threads + Sync),
     memory: Memory,
@@ -58,7 +58,7 @@ fn from_par_list(rt: HostRuntime) -> Result<(), Fail> {
     refuse_each(&rt, rt.alloc(), Call::BuildsSet)
 }
 
-// Puts the list into a set of so many elements. Refused, it is left as it was.
+// Extends a set of `old` elements by the list. If the call fails, the set is unchanged.
 pub(super) fn extend(
     rt: &(impl Abort + Threads + Sync),
     memory: Memory,

@@ -10,7 +10,7 @@ use flurry_slots::{ComputeFn, NoFn};
 use flurry_steps::party::{Call, Event, Party};
 use std::process::Abort;
 
-// What a walk of it reads first: key 1.
+// Returns what a walk of the map reads first, which is key 1.
 fn first_read<F: ComputeFn<u64, u64>>(
     rt: &(impl Abort + AllocGlobal),
     map: &mut Map,
@@ -48,7 +48,7 @@ fn a_pair_is_removed_as_it_was_read(rt: HostRuntime) {
     has_pairs(&rt, &map, 1);
 }
 
-// Its value was written again, so the pair stays.
+// The value was written again after it was read, so the pair stays.
 #[test]
 fn a_pair_that_was_rewritten_stays(rt: HostRuntime) {
     let mut map = one_and_seventeen(&rt);
@@ -66,7 +66,7 @@ fn a_pair_that_was_rewritten_stays(rt: HostRuntime) {
     replies(&rt, &mut map, 1, Call::Get(&1), value(Some(0)));
 }
 
-// The key was removed and came again, so the pair that is there now stays.
+// The key was removed and inserted again, so the new pair stays.
 #[test]
 fn a_pair_that_came_again_stays(rt: HostRuntime) {
     let mut map = one_and_seventeen(&rt);
@@ -79,7 +79,7 @@ fn a_pair_that_came_again_stays(rt: HostRuntime) {
     has_pairs(&rt, &map, 2);
 }
 
-// Between the read and the removal the table is doubled twice, and the bin moves along.
+// Between the read and the removal, the table is doubled twice, and the bin moves each time.
 #[test]
 fn a_pair_that_moved_is_removed(rt: HostRuntime) {
     let mut map = one_and_seventeen(&rt);

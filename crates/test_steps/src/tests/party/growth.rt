@@ -10,7 +10,7 @@ use flurry_slots::ComputeFn;
 use flurry_steps::party::{Call, Event, Party, Want};
 use std::process::Abort;
 
-// A map with the keys below a count, each under its own hash, whose table was not grown.
+// Returns a map of the keys below `count`, in which the hash of each key is the key. Its table has not grown.
 fn map_of(rt: &(impl Abort + AllocGlobal), count: u64) -> Map {
     let mut map = empty_map(rt.alloc(), 1, 0);
     for key in 0..count {
@@ -19,7 +19,7 @@ fn map_of(rt: &(impl Abort + AllocGlobal), count: u64) -> Map {
     map
 }
 
-// Moves the 16 bins of a table from the last one down.
+// Moves the 16 bins of a table, from the last bin down.
 fn moves_sixteen<'k, F: ComputeFn<u64, u64>>(
     rt: &(impl Abort + AllocGlobal),
     party: &mut Party<'k, u64, u64, F>,
@@ -31,7 +31,7 @@ fn moves_sixteen<'k, F: ComputeFn<u64, u64>>(
     }
 }
 
-// The steps of the insertion of the twelfth key, until it has moved each bin of the table.
+// Does the steps of the insertion of the twelfth key, until it has moved each bin of the table.
 fn twelfth_key_moves<'k, F: ComputeFn<u64, u64>>(
     rt: &(impl Abort + AllocGlobal),
     party: &mut Party<'k, u64, u64, F>,
@@ -56,7 +56,7 @@ fn twelfth_key_moves<'k, F: ComputeFn<u64, u64>>(
     has_table(rt, map, Some(4));
 }
 
-// Its last steps. Before the larger table is published, a look-up follows the bin that has moved.
+// Does all steps of the insertion of the twelfth key. Before the larger table is published, a look-up follows a bin that has moved.
 pub(super) fn twelfth_key_ends<'k, F: ComputeFn<u64, u64>>(
     rt: &(impl Abort + AllocGlobal),
     party: &mut Party<'k, u64, u64, F>,
@@ -81,7 +81,7 @@ pub(super) fn twelfth_key_ends<'k, F: ComputeFn<u64, u64>>(
     has_table(rt, map, Some(5));
 }
 
-// Removes the keys below 12, and sees to their values.
+// Removes the keys below 12, and checks their values.
 fn removes_twelve(rt: &(impl Abort + AllocGlobal), map: &mut Map) {
     has_pairs(rt, map, 12);
     for key in 0..12 {
@@ -110,7 +110,7 @@ fn reserve_of_nothing_opens_one_bin(rt: HostRuntime) {
     )
 }
 
-// The steps of the reserve for 32 pairs. Their table has 64 bins, whose threshold is below 64: it is doubled once.
+// Does the steps of the reserve for 32 pairs. Their table has 64 bins, whose threshold is below 64, so it is doubled once.
 pub(super) fn reserve_ends<'k, F: ComputeFn<u64, u64>>(
     rt: &(impl Abort + AllocGlobal),
     party: &mut Party<'k, u64, u64, F>,
@@ -140,7 +140,7 @@ pub(super) fn reserve_ends<'k, F: ComputeFn<u64, u64>>(
 fn reserves(rt: HostRuntime) {
     let mut map = empty_map(rt.alloc(), 1, 0);
     follows(&rt, &mut map, 0, Call::Reserve(32), Script::Reserve);
-    // There is room already.
+    // There is enough room already.
     answers(
         &rt,
         &mut map,
@@ -151,7 +151,7 @@ fn reserves(rt: HostRuntime) {
     )
 }
 
-// The steps of the insertion of a ninth key of one hash.
+// Does the steps of the insertion of a ninth key of one hash.
 pub(super) fn ninth_key_ends<'k, F: ComputeFn<u64, u64>>(
     rt: &(impl Abort + AllocGlobal),
     party: &mut Party<'k, u64, u64, F>,

@@ -9,7 +9,7 @@ use flurry_slots::ComputeFn;
 use flurry_steps::party::{Call, Event, Party};
 use std::process::Abort;
 
-// The first steps of a reserve, which moves one bin of a table of 64.
+// Does the first steps of a reserve, which moves one bin of a table of 64.
 fn reserve_begins<'k, F: ComputeFn<u64, u64>>(
     rt: &(impl Abort + AllocGlobal),
     reserve: &mut Party<'k, u64, u64, F>,
@@ -20,12 +20,12 @@ fn reserve_begins<'k, F: ComputeFn<u64, u64>>(
     moves_the_last_bin(rt, reserve, map)
 }
 
-// Calls that meet that growth.
+// Makes calls that meet the growth of the reserve.
 fn others_meet_the_growth(rt: &(impl Abort + AllocGlobal), map: &mut Map) {
-    // Its bin has not moved: it decides, counts and then moves the three lower ranges.
+    // The bin of this call has not moved: the call decides, counts, and then moves the three lower ranges.
     inserts(rt, map, 2, 2, 59);
     has_table(rt, map, Some(6));
-    // Its bin has moved: it finds nothing to help with, and goes on to the next table.
+    // The bin of this call has moved: the call finds nothing to help with, and continues in the next table.
     answers(
         rt,
         map,
@@ -36,7 +36,7 @@ fn others_meet_the_growth(rt: &(impl Abort + AllocGlobal), map: &mut Map) {
     )
 }
 
-// The steps of the reserve, which those of the others stand between.
+// Does the steps of the reserve, with the steps of other calls between them.
 pub(super) fn reserve_ends<'k, F: ComputeFn<u64, u64>>(
     rt: &(impl Abort + AllocGlobal),
     reserve: &mut Party<'k, u64, u64, F>,

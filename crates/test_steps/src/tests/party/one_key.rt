@@ -1,4 +1,4 @@
-//! Calls of one key, in a table that does not grow.
+//! One-key calls, in a table that does not grow.
 
 use super::super::same;
 use super::{
@@ -11,7 +11,7 @@ use flurry_steps::party::{Call, Event, Party, Want};
 use std::cell::Cell;
 use std::process::Abort;
 
-// Runs a call of hash 3, which decides in its one step, and sees to its reply.
+// Runs a call of the hash 3, which decides in its only step, and checks its reply.
 fn decides<'k>(
     rt: &(impl Abort + AllocGlobal),
     map: &mut Map,
@@ -44,7 +44,7 @@ fn computation_without_a_table(rt: HostRuntime) {
     same(&rt, map.tables.requests, 0);
 }
 
-// A map whose one pair is 3 with the value 4.
+// Returns a map whose only pair is the key 3 with the value 4.
 fn map_of_three(rt: &(impl Abort + AllocGlobal)) -> Map {
     let mut map = empty_map(rt.alloc(), 1, 0);
     answers(
@@ -59,7 +59,7 @@ fn map_of_three(rt: &(impl Abort + AllocGlobal)) -> Map {
     map
 }
 
-// Runs a call of hash 3, and sees to its reply, its number of steps and the number of pairs after it.
+// Runs a call of the hash 3, and checks its reply, its number of steps and the number of pairs after it.
 fn answers_in<'k>(
     rt: &(impl Abort + AllocGlobal),
     map: &mut Map,
@@ -110,7 +110,7 @@ fn writes(rt: HostRuntime) {
     answers_in(&rt, &mut map, Call::RemoveEntry(&19), pair, 3, 0);
 }
 
-// Runs a computation, and sees to its reply, its number of steps and the number of pairs after it.
+// Runs a computation, and checks its reply, its number of steps and the number of pairs after it.
 fn computes(
     rt: &(impl Abort + AllocGlobal),
     map: &mut Map,
@@ -154,7 +154,7 @@ fn computation_by_a_closure(rt: HostRuntime) {
     same(&rt, answer, value(Some(3)));
 }
 
-// How often a computation at a key of hash 3 calls its function.
+// Returns how often a computation at a key of the hash 3 calls its function.
 fn calls_at(rt: &(impl Abort + AllocGlobal), map: &mut Map, key: u64) -> u64 {
     let calls = Cell::new(0u64);
     let (_events, _answer) = run(
@@ -178,7 +178,7 @@ fn function_is_called_for_a_present_key_alone(rt: HostRuntime) {
     same(&rt, calls_at(&rt, &mut map, 3), 1);
 }
 
-// The first step of a look-up of the key 3, at the certificate of the table.
+// Does the first step of a look-up of the key 3, at the certificate of the table.
 fn begins_at_a_start<'k, F: ComputeFn<u64, u64>>(
     rt: &impl Abort,
     party: &mut Party<'k, u64, u64, F>,
@@ -190,7 +190,7 @@ fn begins_at_a_start<'k, F: ComputeFn<u64, u64>>(
     same(rt, party.on_start(&start), Event::Silent);
 }
 
-// All its steps.
+// Does all steps of a look-up of the key 3, the first one at the certificate of the table.
 pub(super) fn looks_up_from_a_start<'k, F: ComputeFn<u64, u64>>(
     rt: &(impl Abort + AllocGlobal),
     party: &mut Party<'k, u64, u64, F>,

@@ -1,4 +1,4 @@
-//! Calls whose tables are refused.
+//! Calls for whose tables memory cannot be allocated.
 
 use super::{Told, answers, empty_map, has_pairs, has_table, inserts};
 use flurry_steps::party::{Call, Event};
@@ -45,7 +45,7 @@ fn refused_larger_table_refuses_a_reserve(rt: HostRuntime) {
     has_table(&rt, &map, Some(6));
 }
 
-// The twelfth pair stays, though its larger table is refused, and the thirteenth doubles the table.
+// The twelfth pair stays, although memory for its larger table cannot be allocated. The thirteenth pair doubles the table.
 #[test]
 fn refused_larger_table_leaves_the_pair(rt: HostRuntime) {
     let mut map = empty_map(rt.alloc(), 1, 2);
@@ -59,7 +59,7 @@ fn refused_larger_table_leaves_the_pair(rt: HostRuntime) {
     has_table(&rt, &map, Some(5));
 }
 
-// A list of eight whose growth is refused: the pair stays and is counted.
+// Memory for the larger table of a list of eight cannot be allocated. The pair stays and is counted.
 #[test]
 fn refused_larger_table_leaves_the_list(rt: HostRuntime) {
     let mut map = empty_map(rt.alloc(), 1, 2);

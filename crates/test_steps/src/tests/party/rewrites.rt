@@ -1,4 +1,4 @@
-//! A key that is written again and again: no call is refused at any write number while there is memory.
+//! A key that is written again and again: while there is memory, no call fails at any write number.
 
 use super::super::same;
 use super::{Becomes, Map, Told, answers, empty_map, insert, replies, run, value};
@@ -7,7 +7,7 @@ use flurry_slots::NoFn;
 use flurry_steps::party::{Call, Event};
 use std::process::Abort;
 
-// Runs a call of hash 3, and sees to its reply.
+// Runs a call of the hash 3, and checks its reply.
 fn tells<'k>(
     rt: &(impl Abort + AllocGlobal),
     map: &mut Map,
@@ -17,7 +17,7 @@ fn tells<'k>(
     replies(rt, map, 3, asked, Told::Key(reply))
 }
 
-// The calls that leave the key 3, which has this value, as it is.
+// Runs the calls that leave the key 3, which has the value `there`, unchanged.
 fn stays(rt: &(impl Abort + AllocGlobal), map: &mut Map, there: u64) {
     let exists = KeptReply::Exists {
         current: there,
@@ -40,7 +40,7 @@ fn stays(rt: &(impl Abort + AllocGlobal), map: &mut Map, there: u64) {
     )
 }
 
-// An insertion and a computation, each of which writes the key 3, which has the first value before.
+// Runs an insertion and a computation that write the key 3, which has the value `before` at first.
 fn writes(rt: &(impl Abort + AllocGlobal), map: &mut Map, before: u64, then: u64, after: u64) {
     replies(rt, map, 3, Call::Insert(3, then), value(Some(before)));
     stays(rt, map, then);
@@ -58,7 +58,7 @@ fn a_key_is_written_twenty_times(rt: HostRuntime) {
     }
 }
 
-// The pair is taken out and put again, and its number goes on.
+// The pair is removed and inserted again, and its write number goes on.
 #[test]
 fn a_key_comes_and_goes_ten_times(rt: HostRuntime) {
     let mut map = empty_map(rt.alloc(), 1, 0);

@@ -1,4 +1,4 @@
-//! Walks and clears, between the steps of other calls. Each is dropped by name, as a call in progress is.
+//! Walks and clears, between the steps of other calls. Each of them is dropped explicitly, as calls in progress are.
 ghost use Rattle.std.specs.Prelude.{◌≡◌};
 ghost use Rattle.flurry_calls.specs.Part.{LookPart, BinPart};
 ghost use Rattle.flurry_calls.specs.Sweep.{swept_part};
@@ -14,7 +14,7 @@ use flurry_slots::{ComputeFn, Slot};
 use flurry_steps::party::{Call, Event, Party, Want};
 use std::process::Abort;
 
-// The step of a walk that wants to read this slot.
+// Does the step of a walk that needs to read a slot.
 fn look(
     rt: &impl Abort,
     walk: &mut Sweep<u64, u64>,
@@ -30,7 +30,7 @@ fn look(
     event
 }
 
-// The step of a clear that wants to write this slot.
+// Does the step of a clear that needs to write a slot.
 fn wipe(
     rt: &impl Abort,
     clear: &mut Sweep<u64, u64>,
@@ -46,7 +46,7 @@ fn wipe(
     event
 }
 
-// The next step, at the part that the call wants.
+// Does the next step of a call, at the part that it needs.
 fn step(rt: &impl Abort, sweep: &mut Sweep<u64, u64>, map: &mut Map) -> Event {
     match sweep.want() {
         Want::Control => sweep.on_control(&mut map.control),
@@ -56,20 +56,20 @@ fn step(rt: &impl Abort, sweep: &mut Sweep<u64, u64>, map: &mut Map) -> Event {
     }
 }
 
-// So many steps, in which nothing is read or wiped.
+// Does `count` steps, in which nothing is read or wiped.
 fn silent(rt: &impl Abort, sweep: &mut Sweep<u64, u64>, map: &mut Map, count: u64) {
     for at in 0..count {
         same_at(rt, at, step(rt, sweep, map), Event::Silent);
     }
 }
 
-// A step that reads this pair.
+// Does a step that reads the pair of `key` and `value`.
 fn reads(rt: &impl Abort, walk: &mut Sweep<u64, u64>, map: &mut Map, key: u64, value: u64) {
     same(rt, step(rt, walk, map), Event::Read);
     same(rt, walk.last_read(), Some((&key, &value)));
 }
 
-// The call has ended. Its reply is taken once.
+// Asserts that the call has ended, and that its reply can be taken only once.
 fn has_ended(rt: &impl Abort, sweep: &mut Sweep<u64, u64>) {
     let seen = (sweep.want(), sweep.reply().is_some());
     same(rt, seen, (Want::Done, true));
@@ -83,12 +83,12 @@ fn has_ended(rt: &impl Abort, sweep: &mut Sweep<u64, u64>) {
     );
 }
 
-// Sees that this is key 1 as it was put first.
+// Asserts that `seen` is the key 1 with its first value.
 fn is_one(rt: &impl Abort, seen: &Seen<u64, u64>) {
     same(rt, (seen.key(), seen.value()), (&1, &0));
 }
 
-// A walk of it, which has read key 1.
+// Returns a walk of the map that has read key 1.
 fn has_read_one(rt: &impl Abort, map: &mut Map) -> Sweep<u64, u64> {
     let mut walk = Sweep::walk();
     same(rt, walk.last_read().is_none(), true);
@@ -113,7 +113,7 @@ fn a_walk_reads_each_pair_once(rt: HostRuntime) {
     drop(walk);
 }
 
-// Between its reads the table is doubled twice: the walk follows bin 1 to its four parts, and every other bin too.
+// Between the walk's reads, the table is doubled twice. The walk follows bin 1 to its four parts, and every other bin too.
 #[test]
 fn a_walk_follows_bins_that_move(rt: HostRuntime) {
     let mut map = one_and_seventeen(&rt);
@@ -126,7 +126,7 @@ fn a_walk_follows_bins_that_move(rt: HostRuntime) {
     drop(walk);
 }
 
-// The key that was read is removed, and comes back with another value: it is not read again.
+// The key that was read is removed, and inserted again with another value. It is not read again.
 #[test]
 fn a_walk_reads_no_key_twice(rt: HostRuntime) {
     let mut map = one_and_seventeen(&rt);
@@ -151,7 +151,7 @@ fn a_walk_reads_no_key_twice(rt: HostRuntime) {
     drop(walk);
 }
 
-// What was read last stays as it was read, whoever writes its key.
+// What was read last stays as it was read, even if another call writes its key.
 #[test]
 fn what_was_read_stays(rt: HostRuntime) {
     let mut map = one_and_seventeen(&rt);
@@ -173,7 +173,7 @@ fn what_was_read_stays(rt: HostRuntime) {
     drop(further);
 }
 
-// The call ends at its first step, and has read nothing.
+// Asserts that the call ends at its first step, and has read nothing.
 fn ends_at_once(rt: &impl Abort, sweep: &mut Sweep<u64, u64>, map: &mut Map) {
     silent(rt, sweep, map, 1);
     has_ended(rt, sweep);
@@ -192,7 +192,7 @@ fn a_map_without_a_table_has_nothing_to_go_over(rt: HostRuntime) {
     has_table(&rt, &map, None);
 }
 
-// The first step may also be done at a table that is known to be published.
+// The first step may also be done at a table that is known to have been published.
 #[test]
 fn a_walk_sets_out_from_a_published_table(rt: HostRuntime) {
     let mut map = one_and_seventeen(&rt);
@@ -207,7 +207,7 @@ fn a_walk_sets_out_from_a_published_table(rt: HostRuntime) {
     drop(walk);
 }
 
-// Where no bin is yet, a walk and a clear stay.
+// At an unborn bin, a walk and a clear stay.
 #[test]
 fn an_unborn_bin_is_met_again(rt: HostRuntime) {
     let mut map = one_and_seventeen(&rt);
@@ -225,14 +225,14 @@ fn an_unborn_bin_is_met_again(rt: HostRuntime) {
     drop(clear);
 }
 
-// Steps of a clear that wipe the bins of that table from the first on.
+// Does steps of a clear that wipe `bins` of `table`, in their order.
 fn wipes(rt: &impl Abort, clear: &mut Sweep<u64, u64>, map: &mut Map, table: u8, bins: &[usize]) {
     for at in 0..bins.len() {
         same_at(rt, at, step(rt, clear, map), Event::Wipe(table, bins[at]));
     }
 }
 
-// Beside that growth the clear wipes the other 63, and of that one its halves.
+// While the growth has stopped, the clear wipes the 63 bins that have not moved, and the halves of the one that has.
 #[test]
 fn a_clear_beside_a_growth_wipes_every_bin(rt: HostRuntime) {
     let mut map = empty_map(rt.alloc(), 2, 0);
@@ -261,7 +261,7 @@ fn a_clear_beside_a_growth_wipes_every_bin(rt: HostRuntime) {
     );
 }
 
-// A walk as a party, which has read key 1.
+// Does the first steps of a walk as a party, which reads key 1.
 fn reads_one<'k, F: ComputeFn<u64, u64>>(
     rt: &(impl Abort + AllocGlobal),
     walk: &mut Party<'k, u64, u64, F>,
@@ -282,7 +282,7 @@ fn reads_one<'k, F: ComputeFn<u64, u64>>(
     drop(seen);
 }
 
-// It goes on to its end, and keeps what it read last.
+// Runs a walk as a party to its end. It keeps what it read last.
 pub(super) fn walks_as_a_party<'k, F: ComputeFn<u64, u64>>(
     rt: &(impl Abort + AllocGlobal),
     walk: &mut Party<'k, u64, u64, F>,

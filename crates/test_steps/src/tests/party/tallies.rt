@@ -9,7 +9,7 @@ use flurry_slots::{ComputeFn, NoFn};
 use flurry_steps::party::{Call, Event, Party, Want};
 use std::process::Abort;
 
-// Does the steps of a call, which counts at the tally. Answers what it wants after that, and its reply.
+// Does the steps of a call that counts at the tally. Returns what the call needs after that, and its reply.
 fn counts_at<'k, F: ComputeFn<u64, u64>>(
     rt: &(impl Abort + AllocGlobal),
     party: &mut Party<'k, u64, u64, F>,
@@ -30,7 +30,7 @@ fn counts_at<'k, F: ComputeFn<u64, u64>>(
     (wanted, reply)
 }
 
-// Runs a call of hash 3, and sees to its hash.
+// Runs a call of the hash 3, and checks its hash.
 fn counted<'k, F: ComputeFn<u64, u64>>(
     rt: &(impl Abort + AllocGlobal),
     map: &mut Map,
@@ -46,7 +46,7 @@ fn counted<'k, F: ComputeFn<u64, u64>>(
     seen
 }
 
-// The same of a call without a function.
+// Runs a call without a function, which counts at the tally.
 fn call_counted<'k>(
     rt: &(impl Abort + AllocGlobal),
     map: &mut Map,
@@ -56,7 +56,7 @@ fn call_counted<'k>(
     counted(rt, map, tally, asked)
 }
 
-// Runs such a call, and sees to what it wants and replies. The control has counted nothing yet.
+// Runs a call that counts at the tally, and checks what it needs then, and its reply. The control has counted nothing yet.
 fn waits<'k>(
     rt: &(impl Abort + AllocGlobal),
     map: &mut Map,
@@ -69,7 +69,7 @@ fn waits<'k>(
     has_pairs(rt, map, 0);
 }
 
-// An insertion looks at the control's count where two pairs wait; a removal never does.
+// An insertion looks at the control's count if two pairs are counted at the tally. A removal never does.
 #[test]
 fn pairs_wait_at_a_tally(rt: HostRuntime) {
     let mut map = empty_map(rt.alloc(), 1, 0);
@@ -103,7 +103,7 @@ fn pairs_wait_at_a_tally(rt: HostRuntime) {
     has_pairs(&rt, &map, 2);
 }
 
-// Fewer pairs than none may wait.
+// A tally may count fewer pairs than none.
 #[test]
 fn removals_wait_at_a_tally(rt: HostRuntime) {
     let mut map = empty_map(rt.alloc(), 1, 0);
