@@ -1,9 +1,9 @@
 -- A call that is driven over a field that tells its parts.
-use Rattle.std.specs.Prelude.{◌≡◌, ℕ, ◌+◌, ◌≤◌, Bool, true, length, reverse, Option, Some, None, MatchOption}
+use Rattle.std.specs.Prelude.{◌≡◌, ℕ, ◌+◌, ◌≤◌, Bool, true, length, reverse, Option, Some}
 use Rattle.std.specs.declared.cmp.Ordering.{Ordering}
 use Rattle.std.specs.Cmp.{IsTotalOrder}
 use Rattle.std.proofs.Common.{refl, sym, ◌∙◌, ap, subst, inl, inr}
-use Rattle.flurry_steps.specs.Field.{Loan, Turn, StaysOrDone}
+use Rattle.flurry_steps.specs.Field.{Loan, Turn}
 use Rattle.flurry_calls.specs.Outcome.{Outcome}
 use Rattle.flurry_calls.specs.Part.{Part}
 use Rattle.flurry_steps.specs.Party.{PartyState, final_outcome}
@@ -16,7 +16,7 @@ use Rattle.flurry_world.specs.Parts.{Parts}
 use Rattle.flurry_world.specs.Tables.{Tables}
 use Rattle.flurry_world.specs.World.{Near}
 use Rattle.flurry_world.proofs.WorldSteps.{alike_class}
-use Rattle.flurry_drive.specs.Turns.{Turns, still, further}
+use Rattle.flurry_steps.specs.Turns.{Turns, still, further}
 use Rattle.flurry_drive.specs.Tells.{StepsIn, Tells}
 use Rattle.flurry_drive.specs.Exact.{Holds, Answers, IsFresh, DrivesTo, IsExact, most_counted}
 use Rattle.flurry_drive.proofs.OwnSteps.{own_step}
@@ -32,12 +32,6 @@ module _ {S P E : Type 0} (step : S → P → E → S → P → Type 0) where
   all_keep : (Kept : S → P → Type 0) → ((s s' : S) (p p' : P) (ev : E) → step s p ev s' p' → Kept s p → Kept s' p') → {s s' : S} {p p' : P} → Turns step s p s' p' → Kept s p → Kept s' p'
   all_keep Kept keeps still is = is
   all_keep Kept keeps {s' = s'} {p' = p'} (further {s' = u} {p' = q} ev turns turn) is = keeps u s' q p' ev turn (all_keep Kept keeps turns is)
-
-module _ {S K V F : Type 0} (step : S → PartyState K V F → Event → S → PartyState K V F → Type 0) (lacks : S → Part → Type 0) where
-  -- one more call of `act`
-  pub turns_on : (s s1 s2 : S) (p p1 p2 : PartyState K V F) (r : Option Event) → MatchOption r (StaysOrDone lacks s1 p1 s2 p2) (λ ev. step s1 p1 ev s2 p2) → Turns step s p s1 p1 → Turns step s p s2 p2
-  turns_on s s1 s2 p p1 p2 None h runs = rw (h.field, h.party) runs
-  turns_on s s1 s2 p p1 p2 (Some ev) h runs = further ev runs h
 
 module _ {K V F : Type 0} (cmp : K → K → Ordering) (total : IsTotalOrder cmp) (changes : F → K → V → Option V → Type 0) (hash : K → ℕ) (lawful : (j k : K) → same cmp j k ≡ true → hash j ≡ hash k) where
   -- a call that does not go over all bins

@@ -1,3 +1,2 @@
-pub mod Turns
 pub mod Tells
 pub mod Exact

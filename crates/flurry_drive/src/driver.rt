@@ -3,9 +3,9 @@ ghost use Rattle.std.specs.Prelude.{◌≡◌, ◌+◌, ◌≤◌, ℕ, []};
 ghost use Rattle.std.specs.declared.cmp.Ordering.TheVariants.{Equal};
 ghost use Rattle.flurry_drive.specs.Exact.{Holds, DrivesTo, IsExact, most_counted};
 ghost use Rattle.flurry_drive.specs.Tells.{Tells};
-ghost use Rattle.flurry_drive.specs.Turns.{TurnsTo};
 ghost use Rattle.flurry_steps.specs.Field.{Turn};
 ghost use Rattle.flurry_steps.specs.Party.{IsTaken};
+ghost use Rattle.flurry_steps.specs.Turns.{TurnsTo};
 ghost use Rattle.flurry_calls.specs.OutcomeView.{outcome_of};
 ghost use Rattle.flurry_steps.specs.PartyView.{OwnedIsReady};
 ghost use Rattle.flurry_theory.specs.Map.{Pairs};
@@ -17,7 +17,7 @@ ghost use Rattle.flurry_model.specs.declared.sizes.TheConstants.{MOST_LABELS};
 use flurry_model::hash::KeyHasher;
 use flurry_slots::ComputeFn;
 use flurry_steps::party::{OwnedCall, Reply};
-use flurry_steps::{Field, Party, act};
+use flurry_steps::{Field, Party, finish};
 use flurry_world::{Parts, hash_for};
 use std::alloc::Allocator;
 use std::sync::Wait;
@@ -47,15 +47,7 @@ pub fn drive<
     ensures exact { IsExact X.Room.place_gives K.cmp F.changes X.lends X.lacks field.old party.old
         (outcome_of result) field.new }
 {
-    for _ in rt.forever() {
-        if act(party, field).is_some() {
-            continue;
-        }
-        if let Some(reply) = party.take_reply() {
-            return reply;
-        }
-    }
-    unreachable!()
+    finish(rt, party, field)
 }
 
 /// Does all steps of `call` over `parts`, which nobody else changes, and returns the reply.

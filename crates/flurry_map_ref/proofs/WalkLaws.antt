@@ -1,7 +1,7 @@
 -- Laws of walks over the locks.
-use Rattle.std.proofs.Common.{◌≡◌, ℕ, Option, Some, None, IsSome, MatchOption, Result, Ok, Err, false, refl, sym, ap, subst}
+use Rattle.std.proofs.Common.{◌≡◌, ℕ, Option, Some, None, IsSome, MatchOption, Result, Ok, Err, false, refl, sym, ◌∙◌, ap, subst}
 use Rattle.std.specs.declared.cmp.Ordering.{Ordering}
-use Rattle.flurry_drive.specs.Turns.{Turns, still, further}
+use Rattle.flurry_steps.specs.Turns.{Turns, still, further}
 use Rattle.flurry_locks.specs.LockLoans.{LockLends}
 use Rattle.flurry_locks.specs.WalkTurns.{WalkTurn, WalksOrStays, AtControl, AtStart, AtSlot}
 use Rattle.flurry_model.specs.declared.call.Seen.{Seen}
@@ -22,7 +22,7 @@ use Rattle.flurry_steps.specs.Field.{Turn, ControlLoan, StartLoan, LookLoan}
 use Rattle.flurry_steps.specs.Party.{PartyState, AtSweep}
 use Rattle.flurry_steps.specs.declared.party.call.Call.TheVariants as call
 use Rattle.flurry_map_ref.specs.Driven.{no_changes}
-use Rattle.flurry_map_ref.specs.Walks.{Answers, has_ended_after, AnyTurn, OtherTurn, ReadsNext, EndsWith, IsUnderWay}
+use Rattle.flurry_map_ref.specs.Walks.{IteratorState, Answers, Begins, Gives, IsOpen, HasEnded, has_ended_after, AnyTurn, OtherTurn, ReadsNext, EndsWith, IsUnderWay}
 
 -- ---- what a read leaves
 
@@ -105,6 +105,28 @@ module _ {K V : Type 0} (cmp : K → K → Ordering) where
   goes_on told seen p p' (Ok (Some x)) u h e = still_under_way p p' u h.0
   goes_on told seen p p' (Ok None) u h e = cc
   goes_on told seen p p' (Err x) u h e = cc
+
+-- ---- iterators
+
+module _ {K V : Type 0} (cmp : K → K → Ordering) where
+  pub opens : (it : IteratorState K V) → Begins cmp it → IsOpen cmp it
+  opens it h = record { walk = further h.event still h.step; goes_on = h.goes_on }
+
+  -- one that gave something goes on
+  pub stays_open : {X Y E : Type 0} (told : X → Y) (seen : Seen K V → Y) (it it' : IteratorState K V) (r : Result (Option X) E) (x : X) → r ≡ Ok (Some x) → IsOpen cmp it → Gives cmp told seen it r it' → IsOpen cmp it'
+  stays_open told seen it it' r x e is h = record {
+    walk = goes_on cmp told seen it.walk it'.walk r is.walk (h.answers is.goes_on) (ap has_ended_after e);
+    goes_on = h.goes_on is.goes_on ∙ ap has_ended_after e;
+  }
+
+  -- one that gave nothing has ended
+  pub comes_to_end : {X Y E : Type 0} (told : X → Y) (seen : Seen K V → Y) (it it' : IteratorState K V) (r : Result (Option X) E) → r ≡ Ok None → IsOpen cmp it → Gives cmp told seen it r it' → HasEnded cmp it'
+  comes_to_end told seen it it' r e is h = record {
+    last = it.walk;
+    walk = is.walk;
+    end = subst (λ z. Answers cmp told seen it.walk z it'.walk) e (h.answers is.goes_on);
+    ended = h.goes_on is.goes_on ∙ ap has_ended_after e;
+  }
 
 -- a walk has no other reply
 pub no_other : {K V A : Type 0} (r : Reply K V A) → CanWalk (outcome_of r) → (r ≡ reply.Ended → ⊥) → (r ≡ reply.Refused → ⊥) → ⊥

@@ -2,7 +2,7 @@
 use Rattle.std.specs.Prelude.{◌≡◌, ◌≢◌, ◌⊎◌, Bool, true, false, Option, Some, None, Result, Ok, Err}
 use Rattle.std.specs.Option.{option_map}
 use Rattle.std.specs.declared.cmp.Ordering.{Ordering}
-use Rattle.flurry_drive.specs.Turns.{Turns}
+use Rattle.flurry_steps.specs.Turns.{Turns}
 use Rattle.flurry_locks.specs.WalkTurns.{WalkTurn}
 use Rattle.flurry_model.specs.declared.call.Seen.{Seen}
 use Rattle.flurry_calls.specs.Outcome.{Outcome, OutcomeEnded, OutcomeRefused}
@@ -69,3 +69,15 @@ pub record Gives {K V X Y E : Type 0} (cmp : K → K → Ordering) (told : X →
   pub ended : it.has_ended ≡ true → (r ≡ Ok None) × (it' ≡ it)
   pub answers : it.has_ended ≡ false → Answers cmp told seen it.walk r it'.walk
   pub goes_on : it.has_ended ≡ false → it'.has_ended ≡ has_ended_after r
+
+-- An iterator that has not ended.
+pub record IsOpen {K V : Type 0} (cmp : K → K → Ordering) (it : IteratorState K V) : Type 0 where
+  pub walk : IsUnderWay cmp it.walk
+  pub goes_on : it.has_ended ≡ false
+
+-- An iterator that has come to its end: steps of its walk led there, and none of them was refused.
+pub record HasEnded {K V : Type 0} (cmp : K → K → Ordering) (it : IteratorState K V) : Type 0 where
+  pub last : SweepState K V
+  pub walk : IsUnderWay cmp last
+  pub end : EndsWith cmp last OutcomeEnded it.walk
+  pub ended : it.has_ended ≡ true

@@ -1,4 +1,6 @@
 //! Equality of shared maps.
+ghost use Rattle.std.specs.Prelude.{◌≡◌, true, IfOk};
+ghost use Rattle.flurry_map_ref.specs.Walks.{Begins, HasEnded};
 
 use crate::HashMapRef;
 use crate::iter::Iter;
@@ -42,6 +44,8 @@ impl<'m, R: Wait, K: Ord + Drop, V: Drop, S: KeyHasher<K>, A: Allocator + Copy> 
     fn has_rest(&self, pairs: &mut Iter<'_, R, K, V, A>) -> Result<bool, AllocError>
     where
         V: PartialEq,
+        requires { Begins K.cmp pairs.old }
+        ensures { IfOk result (λ has_all. has_all ≡ true → HasEnded K.cmp pairs.new) }
     {
         for _ in self.runtime().forever() {
             let Some((key, value)) = pairs.next()? else {

@@ -1,4 +1,6 @@
 //! Calls that keep some of the pairs of a shared map.
+ghost use Rattle.std.specs.Prelude.{OnOk};
+ghost use Rattle.flurry_map_ref.specs.Walks.{Begins, HasEnded};
 
 use crate::HashMapRef;
 use crate::iter::Iter;
@@ -20,6 +22,16 @@ impl<'m, R: Wait, K: Ord + Drop, V: Drop, S: KeyHasher<K>, A: Allocator + Copy> 
     ///
     /// `f` runs while no lock is held, so it may call this map. One removal for each pair for which `f` returns `false`, besides the walk.
     /// Takes the locks of the walk, and those of [`HashMapRef::remove`].
+    ///
+    /// ```
+    /// let map: HashMap<u64, u64> = HashMap::new(rt.alloc());
+    /// let view = map.pin(&rt);
+    /// view.insert(37, 1)?;
+    /// view.insert(38, 2)?;
+    /// view.retain(|key: &u64, _value: &u64| -> bool { *key % 2 == 0 })?;
+    /// assert!(rt; !view.contains_key(&37));
+    /// assert!(rt; view.contains_key(&38));
+    /// ```
     ///
     /// # Errors
     ///
@@ -43,7 +55,9 @@ impl<'m, R: Wait, K: Ord + Drop, V: Drop, S: KeyHasher<K>, A: Allocator + Copy> 
         keep: &mut F,
     ) -> Result<(), AllocError>
     where
-        requires { F.IsAlwaysCallable keep.old }
+        requires callable { F.IsAlwaysCallable keep.old }
+        requires begun { Begins K.cmp pairs.old }
+        ensures { OnOk result (HasEnded K.cmp pairs.new) }
     {
         for _ in self.runtime().forever() {
             let Some(seen) = pairs.next_seen()? else {
@@ -86,7 +100,9 @@ impl<'m, R: Wait, K: Ord + Drop, V: Drop, S: KeyHasher<K>, A: Allocator + Copy> 
         keep: &mut F,
     ) -> Result<(), AllocError>
     where
-        requires { F.IsAlwaysCallable keep.old }
+        requires callable { F.IsAlwaysCallable keep.old }
+        requires begun { Begins K.cmp pairs.old }
+        ensures { OnOk result (HasEnded K.cmp pairs.new) }
     {
         for _ in self.runtime().forever() {
             let Some((key, value)) = pairs.next()? else {

@@ -3,7 +3,7 @@ use Rattle.std.specs.Prelude.{◌≡◌, ◌⊎◌, ℕ, ℤ, Bool, true, false,
 use Rattle.std.specs.Option.{option_map_or}
 use Rattle.std.specs.declared.cmp.Ordering.{Ordering}
 use Rattle.std.proofs.Common.{refl, sym, subst, inl, inr}
-use Rattle.flurry_drive.specs.Turns.{Turns, still, further, TurnsTo}
+use Rattle.flurry_steps.specs.Turns.{Turns, still, further, TurnsTo}
 use Rattle.flurry_model.specs.declared.call.Seen.{Seen}
 use Rattle.flurry_replies.specs.Answers.{CanReserve, CanSweep, CanAnswer, CanAnswerFrom, NeedsOwner, IsSought}
 use Rattle.flurry_slots.specs.Slot as slot

@@ -1,7 +1,7 @@
 -- The first steps of a call at once are its own.
 use Rattle.std.proofs.Common.{◌≡◌, ℕ, ℤ, ◌%◌, ◌^◌, ◌≤◌, true, Option, refl, subst}
 use Rattle.std.specs.declared.cmp.Ordering.{Ordering}
-use Rattle.flurry_drive.specs.Turns.{Turns, TurnsTo, still, further}
+use Rattle.flurry_steps.specs.Turns.{Turns, TurnsTo, still, further}
 use Rattle.flurry_locks.specs.LockLoans.{LockLends}
 use Rattle.flurry_replies.specs.Replies.{GoesTo, IsReplyOf, MakerStays}
 use Rattle.flurry_model.specs.declared.sizes.TheConstants.{GREATEST_TABLE}

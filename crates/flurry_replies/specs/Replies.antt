@@ -1,7 +1,7 @@
 -- What contracts say of the reply of a call over the locks.
 use Rattle.std.specs.Prelude.{◌≡◌, ℕ, Bool, Option, Result, Ok, Err}
 use Rattle.std.specs.declared.cmp.Ordering.{Ordering}
-use Rattle.flurry_drive.specs.Turns.{Turns, TurnsTo}
+use Rattle.flurry_steps.specs.Turns.{Turns, TurnsTo}
 use Rattle.flurry_locks.specs.LockLoans.{LockLends}
 use Rattle.flurry_steps.specs.Field.{Turn}
 use Rattle.flurry_steps.specs.PartyTally.{EndingState, ending_stage}

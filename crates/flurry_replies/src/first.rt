@@ -7,12 +7,11 @@ ghost use Rattle.flurry_calls.specs.OutcomeView.{outcome_of};
 ghost use Rattle.flurry_steps.specs.PartyView.{CallIsReady, first_stage};
 
 use flurry_control::PublishedTable;
-use flurry_drive::drive;
 use flurry_locks::Lender;
 use flurry_model::sizes::bin_index;
 use flurry_slots::ComputeFn;
-use flurry_steps::Party;
 use flurry_steps::party::{Call, Ending, Reply};
+use flurry_steps::{Party, finish};
 use std::alloc::Allocator;
 use std::sync::Wait;
 
@@ -197,7 +196,7 @@ fn drive_party<K: Ord + Drop, V: Drop, F: ComputeFn<K, V>, A: Allocator + Copy, 
     let mut party = party;
     let mut lender = lender.again();
     let rt = lender.runtime();
-    let reply = drive(rt, &mut party, &mut lender);
+    let reply = finish(rt, &mut party, &mut lender);
     drop(party);
     reply
 }

@@ -1,5 +1,6 @@
 //! The pairs of a shared map, by its view.
-ghost use Rattle.std.specs.Prelude.{IfOk};
+ghost use Rattle.std.specs.Prelude.{IfOk, OnOk};
+ghost use Rattle.flurry_map_ref.specs.Walks.{Begins, HasEnded};
 ghost use Rattle.flurry_model.specs.FiniteMap.{IsFiniteMap};
 
 use crate::ascending::ascending_pairs;
@@ -40,7 +41,10 @@ pub fn to_sorted_pairs<
 fn clones_of_rest<R: Wait, K: Ord + Clone, V: Clone, A: Allocator + Copy, B: Allocator>(
     alloc: B,
     pairs: &mut Iter<'_, R, K, V, A>,
-) -> Result<Vec<(K, V), B>, AllocError> {
+) -> Result<Vec<(K, V), B>, AllocError>
+    requires { Begins K.cmp pairs.old }
+    ensures { OnOk result (HasEnded K.cmp pairs.new) }
+{
     let mut list = Vec::new(alloc);
     while let Some((key, value)) = pairs.next()? {
         list.push((key.as_ref().clone()?, value.as_ref().clone()?))?;

@@ -1,5 +1,6 @@
 //! The elements of a shared set, by its view.
-ghost use Rattle.std.specs.Prelude.{IfOk};
+ghost use Rattle.std.specs.Prelude.{IfOk, OnOk};
+ghost use Rattle.flurry_map_ref.specs.Walks.{Begins, HasEnded};
 ghost use Rattle.flurry_model.specs.FiniteSet.{IsFiniteSet};
 
 use crate::ascending::ascending_elements;
@@ -36,7 +37,10 @@ pub fn to_sorted_items<R: Wait, T: Ord + Clone, S: KeyHasher<T>, A: Allocator + 
 fn clones_of_rest<R: Wait, T: Ord + Clone, A: Allocator + Copy, B: Allocator>(
     alloc: B,
     elements: &mut Keys<'_, R, T, (), A>,
-) -> Result<Vec<T, B>, AllocError> {
+) -> Result<Vec<T, B>, AllocError>
+    requires { Begins T.cmp elements.old }
+    ensures { OnOk result (HasEnded T.cmp elements.new) }
+{
     let mut list = Vec::new(alloc);
     while let Some(element) = elements.next()? {
         list.push(element.as_ref().clone()?)?;

@@ -1,11 +1,11 @@
 //! The view of a shared set.
-ghost use Rattle.std.specs.Prelude.{◌≡◌};
+ghost use Rattle.std.specs.Prelude.{◌≡◌, IfOk, OnOk, true};
 ghost use Rattle.flurry_calls.specs.Outcome.{OutcomeReply, OutcomeEnded};
 ghost use Rattle.flurry_calls.specs.Sweep.{Wipes, fresh_sweep};
 ghost use Rattle.flurry_locks.specs.declared.tables.Maker.{Maker};
 ghost use Rattle.flurry_map_ref.specs.Driven.{IsDriven, no_changes};
 ghost use Rattle.flurry_map_ref.specs.Results.{ended_outcome};
-ghost use Rattle.flurry_map_ref.specs.Walks.{Begins};
+ghost use Rattle.flurry_map_ref.specs.Walks.{Begins, HasEnded};
 ghost use Rattle.flurry_model.specs.declared.reply.KeptReply.TheVariants as kept;
 ghost use Rattle.flurry_shared_set.specs.ElementResults.{element_outcome, found_outcome, removed_outcome, added_outcome};
 ghost use Rattle.flurry_steps.specs.Party.{TheValue, ThePair, Presence, Finds, Removes, Adds, AtLocate, AtReserve, AtSweep};
@@ -84,6 +84,14 @@ impl<'m, R: Wait, T: Ord, S: KeyHasher<T>, A: Allocator> HashSetRef<'m, R, T, S,
 
 impl<'m, R: Wait, T: Ord + Drop, S: KeyHasher<T>, A: Allocator + Copy> HashSetRef<'m, R, T, S, A> {
     /// Returns `true` if the set has an element equal to `element`. It takes no memory.
+    ///
+    /// ```
+    /// let set: HashSet<u64> = HashSet::new(rt.alloc());
+    /// let view = set.pin(&rt);
+    /// view.insert(37)?;
+    /// assert!(rt; view.contains(&37));
+    /// assert!(rt; !view.contains(&38));
+    /// ```
     pub fn contains(&self, element: &T) -> bool
         ensures { IsDriven (Maker T (Unit {0}) A) T.cmp (no_changes {K = T} {V = Unit {0}}) self.now
             (S.hash_of self.now.hasher element.now) (AtLocate (Finds Presence element.now))
@@ -93,6 +101,14 @@ impl<'m, R: Wait, T: Ord + Drop, S: KeyHasher<T>, A: Allocator + Copy> HashSetRe
     }
 
     /// Returns a clone of the `Arc` of the stored element that is equal to `element`, or `None` if there is none.
+    ///
+    /// ```
+    /// let set: HashSet<u64> = HashSet::new(rt.alloc());
+    /// let view = set.pin(&rt);
+    /// view.insert(37)?;
+    /// assert_eq!(rt; view.get(&37)?.map(|element| *element), Some(37));
+    /// assert!(rt; view.get(&38)?.is_none());
+    /// ```
     ///
     /// # Errors
     ///
@@ -111,6 +127,13 @@ impl<'m, R: Wait, T: Ord + Drop, S: KeyHasher<T>, A: Allocator + Copy> HashSetRe
     /// `element` is dropped. A new element may make the table grow; if memory for the larger table cannot be allocated, the set stays in
     /// the old table.
     ///
+    /// ```
+    /// let set: HashSet<u64> = HashSet::new(rt.alloc());
+    /// let view = set.pin(&rt);
+    /// assert!(rt; view.insert(37)?);
+    /// assert!(rt; !view.insert(37)?);
+    /// ```
+    ///
     /// # Errors
     ///
     /// Returns [`AllocError`] if memory for a new element or for a first table cannot be allocated, or if cloning an `Arc` of what is
@@ -126,6 +149,14 @@ impl<'m, R: Wait, T: Ord + Drop, S: KeyHasher<T>, A: Allocator + Copy> HashSetRe
     }
 
     /// Removes the element equal to `element`, and returns `true` if there was one. The table keeps its size. It takes no memory.
+    ///
+    /// ```
+    /// let set: HashSet<u64> = HashSet::new(rt.alloc());
+    /// let view = set.pin(&rt);
+    /// view.insert(37)?;
+    /// assert!(rt; view.remove(&37));
+    /// assert!(rt; !view.remove(&37));
+    /// ```
     pub fn remove(&self, element: &T) -> bool
         ensures { IsDriven (Maker T (Unit {0}) A) T.cmp (no_changes {K = T} {V = Unit {0}}) self.now
             (S.hash_of self.now.hasher element.now) (AtLocate (Removes TheValue element.now)) (removed_outcome result) }
@@ -162,6 +193,14 @@ impl<'m, R: Wait, T: Ord + Drop, S: KeyHasher<T>, A: Allocator + Copy> HashSetRe
     }
 
     /// Removes all elements, one bin after another. See [`HashMapRef::clear`].
+    ///
+    /// ```
+    /// let set: HashSet<u64> = HashSet::new(rt.alloc());
+    /// let view = set.pin(&rt);
+    /// view.insert(37)?;
+    /// view.clear();
+    /// assert!(rt; view.is_empty());
+    /// ```
     pub fn clear(&self)
         ensures { IsDriven (Maker T (Unit {0}) A) T.cmp (no_changes {K = T} {V = Unit {0}}) self.now 0
             (AtSweep (fresh_sweep (Wipes 0))) OutcomeEnded }
@@ -170,6 +209,22 @@ impl<'m, R: Wait, T: Ord + Drop, S: KeyHasher<T>, A: Allocator + Copy> HashSetRe
     }
 
     /// Returns an iterator that gives clones of the `Arc`s of the elements. Other calls may run meanwhile. See [`HashMapRef::iter`].
+    ///
+    /// ```
+    /// let set: HashSet<u64> = HashSet::new(rt.alloc());
+    /// let view = set.pin(&rt);
+    /// view.insert(37)?;
+    /// view.insert(38)?;
+    /// let mut sum: u64 = 0;
+    /// let mut elements = view.iter();
+    /// for _ in rt.forever() {
+    ///     let Some(element) = elements.next()? else {
+    ///         break;
+    ///     };
+    ///     sum = sum.saturating_add(*element);
+    /// }
+    /// assert_eq!(rt; sum, 75);
+    /// ```
     pub fn iter(&self) -> Keys<'m, R, T, (), A>
         ensures { Begins T.cmp result }
     {
@@ -223,6 +278,16 @@ impl<'m, R: Wait, T: Ord + Drop, S: KeyHasher<T>, A: Allocator + Copy> HashSetRe
     /// `f` runs while no lock is held, so it may call this set. One removal for each element for which `f` returns `false`, besides the
     /// walk. Takes the locks of [`HashMapRef::retain`].
     ///
+    /// ```
+    /// let set: HashSet<u64> = HashSet::new(rt.alloc());
+    /// let view = set.pin(&rt);
+    /// view.insert(37)?;
+    /// view.insert(38)?;
+    /// view.retain(|element: &u64| -> bool { *element % 2 == 0 })?;
+    /// assert!(rt; !view.contains(&37));
+    /// assert!(rt; view.contains(&38));
+    /// ```
+    ///
     /// # Errors
     ///
     /// Returns [`AllocError`] if cloning an `Arc` fails. The elements that were already removed stay removed.
@@ -246,7 +311,9 @@ impl<'m, R: Wait, T: Ord + Drop, S: KeyHasher<T>, A: Allocator + Copy> HashSetRe
         keep: &mut F,
     ) -> Result<(), AllocError>
     where
-        requires { F.IsAlwaysCallable keep.old }
+        requires callable { F.IsAlwaysCallable keep.old }
+        requires begun { Begins T.cmp pairs.old }
+        ensures { OnOk result (HasEnded T.cmp pairs.new) }
     {
         for _ in self.map.runtime().forever() {
             let Some(seen) = pairs.next_seen()? else {
@@ -273,7 +340,10 @@ impl<'m, R: Wait, T: Ord + Drop, S: KeyHasher<T>, A: Allocator + Copy> HashSetRe
         &self,
         pairs: &mut Iter<'_, R, T, (), A>,
         present: bool,
-    ) -> Result<bool, AllocError> {
+    ) -> Result<bool, AllocError>
+        requires { Begins T.cmp pairs.old }
+        ensures { IfOk result (λ is_each. is_each ≡ true → HasEnded T.cmp pairs.new) }
+    {
         for _ in self.map.runtime().forever() {
             let Some((element, nothing)) = pairs.next()? else {
                 return Ok(true);

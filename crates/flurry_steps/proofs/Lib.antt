@@ -3,3 +3,4 @@ pub mod Decisions
 pub mod Events
 pub mod Rooms
 pub mod Singles
+pub mod TurnLaws

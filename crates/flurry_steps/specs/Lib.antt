@@ -7,3 +7,4 @@ pub mod EndingView
 pub mod PartyControl
 pub mod Field
 pub mod FirstSteps
+pub mod Turns

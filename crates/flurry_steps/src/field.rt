@@ -1,13 +1,16 @@
 //! Where a call finds the parts of a map that its steps need.
 ghost use Rattle.std.specs.Prelude.{◌≡◌};
 ghost use Rattle.flurry_calls.specs.Part.{Part, ControlPart, LookPart, BinPart, MovePart};
-ghost use Rattle.flurry_steps.specs.Party.{wanted_part};
-ghost use Rattle.flurry_steps.specs.Field.{Loan, TurnsOrStays, ActsOrStays};
+ghost use Rattle.flurry_calls.specs.OutcomeView.{outcome_of};
+ghost use Rattle.flurry_steps.specs.Party.{IsTaken, wanted_part};
+ghost use Rattle.flurry_steps.specs.Field.{Loan, Turn, TurnsOrStays, ActsOrStays};
+ghost use Rattle.flurry_steps.specs.Turns.{TurnsTo};
 
-use crate::party::{Event, Party, Want};
+use crate::party::{Event, Party, Reply, Want};
 use flurry_control::Room;
 use flurry_slots::ComputeFn;
 use std::alloc::Allocator;
+use std::sync::Wait;
 
 /// A place that has the parts of a map, and passes the part that a call needs to exactly one step of that call.
 ///
@@ -93,4 +96,31 @@ pub fn act<K: Ord + Drop, V: Drop, A: Allocator + Copy, F: ComputeFn<K, V>, X: F
         Want::Move(table, index) => field.at_move(table, index, party),
         Want::Done => None,
     }
+}
+
+/// Does the steps of a call over a field until the call is done, takes its reply, and returns it. A step whose part the field does not give
+/// is tried again, so a call whose part is never given does not return.
+///
+/// Takes as many steps as the call needs, and what the field takes to give the parts.
+pub fn finish<
+    K: Ord + Drop,
+    V: Drop,
+    A: Allocator + Copy,
+    F: ComputeFn<K, V>,
+    X: Field<K, V, A>,
+    R: Wait,
+>(rt: &R, party: &mut Party<'_, K, V, F, A>, field: &mut X) -> Reply<K, V, A>
+    requires { IsTaken party.old.stage → ⊥ }
+    ensures { TurnsTo (Turn X.Room.place_gives K.cmp F.changes X.lends) field.old party.old
+        (outcome_of result) field.new party.new }
+{
+    for _ in rt.forever() {
+        if act(party, field).is_some() {
+            continue;
+        }
+        if let Some(reply) = party.take_reply() {
+            return reply;
+        }
+    }
+    unreachable!()
 }

@@ -1,5 +1,5 @@
 use Rattle.std.proofs.Common.{subst}
-use Rattle.flurry_drive.specs.Turns.{still, further}
+use Rattle.flurry_steps.specs.Turns.{still, further}
 use Rattle.flurry_locks.specs.WalkTurns.{WalkTurn}
 use Rattle.flurry_map_ref.proofs.WalkLaws.{turned}
 use Rattle.flurry_map_ref.proofs.iter.read_next.Goals as goal

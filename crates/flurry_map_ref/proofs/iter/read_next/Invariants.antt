@@ -1,4 +1,4 @@
-use Rattle.flurry_drive.specs.Turns.{Turns}
+use Rattle.flurry_steps.specs.Turns.{Turns}
 use Rattle.flurry_map_ref.specs.Walks.{OtherTurn}
 use Rattle.flurry_map_ref.proofs.iter.read_next.Given as goal
 

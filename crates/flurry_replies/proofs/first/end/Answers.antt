@@ -1,4 +1,4 @@
-use Rattle.flurry_drive.specs.Turns.{still}
+use Rattle.flurry_steps.specs.Turns.{still}
 use Rattle.flurry_calls.specs.OutcomeView.{outcome_of}
 use Rattle.flurry_replies.proofs.BeginLaws.{done_by}
 use Rattle.flurry_replies.proofs.first.end.Goals as goal

@@ -1,5 +1,5 @@
 use Rattle.std.proofs.Common.{refl}
-use Rattle.flurry_drive.specs.Turns.{still, further}
+use Rattle.flurry_steps.specs.Turns.{still, further}
 use Rattle.flurry_map_ref.proofs.WalkLaws.{begins}
 use Rattle.flurry_map_ref.proofs.iter.Iter.new.Goals as goal
 

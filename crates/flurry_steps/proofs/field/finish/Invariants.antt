@@ -1,6 +1,6 @@
 use Rattle.flurry_steps.specs.Field.{Turn}
-use Rattle.flurry_drive.specs.Turns.{Turns}
-use Rattle.flurry_drive.proofs.driver.drive.Given as goal
+use Rattle.flurry_steps.specs.Turns.{Turns}
+use Rattle.flurry_steps.proofs.field.finish.Given as goal
 
 abbrev pub invariant-loop : goal.invariant-loop
 invariant-loop g l =

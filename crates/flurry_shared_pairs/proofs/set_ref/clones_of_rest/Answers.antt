@@ -1,0 +1,9 @@
+use Rattle.std.proofs.Common.{Ok, ◌∙◌, ap}
+use Rattle.flurry_map_ref.proofs.WalkLaws.{opens, stays_open}
+use Rattle.flurry_shared_pairs.proofs.set_ref.clones_of_rest.Goals as goal
+
+pub loop-list-init : goal.loop-list-init
+loop-list-init g c = opens g.T.Ord.cmp _ c.requires
+
+pub loop-list-preserved : goal.loop-list-preserved
+loop-list-preserved g c = stays_open g.T.Ord.cmp _ _ _ _ c.next.result _ (c.in_ok-element.was ∙ ap Ok c.in-Some.is) c.loop-list.invariant c.next.ensures
