@@ -1,7 +1,7 @@
 -- The picture of a schedule.
 use Rattle.std.specs.Prelude.{◌≡◌, ℕ, List, [], None, Some}
-use Rattle.flurry_program.specs.Runs.{Ends}
-use Rattle.flurry_program.specs.ScheduleRuns.{of_a_schedule}
+use Rattle.flurry_lines.specs.Runs.{Ends}
+use Rattle.flurry_lines.specs.ScheduleRuns.{of_a_schedule}
 use Rattle.flurry_draw.specs.ReaderState.{reads, between_tags, IsDrawing}
 
 -- without its tags a picture is this text, and then one line of names

@@ -1,7 +1,7 @@
 //! The positions of the marks of a picture.
 
 use crate::label::{Kind, split_line};
-use flurry_program::schedule::{Line, parse_line};
+use flurry_lines::schedule::{Line, parse_line};
 use std::alloc::{AllocError, Global};
 
 // The last place in a row.

@@ -1,13 +1,13 @@
 //! The drawing of a schedule, from its bytes to the bytes of its picture.
 ghost use Rattle.std.specs.Prelude.{◌≤◌, ℕ, List, [], None, Some, IfOk, IfSome};
 ghost use Rattle.std.specs.Io.KnownBytes.{Appends};
-ghost use Rattle.flurry_program.specs.Runs.{Ends};
-ghost use Rattle.flurry_program.specs.ScheduleRuns.{of_a_schedule};
+ghost use Rattle.flurry_lines.specs.Runs.{Ends};
+ghost use Rattle.flurry_lines.specs.ScheduleRuns.{of_a_schedule};
 ghost use Rattle.flurry_draw.specs.Picture.{Draws, IsPictureOf};
 
 use crate::draw::draw;
 use crate::lanes::Plan;
-use flurry_program::{Output, world_lines};
+use flurry_lines::{Output, world_lines};
 use std::alloc::{AllocError, Global};
 use std::io::{self, ErrorKind, Read, Write};
 

@@ -2,7 +2,7 @@
 use Rattle.std.specs.Prelude.{◌≡◌, ◌⊎◌, ℕ, List, [], ◌∷◌, ◌++◌, Option}
 use Rattle.std.specs.Fmt.{decimal}
 use Rattle.std.specs.Io.KnownBytes.{Appends}
-use Rattle.flurry_program.specs.Endings.{out_of_memory_text}
+use Rattle.flurry_lines.specs.Endings.{out_of_memory_text}
 
 -- a length was written, with status 0, or that memory is wanting, with status 3
 abbrev pub TellsLength : Option (List ℕ) → Option (List ℕ) → ℕ → Type 0

@@ -1,10 +1,10 @@
 //! Threads that share one map.
 ghost use Rattle.std.specs.Prelude.{◌≤◌, OnErr, IfOk, IsTrue};
-ghost use Rattle.flurry_program.specs.Runs.{UnlessWriteFailed};
+ghost use Rattle.flurry_lines.specs.Runs.{UnlessWriteFailed};
 ghost use Rattle.flurry_program.specs.Threads.{TellsLength};
 ghost use Rattle.flurry_program.specs.declared.threads.TheConstants.{MOST_THREADS, MOST_KEYS};
 
-use crate::ends::out_of_memory;
+use flurry_lines::ends::out_of_memory;
 use flurry_map::HashMap;
 use flurry_model::hash::KeyHasher;
 use flurry_streams::Sink;
@@ -77,8 +77,10 @@ fn fill<
     }
 }
 
-// Inserts `keys` keys in each of `threads` threads, and returns `true` if all were inserted.
-fn insert_in_threads<
+/// Inserts `keys` keys in each of `threads` threads, as [`thread_lines`] does, and returns `true` if all were inserted.
+///
+/// If memory for a key cannot be allocated, its thread stops there; the keys inserted before stay.
+pub fn insert_in_threads<
     S: KeyHasher<u64> + Sync,
     R: Threads + Wait + Sync,
     A: Allocator + Copy + Send + Sync,

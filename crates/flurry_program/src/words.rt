@@ -2,15 +2,14 @@
 ghost use Rattle.std.specs.Prelude.{◌≡◌, ◌≢◌, ◌≤◌, ℕ, [], None, MatchOption};
 ghost use Rattle.std.specs.Fmt.{decimal};
 ghost use Rattle.flurry_program.specs.Arguments.{IsSeq, IsWorld, AsksThreads, TellsUsage};
-ghost use Rattle.flurry_program.specs.SeqReplies.{of_one_map};
-ghost use Rattle.flurry_program.specs.Runs.{UnlessWriteFailed, RunsLines, FailsForCause};
-ghost use Rattle.flurry_program.specs.ScheduleRuns.{of_a_schedule};
+ghost use Rattle.flurry_lines.specs.SeqReplies.{of_one_map};
+ghost use Rattle.flurry_lines.specs.Runs.{UnlessWriteFailed, RunsLines, FailsForCause};
+ghost use Rattle.flurry_lines.specs.ScheduleRuns.{of_a_schedule};
 ghost use Rattle.flurry_program.specs.Threads.{TellsLength};
 
-use crate::parse::number;
-use crate::seq::seq_lines;
 use crate::threads::{MOST_KEYS, MOST_THREADS, thread_lines};
-use crate::world::world_lines;
+use flurry_lines::parse::number;
+use flurry_lines::{seq_lines, world_lines};
 use flurry_streams::{Sink, Source};
 use std::alloc::Allocator;
 use std::sync::Wait;

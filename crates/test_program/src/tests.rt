@@ -5,7 +5,8 @@ mod threads;
 mod waits;
 mod world;
 
-use flurry_program::{Input, Output, run_words, seq_lines};
+use flurry_lines::{Input, Output, seq_lines};
+use flurry_program::run_words;
 use std::fmt::Debug;
 use std::io::{self, Read, Write};
 use std::process::Abort;

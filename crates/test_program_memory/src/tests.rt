@@ -35,13 +35,14 @@ fn run_without(
     Ok((status, output, refused))
 }
 
-// Makes each request of a run fail in turn. The run has each of `ends` in their order, and the last one if no request fails.
+// Makes each request of a run fail in turn, and returns how many it makes. The run has each of `ends` in their order, and the last one if
+// no request fails.
 fn refuse_each(
     rt: &(impl Abort + AllocGlobal + Threads + Wait + Sync),
     words: &[&str],
     lines: &[u8],
     ends: &[End<'_>],
-) -> Result<(), Fail> {
+) -> Result<u64, Fail> {
     let memory = Metered::leaked(rt.alloc())?;
     let mut place = 0usize;
     for k in 0..MOST_REQUESTS {
@@ -54,7 +55,7 @@ fn refuse_each(
         assert_eq!(rt; memory.blocks(), 0, "at {k}");
         if !refused {
             assert_eq!(rt; place.saturating_add(1), ends.len());
-            return Ok(());
+            return Ok(k);
         }
     }
     Err(Fail::from("a run with no request refused"))
@@ -68,7 +69,8 @@ fn insertions_into_one_map(rt: HostRuntime) -> Result<(), Fail> {
         (0, b"none\nsome 0\nrefused\n1\n".as_slice()),
         (0, b"none\nsome 0\nnone\n2\n".as_slice()),
     ];
-    refuse_each(&rt, &["seq"], lines, &ends)
+    refuse_each(&rt, &["seq"], lines, &ends)?;
+    Ok(())
 }
 
 #[test]
@@ -79,7 +81,8 @@ fn tries_at_one_map(rt: HostRuntime) -> Result<(), Fail> {
         (0, b"new 0\nsome 0\nrefused\n1\n".as_slice()),
         (0, b"new 0\nsome 0\nnew 0\n2\n".as_slice()),
     ];
-    refuse_each(&rt, &["seq"], lines, &ends)
+    refuse_each(&rt, &["seq"], lines, &ends)?;
+    Ok(())
 }
 
 // Memory cannot be allocated for the world or its first call, for the insertion, or for the fifth label.
@@ -101,7 +104,8 @@ fn insertion_into_a_world(rt: HostRuntime) -> Result<(), Fail> {
             b"begin 0\nsilent 0\ndecide 0 none\nsilent 0\nreply 0 none\n".as_slice(),
         ),
     ];
-    refuse_each(&rt, &["world"], lines, &ends)
+    refuse_each(&rt, &["world"], lines, &ends)?;
+    Ok(())
 }
 
 // Memory cannot be allocated in the removal of what a walk has read, whose label is the ninth. After an insertion that failed there is
@@ -136,7 +140,8 @@ fn removal_in_a_world(rt: HostRuntime) -> Result<(), Fail> {
                 .as_slice(),
         ),
     ];
-    refuse_each(&rt, &["world"], lines, &ends)
+    refuse_each(&rt, &["world"], lines, &ends)?;
+    Ok(())
 }
 
 // Memory cannot be allocated for the first table of a world. A look-up after that finds no table.
@@ -162,12 +167,15 @@ fn first_table_of_a_world(rt: HostRuntime) -> Result<(), Fail> {
             b"begin 0\nopened 0\nsilent 0\nbegin 1\nsilent 1\ndecide 1 none\n".as_slice(),
         ),
     ];
-    refuse_each(&rt, &["world"], lines, &ends)
+    refuse_each(&rt, &["world"], lines, &ends)?;
+    Ok(())
 }
 
 // Memory cannot be allocated for the map's table, or for a key, its value or its node.
 #[test]
 fn insertions_of_a_thread(rt: HostRuntime) -> Result<(), Fail> {
     let ends = [(3, b"out of memory\n".as_slice()), (0, b"3\n".as_slice())];
-    refuse_each(&rt, &["threads", "1", "3"], b"".as_slice(), &ends)
+    let requests = refuse_each(&rt, &["threads", "1", "3"], b"".as_slice(), &ends)?;
+    assert_eq!(rt; requests, 2 + 9);
+    Ok(())
 }

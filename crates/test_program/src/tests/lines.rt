@@ -1,11 +1,11 @@
 //! Lines that are read from a reader, what they ask for, and lines that are written.
 
 use super::same;
-use flurry_program::command::Command;
-use flurry_program::input::{LineEnd, read_line};
-use flurry_program::parse::parse;
-use flurry_program::schedule::{Line, parse_line};
-use flurry_program::{Input, Output, Sink, Source};
+use flurry_lines::command::Command;
+use flurry_lines::input::{LineEnd, read_line};
+use flurry_lines::parse::parse;
+use flurry_lines::schedule::{Line, parse_line};
+use flurry_lines::{Input, Output, Sink, Source};
 use std::alloc::Global;
 use std::io;
 use std::test::Fail;

@@ -1,10 +1,71 @@
 //! Threads that insert into one shared map.
 
 use super::{output, same, tells_usage};
+use flurry_map::HashMap;
+use flurry_model::hash::KeyHasher;
 use flurry_program::run_words;
+use flurry_program::threads::insert_in_threads;
 use std::process::Abort;
 use std::sync::Wait;
+use std::sync::atomic::{AtomicBool, AtomicU64, Ordering};
+use std::thread;
 use std::thread::Threads;
+
+// The most turns that one hash waits for the others.
+const TURNS: u32 = 1_000_000;
+
+// How many of three hashes have begun, and whether one waited in vain for the others.
+#[derive(Drop)]
+struct Crowd {
+    begun: AtomicU64,
+    missed: AtomicBool,
+}
+
+impl Crowd {
+    // Says that a hash has begun, and waits until three have.
+    fn begin(&self) {
+        self.begun.fetch_add(1, Ordering::SeqCst);
+        for _ in 0..TURNS {
+            if self.begun.load(Ordering::SeqCst) >= 3 {
+                return;
+            }
+            thread::yield_now();
+        }
+        self.missed.store(true, Ordering::SeqCst);
+    }
+}
+
+// Gives each key itself, once the hashes of three keys have begun.
+#[derive(Clone, Copy)]
+struct CrowdHasher<'m> {
+    crowd: &'m Crowd,
+}
+
+impl<'m> KeyHasher<u64> for CrowdHasher<'m> {
+    ghost use Rattle.flurry_model.specs.Hashing.{same_number};
+
+    ghost hash_of = { λ s k. k };
+
+    ghost alike = { λ s x y e. same_number x y e };
+
+    fn hash_one(&self, key: &u64) -> u64 {
+        self.crowd.begin();
+        *key
+    }
+}
+
+// Three keys are inserted by three threads at the same time.
+#[test]
+fn three_threads_at_once(rt: HostRuntime) {
+    let crowd = Crowd {
+        begun: AtomicU64::new(0),
+        missed: AtomicBool::new(false),
+    };
+    let map = HashMap::with_hasher(rt.alloc(), CrowdHasher { crowd: &crowd });
+    same(&rt, insert_in_threads(&rt, &map, 3, 1), true);
+    same(&rt, map.len(&rt), 3);
+    same(&rt, crowd.missed.load(Ordering::SeqCst), false);
+}
 
 // Asserts that `threads` threads with `keys` keys each leave a map of the length `length`.
 fn leave(
