@@ -263,7 +263,14 @@ impl<K: Ord + Drop, V: Drop, S: KeyHasher<K>, A: Allocator> SeqMap<K, V, S, A> {
     /// once.
     ///
     /// ```
-    /// map.iter().count()
+    /// let mut map: SeqMap<u64, u64> = SeqMap::new(rt.alloc());
+    /// map.insert(37, 1)?;
+    /// map.insert(38, 2)?;
+    /// let mut sum: u64 = 0;
+    /// for (key, value) in map.iter() {
+    ///     sum = sum.saturating_add(**key).saturating_add(**value);
+    /// }
+    /// assert_eq!(rt; sum, 78);
     /// ```
     pub fn iter(&self) -> Iter<'_, K, V, A>
         ensures pairs { IsPermutation self.now.pairs result }

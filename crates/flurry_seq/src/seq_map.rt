@@ -1,12 +1,12 @@
 //! The owned map: a hash map with one owner.
-ghost use Rattle.std.specs.Prelude.{◌≡◌, ◌⊎◌, ℕ, [], ◌<◌, ◌≤◌, ◌+◌, ◌*◌, ◌^◌, ◌++◌, List, length, count_by, OnOk, OnErr, IfOk, IfSome, IsOkAnd, IsErrAnd, MatchOption, MatchResult, Option, Some, None, Ok, IsSome, IsNone, IsOk, IsTrue, is_some, ◌==◌, if◌then◌else◌};
+ghost use Rattle.std.specs.Prelude.{◌≡◌, ℕ, [], ◌<◌, ◌≤◌, ◌+◌, ◌^◌, ◌++◌, List, length, count_by, OnOk, OnErr, IfOk, IfSome, IsOkAnd, IsErrAnd, MatchOption, MatchResult, Option, Some, None, Ok, IsSome, IsNone, IsOk, IsTrue, is_some, ◌==◌, if◌then◌else◌};
 ghost use Rattle.std.specs.Option.{option_map, ForSome};
 ghost use Rattle.std.specs.Arc.{arc_value};
 ghost use Rattle.std.specs.Borrow.{Bor};
 ghost use Rattle.flurry_bins.specs.Chain.{entry_of};
 ghost use Rattle.flurry_model.specs.FiniteMap.{IsFiniteMap, pair_at, value_at, with_pair, with_all, without};
 ghost use Rattle.flurry_model.specs.Hashing.{seed_of};
-ghost use Rattle.flurry_model.specs.Sizes.{wanted_of, threshold_of, IsOnTheWay, IsGrown};
+ghost use Rattle.flurry_model.specs.Sizes.{wanted_of};
 ghost use Rattle.flurry_seq.specs.Growth.{bins_for, IsTableFrom, IsTableAfter, HasRoom};
 ghost use Rattle.flurry_seq.specs.HandedOut.{AreBinsOf};
 ghost use Rattle.flurry_seq.specs.Callable.{IsCallableAt};
@@ -15,9 +15,10 @@ ghost use Rattle.flurry_seq.specs.Numbers.{BinsBearZero};
 ghost use Rattle.flurry_seq.specs.MapsOfBins.{maps_of_bins};
 ghost use Rattle.flurry_seq.specs.Shapes.{count_in, IsFit};
 ghost use Rattle.flurry_seq.specs.Table.{bin_of};
-ghost use Rattle.flurry_seq.specs.Contents.{contents, with_pairs, SamePairs, asked_for, first_bins, IsLeftByReserve};
+ghost use Rattle.flurry_seq.specs.Contents.{contents, with_pairs, first_bins};
 ghost use Rattle.flurry_model.specs.declared.sizes.TheConstants.{FIRST_BINS, GREATEST_TABLE, LEAST_FOR_TREES, LONG_LIST, MOST_PAIRS};
 
+mod capacity;
 mod retain;
 
 use crate::table::Table;
@@ -25,8 +26,8 @@ use flurry_bins::bin::{Bin, Entry, Node, Shape};
 use flurry_bins::table::two_owners;
 use flurry_model::TryInsertError;
 use flurry_model::hash::{DefaultHashBuilder, KeyHasher};
+use flurry_model::sizes::FIRST_BINS;
 pub use flurry_model::sizes::MOST_PAIRS;
-use flurry_model::sizes::{FIRST_BINS, MOST_BINS, threshold, wanted};
 use std::alloc::{AllocError, Allocator, Global};
 use std::hash::Hash;
 use std::marker::Model;
@@ -71,6 +72,13 @@ impl<K: Ord, V, S: KeyHasher<K>, A: Allocator> Model for SeqMap<K, V, S, A> {
 
 impl<K: Hash + Ord + Drop, V: Drop, A: Allocator> SeqMap<K, V, DefaultHashBuilder, A> {
     /// Creates an empty map without a table, which uses the default hasher with seed 0. Takes no memory.
+    ///
+    /// ```
+    /// let mut map: SeqMap<u64, u64> = SeqMap::new(rt.alloc());
+    /// assert!(rt; map.is_empty());
+    /// map.insert(37, 1)?;
+    /// assert_eq!(rt; map.len(), 1);
+    /// ```
     pub fn new(alloc: A) -> Self
         ensures pairs { result.pairs ≡ [] }
         ensures ascend { IsFiniteMap K.cmp result.pairs }
@@ -84,6 +92,12 @@ impl<K: Hash + Ord + Drop, V: Drop, A: Allocator> SeqMap<K, V, DefaultHashBuilde
     /// table.
     ///
     /// Linear in the number of bins.
+    ///
+    /// ```
+    /// let map: SeqMap<u64, u64> = SeqMap::with_capacity(rt.alloc(), 100)?;
+    /// assert!(rt; map.is_empty());
+    /// assert_eq!(rt; map.capacity(), 256);
+    /// ```
     ///
     /// # Errors
     ///
@@ -168,7 +182,10 @@ impl<K: Ord + Drop, V: Drop, S: KeyHasher<K>, A: Allocator> SeqMap<K, V, S, A> {
     /// Returns a reference to the `Arc` of the key's value, or `None` if the key is absent.
     ///
     /// ```
-    /// Ok(map.get(&key).map(|value| **value))
+    /// let mut map: SeqMap<u64, u64> = SeqMap::new(rt.alloc());
+    /// map.insert(37, 1)?;
+    /// assert_eq!(rt; map.get(&37).map(|value| **value), Some(1));
+    /// assert!(rt; map.get(&38).is_none());
     /// ```
     pub fn get(&self, key: &K) -> Option<&Arc<V, A>>
         ensures value { option_map (λ v. arc_value v.now) result ≡ value_at K.cmp self.now.pairs key.now }
@@ -195,7 +212,10 @@ impl<K: Ord + Drop, V: Drop, S: KeyHasher<K>, A: Allocator> SeqMap<K, V, S, A> {
     /// Returns `true` if the map contains the key.
     ///
     /// ```
-    /// map.contains_key(&key)
+    /// let mut map: SeqMap<u64, u64> = SeqMap::new(rt.alloc());
+    /// map.insert(37, 1)?;
+    /// assert!(rt; map.contains_key(&37));
+    /// assert!(rt; !map.contains_key(&38));
     /// ```
     pub fn contains_key(&self, key: &K) -> bool
         ensures found { result ≡ is_some (pair_at K.cmp self.now.pairs key.now) }
@@ -207,7 +227,10 @@ impl<K: Ord + Drop, V: Drop, S: KeyHasher<K>, A: Allocator> SeqMap<K, V, S, A> {
     /// Removes the pair of a key, and returns the value, or `None` if the key is absent. The size of the table does not change.
     ///
     /// ```
-    /// let _ = map.remove(&key);
+    /// let mut map: SeqMap<u64, u64> = SeqMap::new(rt.alloc());
+    /// map.insert(37, 1)?;
+    /// assert_eq!(rt; map.remove(&37).map(|value| *value), Some(1));
+    /// assert!(rt; map.remove(&37).is_none());
     /// ```
     pub fn remove(&mut self, key: &K) -> Option<Arc<V, A>>
         ensures value { option_map arc_value result ≡ value_at K.cmp self.old.pairs key.now }
@@ -232,6 +255,13 @@ impl<K: Ord + Drop, V: Drop, S: KeyHasher<K>, A: Allocator> SeqMap<K, V, S, A> {
     /// Removes all pairs. The size of the table does not change.
     ///
     /// Linear in the number of bins and pairs.
+    ///
+    /// ```
+    /// let mut map: SeqMap<u64, u64> = SeqMap::new(rt.alloc());
+    /// map.insert(37, 1)?;
+    /// map.clear();
+    /// assert!(rt; map.is_empty());
+    /// ```
     pub fn clear(&mut self)
         ensures after { self.new ≡ with_pairs self.old [] }
         ensures ascend { IsFiniteMap K.cmp self.old.pairs }
@@ -320,8 +350,10 @@ impl<K: Ord + Drop, V: Drop, S: KeyHasher<K>, A: Allocator + Copy> SeqMap<K, V, 
     /// old table.
     ///
     /// ```
-    /// map.insert(key, value)?;
-    /// Ok(map.get(&key).map(|value| **value))
+    /// let mut map: SeqMap<u64, u64> = SeqMap::new(rt.alloc());
+    /// assert!(rt; map.insert(37, 1)?.is_none());
+    /// assert_eq!(rt; map.insert(37, 2)?.map(|old| *old), Some(1));
+    /// assert_eq!(rt; map.len(), 1);
     /// ```
     ///
     /// # Errors
@@ -477,10 +509,13 @@ impl<K: Ord + Drop, V: Drop, S: KeyHasher<K>, A: Allocator + Copy> SeqMap<K, V, 
     /// [`TryInsertError`] has a clone of the current value's `Arc`, and `value`; `key` is dropped.
     ///
     /// ```
-    /// match map.try_insert(key, value)? {
-    ///     Ok(new) => Ok(*new),
-    ///     Err(e) => Ok(*e.current),
-    /// }
+    /// let mut map: SeqMap<u64, u64> = SeqMap::new(rt.alloc());
+    /// assert_eq!(rt; map.try_insert(37, 1)?.ok().map(|new| *new), Some(1));
+    /// let refused = map.try_insert(37, 2)?.err();
+    /// assert_eq!(rt;
+    ///     refused.map(|it| (*it.current, it.not_inserted)),
+    ///     Some((1, 2))
+    /// );
     /// ```
     ///
     /// # Errors
@@ -522,13 +557,16 @@ impl<K: Ord + Drop, V: Drop, S: KeyHasher<K>, A: Allocator + Copy> SeqMap<K, V, 
     /// that one pair only.
     ///
     /// ```
-    /// let answer = map.compute_if_present(
-    ///     &key,
-    ///     move |_key: &u64, _old: &u64| -> Option<u64>
-    ///         ensures { result ≡ Some value }
-    ///     { Some(value) },
-    /// )?;
-    /// Ok(answer.is_some())
+    /// let mut map: SeqMap<u64, u64> = SeqMap::new(rt.alloc());
+    /// map.insert(37, 1)?;
+    /// let new = map.compute_if_present(&37, |_key: &u64, value: &u64| -> Option<u64> {
+    ///     value.checked_add(1)
+    /// })?;
+    /// assert_eq!(rt; new.map(|new| *new), Some(2));
+    ///
+    /// // `None` removes the pair
+    /// map.compute_if_present(&37, |_key: &u64, _value: &u64| -> Option<u64> { None })?;
+    /// assert!(rt; map.is_empty());
     /// ```
     ///
     /// # Errors
@@ -580,6 +618,15 @@ impl<K: Ord + Drop, V: Drop, S: KeyHasher<K>, A: Allocator + Copy> SeqMap<K, V, 
     /// the list has if the map is empty, and otherwise for half as many, rounded up.
     ///
     /// One insertion for each pair.
+    ///
+    /// ```
+    /// let mut map: SeqMap<u64, u64> = SeqMap::new(rt.alloc());
+    /// let mut list = Vec::new(rt.alloc());
+    /// list.push((37, 1))?;
+    /// list.push((37, 2))?;
+    /// map.extend(list)?;
+    /// assert_eq!(rt; map.get(&37).map(|value| **value), Some(2));
+    /// ```
     ///
     /// # Errors
     ///
@@ -654,19 +701,6 @@ impl<K: Ord + Drop, V: Drop, S: KeyHasher<K>, A: Allocator + Copy> SeqMap<K, V, 
         Ok(())
     }
 
-    // Enlarges the table if that is due after a new key was added; `asks` says whether the key's bin asks for it.
-    fn grow(&mut self, asks: bool)
-        requires table { 0 < self.old.bins }
-        requires asks { IsTrue asks → (self.old.bins < LEAST_FOR_TREES) × (LONG_LIST < length self.old.pairs) }
-        ensures same { SamePairs self.old self.new }
-        ensures bins { IsTableAfter self.old.bins (length self.new.pairs) self.new.bins }
-    {
-        if asks {
-            let _ = self.grow_to(wanted(2 * self.capacity()));
-        }
-        self.grow_while_full();
-    }
-
     // Puts a node with a new key into its bin. Returns whether the bin asks for a larger table.
     fn put(&mut self, node: Box<Node<K, V, A>, A>) -> Result<bool, AllocError>
         requires hash { let e = entry_of node.value in e.hash ≡ S.hash_of self.old.hasher (arc_value e.key) }
@@ -688,110 +722,5 @@ impl<K: Ord + Drop, V: Drop, S: KeyHasher<K>, A: Allocator + Copy> SeqMap<K, V, 
         let asks = self.table.put(node);
         self.len += 1;
         Ok(asks)
-    }
-
-    // Doubles the table while its threshold is below `least`, and it has fewer than `MOST_BINS` bins.
-    fn grow_to(&mut self, least: usize) -> Result<(), AllocError>
-        requires { 0 < self.old.bins }
-        ensures same { SamePairs self.old self.new }
-        ensures way { IsOnTheWay self.old.bins least self.new.bins }
-        ensures ok { OnOk result ((least ≤ threshold_of self.new.bins) ⊎ (2 ^ GREATEST_TABLE ≤ self.new.bins)) }
-    {
-        while threshold(self.capacity()) < least && self.capacity() < MOST_BINS {
-            self.double()?;
-        }
-        Ok(())
-    }
-
-    // Doubles the table while it has as many pairs as its threshold. If memory cannot be allocated, it stays as it is.
-    fn grow_while_full(&mut self)
-        requires { 0 < self.old.bins }
-        ensures same { SamePairs self.old self.new }
-        ensures way { IsOnTheWay self.old.bins (length self.old.pairs + 1) self.new.bins }
-    {
-        while self.len() >= threshold(self.capacity()) && self.capacity() < MOST_BINS {
-            if self.double().is_err() {
-                return;
-            }
-        }
-    }
-
-    // Moves the pairs to a table of twice as many bins.
-    fn double(&mut self) -> Result<(), AllocError>
-        requires table { 0 < self.old.bins }
-        requires less { self.old.bins < 2 ^ GREATEST_TABLE }
-        ensures ok { OnOk result (self.new ≡ contents self.old.pairs (2 * self.old.bins) self.old.hasher) }
-        ensures err { OnErr result (self.new ≡ self.old) }
-    {
-        self.table.double()?;
-        Ok(())
-    }
-
-    /// Creates an empty map with room for `capacity` pairs, which uses `hasher`. If `capacity` is `0`, the map has no table.
-    ///
-    /// Linear in the number of bins.
-    ///
-    /// # Errors
-    ///
-    /// Returns [`AllocError`] if memory for the table cannot be allocated.
-    pub fn with_capacity_and_hasher(
-        alloc: A,
-        capacity: usize,
-        hasher: S,
-    ) -> Result<Self, AllocError>
-    where
-        S: Drop,
-        ensures empty { IfOk result (λ m. m ≡ contents [] (if capacity == 0 then 0 else wanted_of capacity) hasher) }
-        ensures ascend { IfOk result (λ m. IsFiniteMap K.cmp m.pairs) }
-    {
-        let mut map = SeqMap::with_hasher(alloc, hasher);
-        if capacity > 0 {
-            map.begin(wanted(capacity))?;
-        }
-        Ok(map)
-    }
-
-    // Makes a table of `bins` bins, if there is none.
-    fn ensure_table(&mut self, bins: usize) -> Result<(), AllocError>
-        requires { IsTableSize bins }
-        ensures ok { OnOk result (self.new ≡ contents self.old.pairs (first_bins self.old.bins bins) self.old.hasher) }
-        ensures err { OnErr result (self.new ≡ self.old) }
-    {
-        if self.capacity() == 0 {
-            self.begin(bins)?;
-        }
-        Ok(())
-    }
-
-    // Makes a first table, of `bins` bins.
-    fn begin(&mut self, bins: usize) -> Result<(), AllocError>
-        requires none { self.old.bins ≡ 0 }
-        requires size { IsTableSize bins }
-        ensures ok { OnOk result (self.new ≡ contents self.old.pairs bins self.old.hasher) }
-        ensures err { OnErr result (self.new ≡ self.old) }
-    {
-        self.table.begin(bins)?;
-        Ok(())
-    }
-
-    /// Grows the table so that `additional` more pairs fit. The number of bins asked for is [`wanted`] of the length plus `additional`, a
-    /// sum that saturates at `usize::MAX`. If there is no table, one with that number of bins is made first. The table is then doubled
-    /// until its [`threshold`] is at least that number, or it has [`MOST_BINS`] bins.
-    ///
-    /// Each doubling moves every pair.
-    ///
-    /// # Errors
-    ///
-    /// Returns [`AllocError`] if memory for a table cannot be allocated. The pairs stay, and so do the doublings that were done.
-    pub fn reserve(&mut self, additional: usize) -> Result<(), AllocError>
-        ensures same { SamePairs self.old self.new }
-        ensures ascend { IsFiniteMap K.cmp self.old.pairs }
-        ensures ok { let w = asked_for self.old additional in
-            OnOk result (IsGrown (first_bins self.old.bins w) w self.new.bins) }
-        ensures err { OnErr result (IsLeftByReserve self.old.bins (asked_for self.old additional) self.new.bins) }
-    {
-        let least = wanted(self.len().saturating_add(additional));
-        self.ensure_table(least)?;
-        self.grow_to(least)
     }
 }

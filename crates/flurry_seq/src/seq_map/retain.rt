@@ -11,6 +11,15 @@ impl<K: Ord + Drop, V: Drop, S: KeyHasher<K>, A: Allocator> SeqMap<K, V, S, A> {
     /// calls is unspecified. The size of the table does not change.
     ///
     /// One call for each pair, and as many steps again as the table has bins. Takes no memory.
+    ///
+    /// ```
+    /// let mut map: SeqMap<u64, u64> = SeqMap::new(rt.alloc());
+    /// map.insert(37, 1)?;
+    /// map.insert(38, 2)?;
+    /// map.retain(|key: &u64, _value: &u64| -> bool { *key % 2 == 0 });
+    /// assert!(rt; !map.contains_key(&37));
+    /// assert!(rt; map.contains_key(&38));
+    /// ```
     pub fn retain<F: FnMut(&K, &V) -> bool>(&mut self, f: F)
     where
         F: Drop,

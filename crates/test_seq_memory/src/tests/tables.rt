@@ -5,8 +5,9 @@ use super::{
     size_of, taken,
 };
 use flurry_bins::bin::Shape;
-use flurry_model::hash::{KeyHasher, LowHashBuilder, ZeroHashBuilder};
+use flurry_model::hash::{DefaultHashBuilder, KeyHasher, LowHashBuilder, ZeroHashBuilder};
 use flurry_seq::SeqMap;
+use std::alloc::AllocError;
 use std::process::Abort;
 
 // Creates a map with room for `capacity` pairs, and returns the numbers of its bins and pairs, or `None` if this fails.
@@ -28,6 +29,17 @@ fn with_capacity(rt: HostRuntime) {
     memory.refuse_nothing();
     same(&rt, size_for(memory, 5), Some((8, 0)));
     same(&rt, memory.asked(), 1);
+}
+
+// The same with the default hasher.
+#[test]
+fn with_capacity_and_the_default_hasher(rt: HostRuntime) {
+    let memory = metered(&rt, rt.alloc());
+    memory.refuse_from(0);
+    let map: Result<SeqMap<u64, u64, DefaultHashBuilder, Memory>, AllocError> =
+        SeqMap::with_capacity(memory, 5);
+    same(&rt, map.is_err(), true);
+    same(&rt, memory.blocks(), 0);
 }
 
 // Reserves room for 32 pairs while the request numbered `k` fails. Returns whether that request was made and the call failed.

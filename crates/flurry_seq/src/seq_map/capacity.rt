@@ -1,0 +1,133 @@
+//! The table of an owned map: how it is made, and how it grows.
+ghost use Rattle.std.specs.Prelude.{◌≡◌, ◌⊎◌, [], ◌<◌, ◌≤◌, ◌+◌, ◌*◌, ◌^◌, length, OnOk, OnErr, IfOk, IsTrue, ◌==◌, if◌then◌else◌};
+ghost use Rattle.flurry_model.specs.FiniteMap.{IsFiniteMap};
+ghost use Rattle.flurry_model.specs.Sizes.{wanted_of, threshold_of, IsOnTheWay, IsGrown};
+ghost use Rattle.flurry_seq.specs.Growth.{IsTableAfter};
+ghost use Rattle.flurry_seq.specs.Invariant.{IsTableSize};
+ghost use Rattle.flurry_seq.specs.Contents.{contents, SamePairs, asked_for, first_bins, IsLeftByReserve};
+ghost use Rattle.flurry_model.specs.declared.sizes.TheConstants.{GREATEST_TABLE, LEAST_FOR_TREES, LONG_LIST};
+
+use super::SeqMap;
+use flurry_model::hash::KeyHasher;
+use flurry_model::sizes::{MOST_BINS, threshold, wanted};
+use std::alloc::{AllocError, Allocator};
+
+impl<K: Ord + Drop, V: Drop, S: KeyHasher<K>, A: Allocator + Copy> SeqMap<K, V, S, A> {
+    /// Creates an empty map with room for `capacity` pairs, which uses `hasher`. If `capacity` is `0`, the map has no table.
+    ///
+    /// Linear in the number of bins.
+    ///
+    /// # Errors
+    ///
+    /// Returns [`AllocError`] if memory for the table cannot be allocated.
+    pub fn with_capacity_and_hasher(
+        alloc: A,
+        capacity: usize,
+        hasher: S,
+    ) -> Result<Self, AllocError>
+    where
+        S: Drop,
+        ensures empty { IfOk result (λ m. m ≡ contents [] (if capacity == 0 then 0 else wanted_of capacity) hasher) }
+        ensures ascend { IfOk result (λ m. IsFiniteMap K.cmp m.pairs) }
+    {
+        let mut map = SeqMap::with_hasher(alloc, hasher);
+        if capacity > 0 {
+            map.begin(wanted(capacity))?;
+        }
+        Ok(map)
+    }
+
+    /// Grows the table so that `additional` more pairs fit. The number of bins asked for is [`wanted`] of the length plus `additional`, a
+    /// sum that saturates at `usize::MAX`. If there is no table, one with that number of bins is made first. The table is then doubled
+    /// until its [`threshold`] is at least that number, or it has [`MOST_BINS`] bins.
+    ///
+    /// Each doubling moves every pair.
+    ///
+    /// # Errors
+    ///
+    /// Returns [`AllocError`] if memory for a table cannot be allocated. The pairs stay, and so do the doublings that were done.
+    pub fn reserve(&mut self, additional: usize) -> Result<(), AllocError>
+        ensures same { SamePairs self.old self.new }
+        ensures ascend { IsFiniteMap K.cmp self.old.pairs }
+        ensures ok { let w = asked_for self.old additional in
+            OnOk result (IsGrown (first_bins self.old.bins w) w self.new.bins) }
+        ensures err { OnErr result (IsLeftByReserve self.old.bins (asked_for self.old additional) self.new.bins) }
+    {
+        let least = wanted(self.len().saturating_add(additional));
+        self.ensure_table(least)?;
+        self.grow_to(least)
+    }
+
+    // Makes a table of `bins` bins, if there is none.
+    pub(super) fn ensure_table(&mut self, bins: usize) -> Result<(), AllocError>
+        requires { IsTableSize bins }
+        ensures ok { OnOk result (self.new ≡ contents self.old.pairs (first_bins self.old.bins bins) self.old.hasher) }
+        ensures err { OnErr result (self.new ≡ self.old) }
+    {
+        if self.capacity() == 0 {
+            self.begin(bins)?;
+        }
+        Ok(())
+    }
+
+    // Makes a first table, of `bins` bins.
+    fn begin(&mut self, bins: usize) -> Result<(), AllocError>
+        requires none { self.old.bins ≡ 0 }
+        requires size { IsTableSize bins }
+        ensures ok { OnOk result (self.new ≡ contents self.old.pairs bins self.old.hasher) }
+        ensures err { OnErr result (self.new ≡ self.old) }
+    {
+        self.table.begin(bins)?;
+        Ok(())
+    }
+
+    // Enlarges the table if that is due after a new key was added; `asks` says whether the key's bin asks for it.
+    pub(super) fn grow(&mut self, asks: bool)
+        requires table { 0 < self.old.bins }
+        requires asks { IsTrue asks → (self.old.bins < LEAST_FOR_TREES) × (LONG_LIST < length self.old.pairs) }
+        ensures same { SamePairs self.old self.new }
+        ensures bins { IsTableAfter self.old.bins (length self.new.pairs) self.new.bins }
+    {
+        if asks {
+            let _ = self.grow_to(wanted(2 * self.capacity()));
+        }
+        self.grow_while_full();
+    }
+
+    // Doubles the table while its threshold is below `least`, and it has fewer than `MOST_BINS` bins.
+    fn grow_to(&mut self, least: usize) -> Result<(), AllocError>
+        requires { 0 < self.old.bins }
+        ensures same { SamePairs self.old self.new }
+        ensures way { IsOnTheWay self.old.bins least self.new.bins }
+        ensures ok { OnOk result ((least ≤ threshold_of self.new.bins) ⊎ (2 ^ GREATEST_TABLE ≤ self.new.bins)) }
+    {
+        while threshold(self.capacity()) < least && self.capacity() < MOST_BINS {
+            self.double()?;
+        }
+        Ok(())
+    }
+
+    // Doubles the table while it has as many pairs as its threshold. If memory cannot be allocated, it stays as it is.
+    fn grow_while_full(&mut self)
+        requires { 0 < self.old.bins }
+        ensures same { SamePairs self.old self.new }
+        ensures way { IsOnTheWay self.old.bins (length self.old.pairs + 1) self.new.bins }
+    {
+        while self.len() >= threshold(self.capacity()) && self.capacity() < MOST_BINS {
+            if self.double().is_err() {
+                return;
+            }
+        }
+    }
+
+    // Moves the pairs to a table of twice as many bins.
+    fn double(&mut self) -> Result<(), AllocError>
+        requires table { 0 < self.old.bins }
+        requires less { self.old.bins < 2 ^ GREATEST_TABLE }
+        ensures ok { OnOk result (self.new ≡ contents self.old.pairs (2 * self.old.bins) self.old.hasher) }
+        ensures err { OnErr result (self.new ≡ self.old) }
+    {
+        self.table.double()?;
+        Ok(())
+    }
+}
