@@ -1,5 +1,5 @@
 //! A list from which several threads take pieces.
-ghost use Rattle.std.specs.Prelude.{◌≡◌, ◌++◌, IfOk, OnErr, length, max, min};
+ghost use Rattle.std.specs.Prelude.{◌≡◌, ◌++◌, [], IfOk, OnErr, OnOk, false, length, max, min};
 
 use std::alloc::{AllocError, Allocator};
 use std::sync::atomic::{AtomicBool, Ordering};
@@ -44,9 +44,26 @@ impl<T: Drop, A: Allocator + Copy> Queue<T, A> {
     }
 
     // Whether something has failed.
-    pub(crate) fn is_refused(&self) -> bool {
+    fn is_refused(&self) -> bool {
         self.refused.load(Ordering::SeqCst)
     }
+
+    // Finishes the list once all threads have ended. Returns an error if something has failed or an item is left.
+    pub(crate) fn end(self) -> Result<(), AllocError> {
+        let is_refused = self.is_refused();
+        ended(self.rest.into_inner(), is_refused)
+    }
+}
+
+// Drops the rest of a list. Returns an error if an item is left or something has failed.
+fn ended<T: Drop, A: Allocator>(rest: Vec<T, A>, is_refused: bool) -> Result<(), AllocError>
+    ensures rest { OnOk result (rest.items ≡ []) }
+    ensures refused { OnOk result (is_refused ≡ false) }
+{
+    if is_refused || !rest.is_empty() {
+        return Err(AllocError);
+    }
+    Ok(())
 }
 
 // Removes a piece of `part` items from the end of `rest`, or all of its items if it has fewer.

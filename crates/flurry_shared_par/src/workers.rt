@@ -41,10 +41,7 @@ pub(crate) fn put_all<
 >(rt: &R, into: &P, list: Vec<T, A>, part: usize, processors: usize) -> Result<(), AllocError> {
     let queue = Queue::new(list, part);
     work_together(rt, into, &queue, workers_for(processors));
-    if queue.is_refused() {
-        return Err(AllocError);
-    }
-    Ok(())
+    queue.end()
 }
 
 // Starts `workers` workers, and waits until they have ended.

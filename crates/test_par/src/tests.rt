@@ -1,5 +1,6 @@
 //! Maps and sets that are built in parallel, and joined.
 
+mod at_once;
 mod refused;
 
 use flurry_model::hash::{LowHashBuilder, ZeroHashBuilder};

@@ -1,59 +1,58 @@
-//! Two pieces that are inserted at once.
+//! Pieces that are inserted at once.
 
 use super::{has_sums, same};
 use flurry_map::HashMap;
 use flurry_model::hash::KeyHasher;
 use flurry_shared_par::{map, set};
 use flurry_shared_set::HashSet;
-use std::sync::atomic::{AtomicBool, Ordering};
+use std::sync::atomic::{AtomicBool, AtomicU64, Ordering};
 use std::test::Fail;
 use std::thread;
 
-// The most turns that one hash waits for the other.
+// The most turns that one hash waits for the others.
 const TURNS: u32 = 1_000_000;
 
-// Where the hashes of two keys meet.
+// How many hashes wait for one another, how many have begun, and whether one waited in vain.
 #[derive(Drop)]
-struct Meeting {
-    first: AtomicBool,
-    second: AtomicBool,
+struct Crowd {
+    size: u64,
+    begun: AtomicU64,
     missed: AtomicBool,
 }
 
-impl Meeting {
-    fn new() -> Self {
-        Meeting {
-            first: AtomicBool::new(false),
-            second: AtomicBool::new(false),
+impl Crowd {
+    fn new(size: u64) -> Self {
+        Crowd {
+            size,
+            begun: AtomicU64::new(0),
             missed: AtomicBool::new(false),
         }
     }
 
-    // Says that the hash of a key has begun, and waits for that of the other.
-    fn begin(&self, key: u64) {
-        let (own, other) = if key == 0 {
-            (&self.first, &self.second)
-        } else {
-            (&self.second, &self.first)
-        };
-        own.store(true, Ordering::SeqCst);
+    // Says that a hash has begun, and waits until all have.
+    fn begin(&self) {
+        self.begun.fetch_add(1, Ordering::SeqCst);
         for _ in 0..TURNS {
-            if other.load(Ordering::SeqCst) {
+            if self.begun.load(Ordering::SeqCst) >= self.size {
                 return;
             }
             thread::yield_now();
         }
         self.missed.store(true, Ordering::SeqCst);
     }
+
+    fn has_met(&self) -> bool {
+        !self.missed.load(Ordering::SeqCst)
+    }
 }
 
-// Gives each key itself, once the hash of the other key has begun.
+// Gives each key itself, once as many hashes have begun as wait for one another.
 #[derive(Clone, Copy)]
-struct MeetingHasher<'m> {
-    meeting: &'m Meeting,
+struct CrowdHasher<'m> {
+    crowd: &'m Crowd,
 }
 
-impl<'m> KeyHasher<u64> for MeetingHasher<'m> {
+impl<'m> KeyHasher<u64> for CrowdHasher<'m> {
     ghost use Rattle.flurry_model.specs.Hashing.{same_number};
 
     ghost hash_of = { λ s k. k };
@@ -61,34 +60,48 @@ impl<'m> KeyHasher<u64> for MeetingHasher<'m> {
     ghost alike = { λ s x y e. same_number x y e };
 
     fn hash_one(&self, key: &u64) -> u64 {
-        self.meeting.begin(*key);
+        self.crowd.begin();
         *key
     }
 }
 
 #[test]
 fn pieces_at_once(rt: HostRuntime) -> Result<(), Fail> {
-    let meeting = Meeting::new();
-    let hasher = MeetingHasher { meeting: &meeting };
+    let crowd = Crowd::new(2);
+    let hasher = CrowdHasher { crowd: &crowd };
     let map = HashMap::with_hasher(rt.alloc(), hasher).with_processors(2);
     let list = Vec::from_array(rt.alloc(), [(0u64, 5u64), (1, 7)])?;
 
     map::par_extend(&map, &rt, list, 1)?;
 
-    same(&rt, meeting.missed.load(Ordering::SeqCst), false);
+    same(&rt, crowd.has_met(), true);
     has_sums(&rt, &map, (2, 1, 12))
+}
+
+// As many threads take pieces as the map has processors.
+#[test]
+fn three_pieces_at_once(rt: HostRuntime) -> Result<(), Fail> {
+    let crowd = Crowd::new(3);
+    let hasher = CrowdHasher { crowd: &crowd };
+    let map = HashMap::with_hasher(rt.alloc(), hasher).with_processors(3);
+    let list = Vec::from_array(rt.alloc(), [(0u64, 5u64), (1, 7), (2, 9)])?;
+
+    map::par_extend(&map, &rt, list, 1)?;
+
+    same(&rt, crowd.has_met(), true);
+    has_sums(&rt, &map, (3, 3, 21))
 }
 
 #[test]
 fn elements_at_once(rt: HostRuntime) -> Result<(), Fail> {
-    let meeting = Meeting::new();
-    let hasher = MeetingHasher { meeting: &meeting };
+    let crowd = Crowd::new(2);
+    let hasher = CrowdHasher { crowd: &crowd };
     let set = HashSet::with_hasher(rt.alloc(), hasher).with_processors(2);
     let list = Vec::from_array(rt.alloc(), [0u64, 1])?;
 
     set::par_extend(&set, &rt, list, 1)?;
 
-    same(&rt, meeting.missed.load(Ordering::SeqCst), false);
+    same(&rt, crowd.has_met(), true);
     same(&rt, set.len(&rt), 2);
     Ok(())
 }

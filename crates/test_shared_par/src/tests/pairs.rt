@@ -93,3 +93,12 @@ fn a_doubled_key(rt: HostRuntime) -> Result<(), Fail> {
     }
     Ok(())
 }
+
+// One thread takes a thousand pieces.
+#[test]
+fn a_thousand_pieces(rt: HostRuntime) -> Result<(), Fail> {
+    let map = HashMap::with_hasher(rt.alloc(), LowHashBuilder);
+    map::par_extend(&map, &rt, pairs_from_100(rt.alloc(), 1000)?, 1)?;
+    same(&rt, map.len(&rt), 1000);
+    Ok(())
+}

@@ -3,7 +3,8 @@
 use super::{insert_two, pairs_from_100, read_all, same, values_at};
 use flurry_map::HashMap;
 use flurry_model::hash::LowHashBuilder;
-use flurry_shared_par::map;
+use flurry_shared_par::{map, set, set_ref};
+use flurry_shared_set::HashSet;
 use metered_alloc::Metered;
 use std::alloc::{AllocError, Allocator, Global};
 use std::sync::Wait;
@@ -62,6 +63,58 @@ fn each_request(rt: HostRuntime) -> Result<(), Fail> {
     let seen = extend_without(&rt, memory, 21)?;
     same(&rt, seen, (false, true, true, 8));
     same(&rt, memory.blocks(), 0);
+    Ok(())
+}
+
+// Inserts a list in pieces of two into a set, or by its view, while the request numbered `k` of this memory fails. Returns whether that
+// request was made, whether the call succeeded, and the number of elements.
+fn refuse_in_set<A: Allocator + Copy + Send + Sync, R: Threads + Wait + Sync>(
+    rt: &R,
+    memory: &Metered<Global>,
+    k: u64,
+    set: &HashSet<u64, LowHashBuilder, A>,
+    list: Vec<u64, A>,
+    by_view: bool,
+) -> (bool, bool, usize) {
+    memory.refuse_at(k);
+    let done = if by_view {
+        set_ref::par_extend(&set.pin(rt), list, 2).is_ok()
+    } else {
+        set::par_extend(set, rt, list, 2).is_ok()
+    };
+    let refused = memory.refused();
+    memory.refuse_nothing();
+    (refused, done, set.len(rt))
+}
+
+// Does the same as `refuse_in_set` with the numbers below 6, which two threads insert into a set with room.
+fn extend_set_without<R: Threads + Wait + Sync>(
+    rt: &R,
+    memory: Memory,
+    k: u64,
+    by_view: bool,
+) -> Result<(bool, bool, usize), AllocError> {
+    let mut list = Vec::new(memory);
+    for number in 0..6u64 {
+        list.push(number)?;
+    }
+    let set = HashSet::with_capacity_and_hasher(memory, 6, LowHashBuilder)?.with_processors(2);
+    Ok(refuse_in_set(rt, memory, k, &set, list, by_view))
+}
+
+// The same requests as of a map, of a set and of its view.
+#[test]
+fn each_request_of_a_set(rt: HostRuntime) -> Result<(), Fail> {
+    let memory = Metered::leaked(rt.alloc())?;
+    for by_view in [false, true] {
+        for k in 0..21u64 {
+            let (refused, done, len) = extend_set_without(&rt, memory, k, by_view)?;
+            same(&rt, (k, refused, done, len < 6), (k, true, false, true));
+            same(&rt, memory.blocks(), 0);
+        }
+        let seen = extend_set_without(&rt, memory, 21, by_view)?;
+        same(&rt, seen, (false, true, 6));
+    }
     Ok(())
 }
 
