@@ -18,7 +18,7 @@ use Rattle.flurry_world.specs.Lawful.{IsLawful}
 use Rattle.flurry_world.proofs.SweepLaws.{looks_not}
 use Rattle.flurry_world.proofs.Cases.{calls, in_mode}
 use Rattle.flurry_world.proofs.ClaimCases.{helper_writes}
-use Rattle.flurry_world.proofs.ThereLaws.{bin_is_there}
+use Rattle.flurry_world.proofs.ThereLaws.{bin_is_there, frame_is_there}
 
 lookup_has_key : {K V F : Type 0} (c : Call K V F) → is_lookup (Some c) ≡ true → is_some (key_of c) ≡ true
 lookup_has_key (call.Get k) h = refl
@@ -83,6 +83,7 @@ module _ {K V F S : Type 0} (cmp : K → K → Ordering) (total : IsTotalOrder c
     removals = k.state.1.removals;
     count = k.state.1.counted.balance;
     there = λ p x t e at. bin_is_there cmp total hash lawful gives w k p x at t e;
+    sweeps_there = λ p x u f at stage over. frame_is_there cmp total hash lawful gives w k p x at u stage f over;
     in_time = λ p x at lookup none going. subst (λ n. n < TABLES + 1) (ap steps_in at) ((k.state.1.lookups p).in_time (ap is_lookup (calls cmp total hash lawful gives w k p x at x.party_state) ∙ lookup) none going);
     replies_next = λ p x r at lookup decided open_yet. replies p x at lookup r decided open_yet;
   }

@@ -83,27 +83,27 @@ module _ {K V F S : Type 0} (cmp : K → K → Ordering) (total : IsTotalOrder c
           by_growth IsIdle e false s = let none : (state_of w).claim p ≡ None = k.state.1.cut.idle (ap growth_of e) p in cc
           by_growth (Grows u r) e false s = absurd (k.next m.table u r claim_ok.0 e (unmade_empty (slots_of w.tables (suc m.table)) s))
 
-  -- the bin that a walk or a clear goes over
-  there_frame : (u : SweepState K V) → x.party_state.stage ≡ AtSweep u → (f : CursorState K) (er : Errand) → u.stage ≡ OverBins f → u.errand ≡ er → IsSome (place_at w.tables f.top.table f.top.index)
-  there_frame u e f er over q = place_of_content w.tables f.top.table f.top.index (λ z. not_unborn (ap slot_of z))
+  -- the bin that a walk or a clear goes over is not unborn
+  pub frame_is_there : (u : SweepState K V) → x.party_state.stage ≡ AtSweep u → (f : CursorState K) → u.stage ≡ OverBins f → content_at w.tables f.top.table f.top.index ≡ IsUnborn → ⊥
+  frame_is_there u e f over unborn = by_errand u.errand named
     where
-      in_stage : (state_of w).mode p ≡ mode_over er f
-      in_stage = in_mode cmp total hash lawful gives w k p x at x.party_state (AtSweep u) e ∙ ap (λ z. mode_of_sweep z u.errand) over ∙ ap (λ z. mode_over z f) q
+      in_stage : (state_of w).mode p ≡ mode_over u.errand f
+      in_stage = in_mode cmp total hash lawful gives w k p x at x.party_state (AtSweep u) e ∙ ap (λ z. mode_of_sweep z u.errand) over
 
-      named : NamesBorn {F = F} hash (is_some w.control_state.published) k.state.0 (state_of w).start ((state_of w).call p) (mode_over er f)
+      named : NamesBorn {F = F} hash (is_some w.control_state.published) k.state.0 (state_of w).start ((state_of w).call p) (mode_over u.errand f)
       named = subst (λ m. NamesBorn {F = F} hash (is_some w.control_state.published) k.state.0 (state_of w).start ((state_of w).call p) m) in_stage (k.state.1.named p)
 
-      not_unborn : (state_of w).slot f.top.table f.top.index ≡ Unborn → ⊥
-      not_unborn z = by_errand er named
-        where
-          by_errand : (r : Errand) → NamesBorn {F = F} hash (is_some w.control_state.published) k.state.0 (state_of w).start ((state_of w).call p) (mode_over r f) → ⊥
-          by_errand Reads n = frame_is_born cmp hash k.state.0 (state_of w) (frame_of f.top) (map frame_of f.below) k.state.1.tables n.0 n.3 z
-          by_errand (Wipes m) n = frame_is_born cmp hash k.state.0 (state_of w) (frame_of f.top) (map frame_of f.below) k.state.1.tables n.0 n.3 z
+      by_errand : (r : Errand) → NamesBorn {F = F} hash (is_some w.control_state.published) k.state.0 (state_of w).start ((state_of w).call p) (mode_over r f) → ⊥
+      by_errand Reads n = frame_is_born cmp hash k.state.0 (state_of w) (frame_of f.top) (map frame_of f.below) k.state.1.tables n.0 n.3 (ap slot_of unborn)
+      by_errand (Wipes m) n = frame_is_born cmp hash k.state.0 (state_of w) (frame_of f.top) (map frame_of f.below) k.state.1.tables n.0 n.3 (ap slot_of unborn)
+
+  there_frame : (u : SweepState K V) → x.party_state.stage ≡ AtSweep u → (f : CursorState K) → u.stage ≡ OverBins f → IsSome (place_at w.tables f.top.table f.top.index)
+  there_frame u e f over = place_of_content w.tables f.top.table f.top.index (frame_is_there u e f over)
 
   there_sweep : (u : SweepState K V) → x.party_state.stage ≡ AtSweep u → (s : SweepStage K V) (er : Errand) → u.stage ≡ s → u.errand ≡ er → IsUnderWay s → IsThere w.tables (swept.part_at er s)
   there_sweep u e AtOutset er h q g = tt
-  there_sweep u e (OverBins f) Reads h q g = there_frame u e f Reads h q
-  there_sweep u e (OverBins f) (Wipes n) h q g = there_frame u e f (Wipes n) h q
+  there_sweep u e (OverBins f) Reads h q g = there_frame u e f h
+  there_sweep u e (OverBins f) (Wipes n) h q g = there_frame u e f h
   there_sweep u e AtTotal er h q g = tt
   there_sweep u e (AtEnd r) er h q g = absurd g
   there_sweep u e AfterEnd er h q g = absurd g

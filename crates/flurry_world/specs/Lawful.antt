@@ -4,8 +4,10 @@ use Rattle.std.specs.declared.cmp.Ordering.{Ordering}
 use Rattle.flurry_model.specs.declared.reply.KeptReply.{KeptReply}
 use Rattle.flurry_model.specs.declared.sizes.TheConstants.{TABLES}
 use Rattle.flurry_slots.specs.Slot.{IsUnborn}
+use Rattle.flurry_calls.specs.Cursor.{CursorState}
 use Rattle.flurry_calls.specs.Outcome.{OutcomeReply}
-use Rattle.flurry_steps.specs.Party.{Task, AtBin, AtDone}
+use Rattle.flurry_calls.specs.Sweep.{OverBins, SweepState}
+use Rattle.flurry_steps.specs.Party.{Task, AtBin, AtSweep, AtDone}
 use Rattle.flurry_theory.specs.Machine.{owes_added, owes_removed, total}
 use Rattle.flurry_theory.specs.Trace.{is_lookup, decision, has_replied, has_closed, pairs}
 use Rattle.flurry_theory.specs.Legal.{EachMay, RemovalMay}
@@ -30,6 +32,8 @@ module _ {K V F S : Type 0} (cmp : K → K → Ordering) (hash : K → ℕ) (cha
     pub count : pos (length (pairs cmp hash (reverse w.trace))) ≡ w.control_state.count +ℤ pos owed_added -ℤ pos owed_removed
     -- no call goes to a bin that is not born yet
     pub there : (p : ℕ) (x : PartyRecord K V F) (t : Task K V F) (e : ℕ) → slice_get w.party_records p ≡ Some x → x.party_state.stage ≡ AtBin t e → content_at w.tables e (x.party_state.hash % 2 ^ e) ≡ IsUnborn → ⊥
+    -- nor does a walk or a clear
+    pub sweeps_there : (p : ℕ) (x : PartyRecord K V F) (u : SweepState K V) (f : CursorState K) → slice_get w.party_records p ≡ Some x → x.party_state.stage ≡ AtSweep u → u.stage ≡ OverBins f → content_at w.tables f.top.table f.top.index ≡ IsUnborn → ⊥
     -- a look-up has decided or was refused by its 32nd step, one to find a table and one at each table
     pub in_time : (p : ℕ) (x : PartyRecord K V F) → slice_get w.party_records p ≡ Some x → is_lookup (Some x.call) ≡ true → decision (reverse w.trace) p ≡ None → has_closed (reverse w.trace) p ≡ false → x.steps < TABLES + 1
     -- and its step after the decision is its reply
