@@ -1,22 +1,7 @@
+-- Words for callers: finite maps and sets, and what each owned form keeps and returns.
 pub use Rattle.flurry_bins.specs.Bin
 pub use Rattle.flurry_bins.specs.Chain
 pub use Rattle.flurry_bins.specs.Entries
-pub use Rattle.flurry_calls.specs.Cursor
-pub use Rattle.flurry_calls.specs.Outcome
-pub use Rattle.flurry_calls.specs.OutcomeView
-pub use Rattle.flurry_calls.specs.SeenView
-pub use Rattle.flurry_calls.specs.Sweep
-pub use Rattle.flurry_calls.specs.SweepView
-pub use Rattle.flurry_control.specs.Claim
-pub use Rattle.flurry_control.specs.Control
-pub use Rattle.flurry_control.specs.ControlView
-pub use Rattle.flurry_drive.specs.Exact
-pub use Rattle.flurry_drive.specs.Tells
-pub use Rattle.flurry_drive.specs.Turns
-pub use Rattle.flurry_locks.specs.declared.tables.Maker
-pub use Rattle.flurry_map_ref.specs.Driven
-pub use Rattle.flurry_map_ref.specs.Results
-pub use Rattle.flurry_map_ref.specs.Walks
 pub use Rattle.flurry_model.specs.FiniteMap
 pub use Rattle.flurry_model.specs.FiniteSet
 pub use Rattle.flurry_model.specs.Hashing
@@ -34,7 +19,6 @@ pub use Rattle.flurry_recorded.specs.Faults
 pub use Rattle.flurry_recorded.specs.Histories
 pub use Rattle.flurry_recorded.specs.Marks
 pub use Rattle.flurry_recorded.specs.Shares
-pub use Rattle.flurry_replies.specs.Answers
 pub use Rattle.flurry_seq.specs.Apart
 pub use Rattle.flurry_seq.specs.CallLists
 pub use Rattle.flurry_seq.specs.Callable
@@ -53,7 +37,26 @@ pub use Rattle.flurry_seq.specs.Table
 pub use Rattle.flurry_set.specs.SetCalls
 pub use Rattle.flurry_set.specs.SetContents
 pub use Rattle.flurry_set.specs.SetRetain
+-- Words for callers of the shared forms: what a call over the locks can return.
+pub use Rattle.flurry_drive.specs.Exact
+pub use Rattle.flurry_drive.specs.Tells
+pub use Rattle.flurry_steps.specs.Turns
+pub use Rattle.flurry_locks.specs.declared.tables.Maker
+pub use Rattle.flurry_map_ref.specs.Driven
+pub use Rattle.flurry_map_ref.specs.Results
+pub use Rattle.flurry_map_ref.specs.Walks
+pub use Rattle.flurry_replies.specs.Answers
 pub use Rattle.flurry_shared_set.specs.ElementResults
+-- Words of a call in steps: slots, the control, parties.
+pub use Rattle.flurry_calls.specs.Cursor
+pub use Rattle.flurry_calls.specs.Outcome
+pub use Rattle.flurry_calls.specs.OutcomeView
+pub use Rattle.flurry_calls.specs.SeenView
+pub use Rattle.flurry_calls.specs.Sweep
+pub use Rattle.flurry_calls.specs.SweepView
+pub use Rattle.flurry_control.specs.Claim
+pub use Rattle.flurry_control.specs.Control
+pub use Rattle.flurry_control.specs.ControlView
 pub use Rattle.flurry_slots.specs.ComputeFn
 pub use Rattle.flurry_slots.specs.Slot
 pub use Rattle.flurry_slots.specs.SlotView
@@ -65,6 +68,7 @@ pub use Rattle.flurry_steps.specs.PartyControl
 pub use Rattle.flurry_steps.specs.PartySlots
 pub use Rattle.flurry_steps.specs.PartyTally
 pub use Rattle.flurry_steps.specs.PartyView
+-- Words of every interleaving: the machine, its traces, worlds.
 pub use Rattle.flurry_theory.specs.Legal
 pub use Rattle.flurry_theory.specs.Map
 pub use Rattle.flurry_theory.specs.OneKeyCalls

@@ -13,6 +13,15 @@ impl<K: Ord + Drop, V: Drop, S: KeyHasher<K>, A: Allocator + Copy> HashMap<K, V,
     ///
     /// One insertion for each pair. Takes the locks of [`HashMap::reserve`], and for each pair those of [`HashMap::insert`].
     ///
+    /// ```
+    /// let map: HashMap<u64, u64> = HashMap::new(rt.alloc());
+    /// let mut list = Vec::new(rt.alloc());
+    /// list.push((37, 1))?;
+    /// list.push((37, 2))?;
+    /// map.extend(&rt, list)?;
+    /// assert_eq!(rt; map.get(&rt, &37)?.map(|value| *value), Some(2));
+    /// ```
+    ///
     /// # Errors
     ///
     /// Returns [`AllocError`] if memory for a table cannot be allocated, or if an insertion fails. The pairs that were already inserted

@@ -57,6 +57,12 @@ impl<K: Ord, V, S: KeyHasher<K>, A: Allocator> Model for HashMap<K, V, S, A> {
 
 impl<K: Hash + Ord + Drop, V: Drop, A: Allocator> HashMap<K, V, DefaultHashBuilder, A> {
     /// Creates an empty map without a table, with the default hasher whose seed is zero. It takes no memory.
+    ///
+    /// ```
+    /// let map: HashMap<u64, u64> = HashMap::new(rt.alloc());
+    /// map.insert(&rt, 37, 1)?;
+    /// assert_eq!(rt; map.len(&rt), 1);
+    /// ```
     pub fn new(alloc: A) -> Self
         ensures seed { seed_of result.hasher ≡ 0 }
         ensures processors { result.processors ≡ 1 }
@@ -117,6 +123,13 @@ impl<K: Ord + Drop, V: Drop, S: KeyHasher<K>, A: Allocator> HashMap<K, V, S, A> 
     }
 
     /// Returns a view of the map. It keeps the runtime `rt`, so its calls do not take it as an argument. Constant time; takes no memory.
+    ///
+    /// ```
+    /// let map: HashMap<u64, u64> = HashMap::new(rt.alloc());
+    /// let view = map.pin(&rt);
+    /// view.insert(37, 1)?;
+    /// assert_eq!(rt; view.get(&37)?.map(|value| *value), Some(1));
+    /// ```
     #[inline(always)]
     pub fn pin<'m, R>(&'m self, rt: &'m R) -> HashMapRef<'m, R, K, V, S, A>
         ensures { result ≡ self.now }
@@ -173,10 +186,10 @@ impl<K: Ord + Drop, V: Drop, S: KeyHasher<K>, A: Allocator + Copy> HashMap<K, V,
     /// call continues in the next table; it does not help the growth.
     ///
     /// ```
-    /// match map.get(rt, &key)? {
-    ///     Some(value) => Ok(*value),
-    ///     None => Ok(0),
-    /// }
+    /// let map: HashMap<u64, u64> = HashMap::new(rt.alloc());
+    /// map.insert(&rt, 37, 1)?;
+    /// assert_eq!(rt; map.get(&rt, &37)?.map(|value| *value), Some(1));
+    /// assert!(rt; map.get(&rt, &38)?.is_none());
     /// ```
     ///
     /// # Errors
@@ -210,6 +223,13 @@ impl<K: Ord + Drop, V: Drop, S: KeyHasher<K>, A: Allocator + Copy> HashMap<K, V,
     /// Returns `true` if the map has the key. It takes no memory.
     ///
     /// Takes the same locks as [`HashMap::get`].
+    ///
+    /// ```
+    /// let map: HashMap<u64, u64> = HashMap::new(rt.alloc());
+    /// map.insert(&rt, 37, 1)?;
+    /// assert!(rt; map.contains_key(&rt, &37));
+    /// assert!(rt; !map.contains_key(&rt, &38));
+    /// ```
     pub fn contains_key<R: Wait>(&self, rt: &R, key: &K) -> bool
         ensures { IsDriven (Maker K V A) K.cmp (no_changes {K = K} {V = V}) self.now
             (S.hash_of self.now.hasher key.now) (AtLocate (Finds Presence key.now))
@@ -222,6 +242,13 @@ impl<K: Ord + Drop, V: Drop, S: KeyHasher<K>, A: Allocator + Copy> HashMap<K, V,
     ///
     /// Takes the lock of the key's bin for writing and, if the key was present, then the lock of a tally or of the control, to count. If
     /// the bin has moved, the call helps the growth first.
+    ///
+    /// ```
+    /// let map: HashMap<u64, u64> = HashMap::new(rt.alloc());
+    /// map.insert(&rt, 37, 1)?;
+    /// assert_eq!(rt; map.remove(&rt, &37).map(|value| *value), Some(1));
+    /// assert!(rt; map.remove(&rt, &37).is_none());
+    /// ```
     pub fn remove<R: Wait>(&self, rt: &R, key: &K) -> Option<Arc<V, A>>
         ensures { IsDriven (Maker K V A) K.cmp (no_changes {K = K} {V = V}) self.now
             (S.hash_of self.now.hasher key.now) (AtLocate (Removes TheValue key.now))
@@ -262,10 +289,9 @@ impl<K: Ord + Drop, V: Drop, S: KeyHasher<K>, A: Allocator + Copy> HashMap<K, V,
     /// while a growth is running, the call helps the growth.
     ///
     /// ```
-    /// match map.insert(rt, key, key) {
-    ///     Ok(_) => 1,
-    ///     Err(_) => 0,
-    /// }
+    /// let map: HashMap<u64, u64> = HashMap::new(rt.alloc());
+    /// assert!(rt; map.insert(&rt, 37, 1)?.is_none());
+    /// assert_eq!(rt; map.insert(&rt, 37, 2)?.map(|old| *old), Some(1));
     /// ```
     ///
     /// # Errors
@@ -285,10 +311,13 @@ impl<K: Ord + Drop, V: Drop, S: KeyHasher<K>, A: Allocator + Copy> HashMap<K, V,
     /// Takes the same locks as [`HashMap::insert`].
     ///
     /// ```
-    /// match map.try_insert(rt, key, value)? {
-    ///     Ok(put) => Ok(*put),
-    ///     Err(e) => Ok(e.not_inserted),
-    /// }
+    /// let map: HashMap<u64, u64> = HashMap::new(rt.alloc());
+    /// assert_eq!(rt; map.try_insert(&rt, 37, 1)?.ok().map(|new| *new), Some(1));
+    /// let refused = map.try_insert(&rt, 37, 2)?.err();
+    /// assert_eq!(rt;
+    ///     refused.map(|it| (*it.current, it.not_inserted)),
+    ///     Some((1, 2))
+    /// );
     /// ```
     ///
     /// # Errors
@@ -316,14 +345,16 @@ impl<K: Ord + Drop, V: Drop, S: KeyHasher<K>, A: Allocator + Copy> HashMap<K, V,
     /// the same locks as [`HashMap::remove`].
     ///
     /// ```
-    /// let answer = map.compute_if_present(
-    ///     rt,
-    ///     &key,
-    ///     move |_key: &u64, old: &u64| -> Option<u64>
-    ///         ensures { IfSome result (λ v. v ≤ limit) }
-    ///     { Some((*old).min(limit)) },
-    /// )?;
-    /// Ok(answer.map(|value| *value))
+    /// let map: HashMap<u64, u64> = HashMap::new(rt.alloc());
+    /// map.insert(&rt, 37, 1)?;
+    /// let new = map.compute_if_present(&rt, &37, |_key: &u64, value: &u64| -> Option<u64> {
+    ///     value.checked_add(1)
+    /// })?;
+    /// assert_eq!(rt; new.map(|new| *new), Some(2));
+    ///
+    /// // `None` removes the pair
+    /// map.compute_if_present(&rt, &37, |_key: &u64, _value: &u64| -> Option<u64> { None })?;
+    /// assert!(rt; map.is_empty(&rt));
     /// ```
     ///
     /// # Errors
@@ -361,6 +392,13 @@ impl<K: Ord + Drop, V: Drop, S: KeyHasher<K>, A: Allocator + Copy> HashMap<K, V,
     /// Removes all pairs, one bin after another. Other calls may insert pairs meanwhile; those in bins that are already cleared remain.
     ///
     /// Linear in the number of bins and pairs. Takes the lock of each bin in turn, and then the control's lock; takes no memory.
+    ///
+    /// ```
+    /// let map: HashMap<u64, u64> = HashMap::new(rt.alloc());
+    /// map.insert(&rt, 37, 1)?;
+    /// map.clear(&rt);
+    /// assert!(rt; map.is_empty(&rt));
+    /// ```
     pub fn clear<R: Wait>(&self, rt: &R)
         ensures { IsDriven (Maker K V A) K.cmp (no_changes {K = K} {V = V}) self.now 0
             (AtSweep (fresh_sweep (Wipes 0))) OutcomeEnded }
@@ -375,7 +413,12 @@ impl<K: Ord + Drop, V: Drop, S: KeyHasher<K>, A: Allocator + Copy> HashMap<K, V,
     /// Takes the locks of the walk, and those of [`HashMap::remove`].
     ///
     /// ```
-    /// map.retain(rt, |key: &u64, _value: &u64| -> bool { *key % 2 == 0 })
+    /// let map: HashMap<u64, u64> = HashMap::new(rt.alloc());
+    /// map.insert(&rt, 37, 1)?;
+    /// map.insert(&rt, 38, 2)?;
+    /// map.retain(&rt, |key: &u64, _value: &u64| -> bool { *key % 2 == 0 })?;
+    /// assert!(rt; !map.contains_key(&rt, &37));
+    /// assert!(rt; map.contains_key(&rt, &38));
     /// ```
     ///
     /// # Errors
@@ -416,6 +459,21 @@ impl<K: Ord + Drop, V: Drop, S: KeyHasher<K>, A: Allocator + Copy> HashMap<K, V,
     /// Returns an iterator over the pairs. Other calls may run meanwhile.
     ///
     /// Takes the control's lock if no table is known to be published. Takes no memory. Constant time.
+    ///
+    /// ```
+    /// let map: HashMap<u64, u64> = HashMap::new(rt.alloc());
+    /// map.insert(&rt, 37, 1)?;
+    /// map.insert(&rt, 38, 2)?;
+    /// let mut sum: u64 = 0;
+    /// let mut pairs = map.iter(&rt);
+    /// for _ in rt.forever() {
+    ///     let Some((key, value)) = pairs.next()? else {
+    ///         break;
+    ///     };
+    ///     sum = sum.saturating_add(*key).saturating_add(*value);
+    /// }
+    /// assert_eq!(rt; sum, 78);
+    /// ```
     // No contract specifies which pairs it gives, since other threads change them meanwhile.
     pub fn iter<'m, R: Wait>(&'m self, rt: &'m R) -> Iter<'m, R, K, V, A>
         ensures { Begins K.cmp result }

@@ -127,6 +127,14 @@ impl<'m, R: Wait, K: Ord + Drop, V: Drop, S: KeyHasher<K>, A: Allocator + Copy> 
     /// Takes the lock of the key's bin for reading, or the control's lock if no table has been published yet. If the bin has moved, the
     /// call continues in the next table; it does not help the growth.
     ///
+    /// ```
+    /// let map: HashMap<u64, u64> = HashMap::new(rt.alloc());
+    /// let view = map.pin(&rt);
+    /// view.insert(37, 1)?;
+    /// assert_eq!(rt; view.get(&37)?.map(|value| *value), Some(1));
+    /// assert!(rt; view.get(&38)?.is_none());
+    /// ```
+    ///
     /// # Errors
     ///
     /// Returns [`AllocError`] if cloning the `Arc` fails, which it cannot if the key is absent.
@@ -164,6 +172,14 @@ impl<'m, R: Wait, K: Ord + Drop, V: Drop, S: KeyHasher<K>, A: Allocator + Copy> 
     /// Returns `true` if the map has the key. It takes no memory.
     ///
     /// Takes the same locks as [`HashMapRef::get`].
+    ///
+    /// ```
+    /// let map: HashMap<u64, u64> = HashMap::new(rt.alloc());
+    /// let view = map.pin(&rt);
+    /// view.insert(37, 1)?;
+    /// assert!(rt; view.contains_key(&37));
+    /// assert!(rt; !view.contains_key(&38));
+    /// ```
     pub fn contains_key(&self, key: &K) -> bool
         ensures { IsDriven (Maker K V A) K.cmp (no_changes {K = K} {V = V}) self.now
             (S.hash_of self.now.hasher key.now) (AtLocate (Finds Presence key.now))
@@ -180,6 +196,14 @@ impl<'m, R: Wait, K: Ord + Drop, V: Drop, S: KeyHasher<K>, A: Allocator + Copy> 
     ///
     /// Takes the lock of the key's bin for writing and, if the key was present, then the lock of a tally or of the control, to count. If
     /// the bin has moved, the call helps the growth first.
+    ///
+    /// ```
+    /// let map: HashMap<u64, u64> = HashMap::new(rt.alloc());
+    /// let view = map.pin(&rt);
+    /// view.insert(37, 1)?;
+    /// assert_eq!(rt; view.remove(&37).map(|value| *value), Some(1));
+    /// assert!(rt; view.remove(&37).is_none());
+    /// ```
     pub fn remove(&self, key: &K) -> Option<Arc<V, A>>
         ensures { IsDriven (Maker K V A) K.cmp (no_changes {K = K} {V = V}) self.now
             (S.hash_of self.now.hasher key.now) (AtLocate (Removes TheValue key.now))
@@ -231,6 +255,13 @@ impl<'m, R: Wait, K: Ord + Drop, V: Drop, S: KeyHasher<K>, A: Allocator + Copy> 
     /// the first table, it takes the control's lock, to make that table. If the bin has moved, or if the pair is counted at the control
     /// while a growth is running, the call helps the growth.
     ///
+    /// ```
+    /// let map: HashMap<u64, u64> = HashMap::new(rt.alloc());
+    /// let view = map.pin(&rt);
+    /// assert!(rt; view.insert(37, 1)?.is_none());
+    /// assert_eq!(rt; view.insert(37, 2)?.map(|old| *old), Some(1));
+    /// ```
+    ///
     /// # Errors
     ///
     /// Returns [`AllocError`] if memory for the pair or for a first table cannot be allocated. The call then changes no pair, and the key
@@ -251,6 +282,17 @@ impl<'m, R: Wait, K: Ord + Drop, V: Drop, S: KeyHasher<K>, A: Allocator + Copy> 
     /// error has the stored value and the argument `value`, and the argument `key` is dropped.
     ///
     /// Takes the same locks as [`HashMapRef::insert`].
+    ///
+    /// ```
+    /// let map: HashMap<u64, u64> = HashMap::new(rt.alloc());
+    /// let view = map.pin(&rt);
+    /// assert_eq!(rt; view.try_insert(37, 1)?.ok().map(|new| *new), Some(1));
+    /// let refused = view.try_insert(37, 2)?.err();
+    /// assert_eq!(rt;
+    ///     refused.map(|it| (*it.current, it.not_inserted)),
+    ///     Some((1, 2))
+    /// );
+    /// ```
     ///
     /// # Errors
     ///
@@ -280,6 +322,20 @@ impl<'m, R: Wait, K: Ord + Drop, V: Drop, S: KeyHasher<K>, A: Allocator + Copy> 
     ///
     /// `f` runs while the key's bin is locked. It must not call this map: a call with a key of the same bin would wait for itself. Takes
     /// the same locks as [`HashMapRef::remove`].
+    ///
+    /// ```
+    /// let map: HashMap<u64, u64> = HashMap::new(rt.alloc());
+    /// let view = map.pin(&rt);
+    /// view.insert(37, 1)?;
+    /// let new = view.compute_if_present(&37, |_key: &u64, value: &u64| -> Option<u64> {
+    ///     value.checked_add(1)
+    /// })?;
+    /// assert_eq!(rt; new.map(|new| *new), Some(2));
+    ///
+    /// // `None` removes the pair
+    /// view.compute_if_present(&37, |_key: &u64, _value: &u64| -> Option<u64> { None })?;
+    /// assert!(rt; view.is_empty());
+    /// ```
     ///
     /// # Errors
     ///
@@ -324,6 +380,14 @@ impl<'m, R: Wait, K: Ord + Drop, V: Drop, S: KeyHasher<K>, A: Allocator + Copy> 
     /// Removes all pairs, one bin after another. Other calls may insert pairs meanwhile; those in bins that are already cleared remain.
     ///
     /// Linear in the number of bins and pairs. Takes the lock of each bin in turn, and then the control's lock; takes no memory.
+    ///
+    /// ```
+    /// let map: HashMap<u64, u64> = HashMap::new(rt.alloc());
+    /// let view = map.pin(&rt);
+    /// view.insert(37, 1)?;
+    /// view.clear();
+    /// assert!(rt; view.is_empty());
+    /// ```
     pub fn clear<'s>(&'s self)
         ensures { IsDriven (Maker K V A) K.cmp (no_changes {K = K} {V = V}) self.now 0
             (AtSweep (fresh_sweep (Wipes 0))) OutcomeEnded }

@@ -8,7 +8,7 @@ use thiserror::Error;
 /// The reason why [`crate::map::from_pairs`] makes no map.
 ///
 /// ```
-/// match seq_map::from_pairs(list, DefaultHashBuilder::default()) {
+/// match pairs::into_seq_map(list, DefaultHashBuilder::default()) {
 ///     Err(FromPairsError::DoubledKey(position)) => Some(position),
 ///     _ => None,
 /// }

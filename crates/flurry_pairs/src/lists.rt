@@ -10,7 +10,7 @@ use std::alloc::{Allocator, Global};
 /// It is written as a sequence of pairs. A list that is read may be in any order.
 ///
 /// ```
-/// seq_map::to_sorted_pairs(map)
+/// pairs::from_seq_map(map)
 /// ```
 #[derive(Drop)]
 #[derive_where(Debug, PartialEq, Eq; K, V)]
@@ -49,7 +49,7 @@ impl<K: DeserializeOwned, V: DeserializeOwned> DeserializeOwned for SortedPairs<
 /// It is written as a sequence. A list that is read may be in any order, and may have an element twice.
 ///
 /// ```
-/// seq_set::to_sorted_items(set)
+/// pairs::from_seq_set(set)
 /// ```
 #[derive(Drop)]
 #[derive_where(Debug, PartialEq, Eq; T)]

@@ -52,6 +52,13 @@ impl<T: Ord, S: KeyHasher<T>, A: Allocator> Model for SeqSet<T, S, A> {
 
 impl<T: Hash + Ord + Drop, A: Allocator> SeqSet<T, DefaultHashBuilder, A> {
     /// Creates an empty set without a table, which uses the default hasher with seed 0. Takes no memory.
+    ///
+    /// ```
+    /// let mut set: SeqSet<u64> = SeqSet::new(rt.alloc());
+    /// assert!(rt; set.is_empty());
+    /// set.insert(37)?;
+    /// assert_eq!(rt; set.len(), 1);
+    /// ```
     pub fn new(alloc: A) -> Self
         ensures elements { result.elements ≡ [] }
         ensures ascend { IsFiniteSet T.cmp result.elements }
@@ -144,6 +151,13 @@ impl<T: Ord + Drop, S: KeyHasher<T>, A: Allocator> SeqSet<T, S, A> {
     }
 
     /// Returns `true` if the set contains an element equal to `element`. One look-up.
+    ///
+    /// ```
+    /// let mut set: SeqSet<u64> = SeqSet::new(rt.alloc());
+    /// set.insert(37)?;
+    /// assert!(rt; set.contains(&37));
+    /// assert!(rt; !set.contains(&38));
+    /// ```
     pub fn contains(&self, element: &T) -> bool
         ensures found { result ≡ is_some (element_at T.cmp self.now.elements element.now) }
         ensures ascend { IsFiniteSet T.cmp self.now.elements }
@@ -152,6 +166,13 @@ impl<T: Ord + Drop, S: KeyHasher<T>, A: Allocator> SeqSet<T, S, A> {
     }
 
     /// Returns a reference to the `Arc` of the stored element that is equal to `element`, or `None` if there is none. One look-up.
+    ///
+    /// ```
+    /// let mut set: SeqSet<u64> = SeqSet::new(rt.alloc());
+    /// set.insert(37)?;
+    /// assert_eq!(rt; set.get(&37).map(|element| **element), Some(37));
+    /// assert!(rt; set.get(&38).is_none());
+    /// ```
     pub fn get(&self, element: &T) -> Option<&Arc<T, A>>
         ensures element { option_map (λ x. arc_value x.now) result ≡ element_at T.cmp self.now.elements element.now }
         ensures ascend { IsFiniteSet T.cmp self.now.elements }
@@ -161,6 +182,13 @@ impl<T: Ord + Drop, S: KeyHasher<T>, A: Allocator> SeqSet<T, S, A> {
     }
 
     /// Removes the element equal to `element`, and returns `true` if there was one. The size of the table does not change.
+    ///
+    /// ```
+    /// let mut set: SeqSet<u64> = SeqSet::new(rt.alloc());
+    /// set.insert(37)?;
+    /// assert!(rt; set.remove(&37));
+    /// assert!(rt; !set.remove(&37));
+    /// ```
     pub fn remove(&mut self, element: &T) -> bool
         ensures found { result ≡ is_some (element_at T.cmp self.old.elements element.now) }
         ensures after { self.new ≡ set_with self.old (without_element T.cmp self.old.elements element.now) }
@@ -182,6 +210,13 @@ impl<T: Ord + Drop, S: KeyHasher<T>, A: Allocator> SeqSet<T, S, A> {
     /// Removes all elements. The size of the table does not change.
     ///
     /// Linear in the number of bins and elements.
+    ///
+    /// ```
+    /// let mut set: SeqSet<u64> = SeqSet::new(rt.alloc());
+    /// set.insert(37)?;
+    /// set.clear();
+    /// assert!(rt; set.is_empty());
+    /// ```
     pub fn clear(&mut self)
         ensures after { self.new ≡ set_with self.old [] }
         ensures ascend { IsFiniteSet T.cmp self.old.elements }
@@ -193,6 +228,15 @@ impl<T: Ord + Drop, S: KeyHasher<T>, A: Allocator> SeqSet<T, S, A> {
     /// size of the table does not change.
     ///
     /// One call for each element, and as many steps again as the table has bins. Takes no memory.
+    ///
+    /// ```
+    /// let mut set: SeqSet<u64> = SeqSet::new(rt.alloc());
+    /// set.insert(37)?;
+    /// set.insert(38)?;
+    /// set.retain(|element: &u64| -> bool { *element % 2 == 0 });
+    /// assert!(rt; !set.contains(&37));
+    /// assert!(rt; set.contains(&38));
+    /// ```
     pub fn retain<F: FnMut(&T) -> bool>(&mut self, mut f: F)
     where
         F: Drop,
@@ -204,6 +248,17 @@ impl<T: Ord + Drop, S: KeyHasher<T>, A: Allocator> SeqSet<T, S, A> {
     }
 
     /// Returns an iterator over the elements, each once, in unspecified order. It is as fast as [`SeqMap::iter`]. Takes no memory.
+    ///
+    /// ```
+    /// let mut set: SeqSet<u64> = SeqSet::new(rt.alloc());
+    /// set.insert(37)?;
+    /// set.insert(38)?;
+    /// let mut sum: u64 = 0;
+    /// for element in set.iter() {
+    ///     sum = sum.saturating_add(**element);
+    /// }
+    /// assert_eq!(rt; sum, 75);
+    /// ```
     pub fn iter(&self) -> Keys<'_, T, (), A>
         ensures elements { IsPermutation self.now.elements result }
         ensures count { length result ≡ length self.now.elements }
@@ -278,6 +333,13 @@ impl<T: Ord + Drop, S: KeyHasher<T>, A: Allocator + Copy> SeqSet<T, S, A> {
 
     /// Inserts an element, and returns `true` if the set had no equal element. If it had one, the stored element stays, `element` is
     /// dropped, and no memory is allocated. A new element may enlarge the table, as in [`SeqMap::insert`].
+    ///
+    /// ```
+    /// let mut set: SeqSet<u64> = SeqSet::new(rt.alloc());
+    /// assert!(rt; set.insert(37)?);
+    /// assert!(rt; !set.insert(37)?);
+    /// assert_eq!(rt; set.len(), 1);
+    /// ```
     ///
     /// # Errors
     ///
@@ -367,6 +429,15 @@ impl<T: Ord + Drop, S: KeyHasher<T>, A: Allocator + Copy> SeqSet<T, S, A> {
     /// has if the set is empty, and otherwise for half as many, rounded up.
     ///
     /// One insertion for each element.
+    ///
+    /// ```
+    /// let mut set: SeqSet<u64> = SeqSet::new(rt.alloc());
+    /// let mut list = Vec::new(rt.alloc());
+    /// list.push(37)?;
+    /// list.push(37)?;
+    /// set.extend(list)?;
+    /// assert_eq!(rt; set.len(), 1);
+    /// ```
     ///
     /// # Errors
     ///

@@ -43,6 +43,12 @@ impl<T: Ord, S: KeyHasher<T>, A: Allocator> Model for HashSet<T, S, A> {
 
 impl<T: Hash + Ord + Drop, A: Allocator> HashSet<T, DefaultHashBuilder, A> {
     /// Creates an empty set without a table, with the default hasher whose seed is zero. It takes no memory.
+    ///
+    /// ```
+    /// let set: HashSet<u64> = HashSet::new(rt.alloc());
+    /// set.insert(&rt, 37)?;
+    /// assert_eq!(rt; set.len(&rt), 1);
+    /// ```
     pub fn new(alloc: A) -> Self
         ensures seed { seed_of result.hasher ≡ 0 }
         ensures processors { result.processors ≡ 1 }
@@ -91,6 +97,13 @@ impl<T: Ord + Drop, S: KeyHasher<T>, A: Allocator> HashSet<T, S, A> {
     }
 
     /// Returns a view of the set. It keeps the runtime `rt`, so its calls do not take it as an argument. Constant time; takes no memory.
+    ///
+    /// ```
+    /// let set: HashSet<u64> = HashSet::new(rt.alloc());
+    /// let view = set.pin(&rt);
+    /// assert!(rt; view.insert(37)?);
+    /// assert!(rt; view.contains(&37));
+    /// ```
     #[inline(always)]
     pub fn pin<'m, R>(&'m self, rt: &'m R) -> HashSetRef<'m, R, T, S, A>
         ensures { result ≡ self.now }
@@ -133,6 +146,13 @@ impl<T: Ord + Drop, S: KeyHasher<T>, A: Allocator + Copy> HashSet<T, S, A> {
     }
 
     /// Returns `true` if the set has an element equal to `element`. It takes no memory.
+    ///
+    /// ```
+    /// let set: HashSet<u64> = HashSet::new(rt.alloc());
+    /// set.insert(&rt, 37)?;
+    /// assert!(rt; set.contains(&rt, &37));
+    /// assert!(rt; !set.contains(&rt, &38));
+    /// ```
     pub fn contains<R: Wait>(&self, rt: &R, element: &T) -> bool
         ensures { IsDriven (Maker T (Unit {0}) A) T.cmp (no_changes {K = T} {V = Unit {0}}) self.now
             (S.hash_of self.now.hasher element.now) (AtLocate (Finds Presence element.now))
@@ -142,6 +162,13 @@ impl<T: Ord + Drop, S: KeyHasher<T>, A: Allocator + Copy> HashSet<T, S, A> {
     }
 
     /// Returns a clone of the `Arc` of the stored element that is equal to `element`, or `None` if there is none.
+    ///
+    /// ```
+    /// let set: HashSet<u64> = HashSet::new(rt.alloc());
+    /// set.insert(&rt, 37)?;
+    /// assert_eq!(rt; set.get(&rt, &37)?.map(|element| *element), Some(37));
+    /// assert!(rt; set.get(&rt, &38)?.is_none());
+    /// ```
     ///
     /// # Errors
     ///
@@ -157,6 +184,12 @@ impl<T: Ord + Drop, S: KeyHasher<T>, A: Allocator + Copy> HashSet<T, S, A> {
     /// `element` is dropped. A new element may make the table grow; if memory for the larger table cannot be allocated, the set stays in
     /// the old table.
     ///
+    /// ```
+    /// let set: HashSet<u64> = HashSet::new(rt.alloc());
+    /// assert!(rt; set.insert(&rt, 37)?);
+    /// assert!(rt; !set.insert(&rt, 37)?);
+    /// ```
+    ///
     /// # Errors
     ///
     /// Returns [`AllocError`] if memory for a new element or for a first table cannot be allocated, or if cloning an `Arc` of what is
@@ -169,6 +202,13 @@ impl<T: Ord + Drop, S: KeyHasher<T>, A: Allocator + Copy> HashSet<T, S, A> {
     }
 
     /// Removes the element equal to `element`, and returns `true` if there was one. The table keeps its size. It takes no memory.
+    ///
+    /// ```
+    /// let set: HashSet<u64> = HashSet::new(rt.alloc());
+    /// set.insert(&rt, 37)?;
+    /// assert!(rt; set.remove(&rt, &37));
+    /// assert!(rt; !set.remove(&rt, &37));
+    /// ```
     pub fn remove<R: Wait>(&self, rt: &R, element: &T) -> bool
         ensures { IsDriven (Maker T (Unit {0}) A) T.cmp (no_changes {K = T} {V = Unit {0}}) self.now
             (S.hash_of self.now.hasher element.now) (AtLocate (Removes TheValue element.now)) (removed_outcome result) }
@@ -199,6 +239,13 @@ impl<T: Ord + Drop, S: KeyHasher<T>, A: Allocator + Copy> HashSet<T, S, A> {
     }
 
     /// Removes all elements, one bin after another. See [`HashMap::clear`].
+    ///
+    /// ```
+    /// let set: HashSet<u64> = HashSet::new(rt.alloc());
+    /// set.insert(&rt, 37)?;
+    /// set.clear(&rt);
+    /// assert!(rt; set.is_empty(&rt));
+    /// ```
     pub fn clear<R: Wait>(&self, rt: &R)
         ensures { IsDriven (Maker T (Unit {0}) A) T.cmp (no_changes {K = T} {V = Unit {0}}) self.now 0
             (AtSweep (fresh_sweep (Wipes 0))) OutcomeEnded }
@@ -207,6 +254,21 @@ impl<T: Ord + Drop, S: KeyHasher<T>, A: Allocator + Copy> HashSet<T, S, A> {
     }
 
     /// Returns an iterator that gives clones of the `Arc`s of the elements. Other calls may run meanwhile. See [`HashMap::iter`].
+    ///
+    /// ```
+    /// let set: HashSet<u64> = HashSet::new(rt.alloc());
+    /// set.insert(&rt, 37)?;
+    /// set.insert(&rt, 38)?;
+    /// let mut sum: u64 = 0;
+    /// let mut elements = set.iter(&rt);
+    /// for _ in rt.forever() {
+    ///     let Some(element) = elements.next()? else {
+    ///         break;
+    ///     };
+    ///     sum = sum.saturating_add(*element);
+    /// }
+    /// assert_eq!(rt; sum, 75);
+    /// ```
     pub fn iter<'m, R: Wait>(&'m self, rt: &'m R) -> Keys<'m, R, T, (), A>
         ensures { Begins T.cmp result }
     {
@@ -217,6 +279,15 @@ impl<T: Ord + Drop, S: KeyHasher<T>, A: Allocator + Copy> HashSet<T, S, A> {
     /// half as many, rounded up, if it is not.
     ///
     /// One insertion for each element.
+    ///
+    /// ```
+    /// let set: HashSet<u64> = HashSet::new(rt.alloc());
+    /// let mut list = Vec::new(rt.alloc());
+    /// list.push(37)?;
+    /// list.push(37)?;
+    /// set.extend(&rt, list)?;
+    /// assert_eq!(rt; set.len(&rt), 1);
+    /// ```
     ///
     /// # Errors
     ///
@@ -320,6 +391,15 @@ impl<T: Ord + Drop, S: KeyHasher<T>, A: Allocator + Copy> HashSet<T, S, A> {
     ///
     /// `f` runs while no lock is held, so it may call this set. One removal for each element for which `f` returns `false`, besides the
     /// walk. Takes the locks of [`HashMap::retain`].
+    ///
+    /// ```
+    /// let set: HashSet<u64> = HashSet::new(rt.alloc());
+    /// set.insert(&rt, 37)?;
+    /// set.insert(&rt, 38)?;
+    /// set.retain(&rt, |element: &u64| -> bool { *element % 2 == 0 })?;
+    /// assert!(rt; !set.contains(&rt, &37));
+    /// assert!(rt; set.contains(&rt, &38));
+    /// ```
     ///
     /// # Errors
     ///

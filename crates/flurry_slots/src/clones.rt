@@ -9,7 +9,7 @@ use std::marker::PhantomData;
 /// A type of which [`Cloning::is_there`] says whether its values can be cloned.
 ///
 /// ```
-/// Cloning::<u64>::is_there()
+/// assert!(rt; Cloning::<u64>::is_there());
 /// ```
 pub struct Cloning<T> {
     of: PhantomData<T>,
@@ -27,7 +27,7 @@ impl<T: Clone> Cloning<T> {
 /// The result of [`Cloning::is_there`] for a type that is not `Clone`.
 ///
 /// ```
-/// Cloning::<Receipt>::is_there()
+/// assert!(rt; !Cloning::<Receipt>::is_there());
 /// ```
 pub trait NoCloning {
     /// Returns `false`: the values of the type cannot be cloned.

@@ -6,7 +6,7 @@ ghost use Rattle.flurry.specs.Doubles.{IsFirstDouble};
 ghost use Rattle.flurry.specs.FiniteMap.{IsFiniteMap};
 
 use flurry::hash::DefaultHashBuilder;
-use flurry::pairs::{FromPairsError, SortedItems, SortedPairs, seq_map, seq_set};
+use flurry::pairs::{self, FromPairsError, SortedItems, SortedPairs};
 use flurry::{SeqMap, SeqSet};
 use std::alloc::AllocError;
 
@@ -17,7 +17,7 @@ pub fn save(map: &Map) -> Result<SortedPairs<u64, u64>, AllocError>
     ensures pairs { IfOk result (λ s. s.0.items ≡ map.now.pairs) }
     ensures ascend { IfOk result (λ s. IsFiniteMap nat_cmp s.0.items) }
 {
-    seq_map::to_sorted_pairs(map)
+    pairs::from_seq_map(map)
 }
 
 /// Creates a map from a list in which no key occurs twice. The map has the list's pairs.
@@ -25,14 +25,14 @@ pub fn load(list: SortedPairs<u64, u64>) -> Result<Map, FromPairsError>
     ensures pairs { IfOk result (λ m. IsPermutation list.0.items m.pairs) }
     ensures apart { IfOk result (λ m. AreApart nat_cmp list.0.items) }
 {
-    seq_map::from_pairs(list, DefaultHashBuilder::default())
+    pairs::into_seq_map(list, DefaultHashBuilder::default())
 }
 
 /// Returns the list of a set's elements, which has exactly these elements.
 pub fn save_set(set: &SeqSet<u64>) -> Result<SortedItems<u64>, AllocError>
     ensures { IfOk result (λ s. s.0.items ≡ set.now.elements) }
 {
-    seq_set::to_sorted_items(set)
+    pairs::from_seq_set(set)
 }
 
 /// Copies a map by a list of its pairs. The copy has the same pairs.
@@ -46,7 +46,7 @@ pub fn copy(map: &Map) -> Result<Map, FromPairsError>
 pub fn first_doubled(list: SortedPairs<u64, u64>) -> Option<usize>
     ensures { IfSome result (λ position. IsFirstDouble nat_cmp list.0.items position) }
 {
-    match seq_map::from_pairs(list, DefaultHashBuilder::default()) {
+    match pairs::into_seq_map(list, DefaultHashBuilder::default()) {
         Err(FromPairsError::DoubledKey(position)) => Some(position),
         _ => None,
     }

@@ -20,7 +20,7 @@ pub fn build(
 ) -> Result<Map, AllocError>
     ensures { IfOk result (λ m. m.pairs ≡ with_all nat_cmp [] list.items) }
 {
-    par::seq_map::from_par_list(rt, alloc, list, DefaultHashBuilder::default(), 1024)
+    par::seq_map_from_list(rt, alloc, list, DefaultHashBuilder::default(), 1024)
 }
 
 /// Builds a map from two lists, one after the other.
@@ -33,7 +33,7 @@ pub fn build_two(
     ensures { IfOk result (λ m. m.pairs ≡ with_all nat_cmp (with_all nat_cmp [] first.items) second.items) }
 {
     let mut map = build(rt, alloc, first)?;
-    par::seq_map::par_extend(rt, &mut map, second, 1024)?;
+    par::extend_seq_map(rt, &mut map, second, 1024)?;
     Ok(map)
 }
 
@@ -41,7 +41,7 @@ pub fn build_two(
 pub fn merge(left: &mut Map, right: Map) -> Result<(), AllocError>
     ensures { OnOk result (left.new.pairs ≡ with_all nat_cmp left.old.pairs right.pairs) }
 {
-    par::seq_map::join(left, right)
+    par::join_seq_maps(left, right)
 }
 
 /// Builds a set from a list.
@@ -52,7 +52,7 @@ pub fn build_set(
 ) -> Result<SeqSet<u64>, AllocError>
     ensures { IfOk result (λ s. s.elements ≡ with_elements nat_cmp [] list.items) }
 {
-    par::seq_set::from_par_list(rt, alloc, list, DefaultHashBuilder::default(), 1024)
+    par::seq_set_from_list(rt, alloc, list, DefaultHashBuilder::default(), 1024)
 }
 
 /// Extends a shared map by several threads. No contract specifies what the map then has.
@@ -61,5 +61,5 @@ pub fn fill<R: Threads + Wait + Sync>(
     map: &HashMap<u64, u64>,
     list: Vec<(u64, u64)>,
 ) -> Result<(), AllocError> {
-    par::map::par_extend(map, rt, list, 256)
+    par::extend_map(map, rt, list, 256)
 }

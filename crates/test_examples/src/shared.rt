@@ -73,7 +73,7 @@ pub fn list<R: Wait>(
 ) -> Result<SortedPairs<u64, u64>, AllocError>
     ensures { IfOk result (λ s. IsFiniteMap nat_cmp s.0.items) }
 {
-    pairs::map::to_sorted_pairs(rt, alloc, map)
+    pairs::from_map(rt, alloc, map)
 }
 
 /// Keeps the even keys. No contract specifies which keys these are.

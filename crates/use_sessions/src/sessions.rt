@@ -5,7 +5,7 @@ ghost use Rattle.std.specs.Ordering.{nat_cmp};
 ghost use Rattle.flurry.specs.FiniteMap.{IsFiniteMap};
 
 use flurry::HashMap;
-use flurry::pairs::{SortedPairs, map};
+use flurry::pairs::{self, SortedPairs};
 use std::alloc::{AllocError, Global};
 use std::sync::Wait;
 
@@ -77,6 +77,6 @@ impl Sessions {
     pub fn list<R: Wait>(&self, rt: &R, alloc: Global) -> Result<SortedPairs<u64, u64>, AllocError>
         ensures { IfOk result (λ list. IsFiniteMap nat_cmp list.0.items) }
     {
-        map::to_sorted_pairs(rt, alloc, &self.seen)
+        pairs::from_map(rt, alloc, &self.seen)
     }
 }

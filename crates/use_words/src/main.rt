@@ -3,7 +3,7 @@
 
 mod words;
 
-use flurry::pairs::seq_map;
+use flurry::pairs;
 use std::alloc::Global;
 use std::sync::Wait;
 use std::sync::atomic::{AtomicU64, Ordering};
@@ -55,7 +55,7 @@ fn main(rt: HostRuntime) -> io::Result<()> {
     let counted = count_lines(&rt, rt.alloc(), &words, &LINES);
 
     let counts = words.finish(&rt)?;
-    for (word, count) in &seq_map::to_sorted_pairs(&counts)?.0 {
+    for (word, count) in &pairs::from_seq_map(&counts)?.0 {
         println!(rt; "{count} {}", word.as_str())?;
     }
     match total(&counts) {

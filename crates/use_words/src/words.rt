@@ -29,7 +29,7 @@ impl Words {
         for word in text.split_whitespace() {
             list.push((String::from_str(alloc, word)?, 0))?;
         }
-        let words = par::seq_map::from_par_list(rt, alloc, list, DefaultHashBuilder::default(), 4)?;
+        let words = par::seq_map_from_list(rt, alloc, list, DefaultHashBuilder::default(), 4)?;
         match HashMap::from_seq(rt, words) {
             Ok(counts) => Ok(Words { counts }),
             Err(_) => Err(AllocError),

@@ -1,0 +1,8 @@
+//! The examples of the doc comments of the maps, the sets and their views, run.
+
+mod hash_map;
+mod hash_map_ref;
+mod hash_set;
+mod hash_set_ref;
+mod seq_map;
+mod seq_set;

@@ -1,0 +1,141 @@
+//! The examples of the shared map's doc comments.
+
+use flurry::HashMap;
+use std::test::Fail;
+
+#[test]
+fn new(rt: HostRuntime) -> Result<(), Fail> {
+    let map: HashMap<u64, u64> = HashMap::new(rt.alloc());
+    map.insert(&rt, 37, 1)?;
+    assert_eq!(rt; map.len(&rt), 1);
+    Ok(())
+}
+
+#[test]
+fn pin(rt: HostRuntime) -> Result<(), Fail> {
+    let map: HashMap<u64, u64> = HashMap::new(rt.alloc());
+    let view = map.pin(&rt);
+    view.insert(37, 1)?;
+    assert_eq!(rt; view.get(&37)?.map(|value| *value), Some(1));
+    Ok(())
+}
+
+#[test]
+fn insert(rt: HostRuntime) -> Result<(), Fail> {
+    let map: HashMap<u64, u64> = HashMap::new(rt.alloc());
+    assert!(rt; map.insert(&rt, 37, 1)?.is_none());
+    assert_eq!(rt; map.insert(&rt, 37, 2)?.map(|old| *old), Some(1));
+    Ok(())
+}
+
+#[test]
+fn get(rt: HostRuntime) -> Result<(), Fail> {
+    let map: HashMap<u64, u64> = HashMap::new(rt.alloc());
+    map.insert(&rt, 37, 1)?;
+    assert_eq!(rt; map.get(&rt, &37)?.map(|value| *value), Some(1));
+    assert!(rt; map.get(&rt, &38)?.is_none());
+    Ok(())
+}
+
+#[test]
+fn contains_key(rt: HostRuntime) -> Result<(), Fail> {
+    let map: HashMap<u64, u64> = HashMap::new(rt.alloc());
+    map.insert(&rt, 37, 1)?;
+    assert!(rt; map.contains_key(&rt, &37));
+    assert!(rt; !map.contains_key(&rt, &38));
+    Ok(())
+}
+
+#[test]
+fn remove(rt: HostRuntime) -> Result<(), Fail> {
+    let map: HashMap<u64, u64> = HashMap::new(rt.alloc());
+    map.insert(&rt, 37, 1)?;
+    assert_eq!(rt; map.remove(&rt, &37).map(|value| *value), Some(1));
+    assert!(rt; map.remove(&rt, &37).is_none());
+    Ok(())
+}
+
+#[test]
+fn try_insert(rt: HostRuntime) -> Result<(), Fail> {
+    let map: HashMap<u64, u64> = HashMap::new(rt.alloc());
+    assert_eq!(rt; map.try_insert(&rt, 37, 1)?.ok().map(|new| *new), Some(1));
+    let refused = map.try_insert(&rt, 37, 2)?.err();
+    assert_eq!(rt;
+        refused.map(|it| (*it.current, it.not_inserted)),
+        Some((1, 2))
+    );
+    Ok(())
+}
+
+#[test]
+fn compute_if_present(rt: HostRuntime) -> Result<(), Fail> {
+    let map: HashMap<u64, u64> = HashMap::new(rt.alloc());
+    map.insert(&rt, 37, 1)?;
+    let new = map.compute_if_present(&rt, &37, |_key: &u64, value: &u64| -> Option<u64> {
+        value.checked_add(1)
+    })?;
+    assert_eq!(rt; new.map(|new| *new), Some(2));
+
+    // `None` removes the pair
+    map.compute_if_present(&rt, &37, |_key: &u64, _value: &u64| -> Option<u64> { None })?;
+    assert!(rt; map.is_empty(&rt));
+    Ok(())
+}
+
+#[test]
+fn iter(rt: HostRuntime) -> Result<(), Fail> {
+    let map: HashMap<u64, u64> = HashMap::new(rt.alloc());
+    map.insert(&rt, 37, 1)?;
+    map.insert(&rt, 38, 2)?;
+    let mut sum: u64 = 0;
+    let mut pairs = map.iter(&rt);
+    for _ in rt.forever() {
+        let Some((key, value)) = pairs.next()? else {
+            break;
+        };
+        sum = sum.saturating_add(*key).saturating_add(*value);
+    }
+    assert_eq!(rt; sum, 78);
+    Ok(())
+}
+
+#[test]
+fn retain(rt: HostRuntime) -> Result<(), Fail> {
+    let map: HashMap<u64, u64> = HashMap::new(rt.alloc());
+    map.insert(&rt, 37, 1)?;
+    map.insert(&rt, 38, 2)?;
+    map.retain(&rt, |key: &u64, _value: &u64| -> bool { *key % 2 == 0 })?;
+    assert!(rt; !map.contains_key(&rt, &37));
+    assert!(rt; map.contains_key(&rt, &38));
+    Ok(())
+}
+
+#[test]
+fn extend(rt: HostRuntime) -> Result<(), Fail> {
+    let map: HashMap<u64, u64> = HashMap::new(rt.alloc());
+    let mut list = Vec::new(rt.alloc());
+    list.push((37, 1))?;
+    list.push((37, 2))?;
+    map.extend(&rt, list)?;
+    assert_eq!(rt; map.get(&rt, &37)?.map(|value| *value), Some(2));
+    Ok(())
+}
+
+#[test]
+fn clear(rt: HostRuntime) -> Result<(), Fail> {
+    let map: HashMap<u64, u64> = HashMap::new(rt.alloc());
+    map.insert(&rt, 37, 1)?;
+    map.clear(&rt);
+    assert!(rt; map.is_empty(&rt));
+    Ok(())
+}
+
+#[test]
+fn with_processors(rt: HostRuntime) -> Result<(), Fail> {
+    let map: HashMap<u64, u64> = HashMap::new(rt.alloc()).with_processors(4);
+    map.insert(&rt, 1, 10)?;
+    let view = map.pin(&rt);
+    let found = view.get(&1)?.map(|value| *value);
+    assert_eq!(rt; found, Some(10));
+    Ok(())
+}

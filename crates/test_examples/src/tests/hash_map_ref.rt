@@ -1,0 +1,112 @@
+//! The examples of the shared map's view.
+
+use flurry::HashMap;
+use std::test::Fail;
+
+#[test]
+fn insert(rt: HostRuntime) -> Result<(), Fail> {
+    let map: HashMap<u64, u64> = HashMap::new(rt.alloc());
+    let view = map.pin(&rt);
+    assert!(rt; view.insert(37, 1)?.is_none());
+    assert_eq!(rt; view.insert(37, 2)?.map(|old| *old), Some(1));
+    Ok(())
+}
+
+#[test]
+fn get(rt: HostRuntime) -> Result<(), Fail> {
+    let map: HashMap<u64, u64> = HashMap::new(rt.alloc());
+    let view = map.pin(&rt);
+    view.insert(37, 1)?;
+    assert_eq!(rt; view.get(&37)?.map(|value| *value), Some(1));
+    assert!(rt; view.get(&38)?.is_none());
+    Ok(())
+}
+
+#[test]
+fn contains_key(rt: HostRuntime) -> Result<(), Fail> {
+    let map: HashMap<u64, u64> = HashMap::new(rt.alloc());
+    let view = map.pin(&rt);
+    view.insert(37, 1)?;
+    assert!(rt; view.contains_key(&37));
+    assert!(rt; !view.contains_key(&38));
+    Ok(())
+}
+
+#[test]
+fn remove(rt: HostRuntime) -> Result<(), Fail> {
+    let map: HashMap<u64, u64> = HashMap::new(rt.alloc());
+    let view = map.pin(&rt);
+    view.insert(37, 1)?;
+    assert_eq!(rt; view.remove(&37).map(|value| *value), Some(1));
+    assert!(rt; view.remove(&37).is_none());
+    Ok(())
+}
+
+#[test]
+fn try_insert(rt: HostRuntime) -> Result<(), Fail> {
+    let map: HashMap<u64, u64> = HashMap::new(rt.alloc());
+    let view = map.pin(&rt);
+    assert_eq!(rt; view.try_insert(37, 1)?.ok().map(|new| *new), Some(1));
+    let refused = view.try_insert(37, 2)?.err();
+    assert_eq!(rt;
+        refused.map(|it| (*it.current, it.not_inserted)),
+        Some((1, 2))
+    );
+    Ok(())
+}
+
+#[test]
+fn compute_if_present(rt: HostRuntime) -> Result<(), Fail> {
+    let map: HashMap<u64, u64> = HashMap::new(rt.alloc());
+    let view = map.pin(&rt);
+    view.insert(37, 1)?;
+    let new = view.compute_if_present(&37, |_key: &u64, value: &u64| -> Option<u64> {
+        value.checked_add(1)
+    })?;
+    assert_eq!(rt; new.map(|new| *new), Some(2));
+
+    // `None` removes the pair
+    view.compute_if_present(&37, |_key: &u64, _value: &u64| -> Option<u64> { None })?;
+    assert!(rt; view.is_empty());
+    Ok(())
+}
+
+#[test]
+fn iter(rt: HostRuntime) -> Result<(), Fail> {
+    let map: HashMap<u64, u64> = HashMap::new(rt.alloc());
+    let view = map.pin(&rt);
+    view.insert(37, 1)?;
+    view.insert(38, 2)?;
+    let mut sum: u64 = 0;
+    let mut pairs = view.iter();
+    for _ in rt.forever() {
+        let Some((key, value)) = pairs.next()? else {
+            break;
+        };
+        sum = sum.saturating_add(*key).saturating_add(*value);
+    }
+    assert_eq!(rt; sum, 78);
+    Ok(())
+}
+
+#[test]
+fn retain(rt: HostRuntime) -> Result<(), Fail> {
+    let map: HashMap<u64, u64> = HashMap::new(rt.alloc());
+    let view = map.pin(&rt);
+    view.insert(37, 1)?;
+    view.insert(38, 2)?;
+    view.retain(|key: &u64, _value: &u64| -> bool { *key % 2 == 0 })?;
+    assert!(rt; !view.contains_key(&37));
+    assert!(rt; view.contains_key(&38));
+    Ok(())
+}
+
+#[test]
+fn clear(rt: HostRuntime) -> Result<(), Fail> {
+    let map: HashMap<u64, u64> = HashMap::new(rt.alloc());
+    let view = map.pin(&rt);
+    view.insert(37, 1)?;
+    view.clear();
+    assert!(rt; view.is_empty());
+    Ok(())
+}

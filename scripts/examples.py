@@ -1,0 +1,69 @@
+#!/usr/bin/env python3
+"""Whether each example in a doc comment of a library, and in the pages on calling, is code that is proved: so it cannot go stale.
+
+    examples.py REPOSITORY
+
+The lines of an example, without their indentation, have to stand in one file of a crate of tests, one after another. So have those of each
+paragraph of a page's code, or in a file of a crate that shows a use; what a page imports is left out.
+"""
+import pathlib
+import re
+import sys
+
+
+def examples_of(text):
+    """Yields the line on which each example of a source begins, and its lines."""
+    block = None
+    for number, line in enumerate(text.split("\n"), 1):
+        comment = re.match(r"\s*//[/!] ?(.*)", line)
+        if not comment:
+            block = None
+        elif comment[1].startswith("```"):
+            if block:
+                yield block[0], block[1]
+            # a fence with a word behind it holds no code
+            block = None if block or comment[1] != "```" else (number, [])
+        elif block:
+            block[1].append(comment[1].strip())
+
+
+def paragraphs_of(page):
+    """Yields the line on which each paragraph of a page's code begins, and its lines, without what it imports."""
+    is_code, start, lines = False, 0, []
+    for number, line in enumerate(page.split("\n"), 1):
+        is_fence = line.startswith("```")
+        if lines and (is_fence or not line.strip()):
+            yield start, lines
+            lines = []
+        if is_fence:
+            is_code = not is_code and line == "```rust"
+        elif is_code and line.strip() and not line.startswith(("use ", "ghost use ", "#![")):
+            start = start if lines else number
+            lines.append(line.strip())
+
+
+def lines_of(path):
+    """Returns the text of a file, its lines without indentation."""
+    return "\n" + "\n".join(line.strip() for line in path.read_text(encoding="utf-8").split("\n")) + "\n"
+
+
+def main():
+    repository = pathlib.Path(sys.argv[-1])
+    crates = repository / "crates"
+    tests = [lines_of(path) for path in sorted(crates.glob("test_*/src/**/*.rt"))]
+    uses = [lines_of(path) for path in sorted(crates.glob("use_*/src/**/*.rt"))]
+    sources = sorted(crates.glob("[!tu]*/src/**/*.rt"))
+    pages = [repository / "CALLING.md", *sorted((repository / "docs/calling").glob("*.md"))]
+    examples = [(path, *found, tests) for path in sources for found in examples_of(path.read_text(encoding="utf-8"))]
+    examples += [(path, *found, tests + uses) for path in pages for found in paragraphs_of(path.read_text(encoding="utf-8"))]
+    status = 0
+    for path, number, lines, texts in examples:
+        wanted = "\n" + "\n".join(lines) + "\n"
+        if not any(wanted in text for text in texts):
+            print(f"test: the example at {path}:{number} is no code of a crate of tests", file=sys.stderr)
+            status = 1
+    return status
+
+
+if __name__ == "__main__":
+    sys.exit(main())
