@@ -1,6 +1,8 @@
 //! Locks in threads, with numbers as keys and values.
 
 mod calls;
+mod order;
+mod readers;
 mod threads;
 
 use calls::put_all;

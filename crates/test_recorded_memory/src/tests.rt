@@ -1,7 +1,7 @@
 //! A call, a share and the end of a map when memory cannot be allocated.
 
 use flurry_model::hash::LowHashBuilder;
-use flurry_recorded::{CloseFault, KeptReply, Recorded, Share};
+use flurry_recorded::{Book, CloseFault, KeptCall, KeptReply, Recorded, Share};
 use metered_alloc::Metered;
 use std::alloc::Global;
 use std::fmt::Debug;
@@ -13,6 +13,8 @@ type Memory = &'static Metered<Global>;
 type Numbers = Recorded<u64, u64, LowHashBuilder, Memory>;
 
 type NumberShare = Share<u64, u64, Memory>;
+
+type NumberCall = KeptCall<u64, u64>;
 
 // More requests than any call makes.
 const MOST_REQUESTS: u64 = 100;
@@ -36,15 +38,23 @@ fn map_with_share<R: Wait + Abort>(rt: &R, memory: Memory) -> (Numbers, NumberSh
     (map, share)
 }
 
-// What a call replied, or nothing where it was refused, and how many receipts its share has then.
-fn insert_once<R: Wait>(
+// What a call replied, or nothing where it was refused.
+fn make<R: Wait>(
     rt: &R,
     map: &Numbers,
     share: &mut NumberShare,
-    key: u64,
-) -> (Option<KeptReply<u64, u64>>, usize) {
-    let reply = map.insert(rt, share, key, 1);
-    (reply.ok(), share.receipts().len())
+    call: NumberCall,
+) -> Option<KeptReply<u64, u64>> {
+    let reply = match call {
+        KeptCall::Get(key) => map.get(rt, share, key),
+        KeptCall::GetKeyValue(key) => map.get_key_value(rt, share, key),
+        KeptCall::ContainsKey(key) => map.contains_key(rt, share, key),
+        KeptCall::Insert(key, value) => map.insert(rt, share, key, value),
+        KeptCall::TryInsert(key, value) => map.try_insert(rt, share, key, value),
+        KeptCall::Remove(key) => map.remove(rt, share, key),
+        KeptCall::RemoveEntry(key) => map.remove_entry(rt, share, key),
+    };
+    reply.ok()
 }
 
 // Returns a list of one share.
@@ -60,34 +70,66 @@ fn end(map: Numbers, shares: Vec<NumberShare, Memory>) -> Option<usize> {
     }
 }
 
-// Inserts into a new map with the request numbered k refused, and answers whether that request was made.
-fn insertion_is_refused<R: Wait + Abort>(rt: &R, memory: Memory, k: u64) -> bool {
+// Makes a call on a new map with the request numbered k refused, and returns whether that request was made. A call that is refused has no
+// reply and no receipt, and the map ends without it.
+fn call_is_refused<R: Wait + Abort>(
+    rt: &R,
+    memory: Memory,
+    call: NumberCall,
+    wanted: KeptReply<u64, u64>,
+    k: u64,
+) -> bool {
     let map = Numbers::with_hasher(memory, LowHashBuilder);
     let mut share = share_of(rt, &map);
     memory.refuse_at(k);
-    let seen = insert_once(rt, &map, &mut share, 7);
+    let reply = make(rt, &map, &mut share, call);
     let refused = memory.refused();
     memory.refuse_nothing();
-    let (reply, calls) = if refused {
+    let (wanted, calls) = if refused {
         (None, 0)
     } else {
-        (Some(KeptReply::Value(None)), 1)
+        (Some(wanted), 1)
     };
-    same_at(rt, k, seen, (reply, calls));
+    same_at(
+        rt,
+        k,
+        (call, reply, share.receipts().len()),
+        (call, wanted, calls),
+    );
     same_at(rt, k, end(map, list_of(rt, memory, share)), Some(calls));
     refused
 }
 
-#[test]
-fn insertion_of_a_first_pair(rt: HostRuntime) {
-    let memory = Metered::leaked(rt.alloc()).expect(&rt, "memory for the allocator");
+// Each request of a call is refused in turn.
+fn refuse_each<R: Wait + Abort>(
+    rt: &R,
+    memory: Memory,
+    call: NumberCall,
+    wanted: KeptReply<u64, u64>,
+) {
     for k in 0..MOST_REQUESTS {
-        if !insertion_is_refused(&rt, memory, k) {
-            same_at(&rt, k, k > 0, true);
+        if !call_is_refused(rt, memory, call, wanted, k) {
+            same_at(rt, k, k > 0, true);
             return;
         }
     }
     panic!(rt; "it makes fewer requests");
+}
+
+#[test]
+fn each_request_of_a_call(rt: HostRuntime) {
+    let memory = Metered::leaked(rt.alloc()).expect(&rt, "memory for the allocator");
+    for (call, wanted) in [
+        (KeptCall::Get(7), KeptReply::Value(None)),
+        (KeptCall::GetKeyValue(7), KeptReply::Pair(None)),
+        (KeptCall::ContainsKey(7), KeptReply::Contains(false)),
+        (KeptCall::Insert(7, 1), KeptReply::Value(None)),
+        (KeptCall::TryInsert(7, 1), KeptReply::New(1)),
+        (KeptCall::Remove(7), KeptReply::Value(None)),
+        (KeptCall::RemoveEntry(7), KeptReply::Pair(None)),
+    ] {
+        refuse_each(&rt, memory, call, wanted);
+    }
 }
 
 // Closes a map of one call while the request numbered `k` fails, and returns whether that request was made.
@@ -119,12 +161,55 @@ fn end_with_an_honest_share(rt: HostRuntime) {
     panic!(rt; "it makes fewer requests");
 }
 
+// Each request of a further share is refused in turn: it has the number that the refused one would have had.
 #[test]
-fn a_share_is_refused(rt: HostRuntime) {
+fn each_request_of_a_share(rt: HostRuntime) {
     let memory = Metered::leaked(rt.alloc()).expect(&rt, "memory for the allocator");
     let map = Numbers::with_hasher(memory, LowHashBuilder);
-    memory.refuse_from(0);
-    let none = map.share(&rt).is_err();
-    memory.refuse_nothing();
-    same_at(&rt, 0, (none, share_of(&rt, &map).number()), (true, 0));
+    for k in 0..MOST_REQUESTS {
+        memory.refuse_at(k);
+        let number = map.share(&rt).map(|share| share.number()).ok();
+        let refused = memory.refused();
+        memory.refuse_nothing();
+        if !refused {
+            same_at(&rt, k, (k > 0, number), (true, Some(0)));
+            return;
+        }
+        same_at(&rt, k, number, None);
+    }
+    panic!(&rt; "it makes fewer requests");
+}
+
+// Each request of a call and of a share of a book by itself is refused in turn, which leaves the book as it was.
+#[test]
+fn each_request_of_a_book(rt: HostRuntime) {
+    let memory = Metered::leaked(rt.alloc()).expect(&rt, "memory for the allocator");
+    for k in 0..MOST_REQUESTS {
+        let mut book = Book::new(memory, LowHashBuilder);
+        memory.refuse_at(k);
+        let number = book.share().ok();
+        let reply = book.call(KeptCall::Insert(7u64, 1u64)).ok();
+        let refused = memory.refused();
+        memory.refuse_nothing();
+        if !refused {
+            same_at(
+                &rt,
+                k,
+                (k > 0, number, reply),
+                (true, Some(0), Some((0, KeptReply::Value(None)))),
+            );
+            return;
+        }
+        same_at(&rt, k, number.is_none() || reply.is_none(), true);
+        same_at(&rt, k, book.share().ok(), Some(number.map_or(0, |_| 1)));
+        let again = reply.map_or(0, |_| 1);
+        let old = reply.map_or(None, |_| Some(1));
+        same_at(
+            &rt,
+            k,
+            book.call(KeptCall::Insert(7, 1)).ok(),
+            Some((again, KeptReply::Value(old))),
+        );
+    }
+    panic!(&rt; "it makes fewer requests");
 }

@@ -141,3 +141,25 @@ fn refused_elements(rt: HostRuntime) -> Result<(), Fail> {
     }
     Err(Fail::from("it makes fewer requests"))
 }
+
+// A list has every pair and every element, and each pair its own value.
+#[test]
+fn a_thousand_of_each(rt: HostRuntime) -> Result<(), Fail> {
+    let map = HashMap::with_hasher(rt.alloc(), LowHashBuilder);
+    let set = HashSet::with_hasher(rt.alloc(), LowHashBuilder);
+    for key in 0..1000u64 {
+        map.insert(&rt, key, key)?;
+        set.insert(&rt, key)?;
+    }
+    same(
+        &rt,
+        map::to_sorted_pairs(&rt, rt.alloc(), &map)?.0.len(),
+        1000,
+    );
+    same(
+        &rt,
+        set::to_sorted_items(&rt, rt.alloc(), &set)?.0.len(),
+        1000,
+    );
+    Ok(())
+}

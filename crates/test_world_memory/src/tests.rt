@@ -1,6 +1,7 @@
 //! Each request of a node fails in turn, and the calls of bins run while every request fails; likewise for slots and for worlds.
 
 mod drops;
+mod kinds;
 mod slot;
 mod world;
 mod world_rows;

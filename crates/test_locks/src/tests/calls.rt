@@ -20,7 +20,7 @@ impl Numbered for u64 {
 }
 
 // Does the steps of a call until it is done, and returns its reply.
-fn reply_of<K: Ord + Drop, V: Drop, A: Allocator + Copy, F: ComputeFn<K, V>, R: Wait>(
+pub(super) fn reply_of<K: Ord + Drop, V: Drop, A: Allocator + Copy, F: ComputeFn<K, V>, R: Wait>(
     rt: &R,
     locks: &Locks<K, V, A>,
     hash: u64,

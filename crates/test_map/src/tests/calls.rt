@@ -169,3 +169,21 @@ fn clears(rt: HostRuntime) -> Result<(), Fail> {
     same(&rt, empty.is_empty(&rt), true);
     clears_two_pairs(&rt, &two_pairs(&rt)?)
 }
+
+// Returns whether a map is empty and how many pairs it has, by itself and by a view of it.
+fn sizes<R: Wait>(rt: &R, map: &Numbers) -> ((bool, usize), (bool, usize)) {
+    let view = map.pin(rt);
+    (
+        (map.is_empty(rt), map.len(rt)),
+        (view.is_empty(), view.len()),
+    )
+}
+
+#[test]
+fn a_map_of_one_pair_is_not_empty(rt: HostRuntime) -> Result<(), Fail> {
+    let map = HashMap::with_hasher(rt.alloc(), LowHashBuilder);
+    same(&rt, sizes(&rt, &map), ((true, 0), (true, 0)));
+    map.insert(&rt, 1, 1)?;
+    same(&rt, sizes(&rt, &map), ((false, 1), (false, 1)));
+    Ok(())
+}

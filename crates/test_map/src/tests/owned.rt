@@ -114,3 +114,13 @@ fn a_value_has_its_other_owner_still(rt: HostRuntime) -> Result<(), Fail> {
     same(&rt, *value, 0);
     Ok(())
 }
+
+// What was written to a shared map of an owned one goes by a `retain`, as in any other.
+#[test]
+fn a_written_pair_of_an_owned_map_goes(rt: HostRuntime) -> Result<(), Fail> {
+    let map = shared(&rt, owned(rt.alloc(), LowHashBuilder, 3)?)?;
+    same(&rt, taken(map.insert(&rt, 1, 7)?), Some(1));
+    map.retain(&rt, |_, _| false)?;
+    same(&rt, map.is_empty(&rt), true);
+    Ok(())
+}

@@ -27,6 +27,7 @@ type Owned<A> = SeqMap<u64, u64, LowHashBuilder, A>;
 #[derive(Clone, Copy)]
 enum Call {
     Insert,
+    Replace,
     TryInsert,
     Compute,
     Get,
@@ -37,6 +38,7 @@ enum Call {
 fn is_done<A: Allocator + Copy, R: Wait>(rt: &R, map: &Numbers<A>, call: Call) -> bool {
     match call {
         Call::Insert => map.insert(rt, 99, 1).is_ok(),
+        Call::Replace => map.insert(rt, 0, 1).is_ok(),
         Call::TryInsert => map.try_insert(rt, 99, 1).is_ok(),
         Call::Compute => map.compute_if_present(rt, &0, |_, _| Some(1)).is_ok(),
         Call::Get => map.get(rt, &0).is_ok(),
@@ -110,6 +112,7 @@ fn each_request_of_a_call(rt: HostRuntime) -> Result<(), Fail> {
     let memory = Metered::leaked(rt.alloc())?;
     refuse_each(&rt, memory, 0, Call::Insert, 5)?;
     refuse_each(&rt, memory, 1, Call::Insert, 3)?;
+    refuse_each(&rt, memory, 1, Call::Replace, 1)?;
     refuse_each(&rt, memory, 0, Call::TryInsert, 5)?;
     refuse_each(&rt, memory, 1, Call::TryInsert, 3)?;
     refuse_each(&rt, memory, 0, Call::Compute, 0)?;
@@ -252,5 +255,30 @@ fn threads_without_memory(rt: HostRuntime) -> Result<(), Fail> {
         drop(map);
         same(&rt, memory.blocks(), 0);
     }
+    Ok(())
+}
+
+// A map with room for a thousand pairs asks for no further table, nor does the owned one that it becomes.
+#[test]
+fn room_is_made_once(rt: HostRuntime) -> Result<(), Fail> {
+    let memory = Metered::leaked(rt.alloc())?;
+    memory.refuse_nothing();
+    let map: Numbers<Memory> = HashMap::with_capacity_and_hasher(memory, 1000, LowHashBuilder)?;
+    for key in 0..1000u64 {
+        map.insert(&rt, key, key)?;
+    }
+    same(&rt, memory.asked(), 3002);
+    memory.refuse_nothing();
+    drop(map.into_seq(&rt)?);
+    same(&rt, memory.asked(), 1001);
+    Ok(())
+}
+
+// Large tables are made, where there is memory.
+#[test]
+fn much_room(rt: HostRuntime) -> Result<(), Fail> {
+    let map: HashMap<u64, u64> = HashMap::with_capacity(rt.alloc(), 5000)?;
+    map.reserve(&rt, 40_000)?;
+    same(&rt, map.len(&rt), 0);
     Ok(())
 }

@@ -2,7 +2,9 @@
 
 use super::{number_at, same, taken};
 use flurry_map::HashMap;
+use flurry_map::iter::{Iter, Keys, Values};
 use flurry_model::hash::{KeyHasher, MaxHashBuilder, ZeroHashBuilder};
+use std::alloc::AllocError;
 use std::process::Abort;
 use std::sync::Wait;
 use std::test::Fail;
@@ -99,12 +101,57 @@ fn remove_half<R: Wait>(rt: &R, map: &HashMap<u64, u64>) -> u64 {
     removed
 }
 
+// How many pairs an iterator has left. It borrows it, since each way out of a body that owns it has a proof of its drop.
+fn count_pairs<R: Wait>(pairs: &mut Iter<'_, R, u64, u64>) -> Result<u64, AllocError> {
+    let mut count = 0u64;
+    for _ in 0..=KEYS {
+        if pairs.next()?.is_none() {
+            break;
+        }
+        count = count.saturating_add(1);
+    }
+    Ok(count)
+}
+
+// How many keys an iterator has left.
+fn count_keys<R: Wait>(keys: &mut Keys<'_, R, u64, u64>) -> Result<u64, AllocError> {
+    let mut count = 0u64;
+    for _ in 0..=KEYS {
+        if keys.next()?.is_none() {
+            break;
+        }
+        count = count.saturating_add(1);
+    }
+    Ok(count)
+}
+
+// How many values an iterator has left.
+fn count_values<R: Wait>(values: &mut Values<'_, R, u64, u64>) -> Result<u64, AllocError> {
+    let mut count = 0u64;
+    for _ in 0..=KEYS {
+        if values.next()?.is_none() {
+            break;
+        }
+        count = count.saturating_add(1);
+    }
+    Ok(count)
+}
+
+// How many pairs, keys and values the iterators of a map give.
+fn counts<R: Wait>(rt: &R, map: &HashMap<u64, u64>) -> Result<(u64, u64, u64), AllocError> {
+    let pairs = count_pairs(&mut map.iter(rt))?;
+    let keys = count_keys(&mut map.keys(rt))?;
+    let values = count_values(&mut map.values(rt))?;
+    Ok((pairs, keys, values))
+}
+
 fn halves_and_fills<R: Abort + Wait>(rt: &R, map: &HashMap<u64, u64>) -> Result<(), Fail> {
     same(rt, insert_all(rt, map)?, 50_000);
     same(rt, insert_all(rt, map)?, 0);
     same(rt, remove_half(rt, map), 25_000);
     same(rt, insert_all(rt, map)?, 25_000);
     same(rt, map.len(rt), 50_000);
+    same(rt, counts(rt, map)?, (50_000, 50_000, 50_000));
     Ok(())
 }
 

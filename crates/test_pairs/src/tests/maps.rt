@@ -49,6 +49,28 @@ fn pairs_of_no_key_twice(rt: HostRuntime) {
     same(&rt, fault(&rt, []), None);
 }
 
+// The list of a hundred pairs, whose keys are those below a hundred, but for one at a place.
+fn hundred(rt: &(impl Abort + AllocGlobal), place: usize, key: u64) -> Vec<(u64, u64)> {
+    let mut list = Vec::new(rt.alloc());
+    for number in 0..100u64 {
+        let stood = if number == place as u64 { key } else { number };
+        list.push((stood, number))
+            .expect(rt, "memory for the pairs");
+    }
+    list
+}
+
+// Each place of a longer list is looked at, and tells where a key stood before.
+#[test]
+fn a_hundred_pairs(rt: HostRuntime) {
+    for place in [6, 50, 99] {
+        let fault = from_pairs(SortedPairs(hundred(&rt, place, 3)), LowHashBuilder).err();
+        same(&rt, fault, Some(FromPairsError::DoubledKey(place)));
+    }
+    let map = from_pairs(SortedPairs(hundred(&rt, 50, 50)), LowHashBuilder);
+    same(&rt, map.map(|map| map.len()).ok(), Some(100));
+}
+
 #[test]
 fn there_and_back(rt: HostRuntime) {
     let map = five(&rt);

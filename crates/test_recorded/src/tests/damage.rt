@@ -49,6 +49,20 @@ fn two_shares_fit(rt: HostRuntime) {
 }
 
 #[test]
+fn three_shares_fit(rt: HostRuntime) {
+    let map = Numbers::with_hasher(rt.alloc(), LowHashBuilder);
+    let (first, second) = three_calls(&rt, &map);
+    let mut third = share_of(&rt, &map);
+    look(&rt, &map, &mut third, 1);
+    same(
+        &rt,
+        [first.number(), second.number(), third.number()],
+        [0, 1, 2],
+    );
+    ends(&rt, map, [third, first, second], Ok((4, 1, Some(1))));
+}
+
+#[test]
 fn a_share_is_missing(rt: HostRuntime) {
     let map = Numbers::with_hasher(rt.alloc(), LowHashBuilder);
     let (first, _) = three_calls(&rt, &map);

@@ -1,6 +1,6 @@
 //! Two threads with a share each.
 
-use super::{NumberShare, Numbers, ends, same, share_of};
+use super::{NumberShare, Numbers, ends, reply, same, share_of};
 use flurry_model::hash::{KeyHasher, LowHashBuilder};
 use flurry_recorded::{CloseFault, KeptReply, Recorded, Share};
 use std::alloc::Allocator;
@@ -9,18 +9,24 @@ use std::sync::Wait;
 use std::thread;
 use std::thread::Threads;
 
-// Makes 100 calls for a share: at each of 50 keys, which recur, an insertion and a look-up. None where one is refused.
+// Makes 100 calls for a share: 49 times an insertion and a look-up, at keys that recur, and two look-ups of an absent key, which have
+// one call and one reply whatever the other thread does. None where one is refused.
 fn make_calls<S: KeyHasher<u64>, A: Allocator + Copy, R: Wait>(
     rt: &R,
     map: &Recorded<u64, u64, S, A>,
     mut share: Share<u64, u64, A>,
 ) -> Option<Share<u64, u64, A>> {
-    for call in 0..50u64 {
+    for call in 0..49u64 {
         let key = call % 8;
         if map.insert(rt, &mut share, key, call).is_err() {
             return None;
         }
         if map.get(rt, &mut share, key).is_err() {
+            return None;
+        }
+    }
+    for _ in 0..2u32 {
+        if map.get(rt, &mut share, 99).is_err() {
             return None;
         }
     }
@@ -81,4 +87,47 @@ fn another_reply_to_a_thread(rt: HostRuntime) {
     let damaged = first.replace_receipt(40, place, KeptReply::Contains(true));
     same(&rt, damaged, true);
     ends(&rt, map, [first, second], Err(CloseFault::ReceiptsDiffer));
+}
+
+#[test]
+fn a_share_of_another_map_beside_threads(rt: HostRuntime) {
+    let map = Recorded::with_hasher(rt.alloc(), LowHashBuilder);
+    let other = Recorded::with_hasher(rt.alloc(), LowHashBuilder);
+    let (first, second) = shares_of_threads(&rt, &map);
+    let third = share_of(&rt, &other);
+    ends(
+        &rt,
+        map,
+        [first, second, third],
+        Err(CloseFault::SharesDiffer),
+    );
+}
+
+// The place of a receipt.
+fn place_of(share: &NumberShare, at: usize) -> usize {
+    share.receipts().get(at).map_or(0, |receipt| receipt.place)
+}
+
+// Gives one of a share's last two receipts, which have one reply, this place.
+fn set_place(rt: &impl Abort, share: &mut NumberShare, at: usize, place: usize) {
+    same(rt, share.replace_receipt(at, place, reply(None)), true);
+}
+
+#[test]
+fn one_place_twice_in_a_thread(rt: HostRuntime) {
+    let map = Recorded::with_hasher(rt.alloc(), LowHashBuilder);
+    let (mut first, second) = shares_of_threads(&rt, &map);
+    let place = place_of(&first, 98);
+    set_place(&rt, &mut first, 99, place);
+    ends(&rt, map, [first, second], Err(CloseFault::PlacesDiffer));
+}
+
+#[test]
+fn places_of_a_thread_out_of_order(rt: HostRuntime) {
+    let map = Recorded::with_hasher(rt.alloc(), LowHashBuilder);
+    let (mut first, second) = shares_of_threads(&rt, &map);
+    let (place, last) = (place_of(&first, 98), place_of(&first, 99));
+    set_place(&rt, &mut first, 98, last);
+    set_place(&rt, &mut first, 99, place);
+    ends(&rt, map, [first, second], Err(CloseFault::PlacesDiffer));
 }

@@ -107,6 +107,7 @@ fn equals_its_like<R: Abort + Wait + AllocGlobal>(
     same(rt, map.equals(rt, other)?, true);
     same(rt, map.equals(rt, map)?, true);
     same(rt, equals_further(rt, map, 19, 0)?, false);
+    same(rt, equals_further(rt, map, 21, 0)?, false);
     same(rt, equals_further(rt, map, 20, 1)?, false);
     Ok(())
 }
@@ -138,4 +139,14 @@ fn compares<R: Abort + Wait + AllocGlobal>(
 fn equal_maps(rt: HostRuntime) -> Result<(), Fail> {
     let map = seeded(&rt, 20, 0, 1)?;
     compares(&rt, &map, &seeded(&rt, 20, 0, 2)?)
+}
+
+// Pairs are inserted in their order: of a key that comes twice the last value stands.
+#[test]
+fn a_doubled_key_in_a_list(rt: HostRuntime) -> Result<(), Fail> {
+    let pairs = Vec::from_array(rt.alloc(), [(1u64, 10u64), (2, 20), (1, 30)])?;
+    let map = HashMap::from_list(&rt, pairs, LowHashBuilder)?;
+    has_sums(&rt, &map, (2, 3, 50))?;
+    map.extend(&rt, Vec::from_array(rt.alloc(), [(2u64, 1u64), (2, 2)])?)?;
+    has_sums(&rt, &map, (2, 3, 32))
 }

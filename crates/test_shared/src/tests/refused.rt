@@ -141,3 +141,35 @@ fn an_extension(rt: HostRuntime) -> Result<(), Fail> {
     );
     Ok(())
 }
+
+// Room is made first: a hundred pairs ask for the tables of that room, and for three blocks each.
+#[test]
+fn room_is_made_first(rt: HostRuntime) -> Result<(), Fail> {
+    let memory = Metered::leaked(rt.alloc())?;
+    let pairs = list(memory, 0, 100, 0)?;
+    memory.refuse_nothing();
+    let map: Numbers<Memory> = HashMap::from_list(&rt, pairs, LowHashBuilder)?;
+    same(&rt, memory.asked(), 302);
+    memory.refuse_nothing();
+    drop(map.try_clone(&rt)?);
+    same(&rt, memory.asked(), 103);
+    let other: Numbers<Memory> = HashMap::with_hasher(memory, LowHashBuilder);
+    let pairs = list(memory, 0, 100, 0)?;
+    memory.refuse_nothing();
+    other.extend(&rt, pairs)?;
+    same(&rt, memory.asked(), 304);
+    Ok(())
+}
+
+// A map that is not empty makes room for half of a list: for a map of one pair in 16 bins and a list of eight, that is no further table.
+#[test]
+fn room_for_half_of_a_list(rt: HostRuntime) -> Result<(), Fail> {
+    let memory = Metered::leaked(rt.alloc())?;
+    let map: Numbers<Memory> = HashMap::with_hasher(memory, LowHashBuilder);
+    map.insert(&rt, 100, 0)?;
+    let pairs = list(memory, 0, 8, 0)?;
+    memory.refuse_nothing();
+    map.extend(&rt, pairs)?;
+    same(&rt, memory.asked(), 24);
+    Ok(())
+}

@@ -91,3 +91,41 @@ fn a_further_set(rt: HostRuntime) -> Result<(), Fail> {
     let set = set_of(&rt, rt.alloc(), &[1, 2])?;
     are_apart(&rt, &set, &set.try_clone(&rt)?)
 }
+
+// An element that compares, equals and hashes by its `id` alone.
+#[derive(Clone, Copy)]
+#[derive_where(Debug, PartialEq, Eq, PartialOrd, Ord, Hash)]
+struct Tagged {
+    id: u64,
+    #[derive_where(skip(EqHashOrd))]
+    tag: u64,
+}
+
+// The tag of the stored element of a number.
+fn tag_of<R: Wait>(
+    rt: &R,
+    set: &HashSet<Tagged, ZeroHashBuilder>,
+    id: u64,
+) -> Result<Option<u64>, AllocError> {
+    Ok(
+        set.get(rt, &Tagged { id, tag: 0 })?
+            .map(|element| element.tag),
+    )
+}
+
+// Of equal elements of a list the first stays, also where the set is extended.
+#[test]
+fn equal_elements_of_a_list(rt: HostRuntime) -> Result<(), Fail> {
+    let first = [Tagged { id: 1, tag: 10 }, Tagged { id: 1, tag: 20 }];
+    let list = Vec::from_array(rt.alloc(), first)?;
+    let set = HashSet::from_list(&rt, list, ZeroHashBuilder)?;
+    let more = [
+        Tagged { id: 1, tag: 30 },
+        Tagged { id: 2, tag: 40 },
+        Tagged { id: 2, tag: 50 },
+    ];
+    set.extend(&rt, Vec::from_array(rt.alloc(), more)?)?;
+    same(&rt, tag_of(&rt, &set, 1)?, Some(10));
+    same(&rt, tag_of(&rt, &set, 2)?, Some(40));
+    Ok(())
+}

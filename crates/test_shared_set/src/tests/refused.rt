@@ -175,3 +175,36 @@ fn a_set_with_room_by_default(rt: HostRuntime) -> Result<(), Fail> {
     }
     Ok(())
 }
+
+// Inserts a hundred numbers one after another, and returns how many requests that makes.
+fn requests_of_insertions<A: Allocator + Copy, R: Wait>(
+    rt: &R,
+    memory: &Metered<Global>,
+    set: &Numbers<A>,
+) -> Result<u64, AllocError> {
+    memory.refuse_nothing();
+    for number in 0..100u64 {
+        set.insert(rt, number)?;
+    }
+    Ok(memory.asked())
+}
+
+// A set with room makes no further table: a hundred elements ask for three blocks each.
+#[test]
+fn room_is_made_first(rt: HostRuntime) -> Result<(), Fail> {
+    let memory = Metered::leaked(rt.alloc())?;
+    let set: Numbers<Memory> = HashSet::with_capacity_and_hasher(memory, 100, LowHashBuilder)?;
+    same(&rt, requests_of_insertions(&rt, memory, &set)?, 300);
+    drop(set);
+    let numbers = list(memory, 0, 100)?;
+    memory.refuse_nothing();
+    let set: Numbers<Memory> = HashSet::from_list(&rt, numbers, LowHashBuilder)?;
+    same(&rt, memory.asked(), 302);
+    drop(set);
+    let set: Numbers<Memory> = HashSet::with_hasher(memory, LowHashBuilder);
+    let numbers = list(memory, 0, 100)?;
+    memory.refuse_nothing();
+    set.extend(&rt, numbers)?;
+    same(&rt, memory.asked(), 304);
+    Ok(())
+}

@@ -63,3 +63,13 @@ fn calls_of_a_view(rt: HostRuntime) -> Result<(), Fail> {
     let set = set_of(&rt, rt.alloc(), &[1, 2])?;
     changes_the_set(&rt, &set, &set.pin(&rt))
 }
+
+// A set of one element is not empty, nor is its view.
+#[test]
+fn a_set_of_one_element(rt: HostRuntime) -> Result<(), Fail> {
+    let set = set_of(&rt, rt.alloc(), &[7])?;
+    let view = set.pin(&rt);
+    same(&rt, (set.is_empty(&rt), view.is_empty()), (false, false));
+    same(&rt, (set.len(&rt), view.len()), (1, 1));
+    Ok(())
+}

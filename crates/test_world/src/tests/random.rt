@@ -204,6 +204,43 @@ fn random_steps<'k, F: ComputeFn<u64, u64> + Copy>(
     }
 }
 
+// 200 steps of four parties at a time, each of which is begun, or stepped, in one of four places. Where the call of a place has closed,
+// or none has begun there, another call begins in it, or every eighth time the removal of what was read last.
+fn steps_of_four<'k, F: ComputeFn<u64, u64> + Copy>(
+    rt: &impl Abort,
+    checked: &mut Checked<'k, F>,
+    random: &mut Random,
+    change: F,
+)
+    requires { (f : F) → F.can_change f }
+{
+    let mut places = [usize::MAX; 4];
+    for _ in 0..200u64 {
+        let place = random.below(4) as usize;
+        let party = places[place];
+        if party != usize::MAX && !checked.checker.is_closed(party) {
+            checked.step(rt, party);
+            continue;
+        }
+        let began = checked.steps.len();
+        let reader = checked.checker.reader();
+        if random.below(8) == 0 && checked.drop_seen(rt, reader) {
+            places[place] = began;
+        } else {
+            places[place] = checked.begin(rt, random_call(random, change));
+        }
+    }
+}
+
+// How the parties of a schedule are drawn.
+#[derive(Clone, Copy)]
+enum Drawing {
+    // Any of those that began, which are some 34.
+    Any,
+    // Four at a time.
+    Four,
+}
+
 // What schedules did: the number of calls that replied or ended, the number of growths that were published, and the numbers of removals of
 // what a walk had read that found it as it was read, or did not.
 #[derive(Clone, Copy)]
@@ -214,12 +251,12 @@ struct Totals {
     kept: u64,
 }
 
-// So many schedules, from a seed on.
+// What a thousand schedules did, from a seed on.
 fn schedules<F: ComputeFn<u64, u64> + Copy>(
     rt: &impl Abort,
     alloc: Global,
     seed: u64,
-    count: u64,
+    drawing: Drawing,
     change: F,
 ) -> Totals
     requires { (f : F) → F.can_change f }
@@ -231,9 +268,12 @@ fn schedules<F: ComputeFn<u64, u64> + Copy>(
         removed: 0,
         kept: 0,
     };
-    for _ in 0..count {
+    for _ in 0..1000u64 {
         let mut checked = Checked::new(rt, alloc, &mut random);
-        random_steps(rt, &mut checked, &mut random, change);
+        match drawing {
+            Drawing::Any => random_steps(rt, &mut checked, &mut random, change),
+            Drawing::Four => steps_of_four(rt, &mut checked, &mut random, change),
+        }
         let (removed, kept) = checked.checker.drops();
         totals.closed = totals.closed.wrapping_add(checked.closed);
         totals.growths = totals.growths.wrapping_add(checked.checker.growths());
@@ -245,27 +285,51 @@ fn schedules<F: ComputeFn<u64, u64> + Copy>(
     totals
 }
 
-// 1000 schedules of 200 steps each. About one step in six begins a call, so that some 34,000 calls begin. Most of them reply or end,
-// some hundred growths are published, and some hundred removals of what was read decide either way.
+// Doubles an even value, and removes the pair of an odd one.
+fn double_or_remove(_key: &u64, value: &u64) -> Option<u64> {
+    if *value % 2 == 0 {
+        Some(value.wrapping_mul(2))
+    } else {
+        None
+    }
+}
+
+// Sees to it that calls have closed, growths were published, and removals of what was read decided either way.
+fn did(rt: &impl Abort, totals: Totals, closed: u64, growths: u64, removals: u64) {
+    assert!(rt;
+        totals.closed >= closed
+            && totals.growths >= growths
+            && totals.removed >= removals
+            && totals.kept >= removals,
+        "{} closed, {} growths, {} removed and {} kept",
+        totals.closed,
+        totals.growths,
+        totals.removed,
+        totals.kept
+    );
+}
+
+// About one step in six begins a call, so that some 34,000 calls begin, of which most close.
 #[test]
 fn random_schedules(rt: HostRuntime) {
     let totals = schedules(
         &rt,
         rt.alloc(),
         88_172_645_463_325_252,
-        1000,
-        |_key: &u64, value: &u64| {
-            if *value % 2 == 0 {
-                Some(value.wrapping_mul(2))
-            } else {
-                None
-            }
-        },
+        Drawing::Any,
+        double_or_remove,
     );
-    let (closed, growths) = (totals.closed, totals.growths);
-    let (removed, kept) = (totals.removed, totals.kept);
-    assert!(rt;
-        closed >= 15_000 && growths >= 300 && removed >= 100 && kept >= 100,
-        "{closed}, {growths}, {removed} and {kept}"
+    did(&rt, totals, 15_000, 300, 100);
+}
+
+#[test]
+fn random_schedules_of_four_parties(rt: HostRuntime) {
+    let totals = schedules(
+        &rt,
+        rt.alloc(),
+        88_172_645_463_325_252,
+        Drawing::Four,
+        double_or_remove,
     );
+    did(&rt, totals, 15_000, 300, 100);
 }

@@ -191,9 +191,11 @@ fn stops_for_good<'k, F: ComputeFn<u64, u64> + Copy>(rt: &impl Abort, world: &mu
     requires { (f : F) → F.can_change f }
 {
     half_grows(rt, world);
-    let lines = [Line::Silent(3), Line::Decide(3, value(None))];
-    assert_call(rt, world, 3, OwnedCall::Insert(114, 1), &lines);
-    same(rt, end_of(rt, world, 3), Line::Reply(3, value(None)));
+    assert_call(rt, world, 3, OwnedCall::Get(50), &found(3, 50));
+    assert_call(rt, world, 4, OwnedCall::Get(2), &found_further_on(4, 2));
+    let lines = [Line::Silent(5), Line::Decide(5, value(None))];
+    assert_call(rt, world, 5, OwnedCall::Insert(114, 1), &lines);
+    same(rt, end_of(rt, world, 5), Line::Reply(5, value(None)));
     others_end(rt, world);
     nothing_published(rt, world);
 }

@@ -22,7 +22,7 @@ const MOST: u64 = 1000;
 
 // How a call closes.
 #[derive(Clone, Copy, Debug, PartialEq, Eq)]
-enum Close {
+pub(super) enum Close {
     Reply(KeptReply<u64, u64>),
     End,
     Refused,
@@ -30,7 +30,7 @@ enum Close {
 
 // What the failure of one of its requests did to a call.
 #[derive(Clone, Copy, Debug, PartialEq, Eq)]
-enum Told {
+pub(super) enum Told {
     // A step failed, and succeeded when it was repeated.
     Step,
     // The call failed.
@@ -93,14 +93,18 @@ fn whole<F: ComputeFn<u64, u64> + Copy>(
 }
 
 // Returns the reply of a look-up of the key.
-fn value<F: ComputeFn<u64, u64> + Copy>(rt: &impl Abort, world: &mut Numbers<F>, key: u64) -> Close
+pub(super) fn value<F: ComputeFn<u64, u64> + Copy>(
+    rt: &impl Abort,
+    world: &mut Numbers<F>,
+    key: u64,
+) -> Close
     requires { (f : F) → F.can_change f }
 {
     whole(rt, world, OwnedCall::Get(key))
 }
 
 // Returns the reply of a value, or of `None`.
-fn reply(value: Option<u64>) -> Close {
+pub(super) fn reply(value: Option<u64>) -> Close {
     Close::Reply(KeptReply::Value(value))
 }
 
@@ -150,7 +154,7 @@ pub(super) fn world_for<F: ComputeFn<u64, u64> + Copy>(
 }
 
 // Returns a world of the keys below `count`, each with itself as its value.
-fn world_of<F: ComputeFn<u64, u64> + Copy>(
+pub(super) fn world_of<F: ComputeFn<u64, u64> + Copy>(
     rt: &impl Abort,
     memory: Memory,
     count: u64,
@@ -165,7 +169,7 @@ fn world_of<F: ComputeFn<u64, u64> + Copy>(
 }
 
 // Makes the call while one request fails. Returns what that did to the call, and how the call closed, or `None` if it made no such request.
-fn refused_at<F: ComputeFn<u64, u64> + Copy>(
+pub(super) fn refused_at<F: ComputeFn<u64, u64> + Copy>(
     rt: &impl Abort,
     memory: Memory,
     world: &mut Numbers<F>,
