@@ -71,7 +71,7 @@ impl<K: Ord, V, S: KeyHasher<K>, A: Allocator> Model for SeqMap<K, V, S, A> {
 }
 
 impl<K: Hash + Ord + Drop, V: Drop, A: Allocator> SeqMap<K, V, DefaultHashBuilder, A> {
-    /// Creates an empty map without a table, which uses the default hasher with seed 0. Takes no memory.
+    /// Creates an empty map without a table, with the default hasher whose seed is zero. Takes no memory.
     ///
     /// ```
     /// let mut map: SeqMap<u64, u64> = SeqMap::new(rt.alloc());
@@ -88,7 +88,7 @@ impl<K: Hash + Ord + Drop, V: Drop, A: Allocator> SeqMap<K, V, DefaultHashBuilde
         SeqMap::with_hasher(alloc, DefaultHashBuilder::default())
     }
 
-    /// Creates an empty map with room for `capacity` pairs, which uses the default hasher with seed 0. If `capacity` is `0`, the map has no
+    /// Creates an empty map with room for `capacity` pairs, with the default hasher whose seed is zero. If `capacity` is `0`, the map has no
     /// table.
     ///
     /// Linear in the number of bins.

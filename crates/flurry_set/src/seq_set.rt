@@ -51,7 +51,7 @@ impl<T: Ord, S: KeyHasher<T>, A: Allocator> Model for SeqSet<T, S, A> {
 }
 
 impl<T: Hash + Ord + Drop, A: Allocator> SeqSet<T, DefaultHashBuilder, A> {
-    /// Creates an empty set without a table, which uses the default hasher with seed 0. Takes no memory.
+    /// Creates an empty set without a table, with the default hasher whose seed is zero. Takes no memory.
     ///
     /// ```
     /// let mut set: SeqSet<u64> = SeqSet::new(rt.alloc());
@@ -68,7 +68,7 @@ impl<T: Hash + Ord + Drop, A: Allocator> SeqSet<T, DefaultHashBuilder, A> {
         SeqSet::with_hasher(alloc, DefaultHashBuilder::default())
     }
 
-    /// Creates an empty set with room for `capacity` elements, which uses the default hasher with seed 0. If `capacity` is `0`, the set has
+    /// Creates an empty set with room for `capacity` elements, with the default hasher whose seed is zero. If `capacity` is `0`, the set has
     /// no table.
     ///
     /// Linear in the number of bins.
