@@ -158,22 +158,6 @@ impl<'m, R: Wait, K: Ord + Drop, V: Drop, S: KeyHasher<K>, A: Allocator + Copy> 
     /// Returns an iterator over the pairs. Other calls may run meanwhile.
     ///
     /// Takes the control's lock if no table is known to be published. Takes no memory. Constant time.
-    ///
-    /// ```
-    /// let map: HashMap<u64, u64> = HashMap::new(rt.alloc());
-    /// let view = map.pin(&rt);
-    /// view.insert(37, 1)?;
-    /// view.insert(38, 2)?;
-    /// let mut sum: u64 = 0;
-    /// let mut pairs = view.iter();
-    /// for _ in rt.forever() {
-    ///     let Some((key, value)) = pairs.next()? else {
-    ///         break;
-    ///     };
-    ///     sum = sum.saturating_add(*key).saturating_add(*value);
-    /// }
-    /// assert_eq!(rt; sum, 78);
-    /// ```
     // No contract specifies which pairs it gives, since other threads change them meanwhile.
     pub fn iter(&self) -> Iter<'m, R, K, V, A>
         ensures { Begins K.cmp result }

@@ -254,21 +254,6 @@ impl<T: Ord + Drop, S: KeyHasher<T>, A: Allocator + Copy> HashSet<T, S, A> {
     }
 
     /// Returns an iterator that gives clones of the `Arc`s of the elements. Other calls may run meanwhile. See [`HashMap::iter`].
-    ///
-    /// ```
-    /// let set: HashSet<u64> = HashSet::new(rt.alloc());
-    /// set.insert(&rt, 37)?;
-    /// set.insert(&rt, 38)?;
-    /// let mut sum: u64 = 0;
-    /// let mut elements = set.iter(&rt);
-    /// for _ in rt.forever() {
-    ///     let Some(element) = elements.next()? else {
-    ///         break;
-    ///     };
-    ///     sum = sum.saturating_add(*element);
-    /// }
-    /// assert_eq!(rt; sum, 75);
-    /// ```
     pub fn iter<'m, R: Wait>(&'m self, rt: &'m R) -> Keys<'m, R, T, (), A>
         ensures { Begins T.cmp result }
     {

@@ -209,22 +209,6 @@ impl<'m, R: Wait, T: Ord + Drop, S: KeyHasher<T>, A: Allocator + Copy> HashSetRe
     }
 
     /// Returns an iterator that gives clones of the `Arc`s of the elements. Other calls may run meanwhile. See [`HashMapRef::iter`].
-    ///
-    /// ```
-    /// let set: HashSet<u64> = HashSet::new(rt.alloc());
-    /// let view = set.pin(&rt);
-    /// view.insert(37)?;
-    /// view.insert(38)?;
-    /// let mut sum: u64 = 0;
-    /// let mut elements = view.iter();
-    /// for _ in rt.forever() {
-    ///     let Some(element) = elements.next()? else {
-    ///         break;
-    ///     };
-    ///     sum = sum.saturating_add(*element);
-    /// }
-    /// assert_eq!(rt; sum, 75);
-    /// ```
     pub fn iter(&self) -> Keys<'m, R, T, (), A>
         ensures { Begins T.cmp result }
     {

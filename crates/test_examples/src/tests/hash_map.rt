@@ -83,23 +83,6 @@ fn compute_if_present(rt: HostRuntime) -> Result<(), Fail> {
 }
 
 #[test]
-fn iter(rt: HostRuntime) -> Result<(), Fail> {
-    let map: HashMap<u64, u64> = HashMap::new(rt.alloc());
-    map.insert(&rt, 37, 1)?;
-    map.insert(&rt, 38, 2)?;
-    let mut sum: u64 = 0;
-    let mut pairs = map.iter(&rt);
-    for _ in rt.forever() {
-        let Some((key, value)) = pairs.next()? else {
-            break;
-        };
-        sum = sum.saturating_add(*key).saturating_add(*value);
-    }
-    assert_eq!(rt; sum, 78);
-    Ok(())
-}
-
-#[test]
 fn retain(rt: HostRuntime) -> Result<(), Fail> {
     let map: HashMap<u64, u64> = HashMap::new(rt.alloc());
     map.insert(&rt, 37, 1)?;

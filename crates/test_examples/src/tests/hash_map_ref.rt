@@ -72,24 +72,6 @@ fn compute_if_present(rt: HostRuntime) -> Result<(), Fail> {
 }
 
 #[test]
-fn iter(rt: HostRuntime) -> Result<(), Fail> {
-    let map: HashMap<u64, u64> = HashMap::new(rt.alloc());
-    let view = map.pin(&rt);
-    view.insert(37, 1)?;
-    view.insert(38, 2)?;
-    let mut sum: u64 = 0;
-    let mut pairs = view.iter();
-    for _ in rt.forever() {
-        let Some((key, value)) = pairs.next()? else {
-            break;
-        };
-        sum = sum.saturating_add(*key).saturating_add(*value);
-    }
-    assert_eq!(rt; sum, 78);
-    Ok(())
-}
-
-#[test]
 fn retain(rt: HostRuntime) -> Result<(), Fail> {
     let map: HashMap<u64, u64> = HashMap::new(rt.alloc());
     let view = map.pin(&rt);

@@ -43,24 +43,6 @@ fn remove(rt: HostRuntime) -> Result<(), Fail> {
 }
 
 #[test]
-fn iter(rt: HostRuntime) -> Result<(), Fail> {
-    let set: HashSet<u64> = HashSet::new(rt.alloc());
-    let view = set.pin(&rt);
-    view.insert(37)?;
-    view.insert(38)?;
-    let mut sum: u64 = 0;
-    let mut elements = view.iter();
-    for _ in rt.forever() {
-        let Some(element) = elements.next()? else {
-            break;
-        };
-        sum = sum.saturating_add(*element);
-    }
-    assert_eq!(rt; sum, 75);
-    Ok(())
-}
-
-#[test]
 fn retain(rt: HostRuntime) -> Result<(), Fail> {
     let set: HashSet<u64> = HashSet::new(rt.alloc());
     let view = set.pin(&rt);
