@@ -1,6 +1,6 @@
-//! The examples in the doc comments of the library. Those with assertions are the tests of this crate. The others are bodies of its
-//! functions, or impls in it, without a proof file; some are functions of the crate `test_callers`, and those of what `flurry` does not
-//! re-export are in the crates of tests.
+//! The examples in the doc comments of the library that have no assertions: bodies of functions, or impls, without a proof file. Those with
+//! assertions are the tests of `test_doc_examples`; some examples are functions of the crate `test_callers`, and those of what `flurry` does
+//! not re-export are in the crates of tests.
 #![tactic(auto)]
 
 pub mod bins;
@@ -14,7 +14,5 @@ pub mod recorded;
 pub mod sets;
 pub mod shared;
 pub mod steps;
-#[cfg(test)]
-mod tests;
 pub mod walks;
 pub mod world;

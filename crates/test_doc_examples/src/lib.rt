@@ -1,0 +1,5 @@
+//! The examples with assertions in the doc comments of the maps, the sets and their views, as tests.
+#![tactic(auto)]
+
+#[cfg(test)]
+mod tests;
