@@ -1,5 +1,5 @@
 -- An insertion at a place, into a tree and into a list, and what is known of the entries after it.
-use Rattle.std.proofs.Common.{◌≡◌, ℕ, ◌+◌, arith, true, false, List, [], ◌∷◌, ◌++◌, length, reverse, ◌≤◌, Option, Some, None, Result, Ok, Err, IfOk, OnErr, refl, sym, ap, ◌∙◌, cond, append_assoc}
+use Rattle.std.proofs.Common.{◌≡◌, ℕ, ◌+◌, arith, Bool, true, false, List, [], ◌∷◌, ◌++◌, length, reverse, ◌≤◌, Option, Some, None, Result, Ok, Err, IfOk, OnErr, refl, sym, ap, ◌∙◌, cond, append_assoc}
 use Rattle.std.specs.List.{filter}
 use Rattle.std.specs.declared.cmp.Ordering.{Ordering}
 use Rattle.std.specs.declared.cmp.Ordering.TheVariants.{Less, Greater}
@@ -8,10 +8,12 @@ use Rattle.std.specs.Cmp.{IsTotalOrder}
 use Rattle.std.specs.Option.{option_map, is_some, IsNone}
 use Rattle.std.specs.Arc.{arc_value}
 use Rattle.std.specs.declared.sync.Arc.{Arc}
-use Rattle.std.specs.declared.alloc.AllocError.{AllocError}
 use Rattle.flurry_bins.specs.declared.bin.entry.Entry.{Entry}
+use Rattle.flurry_bins.specs.declared.bin.given.NotInserted.{NotInserted}
+use Rattle.flurry_bins.specs.declared.bin.given.Replaced.{Replaced}
 use Rattle.flurry_bins.specs.declared.bin.node.Colour.{Colour}
 use Rattle.flurry_bins.specs.Entries.{place_cmp, entry_cmp, IsAscending, is_at, is_before, is_past, entry_at, with_entry, with_value, AllBefore, IsEntryOf, IsInsertion}
+use Rattle.flurry_bins.specs.Given.{old_of}
 use Rattle.flurry_bins.specs.Balance.{balance_left, balance_right, put_tree, with_black_root}
 use Rattle.flurry_bins.specs.Rewrite.{tree_with_value, tree_value}
 use Rattle.flurry_bins.specs.Tree.{Tree, fork, inorder, IsRedBlack}
@@ -31,6 +33,11 @@ no_entry f (Some x) h = cc
 none_is : {X : Type 0} (o : Option X) → o ≡ None → IsNone o
 none_is None h = refl
 none_is (Some x) h = cc
+
+-- an old value comes back just where a pair does
+pub old_of-some : {K V A : Type 0} (r : Option (Replaced K V A)) {b : Bool} → is_some r ≡ b → is_some (old_of r) ≡ b
+old_of-some None is = is
+old_of-some (Some it) is = is
 
 module _ {K V A : Type 0} (cmp : K → K → Ordering) (h : ℕ) (k : K) (v : Arc V A) (n : ℕ) (c : Colour) (l : Tree (Entry K V A)) (e : Entry K V A) (r : Tree (Entry K V A)) where
   led : {s : Ordering} → place_cmp cmp h k e ≡ s → tree_value cmp h k (fork c l e r) ≡ match_ordering s (tree_value cmp h k l) (Some e.value) (tree_value cmp h k r)
@@ -120,9 +127,9 @@ module _ {K V A : Type 0} {cmp : K → K → Ordering} (o : IsTotalOrder cmp) (h
   insertion-as_long None es new is i = cc
   insertion-as_long (Some old) es new is i = ap length i.1 ∙ length-with_value_at cmp h k v n es
 
-  pub insertion-no_shorter : (r : Result (Option (Arc V A)) AllocError) (es new : List (Entry K V A)) → IsAscending cmp es → IfOk r (λ old. IsInsertion cmp h k v n old es new) → OnErr r (new ≡ es) → length es ≤ length new
+  pub insertion-no_shorter : (r : Result (Option (Replaced K V A)) (NotInserted K V A)) (es new : List (Entry K V A)) → IsAscending cmp es → IfOk r (λ it. IsInsertion cmp h k v n (old_of it) es new) → OnErr r (new ≡ es) → length es ≤ length new
   insertion-no_shorter (Ok None) es new up ok err = omega (arith, insertion-longer None es new refl up ok)
-  insertion-no_shorter (Ok (Some old)) es new up ok err = omega (arith, insertion-as_long (Some old) es new refl ok)
+  insertion-no_shorter (Ok (Some it)) es new up ok err = omega (arith, insertion-as_long (Some it.old) es new refl ok)
   insertion-no_shorter (Err e) es new up ok err = omega (arith, ap length err)
 
   -- into a list that nothing stands before the place in

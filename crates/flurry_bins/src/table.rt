@@ -1,19 +1,21 @@
 //! Insertion into a bin of a table, and a value with two owners. The sizes of tables, the place of a hash in a table and the replies of
 //! calls are re-exported from [`flurry_model`].
-ghost use Rattle.std.specs.Prelude.{◌≡◌, ◌<◌, ◌==◌, ◌&&◌, not, length, IfOk, OnErr, IsNone, is_some, if◌then◌else◌};
+ghost use Rattle.std.specs.Prelude.{◌≡◌, ◌<◌, ◌==◌, ◌&&◌, not, length, IfErr, IfOk, OnErr, IsNone, is_some, if◌then◌else◌};
 ghost use Rattle.std.specs.Arc.{arc_value};
 ghost use Rattle.flurry_bins.specs.Bin.{entries_of_bin, is_tree};
 ghost use Rattle.flurry_bins.specs.Chain.{entry_of};
+ghost use Rattle.flurry_bins.specs.Given.{given_of, IsNotInserted};
+ghost use Rattle.flurry_bins.specs.Inserted.{replaced_by, asks_by, IfReplaced};
 ghost use Rattle.flurry_bins.specs.Entries.{entry_at, with_entry, IsInsertion};
 ghost use Rattle.flurry_model.specs.BinSizes.{grows_into_tree, asks_for_growth};
 ghost use Rattle.flurry_model.specs.declared.sizes.TheConstants.{LONG_LIST, MOST_PAIRS};
 
-use crate::bin::{Bin, BoxedNode, Ordered, Shape};
+use crate::bin::{Bin, BoxedNode, Given, NotInserted, Ordered, Replaced, Shape};
 pub use flurry_model::reply::KeptReply;
 use flurry_model::sizes::{LEAST_FOR_TREES, LONG_LIST};
 pub use flurry_model::sizes::{MOST_BINS, bin_index, stride, threshold, wanted};
 pub use flurry_model::try_insert::TryInsertError;
-use std::alloc::{AllocError, Allocator};
+use std::alloc::{Allocator, Global};
 use std::sync::Arc;
 
 // Whether one more entry turns the bin into a tree, if the table is large, or else makes it ask for a larger table.
@@ -50,15 +52,33 @@ pub fn put_in_table<K: Ord + Drop, V: Drop, A: Allocator>(
     is_long && bins < LEAST_FOR_TREES
 }
 
-/// Sets the value at a hash and a key in their bin, in a table of `bins` bins, in one pass down the bin. Returns the old value, or `None`
-/// if the key was absent, and whether the bin asks for a larger table, as in [`put_in_table`], which it does for a new key only.
+/// What an insertion into a bin did.
+///
+/// ```
+/// match inserted {
+///     Inserted::New { asks_for_growth } => asks_for_growth,
+///     Inserted::Replaced(_) => false,
+/// }
+/// ```
+#[derive(Drop)]
+pub enum Inserted<K, V, A: Allocator = Global> {
+    /// The key is new.
+    New {
+        /// Whether the bin asks for a larger table.
+        asks_for_growth: bool,
+    },
+    /// The key was present: the key that was passed in, and the value that the key had.
+    Replaced(Replaced<K, V, A>),
+}
+
+/// Sets the value at a hash and a key in their bin, in a table of `bins` bins, in one pass down the bin. Returns whether the key is new, and
+/// whether the bin asks for a larger table, as in [`put_in_table`]; if the key was present, returns the old value.
 ///
 /// As many steps as a look-up. If the key is absent, memory for the key and for a node is taken; if it is present, the stored key stays.
 ///
 /// # Errors
 ///
-/// Returns [`AllocError`] if memory for the key or for the node cannot be allocated. The entries are unchanged, and the key and the value
-/// are dropped.
+/// Returns the key and the value if memory for the key or for the node cannot be allocated. The entries are unchanged.
 pub fn insert_in_table<K: Ord + Drop, V: Drop, A: Allocator + Copy>(
     bin: &mut Bin<K, V, A>,
     alloc: A,
@@ -67,41 +87,57 @@ pub fn insert_in_table<K: Ord + Drop, V: Drop, A: Allocator + Copy>(
     value: Arc<V, A>,
     number: u64,
     bins: usize,
-) -> Result<(Option<Arc<V, A>>, bool), AllocError>
+) -> Result<Inserted<K, V, A>, NotInserted<K, V, A>>
     requires { length (entries_of_bin bin.old) < MOST_PAIRS }
-    ensures entries { IfOk result (λ r.
-        IsInsertion K.cmp hash key value number r.0 (entries_of_bin bin.old) (entries_of_bin bin.new)) }
-    ensures kind { IfOk result (λ r. is_tree bin.new ≡ (if is_some r.0 then is_tree bin.old
+    ensures entries { IfOk result (λ r. IsInsertion K.cmp hash key value number (replaced_by r)
+        (entries_of_bin bin.old) (entries_of_bin bin.new)) }
+    ensures kind { IfOk result (λ r. is_tree bin.new ≡ (if is_some (replaced_by r) then is_tree bin.old
         else grows_into_tree bins (is_tree bin.old) (length (entries_of_bin bin.old)))) }
-    ensures asks { IfOk result (λ r. r.1
-        ≡ (not (is_some r.0) && asks_for_growth bins (is_tree bin.old) (length (entries_of_bin bin.old)))) }
-    ensures err { OnErr result (entries_of_bin bin.new ≡ entries_of_bin bin.old) }
-    ensures err_kind { OnErr result (is_tree bin.new ≡ is_tree bin.old) }
+    ensures asks { IfOk result (λ r. asks_by r
+        ≡ (not (is_some (replaced_by r)) && asks_for_growth bins (is_tree bin.old) (length (entries_of_bin bin.old)))) }
+    ensures key { IfOk result (λ r. IfReplaced r (λ it. it.key ≡ key)) }
+    ensures err { IfErr result (λ n. IsNotInserted key (arc_value value) n) }
+    ensures same { OnErr result (entries_of_bin bin.new ≡ entries_of_bin bin.old) }
+    ensures same_kind { OnErr result (is_tree bin.new ≡ is_tree bin.old) }
 {
     let was_long = is_long_list(bin);
-    let old = bin.insert(alloc, hash, key, value, number)?;
-    if old.is_some() || !was_long {
-        return Ok((old, false));
+    if let Some(replaced) = bin.insert(alloc, hash, key, value, number)? {
+        return Ok(Inserted::Replaced(replaced));
+    }
+    if !was_long {
+        return Ok(Inserted::New {
+            asks_for_growth: false,
+        });
     }
     if bins < LEAST_FOR_TREES {
-        return Ok((None, true));
+        return Ok(Inserted::New {
+            asks_for_growth: true,
+        });
     }
     bin.plant();
-    Ok((None, false))
+    Ok(Inserted::New {
+        asks_for_growth: false,
+    })
 }
 
 /// Returns two `Arc`s that share `value`. Constant time. Takes memory for the value.
 ///
 /// # Errors
 ///
-/// Returns [`AllocError`] if memory for the value cannot be allocated, or if cloning its `Arc` fails. The value is dropped.
+/// Returns the value if memory for it cannot be allocated, or if cloning its `Arc` fails.
 pub fn two_owners<V: Drop, A: Allocator>(
     alloc: A,
     value: V,
-) -> Result<(Arc<V, A>, Arc<V, A>), AllocError>
-    ensures { IfOk result (λ p. (arc_value p.0 ≡ value) × (arc_value p.1 ≡ value)) }
+) -> Result<(Arc<V, A>, Arc<V, A>), Given<V, A>>
+    ensures ok { IfOk result (λ p. (arc_value p.0 ≡ value) × (arc_value p.1 ≡ value)) }
+    ensures err { IfErr result (λ g. given_of g ≡ value) }
 {
-    let first = Arc::new(alloc, value)?;
-    let second = Arc::try_clone(&first)?;
-    Ok((first, second))
+    let first = match Arc::new(alloc, value) {
+        Ok(first) => first,
+        Err(failed) => return Err(Given::Plain(failed.value)),
+    };
+    match Arc::try_clone(&first) {
+        Ok(second) => Ok((first, second)),
+        Err(_) => Err(Given::Shared(first)),
+    }
 }

@@ -20,7 +20,7 @@ module _ {K V A : Type 0} where
   stage_of stage.Outset = abstract.AtOutset
   stage_of (stage.Bins c) = abstract.OverBins c
   stage_of stage.Total = abstract.AtTotal
-  stage_of (stage.End r) = abstract.AtEnd (outcome_of r)
+  stage_of (stage.End r c) = abstract.AtEnd (outcome_of r)
   stage_of stage.Taken = abstract.AfterEnd
 
   abbrev pub sweep_state_of : Inside K V A → SweepState K V

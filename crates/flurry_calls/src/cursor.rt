@@ -30,6 +30,8 @@ pub struct Cursor<K, A: Allocator = Global> {
     index: usize,
     top: Frame<K, A>,
     below: Frames<K, A>,
+    // The last bound that was left behind, which no contract sees. It is kept until no lock is held, since its drop may be the key's.
+    spent: Option<(u64, Arc<K, A>)>,
 }
 
 impl<K, A: Allocator> Model for Cursor<K, A> {
@@ -60,7 +62,15 @@ impl<K: Drop, A: Allocator> Cursor<K, A> {
                 bound: None,
             },
             below: Frames::new(),
+            spent: None,
         }
+    }
+
+    /// Drops what the last step left behind. Constant time.
+    pub fn release(&mut self)
+        ensures { self.new ≡ self.old }
+    {
+        drop(mem::take(&mut self.spent));
     }
 
     /// Returns the table and the index of the bin that is visited now.
@@ -90,7 +100,8 @@ impl<K: Drop, A: Allocator> Cursor<K, A> {
     pub fn pass(&mut self, hash: u64, key: Arc<K, A>)
         ensures { self.new ≡ with_top self.old (with_bound self.old.top (hash, arc_value key)) }
     {
-        drop(mem::replace(&mut self.top.bound, Some((hash, key))));
+        let bound = mem::replace(&mut self.top.bound, Some((hash, key)));
+        drop(mem::replace(&mut self.spent, bound));
     }
 
     /// Goes from a bin that has moved to its two halves, of which the low half comes first.
@@ -142,7 +153,8 @@ impl<K: Drop, A: Allocator> Cursor<K, A> {
                 }
             }
         };
-        drop(mem::replace(&mut self.top, next));
+        let Frame { bound, .. } = mem::replace(&mut self.top, next);
+        drop(mem::replace(&mut self.spent, bound));
         true
     }
 }

@@ -6,7 +6,7 @@ ghost use Rattle.flurry_slots.specs.Slot.{IsSlot};
 ghost use Rattle.flurry_calls.specs.Part.{ControlPart, LookPart, BinPart};
 ghost use Rattle.flurry_calls.specs.OutcomeView.{outcome_of};
 ghost use Rattle.flurry_calls.specs.PartView.{part_of_want};
-ghost use Rattle.flurry_calls.specs.Sweep.{Reads, Wipes, AfterEnd, OverBins, fresh_sweep, with_stage, pair_seen, swept_part, swept_outcome, sets_out, set_out_at, SweepControl, SweepStep};
+ghost use Rattle.flurry_calls.specs.Sweep.{Reads, Wipes, AtEnd, AfterEnd, OverBins, fresh_sweep, with_stage, pair_seen, swept_part, swept_outcome, sets_out, set_out_at, SweepControl, SweepStep};
 ghost use Rattle.flurry_calls.specs.SweepView.{stage_of};
 ghost use Rattle.flurry_calls.specs.Cursor.{at_base};
 
@@ -17,6 +17,7 @@ use crate::reply::Reply;
 use crate::seen::Seen;
 use crate::step::{Event, Want};
 use at_bin::{step_clear, step_walk};
+use flurry_bins::bin::BoxedNode;
 use flurry_control::{Control, PublishedTable};
 use flurry_slots::Slot;
 use std::alloc::{AllocError, Allocator, Global};
@@ -44,8 +45,8 @@ pub(crate) enum Stage<K, V, A: Allocator> {
     Bins(Cursor<K, A>),
     /// Counting the pairs that the clear removed.
     Total,
-    /// The end, with a reply that has not been taken yet.
-    End(Reply<K, V, A>),
+    /// The end, with a reply that has not been taken yet, and the cursor, so that nothing of it is dropped while its last bin is locked.
+    End(Reply<K, V, A>, Option<Cursor<K, A>>),
     /// The end, after the reply was taken.
     Taken,
 }
@@ -70,6 +71,26 @@ pub struct Sweep<K, V, A: Allocator = Global> {
     // that a stage can hold.
     stage: Stage<K, V, A>,
     last: Option<Seen<K, V, A>>,
+    // What the last step left behind, which no contract sees. It is kept until no lock is held.
+    spent: Spent<K, V, A>,
+}
+
+/// What a step of a sweep leaves behind.
+#[derive(Drop)]
+pub(crate) struct Spent<K, V, A: Allocator> {
+    /// The pair that the walk had read before.
+    seen: Option<Seen<K, V, A>>,
+    /// The nodes that the clear removed.
+    nodes: Option<BoxedNode<K, V, A>>,
+}
+
+impl<K, V, A: Allocator> Spent<K, V, A> {
+    fn new() -> Self {
+        Spent {
+            seen: None,
+            nodes: None,
+        }
+    }
 }
 
 impl<K, V, A: Allocator> Model for Sweep<K, V, A> {
@@ -94,6 +115,7 @@ impl<K: Drop, V: Drop, A: Allocator> Sweep<K, V, A> {
             errand: Errand::Read,
             stage: Stage::Outset,
             last: None,
+            spent: Spent::new(),
         }
     }
 
@@ -107,6 +129,21 @@ impl<K: Drop, V: Drop, A: Allocator> Sweep<K, V, A> {
             errand: Errand::Wipe(0),
             stage: Stage::Outset,
             last: None,
+            spent: Spent::new(),
+        }
+    }
+
+    /// Drops what the last step left behind: the pairs that a clear removed, or the pair that a walk had read before. Whoever gives the
+    /// sweep its parts under locks calls this while it holds none.
+    ///
+    /// Linear in the number of pairs that the last step removed.
+    pub fn release(&mut self)
+        ensures { self.new ≡ self.old }
+    {
+        drop(mem::take(&mut self.spent.seen));
+        drop(mem::take(&mut self.spent.nodes));
+        if let Stage::Bins(cursor) = &mut self.stage {
+            cursor.release();
         }
     }
 
@@ -124,7 +161,7 @@ impl<K: Drop, V: Drop, A: Allocator> Sweep<K, V, A> {
                     Errand::Wipe(_) => Want::Bin(table, index),
                 }
             }
-            Stage::End(_) | Stage::Taken => Want::Done,
+            Stage::End(_, _) | Stage::Taken => Want::Done,
             _ => Want::Control,
         }
     }
@@ -136,7 +173,7 @@ impl<K: Drop, V: Drop, A: Allocator> Sweep<K, V, A> {
         ensures { option_map outcome_of (option_copied result) ≡ swept_outcome self.now.stage }
     {
         match &self.stage {
-            Stage::End(ended) => Some(ended),
+            Stage::End(ended, _) => Some(ended),
             _ => None,
         }
     }
@@ -151,7 +188,10 @@ impl<K: Drop, V: Drop, A: Allocator> Sweep<K, V, A> {
         ensures some { IfSome result (λ _. self.new ≡ with_stage self.old AfterEnd) }
     {
         match mem::replace(&mut self.stage, Stage::Taken) {
-            Stage::End(reply) => Some(reply),
+            Stage::End(reply, cursor) => {
+                drop(cursor);
+                Some(reply)
+            }
             other => {
                 drop(mem::replace(&mut self.stage, other));
                 None
@@ -200,7 +240,7 @@ impl<K: Drop, V: Drop, A: Allocator> Sweep<K, V, A> {
             (Stage::Outset, _) => set_out(control.locate()),
             (Stage::Total, Errand::Wipe(pairs)) => {
                 let _advice = control.count(-(pairs.min(MOST_COUNTED) as i64));
-                Stage::End(Reply::Ended)
+                Stage::End(Reply::Ended, None)
             }
             _ => unreachable!(),
         };
@@ -246,16 +286,18 @@ impl<K: Ord + Drop, V: Drop, A: Allocator> Sweep<K, V, A> {
         let Stage::Bins(cursor) = &mut self.stage else {
             unreachable!()
         };
-        let (reply, event) = step_walk(cursor, &mut self.last, slot);
+        let (reply, event, seen) = step_walk(cursor, &mut self.last, slot);
+        drop(mem::replace(&mut self.spent.seen, seen));
         if let Some(reply) = reply {
-            drop(mem::replace(&mut self.stage, Stage::End(reply)));
+            let stage = mem::replace(&mut self.stage, Stage::Taken);
+            drop(mem::replace(&mut self.stage, stage.end(reply)));
         }
         event
     }
 
-    /// Does the step of a clear at its slot.
+    /// Does the step of a clear at its slot. What it removes is dropped by [`release`](Self::release).
     ///
-    /// Linear in the number of entries of the bin. Takes no memory, and never fails.
+    /// Constant time. Takes no memory, and never fails.
     pub fn on_bin(&mut self, slot: &mut Slot<K, V, A>) -> Event
         requires { swept_part self.old ≡ BinPart slot.old.table slot.old.index }
         ensures within { IsSlot K.cmp slot.old }
@@ -267,7 +309,8 @@ impl<K: Ord + Drop, V: Drop, A: Allocator> Sweep<K, V, A> {
         let Errand::Wipe(wiped) = &mut self.errand else {
             unreachable!()
         };
-        let (goes_on, event) = step_clear(cursor, wiped, slot);
+        let (goes_on, event, nodes) = step_clear(cursor, wiped, slot);
+        drop(mem::replace(&mut self.spent.nodes, nodes));
         if !goes_on {
             drop(mem::replace(&mut self.stage, Stage::Total));
         }
@@ -282,6 +325,18 @@ fn set_out<K: Drop, V: Drop, A: Allocator>(published: Option<u8>) -> Stage<K, V,
 {
     match published {
         Some(table) => Stage::Bins(Cursor::new(table)),
-        None => Stage::End(Reply::Ended),
+        None => Stage::End(Reply::Ended, None),
+    }
+}
+
+impl<K: Drop, V: Drop, A: Allocator> Stage<K, V, A> {
+    // The end of a walk at a bin, with a reply.
+    fn end(self, reply: Reply<K, V, A>) -> Self
+        ensures { stage_of result ≡ AtEnd (outcome_of reply) }
+    {
+        match self {
+            Stage::Bins(cursor) => Stage::End(reply, Some(cursor)),
+            _ => Stage::End(reply, None),
+        }
     }
 }

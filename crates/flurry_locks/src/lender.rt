@@ -101,6 +101,7 @@ impl<'m, R: Wait, K: Ord + Drop, V: Drop, A: Allocator> Lender<'m, R, K, V, A> {
     pub fn walk_on(&self, walk: &mut Sweep<K, V, A>) -> Option<Event>
         ensures { WalksOrStays K.cmp walk.old result walk.new }
     {
+        walk.release();
         match walk.want() {
             Want::Control => Some(self.walk_at_control(walk)),
             Want::Look(table, index) => self.walk_at_slot(table, index, walk),

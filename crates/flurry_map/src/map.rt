@@ -32,7 +32,7 @@ use std::sync::{Arc, Wait};
 /// Every call is done in steps. Each step holds the lock of what it reads or changes: of one bin, of the bins of one move, or of the
 /// control, the state that all calls agree upon. No step waits for a lock of the control while it holds one of a bin. A one-key call has
 /// one deciding step, under the lock of one bin. It hashes the key once, and visits at most `max(9, 2 * d)` pairs of a bin of `n` pairs,
-/// where `d` is the number of binary digits of `n + 1`.
+/// where `d` is the number of binary digits of `n + 1`. Keys and values are dropped while no lock is held.
 ///
 /// A table is doubled when it has three pairs for every four bins, as long as memory can be allocated and it has fewer than 2^30 bins.
 /// Threads that meet a growth while they write help it.
@@ -138,7 +138,7 @@ impl<K: Ord + Drop, V: Drop, S: KeyHasher<K>, A: Allocator> HashMap<K, V, S, A> 
     }
 
     /// Returns the number of pairs, counted at one moment during the call. A concurrent call that has already taken effect may not be
-    /// counted yet.
+    /// counted yet. A clear counts what it removed at its end, so beside one the result can be far above the number of pairs present.
     ///
     /// Takes the control's lock, then the lock of each tally in turn. Constant time.
     // No contract specifies the count, since other threads change it.
@@ -341,8 +341,9 @@ impl<K: Ord + Drop, V: Drop, S: KeyHasher<K>, A: Allocator + Copy> HashMap<K, V,
     /// value. If `f` returns `None`, the pair is removed, and `None` is returned. If the key is absent, `f` is not called, no memory is
     /// taken, and `None` is returned. The table keeps its size.
     ///
-    /// `f` runs while the key's bin is locked. It must not call this map: a call with a key of the same bin would wait for itself. Takes
-    /// the same locks as [`HashMap::remove`].
+    /// `f` runs while the key's bin is locked, as nothing else of the caller's does but the order and the equality of keys. It must not call
+    /// this map, since a call with a key of the same bin would wait for itself, nor wait for a thread that does. What is replaced or removed
+    /// is dropped after the bin is unlocked. Takes the same locks as [`HashMap::remove`].
     ///
     /// ```
     /// let map: HashMap<u64, u64> = HashMap::new(rt.alloc());
@@ -375,7 +376,8 @@ impl<K: Ord + Drop, V: Drop, S: KeyHasher<K>, A: Allocator + Copy> HashMap<K, V,
         self.pin(rt).compute_if_present(key, f)
     }
 
-    /// Grows the table so that `additional` more pairs fit than the map then counts. If another growth is running, it returns at once.
+    /// Grows the table so that `additional` more pairs fit than the map then counts. If another growth is running, it returns at once. A
+    /// clear that runs meanwhile counts at its end, so beside one the table can become larger than the pairs need.
     ///
     /// Each doubling moves every pair. Takes the control's lock, and the locks of the bins that it moves.
     ///
@@ -391,7 +393,8 @@ impl<K: Ord + Drop, V: Drop, S: KeyHasher<K>, A: Allocator + Copy> HashMap<K, V,
 
     /// Removes all pairs, one bin after another. Other calls may insert pairs meanwhile; those in bins that are already cleared remain.
     ///
-    /// Linear in the number of bins and pairs. Takes the lock of each bin in turn, and then the control's lock; takes no memory.
+    /// Linear in the number of bins and pairs. Takes the lock of each bin in turn, and then the control's lock; takes no memory. The pairs of a
+    /// bin are dropped after it is unlocked, and the removals are counted at the end.
     ///
     /// ```
     /// let map: HashMap<u64, u64> = HashMap::new(rt.alloc());

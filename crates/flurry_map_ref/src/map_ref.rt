@@ -30,7 +30,7 @@ use std::sync::{Arc, Wait};
 /// Every call is done in steps. Each step holds the lock of what it reads or changes: of one bin, of the bins of one move, or of the
 /// control, the state that all calls agree upon. No step waits for a lock of the control while it holds one of a bin. A one-key call has
 /// one deciding step, under the lock of one bin. It hashes the key once, and visits at most `max(9, 2 * d)` pairs of a bin of `n` pairs,
-/// where `d` is the number of binary digits of `n + 1`.
+/// where `d` is the number of binary digits of `n + 1`. Keys and values are dropped while no lock is held.
 ///
 /// ```
 /// let view = map.pin(rt);
@@ -97,7 +97,7 @@ impl<'m, R, K: Ord, V, S: KeyHasher<K>, A: Allocator> HashMapRef<'m, R, K, V, S,
 
 impl<'m, R: Wait, K: Ord, V, S: KeyHasher<K>, A: Allocator> HashMapRef<'m, R, K, V, S, A> {
     /// Returns the number of pairs, counted at one moment during the call. A concurrent call that has already taken effect may not be
-    /// counted yet.
+    /// counted yet. A clear counts what it removed at its end, so beside one the result can be far above the number of pairs present.
     ///
     /// Takes the control's lock, then the lock of each tally in turn. Constant time.
     // No contract specifies the count, since other threads change it.
@@ -270,6 +270,9 @@ impl<'m, R: Wait, K: Ord + Drop, V: Drop, S: KeyHasher<K>, A: Allocator + Copy> 
         ensures { IsDriven (Maker K V A) K.cmp no_changes self.now (S.hash_of self.now.hasher key)
             (AtLocate (Inserts key value)) (value_outcome result) }
     {
+        let Ok(value) = Arc::new(self.lender.allocator(), value) else {
+            return Err(AllocError);
+        };
         let call: Call<'s, K, V, NoFn, A> = Call::Insert(key, value);
         match self.run(call) {
             Reply::Value(value) => Ok(value),
@@ -320,8 +323,9 @@ impl<'m, R: Wait, K: Ord + Drop, V: Drop, S: KeyHasher<K>, A: Allocator + Copy> 
     /// value. If `f` returns `None`, the pair is removed, and `None` is returned. If the key is absent, `f` is not called, no memory is
     /// taken, and `None` is returned. The table keeps its size.
     ///
-    /// `f` runs while the key's bin is locked. It must not call this map: a call with a key of the same bin would wait for itself. Takes
-    /// the same locks as [`HashMapRef::remove`].
+    /// `f` runs while the key's bin is locked, as nothing else of the caller's does but the order and the equality of keys. It must not call
+    /// this map, since a call with a key of the same bin would wait for itself, nor wait for a thread that does. What is replaced or removed
+    /// is dropped after the bin is unlocked. Takes the same locks as [`HashMapRef::remove`].
     ///
     /// ```
     /// let map: HashMap<u64, u64> = HashMap::new(rt.alloc());
@@ -358,7 +362,8 @@ impl<'m, R: Wait, K: Ord + Drop, V: Drop, S: KeyHasher<K>, A: Allocator + Copy> 
         }
     }
 
-    /// Grows the table so that `additional` more pairs fit than the map then counts. If another growth is running, it returns at once.
+    /// Grows the table so that `additional` more pairs fit than the map then counts. If another growth is running, it returns at once. A
+    /// clear that runs meanwhile counts at its end, so beside one the table can become larger than the pairs need.
     ///
     /// Each doubling moves every pair. Takes the control's lock, and the locks of the bins that it moves.
     ///
@@ -379,7 +384,8 @@ impl<'m, R: Wait, K: Ord + Drop, V: Drop, S: KeyHasher<K>, A: Allocator + Copy> 
 
     /// Removes all pairs, one bin after another. Other calls may insert pairs meanwhile; those in bins that are already cleared remain.
     ///
-    /// Linear in the number of bins and pairs. Takes the lock of each bin in turn, and then the control's lock; takes no memory.
+    /// Linear in the number of bins and pairs. Takes the lock of each bin in turn, and then the control's lock; takes no memory. The pairs of a
+    /// bin are dropped after it is unlocked, and the removals are counted at the end.
     ///
     /// ```
     /// let map: HashMap<u64, u64> = HashMap::new(rt.alloc());

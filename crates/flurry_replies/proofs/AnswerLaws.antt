@@ -327,7 +327,7 @@ module _ {K V F : Type 0} (changes : F → K → V → Option V → Type 0) (ans
     refused (RemovesSeen z) b g = g
     refused (Inserts k v) b g = tt
     refused (Adds k v) b g = tt
-    refused (Computes k f) b g = (g.0.0.1, g.0.1.0, g.1, g.3)
+    refused (Computes k f) b g = (g.1.0.0.1, g.1.0.1.0, g.0, g.1.2)
 
     live : (t : Task K V F) (e : ℕ) (b : Live K V) (ev : Event) (s : Stage K V F) (c : Content K V) → Serves t → LiveGives cmp changes n t e b ev s c → StageServes s
     live t e b event.Decide s c h g = decides t e b g.0 s h g.1

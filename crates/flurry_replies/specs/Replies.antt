@@ -24,7 +24,7 @@ pub record IsReplyOf (M : Type 0) {K V F : Type 0} (cmp : K → K → Ordering) 
 abbrev pub GoesTo : (M : Type 0) → {K V F : Type 0} → (K → K → Ordering) → (F → K → V → Option V → Type 0) → PartyState K V F → PartyState K V F → Type 0
 GoesTo M cmp changes p p' = Turns {S = Unit {0}} (Turn (MakerStays {M = M}) cmp changes LockLends) tt p tt p'
 
--- a call of that hash has begun, for however many processors; or it has done no step, and comes back
-abbrev pub BeginsOrStays : (M : Type 0) → {K V F A : Type 0} → (K → K → Ordering) → (F → K → V → Option V → Type 0) → ℕ → Call K V F A → Result (EndingState K V) (Call K V F A) → Type 0
-BeginsOrStays M cmp changes h c (Ok e) = (n : ℕ) → GoesTo M cmp changes (record { hash = h; processors = n; stage = first_stage c }) (record { hash = h; processors = n; stage = ending_stage e })
+-- a call of that hash has begun, for however many processors, whatever it left behind; or it has done no step, and comes back
+abbrev pub BeginsOrStays : (M : Type 0) → {K V F A B : Type 0} → (K → K → Ordering) → (F → K → V → Option V → Type 0) → ℕ → Call K V F A → Result (EndingState K V × B) (Call K V F A) → Type 0
+BeginsOrStays M cmp changes h c (Ok (e, b)) = (n : ℕ) → GoesTo M cmp changes (record { hash = h; processors = n; stage = first_stage c }) (record { hash = h; processors = n; stage = ending_stage e })
 BeginsOrStays M cmp changes h c (Err c') = c' ≡ c

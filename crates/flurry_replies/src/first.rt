@@ -10,7 +10,7 @@ use flurry_control::PublishedTable;
 use flurry_locks::Lender;
 use flurry_model::sizes::bin_index;
 use flurry_slots::ComputeFn;
-use flurry_steps::party::{Call, Ending, Reply};
+use flurry_steps::party::{Call, Ending, Remains, Reply};
 use flurry_steps::{Party, finish};
 use std::alloc::Allocator;
 use std::sync::Wait;
@@ -86,19 +86,23 @@ fn write<K: Ord + Drop, V: Drop, F: ComputeFn<K, V>, A: Allocator + Copy, R: Wai
         (record { hash = hash; processors = processors; stage = first_stage call.entry }) (outcome_of result) }
 {
     match write_bin(lender, start, call, hash) {
-        Ok(ending) => return end::<K, V, F, A, R>(lender, ending, hash, processors),
+        Ok((ending, remains)) => {
+            drop(remains);
+            return end::<K, V, F, A, R>(lender, ending, hash, processors);
+        }
         Err(call) => return drive_call(lender, call, hash, processors),
     }
 }
 
-// Does the first two steps of a call that may change its bin. If the call cannot start so, it has done no step, and is returned.
+// Does the first two steps of a call that may change its bin. Returns the call, and what these steps left behind. If the call cannot start
+// so, it has done no step, and is returned.
 #[inline(always)]
 fn write_bin<'k, K: Ord + Drop, V: Drop, F: ComputeFn<K, V>, A: Allocator + Copy, R: Wait>(
     lender: &Lender<'_, R, K, V, A>,
     start: &PublishedTable,
     call: Call<'k, K, V, F, A>,
     hash: u64,
-) -> Result<Ending<K, V, A>, Call<'k, K, V, F, A>>
+) -> Result<(Ending<K, V, A>, Remains<'k, K, V, F, A>), Call<'k, K, V, F, A>>
     requires ready { CallIsReady F.can_change call }
     requires writes { BeginsToWrite (first_stage call) }
     ensures { BeginsOrStays (Maker K V A) K.cmp F.changes hash call.entry result }

@@ -605,7 +605,7 @@ impl<K: Ord + Drop, V: Drop, S: KeyHasher<K>, A: Allocator + Copy> SeqMap<K, V, 
                     let _ = self.swap_value(hash, key, value);
                     Ok(Some(answer))
                 }
-                Err(e) => Err(e),
+                Err(_) => Err(AllocError),
             },
             None => {
                 let _ = self.take(hash, key);

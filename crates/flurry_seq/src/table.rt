@@ -1,9 +1,12 @@
 //! The table of an owned map: a power of two of bins, or no bins.
-ghost use Rattle.std.specs.Prelude.{◌≡◌, ℕ, [], ◌*◌, ◌<◌, ◌≤◌, ◌^◌, length, replicate, OnOk, OnErr, IfOk, None, IsSome, IsTrue, Some};
+ghost use Rattle.std.specs.Prelude.{◌≡◌, ◌&&◌, not, is_some, ℕ, [], ◌*◌, ◌<◌, ◌≤◌, ◌^◌, length, replicate, OnOk, OnErr, IfOk, None, IsSome, IsTrue, Some};
 ghost use Rattle.std.specs.Vec.{vec_capacity};
 ghost use Rattle.std.specs.Option.{option_map};
 ghost use Rattle.std.specs.Arc.{arc_value};
+ghost use Rattle.flurry_bins.specs.Bin.{entries_of_bin, is_tree};
 ghost use Rattle.flurry_bins.specs.Chain.{entry_of};
+ghost use Rattle.flurry_bins.specs.Entries.{IsInsertion};
+ghost use Rattle.flurry_model.specs.BinSizes.{asks_for_growth};
 ghost use Rattle.flurry_bins.specs.PlainEntries.{pair_of_entry};
 ghost use Rattle.flurry_seq.specs.Invariant.{IsTableSize};
 ghost use Rattle.flurry_seq.specs.Numbers.{BinsBearZero};
@@ -15,7 +18,7 @@ ghost use Rattle.flurry_model.specs.declared.sizes.TheConstants.{GREATEST_TABLE,
 mod retain;
 
 use flurry_bins::bin::{Bin, Entry, Node, Ordered, Shape};
-use flurry_bins::table::{insert_in_table, put_in_table};
+use flurry_bins::table::{Inserted, insert_in_table, put_in_table};
 use flurry_model::sizes::bin_index;
 use std::alloc::{AllocError, Allocator};
 use std::marker::Model;
@@ -167,6 +170,30 @@ impl<K: Ord + Drop, V: Drop, A: Allocator> Table<K, V, A> {
     }
 }
 
+// Sets the value at a hash and a key in their bin, in a table of `bins` bins. Returns the old value, if there was one, and whether the bin asks
+// for a larger table. What is not kept is dropped.
+fn insert_in_bin<K: Ord + Drop, V: Drop, A: Allocator + Copy>(
+    bin: &mut Bin<K, V, A>,
+    alloc: A,
+    hash: u64,
+    key: K,
+    value: Arc<V, A>,
+    bins: usize,
+) -> Result<(Option<Arc<V, A>>, bool), AllocError>
+    requires { length (entries_of_bin bin.old) < MOST_PAIRS }
+    ensures entries { IfOk result (λ r.
+        IsInsertion K.cmp hash key value 0 r.0 (entries_of_bin bin.old) (entries_of_bin bin.new)) }
+    ensures asks { IfOk result (λ r. r.1
+        ≡ (not (is_some r.0) && asks_for_growth bins (is_tree bin.old) (length (entries_of_bin bin.old)))) }
+    ensures err { OnErr result (entries_of_bin bin.new ≡ entries_of_bin bin.old) }
+{
+    match insert_in_table(bin, alloc, hash, key, value, 0, bins) {
+        Ok(Inserted::New { asks_for_growth }) => Ok((None, asks_for_growth)),
+        Ok(Inserted::Replaced(replaced)) => Ok((Some(replaced.old), false)),
+        Err(_) => Err(AllocError),
+    }
+}
+
 impl<K: Ord + Drop, V: Drop, A: Allocator + Copy> Table<K, V, A> {
     // Sets the value at a hash and a key. Returns the old value, if there was one, and whether the bin asks for a larger table.
     pub(crate) fn insert(
@@ -188,7 +215,7 @@ impl<K: Ord + Drop, V: Drop, A: Allocator + Copy> Table<K, V, A> {
         let count = self.bins.len();
         let at = place(&self.bins, hash);
         let bin = &mut self.bins[at];
-        insert_in_table(bin, alloc, hash, key, value, 0, count)
+        insert_in_bin(bin, alloc, hash, key, value, count)
     }
 
     // Makes `bins` empty bins.

@@ -396,7 +396,9 @@ impl<T: Ord + Drop, S: KeyHasher<T>, A: Allocator + Copy> SeqSet<T, S, A> {
         ensures err { OnErr result (self.new ≡ self.old) }
     {
         let alloc = *self.map.allocator();
-        let (stored, answer) = two_owners(alloc, element)?;
+        let Ok((stored, answer)) = two_owners(alloc, element) else {
+            return Err(AllocError);
+        };
         let nothing = Arc::new(alloc, ())?;
         self.map.insert_shared(stored, nothing)?;
         Ok(answer)

@@ -121,9 +121,9 @@ module _ {K V : Type 0} where
       Computes bins b h k WasRemoved c = (e : PlainEntry K V) × (entry_of_live b h k ≡ Some e) × changes e.0.1 e.1.0 None × (c ≡ after_take b h k)
       Computes bins b h k (WasChanged w) c = (e : PlainEntry K V) × (entry_of_live b h k ≡ Some e) × changes e.0.1 e.1.0 (Some w) × (c ≡ after_write bins b h k w)
 
-      -- memory was wanting for what the function answered
-      abbrev pub ComputesInVain : Live K V → ℕ → K → Type 0
-      ComputesInVain b h k = (e : PlainEntry K V) × (w : V) × (entry_of_live b h k ≡ Some e) × changes e.0.1 e.1.0 (Some w)
+      -- memory could not be allocated for this value, which the function returned
+      abbrev pub ComputesInVain : Live K V → ℕ → K → V → Type 0
+      ComputesInVain b h k w = (e : PlainEntry K V) × (entry_of_live b h k ≡ Some e) × changes e.0.1 e.1.0 (Some w)
 
   -- a hash lies in the region of the slot
   abbrev pub LiesIn : ℕ → SlotState K V → Type 0

@@ -11,5 +11,7 @@ pub(crate) mod live;
 pub mod slot;
 
 pub use compute_fn::{ComputeFn, NoFn};
-pub use live::{Added, Computed, Written};
+pub use flurry_bins::bin::{Given, NotInserted, Replaced};
+pub use flurry_bins::table::Inserted;
+pub use live::{Added, Computed};
 pub use slot::{Answer, MoveAnswer, Receipt, Slot};

@@ -1,72 +1,75 @@
 //! A live bin of a table, and the steps at it.
-ghost use Rattle.std.specs.Prelude.{◌≡◌, ◌<◌, length, IfOk, OnOk, OnErr, IsSome, Some, None};
+ghost use Rattle.std.specs.Prelude.{◌≡◌, ◌<◌, length, IfErr, IfOk, OnOk, OnErr, IsSome, Some, None};
 ghost use Rattle.std.specs.Option.{option_map};
 ghost use Rattle.std.specs.Arc.{arc_value};
 ghost use Rattle.flurry_bins.specs.Chain.{entry_of};
 ghost use Rattle.flurry_bins.specs.Entries.{lent_bound};
-ghost use Rattle.flurry_bins.specs.PlainEntries.{numbered_pair};
+ghost use Rattle.flurry_bins.specs.Bin.{entries_of_bin};
+ghost use Rattle.flurry_bins.specs.Given.{given_of, IsNotInserted};
+ghost use Rattle.flurry_bins.specs.Inserted.{IfReplaced};
+ghost use Rattle.flurry_bins.specs.PlainEntries.{numbered_pair, numbered_pairs};
 ghost use Rattle.flurry_slots.specs.Slot.{half, after_wipe, next_number, entry_of_live, value_of_live, next_of_live, after_write, write_reply, asks, after_take, after_add, add_reply, after_take_if, take_if_reply, Computes, ComputesInVain};
-ghost use Rattle.flurry_slots.specs.LiveView.{live_of, view_of_written, view_of_added, outcome, IfAbsent};
+ghost use Rattle.flurry_slots.specs.LiveView.{live_of, view_of_inserted, view_of_added, IfPresent, outcome, IfAbsent, IsLeftOf, IsEntryWith};
 ghost use Rattle.flurry_model.specs.declared.sizes.TheConstants.{MOST_PAIRS};
 
 use crate::compute_fn::ComputeFn;
-use flurry_bins::bin::{Bin, BoxedNode, Entry, Node, Ordered};
-use flurry_bins::table::{put_in_table, two_owners};
+use flurry_bins::bin::{Bin, BoxedNode, Entry, Given, Node, NotInserted, Ordered};
+use flurry_bins::table::{Inserted, insert_in_table, put_in_table, two_owners};
 use flurry_model::TryInsertError;
 use flurry_model::sizes::MOST_PAIRS;
-use std::alloc::{AllocError, Allocator};
+use std::alloc::Allocator;
 use std::marker::Model;
+use std::mem;
 use std::sync::Arc;
 
-/// What a write did.
+/// What an insertion at an absent key did.
 ///
 /// ```
 /// match answer {
-///     Answer::Here(written) => written.old.map(|old| *old),
+///     Answer::Here(Added::New { value, .. }) => Some(*value),
+///     Answer::Here(Added::Present { error, .. }) => Some(*error.current),
 ///     Answer::Moved(_) | Answer::Unborn(_) => None,
 /// }
 /// ```
 #[derive(Drop)]
-pub struct Written<V, A: Allocator> {
-    /// The value that the key had, or `None` if the key is new.
-    pub old: Option<Arc<V, A>>,
-    /// Whether the bin asks for a larger table.
-    pub asks_for_growth: bool,
-}
-
-/// What an addition did.
-///
-/// ```
-/// match answer {
-///     Answer::Here(Ok(added)) => Some(*added.value),
-///     Answer::Here(Err(error)) => Some(*error.current),
-///     Answer::Moved(_) | Answer::Unborn(_) => None,
-/// }
-/// ```
-#[derive(Drop)]
-pub struct Added<V, A: Allocator> {
-    /// A clone of the new value's `Arc`.
-    pub value: Arc<V, A>,
-    /// Whether the bin asks for a larger table.
-    pub asks_for_growth: bool,
+pub enum Added<K, V, A: Allocator> {
+    /// The pair was inserted.
+    New {
+        /// A clone of the new value's `Arc`.
+        value: Arc<V, A>,
+        /// Whether the bin asks for a larger table.
+        asks_for_growth: bool,
+    },
+    /// The key was present. Nothing was changed.
+    Present {
+        /// The key that was passed in.
+        key: K,
+        /// The stored value, and the one that was not inserted.
+        error: TryInsertError<V, A>,
+    },
 }
 
 /// What a computation did.
 ///
 /// ```
 /// match answer {
-///     Answer::Here(Computed::Changed(value)) => Some(*value),
+///     Answer::Here(Computed::Changed { new, .. }) => Some(*new),
 ///     _ => None,
 /// }
 /// ```
 #[derive(Drop)]
-pub enum Computed<V, F, A: Allocator> {
+pub enum Computed<K, V, F, A: Allocator> {
     /// The key is absent. The function was not called, and is given back.
     Absent(F),
-    /// The function returned `None`, and the pair was removed.
-    Removed,
-    /// The function returned this value, which is now stored.
-    Changed(Arc<V, A>),
+    /// The function returned `None`, and the pair was removed: its entry.
+    Removed(Entry<K, V, A>),
+    /// The function returned a value, which is now stored.
+    Changed {
+        /// A clone of the new value's `Arc`.
+        new: Arc<V, A>,
+        /// The value that the key had.
+        old: Arc<V, A>,
+    },
 }
 
 #[derive(Drop)]
@@ -156,13 +159,12 @@ impl<K: Ord + Drop, V: Drop, A: Allocator> LiveBin<K, V, A> {
         }
     }
 
-    pub(crate) fn wipe(&mut self) -> usize
-        ensures count { result ≡ length self.old.held }
+    // Removes all entries, and returns them.
+    pub(crate) fn drain(&mut self) -> Bin<K, V, A>
+        ensures entries { numbered_pairs (entries_of_bin result) ≡ self.old.held }
         ensures after { self.new ≡ after_wipe self.old }
     {
-        let count = self.len();
-        self.bin = Bin::new();
-        count
+        mem::replace(&mut self.bin, Bin::new())
     }
 
     // Returns the bin alone, without the count of writes.
@@ -193,17 +195,24 @@ impl<K: Ord + Drop, V: Drop, A: Allocator + Copy> LiveBin<K, V, A> {
         hash: u64,
         key: K,
         value: V,
-    ) -> Result<BoxedNode<K, V, A>, AllocError>
-        ensures hash { IfOk result (λ b. (entry_of b.value).hash ≡ hash) }
-        ensures key { IfOk result (λ b. arc_value (entry_of b.value).key ≡ key) }
-        ensures value { IfOk result (λ b. arc_value (entry_of b.value).value ≡ value) }
-        ensures number { IfOk result (λ b. (entry_of b.value).number ≡ next_number self.now.writes) }
-        ensures room { IfOk result (λ b. length self.now.held < MOST_PAIRS) }
+    ) -> Result<BoxedNode<K, V, A>, NotInserted<K, V, A>>
+        ensures node { IfOk result (λ b. IsEntryWith hash key value (next_number self.now.writes) (entry_of b.value)) }
+        ensures room { OnOk result (length self.now.held < MOST_PAIRS) }
+        ensures err { IfErr result (λ n. IsNotInserted key value n) }
     {
         if self.len() >= MOST_PAIRS {
-            return Err(AllocError);
+            return Err(NotInserted {
+                key: Given::Plain(key),
+                value: Given::Plain(value),
+            });
         }
-        Node::of_pair(alloc, hash, key, value, self.writes.saturating_add(1))
+        match Arc::new(alloc, value) {
+            Ok(value) => Node::of_key(alloc, hash, key, value, self.writes.saturating_add(1)),
+            Err(failed) => Err(NotInserted {
+                key: Given::Plain(key),
+                value: Given::Plain(failed.value),
+            }),
+        }
     }
 
     pub(crate) fn put(
@@ -212,24 +221,49 @@ impl<K: Ord + Drop, V: Drop, A: Allocator + Copy> LiveBin<K, V, A> {
         bins: usize,
         hash: u64,
         key: K,
-        value: V,
-    ) -> Result<Written<V, A>, AllocError>
-        ensures reply { IfOk result (λ w. view_of_written w ≡ write_reply K.cmp bins self.old hash key) }
-        ensures after { OnOk result (self.new ≡ after_write K.cmp bins self.old hash key value) }
+        value: Given<V, A>,
+    ) -> Result<Inserted<K, V, A>, NotInserted<K, V, A>>
+        ensures reply { IfOk result (λ w. view_of_inserted w ≡ write_reply K.cmp bins self.old hash key) }
+        ensures after { OnOk result (self.new ≡ after_write K.cmp bins self.old hash key (given_of value)) }
+        ensures key { IfOk result (λ w. IfReplaced w (λ it. it.key ≡ key)) }
+        ensures err { IfErr result (λ n. IsNotInserted key (given_of value) n) }
         ensures refused { OnErr result (self.new ≡ self.old) }
     {
-        if self.find(hash, &key).is_some() {
-            let value = Arc::new(alloc, value)?;
-            return Ok(Written {
-                old: Some(self.rewrite(bins, hash, &key, value)),
-                asks_for_growth: false,
+        if self.len() >= MOST_PAIRS {
+            return Err(NotInserted {
+                key: Given::Plain(key),
+                value,
             });
         }
-        let node = self.new_node(alloc, hash, key, value)?;
-        Ok(Written {
-            old: None,
-            asks_for_growth: self.add(bins, node),
-        })
+        match value.into_shared(alloc) {
+            Ok(value) => self.put_shared(alloc, bins, hash, key, value),
+            Err(value) => Err(NotInserted {
+                key: Given::Plain(key),
+                value,
+            }),
+        }
+    }
+
+    // Sets a value that is in an `Arc` already, in a bin that has room.
+    fn put_shared(
+        &mut self,
+        alloc: A,
+        bins: usize,
+        hash: u64,
+        key: K,
+        value: Arc<V, A>,
+    ) -> Result<Inserted<K, V, A>, NotInserted<K, V, A>>
+        requires { length self.old.held < MOST_PAIRS }
+        ensures reply { IfOk result (λ w. view_of_inserted w ≡ write_reply K.cmp bins self.old hash key) }
+        ensures after { OnOk result (self.new ≡ after_write K.cmp bins self.old hash key (arc_value value)) }
+        ensures key { IfOk result (λ w. IfReplaced w (λ it. it.key ≡ key)) }
+        ensures err { IfErr result (λ n. IsNotInserted key (arc_value value) n) }
+        ensures refused { OnErr result (self.new ≡ self.old) }
+    {
+        let number = self.writes.saturating_add(1);
+        let inserted = insert_in_table(&mut self.bin, alloc, hash, key, value, number, bins)?;
+        self.writes = number;
+        Ok(inserted)
     }
 
     pub(crate) fn put_absent(
@@ -239,25 +273,37 @@ impl<K: Ord + Drop, V: Drop, A: Allocator + Copy> LiveBin<K, V, A> {
         hash: u64,
         key: K,
         value: V,
-    ) -> Result<Result<Added<V, A>, TryInsertError<V, A>>, AllocError>
+    ) -> Result<Added<K, V, A>, NotInserted<K, V, A>>
         ensures reply { IfOk result (λ r. view_of_added r ≡ add_reply K.cmp bins self.old hash key value) }
         ensures after { OnOk result (self.new ≡ after_add K.cmp bins self.old hash key value) }
+        ensures key { IfOk result (λ r. IfPresent r (λ k. k ≡ key)) }
+        ensures err { IfErr result (λ n. IsNotInserted key value n) }
         ensures refused { OnErr result (self.new ≡ self.old) }
     {
         if let Some(entry) = self.find(hash, &key) {
-            let current = Arc::try_clone(&entry.value)?;
-            return Ok(Err(TryInsertError {
-                current,
-                not_inserted: value,
-            }));
+            return match Arc::try_clone(&entry.value) {
+                Ok(current) => Ok(Added::Present {
+                    key,
+                    error: TryInsertError {
+                        current,
+                        not_inserted: value,
+                    },
+                }),
+                Err(_) => Err(NotInserted {
+                    key: Given::Plain(key),
+                    value: Given::Plain(value),
+                }),
+            };
         }
         let node = self.new_node(alloc, hash, key, value)?;
-        let value = Arc::try_clone(&node.entry().value)?;
+        let Ok(value) = Arc::try_clone(&node.entry().value) else {
+            return Err(Box::into_inner(node).into_not_inserted());
+        };
         let asks_for_growth = self.add(bins, node);
-        Ok(Ok(Added {
+        Ok(Added::New {
             value,
             asks_for_growth,
-        }))
+        })
     }
 
     pub(crate) fn compute<F: ComputeFn<K, V>>(
@@ -267,12 +313,13 @@ impl<K: Ord + Drop, V: Drop, A: Allocator + Copy> LiveBin<K, V, A> {
         hash: u64,
         key: &K,
         f: F,
-    ) -> Result<Computed<V, F, A>, AllocError>
+    ) -> Result<Computed<K, V, F, A>, Given<V, A>>
         requires { F.can_change f }
         ensures back { IfOk result (λ c. IfAbsent c (λ g. g ≡ f)) }
         ensures done { IfOk result (λ c. Computes K.cmp (F.changes f) bins self.old hash key.now (outcome c) self.new) }
+        ensures left { IfOk result (λ c. IsLeftOf (entry_of_live K.cmp self.old hash key.now) c) }
         ensures refused { OnErr result (self.new ≡ self.old) }
-        ensures in_vain { OnErr result (ComputesInVain K.cmp (F.changes f) self.old hash key.now) }
+        ensures in_vain { IfErr result (λ g. ComputesInVain K.cmp (F.changes f) self.old hash key.now (given_of g)) }
     {
         let computed = match self.find(hash, key) {
             Some(entry) => f.change(&entry.key, &entry.value),
@@ -280,16 +327,16 @@ impl<K: Ord + Drop, V: Drop, A: Allocator + Copy> LiveBin<K, V, A> {
         };
         match computed {
             Some(value) => match two_owners(alloc, value) {
-                Ok((value, answer)) => {
-                    let _ = self.rewrite(bins, hash, key, value);
-                    Ok(Computed::Changed(answer))
+                Ok((value, new)) => {
+                    let old = self.rewrite(bins, hash, key, value);
+                    Ok(Computed::Changed { new, old })
                 }
-                Err(e) => Err(e),
+                Err(value) => Err(value),
             },
-            None => {
-                let _ = self.take(hash, key);
-                Ok(Computed::Removed)
-            }
+            None => match self.take(hash, key) {
+                Some(entry) => Ok(Computed::Removed(entry)),
+                None => unreachable!(),
+            },
         }
     }
 }

@@ -1,11 +1,14 @@
 //! A slot of a table, which is the place of one bin, and the steps that are done at one slot.
-ghost use Rattle.std.specs.Prelude.{◌≡◌, ℕ, ◌+◌, ◌^◌, ◌<◌, ◌≤◌, ◌⊎◌, ⊤, length, map, IfNone, IfOk, IfSome, OnErr, OnOk, IsTrue, false, ◌↔◌};
+ghost use Rattle.std.specs.Prelude.{◌≡◌, ℕ, ◌+◌, ◌^◌, ◌<◌, ◌≤◌, ◌⊎◌, ⊤, length, map, IfErr, IfNone, IfOk, IfSome, OnErr, OnOk, IsTrue, false, ◌↔◌};
 ghost use Rattle.std.specs.Option.{option_map};
+ghost use Rattle.std.specs.Arc.{arc_value};
 ghost use Rattle.flurry_bins.specs.Bin.{entries_of_bin};
 ghost use Rattle.flurry_bins.specs.Entries.{lent_bound};
 ghost use Rattle.flurry_model.specs.Greatest.{greatest};
-ghost use Rattle.flurry_slots.specs.LiveView.{live_of, view_of_written, view_of_added, outcome, IfAbsent};
-ghost use Rattle.flurry_bins.specs.PlainEntries.{numbered_pair};
+ghost use Rattle.flurry_bins.specs.Given.{given_of, IsNotInserted};
+ghost use Rattle.flurry_bins.specs.Inserted.{IfReplaced};
+ghost use Rattle.flurry_slots.specs.LiveView.{live_of, view_of_inserted, view_of_added, IfPresent, outcome, IfAbsent, IsLeftOf};
+ghost use Rattle.flurry_bins.specs.PlainEntries.{numbered_pair, numbered_pairs};
 ghost use Rattle.flurry_bins.specs.PlainEntries.{AllInRegion};
 ghost use Rattle.flurry_slots.specs.Slot.{SlotState, IsLive, HasMoved, IsUnborn, IsSlot, LiesIn, IfLive, is_live, slot_with, entry_of_live, next_of_live, after_write, write_reply, after_add, add_reply, after_take, after_take_if, take_if_reply, after_wipe, Computes, ComputesInVain, HasMovedInto, Clashes};
 ghost use Rattle.flurry_slots.specs.SlotView.{place_of, answer_with, answer_map, IfHere, IfAway, IsAway, IfDone, IfAlready, IfClash, IfNotDone};
@@ -13,19 +16,20 @@ ghost use Rattle.flurry_model.specs.declared.sizes.TheConstants.{GREATEST_TABLE}
 
 use crate::clones::{Cloning, NoCloning};
 use crate::compute_fn::ComputeFn;
-use crate::live::{Added, Computed, LiveBin, Written};
-use flurry_bins::bin::{Bin, Entry};
-use flurry_model::try_insert::TryInsertError;
-use std::alloc::{AllocError, Allocator, Global};
+use crate::live::{Added, Computed, LiveBin};
+use flurry_bins::bin::{Bin, Entry, Given, NotInserted, Ordered};
+use flurry_bins::table::Inserted;
+use std::alloc::{Allocator, Global};
 use std::marker::Model;
 use std::mem;
+use std::sync::Arc;
 
 /// What a step at a slot returns.
 ///
 /// ```
 /// match answer {
-///     Answer::Here(written) => written.old.map(|old| *old),
-///     Answer::Moved(_) | Answer::Unborn(_) => None,
+///     Answer::Here(Inserted::Replaced(replaced)) => Some(*replaced.old),
+///     _ => None,
 /// }
 /// ```
 #[derive(Drop)]
@@ -274,16 +278,30 @@ impl<K: Ord + Drop, V: Drop, A: Allocator> Slot<K, V, A> {
     }
 
     #[tactic(auto, using(crate::proofs::SlotLaws::live_in_wiped))]
+    /// Removes all entries, and returns them as a bin. Constant time; takes no memory.
+    pub fn drain(&mut self) -> Answer<Bin<K, V, A>, ()>
+        ensures reply { answer_map (λ b. numbered_pairs (entries_of_bin b)) result
+            ≡ answer_with self.old.content (λ b. b.held) tt }
+        ensures after { self.new ≡ slot_with after_wipe self.old }
+        ensures within { IsSlot K.cmp self.old }
+    {
+        match self.state {
+            State::Live => Answer::Here(self.live.drain()),
+            State::Moved => Answer::Moved(()),
+            State::Unborn => Answer::Unborn(()),
+        }
+    }
+
     /// Removes all entries, and returns how many there were. Linear in the number of entries; takes no memory.
     pub fn wipe(&mut self) -> Answer<usize, ()>
         ensures reply { result ≡ answer_with self.old.content (λ b. length b.held) tt }
         ensures after { self.new ≡ slot_with after_wipe self.old }
         ensures within { IsSlot K.cmp self.old }
     {
-        match self.state {
-            State::Live => Answer::Here(self.live.wipe()),
-            State::Moved => Answer::Moved(()),
-            State::Unborn => Answer::Unborn(()),
+        match self.drain() {
+            Answer::Here(bin) => Answer::Here(bin.len()),
+            Answer::Moved(()) => Answer::Moved(()),
+            Answer::Unborn(()) => Answer::Unborn(()),
         }
     }
 
@@ -348,26 +366,28 @@ impl<K: Ord + Drop, V: Drop, A: Allocator> Slot<K, V, A> {
 
 impl<K: Ord + Drop, V: Drop, A: Allocator + Copy> Slot<K, V, A> {
     #[tactic(auto, using(crate::proofs::SlotLaws::live_in_written))]
-    /// Sets the value of a key. If the key is present, the stored key stays, and the old value is returned; if it is absent, the pair is
-    /// inserted. The result also says whether the bin asks for a larger table. As many steps as a look-up in the bin.
+    /// Sets the value of a key, in one pass down the bin. If the key is present, the stored key stays, and the old value and the key that
+    /// was passed in are returned; if it is absent, the pair is inserted. The result also says whether the bin asks for a larger table. As
+    /// many steps as a look-up in the bin. If the key is absent, memory for the key and for a node is taken.
     ///
     /// # Errors
     ///
-    /// Returns [`AllocError`] if memory for the pair cannot be allocated, or if the bin has 2^62 entries. The bin is unchanged, and the key
-    /// and the value are dropped.
+    /// Returns the key and the value if memory cannot be allocated, or if the bin has 2^62 entries. The bin is unchanged.
     pub fn put(
         &mut self,
         alloc: A,
         hash: u64,
         key: K,
-        value: V,
-    ) -> Result<Answer<Written<V, A>, (K, V)>, AllocError>
+        value: Given<V, A>,
+    ) -> Result<Answer<Inserted<K, V, A>, (K, Given<V, A>)>, NotInserted<K, V, A>>
         requires { LiesIn hash self.old }
         ensures reply { IfOk result
-            (λ a. answer_map view_of_written a
+            (λ a. answer_map view_of_inserted a
             ≡ answer_with self.old.content (λ b. write_reply K.cmp (2 ^ self.old.table) b hash key) (key, value)) }
         ensures after { OnOk result
-            (self.new ≡ slot_with (λ b. after_write K.cmp (2 ^ self.old.table) b hash key value) self.old) }
+            (self.new ≡ slot_with (λ b. after_write K.cmp (2 ^ self.old.table) b hash key (given_of value)) self.old) }
+        ensures key { IfOk result (λ a. IfHere a (λ w. IfReplaced w (λ it. it.key ≡ key))) }
+        ensures err { IfErr result (λ n. IsNotInserted key (given_of value) n) }
         ensures refused { OnErr result (self.new ≡ self.old) }
         ensures only_live { OnErr result (IfLive self.old.content (λ _. ⊤)) }
         ensures within { IsSlot K.cmp self.old }
@@ -382,26 +402,28 @@ impl<K: Ord + Drop, V: Drop, A: Allocator + Copy> Slot<K, V, A> {
 
     #[tactic(auto, using(crate::proofs::SlotLaws::live_in_added))]
     /// Inserts a pair if its key is absent, and returns a clone of the value's `Arc`, and whether the bin asks for a larger table. If the
-    /// key is present, nothing changes: the result has the stored value and the one that was not inserted. As many steps as a look-up in
-    /// the bin.
+    /// key is present, nothing changes: the result has the stored value, and the key and the value that were not inserted. As many steps
+    /// as a look-up in the bin.
     ///
     /// # Errors
     ///
-    /// Returns [`AllocError`] if memory for the pair cannot be allocated, if the bin has 2^62 entries, or if cloning the `Arc` of the value
-    /// fails. The bin is unchanged, and the key and the value are dropped.
+    /// Returns the key and the value if memory for the pair cannot be allocated, if the bin has 2^62 entries, or if cloning the `Arc` of the
+    /// value fails. The bin is unchanged.
     pub fn put_absent(
         &mut self,
         alloc: A,
         hash: u64,
         key: K,
         value: V,
-    ) -> Result<Answer<Result<Added<V, A>, TryInsertError<V, A>>, (K, V)>, AllocError>
+    ) -> Result<Answer<Added<K, V, A>, (K, V)>, NotInserted<K, V, A>>
         requires { LiesIn hash self.old }
         ensures reply { IfOk result
             (λ a. answer_map view_of_added a
             ≡ answer_with self.old.content (λ b. add_reply K.cmp (2 ^ self.old.table) b hash key value) (key, value)) }
         ensures after { OnOk result
             (self.new ≡ slot_with (λ b. after_add K.cmp (2 ^ self.old.table) b hash key value) self.old) }
+        ensures key { IfOk result (λ a. IfHere a (λ r. IfPresent r (λ k. k ≡ key))) }
+        ensures err { IfErr result (λ n. IsNotInserted key value n) }
         ensures refused { OnErr result (self.new ≡ self.old) }
         ensures only_live { OnErr result (IfLive self.old.content (λ _. ⊤)) }
         ensures within { IsSlot K.cmp self.old }
@@ -416,19 +438,19 @@ impl<K: Ord + Drop, V: Drop, A: Allocator + Copy> Slot<K, V, A> {
 
     #[tactic(auto, using(crate::proofs::SlotLaws::live_in_written, crate::proofs::SlotLaws::live_in_taken))]
     /// Calls `f` once on the stored key and its value if the key is present, and stores what `f` returns as the new value. If `f` returns
-    /// `None`, the pair is removed. If `f` was not called, it is given back. As many steps as a look-up in the bin.
+    /// `None`, the pair is removed. The result has what was taken out: the old value, or the entry. If `f` was not called, it is given
+    /// back. As many steps as a look-up in the bin.
     ///
     /// # Errors
     ///
-    /// Returns [`AllocError`] if memory for the new value cannot be allocated, or if cloning its `Arc` fails. `f` has been called then; the
-    /// value that it computed is dropped, and the bin is unchanged.
+    /// Returns the value that `f` returned if memory for it cannot be allocated, or if cloning its `Arc` fails. The bin is unchanged.
     pub fn compute<F: ComputeFn<K, V>>(
         &mut self,
         alloc: A,
         hash: u64,
         key: &K,
         f: F,
-    ) -> Result<Answer<Computed<V, F, A>, F>, AllocError>
+    ) -> Result<Answer<Computed<K, V, F, A>, F>, Given<V, A>>
         requires region { LiesIn hash self.old }
         requires callable { F.can_change f }
         ensures back { IfOk result (λ a. IsAway a self.old.content f) }
@@ -436,10 +458,12 @@ impl<K: Ord + Drop, V: Drop, A: Allocator + Copy> Slot<K, V, A> {
         ensures here { IfOk result (λ a. IfHere a (λ c. IfLive self.old.content (λ b. IfLive self.new.content (λ d.
             Computes K.cmp (F.changes f) (2 ^ self.old.table) b hash key.now (outcome c) d
             × (self.new ≡ slot_with (λ _. d) self.old))))) }
+        ensures left { IfOk result (λ a. IfHere a (λ c.
+            IfLive self.old.content (λ b. IsLeftOf (entry_of_live K.cmp b hash key.now) c))) }
         ensures same { IfOk result (λ a. IfAway a (self.new ≡ self.old)) }
         ensures refused { OnErr result (self.new ≡ self.old) }
-        ensures in_vain { OnErr result
-            (IfLive self.old.content (λ b. ComputesInVain K.cmp (F.changes f) b hash key.now)) }
+        ensures in_vain { IfErr result (λ g.
+            IfLive self.old.content (λ b. ComputesInVain K.cmp (F.changes f) b hash key.now (given_of g))) }
         ensures within { IsSlot K.cmp self.old }
     {
         let bins = 1usize << self.table;

@@ -67,7 +67,7 @@ module _ {K V F : Type 0} (cmp : K → K → Ordering) (changes : F → K → V 
   CanBeRefused (RemovesSeen z) b = ⊥
   CanBeRefused (Inserts k v) b = ⊤
   CanBeRefused (Adds k v) b = ⊤
-  CanBeRefused (Computes k f) b = ComputesInVain cmp (changes f) b h k
+  CanBeRefused (Computes k f) b = (w : V) × ComputesInVain cmp (changes f) b h k w
 
   -- at a live bin the call decides, or it is refused and changes nothing
   abbrev pub LiveGives : Task K V F → ℕ → Live K V → Event → Stage K V F → Content K V → Type 0

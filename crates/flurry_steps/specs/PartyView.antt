@@ -1,5 +1,7 @@
 -- What contracts see of a call in progress.
 use Rattle.std.specs.Prelude.{⊤}
+use Rattle.std.specs.Arc.{arc_value}
+use Rattle.flurry_bins.specs.Given.{given_of}
 use Rattle.flurry_calls.specs.OutcomeView.{outcome_of}
 use Rattle.flurry_calls.specs.Sweep.{Reads, Wipes, fresh_sweep}
 use Rattle.flurry_steps.specs.Party as abstract
@@ -38,7 +40,7 @@ module _ {K V F A : Type 0} where
   task_of (task.Find w k) = abstract.Finds (sought_of w) (key_of k)
   task_of (task.Remove w k) = abstract.Removes (sought_of w) (key_of k)
   task_of (task.RemoveSeen z) = abstract.RemovesSeen z
-  task_of (task.Insert k v) = abstract.Inserts k v
+  task_of (task.Insert k v) = abstract.Inserts k (given_of v)
   task_of (task.Add k v) = abstract.Adds k v
   task_of (task.Compute k f) = abstract.Computes (key_of k) f
 
@@ -50,7 +52,7 @@ module _ {K V F A : Type 0} where
   first_stage (call.Remove k) = abstract.AtLocate (abstract.Removes abstract.TheValue k.now)
   first_stage (call.RemoveEntry k) = abstract.AtLocate (abstract.Removes abstract.ThePair k.now)
   first_stage (call.RemoveSeen z) = abstract.AtLocate (abstract.RemovesSeen z)
-  first_stage (call.Insert k v) = abstract.AtLocate (abstract.Inserts k v)
+  first_stage (call.Insert k v) = abstract.AtLocate (abstract.Inserts k (arc_value v))
   first_stage (call.TryInsert k v) = abstract.AtLocate (abstract.Adds k v)
   first_stage (call.Compute k f) = abstract.AtLocate (abstract.Computes k.now f)
   first_stage (call.Reserve a) = abstract.AtReserve a

@@ -78,7 +78,7 @@ pub trait Field<K: Ord + Drop, V: Drop, A: Allocator + Copy> {
 }
 
 /// Does the next step of `party` over `field`, and returns what the step did. If the call is done, or the field does not pass the part,
-/// returns `None`, and both are unchanged.
+/// returns `None`, and both are unchanged. It drops first what the step before took out of its bin, so that the field holds no lock then.
 ///
 /// Takes as many steps as the call's step, and as many as the field needs to pass the part.
 #[inline]
@@ -89,6 +89,7 @@ pub fn act<K: Ord + Drop, V: Drop, A: Allocator + Copy, F: ComputeFn<K, V>, X: F
     ensures { ActsOrStays X.Room.place_gives K.cmp F.changes X.lends X.lacks field.old party.old
         result field.new party.new }
 {
+    party.release();
     match party.want() {
         Want::Control => field.at_control(party),
         Want::Look(table, index) => field.at_look(table, index, party),

@@ -23,6 +23,7 @@ mod at_tally;
 mod call;
 mod ending;
 mod first;
+mod left;
 mod single;
 mod stage;
 
@@ -33,6 +34,8 @@ use flurry_calls::{Seen, Sweep};
 pub use flurry_calls::{Event, Reply, Want};
 use flurry_control::{Control, PublishedTable, Room, Tally};
 use flurry_slots::{ComputeFn, Slot};
+use left::Left;
+pub use left::Remains;
 use single::Single;
 use stage::Stage;
 use std::alloc::{AllocError, Allocator, Global};
@@ -83,6 +86,7 @@ impl<'k, K, V, F: ComputeFn<K, V>, A: Allocator> Party<'k, K, V, F, A> {
                 hash,
                 processors,
                 stage,
+                left: Left::Nothing,
             }),
         }
     }
@@ -210,6 +214,19 @@ impl<'k, K: Drop, V: Drop, F: ComputeFn<K, V>, A: Allocator> Party<'k, K, V, F, 
         match &self.course {
             Course::Single(single) => Ok(single.seen()),
             Course::Sweep(_, _, sweep) => sweep.seen(),
+        }
+    }
+
+    /// Drops what the last step at a bin took out of it and did not return, or was given and did not keep. [`act`](crate::act) begins
+    /// with this, so that nothing of the kind is dropped while a lock is held.
+    ///
+    /// Constant time, and as long as the drops take; after a clear of a bin, linear in the number of its entries.
+    pub fn release(&mut self)
+        ensures { self.new ≡ self.old }
+    {
+        match &mut self.course {
+            Course::Single(single) => single.release(),
+            Course::Sweep(_, _, sweep) => sweep.release(),
         }
     }
 

@@ -297,10 +297,10 @@ module _ {K V F : Type 0} (cmp : K → K → Ordering) (total : IsTotalOrder cmp
     present : (k : K) → IsSome (entry_of_live cmp b (hash k) k) → IsSome (find cmp (pairs_of (entries_of_held b.held)) k)
     present k there = ap is_some (find-entries cmp total hash lawful b.held k hd) ∙ sym (presence_found (entry_of_live cmp b (hash k) k)) ∙ there
 
-    compute_refused : (k : K) (f : F) → slot.ComputesInVain cmp (gives f) b (hash k) k → CanBeRefused cmp gives (Compute k f) (pairs_of (entries_of_held b.held))
+    compute_refused : (k : K) (f : F) → (w : V) × slot.ComputesInVain cmp (gives f) b (hash k) k w → CanBeRefused cmp gives (Compute k f) (pairs_of (entries_of_held b.held))
     compute_refused k f p =
-        let found : find cmp (pairs_of (entries_of_held b.held)) k ≡ Some (p.0.0.1, p.0.1.0) = find-entries cmp total hash lawful b.held k hd ∙ ap (option_map (λ (x : PlainEntry K V). (x.0.1, x.1.0))) (p.2) in
-        rw found (p.1, p.3)
+        let found : find cmp (pairs_of (entries_of_held b.held)) k ≡ Some (p.1.0.0.1, p.1.0.1.0) = find-entries cmp total hash lawful b.held k hd ∙ ap (option_map (λ (x : PlainEntry K V). (x.0.1, x.1.0))) (p.1.1) in
+        rw found (p.0, p.1.2)
 
     -- the machine's call can be refused there too
     pub refused : (c : Call K V F) (t : Task K V F) (k : K) → task_of_call c ≡ Some t → key_of c ≡ Some k → party.CanBeRefused cmp gives (hash k) t b → CanBeRefused cmp gives c (pairs_of (entries_of_held b.held))

@@ -4,8 +4,11 @@ ghost use Rattle.std.specs.Prelude.{◌≡◌, ◌≤◌, ℕ, length, false, No
 use flurry::TryInsertError;
 use flurry::bin::node::Colour;
 use flurry::bin::{Bin, BoxedNode, Entry, ListBin, Node, Ordered, TreeBin};
-use flurry::slots::{Added, Answer, Computed, MoveAnswer, Slot, Written};
+use flurry::slots::{
+    Added, Answer, Computed, Given, Inserted, MoveAnswer, NotInserted, Replaced, Slot,
+};
 use std::alloc::{AllocError, Global};
+use std::sync::Arc;
 
 /// Returns the value of a pair, taken out of its node.
 pub fn value_of_node(alloc: Global, hash: u64, key: u64, value: u64) -> Result<u64, AllocError>
@@ -84,35 +87,33 @@ pub fn visits<B: Ordered<u64, u64, Global>>(bin: &B, hash: u64, key: u64) -> u64
     visits
 }
 
-/// Returns the value that a write found at its key.
-pub fn value_before(answer: Answer<Written<u64, Global>, (u64, u64)>) -> Option<u64>
-    ensures { (lent : ℕ × ℕ) → answer ≡ Answer.Moved lent → result ≡ None }
+/// Returns the value that an insertion found at its key.
+pub fn value_before<B: Drop>(answer: Answer<Inserted<u64, u64, Global>, B>) -> Option<u64>
+    ensures { (lent : B) → answer ≡ Answer.Moved lent → result ≡ None }
 {
     match answer {
-        Answer::Here(written) => written.old.map(|old| *old),
-        Answer::Moved(_) | Answer::Unborn(_) => None,
+        Answer::Here(Inserted::Replaced(replaced)) => Some(*replaced.old),
+        _ => None,
     }
 }
 
 /// Returns the value that is present after an addition.
-pub fn value_after(
-    answer: Answer<Result<Added<u64, Global>, TryInsertError<u64>>, (u64, u64)>,
-) -> Option<u64>
+pub fn value_after(answer: Answer<Added<u64, u64, Global>, (u64, u64)>) -> Option<u64>
     ensures { (lent : ℕ × ℕ) → answer ≡ Answer.Moved lent → result ≡ None }
 {
     match answer {
-        Answer::Here(Ok(added)) => Some(*added.value),
-        Answer::Here(Err(error)) => Some(*error.current),
+        Answer::Here(Added::New { value, .. }) => Some(*value),
+        Answer::Here(Added::Present { error, .. }) => Some(*error.current),
         Answer::Moved(_) | Answer::Unborn(_) => None,
     }
 }
 
 /// Returns the value that a computation wrote.
-pub fn value_computed<F: Drop>(answer: Answer<Computed<u64, F, Global>, F>) -> Option<u64>
+pub fn value_computed<F: Drop>(answer: Answer<Computed<u64, u64, F, Global>, F>) -> Option<u64>
     ensures { (f : F) → answer ≡ Answer.Moved f → result ≡ None }
 {
     match answer {
-        Answer::Here(Computed::Changed(value)) => Some(*value),
+        Answer::Here(Computed::Changed { new, .. }) => Some(*new),
         _ => None,
     }
 }
@@ -128,5 +129,46 @@ pub fn move_bin(
     match slot.move_into(low, high) {
         MoveAnswer::Done(_) | MoveAnswer::Already(_) => true,
         MoveAnswer::Clash => false,
+    }
+}
+
+/// Returns the number that was given. This is an example only.
+pub fn number_given(given: Given<u64>) -> u64 {
+    match given {
+        Given::Plain(number) => number,
+        Given::Shared(number) => *number,
+    }
+}
+
+/// Returns the key of a node that could not be made, or `None` if it was made. This is an example only.
+pub fn key_not_inserted(alloc: Global, hash: u64, key: u64, value: Arc<u64>) -> Option<u64> {
+    match Node::of_key(alloc, hash, key, value, 0) {
+        Ok(_) => None,
+        Err(
+            NotInserted {
+                key: Given::Plain(key),
+                ..
+            },
+        ) => Some(key),
+        Err(
+            NotInserted {
+                key: Given::Shared(key),
+                ..
+            },
+        ) => Some(*key),
+    }
+}
+
+/// Returns the key and the value that an insertion at a present key gave back. This is an example only.
+pub fn given_back(replaced: Replaced<u64, u64>) -> (u64, u64) {
+    let Replaced { key, old } = replaced;
+    (key, *old)
+}
+
+/// Returns whether an insertion asks for a larger table. This is an example only.
+pub fn asks_for_growth(inserted: Inserted<u64, u64>) -> bool {
+    match inserted {
+        Inserted::New { asks_for_growth } => asks_for_growth,
+        Inserted::Replaced(_) => false,
     }
 }

@@ -2,6 +2,7 @@
 
 mod beside;
 mod bulk;
+mod drops;
 mod kept;
 mod refused;
 mod views;

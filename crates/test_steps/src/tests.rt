@@ -1,5 +1,6 @@
 //! Calls in steps.
 
+mod first_steps;
 mod party;
 
 use std::fmt::{Debug, Display};

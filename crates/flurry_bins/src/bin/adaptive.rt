@@ -1,8 +1,9 @@
 //! A bin that is a list while it is small, and a tree otherwise.
-ghost use Rattle.std.specs.Prelude.{◌≡◌, ◌<◌, ◌≤◌, ◌||◌, ◌&&◌, ◌+◌, nat_le, [], length, map, true, false, Some, IsSome, IsNone, IfOk, OnErr};
+ghost use Rattle.std.specs.Prelude.{◌≡◌, ◌<◌, ◌≤◌, ◌⊎◌, ◌||◌, ◌&&◌, ◌+◌, nat_le, [], length, map, true, false, Some, IsSome, IsNone, IfOk, OnErr, IfErr, IfSome};
 ghost use Rattle.std.specs.Option.{option_map};
 ghost use Rattle.std.specs.Arc.{arc_value};
 ghost use Rattle.flurry_bins.specs.Chain.{chain, entry_of};
+ghost use Rattle.flurry_bins.specs.Given.{IsNotInserted, old_of};
 ghost use Rattle.flurry_bins.specs.Entries.{entry_at, with_entry, with_value_at, without, with_bit, IsInsertion};
 ghost use Rattle.flurry_model.specs.Greatest.{greatest};
 ghost use Rattle.flurry_bins.specs.Tree.{shape, node_shape, inorder};
@@ -15,6 +16,7 @@ mod nodes;
 mod retain;
 
 use super::entry::Entry;
+use super::given::{NotInserted, Replaced};
 use super::list::{self, ListBin, prepend};
 use super::node::{BoxedNode, Link, Node};
 use super::ordered::Ordered;
@@ -260,11 +262,16 @@ fn insert_into<K: Ord + Drop, V: Drop, A: Allocator + Copy>(
     key: K,
     value: Arc<V, A>,
     number: u64,
-) -> (Kind<K, V, A>, Result<Option<Arc<V, A>>, AllocError>)
+) -> (
+    Kind<K, V, A>,
+    Result<Option<Replaced<K, V, A>>, NotInserted<K, V, A>>,
+)
     requires { length (kind_entries kind) < MOST_PAIRS }
-    ensures ok { IfOk result.1 (λ old.
-        IsInsertion K.cmp hash key value number old (kind_entries kind) (kind_entries result.0)) }
-    ensures err { OnErr result.1 (kind_entries result.0 ≡ kind_entries kind) }
+    ensures ok { IfOk result.1 (λ r.
+        IsInsertion K.cmp hash key value number (old_of r) (kind_entries kind) (kind_entries result.0)) }
+    ensures key { IfOk result.1 (λ r. IfSome r (λ it. it.key ≡ key)) }
+    ensures err { IfErr result.1 (λ n. IsNotInserted key (arc_value value) n) }
+    ensures same { OnErr result.1 (kind_entries result.0 ≡ kind_entries kind) }
     ensures kind { kind_is_tree result.0
         ≡ (kind_is_tree kind || nat_le (MOST_IN_LIST + 1) (length (kind_entries result.0))) }
 {
@@ -352,6 +359,20 @@ impl<K: Ord, V, A: Allocator> Bin<K, V, A> {
     {
         Bin { kind: Kind::Empty }
     }
+
+    /// Converts the bin into its nodes, linked as they are: the first one of a list, or the root of a tree, or `None` if there is none.
+    /// Constant time.
+    pub fn into_nodes(self) -> Option<BoxedNode<K, V, A>>
+        ensures { (chain result ≡ entries_of_bin self) ⊎ (inorder (shape result) ≡ entries_of_bin self) }
+    {
+        let Bin { kind } = self;
+        match kind {
+            Kind::Empty => None,
+            Kind::One(LoneNode { node, .. }) => Some(node),
+            Kind::AsList(NodeList { head, .. }) => Some(head),
+            Kind::AsTree(NodeTree { root, .. }) => Some(root),
+        }
+    }
 }
 
 #[tactic(auto, unfolding(crate::specs::Bin::entries_of_bin, crate::specs::Bin::is_tree))]
@@ -405,11 +426,13 @@ impl<K: Ord + Drop, V: Drop, A: Allocator + Copy> Bin<K, V, A> {
         key: K,
         value: Arc<V, A>,
         number: u64,
-    ) -> Result<Option<Arc<V, A>>, AllocError>
+    ) -> Result<Option<Replaced<K, V, A>>, NotInserted<K, V, A>>
         requires { length (entries_of_bin self.old) < MOST_PAIRS }
-        ensures ok { IfOk result (λ old.
-            IsInsertion K.cmp hash key value number old (entries_of_bin self.old) (entries_of_bin self.new)) }
-        ensures err { OnErr result (entries_of_bin self.new ≡ entries_of_bin self.old) }
+        ensures ok { IfOk result (λ r.
+            IsInsertion K.cmp hash key value number (old_of r) (entries_of_bin self.old) (entries_of_bin self.new)) }
+        ensures key { IfOk result (λ r. IfSome r (λ it. it.key ≡ key)) }
+        ensures err { IfErr result (λ n. IsNotInserted key (arc_value value) n) }
+        ensures same { OnErr result (entries_of_bin self.new ≡ entries_of_bin self.old) }
         ensures kind { is_tree self.new
             ≡ (is_tree self.old || nat_le (MOST_IN_LIST + 1) (length (entries_of_bin self.new))) }
     {

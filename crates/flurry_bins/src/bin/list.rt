@@ -1,7 +1,8 @@
 //! A bin that is a list.
-ghost use Rattle.std.specs.Prelude.{◌≡◌, ◌+◌, ◌<◌, ◌≤◌, ◌++◌, ◌∷◌, [], length, map, reverse, MatchOption, Option, Some, None, IsSome, IsNone, IfOk, OnErr};
+ghost use Rattle.std.specs.Prelude.{◌≡◌, ◌+◌, ◌<◌, ◌≤◌, ◌++◌, ◌∷◌, [], length, map, reverse, MatchOption, Option, Some, None, IsSome, IsNone, IfOk, OnErr, IfErr, IfSome};
 ghost use Rattle.std.specs.Option.{option_map, option_copied};
 ghost use Rattle.std.specs.Arc.{arc_value};
+ghost use Rattle.flurry_bins.specs.Given.{IsNotInserted, old_of};
 ghost use Rattle.flurry_bins.specs.Entries.{IsAscending, IsAscending-prop, AllBefore, NotBefore, list_way, entry_at, first_past, lent_bound, with_entry, with_value_at, IsInsertion};
 ghost use Rattle.flurry_model.specs.Greatest.{greatest};
 ghost use Rattle.flurry_bins.specs.Short.{list_way-short};
@@ -11,6 +12,7 @@ ghost use Rattle.flurry_model.specs.declared.sizes.TheConstants.{MOST_PAIRS};
 mod retain;
 
 use super::entry::Entry;
+use super::given::{NotInserted, Replaced};
 use super::node::{BoxedNode, Link, Node, follow};
 use super::ordered::Ordered;
 use std::alloc::{AllocError, Allocator, Global};
@@ -155,15 +157,19 @@ fn insert_first<K: Ord + Drop, V: Drop, A: Allocator + Copy>(
     key: K,
     value: Arc<V, A>,
     number: u64,
-) -> Result<Option<Arc<V, A>>, AllocError>
+) -> Result<Option<Replaced<K, V, A>>, NotInserted<K, V, A>>
     requires ascending { IsAscending K.cmp (chain rest.old) }
     requires stops { NotBefore K.cmp hash key (chain rest.old) }
-    ensures ok { IfOk result (λ old. IsInsertion K.cmp hash key value number old (chain rest.old) (chain rest.new)) }
-    ensures err { OnErr result (chain rest.new ≡ chain rest.old) }
+    ensures ok { IfOk result
+        (λ r. IsInsertion K.cmp hash key value number (old_of r) (chain rest.old) (chain rest.new)) }
+    ensures key { IfOk result (λ r. IfSome r (λ it. it.key ≡ key)) }
+    ensures err { IfErr result (λ n. IsNotInserted key (arc_value value) n) }
+    ensures same { OnErr result (chain rest.new ≡ chain rest.old) }
 {
     if let Some(first) = rest {
         if first.entry.is_at(hash, &key) {
-            return Ok(Some(first.write(value, number)));
+            let old = first.write(value, number);
+            return Ok(Some(Replaced { key, old }));
         }
     }
     let node = Node::of_key(alloc, hash, key, value, number)?;
@@ -237,20 +243,22 @@ impl<K: Ord + Drop, V: Drop, A: Allocator + Copy> ListBin<K, V, A> {
         key: K,
         value: Arc<V, A>,
         number: u64,
-    ) -> Result<Option<Arc<V, A>>, AllocError>
+    ) -> Result<Option<Replaced<K, V, A>>, NotInserted<K, V, A>>
         requires { length (entries_of_list self.old) < MOST_PAIRS }
-        ensures ok { IfOk result (λ old.
-            IsInsertion K.cmp hash key value number old (entries_of_list self.old) (entries_of_list self.new)) }
-        ensures err { OnErr result (entries_of_list self.new ≡ entries_of_list self.old) }
+        ensures ok { IfOk result (λ r.
+            IsInsertion K.cmp hash key value number (old_of r) (entries_of_list self.old) (entries_of_list self.new)) }
+        ensures key { IfOk result (λ r. IfSome r (λ it. it.key ≡ key)) }
+        ensures err { IfErr result (λ n. IsNotInserted key (arc_value value) n) }
+        ensures same { OnErr result (entries_of_list self.new ≡ entries_of_list self.old) }
     {
         let (front, mut rest) = split_before(self.head.take(), hash, &key);
         let reply = insert_first(&mut rest, alloc, hash, key, value, number);
         self.head = prepend_reversed(front, rest);
-        let old = reply?;
-        if old.is_none() {
+        let replaced = reply?;
+        if replaced.is_none() {
             self.len += 1;
         }
-        Ok(old)
+        Ok(replaced)
     }
 }
 

@@ -1,11 +1,13 @@
 //! A boxed entry, with room for two links and a colour, so that the same node serves in a list and in a tree.
-ghost use Rattle.std.specs.Prelude.{◌≡◌, IfOk};
+ghost use Rattle.std.specs.Prelude.{◌≡◌, IfOk, IfErr};
 ghost use Rattle.std.specs.Arc.{arc_value};
 ghost use Rattle.flurry_bins.specs.Chain.{chain, chain_from, entry_of, with_entry};
+ghost use Rattle.flurry_bins.specs.Given.{IsNotInserted};
 ghost use Rattle.flurry_bins.specs.Entries.{IsEntryOf, with_hash, with_value};
 ghost use Rattle.flurry_bins.specs.Tree.{shape, shape_from};
 
 use super::entry::Entry;
+use super::given::{Given, NotInserted};
 use std::alloc::{AllocError, Allocator, Global};
 use std::mem;
 use std::sync::Arc;
@@ -93,29 +95,74 @@ impl<K: Drop, V: Drop, A: Allocator> Node<K, V, A> {
         ensures number { IfOk result (λ b. (entry_of b.value).number ≡ number) }
     {
         let value = Arc::new(alloc, value)?;
-        Node::of_key(alloc, hash, key, value, number)
+        match Node::of_key(alloc, hash, key, value, number) {
+            Ok(node) => Ok(node),
+            Err(_) => Err(AllocError),
+        }
     }
 
-    // A node of a key, and of a value that is in an `Arc` already.
-    pub(crate) fn of_key(
+    /// Creates a node of a key, and of a value that is in an `Arc` already. The node is in no bin yet. Constant time. Takes memory for the
+    /// key and the node.
+    ///
+    /// # Errors
+    ///
+    /// Returns the key and the value if memory cannot be allocated.
+    pub fn of_key(
         alloc: A,
         hash: u64,
         key: K,
         value: Arc<V, A>,
         number: u64,
-    ) -> Result<BoxedNode<K, V, A>, AllocError>
+    ) -> Result<BoxedNode<K, V, A>, NotInserted<K, V, A>>
     where
         A: Copy,
-        ensures { IfOk result (λ b. IsEntryOf hash key value number (entry_of b.value)) }
+        ensures ok { IfOk result (λ b. IsEntryOf hash key value number (entry_of b.value)) }
+        ensures err { IfErr result (λ n. IsNotInserted key (arc_value value) n) }
     {
-        let key = Arc::new(alloc, key)?;
+        let key = match Arc::new(alloc, key) {
+            Ok(key) => key,
+            Err(failed) => {
+                return Err(NotInserted {
+                    key: Given::Plain(failed.value),
+                    value: Given::Shared(value),
+                });
+            }
+        };
         let entry = Entry {
             hash,
             key,
             value,
             number,
         };
-        Node::new(alloc, entry)
+        Node::of_entry(alloc, entry)
+    }
+
+    // A node of an entry, or the entry's key and value if memory for the node cannot be allocated.
+    fn of_entry(alloc: A, entry: Entry<K, V, A>) -> Result<BoxedNode<K, V, A>, NotInserted<K, V, A>>
+        ensures ok { IfOk result (λ b. entry_of b.value ≡ entry) }
+        ensures err { IfErr result (λ n. IsNotInserted (arc_value entry.key) (arc_value entry.value) n) }
+    {
+        let node = Node {
+            right: None,
+            entry,
+            left: None,
+            colour: Colour::Red,
+        };
+        match Box::new(alloc, node) {
+            Ok(node) => Ok(node),
+            Err(failed) => Err(failed.value.into_not_inserted()),
+        }
+    }
+
+    /// Converts the node into its key and its value. Constant time.
+    pub fn into_not_inserted(self) -> NotInserted<K, V, A>
+        ensures { let e = entry_of self in IsNotInserted (arc_value e.key) (arc_value e.value) result }
+    {
+        let Entry { key, value, .. } = self.into_entry();
+        NotInserted {
+            key: Given::Shared(key),
+            value: Given::Shared(value),
+        }
     }
 
     /// Returns a reference to the entry. Constant time.

@@ -1,7 +1,8 @@
 //! A bin that is a red-black tree.
-ghost use Rattle.std.specs.Prelude.{◌≡◌, ◌^◌, ◌*◌, ◌+◌, ◌<◌, ◌≤◌, ◌++◌, length, map, Option, Some, None, IfSome, IsSome, IsNone, IfOk, OnErr};
+ghost use Rattle.std.specs.Prelude.{◌≡◌, ◌^◌, ◌*◌, ◌+◌, ◌<◌, ◌≤◌, ◌++◌, length, map, Option, Some, None, IfSome, IsSome, IsNone, IfOk, OnErr, IfErr};
 ghost use Rattle.std.specs.Option.{option_map, option_copied};
 ghost use Rattle.std.specs.Arc.{arc_value};
+ghost use Rattle.flurry_bins.specs.Given.{IsNotInserted, old_of};
 ghost use Rattle.flurry_bins.specs.Entries.{IsAscending, IsAscending-prop, AllHashed, last_of, entry_at, first_past, lent_bound, with_entry, with_value_at, IsInsertion};
 ghost use Rattle.flurry_bins.specs.Chain.{chain, entry_of, colour_of};
 ghost use Rattle.flurry_model.specs.Greatest.{greatest};
@@ -14,6 +15,7 @@ ghost use Rattle.flurry_bins.specs.TreeInsertion.{IsTreeInsertion};
 ghost use Rattle.flurry_model.specs.declared.sizes.TheConstants.{MOST_PAIRS};
 
 use super::entry::Entry;
+use super::given::{NotInserted, Replaced};
 use super::list::{ListBin, detach_tail, prepend};
 use super::node::{BoxedNode, Colour, Link, Node, follow};
 use super::ordered::Ordered;
@@ -277,10 +279,12 @@ fn insert_in<K: Ord + Drop, V: Drop, A: Allocator + Copy>(
     key: K,
     value: Arc<V, A>,
     number: u64,
-) -> Result<Option<Arc<V, A>>, AllocError>
-    ensures ok { IfOk result (λ old.
-        IsTreeInsertion K.cmp hash key value number old (shape root.old) (shape root.new)) }
-    ensures err { OnErr result (shape root.new ≡ shape root.old) }
+) -> Result<Option<Replaced<K, V, A>>, NotInserted<K, V, A>>
+    ensures ok { IfOk result (λ r.
+        IsTreeInsertion K.cmp hash key value number (old_of r) (shape root.old) (shape root.new)) }
+    ensures key { IfOk result (λ r. IfSome r (λ it. it.key ≡ key)) }
+    ensures err { IfErr result (λ n. IsNotInserted key (arc_value value) n) }
+    ensures same { OnErr result (shape root.new ≡ shape root.old) }
 {
     let Some(top) = root else {
         let node = Node::of_key(alloc, hash, key, value, number)?;
@@ -289,19 +293,22 @@ fn insert_in<K: Ord + Drop, V: Drop, A: Allocator + Copy>(
     };
     match top.entry.compare_place(hash, &key) {
         Ordering::Less => {
-            let old = insert_in(&mut top.left, alloc, hash, key, value, number)?;
-            if old.is_none() {
+            let replaced = insert_in(&mut top.left, alloc, hash, key, value, number)?;
+            if replaced.is_none() {
                 settle_left(root);
             }
-            Ok(old)
+            Ok(replaced)
         }
-        Ordering::Equal => Ok(Some(top.write(value, number))),
+        Ordering::Equal => {
+            let old = top.write(value, number);
+            Ok(Some(Replaced { key, old }))
+        }
         Ordering::Greater => {
-            let old = insert_in(&mut top.right, alloc, hash, key, value, number)?;
-            if old.is_none() {
+            let replaced = insert_in(&mut top.right, alloc, hash, key, value, number)?;
+            if replaced.is_none() {
                 settle_right(root);
             }
-            Ok(old)
+            Ok(replaced)
         }
     }
 }
@@ -389,18 +396,20 @@ impl<K: Ord + Drop, V: Drop, A: Allocator + Copy> TreeBin<K, V, A> {
         key: K,
         value: Arc<V, A>,
         number: u64,
-    ) -> Result<Option<Arc<V, A>>, AllocError>
+    ) -> Result<Option<Replaced<K, V, A>>, NotInserted<K, V, A>>
         requires { length (entries_of_tree self.old) < MOST_PAIRS }
-        ensures ok { IfOk result (λ old.
-            IsInsertion K.cmp hash key value number old (entries_of_tree self.old) (entries_of_tree self.new)) }
-        ensures err { OnErr result (entries_of_tree self.new ≡ entries_of_tree self.old) }
+        ensures ok { IfOk result (λ r.
+            IsInsertion K.cmp hash key value number (old_of r) (entries_of_tree self.old) (entries_of_tree self.new)) }
+        ensures key { IfOk result (λ r. IfSome r (λ it. it.key ≡ key)) }
+        ensures err { IfErr result (λ n. IsNotInserted key (arc_value value) n) }
+        ensures same { OnErr result (entries_of_tree self.new ≡ entries_of_tree self.old) }
     {
-        let old = insert_in(&mut self.root, alloc, hash, key, value, number)?;
-        if old.is_none() {
+        let replaced = insert_in(&mut self.root, alloc, hash, key, value, number)?;
+        if replaced.is_none() {
             self.root = blacken(self.root.take());
             self.len += 1;
         }
-        Ok(old)
+        Ok(replaced)
     }
 }
 

@@ -11,7 +11,7 @@ use crate::cursor::Cursor;
 use crate::reply::Reply;
 use crate::seen::Seen;
 use crate::step::Event;
-use flurry_bins::bin::Entry;
+use flurry_bins::bin::{BoxedNode, Entry, Ordered};
 use flurry_slots::{Answer, Slot};
 use std::alloc::{AllocError, Allocator};
 use std::mem;
@@ -32,12 +32,12 @@ fn read<K: Drop, V: Drop, A: Allocator>(
     Ok(seen)
 }
 
-// Does the step of a walk. Returns its reply if it has ended, and what the step did.
+// Does the step of a walk. Returns its reply if it has ended, what the step did, and the pair that was read before if another one was read.
 pub(super) fn step_walk<K: Ord + Drop, V: Drop, A: Allocator>(
     cursor: &mut Cursor<K, A>,
     last: &mut Option<Seen<K, V, A>>,
     slot: &Slot<K, V, A>,
-) -> (Option<Reply<K, V, A>>, Event)
+) -> (Option<Reply<K, V, A>>, Event, Option<Seen<K, V, A>>)
     requires { slot.now.table ≡ cursor.old.top.table }
     ensures within { IsSlot K.cmp slot.now }
     ensures step { WalkGives K.cmp cursor.old slot.now.content last.old
@@ -46,32 +46,32 @@ pub(super) fn step_walk<K: Ord + Drop, V: Drop, A: Allocator>(
     match slot.next_after(cursor.bound()) {
         Answer::Here(Some(entry)) => match read(cursor, entry) {
             Ok(seen) => {
-                drop(mem::replace(last, Some(seen)));
-                (None, Event::Read)
+                let before = mem::replace(last, Some(seen));
+                (None, Event::Read, before)
             }
-            Err(_) => (Some(Reply::Refused), Event::Refused),
+            Err(_) => (Some(Reply::Refused), Event::Refused, None),
         },
         Answer::Here(None) => {
             if cursor.leave() {
-                (None, Event::Silent)
+                (None, Event::Silent, None)
             } else {
-                (Some(Reply::Ended), Event::Silent)
+                (Some(Reply::Ended), Event::Silent, None)
             }
         }
         Answer::Moved(()) => match cursor.split() {
-            Ok(()) => (None, Event::Silent),
-            Err(_) => (Some(Reply::Refused), Event::Refused),
+            Ok(()) => (None, Event::Silent, None),
+            Err(_) => (Some(Reply::Refused), Event::Refused, None),
         },
-        Answer::Unborn(()) => (None, Event::Silent),
+        Answer::Unborn(()) => (None, Event::Silent, None),
     }
 }
 
-// Does the step of a clear that has removed `wiped` pairs. Returns whether it goes on, and what the step did.
+// Does the step of a clear that has removed `wiped` pairs. Returns whether it goes on, what the step did, and the nodes that it removed.
 pub(super) fn step_clear<K: Ord + Drop, V: Drop, A: Allocator>(
     cursor: &mut Cursor<K, A>,
     wiped: &mut usize,
     slot: &mut Slot<K, V, A>,
-) -> (bool, Event)
+) -> (bool, Event, Option<BoxedNode<K, V, A>>)
     requires table { slot.old.table ≡ cursor.old.top.table }
     requires whole { HasNoBound cursor.old }
     ensures within { IsSlot K.cmp slot.old }
@@ -81,16 +81,16 @@ pub(super) fn step_clear<K: Ord + Drop, V: Drop, A: Allocator>(
     ensures step { ClearGives wiped.old cursor.old slot.old.content result.1 (Wipes wiped.new)
         (cleared_to cursor.new result.0) slot.new.content }
 {
-    match slot.wipe() {
-        Answer::Here(pairs) => {
+    match slot.drain() {
+        Answer::Here(bin) => {
             let (table, index) = cursor.at();
-            *wiped = wiped.saturating_add(pairs);
-            (cursor.leave(), Event::Wipe(table, index))
+            *wiped = wiped.saturating_add(bin.len());
+            (cursor.leave(), Event::Wipe(table, index), bin.into_nodes())
         }
         Answer::Moved(()) => match cursor.split() {
-            Ok(()) => (true, Event::Silent),
+            Ok(()) => (true, Event::Silent, None),
             Err(_) => unreachable!(),
         },
-        Answer::Unborn(()) => (true, Event::Silent),
+        Answer::Unborn(()) => (true, Event::Silent, None),
     }
 }

@@ -1,24 +1,25 @@
 //! The steps of a call at a bin.
 ghost use Rattle.std.specs.Prelude.{◌≡◌, ◌+◌, ◌-◌, ◌<◌, ◌≤◌, ◌⊎◌, Some, IfOk, OnErr};
-ghost use Rattle.flurry_slots.specs.LiveView.{view_of_written, view_of_added};
+ghost use Rattle.flurry_bins.specs.Given.{given_of};
+ghost use Rattle.flurry_slots.specs.LiveView.{view_of_inserted, view_of_added, outcome};
 ghost use Rattle.flurry_bins.specs.PlainEntries.{numbered_pair};
 ghost use Rattle.flurry_slots.specs.Slot.{IsSlot, IsUnborn, LiesIn};
 ghost use Rattle.flurry_calls.specs.Outcome.{OutcomeReply};
 ghost use Rattle.flurry_steps.specs.Party.{StageIsReady, TaskIsReady, IsWriter, IsDecided, steps_left, Finds, Removes, RemovesSeen, Inserts, Adds, Computes, reply_for};
-ghost use Rattle.flurry_steps.specs.PartySlots.{ContentGives, GoesOnNew, GoesOnWritten, GoesOnAdded, FindCanBeRefused};
+ghost use Rattle.flurry_steps.specs.PartySlots.{ContentGives, GoesOnNew, GoesOnWritten, GoesOnAdded, FindCanBeRefused, stage_computed};
 ghost use Rattle.flurry_calls.specs.OutcomeView.{outcome_of};
 ghost use Rattle.flurry_steps.specs.PartyView.{key_of, stage_of, task_of, sought_of};
 ghost use Rattle.flurry_model.specs.declared.sizes.TheConstants.{GREATEST_TABLE};
 
 use super::at_control::absent_reply;
 use super::call::{Key, Sought, Task};
+use super::left::Left;
 use super::stage::{GrowFor, Resume, Stage};
 use super::{Event, Reply};
 use flurry_bins::bin::Entry;
 use flurry_calls::Seen;
 use flurry_control::wanted_table;
-use flurry_model::try_insert::TryInsertError;
-use flurry_slots::{Added, Answer, ComputeFn, Computed, Slot, Written};
+use flurry_slots::{Added, Answer, ComputeFn, Computed, Given, Inserted, Replaced, Slot};
 use std::alloc::{AllocError, Allocator};
 use std::sync::Arc;
 
@@ -42,14 +43,14 @@ fn reply_of<K: Drop, V: Drop, A: Allocator>(
     }
 }
 
-// Does the step of a look-up. Returns the stage after it, and what the step did.
+// Does the step of a look-up. Returns the stage after it, what the step did, and what it leaves behind.
 pub(super) fn step_lookup<'k, K: Ord + Drop, V: Drop, F: ComputeFn<K, V>, A: Allocator>(
     hash: u64,
     sought: Sought,
     key: Key<'k, K>,
     table: u8,
     slot: &Slot<K, V, A>,
-) -> (Stage<'k, K, V, F, A>, Event)
+) -> (Stage<'k, K, V, F, A>, Event, Left<'k, K, V, F, A>)
     requires region { LiesIn hash slot.now }
     requires at { table ≡ slot.now.table }
     ensures ready { StageIsReady F.can_change (stage_of result.0) }
@@ -61,19 +62,36 @@ pub(super) fn step_lookup<'k, K: Ord + Drop, V: Drop, F: ComputeFn<K, V>, A: All
 {
     match slot.find(hash, key.get()) {
         Answer::Here(Some(entry)) => match reply_of(sought, entry) {
-            Ok(reply) => (Stage::Done(reply), Event::Decide),
-            Err(_) => (Stage::Done(Reply::Refused), Event::Refused),
+            Ok(reply) => (
+                Stage::Done(reply),
+                Event::Decide,
+                Left::Stored(key, None, None),
+            ),
+            Err(_) => (
+                Stage::Done(Reply::Refused),
+                Event::Refused,
+                Left::Stored(key, None, None),
+            ),
         },
-        Answer::Here(None) => (Stage::Done(absent_reply(sought)), Event::Decide),
+        Answer::Here(None) => (
+            Stage::Done(absent_reply(sought)),
+            Event::Decide,
+            Left::Stored(key, None, None),
+        ),
         Answer::Moved(()) => (
             Stage::Bin(Task::Find(sought, key), table + 1),
             Event::Silent,
+            Left::Nothing,
         ),
-        Answer::Unborn(()) => (Stage::Locate(Task::Find(sought, key)), Event::Silent),
+        Answer::Unborn(()) => (
+            Stage::Locate(Task::Find(sought, key)),
+            Event::Silent,
+            Left::Nothing,
+        ),
     }
 }
 
-// Does the step of a call that may change its bin. Returns the stage after it, and what the step did.
+// Does the step of a call that may change its bin. Returns the stage after it, what the step did, and what it leaves behind.
 #[inline(always)]
 pub(super) fn step_write<'k, K: Ord + Drop, V: Drop, F: ComputeFn<K, V>, A: Allocator + Copy>(
     alloc: A,
@@ -81,7 +99,7 @@ pub(super) fn step_write<'k, K: Ord + Drop, V: Drop, F: ComputeFn<K, V>, A: Allo
     task: Task<'k, K, V, F, A>,
     table: u8,
     slot: &mut Slot<K, V, A>,
-) -> (Stage<'k, K, V, F, A>, Event)
+) -> (Stage<'k, K, V, F, A>, Event, Left<'k, K, V, F, A>)
     requires region { LiesIn hash slot.old }
     requires at { table ≡ slot.old.table }
     requires writer { IsWriter (task_of task) }
@@ -103,17 +121,32 @@ pub(super) fn step_write<'k, K: Ord + Drop, V: Drop, F: ComputeFn<K, V>, A: Allo
     }
 }
 
-// The reply of a removal that has removed `entry`.
-fn owned_reply<K: Drop, V: Drop, A: Allocator>(
+// The reply of a removal that has removed `entry`, and what of the entry is not in the reply.
+fn owned_reply<'k, K: Drop, V: Drop, F: Drop, A: Allocator>(
     sought: Sought,
+    key: Key<'k, K>,
     entry: Entry<K, V, A>,
-) -> Reply<K, V, A>
-    ensures { outcome_of result ≡ OutcomeReply (reply_for (sought_of sought) (Some (numbered_pair entry))) }
+) -> (Reply<K, V, A>, Left<'k, K, V, F, A>)
+    ensures { outcome_of result.0 ≡ OutcomeReply (reply_for (sought_of sought) (Some (numbered_pair entry))) }
 {
+    let Entry {
+        key: stored,
+        value,
+        ..
+    } = entry;
     match sought {
-        Sought::Value => Reply::Value(Some(entry.value)),
-        Sought::Pair => Reply::Pair(Some((entry.key, entry.value))),
-        Sought::Presence => Reply::Contains(true),
+        Sought::Value => (
+            Reply::Value(Some(value)),
+            Left::Stored(key, Some(stored), None),
+        ),
+        Sought::Pair => (
+            Reply::Pair(Some((stored, value))),
+            Left::Stored(key, None, None),
+        ),
+        Sought::Presence => (
+            Reply::Contains(true),
+            Left::Stored(key, Some(stored), Some(value)),
+        ),
     }
 }
 
@@ -123,7 +156,7 @@ fn remove<'k, K: Ord + Drop, V: Drop, F: ComputeFn<K, V>, A: Allocator>(
     key: Key<'k, K>,
     table: u8,
     slot: &mut Slot<K, V, A>,
-) -> (Stage<'k, K, V, F, A>, Event)
+) -> (Stage<'k, K, V, F, A>, Event, Left<'k, K, V, F, A>)
     requires region { LiesIn hash slot.old }
     requires at { table ≡ slot.old.table }
     ensures ready { StageIsReady F.can_change (stage_of result.0) }
@@ -135,13 +168,25 @@ fn remove<'k, K: Ord + Drop, V: Drop, F: ComputeFn<K, V>, A: Allocator>(
         (stage_of result.0) slot.new.content }
 {
     match slot.take(hash, key.get()) {
-        Answer::Here(Some(entry)) => (Stage::Uncount(owned_reply(sought, entry)), Event::Decide),
-        Answer::Here(None) => (Stage::Done(absent_reply(sought)), Event::Decide),
+        Answer::Here(Some(entry)) => {
+            let (reply, left) = owned_reply(sought, key, entry);
+            (Stage::Uncount(reply), Event::Decide, left)
+        }
+        Answer::Here(None) => (
+            Stage::Done(absent_reply(sought)),
+            Event::Decide,
+            Left::Stored(key, None, None),
+        ),
         Answer::Moved(()) => (
             Stage::Claim(Resume::Bin(Task::Remove(sought, key), table + 1)),
             Event::Silent,
+            Left::Nothing,
         ),
-        Answer::Unborn(()) => (Stage::Locate(Task::Remove(sought, key)), Event::Silent),
+        Answer::Unborn(()) => (
+            Stage::Locate(Task::Remove(sought, key)),
+            Event::Silent,
+            Left::Nothing,
+        ),
     }
 }
 
@@ -150,7 +195,7 @@ fn remove_seen<'k, K: Ord + Drop, V: Drop, F: ComputeFn<K, V>, A: Allocator>(
     seen: Seen<K, V, A>,
     table: u8,
     slot: &mut Slot<K, V, A>,
-) -> (Stage<'k, K, V, F, A>, Event)
+) -> (Stage<'k, K, V, F, A>, Event, Left<'k, K, V, F, A>)
     requires region { LiesIn hash slot.old }
     requires at { table ≡ slot.old.table }
     ensures ready { StageIsReady F.can_change (stage_of result.0) }
@@ -162,15 +207,28 @@ fn remove_seen<'k, K: Ord + Drop, V: Drop, F: ComputeFn<K, V>, A: Allocator>(
 {
     match slot.take_if(hash, seen.key(), seen.number()) {
         Answer::Here(Some(entry)) => {
-            let reply = owned_reply(Sought::Value, entry);
-            (Stage::Uncount(reply), Event::Decide)
+            let Entry { key, value, .. } = entry;
+            (
+                Stage::Uncount(Reply::Value(Some(value))),
+                Event::Decide,
+                Left::Seen(seen, Some(key)),
+            )
         }
-        Answer::Here(None) => (Stage::Done(Reply::Value(None)), Event::Decide),
+        Answer::Here(None) => (
+            Stage::Done(Reply::Value(None)),
+            Event::Decide,
+            Left::Seen(seen, None),
+        ),
         Answer::Moved(()) => (
             Stage::Claim(Resume::Bin(Task::RemoveSeen(seen), table + 1)),
             Event::Silent,
+            Left::Nothing,
         ),
-        Answer::Unborn(()) => (Stage::Locate(Task::RemoveSeen(seen)), Event::Silent),
+        Answer::Unborn(()) => (
+            Stage::Locate(Task::RemoveSeen(seen)),
+            Event::Silent,
+            Left::Nothing,
+        ),
     }
 }
 
@@ -195,15 +253,20 @@ fn after_new_pair<'k, K, V, F: ComputeFn<K, V>, A: Allocator>(
 
 fn after_write<'k, K: Drop, V: Drop, F: ComputeFn<K, V>, A: Allocator>(
     table: u8,
-    written: Written<V, A>,
-) -> Stage<'k, K, V, F, A>
+    inserted: Inserted<K, V, A>,
+) -> (Stage<'k, K, V, F, A>, Left<'k, K, V, F, A>)
     requires { table ≤ GREATEST_TABLE }
-    ensures ready { StageIsReady F.can_change (stage_of result) }
-    ensures stage { GoesOnWritten table (view_of_written written) (stage_of result) }
+    ensures ready { StageIsReady F.can_change (stage_of result.0) }
+    ensures stage { GoesOnWritten table (view_of_inserted inserted) (stage_of result.0) }
 {
-    match written.old {
-        None => after_new_pair(table, Reply::Value(None), written.asks_for_growth),
-        Some(old) => Stage::Done(Reply::Value(Some(old))),
+    match inserted {
+        Inserted::New { asks_for_growth } => {
+            let stage = after_new_pair(table, Reply::Value(None), asks_for_growth);
+            (stage, Left::Nothing)
+        }
+        Inserted::Replaced(Replaced { key, old }) => {
+            (Stage::Done(Reply::Value(Some(old))), Left::Key(key))
+        }
     }
 }
 
@@ -211,43 +274,59 @@ fn insert<'k, K: Ord + Drop, V: Drop, F: ComputeFn<K, V>, A: Allocator + Copy>(
     alloc: A,
     hash: u64,
     key: K,
-    value: V,
+    value: Given<V, A>,
     table: u8,
     slot: &mut Slot<K, V, A>,
-) -> (Stage<'k, K, V, F, A>, Event)
+) -> (Stage<'k, K, V, F, A>, Event, Left<'k, K, V, F, A>)
     requires region { LiesIn hash slot.old }
     requires at { table ≡ slot.old.table }
     ensures ready { StageIsReady F.can_change (stage_of result.0) }
     ensures within { IsSlot K.cmp slot.old }
     ensures table { slot.new.table ≡ slot.old.table }
     ensures index { slot.new.index ≡ slot.old.index }
-    ensures step { ContentGives K.cmp F.changes hash (Inserts key value) table slot.old.content result.1
+    ensures step { ContentGives K.cmp F.changes hash (Inserts key (given_of value)) table slot.old.content result.1
         (stage_of result.0) slot.new.content }
 {
     match slot.put(alloc, hash, key, value) {
-        Ok(Answer::Here(written)) => (after_write(table, written), Event::Decide),
+        Ok(Answer::Here(inserted)) => {
+            let (stage, left) = after_write(table, inserted);
+            (stage, Event::Decide, left)
+        }
         Ok(Answer::Moved((key, value))) => (
             Stage::Claim(Resume::Bin(Task::Insert(key, value), table + 1)),
             Event::Silent,
+            Left::Nothing,
         ),
-        Ok(Answer::Unborn((key, value))) => {
-            (Stage::Locate(Task::Insert(key, value)), Event::Silent)
-        }
-        Err(_) => (Stage::Done(Reply::Refused), Event::Refused),
+        Ok(Answer::Unborn((key, value))) => (
+            Stage::Locate(Task::Insert(key, value)),
+            Event::Silent,
+            Left::Nothing,
+        ),
+        Err(pair) => (
+            Stage::Done(Reply::Refused),
+            Event::Refused,
+            Left::NotInserted(pair),
+        ),
     }
 }
 
 fn after_try<'k, K: Drop, V: Drop, F: ComputeFn<K, V>, A: Allocator>(
     table: u8,
-    added: Result<Added<V, A>, TryInsertError<V, A>>,
-) -> Stage<'k, K, V, F, A>
+    added: Added<K, V, A>,
+) -> (Stage<'k, K, V, F, A>, Left<'k, K, V, F, A>)
     requires { table ≤ GREATEST_TABLE }
-    ensures ready { StageIsReady F.can_change (stage_of result) }
-    ensures stage { GoesOnAdded table (view_of_added added) (stage_of result) }
+    ensures ready { StageIsReady F.can_change (stage_of result.0) }
+    ensures stage { GoesOnAdded table (view_of_added added) (stage_of result.0) }
 {
     match added {
-        Ok(added) => after_new_pair(table, Reply::New(added.value), added.asks_for_growth),
-        Err(error) => Stage::Done(Reply::Exists(error)),
+        Added::New {
+            value,
+            asks_for_growth,
+        } => {
+            let stage = after_new_pair(table, Reply::New(value), asks_for_growth);
+            (stage, Left::Nothing)
+        }
+        Added::Present { key, error } => (Stage::Done(Reply::Exists(error)), Left::Key(key)),
     }
 }
 
@@ -258,7 +337,7 @@ fn try_insert<'k, K: Ord + Drop, V: Drop, F: ComputeFn<K, V>, A: Allocator + Cop
     value: V,
     table: u8,
     slot: &mut Slot<K, V, A>,
-) -> (Stage<'k, K, V, F, A>, Event)
+) -> (Stage<'k, K, V, F, A>, Event, Left<'k, K, V, F, A>)
     requires region { LiesIn hash slot.old }
     requires at { table ≡ slot.old.table }
     ensures ready { StageIsReady F.can_change (stage_of result.0) }
@@ -269,13 +348,59 @@ fn try_insert<'k, K: Ord + Drop, V: Drop, F: ComputeFn<K, V>, A: Allocator + Cop
         (stage_of result.0) slot.new.content }
 {
     match slot.put_absent(alloc, hash, key, value) {
-        Ok(Answer::Here(added)) => (after_try(table, added), Event::Decide),
+        Ok(Answer::Here(added)) => {
+            let (stage, left) = after_try(table, added);
+            (stage, Event::Decide, left)
+        }
         Ok(Answer::Moved((key, value))) => (
             Stage::Claim(Resume::Bin(Task::Add(key, value), table + 1)),
             Event::Silent,
+            Left::Nothing,
         ),
-        Ok(Answer::Unborn((key, value))) => (Stage::Locate(Task::Add(key, value)), Event::Silent),
-        Err(_) => (Stage::Done(Reply::Refused), Event::Refused),
+        Ok(Answer::Unborn((key, value))) => (
+            Stage::Locate(Task::Add(key, value)),
+            Event::Silent,
+            Left::Nothing,
+        ),
+        Err(pair) => (
+            Stage::Done(Reply::Refused),
+            Event::Refused,
+            Left::NotInserted(pair),
+        ),
+    }
+}
+
+// The stage of a computation that was done at a live bin.
+fn after_compute<'k, K: Drop, V: Drop, F: ComputeFn<K, V>, A: Allocator>(
+    key: Key<'k, K>,
+    computed: Computed<K, V, F, A>,
+) -> (Stage<'k, K, V, F, A>, Event, Left<'k, K, V, F, A>)
+    ensures ready { StageIsReady F.can_change (stage_of result.0) }
+    ensures decides { result.1 ≡ Event.Decide }
+    ensures stage { stage_of result.0 ≡ stage_computed (outcome computed) }
+{
+    match computed {
+        Computed::Absent(f) => (
+            Stage::Done(Reply::Value(None)),
+            Event::Decide,
+            Left::Function(key, f),
+        ),
+        Computed::Removed(
+            Entry {
+                key: stored,
+                value,
+                ..
+            },
+        ) => (
+            Stage::Uncount(Reply::Value(None)),
+            Event::Decide,
+            Left::Stored(key, Some(stored), Some(value)),
+        ),
+        Computed::Changed { new, old } => (
+            Stage::Done(Reply::Value(Some(new))),
+            Event::Decide,
+            Left::Stored(key, None, Some(old)),
+        ),
     }
 }
 
@@ -286,7 +411,7 @@ fn compute<'k, K: Ord + Drop, V: Drop, F: ComputeFn<K, V>, A: Allocator + Copy>(
     f: F,
     table: u8,
     slot: &mut Slot<K, V, A>,
-) -> (Stage<'k, K, V, F, A>, Event)
+) -> (Stage<'k, K, V, F, A>, Event, Left<'k, K, V, F, A>)
     requires region { LiesIn hash slot.old }
     requires at { table ≡ slot.old.table }
     requires callable { F.can_change f }
@@ -298,16 +423,21 @@ fn compute<'k, K: Ord + Drop, V: Drop, F: ComputeFn<K, V>, A: Allocator + Copy>(
         (stage_of result.0) slot.new.content }
 {
     match slot.compute(alloc, hash, key.get(), f) {
-        Ok(Answer::Here(Computed::Absent(_))) => (Stage::Done(Reply::Value(None)), Event::Decide),
-        Ok(Answer::Here(Computed::Removed)) => (Stage::Uncount(Reply::Value(None)), Event::Decide),
-        Ok(Answer::Here(Computed::Changed(value))) => {
-            (Stage::Done(Reply::Value(Some(value))), Event::Decide)
-        }
+        Ok(Answer::Here(computed)) => after_compute(key, computed),
         Ok(Answer::Moved(f)) => (
             Stage::Claim(Resume::Bin(Task::Compute(key, f), table + 1)),
             Event::Silent,
+            Left::Nothing,
         ),
-        Ok(Answer::Unborn(f)) => (Stage::Locate(Task::Compute(key, f)), Event::Silent),
-        Err(_) => (Stage::Done(Reply::Refused), Event::Refused),
+        Ok(Answer::Unborn(f)) => (
+            Stage::Locate(Task::Compute(key, f)),
+            Event::Silent,
+            Left::Nothing,
+        ),
+        Err(value) => (
+            Stage::Done(Reply::Refused),
+            Event::Refused,
+            Left::NotStored(key, value),
+        ),
     }
 }

@@ -3,7 +3,9 @@ ghost use Rattle.std.specs.Prelude.{◌≡◌};
 ghost use Rattle.flurry_steps.specs.PartyView.{key_of};
 
 use flurry_calls::Seen;
+use flurry_slots::Given;
 use std::alloc::{Allocator, Global};
+use std::sync::Arc;
 
 /// A call of a shared map.
 ///
@@ -27,8 +29,9 @@ pub enum Call<'k, K, V, F, A: Allocator = Global> {
     RemoveEntry(&'k K),
     /// A removal of a pair that a walk has read, if and only if its value is still as it was read. It returns the value.
     RemoveSeen(Seen<K, V, A>),
-    /// An insertion of a value at a key, which returns the value that the key had.
-    Insert(K, V),
+    /// An insertion of a value at a key, which returns the value that the key had. The value is in an `Arc`, for which no memory has to be
+    /// taken while the bin is locked.
+    Insert(K, Arc<V, A>),
     /// An insertion of a value at a key, if the key is absent.
     TryInsert(K, V),
     /// A call of the function on the pair of a present key. The value that it returns replaces the value of the key; if it returns
@@ -111,7 +114,7 @@ pub(crate) enum Task<'k, K, V, F, A: Allocator> {
     Find(Sought, Key<'k, K>),
     Remove(Sought, Key<'k, K>),
     RemoveSeen(Seen<K, V, A>),
-    Insert(K, V),
+    Insert(K, Given<V, A>),
     Add(K, V),
     Compute(Key<'k, K>, F),
 }

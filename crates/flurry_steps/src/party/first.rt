@@ -11,10 +11,11 @@ ghost use Rattle.flurry_steps.specs.PartyView.{CallIsReady, first_stage, keyless
 use super::at_slot::{step_lookup, step_write};
 use super::call::{Call, Key, OwnedCall, Sought, Task};
 use super::ending::Ending;
+use super::left::Remains;
 use super::stage::Stage;
 use super::{Party, Reply};
 use flurry_control::PublishedTable;
-use flurry_slots::{ComputeFn, Slot};
+use flurry_slots::{ComputeFn, Given, Slot};
 use std::alloc::Allocator;
 
 // A call without a key.
@@ -39,7 +40,7 @@ pub(super) fn task_for<'k, K, V, F, A: Allocator>(
         Call::Remove(key) => Ok(Task::Remove(Sought::Value, Key::Lent(key))),
         Call::RemoveEntry(key) => Ok(Task::Remove(Sought::Pair, Key::Lent(key))),
         Call::RemoveSeen(seen) => Ok(Task::RemoveSeen(seen)),
-        Call::Insert(key, value) => Ok(Task::Insert(key, value)),
+        Call::Insert(key, value) => Ok(Task::Insert(key, Given::Shared(value))),
         Call::TryInsert(key, value) => Ok(Task::Add(key, value)),
         Call::Compute(key, f) => Ok(Task::Compute(Key::Lent(key), f)),
         Call::Reserve(more) => Err(Keyless::Reserve(more)),
@@ -61,7 +62,7 @@ pub(super) fn task_of_owned<'k, K, V, F, A: Allocator>(
         OwnedCall::ContainsKey(key) => Ok(Task::Find(Sought::Presence, Key::Own(key))),
         OwnedCall::Remove(key) => Ok(Task::Remove(Sought::Value, Key::Own(key))),
         OwnedCall::RemoveEntry(key) => Ok(Task::Remove(Sought::Pair, Key::Own(key))),
-        OwnedCall::Insert(key, value) => Ok(Task::Insert(key, value)),
+        OwnedCall::Insert(key, value) => Ok(Task::Insert(key, Given::Plain(value))),
         OwnedCall::TryInsert(key, value) => Ok(Task::Add(key, value)),
         OwnedCall::Compute(key, f) => Ok(Task::Compute(Key::Own(key), f)),
         OwnedCall::Reserve(more) => Err(Keyless::Reserve(more)),
@@ -92,7 +93,7 @@ impl<'k, K: Ord + Drop, V: Drop, F: ComputeFn<K, V>, A: Allocator> Party<'k, K, 
         let Ok(Task::Find(sought, key)) = task_for(call) else {
             unreachable!()
         };
-        let (stage, _) = step_lookup::<K, V, F, A>(hash, sought, key, start.table(), slot);
+        let (stage, _, _) = step_lookup::<K, V, F, A>(hash, sought, key, start.table(), slot);
         match stage {
             Stage::Done(reply) => reply,
             _ => unreachable!(),
@@ -102,7 +103,8 @@ impl<'k, K: Ord + Drop, V: Drop, F: ComputeFn<K, V>, A: Allocator> Party<'k, K, 
 
 impl<'k, K: Ord + Drop, V: Drop, F: ComputeFn<K, V>, A: Allocator + Copy> Party<'k, K, V, F, A> {
     /// Does at once the first two steps of a call that may change its bin: the step at the published table `start`, and the step at the
-    /// slot there, whose bin is live. The call has then decided, or memory for it could not be allocated.
+    /// slot there, whose bin is live. The call has then decided, or memory for it could not be allocated. Returns the call, and what these
+    /// steps left behind, which is to be dropped while no lock is held.
     ///
     /// Takes as many steps as a look-up in the bin.
     #[inline(always)]
@@ -112,7 +114,7 @@ impl<'k, K: Ord + Drop, V: Drop, F: ComputeFn<K, V>, A: Allocator + Copy> Party<
         start: &PublishedTable,
         alloc: A,
         slot: &mut Slot<K, V, A>,
-    ) -> Ending<K, V, A>
+    ) -> (Ending<K, V, A>, Remains<'k, K, V, F, A>)
         requires ready { CallIsReady F.can_change call }
         requires writes { BeginsToWrite (first_stage call) }
         requires part { wanted_part (begun_at start.now hash 0 (first_stage call))
@@ -120,12 +122,12 @@ impl<'k, K: Ord + Drop, V: Drop, F: ComputeFn<K, V>, A: Allocator + Copy> Party<
         requires live { is_live slot.old.content ≡ true }
         ensures within { IsSlot K.cmp slot.old }
         ensures steps { BeginsAt K.cmp F.changes hash start.now (first_stage call.entry) slot.old
-            (ending_stage result) slot.new }
+            (ending_stage result.0) slot.new }
     {
         let Ok(task) = task_for(call) else {
             unreachable!()
         };
-        let (stage, _) = step_write(alloc, hash, task, start.table(), slot);
-        Ending::of_stage(stage)
+        let (stage, _, left) = step_write(alloc, hash, task, start.table(), slot);
+        (Ending::of_stage(stage), Remains { left })
     }
 }

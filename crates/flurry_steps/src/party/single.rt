@@ -16,6 +16,7 @@ use super::at_control::step_control;
 use super::at_slot::{step_lookup, step_write};
 use super::at_tally::step_tally;
 use super::call::Task;
+use super::left::Left;
 use super::stage::{GrowFor, Resume, Stage};
 use super::{Event, Reply, Want};
 use flurry_calls::Seen;
@@ -34,6 +35,8 @@ pub(crate) struct Single<'k, K, V, F: ComputeFn<K, V>, A: Allocator> {
     // A stage is set by `mem::replace`, and the stage before is passed to `drop`: for an assignment the proof would go through everything
     // that a stage can hold.
     pub(super) stage: Stage<'k, K, V, F, A>,
+    // What the last step at a bin left behind, which no contract sees.
+    pub(super) left: Left<'k, K, V, F, A>,
 }
 
 impl<'k, K, V, F: ComputeFn<K, V>, A: Allocator> Model for Single<'k, K, V, F, A> {
@@ -134,6 +137,14 @@ impl<'k, K: Drop, V: Drop, F: ComputeFn<K, V>, A: Allocator> Single<'k, K, V, F,
         event
     }
 
+    // Drops what the last step left behind.
+    #[inline]
+    pub(super) fn release(&mut self)
+        ensures { self.new ≡ self.old }
+    {
+        drop(mem::replace(&mut self.left, Left::Nothing));
+    }
+
     // Whether the next step only asks the control for the published table.
     #[inline]
     pub(super) fn locates(&self) -> bool
@@ -177,8 +188,9 @@ impl<'k, K: Ord + Drop, V: Drop, F: ComputeFn<K, V>, A: Allocator> Single<'k, K,
         let Task::Find(sought, key) = task else {
             unreachable!()
         };
-        let (stage, event) = step_lookup(self.hash, sought, key, table, slot);
+        let (stage, event, left) = step_lookup(self.hash, sought, key, table, slot);
         drop(mem::replace(&mut self.stage, stage));
+        drop(mem::replace(&mut self.left, left));
         event
     }
 
@@ -220,8 +232,9 @@ impl<'k, K: Ord + Drop, V: Drop, F: ComputeFn<K, V>, A: Allocator + Copy> Single
     {
         match mem::replace(&mut self.stage, Stage::Taken) {
             Stage::Bin(task, table) => {
-                let (stage, event) = step_write(alloc, self.hash, task, table, slot);
+                let (stage, event, left) = step_write(alloc, self.hash, task, table, slot);
                 drop(mem::replace(&mut self.stage, stage));
+                drop(mem::replace(&mut self.left, left));
                 event
             }
             _ => unreachable!(),

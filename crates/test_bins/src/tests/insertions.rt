@@ -2,7 +2,7 @@
 
 use super::same;
 use flurry_bins::bin::{Bin, Ordered, Shape};
-use flurry_bins::table::insert_in_table;
+use flurry_bins::table::{Inserted, insert_in_table};
 use metered_alloc::Metered;
 use std::alloc::{AllocError, Global};
 use std::process::Abort;
@@ -26,10 +26,10 @@ fn insert(
         return Err(AllocError);
     }
     let value = Arc::new(memory, value)?;
-    let (old, asks) = insert_in_table(bin, memory, 3, key, value, 0, bins)?;
-    match old {
-        Some(old) => Ok((Some(*old), asks)),
-        None => Ok((None, asks)),
+    match insert_in_table(bin, memory, 3, key, value, 0, bins) {
+        Ok(Inserted::New { asks_for_growth }) => Ok((None, asks_for_growth)),
+        Ok(Inserted::Replaced(replaced)) => Ok((Some(*replaced.old), false)),
+        Err(_) => Err(AllocError),
     }
 }
 

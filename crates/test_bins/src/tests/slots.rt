@@ -7,7 +7,7 @@ use super::same;
 use flurry_bins::bin::Bin;
 use flurry_model::sizes::bin_index;
 use flurry_slots::clones::{Cloning, NoCloning};
-use flurry_slots::{Answer, Computed, MoveAnswer, NoFn, Receipt, Slot};
+use flurry_slots::{Added, Answer, Computed, Given, Inserted, MoveAnswer, NoFn, Receipt, Slot};
 use std::alloc::{AllocError, Global};
 
 // Why a step was not done at a live bin.
@@ -41,7 +41,7 @@ fn here<T, B: Drop>(answer: Answer<T, B>) -> Result<T, Away> {
 }
 
 // Returns the result of a step that may run out of memory, if the bin is live.
-fn given<T, B: Drop>(answer: Result<Answer<T, B>, AllocError>) -> Result<T, Away> {
+fn given<T, B: Drop, E: Drop>(answer: Result<Answer<T, B>, E>) -> Result<T, Away> {
     match answer {
         Ok(answer) => here(answer),
         Err(_) => Err(Away::NoMemory),
@@ -72,8 +72,10 @@ fn put(
     value: u64,
 ) -> Result<(Option<u64>, bool), Away> {
     lies_in(slot, hash)?;
-    let written = given(slot.put(alloc, hash, key, value))?;
-    Ok((written.old.map(|old| *old), written.asks_for_growth))
+    match given(slot.put(alloc, hash, key, Given::Plain(value)))? {
+        Inserted::New { asks_for_growth } => Ok((None, asks_for_growth)),
+        Inserted::Replaced(replaced) => Ok((Some(*replaced.old), false)),
+    }
 }
 
 // Adds a pair, and returns its value. If the key is present, returns the value that it has and the value that was not inserted.
@@ -86,8 +88,8 @@ fn put_absent(
 ) -> Result<Result<u64, (u64, u64)>, Away> {
     lies_in(slot, hash)?;
     match given(slot.put_absent(alloc, hash, key, value))? {
-        Ok(added) => Ok(Ok(*added.value)),
-        Err(error) => Ok(Err((*error.current, error.not_inserted))),
+        Added::New { value, .. } => Ok(Ok(*value)),
+        Added::Present { error, .. } => Ok(Err((*error.current, error.not_inserted))),
     }
 }
 
@@ -102,8 +104,8 @@ fn halve(
     let half = |_: &u64, value: &u64| Some(*value / 2);
     match given(slot.compute(alloc, hash, &key, half))? {
         Computed::Absent(_) => Ok(None),
-        Computed::Removed => Ok(Some(None)),
-        Computed::Changed(value) => Ok(Some(Some(*value))),
+        Computed::Removed(_) => Ok(Some(None)),
+        Computed::Changed { new, .. } => Ok(Some(Some(*new))),
     }
 }
 
@@ -111,7 +113,7 @@ fn halve(
 fn remove(alloc: Global, slot: &mut Slot<u64, u64>, hash: u64, key: u64) -> Result<bool, Away> {
     lies_in(slot, hash)?;
     match given(slot.compute(alloc, hash, &key, NoFn))? {
-        Computed::Removed => Ok(true),
+        Computed::Removed(_) => Ok(true),
         _ => Ok(false),
     }
 }
@@ -206,10 +208,11 @@ fn steps_at_a_live_bin(rt: HostRuntime) {
 fn steps_where_no_bin_is_yet(rt: HostRuntime) {
     let mut slot: Slot<u64, u64> = Slot::unborn(4, 3);
     match slot
-        .put(rt.alloc(), 3, 7, 8)
+        .put(rt.alloc(), 3, 7, Given::Plain(8))
+        .ok()
         .expect(&rt, "memory for the pair")
     {
-        Answer::Unborn(lent) => same(&rt, lent, (7, 8)),
+        Answer::Unborn((key, Given::Plain(value))) => same(&rt, (key, value), (7, 8)),
         _ => panic!(rt; "no bin is there"),
     }
     same(&rt, slot.at(), (4, 3));

@@ -4,7 +4,7 @@ ghost use Rattle.flurry_slots.specs.Slot.{LiesIn};
 use super::same;
 use flurry_bins::bin::{Bin, Ordered};
 use flurry_model::sizes::bin_index;
-use flurry_slots::{Answer, MoveAnswer, Slot};
+use flurry_slots::{Answer, Given, MoveAnswer, Slot};
 use std::cell::Cell;
 use std::process::Abort;
 
@@ -20,7 +20,8 @@ fn lies_in(rt: &impl Abort, slot: &Slot<u64, u64>)
 fn put(rt: &(impl Abort + AllocGlobal), slot: &mut Slot<u64, u64>, key: u64, value: u64) {
     lies_in(rt, slot);
     let answer = slot
-        .put(rt.alloc(), 3, key, value)
+        .put(rt.alloc(), 3, key, Given::Plain(value))
+        .ok()
         .expect(rt, "memory for the pair");
     same(rt, matches!(&answer, Answer::Here(_)), true);
 }

@@ -9,21 +9,22 @@ ghost use Rattle.flurry_steps.specs.PartyView.{CallIsReady};
 
 mod drops;
 mod growth;
-mod helping;
 mod one_key;
 mod refused;
 mod rewrites;
 mod sweeps;
 mod tallies;
 
-use super::same;
+use super::{same, same_at};
 use flurry_bins::bin::Bin;
+use flurry_calls::Seen;
 use flurry_control::{Control, Room};
 use flurry_model::reply::KeptReply;
-use flurry_slots::{ComputeFn, NoFn, Slot};
-use flurry_steps::party::{Call, Event, Party, Reply, Want};
+use flurry_slots::{ComputeFn, Slot};
+use flurry_steps::party::{Call, Event, OwnedCall, Party, Reply, Want};
 use std::alloc::{AllocError, Global};
 use std::process::Abort;
+use std::sync::Arc;
 
 // The slots of all tables, in any order. The request for a table with the number `refused` fails, where the first request has the number 1.
 #[derive(Drop)]
@@ -113,8 +114,10 @@ enum Told {
 
 fn plain(reply: Reply<u64, u64>) -> Told {
     match reply {
-        Reply::Value(value) => Told::Key(KeptReply::Value(value.map(|value| *value))),
-        Reply::Pair(pair) => Told::Key(KeptReply::Pair(pair.map(|pair| (*pair.0, *pair.1)))),
+        Reply::Value(None) => value(None),
+        Reply::Value(Some(found)) => value(Some(*found)),
+        Reply::Pair(None) => Told::Key(KeptReply::Pair(None)),
+        Reply::Pair(Some((key, value))) => Told::Key(KeptReply::Pair(Some((*key, *value)))),
         Reply::Contains(present) => Told::Key(KeptReply::Contains(present)),
         Reply::New(value) => Told::Key(KeptReply::New(*value)),
         Reply::Exists(error) => Told::Key(KeptReply::Exists {
@@ -278,164 +281,267 @@ fn run<'k, F: ComputeFn<u64, u64>>(
     ended
 }
 
-// What a test does with a call in progress.
-#[derive(Clone, Copy)]
-enum Script {
-    // The insertion of a twelfth key, which doubles the table.
-    TwelfthKey,
-    // A reserve that makes the first table.
-    Reserve,
-    // The insertion of a ninth key of one hash.
-    NinthKey,
-    // A reserve that others help.
-    Helped,
-    // A look-up that starts at the certificate of the table.
-    LookUp,
-    // A reserve that moves one bin, and stops there for good.
-    GrowthStops,
-    // A walk, over two pairs.
-    Walk,
+// A call as a row has it. A key that the call borrows is lent by the row.
+type Asked = OwnedCall<u64, u64, Becomes>;
+
+// Returns the call of a row.
+fn call_of<'k>(rt: &(impl Abort + AllocGlobal), asked: &'k Asked) -> Call<'k, u64, u64, Becomes> {
+    match asked {
+        OwnedCall::Get(key) => Call::Get(key),
+        OwnedCall::GetKeyValue(key) => Call::GetKeyValue(key),
+        OwnedCall::ContainsKey(key) => Call::ContainsKey(key),
+        OwnedCall::Remove(key) => Call::Remove(key),
+        OwnedCall::RemoveEntry(key) => Call::RemoveEntry(key),
+        OwnedCall::Insert(key, value) => {
+            let value = Arc::new(rt.alloc(), *value).expect(rt, "memory for the value");
+            Call::Insert(*key, value)
+        }
+        OwnedCall::TryInsert(key, value) => Call::TryInsert(*key, *value),
+        OwnedCall::Compute(key, change) => Call::Compute(key, *change),
+        OwnedCall::Reserve(count) => Call::Reserve(*count),
+        OwnedCall::Clear => Call::Clear,
+        OwnedCall::Walk => Call::Walk,
+    }
 }
 
-// Begins a call, and passes it to its script by reference.
-fn follows_script<'k, F: ComputeFn<u64, u64>>(
+// Runs the call of a row, and returns its events and its reply.
+fn call(
+    rt: &(impl Abort + AllocGlobal),
+    map: &mut Map,
+    hash: u64,
+    asked: Asked,
+) -> (Vec<Event>, Told) {
+    run(rt, map, hash, call_of(rt, &asked))
+}
+
+// What a test does with a map, and what it sees.
+#[derive(Clone, Copy)]
+enum Row<'r> {
+    // A call with its hash: the events of its steps, and its reply.
+    Answers(u64, Asked, &'r [Event], Told),
+    // A call with its hash: the number of its steps, and its reply.
+    Takes(u64, Asked, usize, Told),
+    // A call with its hash: its reply.
+    Replies(u64, Asked, Told),
+    // An insertion of each key below the first number, as its own hash and with the value 0: the number of its steps.
+    InsertsEach(u64, usize),
+    // An insertion of each key below the first number, of the hash 0 and with the value 0: the number of its steps.
+    InsertsAtOneHash(u64, usize),
+    // A removal of each key below the number, which is its own hash: its value was 0.
+    RemovesEach(u64),
+    // The table that is published.
+    Table(Option<u8>),
+    // The number of pairs that the control has counted.
+    Pairs(usize),
+    // The number of tables that were asked for.
+    Requests(u8),
+}
+
+// Inserts each key below `count` with the value 0, and checks the number of the steps. The hash of each key is the key, or 0.
+fn inserts_each(
+    rt: &(impl Abort + AllocGlobal),
+    map: &mut Map,
+    count: u64,
+    has_one_hash: bool,
+    steps: usize,
+) {
+    for key in 0..count {
+        let hash = if has_one_hash { 0 } else { key };
+        let (events, told) = call(rt, map, hash, OwnedCall::Insert(key, 0));
+        same_at(rt, key, (events.len(), told), (steps, value(None)));
+    }
+}
+
+// Removes each key below `count`, and checks that its value was 0. The hash of each key is the key.
+fn removes_each(rt: &(impl Abort + AllocGlobal), map: &mut Map, count: u64) {
+    for key in 0..count {
+        let (_events, told) = call(rt, map, key, OwnedCall::Remove(key));
+        same_at(rt, key, told, value(Some(0)));
+    }
+}
+
+// Does the row numbered `at`, and checks what it sees.
+fn does(rt: &(impl Abort + AllocGlobal), map: &mut Map, at: usize, row: Row<'_>) {
+    match row {
+        Row::Answers(hash, asked, events, reply) => {
+            let (seen, told) = call(rt, map, hash, asked);
+            same_at(rt, at, (seen.as_slice(), told), (events, reply));
+        }
+        Row::Takes(hash, asked, steps, reply) => {
+            let (seen, told) = call(rt, map, hash, asked);
+            same_at(rt, at, (seen.len(), told), (steps, reply));
+        }
+        Row::Replies(hash, asked, reply) => {
+            let (_events, told) = call(rt, map, hash, asked);
+            same_at(rt, at, told, reply);
+        }
+        Row::InsertsEach(count, steps) => inserts_each(rt, map, count, false, steps),
+        Row::InsertsAtOneHash(count, steps) => inserts_each(rt, map, count, true, steps),
+        Row::RemovesEach(count) => removes_each(rt, map, count),
+        Row::Table(table) => same_at(rt, at, map.control.locate(), table),
+        Row::Pairs(count) => same_at(rt, at, map.control.len(), count),
+        Row::Requests(count) => same_at(rt, at, map.tables.requests, count),
+    }
+}
+
+// Goes through the rows, in their order.
+fn go_on(rt: &(impl Abort + AllocGlobal), map: &mut Map, rows: &[Row<'_>]) {
+    for at in 0..rows.len() {
+        does(rt, map, at, rows[at]);
+    }
+}
+
+// Goes through the rows in a map without a table, in which the request for a table with the number `refused` fails.
+fn goes_through(rt: &(impl Abort + AllocGlobal), refused: u8, rows: &[Row<'_>]) {
+    let mut map = empty_map(rt.alloc(), 1, refused);
+    go_on(rt, &mut map, rows);
+    drop(map);
+}
+
+// The reply of a call that found no value.
+const NONE: Told = Told::Key(KeptReply::Value(None));
+
+// The rows of a map of 16 bins with the keys 1 and 17, in which the hash of each key is the key. Both keys are in bin 1.
+const ONE_AND_SEVENTEEN: [Row<'static>; 2] = [
+    Row::Takes(1, OwnedCall::Insert(1, 0), 3, NONE),
+    Row::Takes(17, OwnedCall::Insert(17, 0), 3, NONE),
+];
+
+// The row that inserts the key 3 with the value 0.
+const INSERTS_THREE: Row<'static> = Row::Replies(3, OwnedCall::Insert(3, 0), NONE);
+
+// What a test does with a call in progress, and what it sees.
+#[derive(Clone, Copy)]
+enum Act<'r> {
+    // The next step: its event.
+    Step(Event),
+    // The next steps, at most as many as the number: the event of the last one.
+    GoesOnTo(u64, Event),
+    // All further steps: their number.
+    Ends(usize),
+    // The steps that move as many bins of the table as the number, from the last one down.
+    Moves(u8, usize),
+    // The first step, at the certificate of the table.
+    Starts,
+    // The part that the next step needs.
+    Wants(Want),
+    // The call has its reply, which cannot be taken yet.
+    KeepsReply,
+    // The reply, which is taken.
+    Replies(Told),
+    // The pair that the call read last.
+    LastRead(Option<(u64, u64)>),
+    // The pair that the call read last, with its write number.
+    Seen(u64, u64, u64),
+    // What the test does with the map in between.
+    Map(Row<'r>),
+}
+
+// Does the steps that move `count` bins of a table, from the last one down.
+fn moves<'k, F: ComputeFn<u64, u64>>(
+    rt: &(impl Abort + AllocGlobal),
+    party: &mut Party<'k, u64, u64, F>,
+    map: &mut Map,
+    table: u8,
+    count: usize,
+) {
+    for index in (0..count).rev() {
+        same_at(rt, index, party.want(), Want::Move(table, index));
+        let event = step(rt, party, map);
+        same_at(rt, index, event, Event::Moved(table, index));
+    }
+}
+
+// Does the first step of a call at the certificate of the published table.
+fn begins_at_a_start<'k, F: ComputeFn<u64, u64>>(
+    rt: &impl Abort,
+    party: &mut Party<'k, u64, u64, F>,
+    map: &Map,
+) {
+    let start = map.control.start().expect(rt, "a table is published");
+    assert!(rt; party.locates(), "a call locates first");
+    same(rt, party.want(), Want::Control);
+    same(rt, party.on_start(&start), Event::Silent);
+    same(rt, party.locates(), false);
+}
+
+// Returns the pair that a walk has read last.
+fn last_read<'k, F: ComputeFn<u64, u64>>(party: &Party<'k, u64, u64, F>) -> Option<(u64, u64)> {
+    match party.last_read() {
+        Some((key, value)) => Some((*key, *value)),
+        None => None,
+    }
+}
+
+// Returns what a walk has read last.
+fn seen_by<'k, F: ComputeFn<u64, u64>>(
+    rt: &impl Abort,
+    walk: &Party<'k, u64, u64, F>,
+) -> Seen<u64, u64> {
+    let seen = walk.seen().expect(rt, "a further owner");
+    seen.expect(rt, "a pair was read")
+}
+
+// Does the act numbered `at` with a call in progress, and checks what it sees.
+fn acts<'k, F: ComputeFn<u64, u64>>(
+    rt: &(impl Abort + AllocGlobal),
+    party: &mut Party<'k, u64, u64, F>,
+    map: &mut Map,
+    at: usize,
+    act: Act<'_>,
+) {
+    match act {
+        Act::Step(event) => same_at(rt, at, step(rt, party, map), event),
+        Act::GoesOnTo(count, event) => {
+            let seen = steps(rt, party, map, count);
+            same_at(rt, at, seen.last(), Some(&event));
+        }
+        Act::Ends(count) => {
+            let seen = steps(rt, party, map, 10000);
+            same_at(rt, at, seen.len(), count);
+        }
+        Act::Moves(table, count) => moves(rt, party, map, table, count),
+        Act::Starts => begins_at_a_start(rt, party, map),
+        Act::Wants(want) => same_at(rt, at, party.want(), want),
+        Act::KeepsReply => {
+            let is_kept = party.reply().is_some() && party.take_reply().is_none();
+            same_at(rt, at, is_kept, true);
+        }
+        Act::Replies(reply) => same_at(rt, at, reply_of(rt, party), reply),
+        Act::LastRead(pair) => same_at(rt, at, last_read(party), pair),
+        Act::Seen(key, value, number) => {
+            let seen = seen_by(rt, party);
+            let pair = (*seen.key(), *seen.value(), seen.number());
+            same_at(rt, at, pair, (key, value, number));
+        }
+        Act::Map(row) => does(rt, map, at, row),
+    }
+}
+
+// Begins a call, and does the acts with it, in their order. The call is then dropped, wherever it is.
+fn follows_call<'k, F: ComputeFn<u64, u64>>(
     rt: &(impl Abort + AllocGlobal),
     map: &mut Map,
     hash: u64,
     call: Call<'k, u64, u64, F>,
-    script: Script,
+    acts_on: &[Act<'_>],
 )
     requires { CallIsReady F.can_change call }
 {
     let mut party = Party::new(call, hash, map.processors);
-    match script {
-        Script::TwelfthKey => growth::twelfth_key_ends(rt, &mut party, map),
-        Script::Reserve => growth::reserve_ends(rt, &mut party, map),
-        Script::NinthKey => growth::ninth_key_ends(rt, &mut party, map),
-        Script::Helped => helping::reserve_ends(rt, &mut party, map),
-        Script::LookUp => one_key::looks_up_from_a_start(rt, &mut party, map),
-        Script::GrowthStops => moves_the_last_bin(rt, &mut party, map),
-        Script::Walk => sweeps::walks_as_a_party(rt, &mut party, map),
+    for at in 0..acts_on.len() {
+        acts(rt, &mut party, map, at, acts_on[at]);
     }
     drop(party);
 }
 
-// Begins a call without a function, and passes it to its script by reference.
-fn follows<'k>(
+// Begins the call of a row, and does the acts with it.
+fn follows(
     rt: &(impl Abort + AllocGlobal),
     map: &mut Map,
     hash: u64,
-    asked: Call<'k, u64, u64, NoFn>,
-    script: Script,
+    asked: Asked,
+    acts_on: &[Act<'_>],
 ) {
-    follows_script(rt, map, hash, asked, script)
-}
-
-// Runs a call without a function, whose hash is its key.
-fn call<'k>(
-    rt: &(impl Abort + AllocGlobal),
-    map: &mut Map,
-    hash: u64,
-    call: Call<'k, u64, u64, NoFn>,
-) -> (Vec<Event>, Told) {
-    run(rt, map, hash, call)
-}
-
-// Runs a call, and checks its reply.
-fn replies<'k>(
-    rt: &(impl Abort + AllocGlobal),
-    map: &mut Map,
-    hash: u64,
-    asked: Call<'k, u64, u64, NoFn>,
-    reply: Told,
-) {
-    let (_, seen) = call(rt, map, hash, asked);
-    same(rt, seen, reply);
-}
-
-// Runs a call without a key, and checks the number of its steps.
-fn ends_after<'k>(
-    rt: &(impl Abort + AllocGlobal),
-    map: &mut Map,
-    asked: Call<'k, u64, u64, NoFn>,
-    steps: usize,
-) {
-    let (events, reply) = call(rt, map, 0, asked);
-    same(rt, (events.len(), reply), (steps, Told::Ended));
-}
-
-// Inserts a key with the value 0, and returns the number of steps.
-fn insert(rt: &(impl Abort + AllocGlobal), map: &mut Map, hash: u64, key: u64) -> usize {
-    let (events, reply) = call(rt, map, hash, Call::Insert(key, 0));
-    same(rt, reply, value(None));
-    events.len()
-}
-
-// Inserts a key with the value 0, and checks the number of steps.
-fn inserts(rt: &(impl Abort + AllocGlobal), map: &mut Map, hash: u64, key: u64, steps: usize) {
-    same(rt, insert(rt, map, hash, key), steps);
-}
-
-// Checks which table is published.
-fn has_table(rt: &impl Abort, map: &Map, table: Option<u8>) {
-    same(rt, map.control.locate(), table);
-}
-
-// Checks the number of pairs that the control has counted.
-fn has_pairs(rt: &impl Abort, map: &Map, count: usize) {
-    same(rt, map.control.len(), count);
-}
-
-// Returns a map of 16 bins with the keys 1 and 17, in which the hash of each key is the key. Both keys are in bin 1.
-fn one_and_seventeen(rt: &(impl Abort + AllocGlobal)) -> Map {
-    let mut map = empty_map(rt.alloc(), 1, 0);
-    inserts(rt, &mut map, 1, 1, 3);
-    inserts(rt, &mut map, 17, 17, 3);
-    map
-}
-
-// Runs a call, and checks its events and its reply.
-fn answers<'k>(
-    rt: &(impl Abort + AllocGlobal),
-    map: &mut Map,
-    hash: u64,
-    asked: Call<'k, u64, u64, NoFn>,
-    events: &[Event],
-    reply: Told,
-) {
-    let (seen, reply_for) = call(rt, map, hash, asked);
-    same(rt, seen.as_slice(), events);
-    same(rt, reply_for, reply);
-}
-
-// Does the next steps of a call, at most `count`, and checks their events.
-fn goes_on<'k, F: ComputeFn<u64, u64>>(
-    rt: &(impl Abort + AllocGlobal),
-    party: &mut Party<'k, u64, u64, F>,
-    map: &mut Map,
-    count: u64,
-    events: &[Event],
-) {
-    let seen = steps(rt, party, map, count);
-    same(rt, seen.as_slice(), events);
-}
-
-// Does the first steps of a reserve, which moves the last of 64 bins.
-fn moves_the_last_bin<'k, F: ComputeFn<u64, u64>>(
-    rt: &(impl Abort + AllocGlobal),
-    reserve: &mut Party<'k, u64, u64, F>,
-    map: &mut Map,
-) {
-    goes_on(
-        rt,
-        reserve,
-        map,
-        4,
-        &[
-            Event::Silent,
-            Event::Placed(7),
-            Event::Silent,
-            Event::Moved(6, 63),
-        ],
-    );
+    follows_call(rt, map, hash, call_of(rt, &asked), acts_on)
 }

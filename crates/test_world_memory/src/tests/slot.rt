@@ -4,7 +4,7 @@ ghost use Rattle.flurry_slots.specs.Slot.{LiesIn};
 use super::{Memory, same, same_at};
 use flurry_bins::bin::Bin;
 use flurry_model::sizes::bin_index;
-use flurry_slots::{Answer, Computed, Slot};
+use flurry_slots::{Answer, Computed, Given, Slot};
 use metered_alloc::Metered;
 use std::process::Abort;
 use std::test::Fail;
@@ -41,7 +41,7 @@ fn found(rt: &impl Abort, slot: &NumberSlot) -> Option<(u64, u64)> {
 fn put_at(rt: &impl Abort, memory: Memory, slot: &mut NumberSlot, k: u64, value: u64) -> Seen {
     lies_in(rt, slot);
     memory.refuse_at(k);
-    let failed = slot.put(memory, 3, 3, value).is_err();
+    let failed = slot.put(memory, 3, 3, Given::Plain(value)).is_err();
     let refused = memory.refused();
     memory.refuse_nothing();
     (refused, failed, found(rt, slot))
@@ -132,7 +132,7 @@ fn is_removed(rt: &impl Abort, memory: Memory, slot: &mut NumberSlot) -> bool {
     memory.refuse_from(0);
     let answer = slot.compute(memory, 3, &3, |_: &u64, _: &u64| None);
     memory.refuse_nothing();
-    matches!(&answer, Ok(Answer::Here(Computed::Removed)))
+    matches!(&answer, Ok(Answer::Here(Computed::Removed(_))))
 }
 
 // Returns whether a function was not called because the key of the tests is absent, while every request fails.
@@ -167,8 +167,16 @@ fn compute(rt: HostRuntime) -> Result<(), Fail> {
 fn the_other_steps_ask_for_nothing(rt: HostRuntime) -> Result<(), Fail> {
     let memory = Metered::leaked(rt.alloc())?;
     let mut slot: NumberSlot = Slot::live(4, 3, Bin::new());
-    drop(slot.put(memory, 3, 3, 10).expect(&rt, "memory"));
-    drop(slot.put(memory, 19, 19, 11).expect(&rt, "memory"));
+    drop(
+        slot.put(memory, 3, 3, Given::Plain(10))
+            .ok()
+            .expect(&rt, "memory"),
+    );
+    drop(
+        slot.put(memory, 19, 19, Given::Plain(11))
+            .ok()
+            .expect(&rt, "memory"),
+    );
     memory.refuse_from(0);
     let mut low: NumberSlot = Slot::unborn(5, 3);
     let mut high: NumberSlot = Slot::unborn(5, 19);

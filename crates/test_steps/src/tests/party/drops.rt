@@ -2,105 +2,114 @@
 
 use super::super::same;
 use super::{
-    Map, answers, empty_map, ends_after, goes_on, has_pairs, has_table, one_and_seventeen, replies,
-    value,
+    Map, NONE, ONE_AND_SEVENTEEN, Row, Told, empty_map, go_on, run, seen_by, steps, value,
 };
 use flurry_calls::Seen;
 use flurry_slots::{ComputeFn, NoFn};
-use flurry_steps::party::{Call, Event, Party};
+use flurry_steps::party::{Call, Event, OwnedCall, Party};
 use std::process::Abort;
 
-// Returns what a walk of the map reads first, which is key 1.
+// Makes the map of one and seventeen, and returns what a walk of it reads first, which is key 1.
 fn first_read<F: ComputeFn<u64, u64>>(
     rt: &(impl Abort + AllocGlobal),
     map: &mut Map,
 ) -> Seen<u64, u64> {
+    go_on(rt, map, &ONE_AND_SEVENTEEN);
     let mut walk: Party<'_, u64, u64, F> = Party::new(Call::Walk, 0, 1);
-    goes_on(
+    let events = steps(rt, &mut walk, map, 3);
+    same(
         rt,
-        &mut walk,
-        map,
-        3,
+        events.as_slice(),
         &[Event::Silent, Event::Silent, Event::Read],
     );
-    let seen = walk.seen().expect(rt, "a further owner");
+    let seen = seen_by(rt, &walk);
     drop(walk);
-    let seen = seen.expect(rt, "a pair was read");
     same(rt, (seen.key(), seen.value(), seen.number()), (&1, &0, 1));
     seen
 }
 
+// Removes what was read of the key 1, and returns the events and the reply.
+fn removes(
+    rt: &(impl Abort + AllocGlobal),
+    map: &mut Map,
+    seen: Seen<u64, u64>,
+) -> (Vec<Event>, Told) {
+    let call: Call<'_, u64, u64, NoFn> = Call::RemoveSeen(seen);
+    run(rt, map, 1, call)
+}
+
+// Reads the key 1, goes through the rows `before`, removes what was read, and goes through the rows `after`. Checks the events of the
+// removal, unless there are none, and its reply.
+fn reads_and_removes(
+    rt: &(impl Abort + AllocGlobal),
+    before: &[Row<'_>],
+    events: &[Event],
+    reply: Told,
+    after: &[Row<'_>],
+) {
+    let mut map = empty_map(rt.alloc(), 1, 0);
+    let seen = first_read::<NoFn>(rt, &mut map);
+    go_on(rt, &mut map, before);
+    let (seen_events, told) = removes(rt, &mut map, seen);
+    if !events.is_empty() {
+        same(rt, seen_events.as_slice(), events);
+    }
+    same(rt, told, reply);
+    go_on(rt, &mut map, after);
+    drop(map);
+}
+
 #[test]
 fn a_pair_is_removed_as_it_was_read(rt: HostRuntime) {
-    let mut map = one_and_seventeen(&rt);
-    let seen = first_read::<NoFn>(&rt, &mut map);
     let events = [Event::Silent, Event::Decide, Event::Silent];
-    answers(
-        &rt,
-        &mut map,
-        1,
-        Call::RemoveSeen(seen),
-        &events,
-        value(Some(0)),
-    );
-    replies(&rt, &mut map, 1, Call::Get(&1), value(None));
-    replies(&rt, &mut map, 17, Call::Get(&17), value(Some(0)));
-    has_pairs(&rt, &map, 1);
+    let after = [
+        Row::Replies(1, OwnedCall::Get(1), NONE),
+        Row::Replies(17, OwnedCall::Get(17), value(Some(0))),
+        Row::Pairs(1),
+    ];
+    reads_and_removes(&rt, &[], &events, value(Some(0)), &after);
 }
 
 // The value was written again after it was read, so the pair stays.
 #[test]
 fn a_pair_that_was_rewritten_stays(rt: HostRuntime) {
-    let mut map = one_and_seventeen(&rt);
-    let seen = first_read::<NoFn>(&rt, &mut map);
-    replies(&rt, &mut map, 1, Call::Insert(1, 0), value(Some(0)));
+    let before = [Row::Replies(1, OwnedCall::Insert(1, 0), value(Some(0)))];
     let events = [Event::Silent, Event::Decide];
-    answers(
-        &rt,
-        &mut map,
-        1,
-        Call::RemoveSeen(seen),
-        &events,
-        value(None),
-    );
-    replies(&rt, &mut map, 1, Call::Get(&1), value(Some(0)));
+    let after = [Row::Replies(1, OwnedCall::Get(1), value(Some(0)))];
+    reads_and_removes(&rt, &before, &events, NONE, &after);
 }
 
 // The key was removed and inserted again, so the new pair stays.
 #[test]
 fn a_pair_that_came_again_stays(rt: HostRuntime) {
-    let mut map = one_and_seventeen(&rt);
+    let mut map = empty_map(rt.alloc(), 1, 0);
     let seen = first_read::<NoFn>(&rt, &mut map);
-    replies(&rt, &mut map, 1, Call::Remove(&1), value(Some(0)));
+    let removed = Row::Replies(1, OwnedCall::Remove(1), value(Some(0)));
+    go_on(&rt, &mut map, &[removed]);
     let further = seen.try_clone().expect(&rt, "a further owner");
-    replies(&rt, &mut map, 1, Call::RemoveSeen(further), value(None));
-    replies(&rt, &mut map, 1, Call::Insert(1, 0), value(None));
-    replies(&rt, &mut map, 1, Call::RemoveSeen(seen), value(None));
-    has_pairs(&rt, &map, 2);
+    same(&rt, removes(&rt, &mut map, further).1, NONE);
+    let inserted = Row::Replies(1, OwnedCall::Insert(1, 0), NONE);
+    go_on(&rt, &mut map, &[inserted]);
+    same(&rt, removes(&rt, &mut map, seen).1, NONE);
+    go_on(&rt, &mut map, &[Row::Pairs(2)]);
+    drop(map);
 }
 
 // Between the read and the removal, the table is doubled twice, and the bin moves each time.
 #[test]
 fn a_pair_that_moved_is_removed(rt: HostRuntime) {
-    let mut map = one_and_seventeen(&rt);
-    let seen = first_read::<NoFn>(&rt, &mut map);
-    ends_after(&rt, &mut map, Call::Reserve(16), 58);
-    replies(&rt, &mut map, 1, Call::RemoveSeen(seen), value(Some(0)));
-    has_pairs(&rt, &map, 1);
+    let before = [Row::Takes(0, OwnedCall::Reserve(16), 58, Told::Ended)];
+    reads_and_removes(&rt, &before, &[], value(Some(0)), &[Row::Pairs(1)]);
 }
 
 #[test]
 fn a_map_without_a_table_has_no_such_pair(rt: HostRuntime) {
-    let mut read = one_and_seventeen(&rt);
+    let mut read = empty_map(rt.alloc(), 1, 0);
     let seen = first_read::<NoFn>(&rt, &mut read);
+    drop(read);
     let mut map = empty_map(rt.alloc(), 1, 0);
-    answers(
-        &rt,
-        &mut map,
-        1,
-        Call::RemoveSeen(seen),
-        &[Event::Decide],
-        value(None),
-    );
-    has_table(&rt, &map, None);
+    let (events, told) = removes(&rt, &mut map, seen);
+    same(&rt, (events.as_slice(), told), (&[Event::Decide], NONE));
+    go_on(&rt, &mut map, &[Row::Table(None)]);
+    drop(map);
 }

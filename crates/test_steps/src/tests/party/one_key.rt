@@ -2,210 +2,150 @@
 
 use super::super::same;
 use super::{
-    Becomes, Map, Script, Told, answers, call, empty_map, follows, has_pairs, has_table, insert,
-    reply_of, run, step, value,
+    Act, Becomes, INSERTS_THREE, Map, NONE, Row, Told, empty_map, follows, go_on, goes_through,
+    run, value,
 };
 use flurry_model::reply::KeptReply;
-use flurry_slots::{ComputeFn, NoFn};
-use flurry_steps::party::{Call, Event, Party, Want};
+use flurry_steps::party::{Call, Event, OwnedCall, Want};
 use std::cell::Cell;
 use std::process::Abort;
 
-// Runs a call of the hash 3, which decides in its only step, and checks its reply.
-fn decides<'k>(
-    rt: &(impl Abort + AllocGlobal),
-    map: &mut Map,
-    asked: Call<'k, u64, u64, NoFn>,
-    reply: KeptReply<u64, u64>,
-) {
-    answers(rt, map, 3, asked, &[Event::Decide], Told::Key(reply))
-}
-
 #[test]
 fn calls_without_a_table(rt: HostRuntime) {
-    let mut map = empty_map(rt.alloc(), 1, 0);
-    decides(&rt, &mut map, Call::Get(&3), KeptReply::Value(None));
-    decides(&rt, &mut map, Call::GetKeyValue(&3), KeptReply::Pair(None));
-    let absent = KeptReply::Contains(false);
-    decides(&rt, &mut map, Call::ContainsKey(&3), absent);
-    decides(&rt, &mut map, Call::Remove(&3), KeptReply::Value(None));
-    decides(&rt, &mut map, Call::RemoveEntry(&3), KeptReply::Pair(None));
-    has_table(&rt, &map, None);
-    same(&rt, map.tables.requests, 0);
+    let no_pair = Told::Key(KeptReply::Pair(None));
+    let absent = Told::Key(KeptReply::Contains(false));
+    let becomes_one = OwnedCall::Compute(3, Becomes(Some(1)));
+    let decides = [Event::Decide];
+    let rows = [
+        Row::Answers(3, OwnedCall::Get(3), &decides, NONE),
+        Row::Answers(3, OwnedCall::GetKeyValue(3), &decides, no_pair),
+        Row::Answers(3, OwnedCall::ContainsKey(3), &decides, absent),
+        Row::Answers(3, OwnedCall::Remove(3), &decides, NONE),
+        Row::Answers(3, OwnedCall::RemoveEntry(3), &decides, no_pair),
+        Row::Table(None),
+        Row::Requests(0),
+        Row::Answers(3, becomes_one, &decides, NONE),
+        Row::Table(None),
+        Row::Requests(0),
+    ];
+    goes_through(&rt, 0, &rows);
 }
 
-#[test]
-fn computation_without_a_table(rt: HostRuntime) {
+// Goes through the rows in a map whose only pair is the key 3 with the value 4.
+fn with_three(rt: &(impl Abort + AllocGlobal), rows: &[Row<'_>]) {
     let mut map = empty_map(rt.alloc(), 1, 0);
-    let (events, answer) = run(&rt, &mut map, 3, Call::Compute(&3, Becomes(Some(1))));
-    same(&rt, events.as_slice(), [Event::Decide].as_slice());
-    same(&rt, answer, value(None));
-    has_table(&rt, &map, None);
-    same(&rt, map.tables.requests, 0);
-}
-
-// Returns a map whose only pair is the key 3 with the value 4.
-fn map_of_three(rt: &(impl Abort + AllocGlobal)) -> Map {
-    let mut map = empty_map(rt.alloc(), 1, 0);
-    answers(
-        rt,
-        &mut map,
-        3,
-        Call::Insert(3, 4),
-        &[Event::Opened(4), Event::Decide, Event::Silent],
-        value(None),
-    );
-    has_pairs(rt, &map, 1);
-    map
-}
-
-// Runs a call of the hash 3, and checks its reply, its number of steps and the number of pairs after it.
-fn answers_in<'k>(
-    rt: &(impl Abort + AllocGlobal),
-    map: &mut Map,
-    asked: Call<'k, u64, u64, NoFn>,
-    reply: KeptReply<u64, u64>,
-    steps: usize,
-    len: usize,
-) {
-    let (events, answer) = call(rt, map, 3, asked);
-    same(rt, answer, Told::Key(reply));
-    same(rt, events.len(), steps);
-    has_pairs(rt, map, len);
+    let opens = [Event::Opened(4), Event::Decide, Event::Silent];
+    let first = [
+        Row::Answers(3, OwnedCall::Insert(3, 4), &opens, NONE),
+        Row::Pairs(1),
+    ];
+    go_on(rt, &mut map, &first);
+    go_on(rt, &mut map, rows);
+    drop(map);
 }
 
 #[test]
 fn look_ups(rt: HostRuntime) {
-    let mut map = map_of_three(&rt);
-    for (asked, reply) in [
-        (Call::Get(&3), KeptReply::Value(Some(4))),
-        (Call::Get(&19), KeptReply::Value(None)),
-        (Call::GetKeyValue(&3), KeptReply::Pair(Some((3, 4)))),
-        (Call::ContainsKey(&3), KeptReply::Contains(true)),
-        (Call::ContainsKey(&19), KeptReply::Contains(false)),
-    ] {
-        answers_in(&rt, &mut map, asked, reply, 2, 1);
-    }
+    let pair = Told::Key(KeptReply::Pair(Some((3, 4))));
+    let present = Told::Key(KeptReply::Contains(true));
+    let absent = Told::Key(KeptReply::Contains(false));
+    let rows = [
+        Row::Takes(3, OwnedCall::Get(3), 2, value(Some(4))),
+        Row::Pairs(1),
+        Row::Takes(3, OwnedCall::Get(19), 2, NONE),
+        Row::Pairs(1),
+        Row::Takes(3, OwnedCall::GetKeyValue(3), 2, pair),
+        Row::Pairs(1),
+        Row::Takes(3, OwnedCall::ContainsKey(3), 2, present),
+        Row::Pairs(1),
+        Row::Takes(3, OwnedCall::ContainsKey(19), 2, absent),
+        Row::Pairs(1),
+    ];
+    with_three(&rt, &rows);
 }
 
 #[test]
 fn writes(rt: HostRuntime) {
-    let mut map = map_of_three(&rt);
-    let old = KeptReply::Value(Some(4));
-    answers_in(&rt, &mut map, Call::Insert(3, 5), old, 2, 1);
-    let new = KeptReply::New(6);
-    answers_in(&rt, &mut map, Call::TryInsert(19, 6), new, 3, 2);
-    let exists = KeptReply::Exists {
+    let new = Told::Key(KeptReply::New(6));
+    let exists = Told::Key(KeptReply::Exists {
         current: 6,
         not_inserted: 7,
-    };
-    answers_in(&rt, &mut map, Call::TryInsert(19, 7), exists, 2, 2);
-    let none = KeptReply::Value(None);
-    answers_in(&rt, &mut map, Call::Remove(&35), none, 2, 2);
-    let old = KeptReply::Value(Some(5));
-    answers_in(&rt, &mut map, Call::Remove(&3), old, 3, 1);
-    let none = KeptReply::Pair(None);
-    answers_in(&rt, &mut map, Call::RemoveEntry(&3), none, 2, 1);
-    let pair = KeptReply::Pair(Some((19, 6)));
-    answers_in(&rt, &mut map, Call::RemoveEntry(&19), pair, 3, 0);
-}
-
-// Runs a computation, and checks its reply, its number of steps and the number of pairs after it.
-fn computes(
-    rt: &(impl Abort + AllocGlobal),
-    map: &mut Map,
-    key: u64,
-    becomes: Option<u64>,
-    reply: Option<u64>,
-    steps: usize,
-    len: usize,
-) {
-    let (events, answer) = run(rt, map, 3, Call::Compute(&key, Becomes(becomes)));
-    same(rt, answer, value(reply));
-    same(rt, events.len(), steps);
-    has_pairs(rt, map, len);
+    });
+    let no_pair = Told::Key(KeptReply::Pair(None));
+    let pair = Told::Key(KeptReply::Pair(Some((19, 6))));
+    let rows = [
+        Row::Takes(3, OwnedCall::Insert(3, 5), 2, value(Some(4))),
+        Row::Pairs(1),
+        Row::Takes(3, OwnedCall::TryInsert(19, 6), 3, new),
+        Row::Pairs(2),
+        Row::Takes(3, OwnedCall::TryInsert(19, 7), 2, exists),
+        Row::Pairs(2),
+        Row::Takes(3, OwnedCall::Remove(35), 2, NONE),
+        Row::Pairs(2),
+        Row::Takes(3, OwnedCall::Remove(3), 3, value(Some(5))),
+        Row::Pairs(1),
+        Row::Takes(3, OwnedCall::RemoveEntry(3), 2, no_pair),
+        Row::Pairs(1),
+        Row::Takes(3, OwnedCall::RemoveEntry(19), 3, pair),
+        Row::Pairs(0),
+    ];
+    with_three(&rt, &rows);
 }
 
 #[test]
 fn computations(rt: HostRuntime) {
-    let mut map = empty_map(rt.alloc(), 1, 0);
-    let _steps = insert(&rt, &mut map, 3, 3);
-    for (key, becomes, reply, steps, len) in [
-        (4, Some(1), None, 2, 1),
-        (3, Some(8), Some(8), 2, 1),
-        (3, None, None, 3, 0),
-        (3, Some(1), None, 2, 0),
-    ] {
-        computes(&rt, &mut map, key, becomes, reply, steps, len);
-    }
-    let _steps = insert(&rt, &mut map, 3, 3);
+    let one = Becomes(Some(1));
+    let eight = Becomes(Some(8));
+    let rows = [
+        INSERTS_THREE,
+        Row::Takes(3, OwnedCall::Compute(4, one), 2, NONE),
+        Row::Pairs(1),
+        Row::Takes(3, OwnedCall::Compute(3, eight), 2, value(Some(8))),
+        Row::Pairs(1),
+        Row::Takes(3, OwnedCall::Compute(3, Becomes(None)), 3, NONE),
+        Row::Pairs(0),
+        Row::Takes(3, OwnedCall::Compute(3, one), 2, NONE),
+        Row::Pairs(0),
+        INSERTS_THREE,
+    ];
+    goes_through(&rt, 0, &rows);
 }
 
-#[test]
-fn computation_by_a_closure(rt: HostRuntime) {
-    let mut map = empty_map(rt.alloc(), 1, 0);
-    let _steps = insert(&rt, &mut map, 3, 3);
-    let (_events, answer) = run(
-        &rt,
-        &mut map,
-        3,
-        Call::Compute(&3, |key: &u64, old: &u64| key.checked_add(*old)),
-    );
-    same(&rt, answer, value(Some(3)));
-}
-
-// Returns how often a computation at a key of the hash 3 calls its function.
-fn calls_at(rt: &(impl Abort + AllocGlobal), map: &mut Map, key: u64) -> u64 {
+// Runs a computation that adds the key to the value, at a key of the hash 3. Returns how often it calls its function, and its reply.
+fn adds(rt: &(impl Abort + AllocGlobal), map: &mut Map, key: u64) -> (u64, Told) {
     let calls = Cell::new(0u64);
-    let (_events, _answer) = run(
+    let (_events, told) = run(
         rt,
         map,
         3,
-        Call::Compute(&key, |_: &u64, old: &u64| {
+        Call::Compute(&key, |key: &u64, old: &u64| {
             calls.set(calls.get().saturating_add(1));
-            Some(*old)
+            key.checked_add(*old)
         }),
     );
-    calls.get()
+    (calls.get(), told)
 }
 
 #[test]
 fn function_is_called_for_a_present_key_alone(rt: HostRuntime) {
     let mut map = empty_map(rt.alloc(), 1, 0);
-    same(&rt, calls_at(&rt, &mut map, 3), 0);
-    let _steps = insert(&rt, &mut map, 3, 3);
-    same(&rt, calls_at(&rt, &mut map, 19), 0);
-    same(&rt, calls_at(&rt, &mut map, 3), 1);
-}
-
-// Does the first step of a look-up of the key 3, at the certificate of the table.
-fn begins_at_a_start<'k, F: ComputeFn<u64, u64>>(
-    rt: &impl Abort,
-    party: &mut Party<'k, u64, u64, F>,
-    map: &Map,
-) {
-    let start = map.control.start().expect(rt, "a table is published");
-    assert!(rt; party.locates(), "a look-up locates first");
-    same(rt, party.want(), Want::Control);
-    same(rt, party.on_start(&start), Event::Silent);
-}
-
-// Does all steps of a look-up of the key 3, the first one at the certificate of the table.
-pub(super) fn looks_up_from_a_start<'k, F: ComputeFn<u64, u64>>(
-    rt: &(impl Abort + AllocGlobal),
-    party: &mut Party<'k, u64, u64, F>,
-    map: &mut Map,
-) {
-    begins_at_a_start(rt, party, map);
-    let seen = (party.locates(), party.want());
-    same(rt, seen, (false, Want::Look(4, 3)));
-    same(rt, step(rt, party, map), Event::Decide);
-    same(rt, reply_of(rt, party), value(Some(0)));
+    same(&rt, adds(&rt, &mut map, 3), (0, NONE));
+    go_on(&rt, &mut map, &[INSERTS_THREE]);
+    same(&rt, adds(&rt, &mut map, 19), (0, NONE));
+    same(&rt, adds(&rt, &mut map, 3), (1, value(Some(3))));
+    drop(map);
 }
 
 #[test]
 fn call_begins_at_a_start(rt: HostRuntime) {
     let mut map = empty_map(rt.alloc(), 1, 0);
-    let _steps = insert(&rt, &mut map, 3, 3);
-    follows(&rt, &mut map, 3, Call::Get(&3), Script::LookUp)
+    go_on(&rt, &mut map, &[INSERTS_THREE]);
+    let acts = [
+        Act::Starts,
+        Act::Wants(Want::Look(4, 3)),
+        Act::Step(Event::Decide),
+        Act::Replies(value(Some(0))),
+    ];
+    follows(&rt, &mut map, 3, OwnedCall::Get(3), &acts);
+    drop(map);
 }

@@ -1,72 +1,54 @@
 //! Calls for whose tables memory cannot be allocated.
 
-use super::{Told, answers, empty_map, has_pairs, has_table, inserts};
-use flurry_steps::party::{Call, Event};
+use super::{NONE, Row, Told, goes_through};
+use flurry_steps::party::{Event, OwnedCall};
 
 #[test]
 fn refused_first_table_refuses_an_insertion(rt: HostRuntime) {
-    let mut map = empty_map(rt.alloc(), 1, 1);
-    answers(
-        &rt,
-        &mut map,
-        1,
-        Call::Insert(1, 1),
-        &[Event::Refused],
-        Told::Refused,
-    );
-    has_table(&rt, &map, None);
-    inserts(&rt, &mut map, 1, 1, 3);
+    let events = [Event::Refused];
+    let rows = [
+        Row::Answers(1, OwnedCall::Insert(1, 1), &events, Told::Refused),
+        Row::Table(None),
+        Row::Takes(1, OwnedCall::Insert(1, 0), 3, NONE),
+    ];
+    goes_through(&rt, 1, &rows);
 }
 
 #[test]
-fn refused_first_table_refuses_a_reserve(rt: HostRuntime) {
-    let mut map = empty_map(rt.alloc(), 1, 1);
-    answers(
-        &rt,
-        &mut map,
-        0,
-        Call::Reserve(9),
-        &[Event::Refused],
-        Told::Refused,
-    )
-}
-
-#[test]
-fn refused_larger_table_refuses_a_reserve(rt: HostRuntime) {
-    let mut map = empty_map(rt.alloc(), 1, 2);
-    answers(
-        &rt,
-        &mut map,
-        0,
-        Call::Reserve(32),
-        &[Event::Opened(6), Event::Refused],
-        Told::Refused,
-    );
-    has_table(&rt, &map, Some(6));
+fn refused_table_refuses_a_reserve(rt: HostRuntime) {
+    let first = [Event::Refused];
+    let rows = [Row::Answers(0, OwnedCall::Reserve(9), &first, Told::Refused)];
+    goes_through(&rt, 1, &rows);
+    let larger = [Event::Opened(6), Event::Refused];
+    let rows = [
+        Row::Answers(0, OwnedCall::Reserve(32), &larger, Told::Refused),
+        Row::Table(Some(6)),
+    ];
+    goes_through(&rt, 2, &rows);
 }
 
 // The twelfth pair stays, although memory for its larger table cannot be allocated. The thirteenth pair doubles the table.
 #[test]
 fn refused_larger_table_leaves_the_pair(rt: HostRuntime) {
-    let mut map = empty_map(rt.alloc(), 1, 2);
-    for key in 0..11 {
-        inserts(&rt, &mut map, key, key, 3);
-    }
-    inserts(&rt, &mut map, 11, 11, 4);
-    has_pairs(&rt, &map, 12);
-    has_table(&rt, &map, Some(4));
-    inserts(&rt, &mut map, 12, 12, 24);
-    has_table(&rt, &map, Some(5));
+    let rows = [
+        Row::InsertsEach(11, 3),
+        Row::Takes(11, OwnedCall::Insert(11, 0), 4, NONE),
+        Row::Pairs(12),
+        Row::Table(Some(4)),
+        Row::Takes(12, OwnedCall::Insert(12, 0), 24, NONE),
+        Row::Table(Some(5)),
+    ];
+    goes_through(&rt, 2, &rows);
 }
 
 // Memory for the larger table of a list of eight cannot be allocated. The pair stays and is counted.
 #[test]
 fn refused_larger_table_leaves_the_list(rt: HostRuntime) {
-    let mut map = empty_map(rt.alloc(), 1, 2);
-    for key in 0..9 {
-        let steps = if key < 8 { 3 } else { 4 };
-        inserts(&rt, &mut map, 0, key, steps);
-    }
-    has_pairs(&rt, &map, 9);
-    has_table(&rt, &map, Some(4));
+    let rows = [
+        Row::InsertsAtOneHash(8, 3),
+        Row::Takes(0, OwnedCall::Insert(8, 0), 4, NONE),
+        Row::Pairs(9),
+        Row::Table(Some(4)),
+    ];
+    goes_through(&rt, 2, &rows);
 }

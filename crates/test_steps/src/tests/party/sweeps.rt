@@ -5,13 +5,12 @@ ghost use Rattle.flurry_calls.specs.Sweep.{swept_part};
 
 use super::super::{same, same_at};
 use super::{
-    Map, Script, Told, empty_map, end, ends_after, follows, goes_on, has_pairs, has_table, inserts,
-    lent, one_and_seventeen, plain, replies, value,
+    Act, Map, NONE, ONE_AND_SEVENTEEN, Row, Told, does, empty_map, follows, go_on, goes_through,
+    lent, plain, value,
 };
 use flurry_calls::{Seen, Sweep};
-use flurry_model::reply::KeptReply;
-use flurry_slots::{ComputeFn, Slot};
-use flurry_steps::party::{Call, Event, Party, Want};
+use flurry_slots::Slot;
+use flurry_steps::party::{Event, OwnedCall, Want};
 use std::process::Abort;
 
 // Does the step of a walk that needs to read a slot.
@@ -69,6 +68,14 @@ fn reads(rt: &impl Abort, walk: &mut Sweep<u64, u64>, map: &mut Map, key: u64, v
     same(rt, walk.last_read(), Some((&key, &value)));
 }
 
+// Does the step that sets out from a table that is known to have been published.
+fn starts(rt: &impl Abort, sweep: &mut Sweep<u64, u64>, map: &Map) {
+    let start = map.control.start().expect(rt, "there is a table");
+    assert!(rt; sweep.sets_out());
+    same(rt, sweep.on_start(&start), Event::Silent);
+    same(rt, sweep.sets_out(), false);
+}
+
 // Asserts that the call has ended, and that its reply can be taken only once.
 fn has_ended(rt: &impl Abort, sweep: &mut Sweep<u64, u64>) {
     let seen = (sweep.want(), sweep.reply().is_some());
@@ -83,233 +90,296 @@ fn has_ended(rt: &impl Abort, sweep: &mut Sweep<u64, u64>) {
     );
 }
 
-// Asserts that `seen` is the key 1 with its first value.
-fn is_one(rt: &impl Abort, seen: &Seen<u64, u64>) {
-    same(rt, (seen.key(), seen.value()), (&1, &0));
+// What a test does with a walk or a clear, and what it sees.
+#[derive(Clone, Copy)]
+enum Stride<'r> {
+    // As many steps as the number, in which nothing is read or wiped.
+    Silent(u64),
+    // A step that reads the pair of a key and a value.
+    Reads(u64, u64),
+    // A step for each bin of the table from the first number on and below the second one, which wipes it.
+    Wipes(u8, usize, usize),
+    // The first step, at a table that is known to have been published.
+    Starts,
+    // The part that the next step needs.
+    Wants(Want),
+    // There is no reply yet.
+    HasNoReply,
+    // The call has ended, and its reply can be taken only once.
+    HasEnded,
+    // The pair that the call read last.
+    LastRead(Option<(u64, u64)>),
+    // The first bin of the table of 16 is unborn from now on.
+    FirstIsUnborn,
+    // What the test does with the map in between.
+    Map(Row<'r>),
 }
 
-// Returns a walk of the map that has read key 1.
-fn has_read_one(rt: &impl Abort, map: &mut Map) -> Sweep<u64, u64> {
+// Wipes the bins of a table from `first` on and below `end`, in their order.
+fn wipes(
+    rt: &impl Abort,
+    clear: &mut Sweep<u64, u64>,
+    map: &mut Map,
+    table: u8,
+    first: usize,
+    end: usize,
+) {
+    for index in first..end {
+        same_at(rt, index, step(rt, clear, map), Event::Wipe(table, index));
+    }
+}
+
+// Takes the first slot of the table of 16 bins out of the tables, and puts an unborn one in its place.
+fn first_is_unborn(rt: &impl Abort, map: &mut Map) {
+    drop(map.tables.take(rt, 4, 0));
+    map.tables.put_back(rt, Slot::unborn(4, 0));
+}
+
+// Makes the stride numbered `at`, and checks what it sees.
+fn makes(
+    rt: &(impl Abort + AllocGlobal),
+    sweep: &mut Sweep<u64, u64>,
+    map: &mut Map,
+    at: usize,
+    stride: Stride<'_>,
+) {
+    match stride {
+        Stride::Silent(count) => silent(rt, sweep, map, count),
+        Stride::Reads(key, value) => reads(rt, sweep, map, key, value),
+        Stride::Wipes(table, first, end) => wipes(rt, sweep, map, table, first, end),
+        Stride::Starts => starts(rt, sweep, map),
+        Stride::Wants(want) => same_at(rt, at, sweep.want(), want),
+        Stride::HasNoReply => {
+            let has_reply = sweep.reply().is_some() || sweep.take_reply().is_some();
+            same_at(rt, at, has_reply, false);
+        }
+        Stride::HasEnded => has_ended(rt, sweep),
+        Stride::LastRead(Some((key, value))) => {
+            same_at(rt, at, sweep.last_read(), Some((&key, &value)))
+        }
+        Stride::LastRead(None) => same_at(rt, at, sweep.last_read().is_none(), true),
+        Stride::FirstIsUnborn => first_is_unborn(rt, map),
+        Stride::Map(row) => does(rt, map, at, row),
+    }
+}
+
+// Makes the strides, in their order.
+fn walks(
+    rt: &(impl Abort + AllocGlobal),
+    sweep: &mut Sweep<u64, u64>,
+    map: &mut Map,
+    strides: &[Stride<'_>],
+) {
+    for at in 0..strides.len() {
+        makes(rt, sweep, map, at, strides[at]);
+    }
+}
+
+// The strides of a walk over one and seventeen that reads the key 1.
+const READS_ONE: [Stride<'static>; 4] = [
+    Stride::LastRead(None),
+    Stride::Silent(2),
+    Stride::Reads(1, 0),
+    Stride::HasNoReply,
+];
+
+// Makes the strides with a walk over one and seventeen that has read key 1.
+fn reads_one_and(rt: &(impl Abort + AllocGlobal), strides: &[Stride<'_>]) {
+    let mut map = empty_map(rt.alloc(), 1, 0);
+    go_on(rt, &mut map, &ONE_AND_SEVENTEEN);
     let mut walk = Sweep::walk();
-    same(rt, walk.last_read().is_none(), true);
-    silent(rt, &mut walk, map, 2);
-    reads(rt, &mut walk, map, 1, 0);
-    same(
-        rt,
-        walk.reply().is_some() || walk.take_reply().is_some(),
-        false,
-    );
-    walk
+    walks(rt, &mut walk, &mut map, &READS_ONE);
+    walks(rt, &mut walk, &mut map, strides);
+    drop(walk);
+    drop(map);
 }
 
 #[test]
 fn a_walk_reads_each_pair_once(rt: HostRuntime) {
-    let mut map = one_and_seventeen(&rt);
-    let mut walk = has_read_one(&rt, &mut map);
-    reads(&rt, &mut walk, &mut map, 17, 0);
-    silent(&rt, &mut walk, &mut map, 15);
-    has_ended(&rt, &mut walk);
-    same(&rt, walk.last_read(), Some((&17, &0)));
-    drop(walk);
+    let strides = [
+        Stride::Reads(17, 0),
+        Stride::Silent(15),
+        Stride::HasEnded,
+        Stride::LastRead(Some((17, 0))),
+    ];
+    reads_one_and(&rt, &strides);
 }
 
 // Between the walk's reads, the table is doubled twice. The walk follows bin 1 to its four parts, and every other bin too.
 #[test]
 fn a_walk_follows_bins_that_move(rt: HostRuntime) {
-    let mut map = one_and_seventeen(&rt);
-    let mut walk = has_read_one(&rt, &mut map);
-    ends_after(&rt, &mut map, Call::Reserve(16), 58);
-    silent(&rt, &mut walk, &mut map, 5);
-    reads(&rt, &mut walk, &mut map, 17, 0);
-    silent(&rt, &mut walk, &mut map, 100);
-    has_ended(&rt, &mut walk);
-    drop(walk);
+    let strides = [
+        Stride::Map(Row::Takes(0, OwnedCall::Reserve(16), 58, Told::Ended)),
+        Stride::Silent(5),
+        Stride::Reads(17, 0),
+        Stride::Silent(100),
+        Stride::HasEnded,
+    ];
+    reads_one_and(&rt, &strides);
 }
 
 // The key that was read is removed, and inserted again with another value. It is not read again.
 #[test]
 fn a_walk_reads_no_key_twice(rt: HostRuntime) {
-    let mut map = one_and_seventeen(&rt);
-    let mut walk = has_read_one(&rt, &mut map);
-    replies(
-        &rt,
-        &mut map,
-        1,
-        Call::Remove(&1),
-        Told::Key(KeptReply::Value(Some(0))),
-    );
-    replies(
-        &rt,
-        &mut map,
-        1,
-        Call::Insert(1, 5),
-        Told::Key(KeptReply::Value(None)),
-    );
-    reads(&rt, &mut walk, &mut map, 17, 0);
-    silent(&rt, &mut walk, &mut map, 15);
-    has_ended(&rt, &mut walk);
+    let strides = [
+        Stride::Map(Row::Replies(1, OwnedCall::Remove(1), value(Some(0)))),
+        Stride::Map(Row::Replies(1, OwnedCall::Insert(1, 5), NONE)),
+        Stride::Reads(17, 0),
+        Stride::Silent(15),
+        Stride::HasEnded,
+    ];
+    reads_one_and(&rt, &strides);
+}
+
+// Walks over one and seventeen until key 1 is read, which is then written. Returns what the walk has read last, after the walk's end.
+fn seen_before_a_write(rt: &(impl Abort + AllocGlobal), map: &mut Map) -> Seen<u64, u64> {
+    let mut walk = Sweep::walk();
+    walks(rt, &mut walk, map, &READS_ONE);
+    let strides = [
+        Stride::Map(Row::Replies(1, OwnedCall::Insert(1, 5), value(Some(0)))),
+        Stride::LastRead(Some((1, 0))),
+    ];
+    walks(rt, &mut walk, map, &strides);
+    let seen = walk.seen().expect(rt, "a further owner");
     drop(walk);
+    seen.expect(rt, "a pair was read")
 }
 
 // What was read last stays as it was read, even if another call writes its key.
 #[test]
 fn what_was_read_stays(rt: HostRuntime) {
-    let mut map = one_and_seventeen(&rt);
-    let walk = has_read_one(&rt, &mut map);
-    replies(
-        &rt,
-        &mut map,
-        1,
-        Call::Insert(1, 5),
-        Told::Key(KeptReply::Value(Some(0))),
-    );
-    same(&rt, walk.last_read(), Some((&1, &0)));
-    let seen = walk.seen().expect(&rt, "a further owner");
-    drop(walk);
-    let seen = seen.expect(&rt, "a pair was read");
+    let mut map = empty_map(rt.alloc(), 1, 0);
+    go_on(&rt, &mut map, &ONE_AND_SEVENTEEN);
+    let seen = seen_before_a_write(&rt, &mut map);
     let further = seen.try_clone().expect(&rt, "a further owner");
     drop(seen);
-    is_one(&rt, &further);
+    same(&rt, (further.key(), further.value()), (&1, &0));
     drop(further);
-}
-
-// Asserts that the call ends at its first step, and has read nothing.
-fn ends_at_once(rt: &impl Abort, sweep: &mut Sweep<u64, u64>, map: &mut Map) {
-    silent(rt, sweep, map, 1);
-    has_ended(rt, sweep);
-    same(rt, sweep.last_read().is_none(), true);
+    drop(map);
 }
 
 #[test]
 fn a_map_without_a_table_has_nothing_to_go_over(rt: HostRuntime) {
     let mut map = empty_map(rt.alloc(), 1, 0);
+    let ends_at_once = [
+        Stride::Silent(1),
+        Stride::HasEnded,
+        Stride::LastRead(None),
+        Stride::Map(Row::Table(None)),
+    ];
     let mut walk = Sweep::walk();
-    ends_at_once(&rt, &mut walk, &mut map);
+    walks(&rt, &mut walk, &mut map, &ends_at_once);
     drop(walk);
     let mut clear = Sweep::clear();
-    ends_at_once(&rt, &mut clear, &mut map);
+    walks(&rt, &mut clear, &mut map, &ends_at_once);
     drop(clear);
-    has_table(&rt, &map, None);
+    drop(map);
 }
 
 // The first step may also be done at a table that is known to have been published.
 #[test]
 fn a_walk_sets_out_from_a_published_table(rt: HostRuntime) {
-    let mut map = one_and_seventeen(&rt);
+    let mut map = empty_map(rt.alloc(), 1, 0);
+    go_on(&rt, &mut map, &ONE_AND_SEVENTEEN);
     let mut walk = Sweep::walk();
-    let start = map.control.start().expect(&rt, "there is a table");
-    assert!(&rt; walk.sets_out());
-    same(&rt, walk.on_start(&start), Event::Silent);
-    let seen = (walk.sets_out(), walk.want());
-    same(&rt, seen, (false, Want::Look(4, 0)));
-    silent(&rt, &mut walk, &mut map, 1);
-    reads(&rt, &mut walk, &mut map, 1, 0);
+    let strides = [
+        Stride::Starts,
+        Stride::Wants(Want::Look(4, 0)),
+        Stride::Silent(1),
+        Stride::Reads(1, 0),
+    ];
+    walks(&rt, &mut walk, &mut map, &strides);
     drop(walk);
+    drop(map);
 }
 
 // At an unborn bin, a walk and a clear stay.
 #[test]
 fn an_unborn_bin_is_met_again(rt: HostRuntime) {
-    let mut map = one_and_seventeen(&rt);
+    let mut map = empty_map(rt.alloc(), 1, 0);
+    go_on(&rt, &mut map, &ONE_AND_SEVENTEEN);
     let mut walk = Sweep::walk();
     let mut clear = Sweep::clear();
-    silent(&rt, &mut walk, &mut map, 1);
-    silent(&rt, &mut clear, &mut map, 1);
-    drop(map.tables.take(&rt, 4, 0));
-    map.tables.put_back(&rt, Slot::unborn(4, 0));
-    silent(&rt, &mut walk, &mut map, 2);
-    same(&rt, walk.want(), Want::Look(4, 0));
+    walks(&rt, &mut walk, &mut map, &[Stride::Silent(1)]);
+    walks(
+        &rt,
+        &mut clear,
+        &mut map,
+        &[Stride::Silent(1), Stride::FirstIsUnborn],
+    );
+    let strides = [Stride::Silent(2), Stride::Wants(Want::Look(4, 0))];
+    walks(&rt, &mut walk, &mut map, &strides);
     drop(walk);
-    silent(&rt, &mut clear, &mut map, 2);
-    same(&rt, clear.want(), Want::Bin(4, 0));
+    let strides = [Stride::Silent(2), Stride::Wants(Want::Bin(4, 0))];
+    walks(&rt, &mut clear, &mut map, &strides);
     drop(clear);
-}
-
-// Does steps of a clear that wipe `bins` of `table`, in their order.
-fn wipes(rt: &impl Abort, clear: &mut Sweep<u64, u64>, map: &mut Map, table: u8, bins: &[usize]) {
-    for at in 0..bins.len() {
-        same_at(rt, at, step(rt, clear, map), Event::Wipe(table, bins[at]));
-    }
+    drop(map);
 }
 
 // While the growth has stopped, the clear wipes the 63 bins that have not moved, and the halves of the one that has.
 #[test]
 fn a_clear_beside_a_growth_wipes_every_bin(rt: HostRuntime) {
     let mut map = empty_map(rt.alloc(), 2, 0);
-    replies(&rt, &mut map, 0, Call::Reserve(20), Told::Ended);
-    inserts(&rt, &mut map, 50, 50, 3);
-    inserts(&rt, &mut map, 2, 2, 3);
-    follows(&rt, &mut map, 0, Call::Reserve(30), Script::GrowthStops);
+    let rows = [
+        Row::Replies(0, OwnedCall::Reserve(20), Told::Ended),
+        Row::Takes(50, OwnedCall::Insert(50, 0), 3, NONE),
+        Row::Takes(2, OwnedCall::Insert(2, 0), 3, NONE),
+    ];
+    go_on(&rt, &mut map, &rows);
+    let stops = [
+        Act::Step(Event::Silent),
+        Act::Step(Event::Placed(7)),
+        Act::Step(Event::Silent),
+        Act::Step(Event::Moved(6, 63)),
+    ];
+    follows(&rt, &mut map, 0, OwnedCall::Reserve(30), &stops);
     let mut clear = Sweep::clear();
-    silent(&rt, &mut clear, &mut map, 1);
-    for index in 0..63usize {
-        wipes(&rt, &mut clear, &mut map, 6, &[index]);
-    }
-    silent(&rt, &mut clear, &mut map, 1);
-    wipes(&rt, &mut clear, &mut map, 7, &[63, 127]);
-    has_pairs(&rt, &map, 2);
-    silent(&rt, &mut clear, &mut map, 1);
-    has_ended(&rt, &mut clear);
+    let strides = [
+        Stride::Silent(1),
+        Stride::Wipes(6, 0, 63),
+        Stride::Silent(1),
+        Stride::Wipes(7, 63, 64),
+        Stride::Wipes(7, 127, 128),
+        Stride::Map(Row::Pairs(2)),
+        Stride::Silent(1),
+        Stride::HasEnded,
+    ];
+    walks(&rt, &mut clear, &mut map, &strides);
     drop(clear);
-    has_pairs(&rt, &map, 0);
-    replies(
-        &rt,
-        &mut map,
-        2,
-        Call::Get(&2),
-        Told::Key(KeptReply::Value(None)),
-    );
+    let rows = [Row::Pairs(0), Row::Replies(2, OwnedCall::Get(2), NONE)];
+    go_on(&rt, &mut map, &rows);
+    drop(map);
 }
 
-// Does the first steps of a walk as a party, which reads key 1.
-fn reads_one<'k, F: ComputeFn<u64, u64>>(
-    rt: &(impl Abort + AllocGlobal),
-    walk: &mut Party<'k, u64, u64, F>,
-    map: &mut Map,
-) {
-    same(rt, walk.last_read().is_none(), true);
-    goes_on(
-        rt,
-        walk,
-        map,
-        3,
-        &[Event::Silent, Event::Silent, Event::Read],
-    );
-    same(rt, walk.last_read(), Some((&1, &0)));
-    let seen = walk.seen().expect(rt, "a further owner");
-    let seen = seen.expect(rt, "a pair was read");
-    is_one(rt, &seen);
-    drop(seen);
-}
-
-// Runs a walk as a party to its end. It keeps what it read last.
-pub(super) fn walks_as_a_party<'k, F: ComputeFn<u64, u64>>(
-    rt: &(impl Abort + AllocGlobal),
-    walk: &mut Party<'k, u64, u64, F>,
-    map: &mut Map,
-) {
-    reads_one(rt, walk, map);
-    let (events, reply) = end(rt, walk, map);
-    same(rt, (events.len(), reply), (16, Told::Ended));
-    same(rt, walk.last_read(), Some((&17, &0)));
-}
-
+// A walk may be a party too. It keeps what it read last.
 #[test]
 fn a_walk_is_a_party(rt: HostRuntime) {
-    let mut map = one_and_seventeen(&rt);
-    follows(&rt, &mut map, 0, Call::Walk, Script::Walk);
+    let mut map = empty_map(rt.alloc(), 1, 0);
+    go_on(&rt, &mut map, &ONE_AND_SEVENTEEN);
+    let acts = [
+        Act::LastRead(None),
+        Act::Step(Event::Silent),
+        Act::Step(Event::Silent),
+        Act::Step(Event::Read),
+        Act::LastRead(Some((1, 0))),
+        Act::Seen(1, 0, 1),
+        Act::Ends(16),
+        Act::Replies(Told::Ended),
+        Act::LastRead(Some((17, 0))),
+    ];
+    follows(&rt, &mut map, 0, OwnedCall::Walk, &acts);
+    drop(map);
 }
 
 #[test]
 fn a_clear_is_a_party(rt: HostRuntime) {
-    let mut map = one_and_seventeen(&rt);
-    ends_after(&rt, &mut map, Call::Clear, 18);
-    has_pairs(&rt, &map, 0);
-    replies(
-        &rt,
-        &mut map,
-        17,
-        Call::Get(&17),
-        Told::Key(KeptReply::Value(None)),
-    );
+    let [one, seventeen] = ONE_AND_SEVENTEEN;
+    let rows = [
+        one,
+        seventeen,
+        Row::Takes(0, OwnedCall::Clear, 18, Told::Ended),
+        Row::Pairs(0),
+        Row::Replies(17, OwnedCall::Get(17), NONE),
+    ];
+    goes_through(&rt, 0, &rows);
 }

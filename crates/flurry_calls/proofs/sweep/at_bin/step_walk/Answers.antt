@@ -11,7 +11,7 @@ returns-in-Ok-clause-step g c =
     let next : Here (Some (numbered_pair c.in-Here-Some.entry.now)) ≡ answered g.K.Ord.cmp c.args.cursor.now c.args.last.now c.args.slot.now.content = rw (c.bound.ensures, c.in-Here-Some.field-0-is) at c.in-Here-Some.ensures.reply in
     let both : Ok c.in-Ok.seen ≡ Ok (seen_at (numbered_pair c.in-Here-Some.entry.now)) = c.in-Ok.ensures.seen in
     let seen : c.in-Ok.seen ≡ seen_at (numbered_pair c.in-Here-Some.entry.now) = cc in
-    rw (c.in-Ok.ensures.ok, c.replace.ensures.after, seen) (reads g.K.Ord.cmp c.args.cursor.now c.args.last.now c.args.slot.now.content _ next)
+    rw (c.in-Ok.ensures.ok, c.replace-before.ensures.after, seen) (reads g.K.Ord.cmp c.args.cursor.now c.args.last.now c.args.slot.now.content _ next)
 
 pub returns-in-Err-clause-step : goal.returns-in-Err-clause-step
 returns-in-Err-clause-step g c =

@@ -9,15 +9,15 @@ returns-in-Ok-clause-present g c =
     rw (← c.in-Some.ensures) (
       Some c.in-Some-computed.value,
       (c.deref.result, c.deref-in-Some.result, c.deref.ensures, c.deref-in-Some.ensures, c.in-Some-computed.ensures),
-      (ap Some c.in-Ok.ensures.1, rw c.in-Ok.ensures.0 at c.swap_value.ensures.after),
+      (ap Some c.in-Ok.ensures.ok.1, rw c.in-Ok.ensures.ok.0 at c.swap_value.ensures.after),
     )
 
-pub returns-in-Err-clause-present : goal.returns-in-Err-clause-present
-returns-in-Err-clause-present g c =
+pub returns-in-Some-computed-clause-present : goal.returns-in-Some-computed-clause-present
+returns-in-Some-computed-clause-present g c =
     rw (← c.in-Some.ensures)
     (Some c.in-Some-computed.value, (c.deref.result, c.deref-in-Some.result, c.deref.ensures, c.deref-in-Some.ensures, c.in-Some-computed.ensures), refl)
 
-pub returns-in-None-computed-clause-present : goal.returns-in-None-computed-clause-present
-returns-in-None-computed-clause-present g c =
+pub returns-clause-present : goal.returns-clause-present
+returns-clause-present g c =
     rw (← c.in-Some.ensures)
     (None, (c.deref.result, c.deref-in-Some.result, c.deref.ensures, c.deref-in-Some.ensures, c.in-None-computed.ensures), (refl, c.take.ensures.after))

@@ -9,21 +9,21 @@ use Rattle.flurry_set.proofs.seq_set.SeqSet.put_new.Goals as goal
 pub invariant_of-self-2 : goal.invariant_of-self-2
 invariant_of-self-2 g c =
     rw c.in_ok-insert_shared.ensures.pairs
-    (IsFiniteMap-with_pair g.met.T.Ord.total c.self.inside.map.pairs (arc_value c.in_ok-stored.stored) (arc_value c.in_ok-nothing.nothing) c.self.invariant)
+    (IsFiniteMap-with_pair g.met.T.Ord.total c.self.inside.map.pairs (arc_value c.in-Ok.stored) (arc_value c.in_ok-nothing.nothing) c.self.invariant)
 
 pub returns-clause-stored : goal.returns-clause-stored
 returns-clause-stored g c =
-    rw (c.in_ok-insert_shared.ensures.pairs, c.in_ok-stored.ensures.0, c.in_ok-stored.ensures.1)
+    rw (c.in_ok-insert_shared.ensures.pairs, c.in-Ok.ensures.ok.0, c.in-Ok.ensures.ok.1)
     (put_is_found g.met.T.Ord.total c.self.inside.map.pairs c.args.element (arc_value c.in_ok-nothing.nothing) c.self.invariant (rw (← c.self.view_is) at c.requires))
 
 pub returns-clause-elements : goal.returns-clause-elements
 returns-clause-elements g c =
-    rw (← c.self.view_is, ← c.in_ok-stored.ensures.0)
+    rw (← c.self.view_is, ← c.in-Ok.ensures.ok.0)
     (ap keys_of c.in_ok-insert_shared.ensures.pairs
-    ∙ sym (with_element-keys g.T.Ord.cmp c.self.inside.map.pairs (arc_value c.in_ok-stored.stored) (arc_value c.in_ok-nothing.nothing)))
+    ∙ sym (with_element-keys g.T.Ord.cmp c.self.inside.map.pairs (arc_value c.in-Ok.stored) (arc_value c.in_ok-nothing.nothing)))
 
 pub returns-clause-grown : goal.returns-clause-grown
 returns-clause-grown g c =
     let none = sym (some_mapped arc_value c.in_ok-insert_shared.field-0) ∙ ap is_some c.in_ok-insert_shared.ensures.old
-    ∙ rw c.in_ok-stored.ensures.0 (has_value-keys g.T.Ord.cmp c.self.inside.map.pairs c.args.element ∙ (rw (← c.self.view_is) at c.requires)) in
+    ∙ rw c.in-Ok.ensures.ok.0 (has_value-keys g.T.Ord.cmp c.self.inside.map.pairs c.args.element ∙ (rw (← c.self.view_is) at c.requires)) in
     rw (← c.self.view_is, length-map) (c.in_ok-insert_shared.ensures.grown none)

@@ -7,14 +7,14 @@ returns-in-Ok-clause-done g c =
     let there = sym c.find.ensures ∙ ap (option_map (λ e. numbered_pair e.now)) c.in-Some.is in
     let answered = rw (c.deref.ensures, c.deref-in-Some.ensures) at c.in-Some-computed.ensures in
     let both = c.in-Ok.ensures in
-    (numbered_pair c.in-Some.entry.now, there, rw both.1 answered, rw (both.1, ← both.0) c.rewrite.ensures.after)
+    (numbered_pair c.in-Some.entry.now, there, rw both.ok.1 answered, rw (both.ok.1, ← both.ok.0) c.rewrite-old.ensures.after)
 
 pub returns-in-Err-clause-in_vain : goal.returns-in-Err-clause-in_vain
 returns-in-Err-clause-in_vain g c =
     let there = sym c.find.ensures ∙ ap (option_map (λ e. numbered_pair e.now)) c.in-Some.is in
-    (numbered_pair c.in-Some.entry.now, c.in-Some-computed.value, there, rw (c.deref.ensures, c.deref-in-Some.ensures) at c.in-Some-computed.ensures)
+    (numbered_pair c.in-Some.entry.now, there, rw (← c.in-Err.ensures.err, c.deref.ensures, c.deref-in-Some.ensures) at c.in-Some-computed.ensures)
 
-pub returns-in-None-computed-clause-done : goal.returns-in-None-computed-clause-done
-returns-in-None-computed-clause-done g c =
+pub returns-in-Some-take-clause-done : goal.returns-in-Some-take-clause-done
+returns-in-Some-take-clause-done g c =
     let there = sym c.find.ensures ∙ ap (option_map (λ e. numbered_pair e.now)) c.in-Some.is in
     (numbered_pair c.in-Some.entry.now, there, rw (c.deref.ensures, c.deref-in-Some.ensures) at c.in-None-computed.ensures, c.take.ensures.after)

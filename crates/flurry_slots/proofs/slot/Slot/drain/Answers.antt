@@ -1,5 +1,5 @@
 use Rattle.flurry_slots.proofs.SlotLaws.{live_in_wiped}
-use Rattle.flurry_slots.proofs.slot.Slot.wipe.Goals as goal
+use Rattle.flurry_slots.proofs.slot.Slot.drain.Goals as goal
 
 pub invariant_of-self : goal.invariant_of-self
 invariant_of-self g c =
@@ -7,5 +7,5 @@ invariant_of-self g c =
     (record {
       table = c.self.invariant.table;
       index = c.self.invariant.index;
-      content = rw c.wipe.ensures.after (live_in_wiped g.met.K.Ord.total _ _ c.self.inside.live);
+      content = rw c.drain.ensures.after (live_in_wiped g.met.K.Ord.total _ _ c.self.inside.live);
     })

@@ -1,0 +1,39 @@
+//! What a step at a bin leaves behind.
+
+use super::call::Key;
+use flurry_calls::Seen;
+use flurry_slots::{Given, NotInserted};
+use std::alloc::{Allocator, Global};
+use std::sync::Arc;
+
+/// What the first steps of a call took out of a bin and do not return, or were given and did not keep. It is to be dropped while no lock
+/// is held, since that may run code of the map's user.
+///
+/// ```
+/// let (ending, left) = Party::write_first(call, hash, start, alloc, slot);
+/// drop(left);
+/// ending
+/// ```
+#[derive(Drop)]
+pub struct Remains<'k, K, V, F, A: Allocator = Global> {
+    pub(super) left: Left<'k, K, V, F, A>,
+}
+
+/// What a step at a bin took out of the bin and does not return, or was given and did not keep. A call keeps it until its next step or its
+/// end, when no lock is held. No contract sees it; those of a slot say what comes out.
+#[derive(Drop)]
+pub(crate) enum Left<'k, K, V, F, A: Allocator> {
+    Nothing,
+    /// The key that the call was given, and the stored key and value.
+    Stored(Key<'k, K>, Option<Arc<K, A>>, Option<Arc<V, A>>),
+    /// The pair that was to be removed as it was read, and the stored key.
+    Seen(Seen<K, V, A>, Option<Arc<K, A>>),
+    /// The key of an insertion at a present key.
+    Key(K),
+    /// The key and the value of an insertion for which memory could not be allocated.
+    NotInserted(NotInserted<K, V, A>),
+    /// The function of a computation at an absent key.
+    Function(Key<'k, K>, F),
+    /// The value of a computation for which memory could not be allocated.
+    NotStored(Key<'k, K>, Given<V, A>),
+}

@@ -1,0 +1,74 @@
+//! The first two steps of a call, done at once at a live bin of a published table.
+ghost use Rattle.std.specs.Prelude.{◌≡◌, true, ⊤};
+ghost use Rattle.flurry_slots.specs.Slot.{is_live};
+ghost use Rattle.flurry_calls.specs.Part.{BinPart};
+ghost use Rattle.flurry_steps.specs.FirstSteps.{begun_at};
+ghost use Rattle.flurry_steps.specs.Party.{wanted_part, BeginsToWrite};
+ghost use Rattle.flurry_steps.specs.PartyView.{CallIsReady, first_stage};
+
+use super::same;
+use flurry_bins::bin::Bin;
+use flurry_control::{Control, PublishedTable, Room};
+use flurry_slots::{ComputeFn, NoFn, Slot};
+use flurry_steps::Party;
+use flurry_steps::party::{Call, Ending, Reply};
+use std::alloc::{AllocError, Global};
+use std::process::Abort;
+use std::sync::Arc;
+
+// Where a control makes its tables, which these calls do not look at.
+#[derive(Drop)]
+struct Nowhere;
+
+impl Room for Nowhere {
+    ghost place_gives = { λ _ _ _ _ _. ⊤ };
+
+    fn place(&mut self, _table: u8, _live: bool) -> Result<(), AllocError> {
+        Ok(())
+    }
+}
+
+// Does the steps, and drops what they leave behind.
+fn begun<'k, F: ComputeFn<u64, u64>>(
+    call: Call<'k, u64, u64, F>,
+    hash: u64,
+    start: &PublishedTable,
+    alloc: Global,
+    slot: &mut Slot<u64, u64>,
+) -> Ending<u64, u64>
+    requires ready { CallIsReady F.can_change call }
+    requires writes { BeginsToWrite (first_stage call) }
+    requires part { wanted_part (begun_at start.now hash 0 (first_stage call))
+        ≡ BinPart slot.old.table slot.old.index }
+    requires live { is_live slot.old.content ≡ true }
+{
+    let (ending, left) = Party::write_first(call, hash, start, alloc, slot);
+    drop(left);
+    ending
+}
+
+// Returns the certificate of a table of 16 bins.
+fn start_of_sixteen(rt: &impl Abort) -> PublishedTable
+    ensures { result ≡ 4 }
+{
+    let mut control = Control::new();
+    control.open(4, &mut Nowhere).expect(rt, "there is room");
+    let start = control.start().expect(rt, "a table is published");
+    assert!(rt; start.table() == 4, "its exponent is 4");
+    start
+}
+
+#[test]
+fn an_insertion_of_a_new_key(rt: HostRuntime) {
+    let start = start_of_sixteen(&rt);
+    let mut slot = Slot::live(4, 5, Bin::new());
+    let value = Arc::new(rt.alloc(), 50u64).expect(&rt, "memory for the value");
+    let call: Call<'_, u64, u64, NoFn> = Call::Insert(5, value);
+    let ending = begun(call, 5, &start, rt.alloc(), &mut slot);
+    same(&rt, ending.counts(), true);
+    same(
+        &rt,
+        matches!(ending.into_reply(), Ok(Reply::Refused)),
+        false,
+    );
+}
