@@ -4,7 +4,8 @@
     examples.py REPOSITORY
 
 The lines of an example, without their indentation, have to stand in one file of a crate of tests, one after another. So have those of each
-paragraph of a page's code, or in a file of a crate that shows a use; what a page imports is left out.
+paragraph of a page's code, or in a file of a crate that shows a use; what a page imports is left out. Where a line ends makes no difference:
+the formatter may divide a long pattern.
 """
 import pathlib
 import re
@@ -42,24 +43,35 @@ def paragraphs_of(page):
             lines.append(line.strip())
 
 
-def lines_of(path):
-    """Returns the text of a file, its lines without indentation."""
-    return "\n" + "\n".join(line.strip() for line in path.read_text(encoding="utf-8").split("\n")) + "\n"
+def joined(lines):
+    """Returns lines as one, with a space between two tokens only where one needs it, and with no comma before the end of a list."""
+    text = re.sub(r"\s*(\W)\s*", r"\1", " ".join(line.strip() for line in lines))
+    return re.sub(r",([)}\]])", r"\1", text)
+
+
+def is_in(wanted, text):
+    """Whether the text has these tokens, and not only a part of the first one or of the last one."""
+    begins, ends = r"\b" * bool(re.match(r"\w", wanted)), r"\b" * bool(re.search(r"\w$", wanted))
+    return bool(re.search(begins + re.escape(wanted) + ends, text))
+
+
+def text_of(path):
+    """Returns the text of a file as one line."""
+    return joined(path.read_text(encoding="utf-8").split("\n"))
 
 
 def main():
     repository = pathlib.Path(sys.argv[-1])
     crates = repository / "crates"
-    tests = [lines_of(path) for path in sorted(crates.glob("test_*/src/**/*.rt"))]
-    uses = [lines_of(path) for path in sorted(crates.glob("use_*/src/**/*.rt"))]
+    tests = [text_of(path) for path in sorted(crates.glob("test_*/src/**/*.rt"))]
+    uses = [text_of(path) for path in sorted(crates.glob("use_*/src/**/*.rt"))]
     sources = sorted(crates.glob("[!tu]*/src/**/*.rt"))
     pages = [repository / "CALLING.md", *sorted((repository / "docs/calling").glob("*.md"))]
     examples = [(path, *found, tests) for path in sources for found in examples_of(path.read_text(encoding="utf-8"))]
     examples += [(path, *found, tests + uses) for path in pages for found in paragraphs_of(path.read_text(encoding="utf-8"))]
     status = 0
     for path, number, lines, texts in examples:
-        wanted = "\n" + "\n".join(lines) + "\n"
-        if not any(wanted in text for text in texts):
+        if not any(is_in(joined(lines), text) for text in texts):
             print(f"test: the example at {path}:{number} is no code of a crate of tests", file=sys.stderr)
             status = 1
     return status
