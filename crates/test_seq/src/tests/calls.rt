@@ -1,6 +1,7 @@
 //! The calls that no row names, and calls as values.
 
-use super::{insert_new, lent, puts, queue_of, same, same_at, taken};
+use super::steps::{Step, run, three_pairs};
+use super::{lent, queue_of, same, same_at, taken};
 use flurry_bins::bin::{Ordered, Shape};
 use flurry_model::hash::LowHashBuilder;
 use flurry_seq::SeqMap;
@@ -11,52 +12,52 @@ use std::fmt::Display;
 use std::process::Abort;
 use std::sync::Arc;
 
-fn three_pairs(rt: &impl Abort, alloc: Global) -> SeqMap<u64, u64, LowHashBuilder> {
-    let list = Vec::from_array(alloc, [(1, 10), (2, 20), (3, 30)]).expect(rt, "memory");
-    SeqMap::from_list(alloc, list, LowHashBuilder).expect(rt, "memory")
-}
-
 #[test]
 fn insertions_at_an_absent_and_a_present_key(rt: HostRuntime) {
-    let mut map = three_pairs(&rt, rt.alloc());
-    let new = map.try_insert(4, 40).expect(&rt, "memory");
-    same(&rt, *new.expect(&rt, "the key is absent"), 40);
-    let answer = map.try_insert(4, 41).expect(&rt, "memory");
-    let error = answer.expect_err(&rt, "the key is present");
-    same(&rt, (*error.current, error.not_inserted), (40, 41));
-    same(&rt, map.len(), 4);
+    let steps = [
+        Step::TryInsert(4, 40, None),
+        Step::TryInsert(4, 41, Some(40)),
+        Step::Len(4),
+    ];
+    run(&rt, &mut three_pairs(&rt, rt.alloc()), &steps);
 }
 
 #[test]
 fn calls_of_a_present_and_an_absent_key(rt: HostRuntime) {
     let mut map = three_pairs(&rt, rt.alloc());
-    same(
-        &rt,
-        (map.contains_key(&2), map.contains_key(&4)),
-        (true, false),
-    );
-    same(&rt, map.get_key_value(&4).is_none(), true);
-    puts(&rt, &mut map, 4, 40, None);
+    let steps = [
+        Step::Contains(2, true),
+        Step::Contains(4, false),
+        Step::HasPair(4, false),
+        Step::Insert(4, 40, None),
+    ];
+    run(&rt, &mut map, &steps);
     let present = map.compute_if_present(&4, |key, value| Some(*value % 7 + *key % 7));
     same(&rt, taken(present.expect(&rt, "memory")), Some(9));
-    let absent = map.compute_if_present(&5, |_, _| Some(1));
-    same(&rt, taken(absent.expect(&rt, "memory")), None);
-    same(&rt, taken(map.remove(&4)), Some(9));
-    same(&rt, map.remove_entry(&4).is_none(), true);
-    same(&rt, map.len(), 3);
+    let steps = [
+        Step::ComputeSame(5, None, 0),
+        Step::Remove(4, Some(9)),
+        Step::RemovePair(4, false),
+        Step::Len(3),
+    ];
+    run(&rt, &mut map, &steps);
+}
+
+// Returns the values of the keys below 4, where 0 stands for no value.
+fn values_of(map: &SeqMap<u64, u64, LowHashBuilder>) -> [u64; 4] {
+    let mut values = [0; 4];
+    for (key, value) in map.iter() {
+        values[(**key % 4) as usize] = **value;
+    }
+    values
 }
 
 #[test]
 fn pairs_keys_and_values(rt: HostRuntime) {
     let map = three_pairs(&rt, rt.alloc());
-    let mut seen = [false; 4];
-    for (key, value) in map.iter() {
-        same(&rt, **value % 100, **key % 10 * 10);
-        seen[(**key % 4) as usize] = true;
-    }
-    same(&rt, seen, [false, true, true, true]);
-    same(&rt, map.keys().map(|key| **key % 8).max(), Some(3));
-    same(&rt, map.values().map(|value| **value % 64).min(), Some(10));
+    same(&rt, values_of(&map), [0, 10, 20, 30]);
+    same(&rt, lent(map.keys().max()), Some(3));
+    same(&rt, lent(map.values().min()), Some(10));
 }
 
 #[test]
@@ -68,17 +69,20 @@ fn equality(rt: HostRuntime) {
     let list = Vec::from_array(rt.alloc(), [(3, 30), (1, 11), (2, 20)]).expect(&rt, "memory");
     other.extend(list).expect(&rt, "memory");
     same(&rt, map != other, true);
-    puts(&rt, &mut other, 1, 10, Some(11));
+    run(&rt, &mut other, &[Step::Insert(1, 10, Some(11))]);
     same(&rt, map == other, true);
 }
 
 #[test]
 fn clear_and_into_bins(rt: HostRuntime) {
     let mut map = three_pairs(&rt, rt.alloc());
-    map.clear();
-    same(&rt, map.is_empty(), true);
-    same(&rt, map.capacity(), 8);
-    insert_new(&rt, &mut map, 0, 2);
+    let steps = [
+        Step::Clear,
+        Step::IsEmpty(true),
+        Step::Bins(8),
+        Step::InsertNew(0, 2),
+    ];
+    run(&rt, &mut map, &steps);
     let (bins, _) = map.into_bins();
     assert_eq!(rt; bins.len(), 8);
     same(&rt, bins[1].shape(), Shape::List(1));
@@ -116,7 +120,12 @@ pub(super) fn text_of_numbers(rt: &impl Abort, alloc: Global, numbers: &[Arc<u64
 }
 
 // Returns a line of two parts.
-fn line(rt: &impl Abort, alloc: Global, name: &str, reply_for: impl Display + Drop) -> String {
+pub(super) fn line(
+    rt: &impl Abort,
+    alloc: Global,
+    name: &str,
+    reply_for: impl Display + Drop,
+) -> String {
     format!(in alloc; "{name}{reply_for}\n").expect(rt, "memory")
 }
 
@@ -200,40 +209,47 @@ fn calls_as_values(rt: HostRuntime) {
     read_as(&rt, replies.as_slice(), want);
 }
 
+// Makes a call as a value that computes the value that a key has, and returns how often the function is called.
+fn times_computed(rt: &impl Abort, map: &mut SeqMap<u64, u64, LowHashBuilder>, key: u64) -> u64 {
+    let times = Cell::new(0u64);
+    let keep = |_: &u64, value: &u64| {
+        times.set(times.get().wrapping_add(1));
+        Some(*value)
+    };
+    for call in [
+        Call::ComputeIfPresent(key, keep),
+        Call::RetainForce(is_nine_or_more),
+    ] {
+        let _ = map.call(call).expect(rt, "memory");
+    }
+    times.get()
+}
+
 // A call as a value that computes calls its function once if the key is present, and on no pair if it is absent.
 #[test]
 fn computes_at_a_present_key_alone(rt: HostRuntime) {
-    let times = Cell::new(0u64);
     let mut map = three_pairs(&rt, rt.alloc());
-    for (key, wanted) in [(3, 1), (4, 0)] {
-        times.set(0);
-        let keep = |_: &u64, value: &u64| {
-            times.set(times.get().wrapping_add(1));
-            Some(*value)
-        };
-        for call in [
-            Call::ComputeIfPresent(key, keep),
-            Call::RetainForce(is_nine_or_more),
-        ] {
-            let _ = map.call(call).expect(&rt, "memory");
-        }
-        same_at(&rt, key, times.get(), wanted);
-    }
+    same_at(&rt, 3, times_computed(&rt, &mut map, 3), 1);
+    same_at(&rt, 4, times_computed(&rt, &mut map, 4), 0);
     same(&rt, map.len(), 3);
+}
+
+// Makes a call as a value that computes by a function, and one that keeps pairs by a function.
+fn call_by_functions(rt: &impl Abort, map: &mut SeqMap<u64, u64, LowHashBuilder>, key: u64) {
+    for call in [
+        Call::ComputeIfPresent(key, up_to_nine),
+        Call::RetainForce(is_nine_or_more),
+    ] {
+        let _ = map.call(call).expect(rt, "memory");
+    }
 }
 
 #[test]
 fn one_call_as_a_value(rt: HostRuntime) {
     let mut map = three_pairs(&rt, rt.alloc());
-    puts(&rt, &mut map, 3, 8, Some(30));
-    for call in [
-        Call::ComputeIfPresent(3, up_to_nine),
-        Call::RetainForce(is_nine_or_more),
-    ] {
-        let _ = map.call(call).expect(&rt, "memory");
-    }
-    same(&rt, lent(map.get(&3)), Some(9));
-    same(&rt, map.len(), 3);
+    run(&rt, &mut map, &[Step::Insert(3, 8, Some(30))]);
+    call_by_functions(&rt, &mut map, 3);
+    run(&rt, &mut map, &[Step::Get(3, Some(9)), Step::Len(3)]);
 }
 
 #[test]
@@ -266,7 +282,7 @@ fn removing_calls_as_values(rt: HostRuntime) {
 #[test]
 fn reading_calls_as_values(rt: HostRuntime) {
     let mut other = three_pairs(&rt, rt.alloc());
-    puts(&rt, &mut other, 3, 8, Some(30));
+    run(&rt, &mut other, &[Step::Insert(3, 8, Some(30))]);
     let equal = three_pairs(&rt, rt.alloc());
     let calls = queue_of(
         &rt,

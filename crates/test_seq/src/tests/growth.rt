@@ -1,50 +1,48 @@
 //! The number of bins.
 
-use super::{holds, insert_new, map_for, puts, same, same_at, stands};
+use super::same_at;
+use super::steps::{Step, on_map_for, on_map_with, on_new_map};
 use flurry_bins::bin::Shape;
 use flurry_model::hash::{LowHashBuilder, ZeroHashBuilder};
 use flurry_model::sizes::{threshold, wanted};
-use flurry_seq::SeqMap;
 
 // The twelfth pair, with the key 10, fills three quarters of 16 bins.
 #[test]
 fn row_03(rt: HostRuntime) {
-    let mut map: SeqMap<u64, u64, LowHashBuilder> = SeqMap::with_hasher(rt.alloc(), LowHashBuilder);
-    puts(&rt, &mut map, 42, 0, None);
-    same(&rt, map.capacity(), 16);
-    for key in 0..16u64 {
-        puts(&rt, &mut map, key, 42, None);
-        let bins = if key < 10 { 16 } else { 32 };
-        same_at(&rt, key, map.capacity(), bins);
-    }
-    holds(&rt, &map, 32, 17);
+    let steps = [
+        Step::Insert(42, 0, None),
+        Step::Bins(16),
+        Step::InsertEach(0, 10, 42, 16),
+        Step::InsertEach(10, 16, 42, 32),
+        Step::Holds(32, 17),
+    ];
+    on_map_with::<u64, _>(&rt, LowHashBuilder, &steps);
 }
 
 // The number of bins for a capacity, and after room is made in a new map: 32 more pairs ask for 64 bins, and the table is doubled because
 // 64 bins hold only 48 pairs.
 #[test]
 fn row_04(rt: HostRuntime) {
-    for (pairs, bins) in [(0, 0), (1, 2), (5, 8), (16, 32)] {
-        let map = map_for(&rt, rt.alloc(), pairs);
-        same_at(&rt, pairs, map.capacity(), bins);
-    }
-    for (additional, bins) in [(0, 1), (32, 128)] {
-        let mut map: SeqMap<u64, u64> = SeqMap::new(rt.alloc());
-        map.reserve(additional).expect(&rt, "memory");
-        same_at(&rt, additional, map.capacity(), bins);
-    }
+    on_map_for(&rt, 0, &[Step::Bins(0)]);
+    on_map_for(&rt, 1, &[Step::Bins(2)]);
+    on_map_for(&rt, 5, &[Step::Bins(8)]);
+    on_map_for(&rt, 16, &[Step::Bins(32)]);
+    on_new_map::<u64>(&rt, &[Step::Reserve(0), Step::Bins(1)]);
+    on_new_map::<u64>(&rt, &[Step::Reserve(32), Step::Bins(128)]);
 }
 
 // A table that is full is doubled.
 #[test]
 fn row_05(rt: HostRuntime) {
-    let mut map: SeqMap<u64, u64, LowHashBuilder> = SeqMap::with_hasher(rt.alloc(), LowHashBuilder);
-    map.reserve(0).expect(&rt, "memory");
-    same(&rt, map.capacity(), 1);
-    insert_new(&rt, &mut map, 0, 1);
-    same(&rt, map.capacity(), 2);
-    insert_new(&rt, &mut map, 1, 2);
-    same(&rt, map.capacity(), 4);
+    let steps = [
+        Step::Reserve(0),
+        Step::Bins(1),
+        Step::InsertNew(0, 1),
+        Step::Bins(2),
+        Step::InsertNew(1, 2),
+        Step::Bins(4),
+    ];
+    on_map_with::<u64, _>(&rt, LowHashBuilder, &steps);
 }
 
 // The sizes of tables.
@@ -75,24 +73,25 @@ fn row_19(rt: HostRuntime) {
 // The ninth key of one bin asks for room for 64 pairs, and the tenth makes its list a tree.
 #[test]
 fn owned_growth_table(rt: HostRuntime) {
-    let mut map: SeqMap<u64, u64, ZeroHashBuilder> = SeqMap::with_hasher(
-        rt.alloc(),
-        ZeroHashBuilder,
-    );
-    insert_new(&rt, &mut map, 0, 8);
-    stands(&rt, &map, 16, Shape::List(8));
-    insert_new(&rt, &mut map, 8, 9);
-    stands(&rt, &map, 128, Shape::List(9));
-    insert_new(&rt, &mut map, 9, 10);
-    stands(&rt, &map, 128, Shape::Tree(10));
+    let steps = [
+        Step::InsertNew(0, 8),
+        Step::Stands(16, Shape::List(8)),
+        Step::InsertNew(8, 9),
+        Step::Stands(128, Shape::List(9)),
+        Step::InsertNew(9, 10),
+        Step::Stands(128, Shape::Tree(10)),
+    ];
+    on_map_with::<u64, _>(&rt, ZeroHashBuilder, &steps);
 }
 
 // A table for six pairs has 16 bins, and the twelfth pair doubles it.
 #[test]
 fn owned_growth_table_by_the_count(rt: HostRuntime) {
-    let mut map = map_for(&rt, rt.alloc(), 6);
-    insert_new(&rt, &mut map, 0, 11);
-    same(&rt, map.capacity(), 16);
-    insert_new(&rt, &mut map, 11, 12);
-    same(&rt, map.capacity(), 32);
+    let steps = [
+        Step::InsertNew(0, 11),
+        Step::Bins(16),
+        Step::InsertNew(11, 12),
+        Step::Bins(32),
+    ];
+    on_map_for(&rt, 6, &steps);
 }

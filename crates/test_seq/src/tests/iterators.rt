@@ -1,43 +1,40 @@
 //! Iterators, equality and copies of maps, through maps whose sums are known.
+
+use super::keys::Tagged;
 use super::same;
+use super::steps::{Step, run};
 use flurry_model::hash::{DefaultHashBuilder, KeyHasher, LowHashBuilder, ZeroHashBuilder};
 use flurry_seq::SeqMap;
-use std::alloc::{AllocError, Global};
+use std::alloc::Global;
+use std::process::Abort;
 use std::sync::Arc;
-
-// A key whose mark plays no part in comparisons.
-#[derive(Drop)]
-#[derive_where(PartialEq, Eq, PartialOrd, Ord)]
-struct Marked {
-    id: u64,
-    #[derive_where(skip)]
-    mark: u64,
-}
 
 // Returns the map of the keys below 101, inserted in steps that reach each of them. The value of a key is 2 * key + 1.
 fn filled<S: KeyHasher<u64> + Drop>(
+    rt: &impl Abort,
     alloc: Global,
     hasher: S,
     step: u8,
-) -> Result<SeqMap<u64, u64, S>, AllocError> {
+) -> SeqMap<u64, u64, S> {
     let mut map = SeqMap::with_hasher(alloc, hasher);
     for i in 0u64..101 {
         let key = i * u64::from(step) % 101;
-        map.insert(key, 2 * key + 1)?;
+        let _ = map.insert(key, 2 * key + 1).expect(rt, "memory");
     }
-    Ok(map)
+    map
 }
 
-// Returns the map of the ids below 7 with the mark `mark`, each with the value 5.
-fn filled_with_mark(
+// Returns the map of the ids below 7 with the tag `tag`, each with the value 5.
+fn filled_with_tag(
+    rt: &impl Abort,
     alloc: Global,
-    mark: u64,
-) -> Result<SeqMap<Marked, u64, ZeroHashBuilder>, AllocError> {
+    tag: u64,
+) -> SeqMap<Tagged, u64, ZeroHashBuilder> {
     let mut map = SeqMap::with_hasher(alloc, ZeroHashBuilder);
     for id in 0u64..7 {
-        map.insert(Marked { id, mark }, 5)?;
+        let _ = map.insert(Tagged { id, tag }, 5).expect(rt, "memory");
     }
-    Ok(map)
+    map
 }
 
 fn sum_of_pairs<S: KeyHasher<u64> + Drop>(map: &SeqMap<u64, u64, S>) -> u64 {
@@ -66,8 +63,8 @@ fn sum_of_values<S: KeyHasher<u64> + Drop>(map: &SeqMap<u64, u64, S>) -> u64 {
 
 #[test]
 fn iterators_pass_each_pair(rt: HostRuntime) {
-    let spread = filled(rt.alloc(), LowHashBuilder, 1).expect(&rt, "memory");
-    let one_bin = filled(rt.alloc(), ZeroHashBuilder, 7).expect(&rt, "memory");
+    let spread = filled(&rt, rt.alloc(), LowHashBuilder, 1);
+    let one_bin = filled(&rt, rt.alloc(), ZeroHashBuilder, 7);
     same(&rt, sum_of_pairs(&spread), 681_750);
     same(&rt, sum_of_pairs(&one_bin), 681_750);
     same(&rt, sum_of_keys(&one_bin), 5050);
@@ -82,24 +79,32 @@ fn iterators_pass_each_pair(rt: HostRuntime) {
 
 #[test]
 fn equality_reads_classes_and_values(rt: HostRuntime) {
-    let mut left = filled(rt.alloc(), DefaultHashBuilder::with_seed(1), 1).expect(&rt, "memory");
-    let right = filled(rt.alloc(), DefaultHashBuilder::with_seed(2), 30).expect(&rt, "memory");
+    let mut left = filled(&rt, rt.alloc(), DefaultHashBuilder::with_seed(1), 1);
+    let right = filled(&rt, rt.alloc(), DefaultHashBuilder::with_seed(2), 30);
     same(&rt, left == right, true);
-    left.insert(3, 8).expect(&rt, "memory");
+    run(&rt, &mut left, &[Step::Insert(3, 8, Some(7))]);
     same(&rt, left != right, true);
-    left.insert(3, 7).expect(&rt, "memory");
-    left.remove(&4);
+    run(
+        &rt,
+        &mut left,
+        &[Step::Insert(3, 7, Some(8)), Step::Remove(4, Some(9))],
+    );
     same(&rt, left != right, true);
-    left.insert(101, 9).expect(&rt, "memory");
+    run(&rt, &mut left, &[Step::Insert(101, 9, None)]);
     same(&rt, left != right, true);
-    let one = filled_with_mark(rt.alloc(), 1).expect(&rt, "memory");
-    let other = filled_with_mark(rt.alloc(), 2).expect(&rt, "memory");
+}
+
+// The tag of a key plays no part in comparisons.
+#[test]
+fn equality_reads_no_tags(rt: HostRuntime) {
+    let one = filled_with_tag(&rt, rt.alloc(), 1);
+    let other = filled_with_tag(&rt, rt.alloc(), 2);
     same(&rt, one == other, true);
 }
 
 #[test]
 fn a_clone_shares_and_stands_alone(rt: HostRuntime) {
-    let map = filled(rt.alloc(), DefaultHashBuilder::default(), 1).expect(&rt, "memory");
+    let map = filled(&rt, rt.alloc(), DefaultHashBuilder::default(), 1);
     let mut copy = map.try_clone().expect(&rt, "memory");
     same(&rt, copy == map, true);
     let value = map.get(&9).expect(&rt, "the key is there");

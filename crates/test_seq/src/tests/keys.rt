@@ -18,6 +18,13 @@ impl Number for u64 {
     }
 }
 
+/// The text of the rows, which stands for each number.
+impl Number for &'static str {
+    fn of(_number: u64) -> &'static str {
+        "foo"
+    }
+}
+
 /// A number in reverse order: the greater number comes first.
 #[derive(Clone, Copy, Debug, PartialEq, Eq, Hash)]
 pub(super) struct Backward(u64);

@@ -1,9 +1,8 @@
 //! Many keys.
 
-use super::{holds, same, same_at};
+use super::{same, same_at};
 use flurry_model::hash::{DefaultHashBuilder, KeyHasher, MaxHashBuilder, ZeroHashBuilder};
 use flurry_seq::SeqMap;
-use std::alloc::AllocError;
 use std::process::Abort;
 
 fn row_08_with<S: KeyHasher<i32> + Drop>(rt: &(impl Abort + AllocGlobal), hasher: S) {
@@ -32,14 +31,14 @@ fn row_08(rt: HostRuntime) {
 const KEYS: u64 = 50_000;
 
 // Inserts all keys, and returns how many of them were new.
-fn insert_all(map: &mut SeqMap<u64, u64>) -> Result<u64, AllocError> {
+fn insert_all(rt: &impl Abort, map: &mut SeqMap<u64, u64>) -> u64 {
     let mut new = 0u64;
     for key in 0..KEYS {
-        if map.insert(key, key)?.is_none() {
+        if map.insert(key, key).expect(rt, "memory").is_none() {
             new = new.saturating_add(1);
         }
     }
-    Ok(new)
+    new
 }
 
 // Removes every second key, from the last but one down, and returns how many were present.
@@ -53,16 +52,19 @@ fn remove_half(map: &mut SeqMap<u64, u64>) -> u64 {
     removed
 }
 
+// Returns how many pairs, keys and values the iterators pass.
+fn counts(map: &SeqMap<u64, u64>) -> (usize, usize, usize) {
+    (map.iter().count(), map.keys().count(), map.values().count())
+}
+
 // Fifty thousand keys, half of which are removed and inserted again.
 #[test]
 fn row_09(rt: HostRuntime) {
     let mut map = SeqMap::new(rt.alloc());
-    same(&rt, insert_all(&mut map).expect(&rt, "memory"), 50_000);
-    holds(&rt, &map, 131_072, 50_000);
-    same(&rt, insert_all(&mut map).expect(&rt, "memory"), 0);
+    same(&rt, insert_all(&rt, &mut map), 50_000);
+    same(&rt, (map.capacity(), map.len()), (131_072, 50_000));
+    same(&rt, insert_all(&rt, &mut map), 0);
     same(&rt, remove_half(&mut map), 25_000);
-    same(&rt, insert_all(&mut map).expect(&rt, "memory"), 25_000);
-    same(&rt, map.iter().count(), 50_000);
-    same(&rt, map.keys().count(), 50_000);
-    same(&rt, map.values().count(), 50_000);
+    same(&rt, insert_all(&rt, &mut map), 25_000);
+    same(&rt, counts(&map), (50_000, 50_000, 50_000));
 }

@@ -1,6 +1,6 @@
 //! The results of the calls of an owned set, and the set after them.
 
-use super::calls::text_of_numbers;
+use super::calls::{line, text_of_numbers};
 use super::keys::Tagged;
 use super::{queue_of, same};
 use flurry_bins::bin::Node;
@@ -9,16 +9,28 @@ use flurry_seq::SeqMap;
 use flurry_set::SeqSet;
 use flurry_set::set_calls::{SetCall, SetReply};
 use std::alloc::Global;
-use std::fmt::Display;
 use std::process::Abort;
 
 // Returns the set of the numbers from `first` to `end`, without `end`.
 fn set_of(rt: &impl Abort, alloc: Global, first: u64, end: u64) -> SeqSet<u64> {
     let mut set = SeqSet::new(alloc);
+    insert_all(rt, &mut set, first, end);
+    set
+}
+
+fn insert_all(rt: &impl Abort, set: &mut SeqSet<u64>, first: u64, end: u64) {
     for element in first..end {
         let _ = set.insert(element).expect(rt, "memory");
     }
-    set
+}
+
+// Returns whether the first set is a subset of the second one, whether it is a superset of it, and whether they are disjoint.
+fn relations(first: &SeqSet<u64>, second: &SeqSet<u64>) -> (bool, bool, bool) {
+    (
+        first.is_subset(second),
+        first.is_superset(second),
+        first.is_disjoint(second),
+    )
 }
 
 #[test]
@@ -26,21 +38,9 @@ fn row_21(rt: HostRuntime) {
     let mut small = set_of(&rt, rt.alloc(), 1, 3);
     let large = set_of(&rt, rt.alloc(), 1, 4);
     let other = set_of(&rt, rt.alloc(), 4, 5);
-    same(
-        &rt,
-        (small.is_subset(&large), large.is_subset(&small)),
-        (true, false),
-    );
-    same(
-        &rt,
-        (large.is_superset(&small), small.is_superset(&large)),
-        (true, false),
-    );
-    same(
-        &rt,
-        (small.is_disjoint(&other), small.is_disjoint(&large)),
-        (true, false),
-    );
+    same(&rt, relations(&small, &large), (true, false, false));
+    same(&rt, relations(&large, &small), (false, true, false));
+    same(&rt, relations(&small, &other), (false, false, true));
     same(&rt, small.insert(1).expect(&rt, "memory"), false);
     same(&rt, small.take(&1).map(|element| *element), Some(1));
     same(&rt, small.len(), 1);
@@ -67,33 +67,42 @@ fn stored_elements_stay(rt: HostRuntime) {
     same(&rt, set.is_empty(), true);
 }
 
+// Inserts a node of an element, which is made under another hash. Returns whether its class is new.
+fn insert_node(
+    rt: &impl Abort,
+    alloc: Global,
+    set: &mut SeqSet<u64, LowHashBuilder>,
+    element: u64,
+) -> bool {
+    let node = Node::of_pair(alloc, 77, element, (), 0).expect(rt, "memory");
+    set.insert_node(node).expect(rt, "memory")
+}
+
 // The set of a map's keys takes elements that are passed as nodes.
 #[test]
 fn elements_of_maps_and_nodes(rt: HostRuntime) {
     let pairs = Vec::from_array(rt.alloc(), [(1u64, ()), (2, ())]).expect(&rt, "memory");
     let map = SeqMap::from_list(rt.alloc(), pairs, LowHashBuilder).expect(&rt, "memory");
     let mut set = SeqSet::from_map(map);
-    for is_new in [true, false] {
-        let node = Node::of_pair(rt.alloc(), 77, 3u64, (), 0).expect(&rt, "memory");
-        same(&rt, set.insert_node(node).expect(&rt, "memory"), is_new);
-    }
+    same(&rt, insert_node(&rt, rt.alloc(), &mut set, 3), true);
+    same(&rt, insert_node(&rt, rt.alloc(), &mut set, 3), false);
     same(&rt, (set.len(), sum_of(&set)), (3, 6));
+}
+
+// Returns the id and the tag of the element that is stored after a call of `get_or_insert`.
+fn stored(rt: &impl Abort, set: &mut SeqSet<Tagged>, id: u64, tag: u64) -> (u64, u64) {
+    let element = set.get_or_insert(Tagged { id, tag }).expect(rt, "memory");
+    (element.id, element.tag)
 }
 
 // Of equal elements, the one that was stored first is returned each time.
 #[test]
 fn one_element_for_equal_ones(rt: HostRuntime) {
     let mut set: SeqSet<Tagged> = SeqSet::new(rt.alloc());
-    for tag in [10, 20] {
-        let stored = set
-            .get_or_insert(Tagged { id: 1, tag })
-            .expect(&rt, "memory");
-        same(&rt, (stored.id, stored.tag), (1, 10));
-    }
-    let other = set
-        .get_or_insert(Tagged { id: 2, tag: 30 })
-        .expect(&rt, "memory");
-    same(&rt, (other.tag, set.len()), (30, 2));
+    same(&rt, stored(&rt, &mut set, 1, 10), (1, 10));
+    same(&rt, stored(&rt, &mut set, 1, 20), (1, 10));
+    same(&rt, stored(&rt, &mut set, 2, 30), (2, 30));
+    same(&rt, set.len(), 2);
 }
 
 #[test]
@@ -133,48 +142,34 @@ fn is_even(element: &u64) -> bool {
     *element % 2 == 0
 }
 
-// Returns a word with a space after it.
-fn word(rt: &impl Abort, alloc: Global, reply_for: impl Display + Drop) -> String {
-    format!(in alloc; "{reply_for} ").expect(rt, "memory")
-}
-
-// Returns the word of one reply.
-fn word_of<S: KeyHasher<u64>>(rt: &impl Abort, alloc: Global, reply: &SetReply<u64, S>) -> String {
+// Returns the line of one reply.
+fn line_of<S: KeyHasher<u64>>(rt: &impl Abort, alloc: Global, reply: &SetReply<u64, S>) -> String {
     match reply {
-        SetReply::Element(Some(element)) => word(rt, alloc, **element),
-        SetReply::Element(None) => word(rt, alloc, "none"),
-        SetReply::Truth(truth) => word(rt, alloc, *truth),
-        SetReply::Number(number) => word(rt, alloc, *number),
+        SetReply::Element(Some(element)) => line(rt, alloc, "element ", **element),
+        SetReply::Element(None) => line(rt, alloc, "no element", ""),
+        SetReply::Truth(truth) => line(rt, alloc, "", *truth),
+        SetReply::Number(number) => line(rt, alloc, "", *number),
         SetReply::Elements(elements) => {
             let numbers = text_of_numbers(rt, alloc, elements.as_slice());
-            format!(in alloc; "[{numbers} ] ").expect(rt, "memory")
+            line(rt, alloc, "elements", numbers)
         }
-        SetReply::Set(set) => format!(in alloc; "set of {} ", set.len()).expect(rt, "memory"),
-        SetReply::Done => word(rt, alloc, "done"),
+        SetReply::Set(set) => line(rt, alloc, "set of ", set.len()),
+        SetReply::Done => line(rt, alloc, "done", ""),
     }
 }
 
-// Returns one word for each reply.
-fn words_of<S: KeyHasher<u64>>(
-    rt: &impl Abort,
-    alloc: Global,
-    replies: &[SetReply<u64, S>],
-) -> String {
-    let mut text = String::new(alloc);
-    for reply in replies {
-        text.push_str(word_of(rt, alloc, reply).as_str())
-            .expect(rt, "memory");
-    }
-    text
-}
-
-// Checks the words of the replies.
+// Checks the lines of the replies.
 fn read_as<S: KeyHasher<u64>>(
     rt: &(impl Abort + AllocGlobal),
     replies: &[SetReply<u64, S>],
-    words: &str,
+    lines: &str,
 ) {
-    same(rt, words_of(rt, rt.alloc(), replies).as_str(), words);
+    let mut text = String::new(rt.alloc());
+    for reply in replies {
+        text.push_str(line_of(rt, rt.alloc(), reply).as_str())
+            .expect(rt, "memory");
+    }
+    same(rt, text.as_str(), lines);
 }
 
 #[test]
@@ -201,7 +196,8 @@ fn set_calls_as_values(rt: HostRuntime) {
     );
     let mut set: SeqSet<u64> = SeqSet::new(rt.alloc());
     let replies = set.run(rt.alloc(), calls).expect(&rt, "memory");
-    let want = "true done true false done true none done 2 4 false done 0 ";
+    let want =
+        "true\ndone\ntrue\nfalse\ndone\ntrue\nno element\ndone\n2\nelement 4\nfalse\ndone\n0\n";
     read_as(&rt, replies.as_slice(), want);
 }
 
@@ -216,65 +212,28 @@ fn low_set_of<const N: usize>(
 }
 
 #[test]
-fn relations_of_sets_as_values(rt: HostRuntime) {
-    let without_one = low_set_of(&rt, rt.alloc(), [4, 5]);
-    let with_one = low_set_of(&rt, rt.alloc(), [3, 5]);
-    let larger = low_set_of(&rt, rt.alloc(), [1, 2, 3, 4]);
-    let other = low_set_of(&rt, rt.alloc(), [3, 4]);
+fn relations_and_copies_as_values(rt: HostRuntime) {
     let calls = queue_of(
         &rt,
         rt.alloc(),
         [
-            SetCall::IsDisjoint(without_one),
-            SetCall::IsDisjoint(with_one),
-            SetCall::IsSubset(larger),
-            SetCall::IsSuperset(other),
-            SetCall::Retain(is_even),
-        ],
-    );
-    let mut set = low_set_of(&rt, rt.alloc(), [1, 2, 3]);
-    let replies = set.run(rt.alloc(), calls).expect(&rt, "memory");
-    let want = "true false true false done ";
-    read_as(&rt, replies.as_slice(), want);
-}
-
-#[test]
-fn elements_and_copies_as_values(rt: HostRuntime) {
-    let other = low_set_of(&rt, rt.alloc(), [1, 2, 4]);
-    let smaller = low_set_of(&rt, rt.alloc(), [3, 1]);
-    let calls = queue_of(
-        &rt,
-        rt.alloc(),
-        [
+            SetCall::IsDisjoint(low_set_of(&rt, rt.alloc(), [4, 5])),
+            SetCall::IsDisjoint(low_set_of(&rt, rt.alloc(), [3, 5])),
+            SetCall::IsSubset(low_set_of(&rt, rt.alloc(), [1, 2, 3, 4])),
+            SetCall::IsSuperset(low_set_of(&rt, rt.alloc(), [3, 4])),
             SetCall::Elements,
-            SetCall::IsSubset(other),
-            SetCall::IsSuperset(smaller),
+            SetCall::IsSubset(low_set_of(&rt, rt.alloc(), [1, 2, 4])),
+            SetCall::IsSuperset(low_set_of(&rt, rt.alloc(), [3, 1])),
             SetCall::TryClone,
+            SetCall::Equals(low_set_of(&rt, rt.alloc(), [3, 2, 1])),
+            SetCall::Equals(low_set_of(&rt, rt.alloc(), [1, 2, 4])),
             SetCall::Retain(is_even),
             SetCall::Len,
         ],
     );
     let mut set = low_set_of(&rt, rt.alloc(), [1, 2, 3]);
     let replies = set.run(rt.alloc(), calls).expect(&rt, "memory");
-    let want = "[ 1 2 3 ] false true set of 3 done 1 ";
-    read_as(&rt, replies.as_slice(), want);
-}
-
-#[test]
-fn equal_sets_as_values(rt: HostRuntime) {
-    let equal = low_set_of(&rt, rt.alloc(), [3, 2, 1]);
-    let other = low_set_of(&rt, rt.alloc(), [1, 2, 4]);
-    let calls = queue_of(
-        &rt,
-        rt.alloc(),
-        [
-            SetCall::Equals(equal),
-            SetCall::Equals(other),
-            SetCall::Retain(is_even),
-        ],
-    );
-    let mut set = low_set_of(&rt, rt.alloc(), [1, 2, 3]);
-    let replies = set.run(rt.alloc(), calls).expect(&rt, "memory");
-    let want = "true false done ";
+    let want =
+        "true\nfalse\ntrue\nfalse\nelements 1 2 3\nfalse\ntrue\nset of 3\ntrue\nfalse\ndone\n1\n";
     read_as(&rt, replies.as_slice(), want);
 }
