@@ -8,7 +8,7 @@ use super::same;
 use flurry_map::HashMap;
 use flurry_model::hash::ZeroHashBuilder;
 use flurry_shared_set::HashSet;
-use std::alloc::{AllocError, Global};
+use std::alloc::{AllocError, Allocator, Global};
 use std::cmp::Ordering;
 use std::process::Abort;
 use std::sync::Wait;
@@ -129,7 +129,7 @@ impl<'m> PartialOrd for Guest<'m> {
 }
 
 // A map that has one bin.
-type Guests<'m> = HashMap<Guest<'m>, Guest<'m>, ZeroHashBuilder>;
+type Guests<'m, A> = HashMap<Guest<'m>, Guest<'m>, ZeroHashBuilder, A>;
 
 // What is done while a key or a value has a meeting.
 #[derive(Clone, Copy, Debug, PartialEq, Eq)]
@@ -163,47 +163,87 @@ fn guest_of<'m>(number: u64, is_asked: bool, meeting: &'m Meeting) -> Guest<'m> 
     }
 }
 
-// Does the deed in a map of the keys 1 and 2.
-fn does<'m, R: Wait>(
+// Computes a value at the key 1, or at an absent key.
+fn computes<'m, A: Allocator + Copy, R: Wait>(
     rt: &R,
-    map: &Guests<'m>,
+    map: &Guests<'m, A>,
     deed: Deed,
-    who: Who,
-    meeting: &'m Meeting,
+    kept: Guest<'m>,
 ) -> Result<(), AllocError> {
     let one = Guest::new(1);
     match deed {
-        Deed::Clear => map.clear(rt),
         Deed::Replace => drop(map.compute_if_present(rt, &one, |_, _| Some(Guest::new(3)))?),
         Deed::Erase => drop(map.compute_if_present(rt, &one, |_, _| None)?),
-        Deed::ComputeNowhere => {
-            let kept = guest_of(3, matches!(who, Who::Function), meeting);
-            drop(map.compute_if_present(rt, &Guest::new(3), move |_, _| Some(kept))?);
-        }
-        Deed::Remove => drop(map.remove(rt, &one)),
-        Deed::Insert => {
-            let key = guest_of(1, matches!(who, Who::NewKey), meeting);
-            drop(map.insert(rt, key, Guest::new(3))?);
-        }
-        Deed::TryInsert => {
-            let key = guest_of(1, matches!(who, Who::NewKey), meeting);
-            drop(map.try_insert(rt, key, Guest::new(3))?);
-        }
-        Deed::Retain => map.retain(rt, |_, _| false)?,
-        Deed::RetainForce => map.retain_force(rt, |_, _| false)?,
-        Deed::Read => {
-            let mut pairs = map.iter(rt);
-            drop(pairs.next()?);
-            drop(map.remove(rt, &one));
-            drop(pairs.next()?);
-            drop(pairs);
+        _ => {
+            let three = Guest::new(3);
+            drop(map.compute_if_present(rt, &three, move |_, _| Some(kept))?);
         }
     }
     Ok(())
 }
 
+// Walks past the first pair, which is removed meanwhile.
+fn reads<'m, A: Allocator + Copy, R: Wait>(rt: &R, map: &Guests<'m, A>) -> Result<(), AllocError> {
+    let mut pairs = map.iter(rt);
+    let seen = pairs.next();
+    drop(seen);
+    drop(map.remove(rt, &Guest::new(1)));
+    let seen = pairs.next();
+    drop(pairs);
+    drop(seen?);
+    Ok(())
+}
+
+// Visits all pairs.
+fn sweeps<'m, A: Allocator + Copy, R: Wait>(
+    rt: &R,
+    map: &Guests<'m, A>,
+    deed: Deed,
+) -> Result<(), AllocError> {
+    match deed {
+        Deed::Clear => {
+            map.clear(rt);
+            Ok(())
+        }
+        Deed::Retain => map.retain(rt, |_, _| false),
+        Deed::RetainForce => map.retain_force(rt, |_, _| false),
+        _ => reads(rt, map),
+    }
+}
+
+// Does the deed in a map of the keys 1 and 2.
+fn does<'m, A: Allocator + Copy, R: Wait>(
+    rt: &R,
+    map: &Guests<'m, A>,
+    deed: Deed,
+    who: Who,
+    meeting: &'m Meeting,
+) -> Result<(), AllocError> {
+    match deed {
+        Deed::Replace | Deed::Erase | Deed::ComputeNowhere => {
+            let kept = guest_of(3, matches!(who, Who::Function), meeting);
+            computes(rt, map, deed, kept)
+        }
+        Deed::Insert => {
+            let key = guest_of(1, matches!(who, Who::NewKey), meeting);
+            drop(map.insert(rt, key, Guest::new(3))?);
+            Ok(())
+        }
+        Deed::TryInsert => {
+            let key = guest_of(1, matches!(who, Who::NewKey), meeting);
+            drop(map.try_insert(rt, key, Guest::new(3))?);
+            Ok(())
+        }
+        Deed::Remove => {
+            drop(map.remove(rt, &Guest::new(1)));
+            Ok(())
+        }
+        Deed::Clear | Deed::Retain | Deed::RetainForce | Deed::Read => sweeps(rt, map, deed),
+    }
+}
+
 // Does calls in the bin once something is dropped.
-fn answers<'m, R: Wait>(rt: &R, map: &Guests<'m>, meeting: &Meeting) {
+fn answers<'m, A: Allocator + Copy, R: Wait>(rt: &R, map: &Guests<'m, A>, meeting: &Meeting) {
     if !meeting.sees_a_drop() {
         return;
     }
@@ -214,21 +254,32 @@ fn answers<'m, R: Wait>(rt: &R, map: &Guests<'m>, meeting: &Meeting) {
     set_flag(&meeting.is_answered);
 }
 
+// Does the deed beside the calls of another thread.
+fn in_two_threads<'m, A: Allocator + Copy + Send + Sync, R: Threads + Wait + Sync>(
+    rt: &R,
+    map: &Guests<'m, A>,
+    deed: Deed,
+    who: Who,
+    meeting: &'m Meeting,
+) {
+    thread::join(
+        rt,
+        move || {
+            let _ = does(rt, map, deed, who, meeting);
+            set_flag(&meeting.is_over);
+        },
+        move || answers(rt, map, meeting),
+    );
+}
+
 fn meets<R: Threads + Wait + Sync>(rt: &R, alloc: Global, deed: Deed, who: Who) -> bool {
     let meeting = Meeting::new();
-    let map: Guests<'_> = HashMap::with_hasher(alloc, ZeroHashBuilder);
+    let map: Guests<'_, Global> = HashMap::with_hasher(alloc, ZeroHashBuilder);
     let key = guest_of(1, matches!(who, Who::Key), &meeting);
     let value = guest_of(1, matches!(who, Who::Value), &meeting);
     let _ = map.insert(rt, key, value);
     let _ = map.insert(rt, Guest::new(2), Guest::new(2));
-    thread::join(
-        rt,
-        || {
-            let _ = does(rt, &map, deed, who, &meeting);
-            set_flag(&meeting.is_over);
-        },
-        || answers(rt, &map, &meeting),
-    );
+    in_two_threads(rt, &map, deed, who, &meeting);
     meeting.has_met()
 }
 
@@ -312,9 +363,9 @@ enum SetDeed {
 }
 
 // Does the deed. An element that it inserts has a meeting.
-fn does_in_set<'m, R: Wait>(
+fn does_in_set<'m, A: Allocator + Copy, R: Wait>(
     rt: &R,
-    set: &HashSet<Guest<'m>, ZeroHashBuilder>,
+    set: &HashSet<Guest<'m>, ZeroHashBuilder, A>,
     deed: SetDeed,
     meeting: &'m Meeting,
 ) -> Result<(), AllocError> {
@@ -332,9 +383,9 @@ fn does_in_set<'m, R: Wait>(
 }
 
 // Looks an element of the bin up once another one is dropped.
-fn answers_in_set<'m, R: Wait>(
+fn answers_in_set<'m, A: Allocator + Copy, R: Wait>(
     rt: &R,
-    set: &HashSet<Guest<'m>, ZeroHashBuilder>,
+    set: &HashSet<Guest<'m>, ZeroHashBuilder, A>,
     meeting: &Meeting,
 ) {
     if meeting.sees_a_drop() {
@@ -344,20 +395,30 @@ fn answers_in_set<'m, R: Wait>(
     }
 }
 
+// Does the deed beside the calls of another thread.
+fn in_two_threads_in_set<'m, A: Allocator + Copy + Send + Sync, R: Threads + Wait + Sync>(
+    rt: &R,
+    set: &HashSet<Guest<'m>, ZeroHashBuilder, A>,
+    deed: SetDeed,
+    meeting: &'m Meeting,
+) {
+    thread::join(
+        rt,
+        move || {
+            let _ = does_in_set(rt, set, deed, meeting);
+            set_flag(&meeting.is_over);
+        },
+        move || answers_in_set(rt, set, meeting),
+    );
+}
+
 fn meets_in_set<R: Threads + Wait + Sync>(rt: &R, alloc: Global, deed: SetDeed) -> bool {
     let meeting = Meeting::new();
     let set: HashSet<Guest<'_>, ZeroHashBuilder> = HashSet::with_hasher(alloc, ZeroHashBuilder);
     let one = guest_of(1, !matches!(deed, SetDeed::Insert), &meeting);
     let _ = set.insert(rt, one);
     let _ = set.insert(rt, Guest::new(2));
-    thread::join(
-        rt,
-        || {
-            let _ = does_in_set(rt, &set, deed, &meeting);
-            set_flag(&meeting.is_over);
-        },
-        || answers_in_set(rt, &set, &meeting),
-    );
+    in_two_threads_in_set(rt, &set, deed, &meeting);
     meeting.has_met()
 }
 
