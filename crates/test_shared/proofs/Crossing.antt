@@ -1,6 +1,5 @@
 -- What the threads of these tests share may cross threads.
 use denote.Plain.{UInt}
-use denote.Ref.{NamedLft}
 use denote.RattleType.{RattleType}
 use denote.Param.Send.{IsSend, IsSync, Frees, sendable}
 use mir.Syntax.{w64}
@@ -14,9 +13,6 @@ use Rattle.std.specs.contracts.prelude.U64PartialOrd.TheImpl as partial
 use Rattle.flurry_map.proofs.Crossing.{map_sync}
 use Rattle.flurry_map.specs.contracts.map.HashMap as HashMap
 use Rattle.flurry_model.specs.declared.hash.KeyHasher as hasher
-use Rattle.flurry_model.specs.contracts.hash.ZeroHashBuilder as ZeroHashBuilder
-use Rattle.test_shared.specs.contracts.tests.drops.Guest as Guest
-use Rattle.test_shared.specs.contracts.tests.drops.Meeting as Meeting
 
 module _ (S A : RattleType) (h : hasher.Ghosts S.Denot ℕ) (g : Ghosts A.Denot) (sa : IsSend A) (ya : IsSync A) (f : Frees g g.dealloc_token) where
   -- a map of numbers
@@ -25,15 +21,3 @@ module _ (S A : RattleType) (h : hasher.Ghosts S.Denot ℕ) (g : Ghosts A.Denot)
 
 pub count_sync : IsSync AtomicU64.the_row
 count_sync = search (crosses, sendable) depth 30
-
-pub meeting_sync : IsSync Meeting.the_row
-meeting_sync = search (crosses, sendable) depth 40
-
-pub guest_send : (m : NamedLft) → IsSend (Guest.the_row m)
-guest_send m = search (meeting_sync, sendable) depth 40
-
-pub guest_sync : (m : NamedLft) → IsSync (Guest.the_row m)
-guest_sync m = search (meeting_sync, sendable) depth 40
-
-pub hasher_sync : IsSync ZeroHashBuilder.the_row
-hasher_sync = search sendable depth 40
