@@ -4,8 +4,11 @@ ghost use Rattle.std.specs.Prelude.{◌≡◌, ◌≤◌, ℕ, length, false, No
 use flurry::TryInsertError;
 use flurry::bin::node::Colour;
 use flurry::bin::{Bin, BoxedNode, Entry, ListBin, Node, Ordered, TreeBin};
-use flurry::slots::{Added, Answer, Computed, Given, Inserted, MoveAnswer, Replaced, Slot};
+use flurry::slots::{
+    Added, Answer, Computed, Given, Inserted, MoveAnswer, NotInserted, Replaced, Slot,
+};
 use std::alloc::{AllocError, Global};
+use std::sync::Arc;
 
 /// Returns the value of a pair, taken out of its node.
 pub fn value_of_node(alloc: Global, hash: u64, key: u64, value: u64) -> Result<u64, AllocError>
@@ -134,6 +137,17 @@ pub fn number_given(given: Given<u64>) -> u64 {
     match given {
         Given::Plain(number) => number,
         Given::Shared(number) => *number,
+    }
+}
+
+/// Returns the key of a node that could not be made, or `None` if it was made. This is an example only.
+pub fn key_not_inserted(alloc: Global, hash: u64, key: u64, value: Arc<u64>) -> Option<u64> {
+    match Node::of_key(alloc, hash, key, value, 0) {
+        Ok(_) => None,
+        Err(NotInserted { key, .. }) => match key {
+            Given::Plain(key) => Some(key),
+            Given::Shared(key) => Some(*key),
+        },
     }
 }
 

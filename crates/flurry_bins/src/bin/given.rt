@@ -47,8 +47,10 @@ impl<T, A: Allocator> Given<T, A> {
 /// ```
 /// match Node::of_key(alloc, hash, key, value, 0) {
 ///     Ok(_) => None,
-///     Err(NotInserted { key: Given::Plain(key), .. }) => Some(key),
-///     Err(NotInserted { key: Given::Shared(key), .. }) => Some(*key),
+///     Err(NotInserted { key, .. }) => match key {
+///         Given::Plain(key) => Some(key),
+///         Given::Shared(key) => Some(*key),
+///     },
 /// }
 /// ```
 #[derive(Drop)]

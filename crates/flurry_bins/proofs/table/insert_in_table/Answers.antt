@@ -1,4 +1,4 @@
-use Rattle.std.proofs.Common.{◌||◌, Result, Ok, Err, OnErr, length, nat_le, refl, sym, ap, ◌∙◌}
+use Rattle.std.proofs.Common.{◌||◌, Result, Ok, Err, OnErr, length, nat_le, sym, ap, ◌∙◌}
 use Rattle.std.specs.Option.{is_some}
 use Rattle.flurry_bins.specs.Bin.{entries_of_bin, ascending_of_bin, is_tree, sized_of_bin}
 use Rattle.flurry_bins.specs.Given.{old_of}
