@@ -1,5 +1,5 @@
 -- What an insertion gives back of what it was given, as plain data.
-use Rattle.std.specs.Prelude.{◌≡◌, Option, Some, None}
+use Rattle.std.specs.Prelude.{◌≡◌, Bool, true, false, Option, Some, None}
 use Rattle.std.specs.Arc.{arc_value}
 use Rattle.std.specs.declared.sync.Arc.{Arc}
 use Rattle.flurry_bins.specs.declared.bin.given.Given.{Given}
@@ -12,6 +12,11 @@ module _ {A : Type 0} where
   abbrev pub given_of : {T : Type 0} → Given T A → T
   given_of (Plain x) = x
   given_of (Shared c) = arc_value c
+
+  -- whether there is no `Arc` of it yet
+  abbrev pub is_plain : {T : Type 0} → Given T A → Bool
+  is_plain (Plain x) = true
+  is_plain (Shared c) = false
 
   -- this key and this value come back
   abbrev pub IsNotInserted : {K V : Type 0} → K → V → NotInserted K V A → Type 0

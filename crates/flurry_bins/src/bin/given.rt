@@ -1,7 +1,7 @@
 //! What an insertion gives back of what it was given.
-ghost use Rattle.std.specs.Prelude.{◌≡◌, IfErr, IfOk};
+ghost use Rattle.std.specs.Prelude.{◌≡◌, IfErr, IfOk, true};
 ghost use Rattle.std.specs.Arc.{arc_value};
-ghost use Rattle.flurry_bins.specs.Given.{given_of};
+ghost use Rattle.flurry_bins.specs.Given.{given_of, is_plain};
 
 use std::alloc::{Allocator, Global};
 use std::sync::Arc;
@@ -27,10 +27,11 @@ impl<T, A: Allocator> Given<T, A> {
     ///
     /// # Errors
     ///
-    /// Returns what was given if memory for the `Arc` cannot be allocated.
+    /// Returns what was given if memory for the `Arc` cannot be allocated. What is in an `Arc` already is never refused.
     pub fn into_shared(self, alloc: A) -> Result<Arc<T, A>, Self>
         ensures ok { IfOk result (λ c. arc_value c ≡ given_of self) }
         ensures err { IfErr result (λ g. given_of g ≡ given_of self) }
+        ensures plain { IfErr result (λ g. is_plain self ≡ true) }
     {
         match self {
             Given::Shared(shared) => Ok(shared),
