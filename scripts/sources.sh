@@ -48,6 +48,8 @@ check_sources() {
     python3 -B scripts/links.py . || status=1
     python3 -B scripts/api.py --check . || status=1
     python3 -B scripts/examples.py . || status=1
+    check_makers flurry_claims Range || status=1
+    check_makers flurry_claims Attempt try_claim || status=1
     check_makers flurry_control Claim claim || status=1
     check_makers flurry_control PublishedTable start || status=1
     check_makers flurry_slots Receipt || status=1

@@ -1,0 +1,4 @@
+pub mod BoardLaws
+pub mod RangeLaws
+pub mod StepLaws
+pub mod SumLaws

@@ -1,0 +1,26 @@
+-- What a call of a board answers.
+use Rattle.std.specs.Prelude.{◌≡◌, ℕ, ◌<◌, ◌≤◌, Bool, ◌↔◌, IsTrue}
+use Rattle.atomic_table.specs.declared.shared.Seat.{Seat}
+use Rattle.flurry_claims.specs.declared.seat_notes.SeatNotes.{SeatNotes}
+use Rattle.flurry_claims.specs.declared.range.Attempt.{Attempt}
+use Rattle.flurry_claims.specs.declared.range.Attempt.TheVariants.{Got, Lost, Nothing}
+use Rattle.flurry_claims.specs.Range.{IsNumber, range_at, range_count}
+use Rattle.flurry_claims.specs.SeatNotes.{MayReport, with_next, after_claim, after_report}
+use Rattle.flurry_claims.specs.BoardRule.{Moment, AllClaimed, AllReported}
+
+-- what is known of a seat
+abbrev pub notes_of : Seat (Unit {0}) SeatNotes → SeatNotes
+notes_of seat = seat.me.0
+
+-- over the ranges of s bins each of table e
+module _ (e s : ℕ) where
+  -- An attempt claims the range of a number that the seat did not know to be claimed. Or it is lost, and the seat learns of a greater
+  -- number. Or there is nothing, and every range was claimed at some moment
+  abbrev pub Claims : SeatNotes → Attempt → SeatNotes → Type 0
+  Claims v (Got r) w = IsNumber e s r.number × (r ≡ range_at e s r.number) × (v.next ≤ r.number) × (w ≡ after_claim v r.number) × MayReport w r.number × Moment (range_count e s) w
+  Claims v Lost w = (w ≡ with_next v w.next) × (v.next < w.next) × (w.next ≤ range_count e s) × Moment (range_count e s) w
+  Claims v Nothing w = (w ≡ with_next v (range_count e s)) × (v.next ≤ w.next) × ((now : Moment (range_count e s) w) × AllClaimed (range_count e s) now.seats)
+
+  -- a report of range k tells whether every range is reported now
+  abbrev pub Reports : SeatNotes → ℕ → Bool → SeatNotes → Type 0
+  Reports v k last w = (w ≡ after_report v k last) × ((now : Moment (range_count e s) w) × (IsTrue last ↔ AllReported (range_count e s) now.seats))

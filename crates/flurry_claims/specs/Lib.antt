@@ -1,0 +1,8 @@
+pub mod AtomicSteps
+pub mod BoardRule
+pub mod ClaimBoard
+pub mod Helper
+pub mod PlainBoard
+pub mod Range
+pub mod SeatNotes
+pub mod Seats

@@ -1,0 +1,89 @@
+//! A seat with an owner of its board.
+ghost use Rattle.std.specs.Prelude.{◌≡◌, ℕ, true, false, None, Some};
+ghost use Rattle.std.specs.Arc.{arc_value};
+ghost use Rattle.flurry_claims.specs.SeatNotes.{MayReport};
+ghost use Rattle.flurry_claims.specs.ClaimBoard.{notes_of, Claims, Reports};
+ghost use Rattle.flurry_claims.specs.Seats.{IsSeatOf};
+ghost use Rattle.flurry_claims.specs.Helper.{number_after, holds};
+
+use crate::claim_board::{ClaimBoard, Seat};
+use crate::range::{Attempt, Range};
+use std::alloc::{Allocator, Global};
+use std::sync::Arc;
+
+/// A seat with an owner of its board. It claims one range after another, and reports each.
+///
+/// Its type keeps that the seat is one of its board, and that the range whose number it holds may be reported by it. So it can wait under
+/// a lock between two calls, and nobody has to know of it then what a seat asks for.
+///
+/// ```
+/// match helper.try_claim() {
+///     Attempt::Got(range) => helper.report(range),
+///     Attempt::Lost | Attempt::Nothing => false,
+/// }
+/// ```
+#[derive(Drop)]
+pub struct Helper<A: Allocator = Global> {
+    board: Arc<ClaimBoard<A>, A>,
+    seat: Seat,
+    // The number of the range that it claimed last, if it has not reported it.
+    number: Option<u64>,
+    ghost seated: { IsSeatOf (arc_value board) seat },
+    ghost may_report: { (k : ℕ) → number ≡ Some k → MayReport (notes_of seat) k },
+}
+
+impl<A: Allocator> Helper<A> {
+    /// Creates a helper that holds no range. `seat` must be a seat of `board`.
+    ///
+    /// Constant time.
+    pub fn new(board: Arc<ClaimBoard<A>, A>, seat: Seat) -> Self
+        requires { IsSeatOf (arc_value board) seat }
+        ensures { (result.board ≡ board) × (result.seat ≡ seat) × (result.number ≡ None) }
+    {
+        Helper {
+            board,
+            seat,
+            number: None,
+        }
+    }
+
+    /// Tries to claim the next range of its board, as [`ClaimBoard::try_claim`] does. It holds the range then. If it holds one that it has
+    /// not reported, it can't report that any more.
+    ///
+    /// Constant time: one load, and at most one compare-exchange.
+    pub fn try_claim(&mut self) -> Attempt
+        ensures board { self.new.board ≡ self.old.board }
+        ensures claim { Claims (arc_value self.old.board).table (arc_value self.old.board).stride (notes_of self.old.seat) result (notes_of self.new.seat) }
+        ensures number { self.new.number ≡ number_after result self.old.number }
+    {
+        match self.board.try_claim(&mut self.seat) {
+            Attempt::Got(range) => {
+                self.number = Some(range.number());
+                Attempt::Got(range)
+            }
+            Attempt::Lost => Attempt::Lost,
+            Attempt::Nothing => Attempt::Nothing,
+        }
+    }
+
+    /// Reports the range that it holds, as [`ClaimBoard::report`] does. If `range` is another one, it returns `false`, and nothing
+    /// changes.
+    ///
+    /// Constant time: one fetch-add.
+    pub fn report(&mut self, range: Range) -> bool
+        ensures board { self.new.board ≡ self.old.board }
+        ensures report { holds (arc_value self.old.board).table self.old.number range ≡ true
+            → Reports (arc_value self.old.board).table (arc_value self.old.board).stride (notes_of self.old.seat) range.number result (notes_of self.new.seat)
+            × (self.new.number ≡ None) }
+        ensures another { holds (arc_value self.old.board).table self.old.number range ≡ false
+            → (result ≡ false) × (self.new.seat ≡ self.old.seat) × (self.new.number ≡ self.old.number) }
+    {
+        match self.number {
+            Some(number) if range.table() == self.board.table() && range.number() == number => {
+                self.number = None;
+                self.board.report(&mut self.seat, range)
+            }
+            _ => false,
+        }
+    }
+}

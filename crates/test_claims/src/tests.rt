@@ -1,0 +1,8 @@
+//! Tests of the boards of a growth.
+
+mod boards;
+mod helpers;
+mod memory;
+mod pair;
+mod plain_board;
+mod threads;
