@@ -3,6 +3,5 @@
 mod boards;
 mod helpers;
 mod memory;
-mod pair;
 mod plain_board;
 mod threads;

@@ -1,6 +1,7 @@
 //! Threads that claim and report at one board.
 ghost use Rattle.flurry_claims.specs.Seats.{IsSeatOf};
 
+use crate::pair::two_shares;
 use flurry_claims::{Attempt, ClaimBoard, Seat};
 use std::alloc::{AllocError, Global};
 use std::test::Fail;
@@ -85,5 +86,13 @@ fn four_threads_get_a_short_range_once(rt: HostRuntime) -> Result<(), Fail> {
             assert_eq!(rt; *low, 42 * place - 26);
         }
     }
+    Ok(())
+}
+
+#[test]
+fn two_threads_share_a_table(rt: HostRuntime) -> Result<(), Fail> {
+    let (one, two) = two_shares(&rt, rt.alloc(), 10, 4)?;
+    assert_eq!(rt; one.numbers.len().saturating_add(two.numbers.len()), 32);
+    assert!(rt; one.was_last != two.was_last);
     Ok(())
 }

@@ -1,7 +1,7 @@
 use Rattle.std.proofs.Common.{◌≡◌, ◌-◌, ◌≤◌, ◌<◌, true}
 use Rattle.flurry_claims.specs.ClaimBoard.{notes_of}
 use Rattle.flurry_claims.specs.Seats.{IsSeatOf, ranges_of}
-use Rattle.test_claims.proofs.tests.pair.claim_share.Given as goal
+use Rattle.test_claims.proofs.pair.claim_share.Given as goal
 
 abbrev pub invariant-loop-range : goal.invariant-loop-range
 invariant-loop-range l = IsSeatOf l.board l.seat × ((notes_of l.seat).claims ≡ l.numbers.items) × (l.was_last ≡ true → 0 < (notes_of l.seat).last_reports) × ((notes_of l.seat).next ≤ ranges_of l.board)

@@ -1,6 +1,6 @@
 use Rattle.std.proofs.Common.{◌≡◌, ap, arith, true, false, refl}
 use Rattle.flurry_claims.specs.SeatNotes.{times}
-use Rattle.test_claims.proofs.tests.pair.two_shares.Goals as goal
+use Rattle.test_claims.proofs.pair.two_shares.Goals as goal
 
 pub returns-clause-ranges : goal.returns-clause-ranges
 returns-clause-ranges g c k =

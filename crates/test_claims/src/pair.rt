@@ -7,14 +7,15 @@ ghost use Rattle.test_claims.specs.Pair.{IsShareOf};
 
 use flurry_claims::{Attempt, ClaimBoard, Seat};
 use std::alloc::{AllocError, Global};
-use std::test::Fail;
 use std::thread::{Threads, join};
 
-// The numbers of the ranges that a thread claimed and reported, and whether one of its reports was the last.
+/// The ranges that a thread claimed and reported.
 #[derive(Drop)]
-pub(crate) struct Share {
-    numbers: Vec<u64>,
-    was_last: bool,
+pub struct Share {
+    /// The numbers, in the order of the claims.
+    pub numbers: Vec<u64>,
+    /// Whether one of the reports was the last.
+    pub was_last: bool,
 }
 
 // Claims and reports ranges until every range is claimed.
@@ -40,8 +41,12 @@ fn claim_share(
     }
 }
 
-// Two threads claim and report. No range is got by both, nor twice by one, and not both have made the last report.
-fn two_shares<R: Threads + Sync>(
+/// Two threads claim and report. No range is claimed by both, nor twice by one, and not both have made the last report.
+///
+/// # Errors
+///
+/// Returns [`AllocError`] if memory cannot be allocated.
+pub fn two_shares<R: Threads + Sync>(
     rt: &R,
     alloc: Global,
     table: u8,
@@ -73,12 +78,4 @@ fn two_shares<R: Threads + Sync>(
     let (two, second) = second?;
     board.merge(&mut one, two);
     Ok((first, second))
-}
-
-#[test]
-fn two_threads_share_a_table(rt: HostRuntime) -> Result<(), Fail> {
-    let (one, two) = two_shares(&rt, rt.alloc(), 10, 4)?;
-    assert_eq!(rt; one.numbers.len().saturating_add(two.numbers.len()), 32);
-    assert!(rt; one.was_last != two.was_last);
-    Ok(())
 }
