@@ -1,16 +1,44 @@
 -- What a call of a board answers.
-use Rattle.std.specs.Prelude.{◌≡◌, ℕ, ◌<◌, ◌≤◌, Bool, ◌↔◌, IsTrue}
+use Rattle.std.specs.Prelude.{◌≡◌, ℕ, ◌^◌, ◌<◌, ◌≤◌, Bool, [], ◌↔◌, IsTrue}
 use Rattle.atomic_table.specs.declared.shared.Seat.{Seat}
+use Rattle.atomic_table.specs.Seated.{TableId}
+use Rattle.flurry_model.specs.declared.sizes.TheConstants.{GREATEST_TABLE}
 use Rattle.flurry_claims.specs.declared.seat_notes.SeatNotes.{SeatNotes}
 use Rattle.flurry_claims.specs.declared.range.Attempt.{Attempt}
 use Rattle.flurry_claims.specs.declared.range.Attempt.TheVariants.{Got, Lost, Nothing}
 use Rattle.flurry_claims.specs.Range.{IsNumber, range_at, range_count}
-use Rattle.flurry_claims.specs.SeatNotes.{MayReport, with_next, after_claim, after_report}
+use Rattle.flurry_claims.specs.SeatNotes.{MayReport, new_notes, with_next, after_claim, after_report}
 use Rattle.flurry_claims.specs.BoardRule.{Moment, AllClaimed, AllReported}
 
 -- what is known of a seat
 abbrev pub notes_of : Seat (Unit {0}) SeatNotes → SeatNotes
 notes_of seat = seat.me.0
+
+-- what a board shows: which it is, the exponent of its table, and the bins of a range
+pub record BoardValue : Type 0 where
+  pub id : TableId
+  pub table : ℕ
+  pub stride : ℕ
+
+-- what each board keeps: it has two words, whose rule is told the number of ranges; the table is not above the greatest, and a range has
+-- bins
+pub record IsClaimBoard (words told table stride ranges : ℕ) : Type 0 where
+  pub two : words ≡ 2
+  pub rule : told ≡ ranges
+  pub cut : ranges ≡ range_count table stride
+  pub greatest : table ≤ GREATEST_TABLE
+  pub some : 0 < stride
+  pub small : stride ≤ 2 ^ GREATEST_TABLE
+
+abbrev pub ranges_of : BoardValue → ℕ
+ranges_of board = range_count board.table board.stride
+
+-- a seat of this board, and a new one
+abbrev pub IsSeatOf : BoardValue → Seat (Unit {0}) SeatNotes → Type 0
+IsSeatOf board seat = (seat.table_id ≡ board.id) × (seat.me.1 ≡ [])
+
+abbrev pub IsNewSeatOf : BoardValue → Seat (Unit {0}) SeatNotes → Type 0
+IsNewSeatOf board seat = IsSeatOf board seat × (notes_of seat ≡ new_notes)
 
 -- over the ranges of s bins each of table e
 module _ (e s : ℕ) where

@@ -5,4 +5,3 @@ pub mod Helper
 pub mod PlainBoard
 pub mod Range
 pub mod SeatNotes
-pub mod Seats

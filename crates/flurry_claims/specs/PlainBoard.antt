@@ -3,7 +3,7 @@ use Rattle.std.specs.Prelude.{ℕ, ◌+◌, ◌-◌, ◌*◌, ◌^◌, ◌<◌, 
 use Rattle.flurry_model.specs.declared.sizes.TheConstants.{GREATEST_TABLE}
 use Rattle.flurry_claims.specs.declared.TheConstants.{SEATS}
 use Rattle.flurry_claims.specs.declared.range.Attempt.{Attempt}
-use Rattle.flurry_claims.specs.declared.range.Attempt.TheVariants.{Got, Lost, Nothing}
+use Rattle.flurry_claims.specs.declared.range.Attempt.TheVariants.{Got, Nothing}
 use Rattle.flurry_claims.specs.Range.{Bounds, range_at, range_count}
 
 -- the exponent of its table; the bins of a range; the number of the next range; how many bins are reported; how many seats are out

@@ -2,10 +2,9 @@
 ghost use Rattle.std.specs.Prelude.{◌≡◌, ◌+◌, ◌++◌, ◌-◌, ◌*◌, ◌/◌, ◌^◌, ◌<◌, ◌≤◌, All, IfOk, vec_len, vec_capacity};
 ghost use Rattle.flurry_model.specs.Sizes.{stride_of};
 ghost use Rattle.flurry_model.specs.declared.sizes.TheConstants.{GREATEST_TABLE};
-ghost use Rattle.flurry_claims.specs.Range.{range_count};
 ghost use Rattle.flurry_claims.specs.SeatNotes.{AreApart, MayReport};
 ghost use Rattle.flurry_claims.specs.AtomicSteps.{LoadGives, ExchangeGives, AddGives};
-ghost use Rattle.flurry_claims.specs.ClaimBoard.{notes_of, Claims, Reports};
+ghost use Rattle.flurry_claims.specs.ClaimBoard.{IsSeatOf, IsNewSeatOf, ranges_of, notes_of, Claims, Reports};
 ghost use Rattle.atomic_table.specs.Table.{step};
 ghost use mathlib.Core.Option.{none};
 
@@ -14,7 +13,7 @@ use crate::seat_notes::SeatNotes;
 use crate::steps::{About, Add, Both, Exchange, Load, Rule, Sit};
 use atomic_table::Table;
 use std::alloc::{AllocError, Allocator, Global};
-use std::marker::Brand;
+use std::marker::{Brand, Model};
 
 // The word that is the number of ranges that are claimed, and so that of the next range.
 const NEXT: usize = 0;
@@ -56,15 +55,19 @@ pub struct ClaimBoard<A: Allocator = Global> {
     table: u8,
     stride: usize,
     ranges: u64,
-    ghost two_words: { words.shared.table_id.words ≡ 2 },
-    ghost told: { words.shared.key ≡ ranges },
-    ghost cut: { ranges ≡ range_count table stride },
-    ghost within: { (table ≤ GREATEST_TABLE) × (0 < stride) × (stride ≤ 2 ^ GREATEST_TABLE) },
+}
+
+impl<A: Allocator> Model for ClaimBoard<A> {
+    ghost use Rattle.flurry_claims.specs.ClaimBoard.{BoardValue, IsClaimBoard};
+
+    ghost Value = { BoardValue };
+
+    ghost view = { λ b. record { id = b.words.shared.table_id; table = b.table; stride = b.stride } };
+
+    ghost invariant = { λ b. IsClaimBoard b.words.shared.table_id.words b.words.shared.key b.table b.stride b.ranges };
 }
 
 impl<A: Allocator> ClaimBoard<A> {
-    ghost use Rattle.flurry_claims.specs.Seats.{IsSeatOf, IsNewSeatOf};
-
     /// Creates the board of the table of `2^table` bins, with `seats` seats. A range has as many bins as a helper moves at once if
     /// `processors` processors share the work, or all that are left; `0` processors count as 1.
     ///
@@ -166,7 +169,8 @@ impl<A: Allocator> ClaimBoard<A> {
         ensures board { IsSeatOf self.now seat.new }
         ensures report { Reports self.now.table self.now.stride (notes_of seat.old) range.number result (notes_of seat.new) }
     {
-        self.add::<Brand>(seat, range) + 1 == self.ranges
+        let ranges = self.ranges;
+        self.add::<Brand>(seat, range) + 1 == ranges
     }
 
     /// Makes one seat of `seat` and `other`. Its contract says that no range was claimed by both, and that at most one report of theirs
@@ -188,19 +192,19 @@ impl<A: Allocator> ClaimBoard<A> {
 
     fn load<B: About>(&self, seat: &mut Seat) -> u64
         requires board { IsSeatOf self.now seat.old }
-        requires about { B.ranges ≡ self.now.ranges }
+        requires about { B.ranges ≡ ranges_of self.now }
         ensures board { IsSeatOf self.now seat.new }
-        ensures gives { LoadGives self.now.ranges (step 0 NEXT 0 0 none) seat.old.me result seat.new.me }
+        ensures gives { LoadGives (ranges_of self.now) (step 0 NEXT 0 0 none) seat.old.me result seat.new.me }
     {
         self.words.shared.load::<Load<B>>(seat, NEXT)
     }
 
     fn exchange<B: About>(&self, seat: &mut Seat, next: u64) -> u64
         requires board { IsSeatOf self.now seat.old }
-        requires about { B.ranges ≡ self.now.ranges }
-        requires next { (next < self.now.ranges) × ((notes_of seat.old).next ≡ next) }
+        requires about { B.ranges ≡ ranges_of self.now }
+        requires next { (next < ranges_of self.now) × ((notes_of seat.old).next ≡ next) }
         ensures board { IsSeatOf self.now seat.new }
-        ensures gives { ExchangeGives self.now.ranges (step 0 NEXT next (next + 1) none) seat.old.me result seat.new.me }
+        ensures gives { ExchangeGives (ranges_of self.now) (step 0 NEXT next (next + 1) none) seat.old.me result seat.new.me }
     {
         self.words
             .shared
@@ -209,10 +213,10 @@ impl<A: Allocator> ClaimBoard<A> {
 
     fn add<B: About>(&self, seat: &mut Seat, range: Range) -> u64
         requires board { IsSeatOf self.now seat.old }
-        requires about { (B.ranges ≡ self.now.ranges) × (B.number ≡ range.number) }
+        requires about { (B.ranges ≡ ranges_of self.now) × (B.number ≡ range.number) }
         requires own { MayReport (notes_of seat.old) range.number }
         ensures board { IsSeatOf self.now seat.new }
-        ensures gives { AddGives self.now.ranges range.number (step 0 REPORTS 1 0 none) seat.old.me result seat.new.me }
+        ensures gives { AddGives (ranges_of self.now) range.number (step 0 REPORTS 1 0 none) seat.old.me result seat.new.me }
     {
         self.words.shared.fetch_add::<Add<B>>(seat, REPORTS, 1)
     }

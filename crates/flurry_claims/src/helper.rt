@@ -1,14 +1,13 @@
 //! A seat with an owner of its board.
-ghost use Rattle.std.specs.Prelude.{◌≡◌, ℕ, true, false, None, Some};
+ghost use Rattle.std.specs.Prelude.{◌≡◌, true, false, None};
 ghost use Rattle.std.specs.Arc.{arc_value};
-ghost use Rattle.flurry_claims.specs.SeatNotes.{MayReport};
-ghost use Rattle.flurry_claims.specs.ClaimBoard.{notes_of, Claims, Reports};
-ghost use Rattle.flurry_claims.specs.Seats.{IsSeatOf};
+ghost use Rattle.flurry_claims.specs.ClaimBoard.{IsSeatOf, notes_of, Claims, Reports};
 ghost use Rattle.flurry_claims.specs.Helper.{number_after, holds};
 
 use crate::claim_board::{ClaimBoard, Seat};
 use crate::range::{Attempt, Range};
 use std::alloc::{Allocator, Global};
+use std::marker::Model;
 use std::sync::Arc;
 
 /// A seat with an owner of its board. It claims one range after another, and reports each.
@@ -28,8 +27,17 @@ pub struct Helper<A: Allocator = Global> {
     seat: Seat,
     // The number of the range that it claimed last, if it has not reported it.
     number: Option<u64>,
-    ghost seated: { IsSeatOf (arc_value board) seat },
-    ghost may_report: { (k : ℕ) → number ≡ Some k → MayReport (notes_of seat) k },
+}
+
+impl<A: Allocator> Model for Helper<A> {
+    ghost use Rattle.std.specs.Arc.{arc_value};
+    ghost use Rattle.flurry_claims.specs.Helper.{HelperValue, IsHelper};
+
+    ghost Value = { HelperValue };
+
+    ghost view = { λ h. record { board = arc_value h.board; seat = h.seat; number = h.number } };
+
+    ghost invariant = { λ h. IsHelper (record { board = arc_value h.board; seat = h.seat; number = h.number }) };
 }
 
 impl<A: Allocator> Helper<A> {
@@ -38,7 +46,7 @@ impl<A: Allocator> Helper<A> {
     /// Constant time.
     pub fn new(board: Arc<ClaimBoard<A>, A>, seat: Seat) -> Self
         requires { IsSeatOf (arc_value board) seat }
-        ensures { (result.board ≡ board) × (result.seat ≡ seat) × (result.number ≡ None) }
+        ensures { result ≡ record { board = arc_value board; seat = seat; number = None } }
     {
         Helper {
             board,
@@ -53,7 +61,7 @@ impl<A: Allocator> Helper<A> {
     /// Constant time: one load, and at most one compare-exchange.
     pub fn try_claim(&mut self) -> Attempt
         ensures board { self.new.board ≡ self.old.board }
-        ensures claim { Claims (arc_value self.old.board).table (arc_value self.old.board).stride (notes_of self.old.seat) result (notes_of self.new.seat) }
+        ensures claim { Claims self.old.board.table self.old.board.stride (notes_of self.old.seat) result (notes_of self.new.seat) }
         ensures number { self.new.number ≡ number_after result self.old.number }
     {
         match self.board.try_claim(&mut self.seat) {
@@ -72,11 +80,11 @@ impl<A: Allocator> Helper<A> {
     /// Constant time: one fetch-add.
     pub fn report(&mut self, range: Range) -> bool
         ensures board { self.new.board ≡ self.old.board }
-        ensures report { holds (arc_value self.old.board).table self.old.number range ≡ true
-            → Reports (arc_value self.old.board).table (arc_value self.old.board).stride (notes_of self.old.seat) range.number result (notes_of self.new.seat)
+        ensures report { holds self.old.board.table self.old.number range ≡ true
+            → Reports self.old.board.table self.old.board.stride (notes_of self.old.seat) range.number result (notes_of self.new.seat)
             × (self.new.number ≡ None) }
-        ensures another { holds (arc_value self.old.board).table self.old.number range ≡ false
-            → (result ≡ false) × (self.new.seat ≡ self.old.seat) × (self.new.number ≡ self.old.number) }
+        ensures another { holds self.old.board.table self.old.number range ≡ false
+            → (result ≡ false) × (self.new ≡ self.old) }
     {
         match self.number {
             Some(number) if range.table() == self.board.table() && range.number() == number => {

@@ -2,7 +2,7 @@
 ghost use Rattle.std.specs.Prelude.{◌≡◌, ◌^◌, ◌≤◌, All, IfOk, length, vec_len};
 ghost use Rattle.flurry_model.specs.Sizes.{stride_of};
 ghost use Rattle.std.specs.Arc.{arc_value};
-ghost use Rattle.flurry_claims.specs.Seats.{IsSeatOf};
+ghost use Rattle.flurry_claims.specs.ClaimBoard.{IsSeatOf};
 ghost use Rattle.flurry_claims.specs.declared.TheConstants.{SEATS};
 ghost use Rattle.flurry_model.specs.declared.sizes.TheConstants.{GREATEST_TABLE};
 
@@ -11,6 +11,7 @@ use crate::claim_board::{ClaimBoard, Seat};
 use crate::helper::Helper;
 use arrayvec::ArrayVec;
 use std::alloc::{AllocError, Allocator, Global};
+use std::marker::Model;
 use std::sync::{Arc, Mutex, Wait};
 
 /// The helpers of one growth that no thread uses, and the growth's board. Threads share it.
@@ -30,6 +31,15 @@ use std::sync::{Arc, Mutex, Wait};
 pub struct Helpers<A: Allocator = Global> {
     board: Arc<ClaimBoard<A>, A>,
     waiting: Mutex<ArrayVec<Option<Helper<A>>, SEATS>>,
+}
+
+impl<A: Allocator> Model for Helpers<A> {
+    ghost use Rattle.std.specs.Arc.{arc_value};
+    ghost use Rattle.flurry_claims.specs.ClaimBoard.{BoardValue};
+
+    ghost Value = { BoardValue };
+
+    ghost view = { λ h. arc_value h.board };
 }
 
 // A helper for each seat of the board.
@@ -61,8 +71,7 @@ impl<A: Allocator> Helpers<A> {
     where
         A: Clone,
         requires { table ≤ GREATEST_TABLE }
-        ensures table { IfOk result (λ h. (arc_value h.board).table ≡ table) }
-        ensures stride { IfOk result (λ h. (arc_value h.board).stride ≡ stride_of (2 ^ table) processors) }
+        ensures { IfOk result (λ board. (board.table ≡ table) × (board.stride ≡ stride_of (2 ^ table) processors)) }
     {
         let (board, seats) = ClaimBoard::new(alloc.clone()?, table, processors, SEATS)?;
         let board = Arc::new(alloc, board)?;
@@ -74,7 +83,7 @@ impl<A: Allocator> Helpers<A> {
     ///
     /// Constant time.
     pub fn board(&self) -> &ClaimBoard<A>
-        ensures { result.now ≡ arc_value self.now.board }
+        ensures { result.now ≡ self.now }
     {
         &self.board
     }

@@ -2,7 +2,7 @@
 ghost use Rattle.std.specs.Prelude.{ℕ, ◌+◌, ◌≤◌, true, false, ◌≡◌, IfOk};
 ghost use Rattle.flurry_claims.specs.ClaimBoard.{notes_of};
 ghost use Rattle.flurry_claims.specs.SeatNotes.{times};
-ghost use Rattle.flurry_claims.specs.Seats.{IsSeatOf, IsNewSeatOf};
+ghost use Rattle.flurry_claims.specs.ClaimBoard.{IsSeatOf, IsNewSeatOf};
 ghost use Rattle.test_claims.specs.Pair.{IsShareOf};
 
 use flurry_claims::{Attempt, ClaimBoard, Seat};

@@ -1,6 +1,6 @@
 //! A board that one thread uses.
 ghost use Rattle.std.specs.Prelude.{◌≤◌};
-ghost use Rattle.flurry_claims.specs.Seats.{IsSeatOf};
+ghost use Rattle.flurry_claims.specs.ClaimBoard.{IsSeatOf};
 
 use flurry_claims::{Attempt, ClaimBoard, Seat};
 use std::alloc::{AllocError, Global};

@@ -1,7 +1,8 @@
 //! The board of one thread, beside that of threads.
 ghost use Rattle.std.specs.Prelude.{◌≤◌};
+ghost use Rattle.flurry_claims.specs.ClaimBoard.{IsSeatOf};
 
-use flurry_claims::{Attempt, ClaimBoard, PlainBoard, Range, SEATS};
+use flurry_claims::{Attempt, ClaimBoard, PlainBoard, Range, SEATS, Seat};
 use std::alloc::{AllocError, Global};
 use std::process::Abort;
 use std::test::Fail;
@@ -99,6 +100,22 @@ fn eight_seats_can_be_out(rt: HostRuntime) {
     assert!(rt; !board.take_seat());
 }
 
+// Claims a range at both boards and reports it. Whether the ranges and the reports are alike; `None` if neither board has a range.
+fn moved_alike(plain: &mut PlainBoard, board: &ClaimBoard, seat: &mut Seat) -> Option<bool>
+    requires { IsSeatOf board.now seat.old }
+    ensures { IsSeatOf board.now seat.new }
+{
+    match (plain.try_claim(), board.try_claim(seat)) {
+        (Attempt::Got(range), Attempt::Got(other)) => {
+            let are_alike = bins_of(&range) == bins_of(&other);
+            let is_last = plain.report(range);
+            Some(board.report(seat, other) == is_last && are_alike)
+        }
+        (Attempt::Nothing, Attempt::Nothing) => None,
+        _ => Some(false),
+    }
+}
+
 // Whether both boards cut the table of 2^table bins alike if so many processors share the work.
 fn cut_alike(alloc: Global, table: u8, processors: usize) -> Result<bool, AllocError>
     requires { table ≤ 10 }
@@ -106,21 +123,14 @@ fn cut_alike(alloc: Global, table: u8, processors: usize) -> Result<bool, AllocE
     let mut plain = PlainBoard::new(table, processors);
     let (board, mut seats) = ClaimBoard::new(alloc, table, processors, 1)?;
     let seat = &mut seats[0];
-    for _ in 0..1024 {
-        match (plain.try_claim(), board.try_claim(seat)) {
-            (Attempt::Got(range), Attempt::Got(other)) => {
-                if bins_of(&range) != bins_of(&other) {
-                    return Ok(false);
-                }
-                if plain.report(range) != board.report(seat, other) {
-                    return Ok(false);
-                }
-            }
-            (Attempt::Nothing, Attempt::Nothing) => return Ok(true),
-            _ => return Ok(false),
+    let mut are_alike = true;
+    for _ in 0..1025 {
+        match moved_alike(&mut plain, &board, seat) {
+            Some(is_alike) => are_alike &= is_alike,
+            None => break,
         }
     }
-    Ok(false)
+    Ok(are_alike)
 }
 
 #[test]

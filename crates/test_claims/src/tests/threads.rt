@@ -1,5 +1,5 @@
 //! Threads that claim and report at one board.
-ghost use Rattle.flurry_claims.specs.Seats.{IsSeatOf};
+ghost use Rattle.flurry_claims.specs.ClaimBoard.{IsSeatOf};
 
 use crate::pair::two_shares;
 use flurry_claims::{Attempt, ClaimBoard, Seat};

@@ -1,6 +1,6 @@
 use Rattle.std.proofs.Common.{◌≡◌, ◌+◌, All, length, vec_len}
 use Rattle.std.specs.Arc.{arc_value}
-use Rattle.flurry_claims.specs.Seats.{IsSeatOf}
+use Rattle.flurry_claims.specs.ClaimBoard.{IsSeatOf}
 use Rattle.flurry_claims.proofs.helpers.seated.Given as goal
 
 abbrev pub invariant-loop-seat : goal.invariant-loop-seat

@@ -1,6 +1,6 @@
 use Rattle.std.proofs.Common.{◌≡◌, ◌-◌, ◌≤◌, ◌<◌, true}
 use Rattle.flurry_claims.specs.ClaimBoard.{notes_of}
-use Rattle.flurry_claims.specs.Seats.{IsSeatOf, ranges_of}
+use Rattle.flurry_claims.specs.ClaimBoard.{IsSeatOf, ranges_of}
 use Rattle.test_claims.proofs.pair.claim_share.Given as goal
 
 abbrev pub invariant-loop-range : goal.invariant-loop-range

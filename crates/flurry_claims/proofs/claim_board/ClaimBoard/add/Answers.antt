@@ -1,16 +1,18 @@
-use Rattle.std.proofs.Common.{rules, ◌<◌, ◌^◌, ℕ, subst, sym, ◌∙◌, arith, ◌+◌, ◌-◌, div-le_self, pow_mono, ◌≤◌}
+use Rattle.std.proofs.Common.{rules, ◌<◌, ◌≤◌, ◌^◌, ℕ, ap, subst, sym, ◌∙◌, arith, ◌+◌, ◌-◌, div-le_self, pow_mono}
 use Rattle.atomic_table.specs.Table.{step}
 use mathlib.Core.Option.{none}
 use Rattle.flurry_claims.specs.AtomicSteps.{AddGives}
+use Rattle.flurry_claims.specs.ClaimBoard.{ranges_of}
 use Rattle.flurry_claims.proofs.StepLaws.{add_allowed}
 use Rattle.flurry_claims.proofs.claim_board.ClaimBoard.add.Goals as goal
 
 pub fetch_add-requires : goal.fetch_add-requires
 fetch_add-requires g c =
-    let board = c.args.self.now in
-    let told = sym board.told in
-    let most : 2 ^ board.table ≤ 2 ^ 30 = pow_mono board.within.0 in
-    let small : board.words.shared.key < 2 ^ 64 = omega (arith, most, told, board.cut, board.within, div-le_self (2 ^ board.table + (board.stride - 1)) board.stride) in
+    let board = c.self.invariant in
+    let inside = c.self.inside in
+    let told = sym (board.rule ∙ board.cut ∙ ap ranges_of c.self.view_is) in
+    let most : 2 ^ inside.table ≤ 2 ^ 30 = pow_mono board.greatest in
+    let small : inside.words.shared.key < 2 ^ 64 = omega (arith, most, board.rule, board.cut, board.small, div-le_self (2 ^ inside.table + (inside.stride - 1)) inside.stride) in
     (search rules, search rules, add_allowed _ _ _ _ _ _ _ (c.requires.about.0 ∙ told) c.requires.about.1 small c.requires.own)
 
 pub returns-clause-gives : goal.returns-clause-gives

@@ -1,5 +1,5 @@
 use Rattle.std.proofs.Common.{◌-◌, ◌≤◌, All, vec_len, vec_capacity}
-use Rattle.flurry_claims.specs.Seats.{IsNewSeatOf}
+use Rattle.flurry_claims.specs.ClaimBoard.{IsNewSeatOf}
 use Rattle.flurry_claims.proofs.claim_board.ClaimBoard.sit_all.Given as goal
 
 abbrev pub invariant-loop-all : goal.invariant-loop-all

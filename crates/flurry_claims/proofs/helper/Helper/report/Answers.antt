@@ -1,12 +1,10 @@
-use Rattle.std.proofs.Common.{rules, ◌≡◌, subst, sym, eqb-true}
-use Rattle.flurry_claims.specs.SeatNotes.{MayReport}
-use Rattle.flurry_claims.specs.ClaimBoard.{notes_of}
+use Rattle.std.proofs.Common.{rules, ap, subst, ◌∙◌}
+use Rattle.flurry_claims.specs.declared.seat_notes.SeatNotes.{SeatNotes}
+use Rattle.flurry_claims.specs.ClaimBoard.{BoardValue, notes_of, Reports}
 use Rattle.flurry_claims.proofs.helper.Helper.report.Goals as goal
 
-pub report-requires-clause-own : goal.report-requires-clause-own
-report-requires-clause-own g c =
-    let is : c.args.range.number ≡ c.in-Some.number = search rules in
-    subst (MayReport (notes_of c.args.self.now.seat)) (sym is) (c.args.self.now.may_report c.in-Some.number c.in-Some.is)
-
 pub returns-in-Some-clause-report : goal.returns-in-Some-clause-report
-returns-in-Some-clause-report g c _ = (rw c.deref-in-Some.ensures at c.report.ensures.report, search rules)
+returns-in-Some-clause-report g c _ =
+    let board = c.deref-in-Some.ensures ∙ ap (λ h. h.board) c.self.view_is in
+    let reports = λ (b : BoardValue × SeatNotes). Reports b.0.table b.0.stride b.1 c.args.range.number c.report.result (notes_of c.report.new.seat) in
+    (subst reports (λ i. (board i, notes_of (c.self.view_is i).seat)) c.report.ensures.report, search rules)

@@ -1,4 +1,4 @@
-use Rattle.flurry_claims.specs.Seats.{IsSeatOf}
+use Rattle.flurry_claims.specs.ClaimBoard.{IsSeatOf}
 use Rattle.test_claims.proofs.tests.threads.move_all.Given as goal
 
 abbrev pub invariant-loop : goal.invariant-loop
