@@ -3,6 +3,7 @@ use Rattle.std.specs.Prelude.{◌≡◌, ℕ, ◌^◌, ◌<◌, ◌≤◌, Bool,
 use Rattle.atomic_table.specs.declared.shared.Seat.{Seat}
 use Rattle.atomic_table.specs.Seated.{TableId}
 use Rattle.flurry_model.specs.declared.sizes.TheConstants.{GREATEST_TABLE}
+use Rattle.flurry_model.specs.Sizes.{stride_of}
 use Rattle.flurry_claims.specs.declared.seat_notes.SeatNotes.{SeatNotes}
 use Rattle.flurry_claims.specs.declared.range.Attempt.{Attempt}
 use Rattle.flurry_claims.specs.declared.range.Attempt.TheVariants.{Got, Lost, Nothing}
@@ -30,6 +31,10 @@ pub record IsClaimBoard (words told table stride ranges : ℕ) : Type 0 where
   pub some : 0 < stride
   pub small : stride ≤ 2 ^ GREATEST_TABLE
 
+-- the board of table e, whose ranges have a stride of p processors
+abbrev pub IsBoardFor : ℕ → ℕ → BoardValue → Type 0
+IsBoardFor e p board = (board.table ≡ e) × (board.stride ≡ stride_of (2 ^ e) p)
+
 abbrev pub ranges_of : BoardValue → ℕ
 ranges_of board = range_count board.table board.stride
 
@@ -40,15 +45,17 @@ IsSeatOf board seat = (seat.table_id ≡ board.id) × (seat.me.1 ≡ [])
 abbrev pub IsNewSeatOf : BoardValue → Seat (Unit {0}) SeatNotes → Type 0
 IsNewSeatOf board seat = IsSeatOf board seat × (notes_of seat ≡ new_notes)
 
--- over the ranges of s bins each of table e
-module _ (e s : ℕ) where
+-- over a board
+module _ (board : BoardValue) where
   -- An attempt claims the range of a number that the seat did not know to be claimed. Or it is lost, and the seat learns of a greater
   -- number. Or there is nothing, and every range was claimed at some moment
   abbrev pub Claims : SeatNotes → Attempt → SeatNotes → Type 0
-  Claims v (Got r) w = IsNumber e s r.number × (r ≡ range_at e s r.number) × (v.next ≤ r.number) × (w ≡ after_claim v r.number) × MayReport w r.number × Moment (range_count e s) w
-  Claims v Lost w = (w ≡ with_next v w.next) × (v.next < w.next) × (w.next ≤ range_count e s) × Moment (range_count e s) w
-  Claims v Nothing w = (w ≡ with_next v (range_count e s)) × (v.next ≤ w.next) × ((now : Moment (range_count e s) w) × AllClaimed (range_count e s) now.seats)
+  Claims v (Got r) w =
+      IsNumber board.table board.stride r.number × (r ≡ range_at board.table board.stride r.number)
+      × (v.next ≤ r.number) × (w ≡ after_claim v r.number) × MayReport w r.number × Moment (ranges_of board) w
+  Claims v Lost w = (w ≡ with_next v w.next) × (v.next < w.next) × (w.next ≤ ranges_of board) × Moment (ranges_of board) w
+  Claims v Nothing w = (w ≡ with_next v (ranges_of board)) × (v.next ≤ w.next) × ((now : Moment (ranges_of board) w) × AllClaimed (ranges_of board) now.seats)
 
   -- a report of range k tells whether every range is reported now
   abbrev pub Reports : SeatNotes → ℕ → Bool → SeatNotes → Type 0
-  Reports v k last w = (w ≡ after_report v k last) × ((now : Moment (range_count e s) w) × (IsTrue last ↔ AllReported (range_count e s) now.seats))
+  Reports v k last w = (w ≡ after_report v k last) × ((now : Moment (ranges_of board) w) × (IsTrue last ↔ AllReported (ranges_of board) now.seats))

@@ -1,10 +1,9 @@
 //! The board that threads share.
 ghost use Rattle.std.specs.Prelude.{◌≡◌, ◌+◌, ◌++◌, ◌-◌, ◌*◌, ◌/◌, ◌^◌, ◌<◌, ◌≤◌, All, IfOk, vec_len, vec_capacity};
-ghost use Rattle.flurry_model.specs.Sizes.{stride_of};
 ghost use Rattle.flurry_model.specs.declared.sizes.TheConstants.{GREATEST_TABLE};
 ghost use Rattle.flurry_claims.specs.SeatNotes.{AreApart, MayReport};
 ghost use Rattle.flurry_claims.specs.AtomicSteps.{LoadGives, ExchangeGives, AddGives};
-ghost use Rattle.flurry_claims.specs.ClaimBoard.{IsSeatOf, IsNewSeatOf, ranges_of, notes_of, Claims, Reports};
+ghost use Rattle.flurry_claims.specs.ClaimBoard.{IsBoardFor, IsSeatOf, IsNewSeatOf, ranges_of, notes_of, Claims, Reports};
 ghost use Rattle.atomic_table.specs.Table.{step};
 ghost use mathlib.Core.Option.{none};
 
@@ -86,7 +85,7 @@ impl<A: Allocator> ClaimBoard<A> {
         A: Clone,
         requires table { table ≤ GREATEST_TABLE }
         requires seats { 0 < seats }
-        ensures board { IfOk result (λ made. (made.0.table ≡ table) × (made.0.stride ≡ stride_of (2 ^ table) processors)) }
+        ensures board { IfOk result (λ made. IsBoardFor table processors made.0) }
         ensures count { IfOk result (λ made. vec_len made.1 ≡ seats) }
         ensures seats { IfOk result (λ made. All (IsNewSeatOf made.0) made.1.items) }
     {
@@ -145,7 +144,7 @@ impl<A: Allocator> ClaimBoard<A> {
     pub fn try_claim(&self, seat: &mut Seat) -> Attempt
         requires { IsSeatOf self.now seat.old }
         ensures board { IsSeatOf self.now seat.new }
-        ensures claim { Claims self.now.table self.now.stride (notes_of seat.old) result (notes_of seat.new) }
+        ensures claim { Claims self.now (notes_of seat.old) result (notes_of seat.new) }
     {
         let next = self.load::<Brand>(seat);
         if next >= self.ranges {
@@ -167,7 +166,7 @@ impl<A: Allocator> ClaimBoard<A> {
         requires board { IsSeatOf self.now seat.old }
         requires own { MayReport (notes_of seat.old) range.number }
         ensures board { IsSeatOf self.now seat.new }
-        ensures report { Reports self.now.table self.now.stride (notes_of seat.old) range.number result (notes_of seat.new) }
+        ensures report { Reports self.now (notes_of seat.old) range.number result (notes_of seat.new) }
     {
         let ranges = self.ranges;
         self.add::<Brand>(seat, range) + 1 == ranges
@@ -204,7 +203,8 @@ impl<A: Allocator> ClaimBoard<A> {
         requires about { B.ranges ≡ ranges_of self.now }
         requires next { (next < ranges_of self.now) × ((notes_of seat.old).next ≡ next) }
         ensures board { IsSeatOf self.now seat.new }
-        ensures gives { ExchangeGives (ranges_of self.now) (step 0 NEXT next (next + 1) none) seat.old.me result seat.new.me }
+        ensures gives { ExchangeGives (ranges_of self.now) (step 0 NEXT next (next + 1) none)
+            seat.old.me result seat.new.me }
     {
         self.words
             .shared
@@ -216,7 +216,8 @@ impl<A: Allocator> ClaimBoard<A> {
         requires about { (B.ranges ≡ ranges_of self.now) × (B.number ≡ range.number) }
         requires own { MayReport (notes_of seat.old) range.number }
         ensures board { IsSeatOf self.now seat.new }
-        ensures gives { AddGives (ranges_of self.now) range.number (step 0 REPORTS 1 0 none) seat.old.me result seat.new.me }
+        ensures gives { AddGives (ranges_of self.now) range.number (step 0 REPORTS 1 0 none)
+            seat.old.me result seat.new.me }
     {
         self.words.shared.fetch_add::<Add<B>>(seat, REPORTS, 1)
     }

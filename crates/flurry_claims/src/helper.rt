@@ -61,7 +61,7 @@ impl<A: Allocator> Helper<A> {
     /// Constant time: one load, and at most one compare-exchange.
     pub fn try_claim(&mut self) -> Attempt
         ensures board { self.new.board ≡ self.old.board }
-        ensures claim { Claims self.old.board.table self.old.board.stride (notes_of self.old.seat) result (notes_of self.new.seat) }
+        ensures claim { Claims self.old.board (notes_of self.old.seat) result (notes_of self.new.seat) }
         ensures number { self.new.number ≡ number_after result self.old.number }
     {
         match self.board.try_claim(&mut self.seat) {
@@ -81,7 +81,7 @@ impl<A: Allocator> Helper<A> {
     pub fn report(&mut self, range: Range) -> bool
         ensures board { self.new.board ≡ self.old.board }
         ensures report { holds self.old.board.table self.old.number range ≡ true
-            → Reports self.old.board.table self.old.board.stride (notes_of self.old.seat) range.number result (notes_of self.new.seat)
+            → Reports self.old.board (notes_of self.old.seat) range.number result (notes_of self.new.seat)
             × (self.new.number ≡ None) }
         ensures another { holds self.old.board.table self.old.number range ≡ false
             → (result ≡ false) × (self.new ≡ self.old) }

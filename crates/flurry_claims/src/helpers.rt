@@ -1,8 +1,7 @@
 //! The helpers of one growth.
-ghost use Rattle.std.specs.Prelude.{◌≡◌, ◌^◌, ◌≤◌, All, IfOk, length, vec_len};
-ghost use Rattle.flurry_model.specs.Sizes.{stride_of};
+ghost use Rattle.std.specs.Prelude.{◌≡◌, ◌≤◌, All, IfOk, length, vec_len};
 ghost use Rattle.std.specs.Arc.{arc_value};
-ghost use Rattle.flurry_claims.specs.ClaimBoard.{IsSeatOf};
+ghost use Rattle.flurry_claims.specs.ClaimBoard.{IsBoardFor, IsSeatOf};
 ghost use Rattle.flurry_claims.specs.declared.TheConstants.{SEATS};
 ghost use Rattle.flurry_model.specs.declared.sizes.TheConstants.{GREATEST_TABLE};
 
@@ -71,7 +70,7 @@ impl<A: Allocator> Helpers<A> {
     where
         A: Clone,
         requires { table ≤ GREATEST_TABLE }
-        ensures { IfOk result (λ board. (board.table ≡ table) × (board.stride ≡ stride_of (2 ^ table) processors)) }
+        ensures { IfOk result (IsBoardFor table processors) }
     {
         let (board, seats) = ClaimBoard::new(alloc.clone()?, table, processors, SEATS)?;
         let board = Arc::new(alloc, board)?;
@@ -91,6 +90,7 @@ impl<A: Allocator> Helpers<A> {
     /// Takes a helper, or returns `None` if all are out.
     ///
     /// Constant time, but it waits for other threads that take or give one.
+    // No contract specifies which helper it is, since other threads take and give them.
     pub fn take<R: Wait>(&self, rt: &R) -> Option<Helper<A>> {
         self.waiting.lock(rt).pop()?
     }

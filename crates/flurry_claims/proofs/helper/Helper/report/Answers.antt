@@ -6,5 +6,5 @@ use Rattle.flurry_claims.proofs.helper.Helper.report.Goals as goal
 pub returns-in-Some-clause-report : goal.returns-in-Some-clause-report
 returns-in-Some-clause-report g c _ =
     let board = c.deref-in-Some.ensures ∙ ap (λ h. h.board) c.self.view_is in
-    let reports = λ (b : BoardValue × SeatNotes). Reports b.0.table b.0.stride b.1 c.args.range.number c.report.result (notes_of c.report.new.seat) in
+    let reports = λ (b : BoardValue × SeatNotes). Reports b.0 b.1 c.args.range.number c.report.result (notes_of c.report.new.seat) in
     (subst reports (λ i. (board i, notes_of (c.self.view_is i).seat)) c.report.ensures.report, search rules)
