@@ -97,6 +97,24 @@ PATHS = [
     (("hash", "LowHash", "of"), ["hash::LowHashU64::of", "hash::LowHashU32::of"], []),
 ]
 
+# What the prover prints where a proof file names a goal that is not there any more, in one line and in two, and where a goal is not met.
+GONE = """\
+./proofs/one/Answers.antt:7:17: error: `returns-x`: `goal.returns-x`: module `Rattle.s.proofs.one.Goals` has no `returns-x` that can be named
+fn s::one: not proved
+"""
+GONE_BELOW = """\
+./proofs/one/Answers.antt:4:72: error: `returns-of-a-long-name`: `goal.returns-of-a-long-name`
+  module `Rattle.s.proofs.one.Goals` has no `returns-of-a-long-name` that can be named from here
+fn s::one: not proved
+"""
+UNMET = """\
+./proofs/one/Answers.antt:9:17: error: `returns-x`: the term does not have its type
+  expected 1, found 2
+fn s::one: not proved
+"""
+# Each of these texts with whether a goal of the function is told, and whether names are missed.
+PRINTED = [(GONE, False, True), (GONE_BELOW, False, True), (UNMET, True, False)]
+
 
 def make_repository(root):
     crate = root / "crates/sample"
@@ -118,6 +136,10 @@ def main():
     for function, paths, wanted in PATHS:
         if verdicts.paths_of(function, paths) != wanted:
             faults.append(f"{function} is {verdicts.paths_of(function, paths)}, not {wanted}")
+    for printed, has_goal, has_misses in PRINTED:
+        found = verdicts.verdicts_of(printed)["one"]
+        if (bool(found.goal), bool(found.misses)) != (has_goal, has_misses):
+            faults.append(f"{printed!r} is read as {found}")
     for fault in faults:
         print(f"test_wrong_bodies: {fault}", file=sys.stderr)
     print(f"test_wrong_bodies: {'FAILED' if faults else 'passed'}")

@@ -21,6 +21,11 @@ ANY_ERROR = re.compile(r"(?:\./)?((?:src|specs|proofs)/\S+?):\d+:\d+: error: (`[
 UNREADABLE = re.compile(r"is not in scope|has no field|is no name|operand is missing|expected the end|cannot continue")
 
 
+def lines_of(printed):
+    """Returns the lines that the prover printed. One that goes on below, where it is indented, is one line."""
+    return re.sub(r"\n +(?=\S)", " ", printed).split("\n")
+
+
 def is_told(line):
     """Whether the line tells a goal that is not met, or an error."""
     return bool(ANY_ERROR.match(line) or AT_SOURCE.match(line)) and NOT_COVERED not in line
@@ -48,7 +53,7 @@ class Verdict:
 def verdicts_of(printed):
     """Returns the verdict of each function, by its path below the crate."""
     goals, misses, open_here, found = {}, {}, "", {}
-    for line in printed.split("\n"):
+    for line in lines_of(printed):
         at_proof, at_source, function = AT_PROOF.match(line), AT_SOURCE.match(line), FUNCTION.match(line)
         if at_proof:
             path = at_proof[1].replace("+", "").replace("/", "::")

@@ -170,7 +170,7 @@ def judged_alone(edit, check):
         return REFUSED, f"at a limit of the prover: {check.last}"
     if check.status != 1:
         return NOT_TRIED, f"its check ended with status {check.status}: {check.last}"
-    lines = check.printed.split("\n")
+    lines = verdicts.lines_of(check.printed)
     unread = next((line for line in lines if verdicts.is_unread(line, [file for file, _, _ in edit.pairs])), "")
     if unread or not re.match("logic=not-proved|only=", check.last):
         return BAD, unread or next((line for line in lines if "error" in line), check.last)

@@ -19,7 +19,8 @@ pub mod slots;
 pub mod steps;
 pub mod world;
 
-pub use flurry_bins::{bin, table};
+pub use flurry_bins::bin;
+pub use flurry_insertion::table;
 pub use flurry_map::{HashMap, map};
 pub use flurry_map_ref::{HashMapRef, iter, map_ref};
 pub use flurry_model::hash::{DefaultHashBuilder, DefaultHasher};

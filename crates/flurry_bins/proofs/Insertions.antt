@@ -9,11 +9,11 @@ use Rattle.std.specs.Option.{option_map, is_some, IsNone}
 use Rattle.std.specs.Arc.{arc_value}
 use Rattle.std.specs.declared.sync.Arc.{Arc}
 use Rattle.flurry_bins.specs.declared.bin.entry.Entry.{Entry}
-use Rattle.flurry_bins.specs.declared.bin.given.NotInserted.{NotInserted}
-use Rattle.flurry_bins.specs.declared.bin.given.Replaced.{Replaced}
+use Rattle.flurry_model.specs.declared.given.NotInserted.{NotInserted}
+use Rattle.flurry_model.specs.declared.given.Replaced.{Replaced}
 use Rattle.flurry_bins.specs.declared.bin.node.Colour.{Colour}
 use Rattle.flurry_bins.specs.Entries.{place_cmp, entry_cmp, IsAscending, is_at, is_before, is_past, entry_at, with_entry, with_value, AllBefore, IsEntryOf, IsInsertion}
-use Rattle.flurry_bins.specs.Given.{old_of}
+use Rattle.flurry_model.specs.Given.{old_of}
 use Rattle.flurry_bins.specs.Balance.{balance_left, balance_right, put_tree, with_black_root}
 use Rattle.flurry_bins.specs.Rewrite.{tree_with_value, tree_value}
 use Rattle.flurry_bins.specs.Tree.{Tree, fork, inorder, IsRedBlack}

@@ -4,8 +4,6 @@ pub mod Chain
 pub mod EntryCall
 pub mod Kind
 pub mod Entries
-pub mod Given
-pub mod Inserted
 pub mod PlainEntries
 pub mod Removal
 pub mod Rewrite

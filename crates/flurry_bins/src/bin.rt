@@ -4,7 +4,6 @@
 //! [`Ordered`], and their nodes are the same boxes, so a list turns into a tree and back without taking memory.
 pub mod adaptive;
 pub mod entry;
-pub mod given;
 pub mod list;
 pub mod node;
 pub mod ordered;
@@ -13,7 +12,7 @@ pub mod tree;
 
 pub use adaptive::{Bin, Shape};
 pub use entry::Entry;
-pub use given::{Given, NotInserted, Replaced};
+pub use flurry_model::given::{Given, NotInserted, Replaced};
 pub use list::ListBin;
 pub use node::{BoxedNode, Node};
 pub use ordered::Ordered;

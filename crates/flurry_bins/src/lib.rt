@@ -2,6 +2,5 @@
 #![tactic(auto)]
 
 pub mod bin;
-pub mod table;
 
 pub use flurry_model::hash;

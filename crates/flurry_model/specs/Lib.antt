@@ -6,6 +6,7 @@ pub mod SeededHasher
 pub mod Hashing
 pub mod Sizes
 pub mod BinSizes
+pub mod Given
 pub mod Keeps
 pub mod Greatest
 pub mod TryInsert

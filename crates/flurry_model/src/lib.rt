@@ -5,11 +5,13 @@
 #![tactic(auto)]
 
 pub mod call;
+pub mod given;
 pub mod hash;
 pub mod reply;
 pub mod sizes;
 pub mod try_insert;
 
 pub use call::{Call, Seen};
+pub use given::{Given, NotInserted, Replaced};
 pub use reply::KeptReply;
 pub use try_insert::TryInsertError;

@@ -23,7 +23,7 @@ mod retain;
 
 use crate::table::Table;
 use flurry_bins::bin::{Bin, Entry, Node, Shape};
-use flurry_bins::table::two_owners;
+use flurry_insertion::table::two_owners;
 use flurry_model::TryInsertError;
 use flurry_model::hash::{DefaultHashBuilder, KeyHasher};
 use flurry_model::sizes::FIRST_BINS;

@@ -18,7 +18,7 @@ ghost use Rattle.flurry_model.specs.declared.sizes.TheConstants.{GREATEST_TABLE,
 mod retain;
 
 use flurry_bins::bin::{Bin, Entry, Node, Ordered, Shape};
-use flurry_bins::table::{Inserted, insert_in_table, put_in_table};
+use flurry_insertion::table::{Inserted, insert_in_table, put_in_table};
 use flurry_model::sizes::bin_index;
 use std::alloc::{AllocError, Allocator};
 use std::marker::Model;

@@ -14,7 +14,7 @@ ghost use Rattle.flurry_set.specs.SetRetain.{RetainsElements};
 ghost use Rattle.flurry_model.specs.declared.sizes.TheConstants.{FIRST_BINS, MOST_PAIRS};
 
 use flurry_bins::bin::Node;
-use flurry_bins::table::two_owners;
+use flurry_insertion::table::two_owners;
 use flurry_model::hash::{DefaultHashBuilder, KeyHasher};
 use flurry_seq::{Keys, SeqMap};
 use std::alloc::{AllocError, Allocator, Global};

@@ -4,8 +4,8 @@ use Rattle.std.specs.Option.{option_map}
 use Rattle.std.specs.Arc.{arc_value}
 use Rattle.flurry_bins.specs.declared.bin.adaptive.Bin.{Bin}
 use Rattle.flurry_bins.specs.declared.bin.entry.Entry.{Entry}
-use Rattle.flurry_bins.specs.declared.table.Inserted.{Inserted}
-use Rattle.flurry_bins.specs.Inserted.{replaced_by, asks_by}
+use Rattle.flurry_insertion.specs.declared.table.Inserted.{Inserted}
+use Rattle.flurry_insertion.specs.Inserted.{replaced_by, asks_by}
 use Rattle.flurry_slots.specs.declared.live.Added.{Added}
 use Rattle.flurry_slots.specs.declared.live.Added.TheVariants.{New, Present}
 use Rattle.flurry_slots.specs.declared.live.Computed.{Computed}

@@ -11,7 +11,7 @@ pub(crate) mod live;
 pub mod slot;
 
 pub use compute_fn::{ComputeFn, NoFn};
-pub use flurry_bins::bin::{Given, NotInserted, Replaced};
-pub use flurry_bins::table::Inserted;
+pub use flurry_insertion::table::Inserted;
+pub use flurry_model::given::{Given, NotInserted, Replaced};
 pub use live::{Added, Computed};
 pub use slot::{Answer, MoveAnswer, Receipt, Slot};

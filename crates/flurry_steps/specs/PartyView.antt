@@ -1,7 +1,7 @@
 -- What contracts see of a call in progress.
 use Rattle.std.specs.Prelude.{⊤}
 use Rattle.std.specs.Arc.{arc_value}
-use Rattle.flurry_bins.specs.Given.{given_of}
+use Rattle.flurry_model.specs.Given.{given_of}
 use Rattle.flurry_calls.specs.OutcomeView.{outcome_of}
 use Rattle.flurry_calls.specs.Sweep.{Reads, Wipes, fresh_sweep}
 use Rattle.flurry_steps.specs.Party as abstract

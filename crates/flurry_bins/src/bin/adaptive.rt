@@ -3,7 +3,7 @@ ghost use Rattle.std.specs.Prelude.{◌≡◌, ◌<◌, ◌≤◌, ◌⊎◌, �
 ghost use Rattle.std.specs.Option.{option_map};
 ghost use Rattle.std.specs.Arc.{arc_value};
 ghost use Rattle.flurry_bins.specs.Chain.{chain, entry_of};
-ghost use Rattle.flurry_bins.specs.Given.{IsNotInserted, old_of};
+ghost use Rattle.flurry_model.specs.Given.{IsNotInserted, old_of};
 ghost use Rattle.flurry_bins.specs.Entries.{entry_at, with_entry, with_value_at, without, with_bit, IsInsertion};
 ghost use Rattle.flurry_model.specs.Greatest.{greatest};
 ghost use Rattle.flurry_bins.specs.Tree.{shape, node_shape, inorder};
@@ -16,11 +16,11 @@ mod nodes;
 mod retain;
 
 use super::entry::Entry;
-use super::given::{NotInserted, Replaced};
 use super::list::{self, ListBin, prepend};
 use super::node::{BoxedNode, Link, Node};
 use super::ordered::Ordered;
 use super::tree::{self, TreeBin};
+use flurry_model::given::{NotInserted, Replaced};
 use flurry_model::sizes::{LEAST_IN_TREE, MOST_IN_LIST};
 use nodes::{LoneNode, NodeList, NodeTree};
 use std::alloc::{AllocError, Allocator, Global};
@@ -417,9 +417,16 @@ impl<K: Ord + Drop, V: Drop, A: Allocator> Bin<K, V, A> {
 impl<K: Ord + Drop, V: Drop, A: Allocator + Copy> Bin<K, V, A> {
     ghost use Rattle.flurry_bins.specs.Bin.{entries_of_bin, is_tree};
 
-    // Sets the value at a place, and returns the old value, or `None` if a new node was inserted. In that case a list of nine nodes becomes
-    // a tree. If memory for the node cannot be allocated, the bin is unchanged.
-    pub(crate) fn insert(
+    /// Sets the value at a hash and a key, in one pass down the bin. Returns the key that was passed in and the value that the key had, or
+    /// `None` if the key is new. A list of nine nodes becomes a tree when it takes another.
+    ///
+    /// As many steps as a look-up. If the key is absent, memory for the key and for a node is taken; if it is present, the stored key
+    /// stays.
+    ///
+    /// # Errors
+    ///
+    /// Returns the key and the value if memory for the key or for the node cannot be allocated. The entries are unchanged.
+    pub fn insert(
         &mut self,
         alloc: A,
         hash: u64,

@@ -2,7 +2,7 @@
 ghost use Rattle.std.specs.Prelude.{◌≡◌, ◌+◌, ◌<◌, ◌≤◌, ◌++◌, ◌∷◌, [], length, map, reverse, MatchOption, Option, Some, None, IsSome, IsNone, IfOk, OnErr, IfErr, IfSome};
 ghost use Rattle.std.specs.Option.{option_map, option_copied};
 ghost use Rattle.std.specs.Arc.{arc_value};
-ghost use Rattle.flurry_bins.specs.Given.{IsNotInserted, old_of};
+ghost use Rattle.flurry_model.specs.Given.{IsNotInserted, old_of};
 ghost use Rattle.flurry_bins.specs.Entries.{IsAscending, IsAscending-prop, AllBefore, NotBefore, list_way, entry_at, first_past, lent_bound, with_entry, with_value_at, IsInsertion};
 ghost use Rattle.flurry_model.specs.Greatest.{greatest};
 ghost use Rattle.flurry_bins.specs.Short.{list_way-short};
@@ -12,9 +12,9 @@ ghost use Rattle.flurry_model.specs.declared.sizes.TheConstants.{MOST_PAIRS};
 mod retain;
 
 use super::entry::Entry;
-use super::given::{NotInserted, Replaced};
 use super::node::{BoxedNode, Link, Node, follow};
 use super::ordered::Ordered;
+use flurry_model::given::{NotInserted, Replaced};
 use std::alloc::{AllocError, Allocator, Global};
 use std::cmp::Ordering;
 use std::mem;

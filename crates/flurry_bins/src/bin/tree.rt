@@ -2,7 +2,7 @@
 ghost use Rattle.std.specs.Prelude.{◌≡◌, ◌^◌, ◌*◌, ◌+◌, ◌<◌, ◌≤◌, ◌++◌, length, map, Option, Some, None, IfSome, IsSome, IsNone, IfOk, OnErr, IfErr};
 ghost use Rattle.std.specs.Option.{option_map, option_copied};
 ghost use Rattle.std.specs.Arc.{arc_value};
-ghost use Rattle.flurry_bins.specs.Given.{IsNotInserted, old_of};
+ghost use Rattle.flurry_model.specs.Given.{IsNotInserted, old_of};
 ghost use Rattle.flurry_bins.specs.Entries.{IsAscending, IsAscending-prop, AllHashed, last_of, entry_at, first_past, lent_bound, with_entry, with_value_at, IsInsertion};
 ghost use Rattle.flurry_bins.specs.Chain.{chain, entry_of, colour_of};
 ghost use Rattle.flurry_model.specs.Greatest.{greatest};
@@ -15,11 +15,11 @@ ghost use Rattle.flurry_bins.specs.TreeInsertion.{IsTreeInsertion};
 ghost use Rattle.flurry_model.specs.declared.sizes.TheConstants.{MOST_PAIRS};
 
 use super::entry::Entry;
-use super::given::{NotInserted, Replaced};
 use super::list::{ListBin, detach_tail, prepend};
 use super::node::{BoxedNode, Colour, Link, Node, follow};
 use super::ordered::Ordered;
 use super::removal::remove_in;
+use flurry_model::given::{NotInserted, Replaced};
 use std::alloc::{AllocError, Allocator, Global};
 use std::cmp::Ordering;
 use std::sync::Arc;

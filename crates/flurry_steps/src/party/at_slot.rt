@@ -1,6 +1,6 @@
 //! The steps of a call at a bin.
 ghost use Rattle.std.specs.Prelude.{◌≡◌, ◌+◌, ◌-◌, ◌<◌, ◌≤◌, ◌⊎◌, Some, IfOk, OnErr};
-ghost use Rattle.flurry_bins.specs.Given.{given_of};
+ghost use Rattle.flurry_model.specs.Given.{given_of};
 ghost use Rattle.flurry_slots.specs.LiveView.{view_of_inserted, view_of_added, outcome};
 ghost use Rattle.flurry_bins.specs.PlainEntries.{numbered_pair};
 ghost use Rattle.flurry_slots.specs.Slot.{IsSlot, IsUnborn, LiesIn};

@@ -2,7 +2,7 @@
 
 use super::same;
 use flurry_bins::bin::{Bin, Ordered, Shape};
-use flurry_bins::table::{Inserted, insert_in_table};
+use flurry_insertion::table::{Inserted, insert_in_table};
 use metered_alloc::Metered;
 use std::alloc::{AllocError, Global};
 use std::process::Abort;

@@ -1,4 +1,4 @@
-use Rattle.flurry_bins.specs.Inserted.{replaced_by, asks_by}
+use Rattle.flurry_insertion.specs.Inserted.{replaced_by, asks_by}
 use Rattle.flurry_bins.specs.Bin.{entries_of_bin}
 use Rattle.flurry_slots.proofs.LiveLaws.{live_inserted, inserted_reply}
 use Rattle.flurry_slots.proofs.live.LiveBin.put_shared.Goals as goal

@@ -1,6 +1,6 @@
 use Rattle.std.proofs.Common.{not, ap, ◌∙◌, arith}
 use Rattle.flurry_bins.specs.Chain.{chain}
-use Rattle.flurry_bins.specs.Given.{old_of}
+use Rattle.flurry_model.specs.Given.{old_of}
 use Rattle.flurry_bins.proofs.Edits.{IsCut}
 use Rattle.flurry_bins.proofs.Insertions.{old_of-some, cut_ascending, insertion-joined, insertion-ascending, insertion-longer, insertion-as_long}
 use Rattle.flurry_bins.proofs.bin.list.ListBin.insert.Goals as goal

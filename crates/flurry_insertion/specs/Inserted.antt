@@ -1,9 +1,9 @@
 -- What an insertion into a bin did, as plain data.
 use Rattle.std.specs.Prelude.{Bool, false, Option, Some, None, ⊤}
 use Rattle.std.specs.declared.sync.Arc.{Arc}
-use Rattle.flurry_bins.specs.declared.bin.given.Replaced.{Replaced}
-use Rattle.flurry_bins.specs.declared.table.Inserted.{Inserted}
-use Rattle.flurry_bins.specs.declared.table.Inserted.TheVariants.{New, Replaced as WasReplaced}
+use Rattle.flurry_model.specs.declared.given.Replaced.{Replaced}
+use Rattle.flurry_insertion.specs.declared.table.Inserted.{Inserted}
+use Rattle.flurry_insertion.specs.declared.table.Inserted.TheVariants.{New, Replaced as WasReplaced}
 
 module _ {K V A : Type 0} where
   -- the value that the key had

@@ -1,10 +1,11 @@
 use Rattle.std.proofs.Common.{◌||◌, Result, Ok, Err, OnErr, length, nat_le, sym, ap, ◌∙◌}
 use Rattle.std.specs.Option.{is_some}
 use Rattle.flurry_bins.specs.Bin.{entries_of_bin, ascending_of_bin, is_tree, sized_of_bin}
-use Rattle.flurry_bins.specs.Given.{old_of}
-use Rattle.flurry_bins.proofs.BinSizes.{kept_by_ten, long_in_large, long_in_small, one_more, one_more_than_nine}
+use Rattle.flurry_model.specs.Given.{old_of}
+use Rattle.flurry_bins.proofs.BinSizes.{one_more_than_nine}
+use Rattle.flurry_insertion.proofs.LongLists.{kept_by_ten, long_in_large, long_in_small, one_more}
 use Rattle.flurry_bins.proofs.Insertions.{insertion-as_long, insertion-longer}
-use Rattle.flurry_bins.proofs.table.insert_in_table.Goals as goal
+use Rattle.flurry_insertion.proofs.table.insert_in_table.Goals as goal
 
 on_err : {T E : Type 0} (r : Result T E) (P : Type 0) → P → OnErr r P
 on_err (Ok x) P p = tt

@@ -1,10 +1,10 @@
 use Rattle.std.proofs.Common.{length, sym, ap, ◌∙◌}
 use Rattle.flurry_bins.specs.Bin.{entries_of_bin, ascending_of_bin, is_tree}
 use Rattle.flurry_bins.specs.Chain.{entry_of}
-use Rattle.flurry_bins.proofs.BinSizes.{long_in_large, long_in_small}
+use Rattle.flurry_insertion.proofs.LongLists.{long_in_large, long_in_small}
 use Rattle.flurry_bins.proofs.PlainEntryLaws.{length-with_entry}
-use Rattle.flurry_bins.proofs.table.put_in_table.Goals as goal
-use Rattle.flurry_bins.proofs.table.put_in_table.Goals.{then-is_long+then-bins-ge-LEAST_FOR_TREES, else-is_long, else-is_long-via-then-is_long+else-bins-ge-LEAST_FOR_TREES, else-is_long-via-else-is_long}
+use Rattle.flurry_insertion.proofs.table.put_in_table.Goals as goal
+use Rattle.flurry_insertion.proofs.table.put_in_table.Goals.{then-is_long+then-bins-ge-LEAST_FOR_TREES, else-is_long, else-is_long-via-then-is_long+else-bins-ge-LEAST_FOR_TREES, else-is_long-via-else-is_long}
 
 pub returns-then-is_long-2-clause-kind : goal.returns-then-is_long-2-clause-kind
 returns-then-is_long-2-clause-kind g c =

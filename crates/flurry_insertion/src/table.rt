@@ -4,13 +4,14 @@ ghost use Rattle.std.specs.Prelude.{◌≡◌, ◌<◌, ◌==◌, ◌&&◌, not,
 ghost use Rattle.std.specs.Arc.{arc_value};
 ghost use Rattle.flurry_bins.specs.Bin.{entries_of_bin, is_tree};
 ghost use Rattle.flurry_bins.specs.Chain.{entry_of};
-ghost use Rattle.flurry_bins.specs.Given.{given_of, IsNotInserted};
-ghost use Rattle.flurry_bins.specs.Inserted.{replaced_by, asks_by, IfReplaced};
+ghost use Rattle.flurry_model.specs.Given.{given_of, IsNotInserted};
+ghost use Rattle.flurry_insertion.specs.Inserted.{replaced_by, asks_by, IfReplaced};
 ghost use Rattle.flurry_bins.specs.Entries.{entry_at, with_entry, IsInsertion};
 ghost use Rattle.flurry_model.specs.BinSizes.{grows_into_tree, asks_for_growth};
 ghost use Rattle.flurry_model.specs.declared.sizes.TheConstants.{LONG_LIST, MOST_PAIRS};
 
-use crate::bin::{Bin, BoxedNode, Given, NotInserted, Ordered, Replaced, Shape};
+use flurry_bins::bin::{Bin, BoxedNode, Ordered, Shape};
+use flurry_model::given::{Given, NotInserted, Replaced};
 pub use flurry_model::reply::KeptReply;
 use flurry_model::sizes::{LEAST_FOR_TREES, LONG_LIST};
 pub use flurry_model::sizes::{MOST_BINS, bin_index, stride, threshold, wanted};

@@ -2,10 +2,10 @@
 use Rattle.std.specs.Prelude.{◌≡◌, Bool, true, false, Option, Some, None}
 use Rattle.std.specs.Arc.{arc_value}
 use Rattle.std.specs.declared.sync.Arc.{Arc}
-use Rattle.flurry_bins.specs.declared.bin.given.Given.{Given}
-use Rattle.flurry_bins.specs.declared.bin.given.Given.TheVariants.{Plain, Shared}
-use Rattle.flurry_bins.specs.declared.bin.given.NotInserted.{NotInserted}
-use Rattle.flurry_bins.specs.declared.bin.given.Replaced.{Replaced}
+use Rattle.flurry_model.specs.declared.given.Given.{Given}
+use Rattle.flurry_model.specs.declared.given.Given.TheVariants.{Plain, Shared}
+use Rattle.flurry_model.specs.declared.given.NotInserted.{NotInserted}
+use Rattle.flurry_model.specs.declared.given.Replaced.{Replaced}
 
 module _ {A : Type 0} where
   -- what was given, in an `Arc` or not

@@ -1,7 +1,7 @@
 //! What an insertion gives back of what it was given.
 ghost use Rattle.std.specs.Prelude.{◌≡◌, IfErr, IfOk, true};
 ghost use Rattle.std.specs.Arc.{arc_value};
-ghost use Rattle.flurry_bins.specs.Given.{given_of, is_plain};
+ghost use Rattle.flurry_model.specs.Given.{given_of, is_plain};
 
 use std::alloc::{Allocator, Global};
 use std::sync::Arc;
