@@ -60,6 +60,11 @@ fn line_of<F>(label: &Label<u64, u64, F>) -> Line {
     }
 }
 
+// Returns how many labels a world has. A test asks here, because each `trace` in its own body makes its proof longer.
+fn label_count<'k, F: ComputeFn<u64, u64> + Copy>(world: &Numbers<'k, F>) -> usize {
+    world.trace().len()
+}
+
 // Returns the last label.
 fn last_line<'k, F: ComputeFn<u64, u64> + Copy>(rt: &impl Abort, world: &Numbers<'k, F>) -> Line {
     line_of(world.trace().last().expect(rt, "a label was added"))

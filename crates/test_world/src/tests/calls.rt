@@ -1,7 +1,8 @@
 //! Each call once, a list of steps, and the first table of a new world.
 
 use super::{
-    Line, Numbers, assert_call, assert_reply, begin, end_of, line_of, same, value, world_for,
+    Line, Numbers, assert_call, assert_reply, begin, end_of, label_count, line_of, same, value,
+    world_for,
 };
 use flurry_model::reply::KeptReply;
 use flurry_slots::{ComputeFn, NoFn};
@@ -232,7 +233,7 @@ fn assert_trace<'k, F: ComputeFn<u64, u64> + Copy>(
     world: &Numbers<'k, F>,
     lines: &[Line],
 ) {
-    same(rt, world.trace().len(), lines.len());
+    same(rt, label_count(world), lines.len());
     for (label, line) in world.trace().iter().zip(lines) {
         same(rt, line_of(label), *line);
     }

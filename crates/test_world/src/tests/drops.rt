@@ -1,8 +1,8 @@
 //! Removals of a pair that a walk has read, label by label.
 
 use super::{
-    Line, Numbers, assert_call, assert_reply, assert_steps, begin, last_line, same, value,
-    world_for,
+    Line, Numbers, assert_call, assert_reply, assert_steps, begin, label_count, last_line, same,
+    value, world_for,
 };
 use flurry_slots::{ComputeFn, NoFn};
 use flurry_steps::party::OwnedCall;
@@ -57,12 +57,12 @@ fn drops_nothing<'k, F: ComputeFn<u64, u64> + Copy>(
     world: &mut Numbers<'k, F>,
     party: usize,
 ) {
-    let labels = world.trace().len();
+    let labels = label_count(world);
     let began = world
         .begin_remove_seen(party)
         .expect(rt, "memory for nothing");
     same(rt, began, None);
-    same(rt, world.trace().len(), labels);
+    same(rt, label_count(world), labels);
 }
 
 #[test]

@@ -2,7 +2,7 @@
 ghost use Rattle.std.specs.Prelude.{◌<◌};
 
 use super::checker::{Checker, KEYS};
-use super::{Numbers, begin, world_for};
+use super::{Numbers, begin, label_count, world_for};
 use flurry_control::wanted_table;
 use flurry_slots::ComputeFn;
 use flurry_steps::party::OwnedCall;
@@ -105,7 +105,7 @@ impl<'k, F: ComputeFn<u64, u64> + Copy> Checked<'k, F> {
     fn drop_seen(&mut self, rt: &impl Abort, walk: usize) -> bool
         requires { (f : F) → F.can_change f }
     {
-        let labels = self.world.trace().len();
+        let labels = label_count(&self.world);
         let began = self
             .world
             .begin_remove_seen(walk)
@@ -113,7 +113,7 @@ impl<'k, F: ComputeFn<u64, u64> + Copy> Checked<'k, F> {
         let has_read = self.checker.has_read(walk);
         assert_eq!(rt; began.is_some(), has_read);
         if began.is_none() {
-            assert_eq!(rt; self.world.trace().len(), labels);
+            assert_eq!(rt; label_count(&self.world), labels);
             return false;
         }
         self.check_last(rt);

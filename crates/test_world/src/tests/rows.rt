@@ -1,8 +1,8 @@
 //! Worked schedules, label by label.
 
 use super::{
-    Line, Numbers, assert_call, assert_reply, assert_steps, begin, end_of, line_of, same, step,
-    value, world_for,
+    Line, Numbers, assert_call, assert_reply, assert_steps, begin, end_of, label_count, line_of,
+    same, step, value, world_for,
 };
 use flurry_slots::{ComputeFn, NoFn};
 use flurry_steps::party::OwnedCall;
@@ -85,7 +85,7 @@ fn insertion_and_look_up<'k, F: ComputeFn<u64, u64> + Copy>(
     let lines = inserted(0, Line::Opened(4));
     assert_call(rt, world, 0, OwnedCall::Insert(3, 4), &lines);
     assert_call(rt, world, 1, OwnedCall::Get(3), &found(1, 4));
-    same(rt, world.trace().len(), 11);
+    same(rt, label_count(world), 11);
 }
 
 #[test]
@@ -243,5 +243,5 @@ fn does_nothing<'k, F: ComputeFn<u64, u64> + Copy>(rt: &impl Abort, world: &mut 
     ];
     assert_call(rt, world, 0, OwnedCall::Get(1), &lines);
     assert_steps(rt, world, usize::MAX, &[Line::Silent(usize::MAX)]);
-    same(rt, world.trace().len(), 8);
+    same(rt, label_count(world), 8);
 }

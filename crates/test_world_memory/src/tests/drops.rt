@@ -1,6 +1,6 @@
 //! Each request of a removal that begins with what a walk has read fails in turn.
 
-use super::world::{Numbers, begins, step_to, world_for};
+use super::world::{Numbers, begins, label_count, step_to, world_for};
 use super::{Memory, same_at};
 use flurry_slots::{ComputeFn, NoFn};
 use flurry_steps::party::OwnedCall;
@@ -33,14 +33,14 @@ fn drops_at<F: ComputeFn<u64, u64> + Copy>(rt: &impl Abort, memory: Memory, more
     requires { (f : F) → F.can_change f }
 {
     let mut world: Numbers<F> = has_read(rt, memory, more as usize);
-    let labels = world.trace().len();
+    let before = label_count(&world);
     memory.refuse_at(0);
     let failed = world.begin_remove_seen(1).is_err();
     let refused = memory.refused();
     memory.refuse_nothing();
     same_at(rt, more, failed, refused);
     if refused {
-        same_at(rt, more, world.trace().len(), labels);
+        same_at(rt, more, label_count(&world), before);
         let began = world.begin_remove_seen(1).expect(rt, "memory for the call");
         same_at(rt, more, began, Some(3));
     }

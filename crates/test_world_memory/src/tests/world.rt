@@ -39,6 +39,11 @@ pub(super) enum Told {
     Nothing,
 }
 
+// Returns how many labels the world has. A test asks here, because each `trace` in its own body makes its proof longer.
+pub(super) fn label_count<F: ComputeFn<u64, u64> + Copy>(world: &Numbers<F>) -> usize {
+    world.trace().len()
+}
+
 // Returns how a label closes the call of its party, if it does.
 fn close_of<F>(label: Option<&Label<u64, u64, F>>) -> Option<Close> {
     match label {
@@ -47,6 +52,11 @@ fn close_of<F>(label: Option<&Label<u64, u64, F>>) -> Option<Close> {
         Some(Label::Refused(_)) => Some(Close::Refused),
         _ => None,
     }
+}
+
+// Returns how the last label closes the call of its party, if it does.
+fn last_close<F: ComputeFn<u64, u64> + Copy>(world: &Numbers<F>) -> Option<Close> {
+    close_of(world.trace().last())
 }
 
 // Begins the call, with enough memory.
@@ -69,11 +79,11 @@ fn finish<F: ComputeFn<u64, u64> + Copy>(
 ) -> (Close, bool) {
     let mut refused = false;
     for _ in 0..MOST {
-        let before = world.trace().len();
+        let before = label_count(world);
         if world.step(party).is_err() {
             refused = true;
-            same(rt, world.trace().len(), before);
-        } else if let Some(close) = close_of(world.trace().last()) {
+            same(rt, label_count(world), before);
+        } else if let Some(close) = last_close(world) {
             return (close, refused);
         }
     }
@@ -139,7 +149,7 @@ pub(super) fn step_to<F: ComputeFn<u64, u64> + Copy>(
     party: usize,
     labels: usize,
 ) {
-    for _ in world.trace().len()..labels {
+    for _ in label_count(world)..labels {
         world.step(party).expect(rt, "memory for the step");
     }
 }
@@ -262,7 +272,7 @@ fn begins_at<F: ComputeFn<u64, u64> + Copy>(rt: &impl Abort, memory: Memory, k: 
     let failed = world.begin(OwnedCall::Insert(3, 10)).is_err();
     let refused = memory.refused();
     memory.refuse_nothing();
-    let seen = (refused, failed, world.trace().is_empty());
+    let seen = (refused, failed, label_count(&world) == 0);
     same_at(rt, k, seen, (k < 2, refused, refused));
     let (next, found) = if refused { (0, None) } else { (1, Some(10)) };
     same_at(rt, k, begins(rt, &mut world, OwnedCall::Get(3)), next);
@@ -557,13 +567,13 @@ fn runs_at<F: ComputeFn<u64, u64> + Copy + Debug>(
     let ran = world.run(steps).is_ok();
     let refused = memory.refused();
     memory.refuse_nothing();
-    let done = world.trace().len();
+    let done = label_count(&world);
     let whole = !refused || 3 <= k && k < 7;
     same_at(rt, k, (ran, done == STEPS), (whole, whole));
     world
         .run(steps_from(rt, memory, done))
         .expect(rt, "memory for the rest");
-    same_at(rt, k, world.trace().len(), STEPS);
+    same_at(rt, k, label_count(&world), STEPS);
     let plain = text_of_steps::<F>(rt, alloc, memory);
     let is_plain = labels_from(rt, alloc, &world, 0) == plain;
     drop(world);

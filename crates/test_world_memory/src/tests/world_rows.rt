@@ -1,6 +1,6 @@
 //! Worked schedules in which memory for a table cannot be allocated, label by label.
 
-use super::world::{Numbers, begins, labels_from, step_to, world_for};
+use super::world::{Numbers, begins, label_count, labels_from, step_to, world_for};
 use super::{Memory, same};
 use flurry_slots::{ComputeFn, NoFn};
 use flurry_steps::party::OwnedCall;
@@ -63,8 +63,8 @@ fn eleven_keys<F: ComputeFn<u64, u64> + Copy>(rt: &impl Abort, memory: Memory) -
     let mut world = world_for(rt, memory, 8);
     for key in 0..11u64 {
         let party = begins(rt, &mut world, OwnedCall::Insert(key, key));
-        let labels = world.trace().len();
-        step_to(rt, &mut world, party, labels.saturating_add(4));
+        let before = label_count(&world);
+        step_to(rt, &mut world, party, before.saturating_add(4));
     }
     world
 }
