@@ -12,7 +12,7 @@ import textwrap
 HEAD = """\
 # The calls, as Rust writes them
 
-The public calls of the maps, the sets and their views, without contracts. What each takes, when it fails and what stands then is in the
+The public calls of the maps, the sets, their views and the memo tables, without contracts. What each takes, when it fails and what stands then is in the
 comment above it in `src/`; what is proved of it in [CONTRACTS](CONTRACTS.md). `scripts/api.py` writes this page, and the gate compares it.
 """
 # Each type with the crates in whose sources its calls stand.
@@ -24,6 +24,8 @@ TYPES = [
     ("HashSetRef", "Its view", ["flurry_shared_set"]),
     ("SeqMap", "The map of one owner", ["flurry_seq"]),
     ("SeqSet", "The set of one owner", ["flurry_set"]),
+    ("Memo", "Values that are computed once, shared by threads", ["flurry_memo"]),
+    ("MemoCore", "Values that are computed once, with one owner", ["flurry_memo"]),
 ]
 BLOCK = re.compile(r"(?m)^impl\b[^{;]*?\{")
 CALL = re.compile(r"(?m)^    pub fn (\w+)")

@@ -45,6 +45,7 @@ pub use Rattle.flurry_locks.specs.declared.tables.Maker
 pub use Rattle.flurry_map_ref.specs.Driven
 pub use Rattle.flurry_map_ref.specs.Results
 pub use Rattle.flurry_map_ref.specs.Walks
+pub use Rattle.flurry_memo.specs.Memo
 pub use Rattle.flurry_replies.specs.Answers
 pub use Rattle.flurry_shared_set.specs.ElementResults
 -- Words of a call in steps: slots, the control, parties.

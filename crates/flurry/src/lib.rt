@@ -9,9 +9,10 @@
 //! [`seq_set`] and [`set_calls`]. Bins, hashers and sizes of tables are in [`bin`], [`hash`] and [`table`].
 //!
 //! [`recorded`] has a map under one lock that records the calls of its threads. [`par`] has calls that several threads do together, and
-//! [`pairs`] has lists of a map's pairs.
+//! [`pairs`] has lists of a map's pairs. [`memo`] has tables of values that are computed once.
 #![tactic(auto)]
 
+pub mod memo;
 pub mod pairs;
 pub mod par;
 pub mod recorded;
