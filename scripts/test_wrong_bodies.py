@@ -112,8 +112,16 @@ UNMET = """\
   expected 1, found 2
 fn s::one: not proved
 """
+UNMET_IN_BLOCK = """\
+./proofs/map/Map+K+V+Hasher/new/Answers.antt:5:27: error: `returns-clause-seed`: `search`: no proof of `seed`
+fn s::map::Map+K+V+Hasher::new: not proved
+"""
+UNMET_IN_CYCLE = """\
+./proofs/tree/+insert_in/Answers.antt:5:27: error: `returns`: `search`: no proof of `kept`
+fn s::tree::insert_in: not proved
+"""
 # Each of these texts with whether a goal of the function is told, and whether names are missed.
-PRINTED = [(GONE, False, True), (GONE_BELOW, False, True), (UNMET, True, False)]
+PRINTED = [(GONE, False, True), (GONE_BELOW, False, True), (UNMET, True, False), (UNMET_IN_BLOCK, True, False), (UNMET_IN_CYCLE, True, False)]
 
 
 def make_repository(root):
@@ -137,7 +145,7 @@ def main():
         if verdicts.paths_of(function, paths) != wanted:
             faults.append(f"{function} is {verdicts.paths_of(function, paths)}, not {wanted}")
     for printed, has_goal, has_misses in PRINTED:
-        found = verdicts.verdicts_of(printed)["one"]
+        (found,) = verdicts.verdicts_of(printed).values()
         if (bool(found.goal), bool(found.misses)) != (has_goal, has_misses):
             faults.append(f"{printed!r} is read as {found}")
     for fault in faults:

@@ -56,7 +56,8 @@ def verdicts_of(printed):
     for line in lines_of(printed):
         at_proof, at_source, function = AT_PROOF.match(line), AT_SOURCE.match(line), FUNCTION.match(line)
         if at_proof:
-            path = at_proof[1].replace("+", "").replace("/", "::")
+            # the folder of a cycle of calls begins with a sign +; in a block's name, one stands before each of its arguments
+            path = re.sub(r"(^|/)\+", r"\1", at_proof[1]).replace("/", "::")
             (misses if NAMES_ALONE.search(at_proof[2]) else goals).setdefault(path, at_proof[2])
         elif at_source and NOT_COVERED not in line:
             # such lines stand before the line of the function that they are in

@@ -44,6 +44,8 @@ class Crate:
     words: list
     seconds: float = 0.0
     rounds: int = 0
+    # the prover's path of each function, once a check of the whole crate has told them
+    paths: tuple = ()
     is_whole: bool = False
 
 
@@ -190,20 +192,30 @@ def is_sound(batch, found):
     return all(path in turned for path, verdict in found.items() if verdict.goal or verdict.misses)
 
 
-def names_for(batch):
-    """Returns the ends of the paths of the functions that a batch turns, by which the prover checks these and what they call alone."""
-    return sorted({"::".join(part for part in (block or module, name) if part) for edit in batch for module, block, name in edit.functions})
+def names_for(batch, known):
+    """Returns the paths of the functions that a batch turns, by which the prover checks these and what they call alone: the known ones, and
+    else their ends."""
+    return sorted({path for edit in batch for function in edit.functions for path in verdicts.paths_of(function, known) or [end_of(*function)]})
+
+
+def end_of(module, block, name):
+    """Returns the end of a function's path."""
+    return "::".join(part for part in (block or module, name) if part)
 
 
 def checked_by_name(crate, batch, work):
     """Checks the functions that the batch turns and those that they call: the whole crate where an edit stands in none, or a name fits none.
     Where a name fitted another function, what is told of the others counts, and the next check is of the whole crate."""
     if all(edit.functions for edit in batch) and not crate.is_whole:
-        check = checked(crate, batch, work, names_for(batch))
+        check = checked(crate, batch, work, names_for(batch, crate.paths))
         crate.is_whole = check.status == 2 or (check.status in (0, 1) and bool(check.found) and not are_found(batch, check.found))
         if not crate.is_whole or (check.status != 2 and len(batch) > 1):
             return check
-    return checked(crate, batch, work)
+    check = checked(crate, batch, work)
+    if are_found(batch, check.found):
+        # from now on a name is the very path
+        crate.paths, crate.is_whole = tuple(check.found), False
+    return check
 
 
 def are_found(batch, found):
