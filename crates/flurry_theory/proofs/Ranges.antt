@@ -1,11 +1,11 @@
 -- The ranges of a growth.
 use Rattle.std.specs.Prelude.{ℕ, suc, zero, ◌+◌, ◌-◌, ◌%◌, ◌^◌, ◌<◌, ◌≤◌, true, List, Option, Some, None, is_some, ◌≡◌, ◌⊎◌}
 use Rattle.std.specs.declared.cmp.Ordering.{Ordering}
-use Rattle.std.proofs.Common.{arith, refl, sym, ◌∙◌, ap, inl, inr}
+use Rattle.std.proofs.Common.{arith, refl, sym, ◌∙◌, ap, subst, inl, inr}
 use Rattle.std.proofs.lemmas.Bool.{eqb-true, eqb-false, eq-eqb, ne_eqb, cases_order, cases_lt, cases_eq, and_parts, and_from, and_cases, lt-ltb, ltb-true, ltb-false, leb-true, le-leb}
 use Rattle.std.proofs.lemmas.Nat.{mod_below, pow_pos}
 use Rattle.flurry_theory.specs.Bin.{Entry}
-use Rattle.flurry_theory.specs.Machine.{State, Claim, Growth, Transition, MayOpen, Can, does, at_place, Moved, Frame, Begins, Quiet, Counts, Finds, Opens, FindsNothing, IsRefused, DecidesEmpty, Passes, Decides, Places, Claims, Moves, Reports, Publishes, Reads, Leaves, Splits, Wipes, SplitsClear, Replies, Ends}
+use Rattle.flurry_theory.specs.Machine.{State, Slot, Claim, Growth, Transition, MayOpen, Can, does, at_place, Moved, Frame, Begins, Quiet, Counts, Finds, Opens, FindsNothing, IsRefused, DecidesEmpty, Passes, Decides, Places, Claims, Moves, Reports, Publishes, Reads, Leaves, Splits, Wipes, SplitsClear, Replies, Ends}
 use Rattle.flurry_theory.specs.Machine.{total}
 use Rattle.flurry_theory.specs.Invariant.{PartyOk, Tables, size, holds, IsCut}
 use Rattle.flurry_theory.proofs.Bins.{small_mod}
@@ -132,6 +132,16 @@ module _ {K V F : Type 0} (cmp : K → K → Ordering) (hash : K → ℕ) (gives
   opening_limit (Reserve n) e h = h
   opening_limit Clear e h = absurd h
   opening_limit Walk e h = absurd h
+
+  -- the parts of a state that its cut speaks of
+  abbrev cut_parts : State K V F → Option ℕ × Option Growth × (ℕ → ℕ → Slot K V) × ℕ × (ℕ → Option Claim)
+  cut_parts s = (s.published, s.growth, s.slot, s.parties, s.claim)
+
+  -- where these stay, the cut does
+  cut_same : (s z : State K V F) → cut_parts s ≡ cut_parts z → IsCut s → IsCut z
+  cut_same s z same was =
+      let u : IsCut (record s { published = z.published; growth = z.growth; slot = z.slot; parties = z.parties; claim = z.claim }) = subst (λ t. IsCut (record s { published = t.0; growth = t.1; slot = t.2; parties = t.3; claim = t.4 })) same was in
+      record { made = u.made; idle = u.idle; limit = u.limit; growth_limit = u.growth_limit; near = u.near; idle_live = u.idle_live; claims = u.claims; above_unclaimed = u.above_unclaimed; left_live = u.left_live; rest_moved = u.rest_moved; unclaimed_live = u.unclaimed_live; apart = u.apart; cover = u.cover; sum = u.sum }
 
   cut_begins : (home : ℕ → ℕ) (s : State K V F) (p : ℕ) (c : Call K V F) (w : Option ℕ) → Can cmp hash gives s p (Begins c w) → ((q : ℕ) → PartyOk s q) → Tables cmp hash home s → IsCut s → IsCut (does cmp hash gives s p (Begins c w))
   cut_begins home s p c w can o t u = record {
@@ -297,27 +307,27 @@ module _ {K V F : Type 0} (cmp : K → K → Ordering) (hash : K → ℕ) (gives
 
   pub cut_ok : (home : ℕ → ℕ) (s : State K V F) (p : ℕ) (l : Transition K V F) → Can cmp hash gives s p l → ((q : ℕ) → PartyOk s q) → Tables cmp hash home s → IsCut s → IsCut (does cmp hash gives s p l)
   cut_ok home s p (Begins c w) can o t u = cut_begins home s p c w can o t u
-  cut_ok home s p Quiet can o t u = record { made = u.made; idle = u.idle; limit = u.limit; growth_limit = u.growth_limit; near = u.near; idle_live = u.idle_live; claims = u.claims; above_unclaimed = u.above_unclaimed; left_live = u.left_live; rest_moved = u.rest_moved; unclaimed_live = u.unclaimed_live; apart = u.apart; cover = u.cover; sum = u.sum }
-  cut_ok home s p (Counts whose) can o t u = record { made = u.made; idle = u.idle; limit = u.limit; growth_limit = u.growth_limit; near = u.near; idle_live = u.idle_live; claims = u.claims; above_unclaimed = u.above_unclaimed; left_live = u.left_live; rest_moved = u.rest_moved; unclaimed_live = u.unclaimed_live; apart = u.apart; cover = u.cover; sum = u.sum }
-  cut_ok home s p (Finds e) can o t u = record { made = u.made; idle = u.idle; limit = u.limit; growth_limit = u.growth_limit; near = u.near; idle_live = u.idle_live; claims = u.claims; above_unclaimed = u.above_unclaimed; left_live = u.left_live; rest_moved = u.rest_moved; unclaimed_live = u.unclaimed_live; apart = u.apart; cover = u.cover; sum = u.sum }
+  cut_ok home s p Quiet can o t u = cut_same s _ refl u
+  cut_ok home s p (Counts whose) can o t u = cut_same s _ refl u
+  cut_ok home s p (Finds e) can o t u = cut_same s _ refl u
   cut_ok home s p (Opens e) can o t u = cut_opens home s p e can o t u
-  cut_ok home s p FindsNothing can o t u = record { made = u.made; idle = u.idle; limit = u.limit; growth_limit = u.growth_limit; near = u.near; idle_live = u.idle_live; claims = u.claims; above_unclaimed = u.above_unclaimed; left_live = u.left_live; rest_moved = u.rest_moved; unclaimed_live = u.unclaimed_live; apart = u.apart; cover = u.cover; sum = u.sum }
-  cut_ok home s p IsRefused can o t u = record { made = u.made; idle = u.idle; limit = u.limit; growth_limit = u.growth_limit; near = u.near; idle_live = u.idle_live; claims = u.claims; above_unclaimed = u.above_unclaimed; left_live = u.left_live; rest_moved = u.rest_moved; unclaimed_live = u.unclaimed_live; apart = u.apart; cover = u.cover; sum = u.sum }
-  cut_ok home s p (DecidesEmpty c r) can o t u = record { made = u.made; idle = u.idle; limit = u.limit; growth_limit = u.growth_limit; near = u.near; idle_live = u.idle_live; claims = u.claims; above_unclaimed = u.above_unclaimed; left_live = u.left_live; rest_moved = u.rest_moved; unclaimed_live = u.unclaimed_live; apart = u.apart; cover = u.cover; sum = u.sum }
-  cut_ok home s p (Passes e) can o t u = record { made = u.made; idle = u.idle; limit = u.limit; growth_limit = u.growth_limit; near = u.near; idle_live = u.idle_live; claims = u.claims; above_unclaimed = u.above_unclaimed; left_live = u.left_live; rest_moved = u.rest_moved; unclaimed_live = u.unclaimed_live; apart = u.apart; cover = u.cover; sum = u.sum }
+  cut_ok home s p FindsNothing can o t u = cut_same s _ refl u
+  cut_ok home s p IsRefused can o t u = cut_same s _ refl u
+  cut_ok home s p (DecidesEmpty c r) can o t u = cut_same s _ refl u
+  cut_ok home s p (Passes e) can o t u = cut_same s _ refl u
   cut_ok home s p (Decides c k e es n r fs m) can o t u = cut_decides home s p c k e es n r fs m can o t u
   cut_ok home s p (Places e) can o t u = cut_places home s p e can o t u
   cut_ok home s p (Claims e g low) can o t u = cut_claims home s p e g low can o t u
   cut_ok home s p (Moves a i es n) can o t u = cut_moves home s p a i es n can o t u
   cut_ok home s p (Reports a g) can o t u = cut_reports home s p a g can o t u
   cut_ok home s p (Publishes a g) can o t u = cut_publishes home s p a g can o t u
-  cut_ok home s p (Reads e i f fs es n x) can o t u = record { made = u.made; idle = u.idle; limit = u.limit; growth_limit = u.growth_limit; near = u.near; idle_live = u.idle_live; claims = u.claims; above_unclaimed = u.above_unclaimed; left_live = u.left_live; rest_moved = u.rest_moved; unclaimed_live = u.unclaimed_live; apart = u.apart; cover = u.cover; sum = u.sum }
-  cut_ok home s p (Leaves e i f fs es n) can o t u = record { made = u.made; idle = u.idle; limit = u.limit; growth_limit = u.growth_limit; near = u.near; idle_live = u.idle_live; claims = u.claims; above_unclaimed = u.above_unclaimed; left_live = u.left_live; rest_moved = u.rest_moved; unclaimed_live = u.unclaimed_live; apart = u.apart; cover = u.cover; sum = u.sum }
-  cut_ok home s p (Splits e i f fs) can o t u = record { made = u.made; idle = u.idle; limit = u.limit; growth_limit = u.growth_limit; near = u.near; idle_live = u.idle_live; claims = u.claims; above_unclaimed = u.above_unclaimed; left_live = u.left_live; rest_moved = u.rest_moved; unclaimed_live = u.unclaimed_live; apart = u.apart; cover = u.cover; sum = u.sum }
+  cut_ok home s p (Reads e i f fs es n x) can o t u = cut_same s _ refl u
+  cut_ok home s p (Leaves e i f fs es n) can o t u = cut_same s _ refl u
+  cut_ok home s p (Splits e i f fs) can o t u = cut_same s _ refl u
   cut_ok home s p (Wipes wiped e i f fs es n) can o t u = cut_wipes home s p wiped e i f fs es n can o t u
-  cut_ok home s p (SplitsClear wiped e i f fs) can o t u = record { made = u.made; idle = u.idle; limit = u.limit; growth_limit = u.growth_limit; near = u.near; idle_live = u.idle_live; claims = u.claims; above_unclaimed = u.above_unclaimed; left_live = u.left_live; rest_moved = u.rest_moved; unclaimed_live = u.unclaimed_live; apart = u.apart; cover = u.cover; sum = u.sum }
-  cut_ok home s p (Replies r) can o t u = record { made = u.made; idle = u.idle; limit = u.limit; growth_limit = u.growth_limit; near = u.near; idle_live = u.idle_live; claims = u.claims; above_unclaimed = u.above_unclaimed; left_live = u.left_live; rest_moved = u.rest_moved; unclaimed_live = u.unclaimed_live; apart = u.apart; cover = u.cover; sum = u.sum }
-  cut_ok home s p Ends can o t u = record { made = u.made; idle = u.idle; limit = u.limit; growth_limit = u.growth_limit; near = u.near; idle_live = u.idle_live; claims = u.claims; above_unclaimed = u.above_unclaimed; left_live = u.left_live; rest_moved = u.rest_moved; unclaimed_live = u.unclaimed_live; apart = u.apart; cover = u.cover; sum = u.sum }
+  cut_ok home s p (SplitsClear wiped e i f fs) can o t u = cut_same s _ refl u
+  cut_ok home s p (Replies r) can o t u = cut_same s _ refl u
+  cut_ok home s p Ends can o t u = cut_same s _ refl u
 
   -- no table has an exponent above the greatest
   pub home_limit : (home : ℕ → ℕ) (s : State K V F) (h : ℕ) → Tables cmp hash home s → IsCut s → is_some s.published ≡ true → home h ≤ GREATEST_TABLE
