@@ -8,7 +8,6 @@ use Rattle.std.proofs.Common.{arith, refl, sym, ◌∙◌, ap, subst, inr}
 use Rattle.std.proofs.lemmas.Int.{ints}
 use Rattle.std.proofs.lemmas.List.{set-get_or}
 use Rattle.std.proofs.lemmas.Option.{slice_get_within, get_or_from_slice_get}
-use Rattle.flurry_model.specs.declared.call.Call.{Call}
 use Rattle.flurry_model.specs.declared.call.Call.TheVariants as call
 use Rattle.flurry_slots.specs.Slot as slots
 use Rattle.flurry_slots.specs.Slot.{SlotState, IsLive, HasMoved, IsUnborn, after_wipe}
@@ -21,7 +20,7 @@ use Rattle.flurry_theory.specs.Bin.{Entry}
 use Rattle.flurry_theory.specs.Map.{same}
 use Rattle.flurry_theory.specs.Trace.{is_lookup, pairs}
 use Rattle.flurry_theory.specs.Machine as machine
-use Rattle.flurry_theory.specs.Machine.{State, Frame, Transition, Can, effect, goes, found_by, onward, Mode, Clearing, Done, Live, at_bin, at_place, total as sum, owes_added, owes_removed, WasPublished, Begins, Counts, Finds, FindsNothing, Wipes as WipesBin, SplitsClear}
+use Rattle.flurry_theory.specs.Machine.{State, Frame, Transition, Can, effect, goes, found_by, onward, Mode, Clearing, Done, Live, at_bin, at_place, total as sum, owes_added, owes_removed, WasPublished, Counts, Finds, FindsNothing, Wipes as WipesBin, SplitsClear}
 use Rattle.flurry_theory.specs.Invariant.{Inv, NamesBorn}
 use Rattle.flurry_theory.proofs.Ranges.{place_here, place_other, total-change}
 use Rattle.flurry_theory.proofs.Step.{inv_step}
@@ -32,6 +31,7 @@ use Rattle.flurry_world.specs.World.{PartyRecord, WorldState, state_of, mode_of_
 use Rattle.flurry_world.proofs.EntryLaws.{length-entries_of_held}
 use Rattle.flurry_world.proofs.PlaceLaws.{same_live}
 use Rattle.flurry_world.proofs.Frames.{same_frame, StepOf, step_of, in_range}
+use Rattle.flurry_world.proofs.StateLaws.{is_step}
 use Rattle.flurry_world.proofs.TransitionLaws.{is_goes, is_counted, is_wiped}
 use Rattle.flurry_world.proofs.SlotCases.{Put}
 use Rattle.flurry_world.proofs.SweepModes.{halved_frames, cleared, owes_onward, cleared_hashed, frame_is_born}
@@ -114,24 +114,24 @@ module _ {K V F S : Type 0} (cmp : K → K → Ordering) (total : IsTotalOrder c
     follows_then h = subst (FollowsStage hash x.call) (sym g) (subst (λ z. FollowsErrand x.call z u'.last) (sym errand) (is_clear.0, last ∙ is_clear.1), subst (λ z. FollowsSweep hash z u'.errand) (sym at_stage) (subst (FollowsSweep hash s') (sym errand) h))
 
     -- a step after which the machine's clear alone stands elsewhere
-    goes_on : (transition : Transition K V F) (m : Mode K V) → effect cmp hash gives (state_of w) p transition ≡ goes cmp hash gives (state_of w) p m → label.Silent p ≡ machine.label cmp hash gives p transition → ((d : Call K V F) (f : Option ℕ) → transition ≡ Begins d f → ⊥)
+    goes_on : (transition : Transition K V F) (m : Mode K V) → effect cmp hash gives (state_of w) p transition ≡ goes cmp hash gives (state_of w) p m → label.Silent p ≡ machine.label cmp hash gives p transition → is_step transition ≡ true
         → Can cmp hash gives (state_of w) p transition → mode_of_sweep s' (Wipes n') ≡ m → FollowsSweep hash s' (Wipes n') → StepOf cmp hash gives w p x w.control_state w.tables c (label.Silent p)
-    goes_on transition m is named other can mode follows = step_of cmp hash gives w p x w.control_state w.tables c (label.Silent p) at hashed unread (record {
+    goes_on transition m is named own can mode follows = step_of cmp hash gives w p x w.control_state w.tables c (label.Silent p) at hashed unread (record {
       transition = transition;
       can = can;
-      is = is_goes cmp hash gives w p x at c (label.Silent p) transition m is named other refl (mode_then ∙ mode) unclaimed;
+      is = is_goes cmp hash gives w p x at c (label.Silent p) transition m is named own refl (mode_then ∙ mode) unclaimed;
       follows = follows_then follows;
       frame = same_frame cmp hash gives w k;
     })
 
   -- it begins at a table that was published
   pub goes_to_table : u.stage ≡ AtOutset → u'.errand ≡ Wipes n → (a : ℕ) → WasPublished cmp hash gives (state_of w) a → u'.stage ≡ OverBins (at_base a 0) → StepOf cmp hash gives w p x w.control_state w.tables c (label.Silent p)
-  goes_to_table f errand a was h = goes_on n errand (OverBins (at_base a 0)) h (Finds a) _ refl refl (λ d o y. cc) (call.Clear, called, stands AtOutset f, was)
+  goes_to_table f errand a was h = goes_on n errand (OverBins (at_base a 0)) h (Finds a) _ refl refl refl (call.Clear, called, stands AtOutset f, was)
       (ap (λ m. Clearing m a 0 (frames_of (at_base a 0))) (subst (FollowsSweep {V = V} hash AtOutset) wipes (subst (λ z. FollowsSweep hash z u.errand) f own.1)) ∙ ap (λ o. found_by cmp hash gives o a) (sym called)) (tt, tt)
 
   -- where there is no table it has ended
   pub finds_nothing : u.stage ≡ AtOutset → u'.errand ≡ Wipes n → w.control_state.published ≡ None → u'.stage ≡ AtEnd OutcomeEnded → StepOf cmp hash gives w p x w.control_state w.tables c (label.Silent p)
-  finds_nothing f errand bare h = goes_on n errand (AtEnd OutcomeEnded) h FindsNothing (Done None 0 0) refl refl (λ d o y. cc) (call.Clear, called, stands AtOutset f, bare, inr tt) refl tt
+  finds_nothing f errand bare h = goes_on n errand (AtEnd OutcomeEnded) h FindsNothing (Done None 0 0) refl refl refl (call.Clear, called, stands AtOutset f, bare, inr tt) refl tt
 
   -- it follows a bin that has moved
   module _ (f : CursorState K) (over : u.stage ≡ OverBins f) where
@@ -139,7 +139,7 @@ module _ {K V F S : Type 0} (cmp : K → K → Ordering) (total : IsTotalOrder c
     bounds = subst (λ z. FollowsSweep hash z u.errand) over own.1
 
     pub follows_moved : u'.errand ≡ Wipes n → content_at w.tables f.top.table f.top.index ≡ HasMoved → u'.stage ≡ OverBins (after_split f) → StepOf cmp hash gives w p x w.control_state w.tables c (label.Silent p)
-    follows_moved errand moved h = goes_on n errand (OverBins (after_split f)) h (SplitsClear n f.base f.index (frame_of f.top) (map frame_of f.below)) _ refl refl (λ d o y. cc) (stands (OverBins f) over, ap slot_of moved) (ap (Clearing n f.base f.index) (halved_frames f)) (bounds.0, (bounds.0, bounds.1))
+    follows_moved errand moved h = goes_on n errand (OverBins (after_split f)) h (SplitsClear n f.base f.index (frame_of f.top) (map frame_of f.below)) _ refl refl refl (stands (OverBins f) over, ap slot_of moved) (ap (Clearing n f.base f.index) (halved_frames f)) (bounds.0, (bounds.0, bounds.1))
 
     -- it meets no bin that is not there yet
     pub no_unborn : content_at w.tables f.top.table f.top.index ≡ IsUnborn → ⊥

@@ -7,7 +7,7 @@ use Rattle.std.proofs.lemmas.Bool.{eq-eqb, ne_eqb, cases_eq, cond-true, cond-fal
 use Rattle.flurry_theory.specs.Map.{same}
 use Rattle.flurry_theory.specs.Trace.{decision, has_replied, has_closed, is_lookup}
 use Rattle.flurry_theory.specs.Legal.{IsWalk, IsClear}
-use Rattle.flurry_theory.specs.Machine.{State, Transition, Can, does, steps_after, at_place, found_by, Mode, Locating, Looking, Walking, Clearing, Done, Finished, Begins, Quiet, Counts, Finds, Opens, FindsNothing, IsRefused, DecidesEmpty, Passes, Decides, Places, Claims, Moves, Reports, Publishes, Reads, Leaves, Splits, Wipes, SplitsClear, Replies, Ends}
+use Rattle.flurry_theory.specs.Machine.{State, Transition, Can, does, steps_after, at_place, found_by, Mode, Locating, Looking, Walking, Clearing, Done, Finished, Begins, Quiet, Loses, Counts, Finds, Opens, FindsNothing, IsRefused, DecidesEmpty, Passes, Decides, Places, Claims, Moves, Reports, Publishes, PublishesTold, Reads, Leaves, Splits, Wipes, SplitsClear, Replies, Ends}
 use Rattle.flurry_theory.specs.Invariant.{PartyOk, Tables, IsCut, NamesBorn, key_in, one_key, Waits, LooksUp}
 use Rattle.flurry_theory.proofs.Refusals.{refused_at_work}
 use Rattle.flurry_theory.proofs.Ranges.{home_limit, place_here, place_other}
@@ -68,6 +68,7 @@ module _ {K V F : Type 0} (cmp : K → K → Ordering) (total : IsTotalOrder cmp
   unfolding next_mode next_call
   own_waits s p (Begins c y) can o w = λ h. (λ m. refl, λ d m. absurd (grind (arith, m)), λ a b m. grind (arith, m))
   own_waits s p Quiet can o w = λ h. (λ m. absurd (grind (arith, m, can h)), λ d m. absurd (grind (arith, m, can h)), λ a b m. grind (arith, m, can h))
+  own_waits s p Loses can o w = w
   own_waits s p (Counts whose) can o w = λ h. absurd (grind (arith, h, can))
   own_waits s p (Finds e) can o w = λ h. (λ m. absurd (grind (arith, m, (lookup_key (s.call p) h).2 e)), λ d m. omega (arith, (w h).0 can.2, raised (s.call p) (s.steps p) h), λ a b m. grind (arith, m, (lookup_key (s.call p) h).2 e))
   own_waits s p (Opens e) can o w = λ h. (λ m. absurd (grind (arith, m, (lookup_key (s.call p) h).2 e)), λ d m. omega (arith, (w h).0 can.2, raised (s.call p) (s.steps p) h), λ a b m. grind (arith, m, (lookup_key (s.call p) h).2 e))
@@ -79,8 +80,9 @@ module _ {K V F : Type 0} (cmp : K → K → Ordering) (total : IsTotalOrder cmp
   own_waits s p (Places e) can o w = λ h. absurd (grind (arith, h, can.3))
   own_waits s p (Claims e gr low) can o w = λ h. absurd (grind (arith, h, can.5))
   own_waits s p (Moves a i es n) can o w = λ h. absurd (grind (arith, h, can.4))
-  own_waits s p (Reports a gr) can o w = λ h. absurd (grind (arith, h, can.4))
+  own_waits s p (Reports a gr) can o w = λ h. absurd (grind (arith, h, can.3))
   own_waits s p (Publishes a gr) can o w = λ h. absurd (grind (arith, h, can.4))
+  own_waits s p (PublishesTold e gr) can o w = λ h. absurd (grind (arith, h, can.3))
   own_waits s p (Reads e i f fs es n x) can o w = λ h. absurd (grind (arith, h, o.walking e i (f ∷ fs) can.0))
   own_waits s p (Leaves e i f fs es n) can o w = λ h. absurd (grind (arith, h, o.walking e i (f ∷ fs) can.0))
   own_waits s p (Splits e i f fs) can o w = λ h. absurd (grind (arith, h, o.walking e i (f ∷ fs) can.0))
@@ -109,6 +111,7 @@ module _ {K V F : Type 0} (cmp : K → K → Ordering) (total : IsTotalOrder cmp
   one_step : (s : State K V F) (p : ℕ) (l : Transition K V F) → steps_after cmp hash gives s p l ≤ suc (s.steps p)
   one_step s p (Begins c y) = omega arith
   one_step s p Quiet = by_call (s.call p) (s.steps p)
+  one_step s p Loses = omega arith
   one_step s p (Counts whose) = by_call (s.call p) (s.steps p)
   one_step s p (Finds e) = by_call (s.call p) (s.steps p)
   one_step s p (Opens e) = by_call (s.call p) (s.steps p)
@@ -122,6 +125,7 @@ module _ {K V F : Type 0} (cmp : K → K → Ordering) (total : IsTotalOrder cmp
   one_step s p (Moves a i es n) = by_call (s.call p) (s.steps p)
   one_step s p (Reports a gr) = by_call (s.call p) (s.steps p)
   one_step s p (Publishes a gr) = by_call (s.call p) (s.steps p)
+  one_step s p (PublishesTold e gr) = by_call (s.call p) (s.steps p)
   one_step s p (Reads e i f fs es n x) = by_call (s.call p) (s.steps p)
   one_step s p (Leaves e i f fs es n) = by_call (s.call p) (s.steps p)
   one_step s p (Splits e i f fs) = by_call (s.call p) (s.steps p)
@@ -158,13 +162,14 @@ module _ {K V F : Type 0} (cmp : K → K → Ordering) (total : IsTotalOrder cmp
       go (Done (Some r) x y) e = absurd (grind (arith, d, o.decided r x y e))
       go Finished e = absurd (over (o.finished e (lookup_begun (s.call p) h)))
 
-  next_reply : (s : State K V F) (p : ℕ) → PartyOk s p → is_lookup (s.call p) ≡ true → (r : KeptReply K V) → decision s.trace p ≡ Some r → has_replied s.trace p ≡ false → (l : Transition K V F) → Can cmp hash gives s p l → l ≡ Replies r
+  next_reply : (s : State K V F) (p : ℕ) → PartyOk s p → is_lookup (s.call p) ≡ true → (r : KeptReply K V) → decision s.trace p ≡ Some r → has_replied s.trace p ≡ false → (l : Transition K V F) → Can cmp hash gives s p l → (l ≡ Replies r) ⊎ (l ≡ Loses)
   next_reply s p o h r d rp (Begins c y) can = absurd (grind (arith, h, (o.unknown (omega (arith, can.0))).0))
   next_reply s p o h r d rp Quiet can = absurd (over (o.finished (can h) (lookup_begun (s.call p) h)))
     where
       over : (has_replied s.trace p ≡ true) ⊎ (has_closed s.trace p ≡ true) → ⊥
       over (inl q) = grind (arith, rp, q)
       over (inr q) = grind (arith, d, o.refused q (lookup_one_key (s.call p) h))
+  next_reply s p o h r d rp Loses can = inr refl
   next_reply s p o h r d rp (Counts whose) can = absurd (grind (arith, h, can))
   next_reply s p o h r d rp (Finds e) can = absurd (grind (arith, d, o.undecided (λ _ _ _ z. grind (arith, z, can.2)) (λ z. grind (arith, z, can.2))))
   next_reply s p o h r d rp (Opens e) can = absurd (grind (arith, d, o.undecided (λ _ _ _ z. grind (arith, z, can.2)) (λ z. grind (arith, z, can.2))))
@@ -176,14 +181,15 @@ module _ {K V F : Type 0} (cmp : K → K → Ordering) (total : IsTotalOrder cmp
   next_reply s p o h r d rp (Places e) can = absurd (grind (arith, h, can.3))
   next_reply s p o h r d rp (Claims e gr low) can = absurd (grind (arith, h, can.5))
   next_reply s p o h r d rp (Moves a i es n) can = absurd (grind (arith, h, can.4))
-  next_reply s p o h r d rp (Reports a gr) can = absurd (grind (arith, h, can.4))
+  next_reply s p o h r d rp (Reports a gr) can = absurd (grind (arith, h, can.3))
   next_reply s p o h r d rp (Publishes a gr) can = absurd (grind (arith, h, can.4))
+  next_reply s p o h r d rp (PublishesTold e gr) can = absurd (grind (arith, h, can.3))
   next_reply s p o h r d rp (Reads e i f fs es n x) can = absurd (grind (arith, h, o.walking e i (f ∷ fs) can.0))
   next_reply s p o h r d rp (Leaves e i f fs es n) can = absurd (grind (arith, h, o.walking e i (f ∷ fs) can.0))
   next_reply s p o h r d rp (Splits e i f fs) can = absurd (grind (arith, h, o.walking e i (f ∷ fs) can.0))
   next_reply s p o h r d rp (Wipes wiped e i f fs es n) can = absurd (grind (arith, h, o.clearing wiped e i (f ∷ fs) can.0))
   next_reply s p o h r d rp (SplitsClear wiped e i f fs) can = absurd (grind (arith, h, o.clearing wiped e i (f ∷ fs) can.0))
-  next_reply s p o h r d rp (Replies q) can = ap Replies (same_some (sym (o.decided q 0 0 can.3) ∙ d))
+  next_reply s p o h r d rp (Replies q) can = inl (ap Replies (same_some (sym (o.decided q 0 0 can.3) ∙ d)))
   next_reply s p o h r d rp Ends can = absurd (grind (arith, can.2, lookup_one_key (Some can.0) (subst (λ c. is_lookup c ≡ true) can.1 h)))
 
   pub looks_up : (home : ℕ → ℕ) (s : State K V F) (p : ℕ) → PartyOk s p → Tables cmp hash home s → IsCut s → NamesBorn hash (is_some s.published) home s.start (s.call p) (s.mode p) → Waits (s.call p) (s.mode p) (s.steps p) → LooksUp cmp hash gives s p

@@ -6,7 +6,7 @@ use Rattle.std.proofs.Common.{arith, refl, sym}
 use Rattle.std.proofs.lemmas.Bool.{eqb-true, ne_eqb}
 use Rattle.flurry_theory.specs.Map.{same}
 use Rattle.flurry_theory.specs.Trace.{names}
-use Rattle.flurry_theory.specs.Machine.{State, Transition, effect, label, found_by, onward, halves, mode_after_count, Mode, Locating, Looking, Walking, Clearing, Done, Finished, Begins, Quiet, Counts, Finds, Opens, FindsNothing, IsRefused, DecidesEmpty, Passes, Decides, Places, Claims, Moves, Reports, Publishes, Reads, Leaves, Splits, Wipes, SplitsClear, Replies, Ends}
+use Rattle.flurry_theory.specs.Machine.{State, Transition, effect, label, found_by, onward, halves, mode_after_count, Mode, Locating, Looking, Walking, Clearing, Done, Finished, Begins, Quiet, Loses, Counts, Finds, Opens, FindsNothing, IsRefused, DecidesEmpty, Passes, Decides, Places, Claims, Moves, Reports, Publishes, PublishesTold, Reads, Leaves, Splits, Wipes, SplitsClear, Replies, Ends}
 use Rattle.flurry_model.specs.declared.call.Call.{Call}
 
 -- what a settled mode keeps, a mode keeps that may have been settled
@@ -19,6 +19,7 @@ module _ {K V F : Type 0} (cmp : K → K → Ordering) (total : IsTotalOrder cmp
   unfoldable pub next_mode : State K V F → ℕ → Transition K V F → Mode K V
   next_mode s p (Begins c w) = Locating
   next_mode s p Quiet = s.mode p
+  next_mode s p Loses = s.mode p
   next_mode s p (Counts whose) = cond (whose p) (mode_after_count (s.mode p)) (s.mode p)
   next_mode s p (Finds e) = found_by cmp hash gives (s.call p) e
   next_mode s p (Opens e) = found_by cmp hash gives (s.call p) e
@@ -32,6 +33,7 @@ module _ {K V F : Type 0} (cmp : K → K → Ordering) (total : IsTotalOrder cmp
   next_mode s p (Moves a i es n) = s.mode p
   next_mode s p (Reports a g) = s.mode p
   next_mode s p (Publishes a g) = s.mode p
+  next_mode s p (PublishesTold e g) = s.mode p
   next_mode s p (Reads e i f fs es n x) = Walking e i (record { table = f.table; index = f.index; bound = Some x.key } ∷ fs)
   next_mode s p (Leaves e i f fs es n) = onward Walking (Done None 0 0) e i fs
   next_mode s p (Splits e i f fs) = Walking e i (halves f fs)
@@ -51,6 +53,7 @@ module _ {K V F : Type 0} (cmp : K → K → Ordering) (total : IsTotalOrder cmp
   other_keeps P h (Counts whose) q m g = if_settled P h (whose q) m g
   other_keeps P h (Begins c w) q o y = y
   other_keeps P h Quiet q o y = y
+  other_keeps P h Loses q o y = y
   other_keeps P h (Finds e) q o y = y
   other_keeps P h (Opens e) q o y = y
   other_keeps P h FindsNothing q o y = y
@@ -63,6 +66,7 @@ module _ {K V F : Type 0} (cmp : K → K → Ordering) (total : IsTotalOrder cmp
   other_keeps P h (Moves a i es n) q o y = y
   other_keeps P h (Reports a g) q o y = y
   other_keeps P h (Publishes a g) q o y = y
+  other_keeps P h (PublishesTold e g) q o y = y
   other_keeps P h (Reads e i f fs es n x) q o y = y
   other_keeps P h (Leaves e i f fs es n) q o y = y
   other_keeps P h (Splits e i f fs) q o y = y
@@ -82,6 +86,7 @@ module _ {K V F : Type 0} (cmp : K → K → Ordering) (total : IsTotalOrder cmp
   unfolding next_mode other_mode
   mode_after s p q (Begins c w) = refl
   mode_after s p q Quiet = at_own s.mode p q
+  mode_after s p q Loses = at_own s.mode p q
   mode_after s p q (Counts whose) = at_own (λ q. cond (whose q) (mode_after_count (s.mode q)) (s.mode q)) p q
   mode_after s p q (Finds e) = refl
   mode_after s p q (Opens e) = refl
@@ -95,6 +100,7 @@ module _ {K V F : Type 0} (cmp : K → K → Ordering) (total : IsTotalOrder cmp
   mode_after s p q (Moves a i es n) = at_own s.mode p q
   mode_after s p q (Reports a g) = at_own s.mode p q
   mode_after s p q (Publishes a g) = at_own s.mode p q
+  mode_after s p q (PublishesTold e g) = at_own s.mode p q
   mode_after s p q (Reads e i f fs es n x) = refl
   mode_after s p q (Leaves e i f fs es n) = refl
   mode_after s p q (Splits e i f fs) = refl
@@ -107,6 +113,7 @@ module _ {K V F : Type 0} (cmp : K → K → Ordering) (total : IsTotalOrder cmp
   unfolding next_call
   call_after s p q (Begins c w) = refl
   call_after s p q Quiet = at_own s.call p q
+  call_after s p q Loses = at_own s.call p q
   call_after s p q (Counts whose) = at_own s.call p q
   call_after s p q (Finds e) = at_own s.call p q
   call_after s p q (Opens e) = at_own s.call p q
@@ -120,6 +127,7 @@ module _ {K V F : Type 0} (cmp : K → K → Ordering) (total : IsTotalOrder cmp
   call_after s p q (Moves a i es n) = at_own s.call p q
   call_after s p q (Reports a g) = at_own s.call p q
   call_after s p q (Publishes a g) = at_own s.call p q
+  call_after s p q (PublishesTold e g) = at_own s.call p q
   call_after s p q (Reads e i f fs es n x) = at_own s.call p q
   call_after s p q (Leaves e i f fs es n) = at_own s.call p q
   call_after s p q (Splits e i f fs) = at_own s.call p q
@@ -131,6 +139,7 @@ module _ {K V F : Type 0} (cmp : K → K → Ordering) (total : IsTotalOrder cmp
   pub names_own : (p q : ℕ) (l : Transition K V F) → (q ≡ p → ⊥) → names q (label cmp hash gives p l) ≡ false
   names_own p q (Begins c w) ne = ne_eqb p q (λ h. ne (sym h))
   names_own p q Quiet ne = ne_eqb p q (λ h. ne (sym h))
+  names_own p q Loses ne = ne_eqb p q (λ h. ne (sym h))
   names_own p q (Counts whose) ne = ne_eqb p q (λ h. ne (sym h))
   names_own p q (Finds e) ne = ne_eqb p q (λ h. ne (sym h))
   names_own p q (Opens e) ne = refl
@@ -144,6 +153,7 @@ module _ {K V F : Type 0} (cmp : K → K → Ordering) (total : IsTotalOrder cmp
   names_own p q (Moves a i es n) ne = refl
   names_own p q (Reports a g) ne = ne_eqb p q (λ h. ne (sym h))
   names_own p q (Publishes a g) ne = refl
+  names_own p q (PublishesTold e g) ne = refl
   names_own p q (Reads e i f fs es n x) ne = ne_eqb p q (λ h. ne (sym h))
   names_own p q (Leaves e i f fs es n) ne = ne_eqb p q (λ h. ne (sym h))
   names_own p q (Splits e i f fs) ne = ne_eqb p q (λ h. ne (sym h))

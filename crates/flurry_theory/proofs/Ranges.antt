@@ -1,11 +1,11 @@
 -- The ranges of a growth.
-use Rattle.std.specs.Prelude.{ℕ, suc, zero, ◌+◌, ◌-◌, ◌%◌, ◌^◌, ◌<◌, ◌≤◌, true, List, Option, Some, None, is_some, ◌≡◌, ◌⊎◌}
+use Rattle.std.specs.Prelude.{ℕ, suc, zero, ◌+◌, ◌-◌, ◌%◌, ◌^◌, ◌<◌, ◌≤◌, Bool, true, false, cond, List, Option, Some, None, is_some, ◌≡◌, ◌⊎◌}
 use Rattle.std.specs.declared.cmp.Ordering.{Ordering}
 use Rattle.std.proofs.Common.{arith, refl, sym, ◌∙◌, ap, subst, inl, inr}
 use Rattle.std.proofs.lemmas.Bool.{eqb-true, eqb-false, eq-eqb, ne_eqb, cases_order, cases_lt, cases_eq, and_parts, and_from, and_cases, lt-ltb, ltb-true, ltb-false, leb-true, le-leb}
 use Rattle.std.proofs.lemmas.Nat.{mod_below, pow_pos}
 use Rattle.flurry_theory.specs.Bin.{Entry}
-use Rattle.flurry_theory.specs.Machine.{State, Slot, Claim, Growth, Transition, MayOpen, Can, does, at_place, Moved, Frame, Begins, Quiet, Counts, Finds, Opens, FindsNothing, IsRefused, DecidesEmpty, Passes, Decides, Places, Claims, Moves, Reports, Publishes, Reads, Leaves, Splits, Wipes, SplitsClear, Replies, Ends}
+use Rattle.flurry_theory.specs.Machine.{State, Slot, Claim, Growth, is_complete, with_report, Transition, MayOpen, Can, does, at_place, Moved, Frame, Begins, Quiet, Loses, Counts, Finds, Opens, FindsNothing, IsRefused, DecidesEmpty, Passes, Decides, Places, Claims, Moves, Reports, Publishes, PublishesTold, Reads, Leaves, Splits, Wipes, SplitsClear, Replies, Ends}
 use Rattle.flurry_theory.specs.Machine.{total}
 use Rattle.flurry_theory.specs.Invariant.{PartyOk, Tables, size, holds, IsCut}
 use Rattle.flurry_theory.proofs.Bins.{small_mod}
@@ -19,6 +19,14 @@ place_here f p x = grind (arith, eq-eqb p p refl)
 
 pub place_other : {X : Type 0} (f : ℕ → X) (p q : ℕ) (x : X) → (q ≡ p → ⊥) → at_place f p x q ≡ f q
 place_other f p q x ne = grind (arith, eqb-true p q, ne)
+
+-- where a place is emptied, what is left stands elsewhere
+taken_out : {X : Type 0} (f : ℕ → Option X) (p q : ℕ) (x : X) → at_place f p None q ≡ Some x → (q ≡ p → ⊥) × (f q ≡ Some x)
+taken_out f p q x h = go (cases_eq q p)
+  where
+    go : (q ≡ p) ⊎ (q ≡ p → ⊥) → (q ≡ p → ⊥) × (f q ≡ Some x)
+    go (inl e) = absurd (grind (arith, h, e, place_here f p None))
+    go (inr ne) = (ne, sym (place_other f p q None ne) ∙ h)
 
 pub total-same : (f g : ℕ → ℕ) (n : ℕ) → ((q : ℕ) → q < n → f q ≡ g q) → total f n ≡ total g n
 total-same f g zero h = refl
@@ -65,7 +73,7 @@ module _ {K V F : Type 0} (cmp : K → K → Ordering) (hash : K → ℕ) (gives
       go (inr m) (inr (inl w)) = inr (inr (p, rw (place_here s.claim p (Some (record { table = e; low = low; left = g.unclaimed; high = g.unclaimed }))) (and_from _ _ (le-leb _ _ m) (lt-ltb _ _ w))))
       go (inr m) (inr (inr w)) = inr (inr (w.0, grind (arith, w.1, can.0, eqb-true)))
 
-  reports_cover : (s : State K V F) (p : ℕ) (a : Claim) (g : Growth) → Can cmp hash gives s p (Reports a g) → IsCut s → (d j : ℕ) → s.published ≡ Some d → j < 2 ^ d → (z : Growth) → Some (record { unclaimed = g.unclaimed; reported = g.reported + (a.high - a.low) }) ≡ Some z
+  reports_cover : (s : State K V F) (p : ℕ) (a : Claim) (g : Growth) → Can cmp hash gives s p (Reports a g) → IsCut s → (d j : ℕ) → s.published ≡ Some d → j < 2 ^ d → (z : Growth) → Some (with_report g a) ≡ Some z
       → (s.slot d j ≡ Moved) ⊎ ((j < z.unclaimed) ⊎ ((q : ℕ) × (holds ((does cmp hash gives s p (Reports a g)).claim q) j ≡ true)))
   reports_cover s p a g can u d j h l z y = go (u.cover d j g h can.2 l)
     where
@@ -119,6 +127,57 @@ module _ {K V F : Type 0} (cmp : K → K → Ordering) (hash : K → ℕ) (gives
       go (inl e) = rw e (place_here s.claim p None)
       go (inr ne) = place_other s.claim p q None ne ∙ no_other s p a g can o u q ne
 
+  -- where a party is told to publish, no bin is unclaimed, and none is claimed
+  told_counts : (s : State K V F) (p e : ℕ) (g : Growth) → s.told p ≡ Some e → s.growth ≡ Some g → IsCut s → (g.unclaimed ≡ 0) × (total (λ q. size (s.claim q)) s.parties ≡ 0)
+  told_counts s p e g h y u =
+      let w : (s.published ≡ Some e) × (z : Growth) × (s.growth ≡ Some z) × (z.reported ≡ 2 ^ e) = u.told p e h in
+      let r : g.reported ≡ 2 ^ e = grind (arith, w.2, w.3, y) in
+      (omega (arith, u.sum e g w.0 y, r), omega (arith, u.sum e g w.0 y, r))
+
+  -- so nobody is told while a claim is held
+  none_told : (s : State K V F) (p : ℕ) (a : Claim) → PartyOk s p → s.claim p ≡ Some a → IsCut s → (q e : ℕ) → s.told q ≡ Some e → ⊥
+  none_told s p a o h u q e t =
+      let w : (s.published ≡ Some e) × (z : Growth) × (s.growth ≡ Some z) × (z.reported ≡ 2 ^ e) = u.told q e t in
+      let z : size (s.claim p) ≤ total (λ r. size (s.claim r)) s.parties = part-total (λ r. size (s.claim r)) p s.parties (claims_known s p a o h) in
+      let y : size (s.claim p) ≡ a.high - a.low = ap size h in
+      omega (arith, z, y, (u.claims p a h).1, (told_counts s q e w.1 t w.2 u).1)
+
+  -- and no claim is held while a party is told
+  no_claim : (s : State K V F) (p e : ℕ) → s.told p ≡ Some e → ((q : ℕ) → PartyOk s q) → IsCut s → (q : ℕ) → s.claim q ≡ None
+  no_claim s p e h o u q = go (s.claim q) refl
+    where
+      go : (b : Option Claim) → s.claim q ≡ b → s.claim q ≡ None
+      go None x = x
+      go (Some a) x = absurd (none_told s q a (o q) x u p e h)
+
+  -- the party that is told finds every bin moved
+  pub told_moved : (s : State K V F) (p e : ℕ) (g : Growth) → Can cmp hash gives s p (PublishesTold e g) → ((q : ℕ) → PartyOk s q) → IsCut s → (i : ℕ) → i < 2 ^ e → s.slot e i ≡ Moved
+  told_moved s p e g can o u i l = go (u.cover e i g can.1 can.2 l)
+    where
+      go : (s.slot e i ≡ Moved) ⊎ ((i < g.unclaimed) ⊎ ((q : ℕ) × (holds (s.claim q) i ≡ true))) → s.slot e i ≡ Moved
+      go (inl w) = w
+      go (inr (inl w)) = absurd (omega (arith, w, (told_counts s p e g can.0 can.2 u).0))
+      go (inr (inr w)) = absurd (grind (arith, w.1, no_claim s p e can.0 o u w.0))
+
+  -- a report tells its own party alone, and only if it is the last
+  told_by_report : (s : State K V F) (p : ℕ) (a : Claim) (g : Growth) → Can cmp hash gives s p (Reports a g) → PartyOk s p → IsCut s → (q d : ℕ) → (does cmp hash gives s p (Reports a g)).told q ≡ Some d → (q ≡ p) × (d ≡ a.table) × (is_complete a.table (with_report g a) ≡ true)
+  told_by_report s p a g can o u q d h = go (is_complete a.table (with_report g a)) refl h
+    where
+      here : is_complete a.table (with_report g a) ≡ true → at_place s.told p (Some a.table) q ≡ Some d → (q ≡ p) ⊎ (q ≡ p → ⊥) → (q ≡ p) × (d ≡ a.table) × (is_complete a.table (with_report g a) ≡ true)
+      here c t (inl e) = (e, grind (arith, t, e, place_here s.told p (Some a.table)), c)
+      here c t (inr ne) = absurd (none_told s p a o can.0 u q d (sym (place_other s.told p q (Some a.table) ne) ∙ t))
+
+      go : (b : Bool) → is_complete a.table (with_report g a) ≡ b → cond b (at_place s.told p (Some a.table)) s.told q ≡ Some d → (q ≡ p) × (d ≡ a.table) × (is_complete a.table (with_report g a) ≡ true)
+      go true c t = here c t (cases_eq q p)
+      go false c t = absurd (none_told s p a o can.0 u q d t)
+
+  -- and if it is the last, it does
+  reporter_told : (s : State K V F) (p : ℕ) (a : Claim) (g : Growth) → Can cmp hash gives s p (Reports a g) → IsCut s → (d : ℕ) (z : Growth) → s.published ≡ Some d → Some (with_report g a) ≡ Some z → z.reported ≡ 2 ^ d → (does cmp hash gives s p (Reports a g)).told p ≡ Some d
+  reporter_told s p a g can u d z h y k =
+      let at : Some a.table ≡ Some d = sym (u.claims p a can.0).0 ∙ h in
+      let c : is_complete a.table (with_report g a) ≡ true = eq-eqb _ _ (grind (arith, at, y, k)) in
+      ap (λ b. cond b (at_place s.told p (Some a.table)) s.told p) c ∙ place_here s.told p (Some a.table) ∙ at
+
   opening_limit : (c : Call K V F) (e : ℕ) → MayOpen c e → e ≤ GREATEST_TABLE
   opening_limit (Get k) e h = absurd h
   opening_limit (GetKeyValue k) e h = absurd h
@@ -134,14 +193,14 @@ module _ {K V F : Type 0} (cmp : K → K → Ordering) (hash : K → ℕ) (gives
   opening_limit Walk e h = absurd h
 
   -- the parts of a state that its cut speaks of
-  abbrev cut_parts : State K V F → Option ℕ × Option Growth × (ℕ → ℕ → Slot K V) × ℕ × (ℕ → Option Claim)
-  cut_parts s = (s.published, s.growth, s.slot, s.parties, s.claim)
+  abbrev cut_parts : State K V F → Option ℕ × Option Growth × (ℕ → ℕ → Slot K V) × ℕ × (ℕ → Option Claim) × (ℕ → Option ℕ)
+  cut_parts s = (s.published, s.growth, s.slot, s.parties, s.claim, s.told)
 
   -- where these stay, the cut does
   cut_same : (s z : State K V F) → cut_parts s ≡ cut_parts z → IsCut s → IsCut z
   cut_same s z same was =
-      let u : IsCut (record s { published = z.published; growth = z.growth; slot = z.slot; parties = z.parties; claim = z.claim }) = subst (λ t. IsCut (record s { published = t.0; growth = t.1; slot = t.2; parties = t.3; claim = t.4 })) same was in
-      record { made = u.made; idle = u.idle; limit = u.limit; growth_limit = u.growth_limit; near = u.near; idle_live = u.idle_live; claims = u.claims; above_unclaimed = u.above_unclaimed; left_live = u.left_live; rest_moved = u.rest_moved; unclaimed_live = u.unclaimed_live; apart = u.apart; cover = u.cover; sum = u.sum }
+      let u : IsCut (record s { published = z.published; growth = z.growth; slot = z.slot; parties = z.parties; claim = z.claim; told = z.told }) = subst (λ t. IsCut (record s { published = t.0; growth = t.1; slot = t.2; parties = t.3; claim = t.4; told = t.5 })) same was in
+      record { made = u.made; idle = u.idle; limit = u.limit; growth_limit = u.growth_limit; near = u.near; idle_live = u.idle_live; claims = u.claims; above_unclaimed = u.above_unclaimed; left_live = u.left_live; rest_moved = u.rest_moved; unclaimed_live = u.unclaimed_live; apart = u.apart; cover = u.cover; sum = u.sum; told = u.told; one_told = u.one_told; some_told = u.some_told }
 
   cut_begins : (home : ℕ → ℕ) (s : State K V F) (p : ℕ) (c : Call K V F) (w : Option ℕ) → Can cmp hash gives s p (Begins c w) → ((q : ℕ) → PartyOk s q) → Tables cmp hash home s → IsCut s → IsCut (does cmp hash gives s p (Begins c w))
   cut_begins home s p c w can o t u = record {
@@ -159,6 +218,9 @@ module _ {K V F : Type 0} (cmp : K → K → Ordering) (hash : K → ℕ) (gives
     sum = λ d z h y. grind (arith, h, y, can, o p, u.sum d z, eqb-true, eqb-false, eq-eqb, ne_eqb, and_parts, and_cases);
     limit = u.limit;
     growth_limit = u.growth_limit;
+    told = λ q d h. u.told q d (taken_out s.told p q d h).1;
+    one_told = λ q r d f h y. u.one_told q r d f (taken_out s.told p q d h).1 (taken_out s.told p r f y).1;
+    some_told = λ d z h y k. let w : (q : ℕ) × (s.told q ≡ Some d) = u.some_told d z h y k in (w.0, place_other s.told p w.0 None (λ e. grind (arith, e, w.1, can.0, (o p).unknown)) ∙ w.1);
   }
 
   cut_opens : (home : ℕ → ℕ) (s : State K V F) (p : ℕ) (e : ℕ) → Can cmp hash gives s p (Opens e) → ((q : ℕ) → PartyOk s q) → Tables cmp hash home s → IsCut s → IsCut (does cmp hash gives s p (Opens e))
@@ -177,6 +239,9 @@ module _ {K V F : Type 0} (cmp : K → K → Ordering) (hash : K → ℕ) (gives
     sum = λ d z h y. grind (arith, h, y, can, u.made, u.idle, mod_below, lt-ltb, ltb-true, ltb-false, u.sum d z, eqb-true, eqb-false, eq-eqb, ne_eqb, and_parts, and_cases);
     limit = λ d h. grind (arith, h, opening_limit (can.0) e can.4);
     growth_limit = λ d z h y. grind (arith, y, can.3, u.made z);
+    told = λ q d h. absurd (grind (arith, can.3, u.told q d h));
+    one_told = u.one_told;
+    some_told = λ d z h y k. absurd (grind (arith, can.3, u.made z y));
   }
 
   cut_decides : (home : ℕ → ℕ) (s : State K V F) (p : ℕ) (c : Call K V F) (k : K) (e : ℕ) (es : List (Entry K V)) (n : ℕ) (r : KeptReply K V) (fs : List (Entry K V)) (m : ℕ) → Can cmp hash gives s p (Decides c k e es n r fs m) → ((q : ℕ) → PartyOk s q) → Tables cmp hash home s → IsCut s → IsCut (does cmp hash gives s p (Decides c k e es n r fs m))
@@ -195,6 +260,9 @@ module _ {K V F : Type 0} (cmp : K → K → Ordering) (hash : K → ℕ) (gives
     sum = u.sum;
     limit = u.limit;
     growth_limit = u.growth_limit;
+    told = u.told;
+    one_told = u.one_told;
+    some_told = u.some_told;
   }
 
   cut_places : (home : ℕ → ℕ) (s : State K V F) (p : ℕ) (e : ℕ) → Can cmp hash gives s p (Places e) → ((q : ℕ) → PartyOk s q) → Tables cmp hash home s → IsCut s → IsCut (does cmp hash gives s p (Places e))
@@ -213,6 +281,9 @@ module _ {K V F : Type 0} (cmp : K → K → Ordering) (hash : K → ℕ) (gives
     sum = λ d z h y. grind (arith, h, y, can, total-zero (λ q. size (s.claim q)) s.parties (λ q. ap size (u.idle can.1 q)));
     limit = u.limit;
     growth_limit = λ d z h y. grind (arith, h, can);
+    told = λ q d h. absurd (grind (arith, can.1, u.told q d h));
+    one_told = u.one_told;
+    some_told = λ d z h y k. absurd (grind (arith, y, k, pow_pos d));
   }
 
   cut_claims : (home : ℕ → ℕ) (s : State K V F) (p : ℕ) (e : ℕ) (g : Growth) (low : ℕ) → Can cmp hash gives s p (Claims e g low) → ((q : ℕ) → PartyOk s q) → Tables cmp hash home s → IsCut s → IsCut (does cmp hash gives s p (Claims e g low))
@@ -231,6 +302,9 @@ module _ {K V F : Type 0} (cmp : K → K → Ordering) (hash : K → ℕ) (gives
     sum = λ d z h y. grind (arith, h, y, can, u.sum d g, u.above_unclaimed, total-change (λ q. size ((does cmp hash gives s p (Claims e g low)).claim q)) (λ q. size (s.claim q)) p s.parties can.1 (λ q ne. ap size (place_other s.claim p q _ ne)), place_here s.claim p (Some (record { table = e; low = low; left = g.unclaimed; high = g.unclaimed })));
     limit = u.limit;
     growth_limit = λ d z h y. u.growth_limit d g h can.3;
+    told = λ q d h. let w : (s.published ≡ Some d) × (z : Growth) × (s.growth ≡ Some z) × (z.reported ≡ 2 ^ d) = u.told q d h in (w.0, record { unclaimed = low; reported = g.reported }, refl, grind (arith, w.2, w.3, can.3));
+    one_told = u.one_told;
+    some_told = λ d z h y k. u.some_told d g h can.3 (grind (arith, y, k));
   }
 
   cut_moves : (home : ℕ → ℕ) (s : State K V F) (p : ℕ) (a : Claim) (i : ℕ) (es : List (Entry K V)) (n : ℕ) → Can cmp hash gives s p (Moves a i es n) → ((q : ℕ) → PartyOk s q) → Tables cmp hash home s → IsCut s → IsCut (does cmp hash gives s p (Moves a i es n))
@@ -249,6 +323,9 @@ module _ {K V F : Type 0} (cmp : K → K → Ordering) (hash : K → ℕ) (gives
     sum = λ d z h y. grind (arith, h, y, can, u.claims p a can.0, u.sum d z, eqb-true, eqb-false, eq-eqb, ne_eqb, and_parts, and_cases);
     limit = u.limit;
     growth_limit = u.growth_limit;
+    told = u.told;
+    one_told = u.one_told;
+    some_told = u.some_told;
   }
 
   cut_reports : (home : ℕ → ℕ) (s : State K V F) (p : ℕ) (a : Claim) (g : Growth) → Can cmp hash gives s p (Reports a g) → ((q : ℕ) → PartyOk s q) → Tables cmp hash home s → IsCut s → IsCut (does cmp hash gives s p (Reports a g))
@@ -267,6 +344,9 @@ module _ {K V F : Type 0} (cmp : K → K → Ordering) (hash : K → ℕ) (gives
     sum = λ d z h y. grind (arith, h, y, can, u.claims p a can.0, u.sum d g, total-change (λ q. size ((does cmp hash gives s p (Reports a g)).claim q)) (λ q. size (s.claim q)) p s.parties (claims_known s p a (o p) can.0) (λ q ne. ap size (place_other s.claim p q _ ne)), place_here s.claim p None);
     limit = u.limit;
     growth_limit = λ d z h y. u.growth_limit d g h can.2;
+    told = λ q d h. let w : (q ≡ p) × (d ≡ a.table) × (is_complete a.table (with_report g a) ≡ true) = told_by_report s p a g can (o p) u q d h in (rw w.1 (u.claims p a can.0).0, with_report g a, refl, rw w.1 (eqb-true _ _ w.2));
+    one_told = λ q r d f h y. (told_by_report s p a g can (o p) u q d h).0 ∙ sym (told_by_report s p a g can (o p) u r f y).0;
+    some_told = λ d z h y k. (p, reporter_told s p a g can u d z h y k);
   }
 
   cut_publishes : (home : ℕ → ℕ) (s : State K V F) (p : ℕ) (a : Claim) (g : Growth) → Can cmp hash gives s p (Publishes a g) → ((q : ℕ) → PartyOk s q) → Tables cmp hash home s → IsCut s → IsCut (does cmp hash gives s p (Publishes a g))
@@ -285,6 +365,30 @@ module _ {K V F : Type 0} (cmp : K → K → Ordering) (hash : K → ℕ) (gives
     sum = λ d z h y. grind (arith, h, y, can, u.claims p a can.0, u.sum d z, eqb-true, eqb-false, eq-eqb, ne_eqb, and_parts, and_cases);
     limit = λ d h. grind (arith, h, u.growth_limit a.table g (u.claims p a can.0).0 can.2);
     growth_limit = λ d z h y. grind (arith, y);
+    told = λ q d h. absurd (none_told s p a (o p) can.0 u q d h);
+    one_told = u.one_told;
+    some_told = λ d z h y k. absurd (grind (arith, y));
+  }
+
+  cut_publishes_told : (home : ℕ → ℕ) (s : State K V F) (p e : ℕ) (g : Growth) → Can cmp hash gives s p (PublishesTold e g) → ((q : ℕ) → PartyOk s q) → Tables cmp hash home s → IsCut s → IsCut (does cmp hash gives s p (PublishesTold e g))
+  cut_publishes_told home s p e g can o t u = record {
+    made = λ z h. absurd (grind (arith, h));
+    idle = λ h q. no_claim s p e can.0 o u q;
+    near = λ z d j h l. grind (arith, h, l, can, u.near e d j);
+    idle_live = λ h d j y l. grind (arith, y, l, small_mod d j l, can.1, told_moved s p e g can o u (j % 2 ^ e) (mod_below j (2 ^ e) (pow_pos e)), t.live (grind (arith, can.1)) j, (t.from e can.1).1 j, u.near e (home j) (j % 2 ^ home j), cases_order (home j) (suc e));
+    claims = λ q w h. absurd (grind (arith, h, no_claim s p e can.0 o u q));
+    above_unclaimed = λ q w z h y. absurd (grind (arith, y));
+    left_live = λ q w j h x y. absurd (grind (arith, h, no_claim s p e can.0 o u q));
+    rest_moved = λ q w j h x y. absurd (grind (arith, h, no_claim s p e can.0 o u q));
+    unclaimed_live = λ d j z h y. absurd (grind (arith, y));
+    apart = u.apart;
+    cover = λ d j z h y l. absurd (grind (arith, y));
+    sum = λ d z h y. absurd (grind (arith, y));
+    limit = λ d h. grind (arith, h, u.growth_limit e g can.1 can.2);
+    growth_limit = λ d z h y. absurd (grind (arith, y));
+    told = λ q d h. absurd ((taken_out s.told p q d h).0 (u.one_told q p d e (taken_out s.told p q d h).1 can.0));
+    one_told = λ q r d f h y. u.one_told q r d f (taken_out s.told p q d h).1 (taken_out s.told p r f y).1;
+    some_told = λ d z h y k. absurd (grind (arith, y));
   }
 
   cut_wipes : (home : ℕ → ℕ) (s : State K V F) (p wiped e i : ℕ) (f : Frame K) (fs : List (Frame K)) (es : List (Entry K V)) (n : ℕ) → Can cmp hash gives s p (Wipes wiped e i f fs es n) → ((q : ℕ) → PartyOk s q) → Tables cmp hash home s → IsCut s → IsCut (does cmp hash gives s p (Wipes wiped e i f fs es n))
@@ -303,11 +407,15 @@ module _ {K V F : Type 0} (cmp : K → K → Ordering) (hash : K → ℕ) (gives
     sum = u.sum;
     limit = u.limit;
     growth_limit = u.growth_limit;
+    told = u.told;
+    one_told = u.one_told;
+    some_told = u.some_told;
   }
 
   pub cut_ok : (home : ℕ → ℕ) (s : State K V F) (p : ℕ) (l : Transition K V F) → Can cmp hash gives s p l → ((q : ℕ) → PartyOk s q) → Tables cmp hash home s → IsCut s → IsCut (does cmp hash gives s p l)
   cut_ok home s p (Begins c w) can o t u = cut_begins home s p c w can o t u
   cut_ok home s p Quiet can o t u = cut_same s _ refl u
+  cut_ok home s p Loses can o t u = cut_same s _ refl u
   cut_ok home s p (Counts whose) can o t u = cut_same s _ refl u
   cut_ok home s p (Finds e) can o t u = cut_same s _ refl u
   cut_ok home s p (Opens e) can o t u = cut_opens home s p e can o t u
@@ -321,6 +429,7 @@ module _ {K V F : Type 0} (cmp : K → K → Ordering) (hash : K → ℕ) (gives
   cut_ok home s p (Moves a i es n) can o t u = cut_moves home s p a i es n can o t u
   cut_ok home s p (Reports a g) can o t u = cut_reports home s p a g can o t u
   cut_ok home s p (Publishes a g) can o t u = cut_publishes home s p a g can o t u
+  cut_ok home s p (PublishesTold e g) can o t u = cut_publishes_told home s p e g can o t u
   cut_ok home s p (Reads e i f fs es n x) can o t u = cut_same s _ refl u
   cut_ok home s p (Leaves e i f fs es n) can o t u = cut_same s _ refl u
   cut_ok home s p (Splits e i f fs) can o t u = cut_same s _ refl u

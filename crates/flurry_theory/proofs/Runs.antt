@@ -8,13 +8,13 @@ use Rattle.std.proofs.lemmas.Bool.{eqb-true}
 use Rattle.flurry_theory.specs.Map.{same}
 use Rattle.flurry_theory.specs.Trace.{pairs}
 use Rattle.flurry_theory.specs.Bin.{Entry, number_of, has_number}
-use Rattle.flurry_theory.specs.Machine.{State, Transition, Can, BinDid, Frame, Begins, Counts, Finds, Opens, IsRefused, Decides, Places, Reads, Leaves, Replies}
+use Rattle.flurry_theory.specs.Machine.{State, Claim, Growth, Transition, Can, BinDid, Frame, Begins, Loses, Counts, Finds, Opens, IsRefused, Decides, Places, Claims, Moves, Reports, PublishesTold, Reads, Leaves, Replies}
 use Rattle.flurry_theory.specs.Invariant.{new_world, after_all, CanAll}
 use Rattle.flurry_theory.proofs.BinSteps.{bin_did}
 use Rattle.flurry_theory.proofs.Origins.{same_seen}
 use Rattle.flurry_theory.proofs.Tables.{same_some}
 use Rattle.flurry_model.specs.declared.call.Seen.{Seen}
-use Rattle.flurry_model.specs.declared.call.Call.TheVariants.{Get, Insert, RemoveSeen, Walk}
+use Rattle.flurry_model.specs.declared.call.Call.TheVariants.{Get, Insert, RemoveSeen, Reserve, Walk}
 use Rattle.flurry_model.specs.declared.reply.KeptReply.TheVariants.{Value}
 
 abbrev its_own : ℕ → ℕ
@@ -110,6 +110,10 @@ no_table_placed h = grind (arith, h.3)
 one_step_done : (after_steps (looking 3)).steps 2 ≡ 1
 one_step_done = refl
 
+-- an attempt that was lost is no step
+lost_is_no_step : (after_steps ((2, Loses) ∷ looking 3)).steps 2 ≡ 1
+lost_is_no_step = refl
+
 -- A REMOVAL of what the walk read: it begins from party 1, and removes the pair, since nothing has touched it.
 abbrev read : Seen ℕ ℕ
 read = record { key = 3; value = 4; number = 1 }
@@ -125,3 +129,29 @@ removal_replies = (RemoveSeen read, refl, refl, refl, refl) ⊗ refl ⊗ (refl, 
 
     from_walk : (w : ℕ) → Some 1 ≡ Some w → (after_steps walked).seen w ≡ Some read
     from_walk w h = subst (λ w. (after_steps walked).seen w ≡ Some read) (same_some h) refl
+
+-- A GROWTH of table 0, which has one bin, by two parties: party 0 begins it, claims the bin, moves it and reports it.
+abbrev claim : (left : ℕ) → Claim
+claim left = record { table = 0; low = 0; left = left; high = 1 }
+
+abbrev growth : (unclaimed reported : ℕ) → Growth
+growth unclaimed reported = record { unclaimed = unclaimed; reported = reported }
+
+abbrev moved : Steps
+moved = (0, Moves (claim 1) 0 [] 0) ∷ (0, Claims 0 (growth 1 0) 0) ∷ (0, Places 0) ∷ (1, Begins (Reserve 1) None) ∷ (0, Opens 0) ∷ (0, Begins (Reserve 1) None) ∷ []
+
+abbrev reported : Steps
+reported = (0, Reports (claim 0) (growth 0 0)) ∷ moved
+
+growth_reported : CanDo reported
+growth_reported = (refl, refl, refl, refl) ⊗ (refl, omega arith, refl, refl, refl) ⊗ (refl, omega arith, refl, refl, omega arith, refl) ⊗ (refl, refl, omega arith, refl) ⊗ (refl, λ w h. absurd (grind (arith, h))) ⊗ (Reserve 1, refl, refl, refl, omega arith) ⊗ (refl, λ w h. absurd (grind (arith, h))) ⊗ tt
+
+-- nobody publishes it before the report; after it party 0 does, and party 1 does not
+unreported_stays : Can nat_cmp its_own none_given (after_steps moved) 0 (PublishesTold 0 (growth 0 0)) → ⊥
+unreported_stays h = grind (arith, h.0)
+
+reporter_publishes : CanDo ((0, PublishesTold 0 (growth 0 1)) ∷ reported)
+reporter_publishes = (refl, refl, refl, refl) ⊗ growth_reported
+
+other_does_not : Can nat_cmp its_own none_given (after_steps reported) 1 (PublishesTold 0 (growth 0 1)) → ⊥
+other_does_not h = grind (arith, h.0)

@@ -8,11 +8,11 @@ use Rattle.std.proofs.lemmas.Nat.{mod_below, pow_pos}
 use Rattle.flurry_theory.specs.Map.{Pairs, same, find, key_of, Allows}
 use Rattle.flurry_theory.specs.Trace.{names, pairs}
 use Rattle.flurry_theory.specs.Bin.{Entry, pairs_of, IsAscending, InRegion}
-use Rattle.flurry_theory.specs.Machine.{State, Claim, Growth, Transition, Can, does, label, halves, Live, Moved, Unborn, Locating, Looking, Walking, Clearing, Done, Begins, Quiet, Counts, Finds, Opens, FindsNothing, IsRefused, DecidesEmpty, Passes, Decides, Places, Claims, Moves, Reports, Publishes, Reads, Leaves, Splits, Wipes, SplitsClear, Replies, Ends}
+use Rattle.flurry_theory.specs.Machine.{State, Transition, Can, does, label, halves, Live, Moved, Unborn, Locating, Looking, Walking, Clearing, Done, Begins, Quiet, Loses, Counts, Finds, Opens, FindsNothing, IsRefused, DecidesEmpty, Passes, Decides, Places, Claims, Moves, Reports, Publishes, PublishesTold, Reads, Leaves, Splits, Wipes, SplitsClear, Replies, Ends}
 use Rattle.flurry_theory.specs.Invariant.{PartyOk, Tables, home_after, Progress, Remains, IsCut, NamesBorn, Waits, Inv, Numbers, new_world, CanAll, after_all}
 use Rattle.flurry_theory.proofs.Bins.{Allows-same}
-use Rattle.flurry_theory.proofs.Tables.{same_some, same_live}
-use Rattle.flurry_theory.proofs.Ranges.{all_moved}
+use Rattle.flurry_theory.proofs.Tables.{same_some, same_live, growth_ended}
+use Rattle.flurry_theory.proofs.Ranges.{all_moved, told_moved}
 use Rattle.flurry_theory.specs.Legal.{HasRead, HasLacked, WalkMay, ClearMay, IsWalk, IsClear}
 use Rattle.flurry_model.specs.declared.call.Call.{Call}
 use Rattle.flurry_model.specs.declared.call.Call.TheVariants.{Get, GetKeyValue, ContainsKey, Insert, TryInsert, Compute, Remove, RemoveEntry, RemoveSeen, Reserve, Clear, Walk}
@@ -42,6 +42,7 @@ module _ {K V F : Type 0} (cmp : K → K → Ordering) (total : IsTotalOrder cmp
   unfolding next_mode next_call
   own home s p (Begins c w) can o t g = record { unbegun = λ h. absurd (grind (arith, h)); seen = λ _ _ k. inr (inr tt); unread = λ _ _ k _ h. g.unbegun (o.unknown (omega (arith, can.0))).0 k h; cleared = λ _ _ k. inr tt; frames = tt }
   own home s p Quiet can o t g = keeps cmp hash gives (s.call p) (s.mode p) s.trace (Silent p) p refl (λ k h. h) g
+  own home s p Loses can o t g = keeps cmp hash gives (s.call p) (s.mode p) s.trace (Silent p) p refl (λ k h. h) g
   own home s p (Counts whose) can o t g = if_settled (λ m. Progress cmp hash gives (s.call p) m (Silent p ∷ s.trace) p) (progress_settled cmp hash gives (s.call p) (Silent p ∷ s.trace) p) (whose p) (s.mode p) (keeps cmp hash gives (s.call p) (s.mode p) s.trace (Silent p) p refl (λ k h. h) g)
   own home s p (Finds e) can o t g = finds cmp hash gives (s.call p) s.trace (Silent p) p e refl (λ k h. h) (subst (λ m. Progress cmp hash gives (s.call p) m s.trace p) can.2 g)
   own home s p (Opens e) can o t g = finds cmp hash gives (s.call p) s.trace (Opened e) p e refl (λ k h. h) (subst (λ m. Progress cmp hash gives (s.call p) m s.trace p) can.2 g)
@@ -55,6 +56,7 @@ module _ {K V F : Type 0} (cmp : K → K → Ordering) (total : IsTotalOrder cmp
   own home s p (Moves a i es n) can o t g = keeps cmp hash gives (s.call p) (s.mode p) s.trace (MovedBin a.table i) p refl (λ k h. h) g
   own home s p (Reports a gr) can o t g = keeps cmp hash gives (s.call p) (s.mode p) s.trace (Silent p) p refl (λ k h. h) g
   own home s p (Publishes a gr) can o t g = keeps cmp hash gives (s.call p) (s.mode p) s.trace (Published (suc a.table)) p refl (λ k h. h) g
+  own home s p (PublishesTold e gr) can o t g = keeps cmp hash gives (s.call p) (s.mode p) s.trace (Published (suc e)) p refl (λ k h. h) g
   own home s p (Reads e i f fs es n x) can o t g = reads cmp total hash lawful gives home s p e i f fs es n x can t (o.walking e i (f ∷ fs) can.0) (subst (λ m. Progress cmp hash gives (s.call p) m s.trace p) can.0 g)
   own home s p (Leaves e i f fs es n) can o t g = leaves cmp total hash lawful gives home s p e i f fs es n can t (o.walking e i (f ∷ fs) can.0) (subst (λ m. Progress cmp hash gives (s.call p) m s.trace p) can.0 g)
   own home s p (Splits e i f fs) can o t g = let lt : f.index < 2 ^ f.table = grind (arith, can.1, t.outside f.table f.index) in let m : Progress cmp hash gives (s.call p) (Walking e i (f ∷ fs)) s.trace p = (subst (λ m. Progress cmp hash gives (s.call p) m s.trace p) can.0 g) in advance cmp hash gives (s.call p) (Walking e i (f ∷ fs)) (Walking e i (halves f fs)) s.trace (Silent p) p refl (λ k h. h) (λ h. grind (arith, h)) (λ _ k r. inr (inr (w_split cmp hash gives e i f fs k r))) (λ h. absurd (grind (arith, h, o.walking e i (f ∷ fs) can.0))) (λ k r. w_joined cmp hash gives e i f fs k lt r) (split_frames cmp hash gives e i f fs lt m.frames) m
@@ -129,6 +131,7 @@ module _ {K V F : Type 0} (cmp : K → K → Ordering) (total : IsTotalOrder cmp
   walks_lawful : (home : ℕ → ℕ) (s : State K V F) (p : ℕ) (l : Transition K V F) → Can cmp hash gives s p l → PartyOk s p → Tables cmp hash home s → Progress cmp hash gives (s.call p) (s.mode p) s.trace p → WalkMay cmp hash gives s.trace (label cmp hash gives p l)
   walks_lawful home s p (Begins c w) can o t g = tt
   walks_lawful home s p Quiet can o t g = tt
+  walks_lawful home s p Loses can o t g = tt
   walks_lawful home s p (Counts whose) can o t g = tt
   walks_lawful home s p (Finds e) can o t g = tt
   walks_lawful home s p (Opens e) can o t g = tt
@@ -142,6 +145,7 @@ module _ {K V F : Type 0} (cmp : K → K → Ordering) (total : IsTotalOrder cmp
   walks_lawful home s p (Moves a i es n) can o t g = tt
   walks_lawful home s p (Reports a gr) can o t g = tt
   walks_lawful home s p (Publishes a gr) can o t g = tt
+  walks_lawful home s p (PublishesTold e gr) can o t g = tt
   walks_lawful home s p (Reads e i f fs es n x) can o t g = read_lawful cmp total hash lawful gives home s p e i f fs es n x can t (o.walking e i (f ∷ fs) can.0) (subst (λ m. Progress cmp hash gives (s.call p) m s.trace p) can.0 g)
   walks_lawful home s p (Leaves e i f fs es n) can o t g = tt
   walks_lawful home s p (Splits e i f fs) can o t g = tt
@@ -153,6 +157,7 @@ module _ {K V F : Type 0} (cmp : K → K → Ordering) (total : IsTotalOrder cmp
   clears_lawful : (s : State K V F) (p : ℕ) (l : Transition K V F) → Can cmp hash gives s p l → PartyOk s p → Progress cmp hash gives (s.call p) (s.mode p) s.trace p → ClearMay cmp hash gives s.trace (label cmp hash gives p l)
   clears_lawful s p (Begins c w) can o g = tt
   clears_lawful s p Quiet can o g = tt
+  clears_lawful s p Loses can o g = tt
   clears_lawful s p (Counts whose) can o g = tt
   clears_lawful s p (Finds e) can o g = tt
   clears_lawful s p (Opens e) can o g = tt
@@ -166,6 +171,7 @@ module _ {K V F : Type 0} (cmp : K → K → Ordering) (total : IsTotalOrder cmp
   clears_lawful s p (Moves a i es n) can o g = tt
   clears_lawful s p (Reports a gr) can o g = tt
   clears_lawful s p (Publishes a gr) can o g = tt
+  clears_lawful s p (PublishesTold e gr) can o g = tt
   clears_lawful s p (Reads e i f fs es n x) can o g = tt
   clears_lawful s p (Leaves e i f fs es n) can o g = tt
   clears_lawful s p (Splits e i f fs) can o g = tt
@@ -192,6 +198,7 @@ module _ {K V F : Type 0} (cmp : K → K → Ordering) (total : IsTotalOrder cmp
   allows_now : (home : ℕ → ℕ) (s : State K V F) (p : ℕ) (l : Transition K V F) → Can cmp hash gives s p l → PartyOk s p → Tables cmp hash home s → AllowsNow cmp hash gives s p l
   allows_now home s p (Begins c w) can o t = tt
   allows_now home s p Quiet can o t = tt
+  allows_now home s p Loses can o t = tt
   allows_now home s p (Counts whose) can o t = tt
   allows_now home s p (Finds e) can o t = tt
   allows_now home s p (Opens e) can o t = tt
@@ -205,6 +212,7 @@ module _ {K V F : Type 0} (cmp : K → K → Ordering) (total : IsTotalOrder cmp
   allows_now home s p (Moves a i es n) can o t = tt
   allows_now home s p (Reports a g) can o t = tt
   allows_now home s p (Publishes a g) can o t = tt
+  allows_now home s p (PublishesTold e g) can o t = tt
   allows_now home s p (Reads e i f fs es n x) can o t = tt
   allows_now home s p (Leaves e i f fs es n) can o t = tt
   allows_now home s p (Splits e i f fs) can o t = tt
@@ -213,8 +221,11 @@ module _ {K V F : Type 0} (cmp : K → K → Ordering) (total : IsTotalOrder cmp
   allows_now home s p (Replies r) can o t = tt
   allows_now home s p Ends can o t = tt
 
-  ready : (s : State K V F) (p : ℕ) (l : Transition K V F) → Can cmp hash gives s p l → ((q : ℕ) → PartyOk s q) → IsCut s → (a : Claim) (g : Growth) → l ≡ Publishes a g → (s.published ≡ Some a.table) × ((i : ℕ) → i < 2 ^ a.table → s.slot a.table i ≡ Moved)
-  ready s p l can o u a g e = all_moved cmp hash gives s p a g (subst (λ l. Can cmp hash gives s p l) e can) o u
+  -- a growth that ends has moved every bin
+  ready : (s : State K V F) (p : ℕ) (l : Transition K V F) → Can cmp hash gives s p l → ((q : ℕ) → PartyOk s q) → IsCut s → (e : ℕ) → growth_ended cmp total hash lawful gives l ≡ Some e → (s.published ≡ Some e) × ((i : ℕ) → i < 2 ^ e → s.slot e i ≡ Moved)
+  ready s p (Publishes a g) can o u e h = subst (λ e. (s.published ≡ Some e) × ((i : ℕ) → i < 2 ^ e → s.slot e i ≡ Moved)) (same_some h) (all_moved cmp hash gives s p a g can o u)
+  ready s p (PublishesTold d g) can o u e h = subst (λ e. (s.published ≡ Some e) × ((i : ℕ) → i < 2 ^ e → s.slot e i ≡ Moved)) (same_some h) (can.1, told_moved cmp hash gives s p d g can o u)
+  ready s p l can o u e h = absurd (grind (arith, h))
 
   -- a step of the machine keeps the whole
   pub inv_step : (first : Option ℕ) (home : ℕ → ℕ) (s : State K V F) (p : ℕ) (l : Transition K V F) → Can cmp hash gives s p l → Inv cmp hash gives first home s → Inv cmp hash gives first (home_after home l) (does cmp hash gives s p l)
@@ -292,6 +303,9 @@ module _ {K V F : Type 0} (cmp : K → K → Ordering) (total : IsTotalOrder cmp
     apart = λ p q a b n h. absurd (grind (arith, h));
     cover = λ d i g h y. absurd (grind (arith, y));
     sum = λ d g h y. absurd (grind (arith, y));
+    told = λ p e h. absurd (grind (arith, h));
+    one_told = λ p q e f h. absurd (grind (arith, h));
+    some_told = λ e g h y. absurd (grind (arith, y));
   }
 
   new_numbers : (e : ℕ) (b : Bool) → Numbers cmp hash gives (λ _. e) (new_world {K = K} {V = V} {F = F} e b)
@@ -305,7 +319,7 @@ module _ {K V F : Type 0} (cmp : K → K → Ordering) (total : IsTotalOrder cmp
 
   pub inv_new : (e : ℕ) (b : Bool) → e ≤ GREATEST_TABLE → Inv cmp hash gives (if b then Some e else None) (λ _. e) (new_world e b)
   inv_new e b l = record {
-    parties = λ p. record { call = refl; unknown = λ _. (refl, refl, refl, refl, refl, refl); going = λ h. absurd (h refl); undecided = λ _ _. refl; decided = λ r a b h. absurd (grind (arith, h)); looking = λ d h. absurd (grind (arith, h)); finished = λ _ h. absurd (grind (arith, h)); walking = λ d i fs h. absurd (grind (arith, h)); settled = λ h. absurd (grind (arith, h)); refused = λ h. absurd (grind (arith, h)); clearing = λ n d i fs h. absurd (grind (arith, h)) };
+    parties = λ p. record { call = refl; unknown = λ _. (refl, refl, refl, refl, refl, refl, refl); going = λ h. absurd (h refl); undecided = λ _ _. refl; decided = λ r a b h. absurd (grind (arith, h)); looking = λ d h. absurd (grind (arith, h)); finished = λ _ h. absurd (grind (arith, h)); walking = λ d i fs h. absurd (grind (arith, h)); settled = λ h. absurd (grind (arith, h)); refused = λ h. absurd (grind (arith, h)); clearing = λ n d i fs h. absurd (grind (arith, h)) };
     tables = new_tables e b;
     cut = new_cut e b l;
     grown = record { number = refl; placed_next = λ d g h y. absurd (grind (arith, y)); unplaced = λ _ d. refl; unplaced_idle = λ d j _ _ _. refl; unplaced_above = λ d j _ _. refl };

@@ -5,7 +5,7 @@ use Rattle.flurry_theory.specs.Map.{Unique, find, key_of}
 use Rattle.flurry_theory.specs.Trace.{Trace, is_lookup, call_begun_by, decision, has_replied, has_closed, published_in, was_placed, was_moved_in, names, last_read, read_before, pairs, at}
 use Rattle.flurry_theory.specs.Legal.{is_untouched, untouched_for, RemovalMay, HasRead, HasLacked, EachMay, CallMay, WalkMay, ClearMay, GrowthMay}
 use Rattle.flurry_theory.specs.Bin.{Entry, number_of, pairs_of, IsAscending, InRegion, past}
-use Rattle.flurry_theory.specs.Machine.{total, owes_added, owes_removed, State, Slot, Transition, Opens, Moves, Claim, Growth, Can, does, Live, Moved, Unborn, Mode, Locating, Looking, Walking, Clearing, Done, Finished, Frame, Replies}
+use Rattle.flurry_theory.specs.Machine.{total, owes_added, owes_removed, State, Slot, Transition, Opens, Moves, Claim, Growth, Can, does, Live, Moved, Unborn, Mode, Locating, Looking, Walking, Clearing, Done, Finished, Frame, Replies, Loses}
 use Rattle.flurry_model.specs.declared.call.Call.{Call}
 use Rattle.flurry_model.specs.declared.call.Call.TheVariants.{RemoveSeen, Walk, Clear}
 use Rattle.flurry_model.specs.declared.call.Seen.{Seen}
@@ -21,7 +21,7 @@ module _ {K V F : Type 0} where
   -- what a party's mode says of its call and its labels so far
   pub record PartyOk (s : State K V F) (p : ℕ) : Type 0 where
     pub call : call_begun_by s.trace p ≡ s.call p
-    pub unknown : s.parties ≤ p → (s.call p ≡ None) × (s.mode p ≡ Finished) × (s.claim p ≡ None) × (decision s.trace p ≡ None) × (has_replied s.trace p ≡ false) × (has_closed s.trace p ≡ false)
+    pub unknown : s.parties ≤ p → (s.call p ≡ None) × (s.mode p ≡ Finished) × (s.claim p ≡ None) × (decision s.trace p ≡ None) × (has_replied s.trace p ≡ false) × (has_closed s.trace p ≡ false) × (s.told p ≡ None)
     pub going : (s.mode p ≡ Finished → ⊥) → (has_replied s.trace p ≡ false) × (has_closed s.trace p ≡ false) × (is_some (s.call p) ≡ true)
     pub undecided : ((r : KeptReply K V) (added removed : ℕ) → s.mode p ≡ Done (Some r) added removed → ⊥) → (s.mode p ≡ Finished → ⊥) → decision s.trace p ≡ None
     pub decided : (r : KeptReply K V) (added removed : ℕ) → s.mode p ≡ Done (Some r) added removed → decision s.trace p ≡ Some r
@@ -72,7 +72,7 @@ holds None i = false
 holds (Some a) i = nat_le a.low i && nat_lt i a.high
 
 module _ {K V F : Type 0} where
-  -- the unclaimed, the claimed and the reported bins cut the growing table
+  -- the unclaimed, the claimed and the reported bins cut the growing table; once all are reported, one party is told to publish
   pub record IsCut (s : State K V F) : Type 0 where
     pub made : (g : Growth) → s.growth ≡ Some g → is_some s.published ≡ true
     pub idle : s.growth ≡ None → (p : ℕ) → s.claim p ≡ None
@@ -88,6 +88,12 @@ module _ {K V F : Type 0} where
     pub apart : (p q : ℕ) (a b : Claim) → (p ≡ q → ⊥) → s.claim p ≡ Some a → s.claim q ≡ Some b → (a.high ≤ b.low) ⊎ (b.high ≤ a.low)
     pub cover : (e i : ℕ) (g : Growth) → s.published ≡ Some e → s.growth ≡ Some g → i < 2 ^ e → (s.slot e i ≡ Moved) ⊎ ((i < g.unclaimed) ⊎ ((p : ℕ) × (holds (s.claim p) i ≡ true)))
     pub sum : (e : ℕ) (g : Growth) → s.published ≡ Some e → s.growth ≡ Some g → g.unclaimed + g.reported + total (λ p. size (s.claim p)) s.parties ≡ 2 ^ e
+    -- where a party is told to publish, that growth runs, and every bin is reported
+    pub told : (p e : ℕ) → s.told p ≡ Some e → (s.published ≡ Some e) × (g : Growth) × (s.growth ≡ Some g) × (g.reported ≡ 2 ^ e)
+    -- at most one party is told
+    pub one_told : (p q e f : ℕ) → s.told p ≡ Some e → s.told q ≡ Some f → p ≡ q
+    -- and where every bin is reported, one is
+    pub some_told : (e : ℕ) (g : Growth) → s.published ≡ Some e → s.growth ≡ Some g → g.reported ≡ 2 ^ e → (p : ℕ) × (s.told p ≡ Some e)
 
   -- what the labels say of the tables
   pub record HasGrown (first : Option ℕ) (s : State K V F) : Type 0 where
@@ -233,10 +239,12 @@ module _ {K V F : Type 0} where
   Waits call mode steps = is_lookup call ≡ true → (mode ≡ Locating → steps ≡ 0) × ((e : ℕ) → mode ≡ Looking e → steps ≤ suc e) × ((added removed : ℕ) → mode ≡ Done None added removed → ⊥)
 
 module _ {K V F : Type 0} (cmp : K → K → Ordering) (hash : K → ℕ) (gives : F → K → V → Option V → Type 0) where
-  -- a look-up has decided or was refused by its 32nd step, one to find a table and one at each table, and its step after the decision is its reply
+  -- A look-up has decided or was refused by its 32nd step, one to find a table and one at each table, and its step after the decision
+  -- is its reply. An attempt that was lost is no step.
   pub record LooksUp (s : State K V F) (p : ℕ) : Type 0 where
     pub in_time : is_lookup (s.call p) ≡ true → decision s.trace p ≡ None → has_closed s.trace p ≡ false → s.steps p < TABLES + 1
-    pub replies_next : is_lookup (s.call p) ≡ true → (r : KeptReply K V) → decision s.trace p ≡ Some r → has_replied s.trace p ≡ false → (l : Transition K V F) → Can cmp hash gives s p l → l ≡ Replies r
+    pub replies_next : is_lookup (s.call p) ≡ true → (r : KeptReply K V) → decision s.trace p ≡ Some r → has_replied s.trace p ≡ false
+        → (l : Transition K V F) → Can cmp hash gives s p l → (l ≡ Replies r) ⊎ (l ≡ Loses)
 
 -- ALL OF IT
 module _ {K V F : Type 0} (cmp : K → K → Ordering) (hash : K → ℕ) (gives : F → K → V → Option V → Type 0) where
@@ -278,6 +286,7 @@ new_world e b = record {
   call = λ _. None;
   mode = λ _. Finished;
   claim = λ _. None;
+  told = λ _. None;
   count = pos 0;
   seen = λ _. None;
   began_from = λ _. None;

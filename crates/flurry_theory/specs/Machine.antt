@@ -52,6 +52,14 @@ pub record Growth : Type 0 where
   pub unclaimed : ℕ
   pub reported : ℕ
 
+-- every bin of table e is reported
+abbrev pub is_complete : ℕ → Growth → Bool
+is_complete e g = g.reported == 2 ^ e
+
+-- the growth with the bins of a claim reported
+abbrev pub with_report : Growth → Claim → Growth
+with_report g a = record { unclaimed = g.unclaimed; reported = g.reported + (a.high - a.low) }
+
 -- all that the laws speak of: the control, the bins, the parties and the labels
 pub record State (K V F : Type 0) : Type 0 where
   pub start : ℕ  -- the exponent of the first table
@@ -62,6 +70,7 @@ pub record State (K V F : Type 0) : Type 0 where
   pub call : ℕ → Option (Call K V F)
   pub mode : ℕ → Mode K V
   pub claim : ℕ → Option Claim
+  pub told : ℕ → Option ℕ  -- the table whose growth a party is to publish: from the report that was the last until it does
   pub count : ℤ  -- the control's: the pairs that were counted as added, less those as removed
   pub seen : ℕ → Option (Seen K V)  -- a walk's last read
   pub began_from : ℕ → Option ℕ  -- the walk with whose last read a party began
@@ -86,6 +95,8 @@ pub data Transition (K V F : Type 0) : Type 0 where
   Begins : (c : Call K V F) (from : Option ℕ) → Transition K V F
   -- changes nothing
   Quiet : Transition K V F
+  -- An attempt of the party was lost to another party's. It changes nothing, and is no step of the party.
+  Loses : Transition K V F
   -- counts what the parties that pass the test owe, its own or others'
   Counts : (whose : ℕ → Bool) → Transition K V F
   Finds : (e : ℕ) → Transition K V F
@@ -98,8 +109,12 @@ pub data Transition (K V F : Type 0) : Type 0 where
   Places : (e : ℕ) → Transition K V F
   Claims : (e : ℕ) (g : Growth) (low : ℕ) → Transition K V F
   Moves : (a : Claim) (i : ℕ) (es : List (Entry K V)) (n : ℕ) → Transition K V F
+  -- the party whose report is the last is told to publish
   Reports : (a : Claim) (g : Growth) → Transition K V F
+  -- the last report, and the publication, in one
   Publishes : (a : Claim) (g : Growth) → Transition K V F
+  -- the publication by the party that was told to
+  PublishesTold : (e : ℕ) (g : Growth) → Transition K V F
   Reads : (e i : ℕ) (f : Frame K) (fs : List (Frame K)) (es : List (Entry K V)) (n : ℕ) (x : Entry K V) → Transition K V F
   Leaves : (e i : ℕ) (f : Frame K) (fs : List (Frame K)) (es : List (Entry K V)) (n : ℕ) → Transition K V F
   Splits : (e i : ℕ) (f : Frame K) (fs : List (Frame K)) → Transition K V F
@@ -193,6 +208,7 @@ module _ {K V F : Type 0} where
     abbrev pub Can : State K V F → ℕ → Transition K V F → Type 0
     Can s p (Begins c from) = (p ≡ s.parties) × ((w : ℕ) → from ≡ Some w → (z : Seen K V) × (s.seen w ≡ Some z) × (c ≡ RemoveSeen z))
     Can s p Quiet = is_lookup (s.call p) ≡ true → s.mode p ≡ Finished
+    Can s p Loses = ⊤
     Can s p (Counts whose) = is_lookup (s.call p) ≡ false
     Can s p (Finds e) = (c : Call K V F) × (s.call p ≡ Some c) × (s.mode p ≡ Locating) × WasPublished s e
     Can s p (Opens e) = (c : Call K V F) × (s.call p ≡ Some c) × (s.mode p ≡ Locating) × (s.published ≡ None) × MayOpen c e
@@ -204,8 +220,9 @@ module _ {K V F : Type 0} where
     Can s p (Places e) = (s.published ≡ Some e) × (s.growth ≡ None) × (e < GREATEST_TABLE) × (is_lookup (s.call p) ≡ false)
     Can s p (Claims e g low) = (s.claim p ≡ None) × (p < s.parties) × (s.published ≡ Some e) × (s.growth ≡ Some g) × (low < g.unclaimed) × (is_lookup (s.call p) ≡ false)
     Can s p (Moves a i es n) = (s.claim p ≡ Some a) × (a.low ≤ i) × (a.left ≡ suc i) × (s.slot a.table i ≡ Live es n) × (is_lookup (s.call p) ≡ false)
-    Can s p (Reports a g) = (s.claim p ≡ Some a) × (a.left ≡ a.low) × (s.growth ≡ Some g) × (g.reported + (a.high - a.low) ≡ 2 ^ a.table → ⊥) × (is_lookup (s.call p) ≡ false)
+    Can s p (Reports a g) = (s.claim p ≡ Some a) × (a.left ≡ a.low) × (s.growth ≡ Some g) × (is_lookup (s.call p) ≡ false)
     Can s p (Publishes a g) = (s.claim p ≡ Some a) × (a.left ≡ a.low) × (s.growth ≡ Some g) × (g.reported + (a.high - a.low) ≡ 2 ^ a.table) × (is_lookup (s.call p) ≡ false)
+    Can s p (PublishesTold e g) = (s.told p ≡ Some e) × (s.published ≡ Some e) × (s.growth ≡ Some g) × (is_lookup (s.call p) ≡ false)
     Can s p (Reads e i f fs es n x) = (s.mode p ≡ Walking e i (f ∷ fs)) × (s.slot f.table f.index ≡ Live es n) × (first_past cmp hash f.bound es ≡ Some x)
     Can s p (Leaves e i f fs es n) = (s.mode p ≡ Walking e i (f ∷ fs)) × (s.slot f.table f.index ≡ Live es n) × (first_past cmp hash f.bound es ≡ None)
     Can s p (Splits e i f fs) = (s.mode p ≡ Walking e i (f ∷ fs)) × (s.slot f.table f.index ≡ Moved)
@@ -225,8 +242,17 @@ module _ {K V F : Type 0} where
 
     -- what the transition does, beside its label
     abbrev pub effect : State K V F → ℕ → Transition K V F → State K V F
-    effect s p (Begins c from) = record s { seen = at_place s.seen p None; began_from = at_place s.began_from p from; parties = suc p; call = at_place s.call p (Some c); mode = at_place s.mode p Locating; claim = at_place s.claim p None }
+    effect s p (Begins c from) = record s {
+      seen = at_place s.seen p None;
+      began_from = at_place s.began_from p from;
+      parties = suc p;
+      call = at_place s.call p (Some c);
+      mode = at_place s.mode p Locating;
+      claim = at_place s.claim p None;
+      told = at_place s.told p None;
+    }
     effect s p Quiet = s
+    effect s p Loses = s
     effect s p (Counts whose) = settle whose s
     effect s p (Finds e) = goes s p (found_by (s.call p) e)
     effect s p (Opens e) = record s { start = e; published = Some e; slot = λ d j. if e == d && nat_lt j (2 ^ e) then Live [] 0 else s.slot d j; mode = at_place s.mode p (found_by (s.call p) e) }
@@ -241,8 +267,13 @@ module _ {K V F : Type 0} where
       slot = at_bin (at_bin (at_bin s.slot a.table i Moved) (suc a.table) i (Live (half hash (suc a.table) i es) n)) (suc a.table) (i + 2 ^ a.table) (Live (half hash (suc a.table) (i + 2 ^ a.table) es) n);
       claim = at_place s.claim p (Some (record { table = a.table; low = a.low; left = i; high = a.high }));
     }
-    effect s p (Reports a g) = record s { growth = Some (record { unclaimed = g.unclaimed; reported = g.reported + (a.high - a.low) }); claim = at_place s.claim p None }
+    effect s p (Reports a g) = record s {
+      growth = Some (with_report g a);
+      claim = at_place s.claim p None;
+      told = if is_complete a.table (with_report g a) then at_place s.told p (Some a.table) else s.told;
+    }
     effect s p (Publishes a g) = record s { published = Some (suc a.table); growth = None; claim = at_place s.claim p None }
+    effect s p (PublishesTold e g) = record s { published = Some (suc e); growth = None; told = at_place s.told p None }
     effect s p (Reads e i f fs es n x) = record s { seen = at_place s.seen p (Some (record { key = x.key; value = x.value; number = x.number })); mode = at_place s.mode p (Walking e i (record { table = f.table; index = f.index; bound = Some x.key } ∷ fs)) }
     effect s p (Leaves e i f fs es n) = goes s p (onward Walking (Done None 0 0) e i fs)
     effect s p (Splits e i f fs) = goes s p (Walking e i (halves f fs))
@@ -261,18 +292,20 @@ module _ {K V F : Type 0} where
     label p (Places e) = Placed (suc e)
     label p (Moves a i es n) = MovedBin a.table i
     label p (Publishes a g) = Published (suc a.table)
+    label p (PublishesTold e g) = Published (suc e)
     label p (Reads e i f fs es n x) = Read p x.key x.value
     label p (Wipes wiped e i f fs es n) = Wipe p f.table f.index
     label p (Replies r) = Replied p r
     label p Ends = End p
     label p l = Silent p
 
-    -- how many steps the party has done after the transition: its beginning is none of them
+    -- how many steps the party has done after the transition: its beginning is none of them, nor is an attempt that was lost
     abbrev pub steps_after : State K V F → ℕ → Transition K V F → ℕ
     steps_after s p (Begins c from) = 0
+    steps_after s p Loses = s.steps p
     steps_after s p l = if is_some (s.call p) then suc (s.steps p) else s.steps p
 
-    -- the transition, as it is done: what it does, one more step of its party, and its label
+    -- the transition, as it is done: what it does, the steps of its party, and its label
     abbrev pub does : State K V F → ℕ → Transition K V F → State K V F
     does s p l = record (effect s p l) { steps = at_place s.steps p (steps_after s p l); trace = label p l ∷ s.trace }
 

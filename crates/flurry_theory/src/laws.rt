@@ -15,10 +15,11 @@ ghost use Rattle.flurry_model.specs.declared.sizes.TheConstants.{GREATEST_TABLE}
 ///
 /// Each reply is that of the finite map at the deciding step of its call. Growths move each bin once and publish complete tables. Walks
 /// give pairs that are present, give no class twice, and miss no class that stayed. The live bins hold the map, and the unclaimed,
-/// claimed and reported bins make up the growing table without overlap. A conditional removal removes only a pair that nobody has written
-/// or removed since its walk read it, and, within the first 2^62 labels, it removes every such pair. A call fails for lack of memory only
-/// if the map allows that failure. A look-up decides or fails by its 32nd step, and replies at the next one. The number of pairs is the
-/// count plus what is still to be counted.
+/// claimed and reported bins make up the growing table without overlap. While all of them are reported, exactly one party is told to
+/// publish the next table, and otherwise none is. A conditional removal removes only a pair that nobody has written or removed since its
+/// walk read it, and, within the first 2^62 labels, it removes every such pair. A call fails for lack of memory only if the map allows
+/// that failure. A look-up decides or fails by its 32nd step, and replies at the next one. The number of pairs is the count plus what is
+/// still to be counted.
 pub fn every_interleaving<K: Ord, V, F: Fn(&K, &V) -> Option<V>>()
     ensures { (hash : K → ℕ) → ((j k : K) → same K.cmp j k ≡ true → hash j ≡ hash k)
         → (e : ℕ) (b : Bool) → e ≤ GREATEST_TABLE → (steps : List (ℕ × Transition K V F))

@@ -45,6 +45,6 @@ pub enum Label<K, V, F> {
     Moved(u8, usize),
     /// The table of this exponent was published.
     Published(u8),
-    /// Any other step of the party.
+    /// Any other step of the party, or an attempt of it that was lost to another party's.
     Silent(usize),
 }

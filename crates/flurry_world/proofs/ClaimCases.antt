@@ -175,8 +175,8 @@ module _ {K V F S : Type 0} (cmp : K → K → Ordering) (order : IsTotalOrder c
         by_last u r false s can last fits all =
             settled cmp order hash lawful gives w k p x at c ev event.Silent (AtClaim a) b (record { published = w.control_state.published; growth = Grows u (r + bins_in m); count = w.control_state.count }) t' w.tables silent h.1 control_state h.3 (record {
               transition = Reports held (record { unclaimed = u; reported = r });
-              can = (holds, all_moved, ap growth_of s, (λ z. eqb-false (r + bins_in m) (2 ^ m.table) all z), no_lookup cmp order hash lawful gives w k p x at c (helper_writes x.call a had));
-              is = is_reported cmp hash gives w p x at c held u r mode_stays (ap claim_of_stage h.1);
+              can = (holds, all_moved, ap growth_of s, no_lookup cmp order hash lawful gives w k p x at c (helper_writes x.call a had));
+              is = is_reported cmp hash gives w p x at c held u r not_all mode_stays (ap claim_of_stage h.1);
               follows = follows;
               frame = record {
                 hashed = k.hashed;

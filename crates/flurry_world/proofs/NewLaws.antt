@@ -68,6 +68,7 @@ module _ {K V F S : Type 0} (cmp : K → K → Ordering) (total : IsTotalOrder c
         call = λ _. None;
         mode = λ p. mode_in {K = K} {V = V} {F = F} None;
         claim = λ _. None;
+        told = λ _. None;
         count = pos 0;
         seen = λ _. None;
         began_from = λ _. None;
@@ -108,6 +109,7 @@ module _ {K V F S : Type 0} (cmp : K → K → Ordering) (total : IsTotalOrder c
         call = λ _. None;
         mode = λ p. mode_in {K = K} {V = V} {F = F} None;
         claim = λ _. None;
+        told = λ _. None;
         count = pos 0;
         seen = λ _. None;
         began_from = λ _. None;

@@ -125,6 +125,7 @@ module _ {K V F S : Type 0} (cmp : K → K → Ordering) (total : IsTotalOrder c
           call = step.is.call;
           mode = step.is.mode;
           claim = step.is.claim;
+          told = step.is.told;
           count = step.is.count;
           seen = step.is.seen;
           began_from = step.is.began_from;

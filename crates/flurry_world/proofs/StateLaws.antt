@@ -5,7 +5,7 @@ use Rattle.std.proofs.Common.{arith, refl, sym, ◌∙◌, ap}
 use Rattle.std.proofs.lemmas.Bool.{eqb-true, eqb-false, eq-eqb, ne_eqb}
 use Rattle.std.proofs.lemmas.List.{reverse-append, length-set}
 use Rattle.std.proofs.lemmas.Option.{slice_get_within}
-use Rattle.flurry_theory.specs.Machine.{State, Transition, at_place, effect, does, label, steps_after, Begins, Quiet, Counts, Finds, Opens, FindsNothing, IsRefused, DecidesEmpty, Passes, Decides, Places, Claims, Moves, Reports, Publishes, Reads, Leaves, Splits, Wipes, SplitsClear, Replies, Ends}
+use Rattle.flurry_theory.specs.Machine.{State, Transition, at_place, effect, does, label, steps_after, Begins, Loses}
 use Rattle.flurry_model.specs.declared.call.Call.{Call}
 use Rattle.flurry_theory.specs.declared.Label.{Label}
 use Rattle.flurry_control.specs.Control.{ControlState}
@@ -45,31 +45,18 @@ same_place f p y h q = through (p == q) refl
     through true e = sym h ∙ ap f (eqb-true p q e)
     through false e = refl
 
+-- a beginning is no step of its party, nor is an attempt that was lost
+abbrev pub is_step : {K V F : Type 0} → Transition K V F → Bool
+is_step (Begins c from) = false
+is_step Loses = false
+is_step l = true
+
 module _ {K V F : Type 0} (cmp : K → K → Ordering) (hash : K → ℕ) (gives : F → K → V → Option V → Type 0) where
-  -- a transition other than a beginning is one more step of its party
-  pub one_more_step : (s : State K V F) (p n : ℕ) (c : Call K V F) (l : Transition K V F) → s.call p ≡ Some c → s.steps p ≡ n → ((d : Call K V F) (f : Option ℕ) → l ≡ Begins d f → ⊥) → steps_after cmp hash gives s p l ≡ suc n
-  one_more_step s p n c (Begins d f) h k other = absurd (other d f refl)
-  one_more_step s p n c Quiet h k other = grind (arith, h, k)
-  one_more_step s p n c (Counts whose) h k other = grind (arith, h, k)
-  one_more_step s p n c (Finds e) h k other = grind (arith, h, k)
-  one_more_step s p n c (Opens e) h k other = grind (arith, h, k)
-  one_more_step s p n c FindsNothing h k other = grind (arith, h, k)
-  one_more_step s p n c IsRefused h k other = grind (arith, h, k)
-  one_more_step s p n c (DecidesEmpty d r) h k other = grind (arith, h, k)
-  one_more_step s p n c (Passes e) h k other = grind (arith, h, k)
-  one_more_step s p n c (Decides d j e es m r fs o) h k other = grind (arith, h, k)
-  one_more_step s p n c (Places e) h k other = grind (arith, h, k)
-  one_more_step s p n c (Claims e g low) h k other = grind (arith, h, k)
-  one_more_step s p n c (Moves a i es m) h k other = grind (arith, h, k)
-  one_more_step s p n c (Reports a g) h k other = grind (arith, h, k)
-  one_more_step s p n c (Publishes a g) h k other = grind (arith, h, k)
-  one_more_step s p n c (Reads e i f fs es m x) h k other = grind (arith, h, k)
-  one_more_step s p n c (Leaves e i f fs es m) h k other = grind (arith, h, k)
-  one_more_step s p n c (Splits e i f fs) h k other = grind (arith, h, k)
-  one_more_step s p n c (Wipes d e i f fs es m) h k other = grind (arith, h, k)
-  one_more_step s p n c (SplitsClear d e i f fs) h k other = grind (arith, h, k)
-  one_more_step s p n c (Replies r) h k other = grind (arith, h, k)
-  one_more_step s p n c Ends h k other = grind (arith, h, k)
+  -- any other transition is one more step of its party
+  pub one_more_step : (s : State K V F) (p n : ℕ) (c : Call K V F) (l : Transition K V F) → s.call p ≡ Some c → s.steps p ≡ n → is_step l ≡ true → steps_after cmp hash gives s p l ≡ suc n
+  one_more_step s p n c (Begins d f) h k own = absurd (grind (arith, own))
+  one_more_step s p n c Loses h k own = absurd (grind (arith, own))
+  one_more_step s p n c l h k own = grind (arith, h, k)
 
 module _ {K V F S : Type 0} (cmp : K → K → Ordering) (hash : K → ℕ) (gives : F → K → V → Option V → Type 0) where
   -- what a transition has to do, so that it is a step of party p that leaves the control b, the tables t and its call at c
@@ -84,6 +71,7 @@ module _ {K V F S : Type 0} (cmp : K → K → Ordering) (hash : K → ℕ) (giv
     pub call : (q : ℕ) → (state_of w).call q ≡ (effect cmp hash gives (state_of w) p l).call q
     pub mode : (q : ℕ) → at_place (state_of w).mode p (mode_of_stage c.stage) q ≡ (effect cmp hash gives (state_of w) p l).mode q
     pub claim : (q : ℕ) → at_place (state_of w).claim p (claim_of_stage c.stage) q ≡ (effect cmp hash gives (state_of w) p l).claim q
+    pub told : (q : ℕ) → (state_of w).told q ≡ (effect cmp hash gives (state_of w) p l).told q
     pub count : b.count ≡ (effect cmp hash gives (state_of w) p l).count
     pub seen : (q : ℕ) → (state_of w).seen q ≡ (effect cmp hash gives (state_of w) p l).seen q
     pub began_from : (q : ℕ) → (state_of w).began_from q ≡ (effect cmp hash gives (state_of w) p l).began_from q
@@ -99,6 +87,7 @@ module _ {K V F S : Type 0} (cmp : K → K → Ordering) (hash : K → ℕ) (giv
     call = λ q. (calls q ∙ is.call q) i;
     mode = λ q. (read_set mode_in w.party_records p q y below ∙ is.mode q) i;
     claim = λ q. (read_set claim_in w.party_records p q y below ∙ is.claim q) i;
+    told = λ q. is.told q i;
     count = is.count i;
     seen = λ q. (read_set seen_in w.party_records p q y below ∙ same_place (state_of w).seen p (last_seen c.stage) (ap seen_in h ∙ sym last) q ∙ is.seen q) i;
     began_from = λ q. (read_set began_from_in w.party_records p q y below ∙ same_place (state_of w).began_from p x.began_from (ap began_from_in h) q ∙ is.began_from q) i;

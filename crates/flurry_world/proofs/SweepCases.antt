@@ -8,7 +8,6 @@ use Rattle.std.proofs.lemmas.Int.{ints}
 use Rattle.std.proofs.lemmas.List.{length-reverse}
 use Rattle.std.proofs.lemmas.Option.{slice_get_within}
 use Rattle.flurry_model.specs.HashOrder.{is_pair_past}
-use Rattle.flurry_model.specs.declared.call.Call.{Call}
 use Rattle.flurry_model.specs.declared.call.Call.TheVariants as call
 use Rattle.flurry_model.specs.declared.call.Seen.{Seen}
 use Rattle.flurry_model.specs.declared.sizes.TheConstants.{MOST_LABELS}
@@ -30,7 +29,7 @@ use Rattle.flurry_theory.specs.Bin.{first_past}
 use Rattle.flurry_theory.specs.Trace.{is_lookup}
 use Rattle.flurry_theory.specs.Legal.{IsWalk, IsClear}
 use Rattle.flurry_theory.specs.Machine as machine
-use Rattle.flurry_theory.specs.Machine.{Transition, Can, effect, goes, does, Mode, Walking, Clearing, Done, Live, Moved, at_bin, total as sum, owes_removed, RefusedAt, Begins, Quiet, Counts, Finds, FindsNothing, IsRefused, Reads as ReadsOne, Leaves, Splits, Wipes as WipesBin, SplitsClear}
+use Rattle.flurry_theory.specs.Machine.{Transition, Can, effect, goes, does, Mode, Walking, Clearing, Done, Live, Moved, at_bin, total as sum, owes_removed, RefusedAt, Quiet, Counts, Finds, FindsNothing, IsRefused, Reads as ReadsOne, Leaves, Splits, Wipes as WipesBin, SplitsClear}
 use Rattle.flurry_theory.proofs.Ranges.{part-total, place_here}
 use Rattle.flurry_theory.proofs.Step.{inv_step}
 use Rattle.flurry_theory.specs.declared.Label.{Label}
@@ -40,7 +39,7 @@ use Rattle.flurry_world.specs.Tables.{Tables, content_at, PlaceGives}
 use Rattle.flurry_world.specs.Parts.{PartStep}
 use Rattle.flurry_world.specs.World.{PartyRecord, WorldState, Near, state_of, mode_of_stage, mode_of_sweep, mode_over, frame_of, frames_of, claim_of_stage, AreHashed, FollowsErrand, FollowsSweep, FollowsStage, IsWorld}
 use Rattle.flurry_world.specs.Steps.{label_of, read_label, with_step}
-use Rattle.flurry_world.proofs.StateLaws.{IsTransition}
+use Rattle.flurry_world.proofs.StateLaws.{IsTransition, is_step}
 use Rattle.flurry_world.proofs.EntryLaws.{length-entries_of_held}
 use Rattle.flurry_world.proofs.TableLaws.{content_of_place}
 use Rattle.flurry_world.proofs.PlaceLaws.{same_live}
@@ -84,9 +83,9 @@ module _ {K V F S : Type 0} (cmp : K → K → Ordering) (total : IsTotalOrder c
     one lab transition last can is follows = step_of cmp hash gives w p x w.control_state w.tables c lab at hashed (unread last) (record { transition = transition; can = can; is = is; follows = follows; frame = same_frame cmp hash gives w k })
 
     -- that changes the mode alone
-    moves_on : (transition : Transition K V F) (m : Mode K V) → effect cmp hash gives (state_of w) p transition ≡ goes cmp hash gives (state_of w) p m → label.Silent p ≡ machine.label cmp hash gives p transition → ((d : Call K V F) (f : Option ℕ) → transition ≡ Begins d f → ⊥)
+    moves_on : (transition : Transition K V F) (m : Mode K V) → effect cmp hash gives (state_of w) p transition ≡ goes cmp hash gives (state_of w) p m → label.Silent p ≡ machine.label cmp hash gives p transition → is_step transition ≡ true
         → u'.last ≡ u.last → Can cmp hash gives (state_of w) p transition → mode_of_sweep u'.stage u'.errand ≡ m → FollowsStage hash x.call c.stage → StepOf cmp hash gives w p x w.control_state w.tables c (label.Silent p)
-    moves_on transition m is named other last can mode follows = one (label.Silent p) transition last can (is_goes cmp hash gives w p x at c (label.Silent p) transition m is named other refl (after_mode m mode) unclaimed) follows
+    moves_on transition m is named own last can mode follows = one (label.Silent p) transition last can (is_goes cmp hash gives w p x at c (label.Silent p) transition m is named own refl (after_mode m mode) unclaimed) follows
 
     -- that changes nothing which the machine sees
     rests : is_lookup (Some x.call) ≡ false → u'.last ≡ u.last → mode_of_sweep u'.stage u'.errand ≡ mode_of_sweep u.stage u.errand → FollowsStage hash x.call c.stage → StepOf cmp hash gives w p x w.control_state w.tables c (label.Silent p)
@@ -109,7 +108,7 @@ module _ {K V F S : Type 0} (cmp : K → K → Ordering) (total : IsTotalOrder c
   -- it asks for the published table
   sets_out : (u' : SweepState K V) → c.stage ≡ AtSweep u' → c.hash ≡ x.party_state.hash → u.stage ≡ AtOutset → u'.errand ≡ u.errand → u'.last ≡ u.last → (o : Option ℕ) → w.control_state.published ≡ o → u'.stage ≡ set_out_at o → StepOf cmp hash gives w p x w.control_state w.tables c (label.Silent p)
   sets_out u' g hashed s q r None bare h =
-      moves_on u' g hashed FindsNothing (Done None 0 0) refl refl (λ d f y. cc) r (x.call, called, in_stage ∙ ap (λ z. mode_of_sweep z u.errand) s, bare, sweeps_all u.errand u.last own.0) (ap (λ z. mode_of_sweep z u'.errand) h)
+      moves_on u' g hashed FindsNothing (Done None 0 0) refl refl refl r (x.call, called, in_stage ∙ ap (λ z. mode_of_sweep z u.errand) s, bare, sweeps_all u.errand u.last own.0) (ap (λ z. mode_of_sweep z u'.errand) h)
       (goes_on u' g hashed (keeps_errand u' q r) (subst (λ z. FollowsSweep hash z u'.errand) (sym h) tt))
   sets_out u' g hashed s q r (Some a) there h =
       one u' g hashed (label.Silent p) (Finds a) r (x.call, called, in_stage ∙ ap (λ z. mode_of_sweep z u.errand) s, ((k.state.1.tables.from a there).0, a, there, omega arith))
@@ -226,13 +225,13 @@ module _ {K V F S : Type 0} (cmp : K → K → Ordering) (total : IsTotalOrder c
 
       at_live : (d : slots.Live K V) → content ≡ IsLive d → (o : Option (PlainEntry K V)) → find (is_pair_past cmp f.top.bound) d.held ≡ o
           → MatchOption o ((ev ≡ event.Silent) × (u'.stage ≡ stage_walked (after_top f)) × (u'.last ≡ u.last)) (λ y. ReadGives f y u.last ev u'.stage u'.last) → StepOf cmp hash gives w p x w.control_state w.tables c (label_of p ev c.stage)
-      at_live d live None next (v, h, last) = rw v (moves_on u' g hashed (Leaves f.base f.index (frame_of f.top) (map frame_of f.below) (entries_of_held d.held) d.writes) _ refl refl (λ d f y. cc) last
+      at_live d live None next (v, h, last) = rw v (moves_on u' g hashed (Leaves f.base f.index (frame_of f.top) (map frame_of f.below) (entries_of_held d.held) d.writes) _ refl refl refl last
           (walking, ap slot_of (here ∙ live), next_entry cmp total hash lawful f.top.bound d.held bounds.0 (k.hashed f.top.table f.top.index d (here ∙ live)) ∙ ap (option_map entry_of_held) next)
           (to _ h ∙ walked f.base f.index f.below) (arrives _ h (walked_hashed V hash f.base f.index f.below Reads bounds.1)))
       at_live d live (Some y) next h = at_entry d live y next ev h
 
       at_moved : content ≡ HasMoved → (v : Event) → SplitGives f v u'.stage → u'.last ≡ u.last → StepOf cmp hash gives w p x w.control_state w.tables c (label_of p v c.stage)
-      at_moved moved event.Silent h last = moves_on u' g hashed (Splits f.base f.index (frame_of f.top) (map frame_of f.below)) _ refl refl (λ d f y. cc) last (walking, ap slot_of (here ∙ moved)) (to _ h ∙ ap (Walking f.base f.index) (halved_frames f)) (arrives _ h (bounds.0, (bounds.0, bounds.1)))
+      at_moved moved event.Silent h last = moves_on u' g hashed (Splits f.base f.index (frame_of f.top) (map frame_of f.below)) _ refl refl refl last (walking, ap slot_of (here ∙ moved)) (to _ h ∙ ap (Walking f.base f.index) (halved_frames f)) (arrives _ h (bounds.0, (bounds.0, bounds.1)))
       at_moved moved event.Refused (h, bound) last = refused last (inr (ap slot_of (here ∙ moved), has_key f.top.bound bound)) h
         where
           has_key : (o : Option (ℕ × K)) → IsSome o → IsSome (option_map (λ b. b.1) o)
@@ -312,7 +311,7 @@ module _ {K V F S : Type 0} (cmp : K → K → Ordering) (total : IsTotalOrder c
             hashed_in a i l false h = k.hashed a i l h
 
       clears_moved : content ≡ HasMoved → (u'.errand ≡ Wipes n) × (u'.stage ≡ OverBins (after_split f)) → StepOf cmp hash gives w p x w.control_state w.tables c (label.Silent p)
-      clears_moved moved (q, h) = moves_on u' g hashed (SplitsClear n f.base f.index (frame_of f.top) (map frame_of f.below)) _ refl refl (λ d f y. cc) last (clearing, ap slot_of (here ∙ moved)) (to_clear n _ q h ∙ ap (Clearing n f.base f.index) (halved_frames f)) (reaches n _ q h (bounds.0, (bounds.0, bounds.1)))
+      clears_moved moved (q, h) = moves_on u' g hashed (SplitsClear n f.base f.index (frame_of f.top) (map frame_of f.below)) _ refl refl refl last (clearing, ap slot_of (here ∙ moved)) (to_clear n _ q h ∙ ap (Clearing n f.base f.index) (halved_frames f)) (reaches n _ q h (bounds.0, (bounds.0, bounds.1)))
 
       clears_unborn : (u'.errand ≡ Wipes n) × (u'.stage ≡ OverBins f) → StepOf cmp hash gives w p x w.control_state w.tables c (label.Silent p)
       clears_unborn (q, h) = rests u' g hashed (looks_not x.call u.errand u.last own.0) last (to_clear n _ q h ∙ sym (ap (λ z. mode_of_sweep z u.errand) over ∙ ap (λ z. mode_over z f) wipes)) (reaches n _ q h bounds)

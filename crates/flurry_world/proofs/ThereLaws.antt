@@ -13,7 +13,6 @@ use Rattle.flurry_calls.specs.Sweep as swept
 use Rattle.flurry_calls.specs.Sweep.{Errand, Reads, Wipes, SweepStage, AtOutset, OverBins, AtTotal, AtEnd, AfterEnd, SweepState, IsUnderWay}
 use Rattle.flurry_steps.specs.Party.{Task, Finds, Removes, RemovesSeen, Inserts, Adds, Computes, Resume, Stage, AtLocate, AtBin, AtClaim, AtMove, AtUncount, AtCount, AtRecount, AtBegin, AtGrow, AtReserve, AtSweep, AtDone, AtTaken, part_of, wanted_part, bin_part, move_part}
 use Rattle.flurry_theory.specs.Map.{same, key_of}
-use Rattle.flurry_theory.specs.Machine.{Unborn}
 use Rattle.flurry_theory.specs.Invariant.{is_live, key_in, NamesBorn}
 use Rattle.flurry_theory.proofs.Bins.{double}
 use Rattle.flurry_theory.proofs.NoUnbornBin.{looks_at}

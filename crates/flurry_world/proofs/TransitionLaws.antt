@@ -2,7 +2,7 @@
 use Rattle.std.specs.Prelude.{ℕ, ℤ, pos, ◌+ℤ◌, ◌-ℤ◌, suc, ◌+◌, ◌-◌, ◌^◌, ◌%◌, ◌<◌, ◌==◌, Bool, true, false, cond, ◌&&◌, nat_lt, List, [], ◌∷◌, ◌++◌, length, reverse, slice_get, Option, Some, None, option_map, if◌then◌else◌, unwrap_or, ◌≡◌}
 use Rattle.std.specs.declared.cmp.Ordering.{Ordering}
 use Rattle.std.proofs.Common.{arith, refl, sym, ◌∙◌, ap}
-use Rattle.std.proofs.lemmas.Bool.{eqb-true}
+use Rattle.std.proofs.lemmas.Bool.{eqb-true, ne_eqb}
 use Rattle.std.proofs.lemmas.Int.{ints}
 use Rattle.std.proofs.lemmas.List.{reverse-append, length-set}
 use Rattle.std.proofs.lemmas.Option.{slice_get_within}
@@ -10,7 +10,7 @@ use Rattle.flurry_theory.proofs.Ranges.{place_here, total-change, total-zero}
 use Rattle.flurry_model.specs.declared.reply.KeptReply.{KeptReply}
 use Rattle.flurry_theory.specs.Bin.{Entry, half}
 use Rattle.flurry_theory.specs.Machine as machine
-use Rattle.flurry_theory.specs.Machine.{Mode, Done, Live, Moved, Transition, total, owes_added, owes_removed, mode_after_count, at_place, at_bin, effect, does, goes, label, Begins, Quiet, Counts, Finds, Opens, IsRefused, DecidesEmpty, Passes, Decides, Places, Claims, Moves, Reports, Publishes, Replies, Ends, found_by}
+use Rattle.flurry_theory.specs.Machine.{Mode, Done, Live, Moved, Transition, total, owes_added, owes_removed, mode_after_count, at_place, at_bin, effect, does, goes, label, Quiet, Counts, Finds, Opens, IsRefused, DecidesEmpty, Passes, Decides, Places, Claims, Moves, Reports, Publishes, Replies, Ends, found_by}
 use Rattle.flurry_model.specs.declared.call.Call.{Call}
 use Rattle.flurry_theory.specs.declared.Label.{Label}
 use Rattle.flurry_theory.specs.declared.Label.TheVariants as label
@@ -20,7 +20,7 @@ use Rattle.flurry_world.specs.Entries.{slot_of}
 use Rattle.flurry_world.specs.Tables.{Tables, content_at}
 use Rattle.flurry_world.specs.World.{PartyRecord, WorldState, state_of, start_of, mode_of_stage, mode_in, claim_of_stage, claim_in, seen_in, began_from_in, steps_in}
 use Rattle.flurry_world.specs.Steps.{with_step}
-use Rattle.flurry_world.proofs.StateLaws.{IsTransition, one_more_step, read_set, same_place}
+use Rattle.flurry_world.proofs.StateLaws.{IsTransition, is_step, one_more_step, read_set, same_place}
 
 -- the sum at one number alone
 total-own : (f : ℕ → ℕ) (p n : ℕ) → p < n → total (λ q. if p == q then f q else 0) n ≡ f p
@@ -44,15 +44,15 @@ module _ {K V F S : Type 0} (cmp : K → K → Ordering) (hash : K → ℕ) (giv
   holds : (state_of w).claim p ≡ claim_of_stage x.party_state.stage
   holds = ap claim_in at
 
-  stepped : (l : Transition K V F) → ((d : Call K V F) (f : Option ℕ) → l ≡ Begins d f → ⊥) → machine.steps_after cmp hash gives (state_of w) p l ≡ suc ((state_of w).steps p)
-  stepped l other = one_more_step cmp hash gives (state_of w) p _ x.call l begun refl other
+  stepped : (l : Transition K V F) → is_step l ≡ true → machine.steps_after cmp hash gives (state_of w) p l ≡ suc ((state_of w).steps p)
+  stepped l own = one_more_step cmp hash gives (state_of w) p _ x.call l begun refl own
 
   -- a transition that changes the party's mode alone
-  pub is_goes : (lab : Label K V F) (l : Transition K V F) (m : Mode K V) → effect cmp hash gives (state_of w) p l ≡ goes cmp hash gives (state_of w) p m → lab ≡ label cmp hash gives p l → ((d : Call K V F) (f : Option ℕ) → l ≡ Begins d f → ⊥)
+  pub is_goes : (lab : Label K V F) (l : Transition K V F) (m : Mode K V) → effect cmp hash gives (state_of w) p l ≡ goes cmp hash gives (state_of w) p m → lab ≡ label cmp hash gives p l → is_step l ≡ true
       → start_of w.first (lab ∷ reverse w.trace) ≡ (state_of w).start → mode_of_stage c.stage ≡ m → claim_of_stage c.stage ≡ claim_of_stage x.party_state.stage → IsTransition cmp hash gives w p w.control_state w.tables c lab l
-  is_goes lab l m e named other start mode claim = record {
+  is_goes lab l m e named own start mode claim = record {
     label_is = named;
-    steps_are = stepped l other;
+    steps_are = stepped l own;
     start = start ∙ ap (λ z. z.start) (sym e);
     published = ap (λ z. z.published) (sym e);
     growth = ap (λ z. z.growth) (sym e);
@@ -61,38 +61,39 @@ module _ {K V F S : Type 0} (cmp : K → K → Ordering) (hash : K → ℕ) (giv
     call = λ q. ap (λ z. z.call q) (sym e);
     mode = λ q. ap (λ n. at_place (state_of w).mode p n q) mode ∙ ap (λ z. z.mode q) (sym e);
     claim = λ q. same_place (state_of w).claim p (claim_of_stage c.stage) (holds ∙ sym claim) q ∙ ap (λ z. z.claim q) (sym e);
+    told = λ q. ap (λ z. z.told q) (sym e);
     count = ap (λ z. z.count) (sym e);
     seen = λ q. ap (λ z. z.seen q) (sym e);
     began_from = λ q. ap (λ z. z.began_from q) (sym e);
   }
 
   pub is_quiet : mode_of_stage c.stage ≡ (state_of w).mode p → claim_of_stage c.stage ≡ claim_of_stage x.party_state.stage → IsTransition cmp hash gives w p w.control_state w.tables c (label.Silent p) Quiet
-  is_quiet mode claim = is_goes (label.Silent p) Quiet ((state_of w).mode p) (λ i. record (state_of w) { mode = λ q. sym (same_place (state_of w).mode p ((state_of w).mode p) refl q) i }) refl (λ d f h. grind (arith, h)) refl mode claim
+  is_quiet mode claim = is_goes (label.Silent p) Quiet ((state_of w).mode p) (λ i. record (state_of w) { mode = λ q. sym (same_place (state_of w).mode p ((state_of w).mode p) refl q) i }) refl refl refl mode claim
 
   pub is_finds : (e : ℕ) → mode_of_stage c.stage ≡ found_by cmp hash gives (Some x.call) e → claim_of_stage c.stage ≡ claim_of_stage x.party_state.stage → IsTransition cmp hash gives w p w.control_state w.tables c (label.Silent p) (Finds e)
-  is_finds e mode claim = is_goes (label.Silent p) (Finds e) _ refl refl (λ d f h. grind (arith, h)) refl (mode ∙ ap (λ o. found_by cmp hash gives o e) (sym begun)) claim
+  is_finds e mode claim = is_goes (label.Silent p) (Finds e) _ refl refl refl refl (mode ∙ ap (λ o. found_by cmp hash gives o e) (sym begun)) claim
 
   pub is_refused : mode_of_stage c.stage ≡ machine.Finished → claim_of_stage c.stage ≡ claim_of_stage x.party_state.stage → IsTransition cmp hash gives w p w.control_state w.tables c (label.Refused p) IsRefused
-  is_refused mode claim = is_goes (label.Refused p) IsRefused _ refl refl (λ d f h. grind (arith, h)) refl mode claim
+  is_refused mode claim = is_goes (label.Refused p) IsRefused _ refl refl refl refl mode claim
 
   pub is_decided_empty : (d : Call K V F) (r : KeptReply K V) → mode_of_stage c.stage ≡ Done (Some r) 0 0 → claim_of_stage c.stage ≡ claim_of_stage x.party_state.stage → IsTransition cmp hash gives w p w.control_state w.tables c (label.Decide p r) (DecidesEmpty d r)
-  is_decided_empty d r mode claim = is_goes (label.Decide p r) (DecidesEmpty d r) _ refl refl (λ d f h. grind (arith, h)) refl mode claim
+  is_decided_empty d r mode claim = is_goes (label.Decide p r) (DecidesEmpty d r) _ refl refl refl refl mode claim
 
   pub is_passed : (e : ℕ) → mode_of_stage c.stage ≡ machine.Looking (suc e) → claim_of_stage c.stage ≡ claim_of_stage x.party_state.stage → IsTransition cmp hash gives w p w.control_state w.tables c (label.Silent p) (Passes e)
-  is_passed e mode claim = is_goes (label.Silent p) (Passes e) _ refl refl (λ d f h. grind (arith, h)) refl mode claim
+  is_passed e mode claim = is_goes (label.Silent p) (Passes e) _ refl refl refl refl mode claim
 
   pub is_replied : (r : KeptReply K V) → mode_of_stage c.stage ≡ machine.Finished → claim_of_stage c.stage ≡ claim_of_stage x.party_state.stage → IsTransition cmp hash gives w p w.control_state w.tables c (label.Reply p r) (Replies r)
-  is_replied r mode claim = is_goes (label.Reply p r) (Replies r) _ refl refl (λ d f h. grind (arith, h)) refl mode claim
+  is_replied r mode claim = is_goes (label.Reply p r) (Replies r) _ refl refl refl refl mode claim
 
   pub is_ended : mode_of_stage c.stage ≡ machine.Finished → claim_of_stage c.stage ≡ claim_of_stage x.party_state.stage → IsTransition cmp hash gives w p w.control_state w.tables c (label.End p) Ends
-  is_ended mode claim = is_goes (label.End p) Ends _ refl refl (λ d f h. grind (arith, h)) refl mode claim
+  is_ended mode claim = is_goes (label.End p) Ends _ refl refl refl refl mode claim
 
   -- the pairs that it added or removed are counted
   pub is_counted : (r : Option (KeptReply K V)) (added removed : ℕ) (n : ℤ) → (state_of w).mode p ≡ Done r added removed → n ≡ w.control_state.count +ℤ pos added -ℤ pos removed → mode_of_stage c.stage ≡ Done r 0 0 → claim_of_stage c.stage ≡ claim_of_stage x.party_state.stage
       → IsTransition cmp hash gives w p (record { published = w.control_state.published; growth = w.control_state.growth; count = n }) w.tables c (label.Silent p) (Counts (λ q. p == q))
   is_counted r added removed n before count mode claim = record {
     label_is = refl;
-    steps_are = stepped (Counts (λ q. p == q)) (λ d f h. grind (arith, h));
+    steps_are = stepped (Counts (λ q. p == q)) refl;
     start = refl;
     published = refl;
     growth = refl;
@@ -101,6 +102,7 @@ module _ {K V F S : Type 0} (cmp : K → K → Ordering) (hash : K → ℕ) (giv
     call = λ q. refl;
     mode = λ q. own_settled (state_of w).mode p (mode_of_stage c.stage) (ap mode_after_count before ∙ sym mode) q;
     claim = λ q. same_place (state_of w).claim p (claim_of_stage c.stage) (holds ∙ sym claim) q;
+    told = λ q. refl;
     count = omega (arith, ints, count, total-own (λ q. owes_added ((state_of w).mode q)) p (length w.party_records) below, total-own (λ q. owes_removed ((state_of w).mode q)) p (length w.party_records) below, ap owes_added before, ap owes_removed before);
     seen = λ q. refl;
     began_from = λ q. refl;
@@ -112,7 +114,7 @@ module _ {K V F S : Type 0} (cmp : K → K → Ordering) (hash : K → ℕ) (giv
       → IsTransition cmp hash gives w p (record { published = Some e; growth = w.control_state.growth; count = w.control_state.count }) t c (label.Opened e) (Opens e)
   is_opened e t none slot mode claim = record {
     label_is = refl;
-    steps_are = stepped (Opens e) (λ d f h. grind (arith, h));
+    steps_are = stepped (Opens e) refl;
     start = ap (λ f. unwrap_or f e) none;
     published = refl;
     growth = refl;
@@ -121,6 +123,7 @@ module _ {K V F S : Type 0} (cmp : K → K → Ordering) (hash : K → ℕ) (giv
     call = λ q. refl;
     mode = λ q. ap (λ m. at_place (state_of w).mode p m q) (mode ∙ ap (λ o. found_by cmp hash gives o e) (sym begun));
     claim = λ q. same_place (state_of w).claim p (claim_of_stage c.stage) (holds ∙ sym claim) q;
+    told = λ q. refl;
     count = refl;
     seen = λ q. refl;
     began_from = λ q. refl;
@@ -131,7 +134,7 @@ module _ {K V F S : Type 0} (cmp : K → K → Ordering) (hash : K → ℕ) (giv
       → IsTransition cmp hash gives w p (record { published = w.control_state.published; growth = Grows (2 ^ e) 0; count = w.control_state.count }) t c (label.Placed (suc e)) (Places e)
   is_placed e t slot mode claim = record {
     label_is = refl;
-    steps_are = stepped (Places e) (λ d f h. grind (arith, h));
+    steps_are = stepped (Places e) refl;
     start = refl;
     published = refl;
     growth = refl;
@@ -140,6 +143,7 @@ module _ {K V F S : Type 0} (cmp : K → K → Ordering) (hash : K → ℕ) (giv
     call = λ q. refl;
     mode = λ q. same_place (state_of w).mode p (mode_of_stage c.stage) (sym mode) q;
     claim = λ q. same_place (state_of w).claim p (claim_of_stage c.stage) (holds ∙ sym claim) q;
+    told = λ q. refl;
     count = refl;
     seen = λ q. refl;
     began_from = λ q. refl;
@@ -150,7 +154,7 @@ module _ {K V F S : Type 0} (cmp : K → K → Ordering) (hash : K → ℕ) (giv
       → IsTransition cmp hash gives w p (record { published = w.control_state.published; growth = Grows low r; count = w.control_state.count }) w.tables c (label.Silent p) (Claims e (record { unclaimed = u; reported = r }) low)
   is_claimed e u r low mode claim = record {
     label_is = refl;
-    steps_are = stepped (Claims e (record { unclaimed = u; reported = r }) low) (λ d f h. grind (arith, h));
+    steps_are = stepped (Claims e (record { unclaimed = u; reported = r }) low) refl;
     start = refl;
     published = refl;
     growth = refl;
@@ -159,17 +163,18 @@ module _ {K V F S : Type 0} (cmp : K → K → Ordering) (hash : K → ℕ) (giv
     call = λ q. refl;
     mode = λ q. same_place (state_of w).mode p (mode_of_stage c.stage) (sym mode) q;
     claim = λ q. ap (λ a. at_place (state_of w).claim p a q) claim;
+    told = λ q. refl;
     count = refl;
     seen = λ q. refl;
     began_from = λ q. refl;
   }
 
   -- a claim is reported, and is not the last one
-  pub is_reported : (a : machine.Claim) (u r : ℕ) → mode_of_stage c.stage ≡ (state_of w).mode p → claim_of_stage c.stage ≡ None
+  pub is_reported : (a : machine.Claim) (u r : ℕ) → (r + (a.high - a.low) ≡ 2 ^ a.table → ⊥) → mode_of_stage c.stage ≡ (state_of w).mode p → claim_of_stage c.stage ≡ None
       → IsTransition cmp hash gives w p (record { published = w.control_state.published; growth = Grows u (r + (a.high - a.low)); count = w.control_state.count }) w.tables c (label.Silent p) (Reports a (record { unclaimed = u; reported = r }))
-  is_reported a u r mode claim = record {
+  is_reported a u r left mode claim = record {
     label_is = refl;
-    steps_are = stepped (Reports a (record { unclaimed = u; reported = r })) (λ d f h. grind (arith, h));
+    steps_are = stepped (Reports a (record { unclaimed = u; reported = r })) refl;
     start = refl;
     published = refl;
     growth = refl;
@@ -178,6 +183,7 @@ module _ {K V F S : Type 0} (cmp : K → K → Ordering) (hash : K → ℕ) (giv
     call = λ q. refl;
     mode = λ q. same_place (state_of w).mode p (mode_of_stage c.stage) (sym mode) q;
     claim = λ q. ap (λ a. at_place (state_of w).claim p a q) claim;
+    told = λ q. ap (λ b. cond b (at_place (state_of w).told p (Some a.table)) (state_of w).told q) (sym (ne_eqb (r + (a.high - a.low)) (2 ^ a.table) left));
     count = refl;
     seen = λ q. refl;
     began_from = λ q. refl;
@@ -188,7 +194,7 @@ module _ {K V F S : Type 0} (cmp : K → K → Ordering) (hash : K → ℕ) (giv
       → IsTransition cmp hash gives w p (record { published = Some (suc a.table); growth = IsIdle; count = w.control_state.count }) w.tables c (label.Published (suc a.table)) (Publishes a g)
   is_published a g mode claim = record {
     label_is = refl;
-    steps_are = stepped (Publishes a g) (λ d f h. grind (arith, h));
+    steps_are = stepped (Publishes a g) refl;
     start = refl;
     published = refl;
     growth = refl;
@@ -197,6 +203,7 @@ module _ {K V F S : Type 0} (cmp : K → K → Ordering) (hash : K → ℕ) (giv
     call = λ q. refl;
     mode = λ q. same_place (state_of w).mode p (mode_of_stage c.stage) (sym mode) q;
     claim = λ q. ap (λ a. at_place (state_of w).claim p a q) claim;
+    told = λ q. refl;
     count = refl;
     seen = λ q. refl;
     began_from = λ q. refl;
@@ -209,7 +216,7 @@ module _ {K V F S : Type 0} (cmp : K → K → Ordering) (hash : K → ℕ) (giv
       → IsTransition cmp hash gives w p w.control_state t c (label.Moved a.table i) (Moves a i es n)
   is_moved a i es n t slot mode claim = record {
     label_is = refl;
-    steps_are = stepped (Moves a i es n) (λ d f h. grind (arith, h));
+    steps_are = stepped (Moves a i es n) refl;
     start = refl;
     published = refl;
     growth = refl;
@@ -218,6 +225,7 @@ module _ {K V F S : Type 0} (cmp : K → K → Ordering) (hash : K → ℕ) (giv
     call = λ q. refl;
     mode = λ q. same_place (state_of w).mode p (mode_of_stage c.stage) (sym mode) q;
     claim = λ q. ap (λ a. at_place (state_of w).claim p a q) claim;
+    told = λ q. refl;
     count = refl;
     seen = λ q. refl;
     began_from = λ q. refl;
@@ -230,7 +238,7 @@ module _ {K V F S : Type 0} (cmp : K → K → Ordering) (hash : K → ℕ) (giv
       → IsTransition cmp hash gives w p w.control_state t c (label.Decide p r) (Decides d k e es n r fs m)
   is_decided d k e es n r fs m t slot mode claim = record {
     label_is = refl;
-    steps_are = stepped (Decides d k e es n r fs m) (λ d f h. grind (arith, h));
+    steps_are = stepped (Decides d k e es n r fs m) refl;
     start = refl;
     published = refl;
     growth = refl;
@@ -239,6 +247,7 @@ module _ {K V F S : Type 0} (cmp : K → K → Ordering) (hash : K → ℕ) (giv
     call = λ q. refl;
     mode = λ q. ap (λ m. at_place (state_of w).mode p m q) mode;
     claim = λ q. same_place (state_of w).claim p (claim_of_stage c.stage) (holds ∙ sym claim) q;
+    told = λ q. refl;
     count = refl;
     seen = λ q. refl;
     began_from = λ q. refl;
@@ -251,7 +260,7 @@ module _ {K V F S : Type 0} (cmp : K → K → Ordering) (hash : K → ℕ) (giv
       → IsTransition cmp hash gives w p w.control_state t c (label.Wipe p f.table f.index) (machine.Wipes d e i f fs es n)
   is_wiped d e i f fs es n t slot mode claim = record {
     label_is = refl;
-    steps_are = stepped (machine.Wipes d e i f fs es n) (λ d f h. grind (arith, h));
+    steps_are = stepped (machine.Wipes d e i f fs es n) refl;
     start = refl;
     published = refl;
     growth = refl;
@@ -260,6 +269,7 @@ module _ {K V F S : Type 0} (cmp : K → K → Ordering) (hash : K → ℕ) (giv
     call = λ q. refl;
     mode = λ q. ap (λ m. at_place (state_of w).mode p m q) mode;
     claim = λ q. same_place (state_of w).claim p (claim_of_stage c.stage) (holds ∙ sym claim) q;
+    told = λ q. refl;
     count = refl;
     seen = λ q. refl;
     began_from = λ q. refl;
@@ -278,10 +288,11 @@ module _ {K V F S : Type 0} (cmp : K → K → Ordering) (hash : K → ℕ) (giv
     call = λ q. (read_set (option_map (λ (r : PartyRecord K V F). r.call)) w.party_records p q z below ∙ same_place (state_of w).call p (Some x.call) begun q) j;
     mode = λ q. (read_set mode_in w.party_records p q z below ∙ ap (λ m. at_place (state_of w).mode p m q) mode) j;
     claim = λ q. (read_set claim_in w.party_records p q z below ∙ same_place (state_of w).claim p (claim_of_stage c.stage) (holds ∙ sym claim) q) j;
+    told = λ _. None;
     count = w.control_state.count;
     seen = λ q. (read_set seen_in w.party_records p q z below ∙ ap (λ m. at_place (state_of w).seen p m q) seen) j;
     began_from = λ q. (read_set began_from_in w.party_records p q z below ∙ same_place (state_of w).began_from p x.began_from (ap began_from_in at) q) j;
-    steps = λ q. (read_set steps_in w.party_records p q z below ∙ ap (λ m. at_place (state_of w).steps p m q) (ap suc (sym (ap steps_in at)) ∙ sym (stepped (machine.Reads e i f fs es n y) (λ d g h. grind (arith, h))))) j;
+    steps = λ q. (read_set steps_in w.party_records p q z below ∙ ap (λ m. at_place (state_of w).steps p m q) (ap suc (sym (ap steps_in at)) ∙ sym (stepped (machine.Reads e i f fs es n y) refl))) j;
     trace = turned j;
   }
     where

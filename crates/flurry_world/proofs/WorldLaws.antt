@@ -63,6 +63,7 @@ module _ {K V F S : Type 0} (cmp : K → K → Ordering) (total : IsTotalOrder c
       call = (state_of w).call;
       mode = (state_of w).mode;
       claim = (state_of w).claim;
+      told = (state_of w).told;
       count = w.control_state.count;
       seen = (state_of w).seen;
       began_from = (state_of w).began_from;
@@ -105,6 +106,7 @@ module _ {K V F S : Type 0} (cmp : K → K → Ordering) (total : IsTotalOrder c
       call = λ q. read_append (option_map (λ (z : PartyRecord K V F). z.call)) w.party_records new q i;
       mode = λ q. (read_append mode_in w.party_records new q ∙ ap (λ m. at_place (state_of w).mode (length w.party_records) m q) mode) i;
       claim = λ q. (read_append claim_in w.party_records new q ∙ ap (λ m. at_place (state_of w).claim (length w.party_records) m q) claim) i;
+      told = λ q. sym (same_place (state_of w).told (length w.party_records) None refl q) i;
       count = w.control_state.count;
       seen = λ q. (read_append seen_in w.party_records new q ∙ ap (λ m. at_place (state_of w).seen (length w.party_records) m q) unread) i;
       began_from = λ q. read_append began_from_in w.party_records new q i;

@@ -215,6 +215,8 @@ module _ {K V F : Type 0} where
     call = λ p. option_map (λ (x : PartyRecord K V F). x.call) (slice_get w.party_records p);
     mode = λ p. mode_in (slice_get w.party_records p);
     claim = λ p. claim_in (slice_get w.party_records p);
+    -- the party whose report is the last publishes in that step, so none is ever told to
+    told = λ _. None;
     count = w.control_state.count;
     seen = λ p. seen_in (slice_get w.party_records p);
     began_from = λ p. began_from_in (slice_get w.party_records p);
