@@ -6,6 +6,7 @@ ghost use Rattle.std.specs.Ordering.{nat_cmp, on, as_partial_cmp};
 
 use super::same;
 use flurry_map::HashMap;
+use flurry_map::iter::Iter;
 use flurry_model::hash::ZeroHashBuilder;
 use flurry_shared_set::HashSet;
 use std::alloc::{AllocError, Allocator, Global};
@@ -163,35 +164,49 @@ fn guest_of<'m>(number: u64, is_asked: bool, meeting: &'m Meeting) -> Guest<'m> 
     }
 }
 
-// Computes a value at the key 1, or at an absent key.
-fn computes<'m, A: Allocator + Copy, R: Wait>(
+// Replaces the value at the key 1.
+fn replaces<'m, A: Allocator + Copy, R: Wait>(
     rt: &R,
     map: &Guests<'m, A>,
-    deed: Deed,
-    kept: Guest<'m>,
 ) -> Result<(), AllocError> {
-    let one = Guest::new(1);
-    match deed {
-        Deed::Replace => drop(map.compute_if_present(rt, &one, |_, _| Some(Guest::new(3)))?),
-        Deed::Erase => drop(map.compute_if_present(rt, &one, |_, _| None)?),
-        _ => {
-            let three = Guest::new(3);
-            drop(map.compute_if_present(rt, &three, move |_, _| Some(kept))?);
-        }
-    }
+    drop(map.compute_if_present(rt, &Guest::new(1), |_, _| Some(Guest::new(3)))?);
     Ok(())
 }
 
-// Walks past the first pair, which is removed meanwhile.
+// Removes the pair at the key 1 by a computation.
+fn erases<'m, A: Allocator + Copy, R: Wait>(rt: &R, map: &Guests<'m, A>) -> Result<(), AllocError> {
+    drop(map.compute_if_present(rt, &Guest::new(1), |_, _| None)?);
+    Ok(())
+}
+
+// Computes nothing at an absent key, by a function that owns a guest.
+fn computes_nowhere<'m, A: Allocator + Copy, R: Wait>(
+    rt: &R,
+    map: &Guests<'m, A>,
+    kept: Guest<'m>,
+) -> Result<(), AllocError> {
+    drop(map.compute_if_present(rt, &Guest::new(3), move |_, _| Some(kept))?);
+    Ok(())
+}
+
+// Walks past the first pair, which is removed meanwhile. It borrows the iterator, because a body that owns it has a proof of its drop at
+// each way out.
+fn reads_on<'m, A: Allocator + Copy, R: Wait>(
+    rt: &R,
+    map: &Guests<'m, A>,
+    pairs: &mut Iter<'_, R, Guest<'m>, Guest<'m>, A>,
+) -> Result<(), AllocError> {
+    drop(pairs.next()?);
+    drop(map.remove(rt, &Guest::new(1)));
+    drop(pairs.next()?);
+    Ok(())
+}
+
 fn reads<'m, A: Allocator + Copy, R: Wait>(rt: &R, map: &Guests<'m, A>) -> Result<(), AllocError> {
     let mut pairs = map.iter(rt);
-    let seen = pairs.next();
-    drop(seen);
-    drop(map.remove(rt, &Guest::new(1)));
-    let seen = pairs.next();
+    let seen = reads_on(rt, map, &mut pairs);
     drop(pairs);
-    drop(seen?);
-    Ok(())
+    seen
 }
 
 // Visits all pairs.
@@ -220,9 +235,10 @@ fn does<'m, A: Allocator + Copy, R: Wait>(
     meeting: &'m Meeting,
 ) -> Result<(), AllocError> {
     match deed {
-        Deed::Replace | Deed::Erase | Deed::ComputeNowhere => {
-            let kept = guest_of(3, matches!(who, Who::Function), meeting);
-            computes(rt, map, deed, kept)
+        Deed::Replace => replaces(rt, map),
+        Deed::Erase => erases(rt, map),
+        Deed::ComputeNowhere => {
+            computes_nowhere(rt, map, guest_of(3, matches!(who, Who::Function), meeting))
         }
         Deed::Insert => {
             let key = guest_of(1, matches!(who, Who::NewKey), meeting);

@@ -142,34 +142,44 @@ fn an_extension(rt: HostRuntime) -> Result<(), Fail> {
     Ok(())
 }
 
-// Room is made first: a hundred pairs ask for the tables of that room, and for three blocks each.
+// Makes the call, of a map or of a list in this memory. Returns whether it succeeded, and how many requests it made.
+fn asked_in<A: Allocator + Copy, R: Wait>(
+    rt: &R,
+    memory: &Metered<Global>,
+    map: &Numbers<A>,
+    list: Vec<(u64, u64), A>,
+    call: Call,
+) -> (bool, u64) {
+    memory.refuse_nothing();
+    let done = is_done(rt, map, list, call);
+    (done, memory.asked())
+}
+
+// Does the same as `asked_in`, with a map of the keys below `pairs` and a list of `others` greater keys.
+fn asked_by<R: Wait>(
+    rt: &R,
+    memory: Memory,
+    pairs: u64,
+    others: u64,
+    call: Call,
+) -> Result<(bool, u64), Fail> {
+    let list = list(memory, 100, others.saturating_add(100), 0)?;
+    let map = numbers(rt, memory, pairs);
+    Ok(asked_in(rt, memory, &map, list, call))
+}
+
+// Room is made first: a hundred pairs ask for the tables of that room, and for three blocks each. A map that is not empty makes room for
+// half of a list: for a map of one pair in 16 bins and a list of eight, that is no further table.
 #[test]
 fn room_is_made_first(rt: HostRuntime) -> Result<(), Fail> {
     let memory = Metered::leaked(rt.alloc())?;
-    let pairs = list(memory, 0, 100, 0)?;
-    memory.refuse_nothing();
-    let map: Numbers<Memory> = HashMap::from_list(&rt, pairs, LowHashBuilder)?;
-    same(&rt, memory.asked(), 302);
-    memory.refuse_nothing();
-    drop(map.try_clone(&rt)?);
-    same(&rt, memory.asked(), 103);
-    let other: Numbers<Memory> = HashMap::with_hasher(memory, LowHashBuilder);
-    let pairs = list(memory, 0, 100, 0)?;
-    memory.refuse_nothing();
-    other.extend(&rt, pairs)?;
-    same(&rt, memory.asked(), 304);
-    Ok(())
-}
-
-// A map that is not empty makes room for half of a list: for a map of one pair in 16 bins and a list of eight, that is no further table.
-#[test]
-fn room_for_half_of_a_list(rt: HostRuntime) -> Result<(), Fail> {
-    let memory = Metered::leaked(rt.alloc())?;
-    let map: Numbers<Memory> = HashMap::with_hasher(memory, LowHashBuilder);
-    map.insert(&rt, 100, 0)?;
-    let pairs = list(memory, 0, 8, 0)?;
-    memory.refuse_nothing();
-    map.extend(&rt, pairs)?;
-    same(&rt, memory.asked(), 24);
+    let asked = asked_by(&rt, memory, 0, 100, Call::FromList)?;
+    same(&rt, asked, (true, 302));
+    let asked = asked_by(&rt, memory, 100, 0, Call::TryClone)?;
+    same(&rt, asked, (true, 103));
+    let asked = asked_by(&rt, memory, 0, 100, Call::Extend)?;
+    same(&rt, asked, (true, 304));
+    let asked = asked_by(&rt, memory, 1, 8, Call::Extend)?;
+    same(&rt, asked, (true, 24));
     Ok(())
 }
