@@ -8,7 +8,7 @@ mod world_rows;
 
 use flurry_bins::bin::{Bin, Entry, ListBin, Node, Ordered, Shape, TreeBin};
 use metered_alloc::Metered;
-use std::alloc::{AllocError, Global};
+use std::alloc::{AllocError, Allocator, Global};
 use std::fmt::Debug;
 use std::process::Abort;
 use std::sync::Arc;
@@ -27,12 +27,13 @@ fn same_at<T: PartialEq + Debug + Drop>(rt: &impl Abort, k: u64, seen: T, wanted
     assert_eq!(rt; seen, wanted, "at {k}");
 }
 
-type NumberBin = Bin<u64, u64, Memory>;
+// A bin of numbers. Its allocator is a parameter, because a proof over `Memory` unfolds it in each step.
+type NumberBin<A> = Bin<u64, u64, A>;
 
-type BoxedNode = Box<Node<u64, u64, Memory>, Memory>;
+type BoxedNode<A> = Box<Node<u64, u64, A>, A>;
 
 // Returns a node of a key whose hash is its last bit.
-fn node(memory: Memory, key: u64) -> Result<BoxedNode, AllocError> {
+fn node<A: Allocator + Copy>(memory: A, key: u64) -> Result<BoxedNode<A>, AllocError> {
     let entry = Entry {
         hash: key % 2,
         key: Arc::new(memory, key)?,
@@ -43,7 +44,7 @@ fn node(memory: Memory, key: u64) -> Result<BoxedNode, AllocError> {
 }
 
 // Returns the nodes of the keys below `count`.
-fn nodes(memory: Memory, count: u64) -> Result<Vec<BoxedNode, Memory>, Fail> {
+fn nodes<A: Allocator + Copy>(memory: A, count: u64) -> Result<Vec<BoxedNode<A>, A>, AllocError> {
     let mut nodes = Vec::new(memory);
     for key in 0..count {
         nodes.push(node(memory, key)?)?;
@@ -52,7 +53,7 @@ fn nodes(memory: Memory, count: u64) -> Result<Vec<BoxedNode, Memory>, Fail> {
 }
 
 // Inserts those nodes whose keys are absent.
-fn put_all(bin: &mut NumberBin, nodes: Vec<BoxedNode, Memory>) {
+fn put_all<A: Allocator>(bin: &mut NumberBin<A>, nodes: Vec<BoxedNode<A>, A>) {
     for node in nodes {
         let entry = node.entry();
         if bin.find(entry.hash, entry.key.as_ref()).0.is_none() && bin.len() < 1000 {
@@ -62,7 +63,7 @@ fn put_all(bin: &mut NumberBin, nodes: Vec<BoxedNode, Memory>) {
 }
 
 // Returns a list of the nodes.
-fn list_of(nodes: Vec<BoxedNode, Memory>) -> ListBin<u64, u64, Memory> {
+fn list_of<A: Allocator>(nodes: Vec<BoxedNode<A>, A>) -> ListBin<u64, u64, A> {
     let mut list = ListBin::new();
     for node in nodes {
         let entry = node.entry();
@@ -74,53 +75,64 @@ fn list_of(nodes: Vec<BoxedNode, Memory>) -> ListBin<u64, u64, Memory> {
 }
 
 // Makes the node of an entry while its only request fails. Returns whether the request was made, and whether there is no node.
-fn refused_node(memory: Memory) -> Result<(bool, bool), Fail> {
+fn refused_node<A: Allocator + Copy>(
+    metered: &Metered<Global>,
+    memory: A,
+) -> Result<(bool, bool), AllocError> {
     let entry = Entry {
         hash: 1,
         key: Arc::new(memory, 7)?,
         value: Arc::new(memory, 8)?,
         number: 1,
     };
-    memory.refuse_at(0);
+    metered.refuse_at(0);
     let failed = Node::new(memory, entry).is_err();
-    let refused = memory.refused();
-    memory.refuse_nothing();
+    let refused = metered.refused();
+    metered.refuse_nothing();
     Ok((refused, failed))
 }
 
 // Makes an entry and its node while the request numbered `k` fails. Returns whether the request was made, and whether there is no node.
-fn refused_entry(memory: Memory, k: u64) -> (bool, bool) {
-    memory.refuse_at(k);
+fn refused_entry<A: Allocator + Copy>(
+    metered: &Metered<Global>,
+    memory: A,
+    k: u64,
+) -> (bool, bool) {
+    metered.refuse_at(k);
     let failed = node(memory, 7).is_err();
-    let refused = memory.refused();
-    memory.refuse_nothing();
+    let refused = metered.refused();
+    metered.refuse_nothing();
     (refused, failed)
 }
 
 #[test]
 fn a_node(rt: HostRuntime) -> Result<(), Fail> {
     let memory = Metered::leaked(rt.alloc())?;
-    same(&rt, refused_node(memory)?, (true, true));
+    same(&rt, refused_node(memory, memory)?, (true, true));
     same(&rt, memory.blocks(), 0);
     for k in 0..4u64 {
         let refused = k < 3;
-        same_at(&rt, k, refused_entry(memory, k), (refused, refused));
+        same_at(&rt, k, refused_entry(memory, memory, k), (refused, refused));
         same_at(&rt, k, memory.blocks(), 0);
     }
     Ok(())
 }
 
 // Returns a bin into which the nodes of the keys below `count` were inserted while every request fails.
-fn bin_of(memory: Memory, count: u64) -> Result<NumberBin, Fail> {
+fn bin_of<A: Allocator + Copy>(
+    metered: &Metered<Global>,
+    memory: A,
+    count: u64,
+) -> Result<NumberBin<A>, AllocError> {
     let nodes = nodes(memory, count)?;
-    memory.refuse_from(0);
+    metered.refuse_from(0);
     let mut bin = Bin::new();
     put_all(&mut bin, nodes);
     Ok(bin)
 }
 
 // Replaces the value of the key 4, if the bin has it, and returns the old value.
-fn replaced(bin: &mut NumberBin, value: Arc<u64, Memory>) -> Option<u64> {
+fn replaced<A: Allocator>(bin: &mut NumberBin<A>, value: Arc<u64, A>) -> Option<u64> {
     if bin.find(0, &4).0.is_none() {
         return None;
     }
@@ -128,7 +140,7 @@ fn replaced(bin: &mut NumberBin, value: Arc<u64, Memory>) -> Option<u64> {
 }
 
 // Splits a bin of 23 keys, and makes a bin of the list of its lower half.
-fn splits_a_bin(rt: &impl Abort, bin: NumberBin) {
+fn splits_a_bin<A: Allocator>(rt: &impl Abort, bin: NumberBin<A>) {
     let (low, high) = bin.split(0);
     same(
         rt,
@@ -137,46 +149,70 @@ fn splits_a_bin(rt: &impl Abort, bin: NumberBin) {
     );
     let list = low.into_list();
     same(rt, list.len(), 12);
-    let low: NumberBin = Bin::from_list(list);
+    let low: NumberBin<A> = Bin::from_list(list);
     same(rt, low.shape(), Shape::Tree(12));
+}
+
+// Calls of a bin of 24 keys.
+fn calls_of_a_bin<A: Allocator + Copy>(
+    rt: &impl Abort,
+    metered: &Metered<Global>,
+    memory: A,
+) -> Result<(), AllocError> {
+    let value = Arc::new(memory, 50)?;
+    let mut bin = bin_of(metered, memory, 24)?;
+    same(rt, bin.shape(), Shape::Tree(24));
+    same(rt, bin.next_after(Some((0, &4))).is_some(), true);
+    same(rt, replaced(&mut bin, value), Some(4));
+    same(rt, bin.remove(1, &5).is_some(), true);
+    splits_a_bin(rt, bin);
+    Ok(())
 }
 
 #[test]
 fn a_bin_asks_for_nothing(rt: HostRuntime) -> Result<(), Fail> {
     let memory = Metered::leaked(rt.alloc())?;
-    let value = Arc::new(memory, 50)?;
-    let mut bin = bin_of(memory, 24)?;
-    same(&rt, bin.shape(), Shape::Tree(24));
-    same(&rt, bin.next_after(Some((0, &4))).is_some(), true);
-    same(&rt, replaced(&mut bin, value), Some(4));
-    same(&rt, bin.remove(1, &5).is_some(), true);
-    splits_a_bin(&rt, bin);
+    calls_of_a_bin(&rt, memory, memory)?;
     same(&rt, (memory.asked(), memory.blocks()), (0, 0));
     Ok(())
+}
+
+// Makes a tree of a bin of 9 keys, and a list again.
+fn plants<A: Allocator>(rt: &impl Abort, bin: &mut NumberBin<A>) {
+    same(rt, bin.shape(), Shape::List(9));
+    bin.plant();
+    same(rt, bin.shape(), Shape::Tree(9));
+    for key in [0, 2, 4] {
+        same(rt, bin.remove(0, &key).is_some(), true);
+    }
+    same(rt, bin.shape(), Shape::List(6));
 }
 
 #[test]
 fn planting_asks_for_nothing(rt: HostRuntime) -> Result<(), Fail> {
     let memory = Metered::leaked(rt.alloc())?;
-    let mut bin = bin_of(memory, 9)?;
-    same(&rt, bin.shape(), Shape::List(9));
-    bin.plant();
-    same(&rt, bin.shape(), Shape::Tree(9));
-    for key in [0, 2, 4] {
-        same(&rt, bin.remove(0, &key).is_some(), true);
-    }
-    same(&rt, bin.shape(), Shape::List(6));
-    drop(bin);
+    plants(&rt, &mut bin_of(memory, memory, 9)?);
     same(&rt, (memory.asked(), memory.blocks()), (0, 0));
     Ok(())
 }
 
 // Splits a tree of 18 keys, and the list of its higher half.
-fn splits_a_tree(rt: &impl Abort, tree: TreeBin<u64, u64, Memory>) {
+fn splits_a_tree<A: Allocator>(rt: &impl Abort, tree: TreeBin<u64, u64, A>) {
     let (low, high) = tree.split(0);
     same(rt, (low.len(), high.len()), (8, 10));
     let (none, list) = high.into_list().split(0);
     same(rt, (none.len(), list.len()), (0, 10));
+}
+
+// Calls of a list of 20 nodes, and of the tree that is made of it.
+fn calls_of_a_list<A: Allocator>(rt: &impl Abort, nodes: Vec<BoxedNode<A>, A>) {
+    let mut list = list_of(nodes);
+    same(rt, list.find(1, &19).1, 20);
+    same(rt, list.remove(0, &0).is_some(), true);
+    let mut tree: TreeBin<u64, u64, A> = TreeBin::from_list(list);
+    same(rt, tree.len(), 19);
+    same(rt, tree.remove(0, &2).is_some(), true);
+    splits_a_tree(rt, tree);
 }
 
 #[test]
@@ -184,13 +220,7 @@ fn lists_and_trees_ask_for_nothing(rt: HostRuntime) -> Result<(), Fail> {
     let memory = Metered::leaked(rt.alloc())?;
     let nodes = nodes(memory, 20)?;
     memory.refuse_from(0);
-    let mut list = list_of(nodes);
-    same(&rt, list.find(1, &19).1, 20);
-    same(&rt, list.remove(0, &0).is_some(), true);
-    let mut tree: TreeBin<u64, u64, Memory> = TreeBin::from_list(list);
-    same(&rt, tree.len(), 19);
-    same(&rt, tree.remove(0, &2).is_some(), true);
-    splits_a_tree(&rt, tree);
+    calls_of_a_list(&rt, nodes);
     same(&rt, (memory.asked(), memory.blocks()), (0, 0));
     Ok(())
 }

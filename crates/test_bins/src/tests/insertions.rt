@@ -4,20 +4,19 @@ use super::same;
 use flurry_bins::bin::{Bin, Ordered, Shape};
 use flurry_insertion::table::{Inserted, insert_in_table};
 use metered_alloc::Metered;
-use std::alloc::{AllocError, Global};
+use std::alloc::{AllocError, Allocator, Global};
 use std::process::Abort;
 use std::sync::Arc;
 use std::test::Fail;
 
-type Memory = &'static Metered<Global>;
-
 // The value that the key had, if any, and whether the bin asks for a larger table.
 type Reply = (Option<u64>, bool);
 
-// Inserts a key with the hash 3 into a bin of a table of `bins` bins.
-fn insert(
-    bin: &mut Bin<u64, u64, Memory>,
-    memory: Memory,
+// Inserts a key with the hash 3 into a bin of a table of `bins` bins. The allocator is a parameter, because a proof over that of a test
+// unfolds it in each step.
+fn insert<A: Allocator + Copy>(
+    bin: &mut Bin<u64, u64, A>,
+    memory: A,
     key: u64,
     value: u64,
     bins: usize,
@@ -34,7 +33,11 @@ fn insert(
 }
 
 // Returns a bin of `count` even keys, each with itself as its value, in a table of `bins` bins.
-fn bin_of(memory: Memory, count: u64, bins: usize) -> Result<Bin<u64, u64, Memory>, AllocError> {
+fn bin_of<A: Allocator + Copy>(
+    memory: A,
+    count: u64,
+    bins: usize,
+) -> Result<Bin<u64, u64, A>, AllocError> {
     let mut bin = Bin::new();
     for i in 0..count {
         let key = (i.wrapping_mul(7) % count).wrapping_mul(2);
@@ -43,48 +46,65 @@ fn bin_of(memory: Memory, count: u64, bins: usize) -> Result<Bin<u64, u64, Memor
     Ok(bin)
 }
 
-fn value_at(bin: &Bin<u64, u64, Memory>, key: u64) -> Option<u64> {
+fn value_at<A: Allocator>(bin: &Bin<u64, u64, A>, key: u64) -> Option<u64> {
     match bin.find(3, &key).0 {
         Some(entry) => Some(*entry.value),
         None => None,
     }
 }
 
+// Inserts into a bin of the even keys below 16.
+fn insert_more<A: Allocator + Copy>(
+    rt: &impl Abort,
+    bin: &mut Bin<u64, u64, A>,
+    memory: A,
+) -> Result<(), AllocError> {
+    same(rt, bin.shape(), Shape::List(8));
+    same(rt, insert(bin, memory, 6, 60, 16)?, (Some(6), false));
+    same(rt, insert(bin, memory, 7, 7, 16)?, (None, true));
+    same(rt, bin.shape(), Shape::List(9));
+    same(rt, insert(bin, memory, 1, 1, 16)?, (None, false));
+    same(rt, bin.shape(), Shape::Tree(10));
+    same(rt, insert(bin, memory, 6, 61, 16)?, (Some(60), false));
+    same(rt, bin.shape(), Shape::Tree(10));
+    same(rt, value_at(bin, 6), Some(61));
+    same(rt, value_at(bin, 7), Some(7));
+    Ok(())
+}
+
+// Returns the shape of a bin of `count` keys in a table of `bins` bins.
+fn shape_of<A: Allocator + Copy>(memory: A, count: u64, bins: usize) -> Result<Shape, AllocError> {
+    let bin = bin_of(memory, count, bins)?;
+    Ok(bin.shape())
+}
+
 #[test]
 fn a_bin_that_grows_by_insertions(rt: HostRuntime) -> Result<(), Fail> {
-    let memory = Metered::leaked(rt.alloc())?;
-    let mut bin = bin_of(memory, 8, 16)?;
-    same(&rt, bin.shape(), Shape::List(8));
-    same(&rt, insert(&mut bin, memory, 6, 60, 16)?, (Some(6), false));
-    same(&rt, insert(&mut bin, memory, 7, 7, 16)?, (None, true));
-    same(&rt, bin.shape(), Shape::List(9));
-    same(&rt, insert(&mut bin, memory, 1, 1, 16)?, (None, false));
-    same(&rt, bin.shape(), Shape::Tree(10));
-    same(&rt, insert(&mut bin, memory, 6, 61, 16)?, (Some(60), false));
-    same(&rt, bin.shape(), Shape::Tree(10));
-    same(&rt, value_at(&bin, 6), Some(61));
-    same(&rt, value_at(&bin, 7), Some(7));
-    let few = bin_of(memory, 8, 64)?;
-    same(&rt, few.shape(), Shape::List(8));
-    let planted = bin_of(memory, 9, 64)?;
-    same(&rt, planted.shape(), Shape::Tree(9));
+    insert_more(&rt, &mut bin_of(rt.alloc(), 8, 16)?, rt.alloc())?;
+    same(&rt, shape_of(rt.alloc(), 8, 64)?, Shape::List(8));
+    same(&rt, shape_of(rt.alloc(), 9, 64)?, Shape::Tree(9));
     Ok(())
 }
 
 // Inserts a key into a bin of `count` even keys, where the request numbered `k` fails, and returns whether that request was made. If it
 // was, the bin is unchanged.
-fn refused(rt: &impl Abort, memory: Memory, count: u64, key: u64, k: u64) -> Result<bool, Fail> {
+fn refused<A: Allocator + Copy>(
+    rt: &impl Abort,
+    metered: &Metered<Global>,
+    memory: A,
+    (count, key, k): (u64, u64, u64),
+) -> Result<bool, Fail> {
     let mut bin = bin_of(memory, count, 64)?;
-    let before = (bin.shape(), value_at(&bin, key), memory.blocks());
-    memory.refuse_at(k);
+    let before = (bin.shape(), value_at(&bin, key), metered.blocks());
+    metered.refuse_at(k);
     let reply = insert(&mut bin, memory, key, 1000, 64);
-    let refused = memory.refused();
-    memory.refuse_nothing();
+    let refused = metered.refused();
+    metered.refuse_nothing();
     if refused {
         same(rt, reply.is_err(), true);
         same(
             rt,
-            (bin.shape(), value_at(&bin, key), memory.blocks()),
+            (bin.shape(), value_at(&bin, key), metered.blocks()),
             before,
         );
         for i in 0..count {
@@ -106,7 +126,11 @@ fn refused_insertions(rt: HostRuntime) -> Result<(), Fail> {
         for key in [1u64, 4] {
             let wanted = if key == 4 && count > 2 { 1u64 } else { 3 };
             for k in 0u64..4 {
-                same(&rt, refused(&rt, memory, count, key, k)?, k < wanted);
+                same(
+                    &rt,
+                    refused(&rt, memory, memory, (count, key, k))?,
+                    k < wanted,
+                );
             }
         }
     }

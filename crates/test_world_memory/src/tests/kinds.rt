@@ -1,11 +1,12 @@
 //! Each request of each other kind of a world's calls fails in turn.
 
+use super::same_at;
 use super::world::{Close, Numbers, Told, refused_at, reply, value, world_of};
-use super::{Memory, same_at};
 use flurry_model::reply::KeptReply;
 use flurry_slots::{ComputeFn, NoFn};
 use flurry_steps::party::OwnedCall;
 use metered_alloc::Metered;
+use std::alloc::{Allocator, Global};
 use std::process::Abort;
 use std::test::Fail;
 
@@ -43,16 +44,17 @@ fn row_of<F>(
 
 // Makes the call of a row while the request numbered `k` fails, and returns what that did, or `None` if it made no such request. A call whose
 // own request fails is refused and changes nothing; a step that gets no room for its label is repeated.
-fn told_at<F: ComputeFn<u64, u64> + Copy>(
+fn told_at<F: ComputeFn<u64, u64> + Copy, A: Allocator + Copy>(
     rt: &impl Abort,
-    memory: Memory,
+    metered: &Metered<Global>,
+    memory: A,
     row: Row<F>,
     k: u64,
 ) -> Option<Told>
     requires { (f : F) → F.can_change f }
 {
-    let mut world: Numbers<F> = world_of(rt, memory, 3);
-    let seen = refused_at(rt, memory, &mut world, row.call, k);
+    let mut world: Numbers<F, A> = world_of(rt, memory, 3);
+    let seen = refused_at(rt, metered, &mut world, row.call, k);
     if let Some((told, close)) = seen {
         let wanted = match told {
             Told::Call => (Close::Refused, reply(row.before)),
@@ -65,13 +67,18 @@ fn told_at<F: ComputeFn<u64, u64> + Copy>(
 }
 
 // Makes the call of a row once for each of its requests.
-fn refuses_each<F: ComputeFn<u64, u64> + Copy>(rt: &impl Abort, memory: Memory, row: Row<F>)
+fn refuses_each<F: ComputeFn<u64, u64> + Copy, A: Allocator + Copy>(
+    rt: &impl Abort,
+    metered: &Metered<Global>,
+    memory: A,
+    row: Row<F>,
+)
     requires { (f : F) → F.can_change f }
 {
     let mut own = 0u64;
     for k in 0..MOST {
-        let told = told_at(rt, memory, row, k);
-        same_at(rt, k, memory.blocks(), 0);
+        let told = told_at(rt, metered, memory, row, k);
+        same_at(rt, k, metered.blocks(), 0);
         match told {
             None => {
                 same_at(rt, k, own, row.own);
@@ -84,13 +91,19 @@ fn refuses_each<F: ComputeFn<u64, u64> + Copy>(rt: &impl Abort, memory: Memory, 
     panic!(rt; "it makes fewer requests")
 }
 
-fn refuses_writes<F: ComputeFn<u64, u64> + Copy>(rt: &impl Abort, memory: Memory, change: F)
+fn refuses_writes<F: ComputeFn<u64, u64> + Copy, A: Allocator + Copy>(
+    rt: &impl Abort,
+    metered: &Metered<Global>,
+    memory: A,
+    change: F,
+)
     requires { (f : F) → F.can_change f }
 {
     let new = Close::Reply(KeptReply::New(5));
     let values = (20, None, Some(5));
-    refuses_each::<F>(
+    refuses_each::<F, A>(
         rt,
+        metered,
         memory,
         row_of(OwnedCall::TryInsert(20, 5), 3, new, values),
     );
@@ -98,44 +111,74 @@ fn refuses_writes<F: ComputeFn<u64, u64> + Copy>(rt: &impl Abort, memory: Memory
     let values = (1, Some(1), Some(2));
     refuses_each(
         rt,
+        metered,
         memory,
         row_of(OwnedCall::Compute(1, change), 1, two, values),
     );
 }
 
-fn refuses_removals<F: ComputeFn<u64, u64> + Copy>(rt: &impl Abort, memory: Memory)
+fn refuses_removals<F: ComputeFn<u64, u64> + Copy, A: Allocator + Copy>(
+    rt: &impl Abort,
+    metered: &Metered<Global>,
+    memory: A,
+)
     requires { (f : F) → F.can_change f }
 {
     let values = (1, Some(1), None);
     let one = reply(Some(1));
     let pair = Close::Reply(KeptReply::Pair(Some((1, 1))));
-    refuses_each::<F>(rt, memory, row_of(OwnedCall::Remove(1), 0, one, values));
-    refuses_each::<F>(
+    refuses_each::<F, A>(
         rt,
+        metered,
+        memory,
+        row_of(OwnedCall::Remove(1), 0, one, values),
+    );
+    refuses_each::<F, A>(
+        rt,
+        metered,
         memory,
         row_of(OwnedCall::RemoveEntry(1), 0, pair, values),
     );
-    refuses_each::<F>(rt, memory, row_of(OwnedCall::Clear, 0, Close::End, values));
+    refuses_each::<F, A>(
+        rt,
+        metered,
+        memory,
+        row_of(OwnedCall::Clear, 0, Close::End, values),
+    );
 }
 
-fn refuses_walk<F: ComputeFn<u64, u64> + Copy>(rt: &impl Abort, memory: Memory)
+fn refuses_walk<F: ComputeFn<u64, u64> + Copy, A: Allocator + Copy>(
+    rt: &impl Abort,
+    metered: &Metered<Global>,
+    memory: A,
+)
     requires { (f : F) → F.can_change f }
 {
     let values = (1, Some(1), Some(1));
-    refuses_each::<F>(rt, memory, row_of(OwnedCall::Walk, 0, Close::End, values));
+    refuses_each::<F, A>(
+        rt,
+        metered,
+        memory,
+        row_of(OwnedCall::Walk, 0, Close::End, values),
+    );
 }
 
 #[test]
 fn calls_that_write(rt: HostRuntime) -> Result<(), Fail> {
     let memory = Metered::leaked(rt.alloc())?;
-    refuses_writes(&rt, memory, |_key: &u64, value: &u64| value.checked_mul(2));
+    refuses_writes(
+        &rt,
+        memory,
+        memory,
+        |_key: &u64, value: &u64| value.checked_mul(2),
+    );
     Ok(())
 }
 
 #[test]
 fn calls_that_take_nothing(rt: HostRuntime) -> Result<(), Fail> {
     let memory = Metered::leaked(rt.alloc())?;
-    refuses_removals::<NoFn>(&rt, memory);
-    refuses_walk::<NoFn>(&rt, memory);
+    refuses_removals::<NoFn, _>(&rt, memory, memory);
+    refuses_walk::<NoFn, _>(&rt, memory, memory);
     Ok(())
 }

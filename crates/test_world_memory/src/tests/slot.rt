@@ -6,6 +6,7 @@ use flurry_bins::bin::Bin;
 use flurry_model::sizes::bin_index;
 use flurry_slots::{Answer, Computed, Given, Slot};
 use metered_alloc::Metered;
+use std::alloc::{Allocator, Global};
 use std::process::Abort;
 use std::test::Fail;
 
@@ -163,30 +164,27 @@ fn compute(rt: HostRuntime) -> Result<(), Fail> {
     Ok(())
 }
 
-#[test]
-fn the_other_steps_ask_for_nothing(rt: HostRuntime) -> Result<(), Fail> {
-    let memory = Metered::leaked(rt.alloc())?;
-    let mut slot: NumberSlot = Slot::live(4, 3, Bin::new());
-    drop(
-        slot.put(memory, 3, 3, Given::Plain(10))
-            .ok()
-            .expect(&rt, "memory"),
-    );
-    drop(
-        slot.put(memory, 19, 19, Given::Plain(11))
-            .ok()
-            .expect(&rt, "memory"),
-    );
-    memory.refuse_from(0);
-    let mut low: NumberSlot = Slot::unborn(5, 3);
-    let mut high: NumberSlot = Slot::unborn(5, 19);
+// Does the steps of a slot that are not those above.
+fn does_other_steps<A: Allocator + Copy>(rt: &impl Abort, metered: &Metered<Global>, memory: A) {
+    let mut slot: Slot<u64, u64, A> = Slot::live(4, 3, Bin::new());
+    let first = slot.put(memory, 3, 3, Given::Plain(10));
+    drop(first.ok().expect(rt, "memory"));
+    let second = slot.put(memory, 19, 19, Given::Plain(11));
+    drop(second.ok().expect(rt, "memory"));
+    metered.refuse_from(0);
+    let mut low: Slot<u64, u64, A> = Slot::unborn(5, 3);
+    let mut high: Slot<u64, u64, A> = Slot::unborn(5, 19);
     drop(slot.take_if(19, &19, 1));
     drop(slot.next_after(None));
     drop(slot.move_into(&mut low, &mut high));
     drop(low.take(3, &3));
     drop(high.wipe());
-    same(&rt, memory.asked(), 0);
-    drop(high);
-    same(&rt, memory.blocks(), 0);
+}
+
+#[test]
+fn the_other_steps_ask_for_nothing(rt: HostRuntime) -> Result<(), Fail> {
+    let memory = Metered::leaked(rt.alloc())?;
+    does_other_steps(&rt, memory, memory);
+    same(&rt, (memory.asked(), memory.blocks()), (0, 0));
     Ok(())
 }

@@ -9,13 +9,13 @@ use flurry_theory::Label;
 use flurry_world::World;
 use flurry_world::world::Step;
 use metered_alloc::Metered;
-use std::alloc::{AllocError, Global};
+use std::alloc::{AllocError, Allocator, Global};
 use std::fmt::Debug;
 use std::process::Abort;
 use std::test::Fail;
 
-// A world in which the hash of each key is the key.
-pub(super) type Numbers<F> = World<'static, u64, u64, F, LowHashBuilder, Memory>;
+// A world in which the hash of each key is the key. Its allocator is a parameter, because a proof over `Memory` unfolds it in each step.
+pub(super) type Numbers<F, A> = World<'static, u64, u64, F, LowHashBuilder, A>;
 
 // More requests and more steps than any call makes.
 const MOST: u64 = 1000;
@@ -40,7 +40,9 @@ pub(super) enum Told {
 }
 
 // Returns how many labels the world has. A test asks here, because each `trace` in its own body makes its proof longer.
-pub(super) fn label_count<F: ComputeFn<u64, u64> + Copy>(world: &Numbers<F>) -> usize {
+pub(super) fn label_count<F: ComputeFn<u64, u64> + Copy, A: Allocator + Copy>(
+    world: &Numbers<F, A>,
+) -> usize {
     world.trace().len()
 }
 
@@ -55,14 +57,16 @@ fn close_of<F>(label: Option<&Label<u64, u64, F>>) -> Option<Close> {
 }
 
 // Returns how the last label closes the call of its party, if it does.
-fn last_close<F: ComputeFn<u64, u64> + Copy>(world: &Numbers<F>) -> Option<Close> {
+fn last_close<F: ComputeFn<u64, u64> + Copy, A: Allocator + Copy>(
+    world: &Numbers<F, A>,
+) -> Option<Close> {
     close_of(world.trace().last())
 }
 
 // Begins the call, with enough memory.
-pub(super) fn begins<F: ComputeFn<u64, u64> + Copy>(
+pub(super) fn begins<F: ComputeFn<u64, u64> + Copy, A: Allocator + Copy>(
     rt: &impl Abort,
-    world: &mut Numbers<F>,
+    world: &mut Numbers<F, A>,
     call: OwnedCall<u64, u64, F>,
 ) -> usize
     requires { (f : F) → F.can_change f }
@@ -72,9 +76,9 @@ pub(super) fn begins<F: ComputeFn<u64, u64> + Copy>(
 
 // Does the next steps of a party until its call closes. Returns how it closed, and whether one of the steps failed. A step that fails adds
 // no label.
-fn finish<F: ComputeFn<u64, u64> + Copy>(
+fn finish<F: ComputeFn<u64, u64> + Copy, A: Allocator + Copy>(
     rt: &impl Abort,
-    world: &mut Numbers<F>,
+    world: &mut Numbers<F, A>,
     party: usize,
 ) -> (Close, bool) {
     let mut refused = false;
@@ -91,9 +95,9 @@ fn finish<F: ComputeFn<u64, u64> + Copy>(
 }
 
 // Begins the call and finishes it, with enough memory.
-fn whole<F: ComputeFn<u64, u64> + Copy>(
+fn whole<F: ComputeFn<u64, u64> + Copy, A: Allocator + Copy>(
     rt: &impl Abort,
-    world: &mut Numbers<F>,
+    world: &mut Numbers<F, A>,
     call: OwnedCall<u64, u64, F>,
 ) -> Close
     requires { (f : F) → F.can_change f }
@@ -103,9 +107,9 @@ fn whole<F: ComputeFn<u64, u64> + Copy>(
 }
 
 // Returns the reply of a look-up of the key.
-pub(super) fn value<F: ComputeFn<u64, u64> + Copy>(
+pub(super) fn value<F: ComputeFn<u64, u64> + Copy, A: Allocator + Copy>(
     rt: &impl Abort,
-    world: &mut Numbers<F>,
+    world: &mut Numbers<F, A>,
     key: u64,
 ) -> Close
     requires { (f : F) → F.can_change f }
@@ -119,10 +123,10 @@ pub(super) fn reply(value: Option<u64>) -> Close {
 }
 
 // Returns the labels from `first` on, as text.
-pub(super) fn labels_from<F: ComputeFn<u64, u64> + Copy + Debug>(
+pub(super) fn labels_from<F: ComputeFn<u64, u64> + Copy + Debug, A: Allocator + Copy>(
     rt: &impl Abort,
     alloc: Global,
-    world: &Numbers<F>,
+    world: &Numbers<F, A>,
     first: usize,
 ) -> String {
     let labels = world
@@ -133,19 +137,19 @@ pub(super) fn labels_from<F: ComputeFn<u64, u64> + Copy + Debug>(
 }
 
 // Returns whether the text of the labels contains `part`.
-fn say<F: ComputeFn<u64, u64> + Copy + Debug>(
+fn say<F: ComputeFn<u64, u64> + Copy + Debug, A: Allocator + Copy>(
     rt: &impl Abort,
     alloc: Global,
-    world: &Numbers<F>,
+    world: &Numbers<F, A>,
     part: &str,
 ) -> bool {
     labels_from(rt, alloc, world, 0).contains(part)
 }
 
 // Does the next steps of a party, until the world has `labels` labels.
-pub(super) fn step_to<F: ComputeFn<u64, u64> + Copy>(
+pub(super) fn step_to<F: ComputeFn<u64, u64> + Copy, A: Allocator + Copy>(
     rt: &impl Abort,
-    world: &mut Numbers<F>,
+    world: &mut Numbers<F, A>,
     party: usize,
     labels: usize,
 ) {
@@ -155,20 +159,20 @@ pub(super) fn step_to<F: ComputeFn<u64, u64> + Copy>(
 }
 
 // Returns a world with room for `capacity` pairs.
-pub(super) fn world_for<F: ComputeFn<u64, u64> + Copy>(
+pub(super) fn world_for<F: ComputeFn<u64, u64> + Copy, A: Allocator + Copy>(
     rt: &impl Abort,
-    memory: Memory,
+    memory: A,
     capacity: usize,
-) -> Numbers<F> {
+) -> Numbers<F, A> {
     World::new(memory, capacity, LowHashBuilder, 1).expect(rt, "memory for the world")
 }
 
 // Returns a world of the keys below `count`, each with itself as its value.
-pub(super) fn world_of<F: ComputeFn<u64, u64> + Copy>(
+pub(super) fn world_of<F: ComputeFn<u64, u64> + Copy, A: Allocator + Copy>(
     rt: &impl Abort,
-    memory: Memory,
+    memory: A,
     count: u64,
-) -> Numbers<F>
+) -> Numbers<F, A>
     requires { (f : F) → F.can_change f }
 {
     let mut world = world_for(rt, memory, 0);
@@ -179,20 +183,20 @@ pub(super) fn world_of<F: ComputeFn<u64, u64> + Copy>(
 }
 
 // Makes the call while one request fails. Returns what that did to the call, and how the call closed, or `None` if it made no such request.
-pub(super) fn refused_at<F: ComputeFn<u64, u64> + Copy>(
+pub(super) fn refused_at<F: ComputeFn<u64, u64> + Copy, A: Allocator + Copy>(
     rt: &impl Abort,
-    memory: Memory,
-    world: &mut Numbers<F>,
+    metered: &Metered<Global>,
+    world: &mut Numbers<F, A>,
     call: OwnedCall<u64, u64, F>,
     request: u64,
 ) -> Option<(Told, Close)>
     requires { (f : F) → F.can_change f }
 {
     let party = begins(rt, world, call);
-    memory.refuse_at(request);
+    metered.refuse_at(request);
     let (close, again) = finish(rt, world, party);
-    let refused = memory.refused();
-    memory.refuse_nothing();
+    let refused = metered.refused();
+    metered.refuse_nothing();
     if !refused {
         return None;
     }
@@ -217,17 +221,18 @@ fn a_world_with_a_table(rt: HostRuntime) -> Result<(), Fail> {
 }
 
 // Creates a world while the request numbered `k` fails. Returns whether that request was made, and whether there is no world.
-fn refused_world<F: ComputeFn<u64, u64> + Copy>(
-    memory: Memory,
+fn refused_world<F: ComputeFn<u64, u64> + Copy, A: Allocator + Copy>(
+    metered: &Metered<Global>,
+    memory: A,
     capacity: usize,
     k: u64,
 ) -> (bool, bool) {
-    memory.refuse_at(k);
-    let answer: Result<Numbers<F>, AllocError> = World::new(memory, capacity, LowHashBuilder, 1);
+    metered.refuse_at(k);
+    let answer: Result<Numbers<F, A>, AllocError> = World::new(memory, capacity, LowHashBuilder, 1);
     let failed = answer.is_err();
     drop(answer);
-    let refused = memory.refused();
-    memory.refuse_nothing();
+    let refused = metered.refused();
+    metered.refuse_nothing();
     (refused, failed)
 }
 
@@ -244,7 +249,7 @@ fn requests_of_a_new_world<F: ComputeFn<u64, u64> + Copy>(
         same_at(
             rt,
             k,
-            refused_world::<F>(memory, capacity, k),
+            refused_world::<F, _>(memory, memory, capacity, k),
             (refused, refused),
         );
         same_at(rt, k, memory.blocks(), 0);
@@ -258,20 +263,25 @@ fn requests_of_a_new_world<F: ComputeFn<u64, u64> + Copy>(
 fn begin(rt: HostRuntime) -> Result<(), Fail> {
     let memory = Metered::leaked(rt.alloc())?;
     for k in 0..3u64 {
-        begins_at::<NoFn>(&rt, memory, k);
+        begins_at::<NoFn, _>(&rt, memory, memory, k);
         same_at(&rt, k, memory.blocks(), 0);
     }
     Ok(())
 }
 
-fn begins_at<F: ComputeFn<u64, u64> + Copy>(rt: &impl Abort, memory: Memory, k: u64)
+fn begins_at<F: ComputeFn<u64, u64> + Copy, A: Allocator + Copy>(
+    rt: &impl Abort,
+    metered: &Metered<Global>,
+    memory: A,
+    k: u64,
+)
     requires { (f : F) → F.can_change f }
 {
-    let mut world: Numbers<F> = world_for(rt, memory, 0);
-    memory.refuse_at(k);
+    let mut world: Numbers<F, A> = world_for(rt, memory, 0);
+    metered.refuse_at(k);
     let failed = world.begin(OwnedCall::Insert(3, 10)).is_err();
-    let refused = memory.refused();
-    memory.refuse_nothing();
+    let refused = metered.refused();
+    metered.refuse_nothing();
     let seen = (refused, failed, label_count(&world) == 0);
     same_at(rt, k, seen, (k < 2, refused, refused));
     let (next, found) = if refused { (0, None) } else { (1, Some(10)) };
@@ -286,7 +296,7 @@ fn begins_at<F: ComputeFn<u64, u64> + Copy>(rt: &impl Abort, memory: Memory, k: 
 fn insertion_into_a_new_world(rt: HostRuntime) -> Result<(), Fail> {
     let memory = Metered::leaked(rt.alloc())?;
     for k in 0..MOST {
-        let refused = inserts_at::<NoFn>(&rt, rt.alloc(), memory, k);
+        let refused = inserts_at::<NoFn, _>(&rt, rt.alloc(), memory, memory, k);
         same_at(&rt, k, memory.blocks(), 0);
         if !refused {
             same(&rt, k, 5);
@@ -297,14 +307,14 @@ fn insertion_into_a_new_world(rt: HostRuntime) -> Result<(), Fail> {
 }
 
 // Returns the labels of a new world with one insertion, with enough memory.
-fn text_of_an_insertion<F: ComputeFn<u64, u64> + Copy + Debug>(
+fn text_of_an_insertion<F: ComputeFn<u64, u64> + Copy + Debug, A: Allocator + Copy>(
     rt: &impl Abort,
     alloc: Global,
-    memory: Memory,
+    memory: A,
 ) -> String
     requires { (f : F) → F.can_change f }
 {
-    let mut world: Numbers<F> = world_for(rt, memory, 0);
+    let mut world: Numbers<F, A> = world_for(rt, memory, 0);
     let _ = whole(rt, &mut world, OwnedCall::Insert(3, 10));
     let text = labels_from(rt, alloc, &world, 0);
     drop(world);
@@ -312,16 +322,17 @@ fn text_of_an_insertion<F: ComputeFn<u64, u64> + Copy + Debug>(
 }
 
 // Returns whether the insertion made the request numbered `k`.
-fn inserts_at<F: ComputeFn<u64, u64> + Copy + Debug>(
+fn inserts_at<F: ComputeFn<u64, u64> + Copy + Debug, A: Allocator + Copy>(
     rt: &impl Abort,
     alloc: Global,
-    memory: Memory,
+    metered: &Metered<Global>,
+    memory: A,
     k: u64,
 ) -> bool
     requires { (f : F) → F.can_change f }
 {
-    let mut world: Numbers<F> = world_for(rt, memory, 0);
-    let seen = refused_at(rt, memory, &mut world, OwnedCall::Insert(3, 10), k);
+    let mut world: Numbers<F, A> = world_for(rt, memory, 0);
+    let seen = refused_at(rt, metered, &mut world, OwnedCall::Insert(3, 10), k);
     if let Some(seen) = seen {
         inserted_at(rt, alloc, memory, &mut world, k, seen);
     }
@@ -330,11 +341,11 @@ fn inserts_at<F: ComputeFn<u64, u64> + Copy + Debug>(
 }
 
 // Checks the world after the request numbered `k` has failed.
-fn inserted_at<F: ComputeFn<u64, u64> + Copy + Debug>(
+fn inserted_at<F: ComputeFn<u64, u64> + Copy + Debug, A: Allocator + Copy>(
     rt: &impl Abort,
     alloc: Global,
-    memory: Memory,
-    world: &mut Numbers<F>,
+    memory: A,
+    world: &mut Numbers<F, A>,
     k: u64,
     seen: (Told, Close),
 )
@@ -347,7 +358,7 @@ fn inserted_at<F: ComputeFn<u64, u64> + Copy + Debug>(
         same_at(rt, k, whole(rt, world, OwnedCall::Insert(3, 11)), none);
     } else {
         same_at(rt, k, seen, (Told::Step, none));
-        let plain = text_of_an_insertion::<F>(rt, alloc, memory);
+        let plain = text_of_an_insertion::<F, A>(rt, alloc, memory);
         same_at(rt, k, labels_from(rt, alloc, world, 0), plain);
     }
     let found = if k < 4 { 11 } else { 10 };
@@ -360,7 +371,7 @@ fn inserted_at<F: ComputeFn<u64, u64> + Copy + Debug>(
 fn insertion_that_grows(rt: HostRuntime) -> Result<(), Fail> {
     let memory = Metered::leaked(rt.alloc())?;
     for k in 0..MOST {
-        let refused = grows_at::<NoFn>(&rt, rt.alloc(), memory, k);
+        let refused = grows_at::<NoFn, _>(&rt, rt.alloc(), memory, memory, k);
         same_at(&rt, k, memory.blocks(), 0);
         if !refused {
             same(&rt, k, 5);
@@ -371,16 +382,17 @@ fn insertion_that_grows(rt: HostRuntime) -> Result<(), Fail> {
 }
 
 // Returns whether the insertion made the request numbered `k`.
-fn grows_at<F: ComputeFn<u64, u64> + Copy + Debug>(
+fn grows_at<F: ComputeFn<u64, u64> + Copy + Debug, A: Allocator + Copy>(
     rt: &impl Abort,
     alloc: Global,
-    memory: Memory,
+    metered: &Metered<Global>,
+    memory: A,
     k: u64,
 ) -> bool
     requires { (f : F) → F.can_change f }
 {
-    let mut world: Numbers<F> = world_of(rt, memory, 11);
-    let seen = refused_at(rt, memory, &mut world, OwnedCall::Insert(20, 5), k);
+    let mut world: Numbers<F, A> = world_of(rt, memory, 11);
+    let seen = refused_at(rt, metered, &mut world, OwnedCall::Insert(20, 5), k);
     if let Some(seen) = seen {
         grown_at(rt, alloc, &mut world, k, seen);
     }
@@ -389,10 +401,10 @@ fn grows_at<F: ComputeFn<u64, u64> + Copy + Debug>(
 }
 
 // Checks the world after the request numbered `k` has failed.
-fn grown_at<F: ComputeFn<u64, u64> + Copy + Debug>(
+fn grown_at<F: ComputeFn<u64, u64> + Copy + Debug, A: Allocator + Copy>(
     rt: &impl Abort,
     alloc: Global,
-    world: &mut Numbers<F>,
+    world: &mut Numbers<F, A>,
     k: u64,
     seen: (Told, Close),
 )
@@ -417,7 +429,7 @@ fn grown_at<F: ComputeFn<u64, u64> + Copy + Debug>(
 fn look_up(rt: HostRuntime) -> Result<(), Fail> {
     let memory = Metered::leaked(rt.alloc())?;
     for k in 0..MOST {
-        let seen = looks_up_at::<NoFn>(&rt, memory, k);
+        let seen = looks_up_at::<NoFn, _>(&rt, memory, memory, k);
         same_at(&rt, k, memory.blocks(), 0);
         if seen.is_none() {
             same(&rt, k, 1);
@@ -428,15 +440,16 @@ fn look_up(rt: HostRuntime) -> Result<(), Fail> {
     Err(Fail::from("it makes fewer requests"))
 }
 
-fn looks_up_at<F: ComputeFn<u64, u64> + Copy>(
+fn looks_up_at<F: ComputeFn<u64, u64> + Copy, A: Allocator + Copy>(
     rt: &impl Abort,
-    memory: Memory,
+    metered: &Metered<Global>,
+    memory: A,
     k: u64,
 ) -> Option<(Told, Close)>
     requires { (f : F) → F.can_change f }
 {
-    let mut world: Numbers<F> = world_of(rt, memory, 1);
-    let seen = refused_at(rt, memory, &mut world, OwnedCall::Get(0), k);
+    let mut world: Numbers<F, A> = world_of(rt, memory, 1);
+    let seen = refused_at(rt, metered, &mut world, OwnedCall::Get(0), k);
     drop(world);
     seen
 }
@@ -461,7 +474,7 @@ fn reserve_in_a_world_of_16_bins(rt: HostRuntime) -> Result<(), Fail> {
 fn refusals_of_a_reserve(rt: &impl Abort, memory: Memory, count: u64) -> u64 {
     let mut refusals = 0u64;
     for k in 0..MOST {
-        let seen = reserves_at::<NoFn>(rt, memory, count, k);
+        let seen = reserves_at::<NoFn, _>(rt, memory, memory, count, k);
         same_at(rt, k, memory.blocks(), 0);
         match seen {
             None => return refusals,
@@ -473,16 +486,17 @@ fn refusals_of_a_reserve(rt: &impl Abort, memory: Memory, count: u64) -> u64 {
 }
 
 // Returns what the failure of one request did to a reserve. The pairs stay, and a second reserve succeeds.
-fn reserves_at<F: ComputeFn<u64, u64> + Copy>(
+fn reserves_at<F: ComputeFn<u64, u64> + Copy, A: Allocator + Copy>(
     rt: &impl Abort,
-    memory: Memory,
+    metered: &Metered<Global>,
+    memory: A,
     count: u64,
     k: u64,
 ) -> Option<(Told, Close)>
     requires { (f : F) → F.can_change f }
 {
-    let mut world: Numbers<F> = world_of(rt, memory, count);
-    let seen = refused_at(rt, memory, &mut world, OwnedCall::Reserve(100), k);
+    let mut world: Numbers<F, A> = world_of(rt, memory, count);
+    let seen = refused_at(rt, metered, &mut world, OwnedCall::Reserve(100), k);
     let found = if count == 0 { None } else { Some(0) };
     same_at(rt, k, value(rt, &mut world, 0), reply(found));
     same_at(
@@ -499,11 +513,11 @@ fn reserves_at<F: ComputeFn<u64, u64> + Copy>(
 const STEPS: usize = 9;
 
 // Returns the list's steps from `first` on.
-fn steps_from<F: ComputeFn<u64, u64> + Copy>(
+fn steps_from<F: ComputeFn<u64, u64> + Copy, A: Allocator + Copy>(
     rt: &impl Abort,
-    memory: Memory,
+    memory: A,
     first: usize,
-) -> Vec<Step<u64, u64, F>, Memory> {
+) -> Vec<Step<u64, u64, F>, A> {
     let mut steps = Vec::new(memory);
     for at in first..STEPS {
         let step = match at {
@@ -519,14 +533,14 @@ fn steps_from<F: ComputeFn<u64, u64> + Copy>(
 
 // Returns the labels of a new world that ran the list's steps, with enough memory.
 #[tactic(auto, using(flurry_world::proofs::RunLaws::step_ready))]
-fn text_of_steps<F: ComputeFn<u64, u64> + Copy + Debug>(
+fn text_of_steps<F: ComputeFn<u64, u64> + Copy + Debug, A: Allocator + Copy>(
     rt: &impl Abort,
     alloc: Global,
-    memory: Memory,
+    memory: A,
 ) -> String
     requires { (f : F) → F.can_change f }
 {
-    let mut world: Numbers<F> = world_for(rt, memory, 0);
+    let mut world: Numbers<F, A> = world_for(rt, memory, 0);
     world
         .run(steps_from(rt, memory, 0))
         .expect(rt, "memory for the steps");
@@ -541,7 +555,7 @@ fn text_of_steps<F: ComputeFn<u64, u64> + Copy + Debug>(
 fn run(rt: HostRuntime) -> Result<(), Fail> {
     let memory = Metered::leaked(rt.alloc())?;
     for k in 0..MOST {
-        let refused = runs_at::<NoFn>(&rt, rt.alloc(), memory, k);
+        let refused = runs_at::<NoFn, _>(&rt, rt.alloc(), memory, memory, k);
         same_at(&rt, k, memory.blocks(), 0);
         if !refused {
             same(&rt, k, 9);
@@ -553,20 +567,21 @@ fn run(rt: HostRuntime) -> Result<(), Fail> {
 
 // Returns whether the steps made the request numbered `k`.
 #[tactic(auto, using(flurry_world::proofs::RunLaws::step_ready))]
-fn runs_at<F: ComputeFn<u64, u64> + Copy + Debug>(
+fn runs_at<F: ComputeFn<u64, u64> + Copy + Debug, A: Allocator + Copy>(
     rt: &impl Abort,
     alloc: Global,
-    memory: Memory,
+    metered: &Metered<Global>,
+    memory: A,
     k: u64,
 ) -> bool
     requires { (f : F) → F.can_change f }
 {
-    let mut world: Numbers<F> = world_for(rt, memory, 0);
+    let mut world: Numbers<F, A> = world_for(rt, memory, 0);
     let steps = steps_from(rt, memory, 0);
-    memory.refuse_at(k);
+    metered.refuse_at(k);
     let ran = world.run(steps).is_ok();
-    let refused = memory.refused();
-    memory.refuse_nothing();
+    let refused = metered.refused();
+    metered.refuse_nothing();
     let done = label_count(&world);
     let whole = !refused || 3 <= k && k < 7;
     same_at(rt, k, (ran, done == STEPS), (whole, whole));
@@ -574,7 +589,7 @@ fn runs_at<F: ComputeFn<u64, u64> + Copy + Debug>(
         .run(steps_from(rt, memory, done))
         .expect(rt, "memory for the rest");
     same_at(rt, k, label_count(&world), STEPS);
-    let plain = text_of_steps::<F>(rt, alloc, memory);
+    let plain = text_of_steps::<F, A>(rt, alloc, memory);
     let is_plain = labels_from(rt, alloc, &world, 0) == plain;
     drop(world);
     same_at(rt, k, is_plain, !refused || !whole);

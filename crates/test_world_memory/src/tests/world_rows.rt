@@ -1,20 +1,20 @@
 //! Worked schedules in which memory for a table cannot be allocated, label by label.
 
+use super::same;
 use super::world::{Numbers, begins, label_count, labels_from, step_to, world_for};
-use super::{Memory, same};
 use flurry_slots::{ComputeFn, NoFn};
 use flurry_steps::party::OwnedCall;
 use metered_alloc::Metered;
-use std::alloc::Global;
+use std::alloc::{Allocator, Global};
 use std::fmt::Debug;
 use std::process::Abort;
 use std::test::Fail;
 
 // Asserts that `labels` are the labels from `first` on.
-fn shows<F: ComputeFn<u64, u64> + Copy + Debug>(
+fn shows<F: ComputeFn<u64, u64> + Copy + Debug, A: Allocator + Copy>(
     rt: &impl Abort,
     alloc: Global,
-    world: &Numbers<F>,
+    world: &Numbers<F, A>,
     first: usize,
     labels: &str,
 ) {
@@ -23,22 +23,24 @@ fn shows<F: ComputeFn<u64, u64> + Copy + Debug>(
 
 #[test]
 fn first_table_refused(rt: HostRuntime) -> Result<(), Fail> {
-    refuses_first_table::<NoFn>(&rt, rt.alloc(), Metered::leaked(rt.alloc())?);
+    let memory = Metered::leaked(rt.alloc())?;
+    refuses_first_table::<NoFn, _>(&rt, rt.alloc(), memory, memory);
     Ok(())
 }
 
-fn refuses_first_table<F: ComputeFn<u64, u64> + Copy + Debug>(
+fn refuses_first_table<F: ComputeFn<u64, u64> + Copy + Debug, A: Allocator + Copy>(
     rt: &impl Abort,
     alloc: Global,
-    memory: Memory,
+    metered: &Metered<Global>,
+    memory: A,
 )
     requires { (f : F) → F.can_change f }
 {
-    let mut world: Numbers<F> = world_for(rt, memory, 0);
+    let mut world: Numbers<F, A> = world_for(rt, memory, 0);
     let _ = begins(rt, &mut world, OwnedCall::Insert(3, 4));
-    memory.refuse_at(0);
+    metered.refuse_at(0);
     step_to(rt, &mut world, 0, 2);
-    memory.refuse_nothing();
+    metered.refuse_nothing();
     shows(rt, alloc, &world, 1, "[Refused(0)]");
     let _ = begins(rt, &mut world, OwnedCall::Get(3));
     step_to(rt, &mut world, 1, 5);
@@ -52,12 +54,16 @@ fn refuses_first_table<F: ComputeFn<u64, u64> + Copy + Debug>(
 
 #[test]
 fn larger_table_of_an_insertion_refused(rt: HostRuntime) -> Result<(), Fail> {
-    refuses_larger_table::<NoFn>(&rt, rt.alloc(), Metered::leaked(rt.alloc())?);
+    let memory = Metered::leaked(rt.alloc())?;
+    refuses_larger_table::<NoFn, _>(&rt, rt.alloc(), memory, memory);
     Ok(())
 }
 
 // Returns a world of 16 bins, in which the parties 0 to 10 have inserted their numbers as keys.
-fn eleven_keys<F: ComputeFn<u64, u64> + Copy>(rt: &impl Abort, memory: Memory) -> Numbers<F>
+fn eleven_keys<F: ComputeFn<u64, u64> + Copy, A: Allocator + Copy>(
+    rt: &impl Abort,
+    memory: A,
+) -> Numbers<F, A>
     requires { (f : F) → F.can_change f }
 {
     let mut world = world_for(rt, memory, 8);
@@ -69,19 +75,20 @@ fn eleven_keys<F: ComputeFn<u64, u64> + Copy>(rt: &impl Abort, memory: Memory) -
     world
 }
 
-fn refuses_larger_table<F: ComputeFn<u64, u64> + Copy + Debug>(
+fn refuses_larger_table<F: ComputeFn<u64, u64> + Copy + Debug, A: Allocator + Copy>(
     rt: &impl Abort,
     alloc: Global,
-    memory: Memory,
+    metered: &Metered<Global>,
+    memory: A,
 )
     requires { (f : F) → F.can_change f }
 {
-    let mut world: Numbers<F> = eleven_keys(rt, memory);
+    let mut world: Numbers<F, A> = eleven_keys(rt, memory);
     same(rt, begins(rt, &mut world, OwnedCall::Insert(11, 11)), 11);
-    memory.refuse_at(3);
+    metered.refuse_at(3);
     step_to(rt, &mut world, 11, 61);
-    same(rt, memory.refused(), true);
-    memory.refuse_nothing();
+    same(rt, metered.refused(), true);
+    metered.refuse_nothing();
     let labels =
         "[Silent(11), Decide(11, Value(None)), Silent(11), Silent(11), Reply(11, Value(None))]";
     shows(rt, alloc, &world, 56, labels);
@@ -94,23 +101,25 @@ fn refuses_larger_table<F: ComputeFn<u64, u64> + Copy + Debug>(
 
 #[test]
 fn larger_table_of_a_reserve_refused(rt: HostRuntime) -> Result<(), Fail> {
-    refuses_reserve::<NoFn>(&rt, rt.alloc(), Metered::leaked(rt.alloc())?);
+    let memory = Metered::leaked(rt.alloc())?;
+    refuses_reserve::<NoFn, _>(&rt, rt.alloc(), memory, memory);
     Ok(())
 }
 
-fn refuses_reserve<F: ComputeFn<u64, u64> + Copy + Debug>(
+fn refuses_reserve<F: ComputeFn<u64, u64> + Copy + Debug, A: Allocator + Copy>(
     rt: &impl Abort,
     alloc: Global,
-    memory: Memory,
+    metered: &Metered<Global>,
+    memory: A,
 )
     requires { (f : F) → F.can_change f }
 {
-    let mut world: Numbers<F> = world_for(rt, memory, 8);
+    let mut world: Numbers<F, A> = world_for(rt, memory, 8);
     let _ = begins(rt, &mut world, OwnedCall::Reserve(16));
-    memory.refuse_at(0);
+    metered.refuse_at(0);
     step_to(rt, &mut world, 0, 3);
-    same(rt, memory.refused(), true);
-    memory.refuse_nothing();
+    same(rt, metered.refused(), true);
+    metered.refuse_nothing();
     shows(rt, alloc, &world, 1, "[Silent(0), Refused(0)]");
     drop(world);
 }
