@@ -18,7 +18,7 @@ type Memory = &'static Metered<Global>;
 // A map of numbers. Its allocator is a parameter, because a proof over `Memory` would have to unfold it in each step.
 type Numbers<A> = HashMap<u64, u64, LowHashBuilder, A>;
 
-type DefaultNumbers = HashMap<u64, u64, DefaultHashBuilder, Memory>;
+type DefaultNumbers<A> = HashMap<u64, u64, DefaultHashBuilder, A>;
 
 // An owned map of numbers.
 type Owned<A> = SeqMap<u64, u64, LowHashBuilder, A>;
@@ -133,19 +133,28 @@ fn a_larger_table_of_an_insertion(rt: HostRuntime) -> Result<(), Fail> {
     Ok(())
 }
 
+// Returns a map with room for `capacity` numbers.
+fn map_with_room<A: Allocator + Copy>(
+    memory: A,
+    capacity: usize,
+) -> Result<Numbers<A>, AllocError> {
+    HashMap::with_capacity_and_hasher(memory, capacity, LowHashBuilder)
+}
+
+// Returns a map with room for five numbers, and the default hasher.
+fn map_with_room_by_default<A: Allocator + Copy>(
+    memory: A,
+) -> Result<DefaultNumbers<A>, AllocError> {
+    HashMap::with_capacity(memory, 5)
+}
+
 #[test]
 fn a_map_with_room(rt: HostRuntime) -> Result<(), Fail> {
     let memory = Metered::leaked(rt.alloc())?;
     for k in 0..3u64 {
         memory.refuse_at(k);
-        let map: Result<Numbers<Memory>, _> = HashMap::with_capacity_and_hasher(
-            memory,
-            5,
-            LowHashBuilder,
-        );
-        same(&rt, (k, map.is_ok()), (k, k == 2));
+        same(&rt, (k, map_with_room(memory, 5).is_ok()), (k, k == 2));
         memory.refuse_nothing();
-        drop(map);
         same(&rt, memory.blocks(), 0);
     }
     Ok(())
@@ -157,10 +166,12 @@ fn a_map_with_room_by_default(rt: HostRuntime) -> Result<(), Fail> {
     let memory = Metered::leaked(rt.alloc())?;
     for k in 0..3u64 {
         memory.refuse_at(k);
-        let map: Result<DefaultNumbers, _> = HashMap::with_capacity(memory, 5);
-        same(&rt, (k, map.is_ok()), (k, k == 2));
+        same(
+            &rt,
+            (k, map_with_room_by_default(memory).is_ok()),
+            (k, k == 2),
+        );
         memory.refuse_nothing();
-        drop(map);
         same(&rt, memory.blocks(), 0);
     }
     Ok(())
@@ -258,18 +269,29 @@ fn threads_without_memory(rt: HostRuntime) -> Result<(), Fail> {
     Ok(())
 }
 
+// Inserts a thousand pairs.
+fn fill<A: Allocator + Copy, R: Wait>(rt: &R, map: &Numbers<A>) -> Result<(), AllocError> {
+    for key in 0..1000u64 {
+        map.insert(rt, key, key)?;
+    }
+    Ok(())
+}
+
+// Makes an owned map of a map.
+fn becomes_owned<A: Allocator + Copy, R: Wait>(rt: &R, map: Numbers<A>) -> bool {
+    map.into_seq(rt).is_ok()
+}
+
 // A map with room for a thousand pairs asks for no further table, nor does the owned one that it becomes.
 #[test]
 fn room_is_made_once(rt: HostRuntime) -> Result<(), Fail> {
     let memory = Metered::leaked(rt.alloc())?;
     memory.refuse_nothing();
-    let map: Numbers<Memory> = HashMap::with_capacity_and_hasher(memory, 1000, LowHashBuilder)?;
-    for key in 0..1000u64 {
-        map.insert(&rt, key, key)?;
-    }
+    let map = map_with_room(memory, 1000)?;
+    fill(&rt, &map)?;
     same(&rt, memory.asked(), 3002);
     memory.refuse_nothing();
-    drop(map.into_seq(&rt)?);
+    same(&rt, becomes_owned(&rt, map), true);
     same(&rt, memory.asked(), 1001);
     Ok(())
 }

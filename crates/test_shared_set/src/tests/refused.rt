@@ -14,7 +14,7 @@ type Memory = &'static Metered<Global>;
 // A set of numbers. Its allocator is a parameter, because a proof over `Memory` would have to unfold it in each step.
 type Numbers<A> = HashSet<u64, LowHashBuilder, A>;
 
-type DefaultNumbers = HashSet<u64, DefaultHashBuilder, Memory>;
+type DefaultNumbers<A> = HashSet<u64, DefaultHashBuilder, A>;
 
 // A call that may fail to allocate memory.
 #[derive(Clone, Copy, Debug, PartialEq)]
@@ -143,19 +143,28 @@ fn an_extension(rt: HostRuntime) -> Result<(), Fail> {
     Ok(())
 }
 
+// Returns a set with room for `capacity` numbers.
+fn set_with_room<A: Allocator + Copy>(
+    memory: A,
+    capacity: usize,
+) -> Result<Numbers<A>, AllocError> {
+    HashSet::with_capacity_and_hasher(memory, capacity, LowHashBuilder)
+}
+
+// Returns a set with room for five numbers, and the default hasher.
+fn set_with_room_by_default<A: Allocator + Copy>(
+    memory: A,
+) -> Result<DefaultNumbers<A>, AllocError> {
+    HashSet::with_capacity(memory, 5)
+}
+
 #[test]
 fn a_set_with_room(rt: HostRuntime) -> Result<(), Fail> {
     let memory = Metered::leaked(rt.alloc())?;
     for k in 0..3u64 {
         memory.refuse_at(k);
-        let set: Result<Numbers<Memory>, _> = HashSet::with_capacity_and_hasher(
-            memory,
-            5,
-            LowHashBuilder,
-        );
-        same(&rt, (k, set.is_ok()), (k, k == 2));
+        same(&rt, (k, set_with_room(memory, 5).is_ok()), (k, k == 2));
         memory.refuse_nothing();
-        drop(set);
         same(&rt, memory.blocks(), 0);
     }
     Ok(())
@@ -167,10 +176,12 @@ fn a_set_with_room_by_default(rt: HostRuntime) -> Result<(), Fail> {
     let memory = Metered::leaked(rt.alloc())?;
     for k in 0..3u64 {
         memory.refuse_at(k);
-        let set: Result<DefaultNumbers, _> = HashSet::with_capacity(memory, 5);
-        same(&rt, (k, set.is_ok()), (k, k == 2));
+        same(
+            &rt,
+            (k, set_with_room_by_default(memory).is_ok()),
+            (k, k == 2),
+        );
         memory.refuse_nothing();
-        drop(set);
         same(&rt, memory.blocks(), 0);
     }
     Ok(())
@@ -189,22 +200,33 @@ fn requests_of_insertions<A: Allocator + Copy, R: Wait>(
     Ok(memory.asked())
 }
 
+// Makes the call, of a set or of a list in this memory. Returns whether it succeeded, and how many requests it made.
+fn asked_in<A: Allocator + Copy, R: Wait>(
+    rt: &R,
+    memory: &Metered<Global>,
+    set: &Numbers<A>,
+    list: Vec<u64, A>,
+    call: Call,
+) -> (bool, u64) {
+    memory.refuse_nothing();
+    let done = is_done(rt, set, list, call);
+    (done, memory.asked())
+}
+
+// Does the same as `asked_in`, with an empty set and a list of a hundred numbers.
+fn asked_by<R: Wait>(rt: &R, memory: Memory, call: Call) -> Result<(bool, u64), AllocError> {
+    let list = list(memory, 0, 100)?;
+    let set = set_of(rt, memory, &[])?;
+    Ok(asked_in(rt, memory, &set, list, call))
+}
+
 // A set with room makes no further table: a hundred elements ask for three blocks each.
 #[test]
 fn room_is_made_first(rt: HostRuntime) -> Result<(), Fail> {
     let memory = Metered::leaked(rt.alloc())?;
-    let set: Numbers<Memory> = HashSet::with_capacity_and_hasher(memory, 100, LowHashBuilder)?;
-    same(&rt, requests_of_insertions(&rt, memory, &set)?, 300);
-    drop(set);
-    let numbers = list(memory, 0, 100)?;
-    memory.refuse_nothing();
-    let set: Numbers<Memory> = HashSet::from_list(&rt, numbers, LowHashBuilder)?;
-    same(&rt, memory.asked(), 302);
-    drop(set);
-    let set: Numbers<Memory> = HashSet::with_hasher(memory, LowHashBuilder);
-    let numbers = list(memory, 0, 100)?;
-    memory.refuse_nothing();
-    set.extend(&rt, numbers)?;
-    same(&rt, memory.asked(), 304);
+    let asked = requests_of_insertions(&rt, memory, &set_with_room(memory, 100)?)?;
+    same(&rt, asked, 300);
+    same(&rt, asked_by(&rt, memory, Call::FromList)?, (true, 302));
+    same(&rt, asked_by(&rt, memory, Call::Extend)?, (true, 304));
     Ok(())
 }
