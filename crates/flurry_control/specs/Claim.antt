@@ -1,34 +1,32 @@
--- Ranges of bins of a table that is being moved into the next one.
-use Rattle.std.specs.Prelude.{ℕ, ◌-◌, ◌^◌, ◌<◌, ◌≤◌, ◌==◌, nat_lt, Bool, Option, Some, None, if◌then◌else◌}
+-- Ranges of bins that are being moved into the next table.
+use Rattle.std.specs.Prelude.{ℕ, ◌-◌, ◌<◌, ◌≤◌, nat_lt, Option, Some, None, if◌then◌else◌}
+use Rattle.flurry_claims.specs.Range.{Bounds, IsRange}
 use Rattle.flurry_model.specs.declared.sizes.TheConstants.{GREATEST_TABLE}
 
--- the bins of the table of 2^table bins from `low` to below `high`, of which those from `left` on have moved
-pub record Range : Type 0 where
-  pub table : ℕ
-  pub low : ℕ
+-- a range of bins, of which those from `left` on have moved
+pub record ClaimState : Type 0 where
+  pub range : Bounds
   pub left : ℕ
-  pub high : ℕ
 
--- there is a next table, and the range has a bin and lies in its table
-pub record IsRange (r : Range) : Type 0 where
-  pub table : r.table < GREATEST_TABLE
-  pub some : r.low < r.high
-  pub low : r.low ≤ r.left
-  pub left : r.left ≤ r.high
-  pub high : r.high ≤ 2 ^ r.table
+-- there is a next table, and the bins that have not moved are the first ones of the range
+pub record IsClaim (c : ClaimState) : Type 0 where
+  pub range : IsRange c.range
+  pub table : c.range.table < GREATEST_TABLE
+  pub low : c.range.low ≤ c.left
+  pub left : c.left ≤ c.range.high
 
--- how many bins the range has
-abbrev pub bins_in : Range → ℕ
-bins_in r = r.high - r.low
-
--- all of the range's bins have moved
-abbrev pub is_moved : Range → Bool
-is_moved r = r.left == r.low
+-- none of the range's bins has moved
+abbrev pub whole_claim : Bounds → ClaimState
+whole_claim r = record { range = r; left = r.high }
 
 -- the table and the index of the bin to move next: bins are moved from the last one down
-abbrev pub next_of : Range → Option (ℕ × ℕ)
-next_of r = if nat_lt r.low r.left then Some (r.table, r.left - 1) else None
+abbrev pub next_of : ClaimState → Option (ℕ × ℕ)
+next_of c = if nat_lt c.range.low c.left then Some (c.range.table, c.left - 1) else None
 
--- the range, after its next bin has moved
-abbrev pub moved_on : Range → Range
-moved_on r = record { table = r.table; low = r.low; left = r.left - 1; high = r.high }
+-- the range, once all of its bins have moved
+abbrev pub moved_range : ClaimState → Option Bounds
+moved_range c = if nat_lt c.range.low c.left then None else Some c.range
+
+-- the claim, after its next bin has moved
+abbrev pub moved_on : ClaimState → ClaimState
+moved_on c = record { range = c.range; left = c.left - 1 }

@@ -1,3 +1,2 @@
 pub mod Claim
 pub mod Control
-pub mod ControlView

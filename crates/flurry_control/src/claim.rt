@@ -1,37 +1,39 @@
 //! Ranges of bins that are to be moved.
-ghost use Rattle.std.specs.Prelude.{◌≡◌, ◌-◌, ◌^◌, ◌<◌, ◌≤◌, ◌&&◌, ◌==◌, ◌↔◌, IsTrue, IfSome, Some, None, false, if◌then◌else◌};
-ghost use Rattle.flurry_control.specs.Claim.{IsRange, next_of, moved_on, is_moved, bins_in};
+ghost use Rattle.std.specs.Prelude.{◌≡◌, ◌^◌, ◌<◌, ◌↔◌, IsTrue, IfSome, MatchResult, Some, None, false};
+ghost use Rattle.flurry_control.specs.Claim.{IsClaim, whole_claim, next_of, moved_range, moved_on};
 ghost use Rattle.flurry_model.specs.declared.sizes.TheConstants.{GREATEST_TABLE};
 
+use flurry_claims::Range;
 use flurry_slots::Receipt;
 use flurry_slots::clones::{Cloning, NoCloning};
 use std::marker::Model;
 
 /// A range of bins of a growing table. Only its holder moves these bins into the next table, from the last one down.
 ///
-/// Only a control's `claim` makes one, and it cannot be cloned, so no bin has two holders. If a claim is dropped before all its bins have
-/// moved, the bins that are left stay unmoved for good, and the growth never ends.
+/// It is made of a [`Range`], which a board gives out once, and neither can be cloned. So no bin has two holders. Once all bins have
+/// moved, it gives the range back, which is then reported to the board. If a claim is dropped before, the bins that are left stay unmoved
+/// for good, and the growth never ends.
 ///
 /// ```
-/// let claim: Claim = control.claim(1)?;
-/// claim.next()
+/// let Attempt::Got(range) = PlainBoard::new(4, 1).try_claim() else {
+///     return None;
+/// };
+/// Claim::of(range).next()
 /// ```
 #[derive(Drop)]
 pub struct Claim {
-    table: u8,
-    low: usize,
+    range: Range,
     left: usize,
-    high: usize,
 }
 
 impl Model for Claim {
-    ghost use Rattle.flurry_control.specs.Claim.{Range, IsRange};
+    ghost use Rattle.flurry_control.specs.Claim.{ClaimState, IsClaim};
 
-    ghost Value = { Range };
+    ghost Value = { ClaimState };
 
-    ghost view = { λ c. record { table = c.table; low = c.low; left = c.left; high = c.high } };
+    ghost view = { λ c. record { range = c.range; left = c.left } };
 
-    ghost invariant = { λ c. IsRange (record { table = c.table; low = c.low; left = c.left; high = c.high }) };
+    ghost invariant = { λ c. IsClaim (record { range = c.range; left = c.left }) };
 }
 
 // A claim cannot be cloned, so only its holder has its bins.
@@ -42,19 +44,16 @@ fn claims_can_be_cloned() -> bool
 }
 
 impl Claim {
-    // Creates the claim of a range that a control gives out.
-    pub(crate) fn of(table: u8, low: usize, high: usize) -> Self
-        requires table { table < GREATEST_TABLE }
-        requires some { low < high }
-        requires inside { high ≤ 2 ^ table }
-        ensures { result ≡ record { table = table; low = low; left = high; high = high } }
+    /// Creates the claim of a range of which no bin has moved. There must be a next table: the range is of a table below the largest.
+    ///
+    /// Constant time.
+    pub fn of(range: Range) -> Self
+        requires { range.table < GREATEST_TABLE }
+        ensures value { result ≡ whole_claim range }
+        ensures claim { IsClaim result }
     {
-        Claim {
-            table,
-            low,
-            left: high,
-            high,
-        }
+        let left = range.high();
+        Claim { range, left }
     }
 
     /// Returns the exponent of the table and the index of the bin to move next, or `None` once all bins have moved.
@@ -63,13 +62,23 @@ impl Claim {
     pub fn next(&self) -> Option<(u8, usize)>
         ensures value { result ≡ next_of self.now }
         ensures within { IfSome result (λ b. (b.0 < GREATEST_TABLE) × (b.1 < 2 ^ b.0)) }
-        ensures range { IsRange self.now }
+        ensures claim { IsClaim self.now }
     {
-        if self.low < self.left {
-            Some((self.table, self.left - 1))
+        if self.range.low() < self.left {
+            Some((self.range.table(), self.left - 1))
         } else {
             None
         }
+    }
+
+    /// Returns the exponent of the table.
+    ///
+    /// Constant time.
+    pub fn table(&self) -> u8
+        ensures value { result ≡ self.now.range.table }
+        ensures claim { IsClaim self.now }
+    {
+        self.range.table()
     }
 
     /// Goes on to the bin below if `receipt` is that of the bin to move next, and returns `true`. Otherwise returns `false`, and the
@@ -82,7 +91,7 @@ impl Claim {
         ensures same { result ≡ false → self.new ≡ self.old }
     {
         let (table, index) = receipt.at();
-        if self.low < self.left && self.table == table && self.left - 1 == index {
+        if self.range.low() < self.left && self.range.table() == table && self.left - 1 == index {
             self.left -= 1;
             true
         } else {
@@ -90,16 +99,20 @@ impl Claim {
         }
     }
 
-    // The number of bins of the range, if it is of `table` and all of its bins have moved.
-    pub(crate) fn moved_in(&self, table: u8) -> Option<usize>
-        ensures value { result ≡ (if self.now.table == table
-            && is_moved self.now then Some (bins_in self.now) else None) }
-        ensures within { IfSome result (λ n. n ≤ 2 ^ table) }
+    /// Returns the range, which is to be reported now that all its bins have moved.
+    ///
+    /// Constant time.
+    ///
+    /// # Errors
+    ///
+    /// Returns the claim, unchanged, if it has bins that have not moved.
+    pub fn into_range(self) -> Result<Range, Self>
+        ensures { MatchResult result (λ r. moved_range self ≡ Some r) (λ c. (moved_range self ≡ None) × (c ≡ self)) }
     {
-        if self.table == table && self.left == self.low {
-            Some(self.high - self.low)
+        if self.range.low() < self.left {
+            Err(self)
         } else {
-            None
+            Ok(self.range)
         }
     }
 }

@@ -1,15 +1,13 @@
 //! The state on which the calls of a shared map agree: the published table, the running growth, and the count of pairs.
-ghost use Rattle.std.specs.Prelude.{◌≡◌, ◌^◌, ◌<◌, ◌≤◌, pos, IfSome, IfOk, None};
+ghost use Rattle.std.specs.Prelude.{◌≡◌, ◌^◌, ◌<◌, ◌≤◌, pos, IsTrue, IfSome, IfOk, None};
 ghost use Rattle.flurry_model.specs.Sizes.{wanted_of};
-ghost use Rattle.flurry_control.specs.Claim.{IsRange};
-ghost use Rattle.flurry_control.specs.Control.{IsIdle, IsControl, OpenGives, BeginGives, claim_of, after_claim, report_of, after_report, after_count, advice_of, count_of, grows_from};
+ghost use Rattle.flurry_control.specs.Control.{IsControl, OpenGives, BeginGives, is_growing, after_publish, after_count, advice_of, IsAdvice, count_of, grows_from};
 ghost use Rattle.flurry_model.specs.declared.sizes.TheConstants.{GREATEST_TABLE};
 
-use crate::claim::Claim;
 use crate::published_table::PublishedTable;
 use crate::room::Room;
 use crate::tally::Tally;
-use flurry_model::sizes::{GREATEST_TABLE, stride, threshold, wanted};
+use flurry_model::sizes::{GREATEST_TABLE, threshold, wanted};
 use std::alloc::AllocError;
 use std::marker::Model;
 
@@ -28,15 +26,15 @@ pub fn wanted_table(pairs: usize) -> u8
 /// ```
 /// match control.count(1) {
 ///     Advice::Enough => false,
-///     Advice::Join | Advice::Begin => true,
+///     Advice::Join(_) | Advice::Begin => true,
 /// }
 /// ```
 #[derive(Clone, Copy, Debug, PartialEq, Eq)]
 pub enum Advice {
     /// Nothing more.
     Enough,
-    /// Help the running growth: it has bins that nobody has claimed.
-    Join,
+    /// Help the running growth, which moves the table of the given exponent.
+    Join(u8),
     /// Begin a growth: the number of pairs has reached the threshold of the table.
     Begin,
 }
@@ -44,7 +42,7 @@ pub enum Advice {
 /// The result of [`Control::begin`].
 ///
 /// ```
-/// match control.begin(table, &mut Counted(0)) {
+/// match control.begin(table, 1, &mut Counted(0)) {
 ///     BeginOutcome::Begun => true,
 ///     BeginOutcome::Refused | BeginOutcome::Busy => false,
 /// }
@@ -59,23 +57,12 @@ pub enum BeginOutcome {
     Busy,
 }
 
-#[derive(Clone, Copy)]
-enum State {
-    Idle,
-    Growing {
-        // The index below which no bin is in a claim yet.
-        unclaimed: usize,
-        // The number of bins in the claims that came back with all their bins moved.
-        reported: usize,
-    },
-}
-
 /// The published table, the running growth, and the count of pairs.
 ///
 /// Tables are identified by their exponents: table `e` has `2^e` bins, and `e` is at most 30. The first table is made by
 /// [`Control::open`], and each later one is published by the growth that fills it. A growth moves the published table into the next one.
-/// Its bins are claimed in ranges, from the top down. The report after which all bins have moved publishes the next table and ends the
-/// growth.
+/// Who moves which bins is decided at the board of the growth. Whoever is told there that all bins have moved publishes the next table,
+/// by [`Control::publish`], which ends the growth.
 ///
 /// A control takes no memory and has no table; a [`Room`] makes the tables.
 ///
@@ -87,7 +74,8 @@ enum State {
 #[derive(Drop)]
 pub struct Control {
     published: Option<u8>,
-    state: State,
+    // The table that is being moved into the next one.
+    growth: Option<u8>,
     count: i64,
 }
 
@@ -96,11 +84,9 @@ impl Model for Control {
 
     ghost Value = { ControlState };
 
-    ghost use Rattle.flurry_control.specs.ControlView.{control_state_of};
+    ghost view = { λ c. record { published = c.published; growth = c.growth; count = c.count } };
 
-    ghost view = { control_state_of };
-
-    ghost invariant = { λ c. IsControl (control_state_of c) };
+    ghost invariant = { λ c. IsControl (record { published = c.published; growth = c.growth; count = c.count }) };
 }
 
 impl Control {
@@ -108,11 +94,11 @@ impl Control {
     ///
     /// Constant time.
     pub fn new() -> Self
-        ensures { result ≡ record { published = None; growth = IsIdle; count = pos 0 } }
+        ensures { result ≡ record { published = None; growth = None; count = pos 0 } }
     {
         Control {
             published: None,
-            state: State::Idle,
+            growth: None,
             count: 0,
         }
     }
@@ -159,112 +145,57 @@ impl Control {
         match self.published {
             Some(there) => Ok(there),
             None => {
-                room.place(table, true)?;
+                room.place(table, None)?;
                 self.published = Some(table);
                 Ok(table)
             }
         }
     }
 
-    /// Begins a growth from the table of exponent `table`: makes the next table in `room`, with unborn bins, after which all bins of
-    /// `table` are unclaimed.
+    /// Begins a growth from the table of exponent `table`: makes the next table in `room`, with unborn bins, and the board at which
+    /// `processors` processors share the work of the growth. `0` processors count as 1.
     ///
     /// Returns [`BeginOutcome::Busy`] and changes nothing if a growth is running, if `table` is not the published table, or if it is the
-    /// largest table. Returns [`BeginOutcome::Refused`] if memory for the next table cannot be allocated; the control is then unchanged.
+    /// largest table. Returns [`BeginOutcome::Refused`] if memory for the next table or the board cannot be allocated; the control is then
+    /// unchanged.
     ///
-    /// Constant time, except for making the table.
-    pub fn begin<R: Room>(&mut self, table: u8, room: &mut R) -> BeginOutcome
-        ensures { BeginGives R.place_gives table self.old room.old result self.new room.new }
+    /// Constant time, except for making the table and the board.
+    pub fn begin<R: Room>(&mut self, table: u8, processors: usize, room: &mut R) -> BeginOutcome
+        ensures gives { BeginGives R.place_gives processors table self.old room.old result self.new room.new }
+        ensures within { result ≡ BeginOutcome.Begun → table < GREATEST_TABLE }
     {
-        match (self.published, self.state) {
-            (Some(there), State::Idle) if there == table && table < GREATEST_TABLE => {
-                if room.place(table + 1, false).is_err() {
+        match (self.published, self.growth) {
+            (Some(there), None) if there == table && table < GREATEST_TABLE => {
+                if room.place(table + 1, Some(processors)).is_err() {
                     return BeginOutcome::Refused;
                 }
-                self.state = State::Growing {
-                    unclaimed: 1 << table,
-                    reported: 0,
-                };
+                self.growth = Some(table);
                 BeginOutcome::Begun
             }
             _ => BeginOutcome::Busy,
         }
     }
 
-    /// Claims the uppermost bins that nobody has claimed. Returns `None` if no growth is running, or all its bins are claimed.
+    /// Publishes the table after that of exponent `table`, ends the growth from `table`, and returns `true`. If no growth from `table` is
+    /// running, returns `false`, and nothing changes.
     ///
-    /// The claim has as many bins as a caller moves at once if `processors` processors share the work, or all that are left. `0`
-    /// processors count as 1.
+    /// All bins of `table` must have moved. The growth's board tells that, to the one whose report was the last. A control does not know
+    /// the board, so no contract can ask for it. Whoever keeps a control and its calls private is safe from a table that is published
+    /// before it is complete.
     ///
-    /// Constant time.
-    pub fn claim(&mut self, processors: usize) -> Option<Claim>
-        ensures value { result ≡ claim_of processors self.old }
-        ensures after { self.new ≡ after_claim processors self.old }
-        ensures within { IfSome result IsRange }
+    /// Constant time. Takes no memory.
+    pub fn publish(&mut self, table: u8) -> bool
+        ensures value { result ≡ is_growing table self.old.growth }
+        ensures after { self.new ≡ after_publish table self.old }
+        ensures within { IsTrue result → table < GREATEST_TABLE }
     {
-        match (self.published, self.state) {
-            (
-                Some(table),
-                State::Growing {
-                    unclaimed,
-                    reported,
-                },
-            ) if unclaimed > 0 => {
-                let low = unclaimed.saturating_sub(stride(1 << table, processors));
-                self.state = State::Growing {
-                    unclaimed: low,
-                    reported,
-                };
-                Some(Claim::of(table, low, unclaimed))
+        match self.growth {
+            Some(there) if there == table => {
+                self.published = Some(table + 1);
+                self.growth = None;
+                true
             }
-            _ => None,
-        }
-    }
-
-    /// Takes back a claim whose bins have moved. If they were the last bins of the growth, publishes the next table, ends the growth, and
-    /// returns the exponent of the next table. Otherwise returns `None`.
-    ///
-    /// If `claim` is of a table that is not growing, has bins left to move, or has more bins than are unreported, nothing changes.
-    ///
-    /// The claim must be one that this control has given out. A claim does not say to which control it belongs, so no contract can ask
-    /// for that. If another control grows a table of the same exponent, its claim is accepted too if it has no more bins than are
-    /// unreported. It then counts for bins of this table that have not moved, and the next table is published before it is complete. No
-    /// claim leaves a `World`, and whoever keeps a control, its calls and their claims private is safe from this too.
-    ///
-    /// Constant time.
-    pub fn report(&mut self, claim: Claim) -> Option<u8>
-        ensures value { result ≡ report_of self.old claim }
-        ensures after { self.new ≡ after_report self.old claim }
-        ensures within { IfSome result (λ e. e ≤ GREATEST_TABLE) }
-    {
-        match (self.published, self.state) {
-            (
-                Some(table),
-                State::Growing {
-                    unclaimed,
-                    reported,
-                },
-            ) => {
-                let Some(moved) = claim.moved_in(table) else {
-                    return None;
-                };
-                let bins = 1usize << table;
-                let all = reported + moved;
-                if all > bins {
-                    None
-                } else if all == bins {
-                    self.published = Some(table + 1);
-                    self.state = State::Idle;
-                    Some(table + 1)
-                } else {
-                    self.state = State::Growing {
-                        unclaimed,
-                        reported: all,
-                    };
-                    None
-                }
-            }
-            _ => None,
+            _ => false,
         }
     }
 
@@ -275,18 +206,14 @@ impl Control {
     pub fn count(&mut self, delta: i64) -> Advice
         ensures after { self.new ≡ after_count delta self.old }
         ensures advice { result ≡ advice_of self.new }
+        ensures within { IsAdvice result }
     {
         self.count = self.count.saturating_add(delta);
-        match (self.published, self.state) {
-            (_, State::Growing { unclaimed, .. }) => {
-                if unclaimed > 0 {
-                    Advice::Join
-                } else {
-                    Advice::Enough
-                }
-            }
-            (Some(table), State::Idle)
-                if table < GREATEST_TABLE && self.len() >= threshold(1 << table) => {
+        if let Some(table) = self.growth {
+            return Advice::Join(table);
+        }
+        match self.published {
+            Some(table) if table < GREATEST_TABLE && self.len() >= threshold(1 << table) => {
                 Advice::Begin
             }
             _ => Advice::Enough,
@@ -326,8 +253,8 @@ impl Control {
         ensures value { result ≡ grows_from wanted self.now }
         ensures within { IfSome result (λ e. e < GREATEST_TABLE) }
     {
-        match (self.published, self.state) {
-            (Some(table), State::Idle)
+        match (self.published, self.growth) {
+            (Some(table), None)
                 if table < GREATEST_TABLE && threshold(1 << table) < 1usize << wanted => {
                 Some(table)
             }

@@ -1,9 +1,10 @@
 //! The state on which the calls of a shared map agree.
 //!
 //! Many calls read and write a shared map at once. What they agree on is the [`Control`]: which table is published, whether a larger
-//! table is being filled and who moves which bins into it, and the number of pairs. Each call of a control is one step, which its caller
-//! does alone, for example under a lock. A [`Claim`] is a range of bins that only its holder moves, a [`Tally`] is a count that waits
-//! until the control collects it, and a [`Room`] is the place where tables are made. Contracts see all of them as plain data.
+//! table is being filled, and the number of pairs. Each call of a control is one step, which its caller does alone, for example under a
+//! lock. Who moves which bins into a larger table is decided at a board (`flurry_claims`); a [`Claim`] is a range of bins that only its
+//! holder moves. A [`Tally`] is a count that waits until the control collects it, and a [`Room`] is the place where tables and boards are
+//! made. Contracts see all of them as plain data.
 #![tactic(auto)]
 
 mod claim;

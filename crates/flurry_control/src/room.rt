@@ -1,5 +1,5 @@
 //! The place where tables are made.
-ghost use Rattle.std.specs.Prelude.{ℕ, ◌≤◌, Bool, is_ok};
+ghost use Rattle.std.specs.Prelude.{ℕ, ◌≤◌, Bool, Option, is_ok};
 ghost use Rattle.flurry_model.specs.declared.sizes.TheConstants.{GREATEST_TABLE};
 
 use std::alloc::AllocError;
@@ -11,29 +11,30 @@ use std::alloc::AllocError;
 ///
 /// ```
 /// impl Room for Counted {
-///     ghost place_gives = { λ before table live done after. done ≡ true };
+///     ghost place_gives = { λ before table for_growth done after. done ≡ true };
 ///
-///     fn place(&mut self, _table: u8, _live: bool) -> Result<(), AllocError> {
+///     fn place(&mut self, _table: u8, _for_growth: Option<usize>) -> Result<(), AllocError> {
 ///         self.0 = self.0.saturating_add(1);
 ///         Ok(())
 ///     }
 /// }
 /// ```
 pub trait Room {
-    /// What `place` does, as a relation of the room before the call, the exponent of the table, whether its bins are to be live, whether
-    /// the call succeeded, and the room after the call. An implementation states here which tables it has after the call, and what a
-    /// failed call leaves.
-    ghost place_gives: { Self → ℕ → Bool → Bool → Self → Type 0 };
+    /// What `place` does, as a relation of the room before the call, the exponent of the table, the number of processors that share the
+    /// work of the growth for which the table is made, if it is made for one, whether the call succeeded, and the room after the call. An
+    /// implementation states here which tables it has after the call, and what a failed call leaves.
+    ghost place_gives: { Self → ℕ → Option ℕ → Bool → Self → Type 0 };
 
     /// Makes the table of exponent `table`. If that table is there already, it stays as it is.
     ///
-    /// The bins of the table are live and empty if `live` is `true`. Otherwise they are unborn, and come to be as the bins of the table
-    /// before it move.
+    /// If `for_growth` is `None`, the bins of the table are live and empty. Otherwise it is the table into which a growth moves the one
+    /// before it: its bins are unborn, and come to be as the bins of the table before it move. The board of that growth is made with it,
+    /// and the seats at the board, for as many processors as `for_growth` says.
     ///
     /// # Errors
     ///
-    /// Returns [`AllocError`] if memory for the table cannot be allocated.
-    fn place(&mut self, table: u8, live: bool) -> Result<(), AllocError>
+    /// Returns [`AllocError`] if memory for the table, its board or a seat cannot be allocated. Nothing of them is left then.
+    fn place(&mut self, table: u8, for_growth: Option<usize>) -> Result<(), AllocError>
         requires { table ≤ GREATEST_TABLE }
-        ensures { place_gives self.old table live (is_ok result) self.new };
+        ensures { place_gives self.old table for_growth (is_ok result) self.new };
 }
