@@ -7,4 +7,7 @@ pub data Part : Type 0 where
   LookPart : ℕ → ℕ → Part
   BinPart : ℕ → ℕ → Part
   MovePart : ℕ → ℕ → Part
+  SeatPart : ℕ → Part
+  BoardPart : ℕ → Part
+  GivePart : ℕ → Part
   NoPart : Part

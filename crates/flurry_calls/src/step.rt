@@ -7,7 +7,7 @@
 ///     Want::Look(table, index) | Want::Bin(table, index) | Want::Move(table, index) => {
 ///         Some((table, index))
 ///     }
-///     Want::Control | Want::Done => None,
+///     Want::Control | Want::Seat(_) | Want::Board(_) | Want::Give(_) | Want::Done => None,
 /// }
 /// ```
 #[derive(Clone, Copy, Debug, PartialEq, Eq)]
@@ -20,6 +20,12 @@ pub enum Want {
     Bin(u8, usize),
     /// The slot of the given table and index, and its two halves in the next table, to move the bin.
     Move(u8, usize),
+    /// A seat at the board of the growth from the given table.
+    Seat(u8),
+    /// The board of the growth from the given table, to claim a range there, or to report one.
+    Board(u8),
+    /// The place where its seat at the board of the growth from the given table is given back.
+    Give(u8),
     /// Nothing: the call is done.
     Done,
 }
