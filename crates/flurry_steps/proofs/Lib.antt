@@ -1,6 +1,7 @@
 pub mod Acts
 pub mod Decisions
 pub mod Events
+pub mod Moves
 pub mod Rooms
 pub mod Singles
 pub mod TurnLaws

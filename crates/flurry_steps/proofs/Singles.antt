@@ -14,8 +14,7 @@ use Rattle.flurry_steps.specs.declared.party.stage.Stage.TheVariants as stage
 pub none_read : {K V F A : Type 0} (s : Stage K V F A) → None ≡ last_seen (stage_of s)
 none_read (stage.Locate t) = refl
 none_read (stage.Bin t e) = refl
-none_read (stage.Claim a) = refl
-none_read (stage.Move c a) = refl
+none_read (stage.Help h a) = refl
 none_read (stage.Uncount r) = refl
 none_read (stage.Count r) = refl
 none_read (stage.Recount r) = refl
@@ -38,8 +37,7 @@ no_move w AfterEnd e i same = let clash : NoPart ≡ MovePart e i = same in cc
 pub not_done : {K V F A : Type 0} (s : Stage K V F A) → ((r : Reply K V A) → s ≡ stage.Done r → ⊥) → (o : Outcome K V) → stage_of s ≡ AtDone o → ⊥
 not_done (stage.Locate t) other o e = cc
 not_done (stage.Bin t n) other o e = cc
-not_done (stage.Claim a) other o e = cc
-not_done (stage.Move c a) other o e = cc
+not_done (stage.Help h a) other o e = cc
 not_done (stage.Uncount r) other o e = cc
 not_done (stage.Count r) other o e = cc
 not_done (stage.Recount r) other o e = cc

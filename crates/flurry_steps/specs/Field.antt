@@ -1,13 +1,14 @@
 -- What a step of a call is over a field, which lends it one part of a map.
-use Rattle.std.specs.Prelude.{◌≡◌, ◌⊎◌, ℕ, ℤ, ◌≤◌, Bool, true, Option, MatchOption}
+use Rattle.std.specs.Prelude.{◌≡◌, ◌⊎◌, ℕ, ℤ, ◌≤◌, Bool, true, Option, Some, None, MatchOption}
 use Rattle.std.specs.declared.cmp.Ordering.{Ordering}
 use Rattle.flurry_slots.specs.Slot.{SlotState, IsSlot}
 use Rattle.flurry_control.specs.Control.{ControlState}
-use Rattle.flurry_calls.specs.Part.{Part, ControlPart, LookPart, BinPart, MovePart, NoPart}
+use Rattle.flurry_calls.specs.Part.{Part, ControlPart, LookPart, BinPart, MovePart, SeatPart, BoardPart, GivePart, NoPart}
 use Rattle.flurry_steps.specs.Party.{PartyState, with_stage, wanted_part, locates, started_stage}
 use Rattle.flurry_steps.specs.PartyControl.{ControlStep}
 use Rattle.flurry_steps.specs.PartySlots.{SlotStep, MoveStep}
 use Rattle.flurry_steps.specs.PartyTally.{TallyStep}
+use Rattle.flurry_steps.specs.PartyBoard.{BoardAnswer, BoardStep}
 use Rattle.flurry_calls.specs.declared.step.Event.{Event}
 use Rattle.flurry_calls.specs.declared.step.Event.TheVariants as event
 use Rattle.flurry_model.specs.declared.sizes.TheConstants.{GREATEST_TABLE}
@@ -26,8 +27,17 @@ pub data Loan (K V R : Type 0) : Type 0 where
   BinLoan : (slot slot' : SlotState K V) → Loan K V R
   -- a slot and its halves
   MoveLoan : (slot low high slot' low' high' : SlotState K V) → Loan K V R
+  -- the board of the growth from a table, or the seats there, and what the call is answered
+  BoardLoan : (table : ℕ) (answer : BoardAnswer) → Loan K V R
 
-module _ {K V F R : Type 0} (place : R → ℕ → Bool → Bool → R → Type 0) (cmp : K → K → Ordering) (changes : F → K → V → Option V → Type 0) where
+-- the growth whose board, or a seat there, is the part
+abbrev pub board_of : Part → Option ℕ
+board_of (SeatPart e) = Some e
+board_of (BoardPart e) = Some e
+board_of (GivePart e) = Some e
+board_of _ = None
+
+module _ {K V F R : Type 0} (place : R → ℕ → Option ℕ → Bool → R → Type 0) (cmp : K → K → Ordering) (changes : F → K → V → Option V → Type 0) where
   -- the step of p with that loan, which is of the part that p wants: a call that asks for the published table may also be told a table,
   -- and one that counts a pair may also count it at a tally
   abbrev pub StepWith : Loan K V R → PartyState K V F → Event → PartyState K V F → Type 0
@@ -38,6 +48,7 @@ module _ {K V F R : Type 0} (place : R → ℕ → Bool → Bool → R → Type 
   StepWith (BinLoan q q') p ev p' = (wanted_part p ≡ BinPart q.table q.index) × IsSlot cmp q × SlotStep cmp changes p q ev p' q'
   StepWith (MoveLoan q low high q' low' high') p ev p' =
       (wanted_part p ≡ MovePart q.table q.index) × IsSlot cmp q × MoveStep p q low high ev p' q' low' high'
+  StepWith (BoardLoan e x) p ev p' = (board_of (wanted_part p) ≡ Some e) × BoardStep p x ev p'
 
   -- one step of p, with one loan of the field
   pub record Turn {S : Type 0} (lends : S → Loan K V R → S → Type 0) (s : S) (p : PartyState K V F) (ev : Event) (s' : S) (p' : PartyState K V F) : Type 0 where
@@ -57,7 +68,7 @@ pub record StaysOrDone {S K V F : Type 0} (lacks : S → Part → Type 0) (s : S
   pub field : s' ≡ s
   pub party : p' ≡ p
 
-module _ {S K V F R : Type 0} (place : R → ℕ → Bool → Bool → R → Type 0) (cmp : K → K → Ordering) (changes : F → K → V → Option V → Type 0) (lends : S → Loan K V R → S → Type 0) (lacks : S → Part → Type 0) where
+module _ {S K V F R : Type 0} (place : R → ℕ → Option ℕ → Bool → R → Type 0) (cmp : K → K → Ordering) (changes : F → K → V → Option V → Type 0) (lends : S → Loan K V R → S → Type 0) (lacks : S → Part → Type 0) where
   -- what a field does with a call that wants a part: it lends the part to one step of the call, or both stay
   abbrev pub TurnsOrStays : S → PartyState K V F → Option Event → S → PartyState K V F → Type 0
   TurnsOrStays s p o s' p' = MatchOption o (Stays lacks s p s' p') (λ ev. Turn place cmp changes lends s p ev s' p')

@@ -3,6 +3,7 @@ pub mod PartyView
 pub mod CourseView
 pub mod PartySlots
 pub mod PartyTally
+pub mod PartyBoard
 pub mod EndingView
 pub mod PartyControl
 pub mod Field

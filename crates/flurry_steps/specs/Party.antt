@@ -1,5 +1,5 @@
 -- A call of a shared map in progress, as plain data.
-use Rattle.std.specs.Prelude.{◌≡◌, ℕ, ◌+◌, ◌-◌, ◌%◌, ◌^◌, ◌≤◌, Bool, true, false, Option, Some, None, is_some, ⊤}
+use Rattle.std.specs.Prelude.{◌≡◌, ℕ, ◌+◌, ◌-◌, ◌%◌, ◌^◌, ◌<◌, ◌≤◌, Bool, true, false, Option, Some, None, is_some, ⊤}
 use Rattle.std.specs.Option.{option_map}
 use Rattle.flurry_model.specs.Sizes.{wanted_of}
 use Rattle.flurry_slots.specs.Slot.{PlainEntry}
@@ -8,10 +8,10 @@ use Rattle.flurry_calls.specs.Cursor.{at_base}
 use Rattle.flurry_model.specs.declared.call.Seen.{Seen}
 use Rattle.flurry_calls.specs.Sweep as sweep
 use Rattle.flurry_calls.specs.Sweep.{SweepState, OverBins, AfterEnd, IsAfterEnd, swept_part, swept_outcome, sets_out}
-use Rattle.flurry_calls.specs.Part.{Part, ControlPart, LookPart, BinPart, MovePart, NoPart}
+use Rattle.flurry_calls.specs.Part.{Part, ControlPart, LookPart, BinPart, MovePart, SeatPart, BoardPart, GivePart, NoPart}
 use Rattle.flurry_model.specs.declared.reply.KeptReply.{KeptReply}
 use Rattle.flurry_model.specs.declared.reply.KeptReply.TheVariants.{Value, Pair, Contains}
-use Rattle.flurry_control.specs.Claim.{Range, next_of}
+use Rattle.flurry_control.specs.Claim.{ClaimState, next_of}
 use Rattle.flurry_model.specs.declared.sizes.TheConstants.{GREATEST_TABLE}
 
 -- what of the entry of a key a call answers: its value, the stored key and the value, or whether there is one
@@ -34,6 +34,19 @@ pub data GrowFor (K V : Type 0) : Type 0 where
   ForInsert : Outcome K V → GrowFor K V
   ForReserve : GrowFor K V
 
+-- what a call that helps a growth does next; a growth is named by the table that it moves into the next one
+pub data Help : Type 0 where
+  -- it takes a seat at the board of that growth
+  WantsSeat : ℕ → Help
+  -- it claims a range there
+  AtBoard : ℕ → Help
+  -- it moves the bins of its claim, and reports the range once all have moved
+  Moving : ClaimState → Help
+  -- it publishes the table after that one
+  Publishing : ℕ → Help
+  -- it gives its seat back
+  GivesBack : ℕ → Help
+
 -- what a call goes on with when it stops helping: its bin in that table, another look at the count, or growing to that table
 pub data Resume (K V F : Type 0) : Type 0 where
   ThenBin : Task K V F → ℕ → Resume K V F
@@ -46,10 +59,8 @@ pub data Stage (K V F : Type 0) : Type 0 where
   AtLocate : Task K V F → Stage K V F
   -- it goes to its bin in that table
   AtBin : Task K V F → ℕ → Stage K V F
-  -- it claims bins to move
-  AtClaim : Resume K V F → Stage K V F
-  -- it moves those bins, and reports once all have moved
-  AtMove : Range → Resume K V F → Stage K V F
+  -- it helps a growth
+  AtHelp : Help → Resume K V F → Stage K V F
   -- it counts the pair that it removed
   AtUncount : Outcome K V → Stage K V F
   -- it counts the pair that it put
@@ -69,10 +80,12 @@ pub data Stage (K V F : Type 0) : Type 0 where
   -- its reply was taken
   AtTaken : Stage K V F
 
--- a call in progress: the hash of its key, how many processors share the work of a growth, and where it stands
+-- a call in progress: the hash of its key, how many processors share the work of a growth, the growth that it helped last or found no
+-- seat for, and where it stands
 pub record PartyState (K V F : Type 0) : Type 0 where
   pub hash : ℕ
   pub processors : ℕ
+  pub helped : Option ℕ
   pub stage : Stage K V F
 
 -- ---- what a call wants
@@ -81,13 +94,21 @@ abbrev pub bin_part : {K V F : Type 0} → Task K V F → ℕ → ℕ → Part
 bin_part (Finds w k) e i = LookPart e i
 bin_part _ e i = BinPart e i
 
-abbrev pub move_part : Option (ℕ × ℕ) → Part
-move_part None = ControlPart
-move_part (Some b) = MovePart b.0 b.1
+-- of a claim of table e: the bin to move next, or the board once all have moved
+abbrev pub move_part : ℕ → Option (ℕ × ℕ) → Part
+move_part e None = BoardPart e
+move_part e (Some b) = MovePart b.0 b.1
+
+abbrev pub help_part : Help → Part
+help_part (WantsSeat e) = SeatPart e
+help_part (AtBoard e) = BoardPart e
+help_part (Moving c) = move_part c.range.table (next_of c)
+help_part (Publishing e) = ControlPart
+help_part (GivesBack e) = GivePart e
 
 abbrev pub part_of : {K V F : Type 0} → ℕ → Stage K V F → Part
 part_of h (AtBin t e) = bin_part t e (h % 2 ^ e)
-part_of h (AtMove c a) = move_part (next_of c)
+part_of h (AtHelp k a) = help_part k
 part_of h (AtSweep w) = swept_part w
 part_of h (AtDone r) = NoPart
 part_of h AtTaken = NoPart
@@ -97,7 +118,7 @@ abbrev pub wanted_part : {K V F : Type 0} → PartyState K V F → Part
 wanted_part p = part_of p.hash p.stage
 
 abbrev pub with_stage : {K V F : Type 0} → PartyState K V F → Stage K V F → PartyState K V F
-with_stage p s = record { hash = p.hash; processors = p.processors; stage = s }
+with_stage p s = record { hash = p.hash; processors = p.processors; helped = p.helped; stage = s }
 
 -- ---- what each call in progress keeps: tables up to the greatest, a function that may be called, and the reply of its decision
 
@@ -105,6 +126,19 @@ with_stage p s = record { hash = p.hash; processors = p.processors; stage = s }
 abbrev pub IsDecided : {K V : Type 0} → Outcome K V → Type 0
 IsDecided (OutcomeReply r) = ⊤
 IsDecided _ = ⊥
+
+-- the table that a helper moves into the next one
+abbrev pub helped_table : Help → ℕ
+helped_table (WantsSeat e) = e
+helped_table (AtBoard e) = e
+helped_table (Moving c) = c.range.table
+helped_table (Publishing e) = e
+helped_table (GivesBack e) = e
+
+-- it helps the growth from a table after which there is another; a claim keeps that of its own
+abbrev pub HelpIsReady : Help → Type 0
+HelpIsReady (Moving c) = ⊤
+HelpIsReady h = helped_table h < GREATEST_TABLE
 
 abbrev pub GrowForIsReady : {K V : Type 0} → GrowFor K V → Type 0
 GrowForIsReady (ForInsert r) = IsDecided r
@@ -123,8 +157,7 @@ module _ {K V F : Type 0} (ready : F → Type 0) where
   abbrev pub StageIsReady : Stage K V F → Type 0
   StageIsReady (AtLocate t) = TaskIsReady t
   StageIsReady (AtBin t e) = TaskIsReady t × (e ≤ GREATEST_TABLE)
-  StageIsReady (AtClaim a) = ResumeIsReady a
-  StageIsReady (AtMove c a) = ResumeIsReady a
+  StageIsReady (AtHelp h a) = HelpIsReady h × ResumeIsReady a
   StageIsReady (AtUncount r) = IsDecided r
   StageIsReady (AtCount r) = IsDecided r
   StageIsReady (AtRecount r) = IsDecided r
@@ -153,8 +186,7 @@ module _ {K V F : Type 0} where
 
   -- the reply, from the decision or the end on until it is taken
   abbrev pub outcome_in : Stage K V F → Option (Outcome K V)
-  outcome_in (AtClaim a) = outcome_after a
-  outcome_in (AtMove c a) = outcome_after a
+  outcome_in (AtHelp h a) = outcome_after a
   outcome_in (AtUncount r) = Some r
   outcome_in (AtCount r) = Some r
   outcome_in (AtRecount r) = Some r
@@ -226,9 +258,15 @@ BeginsToWrite _ = ⊥
 
 -- ---- steps at the control
 
+-- a helper that publishes a table
+abbrev pub IsPublishing : Help → Type 0
+IsPublishing (Publishing e) = ⊤
+IsPublishing _ = ⊥
+
 -- the next step is at the control
 abbrev pub IsAtControl : {K V F : Type 0} → Stage K V F → Type 0
 IsAtControl (AtBin t e) = ⊥
+IsAtControl (AtHelp h a) = IsPublishing h
 IsAtControl (AtSweep w) = ⊥
 IsAtControl (AtDone r) = ⊥
 IsAtControl AtTaken = ⊥

@@ -7,7 +7,7 @@ use Rattle.flurry_model.specs.declared.reply.KeptReply.TheVariants.{Value, New, 
 use Rattle.flurry_control.specs.Claim.{moved_on}
 use Rattle.flurry_calls.specs.Outcome.{Outcome, OutcomeReply, OutcomeRefused}
 use Rattle.flurry_calls.specs.Sweep.{SweepState, SweepGives}
-use Rattle.flurry_steps.specs.Party.{Sought, TheValue, Presence, Task, Finds, Removes, RemovesSeen, Inserts, Adds, Computes, ForInsert, ThenBin, Stage, AtLocate, AtBin, AtClaim, AtMove, AtUncount, AtCount, AtGrow, AtSweep, AtDone, PartyState, reply_for, with_stage, IsTableFor}
+use Rattle.flurry_steps.specs.Party.{Sought, TheValue, Presence, Task, Finds, Removes, RemovesSeen, Inserts, Adds, Computes, ForInsert, Help, WantsSeat, Moving, ThenBin, Stage, AtLocate, AtBin, AtHelp, AtUncount, AtCount, AtGrow, AtSweep, AtDone, PartyState, reply_for, with_stage, IsTableFor}
 use Rattle.flurry_calls.specs.declared.step.Event.{Event}
 use Rattle.flurry_calls.specs.declared.step.Event.TheVariants.{Decide, Refused, Moved, Silent}
 
@@ -39,10 +39,10 @@ module _ {K V F : Type 0} where
   stage_computed WasRemoved = AtUncount (OutcomeReply (Value None))
   stage_computed (WasChanged v) = AtDone (OutcomeReply (Value (Some v)))
 
-  -- a call whose bin of table e has moved: a look-up goes on to the next table, and another call helps first
+  -- a call whose bin of table e has moved: a look-up goes on to the next table, and another call helps the growth from e first
   abbrev pub stage_moved : Task K V F → ℕ → Stage K V F
   stage_moved (Finds w k) e = AtBin (Finds w k) (e + 1)
-  stage_moved t e = AtClaim (ThenBin t (e + 1))
+  stage_moved t e = AtHelp (WantsSeat e) (ThenBin t (e + 1))
 
 -- a look-up that answers what an entry owns is refused only where the key is present
 abbrev pub FindCanBeRefused : {K V : Type 0} → Sought → Option (PlainEntry K V) → Type 0
@@ -90,22 +90,30 @@ module _ {K V F : Type 0} (cmp : K → K → Ordering) (changes : F → K → V 
 pub record SlotStep {K V F : Type 0} (cmp : K → K → Ordering) (changes : F → K → V → Option V → Type 0) (p : PartyState K V F) (q : SlotState K V) (ev : Event) (p' : PartyState K V F) (q' : SlotState K V) : Type 0 where
   pub hash : p'.hash ≡ p.hash
   pub processors : p'.processors ≡ p.processors
+  pub helped : p'.helped ≡ p.helped
   pub table : q'.table ≡ q.table
   pub index : q'.index ≡ q.index
   pub step : StageAtSlot cmp changes p.hash p.stage q.content ev p'.stage q'.content
 
--- the next bin of the call's claim has moved
+-- the next bin of the claim has moved
+abbrev pub moved_help : Help → Help
+moved_help (Moving c) = Moving (moved_on c)
+moved_help h = h
+
 abbrev pub moved_stage : {K V F : Type 0} → Stage K V F → Stage K V F
-moved_stage (AtMove c a) = AtMove (moved_on c) a
+moved_stage (AtHelp h a) = AtHelp (moved_help h) a
 moved_stage s = s
 
--- the step of p at the slot q and its halves: the bin moves, or had moved before; or nothing can be moved, and nothing changes
+-- the step of p at the slot q and its halves: the bin moves, or had moved before, and p goes on; or nothing can be moved, and nothing
+-- changes
+abbrev pub MovesOn : {P K V : Type 0} → (P → P) → P → SlotState K V → SlotState K V → SlotState K V → Event → P → SlotState K V → SlotState K V → SlotState K V → Type 0
+MovesOn on p q low high (Moved e i) p' q' low' high' = (e ≡ q.table) × (i ≡ q.index) × HasMovedInto q low high q' low' high' × (p' ≡ on p)
+MovesOn on p q low high Silent p' q' low' high' =
+    (q' ≡ q) × (low' ≡ low) × (high' ≡ high) × (((q.content ≡ HasMoved) × (p' ≡ on p)) ⊎ (Clashes q low high × (p' ≡ p)))
+MovesOn on p q low high _ p' q' low' high' = ⊥
+
 abbrev pub MoveGives : {K V F : Type 0} → PartyState K V F → SlotState K V → SlotState K V → SlotState K V → Event → PartyState K V F → SlotState K V → SlotState K V → SlotState K V → Type 0
-MoveGives p q low high (Moved e i) p' q' low' high' = (e ≡ q.table) × (i ≡ q.index) × HasMovedInto q low high q' low' high' × (p' ≡ with_stage p (moved_stage p.stage))
-MoveGives p q low high Silent p' q' low' high' =
-    (q' ≡ q) × (low' ≡ low) × (high' ≡ high)
-    × (((q.content ≡ HasMoved) × (p' ≡ with_stage p (moved_stage p.stage))) ⊎ (Clashes q low high × (p' ≡ p)))
-MoveGives p q low high _ p' q' low' high' = ⊥
+MoveGives p q low high ev p' q' low' high' = MovesOn (λ c. with_stage c (moved_stage c.stage)) p q low high ev p' q' low' high'
 
 pub record MoveStep {K V F : Type 0} (p : PartyState K V F) (q low high : SlotState K V) (ev : Event) (p' : PartyState K V F) (q' low' high' : SlotState K V) : Type 0 where
   pub step : MoveGives p q low high ev p' q' low' high'

@@ -67,5 +67,6 @@ RestIsReady _ r = IsDecided r
 pub record TallyStep {K V F : Type 0} (most : ℤ) (p : PartyState K V F) (n : ℤ) (ev : Event) (p' : PartyState K V F) (n' : ℤ) : Type 0 where
   pub hash : p'.hash ≡ p.hash
   pub processors : p'.processors ≡ p.processors
+  pub helped : p'.helped ≡ p.helped
   pub silent : ev ≡ event.Silent
   pub step : StageAtTally most p.stage n p'.stage n'

@@ -16,6 +16,8 @@ use Rattle.flurry_steps.specs.declared.party.call.Sought.{Sought}
 use Rattle.flurry_steps.specs.declared.party.call.Sought.TheVariants as sought
 use Rattle.flurry_steps.specs.declared.party.call.Task.{Task}
 use Rattle.flurry_steps.specs.declared.party.call.Task.TheVariants as task
+use Rattle.flurry_steps.specs.declared.party.stage.Help.{Help}
+use Rattle.flurry_steps.specs.declared.party.stage.Help.TheVariants as help
 use Rattle.flurry_steps.specs.declared.party.stage.GrowFor.{GrowFor}
 use Rattle.flurry_steps.specs.declared.party.stage.GrowFor.TheVariants as growing
 use Rattle.flurry_steps.specs.declared.party.stage.Resume.{Resume}
@@ -90,6 +92,13 @@ module _ {K V F : Type 0} where
   OwnedIsReady ready (owned_call.Compute k f) = ready f
   OwnedIsReady ready _ = ⊤
 
+abbrev pub help_of : Help → abstract.Help
+help_of (help.Seat e) = abstract.WantsSeat e
+help_of (help.Board e) = abstract.AtBoard e
+help_of (help.Move c) = abstract.Moving c
+help_of (help.Publish e) = abstract.Publishing e
+help_of (help.Give e) = abstract.GivesBack e
+
 module _ {K V A : Type 0} where
   abbrev pub grow_for_of : GrowFor K V A → abstract.GrowFor K V
   grow_for_of (growing.Insert r) = abstract.ForInsert (outcome_of r)
@@ -104,8 +113,7 @@ module _ {K V F A : Type 0} where
   abbrev pub stage_of : Stage K V F A → abstract.Stage K V F
   stage_of (stage.Locate t) = abstract.AtLocate (task_of t)
   stage_of (stage.Bin t e) = abstract.AtBin (task_of t) e
-  stage_of (stage.Claim a) = abstract.AtClaim (resume_of a)
-  stage_of (stage.Move c a) = abstract.AtMove c (resume_of a)
+  stage_of (stage.Help h a) = abstract.AtHelp (help_of h) (resume_of a)
   stage_of (stage.Uncount r) = abstract.AtUncount (outcome_of r)
   stage_of (stage.Count r) = abstract.AtCount (outcome_of r)
   stage_of (stage.Recount r) = abstract.AtRecount (outcome_of r)
@@ -116,4 +124,4 @@ module _ {K V F A : Type 0} where
   stage_of stage.Taken = abstract.AtTaken
 
   abbrev pub single_state_of : Inside K V F A → PartyState K V F
-  single_state_of p = record { hash = p.hash; processors = p.processors; stage = stage_of p.stage }
+  single_state_of p = record { hash = p.hash; processors = p.processors; helped = p.helped; stage = stage_of p.stage }

@@ -1,6 +1,6 @@
 //! Where a call finds the parts of a map that its steps need.
 ghost use Rattle.std.specs.Prelude.{◌≡◌};
-ghost use Rattle.flurry_calls.specs.Part.{Part, ControlPart, LookPart, BinPart, MovePart};
+ghost use Rattle.flurry_calls.specs.Part.{Part, ControlPart, LookPart, BinPart, MovePart, SeatPart, BoardPart, GivePart};
 ghost use Rattle.flurry_calls.specs.OutcomeView.{outcome_of};
 ghost use Rattle.flurry_steps.specs.Party.{IsTaken, wanted_part};
 ghost use Rattle.flurry_steps.specs.Field.{Loan, Turn, TurnsOrStays, ActsOrStays};
@@ -16,6 +16,9 @@ use std::sync::Wait;
 ///
 /// Each method returns what the step did. If the part is not there, or a slot is at another place, no step is done, and the method
 /// returns `None`; the call and the field are then unchanged.
+///
+/// A call that helps a growth has a seat at the growth's board, which the field keeps for it, also one that comes with a growth which the
+/// call begins.
 ///
 /// ```
 /// act(party, field)
@@ -75,6 +78,39 @@ pub trait Field<K: Ord + Drop, V: Drop, A: Allocator + Copy> {
         requires { wanted_part party.old ≡ MovePart table index }
         ensures { TurnsOrStays Self.Room.place_gives K.cmp F.changes lends lacks self.old party.old
             result self.new party.new };
+
+    /// Takes a seat at the board of the growth from `table`, and passes to the next step of `party` whether there was one. Returns what
+    /// the step did, or `None` if no step was done.
+    fn at_seat<F: ComputeFn<K, V>>(
+        &mut self,
+        table: u8,
+        party: &mut Party<'_, K, V, F, A>,
+    ) -> Option<Event>
+        requires { wanted_part party.old ≡ SeatPart table }
+        ensures { TurnsOrStays Self.Room.place_gives K.cmp F.changes lends lacks self.old party.old
+            result self.new party.new };
+
+    /// Reports the range whose bins `party` has moved to the board of the growth from `table`, or tries to claim one there if it has none,
+    /// and passes the result to the next step of `party`. Returns what the step did, or `None` if no step was done.
+    fn at_board<F: ComputeFn<K, V>>(
+        &mut self,
+        table: u8,
+        party: &mut Party<'_, K, V, F, A>,
+    ) -> Option<Event>
+        requires { wanted_part party.old ≡ BoardPart table }
+        ensures { TurnsOrStays Self.Room.place_gives K.cmp F.changes lends lacks self.old party.old
+            result self.new party.new };
+
+    /// Takes back the seat of `party` at the board of the growth from `table`, and does the step of `party` that gives it back. Returns
+    /// what the step did, or `None` if no step was done.
+    fn at_give<F: ComputeFn<K, V>>(
+        &mut self,
+        table: u8,
+        party: &mut Party<'_, K, V, F, A>,
+    ) -> Option<Event>
+        requires { wanted_part party.old ≡ GivePart table }
+        ensures { TurnsOrStays Self.Room.place_gives K.cmp F.changes lends lacks self.old party.old
+            result self.new party.new };
 }
 
 /// Does the next step of `party` over `field`, and returns what the step did. If the call is done, or the field does not pass the part,
@@ -95,6 +131,9 @@ pub fn act<K: Ord + Drop, V: Drop, A: Allocator + Copy, F: ComputeFn<K, V>, X: F
         Want::Look(table, index) => field.at_look(table, index, party),
         Want::Bin(table, index) => field.at_bin(table, index, party),
         Want::Move(table, index) => field.at_move(table, index, party),
+        Want::Seat(table) => field.at_seat(table, party),
+        Want::Board(table) => field.at_board(table, party),
+        Want::Give(table) => field.at_give(table, party),
         Want::Done => None,
     }
 }

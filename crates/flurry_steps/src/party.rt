@@ -3,7 +3,7 @@
 //! A caller asks a [`Party`] which part it needs, passes that part to it, and so on until the party is done. In contracts, what a step
 //! does to the part and to the party is plain data. Each step is one line of what a call does, whichever steps of other calls come in
 //! between.
-ghost use Rattle.std.specs.Prelude.{◌≡◌, ◌<◌, ◌≤◌, ◌⊎◌, IsSome, IfNone, IfSome, IfOk, OnErr, true};
+ghost use Rattle.std.specs.Prelude.{◌≡◌, ◌<◌, ◌≤◌, ◌⊎◌, IsSome, IfNone, IfSome, IfOk, OnErr, None, true};
 ghost use Rattle.std.specs.Option.{option_map, option_copied};
 ghost use Rattle.flurry_slots.specs.Slot.{IsSlot, IsUnborn};
 ghost use Rattle.flurry_calls.specs.Part.{LookPart, BinPart, MovePart, ControlPart};
@@ -14,6 +14,7 @@ ghost use Rattle.flurry_steps.specs.Party.{locates, started_stage, taken_stage, 
 ghost use Rattle.flurry_steps.specs.PartyControl.{ControlStep};
 ghost use Rattle.flurry_steps.specs.PartySlots.{SlotStep, MoveStep};
 ghost use Rattle.flurry_steps.specs.PartyTally.{TallyStep, counts};
+ghost use Rattle.flurry_steps.specs.PartyBoard.{Seated, Attempted, TakenBack, StageAsks, BoardStep, range_to_report, stage_unclaimed, IsAtBoard, stage_told, lost};
 ghost use Rattle.flurry_steps.specs.PartyView.{first_stage, owned_stage, stage_of, CallIsReady, OwnedIsReady, keyless_stage};
 ghost use Rattle.flurry_model.specs.declared.sizes.TheConstants.{GREATEST_TABLE};
 
@@ -32,6 +33,7 @@ pub use ending::{Ending, Rest};
 use first::{Keyless, task_for, task_of_owned};
 use flurry_calls::{Seen, Sweep};
 pub use flurry_calls::{Event, Reply, Want};
+use flurry_claims::{Attempt, Range};
 use flurry_control::{Control, PublishedTable, Room, Tally};
 use flurry_slots::{ComputeFn, Slot};
 use left::Left;
@@ -79,12 +81,14 @@ impl<'k, K, V, F: ComputeFn<K, V>, A: Allocator> Party<'k, K, V, F, A> {
     // Creates a call that does not visit all bins, at the given stage.
     fn of_stage(stage: Stage<'k, K, V, F, A>, hash: u64, processors: usize) -> Self
         requires { StageIsReady F.can_change (stage_of stage) }
-        ensures { result ≡ record { hash = hash; processors = processors; stage = stage_of stage.entry } }
+        ensures { result
+            ≡ record { hash = hash; processors = processors; helped = None; stage = stage_of stage.entry } }
     {
         Party {
             course: Course::Single(Single {
                 hash,
                 processors,
+                helped: None,
                 stage,
                 left: Left::Nothing,
             }),
@@ -95,7 +99,8 @@ impl<'k, K, V, F: ComputeFn<K, V>, A: Allocator> Party<'k, K, V, F, A> {
 impl<'k, K: Drop, V: Drop, F: ComputeFn<K, V>, A: Allocator> Party<'k, K, V, F, A> {
     // Creates a call without a key, before its first step.
     fn of_keyless(call: Keyless, hash: u64, processors: usize) -> Self
-        ensures { result ≡ record { hash = hash; processors = processors; stage = keyless_stage call } }
+        ensures { result
+            ≡ record { hash = hash; processors = processors; helped = None; stage = keyless_stage call } }
     {
         match call {
             Keyless::Reserve(more) => {
@@ -122,7 +127,8 @@ impl<'k, K: Drop, V: Drop, F: ComputeFn<K, V>, A: Allocator> Party<'k, K, V, F, 
     /// Constant time. Takes no memory.
     pub fn new(call: Call<'k, K, V, F, A>, hash: u64, processors: usize) -> Self
         requires { CallIsReady F.can_change call }
-        ensures { result ≡ record { hash = hash; processors = processors; stage = first_stage call.entry } }
+        ensures { result
+            ≡ record { hash = hash; processors = processors; helped = None; stage = first_stage call.entry } }
     {
         match task_for(call) {
             Ok(task) => return Party::of_stage(Stage::Locate(task), hash, processors),
@@ -138,7 +144,8 @@ impl<'k, K: Drop, V: Drop, F: ComputeFn<K, V>, A: Allocator> Party<'k, K, V, F, 
     /// Constant time. Takes no memory.
     pub fn from_owned(call: OwnedCall<K, V, F>, hash: u64, processors: usize) -> Self
         requires { OwnedIsReady F.can_change call }
-        ensures { result ≡ record { hash = hash; processors = processors; stage = owned_stage call } }
+        ensures { result
+            ≡ record { hash = hash; processors = processors; helped = None; stage = owned_stage call } }
     {
         match task_of_owned(call) {
             Ok(task) => return Party::of_stage(Stage::Locate(task), hash, processors),
@@ -297,6 +304,91 @@ impl<'k, K: Drop, V: Drop, F: ComputeFn<K, V>, A: Allocator> Party<'k, K, V, F, 
         match &mut self.course {
             Course::Single(single) => return single.on_tally(tally, most),
             Course::Sweep(_, _, _) => unreachable!(),
+        }
+    }
+
+    /// Does the step that takes a seat at the board of the growth that the call is to help. `got` says whether there was one. If there was
+    /// none, the call does not help.
+    ///
+    /// Constant time.
+    pub fn on_seat(&mut self, got: bool) -> Event
+        requires { StageAsks self.old.stage (Seated got) }
+        ensures { BoardStep self.old (Seated got) result self.new }
+    {
+        match &mut self.course {
+            Course::Single(single) => return single.on_seat(got),
+            Course::Sweep(_, _, _) => unreachable!(),
+        }
+    }
+
+    /// Takes out the range that the next step is to report, all of whose bins have moved. It is then to be reported to its board, and
+    /// [`on_report`](Self::on_report) to be called with what the board returns. Returns `None` if the next step is no report; the call is
+    /// then unchanged.
+    ///
+    /// Constant time.
+    pub fn take_range(&mut self) -> Option<Range>
+        ensures value { result ≡ range_to_report self.old.stage }
+        ensures none { IfNone result (self.new ≡ self.old) }
+        ensures some { IfSome result (λ _. self.new ≡ with_stage self.old (stage_unclaimed self.old.stage)) }
+    {
+        match &mut self.course {
+            Course::Single(single) => return single.take_range(),
+            Course::Sweep(_, _, _) => return None,
+        }
+    }
+
+    /// Does the step of a report whose range was taken out. `last` says whether the report was the last one of the growth; the call then
+    /// publishes the next table.
+    ///
+    /// Constant time.
+    pub fn on_report(&mut self, last: bool) -> Event
+        requires { IsAtBoard self.old.stage }
+        ensures silent { result ≡ Event.Silent }
+        ensures told { self.new ≡ with_stage self.old (stage_told last self.old.stage) }
+    {
+        match &mut self.course {
+            Course::Single(single) => return single.on_report(last),
+            Course::Sweep(_, _, _) => unreachable!(),
+        }
+    }
+
+    /// Does the step of an attempt to claim a range, with the result of that attempt at the board of the growth that the call helps. The
+    /// call moves the bins of a range that it got, tries again if the attempt was lost, and gives its seat back if there is nothing to
+    /// claim.
+    ///
+    /// Constant time.
+    pub fn on_attempt(&mut self, attempt: Attempt) -> Event
+        requires { StageAsks self.old.stage (Attempted attempt) }
+        ensures { BoardStep self.old (Attempted attempt) result self.new }
+    {
+        match &mut self.course {
+            Course::Single(single) => return single.on_attempt(attempt),
+            Course::Sweep(_, _, _) => unreachable!(),
+        }
+    }
+
+    /// Does the step that gives the call's seat back, after which the call does not help any more.
+    ///
+    /// Constant time.
+    pub fn on_give(&mut self) -> Event
+        requires { StageAsks self.old.stage TakenBack }
+        ensures { BoardStep self.old TakenBack result self.new }
+    {
+        match &mut self.course {
+            Course::Single(single) => return single.on_give(),
+            Course::Sweep(_, _, _) => unreachable!(),
+        }
+    }
+
+    /// Makes the call lose, as if others had been faster. If it is to take a seat, none is left for it, and it does not help. If it is to
+    /// claim a range, the attempt is lost, which changes nothing, as it tries again. Any other call is unchanged.
+    ///
+    /// This is no step of the call. Constant time.
+    pub fn lose(&mut self)
+        ensures { self.new ≡ lost self.old }
+    {
+        if let Course::Single(single) = &mut self.course {
+            single.lose();
         }
     }
 

@@ -1,46 +1,47 @@
 //! The steps of a call at the control.
-ghost use Rattle.std.specs.Prelude.{◌≡◌, ◌≤◌, MatchOption, None};
-ghost use Rattle.flurry_control.specs.Control.{after_count, advice_of, claim_of, after_claim, report_of, after_report};
+ghost use Rattle.std.specs.Prelude.{◌≡◌, ◌<◌, ◌≤◌, None};
+ghost use Rattle.flurry_control.specs.Control.{after_count, advice_of, after_publish};
 ghost use Rattle.flurry_calls.specs.Outcome.{OutcomeReply};
-ghost use Rattle.flurry_steps.specs.Party.{ResumeIsReady, IsDecided, GrowForIsReady, StageIsReady, TaskIsReady, IsAtControl, AtLocate, AtBegin, AtGrow, AtClaim, AtMove, AtReserve, resumed_stage, reply_for};
-ghost use Rattle.flurry_steps.specs.PartyControl.{StageAtControl, stage_advised};
+ghost use Rattle.flurry_steps.specs.Party.{ResumeIsReady, IsDecided, GrowForIsReady, StageIsReady, TaskIsReady, IsAtControl, AtLocate, AtBegin, AtGrow, AtHelp, GivesBack, AtReserve, reply_for};
+ghost use Rattle.flurry_steps.specs.PartyControl.{StageAtControl, stage_advised, event_published};
 ghost use Rattle.flurry_calls.specs.OutcomeView.{outcome_of};
 ghost use Rattle.flurry_steps.specs.PartyView.{resume_of, stage_of, task_of, grow_for_of, sought_of};
 ghost use Rattle.flurry_model.specs.declared.sizes.TheConstants.{GREATEST_TABLE};
 
 use super::call::{Sought, Task};
-use super::stage::{GrowFor, Resume, Stage};
+use super::stage::{GrowFor, Help, Resume, Stage};
 use super::{Event, Reply};
-use flurry_control::{Advice, BeginOutcome, Claim, Control, Room, wanted_table};
+use flurry_control::{Advice, BeginOutcome, Control, Room, wanted_table};
 use flurry_model::sizes::FIRST_TABLE;
 use flurry_slots::ComputeFn;
 use std::alloc::Allocator;
 
-// Does the step of a call that is at the control. Returns the stage after it, and what the step did.
+// Does the step of a call that is at the control, and has helped the growth from `helped` last. Returns the stage after it, and what the
+// step did.
 pub(super) fn step_control<'k, K: Drop, V: Drop, F: ComputeFn<K, V>, A: Allocator, R: Room>(
     stage: Stage<'k, K, V, F, A>,
     processors: usize,
+    helped: Option<u8>,
     control: &mut Control,
     room: &mut R,
 ) -> (Stage<'k, K, V, F, A>, Event)
     requires part { IsAtControl (stage_of stage) }
     requires callable { StageIsReady F.can_change (stage_of stage) }
     ensures ready { StageIsReady F.can_change (stage_of result.0) }
-    ensures step { StageAtControl R.place_gives processors (stage_of stage.entry) control.old room.old result.1
+    ensures step { StageAtControl R.place_gives processors helped (stage_of stage.entry) control.old room.old result.1
         (stage_of result.0) control.new room.new }
 {
     match stage {
         Stage::Locate(task) => return locate(task, control, room),
-        Stage::Claim(after) => return claim(after, processors, control),
-        Stage::Move(claim, after) => return report(claim, after, control),
+        Stage::Help(Help::Publish(table), after) => return publish(table, after, control),
         Stage::Uncount(reply) => {
             let _advice = control.count(-1);
             return (Stage::Done(reply), Event::Silent);
         }
-        Stage::Count(reply) => return (count(control, 1, reply), Event::Silent),
-        Stage::Recount(reply) => return (count(control, 0, reply), Event::Silent),
-        Stage::Begin(table, reply) => return begin(table, reply, control, room),
-        Stage::Grow(wanted, growing) => return grow(wanted, growing, control, room),
+        Stage::Count(reply) => return (count(control, 1, helped, reply), Event::Silent),
+        Stage::Recount(reply) => return (count(control, 0, helped, reply), Event::Silent),
+        Stage::Begin(table, reply) => return begin(table, processors, reply, control, room),
+        Stage::Grow(wanted, growing) => return grow(wanted, processors, growing, control, room),
         Stage::Reserve(more) => return reserve(more, control, room),
         _ => unreachable!(),
     }
@@ -64,7 +65,7 @@ fn locate<'k, K: Drop, V: Drop, F: ComputeFn<K, V>, A: Allocator, R: Room>(
 ) -> (Stage<'k, K, V, F, A>, Event)
     requires { TaskIsReady F.can_change (task_of task) }
     ensures ready { StageIsReady F.can_change (stage_of result.0) }
-    ensures step { StageAtControl R.place_gives 0 (AtLocate (task_of task.entry)) control.old room.old result.1
+    ensures step { StageAtControl R.place_gives 0 None (AtLocate (task_of task.entry)) control.old room.old result.1
         (stage_of result.0) control.new room.new }
 {
     if let Some(table) = control.locate() {
@@ -98,8 +99,8 @@ fn reserve<'k, K, V, F: ComputeFn<K, V>, A: Allocator, R: Room>(
     room: &mut R,
 ) -> (Stage<'k, K, V, F, A>, Event)
     ensures ready { StageIsReady F.can_change (stage_of result.0) }
-    ensures step { StageAtControl {K = K} {V = V} {F = F} R.place_gives 0 (AtReserve more) control.old room.old result.1
-        (stage_of result.0) control.new room.new }
+    ensures step { StageAtControl {K = K} {V = V} {F = F} R.place_gives 0 None
+        (AtReserve more) control.old room.old result.1 (stage_of result.0) control.new room.new }
 {
     let wanted = wanted_table(control.len().saturating_add(more));
     if control.locate().is_some() {
@@ -114,17 +115,21 @@ fn reserve<'k, K, V, F: ComputeFn<K, V>, A: Allocator, R: Room>(
 fn count<'k, K, V, F: ComputeFn<K, V>, A: Allocator>(
     control: &mut Control,
     delta: i64,
+    helped: Option<u8>,
     reply: Reply<K, V, A>,
 ) -> Stage<'k, K, V, F, A>
     requires { IsDecided (outcome_of reply) }
     ensures ready { StageIsReady F.can_change (stage_of result) }
     ensures after { control.new ≡ after_count delta control.old }
     ensures stage { stage_of result
-        ≡ stage_advised control.old.published (outcome_of reply) (advice_of (after_count delta control.old)) }
+        ≡ stage_advised helped control.old.published (outcome_of reply) (advice_of (after_count delta control.old)) }
 {
     match control.count(delta) {
         Advice::Enough => Stage::Done(reply),
-        Advice::Join => Stage::Claim(Resume::Recount(reply)),
+        Advice::Join(table) => match helped {
+            Some(last) if last == table => Stage::Done(reply),
+            _ => Stage::Help(Help::Seat(table), Resume::Recount(reply)),
+        },
         Advice::Begin => match control.locate() {
             Some(table) => Stage::Begin(table, reply),
             None => Stage::Done(reply),
@@ -134,6 +139,7 @@ fn count<'k, K, V, F: ComputeFn<K, V>, A: Allocator>(
 
 fn begin<'k, K, V, F: ComputeFn<K, V>, A: Allocator, R: Room>(
     table: u8,
+    processors: usize,
     reply: Reply<K, V, A>,
     control: &mut Control,
     room: &mut R,
@@ -141,12 +147,12 @@ fn begin<'k, K, V, F: ComputeFn<K, V>, A: Allocator, R: Room>(
     requires table { table ≤ GREATEST_TABLE }
     requires decided { IsDecided (outcome_of reply) }
     ensures ready { StageIsReady F.can_change (stage_of result.0) }
-    ensures step { StageAtControl {K = K} {F = F} R.place_gives 0
+    ensures step { StageAtControl {K = K} {F = F} R.place_gives processors None
         (AtBegin table (outcome_of reply)) control.old room.old result.1 (stage_of result.0) control.new room.new }
 {
-    match control.begin(table, room) {
+    match control.begin(table, processors, room) {
         BeginOutcome::Begun => (
-            Stage::Claim(Resume::Recount(reply)),
+            Stage::Help(Help::Board(table), Resume::Recount(reply)),
             Event::Placed(table + 1),
         ),
         BeginOutcome::Refused => (Stage::Done(reply), Event::Silent),
@@ -156,6 +162,7 @@ fn begin<'k, K, V, F: ComputeFn<K, V>, A: Allocator, R: Room>(
 
 fn grow<'k, K: Drop, V: Drop, F: ComputeFn<K, V>, A: Allocator, R: Room>(
     wanted: u8,
+    processors: usize,
     growing: GrowFor<K, V, A>,
     control: &mut Control,
     room: &mut R,
@@ -163,15 +170,15 @@ fn grow<'k, K: Drop, V: Drop, F: ComputeFn<K, V>, A: Allocator, R: Room>(
     requires table { wanted ≤ GREATEST_TABLE }
     requires decided { GrowForIsReady (grow_for_of growing) }
     ensures ready { StageIsReady F.can_change (stage_of result.0) }
-    ensures step { StageAtControl {K = K} {F = F} R.place_gives 0
+    ensures step { StageAtControl {K = K} {F = F} R.place_gives processors None
         (AtGrow wanted (grow_for_of growing)) control.old room.old result.1 (stage_of result.0) control.new room.new }
 {
     let Some(table) = control.grows_from(wanted) else {
         return (growing.end(), Event::Silent);
     };
-    match control.begin(table, room) {
+    match control.begin(table, processors, room) {
         BeginOutcome::Begun => (
-            Stage::Claim(Resume::Grow(wanted, growing)),
+            Stage::Help(Help::Board(table), Resume::Grow(wanted, growing)),
             Event::Placed(table + 1),
         ),
         BeginOutcome::Busy => (growing.end(), Event::Silent),
@@ -182,39 +189,22 @@ fn grow<'k, K: Drop, V: Drop, F: ComputeFn<K, V>, A: Allocator, R: Room>(
     }
 }
 
-fn claim<'k, K, V, F: ComputeFn<K, V>, A: Allocator>(
-    after: Resume<'k, K, V, F, A>,
-    processors: usize,
-    control: &mut Control,
-) -> (Stage<'k, K, V, F, A>, Event)
-    requires { ResumeIsReady F.can_change (resume_of after) }
-    ensures ready { StageIsReady F.can_change (stage_of result.0) }
-    ensures silent { result.1 ≡ Event.Silent }
-    ensures stage { MatchOption (claim_of processors control.old)
-        (stage_of result.0 ≡ resumed_stage (resume_of after.entry))
-        (λ c. stage_of result.0 ≡ AtMove c (resume_of after.entry)) }
-    ensures after { control.new ≡ after_claim processors control.old }
-{
-    match control.claim(processors) {
-        Some(claim) => (Stage::Move(claim, after), Event::Silent),
-        None => (after.resume(), Event::Silent),
-    }
-}
-
-fn report<'k, K, V, F: ComputeFn<K, V>, A: Allocator>(
-    claim: Claim,
+fn publish<'k, K, V, F: ComputeFn<K, V>, A: Allocator>(
+    table: u8,
     after: Resume<'k, K, V, F, A>,
     control: &mut Control,
 ) -> (Stage<'k, K, V, F, A>, Event)
-    requires { ResumeIsReady F.can_change (resume_of after) }
+    requires table { table < GREATEST_TABLE }
+    requires callable { ResumeIsReady F.can_change (resume_of after) }
     ensures ready { StageIsReady F.can_change (stage_of result.0) }
-    ensures stage { stage_of result.0 ≡ AtClaim (resume_of after.entry) }
-    ensures event { MatchOption (report_of control.old claim) (result.1 ≡ Event.Silent)
-        (λ e. result.1 ≡ Event.Published e) }
-    ensures after { control.new ≡ after_report control.old claim }
+    ensures stage { stage_of result.0 ≡ AtHelp (GivesBack table) (resume_of after.entry) }
+    ensures event { result.1 ≡ event_published table control.old }
+    ensures after { control.new ≡ after_publish table control.old }
 {
-    match control.report(claim) {
-        Some(table) => (Stage::Claim(after), Event::Published(table)),
-        None => (Stage::Claim(after), Event::Silent),
+    let stage = Stage::Help(Help::Give(table), after);
+    if control.publish(table) {
+        (stage, Event::Published(table + 1))
+    } else {
+        (stage, Event::Silent)
     }
 }

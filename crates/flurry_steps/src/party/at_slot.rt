@@ -14,7 +14,7 @@ ghost use Rattle.flurry_model.specs.declared.sizes.TheConstants.{GREATEST_TABLE}
 use super::at_control::absent_reply;
 use super::call::{Key, Sought, Task};
 use super::left::Left;
-use super::stage::{GrowFor, Resume, Stage};
+use super::stage::{GrowFor, Help, Resume, Stage};
 use super::{Event, Reply};
 use flurry_bins::bin::Entry;
 use flurry_calls::Seen;
@@ -178,7 +178,10 @@ fn remove<'k, K: Ord + Drop, V: Drop, F: ComputeFn<K, V>, A: Allocator>(
             Left::Stored(key, None, None),
         ),
         Answer::Moved(()) => (
-            Stage::Claim(Resume::Bin(Task::Remove(sought, key), table + 1)),
+            Stage::Help(
+                Help::Seat(table),
+                Resume::Bin(Task::Remove(sought, key), table + 1),
+            ),
             Event::Silent,
             Left::Nothing,
         ),
@@ -220,7 +223,10 @@ fn remove_seen<'k, K: Ord + Drop, V: Drop, F: ComputeFn<K, V>, A: Allocator>(
             Left::Seen(seen, None),
         ),
         Answer::Moved(()) => (
-            Stage::Claim(Resume::Bin(Task::RemoveSeen(seen), table + 1)),
+            Stage::Help(
+                Help::Seat(table),
+                Resume::Bin(Task::RemoveSeen(seen), table + 1),
+            ),
             Event::Silent,
             Left::Nothing,
         ),
@@ -293,7 +299,10 @@ fn insert<'k, K: Ord + Drop, V: Drop, F: ComputeFn<K, V>, A: Allocator + Copy>(
             (stage, Event::Decide, left)
         }
         Ok(Answer::Moved((key, value))) => (
-            Stage::Claim(Resume::Bin(Task::Insert(key, value), table + 1)),
+            Stage::Help(
+                Help::Seat(table),
+                Resume::Bin(Task::Insert(key, value), table + 1),
+            ),
             Event::Silent,
             Left::Nothing,
         ),
@@ -353,7 +362,10 @@ fn try_insert<'k, K: Ord + Drop, V: Drop, F: ComputeFn<K, V>, A: Allocator + Cop
             (stage, Event::Decide, left)
         }
         Ok(Answer::Moved((key, value))) => (
-            Stage::Claim(Resume::Bin(Task::Add(key, value), table + 1)),
+            Stage::Help(
+                Help::Seat(table),
+                Resume::Bin(Task::Add(key, value), table + 1),
+            ),
             Event::Silent,
             Left::Nothing,
         ),
@@ -425,7 +437,10 @@ fn compute<'k, K: Ord + Drop, V: Drop, F: ComputeFn<K, V>, A: Allocator + Copy>(
     match slot.compute(alloc, hash, key.get(), f) {
         Ok(Answer::Here(computed)) => after_compute(key, computed),
         Ok(Answer::Moved(f)) => (
-            Stage::Claim(Resume::Bin(Task::Compute(key, f), table + 1)),
+            Stage::Help(
+                Help::Seat(table),
+                Resume::Bin(Task::Compute(key, f), table + 1),
+            ),
             Event::Silent,
             Left::Nothing,
         ),

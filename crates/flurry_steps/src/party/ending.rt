@@ -1,5 +1,5 @@
 //! A call whose reply is known.
-ghost use Rattle.std.specs.Prelude.{◌≡◌, MatchResult, true};
+ghost use Rattle.std.specs.Prelude.{◌≡◌, MatchResult, None, true};
 ghost use Rattle.flurry_steps.specs.Party.{StageIsReady};
 ghost use Rattle.flurry_steps.specs.PartyTally.{HasDecided, StageAtTally, ending_stage, has_to_count};
 ghost use Rattle.flurry_calls.specs.OutcomeView.{outcome_of};
@@ -155,7 +155,7 @@ impl<K, V, A: Allocator> Ending<K, V, A> {
         hash: u64,
         processors: usize,
     ) -> Party<'k, K, V, F, A>
-        ensures { result ≡ record { hash = hash; processors = processors; stage = ending_stage self } }
+        ensures { result ≡ record { hash = hash; processors = processors; helped = None; stage = ending_stage self } }
     {
         Party::of_stage(self.into_stage(), hash, processors)
     }

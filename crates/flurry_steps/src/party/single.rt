@@ -10,6 +10,7 @@ ghost use Rattle.flurry_steps.specs.Party.{locates, started_stage, taken_stage, 
 ghost use Rattle.flurry_steps.specs.PartyControl.{ControlStep};
 ghost use Rattle.flurry_steps.specs.PartySlots.{SlotStep, MoveStep};
 ghost use Rattle.flurry_steps.specs.PartyTally.{TallyStep, counts};
+ghost use Rattle.flurry_steps.specs.PartyBoard.{Seated, Attempted, TakenBack, StageAsks, BoardStep, range_to_report, stage_unclaimed, IsAtBoard, stage_told, lost};
 ghost use Rattle.flurry_model.specs.declared.sizes.TheConstants.{GREATEST_TABLE};
 
 use super::at_control::step_control;
@@ -17,12 +18,13 @@ use super::at_slot::{step_lookup, step_write};
 use super::at_tally::step_tally;
 use super::call::Task;
 use super::left::Left;
-use super::stage::{GrowFor, Resume, Stage};
+use super::stage::{GrowFor, Help, Resume, Stage};
 use super::{Event, Reply, Want};
 use flurry_calls::Seen;
-use flurry_control::{Control, PublishedTable, Room, Tally};
+use flurry_claims::{Attempt, Range};
+use flurry_control::{Claim, Control, PublishedTable, Room, Tally};
 use flurry_model::sizes::bin_index;
-use flurry_slots::{ComputeFn, MoveAnswer, Slot};
+use flurry_slots::{ComputeFn, Slot};
 use std::alloc::Allocator;
 use std::marker::Model;
 use std::mem;
@@ -32,6 +34,8 @@ use std::mem;
 pub(crate) struct Single<'k, K, V, F: ComputeFn<K, V>, A: Allocator> {
     pub(super) hash: u64,
     pub(super) processors: usize,
+    // The table of the growth that the call has helped last, or for which it found no seat.
+    pub(super) helped: Option<u8>,
     // A stage is set by `mem::replace`, and the stage before is passed to `drop`: for an assignment the proof would go through everything
     // that a stage can hold.
     pub(super) stage: Stage<'k, K, V, F, A>,
@@ -64,10 +68,7 @@ impl<'k, K: Drop, V: Drop, F: ComputeFn<K, V>, A: Allocator> Single<'k, K, V, F,
                     _ => Want::Bin(*table, index),
                 }
             }
-            Stage::Move(claim, _) => match claim.next() {
-                Some((table, index)) => Want::Move(table, index),
-                None => Want::Control,
-            },
+            Stage::Help(help, _) => help.want(),
             Stage::Done(_) | Stage::Taken => Want::Done,
             _ => Want::Control,
         }
@@ -83,10 +84,8 @@ impl<'k, K: Drop, V: Drop, F: ComputeFn<K, V>, A: Allocator> Single<'k, K, V, F,
             | Stage::Count(reply)
             | Stage::Recount(reply)
             | Stage::Begin(_, reply)
-            | Stage::Claim(Resume::Recount(reply))
-            | Stage::Claim(Resume::Grow(_, GrowFor::Insert(reply)))
-            | Stage::Move(_, Resume::Recount(reply))
-            | Stage::Move(_, Resume::Grow(_, GrowFor::Insert(reply)))
+            | Stage::Help(_, Resume::Recount(reply))
+            | Stage::Help(_, Resume::Grow(_, GrowFor::Insert(reply)))
             | Stage::Grow(_, GrowFor::Insert(reply)) => Some(reply),
             _ => None,
         }
@@ -132,7 +131,7 @@ impl<'k, K: Drop, V: Drop, F: ComputeFn<K, V>, A: Allocator> Single<'k, K, V, F,
         ensures { ControlStep R.place_gives self.old control.old room.old result self.new control.new room.new }
     {
         let stage = mem::replace(&mut self.stage, Stage::Taken);
-        let (stage, event) = step_control(stage, self.processors, control, room);
+        let (stage, event) = step_control(stage, self.processors, self.helped, control, room);
         drop(mem::replace(&mut self.stage, stage));
         event
     }
@@ -205,21 +204,10 @@ impl<'k, K: Ord + Drop, V: Drop, F: ComputeFn<K, V>, A: Allocator> Single<'k, K,
         ensures within { IsSlot K.cmp old.old }
         ensures step { MoveStep self.old old.old low.old high.old result self.new old.new low.new high.new }
     {
-        let Stage::Move(claim, _) = &mut self.stage else {
+        let Stage::Help(help, _) = &mut self.stage else {
             unreachable!()
         };
-        match old.move_into(low, high) {
-            MoveAnswer::Done(receipt) => {
-                let (table, index) = receipt.at();
-                claim.advance(receipt);
-                Event::Moved(table, index)
-            }
-            MoveAnswer::Already(receipt) => {
-                claim.advance(receipt);
-                Event::Silent
-            }
-            MoveAnswer::Clash => Event::Silent,
-        }
+        help.on_move(old, low, high)
     }
 }
 
@@ -269,5 +257,110 @@ impl<'k, K: Drop, V: Drop, F: ComputeFn<K, V>, A: Allocator> Single<'k, K, V, F,
         ensures { result ≡ self.now.hash }
     {
         self.hash
+    }
+
+    // Does the step that takes a seat, if the call got one.
+    pub(super) fn on_seat(&mut self, got: bool) -> Event
+        requires { StageAsks self.old.stage (Seated got) }
+        ensures { BoardStep self.old (Seated got) result self.new }
+    {
+        match mem::replace(&mut self.stage, Stage::Taken) {
+            Stage::Help(Help::Seat(table), after) => {
+                if got {
+                    drop(mem::replace(&mut self.stage, Stage::Help(Help::Board(table), after)));
+                } else {
+                    self.helped = Some(table);
+                    drop(mem::replace(&mut self.stage, after.resume()));
+                }
+                Event::Silent
+            }
+            _ => unreachable!(),
+        }
+    }
+
+    // Does the step of an attempt to claim a range.
+    pub(super) fn on_attempt(&mut self, attempt: Attempt) -> Event
+        requires { StageAsks self.old.stage (Attempted attempt) }
+        ensures { BoardStep self.old (Attempted attempt) result self.new }
+    {
+        match mem::replace(&mut self.stage, Stage::Taken) {
+            Stage::Help(Help::Board(table), after) => {
+                let help = match attempt {
+                    Attempt::Got(range) => Help::Move(Claim::of(range)),
+                    Attempt::Lost => Help::Board(table),
+                    Attempt::Nothing => Help::Give(table),
+                };
+                drop(mem::replace(&mut self.stage, Stage::Help(help, after)));
+                Event::Silent
+            }
+            _ => unreachable!(),
+        }
+    }
+
+    // Takes out the range that the call is to report, if there is one.
+    pub(super) fn take_range(&mut self) -> Option<Range>
+        ensures value { result ≡ range_to_report self.old.stage }
+        ensures none { IfNone result (self.new ≡ self.old) }
+        ensures some { IfSome result (λ _. self.new ≡ with_stage self.old (stage_unclaimed self.old.stage)) }
+    {
+        match mem::replace(&mut self.stage, Stage::Taken) {
+            Stage::Help(help, after) => {
+                let (help, range) = help.take_range();
+                drop(mem::replace(&mut self.stage, Stage::Help(help, after)));
+                range
+            }
+            other => {
+                drop(mem::replace(&mut self.stage, other));
+                None
+            }
+        }
+    }
+
+    // Does the step of a report, whose range was taken out.
+    pub(super) fn on_report(&mut self, last: bool) -> Event
+        requires { IsAtBoard self.old.stage }
+        ensures silent { result ≡ Event.Silent }
+        ensures told { self.new ≡ with_stage self.old (stage_told last self.old.stage) }
+    {
+        match mem::replace(&mut self.stage, Stage::Taken) {
+            Stage::Help(Help::Board(table), after) => {
+                let help = if last {
+                    Help::Publish(table)
+                } else {
+                    Help::Board(table)
+                };
+                drop(mem::replace(&mut self.stage, Stage::Help(help, after)));
+                Event::Silent
+            }
+            _ => unreachable!(),
+        }
+    }
+
+    // Does the step that gives the seat back.
+    pub(super) fn on_give(&mut self) -> Event
+        requires { StageAsks self.old.stage TakenBack }
+        ensures { BoardStep self.old TakenBack result self.new }
+    {
+        match mem::replace(&mut self.stage, Stage::Taken) {
+            Stage::Help(Help::Give(table), after) => {
+                self.helped = Some(table);
+                drop(mem::replace(&mut self.stage, after.resume()));
+                Event::Silent
+            }
+            _ => unreachable!(),
+        }
+    }
+
+    // Goes on as if no seat had been left, if the call is to take one.
+    pub(super) fn lose(&mut self)
+        ensures { self.new ≡ lost self.old }
+    {
+        match mem::replace(&mut self.stage, Stage::Taken) {
+            Stage::Help(Help::Seat(table), after) => {
+                self.helped = Some(table);
+                drop(mem::replace(&mut self.stage, after.resume()));
+            }
+            other => drop(mem::replace(&mut self.stage, other)),
+        }
     }
 }

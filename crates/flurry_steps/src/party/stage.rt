@@ -1,13 +1,19 @@
 //! The stages of a call between its steps.
-ghost use Rattle.std.specs.Prelude.{◌≡◌};
-ghost use Rattle.flurry_steps.specs.Party.{StageIsReady, GrowForIsReady};
+ghost use Rattle.std.specs.Prelude.{◌≡◌, IfNone, IfSome};
+ghost use Rattle.flurry_slots.specs.Slot.{IsSlot};
+ghost use Rattle.flurry_calls.specs.Part.{MovePart};
+ghost use Rattle.flurry_calls.specs.PartView.{part_of_want};
+ghost use Rattle.flurry_steps.specs.Party.{StageIsReady, GrowForIsReady, HelpIsReady, help_part};
+ghost use Rattle.flurry_steps.specs.PartyBoard.{help_range, unclaimed};
+ghost use Rattle.flurry_steps.specs.PartySlots.{MovesOn, moved_help};
 ghost use Rattle.flurry_steps.specs.PartyControl.{stage_grown};
-ghost use Rattle.flurry_steps.specs.PartyView.{resume_of, grow_for_of, stage_of};
+ghost use Rattle.flurry_steps.specs.PartyView.{help_of, resume_of, grow_for_of, stage_of};
 
-use super::Reply;
 use super::call::Task;
+use super::{Event, Reply, Want};
+use flurry_claims::Range;
 use flurry_control::Claim;
-use flurry_slots::ComputeFn;
+use flurry_slots::{ComputeFn, MoveAnswer, Slot};
 use std::alloc::Allocator;
 
 /// What a table is made larger for.
@@ -16,6 +22,21 @@ pub(crate) enum GrowFor<K, V, A: Allocator> {
     /// An insertion, with its reply.
     Insert(Reply<K, V, A>),
     Reserve,
+}
+
+/// What a call that helps a growth does next. A growth is named by the table that it moves into the next one.
+#[derive(Drop)]
+pub(crate) enum Help {
+    /// Taking a seat at the board of the given growth.
+    Seat(u8),
+    /// Claiming a range there.
+    Board(u8),
+    /// Moving the bins of its claim, and reporting the range once all of them have moved.
+    Move(Claim),
+    /// Publishing the table after the given one.
+    Publish(u8),
+    /// Giving back its seat at the board of the given growth.
+    Give(u8),
 }
 
 /// What a call goes on with when it stops helping.
@@ -36,10 +57,8 @@ pub(crate) enum Stage<'k, K, V, F, A: Allocator> {
     Locate(Task<'k, K, V, F, A>),
     /// Going to its bin in the given table.
     Bin(Task<'k, K, V, F, A>, u8),
-    /// Claiming bins to move.
-    Claim(Resume<'k, K, V, F, A>),
-    /// Moving the claimed bins, and reporting the claim once all of them have moved.
-    Move(Claim, Resume<'k, K, V, F, A>),
+    /// Helping a growth.
+    Help(Help, Resume<'k, K, V, F, A>),
     /// Counting the pair that it removed.
     Uncount(Reply<K, V, A>),
     /// Counting the pair that it inserted.
@@ -56,6 +75,74 @@ pub(crate) enum Stage<'k, K, V, F, A: Allocator> {
     Done(Reply<K, V, A>),
     /// The end, after the reply was taken.
     Taken,
+}
+
+impl Help {
+    // The part of the map that the next step of helping needs.
+    pub(super) fn want(&self) -> Want
+        ensures { part_of_want result ≡ help_part (help_of self.now) }
+    {
+        match self {
+            Help::Seat(table) => Want::Seat(*table),
+            Help::Board(table) => Want::Board(*table),
+            Help::Move(claim) => match claim.next() {
+                Some((table, index)) => Want::Move(table, index),
+                None => Want::Board(claim.table()),
+            },
+            Help::Publish(_) => Want::Control,
+            Help::Give(table) => Want::Give(*table),
+        }
+    }
+
+    // Takes out the range that is to be reported next, if there is one. Returns how helping goes on without it, and the range.
+    pub(super) fn take_range(self) -> (Self, Option<Range>)
+        requires { HelpIsReady (help_of self) }
+        ensures ready { HelpIsReady (help_of result.0) }
+        ensures value { result.1 ≡ help_range (help_of self) }
+        ensures none { IfNone result.1 (help_of result.0 ≡ help_of self) }
+        ensures some { IfSome result.1 (λ _. help_of result.0 ≡ unclaimed (help_of self)) }
+    {
+        match self {
+            Help::Move(claim) => {
+                let table = claim.table();
+                match claim.into_range() {
+                    Ok(range) => (Help::Board(table), Some(range)),
+                    Err(claim) => (Help::Move(claim), None),
+                }
+            }
+            other => (other, None),
+        }
+    }
+
+    // Does the step of a helper at a slot and its two halves in the next table.
+    pub(super) fn on_move<K: Ord + Drop, V: Drop, A: Allocator>(
+        &mut self,
+        old: &mut Slot<K, V, A>,
+        low: &mut Slot<K, V, A>,
+        high: &mut Slot<K, V, A>,
+    ) -> Event
+        requires { help_part (help_of self.old) ≡ MovePart old.old.table old.old.index }
+        ensures ready { HelpIsReady (help_of self.old) → HelpIsReady (help_of self.new) }
+        ensures within { IsSlot K.cmp old.old }
+        ensures step { MovesOn moved_help (help_of self.old) old.old low.old high.old
+            result (help_of self.new) old.new low.new high.new }
+    {
+        let Help::Move(claim) = self else {
+            unreachable!()
+        };
+        match old.move_into(low, high) {
+            MoveAnswer::Done(receipt) => {
+                let (table, index) = receipt.at();
+                claim.advance(receipt);
+                Event::Moved(table, index)
+            }
+            MoveAnswer::Already(receipt) => {
+                claim.advance(receipt);
+                Event::Silent
+            }
+            MoveAnswer::Clash => Event::Silent,
+        }
+    }
 }
 
 impl<'k, K, V, F, A: Allocator> Resume<'k, K, V, F, A> {
