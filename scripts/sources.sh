@@ -50,7 +50,7 @@ check_sources() {
     python3 -B scripts/examples.py . || status=1
     check_makers flurry_claims Range || status=1
     check_makers flurry_claims Attempt try_claim || status=1
-    check_makers flurry_control Claim claim || status=1
+    check_makers flurry_control Claim of into_range || status=1
     check_makers flurry_control PublishedTable start || status=1
     check_makers flurry_slots Receipt || status=1
     check_makers flurry_slots MoveAnswer move_into || status=1
