@@ -4,7 +4,7 @@ use Rattle.std.specs.declared.cmp.Ordering.{Ordering}
 use Rattle.std.proofs.Common.{arith}
 use Rattle.std.proofs.lemmas.Grind.{common_steps}
 use Rattle.std.proofs.lemmas.Bool.{eqb-true, eqb-false}
-use Rattle.flurry_theory.specs.Machine.{State, Transition, Can, does, settle, Quiet, Loses, Counts, Begins, Finds, Opens, FindsNothing, IsRefused, DecidesEmpty, Passes, Decides, Places, Claims, Moves, Reports, Publishes, PublishesTold, Reads, Leaves, Splits, Wipes, SplitsClear, Replies, Ends}
+use Rattle.flurry_theory.specs.Machine.{State, Transition, Can, does, settle, Quiet, Loses, Counts, Begins, Finds, Opens, FindsNothing, IsRefused, DecidesEmpty, Passes, Decides, Places, Claims, Moves, Reports, Publishes, Reads, Leaves, Splits, Wipes, SplitsClear, Replies, Ends}
 use Rattle.flurry_theory.specs.Invariant.{PartyOk}
 use Rattle.flurry_theory.proofs.Settled.{party_settled}
 
@@ -184,20 +184,7 @@ module _ {K V F : Type 0} (cmp : K → K → Ordering) (hash : K → ℕ) (gives
     refused = grind (arith, common_steps, can, h.refused, own.undecided, own.decided, own.going, own.looking, own.unknown, h.unknown, eqb-true, eqb-false);
     clearing = grind (arith, common_steps, can, h.call, h.clearing, own.going, own.looking, eqb-true, eqb-false);
   }
-  party_ok s p q (Publishes a g) can own h = record {
-    call = grind (arith, common_steps, can, h.call, h.call, own.going, own.looking, eqb-true, eqb-false);
-    unknown = grind (arith, common_steps, can, h.call, h.unknown, own.going, own.looking, eqb-true, eqb-false);
-    going = grind (arith, common_steps, can, h.call, h.going, own.going, own.looking, eqb-true, eqb-false);
-    undecided = grind (arith, common_steps, can, h.call, h.undecided, own.going, own.looking, eqb-true, eqb-false);
-    decided = grind (arith, common_steps, can, h.call, h.decided, own.going, own.looking, eqb-true, eqb-false);
-    looking = grind (arith, common_steps, can, h.call, h.looking, own.going, own.looking, eqb-true, eqb-false);
-    walking = grind (arith, common_steps, can, h.call, h.walking, own.going, own.looking, eqb-true, eqb-false);
-    finished = grind (arith, common_steps, can, h.finished, own.going, own.unknown, h.unknown, eqb-true, eqb-false);
-    settled = grind (arith, common_steps, can, h.settled, h.decided, own.decided, own.going, own.looking, own.unknown, h.unknown, eqb-true, eqb-false);
-    refused = grind (arith, common_steps, can, h.refused, own.undecided, own.decided, own.going, own.looking, own.unknown, h.unknown, eqb-true, eqb-false);
-    clearing = grind (arith, common_steps, can, h.call, h.clearing, own.going, own.looking, eqb-true, eqb-false);
-  }
-  party_ok s p q (PublishesTold e g) can own h = record {
+  party_ok s p q (Publishes e g) can own h = record {
     call = grind (arith, common_steps, can, h.call, h.call, own.going, own.looking, eqb-true, eqb-false);
     unknown = grind (arith, common_steps, can, h.call, h.unknown, own.going, own.looking, eqb-true, eqb-false);
     going = grind (arith, common_steps, can, h.call, h.going, own.going, own.looking, eqb-true, eqb-false);

@@ -8,7 +8,7 @@ use Rattle.std.proofs.lemmas.Bool.{eq-eqb, ne_eqb, cases_lt, cond-false, false_f
 use Rattle.flurry_theory.specs.Map.{Unique, same, find, after}
 use Rattle.flurry_theory.specs.Trace.{map_after_decision, in_region, pairs, at}
 use Rattle.flurry_theory.specs.Bin.{Entry}
-use Rattle.flurry_theory.specs.Machine.{RefusedAt, Mode, Locating, Looking, Walking, Clearing, Done, halves, onward, found_by, owes_added, owes_removed, mode_after_count, State, Transition, Can, does, at_bin, at_place, Live, Finished, Frame, Begins, Quiet, Loses, Counts, Finds, Opens, FindsNothing, IsRefused, DecidesEmpty, Passes, Decides, Places, Claims, Moves, Reports, Publishes, PublishesTold, Reads, Leaves, Splits, Wipes, SplitsClear, Replies, Ends}
+use Rattle.flurry_theory.specs.Machine.{RefusedAt, Mode, Locating, Looking, Walking, Clearing, Done, halves, onward, found_by, owes_added, owes_removed, mode_after_count, State, Transition, Can, does, at_bin, at_place, Live, Finished, Frame, Begins, Quiet, Loses, Counts, Finds, Opens, FindsNothing, IsRefused, DecidesEmpty, Passes, Decides, Places, Claims, Moves, Reports, Publishes, Reads, Leaves, Splits, Wipes, SplitsClear, Replies, Ends}
 use Rattle.flurry_theory.specs.Machine.{total}
 use Rattle.flurry_theory.specs.Invariant.{PartyOk, Tables, home_after, IsCounted}
 use Rattle.flurry_theory.proofs.Bins.{find-after_other, find-wiped}
@@ -236,8 +236,7 @@ module _ {K V F : Type 0} (cmp : K → K → Ordering) (total_order : IsTotalOrd
   counted_ok home s p (Claims e gr low) can o t u v = record { unique = v.unique; balance = v.balance; held = omega (arith, v.held); owed = omega (arith, v.owed) }
   counted_ok home s p (Moves a i es n) can o t u v = record { unique = v.unique; balance = v.balance; held = omega (arith, v.held); owed = omega (arith, v.owed) }
   counted_ok home s p (Reports a gr) can o t u v = record { unique = v.unique; balance = v.balance; held = omega (arith, v.held); owed = omega (arith, v.owed) }
-  counted_ok home s p (Publishes a gr) can o t u v = record { unique = v.unique; balance = v.balance; held = omega (arith, v.held); owed = omega (arith, v.owed) }
-  counted_ok home s p (PublishesTold e gr) can o t u v = record { unique = v.unique; balance = v.balance; held = omega (arith, v.held); owed = omega (arith, v.owed) }
+  counted_ok home s p (Publishes e gr) can o t u v = record { unique = v.unique; balance = v.balance; held = omega (arith, v.held); owed = omega (arith, v.owed) }
   counted_ok home s p (Reads e i f fs es n x) can o t u v = let b = moves_on s p (Walking e i (record { table = f.table; index = f.index; bound = Some x.key } ∷ fs)) o (λ h. grind (arith, h, can.0)) (sym (ap owes_added can.0)) (sym (ap owes_removed can.0)) v in record { unique = v.unique; balance = b.0; held = b.1; owed = b.2 }
   counted_ok home s p (Leaves e i f fs es n) can o t u v = let b = moves_on s p (onward Walking (Done None 0 0) e i fs) o (λ h. grind (arith, h, can.0)) (onward_owed owes_added 0 Walking (Done None 0 0) e i fs (λ _ _ _. refl) refl ∙ sym (ap owes_added can.0)) (onward_owed owes_removed 0 Walking (Done None 0 0) e i fs (λ _ _ _. refl) refl ∙ sym (ap owes_removed can.0)) v in record { unique = v.unique; balance = b.0; held = b.1; owed = b.2 }
   counted_ok home s p (Splits e i f fs) can o t u v = let b = moves_on s p (Walking e i (halves f fs)) o (λ h. grind (arith, h, can.0)) (sym (ap owes_added can.0)) (sym (ap owes_removed can.0)) v in record { unique = v.unique; balance = b.0; held = b.1; owed = b.2 }

@@ -6,9 +6,9 @@ use Rattle.std.proofs.lemmas.Bool.{eqb-true, eq-eqb, ne_eqb, false_from_ne_true}
 use Rattle.flurry_theory.specs.Map.{Allows, CanBeRefused}
 use Rattle.flurry_theory.specs.Trace.{was_moved_in, pairs}
 use Rattle.flurry_theory.specs.Bin.{Entry}
-use Rattle.flurry_theory.specs.Machine.{State, Claim, Growth, Transition, Can, does, label, Live, Done, Finished, Begins, Quiet, Loses, Counts, Finds, Opens, FindsNothing, IsRefused, DecidesEmpty, Passes, Decides, Places, Claims, Moves, Reports, Publishes, PublishesTold, Reads, Leaves, Splits, Wipes, SplitsClear, Replies, Ends}
+use Rattle.flurry_theory.specs.Machine.{State, Claim, Growth, Transition, Can, does, label, Live, Done, Finished, Begins, Quiet, Loses, Counts, Finds, Opens, FindsNothing, IsRefused, DecidesEmpty, Passes, Decides, Places, Claims, Moves, Reports, Publishes, Reads, Leaves, Splits, Wipes, SplitsClear, Replies, Ends}
 use Rattle.flurry_theory.specs.Invariant.{PartyOk, Tables, IsCut, HasGrown}
-use Rattle.flurry_theory.proofs.Ranges.{all_moved, told_moved}
+use Rattle.flurry_theory.proofs.Ranges.{told_moved}
 use Rattle.flurry_theory.proofs.Refusals.{refused_at_work}
 use Rattle.flurry_theory.specs.Legal.{CallMay, GrowthMay}
 use Rattle.flurry_model.specs.declared.call.Call.{Call}
@@ -57,14 +57,7 @@ module _ {K V F : Type 0} (cmp : K → K → Ordering) (hash : K → ℕ) (gives
     unplaced_idle = λ d j h y l. grind (arith, h, y, l, can, u.claims p a can.0, w.unplaced, w.unplaced_idle d j, w.unplaced_above, eqb-true);
     unplaced_above = λ d j h l. grind (arith, h, l, can, u.claims p a can.0, w.unplaced, w.unplaced_above d j, w.unplaced_idle d j, w.unplaced_above, eqb-true, ne_eqb);
   }
-  grown_ok first s p (Publishes a g) can u w = record {
-    number = grind (arith, can, w.number);
-    placed_next = λ d z h y. grind (arith, h, y, can, u.claims p a can.0, w.placed_next d, eq-eqb);
-    unplaced = λ h d. grind (arith, h, can, w.unplaced);
-    unplaced_idle = λ d j h y l. grind (arith, h, y, l, can, u.claims p a can.0, w.unplaced, w.unplaced_above a.table j, eqb-true);
-    unplaced_above = λ d j h l. grind (arith, h, l, can, u.claims p a can.0, w.unplaced, w.unplaced_above a.table j, eqb-true, ne_eqb);
-  }
-  grown_ok first s p (PublishesTold e g) can u w = record {
+  grown_ok first s p (Publishes e g) can u w = record {
     number = grind (arith, can, w.number);
     placed_next = λ d z h y. grind (arith, h, y, can, w.placed_next d, eq-eqb);
     unplaced = λ h d. grind (arith, h, can, w.unplaced);
@@ -106,8 +99,7 @@ module _ {K V F : Type 0} (cmp : K → K → Ordering) (hash : K → ℕ) (gives
   growth_lawful first home s p (Claims e g low) can o t u w = tt
   growth_lawful first home s p (Moves a i es n) can o t u w = (grind (arith, can, t.outside a.table i), w.placed_next a.table (growing s p a can.0 u).0 (u.claims p a can.0).0 (growing s p a can.0 u).1, not_moved home s a.table i es n t can.3)
   growth_lawful first home s p (Reports a g) can o t u w = tt
-  growth_lawful first home s p (Publishes a g) can o t u w = (a.table, w.number ∙ (u.claims p a can.0).0, refl, λ i l. t.was_moved a.table i ((all_moved cmp hash gives s p a g can o u).1 i l))
-  growth_lawful first home s p (PublishesTold e g) can o t u w = (e, w.number ∙ can.1, refl, λ i l. t.was_moved e i (told_moved cmp hash gives s p e g can o u i l))
+  growth_lawful first home s p (Publishes e g) can o t u w = (e, w.number ∙ can.1, refl, λ i l. t.was_moved e i (told_moved cmp hash gives s p e g can o u i l))
   growth_lawful first home s p (Reads e i f fs es n x) can o t u w = tt
   growth_lawful first home s p (Leaves e i f fs es n) can o t u w = tt
   growth_lawful first home s p (Splits e i f fs) can o t u w = tt
@@ -145,8 +137,7 @@ module _ {K V F : Type 0} (cmp : K → K → Ordering) (hash : K → ℕ) (gives
   calls_lawful s p (Claims e g low) can o a = tt
   calls_lawful s p (Moves b i es n) can o a = tt
   calls_lawful s p (Reports b g) can o a = tt
-  calls_lawful s p (Publishes b g) can o a = tt
-  calls_lawful s p (PublishesTold e g) can o a = tt
+  calls_lawful s p (Publishes e g) can o a = tt
   calls_lawful s p (Reads e i f fs es n x) can o a = ((Walk, o.call ∙ o.walking e i (f ∷ fs) can.0, tt), (o.going (λ h. grind (arith, h, can.0))).1)
   calls_lawful s p (Leaves e i f fs es n) can o a = tt
   calls_lawful s p (Splits e i f fs) can o a = tt

@@ -7,7 +7,7 @@ use Rattle.std.proofs.lemmas.Bool.{eq-eqb, ne_eqb, cases_eq, cond-true, cond-fal
 use Rattle.flurry_theory.specs.Map.{same}
 use Rattle.flurry_theory.specs.Trace.{decision, has_replied, has_closed, is_lookup}
 use Rattle.flurry_theory.specs.Legal.{IsWalk, IsClear}
-use Rattle.flurry_theory.specs.Machine.{State, Transition, Can, does, steps_after, at_place, found_by, Mode, Locating, Looking, Walking, Clearing, Done, Finished, Begins, Quiet, Loses, Counts, Finds, Opens, FindsNothing, IsRefused, DecidesEmpty, Passes, Decides, Places, Claims, Moves, Reports, Publishes, PublishesTold, Reads, Leaves, Splits, Wipes, SplitsClear, Replies, Ends}
+use Rattle.flurry_theory.specs.Machine.{State, Transition, Can, does, steps_after, at_place, found_by, Mode, Locating, Looking, Walking, Clearing, Done, Finished, Begins, Quiet, Loses, Counts, Finds, Opens, FindsNothing, IsRefused, DecidesEmpty, Passes, Decides, Places, Claims, Moves, Reports, Publishes, Reads, Leaves, Splits, Wipes, SplitsClear, Replies, Ends}
 use Rattle.flurry_theory.specs.Invariant.{PartyOk, Tables, IsCut, NamesBorn, key_in, one_key, Waits, LooksUp}
 use Rattle.flurry_theory.proofs.Refusals.{refused_at_work}
 use Rattle.flurry_theory.proofs.Ranges.{home_limit, place_here, place_other}
@@ -81,8 +81,7 @@ module _ {K V F : Type 0} (cmp : K → K → Ordering) (total : IsTotalOrder cmp
   own_waits s p (Claims e gr low) can o w = λ h. absurd (grind (arith, h, can.5))
   own_waits s p (Moves a i es n) can o w = λ h. absurd (grind (arith, h, can.4))
   own_waits s p (Reports a gr) can o w = λ h. absurd (grind (arith, h, can.3))
-  own_waits s p (Publishes a gr) can o w = λ h. absurd (grind (arith, h, can.4))
-  own_waits s p (PublishesTold e gr) can o w = λ h. absurd (grind (arith, h, can.3))
+  own_waits s p (Publishes e gr) can o w = λ h. absurd (grind (arith, h, can.3))
   own_waits s p (Reads e i f fs es n x) can o w = λ h. absurd (grind (arith, h, o.walking e i (f ∷ fs) can.0))
   own_waits s p (Leaves e i f fs es n) can o w = λ h. absurd (grind (arith, h, o.walking e i (f ∷ fs) can.0))
   own_waits s p (Splits e i f fs) can o w = λ h. absurd (grind (arith, h, o.walking e i (f ∷ fs) can.0))
@@ -124,8 +123,7 @@ module _ {K V F : Type 0} (cmp : K → K → Ordering) (total : IsTotalOrder cmp
   one_step s p (Claims e gr low) = by_call (s.call p) (s.steps p)
   one_step s p (Moves a i es n) = by_call (s.call p) (s.steps p)
   one_step s p (Reports a gr) = by_call (s.call p) (s.steps p)
-  one_step s p (Publishes a gr) = by_call (s.call p) (s.steps p)
-  one_step s p (PublishesTold e gr) = by_call (s.call p) (s.steps p)
+  one_step s p (Publishes e gr) = by_call (s.call p) (s.steps p)
   one_step s p (Reads e i f fs es n x) = by_call (s.call p) (s.steps p)
   one_step s p (Leaves e i f fs es n) = by_call (s.call p) (s.steps p)
   one_step s p (Splits e i f fs) = by_call (s.call p) (s.steps p)
@@ -182,8 +180,7 @@ module _ {K V F : Type 0} (cmp : K → K → Ordering) (total : IsTotalOrder cmp
   next_reply s p o h r d rp (Claims e gr low) can = absurd (grind (arith, h, can.5))
   next_reply s p o h r d rp (Moves a i es n) can = absurd (grind (arith, h, can.4))
   next_reply s p o h r d rp (Reports a gr) can = absurd (grind (arith, h, can.3))
-  next_reply s p o h r d rp (Publishes a gr) can = absurd (grind (arith, h, can.4))
-  next_reply s p o h r d rp (PublishesTold e gr) can = absurd (grind (arith, h, can.3))
+  next_reply s p o h r d rp (Publishes e gr) can = absurd (grind (arith, h, can.3))
   next_reply s p o h r d rp (Reads e i f fs es n x) can = absurd (grind (arith, h, o.walking e i (f ∷ fs) can.0))
   next_reply s p o h r d rp (Leaves e i f fs es n) can = absurd (grind (arith, h, o.walking e i (f ∷ fs) can.0))
   next_reply s p o h r d rp (Splits e i f fs) can = absurd (grind (arith, h, o.walking e i (f ∷ fs) can.0))

@@ -6,7 +6,7 @@ use Rattle.std.proofs.Common.{arith, refl, sym, ◌∙◌, ap, subst, subst₂, 
 use Rattle.std.proofs.lemmas.Bool.{eqb-true, eq-eqb, ne_eqb, cases_eq, cond-true, cond-false, ltb-true}
 use Rattle.std.proofs.lemmas.Nat.{pow_pos}
 use Rattle.flurry_theory.specs.Map.{same}
-use Rattle.flurry_theory.specs.Machine.{State, Transition, Can, does, found_by, onward, halves, Moved, Unborn, Mode, Locating, Looking, Walking, Clearing, Done, Finished, Frame, Begins, Quiet, Loses, Counts, Finds, Opens, FindsNothing, IsRefused, DecidesEmpty, Passes, Decides, Places, Claims, Moves, Reports, Publishes, PublishesTold, Reads, Leaves, Splits, Wipes, SplitsClear, Replies, Ends}
+use Rattle.flurry_theory.specs.Machine.{State, Transition, Can, does, found_by, onward, halves, Moved, Unborn, Mode, Locating, Looking, Walking, Clearing, Done, Finished, Frame, Begins, Quiet, Loses, Counts, Finds, Opens, FindsNothing, IsRefused, DecidesEmpty, Passes, Decides, Places, Claims, Moves, Reports, Publishes, Reads, Leaves, Splits, Wipes, SplitsClear, Replies, Ends}
 use Rattle.flurry_theory.specs.Invariant.{Tables, home_after, key_in, AreBorn, NamesBorn}
 use Rattle.flurry_theory.proofs.Bins.{in_low_half, in_high_half, double}
 use Rattle.flurry_theory.proofs.Tables.{same_some, homes}
@@ -33,8 +33,7 @@ module _ {K V F : Type 0} (cmp : K → K → Ordering) (total : IsTotalOrder cmp
   risen home s p (Claims e gr low) can t md h = omega arith
   risen home s p (Moves a i es n) can t md h = grind (arith, eqb-true, homes cmp total hash lawful gives home s a.table i es n h t can.3)
   risen home s p (Reports a gr) can t md h = omega arith
-  risen home s p (Publishes a gr) can t md h = omega arith
-  risen home s p (PublishesTold e gr) can t md h = omega arith
+  risen home s p (Publishes e gr) can t md h = omega arith
   risen home s p (Reads e i f fs es n x) can t md h = omega arith
   risen home s p (Leaves e i f fs es n) can t md h = omega arith
   risen home s p (Splits e i f fs) can t md h = omega arith
@@ -59,8 +58,7 @@ module _ {K V F : Type 0} (cmp : K → K → Ordering) (total : IsTotalOrder cmp
   same_start s p (Claims e gr low) can md = (refl, md)
   same_start s p (Moves a i es n) can md = (refl, md)
   same_start s p (Reports a gr) can md = (refl, md)
-  same_start s p (Publishes a gr) can md = (refl, refl)
-  same_start s p (PublishesTold e gr) can md = (refl, refl)
+  same_start s p (Publishes e gr) can md = (refl, refl)
   same_start s p (Reads e i f fs es n x) can md = (refl, md)
   same_start s p (Leaves e i f fs es n) can md = (refl, md)
   same_start s p (Splits e i f fs) can md = (refl, md)
@@ -148,8 +146,7 @@ module _ {K V F : Type 0} (cmp : K → K → Ordering) (total : IsTotalOrder cmp
   own_named home s p (Claims e gr low) can t nm = stays_named home s p (Claims e gr low) can t (s.call p) (s.mode p) nm
   own_named home s p (Moves a i es n) can t nm = stays_named home s p (Moves a i es n) can t (s.call p) (s.mode p) nm
   own_named home s p (Reports a gr) can t nm = stays_named home s p (Reports a gr) can t (s.call p) (s.mode p) nm
-  own_named home s p (Publishes a gr) can t nm = stays_named home s p (Publishes a gr) can t (s.call p) (s.mode p) nm
-  own_named home s p (PublishesTold e gr) can t nm = stays_named home s p (PublishesTold e gr) can t (s.call p) (s.mode p) nm
+  own_named home s p (Publishes e gr) can t nm = stays_named home s p (Publishes e gr) can t (s.call p) (s.mode p) nm
   own_named home s p (Reads e i f fs es n x) can t nm = let q : NamesBorn hash (is_some s.published) home s.start (s.call p) (Walking e i (f ∷ fs)) = (subst (λ m. NamesBorn hash (is_some s.published) home s.start (s.call p) m) can.0 nm) in (q.0, q.1, q.2, q.3)
   own_named home s p (Leaves e i f fs es n) can t nm = let q : NamesBorn hash (is_some s.published) home s.start (s.call p) (Walking e i (f ∷ fs)) = (subst (λ m. NamesBorn hash (is_some s.published) home s.start (s.call p) m) can.0 nm) in w_onward (is_some s.published) home s.start e i fs (s.call p) (q.0, q.1, q.2) q.3.1
   own_named home s p (Splits e i f fs) can t nm = let q : NamesBorn hash (is_some s.published) home s.start (s.call p) (Walking e i (f ∷ fs)) = (subst (λ m. NamesBorn hash (is_some s.published) home s.start (s.call p) m) can.0 nm) in (q.0, q.1, q.2, split_born home s f fs t q.0 can.1 q.3)

@@ -9,7 +9,7 @@ use Rattle.std.proofs.lemmas.Nat.{mod_below, pow_pos}
 use Rattle.flurry_theory.specs.Map.{same, key_of, Allows}
 use Rattle.flurry_theory.specs.Trace.{Trace, begins, call_begun_by, decision, last_read, read_before}
 use Rattle.flurry_theory.specs.Bin.{Entry, number_of, bump, has_number, past, first_past, IsAscending, InRegion, half}
-use Rattle.flurry_theory.specs.Machine.{State, Slot, Claim, Transition, Can, does, label, at_bin, at_place, Live, Frame, Begins, Quiet, Loses, Counts, Finds, Opens, FindsNothing, IsRefused, DecidesEmpty, Passes, Decides, Places, Claims, Moves, Reports, Publishes, PublishesTold, Reads, Leaves, Splits, Wipes, SplitsClear, Replies, Ends}
+use Rattle.flurry_theory.specs.Machine.{State, Slot, Claim, Transition, Can, does, label, at_bin, at_place, Live, Frame, Begins, Quiet, Loses, Counts, Finds, Opens, FindsNothing, IsRefused, DecidesEmpty, Passes, Decides, Places, Claims, Moves, Reports, Publishes, Reads, Leaves, Splits, Wipes, SplitsClear, Replies, Ends}
 use Rattle.flurry_theory.specs.Invariant.{PartyOk, Tables, home_after, Origins, pair_seen, number_in, writes_in, newer, number_at, writes_at, JudgesRead, Numbers}
 use Rattle.flurry_theory.proofs.Bins.{one_class, past-same, region-first_past, found-first_past, in_a_half, in_low_half, in_high_half}
 use Rattle.flurry_theory.proofs.Tables.{at_bin_elim, same_some, homes}
@@ -154,8 +154,7 @@ module _ {K V F : Type 0} (cmp : K → K → Ordering) (total : IsTotalOrder cmp
   change home s p (Claims e gr low) can o t = record { grows = λ k. (omega arith, omega arith); limit = λ k l. l; kept = λ k _. refl; new = λ k h. absurd (grind (arith, h)) }
   change home s p (Moves a i es n) can o t = same_change s.trace (MovedBin a.table i) (number_at cmp hash gives home s) (number_at cmp hash gives (home_after {K = K} {V = V} {F = F} home (Moves a i es n)) (does cmp hash gives s p (Moves a i es n))) (writes_at cmp hash gives home s) (writes_at cmp hash gives (home_after {K = K} {V = V} {F = F} home (Moves a i es n)) (does cmp hash gives s p (Moves a i es n))) (moved_number home s p a i es n can t) (λ _. refl)
   change home s p (Reports a gr) can o t = record { grows = λ k. (omega arith, omega arith); limit = λ k l. l; kept = λ k _. refl; new = λ k h. absurd (grind (arith, h)) }
-  change home s p (Publishes a gr) can o t = record { grows = λ k. (omega arith, omega arith); limit = λ k l. l; kept = λ k _. refl; new = λ k h. absurd (grind (arith, h)) }
-  change home s p (PublishesTold e gr) can o t = record { grows = λ k. (omega arith, omega arith); limit = λ k l. l; kept = λ k _. refl; new = λ k h. absurd (grind (arith, h)) }
+  change home s p (Publishes e gr) can o t = record { grows = λ k. (omega arith, omega arith); limit = λ k l. l; kept = λ k _. refl; new = λ k h. absurd (grind (arith, h)) }
   change home s p (Reads e i f fs es n x) can o t = record { grows = λ k. (omega arith, omega arith); limit = λ k l. l; kept = λ k _. refl; new = λ k h. absurd (grind (arith, h)) }
   change home s p (Leaves e i f fs es n) can o t = record { grows = λ k. (omega arith, omega arith); limit = λ k l. l; kept = λ k _. refl; new = λ k h. absurd (grind (arith, h)) }
   change home s p (Splits e i f fs) can o t = record { grows = λ k. (omega arith, omega arith); limit = λ k l. l; kept = λ k _. refl; new = λ k h. absurd (grind (arith, h)) }
@@ -256,8 +255,7 @@ module _ {K V F : Type 0} (cmp : K → K → Ordering) (total : IsTotalOrder cmp
   seen_after home s p (Claims e gr low) can t w z h = inl (h, refl)
   seen_after home s p (Moves a i es n) can t w z h = inl (h, refl)
   seen_after home s p (Reports a gr) can t w z h = inl (h, refl)
-  seen_after home s p (Publishes a gr) can t w z h = inl (h, refl)
-  seen_after home s p (PublishesTold e gr) can t w z h = inl (h, refl)
+  seen_after home s p (Publishes e gr) can t w z h = inl (h, refl)
   seen_after home s p (Reads e i f fs es n x) can t w z h = reads_seen home s p e i f fs es n x can t w z h
   seen_after home s p (Leaves e i f fs es n) can t w z h = inl (h, refl)
   seen_after home s p (Splits e i f fs) can t w z h = inl (h, refl)
@@ -356,8 +354,7 @@ module _ {K V F : Type 0} (cmp : K → K → Ordering) (total : IsTotalOrder cmp
   removal_lawful home s p (Claims e gr low) can o t u v = tt
   removal_lawful home s p (Moves a i es n) can o t u v = tt
   removal_lawful home s p (Reports a gr) can o t u v = tt
-  removal_lawful home s p (Publishes a gr) can o t u v = tt
-  removal_lawful home s p (PublishesTold e gr) can o t u v = tt
+  removal_lawful home s p (Publishes e gr) can o t u v = tt
   removal_lawful home s p (Reads e i f fs es n x) can o t u v = tt
   removal_lawful home s p (Leaves e i f fs es n) can o t u v = tt
   removal_lawful home s p (Splits e i f fs) can o t u v = tt
@@ -400,8 +397,7 @@ module _ {K V F : Type 0} (cmp : K → K → Ordering) (total : IsTotalOrder cmp
   removals_ok home s p (Claims e gr low) can o t u v h = (removal_lawful home s p (Claims e gr low) can o t u v, h)
   removals_ok home s p (Moves a i es n) can o t u v h = (removal_lawful home s p (Moves a i es n) can o t u v, h)
   removals_ok home s p (Reports a gr) can o t u v h = (removal_lawful home s p (Reports a gr) can o t u v, h)
-  removals_ok home s p (Publishes a gr) can o t u v h = (removal_lawful home s p (Publishes a gr) can o t u v, h)
-  removals_ok home s p (PublishesTold e gr) can o t u v h = (removal_lawful home s p (PublishesTold e gr) can o t u v, h)
+  removals_ok home s p (Publishes e gr) can o t u v h = (removal_lawful home s p (Publishes e gr) can o t u v, h)
   removals_ok home s p (Reads e i f fs es n x) can o t u v h = (removal_lawful home s p (Reads e i f fs es n x) can o t u v, h)
   removals_ok home s p (Leaves e i f fs es n) can o t u v h = (removal_lawful home s p (Leaves e i f fs es n) can o t u v, h)
   removals_ok home s p (Splits e i f fs) can o t u v h = (removal_lawful home s p (Splits e i f fs) can o t u v, h)

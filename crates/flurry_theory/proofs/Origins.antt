@@ -4,7 +4,7 @@ use Rattle.std.specs.declared.cmp.Ordering.{Ordering}
 use Rattle.std.proofs.Common.{arith, refl, sym, ◌∙◌, ap, subst, inl, inr}
 use Rattle.std.proofs.lemmas.Bool.{eqb-true}
 use Rattle.flurry_theory.specs.Trace.{begins, last_read, read_before}
-use Rattle.flurry_theory.specs.Machine.{State, Transition, Can, does, label, at_place, Begins, Quiet, Loses, Counts, Finds, Opens, FindsNothing, IsRefused, DecidesEmpty, Passes, Decides, Places, Claims, Moves, Reports, Publishes, PublishesTold, Reads, Leaves, Splits, Wipes, SplitsClear, Replies, Ends}
+use Rattle.flurry_theory.specs.Machine.{State, Transition, Can, does, label, at_place, Begins, Quiet, Loses, Counts, Finds, Opens, FindsNothing, IsRefused, DecidesEmpty, Passes, Decides, Places, Claims, Moves, Reports, Publishes, Reads, Leaves, Splits, Wipes, SplitsClear, Replies, Ends}
 use Rattle.flurry_theory.specs.Invariant.{PartyOk, Origins, pair_seen}
 use Rattle.flurry_theory.proofs.Tables.{same_some}
 use Rattle.flurry_theory.proofs.Ranges.{place_other}
@@ -52,8 +52,7 @@ module _ {K V F : Type 0} (cmp : K → K → Ordering) (hash : K → ℕ) (gives
   begun_after s p (Claims e gr low) can q w z h g = inl (h, g, refl)
   begun_after s p (Moves a i es n) can q w z h g = inl (h, g, refl)
   begun_after s p (Reports a gr) can q w z h g = inl (h, g, refl)
-  begun_after s p (Publishes a gr) can q w z h g = inl (h, g, refl)
-  begun_after s p (PublishesTold e gr) can q w z h g = inl (h, g, refl)
+  begun_after s p (Publishes e gr) can q w z h g = inl (h, g, refl)
   begun_after s p (Reads e i f fs es n x) can q w z h g = inl (h, g, refl)
   begun_after s p (Leaves e i f fs es n) can q w z h g = inl (h, g, refl)
   begun_after s p (Splits e i f fs) can q w z h g = inl (h, g, refl)
@@ -78,8 +77,7 @@ module _ {K V F : Type 0} (cmp : K → K → Ordering) (hash : K → ℕ) (gives
   origin_after s p (Claims e gr low) can old q w h = old q w h
   origin_after s p (Moves a i es n) can old q w h = old q w h
   origin_after s p (Reports a gr) can old q w h = old q w h
-  origin_after s p (Publishes a gr) can old q w h = old q w h
-  origin_after s p (PublishesTold e gr) can old q w h = old q w h
+  origin_after s p (Publishes e gr) can old q w h = old q w h
   origin_after s p (Reads e i f fs es n x) can old q w h = old q w h
   origin_after s p (Leaves e i f fs es n) can old q w h = old q w h
   origin_after s p (Splits e i f fs) can old q w h = old q w h
@@ -104,8 +102,7 @@ module _ {K V F : Type 0} (cmp : K → K → Ordering) (hash : K → ℕ) (gives
   unread_after s p (Claims e gr low) can o v w h = v.unread w h
   unread_after s p (Moves a i es n) can o v w h = v.unread w h
   unread_after s p (Reports a gr) can o v w h = v.unread w h
-  unread_after s p (Publishes a gr) can o v w h = v.unread w h
-  unread_after s p (PublishesTold e gr) can o v w h = v.unread w h
+  unread_after s p (Publishes e gr) can o v w h = v.unread w h
   unread_after s p (Reads e i f fs es n x) can o v w h = place_other s.seen p w _ (λ e. grind (arith, can.0, (o.unknown (subst (λ q. s.parties ≤ q) e h)).1)) ∙ v.unread w h
   unread_after s p (Leaves e i f fs es n) can o v w h = v.unread w h
   unread_after s p (Splits e i f fs) can o v w h = v.unread w h
@@ -130,8 +127,7 @@ module _ {K V F : Type 0} (cmp : K → K → Ordering) (hash : K → ℕ) (gives
   last_after s p (Claims e gr low) can v w = v.last w
   last_after s p (Moves a i es n) can v w = v.last w
   last_after s p (Reports a gr) can v w = v.last w
-  last_after s p (Publishes a gr) can v w = v.last w
-  last_after s p (PublishesTold e gr) can v w = v.last w
+  last_after s p (Publishes e gr) can v w = v.last w
   last_after s p (Reads e i f fs es n x) can v w = grind (arith, v.last w)
   last_after s p (Leaves e i f fs es n) can v w = v.last w
   last_after s p (Splits e i f fs) can v w = v.last w

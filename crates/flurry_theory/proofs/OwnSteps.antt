@@ -6,7 +6,7 @@ use Rattle.std.proofs.Common.{arith, refl, sym}
 use Rattle.std.proofs.lemmas.Bool.{eqb-true, ne_eqb}
 use Rattle.flurry_theory.specs.Map.{same}
 use Rattle.flurry_theory.specs.Trace.{names}
-use Rattle.flurry_theory.specs.Machine.{State, Transition, effect, label, found_by, onward, halves, mode_after_count, Mode, Locating, Looking, Walking, Clearing, Done, Finished, Begins, Quiet, Loses, Counts, Finds, Opens, FindsNothing, IsRefused, DecidesEmpty, Passes, Decides, Places, Claims, Moves, Reports, Publishes, PublishesTold, Reads, Leaves, Splits, Wipes, SplitsClear, Replies, Ends}
+use Rattle.flurry_theory.specs.Machine.{State, Transition, effect, label, found_by, onward, halves, mode_after_count, Mode, Locating, Looking, Walking, Clearing, Done, Finished, Begins, Quiet, Loses, Counts, Finds, Opens, FindsNothing, IsRefused, DecidesEmpty, Passes, Decides, Places, Claims, Moves, Reports, Publishes, Reads, Leaves, Splits, Wipes, SplitsClear, Replies, Ends}
 use Rattle.flurry_model.specs.declared.call.Call.{Call}
 
 -- what a settled mode keeps, a mode keeps that may have been settled
@@ -32,8 +32,7 @@ module _ {K V F : Type 0} (cmp : K → K → Ordering) (total : IsTotalOrder cmp
   next_mode s p (Claims e g low) = s.mode p
   next_mode s p (Moves a i es n) = s.mode p
   next_mode s p (Reports a g) = s.mode p
-  next_mode s p (Publishes a g) = s.mode p
-  next_mode s p (PublishesTold e g) = s.mode p
+  next_mode s p (Publishes e g) = s.mode p
   next_mode s p (Reads e i f fs es n x) = Walking e i (record { table = f.table; index = f.index; bound = Some x.key } ∷ fs)
   next_mode s p (Leaves e i f fs es n) = onward Walking (Done None 0 0) e i fs
   next_mode s p (Splits e i f fs) = Walking e i (halves f fs)
@@ -65,8 +64,7 @@ module _ {K V F : Type 0} (cmp : K → K → Ordering) (total : IsTotalOrder cmp
   other_keeps P h (Claims e g low) q o y = y
   other_keeps P h (Moves a i es n) q o y = y
   other_keeps P h (Reports a g) q o y = y
-  other_keeps P h (Publishes a g) q o y = y
-  other_keeps P h (PublishesTold e g) q o y = y
+  other_keeps P h (Publishes e g) q o y = y
   other_keeps P h (Reads e i f fs es n x) q o y = y
   other_keeps P h (Leaves e i f fs es n) q o y = y
   other_keeps P h (Splits e i f fs) q o y = y
@@ -99,8 +97,7 @@ module _ {K V F : Type 0} (cmp : K → K → Ordering) (total : IsTotalOrder cmp
   mode_after s p q (Claims e g low) = at_own s.mode p q
   mode_after s p q (Moves a i es n) = at_own s.mode p q
   mode_after s p q (Reports a g) = at_own s.mode p q
-  mode_after s p q (Publishes a g) = at_own s.mode p q
-  mode_after s p q (PublishesTold e g) = at_own s.mode p q
+  mode_after s p q (Publishes e g) = at_own s.mode p q
   mode_after s p q (Reads e i f fs es n x) = refl
   mode_after s p q (Leaves e i f fs es n) = refl
   mode_after s p q (Splits e i f fs) = refl
@@ -126,8 +123,7 @@ module _ {K V F : Type 0} (cmp : K → K → Ordering) (total : IsTotalOrder cmp
   call_after s p q (Claims e g low) = at_own s.call p q
   call_after s p q (Moves a i es n) = at_own s.call p q
   call_after s p q (Reports a g) = at_own s.call p q
-  call_after s p q (Publishes a g) = at_own s.call p q
-  call_after s p q (PublishesTold e g) = at_own s.call p q
+  call_after s p q (Publishes e g) = at_own s.call p q
   call_after s p q (Reads e i f fs es n x) = at_own s.call p q
   call_after s p q (Leaves e i f fs es n) = at_own s.call p q
   call_after s p q (Splits e i f fs) = at_own s.call p q
@@ -152,8 +148,7 @@ module _ {K V F : Type 0} (cmp : K → K → Ordering) (total : IsTotalOrder cmp
   names_own p q (Claims e g low) ne = ne_eqb p q (λ h. ne (sym h))
   names_own p q (Moves a i es n) ne = refl
   names_own p q (Reports a g) ne = ne_eqb p q (λ h. ne (sym h))
-  names_own p q (Publishes a g) ne = refl
-  names_own p q (PublishesTold e g) ne = refl
+  names_own p q (Publishes e g) ne = refl
   names_own p q (Reads e i f fs es n x) ne = ne_eqb p q (λ h. ne (sym h))
   names_own p q (Leaves e i f fs es n) ne = ne_eqb p q (λ h. ne (sym h))
   names_own p q (Splits e i f fs) ne = ne_eqb p q (λ h. ne (sym h))

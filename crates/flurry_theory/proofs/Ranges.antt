@@ -5,7 +5,7 @@ use Rattle.std.proofs.Common.{arith, refl, sym, ◌∙◌, ap, subst, inl, inr}
 use Rattle.std.proofs.lemmas.Bool.{eqb-true, eqb-false, eq-eqb, ne_eqb, cases_order, cases_lt, cases_eq, and_parts, and_from, and_cases, lt-ltb, ltb-true, ltb-false, leb-true, le-leb}
 use Rattle.std.proofs.lemmas.Nat.{mod_below, pow_pos}
 use Rattle.flurry_theory.specs.Bin.{Entry}
-use Rattle.flurry_theory.specs.Machine.{State, Slot, Claim, Growth, is_complete, with_report, Transition, MayOpen, Can, does, at_place, Moved, Frame, Begins, Quiet, Loses, Counts, Finds, Opens, FindsNothing, IsRefused, DecidesEmpty, Passes, Decides, Places, Claims, Moves, Reports, Publishes, PublishesTold, Reads, Leaves, Splits, Wipes, SplitsClear, Replies, Ends}
+use Rattle.flurry_theory.specs.Machine.{State, Slot, Claim, Growth, is_complete, with_report, Transition, MayOpen, Can, does, at_place, Moved, Frame, Begins, Quiet, Loses, Counts, Finds, Opens, FindsNothing, IsRefused, DecidesEmpty, Passes, Decides, Places, Claims, Moves, Reports, Publishes, Reads, Leaves, Splits, Wipes, SplitsClear, Replies, Ends}
 use Rattle.flurry_theory.specs.Machine.{total}
 use Rattle.flurry_theory.specs.Invariant.{PartyOk, Tables, size, holds, IsCut}
 use Rattle.flurry_theory.proofs.Bins.{small_mod}
@@ -87,46 +87,6 @@ module _ {K V F : Type 0} (cmp : K → K → Ordering) (hash : K → ℕ) (gives
       go (inr (inl w)) = inr (inl (grind (arith, w, y)))
       go (inr (inr w)) = here w.0 w.1 (cases_order w.0 p)
 
-  none_left : (b : Option Claim) → size b ≡ 0 → ((a : Claim) → b ≡ Some a → a.low < a.high) → b ≡ None
-  none_left None h l = refl
-  none_left (Some a) h l = absurd (omega (arith, h, l a refl))
-
-  -- the report that completes the growth finds no other claim, and every bin moved
-  counts : (s : State K V F) (p : ℕ) (a : Claim) (g : Growth) → Can cmp hash gives s p (Publishes a g) → PartyOk s p → IsCut s → (g.unclaimed ≡ 0) × (total (λ q. size (at_place s.claim p None q)) s.parties ≡ 0)
-  counts s p a g can o u =
-      let l : p < s.parties = claims_known s p a o can.0 in
-      let w : g.unclaimed + g.reported + total (λ q. size (s.claim q)) s.parties ≡ 2 ^ a.table = u.sum a.table g (u.claims p a can.0).0 can.2 in
-      let z : size (s.claim p) ≡ a.high - a.low = ap size can.0 in
-      let v : total (λ q. size (at_place s.claim p None q)) s.parties + size (s.claim p) ≡ total (λ q. size (s.claim q)) s.parties + size (at_place s.claim p None p) = total-change (λ q. size (at_place s.claim p None q)) (λ q. size (s.claim q)) p s.parties l (λ q ne. ap size (place_other s.claim p q None ne)) in
-      let y : size (at_place s.claim p None p) ≡ 0 = ap size (place_here s.claim p None) in
-      (omega (arith, w, v, y, z, can.3), omega (arith, w, v, y, z, can.3))
-
-  pub no_other : (s : State K V F) (p : ℕ) (a : Claim) (g : Growth) → Can cmp hash gives s p (Publishes a g) → ((q : ℕ) → PartyOk s q) → IsCut s → (q : ℕ) → (q ≡ p → ⊥) → s.claim q ≡ None
-  no_other s p a g can o u q ne = go (cases_lt q s.parties)
-    where
-      go : (q < s.parties) ⊎ (s.parties ≤ q) → s.claim q ≡ None
-      go (inl l) = none_left (s.claim q) (sym (ap size (place_other s.claim p q None ne)) ∙ (let w : size (at_place s.claim p None q) ≤ total (λ q. size (at_place s.claim p None q)) s.parties = part-total (λ q. size (at_place s.claim p None q)) q s.parties l in omega (arith, w, (counts s p a g can (o p) u).1))) (λ b h. (u.claims q b h).1)
-      go (inr l) = ((o q).unknown l).2
-
-  pub all_moved : (s : State K V F) (p : ℕ) (a : Claim) (g : Growth) → Can cmp hash gives s p (Publishes a g) → ((q : ℕ) → PartyOk s q) → IsCut s → (s.published ≡ Some a.table) × ((i : ℕ) → i < 2 ^ a.table → s.slot a.table i ≡ Moved)
-  all_moved s p a g can o u = ((u.claims p a can.0).0, λ i l. go i (u.cover a.table i g (u.claims p a can.0).0 can.2 l))
-    where
-      here : (i q : ℕ) → holds (s.claim q) i ≡ true → (q ≡ p) ⊎ ((q < p) ⊎ (p < q)) → s.slot a.table i ≡ Moved
-      here i q w (inl e) = grind (arith, e, w, can, u.rest_moved p a i can.0, and_parts, leb-true, ltb-true)
-      here i q w (inr e) = grind (arith, w, no_other s p a g can o u q, e)
-
-      go : (i : ℕ) → (s.slot a.table i ≡ Moved) ⊎ ((i < g.unclaimed) ⊎ ((q : ℕ) × (holds (s.claim q) i ≡ true))) → s.slot a.table i ≡ Moved
-      go i (inl w) = w
-      go i (inr (inl w)) = absurd (omega (arith, w, (counts s p a g can (o p) u).0))
-      go i (inr (inr w)) = here i w.0 w.1 (cases_order w.0 p)
-
-  none_after : (s : State K V F) (p : ℕ) (a : Claim) (g : Growth) → Can cmp hash gives s p (Publishes a g) → ((q : ℕ) → PartyOk s q) → IsCut s → (q : ℕ) → at_place s.claim p None q ≡ None
-  none_after s p a g can o u q = go (cases_eq q p)
-    where
-      go : (q ≡ p) ⊎ (q ≡ p → ⊥) → at_place s.claim p None q ≡ None
-      go (inl e) = rw e (place_here s.claim p None)
-      go (inr ne) = place_other s.claim p q None ne ∙ no_other s p a g can o u q ne
-
   -- where a party is told to publish, no bin is unclaimed, and none is claimed
   told_counts : (s : State K V F) (p e : ℕ) (g : Growth) → s.told p ≡ Some e → s.growth ≡ Some g → IsCut s → (g.unclaimed ≡ 0) × (total (λ q. size (s.claim q)) s.parties ≡ 0)
   told_counts s p e g h y u =
@@ -151,7 +111,7 @@ module _ {K V F : Type 0} (cmp : K → K → Ordering) (hash : K → ℕ) (gives
       go (Some a) x = absurd (none_told s q a (o q) x u p e h)
 
   -- the party that is told finds every bin moved
-  pub told_moved : (s : State K V F) (p e : ℕ) (g : Growth) → Can cmp hash gives s p (PublishesTold e g) → ((q : ℕ) → PartyOk s q) → IsCut s → (i : ℕ) → i < 2 ^ e → s.slot e i ≡ Moved
+  pub told_moved : (s : State K V F) (p e : ℕ) (g : Growth) → Can cmp hash gives s p (Publishes e g) → ((q : ℕ) → PartyOk s q) → IsCut s → (i : ℕ) → i < 2 ^ e → s.slot e i ≡ Moved
   told_moved s p e g can o u i l = go (u.cover e i g can.1 can.2 l)
     where
       go : (s.slot e i ≡ Moved) ⊎ ((i < g.unclaimed) ⊎ ((q : ℕ) × (holds (s.claim q) i ≡ true))) → s.slot e i ≡ Moved
@@ -349,29 +309,8 @@ module _ {K V F : Type 0} (cmp : K → K → Ordering) (hash : K → ℕ) (gives
     some_told = λ d z h y k. (p, reporter_told s p a g can u d z h y k);
   }
 
-  cut_publishes : (home : ℕ → ℕ) (s : State K V F) (p : ℕ) (a : Claim) (g : Growth) → Can cmp hash gives s p (Publishes a g) → ((q : ℕ) → PartyOk s q) → Tables cmp hash home s → IsCut s → IsCut (does cmp hash gives s p (Publishes a g))
-  cut_publishes home s p a g can o t u = record {
-    made = λ z h. grind (arith, h, can, u.claims p a can.0, u.made z, eqb-true, eqb-false, eq-eqb, ne_eqb, and_parts, and_cases);
-    idle = λ h q. none_after s p a g can o u q;
-    near = λ z d j h l. grind (arith, h, l, can, u.claims p a can.0, u.near a.table d j);
-    idle_live = λ h d j y l. grind (arith, y, l, small_mod d j l, (all_moved s p a g can o u).0, (all_moved s p a g can o u).1 (j % 2 ^ a.table) (mod_below j (2 ^ a.table) (pow_pos a.table)), t.live (grind (arith, (all_moved s p a g can o u).0)) j, (t.from a.table (all_moved s p a g can o u).0).1 j, u.near a.table (home j) (j % 2 ^ home j), cases_order (home j) (suc a.table));
-    claims = λ q w h. grind (arith, h, none_after s p a g can o u q);
-    above_unclaimed = λ q w z h y. grind (arith, h, none_after s p a g can o u q);
-    left_live = λ q w j h x y. grind (arith, h, none_after s p a g can o u q);
-    rest_moved = λ q w j h x y. grind (arith, h, none_after s p a g can o u q);
-    unclaimed_live = λ d j z h y. grind (arith, h, y, can, u.claims p a can.0, u.unclaimed_live d j z, eqb-true, eqb-false, eq-eqb, ne_eqb, and_parts, and_cases);
-    apart = λ q v w z ne h y. grind (arith, h, none_after s p a g can o u q);
-    cover = λ d j z h y l. grind (arith, h, y, l, can, u.claims p a can.0, u.cover d j z, eqb-true, eqb-false, eq-eqb, ne_eqb, and_parts, and_cases);
-    sum = λ d z h y. grind (arith, h, y, can, u.claims p a can.0, u.sum d z, eqb-true, eqb-false, eq-eqb, ne_eqb, and_parts, and_cases);
-    limit = λ d h. grind (arith, h, u.growth_limit a.table g (u.claims p a can.0).0 can.2);
-    growth_limit = λ d z h y. grind (arith, y);
-    told = λ q d h. absurd (none_told s p a (o p) can.0 u q d h);
-    one_told = u.one_told;
-    some_told = λ d z h y k. absurd (grind (arith, y));
-  }
-
-  cut_publishes_told : (home : ℕ → ℕ) (s : State K V F) (p e : ℕ) (g : Growth) → Can cmp hash gives s p (PublishesTold e g) → ((q : ℕ) → PartyOk s q) → Tables cmp hash home s → IsCut s → IsCut (does cmp hash gives s p (PublishesTold e g))
-  cut_publishes_told home s p e g can o t u = record {
+  cut_publishes : (home : ℕ → ℕ) (s : State K V F) (p e : ℕ) (g : Growth) → Can cmp hash gives s p (Publishes e g) → ((q : ℕ) → PartyOk s q) → Tables cmp hash home s → IsCut s → IsCut (does cmp hash gives s p (Publishes e g))
+  cut_publishes home s p e g can o t u = record {
     made = λ z h. absurd (grind (arith, h));
     idle = λ h q. no_claim s p e can.0 o u q;
     near = λ z d j h l. grind (arith, h, l, can, u.near e d j);
@@ -428,8 +367,7 @@ module _ {K V F : Type 0} (cmp : K → K → Ordering) (hash : K → ℕ) (gives
   cut_ok home s p (Claims e g low) can o t u = cut_claims home s p e g low can o t u
   cut_ok home s p (Moves a i es n) can o t u = cut_moves home s p a i es n can o t u
   cut_ok home s p (Reports a g) can o t u = cut_reports home s p a g can o t u
-  cut_ok home s p (Publishes a g) can o t u = cut_publishes home s p a g can o t u
-  cut_ok home s p (PublishesTold e g) can o t u = cut_publishes_told home s p e g can o t u
+  cut_ok home s p (Publishes e g) can o t u = cut_publishes home s p e g can o t u
   cut_ok home s p (Reads e i f fs es n x) can o t u = cut_same s _ refl u
   cut_ok home s p (Leaves e i f fs es n) can o t u = cut_same s _ refl u
   cut_ok home s p (Splits e i f fs) can o t u = cut_same s _ refl u

@@ -8,7 +8,7 @@ use Rattle.std.proofs.lemmas.Bool.{eqb-true}
 use Rattle.flurry_theory.specs.Map.{same}
 use Rattle.flurry_theory.specs.Trace.{pairs}
 use Rattle.flurry_theory.specs.Bin.{Entry, number_of, has_number}
-use Rattle.flurry_theory.specs.Machine.{State, Claim, Growth, Transition, Can, BinDid, Frame, Begins, Loses, Counts, Finds, Opens, IsRefused, Decides, Places, Claims, Moves, Reports, PublishesTold, Reads, Leaves, Replies}
+use Rattle.flurry_theory.specs.Machine.{State, Claim, Growth, Transition, Can, BinDid, Frame, Begins, Loses, Counts, Finds, Opens, IsRefused, Decides, Places, Claims, Moves, Reports, Publishes, Reads, Leaves, Replies}
 use Rattle.flurry_theory.specs.Invariant.{new_world, after_all, CanAll}
 use Rattle.flurry_theory.proofs.BinSteps.{bin_did}
 use Rattle.flurry_theory.proofs.Origins.{same_seen}
@@ -147,11 +147,11 @@ growth_reported : CanDo reported
 growth_reported = (refl, refl, refl, refl) ⊗ (refl, omega arith, refl, refl, refl) ⊗ (refl, omega arith, refl, refl, omega arith, refl) ⊗ (refl, refl, omega arith, refl) ⊗ (refl, λ w h. absurd (grind (arith, h))) ⊗ (Reserve 1, refl, refl, refl, omega arith) ⊗ (refl, λ w h. absurd (grind (arith, h))) ⊗ tt
 
 -- nobody publishes it before the report; after it party 0 does, and party 1 does not
-unreported_stays : Can nat_cmp its_own none_given (after_steps moved) 0 (PublishesTold 0 (growth 0 0)) → ⊥
+unreported_stays : Can nat_cmp its_own none_given (after_steps moved) 0 (Publishes 0 (growth 0 0)) → ⊥
 unreported_stays h = grind (arith, h.0)
 
-reporter_publishes : CanDo ((0, PublishesTold 0 (growth 0 1)) ∷ reported)
+reporter_publishes : CanDo ((0, Publishes 0 (growth 0 1)) ∷ reported)
 reporter_publishes = (refl, refl, refl, refl) ⊗ growth_reported
 
-other_does_not : Can nat_cmp its_own none_given (after_steps reported) 1 (PublishesTold 0 (growth 0 1)) → ⊥
+other_does_not : Can nat_cmp its_own none_given (after_steps reported) 1 (Publishes 0 (growth 0 1)) → ⊥
 other_does_not h = grind (arith, h.0)

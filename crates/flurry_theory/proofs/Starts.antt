@@ -4,7 +4,7 @@ use Rattle.std.specs.declared.cmp.Ordering.{Ordering}
 use Rattle.std.specs.Cmp.{IsTotalOrder}
 use Rattle.std.proofs.Common.{arith, refl, sym, ◌∙◌}
 use Rattle.flurry_theory.specs.Map.{same}
-use Rattle.flurry_theory.specs.Machine.{State, Transition, Can, WasPublished, does, Begins, Quiet, Loses, Counts, Finds, Opens, FindsNothing, IsRefused, DecidesEmpty, Passes, Decides, Places, Claims, Moves, Reports, Publishes, PublishesTold, Reads, Leaves, Splits, Wipes, SplitsClear, Replies, Ends}
+use Rattle.flurry_theory.specs.Machine.{State, Transition, Can, WasPublished, does, Begins, Quiet, Loses, Counts, Finds, Opens, FindsNothing, IsRefused, DecidesEmpty, Passes, Decides, Places, Claims, Moves, Reports, Publishes, Reads, Leaves, Splits, Wipes, SplitsClear, Replies, Ends}
 use Rattle.flurry_theory.specs.Invariant.{Inv, IsCut, CanAll, after_all, new_world}
 use Rattle.flurry_theory.proofs.Tables.{same_some}
 use Rattle.flurry_theory.proofs.Step.{inv_after}
@@ -27,8 +27,7 @@ module _ {K V F : Type 0} (cmp : K → K → Ordering) (total : IsTotalOrder cmp
   was_step s p (Claims d gr low) e can u o = o
   was_step s p (Moves a i es n) e can u o = o
   was_step s p (Reports a gr) e can u o = o
-  was_step s p (Publishes a gr) e can u o = (o.0, suc a.table, refl, omega (arith, o.3, same_some (sym o.2 ∙ (u.claims p a can.0).0)))
-  was_step s p (PublishesTold d gr) e can u o = (o.0, suc d, refl, omega (arith, o.3, same_some (sym o.2 ∙ can.1)))
+  was_step s p (Publishes d gr) e can u o = (o.0, suc d, refl, omega (arith, o.3, same_some (sym o.2 ∙ can.1)))
   was_step s p (Reads d i f fs es n x) e can u o = o
   was_step s p (Leaves d i f fs es n) e can u o = o
   was_step s p (Splits d i f fs) e can u o = o

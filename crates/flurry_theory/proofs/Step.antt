@@ -8,11 +8,11 @@ use Rattle.std.proofs.lemmas.Nat.{mod_below, pow_pos}
 use Rattle.flurry_theory.specs.Map.{Pairs, same, find, key_of, Allows}
 use Rattle.flurry_theory.specs.Trace.{names, pairs}
 use Rattle.flurry_theory.specs.Bin.{Entry, pairs_of, IsAscending, InRegion}
-use Rattle.flurry_theory.specs.Machine.{State, Transition, Can, does, label, halves, Live, Moved, Unborn, Locating, Looking, Walking, Clearing, Done, Begins, Quiet, Loses, Counts, Finds, Opens, FindsNothing, IsRefused, DecidesEmpty, Passes, Decides, Places, Claims, Moves, Reports, Publishes, PublishesTold, Reads, Leaves, Splits, Wipes, SplitsClear, Replies, Ends}
+use Rattle.flurry_theory.specs.Machine.{State, Transition, Can, does, label, halves, Live, Moved, Unborn, Locating, Looking, Walking, Clearing, Done, Begins, Quiet, Loses, Counts, Finds, Opens, FindsNothing, IsRefused, DecidesEmpty, Passes, Decides, Places, Claims, Moves, Reports, Publishes, Reads, Leaves, Splits, Wipes, SplitsClear, Replies, Ends}
 use Rattle.flurry_theory.specs.Invariant.{PartyOk, Tables, home_after, Progress, Remains, IsCut, NamesBorn, Waits, Inv, Numbers, new_world, CanAll, after_all}
 use Rattle.flurry_theory.proofs.Bins.{Allows-same}
 use Rattle.flurry_theory.proofs.Tables.{same_some, same_live, growth_ended}
-use Rattle.flurry_theory.proofs.Ranges.{all_moved, told_moved}
+use Rattle.flurry_theory.proofs.Ranges.{told_moved}
 use Rattle.flurry_theory.specs.Legal.{HasRead, HasLacked, WalkMay, ClearMay, IsWalk, IsClear}
 use Rattle.flurry_model.specs.declared.call.Call.{Call}
 use Rattle.flurry_model.specs.declared.call.Call.TheVariants.{Get, GetKeyValue, ContainsKey, Insert, TryInsert, Compute, Remove, RemoveEntry, RemoveSeen, Reserve, Clear, Walk}
@@ -55,8 +55,7 @@ module _ {K V F : Type 0} (cmp : K → K → Ordering) (total : IsTotalOrder cmp
   own home s p (Claims e gr low) can o t g = keeps cmp hash gives (s.call p) (s.mode p) s.trace (Silent p) p refl (λ k h. h) g
   own home s p (Moves a i es n) can o t g = keeps cmp hash gives (s.call p) (s.mode p) s.trace (MovedBin a.table i) p refl (λ k h. h) g
   own home s p (Reports a gr) can o t g = keeps cmp hash gives (s.call p) (s.mode p) s.trace (Silent p) p refl (λ k h. h) g
-  own home s p (Publishes a gr) can o t g = keeps cmp hash gives (s.call p) (s.mode p) s.trace (Published (suc a.table)) p refl (λ k h. h) g
-  own home s p (PublishesTold e gr) can o t g = keeps cmp hash gives (s.call p) (s.mode p) s.trace (Published (suc e)) p refl (λ k h. h) g
+  own home s p (Publishes e gr) can o t g = keeps cmp hash gives (s.call p) (s.mode p) s.trace (Published (suc e)) p refl (λ k h. h) g
   own home s p (Reads e i f fs es n x) can o t g = reads cmp total hash lawful gives home s p e i f fs es n x can t (o.walking e i (f ∷ fs) can.0) (subst (λ m. Progress cmp hash gives (s.call p) m s.trace p) can.0 g)
   own home s p (Leaves e i f fs es n) can o t g = leaves cmp total hash lawful gives home s p e i f fs es n can t (o.walking e i (f ∷ fs) can.0) (subst (λ m. Progress cmp hash gives (s.call p) m s.trace p) can.0 g)
   own home s p (Splits e i f fs) can o t g = let lt : f.index < 2 ^ f.table = grind (arith, can.1, t.outside f.table f.index) in let m : Progress cmp hash gives (s.call p) (Walking e i (f ∷ fs)) s.trace p = (subst (λ m. Progress cmp hash gives (s.call p) m s.trace p) can.0 g) in advance cmp hash gives (s.call p) (Walking e i (f ∷ fs)) (Walking e i (halves f fs)) s.trace (Silent p) p refl (λ k h. h) (λ h. grind (arith, h)) (λ _ k r. inr (inr (w_split cmp hash gives e i f fs k r))) (λ h. absurd (grind (arith, h, o.walking e i (f ∷ fs) can.0))) (λ k r. w_joined cmp hash gives e i f fs k lt r) (split_frames cmp hash gives e i f fs lt m.frames) m
@@ -144,8 +143,7 @@ module _ {K V F : Type 0} (cmp : K → K → Ordering) (total : IsTotalOrder cmp
   walks_lawful home s p (Claims e gr low) can o t g = tt
   walks_lawful home s p (Moves a i es n) can o t g = tt
   walks_lawful home s p (Reports a gr) can o t g = tt
-  walks_lawful home s p (Publishes a gr) can o t g = tt
-  walks_lawful home s p (PublishesTold e gr) can o t g = tt
+  walks_lawful home s p (Publishes e gr) can o t g = tt
   walks_lawful home s p (Reads e i f fs es n x) can o t g = read_lawful cmp total hash lawful gives home s p e i f fs es n x can t (o.walking e i (f ∷ fs) can.0) (subst (λ m. Progress cmp hash gives (s.call p) m s.trace p) can.0 g)
   walks_lawful home s p (Leaves e i f fs es n) can o t g = tt
   walks_lawful home s p (Splits e i f fs) can o t g = tt
@@ -170,8 +168,7 @@ module _ {K V F : Type 0} (cmp : K → K → Ordering) (total : IsTotalOrder cmp
   clears_lawful s p (Claims e gr low) can o g = tt
   clears_lawful s p (Moves a i es n) can o g = tt
   clears_lawful s p (Reports a gr) can o g = tt
-  clears_lawful s p (Publishes a gr) can o g = tt
-  clears_lawful s p (PublishesTold e gr) can o g = tt
+  clears_lawful s p (Publishes e gr) can o g = tt
   clears_lawful s p (Reads e i f fs es n x) can o g = tt
   clears_lawful s p (Leaves e i f fs es n) can o g = tt
   clears_lawful s p (Splits e i f fs) can o g = tt
@@ -211,8 +208,7 @@ module _ {K V F : Type 0} (cmp : K → K → Ordering) (total : IsTotalOrder cmp
   allows_now home s p (Claims e g low) can o t = tt
   allows_now home s p (Moves a i es n) can o t = tt
   allows_now home s p (Reports a g) can o t = tt
-  allows_now home s p (Publishes a g) can o t = tt
-  allows_now home s p (PublishesTold e g) can o t = tt
+  allows_now home s p (Publishes e g) can o t = tt
   allows_now home s p (Reads e i f fs es n x) can o t = tt
   allows_now home s p (Leaves e i f fs es n) can o t = tt
   allows_now home s p (Splits e i f fs) can o t = tt
@@ -223,8 +219,7 @@ module _ {K V F : Type 0} (cmp : K → K → Ordering) (total : IsTotalOrder cmp
 
   -- a growth that ends has moved every bin
   ready : (s : State K V F) (p : ℕ) (l : Transition K V F) → Can cmp hash gives s p l → ((q : ℕ) → PartyOk s q) → IsCut s → (e : ℕ) → growth_ended cmp total hash lawful gives l ≡ Some e → (s.published ≡ Some e) × ((i : ℕ) → i < 2 ^ e → s.slot e i ≡ Moved)
-  ready s p (Publishes a g) can o u e h = subst (λ e. (s.published ≡ Some e) × ((i : ℕ) → i < 2 ^ e → s.slot e i ≡ Moved)) (same_some h) (all_moved cmp hash gives s p a g can o u)
-  ready s p (PublishesTold d g) can o u e h = subst (λ e. (s.published ≡ Some e) × ((i : ℕ) → i < 2 ^ e → s.slot e i ≡ Moved)) (same_some h) (can.1, told_moved cmp hash gives s p d g can o u)
+  ready s p (Publishes d g) can o u e h = subst (λ e. (s.published ≡ Some e) × ((i : ℕ) → i < 2 ^ e → s.slot e i ≡ Moved)) (same_some h) (can.1, told_moved cmp hash gives s p d g can o u)
   ready s p l can o u e h = absurd (grind (arith, h))
 
   -- a step of the machine keeps the whole

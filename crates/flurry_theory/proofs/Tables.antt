@@ -8,7 +8,7 @@ use Rattle.std.proofs.lemmas.Nat.{mod_below, pow_pos}
 use Rattle.flurry_theory.specs.Map.{same, find, after, key_of, Allows}
 use Rattle.flurry_theory.specs.Trace.{map_after_decision, in_region, pairs, at}
 use Rattle.flurry_theory.specs.Bin.{Entry, pairs_of, IsAscending, InRegion, half}
-use Rattle.flurry_theory.specs.Machine.{State, Slot, Claim, Transition, Adds, Can, does, at_bin, Live, Moved, Unborn, Frame, Begins, Quiet, Loses, Counts, Finds, Opens, FindsNothing, IsRefused, DecidesEmpty, Passes, Decides, Places, Claims, Moves, Reports, Publishes, PublishesTold, Reads, Leaves, Splits, Wipes, SplitsClear, Replies, Ends}
+use Rattle.flurry_theory.specs.Machine.{State, Slot, Claim, Transition, Adds, Can, does, at_bin, Live, Moved, Unborn, Frame, Begins, Quiet, Loses, Counts, Finds, Opens, FindsNothing, IsRefused, DecidesEmpty, Passes, Decides, Places, Claims, Moves, Reports, Publishes, Reads, Leaves, Splits, Wipes, SplitsClear, Replies, Ends}
 use Rattle.flurry_theory.specs.Invariant.{PartyOk, is_live, Tables, home_after}
 use Rattle.flurry_theory.proofs.Bins.{find-after, find-after_other, find-half, ascending-half, region-half, find-wiped, in_a_half, in_low_half, in_high_half, small_mod, high_mod, double}
 use Rattle.flurry_model.specs.declared.call.Call.{Call}
@@ -173,8 +173,7 @@ module _ {K V F : Type 0} (cmp : K → K → Ordering) (total : IsTotalOrder cmp
 
   -- the table whose growth the transition ends
   abbrev pub growth_ended : Transition K V F → Option ℕ
-  growth_ended (Publishes a g) = Some a.table
-  growth_ended (PublishesTold e g) = Some e
+  growth_ended (Publishes e g) = Some e
   growth_ended l = None
 
   pub tables_ok : (home : ℕ → ℕ) (s : State K V F) (p : ℕ) (l : Transition K V F) → Can cmp hash gives s p l → PartyOk s p → ((e : ℕ) → growth_ended l ≡ Some e → (s.published ≡ Some e) × ((i : ℕ) → i < 2 ^ e → s.slot e i ≡ Moved)) → Tables cmp hash home s → Tables cmp hash (home_after home l) (does cmp hash gives s p l)
@@ -375,21 +374,7 @@ module _ {K V F : Type 0} (cmp : K → K → Ordering) (total : IsTotalOrder cmp
     was_moved = t.was_moved;
     is_moved = t.is_moved;
   }
-  tables_ok home s p (Publishes a g) can o ready t = record {
-    unmade = grind (arith, can, t.live, t.from, t.unmade, eqb-true, eqb-false, eq-eqb, ne_eqb, and_parts, and_cases);
-    from = λ f e. let w : (s.start ≤ a.table) × ((h : ℕ) → a.table ≤ home h) = t.from a.table (ready a.table refl).0 in (grind (arith, e, w.0), λ h. grind (arith, e, w.1 h, (ready a.table refl).1 (h % 2 ^ a.table) (mod_below h (2 ^ a.table) (pow_pos a.table)), t.live (grind (arith, (ready a.table refl).0)) h));
-    live = λ _. t.live (grind (arith, (ready a.table refl).0));
-    below = λ _. t.below (grind (arith, (ready a.table refl).0));
-    above = λ _. t.above (grind (arith, (ready a.table refl).0));
-    early = t.early;
-    outside = t.outside;
-    ascending = t.ascending;
-    empty = grind (arith, can, t.live, t.from, t.empty, eqb-true, eqb-false, eq-eqb, ne_eqb, and_parts, and_cases);
-    content = t.content;
-    was_moved = t.was_moved;
-    is_moved = t.is_moved;
-  }
-  tables_ok home s p (PublishesTold e g) can o ready t = record {
+  tables_ok home s p (Publishes e g) can o ready t = record {
     unmade = grind (arith, can, t.live, t.from, t.unmade, eqb-true, eqb-false, eq-eqb, ne_eqb, and_parts, and_cases);
     from = λ f h. let w : (s.start ≤ e) × ((j : ℕ) → e ≤ home j) = t.from e (ready e refl).0 in (grind (arith, h, w.0), λ j. grind (arith, h, w.1 j, (ready e refl).1 (j % 2 ^ e) (mod_below j (2 ^ e) (pow_pos e)), t.live (grind (arith, (ready e refl).0)) j));
     live = λ _. t.live (grind (arith, (ready e refl).0));

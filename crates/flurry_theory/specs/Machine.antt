@@ -111,10 +111,8 @@ pub data Transition (K V F : Type 0) : Type 0 where
   Moves : (a : Claim) (i : ℕ) (es : List (Entry K V)) (n : ℕ) → Transition K V F
   -- the party whose report is the last is told to publish
   Reports : (a : Claim) (g : Growth) → Transition K V F
-  -- the last report, and the publication, in one
-  Publishes : (a : Claim) (g : Growth) → Transition K V F
   -- the publication by the party that was told to
-  PublishesTold : (e : ℕ) (g : Growth) → Transition K V F
+  Publishes : (e : ℕ) (g : Growth) → Transition K V F
   Reads : (e i : ℕ) (f : Frame K) (fs : List (Frame K)) (es : List (Entry K V)) (n : ℕ) (x : Entry K V) → Transition K V F
   Leaves : (e i : ℕ) (f : Frame K) (fs : List (Frame K)) (es : List (Entry K V)) (n : ℕ) → Transition K V F
   Splits : (e i : ℕ) (f : Frame K) (fs : List (Frame K)) → Transition K V F
@@ -221,8 +219,7 @@ module _ {K V F : Type 0} where
     Can s p (Claims e g low) = (s.claim p ≡ None) × (p < s.parties) × (s.published ≡ Some e) × (s.growth ≡ Some g) × (low < g.unclaimed) × (is_lookup (s.call p) ≡ false)
     Can s p (Moves a i es n) = (s.claim p ≡ Some a) × (a.low ≤ i) × (a.left ≡ suc i) × (s.slot a.table i ≡ Live es n) × (is_lookup (s.call p) ≡ false)
     Can s p (Reports a g) = (s.claim p ≡ Some a) × (a.left ≡ a.low) × (s.growth ≡ Some g) × (is_lookup (s.call p) ≡ false)
-    Can s p (Publishes a g) = (s.claim p ≡ Some a) × (a.left ≡ a.low) × (s.growth ≡ Some g) × (g.reported + (a.high - a.low) ≡ 2 ^ a.table) × (is_lookup (s.call p) ≡ false)
-    Can s p (PublishesTold e g) = (s.told p ≡ Some e) × (s.published ≡ Some e) × (s.growth ≡ Some g) × (is_lookup (s.call p) ≡ false)
+    Can s p (Publishes e g) = (s.told p ≡ Some e) × (s.published ≡ Some e) × (s.growth ≡ Some g) × (is_lookup (s.call p) ≡ false)
     Can s p (Reads e i f fs es n x) = (s.mode p ≡ Walking e i (f ∷ fs)) × (s.slot f.table f.index ≡ Live es n) × (first_past cmp hash f.bound es ≡ Some x)
     Can s p (Leaves e i f fs es n) = (s.mode p ≡ Walking e i (f ∷ fs)) × (s.slot f.table f.index ≡ Live es n) × (first_past cmp hash f.bound es ≡ None)
     Can s p (Splits e i f fs) = (s.mode p ≡ Walking e i (f ∷ fs)) × (s.slot f.table f.index ≡ Moved)
@@ -272,8 +269,7 @@ module _ {K V F : Type 0} where
       claim = at_place s.claim p None;
       told = if is_complete a.table (with_report g a) then at_place s.told p (Some a.table) else s.told;
     }
-    effect s p (Publishes a g) = record s { published = Some (suc a.table); growth = None; claim = at_place s.claim p None }
-    effect s p (PublishesTold e g) = record s { published = Some (suc e); growth = None; told = at_place s.told p None }
+    effect s p (Publishes e g) = record s { published = Some (suc e); growth = None; told = at_place s.told p None }
     effect s p (Reads e i f fs es n x) = record s { seen = at_place s.seen p (Some (record { key = x.key; value = x.value; number = x.number })); mode = at_place s.mode p (Walking e i (record { table = f.table; index = f.index; bound = Some x.key } ∷ fs)) }
     effect s p (Leaves e i f fs es n) = goes s p (onward Walking (Done None 0 0) e i fs)
     effect s p (Splits e i f fs) = goes s p (Walking e i (halves f fs))
@@ -291,8 +287,7 @@ module _ {K V F : Type 0} where
     label p (Decides c k e es n r fs m) = Decide p r
     label p (Places e) = Placed (suc e)
     label p (Moves a i es n) = MovedBin a.table i
-    label p (Publishes a g) = Published (suc a.table)
-    label p (PublishesTold e g) = Published (suc e)
+    label p (Publishes e g) = Published (suc e)
     label p (Reads e i f fs es n x) = Read p x.key x.value
     label p (Wipes wiped e i f fs es n) = Wipe p f.table f.index
     label p (Replies r) = Replied p r
