@@ -1,4 +1,5 @@
 pub mod Acts
+pub mod Boards
 pub mod Decisions
 pub mod Events
 pub mod Moves
