@@ -11,20 +11,20 @@ use Rattle.flurry_model.specs.declared.call.Seen.{Seen}
 use Rattle.flurry_theory.specs.Machine.{Locating}
 use Rattle.flurry_theory.specs.Map.{key_of}
 use Rattle.flurry_world.specs.Runs.{theory_call, hash_for}
-use Rattle.flurry_world.specs.World.{PartyRecord, seen_in, mode_of_stage, claim_of_stage, FollowsStage}
-use Rattle.flurry_world.proofs.StateLaws.{same_some}
+use Rattle.flurry_world.specs.World.{PartyRecord, seen_in, mode_of_stage, FollowsStage}
+use Rattle.flurry_world.proofs.StateLaws.{held_of_stage, same_some}
 
 -- it goes by its key's hash, and stands where the machine's call begins
 pub record IsBeginning {K V F : Type 0} (hash : K → ℕ) (d : Call K V F) (c : PartyState K V F) : Type 0 where
   pub own_hash : (k : K) → key_of d ≡ Some k → c.hash ≡ hash k
   pub follows : FollowsStage hash d c.stage
   pub mode : mode_of_stage c.stage ≡ Locating
-  pub claim : claim_of_stage c.stage ≡ None
+  pub held : held_of_stage c.stage ≡ (None, None)
   pub unread : last_seen c.stage ≡ None
 
 module _ {K V F : Type 0} where
   -- the stage of a call that has its key
-  pub fresh_stage : (hash : K → ℕ) (c : OwnedCall K V F) → FollowsStage hash (theory_call c) (owned_stage c) × (mode_of_stage (owned_stage c) ≡ Locating) × (claim_of_stage (owned_stage c) ≡ None) × (last_seen (owned_stage c) ≡ None)
+  pub fresh_stage : (hash : K → ℕ) (c : OwnedCall K V F) → FollowsStage hash (theory_call c) (owned_stage c) × (mode_of_stage (owned_stage c) ≡ Locating) × (held_of_stage (owned_stage c) ≡ (None, None)) × (last_seen (owned_stage c) ≡ None)
   fresh_stage hash (owned.Get j) = (refl, refl, refl, refl)
   fresh_stage hash (owned.GetKeyValue j) = (refl, refl, refl, refl)
   fresh_stage hash (owned.ContainsKey j) = (refl, refl, refl, refl)
@@ -52,14 +52,14 @@ module _ {K V F : Type 0} where
   own_hash hash owned.Walk k h = cc
 
   -- a call that has its key
-  pub owned_begins : (hash : K → ℕ) (n : ℕ) (c : OwnedCall K V F) → IsBeginning hash (theory_call c) (record { hash = hash_for hash c; processors = n; stage = owned_stage c })
+  pub owned_begins : (hash : K → ℕ) (n : ℕ) (c : OwnedCall K V F) → IsBeginning hash (theory_call c) (record { hash = hash_for hash c; processors = n; helped = None; stage = owned_stage c })
   owned_begins hash n c =
-      let (follows, mode, claim, unread) = fresh_stage hash c in
-      record { own_hash = own_hash hash c; follows = follows; mode = mode; claim = claim; unread = unread }
+      let (follows, mode, held, unread) = fresh_stage hash c in
+      record { own_hash = own_hash hash c; follows = follows; mode = mode; held = held; unread = unread }
 
   -- the removal of a pair that a walk has read
-  pub drop_begins : (hash : K → ℕ) (n : ℕ) (z : Seen K V) → IsBeginning {F = F} hash (call.RemoveSeen z) (record { hash = hash z.key; processors = n; stage = AtLocate (RemovesSeen z) })
-  drop_begins hash n z = record { own_hash = λ k h. ap hash (same_some h); follows = refl; mode = refl; claim = refl; unread = refl }
+  pub drop_begins : (hash : K → ℕ) (n : ℕ) (z : Seen K V) → IsBeginning {F = F} hash (call.RemoveSeen z) (record { hash = hash z.key; processors = n; helped = None; stage = AtLocate (RemovesSeen z) })
+  drop_begins hash n z = record { own_hash = λ k h. ap hash (same_some h); follows = refl; mode = refl; held = refl; unread = refl }
 
   -- the walk with whose last read it begins has read that pair
   pub drop_origin : (xs : List (PartyRecord K V F)) (w : ℕ) (z : Seen K V) → seen_in (slice_get xs w) ≡ Some z → (v : ℕ) → Some w ≡ Some v → (y : Seen K V) × (seen_in (slice_get xs v) ≡ Some y) × (◌≡◌ {A = Call K V F} (call.RemoveSeen z) (call.RemoveSeen y))

@@ -15,10 +15,11 @@ use Rattle.flurry_theory.specs.Map.{same}
 use Rattle.flurry_theory.specs.Trace.{is_lookup}
 use Rattle.flurry_theory.specs.declared.Label.TheVariants as label
 use Rattle.flurry_world.specs.Tables.{Tables}
-use Rattle.flurry_world.specs.World.{PartyRecord, WorldState, Near, state_of, mode_in, claim_in, reply_in, mode_of_stage, claim_of_stage, FollowsStage, IsWorld}
+use Rattle.flurry_world.specs.World.{PartyRecord, WorldState, Near, state_of, mode_in, claim_in, told_in, reply_in, mode_of_stage, claim_of_stage, told_of_stage, FollowsStage, IsWorld}
 use Rattle.flurry_world.specs.Steps.{label_of}
+use Rattle.flurry_world.proofs.StateLaws.{held_of_stage}
 use Rattle.flurry_world.proofs.TransitionLaws.{is_quiet, is_counted}
-use Rattle.flurry_world.proofs.Frames.{same_frame, IsStep, in_range}
+use Rattle.flurry_world.proofs.Frames.{same_frame, counted_frame, IsStep, in_range}
 
 module _ {K V F S : Type 0} (cmp : K → K → Ordering) (total : IsTotalOrder cmp) (hash : K → ℕ) (lawful : (j k : K) → same cmp j k ≡ true → hash j ≡ hash k) (gives : F → K → V → Option V → Type 0) (w : WorldState K V F S) (k : IsWorld cmp hash gives w) (p : ℕ) (x : PartyRecord K V F) (at : slice_get w.party_records p ≡ Some x) (c : PartyState K V F) where
   -- the machine's view of the party
@@ -30,6 +31,9 @@ module _ {K V F S : Type 0} (cmp : K → K → Ordering) (total : IsTotalOrder c
 
   pub in_claim : (s : Stage K V F) → x.party_state.stage ≡ s → (state_of w).claim p ≡ claim_of_stage s
   in_claim s e = ap claim_in at ∙ ap claim_of_stage e
+
+  pub in_told : (s : Stage K V F) → x.party_state.stage ≡ s → (state_of w).told p ≡ told_of_stage s
+  in_told s e = ap told_in at ∙ ap told_of_stage e
 
   pub no_lookup : is_lookup (Some x.call) ≡ false → is_lookup ((state_of w).call p) ≡ false
   no_lookup h = ap is_lookup calls ∙ h
@@ -44,26 +48,26 @@ module _ {K V F S : Type 0} (cmp : K → K → Ordering) (total : IsTotalOrder c
       (subst (λ z. IsStep cmp hash gives w p x b' t' c (label_of p ev' z)) (sym f) step)))
 
   -- a step that changes nothing which the machine sees
-  pub quiet : (s : Stage K V F) → x.party_state.stage ≡ s → mode_of_stage c.stage ≡ mode_of_stage s → claim_of_stage c.stage ≡ claim_of_stage s → is_lookup (Some x.call) ≡ false → FollowsStage hash x.call c.stage
+  pub quiet : (s : Stage K V F) → x.party_state.stage ≡ s → mode_of_stage c.stage ≡ mode_of_stage s → held_of_stage c.stage ≡ held_of_stage s → is_lookup (Some x.call) ≡ false → FollowsStage hash x.call c.stage
       → IsStep cmp hash gives w p x w.control_state w.tables c (label.Silent p)
   quiet s e mode claim lookup follows = record {
     transition = Quiet;
     can = λ h. absurd (grind (arith, h, no_lookup lookup));
-    is = is_quiet cmp hash gives w p x at c (mode ∙ sym (in_mode s e)) (claim ∙ ap claim_of_stage (sym e));
+    is = is_quiet cmp hash gives w p x at c (mode ∙ sym (in_mode s e)) (claim ∙ ap held_of_stage (sym e));
     follows = follows;
     frame = same_frame cmp hash gives w k;
   }
 
   -- a step that counts
-  pub counts : (s : Stage K V F) (r : Outcome K V) (added removed : ℕ) (d : ℤ) → x.party_state.stage ≡ s → mode_of_stage s ≡ Done (reply_in r) added removed → claim_of_stage s ≡ None → Near (2 ^ 62) w.control_state.count → d ≡ pos added -ℤ pos removed → added + removed ≤ 1
-      → mode_of_stage c.stage ≡ Done (reply_in r) 0 0 → claim_of_stage c.stage ≡ None → is_lookup (Some x.call) ≡ false → FollowsStage hash x.call c.stage
+  pub counts : (s : Stage K V F) (r : Outcome K V) (added removed : ℕ) (d : ℤ) → x.party_state.stage ≡ s → mode_of_stage s ≡ Done (reply_in r) added removed → held_of_stage s ≡ (None, None) → Near (2 ^ 62) w.control_state.count → d ≡ pos added -ℤ pos removed → added + removed ≤ 1
+      → mode_of_stage c.stage ≡ Done (reply_in r) 0 0 → held_of_stage c.stage ≡ (None, None) → is_lookup (Some x.call) ≡ false → FollowsStage hash x.call c.stage
       → IsStep cmp hash gives w p x (control.after_count d w.control_state) w.tables c (label.Silent p)
   counts s r added removed d e before none near delta small mode claim lookup follows = record {
     transition = Counts (λ q. p == q);
     can = no_lookup lookup;
-    is = is_counted cmp hash gives w p x at c (reply_in r) added removed _ (in_mode s e ∙ before) summed mode (claim ∙ sym (ap claim_of_stage e ∙ none));
+    is = is_counted cmp hash gives w p x at c (reply_in r) added removed _ (in_mode s e ∙ before) summed mode (claim ∙ sym (ap held_of_stage e ∙ none));
     follows = follows;
-    frame = record { hashed = k.hashed; control_state = record { published = k.control_state.published; growth = k.control_state.growth }; tables = k.tables; unmade = k.unmade; next = k.next };
+    frame = counted_frame cmp hash gives w d k;
   }
     where
       summed : saturate_signed w64 (w.control_state.count +ℤ d) ≡ w.control_state.count +ℤ pos added -ℤ pos removed

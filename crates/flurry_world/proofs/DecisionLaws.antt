@@ -29,7 +29,8 @@ use Rattle.flurry_model.specs.declared.call.Call.{Call}
 use Rattle.flurry_model.specs.declared.call.Call.TheVariants.{Get, GetKeyValue, ContainsKey, Insert, TryInsert, Compute, Remove, RemoveEntry, RemoveSeen, Reserve, Clear, Walk}
 use Rattle.flurry_theory.proofs.BinSteps.{bin_did}
 use Rattle.flurry_world.specs.Entries.{entries_of_held, IsHashed}
-use Rattle.flurry_world.specs.World.{task_of_call, mode_of_stage, claim_of_stage, HasDecided, FollowsStage}
+use Rattle.flurry_world.specs.World.{task_of_call, mode_of_stage, HasDecided, FollowsStage}
+use Rattle.flurry_world.proofs.StateLaws.{held_of_stage}
 use Rattle.flurry_world.proofs.EntryLaws.{next_number-bump, length-entries_of_held, InRegion-entries, IsAscending-entries, find-entries, number-entries, place-entries, rewrite-entries, write-entries, leave_out-none, leave_out-entries, IsHashed-with_pair, IsHashed-without}
 
 -- ---- where a call stands that has decided
@@ -39,7 +40,7 @@ module _ {K V F : Type 0} (hash : K → ℕ) where
   record HasReply (c : Call K V F) (r : KeptReply K V) (s : Stage K V F) (gained lost : ℕ) : Type 0 where
     pub said : outcome_in s ≡ Some (OutcomeReply r)
     pub mode : mode_of_stage s ≡ Done (Some r) gained lost
-    pub claim : claim_of_stage s ≡ None
+    pub claim : held_of_stage s ≡ (None, None)
     pub follows : FollowsStage hash c s
 
   has_decided : (c : Call K V F) (r : KeptReply K V) → IsSome (key_of c) → is_lookup (Some c) ≡ false → HasDecided c (OutcomeReply r)
@@ -68,7 +69,7 @@ pub record Decision {K V F : Type 0} (cmp : K → K → Ordering) (hash : K → 
   pub in_region : InRegion hash e i (entries_of_held d.held)
   pub hashed : IsHashed hash d.held
   pub mode : mode_of_stage s ≡ Done (Some reply) (length (entries_of_held d.held) - length (entries_of_held b.held)) (length (entries_of_held b.held) - length (entries_of_held d.held))
-  pub claim : claim_of_stage s ≡ None
+  pub claim : held_of_stage s ≡ (None, None)
   pub follows : FollowsStage hash c s
 
 -- ---- what a bin has at a key
@@ -344,7 +345,7 @@ module _ {K V F : Type 0} where
   moved_mode (Adds k v) e = ap Looking (add-one e)
   moved_mode (Computes k f) e = ap Looking (add-one e)
 
-  pub moved_claim : (t : Task K V F) (e : ℕ) → claim_of_stage (stage_moved t e) ≡ None
+  pub moved_claim : (t : Task K V F) (e : ℕ) → held_of_stage (stage_moved t e) ≡ (None, None)
   moved_claim (Finds w k) e = refl
   moved_claim (Removes w k) e = refl
   moved_claim (RemovesSeen z) e = refl

@@ -5,7 +5,7 @@ use Rattle.std.specs.Cmp.{IsTotalOrder}
 use Rattle.std.proofs.Common.{refl, sym, ◌∙◌, ap, subst, inl, inr}
 use Rattle.flurry_model.specs.declared.reply.KeptReply.{KeptReply}
 use Rattle.flurry_calls.specs.Outcome.{OutcomeReply, OutcomeEnded, OutcomeRefused}
-use Rattle.flurry_steps.specs.Party.{ForInsert, ForReserve, Stage, AtLocate, AtBin, AtClaim, AtMove, AtUncount, AtCount, AtRecount, AtBegin, AtGrow, AtReserve, AtSweep, AtDone, AtTaken}
+use Rattle.flurry_steps.specs.Party.{ForInsert, ForReserve, Stage, AtLocate, AtBin, AtHelp, AtUncount, AtCount, AtRecount, AtBegin, AtGrow, AtReserve, AtSweep, AtDone, AtTaken}
 use Rattle.flurry_theory.specs.Map.{same, key_of}
 use Rattle.flurry_theory.specs.Machine.{Mode, Locating, Looking, Done, Finished}
 use Rattle.flurry_theory.specs.Trace.{is_lookup, decision, has_replied, has_closed}
@@ -59,8 +59,7 @@ module _ {K V F S : Type 0} (cmp : K → K → Ordering) (total : IsTotalOrder c
     by_stage : (s : Stage K V F) → x.party_state.stage ≡ s → FollowsStage hash x.call s → x.party_state.stage ≡ AtDone (OutcomeReply r)
     by_stage (AtLocate t) e f = absurd (other_mode Locating (in_mode cmp total hash lawful gives w k p x at x.party_state (AtLocate t) e) (λ q a b h. cc) (λ h. cc))
     by_stage (AtBin t n) e f = absurd (other_mode (Looking n) (in_mode cmp total hash lawful gives w k p x at x.party_state (AtBin t n) e) (λ q a b h. cc) (λ h. cc))
-    by_stage (AtClaim a) e f = absurd (writes_not (helper_writes x.call a f))
-    by_stage (AtMove m a) e f = absurd (writes_not (helper_writes x.call a f))
+    by_stage (AtHelp h a) e f = absurd (writes_not (helper_writes x.call a f))
     by_stage (AtUncount s) e f = absurd (writes_not f.writes)
     by_stage (AtCount s) e f = absurd (writes_not f.writes)
     by_stage (AtRecount s) e f = absurd (writes_not f.writes)

@@ -14,11 +14,13 @@ pub mod HomeLaws
 pub mod SlotCases
 pub mod MoveCases
 pub mod PartyCases
+pub mod LossLaws
 pub mod WorldLaws
 pub mod ThereLaws
 pub mod NewLaws
 mod ViewLemmas
 mod MoveLemmas
+mod BoardLemmas
 pub mod PartsLaws
 pub mod BeginLaws
 pub mod WorldSteps

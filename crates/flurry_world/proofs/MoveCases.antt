@@ -6,9 +6,9 @@ use Rattle.std.proofs.Common.{arith, refl, sym, ◌∙◌, ap, subst, inl, inr}
 use Rattle.std.proofs.lemmas.Bool.{ltb-true}
 use Rattle.flurry_slots.specs.Slot as slots
 use Rattle.flurry_slots.specs.Slot.{SlotState, Content, IsLive, HasMoved, IsUnborn, IsSlot, IsLiveIn, IsContent, AreHalves, IfLive, half}
-use Rattle.flurry_control.specs.Claim.{Range, next_of, moved_on}
+use Rattle.flurry_control.specs.Claim.{ClaimState, next_of, moved_on}
 use Rattle.flurry_control.specs.Control.{ControlState}
-use Rattle.flurry_steps.specs.Party.{Resume, AtMove, PartyState, with_stage}
+use Rattle.flurry_steps.specs.Party.{Resume, Moving, AtHelp, PartyState, with_stage}
 use Rattle.flurry_steps.specs.PartySlots.{MoveGives, moved_stage}
 use Rattle.flurry_calls.specs.declared.step.Event.{Event}
 use Rattle.flurry_calls.specs.declared.step.Event.TheVariants as event
@@ -20,14 +20,15 @@ use Rattle.flurry_theory.specs.Invariant.{is_live}
 use Rattle.flurry_theory.specs.declared.Label.TheVariants as label
 use Rattle.flurry_world.specs.Entries.{slot_of, entries_of_held, IsHashed}
 use Rattle.flurry_world.specs.Tables.{Tables, slots_of, place_at, content_at, put_place}
-use Rattle.flurry_world.specs.World.{PartyRecord, WorldState, state_of, mode_of_stage, claim_of_stage, FollowsResume, FollowsStage, IsWorld}
+use Rattle.flurry_world.specs.World.{PartyRecord, WorldState, state_of, mode_of_stage, machine_claim, told_of_stage, FollowsResume, FollowsStage, IsWorld}
 use Rattle.flurry_world.specs.Steps.{label_of}
+use Rattle.flurry_world.proofs.StateLaws.{held_of_stage}
 use Rattle.flurry_world.proofs.EntryLaws.{IsHashed-filter, low-entries, high-entries}
 use Rattle.flurry_world.proofs.TableLaws.{content_of_place, place_at-put_other, AreTables-put, length_of_put_slots}
 use Rattle.flurry_world.proofs.TransitionLaws.{is_moved}
 use Rattle.flurry_world.proofs.HomeLaws.{low_unborn, high_unborn, unborn_content, put_content}
 use Rattle.flurry_world.proofs.ClaimCases.{helper_writes}
-use Rattle.flurry_world.proofs.Frames.{IsStep}
+use Rattle.flurry_world.proofs.Frames.{same_growth, IsStep}
 use Rattle.flurry_world.proofs.Cases.{in_mode, in_claim, no_lookup}
 
 none_is_not_some : {e : ℕ} → None ≡ Some e → ⊥
@@ -38,30 +39,30 @@ no_slots a [] h e = refl
 no_slots a (y ∷ b) h e = let none : length a ≡ 0 = ap length e in absurd (omega (arith, h, none))
 
 module _ {K V F S : Type 0} (cmp : K → K → Ordering) (total : IsTotalOrder cmp) (hash : K → ℕ) (lawful : (j k : K) → same cmp j k ≡ true → hash j ≡ hash k) (gives : F → K → V → Option V → Type 0) (w : WorldState K V F S) (k : IsWorld cmp hash gives w) (p : ℕ) (x : PartyRecord K V F) (at : slice_get w.party_records p ≡ Some x) (c : PartyState K V F) where
-  module _ (m : Range) (a : Resume K V F) (f : x.party_state.stage ≡ AtMove m a) (had : FollowsResume x.call a) (e i : ℕ) (next : next_of m ≡ Some (e, i)) (q low high : SlotState K V)
+  module _ (m : ClaimState) (a : Resume K V F) (f : x.party_state.stage ≡ AtHelp (Moving m) a) (had : FollowsResume x.call a) (e i : ℕ) (next : next_of m ≡ Some (e, i)) (q low high : SlotState K V)
       (q_at : place_at w.tables e i ≡ Some q) (low_at : place_at w.tables (e + 1) i ≡ Some low) (high_at : place_at w.tables (e + 1) (i + 2 ^ e) ≡ Some high) (inside : IsSlot cmp q) where
     abbrev held : machine.Claim
-    held = record { table = m.table; low = m.low; left = m.left; high = m.high }
+    held = machine_claim m
 
     holds : (state_of w).claim p ≡ Some held
-    holds = in_claim cmp total hash lawful gives w k p x at c (AtMove m a) f
+    holds = in_claim cmp total hash lawful gives w k p x at c (AtHelp (Moving m) a) f
 
-    claim_ok : (w.control_state.published ≡ Some m.table) × (m.low < m.high) × (m.low ≤ m.left) × (m.left ≤ m.high) × (m.high ≤ 2 ^ m.table)
+    claim_ok : (w.control_state.published ≡ Some m.range.table) × (m.range.low < m.range.high) × (m.range.low ≤ m.left) × (m.left ≤ m.range.high) × (m.range.high ≤ 2 ^ m.range.table)
     claim_ok = k.state.1.cut.claims p held holds
 
     -- the bin that is moved next
     pub record IsNext : Type 0 where
-      pub table : e ≡ m.table
+      pub table : e ≡ m.range.table
       pub left : m.left ≡ suc i
-      pub above : m.low ≤ i
+      pub above : m.range.low ≤ i
 
     is_next : IsNext
-    is_next = by_test (nat_lt m.low m.left) refl next
+    is_next = by_test (nat_lt m.range.low m.left) refl next
       where
-        by_test : (b : Bool) → nat_lt m.low m.left ≡ b → cond {A = Option (ℕ × ℕ)} b (Some (m.table, m.left - 1)) None ≡ Some (e, i) → IsNext
+        by_test : (b : Bool) → nat_lt m.range.low m.left ≡ b → cond {A = Option (ℕ × ℕ)} b (Some (m.range.table, m.left - 1)) None ≡ Some (e, i) → IsNext
         by_test true g h =
-            let less : m.low < m.left = ltb-true m.low m.left g in
-            let same_table : e ≡ m.table = ap (λ o. table_or o) (sym h) in
+            let less : m.range.low < m.left = ltb-true m.range.low m.left g in
+            let same_table : e ≡ m.range.table = ap (λ o. table_or o) (sym h) in
             let same_index : i ≡ m.left - 1 = ap (λ o. index_or o) (sym h) in
             record { table = same_table; left = omega (arith, same_index, less); above = omega (arith, same_index, less) }
           where
@@ -81,7 +82,7 @@ module _ {K V F S : Type 0} (cmp : K → K → Ordering) (total : IsTotalOrder c
     next_table = omega arith
 
     in_table : i < 2 ^ e
-    in_table = let top : m.high ≤ 2 ^ e = subst (λ n. m.high ≤ 2 ^ n) (sym is_next.table) claim_ok.4 in omega (arith, top, claim_ok.3, is_next.left)
+    in_table = let top : m.range.high ≤ 2 ^ e = subst (λ n. m.range.high ≤ 2 ^ n) (sym is_next.table) claim_ok.4 in omega (arith, top, claim_ok.3, is_next.left)
 
     made : is_some (state_of w).published ≡ true
     made = ap is_some at_table
@@ -146,32 +147,36 @@ module _ {K V F S : Type 0} (cmp : K → K → Ordering) (total : IsTotalOrder c
           ∙ ap (λ z. if e + 1 == d && i == j then low'.content else z) (put_content w.tables e i q' (ap is_some q_at) d j))
 
       sizes : (d : ℕ) → length (slots_of moved_tables d) ≡ length (slots_of w.tables d)
-      sizes d = length_of_put_slots _ (e + 1) (i + 2 ^ e) high' d ∙ length_of_put_slots _ (e + 1) i low' d ∙ length_of_put_slots w.tables e i q' d
+      sizes d = length_of_put_slots (put_place (put_place w.tables e i q') (e + 1) i low') (e + 1) (i + 2 ^ e) high' d ∙ length_of_put_slots (put_place w.tables e i q') (e + 1) i low' d ∙ length_of_put_slots w.tables e i q' d
 
       moves : (b : slots.Live K V) (t' : Tables K V) → q.content ≡ IsLive b → t' ≡ moved_tables → q' ≡ record q { content = HasMoved } → low' ≡ record low { content = IsLive (half q.table 0 b) } → high' ≡ record high { content = IsLive (half q.table 1 b) }
           → c ≡ with_stage x.party_state (moved_stage x.party_state.stage) → IsStep cmp hash gives w p x w.control_state t' c (label.Moved e i)
       moves b t' live after q_after low_after high_after goes = subst (λ z. IsStep cmp hash gives w p x w.control_state z c (label.Moved e i)) (sym after) (subst (λ z. IsStep cmp hash gives w p x w.control_state moved_tables c (label.Moved z i)) (sym is_next.table) (record {
         transition = Moves held i (entries_of_held b.held) b.writes;
         can = (holds, is_next.above, is_next.left, ap (λ n. slot_of (content_at w.tables n i)) (sym is_next.table) ∙ ap slot_of (q_here ∙ live), no_lookup cmp total hash lawful gives w k p x at c (helper_writes x.call a had));
-        is = is_moved cmp hash gives w p x at c held i (entries_of_held b.held) b.writes moved_tables (λ d j. subst (λ n. slot_of (content_at moved_tables d j) ≡ at_bin (at_bin (at_bin (state_of w).slot n i Moved) (suc n) i (Live (bin.half hash (suc n) i (entries_of_held b.held)) b.writes)) (suc n) (i + 2 ^ n) (Live (bin.half hash (suc n) (i + 2 ^ n) (entries_of_held b.held)) b.writes) d j) is_next.table (slots_after d j)) (mode_after) claim_after;
+        is = is_moved cmp hash gives w p x at c held i (entries_of_held b.held) b.writes moved_tables (same_growth w.control_state.growth w.tables moved_tables refl) (λ d j. subst (λ n. slot_of (content_at moved_tables d j) ≡ at_bin (at_bin (at_bin (state_of w).slot n i Moved) (suc n) i (Live (bin.half hash (suc n) i (entries_of_held b.held)) b.writes)) (suc n) (i + 2 ^ n) (Live (bin.half hash (suc n) (i + 2 ^ n) (entries_of_held b.held)) b.writes) d j) is_next.table (slots_after d j)) (mode_after) claim_after;
         follows = subst (FollowsStage hash x.call) (sym stage_after) had;
         frame = record {
           hashed = λ d j l h. hashed_in d j l (e + 1 == d && i + 2 ^ e == j) (e + 1 == d && i == j) (e == d && i == j) (sym (contents d j) ∙ h);
           control_state = k.control_state;
           tables = AreTables-put _ (e + 1) (i + 2 ^ e) high' high (AreTables-put _ (e + 1) i low' low (AreTables-put w.tables e i q' q k.tables q_at (ap (λ z. z.table) q_after) (ap (λ z. z.index) q_after)) low_there (ap (λ z. z.table) low_after) (ap (λ z. z.index) low_after)) high_there (ap (λ z. z.table) high_after) (ap (λ z. z.index) high_after);
           unmade = λ h. absurd (none_is_not_some (sym h ∙ at_table));
-          next = λ g u r h s z. k.next g u r h s (no_slots _ _ (sizes (suc g)) z);
+          next = λ g h z. k.next g h (no_slots _ _ (sizes (suc g)) z);
+          running = k.running;
+          over = k.over;
         };
       }))
         where
-          stage_after : c.stage ≡ AtMove (moved_on m) a
+          stage_after : c.stage ≡ AtHelp (Moving (moved_on m)) a
           stage_after = ap (λ z. z.stage) goes ∙ ap moved_stage f
 
           mode_after : mode_of_stage c.stage ≡ (state_of w).mode p
-          mode_after = ap mode_of_stage stage_after ∙ sym (in_mode cmp total hash lawful gives w k p x at c (AtMove m a) f)
+          mode_after = ap mode_of_stage stage_after ∙ sym (in_mode cmp total hash lawful gives w k p x at c (AtHelp (Moving m) a) f)
 
-          claim_after : claim_of_stage c.stage ≡ Some (record { table = m.table; low = m.low; left = i; high = m.high })
-          claim_after = ap claim_of_stage stage_after ∙ ap (λ n. Some (record { table = m.table; low = m.low; left = n; high = m.high })) (let n : m.left - 1 ≡ i = omega (arith, is_next.left) in n)
+          claim_after : held_of_stage c.stage ≡ (Some (record { table = m.range.table; low = m.range.low; left = i; high = m.range.high }), told_of_stage x.party_state.stage)
+          claim_after =
+              ap held_of_stage stage_after ∙ ap (λ n. (Some (record { table = m.range.table; low = m.range.low; left = n; high = m.range.high }), None)) (let n : m.left - 1 ≡ i = omega (arith, is_next.left) in n)
+              ∙ ap (λ o. (Some (record { table = m.range.table; low = m.range.low; left = i; high = m.range.high }), o)) (sym (ap told_of_stage f))
 
           inside_live : IsLiveIn cmp q.table q.index b
           inside_live = subst (IsContent cmp q.table q.index) live inside.content

@@ -4,22 +4,26 @@ use Rattle.std.specs.declared.cmp.Ordering.{Ordering}
 use Rattle.std.proofs.Common.{arith, inl, inr, refl, sym, ◌∙◌, ap, subst}
 use Rattle.flurry_slots.specs.Slot.{SlotState}
 use Rattle.flurry_control.specs.Control.{ControlState}
-use Rattle.flurry_calls.specs.Part.{Part, ControlPart, LookPart, BinPart, MovePart, NoPart}
-use Rattle.flurry_steps.specs.Party.{Stage, AtLocate, AtBin, AtClaim, AtMove, AtUncount, AtCount, AtRecount, AtBegin, AtGrow, AtReserve, AtSweep, AtDone, AtTaken, PartyState, part_of, wanted_part}
+use Rattle.flurry_calls.specs.Part.{Part, ControlPart, LookPart, BinPart, MovePart, SeatPart, BoardPart, GivePart, NoPart}
+use Rattle.flurry_steps.specs.Party.{Stage, AtLocate, AtBin, AtHelp, AtUncount, AtCount, AtRecount, AtBegin, AtGrow, AtReserve, AtSweep, AtDone, AtTaken, PartyState, part_of, wanted_part}
 use Rattle.flurry_steps.specs.PartyControl.{ControlStep}
-use Rattle.flurry_steps.specs.Field.{Loan, ControlLoan, StartLoan, TallyLoan, LookLoan, BinLoan, MoveLoan, StepWith, Turn}
+use Rattle.flurry_steps.specs.Field.{Loan, ControlLoan, StartLoan, TallyLoan, LookLoan, BinLoan, MoveLoan, BoardLoan, board_of, StepWith, Turn}
 use Rattle.flurry_calls.specs.declared.step.Event.{Event}
 use Rattle.flurry_steps.proofs.Rooms.{control_in}
 use Rattle.flurry_world.specs.Tables.{Tables, AreTables, place_at, put_place, PlaceGives}
-use Rattle.flurry_world.specs.Parts.{Parts, IsOwn, IsPart, OwnLends, PartStep, IsThere}
+use Rattle.flurry_world.specs.Parts.{Parts, IsOwn, IsPart, OwnLends, AtBoardOf, PartStep, IsThere}
 use Rattle.flurry_calls.specs.Sweep.{SweepState, SweepStage, AtOutset, OverBins, AtTotal, AtEnd, AfterEnd, part_at}
 use Rattle.flurry_world.specs.Steps.{label_of, GoesOn, StepBySweep, StepByStage}
 use Rattle.flurry_world.proofs.TableLaws.{place_in, index_within}
+use Rattle.flurry_world.proofs.StateLaws.{same_some}
 use Rattle.flurry_model.specs.declared.sizes.TheConstants.{GREATEST_TABLE}
 
 module _ {K V F : Type 0} (cmp : K → K → Ordering) (changes : F → K → V → Option V → Type 0) (c : PartyState K V F) (b : ControlState) (t : Tables K V) (are : AreTables t) (ev : Event) (c' : PartyState K V F) (b' : ControlState) (t' : Tables K V) where
   abbrev pub PartTurn : Type 0
   PartTurn = Turn PlaceGives cmp changes OwnLends (record { control_state = b; tables = t }) c ev (record { control_state = b'; tables = t' }) c'
+
+  at_board : (e : ℕ) → board_of (wanted_part c) ≡ Some e → AtBoardOf e c b t ev c' b' t' → PartTurn
+  at_board e want (x, h, gives, same) = record { loan = BoardLoan e x; lent = (tt, (gives, same)); step = (want, h) }
 
   pub turn_of : (a : Part) → wanted_part c ≡ a → PartStep cmp changes a c b t ev c' b' t' → PartTurn
   turn_of ControlPart want h = record { loan = ControlLoan b t b' t'; lent = (tt, (refl, refl)); step = (want, h) }
@@ -55,6 +59,9 @@ module _ {K V F : Type 0} (cmp : K → K → Ordering) (changes : F → K → V 
         );
         step = (want ∙ (λ j. MovePart (sym f j) (sym g j)), inside, h);
       }
+  turn_of (SeatPart e) want h = at_board e (ap board_of want) h
+  turn_of (BoardPart e) want h = at_board e (ap board_of want) h
+  turn_of (GivePart e) want h = at_board e (ap board_of want) h
   turn_of NoPart want h = absurd h
 
 -- the greatest table has no halves, and neither has a slot past the table's end
@@ -72,7 +79,18 @@ no_halves {K} {V} t e i are (inr past) (here, low, high) = by_place (place_at t 
 
 -- ---- a turn over parts, as a step at these
 
-module _ {K V F R : Type 0} (place : R → ℕ → Bool → Bool → R → Type 0) (cmp : K → K → Ordering) (changes : F → K → V → Option V → Type 0) (room : R → Tables K V) (places : (r : R) (e : ℕ) (live ok : Bool) (r' : R) → place r e live ok r' → PlaceGives (room r) e live ok (room r')) (s s' : Parts K V) (c c' : PartyState K V F) (ev : Event) where
+module _ {K V F R : Type 0} (place : R → ℕ → Option ℕ → Bool → R → Type 0) (cmp : K → K → Ordering) (changes : F → K → V → Option V → Type 0) (room : R → Tables K V) (places : (r : R) (e : ℕ) (g : Option ℕ) (ok : Bool) (r' : R) → place r e g ok r' → PlaceGives (room r) e g ok (room r')) (s s' : Parts K V) (c c' : PartyState K V F) (ev : Event) where
+  -- a step at a board, whichever of its parts is wanted
+  board_part : (a : Part) (e : ℕ) → board_of a ≡ Some e → AtBoardOf e c s.control_state s.tables ev c' s'.control_state s'.tables → PartStep cmp changes a c s.control_state s.tables ev c' s'.control_state s'.tables
+  board_part (SeatPart d) e is h = subst (λ n. AtBoardOf n c s.control_state s.tables ev c' s'.control_state s'.tables) (sym (same_some is)) h
+  board_part (BoardPart d) e is h = subst (λ n. AtBoardOf n c s.control_state s.tables ev c' s'.control_state s'.tables) (sym (same_some is)) h
+  board_part (GivePart d) e is h = subst (λ n. AtBoardOf n c s.control_state s.tables ev c' s'.control_state s'.tables) (sym (same_some is)) h
+  board_part ControlPart e is h = let clash : None ≡ Some e = is in cc
+  board_part (LookPart d i) e is h = let clash : None ≡ Some e = is in cc
+  board_part (BinPart d i) e is h = let clash : None ≡ Some e = is in cc
+  board_part (MovePart d i) e is h = let clash : None ≡ Some e = is in cc
+  board_part NoPart e is h = let clash : None ≡ Some e = is in cc
+
   -- a step with the loan of a part that is one of these
   pub own_part : (l : Loan K V R) → IsPart l → IsOwn room s l s' → StepWith place cmp changes l c ev c' → PartStep cmp changes (wanted_part c) c s.control_state s.tables ev c' s'.control_state s'.tables
   own_part (ControlLoan b r b' r') i (x, y) (want, h) = subst (λ z. PartStep cmp changes z c s.control_state s.tables ev c' s'.control_state s'.tables) (sym want)
@@ -82,6 +100,7 @@ module _ {K V F R : Type 0} (place : R → ℕ → Bool → Bool → R → Type 
   own_part (LookLoan q) i (x, y) (want, inside, h) = subst (λ z. PartStep cmp changes z c s.control_state s.tables ev c' s'.control_state s'.tables) (sym want) (q, x, inside, h, ap (λ z. z.control_state) y, ap (λ z. z.tables) y)
   own_part (BinLoan q q') i (x, y) (want, inside, h) = subst (λ z. PartStep cmp changes z c s.control_state s.tables ev c' s'.control_state s'.tables) (sym want) (q, q', x, inside, h, ap (λ z. z.control_state) y, ap (λ z. z.tables) y)
   own_part (MoveLoan q low high q' low' high') i (x, xl, xh, y) (want, inside, h) = subst (λ z. PartStep cmp changes z c s.control_state s.tables ev c' s'.control_state s'.tables) (sym want) (q, low, high, q', low', high', x, xl, xh, inside, h, ap (λ z. z.control_state) y, ap (λ z. z.tables) y)
+  own_part (BoardLoan e x) i (gives, same) (want, h) = board_part (wanted_part c) e want (x, h, gives, same)
 
 module _ {K V F : Type 0} (cmp : K → K → Ordering) (changes : F → K → V → Option V → Type 0) (p : ℕ) (c : PartyState K V F) (s : Parts K V) (ev : Event) (s' : Parts K V) (c' : PartyState K V F) where
   -- a turn over one owner's parts is what a world does in one step of a party
@@ -89,7 +108,7 @@ module _ {K V F : Type 0} (cmp : K → K → Ordering) (changes : F → K → V 
   course_step turn = by_stage c.stage refl
     where
       part : PartStep cmp changes (wanted_part c) c s.control_state s.tables ev c' s'.control_state s'.tables
-      part = own_part PlaceGives cmp changes (λ r. r) (λ r e live ok r' h. h) s s' c c' ev turn.loan turn.lent.0 turn.lent.1 turn.step
+      part = own_part PlaceGives cmp changes (λ r. r) (λ r e g ok r' h. h) s s' c c' ev turn.loan turn.lent.0 turn.lent.1 turn.step
 
       going : GoesOn cmp changes p c s.control_state s.tables (label_of p ev c'.stage) c' s'.control_state s'.tables
       going = record { event = ev; part = part; label_is = refl }
@@ -104,8 +123,7 @@ module _ {K V F : Type 0} (cmp : K → K → Ordering) (changes : F → K → V 
       by_stage : (u : Stage K V F) → c.stage ≡ u → StepByStage cmp changes p u c s.control_state s.tables (label_of p ev c'.stage) c' s'.control_state s'.tables
       by_stage (AtLocate t) e = going
       by_stage (AtBin t n) e = going
-      by_stage (AtClaim a) e = going
-      by_stage (AtMove m a) e = going
+      by_stage (AtHelp h a) e = going
       by_stage (AtUncount r) e = going
       by_stage (AtCount r) e = going
       by_stage (AtRecount r) e = going

@@ -5,17 +5,17 @@ use Rattle.std.specs.Cmp.{IsTotalOrder}
 use Rattle.std.proofs.Common.{refl, sym, ap, subst, inl, inr}
 use Rattle.std.proofs.lemmas.Bool.{eqb-true, and_parts}
 use Rattle.flurry_slots.specs.Slot.{SlotState, IsSlot, IsContent}
-use Rattle.flurry_control.specs.Claim.{Range, next_of}
+use Rattle.flurry_control.specs.Claim.{ClaimState, next_of}
 use Rattle.flurry_control.specs.Control.{ControlState}
 use Rattle.flurry_calls.specs.Part.{ControlPart, LookPart, BinPart}
-use Rattle.flurry_steps.specs.Party.{Task, Finds, Removes, RemovesSeen, Inserts, Adds, Computes, Resume, Stage, AtLocate, AtBin, AtClaim, AtMove, AtUncount, AtCount, AtRecount, AtBegin, AtGrow, AtReserve, AtSweep, AtDone, AtTaken, PartyState, part_of, wanted_part, move_part, IsSingle}
+use Rattle.flurry_steps.specs.Party.{Task, Finds, Removes, RemovesSeen, Inserts, Adds, Computes, Help, WantsSeat, AtBoard, Moving, Publishing, GivesBack, Resume, Stage, AtLocate, AtBin, AtHelp, AtUncount, AtCount, AtRecount, AtBegin, AtGrow, AtReserve, AtSweep, AtDone, AtTaken, PartyState, part_of, wanted_part, move_part, helped_table, IsSingle}
 use Rattle.flurry_steps.specs.PartyControl.{StageAtControl, ControlStep}
 use Rattle.flurry_steps.specs.PartySlots.{SlotStep, MoveGives, StageAtSlot}
 use Rattle.flurry_calls.specs.declared.step.Event.{Event}
 use Rattle.flurry_calls.specs.declared.step.Event.TheVariants as event
 use Rattle.flurry_theory.specs.Map.{same}
 use Rattle.flurry_world.specs.Tables.{Tables, AreTables, place_at, content_at, put_place, PlaceGives}
-use Rattle.flurry_world.specs.Parts.{PartStep}
+use Rattle.flurry_world.specs.Parts.{AtBoardOf, PartStep}
 use Rattle.flurry_world.specs.World.{PartyRecord, WorldState, Near, FollowsStage, IsWorld}
 use Rattle.flurry_world.specs.Steps.{label_of}
 use Rattle.flurry_world.proofs.TableLaws.{content_of_place, AreTables-put, length_of_put_slots}
@@ -23,14 +23,14 @@ use Rattle.flurry_world.proofs.HomeLaws.{put_content}
 use Rattle.flurry_world.proofs.Frames.{IsStep}
 use Rattle.flurry_world.proofs.LocateCases.{locates, reserves}
 use Rattle.flurry_world.proofs.CountCases.{uncounts, counts_one, recounts, begins, grows}
-use Rattle.flurry_world.proofs.ClaimCases.{claims_bins, reports}
+use Rattle.flurry_world.proofs.ClaimCases.{helps_at, publishes}
 use Rattle.flurry_world.proofs.SlotCases.{Put, at_bin_step}
 use Rattle.flurry_world.proofs.MoveCases.{at_move, no_slots}
 
 module _ {K V : Type 0} where
   -- tables with the same content at a slot
   pub put_same : (t : Tables K V) (e i : ℕ) (q : SlotState K V) → AreTables t → place_at t e i ≡ Some q → Put t e i q.content t
-  put_same t e i q are at = record { contents = λ d j. by_place d j (e == d && i == j) refl; tables = are; made = λ d h. h; unmade = λ d h. h }
+  put_same t e i q are at = record { contents = λ d j. by_place d j (e == d && i == j) refl; tables = are; boards = refl; made = λ d h. h; unmade = λ d h. h }
     where
       by_place : (d j : ℕ) (b : Bool) → (e == d && i == j) ≡ b → content_at t d j ≡ (if b then q.content else content_at t d j)
       by_place d j true h = let here = and_parts (e == d) (i == j) h in subst (λ n. content_at t n j ≡ q.content) (eqb-true e d here.0) (subst (λ n. content_at t e n ≡ q.content) (eqb-true i j here.1) (content_of_place t e i q at))
@@ -41,6 +41,7 @@ module _ {K V : Type 0} where
   put_other t e i q q' are at table index = record {
     contents = put_content t e i q' (ap is_some at);
     tables = AreTables-put t e i q' q are at table index;
+    boards = refl;
     made = λ d h. no_slots _ _ (length_of_put_slots t e i q' d) h;
     unmade = λ d h. no_slots _ _ (sym (length_of_put_slots t e i q' d)) h;
   }
@@ -54,15 +55,14 @@ module _ {K V F S : Type 0} (cmp : K → K → Ordering) (total : IsTotalOrder c
   follows : FollowsStage hash x.call x.party_state.stage
   follows = (k.party_records p x at).stage
 
-  at_control : (s : Stage K V F) → x.party_state.stage ≡ s → IsSingle s → part_of x.party_state.hash s ≡ ControlPart → StageAtControl PlaceGives x.party_state.processors s w.control_state w.tables ev c.stage b t' → IsStep cmp hash gives w p x b t' c (label_of p ev c.stage)
+  at_control : (s : Stage K V F) → x.party_state.stage ≡ s → IsSingle s → part_of x.party_state.hash s ≡ ControlPart → StageAtControl PlaceGives x.party_state.processors x.party_state.helped s w.control_state w.tables ev c.stage b t' → IsStep cmp hash gives w p x b t' c (label_of p ev c.stage)
   at_control (AtLocate t) e single q h = locates cmp total hash lawful gives w k p x at c ev b t' t e (subst (FollowsStage hash x.call) e follows) h
   at_control (AtBin t n) e single q h = absurd h
-  at_control (AtClaim a) e single q h = claims_bins cmp total hash lawful gives w k p x at c ev b t' a e (subst (FollowsStage hash x.call) e follows) h
-  at_control (AtMove m a) e single q h = reports cmp total hash lawful gives w k p x at c ev b t' m a e (subst (FollowsStage hash x.call) e follows) (none_left (next_of m) q) h
-    where
-      none_left : (o : Option (ℕ × ℕ)) → move_part o ≡ ControlPart → o ≡ None
-      none_left None z = refl
-      none_left (Some z) y = cc
+  at_control (AtHelp (Publishing n) a) e single q h = publishes cmp total hash lawful gives w k p x at c ev b t' n a e (subst (FollowsStage hash x.call) e follows) h
+  at_control (AtHelp (WantsSeat n) a) e single q h = absurd h
+  at_control (AtHelp (AtBoard n) a) e single q h = absurd h
+  at_control (AtHelp (Moving m) a) e single q h = absurd h
+  at_control (AtHelp (GivesBack n) a) e single q h = absurd h
   at_control (AtUncount r) e single q h = uncounts cmp total hash lawful gives w k p x at c ev b t' r e (subst (FollowsStage hash x.call) e follows) near h
   at_control (AtCount r) e single q h = counts_one cmp total hash lawful gives w k p x at c ev b t' r e (subst (FollowsStage hash x.call) e follows) near h
   at_control (AtRecount r) e single q h = recounts cmp total hash lawful gives w k p x at c ev b t' r e (subst (FollowsStage hash x.call) e follows) near h
@@ -74,7 +74,7 @@ module _ {K V F S : Type 0} (cmp : K → K → Ordering) (total : IsTotalOrder c
   at_control AtTaken e single q h = absurd h
 
   control_step : (s : Stage K V F) → x.party_state.stage ≡ s → IsSingle s → part_of x.party_state.hash s ≡ ControlPart → ControlStep PlaceGives x.party_state w.control_state w.tables ev c b t' → Taken
-  control_step s e single q h = record { hash_stays = h.hash; step = at_control s e single q (subst (λ z. StageAtControl PlaceGives x.party_state.processors z w.control_state w.tables ev c.stage b t') e h.step) }
+  control_step s e single q h = record { hash_stays = h.hash; step = at_control s e single q (subst (λ z. StageAtControl PlaceGives x.party_state.processors x.party_state.helped z w.control_state w.tables ev c.stage b t') e h.step) }
 
   -- at its bin, to read or to write it
   module _ (t : Task K V F) (n : ℕ) (e : x.party_state.stage ≡ AtBin t n) where
@@ -93,8 +93,15 @@ module _ {K V F S : Type 0} (cmp : K → K → Ordering) (total : IsTotalOrder c
     writes : PartStep cmp gives (BinPart n (x.party_state.hash % 2 ^ n)) x.party_state w.control_state w.tables ev c b t' → Taken
     writes (q, q', there, inside, h, y, z) = slot_step q q' there inside h y (subst (λ u. Put w.tables n (x.party_state.hash % 2 ^ n) q'.content u) (sym z) (put_other w.tables n (x.party_state.hash % 2 ^ n) q q' k.tables there h.table h.index))
 
-  moves : (m : Range) (a : Resume K V F) → x.party_state.stage ≡ AtMove m a → (o : Option (ℕ × ℕ)) → next_of m ≡ o → PartStep cmp gives (move_part o) x.party_state w.control_state w.tables ev c b t' → Taken
-  moves m a e None q h = control_step (AtMove m a) e tt (ap move_part q) h
+  -- at a board, or at the seats there
+  helps : (h : Help) (a : Resume K V F) → x.party_state.stage ≡ AtHelp h a → AtBoardOf (helped_table h) x.party_state w.control_state w.tables ev c b t' → Taken
+  helps h a e (y, step, gave, same) = record {
+    hash_stays = ap (λ z. z.hash) step.after;
+    step = helps_at cmp total hash lawful gives w k p x at c ev b t' h a e (subst (FollowsStage hash x.call) e follows) (y, step, gave, same);
+  }
+
+  moves : (m : ClaimState) (a : Resume K V F) → x.party_state.stage ≡ AtHelp (Moving m) a → (o : Option (ℕ × ℕ)) → next_of m ≡ o → PartStep cmp gives (move_part m.range.table o) x.party_state w.control_state w.tables ev c b t' → Taken
+  moves m a e None q h = helps (Moving m) a e h
   moves m a e (Some d) q (old, low, high, old', low', high', old_at, low_at, high_at, inside, h, y, z) = record {
     hash_stays = hash_of_move ev h.step;
     step = at_move cmp total hash lawful gives w k p x at c m a e (subst (FollowsStage hash x.call) e follows) d.0 d.1 q old low high old_at low_at high_at inside old' low' high' ev b t' h.step y z;
@@ -120,8 +127,11 @@ module _ {K V F S : Type 0} (cmp : K → K → Ordering) (total : IsTotalOrder c
   by_stage (AtBin (Inserts j v) n) e single h = writes (Inserts j v) n e h
   by_stage (AtBin (Adds j v) n) e single h = writes (Adds j v) n e h
   by_stage (AtBin (Computes j g) n) e single h = writes (Computes j g) n e h
-  by_stage (AtClaim a) e single h = control_step (AtClaim a) e tt refl h
-  by_stage (AtMove m a) e single h = moves m a e (next_of m) refl h
+  by_stage (AtHelp (WantsSeat n) a) e single h = helps (WantsSeat n) a e h
+  by_stage (AtHelp (AtBoard n) a) e single h = helps (AtBoard n) a e h
+  by_stage (AtHelp (Moving m) a) e single h = moves m a e (next_of m) refl h
+  by_stage (AtHelp (Publishing n) a) e single h = control_step (AtHelp (Publishing n) a) e tt refl h
+  by_stage (AtHelp (GivesBack n) a) e single h = helps (GivesBack n) a e h
   by_stage (AtUncount r) e single h = control_step (AtUncount r) e tt refl h
   by_stage (AtCount r) e single h = control_step (AtCount r) e tt refl h
   by_stage (AtRecount r) e single h = control_step (AtRecount r) e tt refl h

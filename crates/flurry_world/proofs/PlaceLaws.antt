@@ -1,5 +1,5 @@
 -- What a place of tables is after a table was asked for there.
-use Rattle.std.specs.Prelude.{ℕ, Bool, true, false, List, [], ◌∷◌, ◌≡◌}
+use Rattle.std.specs.Prelude.{ℕ, Bool, true, false, List, [], ◌∷◌, Option, ◌≡◌}
 use Rattle.std.proofs.Common.{refl, ap}
 use Rattle.flurry_slots.specs.Slot.{Live, Content, IsLive, HasMoved, IsUnborn, SlotState}
 use Rattle.flurry_world.specs.Tables.{Tables, slots_of, is_made, MadeGives, PlaceGives}
@@ -11,12 +11,12 @@ module _ {K V : Type 0} where
   unmade_empty (q ∷ s) h = cc
 
   -- a table that is refused leaves the tables
-  pub refused_place : (t : Tables K V) (e : ℕ) (live : Bool) (t' : Tables K V) → PlaceGives t e live false t' → t' ≡ t
-  refused_place t e live t' h = by_made (is_made (slots_of t e)) h
+  pub refused_place : (t : Tables K V) (e : ℕ) (g : Option ℕ) (t' : Tables K V) → PlaceGives t e g false t' → t' ≡ t
+  refused_place t e g t' h = by_made (is_made (slots_of t e)) h
     where
-      by_made : (b : Bool) → MadeGives b t e live false t' → t' ≡ t
-      by_made true g = cc
-      by_made false g = g
+      by_made : (b : Bool) → MadeGives b t e g false t' → t' ≡ t
+      by_made true h = cc
+      by_made false h = h
 
   -- equal contents hold equal bins
   pub same_live : {a b : Live K V} → IsLive a ≡ IsLive b → a ≡ b

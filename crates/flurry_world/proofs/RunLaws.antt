@@ -48,3 +48,4 @@ module _ {K V F : Type 0} (ready : F → Type 0) (each : (f : F) → ready f) wh
   step_ready (step.Begin c) = kept_ready c
   step_ready (step.Drop p) = tt
   step_ready (step.Step p) = tt
+  step_ready (step.Lose p) = tt

@@ -17,20 +17,22 @@ use Rattle.flurry_theory.specs.Invariant.{is_live, key_in, writes_in, NamesBorn}
 use Rattle.flurry_theory.proofs.NoUnbornBin.{looks_at}
 use Rattle.flurry_world.specs.Entries.{slot_of, entries_of_held, IsHashed}
 use Rattle.flurry_world.specs.Tables.{Tables, AreTables, slots_of, content_at}
-use Rattle.flurry_world.specs.World.{PartyRecord, WorldState, state_of, task_of_call, mode_of_stage, claim_of_stage, FollowsStage, IsWorld}
+use Rattle.flurry_world.specs.World.{PartyRecord, WorldState, state_of, task_of_call, mode_of_stage, FollowsStage, IsWorld}
 use Rattle.flurry_world.specs.Steps.{label_of, decide_label}
+use Rattle.flurry_world.proofs.StateLaws.{held_of_stage}
 use Rattle.flurry_world.proofs.CallLaws.{key_of_task}
 use Rattle.flurry_world.proofs.DecisionLaws.{Decision, decides, refused, moved_mode, moved_claim, moved_follows}
 use Rattle.flurry_world.proofs.TransitionLaws.{is_decided, is_passed, is_refused}
 use Rattle.flurry_world.proofs.PlaceLaws.{same_live}
 use Rattle.flurry_world.proofs.HomeLaws.{at_home}
-use Rattle.flurry_world.proofs.Frames.{same_frame, IsStep}
+use Rattle.flurry_world.proofs.Frames.{same_growth, same_frame, running_on, over_on, IsStep}
 use Rattle.flurry_world.proofs.Cases.{calls, in_mode, in_claim}
 
 -- the tables t' are t with another content at one slot
 pub record Put {K V : Type 0} (t : Tables K V) (e i : ℕ) (c : Content K V) (t' : Tables K V) : Type 0 where
   pub contents : (d j : ℕ) → content_at t' d j ≡ (if e == d && i == j then c else content_at t d j)
   pub tables : AreTables t'
+  pub boards : t'.boards ≡ t.boards
   pub made : (d : ℕ) → slots_of t' d ≡ [] → slots_of t d ≡ []
   pub unmade : (d : ℕ) → slots_of t d ≡ [] → slots_of t' d ≡ []
 
@@ -62,14 +64,16 @@ module _ {K V F S : Type 0} (cmp : K → K → Ordering) (total : IsTotalOrder c
     decides_live j b d t' key live did put = subst (λ z. IsStep cmp hash gives w p x w.control_state t' c (decide_label p z)) (sym decision.said) (record {
       transition = Decides x.call j e (entries_of_held b.held) b.writes decision.reply (entries_of_held d.held) d.writes;
       can = (of_call, key, looking, free, at_slot, decision.did, decision.in_region);
-      is = is_decided cmp hash gives w p x at c x.call j e (entries_of_held b.held) b.writes decision.reply (entries_of_held d.held) d.writes t' slots_after decision.mode (decision.claim ∙ sym (ap claim_of_stage f));
+      is = is_decided cmp hash gives w p x at c x.call j e (entries_of_held b.held) b.writes decision.reply (entries_of_held d.held) d.writes t' (same_growth w.control_state.growth w.tables t' put.boards) slots_after decision.mode (decision.claim ∙ sym (ap held_of_stage f));
       follows = decision.follows;
       frame = record {
         hashed = λ g i l h. hashed_in g i l (e == g && x.party_state.hash % 2 ^ e == i) (sym (put.contents g i) ∙ h);
         control_state = k.control_state;
         tables = put.tables;
         unmade = λ h g. put.unmade g (k.unmade h g);
-        next = λ g u r h s z. k.next g u r h s (put.made (suc g) z);
+        next = λ g h z. k.next g h (put.made (suc g) z);
+        running = running_on cmp hash gives w t' k put.boards;
+        over = over_on cmp hash gives w t' k put.boards;
       };
     })
       where
@@ -119,7 +123,7 @@ module _ {K V F S : Type 0} (cmp : K → K → Ordering) (total : IsTotalOrder c
           steps_are = step.is.steps_are;
           start = step.is.start;
           published = step.is.published;
-          growth = step.is.growth;
+          growth = same_growth w.control_state.growth w.tables t' put.boards ∙ step.is.growth;
           slot = λ d j. ap slot_of (as_before d j) ∙ step.is.slot d j;
           parties = step.is.parties;
           call = step.is.call;
@@ -136,7 +140,9 @@ module _ {K V F S : Type 0} (cmp : K → K → Ordering) (total : IsTotalOrder c
           control_state = k.control_state;
           tables = put.tables;
           unmade = λ h g. put.unmade g (k.unmade h g);
-          next = λ g u r h s z. k.next g u r h s (put.made (suc g) z);
+          next = λ g h z. k.next g h (put.made (suc g) z);
+          running = running_on cmp hash gives w t' k put.boards;
+          over = over_on cmp hash gives w t' k put.boards;
         };
       }
         where
@@ -167,7 +173,7 @@ module _ {K V F S : Type 0} (cmp : K → K → Ordering) (total : IsTotalOrder c
                 refused cmp total hash lawful gives b (k.hashed e (x.party_state.hash % 2 ^ e) b (here ∙ live)) x.call t j task key (subst (λ n. party.CanBeRefused cmp gives n t b) own may),
               ),
             );
-            is = is_refused cmp hash gives w p x at c (ap mode_of_stage g) (ap claim_of_stage g ∙ sym (ap claim_of_stage f));
+            is = is_refused cmp hash gives w p x at c (ap mode_of_stage g) (ap held_of_stage g ∙ sym (ap held_of_stage f));
             follows = subst (FollowsStage hash x.call) (sym g) tt;
             frame = same_frame cmp hash gives w k;
           }))
@@ -184,7 +190,7 @@ module _ {K V F S : Type 0} (cmp : K → K → Ordering) (total : IsTotalOrder c
           by_content HasMoved moved (is, g, after) = nothing_changed (after ∙ sym moved) (subst (λ z. IsStep cmp hash gives w p x w.control_state w.tables c (label_of p z c.stage)) (sym is) (record {
             transition = Passes e;
             can = (x.call, j, of_call, key, looking, ap (λ n. slot_of (content_at w.tables e (n % 2 ^ e))) (sym own) ∙ ap slot_of (here ∙ moved));
-            is = is_passed cmp hash gives w p x at c e (ap mode_of_stage g ∙ moved_mode t e) (ap claim_of_stage g ∙ moved_claim t e ∙ sym (ap claim_of_stage f));
+            is = is_passed cmp hash gives w p x at c e (ap mode_of_stage g ∙ moved_mode t e) (ap held_of_stage g ∙ moved_claim t e ∙ sym (ap held_of_stage f));
             follows = subst (FollowsStage hash x.call) (sym g) (moved_follows hash x.call t e task);
             frame = same_frame cmp hash gives w k;
           }))

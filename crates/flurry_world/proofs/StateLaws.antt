@@ -5,14 +5,14 @@ use Rattle.std.proofs.Common.{arith, refl, sym, ◌∙◌, ap}
 use Rattle.std.proofs.lemmas.Bool.{eqb-true, eqb-false, eq-eqb, ne_eqb}
 use Rattle.std.proofs.lemmas.List.{reverse-append, length-set}
 use Rattle.std.proofs.lemmas.Option.{slice_get_within}
-use Rattle.flurry_theory.specs.Machine.{State, Transition, at_place, effect, does, label, steps_after, Begins, Loses}
+use Rattle.flurry_theory.specs.Machine.{State, Claim, Transition, at_place, effect, does, label, steps_after, Begins, Loses}
 use Rattle.flurry_model.specs.declared.call.Call.{Call}
 use Rattle.flurry_theory.specs.declared.Label.{Label}
 use Rattle.flurry_control.specs.Control.{ControlState}
-use Rattle.flurry_steps.specs.Party.{PartyState, last_seen}
+use Rattle.flurry_steps.specs.Party.{Stage, PartyState, last_seen}
 use Rattle.flurry_world.specs.Entries.{slot_of}
 use Rattle.flurry_world.specs.Tables.{Tables, content_at}
-use Rattle.flurry_world.specs.World.{PartyRecord, WorldState, state_of, start_of, growth_of, mode_in, claim_in, seen_in, began_from_in, steps_in, mode_of_stage, claim_of_stage}
+use Rattle.flurry_world.specs.World.{PartyRecord, WorldState, state_of, start_of, growth_of, mode_in, claim_in, told_in, seen_in, began_from_in, steps_in, mode_of_stage, claim_of_stage, told_of_stage}
 use Rattle.flurry_world.specs.Steps.{with_step}
 
 -- equal options hold equal values
@@ -45,6 +45,10 @@ same_place f p y h q = through (p == q) refl
     through true e = sym h ∙ ap f (eqb-true p q e)
     through false e = refl
 
+-- what a stage holds of a growth: bins, or that it was told to publish
+abbrev pub held_of_stage : {K V F : Type 0} → Stage K V F → Option Claim × Option ℕ
+held_of_stage s = (claim_of_stage s, told_of_stage s)
+
 -- a beginning is no step of its party, nor is an attempt that was lost
 abbrev pub is_step : {K V F : Type 0} → Transition K V F → Bool
 is_step (Begins c from) = false
@@ -65,13 +69,13 @@ module _ {K V F S : Type 0} (cmp : K → K → Ordering) (hash : K → ℕ) (giv
     pub steps_are : steps_after cmp hash gives (state_of w) p l ≡ suc ((state_of w).steps p)
     pub start : start_of w.first (lab ∷ reverse w.trace) ≡ (effect cmp hash gives (state_of w) p l).start
     pub published : b.published ≡ (effect cmp hash gives (state_of w) p l).published
-    pub growth : growth_of b.growth ≡ (effect cmp hash gives (state_of w) p l).growth
+    pub growth : growth_of b.growth t ≡ (effect cmp hash gives (state_of w) p l).growth
     pub slot : (d j : ℕ) → slot_of (content_at t d j) ≡ (effect cmp hash gives (state_of w) p l).slot d j
     pub parties : (state_of w).parties ≡ (effect cmp hash gives (state_of w) p l).parties
     pub call : (q : ℕ) → (state_of w).call q ≡ (effect cmp hash gives (state_of w) p l).call q
     pub mode : (q : ℕ) → at_place (state_of w).mode p (mode_of_stage c.stage) q ≡ (effect cmp hash gives (state_of w) p l).mode q
     pub claim : (q : ℕ) → at_place (state_of w).claim p (claim_of_stage c.stage) q ≡ (effect cmp hash gives (state_of w) p l).claim q
-    pub told : (q : ℕ) → (state_of w).told q ≡ (effect cmp hash gives (state_of w) p l).told q
+    pub told : (q : ℕ) → at_place (state_of w).told p (told_of_stage c.stage) q ≡ (effect cmp hash gives (state_of w) p l).told q
     pub count : b.count ≡ (effect cmp hash gives (state_of w) p l).count
     pub seen : (q : ℕ) → (state_of w).seen q ≡ (effect cmp hash gives (state_of w) p l).seen q
     pub began_from : (q : ℕ) → (state_of w).began_from q ≡ (effect cmp hash gives (state_of w) p l).began_from q
@@ -87,7 +91,7 @@ module _ {K V F S : Type 0} (cmp : K → K → Ordering) (hash : K → ℕ) (giv
     call = λ q. (calls q ∙ is.call q) i;
     mode = λ q. (read_set mode_in w.party_records p q y below ∙ is.mode q) i;
     claim = λ q. (read_set claim_in w.party_records p q y below ∙ is.claim q) i;
-    told = λ q. is.told q i;
+    told = λ q. (read_set told_in w.party_records p q y below ∙ is.told q) i;
     count = is.count i;
     seen = λ q. (read_set seen_in w.party_records p q y below ∙ same_place (state_of w).seen p (last_seen c.stage) (ap seen_in h ∙ sym last) q ∙ is.seen q) i;
     began_from = λ q. (read_set began_from_in w.party_records p q y below ∙ same_place (state_of w).began_from p x.began_from (ap began_from_in h) q ∙ is.began_from q) i;

@@ -37,13 +37,13 @@ use Rattle.flurry_theory.specs.declared.Label.TheVariants as label
 use Rattle.flurry_world.specs.Entries.{slot_of, entry_of_held, entries_of_held, IsHashed}
 use Rattle.flurry_world.specs.Tables.{Tables, content_at, PlaceGives}
 use Rattle.flurry_world.specs.Parts.{PartStep}
-use Rattle.flurry_world.specs.World.{PartyRecord, WorldState, Near, state_of, mode_of_stage, mode_of_sweep, mode_over, frame_of, frames_of, claim_of_stage, AreHashed, FollowsErrand, FollowsSweep, FollowsStage, IsWorld}
+use Rattle.flurry_world.specs.World.{PartyRecord, WorldState, Near, state_of, mode_of_stage, mode_of_sweep, mode_over, frame_of, frames_of, AreHashed, FollowsErrand, FollowsSweep, FollowsStage, IsWorld}
 use Rattle.flurry_world.specs.Steps.{label_of, read_label, with_step}
-use Rattle.flurry_world.proofs.StateLaws.{IsTransition, is_step}
+use Rattle.flurry_world.proofs.StateLaws.{held_of_stage, IsTransition, is_step}
 use Rattle.flurry_world.proofs.EntryLaws.{length-entries_of_held}
 use Rattle.flurry_world.proofs.TableLaws.{content_of_place}
 use Rattle.flurry_world.proofs.PlaceLaws.{same_live}
-use Rattle.flurry_world.proofs.Frames.{same_frame, StepOf, step_of, in_range}
+use Rattle.flurry_world.proofs.Frames.{same_growth, same_frame, counted_frame, running_on, over_on, StepOf, step_of, in_range}
 use Rattle.flurry_world.proofs.TransitionLaws.{is_goes, is_quiet, is_finds, is_refused, is_counted, is_wiped, does_read}
 use Rattle.flurry_world.proofs.SlotCases.{Put, put_nothing}
 use Rattle.flurry_world.proofs.PartyCases.{put_other}
@@ -66,8 +66,8 @@ module _ {K V F S : Type 0} (cmp : K → K → Ordering) (total : IsTotalOrder c
 
   -- the sweep after the step
   module _ (u' : SweepState K V) (g : c.stage ≡ AtSweep u') (hashed : c.hash ≡ x.party_state.hash) where
-    unclaimed : claim_of_stage c.stage ≡ claim_of_stage x.party_state.stage
-    unclaimed = ap claim_of_stage g ∙ sym (ap claim_of_stage e)
+    unclaimed : held_of_stage c.stage ≡ held_of_stage x.party_state.stage
+    unclaimed = ap held_of_stage g ∙ sym (ap held_of_stage e)
 
     unread : u'.last ≡ u.last → last_seen c.stage ≡ last_seen x.party_state.stage
     unread h = ap last_seen g ∙ h ∙ sym (ap last_seen e)
@@ -123,7 +123,7 @@ module _ {K V F S : Type 0} (cmp : K → K → Ordering) (total : IsTotalOrder c
     can = ap is_lookup called ∙ looks_not x.call u.errand u.last own.0;
     is = is_counted cmp hash gives w p x at c None 0 n _ before summed (after_mode u' g hashed _ (ap (λ z. mode_of_sweep z u'.errand) h)) (unclaimed u' g hashed);
     follows = goes_on u' g hashed (keeps_errand u' q r) (subst (λ z. FollowsSweep hash z u'.errand) (sym h) tt);
-    frame = record { hashed = k.hashed; control_state = record { published = k.control_state.published; growth = k.control_state.growth }; tables = k.tables; unmade = k.unmade; next = k.next };
+    frame = counted_frame cmp hash gives w _ k;
   })
     where
       before : (state_of w).mode p ≡ Done None 0 n
@@ -164,7 +164,7 @@ module _ {K V F S : Type 0} (cmp : K → K → Ordering) (total : IsTotalOrder c
 
   control_step : ControlStep PlaceGives x.party_state w.control_state w.tables ev c b t' → StepOf cmp hash gives w p x b t' c (label_of p ev c.stage)
   control_step h =
-      let (u', g, s, z) = subst (λ z. StageAtControl PlaceGives x.party_state.processors z w.control_state w.tables ev c.stage b t') e h.step in
+      let (u', g, s, z) = subst (λ z. StageAtControl PlaceGives x.party_state.processors x.party_state.helped z w.control_state w.tables ev c.stage b t') e h.step in
       at_control u' g h.hash u.stage u.errand refl refl s.silent s.errand s.last s.step z
 
   -- ---- at a bin
@@ -287,7 +287,7 @@ module _ {K V F S : Type 0} (cmp : K → K → Ordering) (total : IsTotalOrder c
         wiped_bin t put (q, h) = step_of cmp hash gives w p x w.control_state t c (label.Wipe p f.top.table f.top.index) at hashed (unread u' g hashed last) (record {
           transition = transition;
           can = can_wipe;
-          is = is_wiped cmp hash gives w p x at c n f.base f.index (frame_of f.top) (map frame_of f.below) (entries_of_held d.held) d.writes t slots_after
+          is = is_wiped cmp hash gives w p x at c n f.base f.index (frame_of f.top) (map frame_of f.below) (entries_of_held d.held) d.writes t (same_growth w.control_state.growth w.tables t put.boards) slots_after
               (after_mode u' g hashed _ (to_clear _ _ q h ∙ ap (λ m. mode_of_sweep (stage_cleared (after_top f)) (Wipes m)) all_counted ∙ cleared (n + length (entries_of_held d.held)) f.base f.index f.below)) (unclaimed u' g hashed);
           follows = reaches _ _ q h (cleared_hashed V hash f.base f.index f.below _ bounds.1);
           frame = record {
@@ -295,7 +295,9 @@ module _ {K V F S : Type 0} (cmp : K → K → Ordering) (total : IsTotalOrder c
             control_state = k.control_state;
             tables = put.tables;
             unmade = λ h a. put.unmade a (k.unmade h a);
-            next = λ a r s h y z. k.next a r s h y (put.made (suc a) z);
+            next = λ a h z. k.next a h (put.made (suc a) z);
+            running = running_on cmp hash gives w t k put.boards;
+            over = over_on cmp hash gives w t k put.boards;
           };
         })
           where
@@ -340,14 +342,16 @@ module _ {K V F S : Type 0} (cmp : K → K → Ordering) (total : IsTotalOrder c
         hash_stays = step.hash_stays;
         transition = step.transition;
         can = step.can;
-        after = (λ i. record (state_of (with_step w p x w.control_state w.tables c lab)) { slot = λ d j. ap slot_of (as_before d j) i }) ∙ step.after;
+        after = (λ i. record (state_of (with_step w p x w.control_state w.tables c lab)) { growth = same_growth w.control_state.growth w.tables t' put.boards i; slot = λ d j. ap slot_of (as_before d j) i }) ∙ step.after;
         follows = step.follows;
         frame = record {
           hashed = λ d i l h. k.hashed d i l (sym (as_before d i) ∙ h);
           control_state = k.control_state;
           tables = put.tables;
           unmade = λ h a. put.unmade a (k.unmade h a);
-          next = λ a r s h y z. k.next a r s h y (put.made (suc a) z);
+          next = λ a h z. k.next a h (put.made (suc a) z);
+          running = running_on cmp hash gives w t' k put.boards;
+          over = over_on cmp hash gives w t' k put.boards;
         };
       }
         where

@@ -2,7 +2,7 @@
 use Rattle.std.specs.Prelude.{◌≡◌, ℕ, false, Option, Some, None, IsNone, IsSome, ⊤}
 use Rattle.std.proofs.Common.{arith, refl, sym, ◌∙◌, ap, subst}
 use Rattle.flurry_calls.specs.Sweep.{Errand, Reads, Wipes}
-use Rattle.flurry_steps.specs.Party.{ForInsert, ForReserve, Resume, ThenBin, ThenRecount, ThenGrow, Stage, AtLocate, AtBin, AtClaim, AtMove, AtUncount, AtCount, AtRecount, AtBegin, AtGrow, AtReserve, AtSweep, AtDone, AtTaken, last_seen, IsSingle}
+use Rattle.flurry_steps.specs.Party.{ForInsert, ForReserve, Resume, ThenBin, ThenRecount, ThenGrow, Stage, AtLocate, AtBin, AtHelp, AtUncount, AtCount, AtRecount, AtBegin, AtGrow, AtReserve, AtSweep, AtDone, AtTaken, last_seen, IsSingle}
 use Rattle.flurry_theory.specs.Map.{key_of}
 use Rattle.flurry_theory.specs.Trace.{is_lookup}
 use Rattle.flurry_model.specs.declared.call.Call.{Call}
@@ -34,8 +34,7 @@ module _ {K V F : Type 0} where
   pub no_walk : (hash : K → ℕ) (c : Call K V F) (s : Stage K V F) → IsGoingSingle s → FollowsStage hash c s → c ≡ call.Walk → ⊥
   no_walk hash c (AtLocate t) g f is = no_task c t (task_of_call c) f (λ h. ap task_of_call h) is
   no_walk hash c (AtBin t e) g f is = no_task c t (task_of_call c) f (λ h. ap task_of_call h) is
-  no_walk hash c (AtClaim a) g f is = walk_resumes c a f is
-  no_walk hash c (AtMove r a) g f is = walk_resumes c a f is
+  no_walk hash c (AtHelp h a) g f is = walk_resumes c a f is
   no_walk hash c (AtUncount r) g f is = no_decision c f.one_key is
   no_walk hash c (AtCount r) g f is = no_decision c f.one_key is
   no_walk hash c (AtRecount r) g f is = no_decision c f.one_key is
@@ -55,8 +54,7 @@ module _ {K V F : Type 0} where
   pub no_seen : (hash : K → ℕ) (c : Call K V F) (s : Stage K V F) → (c ≡ call.Walk → ⊥) → FollowsStage hash c s → last_seen s ≡ None
   no_seen hash c (AtLocate t) other f = refl
   no_seen hash c (AtBin t e) other f = refl
-  no_seen hash c (AtClaim a) other f = refl
-  no_seen hash c (AtMove r a) other f = refl
+  no_seen hash c (AtHelp h a) other f = refl
   no_seen hash c (AtUncount r) other f = refl
   no_seen hash c (AtCount r) other f = refl
   no_seen hash c (AtRecount r) other f = refl
@@ -70,8 +68,7 @@ module _ {K V F : Type 0} where
   pub single_unread : (s : Stage K V F) → IsSingle s → last_seen s ≡ None
   single_unread (AtLocate t) h = refl
   single_unread (AtBin t e) h = refl
-  single_unread (AtClaim a) h = refl
-  single_unread (AtMove r a) h = refl
+  single_unread (AtHelp k a) h = refl
   single_unread (AtUncount r) h = refl
   single_unread (AtCount r) h = refl
   single_unread (AtRecount r) h = refl

@@ -1,6 +1,6 @@
 -- Tables: what stands where after a slot is put, and after a table is made.
-use Rattle.std.proofs.Common.{◌≡◌, ℕ, zero, suc, ◌+◌, ◌^◌, ◌<◌, ◌≤◌, ◌⊎◌, Bool, true, false, List, [], ◌∷◌, ◌++◌, length, set, slice_get, Option, Some, None, refl, sym, ap, ◌∙◌, subst, inl, inr, arith, length-append, get_or-set_same, get_or-set_other}
-use Rattle.std.specs.Prelude.{◌==◌, ◌&&◌, nat_lt, if◌then◌else◌}
+use Rattle.std.proofs.Common.{◌≡◌, ℕ, zero, suc, ◌+◌, ◌^◌, ◌<◌, ◌≤◌, ◌⊎◌, Bool, true, false, List, [], ◌∷◌, ◌++◌, length, set, get_or, slice_get, Option, Some, None, refl, sym, ap, ◌∙◌, subst, inl, inr, arith, length-append, get_or-set_same, get_or-set_other}
+use Rattle.std.specs.Prelude.{◌-◌, ◌==◌, ◌&&◌, nat_lt, if◌then◌else◌, is_none}
 use Rattle.std.specs.Option.{IsSome, is_some, option_map_or}
 use Rattle.std.proofs.lemmas.Bool.{cases_eq, cases_lt, eq-eqb, ne_eqb, lt-ltb, le-ltb}
 use Rattle.std.proofs.lemmas.List.{length-set, set-set, set_past, get_or_past}
@@ -11,7 +11,8 @@ use Rattle.flurry_steps.specs.Party.{PartyState}
 use Rattle.flurry_steps.specs.PartySlots.{MoveGives, MoveStep}
 use Rattle.flurry_calls.specs.declared.step.Event.{Event}
 use Rattle.flurry_calls.specs.declared.step.Event.TheVariants as event
-use Rattle.flurry_world.specs.Tables.{Tables, slots_of, place_at, content_at, put_place, fresh, new_slots, is_made, with_table, MadeGives, PlaceGives, AreTables}
+use Rattle.flurry_claims.specs.PlainBoard.{PlainBoardState}
+use Rattle.flurry_world.specs.Tables.{Tables, slots_of, place_at, content_at, put_place, board_at, put_board, board_for, with_board, begun_board, fresh, new_slots, is_made, with_table, MadeGives, PlaceGives, AreTables}
 use Rattle.flurry_model.specs.declared.sizes.TheConstants.{GREATEST_TABLE, TABLES}
 
 -- ---- lists
@@ -83,10 +84,10 @@ module _ {K V : Type 0} where
   -- ---- a slot that is there
 
   -- where a slot is, its table has a place
-  pub place_in : (t : Tables K V) (e i : ℕ) (q : SlotState K V) → place_at t e i ≡ Some q → (e < length t) × (i < length (slots_of t e))
-  place_in t e i q is = elim (cases_lt e (length t)) [
+  pub place_in : (t : Tables K V) (e i : ℕ) (q : SlotState K V) → place_at t e i ≡ Some q → (e < length t.slots) × (i < length (slots_of t e))
+  place_in t e i q is = elim (cases_lt e (length t.slots)) [
     | inl lt ↦ (lt, slice_get_within (slots_of t e) i q is)
-    | inr past ↦ let none : place_at t e i ≡ None = ap (λ (s : List (SlotState K V)). slice_get s i) (get_or_past t e [] past) in cc
+    | inr past ↦ let none : place_at t e i ≡ None = ap (λ (s : List (SlotState K V)). slice_get s i) (get_or_past t.slots e [] past) in cc
   ]
 
   pub content_of_place : (t : Tables K V) (e i : ℕ) (q : SlotState K V) → place_at t e i ≡ Some q → content_at t e i ≡ q.content
@@ -115,21 +116,21 @@ module _ {K V : Type 0} where
   module _ (t : Tables K V) (e i : ℕ) (q : SlotState K V) where
     -- another table is as it was
     pub slots_of-put_other : (d : ℕ) → (d ≡ e → ⊥) → slots_of (put_place t e i q) d ≡ slots_of t d
-    slots_of-put_other d apart = get_or-set_other t e d _ [] apart
+    slots_of-put_other d apart = get_or-set_other t.slots e d _ [] apart
 
-    slots_of-put_same : e < length t → slots_of (put_place t e i q) e ≡ set (slots_of t e) i q
-    slots_of-put_same lt = get_or-set_same t e _ [] lt
+    slots_of-put_same : e < length t.slots → slots_of (put_place t e i q) e ≡ set (slots_of t e) i q
+    slots_of-put_same lt = get_or-set_same t.slots e _ [] lt
 
-    pub length_of_put : length (put_place t e i q) ≡ length t
-    length_of_put = length-set t e _
+    pub length_of_put : length (put_place t e i q).slots ≡ length t.slots
+    length_of_put = length-set t.slots e _
 
     pub length_of_put_slots : (d : ℕ) → length (slots_of (put_place t e i q) d) ≡ length (slots_of t d)
     length_of_put_slots d = elim (cases_eq d e) [
       | inr apart ↦ ap length (slots_of-put_other d apart)
-      | inl same ↦ elim (cases_lt e (length t)) [
+      | inl same ↦ elim (cases_lt e (length t.slots)) [
         | inl lt ↦
             ap (λ (n : ℕ). length (slots_of (put_place t e i q) n)) same ∙ ap length (slots_of-put_same lt) ∙ length-set (slots_of t e) i q ∙ ap (λ (n : ℕ). length (slots_of t n)) (sym same)
-        | inr past ↦ ap (λ (u : Tables K V). length (slots_of u d)) (set_past t e _ past)
+        | inr past ↦ ap (λ (u : List (List (SlotState K V))). length (get_or u d [])) (set_past t.slots e _ past)
       ]
     ]
 
@@ -150,11 +151,11 @@ module _ {K V : Type 0} where
     pub place_at-put_other : (d j : ℕ) → (d ≡ e → j ≡ i → ⊥) → place_at (put_place t e i q) d j ≡ place_at t d j
     place_at-put_other d j apart = elim (cases_eq d e) [
       | inr other ↦ ap (λ (s : List (SlotState K V)). slice_get s j) (slots_of-put_other d other)
-      | inl same ↦ elim (cases_lt e (length t)) [
+      | inl same ↦ elim (cases_lt e (length t.slots)) [
         | inl lt ↦
             ap (λ (n : ℕ). place_at (put_place t e i q) n j) same ∙ ap (λ (s : List (SlotState K V)). slice_get s j) (slots_of-put_same lt)
             ∙ slice_get-set_other (slots_of t e) i j q (apart same) ∙ ap (λ (n : ℕ). place_at t n j) (sym same)
-        | inr past ↦ ap (λ (u : Tables K V). place_at u d j) (set_past t e _ past)
+        | inr past ↦ ap (λ (u : List (List (SlotState K V))). slice_get (get_or u d []) j) (set_past t.slots e _ past)
       ]
     ]
 
@@ -170,6 +171,8 @@ module _ {K V : Type 0} where
       places = length_of_put ∙ are.places;
       slots = λ d made. length_of_put_slots d ∙ are.slots d (made_before d made);
       order = λ d j r at. ordered d j r at (cases_eq d e) (cases_eq j i);
+      board_places = are.board_places;
+      boards = are.boards;
     }
       where
         made_before : (d : ℕ) → is_made (slots_of (put_place t e i q) d) ≡ true → is_made (slots_of t d) ≡ true
@@ -184,88 +187,145 @@ module _ {K V : Type 0} where
         ordered d j r at (inl same) (inr apart) = are.order d j r (sym (place_at-put_other d j (λ _. apart)) ∙ at)
         ordered d j r at (inr other) w = are.order d j r (sym (place_at-put_other d j (λ e _. other e)) ∙ at)
 
+  -- ---- a board is put
+
+  -- a board that is there has a place
+  pub board_in : (t : Tables K V) (e : ℕ) (b : PlainBoardState) → board_at t e ≡ Some b → e + 1 < length t.boards
+  board_in t e b at = elim (cases_lt (e + 1) (length t.boards)) [
+    | inl lt ↦ lt
+    | inr past ↦ let none : board_at t e ≡ None = get_or_past t.boards (e + 1) None past in absurd cc
+  ]
+
+  module _ (t : Tables K V) (e : ℕ) (d : PlainBoardState) where
+    pub board_at-put : e + 1 < length t.boards → board_at (put_board t e d) e ≡ Some d
+    board_at-put lt = get_or-set_same t.boards (e + 1) _ None lt
+
+    pub board_at-put_other : (n : ℕ) → (n ≡ e → ⊥) → board_at (put_board t e d) n ≡ board_at t n
+    board_at-put_other n apart = get_or-set_other t.boards (e + 1) (n + 1) _ None (λ same. apart (omega arith))
+
+    -- tables stay tables, where the board is one of that table
+    pub AreTables-put_board : (b : PlainBoardState) → AreTables t → board_at t e ≡ Some b → d.table ≡ b.table → AreTables (put_board t e d)
+    AreTables-put_board b are at table = record {
+      places = are.places;
+      slots = are.slots;
+      order = are.order;
+      board_places = length-set t.boards (e + 1) _ ∙ are.board_places;
+      boards = λ n r there. by_place n r there (cases_eq n e);
+    }
+      where
+        by_place : (n : ℕ) (r : PlainBoardState) → board_at (put_board t e d) n ≡ Some r → (n ≡ e) ⊎ (n ≡ e → ⊥) → r.table ≡ n
+        by_place n r there (inr apart) = are.boards n r (sym (board_at-put_other n apart) ∙ there)
+        by_place n r there (inl same) =
+            let here : board_at (put_board t e d) n ≡ Some d = ap (λ m. board_at (put_board t e d) m) same ∙ board_at-put (board_in t e b at) in
+            let one : r ≡ d = cc in
+            ap (λ (z : PlainBoardState). z.table) one ∙ table ∙ are.boards e b at ∙ sym same
+
   -- ---- no table
 
-  pub AreTables-none : (t : Tables K V) → length t ≡ TABLES → ((e : ℕ) → slots_of t e ≡ []) → AreTables t
-  AreTables-none t places none = record {
+  pub AreTables-none : (t : Tables K V) → length t.slots ≡ TABLES → ((e : ℕ) → slots_of t e ≡ []) → length t.boards ≡ TABLES → ((e : ℕ) → board_at t e ≡ None) → AreTables t
+  AreTables-none t places none board_places bare = record {
     places = places;
     slots = λ e made. let no : is_made (slots_of t e) ≡ false = ap is_made (none e) in absurd cc;
     order = λ e i q at. let no : place_at t e i ≡ None = ap (λ (s : List (SlotState K V)). slice_get s i) (none e) in absurd cc;
+    board_places = board_places;
+    boards = λ e d at. let no : board_at t e ≡ None = bare e in absurd cc;
   }
 
   -- ---- a table is made
 
-  module _ (t : Tables K V) (e : ℕ) (live : Bool) where
-    slots_of-made : e < length t → slots_of (with_table t e live) e ≡ new_slots e live (2 ^ e)
-    slots_of-made lt = get_or-set_same t e _ [] lt
+  module _ (t : Tables K V) (e : ℕ) (g : Option ℕ) where
+    slots_of-made : e < length t.slots → slots_of (with_table t e g) e ≡ new_slots e (is_none g) (2 ^ e)
+    slots_of-made lt = get_or-set_same t.slots e _ [] lt
 
     -- another table is as it was
-    pub slots_of-made_other : (d : ℕ) → (d ≡ e → ⊥) → slots_of (with_table t e live) d ≡ slots_of t d
-    slots_of-made_other d apart = get_or-set_other t e d _ [] apart
+    pub slots_of-made_other : (d : ℕ) → (d ≡ e → ⊥) → slots_of (with_table t e g) d ≡ slots_of t d
+    slots_of-made_other d apart = get_or-set_other t.slots e d _ [] apart
 
     -- the table has its slots
-    pub place_at-made : AreTables t → e ≤ GREATEST_TABLE → (j : ℕ) → j < 2 ^ e → place_at (with_table t e live) e j ≡ Some (record { table = e; index = j; content = fresh live })
+    pub place_at-made : AreTables t → e ≤ GREATEST_TABLE → (j : ℕ) → j < 2 ^ e → place_at (with_table t e g) e j ≡ Some (record { table = e; index = j; content = fresh (is_none g) })
     place_at-made are within j lt =
-        ap (λ (s : List (SlotState K V)). slice_get s j) (slots_of-made (omega (arith, are.places))) ∙ new_slots_at K V e live (2 ^ e) j lt
+        ap (λ (s : List (SlotState K V)). slice_get s j) (slots_of-made (omega (arith, are.places))) ∙ new_slots_at K V e (is_none g) (2 ^ e) j lt
 
-    place_at-made_past : AreTables t → e ≤ GREATEST_TABLE → (j : ℕ) → 2 ^ e ≤ j → place_at (with_table t e live) e j ≡ None
+    place_at-made_past : AreTables t → e ≤ GREATEST_TABLE → (j : ℕ) → 2 ^ e ≤ j → place_at (with_table t e g) e j ≡ None
     place_at-made_past are within j past =
-        ap (λ (s : List (SlotState K V)). slice_get s j) (slots_of-made (omega (arith, are.places))) ∙ new_slots_past K V e live (2 ^ e) j past
+        ap (λ (s : List (SlotState K V)). slice_get s j) (slots_of-made (omega (arith, are.places))) ∙ new_slots_past K V e (is_none g) (2 ^ e) j past
 
     -- and nothing past them
-    pub content_at-made_past : AreTables t → e ≤ GREATEST_TABLE → (j : ℕ) → 2 ^ e ≤ j → content_at (with_table t e live) e j ≡ IsUnborn
+    pub content_at-made_past : AreTables t → e ≤ GREATEST_TABLE → (j : ℕ) → 2 ^ e ≤ j → content_at (with_table t e g) e j ≡ IsUnborn
     content_at-made_past are within j past = ap (λ (o : Option (SlotState K V)). option_map_or (λ (p : SlotState K V). p.content) o IsUnborn) (place_at-made_past are within j past)
 
-    pub place_at-made_other : (d j : ℕ) → (d ≡ e → ⊥) → place_at (with_table t e live) d j ≡ place_at t d j
+    pub place_at-made_other : (d j : ℕ) → (d ≡ e → ⊥) → place_at (with_table t e g) d j ≡ place_at t d j
     place_at-made_other d j apart = ap (λ (s : List (SlotState K V)). slice_get s j) (slots_of-made_other d apart)
 
-    pub content_at-made_here : AreTables t → e ≤ GREATEST_TABLE → (j : ℕ) → j < 2 ^ e → content_at (with_table t e live) e j ≡ fresh live
-    content_at-made_here are within j lt = content_of_place (with_table t e live) e j _ (place_at-made are within j lt)
+    pub content_at-made_here : AreTables t → e ≤ GREATEST_TABLE → (j : ℕ) → j < 2 ^ e → content_at (with_table t e g) e j ≡ fresh (is_none g)
+    content_at-made_here are within j lt = content_of_place (with_table t e g) e j _ (place_at-made are within j lt)
 
-    pub content_at-made_other : (d j : ℕ) → (d ≡ e → ⊥) → content_at (with_table t e live) d j ≡ content_at t d j
+    pub content_at-made_other : (d j : ℕ) → (d ≡ e → ⊥) → content_at (with_table t e g) d j ≡ content_at t d j
     content_at-made_other d j apart = ap (λ (o : Option (SlotState K V)). option_map_or (λ (p : SlotState K V). p.content) o IsUnborn) (place_at-made_other d j apart)
 
-    pub AreTables-made : AreTables t → e ≤ GREATEST_TABLE → AreTables (with_table t e live)
+    -- a board that is there is one of the table before it
+    boards_for : AreTables t → (d : ℕ) (b : PlainBoardState) → get_or (with_board t.boards e g) (d + 1) None ≡ Some b → b.table ≡ d
+    boards_for are d b at = by_place (cases_eq (d + 1) e)
+      where
+        by_growth : (h : Option ℕ) → g ≡ h → d + 1 ≡ e → board_for e h (get_or t.boards e None) ≡ Some b → b.table ≡ d
+        by_growth None is same here = are.boards d b (ap (λ n. get_or t.boards n None) same ∙ here)
+        by_growth (Some p) is same here = ap (λ o. table_or o) (sym here) ∙ (let n : e - 1 ≡ d = omega arith in n)
+          where
+            table_or : Option PlainBoardState → ℕ
+            table_or None = 0
+            table_or (Some c) = c.table
+
+        by_place : (d + 1 ≡ e) ⊎ (d + 1 ≡ e → ⊥) → b.table ≡ d
+        by_place (inr apart) = are.boards d b (sym (get_or-set_other t.boards e (d + 1) _ None apart) ∙ at)
+        by_place (inl same) = by_growth g refl same (by_length (cases_lt e (length t.boards)))
+          where
+            by_length : (e < length t.boards) ⊎ (length t.boards ≤ e) → board_for e g (get_or t.boards e None) ≡ Some b
+            by_length (inl lt) = sym (get_or-set_same t.boards e _ None lt) ∙ ap (λ n. get_or (with_board t.boards e g) n None) (sym same) ∙ at
+            by_length (inr past) = let none : get_or (with_board t.boards e g) (d + 1) None ≡ None = get_or_past (with_board t.boards e g) (d + 1) None (omega (arith, length-set t.boards e (board_for e g (get_or t.boards e None)))) in absurd cc
+
+    pub AreTables-made : AreTables t → e ≤ GREATEST_TABLE → AreTables (with_table t e g)
     AreTables-made are within = record {
-      places = length-set t e _ ∙ are.places;
+      places = length-set t.slots e _ ∙ are.places;
       slots = λ d made. sized d made (cases_eq d e);
       order = λ d j p at. ordered d j p at (cases_eq d e) (cases_lt j (2 ^ e));
+      board_places = length-set t.boards e _ ∙ are.board_places;
+      boards = boards_for are;
     }
       where
-        sized : (d : ℕ) → is_made (slots_of (with_table t e live) d) ≡ true → (d ≡ e) ⊎ (d ≡ e → ⊥) → length (slots_of (with_table t e live) d) ≡ 2 ^ d
+        sized : (d : ℕ) → is_made (slots_of (with_table t e g) d) ≡ true → (d ≡ e) ⊎ (d ≡ e → ⊥) → length (slots_of (with_table t e g) d) ≡ 2 ^ d
         sized d made (inl same) =
-            ap (λ (n : ℕ). length (slots_of (with_table t e live) n)) same ∙ ap length (slots_of-made (omega (arith, are.places))) ∙ length-new_slots K V e live (2 ^ e) ∙ ap (λ (n : ℕ). 2 ^ n) (sym same)
+            ap (λ (n : ℕ). length (slots_of (with_table t e g) n)) same ∙ ap length (slots_of-made (omega (arith, are.places))) ∙ length-new_slots K V e (is_none g) (2 ^ e) ∙ ap (λ (n : ℕ). 2 ^ n) (sym same)
         sized d made (inr apart) = ap length (slots_of-made_other d apart) ∙ are.slots d (ap is_made (sym (slots_of-made_other d apart)) ∙ made)
 
-        ordered : (d j : ℕ) (p : SlotState K V) → place_at (with_table t e live) d j ≡ Some p → (d ≡ e) ⊎ (d ≡ e → ⊥) → (j < 2 ^ e) ⊎ (2 ^ e ≤ j) → (p.table ≡ d) × (p.index ≡ j)
+        ordered : (d j : ℕ) (p : SlotState K V) → place_at (with_table t e g) d j ≡ Some p → (d ≡ e) ⊎ (d ≡ e → ⊥) → (j < 2 ^ e) ⊎ (2 ^ e ≤ j) → (p.table ≡ d) × (p.index ≡ j)
         ordered d j p at (inr apart) w = are.order d j p (sym (place_at-made_other d j apart) ∙ at)
         ordered d j p at (inl same) (inl lt) =
-            let there = ap (λ (n : ℕ). place_at (with_table t e live) n j) same ∙ place_at-made are within j lt in
-            let one : p ≡ record { table = e; index = j; content = fresh live } = cc in
+            let there = ap (λ (n : ℕ). place_at (with_table t e g) n j) same ∙ place_at-made are within j lt in
+            let one : p ≡ record { table = e; index = j; content = fresh (is_none g) } = cc in
             (ap (λ (x : SlotState K V). x.table) one ∙ sym same, ap (λ (x : SlotState K V). x.index) one)
         ordered d j p at (inl same) (inr past) =
-            let none = ap (λ (n : ℕ). place_at (with_table t e live) n j) same ∙ place_at-made_past are within j past in
+            let none = ap (λ (n : ℕ). place_at (with_table t e g) n j) same ∙ place_at-made_past are within j past in
             absurd cc
 
-    pub is_made-made : AreTables t → e ≤ GREATEST_TABLE → is_made (slots_of (with_table t e live) e) ≡ true
+    pub is_made-made : AreTables t → e ≤ GREATEST_TABLE → is_made (slots_of (with_table t e g) e) ≡ true
     is_made-made are within =
-        let len : length (slots_of (with_table t e live) e) ≡ 2 ^ e = ap length (slots_of-made (omega (arith, are.places))) ∙ length-new_slots K V e live (2 ^ e) in
-        made_some (slots_of (with_table t e live) e) (omega (arith, pow_pos e))
+        let len : length (slots_of (with_table t e g) e) ≡ 2 ^ e = ap length (slots_of-made (omega (arith, are.places))) ∙ length-new_slots K V e (is_none g) (2 ^ e) in
+        made_some (slots_of (with_table t e g) e) (omega (arith, pow_pos e))
 
     -- the table is there once it was asked for and not refused
-    pub is_made-placed : (t' : Tables K V) → AreTables t → e ≤ GREATEST_TABLE → PlaceGives t e live true t' → is_made (slots_of t' e) ≡ true
+    pub is_made-placed : (t' : Tables K V) → AreTables t → e ≤ GREATEST_TABLE → PlaceGives t e g true t' → is_made (slots_of t' e) ≡ true
     is_made-placed t' are within gives = by_made (is_made (slots_of t e)) refl gives
       where
-        by_made : (m : Bool) → is_made (slots_of t e) ≡ m → MadeGives m t e live true t' → is_made (slots_of t' e) ≡ true
+        by_made : (m : Bool) → is_made (slots_of t e) ≡ m → MadeGives m t e g true t' → is_made (slots_of t' e) ≡ true
         by_made true is gives = ap (λ (u : Tables K V). is_made (slots_of u e)) gives.1 ∙ is
         by_made false is gives = ap (λ (u : Tables K V). is_made (slots_of u e)) gives ∙ is_made-made are within
 
     -- whether it was there, is made or is refused, tables stay tables
-    pub AreTables-placed : (ok : Bool) (t' : Tables K V) → AreTables t → e ≤ GREATEST_TABLE → PlaceGives t e live ok t' → AreTables t'
+    pub AreTables-placed : (ok : Bool) (t' : Tables K V) → AreTables t → e ≤ GREATEST_TABLE → PlaceGives t e g ok t' → AreTables t'
     AreTables-placed ok t' are within gives = by_made (is_made (slots_of t e)) ok gives
       where
-        by_made : (m ok : Bool) → MadeGives m t e live ok t' → AreTables t'
-        by_made true ok gives = subst AreTables (sym gives.1) are
+        by_made : (m ok : Bool) → MadeGives m t e g ok t' → AreTables t'
+        by_made true ok gives = subst AreTables (sym gives.1) (record { places = are.places; slots = are.slots; order = are.order; board_places = length-set t.boards e _ ∙ are.board_places; boards = boards_for are })
         by_made false true gives = subst AreTables (sym gives) (AreTables-made are within)
         by_made false false gives = subst AreTables (sym gives) are
 
@@ -280,46 +340,66 @@ module _ {K V : Type 0} where
           ap (λ (o : Option (SlotState K V)). option_map_or (λ (r : SlotState K V). r.content) o IsUnborn) (slice_get_past (p ∷ s) j (omega arith))
 
   -- what stands at each slot after a table was made
-  pub content_at-made : (t : Tables K V) (e : ℕ) (live : Bool) → AreTables t → e ≤ GREATEST_TABLE → (d j : ℕ)
-      → content_at (with_table t e live) d j ≡ (if e == d && nat_lt j (2 ^ e) then fresh live else content_at t d j)
-  content_at-made t e live are within d j = by_case (cases_eq e d) (cases_lt j (2 ^ e))
+  pub content_at-made : (t : Tables K V) (e : ℕ) (g : Option ℕ) → AreTables t → e ≤ GREATEST_TABLE → (d j : ℕ)
+      → content_at (with_table t e g) d j ≡ (if e == d && nat_lt j (2 ^ e) then fresh (is_none g) else content_at t d j)
+  content_at-made t e g are within d j = by_case (cases_eq e d) (cases_lt j (2 ^ e))
     where
-      by_case : (e ≡ d) ⊎ (e ≡ d → ⊥) → (j < 2 ^ e) ⊎ (2 ^ e ≤ j) → content_at (with_table t e live) d j ≡ (if e == d && nat_lt j (2 ^ e) then fresh live else content_at t d j)
-      by_case (inr apart) w = rw (ne_eqb e d apart) (content_at-made_other t e live d j (λ h. apart (sym h)))
-      by_case (inl same) (inl lt) = rw (eq-eqb e d same, lt-ltb j (2 ^ e) lt) (ap (λ (n : ℕ). content_at (with_table t e live) n j) (sym same) ∙ content_at-made_here t e live are within j lt)
+      by_case : (e ≡ d) ⊎ (e ≡ d → ⊥) → (j < 2 ^ e) ⊎ (2 ^ e ≤ j) → content_at (with_table t e g) d j ≡ (if e == d && nat_lt j (2 ^ e) then fresh (is_none g) else content_at t d j)
+      by_case (inr apart) w = rw (ne_eqb e d apart) (content_at-made_other t e g d j (λ h. apart (sym h)))
+      by_case (inl same) (inl lt) = rw (eq-eqb e d same, lt-ltb j (2 ^ e) lt) (ap (λ (n : ℕ). content_at (with_table t e g) n j) (sym same) ∙ content_at-made_here t e g are within j lt)
       by_case (inl same) (inr past) =
           rw (eq-eqb e d same, le-ltb j (2 ^ e) past)
-          (ap (λ (n : ℕ). content_at (with_table t e live) n j) (sym same) ∙ content_at-made_past t e live are within j past ∙ sym (content_past t e j are past) ∙ ap (λ (n : ℕ). content_at t n j) same)
+          (ap (λ (n : ℕ). content_at (with_table t e g) n j) (sym same) ∙ content_at-made_past t e g are within j past ∙ sym (content_past t e j are past) ∙ ap (λ (n : ℕ). content_at t n j) same)
 
   -- a table of unborn bins that was not there changes nothing that stands at a slot
-  pub content_at-unborn : (t : Tables K V) (e : ℕ) → AreTables t → e ≤ GREATEST_TABLE → is_made (slots_of t e) ≡ false → (d j : ℕ) → content_at (with_table t e false) d j ≡ content_at t d j
-  content_at-unborn t e are within none d j = elim (cases_eq d e) [
-    | inr apart ↦ content_at-made_other t e false d j apart
-    | inl same ↦ ap (λ (n : ℕ). content_at (with_table t e false) n j) same ∙ unborn_here (cases_lt j (2 ^ e)) ∙ sym (nothing_in (slots_of t e) none) ∙ ap (λ (n : ℕ). content_at t n j) (sym same)
+  pub content_at-unborn : (t : Tables K V) (e p : ℕ) → AreTables t → e ≤ GREATEST_TABLE → is_made (slots_of t e) ≡ false → (d j : ℕ) → content_at (with_table t e (Some p)) d j ≡ content_at t d j
+  content_at-unborn t e p are within none d j = elim (cases_eq d e) [
+    | inr apart ↦ content_at-made_other t e (Some p) d j apart
+    | inl same ↦ ap (λ (n : ℕ). content_at (with_table t e (Some p)) n j) same ∙ unborn_here (cases_lt j (2 ^ e)) ∙ sym (nothing_in (slots_of t e) none) ∙ ap (λ (n : ℕ). content_at t n j) (sym same)
   ]
     where
-      unborn_here : (j < 2 ^ e) ⊎ (2 ^ e ≤ j) → content_at (with_table t e false) e j ≡ IsUnborn
-      unborn_here (inl lt) = content_at-made_here t e false are within j lt
-      unborn_here (inr past) = content_at-made_past t e false are within j past
+      unborn_here : (j < 2 ^ e) ⊎ (2 ^ e ≤ j) → content_at (with_table t e (Some p)) e j ≡ IsUnborn
+      unborn_here (inl lt) = content_at-made_here t e (Some p) are within j lt
+      unborn_here (inr past) = content_at-made_past t e (Some p) are within j past
 
       nothing_in : (s : List (SlotState K V)) → is_made s ≡ false → option_map_or (λ (p : SlotState K V). p.content) (slice_get s j) IsUnborn ≡ IsUnborn
       nothing_in [] h = refl
       nothing_in (p ∷ s) h = absurd cc
 
   -- so it is where that table was asked for
-  pub content_at-placed : (t : Tables K V) (e : ℕ) (ok : Bool) (t' : Tables K V) → AreTables t → e ≤ GREATEST_TABLE → PlaceGives t e false ok t' → (d j : ℕ) → content_at t' d j ≡ content_at t d j
-  content_at-placed t e ok t' are within gives d j = by_made (is_made (slots_of t e)) ok refl gives
+  pub content_at-placed : (t : Tables K V) (e p : ℕ) (ok : Bool) (t' : Tables K V) → AreTables t → e ≤ GREATEST_TABLE → PlaceGives t e (Some p) ok t' → (d j : ℕ) → content_at t' d j ≡ content_at t d j
+  content_at-placed t e p ok t' are within gives d j = by_made (is_made (slots_of t e)) ok refl gives
     where
-      by_made : (m ok : Bool) → is_made (slots_of t e) ≡ m → MadeGives m t e false ok t' → content_at t' d j ≡ content_at t d j
+      by_made : (m ok : Bool) → is_made (slots_of t e) ≡ m → MadeGives m t e (Some p) ok t' → content_at t' d j ≡ content_at t d j
       by_made true ok is gives = ap (λ (u : Tables K V). content_at u d j) gives.1
-      by_made false true is gives = ap (λ (u : Tables K V). content_at u d j) gives ∙ content_at-unborn t e are within is d j
+      by_made false true is gives = ap (λ (u : Tables K V). content_at u d j) gives ∙ content_at-unborn t e p are within is d j
       by_made false false is gives = ap (λ (u : Tables K V). content_at u d j) gives
+
+  -- ---- a growth begins
+
+  module _ (t : Tables K V) (e p : ℕ) (t' : Tables K V) (are : AreTables t) (below : e < GREATEST_TABLE) (gives : PlaceGives t (e + 1) (Some p) true t') where
+    boards-begun : t'.boards ≡ with_board t.boards (e + 1) (Some p)
+    boards-begun = by_made (is_made (slots_of t (e + 1))) gives
+      where
+        by_made : (m : Bool) → MadeGives m t (e + 1) (Some p) true t' → t'.boards ≡ with_board t.boards (e + 1) (Some p)
+        by_made true h = ap (λ (u : Tables K V). u.boards) h.1
+        by_made false h = ap (λ (u : Tables K V). u.boards) h
+
+    -- it has a new board
+    pub board_at-begun : board_at t' e ≡ Some (begun_board e p)
+    board_at-begun =
+        ap (λ b. get_or b (e + 1) None) boards-begun ∙ get_or-set_same t.boards (e + 1) _ None (omega (arith, are.board_places, below))
+        ∙ ap (λ n. Some (begun_board n p)) (let n : e + 1 - 1 ≡ e = omega arith in n)
+
+    -- and every other one is as it was
+    pub board_at-begun_other : (n : ℕ) → (n ≡ e → ⊥) → board_at t' n ≡ board_at t n
+    board_at-begun_other n apart = ap (λ b. get_or b (n + 1) None) boards-begun ∙ get_or-set_other t.boards (e + 1) (n + 1) _ None (λ same. apart (omega (arith, same)))
 
   -- ---- a bin moves
 
   -- a second slot of the table is put
-  pub put_twice : (t : Tables K V) (d i j : ℕ) (q r : SlotState K V) → d < length t → put_place (put_place t d i q) d j r ≡ set t d (set (set (slots_of t d) i q) j r)
-  put_twice t d i j q r lt = set-set t d _ _ ∙ ap (λ (s : List (SlotState K V)). set t d (set s j r)) (get_or-set_same t d _ [] lt)
+  pub put_twice : (t : Tables K V) (d i j : ℕ) (q r : SlotState K V) → d < length t.slots → (put_place (put_place t d i q) d j r).slots ≡ set t.slots d (set (set (slots_of t d) i q) j r)
+  put_twice t d i j q r lt = set-set t.slots d _ _ ∙ ap (λ (s : List (SlotState K V)). set t.slots d (set s j r)) (get_or-set_same t.slots d _ [] lt)
 
   -- three slots are put, in two tables
   pub AreTables-moved : (t : Tables K V) (e i : ℕ) (q low high q' low' high' : SlotState K V) → AreTables t

@@ -5,13 +5,11 @@ use Rattle.std.specs.Cmp.{IsTotalOrder}
 use Rattle.std.proofs.Common.{arith, refl, sym, ◌∙◌, ap, subst}
 use Rattle.std.proofs.lemmas.Bool.{ltb-true}
 use Rattle.flurry_slots.specs.Slot.{Content, IsUnborn}
-use Rattle.flurry_control.specs.Claim.{Range}
-use Rattle.flurry_control.specs.Control as control
-use Rattle.flurry_control.specs.Control.{IsIdle, Grows}
+use Rattle.flurry_control.specs.Claim.{ClaimState}
 use Rattle.flurry_calls.specs.Cursor.{CursorState}
 use Rattle.flurry_calls.specs.Sweep as swept
 use Rattle.flurry_calls.specs.Sweep.{Errand, Reads, Wipes, SweepStage, AtOutset, OverBins, AtTotal, AtEnd, AfterEnd, SweepState, IsUnderWay}
-use Rattle.flurry_steps.specs.Party.{Task, Finds, Removes, RemovesSeen, Inserts, Adds, Computes, Resume, Stage, AtLocate, AtBin, AtClaim, AtMove, AtUncount, AtCount, AtRecount, AtBegin, AtGrow, AtReserve, AtSweep, AtDone, AtTaken, part_of, wanted_part, bin_part, move_part}
+use Rattle.flurry_steps.specs.Party.{Task, Finds, Removes, RemovesSeen, Inserts, Adds, Computes, WantsSeat, AtBoard, Moving, Publishing, GivesBack, Resume, Stage, AtLocate, AtBin, AtHelp, AtUncount, AtCount, AtRecount, AtBegin, AtGrow, AtReserve, AtSweep, AtDone, AtTaken, part_of, wanted_part, bin_part, move_part}
 use Rattle.flurry_theory.specs.Map.{same, key_of}
 use Rattle.flurry_theory.specs.Invariant.{is_live, key_in, NamesBorn}
 use Rattle.flurry_theory.proofs.Bins.{double}
@@ -25,6 +23,8 @@ use Rattle.flurry_world.proofs.CallLaws.{key_of_task}
 use Rattle.flurry_world.proofs.TableLaws.{place_of_content, place_of_made}
 use Rattle.flurry_world.proofs.PlaceLaws.{unmade_empty}
 use Rattle.flurry_world.proofs.Cases.{calls, in_mode, in_claim}
+use Rattle.flurry_world.proofs.ClaimCases.{growing_is}
+use Rattle.flurry_world.proofs.StateLaws.{same_some}
 
 module _ {K V F S : Type 0} (cmp : K → K → Ordering) (total : IsTotalOrder cmp) (hash : K → ℕ) (lawful : (j k : K) → same cmp j k ≡ true → hash j ≡ hash k) (gives : F → K → V → Option V → Type 0) (w : WorldState K V F S) (k : IsWorld cmp hash gives w) (p : ℕ) (x : PartyRecord K V F) (at : slice_get w.party_records p ≡ Some x) where
   -- the bin of a party's key is not unborn
@@ -48,39 +48,39 @@ module _ {K V F S : Type 0} (cmp : K → K → Ordering) (total : IsTotalOrder c
       by_task (Adds j v) h = h
       by_task (Computes j g) h = h
 
-  there_move : (m : Range) (a : Resume K V F) → x.party_state.stage ≡ AtMove m a → (d : Bool) → nat_lt m.low m.left ≡ d → IsThere w.tables (move_part (cond {A = Option (ℕ × ℕ)} d (Some (m.table, m.left - 1)) None))
+  there_move : (m : ClaimState) (a : Resume K V F) → x.party_state.stage ≡ AtHelp (Moving m) a → (d : Bool) → nat_lt m.range.low m.left ≡ d → IsThere w.tables (move_part m.range.table (cond {A = Option (ℕ × ℕ)} d (Some (m.range.table, m.left - 1)) None))
   there_move m a f false h = tt
   there_move m a f true h = (
-    place_of_content w.tables m.table (m.left - 1) (λ z. born (content_at w.tables m.table (m.left - 1)) (k.state.1.cut.left_live p _ (m.left - 1) holds (omega (arith, less)) (omega (arith, less))) z),
-    subst (λ n. IsSome (place_at w.tables n (m.left - 1))) (sym next_table) (place_of_made w.tables (suc m.table) (m.left - 1) k.tables made (omega (arith, in_table, double m.table))),
-    subst (λ n. IsSome (place_at w.tables n (m.left - 1 + 2 ^ m.table))) (sym next_table) (place_of_made w.tables (suc m.table) (m.left - 1 + 2 ^ m.table) k.tables made (omega (arith, in_table, double m.table))),
+    place_of_content w.tables m.range.table (m.left - 1) (λ z. born (content_at w.tables m.range.table (m.left - 1)) (k.state.1.cut.left_live p _ (m.left - 1) holds (omega (arith, less)) (omega (arith, less))) z),
+    subst (λ n. IsSome (place_at w.tables n (m.left - 1))) (sym next_table) (place_of_made w.tables (suc m.range.table) (m.left - 1) k.tables made (omega (arith, in_table, double m.range.table))),
+    subst (λ n. IsSome (place_at w.tables n (m.left - 1 + 2 ^ m.range.table))) (sym next_table) (place_of_made w.tables (suc m.range.table) (m.left - 1 + 2 ^ m.range.table) k.tables made (omega (arith, in_table, double m.range.table))),
   )
     where
-      holds : (state_of w).claim p ≡ Some (record { table = m.table; low = m.low; left = m.left; high = m.high })
-      holds = in_claim cmp total hash lawful gives w k p x at x.party_state (AtMove m a) f
+      holds : (state_of w).claim p ≡ Some (record { table = m.range.table; low = m.range.low; left = m.left; high = m.range.high })
+      holds = in_claim cmp total hash lawful gives w k p x at x.party_state (AtHelp (Moving m) a) f
 
-      less : m.low < m.left
-      less = ltb-true m.low m.left h
+      less : m.range.low < m.left
+      less = ltb-true m.range.low m.left h
 
-      next_table : m.table + 1 ≡ suc m.table
+      next_table : m.range.table + 1 ≡ suc m.range.table
       next_table = omega arith
 
-      claim_ok : (w.control_state.published ≡ Some m.table) × (m.low < m.high) × (m.low ≤ m.left) × (m.left ≤ m.high) × (m.high ≤ 2 ^ m.table)
+      claim_ok : (w.control_state.published ≡ Some m.range.table) × (m.range.low < m.range.high) × (m.range.low ≤ m.left) × (m.left ≤ m.range.high) × (m.range.high ≤ 2 ^ m.range.table)
       claim_ok = k.state.1.cut.claims p _ holds
 
-      in_table : m.left - 1 < 2 ^ m.table
+      in_table : m.left - 1 < 2 ^ m.range.table
       in_table = omega (arith, claim_ok.3, claim_ok.4, less)
 
       born : (z : Content K V) → is_live (slot_of z) ≡ true → z ≡ IsUnborn → ⊥
       born z live g = let no : is_live (slot_of {K = K} {V = V} IsUnborn) ≡ true = ap (λ u. is_live (slot_of u)) (sym g) ∙ live in cc
 
-      made : is_made (slots_of w.tables (suc m.table)) ≡ true
-      made = by_growth w.control_state.growth refl (is_made (slots_of w.tables (suc m.table))) refl
+      made : is_made (slots_of w.tables (suc m.range.table)) ≡ true
+      made = by_growth w.control_state.growth refl (is_made (slots_of w.tables (suc m.range.table))) refl
         where
-          by_growth : (g : control.Growth) → w.control_state.growth ≡ g → (b : Bool) → is_made (slots_of w.tables (suc m.table)) ≡ b → b ≡ true
+          by_growth : (g : Option ℕ) → w.control_state.growth ≡ g → (b : Bool) → is_made (slots_of w.tables (suc m.range.table)) ≡ b → b ≡ true
           by_growth g e true s = refl
-          by_growth IsIdle e false s = let none : (state_of w).claim p ≡ None = k.state.1.cut.idle (ap growth_of e) p in cc
-          by_growth (Grows u r) e false s = absurd (k.next m.table u r claim_ok.0 e (unmade_empty (slots_of w.tables (suc m.table)) s))
+          by_growth None e false s = let none : (state_of w).claim p ≡ None = k.state.1.cut.idle (ap (λ z. growth_of z w.tables) e) p in cc
+          by_growth (Some n) e false s = absurd (k.next n e (unmade_empty (slots_of w.tables (suc n)) (ap (λ d. is_made (slots_of w.tables (suc d))) (same_some (sym (growing_is w.control_state.published w.control_state.growth n e k.control_state.growth) ∙ claim_ok.0)) ∙ s)))
 
   -- the bin that a walk or a clear goes over is not unborn
   pub frame_is_there : (u : SweepState K V) → x.party_state.stage ≡ AtSweep u → (f : CursorState K) → u.stage ≡ OverBins f → content_at w.tables f.top.table f.top.index ≡ IsUnborn → ⊥
@@ -110,8 +110,11 @@ module _ {K V F S : Type 0} (cmp : K → K → Ordering) (total : IsTotalOrder c
   there : (s : Stage K V F) → x.party_state.stage ≡ s → IsGoing s → IsThere w.tables (part_of x.party_state.hash s)
   there (AtLocate t) e g = tt
   there (AtBin t n) e g = there_bin t n e
-  there (AtClaim a) e g = tt
-  there (AtMove m a) e g = there_move m a e (nat_lt m.low m.left) refl
+  there (AtHelp (WantsSeat n) a) e g = tt
+  there (AtHelp (AtBoard n) a) e g = tt
+  there (AtHelp (Moving m) a) e g = there_move m a e (nat_lt m.range.low m.left) refl
+  there (AtHelp (Publishing n) a) e g = tt
+  there (AtHelp (GivesBack n) a) e g = tt
   there (AtUncount r) e g = tt
   there (AtCount r) e g = tt
   there (AtRecount r) e g = tt

@@ -10,6 +10,7 @@ use Rattle.flurry_theory.proofs.Counts.{count_within}
 use Rattle.std.proofs.lemmas.Option.{slice_get_past, slice_get-get_or}
 use Rattle.flurry_control.specs.Control.{ControlState}
 use Rattle.flurry_steps.specs.Party.{PartyState, wanted_part}
+use Rattle.flurry_steps.specs.PartyBoard.{lost}
 use Rattle.flurry_model.specs.declared.call.Call.{Call}
 use Rattle.flurry_model.specs.declared.call.Call.TheVariants as call
 use Rattle.flurry_model.specs.declared.call.Seen.{Seen}
@@ -19,9 +20,9 @@ use Rattle.flurry_theory.specs.declared.Label.TheVariants as label
 use Rattle.flurry_world.specs.Tables.{Tables}
 use Rattle.flurry_world.specs.Parts.{IsGoing, IsThere}
 use Rattle.flurry_world.specs.World.{PartyRecord, WorldState, Near, state_of, seen_in, steps_in, IsWorld, IsBounded, DoesTransition}
-use Rattle.flurry_world.specs.Steps.{with_label, with_party_record, with_step, StepByStage, RecordStep, WorldStep}
+use Rattle.flurry_world.specs.Steps.{with_label, with_party_record, with_loss, with_step, StepByStage, RecordStep, WorldStep, WorldLoses}
 use Rattle.flurry_world.proofs.BeginLaws.{IsBeginning}
-use Rattle.flurry_world.proofs.WorldLaws.{silent, silent_line, began, begin_line, stepped, one_line}
+use Rattle.flurry_world.proofs.WorldLaws.{silent, silent_line, loses, loss_line, began, begin_line, stepped, one_line}
 use Rattle.flurry_world.proofs.ThereLaws.{is_there}
 use Rattle.flurry_model.specs.declared.sizes.TheConstants.{MOST_LABELS}
 
@@ -68,6 +69,48 @@ module _ {K V F S : Type 0} (cmp : K → K → Ordering) (total : IsTotalOrder c
 
       shown : WorldState K V F S
       shown = record { hasher = w.hasher; processors = w.processors; first = w.first; control_state = w.control_state; tables = w.tables; party_records = w.party_records; trace = t }
+
+  -- an unknown party's loss
+  pub unknown_loss : (before : List (Label K V F)) → before ≡ w.trace → length before < MOST_LABELS → (p : ℕ) → length w.party_records ≤ p → (t : List (Label K V F)) → t ≡ before ++ label.Silent p ∷ []
+      → IsBounded cmp hash gives (record { hasher = w.hasher; processors = w.processors; first = w.first; control_state = w.control_state; tables = w.tables; party_records = w.party_records; trace = t })
+      × WorldLoses w p (record { hasher = w.hasher; processors = w.processors; first = w.first; control_state = w.control_state; tables = w.tables; party_records = w.party_records; trace = t })
+      × DoesTransition cmp hash gives w p (record { hasher = w.hasher; processors = w.processors; first = w.first; control_state = w.control_state; tables = w.tables; party_records = w.party_records; trace = t })
+  unknown_loss before is short p past t added =
+      let (bounded, stepped, line) = unknown_step before is short p past t added in
+      let unknown : slice_get w.party_records p ≡ None = slice_get_past w.party_records p past in
+      (bounded, subst (λ o. MatchOption o (shown ≡ with_label w (label.Silent p)) (λ x. shown ≡ with_loss w p x)) (sym unknown) (subst (λ o. MatchOption o (shown ≡ with_label w (label.Silent p)) (λ x. RecordStep cmp gives w p x shown)) unknown stepped), line)
+    where
+      shown : WorldState K V F S
+      shown = record { hasher = w.hasher; processors = w.processors; first = w.first; control_state = w.control_state; tables = w.tables; party_records = w.party_records; trace = t }
+
+  -- a loss of a known party
+  pub loss_step : (before : List (Label K V F)) → before ≡ w.trace → length before < MOST_LABELS → (p : ℕ) (x : PartyRecord K V F) → slice_get w.party_records p ≡ Some x → (c : PartyState K V F) → c ≡ lost x.party_state
+      → (party_records : List (PartyRecord K V F)) → party_records ≡ slice_set w.party_records p (record { call = x.call; began_from = x.began_from; party_state = c; steps = x.steps }) → (trace : List (Label K V F)) → trace ≡ before ++ label.Silent p ∷ []
+      → IsBounded cmp hash gives (record { hasher = w.hasher; processors = w.processors; first = w.first; control_state = w.control_state; tables = w.tables; party_records = party_records; trace = trace })
+      × WorldLoses w p (record { hasher = w.hasher; processors = w.processors; first = w.first; control_state = w.control_state; tables = w.tables; party_records = party_records; trace = trace })
+      × DoesTransition cmp hash gives w p (record { hasher = w.hasher; processors = w.processors; first = w.first; control_state = w.control_state; tables = w.tables; party_records = party_records; trace = trace })
+  loss_step before is short p x at c goes party_records d trace added = (
+    subst (IsBounded cmp hash gives) (sym after) (record { world = loses cmp total hash (alike_class cmp hash alike) gives w k.world near p x at; few = omega (arith, length-append w.trace (label.Silent p ∷ []), few) }),
+    subst (λ o. MatchOption o (shown ≡ with_label w (label.Silent p)) (λ x. shown ≡ with_loss w p x)) (sym at) after,
+    subst (DoesTransition cmp hash gives w p) (sym after) (loss_line cmp total hash (alike_class cmp hash alike) gives w k.world near p x at),
+  )
+    where
+      few : length w.trace < MOST_LABELS
+      few = subst (λ u. length u < MOST_LABELS) is short
+
+      shown : WorldState K V F S
+      shown = record { hasher = w.hasher; processors = w.processors; first = w.first; control_state = w.control_state; tables = w.tables; party_records = party_records; trace = trace }
+
+      after : shown ≡ with_loss w p x
+      after = λ i. record {
+        hasher = w.hasher;
+        processors = w.processors;
+        first = w.first;
+        control_state = w.control_state;
+        tables = w.tables;
+        party_records = (d ∙ ap (λ z. slice_set w.party_records p (record { call = x.call; began_from = x.began_from; party_state = z; steps = x.steps })) goes) i;
+        trace = (added ∙ ap (λ u. u ++ label.Silent p ∷ []) is) i;
+      }
 
   -- a party has done no more steps than there are labels
   pub steps_within : (p : ℕ) (x : PartyRecord K V F) → slice_get w.party_records p ≡ Some x → x.steps ≤ 2 ^ 62
@@ -119,7 +162,7 @@ module _ {K V F S : Type 0} (cmp : K → K → Ordering) (total : IsTotalOrder c
     party_begins before is short parties are party_records put n number trace added = (
       subst (IsBounded cmp hash gives) (sym after) (record { world = begins; few = omega (arith, length-append w.trace (label.Begin (length w.party_records) d ∷ []), few) }),
       after,
-      subst (DoesTransition cmp hash gives w n) (sym after) (subst (λ m. DoesTransition cmp hash gives w m (with_party_record w d from c)) (sym number) (begin_line cmp total hash (alike_class cmp hash alike) gives w k.world near d from origin c fresh.mode fresh.claim fresh.unread)),
+      subst (DoesTransition cmp hash gives w n) (sym after) (subst (λ m. DoesTransition cmp hash gives w m (with_party_record w d from c)) (sym number) (begin_line cmp total hash (alike_class cmp hash alike) gives w k.world near d from origin c fresh.mode fresh.held fresh.unread)),
     )
       where
         few : length w.trace < MOST_LABELS
@@ -131,4 +174,4 @@ module _ {K V F S : Type 0} (cmp : K → K → Ordering) (total : IsTotalOrder c
             (added ∙ ap (λ u. u ++ label.Begin n d ∷ []) is ∙ ap (λ m. w.trace ++ label.Begin m d ∷ []) number)
 
         begins : IsWorld cmp hash gives (with_party_record w d from c)
-        begins = began cmp total hash (alike_class cmp hash alike) gives w k.world near d from origin c fresh.mode fresh.claim fresh.unread fresh.own_hash fresh.follows
+        begins = began cmp total hash (alike_class cmp hash alike) gives w k.world near d from origin c fresh.mode fresh.held fresh.unread fresh.own_hash fresh.follows

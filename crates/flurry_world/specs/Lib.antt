@@ -1,5 +1,6 @@
 pub mod Entries
 pub mod Tables
+pub mod TablesView
 pub mod Parts
 pub mod World
 pub mod Steps

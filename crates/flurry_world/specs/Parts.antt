@@ -1,16 +1,19 @@
 -- The parts of a map, and one step of a call in progress at the part that it wants: the control, and the tables.
-use Rattle.std.specs.Prelude.{◌≡◌, ℕ, pos, ◌+◌, ◌^◌, ◌≤◌, List, slice_get, slice_set, Option, Some, None, IsSome, ⊤}
+use Rattle.std.specs.Prelude.{◌≡◌, ℕ, pos, ◌+◌, ◌^◌, ◌≤◌, false, List, slice_get, slice_set, Option, Some, None, IsSome, MatchOption, ⊤}
 use Rattle.std.specs.declared.cmp.Ordering.{Ordering}
 use Rattle.flurry_slots.specs.Slot.{SlotState, IsSlot, IsUnborn}
-use Rattle.flurry_control.specs.Control.{ControlState, IsIdle}
-use Rattle.flurry_steps.specs.Field.{Loan, ControlLoan, StartLoan, TallyLoan, LookLoan, BinLoan, MoveLoan}
+use Rattle.flurry_claims.specs.PlainBoard.{has_seat, attempt_of, reports_last, after_take, after_attempt, after_report, after_give}
+use Rattle.flurry_claims.specs.declared.range.Attempt.TheVariants.{Nothing}
+use Rattle.flurry_control.specs.Control.{ControlState}
+use Rattle.flurry_steps.specs.Field.{Loan, ControlLoan, StartLoan, TallyLoan, LookLoan, BinLoan, MoveLoan, BoardLoan}
 use Rattle.flurry_calls.specs.Sweep.{IsUnderWay}
-use Rattle.flurry_calls.specs.Part.{Part, ControlPart, LookPart, BinPart, MovePart, NoPart}
+use Rattle.flurry_calls.specs.Part.{Part, ControlPart, LookPart, BinPart, MovePart, SeatPart, BoardPart, GivePart, NoPart}
 use Rattle.flurry_steps.specs.Party.{Stage, AtSweep, AtDone, AtTaken, PartyState}
+use Rattle.flurry_steps.specs.PartyBoard.{BoardAnswer, Seated, Attempted, Reported, TakenBack, BoardStep}
 use Rattle.flurry_steps.specs.PartyControl.{ControlStep}
 use Rattle.flurry_steps.specs.PartySlots.{SlotStep, MoveStep}
 use Rattle.flurry_calls.specs.declared.step.Event.{Event}
-use Rattle.flurry_world.specs.Tables.{Tables, no_tables, place_at, content_at, put_place, PlaceGives}
+use Rattle.flurry_world.specs.Tables.{Tables, no_tables, place_at, content_at, put_place, board_at, put_board, PlaceGives}
 
 -- all parts of a map
 pub record Parts (K V : Type 0) : Type 0 where
@@ -19,7 +22,7 @@ pub record Parts (K V : Type 0) : Type 0 where
 
 -- without a table
 abbrev pub no_parts : {K V : Type 0} → Parts K V
-no_parts = record { control_state = record { published = None; growth = IsIdle; count = pos 0 }; tables = no_tables }
+no_parts = record { control_state = record { published = None; growth = None; count = pos 0 }; tables = no_tables }
 
 -- the call is not done
 abbrev pub IsGoing : {K V F : Type 0} → Stage K V F → Type 0
@@ -28,13 +31,26 @@ IsGoing (AtDone r) = ⊥
 IsGoing AtTaken = ⊥
 IsGoing _ = ⊤
 
--- the slots of that part are there
+-- The slots of that part are there. A call that needs a board is answered without one too.
 abbrev pub IsThere : {K V : Type 0} → Tables K V → Part → Type 0
 IsThere t ControlPart = ⊤
 IsThere t (LookPart e i) = IsSome (place_at t e i)
 IsThere t (BinPart e i) = IsSome (place_at t e i)
 IsThere t (MovePart e i) = IsSome (place_at t e i) × IsSome (place_at t (e + 1) i) × IsSome (place_at t (e + 1) (i + 2 ^ e))
 IsThere t NoPart = ⊥
+IsThere t _ = ⊤
+
+-- what a call is answered at the board of the growth from table e, and at the seats there, and what stays of the board; where there is none,
+-- it finds no seat and nothing to claim, and no report is the last
+abbrev pub BoardGives : {K V : Type 0} → ℕ → BoardAnswer → Tables K V → Tables K V → Type 0
+BoardGives e (Seated got) t t' = MatchOption (board_at t e) ((got ≡ false) × (t' ≡ t)) (λ d. (got ≡ has_seat d) × (t' ≡ put_board t e (after_take d)))
+BoardGives e (Attempted x) t t' = MatchOption (board_at t e) ((x ≡ Nothing) × (t' ≡ t)) (λ d. (x ≡ attempt_of d) × (t' ≡ put_board t e (after_attempt d)))
+BoardGives e (Reported r last) t t' = MatchOption (board_at t e) ((last ≡ false) × (t' ≡ t)) (λ d. (last ≡ reports_last d r) × (t' ≡ put_board t e (after_report d r)))
+BoardGives e TakenBack t t' = MatchOption (board_at t e) (t' ≡ t) (λ d. t' ≡ put_board t e (after_give d))
+
+-- the call c does its step at the board of the growth from table e, or at the seats there
+abbrev pub AtBoardOf : {K V F : Type 0} → ℕ → PartyState K V F → ControlState → Tables K V → Event → PartyState K V F → ControlState → Tables K V → Type 0
+AtBoardOf e c b t ev c' b' t' = (x : BoardAnswer) × BoardStep c x ev c' × BoardGives e x t t' × (b' ≡ b)
 
 module _ {K V F : Type 0} (cmp : K → K → Ordering) (changes : F → K → V → Option V → Type 0) where
   -- The call c does its step at that part, of the control b and the tables t, with that event. Every other part stays.
@@ -49,6 +65,9 @@ module _ {K V F : Type 0} (cmp : K → K → Ordering) (changes : F → K → V 
       × (place_at t e i ≡ Some q) × (place_at t (e + 1) i ≡ Some low) × (place_at t (e + 1) (i + 2 ^ e) ≡ Some high)
       × IsSlot cmp q × MoveStep c q low high ev c' q' low' high' × (b' ≡ b)
       × (t' ≡ put_place (put_place (put_place t e i q') (e + 1) i low') (e + 1) (i + 2 ^ e) high')
+  PartStep (SeatPart e) c b t ev c' b' t' = AtBoardOf e c b t ev c' b' t'
+  PartStep (BoardPart e) c b t ev c' b' t' = AtBoardOf e c b t ev c' b' t'
+  PartStep (GivePart e) c b t ev c' b' t' = AtBoardOf e c b t ev c' b' t'
   PartStep NoPart c b t ev c' b' t' = ⊥
 
 -- the call c does its step at the slot q and its two halves, which are the slots i and j of the next table
@@ -86,6 +105,7 @@ module _ {K V : Type 0} where
           control_state = s.control_state;
           tables = put_place (put_place (put_place s.tables q.table q.index q') (q.table + 1) q.index low') (q.table + 1) (q.index + 2 ^ q.table) high';
         })
+    IsOwn s (BoardLoan e x) s' = BoardGives e x s.tables s'.tables × (s'.control_state ≡ s.control_state)
 
   -- a part itself is lent, and nothing in its place
   abbrev pub IsPart : {R : Type 0} → Loan K V R → Type 0

@@ -1,5 +1,5 @@
 -- How a world begins, how calls begin in it, and what a list of steps does.
-use Rattle.std.specs.Prelude.{◌≡◌, ◌⊎◌, ℕ, ◌^◌, ◌≤◌, ◌++◌, true, List, [], ◌∷◌, length, slice_get, Option, Some, None, MatchOption, ⊤}
+use Rattle.std.specs.Prelude.{◌≡◌, ◌⊎◌, ℕ, ◌^◌, ◌≤◌, ◌++◌, List, [], ◌∷◌, length, slice_get, Option, Some, None, MatchOption, ⊤}
 use Rattle.std.specs.declared.cmp.Ordering.{Ordering}
 use Rattle.flurry_model.specs.Sizes.{wanted_of}
 use Rattle.flurry_steps.specs.Party.{RemovesSeen, AtLocate}
@@ -11,7 +11,7 @@ use Rattle.flurry_model.specs.declared.call.Call.TheVariants as call
 use Rattle.flurry_model.specs.declared.call.Seen.{Seen}
 use Rattle.flurry_world.specs.Tables.{no_tables, with_table}
 use Rattle.flurry_world.specs.World.{WorldState, seen_in}
-use Rattle.flurry_world.specs.Steps.{fresh_world, with_party_record, WorldStep}
+use Rattle.flurry_world.specs.Steps.{fresh_world, with_party_record, WorldStep, WorldLoses}
 use Rattle.flurry_world.specs.declared.world.Step.{Step}
 use Rattle.flurry_world.specs.declared.world.Step.TheVariants as step
 use Rattle.flurry_model.specs.declared.sizes.TheConstants.{GREATEST_TABLE}
@@ -48,21 +48,22 @@ module _ {K V F : Type 0} where
   StepIsReady ready (step.Begin c) = OwnedIsReady ready c
   StepIsReady ready (step.Drop p) = ⊤
   StepIsReady ready (step.Step p) = ⊤
+  StepIsReady ready (step.Lose p) = ⊤
 
 module _ {K V F S : Type 0} where
   -- no table for no pairs, else one of the wanted number of bins, which are live and empty
   abbrev pub NewGives : ℕ → S → ℕ → WorldState K V F S → Type 0
   NewGives pairs hasher processors w =
       ((pairs ≡ 0) × (w ≡ fresh_world hasher processors None no_tables))
-      ⊎ ((pairs ≡ 0 → ⊥) × (e : ℕ) × (2 ^ e ≡ wanted_of pairs) × (e ≤ GREATEST_TABLE) × (w ≡ fresh_world hasher processors (Some e) (with_table no_tables e true)))
+      ⊎ ((pairs ≡ 0 → ⊥) × (e : ℕ) × (2 ^ e ≡ wanted_of pairs) × (e ≤ GREATEST_TABLE) × (w ≡ fresh_world hasher processors (Some e) (with_table no_tables e None)))
 
   -- the world after a call began, before its first step
   abbrev pub begun_with : (K → ℕ) → WorldState K V F S → OwnedCall K V F → WorldState K V F S
-  begun_with hash w c = with_party_record w (theory_call c) None (record { hash = hash_for hash c; processors = w.processors; stage = owned_stage c })
+  begun_with hash w c = with_party_record w (theory_call c) None (record { hash = hash_for hash c; processors = w.processors; helped = None; stage = owned_stage c })
 
   -- the world after the removal of the pair z, which walk p had read last, has begun
   abbrev pub begun_to_drop : (K → ℕ) → WorldState K V F S → ℕ → Seen K V → WorldState K V F S
-  begun_to_drop hash w p z = with_party_record w (call.RemoveSeen z) (Some p) (record { hash = hash z.key; processors = w.processors; stage = AtLocate (RemovesSeen z) })
+  begun_to_drop hash w p z = with_party_record w (call.RemoveSeen z) (Some p) (record { hash = hash z.key; processors = w.processors; helped = None; stage = AtLocate (RemovesSeen z) })
 
   -- where party p is a walk that has read a pair, the removal of the last one begins, as the next party; else nothing does
   abbrev pub Drops : (K → ℕ) → WorldState K V F S → ℕ → Option ℕ → WorldState K V F S → Type 0
@@ -74,6 +75,7 @@ module _ {K V F S : Type 0} where
     DoesStep (step.Begin c) w v = v ≡ begun_with hash w c
     DoesStep (step.Drop p) w v = (q : Option ℕ) × Drops hash w p q v
     DoesStep (step.Step p) w v = WorldStep cmp changes w p v
+    DoesStep (step.Lose p) w v = WorldLoses w p v
 
     -- the steps, one after another
     abbrev pub Runs : List (Step K V F) → WorldState K V F S → WorldState K V F S → Type 0

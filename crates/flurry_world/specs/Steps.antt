@@ -1,10 +1,11 @@
 -- What each call of a world does.
 use Rattle.std.specs.Prelude.{◌≡◌, ℕ, pos, suc, [], ◌∷◌, ◌++◌, length, slice_get, slice_set, Option, Some, None, MatchOption}
 use Rattle.std.specs.declared.cmp.Ordering.{Ordering}
-use Rattle.flurry_control.specs.Control.{ControlState, IsIdle}
+use Rattle.flurry_control.specs.Control.{ControlState}
 use Rattle.flurry_calls.specs.Outcome.{Outcome, OutcomeReply, OutcomeEnded, OutcomeRefused}
 use Rattle.flurry_calls.specs.Sweep.{SweepStage, AtEnd, AfterEnd}
 use Rattle.flurry_steps.specs.Party.{Stage, AtSweep, AtDone, AtTaken, PartyState, with_stage, taken_stage, wanted_part, outcome_in, last_seen}
+use Rattle.flurry_steps.specs.PartyBoard.{lost}
 use Rattle.flurry_calls.specs.declared.step.Event.{Event}
 use Rattle.flurry_calls.specs.declared.step.Event.TheVariants.{Decide, Read, Wipe, Refused, Opened, Placed, Moved, Published, Silent}
 use Rattle.flurry_model.specs.declared.call.Call.{Call}
@@ -72,7 +73,7 @@ module _ {K V F S : Type 0} where
     hasher = hasher;
     processors = processors;
     first = first;
-    control_state = record { published = first; growth = IsIdle; count = pos 0 };
+    control_state = record { published = first; growth = None; count = pos 0 };
     tables = tables;
     party_records = [];
     trace = [];
@@ -101,6 +102,22 @@ module _ {K V F S : Type 0} where
     party_records = w.party_records ++ record { call = d; began_from = from; party_state = c; steps = 0 } ∷ [];
     trace = w.trace ++ label.Begin (length w.party_records) d ∷ [];
   }
+
+  -- the world after an attempt of party p, which was x, was lost: that is no step of it
+  abbrev pub with_loss : WorldState K V F S → ℕ → PartyRecord K V F → WorldState K V F S
+  with_loss w p x = record {
+    hasher = w.hasher;
+    processors = w.processors;
+    first = w.first;
+    control_state = w.control_state;
+    tables = w.tables;
+    party_records = slice_set w.party_records p (record { call = x.call; began_from = x.began_from; party_state = lost x.party_state; steps = x.steps });
+    trace = w.trace ++ label.Silent p ∷ [];
+  }
+
+  -- a loss of any party; an unknown one loses nothing
+  abbrev pub WorldLoses : WorldState K V F S → ℕ → WorldState K V F S → Type 0
+  WorldLoses w p w' = MatchOption (slice_get w.party_records p) (w' ≡ with_label w (label.Silent p)) (λ x. w' ≡ with_loss w p x)
 
   -- the world after one step of party p, which was x: its control and tables, where the call stands now, and the label
   abbrev pub with_step : WorldState K V F S → ℕ → PartyRecord K V F → ControlState → Tables K V → PartyState K V F → Label K V F → WorldState K V F S

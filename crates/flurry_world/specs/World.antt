@@ -4,13 +4,14 @@ use Rattle.std.specs.declared.cmp.Ordering.{Ordering}
 use Rattle.std.specs.List.{AllByRecursion}
 use Rattle.flurry_model.specs.declared.reply.KeptReply.{KeptReply}
 use Rattle.flurry_slots.specs.Slot.{Live, IsLive}
-use Rattle.flurry_control.specs.Control as control
-use Rattle.flurry_control.specs.Control.{ControlState, IsControl, IsIdle, Grows}
+use Rattle.flurry_claims.specs.PlainBoard.{PlainBoardState, unclaimed_of}
+use Rattle.flurry_control.specs.Claim.{ClaimState}
+use Rattle.flurry_control.specs.Control.{ControlState, IsControl}
 use Rattle.flurry_calls.specs.Outcome.{Outcome, OutcomeReply, OutcomeEnded, OutcomeRefused}
 use Rattle.flurry_calls.specs.Cursor as cursor
 use Rattle.flurry_calls.specs.Cursor.{CursorState}
 use Rattle.flurry_calls.specs.Sweep.{Errand, Reads, Wipes, SweepStage, AtOutset, OverBins, AtTotal, AtEnd, AfterEnd}
-use Rattle.flurry_steps.specs.Party.{TheValue, ThePair, Presence, Task, Finds, Removes, RemovesSeen, Inserts, Adds, Computes, GrowFor, ForInsert, ForReserve, Resume, ThenBin, ThenRecount, ThenGrow, Stage, AtLocate, AtBin, AtClaim, AtMove, AtUncount, AtCount, AtRecount, AtBegin, AtGrow, AtReserve, AtSweep, AtDone, AtTaken, PartyState, last_seen}
+use Rattle.flurry_steps.specs.Party.{TheValue, ThePair, Presence, Task, Finds, Removes, RemovesSeen, Inserts, Adds, Computes, GrowFor, ForInsert, ForReserve, Help, Moving, Publishing, Resume, ThenBin, ThenRecount, ThenGrow, Stage, AtLocate, AtBin, AtHelp, AtUncount, AtCount, AtRecount, AtBegin, AtGrow, AtReserve, AtSweep, AtDone, AtTaken, PartyState, last_seen}
 use Rattle.flurry_theory.specs.Machine as machine
 use Rattle.flurry_theory.specs.Machine.{State, Mode, Locating, Looking, Walking, Clearing, Done, Finished}
 use Rattle.flurry_theory.specs.Map.{key_of}
@@ -22,7 +23,7 @@ use Rattle.flurry_model.specs.declared.call.Call.TheVariants as call
 use Rattle.flurry_theory.specs.declared.Label.{Label}
 use Rattle.flurry_theory.specs.declared.Label.TheVariants as label
 use Rattle.flurry_world.specs.Entries.{slot_of, IsHashed}
-use Rattle.flurry_world.specs.Tables.{Tables, AreTables, slots_of, content_at}
+use Rattle.flurry_world.specs.Tables.{Tables, AreTables, slots_of, content_at, board_at}
 use Rattle.flurry_model.specs.declared.sizes.TheConstants.{MOST_LABELS}
 
 -- a call that began, the walk with whose last read it began, if it is a removal of that pair, where it stands, and how many steps it has
@@ -101,6 +102,17 @@ module _ {K V : Type 0} where
   mode_of_sweep (AtEnd r) w = mode_of_end r
   mode_of_sweep AfterEnd w = Finished
 
+abbrev pub machine_claim : ClaimState → machine.Claim
+machine_claim c = record { table = c.range.table; low = c.range.low; left = c.left; high = c.range.high }
+
+abbrev pub claim_of_help : Help → Option machine.Claim
+claim_of_help (Moving c) = Some (machine_claim c)
+claim_of_help h = None
+
+abbrev pub told_of_help : Help → Option ℕ
+told_of_help (Publishing e) = Some e
+told_of_help h = None
+
 module _ {K V F : Type 0} where
   abbrev pub mode_of_resume : Resume K V F → Mode K V
   mode_of_resume (ThenBin t e) = Looking e
@@ -110,8 +122,7 @@ module _ {K V F : Type 0} where
   abbrev pub mode_of_stage : Stage K V F → Mode K V
   mode_of_stage (AtLocate t) = Locating
   mode_of_stage (AtBin t e) = Looking e
-  mode_of_stage (AtClaim a) = mode_of_resume a
-  mode_of_stage (AtMove c a) = mode_of_resume a
+  mode_of_stage (AtHelp h a) = mode_of_resume a
   mode_of_stage (AtUncount r) = Done (reply_in r) 0 1
   mode_of_stage (AtCount r) = Done (reply_in r) 1 0
   mode_of_stage (AtRecount r) = Done (reply_in r) 0 0
@@ -124,8 +135,13 @@ module _ {K V F : Type 0} where
 
   -- the bins that it holds to move them
   abbrev pub claim_of_stage : Stage K V F → Option machine.Claim
-  claim_of_stage (AtMove c a) = Some (record { table = c.table; low = c.low; left = c.left; high = c.high })
+  claim_of_stage (AtHelp h a) = claim_of_help h
   claim_of_stage s = None
+
+  -- the table whose growth it was told to publish
+  abbrev pub told_of_stage : Stage K V F → Option ℕ
+  told_of_stage (AtHelp h a) = told_of_help h
+  told_of_stage s = None
 
 -- ---- what a walk and a clear keep
 
@@ -168,9 +184,14 @@ pub record Near (n : ℕ) (count : ℤ) : Type 0 where
   pub most : count ≤ℤ pos n
   pub least : neg_ℤ (pos n) ≤ℤ count
 
-abbrev pub growth_of : control.Growth → Option machine.Growth
-growth_of IsIdle = None
-growth_of (Grows u r) = Some (record { unclaimed = u; reported = r })
+-- the growth that a board shows
+abbrev pub growth_at : PlainBoardState → machine.Growth
+growth_at d = record { unclaimed = unclaimed_of d; reported = d.reported }
+
+-- the growth that runs, by its board
+abbrev pub growth_of : {K V : Type 0} → Option ℕ → Tables K V → Option machine.Growth
+growth_of None t = None
+growth_of (Some e) t = option_map growth_at (board_at t e)
 
 module _ {K V F : Type 0} where
   -- the exponent of the table that was opened first
@@ -191,6 +212,10 @@ module _ {K V F : Type 0} where
   claim_in None = None
   claim_in (Some x) = claim_of_stage x.party_state.stage
 
+  abbrev pub told_in : Option (PartyRecord K V F) → Option ℕ
+  told_in None = None
+  told_in (Some x) = told_of_stage x.party_state.stage
+
   -- what a walk has read last
   abbrev pub seen_in : Option (PartyRecord K V F) → Option (Seen K V)
   seen_in None = None
@@ -209,14 +234,13 @@ module _ {K V F : Type 0} where
   state_of w = record {
     start = start_of w.first (reverse w.trace);
     published = w.control_state.published;
-    growth = growth_of w.control_state.growth;
+    growth = growth_of w.control_state.growth w.tables;
     slot = λ d j. slot_of (content_at w.tables d j);
     parties = length w.party_records;
     call = λ p. option_map (λ (x : PartyRecord K V F). x.call) (slice_get w.party_records p);
     mode = λ p. mode_in (slice_get w.party_records p);
     claim = λ p. claim_in (slice_get w.party_records p);
-    -- the party whose report is the last publishes in that step, so none is ever told to
-    told = λ _. None;
+    told = λ p. told_in (slice_get w.party_records p);
     count = w.control_state.count;
     seen = λ p. seen_in (slice_get w.party_records p);
     began_from = λ p. began_from_in (slice_get w.party_records p);
@@ -256,8 +280,7 @@ module _ {K V F : Type 0} where
     abbrev pub FollowsStage : Call K V F → Stage K V F → Type 0
     FollowsStage c (AtLocate t) = task_of_call c ≡ Some t
     FollowsStage c (AtBin t e) = task_of_call c ≡ Some t
-    FollowsStage c (AtClaim a) = FollowsResume c a
-    FollowsStage c (AtMove r a) = FollowsResume c a
+    FollowsStage c (AtHelp h a) = FollowsResume c a
     FollowsStage c (AtUncount r) = HasDecided c r
     FollowsStage c (AtCount r) = HasDecided c r
     FollowsStage c (AtRecount r) = HasDecided c r
@@ -274,8 +297,9 @@ module _ {K V F : Type 0} where
     pub stage : FollowsStage hash x.call x.party_state.stage
 
   module _ {S : Type 0} (cmp : K → K → Ordering) (hash : K → ℕ) (gives : F → K → V → Option V → Type 0) where
-    -- The machine's invariant holds of it; its calls stand where calls of their kind can stand; each entry has its key's hash; and
-    -- there is no table before one is published, and the next one while the published one is moved.
+    -- The machine's invariant holds of it; its calls stand where calls of their kind can stand; each entry has its key's hash; there is no
+    -- table before one is published, and the next one, with its board, while the published one is moved; and no other board has bins that
+    -- are left to claim.
     pub record IsWorld (w : WorldState K V F S) : Type 0 where
       pub state : (home : ℕ → ℕ) × Inv cmp hash gives w.first home (state_of w)
       pub party_records : (p : ℕ) (x : PartyRecord K V F) → slice_get w.party_records p ≡ Some x → Follows hash x
@@ -283,7 +307,9 @@ module _ {K V F : Type 0} where
       pub control_state : IsControl w.control_state
       pub tables : AreTables w.tables
       pub unmade : w.control_state.published ≡ None → (e : ℕ) → slots_of w.tables e ≡ []
-      pub next : (e u r : ℕ) → w.control_state.published ≡ Some e → w.control_state.growth ≡ Grows u r → (slots_of w.tables (suc e) ≡ [] → ⊥)
+      pub next : (e : ℕ) → w.control_state.growth ≡ Some e → (slots_of w.tables (suc e) ≡ [] → ⊥)
+      pub running : (e : ℕ) → w.control_state.growth ≡ Some e → IsSome (board_at w.tables e)
+      pub over : (e : ℕ) (d : PlainBoardState) → board_at w.tables e ≡ Some d → (w.control_state.growth ≡ Some e → ⊥) → unclaimed_of d ≡ 0
 
     -- and there are so few labels that no number which counts them, or pairs, is cut off
     pub record IsBounded (w : WorldState K V F S) : Type 0 where

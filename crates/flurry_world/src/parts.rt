@@ -140,4 +140,39 @@ impl<K: Ord + Drop, V: Drop, A: Allocator + Copy> Field<K, V, A> for Parts<K, V,
         }
         Some(self.tables.lend_halves(table, index, party))
     }
+
+    fn at_seat<F: ComputeFn<K, V>>(
+        &mut self,
+        table: u8,
+        party: &mut Party<'_, K, V, F, A>,
+    ) -> Option<Event> {
+        let got = self.tables.take_seat(table);
+        Some(party.on_seat(got))
+    }
+
+    fn at_board<F: ComputeFn<K, V>>(
+        &mut self,
+        table: u8,
+        party: &mut Party<'_, K, V, F, A>,
+    ) -> Option<Event> {
+        match party.take_range() {
+            Some(range) => {
+                let last = self.tables.report(table, range);
+                Some(party.on_report(last))
+            }
+            None => {
+                let attempt = self.tables.try_claim(table);
+                Some(party.on_attempt(attempt))
+            }
+        }
+    }
+
+    fn at_give<F: ComputeFn<K, V>>(
+        &mut self,
+        table: u8,
+        party: &mut Party<'_, K, V, F, A>,
+    ) -> Option<Event> {
+        self.tables.give_seat(table);
+        Some(party.on_give())
+    }
 }

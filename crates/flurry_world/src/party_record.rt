@@ -1,5 +1,5 @@
 //! A call of a world.
-ghost use Rattle.std.specs.Prelude.{◌≡◌, Some};
+ghost use Rattle.std.specs.Prelude.{◌≡◌, None, Some};
 ghost use Rattle.flurry_model.specs.declared.call.Call.TheVariants as call;
 ghost use Rattle.flurry_steps.specs.Party.{RemovesSeen, AtLocate};
 ghost use Rattle.flurry_world.specs.Runs.{theory_call, hash_for};
@@ -44,7 +44,7 @@ impl<'k, K: Copy + Drop, V: Copy + Drop, F: ComputeFn<K, V>, A: Allocator> Party
         ensures { result ≡ record {
           call = call.RemoveSeen seen;
           began_from = Some walk;
-          party_state = record { hash = hash; processors = processors; stage = AtLocate (RemovesSeen seen) };
+          party_state = record { hash = hash; processors = processors; helped = None; stage = AtLocate (RemovesSeen seen) };
           steps = 0;
         } }
     {

@@ -1,14 +1,16 @@
 //! The tables of a map, each at the place of its exponent.
-ghost use Rattle.std.specs.Prelude.{◌≡◌, ◌+◌, ◌<◌, ◌≤◌, ◌^◌, ◌↔◌, length, Some, IsSome, IsTrue, IfOk, is_some};
+ghost use Rattle.std.specs.Prelude.{◌≡◌, ◌+◌, ◌<◌, ◌≤◌, ◌^◌, ◌↔◌, length, Some, IsSome, IsTrue, IfOk, OnErr, OnOk, is_none, is_some, false};
 ghost use Rattle.flurry_slots.specs.Slot.{IsSlot};
 ghost use Rattle.flurry_control.specs.Control.{ControlState};
 ghost use Rattle.flurry_calls.specs.Part.{BinPart, MovePart};
 ghost use Rattle.flurry_steps.specs.Party.{wanted_part};
-ghost use Rattle.flurry_world.specs.Parts.{HalvesStep, IsThere, PartStep};
-ghost use Rattle.flurry_world.specs.Tables.{AreTables, PlaceGives, fresh, new_slots, no_tables, place_at};
+ghost use Rattle.flurry_steps.specs.PartyBoard.{Seated, Attempted, Reported, TakenBack, IsAttempt};
+ghost use Rattle.flurry_world.specs.Parts.{BoardGives, HalvesStep, IsThere, PartStep};
+ghost use Rattle.flurry_world.specs.Tables.{AreTables, PlaceGives, begun_board, board_for, fresh, is_made, made_slots, new_slots, no_tables, place_at};
 ghost use Rattle.flurry_model.specs.declared.sizes.TheConstants.{GREATEST_TABLE};
 
 use flurry_bins::bin::Bin;
+use flurry_claims::{Attempt, PlainBoard, Range};
 use flurry_control::Room;
 use flurry_model::sizes::{GREATEST_TABLE, TABLES};
 use flurry_slots::{ComputeFn, Slot};
@@ -18,28 +20,35 @@ use std::alloc::{AllocError, Allocator};
 use std::marker::Model;
 use std::mem;
 
-/// The tables of a map, by their exponents. Table `e` has `2^e` slots, or no slot if it has not been made.
+/// The tables of a map, by their exponents. Table `e` has `2^e` slots, or no slot if it has not been made. A table that is made for a growth
+/// has the board of that growth beside it.
 ///
 /// ```
 /// let mut tables: Tables<u64, u64, Global> = Tables::new(alloc)?;
-/// tables.place(4, true)?;
+/// tables.place(4, None)?;
 /// Ok(tables.has(4, index))
 /// ```
 #[derive(Drop)]
 pub struct Tables<K: Ord, V, A: Allocator> {
-    tables: Vec<Vec<Slot<K, V, A>, A>, A>,
+    tables: Vec<Table<K, V, A>, A>,
+}
+
+// The slots of a table, and the board of the growth that moves the bins of the table before it into them. A first table has no board.
+#[derive(Drop)]
+struct Table<K: Ord, V, A: Allocator> {
+    slots: Vec<Slot<K, V, A>, A>,
+    board: Option<PlainBoard>,
 }
 
 impl<K: Ord, V, A: Allocator> Model for Tables<K, V, A> {
-    ghost use Rattle.std.specs.Prelude.{List, map};
-    ghost use Rattle.flurry_slots.specs.Slot.{SlotState};
-    ghost use Rattle.flurry_world.specs.Tables.{AreTables};
+    ghost use Rattle.flurry_world.specs.Tables.{Tables, AreTables};
+    ghost use Rattle.flurry_world.specs.TablesView.{tables_of};
 
-    ghost Value = { List (List (SlotState K V)) };
+    ghost Value = { Tables K V };
 
-    ghost view = { λ t. map (λ v. v.items) t.tables.items };
+    ghost view = { λ t. tables_of t.tables.items };
 
-    ghost invariant = { λ t. AreTables (map (λ v. v.items) t.tables.items) };
+    ghost invariant = { λ t. AreTables (tables_of t.tables.items) };
 }
 
 impl<K: Ord + Drop, V: Drop, A: Allocator + Copy> Tables<K, V, A> {
@@ -53,7 +62,10 @@ impl<K: Ord + Drop, V: Drop, A: Allocator + Copy> Tables<K, V, A> {
     {
         let mut tables = Vec::with_capacity(alloc, TABLES)?;
         for _ in 0..TABLES {
-            tables.push_reserved(Vec::new(alloc));
+            tables.push_reserved(Table {
+                slots: Vec::new(alloc),
+                board: None,
+            });
         }
         Ok(Tables { tables })
     }
@@ -62,12 +74,39 @@ impl<K: Ord + Drop, V: Drop, A: Allocator + Copy> Tables<K, V, A> {
 impl<K: Ord + Drop, V: Drop, A: Allocator + Copy> Room for Tables<K, V, A> {
     ghost place_gives = { PlaceGives };
 
-    fn place(&mut self, table: u8, live: bool) -> Result<(), AllocError> {
-        let place = &mut self.tables[table as usize];
-        if !place.is_empty() {
+    fn place(&mut self, table: u8, for_growth: Option<usize>) -> Result<(), AllocError> {
+        self.tables[table as usize].make(table, for_growth)
+    }
+}
+
+impl<K: Ord + Drop, V: Drop, A: Allocator + Copy> Table<K, V, A> {
+    // Makes this table, of exponent `table`, if it has not been made, and a new board if it is asked for by a growth.
+    fn make(&mut self, table: u8, for_growth: Option<usize>) -> Result<(), AllocError>
+        requires { table ≤ GREATEST_TABLE }
+        ensures slots { OnOk result (self.new.slots.items ≡ made_slots table (is_none for_growth) self.old.slots.items) }
+        ensures board { OnOk result (self.new.board ≡ board_for table for_growth self.old.board) }
+        ensures err { OnErr result (self.new ≡ self.old) }
+        ensures none { OnErr result (is_made self.old.slots.items ≡ false) }
+    {
+        self.make_slots(table, for_growth.is_none())?;
+        if let Some(processors) = for_growth {
+            self.board = Some(begun_board(table.saturating_sub(1), processors));
+        }
+        Ok(())
+    }
+
+    // Makes the slots of this table, of exponent `table`, if there are none.
+    fn make_slots(&mut self, table: u8, live: bool) -> Result<(), AllocError>
+        requires { table ≤ GREATEST_TABLE }
+        ensures slots { OnOk result (self.new.slots.items ≡ made_slots table live self.old.slots.items) }
+        ensures board { self.new.board ≡ self.old.board }
+        ensures err { OnErr result (self.new ≡ self.old) }
+        ensures none { OnErr result (is_made self.old.slots.items ≡ false) }
+    {
+        if !self.slots.is_empty() {
             return Ok(());
         }
-        *place = new_slots(*place.allocator(), table, live)?;
+        self.slots = new_slots(*self.slots.allocator(), table, live)?;
         Ok(())
     }
 }
@@ -82,7 +121,7 @@ impl<K: Ord + Drop, V: Drop, A: Allocator> Tables<K, V, A> {
         ensures table { result.now.table ≡ table }
         ensures index { result.now.index ≡ index }
     {
-        &self.tables[table as usize][index]
+        &self.tables[table as usize].slots[index]
     }
 
     /// Returns `true` if there is a slot of `table` and `index`.
@@ -93,7 +132,7 @@ impl<K: Ord + Drop, V: Drop, A: Allocator> Tables<K, V, A> {
         ensures within { AreTables self.now }
     {
         match self.tables.get(table as usize) {
-            Some(slots) => index < slots.len(),
+            Some(place) => index < place.slots.len(),
             None => false,
         }
     }
@@ -129,8 +168,67 @@ impl<K: Ord + Drop, V: Drop, A: Allocator + Copy> Tables<K, V, A> {
             → PartStep K.cmp F.changes (BinPart table index) party.old b self.old result party.new b self.new }
         ensures within { AreTables self.new }
     {
-        let slots = &mut self.tables[table as usize];
-        party.on_bin(alloc, &mut slots[index])
+        let place = &mut self.tables[table as usize];
+        party.on_bin(alloc, &mut place.slots[index])
+    }
+}
+
+impl<K: Ord + Drop, V: Drop, A: Allocator> Tables<K, V, A> {
+    // Takes a seat at the board of the growth from `table`. Returns whether one was left there.
+    pub(crate) fn take_seat(&mut self, table: u8) -> bool
+        ensures gives { BoardGives table (Seated result) self.old self.new }
+    {
+        if self.tables.len() <= table as usize + 1 {
+            return false;
+        }
+        let place = &mut self.tables[table as usize + 1];
+        let Some(board) = &mut place.board else {
+            return false;
+        };
+        board.take_seat()
+    }
+
+    // Tries to claim a range at the board of the growth from `table`. Without a board there is nothing to claim.
+    pub(crate) fn try_claim(&mut self, table: u8) -> Attempt
+        ensures gives { BoardGives table (Attempted result) self.old self.new }
+        ensures table { IsAttempt table result }
+    {
+        if self.tables.len() <= table as usize + 1 {
+            return Attempt::Nothing;
+        }
+        let place = &mut self.tables[table as usize + 1];
+        let Some(board) = &mut place.board else {
+            return Attempt::Nothing;
+        };
+        board.try_claim()
+    }
+
+    // Reports a range to the board of the growth from `table`. Returns whether the report was the last one of that growth.
+    pub(crate) fn report(&mut self, table: u8, range: Range) -> bool
+        ensures gives { BoardGives table (Reported range result) self.old self.new }
+    {
+        if self.tables.len() <= table as usize + 1 {
+            return false;
+        }
+        let place = &mut self.tables[table as usize + 1];
+        let Some(board) = &mut place.board else {
+            return false;
+        };
+        board.report(range)
+    }
+
+    // Takes a seat back at the board of the growth from `table`.
+    pub(crate) fn give_seat(&mut self, table: u8)
+        ensures gives { BoardGives table TakenBack self.old self.new }
+    {
+        if self.tables.len() <= table as usize + 1 {
+            return;
+        }
+        let place = &mut self.tables[table as usize + 1];
+        let Some(board) = &mut place.board else {
+            return;
+        };
+        board.give_seat();
     }
 }
 
@@ -151,7 +249,7 @@ impl<K: Ord + Drop, V: Drop, A: Allocator> Tables<K, V, A> {
         let (front, back) = self.tables.split_at_mut(table as usize + 1);
         let olds = &mut front[table as usize];
         let news = &mut back[0];
-        move_between(party, &mut olds[index], news, table, index)
+        move_between(party, &mut olds.slots[index], &mut news.slots, table, index)
     }
 }
 
@@ -178,6 +276,16 @@ fn move_between<'k, K: Ord + Drop, V: Drop, F: ComputeFn<K, V>, A: Allocator>(
     let event = party.on_move(old, &mut low, high);
     news[index] = low;
     event
+}
+
+// Creates the board of a growth from `table` that begins, whose work so many processors share. The party that begins it has a seat there.
+fn begun_board(table: u8, processors: usize) -> PlainBoard
+    requires { table ≤ GREATEST_TABLE }
+    ensures { result ≡ begun_board table processors }
+{
+    let mut board = PlainBoard::new(table, processors);
+    let _ = board.take_seat();
+    board
 }
 
 // Creates the slots of a new table: with live and empty bins if `live` is `true`, or else with unborn bins.

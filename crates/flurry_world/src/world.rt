@@ -1,11 +1,10 @@
 //! A world: calls on a map, whose steps come in any order.
-ghost use Rattle.std.specs.Prelude.{◌≡◌, ◌<◌, length, pos, slice_get, All, OnOk, OnErr, IfOk, IfSome};
+ghost use Rattle.std.specs.Prelude.{◌≡◌, ◌<◌, length, pos, slice_get, None, All, OnOk, OnErr, IfOk, IfSome};
 ghost use Rattle.std.specs.Vec.{vec_len, vec_capacity};
-ghost use Rattle.flurry_control.specs.Control.{IsIdle};
 ghost use Rattle.flurry_steps.specs.PartyView.{OwnedIsReady};
 ghost use Rattle.flurry_world.specs.Lawful.{IsLawful};
 ghost use Rattle.flurry_world.specs.Runs.{DoesStep, Drops, NewGives, Runs, RunsFront, StepIsReady, begun_with};
-ghost use Rattle.flurry_world.specs.Steps.{WorldStep, fresh_world};
+ghost use Rattle.flurry_world.specs.Steps.{WorldStep, WorldLoses, fresh_world};
 ghost use Rattle.flurry_world.specs.World.{DoesTransition, IsWorld, IsBounded, seen_in};
 ghost use Rattle.flurry_model.specs.declared.sizes.TheConstants.{MOST_LABELS};
 
@@ -39,6 +38,8 @@ pub enum Step<K, V, F> {
     Drop(usize),
     /// The next step of the party of this number.
     Step(usize),
+    /// The loss of an attempt of the party of this number, which is no step of it.
+    Lose(usize),
 }
 
 /// A map and any number of calls on it. Each call is a party, whose steps are done one at a time, in the order that the owner of the
@@ -127,7 +128,7 @@ impl<
 
     // Creates a world in which no call has begun, and which starts with the table `first`.
     fn of(alloc: A, hasher: S, processors: usize, first: Option<u8>, parts: Parts<K, V, A>) -> Self
-        requires control_state { parts.control_state ≡ record { published = first; growth = IsIdle; count = pos 0 } }
+        requires control_state { parts.control_state ≡ record { published = first; growth = None; count = pos 0 } }
         requires world { IsBounded K.cmp (S.hash_of hasher) F.changes
             (fresh_world {K = K} {V = V} {F = F} hasher processors first parts.tables) }
         ensures { result ≡ fresh_world hasher processors first parts.tables }
@@ -245,6 +246,32 @@ impl<
         Ok(())
     }
 
+    /// Makes the party of number `party` lose, as if others had been faster, and adds a silent label. If it is to take a seat at the board
+    /// of a growth, none is left for it, and it does not help. If it is to claim a range of bins there, the attempt is lost, and it tries
+    /// again. Any other party is unchanged, also one that has finished or never began. A loss is no step of the party.
+    ///
+    /// Constant time, except for growing the list of labels.
+    ///
+    /// # Errors
+    ///
+    /// Returns [`AllocError`] if memory for the label cannot be allocated, or if the world has [`MOST_LABELS`] labels. The world is
+    /// unchanged.
+    pub fn lose(&mut self, party: usize) -> Result<(), AllocError>
+        ensures ok { OnOk result (WorldLoses self.old party self.new) }
+        ensures transition { OnOk result
+            (DoesTransition K.cmp (S.hash_of self.old.hasher) F.changes self.old party self.new) }
+        ensures err { OnErr result (self.new ≡ self.old) }
+    {
+        make_room(&mut self.trace)?;
+        self.trace.push_reserved(Label::Silent(party));
+        if party >= self.party_records.len() {
+            return Ok(());
+        }
+        let party_record = &mut self.party_records[party];
+        party_record.party.lose();
+        Ok(())
+    }
+
     /// Does the steps of the list `steps`, one after another. [`World::trace`] then returns their labels too.
     ///
     /// Takes as many steps as the steps of the list take.
@@ -285,6 +312,7 @@ impl<
                 Ok(())
             }
             Step::Step(party) => self.step(party),
+            Step::Lose(party) => self.lose(party),
         }
     }
 

@@ -13,7 +13,7 @@ index_mut-requires g c =
     let there = rw (← c.self.view_is) at c.requires.there in
     let split = sym c.deref_mut.ensures.value ∙ c.split_at_mut-front.ensures.value in
     let v = get_or c.split_at_mut-front.result.0.now c.args.table c.index-front-table.result in
-    omega (arith, v.ok.0, old_below xs _ _ c.args.table split c.split_at_mut-front.ensures.front_len c.args.index c.index-front-table.result there.0 c.index-front-table.is)
+    omega (arith, v.slots.ok.0, old_below xs _ _ c.args.table split c.split_at_mut-front.ensures.front_len c.args.index c.index-front-table.result there.0 c.index-front-table.is)
 
 pub move_between-requires-clause-wants : goal.move_between-requires-clause-wants
 move_between-requires-clause-wants g c =
@@ -55,12 +55,13 @@ invariant_of-self g c =
     let back = c.split_at_mut-front.result.1.now in
     let there = rw (← c.self.view_is) at c.requires.there in
     let split = sym c.deref_mut.ensures.value ∙ c.split_at_mut-front.ensures.value in
-    let olds = with_item (get_or front c.args.table c.index-front-table.result) c.args.index c.move_between.new.old in
+    let olds = record (get_or front c.args.table c.index-front-table.result) { slots = with_item (get_or front c.args.table c.index-front-table.result).slots c.args.index c.move_between.new.old } in
+    let news = record (get_or back 0 c.index-back-0.result) { slots = c.move_between.new.news } in
     let done =
-    moved xs front back c.args.table split c.split_at_mut-front.ensures.front_len c.args.index c.index-front-table.result c.index-back-0.result olds c.move_between.new.news c.index_mut.result.now c.move_between.new.old
-    c.args.party.now c.move_between.new.party c.move_between.result c.self.invariant there.0 there.1 c.index-front-table.is c.index-back-0.is c.index_mut.ensures.value refl c.move_between.ensures.step in
-    let written = set front c.args.table olds ++ set back 0 c.move_between.new.news in
-    let count : length written ≡ c.self.inside.tables.len = as_many xs front back c.args.table split c.split_at_mut-front.ensures.front_len olds c.move_between.new.news ∙ sym c.self.inside.tables.ok.0 in
+    moved xs front back c.args.table split c.split_at_mut-front.ensures.front_len c.args.index c.index-front-table.result c.index-back-0.result olds news c.index_mut.result.now c.move_between.new.old
+    c.args.party.now c.move_between.new.party c.move_between.result c.self.invariant there.0 there.1 c.index-front-table.is c.index-back-0.is c.index_mut.ensures.value refl refl refl c.move_between.ensures.step in
+    let written = set front c.args.table olds ++ set back 0 news in
+    let count : length written ≡ c.self.inside.tables.len = as_many xs front back c.args.table split c.split_at_mut-front.ensures.front_len olds news ∙ sym c.self.inside.tables.ok.0 in
     subst (λ l. AreTables (seen l)) (sym (take_front c.self.inside.tables.len written (drop (length written) xs) count)) done.9
 
 pub returns-clause-step : goal.returns-clause-step
@@ -70,12 +71,13 @@ returns-clause-step g c b =
     let back = c.split_at_mut-front.result.1.now in
     let there = rw (← c.self.view_is) at c.requires.there in
     let split = sym c.deref_mut.ensures.value ∙ c.split_at_mut-front.ensures.value in
-    let olds = with_item (get_or front c.args.table c.index-front-table.result) c.args.index c.move_between.new.old in
+    let olds = record (get_or front c.args.table c.index-front-table.result) { slots = with_item (get_or front c.args.table c.index-front-table.result).slots c.args.index c.move_between.new.old } in
+    let news = record (get_or back 0 c.index-back-0.result) { slots = c.move_between.new.news } in
     let (low, high, low', high', at, at_low, at_high, step, whole, are) =
-    moved xs front back c.args.table split c.split_at_mut-front.ensures.front_len c.args.index c.index-front-table.result c.index-back-0.result olds c.move_between.new.news c.index_mut.result.now c.move_between.new.old
-    c.args.party.now c.move_between.new.party c.move_between.result c.self.invariant there.0 there.1 c.index-front-table.is c.index-back-0.is c.index_mut.ensures.value refl c.move_between.ensures.step in
-    let written = set front c.args.table olds ++ set back 0 c.move_between.new.news in
-    let count : length written ≡ c.self.inside.tables.len = as_many xs front back c.args.table split c.split_at_mut-front.ensures.front_len olds c.move_between.new.news ∙ sym c.self.inside.tables.ok.0 in
+    moved xs front back c.args.table split c.split_at_mut-front.ensures.front_len c.args.index c.index-front-table.result c.index-back-0.result olds news c.index_mut.result.now c.move_between.new.old
+    c.args.party.now c.move_between.new.party c.move_between.result c.self.invariant there.0 there.1 c.index-front-table.is c.index-back-0.is c.index_mut.ensures.value refl refl refl c.move_between.ensures.step in
+    let written = set front c.args.table olds ++ set back 0 news in
+    let count : length written ≡ c.self.inside.tables.len = as_many xs front back c.args.table split c.split_at_mut-front.ensures.front_len olds news ∙ sym c.self.inside.tables.ok.0 in
     rw (← c.self.view_is) (
       c.index_mut.result.now,
       low,
