@@ -23,7 +23,8 @@ use Rattle.flurry_world.specs.Parts.{Parts, IsStart}
 use Rattle.flurry_world.specs.Runs.{theory_call}
 use Rattle.flurry_world.specs.Steps.{with_party_record}
 use Rattle.flurry_world.specs.Tables.{content_at}
-use Rattle.flurry_world.specs.World.{PartyRecord, WorldState, Near, state_of, mode_of_stage, claim_of_stage, task_of_call, FollowsStage, IsWorld}
+use Rattle.flurry_world.specs.World.{PartyRecord, WorldState, Near, state_of, mode_of_stage, task_of_call, FollowsStage, IsWorld}
+use Rattle.flurry_world.proofs.StateLaws.{held_of_stage}
 use Rattle.flurry_world.proofs.BeginLaws.{IsBeginning}
 use Rattle.flurry_world.proofs.WorldLaws.{began, get_append}
 use Rattle.flurry_drive.specs.Exact.{Holds, IsFirst, IsFresh}
@@ -47,7 +48,7 @@ module _ {K V F : Type 0} where
 
   module _ (hash : K → ℕ) where
     at_task : (d : Call K V F) (q : PartyState K V F) → ((k : K) → key_of d ≡ Some k → q.hash ≡ hash k) → (t : Task K V F) → task_of_call d ≡ Some t → q.stage ≡ AtLocate t → IsBeginning hash d q
-    at_task d q own t is e = record { own_hash = own; follows = subst (FollowsStage hash d) (sym e) is; mode = ap mode_of_stage e; claim = ap claim_of_stage e; unread = ap last_seen e }
+    at_task d q own t is e = record { own_hash = own; follows = subst (FollowsStage hash d) (sym e) is; mode = ap mode_of_stage e; held = ap held_of_stage e; unread = ap last_seen e }
 
     first_begins : (d : Call K V F) (q : PartyState K V F) → ((k : K) → key_of d ≡ Some k → q.hash ≡ hash k) → IsFirst d q.stage → IsBeginning hash d q
     first_begins (call.Get j) q own (t, is, e) = at_task (call.Get j) q own t is e
@@ -59,9 +60,9 @@ module _ {K V F : Type 0} where
     first_begins (call.Remove j) q own (t, is, e) = at_task (call.Remove j) q own t is e
     first_begins (call.RemoveEntry j) q own (t, is, e) = at_task (call.RemoveEntry j) q own t is e
     first_begins (call.RemoveSeen z) q own (t, is, e) = at_task (call.RemoveSeen z) q own t is e
-    first_begins (call.Reserve a) q own e = record { own_hash = own; follows = subst (FollowsStage hash (call.Reserve a)) (sym e) refl; mode = ap mode_of_stage e; claim = ap claim_of_stage e; unread = ap last_seen e }
-    first_begins call.Clear q own e = record { own_hash = own; follows = subst (FollowsStage hash call.Clear) (sym e) ((refl, refl), refl); mode = ap mode_of_stage e; claim = ap claim_of_stage e; unread = ap last_seen e }
-    first_begins call.Walk q own e = record { own_hash = own; follows = subst (FollowsStage hash call.Walk) (sym e) (refl, tt); mode = ap mode_of_stage e; claim = ap claim_of_stage e; unread = ap last_seen e }
+    first_begins (call.Reserve a) q own e = record { own_hash = own; follows = subst (FollowsStage hash (call.Reserve a)) (sym e) refl; mode = ap mode_of_stage e; held = ap held_of_stage e; unread = ap last_seen e }
+    first_begins call.Clear q own e = record { own_hash = own; follows = subst (FollowsStage hash call.Clear) (sym e) ((refl, refl), refl); mode = ap mode_of_stage e; held = ap held_of_stage e; unread = ap last_seen e }
+    first_begins call.Walk q own e = record { own_hash = own; follows = subst (FollowsStage hash call.Walk) (sym e) (refl, tt); mode = ap mode_of_stage e; held = ap held_of_stage e; unread = ap last_seen e }
 
 module _ {K V F : Type 0} (cmp : K → K → Ordering) (hash : K → ℕ) (gives : F → K → V → Option V → Type 0) where
   -- a table where a call may begin was published
@@ -94,7 +95,7 @@ module _ {K V F : Type 0} (cmp : K → K → Ordering) (hash : K → ℕ) (gives
       let is = first_begins hash d q fresh.hash_is fresh.stage in
       let unknown = (h.is_world.state.1.parties (length h.world.party_records)).unknown (omega arith) in
       record {
-        is_world = began cmp total hash lawful gives h.world h.is_world far d None (λ v e. cc) q is.mode is.claim is.unread is.own_hash is.follows;
+        is_world = began cmp total hash lawful gives h.world h.is_world far d None (λ v e. cc) q is.mode is.held is.unread is.own_hash is.follows;
         at = get_append h.world.party_records new (length h.world.party_records) ∙ ap (λ z. cond z (Some new) (slice_get h.world.party_records (length h.world.party_records))) (itself (length h.world.party_records));
         parts = λ i. record { control_state = h.control_state i; tables = h.tables i };
         near = count;

@@ -27,11 +27,11 @@ use Rattle.flurry_theory.proofs.Step.{inv_step}
 use Rattle.flurry_theory.specs.declared.Label.TheVariants as label
 use Rattle.flurry_world.specs.Entries.{slot_of, entries_of_held, IsHashed}
 use Rattle.flurry_world.specs.Tables.{Tables, slots_of, place_at, content_at, put_place}
-use Rattle.flurry_world.specs.World.{PartyRecord, WorldState, state_of, mode_of_stage, mode_of_sweep, frame_of, frames_of, claim_of_stage, AreHashed, FollowsErrand, FollowsSweep, FollowsStage, IsWorld}
+use Rattle.flurry_world.specs.World.{PartyRecord, WorldState, state_of, mode_of_stage, mode_of_sweep, frame_of, frames_of, AreHashed, FollowsErrand, FollowsSweep, FollowsStage, IsWorld}
 use Rattle.flurry_world.proofs.EntryLaws.{length-entries_of_held}
 use Rattle.flurry_world.proofs.PlaceLaws.{same_live}
-use Rattle.flurry_world.proofs.Frames.{same_frame, StepOf, step_of, in_range}
-use Rattle.flurry_world.proofs.StateLaws.{is_step}
+use Rattle.flurry_world.proofs.Frames.{same_growth, same_frame, counted_frame, running_on, over_on, StepOf, step_of, in_range}
+use Rattle.flurry_world.proofs.StateLaws.{held_of_stage, is_step}
 use Rattle.flurry_world.proofs.TransitionLaws.{is_goes, is_counted, is_wiped}
 use Rattle.flurry_world.proofs.SlotCases.{Put}
 use Rattle.flurry_world.proofs.SweepModes.{halved_frames, cleared, owes_onward, cleared_hashed, frame_is_born}
@@ -40,7 +40,9 @@ use Rattle.flurry_model.specs.declared.sizes.TheConstants.{MOST_LABELS}
 
 -- a slot that is put where it stands
 pub put_back : {K V : Type 0} (t : Tables K V) (e i : ℕ) (q : SlotState K V) → place_at t e i ≡ Some q → put_place t e i q ≡ t
-put_back t e i q there = ap (slice_set t e) (ap (slice_set (slots_of t e) i) (sym (get_or_from_slice_get (slots_of t e) i q q there)) ∙ set-get_or (slots_of t e) i q) ∙ set-get_or t e []
+put_back t e i q there =
+    ap (λ s. record { slots = s; boards = t.boards })
+    (ap (slice_set t.slots e) (ap (slice_set (slots_of t e) i) (sym (get_or_from_slice_get (slots_of t e) i q q there)) ∙ set-get_or (slots_of t e) i q) ∙ set-get_or t.slots e [])
 
 -- a number of pairs that were wiped is not cut off
 pub count_less : (count : ℤ) (n : ℕ) → n ≤ MOST_LABELS → count ≤ℤ pos (2 ^ 62) → neg_ℤ (pos (2 ^ 62)) ≤ℤ (count -ℤ pos n) → saturate_signed w64 (count +ℤ neg_ℤ (pos (min n (2 ^ 63 - 1)))) ≡ count -ℤ pos n
@@ -100,8 +102,8 @@ module _ {K V F S : Type 0} (cmp : K → K → Ordering) (total : IsTotalOrder c
   stands : (s : SweepStage K V) → u.stage ≡ s → (state_of w).mode p ≡ mode_of_sweep s (Wipes n)
   stands s f = in_mode cmp total hash lawful gives w k p x at c (AtSweep u) e ∙ ap (λ z. mode_of_sweep z u.errand) f ∙ ap (mode_of_sweep s) wipes
 
-  unclaimed : claim_of_stage c.stage ≡ claim_of_stage x.party_state.stage
-  unclaimed = ap claim_of_stage g ∙ sym (ap claim_of_stage e)
+  unclaimed : held_of_stage c.stage ≡ held_of_stage x.party_state.stage
+  unclaimed = ap held_of_stage g ∙ sym (ap held_of_stage e)
 
   unread : last_seen c.stage ≡ last_seen x.party_state.stage
   unread = ap last_seen g ∙ last ∙ sym (ap last_seen e)
@@ -164,14 +166,16 @@ module _ {K V F S : Type 0} (cmp : K → K → Ordering) (total : IsTotalOrder c
       wipes_bin t put few q h = step_of cmp hash gives w p x w.control_state t c (label.Wipe p f.top.table f.top.index) at hashed unread (record {
         transition = transition;
         can = can_wipe;
-        is = is_wiped cmp hash gives w p x at c n f.base f.index (frame_of f.top) (map frame_of f.below) (entries_of_held d.held) d.writes t slots_after (mode_then _ errand _ h ∙ cleared (n + length (entries_of_held d.held)) f.base f.index f.below) unclaimed;
+        is = is_wiped cmp hash gives w p x at c n f.base f.index (frame_of f.top) (map frame_of f.below) (entries_of_held d.held) d.writes t (same_growth w.control_state.growth w.tables t put.boards) slots_after (mode_then _ errand _ h ∙ cleared (n + length (entries_of_held d.held)) f.base f.index f.below) unclaimed;
         follows = follows_then _ errand _ h (cleared_hashed V hash f.base f.index f.below _ bounds.1);
         frame = record {
           hashed = λ a i l y. hashed_in a i l (f.top.table == a && f.top.index == i) (sym (put.contents a i) ∙ y);
           control_state = k.control_state;
           tables = put.tables;
           unmade = λ y a. put.unmade a (k.unmade y a);
-          next = λ a r s y z v. k.next a r s y z (put.made (suc a) v);
+          next = λ a y v. k.next a y (put.made (suc a) v);
+          running = running_on cmp hash gives w t k put.boards;
+          over = over_on cmp hash gives w t k put.boards;
         };
       })
         where
@@ -206,5 +210,5 @@ module _ {K V F S : Type 0} (cmp : K → K → Ordering) (total : IsTotalOrder c
     can = ap is_lookup called;
     is = is_counted cmp hash gives w p x at c None 0 n _ (stands AtTotal f) (counted ∙ omega (arith, ints)) (mode_then n errand (AtEnd OutcomeEnded) h) unclaimed;
     follows = follows_then n errand (AtEnd OutcomeEnded) h tt;
-    frame = record { hashed = k.hashed; control_state = record { published = k.control_state.published; growth = k.control_state.growth }; tables = k.tables; unmade = k.unmade; next = k.next };
+    frame = counted_frame cmp hash gives w _ k;
   })

@@ -175,7 +175,7 @@ module _ {K V F : Type 0} (cmp : K → K → Ordering) (total : IsTotalOrder cmp
 
           by_control : (a : SweepStage K V) → u.stage ≡ a → ControlStep PlaceGives x.party_state w.control_state w.tables ev c b t → InClear (record { control_state = b; tables = t }) c
           by_control a f h =
-              let (u', g, s, z) = subst (λ z. StageAtControl PlaceGives x.party_state.processors z w.control_state w.tables ev c.stage b t) e h.step in
+              let (u', g, s, z) = subst (λ z. StageAtControl PlaceGives x.party_state.processors x.party_state.helped z w.control_state w.tables ev c.stage b t) e h.step in
               at_control a f u' g h.hash s.errand s.last (subst₂ (λ er st. sweep.StageAtControl er st w.control_state u'.stage b) wipes f s.step) z
 
           at_bin : (f : CursorState K) → u.stage ≡ OverBins f → PartStep cmp gives (BinPart f.top.table f.top.index) x.party_state w.control_state w.tables ev c b t → InClear (record { control_state = b; tables = t }) c

@@ -23,18 +23,18 @@ use Rattle.flurry_drive.proofs.Begins.{owned_first}
 
 -- who is alone with the parts is told them
 pub own_tells : {K V : Type 0} → Tells {K = K} {V = V} (λ s. s) (λ r. r) PlaceGives OwnLends OwnLacks
-own_tells = record { places = λ r e live ok r' h. h; lends_own = λ s l s' h. h.1; lacks_only = λ s p h. h }
+own_tells = record { places = λ r e growth ok r' h. h; lends_own = λ s l s' h. h.1; lacks_only = λ s p h. h }
 
 module _ {K V F : Type 0} (cmp : K → K → Ordering) (hash : K → ℕ) (changes : F → K → V → Option V → Type 0) where
   -- a call that has its key, before its first step
-  pub fresh : (c : OwnedCall K V F) (i n : ℕ) (p : PartyState K V F) → p ≡ record { hash = i; processors = n; stage = owned_stage c } → i ≡ hash_for hash c → IsFresh cmp hash changes (theory_call c) p
+  pub fresh : (c : OwnedCall K V F) (i n : ℕ) (p : PartyState K V F) → p ≡ record { hash = i; processors = n; helped = None; stage = owned_stage c } → i ≡ hash_for hash c → IsFresh cmp hash changes (theory_call c) p
   fresh c i n p is hashed = record { stage = subst (λ z. IsFirst (theory_call c) z.stage) (sym is) (owned_first c); hash_is = λ k h. ap (λ z. z.hash) is ∙ hashed ∙ own_hash hash c k h }
 
   -- the parts of a world hold its map
   pub holds_world : {S : Type 0} (w : WorldState K V F S) (n : ℕ) → IsWorld cmp hash changes w → Near n w.control_state.count → Holds cmp hash changes n (record { control_state = w.control_state; tables = w.tables }) (pairs cmp hash (reverse w.trace))
   holds_world w n k near = record {
     world = record { hasher = tt; processors = w.processors; first = w.first; control_state = w.control_state; tables = w.tables; party_records = w.party_records; trace = w.trace };
-    is_world = record { state = k.state; party_records = k.party_records; hashed = k.hashed; control_state = k.control_state; tables = k.tables; unmade = k.unmade; next = k.next };
+    is_world = record { state = k.state; party_records = k.party_records; hashed = k.hashed; control_state = k.control_state; tables = k.tables; unmade = k.unmade; next = k.next; running = k.running; over = k.over };
     control_state = refl;
     tables = refl;
     map = refl;

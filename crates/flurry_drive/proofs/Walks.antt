@@ -80,7 +80,7 @@ module _ {K V F : Type 0} (cmp : K → K → Ordering) (changes : F → K → V 
   module _ (u : SweepState K V) (e : c.stage ≡ AtSweep u) (reads : u.errand ≡ Reads) where
     at_part : (a : SweepStage K V) → u.stage ≡ a → PartStep cmp changes (part_at Reads a) c s.control_state s.tables ev c' s'.control_state s'.tables → IsWalking s s' c'
     at_part AtOutset f h =
-        let (u', g, did, same_tables) = subst (λ z. StageAtControl PlaceGives c.processors z s.control_state s.tables ev c'.stage s'.control_state s'.tables) e h.step in
+        let (u', g, did, same_tables) = subst (λ z. StageAtControl PlaceGives c.processors c.helped z s.control_state s.tables ev c'.stage s'.control_state s'.tables) e h.step in
         let (at, same_control) = subst (λ z. sweep.StageAtControl u.errand z s.control_state u'.stage s'.control_state) f did.step in
         record { sweep_state = u'; stage = g; reads = did.errand ∙ reads; bare = set_out_bare s.control_state.published u'.stage at; parts = λ i. record { control_state = same_control i; tables = same_tables i } }
     at_part (OverBins f) over (q, there, inside, h, same_control, same_tables) =
@@ -88,7 +88,7 @@ module _ {K V F : Type 0} (cmp : K → K → Ordering) (changes : F → K → V 
         let (errand, walk, same) = subst₂ (λ w a. BinGives cmp w a u.last q.content ev u' q.content) reads over gives in
         record { sweep_state = u'; stage = g; reads = errand; bare = walk_bare cmp f q.content u.last ev u'.stage u'.last walk; parts = λ i. record { control_state = same_control i; tables = same_tables i } }
     at_part AtTotal f h =
-        let (u', g, did, same_tables) = subst (λ z. StageAtControl PlaceGives c.processors z s.control_state s.tables ev c'.stage s'.control_state s'.tables) e h.step in
+        let (u', g, did, same_tables) = subst (λ z. StageAtControl PlaceGives c.processors c.helped z s.control_state s.tables ev c'.stage s'.control_state s'.tables) e h.step in
         absurd (subst₂ (λ w a. sweep.StageAtControl w a s.control_state u'.stage s'.control_state) reads f did.step)
     at_part (AtEnd r) f h = absurd h
     at_part AfterEnd f h = absurd h

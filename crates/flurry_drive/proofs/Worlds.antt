@@ -8,7 +8,7 @@ use Rattle.std.proofs.lemmas.List.{reverse-append}
 use Rattle.std.proofs.lemmas.Option.{slice_get_within}
 use Rattle.flurry_control.specs.Control.{ControlState}
 use Rattle.flurry_calls.specs.Outcome.{OutcomeReply, OutcomeEnded, OutcomeRefused, Outcome}
-use Rattle.flurry_steps.specs.Party.{Stage, AtLocate, AtBin, AtClaim, AtMove, AtUncount, AtCount, AtRecount, AtBegin, AtGrow, AtReserve, AtSweep, IsSingle, final_outcome, AtDone, AtTaken, PartyState, wanted_part, with_stage, started_stage, locates, outcome_in, last_seen}
+use Rattle.flurry_steps.specs.Party.{Stage, AtLocate, AtBin, AtHelp, AtUncount, AtCount, AtRecount, AtBegin, AtGrow, AtReserve, AtSweep, IsSingle, final_outcome, AtDone, AtTaken, PartyState, wanted_part, with_stage, started_stage, locates, outcome_in, last_seen}
 use Rattle.flurry_calls.specs.declared.step.Event.{Event}
 use Rattle.flurry_calls.specs.declared.step.Event.TheVariants as event
 use Rattle.flurry_calls.specs.Sweep.{Errand, Reads, Wipes}
@@ -23,16 +23,16 @@ use Rattle.flurry_model.specs.declared.call.Call.{Call}
 use Rattle.flurry_model.specs.declared.call.Call.TheVariants as call
 use Rattle.flurry_world.specs.Tables.{Tables, PlaceGives}
 use Rattle.flurry_world.specs.Parts.{PartStep}
-use Rattle.flurry_world.specs.World.{PartyRecord, WorldState, Near, state_of, mode_of_stage, claim_of_stage, task_of_call, FollowsErrand, FollowsStage, IsWorld}
+use Rattle.flurry_world.specs.World.{PartyRecord, WorldState, Near, state_of, mode_of_stage, task_of_call, FollowsErrand, FollowsStage, IsWorld}
 use Rattle.flurry_world.specs.Steps.{with_step, with_party_record, label_of, decide_label}
-use Rattle.flurry_world.proofs.StateLaws.{get_set}
+use Rattle.flurry_world.proofs.StateLaws.{held_of_stage, get_set}
 use Rattle.flurry_world.proofs.CallLaws.{found_task}
 use Rattle.flurry_world.proofs.TransitionLaws.{is_finds}
 use Rattle.flurry_world.proofs.Frames.{same_frame, step_of, kept, IsStep}
 use Rattle.flurry_world.proofs.Cases.{calls, in_mode}
 use Rattle.flurry_world.proofs.WorldLaws.{goes_on}
-use Rattle.flurry_steps.proofs.Events.{IsSweepEvent, single_at_control, single_at_slot, single_at_move}
-use Rattle.flurry_calls.specs.Part.{Part, ControlPart, LookPart, BinPart, MovePart, NoPart}
+use Rattle.flurry_steps.proofs.Events.{IsSweepEvent, single_at_control, single_at_slot, single_at_move, single_at_board}
+use Rattle.flurry_calls.specs.Part.{Part, ControlPart, LookPart, BinPart, MovePart, SeatPart, BoardPart, GivePart, NoPart}
 use Rattle.flurry_world.specs.Parts.{Parts, PartStep, IsStart}
 use Rattle.flurry_drive.specs.Exact.{Holds, Answers, EndsOn, IsFirst, IsFresh, most_counted}
 use Rattle.flurry_drive.proofs.Begins.{was_published, begun}
@@ -54,8 +54,7 @@ errand_plain d (Wipes n) z plain f = subst IsPlain f.0 plain
 follows_single : {K V F : Type 0} (hash : K → ℕ) (d : Call K V F) (s : Stage K V F) → IsPlain d → FollowsStage hash d s → IsSingle s
 follows_single hash d (AtLocate t) plain h = tt
 follows_single hash d (AtBin t e) plain h = tt
-follows_single hash d (AtClaim a) plain h = tt
-follows_single hash d (AtMove c a) plain h = tt
+follows_single hash d (AtHelp c a) plain h = tt
 follows_single hash d (AtUncount r) plain h = tt
 follows_single hash d (AtCount r) plain h = tt
 follows_single hash d (AtRecount r) plain h = tt
@@ -69,10 +68,13 @@ follows_single hash d AtTaken plain h = tt
 -- so its step at a part reads and wipes nothing
 module _ {K V F : Type 0} (cmp : K → K → Ordering) (changes : F → K → V → Option V → Type 0) (c : PartyState K V F) (b : ControlState) (t : Tables K V) (ev : Event) (c' : PartyState K V F) (b' : ControlState) (t' : Tables K V) (single : IsSingle c.stage) where
   single_part : (a : Part) → PartStep cmp changes a c b t ev c' b' t' → IsSweepEvent ev → ⊥
-  single_part ControlPart h = single_at_control PlaceGives c.processors b t ev c'.stage b' t' c.stage single h.step
+  single_part ControlPart h = single_at_control PlaceGives c.processors c.helped b t ev c'.stage b' t' c.stage single h.step
   single_part (LookPart e i) (q, there, inside, h, y, z) = single_at_slot cmp changes c.hash ev c'.stage q.content c.stage q.content single h.step
   single_part (BinPart e i) (q, q', there, inside, h, y, z) = single_at_slot cmp changes c.hash ev c'.stage q'.content c.stage q.content single h.step
   single_part (MovePart e i) (q, low, high, q', low', high', old_at, low_at, high_at, inside, h, y, z) = single_at_move c q low high ev c' q' low' high' h.step
+  single_part (SeatPart e) (x, h, gives, y) = single_at_board c x ev c' h
+  single_part (BoardPart e) (x, h, gives, y) = single_at_board c x ev c' h
+  single_part (GivePart e) (x, h, gives, y) = single_at_board c x ev c' h
   single_part NoPart h = absurd h
 
 -- the label of a step is one that a party may have when it is alone
@@ -161,7 +163,7 @@ module _ {K V F : Type 0} (cmp : K → K → Ordering) (total : IsTotalOrder cmp
             (subst (λ v. IsStep cmp hash gives w p x w.control_state w.tables c (label_of p v c.stage)) (sym silent) (record {
               transition = Finds e;
               can = (x.call, calls cmp total hash lawful gives w k p x at c, in_mode cmp total hash lawful gives w k p x at c (AtLocate t) f, was_published cmp hash gives w k e start);
-              is = is_finds cmp hash gives w p x at c e (ap mode_of_stage stands ∙ sym (found_task x.call t e follows)) (ap claim_of_stage stands ∙ sym (ap claim_of_stage f));
+              is = is_finds cmp hash gives w p x at c e (ap mode_of_stage stands ∙ sym (found_task x.call t e follows)) (ap held_of_stage stands ∙ sym (ap held_of_stage f));
               follows = subst (FollowsStage hash x.call) (sym stands) follows;
               frame = same_frame cmp hash gives w k;
             }))))
@@ -173,8 +175,7 @@ module _ {K V F : Type 0} (cmp : K → K → Ordering) (total : IsTotalOrder cmp
             stands : c.stage ≡ AtBin t e
             stands = ap (λ r. r.stage) is ∙ ap (started_stage e) f
         by_stage (AtBin t g) f = absurd (not_there (ap locates f))
-        by_stage (AtClaim a) f = absurd (not_there (ap locates f))
-        by_stage (AtMove r a) f = absurd (not_there (ap locates f))
+        by_stage (AtHelp r a) f = absurd (not_there (ap locates f))
         by_stage (AtUncount r) f = absurd (not_there (ap locates f))
         by_stage (AtCount r) f = absurd (not_there (ap locates f))
         by_stage (AtRecount r) f = absurd (not_there (ap locates f))
@@ -206,8 +207,7 @@ module _ {K V F : Type 0} (cmp : K → K → Ordering) (total : IsTotalOrder cmp
         done : (s : Stage K V F) → x.party_state.stage ≡ s → final_outcome s ≡ Some r → x.party_state.stage ≡ AtDone r
         done (AtLocate t) e h = cc
         done (AtBin t g) e h = cc
-        done (AtClaim a) e h = cc
-        done (AtMove z a) e h = cc
+        done (AtHelp z a) e h = cc
         done (AtUncount q) e h = cc
         done (AtCount q) e h = cc
         done (AtRecount q) e h = cc

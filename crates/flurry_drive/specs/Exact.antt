@@ -67,7 +67,7 @@ module _ {K V F : Type 0} (cmp : K → K → Ordering) (hash : K → ℕ) (chang
   DrivesTo c n s m r s' = (m' : Pairs K V) × Answers c m r m' × Holds (n + most_counted c m) s' m'
 
 -- over a field that tells its parts, which stand as a world keeps them, a call that did no step yet does what the finite map does
-abbrev pub IsExact : {S R K V F : Type 0} (place : R → ℕ → Bool → Bool → R → Type 0) (cmp : K → K → Ordering) (changes : F → K → V → Option V → Type 0) (lends : S → Loan K V R → S → Type 0) (lacks : S → Part → Type 0) → S → PartyState K V F → Outcome K V → S → Type 0
+abbrev pub IsExact : {S R K V F : Type 0} (place : R → ℕ → Option ℕ → Bool → R → Type 0) (cmp : K → K → Ordering) (changes : F → K → V → Option V → Type 0) (lends : S → Loan K V R → S → Type 0) (lacks : S → Part → Type 0) → S → PartyState K V F → Outcome K V → S → Type 0
 IsExact {S} {R} {K} {V} {F} place cmp changes lends lacks s p r s' =
     (parts : S → Parts K V) (room : R → Tables K V) → Tells parts room place lends lacks
     → (hash : K → ℕ) → ((j k : K) → cmp j k ≡ Equal → hash j ≡ hash k)

@@ -26,7 +26,7 @@ module _ {K V : Type 0} where
 
   -- A field whose parts, and a room whose tables, are these: what the field lends is its own, and what it lacks is not there. Nobody
   -- else changes them, since the parts before a loan are those that the loan before it left.
-  pub record Tells {S R : Type 0} (parts : S → Parts K V) (room : R → Tables K V) (place : R → ℕ → Bool → Bool → R → Type 0) (lends : S → Loan K V R → S → Type 0) (lacks : S → Part → Type 0) : Type 0 where
-    pub places : (r : R) (e : ℕ) (live ok : Bool) (r' : R) → place r e live ok r' → PlaceGives (room r) e live ok (room r')
+  pub record Tells {S R : Type 0} (parts : S → Parts K V) (room : R → Tables K V) (place : R → ℕ → Option ℕ → Bool → R → Type 0) (lends : S → Loan K V R → S → Type 0) (lacks : S → Part → Type 0) : Type 0 where
+    pub places : (r : R) (e : ℕ) (growth : Option ℕ) (ok : Bool) (r' : R) → place r e growth ok r' → PlaceGives (room r) e growth ok (room r')
     pub lends_own : (s : S) (l : Loan K V R) (s' : S) → lends s l s' → IsOwn room (parts s) l (parts s')
     pub lacks_only : (s : S) (p : Part) → lacks s p → IsThere (parts s).tables p → ⊥
