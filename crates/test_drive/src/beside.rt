@@ -94,6 +94,30 @@ impl<K: Ord + Drop, V: Drop, A: Allocator + Copy> Field<K, V, A> for Beside<K, V
     ) -> Option<Event> {
         self.parts.at_move(table, index, party)
     }
+
+    fn at_seat<F: ComputeFn<K, V>>(
+        &mut self,
+        table: u8,
+        party: &mut Party<'_, K, V, F, A>,
+    ) -> Option<Event> {
+        self.parts.at_seat(table, party)
+    }
+
+    fn at_board<F: ComputeFn<K, V>>(
+        &mut self,
+        table: u8,
+        party: &mut Party<'_, K, V, F, A>,
+    ) -> Option<Event> {
+        self.parts.at_board(table, party)
+    }
+
+    fn at_give<F: ComputeFn<K, V>>(
+        &mut self,
+        table: u8,
+        party: &mut Party<'_, K, V, F, A>,
+    ) -> Option<Event> {
+        self.parts.at_give(table, party)
+    }
 }
 
 /// Parts beside a published table are a field of which `Tells` holds. The function does nothing: its contract is a law.

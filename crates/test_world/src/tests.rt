@@ -95,6 +95,16 @@ fn step<'k, F: ComputeFn<u64, u64> + Copy>(
     last_line(rt, world)
 }
 
+// Makes the party lose an attempt, and asserts that the label is silent.
+fn lose<'k, F: ComputeFn<u64, u64> + Copy>(
+    rt: &impl Abort,
+    world: &mut Numbers<'k, F>,
+    party: usize,
+) {
+    world.lose(party).expect(rt, "memory for the label");
+    same(rt, last_line(rt, world), Line::Silent(party));
+}
+
 // Asserts that `lines` are the labels of the party's next steps.
 fn assert_steps<'k, F: ComputeFn<u64, u64> + Copy>(
     rt: &impl Abort,

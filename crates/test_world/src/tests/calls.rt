@@ -198,6 +198,7 @@ fn does_singly<'k, F: ComputeFn<u64, u64> + Copy>(rt: &impl Abort, world: &mut N
                     .expect(rt, "memory for the call");
             }
             Step::Step(party) => world.step(party).expect(rt, "memory for the step"),
+            Step::Lose(party) => world.lose(party).expect(rt, "memory for the label"),
         }
     }
 }

@@ -2,7 +2,7 @@
 
 use super::{
     Line, Numbers, assert_call, assert_reply, assert_steps, begin, end_of, label_count, line_of,
-    same, step, value, world_for,
+    lose, same, step, value, world_for,
 };
 use flurry_slots::{ComputeFn, NoFn};
 use flurry_steps::party::OwnedCall;
@@ -49,6 +49,8 @@ enum Row {
     StopsAndGoesOn,
     StopsForGood,
     UnknownParties,
+    Losses,
+    NineHelpers,
 }
 
 // Goes through a row in a world of its own, which it passes by reference: where a world is dropped, the proof goes through everything that
@@ -57,7 +59,7 @@ fn goes_through<F: ComputeFn<u64, u64> + Copy>(rt: &impl Abort, alloc: Global, r
     requires { (f : F) → F.can_change f }
 {
     let (capacity, processors) = match row {
-        Row::StopsAndGoesOn | Row::StopsForGood => (32, 2),
+        Row::StopsAndGoesOn | Row::StopsForGood | Row::Losses | Row::NineHelpers => (32, 2),
         _ => (0, 1),
     };
     let mut world: Numbers<'_, F> = world_for(rt, alloc, capacity, processors);
@@ -67,6 +69,8 @@ fn goes_through<F: ComputeFn<u64, u64> + Copy>(rt: &impl Abort, alloc: Global, r
         Row::StopsAndGoesOn => stops_and_goes_on(rt, &mut world),
         Row::StopsForGood => stops_for_good(rt, &mut world),
         Row::UnknownParties => does_nothing(rt, &mut world),
+        Row::Losses => loses(rt, &mut world),
+        Row::NineHelpers => nine_help(rt, &mut world),
     }
     drop(world);
 }
@@ -112,7 +116,7 @@ fn half_grows<'k, F: ComputeFn<u64, u64> + Copy>(rt: &impl Abort, world: &mut Nu
     puts_two_and_helps(rt, world);
 }
 
-// Does the 60 steps of party 2.
+// Does the 62 steps of party 2.
 fn puts_two_and_helps<'k, F: ComputeFn<u64, u64> + Copy>(
     rt: &impl Abort,
     world: &mut Numbers<'k, F>,
@@ -125,12 +129,14 @@ fn puts_two_and_helps<'k, F: ComputeFn<u64, u64> + Copy>(
         Line::Silent(2),
     ];
     assert_call(rt, world, 2, OwnedCall::Insert(2, 2), &lines);
+    assert_steps(rt, world, 2, &[Line::Silent(2)]);
     for low in [32, 16, 0] {
         assert_steps(rt, world, 2, &[Line::Silent(2)]);
         moves_range(rt, world, 2, low);
         assert_steps(rt, world, 2, &[Line::Silent(2)]);
     }
     let lines = [
+        Line::Silent(2),
         Line::Silent(2),
         Line::Silent(2),
         Line::Reply(2, value(None)),
@@ -173,6 +179,7 @@ fn stops_and_goes_on<'k, F: ComputeFn<u64, u64> + Copy>(rt: &impl Abort, world: 
     assert_call(rt, world, 4, OwnedCall::Get(2), &found_further_on(4, 2));
     moves_range(rt, world, 1, 48);
     let lines = [
+        Line::Silent(1),
         Line::Published(7),
         Line::Silent(1),
         Line::Silent(1),
@@ -244,4 +251,83 @@ fn does_nothing<'k, F: ComputeFn<u64, u64> + Copy>(rt: &impl Abort, world: &mut 
     assert_call(rt, world, 0, OwnedCall::Get(1), &lines);
     assert_steps(rt, world, usize::MAX, &[Line::Silent(usize::MAX)]);
     same(rt, label_count(world), 8);
+}
+
+#[test]
+fn attempts_that_are_lost(rt: HostRuntime) {
+    goes_through::<NoFn>(&rt, rt.alloc(), Row::Losses)
+}
+
+// Party 0, which is to claim a range, loses, and claims one at its next step. Party 1, which is to take a seat, loses, and does not help.
+fn loses<'k, F: ComputeFn<u64, u64> + Copy>(rt: &impl Abort, world: &mut Numbers<'k, F>)
+    requires { (f : F) → F.can_change f }
+{
+    let lines = [Line::Silent(0), Line::Placed(7)];
+    assert_call(rt, world, 0, OwnedCall::Reserve(33), &lines);
+    lose(rt, world, 0);
+    assert_steps(rt, world, 0, &[Line::Silent(0), Line::Moved(6, 63)]);
+    puts_a_pair(rt, world, 1);
+    lose(rt, world, 1);
+    let lines = [Line::Silent(1), Line::Reply(1, value(None))];
+    assert_steps(rt, world, 1, &lines);
+    for party in [0, 1, 7, usize::MAX] {
+        lose(rt, world, party);
+    }
+    assert_steps(rt, world, 0, &[Line::Moved(6, 62)]);
+}
+
+// Does the first three steps of an insertion, after which the party helps the growth.
+fn puts_a_pair<'k, F: ComputeFn<u64, u64> + Copy>(
+    rt: &impl Abort,
+    world: &mut Numbers<'k, F>,
+    party: usize,
+)
+    requires { (f : F) → F.can_change f }
+{
+    let lines = [
+        Line::Silent(party),
+        Line::Decide(party, value(None)),
+        Line::Silent(party),
+    ];
+    assert_call(rt, world, party, OwnedCall::Insert(party as u64, 5), &lines);
+}
+
+#[test]
+fn helpers_without_a_seat(rt: HostRuntime) {
+    goes_through::<NoFn>(&rt, rt.alloc(), Row::NineHelpers)
+}
+
+// Party 0 begins a growth, and has the first seat. Parties 1 to 7 take the others. Party 8 finds none, and does not help. Party 7 moves all
+// bins and publishes. Party 1, whose growth is then over, finds nothing to claim.
+fn nine_help<'k, F: ComputeFn<u64, u64> + Copy>(rt: &impl Abort, world: &mut Numbers<'k, F>)
+    requires { (f : F) → F.can_change f }
+{
+    let lines = [Line::Silent(0), Line::Placed(7)];
+    assert_call(rt, world, 0, OwnedCall::Reserve(33), &lines);
+    for party in 1..8usize {
+        puts_a_pair(rt, world, party);
+        assert_steps(rt, world, party, &[Line::Silent(party)]);
+    }
+    puts_a_pair(rt, world, 8);
+    let lines = [
+        Line::Silent(8),
+        Line::Silent(8),
+        Line::Reply(8, value(None)),
+    ];
+    assert_steps(rt, world, 8, &lines);
+    for low in [48, 32, 16, 0] {
+        assert_steps(rt, world, 7, &[Line::Silent(7)]);
+        moves_range(rt, world, 7, low);
+        assert_steps(rt, world, 7, &[Line::Silent(7)]);
+    }
+    let lines = [
+        Line::Published(7),
+        Line::Silent(7),
+        Line::Silent(7),
+        Line::Reply(7, value(None)),
+    ];
+    assert_steps(rt, world, 7, &lines);
+    let lines = [Line::Silent(1), Line::Silent(1), Line::Silent(1)];
+    assert_steps(rt, world, 1, &lines);
+    assert_steps(rt, world, 1, &[Line::Reply(1, value(None))]);
 }

@@ -107,7 +107,7 @@ fn walks_across_doublings<'k, F: ComputeFn<u64, u64> + Copy>(
 {
     walks_half_a_bin(rt, world);
     let grower = begin(rt, world, OwnedCall::Reserve(16));
-    ends_after(rt, world, grower, 59);
+    ends_after(rt, world, grower, 61);
     rests(rt, world, 2, 5);
     assert_steps(rt, world, 2, &[Line::Read(2, 17, 17)]);
     rests(rt, world, 2, 100);
@@ -141,7 +141,7 @@ fn walks_across_five<'k, F: ComputeFn<u64, u64> + Copy>(rt: &impl Abort, world: 
     puts(rt, world, 0, 2);
     assert_call(rt, world, 1, OwnedCall::Walk, &[Line::Silent(1)]);
     let grower = begin(rt, world, OwnedCall::Reserve(40));
-    ends_after(rt, world, grower, 147);
+    ends_after(rt, world, grower, 152);
     rests(rt, world, 1, 131);
     assert_steps(rt, world, 1, &[Line::Read(1, 2, 2)]);
     rests(rt, world, 1, 121);
