@@ -264,7 +264,7 @@ impl<
     {
         make_room(&mut self.trace)?;
         self.trace.push_reserved(Label::Silent(party));
-        if party >= self.party_records.len() {
+        if self.party_records.len() <= party {
             return Ok(());
         }
         let party_record = &mut self.party_records[party];
