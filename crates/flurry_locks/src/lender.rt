@@ -5,20 +5,15 @@ ghost use Rattle.flurry_calls.specs.Sweep.{swept_part};
 ghost use Rattle.flurry_locks.specs.WalkTurns.{WalkTurn, WalksOrStays};
 
 use crate::locks::Locks;
-use crate::tables::Maker;
 use flurry_calls::Sweep;
 use flurry_control::{PublishedTable, Tally};
-use flurry_slots::{ComputeFn, Slot};
+use flurry_slots::Slot;
 use flurry_steps::party::{Event, Want};
-use flurry_steps::{Field, Party};
 use std::alloc::{Allocator, Global};
 use std::sync::{Mutex, RwLock, Wait};
 
-/// A handle that gives the steps of a thread's calls the parts of a shared map. Each part is given under its lock, which is held for one
-/// step.
-///
-/// A step that moves a bin takes the lock of the bin, then the lock of its low half, then the lock of its high half, and holds all three. A
-/// call starts at the table that was published last, as far as that is known without the control's lock.
+/// A handle that gives the parts of a shared map, each under its lock. It does the steps of a walk itself; a
+/// [`CallLender`](crate::CallLender) made of it does those of the other calls.
 ///
 /// ```
 /// let lender = Lender::new(rt, locks);
@@ -26,8 +21,8 @@ use std::sync::{Mutex, RwLock, Wait};
 /// ```
 #[derive(Drop)]
 pub struct Lender<'m, R, K: Ord, V, A: Allocator = Global> {
-    rt: &'m R,
-    locks: &'m Locks<K, V, A>,
+    pub(crate) rt: &'m R,
+    pub(crate) locks: &'m Locks<K, V, A>,
 }
 
 impl<'m, R, K: Ord, V, A: Allocator> Lender<'m, R, K, V, A> {
@@ -132,84 +127,5 @@ impl<'m, R: Wait, K: Ord + Drop, V: Drop, A: Allocator> Lender<'m, R, K, V, A> {
             return None;
         }
         Some(walk.on_look(&*slot))
-    }
-}
-
-impl<'m, R: Wait, K: Ord + Drop, V: Drop, A: Allocator + Copy> Field<K, V, A>
-    for Lender<'m, R, K, V, A> {
-    ghost use Rattle.flurry_locks.specs.LockLoans.{LockLends, LockLacks};
-
-    type Room = Maker<'m, K, V, A>;
-
-    ghost lends = { LockLends };
-
-    ghost lacks = { LockLacks };
-
-    fn at_control<F: ComputeFn<K, V>>(
-        &mut self,
-        party: &mut Party<'_, K, V, F, A>,
-    ) -> Option<Event> {
-        let locks = self.locks;
-        if party.locates() {
-            if let Some(start) = locks.starts.newest() {
-                return Some(party.on_start(start));
-            }
-        }
-        if party.counts() {
-            if let Some((tally, most)) = locks.control.tally(party.hash(), locks.starts.newest()) {
-                return Some(party.on_tally(&mut *tally.lock(self.rt), most));
-            }
-        }
-        let mut room = Maker::new(&locks.tables, locks.alloc);
-        let mut control = locks.control.lock(self.rt);
-        let event = party.on_control(&mut *control, &mut room);
-        if let Event::Opened(_) | Event::Published(_) = event {
-            if let Some(start) = control.start() {
-                locks.starts.add(start);
-            }
-        }
-        Some(event)
-    }
-
-    fn at_look<F: ComputeFn<K, V>>(
-        &mut self,
-        table: u8,
-        index: usize,
-        party: &mut Party<'_, K, V, F, A>,
-    ) -> Option<Event> {
-        let slot = self.locks.tables.lock_of(table, index)?.read(self.rt);
-        if slot.at() != (table, index) {
-            return None;
-        }
-        Some(party.on_look(&*slot))
-    }
-
-    fn at_bin<F: ComputeFn<K, V>>(
-        &mut self,
-        table: u8,
-        index: usize,
-        party: &mut Party<'_, K, V, F, A>,
-    ) -> Option<Event> {
-        let mut slot = self.locks.tables.lock_of(table, index)?.write(self.rt);
-        if slot.at() != (table, index) {
-            return None;
-        }
-        Some(party.on_bin(self.locks.alloc, &mut *slot))
-    }
-
-    fn at_move<F: ComputeFn<K, V>>(
-        &mut self,
-        table: u8,
-        index: usize,
-        party: &mut Party<'_, K, V, F, A>,
-    ) -> Option<Event> {
-        let (old, low, high) = self.locks.tables.locks_of_move(table, index)?;
-        let mut old = old.write(self.rt);
-        let mut low = low.write(self.rt);
-        let mut high = high.write(self.rt);
-        if old.at() != (table, index) {
-            return None;
-        }
-        Some(party.on_move(&mut *old, &mut *low, &mut *high))
     }
 }

@@ -3,11 +3,13 @@
 //! [`Locks`] has them. A [`Lender`] takes the locks of the part that a step of a call needs, for that step alone.
 #![tactic(auto)]
 
+pub mod call_lender;
 pub mod lender;
 pub mod locks;
 mod shared_control;
 mod starts;
 mod tables;
 
+pub use call_lender::CallLender;
 pub use lender::Lender;
 pub use locks::Locks;

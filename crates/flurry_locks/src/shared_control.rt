@@ -2,6 +2,7 @@
 
 use crossbeam_utils::CachePadded;
 use flurry_control::{Advice, Control, PublishedTable, Tally};
+use flurry_model::sizes::TABLES;
 use std::array;
 use std::sync::atomic::{AtomicBool, Ordering};
 use std::sync::{Mutex, MutexGuard, Wait};
@@ -19,6 +20,8 @@ pub(crate) struct SharedControl {
     tallies: [CachePadded<Mutex<Tally>>; TALLIES],
     // Whether a growth was to be started or helped when the control was locked last.
     is_growth_due: CachePadded<AtomicBool>,
+    // Whether a call that came to help the growth from the table of this exponent had nothing to do.
+    has_enough: [AtomicBool; TABLES],
 }
 
 impl SharedControl {
@@ -28,6 +31,7 @@ impl SharedControl {
             control: Mutex::new(control),
             tallies: array::from_fn(|_| CachePadded::new(Mutex::new(Tally::new()))),
             is_growth_due: CachePadded::new(AtomicBool::new(false)),
+            has_enough: array::from_fn(|_| AtomicBool::new(false)),
         }
     }
 
@@ -38,11 +42,30 @@ impl SharedControl {
         for tally in &self.tallies {
             control.collect(&mut *tally.lock(rt));
         }
-        let is_due = control.count(0) != Advice::Enough;
+        let is_due = match control.count(0) {
+            Advice::Enough => false,
+            Advice::Join(table) => self.wants_helpers(table),
+            Advice::Begin => true,
+        };
         if self.is_growth_due.load(Ordering::SeqCst) != is_due {
             self.is_growth_due.store(is_due, Ordering::SeqCst);
         }
         control
+    }
+
+    // Notes that the growth from `table` wants no further helper: all of its ranges are claimed, or no seat is left at its board.
+    pub(crate) fn note_enough(&self, table: u8) {
+        if let Some(has_enough) = self.has_enough.get(usize::from(table)) {
+            has_enough.store(true, Ordering::SeqCst);
+        }
+    }
+
+    // Returns `true` if a further call may find something to do for the growth from `table`.
+    fn wants_helpers(&self, table: u8) -> bool {
+        match self.has_enough.get(usize::from(table)) {
+            Some(has_enough) => !has_enough.load(Ordering::SeqCst),
+            None => false,
+        }
     }
 
     // Returns the tally of `hash`, and how many pairs may wait there before a call looks at the control's count, in a map whose newest

@@ -3,12 +3,13 @@ ghost use Rattle.std.specs.Prelude.{◌≤◌};
 ghost use Rattle.flurry_model.specs.declared.sizes.TheConstants.{GREATEST_TABLE};
 
 use flurry_bins::bin::Bin;
+use flurry_claims::{Helper, Helpers};
 use flurry_control::Room;
 use flurry_model::sizes::TABLES;
 use flurry_slots::Slot;
 use std::alloc::{AllocError, Allocator, Global};
 use std::array;
-use std::sync::{Arc, OnceLock, RwLock};
+use std::sync::{Arc, OnceLock, RwLock, Wait};
 
 /// A table, with each of its slots under a lock of its own.
 type Table<K, V, A> = Vec<RwLock<Slot<K, V, A>>, A>;
@@ -20,10 +21,12 @@ type LocksOfMove<'m, K, V, A> = (
     &'m RwLock<Slot<K, V, A>>,
 );
 
-/// A place for each table, by its exponent. A table is put into its place at most once, and stays there.
+/// A place for each table, by its exponent, and one for the helpers of the growth from it. Each is put into its place at most once, and stays
+/// there.
 #[derive(Drop)]
 pub(crate) struct Tables<K: Ord, V, A: Allocator = Global> {
     places: [OnceLock<Arc<Vec<RwLock<Slot<K, V, A>>, A>, A>>; TABLES],
+    helpers: [OnceLock<Arc<Helpers<A>, A>>; TABLES],
 }
 
 impl<K: Ord, V, A: Allocator> Tables<K, V, A> {
@@ -31,12 +34,30 @@ impl<K: Ord, V, A: Allocator> Tables<K, V, A> {
     pub(crate) fn new() -> Self {
         Tables {
             places: array::from_fn(|_| OnceLock::new()),
+            helpers: array::from_fn(|_| OnceLock::new()),
         }
     }
 
     // Returns the lock of the slot at `table` and `index`, or `None` if there is no such slot.
     pub(crate) fn lock_of(&self, table: u8, index: usize) -> Option<&RwLock<Slot<K, V, A>>> {
         self.places.get(usize::from(table))?.get()?.get(index)
+    }
+
+    // Takes a helper of the growth from `table`. Returns `None` if there was no such growth, or all of its helpers are out.
+    pub(crate) fn take_helper<R: Wait>(&self, rt: &R, table: u8) -> Option<Helper<A>> {
+        self.helpers_of(table)?.take(rt)
+    }
+
+    // Gives a helper back to the growth from `table`.
+    pub(crate) fn give_back<R: Wait>(&self, rt: &R, table: u8, helper: Helper<A>) {
+        if let Some(helpers) = self.helpers_of(table) {
+            helpers.give(rt, helper);
+        }
+    }
+
+    // Returns the helpers of the growth from `table`, or `None` if there was no such growth.
+    fn helpers_of(&self, table: u8) -> Option<&Helpers<A>> {
+        Some(&**self.helpers.get(usize::from(table))?.get()?)
     }
 
     // Returns the locks of the slot at `table` and `index`, and of its low and its high half in the next table, or `None` if one of them is
@@ -71,18 +92,22 @@ impl<'m, K: Ord, V, A: Allocator> Maker<'m, K, V, A> {
 }
 
 impl<'m, K: Ord + Drop, V: Drop, A: Allocator + Copy> Room for Maker<'m, K, V, A> {
-    ghost use Rattle.std.specs.Prelude.{◌≡◌};
+    ghost use Rattle.flurry_locks.specs.LockLoans.{MakerStays};
 
-    ghost place_gives = { λ m table live ok m'. m' ≡ m };
+    ghost place_gives = { MakerStays };
 
-    fn place(&mut self, table: u8, live: bool) -> Result<(), AllocError> {
+    fn place(&mut self, table: u8, for_growth: Option<usize>) -> Result<(), AllocError> {
         let tables = self.tables;
         let place = &tables.places[usize::from(table)];
         if place.get().is_some() {
             return Ok(());
         }
-        let slots = new_table(self.alloc, table, live)?;
-        let _ = place.try_set(Arc::new(self.alloc, slots)?);
+        let slots = Arc::new(self.alloc, new_table(self.alloc, table, for_growth.is_none())?)?;
+        if let (Some(processors), Some(from)) = (for_growth, table.checked_sub(1)) {
+            let helpers = Helpers::new(self.alloc, from, processors)?;
+            let _ = tables.helpers[usize::from(from)].try_set(Arc::new(self.alloc, helpers)?);
+        }
+        let _ = place.try_set(slots);
         Ok(())
     }
 }

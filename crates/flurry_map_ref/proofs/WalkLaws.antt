@@ -2,10 +2,10 @@
 use Rattle.std.proofs.Common.{◌≡◌, ℕ, Option, Some, None, IsSome, MatchOption, Result, Ok, Err, false, refl, sym, ◌∙◌, ap, subst}
 use Rattle.std.specs.declared.cmp.Ordering.{Ordering}
 use Rattle.flurry_steps.specs.Turns.{Turns, still, further}
-use Rattle.flurry_locks.specs.LockLoans.{LockLends}
+use Rattle.flurry_locks.specs.LockLoans.{LockLends, MakerStays}
 use Rattle.flurry_locks.specs.WalkTurns.{WalkTurn, WalksOrStays, AtControl, AtStart, AtSlot}
 use Rattle.flurry_model.specs.declared.call.Seen.{Seen}
-use Rattle.flurry_replies.specs.Replies.{GoesTo, MakerStays}
+use Rattle.flurry_replies.specs.Replies.{GoesTo, new_party}
 use Rattle.flurry_replies.specs.Answers.{CanWalk}
 use Rattle.flurry_replies.proofs.AnswerLaws.{can_answer}
 use Rattle.flurry_slots.specs.Slot.{PlainEntry, Content, IsLive, HasMoved, IsUnborn, next_of_live}
@@ -57,7 +57,7 @@ module _ {K V : Type 0} (cmp : K → K → Ordering) (l : Option (Seen K V)) (w'
 
 -- a party that is this walk
 abbrev party_of : {K V : Type 0} → SweepState K V → PartyState K V NoFn
-party_of w = record { hash = 0; processors = 0; stage = AtSweep w }
+party_of w = new_party 0 0 (AtSweep w)
 
 module _ {K V : Type 0} (cmp : K → K → Ordering) where
   turn_sees : (p p' : SweepState K V) → WalkTurn cmp p event.Read p' → IsSome p'.last
@@ -67,9 +67,9 @@ module _ {K V : Type 0} (cmp : K → K → Ordering) where
 
   -- a step of a walk is one of the party
   pub turn_of : (p p' : SweepState K V) (ev : Event) → WalkTurn cmp p ev p' → Turn (MakerStays {M = Unit {0}}) cmp no_changes (LockLends {S = Unit {0}}) tt (party_of p) ev tt (party_of p')
-  turn_of p p' ev (AtControl b b' wants step) = record { loan = ControlLoan b tt b' tt; lent = refl; step = (wants, record { hash = refl; processors = refl; step = (p', refl, step, refl) }) }
+  turn_of p p' ev (AtControl b b' wants step) = record { loan = ControlLoan b tt b' tt; lent = refl; step = (wants, record { hash = refl; processors = refl; helped = refl; step = (p', refl, step, refl) }) }
   turn_of p p' ev (AtStart d asks within silent after) = record { loan = StartLoan d; lent = refl; step = (asks, within, silent, ap party_of after) }
-  turn_of p p' ev (AtSlot q wants slot step) = record { loan = LookLoan q; lent = refl; step = (wants, slot, record { hash = refl; processors = refl; table = refl; index = refl; step = (p', refl, step.step) }) }
+  turn_of p p' ev (AtSlot q wants slot step) = record { loan = LookLoan q; lent = refl; step = (wants, slot, record { hash = refl; processors = refl; helped = refl; table = refl; index = refl; step = (p', refl, step.step) }) }
 
   turns_of : {s s' : Unit {0}} {p p' : SweepState K V} → Turns (AnyTurn cmp) s p s' p' → GoesTo (Unit {0}) cmp no_changes (party_of p) (party_of p')
   turns_of still = still

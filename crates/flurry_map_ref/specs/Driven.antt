@@ -1,7 +1,7 @@
 -- What contracts say of a call of a shared map.
 use Rattle.std.specs.Prelude.{◌≡◌, ℕ, Option, None}
 use Rattle.std.specs.declared.cmp.Ordering.{Ordering}
-use Rattle.flurry_replies.specs.Replies.{IsReplyOf}
+use Rattle.flurry_replies.specs.Replies.{IsReplyOf, new_party}
 use Rattle.flurry_slots.specs.declared.compute_fn.NoFn.{NoFn}
 use Rattle.flurry_calls.specs.Outcome.{Outcome}
 use Rattle.flurry_steps.specs.Party.{Stage}
@@ -32,4 +32,4 @@ hash_in hash _ = 0
 
 -- the reply of the call that begins at that stage, over a shared map
 abbrev pub IsDriven : (M : Type 0) → {K V F S : Type 0} → (K → K → Ordering) → (F → K → V → Option V → Type 0) → MapSettings S → ℕ → Stage K V F → Outcome K V → Type 0
-IsDriven M cmp changes m hash first r = IsReplyOf M cmp changes (record { hash = hash; processors = m.processors; stage = first }) r
+IsDriven M cmp changes m hash first r = IsReplyOf M cmp changes (new_party hash m.processors first) r

@@ -8,17 +8,17 @@ use Rattle.flurry_model.specs.declared.call.Seen.{Seen}
 use Rattle.flurry_replies.specs.Answers.{CanReserve, CanSweep, CanAnswer, CanAnswerFrom, NeedsOwner, IsSought}
 use Rattle.flurry_slots.specs.Slot as slot
 use Rattle.flurry_slots.specs.Slot.{PlainEntry, SlotState, Live, Content, IsLive, HasMoved, IsUnborn, ComputeOutcome, WasAbsent, WasRemoved, WasChanged, Clashes, next_of_live}
-use Rattle.flurry_control.specs.Control.{ControlState, BeginGives, claim_of, grows_from}
-use Rattle.flurry_control.specs.Claim.{Range}
-use Rattle.flurry_steps.specs.Field.{Loan, ControlLoan, StartLoan, TallyLoan, LookLoan, BinLoan, MoveLoan, StepWith, Turn}
+use Rattle.flurry_control.specs.Control.{ControlState, BeginGives, grows_from}
+use Rattle.flurry_steps.specs.Field.{Loan, ControlLoan, StartLoan, TallyLoan, LookLoan, BinLoan, MoveLoan, BoardLoan, StepWith, Turn}
 use Rattle.flurry_calls.specs.Outcome.{Outcome, OutcomeReply, OutcomeEnded, OutcomeRefused}
 use Rattle.flurry_calls.specs.Sweep as sweep
 use Rattle.flurry_calls.specs.Sweep.{Errand, Reads, Wipes, SweepStage, AtOutset, OverBins, AtTotal, AtEnd, AfterEnd, BinGives, WalkGives, ClearGives, ReadGives, SplitGives, set_out_at, stage_walked, stage_cleared, more_wiped, swept_outcome, sets_out}
 use Rattle.flurry_calls.specs.Cursor.{CursorState, after_top}
 use Rattle.flurry_steps.specs.Party as party
-use Rattle.flurry_steps.specs.Party.{Sought, TheValue, ThePair, Presence, Task, Finds, Removes, RemovesSeen, Inserts, Adds, Computes, GrowFor, ForInsert, ForReserve, Resume, ThenBin, ThenRecount, ThenGrow, Stage, AtLocate, AtBin, AtClaim, AtMove, AtUncount, AtCount, AtRecount, AtBegin, AtGrow, AtReserve, AtSweep, AtDone, AtTaken, PartyState, reply_for, resumed_stage, started_stage, final_outcome, with_stage}
-use Rattle.flurry_steps.specs.PartyControl.{begin_at, stage_advised, stage_begun, stage_grown, stage_not_grown, stage_growing, OpensFor, LocatesNone, MakesFor, event_growing, StageAtControl}
+use Rattle.flurry_steps.specs.Party.{Sought, TheValue, ThePair, Presence, Task, Finds, Removes, RemovesSeen, Inserts, Adds, Computes, GrowFor, ForInsert, ForReserve, Help, WantsSeat, AtBoard, Moving, Publishing, GivesBack, Resume, ThenBin, ThenRecount, ThenGrow, Stage, AtLocate, AtBin, AtHelp, AtUncount, AtCount, AtRecount, AtBegin, AtGrow, AtReserve, AtSweep, AtDone, AtTaken, PartyState, reply_for, resumed_stage, started_stage, final_outcome, with_stage}
+use Rattle.flurry_steps.specs.PartyControl.{has_helped, begin_at, stage_advised, stage_begun, stage_grown, stage_not_grown, stage_growing, OpensFor, LocatesNone, MakesFor, event_growing, StageAtControl}
 use Rattle.flurry_steps.specs.PartySlots.{GoesOnNew, GoesOnWritten, GoesOnAdded, stage_taken, stage_computed, stage_moved, FindCanBeRefused, CanBeRefused, DecidesAt, LiveGives, ContentGives, StageAtSlot, moved_stage, MoveGives}
+use Rattle.flurry_steps.specs.PartyBoard.{BoardAnswer, stage_helping, stage_answered}
 use Rattle.flurry_steps.specs.PartyTally.{StageAtTally}
 use Rattle.flurry_steps.specs.PartyView.{first_stage}
 use Rattle.flurry_control.specs.declared.control.Advice.{Advice}
@@ -70,8 +70,7 @@ module _ {K V F : Type 0} (changes : F → K → V → Option V → Type 0) (ans
   abbrev StageServes : Stage K V F → Type 0
   StageServes (AtLocate t) = Serves t
   StageServes (AtBin t e) = Serves t
-  StageServes (AtClaim a) = ResumeServes a
-  StageServes (AtMove c a) = ResumeServes a
+  StageServes (AtHelp k a) = ResumeServes a
   StageServes (AtUncount r) = answers r
   StageServes (AtCount r) = answers r
   StageServes (AtRecount r) = answers r
@@ -87,8 +86,7 @@ module _ {K V F : Type 0} (changes : F → K → V → Option V → Type 0) (ans
   served : (s : Stage K V F) (r : Outcome K V) → StageServes s → final_outcome s ≡ Some r → answers r
   served (AtLocate t) r h e = cc
   served (AtBin t n) r h e = cc
-  served (AtClaim a) r h e = cc
-  served (AtMove c a) r h e = cc
+  served (AtHelp k a) r h e = cc
   served (AtUncount q) r h e = cc
   served (AtCount q) r h e = cc
   served (AtRecount q) r h e = cc
@@ -115,15 +113,19 @@ module _ {K V F : Type 0} (changes : F → K → V → Option V → Type 0) (ans
   at_begin None r h = h
   at_begin (Some e) r h = h
 
-  after_advice : (p : Option ℕ) (r : Outcome K V) (a : Advice) → answers r → StageServes (stage_advised p r a)
-  after_advice p r advice.Enough h = h
-  after_advice p r advice.Join h = h
-  after_advice p r advice.Begin h = at_begin p r h
+  at_join : (helped : Bool) (e : ℕ) (r : Outcome K V) → answers r → StageServes (if helped then AtDone r else AtHelp (WantsSeat e) (ThenRecount r))
+  at_join true e r h = h
+  at_join false e r h = h
 
-  after_begun : (r : Outcome K V) (a : BeginOutcome) → answers r → StageServes (stage_begun r a)
-  after_begun r began.Begun h = h
-  after_begun r began.Refused h = h
-  after_begun r began.Busy h = h
+  after_advice : (m p : Option ℕ) (r : Outcome K V) (a : Advice) → answers r → StageServes (stage_advised m p r a)
+  after_advice m p r advice.Enough h = h
+  after_advice m p r (advice.Join e) h = at_join (has_helped e m) e r h
+  after_advice m p r advice.Begin h = at_begin p r h
+
+  after_begun : (e : ℕ) (r : Outcome K V) (a : BeginOutcome) → answers r → StageServes (stage_begun e r a)
+  after_begun e r began.Begun h = h
+  after_begun e r began.Refused h = h
+  after_begun e r began.Busy h = h
 
   after_grown : (g : GrowFor K V) → GrowForServes g → StageServes (stage_grown g)
   after_grown (ForInsert r) h = h
@@ -133,16 +135,33 @@ module _ {K V F : Type 0} (changes : F → K → V → Option V → Type 0) (ans
   after_not_grown (ForInsert r) h = h
   after_not_grown ForReserve h = h OutcomeRefused tt
 
-  after_growing : (w : ℕ) (g : GrowFor K V) (a : BeginOutcome) → GrowForServes g → StageServes (stage_growing w g a)
-  after_growing w g began.Begun h = h
-  after_growing w g began.Refused h = after_not_grown g h
-  after_growing w g began.Busy h = after_grown g h
+  after_growing : (e w : ℕ) (g : GrowFor K V) (a : BeginOutcome) → GrowForServes g → StageServes (stage_growing e w g a)
+  after_growing e w g began.Begun h = h
+  after_growing e w g began.Refused h = after_not_grown g h
+  after_growing e w g began.Busy h = after_grown g h
+
+  after_turn : (o : Option Help) (a : Resume K V F) → ResumeServes a → StageServes (stage_helping o a)
+  after_turn None a h = after_help a h
+  after_turn (Some k) a h = h
+
+  after_answer : (x : BoardAnswer) (s : Stage K V F) → StageServes s → StageServes (stage_answered x s)
+  after_answer x (AtLocate t) h = h
+  after_answer x (AtBin t e) h = h
+  after_answer x (AtHelp k a) h = after_turn _ a h
+  after_answer x (AtUncount r) h = h
+  after_answer x (AtCount r) h = h
+  after_answer x (AtRecount r) h = h
+  after_answer x (AtBegin e r) h = h
+  after_answer x (AtGrow w g) h = h
+  after_answer x (AtReserve a) h = h
+  after_answer x (AtSweep w) h = h
+  after_answer x (AtDone r) h = h
+  after_answer x AtTaken h = h
 
   with_moved : (s : Stage K V F) → StageServes s → StageServes (moved_stage s)
   with_moved (AtLocate t) h = h
   with_moved (AtBin t e) h = h
-  with_moved (AtClaim a) h = h
-  with_moved (AtMove c a) h = h
+  with_moved (AtHelp k a) h = h
   with_moved (AtUncount r) h = h
   with_moved (AtCount r) h = h
   with_moved (AtRecount r) h = h
@@ -163,8 +182,7 @@ module _ {K V F : Type 0} (changes : F → K → V → Option V → Type 0) (ans
   after_start : (d : ℕ) (s : Stage K V F) → party.locates s ≡ true → StageServes s → StageServes (started_stage d s)
   after_start d (AtLocate t) yet h = h
   after_start d (AtBin t e) yet h = h
-  after_start d (AtClaim a) yet h = h
-  after_start d (AtMove c a) yet h = h
+  after_start d (AtHelp k a) yet h = h
   after_start d (AtUncount r) yet h = h
   after_start d (AtCount r) yet h = h
   after_start d (AtRecount r) yet h = h
@@ -185,8 +203,8 @@ module _ {K V F : Type 0} (changes : F → K → V → Option V → Type 0) (ans
 
   -- ---- at the control
 
-  module _ {R : Type 0} (place : R → ℕ → Bool → Bool → R → Type 0) (p : ℕ) (b : ControlState) (s : R) (st : Stage K V F) (b' : ControlState) (s' : R) where
-    opens : (t : Task K V F) → Serves t → CanAnswer changes t OutcomeRefused → (ev : Event) → OpensFor place p t b s ev st b' s' → StageServes st
+  module _ {R : Type 0} (place : R → ℕ → Option ℕ → Bool → R → Type 0) (p : ℕ) (m : Option ℕ) (b : ControlState) (s : R) (st : Stage K V F) (b' : ControlState) (s' : R) where
+    opens : (t : Task K V F) → Serves t → CanAnswer changes t OutcomeRefused → (ev : Event) → OpensFor place p m t b s ev st b' s' → StageServes st
     opens t h r (event.Opened e) g = subst StageServes (sym g.1) h
     opens t h r event.Refused g = subst StageServes (sym g.0) (h OutcomeRefused r)
     opens t h r event.Decide g = absurd g
@@ -197,7 +215,7 @@ module _ {K V F : Type 0} (changes : F → K → V → Option V → Type 0) (ans
     opens t h r (event.Published e) g = absurd g
     opens t h r event.Silent g = absurd g
 
-    none : (t : Task K V F) (ev : Event) → Serves t → LocatesNone place p t b s ev st b' s' → StageServes st
+    none : (t : Task K V F) (ev : Event) → Serves t → LocatesNone place p m t b s ev st b' s' → StageServes st
     none (Finds w k) ev h g = subst StageServes (sym g.1) (h (OutcomeReply (reply_for w None)) (sought w None))
     none (Removes w k) ev h g = subst StageServes (sym g.1) (h (OutcomeReply (reply_for w None)) (sought w None))
     none (RemovesSeen z) ev h g = subst StageServes (sym g.1) (h (OutcomeReply (reply_for TheValue None)) tt)
@@ -205,7 +223,7 @@ module _ {K V F : Type 0} (changes : F → K → V → Option V → Type 0) (ans
     none (Adds k v) ev h g = opens (Adds k v) h tt ev g
     none (Computes k f) ev h g = subst StageServes (sym g.1) (h _ tt)
 
-    makes : (w : ℕ) (ev : Event) → Reserves → MakesFor place p w b s ev st b' s' → StageServes st
+    makes : (w : ℕ) (ev : Event) → Reserves → MakesFor place p m w b s ev st b' s' → StageServes st
     makes w (event.Opened e) h g = subst StageServes (sym g.1) h
     makes w event.Refused h g = subst StageServes (sym g.0) (h OutcomeRefused tt)
     makes w event.Decide h g = absurd g
@@ -216,32 +234,31 @@ module _ {K V F : Type 0} (changes : F → K → V → Option V → Type 0) (ans
     makes w (event.Published e) h g = absurd g
     makes w event.Silent h g = absurd g
 
-    locates : (t : Task K V F) (ev : Event) (o : Option ℕ) → Serves t → MatchOption o (LocatesNone place p t b s ev st b' s') (λ e. (ev ≡ event.Silent) × (st ≡ AtBin t e) × (b' ≡ b) × (s' ≡ s)) → StageServes st
+    locates : (t : Task K V F) (ev : Event) (o : Option ℕ) → Serves t → MatchOption o (LocatesNone place p m t b s ev st b' s') (λ e. (ev ≡ event.Silent) × (st ≡ AtBin t e) × (b' ≡ b) × (s' ≡ s)) → StageServes st
     locates t ev None h g = none t ev h g
     locates t ev (Some e) h g = subst StageServes (sym g.1) h
 
-    reserves : (w : ℕ) (ev : Event) (o : Option ℕ) → Reserves → MatchOption o (MakesFor place p w b s ev st b' s') (λ e. (ev ≡ event.Silent) × (st ≡ AtGrow w ForReserve) × (b' ≡ b) × (s' ≡ s)) → StageServes st
+    reserves : (w : ℕ) (ev : Event) (o : Option ℕ) → Reserves → MatchOption o (MakesFor place p m w b s ev st b' s') (λ e. (ev ≡ event.Silent) × (st ≡ AtGrow w ForReserve) × (b' ≡ b) × (s' ≡ s)) → StageServes st
     reserves w ev None h g = makes w ev h g
     reserves w ev (Some e) h g = subst StageServes (sym g.1) h
 
-    claims : (a : Resume K V F) (o : Option Range) → ResumeServes a → MatchOption o (st ≡ resumed_stage a) (λ c. st ≡ AtMove c a) → StageServes st
-    claims a None h g = subst StageServes (sym g) (after_help a h)
-    claims a (Some c) h g = subst StageServes (sym g) h
-
     grows : (w : ℕ) (g : GrowFor K V) (ev : Event) (o : Option ℕ) → GrowForServes g
-        → MatchOption o ((ev ≡ event.Silent) × (st ≡ stage_grown g) × (b' ≡ b) × (s' ≡ s)) (λ e. (a : BeginOutcome) × BeginGives place e b s a b' s' × (ev ≡ event_growing e g a) × (st ≡ stage_growing w g a)) → StageServes st
+        → MatchOption o ((ev ≡ event.Silent) × (st ≡ stage_grown g) × (b' ≡ b) × (s' ≡ s)) (λ e. (a : BeginOutcome) × BeginGives place p e b s a b' s' × (ev ≡ event_growing e g a) × (st ≡ stage_growing e w g a)) → StageServes st
     grows w g ev None h x = subst StageServes (sym x.1) (after_grown g h)
-    grows w g ev (Some e) h x = subst StageServes (sym x.3) (after_growing w g x.0 h)
+    grows w g ev (Some e) h x = subst StageServes (sym x.3) (after_growing e w g x.0 h)
 
-    at_control : (c : Stage K V F) (ev : Event) → StageServes c → StageAtControl place p c b s ev st b' s' → StageServes st
+    at_control : (c : Stage K V F) (ev : Event) → StageServes c → StageAtControl place p m c b s ev st b' s' → StageServes st
     at_control (AtLocate t) ev h g = locates t ev b.published h g
     at_control (AtBin t e) ev h g = absurd g
-    at_control (AtClaim a) ev h g = claims a (claim_of p b) h g.1
-    at_control (AtMove c a) ev h g = subst StageServes (sym g.1) h
+    at_control (AtHelp (WantsSeat e) a) ev h g = absurd g
+    at_control (AtHelp (AtBoard e) a) ev h g = absurd g
+    at_control (AtHelp (Moving c) a) ev h g = absurd g
+    at_control (AtHelp (Publishing e) a) ev h g = subst StageServes (sym g.1) h
+    at_control (AtHelp (GivesBack e) a) ev h g = absurd g
     at_control (AtUncount r) ev h g = subst StageServes (sym g.1) h
-    at_control (AtCount r) ev h g = subst StageServes (sym g.1) (after_advice _ r _ h)
-    at_control (AtRecount r) ev h g = subst StageServes (sym g.1) (after_advice _ r _ h)
-    at_control (AtBegin e r) ev h g = subst StageServes (sym g.3) (after_begun r g.0 h)
+    at_control (AtCount r) ev h g = subst StageServes (sym g.1) (after_advice m _ r _ h)
+    at_control (AtRecount r) ev h g = subst StageServes (sym g.1) (after_advice m _ r _ h)
+    at_control (AtBegin e r) ev h g = subst StageServes (sym g.3) (after_begun e r g.0 h)
     at_control (AtGrow w x) ev h g = grows w x ev (grows_from w b) h g
     at_control (AtReserve a) ev h g = reserves g.0 ev b.published h g.2
     at_control (AtSweep w) ev h (w', same, g, _) = subst StageServes (sym same) (subst (SweepServes w'.stage) (sym g.errand) (after_control w.errand w.stage h g.step))
@@ -275,8 +292,7 @@ module _ {K V F : Type 0} (changes : F → K → V → Option V → Type 0) (ans
   at_tally most n st n' (AtCount r) h g = subst StageServes (sym g.0) (after_tally _ r h)
   at_tally most n st n' (AtLocate t) h g = absurd g
   at_tally most n st n' (AtBin t e) h g = absurd g
-  at_tally most n st n' (AtClaim a) h g = absurd g
-  at_tally most n st n' (AtMove c a) h g = absurd g
+  at_tally most n st n' (AtHelp k a) h g = absurd g
   at_tally most n st n' (AtRecount r) h g = absurd g
   at_tally most n st n' (AtBegin e r) h g = absurd g
   at_tally most n st n' (AtGrow w g') h g = absurd g
@@ -348,8 +364,7 @@ module _ {K V F : Type 0} (changes : F → K → V → Option V → Type 0) (ans
     at_slot : (s : Stage K V F) (q : Content K V) (ev : Event) (s' : Stage K V F) (c : Content K V) → StageServes s → StageAtSlot cmp changes n s q ev s' c → StageServes s'
     at_slot (AtBin t e) q ev s' c h g = content t e q ev s' c h g
     at_slot (AtLocate t) q ev s' c h g = absurd g
-    at_slot (AtClaim a) q ev s' c h g = absurd g
-    at_slot (AtMove x a) q ev s' c h g = absurd g
+    at_slot (AtHelp k a) q ev s' c h g = absurd g
     at_slot (AtUncount r) q ev s' c h g = absurd g
     at_slot (AtCount r) q ev s' c h g = absurd g
     at_slot (AtRecount r) q ev s' c h g = absurd g
@@ -435,14 +450,15 @@ module _ {K V F : Type 0} (changes : F → K → V → Option V → Type 0) (ans
 
   -- ---- over a field
 
-  module _ {S R : Type 0} (place : R → ℕ → Bool → Bool → R → Type 0) (cmp : K → K → Ordering) (lends : S → Loan K V R → S → Type 0) where
+  module _ {S R : Type 0} (place : R → ℕ → Option ℕ → Bool → R → Type 0) (cmp : K → K → Ordering) (lends : S → Loan K V R → S → Type 0) where
     with_loan : (l : Loan K V R) (p p' : PartyState K V F) (ev : Event) → StageServes p.stage → StepWith place cmp changes l p ev p' → StageServes p'.stage
-    with_loan (ControlLoan b r b' r') p p' ev h g = at_control place p.processors b r p'.stage b' r' p.stage ev h g.1.step
+    with_loan (ControlLoan b r b' r') p p' ev h g = at_control place p.processors p.helped b r p'.stage b' r' p.stage ev h g.1.step
     with_loan (StartLoan d) p p' ev h g = subst (λ z. StageServes z.stage) (sym g.3) (after_start d p.stage g.0 h)
     with_loan (TallyLoan m n n') p p' ev h g = at_tally m n p'.stage n' p.stage h g.step
     with_loan (LookLoan q) p p' ev h g = at_slot cmp p.hash p.stage q.content ev p'.stage q.content h g.2.step
     with_loan (BinLoan q q') p p' ev h g = at_slot cmp p.hash p.stage q.content ev p'.stage q'.content h g.2.step
     with_loan (MoveLoan q low high q' low' high') p p' ev h g = at_move p p' q low high q' low' high' ev h g.2.step
+    with_loan (BoardLoan e x) p p' ev h g = subst (λ z. StageServes z.stage) (sym g.1.after) (after_answer x p.stage h)
 
     all_turns : {s s' : S} {p p' : PartyState K V F} → StageServes p.stage → Turns (Turn place cmp changes lends) s p s' p' → StageServes p'.stage
     all_turns h still = h
@@ -463,7 +479,7 @@ first_serves changes (call.Reserve a) = λ r h. h
 first_serves changes call.Clear = λ r h. h
 first_serves changes call.Walk = λ r h. h
 
-module _ {S R K V F : Type 0} (place : R → ℕ → Bool → Bool → R → Type 0) (cmp : K → K → Ordering) (changes : F → K → V → Option V → Type 0) (lends : S → Loan K V R → S → Type 0) {s s' : S} {p p' : PartyState K V F} {r : Outcome K V} (turns : TurnsTo (Turn place cmp changes lends) s p r s' p') where
+module _ {S R K V F : Type 0} (place : R → ℕ → Option ℕ → Bool → R → Type 0) (cmp : K → K → Ordering) (changes : F → K → V → Option V → Type 0) (lends : S → Loan K V R → S → Type 0) {s s' : S} {p p' : PartyState K V F} {r : Outcome K V} (turns : TurnsTo (Turn place cmp changes lends) s p r s' p') where
   -- the reply to which steps take a call is one that it can answer
   pub can_answer : {A : Type 0} (c : Call K V F A) → p.stage ≡ first_stage c → CanAnswerFrom changes (first_stage c) r
   can_answer c e = served changes (CanAnswerFrom changes (first_stage c)) turns.last.stage r (all_turns changes (CanAnswerFrom changes (first_stage c)) place cmp lends (subst (StageServes changes (CanAnswerFrom changes (first_stage c))) (sym e) (first_serves changes c)) turns.turns) turns.done

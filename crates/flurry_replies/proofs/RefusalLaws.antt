@@ -6,7 +6,7 @@ use Rattle.flurry_slots.specs.Slot.{SlotState, IsSlot, IsLive}
 use Rattle.flurry_calls.specs.Outcome.{OutcomeRefused}
 use Rattle.flurry_calls.specs.declared.step.Event.TheVariants.{Refused}
 use Rattle.flurry_steps.specs.Party.{Inserts, AtLocate, AtDone}
-use Rattle.flurry_replies.specs.Replies.{IsReplyOf}
+use Rattle.flurry_replies.specs.Replies.{IsReplyOf, new_party}
 use Rattle.flurry_replies.proofs.BeginLaws.{write_begun, done_by}
 
 module _ {K V F : Type 0} (M : Type 0) (cmp : K → K → Ordering) (changes : F → K → V → Option V → Type 0) (h n : ℕ) (k : K) (v : V) where
@@ -21,7 +21,7 @@ module _ {K V F : Type 0} (M : Type 0) (cmp : K → K → Ordering) (changes : F
     content = record { ascends = sorted_nil _; sized = omega arith; region = tt };
   }
 
-  pub insertion_refused : IsReplyOf M cmp changes (record { hash = h; processors = n; stage = AtLocate (Inserts k v) }) OutcomeRefused
+  pub insertion_refused : IsReplyOf M cmp changes (new_party h n (AtLocate (Inserts k v))) OutcomeRefused
   insertion_refused =
       done_by M cmp changes OutcomeRefused h n _
       (write_begun M cmp changes h n 0 (AtLocate (Inserts k v)) (AtDone OutcomeRefused) refl (omega arith) sole sole refl sole-ok

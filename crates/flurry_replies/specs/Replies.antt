@@ -1,18 +1,18 @@
 -- What contracts say of the reply of a call over the locks.
-use Rattle.std.specs.Prelude.{◌≡◌, ℕ, Bool, Option, Result, Ok, Err}
+use Rattle.std.specs.Prelude.{◌≡◌, ℕ, Option, None, Result, Ok, Err}
 use Rattle.std.specs.declared.cmp.Ordering.{Ordering}
 use Rattle.flurry_steps.specs.Turns.{Turns, TurnsTo}
-use Rattle.flurry_locks.specs.LockLoans.{LockLends}
+use Rattle.flurry_locks.specs.LockLoans.{LockLends, MakerStays}
 use Rattle.flurry_steps.specs.Field.{Turn}
 use Rattle.flurry_steps.specs.PartyTally.{EndingState, ending_stage}
 use Rattle.flurry_calls.specs.Outcome.{Outcome}
-use Rattle.flurry_steps.specs.Party.{PartyState}
+use Rattle.flurry_steps.specs.Party.{PartyState, Stage}
 use Rattle.flurry_steps.specs.PartyView.{first_stage}
 use Rattle.flurry_steps.specs.declared.party.call.Call.{Call}
 
--- a table that is made under the control's lock is known by its place alone
-abbrev pub MakerStays : {M : Type 0} → M → ℕ → Bool → Bool → M → Type 0
-MakerStays m e live ok m' = m' ≡ m
+-- a call of that hash at that stage, for so many processors, which has helped no growth yet
+abbrev pub new_party : {K V F : Type 0} → ℕ → ℕ → Stage K V F → PartyState K V F
+new_party h n s = record { hash = h; processors = n; helped = None; stage = s }
 
 -- The reply r is that of the call in the state p, done in steps. Each step is one of the call's own, at a part that is lent to it under
 -- the part's lock; between two steps other threads may have left any other part of its type there. Nothing is said of who lends it.
@@ -26,5 +26,5 @@ GoesTo M cmp changes p p' = Turns {S = Unit {0}} (Turn (MakerStays {M = M}) cmp 
 
 -- a call of that hash has begun, for however many processors, whatever it left behind; or it has done no step, and comes back
 abbrev pub BeginsOrStays : (M : Type 0) → {K V F A B : Type 0} → (K → K → Ordering) → (F → K → V → Option V → Type 0) → ℕ → Call K V F A → Result (EndingState K V × B) (Call K V F A) → Type 0
-BeginsOrStays M cmp changes h c (Ok (e, b)) = (n : ℕ) → GoesTo M cmp changes (record { hash = h; processors = n; stage = first_stage c }) (record { hash = h; processors = n; stage = ending_stage e })
+BeginsOrStays M cmp changes h c (Ok (e, b)) = (n : ℕ) → GoesTo M cmp changes (new_party h n (first_stage c)) (new_party h n (ending_stage e))
 BeginsOrStays M cmp changes h c (Err c') = c' ≡ c

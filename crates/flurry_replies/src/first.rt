@@ -1,13 +1,13 @@
 //! The steps of a call over the locks: its first ones in one go, if its table is known without the control's lock.
 ghost use Rattle.flurry_locks.specs.declared.tables.Maker.{Maker};
-ghost use Rattle.flurry_replies.specs.Replies.{BeginsOrStays, IsReplyOf};
+ghost use Rattle.flurry_replies.specs.Replies.{BeginsOrStays, IsReplyOf, new_party};
 ghost use Rattle.flurry_steps.specs.Party.{BeginsToWrite, IsTaken, LooksUp};
 ghost use Rattle.flurry_steps.specs.PartyTally.{ending_stage};
 ghost use Rattle.flurry_calls.specs.OutcomeView.{outcome_of};
 ghost use Rattle.flurry_steps.specs.PartyView.{CallIsReady, first_stage};
 
 use flurry_control::PublishedTable;
-use flurry_locks::Lender;
+use flurry_locks::{CallLender, Lender};
 use flurry_model::sizes::bin_index;
 use flurry_slots::ComputeFn;
 use flurry_steps::party::{Call, Ending, Remains, Reply};
@@ -31,7 +31,7 @@ pub fn reply_to<K: Ord + Drop, V: Drop, F: ComputeFn<K, V>, A: Allocator + Copy,
 ) -> Reply<K, V, A>
     requires { CallIsReady F.can_change call }
     ensures { IsReplyOf (Maker K V A) K.cmp F.changes
-        (record { hash = hash; processors = processors; stage = first_stage call.entry }) (outcome_of result) }
+        (new_party hash processors (first_stage call.entry)) (outcome_of result) }
 {
     let Some(start) = lender.newest() else {
         return drive_call(lender, call, hash, processors);
@@ -58,7 +58,7 @@ fn look<K: Ord + Drop, V: Drop, F: ComputeFn<K, V>, A: Allocator + Copy, R: Wait
     requires ready { CallIsReady F.can_change call }
     requires looks { LooksUp (first_stage call) }
     ensures { IsReplyOf (Maker K V A) K.cmp F.changes
-        (record { hash = hash; processors = processors; stage = first_stage call.entry }) (outcome_of result) }
+        (new_party hash processors (first_stage call.entry)) (outcome_of result) }
 {
     let table = start.table();
     let index = bin_index(hash, table);
@@ -83,7 +83,7 @@ fn write<K: Ord + Drop, V: Drop, F: ComputeFn<K, V>, A: Allocator + Copy, R: Wai
     requires ready { CallIsReady F.can_change call }
     requires writes { BeginsToWrite (first_stage call) }
     ensures { IsReplyOf (Maker K V A) K.cmp F.changes
-        (record { hash = hash; processors = processors; stage = first_stage call.entry }) (outcome_of result) }
+        (new_party hash processors (first_stage call.entry)) (outcome_of result) }
 {
     match write_bin(lender, start, call, hash) {
         Ok((ending, remains)) => {
@@ -127,7 +127,7 @@ fn end<K: Ord + Drop, V: Drop, F: ComputeFn<K, V>, A: Allocator + Copy, R: Wait>
     processors: usize,
 ) -> Reply<K, V, A>
     ensures { IsReplyOf (Maker K V A) K.cmp F.changes
-        (record { hash = hash; processors = processors; stage = ending_stage ending }) (outcome_of result) }
+        (new_party hash processors (ending_stage ending)) (outcome_of result) }
 {
     match ending.into_reply() {
         Ok(reply) => return reply,
@@ -145,7 +145,7 @@ fn count<K: Ord + Drop, V: Drop, F: ComputeFn<K, V>, A: Allocator + Copy, R: Wai
     processors: usize,
 ) -> Reply<K, V, A>
     ensures { IsReplyOf (Maker K V A) K.cmp F.changes
-        (record { hash = hash; processors = processors; stage = ending_stage ending }) (outcome_of result) }
+        (new_party hash processors (ending_stage ending)) (outcome_of result) }
 {
     if ending.counts() {
         if let Some((tally, most)) = lender.tally(hash) {
@@ -171,7 +171,7 @@ fn drive_call<K: Ord + Drop, V: Drop, F: ComputeFn<K, V>, A: Allocator + Copy, R
 ) -> Reply<K, V, A>
     requires { CallIsReady F.can_change call }
     ensures { IsReplyOf (Maker K V A) K.cmp F.changes
-        (record { hash = hash; processors = processors; stage = first_stage call.entry }) (outcome_of result) }
+        (new_party hash processors (first_stage call.entry)) (outcome_of result) }
 {
     drive_party(lender, Party::new(call, hash, processors))
 }
@@ -184,7 +184,7 @@ fn drive_ending<K: Ord + Drop, V: Drop, F: ComputeFn<K, V>, A: Allocator + Copy,
     processors: usize,
 ) -> Reply<K, V, A>
     ensures { IsReplyOf (Maker K V A) K.cmp F.changes
-        (record { hash = hash; processors = processors; stage = ending_stage ending }) (outcome_of result) }
+        (new_party hash processors (ending_stage ending)) (outcome_of result) }
 {
     drive_party(lender, ending.into_party::<F>(hash, processors))
 }
@@ -198,9 +198,8 @@ fn drive_party<K: Ord + Drop, V: Drop, F: ComputeFn<K, V>, A: Allocator + Copy, 
     ensures { IsReplyOf (Maker K V A) K.cmp F.changes party.entry (outcome_of result) }
 {
     let mut party = party;
-    let mut lender = lender.again();
-    let rt = lender.runtime();
-    let reply = finish(rt, &mut party, &mut lender);
+    let mut call_lender = CallLender::new(lender);
+    let reply = finish(lender.runtime(), &mut party, &mut call_lender);
     drop(party);
     reply
 }

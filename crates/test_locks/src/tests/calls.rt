@@ -29,7 +29,7 @@ pub(super) fn reply_of<K: Ord + Drop, V: Drop, A: Allocator + Copy, F: ComputeFn
     requires { (f : F) → F.can_change f }
 {
     let mut party = Party::from_owned(call, hash, 4);
-    let mut lender = Lender::new(rt, locks);
+    let mut lender = Lender::new(rt, locks).for_call();
     for _ in rt.forever() {
         if act(&mut party, &mut lender).is_some() {
             continue;
