@@ -53,7 +53,7 @@ impl Plan {
             let (party, steps) = match parse_line(line) {
                 Some(Line::World(_, _)) | None => (0, 0),
                 Some(Line::Step(party, steps)) => (party, steps),
-                Some(Line::Drop(party)) => (party, 1),
+                Some(Line::Drop(party) | Line::Lose(party)) => (party, 1),
                 Some(_) => (0, 1),
             };
             rest = plan.add_labels(rest, party, steps, from, to)?;

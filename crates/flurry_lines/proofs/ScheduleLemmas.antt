@@ -7,11 +7,10 @@ use Rattle.std.proofs.KnownBytes.{Appends-trans}
 use Rattle.std.proofs.lemmas.Grind.{replicate_next}
 use Rattle.std.proofs.lemmas.Result.{IfOk-weaker}
 use Rattle.std.proofs.lemmas.List.{replicate-append-replicate}
-use Rattle.flurry_steps.specs.declared.party.call.OwnedCall.{OwnedCall}
 use Rattle.flurry_theory.specs.declared.Label.{Label}
 use Rattle.flurry_theory.specs.declared.Label.TheVariants as label
 use Rattle.flurry_world.specs.World.{PartyRecord, WorldState}
-use Rattle.flurry_world.specs.Steps.{RecordStep, WorldStep, with_label}
+use Rattle.flurry_world.specs.Steps.{RecordStep, WorldStep, WorldLoses, with_label, with_loss}
 use Rattle.flurry_world.specs.Runs.{DoesStep, Runs}
 use Rattle.flurry_world.specs.declared.world.Step as world
 use Rattle.flurry_world.specs.declared.world.Step.TheVariants as step
@@ -77,11 +76,27 @@ module _ {F S : Type 0} where
         let done : AnswersSteps changes (replicate m (step.Step p)) w v held later (Some status) = (d.0, (replicate n (step.Step p), replicate (m - n - 1) (step.Step p), step.Step p, whole, d.1), d.2, is, Appends-trans held holds later d.0 out_of_memory_text d.3 written) in
         rw same done
 
-    -- a call did not begin
-    pub not_begun : (status : ℕ) (w v : WorldState ℕ ℕ F S) (c : OwnedCall ℕ ℕ F) (held holds : Option (List ℕ)) → v ≡ w → status ≡ 3 → Appends held holds out_of_memory_text
-        → AnswersSteps changes (step.Begin c ∷ []) w v held holds (Some status)
-    not_begun status w v c held holds same is written =
-        ([], ([], [], step.Begin c, refl, same), rw same (tells_none w), is, written)
+    -- one step was not done
+    pub not_done : (status : ℕ) (w v : WorldState ℕ ℕ F S) (s : world.Step ℕ ℕ F) (held holds : Option (List ℕ)) → v ≡ w → status ≡ 3 → Appends held holds out_of_memory_text
+        → AnswersSteps changes (s ∷ []) w v held holds (Some status)
+    not_done status w v s held holds same is written =
+        ([], ([], [], s, refl, same), rw same (tells_none w), is, written)
+
+    -- a loss adds the silent label of its party
+    label_of_loss : (w v : WorldState ℕ ℕ F S) (p : ℕ) → WorldLoses w p v → v.trace ≡ w.trace ++ label.Silent p ∷ []
+    label_of_loss w v p h = by_caller (slice_get w.party_records p) h
+      where
+        by_caller : (x : Option (PartyRecord ℕ ℕ F)) → MatchOption x (v ≡ with_label w (label.Silent p)) (λ x. v ≡ with_loss w p x) → v.trace ≡ w.trace ++ label.Silent p ∷ []
+        by_caller None h = ap (λ u. u.trace) h
+        by_caller (Some x) h = ap (λ u. u.trace) h
+
+    -- a party lost, and the label of that was written
+    pub lost_once : (w v : WorldState ℕ ℕ F S) (p : ℕ) (held holds : Option (List ℕ)) → WorldLoses w p v
+        → ((older : List (Label ℕ ℕ F)) (l : Label ℕ ℕ F) → v.trace ≡ older ++ l ∷ [] → Appends held holds (label_text l ++ 10 ∷ [])) → AnswersSteps changes (step.Lose p ∷ []) w v held holds None
+    lost_once w v p held holds lost written =
+        let l : Label ℕ ℕ F = label.Silent p in
+        let told = label_of_loss w v p lost in
+        (label_text l ++ 10 ∷ [], (v, lost, refl), tells_one w v l told, written w.trace l told)
 
     -- a removal of what was read began, or there was none, or memory was wanting for it: the line is answered so
     pub drop_answers : (p n : ℕ) (w v : WorldState ℕ ℕ F S) (held holds : Option (List ℕ)) (r : Option ℕ) → AnswersDrop changes p w v held holds r → IsAnswered (of_a_world changes) (line.Drop p) (Some w) (Some v) n held holds r

@@ -30,4 +30,5 @@ short_line (line.Reserve n) h = let a = short n h in simp length-append (omega a
 short_line line.Clear h = omega arith
 short_line line.Walk h = omega arith
 short_line (line.Drop p) h = let a = short p h in simp length-append (omega arith)
+short_line (line.Lose p) h = let a = short p h in simp length-append (omega arith)
 short_line (line.Step p n) h = let a = short p h.0 in let b = short n (omega (arith, h.1)) in simp length-append (omega arith)

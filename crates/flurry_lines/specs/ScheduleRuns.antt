@@ -12,7 +12,7 @@ use Rattle.flurry_world.specs.Runs.{Drops, NewGives, Runs, RunsFront}
 use Rattle.flurry_world.specs.declared.world.Step as world
 use Rattle.flurry_world.specs.declared.world.Step.TheVariants as step
 use Rattle.flurry_lines.specs.declared.schedule.Line.{Line}
-use Rattle.flurry_lines.specs.declared.schedule.Line.TheVariants.{World, Insert, Try, Get, Remove, Reserve, Clear, Walk, Drop, Step}
+use Rattle.flurry_lines.specs.declared.schedule.Line.TheVariants.{World, Insert, Try, Get, Remove, Reserve, Clear, Walk, Drop, Step, Lose}
 use Rattle.flurry_lines.specs.Endings.{bad_line_text, out_of_memory_text}
 use Rattle.flurry_lines.specs.Labels.{label_text}
 use Rattle.flurry_lines.specs.Schedules.{text_of, IsLine}
@@ -24,7 +24,7 @@ module _ {F : Type 0} where
   labels_text [] = []
   labels_text (l ∷ labels) = label_text l ++ 10 ∷ labels_text labels
 
-  -- the call that a line begins, or the steps that it asks for
+  -- the call that a line begins, or the steps or the loss that it asks for
   abbrev pub steps_of : Line → List (world.Step ℕ ℕ F)
   steps_of (World p c) = []
   steps_of (Insert k v) = step.Begin (owned.Insert k v) ∷ []
@@ -36,6 +36,7 @@ module _ {F : Type 0} where
   steps_of Walk = step.Begin owned.Walk ∷ []
   steps_of (Drop p) = step.Drop p ∷ []
   steps_of (Step p n) = replicate n (step.Step p)
+  steps_of (Lose p) = step.Lose p ∷ []
 
 -- the line is bad at its place, as if it were no line of a schedule
 abbrev pub IsBad : ℕ → List ℕ → ℕ → Type 0
@@ -56,8 +57,8 @@ module _ {F S : Type 0} where
   Tells w v printed = (labels : List (Label ℕ ℕ F)) × (v.trace ≡ w.trace ++ labels) × (printed ≡ labels_text labels)
 
   module _ (changes : F → ℕ → ℕ → Option ℕ → Type 0) where
-    -- the first line makes a world, in which each key is its own hash; each other line begins a call in it, or does steps, and the labels
-    -- of that are written; a removal of what a walk has read says also where none begins
+    -- the first line makes a world, in which each key is its own hash; each other line begins a call in it, does steps or
+    -- makes a party lose, and the labels of that are written; a removal of what a walk has read says also where none begins
     abbrev pub DoesLine : Line → Option (WorldState ℕ ℕ F S) → List ℕ → Option (WorldState ℕ ℕ F S) → Type 0
     DoesLine (World p c) None printed after = (hasher : S) × (w : WorldState ℕ ℕ F S) × NewGives c hasher p w × (after ≡ Some w) × (printed ≡ [])
     DoesLine (World p c) (Some w) printed after = ⊥

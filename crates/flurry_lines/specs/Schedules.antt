@@ -2,7 +2,7 @@
 use Rattle.std.specs.Prelude.{◌≢◌, ℕ, ◌<◌, ◌≤◌, ◌^◌, List, ◌∷◌, ◌++◌, codes, ⊤}
 use Rattle.std.specs.Fmt.{decimal}
 use Rattle.flurry_lines.specs.declared.schedule.Line.{Line}
-use Rattle.flurry_lines.specs.declared.schedule.Line.TheVariants.{World, Insert, Try, Get, Remove, Reserve, Clear, Walk, Drop, Step}
+use Rattle.flurry_lines.specs.declared.schedule.Line.TheVariants.{World, Insert, Try, Get, Remove, Reserve, Clear, Walk, Drop, Step, Lose}
 
 -- a line as it is written, without its line end
 abbrev pub text_of : Line → List ℕ
@@ -16,6 +16,7 @@ text_of Clear = codes "begin clear"
 text_of Walk = codes "begin walk"
 text_of (Drop p) = codes "begin drop " ++ decimal p
 text_of (Step p n) = codes "step " ++ (decimal p ++ 32 ∷ decimal n)
+text_of (Lose p) = codes "lose " ++ decimal p
 
 -- its numbers have 64 bits, and it asks for 100000 steps at most
 abbrev pub IsLine : Line → Type 0
@@ -29,6 +30,7 @@ IsLine Clear = ⊤
 IsLine Walk = ⊤
 IsLine (Drop p) = p < 2 ^ 64
 IsLine (Step p n) = (p < 2 ^ 64) × (n ≤ 100000)
+IsLine (Lose p) = p < 2 ^ 64
 
 -- no line of a schedule is written so
 abbrev pub IsNoLine : List ℕ → Type 0

@@ -38,6 +38,8 @@ pub enum Line {
     Drop(u64),
     /// The line `step P N`.
     Step(u64, u64),
+    /// The line `lose P`.
+    Lose(u64),
 }
 
 /// Parses a line of a schedule, and returns `None` if it is not one.
@@ -51,6 +53,11 @@ pub fn parse_line(line: &[u8]) -> Option<Line>
     } else if let Some(rest) = strip(line, b"step ") {
         match party_and_steps(rest) {
             Some((party, steps)) => Some(Line::Step(party, steps)),
+            None => None,
+        }
+    } else if let Some(rest) = strip(line, b"lose ") {
+        match number(rest) {
+            Some(party) => Some(Line::Lose(party)),
             None => None,
         }
     } else if let Some(rest) = strip(line, b"world ") {

@@ -39,6 +39,7 @@ type Numbers<'k, F, A> = World<'k, u64, u64, F, LowHashBuilder, A>;
 /// | `begin clear`, `begin walk` | begins a call that visits all bins | `begin P` |
 /// | `begin drop P` | begins the removal of the pair that party P, a walk, read last; nothing if it has read none | `begin Q`, or `no` |
 /// | `step P N` | does N steps of party P, at most 100000 | the label of each step |
+/// | `lose P` | makes party P lose: it finds no seat at the board of a growth, or its attempt to claim a range there fails; any other party is unchanged | `silent P` |
 ///
 /// A label is on a line of its own.
 ///
@@ -200,6 +201,7 @@ fn answer_in<F: ComputeFn<u64, u64> + Copy, W: Sink, A: Allocator + Copy>(
         Line::Walk => begin(world, OwnedCall::Walk, writer),
         Line::Drop(party) => begin_drop(world, party as usize, writer),
         Line::Step(party, steps) => do_steps(world, party as usize, steps, writer),
+        Line::Lose(party) => lose(world, party as usize, writer),
     }
 }
 
@@ -270,6 +272,27 @@ fn do_steps<F: ComputeFn<u64, u64> + Copy, W: Sink, A: Allocator + Copy>(
         }
     }
     Ok(None)
+}
+
+// Makes `party` lose, and writes the label of that. Returns `Some(status)` if the run ends.
+fn lose<F: ComputeFn<u64, u64> + Copy, W: Sink, A: Allocator + Copy>(
+    world: &mut Numbers<'_, F, A>,
+    party: usize,
+    writer: &mut W,
+) -> io::Result<Option<u8>>
+    ensures failed { OnErr result (IsTrue (W.has_failed writer.new)) }
+    ensures status { IfOk result (λ ended. IfSome ended (λ status. status ≡ 3)) }
+    ensures answer { IfOk result
+        (AnswersSteps F.changes (step.Lose party ∷ []) world.old world.new (W.contents writer.old)
+        (W.contents writer.new)) }
+{
+    match world.lose(party) {
+        Ok(()) => {
+            write_last(world, writer)?;
+            Ok(None)
+        }
+        Err(_) => Ok(Some(out_of_memory(writer)?)),
+    }
 }
 
 // Writes the last label of the world's trace.

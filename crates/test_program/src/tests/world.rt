@@ -32,14 +32,14 @@ fn row_14(rt: HostRuntime) {
     let lines = b"world 2 32\n\
         begin insert 50 50\nstep 0 4\n\
         begin reserve 30\nstep 1 3\n\
-        begin insert 2 2\nstep 2 60\n\
+        begin insert 2 2\nstep 2 62\n\
         begin get 50\nstep 3 3\n\
         begin get 2\nstep 4 4\n\
-        step 1 20\n"
+        step 1 21\n"
         .as_slice();
     let want = b"begin 0\nsilent 0\ndecide 0 none\nsilent 0\nreply 0 none\n\
         begin 1\nsilent 1\nplaced 7\nsilent 1\n\
-        begin 2\nsilent 2\ndecide 2 none\nsilent 2\nsilent 2\n\
+        begin 2\nsilent 2\ndecide 2 none\nsilent 2\nsilent 2\nsilent 2\n\
         moved 6 47\nmoved 6 46\nmoved 6 45\nmoved 6 44\nmoved 6 43\nmoved 6 42\nmoved 6 41\nmoved 6 40\n\
         moved 6 39\nmoved 6 38\nmoved 6 37\nmoved 6 36\nmoved 6 35\nmoved 6 34\nmoved 6 33\nmoved 6 32\n\
         silent 2\nsilent 2\n\
@@ -48,12 +48,26 @@ fn row_14(rt: HostRuntime) {
         silent 2\nsilent 2\n\
         moved 6 15\nmoved 6 14\nmoved 6 13\nmoved 6 12\nmoved 6 11\nmoved 6 10\nmoved 6 9\nmoved 6 8\n\
         moved 6 7\nmoved 6 6\nmoved 6 5\nmoved 6 4\nmoved 6 3\nmoved 6 2\nmoved 6 1\nmoved 6 0\n\
-        silent 2\nsilent 2\nsilent 2\nreply 2 none\n\
+        silent 2\nsilent 2\nsilent 2\nsilent 2\nreply 2 none\n\
         begin 3\nsilent 3\ndecide 3 some 50\nreply 3 some 50\n\
         begin 4\nsilent 4\nsilent 4\ndecide 4 some 2\nreply 4 some 2\n\
         moved 6 63\nmoved 6 62\nmoved 6 61\nmoved 6 60\nmoved 6 59\nmoved 6 58\nmoved 6 57\nmoved 6 56\n\
         moved 6 55\nmoved 6 54\nmoved 6 53\nmoved 6 52\nmoved 6 51\nmoved 6 50\nmoved 6 49\nmoved 6 48\n\
-        published 7\nsilent 1\nsilent 1\nend 1\n"
+        silent 1\npublished 7\nsilent 1\nsilent 1\nend 1\n"
+        .as_slice();
+    answers(&rt, lines, 0, want)
+}
+
+#[test]
+fn losses_at_a_board(rt: HostRuntime) {
+    let lines = b"world 2 32\n\
+        begin reserve 33\nstep 0 2\nlose 0\nstep 0 2\n\
+        begin insert 2 2\nstep 1 3\nlose 1\nstep 1 2\n\
+        lose 1\nlose 9\n"
+        .as_slice();
+    let want = b"begin 0\nsilent 0\nplaced 7\nsilent 0\nsilent 0\nmoved 6 63\n\
+        begin 1\nsilent 1\ndecide 1 none\nsilent 1\nsilent 1\nsilent 1\nreply 1 none\n\
+        silent 1\nsilent 9\n"
         .as_slice();
     answers(&rt, lines, 0, want)
 }
@@ -163,6 +177,7 @@ fn bad_first_lines(rt: HostRuntime) {
         b"world 01 0\n".as_slice(),
         b"begin get 3\n".as_slice(),
         b"step 0 1\n".as_slice(),
+        b"lose 0\n".as_slice(),
         b"\n".as_slice(),
     ] {
         answers(&rt, line, 2, b"bad line 1\n".as_slice());
@@ -190,6 +205,9 @@ fn bad_lines(rt: HostRuntime) {
         b"step 0".as_slice(),
         b"step 0 100001".as_slice(),
         b"step 0 1 1".as_slice(),
+        b"lose".as_slice(),
+        b"lose 0 1".as_slice(),
+        b"lose 01".as_slice(),
         b"begin clear 1".as_slice(),
         b"begin walks".as_slice(),
         b"begin drop".as_slice(),
@@ -227,7 +245,8 @@ fn push_moves(rt: &(impl Abort + AllocGlobal), text: &mut String, table: u32, bi
     }
 }
 
-// The labels of a doubling by a party that has counted: the table is placed, each bin moves, and it is published.
+// The labels of a doubling by one party: the table is placed, the range of all bins claimed, each bin moves, the range is reported, the
+// table is published, and the seat given back.
 fn push_doubling(
     rt: &(impl Abort + AllocGlobal),
     text: &mut String,
@@ -240,7 +259,9 @@ fn push_doubling(
     text.push_str(begun.as_str())
         .expect(rt, "memory for the text");
     push_moves(rt, text, table, bins);
-    let done = format!(in rt.alloc(); "published {next}\nsilent {party}\n").expect(rt, "memory");
+    let done = format!(in rt.alloc(); "silent {party}\npublished {next}\nsilent {party}\n").expect(
+        rt, "memory",
+    );
     text.push_str(done.as_str())
         .expect(rt, "memory for the text");
 }
@@ -250,7 +271,7 @@ fn push_doubling(
 fn row_12(rt: HostRuntime) {
     let lines =
         b"world 1 8\nbegin insert 1 1\nstep 0 4\nbegin insert 17 17\nstep 1 4\nbegin walk\nstep 2 3\n\
-        begin reserve 16\nstep 3 59\nstep 2 107\n"
+        begin reserve 16\nstep 3 61\nstep 2 107\n"
             .as_slice();
     let mut want = String::new(rt.alloc());
     let first = "begin 0\nsilent 0\ndecide 0 none\nsilent 0\nreply 0 none\n\
@@ -271,7 +292,7 @@ fn row_12(rt: HostRuntime) {
 #[test]
 fn a_walk_beside_five_doublings(rt: HostRuntime) {
     let lines =
-        b"world 1 2\nbegin insert 2 2\nstep 0 4\nbegin walk\nstep 1 1\nbegin reserve 40\nstep 2 147\nstep 1 254\n".as_slice();
+        b"world 1 2\nbegin insert 2 2\nstep 0 4\nbegin walk\nstep 1 1\nbegin reserve 40\nstep 2 152\nstep 1 254\n".as_slice();
     let mut want = String::new(rt.alloc());
     let first =
         "begin 0\nsilent 0\ndecide 0 none\nsilent 0\nreply 0 none\nbegin 1\nsilent 1\nbegin 2\nsilent 2\n";
