@@ -8,10 +8,13 @@
 //! [`SeqMap`] and [`SeqSet`] are the map and the set of one owner. More about them is in [`seq_map`], [`calls`] and [`seq_iter`], and in
 //! [`seq_set`] and [`set_calls`]. Bins, hashers and sizes of tables are in [`bin`], [`hash`] and [`table`].
 //!
+//! [`claims`] has the boards at which threads share the work of a growth.
+//!
 //! [`recorded`] has a map under one lock that records the calls of its threads. [`par`] has calls that several threads do together, and
 //! [`pairs`] has lists of a map's pairs. [`memo`] has tables of values that are computed once.
 #![tactic(auto)]
 
+pub mod claims;
 pub mod memo;
 pub mod pairs;
 pub mod par;

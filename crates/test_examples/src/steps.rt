@@ -1,6 +1,7 @@
 //! Callers of the control of a shared map, and of calls in steps.
 ghost use Rattle.std.specs.Prelude.{◌≡◌, ℕ, true, Some, IfOk, IfSome, pos};
 
+use flurry::claims::{Attempt, PlainBoard};
 use flurry::slots::ComputeFn;
 use flurry::steps::control::{Advice, BeginOutcome, Claim, Control, PublishedTable, Room, Tally};
 use flurry::steps::party::{Call, Ending, Event, OwnedCall, Rest, Want};
@@ -12,9 +13,9 @@ use std::alloc::AllocError;
 pub struct Counted(pub usize);
 
 impl Room for Counted {
-    ghost place_gives = { λ before table live done after. done ≡ true };
+    ghost place_gives = { λ before table for_growth done after. done ≡ true };
 
-    fn place(&mut self, _table: u8, _live: bool) -> Result<(), AllocError> {
+    fn place(&mut self, _table: u8, _for_growth: Option<usize>) -> Result<(), AllocError> {
         self.0 = self.0.saturating_add(1);
         Ok(())
     }
@@ -29,10 +30,14 @@ pub fn open_first() -> Result<Option<u8>, AllocError>
     Ok(control.locate())
 }
 
-/// Returns the first bin that a helper of a growth moves.
-pub fn first_of_claim(control: &mut Control) -> Option<(u8, usize)> {
-    let claim: Claim = control.claim(1)?;
-    claim.next()
+/// Returns the bin that the helper of a growth of 16 bins moves first.
+pub fn first_of_claim() -> Option<(u8, usize)>
+    ensures { result ≡ Some (4, 15) }
+{
+    let Attempt::Got(range) = PlainBoard::new(4, 1).try_claim() else {
+        return None;
+    };
+    Claim::of(range).next()
 }
 
 /// Returns what the first step of a call needs.
@@ -81,7 +86,7 @@ pub fn count_one(control: &mut Control) -> bool
 {
     match control.count(1) {
         Advice::Enough => false,
-        Advice::Join | Advice::Begin => true,
+        Advice::Join(_) | Advice::Begin => true,
     }
 }
 
@@ -99,7 +104,7 @@ pub fn count_at_tally(control: &mut Control) -> usize
 pub fn begin_growth(control: &mut Control, table: u8) -> bool
     ensures { control.new.published ≡ control.old.published }
 {
-    match control.begin(table, &mut Counted(0)) {
+    match control.begin(table, 1, &mut Counted(0)) {
         BeginOutcome::Begun => true,
         BeginOutcome::Refused | BeginOutcome::Busy => false,
     }
@@ -123,7 +128,7 @@ pub fn slot_wanted(want: Want) -> Option<(u8, usize)>
         Want::Look(table, index) | Want::Bin(table, index) | Want::Move(table, index) => {
             Some((table, index))
         }
-        Want::Control | Want::Done => None,
+        Want::Control | Want::Seat(_) | Want::Board(_) | Want::Give(_) | Want::Done => None,
     }
 }
 

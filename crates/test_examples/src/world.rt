@@ -48,7 +48,7 @@ pub fn run_steps<F: ComputeFn<u64, u64> + Copy, S: KeyHasher<u64> + Drop>(
 /// Returns `true` if a table that is made has a slot with the index `index`.
 pub fn has_slot(alloc: Global, index: usize) -> Result<bool, AllocError> {
     let mut tables: Tables<u64, u64, Global> = Tables::new(alloc)?;
-    tables.place(4, true)?;
+    tables.place(4, None)?;
     Ok(tables.has(4, index))
 }
 

@@ -5,8 +5,9 @@ mod order;
 mod readers;
 mod threads;
 
-use calls::put_all;
+use calls::{first_step, put_all};
 use flurry_locks::{Lender, Locks};
+use flurry_steps::party::{Event, OwnedCall};
 use std::alloc::Global;
 use std::test::Fail;
 use threads::{count_in_thread, put_in_threads};
@@ -15,6 +16,17 @@ use threads::{count_in_thread, put_in_threads};
 fn newest_of<R>(rt: &R, locks: &Locks<u64, u64, Global>) -> Option<u8> {
     let lender = Lender::new(rt, locks);
     lender.newest().map(|start| start.table())
+}
+
+#[test]
+fn first_steps(rt: HostRuntime) -> Result<(), Fail> {
+    let locks: Locks<u64, u64, Global> = Locks::new(rt.alloc());
+
+    let looked = first_step(&rt, &locks, OwnedCall::Get(7));
+    assert_eq!(rt; looked, Some(Event::Decide));
+    let inserted = first_step(&rt, &locks, OwnedCall::Insert(7, 0));
+    assert_eq!(rt; inserted, Some(Event::Opened(4)));
+    Ok(())
 }
 
 // The length includes the pairs that are still counted at tallies, and the table grows by them.

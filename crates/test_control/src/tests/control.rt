@@ -4,33 +4,35 @@ ghost use Rattle.std.specs.Prelude.{◌<◌, ◌^◌, ◌≡◌, ◌++◌, ◌�
 mod claims;
 mod count;
 mod growth;
-mod reports;
+mod publication;
 
 use super::same;
 use flurry_bins::bin::Bin;
+use flurry_claims::{Attempt, PlainBoard};
 use flurry_control::{BeginOutcome, Claim, Control, Room};
 use flurry_slots::{MoveAnswer, Receipt, Slot};
 use std::alloc::{AllocError, Global};
 use std::process::Abort;
 
-// The tables that were made, by number and whether their bins are live. The request with the number `refused` fails, where the first
-// request has the number 1.
+// The tables that were made, by number, and for how many processors if a growth made it. The request with the number `refused` fails,
+// where the first request has the number 1.
 #[derive(Drop)]
 struct Tables {
-    placed: Vec<(u8, bool)>,
+    placed: Vec<(u8, Option<usize>)>,
     requests: u8,
     refused: u8,
 }
 
 impl Room for Tables {
-    ghost place_gives = { λ s table live made s'. s'.placed.items ≡ (if made then s.placed.items ++ (table, live) ∷ [] else s.placed.items) };
+    ghost place_gives = { λ s table for_growth made s'. s'.placed.items
+        ≡ (if made then s.placed.items ++ (table, for_growth) ∷ [] else s.placed.items) };
 
-    fn place(&mut self, table: u8, live: bool) -> Result<(), AllocError> {
+    fn place(&mut self, table: u8, for_growth: Option<usize>) -> Result<(), AllocError> {
         self.requests = self.requests.saturating_add(1);
         if self.requests == self.refused {
             return Err(AllocError);
         }
-        self.placed.push((table, live))?;
+        self.placed.push((table, for_growth))?;
         Ok(())
     }
 }
@@ -55,17 +57,20 @@ fn opened(rt: &(impl Abort + AllocGlobal), table: u8, refused: u8) -> (Control, 
     (control, room)
 }
 
-// Returns a control that grows from `table`, and the room that has its two tables.
+// Returns a control that grows from `table`, for two processors, and the room that has its two tables.
 fn growing(rt: &(impl Abort + AllocGlobal), table: u8) -> (Control, Tables) {
     let (mut control, mut room) = opened(rt, table, 0);
-    same(rt, control.begin(table, &mut room), BeginOutcome::Begun);
+    same(rt, control.begin(table, 2, &mut room), BeginOutcome::Begun);
     (control, room)
 }
 
-// Returns the next claim of one of `processors` threads that share a growth.
-fn claimed(rt: &impl Abort, control: &mut Control, processors: usize) -> Claim {
-    let claim = control.claim(processors);
-    claim.expect(rt, "there are unclaimed bins")
+// Returns the claim of the next range of a board.
+fn claimed(rt: &impl Abort, board: &mut PlainBoard) -> Claim {
+    let Attempt::Got(range) = board.try_claim() else {
+        panic!(rt; "a range is left")
+    };
+    assert!(rt; range.table() < 30, "there is a larger table");
+    Claim::of(range)
 }
 
 // Returns the receipt of the move of bin `index` of `table`.
@@ -98,11 +103,4 @@ fn move_all(rt: &impl Abort, claim: &mut Claim) -> (usize, usize) {
         low = index;
     }
     (low, highest + 1)
-}
-
-// Returns the next claim of one of `processors` threads that share a growth, after all its bins were moved.
-fn moved(rt: &impl Abort, control: &mut Control, processors: usize) -> Claim {
-    let mut claim = claimed(rt, control, processors);
-    let _ends = move_all(rt, &mut claim);
-    claim
 }

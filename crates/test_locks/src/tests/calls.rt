@@ -1,10 +1,10 @@
 //! Calls over the locks of a shared map, from their first step to their last.
 
-use flurry_locks::{Lender, Locks};
+use flurry_locks::{CallLender, Lender, Locks};
 use flurry_slots::{ComputeFn, NoFn};
-use flurry_steps::party::{OwnedCall, Reply};
+use flurry_steps::party::{Event, OwnedCall, Reply};
 use flurry_steps::{Party, act};
-use std::alloc::Allocator;
+use std::alloc::{Allocator, Global};
 use std::sync::Wait;
 
 // A key or a value with a number.
@@ -29,7 +29,7 @@ pub(super) fn reply_of<K: Ord + Drop, V: Drop, A: Allocator + Copy, F: ComputeFn
     requires { (f : F) → F.can_change f }
 {
     let mut party = Party::from_owned(call, hash, 4);
-    let mut lender = Lender::new(rt, locks).for_call();
+    let mut lender = CallLender::new(&Lender::new(rt, locks));
     for _ in rt.forever() {
         if act(&mut party, &mut lender).is_some() {
             continue;
@@ -40,6 +40,17 @@ pub(super) fn reply_of<K: Ord + Drop, V: Drop, A: Allocator + Copy, F: ComputeFn
         }
     }
     unreachable!()
+}
+
+// Does the first step of a call, and returns what it was.
+pub(super) fn first_step<R: Wait>(
+    rt: &R,
+    locks: &Locks<u64, u64, Global>,
+    call: OwnedCall<u64, u64, NoFn>,
+) -> Option<Event> {
+    let mut party = Party::from_owned(call, 7, 4);
+    let mut lender = CallLender::new(&Lender::new(rt, locks));
+    act(&mut party, &mut lender)
 }
 
 // Inserts the pairs of the numbers from `from` to `to`, each with its number as its hash.

@@ -107,6 +107,8 @@ fn refuse_each<R: Abort + Wait>(
     Ok(())
 }
 
+// A table takes two requests, and the board and the seats of the growth that fills it five more. Room for 100 pairs is 256 bins and one
+// growth, or five growths from 16 bins.
 #[test]
 fn each_request_of_a_call(rt: HostRuntime) -> Result<(), Fail> {
     let memory = Metered::leaked(rt.alloc())?;
@@ -118,15 +120,15 @@ fn each_request_of_a_call(rt: HostRuntime) -> Result<(), Fail> {
     refuse_each(&rt, memory, 0, Call::Compute, 0)?;
     refuse_each(&rt, memory, 1, Call::Compute, 1)?;
     refuse_each(&rt, memory, 1, Call::Get, 0)?;
-    refuse_each(&rt, memory, 0, Call::Reserve, 4)?;
-    refuse_each(&rt, memory, 1, Call::Reserve, 10)
+    refuse_each(&rt, memory, 0, Call::Reserve, 9)?;
+    refuse_each(&rt, memory, 1, Call::Reserve, 35)
 }
 
-// If memory for the larger table cannot be allocated, the insertion is done in the old table.
+// If memory for the larger table, its board or a seat cannot be allocated, the insertion is done in the old table.
 #[test]
 fn a_larger_table_of_an_insertion(rt: HostRuntime) -> Result<(), Fail> {
     let memory = Metered::leaked(rt.alloc())?;
-    for k in 3..5u64 {
+    for k in 3..10u64 {
         let seen = call_without(&rt, memory, 11, Call::Insert, k)?;
         same(&rt, (k, seen), (k, (true, true, true, 12)));
     }

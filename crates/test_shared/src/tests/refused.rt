@@ -168,8 +168,9 @@ fn asked_by<R: Wait>(
     Ok(asked_in(rt, memory, &map, list, call))
 }
 
-// Room is made first: a hundred pairs ask for the tables of that room, and for three blocks each. A map that is not empty makes room for
-// half of a list: for a map of one pair in 16 bins and a list of eight, that is no further table.
+// Room is made first: a hundred pairs ask for the tables of that room, one of them by a growth with its board and seats, and for three
+// blocks each. A map that is not empty makes room for half of a list: for a map of one pair in 16 bins and a list of eight, that is no
+// further table.
 #[test]
 fn room_is_made_first(rt: HostRuntime) -> Result<(), Fail> {
     let memory = Metered::leaked(rt.alloc())?;
@@ -178,7 +179,7 @@ fn room_is_made_first(rt: HostRuntime) -> Result<(), Fail> {
     let asked = asked_by(&rt, memory, 100, 0, Call::TryClone)?;
     same(&rt, asked, (true, 103));
     let asked = asked_by(&rt, memory, 0, 100, Call::Extend)?;
-    same(&rt, asked, (true, 304));
+    same(&rt, asked, (true, 309));
     let asked = asked_by(&rt, memory, 1, 8, Call::Extend)?;
     same(&rt, asked, (true, 24));
     Ok(())

@@ -121,7 +121,7 @@ fn calls_without_a_request(rt: HostRuntime) -> Result<(), Fail> {
 fn calls_with_requests(rt: HostRuntime) -> Result<(), Fail> {
     let memory = Metered::leaked(rt.alloc())?;
     refuse_each(&rt, memory, Call::Insert, 3, 3)?;
-    refuse_each(&rt, memory, Call::Reserve, 10, 2)?;
+    refuse_each(&rt, memory, Call::Reserve, 35, 2)?;
     refuse_each(&rt, memory, Call::FromList, 8, 2)?;
     refuse_each(&rt, memory, Call::TryClone, 5, 2)
 }
@@ -227,6 +227,6 @@ fn room_is_made_first(rt: HostRuntime) -> Result<(), Fail> {
     let asked = requests_of_insertions(&rt, memory, &set_with_room(memory, 100)?)?;
     same(&rt, asked, 300);
     same(&rt, asked_by(&rt, memory, Call::FromList)?, (true, 302));
-    same(&rt, asked_by(&rt, memory, Call::Extend)?, (true, 304));
+    same(&rt, asked_by(&rt, memory, Call::Extend)?, (true, 309));
     Ok(())
 }

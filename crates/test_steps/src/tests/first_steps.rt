@@ -23,7 +23,7 @@ struct Nowhere;
 impl Room for Nowhere {
     ghost place_gives = { λ _ _ _ _ _. ⊤ };
 
-    fn place(&mut self, _table: u8, _live: bool) -> Result<(), AllocError> {
+    fn place(&mut self, _table: u8, _for_growth: Option<usize>) -> Result<(), AllocError> {
         Ok(())
     }
 }

@@ -3,8 +3,9 @@
 //! A function that owns a call in progress passes it to another function by reference, and then drops it explicitly. If it were dropped at
 //! the end of a body, the proof would go through everything that it can hold.
 ghost use Rattle.std.specs.Prelude.{◌≡◌, ⊤};
-ghost use Rattle.flurry_calls.specs.Part.{LookPart, BinPart, MovePart};
+ghost use Rattle.flurry_calls.specs.Part.{LookPart, BinPart, MovePart, SeatPart, BoardPart, GivePart};
 ghost use Rattle.flurry_steps.specs.Party.{wanted_part};
+ghost use Rattle.flurry_steps.specs.PartyBoard.{IsAttempt};
 ghost use Rattle.flurry_steps.specs.PartyView.{CallIsReady};
 
 mod drops;
@@ -18,6 +19,7 @@ mod tallies;
 use super::{same, same_at};
 use flurry_bins::bin::Bin;
 use flurry_calls::Seen;
+use flurry_claims::{Attempt, PlainBoard};
 use flurry_control::{Control, Room};
 use flurry_model::reply::KeptReply;
 use flurry_slots::{ComputeFn, Slot};
@@ -26,10 +28,12 @@ use std::alloc::{AllocError, Global};
 use std::process::Abort;
 use std::sync::Arc;
 
-// The slots of all tables, in any order. The request for a table with the number `refused` fails, where the first request has the number 1.
+// The slots of all tables, in any order, and the board of the growth that began last, with its table. The request for a table with the
+// number `refused` fails, where the first request has the number 1.
 #[derive(Drop)]
 struct Tables {
     slots: Vec<Slot<u64, u64>>,
+    board: Option<(u8, PlainBoard)>,
     requests: u8,
     refused: u8,
 }
@@ -49,22 +53,48 @@ impl Tables {
     fn put_back(&mut self, rt: &impl Abort, slot: Slot<u64, u64>) {
         self.slots.push(slot).expect(rt, "memory for the slot");
     }
+
+    // Returns the board of the growth from `table`, if that growth began last.
+    fn board_of(&mut self, table: u8) -> Option<&mut PlainBoard> {
+        match &mut self.board {
+            Some((there, board)) if *there == table => Some(board),
+            _ => None,
+        }
+    }
+
+    // Tries to claim a range of `table`. Where another growth began since, nothing is left.
+    fn try_claim(&mut self, table: u8) -> Attempt
+        ensures { IsAttempt table result }
+    {
+        match &mut self.board {
+            Some((there, board)) if *there == table => match board.try_claim() {
+                Attempt::Got(range) if range.table() != table => Attempt::Nothing,
+                attempt => attempt,
+            },
+            _ => Attempt::Nothing,
+        }
+    }
 }
 
 impl Room for Tables {
     ghost place_gives = { λ _ _ _ _ _. ⊤ };
 
-    fn place(&mut self, table: u8, live: bool) -> Result<(), AllocError> {
+    fn place(&mut self, table: u8, for_growth: Option<usize>) -> Result<(), AllocError> {
         self.requests = self.requests.saturating_add(1);
         if self.requests == self.refused {
             return Err(AllocError);
         }
         for index in 0..1usize << table {
-            if live {
+            if for_growth.is_none() {
                 self.slots.push(Slot::live(table, index, Bin::new()))?;
             } else {
                 self.slots.push(Slot::unborn(table, index))?;
             }
+        }
+        if let (Some(processors), Some(from)) = (for_growth, table.checked_sub(1)) {
+            let mut board = PlainBoard::new(from, processors);
+            let _ = board.take_seat();
+            self.board = Some((from, board));
         }
         Ok(())
     }
@@ -83,6 +113,7 @@ fn empty_map(alloc: Global, processors: usize, refused: u8) -> Map {
         control: Control::new(),
         tables: Tables {
             slots: Vec::new(alloc),
+            board: None,
             requests: 0,
             refused,
         },
@@ -206,6 +237,54 @@ fn move_bin<'k, F: ComputeFn<u64, u64>>(
     event
 }
 
+// Does the step of a call that needs a seat at the board of the growth from `table`.
+fn take_seat<'k, F: ComputeFn<u64, u64>>(
+    party: &mut Party<'k, u64, u64, F>,
+    map: &mut Map,
+    table: u8,
+) -> Event
+    requires { wanted_part party.old ≡ SeatPart table }
+{
+    let got = match map.tables.board_of(table) {
+        Some(board) => board.take_seat(),
+        None => false,
+    };
+    party.on_seat(got)
+}
+
+// Does the step of a call that needs the board of the growth from `table`.
+fn claim_or_report<'k, F: ComputeFn<u64, u64>>(
+    party: &mut Party<'k, u64, u64, F>,
+    map: &mut Map,
+    table: u8,
+) -> Event
+    requires { wanted_part party.old ≡ BoardPart table }
+{
+    if let Some(range) = party.take_range() {
+        let last = match map.tables.board_of(table) {
+            Some(board) => board.report(range),
+            None => false,
+        };
+        return party.on_report(last);
+    }
+    let attempt = map.tables.try_claim(table);
+    party.on_attempt(attempt)
+}
+
+// Does the step of a call that gives back its seat at the board of the growth from `table`.
+fn give_seat<'k, F: ComputeFn<u64, u64>>(
+    party: &mut Party<'k, u64, u64, F>,
+    map: &mut Map,
+    table: u8,
+) -> Event
+    requires { wanted_part party.old ≡ GivePart table }
+{
+    if let Some(board) = map.tables.board_of(table) {
+        board.give_seat();
+    }
+    party.on_give()
+}
+
 // Does the next step of a call, at the part that it needs.
 fn step<'k, F: ComputeFn<u64, u64>>(
     rt: &(impl Abort + AllocGlobal),
@@ -217,6 +296,9 @@ fn step<'k, F: ComputeFn<u64, u64>>(
         Want::Look(table, index) => look(rt, party, map, table, index),
         Want::Bin(table, index) => change(rt, party, map, table, index),
         Want::Move(table, index) => move_bin(rt, party, map, table, index),
+        Want::Seat(table) => take_seat(party, map, table),
+        Want::Board(table) => claim_or_report(party, map, table),
+        Want::Give(table) => give_seat(party, map, table),
         Want::Done => panic!(rt; "the call is not done"),
     }
 }

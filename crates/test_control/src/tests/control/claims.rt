@@ -1,37 +1,50 @@
-//! The bins of a claim, and how a claim goes on.
+//! The bins of a claim, how a claim goes on, and the range that it gives back.
 
 use super::super::{same, same_at};
-use super::{claimed, growing, move_all, receipt_of};
-use flurry_control::Advice;
+use super::{claimed, move_all, receipt_of};
+use flurry_claims::{PlainBoard, Range};
+use flurry_control::Claim;
+use std::process::Abort;
+
+// Returns the ends of the range of a claim, if all its bins have moved, or else the bin to move next.
+fn ends_of(claim: Claim) -> Result<(usize, usize), Option<(u8, usize)>> {
+    match claim.into_range() {
+        Ok(range) => Ok((range.low(), range.high())),
+        Err(claim) => Err(claim.next()),
+    }
+}
+
+// Returns the range of a claim all of whose bins have moved.
+fn range_of(rt: &impl Abort, claim: Claim) -> Range {
+    match claim.into_range() {
+        Ok(range) => range,
+        Err(_) => panic!(rt; "all bins have moved"),
+    }
+}
 
 #[test]
 fn claims_go_from_the_top_down(rt: HostRuntime) {
-    let (mut control, _room) = growing(&rt, 6);
+    let mut board = PlainBoard::new(6, 2);
     for (low, high) in [(48, 64), (32, 48), (16, 32), (0, 16)] {
-        same_at(&rt, low, control.count(0), Advice::Join);
-        let mut claim = claimed(&rt, &mut control, 2);
+        let mut claim = claimed(&rt, &mut board);
+        same_at(&rt, low, claim.table(), 6);
         same_at(&rt, low, claim.next(), Some((6, high - 1)));
         same(&rt, move_all(&rt, &mut claim), (low, high));
+        same_at(&rt, low, board.report(range_of(&rt, claim)), low == 0);
     }
-    same(&rt, control.claim(2).is_none(), true);
-    same(&rt, control.count(0), Advice::Enough);
-    same(&rt, control.locate(), Some(6));
 }
 
 // A table with fewer bins than a range is claimed as a whole.
 #[test]
 fn small_table_is_claimed_whole(rt: HostRuntime) {
-    let (mut small, _room) = growing(&rt, 3);
-    let mut claim = claimed(&rt, &mut small, 2);
+    let mut claim = claimed(&rt, &mut PlainBoard::new(3, 2));
     same(&rt, move_all(&rt, &mut claim), (0, 8));
-    same(&rt, small.claim(2).is_none(), true);
 }
 
-// A claim of 16 bins goes on from the last bin down, by the receipt of each bin in turn. It can be reported once all bins have moved.
+// A claim of 16 bins goes on from the last bin down, by the receipt of each bin in turn. It gives its range back once all bins have moved.
 #[test]
 fn a_claim_goes_on_by_receipts(rt: HostRuntime) {
-    let (mut control, _) = growing(&rt, 4);
-    let mut claim = claimed(&rt, &mut control, 1);
+    let mut claim = claimed(&rt, &mut PlainBoard::new(4, 1));
     for moved in 0..16usize {
         let index = 15 - moved;
         same(&rt, claim.next(), Some((4, index)));
@@ -43,6 +56,14 @@ fn a_claim_goes_on_by_receipts(rt: HostRuntime) {
     }
     same(&rt, claim.next(), None);
     same(&rt, !claim.advance(receipt_of(&rt, 4, 0)), true);
-    same(&rt, control.report(claim), Some(5));
-    same(&rt, control.locate(), Some(5));
+    same(&rt, ends_of(claim), Ok((0, 16)));
+}
+
+#[test]
+fn a_range_stays_until_all_bins_have_moved(rt: HostRuntime) {
+    let unmoved = claimed(&rt, &mut PlainBoard::new(4, 1));
+    same(&rt, ends_of(unmoved), Err(Some((4, 15))));
+    let mut begun = claimed(&rt, &mut PlainBoard::new(4, 1));
+    same(&rt, begun.advance(receipt_of(&rt, 4, 15)), true);
+    same(&rt, ends_of(begun), Err(Some((4, 14))));
 }

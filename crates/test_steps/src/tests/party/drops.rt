@@ -98,7 +98,7 @@ fn a_pair_that_came_again_stays(rt: HostRuntime) {
 // Between the read and the removal, the table is doubled twice, and the bin moves each time.
 #[test]
 fn a_pair_that_moved_is_removed(rt: HostRuntime) {
-    let before = [Row::Takes(0, OwnedCall::Reserve(16), 58, Told::Ended)];
+    let before = [Row::Takes(0, OwnedCall::Reserve(16), 60, Told::Ended)];
     reads_and_removes(&rt, &before, &[], value(Some(0)), &[Row::Pairs(1)]);
 }
 

@@ -19,6 +19,7 @@ fn twelfth_key(rt: &(impl Abort + AllocGlobal), map: &mut Map) {
         Act::Moves(4, 16),
         Act::Map(Row::Table(Some(4))),
         Act::Map(Row::Answers(7, OwnedCall::Get(7), &looks_on, value(Some(0)))),
+        Act::Step(Event::Silent),
         Act::Step(Event::Published(5)),
         Act::Step(Event::Silent),
         Act::Step(Event::Silent),
@@ -55,6 +56,7 @@ fn reserves_thirty_two(rt: &(impl Abort + AllocGlobal), map: &mut Map) {
         Act::Step(Event::Placed(7)),
         Act::Step(Event::Silent),
         Act::GoesOnTo(64, Event::Moved(6, 0)),
+        Act::Step(Event::Silent),
         Act::Step(Event::Published(7)),
         Act::Step(Event::Silent),
         Act::Step(Event::Silent),
@@ -100,18 +102,25 @@ fn insertion_helps(rt: HostRuntime) {
     let mut map = empty_map(rt.alloc(), 2, 0);
     let table = map.control.open(6, &mut map.tables);
     same(&rt, table.expect(&rt, "memory for the table"), 6);
-    let finds_nothing = [Event::Silent, Event::Silent, Event::Silent, Event::Decide];
+    let finds_nothing = [
+        Event::Silent,
+        Event::Silent,
+        Event::Silent,
+        Event::Silent,
+        Event::Silent,
+        Event::Decide,
+    ];
     let acts = [
         Act::Step(Event::Silent),
         Act::Step(Event::Placed(7)),
         Act::Step(Event::Silent),
         Act::Step(Event::Moved(6, 63)),
         // The bin of this call has not moved: the call decides, counts, and then moves the three lower ranges.
-        Act::Map(Row::Takes(2, OwnedCall::Insert(2, 0), 59, NONE)),
+        Act::Map(Row::Takes(2, OwnedCall::Insert(2, 0), 61, NONE)),
         Act::Map(Row::Table(Some(6))),
         // The bin of this call has moved: the call finds nothing to help with, and continues in the next table.
         Act::Map(Row::Answers(63, OwnedCall::Remove(63), &finds_nothing, NONE)),
-        Act::Ends(18),
+        Act::Ends(19),
         Act::Map(Row::Table(Some(7))),
         Act::Map(Row::Replies(2, OwnedCall::Get(2), value(Some(0)))),
     ];

@@ -35,7 +35,7 @@ fn refused_larger_table_leaves_the_pair(rt: HostRuntime) {
         Row::Takes(11, OwnedCall::Insert(11, 0), 4, NONE),
         Row::Pairs(12),
         Row::Table(Some(4)),
-        Row::Takes(12, OwnedCall::Insert(12, 0), 24, NONE),
+        Row::Takes(12, OwnedCall::Insert(12, 0), 25, NONE),
         Row::Table(Some(5)),
     ];
     goes_through(&rt, 2, &rows);

@@ -209,7 +209,7 @@ fn a_walk_reads_each_pair_once(rt: HostRuntime) {
 #[test]
 fn a_walk_follows_bins_that_move(rt: HostRuntime) {
     let strides = [
-        Stride::Map(Row::Takes(0, OwnedCall::Reserve(16), 58, Told::Ended)),
+        Stride::Map(Row::Takes(0, OwnedCall::Reserve(16), 60, Told::Ended)),
         Stride::Silent(5),
         Stride::Reads(17, 0),
         Stride::Silent(100),
