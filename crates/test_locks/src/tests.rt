@@ -1,6 +1,7 @@
 //! Locks in threads, with numbers as keys and values.
 
 mod calls;
+mod growths;
 mod order;
 mod readers;
 mod threads;
