@@ -16,6 +16,7 @@ use std::thread::Threads;
 
 // The exponent of the table that threads help to grow, and of its greatest hash.
 const TABLE: u8 = 20;
+
 const LAST_BIN: u64 = (1 << 20) - 1;
 
 // How many calls a thread makes at most until it has seen the growth's end.
@@ -118,7 +119,10 @@ fn each_bin_is_moved_once(
     assert_eq!(rt; work.moved.load(Ordering::SeqCst), 1 << TABLE);
     assert_eq!(rt; work.published.load(Ordering::SeqCst), 1);
     assert_eq!(rt; newest_of(rt, &locks), Some(TABLE + 1));
-    assert_eq!(rt; Lender::new(rt, &locks).len() as u64, inserted.load(Ordering::SeqCst));
+    assert_eq!(rt;
+        Lender::new(rt, &locks).len() as u64,
+        inserted.load(Ordering::SeqCst)
+    );
     Ok(())
 }
 

@@ -138,6 +138,14 @@ impl<'k, F: ComputeFn<u64, u64> + Copy> Checked<'k, F> {
         assert!(rt; !is_late, "a look-up decides within 32 steps");
     }
 
+    // Makes a party lose, which is no step of it.
+    fn lose(&mut self, rt: &impl Abort, party: usize)
+        requires { (f : F) → F.can_change f }
+    {
+        self.world.lose(party).expect(rt, "memory for the label");
+        self.check_last(rt);
+    }
+
     // Looks up each key. The results of these calls are checked with their labels.
     fn look_all_up(&mut self, rt: &impl Abort)
         requires { (f : F) → F.can_change f }
@@ -205,12 +213,14 @@ fn random_steps<'k, F: ComputeFn<u64, u64> + Copy>(
 }
 
 // 200 steps of four parties at a time, each of which is begun, or stepped, in one of four places. Where the call of a place has closed,
-// or none has begun there, another call begins in it, or every eighth time the removal of what was read last.
+// or none has begun there, another call begins in it, or every eighth time the removal of what was read last. Where `losses` is above 0, a
+// party loses once in so many of its turns.
 fn steps_of_four<'k, F: ComputeFn<u64, u64> + Copy>(
     rt: &impl Abort,
     checked: &mut Checked<'k, F>,
     random: &mut Random,
     change: F,
+    losses: u64,
 )
     requires { (f : F) → F.can_change f }
 {
@@ -219,7 +229,11 @@ fn steps_of_four<'k, F: ComputeFn<u64, u64> + Copy>(
         let place = random.below(4) as usize;
         let party = places[place];
         if party != usize::MAX && !checked.checker.is_closed(party) {
-            checked.step(rt, party);
+            if losses > 0 && random.below(losses) == 0 {
+                checked.lose(rt, party);
+            } else {
+                checked.step(rt, party);
+            }
             continue;
         }
         let began = checked.steps.len();
@@ -239,6 +253,8 @@ enum Drawing {
     Any,
     // Four at a time.
     Four,
+    // Four at a time, each of which loses once in five of its turns.
+    FourThatLose,
 }
 
 // What schedules did: the number of calls that replied or ended, the number of growths that were published, and the numbers of removals of
@@ -272,7 +288,8 @@ fn schedules<F: ComputeFn<u64, u64> + Copy>(
         let mut checked = Checked::new(rt, alloc, &mut random);
         match drawing {
             Drawing::Any => random_steps(rt, &mut checked, &mut random, change),
-            Drawing::Four => steps_of_four(rt, &mut checked, &mut random, change),
+            Drawing::Four => steps_of_four(rt, &mut checked, &mut random, change, 0),
+            Drawing::FourThatLose => steps_of_four(rt, &mut checked, &mut random, change, 5),
         }
         let (removed, kept) = checked.checker.drops();
         totals.closed = totals.closed.wrapping_add(checked.closed);
@@ -332,4 +349,16 @@ fn random_schedules_of_four_parties(rt: HostRuntime) {
         double_or_remove,
     );
     did(&rt, totals, 15_000, 300, 100);
+}
+
+#[test]
+fn random_schedules_with_losses(rt: HostRuntime) {
+    let totals = schedules(
+        &rt,
+        rt.alloc(),
+        88_172_645_463_325_252,
+        Drawing::FourThatLose,
+        double_or_remove,
+    );
+    did(&rt, totals, 12_000, 200, 80);
 }

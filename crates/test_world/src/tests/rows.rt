@@ -51,6 +51,7 @@ enum Row {
     UnknownParties,
     Losses,
     NineHelpers,
+    LateHelper,
 }
 
 // Goes through a row in a world of its own, which it passes by reference: where a world is dropped, the proof goes through everything that
@@ -59,7 +60,11 @@ fn goes_through<F: ComputeFn<u64, u64> + Copy>(rt: &impl Abort, alloc: Global, r
     requires { (f : F) → F.can_change f }
 {
     let (capacity, processors) = match row {
-        Row::StopsAndGoesOn | Row::StopsForGood | Row::Losses | Row::NineHelpers => (32, 2),
+        Row::StopsAndGoesOn
+        | Row::StopsForGood
+        | Row::Losses
+        | Row::NineHelpers
+        | Row::LateHelper => (32, 2),
         _ => (0, 1),
     };
     let mut world: Numbers<'_, F> = world_for(rt, alloc, capacity, processors);
@@ -71,6 +76,7 @@ fn goes_through<F: ComputeFn<u64, u64> + Copy>(rt: &impl Abort, alloc: Global, r
         Row::UnknownParties => does_nothing(rt, &mut world),
         Row::Losses => loses(rt, &mut world),
         Row::NineHelpers => nine_help(rt, &mut world),
+        Row::LateHelper => helps_late(rt, &mut world),
     }
     drop(world);
 }
@@ -315,19 +321,50 @@ fn nine_help<'k, F: ComputeFn<u64, u64> + Copy>(rt: &impl Abort, world: &mut Num
         Line::Reply(8, value(None)),
     ];
     assert_steps(rt, world, 8, &lines);
-    for low in [48, 32, 16, 0] {
-        assert_steps(rt, world, 7, &[Line::Silent(7)]);
-        moves_range(rt, world, 7, low);
-        assert_steps(rt, world, 7, &[Line::Silent(7)]);
-    }
-    let lines = [
-        Line::Published(7),
-        Line::Silent(7),
-        Line::Silent(7),
-        Line::Reply(7, value(None)),
-    ];
+    moves_all(rt, world, 7);
+    let lines = [Line::Silent(7), Line::Reply(7, value(None))];
     assert_steps(rt, world, 7, &lines);
     let lines = [Line::Silent(1), Line::Silent(1), Line::Silent(1)];
     assert_steps(rt, world, 1, &lines);
     assert_steps(rt, world, 1, &[Line::Reply(1, value(None))]);
+}
+
+// Does the steps of a party that claims, moves and reports each range of a table of 64 bins, publishes, and gives its seat back.
+fn moves_all<'k, F: ComputeFn<u64, u64> + Copy>(
+    rt: &impl Abort,
+    world: &mut Numbers<'k, F>,
+    party: usize,
+)
+    requires { (f : F) → F.can_change f }
+{
+    for low in [48, 32, 16, 0] {
+        assert_steps(rt, world, party, &[Line::Silent(party)]);
+        moves_range(rt, world, party, low);
+        assert_steps(rt, world, party, &[Line::Silent(party)]);
+    }
+    assert_steps(rt, world, party, &[Line::Published(7), Line::Silent(party)]);
+}
+
+#[test]
+fn helper_of_a_growth_that_is_over(rt: HostRuntime) {
+    goes_through::<NoFn>(&rt, rt.alloc(), Row::LateHelper)
+}
+
+// Party 0 has found table 6. Party 1 then grows it into table 7, all alone. Party 0 meets a bin that has moved: it takes a seat at the board
+// of that growth, finds nothing to claim, gives the seat back, and decides in table 7.
+fn helps_late<'k, F: ComputeFn<u64, u64> + Copy>(rt: &impl Abort, world: &mut Numbers<'k, F>)
+    requires { (f : F) → F.can_change f }
+{
+    assert_call(rt, world, 0, OwnedCall::Insert(2, 2), &[Line::Silent(0)]);
+    let lines = [Line::Silent(1), Line::Placed(7)];
+    assert_call(rt, world, 1, OwnedCall::Reserve(33), &lines);
+    moves_all(rt, world, 1);
+    assert_steps(rt, world, 1, &[Line::Silent(1), Line::End(1)]);
+    assert_steps(rt, world, 0, &[Line::Silent(0); 4]);
+    let lines = [
+        Line::Decide(0, value(None)),
+        Line::Silent(0),
+        Line::Reply(0, value(None)),
+    ];
+    assert_steps(rt, world, 0, &lines);
 }
