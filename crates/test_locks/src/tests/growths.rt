@@ -136,14 +136,15 @@ fn eight_threads_grow_a_table(rt: HostRuntime) -> Result<(), Fail> {
     each_bin_is_moved_once(&rt, rt.alloc(), 8)
 }
 
-// Does the first steps of a reserve, `steps` of them, and then stops for good. Returns what the last of them was.
-fn stop_in_a_growth<A: Allocator + Copy, R: Wait>(
+// Does the first steps of a call, `steps` of them, and then stops for good. Returns what the last of them was.
+fn stop<A: Allocator + Copy, R: Wait>(
     rt: &R,
     locks: &Locks<u64, u64, A>,
+    hash: u64,
+    call: OwnedCall<u64, u64, NoFn>,
     steps: u64,
 ) -> Option<Event> {
-    let call: OwnedCall<u64, u64, NoFn> = OwnedCall::Reserve(40);
-    let mut party = Party::from_owned(call, 0, 4);
+    let mut party = Party::from_owned(call, hash, 4);
     let mut lender = CallLender::new(&Lender::new(rt, locks));
     let mut last = None;
     for _ in 0..steps {
@@ -153,16 +154,25 @@ fn stop_in_a_growth<A: Allocator + Copy, R: Wait>(
     last
 }
 
+// Begins a growth of the table, by a call that stops once it has claimed the topmost range and moved one bin of it.
+fn stop_in_a_growth<A: Allocator + Copy, R: Wait>(
+    rt: &R,
+    locks: &Locks<u64, u64, A>,
+    pairs: usize,
+) -> Option<Event> {
+    stop(rt, locks, 0, OwnedCall::Reserve(pairs), 4)
+}
+
 // Does the same in a thread of its own, which then ends.
 fn stop_in_a_thread<A: Allocator + Copy + Send + Sync, R: Threads + Wait + Sync>(
     rt: &R,
     locks: &Locks<u64, u64, A>,
-    steps: u64,
+    pairs: usize,
 ) -> Option<Event> {
     thread::scope(thread::scope_env(), rt, |scope| {
-        match scope.spawn(move || stop_in_a_growth(rt, locks, steps)) {
+        match scope.spawn(move || stop_in_a_growth(rt, locks, pairs)) {
             Ok(child) => child.join(rt),
-            Err(_) => stop_in_a_growth(rt, locks, steps),
+            Err(_) => stop_in_a_growth(rt, locks, pairs),
         }
     })
 }
@@ -174,7 +184,8 @@ fn a_helper_that_stops_for_good(rt: HostRuntime) -> Result<(), Fail> {
     let locks: Locks<u64, u64, Global> = Locks::with_table(rt.alloc(), 6)?;
     put_all(&rt, &locks, 0, 20);
 
-    assert_eq!(rt; stop_in_a_thread(&rt, &locks, 4), Some(Event::Moved(6, 63)));
+    let stopped = stop_in_a_thread(&rt, &locks, 40);
+    assert_eq!(rt; stopped, Some(Event::Moved(6, 63)));
     put_all(&rt, &locks, 20, 200);
     let work = Work::new();
     do_call(&rt, &locks, 0, OwnedCall::Reserve(1000), &work);
@@ -183,5 +194,65 @@ fn a_helper_that_stops_for_good(rt: HostRuntime) -> Result<(), Fail> {
     assert_eq!(rt; work.published.load(Ordering::SeqCst), 0);
     assert_eq!(rt; count_found(&rt, &locks, 0, 200), 200);
     assert_eq!(rt; Lender::new(&rt, &locks).len(), 200);
+    Ok(())
+}
+
+// Returns how many steps a call takes.
+fn steps_of<A: Allocator + Copy, R: Wait>(
+    rt: &R,
+    locks: &Locks<u64, u64, A>,
+    hash: u64,
+    call: OwnedCall<u64, u64, NoFn>,
+) -> u64 {
+    let mut party = Party::from_owned(call, hash, 4);
+    let mut lender = CallLender::new(&Lender::new(rt, locks));
+    let mut steps = 0u64;
+    for _ in rt.forever() {
+        if act(&mut party, &mut lender).is_none() {
+            break;
+        }
+        steps = steps.saturating_add(1);
+    }
+    drop(party);
+    steps
+}
+
+// A call gives back its seat, also one that stops while it has it. So each later call has one: it finds a moved bin, a seat, nothing to
+// claim, gives the seat back, decides, and counts. With the step that finds the table that is seven steps.
+#[test]
+fn seats_come_back(rt: HostRuntime) -> Result<(), Fail> {
+    let locks: Locks<u64, u64, Global> = Locks::with_table(rt.alloc(), 6)?;
+    let begun = stop_in_a_growth(&rt, &locks, 40);
+    assert_eq!(rt; begun, Some(Event::Moved(6, 63)));
+    let _moves_the_rest = steps_of(&rt, &locks, 63, OwnedCall::Insert(0, 0));
+
+    for number in 1..20u64 {
+        let stopped = stop(&rt, &locks, 63, OwnedCall::Insert(number, 0), 3);
+        assert_eq!(rt; stopped, Some(Event::Silent));
+        let steps = steps_of(&rt, &locks, 63, OwnedCall::Insert(number, 0));
+        assert_eq!(rt; steps, 7);
+    }
+    Ok(())
+}
+
+// Returns whether calls count at the control, once it was locked.
+fn is_growth_due<A: Allocator + Copy, R: Wait>(rt: &R, locks: &Locks<u64, u64, A>) -> bool {
+    let lender = Lender::new(rt, locks);
+    let _pairs = lender.len();
+    lender.tally(0).is_none()
+}
+
+// Calls count at the control while a growth of 1,024 bins is to be helped, and at tallies again once one has found nothing to claim.
+#[test]
+fn a_growth_is_due_until_nothing_is_left(rt: HostRuntime) -> Result<(), Fail> {
+    let locks: Locks<u64, u64, Global> = Locks::with_table(rt.alloc(), 10)?;
+    assert!(rt; !is_growth_due(&rt, &locks));
+
+    let begun = stop_in_a_growth(&rt, &locks, 600);
+    assert_eq!(rt; begun, Some(Event::Moved(10, 1023)));
+    assert!(rt; is_growth_due(&rt, &locks));
+    let _moves_the_rest = steps_of(&rt, &locks, 1023, OwnedCall::Insert(0, 0));
+    assert!(rt; !is_growth_due(&rt, &locks));
+    assert_eq!(rt; newest_of(&rt, &locks), Some(10));
     Ok(())
 }
