@@ -160,10 +160,7 @@ impl<'m, R: Wait, K: Ord + Drop, V: Drop, A: Allocator + Copy> Field<K, V, A>
         index: usize,
         party: &mut Party<'_, K, V, F, A>,
     ) -> Option<Event> {
-        let slot = self.locks
-            .tables
-            .lock_of(table, index)?
-            .read(self.rt);
+        let slot = self.locks.tables.lock_of(table, index)?.read(self.rt);
         if slot.at() != (table, index) {
             return None;
         }
@@ -176,10 +173,7 @@ impl<'m, R: Wait, K: Ord + Drop, V: Drop, A: Allocator + Copy> Field<K, V, A>
         index: usize,
         party: &mut Party<'_, K, V, F, A>,
     ) -> Option<Event> {
-        let mut slot = self.locks
-            .tables
-            .lock_of(table, index)?
-            .write(self.rt);
+        let mut slot = self.locks.tables.lock_of(table, index)?.write(self.rt);
         if slot.at() != (table, index) {
             return None;
         }

@@ -12,8 +12,8 @@ use std::alloc::{AllocError, Allocator, Global};
 /// published, which are read without a lock. Beside the control there are tallies, each under its own lock, where counts of pairs wait
 /// until the control collects them.
 ///
-/// Each lock keeps what the type of its part keeps: the ranges of a control, and the order, the region and the sizes of a slot's bin. A
-/// [`Lender`](crate::Lender) takes the locks.
+/// Each lock keeps what the type of its part keeps: the exponents of a control, the seats of a growth, and the order, the region and the
+/// sizes of a slot's bin. A [`Lender`](crate::Lender) takes the locks.
 ///
 /// ```
 /// let locks: Locks<u64, u64, Global> = Locks::new(rt.alloc());

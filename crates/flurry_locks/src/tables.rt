@@ -102,7 +102,10 @@ impl<'m, K: Ord + Drop, V: Drop, A: Allocator + Copy> Room for Maker<'m, K, V, A
         if place.get().is_some() {
             return Ok(());
         }
-        let slots = Arc::new(self.alloc, new_table(self.alloc, table, for_growth.is_none())?)?;
+        let slots = Arc::new(
+            self.alloc,
+            new_table(self.alloc, table, for_growth.is_none())?,
+        )?;
         if let (Some(processors), Some(from)) = (for_growth, table.checked_sub(1)) {
             let helpers = Helpers::new(self.alloc, from, processors)?;
             let _ = tables.helpers[usize::from(from)].try_set(Arc::new(self.alloc, helpers)?);
