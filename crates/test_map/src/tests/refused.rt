@@ -135,6 +135,44 @@ fn a_larger_table_of_an_insertion(rt: HostRuntime) -> Result<(), Fail> {
     Ok(())
 }
 
+// Makes room for another pair while the request numbered `k` fails, and then with memory. Returns whether the first attempt failed and the
+// second one succeeded, and how many requests the second one made.
+fn requests_after<A: Allocator + Copy, R: Wait>(
+    rt: &R,
+    memory: &Metered<Global>,
+    k: u64,
+    map: &Numbers<A>,
+) -> (bool, u64) {
+    memory.refuse_at(k);
+    let refused = map.reserve(rt, 1).is_err();
+    memory.refuse_nothing();
+    let done = map.reserve(rt, 1).is_ok();
+    (refused && done, memory.asked())
+}
+
+// Does the same as `requests_after`, on a map of eleven keys in 16 bins that is created for the call.
+fn requests_after_a_refusal<R: Wait>(
+    rt: &R,
+    memory: Memory,
+    k: u64,
+) -> Result<(bool, u64), AllocError> {
+    let map = numbers(rt, memory, 11)?;
+    Ok(requests_after(rt, memory, k, &map))
+}
+
+// Two growths, to 32 and to 64 bins, take seven requests each. A growth that is refused leaves neither a table nor a board nor seats: the
+// next attempt makes all of its requests.
+#[test]
+fn a_refused_growth_leaves_nothing(rt: HostRuntime) -> Result<(), Fail> {
+    let memory = Metered::leaked(rt.alloc())?;
+    for k in 0..14u64 {
+        let asked = if k < 7 { 14 } else { 7 };
+        let seen = requests_after_a_refusal(&rt, memory, k)?;
+        same(&rt, (k, seen), (k, (true, asked)));
+    }
+    Ok(())
+}
+
 // Returns a map with room for `capacity` numbers.
 fn map_with_room<A: Allocator + Copy>(
     memory: A,
