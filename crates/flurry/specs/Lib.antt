@@ -48,6 +48,12 @@ pub use Rattle.flurry_map_ref.specs.Walks
 pub use Rattle.flurry_memo.specs.Memo
 pub use Rattle.flurry_replies.specs.Answers
 pub use Rattle.flurry_shared_set.specs.ElementResults
+-- Words of claim boards.
+pub use Rattle.flurry_claims.specs.ClaimBoard
+pub use Rattle.flurry_claims.specs.Helper
+pub use Rattle.flurry_claims.specs.PlainBoard
+pub use Rattle.flurry_claims.specs.Range
+pub use Rattle.flurry_claims.specs.SeatNotes
 -- Words of a call in steps: slots, the control, parties.
 pub use Rattle.flurry_calls.specs.Cursor
 pub use Rattle.flurry_calls.specs.Outcome
@@ -57,7 +63,6 @@ pub use Rattle.flurry_calls.specs.Sweep
 pub use Rattle.flurry_calls.specs.SweepView
 pub use Rattle.flurry_control.specs.Claim
 pub use Rattle.flurry_control.specs.Control
-pub use Rattle.flurry_control.specs.ControlView
 pub use Rattle.flurry_slots.specs.ComputeFn
 pub use Rattle.flurry_slots.specs.Slot
 pub use Rattle.flurry_slots.specs.SlotView
@@ -65,6 +70,7 @@ pub use Rattle.flurry_steps.specs.EndingView
 pub use Rattle.flurry_steps.specs.Field
 pub use Rattle.flurry_steps.specs.FirstSteps
 pub use Rattle.flurry_steps.specs.Party
+pub use Rattle.flurry_steps.specs.PartyBoard
 pub use Rattle.flurry_steps.specs.PartyControl
 pub use Rattle.flurry_steps.specs.PartySlots
 pub use Rattle.flurry_steps.specs.PartyTally

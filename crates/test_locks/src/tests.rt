@@ -8,25 +8,43 @@ mod threads;
 
 use calls::{first_step, put_all};
 use flurry_locks::{Lender, Locks};
+use flurry_slots::NoFn;
 use flurry_steps::party::{Event, OwnedCall};
-use std::alloc::Global;
+use std::alloc::{Allocator, Global};
+use std::fmt::Debug;
+use std::process::Abort;
+use std::sync::Wait;
 use std::test::Fail;
 use threads::{count_in_thread, put_in_threads};
 
+// Asserts that a value is the expected one. A test with many assertions calls this, because each `assert_eq!` in its own body makes its
+// proof longer.
+fn same<T: PartialEq + Debug + Drop>(rt: &impl Abort, seen: T, wanted: T) {
+    assert_eq!(rt; seen, wanted);
+}
+
 // Returns the exponent of the table that was published last, as far as it is known.
-fn newest_of<R>(rt: &R, locks: &Locks<u64, u64, Global>) -> Option<u8> {
+fn newest_of<A: Allocator, R>(rt: &R, locks: &Locks<u64, u64, A>) -> Option<u8> {
     let lender = Lender::new(rt, locks);
     lender.newest().map(|start| start.table())
 }
 
+// Looks a key up, and inserts it, by one step each.
+fn does_first_steps<A: Allocator + Copy, R: Abort + Wait>(rt: &R, locks: &Locks<u64, u64, A>) {
+    let look: OwnedCall<u64, u64, NoFn> = OwnedCall::Get(7);
+    same(rt, first_step(rt, locks, 7, look), Some(Event::Decide));
+    let insertion: OwnedCall<u64, u64, NoFn> = OwnedCall::Insert(7, 0);
+    same(
+        rt,
+        first_step(rt, locks, 7, insertion),
+        Some(Event::Opened(4)),
+    );
+}
+
 #[test]
 fn first_steps(rt: HostRuntime) -> Result<(), Fail> {
-    let locks: Locks<u64, u64, Global> = Locks::new(rt.alloc());
-
-    let looked = first_step(&rt, &locks, OwnedCall::Get(7));
-    assert_eq!(rt; looked, Some(Event::Decide));
-    let inserted = first_step(&rt, &locks, OwnedCall::Insert(7, 0));
-    assert_eq!(rt; inserted, Some(Event::Opened(4)));
+    let locks = Locks::new(rt.alloc());
+    does_first_steps(&rt, &locks);
     Ok(())
 }
 

@@ -4,7 +4,7 @@ use flurry_locks::{CallLender, Lender, Locks};
 use flurry_slots::{ComputeFn, NoFn};
 use flurry_steps::party::{Event, OwnedCall, Reply};
 use flurry_steps::{Party, act};
-use std::alloc::{Allocator, Global};
+use std::alloc::Allocator;
 use std::sync::Wait;
 
 // A key or a value with a number.
@@ -43,12 +43,15 @@ pub(super) fn reply_of<K: Ord + Drop, V: Drop, A: Allocator + Copy, F: ComputeFn
 }
 
 // Does the first step of a call, and returns what it was.
-pub(super) fn first_step<R: Wait>(
+pub(super) fn first_step<K: Ord + Drop, V: Drop, A: Allocator + Copy, F: ComputeFn<K, V>, R: Wait>(
     rt: &R,
-    locks: &Locks<u64, u64, Global>,
-    call: OwnedCall<u64, u64, NoFn>,
-) -> Option<Event> {
-    let mut party = Party::from_owned(call, 7, 4);
+    locks: &Locks<K, V, A>,
+    hash: u64,
+    call: OwnedCall<K, V, F>,
+) -> Option<Event>
+    requires { (f : F) → F.can_change f }
+{
+    let mut party = Party::from_owned(call, hash, 4);
     let mut lender = CallLender::new(&Lender::new(rt, locks));
     act(&mut party, &mut lender)
 }

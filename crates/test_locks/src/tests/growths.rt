@@ -1,12 +1,12 @@
 //! Growths that several threads help, and a helper that stops in the middle of one.
 
 use super::calls::{count_found, put_all};
-use super::newest_of;
+use super::{newest_of, same};
 use flurry_locks::{CallLender, Lender, Locks};
-use flurry_slots::NoFn;
+use flurry_slots::{ComputeFn, NoFn};
 use flurry_steps::party::{Event, OwnedCall};
 use flurry_steps::{Party, act};
-use std::alloc::{Allocator, Global};
+use std::alloc::Allocator;
 use std::process::Abort;
 use std::sync::Wait;
 use std::sync::atomic::{AtomicU64, Ordering};
@@ -22,9 +22,10 @@ const LAST_BIN: u64 = (1 << 20) - 1;
 // How many calls a thread makes at most until it has seen the growth's end.
 const CALLS: u64 = 100_000;
 
-// How many bins were moved by all threads, and how many tables published.
+// How many steps were done by all threads, how many of them moved a bin, and how many published a table.
 #[derive(Drop)]
 struct Work {
+    steps: AtomicU64,
     moved: AtomicU64,
     published: AtomicU64,
 }
@@ -32,12 +33,14 @@ struct Work {
 impl Work {
     fn new() -> Self {
         Work {
+            steps: AtomicU64::new(0),
             moved: AtomicU64::new(0),
             published: AtomicU64::new(0),
         }
     }
 
     fn note(&self, event: Event) {
+        self.steps.fetch_add(1, Ordering::SeqCst);
         match event {
             Event::Moved(_, _) => {
                 self.moved.fetch_add(1, Ordering::SeqCst);
@@ -50,7 +53,33 @@ impl Work {
     }
 }
 
-// Does the steps of a call until it is done, and notes what they are.
+// Does the first steps of a call, at most `most`, and notes what they are. Returns what the last of them was. The call is then dropped,
+// wherever it is.
+fn do_steps<K: Ord + Drop, V: Drop, A: Allocator + Copy, F: ComputeFn<K, V>, R: Wait>(
+    rt: &R,
+    locks: &Locks<K, V, A>,
+    hash: u64,
+    call: OwnedCall<K, V, F>,
+    most: u64,
+    work: &Work,
+) -> Option<Event>
+    requires { (f : F) → F.can_change f }
+{
+    let mut party = Party::from_owned(call, hash, 4);
+    let mut lender = CallLender::new(&Lender::new(rt, locks));
+    let mut last = None;
+    for _ in 0..most {
+        let Some(event) = act(&mut party, &mut lender) else {
+            break;
+        };
+        work.note(event);
+        last = Some(event);
+    }
+    drop(party);
+    last
+}
+
+// Does all steps of a call of numbers, and notes what they are.
 fn do_call<A: Allocator + Copy, R: Wait>(
     rt: &R,
     locks: &Locks<u64, u64, A>,
@@ -58,15 +87,7 @@ fn do_call<A: Allocator + Copy, R: Wait>(
     call: OwnedCall<u64, u64, NoFn>,
     work: &Work,
 ) {
-    let mut party = Party::from_owned(call, hash, 4);
-    let mut lender = CallLender::new(&Lender::new(rt, locks));
-    for _ in rt.forever() {
-        match act(&mut party, &mut lender) {
-            Some(event) => work.note(event),
-            None => break,
-        }
-    }
-    drop(party);
+    let _ = do_steps(rt, locks, hash, call, u64::MAX, work);
 }
 
 // Inserts pairs into the last bin, whose growth is the first to be moved, until the larger table is published. Returns how many pairs it
@@ -81,7 +102,7 @@ fn insert_until_it_has_grown<A: Allocator + Copy, R: Wait>(
         if work.published.load(Ordering::SeqCst) > 0 {
             return number;
         }
-        let key = thread * CALLS + number;
+        let key = thread.saturating_mul(CALLS).saturating_add(number);
         do_call(rt, locks, LAST_BIN, OwnedCall::Insert(key, key), work);
     }
     CALLS
@@ -107,33 +128,33 @@ fn grow_in_threads<A: Allocator + Copy + Send + Sync, R: Threads + Wait + Sync>(
 }
 
 // Each bin of a table of 2^20 is moved once, whoever helps, one call publishes the next table, and no pair is lost.
-fn each_bin_is_moved_once(
-    rt: &(impl Abort + Threads + Wait + Sync),
-    alloc: Global,
+fn each_bin_is_moved_once<A: Allocator + Copy + Send + Sync, R: Abort + Threads + Wait + Sync>(
+    rt: &R,
+    locks: &Locks<u64, u64, A>,
     threads: u64,
-) -> Result<(), Fail> {
-    let locks: Locks<u64, u64, Global> = Locks::with_table(alloc, TABLE)?;
+) {
     let work = Work::new();
     let inserted = AtomicU64::new(0);
-    grow_in_threads(rt, &locks, threads.saturating_sub(1), &work, &inserted);
-    assert_eq!(rt; work.moved.load(Ordering::SeqCst), 1 << TABLE);
-    assert_eq!(rt; work.published.load(Ordering::SeqCst), 1);
-    assert_eq!(rt; newest_of(rt, &locks), Some(TABLE + 1));
-    assert_eq!(rt;
-        Lender::new(rt, &locks).len() as u64,
-        inserted.load(Ordering::SeqCst)
-    );
-    Ok(())
+    grow_in_threads(rt, locks, threads.saturating_sub(1), &work, &inserted);
+    same(rt, work.moved.load(Ordering::SeqCst), 1 << TABLE);
+    same(rt, work.published.load(Ordering::SeqCst), 1);
+    same(rt, newest_of(rt, locks), Some(TABLE + 1));
+    let pairs = Lender::new(rt, locks).len() as u64;
+    same(rt, pairs, inserted.load(Ordering::SeqCst));
 }
 
 #[test]
 fn four_threads_grow_a_table(rt: HostRuntime) -> Result<(), Fail> {
-    each_bin_is_moved_once(&rt, rt.alloc(), 4)
+    let locks = Locks::with_table(rt.alloc(), TABLE)?;
+    each_bin_is_moved_once(&rt, &locks, 4);
+    Ok(())
 }
 
 #[test]
 fn eight_threads_grow_a_table(rt: HostRuntime) -> Result<(), Fail> {
-    each_bin_is_moved_once(&rt, rt.alloc(), 8)
+    let locks = Locks::with_table(rt.alloc(), TABLE)?;
+    each_bin_is_moved_once(&rt, &locks, 8);
+    Ok(())
 }
 
 // Does the first steps of a call, `steps` of them, and then stops for good. Returns what the last of them was.
@@ -144,14 +165,7 @@ fn stop<A: Allocator + Copy, R: Wait>(
     call: OwnedCall<u64, u64, NoFn>,
     steps: u64,
 ) -> Option<Event> {
-    let mut party = Party::from_owned(call, hash, 4);
-    let mut lender = CallLender::new(&Lender::new(rt, locks));
-    let mut last = None;
-    for _ in 0..steps {
-        last = act(&mut party, &mut lender);
-    }
-    drop(party);
-    last
+    do_steps(rt, locks, hash, call, steps, &Work::new())
 }
 
 // Begins a growth of the table, by a call that stops once it has claimed the topmost range and moved one bin of it.
@@ -179,21 +193,29 @@ fn stop_in_a_thread<A: Allocator + Copy + Send + Sync, R: Threads + Wait + Sync>
 
 // A thread claims a range of a table of 64 bins, moves one bin of it, and ends. The growth is never published, and no later one begins; but
 // every call is answered, and no pair is lost.
+fn goes_on_without_a_helper<A: Allocator + Copy + Send + Sync, R: Abort + Threads + Wait + Sync>(
+    rt: &R,
+    locks: &Locks<u64, u64, A>,
+) {
+    put_all(rt, locks, 0, 20);
+    same(
+        rt,
+        stop_in_a_thread(rt, locks, 40),
+        Some(Event::Moved(6, 63)),
+    );
+    put_all(rt, locks, 20, 200);
+    let work = Work::new();
+    do_call(rt, locks, 0, OwnedCall::Reserve(1000), &work);
+    same(rt, newest_of(rt, locks), Some(6));
+    same(rt, work.published.load(Ordering::SeqCst), 0);
+    same(rt, count_found(rt, locks, 0, 200), 200);
+    same(rt, Lender::new(rt, locks).len(), 200);
+}
+
 #[test]
 fn a_helper_that_stops_for_good(rt: HostRuntime) -> Result<(), Fail> {
-    let locks: Locks<u64, u64, Global> = Locks::with_table(rt.alloc(), 6)?;
-    put_all(&rt, &locks, 0, 20);
-
-    let stopped = stop_in_a_thread(&rt, &locks, 40);
-    assert_eq!(rt; stopped, Some(Event::Moved(6, 63)));
-    put_all(&rt, &locks, 20, 200);
-    let work = Work::new();
-    do_call(&rt, &locks, 0, OwnedCall::Reserve(1000), &work);
-
-    assert_eq!(rt; newest_of(&rt, &locks), Some(6));
-    assert_eq!(rt; work.published.load(Ordering::SeqCst), 0);
-    assert_eq!(rt; count_found(&rt, &locks, 0, 200), 200);
-    assert_eq!(rt; Lender::new(&rt, &locks).len(), 200);
+    let locks = Locks::with_table(rt.alloc(), 6)?;
+    goes_on_without_a_helper(&rt, &locks);
     Ok(())
 }
 
@@ -204,34 +226,35 @@ fn steps_of<A: Allocator + Copy, R: Wait>(
     hash: u64,
     call: OwnedCall<u64, u64, NoFn>,
 ) -> u64 {
-    let mut party = Party::from_owned(call, hash, 4);
-    let mut lender = CallLender::new(&Lender::new(rt, locks));
-    let mut steps = 0u64;
-    for _ in rt.forever() {
-        if act(&mut party, &mut lender).is_none() {
-            break;
-        }
-        steps = steps.saturating_add(1);
-    }
-    drop(party);
-    steps
+    let work = Work::new();
+    do_call(rt, locks, hash, call, &work);
+    work.steps.load(Ordering::SeqCst)
 }
 
 // A call gives back its seat, also one that stops while it has it. So each later call has one: it finds a moved bin, a seat, nothing to
 // claim, gives the seat back, decides, and counts. With the step that finds the table that is seven steps.
+fn twenty_calls_have_a_seat<A: Allocator + Copy, R: Abort + Wait>(
+    rt: &R,
+    locks: &Locks<u64, u64, A>,
+) {
+    same(
+        rt,
+        stop_in_a_growth(rt, locks, 40),
+        Some(Event::Moved(6, 63)),
+    );
+    let _moves_the_rest = steps_of(rt, locks, 63, OwnedCall::Insert(0, 0));
+    for number in 1..20u64 {
+        let stopped = stop(rt, locks, 63, OwnedCall::Insert(number, 0), 3);
+        same(rt, stopped, Some(Event::Silent));
+        let steps = steps_of(rt, locks, 63, OwnedCall::Insert(number, 0));
+        same(rt, steps, 7);
+    }
+}
+
 #[test]
 fn seats_come_back(rt: HostRuntime) -> Result<(), Fail> {
-    let locks: Locks<u64, u64, Global> = Locks::with_table(rt.alloc(), 6)?;
-    let begun = stop_in_a_growth(&rt, &locks, 40);
-    assert_eq!(rt; begun, Some(Event::Moved(6, 63)));
-    let _moves_the_rest = steps_of(&rt, &locks, 63, OwnedCall::Insert(0, 0));
-
-    for number in 1..20u64 {
-        let stopped = stop(&rt, &locks, 63, OwnedCall::Insert(number, 0), 3);
-        assert_eq!(rt; stopped, Some(Event::Silent));
-        let steps = steps_of(&rt, &locks, 63, OwnedCall::Insert(number, 0));
-        assert_eq!(rt; steps, 7);
-    }
+    let locks = Locks::with_table(rt.alloc(), 6)?;
+    twenty_calls_have_a_seat(&rt, &locks);
     Ok(())
 }
 
@@ -243,16 +266,25 @@ fn is_growth_due<A: Allocator + Copy, R: Wait>(rt: &R, locks: &Locks<u64, u64, A
 }
 
 // Calls count at the control while a growth of 1,024 bins is to be helped, and at tallies again once one has found nothing to claim.
+fn is_due_until_nothing_is_left<A: Allocator + Copy, R: Abort + Wait>(
+    rt: &R,
+    locks: &Locks<u64, u64, A>,
+) {
+    same(rt, is_growth_due(rt, locks), false);
+    same(
+        rt,
+        stop_in_a_growth(rt, locks, 600),
+        Some(Event::Moved(10, 1023)),
+    );
+    same(rt, is_growth_due(rt, locks), true);
+    let _moves_the_rest = steps_of(rt, locks, 1023, OwnedCall::Insert(0, 0));
+    same(rt, is_growth_due(rt, locks), false);
+    same(rt, newest_of(rt, locks), Some(10));
+}
+
 #[test]
 fn a_growth_is_due_until_nothing_is_left(rt: HostRuntime) -> Result<(), Fail> {
-    let locks: Locks<u64, u64, Global> = Locks::with_table(rt.alloc(), 10)?;
-    assert!(rt; !is_growth_due(&rt, &locks));
-
-    let begun = stop_in_a_growth(&rt, &locks, 600);
-    assert_eq!(rt; begun, Some(Event::Moved(10, 1023)));
-    assert!(rt; is_growth_due(&rt, &locks));
-    let _moves_the_rest = steps_of(&rt, &locks, 1023, OwnedCall::Insert(0, 0));
-    assert!(rt; !is_growth_due(&rt, &locks));
-    assert_eq!(rt; newest_of(&rt, &locks), Some(10));
+    let locks = Locks::with_table(rt.alloc(), 10)?;
+    is_due_until_nothing_is_left(&rt, &locks);
     Ok(())
 }

@@ -19,7 +19,7 @@ mod tallies;
 use super::{same, same_at};
 use flurry_bins::bin::Bin;
 use flurry_calls::Seen;
-use flurry_claims::{Attempt, PlainBoard};
+use flurry_claims::{Attempt, PlainBoard, Range};
 use flurry_control::{Control, Room};
 use flurry_model::reply::KeptReply;
 use flurry_slots::{ComputeFn, Slot};
@@ -54,11 +54,28 @@ impl Tables {
         self.slots.push(slot).expect(rt, "memory for the slot");
     }
 
-    // Returns the board of the growth from `table`, if that growth began last.
-    fn board_of(&mut self, table: u8) -> Option<&mut PlainBoard> {
+    // Takes a seat at the board of the growth from `table`, and returns whether there was one. Where another growth began since, there is none.
+    fn take_seat(&mut self, table: u8) -> bool {
         match &mut self.board {
-            Some((there, board)) if *there == table => Some(board),
-            _ => None,
+            Some((there, board)) if *there == table => board.take_seat(),
+            _ => false,
+        }
+    }
+
+    // Reports a range of `table`, and returns whether that report was the last.
+    fn report(&mut self, table: u8, range: Range) -> bool {
+        match &mut self.board {
+            Some((there, board)) if *there == table => board.report(range),
+            _ => false,
+        }
+    }
+
+    // Takes a seat back at the board of the growth from `table`.
+    fn give_seat(&mut self, table: u8) {
+        if let Some((there, board)) = &mut self.board {
+            if *there == table {
+                board.give_seat();
+            }
         }
     }
 
@@ -245,10 +262,7 @@ fn take_seat<'k, F: ComputeFn<u64, u64>>(
 ) -> Event
     requires { wanted_part party.old ≡ SeatPart table }
 {
-    let got = match map.tables.board_of(table) {
-        Some(board) => board.take_seat(),
-        None => false,
-    };
+    let got = map.tables.take_seat(table);
     party.on_seat(got)
 }
 
@@ -261,10 +275,7 @@ fn claim_or_report<'k, F: ComputeFn<u64, u64>>(
     requires { wanted_part party.old ≡ BoardPart table }
 {
     if let Some(range) = party.take_range() {
-        let last = match map.tables.board_of(table) {
-            Some(board) => board.report(range),
-            None => false,
-        };
+        let last = map.tables.report(table, range);
         return party.on_report(last);
     }
     let attempt = map.tables.try_claim(table);
@@ -279,9 +290,7 @@ fn give_seat<'k, F: ComputeFn<u64, u64>>(
 ) -> Event
     requires { wanted_part party.old ≡ GivePart table }
 {
-    if let Some(board) = map.tables.board_of(table) {
-        board.give_seat();
-    }
+    map.tables.give_seat(table);
     party.on_give()
 }
 
