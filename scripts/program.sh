@@ -184,14 +184,21 @@ end() {
     rm -rf -- "${room:?}/$1"
 }
 
-# Says what is proved, and what waits. On a terminal that is one line, which is overwritten and says how far it is.
+# Says what is proved, and what waits. On a terminal that is one line, which is overwritten and says how far it is. (By builtins alone: bash
+# can lose the signal INT that comes while it waits for a command whose output it takes.)
 tell_progress() {
-    local it doing far all="${#built[@]} of ${#crates[@]} crates"
+    local it text doing far all="${#built[@]} of ${#crates[@]} crates"
+    local -a log
     for it in "${crates[@]}"; do
         [[ -n ${builder[$it]-} ]] || continue
-        doing="proving $it"
-        far=$(sed -n -e 's/^so far: \([0-9]* of [0-9]*\) functions.*/\1/p' -e 's/^checked .*, \([0-9]* of [0-9]*\)$/\1/p' "$room/$it/log" | tail -n 1)
-        if [[ $(tail -n 1 -- "$room/$it/log") == rt:*waiting\ for* ]]; then
+        doing="proving $it" far='' text=''
+        mapfile -t log <"$room/$it/log"
+        for text in "${log[@]}"; do
+            if [[ $text =~ ^so\ far:\ ([0-9]+\ of\ [0-9]+)\ functions || $text =~ ^checked\ .*,\ ([0-9]+\ of\ [0-9]+)$ ]]; then
+                far=${BASH_REMATCH[1]}
+            fi
+        done
+        if [[ $text == rt:*waiting\ for* ]]; then
             doing="waiting for another rt, before $it"
         fi
         all+=", $doing${far:+: $far}"
