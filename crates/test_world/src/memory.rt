@@ -1,4 +1,5 @@
-//! Each request of a node fails in turn, and the calls of bins run while every request fails; likewise for slots and for worlds.
+//! Requests for memory of bins, slots and worlds. In a bin, a node makes one request, and no other call makes any. Each request of a node
+//! fails in turn, and the calls of bins run while every request fails; likewise for slots and for worlds.
 
 mod drops;
 mod kinds;
