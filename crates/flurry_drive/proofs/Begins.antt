@@ -23,7 +23,7 @@ use Rattle.flurry_world.specs.Parts.{Parts, IsStart}
 use Rattle.flurry_world.specs.Runs.{theory_call}
 use Rattle.flurry_world.specs.Steps.{with_party_record}
 use Rattle.flurry_world.specs.Tables.{content_at}
-use Rattle.flurry_world.specs.World.{PartyRecord, WorldState, Near, state_of, mode_of_stage, task_of_call, FollowsStage, IsWorld}
+use Rattle.flurry_world.specs.World.{PartyRecord, WorldState, Near, state_of, mode_of_stage, task_of_call, FollowsStage, IsWorld, history}
 use Rattle.flurry_world.proofs.StateLaws.{held_of_stage}
 use Rattle.flurry_world.proofs.BeginLaws.{IsBeginning}
 use Rattle.flurry_world.proofs.WorldLaws.{began, get_append}
@@ -34,35 +34,20 @@ use Rattle.flurry_model.specs.declared.sizes.TheConstants.{MOST_LABELS}
 module _ {K V F : Type 0} where
   -- a call that has its key stands where the machine's call does
   pub owned_first : (c : OwnedCall K V F) → IsFirst (theory_call c) (owned_stage c)
-  owned_first (owned.Get j) = (_, refl, refl)
-  owned_first (owned.GetKeyValue j) = (_, refl, refl)
-  owned_first (owned.ContainsKey j) = (_, refl, refl)
-  owned_first (owned.Remove j) = (_, refl, refl)
-  owned_first (owned.RemoveEntry j) = (_, refl, refl)
-  owned_first (owned.Insert j v) = (_, refl, refl)
-  owned_first (owned.TryInsert j v) = (_, refl, refl)
-  owned_first (owned.Compute j f) = (_, refl, refl)
   owned_first (owned.Reserve a) = refl
   owned_first owned.Clear = refl
   owned_first owned.Walk = refl
+  owned_first c = (_, refl, refl)
 
   module _ (hash : K → ℕ) where
     at_task : (d : Call K V F) (q : PartyState K V F) → ((k : K) → key_of d ≡ Some k → q.hash ≡ hash k) → (t : Task K V F) → task_of_call d ≡ Some t → q.stage ≡ AtLocate t → IsBeginning hash d q
     at_task d q own t is e = record { own_hash = own; follows = subst (FollowsStage hash d) (sym e) is; mode = ap mode_of_stage e; held = ap held_of_stage e; unread = ap last_seen e }
 
     first_begins : (d : Call K V F) (q : PartyState K V F) → ((k : K) → key_of d ≡ Some k → q.hash ≡ hash k) → IsFirst d q.stage → IsBeginning hash d q
-    first_begins (call.Get j) q own (t, is, e) = at_task (call.Get j) q own t is e
-    first_begins (call.GetKeyValue j) q own (t, is, e) = at_task (call.GetKeyValue j) q own t is e
-    first_begins (call.ContainsKey j) q own (t, is, e) = at_task (call.ContainsKey j) q own t is e
-    first_begins (call.Insert j v) q own (t, is, e) = at_task (call.Insert j v) q own t is e
-    first_begins (call.TryInsert j v) q own (t, is, e) = at_task (call.TryInsert j v) q own t is e
-    first_begins (call.Compute j f) q own (t, is, e) = at_task (call.Compute j f) q own t is e
-    first_begins (call.Remove j) q own (t, is, e) = at_task (call.Remove j) q own t is e
-    first_begins (call.RemoveEntry j) q own (t, is, e) = at_task (call.RemoveEntry j) q own t is e
-    first_begins (call.RemoveSeen z) q own (t, is, e) = at_task (call.RemoveSeen z) q own t is e
     first_begins (call.Reserve a) q own e = record { own_hash = own; follows = subst (FollowsStage hash (call.Reserve a)) (sym e) refl; mode = ap mode_of_stage e; held = ap held_of_stage e; unread = ap last_seen e }
     first_begins call.Clear q own e = record { own_hash = own; follows = subst (FollowsStage hash call.Clear) (sym e) ((refl, refl), refl); mode = ap mode_of_stage e; held = ap held_of_stage e; unread = ap last_seen e }
     first_begins call.Walk q own e = record { own_hash = own; follows = subst (FollowsStage hash call.Walk) (sym e) (refl, tt); mode = ap mode_of_stage e; held = ap held_of_stage e; unread = ap last_seen e }
+    first_begins d q own (t, is, e) = at_task d q own t is e
 
 module _ {K V F : Type 0} (cmp : K → K → Ordering) (hash : K → ℕ) (gives : F → K → V → Option V → Type 0) where
   -- a table where a call may begin was published
@@ -84,11 +69,11 @@ module _ {K V F : Type 0} (cmp : K → K → Ordering) (hash : K → ℕ) (gives
     pub at : slice_get (w.party_records ++ record { call = d; began_from = None; party_state = q; steps = 0 } ∷ []) (length w.party_records) ≡ Some (record { call = d; began_from = None; party_state = q; steps = 0 })
     pub parts : record { control_state = w.control_state; tables = w.tables } ≡ s
     pub near : Near n w.control_state.count
-    pub trace : reverse (w.trace ++ label.Begin (length w.party_records) d ∷ []) ≡ label.Begin (length w.party_records) d ∷ reverse w.trace
+    pub trace : reverse (w.trace ++ label.Begin (length w.party_records) d ∷ []) ≡ label.Begin (length w.party_records) d ∷ history w
     -- it was nobody before
-    pub undecided : decision (reverse w.trace) (length w.party_records) ≡ None
-    pub unreplied : has_replied (reverse w.trace) (length w.party_records) ≡ false
-    pub going : has_closed (reverse w.trace) (length w.party_records) ≡ false
+    pub undecided : decision (history w) (length w.party_records) ≡ None
+    pub unreplied : has_replied (history w) (length w.party_records) ≡ false
+    pub going : has_closed (history w) (length w.party_records) ≡ false
 
   pub begun : (total : IsTotalOrder cmp) (lawful : (j k : K) → same cmp j k ≡ true → hash j ≡ hash k) (n : ℕ) → n ≤ MOST_LABELS → (m : Pairs K V) (s : Parts K V) (h : Holds cmp hash gives n s m) (d : Call K V F) (q : PartyState K V F) → IsFresh cmp hash gives d q → Begun n s h.world d q
   begun total lawful n few m s h d q fresh =

@@ -1,6 +1,6 @@
 -- The steps of a clear, as transitions of the machine, in a world of however many labels: the pairs that are left and those that were
 -- wiped are so few that no number cuts them off.
-use Rattle.std.specs.Prelude.{◌≡◌, ℕ, pos, ℤ, neg_ℤ, ◌≤ℤ◌, ◌+ℤ◌, ◌-ℤ◌, suc, ◌+◌, ◌-◌, ◌^◌, ◌≤◌, ◌<◌, ◌==◌, ◌&&◌, nat_lt, min, Bool, true, false, List, [], ◌∷◌, length, map, reverse, slice_get, slice_set, Option, Some, None, is_some, if◌then◌else◌}
+use Rattle.std.specs.Prelude.{◌≡◌, ℕ, pos, ℤ, neg_ℤ, ◌≤ℤ◌, ◌+ℤ◌, ◌-ℤ◌, suc, ◌+◌, ◌-◌, ◌^◌, ◌≤◌, ◌<◌, ◌==◌, ◌&&◌, nat_lt, min, Bool, true, false, List, [], ◌∷◌, length, map, slice_get, slice_set, Option, Some, None, is_some, if◌then◌else◌}
 use Rattle.std.specs.declared.cmp.Ordering.{Ordering}
 use Rattle.std.specs.Cmp.{IsTotalOrder}
 use Rattle.std.specs.Int.{saturate_signed, w64}
@@ -27,7 +27,7 @@ use Rattle.flurry_theory.proofs.Step.{inv_step}
 use Rattle.flurry_theory.specs.declared.Label.TheVariants as label
 use Rattle.flurry_world.specs.Entries.{slot_of, entries_of_held, IsHashed}
 use Rattle.flurry_world.specs.Tables.{Tables, slots_of, place_at, content_at, put_place}
-use Rattle.flurry_world.specs.World.{PartyRecord, WorldState, state_of, mode_of_stage, mode_of_sweep, frame_of, frames_of, AreHashed, FollowsErrand, FollowsSweep, FollowsStage, IsWorld}
+use Rattle.flurry_world.specs.World.{PartyRecord, WorldState, state_of, mode_of_stage, mode_of_sweep, frame_of, frames_of, AreHashed, FollowsErrand, FollowsSweep, FollowsStage, IsWorld, history}
 use Rattle.flurry_world.proofs.EntryLaws.{length-entries_of_held}
 use Rattle.flurry_world.proofs.PlaceLaws.{same_live}
 use Rattle.flurry_world.proofs.Frames.{same_growth, same_frame, counted_frame, running_on, over_on, StepOf, step_of, in_range}
@@ -133,7 +133,7 @@ module _ {K V F S : Type 0} (cmp : K → K → Ordering) (total : IsTotalOrder c
 
   -- where there is no table it has ended
   pub finds_nothing : u.stage ≡ AtOutset → u'.errand ≡ Wipes n → w.control_state.published ≡ None → u'.stage ≡ AtEnd OutcomeEnded → StepOf cmp hash gives w p x w.control_state w.tables c (label.Silent p)
-  finds_nothing f errand bare h = goes_on n errand (AtEnd OutcomeEnded) h FindsNothing (Done None 0 0) refl refl refl (call.Clear, called, stands AtOutset f, bare, inr tt) refl tt
+  finds_nothing f errand bare h = goes_on n errand (AtEnd OutcomeEnded) h FindsNothing (Done None 0 0) refl refl refl (call.Clear, called, stands AtOutset f, bare, inr refl) refl tt
 
   -- it follows a bin that has moved
   module _ (f : CursorState K) (over : u.stage ≡ OverBins f) where
@@ -157,12 +157,12 @@ module _ {K V F S : Type 0} (cmp : K → K → Ordering) (total : IsTotalOrder c
       can_wipe : Can cmp hash gives (state_of w) p transition
       can_wipe = (stands (OverBins f) over, ap slot_of live)
 
-      pub wiped_pairs : length (pairs cmp hash (label.Wipe p f.top.table f.top.index ∷ reverse w.trace)) + length d.held ≡ length (pairs cmp hash (reverse w.trace))
+      pub wiped_pairs : length (pairs cmp hash (label.Wipe p f.top.table f.top.index ∷ history w)) + length d.held ≡ length (pairs cmp hash (history w))
       wiped_pairs =
           let lost = wiped_away cmp total hash lawful gives w.first k.state.0 (state_of w) k.state.1 p (slice_get_within w.party_records p x at) n f.base f.index (frame_of f.top) (map frame_of f.below) (entries_of_held d.held) d.writes can_wipe in
-          ap (λ i. length (pairs cmp hash (label.Wipe p f.top.table f.top.index ∷ reverse w.trace)) + i) (sym (length-entries_of_held d.held)) ∙ lost
+          ap (λ i. length (pairs cmp hash (label.Wipe p f.top.table f.top.index ∷ history w)) + i) (sym (length-entries_of_held d.held)) ∙ lost
 
-      pub wipes_bin : (t : Tables K V) → Put w.tables f.top.table f.top.index (IsLive (after_wipe d)) t → length (pairs cmp hash (reverse w.trace)) + n ≤ MOST_LABELS → u'.errand ≡ Wipes (more_wiped n (length d.held)) → u'.stage ≡ stage_cleared (after_top f) → StepOf cmp hash gives w p x w.control_state t c (label.Wipe p f.top.table f.top.index)
+      pub wipes_bin : (t : Tables K V) → Put w.tables f.top.table f.top.index (IsLive (after_wipe d)) t → length (pairs cmp hash (history w)) + n ≤ MOST_LABELS → u'.errand ≡ Wipes (more_wiped n (length d.held)) → u'.stage ≡ stage_cleared (after_top f) → StepOf cmp hash gives w p x w.control_state t c (label.Wipe p f.top.table f.top.index)
       wipes_bin t put few q h = step_of cmp hash gives w p x w.control_state t c (label.Wipe p f.top.table f.top.index) at hashed unread (record {
         transition = transition;
         can = can_wipe;

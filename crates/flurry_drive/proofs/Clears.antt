@@ -29,7 +29,7 @@ use Rattle.flurry_theory.proofs.Bins.{one_class, find-wiped}
 use Rattle.flurry_world.specs.Parts.{Parts, PartStep, IsStart}
 use Rattle.flurry_world.specs.Steps.{with_step, with_party_record}
 use Rattle.flurry_world.specs.Tables.{Tables, content_at, put_place, PlaceGives}
-use Rattle.flurry_world.specs.World.{PartyRecord, WorldState, Near, state_of, mode_of_sweep, IsWorld}
+use Rattle.flurry_world.specs.World.{PartyRecord, WorldState, Near, state_of, mode_of_sweep, IsWorld, history}
 use Rattle.flurry_world.proofs.StateLaws.{get_set}
 use Rattle.flurry_world.proofs.TableLaws.{content_of_place}
 use Rattle.flurry_world.proofs.PartyCases.{put_other}
@@ -91,8 +91,8 @@ module _ {K V F : Type 0} (cmp : K → K → Ordering) (total : IsTotalOrder cmp
       pub parts : record { control_state = world.control_state; tables = world.tables } ≡ s
       pub sweep_state : SweepState K V
       pub stage : caller.party_state.stage ≡ AtSweep sweep_state
-      pub gone : StaysGone p (reverse world.trace)
-      pub tally : Tally (pairs cmp hash (reverse world.trace)) world.control_state.count sweep_state.errand sweep_state.stage
+      pub gone : StaysGone p (history world)
+      pub tally : Tally (pairs cmp hash (history world)) world.control_state.count sweep_state.errand sweep_state.stage
 
     module _ (now : Pairs K V) (count : ℤ) where
       tally_of : (a : SweepState K V) (i : ℕ) (b : SweepStage K V) → a.errand ≡ Wipes i → a.stage ≡ b → Tally now count (Wipes i) b → Tally now count a.errand a.stage
@@ -102,9 +102,9 @@ module _ {K V F : Type 0} (cmp : K → K → Ordering) (total : IsTotalOrder cmp
       tally_cleared i None h = h
       tally_cleared i (Some f) h = h
 
-    module _ (w : WorldState K V F (Unit {0})) (k : IsWorld cmp hash gives w) (x : PartyRecord K V F) (at : slice_get w.party_records p ≡ Some x) (called : x.call ≡ call.Clear) (u : SweepState K V) (e : x.party_state.stage ≡ AtSweep u) (gone : StaysGone p (reverse w.trace)) (tally : Tally (pairs cmp hash (reverse w.trace)) w.control_state.count u.errand u.stage) where
+    module _ (w : WorldState K V F (Unit {0})) (k : IsWorld cmp hash gives w) (x : PartyRecord K V F) (at : slice_get w.party_records p ≡ Some x) (called : x.call ≡ call.Clear) (u : SweepState K V) (e : x.party_state.stage ≡ AtSweep u) (gone : StaysGone p (history w)) (tally : Tally (pairs cmp hash (history w)) w.control_state.count u.errand u.stage) where
       -- the world after a step
-      stepped : (c : PartyState K V F) (b : ControlState) (t : Tables K V) (l : Label K V F) (u' : SweepState K V) → c.stage ≡ AtSweep u' → StepOf cmp hash gives w p x b t c l → Lessens (reverse w.trace) l → Tally (pairs cmp hash (l ∷ reverse w.trace)) b.count u'.errand u'.stage → InClear (record { control_state = b; tables = t }) c
+      stepped : (c : PartyState K V F) (b : ControlState) (t : Tables K V) (l : Label K V F) (u' : SweepState K V) → c.stage ≡ AtSweep u' → StepOf cmp hash gives w p x b t c l → Lessens (history w) l → Tally (pairs cmp hash (l ∷ history w)) b.count u'.errand u'.stage → InClear (record { control_state = b; tables = t }) c
       stepped c b t l u' g step less tallied = record {
         world = with_step w p x b t c l;
         is_world = kept cmp hash gives total lawful w p x b t c l k at step;
@@ -115,24 +115,24 @@ module _ {K V F : Type 0} (cmp : K → K → Ordering) (total : IsTotalOrder cmp
         parts = refl;
         sweep_state = u';
         stage = g;
-        gone = subst (StaysGone p) (sym turned) (gone_on p (reverse w.trace) l less gone);
+        gone = subst (StaysGone p) (sym turned) (gone_on p (history w) l less gone);
         tally = subst (λ r. Tally (pairs cmp hash r) b.count u'.errand u'.stage) (sym turned) tallied;
       }
         where
           after : PartyRecord K V F
           after = record { call = x.call; began_from = x.began_from; party_state = c; steps = suc x.steps }
 
-          turned : reverse (w.trace ++ l ∷ []) ≡ l ∷ reverse w.trace
+          turned : reverse (w.trace ++ l ∷ []) ≡ l ∷ history w
           turned = reverse-append w.trace (l ∷ [])
 
       module _ (i : ℕ) (wipes : u.errand ≡ Wipes i) where
-        held : (a : SweepStage K V) → u.stage ≡ a → Tally (pairs cmp hash (reverse w.trace)) w.control_state.count (Wipes i) a
-        held a f = subst₂ (λ er st. Tally (pairs cmp hash (reverse w.trace)) w.control_state.count er st) wipes f tally
+        held : (a : SweepStage K V) → u.stage ≡ a → Tally (pairs cmp hash (history w)) w.control_state.count (Wipes i) a
+        held a f = subst₂ (λ er st. Tally (pairs cmp hash (history w)) w.control_state.count er st) wipes f tally
 
         module _ (c : PartyState K V F) (hashed : c.hash ≡ x.party_state.hash) (u' : SweepState K V) (g : c.stage ≡ AtSweep u') (last : u'.last ≡ u.last) where
           -- a step that leaves the parts
-          quiet : StepOf cmp hash gives w p x w.control_state w.tables c (label.Silent p) → (a : SweepStage K V) → u'.errand ≡ Wipes i → u'.stage ≡ a → Tally (pairs cmp hash (reverse w.trace)) w.control_state.count (Wipes i) a → InClear (record { control_state = w.control_state; tables = w.tables }) c
-          quiet step a errand stands tallied = stepped c w.control_state w.tables (label.Silent p) u' g step (λ j h. h) (tally_of (pairs cmp hash (reverse w.trace)) w.control_state.count u' i a errand stands tallied)
+          quiet : StepOf cmp hash gives w p x w.control_state w.tables c (label.Silent p) → (a : SweepStage K V) → u'.errand ≡ Wipes i → u'.stage ≡ a → Tally (pairs cmp hash (history w)) w.control_state.count (Wipes i) a → InClear (record { control_state = w.control_state; tables = w.tables }) c
+          quiet step a errand stands tallied = stepped c w.control_state w.tables (label.Silent p) u' g step (λ j h. h) (tally_of (pairs cmp hash (history w)) w.control_state.count u' i a errand stands tallied)
 
           sets_out_at : u.stage ≡ AtOutset → u'.errand ≡ u.errand → (o : Option ℕ) → w.control_state.published ≡ o → u'.stage ≡ set_out_at o → InClear (record { control_state = w.control_state; tables = w.tables }) c
           sets_out_at f kept_errand None bare h =
@@ -149,7 +149,7 @@ module _ {K V F : Type 0} (cmp : K → K → Ordering) (total : IsTotalOrder cmp
               let sums = count_less w.control_state.count i (omega (arith, whole, few)) (omega (arith, ints, within.most, few)) (omega (arith, ints, least, few)) in
               stepped c (after_count (neg_ℤ (pos (min i (2 ^ 63 - 1)))) w.control_state) w.tables (label.Silent p) u' g
               (counts_all cmp total hash lawful gives w k p x at u e i wipes c u' g hashed last f (kept_errand ∙ wipes) h sums) (λ j z. z)
-              (tally_of (pairs cmp hash (reverse w.trace)) _ u' i (AtEnd OutcomeEnded) (kept_errand ∙ wipes) h (refl, subst (Near (n + length m)) (sym sums) (record { most = most; least = least })))
+              (tally_of (pairs cmp hash (history w)) _ u' i (AtEnd OutcomeEnded) (kept_errand ∙ wipes) h (refl, subst (Near (n + length m)) (sym sums) (record { most = most; least = least })))
 
           wiped : (f : CursorState K) (over : u.stage ≡ OverBins f) (d : Live K V) (live : content_at w.tables f.top.table f.top.index ≡ IsLive d) (t : Tables K V) → Put w.tables f.top.table f.top.index (IsLive (after_wipe d)) t → u'.errand ≡ Wipes (more_wiped i (length d.held)) → u'.stage ≡ stage_cleared (after_top f) → InClear (record { control_state = w.control_state; tables = t }) c
           wiped f over d live t put errand h =
@@ -158,7 +158,7 @@ module _ {K V F : Type 0} (cmp : K → K → Ordering) (total : IsTotalOrder cmp
               let small : i + length d.held ≤ 2 ^ 64 - 1 = omega (arith, lost, whole, few) in
               let sums : more_wiped i (length d.held) ≡ i + length d.held = grind (arith, small) in
               stepped c w.control_state t (label.Wipe p f.top.table f.top.index) u' g
-              (wipes_bin cmp total hash lawful gives w k p x at u e i wipes c u' g hashed last f over d live t put (omega (arith, whole, few)) errand h) (wipe_lessens p f.top.table f.top.index (reverse w.trace))
+              (wipes_bin cmp total hash lawful gives w k p x at u e i wipes c u' g hashed last f over d live t put (omega (arith, whole, few)) errand h) (wipe_lessens p f.top.table f.top.index (history w))
               (tally_of _ w.control_state.count u' (more_wiped i (length d.held)) (stage_cleared (after_top f)) errand h (tally_cleared _ w.control_state.count (more_wiped i (length d.held)) (after_top f) (omega (arith, lost, whole, sums), within)))
 
           moved : (f : CursorState K) → u.stage ≡ OverBins f → content_at w.tables f.top.table f.top.index ≡ HasMoved → u'.errand ≡ Wipes i → u'.stage ≡ OverBins (after_split f) → InClear (record { control_state = w.control_state; tables = w.tables }) c
@@ -222,22 +222,22 @@ module _ {K V F : Type 0} (cmp : K → K → Ordering) (total : IsTotalOrder cmp
       part_step c b t ev h = by_errand u.errand refl
         where
           by_errand : (er : Errand) → u.errand ≡ er → InClear (record { control_state = b; tables = t }) c
-          by_errand Reads f = absurd (subst (λ z. Tally (pairs cmp hash (reverse w.trace)) w.control_state.count z u.stage) f tally)
+          by_errand Reads f = absurd (subst (λ z. Tally (pairs cmp hash (history w)) w.control_state.count z u.stage) f tally)
           by_errand (Wipes i) f = at_part i f c b t ev u.stage refl (subst (λ z. PartStep cmp gives (part_at z u.stage) x.party_state w.control_state w.tables ev c b t) f (subst (λ z. PartStep cmp gives (part_of x.party_state.hash z) x.party_state w.control_state w.tables ev c b t) e h))
 
       pub start_step : (a : ℕ) (c : PartyState K V F) → locates x.party_state.stage ≡ true → IsStart (record { control_state = w.control_state; tables = w.tables }) a → c ≡ with_stage x.party_state (started_stage a x.party_state.stage) → InClear (record { control_state = w.control_state; tables = w.tables }) c
       start_step a c asks start is = by_errand u.errand refl
         where
           by_errand : (er : Errand) → u.errand ≡ er → InClear (record { control_state = w.control_state; tables = w.tables }) c
-          by_errand Reads f = absurd (subst (λ z. Tally (pairs cmp hash (reverse w.trace)) w.control_state.count z u.stage) f tally)
+          by_errand Reads f = absurd (subst (λ z. Tally (pairs cmp hash (history w)) w.control_state.count z u.stage) f tally)
           by_errand (Wipes i) f = started i f a c (sym (ap locates e) ∙ asks) start is
 
       -- the clear is done
-      pub ended : (r : Outcome K V) → final_outcome x.party_state.stage ≡ Some r → Answers cmp hash gives call.Clear m r (pairs cmp hash (reverse w.trace)) × Near (n + length m) w.control_state.count
+      pub ended : (r : Outcome K V) → final_outcome x.party_state.stage ≡ Some r → Answers cmp hash gives call.Clear m r (pairs cmp hash (history w)) × Near (n + length m) w.control_state.count
       ended r done = by_stage u.errand refl u.stage refl (sym (ap final_outcome e) ∙ done)
         where
-          empty : {q : Outcome K V} (i : ℕ) → u.errand ≡ Wipes i → u.stage ≡ AtEnd q → q ≡ OutcomeEnded → pairs cmp hash (reverse w.trace) ≡ []
-          empty i wipes f ends = none_left cmp total (pairs cmp hash (reverse w.trace)) (λ j. over j (subst (λ z. HasLacked cmp hash gives (names p) (reverse w.trace) p j ⊎ Remains cmp hash gives z j) mode ((k.state.1.progress p).cleared (calls cmp total hash lawful gives w k p x at x.party_state ∙ ap Some called) going j)))
+          empty : {q : Outcome K V} (i : ℕ) → u.errand ≡ Wipes i → u.stage ≡ AtEnd q → q ≡ OutcomeEnded → pairs cmp hash (history w) ≡ []
+          empty i wipes f ends = none_left cmp total (pairs cmp hash (history w)) (λ j. over j (subst (λ z. HasLacked cmp hash gives (names p) (history w) p j ⊎ Remains cmp hash gives z j) mode ((k.state.1.progress p).cleared (calls cmp total hash lawful gives w k p x at x.party_state ∙ ap Some called) going j)))
             where
               mode : (state_of w).mode p ≡ Done None 0 0
               mode = in_mode cmp total hash lawful gives w k p x at x.party_state (AtSweep u) e ∙ ap (λ z. mode_of_sweep z u.errand) (f ∙ ap AtEnd ends)
@@ -245,16 +245,16 @@ module _ {K V F : Type 0} (cmp : K → K → Ordering) (total : IsTotalOrder cmp
               going : (state_of w).mode p ≡ Finished → ⊥
               going h = let no : ◌≡◌ {A = Mode K V} (Done None 0 0) Finished = sym mode ∙ h in cc
 
-              over : (j : K) → HasLacked cmp hash gives (names p) (reverse w.trace) p j ⊎ Remains {F = F} cmp hash gives (Done None 0 0) j → find cmp (pairs cmp hash (reverse w.trace)) j ≡ None
+              over : (j : K) → HasLacked cmp hash gives (names p) (history w) p j ⊎ Remains {F = F} cmp hash gives (Done None 0 0) j → find cmp (pairs cmp hash (history w)) j ≡ None
               over j (inl h) = gone j h
               over j (inr h) = absurd h
 
-          by_stage : (er : Errand) → u.errand ≡ er → (a : SweepStage K V) → u.stage ≡ a → swept_outcome a ≡ Some r → Answers cmp hash gives call.Clear m r (pairs cmp hash (reverse w.trace)) × Near (n + length m) w.control_state.count
-          by_stage Reads f a h g = absurd (subst (λ z. Tally (pairs cmp hash (reverse w.trace)) w.control_state.count z u.stage) f tally)
+          by_stage : (er : Errand) → u.errand ≡ er → (a : SweepStage K V) → u.stage ≡ a → swept_outcome a ≡ Some r → Answers cmp hash gives call.Clear m r (pairs cmp hash (history w)) × Near (n + length m) w.control_state.count
+          by_stage Reads f a h g = absurd (subst (λ z. Tally (pairs cmp hash (history w)) w.control_state.count z u.stage) f tally)
           by_stage (Wipes i) f (AtEnd q) h g =
               let (ends, within) = held i f (AtEnd q) h in
               let is : r ≡ OutcomeEnded = cc in
-              (subst (λ z. Answers cmp hash gives call.Clear m z (pairs cmp hash (reverse w.trace))) (sym is) (empty i f h ends), within)
+              (subst (λ z. Answers cmp hash gives call.Clear m z (pairs cmp hash (history w))) (sym is) (empty i f h ends), within)
           by_stage (Wipes i) f AtOutset h g = cc
           by_stage (Wipes i) f (OverBins d) h g = cc
           by_stage (Wipes i) f AtTotal h g = cc
@@ -278,5 +278,5 @@ module _ {K V F : Type 0} (cmp : K → K → Ordering) (total : IsTotalOrder cmp
         tally = subst (λ r. Tally n m few (length h.world.party_records) (pairs cmp hash r) h.world.control_state.count (Wipes 0) AtOutset) (sym b.trace) (omega (arith, ap length h.map), b.near);
       }
     where
-      not_yet : (j : K) → HasLacked cmp hash gives (names (length h.world.party_records)) (label.Begin (length h.world.party_records) call.Clear ∷ reverse h.world.trace) (length h.world.party_records) j → ⊥
+      not_yet : (j : K) → HasLacked cmp hash gives (names (length h.world.party_records)) (label.Begin (length h.world.party_records) call.Clear ∷ history h.world) (length h.world.party_records) j → ⊥
       not_yet j lacked = let no : true ≡ false = sym (itself (length h.world.party_records)) ∙ lacked.0 in cc

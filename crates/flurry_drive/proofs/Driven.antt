@@ -1,5 +1,5 @@
 -- A call that is driven over a field that tells its parts.
-use Rattle.std.specs.Prelude.{◌≡◌, ℕ, ◌+◌, ◌≤◌, Bool, true, length, reverse, Option, Some}
+use Rattle.std.specs.Prelude.{◌≡◌, ℕ, ◌+◌, ◌≤◌, Bool, true, length, Option, Some}
 use Rattle.std.specs.declared.cmp.Ordering.{Ordering}
 use Rattle.std.specs.Cmp.{IsTotalOrder}
 use Rattle.std.proofs.Common.{refl, sym, ◌∙◌, ap, subst, inl, inr}
@@ -14,7 +14,7 @@ use Rattle.flurry_model.specs.declared.call.Call.{Call}
 use Rattle.flurry_model.specs.declared.call.Call.TheVariants as call
 use Rattle.flurry_world.specs.Parts.{Parts}
 use Rattle.flurry_world.specs.Tables.{Tables}
-use Rattle.flurry_world.specs.World.{Near}
+use Rattle.flurry_world.specs.World.{Near, history}
 use Rattle.flurry_world.proofs.WorldSteps.{alike_class}
 use Rattle.flurry_steps.specs.Turns.{Turns, still, further}
 use Rattle.flurry_drive.specs.Tells.{StepsIn, Tells}
@@ -65,7 +65,7 @@ module _ {K V F : Type 0} (cmp : K → K → Ordering) (total : IsTotalOrder cmp
     clear_last : (s : Parts K V) (c : PartyState K V F) (r : Outcome K V) → final_outcome c.stage ≡ Some r → InClear cmp total hash lawful changes n m few p s c → (m' : Pairs K V) × Answers cmp hash changes call.Clear m r m' × Holds cmp hash changes (n + length m) s m'
     clear_last s c r e is =
         let (answers, near) = clears.ended cmp total hash lawful changes n m few p is.world is.is_world is.caller is.at is.call is.sweep_state is.stage is.gone is.tally r (ap (λ z. final_outcome z.stage) is.party_state ∙ e) in
-        (pairs cmp hash (reverse is.world.trace), answers, record { world = is.world; is_world = is.is_world; control_state = ap (λ z. z.control_state) is.parts; tables = ap (λ z. z.tables) is.parts; map = refl; near = subst (λ z. Near (n + length m) z.control_state.count) is.parts near })
+        (pairs cmp hash (history is.world), answers, record { world = is.world; is_world = is.is_world; control_state = ap (λ z. z.control_state) is.parts; tables = ap (λ z. z.tables) is.parts; map = refl; near = subst (λ z. Near (n + length m) z.control_state.count) is.parts near })
 
 module _ {S R K V F : Type 0} (place : R → ℕ → Option ℕ → Bool → R → Type 0) (cmp : K → K → Ordering) (total : IsTotalOrder cmp) (changes : F → K → V → Option V → Type 0) (lends : S → Loan K V R → S → Type 0) (lacks : S → Part → Type 0) (parts : S → Parts K V) (room : R → Tables K V) (t : Tells parts room place lends lacks) (hash : K → ℕ) (lawful : (j k : K) → same cmp j k ≡ true → hash j ≡ hash k) where
   -- what each step over the parts keeps, a run keeps

@@ -1,5 +1,5 @@
 -- Parts that hold a map, and calls before their first step.
-use Rattle.std.specs.Prelude.{◌≡◌, ℕ, [], reverse, Option, None}
+use Rattle.std.specs.Prelude.{◌≡◌, ℕ, [], Option, None}
 use Rattle.std.specs.Cmp.{IsTotalOrder}
 use Rattle.std.specs.declared.cmp.Ordering.{Ordering}
 use Rattle.std.specs.declared.cmp.Ordering.TheVariants.{Equal}
@@ -13,7 +13,7 @@ use Rattle.flurry_world.specs.Parts.{OwnLends, OwnLacks, no_parts}
 use Rattle.flurry_world.specs.Runs.{theory_call, hash_for}
 use Rattle.flurry_world.specs.Steps.{fresh_world}
 use Rattle.flurry_world.specs.Tables.{PlaceGives, no_tables}
-use Rattle.flurry_world.specs.World.{WorldState, Near, IsWorld}
+use Rattle.flurry_world.specs.World.{WorldState, Near, IsWorld, history}
 use Rattle.flurry_world.proofs.BeginLaws.{own_hash}
 use Rattle.flurry_world.proofs.NewLaws.{new_without}
 use Rattle.flurry_world.proofs.WorldSteps.{alike_class}
@@ -31,7 +31,7 @@ module _ {K V F : Type 0} (cmp : K → K → Ordering) (hash : K → ℕ) (chang
   fresh c i n p is hashed = record { stage = subst (λ z. IsFirst (theory_call c) z.stage) (sym is) (owned_first c); hash_is = λ k h. ap (λ z. z.hash) is ∙ hashed ∙ own_hash hash c k h }
 
   -- the parts of a world hold its map
-  pub holds_world : {S : Type 0} (w : WorldState K V F S) (n : ℕ) → IsWorld cmp hash changes w → Near n w.control_state.count → Holds cmp hash changes n (record { control_state = w.control_state; tables = w.tables }) (pairs cmp hash (reverse w.trace))
+  pub holds_world : {S : Type 0} (w : WorldState K V F S) (n : ℕ) → IsWorld cmp hash changes w → Near n w.control_state.count → Holds cmp hash changes n (record { control_state = w.control_state; tables = w.tables }) (pairs cmp hash (history w))
   holds_world w n k near = record {
     world = record { hasher = tt; processors = w.processors; first = w.first; control_state = w.control_state; tables = w.tables; party_records = w.party_records; trace = w.trace };
     is_world = record { state = k.state; party_records = k.party_records; hashed = k.hashed; control_state = k.control_state; tables = k.tables; unmade = k.unmade; next = k.next; running = k.running; over = k.over };

@@ -2,7 +2,7 @@
 use Rattle.std.specs.Prelude.{ℕ, Bool, Option}
 use Rattle.std.specs.declared.cmp.Ordering.{Ordering}
 use Rattle.std.proofs.Common.{inl, inr}
-use Rattle.flurry_steps.specs.Field.{Loan, ControlLoan, StartLoan, TallyLoan, LookLoan, BinLoan, MoveLoan, BoardLoan, StepWith}
+use Rattle.flurry_steps.specs.Field.{Loan, StartLoan, TallyLoan, StepWith}
 use Rattle.flurry_steps.specs.Party.{PartyState}
 use Rattle.flurry_calls.specs.declared.step.Event.{Event}
 use Rattle.flurry_world.specs.Parts.{Parts, IsOwn}
@@ -13,9 +13,5 @@ use Rattle.flurry_drive.specs.Tells.{StepsIn}
 module _ {K V F R : Type 0} (place : R → ℕ → Option ℕ → Bool → R → Type 0) (cmp : K → K → Ordering) (changes : F → K → V → Option V → Type 0) (room : R → Tables K V) (places : (r : R) (e : ℕ) (g : Option ℕ) (ok : Bool) (r' : R) → place r e g ok r' → PlaceGives (room r) e g ok (room r')) (s s' : Parts K V) (c c' : PartyState K V F) (ev : Event) where
   pub own_step : (l : Loan K V R) → IsOwn room s l s' → StepWith place cmp changes l c ev c' → StepsIn cmp changes c s ev c' s'
   own_step (StartLoan d) (x, y) (asks, within, silent, h) = inr (record { table = d; start = x; asks = asks; silent = silent; party_state = h; parts = y })
-  own_step (ControlLoan b r b' r') x h = inl (own_part place cmp changes room places s s' c c' ev (ControlLoan b r b' r') tt x h)
   own_step (TallyLoan m n n') x h = absurd x
-  own_step (LookLoan q) x h = inl (own_part place cmp changes room places s s' c c' ev (LookLoan q) tt x h)
-  own_step (BinLoan q q') x h = inl (own_part place cmp changes room places s s' c c' ev (BinLoan q q') tt x h)
-  own_step (MoveLoan q low high q' low' high') x h = inl (own_part place cmp changes room places s s' c c' ev (MoveLoan q low high q' low' high') tt x h)
-  own_step (BoardLoan e y) x h = inl (own_part place cmp changes room places s s' c c' ev (BoardLoan e y) tt x h)
+  own_step l x h = inl (own_part place cmp changes room places s s' c c' ev l tt x h)

@@ -18,18 +18,14 @@ itself p = eq-eqb p p refl
 module _ {K V F : Type 0} where
   -- a label of a step of party p, which is alone and a call of one key or a reserve
   abbrev pub IsOwnLabel : ℕ → Label K V F → Type 0
-  IsOwnLabel p (label.Begin q c) = ⊥
   IsOwnLabel p (label.Decide q r) = q ≡ p
-  IsOwnLabel p (label.Reply q r) = ⊥
   IsOwnLabel p (label.Refused q) = q ≡ p
-  IsOwnLabel p (label.Wipe q e i) = ⊥
-  IsOwnLabel p (label.Read q k v) = ⊥
-  IsOwnLabel p (label.End q) = ⊥
   IsOwnLabel p (label.Opened e) = ⊤
   IsOwnLabel p (label.Placed e) = ⊤
   IsOwnLabel p (label.Moved e i) = ⊤
   IsOwnLabel p (label.Published e) = ⊤
   IsOwnLabel p (label.Silent q) = ⊤
+  IsOwnLabel p _ = ⊥
 
 module _ {K V F : Type 0} (cmp : K → K → Ordering) (hash : K → ℕ) (gives : F → K → V → Option V → Type 0) (p : ℕ) (d : Call K V F) (m : Pairs K V) where
   -- by p's decision and whether it was refused: what the map is, which was m when p began
@@ -68,18 +64,14 @@ module _ {K V F : Type 0} (cmp : K → K → Ordering) (hash : K → ℕ) (gives
 
     -- one label more
     pub alone_more : (l : Label K V F) → IsOwnLabel p l → CallMay cmp hash gives t l → Alone (l ∷ t)
-    alone_more (label.Begin q c) o h = absurd o
     alone_more (label.Decide q r) o h = subst (λ z. Alone (label.Decide z r ∷ t)) (sym o) (decides r (subst (λ z. CallMay cmp hash gives t (label.Decide z r)) o h))
-    alone_more (label.Reply q r) o h = absurd o
     alone_more (label.Refused q) o h = subst (λ z. Alone (label.Refused z ∷ t)) (sym o) (refuses (subst (λ z. CallMay cmp hash gives t (label.Refused z)) o h))
-    alone_more (label.Wipe q e i) o h = absurd o
-    alone_more (label.Read q k v) o h = absurd o
-    alone_more (label.End q) o h = absurd o
     alone_more (label.Opened e) o h = record { began = a.began; open_yet = a.open_yet; end = a.end }
     alone_more (label.Placed e) o h = record { began = a.began; open_yet = a.open_yet; end = a.end }
     alone_more (label.Moved e i) o h = record { began = a.began; open_yet = a.open_yet; end = a.end }
     alone_more (label.Published e) o h = record { began = a.began; open_yet = a.open_yet; end = a.end }
     alone_more (label.Silent q) o h = record { began = a.began; open_yet = a.open_yet; end = a.end }
+    alone_more l o h = absurd o
 
   -- p began
   pub alone_began : (t : Trace K V F) → has_replied t p ≡ false → decision t p ≡ None → has_closed t p ≡ false → pairs cmp hash t ≡ m → Alone (label.Begin p d ∷ t)

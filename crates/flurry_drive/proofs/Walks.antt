@@ -37,26 +37,16 @@ module _ {K V : Type 0} where
   walked_bare (Some f) s h = subst EndsBare (sym h) tt
 
   read_bare : (f : CursorState K) (x : PlainEntry K V) (l : Option (Seen K V)) (ev : Event) (s : SweepStage K V) (l' : Option (Seen K V)) → ReadGives f x l ev s l' → EndsBare s
+  read_bare f x l event.Decide s l' h = absurd h
   read_bare f x l event.Read s l' h = subst EndsBare (sym h.0) tt
   read_bare f x l event.Refused s l' h = subst EndsBare (sym h.0) tt
-  read_bare f x l event.Decide s l' h = absurd h
-  read_bare f x l (event.Wipe _ _) s l' h = absurd h
-  read_bare f x l (event.Opened _) s l' h = absurd h
-  read_bare f x l (event.Placed _) s l' h = absurd h
-  read_bare f x l (event.Moved _ _) s l' h = absurd h
-  read_bare f x l (event.Published _) s l' h = absurd h
-  read_bare f x l event.Silent s l' h = absurd h
+  read_bare f x l ev s l' h = absurd h
 
   split_bare : (f : CursorState K) (ev : Event) (s : SweepStage K V) → SplitGives f ev s → EndsBare s
+  split_bare f event.Decide s h = absurd h
   split_bare f event.Silent s h = subst EndsBare (sym h) tt
   split_bare f event.Refused s h = subst EndsBare (sym h.0) tt
-  split_bare f event.Decide s h = absurd h
-  split_bare f event.Read s h = absurd h
-  split_bare f (event.Wipe _ _) s h = absurd h
-  split_bare f (event.Opened _) s h = absurd h
-  split_bare f (event.Placed _) s h = absurd h
-  split_bare f (event.Moved _ _) s h = absurd h
-  split_bare f (event.Published _) s h = absurd h
+  split_bare f ev s h = absurd h
 
   entry_bare : (f : CursorState K) (o : Option (PlainEntry K V)) (l : Option (Seen K V)) (ev : Event) (s : SweepStage K V) (l' : Option (Seen K V)) → MatchOption o ((ev ≡ event.Silent) × (s ≡ stage_walked (after_top f)) × (l' ≡ l)) (λ x. ReadGives f x l ev s l') → EndsBare s
   entry_bare f None l ev s l' h = walked_bare (after_top f) s h.1

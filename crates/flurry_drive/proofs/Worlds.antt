@@ -23,7 +23,7 @@ use Rattle.flurry_model.specs.declared.call.Call.{Call}
 use Rattle.flurry_model.specs.declared.call.Call.TheVariants as call
 use Rattle.flurry_world.specs.Tables.{Tables, PlaceGives}
 use Rattle.flurry_world.specs.Parts.{PartStep}
-use Rattle.flurry_world.specs.World.{PartyRecord, WorldState, Near, state_of, mode_of_stage, task_of_call, FollowsErrand, FollowsStage, IsWorld}
+use Rattle.flurry_world.specs.World.{PartyRecord, WorldState, Near, state_of, mode_of_stage, task_of_call, FollowsErrand, FollowsStage, IsWorld, history}
 use Rattle.flurry_world.specs.Steps.{with_step, with_party_record, label_of, decide_label}
 use Rattle.flurry_world.proofs.StateLaws.{held_of_stage, get_set}
 use Rattle.flurry_world.proofs.CallLaws.{found_task}
@@ -52,18 +52,8 @@ errand_plain d Reads z plain f = subst IsPlain f plain
 errand_plain d (Wipes n) z plain f = subst IsPlain f.0 plain
 
 follows_single : {K V F : Type 0} (hash : K → ℕ) (d : Call K V F) (s : Stage K V F) → IsPlain d → FollowsStage hash d s → IsSingle s
-follows_single hash d (AtLocate t) plain h = tt
-follows_single hash d (AtBin t e) plain h = tt
-follows_single hash d (AtHelp c a) plain h = tt
-follows_single hash d (AtUncount r) plain h = tt
-follows_single hash d (AtCount r) plain h = tt
-follows_single hash d (AtRecount r) plain h = tt
-follows_single hash d (AtBegin e r) plain h = tt
-follows_single hash d (AtGrow w g) plain h = tt
-follows_single hash d (AtReserve a) plain h = tt
 follows_single hash d (AtSweep w) plain h = errand_plain d w.errand w.last plain h.0
-follows_single hash d (AtDone r) plain h = tt
-follows_single hash d AtTaken plain h = tt
+follows_single hash d s plain h = tt
 
 -- so its step at a part reads and wipes nothing
 module _ {K V F : Type 0} (cmp : K → K → Ordering) (changes : F → K → V → Option V → Type 0) (c : PartyState K V F) (b : ControlState) (t : Tables K V) (ev : Event) (c' : PartyState K V F) (b' : ControlState) (t' : Tables K V) (single : IsSingle c.stage) where
@@ -89,11 +79,7 @@ own_label {K} {V} {F} p event.Decide s other = decided (outcome_in s)
 own_label p event.Read s other = absurd (other tt)
 own_label p (event.Wipe e i) s other = absurd (other tt)
 own_label p event.Refused s other = refl
-own_label p (event.Opened e) s other = tt
-own_label p (event.Placed e) s other = tt
-own_label p (event.Moved e i) s other = tt
-own_label p (event.Published e) s other = tt
-own_label p event.Silent s other = tt
+own_label p ev s other = tt
 
 module _ {K V F : Type 0} (cmp : K → K → Ordering) (total : IsTotalOrder cmp) (hash : K → ℕ) (lawful : (j k : K) → same cmp j k ≡ true → hash j ≡ hash k) (gives : F → K → V → Option V → Type 0) (n : ℕ) (few : n ≤ MOST_LABELS) (p : ℕ) (d : Call K V F) (m : Pairs K V) where
   -- the parts s are those of a world, in which party p is a caller with the call d, which began on the map m, was alone since, and
@@ -107,10 +93,10 @@ module _ {K V F : Type 0} (cmp : K → K → Ordering) (total : IsTotalOrder cmp
     pub plain : IsPlain d
     pub party_state : caller.party_state ≡ c
     pub parts : record { control_state = world.control_state; tables = world.tables } ≡ s
-    pub alone : Alone cmp hash gives p d m (reverse world.trace)
+    pub alone : Alone cmp hash gives p d m (history world)
     pub room : Room n (left c.stage) s.control_state.count
 
-  module _ (w : WorldState K V F (Unit {0})) (k : IsWorld cmp hash gives w) (x : PartyRecord K V F) (at : slice_get w.party_records p ≡ Some x) (called : x.call ≡ d) (alone : Alone cmp hash gives p d m (reverse w.trace)) (room : Room n (left x.party_state.stage) w.control_state.count) (plain : IsPlain d) where
+  module _ (w : WorldState K V F (Unit {0})) (k : IsWorld cmp hash gives w) (x : PartyRecord K V F) (at : slice_get w.party_records p ≡ Some x) (called : x.call ≡ d) (alone : Alone cmp hash gives p d m (history w)) (room : Room n (left x.party_state.stage) w.control_state.count) (plain : IsPlain d) where
     single : IsSingle x.party_state.stage
     single = follows_single hash x.call x.party_state.stage (subst IsPlain (sym called) plain) (k.party_records p x at).stage
 
@@ -131,17 +117,17 @@ module _ {K V F : Type 0} (cmp : K → K → Ordering) (total : IsTotalOrder cmp
       plain = plain;
       party_state = refl;
       parts = refl;
-      alone = subst (Alone cmp hash gives p d m) (sym turned) (alone_more cmp hash gives p d m (reverse w.trace) alone (label_of p ev c.stage) (own_label p ev c.stage other) may);
+      alone = subst (Alone cmp hash gives p d m) (sym turned) (alone_more cmp hash gives p d m (history w) alone (label_of p ev c.stage) (own_label p ev c.stage other) may);
       room = counted;
     }
       where
         new : PartyRecord K V F
         new = record { call = x.call; began_from = x.began_from; party_state = c; steps = suc x.steps }
 
-        turned : reverse (w.trace ++ label_of p ev c.stage ∷ []) ≡ label_of p ev c.stage ∷ reverse w.trace
+        turned : reverse (w.trace ++ label_of p ev c.stage ∷ []) ≡ label_of p ev c.stage ∷ history w
         turned = reverse-append w.trace (label_of p ev c.stage ∷ [])
 
-        may : CallMay cmp hash gives (reverse w.trace) (label_of p ev c.stage)
+        may : CallMay cmp hash gives (history w) (label_of p ev c.stage)
         may = (subst (EachMay (CallMay cmp hash gives)) turned after.state.1.legal.calls).0
 
     -- a step at the part that the call wants
@@ -189,7 +175,7 @@ module _ {K V F : Type 0} (cmp : K → K → Ordering) (total : IsTotalOrder cmp
     -- the call is done
     pub ended : (r : Outcome K V) → final_outcome x.party_state.stage ≡ Some r → (m' : Pairs K V) × Answers cmp hash gives d m r m' × Holds cmp hash gives n (record { control_state = w.control_state; tables = w.tables }) m'
     ended r f = (
-      pairs cmp hash (reverse w.trace),
+      pairs cmp hash (history w),
       answers r (done x.party_state.stage refl f),
       record {
         world = w;
@@ -205,47 +191,38 @@ module _ {K V F : Type 0} (cmp : K → K → Ordering) (total : IsTotalOrder cmp
         ok = k.state.1.parties p
 
         done : (s : Stage K V F) → x.party_state.stage ≡ s → final_outcome s ≡ Some r → x.party_state.stage ≡ AtDone r
-        done (AtLocate t) e h = cc
-        done (AtBin t g) e h = cc
-        done (AtHelp z a) e h = cc
-        done (AtUncount q) e h = cc
-        done (AtCount q) e h = cc
-        done (AtRecount q) e h = cc
-        done (AtBegin g q) e h = cc
-        done (AtGrow g q) e h = cc
-        done (AtReserve a) e h = cc
         done (AtSweep z) e h = absurd (subst IsSingle e single)
         done (AtDone q) e h = let one : q ≡ r = cc in e ∙ ap AtDone one
-        done AtTaken e h = cc
+        done s e h = cc
 
         mode : (q : Outcome K V) → x.party_state.stage ≡ AtDone q → (state_of w).mode p ≡ mode_of_stage {F = F} (AtDone q)
         mode q e = in_mode cmp total hash lawful gives w k p x at x.party_state (AtDone q) e
 
-        answers : (q : Outcome K V) → x.party_state.stage ≡ AtDone q → Answers cmp hash gives d m q (pairs cmp hash (reverse w.trace))
-        answers (OutcomeReply q) e = subst (λ o. ByEnd cmp hash gives p d m o (has_closed (reverse w.trace) p) (pairs cmp hash (reverse w.trace))) (ok.decided q 0 0 (mode (OutcomeReply q) e)) alone.end
+        answers : (q : Outcome K V) → x.party_state.stage ≡ AtDone q → Answers cmp hash gives d m q (pairs cmp hash (history w))
+        answers (OutcomeReply q) e = subst (λ o. ByEnd cmp hash gives p d m o (has_closed (history w) p) (pairs cmp hash (history w))) (ok.decided q 0 0 (mode (OutcomeReply q) e)) alone.end
         answers OutcomeEnded e =
-            let none : decision (reverse w.trace) p ≡ None = ok.undecided (λ z a b h. other (sym (mode OutcomeEnded e) ∙ h)) (λ h. going (sym (mode OutcomeEnded e) ∙ h)) in
-            let open_yet : has_closed (reverse w.trace) p ≡ false = (ok.going (λ h. going (sym (mode OutcomeEnded e) ∙ h))).1 in
+            let none : decision (history w) p ≡ None = ok.undecided (λ z a b h. other (sym (mode OutcomeEnded e) ∙ h)) (λ h. going (sym (mode OutcomeEnded e) ∙ h)) in
+            let open_yet : has_closed (history w) p ≡ false = (ok.going (λ h. going (sym (mode OutcomeEnded e) ∙ h))).1 in
             let (a, is) = subst (FollowsStage hash x.call) e (k.party_records p x at).stage in
-            subst (λ c. EndsOn c m (pairs cmp hash (reverse w.trace))) (sym is ∙ called) (subst (λ b. ByEnd cmp hash gives p d m None b (pairs cmp hash (reverse w.trace))) open_yet (subst (λ o. ByEnd cmp hash gives p d m o (has_closed (reverse w.trace) p) (pairs cmp hash (reverse w.trace))) none alone.end))
+            subst (λ c. EndsOn c m (pairs cmp hash (history w))) (sym is ∙ called) (subst (λ b. ByEnd cmp hash gives p d m None b (pairs cmp hash (history w))) open_yet (subst (λ o. ByEnd cmp hash gives p d m o (has_closed (history w) p) (pairs cmp hash (history w))) none alone.end))
           where
             other : {z : KeptReply K V} {a b : ℕ} → Done None 0 0 ≡ Done (Some z) a b → ⊥
             other h = cc
 
             going : ◌≡◌ {A = Mode K V} (Done None 0 0) Finished → ⊥
             going h = cc
-        answers OutcomeRefused e = by_end (decision (reverse w.trace) p) refl (has_closed (reverse w.trace) p) refl
+        answers OutcomeRefused e = by_end (decision (history w) p) refl (has_closed (history w) p) refl
           where
-            finished : (has_replied (reverse w.trace) p ≡ true) ⊎ (has_closed (reverse w.trace) p ≡ true)
+            finished : (has_replied (history w) p ≡ true) ⊎ (has_closed (history w) p ≡ true)
             finished = ok.finished (mode OutcomeRefused e) (ap is_some (calls cmp total hash lawful gives w k p x at x.party_state))
 
             not_both : {b : Bool} → b ≡ true → b ≡ false → ⊥
             not_both h g = let no : true ≡ false = sym h ∙ g in cc
 
-            refused : has_closed (reverse w.trace) p ≡ true
+            refused : has_closed (history w) p ≡ true
             refused = by_case finished
               where
-                by_case : (has_replied (reverse w.trace) p ≡ true) ⊎ (has_closed (reverse w.trace) p ≡ true) → has_closed (reverse w.trace) p ≡ true
+                by_case : (has_replied (history w) p ≡ true) ⊎ (has_closed (history w) p ≡ true) → has_closed (history w) p ≡ true
                 by_case (inl h) = absurd (not_both h alone.open_yet)
                 by_case (inr h) = h
 
@@ -263,33 +240,25 @@ module _ {K V F : Type 0} (cmp : K → K → Ordering) (total : IsTotalOrder cmp
             no_reply call.Clear q l h a = absurd a
             no_reply call.Walk q l h a = absurd a
 
-            by_end : (o : Option (KeptReply K V)) → decision (reverse w.trace) p ≡ o → (b : Bool) → has_closed (reverse w.trace) p ≡ b → CanBeRefused cmp gives d m × (pairs cmp hash (reverse w.trace) ≡ m)
-            by_end None e true f = subst (λ b. ByEnd cmp hash gives p d m None b (pairs cmp hash (reverse w.trace))) f (subst (λ o. ByEnd cmp hash gives p d m o (has_closed (reverse w.trace) p) (pairs cmp hash (reverse w.trace))) e alone.end)
+            by_end : (o : Option (KeptReply K V)) → decision (history w) p ≡ o → (b : Bool) → has_closed (history w) p ≡ b → CanBeRefused cmp gives d m × (pairs cmp hash (history w) ≡ m)
+            by_end None e true f = subst (λ b. ByEnd cmp hash gives p d m None b (pairs cmp hash (history w))) f (subst (λ o. ByEnd cmp hash gives p d m o (has_closed (history w) p) (pairs cmp hash (history w))) e alone.end)
             by_end None e false f = absurd (not_both refused f)
             by_end (Some q) e b f = absurd (by_kind (one_key (Some d)) refl)
               where
                 allowed : Allows cmp gives d m q
-                allowed = (subst (λ o. ByEnd cmp hash gives p d m o (has_closed (reverse w.trace) p) (pairs cmp hash (reverse w.trace))) e alone.end).0
+                allowed = (subst (λ o. ByEnd cmp hash gives p d m o (has_closed (history w) p) (pairs cmp hash (history w))) e alone.end).0
 
                 by_kind : (b : Bool) → one_key (Some d) ≡ b → ⊥
-                by_kind true h = let none : decision (reverse w.trace) p ≡ None = ok.refused refused (ap one_key (calls cmp total hash lawful gives w k p x at x.party_state) ∙ ap (λ z. one_key (Some z)) called ∙ h) in let no : Some q ≡ None = sym e ∙ none in cc
+                by_kind true h = let none : decision (history w) p ≡ None = ok.refused refused (ap one_key (calls cmp total hash lawful gives w k p x at x.party_state) ∙ ap (λ z. one_key (Some z)) called ∙ h) in let no : Some q ≡ None = sym e ∙ none in cc
                 by_kind false h = no_reply d q m h allowed
 
 module _ {K V F : Type 0} where
   -- it counts what it has left to count, at most
   first_left : (d : Call K V F) (m : Pairs K V) (s : Stage K V F) → IsPlain d → IsFirst d s → left s ≤ most_counted d m
-  first_left (call.Get j) m s plain h = left_most s
-  first_left (call.GetKeyValue j) m s plain h = left_most s
-  first_left (call.ContainsKey j) m s plain h = left_most s
-  first_left (call.Insert j v) m s plain h = left_most s
-  first_left (call.TryInsert j v) m s plain h = left_most s
-  first_left (call.Compute j f) m s plain h = left_most s
-  first_left (call.Remove j) m s plain h = left_most s
-  first_left (call.RemoveEntry j) m s plain h = left_most s
-  first_left (call.RemoveSeen z) m s plain h = left_most s
   first_left (call.Reserve a) m s plain h = omega (arith, ap left h)
   first_left call.Clear m s plain h = absurd plain
   first_left call.Walk m s plain h = absurd plain
+  first_left d m s plain h = left_most s
 
 module _ {K V F : Type 0} (cmp : K → K → Ordering) (total : IsTotalOrder cmp) (hash : K → ℕ) (lawful : (j k : K) → same cmp j k ≡ true → hash j ≡ hash k) (gives : F → K → V → Option V → Type 0) where
   -- it begins as one more caller of the world
@@ -306,6 +275,6 @@ module _ {K V F : Type 0} (cmp : K → K → Ordering) (total : IsTotalOrder cmp
         plain = plain;
         party_state = refl;
         parts = b.parts;
-        alone = subst (Alone cmp hash gives (length h.world.party_records) d m) (sym b.trace) (alone_began cmp hash gives (length h.world.party_records) d m (reverse h.world.trace) b.unreplied b.undecided b.going h.map);
+        alone = subst (Alone cmp hash gives (length h.world.party_records) d m) (sym b.trace) (alone_began cmp hash gives (length h.world.party_records) d m (history h.world) b.unreplied b.undecided b.going h.map);
         room = record { most = omega (arith, ints, h.near.most, more); least = omega (arith, ints, h.near.least, more) };
       }

@@ -1,5 +1,5 @@
 -- What a driven call answers and leaves, over a field that tells its parts and that nobody else changes.
-use Rattle.std.specs.Prelude.{◌≡◌, ℕ, ◌+◌, ◌≤◌, Bool, [], length, Option, Some, reverse}
+use Rattle.std.specs.Prelude.{◌≡◌, ℕ, ◌+◌, ◌≤◌, Bool, [], length, Option, Some}
 use Rattle.std.specs.declared.cmp.Ordering.{Ordering}
 use Rattle.std.specs.declared.cmp.Ordering.TheVariants.{Equal}
 use Rattle.flurry_steps.specs.Field.{Loan}
@@ -13,7 +13,7 @@ use Rattle.flurry_model.specs.declared.call.Call.{Call}
 use Rattle.flurry_model.specs.declared.call.Call.TheVariants as call
 use Rattle.flurry_world.specs.Parts.{Parts}
 use Rattle.flurry_world.specs.Tables.{Tables}
-use Rattle.flurry_world.specs.World.{WorldState, Near, task_of_call, IsWorld}
+use Rattle.flurry_world.specs.World.{WorldState, Near, task_of_call, IsWorld, history}
 use Rattle.flurry_drive.specs.Tells.{Tells}
 use Rattle.flurry_model.specs.declared.sizes.TheConstants.{MOST_LABELS}
 
@@ -47,7 +47,7 @@ module _ {K V F : Type 0} (cmp : K → K → Ordering) (hash : K → ℕ) (chang
     pub is_world : IsWorld cmp hash changes world
     pub control_state : world.control_state ≡ s.control_state
     pub tables : world.tables ≡ s.tables
-    pub map : pairs cmp hash (reverse world.trace) ≡ m
+    pub map : pairs cmp hash (history world) ≡ m
     pub near : Near n s.control_state.count
 
   -- the call c, on the map m, answers r and leaves m'. A call of one key replies and leaves what the finite map does; any call that is

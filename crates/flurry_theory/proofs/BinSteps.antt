@@ -9,9 +9,9 @@ use Rattle.std.proofs.lemmas.Grind.{common_steps}
 use Rattle.flurry_theory.specs.Map.{same, find, write, Allows}
 use Rattle.flurry_theory.specs.Bin.{place, rewrite, leave_out, write_entry, bin_after, number_of, bump, has_number, Entry, pairs_of, order, Above, IsAscending}
 use Rattle.flurry_model.specs.declared.call.Call.{Call}
-use Rattle.flurry_model.specs.declared.call.Call.TheVariants.{Get, GetKeyValue, ContainsKey, Insert, TryInsert, Compute, Remove, RemoveEntry, RemoveSeen, Reserve, Clear, Walk}
+use Rattle.flurry_model.specs.declared.call.Call.TheVariants.{Insert, TryInsert, Compute, Remove, RemoveEntry, RemoveSeen}
 use Rattle.flurry_model.specs.declared.reply.KeptReply.{KeptReply}
-use Rattle.flurry_model.specs.declared.reply.KeptReply.TheVariants.{Value, Pair, Contains, New, Exists}
+use Rattle.flurry_model.specs.declared.reply.KeptReply.TheVariants.{Value, New, Exists}
 use Rattle.flurry_theory.specs.Machine.{BinDid}
 use Rattle.flurry_theory.specs.Legal.{removes}
 use Rattle.flurry_model.specs.declared.call.Seen.{Seen}
@@ -183,29 +183,10 @@ module _ {K V : Type 0} (cmp : K → K → Ordering) (total : IsTotalOrder cmp) 
     -- each call does at a bin what the machine says
     pub bin_did : (c : Call K V F) (r : KeptReply K V) (es : List (Entry K V)) (n : ℕ) → IsAscending cmp hash es → Allows cmp gives c (pairs_of es) r → ((z : Seen K V) → c ≡ RemoveSeen z → removes cmp hash gives r ≡ has_number (number_of cmp es z.key) z.number) → BinDid cmp hash gives c r es n (bin_after cmp hash c r es n).0 (bin_after cmp hash c r es n).1
     bin_did (Insert k v) r es n s a q = record { allowed = a; ascending = ascending-write es k v (bump n) s; after = λ j. writes es k v (bump n) j; count = inr refl; other_numbers = λ i j h g. grind (arith, key_is h, g, number-write es k v (bump n) j); kept_numbers = λ h. absurd (grind (arith, h)); new_number = λ _ i h. inr (grind (arith, key_is h, number-write es k v (bump n) i, (one_class cmp total).refl i), refl); conditional = q }
-    bin_did (TryInsert k v) (Value None) es n s a q = record { allowed = a; ascending = s; after = λ j. refl; count = inl refl; other_numbers = λ k j _ _. refl; kept_numbers = λ _ j. refl; new_number = λ h. absurd (grind (arith, h)); conditional = q }
-    bin_did (TryInsert k v) (Value (Some w)) es n s a q = record { allowed = a; ascending = s; after = λ j. refl; count = inl refl; other_numbers = λ k j _ _. refl; kept_numbers = λ _ j. refl; new_number = λ h. absurd (grind (arith, h)); conditional = q }
-    bin_did (TryInsert k v) (Pair o) es n s a q = record { allowed = a; ascending = s; after = λ j. refl; count = inl refl; other_numbers = λ k j _ _. refl; kept_numbers = λ _ j. refl; new_number = λ h. absurd (grind (arith, h)); conditional = q }
-    bin_did (TryInsert k v) (Contains o) es n s a q = record { allowed = a; ascending = s; after = λ j. refl; count = inl refl; other_numbers = λ k j _ _. refl; kept_numbers = λ _ j. refl; new_number = λ h. absurd (grind (arith, h)); conditional = q }
     bin_did (TryInsert k v) (New w) es n s a q = try_did k v w es n s a q
-    bin_did (TryInsert k v) (Exists o p) es n s a q = record { allowed = a; ascending = s; after = λ j. refl; count = inl refl; other_numbers = λ k j _ _. refl; kept_numbers = λ _ j. refl; new_number = λ h. absurd (grind (arith, h)); conditional = q }
     bin_did (Compute k f) (Value None) es n s a q = record { allowed = a; ascending = ascending-leave_out k es s; after = λ j. find-leave_out k es j ∙ sym (find-without cmp total (pairs_of es) k j); count = inl refl; other_numbers = λ i j h g. grind (arith, key_is h, g, number-leave_out k es j); kept_numbers = λ h. absurd (grind (arith, h)); new_number = λ _ i h. inl (grind (arith, key_is h, number-leave_out k es i, (one_class cmp total).refl i)); conditional = q }
     bin_did (Compute k f) (Value (Some w)) es n s a q = compute_did k f w es n s a q
-    bin_did (Compute k f) (Pair o) es n s a q = record { allowed = a; ascending = s; after = λ j. refl; count = inl refl; other_numbers = λ k j _ _. refl; kept_numbers = λ _ j. refl; new_number = λ h. absurd (grind (arith, h)); conditional = q }
-    bin_did (Compute k f) (Contains o) es n s a q = record { allowed = a; ascending = s; after = λ j. refl; count = inl refl; other_numbers = λ k j _ _. refl; kept_numbers = λ _ j. refl; new_number = λ h. absurd (grind (arith, h)); conditional = q }
-    bin_did (Compute k f) (New w) es n s a q = record { allowed = a; ascending = s; after = λ j. refl; count = inl refl; other_numbers = λ k j _ _. refl; kept_numbers = λ _ j. refl; new_number = λ h. absurd (grind (arith, h)); conditional = q }
-    bin_did (Compute k f) (Exists o p) es n s a q = record { allowed = a; ascending = s; after = λ j. refl; count = inl refl; other_numbers = λ k j _ _. refl; kept_numbers = λ _ j. refl; new_number = λ h. absurd (grind (arith, h)); conditional = q }
     bin_did (Remove k) r es n s a q = record { allowed = a; ascending = ascending-leave_out k es s; after = λ j. find-leave_out k es j ∙ sym (find-without cmp total (pairs_of es) k j); count = inl refl; other_numbers = λ i j h g. grind (arith, key_is h, g, number-leave_out k es j); kept_numbers = λ h. absurd (grind (arith, h)); new_number = λ _ i h. inl (grind (arith, key_is h, number-leave_out k es i, (one_class cmp total).refl i)); conditional = q }
     bin_did (RemoveEntry k) r es n s a q = record { allowed = a; ascending = ascending-leave_out k es s; after = λ j. find-leave_out k es j ∙ sym (find-without cmp total (pairs_of es) k j); count = inl refl; other_numbers = λ i j h g. grind (arith, key_is h, g, number-leave_out k es j); kept_numbers = λ h. absurd (grind (arith, h)); new_number = λ _ i h. inl (grind (arith, key_is h, number-leave_out k es i, (one_class cmp total).refl i)); conditional = q }
-    bin_did (RemoveSeen y) (Value None) es n s a q = record { allowed = a; ascending = s; after = λ j. refl; count = inl refl; other_numbers = λ k j _ _. refl; kept_numbers = λ _ j. refl; new_number = λ h. absurd (grind (arith, h)); conditional = q }
     bin_did (RemoveSeen y) (Value (Some w)) es n s a q = record { allowed = a; ascending = ascending-leave_out y.key es s; after = λ j. find-leave_out y.key es j ∙ sym (find-without cmp total (pairs_of es) y.key j); count = inl refl; other_numbers = λ i j h g. grind (arith, key_is h, g, number-leave_out y.key es j); kept_numbers = λ h. absurd (grind (arith, h)); new_number = λ _ i h. inl (grind (arith, key_is h, number-leave_out y.key es i, (one_class cmp total).refl i)); conditional = q }
-    bin_did (RemoveSeen y) (Pair o) es n s a q = record { allowed = a; ascending = s; after = λ j. refl; count = inl refl; other_numbers = λ k j _ _. refl; kept_numbers = λ _ j. refl; new_number = λ h. absurd (grind (arith, h)); conditional = q }
-    bin_did (RemoveSeen y) (Contains o) es n s a q = record { allowed = a; ascending = s; after = λ j. refl; count = inl refl; other_numbers = λ k j _ _. refl; kept_numbers = λ _ j. refl; new_number = λ h. absurd (grind (arith, h)); conditional = q }
-    bin_did (RemoveSeen y) (New w) es n s a q = record { allowed = a; ascending = s; after = λ j. refl; count = inl refl; other_numbers = λ k j _ _. refl; kept_numbers = λ _ j. refl; new_number = λ h. absurd (grind (arith, h)); conditional = q }
-    bin_did (RemoveSeen y) (Exists o p) es n s a q = record { allowed = a; ascending = s; after = λ j. refl; count = inl refl; other_numbers = λ k j _ _. refl; kept_numbers = λ _ j. refl; new_number = λ h. absurd (grind (arith, h)); conditional = q }
-    bin_did (Get k) r es n s a q = record { allowed = a; ascending = s; after = λ j. refl; count = inl refl; other_numbers = λ k j _ _. refl; kept_numbers = λ _ j. refl; new_number = λ h. absurd (grind (arith, h)); conditional = q }
-    bin_did (GetKeyValue k) r es n s a q = record { allowed = a; ascending = s; after = λ j. refl; count = inl refl; other_numbers = λ k j _ _. refl; kept_numbers = λ _ j. refl; new_number = λ h. absurd (grind (arith, h)); conditional = q }
-    bin_did (ContainsKey k) r es n s a q = record { allowed = a; ascending = s; after = λ j. refl; count = inl refl; other_numbers = λ k j _ _. refl; kept_numbers = λ _ j. refl; new_number = λ h. absurd (grind (arith, h)); conditional = q }
-    bin_did (Reserve u) r es n s a q = record { allowed = a; ascending = s; after = λ j. refl; count = inl refl; other_numbers = λ k j _ _. refl; kept_numbers = λ _ j. refl; new_number = λ h. absurd (grind (arith, h)); conditional = q }
-    bin_did Clear r es n s a q = record { allowed = a; ascending = s; after = λ j. refl; count = inl refl; other_numbers = λ k j _ _. refl; kept_numbers = λ _ j. refl; new_number = λ h. absurd (grind (arith, h)); conditional = q }
-    bin_did Walk r es n s a q = record { allowed = a; ascending = s; after = λ j. refl; count = inl refl; other_numbers = λ k j _ _. refl; kept_numbers = λ _ j. refl; new_number = λ h. absurd (grind (arith, h)); conditional = q }
+    bin_did c r es n s a q = record { allowed = a; ascending = s; after = λ j. refl; count = inl refl; other_numbers = λ k j _ _. refl; kept_numbers = λ _ j. refl; new_number = λ h. absurd (grind (arith, h)); conditional = q }

@@ -13,9 +13,9 @@ use Rattle.flurry_theory.specs.Map.{Pairs, same, find, without, after, Allows, C
 use Rattle.flurry_theory.specs.Trace.{in_region}
 use Rattle.flurry_theory.specs.Bin.{Entry, pairs_of, order, past, first_past, Above, IsAscending, InRegion, half}
 use Rattle.flurry_model.specs.declared.call.Call.{Call}
-use Rattle.flurry_model.specs.declared.call.Call.TheVariants.{Get, GetKeyValue, ContainsKey, Insert, TryInsert, Compute, Remove, RemoveEntry, RemoveSeen, Reserve, Clear, Walk}
+use Rattle.flurry_model.specs.declared.call.Call.TheVariants.{Get, GetKeyValue, Insert, TryInsert, Compute, Remove, RemoveEntry, RemoveSeen, Reserve, Clear, Walk}
 use Rattle.flurry_model.specs.declared.reply.KeptReply.{KeptReply}
-use Rattle.flurry_model.specs.declared.reply.KeptReply.TheVariants.{Value, Pair, Contains, New, Exists}
+use Rattle.flurry_model.specs.declared.reply.KeptReply.TheVariants.{Value, New, Exists}
 
 pub one_class : {K : Type 0} (cmp : K → K → Ordering) → IsTotalOrder cmp → IsEquivalence (same cmp)
 one_class cmp total = eq_by_cmp_equiv total
@@ -42,89 +42,43 @@ module _ {K V : Type 0} (cmp : K → K → Ordering) (total : IsTotalOrder cmp) 
   pub find-after : {F : Type 0} (c : Call K V F) (r : KeptReply K V) (m n : Pairs K V) (j : K) → ((k : K) → key_of c ≡ Some k → find cmp m k ≡ find cmp n k) → find cmp m j ≡ find cmp n j → find cmp (after cmp c r m) j ≡ find cmp (after cmp c r n) j
   find-after (Insert k v) r m n j g h = grind (arith, h, g k refl, find-without m k j, find-without n k j)
   find-after (TryInsert k v) (New w) m n j g h = grind (arith, h, g k refl, find-without m k j, find-without n k j)
-  find-after (TryInsert k v) (Value o) m n j g h = h
-  find-after (TryInsert k v) (Pair o) m n j g h = h
-  find-after (TryInsert k v) (Contains o) m n j g h = h
-  find-after (TryInsert k v) (Exists o p) m n j g h = h
   find-after (Compute k f) (Value (Some w)) m n j g h = grind (arith, h, g k refl, find-without m k j, find-without n k j)
   find-after (Compute k f) (Value None) m n j g h = grind (arith, h, g k refl, find-without m k j, find-without n k j)
-  find-after (Compute k f) (Pair o) m n j g h = h
-  find-after (Compute k f) (Contains o) m n j g h = h
-  find-after (Compute k f) (New o) m n j g h = h
-  find-after (Compute k f) (Exists o p) m n j g h = h
   find-after (Remove k) r m n j g h = grind (arith, h, g k refl, find-without m k j, find-without n k j)
   find-after (RemoveEntry k) r m n j g h = grind (arith, h, g k refl, find-without m k j, find-without n k j)
   find-after (RemoveSeen s) (Value (Some w)) m n j g h = grind (arith, h, g s.key refl, find-without m s.key j, find-without n s.key j)
-  find-after (RemoveSeen s) (Value None) m n j g h = h
-  find-after (RemoveSeen s) (Pair o) m n j g h = h
-  find-after (RemoveSeen s) (Contains o) m n j g h = h
-  find-after (RemoveSeen s) (New o) m n j g h = h
-  find-after (RemoveSeen s) (Exists o p) m n j g h = h
-  find-after (Get k) r m n j g h = h
-  find-after (GetKeyValue k) r m n j g h = h
-  find-after (ContainsKey k) r m n j g h = h
-  find-after (Reserve k) r m n j g h = h
-  find-after Clear r m n j g h = h
-  find-after Walk r m n j g h = h
+  find-after c r m n j g h = h
 
   -- a call changes no class but its own
   pub find-after_other : {F : Type 0} (c : Call K V F) (r : KeptReply K V) (m : Pairs K V) (k j : K) → key_of c ≡ Some k → same cmp k j ≡ false → find cmp (after cmp c r m) j ≡ find cmp m j
   find-after_other (Insert i v) r m k j e f = grind (arith, find-without m i j, (one_class cmp total).congr _ i j (stored_class m i), e, f)
   find-after_other (TryInsert i v) (New w) m k j e f = grind (arith, find-without m i j, e, f)
-  find-after_other (TryInsert i v) (Value o) m k j e f = refl
-  find-after_other (TryInsert i v) (Pair o) m k j e f = refl
-  find-after_other (TryInsert i v) (Contains o) m k j e f = refl
-  find-after_other (TryInsert i v) (Exists o p) m k j e f = refl
   find-after_other (Compute i g) (Value (Some w)) m k j e f = grind (arith, find-without m i j, (one_class cmp total).congr _ i j (stored_class m i), e, f)
   find-after_other (Compute i g) (Value None) m k j e f = grind (arith, find-without m i j)
-  find-after_other (Compute i g) (Pair o) m k j e f = refl
-  find-after_other (Compute i g) (Contains o) m k j e f = refl
-  find-after_other (Compute i g) (New o) m k j e f = refl
-  find-after_other (Compute i g) (Exists o p) m k j e f = refl
   find-after_other (Remove i) r m k j e f = grind (arith, find-without m i j)
   find-after_other (RemoveEntry i) r m k j e f = grind (arith, find-without m i j)
   find-after_other (RemoveSeen s) (Value (Some w)) m k j e f = grind (arith, find-without m s.key j)
-  find-after_other (RemoveSeen s) (Value None) m k j e f = refl
-  find-after_other (RemoveSeen s) (Pair o) m k j e f = refl
-  find-after_other (RemoveSeen s) (Contains o) m k j e f = refl
-  find-after_other (RemoveSeen s) (New o) m k j e f = refl
-  find-after_other (RemoveSeen s) (Exists o p) m k j e f = refl
-  find-after_other (Get i) r m k j e f = refl
-  find-after_other (GetKeyValue i) r m k j e f = refl
-  find-after_other (ContainsKey i) r m k j e f = refl
-  find-after_other (Reserve i) r m k j e f = refl
-  find-after_other Clear r m k j e f = refl
-  find-after_other Walk r m k j e f = refl
+  find-after_other c r m k j e f = refl
 
   -- whether memory may be refused hangs on what the map has at the key's class
   pub CanBeRefused-same : {F : Type 0} (gives : F → K → V → Option V → Type 0) (c : Call K V F) (m n : Pairs K V) (k : K) → key_of c ≡ Some k → find cmp m k ≡ find cmp n k → CanBeRefused cmp gives c m → CanBeRefused cmp gives c n
   CanBeRefused-same gives (Get j) m n k e h a = subst (λ o. IsSome o) (at_key j k m n e h) a
   CanBeRefused-same gives (GetKeyValue j) m n k e h a = subst (λ o. IsSome o) (at_key j k m n e h) a
-  CanBeRefused-same gives (ContainsKey j) m n k e h a = a
   CanBeRefused-same gives (Insert j v) m n k e h a = tt
   CanBeRefused-same gives (TryInsert j v) m n k e h a = tt
   CanBeRefused-same gives (Compute j f) m n k e h a = subst (λ o. MatchOption o ⊥ (λ x. (w : V) × gives f x.0 x.1 (Some w))) (at_key j k m n e h) a
-  CanBeRefused-same gives (Remove j) m n k e h a = a
-  CanBeRefused-same gives (RemoveEntry j) m n k e h a = a
-  CanBeRefused-same gives (RemoveSeen s) m n k e h a = a
   CanBeRefused-same gives (Reserve j) m n k e h a = tt
-  CanBeRefused-same gives Clear m n k e h a = a
   CanBeRefused-same gives Walk m n k e h a = tt
+  CanBeRefused-same gives c m n k e h a = a
 
   -- what may be replied hangs on what the map has at the key's class
   pub Allows-same : {F : Type 0} (gives : F → K → V → Option V → Type 0) (c : Call K V F) (r : KeptReply K V) (m n : Pairs K V) (k : K) → key_of c ≡ Some k → find cmp m k ≡ find cmp n k → Allows cmp gives c m r → Allows cmp gives c n r
-  Allows-same gives (Get j) r m n k e h a = grind (arith, e, h, a)
-  Allows-same gives (GetKeyValue j) r m n k e h a = grind (arith, e, h, a)
-  Allows-same gives (ContainsKey j) r m n k e h a = grind (arith, e, h, a)
-  Allows-same gives (Insert j v) r m n k e h a = grind (arith, e, h, a)
   Allows-same gives (TryInsert j v) r m n k e h a = subst (λ o. MatchOption o (r ≡ New v) (λ x. r ≡ Exists x.1 v)) (at_key j k m n e h) a
   Allows-same gives (Compute j f) r m n k e h a = subst (λ o. MatchOption o (r ≡ Value None) (λ x. (w : Option V) × gives f x.0 x.1 w × (r ≡ Value w))) (at_key j k m n e h) a
-  Allows-same gives (Remove j) r m n k e h a = grind (arith, e, h, a)
-  Allows-same gives (RemoveEntry j) r m n k e h a = grind (arith, e, h, a)
-  Allows-same gives (RemoveSeen s) r m n k e h a = grind (arith, e, h, a)
   Allows-same gives (Reserve j) r m n k e h a = a
   Allows-same gives Clear r m n k e h a = a
   Allows-same gives Walk r m n k e h a = a
+  Allows-same gives c r m n k e h a = grind (arith, e, h, a)
 
 module _ {K : Type 0} (cmp : K → K → Ordering) (total : IsTotalOrder cmp) (hash : K → ℕ) (lawful : (j k : K) → same cmp j k ≡ true → hash j ≡ hash k) where
   pub order_total : IsTotalOrder (order cmp hash)
@@ -151,8 +105,7 @@ module _ {K : Type 0} (cmp : K → K → Ordering) (total : IsTotalOrder cmp) (h
 
   three_ways : (o u : Ordering) → u ≡ ordering_reverse o → (o ≡ Less) ⊎ ((o ≡ Equal) ⊎ (u ≡ Less))
   three_ways Less u h = grind arith
-  three_ways Equal u h = grind arith
-  three_ways Greater u h = grind arith
+  three_ways o u h = grind arith
 
   pub ordered : (j k : K) → (order cmp hash j k ≡ Less) ⊎ ((order cmp hash j k ≡ Equal) ⊎ (order cmp hash k j ≡ Less))
   ordered j k = three_ways (order cmp hash j k) (order cmp hash k j) (order_total.antisymm k j)

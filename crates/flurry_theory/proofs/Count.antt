@@ -11,9 +11,9 @@ use Rattle.flurry_theory.specs.Trace.{in_region}
 use Rattle.flurry_theory.specs.Bin.{Entry, pairs_of, IsAscending, InRegion}
 use Rattle.flurry_theory.proofs.Bins.{one_class, find-class, find-without, absent_below, absent_elsewhere}
 use Rattle.flurry_model.specs.declared.call.Call.{Call}
-use Rattle.flurry_model.specs.declared.call.Call.TheVariants.{Get, GetKeyValue, ContainsKey, Insert, TryInsert, Compute, Remove, RemoveEntry, RemoveSeen, Reserve, Clear, Walk}
+use Rattle.flurry_model.specs.declared.call.Call.TheVariants.{Insert, TryInsert, Compute, Remove, RemoveEntry, RemoveSeen}
 use Rattle.flurry_model.specs.declared.reply.KeptReply.{KeptReply}
-use Rattle.flurry_model.specs.declared.reply.KeptReply.TheVariants.{Value, Pair, Contains, New, Exists}
+use Rattle.flurry_model.specs.declared.reply.KeptReply.TheVariants.{Value, New}
 
 module _ {K V : Type 0} (cmp : K → K → Ordering) (total : IsTotalOrder cmp) where
   none-filter : (p : K × V → Bool) (m : Pairs K V) (k : K) → find cmp m k ≡ None → find cmp (filter p m) k ≡ None
@@ -66,60 +66,23 @@ module _ {K V : Type 0} (cmp : K → K → Ordering) (total : IsTotalOrder cmp) 
   -- a call adds one pair at most
   pub length-after : {F : Type 0} (c : Call K V F) (r : KeptReply K V) (m : Pairs K V) → length (after cmp c r m) ≤ suc (length m)
   length-after (Insert k v) r m = omega (arith, fewer-without m k)
-  length-after (TryInsert k v) (Value o) m = omega arith
-  length-after (TryInsert k v) (Pair o) m = omega arith
-  length-after (TryInsert k v) (Contains o) m = omega arith
   length-after (TryInsert k v) (New w) m = omega (arith, fewer-without m k)
-  length-after (TryInsert k v) (Exists o p) m = omega arith
   length-after (Compute k f) (Value None) m = omega (arith, fewer-without m k)
   length-after (Compute k f) (Value (Some w)) m = omega (arith, fewer-without m k)
-  length-after (Compute k f) (Pair o) m = omega arith
-  length-after (Compute k f) (Contains o) m = omega arith
-  length-after (Compute k f) (New w) m = omega arith
-  length-after (Compute k f) (Exists o p) m = omega arith
   length-after (Remove k) r m = omega (arith, fewer-without m k)
   length-after (RemoveEntry k) r m = omega (arith, fewer-without m k)
-  length-after (RemoveSeen s) (Value None) m = omega arith
   length-after (RemoveSeen s) (Value (Some w)) m = omega (arith, fewer-without m s.key)
-  length-after (RemoveSeen s) (Pair o) m = omega arith
-  length-after (RemoveSeen s) (Contains o) m = omega arith
-  length-after (RemoveSeen s) (New w) m = omega arith
-  length-after (RemoveSeen s) (Exists o p) m = omega arith
-  length-after (Get k) r m = omega arith
-  length-after (GetKeyValue k) r m = omega arith
-  length-after (ContainsKey k) r m = omega arith
-  length-after (Reserve n) r m = omega arith
-  length-after Clear r m = omega arith
-  length-after Walk r m = omega arith
+  length-after c r m = omega arith
 
   pub unique-after : {F : Type 0} (c : Call K V F) (r : KeptReply K V) (m : Pairs K V) → Unique cmp m → Unique cmp (after cmp c r m)
   unique-after (Insert k v) r m u = unique-write m k v u
-  unique-after (TryInsert k v) (Value None) m u = u
-  unique-after (TryInsert k v) (Value (Some w)) m u = u
-  unique-after (TryInsert k v) (Pair o) m u = u
-  unique-after (TryInsert k v) (Contains o) m u = u
   unique-after (TryInsert k v) (New w) m u = (gone m k k ((one_class cmp total).refl k), unique-filter (λ z. not (same cmp z.0 k)) m u)
-  unique-after (TryInsert k v) (Exists o p) m u = u
   unique-after (Compute k f) (Value None) m u = unique-filter (λ z. not (same cmp z.0 k)) m u
   unique-after (Compute k f) (Value (Some w)) m u = unique-write m k w u
-  unique-after (Compute k f) (Pair o) m u = u
-  unique-after (Compute k f) (Contains o) m u = u
-  unique-after (Compute k f) (New w) m u = u
-  unique-after (Compute k f) (Exists o p) m u = u
   unique-after (Remove k) r m u = unique-filter (λ z. not (same cmp z.0 k)) m u
   unique-after (RemoveEntry k) r m u = unique-filter (λ z. not (same cmp z.0 k)) m u
-  unique-after (RemoveSeen s) (Value None) m u = u
   unique-after (RemoveSeen s) (Value (Some w)) m u = unique-filter (λ z. not (same cmp z.0 s.key)) m u
-  unique-after (RemoveSeen s) (Pair o) m u = u
-  unique-after (RemoveSeen s) (Contains o) m u = u
-  unique-after (RemoveSeen s) (New w) m u = u
-  unique-after (RemoveSeen s) (Exists o p) m u = u
-  unique-after (Get k) r m u = u
-  unique-after (GetKeyValue k) r m u = u
-  unique-after (ContainsKey k) r m u = u
-  unique-after (Reserve n) r m u = u
-  unique-after Clear r m u = u
-  unique-after Walk r m u = u
+  unique-after c r m u = u
 
 module _ {K V : Type 0} (cmp : K → K → Ordering) (total : IsTotalOrder cmp) (hash : K → ℕ) (lawful : (j k : K) → same cmp j k ≡ true → hash j ≡ hash k) where
   unique-bin : (es : List (Entry K V)) → IsAscending cmp hash es → Unique cmp (pairs_of es)

@@ -1,5 +1,5 @@
 -- The count and what the parties owe.
-use Rattle.std.specs.Prelude.{length, ℕ, pos, neg_ℤ, ◌≤ℤ◌, ◌+ℤ◌, ◌-ℤ◌, zero, suc, Some, ◌+◌, ◌-◌, ◌%◌, ◌^◌, ◌<◌, ◌≤◌, nat_lt, cond, if◌then◌else◌, Bool, true, false, not, List, [], ◌∷◌, Option, None, ◌≡◌, ◌⊎◌}
+use Rattle.std.specs.Prelude.{length, ℕ, pos, neg_ℤ, ◌≤ℤ◌, zero, suc, Some, ◌+◌, ◌-◌, ◌%◌, ◌^◌, ◌<◌, ◌≤◌, cond, if◌then◌else◌, Bool, true, false, not, List, [], ◌∷◌, Option, None, ◌≡◌, ◌⊎◌}
 use Rattle.std.specs.declared.cmp.Ordering.{Ordering}
 use Rattle.std.specs.Cmp.{IsTotalOrder}
 use Rattle.std.proofs.Common.{arith, refl, sym, ◌∙◌, ap, subst, inl, inr}
@@ -8,7 +8,7 @@ use Rattle.std.proofs.lemmas.Bool.{eq-eqb, ne_eqb, cases_lt, cond-false, false_f
 use Rattle.flurry_theory.specs.Map.{Unique, same, find, after}
 use Rattle.flurry_theory.specs.Trace.{map_after_decision, in_region, pairs, at}
 use Rattle.flurry_theory.specs.Bin.{Entry}
-use Rattle.flurry_theory.specs.Machine.{RefusedAt, Mode, Locating, Looking, Walking, Clearing, Done, halves, onward, found_by, owes_added, owes_removed, mode_after_count, State, Transition, Can, does, at_bin, at_place, Live, Finished, Frame, Begins, Quiet, Loses, Counts, Finds, Opens, FindsNothing, IsRefused, DecidesEmpty, Passes, Decides, Places, Claims, Moves, Reports, Publishes, Reads, Leaves, Splits, Wipes, SplitsClear, Replies, Ends}
+use Rattle.flurry_theory.specs.Machine.{RefusedAt, Mode, Locating, Looking, Walking, Clearing, Done, halves, onward, found_by, owes_added, owes_removed, mode_after_count, State, Transition, Can, does, at_bin, at_place, Live, Finished, Frame, Begins, Counts, Finds, Opens, FindsNothing, IsRefused, DecidesEmpty, Passes, Decides, Reads, Leaves, Splits, Wipes, SplitsClear, Replies, Ends}
 use Rattle.flurry_theory.specs.Machine.{total}
 use Rattle.flurry_theory.specs.Invariant.{PartyOk, Tables, home_after, IsCounted}
 use Rattle.flurry_theory.proofs.Bins.{find-after_other, find-wiped}
@@ -18,8 +18,9 @@ use Rattle.flurry_model.specs.declared.call.Call.{Call}
 use Rattle.flurry_model.specs.declared.reply.KeptReply.{KeptReply}
 use Rattle.flurry_theory.specs.declared.Label.TheVariants.{Decide, Wipe}
 use Rattle.flurry_theory.proofs.Walks.{held}
+use Rattle.flurry_theory.proofs.OwnSteps.{onward_is}
 use Rattle.flurry_theory.proofs.Refusals.{refused_at_work}
-use Rattle.flurry_model.specs.declared.call.Call.TheVariants.{Get, GetKeyValue, ContainsKey, Insert, TryInsert, Compute, Remove, RemoveEntry, RemoveSeen, Reserve, Clear, Walk}
+use Rattle.flurry_model.specs.declared.call.Call.TheVariants.{Clear}
 
 -- what is owed after one party's mode was changed
 placed_owed : {K V : Type 0} (owes : Mode K V → ℕ) (modes : ℕ → Mode K V) (p n : ℕ) (m : Mode K V) → p < n → total (λ q. owes (at_place modes p m q)) n + owes (modes p) ≡ total (λ q. owes (modes q)) n + owes m
@@ -36,32 +37,15 @@ still_owed {K = K} {V = V} owes modes whose (suc n) z = omega (arith, still_owed
 
 settled_added : {K V : Type 0} (m : Mode K V) → owes_added (mode_after_count m) ≡ 0
 settled_added Locating = refl
-settled_added (Looking e) = refl
-settled_added (Walking e i fs) = refl
-settled_added (Clearing wiped e i fs) = refl
-settled_added (Done r x y) = refl
-settled_added Finished = refl
+settled_added m = refl
 
 settled_removed : {K V : Type 0} (m : Mode K V) → owes_removed (mode_after_count m) ≡ 0
 settled_removed Locating = refl
-settled_removed (Looking e) = refl
-settled_removed (Walking e i fs) = refl
-settled_removed (Clearing wiped e i fs) = refl
-settled_removed (Done r x y) = refl
-settled_removed Finished = refl
+settled_removed m = refl
 
 -- one more party, that owes nothing
 begun_owed : {K V : Type 0} (owes : Mode K V → ℕ) (modes : ℕ → Mode K V) (n : ℕ) (m : Mode K V) → owes m ≡ 0 → total (λ q. owes (at_place modes n m q)) (suc n) ≡ total (λ q. owes (modes q)) n
 begun_owed owes modes n m z = omega (arith, z, total-same (λ q. owes (at_place modes n m q)) (λ q. owes (modes q)) n (λ q l. ap owes (place_other modes n q m (λ e. omega (arith, e, l)))), ap owes (place_here modes n m))
-
--- a walk or a clear owes the same behind a frame that is done
-onward_owed : {K V : Type 0} (owes : Mode K V → ℕ) (n : ℕ) (to : ℕ → ℕ → List (Frame K) → Mode K V) (end : Mode K V) (e i : ℕ) (fs : List (Frame K)) → ((d j : ℕ) (gs : List (Frame K)) → owes (to d j gs) ≡ n) → owes end ≡ n → owes (onward to end e i fs) ≡ n
-onward_owed owes n to end e i (f ∷ fs) h z = h e i (f ∷ fs)
-onward_owed owes n to end e i [] h z = go (nat_lt (suc i) (2 ^ e))
-  where
-    go : (b : Bool) → owes (cond b (to e (suc i) (record { table = e; index = suc i; bound = None } ∷ [])) end) ≡ n
-    go true = h e (suc i) (record { table = e; index = suc i; bound = None } ∷ [])
-    go false = z
 
 module _ {K V F : Type 0} (cmp : K → K → Ordering) (total_order : IsTotalOrder cmp) (hash : K → ℕ) (lawful : (j k : K) → same cmp j k ≡ true → hash j ≡ hash k) (gives : F → K → V → Option V → Type 0) where
   known : (s : State K V F) (p : ℕ) → PartyOk s p → (s.mode p ≡ Finished → ⊥) → p < s.parties
@@ -73,38 +57,35 @@ module _ {K V F : Type 0} (cmp : K → K → Ordering) (total_order : IsTotalOrd
 
   -- a table that is found leaves nothing owed
   found_owed : (call : Option (Call K V F)) (e : ℕ) → (owes_added (found_by cmp hash gives call e) ≡ 0) × (owes_removed (found_by cmp hash gives call e) ≡ 0)
-  found_owed None e = (refl, refl)
-  found_owed (Some (Get k)) e = (refl, refl)
-  found_owed (Some (GetKeyValue k)) e = (refl, refl)
-  found_owed (Some (ContainsKey k)) e = (refl, refl)
-  found_owed (Some (Insert k v)) e = (refl, refl)
-  found_owed (Some (TryInsert k v)) e = (refl, refl)
-  found_owed (Some (Compute k f)) e = (refl, refl)
-  found_owed (Some (Remove k)) e = (refl, refl)
-  found_owed (Some (RemoveEntry k)) e = (refl, refl)
-  found_owed (Some (RemoveSeen z)) e = (refl, refl)
-  found_owed (Some (Reserve n)) e = (refl, refl)
   found_owed (Some Clear) e = (refl, refl)
-  found_owed (Some Walk) e = (refl, refl)
+  found_owed call e = (refl, refl)
 
   -- and so does a refusal
   refused_owed : (s : State K V F) (c : Call K V F) (m : Mode K V) → RefusedAt cmp hash gives s c m → (owes_added m ≡ 0) × (owes_removed m ≡ 0)
-  refused_owed s c Locating h = (refl, refl)
-  refused_owed s c (Looking e) h = (refl, refl)
-  refused_owed s c (Walking e i fs) h = (refl, refl)
   refused_owed s c (Clearing wiped e i fs) h = absurd h
   refused_owed s c (Done None x y) h = (h.3, h.4)
   refused_owed s c (Done (Some r) x y) h = absurd h
   refused_owed s c Finished h = absurd h
+  refused_owed s c m h = (refl, refl)
 
-  -- where a party's mode changes, and not what it owes, nor the map
-  moves_on : (s : State K V F) (p : ℕ) (m : Mode K V) → PartyOk s p → (s.mode p ≡ Finished → ⊥) → owes_added m ≡ owes_added (s.mode p) → owes_removed m ≡ owes_removed (s.mode p) → IsCounted cmp hash s
-      → (pos (length (pairs cmp hash s.trace)) ≡ s.count +ℤ pos (total (λ q. owes_added (at_place s.mode p m q)) s.parties) -ℤ pos (total (λ q. owes_removed (at_place s.mode p m q)) s.parties))
-      × (length (pairs cmp hash s.trace) + total (λ q. owes_removed (at_place s.mode p m q)) s.parties ≤ suc (length s.trace)) × (total (λ q. owes_added (at_place s.mode p m q)) s.parties ≤ suc (length s.trace))
-  moves_on s p m o f a b v =
-      let x : total (λ q. owes_added (at_place s.mode p m q)) s.parties ≡ total (λ q. owes_added (s.mode q)) s.parties = omega (arith, a, placed_owed owes_added s.mode p s.parties m (known s p o f)) in
-      let y : total (λ q. owes_removed (at_place s.mode p m q)) s.parties ≡ total (λ q. owes_removed (s.mode q)) s.parties = omega (arith, b, placed_owed owes_removed s.mode p s.parties m (known s p o f)) in
-      (omega (arith, ints, v.balance, x, y), omega (arith, v.held, y), omega (arith, v.owed, x))
+  -- where a party's mode changes, and the map with what it then owes
+  moves_counted : (s z : State K V F) (p : ℕ) (m : Mode K V) → z.count ≡ s.count → z.parties ≡ s.parties → z.mode ≡ at_place s.mode p m → length z.trace ≡ suc (length s.trace) → PartyOk s p → (s.mode p ≡ Finished → ⊥) → Unique cmp (pairs cmp hash z.trace)
+      → length (pairs cmp hash z.trace) + owes_removed m + owes_added (s.mode p) ≡ length (pairs cmp hash s.trace) + owes_removed (s.mode p) + owes_added m
+      → length (pairs cmp hash z.trace) + owes_removed m ≤ suc (length (pairs cmp hash s.trace) + owes_removed (s.mode p)) → IsCounted cmp hash s → IsCounted cmp hash z
+  moves_counted s z p m c n mode longer o f unique same most v = record {
+    unique = unique;
+    balance = omega (arith, ints, v.balance, c, same, now owes_added, now owes_removed);
+    held = omega (arith, v.held, longer, most, now owes_removed);
+    owed = omega (arith, v.owed, longer, same, most, now owes_added);
+  }
+    where
+      now : (owes : Mode K V → ℕ) → total (λ q. owes (z.mode q)) z.parties + owes (s.mode p) ≡ total (λ q. owes (s.mode q)) s.parties + owes m
+      now owes = ap (λ i. total (λ q. owes (z.mode q)) i + owes (s.mode p)) n ∙ ap (λ modes. total (λ q. owes (modes q)) s.parties + owes (s.mode p)) mode ∙ placed_owed owes s.mode p s.parties m (known s p o f)
+
+  -- and where neither does
+  moves_on : (s z : State K V F) (p : ℕ) (m : Mode K V) → z.count ≡ s.count → z.parties ≡ s.parties → z.mode ≡ at_place s.mode p m → length z.trace ≡ suc (length s.trace) → pairs cmp hash z.trace ≡ pairs cmp hash s.trace → PartyOk s p → (s.mode p ≡ Finished → ⊥)
+      → owes_added m ≡ owes_added (s.mode p) → owes_removed m ≡ owes_removed (s.mode p) → IsCounted cmp hash s → IsCounted cmp hash z
+  moves_on s z p m c n mode longer same o f a b v = moves_counted s z p m c n mode longer o f (subst (Unique cmp) (sym same) v.unique) (omega (arith, a, b, ap length same)) (omega (arith, b, ap length same)) v
 
   counts_counted : (s : State K V F) (p : ℕ) (whose : ℕ → Bool) → IsCounted cmp hash s → IsCounted cmp hash (does cmp hash gives s p (Counts whose))
   counts_counted s p whose v = record {
@@ -123,16 +104,8 @@ module _ {K V F : Type 0} (cmp : K → K → Ordering) (total_order : IsTotalOrd
   }
 
   decides_counted : (home : ℕ → ℕ) (s : State K V F) (p : ℕ) (c : Call K V F) (k : K) (e : ℕ) (es : List (Entry K V)) (n : ℕ) (r : KeptReply K V) (fs : List (Entry K V)) (m : ℕ) → Can cmp hash gives s p (Decides c k e es n r fs m) → PartyOk s p → Tables cmp hash home s → Tables cmp hash home (does cmp hash gives s p (Decides c k e es n r fs m)) → IsCounted cmp hash s → IsCounted cmp hash (does cmp hash gives s p (Decides c k e es n r fs m))
-  decides_counted home s p c k e es n r fs m can o t t' v = record {
-    unique = unique;
-    balance = omega (arith, ints, v.balance, moves, ap owes_added can.2, ap owes_removed can.2, placed_owed owes_added s.mode p s.parties (Done (Some r) (length fs - length es) (length es - length fs)) l, placed_owed owes_removed s.mode p s.parties (Done (Some r) (length fs - length es) (length es - length fs)) l);
-    held = omega (arith, v.held, one, moves, ap owes_added can.2, ap owes_removed can.2, placed_owed owes_added s.mode p s.parties (Done (Some r) (length fs - length es) (length es - length fs)) l, placed_owed owes_removed s.mode p s.parties (Done (Some r) (length fs - length es) (length es - length fs)) l);
-    owed = omega (arith, v.owed, one, moves, ap owes_added can.2, ap owes_removed can.2, placed_owed owes_added s.mode p s.parties (Done (Some r) (length fs - length es) (length es - length fs)) l, placed_owed owes_removed s.mode p s.parties (Done (Some r) (length fs - length es) (length es - length fs)) l);
-  }
+  decides_counted home s p c k e es n r fs m can o t t' v = moves_counted s _ p (Done (Some r) (length fs - length es) (length es - length fs)) refl refl refl refl o (λ h. grind (arith, h, can.2)) unique (omega (arith, moves, ap owes_added can.2, ap owes_removed can.2)) (omega (arith, one, moves, ap owes_removed can.2)) v
     where
-      l : p < s.parties
-      l = known s p o (λ h. grind (arith, h, can.2))
-
       is : pairs cmp hash (Decide p r ∷ s.trace) ≡ after cmp c r (pairs cmp hash s.trace)
       is = ap (λ u. map_after_decision cmp hash u r (pairs cmp hash s.trace)) (o.call ∙ can.0)
 
@@ -152,46 +125,10 @@ module _ {K V F : Type 0} (cmp : K → K → Ordering) (total_order : IsTotalOrd
           (λ j g. sym (ap (λ u. find cmp u j) is ∙ find-after_other cmp total_order c r (pairs cmp hash s.trace) k j can.1 (false_from_ne_true (same cmp k j) (λ y. g (ap (λ h. h % 2 ^ e) (sym (lawful k j y)))))))
 
   wipes_counted : (home : ℕ → ℕ) (s : State K V F) (p wiped e i : ℕ) (f : Frame K) (fs : List (Frame K)) (es : List (Entry K V)) (n : ℕ) → Can cmp hash gives s p (Wipes wiped e i f fs es n) → PartyOk s p → Tables cmp hash home s → Tables cmp hash home (does cmp hash gives s p (Wipes wiped e i f fs es n)) → IsCounted cmp hash s → IsCounted cmp hash (does cmp hash gives s p (Wipes wiped e i f fs es n))
-  wipes_counted home s p wiped e i f fs es n can o t t' v = record {
-    unique = unique;
-    balance = omega (
-      arith,
-      ints,
-      v.balance,
-      moves,
-      ap owes_added can.0,
-      ap owes_removed can.0,
-      placed_owed owes_added s.mode p s.parties (onward (Clearing (wiped + length es)) (Done None 0 (wiped + length es)) e i fs) l,
-      placed_owed owes_removed s.mode p s.parties (onward (Clearing (wiped + length es)) (Done None 0 (wiped + length es)) e i fs) l,
-      onward_owed {V = V} owes_added 0 (Clearing (wiped + length es)) (Done None 0 (wiped + length es)) e i fs (λ _ _ _. refl) refl,
-      onward_owed {V = V} owes_removed (wiped + length es) (Clearing (wiped + length es)) (Done None 0 (wiped + length es)) e i fs (λ _ _ _. refl) refl,
-    );
-    held = omega (
-      arith,
-      v.held,
-      moves,
-      ap owes_added can.0,
-      ap owes_removed can.0,
-      placed_owed owes_added s.mode p s.parties (onward (Clearing (wiped + length es)) (Done None 0 (wiped + length es)) e i fs) l,
-      placed_owed owes_removed s.mode p s.parties (onward (Clearing (wiped + length es)) (Done None 0 (wiped + length es)) e i fs) l,
-      onward_owed {V = V} owes_added 0 (Clearing (wiped + length es)) (Done None 0 (wiped + length es)) e i fs (λ _ _ _. refl) refl,
-      onward_owed {V = V} owes_removed (wiped + length es) (Clearing (wiped + length es)) (Done None 0 (wiped + length es)) e i fs (λ _ _ _. refl) refl,
-    );
-    owed = omega (
-      arith,
-      v.owed,
-      moves,
-      ap owes_added can.0,
-      ap owes_removed can.0,
-      placed_owed owes_added s.mode p s.parties (onward (Clearing (wiped + length es)) (Done None 0 (wiped + length es)) e i fs) l,
-      placed_owed owes_removed s.mode p s.parties (onward (Clearing (wiped + length es)) (Done None 0 (wiped + length es)) e i fs) l,
-      onward_owed {V = V} owes_added 0 (Clearing (wiped + length es)) (Done None 0 (wiped + length es)) e i fs (λ _ _ _. refl) refl,
-      onward_owed {V = V} owes_removed (wiped + length es) (Clearing (wiped + length es)) (Done None 0 (wiped + length es)) e i fs (λ _ _ _. refl) refl,
-    );
-  }
+  wipes_counted home s p wiped e i f fs es n can o t t' v = moves_counted s _ p (onward (Clearing (wiped + length es)) (Done None 0 (wiped + length es)) e i fs) refl refl refl refl o (λ h. grind (arith, h, can.0)) unique (omega (arith, moves, owes, ap owes_added can.0, ap owes_removed can.0)) (omega (arith, moves, owes, ap owes_removed can.0)) v
     where
-      l : p < s.parties
-      l = known s p o (λ h. grind (arith, h, can.0))
+      owes : (owes_added {V = V} (onward (Clearing (wiped + length es)) (Done None 0 (wiped + length es)) e i fs) ≡ 0) × (owes_removed {V = V} (onward (Clearing (wiped + length es)) (Done None 0 (wiped + length es)) e i fs) ≡ wiped + length es)
+      owes = onward_is {V = V} (λ m. (owes_added m ≡ 0) × (owes_removed m ≡ wiped + length es)) (Clearing (wiped + length es)) (Done None 0 (wiped + length es)) e i fs (λ _ _. (refl, refl)) (refl, refl)
 
       unique : Unique cmp (pairs cmp hash (Wipe p f.table f.index ∷ s.trace))
       unique = unique-filter cmp total_order (λ x. not (in_region f.table f.index (hash x.0))) (pairs cmp hash s.trace) v.unique
@@ -206,44 +143,35 @@ module _ {K V F : Type 0} (cmp : K → K → Ordering) (total_order : IsTotalOrd
           (λ j g. sym (find-wiped cmp total_order hash lawful f.table f.index (pairs cmp hash s.trace) j ∙ cond-false (in_region f.table f.index (hash j)) None (at cmp hash s.trace j) (ne_eqb _ _ g)))
 
   empty_counted : (home : ℕ → ℕ) (s : State K V F) (p : ℕ) (c : Call K V F) (r : KeptReply K V) → Can cmp hash gives s p (DecidesEmpty c r) → PartyOk s p → Tables cmp hash home s → Tables cmp hash home (does cmp hash gives s p (DecidesEmpty c r)) → IsCounted cmp hash s → IsCounted cmp hash (does cmp hash gives s p (DecidesEmpty c r))
-  empty_counted home s p c r can o t t' v = record {
-    unique = unique;
-    balance = omega (arith, ints, same.0, same_length cmp total_order (pairs cmp hash s.trace) [] v.unique tt (t.empty can.2), same_length cmp total_order (pairs cmp hash (Decide p r ∷ s.trace)) [] unique tt (t'.empty can.2));
-    held = omega (arith, same.1, same_length cmp total_order (pairs cmp hash s.trace) [] v.unique tt (t.empty can.2), same_length cmp total_order (pairs cmp hash (Decide p r ∷ s.trace)) [] unique tt (t'.empty can.2));
-    owed = same.2;
-  }
+  empty_counted home s p c r can o t t' v = moves_counted s _ p (Done (Some r) 0 0) refl refl refl refl o (λ h. grind (arith, h, can.1)) unique (omega (arith, none, none', ap owes_added can.1, ap owes_removed can.1)) (omega (arith, none')) v
     where
-      same : (pos (length (pairs cmp hash s.trace)) ≡ s.count +ℤ pos (total (λ q. owes_added (at_place s.mode p (Done (Some r) 0 0) q)) s.parties) -ℤ pos (total (λ q. owes_removed (at_place s.mode p (Done (Some r) 0 0) q)) s.parties))
-          × (length (pairs cmp hash s.trace) + total (λ q. owes_removed (at_place s.mode p (Done (Some r) 0 0) q)) s.parties ≤ suc (length s.trace)) × (total (λ q. owes_added (at_place s.mode p (Done (Some r) 0 0) q)) s.parties ≤ suc (length s.trace))
-      same = moves_on s p (Done (Some r) 0 0) o (λ h. grind (arith, h, can.1)) (sym (ap owes_added can.1)) (sym (ap owes_removed can.1)) v
+      none : length (pairs cmp hash s.trace) ≡ 0
+      none = same_length cmp total_order (pairs cmp hash s.trace) [] v.unique tt (t.empty can.2)
 
       unique : Unique cmp (pairs cmp hash (Decide p r ∷ s.trace))
       unique = subst (Unique cmp) (sym (ap (λ u. map_after_decision cmp hash u r (pairs cmp hash s.trace)) (o.call ∙ can.0))) (unique-after cmp total_order c r (pairs cmp hash s.trace) v.unique)
 
+      none' : length (pairs cmp hash (Decide p r ∷ s.trace)) ≡ 0
+      none' = same_length cmp total_order (pairs cmp hash (Decide p r ∷ s.trace)) [] unique tt (t'.empty can.2)
+
   pub counted_ok : (home : ℕ → ℕ) (s : State K V F) (p : ℕ) (l : Transition K V F) → Can cmp hash gives s p l → PartyOk s p → Tables cmp hash home s → Tables cmp hash (home_after home l) (does cmp hash gives s p l) → IsCounted cmp hash s → IsCounted cmp hash (does cmp hash gives s p l)
   counted_ok home s p (Begins c y) can o t u v = begins_counted s p c y can v
-  counted_ok home s p Quiet can o t u v = record { unique = v.unique; balance = v.balance; held = omega (arith, v.held); owed = omega (arith, v.owed) }
-  counted_ok home s p Loses can o t u v = record { unique = v.unique; balance = v.balance; held = omega (arith, v.held); owed = omega (arith, v.owed) }
   counted_ok home s p (Counts whose) can o t u v = counts_counted s p whose v
-  counted_ok home s p (Finds e) can o t u v = let b = moves_on s p (found_by cmp hash gives (s.call p) e) o (λ h. grind (arith, h, can.2)) ((found_owed (s.call p) e).0 ∙ sym (ap owes_added can.2)) ((found_owed (s.call p) e).1 ∙ sym (ap owes_removed can.2)) v in record { unique = v.unique; balance = b.0; held = b.1; owed = b.2 }
-  counted_ok home s p (Opens e) can o t u v = let b = moves_on s p (found_by cmp hash gives (s.call p) e) o (λ h. grind (arith, h, can.2)) ((found_owed (s.call p) e).0 ∙ sym (ap owes_added can.2)) ((found_owed (s.call p) e).1 ∙ sym (ap owes_removed can.2)) v in record { unique = v.unique; balance = b.0; held = b.1; owed = b.2 }
-  counted_ok home s p FindsNothing can o t u v = let b = moves_on s p (Done None 0 0) o (λ h. grind (arith, h, can.2)) (sym (ap owes_added can.2)) (sym (ap owes_removed can.2)) v in record { unique = v.unique; balance = b.0; held = b.1; owed = b.2 }
-  counted_ok home s p IsRefused can o t u v = let b = moves_on s p Finished o (refused_at_work cmp hash gives s p can).0 (sym (refused_owed s can.0 (s.mode p) can.3).0) (sym (refused_owed s can.0 (s.mode p) can.3).1) v in record { unique = v.unique; balance = b.0; held = b.1; owed = b.2 }
+  counted_ok home s p (Finds e) can o t u v = moves_on s _ p (found_by cmp hash gives (s.call p) e) refl refl refl refl refl o (λ h. grind (arith, h, can.2)) ((found_owed (s.call p) e).0 ∙ sym (ap owes_added can.2)) ((found_owed (s.call p) e).1 ∙ sym (ap owes_removed can.2)) v
+  counted_ok home s p (Opens e) can o t u v = moves_on s _ p (found_by cmp hash gives (s.call p) e) refl refl refl refl refl o (λ h. grind (arith, h, can.2)) ((found_owed (s.call p) e).0 ∙ sym (ap owes_added can.2)) ((found_owed (s.call p) e).1 ∙ sym (ap owes_removed can.2)) v
+  counted_ok home s p FindsNothing can o t u v = moves_on s _ p (Done None 0 0) refl refl refl refl refl o (λ h. grind (arith, h, can.2)) (sym (ap owes_added can.2)) (sym (ap owes_removed can.2)) v
+  counted_ok home s p IsRefused can o t u v = moves_on s _ p Finished refl refl refl refl refl o (refused_at_work cmp hash gives s p can).0 (sym (refused_owed s can.0 (s.mode p) can.3).0) (sym (refused_owed s can.0 (s.mode p) can.3).1) v
   counted_ok home s p (DecidesEmpty c r) can o t u v = empty_counted home s p c r can o t u v
-  counted_ok home s p (Passes e) can o t u v = let b = moves_on s p (Looking (suc e)) o (λ h. grind (arith, h, can.4)) (sym (ap owes_added can.4)) (sym (ap owes_removed can.4)) v in record { unique = v.unique; balance = b.0; held = b.1; owed = b.2 }
+  counted_ok home s p (Passes e) can o t u v = moves_on s _ p (Looking (suc e)) refl refl refl refl refl o (λ h. grind (arith, h, can.4)) (sym (ap owes_added can.4)) (sym (ap owes_removed can.4)) v
   counted_ok home s p (Decides c k e es n r fs m) can o t u v = decides_counted home s p c k e es n r fs m can o t u v
-  counted_ok home s p (Places e) can o t u v = record { unique = v.unique; balance = v.balance; held = omega (arith, v.held); owed = omega (arith, v.owed) }
-  counted_ok home s p (Claims e gr low) can o t u v = record { unique = v.unique; balance = v.balance; held = omega (arith, v.held); owed = omega (arith, v.owed) }
-  counted_ok home s p (Moves a i es n) can o t u v = record { unique = v.unique; balance = v.balance; held = omega (arith, v.held); owed = omega (arith, v.owed) }
-  counted_ok home s p (Reports a gr) can o t u v = record { unique = v.unique; balance = v.balance; held = omega (arith, v.held); owed = omega (arith, v.owed) }
-  counted_ok home s p (Publishes e gr) can o t u v = record { unique = v.unique; balance = v.balance; held = omega (arith, v.held); owed = omega (arith, v.owed) }
-  counted_ok home s p (Reads e i f fs es n x) can o t u v = let b = moves_on s p (Walking e i (record { table = f.table; index = f.index; bound = Some x.key } ∷ fs)) o (λ h. grind (arith, h, can.0)) (sym (ap owes_added can.0)) (sym (ap owes_removed can.0)) v in record { unique = v.unique; balance = b.0; held = b.1; owed = b.2 }
-  counted_ok home s p (Leaves e i f fs es n) can o t u v = let b = moves_on s p (onward Walking (Done None 0 0) e i fs) o (λ h. grind (arith, h, can.0)) (onward_owed owes_added 0 Walking (Done None 0 0) e i fs (λ _ _ _. refl) refl ∙ sym (ap owes_added can.0)) (onward_owed owes_removed 0 Walking (Done None 0 0) e i fs (λ _ _ _. refl) refl ∙ sym (ap owes_removed can.0)) v in record { unique = v.unique; balance = b.0; held = b.1; owed = b.2 }
-  counted_ok home s p (Splits e i f fs) can o t u v = let b = moves_on s p (Walking e i (halves f fs)) o (λ h. grind (arith, h, can.0)) (sym (ap owes_added can.0)) (sym (ap owes_removed can.0)) v in record { unique = v.unique; balance = b.0; held = b.1; owed = b.2 }
+  counted_ok home s p (Reads e i f fs es n x) can o t u v = moves_on s _ p (Walking e i (record { table = f.table; index = f.index; bound = Some x.key } ∷ fs)) refl refl refl refl refl o (λ h. grind (arith, h, can.0)) (sym (ap owes_added can.0)) (sym (ap owes_removed can.0)) v
+  counted_ok home s p (Leaves e i f fs es n) can o t u v = moves_on s _ p (onward Walking (Done None 0 0) e i fs) refl refl refl refl refl o (λ h. grind (arith, h, can.0)) (onward_is {V = V} (λ m. owes_added m ≡ 0) Walking (Done None 0 0) e i fs (λ _ _. refl) refl ∙ sym (ap owes_added can.0)) (onward_is {V = V} (λ m. owes_removed m ≡ 0) Walking (Done None 0 0) e i fs (λ _ _. refl) refl ∙ sym (ap owes_removed can.0)) v
+  counted_ok home s p (Splits e i f fs) can o t u v = moves_on s _ p (Walking e i (halves f fs)) refl refl refl refl refl o (λ h. grind (arith, h, can.0)) (sym (ap owes_added can.0)) (sym (ap owes_removed can.0)) v
   counted_ok home s p (Wipes wiped e i f fs es n) can o t u v = wipes_counted home s p wiped e i f fs es n can o t u v
-  counted_ok home s p (SplitsClear wiped e i f fs) can o t u v = let b = moves_on s p (Clearing wiped e i (halves f fs)) o (λ h. grind (arith, h, can.0)) (sym (ap owes_added can.0)) (sym (ap owes_removed can.0)) v in record { unique = v.unique; balance = b.0; held = b.1; owed = b.2 }
-  counted_ok home s p (Replies r) can o t u v = let b = moves_on s p (Finished) o (λ h. grind (arith, h, can.3)) (sym (ap owes_added can.3)) (sym (ap owes_removed can.3)) v in record { unique = v.unique; balance = b.0; held = b.1; owed = b.2 }
-  counted_ok home s p Ends can o t u v = let b = moves_on s p (Finished) o (λ h. grind (arith, h, can.3)) (sym (ap owes_added can.3)) (sym (ap owes_removed can.3)) v in record { unique = v.unique; balance = b.0; held = b.1; owed = b.2 }
+  counted_ok home s p (SplitsClear wiped e i f fs) can o t u v = moves_on s _ p (Clearing wiped e i (halves f fs)) refl refl refl refl refl o (λ h. grind (arith, h, can.0)) (sym (ap owes_added can.0)) (sym (ap owes_removed can.0)) v
+  counted_ok home s p (Replies r) can o t u v = moves_on s _ p Finished refl refl refl refl refl o (λ h. grind (arith, h, can.3)) (sym (ap owes_added can.3)) (sym (ap owes_removed can.3)) v
+  counted_ok home s p Ends can o t u v = moves_on s _ p Finished refl refl refl refl refl o (λ h. grind (arith, h, can.3)) (sym (ap owes_added can.3)) (sym (ap owes_removed can.3)) v
+  counted_ok home s p l can o t u v = record { unique = v.unique; balance = v.balance; held = omega (arith, v.held); owed = omega (arith, v.owed) }
 
   -- once every party is finished, nobody owes, and the count is the number of pairs
   pub nothing_owed : (s : State K V F) → IsCounted cmp hash s → ((p : ℕ) → p < s.parties → s.mode p ≡ Finished) → pos (length (pairs cmp hash s.trace)) ≡ s.count

@@ -63,7 +63,7 @@ read_twice : Walks (Read 2 1 1 ∷ walked) → ⊥
 read_twice h = h.0.1 (grind (arith))
 
 missed : Walks (End 2 ∷ Silent 2 ∷ Read 2 1 1 ∷ Silent 2 ∷ Begin 2 Walk ∷ two_pairs) → ⊥
-missed h = grind (arith, h.0 (Walk, refl, tt) 17 (grind arith))
+missed h = grind (arith, h.0 (Walk, refl, refl) 17 (grind arith))
 
 -- table 5 is published though a bin of table 4 was not moved
 too_early : EachMay {K = ℕ} {V = ℕ} {F = ⊤} (GrowthMay (Some 0)) (Published 1 ∷ Placed 1 ∷ []) → ⊥
@@ -135,4 +135,4 @@ cleared_empty : Clears (End 0 ∷ Silent 0 ∷ Begin 0 Clear ∷ [])
 cleared_empty = (λ _ k. (refl, inl (refl, refl))) ⊗ tt ⊗ tt ⊗ tt
 
 ended_at_once : Clears (End 0 ∷ Begin 0 Clear ∷ []) → ⊥
-ended_at_once h = grind (arith, h.0 (Clear, refl, tt) 1)
+ended_at_once h = grind (arith, h.0 (Clear, refl, refl) 1)

@@ -1,40 +1,31 @@
 -- Look-ups decide within 32 steps, and then reply.
-use Rattle.std.specs.Prelude.{length, ℕ, suc, ◌+◌, ◌<◌, ◌≤◌, ◌==◌, true, false, ◌∷◌, Option, Some, None, is_some, if◌then◌else◌, ◌≡◌, ◌⊎◌}
+use Rattle.std.specs.Prelude.{length, ℕ, suc, ◌+◌, ◌<◌, ◌≤◌, true, false, Option, Some, None, is_some, if◌then◌else◌, ◌≡◌, ◌⊎◌}
 use Rattle.std.specs.declared.cmp.Ordering.{Ordering}
 use Rattle.std.specs.Cmp.{IsTotalOrder}
-use Rattle.std.proofs.Common.{arith, refl, sym, ◌∙◌, ap, subst, subst₂, inl, inr}
-use Rattle.std.proofs.lemmas.Bool.{eq-eqb, ne_eqb, cases_eq, cond-true, cond-false}
+use Rattle.std.proofs.Common.{arith, refl, sym, ◌∙◌, ap, subst, inl, inr}
+use Rattle.std.proofs.lemmas.Bool.{cases_eq}
 use Rattle.flurry_theory.specs.Map.{same}
 use Rattle.flurry_theory.specs.Trace.{decision, has_replied, has_closed, is_lookup}
 use Rattle.flurry_theory.specs.Legal.{IsWalk, IsClear}
-use Rattle.flurry_theory.specs.Machine.{State, Transition, Can, does, steps_after, at_place, found_by, Mode, Locating, Looking, Walking, Clearing, Done, Finished, Begins, Quiet, Loses, Counts, Finds, Opens, FindsNothing, IsRefused, DecidesEmpty, Passes, Decides, Places, Claims, Moves, Reports, Publishes, Reads, Leaves, Splits, Wipes, SplitsClear, Replies, Ends}
+use Rattle.flurry_theory.specs.Machine.{State, Transition, Can, does, steps_after, at_place, found_by, Mode, Locating, Looking, Walking, Clearing, Done, Finished, Begins, Quiet, Loses, Finds, Opens, FindsNothing, IsRefused, DecidesEmpty, Passes, Decides, Replies, Ends}
 use Rattle.flurry_theory.specs.Invariant.{PartyOk, Tables, IsCut, NamesBorn, key_in, one_key, Waits, LooksUp}
 use Rattle.flurry_theory.proofs.Refusals.{refused_at_work}
 use Rattle.flurry_theory.proofs.Ranges.{home_limit, place_here, place_other}
 use Rattle.flurry_theory.proofs.Tables.{same_some}
 use Rattle.flurry_theory.proofs.Settled.{waits_settled}
-use Rattle.flurry_theory.proofs.OwnSteps.{next_mode, next_call, other_mode, other_keeps, mode_after, call_after}
+use Rattle.flurry_theory.proofs.OwnSteps.{next_mode, next_call, other_keeps, own_or_other}
 use Rattle.flurry_model.specs.declared.call.Call.{Call}
-use Rattle.flurry_model.specs.declared.call.Call.TheVariants.{Get, GetKeyValue, ContainsKey, Insert, TryInsert, Compute, Remove, RemoveEntry, RemoveSeen, Reserve, Clear, Walk}
+use Rattle.flurry_model.specs.declared.call.Call.TheVariants.{Get, GetKeyValue, ContainsKey}
 use Rattle.flurry_model.specs.declared.reply.KeptReply.{KeptReply}
 use Rattle.flurry_model.specs.declared.sizes.TheConstants.{TABLES}
 
 module _ {K V F : Type 0} (cmp : K → K → Ordering) (total : IsTotalOrder cmp) (hash : K → ℕ) (lawful : (j k : K) → same cmp j k ≡ true → hash j ≡ hash k) (gives : F → K → V → Option V → Type 0) where
   -- a look-up has a key, and goes on where it found a table
   lookup_key : (call : Option (Call K V F)) → is_lookup call ≡ true → (k : K) × (key_in call ≡ Some k) × ((e : ℕ) → found_by cmp hash gives call e ≡ Looking e)
-  lookup_key None h = absurd (grind (arith, h))
   lookup_key (Some (Get k)) h = (k, refl, λ e. refl)
   lookup_key (Some (GetKeyValue k)) h = (k, refl, λ e. refl)
   lookup_key (Some (ContainsKey k)) h = (k, refl, λ e. refl)
-  lookup_key (Some (Insert k v)) h = absurd (grind (arith, h))
-  lookup_key (Some (TryInsert k v)) h = absurd (grind (arith, h))
-  lookup_key (Some (Compute k f)) h = absurd (grind (arith, h))
-  lookup_key (Some (Remove k)) h = absurd (grind (arith, h))
-  lookup_key (Some (RemoveEntry k)) h = absurd (grind (arith, h))
-  lookup_key (Some (RemoveSeen z)) h = absurd (grind (arith, h))
-  lookup_key (Some (Reserve n)) h = absurd (grind (arith, h))
-  lookup_key (Some Clear) h = absurd (grind (arith, h))
-  lookup_key (Some Walk) h = absurd (grind (arith, h))
+  lookup_key call h = absurd (grind (arith, h))
 
   lookup_one_key : (call : Option (Call K V F)) → is_lookup call ≡ true → one_key call ≡ true
   lookup_one_key None h = absurd (grind (arith, h))
@@ -45,15 +36,7 @@ module _ {K V F : Type 0} (cmp : K → K → Ordering) (total : IsTotalOrder cmp
   lookup_other (Get k) h w = grind (arith, w)
   lookup_other (GetKeyValue k) h w = grind (arith, w)
   lookup_other (ContainsKey k) h w = grind (arith, w)
-  lookup_other (Insert k v) h w = grind (arith, h)
-  lookup_other (TryInsert k v) h w = grind (arith, h)
-  lookup_other (Compute k f) h w = grind (arith, h)
-  lookup_other (Remove k) h w = grind (arith, h)
-  lookup_other (RemoveEntry k) h w = grind (arith, h)
-  lookup_other (RemoveSeen z) h w = grind (arith, h)
-  lookup_other (Reserve n) h w = grind (arith, h)
-  lookup_other Clear h w = grind (arith, h)
-  lookup_other Walk h w = grind (arith, h)
+  lookup_other c h w = grind (arith, h)
 
   lookup_begun : (call : Option (Call K V F)) → is_lookup call ≡ true → is_some call ≡ true
   lookup_begun None h = absurd (grind (arith, h))
@@ -69,7 +52,6 @@ module _ {K V F : Type 0} (cmp : K → K → Ordering) (total : IsTotalOrder cmp
   own_waits s p (Begins c y) can o w = λ h. (λ m. refl, λ d m. absurd (grind (arith, m)), λ a b m. grind (arith, m))
   own_waits s p Quiet can o w = λ h. (λ m. absurd (grind (arith, m, can h)), λ d m. absurd (grind (arith, m, can h)), λ a b m. grind (arith, m, can h))
   own_waits s p Loses can o w = w
-  own_waits s p (Counts whose) can o w = λ h. absurd (grind (arith, h, can))
   own_waits s p (Finds e) can o w = λ h. (λ m. absurd (grind (arith, m, (lookup_key (s.call p) h).2 e)), λ d m. omega (arith, (w h).0 can.2, raised (s.call p) (s.steps p) h), λ a b m. grind (arith, m, (lookup_key (s.call p) h).2 e))
   own_waits s p (Opens e) can o w = λ h. (λ m. absurd (grind (arith, m, (lookup_key (s.call p) h).2 e)), λ d m. omega (arith, (w h).0 can.2, raised (s.call p) (s.steps p) h), λ a b m. grind (arith, m, (lookup_key (s.call p) h).2 e))
   own_waits s p FindsNothing can o w = λ h. absurd (lookup_other can.0 (subst (λ c. is_lookup c ≡ true) can.1 h) can.4)
@@ -77,30 +59,15 @@ module _ {K V F : Type 0} (cmp : K → K → Ordering) (total : IsTotalOrder cmp
   own_waits s p (DecidesEmpty c r) can o w = λ h. (λ m. absurd (grind (arith, m)), λ d m. absurd (grind (arith, m)), λ a b m. grind (arith, m))
   own_waits s p (Passes e) can o w = λ h. (λ m. absurd (grind (arith, m)), λ d m. grind (arith, m, (w h).1 e can.4, raised (s.call p) (s.steps p) h), λ a b m. grind (arith, m))
   own_waits s p (Decides c k e es n r fs m) can o w = λ h. (λ m. absurd (grind (arith, m)), λ d m. absurd (grind (arith, m)), λ a b m. grind (arith, m))
-  own_waits s p (Places e) can o w = λ h. absurd (grind (arith, h, can.3))
-  own_waits s p (Claims e gr low) can o w = λ h. absurd (grind (arith, h, can.5))
-  own_waits s p (Moves a i es n) can o w = λ h. absurd (grind (arith, h, can.4))
-  own_waits s p (Reports a gr) can o w = λ h. absurd (grind (arith, h, can.3))
-  own_waits s p (Publishes e gr) can o w = λ h. absurd (grind (arith, h, can.3))
-  own_waits s p (Reads e i f fs es n x) can o w = λ h. absurd (grind (arith, h, o.walking e i (f ∷ fs) can.0))
-  own_waits s p (Leaves e i f fs es n) can o w = λ h. absurd (grind (arith, h, o.walking e i (f ∷ fs) can.0))
-  own_waits s p (Splits e i f fs) can o w = λ h. absurd (grind (arith, h, o.walking e i (f ∷ fs) can.0))
-  own_waits s p (Wipes wiped e i f fs es n) can o w = λ h. absurd (grind (arith, h, o.clearing wiped e i (f ∷ fs) can.0))
-  own_waits s p (SplitsClear wiped e i f fs) can o w = λ h. absurd (grind (arith, h, o.clearing wiped e i (f ∷ fs) can.0))
   own_waits s p (Replies r) can o w = λ h. (λ m. absurd (grind (arith, m)), λ d m. absurd (grind (arith, m)), λ a b m. grind (arith, m))
   own_waits s p Ends can o w = λ h. (λ m. absurd (grind (arith, m)), λ d m. absurd (grind (arith, m)), λ a b m. grind (arith, m))
+  own_waits s p l can o w = λ h. absurd (grind (arith, h, can, o.walking, o.clearing))
 
   pub waits_ok : (s : State K V F) (p q : ℕ) (l : Transition K V F) → Can cmp hash gives s p l → PartyOk s p → ((q : ℕ) → Waits (s.call q) (s.mode q) (s.steps q)) → Waits ((does cmp hash gives s p l).call q) ((does cmp hash gives s p l).mode q) ((does cmp hash gives s p l).steps q)
-  waits_ok s p q l can o w = go (cases_eq q p)
-    where
-      go : (q ≡ p) ⊎ (q ≡ p → ⊥) → Waits ((does cmp hash gives s p l).call q) ((does cmp hash gives s p l).mode q) ((does cmp hash gives s p l).steps q)
-      go (inl e) = subst₂ (λ c m. Waits c m (at_place s.steps p (steps_after cmp hash gives s p l) q))
-          (sym (call_after cmp total hash lawful gives s p q l ∙ cond-true (p == q) (next_call cmp total hash lawful gives s p l) (s.call q) (eq-eqb p q (sym e)))) (sym (mode_after cmp total hash lawful gives s p q l ∙ cond-true (p == q) (next_mode cmp total hash lawful gives s p l) (other_mode cmp total hash lawful gives l q (s.mode q)) (eq-eqb p q (sym e))))
-          (subst (λ n. Waits (next_call cmp total hash lawful gives s p l) (next_mode cmp total hash lawful gives s p l) n) (sym (ap (at_place s.steps p (steps_after cmp hash gives s p l)) e ∙ place_here s.steps p (steps_after cmp hash gives s p l))) (own_waits s p l can o (w p)))
-      go (inr ne) = subst₂ (λ c m. Waits c m (at_place s.steps p (steps_after cmp hash gives s p l) q))
-          (sym (call_after cmp total hash lawful gives s p q l ∙ cond-false (p == q) (next_call cmp total hash lawful gives s p l) (s.call q) (ne_eqb p q (λ h. ne (sym h))))) (sym (mode_after cmp total hash lawful gives s p q l ∙ cond-false (p == q) (next_mode cmp total hash lawful gives s p l) (other_mode cmp total hash lawful gives l q (s.mode q)) (ne_eqb p q (λ h. ne (sym h)))))
-          (other_keeps cmp total hash lawful gives (λ m. Waits (s.call q) m (at_place s.steps p (steps_after cmp hash gives s p l) q)) (waits_settled (s.call q) (at_place s.steps p (steps_after cmp hash gives s p l) q)) l q (s.mode q)
-          (subst (λ n. Waits (s.call q) (s.mode q) n) (sym (place_other s.steps p q (steps_after cmp hash gives s p l) ne)) (w q)))
+  waits_ok s p q l can o w = own_or_other cmp total hash lawful gives (λ q c m. Waits c m (at_place s.steps p (steps_after cmp hash gives s p l) q)) s p q l
+      (subst (Waits (next_call cmp total hash lawful gives s p l) (next_mode cmp total hash lawful gives s p l)) (sym (place_here s.steps p (steps_after cmp hash gives s p l))) (own_waits s p l can o (w p)))
+      (λ ne. other_keeps cmp total hash lawful gives (λ m. Waits (s.call q) m (at_place s.steps p (steps_after cmp hash gives s p l) q)) (waits_settled (s.call q) (at_place s.steps p (steps_after cmp hash gives s p l) q)) l q (s.mode q)
+      (subst (Waits (s.call q) (s.mode q)) (sym (place_other s.steps p q (steps_after cmp hash gives s p l) ne)) (w q)))
 
   -- a transition is one step at most
   by_call : (call : Option (Call K V F)) (n : ℕ) → (if is_some call then suc n else n) ≤ suc n
@@ -109,28 +76,8 @@ module _ {K V F : Type 0} (cmp : K → K → Ordering) (total : IsTotalOrder cmp
 
   one_step : (s : State K V F) (p : ℕ) (l : Transition K V F) → steps_after cmp hash gives s p l ≤ suc (s.steps p)
   one_step s p (Begins c y) = omega arith
-  one_step s p Quiet = by_call (s.call p) (s.steps p)
   one_step s p Loses = omega arith
-  one_step s p (Counts whose) = by_call (s.call p) (s.steps p)
-  one_step s p (Finds e) = by_call (s.call p) (s.steps p)
-  one_step s p (Opens e) = by_call (s.call p) (s.steps p)
-  one_step s p FindsNothing = by_call (s.call p) (s.steps p)
-  one_step s p IsRefused = by_call (s.call p) (s.steps p)
-  one_step s p (DecidesEmpty c r) = by_call (s.call p) (s.steps p)
-  one_step s p (Passes e) = by_call (s.call p) (s.steps p)
-  one_step s p (Decides c k e es n r fs m) = by_call (s.call p) (s.steps p)
-  one_step s p (Places e) = by_call (s.call p) (s.steps p)
-  one_step s p (Claims e gr low) = by_call (s.call p) (s.steps p)
-  one_step s p (Moves a i es n) = by_call (s.call p) (s.steps p)
-  one_step s p (Reports a gr) = by_call (s.call p) (s.steps p)
-  one_step s p (Publishes e gr) = by_call (s.call p) (s.steps p)
-  one_step s p (Reads e i f fs es n x) = by_call (s.call p) (s.steps p)
-  one_step s p (Leaves e i f fs es n) = by_call (s.call p) (s.steps p)
-  one_step s p (Splits e i f fs) = by_call (s.call p) (s.steps p)
-  one_step s p (Wipes wiped e i f fs es n) = by_call (s.call p) (s.steps p)
-  one_step s p (SplitsClear wiped e i f fs) = by_call (s.call p) (s.steps p)
-  one_step s p (Replies r) = by_call (s.call p) (s.steps p)
-  one_step s p Ends = by_call (s.call p) (s.steps p)
+  one_step s p l = by_call (s.call p) (s.steps p)
 
   pub steps_ok : (s : State K V F) (p q : ℕ) (l : Transition K V F) → ((q : ℕ) → s.steps q ≤ length s.trace) → (does cmp hash gives s p l).steps q ≤ suc (length s.trace)
   steps_ok s p q l h = go (cases_eq q p)
@@ -168,26 +115,16 @@ module _ {K V F : Type 0} (cmp : K → K → Ordering) (total : IsTotalOrder cmp
       over (inl q) = grind (arith, rp, q)
       over (inr q) = grind (arith, d, o.refused q (lookup_one_key (s.call p) h))
   next_reply s p o h r d rp Loses can = inr refl
-  next_reply s p o h r d rp (Counts whose) can = absurd (grind (arith, h, can))
-  next_reply s p o h r d rp (Finds e) can = absurd (grind (arith, d, o.undecided (λ _ _ _ z. grind (arith, z, can.2)) (λ z. grind (arith, z, can.2))))
-  next_reply s p o h r d rp (Opens e) can = absurd (grind (arith, d, o.undecided (λ _ _ _ z. grind (arith, z, can.2)) (λ z. grind (arith, z, can.2))))
-  next_reply s p o h r d rp FindsNothing can = absurd (grind (arith, d, o.undecided (λ _ _ _ z. grind (arith, z, can.2)) (λ z. grind (arith, z, can.2))))
   next_reply s p o h r d rp IsRefused can = absurd (grind (arith, d, o.undecided (refused_at_work cmp hash gives s p can).1 (refused_at_work cmp hash gives s p can).0))
   next_reply s p o h r d rp (DecidesEmpty c q) can = absurd (grind (arith, d, o.undecided (λ _ _ _ z. grind (arith, z, can.1)) (λ z. grind (arith, z, can.1))))
   next_reply s p o h r d rp (Passes e) can = absurd (grind (arith, d, o.undecided (λ _ _ _ z. grind (arith, z, can.4)) (λ z. grind (arith, z, can.4))))
-  next_reply s p o h r d rp (Decides c k e es n q fs m) can = absurd (grind (arith, d, o.undecided (λ _ _ _ z. grind (arith, z, can.2)) (λ z. grind (arith, z, can.2))))
-  next_reply s p o h r d rp (Places e) can = absurd (grind (arith, h, can.3))
-  next_reply s p o h r d rp (Claims e gr low) can = absurd (grind (arith, h, can.5))
-  next_reply s p o h r d rp (Moves a i es n) can = absurd (grind (arith, h, can.4))
-  next_reply s p o h r d rp (Reports a gr) can = absurd (grind (arith, h, can.3))
-  next_reply s p o h r d rp (Publishes e gr) can = absurd (grind (arith, h, can.3))
-  next_reply s p o h r d rp (Reads e i f fs es n x) can = absurd (grind (arith, h, o.walking e i (f ∷ fs) can.0))
-  next_reply s p o h r d rp (Leaves e i f fs es n) can = absurd (grind (arith, h, o.walking e i (f ∷ fs) can.0))
-  next_reply s p o h r d rp (Splits e i f fs) can = absurd (grind (arith, h, o.walking e i (f ∷ fs) can.0))
-  next_reply s p o h r d rp (Wipes wiped e i f fs es n) can = absurd (grind (arith, h, o.clearing wiped e i (f ∷ fs) can.0))
-  next_reply s p o h r d rp (SplitsClear wiped e i f fs) can = absurd (grind (arith, h, o.clearing wiped e i (f ∷ fs) can.0))
   next_reply s p o h r d rp (Replies q) can = inl (ap Replies (same_some (sym (o.decided q 0 0 can.3) ∙ d)))
   next_reply s p o h r d rp Ends can = absurd (grind (arith, can.2, lookup_one_key (Some can.0) (subst (λ c. is_lookup c ≡ true) can.1 h)))
+  next_reply s p o h r d rp (Finds e) can = absurd (grind (arith, d, o.undecided (λ _ _ _ z. grind (arith, z, can.2)) (λ z. grind (arith, z, can.2))))
+  next_reply s p o h r d rp (Opens e) can = absurd (grind (arith, d, o.undecided (λ _ _ _ z. grind (arith, z, can.2)) (λ z. grind (arith, z, can.2))))
+  next_reply s p o h r d rp FindsNothing can = absurd (grind (arith, d, o.undecided (λ _ _ _ z. grind (arith, z, can.2)) (λ z. grind (arith, z, can.2))))
+  next_reply s p o h r d rp (Decides c k e es n q fs m) can = absurd (grind (arith, d, o.undecided (λ _ _ _ z. grind (arith, z, can.2)) (λ z. grind (arith, z, can.2))))
+  next_reply s p o h r d rp l can = absurd (grind (arith, h, can, o.walking, o.clearing))
 
   pub looks_up : (home : ℕ → ℕ) (s : State K V F) (p : ℕ) → PartyOk s p → Tables cmp hash home s → IsCut s → NamesBorn hash (is_some s.published) home s.start (s.call p) (s.mode p) → Waits (s.call p) (s.mode p) (s.steps p) → LooksUp cmp hash gives s p
   looks_up home s p o t u nm w = record { in_time = in_time home s p o t u nm w; replies_next = next_reply s p o }

@@ -9,7 +9,7 @@ use Rattle.std.proofs.lemmas.Nat.{mod_below, pow_pos}
 use Rattle.flurry_theory.specs.Map.{same, key_of, Allows}
 use Rattle.flurry_theory.specs.Trace.{Trace, begins, call_begun_by, decision, last_read, read_before}
 use Rattle.flurry_theory.specs.Bin.{Entry, number_of, bump, has_number, past, first_past, IsAscending, InRegion, half}
-use Rattle.flurry_theory.specs.Machine.{State, Slot, Claim, Transition, Can, does, label, at_bin, at_place, Live, Frame, Begins, Quiet, Loses, Counts, Finds, Opens, FindsNothing, IsRefused, DecidesEmpty, Passes, Decides, Places, Claims, Moves, Reports, Publishes, Reads, Leaves, Splits, Wipes, SplitsClear, Replies, Ends}
+use Rattle.flurry_theory.specs.Machine.{State, Slot, Claim, Transition, Can, does, label, at_bin, at_place, Live, Frame, Begins, Opens, DecidesEmpty, Decides, Moves, Reads, Wipes}
 use Rattle.flurry_theory.specs.Invariant.{PartyOk, Tables, home_after, Origins, pair_seen, number_in, writes_in, newer, number_at, writes_at, JudgesRead, Numbers}
 use Rattle.flurry_theory.proofs.Bins.{one_class, past-same, region-first_past, found-first_past, in_a_half, in_low_half, in_high_half}
 use Rattle.flurry_theory.proofs.Tables.{at_bin_elim, same_some, homes}
@@ -22,7 +22,7 @@ use Rattle.flurry_model.specs.declared.call.Call.{Call}
 use Rattle.flurry_model.specs.declared.call.Call.TheVariants.{RemoveSeen}
 use Rattle.flurry_model.specs.declared.reply.KeptReply.{KeptReply}
 use Rattle.flurry_theory.specs.declared.Label.{Label}
-use Rattle.flurry_theory.specs.declared.Label.TheVariants.{Begin, Decide, Wipe, Refused, Read, End, Opened, Placed, Published, Silent, Moved as MovedBin, Reply as Replied}
+use Rattle.flurry_theory.specs.declared.Label.TheVariants.{Begin, Decide, Wipe, Moved as MovedBin}
 use Rattle.flurry_model.specs.declared.sizes.TheConstants.{MOST_LABELS}
 
 -- a count of writes goes up by one at most, and stays at the greatest number
@@ -139,29 +139,12 @@ module _ {K V F : Type 0} (cmp : K → K → Ordering) (total : IsTotalOrder cmp
 
   change : (home : ℕ → ℕ) (s : State K V F) (p : ℕ) (l : Transition K V F) → Can cmp hash gives s p l → PartyOk s p → Tables cmp hash home s
       → Change s.trace (label cmp hash gives p l) (number_at cmp hash gives home s) (number_at cmp hash gives (home_after home l) (does cmp hash gives s p l)) (writes_at cmp hash gives home s) (writes_at cmp hash gives (home_after home l) (does cmp hash gives s p l))
-  change home s p (Begins c y) can o t = record { grows = λ k. (omega arith, omega arith); limit = λ k l. l; kept = λ k _. refl; new = λ k h. absurd (grind (arith, h)) }
-  change home s p Quiet can o t = record { grows = λ k. (omega arith, omega arith); limit = λ k l. l; kept = λ k _. refl; new = λ k h. absurd (grind (arith, h)) }
-  change home s p Loses can o t = record { grows = λ k. (omega arith, omega arith); limit = λ k l. l; kept = λ k _. refl; new = λ k h. absurd (grind (arith, h)) }
-  change home s p (Counts whose) can o t = record { grows = λ k. (omega arith, omega arith); limit = λ k l. l; kept = λ k _. refl; new = λ k h. absurd (grind (arith, h)) }
-  change home s p (Finds e) can o t = record { grows = λ k. (omega arith, omega arith); limit = λ k l. l; kept = λ k _. refl; new = λ k h. absurd (grind (arith, h)) }
   change home s p (Opens e) can o t = opens_change home s p e can t
-  change home s p FindsNothing can o t = record { grows = λ k. (omega arith, omega arith); limit = λ k l. l; kept = λ k _. refl; new = λ k h. absurd (grind (arith, h)) }
-  change home s p IsRefused can o t = record { grows = λ k. (omega arith, omega arith); limit = λ k l. l; kept = λ k _. refl; new = λ k h. absurd (grind (arith, h)) }
   change home s p (DecidesEmpty c r) can o t = record { grows = λ k. (omega arith, omega arith); limit = λ k l. l; kept = λ k _. refl; new = λ k _. inl (grind (arith, t.unmade can.2)) }
-  change home s p (Passes e) can o t = record { grows = λ k. (omega arith, omega arith); limit = λ k l. l; kept = λ k _. refl; new = λ k h. absurd (grind (arith, h)) }
   change home s p (Decides c k e es n r fs m) can o t = decides_change home s p c k e es n r fs m can o t
-  change home s p (Places e) can o t = record { grows = λ k. (omega arith, omega arith); limit = λ k l. l; kept = λ k _. refl; new = λ k h. absurd (grind (arith, h)) }
-  change home s p (Claims e gr low) can o t = record { grows = λ k. (omega arith, omega arith); limit = λ k l. l; kept = λ k _. refl; new = λ k h. absurd (grind (arith, h)) }
   change home s p (Moves a i es n) can o t = same_change s.trace (MovedBin a.table i) (number_at cmp hash gives home s) (number_at cmp hash gives (home_after {K = K} {V = V} {F = F} home (Moves a i es n)) (does cmp hash gives s p (Moves a i es n))) (writes_at cmp hash gives home s) (writes_at cmp hash gives (home_after {K = K} {V = V} {F = F} home (Moves a i es n)) (does cmp hash gives s p (Moves a i es n))) (moved_number home s p a i es n can t) (λ _. refl)
-  change home s p (Reports a gr) can o t = record { grows = λ k. (omega arith, omega arith); limit = λ k l. l; kept = λ k _. refl; new = λ k h. absurd (grind (arith, h)) }
-  change home s p (Publishes e gr) can o t = record { grows = λ k. (omega arith, omega arith); limit = λ k l. l; kept = λ k _. refl; new = λ k h. absurd (grind (arith, h)) }
-  change home s p (Reads e i f fs es n x) can o t = record { grows = λ k. (omega arith, omega arith); limit = λ k l. l; kept = λ k _. refl; new = λ k h. absurd (grind (arith, h)) }
-  change home s p (Leaves e i f fs es n) can o t = record { grows = λ k. (omega arith, omega arith); limit = λ k l. l; kept = λ k _. refl; new = λ k h. absurd (grind (arith, h)) }
-  change home s p (Splits e i f fs) can o t = record { grows = λ k. (omega arith, omega arith); limit = λ k l. l; kept = λ k _. refl; new = λ k h. absurd (grind (arith, h)) }
   change home s p (Wipes wiped e i f fs es n) can o t = wipes_change home s p wiped e i f fs es n can t
-  change home s p (SplitsClear wiped e i f fs) can o t = record { grows = λ k. (omega arith, omega arith); limit = λ k l. l; kept = λ k _. refl; new = λ k h. absurd (grind (arith, h)) }
-  change home s p (Replies r) can o t = record { grows = λ k. (omega arith, omega arith); limit = λ k l. l; kept = λ k _. refl; new = λ k h. absurd (grind (arith, h)) }
-  change home s p Ends can o t = record { grows = λ k. (omega arith, omega arith); limit = λ k l. l; kept = λ k _. refl; new = λ k h. absurd (grind (arith, h)) }
+  change home s p l can o t = record { grows = λ k. (omega arith, omega arith); limit = λ k l. l; kept = λ k _. refl; new = λ k h. absurd (grind (arith, h)) }
 
   -- JUDGED
   judge_step : (t : Trace K V F) (l : Label K V F) (number number' : K → Option ℕ) (writes writes' : K → ℕ) (b : Bool) (z : Seen K V) → Change t l number number' writes writes' → writes z.key ≤ 2 ^ 64 - 1
@@ -202,32 +185,14 @@ module _ {K V F : Type 0} (cmp : K → K → Ordering) (total : IsTotalOrder cmp
       go false e g = inl (g, e)
 
   reads_touch : (t : Trace K V F) (l : Label K V F) (w : ℕ) (k : K) → Legal.reads cmp hash gives w l ≡ true → touches cmp hash gives t l k ≡ false
-  reads_touch t (Begin q c) w k h = refl
   reads_touch t (Decide q r) w k h = absurd (grind (arith, h))
-  reads_touch t (Replied q r) w k h = refl
-  reads_touch t (Refused q) w k h = refl
   reads_touch t (Wipe q e i) w k h = absurd (grind (arith, h))
-  reads_touch t (Read q j v) w k h = refl
-  reads_touch t (End q) w k h = refl
-  reads_touch t (Silent q) w k h = refl
-  reads_touch t (Opened e) w k h = refl
-  reads_touch t (Placed e) w k h = refl
-  reads_touch t (MovedBin e i) w k h = refl
-  reads_touch t (Published e) w k h = refl
+  reads_touch t l w k h = refl
 
   begins_touch : (t : Trace K V F) (l : Label K V F) (w : ℕ) (k : K) → begins w l ≡ true → touches cmp hash gives t l k ≡ false
-  begins_touch t (Begin q c) w k h = refl
   begins_touch t (Decide q r) w k h = absurd (grind (arith, h))
-  begins_touch t (Replied q r) w k h = refl
-  begins_touch t (Refused q) w k h = refl
   begins_touch t (Wipe q e i) w k h = absurd (grind (arith, h))
-  begins_touch t (Read q j v) w k h = refl
-  begins_touch t (End q) w k h = refl
-  begins_touch t (Silent q) w k h = refl
-  begins_touch t (Opened e) w k h = refl
-  begins_touch t (Placed e) w k h = refl
-  begins_touch t (MovedBin e i) w k h = refl
-  begins_touch t (Published e) w k h = refl
+  begins_touch t l w k h = refl
 
   judge_same : (t : Trace K V F) (l : Label K V F) (number number' : K → Option ℕ) (writes writes' : K → ℕ) (b : Bool) (z : Seen K V) → Change t l number number' writes writes' → touches cmp hash gives t l z.key ≡ false
       → JudgesRead cmp hash gives b z (number z.key) (writes z.key) → JudgesRead cmp hash gives b z (number' z.key) (writes' z.key)
@@ -241,28 +206,8 @@ module _ {K V F : Type 0} (cmp : K → K → Ordering) (total : IsTotalOrder cmp
   seen_after : (home : ℕ → ℕ) (s : State K V F) (p : ℕ) (l : Transition K V F) → Can cmp hash gives s p l → Tables cmp hash home s → (w : ℕ) (z : Seen K V) → (does cmp hash gives s p l).seen w ≡ Some z
       → ((s.seen w ≡ Some z) × (Legal.reads cmp hash gives w (label cmp hash gives p l) ≡ false)) ⊎ ((Legal.reads cmp hash gives w (label cmp hash gives p l) ≡ true) × (number_at cmp hash gives home s z.key ≡ Some z.number))
   seen_after home s p (Begins c y) can t w z h = inl (grind (arith, h, eqb-true), refl)
-  seen_after home s p Quiet can t w z h = inl (h, refl)
-  seen_after home s p Loses can t w z h = inl (h, refl)
-  seen_after home s p (Counts whose) can t w z h = inl (h, refl)
-  seen_after home s p (Finds e) can t w z h = inl (h, refl)
-  seen_after home s p (Opens e) can t w z h = inl (h, refl)
-  seen_after home s p FindsNothing can t w z h = inl (h, refl)
-  seen_after home s p IsRefused can t w z h = inl (h, refl)
-  seen_after home s p (DecidesEmpty c r) can t w z h = inl (h, refl)
-  seen_after home s p (Passes e) can t w z h = inl (h, refl)
-  seen_after home s p (Decides c k e es n r fs m) can t w z h = inl (h, refl)
-  seen_after home s p (Places e) can t w z h = inl (h, refl)
-  seen_after home s p (Claims e gr low) can t w z h = inl (h, refl)
-  seen_after home s p (Moves a i es n) can t w z h = inl (h, refl)
-  seen_after home s p (Reports a gr) can t w z h = inl (h, refl)
-  seen_after home s p (Publishes e gr) can t w z h = inl (h, refl)
   seen_after home s p (Reads e i f fs es n x) can t w z h = reads_seen home s p e i f fs es n x can t w z h
-  seen_after home s p (Leaves e i f fs es n) can t w z h = inl (h, refl)
-  seen_after home s p (Splits e i f fs) can t w z h = inl (h, refl)
-  seen_after home s p (Wipes wiped e i f fs es n) can t w z h = inl (h, refl)
-  seen_after home s p (SplitsClear wiped e i f fs) can t w z h = inl (h, refl)
-  seen_after home s p (Replies r) can t w z h = inl (h, refl)
-  seen_after home s p Ends can t w z h = inl (h, refl)
+  seen_after home s p l can t w z h = inl (h, refl)
 
   pub numbers_ok : (home : ℕ → ℕ) (s : State K V F) (p : ℕ) (l : Transition K V F) → Can cmp hash gives s p l → PartyOk s p → Tables cmp hash home s → Numbers cmp hash gives home s → Numbers cmp hash gives (home_after home l) (does cmp hash gives s p l)
   numbers_ok home s p l can o t v = record {
@@ -340,68 +285,19 @@ module _ {K V F : Type 0} (cmp : K → K → Ordering) (total : IsTotalOrder cmp
 
   removal_lawful : (home : ℕ → ℕ) (s : State K V F) (p : ℕ) (l : Transition K V F) → Can cmp hash gives s p l → PartyOk s p → Tables cmp hash home s → Origins s → Numbers cmp hash gives home s → RemovalMay cmp hash gives (does cmp hash gives s p l).began_from s.trace (label cmp hash gives p l)
   removal_lawful home s p (Begins c y) can o t u v = begins_removal s p c y can u
-  removal_lawful home s p Quiet can o t u v = tt
-  removal_lawful home s p Loses can o t u v = tt
-  removal_lawful home s p (Counts whose) can o t u v = tt
-  removal_lawful home s p (Finds e) can o t u v = tt
-  removal_lawful home s p (Opens e) can o t u v = tt
-  removal_lawful home s p FindsNothing can o t u v = tt
-  removal_lawful home s p IsRefused can o t u v = tt
   removal_lawful home s p (DecidesEmpty c r) can o t u v = if_began (s.began_from p) (λ w. (x : K × V) × (read_before s.trace p w ≡ Some x) × (removes cmp hash gives r ≡ true → untouched_for cmp hash gives s.trace p w x.0 ≡ true) × (length s.trace < MOST_LABELS → untouched_for cmp hash gives s.trace p w x.0 ≡ true → removes cmp hash gives r ≡ true)) (λ w b. empty_removal home s p c r w can o t u v b)
-  removal_lawful home s p (Passes e) can o t u v = tt
   removal_lawful home s p (Decides c k e es n r fs m) can o t u v = if_began (s.began_from p) (λ w. (x : K × V) × (read_before s.trace p w ≡ Some x) × (removes cmp hash gives r ≡ true → untouched_for cmp hash gives s.trace p w x.0 ≡ true) × (length s.trace < MOST_LABELS → untouched_for cmp hash gives s.trace p w x.0 ≡ true → removes cmp hash gives r ≡ true)) (λ w b. removal home s p c k e es n r fs m w can o t u v b)
-  removal_lawful home s p (Places e) can o t u v = tt
-  removal_lawful home s p (Claims e gr low) can o t u v = tt
-  removal_lawful home s p (Moves a i es n) can o t u v = tt
-  removal_lawful home s p (Reports a gr) can o t u v = tt
-  removal_lawful home s p (Publishes e gr) can o t u v = tt
-  removal_lawful home s p (Reads e i f fs es n x) can o t u v = tt
-  removal_lawful home s p (Leaves e i f fs es n) can o t u v = tt
-  removal_lawful home s p (Splits e i f fs) can o t u v = tt
-  removal_lawful home s p (Wipes wiped e i f fs es n) can o t u v = tt
-  removal_lawful home s p (SplitsClear wiped e i f fs) can o t u v = tt
-  removal_lawful home s p (Replies r) can o t u v = tt
-  removal_lawful home s p Ends can o t u v = tt
+  removal_lawful home s p l can o t u v = tt
 
   -- a party without a decision can begin from any walk
   other_origin : (from : ℕ → Option ℕ) (p : ℕ) (y : Option ℕ) (t : Trace K V F) → call_begun_by t p ≡ None → decision t p ≡ None → EachMay (RemovalMay cmp hash gives from) t → EachMay (RemovalMay cmp hash gives (at_place from p y)) t
   other_origin from p y [] b d h = tt
   other_origin from p y (Begin q c ∷ t) b d h = (subst (λ o. IfSome o (λ w. (x : K × V) × (last_read t w ≡ Some x) × RemovesPair x c)) (sym (place_other from p q y (λ e. grind (arith, b, eq-eqb q p e)))) h.0, other_origin from p y t (grind (arith, b)) d h.1)
   other_origin from p y (Decide q r ∷ t) b d h = (subst (λ o. IfSome o (λ w. (x : K × V) × (read_before t q w ≡ Some x) × (removes cmp hash gives r ≡ true → untouched_for cmp hash gives t q w x.0 ≡ true) × (length t < MOST_LABELS → untouched_for cmp hash gives t q w x.0 ≡ true → removes cmp hash gives r ≡ true))) (sym (place_other from p q y (λ e. grind (arith, d, eq-eqb q p e)))) h.0, other_origin from p y t b (grind (arith, d)) h.1)
-  other_origin from p y (Replied q r ∷ t) b d h = (tt, other_origin from p y t b d h.1)
-  other_origin from p y (Refused q ∷ t) b d h = (tt, other_origin from p y t b d h.1)
-  other_origin from p y (Wipe q e i ∷ t) b d h = (tt, other_origin from p y t b d h.1)
-  other_origin from p y (Read q j v ∷ t) b d h = (tt, other_origin from p y t b d h.1)
-  other_origin from p y (End q ∷ t) b d h = (tt, other_origin from p y t b d h.1)
-  other_origin from p y (Silent q ∷ t) b d h = (tt, other_origin from p y t b d h.1)
-  other_origin from p y (Opened e ∷ t) b d h = (tt, other_origin from p y t b d h.1)
-  other_origin from p y (Placed e ∷ t) b d h = (tt, other_origin from p y t b d h.1)
-  other_origin from p y (MovedBin e i ∷ t) b d h = (tt, other_origin from p y t b d h.1)
-  other_origin from p y (Published e ∷ t) b d h = (tt, other_origin from p y t b d h.1)
+  other_origin from p y (l ∷ t) b d h = (tt, other_origin from p y t b d h.1)
 
   -- KEPT
   pub removals_ok : (home : ℕ → ℕ) (s : State K V F) (p : ℕ) (l : Transition K V F) → Can cmp hash gives s p l → PartyOk s p → Tables cmp hash home s → Origins s → Numbers cmp hash gives home s
       → EachMay (RemovalMay cmp hash gives s.began_from) s.trace → EachMay (RemovalMay cmp hash gives (does cmp hash gives s p l).began_from) (label cmp hash gives p l ∷ s.trace)
   removals_ok home s p (Begins c y) can o t u v h = let k : s.parties ≤ p = omega (arith, can.0) in (removal_lawful home s p (Begins c y) can o t u v, other_origin s.began_from p y s.trace (o.call ∙ (o.unknown k).0) (o.unknown k).3 h)
-  removals_ok home s p Quiet can o t u v h = (removal_lawful home s p Quiet can o t u v, h)
-  removals_ok home s p Loses can o t u v h = (removal_lawful home s p Loses can o t u v, h)
-  removals_ok home s p (Counts whose) can o t u v h = (removal_lawful home s p (Counts whose) can o t u v, h)
-  removals_ok home s p (Finds e) can o t u v h = (removal_lawful home s p (Finds e) can o t u v, h)
-  removals_ok home s p (Opens e) can o t u v h = (removal_lawful home s p (Opens e) can o t u v, h)
-  removals_ok home s p FindsNothing can o t u v h = (removal_lawful home s p FindsNothing can o t u v, h)
-  removals_ok home s p IsRefused can o t u v h = (removal_lawful home s p IsRefused can o t u v, h)
-  removals_ok home s p (DecidesEmpty c r) can o t u v h = (removal_lawful home s p (DecidesEmpty c r) can o t u v, h)
-  removals_ok home s p (Passes e) can o t u v h = (removal_lawful home s p (Passes e) can o t u v, h)
-  removals_ok home s p (Decides c k e es n r fs m) can o t u v h = (removal_lawful home s p (Decides c k e es n r fs m) can o t u v, h)
-  removals_ok home s p (Places e) can o t u v h = (removal_lawful home s p (Places e) can o t u v, h)
-  removals_ok home s p (Claims e gr low) can o t u v h = (removal_lawful home s p (Claims e gr low) can o t u v, h)
-  removals_ok home s p (Moves a i es n) can o t u v h = (removal_lawful home s p (Moves a i es n) can o t u v, h)
-  removals_ok home s p (Reports a gr) can o t u v h = (removal_lawful home s p (Reports a gr) can o t u v, h)
-  removals_ok home s p (Publishes e gr) can o t u v h = (removal_lawful home s p (Publishes e gr) can o t u v, h)
-  removals_ok home s p (Reads e i f fs es n x) can o t u v h = (removal_lawful home s p (Reads e i f fs es n x) can o t u v, h)
-  removals_ok home s p (Leaves e i f fs es n) can o t u v h = (removal_lawful home s p (Leaves e i f fs es n) can o t u v, h)
-  removals_ok home s p (Splits e i f fs) can o t u v h = (removal_lawful home s p (Splits e i f fs) can o t u v, h)
-  removals_ok home s p (Wipes wiped e i f fs es n) can o t u v h = (removal_lawful home s p (Wipes wiped e i f fs es n) can o t u v, h)
-  removals_ok home s p (SplitsClear wiped e i f fs) can o t u v h = (removal_lawful home s p (SplitsClear wiped e i f fs) can o t u v, h)
-  removals_ok home s p (Replies r) can o t u v h = (removal_lawful home s p (Replies r) can o t u v, h)
-  removals_ok home s p Ends can o t u v h = (removal_lawful home s p Ends can o t u v, h)
+  removals_ok home s p l can o t u v h = (removal_lawful home s p l can o t u v, h)

@@ -4,7 +4,7 @@ use Rattle.std.specs.declared.cmp.Ordering.{Ordering}
 use Rattle.std.proofs.Common.{arith, refl, sym, ◌∙◌, ap, subst, inl, inr}
 use Rattle.std.proofs.lemmas.Bool.{eqb-true}
 use Rattle.flurry_theory.specs.Trace.{begins, last_read, read_before}
-use Rattle.flurry_theory.specs.Machine.{State, Transition, Can, does, label, at_place, Begins, Quiet, Loses, Counts, Finds, Opens, FindsNothing, IsRefused, DecidesEmpty, Passes, Decides, Places, Claims, Moves, Reports, Publishes, Reads, Leaves, Splits, Wipes, SplitsClear, Replies, Ends}
+use Rattle.flurry_theory.specs.Machine.{State, Transition, Can, does, label, at_place, Begins, Reads}
 use Rattle.flurry_theory.specs.Invariant.{PartyOk, Origins, pair_seen}
 use Rattle.flurry_theory.proofs.Tables.{same_some}
 use Rattle.flurry_theory.proofs.Ranges.{place_other}
@@ -38,103 +38,21 @@ module _ {K V F : Type 0} (cmp : K → K → Ordering) (hash : K → ℕ) (gives
   pub begun_after : (s : State K V F) (p : ℕ) (l : Transition K V F) → Can cmp hash gives s p l → (q w : ℕ) (z : Seen K V) → (does cmp hash gives s p l).began_from q ≡ Some w → (does cmp hash gives s p l).call q ≡ Some (RemoveSeen z)
       → ((s.began_from q ≡ Some w) × (s.call q ≡ Some (RemoveSeen z)) × (begins q (label cmp hash gives p l) ≡ false)) ⊎ ((begins q (label cmp hash gives p l) ≡ true) × (s.seen w ≡ Some z))
   begun_after s p (Begins c y) can q w z h g = begins_after s p c y can q w z h g
-  begun_after s p Quiet can q w z h g = inl (h, g, refl)
-  begun_after s p Loses can q w z h g = inl (h, g, refl)
-  begun_after s p (Counts whose) can q w z h g = inl (h, g, refl)
-  begun_after s p (Finds e) can q w z h g = inl (h, g, refl)
-  begun_after s p (Opens e) can q w z h g = inl (h, g, refl)
-  begun_after s p FindsNothing can q w z h g = inl (h, g, refl)
-  begun_after s p IsRefused can q w z h g = inl (h, g, refl)
-  begun_after s p (DecidesEmpty c r) can q w z h g = inl (h, g, refl)
-  begun_after s p (Passes e) can q w z h g = inl (h, g, refl)
-  begun_after s p (Decides c k e es n r fs m) can q w z h g = inl (h, g, refl)
-  begun_after s p (Places e) can q w z h g = inl (h, g, refl)
-  begun_after s p (Claims e gr low) can q w z h g = inl (h, g, refl)
-  begun_after s p (Moves a i es n) can q w z h g = inl (h, g, refl)
-  begun_after s p (Reports a gr) can q w z h g = inl (h, g, refl)
-  begun_after s p (Publishes e gr) can q w z h g = inl (h, g, refl)
-  begun_after s p (Reads e i f fs es n x) can q w z h g = inl (h, g, refl)
-  begun_after s p (Leaves e i f fs es n) can q w z h g = inl (h, g, refl)
-  begun_after s p (Splits e i f fs) can q w z h g = inl (h, g, refl)
-  begun_after s p (Wipes wiped e i f fs es n) can q w z h g = inl (h, g, refl)
-  begun_after s p (SplitsClear wiped e i f fs) can q w z h g = inl (h, g, refl)
-  begun_after s p (Replies r) can q w z h g = inl (h, g, refl)
-  begun_after s p Ends can q w z h g = inl (h, g, refl)
+  begun_after s p l can q w z h g = inl (h, g, refl)
 
   origin_after : (s : State K V F) (p : ℕ) (l : Transition K V F) → Can cmp hash gives s p l → ((q w : ℕ) → s.began_from q ≡ Some w → (z : Seen K V) × (s.call q ≡ Some (RemoveSeen z))) → (q w : ℕ) → (does cmp hash gives s p l).began_from q ≡ Some w → (z : Seen K V) × ((does cmp hash gives s p l).call q ≡ Some (RemoveSeen z))
   origin_after s p (Begins c y) can old q w h = begins_origin s p c y can old q w h
-  origin_after s p Quiet can old q w h = old q w h
-  origin_after s p Loses can old q w h = old q w h
-  origin_after s p (Counts whose) can old q w h = old q w h
-  origin_after s p (Finds e) can old q w h = old q w h
-  origin_after s p (Opens e) can old q w h = old q w h
-  origin_after s p FindsNothing can old q w h = old q w h
-  origin_after s p IsRefused can old q w h = old q w h
-  origin_after s p (DecidesEmpty c r) can old q w h = old q w h
-  origin_after s p (Passes e) can old q w h = old q w h
-  origin_after s p (Decides c k e es n r fs m) can old q w h = old q w h
-  origin_after s p (Places e) can old q w h = old q w h
-  origin_after s p (Claims e gr low) can old q w h = old q w h
-  origin_after s p (Moves a i es n) can old q w h = old q w h
-  origin_after s p (Reports a gr) can old q w h = old q w h
-  origin_after s p (Publishes e gr) can old q w h = old q w h
-  origin_after s p (Reads e i f fs es n x) can old q w h = old q w h
-  origin_after s p (Leaves e i f fs es n) can old q w h = old q w h
-  origin_after s p (Splits e i f fs) can old q w h = old q w h
-  origin_after s p (Wipes wiped e i f fs es n) can old q w h = old q w h
-  origin_after s p (SplitsClear wiped e i f fs) can old q w h = old q w h
-  origin_after s p (Replies r) can old q w h = old q w h
-  origin_after s p Ends can old q w h = old q w h
+  origin_after s p l can old q w h = old q w h
 
   unread_after : (s : State K V F) (p : ℕ) (l : Transition K V F) → Can cmp hash gives s p l → PartyOk s p → Origins s → (w : ℕ) → (does cmp hash gives s p l).parties ≤ w → (does cmp hash gives s p l).seen w ≡ None
   unread_after s p (Begins c y) can o v w h = grind (arith, h, can.0, v.unread w, eqb-true)
-  unread_after s p Quiet can o v w h = v.unread w h
-  unread_after s p Loses can o v w h = v.unread w h
-  unread_after s p (Counts whose) can o v w h = v.unread w h
-  unread_after s p (Finds e) can o v w h = v.unread w h
-  unread_after s p (Opens e) can o v w h = v.unread w h
-  unread_after s p FindsNothing can o v w h = v.unread w h
-  unread_after s p IsRefused can o v w h = v.unread w h
-  unread_after s p (DecidesEmpty c r) can o v w h = v.unread w h
-  unread_after s p (Passes e) can o v w h = v.unread w h
-  unread_after s p (Decides c k e es n r fs m) can o v w h = v.unread w h
-  unread_after s p (Places e) can o v w h = v.unread w h
-  unread_after s p (Claims e gr low) can o v w h = v.unread w h
-  unread_after s p (Moves a i es n) can o v w h = v.unread w h
-  unread_after s p (Reports a gr) can o v w h = v.unread w h
-  unread_after s p (Publishes e gr) can o v w h = v.unread w h
   unread_after s p (Reads e i f fs es n x) can o v w h = place_other s.seen p w _ (λ e. grind (arith, can.0, (o.unknown (subst (λ q. s.parties ≤ q) e h)).1)) ∙ v.unread w h
-  unread_after s p (Leaves e i f fs es n) can o v w h = v.unread w h
-  unread_after s p (Splits e i f fs) can o v w h = v.unread w h
-  unread_after s p (Wipes wiped e i f fs es n) can o v w h = v.unread w h
-  unread_after s p (SplitsClear wiped e i f fs) can o v w h = v.unread w h
-  unread_after s p (Replies r) can o v w h = v.unread w h
-  unread_after s p Ends can o v w h = v.unread w h
+  unread_after s p l can o v w h = v.unread w h
 
   last_after : (s : State K V F) (p : ℕ) (l : Transition K V F) → Can cmp hash gives s p l → Origins s → (w : ℕ) → last_read (label cmp hash gives p l ∷ s.trace) w ≡ option_map pair_seen ((does cmp hash gives s p l).seen w)
   last_after s p (Begins c y) can v w = grind (arith, can.0, v.last w, v.unread w, eqb-true p w)
-  last_after s p Quiet can v w = v.last w
-  last_after s p Loses can v w = v.last w
-  last_after s p (Counts whose) can v w = v.last w
-  last_after s p (Finds e) can v w = v.last w
-  last_after s p (Opens e) can v w = v.last w
-  last_after s p FindsNothing can v w = v.last w
-  last_after s p IsRefused can v w = v.last w
-  last_after s p (DecidesEmpty c r) can v w = v.last w
-  last_after s p (Passes e) can v w = v.last w
-  last_after s p (Decides c k e es n r fs m) can v w = v.last w
-  last_after s p (Places e) can v w = v.last w
-  last_after s p (Claims e gr low) can v w = v.last w
-  last_after s p (Moves a i es n) can v w = v.last w
-  last_after s p (Reports a gr) can v w = v.last w
-  last_after s p (Publishes e gr) can v w = v.last w
   last_after s p (Reads e i f fs es n x) can v w = grind (arith, v.last w)
-  last_after s p (Leaves e i f fs es n) can v w = v.last w
-  last_after s p (Splits e i f fs) can v w = v.last w
-  last_after s p (Wipes wiped e i f fs es n) can v w = v.last w
-  last_after s p (SplitsClear wiped e i f fs) can v w = v.last w
-  last_after s p (Replies r) can v w = v.last w
-  last_after s p Ends can v w = v.last w
+  last_after s p l can v w = v.last w
 
   pub origins_ok : (s : State K V F) (p : ℕ) (l : Transition K V F) → Can cmp hash gives s p l → PartyOk s p → Origins s → Origins (does cmp hash gives s p l)
   origins_ok s p l can o v = record {

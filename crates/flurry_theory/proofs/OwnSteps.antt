@@ -1,12 +1,12 @@
 -- The mode and the call of a party after a transition, its own or another's.
-use Rattle.std.specs.Prelude.{length, ℕ, suc, ◌+◌, ◌-◌, ◌==◌, Bool, true, false, cond, ◌∷◌, Option, Some, None, ◌≡◌}
+use Rattle.std.specs.Prelude.{length, ℕ, suc, ◌+◌, ◌-◌, ◌^◌, ◌==◌, nat_lt, Bool, true, false, cond, List, [], ◌∷◌, Option, Some, None, ◌≡◌}
 use Rattle.std.specs.declared.cmp.Ordering.{Ordering}
 use Rattle.std.specs.Cmp.{IsTotalOrder}
-use Rattle.std.proofs.Common.{arith, refl, sym}
-use Rattle.std.proofs.lemmas.Bool.{eqb-true, ne_eqb}
+use Rattle.std.proofs.Common.{arith, refl, sym, ◌∙◌, subst, subst₂}
+use Rattle.std.proofs.lemmas.Bool.{eqb-true, eqb-false, ne_eqb, cond-false}
 use Rattle.flurry_theory.specs.Map.{same}
 use Rattle.flurry_theory.specs.Trace.{names}
-use Rattle.flurry_theory.specs.Machine.{State, Transition, effect, label, found_by, onward, halves, mode_after_count, Mode, Locating, Looking, Walking, Clearing, Done, Finished, Begins, Quiet, Loses, Counts, Finds, Opens, FindsNothing, IsRefused, DecidesEmpty, Passes, Decides, Places, Claims, Moves, Reports, Publishes, Reads, Leaves, Splits, Wipes, SplitsClear, Replies, Ends}
+use Rattle.flurry_theory.specs.Machine.{State, Transition, effect, label, found_by, onward, halves, Frame, mode_after_count, Mode, Locating, Looking, Walking, Clearing, Done, Finished, Begins, Quiet, Loses, Counts, Finds, Opens, FindsNothing, IsRefused, DecidesEmpty, Passes, Decides, Places, Claims, Moves, Reports, Publishes, Reads, Leaves, Splits, Wipes, SplitsClear, Replies, Ends}
 use Rattle.flurry_model.specs.declared.call.Call.{Call}
 
 -- what a settled mode keeps, a mode keeps that may have been settled
@@ -14,12 +14,19 @@ pub if_settled : {K V : Type 0} (P : Mode K V → Type 0) → ((m : Mode K V) �
 if_settled P h true m g = h m g
 if_settled P h false m g = g
 
+-- what holds of each mode that a walk or a clear may go on to holds of the one that it does
+pub onward_is : {K V : Type 0} (P : Mode K V → Type 0) (to : ℕ → ℕ → List (Frame K) → Mode K V) (end : Mode K V) (e i : ℕ) (fs : List (Frame K)) → ((j : ℕ) (gs : List (Frame K)) → P (to e j gs)) → P end → P (onward to end e i fs)
+onward_is P to end e i (f ∷ fs) h g = h i (f ∷ fs)
+onward_is P to end e i [] h g = go (nat_lt (suc i) (2 ^ e))
+  where
+    go : (b : Bool) → P (cond b (to e (suc i) (record { table = e; index = suc i; bound = None } ∷ [])) end)
+    go true = h (suc i) (record { table = e; index = suc i; bound = None } ∷ [])
+    go false = g
+
 module _ {K V F : Type 0} (cmp : K → K → Ordering) (total : IsTotalOrder cmp) (hash : K → ℕ) (lawful : (j k : K) → same cmp j k ≡ true → hash j ≡ hash k) (gives : F → K → V → Option V → Type 0) where
   -- the party's own mode and call after its transition
   unfoldable pub next_mode : State K V F → ℕ → Transition K V F → Mode K V
   next_mode s p (Begins c w) = Locating
-  next_mode s p Quiet = s.mode p
-  next_mode s p Loses = s.mode p
   next_mode s p (Counts whose) = cond (whose p) (mode_after_count (s.mode p)) (s.mode p)
   next_mode s p (Finds e) = found_by cmp hash gives (s.call p) e
   next_mode s p (Opens e) = found_by cmp hash gives (s.call p) e
@@ -28,11 +35,6 @@ module _ {K V F : Type 0} (cmp : K → K → Ordering) (total : IsTotalOrder cmp
   next_mode s p (DecidesEmpty c r) = Done (Some r) 0 0
   next_mode s p (Passes e) = Looking (suc e)
   next_mode s p (Decides c k e es n r fs m) = Done (Some r) (length fs - length es) (length es - length fs)
-  next_mode s p (Places e) = s.mode p
-  next_mode s p (Claims e g low) = s.mode p
-  next_mode s p (Moves a i es n) = s.mode p
-  next_mode s p (Reports a g) = s.mode p
-  next_mode s p (Publishes e g) = s.mode p
   next_mode s p (Reads e i f fs es n x) = Walking e i (record { table = f.table; index = f.index; bound = Some x.key } ∷ fs)
   next_mode s p (Leaves e i f fs es n) = onward Walking (Done None 0 0) e i fs
   next_mode s p (Splits e i f fs) = Walking e i (halves f fs)
@@ -40,6 +42,7 @@ module _ {K V F : Type 0} (cmp : K → K → Ordering) (total : IsTotalOrder cmp
   next_mode s p (SplitsClear wiped e i f fs) = Clearing wiped e i (halves f fs)
   next_mode s p (Replies r) = Finished
   next_mode s p Ends = Finished
+  next_mode s p l = s.mode p
 
   -- the mode that another party is then in, which is the same, or the same with what it owed counted
   unfoldable pub other_mode : Transition K V F → ℕ → Mode K V → Mode K V
@@ -50,28 +53,7 @@ module _ {K V F : Type 0} (cmp : K → K → Ordering) (total : IsTotalOrder cmp
   pub other_keeps : (P : Mode K V → Type 0) → ((m : Mode K V) → P m → P (mode_after_count m)) → (l : Transition K V F) (q : ℕ) (m : Mode K V) → P m → P (other_mode l q m)
   unfolding other_mode
   other_keeps P h (Counts whose) q m g = if_settled P h (whose q) m g
-  other_keeps P h (Begins c w) q o y = y
-  other_keeps P h Quiet q o y = y
-  other_keeps P h Loses q o y = y
-  other_keeps P h (Finds e) q o y = y
-  other_keeps P h (Opens e) q o y = y
-  other_keeps P h FindsNothing q o y = y
-  other_keeps P h IsRefused q o y = y
-  other_keeps P h (DecidesEmpty c r) q o y = y
-  other_keeps P h (Passes e) q o y = y
-  other_keeps P h (Decides c k e es n r fs m) q o y = y
-  other_keeps P h (Places e) q o y = y
-  other_keeps P h (Claims e g low) q o y = y
-  other_keeps P h (Moves a i es n) q o y = y
-  other_keeps P h (Reports a g) q o y = y
-  other_keeps P h (Publishes e g) q o y = y
-  other_keeps P h (Reads e i f fs es n x) q o y = y
-  other_keeps P h (Leaves e i f fs es n) q o y = y
-  other_keeps P h (Splits e i f fs) q o y = y
-  other_keeps P h (Wipes wiped e i f fs es n) q o y = y
-  other_keeps P h (SplitsClear wiped e i f fs) q o y = y
-  other_keeps P h (Replies r) q o y = y
-  other_keeps P h Ends q o y = y
+  other_keeps P h l q o y = y
 
   unfoldable pub next_call : State K V F → ℕ → Transition K V F → Option (Call K V F)
   next_call s p (Begins c w) = Some c
@@ -82,77 +64,39 @@ module _ {K V F : Type 0} (cmp : K → K → Ordering) (total : IsTotalOrder cmp
 
   pub mode_after : (s : State K V F) (p q : ℕ) (l : Transition K V F) → (effect cmp hash gives s p l).mode q ≡ cond (p == q) (next_mode s p l) (other_mode l q (s.mode q))
   unfolding next_mode other_mode
-  mode_after s p q (Begins c w) = refl
   mode_after s p q Quiet = at_own s.mode p q
   mode_after s p q Loses = at_own s.mode p q
   mode_after s p q (Counts whose) = at_own (λ q. cond (whose q) (mode_after_count (s.mode q)) (s.mode q)) p q
-  mode_after s p q (Finds e) = refl
-  mode_after s p q (Opens e) = refl
-  mode_after s p q FindsNothing = refl
-  mode_after s p q IsRefused = refl
-  mode_after s p q (DecidesEmpty c r) = refl
-  mode_after s p q (Passes e) = refl
-  mode_after s p q (Decides c k e es n r fs m) = refl
   mode_after s p q (Places e) = at_own s.mode p q
   mode_after s p q (Claims e g low) = at_own s.mode p q
   mode_after s p q (Moves a i es n) = at_own s.mode p q
   mode_after s p q (Reports a g) = at_own s.mode p q
   mode_after s p q (Publishes e g) = at_own s.mode p q
-  mode_after s p q (Reads e i f fs es n x) = refl
-  mode_after s p q (Leaves e i f fs es n) = refl
-  mode_after s p q (Splits e i f fs) = refl
-  mode_after s p q (Wipes wiped e i f fs es n) = refl
-  mode_after s p q (SplitsClear wiped e i f fs) = refl
-  mode_after s p q (Replies r) = refl
-  mode_after s p q Ends = refl
+  mode_after s p q l = refl
 
   pub call_after : (s : State K V F) (p q : ℕ) (l : Transition K V F) → (effect cmp hash gives s p l).call q ≡ cond (p == q) (next_call s p l) (s.call q)
   unfolding next_call
   call_after s p q (Begins c w) = refl
-  call_after s p q Quiet = at_own s.call p q
-  call_after s p q Loses = at_own s.call p q
-  call_after s p q (Counts whose) = at_own s.call p q
-  call_after s p q (Finds e) = at_own s.call p q
-  call_after s p q (Opens e) = at_own s.call p q
-  call_after s p q FindsNothing = at_own s.call p q
-  call_after s p q IsRefused = at_own s.call p q
-  call_after s p q (DecidesEmpty c r) = at_own s.call p q
-  call_after s p q (Passes e) = at_own s.call p q
-  call_after s p q (Decides c k e es n r fs m) = at_own s.call p q
-  call_after s p q (Places e) = at_own s.call p q
-  call_after s p q (Claims e g low) = at_own s.call p q
-  call_after s p q (Moves a i es n) = at_own s.call p q
-  call_after s p q (Reports a g) = at_own s.call p q
-  call_after s p q (Publishes e g) = at_own s.call p q
-  call_after s p q (Reads e i f fs es n x) = at_own s.call p q
-  call_after s p q (Leaves e i f fs es n) = at_own s.call p q
-  call_after s p q (Splits e i f fs) = at_own s.call p q
-  call_after s p q (Wipes wiped e i f fs es n) = at_own s.call p q
-  call_after s p q (SplitsClear wiped e i f fs) = at_own s.call p q
-  call_after s p q (Replies r) = at_own s.call p q
-  call_after s p q Ends = at_own s.call p q
+  call_after s p q l = at_own s.call p q
 
   pub names_own : (p q : ℕ) (l : Transition K V F) → (q ≡ p → ⊥) → names q (label cmp hash gives p l) ≡ false
-  names_own p q (Begins c w) ne = ne_eqb p q (λ h. ne (sym h))
-  names_own p q Quiet ne = ne_eqb p q (λ h. ne (sym h))
-  names_own p q Loses ne = ne_eqb p q (λ h. ne (sym h))
-  names_own p q (Counts whose) ne = ne_eqb p q (λ h. ne (sym h))
-  names_own p q (Finds e) ne = ne_eqb p q (λ h. ne (sym h))
   names_own p q (Opens e) ne = refl
-  names_own p q FindsNothing ne = ne_eqb p q (λ h. ne (sym h))
-  names_own p q IsRefused ne = ne_eqb p q (λ h. ne (sym h))
-  names_own p q (DecidesEmpty c r) ne = ne_eqb p q (λ h. ne (sym h))
-  names_own p q (Passes e) ne = ne_eqb p q (λ h. ne (sym h))
-  names_own p q (Decides c k e es n r fs m) ne = ne_eqb p q (λ h. ne (sym h))
   names_own p q (Places e) ne = refl
-  names_own p q (Claims e g low) ne = ne_eqb p q (λ h. ne (sym h))
   names_own p q (Moves a i es n) ne = refl
-  names_own p q (Reports a g) ne = ne_eqb p q (λ h. ne (sym h))
   names_own p q (Publishes e g) ne = refl
-  names_own p q (Reads e i f fs es n x) ne = ne_eqb p q (λ h. ne (sym h))
-  names_own p q (Leaves e i f fs es n) ne = ne_eqb p q (λ h. ne (sym h))
-  names_own p q (Splits e i f fs) ne = ne_eqb p q (λ h. ne (sym h))
-  names_own p q (Wipes wiped e i f fs es n) ne = ne_eqb p q (λ h. ne (sym h))
-  names_own p q (SplitsClear wiped e i f fs) ne = ne_eqb p q (λ h. ne (sym h))
-  names_own p q (Replies r) ne = ne_eqb p q (λ h. ne (sym h))
-  names_own p q Ends ne = ne_eqb p q (λ h. ne (sym h))
+  names_own p q l ne = ne_eqb p q (λ h. ne (sym h))
+
+  -- what the party's own mode and call have after its transition, and others' have that stayed, each party's have
+  pub own_or_other : (Q : ℕ → Option (Call K V F) → Mode K V → Type 0) (s : State K V F) (p q : ℕ) (l : Transition K V F) → Q p (next_call s p l) (next_mode s p l) → ((q ≡ p → ⊥) → Q q (s.call q) (other_mode l q (s.mode q)))
+      → Q q ((effect cmp hash gives s p l).call q) ((effect cmp hash gives s p l).mode q)
+  own_or_other Q s p q l own other = subst₂ (Q q) (sym (call_after s p q l)) (sym (mode_after s p q l)) (go (p == q) refl)
+    where
+      go : (b : Bool) → (p == q) ≡ b → Q q (cond b (next_call s p l) (s.call q)) (cond b (next_mode s p l) (other_mode l q (s.mode q)))
+      go true e = subst (λ q. Q q (next_call s p l) (next_mode s p l)) (eqb-true p q e) own
+      go false e = other (λ h. eqb-false p q e (sym h))
+
+  pub mode_other : (s : State K V F) (p q : ℕ) (l : Transition K V F) → (q ≡ p → ⊥) → (effect cmp hash gives s p l).mode q ≡ other_mode l q (s.mode q)
+  mode_other s p q l ne = mode_after s p q l ∙ cond-false (p == q) (next_mode s p l) (other_mode l q (s.mode q)) (ne_eqb p q (λ h. ne (sym h)))
+
+  pub call_other : (s : State K V F) (p q : ℕ) (l : Transition K V F) → (q ≡ p → ⊥) → (effect cmp hash gives s p l).call q ≡ s.call q
+  call_other s p q l ne = call_after s p q l ∙ cond-false (p == q) (next_call s p l) (s.call q) (ne_eqb p q (λ h. ne (sym h)))

@@ -1,17 +1,17 @@
 -- The ranges of a growth.
-use Rattle.std.specs.Prelude.{ℕ, suc, zero, ◌+◌, ◌-◌, ◌%◌, ◌^◌, ◌<◌, ◌≤◌, Bool, true, false, cond, List, Option, Some, None, is_some, ◌≡◌, ◌⊎◌}
+use Rattle.std.specs.Prelude.{ℕ, suc, zero, ◌+◌, ◌-◌, ◌%◌, ◌^◌, ◌<◌, ◌≤◌, Bool, true, false, cond, List, [], Option, Some, None, is_some, ◌≡◌, ◌⊎◌}
 use Rattle.std.specs.declared.cmp.Ordering.{Ordering}
 use Rattle.std.proofs.Common.{arith, refl, sym, ◌∙◌, ap, subst, inl, inr}
-use Rattle.std.proofs.lemmas.Bool.{eqb-true, eqb-false, eq-eqb, ne_eqb, cases_order, cases_lt, cases_eq, and_parts, and_from, and_cases, lt-ltb, ltb-true, ltb-false, leb-true, le-leb}
+use Rattle.std.proofs.lemmas.Bool.{eqb-true, eq-eqb, cases_order, cases_lt, cases_eq, and_parts, and_from, lt-ltb, ltb-true, leb-true, le-leb}
 use Rattle.std.proofs.lemmas.Nat.{mod_below, pow_pos}
 use Rattle.flurry_theory.specs.Bin.{Entry}
-use Rattle.flurry_theory.specs.Machine.{State, Slot, Claim, Growth, is_complete, with_report, Transition, MayOpen, Can, does, at_place, Moved, Frame, Begins, Quiet, Loses, Counts, Finds, Opens, FindsNothing, IsRefused, DecidesEmpty, Passes, Decides, Places, Claims, Moves, Reports, Publishes, Reads, Leaves, Splits, Wipes, SplitsClear, Replies, Ends}
+use Rattle.flurry_theory.specs.Machine.{State, Slot, Claim, Growth, is_complete, with_report, Transition, MayOpen, Can, does, at_place, at_bin, Live, Moved, Unborn, Begins, Opens, Decides, Places, Claims, Moves, Reports, Publishes, Wipes}
 use Rattle.flurry_theory.specs.Machine.{total}
-use Rattle.flurry_theory.specs.Invariant.{PartyOk, Tables, size, holds, IsCut}
+use Rattle.flurry_theory.specs.Invariant.{PartyOk, is_live, Tables, size, holds, IsCut}
 use Rattle.flurry_theory.proofs.Bins.{small_mod}
+use Rattle.flurry_theory.proofs.Tables.{placing, at_bin_elim, dead_stays}
 use Rattle.flurry_model.specs.declared.call.Call.{Call}
-use Rattle.flurry_model.specs.declared.call.Call.TheVariants.{Get, GetKeyValue, ContainsKey, Insert, TryInsert, Compute, Remove, RemoveEntry, RemoveSeen, Reserve, Clear, Walk}
-use Rattle.flurry_model.specs.declared.reply.KeptReply.{KeptReply}
+use Rattle.flurry_model.specs.declared.call.Call.TheVariants.{Insert, TryInsert, Reserve}
 use Rattle.flurry_model.specs.declared.sizes.TheConstants.{GREATEST_TABLE}
 
 pub place_here : {X : Type 0} (f : ℕ → X) (p : ℕ) (x : X) → at_place f p x p ≡ x
@@ -19,6 +19,10 @@ place_here f p x = grind (arith, eq-eqb p p refl)
 
 pub place_other : {X : Type 0} (f : ℕ → X) (p q : ℕ) (x : X) → (q ≡ p → ⊥) → at_place f p x q ≡ f q
 place_other f p q x ne = grind (arith, eqb-true p q, ne)
+
+none_of : {X : Type 0} (o : Option X) → ((x : X) → o ≡ Some x → ⊥) → o ≡ None
+none_of None h = refl
+none_of (Some x) h = absurd (h x refl)
 
 -- where a place is emptied, what is left stands elsewhere
 taken_out : {X : Type 0} (f : ℕ → Option X) (p q : ℕ) (x : X) → at_place f p None q ≡ Some x → (q ≡ p → ⊥) × (f q ≡ Some x)
@@ -139,18 +143,10 @@ module _ {K V F : Type 0} (cmp : K → K → Ordering) (hash : K → ℕ) (gives
       ap (λ b. cond b (at_place s.told p (Some a.table)) s.told p) c ∙ place_here s.told p (Some a.table) ∙ at
 
   opening_limit : (c : Call K V F) (e : ℕ) → MayOpen c e → e ≤ GREATEST_TABLE
-  opening_limit (Get k) e h = absurd h
-  opening_limit (GetKeyValue k) e h = absurd h
-  opening_limit (ContainsKey k) e h = absurd h
   opening_limit (Insert k v) e h = omega (arith, h)
   opening_limit (TryInsert k v) e h = omega (arith, h)
-  opening_limit (Compute k f) e h = absurd h
-  opening_limit (Remove k) e h = absurd h
-  opening_limit (RemoveEntry k) e h = absurd h
-  opening_limit (RemoveSeen z) e h = absurd h
   opening_limit (Reserve n) e h = h
-  opening_limit Clear e h = absurd h
-  opening_limit Walk e h = absurd h
+  opening_limit c e h = absurd h
 
   -- the parts of a state that its cut speaks of
   abbrev cut_parts : State K V F → Option ℕ × Option Growth × (ℕ → ℕ → Slot K V) × ℕ × (ℕ → Option Claim) × (ℕ → Option ℕ)
@@ -165,17 +161,17 @@ module _ {K V F : Type 0} (cmp : K → K → Ordering) (hash : K → ℕ) (gives
   cut_begins : (home : ℕ → ℕ) (s : State K V F) (p : ℕ) (c : Call K V F) (w : Option ℕ) → Can cmp hash gives s p (Begins c w) → ((q : ℕ) → PartyOk s q) → Tables cmp hash home s → IsCut s → IsCut (does cmp hash gives s p (Begins c w))
   cut_begins home s p c w can o t u = record {
     made = u.made;
-    idle = λ h q. grind (arith, h, can, o p, u.idle, eqb-true, eqb-false, eq-eqb, ne_eqb, and_parts, and_cases);
+    idle = λ h q. grind (placing, h, can, o p, u.idle);
     near = u.near;
     idle_live = u.idle_live;
-    claims = λ q w h. grind (arith, h, can, o p, u.claims q w, eqb-true, eqb-false, eq-eqb, ne_eqb, and_parts, and_cases);
-    above_unclaimed = λ q w z h y. grind (arith, h, y, can, o p, u.above_unclaimed q w z, eqb-true, eqb-false, eq-eqb, ne_eqb, and_parts, and_cases);
-    left_live = λ q w j h x y. grind (arith, h, x, y, can, o p, u.left_live q w j, u.claims q w, eqb-true, eqb-false, eq-eqb, ne_eqb, and_parts, and_cases);
-    rest_moved = λ q w j h x y. grind (arith, h, x, y, can, o p, u.rest_moved q w j, u.claims q w, eqb-true, eqb-false, eq-eqb, ne_eqb, and_parts, and_cases);
+    claims = λ q w h. grind (placing, h, can, o p, u.claims q w);
+    above_unclaimed = λ q w z h y. grind (placing, h, y, can, o p, u.above_unclaimed q w z);
+    left_live = λ q w j h x y. grind (placing, h, x, y, can, o p, u.left_live q w j, u.claims q w);
+    rest_moved = λ q w j h x y. grind (placing, h, x, y, can, o p, u.rest_moved q w j, u.claims q w);
     unclaimed_live = u.unclaimed_live;
-    apart = λ q v w z ne h y. grind (arith, h, y, ne, can, o p, u.apart q v w z ne, eqb-true, eqb-false, eq-eqb, ne_eqb, and_parts, and_cases);
-    cover = λ d j z h y l. grind (arith, h, y, l, can, o p, u.cover d j z, eqb-true, eqb-false, eq-eqb, ne_eqb, and_parts, and_cases);
-    sum = λ d z h y. grind (arith, h, y, can, o p, u.sum d z, eqb-true, eqb-false, eq-eqb, ne_eqb, and_parts, and_cases);
+    apart = λ q v w z ne h y. grind (placing, h, y, ne, can, o p, u.apart q v w z ne);
+    cover = λ d j z h y l. grind (placing, h, y, l, can, o p, u.cover d j z);
+    sum = λ d z h y. grind (placing, h, y, can, o p, u.sum d z);
     limit = u.limit;
     growth_limit = u.growth_limit;
     told = λ q d h. u.told q d (taken_out s.told p q d h).1;
@@ -183,40 +179,49 @@ module _ {K V F : Type 0} (cmp : K → K → Ordering) (hash : K → ℕ) (gives
     some_told = λ d z h y k. let w : (q : ℕ) × (s.told q ≡ Some d) = u.some_told d z h y k in (w.0, place_other s.told p w.0 None (λ e. grind (arith, e, w.1, can.0, (o p).unknown)) ∙ w.1);
   }
 
-  cut_opens : (home : ℕ → ℕ) (s : State K V F) (p : ℕ) (e : ℕ) → Can cmp hash gives s p (Opens e) → ((q : ℕ) → PartyOk s q) → Tables cmp hash home s → IsCut s → IsCut (does cmp hash gives s p (Opens e))
-  cut_opens home s p e can o t u = record {
-    made = λ z h. grind (arith, h, can, u.made, u.idle, mod_below, lt-ltb, ltb-true, ltb-false, u.made z, eqb-true, eqb-false, eq-eqb, ne_eqb, and_parts, and_cases);
-    idle = λ h q. grind (arith, h, can, u.made, u.idle, mod_below, lt-ltb, ltb-true, ltb-false, u.idle, eqb-true, eqb-false, eq-eqb, ne_eqb, and_parts, and_cases);
-    near = λ z d j h l. grind (arith, h, l, can, u.made, u.idle, mod_below, lt-ltb, ltb-true, ltb-false, u.near z d j, eqb-true, eqb-false, eq-eqb, ne_eqb, and_parts, and_cases);
-    idle_live = λ h d j y l. grind (arith, h, y, l, can, u.made, u.idle, mod_below, lt-ltb, ltb-true, ltb-false, u.idle_live, u.idle h p, eqb-true, eqb-false, eq-eqb, ne_eqb, and_parts, and_cases);
-    claims = λ q w h. grind (arith, h, can, u.made, u.idle, mod_below, lt-ltb, ltb-true, ltb-false, u.claims q w, eqb-true, eqb-false, eq-eqb, ne_eqb, and_parts, and_cases);
-    above_unclaimed = λ q w z h y. grind (arith, h, y, can, u.made, u.idle, mod_below, lt-ltb, ltb-true, ltb-false, u.above_unclaimed q w z, eqb-true, eqb-false, eq-eqb, ne_eqb, and_parts, and_cases);
-    left_live = λ q w j h x y. grind (arith, h, x, y, can, u.made, u.idle, mod_below, lt-ltb, ltb-true, ltb-false, u.left_live q w j, u.claims q w, eqb-true, eqb-false, eq-eqb, ne_eqb, and_parts, and_cases);
-    rest_moved = λ q w j h x y. grind (arith, h, x, y, can, u.made, u.idle, mod_below, lt-ltb, ltb-true, ltb-false, u.rest_moved q w j, u.claims q w, eqb-true, eqb-false, eq-eqb, ne_eqb, and_parts, and_cases);
-    unclaimed_live = λ d j z h y. grind (arith, h, y, can, u.made, u.idle, mod_below, lt-ltb, ltb-true, ltb-false, u.unclaimed_live d j z, eqb-true, eqb-false, eq-eqb, ne_eqb, and_parts, and_cases);
-    apart = u.apart;
-    cover = λ d j z h y l. grind (arith, h, y, l, can, u.made, u.idle, mod_below, lt-ltb, ltb-true, ltb-false, u.cover d j z, eqb-true, eqb-false, eq-eqb, ne_eqb, and_parts, and_cases);
-    sum = λ d z h y. grind (arith, h, y, can, u.made, u.idle, mod_below, lt-ltb, ltb-true, ltb-false, u.sum d z, eqb-true, eqb-false, eq-eqb, ne_eqb, and_parts, and_cases);
-    limit = λ d h. grind (arith, h, opening_limit (can.0) e can.4);
-    growth_limit = λ d z h y. grind (arith, y, can.3, u.made z);
-    told = λ q d h. absurd (grind (arith, can.3, u.told q d h));
-    one_told = u.one_told;
-    some_told = λ d z h y k. absurd (grind (arith, can.3, u.made z y));
+  -- where no growth runs, and nobody has a claim or is told to publish
+  pub idle_cut : (z : State K V F) → z.growth ≡ None → ((p : ℕ) → z.claim p ≡ None) → ((p : ℕ) → z.told p ≡ None) → ((e : ℕ) → z.published ≡ Some e → e ≤ GREATEST_TABLE) → ((f d j : ℕ) → z.published ≡ Some f → suc f < d → z.slot d j ≡ Unborn)
+      → ((e i : ℕ) → z.published ≡ Some e → i < 2 ^ e → is_live (z.slot e i) ≡ true) → IsCut z
+  idle_cut z idle unclaimed untold limit near live = record {
+    made = λ g h. absurd (grind (arith, h, idle));
+    idle = λ _. unclaimed;
+    limit = limit;
+    growth_limit = λ e g h y. absurd (grind (arith, y, idle));
+    near = near;
+    idle_live = λ _. live;
+    claims = λ p a h. absurd (grind (arith, h, unclaimed p));
+    above_unclaimed = λ p a g h. absurd (grind (arith, h, unclaimed p));
+    left_live = λ p a i h. absurd (grind (arith, h, unclaimed p));
+    rest_moved = λ p a i h. absurd (grind (arith, h, unclaimed p));
+    unclaimed_live = λ e i g h y. absurd (grind (arith, y, idle));
+    apart = λ p q a b ne h. absurd (grind (arith, h, unclaimed p));
+    cover = λ e i g h y. absurd (grind (arith, y, idle));
+    sum = λ e g h y. absurd (grind (arith, y, idle));
+    told = λ p e h. absurd (grind (arith, h, untold p));
+    one_told = λ p q e f h. absurd (grind (arith, h, untold p));
+    some_told = λ e g h y. absurd (grind (arith, y, idle));
   }
 
-  cut_decides : (home : ℕ → ℕ) (s : State K V F) (p : ℕ) (c : Call K V F) (k : K) (e : ℕ) (es : List (Entry K V)) (n : ℕ) (r : KeptReply K V) (fs : List (Entry K V)) (m : ℕ) → Can cmp hash gives s p (Decides c k e es n r fs m) → ((q : ℕ) → PartyOk s q) → Tables cmp hash home s → IsCut s → IsCut (does cmp hash gives s p (Decides c k e es n r fs m))
-  cut_decides home s p c k e es n r fs m can o t u = record {
+  cut_opens : (home : ℕ → ℕ) (s : State K V F) (p : ℕ) (e : ℕ) → Can cmp hash gives s p (Opens e) → Tables cmp hash home s → IsCut s → IsCut (does cmp hash gives s p (Opens e))
+  cut_opens home s p e can t u = idle_cut _ idle (u.idle idle) (λ q. none_of (s.told q) (λ d h. grind (arith, can.3, u.told q d h))) (λ d h. grind (arith, h, opening_limit (can.0) e can.4)) (λ f d j h l. grind (arith, h, l, t.unmade can.3 d j, eqb-true, and_parts)) (λ d j h l. grind (arith, h, l, lt-ltb, eq-eqb))
+    where
+      idle : s.growth ≡ None
+      idle = none_of s.growth (λ g h. grind (arith, can.3, u.made g h))
+
+  -- where a live bin has other entries, the cut stays
+  cut_put : (s : State K V F) (e i : ℕ) (es : List (Entry K V)) (n : ℕ) (fs : List (Entry K V)) (m : ℕ) → s.slot e i ≡ Live es n → IsCut s → IsCut (record s { slot = at_bin s.slot e i (Live fs m) })
+  cut_put s e i es n fs m there u = record {
     made = u.made;
     idle = u.idle;
-    near = λ z d j h l. grind (arith, h, l, can, u.near z d j, eqb-true, eqb-false, eq-eqb, ne_eqb, and_parts, and_cases);
-    idle_live = λ h d j y l. grind (arith, h, y, l, can, u.idle_live, u.idle h p, eqb-true, eqb-false, eq-eqb, ne_eqb, and_parts, and_cases);
+    near = λ z d j h l. stays d j Unborn refl (u.near z d j h l);
+    idle_live = λ h d j y l. lives d j (u.idle_live h d j y l);
     claims = u.claims;
     above_unclaimed = u.above_unclaimed;
-    left_live = λ q w j h x y. grind (arith, h, x, y, can, u.left_live q w j, u.claims q w, eqb-true, eqb-false, eq-eqb, ne_eqb, and_parts, and_cases);
-    rest_moved = λ q w j h x y. grind (arith, h, x, y, can, u.rest_moved q w j, u.claims q w, eqb-true, eqb-false, eq-eqb, ne_eqb, and_parts, and_cases);
-    unclaimed_live = λ d j z h y. grind (arith, h, y, can, u.unclaimed_live d j z, eqb-true, eqb-false, eq-eqb, ne_eqb, and_parts, and_cases);
+    left_live = λ q w j h x y. lives w.table j (u.left_live q w j h x y);
+    rest_moved = λ q w j h x y. stays w.table j Moved refl (u.rest_moved q w j h x y);
+    unclaimed_live = λ d j z h y. let w = u.unclaimed_live d j z h y in (w.0, λ l. lives d j (w.1 l));
     apart = u.apart;
-    cover = λ d j z h y l. grind (arith, h, y, l, can, u.cover d j z, eqb-true, eqb-false, eq-eqb, ne_eqb, and_parts, and_cases);
+    cover = λ d j z h y l. over d j (u.cover d j z h y l);
     sum = u.sum;
     limit = u.limit;
     growth_limit = u.growth_limit;
@@ -224,21 +229,31 @@ module _ {K V F : Type 0} (cmp : K → K → Ordering) (hash : K → ℕ) (gives
     one_told = u.one_told;
     some_told = u.some_told;
   }
+    where
+      stays : (d j : ℕ) (v : Slot K V) → is_live v ≡ false → s.slot d j ≡ v → at_bin s.slot e i (Live fs m) d j ≡ v
+      stays = dead_stays s.slot e i es n fs m there
+
+      lives : (d j : ℕ) → is_live (s.slot d j) ≡ true → is_live (at_bin s.slot e i (Live fs m) d j) ≡ true
+      lives d j = at_bin_elim s.slot e i (Live fs m) (λ d j w. is_live (s.slot d j) ≡ true → is_live w ≡ true) d j (λ _. refl) (λ _ h. h)
+
+      over : {X : Type 0} (d j : ℕ) → (s.slot d j ≡ Moved) ⊎ X → (at_bin s.slot e i (Live fs m) d j ≡ Moved) ⊎ X
+      over d j (inl h) = inl (stays d j Moved refl h)
+      over d j (inr h) = inr h
 
   cut_places : (home : ℕ → ℕ) (s : State K V F) (p : ℕ) (e : ℕ) → Can cmp hash gives s p (Places e) → ((q : ℕ) → PartyOk s q) → Tables cmp hash home s → IsCut s → IsCut (does cmp hash gives s p (Places e))
   cut_places home s p e can o t u = record {
-    made = λ z h. grind (arith, h, can, u.made, u.idle, u.made z, eqb-true, eqb-false, eq-eqb, ne_eqb, and_parts, and_cases);
-    idle = λ h q. grind (arith, h, can, u.made, u.idle, u.idle, eqb-true, eqb-false, eq-eqb, ne_eqb, and_parts, and_cases);
+    made = λ z h. ap is_some can.0;
+    idle = λ h. absurd (grind (arith, h));
     near = u.near;
-    idle_live = λ h. grind (arith, h);
-    claims = λ q w h. grind (arith, h, can, u.made, u.idle, u.claims q w, eqb-true, eqb-false, eq-eqb, ne_eqb, and_parts, and_cases);
-    above_unclaimed = λ q w z h y. grind (arith, h, y, can, u.made, u.idle, u.above_unclaimed q w z, eqb-true, eqb-false, eq-eqb, ne_eqb, and_parts, and_cases);
-    left_live = λ q w j h x y. grind (arith, h, x, y, can, u.made, u.idle, u.left_live q w j, u.claims q w, eqb-true, eqb-false, eq-eqb, ne_eqb, and_parts, and_cases);
-    rest_moved = λ q w j h x y. grind (arith, h, x, y, can, u.made, u.idle, u.rest_moved q w j, u.claims q w, eqb-true, eqb-false, eq-eqb, ne_eqb, and_parts, and_cases);
-    unclaimed_live = λ d j z h y. grind (arith, h, y, can, u.made, u.idle, u.unclaimed_live d j z, eqb-true, eqb-false, eq-eqb, ne_eqb, and_parts, and_cases);
-    apart = λ q v w z ne h y. grind (arith, h, y, ne, can, u.made, u.idle, u.apart q v w z ne, eqb-true, eqb-false, eq-eqb, ne_eqb, and_parts, and_cases);
-    cover = λ d j z h y l. grind (arith, h, y, l, can, u.made, u.idle, u.cover d j z, eqb-true, eqb-false, eq-eqb, ne_eqb, and_parts, and_cases);
-    sum = λ d z h y. grind (arith, h, y, can, total-zero (λ q. size (s.claim q)) s.parties (λ q. ap size (u.idle can.1 q)));
+    idle_live = λ h. absurd (grind (arith, h));
+    claims = λ q w h. absurd (grind (arith, h, u.idle can.1 q));
+    above_unclaimed = λ q w z h. absurd (grind (arith, h, u.idle can.1 q));
+    left_live = λ q w j h. absurd (grind (arith, h, u.idle can.1 q));
+    rest_moved = λ q w j h. absurd (grind (arith, h, u.idle can.1 q));
+    unclaimed_live = λ d j z h y. (grind (arith, h, y, can.0), λ l. u.idle_live can.1 d j h (grind (arith, h, y, l, can.0)));
+    apart = λ q v w z ne h. absurd (grind (arith, h, u.idle can.1 q));
+    cover = λ d j z h y l. inr (inl (grind (arith, h, y, l, can.0)));
+    sum = λ d z h y. grind (arith, h, y, can.0, total-zero (λ q. size (s.claim q)) s.parties (λ q. ap size (u.idle can.1 q)));
     limit = u.limit;
     growth_limit = λ d z h y. grind (arith, h, can);
     told = λ q d h. absurd (grind (arith, can.1, u.told q d h));
@@ -248,16 +263,16 @@ module _ {K V F : Type 0} (cmp : K → K → Ordering) (hash : K → ℕ) (gives
 
   cut_claims : (home : ℕ → ℕ) (s : State K V F) (p : ℕ) (e : ℕ) (g : Growth) (low : ℕ) → Can cmp hash gives s p (Claims e g low) → ((q : ℕ) → PartyOk s q) → Tables cmp hash home s → IsCut s → IsCut (does cmp hash gives s p (Claims e g low))
   cut_claims home s p e g low can o t u = record {
-    made = λ z h. grind (arith, h, can, u.made z, eqb-true, eqb-false, eq-eqb, ne_eqb, and_parts, and_cases);
-    idle = λ h q. grind (arith, h, can, u.idle, eqb-true, eqb-false, eq-eqb, ne_eqb, and_parts, and_cases);
+    made = λ z h. grind (placing, h, can, u.made z);
+    idle = λ h q. grind (placing, h, can, u.idle);
     near = u.near;
     idle_live = λ h. grind (arith, h);
-    claims = λ q w h. grind (arith, h, can, u.claims q w, eqb-true, eqb-false, eq-eqb, ne_eqb, and_parts, and_cases);
-    above_unclaimed = λ q w z h y. grind (arith, h, y, can, u.above_unclaimed q w z, eqb-true, eqb-false, eq-eqb, ne_eqb, and_parts, and_cases);
-    left_live = λ q w j h x y. grind (arith, h, x, y, can, u.left_live q w j, u.claims q w, eqb-true, eqb-false, eq-eqb, ne_eqb, and_parts, and_cases);
-    rest_moved = λ q w j h x y. grind (arith, h, x, y, can, u.rest_moved q w j, u.claims q w, eqb-true, eqb-false, eq-eqb, ne_eqb, and_parts, and_cases);
-    unclaimed_live = λ d j z h y. grind (arith, h, y, can, u.unclaimed_live d j z, eqb-true, eqb-false, eq-eqb, ne_eqb, and_parts, and_cases);
-    apart = λ q v w z ne h y. grind (arith, h, y, ne, can, u.apart q v w z ne, eqb-true, eqb-false, eq-eqb, ne_eqb, and_parts, and_cases);
+    claims = λ q w h. grind (placing, h, can, u.claims q w);
+    above_unclaimed = λ q w z h y. grind (placing, h, y, can, u.above_unclaimed q w z);
+    left_live = λ q w j h x y. grind (placing, h, x, y, can, u.left_live q w j, u.claims q w);
+    rest_moved = λ q w j h x y. grind (placing, h, x, y, can, u.rest_moved q w j, u.claims q w);
+    unclaimed_live = λ d j z h y. grind (placing, h, y, can, u.unclaimed_live d j z);
+    apart = λ q v w z ne h y. grind (placing, h, y, ne, can, u.apart q v w z ne);
     cover = λ d j z h y l. claims_cover s p e g low can u d j h l z y;
     sum = λ d z h y. grind (arith, h, y, can, u.sum d g, u.above_unclaimed, total-change (λ q. size ((does cmp hash gives s p (Claims e g low)).claim q)) (λ q. size (s.claim q)) p s.parties can.1 (λ q ne. ap size (place_other s.claim p q _ ne)), place_here s.claim p (Some (record { table = e; low = low; left = g.unclaimed; high = g.unclaimed })));
     limit = u.limit;
@@ -270,17 +285,17 @@ module _ {K V F : Type 0} (cmp : K → K → Ordering) (hash : K → ℕ) (gives
   cut_moves : (home : ℕ → ℕ) (s : State K V F) (p : ℕ) (a : Claim) (i : ℕ) (es : List (Entry K V)) (n : ℕ) → Can cmp hash gives s p (Moves a i es n) → ((q : ℕ) → PartyOk s q) → Tables cmp hash home s → IsCut s → IsCut (does cmp hash gives s p (Moves a i es n))
   cut_moves home s p a i es n can o t u = record {
     made = u.made;
-    idle = λ h q. grind (arith, h, can, u.claims p a can.0, u.idle, eqb-true, eqb-false, eq-eqb, ne_eqb, and_parts, and_cases);
-    near = λ z d j h l. grind (arith, h, l, can, u.claims p a can.0, u.near z d j, eqb-true, eqb-false, eq-eqb, ne_eqb, and_parts, and_cases);
-    idle_live = λ h d j y l. grind (arith, h, y, l, can, u.claims p a can.0, u.idle_live, u.idle h p, eqb-true, eqb-false, eq-eqb, ne_eqb, and_parts, and_cases);
-    claims = λ q w h. grind (arith, h, can, u.claims p a can.0, u.claims q w, eqb-true, eqb-false, eq-eqb, ne_eqb, and_parts, and_cases);
-    above_unclaimed = λ q w z h y. grind (arith, h, y, can, u.claims p a can.0, u.above_unclaimed q w z, eqb-true, eqb-false, eq-eqb, ne_eqb, and_parts, and_cases);
-    left_live = λ q w j h x y. grind (arith, h, x, y, can, u.claims p a can.0, u.left_live q w j, u.claims q w, eqb-true, eqb-false, eq-eqb, ne_eqb, and_parts, and_cases);
-    rest_moved = λ q w j h x y. grind (arith, h, x, y, can, u.claims p a can.0, u.rest_moved q w j, u.claims q w, eqb-true, eqb-false, eq-eqb, ne_eqb, and_parts, and_cases);
-    unclaimed_live = λ d j z h y. grind (arith, h, y, can, u.claims p a can.0, u.unclaimed_live d j z, eqb-true, eqb-false, eq-eqb, ne_eqb, and_parts, and_cases);
-    apart = λ q v w z ne h y. grind (arith, h, y, ne, can, u.claims p a can.0, u.apart q v w z ne, eqb-true, eqb-false, eq-eqb, ne_eqb, and_parts, and_cases);
-    cover = λ d j z h y l. grind (arith, h, y, l, can, u.claims p a can.0, u.cover d j z, eqb-true, eqb-false, eq-eqb, ne_eqb, and_parts, and_cases);
-    sum = λ d z h y. grind (arith, h, y, can, u.claims p a can.0, u.sum d z, eqb-true, eqb-false, eq-eqb, ne_eqb, and_parts, and_cases);
+    idle = λ h q. grind (placing, h, can, u.claims p a can.0, u.idle);
+    near = λ z d j h l. grind (placing, h, l, can, u.claims p a can.0, u.near z d j);
+    idle_live = λ h d j y l. grind (placing, h, y, l, can, u.claims p a can.0, u.idle_live, u.idle h p);
+    claims = λ q w h. grind (placing, h, can, u.claims p a can.0, u.claims q w);
+    above_unclaimed = λ q w z h y. grind (placing, h, y, can, u.claims p a can.0, u.above_unclaimed q w z);
+    left_live = λ q w j h x y. grind (placing, h, x, y, can, u.claims p a can.0, u.left_live q w j, u.claims q w);
+    rest_moved = λ q w j h x y. grind (placing, h, x, y, can, u.claims p a can.0, u.rest_moved q w j, u.claims q w);
+    unclaimed_live = λ d j z h y. grind (placing, h, y, can, u.claims p a can.0, u.unclaimed_live d j z);
+    apart = λ q v w z ne h y. grind (placing, h, y, ne, can, u.claims p a can.0, u.apart q v w z ne);
+    cover = λ d j z h y l. grind (placing, h, y, l, can, u.claims p a can.0, u.cover d j z);
+    sum = λ d z h y. grind (placing, h, y, can, u.claims p a can.0, u.sum d z);
     limit = u.limit;
     growth_limit = u.growth_limit;
     told = u.told;
@@ -290,16 +305,16 @@ module _ {K V F : Type 0} (cmp : K → K → Ordering) (hash : K → ℕ) (gives
 
   cut_reports : (home : ℕ → ℕ) (s : State K V F) (p : ℕ) (a : Claim) (g : Growth) → Can cmp hash gives s p (Reports a g) → ((q : ℕ) → PartyOk s q) → Tables cmp hash home s → IsCut s → IsCut (does cmp hash gives s p (Reports a g))
   cut_reports home s p a g can o t u = record {
-    made = λ z h. grind (arith, h, can, u.claims p a can.0, u.made z, eqb-true, eqb-false, eq-eqb, ne_eqb, and_parts, and_cases);
-    idle = λ h q. grind (arith, h, can, u.claims p a can.0, u.idle, eqb-true, eqb-false, eq-eqb, ne_eqb, and_parts, and_cases);
+    made = λ z h. grind (placing, h, can, u.claims p a can.0, u.made z);
+    idle = λ h q. grind (placing, h, can, u.claims p a can.0, u.idle);
     near = u.near;
     idle_live = λ h. grind (arith, h);
-    claims = λ q w h. grind (arith, h, can, u.claims p a can.0, u.claims q w, eqb-true, eqb-false, eq-eqb, ne_eqb, and_parts, and_cases);
-    above_unclaimed = λ q w z h y. grind (arith, h, y, can, u.claims p a can.0, u.above_unclaimed q w z, eqb-true, eqb-false, eq-eqb, ne_eqb, and_parts, and_cases);
-    left_live = λ q w j h x y. grind (arith, h, x, y, can, u.claims p a can.0, u.left_live q w j, u.claims q w, eqb-true, eqb-false, eq-eqb, ne_eqb, and_parts, and_cases);
-    rest_moved = λ q w j h x y. grind (arith, h, x, y, can, u.claims p a can.0, u.rest_moved q w j, u.claims q w, eqb-true, eqb-false, eq-eqb, ne_eqb, and_parts, and_cases);
-    unclaimed_live = λ d j z h y. grind (arith, h, y, can, u.claims p a can.0, u.unclaimed_live d j z, eqb-true, eqb-false, eq-eqb, ne_eqb, and_parts, and_cases);
-    apart = λ q v w z ne h y. grind (arith, h, y, ne, can, u.claims p a can.0, u.apart q v w z ne, eqb-true, eqb-false, eq-eqb, ne_eqb, and_parts, and_cases);
+    claims = λ q w h. grind (placing, h, can, u.claims p a can.0, u.claims q w);
+    above_unclaimed = λ q w z h y. grind (placing, h, y, can, u.claims p a can.0, u.above_unclaimed q w z);
+    left_live = λ q w j h x y. grind (placing, h, x, y, can, u.claims p a can.0, u.left_live q w j, u.claims q w);
+    rest_moved = λ q w j h x y. grind (placing, h, x, y, can, u.claims p a can.0, u.rest_moved q w j, u.claims q w);
+    unclaimed_live = λ d j z h y. grind (placing, h, y, can, u.claims p a can.0, u.unclaimed_live d j z);
+    apart = λ q v w z ne h y. grind (placing, h, y, ne, can, u.claims p a can.0, u.apart q v w z ne);
     cover = λ d j z h y l. reports_cover s p a g can u d j h l z y;
     sum = λ d z h y. grind (arith, h, y, can, u.claims p a can.0, u.sum d g, total-change (λ q. size ((does cmp hash gives s p (Reports a g)).claim q)) (λ q. size (s.claim q)) p s.parties (claims_known s p a (o p) can.0) (λ q ne. ap size (place_other s.claim p q _ ne)), place_here s.claim p None);
     limit = u.limit;
@@ -310,71 +325,20 @@ module _ {K V F : Type 0} (cmp : K → K → Ordering) (hash : K → ℕ) (gives
   }
 
   cut_publishes : (home : ℕ → ℕ) (s : State K V F) (p e : ℕ) (g : Growth) → Can cmp hash gives s p (Publishes e g) → ((q : ℕ) → PartyOk s q) → Tables cmp hash home s → IsCut s → IsCut (does cmp hash gives s p (Publishes e g))
-  cut_publishes home s p e g can o t u = record {
-    made = λ z h. absurd (grind (arith, h));
-    idle = λ h q. no_claim s p e can.0 o u q;
-    near = λ z d j h l. grind (arith, h, l, can, u.near e d j);
-    idle_live = λ h d j y l. grind (arith, y, l, small_mod d j l, can.1, told_moved s p e g can o u (j % 2 ^ e) (mod_below j (2 ^ e) (pow_pos e)), t.live (grind (arith, can.1)) j, (t.from e can.1).1 j, u.near e (home j) (j % 2 ^ home j), cases_order (home j) (suc e));
-    claims = λ q w h. absurd (grind (arith, h, no_claim s p e can.0 o u q));
-    above_unclaimed = λ q w z h y. absurd (grind (arith, y));
-    left_live = λ q w j h x y. absurd (grind (arith, h, no_claim s p e can.0 o u q));
-    rest_moved = λ q w j h x y. absurd (grind (arith, h, no_claim s p e can.0 o u q));
-    unclaimed_live = λ d j z h y. absurd (grind (arith, y));
-    apart = u.apart;
-    cover = λ d j z h y l. absurd (grind (arith, y));
-    sum = λ d z h y. absurd (grind (arith, y));
-    limit = λ d h. grind (arith, h, u.growth_limit e g can.1 can.2);
-    growth_limit = λ d z h y. absurd (grind (arith, y));
-    told = λ q d h. absurd ((taken_out s.told p q d h).0 (u.one_told q p d e (taken_out s.told p q d h).1 can.0));
-    one_told = λ q r d f h y. u.one_told q r d f (taken_out s.told p q d h).1 (taken_out s.told p r f y).1;
-    some_told = λ d z h y k. absurd (grind (arith, y));
-  }
-
-  cut_wipes : (home : ℕ → ℕ) (s : State K V F) (p wiped e i : ℕ) (f : Frame K) (fs : List (Frame K)) (es : List (Entry K V)) (n : ℕ) → Can cmp hash gives s p (Wipes wiped e i f fs es n) → ((q : ℕ) → PartyOk s q) → Tables cmp hash home s → IsCut s → IsCut (does cmp hash gives s p (Wipes wiped e i f fs es n))
-  cut_wipes home s p wiped e i f fs es n can o t u = record {
-    made = u.made;
-    idle = u.idle;
-    near = λ z d j h l. grind (arith, h, l, can, u.near z d j, eqb-true, eqb-false, eq-eqb, ne_eqb, and_parts, and_cases);
-    idle_live = λ h d j y l. grind (arith, h, y, l, can, u.idle_live, u.idle h p, eqb-true, eqb-false, eq-eqb, ne_eqb, and_parts, and_cases);
-    claims = u.claims;
-    above_unclaimed = u.above_unclaimed;
-    left_live = λ q w j h x y. grind (arith, h, x, y, can, u.left_live q w j, u.claims q w, eqb-true, eqb-false, eq-eqb, ne_eqb, and_parts, and_cases);
-    rest_moved = λ q w j h x y. grind (arith, h, x, y, can, u.rest_moved q w j, u.claims q w, eqb-true, eqb-false, eq-eqb, ne_eqb, and_parts, and_cases);
-    unclaimed_live = λ d j z h y. grind (arith, h, y, can, u.unclaimed_live d j z, eqb-true, eqb-false, eq-eqb, ne_eqb, and_parts, and_cases);
-    apart = u.apart;
-    cover = λ d j z h y l. grind (arith, h, y, l, can, u.cover d j z, eqb-true, eqb-false, eq-eqb, ne_eqb, and_parts, and_cases);
-    sum = u.sum;
-    limit = u.limit;
-    growth_limit = u.growth_limit;
-    told = u.told;
-    one_told = u.one_told;
-    some_told = u.some_told;
-  }
+  cut_publishes home s p e g can o t u = idle_cut _ refl (no_claim s p e can.0 o u) (λ q. none_of (at_place s.told p None q) (λ d h. (taken_out s.told p q d h).0 (u.one_told q p d e (taken_out s.told p q d h).1 can.0))) (λ d h. grind (arith, h, u.growth_limit e g can.1 can.2)) (λ f d j h l. grind (arith, h, l, can, u.near e d j))
+      (λ d j y l. grind (arith, y, l, small_mod d j l, can.1, told_moved s p e g can o u (j % 2 ^ e) (mod_below j (2 ^ e) (pow_pos e)), t.live (grind (arith, can.1)) j, (t.from e can.1).1 j, u.near e (home j) (j % 2 ^ home j), cases_order (home j) (suc e)))
 
   pub cut_ok : (home : ℕ → ℕ) (s : State K V F) (p : ℕ) (l : Transition K V F) → Can cmp hash gives s p l → ((q : ℕ) → PartyOk s q) → Tables cmp hash home s → IsCut s → IsCut (does cmp hash gives s p l)
   cut_ok home s p (Begins c w) can o t u = cut_begins home s p c w can o t u
-  cut_ok home s p Quiet can o t u = cut_same s _ refl u
-  cut_ok home s p Loses can o t u = cut_same s _ refl u
-  cut_ok home s p (Counts whose) can o t u = cut_same s _ refl u
-  cut_ok home s p (Finds e) can o t u = cut_same s _ refl u
-  cut_ok home s p (Opens e) can o t u = cut_opens home s p e can o t u
-  cut_ok home s p FindsNothing can o t u = cut_same s _ refl u
-  cut_ok home s p IsRefused can o t u = cut_same s _ refl u
-  cut_ok home s p (DecidesEmpty c r) can o t u = cut_same s _ refl u
-  cut_ok home s p (Passes e) can o t u = cut_same s _ refl u
-  cut_ok home s p (Decides c k e es n r fs m) can o t u = cut_decides home s p c k e es n r fs m can o t u
+  cut_ok home s p (Opens e) can o t u = cut_opens home s p e can t u
+  cut_ok home s p (Decides c k e es n r fs m) can o t u = cut_same _ _ refl (cut_put s e (hash k % 2 ^ e) es n fs m can.4 u)
   cut_ok home s p (Places e) can o t u = cut_places home s p e can o t u
   cut_ok home s p (Claims e g low) can o t u = cut_claims home s p e g low can o t u
   cut_ok home s p (Moves a i es n) can o t u = cut_moves home s p a i es n can o t u
   cut_ok home s p (Reports a g) can o t u = cut_reports home s p a g can o t u
   cut_ok home s p (Publishes e g) can o t u = cut_publishes home s p e g can o t u
-  cut_ok home s p (Reads e i f fs es n x) can o t u = cut_same s _ refl u
-  cut_ok home s p (Leaves e i f fs es n) can o t u = cut_same s _ refl u
-  cut_ok home s p (Splits e i f fs) can o t u = cut_same s _ refl u
-  cut_ok home s p (Wipes wiped e i f fs es n) can o t u = cut_wipes home s p wiped e i f fs es n can o t u
-  cut_ok home s p (SplitsClear wiped e i f fs) can o t u = cut_same s _ refl u
-  cut_ok home s p (Replies r) can o t u = cut_same s _ refl u
-  cut_ok home s p Ends can o t u = cut_same s _ refl u
+  cut_ok home s p (Wipes wiped e i f fs es n) can o t u = cut_same _ _ refl (cut_put s f.table f.index es n [] n can.1 u)
+  cut_ok home s p l can o t u = cut_same s _ refl u
 
   -- no table has an exponent above the greatest
   pub home_limit : (home : ℕ → ℕ) (s : State K V F) (h : ℕ) → Tables cmp hash home s → IsCut s → is_some s.published ≡ true → home h ≤ GREATEST_TABLE

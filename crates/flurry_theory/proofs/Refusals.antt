@@ -12,37 +12,26 @@ use Rattle.flurry_theory.proofs.Bins.{CanBeRefused-same}
 use Rattle.flurry_theory.proofs.Tables.{same_some}
 use Rattle.flurry_theory.proofs.Walks.{held}
 use Rattle.flurry_model.specs.declared.call.Call.{Call}
-use Rattle.flurry_model.specs.declared.call.Call.TheVariants.{Get, GetKeyValue, ContainsKey, Insert, TryInsert, Compute, Remove, RemoveEntry, RemoveSeen, Reserve, Clear, Walk}
+use Rattle.flurry_model.specs.declared.call.Call.TheVariants.{Insert, TryInsert, Reserve}
 use Rattle.flurry_model.specs.declared.reply.KeptReply.{KeptReply}
 
 module _ {K V F : Type 0} (cmp : K → K → Ordering) (hash : K → ℕ) (gives : F → K → V → Option V → Type 0) where
   -- a party that is refused is neither finished nor decided
   at_work : (s : State K V F) (c : Call K V F) (m : Mode K V) → RefusedAt cmp hash gives s c m → (m ≡ Finished → ⊥) × ((r : KeptReply K V) (a b : ℕ) → m ≡ Done (Some r) a b → ⊥)
-  at_work s c Locating h = (λ e. grind (arith, e), λ r a b e. grind (arith, e))
-  at_work s c (Looking d) h = (λ e. grind (arith, e), λ r a b e. grind (arith, e))
-  at_work s c (Walking d i fs) h = (λ e. grind (arith, e), λ r a b e. grind (arith, e))
   at_work s c (Clearing wiped d i fs) h = absurd h
-  at_work s c (Done None x y) h = (λ e. grind (arith, e), λ r a b e. grind (arith, e))
   at_work s c (Done (Some r) x y) h = absurd h
   at_work s c Finished h = absurd h
+  at_work s c m h = (λ e. grind (arith, e), λ r a b e. grind (arith, e))
 
   pub refused_at_work : (s : State K V F) (p : ℕ) → Can cmp hash gives s p IsRefused → (s.mode p ≡ Finished → ⊥) × ((r : KeptReply K V) (a b : ℕ) → s.mode p ≡ Done (Some r) a b → ⊥)
   refused_at_work s p can = at_work s can.0 (s.mode p) can.3
 
   -- a call that may open the first table may be refused
   opening_refused : (c : Call K V F) (m : Pairs K V) (e : ℕ) → MayOpen c e → CanBeRefused cmp gives c m
-  opening_refused (Get k) m e h = absurd h
-  opening_refused (GetKeyValue k) m e h = absurd h
-  opening_refused (ContainsKey k) m e h = absurd h
   opening_refused (Insert k v) m e h = tt
   opening_refused (TryInsert k v) m e h = tt
-  opening_refused (Compute k f) m e h = absurd h
-  opening_refused (Remove k) m e h = absurd h
-  opening_refused (RemoveEntry k) m e h = absurd h
-  opening_refused (RemoveSeen z) m e h = absurd h
   opening_refused (Reserve n) m e h = tt
-  opening_refused Clear m e h = absurd h
-  opening_refused Walk m e h = absurd h
+  opening_refused c m e h = absurd h
 
 module _ {K V F : Type 0} (cmp : K → K → Ordering) (total : IsTotalOrder cmp) (hash : K → ℕ) (lawful : (j k : K) → same cmp j k ≡ true → hash j ≡ hash k) (gives : F → K → V → Option V → Type 0) where
   at_bin_refused : (home : ℕ → ℕ) (s : State K V F) (p e : ℕ) (c : Call K V F) → Tables cmp hash home s → RefusedAt cmp hash gives s c (Looking e) → CanBeRefused cmp gives c (pairs cmp hash s.trace)

@@ -4,7 +4,7 @@ use Rattle.std.specs.declared.cmp.Ordering.{Ordering}
 use Rattle.std.proofs.Common.{arith}
 use Rattle.std.proofs.lemmas.Grind.{common_steps}
 use Rattle.flurry_theory.specs.Trace.{Trace}
-use Rattle.flurry_theory.specs.Machine.{State, settle, mode_after_count, Mode, Locating, Looking, Walking, Clearing, Done, Finished}
+use Rattle.flurry_theory.specs.Machine.{State, settle, mode_after_count, Mode, Locating, Clearing, Done}
 use Rattle.flurry_theory.specs.Invariant.{PartyOk, Progress, NamesBorn, Waits}
 use Rattle.flurry_model.specs.declared.call.Call.{Call}
 
@@ -25,27 +25,17 @@ module _ {K V F : Type 0} where
   }
 
   pub waits_settled : (call : Option (Call K V F)) (steps : ℕ) (m : Mode K V) → Waits call m steps → Waits call (mode_after_count m) steps
-  waits_settled call steps Locating w = w
-  waits_settled call steps (Looking e) w = w
-  waits_settled call steps (Walking e i fs) w = w
   waits_settled call steps (Clearing wiped e i fs) w = λ h. (λ m. absurd (grind (arith, m)), λ e m. absurd (grind (arith, m)), λ a b m. grind (arith, m))
   waits_settled call steps (Done r x y) w = λ h. (λ m. absurd (grind (arith, m)), λ e m. absurd (grind (arith, m)), λ a b m. grind (arith, m, (w h).2 x y))
-  waits_settled call steps Finished w = w
+  waits_settled call steps m w = w
 
 module _ {K V F : Type 0} (hash : K → ℕ) where
   pub named_settled : (made : Bool) (home : ℕ → ℕ) (start : ℕ) (call : Option (Call K V F)) (m : Mode K V) → NamesBorn hash made home start call m → NamesBorn hash made home start call (mode_after_count m)
   named_settled made home start call Locating n = n
-  named_settled made home start call (Looking e) n = n
-  named_settled made home start call (Walking e i fs) n = n
-  named_settled made home start call (Clearing wiped e i fs) n = n
-  named_settled made home start call (Done r x y) n = n
-  named_settled made home start call Finished n = n
+  named_settled made home start call m n = n
 
 module _ {K V F : Type 0} (cmp : K → K → Ordering) (hash : K → ℕ) (gives : F → K → V → Option V → Type 0) where
   pub progress_settled : (call : Option (Call K V F)) (t : Trace K V F) (p : ℕ) (m : Mode K V) → Progress cmp hash gives call m t p → Progress cmp hash gives call (mode_after_count m) t p
-  progress_settled call t p Locating g = g
-  progress_settled call t p (Looking e) g = g
-  progress_settled call t p (Walking e i fs) g = g
   progress_settled call t p (Clearing wiped e i fs) g = record { unbegun = g.unbegun; seen = λ c _. g.seen c (λ h. grind (arith, h)); unread = λ c _. g.unread c (λ h. grind (arith, h)); cleared = λ c _. g.cleared c (λ h. grind (arith, h)); frames = g.frames }
   progress_settled call t p (Done r x y) g = record { unbegun = g.unbegun; seen = λ c _. g.seen c (λ h. grind (arith, h)); unread = λ c _. g.unread c (λ h. grind (arith, h)); cleared = λ c _. g.cleared c (λ h. grind (arith, h)); frames = tt }
-  progress_settled call t p Finished g = g
+  progress_settled call t p m g = g

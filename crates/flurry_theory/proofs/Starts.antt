@@ -4,7 +4,7 @@ use Rattle.std.specs.declared.cmp.Ordering.{Ordering}
 use Rattle.std.specs.Cmp.{IsTotalOrder}
 use Rattle.std.proofs.Common.{arith, refl, sym, ◌∙◌}
 use Rattle.flurry_theory.specs.Map.{same}
-use Rattle.flurry_theory.specs.Machine.{State, Transition, Can, WasPublished, does, Begins, Quiet, Loses, Counts, Finds, Opens, FindsNothing, IsRefused, DecidesEmpty, Passes, Decides, Places, Claims, Moves, Reports, Publishes, Reads, Leaves, Splits, Wipes, SplitsClear, Replies, Ends}
+use Rattle.flurry_theory.specs.Machine.{State, Transition, Can, WasPublished, does, Opens, Publishes}
 use Rattle.flurry_theory.specs.Invariant.{Inv, IsCut, CanAll, after_all, new_world}
 use Rattle.flurry_theory.proofs.Tables.{same_some}
 use Rattle.flurry_theory.proofs.Step.{inv_after}
@@ -12,29 +12,9 @@ use Rattle.flurry_model.specs.declared.sizes.TheConstants.{GREATEST_TABLE}
 
 module _ {K V F : Type 0} (cmp : K → K → Ordering) (total : IsTotalOrder cmp) (hash : K → ℕ) (lawful : (j k : K) → same cmp j k ≡ true → hash j ≡ hash k) (gives : F → K → V → Option V → Type 0) where
   was_step : (s : State K V F) (p : ℕ) (l : Transition K V F) (e : ℕ) → Can cmp hash gives s p l → IsCut s → WasPublished cmp hash gives s e → WasPublished cmp hash gives (does cmp hash gives s p l) e
-  was_step s p (Begins c y) e can u o = o
-  was_step s p Quiet e can u o = o
-  was_step s p Loses e can u o = o
-  was_step s p (Counts whose) e can u o = o
-  was_step s p (Finds d) e can u o = o
   was_step s p (Opens d) e can u o = absurd (grind (arith, can.3, o.2))
-  was_step s p FindsNothing e can u o = o
-  was_step s p IsRefused e can u o = o
-  was_step s p (DecidesEmpty c r) e can u o = o
-  was_step s p (Passes d) e can u o = o
-  was_step s p (Decides c k d es n r fs m) e can u o = o
-  was_step s p (Places d) e can u o = o
-  was_step s p (Claims d gr low) e can u o = o
-  was_step s p (Moves a i es n) e can u o = o
-  was_step s p (Reports a gr) e can u o = o
   was_step s p (Publishes d gr) e can u o = (o.0, suc d, refl, omega (arith, o.3, same_some (sym o.2 ∙ can.1)))
-  was_step s p (Reads d i f fs es n x) e can u o = o
-  was_step s p (Leaves d i f fs es n) e can u o = o
-  was_step s p (Splits d i f fs) e can u o = o
-  was_step s p (Wipes wiped d i f fs es n) e can u o = o
-  was_step s p (SplitsClear wiped d i f fs) e can u o = o
-  was_step s p (Replies r) e can u o = o
-  was_step s p Ends e can u o = o
+  was_step s p l e can u o = o
 
   -- what was published after some steps of a run may be begun at after any further ones
   pub was_after : (e : ℕ) (b : Bool) → e ≤ GREATEST_TABLE → (more steps : List (ℕ × Transition K V F)) → CanAll cmp hash gives (new_world e b) (more ++ steps) → (x : ℕ) → (after_all cmp hash gives (new_world e b) steps).published ≡ Some x → WasPublished cmp hash gives (after_all cmp hash gives (new_world e b) (more ++ steps)) x

@@ -1,36 +1,35 @@
 -- A step keeps all of it.
-use Rattle.std.specs.Prelude.{length, ℕ, suc, ◌-◌, ◌%◌, ◌^◌, ◌<◌, ◌≤◌, ◌==◌, nat_lt, Bool, true, false, cond, ◌&&◌, List, [], ◌∷◌, Option, Some, None, is_some, if◌then◌else◌, ◌≡◌, ◌⊎◌}
+use Rattle.std.specs.Prelude.{length, ℕ, suc, ◌-◌, ◌%◌, ◌^◌, ◌<◌, ◌≤◌, Bool, true, false, List, [], ◌∷◌, Option, Some, None, is_some, if◌then◌else◌, ◌≡◌, ◌⊎◌}
 use Rattle.std.specs.declared.cmp.Ordering.{Ordering}
 use Rattle.std.specs.Cmp.{IsTotalOrder}
-use Rattle.std.proofs.Common.{arith, refl, sym, ◌∙◌, ap, subst, subst₂, inl, inr}
-use Rattle.std.proofs.lemmas.Bool.{eqb-true, eq-eqb, ne_eqb, cases_eq, cond-true, cond-false, and_parts, lt-ltb, ltb-true}
-use Rattle.std.proofs.lemmas.Nat.{mod_below, pow_pos}
-use Rattle.flurry_theory.specs.Map.{Pairs, same, find, key_of, Allows}
+use Rattle.std.proofs.Common.{arith, refl, sym, ◌∙◌, ap, subst, inl, inr}
+use Rattle.std.proofs.lemmas.Bool.{eqb-true, eq-eqb, and_parts, lt-ltb}
+use Rattle.flurry_theory.specs.Map.{Pairs, same, key_of, Allows}
 use Rattle.flurry_theory.specs.Trace.{names, pairs}
-use Rattle.flurry_theory.specs.Bin.{Entry, pairs_of, IsAscending, InRegion}
-use Rattle.flurry_theory.specs.Machine.{State, Transition, Can, does, label, halves, Live, Moved, Unborn, Locating, Looking, Walking, Clearing, Done, Begins, Quiet, Loses, Counts, Finds, Opens, FindsNothing, IsRefused, DecidesEmpty, Passes, Decides, Places, Claims, Moves, Reports, Publishes, Reads, Leaves, Splits, Wipes, SplitsClear, Replies, Ends}
+use Rattle.flurry_theory.specs.Bin.{pairs_of}
+use Rattle.flurry_theory.specs.Machine.{State, Transition, Can, does, label, halves, Moved, Locating, Looking, Walking, Clearing, Done, Begins, Counts, Finds, Opens, FindsNothing, IsRefused, DecidesEmpty, Passes, Decides, Publishes, Reads, Leaves, Splits, Wipes, SplitsClear, Replies, Ends}
 use Rattle.flurry_theory.specs.Invariant.{PartyOk, Tables, home_after, Progress, Remains, IsCut, NamesBorn, Waits, Inv, Numbers, new_world, CanAll, after_all}
 use Rattle.flurry_theory.proofs.Bins.{Allows-same}
-use Rattle.flurry_theory.proofs.Tables.{same_some, same_live, growth_ended}
+use Rattle.flurry_theory.proofs.Tables.{same_some, growth_ended}
 use Rattle.flurry_theory.proofs.Ranges.{told_moved}
-use Rattle.flurry_theory.specs.Legal.{HasRead, HasLacked, WalkMay, ClearMay, IsWalk, IsClear}
+use Rattle.flurry_theory.specs.Legal.{HasRead, HasLacked, WalkMay, ClearMay}
 use Rattle.flurry_model.specs.declared.call.Call.{Call}
-use Rattle.flurry_model.specs.declared.call.Call.TheVariants.{Get, GetKeyValue, ContainsKey, Insert, TryInsert, Compute, Remove, RemoveEntry, RemoveSeen, Reserve, Clear, Walk}
+use Rattle.flurry_model.specs.declared.call.Call.TheVariants.{Reserve, Clear, Walk}
 use Rattle.flurry_model.specs.declared.reply.KeptReply.{KeptReply}
-use Rattle.flurry_theory.specs.declared.Label.TheVariants.{Decide, Refused, End, Opened, Placed, Published, Silent, Moved as MovedBin, Reply as Replied}
+use Rattle.flurry_theory.specs.declared.Label.TheVariants.{Decide, Refused, End, Opened, Silent, Reply as Replied}
 use Rattle.flurry_theory.proofs.Calls.{party_ok}
-use Rattle.flurry_theory.proofs.Tables.{tables_ok}
-use Rattle.flurry_theory.proofs.Ranges.{cut_ok}
+use Rattle.flurry_theory.proofs.Tables.{tables_ok, new_tables}
+use Rattle.flurry_theory.proofs.Ranges.{cut_ok, idle_cut}
 use Rattle.flurry_theory.proofs.Growth.{AllowsNow, grown_ok, growth_lawful, calls_lawful}
 use Rattle.flurry_theory.proofs.Origins.{origins_ok}
 use Rattle.flurry_theory.proofs.Numbers.{numbers_ok, removals_ok}
-use Rattle.flurry_theory.proofs.Walks.{read_back, not_begun, missing_now, stays_not_missing, advance, keeps, finishes, neither, finds, w_split, w_joined, c_split, c_joined, split_frames, held, reads, read_lawful, leaves, wipes}
+use Rattle.flurry_theory.proofs.Walks.{read_back, not_begun, missing_now, stays_not_missing, advance, keeps, finishes, neither, finds, rest_split, rest_joined, split_frames, held, reads, read_lawful, leaves, wipes}
 use Rattle.flurry_theory.proofs.Refusals.{refused_now}
 use Rattle.flurry_theory.proofs.NoUnbornBin.{named_ok}
 use Rattle.flurry_theory.proofs.Lookups.{waits_ok, looks_up, steps_ok}
 use Rattle.flurry_theory.proofs.Counts.{counted_ok}
 use Rattle.flurry_theory.proofs.Settled.{progress_settled}
-use Rattle.flurry_theory.proofs.OwnSteps.{next_mode, next_call, other_mode, other_keeps, if_settled, mode_after, call_after, names_own}
+use Rattle.flurry_theory.proofs.OwnSteps.{next_mode, next_call, other_keeps, if_settled, own_or_other, names_own}
 use Rattle.flurry_model.specs.declared.sizes.TheConstants.{GREATEST_TABLE}
 
 module _ {K V F : Type 0} (cmp : K → K → Ordering) (total : IsTotalOrder cmp) (hash : K → ℕ) (lawful : (j k : K) → same cmp j k ≡ true → hash j ≡ hash k) (gives : F → K → V → Option V → Type 0) where
@@ -41,8 +40,6 @@ module _ {K V F : Type 0} (cmp : K → K → Ordering) (total : IsTotalOrder cmp
   own : (home : ℕ → ℕ) (s : State K V F) (p : ℕ) (l : Transition K V F) → Can cmp hash gives s p l → PartyOk s p → Tables cmp hash home s → Progress cmp hash gives (s.call p) (s.mode p) s.trace p → Progress cmp hash gives (next_call cmp total hash lawful gives s p l) (next_mode cmp total hash lawful gives s p l) (label cmp hash gives p l ∷ s.trace) p
   unfolding next_mode next_call
   own home s p (Begins c w) can o t g = record { unbegun = λ h. absurd (grind (arith, h)); seen = λ _ _ k. inr (inr tt); unread = λ _ _ k _ h. g.unbegun (o.unknown (omega (arith, can.0))).0 k h; cleared = λ _ _ k. inr tt; frames = tt }
-  own home s p Quiet can o t g = keeps cmp hash gives (s.call p) (s.mode p) s.trace (Silent p) p refl (λ k h. h) g
-  own home s p Loses can o t g = keeps cmp hash gives (s.call p) (s.mode p) s.trace (Silent p) p refl (λ k h. h) g
   own home s p (Counts whose) can o t g = if_settled (λ m. Progress cmp hash gives (s.call p) m (Silent p ∷ s.trace) p) (progress_settled cmp hash gives (s.call p) (Silent p ∷ s.trace) p) (whose p) (s.mode p) (keeps cmp hash gives (s.call p) (s.mode p) s.trace (Silent p) p refl (λ k h. h) g)
   own home s p (Finds e) can o t g = finds cmp hash gives (s.call p) s.trace (Silent p) p e refl (λ k h. h) (subst (λ m. Progress cmp hash gives (s.call p) m s.trace p) can.2 g)
   own home s p (Opens e) can o t g = finds cmp hash gives (s.call p) s.trace (Opened e) p e refl (λ k h. h) (subst (λ m. Progress cmp hash gives (s.call p) m s.trace p) can.2 g)
@@ -51,63 +48,25 @@ module _ {K V F : Type 0} (cmp : K → K → Ordering) (total : IsTotalOrder cmp
   own home s p (DecidesEmpty c r) can o t g = neither cmp hash gives (s.call p) (s.mode p) (Done (Some r) 0 0) s.trace (Decide p r) p (λ k h. h) (λ h. subst (λ c. Allows cmp gives c [] r) (same_some (sym can.0 ∙ h)) can.4) (λ h. subst (λ c. Allows cmp gives c [] r) (same_some (sym can.0 ∙ h)) can.4) tt g
   own home s p (Passes e) can o t g = neither cmp hash gives (s.call p) (s.mode p) (Looking (suc e)) s.trace (Silent p) p (λ k h. h) (no_key can.0 can.1 Walk refl can.3 (s.call p) can.2) (no_key can.0 can.1 Clear refl can.3 (s.call p) can.2) tt g
   own home s p (Decides c k e es n r fs m) can o t g = neither cmp hash gives (s.call p) (s.mode p) (Done (Some r) (length fs - length es) (length es - length fs)) s.trace (Decide p r) p (λ k h. h) (no_key c k Walk refl can.1 (s.call p) can.0) (no_key c k Clear refl can.1 (s.call p) can.0) tt g
-  own home s p (Places e) can o t g = keeps cmp hash gives (s.call p) (s.mode p) s.trace (Placed (suc e)) p refl (λ k h. h) g
-  own home s p (Claims e gr low) can o t g = keeps cmp hash gives (s.call p) (s.mode p) s.trace (Silent p) p refl (λ k h. h) g
-  own home s p (Moves a i es n) can o t g = keeps cmp hash gives (s.call p) (s.mode p) s.trace (MovedBin a.table i) p refl (λ k h. h) g
-  own home s p (Reports a gr) can o t g = keeps cmp hash gives (s.call p) (s.mode p) s.trace (Silent p) p refl (λ k h. h) g
-  own home s p (Publishes e gr) can o t g = keeps cmp hash gives (s.call p) (s.mode p) s.trace (Published (suc e)) p refl (λ k h. h) g
   own home s p (Reads e i f fs es n x) can o t g = reads cmp total hash lawful gives home s p e i f fs es n x can t (o.walking e i (f ∷ fs) can.0) (subst (λ m. Progress cmp hash gives (s.call p) m s.trace p) can.0 g)
   own home s p (Leaves e i f fs es n) can o t g = leaves cmp total hash lawful gives home s p e i f fs es n can t (o.walking e i (f ∷ fs) can.0) (subst (λ m. Progress cmp hash gives (s.call p) m s.trace p) can.0 g)
-  own home s p (Splits e i f fs) can o t g = let lt : f.index < 2 ^ f.table = grind (arith, can.1, t.outside f.table f.index) in let m : Progress cmp hash gives (s.call p) (Walking e i (f ∷ fs)) s.trace p = (subst (λ m. Progress cmp hash gives (s.call p) m s.trace p) can.0 g) in advance cmp hash gives (s.call p) (Walking e i (f ∷ fs)) (Walking e i (halves f fs)) s.trace (Silent p) p refl (λ k h. h) (λ h. grind (arith, h)) (λ _ k r. inr (inr (w_split cmp hash gives e i f fs k r))) (λ h. absurd (grind (arith, h, o.walking e i (f ∷ fs) can.0))) (λ k r. w_joined cmp hash gives e i f fs k lt r) (split_frames cmp hash gives e i f fs lt m.frames) m
+  own home s p (Splits e i f fs) can o t g = let lt : f.index < 2 ^ f.table = grind (arith, can.1, t.outside f.table f.index) in let m : Progress cmp hash gives (s.call p) (Walking e i (f ∷ fs)) s.trace p = (subst (λ m. Progress cmp hash gives (s.call p) m s.trace p) can.0 g) in advance cmp hash gives (s.call p) (Walking e i (f ∷ fs)) (Walking e i (halves f fs)) s.trace (Silent p) p refl (λ k h. h) (λ h. grind (arith, h)) (λ _ k r. inr (inr (rest_split cmp hash gives e i f fs k r))) (λ h. absurd (grind (arith, h, o.walking e i (f ∷ fs) can.0))) (λ k r. rest_joined cmp hash gives e i f fs k lt r) (split_frames cmp hash gives e i f fs lt m.frames) m
   own home s p (Wipes wiped e i f fs es n) can o t g = wipes cmp total hash lawful gives home s p wiped e i f fs es n can (o.clearing wiped e i (f ∷ fs) can.0) (subst (λ m. Progress cmp hash gives (s.call p) m s.trace p) can.0 g)
-  own home s p (SplitsClear wiped e i f fs) can o t g = let lt : f.index < 2 ^ f.table = grind (arith, can.1, t.outside f.table f.index) in let m : Progress cmp hash gives (s.call p) (Clearing wiped e i (f ∷ fs)) s.trace p = (subst (λ m. Progress cmp hash gives (s.call p) m s.trace p) can.0 g) in advance cmp hash gives (s.call p) (Clearing wiped e i (f ∷ fs)) (Clearing wiped e i (halves f fs)) s.trace (Silent p) p refl (λ k h. h) (λ h. grind (arith, h)) (λ h. absurd (grind (arith, h, o.clearing wiped e i (f ∷ fs) can.0))) (λ _ k r. inr (c_split cmp hash gives wiped e i f fs k r)) (λ k r. c_joined cmp hash gives wiped e i f fs k lt r) (split_frames cmp hash gives e i f fs lt m.frames) m
+  own home s p (SplitsClear wiped e i f fs) can o t g = let lt : f.index < 2 ^ f.table = grind (arith, can.1, t.outside f.table f.index) in let m : Progress cmp hash gives (s.call p) (Clearing wiped e i (f ∷ fs)) s.trace p = (subst (λ m. Progress cmp hash gives (s.call p) m s.trace p) can.0 g) in advance cmp hash gives (s.call p) (Clearing wiped e i (f ∷ fs)) (Clearing wiped e i (halves f fs)) s.trace (Silent p) p refl (λ k h. h) (λ h. grind (arith, h)) (λ h. absurd (grind (arith, h, o.clearing wiped e i (f ∷ fs) can.0))) (λ _ k r. inr (rest_split cmp hash gives e i f fs k r)) (λ k r. rest_joined cmp hash gives e i f fs k lt r) (split_frames cmp hash gives e i f fs lt m.frames) m
   own home s p (Replies r) can o t g = finishes cmp hash gives (s.call p) (s.mode p) s.trace (Replied p r) p (λ k h. h) g
   own home s p Ends can o t g = finishes cmp hash gives (s.call p) (s.mode p) s.trace (End p) p (λ k h. h) g
+  own home s p l can o t g = keeps cmp hash gives (s.call p) (s.mode p) s.trace (label cmp hash gives p l) p refl (λ k h. h) g
 
   pub progress_ok : (home : ℕ → ℕ) (s : State K V F) (p q : ℕ) (l : Transition K V F) → Can cmp hash gives s p l → PartyOk s p → Tables cmp hash home s → ((q : ℕ) → Progress cmp hash gives (s.call q) (s.mode q) s.trace q)
       → Progress cmp hash gives ((does cmp hash gives s p l).call q) ((does cmp hash gives s p l).mode q) (label cmp hash gives p l ∷ s.trace) q
-  progress_ok home s p q l can o t g = go (cases_eq q p)
-    where
-      go : (q ≡ p) ⊎ (q ≡ p → ⊥) → Progress cmp hash gives ((does cmp hash gives s p l).call q) ((does cmp hash gives s p l).mode q) (label cmp hash gives p l ∷ s.trace) q
-      go (inl e) = subst₂ (λ c m. Progress cmp hash gives c m (label cmp hash gives p l ∷ s.trace) q)
-          (sym (call_after cmp total hash lawful gives s p q l ∙ cond-true (p == q) (next_call cmp total hash lawful gives s p l) (s.call q) (eq-eqb p q (sym e)))) (sym (mode_after cmp total hash lawful gives s p q l ∙ cond-true (p == q) (next_mode cmp total hash lawful gives s p l) (other_mode cmp total hash lawful gives l q (s.mode q)) (eq-eqb p q (sym e))))
-          (subst (λ q. Progress cmp hash gives (next_call cmp total hash lawful gives s p l) (next_mode cmp total hash lawful gives s p l) (label cmp hash gives p l ∷ s.trace) q) (sym e) (own home s p l can o t (g p)))
-      go (inr ne) = subst₂ (λ c m. Progress cmp hash gives c m (label cmp hash gives p l ∷ s.trace) q)
-          (sym (call_after cmp total hash lawful gives s p q l ∙ cond-false (p == q) (next_call cmp total hash lawful gives s p l) (s.call q) (ne_eqb p q (λ h. ne (sym h))))) (sym (mode_after cmp total hash lawful gives s p q l ∙ cond-false (p == q) (next_mode cmp total hash lawful gives s p l) (other_mode cmp total hash lawful gives l q (s.mode q)) (ne_eqb p q (λ h. ne (sym h)))))
-          (other_keeps cmp total hash lawful gives (λ m. Progress cmp hash gives (s.call q) m (label cmp hash gives p l ∷ s.trace) q) (progress_settled cmp hash gives (s.call q) (label cmp hash gives p l ∷ s.trace) q) l q (s.mode q)
-          (keeps cmp hash gives (s.call q) (s.mode q) s.trace (label cmp hash gives p l) q (not_begun cmp hash gives (label cmp hash gives p l) q (names_own cmp total hash lawful gives p q l ne)) (λ k h. read_back cmp hash gives s.trace (label cmp hash gives p l) q k (names_own cmp total hash lawful gives p q l ne) h) (g q)))
-
-  walk_is : (c : Call K V F) → IsWalk c → c ≡ Walk
-  walk_is Walk h = refl
-  walk_is (Get k) h = absurd h
-  walk_is (GetKeyValue k) h = absurd h
-  walk_is (ContainsKey k) h = absurd h
-  walk_is (Insert k v) h = absurd h
-  walk_is (TryInsert k v) h = absurd h
-  walk_is (Compute k f) h = absurd h
-  walk_is (Remove k) h = absurd h
-  walk_is (RemoveEntry k) h = absurd h
-  walk_is (RemoveSeen s) h = absurd h
-  walk_is (Reserve n) h = absurd h
-  walk_is (Clear) h = absurd h
-
-  clear_is : (c : Call K V F) → IsClear c → c ≡ Clear
-  clear_is Clear h = refl
-  clear_is (Get k) h = absurd h
-  clear_is (GetKeyValue k) h = absurd h
-  clear_is (ContainsKey k) h = absurd h
-  clear_is (Insert k v) h = absurd h
-  clear_is (TryInsert k v) h = absurd h
-  clear_is (Compute k f) h = absurd h
-  clear_is (Remove k) h = absurd h
-  clear_is (RemoveEntry k) h = absurd h
-  clear_is (RemoveSeen s) h = absurd h
-  clear_is (Reserve n) h = absurd h
-  clear_is (Walk) h = absurd h
+  progress_ok home s p q l can o t g = own_or_other cmp total hash lawful gives (λ q c m. Progress cmp hash gives c m (label cmp hash gives p l ∷ s.trace) q) s p q l (own home s p l can o t (g p))
+      (λ ne. let n : names q (label cmp hash gives p l) ≡ false = names_own cmp total hash lawful gives p q l ne in
+      other_keeps cmp total hash lawful gives (λ m. Progress cmp hash gives (s.call q) m (label cmp hash gives p l ∷ s.trace) q) (progress_settled cmp hash gives (s.call q) (label cmp hash gives p l ∷ s.trace) q) l q (s.mode q)
+      (keeps cmp hash gives (s.call q) (s.mode q) s.trace (label cmp hash gives p l) q (not_begun cmp hash gives (label cmp hash gives p l) q n) (λ k h. read_back cmp hash gives s.trace (label cmp hash gives p l) q k n h) (g q)))
 
   -- a walk that ends has read all that stayed
   end_lawful : (s : State K V F) (p : ℕ) → Can cmp hash gives s p Ends → PartyOk s p → Progress cmp hash gives (s.call p) (s.mode p) s.trace p → WalkMay cmp hash gives s.trace (End p)
-  end_lawful s p can o g w k st = go (g.seen (sym o.call ∙ w.1 ∙ ap Some (walk_is w.0 w.2)) (λ h. grind (arith, h, can.3)) k)
+  end_lawful s p can o g w k st = go (g.seen (sym o.call ∙ w.1 ∙ ap Some w.2) (λ h. grind (arith, h, can.3)) k)
     where
       none : Remains cmp hash gives (s.mode p) k → ⊥
       none r = subst (λ m. Remains cmp hash gives m k) can.3 r
@@ -118,7 +77,7 @@ module _ {K V F : Type 0} (cmp : K → K → Ordering) (total : IsTotalOrder cmp
       go (inr (inr h)) = absurd (none h)
 
   clear_lawful : (s : State K V F) (p : ℕ) → Can cmp hash gives s p Ends → PartyOk s p → Progress cmp hash gives (s.call p) (s.mode p) s.trace p → ClearMay cmp hash gives s.trace (End p)
-  clear_lawful s p can o g w k = go (g.cleared (sym o.call ∙ w.1 ∙ ap Some (clear_is w.0 w.2)) (λ h. grind (arith, h, can.3)) k)
+  clear_lawful s p can o g w k = go (g.cleared (sym o.call ∙ w.1 ∙ ap Some w.2) (λ h. grind (arith, h, can.3)) k)
     where
       none : Remains cmp hash gives (s.mode p) k → ⊥
       none r = subst (λ m. Remains cmp hash gives m k) can.3 r
@@ -128,94 +87,26 @@ module _ {K V F : Type 0} (cmp : K → K → Ordering) (total : IsTotalOrder cmp
       go (inr h) = absurd (none h)
 
   walks_lawful : (home : ℕ → ℕ) (s : State K V F) (p : ℕ) (l : Transition K V F) → Can cmp hash gives s p l → PartyOk s p → Tables cmp hash home s → Progress cmp hash gives (s.call p) (s.mode p) s.trace p → WalkMay cmp hash gives s.trace (label cmp hash gives p l)
-  walks_lawful home s p (Begins c w) can o t g = tt
-  walks_lawful home s p Quiet can o t g = tt
-  walks_lawful home s p Loses can o t g = tt
-  walks_lawful home s p (Counts whose) can o t g = tt
-  walks_lawful home s p (Finds e) can o t g = tt
-  walks_lawful home s p (Opens e) can o t g = tt
-  walks_lawful home s p FindsNothing can o t g = tt
-  walks_lawful home s p IsRefused can o t g = tt
-  walks_lawful home s p (DecidesEmpty c r) can o t g = tt
-  walks_lawful home s p (Passes e) can o t g = tt
-  walks_lawful home s p (Decides c k e es n r fs m) can o t g = tt
-  walks_lawful home s p (Places e) can o t g = tt
-  walks_lawful home s p (Claims e gr low) can o t g = tt
-  walks_lawful home s p (Moves a i es n) can o t g = tt
-  walks_lawful home s p (Reports a gr) can o t g = tt
-  walks_lawful home s p (Publishes e gr) can o t g = tt
   walks_lawful home s p (Reads e i f fs es n x) can o t g = read_lawful cmp total hash lawful gives home s p e i f fs es n x can t (o.walking e i (f ∷ fs) can.0) (subst (λ m. Progress cmp hash gives (s.call p) m s.trace p) can.0 g)
-  walks_lawful home s p (Leaves e i f fs es n) can o t g = tt
-  walks_lawful home s p (Splits e i f fs) can o t g = tt
-  walks_lawful home s p (Wipes wiped e i f fs es n) can o t g = tt
-  walks_lawful home s p (SplitsClear wiped e i f fs) can o t g = tt
-  walks_lawful home s p (Replies r) can o t g = tt
   walks_lawful home s p Ends can o t g = end_lawful s p can o g
+  walks_lawful home s p l can o t g = tt
 
   clears_lawful : (s : State K V F) (p : ℕ) (l : Transition K V F) → Can cmp hash gives s p l → PartyOk s p → Progress cmp hash gives (s.call p) (s.mode p) s.trace p → ClearMay cmp hash gives s.trace (label cmp hash gives p l)
-  clears_lawful s p (Begins c w) can o g = tt
-  clears_lawful s p Quiet can o g = tt
-  clears_lawful s p Loses can o g = tt
-  clears_lawful s p (Counts whose) can o g = tt
-  clears_lawful s p (Finds e) can o g = tt
-  clears_lawful s p (Opens e) can o g = tt
-  clears_lawful s p FindsNothing can o g = tt
-  clears_lawful s p IsRefused can o g = tt
-  clears_lawful s p (DecidesEmpty c r) can o g = tt
-  clears_lawful s p (Passes e) can o g = tt
-  clears_lawful s p (Decides c k e es n r fs m) can o g = tt
-  clears_lawful s p (Places e) can o g = tt
-  clears_lawful s p (Claims e gr low) can o g = tt
-  clears_lawful s p (Moves a i es n) can o g = tt
-  clears_lawful s p (Reports a gr) can o g = tt
-  clears_lawful s p (Publishes e gr) can o g = tt
-  clears_lawful s p (Reads e i f fs es n x) can o g = tt
-  clears_lawful s p (Leaves e i f fs es n) can o g = tt
-  clears_lawful s p (Splits e i f fs) can o g = tt
-  clears_lawful s p (Wipes wiped e i f fs es n) can o g = tt
-  clears_lawful s p (SplitsClear wiped e i f fs) can o g = tt
-  clears_lawful s p (Replies r) can o g = tt
   clears_lawful s p Ends can o g = clear_lawful s p can o g
+  clears_lawful s p l can o g = tt
 
   -- ALL OF IT
   one_key_allows : (c : Call K V F) (m : Pairs K V) (r : KeptReply K V) → Allows cmp gives c m r → (k : K) × (key_of c ≡ Some k)
-  one_key_allows (Get k) m r h = (k, refl)
-  one_key_allows (GetKeyValue k) m r h = (k, refl)
-  one_key_allows (ContainsKey k) m r h = (k, refl)
-  one_key_allows (Insert k v) m r h = (k, refl)
-  one_key_allows (TryInsert k v) m r h = (k, refl)
-  one_key_allows (Compute k f) m r h = (k, refl)
-  one_key_allows (Remove k) m r h = (k, refl)
-  one_key_allows (RemoveEntry k) m r h = (k, refl)
-  one_key_allows (RemoveSeen s) m r h = (s.key, refl)
   one_key_allows (Reserve n) m r h = absurd h
   one_key_allows Clear m r h = absurd h
   one_key_allows Walk m r h = absurd h
+  one_key_allows c m r h = (_, refl)
 
   allows_now : (home : ℕ → ℕ) (s : State K V F) (p : ℕ) (l : Transition K V F) → Can cmp hash gives s p l → PartyOk s p → Tables cmp hash home s → AllowsNow cmp hash gives s p l
-  allows_now home s p (Begins c w) can o t = tt
-  allows_now home s p Quiet can o t = tt
-  allows_now home s p Loses can o t = tt
-  allows_now home s p (Counts whose) can o t = tt
-  allows_now home s p (Finds e) can o t = tt
-  allows_now home s p (Opens e) can o t = tt
-  allows_now home s p FindsNothing can o t = tt
   allows_now home s p IsRefused can o t = refused_now cmp total hash lawful gives home s p can o t
   allows_now home s p (DecidesEmpty c r) can o t = let k : (k : K) × (key_of c ≡ Some k) = one_key_allows c [] r can.4 in Allows-same cmp total gives c r [] (pairs cmp hash s.trace) k.0 k.1 (sym (t.empty can.2 k.0)) can.4
-  allows_now home s p (Passes e) can o t = tt
   allows_now home s p (Decides c k e es n r fs m) can o t = Allows-same cmp total gives c r (pairs_of es) (pairs cmp hash s.trace) k can.1 (held cmp total hash lawful gives home s e (hash k % 2 ^ e) es n k t can.4 refl) can.5.allowed
-  allows_now home s p (Places e) can o t = tt
-  allows_now home s p (Claims e g low) can o t = tt
-  allows_now home s p (Moves a i es n) can o t = tt
-  allows_now home s p (Reports a g) can o t = tt
-  allows_now home s p (Publishes e g) can o t = tt
-  allows_now home s p (Reads e i f fs es n x) can o t = tt
-  allows_now home s p (Leaves e i f fs es n) can o t = tt
-  allows_now home s p (Splits e i f fs) can o t = tt
-  allows_now home s p (Wipes wiped e i f fs es n) can o t = tt
-  allows_now home s p (SplitsClear wiped e i f fs) can o t = tt
-  allows_now home s p (Replies r) can o t = tt
-  allows_now home s p Ends can o t = tt
+  allows_now home s p l can o t = tt
 
   -- a growth that ends has moved every bin
   ready : (s : State K V F) (p : ℕ) (l : Transition K V F) → Can cmp hash gives s p l → ((q : ℕ) → PartyOk s q) → IsCut s → (e : ℕ) → growth_ended cmp total hash lawful gives l ≡ Some e → (s.published ≡ Some e) × ((i : ℕ) → i < 2 ^ e → s.slot e i ≡ Moved)
@@ -247,7 +138,7 @@ module _ {K V F : Type 0} (cmp : K → K → Ordering) (total : IsTotalOrder cmp
   }
     where
       parties : (q : ℕ) → PartyOk (does cmp hash gives s p l) q
-      parties = λ q. party_ok cmp hash gives s p q l can (v.parties p) (v.parties q)
+      parties = λ q. party_ok cmp total hash lawful gives s p q l can (v.parties p) (v.parties q)
 
       tables : Tables cmp hash (home_after home l) (does cmp hash gives s p l)
       tables = tables_ok cmp total hash lawful gives home s p l can (v.parties p) (ready s p l can v.parties v.cut) v.tables
@@ -261,47 +152,9 @@ module _ {K V F : Type 0} (cmp : K → K → Ordering) (total : IsTotalOrder cmp
       waits : (q : ℕ) → Waits ((does cmp hash gives s p l).call q) ((does cmp hash gives s p l).mode q) ((does cmp hash gives s p l).steps q)
       waits = λ q. waits_ok cmp total hash lawful gives s p q l can (v.parties p) v.waits
 
-  -- a new world, without a table or with table e
-  new_bin : (P : List (Entry K V) → Type 0) (b : Bool) (es : List (Entry K V)) (n : ℕ) → P [] → cond b (Live [] 0) Unborn ≡ Live es n → P es
-  new_bin P true es n p h = subst P (same_live h) p
-  new_bin P false es n p h = absurd (grind (arith, h))
-
-  new_tables : (e : ℕ) (b : Bool) → Tables cmp hash (λ _. e) (new_world {K = K} {V = V} {F = F} e b)
-  new_tables e b = record {
-    unmade = λ h d j. grind (arith, h);
-    from = λ f h. (grind (arith, h), λ _. grind (arith, h));
-    live = λ h x. grind (arith, h, mod_below x (2 ^ e) (pow_pos e), lt-ltb, eq-eqb e e refl);
-    below = λ h x d l m. absurd (omega (arith, l, m));
-    above = λ h x d l. grind (arith, l, eqb-true, and_parts);
-    early = λ d j l. grind (arith, l, eqb-true, and_parts);
-    outside = λ d j l. grind (arith, l, eqb-true, and_parts, ltb-true);
-    ascending = λ d j es n h. new_bin (λ fs. IsAscending cmp hash fs × InRegion hash d j fs) (b && (e == d && nat_lt j (2 ^ e))) es n (tt, tt) h;
-    empty = λ _ k. refl;
-    content = λ k es n h. new_bin (λ fs. find cmp (pairs_of fs) k ≡ None) (b && (e == e && nat_lt (hash k % 2 ^ e) (2 ^ e))) es n refl h;
-    was_moved = λ d j h. absurd (grind (arith, h));
-    is_moved = λ d j h. absurd (grind (arith, h));
-  }
-
+  -- a new world
   new_cut : (e : ℕ) (b : Bool) → e ≤ GREATEST_TABLE → IsCut (new_world {K = K} {V = V} {F = F} e b)
-  new_cut e b l = record {
-    made = λ g h. grind (arith, h);
-    idle = λ _ p. refl;
-    limit = λ f h. grind (arith, h, l);
-    growth_limit = λ f g h y. absurd (grind (arith, y));
-    near = λ f d j h m. grind (arith, h, m, eqb-true, and_parts);
-    idle_live = λ _ d j h l. grind (arith, h, l, lt-ltb, eq-eqb);
-    claims = λ p a h. absurd (grind (arith, h));
-    above_unclaimed = λ p a g h. absurd (grind (arith, h));
-    left_live = λ p a i h. absurd (grind (arith, h));
-    rest_moved = λ p a i h. absurd (grind (arith, h));
-    unclaimed_live = λ d i g h y. absurd (grind (arith, y));
-    apart = λ p q a b n h. absurd (grind (arith, h));
-    cover = λ d i g h y. absurd (grind (arith, y));
-    sum = λ d g h y. absurd (grind (arith, y));
-    told = λ p e h. absurd (grind (arith, h));
-    one_told = λ p q e f h. absurd (grind (arith, h));
-    some_told = λ e g h y. absurd (grind (arith, y));
-  }
+  new_cut e b l = idle_cut cmp hash gives _ refl (λ _. refl) (λ _. refl) (λ f h. grind (arith, h, l)) (λ f d j h m. grind (arith, h, m, eqb-true, and_parts)) (λ d j h l. grind (arith, h, l, lt-ltb, eq-eqb))
 
   new_numbers : (e : ℕ) (b : Bool) → Numbers cmp hash gives (λ _. e) (new_world {K = K} {V = V} {F = F} e b)
   new_numbers e b = record {
@@ -315,7 +168,7 @@ module _ {K V F : Type 0} (cmp : K → K → Ordering) (total : IsTotalOrder cmp
   pub inv_new : (e : ℕ) (b : Bool) → e ≤ GREATEST_TABLE → Inv cmp hash gives (if b then Some e else None) (λ _. e) (new_world e b)
   inv_new e b l = record {
     parties = λ p. record { call = refl; unknown = λ _. (refl, refl, refl, refl, refl, refl, refl); going = λ h. absurd (h refl); undecided = λ _ _. refl; decided = λ r a b h. absurd (grind (arith, h)); looking = λ d h. absurd (grind (arith, h)); finished = λ _ h. absurd (grind (arith, h)); walking = λ d i fs h. absurd (grind (arith, h)); settled = λ h. absurd (grind (arith, h)); refused = λ h. absurd (grind (arith, h)); clearing = λ n d i fs h. absurd (grind (arith, h)) };
-    tables = new_tables e b;
+    tables = new_tables cmp total hash lawful gives e b;
     cut = new_cut e b l;
     grown = record { number = refl; placed_next = λ d g h y. absurd (grind (arith, y)); unplaced = λ _ d. refl; unplaced_idle = λ d j _ _ _. refl; unplaced_above = λ d j _ _. refl };
     progress = λ p. record { unbegun = λ _ k h. h; seen = λ h. absurd (grind (arith, h)); unread = λ h. absurd (grind (arith, h)); cleared = λ h. absurd (grind (arith, h)); frames = tt };

@@ -1,20 +1,21 @@
 -- Which bins are live, and that they hold the map.
-use Rattle.std.specs.Prelude.{unwrap_or, ℕ, suc, ◌+◌, ◌%◌, ◌^◌, ◌<◌, ◌≤◌, ◌==◌, Bool, true, false, cond, ◌&&◌, List, [], ◌∷◌, Option, Some, None, is_some, ◌≡◌}
+use Rattle.std.specs.Prelude.{unwrap_or, if◌then◌else◌, nat_lt, ℕ, suc, ◌+◌, ◌%◌, ◌^◌, ◌<◌, ◌≤◌, ◌==◌, Bool, true, false, cond, ◌&&◌, List, [], ◌∷◌, Option, Some, None, is_some, ◌≡◌}
 use Rattle.std.specs.declared.cmp.Ordering.{Ordering}
 use Rattle.std.specs.Cmp.{IsTotalOrder}
 use Rattle.std.proofs.Common.{arith, refl, sym, ◌∙◌, ap, subst}
-use Rattle.std.proofs.lemmas.Bool.{eqb-true, eqb-false, eq-eqb, ne_eqb, cases_order, cond-true, cond-false, false_from_ne_true, and_parts, or_cases, and_from, and_cases, lt-ltb, ltb-true, ltb-false}
+use Rattle.std.proofs.lemmas.Bool.{eqb-true, eqb-false, eq-eqb, ne_eqb, cases_order, cond-true, cond-false, false_from_ne_true, and_parts, or_cases, and_from, and_cases, lt-ltb, ltb-true}
 use Rattle.std.proofs.lemmas.Nat.{mod_below, pow_pos}
 use Rattle.flurry_theory.specs.Map.{same, find, after, key_of, Allows}
-use Rattle.flurry_theory.specs.Trace.{map_after_decision, in_region, pairs, at}
+use Rattle.flurry_theory.specs.Trace.{map_after_decision, in_region, was_moved_in, pairs, at}
 use Rattle.flurry_theory.specs.Bin.{Entry, pairs_of, IsAscending, InRegion, half}
-use Rattle.flurry_theory.specs.Machine.{State, Slot, Claim, Transition, Adds, Can, does, at_bin, Live, Moved, Unborn, Frame, Begins, Quiet, Loses, Counts, Finds, Opens, FindsNothing, IsRefused, DecidesEmpty, Passes, Decides, Places, Claims, Moves, Reports, Publishes, Reads, Leaves, Splits, Wipes, SplitsClear, Replies, Ends}
-use Rattle.flurry_theory.specs.Invariant.{PartyOk, is_live, Tables, home_after}
+use Rattle.flurry_theory.specs.Machine.{State, Slot, Claim, Transition, Adds, Can, does, at_bin, Live, Moved, Unborn, Frame, Opens, DecidesEmpty, Decides, Moves, Publishes, Wipes}
+use Rattle.flurry_theory.specs.Invariant.{PartyOk, is_live, Tables, home_after, new_world}
 use Rattle.flurry_theory.proofs.Bins.{find-after, find-after_other, find-half, ascending-half, region-half, find-wiped, in_a_half, in_low_half, in_high_half, small_mod, high_mod, double}
 use Rattle.flurry_model.specs.declared.call.Call.{Call}
-use Rattle.flurry_model.specs.declared.call.Call.TheVariants.{Get, GetKeyValue, ContainsKey, Insert, TryInsert, Compute, Remove, RemoveEntry, RemoveSeen, Reserve, Clear, Walk}
+use Rattle.flurry_model.specs.declared.call.Call.TheVariants.{Insert, TryInsert, Compute, RemoveSeen}
 use Rattle.flurry_model.specs.declared.reply.KeptReply.{KeptReply}
-use Rattle.flurry_model.specs.declared.reply.KeptReply.TheVariants.{Value, Pair, Contains, New, Exists}
+use Rattle.flurry_model.specs.declared.reply.KeptReply.TheVariants.{Value}
+use Rattle.flurry_theory.specs.declared.Label.{Label}
 use Rattle.flurry_theory.specs.declared.Label.TheVariants.{Decide, Wipe}
 
 pub same_some : {X : Type 0} {x y : X} → Some x ≡ Some y → x ≡ y
@@ -28,6 +29,9 @@ same_live h = ap entries_of h
     entries_of Moved = []
     entries_of Unborn = []
 
+-- what tells whether a place or a bin is the one that was changed
+pub ruleset placing = (arith, eqb-true, eqb-false, eq-eqb, ne_eqb, and_parts, and_cases)
+
 -- what a function has at a bin, after one bin was changed
 pub at_bin_elim : {X : Type 0} (f : ℕ → ℕ → X) (e i : ℕ) (x : X) (Q : ℕ → ℕ → X → Type 0) (d j : ℕ) → Q e i x → ((e ≡ d → i ≡ j → ⊥) → Q d j (f d j)) → Q d j (at_bin f e i x d j)
 at_bin_elim {X} f e i x Q d j h k = go (e == d) refl (i == j) refl
@@ -37,6 +41,14 @@ at_bin_elim {X} f e i x Q d j h k = go (e == d) refl (i == j) refl
     go true u false v = k (λ a b. eqb-false i j v b)
     go false u true v = k (λ a b. eqb-false e d u a)
     go false u false v = k (λ a b. eqb-false e d u a)
+
+-- where a live bin has other entries, bins that are not live stay,
+pub dead_stays : {K V : Type 0} (f : ℕ → ℕ → Slot K V) (e i : ℕ) (es : List (Entry K V)) (n : ℕ) (fs : List (Entry K V)) (m : ℕ) → f e i ≡ Live es n → (d j : ℕ) (v : Slot K V) → is_live v ≡ false → f d j ≡ v → at_bin f e i (Live fs m) d j ≡ v
+dead_stays f e i es n fs m there d j v dead = at_bin_elim f e i (Live fs m) (λ d j w. f d j ≡ v → w ≡ v) d j (λ h. absurd (grind (arith, there, h, dead))) (λ _ h. h)
+
+-- and were so before
+pub dead_before : {K V : Type 0} (f : ℕ → ℕ → Slot K V) (e i : ℕ) (fs : List (Entry K V)) (m : ℕ) (d j : ℕ) (v : Slot K V) → is_live v ≡ false → at_bin f e i (Live fs m) d j ≡ v → f d j ≡ v
+dead_before f e i fs m d j v dead = at_bin_elim f e i (Live fs m) (λ d j w. w ≡ v → f d j ≡ v) d j (λ h. absurd (grind (arith, h, dead))) (λ _ h. h)
 
 module _ {K V F : Type 0} (cmp : K → K → Ordering) (total : IsTotalOrder cmp) (hash : K → ℕ) (lawful : (j k : K) → same cmp j k ≡ true → hash j ≡ hash k) (gives : F → K → V → Option V → Type 0) where
   -- a hash has one live bin
@@ -126,26 +138,9 @@ module _ {K V F : Type 0} (cmp : K → K → Ordering) (total : IsTotalOrder cmp
   empty_after : (c : Call K V F) (r : KeptReply K V) (k : K) → (Adds c → ⊥) → Allows cmp gives c [] r → find cmp (after cmp c r []) k ≡ None
   empty_after (Insert i v) r k h a = absurd (h tt)
   empty_after (TryInsert i v) r k h a = absurd (h tt)
-  empty_after (Compute i g) (Value None) k h a = refl
   empty_after (Compute i g) (Value (Some w)) k h a = grind (arith, a)
-  empty_after (Compute i g) (Pair o) k h a = refl
-  empty_after (Compute i g) (Contains o) k h a = refl
-  empty_after (Compute i g) (New o) k h a = refl
-  empty_after (Compute i g) (Exists o q) k h a = refl
-  empty_after (Remove i) r k h a = refl
-  empty_after (RemoveEntry i) r k h a = refl
-  empty_after (RemoveSeen u) (Value None) k h a = refl
-  empty_after (RemoveSeen u) (Value (Some w)) k h a = refl
-  empty_after (RemoveSeen u) (Pair o) k h a = refl
-  empty_after (RemoveSeen u) (Contains o) k h a = refl
-  empty_after (RemoveSeen u) (New o) k h a = refl
-  empty_after (RemoveSeen u) (Exists o q) k h a = refl
-  empty_after (Get i) r k h a = refl
-  empty_after (GetKeyValue i) r k h a = refl
-  empty_after (ContainsKey i) r k h a = refl
-  empty_after (Reserve i) r k h a = refl
-  empty_after Clear r k h a = refl
-  empty_after Walk r k h a = refl
+  empty_after (RemoveSeen z) (Value (Some w)) k h a = refl
+  empty_after c r k h a = refl
 
   -- the map after a decision
   at-decide : (s : State K V F) (p : ℕ) (c : Call K V F) (r : KeptReply K V) (k : K) → PartyOk s p → s.call p ≡ Some c → at cmp hash (Decide p r ∷ s.trace) k ≡ find cmp (after cmp c r (pairs cmp hash s.trace)) k
@@ -171,124 +166,73 @@ module _ {K V F : Type 0} (cmp : K → K → Ordering) (total : IsTotalOrder cmp
       (λ ne hd hj w. content_at home s q (home (hash q)) (hash q % 2 ^ home (hash q)) gs u t refl refl w ∙ sym (find-wiped cmp total hash lawful f.table f.index (pairs cmp hash s.trace) q ∙ cond-false (in_region f.table f.index (hash q)) None (at cmp hash s.trace q) (ne_eqb _ _ (λ y. ne (sym (homes home s f.table f.index es n (hash q) t l y)) (grind (arith, homes home s f.table f.index es n (hash q) t l y, y))))))
       refl refl
 
+  -- where the tables, their bins and the map are the same
+  keep_tables : (home : ℕ → ℕ) (s z : State K V F) → z.published ≡ s.published → z.start ≡ s.start → ((d j : ℕ) → z.slot d j ≡ s.slot d j) → ((k : K) → at cmp hash z.trace k ≡ at cmp hash s.trace k) → ((d j : ℕ) → was_moved_in z.trace d j ≡ was_moved_in s.trace d j) → Tables cmp hash home s → Tables cmp hash home z
+  keep_tables home s z p b v m w t = record {
+    unmade = λ h d j. v d j ∙ t.unmade (sym p ∙ h) d j;
+    from = λ f h. let u = t.from f (sym p ∙ h) in (omega (arith, b, u.0), u.1);
+    live = λ h x. ap is_live (v (home x) (x % 2 ^ home x)) ∙ t.live (ap is_some (sym p) ∙ h) x;
+    below = λ h x d l g. v d (x % 2 ^ d) ∙ t.below (ap is_some (sym p) ∙ h) x d (omega (arith, b, l)) g;
+    above = λ h x d l. v d (x % 2 ^ d) ∙ t.above (ap is_some (sym p) ∙ h) x d l;
+    early = λ d j l. v d j ∙ t.early d j (omega (arith, b, l));
+    outside = λ d j l. v d j ∙ t.outside d j l;
+    ascending = λ d j es n h. t.ascending d j es n (sym (v d j) ∙ h);
+    empty = λ h k. m k ∙ t.empty (sym p ∙ h) k;
+    content = λ k es n h. t.content k es n (sym (v (home (hash k)) (hash k % 2 ^ home (hash k))) ∙ h) ∙ sym (m k);
+    was_moved = λ d j h. w d j ∙ t.was_moved d j (sym (v d j) ∙ h);
+    is_moved = λ d j h. v d j ∙ t.is_moved d j (sym (w d j) ∙ h);
+  }
+
+  -- a live bin that has other entries, which hold the map after the label
+  put_tables : (home : ℕ → ℕ) (s : State K V F) (e i : ℕ) (es : List (Entry K V)) (n : ℕ) (fs : List (Entry K V)) (m : ℕ) (l : Label K V F) → s.slot e i ≡ Live es n → Tables cmp hash home s → IsAscending cmp hash fs × InRegion hash e i fs → ((d j : ℕ) → was_moved_in (l ∷ s.trace) d j ≡ was_moved_in s.trace d j)
+      → ((k : K) (gs : List (Entry K V)) (u : ℕ) → at_bin s.slot e i (Live fs m) (home (hash k)) (hash k % 2 ^ home (hash k)) ≡ Live gs u → find cmp (pairs_of gs) k ≡ at cmp hash (l ∷ s.trace) k)
+      → Tables cmp hash home (record s { slot = at_bin s.slot e i (Live fs m); trace = l ∷ s.trace })
+  put_tables home s e i es n fs m l there t fits w holds = record {
+    unmade = λ h. absurd (grind (arith, h, made home s e i es n t there));
+    from = t.from;
+    live = λ h x. at_bin_elim s.slot e i (Live fs m) (λ _ _ v. is_live v ≡ true) (home x) (x % 2 ^ home x) refl (λ _. t.live h x);
+    below = λ h x d a b. stays d (x % 2 ^ d) Moved refl (t.below h x d a b);
+    above = λ h x d a. stays d (x % 2 ^ d) Unborn refl (t.above h x d a);
+    early = λ d j a. stays d j Unborn refl (t.early d j a);
+    outside = λ d j a. stays d j Unborn refl (t.outside d j a);
+    ascending = λ d j gs u. at_bin_elim s.slot e i (Live fs m) (λ d j v. v ≡ Live gs u → IsAscending cmp hash gs × InRegion hash d j gs) d j (λ h. subst (λ gs. IsAscending cmp hash gs × InRegion hash e i gs) (same_live h) fits) (λ _. t.ascending d j gs u);
+    empty = λ h. absurd (grind (arith, h, made home s e i es n t there));
+    content = holds;
+    was_moved = λ d j h. w d j ∙ t.was_moved d j (dead_before s.slot e i fs m d j Moved refl h);
+    is_moved = λ d j h. stays d j Moved refl (t.is_moved d j (sym (w d j) ∙ h));
+  }
+    where
+      stays : (d j : ℕ) (v : Slot K V) → is_live v ≡ false → s.slot d j ≡ v → at_bin s.slot e i (Live fs m) d j ≡ v
+      stays = dead_stays s.slot e i es n fs m there
+
+  -- a new world, without a table or with table e
+  new_bin : (P : List (Entry K V) → Type 0) (b : Bool) (es : List (Entry K V)) (n : ℕ) → P [] → cond b (Live [] 0) Unborn ≡ Live es n → P es
+  new_bin P true es n p h = subst P (same_live h) p
+  new_bin P false es n p h = absurd (grind (arith, h))
+
+  pub new_tables : (e : ℕ) (b : Bool) → Tables cmp hash (λ _. e) (new_world {K = K} {V = V} {F = F} e b)
+  new_tables e b = record {
+    unmade = λ h d j. grind (arith, h);
+    from = λ f h. (grind (arith, h), λ _. grind (arith, h));
+    live = λ h x. grind (arith, h, mod_below x (2 ^ e) (pow_pos e), lt-ltb, eq-eqb e e refl);
+    below = λ h x d l m. absurd (omega (arith, l, m));
+    above = λ h x d l. grind (arith, l, eqb-true, and_parts);
+    early = λ d j l. grind (arith, l, eqb-true, and_parts);
+    outside = λ d j l. grind (arith, l, eqb-true, and_parts, ltb-true);
+    ascending = λ d j es n h. new_bin (λ fs. IsAscending cmp hash fs × InRegion hash d j fs) (b && (e == d && nat_lt j (2 ^ e))) es n (tt, tt) h;
+    empty = λ _ k. refl;
+    content = λ k es n h. new_bin (λ fs. find cmp (pairs_of fs) k ≡ None) (b && (e == e && nat_lt (hash k % 2 ^ e) (2 ^ e))) es n refl h;
+    was_moved = λ d j h. absurd (grind (arith, h));
+    is_moved = λ d j h. absurd (grind (arith, h));
+  }
+
   -- the table whose growth the transition ends
   abbrev pub growth_ended : Transition K V F → Option ℕ
   growth_ended (Publishes e g) = Some e
   growth_ended l = None
 
   pub tables_ok : (home : ℕ → ℕ) (s : State K V F) (p : ℕ) (l : Transition K V F) → Can cmp hash gives s p l → PartyOk s p → ((e : ℕ) → growth_ended l ≡ Some e → (s.published ≡ Some e) × ((i : ℕ) → i < 2 ^ e → s.slot e i ≡ Moved)) → Tables cmp hash home s → Tables cmp hash (home_after home l) (does cmp hash gives s p l)
-  tables_ok home s p (Begins c w) can o ready t = record {
-    unmade = t.unmade;
-    from = t.from;
-    live = t.live;
-    below = t.below;
-    above = t.above;
-    early = t.early;
-    outside = t.outside;
-    ascending = t.ascending;
-    empty = t.empty;
-    content = t.content;
-    was_moved = t.was_moved;
-    is_moved = t.is_moved;
-  }
-  tables_ok home s p Quiet can o ready t = record {
-    unmade = t.unmade;
-    from = t.from;
-    live = t.live;
-    below = t.below;
-    above = t.above;
-    early = t.early;
-    outside = t.outside;
-    ascending = t.ascending;
-    empty = t.empty;
-    content = t.content;
-    was_moved = t.was_moved;
-    is_moved = t.is_moved;
-  }
-  tables_ok home s p Loses can o ready t = record {
-    unmade = t.unmade;
-    from = t.from;
-    live = t.live;
-    below = t.below;
-    above = t.above;
-    early = t.early;
-    outside = t.outside;
-    ascending = t.ascending;
-    empty = t.empty;
-    content = t.content;
-    was_moved = t.was_moved;
-    is_moved = t.is_moved;
-  }
-  tables_ok home s p (Counts whose) can o ready t = record {
-    unmade = t.unmade;
-    from = t.from;
-    live = t.live;
-    below = t.below;
-    above = t.above;
-    early = t.early;
-    outside = t.outside;
-    ascending = t.ascending;
-    empty = t.empty;
-    content = t.content;
-    was_moved = t.was_moved;
-    is_moved = t.is_moved;
-  }
-  tables_ok home s p (Finds e) can o ready t = record {
-    unmade = t.unmade;
-    from = t.from;
-    live = t.live;
-    below = t.below;
-    above = t.above;
-    early = t.early;
-    outside = t.outside;
-    ascending = t.ascending;
-    empty = t.empty;
-    content = t.content;
-    was_moved = t.was_moved;
-    is_moved = t.is_moved;
-  }
-  tables_ok home s p (Opens e) can o ready t = record {
-    unmade = grind (arith, can, t.unmade, t.early, t.outside, mod_below, pow_pos, lt-ltb, ltb-true, ltb-false, t.unmade, eqb-true, eqb-false, eq-eqb, ne_eqb, and_parts, and_cases);
-    from = grind (arith, can, t.unmade, t.early, t.outside, mod_below, pow_pos, lt-ltb, ltb-true, ltb-false, t.from, eqb-true, eqb-false, eq-eqb, ne_eqb, and_parts, and_cases);
-    live = grind (arith, can, t.unmade, t.early, t.outside, mod_below, pow_pos, lt-ltb, ltb-true, ltb-false, t.live, eqb-true, eqb-false, eq-eqb, ne_eqb, and_parts, and_cases);
-    below = grind (arith, can, t.unmade, t.early, t.outside, mod_below, pow_pos, lt-ltb, ltb-true, ltb-false, t.below, eqb-true, eqb-false, eq-eqb, ne_eqb, and_parts, and_cases);
-    above = grind (arith, can, t.unmade, t.early, t.outside, mod_below, pow_pos, lt-ltb, ltb-true, ltb-false, t.above, eqb-true, eqb-false, eq-eqb, ne_eqb, and_parts, and_cases);
-    early = grind (arith, can, t.unmade, t.early, t.outside, mod_below, pow_pos, lt-ltb, ltb-true, ltb-false, t.early, eqb-true, eqb-false, eq-eqb, ne_eqb, and_parts, and_cases);
-    outside = grind (arith, can, t.unmade, t.early, t.outside, mod_below, pow_pos, lt-ltb, ltb-true, ltb-false, t.outside, eqb-true, eqb-false, eq-eqb, ne_eqb, and_parts, and_cases);
-    ascending = grind (arith, can, t.unmade, t.early, t.outside, mod_below, pow_pos, lt-ltb, ltb-true, ltb-false, t.ascending, eqb-true, eqb-false, eq-eqb, ne_eqb, and_parts, and_cases);
-    empty = grind (arith, can, t.unmade, t.early, t.outside, mod_below, pow_pos, lt-ltb, ltb-true, ltb-false, t.empty, eqb-true, eqb-false, eq-eqb, ne_eqb, and_parts, and_cases);
-    content = grind (arith, can, t.unmade, t.early, t.outside, mod_below, pow_pos, lt-ltb, ltb-true, ltb-false, t.content, eqb-true, eqb-false, eq-eqb, ne_eqb, and_parts, and_cases);
-    was_moved = grind (arith, can, t.unmade, t.early, t.outside, mod_below, pow_pos, lt-ltb, ltb-true, ltb-false, t.was_moved, eqb-true, eqb-false, eq-eqb, ne_eqb, and_parts, and_cases);
-    is_moved = grind (arith, can, t.unmade, t.early, t.outside, mod_below, pow_pos, lt-ltb, ltb-true, ltb-false, t.is_moved, eqb-true, eqb-false, eq-eqb, ne_eqb, and_parts, and_cases);
-  }
-  tables_ok home s p FindsNothing can o ready t = record {
-    unmade = t.unmade;
-    from = t.from;
-    live = t.live;
-    below = t.below;
-    above = t.above;
-    early = t.early;
-    outside = t.outside;
-    ascending = t.ascending;
-    empty = t.empty;
-    content = t.content;
-    was_moved = t.was_moved;
-    is_moved = t.is_moved;
-  }
-  tables_ok home s p IsRefused can o ready t = record {
-    unmade = t.unmade;
-    from = t.from;
-    live = t.live;
-    below = t.below;
-    above = t.above;
-    early = t.early;
-    outside = t.outside;
-    ascending = t.ascending;
-    empty = t.empty;
-    content = t.content;
-    was_moved = t.was_moved;
-    is_moved = t.is_moved;
-  }
+  tables_ok home s p (Opens e) can o ready t = keep_tables (λ _. e) (new_world e true) _ refl refl (λ d j. ap (λ v. if e == d && nat_lt j (2 ^ e) then Live [] 0 else v) (t.unmade can.3 d j)) (t.empty can.3) (λ d j. false_from_ne_true (was_moved_in s.trace d j) (λ h. grind (arith, t.unmade can.3 d j, t.is_moved d j h))) (new_tables e true)
   tables_ok home s p (DecidesEmpty c r) can o ready t = record {
     unmade = t.unmade;
     from = t.from;
@@ -303,79 +247,10 @@ module _ {K V F : Type 0} (cmp : K → K → Ordering) (total : IsTotalOrder cmp
     was_moved = t.was_moved;
     is_moved = t.is_moved;
   }
-  tables_ok home s p (Passes e) can o ready t = record {
-    unmade = t.unmade;
-    from = t.from;
-    live = t.live;
-    below = t.below;
-    above = t.above;
-    early = t.early;
-    outside = t.outside;
-    ascending = t.ascending;
-    empty = t.empty;
-    content = t.content;
-    was_moved = t.was_moved;
-    is_moved = t.is_moved;
-  }
-  tables_ok home s p (Decides c k e es n r fs m) can o ready t = record {
-    unmade = grind (arith, can, o.call, t.unmade, t.live, t.above, t.below, t.early, t.outside, mod_below, pow_pos, t.empty, t.is_moved, t.was_moved, t.unmade, eqb-true, eqb-false, eq-eqb, ne_eqb, and_parts, and_cases);
-    from = t.from;
-    live = grind (arith, can, o.call, t.unmade, t.live, t.above, t.below, t.early, t.outside, mod_below, pow_pos, t.empty, t.is_moved, t.was_moved, t.live, eqb-true, eqb-false, eq-eqb, ne_eqb, and_parts, and_cases);
-    below = grind (arith, can, o.call, t.unmade, t.live, t.above, t.below, t.early, t.outside, mod_below, pow_pos, t.empty, t.is_moved, t.was_moved, t.below, eqb-true, eqb-false, eq-eqb, ne_eqb, and_parts, and_cases);
-    above = grind (arith, can, o.call, t.unmade, t.live, t.above, t.below, t.early, t.outside, mod_below, pow_pos, t.empty, t.is_moved, t.was_moved, t.above, eqb-true, eqb-false, eq-eqb, ne_eqb, and_parts, and_cases);
-    early = grind (arith, can, o.call, t.unmade, t.live, t.above, t.below, t.early, t.outside, mod_below, pow_pos, t.empty, t.is_moved, t.was_moved, t.early, eqb-true, eqb-false, eq-eqb, ne_eqb, and_parts, and_cases);
-    outside = grind (arith, can, o.call, t.unmade, t.live, t.above, t.below, t.early, t.outside, mod_below, pow_pos, t.empty, t.is_moved, t.was_moved, t.outside, eqb-true, eqb-false, eq-eqb, ne_eqb, and_parts, and_cases);
-    ascending = λ d j es' n'. at_bin_elim s.slot e (hash k % 2 ^ e) (Live fs m) (λ d j v. v ≡ Live es' n' → IsAscending cmp hash es' × InRegion hash d j es') d j (λ u. subst (λ es. IsAscending cmp hash es × InRegion hash e (hash k % 2 ^ e) es) (same_live u) (can.5.ascending, can.6)) (λ _. t.ascending d j es' n');
-    empty = grind (arith, can, t.unmade);
-    content = decides_content home s p c k e es n r fs m can o t;
-    was_moved = grind (arith, can, o.call, t.unmade, t.live, t.above, t.below, t.early, t.outside, mod_below, pow_pos, t.empty, t.is_moved, t.was_moved, t.was_moved, eqb-true, eqb-false, eq-eqb, ne_eqb, and_parts, and_cases);
-    is_moved = grind (arith, can, o.call, t.unmade, t.live, t.above, t.below, t.early, t.outside, mod_below, pow_pos, t.empty, t.is_moved, t.was_moved, t.is_moved, eqb-true, eqb-false, eq-eqb, ne_eqb, and_parts, and_cases);
-  }
-  tables_ok home s p (Places e) can o ready t = record {
-    unmade = t.unmade;
-    from = t.from;
-    live = t.live;
-    below = t.below;
-    above = t.above;
-    early = t.early;
-    outside = t.outside;
-    ascending = t.ascending;
-    empty = t.empty;
-    content = t.content;
-    was_moved = t.was_moved;
-    is_moved = t.is_moved;
-  }
-  tables_ok home s p (Claims e g low) can o ready t = record {
-    unmade = t.unmade;
-    from = t.from;
-    live = t.live;
-    below = t.below;
-    above = t.above;
-    early = t.early;
-    outside = t.outside;
-    ascending = t.ascending;
-    empty = t.empty;
-    content = t.content;
-    was_moved = t.was_moved;
-    is_moved = t.is_moved;
-  }
+  tables_ok home s p (Decides c k e es n r fs m) can o ready t = keep_tables home _ _ refl refl (λ _ _. refl) (λ _. refl) (λ _ _. refl) (put_tables home s e (hash k % 2 ^ e) es n fs m (Decide p r) can.4 t (can.5.ascending, can.6) (λ _ _. refl) (decides_content home s p c k e es n r fs m can o t))
   tables_ok home s p (Moves a i es n) can o ready t = moves_ok home s p a i es n can t
-  tables_ok home s p (Reports a g) can o ready t = record {
-    unmade = t.unmade;
-    from = t.from;
-    live = t.live;
-    below = t.below;
-    above = t.above;
-    early = t.early;
-    outside = t.outside;
-    ascending = t.ascending;
-    empty = t.empty;
-    content = t.content;
-    was_moved = t.was_moved;
-    is_moved = t.is_moved;
-  }
   tables_ok home s p (Publishes e g) can o ready t = record {
-    unmade = grind (arith, can, t.live, t.from, t.unmade, eqb-true, eqb-false, eq-eqb, ne_eqb, and_parts, and_cases);
+    unmade = λ h. absurd (grind (arith, h));
     from = λ f h. let w : (s.start ≤ e) × ((j : ℕ) → e ≤ home j) = t.from e (ready e refl).0 in (grind (arith, h, w.0), λ j. grind (arith, h, w.1 j, (ready e refl).1 (j % 2 ^ e) (mod_below j (2 ^ e) (pow_pos e)), t.live (grind (arith, (ready e refl).0)) j));
     live = λ _. t.live (grind (arith, (ready e refl).0));
     below = λ _. t.below (grind (arith, (ready e refl).0));
@@ -383,106 +258,10 @@ module _ {K V F : Type 0} (cmp : K → K → Ordering) (total : IsTotalOrder cmp
     early = t.early;
     outside = t.outside;
     ascending = t.ascending;
-    empty = grind (arith, can, t.live, t.from, t.empty, eqb-true, eqb-false, eq-eqb, ne_eqb, and_parts, and_cases);
+    empty = λ h. absurd (grind (arith, h));
     content = t.content;
     was_moved = t.was_moved;
     is_moved = t.is_moved;
   }
-  tables_ok home s p (Reads e i f fs es n x) can o ready t = record {
-    unmade = t.unmade;
-    from = t.from;
-    live = t.live;
-    below = t.below;
-    above = t.above;
-    early = t.early;
-    outside = t.outside;
-    ascending = t.ascending;
-    empty = t.empty;
-    content = t.content;
-    was_moved = t.was_moved;
-    is_moved = t.is_moved;
-  }
-  tables_ok home s p (Leaves e i f fs es n) can o ready t = record {
-    unmade = t.unmade;
-    from = t.from;
-    live = t.live;
-    below = t.below;
-    above = t.above;
-    early = t.early;
-    outside = t.outside;
-    ascending = t.ascending;
-    empty = t.empty;
-    content = t.content;
-    was_moved = t.was_moved;
-    is_moved = t.is_moved;
-  }
-  tables_ok home s p (Splits e i f fs) can o ready t = record {
-    unmade = t.unmade;
-    from = t.from;
-    live = t.live;
-    below = t.below;
-    above = t.above;
-    early = t.early;
-    outside = t.outside;
-    ascending = t.ascending;
-    empty = t.empty;
-    content = t.content;
-    was_moved = t.was_moved;
-    is_moved = t.is_moved;
-  }
-  tables_ok home s p (Wipes wiped e i f fs es n) can o ready t = record {
-    unmade = grind (arith, can, t.unmade, t.live, t.above, t.below, t.early, t.outside, mod_below, pow_pos, t.empty, t.is_moved, t.was_moved, t.unmade, eqb-true, eqb-false, eq-eqb, ne_eqb, and_parts, and_cases);
-    from = t.from;
-    live = grind (arith, can, t.unmade, t.live, t.above, t.below, t.early, t.outside, mod_below, pow_pos, t.empty, t.is_moved, t.was_moved, t.live, eqb-true, eqb-false, eq-eqb, ne_eqb, and_parts, and_cases);
-    below = grind (arith, can, t.unmade, t.live, t.above, t.below, t.early, t.outside, mod_below, pow_pos, t.empty, t.is_moved, t.was_moved, t.below, eqb-true, eqb-false, eq-eqb, ne_eqb, and_parts, and_cases);
-    above = grind (arith, can, t.unmade, t.live, t.above, t.below, t.early, t.outside, mod_below, pow_pos, t.empty, t.is_moved, t.was_moved, t.above, eqb-true, eqb-false, eq-eqb, ne_eqb, and_parts, and_cases);
-    early = grind (arith, can, t.unmade, t.live, t.above, t.below, t.early, t.outside, mod_below, pow_pos, t.empty, t.is_moved, t.was_moved, t.early, eqb-true, eqb-false, eq-eqb, ne_eqb, and_parts, and_cases);
-    outside = grind (arith, can, t.unmade, t.live, t.above, t.below, t.early, t.outside, mod_below, pow_pos, t.empty, t.is_moved, t.was_moved, t.outside, eqb-true, eqb-false, eq-eqb, ne_eqb, and_parts, and_cases);
-    ascending = grind (arith, can, t.unmade, t.live, t.above, t.below, t.early, t.outside, mod_below, pow_pos, t.empty, t.is_moved, t.was_moved, t.ascending, eqb-true, eqb-false, eq-eqb, ne_eqb, and_parts, and_cases);
-    empty = grind (arith, can, t.unmade, t.live, t.above, t.below, t.early, t.outside, mod_below, pow_pos, t.empty, t.is_moved, t.was_moved, t.empty, eqb-true, eqb-false, eq-eqb, ne_eqb, and_parts, and_cases);
-    content = wipes_content home s p wiped e i f fs es n can t;
-    was_moved = grind (arith, can, t.unmade, t.live, t.above, t.below, t.early, t.outside, mod_below, pow_pos, t.empty, t.is_moved, t.was_moved, t.was_moved, eqb-true, eqb-false, eq-eqb, ne_eqb, and_parts, and_cases);
-    is_moved = grind (arith, can, t.unmade, t.live, t.above, t.below, t.early, t.outside, mod_below, pow_pos, t.empty, t.is_moved, t.was_moved, t.is_moved, eqb-true, eqb-false, eq-eqb, ne_eqb, and_parts, and_cases);
-  }
-  tables_ok home s p (SplitsClear wiped e i f fs) can o ready t = record {
-    unmade = t.unmade;
-    from = t.from;
-    live = t.live;
-    below = t.below;
-    above = t.above;
-    early = t.early;
-    outside = t.outside;
-    ascending = t.ascending;
-    empty = t.empty;
-    content = t.content;
-    was_moved = t.was_moved;
-    is_moved = t.is_moved;
-  }
-  tables_ok home s p (Replies r) can o ready t = record {
-    unmade = t.unmade;
-    from = t.from;
-    live = t.live;
-    below = t.below;
-    above = t.above;
-    early = t.early;
-    outside = t.outside;
-    ascending = t.ascending;
-    empty = t.empty;
-    content = t.content;
-    was_moved = t.was_moved;
-    is_moved = t.is_moved;
-  }
-  tables_ok home s p Ends can o ready t = record {
-    unmade = t.unmade;
-    from = t.from;
-    live = t.live;
-    below = t.below;
-    above = t.above;
-    early = t.early;
-    outside = t.outside;
-    ascending = t.ascending;
-    empty = t.empty;
-    content = t.content;
-    was_moved = t.was_moved;
-    is_moved = t.is_moved;
-  }
+  tables_ok home s p (Wipes wiped e i f fs es n) can o ready t = keep_tables home _ _ refl refl (λ _ _. refl) (λ _. refl) (λ _ _. refl) (put_tables home s f.table f.index es n [] n (Wipe p f.table f.index) can.1 t (tt, tt) (λ _ _. refl) (wipes_content home s p wiped e i f fs es n can t))
+  tables_ok home s p l can o ready t = keep_tables home s _ refl refl (λ _ _. refl) (λ _. refl) (λ _ _. refl) t

@@ -14,53 +14,23 @@ use Rattle.flurry_theory.proofs.Bins.{find-wiped, region-first_past, past_trans,
 use Rattle.flurry_theory.proofs.Tables.{homes, content_at}
 use Rattle.flurry_theory.specs.Legal.{HasRead, HasLacked, Stays, WalkMay}
 use Rattle.flurry_model.specs.declared.call.Call.{Call}
-use Rattle.flurry_model.specs.declared.call.Call.TheVariants.{Get, GetKeyValue, ContainsKey, Insert, TryInsert, Compute, Remove, RemoveEntry, RemoveSeen, Reserve, Clear, Walk}
+use Rattle.flurry_model.specs.declared.call.Call.TheVariants.{Reserve, Clear, Walk}
 use Rattle.flurry_theory.specs.declared.Label.{Label}
-use Rattle.flurry_theory.specs.declared.Label.TheVariants.{Begin, Decide, Wipe, Refused, Read, End, Opened, Placed, Published, Silent, Moved as MovedBin, Reply as Replied}
+use Rattle.flurry_theory.specs.declared.Label.TheVariants.{Begin, Wipe, Read, Silent}
 
 module _ {K V F : Type 0} (cmp : K → K → Ordering) (hash : K → ℕ) (gives : F → K → V → Option V → Type 0) where
   read_more : (t : Trace K V F) (l : Label K V F) (p : ℕ) (k : K) → HasRead cmp hash gives t p k → HasRead cmp hash gives (l ∷ t) p k
-  read_more t (Begin q c) p k h = h
-  read_more t (Decide q r) p k h = h
-  read_more t (Replied q r) p k h = h
-  read_more t (Refused q) p k h = h
-  read_more t (Wipe q e i) p k h = h
   read_more t (Read q j v) p k h = inr h
-  read_more t (End q) p k h = h
-  read_more t (Silent q) p k h = h
-  read_more t (Opened e) p k h = h
-  read_more t (Placed e) p k h = h
-  read_more t (MovedBin e i) p k h = h
-  read_more t (Published e) p k h = h
+  read_more t l p k h = h
 
   pub read_back : (t : Trace K V F) (l : Label K V F) (p : ℕ) (k : K) → names p l ≡ false → HasRead cmp hash gives (l ∷ t) p k → HasRead cmp hash gives t p k
-  read_back t (Begin q c) p k n h = h
-  read_back t (Decide q r) p k n h = h
-  read_back t (Replied q r) p k n h = h
-  read_back t (Refused q) p k n h = h
-  read_back t (Wipe q e i) p k n h = h
   read_back t (Read q j v) p k n (inl h) = absurd (eqb-false q p n h.0)
   read_back t (Read q j v) p k n (inr h) = h
-  read_back t (End q) p k n h = h
-  read_back t (Silent q) p k n h = h
-  read_back t (Opened e) p k n h = h
-  read_back t (Placed e) p k n h = h
-  read_back t (MovedBin e i) p k n h = h
-  read_back t (Published e) p k n h = h
+  read_back t l p k n h = h
 
   pub not_begun : (l : Label K V F) (p : ℕ) → names p l ≡ false → begins p l ≡ false
   not_begun (Begin q c) p n = n
-  not_begun (Decide q r) p n = refl
-  not_begun (Replied q r) p n = refl
-  not_begun (Refused q) p n = refl
-  not_begun (Wipe q e i) p n = refl
-  not_begun (Read q j v) p n = refl
-  not_begun (End q) p n = refl
-  not_begun (Silent q) p n = refl
-  not_begun (Opened e) p n = refl
-  not_begun (Placed e) p n = refl
-  not_begun (MovedBin e i) p n = refl
-  not_begun (Published e) p n = refl
+  not_begun l p n = refl
 
   Missing : (Label K V F → Bool) → Trace K V F → ℕ → K → Type 0
   Missing test t p k = HasLacked cmp hash gives test t p k
@@ -120,114 +90,69 @@ module _ {K V F : Type 0} (cmp : K → K → Ordering) (hash : K → ℕ) (gives
 
   pub finds : (call : Option (Call K V F)) (t : Trace K V F) (l : Label K V F) (p e : ℕ) → begins p l ≡ false → ((k : K) → HasRead cmp hash gives (l ∷ t) p k → HasRead cmp hash gives t p k) → Progress cmp hash gives call Locating t p → Progress cmp hash gives call (found_by cmp hash gives call e) (l ∷ t) p
   finds None t l p e b back g = finishes None Locating t l p back g
-  finds (Some (Get k)) t l p e b back g = neither (Some (Get k)) Locating (Looking e) t l p back (λ h. grind (arith, h)) (λ h. grind (arith, h)) tt g
-  finds (Some (GetKeyValue k)) t l p e b back g = neither (Some (GetKeyValue k)) Locating (Looking e) t l p back (λ h. grind (arith, h)) (λ h. grind (arith, h)) tt g
-  finds (Some (ContainsKey k)) t l p e b back g = neither (Some (ContainsKey k)) Locating (Looking e) t l p back (λ h. grind (arith, h)) (λ h. grind (arith, h)) tt g
-  finds (Some (Insert k v)) t l p e b back g = neither (Some (Insert k v)) Locating (Looking e) t l p back (λ h. grind (arith, h)) (λ h. grind (arith, h)) tt g
-  finds (Some (TryInsert k v)) t l p e b back g = neither (Some (TryInsert k v)) Locating (Looking e) t l p back (λ h. grind (arith, h)) (λ h. grind (arith, h)) tt g
-  finds (Some (Compute k f)) t l p e b back g = neither (Some (Compute k f)) Locating (Looking e) t l p back (λ h. grind (arith, h)) (λ h. grind (arith, h)) tt g
-  finds (Some (Remove k)) t l p e b back g = neither (Some (Remove k)) Locating (Looking e) t l p back (λ h. grind (arith, h)) (λ h. grind (arith, h)) tt g
-  finds (Some (RemoveEntry k)) t l p e b back g = neither (Some (RemoveEntry k)) Locating (Looking e) t l p back (λ h. grind (arith, h)) (λ h. grind (arith, h)) tt g
-  finds (Some (RemoveSeen s)) t l p e b back g = neither (Some (RemoveSeen s)) Locating (Looking e) t l p back (λ h. grind (arith, h)) (λ h. grind (arith, h)) tt g
   finds (Some (Reserve n)) t l p e b back g = neither (Some (Reserve n)) Locating (Done None 0 0) t l p back (λ h. grind (arith, h)) (λ h. grind (arith, h)) tt g
   finds (Some Walk) t l p e b back g = advance (Some Walk) Locating (Walking e 0 (record { table = e; index = 0; bound = None } ∷ [])) t l p b back (λ h. absurd (grind (arith, h))) (λ _ k _. inr (inr (first_frame e k))) (λ _ k _. inr (first_frame e k)) (λ _ _. tt) ((tt, tt), (λ h x. x, tt)) g
   finds (Some Clear) t l p e b back g = advance (Some Clear) Locating (Clearing 0 e 0 (record { table = e; index = 0; bound = None } ∷ [])) t l p b back (λ h. absurd (grind (arith, h))) (λ _ k _. inr (inr (first_frame e k))) (λ _ k _. inr (first_frame e k)) (λ _ _. tt) ((tt, tt), (λ h x. x, tt)) g
+  finds call t l p e b back g = neither call Locating (Looking e) t l p back (λ h. grind (arith, h)) (λ h. grind (arith, h)) tt g
 
-  -- behind a frame that is done
-  w_fewer : (e i : ℕ) (f : Frame K) (fs : List (Frame K)) (k : K) → Remains cmp hash gives (onward Walking (Done None 0 0) e i fs) k → Remains cmp hash gives (Walking e i (f ∷ fs)) k
-  w_fewer e i f (g ∷ gs) k (inl h) = inl h
-  w_fewer e i f (g ∷ gs) k (inr h) = inr (inr h)
-  w_fewer e i f [] k h = inl (go (nat_lt (suc i) (2 ^ e)) h)
-    where
-      go : (b : Bool) → Remains cmp hash gives (cond b (Walking e (suc i) (record { table = e; index = suc i; bound = None } ∷ [])) (Done None 0 0)) k → i < hash k % 2 ^ e
-      go true (inl h) = omega (arith, h)
-      go true (inr (inl h)) = omega (arith, h.0)
-      go true (inr (inr h)) = absurd h
-      go false h = absurd h
+  -- what a walk or a clear has yet to come to, in bin i and with these frames
+  abbrev Rest : ℕ → ℕ → List (Frame K) → K → Type 0
+  Rest e i fs k = (i < hash k % 2 ^ e) ⊎ InFrames cmp hash gives fs k
 
-  w_frames : (e i : ℕ) (f : Frame K) (fs : List (Frame K)) → FramesOk cmp hash gives (Walking e i (f ∷ fs)) → FramesOk cmp hash gives (onward Walking (Done None 0 0) e i fs)
-  w_frames e i f (g ∷ gs) h = (h.0.1, h.1.1)
-  w_frames e i f [] h = go (nat_lt (suc i) (2 ^ e))
-    where
-      go : (b : Bool) → FramesOk cmp hash gives (cond b (Walking e (suc i) (record { table = e; index = suc i; bound = None } ∷ [])) (Done None 0 0))
-      go true = ((tt, tt), (λ h x. x, tt))
-      go false = tt
+  -- behind a frame that is done, with the modes of a walk or of a clear
+  module _ (to : ℕ → ℕ → List (Frame K) → Mode K V) (end : Mode K V) (e i : ℕ) (f : Frame K) where
+    fewer : (fs : List (Frame K)) (k : K) → ((j : ℕ) (gs : List (Frame K)) → Remains cmp hash gives (to e j gs) k → Rest e j gs k) → (Remains cmp hash gives end k → ⊥) → Remains cmp hash gives (onward to end e i fs) k → Rest e i (f ∷ fs) k
+    fewer (g ∷ gs) k is over h = more (is i (g ∷ gs) h)
+      where
+        more : Rest e i (g ∷ gs) k → Rest e i (f ∷ g ∷ gs) k
+        more (inl h) = inl h
+        more (inr h) = inr (inr h)
+    fewer [] k is over h = inl (go (nat_lt (suc i) (2 ^ e)) h)
+      where
+        next : Rest e (suc i) (record { table = e; index = suc i; bound = None } ∷ []) k → i < hash k % 2 ^ e
+        next (inl h) = omega (arith, h)
+        next (inr (inl h)) = omega (arith, h.0)
+        next (inr (inr h)) = absurd h
 
-  w_rest : (e i : ℕ) (f : Frame K) (fs : List (Frame K)) (k : K) → Remains cmp hash gives (Walking e i (f ∷ fs)) k → InFrame cmp hash gives f k ⊎ Remains cmp hash gives (onward Walking (Done None 0 0) e i fs) k
-  w_rest e i f fs k (inr (inl h)) = inl h
-  w_rest e i f (g ∷ gs) k (inl h) = inr (inl h)
-  w_rest e i f (g ∷ gs) k (inr (inr h)) = inr (inr h)
-  w_rest e i f [] k (inr (inr h)) = absurd h
-  w_rest e i f [] k (inl h) = inr (go (nat_lt (suc i) (2 ^ e)) refl (cases_eq (hash k % 2 ^ e) (suc i)))
-    where
-      go : (b : Bool) → nat_lt (suc i) (2 ^ e) ≡ b → (hash k % 2 ^ e ≡ suc i) ⊎ (hash k % 2 ^ e ≡ suc i → ⊥) → Remains cmp hash gives (cond b (Walking e (suc i) (record { table = e; index = suc i; bound = None } ∷ [])) (Done None 0 0)) k
-      go true y (inl x) = inr (inl (x, refl))
-      go true y (inr x) = inl (omega (arith, h, x))
-      go false y x = absurd (omega (arith, h, mod_below (hash k) (2 ^ e) (pow_pos e), ltb-false _ _ y))
+        go : (b : Bool) → Remains cmp hash gives (cond b (to e (suc i) (record { table = e; index = suc i; bound = None } ∷ [])) end) k → i < hash k % 2 ^ e
+        go true h = next (is (suc i) (record { table = e; index = suc i; bound = None } ∷ []) h)
+        go false h = absurd (over h)
+
+    frames : (fs : List (Frame K)) → ((j : ℕ) (gs : List (Frame K)) → Apart cmp hash gives gs × Within cmp hash gives e j gs → FramesOk cmp hash gives (to e j gs)) → FramesOk cmp hash gives end → Apart cmp hash gives (f ∷ fs) × Within cmp hash gives e i (f ∷ fs) → FramesOk cmp hash gives (onward to end e i fs)
+    frames (g ∷ gs) is over h = is i (g ∷ gs) (h.0.1, h.1.1)
+    frames [] is over h = go (nat_lt (suc i) (2 ^ e))
+      where
+        go : (b : Bool) → FramesOk cmp hash gives (cond b (to e (suc i) (record { table = e; index = suc i; bound = None } ∷ [])) end)
+        go true = is (suc i) (record { table = e; index = suc i; bound = None } ∷ []) ((tt, tt), (λ h x. x, tt))
+        go false = over
+
+    rest : (fs : List (Frame K)) (k : K) → ((j : ℕ) (gs : List (Frame K)) → Rest e j gs k → Remains cmp hash gives (to e j gs) k) → Rest e i (f ∷ fs) k → InFrame cmp hash gives f k ⊎ Remains cmp hash gives (onward to end e i fs) k
+    rest fs k is (inr (inl h)) = inl h
+    rest (g ∷ gs) k is (inl h) = inr (is i (g ∷ gs) (inl h))
+    rest (g ∷ gs) k is (inr (inr h)) = inr (is i (g ∷ gs) (inr h))
+    rest [] k is (inr (inr h)) = absurd h
+    rest [] k is (inl h) = inr (go (nat_lt (suc i) (2 ^ e)) refl (cases_eq (hash k % 2 ^ e) (suc i)))
+      where
+        go : (b : Bool) → nat_lt (suc i) (2 ^ e) ≡ b → (hash k % 2 ^ e ≡ suc i) ⊎ (hash k % 2 ^ e ≡ suc i → ⊥) → Remains cmp hash gives (cond b (to e (suc i) (record { table = e; index = suc i; bound = None } ∷ [])) end) k
+        go true y (inl x) = is (suc i) (record { table = e; index = suc i; bound = None } ∷ []) (inr (inl (x, refl)))
+        go true y (inr x) = is (suc i) (record { table = e; index = suc i; bound = None } ∷ []) (inl (omega (arith, h, x)))
+        go false y x = absurd (omega (arith, h, mod_below (hash k) (2 ^ e) (pow_pos e), ltb-false _ _ y))
 
   -- the two halves of a frame
-  pub w_split : (e i : ℕ) (f : Frame K) (fs : List (Frame K)) (k : K) → Remains cmp hash gives (Walking e i (f ∷ fs)) k → Remains cmp hash gives (Walking e i (halves f fs)) k
-  w_split e i f fs k (inl h) = inl h
-  w_split e i f fs k (inr (inr h)) = inr (inr (inr h))
-  w_split e i f fs k (inr (inl h)) = inr (go (in_a_half (hash k) f.table f.index h.0))
+  pub rest_split : (e i : ℕ) (f : Frame K) (fs : List (Frame K)) (k : K) → Rest e i (f ∷ fs) k → Rest e i (halves f fs) k
+  rest_split e i f fs k (inl h) = inl h
+  rest_split e i f fs k (inr (inr h)) = inr (inr (inr h))
+  rest_split e i f fs k (inr (inl h)) = inr (go (in_a_half (hash k) f.table f.index h.0))
     where
       go : (hash k % 2 ^ suc f.table ≡ f.index) ⊎ (hash k % 2 ^ suc f.table ≡ f.index + 2 ^ f.table) → InFrames cmp hash gives (halves f fs) k
       go (inl x) = inl (x, h.1)
       go (inr x) = inr (inl (x, h.1))
 
-  pub w_joined : (e i : ℕ) (f : Frame K) (fs : List (Frame K)) (k : K) → f.index < 2 ^ f.table → Remains cmp hash gives (Walking e i (halves f fs)) k → Remains cmp hash gives (Walking e i (f ∷ fs)) k
-  w_joined e i f fs k l (inl h) = inl h
-  w_joined e i f fs k l (inr (inl h)) = inr (inl (in_low_half (hash k) f.table f.index l h.0, h.1))
-  w_joined e i f fs k l (inr (inr (inl h))) = inr (inl (in_high_half (hash k) f.table f.index l h.0, h.1))
-  w_joined e i f fs k l (inr (inr (inr h))) = inr (inr h)
-
-  -- behind a frame that is done
-  c_fewer : (wiped more e i : ℕ) (f : Frame K) (fs : List (Frame K)) (k : K) → Remains cmp hash gives (onward (Clearing more) (Done None 0 more) e i fs) k → Remains cmp hash gives (Clearing wiped e i (f ∷ fs)) k
-  c_fewer wiped more e i f (g ∷ gs) k (inl h) = inl h
-  c_fewer wiped more e i f (g ∷ gs) k (inr h) = inr (inr h)
-  c_fewer wiped more e i f [] k h = inl (go (nat_lt (suc i) (2 ^ e)) h)
-    where
-      go : (b : Bool) → Remains cmp hash gives (cond b (Clearing more e (suc i) (record { table = e; index = suc i; bound = None } ∷ [])) (Done None 0 more)) k → i < hash k % 2 ^ e
-      go true (inl h) = omega (arith, h)
-      go true (inr (inl h)) = omega (arith, h.0)
-      go true (inr (inr h)) = absurd h
-      go false h = absurd h
-
-  c_frames : (wiped more e i : ℕ) (f : Frame K) (fs : List (Frame K)) → FramesOk cmp hash gives (Clearing wiped e i (f ∷ fs)) → FramesOk cmp hash gives (onward (Clearing more) (Done None 0 more) e i fs)
-  c_frames wiped more e i f (g ∷ gs) h = (h.0.1, h.1.1)
-  c_frames wiped more e i f [] h = go (nat_lt (suc i) (2 ^ e))
-    where
-      go : (b : Bool) → FramesOk cmp hash gives (cond b (Clearing more e (suc i) (record { table = e; index = suc i; bound = None } ∷ [])) (Done None 0 more))
-      go true = ((tt, tt), (λ h x. x, tt))
-      go false = tt
-
-  c_rest : (wiped more e i : ℕ) (f : Frame K) (fs : List (Frame K)) (k : K) → Remains cmp hash gives (Clearing wiped e i (f ∷ fs)) k → InFrame cmp hash gives f k ⊎ Remains cmp hash gives (onward (Clearing more) (Done None 0 more) e i fs) k
-  c_rest wiped more e i f fs k (inr (inl h)) = inl h
-  c_rest wiped more e i f (g ∷ gs) k (inl h) = inr (inl h)
-  c_rest wiped more e i f (g ∷ gs) k (inr (inr h)) = inr (inr h)
-  c_rest wiped more e i f [] k (inr (inr h)) = absurd h
-  c_rest wiped more e i f [] k (inl h) = inr (go (nat_lt (suc i) (2 ^ e)) refl (cases_eq (hash k % 2 ^ e) (suc i)))
-    where
-      go : (b : Bool) → nat_lt (suc i) (2 ^ e) ≡ b → (hash k % 2 ^ e ≡ suc i) ⊎ (hash k % 2 ^ e ≡ suc i → ⊥) → Remains cmp hash gives (cond b (Clearing more e (suc i) (record { table = e; index = suc i; bound = None } ∷ [])) (Done None 0 more)) k
-      go true y (inl x) = inr (inl (x, refl))
-      go true y (inr x) = inl (omega (arith, h, x))
-      go false y x = absurd (omega (arith, h, mod_below (hash k) (2 ^ e) (pow_pos e), ltb-false _ _ y))
-
-  -- the two halves of a frame
-  pub c_split : (wiped e i : ℕ) (f : Frame K) (fs : List (Frame K)) (k : K) → Remains cmp hash gives (Clearing wiped e i (f ∷ fs)) k → Remains cmp hash gives (Clearing wiped e i (halves f fs)) k
-  c_split wiped e i f fs k (inl h) = inl h
-  c_split wiped e i f fs k (inr (inr h)) = inr (inr (inr h))
-  c_split wiped e i f fs k (inr (inl h)) = inr (go (in_a_half (hash k) f.table f.index h.0))
-    where
-      go : (hash k % 2 ^ suc f.table ≡ f.index) ⊎ (hash k % 2 ^ suc f.table ≡ f.index + 2 ^ f.table) → InFrames cmp hash gives (halves f fs) k
-      go (inl x) = inl (x, h.1)
-      go (inr x) = inr (inl (x, h.1))
-
-  pub c_joined : (wiped e i : ℕ) (f : Frame K) (fs : List (Frame K)) (k : K) → f.index < 2 ^ f.table → Remains cmp hash gives (Clearing wiped e i (halves f fs)) k → Remains cmp hash gives (Clearing wiped e i (f ∷ fs)) k
-  c_joined wiped e i f fs k l (inl h) = inl h
-  c_joined wiped e i f fs k l (inr (inl h)) = inr (inl (in_low_half (hash k) f.table f.index l h.0, h.1))
-  c_joined wiped e i f fs k l (inr (inr (inl h))) = inr (inl (in_high_half (hash k) f.table f.index l h.0, h.1))
-  c_joined wiped e i f fs k l (inr (inr (inr h))) = inr (inr h)
+  pub rest_joined : (e i : ℕ) (f : Frame K) (fs : List (Frame K)) (k : K) → f.index < 2 ^ f.table → Rest e i (halves f fs) k → Rest e i (f ∷ fs) k
+  rest_joined e i f fs k l (inl h) = inl h
+  rest_joined e i f fs k l (inr (inl h)) = inr (inl (in_low_half (hash k) f.table f.index l h.0, h.1))
+  rest_joined e i f fs k l (inr (inr (inl h))) = inr (inl (in_high_half (hash k) f.table f.index l h.0, h.1))
+  rest_joined e i f fs k l (inr (inr (inr h))) = inr (inr h)
 
   off_half : (f g : Frame K) (fs : List (Frame K)) → ((h : ℕ) → h % 2 ^ g.table ≡ g.index → h % 2 ^ f.table ≡ f.index) → Off cmp hash gives f fs → Off cmp hash gives g fs
   off_half f g [] r o = tt
@@ -307,7 +232,7 @@ module _ {K V F : Type 0} (cmp : K → K → Ordering) (total : IsTotalOrder cmp
   pub leaves : (home : ℕ → ℕ) (s : State K V F) (p e i : ℕ) (f : Frame K) (fs : List (Frame K)) (es : List (Entry K V)) (n : ℕ) → Can cmp hash gives s p (Leaves e i f fs es n) → Tables cmp hash home s → s.call p ≡ Some Walk
       → Progress cmp hash gives (s.call p) (Walking e i (f ∷ fs)) s.trace p → Progress cmp hash gives (s.call p) (onward Walking (Done None 0 0) e i fs) (Silent p ∷ s.trace) p
   leaves home s p e i f fs es n can t w g = advance cmp hash gives (s.call p) (Walking e i (f ∷ fs)) (onward Walking (Done None 0 0) e i fs) s.trace (Silent p) p refl (λ k h. h) (λ h. grind (arith, h))
-      (λ _ k r. go k (w_rest cmp hash gives e i f fs k r)) (λ h. absurd (grind (arith, h, w))) (λ k r. w_fewer cmp hash gives e i f fs k r) (w_frames cmp hash gives e i f fs g.frames) g
+      (λ _ k r. go k (rest cmp hash gives Walking (Done None 0 0) e i f fs k (λ _ _ h. h) r)) (λ h. absurd (grind (arith, h, w))) (λ k r. fewer cmp hash gives Walking (Done None 0 0) e i f fs k (λ _ _ h. h) (λ h. h) r) (frames cmp hash gives Walking (Done None 0 0) e i f fs (λ _ _ h. h) tt g.frames) g
     where
       go : (k : K) → InFrame cmp hash gives f k ⊎ Remains cmp hash gives (onward Walking (Done None 0 0) e i fs) k → HasRead cmp hash gives (Silent p ∷ s.trace) p k ⊎ (HasLacked cmp hash gives (λ _. true) (Silent p ∷ s.trace) p k ⊎ Remains cmp hash gives (onward Walking (Done None 0 0) e i fs) k)
       go k (inr h) = inr (inr h)
@@ -316,7 +241,7 @@ module _ {K V F : Type 0} (cmp : K → K → Ordering) (total : IsTotalOrder cmp
   pub wipes : (home : ℕ → ℕ) (s : State K V F) (p wiped e i : ℕ) (f : Frame K) (fs : List (Frame K)) (es : List (Entry K V)) (n : ℕ) → Can cmp hash gives s p (Wipes wiped e i f fs es n) → s.call p ≡ Some Clear
       → Progress cmp hash gives (s.call p) (Clearing wiped e i (f ∷ fs)) s.trace p → Progress cmp hash gives (s.call p) (onward (Clearing (wiped + length es)) (Done None 0 (wiped + length es)) e i fs) (Wipe p f.table f.index ∷ s.trace) p
   wipes home s p wiped e i f fs es n can w g = advance cmp hash gives (s.call p) (Clearing wiped e i (f ∷ fs)) (onward (Clearing (wiped + length es)) (Done None 0 (wiped + length es)) e i fs) s.trace (Wipe p f.table f.index) p refl (λ k h. h) (λ h. grind (arith, h))
-      (λ h. absurd (grind (arith, h, w))) (λ _ k r. go k (c_rest cmp hash gives wiped (wiped + length es) e i f fs k r)) (λ k r. c_fewer cmp hash gives wiped (wiped + length es) e i f fs k r) (c_frames cmp hash gives wiped (wiped + length es) e i f fs g.frames) g
+      (λ h. absurd (grind (arith, h, w))) (λ _ k r. go k (rest cmp hash gives (Clearing (wiped + length es)) (Done None 0 (wiped + length es)) e i f fs k (λ _ _ h. h) r)) (λ k r. fewer cmp hash gives (Clearing (wiped + length es)) (Done None 0 (wiped + length es)) e i f fs k (λ _ _ h. h) (λ h. h) r) (frames cmp hash gives (Clearing (wiped + length es)) (Done None 0 (wiped + length es)) e i f fs (λ _ _ h. h) tt g.frames) g
     where
       go : (k : K) → InFrame cmp hash gives f k ⊎ Remains cmp hash gives (onward (Clearing (wiped + length es)) (Done None 0 (wiped + length es)) e i fs) k → HasLacked cmp hash gives (names p) (Wipe p f.table f.index ∷ s.trace) p k ⊎ Remains cmp hash gives (onward (Clearing (wiped + length es)) (Done None 0 (wiped + length es)) e i fs) k
       go k (inr h) = inr h

@@ -3,7 +3,7 @@ use Rattle.std.specs.Prelude.{⊤, length, ℕ, pos, ◌+ℤ◌, ◌-ℤ◌, suc
 use Rattle.std.specs.declared.cmp.Ordering.{Ordering}
 use Rattle.flurry_theory.specs.Map.{Unique, find, key_of}
 use Rattle.flurry_theory.specs.Trace.{Trace, is_lookup, call_begun_by, decision, has_replied, has_closed, published_in, was_placed, was_moved_in, names, last_read, read_before, pairs, at}
-use Rattle.flurry_theory.specs.Legal.{is_untouched, untouched_for, RemovalMay, HasRead, HasLacked, EachMay, CallMay, WalkMay, ClearMay, GrowthMay}
+use Rattle.flurry_theory.specs.Legal.{is_untouched, untouched_for, RemovalMay, HasRead, HasLacked, EachMay, Legal}
 use Rattle.flurry_theory.specs.Bin.{Entry, number_of, pairs_of, IsAscending, InRegion, past}
 use Rattle.flurry_theory.specs.Machine.{total, owes_added, owes_removed, State, Slot, Transition, Opens, Moves, Claim, Growth, Can, does, Live, Moved, Unborn, Mode, Locating, Looking, Walking, Clearing, Done, Finished, Frame, Replies, Loses}
 use Rattle.flurry_model.specs.declared.call.Call.{Call}
@@ -248,13 +248,6 @@ module _ {K V F : Type 0} (cmp : K → K → Ordering) (hash : K → ℕ) (gives
 
 -- ALL OF IT
 module _ {K V F : Type 0} (cmp : K → K → Ordering) (hash : K → ℕ) (gives : F → K → V → Option V → Type 0) where
-  -- the laws of a trace
-  pub record Legal (first : Option ℕ) (t : Trace K V F) : Type 0 where
-    pub calls : EachMay (CallMay cmp hash gives) t
-    pub walks : EachMay (WalkMay cmp hash gives) t
-    pub clears : EachMay (ClearMay cmp hash gives) t
-    pub growths : EachMay (GrowthMay first) t
-
   -- what is true of every state: its parties, tables, ranges, labels, walks, counts, look-ups, laws, write numbers and removals
   pub record Inv (first : Option ℕ) (home : ℕ → ℕ) (s : State K V F) : Type 0 where
     pub parties : (p : ℕ) → PartyOk s p
@@ -268,7 +261,7 @@ module _ {K V F : Type 0} (cmp : K → K → Ordering) (hash : K → ℕ) (gives
     pub lookups : (p : ℕ) → LooksUp cmp hash gives s p
     -- each step adds a label, so that a counter of a party's steps holds them
     pub few_steps : (p : ℕ) → s.steps p ≤ length s.trace
-    pub legal : Legal first s.trace
+    pub legal : Legal cmp hash gives first s.trace
     pub origins : Origins s
     pub numbers : Numbers cmp hash gives home s
     -- conditional removals, of which the trace alone does not tell with which walk they began

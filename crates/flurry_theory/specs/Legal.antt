@@ -23,13 +23,11 @@ module _ {K V F : Type 0} where
 
   -- the call is a clear
   abbrev pub IsClear : Call K V F → Type 0
-  IsClear Clear = ⊤
-  IsClear c = ⊥
+  IsClear c = c ≡ Clear
 
   -- the call is a walk
   abbrev pub IsWalk : Call K V F → Type 0
-  IsWalk Walk = ⊤
-  IsWalk c = ⊥
+  IsWalk c = c ≡ Walk
 
   -- the call is a conditional removal of this pair
   abbrev pub RemovesPair : K × V → Call K V F → Type 0
@@ -144,3 +142,12 @@ module _ {K V F : Type 0} where
   GrowthMay first t (Moved e i) = (i < 2 ^ e) × (was_placed t (suc e) ≡ true) × (was_moved_in t e i ≡ false)
   GrowthMay first t (Published d) = (e : ℕ) × (published_in first t ≡ Some e) × (d ≡ suc e) × ((i : ℕ) → i < 2 ^ e → was_moved_in t e i ≡ true)
   GrowthMay first t l = ⊤
+
+  -- ALL OF IT
+  module _ (cmp : K → K → Ordering) (hash : K → ℕ) (gives : F → K → V → Option V → Type 0) where
+    -- The laws of a trace: each of its labels may follow those before it. first is as for a growth.
+    pub record Legal (first : Option ℕ) (t : Trace K V F) : Type 0 where
+      pub calls : EachMay (CallMay cmp hash gives) t
+      pub walks : EachMay (WalkMay cmp hash gives) t
+      pub clears : EachMay (ClearMay cmp hash gives) t
+      pub growths : EachMay (GrowthMay first) t

@@ -26,30 +26,16 @@ module _ {K V F : Type 0} where
   -- the stage of a call that has its key
   pub fresh_stage : (hash : K → ℕ) (c : OwnedCall K V F) → FollowsStage hash (theory_call c) (owned_stage c) × (mode_of_stage (owned_stage c) ≡ Locating) × (held_of_stage (owned_stage c) ≡ (None, None)) × (last_seen (owned_stage c) ≡ None)
   fresh_stage hash (owned.Get j) = (refl, refl, refl, refl)
-  fresh_stage hash (owned.GetKeyValue j) = (refl, refl, refl, refl)
-  fresh_stage hash (owned.ContainsKey j) = (refl, refl, refl, refl)
-  fresh_stage hash (owned.Remove j) = (refl, refl, refl, refl)
-  fresh_stage hash (owned.RemoveEntry j) = (refl, refl, refl, refl)
-  fresh_stage hash (owned.Insert j v) = (refl, refl, refl, refl)
-  fresh_stage hash (owned.TryInsert j v) = (refl, refl, refl, refl)
-  fresh_stage hash (owned.Compute j f) = (refl, refl, refl, refl)
-  fresh_stage hash (owned.Reserve a) = (refl, refl, refl, refl)
   fresh_stage hash owned.Clear = (((refl, refl), refl), refl, refl, refl)
   fresh_stage hash owned.Walk = ((refl, tt), refl, refl, refl)
+  fresh_stage hash c = (refl, refl, refl, refl)
 
   -- it goes by its key's hash
   pub own_hash : (hash : K → ℕ) (c : OwnedCall K V F) (k : K) → key_of (theory_call c) ≡ Some k → hash_for hash c ≡ hash k
-  own_hash hash (owned.Get j) k h = ap hash (same_some h)
-  own_hash hash (owned.GetKeyValue j) k h = ap hash (same_some h)
-  own_hash hash (owned.ContainsKey j) k h = ap hash (same_some h)
-  own_hash hash (owned.Remove j) k h = ap hash (same_some h)
-  own_hash hash (owned.RemoveEntry j) k h = ap hash (same_some h)
-  own_hash hash (owned.Insert j v) k h = ap hash (same_some h)
-  own_hash hash (owned.TryInsert j v) k h = ap hash (same_some h)
-  own_hash hash (owned.Compute j f) k h = ap hash (same_some h)
   own_hash hash (owned.Reserve n) k h = cc
   own_hash hash owned.Clear k h = cc
   own_hash hash owned.Walk k h = cc
+  own_hash hash c k h = ap hash (same_some h)
 
   -- a call that has its key
   pub owned_begins : (hash : K → ℕ) (n : ℕ) (c : OwnedCall K V F) → IsBeginning hash (theory_call c) (record { hash = hash_for hash c; processors = n; helped = None; stage = owned_stage c })

@@ -19,7 +19,7 @@ use Rattle.flurry_calls.specs.declared.step.Event.TheVariants as event
 use Rattle.flurry_theory.specs.Map.{same}
 use Rattle.flurry_theory.specs.Trace.{is_lookup}
 use Rattle.flurry_theory.specs.Machine as machine
-use Rattle.flurry_theory.specs.Machine.{Quiet, Claims, Reports, Publishes, is_complete, with_report, total}
+use Rattle.flurry_theory.specs.Machine.{Claims, Reports, Publishes, is_complete, with_report, total}
 use Rattle.flurry_theory.specs.Invariant.{size}
 use Rattle.flurry_theory.proofs.Ranges.{part-total}
 use Rattle.flurry_model.specs.declared.call.Call.{Call}
@@ -39,9 +39,8 @@ module _ {K V F : Type 0} where
   -- where a call that stops helping goes on
   pub resumed_as : (hash : K → ℕ) (c : Call K V F) (a : Resume K V F) → FollowsResume c a → (mode_of_stage (resumed_stage a) ≡ mode_of_resume a) × (held_of_stage (resumed_stage a) ≡ (None, None)) × FollowsStage hash c (resumed_stage a)
   resumed_as hash c (ThenBin t e) h = (refl, refl, h.0)
-  resumed_as hash c (ThenRecount r) h = (refl, refl, h)
-  resumed_as hash c (ThenGrow n (ForInsert r)) h = (refl, refl, h)
   resumed_as hash c (ThenGrow n ForReserve) h = (refl, refl, h)
+  resumed_as hash c a h = (refl, refl, h)
 
   pub helper_writes : (c : Call K V F) (a : Resume K V F) → FollowsResume c a → is_lookup (Some c) ≡ false
   helper_writes c (ThenBin t e) h = h.1

@@ -35,10 +35,9 @@ use Rattle.flurry_model.specs.declared.sizes.TheConstants.{GREATEST_TABLE}
 
 -- a growth that can begin
 can_begin_is : (e : ℕ) (q : Option ℕ) (g : Option ℕ) → can_begin e q g ≡ true → (q ≡ Some e) × (g ≡ None) × (e < GREATEST_TABLE)
-can_begin_is e None None h = cc
-can_begin_is e None (Some g) h = cc
-can_begin_is e (Some d) (Some g) h = cc
 can_begin_is e (Some d) None h = (ap Some (eqb-true d e (and_parts (d == e) (nat_lt e GREATEST_TABLE) h).0), refl, ltb-true e 30 (and_parts (d == e) (nat_lt e GREATEST_TABLE) h).1)
+can_begin_is e None (Some g) h = cc
+can_begin_is e q g h = cc
 
 module _ {K V F : Type 0} where
   -- the stage after a decision that was counted

@@ -26,7 +26,7 @@ use Rattle.flurry_theory.specs.Machine.{BinDid, Looking, Done}
 use Rattle.flurry_theory.specs.Legal.{removes}
 use Rattle.flurry_model.specs.declared.call.Seen.{Seen}
 use Rattle.flurry_model.specs.declared.call.Call.{Call}
-use Rattle.flurry_model.specs.declared.call.Call.TheVariants.{Get, GetKeyValue, ContainsKey, Insert, TryInsert, Compute, Remove, RemoveEntry, RemoveSeen, Reserve, Clear, Walk}
+use Rattle.flurry_model.specs.declared.call.Call.TheVariants.{Get, GetKeyValue, ContainsKey, Insert, TryInsert, Compute, Remove, RemoveEntry, RemoveSeen, Clear}
 use Rattle.flurry_theory.proofs.BinSteps.{bin_did}
 use Rattle.flurry_world.specs.Entries.{entries_of_held, IsHashed}
 use Rattle.flurry_world.specs.World.{task_of_call, mode_of_stage, HasDecided, FollowsStage}
@@ -288,9 +288,7 @@ module _ {K V F : Type 0} (cmp : K → K → Ordering) (total : IsTotalOrder cmp
     decides (Remove j) t k s d task key here p = let same_task : t ≡ Removes TheValue j = cc in let same_key : k ≡ j = cc in removes_value j s d (rw (same_task, same_key) at p)
     decides (RemoveEntry j) t k s d task key here p = let same_task : t ≡ Removes ThePair j = cc in let same_key : k ≡ j = cc in removes_pair j s d (rw (same_task, same_key) at p)
     decides (RemoveSeen z) t k s d task key here p = let same_task : t ≡ RemovesSeen z = cc in let same_key : k ≡ z.key = cc in removes_seen z s d (rw (same_task, same_key) at p)
-    decides (Reserve n) t k s d task key here p = cc
-    decides Clear t k s d task key here p = cc
-    decides Walk t k s d task key here p = cc
+    decides c t k s d task key here p = cc
 
   -- ---- memory that is wanting at a live bin
 
@@ -308,15 +306,12 @@ module _ {K V F : Type 0} (cmp : K → K → Ordering) (total : IsTotalOrder cmp
     refused (Get j) t k task key p = let same_task : t ≡ Finds TheValue j = cc in let same_key : k ≡ j = cc in present j (rw (same_task, same_key) at p)
     refused (GetKeyValue j) t k task key p = let same_task : t ≡ Finds ThePair j = cc in let same_key : k ≡ j = cc in present j (rw (same_task, same_key) at p)
     refused (ContainsKey j) t k task key p = let same_task : t ≡ Finds Presence j = cc in rw same_task at p
-    refused (Insert j v) t k task key p = tt
-    refused (TryInsert j v) t k task key p = tt
     refused (Compute j f) t k task key p = let same_task : t ≡ Computes j f = cc in let same_key : k ≡ j = cc in compute_refused j f (rw (same_task, same_key) at p)
     refused (Remove j) t k task key p = let same_task : t ≡ Removes TheValue j = cc in rw same_task at p
     refused (RemoveEntry j) t k task key p = let same_task : t ≡ Removes ThePair j = cc in rw same_task at p
     refused (RemoveSeen z) t k task key p = let same_task : t ≡ RemovesSeen z = cc in rw same_task at p
-    refused (Reserve n) t k task key p = tt
     refused Clear t k task key p = cc
-    refused Walk t k task key p = tt
+    refused c t k task key p = tt
 
 -- ---- a bin that has moved
 
@@ -326,37 +321,17 @@ module _ {K V F : Type 0} where
   writer_is (Get j) t task w = let same_task : t ≡ Finds TheValue j = cc in absurd (rw same_task at w)
   writer_is (GetKeyValue j) t task w = let same_task : t ≡ Finds ThePair j = cc in absurd (rw same_task at w)
   writer_is (ContainsKey j) t task w = let same_task : t ≡ Finds Presence j = cc in absurd (rw same_task at w)
-  writer_is (Insert j v) t task w = refl
-  writer_is (TryInsert j v) t task w = refl
-  writer_is (Compute j f) t task w = refl
-  writer_is (Remove j) t task w = refl
-  writer_is (RemoveEntry j) t task w = refl
-  writer_is (RemoveSeen z) t task w = refl
-  writer_is (Reserve n) t task w = refl
-  writer_is Clear t task w = refl
-  writer_is Walk t task w = refl
+  writer_is c t task w = refl
 
   -- the call goes on at the next table, with no claim
   pub moved_mode : (t : Task K V F) (e : ℕ) → mode_of_stage (stage_moved t e) ≡ Looking (suc e)
   moved_mode (Finds w k) e = ap Looking (add-one e)
-  moved_mode (Removes w k) e = ap Looking (add-one e)
-  moved_mode (RemovesSeen z) e = ap Looking (add-one e)
-  moved_mode (Inserts k v) e = ap Looking (add-one e)
-  moved_mode (Adds k v) e = ap Looking (add-one e)
-  moved_mode (Computes k f) e = ap Looking (add-one e)
+  moved_mode t e = ap Looking (add-one e)
 
   pub moved_claim : (t : Task K V F) (e : ℕ) → held_of_stage (stage_moved t e) ≡ (None, None)
   moved_claim (Finds w k) e = refl
-  moved_claim (Removes w k) e = refl
-  moved_claim (RemovesSeen z) e = refl
-  moved_claim (Inserts k v) e = refl
-  moved_claim (Adds k v) e = refl
-  moved_claim (Computes k f) e = refl
+  moved_claim t e = refl
 
   pub moved_follows : (hash : K → ℕ) (c : Call K V F) (t : Task K V F) (e : ℕ) → task_of_call c ≡ Some t → FollowsStage hash c (stage_moved t e)
   moved_follows hash c (Finds w k) e task = task
-  moved_follows hash c (Removes w k) e task = (task, writer_is c (Removes w k) task tt)
-  moved_follows hash c (RemovesSeen z) e task = (task, writer_is c (RemovesSeen z) task tt)
-  moved_follows hash c (Inserts k v) e task = (task, writer_is c (Inserts k v) task tt)
-  moved_follows hash c (Adds k v) e task = (task, writer_is c (Adds k v) task tt)
-  moved_follows hash c (Computes k f) e task = (task, writer_is c (Computes k f) task tt)
+  moved_follows hash c t e task = (task, writer_is c t task tt)

@@ -1,5 +1,5 @@
 -- Steps at the control that ask for the published table, or make the first one.
-use Rattle.std.specs.Prelude.{ℕ, ◌^◌, ◌≤◌, ◌==◌, ◌&&◌, nat_lt, Bool, true, false, List, [], ◌∷◌, reverse, slice_get, Option, Some, None, MatchOption, if◌then◌else◌, ◌≡◌}
+use Rattle.std.specs.Prelude.{ℕ, ◌^◌, ◌≤◌, ◌==◌, ◌&&◌, nat_lt, Bool, true, false, List, [], ◌∷◌, slice_get, Option, Some, None, MatchOption, if◌then◌else◌, ◌≡◌}
 use Rattle.std.specs.declared.cmp.Ordering.{Ordering}
 use Rattle.std.specs.Cmp.{IsTotalOrder}
 use Rattle.std.proofs.Common.{arith, refl, sym, ◌∙◌, ap, subst}
@@ -20,7 +20,7 @@ use Rattle.flurry_theory.specs.declared.Label.{Label}
 use Rattle.flurry_theory.specs.declared.Label.TheVariants as label
 use Rattle.flurry_world.specs.Entries.{slot_of, IsHashed}
 use Rattle.flurry_world.specs.Tables.{Tables, content_at, is_made, fresh, with_table, MadeGives, PlaceGives}
-use Rattle.flurry_world.specs.World.{PartyRecord, WorldState, state_of, task_of_call, mode_of_stage, FollowsStage, IsWorld}
+use Rattle.flurry_world.specs.World.{PartyRecord, WorldState, state_of, task_of_call, mode_of_stage, FollowsStage, IsWorld, history}
 use Rattle.flurry_world.specs.Steps.{label_of}
 use Rattle.flurry_world.proofs.StateLaws.{held_of_stage}
 use Rattle.flurry_world.proofs.CallLaws.{AddsNothing, empty_reply, found_task, key_of_task, opens_first, empty_allowed}
@@ -34,18 +34,9 @@ use Rattle.flurry_model.specs.declared.sizes.TheConstants.{GREATEST_TABLE}
 -- a trace that publishes nothing began with nothing
 none_first : {K V F : Type 0} (first : Option ℕ) (t : List (Label K V F)) → published_in first t ≡ None → first ≡ None
 none_first first [] h = h
-none_first first (label.Begin q c ∷ t) h = none_first first t h
-none_first first (label.Decide q r ∷ t) h = none_first first t h
-none_first first (label.Reply q r ∷ t) h = none_first first t h
-none_first first (label.Refused q ∷ t) h = none_first first t h
-none_first first (label.Wipe q e i ∷ t) h = none_first first t h
-none_first first (label.Read q k v ∷ t) h = none_first first t h
-none_first first (label.End q ∷ t) h = none_first first t h
 none_first first (label.Opened e ∷ t) h = cc
-none_first first (label.Placed e ∷ t) h = none_first first t h
-none_first first (label.Moved e i ∷ t) h = none_first first t h
 none_first first (label.Published e ∷ t) h = cc
-none_first first (label.Silent q ∷ t) h = none_first first t h
+none_first first (l ∷ t) h = none_first first t h
 
 -- without a table there is no growth
 idle_without : (p : Option ℕ) (g : Option ℕ) → p ≡ None → GrowthIsIn p g → g ≡ None
@@ -85,7 +76,7 @@ module _ {K V F S : Type 0} (cmp : K → K → Ordering) (total : IsTotalOrder c
   }
     where
       first : w.first ≡ None
-      first = none_first w.first (reverse w.trace) (k.state.1.grown.number ∙ bare)
+      first = none_first w.first (history w) (k.state.1.grown.number ∙ bare)
 
       made : t ≡ with_table w.tables e None
       made = subst (λ b. MadeGives b w.tables e None true t) (ap is_made (k.unmade bare e)) gives_table

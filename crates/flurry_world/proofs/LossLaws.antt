@@ -2,7 +2,7 @@
 use Rattle.std.specs.Prelude.{ℕ, None, ◌≡◌}
 use Rattle.std.proofs.Common.{refl}
 use Rattle.flurry_model.specs.declared.call.Call.{Call}
-use Rattle.flurry_steps.specs.Party.{WantsSeat, AtBoard, Moving, Publishing, GivesBack, Resume, ThenBin, ThenRecount, ThenGrow, Stage, AtLocate, AtBin, AtHelp, AtUncount, AtCount, AtRecount, AtBegin, AtGrow, AtReserve, AtSweep, AtDone, AtTaken, resumed_stage, last_seen}
+use Rattle.flurry_steps.specs.Party.{WantsSeat, Resume, ThenBin, Stage, AtHelp, resumed_stage, last_seen}
 use Rattle.flurry_steps.specs.PartyBoard.{stage_lost}
 use Rattle.flurry_world.specs.World.{mode_of_stage, FollowsStage}
 use Rattle.flurry_world.proofs.StateLaws.{held_of_stage}
@@ -15,23 +15,8 @@ module _ {K V F : Type 0} where
 
   resumed_unseen : (a : Resume K V F) → last_seen (resumed_stage a) ≡ None
   resumed_unseen (ThenBin t e) = refl
-  resumed_unseen (ThenRecount r) = refl
-  resumed_unseen (ThenGrow n g) = refl
+  resumed_unseen a = refl
 
   pub lost_as : (hash : K → ℕ) (c : Call K V F) (s : Stage K V F) → FollowsStage hash c s → StandsAlike hash c s (stage_lost s)
   lost_as hash c (AtHelp (WantsSeat e) a) f = let (mode, held, follows) = resumed_as hash c a f in (mode, held, resumed_unseen a, follows)
-  lost_as hash c (AtHelp (AtBoard e) a) f = (refl, refl, refl, f)
-  lost_as hash c (AtHelp (Moving m) a) f = (refl, refl, refl, f)
-  lost_as hash c (AtHelp (Publishing e) a) f = (refl, refl, refl, f)
-  lost_as hash c (AtHelp (GivesBack e) a) f = (refl, refl, refl, f)
-  lost_as hash c (AtLocate t) f = (refl, refl, refl, f)
-  lost_as hash c (AtBin t e) f = (refl, refl, refl, f)
-  lost_as hash c (AtUncount r) f = (refl, refl, refl, f)
-  lost_as hash c (AtCount r) f = (refl, refl, refl, f)
-  lost_as hash c (AtRecount r) f = (refl, refl, refl, f)
-  lost_as hash c (AtBegin e r) f = (refl, refl, refl, f)
-  lost_as hash c (AtGrow n g) f = (refl, refl, refl, f)
-  lost_as hash c (AtReserve n) f = (refl, refl, refl, f)
-  lost_as hash c (AtSweep u) f = (refl, refl, refl, f)
-  lost_as hash c (AtDone r) f = (refl, refl, refl, f)
-  lost_as hash c AtTaken f = (refl, refl, refl, f)
+  lost_as hash c s f = (refl, refl, refl, f)

@@ -233,10 +233,4 @@ module _ {K V F S : Type 0} (cmp : K → K → Ordering) (total : IsTotalOrder c
           by_content (IsLive l) apart = apart halves
           by_content HasMoved apart = apart
           by_content IsUnborn apart = apart
-      at_move event.Decide b t' g y z = absurd g
-      at_move event.Refused b t' g y z = absurd g
-      at_move (event.Opened d) b t' g y z = absurd g
-      at_move (event.Placed d) b t' g y z = absurd g
-      at_move event.Read b t' g y z = absurd g
-      at_move (event.Wipe _ _) b t' g y z = absurd g
-      at_move (event.Published d) b t' g y z = absurd g
+      at_move ev b t' g y z = absurd g

@@ -85,11 +85,7 @@ module _ {K V F R : Type 0} (place : R → ℕ → Option ℕ → Bool → R →
   board_part (SeatPart d) e is h = subst (λ n. AtBoardOf n c s.control_state s.tables ev c' s'.control_state s'.tables) (sym (same_some is)) h
   board_part (BoardPart d) e is h = subst (λ n. AtBoardOf n c s.control_state s.tables ev c' s'.control_state s'.tables) (sym (same_some is)) h
   board_part (GivePart d) e is h = subst (λ n. AtBoardOf n c s.control_state s.tables ev c' s'.control_state s'.tables) (sym (same_some is)) h
-  board_part ControlPart e is h = let clash : None ≡ Some e = is in cc
-  board_part (LookPart d i) e is h = let clash : None ≡ Some e = is in cc
-  board_part (BinPart d i) e is h = let clash : None ≡ Some e = is in cc
-  board_part (MovePart d i) e is h = let clash : None ≡ Some e = is in cc
-  board_part NoPart e is h = let clash : None ≡ Some e = is in cc
+  board_part a e is h = let clash : None ≡ Some e = is in cc
 
   -- a step with the loan of a part that is one of these
   pub own_part : (l : Loan K V R) → IsPart l → IsOwn room s l s' → StepWith place cmp changes l c ev c' → PartStep cmp changes (wanted_part c) c s.control_state s.tables ev c' s'.control_state s'.tables

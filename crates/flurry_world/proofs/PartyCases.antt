@@ -57,12 +57,7 @@ module _ {K V F S : Type 0} (cmp : K → K → Ordering) (total : IsTotalOrder c
 
   at_control : (s : Stage K V F) → x.party_state.stage ≡ s → IsSingle s → part_of x.party_state.hash s ≡ ControlPart → StageAtControl PlaceGives x.party_state.processors x.party_state.helped s w.control_state w.tables ev c.stage b t' → IsStep cmp hash gives w p x b t' c (label_of p ev c.stage)
   at_control (AtLocate t) e single q h = locates cmp total hash lawful gives w k p x at c ev b t' t e (subst (FollowsStage hash x.call) e follows) h
-  at_control (AtBin t n) e single q h = absurd h
   at_control (AtHelp (Publishing n) a) e single q h = publishes cmp total hash lawful gives w k p x at c ev b t' n a e (subst (FollowsStage hash x.call) e follows) h
-  at_control (AtHelp (WantsSeat n) a) e single q h = absurd h
-  at_control (AtHelp (AtBoard n) a) e single q h = absurd h
-  at_control (AtHelp (Moving m) a) e single q h = absurd h
-  at_control (AtHelp (GivesBack n) a) e single q h = absurd h
   at_control (AtUncount r) e single q h = uncounts cmp total hash lawful gives w k p x at c ev b t' r e (subst (FollowsStage hash x.call) e follows) near h
   at_control (AtCount r) e single q h = counts_one cmp total hash lawful gives w k p x at c ev b t' r e (subst (FollowsStage hash x.call) e follows) near h
   at_control (AtRecount r) e single q h = recounts cmp total hash lawful gives w k p x at c ev b t' r e (subst (FollowsStage hash x.call) e follows) near h
@@ -70,8 +65,7 @@ module _ {K V F S : Type 0} (cmp : K → K → Ordering) (total : IsTotalOrder c
   at_control (AtGrow n g) e single q h = grows cmp total hash lawful gives w k p x at c ev b t' n g e (subst (FollowsStage hash x.call) e follows) h
   at_control (AtReserve a) e single q (n, sized, h) = reserves cmp total hash lawful gives w k p x at c ev b t' a n e (subst (FollowsStage hash x.call) e follows) sized.within h
   at_control (AtSweep u) e single q h = absurd single
-  at_control (AtDone r) e single q h = absurd h
-  at_control AtTaken e single q h = absurd h
+  at_control s e single q h = absurd h
 
   control_step : (s : Stage K V F) → x.party_state.stage ≡ s → IsSingle s → part_of x.party_state.hash s ≡ ControlPart → ControlStep PlaceGives x.party_state w.control_state w.tables ev c b t' → Taken
   control_step s e single q h = record { hash_stays = h.hash; step = at_control s e single q (subst (λ z. StageAtControl PlaceGives x.party_state.processors x.party_state.helped z w.control_state w.tables ev c.stage b t') e h.step) }
@@ -111,16 +105,9 @@ module _ {K V F S : Type 0} (cmp : K → K → Ordering) (total : IsTotalOrder c
       hash_of_move (event.Moved g j) u = ap (λ r. r.hash) u.3
       hash_of_move event.Silent (_, _, _, inl (moved, u)) = ap (λ r. r.hash) u
       hash_of_move event.Silent (_, _, _, inr (clash, u)) = ap (λ r. r.hash) u
-      hash_of_move event.Decide u = absurd u
-      hash_of_move event.Refused u = absurd u
-      hash_of_move (event.Opened g) u = absurd u
-      hash_of_move (event.Placed g) u = absurd u
-      hash_of_move event.Read u = absurd u
-      hash_of_move (event.Wipe _ _) u = absurd u
-      hash_of_move (event.Published g) u = absurd u
+      hash_of_move v u = absurd u
 
   by_stage : (s : Stage K V F) → x.party_state.stage ≡ s → IsSingle s → PartStep cmp gives (part_of x.party_state.hash s) x.party_state w.control_state w.tables ev c b t' → Taken
-  by_stage (AtLocate t) e single h = control_step (AtLocate t) e tt refl h
   by_stage (AtBin (Finds y j) n) e single h = looks (Finds y j) n e h
   by_stage (AtBin (Removes y j) n) e single h = writes (Removes y j) n e h
   by_stage (AtBin (RemovesSeen z) n) e single h = writes (RemovesSeen z) n e h
@@ -130,17 +117,11 @@ module _ {K V F S : Type 0} (cmp : K → K → Ordering) (total : IsTotalOrder c
   by_stage (AtHelp (WantsSeat n) a) e single h = helps (WantsSeat n) a e h
   by_stage (AtHelp (AtBoard n) a) e single h = helps (AtBoard n) a e h
   by_stage (AtHelp (Moving m) a) e single h = moves m a e (next_of m) refl h
-  by_stage (AtHelp (Publishing n) a) e single h = control_step (AtHelp (Publishing n) a) e tt refl h
   by_stage (AtHelp (GivesBack n) a) e single h = helps (GivesBack n) a e h
-  by_stage (AtUncount r) e single h = control_step (AtUncount r) e tt refl h
-  by_stage (AtCount r) e single h = control_step (AtCount r) e tt refl h
-  by_stage (AtRecount r) e single h = control_step (AtRecount r) e tt refl h
-  by_stage (AtBegin n r) e single h = control_step (AtBegin n r) e tt refl h
-  by_stage (AtGrow n g) e single h = control_step (AtGrow n g) e tt refl h
-  by_stage (AtReserve a) e single h = control_step (AtReserve a) e tt refl h
   by_stage (AtSweep u) e single h = absurd single
   by_stage (AtDone r) e single h = absurd h
   by_stage AtTaken e single h = absurd h
+  by_stage s e single h = control_step s e tt refl h
 
   pub taken : IsSingle x.party_state.stage → PartStep cmp gives (wanted_part x.party_state) x.party_state w.control_state w.tables ev c b t' → Taken
   taken single h = by_stage x.party_state.stage refl single h

@@ -31,21 +31,10 @@ module _ {X : Type 0} (P : X → Type 0) (x : X) (xs : List X) (all : All P (x �
 
 module _ {K V F : Type 0} (ready : F → Type 0) (each : (f : F) → ready f) where
   kept_ready : (c : OwnedCall K V F) → OwnedIsReady ready c
-  kept_ready (owned.Get k) = tt
-  kept_ready (owned.GetKeyValue k) = tt
-  kept_ready (owned.ContainsKey k) = tt
-  kept_ready (owned.Remove k) = tt
-  kept_ready (owned.RemoveEntry k) = tt
-  kept_ready (owned.Insert k v) = tt
-  kept_ready (owned.TryInsert k v) = tt
   kept_ready (owned.Compute k f) = each f
-  kept_ready (owned.Reserve n) = tt
-  kept_ready owned.Clear = tt
-  kept_ready owned.Walk = tt
+  kept_ready c = tt
 
   -- where each function may be called, each step may be done
   pub step_ready : (s : Step K V F) → StepIsReady ready s
   step_ready (step.Begin c) = kept_ready c
-  step_ready (step.Drop p) = tt
-  step_ready (step.Step p) = tt
-  step_ready (step.Lose p) = tt
+  step_ready s = tt

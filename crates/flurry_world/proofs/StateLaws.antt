@@ -12,7 +12,7 @@ use Rattle.flurry_control.specs.Control.{ControlState}
 use Rattle.flurry_steps.specs.Party.{Stage, PartyState, last_seen}
 use Rattle.flurry_world.specs.Entries.{slot_of}
 use Rattle.flurry_world.specs.Tables.{Tables, content_at}
-use Rattle.flurry_world.specs.World.{PartyRecord, WorldState, state_of, start_of, growth_of, mode_in, claim_in, told_in, seen_in, began_from_in, steps_in, mode_of_stage, claim_of_stage, told_of_stage}
+use Rattle.flurry_world.specs.World.{PartyRecord, WorldState, state_of, start_of, growth_of, mode_in, claim_in, told_in, seen_in, began_from_in, steps_in, mode_of_stage, claim_of_stage, told_of_stage, history}
 use Rattle.flurry_world.specs.Steps.{with_step}
 
 -- equal options hold equal values
@@ -67,7 +67,7 @@ module _ {K V F S : Type 0} (cmp : K → K → Ordering) (hash : K → ℕ) (giv
   pub record IsTransition (w : WorldState K V F S) (p : ℕ) (b : ControlState) (t : Tables K V) (c : PartyState K V F) (lab : Label K V F) (l : Transition K V F) : Type 0 where
     pub label_is : lab ≡ label cmp hash gives p l
     pub steps_are : steps_after cmp hash gives (state_of w) p l ≡ suc ((state_of w).steps p)
-    pub start : start_of w.first (lab ∷ reverse w.trace) ≡ (effect cmp hash gives (state_of w) p l).start
+    pub start : start_of w.first (lab ∷ history w) ≡ (effect cmp hash gives (state_of w) p l).start
     pub published : b.published ≡ (effect cmp hash gives (state_of w) p l).published
     pub growth : growth_of b.growth t ≡ (effect cmp hash gives (state_of w) p l).growth
     pub slot : (d j : ℕ) → slot_of (content_at t d j) ≡ (effect cmp hash gives (state_of w) p l).slot d j
@@ -96,7 +96,7 @@ module _ {K V F S : Type 0} (cmp : K → K → Ordering) (hash : K → ℕ) (giv
     seen = λ q. (read_set seen_in w.party_records p q y below ∙ same_place (state_of w).seen p (last_seen c.stage) (ap seen_in h ∙ sym last) q ∙ is.seen q) i;
     began_from = λ q. (read_set began_from_in w.party_records p q y below ∙ same_place (state_of w).began_from p x.began_from (ap began_from_in h) q ∙ is.began_from q) i;
     steps = λ q. (read_set steps_in w.party_records p q y below ∙ ap (λ n. at_place (state_of w).steps p n q) (ap suc (sym (ap steps_in h)) ∙ sym is.steps_are)) i;
-    trace = (turned ∙ ap (λ m. m ∷ reverse w.trace) is.label_is) i;
+    trace = (turned ∙ ap (λ m. m ∷ history w) is.label_is) i;
   }
     where
       y : PartyRecord K V F
@@ -105,7 +105,7 @@ module _ {K V F S : Type 0} (cmp : K → K → Ordering) (hash : K → ℕ) (giv
       below : p < length w.party_records
       below = slice_get_within w.party_records p x h
 
-      turned : reverse (w.trace ++ lab ∷ []) ≡ lab ∷ reverse w.trace
+      turned : reverse (w.trace ++ lab ∷ []) ≡ lab ∷ history w
       turned = reverse-append w.trace (lab ∷ [])
 
       calls : (q : ℕ) → option_map (λ (z : PartyRecord K V F). z.call) (slice_get (slice_set w.party_records p y) q) ≡ (state_of w).call q

@@ -1,5 +1,5 @@
 -- Each step of a walk or a clear at the part that it wants is a transition of the machine.
-use Rattle.std.specs.Prelude.{◌≡◌, ◌⊎◌, ℕ, pos, neg_ℤ, ◌+ℤ◌, ◌-ℤ◌, ◌≤ℤ◌, suc, ◌+◌, ◌-◌, ◌^◌, ◌≤◌, ◌==◌, ◌&&◌, min, Bool, true, false, [], ◌∷◌, find, length, map, reverse, slice_get, Option, Some, None, IsSome, MatchOption, option_map, if◌then◌else◌}
+use Rattle.std.specs.Prelude.{◌≡◌, ◌⊎◌, ℕ, pos, neg_ℤ, ◌+ℤ◌, ◌-ℤ◌, ◌≤ℤ◌, suc, ◌+◌, ◌-◌, ◌^◌, ◌≤◌, ◌==◌, ◌&&◌, min, Bool, true, false, [], ◌∷◌, find, length, map, slice_get, Option, Some, None, IsSome, MatchOption, option_map, if◌then◌else◌}
 use Rattle.std.specs.declared.cmp.Ordering.{Ordering}
 use Rattle.std.specs.Cmp.{IsTotalOrder}
 use Rattle.std.specs.Int.{saturate_signed, w64}
@@ -29,7 +29,7 @@ use Rattle.flurry_theory.specs.Bin.{first_past}
 use Rattle.flurry_theory.specs.Trace.{is_lookup}
 use Rattle.flurry_theory.specs.Legal.{IsWalk, IsClear}
 use Rattle.flurry_theory.specs.Machine as machine
-use Rattle.flurry_theory.specs.Machine.{Transition, Can, effect, goes, does, Mode, Walking, Clearing, Done, Live, Moved, at_bin, total as sum, owes_removed, RefusedAt, Quiet, Counts, Finds, FindsNothing, IsRefused, Reads as ReadsOne, Leaves, Splits, Wipes as WipesBin, SplitsClear}
+use Rattle.flurry_theory.specs.Machine.{Transition, Can, effect, goes, does, Mode, Walking, Clearing, Done, Live, at_bin, total as sum, owes_removed, RefusedAt, Quiet, Counts, Finds, FindsNothing, IsRefused, Reads as ReadsOne, Leaves, Splits, Wipes as WipesBin, SplitsClear}
 use Rattle.flurry_theory.proofs.Ranges.{part-total, place_here}
 use Rattle.flurry_theory.proofs.Step.{inv_step}
 use Rattle.flurry_theory.specs.declared.Label.{Label}
@@ -37,7 +37,7 @@ use Rattle.flurry_theory.specs.declared.Label.TheVariants as label
 use Rattle.flurry_world.specs.Entries.{slot_of, entry_of_held, entries_of_held, IsHashed}
 use Rattle.flurry_world.specs.Tables.{Tables, content_at, PlaceGives}
 use Rattle.flurry_world.specs.Parts.{PartStep}
-use Rattle.flurry_world.specs.World.{PartyRecord, WorldState, Near, state_of, mode_of_stage, mode_of_sweep, mode_over, frame_of, frames_of, AreHashed, FollowsErrand, FollowsSweep, FollowsStage, IsWorld}
+use Rattle.flurry_world.specs.World.{PartyRecord, WorldState, Near, state_of, mode_of_stage, mode_of_sweep, mode_over, frame_of, frames_of, AreHashed, FollowsErrand, FollowsSweep, FollowsStage, IsWorld, history}
 use Rattle.flurry_world.specs.Steps.{label_of, read_label, with_step}
 use Rattle.flurry_world.proofs.StateLaws.{held_of_stage, IsTransition, is_step}
 use Rattle.flurry_world.proofs.EntryLaws.{length-entries_of_held}
@@ -100,8 +100,8 @@ module _ {K V F S : Type 0} (cmp : K → K → Ordering) (total : IsTotalOrder c
   keeps_errand u' q r = subst (λ z. FollowsErrand x.call z u'.last) (sym q) (subst (FollowsErrand x.call u.errand) (sym r) own.0)
 
   sweeps_all : (er : Errand) (z : Option (Seen K V)) → FollowsErrand x.call er z → IsWalk x.call ⊎ IsClear x.call
-  sweeps_all Reads z f = inl (subst (λ d. IsWalk d) (sym f) tt)
-  sweeps_all (Wipes n) z f = inr (subst (λ d. IsClear d) (sym f.0) tt)
+  sweeps_all Reads z f = inl f
+  sweeps_all (Wipes n) z f = inr f.0
 
   -- ---- at the control
 
@@ -132,7 +132,7 @@ module _ {K V F S : Type 0} (cmp : K → K → Ordering) (total : IsTotalOrder c
       owed : n ≤ sum (λ q. owes_removed ((state_of w).mode q)) (length w.party_records)
       owed = subst (λ m. m ≤ sum (λ q. owes_removed ((state_of w).mode q)) (length w.party_records)) (ap owes_removed before) (part-total (λ q. owes_removed ((state_of w).mode q)) p (length w.party_records) (slice_get_within w.party_records p x at))
 
-      long : length (reverse w.trace) ≡ length w.trace
+      long : length (history w) ≡ length w.trace
       long = length-reverse w.trace
 
       most : n ≤ 2 ^ 62
@@ -214,14 +214,9 @@ module _ {K V F S : Type 0} (cmp : K → K → Ordering) (total : IsTotalOrder c
 
           first : first_past cmp hash (option_map (λ b. b.1) f.top.bound) (entries_of_held d.held) ≡ Some (entry_of_held y)
           first = next_entry cmp total hash lawful f.top.bound d.held bounds.0 hashes ∙ ap (option_map entry_of_held) next
-      at_entry d live y next event.Refused (h, last) = refused last (inl (entries_of_held d.held, d.writes, ap slot_of (here ∙ live), subst IsSome (sym (next_entry cmp total hash lawful f.top.bound d.held bounds.0 (k.hashed f.top.table f.top.index d (here ∙ live)) ∙ ap (option_map entry_of_held) next)) refl)) h
       at_entry d live y next event.Decide h = absurd h
-      at_entry d live y next (event.Wipe _ _) h = absurd h
-      at_entry d live y next (event.Opened _) h = absurd h
-      at_entry d live y next (event.Placed _) h = absurd h
-      at_entry d live y next (event.Moved _ _) h = absurd h
-      at_entry d live y next (event.Published _) h = absurd h
-      at_entry d live y next event.Silent h = absurd h
+      at_entry d live y next event.Refused (h, last) = refused last (inl (entries_of_held d.held, d.writes, ap slot_of (here ∙ live), subst IsSome (sym (next_entry cmp total hash lawful f.top.bound d.held bounds.0 (k.hashed f.top.table f.top.index d (here ∙ live)) ∙ ap (option_map entry_of_held) next)) refl)) h
+      at_entry d live y next _ h = absurd h
 
       at_live : (d : slots.Live K V) → content ≡ IsLive d → (o : Option (PlainEntry K V)) → find (is_pair_past cmp f.top.bound) d.held ≡ o
           → MatchOption o ((ev ≡ event.Silent) × (u'.stage ≡ stage_walked (after_top f)) × (u'.last ≡ u.last)) (λ y. ReadGives f y u.last ev u'.stage u'.last) → StepOf cmp hash gives w p x w.control_state w.tables c (label_of p ev c.stage)
@@ -237,13 +232,7 @@ module _ {K V F S : Type 0} (cmp : K → K → Ordering) (total : IsTotalOrder c
           has_key : (o : Option (ℕ × K)) → IsSome o → IsSome (option_map (λ b. b.1) o)
           has_key None y = grind (arith, y)
           has_key (Some z) y = refl
-      at_moved moved event.Decide h last = absurd h
-      at_moved moved event.Read h last = absurd h
-      at_moved moved (event.Wipe _ _) h last = absurd h
-      at_moved moved (event.Opened _) h last = absurd h
-      at_moved moved (event.Placed _) h last = absurd h
-      at_moved moved (event.Moved _ _) h last = absurd h
-      at_moved moved (event.Published _) h last = absurd h
+      at_moved moved v h last = absurd h
 
       walks : (z : Content K V) → content ≡ z → WalkGives cmp f z u.last ev u'.stage u'.last → StepOf cmp hash gives w p x w.control_state w.tables c (label_of p ev c.stage)
       walks (IsLive d) live h = at_live d live (find (is_pair_past cmp f.top.bound) d.held) refl h
@@ -277,8 +266,8 @@ module _ {K V F S : Type 0} (cmp : K → K → Ordering) (total : IsTotalOrder c
             let next = inv_step cmp total hash lawful gives w.first k.state.0 (state_of w) p transition can_wipe k.state.1 in
             let one : owes_removed ((does cmp hash gives (state_of w) p transition).mode p) ≤ sum (λ q. owes_removed ((does cmp hash gives (state_of w) p transition).mode q)) (length w.party_records) = part-total (λ q. owes_removed ((does cmp hash gives (state_of w) p transition).mode q)) p (length w.party_records) (slice_get_within w.party_records p x at) in
             let mine : owes_removed ((does cmp hash gives (state_of w) p transition).mode p) ≡ n + length (entries_of_held d.held) = ap owes_removed (place_here (state_of w).mode p _) ∙ owes_onward K V (n + length (entries_of_held d.held)) f.base f.index (map frame_of f.below) in
-            let held : sum (λ q. owes_removed ((does cmp hash gives (state_of w) p transition).mode q)) (length w.party_records) ≤ suc (length (reverse w.trace)) = omega (arith, next.counted.held) in
-            let long : length (reverse w.trace) ≡ length w.trace = length-reverse w.trace in
+            let held : sum (λ q. owes_removed ((does cmp hash gives (state_of w) p transition).mode q)) (length w.party_records) ≤ suc (length (history w)) = omega (arith, next.counted.held) in
+            let long : length (history w) ≡ length w.trace = length-reverse w.trace in
             let same_length : length (entries_of_held d.held) ≡ length d.held = length-entries_of_held d.held in
             let small : n + length d.held ≤ 2 ^ 64 - 1 = omega (arith, one, mine, held, long, few, same_length) in
             grind (arith, small, same_length)

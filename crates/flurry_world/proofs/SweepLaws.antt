@@ -2,7 +2,7 @@
 use Rattle.std.specs.Prelude.{◌≡◌, ℕ, false, Option, Some, None, IsNone, IsSome, ⊤}
 use Rattle.std.proofs.Common.{arith, refl, sym, ◌∙◌, ap, subst}
 use Rattle.flurry_calls.specs.Sweep.{Errand, Reads, Wipes}
-use Rattle.flurry_steps.specs.Party.{ForInsert, ForReserve, Resume, ThenBin, ThenRecount, ThenGrow, Stage, AtLocate, AtBin, AtHelp, AtUncount, AtCount, AtRecount, AtBegin, AtGrow, AtReserve, AtSweep, AtDone, AtTaken, last_seen, IsSingle}
+use Rattle.flurry_steps.specs.Party.{ForInsert, ForReserve, Resume, ThenBin, ThenRecount, ThenGrow, Stage, AtLocate, AtBin, AtHelp, AtGrow, AtReserve, AtSweep, AtDone, AtTaken, last_seen, IsSingle}
 use Rattle.flurry_theory.specs.Map.{key_of}
 use Rattle.flurry_theory.specs.Trace.{is_lookup}
 use Rattle.flurry_model.specs.declared.call.Call.{Call}
@@ -35,16 +35,12 @@ module _ {K V F : Type 0} where
   no_walk hash c (AtLocate t) g f is = no_task c t (task_of_call c) f (λ h. ap task_of_call h) is
   no_walk hash c (AtBin t e) g f is = no_task c t (task_of_call c) f (λ h. ap task_of_call h) is
   no_walk hash c (AtHelp h a) g f is = walk_resumes c a f is
-  no_walk hash c (AtUncount r) g f is = no_decision c f.one_key is
-  no_walk hash c (AtCount r) g f is = no_decision c f.one_key is
-  no_walk hash c (AtRecount r) g f is = no_decision c f.one_key is
-  no_walk hash c (AtBegin e r) g f is = no_decision c f.one_key is
-  no_walk hash c (AtGrow w (ForInsert r)) g f is = no_decision c f.one_key is
   no_walk hash c (AtGrow w ForReserve) g (n, f) is = let same = sym f ∙ is in cc
   no_walk hash c (AtReserve a) g f is = let same = sym f ∙ is in cc
   no_walk hash c (AtSweep w) g f is = absurd g
   no_walk hash c (AtDone r) g f is = absurd g
   no_walk hash c AtTaken g f is = absurd g
+  no_walk hash c s g f is = no_decision c f.one_key is
 
   errand_unread : (c : Call K V F) (w : Errand) (z : Option (Seen K V)) → (c ≡ call.Walk → ⊥) → FollowsErrand c w z → z ≡ None
   errand_unread c Reads z other f = absurd (other f)
@@ -52,32 +48,12 @@ module _ {K V F : Type 0} where
 
   -- a call that is no walk has read nothing
   pub no_seen : (hash : K → ℕ) (c : Call K V F) (s : Stage K V F) → (c ≡ call.Walk → ⊥) → FollowsStage hash c s → last_seen s ≡ None
-  no_seen hash c (AtLocate t) other f = refl
-  no_seen hash c (AtBin t e) other f = refl
-  no_seen hash c (AtHelp h a) other f = refl
-  no_seen hash c (AtUncount r) other f = refl
-  no_seen hash c (AtCount r) other f = refl
-  no_seen hash c (AtRecount r) other f = refl
-  no_seen hash c (AtBegin e r) other f = refl
-  no_seen hash c (AtGrow w r) other f = refl
-  no_seen hash c (AtReserve a) other f = refl
   no_seen hash c (AtSweep w) other f = errand_unread c w.errand w.last other f.0
-  no_seen hash c (AtDone r) other f = refl
-  no_seen hash c AtTaken other f = refl
+  no_seen hash c s other f = refl
 
   pub single_unread : (s : Stage K V F) → IsSingle s → last_seen s ≡ None
-  single_unread (AtLocate t) h = refl
-  single_unread (AtBin t e) h = refl
-  single_unread (AtHelp k a) h = refl
-  single_unread (AtUncount r) h = refl
-  single_unread (AtCount r) h = refl
-  single_unread (AtRecount r) h = refl
-  single_unread (AtBegin e r) h = refl
-  single_unread (AtGrow w r) h = refl
-  single_unread (AtReserve a) h = refl
   single_unread (AtSweep w) h = absurd h
-  single_unread (AtDone r) h = refl
-  single_unread AtTaken h = refl
+  single_unread s h = refl
 
   -- a walk and a clear have no key
   pub keyless : (c : Call K V F) (w : Errand) (z : Option (Seen K V)) → FollowsErrand c w z → IsNone (key_of c)

@@ -29,11 +29,9 @@ module _ {X : Type 0} where
   slice_get-set_same (y ∷ xs) (suc i) x h = slice_get-set_same xs i x (omega arith)
 
   slice_get-set_other : (xs : List X) (i j : ℕ) (x : X) → (j ≡ i → ⊥) → slice_get (set xs i x) j ≡ slice_get xs j
-  slice_get-set_other [] i j x apart = refl
   slice_get-set_other (y ∷ xs) zero zero x apart = absurd (apart refl)
-  slice_get-set_other (y ∷ xs) zero (suc j) x apart = refl
-  slice_get-set_other (y ∷ xs) (suc i) zero x apart = refl
   slice_get-set_other (y ∷ xs) (suc i) (suc j) x apart = slice_get-set_other xs i j x (λ e. apart (ap suc e))
+  slice_get-set_other xs i j x apart = refl
 
   slice_get-front : (xs : List X) (x : X) (i : ℕ) → i < length xs → slice_get (xs ++ x ∷ []) i ≡ slice_get xs i
   slice_get-front [] x i h = absurd (omega arith)

@@ -9,7 +9,7 @@ use Rattle.flurry_control.specs.Claim.{ClaimState}
 use Rattle.flurry_calls.specs.Cursor.{CursorState}
 use Rattle.flurry_calls.specs.Sweep as swept
 use Rattle.flurry_calls.specs.Sweep.{Errand, Reads, Wipes, SweepStage, AtOutset, OverBins, AtTotal, AtEnd, AfterEnd, SweepState, IsUnderWay}
-use Rattle.flurry_steps.specs.Party.{Task, Finds, Removes, RemovesSeen, Inserts, Adds, Computes, WantsSeat, AtBoard, Moving, Publishing, GivesBack, Resume, Stage, AtLocate, AtBin, AtHelp, AtUncount, AtCount, AtRecount, AtBegin, AtGrow, AtReserve, AtSweep, AtDone, AtTaken, part_of, wanted_part, bin_part, move_part}
+use Rattle.flurry_steps.specs.Party.{Task, Finds, Removes, RemovesSeen, Inserts, Adds, Computes, Moving, Resume, Stage, AtBin, AtHelp, AtSweep, AtDone, AtTaken, part_of, wanted_part, bin_part, move_part}
 use Rattle.flurry_theory.specs.Map.{same, key_of}
 use Rattle.flurry_theory.specs.Invariant.{is_live, key_in, NamesBorn}
 use Rattle.flurry_theory.proofs.Bins.{double}
@@ -108,22 +108,12 @@ module _ {K V F S : Type 0} (cmp : K → K → Ordering) (total : IsTotalOrder c
   there_sweep u e AfterEnd er h q g = absurd g
 
   there : (s : Stage K V F) → x.party_state.stage ≡ s → IsGoing s → IsThere w.tables (part_of x.party_state.hash s)
-  there (AtLocate t) e g = tt
   there (AtBin t n) e g = there_bin t n e
-  there (AtHelp (WantsSeat n) a) e g = tt
-  there (AtHelp (AtBoard n) a) e g = tt
   there (AtHelp (Moving m) a) e g = there_move m a e (nat_lt m.range.low m.left) refl
-  there (AtHelp (Publishing n) a) e g = tt
-  there (AtHelp (GivesBack n) a) e g = tt
-  there (AtUncount r) e g = tt
-  there (AtCount r) e g = tt
-  there (AtRecount r) e g = tt
-  there (AtBegin n r) e g = tt
-  there (AtGrow n r) e g = tt
-  there (AtReserve a) e g = tt
   there (AtSweep u) e g = there_sweep u e u.stage u.errand refl refl g
   there (AtDone r) e g = absurd g
   there AtTaken e g = absurd g
+  there s e g = tt
 
   pub is_there : IsGoing x.party_state.stage → IsThere w.tables (wanted_part x.party_state)
   is_there g = there x.party_state.stage refl g

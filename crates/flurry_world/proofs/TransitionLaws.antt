@@ -17,7 +17,7 @@ use Rattle.flurry_theory.specs.declared.Label.TheVariants as label
 use Rattle.flurry_steps.specs.Party.{PartyState, last_seen}
 use Rattle.flurry_world.specs.Entries.{slot_of}
 use Rattle.flurry_world.specs.Tables.{Tables, content_at}
-use Rattle.flurry_world.specs.World.{PartyRecord, WorldState, state_of, start_of, growth_of, mode_of_stage, mode_in, claim_of_stage, claim_in, told_of_stage, told_in, seen_in, began_from_in, steps_in}
+use Rattle.flurry_world.specs.World.{PartyRecord, WorldState, state_of, start_of, growth_of, mode_of_stage, mode_in, claim_of_stage, claim_in, told_of_stage, told_in, seen_in, began_from_in, steps_in, history}
 use Rattle.flurry_world.specs.Steps.{with_step}
 use Rattle.flurry_world.proofs.StateLaws.{IsTransition, held_of_stage, is_step, one_more_step, read_set, same_place}
 
@@ -55,7 +55,7 @@ module _ {K V F S : Type 0} (cmp : K → K → Ordering) (hash : K → ℕ) (giv
 
   -- a transition that changes the party's mode alone
   pub is_goes : (lab : Label K V F) (l : Transition K V F) (m : Mode K V) → effect cmp hash gives (state_of w) p l ≡ goes cmp hash gives (state_of w) p m → lab ≡ label cmp hash gives p l → is_step l ≡ true
-      → start_of w.first (lab ∷ reverse w.trace) ≡ (state_of w).start → mode_of_stage c.stage ≡ m → held_of_stage c.stage ≡ held_of_stage x.party_state.stage → IsTransition cmp hash gives w p w.control_state w.tables c lab l
+      → start_of w.first (lab ∷ history w) ≡ (state_of w).start → mode_of_stage c.stage ≡ m → held_of_stage c.stage ≡ held_of_stage x.party_state.stage → IsTransition cmp hash gives w p w.control_state w.tables c lab l
   is_goes lab l m e named own start mode claim = record {
     label_is = named;
     steps_are = stepped l own;
@@ -332,5 +332,5 @@ module _ {K V F S : Type 0} (cmp : K → K → Ordering) (hash : K → ℕ) (giv
       z : PartyRecord K V F
       z = record { call = x.call; began_from = x.began_from; party_state = c; steps = suc x.steps }
 
-      turned : reverse (w.trace ++ label.Read p y.key y.value ∷ []) ≡ label.Read p y.key y.value ∷ reverse w.trace
+      turned : reverse (w.trace ++ label.Read p y.key y.value ∷ []) ≡ label.Read p y.key y.value ∷ history w
       turned = reverse-append w.trace (label.Read p y.key y.value ∷ [])

@@ -9,7 +9,7 @@ use Rattle.flurry_control.specs.Control.{ControlState}
 use Rattle.flurry_calls.specs.Outcome.{Outcome, OutcomeReply, OutcomeEnded, OutcomeRefused}
 use Rattle.flurry_calls.specs.Sweep as sweep
 use Rattle.flurry_calls.specs.Sweep.{SweepState, SweepStage, AtOutset, OverBins, AtTotal, AtEnd, AfterEnd}
-use Rattle.flurry_steps.specs.Party.{Stage, AtLocate, AtBin, AtHelp, AtUncount, AtCount, AtRecount, AtBegin, AtGrow, AtReserve, AtSweep, AtDone, AtTaken, PartyState, with_stage, taken_stage, last_seen, part_of, IsSingle}
+use Rattle.flurry_steps.specs.Party.{Stage, AtSweep, AtDone, AtTaken, PartyState, with_stage, taken_stage, last_seen, part_of, IsSingle}
 use Rattle.flurry_theory.specs.Map.{same, key_of}
 use Rattle.flurry_theory.specs.Machine.{Can, Locating, Done, Finished, Begins, Quiet, Loses, Replies, Ends, at_place, does}
 use Rattle.flurry_theory.specs.Invariant.{Inv}
@@ -21,7 +21,7 @@ use Rattle.flurry_theory.specs.declared.Label.{Label}
 use Rattle.flurry_theory.specs.declared.Label.TheVariants as label
 use Rattle.flurry_theory.proofs.Step.{inv_step}
 use Rattle.flurry_world.specs.Tables.{Tables}
-use Rattle.flurry_world.specs.World.{PartyRecord, WorldState, Near, state_of, start_of, mode_in, claim_in, told_in, seen_in, began_from_in, steps_in, mode_of_stage, mode_of_sweep, FollowsSweep, FollowsStage, Follows, IsWorld, DoesTransition}
+use Rattle.flurry_world.specs.World.{PartyRecord, WorldState, Near, state_of, start_of, mode_in, claim_in, told_in, seen_in, began_from_in, steps_in, mode_of_stage, mode_of_sweep, FollowsSweep, FollowsStage, Follows, IsWorld, DoesTransition, history}
 use Rattle.flurry_world.specs.Parts.{PartStep}
 use Rattle.flurry_world.specs.Steps.{with_label, with_loss, with_step, with_party_record, closing_label, GoesOn, StepBySweep, StepByStage}
 use Rattle.flurry_world.proofs.StateLaws.{held_of_stage, same_place, same_some, get_set, read_set}
@@ -74,7 +74,7 @@ module _ {K V F S : Type 0} (cmp : K → K → Ordering) (total : IsTotalOrder c
       trace = turned i;
     }
       where
-        turned : reverse (w.trace ++ label.Silent p ∷ []) ≡ label.Silent p ∷ reverse w.trace
+        turned : reverse (w.trace ++ label.Silent p ∷ []) ≡ label.Silent p ∷ history w
         turned = reverse-append w.trace (label.Silent p ∷ [])
 
         uncalled : (state_of w).call p ≡ None
@@ -122,7 +122,7 @@ module _ {K V F S : Type 0} (cmp : K → K → Ordering) (total : IsTotalOrder c
       trace = turned i;
     }
       where
-        turned : reverse (w.trace ++ label.Silent p ∷ []) ≡ label.Silent p ∷ reverse w.trace
+        turned : reverse (w.trace ++ label.Silent p ∷ []) ≡ label.Silent p ∷ history w
         turned = reverse-append w.trace (label.Silent p ∷ [])
 
         -- what is read of the party as before
@@ -172,7 +172,7 @@ module _ {K V F S : Type 0} (cmp : K → K → Ordering) (total : IsTotalOrder c
       trace = turned i;
     }
       where
-        turned : reverse (w.trace ++ label.Begin (length w.party_records) d ∷ []) ≡ label.Begin (length w.party_records) d ∷ reverse w.trace
+        turned : reverse (w.trace ++ label.Begin (length w.party_records) d ∷ []) ≡ label.Begin (length w.party_records) d ∷ history w
         turned = reverse-append w.trace (label.Begin (length w.party_records) d ∷ [])
 
     begin_can : Can cmp hash gives (state_of w) (length w.party_records) (Begins d from)
@@ -280,18 +280,10 @@ module _ {K V F S : Type 0} (cmp : K → K → Ordering) (total : IsTotalOrder c
     no_walk_at {s} e h = no_walk hash x.call s h (subst (FollowsStage hash x.call) e (k.party_records p x at).stage)
 
     by_stage : (s : Stage K V F) → x.party_state.stage ≡ s → (l : Label K V F) (c : PartyState K V F) (b : ControlState) (t : Tables K V) → StepByStage cmp gives p s x.party_state w.control_state w.tables l c b t → StepOf cmp hash gives w p x b t c l
-    by_stage (AtLocate u) e l c b t h = goes_by p x at (single_at e tt) (no_walk_at e tt) l c b t h
-    by_stage (AtBin u n) e l c b t h = goes_by p x at (single_at e tt) (no_walk_at e tt) l c b t h
-    by_stage (AtHelp m a) e l c b t h = goes_by p x at (single_at e tt) (no_walk_at e tt) l c b t h
-    by_stage (AtUncount r) e l c b t h = goes_by p x at (single_at e tt) (no_walk_at e tt) l c b t h
-    by_stage (AtCount r) e l c b t h = goes_by p x at (single_at e tt) (no_walk_at e tt) l c b t h
-    by_stage (AtRecount r) e l c b t h = goes_by p x at (single_at e tt) (no_walk_at e tt) l c b t h
-    by_stage (AtBegin n r) e l c b t h = goes_by p x at (single_at e tt) (no_walk_at e tt) l c b t h
-    by_stage (AtGrow n r) e l c b t h = goes_by p x at (single_at e tt) (no_walk_at e tt) l c b t h
-    by_stage (AtReserve a) e l c b t h = goes_by p x at (single_at e tt) (no_walk_at e tt) l c b t h
     by_stage (AtSweep u) e l c b t h = sweeps u e u.stage refl l c b t h
     by_stage (AtDone r) e l c b t (g, y, z, u) = rw (g, y, z, u) (closes p x at r e)
     by_stage AtTaken e l c b t (g, y, z, u) = rw (g, y, z, u) (finished p x at AtTaken e refl refl x.party_state refl refl (ap mode_of_stage e) (ap held_of_stage e) (subst (FollowsStage hash x.call) (sym e) tt))
+    by_stage s e l c b t h = goes_by p x at (single_at e tt) (no_walk_at e tt) l c b t h
 
     -- each step of a party is a transition of the machine
     pub one_line : (l : Label K V F) (c : PartyState K V F) (b : ControlState) (t : Tables K V) → StepByStage cmp gives p x.party_state.stage x.party_state w.control_state w.tables l c b t → DoesTransition cmp hash gives w p (with_step w p x b t c l)

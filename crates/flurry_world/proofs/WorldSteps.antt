@@ -1,5 +1,5 @@
 -- The steps of a world, as its code does them.
-use Rattle.std.specs.Prelude.{ℕ, suc, ◌^◌, ◌≤◌, ◌<◌, ◌+◌, true, false, List, [], ◌∷◌, ◌++◌, length, reverse, slice_get, slice_index_or, slice_set, Option, Some, None, MatchOption, ◌≡◌}
+use Rattle.std.specs.Prelude.{ℕ, suc, ◌^◌, ◌≤◌, ◌<◌, ◌+◌, true, false, List, [], ◌∷◌, ◌++◌, length, slice_get, slice_index_or, slice_set, Option, Some, None, MatchOption, ◌≡◌}
 use Rattle.std.specs.declared.cmp.Ordering.{Ordering}
 use Rattle.std.specs.declared.cmp.Ordering.TheVariants.{Less, Equal, Greater}
 use Rattle.std.specs.Cmp.{IsTotalOrder}
@@ -19,7 +19,7 @@ use Rattle.flurry_theory.specs.declared.Label.{Label}
 use Rattle.flurry_theory.specs.declared.Label.TheVariants as label
 use Rattle.flurry_world.specs.Tables.{Tables}
 use Rattle.flurry_world.specs.Parts.{IsGoing, IsThere}
-use Rattle.flurry_world.specs.World.{PartyRecord, WorldState, Near, state_of, seen_in, steps_in, IsWorld, IsBounded, DoesTransition}
+use Rattle.flurry_world.specs.World.{PartyRecord, WorldState, Near, state_of, seen_in, steps_in, IsWorld, IsBounded, DoesTransition, history}
 use Rattle.flurry_world.specs.Steps.{with_label, with_party_record, with_loss, with_step, StepByStage, RecordStep, WorldStep, WorldLoses}
 use Rattle.flurry_world.proofs.BeginLaws.{IsBeginning}
 use Rattle.flurry_world.proofs.WorldLaws.{silent, silent_line, loses, loss_line, began, begin_line, stepped, one_line}
@@ -116,7 +116,7 @@ module _ {K V F S : Type 0} (cmp : K → K → Ordering) (total : IsTotalOrder c
   pub steps_within : (p : ℕ) (x : PartyRecord K V F) → slice_get w.party_records p ≡ Some x → x.steps ≤ 2 ^ 62
   steps_within p x at =
       let own : (state_of w).steps p ≡ x.steps = ap steps_in at in
-      let most : (state_of w).steps p ≤ length (reverse w.trace) = k.world.state.1.few_steps p in
+      let most : (state_of w).steps p ≤ length (history w) = k.world.state.1.few_steps p in
       omega (arith, own, most, length-reverse w.trace, k.few)
 
   -- the part that a party wants is there

@@ -15,7 +15,7 @@ use Rattle.flurry_steps.specs.Party.{TheValue, ThePair, Presence, Task, Finds, R
 use Rattle.flurry_theory.specs.Machine as machine
 use Rattle.flurry_theory.specs.Machine.{State, Mode, Locating, Looking, Walking, Clearing, Done, Finished}
 use Rattle.flurry_theory.specs.Map.{key_of}
-use Rattle.flurry_theory.specs.Trace.{is_lookup}
+use Rattle.flurry_theory.specs.Trace.{Trace, is_lookup}
 use Rattle.flurry_theory.specs.Invariant.{Inv}
 use Rattle.flurry_model.specs.declared.call.Call.{Call}
 use Rattle.flurry_model.specs.declared.call.Seen.{Seen}
@@ -230,9 +230,13 @@ module _ {K V F : Type 0} where
   steps_in None = 0
   steps_in (Some x) = x.steps
 
+  -- the labels of a world in the order in which the laws of a trace have them, the newest first
+  abbrev pub history : {S : Type 0} → WorldState K V F S → Trace K V F
+  history w = reverse w.trace
+
   abbrev pub state_of : {S : Type 0} → WorldState K V F S → State K V F
   state_of w = record {
-    start = start_of w.first (reverse w.trace);
+    start = start_of w.first (history w);
     published = w.control_state.published;
     growth = growth_of w.control_state.growth w.tables;
     slot = λ d j. slot_of (content_at w.tables d j);
@@ -245,7 +249,7 @@ module _ {K V F : Type 0} where
     seen = λ p. seen_in (slice_get w.party_records p);
     began_from = λ p. began_from_in (slice_get w.party_records p);
     steps = λ p. steps_in (slice_get w.party_records p);
-    trace = reverse w.trace;
+    trace = history w;
   }
 
   -- ---- what a world keeps
