@@ -117,7 +117,7 @@ pub trait Field<K: Ord + Drop, V: Drop, A: Allocator + Copy> {
 /// returns `None`, and both are unchanged. It drops first what the step before took out of its bin, so that the field holds no lock then.
 ///
 /// Takes as many steps as the call's step, and as many as the field needs to pass the part.
-#[inline]
+#[inline(always)]
 pub fn act<K: Ord + Drop, V: Drop, A: Allocator + Copy, F: ComputeFn<K, V>, X: Field<K, V, A>>(
     party: &mut Party<'_, K, V, F, A>,
     field: &mut X,
