@@ -41,13 +41,12 @@ pub use Rattle.flurry_set.specs.SetRetain
 pub use Rattle.flurry_drive.specs.Exact
 pub use Rattle.flurry_drive.specs.Tells
 pub use Rattle.flurry_steps.specs.Turns
-pub use Rattle.flurry_locks.specs.declared.tables.Maker
-pub use Rattle.flurry_map_ref.specs.Driven
-pub use Rattle.flurry_map_ref.specs.Results
+pub use Rattle.flurry_map_ref.specs.SharedAnswers
 pub use Rattle.flurry_map_ref.specs.Walks
 pub use Rattle.flurry_memo.specs.Memo
+pub use Rattle.flurry_model.specs.declared.call.Call.TheVariants as Call
 pub use Rattle.flurry_replies.specs.Answers
-pub use Rattle.flurry_shared_set.specs.ElementResults
+pub use Rattle.flurry_shared_set.specs.ElementAnswers
 -- Words of claim boards.
 pub use Rattle.flurry_claims.specs.ClaimBoard
 pub use Rattle.flurry_claims.specs.Helper

@@ -1,19 +1,11 @@
 //! The shared map.
 ghost use Rattle.std.specs.Prelude.{◌≡◌, IfOk};
-ghost use Rattle.flurry_locks.specs.declared.tables.Maker.{Maker};
-ghost use Rattle.flurry_replies.specs.Answers.{CanAdd, CanCompute};
-ghost use Rattle.flurry_map_ref.specs.Driven.{IsDriven, no_changes};
+ghost use Rattle.flurry_map_ref.specs.SharedAnswers.{IsAnswerOf, IsAnswerWith, added_answer, contains_answer, ended_answer, or_refused, pair_answer, value_answer};
 ghost use Rattle.flurry_map_ref.specs.Walks.{Begins};
-ghost use Rattle.flurry_map_ref.specs.Results.{value_outcome, pair_outcome, added_outcome, ended_outcome};
 ghost use Rattle.flurry_model.specs.Hashing.{seed_of};
-ghost use Rattle.flurry_model.specs.declared.reply.KeptReply.TheVariants as kept;
+ghost use Rattle.flurry_model.specs.declared.call.Call.TheVariants.{Get, GetKeyValue, ContainsKey, Insert, TryInsert, Compute, Remove, RemoveEntry, RemoveSeen, Reserve, Clear};
+ghost use Rattle.flurry_replies.specs.Answers.{CanAdd, CanCompute};
 ghost use Rattle.flurry_slots.specs.ComputeFn.{AnswersAtPair};
-ghost use Rattle.flurry_calls.specs.Outcome.{OutcomeReply, OutcomeEnded};
-ghost use Rattle.flurry_calls.specs.Sweep.{Wipes, fresh_sweep};
-ghost use Rattle.flurry_steps.specs.Party.{TheValue, ThePair, Presence, Finds, Removes, RemovesSeen, Inserts, Adds, Computes, AtLocate, AtReserve, AtSweep};
-ghost use Rattle.flurry_calls.specs.OutcomeView.{pair_value};
-ghost use Rattle.std.specs.Option.{option_map};
-ghost use Rattle.std.specs.Arc.{arc_value};
 
 use flurry_calls::Seen;
 use flurry_control::wanted_table;
@@ -48,9 +40,9 @@ pub struct HashMap<K: Ord, V, S: KeyHasher<K> = DefaultHashBuilder, A: Allocator
 }
 
 impl<K: Ord, V, S: KeyHasher<K>, A: Allocator> Model for HashMap<K, V, S, A> {
-    ghost use Rattle.flurry_map_ref.specs.Driven.{MapSettings};
+    ghost use Rattle.flurry_map_ref.specs.SharedAnswers.{MapSettings};
 
-    ghost Value = { MapSettings S };
+    ghost Value = { MapSettings K V S };
 
     ghost view = { λ m. record { hasher = m.hasher; processors = m.processors } };
 }
@@ -196,8 +188,7 @@ impl<K: Ord + Drop, V: Drop, S: KeyHasher<K>, A: Allocator + Copy> HashMap<K, V,
     ///
     /// Returns [`AllocError`] if cloning the `Arc` fails, which it cannot if the key is absent.
     pub fn get<R: Wait>(&self, rt: &R, key: &K) -> Result<Option<Arc<V, A>>, AllocError>
-        ensures { IsDriven (Maker K V A) K.cmp no_changes self.now (S.hash_of self.now.hasher key.now)
-            (AtLocate (Finds TheValue key.now)) (value_outcome result) }
+        ensures { IsAnswerOf K.cmp S.hash_of self.now (Get key.now) (or_refused value_answer result) }
     {
         self.pin(rt).get(key)
     }
@@ -214,8 +205,7 @@ impl<K: Ord + Drop, V: Drop, S: KeyHasher<K>, A: Allocator + Copy> HashMap<K, V,
         rt: &R,
         key: &K,
     ) -> Result<Option<(Arc<K, A>, Arc<V, A>)>, AllocError>
-        ensures { IsDriven (Maker K V A) K.cmp no_changes self.now (S.hash_of self.now.hasher key.now)
-            (AtLocate (Finds ThePair key.now)) (pair_outcome result) }
+        ensures { IsAnswerOf K.cmp S.hash_of self.now (GetKeyValue key.now) (or_refused pair_answer result) }
     {
         self.pin(rt).get_key_value(key)
     }
@@ -231,9 +221,7 @@ impl<K: Ord + Drop, V: Drop, S: KeyHasher<K>, A: Allocator + Copy> HashMap<K, V,
     /// assert!(rt; !map.contains_key(&rt, &38));
     /// ```
     pub fn contains_key<R: Wait>(&self, rt: &R, key: &K) -> bool
-        ensures { IsDriven (Maker K V A) K.cmp (no_changes {K = K} {V = V}) self.now
-            (S.hash_of self.now.hasher key.now) (AtLocate (Finds Presence key.now))
-            (OutcomeReply (kept.Contains result)) }
+        ensures { IsAnswerOf K.cmp S.hash_of self.now (ContainsKey key.now) (contains_answer result) }
     {
         self.pin(rt).contains_key(key)
     }
@@ -250,9 +238,7 @@ impl<K: Ord + Drop, V: Drop, S: KeyHasher<K>, A: Allocator + Copy> HashMap<K, V,
     /// assert!(rt; map.remove(&rt, &37).is_none());
     /// ```
     pub fn remove<R: Wait>(&self, rt: &R, key: &K) -> Option<Arc<V, A>>
-        ensures { IsDriven (Maker K V A) K.cmp (no_changes {K = K} {V = V}) self.now
-            (S.hash_of self.now.hasher key.now) (AtLocate (Removes TheValue key.now))
-            (OutcomeReply (kept.Value (option_map arc_value result))) }
+        ensures { IsAnswerOf K.cmp S.hash_of self.now (Remove key.now) (value_answer result) }
     {
         self.pin(rt).remove(key)
     }
@@ -261,9 +247,7 @@ impl<K: Ord + Drop, V: Drop, S: KeyHasher<K>, A: Allocator + Copy> HashMap<K, V,
     ///
     /// Takes the same locks as [`HashMap::remove`].
     pub fn remove_entry<R: Wait>(&self, rt: &R, key: &K) -> Option<(Arc<K, A>, Arc<V, A>)>
-        ensures { IsDriven (Maker K V A) K.cmp (no_changes {K = K} {V = V}) self.now
-            (S.hash_of self.now.hasher key.now) (AtLocate (Removes ThePair key.now))
-            (OutcomeReply (kept.Pair (option_map pair_value result))) }
+        ensures { IsAnswerOf K.cmp S.hash_of self.now (RemoveEntry key.now) (pair_answer result) }
     {
         self.pin(rt).remove_entry(key)
     }
@@ -273,9 +257,7 @@ impl<K: Ord + Drop, V: Drop, S: KeyHasher<K>, A: Allocator + Copy> HashMap<K, V,
     ///
     /// Takes the same locks as [`HashMap::remove`], and no memory.
     pub fn remove_seen<R: Wait>(&self, rt: &R, seen: Seen<K, V, A>) -> Option<Arc<V, A>>
-        ensures { IsDriven (Maker K V A) K.cmp (no_changes {K = K} {V = V}) self.now
-            (S.hash_of self.now.hasher seen.key) (AtLocate (RemovesSeen seen))
-            (OutcomeReply (kept.Value (option_map arc_value result))) }
+        ensures { IsAnswerOf K.cmp S.hash_of self.now (RemoveSeen seen) (value_answer result) }
     {
         self.pin(rt).remove_seen(seen)
     }
@@ -299,8 +281,7 @@ impl<K: Ord + Drop, V: Drop, S: KeyHasher<K>, A: Allocator + Copy> HashMap<K, V,
     /// Returns [`AllocError`] if memory for the pair or for a first table cannot be allocated. The call then changes no pair, and the key
     /// and the value are dropped.
     pub fn insert<R: Wait>(&self, rt: &R, key: K, value: V) -> Result<Option<Arc<V, A>>, AllocError>
-        ensures { IsDriven (Maker K V A) K.cmp no_changes self.now (S.hash_of self.now.hasher key)
-            (AtLocate (Inserts key value)) (value_outcome result) }
+        ensures { IsAnswerOf K.cmp S.hash_of self.now (Insert key value) (or_refused value_answer result) }
     {
         self.pin(rt).insert(key, value)
     }
@@ -330,9 +311,8 @@ impl<K: Ord + Drop, V: Drop, S: KeyHasher<K>, A: Allocator + Copy> HashMap<K, V,
         key: K,
         value: V,
     ) -> Result<Result<Arc<V, A>, TryInsertError<V, A>>, AllocError>
-        ensures driven { IsDriven (Maker K V A) K.cmp (no_changes {K = K} {V = V}) self.now
-            (S.hash_of self.now.hasher key) (AtLocate (Adds key value)) (added_outcome result) }
-        ensures added { CanAdd {K = K} value (added_outcome result) }
+        ensures answer { IsAnswerOf K.cmp S.hash_of self.now (TryInsert key value) (or_refused added_answer result) }
+        ensures added { CanAdd {K = K} value (or_refused added_answer result) }
     {
         self.pin(rt).try_insert(key, value)
     }
@@ -369,9 +349,9 @@ impl<K: Ord + Drop, V: Drop, S: KeyHasher<K>, A: Allocator + Copy> HashMap<K, V,
         f: F,
     ) -> Result<Option<Arc<V, A>>, AllocError>
         requires { F.IsAlwaysCallable f }
-        ensures driven { IsDriven (Maker K V A) K.cmp (AnswersAtPair F.FnOnce) self.now
-            (S.hash_of self.now.hasher key.now) (AtLocate (Computes key.now f)) (value_outcome result) }
-        ensures computed { CanCompute (AnswersAtPair F.FnOnce f) (value_outcome result) }
+        ensures answer { IsAnswerWith (AnswersAtPair F.FnOnce) K.cmp S.hash_of self.now
+            (Compute key.now f) (or_refused value_answer result) }
+        ensures computed { CanCompute (AnswersAtPair F.FnOnce f) (or_refused value_answer result) }
     {
         self.pin(rt).compute_if_present(key, f)
     }
@@ -385,8 +365,7 @@ impl<K: Ord + Drop, V: Drop, S: KeyHasher<K>, A: Allocator + Copy> HashMap<K, V,
     ///
     /// Returns [`AllocError`] if memory for a table cannot be allocated. The pairs stay, and so do the doublings that were done.
     pub fn reserve<R: Wait>(&self, rt: &R, additional: usize) -> Result<(), AllocError>
-        ensures { IsDriven (Maker K V A) K.cmp (no_changes {K = K} {V = V}) self.now 0
-            (AtReserve additional) (ended_outcome result) }
+        ensures { IsAnswerOf K.cmp S.hash_of self.now (Reserve additional) (or_refused ended_answer result) }
     {
         self.pin(rt).reserve(additional)
     }
@@ -403,8 +382,7 @@ impl<K: Ord + Drop, V: Drop, S: KeyHasher<K>, A: Allocator + Copy> HashMap<K, V,
     /// assert!(rt; map.is_empty(&rt));
     /// ```
     pub fn clear<R: Wait>(&self, rt: &R)
-        ensures { IsDriven (Maker K V A) K.cmp (no_changes {K = K} {V = V}) self.now 0
-            (AtSweep (fresh_sweep (Wipes 0))) OutcomeEnded }
+        ensures { IsAnswerOf K.cmp S.hash_of self.now Clear (ended_answer tt) }
     {
         self.pin(rt).clear();
     }

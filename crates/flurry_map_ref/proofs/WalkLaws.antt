@@ -21,7 +21,7 @@ use Rattle.flurry_calls.specs.declared.step.Event.TheVariants as event
 use Rattle.flurry_steps.specs.Field.{Turn, ControlLoan, StartLoan, LookLoan}
 use Rattle.flurry_steps.specs.Party.{PartyState, AtSweep}
 use Rattle.flurry_steps.specs.declared.party.call.Call.TheVariants as call
-use Rattle.flurry_map_ref.specs.Driven.{no_changes}
+use Rattle.flurry_map_ref.specs.SharedAnswers.{no_changes}
 use Rattle.flurry_map_ref.specs.Walks.{IteratorState, Answers, Begins, Gives, IsOpen, HasEnded, has_ended_after, AnyTurn, OtherTurn, ReadsNext, EndsWith, IsUnderWay}
 
 -- ---- what a read leaves
@@ -71,7 +71,7 @@ module _ {K V : Type 0} (cmp : K → K → Ordering) where
   turn_of p p' ev (AtStart d asks within silent after) = record { loan = StartLoan d; lent = refl; step = (asks, within, silent, ap party_of after) }
   turn_of p p' ev (AtSlot q wants slot step) = record { loan = LookLoan q; lent = refl; step = (wants, slot, record { hash = refl; processors = refl; helped = refl; table = refl; index = refl; step = (p', refl, step.step) }) }
 
-  turns_of : {s s' : Unit {0}} {p p' : SweepState K V} → Turns (AnyTurn cmp) s p s' p' → GoesTo (Unit {0}) cmp no_changes (party_of p) (party_of p')
+  turns_of : {s s' : Unit {0}} {p p' : SweepState K V} → Turns (AnyTurn cmp) s p s' p' → GoesTo cmp no_changes (party_of p) (party_of p')
   turns_of still = still
   turns_of {p' = p'} (further {p' = e} ev turns turn) = further ev (turns_of turns) (turn_of e p' ev turn)
 

@@ -1,3 +1,3 @@
-pub mod Driven
-pub mod Results
+pub mod KeyHash
+pub mod SharedAnswers
 pub mod Walks

@@ -1,18 +1,13 @@
 //! The view of a shared map.
 ghost use Rattle.std.specs.Prelude.{◌≡◌};
-ghost use Rattle.flurry_locks.specs.declared.tables.Maker.{Maker};
+ghost use Rattle.flurry_calls.specs.OutcomeView.{outcome_of};
+ghost use Rattle.flurry_map_ref.specs.KeyHash.{hash_in};
+ghost use Rattle.flurry_map_ref.specs.SharedAnswers.{IsAnswerOf, IsAnswerWith, added_answer, contains_answer, ended_answer, or_refused, pair_answer, value_answer};
+ghost use Rattle.flurry_model.specs.declared.call.Call.TheVariants.{Get, GetKeyValue, ContainsKey, Insert, TryInsert, Compute, Remove, RemoveEntry, RemoveSeen, Reserve, Clear};
 ghost use Rattle.flurry_replies.specs.Answers.{CanAnswerFrom, CanAdd, CanCompute};
-ghost use Rattle.flurry_map_ref.specs.Driven.{IsDriven, hash_in, no_changes};
-ghost use Rattle.flurry_map_ref.specs.Results.{value_outcome, pair_outcome, added_outcome, ended_outcome};
-ghost use Rattle.flurry_model.specs.declared.reply.KeptReply.TheVariants as kept;
+ghost use Rattle.flurry_replies.specs.Replies.{RepliesFrom};
 ghost use Rattle.flurry_slots.specs.ComputeFn.{AnswersAtPair};
-ghost use Rattle.flurry_calls.specs.Outcome.{OutcomeReply, OutcomeEnded};
-ghost use Rattle.flurry_calls.specs.Sweep.{Wipes, fresh_sweep};
-ghost use Rattle.flurry_steps.specs.Party.{TheValue, ThePair, Presence, Finds, Removes, RemovesSeen, Inserts, Adds, Computes, AtLocate, AtReserve, AtSweep};
-ghost use Rattle.flurry_calls.specs.OutcomeView.{outcome_of, pair_value};
 ghost use Rattle.flurry_steps.specs.PartyView.{CallIsReady, first_stage};
-ghost use Rattle.std.specs.Option.{option_map};
-ghost use Rattle.std.specs.Arc.{arc_value};
 
 use flurry_calls::Seen;
 use flurry_locks::{Lender, Locks};
@@ -51,9 +46,9 @@ pub struct HashMapRef<
 }
 
 impl<'m, R, K: Ord, V, S: KeyHasher<K>, A: Allocator> Model for HashMapRef<'m, R, K, V, S, A> {
-    ghost use Rattle.flurry_map_ref.specs.Driven.{MapSettings};
+    ghost use Rattle.flurry_map_ref.specs.SharedAnswers.{MapSettings};
 
-    ghost Value = { MapSettings S };
+    ghost Value = { MapSettings K V S };
 
     ghost view = { λ m. record { hasher = m.hasher.now; processors = m.processors } };
 }
@@ -139,8 +134,7 @@ impl<'m, R: Wait, K: Ord + Drop, V: Drop, S: KeyHasher<K>, A: Allocator + Copy> 
     ///
     /// Returns [`AllocError`] if cloning the `Arc` fails, which it cannot if the key is absent.
     pub fn get(&self, key: &K) -> Result<Option<Arc<V, A>>, AllocError>
-        ensures { IsDriven (Maker K V A) K.cmp no_changes self.now (S.hash_of self.now.hasher key.now)
-            (AtLocate (Finds TheValue key.now)) (value_outcome result) }
+        ensures { IsAnswerOf K.cmp S.hash_of self.now (Get key.now) (or_refused value_answer result) }
     {
         let call: Call<'_, K, V, NoFn, A> = Call::Get(key);
         match self.run(call) {
@@ -158,8 +152,7 @@ impl<'m, R: Wait, K: Ord + Drop, V: Drop, S: KeyHasher<K>, A: Allocator + Copy> 
     ///
     /// Returns [`AllocError`] if cloning an `Arc` fails, which it cannot if the key is absent.
     pub fn get_key_value(&self, key: &K) -> Result<Option<(Arc<K, A>, Arc<V, A>)>, AllocError>
-        ensures { IsDriven (Maker K V A) K.cmp no_changes self.now (S.hash_of self.now.hasher key.now)
-            (AtLocate (Finds ThePair key.now)) (pair_outcome result) }
+        ensures { IsAnswerOf K.cmp S.hash_of self.now (GetKeyValue key.now) (or_refused pair_answer result) }
     {
         let call: Call<'_, K, V, NoFn, A> = Call::GetKeyValue(key);
         match self.run(call) {
@@ -181,9 +174,7 @@ impl<'m, R: Wait, K: Ord + Drop, V: Drop, S: KeyHasher<K>, A: Allocator + Copy> 
     /// assert!(rt; !view.contains_key(&38));
     /// ```
     pub fn contains_key(&self, key: &K) -> bool
-        ensures { IsDriven (Maker K V A) K.cmp (no_changes {K = K} {V = V}) self.now
-            (S.hash_of self.now.hasher key.now) (AtLocate (Finds Presence key.now))
-            (OutcomeReply (kept.Contains result)) }
+        ensures { IsAnswerOf K.cmp S.hash_of self.now (ContainsKey key.now) (contains_answer result) }
     {
         let call: Call<'_, K, V, NoFn, A> = Call::ContainsKey(key);
         match self.run(call) {
@@ -205,9 +196,7 @@ impl<'m, R: Wait, K: Ord + Drop, V: Drop, S: KeyHasher<K>, A: Allocator + Copy> 
     /// assert!(rt; view.remove(&37).is_none());
     /// ```
     pub fn remove(&self, key: &K) -> Option<Arc<V, A>>
-        ensures { IsDriven (Maker K V A) K.cmp (no_changes {K = K} {V = V}) self.now
-            (S.hash_of self.now.hasher key.now) (AtLocate (Removes TheValue key.now))
-            (OutcomeReply (kept.Value (option_map arc_value result))) }
+        ensures { IsAnswerOf K.cmp S.hash_of self.now (Remove key.now) (value_answer result) }
     {
         let call: Call<'_, K, V, NoFn, A> = Call::Remove(key);
         match self.run(call) {
@@ -220,9 +209,7 @@ impl<'m, R: Wait, K: Ord + Drop, V: Drop, S: KeyHasher<K>, A: Allocator + Copy> 
     ///
     /// Takes the same locks as [`HashMapRef::remove`].
     pub fn remove_entry(&self, key: &K) -> Option<(Arc<K, A>, Arc<V, A>)>
-        ensures { IsDriven (Maker K V A) K.cmp (no_changes {K = K} {V = V}) self.now
-            (S.hash_of self.now.hasher key.now) (AtLocate (Removes ThePair key.now))
-            (OutcomeReply (kept.Pair (option_map pair_value result))) }
+        ensures { IsAnswerOf K.cmp S.hash_of self.now (RemoveEntry key.now) (pair_answer result) }
     {
         let call: Call<'_, K, V, NoFn, A> = Call::RemoveEntry(key);
         match self.run(call) {
@@ -236,9 +223,7 @@ impl<'m, R: Wait, K: Ord + Drop, V: Drop, S: KeyHasher<K>, A: Allocator + Copy> 
     ///
     /// Takes the same locks as [`HashMapRef::remove`], and no memory.
     pub fn remove_seen<'s>(&'s self, seen: Seen<K, V, A>) -> Option<Arc<V, A>>
-        ensures { IsDriven (Maker K V A) K.cmp (no_changes {K = K} {V = V}) self.now
-            (S.hash_of self.now.hasher seen.key) (AtLocate (RemovesSeen seen))
-            (OutcomeReply (kept.Value (option_map arc_value result))) }
+        ensures { IsAnswerOf K.cmp S.hash_of self.now (RemoveSeen seen) (value_answer result) }
     {
         let call: Call<'s, K, V, NoFn, A> = Call::RemoveSeen(seen);
         match self.run(call) {
@@ -267,8 +252,7 @@ impl<'m, R: Wait, K: Ord + Drop, V: Drop, S: KeyHasher<K>, A: Allocator + Copy> 
     /// Returns [`AllocError`] if memory for the pair or for a first table cannot be allocated. The call then changes no pair, and the key
     /// and the value are dropped.
     pub fn insert<'s>(&'s self, key: K, value: V) -> Result<Option<Arc<V, A>>, AllocError>
-        ensures { IsDriven (Maker K V A) K.cmp no_changes self.now (S.hash_of self.now.hasher key)
-            (AtLocate (Inserts key value)) (value_outcome result) }
+        ensures { IsAnswerOf K.cmp S.hash_of self.now (Insert key value) (or_refused value_answer result) }
     {
         let Ok(value) = Arc::new(self.lender.allocator(), value) else {
             return Err(AllocError);
@@ -306,9 +290,8 @@ impl<'m, R: Wait, K: Ord + Drop, V: Drop, S: KeyHasher<K>, A: Allocator + Copy> 
         key: K,
         value: V,
     ) -> Result<Result<Arc<V, A>, TryInsertError<V, A>>, AllocError>
-        ensures driven { IsDriven (Maker K V A) K.cmp (no_changes {K = K} {V = V}) self.now
-            (S.hash_of self.now.hasher key) (AtLocate (Adds key value)) (added_outcome result) }
-        ensures added { CanAdd {K = K} value (added_outcome result) }
+        ensures answer { IsAnswerOf K.cmp S.hash_of self.now (TryInsert key value) (or_refused added_answer result) }
+        ensures added { CanAdd {K = K} value (or_refused added_answer result) }
     {
         let call: Call<'s, K, V, NoFn, A> = Call::TryInsert(key, value);
         match self.run(call) {
@@ -351,9 +334,9 @@ impl<'m, R: Wait, K: Ord + Drop, V: Drop, S: KeyHasher<K>, A: Allocator + Copy> 
         f: F,
     ) -> Result<Option<Arc<V, A>>, AllocError>
         requires { F.IsAlwaysCallable f }
-        ensures driven { IsDriven (Maker K V A) K.cmp (AnswersAtPair F.FnOnce) self.now
-            (S.hash_of self.now.hasher key.now) (AtLocate (Computes key.now f)) (value_outcome result) }
-        ensures computed { CanCompute (AnswersAtPair F.FnOnce f) (value_outcome result) }
+        ensures answer { IsAnswerWith (AnswersAtPair F.FnOnce) K.cmp S.hash_of self.now
+            (Compute key.now f) (or_refused value_answer result) }
+        ensures computed { CanCompute (AnswersAtPair F.FnOnce f) (or_refused value_answer result) }
     {
         match self.run(Call::Compute(key, f)) {
             Reply::Value(value) => Ok(value),
@@ -371,8 +354,7 @@ impl<'m, R: Wait, K: Ord + Drop, V: Drop, S: KeyHasher<K>, A: Allocator + Copy> 
     ///
     /// Returns [`AllocError`] if memory for a table cannot be allocated. The pairs stay, and so do the doublings that were done.
     pub fn reserve<'s>(&'s self, additional: usize) -> Result<(), AllocError>
-        ensures { IsDriven (Maker K V A) K.cmp (no_changes {K = K} {V = V}) self.now 0
-            (AtReserve additional) (ended_outcome result) }
+        ensures { IsAnswerOf K.cmp S.hash_of self.now (Reserve additional) (or_refused ended_answer result) }
     {
         let call: Call<'s, K, V, NoFn, A> = Call::Reserve(additional);
         match self.run(call) {
@@ -395,8 +377,7 @@ impl<'m, R: Wait, K: Ord + Drop, V: Drop, S: KeyHasher<K>, A: Allocator + Copy> 
     /// assert!(rt; view.is_empty());
     /// ```
     pub fn clear<'s>(&'s self)
-        ensures { IsDriven (Maker K V A) K.cmp (no_changes {K = K} {V = V}) self.now 0
-            (AtSweep (fresh_sweep (Wipes 0))) OutcomeEnded }
+        ensures { IsAnswerOf K.cmp S.hash_of self.now Clear (ended_answer tt) }
     {
         let call: Call<'s, K, V, NoFn, A> = Call::Clear;
         match self.run(call) {
@@ -428,8 +409,8 @@ impl<'m, R: Wait, K: Ord + Drop, V: Drop, S: KeyHasher<K>, A: Allocator + Copy> 
     #[inline(always)]
     fn run<F: ComputeFn<K, V>>(&self, call: Call<'_, K, V, F, A>) -> Reply<K, V, A>
         requires { CallIsReady F.can_change call }
-        ensures driven { IsDriven (Maker K V A) K.cmp F.changes self.now
-            (hash_in (S.hash_of self.now.hasher) call.entry) (first_stage call.entry) (outcome_of result) }
+        ensures driven { RepliesFrom K.cmp F.changes (hash_in (S.hash_of self.now.hasher) call.entry)
+            self.now.processors (first_stage call.entry) result }
         ensures answers { CanAnswerFrom F.changes (first_stage call.entry) (outcome_of result) }
     {
         let hash = self.hash_of(&call);

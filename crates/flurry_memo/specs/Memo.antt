@@ -1,12 +1,16 @@
--- What a memo answers.
+-- What a memo returns.
 use Rattle.std.specs.Prelude.{◌≡◌, ◌⊎◌, Some}
+use Rattle.flurry_model.specs.declared.call.Call.{Call}
+use Rattle.flurry_model.specs.declared.call.Call.TheVariants.{Get, TryInsert}
 use Rattle.flurry_model.specs.declared.reply.KeptReply.TheVariants.{Value, New, Exists}
+use Rattle.flurry_slots.specs.declared.compute_fn.NoFn.{NoFn}
 use Rattle.flurry_calls.specs.Outcome.{Outcome, OutcomeReply}
 
--- over what a look-up of the key can answer, what an insertion of a value that keeps a present one can answer, and the values that the
--- function can return on the key
-module _ {K V : Type 0} (Finds : Outcome K V → Type 0) (Adds : V → Outcome K V → Type 0) (Computes : V → Type 0) where
-  -- the answer is a value that the look-up found; or the function returned a value, and the insertion answered it as new, or answered the
-  -- value that was present
+-- over the answers that calls of the memo's map can give, and the values that the function can return on the key
+module _ {K V : Type 0} (Answers : Call K V NoFn → Outcome K V → Type 0) (key : K) (Computes : V → Type 0) where
+  -- the value is one that a look-up of the key found; or the function returned a value, and an insertion of it that keeps a present one
+  -- gave it back as new, or gave the value that was present
   abbrev pub IsKept : V → Type 0
-  IsKept a = Finds (OutcomeReply (Value (Some a))) ⊎ ((v : V) × Computes v × ((Adds v (OutcomeReply (New a)) × (a ≡ v)) ⊎ Adds v (OutcomeReply (Exists a v))))
+  IsKept a =
+      Answers (Get key) (OutcomeReply (Value (Some a)))
+      ⊎ ((v : V) × Computes v × ((Answers (TryInsert key v) (OutcomeReply (New a)) × (a ≡ v)) ⊎ Answers (TryInsert key v) (OutcomeReply (Exists a v))))

@@ -2,9 +2,7 @@
 ghost use Rattle.std.specs.Prelude.{◌≡◌, IfOk};
 ghost use Rattle.std.specs.Arc.{arc_value};
 ghost use Rattle.std.specs.Borrow.{Bor};
-ghost use Rattle.flurry_steps.specs.Party.{TheValue, Finds, Adds, AtLocate};
-ghost use Rattle.flurry_locks.specs.declared.tables.Maker.{Maker};
-ghost use Rattle.flurry_map_ref.specs.Driven.{IsDriven, no_changes};
+ghost use Rattle.flurry_map_ref.specs.SharedAnswers.{IsAnswerOf};
 ghost use Rattle.flurry_memo.specs.Memo.{IsKept};
 
 use flurry_map::HashMap;
@@ -32,9 +30,9 @@ pub struct Memo<K: Ord, V, S: KeyHasher<K> = DefaultHashBuilder, A: Allocator = 
 }
 
 impl<K: Ord, V, S: KeyHasher<K>, A: Allocator> Model for Memo<K, V, S, A> {
-    ghost use Rattle.flurry_map_ref.specs.Driven.{MapSettings};
+    ghost use Rattle.flurry_map_ref.specs.SharedAnswers.{MapSettings};
 
-    ghost Value = { MapSettings S };
+    ghost Value = { MapSettings K V S };
 
     ghost view = { λ m. m.map };
 }
@@ -82,11 +80,8 @@ impl<K: Ord + Drop, V: Drop, S: KeyHasher<K>, A: Allocator + Copy> Memo<K, V, S,
     where
         F: Drop,
         requires { (k : Bor K) → k.now ≡ key → F.pre f k }
-        ensures { IfOk result (λ kept. IsKept
-            (IsDriven (Maker K V A) K.cmp (no_changes {K = K} {V = V}) self.now (S.hash_of self.now.hasher key) (AtLocate (Finds TheValue key)))
-            (λ v. IsDriven (Maker K V A) K.cmp (no_changes {K = K} {V = V}) self.now (S.hash_of self.now.hasher key) (AtLocate (Adds key v)))
-            (λ v. (k : Bor K) × (k.now ≡ key) × F.post f k v)
-            (arc_value kept)) }
+        ensures { IfOk result (λ kept. IsKept (IsAnswerOf K.cmp S.hash_of self.now) key
+            (λ v. (k : Bor K) × (k.now ≡ key) × F.post f k v) (arc_value kept)) }
     {
         if let Some(value) = self.map.get(rt, &key)? {
             return Ok(value);

@@ -1,12 +1,11 @@
 -- The first steps of a call at once are its own.
 use Rattle.std.proofs.Common.{◌≡◌, ℕ, ℤ, ◌%◌, ◌^◌, ◌≤◌, true, Option, refl, subst}
 use Rattle.std.specs.declared.cmp.Ordering.{Ordering}
-use Rattle.flurry_steps.specs.Turns.{Turns, TurnsTo, still, further}
-use Rattle.flurry_locks.specs.LockLoans.{MakerStays}
+use Rattle.flurry_steps.specs.Turns.{Turns, still, further}
 use Rattle.flurry_replies.specs.Replies.{GoesTo, IsReplyOf, new_party}
 use Rattle.flurry_model.specs.declared.sizes.TheConstants.{GREATEST_TABLE}
 use Rattle.flurry_slots.specs.Slot.{SlotState, IsSlot}
-use Rattle.flurry_steps.specs.Field.{Loan, Turn, StartLoan, TallyLoan, LookLoan, BinLoan}
+use Rattle.flurry_steps.specs.Field.{StartLoan, TallyLoan, LookLoan, BinLoan}
 use Rattle.flurry_steps.specs.FirstSteps.{BeginsAt, begun_at}
 use Rattle.flurry_calls.specs.Outcome.{Outcome}
 use Rattle.flurry_calls.specs.Part.{LookPart, BinPart}
@@ -82,49 +81,40 @@ module _ {S K V F : Type 0} {step : S → PartyState K V F → Event → S → P
   both first still = first
   both first (further ev turns turn) = further ev (both first turns) turn
 
-module _ {K V F : Type 0} (M : Type 0) (cmp : K → K → Ordering) (changes : F → K → V → Option V → Type 0) where
+module _ {K V F : Type 0} (cmp : K → K → Ordering) (changes : F → K → V → Option V → Type 0) where
   module _ (h n d : ℕ) (s s' : Stage K V F) (asks : locates s ≡ true) (within : d ≤ GREATEST_TABLE) where
     -- a call that began at a published table, and did the step at its bin there
     pub look_begun : (q : SlotState K V) → wanted_part (begun_at d h n s) ≡ LookPart q.table q.index → IsSlot cmp q → BeginsAt cmp changes h d s q s' q
-        → GoesTo M cmp changes (new_party h n s) (new_party h n s')
+        → GoesTo cmp changes (new_party h n s) (new_party h n s')
     look_begun q wants slot b =
         further b.event (further event.Silent still (record { loan = StartLoan d; lent = refl; step = (asks, within, refl, refl) }))
         (record { loan = LookLoan q; lent = refl; step = (wants, slot, record { hash = refl; processors = refl; helped = refl; table = refl; index = refl; step = b.step }) })
 
     pub write_begun : (q q' : SlotState K V) → wanted_part (begun_at d h n s) ≡ BinPart q.table q.index → IsSlot cmp q → BeginsAt cmp changes h d s q s' q'
-        → GoesTo M cmp changes (new_party h n s) (new_party h n s')
+        → GoesTo cmp changes (new_party h n s) (new_party h n s')
     write_begun q q' wants slot b =
         further b.event (further event.Silent still (record { loan = StartLoan d; lent = refl; step = (asks, within, refl, refl) }))
         (record { loan = BinLoan q q'; lent = refl; step = (wants, slot, record { hash = refl; processors = refl; helped = refl; table = b.table; index = b.index; step = b.step }) })
 
   -- and one that did the step at a tally
-  pub counted_at : (h n : ℕ) (s s' : Stage K V F) (most t t' : ℤ) → StageAtTally most s t s' t' → GoesTo M cmp changes (new_party h n s) (new_party h n s')
+  pub counted_at : (h n : ℕ) (s s' : Stage K V F) (most t t' : ℤ) → StageAtTally most s t s' t' → GoesTo cmp changes (new_party h n s) (new_party h n s')
   counted_at h n s s' most t t' b = further event.Silent still (record { loan = TallyLoan most t t'; lent = refl; step = record { hash = refl; processors = refl; helped = refl; silent = refl; step = b } })
 
-  -- steps are the same whoever lends their parts
-  by_anyone : {L : Type 0} {lends : L → Loan K V M → L → Type 0} {l l' : L} {p p' : PartyState K V F} → Turns (Turn (MakerStays {M = M}) cmp changes lends) l p l' p' → GoesTo M cmp changes p p'
-  by_anyone still = still
-  by_anyone (further ev turns turn) = further ev (by_anyone turns) (record { loan = turn.loan; lent = refl; step = turn.step })
-
   module _ (r : Outcome K V) where
-    -- the reply to which the steps lead that a lender's parts are lent for
-    pub driven_reply : {L : Type 0} {lends : L → Loan K V M → L → Type 0} {l l' : L} {p p' : PartyState K V F} → TurnsTo (Turn (MakerStays {M = M}) cmp changes lends) l p r l' p' → IsReplyOf M cmp changes p r
-    driven_reply {p' = p'} t = record { last = p'; turns = record { last = t.last; turns = by_anyone t.turns; done = t.done; after = t.after } }
-
     -- a call that steps lead to its end
-    pub done_by : (h n : ℕ) (p : PartyState K V F) → GoesTo M cmp changes p (new_party h n (AtDone r)) → IsReplyOf M cmp changes p r
+    pub done_by : (h n : ℕ) (p : PartyState K V F) → GoesTo cmp changes p (new_party h n (AtDone r)) → IsReplyOf cmp changes p r
     done_by h n p turns = record {
       last = new_party h n AtTaken;
       turns = record { last = new_party h n (AtDone r); turns = turns; done = refl; after = refl };
     }
 
     -- the reply of a call that goes on after steps is the whole call's
-    pub goes_on : (p q : PartyState K V F) → GoesTo M cmp changes p q → IsReplyOf M cmp changes q r → IsReplyOf M cmp changes p r
+    pub goes_on : (p q : PartyState K V F) → GoesTo cmp changes p q → IsReplyOf cmp changes q r → IsReplyOf cmp changes p r
     goes_on p q first x = record {
       last = x.last;
       turns = record { last = x.turns.last; turns = both first x.turns.turns; done = x.turns.done; after = x.turns.after };
     }
 
     -- of an equal state
-    pub of_equal : (p q : PartyState K V F) → p ≡ q → IsReplyOf M cmp changes p r → IsReplyOf M cmp changes q r
-    of_equal p q e x = subst (λ z. IsReplyOf M cmp changes z r) e x
+    pub of_equal : (p q : PartyState K V F) → p ≡ q → IsReplyOf cmp changes p r → IsReplyOf cmp changes q r
+    of_equal p q e x = subst (λ z. IsReplyOf cmp changes z r) e x

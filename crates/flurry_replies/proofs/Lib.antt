@@ -1,3 +1,4 @@
 pub mod AnswerLaws
 pub mod BeginLaws
+pub mod LenderLaws
 pub mod RefusalLaws

@@ -9,7 +9,7 @@ use Rattle.flurry_steps.specs.Party.{Inserts, AtLocate, AtDone}
 use Rattle.flurry_replies.specs.Replies.{IsReplyOf, new_party}
 use Rattle.flurry_replies.proofs.BeginLaws.{write_begun, done_by}
 
-module _ {K V F : Type 0} (M : Type 0) (cmp : K → K → Ordering) (changes : F → K → V → Option V → Type 0) (h n : ℕ) (k : K) (v : V) where
+module _ {K V F : Type 0} (cmp : K → K → Ordering) (changes : F → K → V → Option V → Type 0) (h n : ℕ) (k : K) (v : V) where
   -- the empty bin of a table of one bin
   abbrev sole : SlotState K V
   sole = record { table = 0; index = h % 2 ^ 0; content = IsLive (record { held = []; tree = false; writes = 0 }) }
@@ -21,8 +21,8 @@ module _ {K V F : Type 0} (M : Type 0) (cmp : K → K → Ordering) (changes : F
     content = record { ascends = sorted_nil _; sized = omega arith; region = tt };
   }
 
-  pub insertion_refused : IsReplyOf M cmp changes (new_party h n (AtLocate (Inserts k v))) OutcomeRefused
+  pub insertion_refused : IsReplyOf cmp changes (new_party h n (AtLocate (Inserts k v))) OutcomeRefused
   insertion_refused =
-      done_by M cmp changes OutcomeRefused h n _
-      (write_begun M cmp changes h n 0 (AtLocate (Inserts k v)) (AtDone OutcomeRefused) refl (omega arith) sole sole refl sole-ok
+      done_by cmp changes OutcomeRefused h n _
+      (write_begun cmp changes h n 0 (AtLocate (Inserts k v)) (AtDone OutcomeRefused) refl (omega arith) sole sole refl sole-ok
       (record { event = Refused; table = refl; index = refl; step = (refl, refl, tt) }))

@@ -1,6 +1,5 @@
 //! The steps of a call over the locks: its first ones in one go, if its table is known without the control's lock.
-ghost use Rattle.flurry_locks.specs.declared.tables.Maker.{Maker};
-ghost use Rattle.flurry_replies.specs.Replies.{BeginsOrStays, IsReplyOf, new_party};
+ghost use Rattle.flurry_replies.specs.Replies.{BeginsOrStays, IsReplyOf, RepliesFrom};
 ghost use Rattle.flurry_steps.specs.Party.{BeginsToWrite, IsTaken, LooksUp};
 ghost use Rattle.flurry_steps.specs.PartyTally.{ending_stage};
 ghost use Rattle.flurry_calls.specs.OutcomeView.{outcome_of};
@@ -30,8 +29,7 @@ pub fn reply_to<K: Ord + Drop, V: Drop, F: ComputeFn<K, V>, A: Allocator + Copy,
     processors: usize,
 ) -> Reply<K, V, A>
     requires { CallIsReady F.can_change call }
-    ensures { IsReplyOf (Maker K V A) K.cmp F.changes
-        (new_party hash processors (first_stage call.entry)) (outcome_of result) }
+    ensures { RepliesFrom K.cmp F.changes hash processors (first_stage call.entry) result }
 {
     let Some(start) = lender.newest() else {
         return drive_call(lender, call, hash, processors);
@@ -57,8 +55,7 @@ fn look<K: Ord + Drop, V: Drop, F: ComputeFn<K, V>, A: Allocator + Copy, R: Wait
 ) -> Reply<K, V, A>
     requires ready { CallIsReady F.can_change call }
     requires looks { LooksUp (first_stage call) }
-    ensures { IsReplyOf (Maker K V A) K.cmp F.changes
-        (new_party hash processors (first_stage call.entry)) (outcome_of result) }
+    ensures { RepliesFrom K.cmp F.changes hash processors (first_stage call.entry) result }
 {
     let table = start.table();
     let index = bin_index(hash, table);
@@ -82,8 +79,7 @@ fn write<K: Ord + Drop, V: Drop, F: ComputeFn<K, V>, A: Allocator + Copy, R: Wai
 ) -> Reply<K, V, A>
     requires ready { CallIsReady F.can_change call }
     requires writes { BeginsToWrite (first_stage call) }
-    ensures { IsReplyOf (Maker K V A) K.cmp F.changes
-        (new_party hash processors (first_stage call.entry)) (outcome_of result) }
+    ensures { RepliesFrom K.cmp F.changes hash processors (first_stage call.entry) result }
 {
     match write_bin(lender, start, call, hash) {
         Ok((ending, remains)) => {
@@ -105,7 +101,7 @@ fn write_bin<'k, K: Ord + Drop, V: Drop, F: ComputeFn<K, V>, A: Allocator + Copy
 ) -> Result<(Ending<K, V, A>, Remains<'k, K, V, F, A>), Call<'k, K, V, F, A>>
     requires ready { CallIsReady F.can_change call }
     requires writes { BeginsToWrite (first_stage call) }
-    ensures { BeginsOrStays (Maker K V A) K.cmp F.changes hash call.entry result }
+    ensures { BeginsOrStays K.cmp F.changes hash call.entry result }
 {
     let table = start.table();
     let index = bin_index(hash, table);
@@ -126,8 +122,7 @@ fn end<K: Ord + Drop, V: Drop, F: ComputeFn<K, V>, A: Allocator + Copy, R: Wait>
     hash: u64,
     processors: usize,
 ) -> Reply<K, V, A>
-    ensures { IsReplyOf (Maker K V A) K.cmp F.changes
-        (new_party hash processors (ending_stage ending)) (outcome_of result) }
+    ensures { RepliesFrom K.cmp F.changes hash processors (ending_stage ending) result }
 {
     match ending.into_reply() {
         Ok(reply) => return reply,
@@ -144,8 +139,7 @@ fn count<K: Ord + Drop, V: Drop, F: ComputeFn<K, V>, A: Allocator + Copy, R: Wai
     hash: u64,
     processors: usize,
 ) -> Reply<K, V, A>
-    ensures { IsReplyOf (Maker K V A) K.cmp F.changes
-        (new_party hash processors (ending_stage ending)) (outcome_of result) }
+    ensures { RepliesFrom K.cmp F.changes hash processors (ending_stage ending) result }
 {
     if ending.counts() {
         if let Some((tally, most)) = lender.tally(hash) {
@@ -170,8 +164,7 @@ fn drive_call<K: Ord + Drop, V: Drop, F: ComputeFn<K, V>, A: Allocator + Copy, R
     processors: usize,
 ) -> Reply<K, V, A>
     requires { CallIsReady F.can_change call }
-    ensures { IsReplyOf (Maker K V A) K.cmp F.changes
-        (new_party hash processors (first_stage call.entry)) (outcome_of result) }
+    ensures { RepliesFrom K.cmp F.changes hash processors (first_stage call.entry) result }
 {
     drive_party(lender, Party::new(call, hash, processors))
 }
@@ -183,8 +176,7 @@ fn drive_ending<K: Ord + Drop, V: Drop, F: ComputeFn<K, V>, A: Allocator + Copy,
     hash: u64,
     processors: usize,
 ) -> Reply<K, V, A>
-    ensures { IsReplyOf (Maker K V A) K.cmp F.changes
-        (new_party hash processors (ending_stage ending)) (outcome_of result) }
+    ensures { RepliesFrom K.cmp F.changes hash processors (ending_stage ending) result }
 {
     drive_party(lender, ending.into_party::<F>(hash, processors))
 }
@@ -195,7 +187,7 @@ fn drive_party<K: Ord + Drop, V: Drop, F: ComputeFn<K, V>, A: Allocator + Copy, 
     party: Party<'_, K, V, F, A>,
 ) -> Reply<K, V, A>
     requires { IsTaken party.stage → ⊥ }
-    ensures { IsReplyOf (Maker K V A) K.cmp F.changes party.entry (outcome_of result) }
+    ensures { IsReplyOf K.cmp F.changes party.entry (outcome_of result) }
 {
     let mut party = party;
     let mut call_lender = CallLender::new(lender);

@@ -1,9 +1,7 @@
 //! The call that extends a shared map, by its view, by several threads at once.
-ghost use Rattle.flurry_locks.specs.declared.tables.Maker.{Maker};
-ghost use Rattle.flurry_map_ref.specs.Driven.{IsDriven, no_changes};
-ghost use Rattle.flurry_map_ref.specs.Results.{value_outcome};
+ghost use Rattle.flurry_map_ref.specs.SharedAnswers.{IsAnswerOf, or_refused, value_answer};
+ghost use Rattle.flurry_model.specs.declared.call.Call.TheVariants.{Insert};
 ghost use Rattle.flurry_shared_par.specs.Answers.{IsWithoutValue};
-ghost use Rattle.flurry_steps.specs.Party.{Inserts, AtLocate};
 
 use crate::workers::{Put, put_all};
 use flurry_map_ref::HashMapRef;
@@ -15,8 +13,8 @@ use std::thread::Threads;
 impl<'m, R: Wait, K: Ord + Drop, V: Drop, S: KeyHasher<K>, A: Allocator + Copy> Put<(K, V)>
     for HashMapRef<'m, R, K, V, S, A> {
     // What an insertion returns, without the old value.
-    ghost put_gives = { λ m p. IsWithoutValue (λ r. IsDriven (Maker K V A) K.cmp no_changes m (S.hash_of m.hasher p.0)
-        (AtLocate (Inserts p.0 p.1)) (value_outcome {A = A} r)) };
+    ghost put_gives = { λ m p. IsWithoutValue (λ r. IsAnswerOf K.cmp S.hash_of m (Insert p.0 p.1)
+        (or_refused (value_answer {A = A}) r)) };
 
     fn put(&self, item: (K, V)) -> Result<(), AllocError> {
         self.insert(item.0, item.1)?;

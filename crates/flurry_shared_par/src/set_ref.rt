@@ -1,9 +1,8 @@
 //! The call that extends a shared set, by its view, by several threads at once.
-ghost use Rattle.flurry_locks.specs.declared.tables.Maker.{Maker};
-ghost use Rattle.flurry_map_ref.specs.Driven.{IsDriven, no_changes};
+ghost use Rattle.flurry_map_ref.specs.SharedAnswers.{IsAnswerOf, or_refused};
+ghost use Rattle.flurry_model.specs.declared.call.Call.TheVariants.{TryInsert};
 ghost use Rattle.flurry_shared_par.specs.Answers.{IsWithoutValue};
-ghost use Rattle.flurry_shared_set.specs.ElementResults.{added_outcome};
-ghost use Rattle.flurry_steps.specs.Party.{Adds, AtLocate};
+ghost use Rattle.flurry_shared_set.specs.ElementAnswers.{inserted_answer};
 
 use crate::workers::{Put, put_all};
 use flurry_model::hash::KeyHasher;
@@ -15,8 +14,8 @@ use std::thread::Threads;
 impl<'m, R: Wait, T: Ord + Drop, S: KeyHasher<T>, A: Allocator + Copy> Put<T>
     for HashSetRef<'m, R, T, S, A> {
     // What an insertion returns, without whether the element is new.
-    ghost put_gives = { λ s e. IsWithoutValue (λ r. IsDriven (Maker T (Unit {0}) A) T.cmp (no_changes {K = T} {V = Unit {0}}) s
-        (S.hash_of s.hasher e) (AtLocate (Adds e tt)) (added_outcome r)) };
+    ghost put_gives = { λ s e. IsWithoutValue (λ r. IsAnswerOf T.cmp S.hash_of s (TryInsert e tt)
+        (or_refused inserted_answer r)) };
 
     fn put(&self, item: T) -> Result<(), AllocError> {
         self.insert(item)?;

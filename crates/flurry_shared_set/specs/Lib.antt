@@ -1,1 +1,1 @@
-pub mod ElementResults
+pub mod ElementAnswers

@@ -1,15 +1,10 @@
 //! The shared set.
 ghost use Rattle.std.specs.Prelude.{◌≡◌, IfOk};
-ghost use Rattle.flurry_calls.specs.Outcome.{OutcomeReply, OutcomeEnded};
-ghost use Rattle.flurry_calls.specs.Sweep.{Wipes, fresh_sweep};
-ghost use Rattle.flurry_locks.specs.declared.tables.Maker.{Maker};
-ghost use Rattle.flurry_map_ref.specs.Driven.{IsDriven, no_changes};
-ghost use Rattle.flurry_map_ref.specs.Results.{ended_outcome};
+ghost use Rattle.flurry_map_ref.specs.SharedAnswers.{IsAnswerOf, contains_answer, ended_answer, or_refused};
 ghost use Rattle.flurry_map_ref.specs.Walks.{Begins};
 ghost use Rattle.flurry_model.specs.Hashing.{seed_of};
-ghost use Rattle.flurry_model.specs.declared.reply.KeptReply.TheVariants as kept;
-ghost use Rattle.flurry_shared_set.specs.ElementResults.{element_outcome, found_outcome, removed_outcome, added_outcome};
-ghost use Rattle.flurry_steps.specs.Party.{TheValue, ThePair, Presence, Finds, Removes, Adds, AtLocate, AtReserve, AtSweep};
+ghost use Rattle.flurry_model.specs.declared.call.Call.TheVariants.{GetKeyValue, ContainsKey, TryInsert, Remove, RemoveEntry, Reserve, Clear};
+ghost use Rattle.flurry_shared_set.specs.ElementAnswers.{element_answer, inserted_answer, removed_answer};
 
 use crate::HashSetRef;
 use flurry_map::HashMap;
@@ -34,9 +29,9 @@ pub struct HashSet<T: Ord, S: KeyHasher<T> = DefaultHashBuilder, A: Allocator = 
 }
 
 impl<T: Ord, S: KeyHasher<T>, A: Allocator> Model for HashSet<T, S, A> {
-    ghost use Rattle.flurry_map_ref.specs.Driven.{MapSettings};
+    ghost use Rattle.flurry_map_ref.specs.SharedAnswers.{MapSettings};
 
-    ghost Value = { MapSettings S };
+    ghost Value = { MapSettings T (Unit {0}) S };
 
     ghost view = { λ s. s.map };
 }
@@ -154,9 +149,7 @@ impl<T: Ord + Drop, S: KeyHasher<T>, A: Allocator + Copy> HashSet<T, S, A> {
     /// assert!(rt; !set.contains(&rt, &38));
     /// ```
     pub fn contains<R: Wait>(&self, rt: &R, element: &T) -> bool
-        ensures { IsDriven (Maker T (Unit {0}) A) T.cmp (no_changes {K = T} {V = Unit {0}}) self.now
-            (S.hash_of self.now.hasher element.now) (AtLocate (Finds Presence element.now))
-            (OutcomeReply (kept.Contains result)) }
+        ensures { IsAnswerOf T.cmp S.hash_of self.now (ContainsKey element.now) (contains_answer result) }
     {
         self.pin(rt).contains(element)
     }
@@ -174,8 +167,7 @@ impl<T: Ord + Drop, S: KeyHasher<T>, A: Allocator + Copy> HashSet<T, S, A> {
     ///
     /// Returns [`AllocError`] if cloning an `Arc` fails, which it cannot if the set has no element equal to `element`.
     pub fn get<R: Wait>(&self, rt: &R, element: &T) -> Result<Option<Arc<T, A>>, AllocError>
-        ensures { IsDriven (Maker T (Unit {0}) A) T.cmp (no_changes {K = T} {V = Unit {0}}) self.now
-            (S.hash_of self.now.hasher element.now) (AtLocate (Finds ThePair element.now)) (found_outcome result) }
+        ensures { IsAnswerOf T.cmp S.hash_of self.now (GetKeyValue element.now) (or_refused element_answer result) }
     {
         self.pin(rt).get(element)
     }
@@ -195,8 +187,7 @@ impl<T: Ord + Drop, S: KeyHasher<T>, A: Allocator + Copy> HashSet<T, S, A> {
     /// Returns [`AllocError`] if memory for a new element or for a first table cannot be allocated, or if cloning an `Arc` of what is
     /// stored fails. The call then changes no element, and the argument `element` is dropped.
     pub fn insert<R: Wait>(&self, rt: &R, element: T) -> Result<bool, AllocError>
-        ensures { IsDriven (Maker T (Unit {0}) A) T.cmp (no_changes {K = T} {V = Unit {0}}) self.now
-            (S.hash_of self.now.hasher element) (AtLocate (Adds element tt)) (added_outcome result) }
+        ensures { IsAnswerOf T.cmp S.hash_of self.now (TryInsert element tt) (or_refused inserted_answer result) }
     {
         self.pin(rt).insert(element)
     }
@@ -210,16 +201,14 @@ impl<T: Ord + Drop, S: KeyHasher<T>, A: Allocator + Copy> HashSet<T, S, A> {
     /// assert!(rt; !set.remove(&rt, &37));
     /// ```
     pub fn remove<R: Wait>(&self, rt: &R, element: &T) -> bool
-        ensures { IsDriven (Maker T (Unit {0}) A) T.cmp (no_changes {K = T} {V = Unit {0}}) self.now
-            (S.hash_of self.now.hasher element.now) (AtLocate (Removes TheValue element.now)) (removed_outcome result) }
+        ensures { IsAnswerOf T.cmp S.hash_of self.now (Remove element.now) (removed_answer result) }
     {
         self.pin(rt).remove(element)
     }
 
     /// Removes the element equal to `element`, and returns it, or `None` if there is none. The table keeps its size. It takes no memory.
     pub fn take<R: Wait>(&self, rt: &R, element: &T) -> Option<Arc<T, A>>
-        ensures { IsDriven (Maker T (Unit {0}) A) T.cmp (no_changes {K = T} {V = Unit {0}}) self.now
-            (S.hash_of self.now.hasher element.now) (AtLocate (Removes ThePair element.now)) (element_outcome result) }
+        ensures { IsAnswerOf T.cmp S.hash_of self.now (RemoveEntry element.now) (element_answer result) }
     {
         self.pin(rt).take(element)
     }
@@ -232,8 +221,7 @@ impl<T: Ord + Drop, S: KeyHasher<T>, A: Allocator + Copy> HashSet<T, S, A> {
     ///
     /// Returns [`AllocError`] if memory for a table cannot be allocated. The elements stay, and so do the doublings that were done.
     pub fn reserve<R: Wait>(&self, rt: &R, additional: usize) -> Result<(), AllocError>
-        ensures { IsDriven (Maker T (Unit {0}) A) T.cmp (no_changes {K = T} {V = Unit {0}}) self.now 0
-            (AtReserve additional) (ended_outcome result) }
+        ensures { IsAnswerOf T.cmp S.hash_of self.now (Reserve additional) (or_refused ended_answer result) }
     {
         self.pin(rt).reserve(additional)
     }
@@ -247,8 +235,7 @@ impl<T: Ord + Drop, S: KeyHasher<T>, A: Allocator + Copy> HashSet<T, S, A> {
     /// assert!(rt; set.is_empty(&rt));
     /// ```
     pub fn clear<R: Wait>(&self, rt: &R)
-        ensures { IsDriven (Maker T (Unit {0}) A) T.cmp (no_changes {K = T} {V = Unit {0}}) self.now 0
-            (AtSweep (fresh_sweep (Wipes 0))) OutcomeEnded }
+        ensures { IsAnswerOf T.cmp S.hash_of self.now Clear (ended_answer tt) }
     {
         self.pin(rt).clear();
     }

@@ -1,14 +1,9 @@
 //! The view of a shared set.
 ghost use Rattle.std.specs.Prelude.{◌≡◌, IfOk, OnOk, true};
-ghost use Rattle.flurry_calls.specs.Outcome.{OutcomeReply, OutcomeEnded};
-ghost use Rattle.flurry_calls.specs.Sweep.{Wipes, fresh_sweep};
-ghost use Rattle.flurry_locks.specs.declared.tables.Maker.{Maker};
-ghost use Rattle.flurry_map_ref.specs.Driven.{IsDriven, no_changes};
-ghost use Rattle.flurry_map_ref.specs.Results.{ended_outcome};
+ghost use Rattle.flurry_map_ref.specs.SharedAnswers.{IsAnswerOf, contains_answer, ended_answer, or_refused};
 ghost use Rattle.flurry_map_ref.specs.Walks.{Begins, HasEnded};
-ghost use Rattle.flurry_model.specs.declared.reply.KeptReply.TheVariants as kept;
-ghost use Rattle.flurry_shared_set.specs.ElementResults.{element_outcome, found_outcome, removed_outcome, added_outcome};
-ghost use Rattle.flurry_steps.specs.Party.{TheValue, ThePair, Presence, Finds, Removes, Adds, AtLocate, AtReserve, AtSweep};
+ghost use Rattle.flurry_model.specs.declared.call.Call.TheVariants.{GetKeyValue, ContainsKey, TryInsert, Remove, RemoveEntry, Reserve, Clear};
+ghost use Rattle.flurry_shared_set.specs.ElementAnswers.{element_answer, inserted_answer, removed_answer};
 
 use flurry_map_ref::HashMapRef;
 use flurry_map_ref::iter::{Iter, Keys};
@@ -31,9 +26,9 @@ pub struct HashSetRef<'m, R, T: Ord, S: KeyHasher<T> = DefaultHashBuilder, A: Al
 }
 
 impl<'m, R, T: Ord, S: KeyHasher<T>, A: Allocator> Model for HashSetRef<'m, R, T, S, A> {
-    ghost use Rattle.flurry_map_ref.specs.Driven.{MapSettings};
+    ghost use Rattle.flurry_map_ref.specs.SharedAnswers.{MapSettings};
 
-    ghost Value = { MapSettings S };
+    ghost Value = { MapSettings T (Unit {0}) S };
 
     ghost view = { λ s. s.map };
 }
@@ -93,9 +88,7 @@ impl<'m, R: Wait, T: Ord + Drop, S: KeyHasher<T>, A: Allocator + Copy> HashSetRe
     /// assert!(rt; !view.contains(&38));
     /// ```
     pub fn contains(&self, element: &T) -> bool
-        ensures { IsDriven (Maker T (Unit {0}) A) T.cmp (no_changes {K = T} {V = Unit {0}}) self.now
-            (S.hash_of self.now.hasher element.now) (AtLocate (Finds Presence element.now))
-            (OutcomeReply (kept.Contains result)) }
+        ensures { IsAnswerOf T.cmp S.hash_of self.now (ContainsKey element.now) (contains_answer result) }
     {
         self.map.contains_key(element)
     }
@@ -114,8 +107,7 @@ impl<'m, R: Wait, T: Ord + Drop, S: KeyHasher<T>, A: Allocator + Copy> HashSetRe
     ///
     /// Returns [`AllocError`] if cloning an `Arc` fails, which it cannot if the set has no element equal to `element`.
     pub fn get(&self, element: &T) -> Result<Option<Arc<T, A>>, AllocError>
-        ensures { IsDriven (Maker T (Unit {0}) A) T.cmp (no_changes {K = T} {V = Unit {0}}) self.now
-            (S.hash_of self.now.hasher element.now) (AtLocate (Finds ThePair element.now)) (found_outcome result) }
+        ensures { IsAnswerOf T.cmp S.hash_of self.now (GetKeyValue element.now) (or_refused element_answer result) }
     {
         match self.map.get_key_value(element)? {
             Some((stored, _)) => Ok(Some(stored)),
@@ -139,8 +131,7 @@ impl<'m, R: Wait, T: Ord + Drop, S: KeyHasher<T>, A: Allocator + Copy> HashSetRe
     /// Returns [`AllocError`] if memory for a new element or for a first table cannot be allocated, or if cloning an `Arc` of what is
     /// stored fails. The call then changes no element, and the argument `element` is dropped.
     pub fn insert(&self, element: T) -> Result<bool, AllocError>
-        ensures { IsDriven (Maker T (Unit {0}) A) T.cmp (no_changes {K = T} {V = Unit {0}}) self.now
-            (S.hash_of self.now.hasher element) (AtLocate (Adds element tt)) (added_outcome result) }
+        ensures { IsAnswerOf T.cmp S.hash_of self.now (TryInsert element tt) (or_refused inserted_answer result) }
     {
         match self.map.try_insert(element, ())? {
             Ok(_) => Ok(true),
@@ -158,8 +149,7 @@ impl<'m, R: Wait, T: Ord + Drop, S: KeyHasher<T>, A: Allocator + Copy> HashSetRe
     /// assert!(rt; !view.remove(&37));
     /// ```
     pub fn remove(&self, element: &T) -> bool
-        ensures { IsDriven (Maker T (Unit {0}) A) T.cmp (no_changes {K = T} {V = Unit {0}}) self.now
-            (S.hash_of self.now.hasher element.now) (AtLocate (Removes TheValue element.now)) (removed_outcome result) }
+        ensures { IsAnswerOf T.cmp S.hash_of self.now (Remove element.now) (removed_answer result) }
     {
         match self.map.remove(element) {
             Some(_) => true,
@@ -169,8 +159,7 @@ impl<'m, R: Wait, T: Ord + Drop, S: KeyHasher<T>, A: Allocator + Copy> HashSetRe
 
     /// Removes the element equal to `element`, and returns it, or `None` if there is none. The table keeps its size. It takes no memory.
     pub fn take(&self, element: &T) -> Option<Arc<T, A>>
-        ensures { IsDriven (Maker T (Unit {0}) A) T.cmp (no_changes {K = T} {V = Unit {0}}) self.now
-            (S.hash_of self.now.hasher element.now) (AtLocate (Removes ThePair element.now)) (element_outcome result) }
+        ensures { IsAnswerOf T.cmp S.hash_of self.now (RemoveEntry element.now) (element_answer result) }
     {
         match self.map.remove_entry(element) {
             Some((stored, _)) => Some(stored),
@@ -186,8 +175,7 @@ impl<'m, R: Wait, T: Ord + Drop, S: KeyHasher<T>, A: Allocator + Copy> HashSetRe
     ///
     /// Returns [`AllocError`] if memory for a table cannot be allocated. The elements stay, and so do the doublings that were done.
     pub fn reserve(&self, additional: usize) -> Result<(), AllocError>
-        ensures { IsDriven (Maker T (Unit {0}) A) T.cmp (no_changes {K = T} {V = Unit {0}}) self.now 0
-            (AtReserve additional) (ended_outcome result) }
+        ensures { IsAnswerOf T.cmp S.hash_of self.now (Reserve additional) (or_refused ended_answer result) }
     {
         self.map.reserve(additional)
     }
@@ -202,8 +190,7 @@ impl<'m, R: Wait, T: Ord + Drop, S: KeyHasher<T>, A: Allocator + Copy> HashSetRe
     /// assert!(rt; view.is_empty());
     /// ```
     pub fn clear(&self)
-        ensures { IsDriven (Maker T (Unit {0}) A) T.cmp (no_changes {K = T} {V = Unit {0}}) self.now 0
-            (AtSweep (fresh_sweep (Wipes 0))) OutcomeEnded }
+        ensures { IsAnswerOf T.cmp S.hash_of self.now Clear (ended_answer tt) }
     {
         self.map.clear();
     }

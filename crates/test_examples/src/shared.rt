@@ -1,12 +1,9 @@
 //! Callers of the map and the set that threads share.
-ghost use Rattle.std.specs.Prelude.{◌≡◌, ℕ, true, false, Ok, IfOk, IfErr};
+ghost use Rattle.std.specs.Prelude.{◌≡◌, true, false, Ok, IfOk, IfErr};
 ghost use Rattle.std.specs.Ordering.{nat_cmp};
-ghost use Rattle.std.specs.Global.{Global};
-ghost use Rattle.flurry.specs.Driven.{IsDriven, no_changes};
+ghost use Rattle.flurry.specs.Call.{Get};
+ghost use Rattle.flurry.specs.SharedAnswers.{IsAnswerOf, or_refused, value_answer};
 ghost use Rattle.flurry.specs.FiniteMap.{IsFiniteMap};
-ghost use Rattle.flurry.specs.Maker.{Maker};
-ghost use Rattle.flurry.specs.Party.{TheValue, Finds, AtLocate};
-ghost use Rattle.flurry.specs.Results.{value_outcome};
 
 use flurry::hash::KeyHasher;
 use flurry::iter::Iter;
@@ -23,14 +20,13 @@ pub fn take<R: Wait>(rt: &R, map: &Shared, key: u64) -> bool {
     view.remove(&key).is_some() && !view.contains_key(&key)
 }
 
-/// Looks up a key. The result is one to which steps of the look-up lead.
+/// Looks up a key. The result is one that the look-up's own steps can give.
 pub fn look_up<S: KeyHasher<u64>, R: Wait>(
     rt: &R,
     map: &HashMap<u64, u64, S>,
     key: u64,
 ) -> Result<Option<Arc<u64>>, AllocError>
-    ensures { IsDriven (Maker ℕ ℕ Global) nat_cmp no_changes map.now (S.hash_of map.now.hasher key)
-        (AtLocate (Finds TheValue key)) (value_outcome result) }
+    ensures { IsAnswerOf nat_cmp S.hash_of map.now (Get key) (or_refused value_answer result) }
 {
     map.get(rt, &key)
 }

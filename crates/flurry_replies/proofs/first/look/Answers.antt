@@ -19,5 +19,5 @@ returns-then-is_live g c =
     let within : c.args.start.now ≤ GREATEST_TABLE = omega (arith, c.table-table.ensures.value, c.table-table.ensures.within) in
     let wants : wanted_part (begun_at c.args.start.now c.args.hash c.args.processors (first_stage c.args.call)) ≡ LookPart q.table q.index =
     rw (same, table, index) (look_wants c.args.call c.args.start.now c.args.hash c.args.processors c.requires.looks) in
-    done_by _ g.K.Ord.cmp g.F.ComputeFn.changes (outcome_of c.look_first.result) _ _ _
-    (look_begun _ g.K.Ord.cmp g.F.ComputeFn.changes c.args.hash c.args.processors c.args.start.now _ _ (look_locates c.args.call c.requires.looks) within q wants c.look_first.ensures.within c.look_first.ensures.steps)
+    done_by g.K.Ord.cmp g.F.ComputeFn.changes (outcome_of c.look_first.result) _ _ _
+    (look_begun g.K.Ord.cmp g.F.ComputeFn.changes c.args.hash c.args.processors c.args.start.now _ _ (look_locates c.args.call c.requires.looks) within q wants c.look_first.ensures.within c.look_first.ensures.steps)

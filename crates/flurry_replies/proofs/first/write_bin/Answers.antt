@@ -19,4 +19,4 @@ returns-then-is_live g c =
     λ n.
     let wants : wanted_part (begun_at c.args.start.now c.args.hash n (first_stage c.args.call)) ≡ BinPart q.table q.index =
     rw (same, table, index) (write_wants c.args.call c.args.start.now c.args.hash n c.requires.writes) in
-    write_begun _ g.K.Ord.cmp g.F.ComputeFn.changes c.args.hash n c.args.start.now _ _ (write_locates c.args.call c.requires.writes) within q c.write_first.new.slot wants c.write_first.ensures.within c.write_first.ensures.steps
+    write_begun g.K.Ord.cmp g.F.ComputeFn.changes c.args.hash n c.args.start.now _ _ (write_locates c.args.call c.requires.writes) within q c.write_first.new.slot wants c.write_first.ensures.within c.write_first.ensures.steps

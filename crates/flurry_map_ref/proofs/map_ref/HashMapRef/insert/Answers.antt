@@ -1,6 +1,6 @@
 use Rattle.std.proofs.Common.{rules}
 use Rattle.flurry_replies.proofs.RefusalLaws.{insertion_refused}
-use Rattle.flurry_map_ref.specs.Driven.{no_changes}
+use Rattle.flurry_map_ref.specs.SharedAnswers.{no_changes}
 use Rattle.flurry_map_ref.proofs.map_ref.HashMapRef.insert.Goals as goal
 
 pub unreachable-requires : goal.unreachable-requires
@@ -10,4 +10,4 @@ pub returns-in-Refused : goal.returns-in-Refused
 returns-in-Refused g c = search rules
 
 pub returns-in_default : goal.returns-in_default
-returns-in_default g c = insertion_refused _ g.K.Ord.cmp no_changes _ c.args.self.now.processors c.args.key c.args.value
+returns-in_default g c = insertion_refused g.K.Ord.cmp no_changes _ c.args.self.now.processors c.args.key c.args.value

@@ -3,15 +3,16 @@ use Rattle.flurry_locks.specs.LockLoans.{LockLends, MakerStays}
 use Rattle.flurry_calls.specs.OutcomeView.{outcome_of}
 use Rattle.flurry_steps.specs.PartyView.{first_stage}
 use Rattle.flurry_replies.specs.Replies.{new_party}
-use Rattle.flurry_map_ref.specs.Driven.{MapSettings, hash_in}
+use Rattle.flurry_map_ref.specs.SharedAnswers.{MapSettings}
+use Rattle.flurry_map_ref.specs.KeyHash.{hash_in}
 use Rattle.flurry_replies.proofs.AnswerLaws.{can_answer}
 use Rattle.flurry_replies.proofs.BeginLaws.{of_equal}
 use Rattle.flurry_map_ref.proofs.map_ref.HashMapRef.run.Goals as goal
 
 pub returns-clause-driven : goal.returns-clause-driven
 returns-clause-driven g c =
-    of_equal _ g.K.Ord.cmp g.F.ComputeFn.changes (outcome_of c.reply_to.result) _ _
-    (ap (λ n. new_party n c.self.inside.processors (first_stage c.args.call)) c.hash_of-hash.ensures ∙ ap (λ (m : MapSettings g.row.S.Denot). new_party (hash_in (g.S.KeyHasher.hash_of c.args.self.now.hasher) c.args.call) m.processors (first_stage c.args.call)) c.self.view_is)
+    of_equal g.K.Ord.cmp g.F.ComputeFn.changes (outcome_of c.reply_to.result) _ _
+    (ap (λ n. new_party n c.self.inside.processors (first_stage c.args.call)) c.hash_of-hash.ensures ∙ ap (λ (m : MapSettings g.row.K.Denot g.row.V.Denot g.row.S.Denot). new_party (hash_in (g.S.KeyHasher.hash_of c.args.self.now.hasher) c.args.call) m.processors (first_stage c.args.call)) c.self.view_is)
     c.reply_to.ensures
 
 pub returns-clause-answers : goal.returns-clause-answers
