@@ -12,6 +12,20 @@ use flurry_model::hash::KeyHasher;
 use flurry_model::sizes::{MOST_BINS, threshold, wanted};
 use std::alloc::{AllocError, Allocator};
 
+impl<K: Ord + Drop, V: Drop, S: KeyHasher<K>, A: Allocator> SeqMap<K, V, S, A> {
+    /// Returns the number of bins of the table, which is a power of two, or 0 if there is no table.
+    ///
+    /// Constant time.
+    pub fn capacity(&self) -> usize
+        ensures bins { result ≡ self.now.bins }
+        ensures ascend { IsFiniteMap K.cmp self.now.pairs }
+        ensures size { IsTableSize result }
+        ensures most { result ≤ 2 ^ GREATEST_TABLE }
+    {
+        self.table.len()
+    }
+}
+
 impl<K: Ord + Drop, V: Drop, S: KeyHasher<K>, A: Allocator + Copy> SeqMap<K, V, S, A> {
     /// Creates an empty map with room for `capacity` pairs, which uses `hasher`. If `capacity` is `0`, the map has no table.
     ///
