@@ -2,9 +2,9 @@
 use Rattle.std.specs.Prelude.{◌≡◌, ℕ, ◌≤◌, Bool, true, false, List, [], ◌∷◌, length}
 use Rattle.flurry_model.specs.BinSizes.{IsSized}
 use Rattle.flurry_bins.specs.declared.bin.entry.Entry.{Entry}
-use Rattle.flurry_bins.specs.declared.bin.adaptive.Kind.{Kind}
+use Rattle.flurry_bins.specs.declared.bin.adaptive.kind.Kind.{Kind}
 use Rattle.flurry_bins.specs.declared.bin.adaptive.nodes.NodeTree.{NodeTree}
-use Rattle.flurry_bins.specs.declared.bin.adaptive.Kind.TheVariants.{Empty, One, AsList, AsTree}
+use Rattle.flurry_bins.specs.declared.bin.adaptive.kind.Kind.TheVariants.{Empty, One, AsList, AsTree}
 use Rattle.flurry_bins.specs.Chain.{node_chain, entry_of}
 use Rattle.flurry_bins.specs.Tree.{node_shape, inorder, tree_way}
 use Rattle.flurry_bins.specs.Entries.{IsAscending, list_way}

@@ -5,32 +5,32 @@ ghost use Rattle.flurry_bins.specs.EntryCall.{CalledAtEntry};
 ghost use Rattle.flurry_bins.specs.Kind.{kind_entries, kind_is_tree};
 ghost use Rattle.flurry_model.specs.declared.sizes.TheConstants.{LEAST_IN_TREE};
 
-use super::{Bin, Kind, kind_from, list_kind, list_of};
+use super::Bin;
+use super::kind::Kind;
 use crate::bin::ordered::Ordered;
 use flurry_model::sizes::LEAST_IN_TREE;
 use std::alloc::Allocator;
 use std::mem;
 
-// Keeps the entries for which `keep` returns `true`. A tree that is left with fewer than seven nodes then becomes a list.
-fn retained<K: Ord + Drop, V: Drop, A: Allocator, F: FnMut(&K, &V) -> bool>(
-    kind: Kind<K, V, A>,
-    keep: &mut F,
-) -> Kind<K, V, A>
-    requires { F.IsAlwaysCallable keep.old }
-    ensures kept { Keeps (CalledAtEntry F.step) keep.old (kind_entries kind) (kind_entries result) keep.new }
-    ensures kind { kind_is_tree result ≡ (kind_is_tree kind && nat_le LEAST_IN_TREE (length (kind_entries result))) }
-    ensures callable { F.IsAlwaysCallable keep.new }
-{
-    match kind {
-        Kind::AsTree(tree) => {
-            let mut list = tree.into_tree().into_list();
-            list.retain(keep);
-            kind_from(list, LEAST_IN_TREE)
-        }
-        few => {
-            let mut list = list_of(few);
-            list.retain(keep);
-            list_kind(list)
+impl<K: Ord + Drop, V: Drop, A: Allocator> Kind<K, V, A> {
+    // Keeps the entries for which `keep` returns `true`. A tree that is left with fewer than seven nodes then becomes a list.
+    fn retain<F: FnMut(&K, &V) -> bool>(self, keep: &mut F) -> Kind<K, V, A>
+        requires { F.IsAlwaysCallable keep.old }
+        ensures kept { Keeps (CalledAtEntry F.step) keep.old (kind_entries self) (kind_entries result) keep.new }
+        ensures kind { kind_is_tree result ≡ (kind_is_tree self && nat_le LEAST_IN_TREE (length (kind_entries result))) }
+        ensures callable { F.IsAlwaysCallable keep.new }
+    {
+        match self {
+            Kind::AsTree(tree) => {
+                let mut list = tree.into_tree().into_list();
+                list.retain(keep);
+                Kind::from_list(list, LEAST_IN_TREE)
+            }
+            few => {
+                let mut list = few.into_list();
+                list.retain(keep);
+                Kind::of_list(list)
+            }
         }
     }
 }
@@ -53,6 +53,6 @@ impl<K: Ord + Drop, V: Drop, A: Allocator> Bin<K, V, A> {
         ensures callable { F.IsAlwaysCallable keep.new }
     {
         let kind = mem::replace(&mut self.kind, Kind::Empty);
-        self.kind = retained(kind, keep);
+        self.kind = kind.retain(keep);
     }
 }

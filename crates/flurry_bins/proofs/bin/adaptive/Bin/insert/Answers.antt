@@ -10,7 +10,7 @@ unfolding entries_of_bin is_tree
 invariant_of-self g c =
     let old = c.args.self.now.kind in
     let taken = c.replace-kind.result in
-    let put = c.insert_into-kind in
+    let put = c.insert-kind in
     let more = insertion-no_shorter g.met.K.Ord.total c.args.hash c.args.key c.args.value c.args.number put.result.1 (kind_entries taken) (kind_entries put.result.0) (kind_ascending taken) put.ensures.ok put.ensures.same in
     let le : length (kind_entries old) ≤ length (kind_entries put.result.0) = rw c.replace-kind.ensures.value at more in
     record { sized = rw (put.ensures.kind, c.replace-kind.ensures.value) (sized_by_ten (kind_is_tree old) (length (kind_entries old)) (length (kind_entries put.result.0)) c.args.self.now.sized le) }

@@ -13,5 +13,5 @@ invariant_of-self g c =
     let old = c.args.self.now.kind in
     let x = entry_of c.args.node.value in
     let p = with_entry-ok g.met.K.Ord.total x (kind_entries old) (kind_ascending old) c.requires.absent in
-    let is = c.put_into.ensures.entries ∙ ap (λ k. with_entry g.K.Ord.cmp x (kind_entries k)) c.replace-kind.ensures.value in
-    record { sized = rw (c.put_into.ensures.kind, c.replace-kind.ensures.value) (IsSized-grown (kind_is_tree old) (length (kind_entries old)) _ c.args.self.now.sized (ap length is ∙ p.longer)) }
+    let is = c.put_node.ensures.entries ∙ ap (λ k. with_entry g.K.Ord.cmp x (kind_entries k)) c.replace-kind.ensures.value in
+    record { sized = rw (c.put_node.ensures.kind, c.replace-kind.ensures.value) (IsSized-grown (kind_is_tree old) (length (kind_entries old)) _ c.args.self.now.sized (ap length is ∙ p.longer)) }

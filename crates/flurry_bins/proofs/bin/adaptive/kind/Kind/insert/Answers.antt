@@ -2,10 +2,10 @@ use Rattle.std.proofs.Common.{◌<◌, length, arith, rules}
 use Rattle.flurry_bins.specs.Tree.{shape, inorder}
 use Rattle.flurry_bins.proofs.Insertions.{insertion-no_shorter}
 use Rattle.flurry_bins.proofs.Trees.{node_some}
-use Rattle.flurry_bins.proofs.bin.adaptive.insert_into.Goals as goal
+use Rattle.flurry_bins.proofs.bin.adaptive.kind.Kind.insert.Goals as goal
 
-pub tree_kind-requires : goal.tree_kind-requires
-tree_kind-requires g c =
+pub of_tree-requires : goal.of_tree-requires
+of_tree-requires g c =
     let tree = c.into_tree-tree.result in
     let new = c.insert-reply.new.self in
     let some : 0 < length (inorder (shape tree.root)) = rw c.into_tree-tree.ensures (node_some c.in-AsTree.tree.root.value) in
