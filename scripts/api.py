@@ -17,15 +17,15 @@ comment above it in `src/`; what is proved of it in [CONTRACTS](CONTRACTS.md). `
 """
 # Each type with the crates in whose sources its calls stand.
 TYPES = [
-    ("HashMap", "The map that threads share", ["flurry_map"]),
-    ("HashMapRef", "Its view", ["flurry_map_ref"]),
-    ("Iter", "Its iterators: `Iter`, and `Keys` and `Values` alike", ["flurry_map_ref"]),
+    ("HashMap", "The map that threads share", ["flurry_shared"]),
+    ("HashMapRef", "Its view", ["flurry_shared_view"]),
+    ("Iter", "Its iterators: `Iter`, and `Keys` and `Values` alike", ["flurry_shared_view"]),
     ("HashSet", "The set that threads share", ["flurry_shared_set"]),
     ("HashSetRef", "Its view", ["flurry_shared_set"]),
     ("SeqMap", "The map of one owner", ["flurry_seq"]),
-    ("SeqSet", "The set of one owner", ["flurry_set"]),
-    ("Memo", "Values that are computed once, shared by threads", ["flurry_memo"]),
-    ("MemoCore", "Values that are computed once, with one owner", ["flurry_memo"]),
+    ("SeqSet", "The set of one owner", ["flurry_seq_set"]),
+    ("Memo", "Values that are computed once, shared by threads", ["flurry_shared_memo"]),
+    ("MemoCore", "Values that are computed once, with one owner", ["flurry_shared_memo"]),
 ]
 BLOCK = re.compile(r"(?m)^impl\b[^{;]*?\{")
 CALL = re.compile(r"(?m)^    pub fn (\w+)")

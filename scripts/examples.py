@@ -63,9 +63,10 @@ def text_of(path):
 def main():
     repository = pathlib.Path(sys.argv[-1])
     crates = repository / "crates"
-    tests = [text_of(path) for path in sorted(crates.glob("test_*/src/**/*.rt"))]
-    uses = [text_of(path) for path in sorted(crates.glob("use_*/src/**/*.rt"))]
-    sources = sorted(crates.glob("[!tu]*/src/**/*.rt"))
+    family_of = {path: path.relative_to(crates).parts[0].split("_")[0] for path in sorted(crates.glob("*/src/**/*.rt"))}
+    tests = [text_of(path) for path, family in family_of.items() if family in ("docs", "test")]
+    uses = [text_of(path) for path, family in family_of.items() if family == "use"]
+    sources = [path for path, family in family_of.items() if family not in ("docs", "test", "use")]
     pages = [repository / "CALLING.md", *sorted((repository / "docs/calling").glob("*.md"))]
     examples = [(path, *found, tests) for path in sources for found in examples_of(path.read_text(encoding="utf-8"))]
     examples += [(path, *found, tests + uses) for path in pages for found in paragraphs_of(path.read_text(encoding="utf-8"))]

@@ -2,9 +2,9 @@
 # Sourced by `test`, at the top of the repository: what is seen in the sources before anything is proved, since no proof sees it. Each
 # fault is told on standard error.
 
-# The first example of README is the code of `test_first`, which is proved and run. So it cannot go stale.
+# The first example of README is the code of `docs_first`, which is proved and run. So it cannot go stale.
 check_first_example() {
-    local code=crates/test_first/src/tests.rt
+    local code=crates/docs_first/src/tests.rt
     # The first block of README, and the file from its first line that is code.
     if ! diff -u --label README.md --label "$code" \
         <(awk '/^```rust$/ { inside = 1; next } /^```$/ && inside { exit } inside' README.md) \
@@ -48,14 +48,14 @@ check_sources() {
     python3 -B scripts/links.py . || status=1
     python3 -B scripts/api.py --check . || status=1
     python3 -B scripts/examples.py . || status=1
-    check_makers flurry_claims Range || status=1
-    check_makers flurry_claims Attempt try_claim || status=1
-    check_makers flurry_control Claim of into_range || status=1
-    check_makers flurry_control PublishedTable start || status=1
-    check_makers flurry_slots Receipt || status=1
-    check_makers flurry_slots MoveAnswer move_into || status=1
-    check_makers flurry_slots Slot live live_at unborn || status=1
-    check_makers flurry_calls Seen seen try_clone || status=1
-    check_makers flurry_calls Sweep clear walk || status=1
+    check_makers flurry_steps_claims Range || status=1
+    check_makers flurry_steps_claims Attempt try_claim || status=1
+    check_makers flurry_steps_control Claim of into_range || status=1
+    check_makers flurry_steps_control PublishedTable start || status=1
+    check_makers flurry_bins_slots Receipt || status=1
+    check_makers flurry_bins_slots MoveAnswer move_into || status=1
+    check_makers flurry_bins_slots Slot live live_at unborn || status=1
+    check_makers flurry_steps_sweep Seen seen try_clone || status=1
+    check_makers flurry_steps_sweep Sweep clear walk || status=1
     return "$status"
 }

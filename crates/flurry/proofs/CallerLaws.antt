@@ -12,11 +12,11 @@ use Rattle.std.proofs.lemmas.Map.Lookups.{exact_unsigned}
 use Rattle.std.specs.BTreeMap.{is_at}
 use Rattle.std.specs.List.{find}
 use Rattle.std.specs.Map.{keys_of, lookup}
-use Rattle.flurry_model.specs.FiniteMap.{IsFiniteMap, pair_at, value_at, with_pair, without, stored_key}
-use Rattle.flurry_model.specs.FiniteSet.{IsFiniteSet, element_at, with_element, without_element}
-use Rattle.flurry_model.proofs.BinSizeLaws.{filter_no_longer}
-use Rattle.flurry_set.proofs.SetLaws.{length-with_element, has_element-keys, with_element-keys, with_element_present, without_element-keys, same_class}
-use Rattle.flurry_model.proofs.FiniteMapLaws.{alike_cond, both_alike, pair_at-without, found_in, length-without, length-with_pair, pair_at-with_pair}
+use Rattle.flurry_base.specs.FiniteMap.{IsFiniteMap, pair_at, value_at, with_pair, without, stored_key}
+use Rattle.flurry_base.specs.FiniteSet.{IsFiniteSet, element_at, with_element, without_element}
+use Rattle.flurry_base.proofs.BinSizeLaws.{filter_no_longer}
+use Rattle.flurry_seq_set.proofs.SetLaws.{length-with_element, has_element-keys, with_element-keys, with_element_present, without_element-keys, same_class}
+use Rattle.flurry_base.proofs.FiniteMapLaws.{alike_cond, both_alike, pair_at-without, found_in, length-without, length-with_pair, pair_at-with_pair}
 
 eq_of : (r : Ordering) → is_eq r ≡ true → r ≡ Equal
 eq_of Less e = cc

@@ -8,9 +8,9 @@ use Rattle.std.specs.Map.{keys_of}
 use Rattle.std.specs.Ordering.{is_eq}
 use Rattle.std.proofs.lemmas.List.Sorted.{IsPermutation-sym, All-permutation}
 use Rattle.std.proofs.lemmas.List.Elements.{All-from_recursion, recursion_from_All}
-use Rattle.flurry_model.specs.FiniteMap.{IsFiniteMap, pair_at, map_of_pairs}
-use Rattle.flurry_model.specs.Keeps.{Keeps, CalledAtPair}
-use Rattle.flurry_model.proofs.FiniteMapLaws.{same_map, both_alike, IsFiniteMap-filter, IsFiniteMap-map_of_pairs, pair_at-map_of_pairs}
+use Rattle.flurry_base.specs.FiniteMap.{IsFiniteMap, pair_at, map_of_pairs}
+use Rattle.flurry_base.specs.Keeps.{Keeps, CalledAtPair}
+use Rattle.flurry_base.proofs.FiniteMapLaws.{same_map, both_alike, IsFiniteMap-filter, IsFiniteMap-map_of_pairs, pair_at-map_of_pairs}
 use Rattle.flurry_seq.specs.Contents.{Contents}
 use Rattle.flurry_seq.specs.Retain.{Retains}
 

@@ -23,12 +23,12 @@ pub mod slots;
 pub mod steps;
 pub mod world;
 
+pub use flurry_base::hash::{DefaultHashBuilder, DefaultHasher};
+pub use flurry_base::{TryInsertError, hash};
 pub use flurry_bins::bin;
-pub use flurry_insertion::table;
-pub use flurry_map::{HashMap, map};
-pub use flurry_map_ref::{HashMapRef, iter, map_ref};
-pub use flurry_model::hash::{DefaultHashBuilder, DefaultHasher};
-pub use flurry_model::{TryInsertError, hash};
+pub use flurry_bins_insertion::table;
 pub use flurry_seq::{SeqMap, calls, iter as seq_iter, seq_map};
-pub use flurry_set::{SeqSet, seq_set, set_calls};
+pub use flurry_seq_set::{SeqSet, seq_set, set_calls};
+pub use flurry_shared::{HashMap, map};
 pub use flurry_shared_set::{HashSet, HashSetRef, set, set_ref};
+pub use flurry_shared_view::{HashMapRef, iter, map_ref};

@@ -5,7 +5,7 @@ use Rattle.std.specs.List.{fold}
 use Rattle.std.specs.Hash as fed
 use Rattle.std.specs.Ordering.{nat_cmp}
 use Rattle.std.specs.declared.cmp.Ordering.TheVariants.{Equal}
-use Rattle.flurry_model.specs.Hashing.{same_number}
+use Rattle.flurry_base.specs.Hashing.{same_number}
 
 -- what the hasher answers after the number's writes, from a first state
 abbrev pub number_hash : {H : Type 0} → (H → List ℕ → H) → (H → ℕ) → H → ℕ → ℕ

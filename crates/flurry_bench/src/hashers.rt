@@ -1,7 +1,7 @@
 //! The hashers. Each hash map is measured with the same ones.
 ghost use Rattle.flurry_bench.specs.NumberHashes.{number_hash, number_hash-alike};
 
-use flurry_model::hash::KeyHasher;
+use flurry_base::hash::KeyHasher;
 use std::hash::{BuildHasher, BuildHasherDefault, FoldHasher, Hasher};
 
 /// The hasher that the kit's `HashMap` uses by default.

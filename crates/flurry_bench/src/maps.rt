@@ -3,9 +3,9 @@
 use crate::hashers::{Fold, OfKit, OneHash};
 use crate::measures::Kind;
 use crate::trials::{Bench, Trial};
-use flurry_map::HashMap as SharedMap;
-use flurry_model::hash::DefaultHashBuilder as Sip;
+use flurry_base::hash::DefaultHashBuilder as Sip;
 use flurry_seq::SeqMap;
+use flurry_shared::HashMap as SharedMap;
 use metered_alloc::Metered;
 use std::alloc::Global;
 use std::cell::RefCell;

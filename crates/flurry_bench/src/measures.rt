@@ -108,7 +108,7 @@ impl Measure {
 }
 
 // The greatest number of keys with one hash for which the kit's hash map is measured.
-const MOST_OF_ONE_HASH: u64 = 10_000;
+const MAX_OF_ONE_HASH: u64 = 10_000;
 
 /// A map that is measured.
 #[derive(Clone, Copy, PartialEq, Eq)]
@@ -166,7 +166,7 @@ impl Kind {
     pub fn takes_one_hash(self, keys: u64) -> bool {
         match self {
             Kind::SharedDefaultHash => false,
-            Kind::Hash | Kind::LockedHash | Kind::MutexHash => keys <= MOST_OF_ONE_HASH,
+            Kind::Hash | Kind::LockedHash | Kind::MutexHash => keys <= MAX_OF_ONE_HASH,
             _ => true,
         }
     }

@@ -1,8 +1,8 @@
 //! The maps that are measured: maps of numbers that threads share, and maps of one owner, with a lock around them or without.
 
-use flurry_map::HashMap as SharedMap;
-use flurry_model::hash::KeyHasher;
+use flurry_base::hash::KeyHasher;
 use flurry_seq::SeqMap;
+use flurry_shared::HashMap as SharedMap;
 use std::alloc::{AllocError, Allocator};
 use std::cell::RefCell;
 use std::collections::{BTreeMap, HashMap};

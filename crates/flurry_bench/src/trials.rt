@@ -22,7 +22,7 @@ pub struct Trial<'w> {
 }
 
 // The least number of calls of a look-up or a mix.
-const LEAST_CALLS: u64 = 100_000;
+const MIN_CALLS: u64 = 100_000;
 
 impl<'w> Trial<'w> {
     fn cell(self, kind: Kind, measure: Measure) -> Cell {
@@ -37,9 +37,9 @@ impl<'w> Trial<'w> {
     // If all keys have one hash, a look-up may take as many steps as there are keys, so fewer look-ups are made.
     fn size(self, measure: Measure) -> Size {
         let calls = if measure == Measure::OneHashHit {
-            self.keys.min(LEAST_CALLS)
+            self.keys.min(MIN_CALLS)
         } else {
-            self.keys.max(LEAST_CALLS)
+            self.keys.max(MIN_CALLS)
         };
         Size {
             keys: self.keys,

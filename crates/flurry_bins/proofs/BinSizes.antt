@@ -3,7 +3,7 @@ use Rattle.std.proofs.Common.{◌≡◌, ℕ, List, ◌∷◌, length, ap, ◌+�
 use Rattle.std.specs.Prelude.{◌==◌}
 use Rattle.std.proofs.lemmas.Bool.{eqb-true}
 use Rattle.std.proofs.lemmas.Bool.Decides.{leb_tells, nat_tests}
-use Rattle.flurry_model.specs.BinSizes.{IsSized, grows_into_tree}
+use Rattle.flurry_base.specs.BinSizes.{IsSized, grows_into_tree}
 use Rattle.flurry_bins.specs.Bin.{shape_by}
 use Rattle.flurry_bins.specs.declared.bin.adaptive.Shape.TheVariants as shape
 

@@ -11,7 +11,7 @@ use Rattle.std.specs.Arc.{arc_value}
 use Rattle.std.specs.declared.sync.Arc.{Arc}
 use Rattle.flurry_bins.specs.declared.bin.entry.Entry.{Entry}
 use Rattle.flurry_bins.specs.Entries.{place_cmp, entry_cmp, IsAscending, is_at, is_before, is_past, entry_at, with_entry, with_value_at, without, with_value, AllBefore, NotBefore}
-use Rattle.flurry_model.proofs.ListParts.{all_append, all_first, all_second, sorted_head, sorted_tail, sorted_cons, sorted_back}
+use Rattle.flurry_base.proofs.ListParts.{all_append, all_first, all_second, sorted_head, sorted_tail, sorted_cons, sorted_back}
 use Rattle.flurry_bins.proofs.Places.{AllPast, past_rest, entry_at-back, without-back, before-back, past-back, with_value_at-back, entry_at-front, without-front, before-front, past-front, with_value_at-front}
 use Rattle.flurry_bins.proofs.PlainEntryLaws.{entry_total}
 
@@ -86,7 +86,7 @@ module _ {K V A : Type 0} {cmp : K → K → Ordering} (o : IsTotalOrder cmp) (h
     replaced_there v n = with_value_at-front cmp h k ds (e ∷ es) b v n ∙ ap (λ t. ds ++ cond t (with_value e v n) e ∷ with_value_at cmp h k v n es) at ∙ ap (λ t. ds ++ with_value e v n ∷ t) (with_value_at-back cmp h k [] es past_found v n)
 
 -- what is known of entries that are cut at a place
-pub record IsCut {K V A : Type 0} (cmp : K → K → Ordering) (h : ℕ) (k : K) (all front back : List (Entry K V A)) : Type 0 where
+pub record IsPartition {K V A : Type 0} (cmp : K → K → Ordering) (h : ℕ) (k : K) (all front back : List (Entry K V A)) : Type 0 where
   pub whole : reverse front ++ back ≡ all
   pub before : AllBefore cmp h k front
   pub stops : NotBefore cmp h k back
@@ -114,23 +114,23 @@ pub record IsAbsent {K V A : Type 0} (cmp : K → K → Ordering) (h : ℕ) (k :
   pub is : new ≡ without cmp h k all
 
 module _ {K V A : Type 0} {cmp : K → K → Ordering} (o : IsTotalOrder cmp) where
-  absent_at : (h : ℕ) (k : K) (all front back new : List (Entry K V A)) → IsCut cmp h k all front back → AllPast cmp h k back → new ≡ reverse front ++ back → IsAbsent cmp h k all new
+  absent_at : (h : ℕ) (k : K) (all front back new : List (Entry K V A)) → IsPartition cmp h k all front back → AllPast cmp h k back → new ≡ reverse front ++ back → IsAbsent cmp h k all new
   absent_at h k all front back new c p is =
       let b = all_reverse _ front c.before in
       let gone = without-front cmp h k (reverse front) back b ∙ ap (λ t. reverse front ++ t) (without-back cmp h k [] back p) in
       rw (is, ← c.whole) (record { none = entry_at-front cmp h k (reverse front) back b ∙ entry_at-back cmp h k [] back p; same = refl; is = sym gone })
 
-  pub absent_end : (h : ℕ) (k : K) (all front new : List (Entry K V A)) → IsCut cmp h k all front [] → new ≡ reverse front ++ [] → IsAbsent cmp h k all new
+  pub absent_end : (h : ℕ) (k : K) (all front new : List (Entry K V A)) → IsPartition cmp h k all front [] → new ≡ reverse front ++ [] → IsAbsent cmp h k all new
   absent_end h k all front new c is = absent_at h k all front [] new c tt is
 
-  pub absent_there : (h : ℕ) (k : K) (e : Entry K V A) (all front rest new : List (Entry K V A)) → IsCut cmp h k all front (e ∷ rest) → IsAscending cmp all → is_at cmp h k e ≡ false → new ≡ reverse front ++ e ∷ rest → IsAbsent cmp h k all new
+  pub absent_there : (h : ℕ) (k : K) (e : Entry K V A) (all front rest new : List (Entry K V A)) → IsPartition cmp h k all front (e ∷ rest) → IsAscending cmp all → is_at cmp h k e ≡ false → new ≡ reverse front ++ e ∷ rest → IsAbsent cmp h k all new
   absent_there h k e all front rest new c up at is =
       let less = none_at (place_cmp cmp h k e) c.stops at in
       let up' = sorted_back (entry_cmp cmp) (reverse front) (e ∷ rest) (rw (← c.whole) at up) in
       absent_at h k all front (e ∷ rest) new c (less, past_rest o h k e rest up' c.stops) is
 
   -- where something is at the place, it is the first that does not stand before it
-  pub there : (h : ℕ) (k : K) (e : Entry K V A) (all front rest : List (Entry K V A)) → IsCut cmp h k all front (e ∷ rest) → IsAscending cmp all → IsSome (entry_at cmp h k all) → is_at cmp h k e ≡ true
+  pub there : (h : ℕ) (k : K) (e : Entry K V A) (all front rest : List (Entry K V A)) → IsPartition cmp h k all front (e ∷ rest) → IsAscending cmp all → IsSome (entry_at cmp h k all) → is_at cmp h k e ≡ true
   there h k e all front rest c up some =
       let one : (b : Bool) → is_at cmp h k e ≡ b → b ≡ true = elim [ true ↦ λ _. refl | false ↦ λ n. (cc (ap is_some (absent_there h k e all front rest (reverse front ++ e ∷ rest) c up n refl).none)) ] in
       one (is_at cmp h k e) refl
@@ -143,14 +143,14 @@ module _ {K V A : Type 0} {cmp : K → K → Ordering} (o : IsTotalOrder cmp) wh
       let last : filter (is_past cmp h k) (ds ++ es) ≡ es = past-front cmp h k ds es b ∙ past-back cmp h k [] es p in
       record { is = sym (ap (λ t. t ++ x ∷ filter (is_past cmp h k) (ds ++ es)) first ∙ ap (λ t. ds ++ x ∷ t) last); ascending = sorted_between o ds x es up b p; longer = omega (arith, length-append ds (x ∷ es), length-append ds es) }
 
-  pub put_there : (x : Entry K V A) (all front back new : List (Entry K V A)) → IsCut cmp x.hash (arc_value x.key) all front back → IsAscending cmp all → IsNone (entry_at cmp x.hash (arc_value x.key) all) → new ≡ reverse front ++ x ∷ back → IsPut cmp x all new
+  pub put_there : (x : Entry K V A) (all front back new : List (Entry K V A)) → IsPartition cmp x.hash (arc_value x.key) all front back → IsAscending cmp all → IsNone (entry_at cmp x.hash (arc_value x.key) all) → new ≡ reverse front ++ x ∷ back → IsPut cmp x all new
   put_there x all front back new c up none is =
       let b = all_reverse _ front c.before in
       let up' = rw (← c.whole) at up in
       let p = past_from o x.hash (arc_value x.key) (reverse front) b back c.stops up' (rw (← c.whole) at none) in
       rw (is, ← c.whole) (put_at x (reverse front) back b p up')
 
-  pub take_there : (h : ℕ) (k : K) (e : Entry K V A) (all front rest new : List (Entry K V A)) → IsCut cmp h k all front (e ∷ rest) → IsAscending cmp all → is_at cmp h k e ≡ true → new ≡ reverse front ++ rest → IsTaken cmp h k e all new
+  pub take_there : (h : ℕ) (k : K) (e : Entry K V A) (all front rest new : List (Entry K V A)) → IsPartition cmp h k all front (e ∷ rest) → IsAscending cmp all → is_at cmp h k e ≡ true → new ≡ reverse front ++ rest → IsTaken cmp h k e all new
   take_there h k e all front rest new c up at is =
       let b = all_reverse _ front c.before in
       let up' = rw (← c.whole) at up in
@@ -161,7 +161,7 @@ module _ {K V A : Type 0} {cmp : K → K → Ordering} (o : IsTotalOrder cmp) wh
         shorter = omega (arith, length-append (reverse front) (e ∷ rest), length-append (reverse front) rest);
       })
 
-  pub revalue_there : (h : ℕ) (k : K) (v : Arc V A) (n : ℕ) (e : Entry K V A) (all front rest new : List (Entry K V A)) → IsCut cmp h k all front (e ∷ rest) → IsAscending cmp all → is_at cmp h k e ≡ true → new ≡ reverse front ++ with_value e v n ∷ rest → IsRevalued cmp h k v n e all new
+  pub revalue_there : (h : ℕ) (k : K) (v : Arc V A) (n : ℕ) (e : Entry K V A) (all front rest new : List (Entry K V A)) → IsPartition cmp h k all front (e ∷ rest) → IsAscending cmp all → is_at cmp h k e ≡ true → new ≡ reverse front ++ with_value e v n ∷ rest → IsRevalued cmp h k v n e all new
   revalue_there h k v n e all front rest new c up at is =
       let b = all_reverse _ front c.before in
       let up' = rw (← c.whole) at up in

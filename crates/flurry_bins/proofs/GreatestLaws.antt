@@ -2,7 +2,7 @@
 use Rattle.std.proofs.Common.{◌≡◌, ℕ, max, List, [], ◌∷◌, ◌++◌, map, sym, ap, ◌∙◌, arith}
 use Rattle.std.proofs.lemmas.List.{map-append}
 use Rattle.flurry_bins.specs.declared.bin.node.Colour.{Colour}
-use Rattle.flurry_model.specs.Greatest.{greatest}
+use Rattle.flurry_base.specs.Greatest.{greatest}
 use Rattle.flurry_bins.specs.Tree.{Tree, fork, inorder}
 
 max_assoc : (a b c : ℕ) → max (max a b) c ≡ max a (max b c)

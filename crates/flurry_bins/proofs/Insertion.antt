@@ -12,7 +12,7 @@ use Rattle.flurry_bins.specs.declared.bin.node.Colour.{Colour}
 use Rattle.flurry_bins.specs.Entries.{place_cmp, entry_cmp, IsAscending, entry_at, is_before, is_past, with_entry, AllBefore}
 use Rattle.flurry_bins.specs.Tree.{Tree, leaf, fork, inorder, root_redness, black_height, IsRedBlack}
 use Rattle.flurry_bins.specs.Balance.{balance_left, balance_right, put_tree}
-use Rattle.flurry_model.proofs.ListParts.{sorted_tail, sorted_front, sorted_back}
+use Rattle.flurry_base.proofs.ListParts.{sorted_tail, sorted_front, sorted_back}
 use Rattle.flurry_bins.proofs.Places.{AllPast, past_rest, before-back, past-back, before-front, past-front}
 use Rattle.flurry_bins.proofs.Trees.{found_here, found_left, found_right, past_right, before_left}
 use Rattle.flurry_bins.proofs.Edits.{IsPut, put_at}

@@ -9,17 +9,17 @@ use Rattle.std.specs.Option.{option_map, is_some, IsNone}
 use Rattle.std.specs.Arc.{arc_value}
 use Rattle.std.specs.declared.sync.Arc.{Arc}
 use Rattle.flurry_bins.specs.declared.bin.entry.Entry.{Entry}
-use Rattle.flurry_model.specs.declared.given.NotInserted.{NotInserted}
-use Rattle.flurry_model.specs.declared.given.Replaced.{Replaced}
+use Rattle.flurry_base.specs.declared.given.NotInserted.{NotInserted}
+use Rattle.flurry_base.specs.declared.given.Replaced.{Replaced}
 use Rattle.flurry_bins.specs.declared.bin.node.Colour.{Colour}
 use Rattle.flurry_bins.specs.Entries.{place_cmp, entry_cmp, IsAscending, is_at, is_before, is_past, entry_at, with_entry, with_value, AllBefore, IsEntryOf, IsInsertion}
-use Rattle.flurry_model.specs.Given.{old_of}
+use Rattle.flurry_base.specs.Given.{old_of}
 use Rattle.flurry_bins.specs.Balance.{balance_left, balance_right, put_tree, with_black_root}
 use Rattle.flurry_bins.specs.Rewrite.{tree_with_value, tree_value}
 use Rattle.flurry_bins.specs.Tree.{Tree, fork, inorder, IsRedBlack}
 use Rattle.flurry_bins.specs.TreeInsertion.{IsTreeInsertion}
-use Rattle.flurry_model.proofs.ListParts.{sorted_back}
-use Rattle.flurry_bins.proofs.Edits.{IsCut, all_reverse, found_there, none_at, replaced_there, put_at}
+use Rattle.flurry_base.proofs.ListParts.{sorted_back}
+use Rattle.flurry_bins.proofs.Edits.{IsPartition, all_reverse, found_there, none_at, replaced_there, put_at}
 use Rattle.flurry_bins.proofs.Insertion.{with_entry-ok, inorder-put_tree, put_tree-grown}
 use Rattle.flurry_bins.proofs.RedBlack.{with_black_root-ok}
 use Rattle.flurry_bins.proofs.Places.{AllPast, past_rest, entry_at-back, entry_at-front, before-front, past-front, with_value_at-front}
@@ -145,8 +145,8 @@ module _ {K V A : Type 0} {cmp : K → K → Ordering} (o : IsTotalOrder cmp) (h
   insertion-before e es x up stops at of = insertion-past (e ∷ es) x up (none_at (place_cmp cmp h k e) stops at, past_rest o h k e es up stops) of
 
   -- the entries before the place are put back in front
-  pub insertion-joined : (old : Option (Arc V A)) (all front rest after new : List (Entry K V A)) → IsCut cmp h k all front rest → IsInsertion cmp h k v n old rest after → new ≡ reverse front ++ after → IsInsertion cmp h k v n old all new
+  pub insertion-joined : (old : Option (Arc V A)) (all front rest after new : List (Entry K V A)) → IsPartition cmp h k all front rest → IsInsertion cmp h k v n old rest after → new ≡ reverse front ++ after → IsInsertion cmp h k v n old all new
   insertion-joined old all front rest after new c i is = rw (is, ← c.whole) (insertion-front old (reverse front) rest after (all_reverse _ front c.before) i)
 
-  pub cut_ascending : (all front rest : List (Entry K V A)) → IsCut cmp h k all front rest → IsAscending cmp all → IsAscending cmp rest
+  pub cut_ascending : (all front rest : List (Entry K V A)) → IsPartition cmp h k all front rest → IsAscending cmp all → IsAscending cmp rest
   cut_ascending all front rest c up = sorted_back (entry_cmp cmp) (reverse front) rest (rw (← c.whole) at up)

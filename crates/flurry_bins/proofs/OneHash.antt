@@ -12,7 +12,7 @@ use Rattle.flurry_bins.specs.declared.bin.entry.Entry.{Entry}
 use Rattle.flurry_bins.specs.declared.bin.node.Colour.{Colour}
 use Rattle.flurry_bins.specs.Tree.{Tree, fork, inorder}
 use Rattle.flurry_bins.specs.Entries.{entry_cmp, IsAscending, AllHashed, last_of, with_bit, first_past}
-use Rattle.flurry_model.proofs.ListParts.{all_map, filter_kept, filter_lost, sorted_head, sorted_tail}
+use Rattle.flurry_base.proofs.ListParts.{all_map, filter_kept, filter_lost, sorted_head, sorted_tail}
 
 pub or_again : {X : Type 0} (o : Option X) (x : X) (p : Option X) → option_or (option_or o (Some x)) p ≡ option_or o (Some x)
 or_again None x p = refl

@@ -8,9 +8,9 @@ use Rattle.std.specs.Cmp.{IsTotalOrder}
 use Rattle.std.specs.Arc.{arc_value}
 use Rattle.std.specs.declared.sync.Arc.{Arc}
 use Rattle.flurry_bins.specs.declared.bin.entry.Entry.{Entry}
-use Rattle.flurry_model.proofs.HashOrderLaws.{hash_then_key_total}
+use Rattle.flurry_base.proofs.HashOrderLaws.{hash_then_key_total}
 use Rattle.flurry_bins.specs.Entries.{place_cmp, entry_cmp, IsAscending, is_before, is_past, entry_at, first_past, with_value_at, without, with_value, AllBefore, list_way}
-use Rattle.flurry_model.proofs.ListParts.{IsPlace, past_behind, all_map, filter_front_kept, filter_front_lost, filter_back_kept, filter_back_lost, find_front_lost, find_back_lost, find_lost, map_front_same, map_back_same, sorted_tail}
+use Rattle.flurry_base.proofs.ListParts.{IsPlace, past_behind, all_map, filter_front_kept, filter_front_lost, filter_back_kept, filter_back_lost, find_front_lost, find_back_lost, find_lost, map_front_same, map_back_same, sorted_tail}
 
 -- a place in a total order
 module _ {X : Type 0} {R : X → X → Ordering} (o : IsTotalOrder R) where

@@ -6,23 +6,23 @@ use Rattle.std.specs.Int.{bit_at}
 use Rattle.std.specs.Prelude.{◌==◌}
 use Rattle.std.proofs.Common.{◌+◌, length}
 use Rattle.std.proofs.lemmas.List.{length-map}
-use Rattle.flurry_model.proofs.FiniteMapLaws.{length-with_pair}
+use Rattle.flurry_base.proofs.FiniteMapLaws.{length-with_pair}
 use Rattle.std.specs.List.{find, AllByRecursion}
 use Rattle.std.specs.List.Sorted.{IsStrictlySortedBy}
 use Rattle.std.specs.Map.{keys_of}
-use Rattle.flurry_model.specs.HashOrder.{InRegion}
+use Rattle.flurry_base.specs.HashOrder.{InRegion}
 use Rattle.flurry_bins.specs.PlainEntries.{AllInRegion}
 use Rattle.std.specs.Option.{option_map, IsNone, IsSome}
 use Rattle.std.specs.Arc.{arc_value}
 use Rattle.std.specs.declared.sync.Arc.{Arc}
 use Rattle.flurry_bins.specs.declared.bin.entry.Entry.{Entry}
 use Rattle.flurry_bins.specs.Entries.{place_cmp, entry_cmp, IsAscending, is_at, is_past, entry_at, first_past, with_entry, with_value_at, without as without_place, with_value, with_bit}
-use Rattle.flurry_model.specs.FiniteMap.{IsFiniteMap, pair_at, with_pair, without}
-use Rattle.flurry_model.specs.HashOrder.{hash_then_key, is_pair_past, pairs_with_bit}
+use Rattle.flurry_base.specs.FiniteMap.{IsFiniteMap, pair_at, with_pair, without}
+use Rattle.flurry_base.specs.HashOrder.{hash_then_key, is_pair_past, pairs_with_bit}
 use Rattle.flurry_bins.specs.PlainEntries.{pair_with, pair_of_entry, pairs_of_entries}
-use Rattle.flurry_model.proofs.ListParts.{sorted_tail}
-use Rattle.flurry_model.proofs.HashOrderLaws.{hash_then_key_total}
-use Rattle.flurry_model.proofs.OptionLaws.{absent_is}
+use Rattle.flurry_base.proofs.ListParts.{sorted_tail}
+use Rattle.flurry_base.proofs.HashOrderLaws.{hash_then_key_total}
+use Rattle.flurry_base.proofs.OptionLaws.{absent_is}
 use Rattle.flurry_bins.proofs.Places.{AllPast, past_rest, none_there, without-back, before-back, past-back, with_value_at-back}
 
 -- the entries' order is total

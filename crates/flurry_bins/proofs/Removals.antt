@@ -11,7 +11,7 @@ use Rattle.flurry_bins.specs.declared.bin.node.Colour.{Colour}
 use Rattle.flurry_bins.specs.Entries.{place_cmp, entry_cmp, IsAscending, entry_at, is_at, without}
 use Rattle.flurry_bins.specs.Tree.{Tree, leaf, fork, inorder, redness, root_redness, black_height, IsRedBlack}
 use Rattle.flurry_bins.specs.Removal.{tree_removal, tree_entry, settled_left, settled_right, join_of}
-use Rattle.flurry_model.proofs.ListParts.{sorted_tail, sorted_front, sorted_back}
+use Rattle.flurry_base.proofs.ListParts.{sorted_tail, sorted_front, sorted_back}
 use Rattle.flurry_bins.proofs.Places.{AllPast, without-back, without-front, entry_at-back}
 use Rattle.flurry_bins.proofs.Edits.{taken_there}
 use Rattle.flurry_bins.proofs.Trees.{found_here, found_left, found_right, past_right, before_left}

@@ -12,7 +12,7 @@ use Rattle.flurry_bins.specs.declared.bin.node.Colour.{Colour}
 use Rattle.flurry_bins.specs.Entries.{place_cmp, entry_cmp, IsAscending, entry_at, is_at, with_value_at, with_value}
 use Rattle.flurry_bins.specs.Tree.{Tree, leaf, fork, inorder, root_redness, black_height, IsRedBlack}
 use Rattle.flurry_bins.specs.Rewrite.{tree_with_value, tree_value}
-use Rattle.flurry_model.proofs.ListParts.{sorted_head, sorted_tail, sorted_cons, sorted_nil, sorted_front, sorted_back}
+use Rattle.flurry_base.proofs.ListParts.{sorted_head, sorted_tail, sorted_cons, sorted_nil, sorted_front, sorted_back}
 use Rattle.flurry_bins.proofs.Places.{with_value_at-back, with_value_at-front}
 use Rattle.flurry_bins.proofs.Trees.{found_here, found_left, found_right, past_right, before_left}
 

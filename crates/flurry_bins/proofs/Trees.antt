@@ -13,8 +13,8 @@ use Rattle.flurry_bins.specs.declared.bin.node.Colour.{Colour}
 use Rattle.flurry_bins.specs.declared.bin.node.Node.{Node, Node', out-Node, roll-Node, None', Some'}
 use Rattle.flurry_bins.specs.Entries.{place_cmp, entry_cmp, IsAscending, entry_at, AllBefore, is_past_bound, first_past}
 use Rattle.flurry_bins.specs.Tree.{Tree, fork, shape, shape_from, node_shape, inorder, tree_way}
-use Rattle.flurry_model.proofs.ListParts.{sorted_back, sorted_front}
-use Rattle.flurry_model.proofs.ListParts as sides
+use Rattle.flurry_base.proofs.ListParts.{sorted_back, sorted_front}
+use Rattle.flurry_base.proofs.ListParts as sides
 use Rattle.flurry_bins.proofs.OneHash.{or_again}
 use Rattle.flurry_bins.proofs.Places.{AllPast, place, past_rest, entry_at-back, entry_at-front, first_past-front}
 

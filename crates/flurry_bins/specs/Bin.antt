@@ -13,8 +13,8 @@ use Rattle.flurry_bins.specs.Entries.{IsAscending}
 use Rattle.flurry_bins.specs.Short.{short_list}
 use Rattle.flurry_bins.specs.WayBound.{way_bound}
 use Rattle.flurry_bins.specs.Kind.{kind_entries, kind_is_tree, kind_way, kind_ascending, kind_short, kind_way-bounded}
-use Rattle.flurry_model.specs.BinSizes.{IsSized}
-use Rattle.flurry_model.specs.declared.sizes.TheConstants.{MOST_PAIRS}
+use Rattle.flurry_base.specs.BinSizes.{IsSized}
+use Rattle.flurry_base.specs.declared.sizes.TheConstants.{MAX_LEN}
 
 -- the entries of a bin that is a list, of one that is a tree, and of one that is either
 abbrev pub entries_of_list : {K V A : Type 0} {o : _} {e : _} {p : _} → ListBin K V A o e p → List (Entry K V A)
@@ -54,17 +54,17 @@ unfolding entries_of_bin
 ascending_of_bin b = kind_ascending b.kind
 
 -- there are at most 2^62 of them
-pub short_of_list : {K V A : Type 0} {o : _} {e : _} {p : _} (b : ListBin K V A o e p) → length (entries_of_list b) ≤ MOST_PAIRS
+pub short_of_list : {K V A : Type 0} {o : _} {e : _} {p : _} (b : ListBin K V A o e p) → length (entries_of_list b) ≤ MAX_LEN
 short_of_list b = short_list b.counted b.short
 
-pub short_of_tree : {K V A : Type 0} {o : _} {e : _} {p : _} (b : TreeBin K V A o e p) → length (entries_of_tree b) ≤ MOST_PAIRS
+pub short_of_tree : {K V A : Type 0} {o : _} {e : _} {p : _} (b : TreeBin K V A o e p) → length (entries_of_tree b) ≤ MAX_LEN
 short_of_tree b = short_list b.counted b.short
 
-pub short_of_bin : {K V A : Type 0} {o : _} {e : _} {p : _} (b : Bin K V A o e p) → length (entries_of_bin b) ≤ MOST_PAIRS
+pub short_of_bin : {K V A : Type 0} {o : _} {e : _} {p : _} (b : Bin K V A o e p) → length (entries_of_bin b) ≤ MAX_LEN
 unfolding entries_of_bin
 short_of_bin b = kind_short b.kind
 
--- a tree has at least `LEAST_IN_TREE` nodes, and a list at most `MOST_IN_LIST`
+-- a tree has at least `MIN_TREE_LEN` nodes, and a list at most `MAX_LIST_LEN`
 pub sized_of_bin : {K V A : Type 0} {o : _} {e : _} {p : _} (b : Bin K V A o e p) → IsSized (is_tree b) (length (entries_of_bin b))
 unfolding entries_of_bin is_tree
 sized_of_bin b = b.sized

@@ -2,7 +2,7 @@
 use Rattle.std.specs.Prelude.{Bool}
 use Rattle.std.specs.Borrow.{Bor}
 use Rattle.std.specs.Arc.{arc_value}
-use Rattle.flurry_model.specs.Keeps.{CalledAtPair}
+use Rattle.flurry_base.specs.Keeps.{CalledAtPair}
 use Rattle.flurry_bins.specs.declared.bin.entry.Entry.{Entry}
 
 -- at its key and its value

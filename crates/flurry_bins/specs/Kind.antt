@@ -1,6 +1,6 @@
 -- No entry, one, a list or a tree of them, whichever it is.
 use Rattle.std.specs.Prelude.{◌≡◌, ℕ, ◌≤◌, Bool, true, false, List, [], ◌∷◌, length}
-use Rattle.flurry_model.specs.BinSizes.{IsSized}
+use Rattle.flurry_base.specs.BinSizes.{IsSized}
 use Rattle.flurry_bins.specs.declared.bin.entry.Entry.{Entry}
 use Rattle.flurry_bins.specs.declared.bin.adaptive.kind.Kind.{Kind}
 use Rattle.flurry_bins.specs.declared.bin.adaptive.nodes.NodeTree.{NodeTree}
@@ -12,8 +12,8 @@ use Rattle.flurry_bins.specs.Short.{short_list, list_way-short}
 use Rattle.flurry_bins.specs.WayBound.{way_bound, way_within}
 use Rattle.std.specs.declared.cmp.Ordering.{Ordering}
 use Rattle.std.proofs.Common.{arith, refl}
-use Rattle.flurry_model.proofs.ListParts.{sorted_cons, sorted_nil}
-use Rattle.flurry_model.specs.declared.sizes.TheConstants.{MOST_PAIRS, MOST_IN_LIST}
+use Rattle.flurry_base.proofs.ListParts.{sorted_cons, sorted_nil}
+use Rattle.flurry_base.specs.declared.sizes.TheConstants.{MAX_LEN, MAX_LIST_LEN}
 
 abbrev pub kind_entries : {K V A : Type 0} {o : _} {e : _} {p : _} → Kind K V A o e p → List (Entry K V A)
 kind_entries Empty = []
@@ -46,13 +46,13 @@ kind_ascending (One n) = sorted_cons _ _ [] tt (sorted_nil _)
 kind_ascending (AsList l) = l.ascending
 kind_ascending (AsTree t) = t.ascending
 
-pub kind_short : {K V A : Type 0} {o : _} {e : _} {p : _} (b : Kind K V A o e p) → length (kind_entries b) ≤ MOST_PAIRS
+pub kind_short : {K V A : Type 0} {o : _} {e : _} {p : _} (b : Kind K V A o e p) → length (kind_entries b) ≤ MAX_LEN
 kind_short Empty = omega arith
 kind_short (One n) = omega arith
 kind_short (AsList l) = short_list l.counted l.short
 kind_short (AsTree t) = short_list t.counted t.short
 
-pub list_within : {n m : ℕ} → n ≤ m → m ≤ MOST_IN_LIST → n ≤ way_bound m
+pub list_within : {n m : ℕ} → n ≤ m → m ≤ MAX_LIST_LEN → n ≤ way_bound m
 list_within h k = omega arith
 
 pub kind_way-bounded : {K V A : Type 0} {o : _} {e : _} {p : _} (cmp : K → K → Ordering) (h : ℕ) (k : K) (b : Kind K V A o e p) → IsSized (kind_is_tree b) (length (kind_entries b)) → length (kind_way cmp h k b) ≤ way_bound (length (kind_entries b))

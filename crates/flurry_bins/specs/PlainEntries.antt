@@ -2,7 +2,7 @@
 use Rattle.std.specs.Prelude.{ℕ, List, map}
 use Rattle.std.specs.List.{AllByRecursion}
 use Rattle.std.specs.Arc.{arc_value}
-use Rattle.flurry_model.specs.HashOrder.{InRegion}
+use Rattle.flurry_base.specs.HashOrder.{InRegion}
 use Rattle.flurry_bins.specs.declared.bin.entry.Entry.{Entry}
 
 -- an entry as a pair of such a map, with what is looked at of it

@@ -5,9 +5,9 @@ use Rattle.std.specs.declared.cmp.Ordering.{Ordering}
 use Rattle.std.specs.Ordering.{is_gt}
 use Rattle.flurry_bins.specs.declared.bin.entry.Entry.{Entry}
 use Rattle.flurry_bins.specs.Entries.{list_way, place_cmp}
-use Rattle.flurry_model.specs.declared.sizes.TheConstants.{MOST_PAIRS}
+use Rattle.flurry_base.specs.declared.sizes.TheConstants.{MAX_LEN}
 
-pub short_list : {n m : ℕ} → n ≡ m → n ≤ MOST_PAIRS → m ≤ MOST_PAIRS
+pub short_list : {n m : ℕ} → n ≡ m → n ≤ MAX_LEN → m ≤ MAX_LEN
 short_list e h = omega arith
 
 -- a way in a list meets no entry twice

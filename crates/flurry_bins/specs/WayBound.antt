@@ -10,7 +10,7 @@ use Rattle.std.specs.Ordering.{match_ordering}
 use Rattle.std.specs.Int.Digits.{digits_of}
 use Rattle.std.proofs.lemmas.Int.Digits.{number_digits_of, number_lt, all_below_base_digits_of}
 use Rattle.std.proofs.Math.Pow.{pow_mono}
-use Rattle.flurry_model.specs.declared.sizes.TheConstants.{MOST_IN_LIST}
+use Rattle.flurry_base.specs.declared.sizes.TheConstants.{MAX_LIST_LEN}
 use Rattle.flurry_bins.specs.declared.bin.entry.Entry.{Entry}
 use Rattle.flurry_bins.specs.declared.bin.node.Colour.{Colour}
 use Rattle.flurry_bins.specs.declared.bin.node.Colour.TheVariants.{Red, Black}
@@ -19,7 +19,7 @@ use Rattle.flurry_bins.specs.Tree.{Tree, leaf, fork, inorder, redness, root_redn
 
 -- the most nodes that a look-up meets in a bin of n nodes: those of the longest list, or twice the binary digits of n + 1
 abbrev pub way_bound : ℕ → ℕ
-way_bound n = max MOST_IN_LIST (2 * length (digits_of 2 (n + 1)))
+way_bound n = max MAX_LIST_LEN (2 * length (digits_of 2 (n + 1)))
 
 red_or_black : (c : Colour) → redness c ≤ 1
 red_or_black Red = omega arith

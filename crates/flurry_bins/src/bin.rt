@@ -12,7 +12,7 @@ pub mod tree;
 
 pub use adaptive::{Bin, Shape};
 pub use entry::Entry;
-pub use flurry_model::given::{Given, NotInserted, Replaced};
+pub use flurry_base::given::{Given, NotInserted, Replaced};
 pub use list::ListBin;
 pub use node::{BoxedNode, Node};
 pub use ordered::Ordered;

@@ -3,4 +3,4 @@
 
 pub mod bin;
 
-pub use flurry_model::hash;
+pub use flurry_base::hash;

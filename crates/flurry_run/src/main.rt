@@ -1,7 +1,7 @@
 //! Runs the program with the words of its command line, over standard input and standard output, and exits with its status.
 #![tactic(auto)]
 
-use flurry_program::{Input, Output, exit_code, run_words};
+use flurry_run_words::{Input, Output, exit_code, run_words};
 use std::process::ExitCode;
 use std::{env, io};
 

@@ -6,11 +6,11 @@ use Rattle.std.specs.Result.{IsOkAnd, IsErrAnd}
 use Rattle.std.specs.Arc.{arc_value}
 use Rattle.std.specs.declared.sync.Arc.{Arc}
 use Rattle.std.specs.declared.alloc.AllocError.{AllocError}
-use Rattle.flurry_model.specs.declared.try_insert.TryInsertError.{TryInsertError}
-use Rattle.flurry_model.specs.declared.reply.KeptReply.{KeptReply}
-use Rattle.flurry_model.specs.declared.reply.KeptReply.TheVariants as kept
-use Rattle.flurry_model.specs.FiniteMap.{pair_at, value_at, with_pair, without}
-use Rattle.flurry_model.specs.OneKey as one
+use Rattle.flurry_base.specs.declared.try_insert.TryInsertError.{TryInsertError}
+use Rattle.flurry_base.specs.declared.reply.KeptReply.{KeptReply}
+use Rattle.flurry_base.specs.declared.reply.KeptReply.TheVariants as kept
+use Rattle.flurry_base.specs.FiniteMap.{pair_at, value_at, with_pair, without}
+use Rattle.flurry_base.specs.OneKey as one
 use Rattle.flurry_seq.specs.Contents.{Contents, with_pairs}
 use Rattle.flurry_seq.specs.Calls.{OneKeyAnswers, CallRefused}
 use Rattle.flurry_seq.specs.declared.calls.Call.{Call}

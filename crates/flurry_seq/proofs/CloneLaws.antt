@@ -3,8 +3,8 @@ use Rattle.std.proofs.Common.{◌≡◌, ℕ, Bool, true, false, cond, List, [],
 use Rattle.std.specs.Ordering.{is_eq}
 use Rattle.std.specs.Cmp.{IsTotalOrder, tied_back}
 use Rattle.std.specs.List.{AllByRecursion}
-use Rattle.flurry_model.specs.FiniteMap.{IsFiniteMap, pair_at, with_pair, map_of_pairs}
-use Rattle.flurry_model.proofs.FiniteMapLaws.{IsFiniteMap-nil, IsFiniteMap-with_pair, IsFiniteMap-map_of_pairs, pair_at-with_pair, pair_at-map_of_pairs, same_map}
+use Rattle.flurry_base.specs.FiniteMap.{IsFiniteMap, pair_at, with_pair, map_of_pairs}
+use Rattle.flurry_base.proofs.FiniteMapLaws.{IsFiniteMap-nil, IsFiniteMap-with_pair, IsFiniteMap-map_of_pairs, pair_at-with_pair, pair_at-map_of_pairs, same_map}
 use Rattle.flurry_seq.specs.Table.{pair_of}
 use Rattle.flurry_seq.specs.Apart.{AreApart, AreHashed}
 

@@ -7,7 +7,7 @@ use Rattle.std.specs.declared.cmp.Ord as ord
 use Rattle.std.specs.declared.cmp.PartialEq as eq
 use Rattle.std.specs.declared.cmp.PartialOrd as partial
 use Rattle.flurry_bins.proofs.Crossing.{bin_send}
-use Rattle.flurry_model.specs.declared.hash.KeyHasher as hasher
+use Rattle.flurry_base.specs.declared.hash.KeyHasher as hasher
 use Rattle.flurry_seq.specs.contracts.seq_map.SeqMap as SeqMap
 
 module _ (K V S A : RattleType) (g : Ghosts A.Denot) (sk : IsSend K) (yk : IsSync K) (sv : IsSend V) (yv : IsSync V) (ss : IsSend S) (sa : IsSend A) (ya : IsSync A) (f : Frees g g.dealloc_token)

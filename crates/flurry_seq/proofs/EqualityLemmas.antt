@@ -9,8 +9,8 @@ use Rattle.std.specs.Option.{option_eq}
 use Rattle.std.specs.Map.{keys_of}
 use Rattle.std.specs.List.{AllByRecursion, list_all}
 use Rattle.std.proofs.lemmas.Map.Keys.{sorted_head, sorted_tail}
-use Rattle.flurry_model.specs.FiniteMap.{IsFiniteMap, value_at}
-use Rattle.flurry_model.proofs.FiniteMapLaws.{below_all, alike_all, pair_at_below}
+use Rattle.flurry_base.specs.FiniteMap.{IsFiniteMap, value_at}
+use Rattle.flurry_base.proofs.FiniteMapLaws.{below_all, alike_all, pair_at_below}
 use Rattle.flurry_seq.specs.Equality.{pair_eq, has_pair}
 
 eq_of : (r : Ordering) → is_eq r ≡ true → r ≡ Equal

@@ -11,21 +11,21 @@ use Rattle.std.proofs.lemmas.List.{get_or-append_right, length-append, length-ma
 use Rattle.std.proofs.lemmas.Map.Lookups.{exact_unsigned}
 use Rattle.std.proofs.lemmas.Nat.{mod-mul-add, div-add-mod', mod_below}
 use Rattle.std.proofs.Math.ListN.{get_or-append, get_or-map}
-use Rattle.flurry_model.specs.Sizes.{wanted_of}
+use Rattle.flurry_base.specs.Sizes.{wanted_of}
 use Rattle.std.specs.Int.Digits.{digits_of}
 use Rattle.std.proofs.lemmas.Int.Digits.{length-digits_of-le}
-use Rattle.flurry_model.proofs.SizeLaws.{wanted_of-less, wanted_of-most}
-use Rattle.flurry_model.specs.FiniteMap.{pair_at, map_of_pairs}
-use Rattle.flurry_model.specs.HashOrder.{hash_then_key}
+use Rattle.flurry_base.proofs.SizeLaws.{wanted_of-less, wanted_of-most}
+use Rattle.flurry_base.specs.FiniteMap.{pair_at, map_of_pairs}
+use Rattle.flurry_base.specs.HashOrder.{hash_then_key}
 use Rattle.flurry_seq.specs.Table.{bin_of, is_low, is_in_half, half_of}
-use Rattle.flurry_model.proofs.FiniteMapLaws.{IsFiniteMap-map_of_pairs, IsFiniteMap-filter, IsFiniteMap-nil, same_map}
-use Rattle.flurry_model.proofs.HashOrderLaws.{hash_then_key_total}
+use Rattle.flurry_base.proofs.FiniteMapLaws.{IsFiniteMap-map_of_pairs, IsFiniteMap-filter, IsFiniteMap-nil, same_map}
+use Rattle.flurry_base.proofs.HashOrderLaws.{hash_then_key_total}
 use Rattle.flurry_seq.specs.Table.{pair_of, all_pairs, entry_in, bins_doubled, bins_with}
 use Rattle.flurry_seq.specs.Contents.{first_bins}
 use Rattle.std.specs.Prelude.{◌==◌}
 use Rattle.flurry_seq.specs.Invariant.{IsBinAt, AreBinsFrom, IsTable, IsTableSize}
 use Rattle.flurry_seq.proofs.TableLemmas.{at_map, IsTable-with}
-use Rattle.flurry_model.specs.declared.sizes.TheConstants.{GREATEST_TABLE, MOST_PAIRS}
+use Rattle.flurry_base.specs.declared.sizes.TheConstants.{MAX_TABLE, MAX_LEN}
 
 -- ---- where a hash goes
 
@@ -49,19 +49,19 @@ half_bin n h i true some e t =
     let x = high_bin n h some ge in
     omega arith
 
-pub size_doubled : (n : ℕ) → 0 < n → n < 2 ^ GREATEST_TABLE → IsTableSize n → IsTableSize (2 * n)
+pub size_doubled : (n : ℕ) → 0 < n → n < 2 ^ MAX_TABLE → IsTableSize n → IsTableSize (2 * n)
 size_doubled n some less (inl e) = absurd (omega arith)
 size_doubled n some less (inr (e, small, is)) =
-    let below : e < GREATEST_TABLE = exponent e (subst (λ m. m < 2 ^ GREATEST_TABLE) is less) in
+    let below : e < MAX_TABLE = exponent e (subst (λ m. m < 2 ^ MAX_TABLE) is less) in
     inr (e + 1, omega arith, rw (is, add-one, pow-suc) (omega arith))
   where
-    exponent : (e : ℕ) → 2 ^ e < 2 ^ GREATEST_TABLE → e < GREATEST_TABLE
-    exponent e h = elim (cases_lt e GREATEST_TABLE) [
+    exponent : (e : ℕ) → 2 ^ e < 2 ^ MAX_TABLE → e < MAX_TABLE
+    exponent e h = elim (cases_lt e MAX_TABLE) [
       | inl lt ↦ lt
-      | inr ge ↦ let m = pow_mono {i = GREATEST_TABLE} {j = e} ge in absurd (omega arith)
+      | inr ge ↦ let m = pow_mono {i = MAX_TABLE} {j = e} ge in absurd (omega arith)
     ]
 
-pub size_most : (n : ℕ) → IsTableSize n → n ≤ 2 ^ GREATEST_TABLE
+pub size_most : (n : ℕ) → IsTableSize n → n ≤ 2 ^ MAX_TABLE
 size_most n (inl none) = omega arith
 size_most n (inr (e, small, is)) = rw is (pow_mono small)
 
@@ -76,10 +76,10 @@ pub first_standing : (n w : ℕ) → 0 < n → first_bins n w ≡ n
 first_standing n w some = let t : (n == 0) ≡ false = grind (arith, nat_tests) in rw t refl
 
 -- each size that is wanted is one of a table
-pub wanted_size : (s : ℕ) → (e : ℕ) × (e ≤ GREATEST_TABLE) × (wanted_of s ≡ 2 ^ e)
+pub wanted_size : (s : ℕ) → (e : ℕ) × (e ≤ MAX_TABLE) × (wanted_of s ≡ 2 ^ e)
 wanted_size s = elim (cases_lt s (2 ^ 29)) [
-  | inl lt ↦ (length (digits_of 2 (s + s / 2)), length-digits_of-le 2 GREATEST_TABLE (s + s / 2) (lit≤ tt) (omega arith), wanted_of-less s lt)
-  | inr ge ↦ (GREATEST_TABLE, lit≤ tt, wanted_of-most s ge)
+  | inl lt ↦ (length (digits_of 2 (s + s / 2)), length-digits_of-le 2 MAX_TABLE (s + s / 2) (lit≤ tt) (omega arith), wanted_of-less s lt)
+  | inr ge ↦ (MAX_TABLE, lit≤ tt, wanted_of-most s ge)
 ]
 
 -- ---- the halves of a bin
@@ -164,7 +164,7 @@ module _ {K V : Type 0} {cmp : K → K → Ordering} (o : IsTotalOrder cmp) (has
       ∙ ap (option_map pair_of) (entry_doubled o hash bins (hash q) q some)
       ∙ sym (at_map o hash respects bins q h))
 
-  pub IsTable-doubled : (bins : List (List ((ℕ × K) × V))) (len : ℕ) → 0 < length bins → length bins < 2 ^ GREATEST_TABLE → IsTable cmp hash bins len → IsTable cmp hash (bins_doubled bins) len
+  pub IsTable-doubled : (bins : List (List ((ℕ × K) × V))) (len : ℕ) → 0 < length bins → length bins < 2 ^ MAX_TABLE → IsTable cmp hash bins len → IsTable cmp hash (bins_doubled bins) len
   IsTable-doubled bins len some less t = record {
     placed = doubled-placed o hash bins some t.placed;
     count = rw (map_of_pairs-doubled bins some t.placed) t.count;
@@ -222,7 +222,7 @@ module _ {K V : Type 0} {cmp : K → K → Ordering} (o : IsTotalOrder cmp) (has
       subst (λ b. IsTable cmp hash (bins_with cmp bins (hash k) k v) (cond b len (len + 1))) found
       (IsTable-with o hash respects bins len k v (some_bins cmp bins (hash k) k found) t (rw found t.few))
 
-  pub IsTable-added : (bins : List (List ((ℕ × K) × V))) (len : ℕ) (k : K) (v : V) → 0 < length bins → entry_in cmp bins (hash k) k ≡ None → len < MOST_PAIRS → IsTable cmp hash bins len
+  pub IsTable-added : (bins : List (List ((ℕ × K) × V))) (len : ℕ) (k : K) (v : V) → 0 < length bins → entry_in cmp bins (hash k) k ≡ None → len < MAX_LEN → IsTable cmp hash bins len
       → IsTable cmp hash (bins_with cmp bins (hash k) k v) (len + 1)
   IsTable-added bins len k v some absent less t =
       let none : is_some (entry_in cmp bins (hash k) k) ≡ false = ap is_some absent in

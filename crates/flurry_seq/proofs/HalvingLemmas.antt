@@ -5,7 +5,7 @@ use Rattle.std.specs.Int.{bit_at}
 use Rattle.std.proofs.lemmas.Bool.Decides.{nat_tests}
 use Rattle.std.proofs.lemmas.Bool.{cases_lt}
 use Rattle.std.proofs.lemmas.Nat.{mod-mul-add, div-add-mod', mod_below, pow_pos}
-use Rattle.flurry_model.specs.HashOrder.{pairs_with_bit}
+use Rattle.flurry_base.specs.HashOrder.{pairs_with_bit}
 use Rattle.flurry_seq.specs.Table.{is_low, half_of, bins_doubled}
 
 -- ---- the bit that tells the halves of a bin apart

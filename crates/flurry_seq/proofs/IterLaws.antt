@@ -11,10 +11,10 @@ use Rattle.std.specs.Prelude.{◌==◌, count_by}
 use Rattle.std.specs.List.Sorted.{IsPermutation}
 use Rattle.std.proofs.lemmas.List.Sorted.{IsPermutation-refl, IsPermutation-sym, IsPermutation-cons, IsPermutation-trans, IsPermutation-middle, length_permutation, sum_by-IsPermutation}
 use Rattle.std.proofs.lemmas.Map.Keys.{sorted_head, sorted_tail}
-use Rattle.flurry_model.specs.FiniteMap.{IsFiniteMap, pair_at, with_pair, map_of_pairs}
-use Rattle.flurry_model.specs.HashOrder.{hash_then_key}
+use Rattle.flurry_base.specs.FiniteMap.{IsFiniteMap, pair_at, with_pair, map_of_pairs}
+use Rattle.flurry_base.specs.HashOrder.{hash_then_key}
 use Rattle.flurry_seq.specs.Table.{bin_of, bin_at}
-use Rattle.flurry_model.proofs.FiniteMapLaws.{pair_at-map_of_pairs, without_none}
+use Rattle.flurry_base.proofs.FiniteMapLaws.{pair_at-map_of_pairs, without_none}
 use Rattle.flurry_seq.specs.Table.{pair_of, all_pairs}
 use Rattle.flurry_seq.specs.Apart.{AreApart}
 use Rattle.flurry_seq.specs.Invariant.{AreBinsFrom, IsTable}

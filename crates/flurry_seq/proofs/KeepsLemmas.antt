@@ -6,12 +6,12 @@ use Rattle.std.proofs.lemmas.List.Sorted.{length_permutation}
 use Rattle.std.proofs.lemmas.List.{length-append, length-map, get_or-map, map-set}
 use Rattle.flurry_bins.specs.declared.bin.adaptive.Bin.{Bin}
 use Rattle.flurry_bins.specs.Bin.{entries_of_bin}
-use Rattle.flurry_model.specs.FiniteMap.{map_of_pairs}
-use Rattle.flurry_model.specs.HashOrder.{hash_then_key}
+use Rattle.flurry_base.specs.FiniteMap.{map_of_pairs}
+use Rattle.flurry_base.specs.HashOrder.{hash_then_key}
 use Rattle.flurry_bins.specs.PlainEntries.{pair_of_entry}
-use Rattle.flurry_model.specs.Keeps.{Keeps, CalledAtPair}
+use Rattle.flurry_base.specs.Keeps.{Keeps, CalledAtPair}
 use Rattle.flurry_bins.specs.EntryCall.{CalledAtEntry}
-use Rattle.flurry_model.proofs.KeepsLaws.{Keeps-length, Keeps-all, Keeps-map, Keeps-append, Keeps-finite_map}
+use Rattle.flurry_base.proofs.KeepsLaws.{Keeps-length, Keeps-all, Keeps-map, Keeps-append, Keeps-finite_map}
 use Rattle.flurry_seq.specs.Retain.{CalledAtPlain, KeepsBins}
 use Rattle.flurry_seq.specs.MapsOfBins.{plain_bin, maps_of_bins}
 use Rattle.flurry_seq.specs.Table.{pair_of, all_pairs, bin_of}

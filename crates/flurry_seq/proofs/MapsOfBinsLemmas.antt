@@ -9,14 +9,14 @@ use Rattle.std.proofs.Math.Seq.{map-set_same}
 use Rattle.std.proofs.lemmas.Bool.{cases_lt}
 use Rattle.flurry_bins.specs.declared.bin.adaptive.Bin.{Bin}
 use Rattle.flurry_bins.specs.Bin.{entries_of_bin, ascending_of_bin, is_tree, shape_by, shape_of_bin, sized_of_bin}
-use Rattle.flurry_model.specs.BinSizes.{IsSized}
+use Rattle.flurry_base.specs.BinSizes.{IsSized}
 use Rattle.flurry_seq.specs.Shapes.{count_in, IsFit}
 use Rattle.std.specs.Prelude.{◌==◌, Bool}
 use Rattle.std.proofs.lemmas.Bool.Decides.{nat_tests}
 use Rattle.flurry_bins.specs.declared.bin.entry.Entry.{Entry}
 use Rattle.flurry_bins.specs.Entries.{entry_at, with_entry, with_value_at, without as without_place, with_bit, IsInsertion}
-use Rattle.flurry_model.specs.FiniteMap.{pair_at, with_pair, without}
-use Rattle.flurry_model.specs.HashOrder.{hash_then_key}
+use Rattle.flurry_base.specs.FiniteMap.{pair_at, with_pair, without}
+use Rattle.flurry_base.specs.HashOrder.{hash_then_key}
 use Rattle.flurry_bins.specs.PlainEntries.{pair_of_entry, pairs_of_entries}
 use Rattle.flurry_bins.proofs.PlainEntryLaws.{pair_of_entry-entry_at, pair_of_entry-without, pair_of_entry-with_entry, pair_of_entry-with_value_at, pair_of_entry-with_bit}
 use Rattle.flurry_seq.specs.MapsOfBins.{plain_bin, maps_of_bins}

@@ -7,7 +7,7 @@ use Rattle.std.specs.declared.alloc.AllocError.{AllocError}
 use Rattle.std.specs.declared.sync.Arc.{Arc}
 use Rattle.flurry_bins.specs.declared.bin.entry.Entry.{Entry}
 use Rattle.flurry_bins.specs.Entries.{is_at, is_before, is_past, with_entry, with_value_at, with_value, IsInsertion}
-use Rattle.flurry_model.proofs.ListParts.{all_append}
+use Rattle.flurry_base.proofs.ListParts.{all_append}
 use Rattle.flurry_seq.specs.Numbers.{BearZero}
 
 module _ {X : Type 0} (P : X → Type 0) where

@@ -14,8 +14,8 @@ use Rattle.flurry_bins.specs.Bin.{entries_of_bin, ascending_of_bin}
 use Rattle.flurry_bins.specs.Entries.{entry_cmp, is_past_bound, first_past}
 use Rattle.flurry_bins.specs.PlainEntries.{pair_of_entry, pairs_of_entries}
 use Rattle.flurry_bins.proofs.PlainEntryLaws.{entry_total}
-use Rattle.flurry_model.proofs.HashOrderLaws.{hash_then_key_total}
-use Rattle.flurry_model.proofs.ListParts.{all_map, all_append, filter_kept}
+use Rattle.flurry_base.proofs.HashOrderLaws.{hash_then_key_total}
+use Rattle.flurry_base.proofs.ListParts.{all_map, all_append, filter_kept}
 use Rattle.flurry_seq.specs.Apart.{AreHashed}
 use Rattle.flurry_seq.specs.Invariant.{AreBinsFrom}
 use Rattle.flurry_seq.specs.Table.{pair_of, all_pairs, all_entries}

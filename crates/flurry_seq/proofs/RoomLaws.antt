@@ -11,14 +11,14 @@ use Rattle.std.proofs.lemmas.Int.Digits.{number_digits_of, number_lt, all_below_
 use Rattle.std.proofs.lemmas.Nat.{pow_pos, pow-add}
 use Rattle.std.proofs.Math.Nat.{le-mul_of_pos_right}
 use Rattle.std.proofs.Math.Pow.{pow_mono}
-use Rattle.flurry_model.specs.BinSizes.{asks_for_growth}
-use Rattle.flurry_model.specs.Sizes.{wanted_of, threshold_of, IsTooSmall, IsOnTheWay}
-use Rattle.flurry_model.proofs.SizeLaws.{wanted_of-less, wanted_of-most}
+use Rattle.flurry_base.specs.BinSizes.{asks_for_growth}
+use Rattle.flurry_base.specs.Sizes.{wanted_of, threshold_of, IsTooSmall, IsOnTheWay}
+use Rattle.flurry_base.proofs.SizeLaws.{wanted_of-less, wanted_of-most}
 use Rattle.flurry_seq.specs.Contents.{first_bins}
 use Rattle.flurry_seq.specs.Growth.{bins_for, IsTableFrom, IsTableAfter, HasRoom}
 use Rattle.flurry_seq.specs.Invariant.{IsTableSize}
 use Rattle.flurry_seq.proofs.GrowthLemmas.{wanted_some}
-use Rattle.flurry_model.specs.declared.sizes.TheConstants.{FIRST_BINS, GREATEST_TABLE}
+use Rattle.flurry_base.specs.declared.sizes.TheConstants.{FIRST_BINS, MAX_TABLE}
 
 -- ---- doublings
 
@@ -42,7 +42,7 @@ way_larger : (n w m : ℕ) → IsOnTheWay n w m → n ≤ m
 way_larger n w m (j, is, before) = let more : n ≤ n * 2 ^ j = le-mul_of_pos_right n (pow_pos j) in omega arith
 
 -- a table that is large enough for the count is not doubled by it
-no_way : (b count m : ℕ) → IsOnTheWay b (count + 1) m → (count < threshold_of b) ⊎ (2 ^ GREATEST_TABLE ≤ b) → m ≡ b
+no_way : (b count m : ℕ) → IsOnTheWay b (count + 1) m → (count < threshold_of b) ⊎ (2 ^ MAX_TABLE ≤ b) → m ≡ b
 no_way b count m (zero, is, before) enough = omega arith
 no_way b count m (suc j, is, before) enough =
     let one : b * 2 ^ 0 ≡ b = omega arith in
@@ -115,7 +115,7 @@ room_more n less more all b m (inr (pos, enough)) some le most from (mid, grown,
     let here : IsTableFrom b more mid = rw t at grown in
     let at : IsTableFrom n more mid = table_more n less more b mid le from here in
     let larger : n ≤ mid = table_larger n more mid at in
-    let fits : (more < threshold_of mid) ⊎ (2 ^ GREATEST_TABLE ≤ mid) = elim enough [
+    let fits : (more < threshold_of mid) ⊎ (2 ^ MAX_TABLE ≤ mid) = elim enough [
       | inl lt ↦ inl (omega arith)
       | inr ge ↦ inr (omega arith)
     ] in

@@ -8,18 +8,18 @@ use Rattle.std.proofs.Math.ListN.{length-set}
 use Rattle.std.proofs.lemmas.List.{get_or-set_other}
 use Rattle.std.proofs.lemmas.Grind.{get_or-set_at}
 use borrow.Author.Tests.{eqb-true, eqb-false}
-use Rattle.flurry_model.specs.FiniteMap.{pair_at, with_pair, without, stored_key, map_of_pairs}
+use Rattle.flurry_base.specs.FiniteMap.{pair_at, with_pair, without, stored_key, map_of_pairs}
 use Rattle.std.specs.Borrow.{Bor}
 use Rattle.std.specs.Arc.{arc_value}
 use Rattle.flurry_bins.specs.declared.bin.entry.Entry.{Entry}
-use Rattle.flurry_model.specs.HashOrder.{hash_then_key}
+use Rattle.flurry_base.specs.HashOrder.{hash_then_key}
 use Rattle.flurry_bins.specs.PlainEntries.{pair_of_entry}
 use Rattle.flurry_seq.specs.Table.{bin_of}
-use Rattle.flurry_model.proofs.FiniteMapLaws.{length-with_pair, length-without, found_in, pair_at-with_pair, pair_at-without, IsFiniteMap-with_pair, IsFiniteMap-without, IsFiniteMap-map_of_pairs, pair_at-map_of_pairs, same_map}
-use Rattle.flurry_model.proofs.HashOrderLaws.{hash_then_key_total}
+use Rattle.flurry_base.proofs.FiniteMapLaws.{length-with_pair, length-without, found_in, pair_at-with_pair, pair_at-without, IsFiniteMap-with_pair, IsFiniteMap-without, IsFiniteMap-map_of_pairs, pair_at-map_of_pairs, same_map}
+use Rattle.flurry_base.proofs.HashOrderLaws.{hash_then_key_total}
 use Rattle.flurry_seq.specs.Table.{pair_of, all_pairs, bin_at, entry_in, bins_with, bins_without}
 use Rattle.flurry_seq.specs.Invariant.{IsBinAt, AreBinsFrom, IsTable}
-use Rattle.flurry_model.specs.declared.sizes.TheConstants.{MOST_PAIRS}
+use Rattle.flurry_base.specs.declared.sizes.TheConstants.{MAX_LEN}
 
 then_less : (x : Ordering) → is_eq (ordering_then x Less) ≡ false
 then_less Less = refl
@@ -48,7 +48,7 @@ pub pairs_mapped : {K V A : Type 0} (w : Option (Bor (Entry K V A))) → option_
 pairs_mapped None = refl
 pairs_mapped (Some x) = refl
 
-fewer : (b : Bool) (n : ℕ) → n ≤ MOST_PAIRS → cond b (n - 1) n ≤ MOST_PAIRS
+fewer : (b : Bool) (n : ℕ) → n ≤ MAX_LEN → cond b (n - 1) n ≤ MAX_LEN
 fewer true n h = omega arith
 fewer false n h = h
 
@@ -282,7 +282,7 @@ module _ {K V : Type 0} {cmp : K → K → Ordering} (o : IsTotalOrder cmp) (has
   }
 
   pub IsTable-with : (bins : List (List ((ℕ × K) × V))) (len : ℕ) (k : K) (v : V) → 0 < length bins → IsTable cmp hash bins len
-      → (cond (is_some (entry_in cmp bins (hash k) k)) len (len + 1) ≤ MOST_PAIRS)
+      → (cond (is_some (entry_in cmp bins (hash k) k)) len (len + 1) ≤ MAX_LEN)
       → IsTable cmp hash (bins_with cmp bins (hash k) k v) (cond (is_some (entry_in cmp bins (hash k) k)) len (len + 1))
   IsTable-with bins len k v some t few = record {
     placed = bins_with-placed o hash bins k v some t.placed;

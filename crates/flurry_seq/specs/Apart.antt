@@ -2,7 +2,7 @@
 use Rattle.std.specs.Prelude.{◌≡◌, ℕ, List, [], ◌∷◌, None}
 use Rattle.std.specs.declared.cmp.Ordering.{Ordering}
 use Rattle.std.specs.List.{AllByRecursion}
-use Rattle.flurry_model.specs.FiniteMap.{pair_at}
+use Rattle.flurry_base.specs.FiniteMap.{pair_at}
 
 -- no pair has the class of one before it
 abbrev pub AreApart : {K V : Type 0} → (K → K → Ordering) → List (K × V) → Type 0

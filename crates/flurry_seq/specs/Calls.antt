@@ -5,12 +5,12 @@ use Rattle.std.specs.Arc.{arc_value}
 use Rattle.std.specs.declared.sync.Arc.{Arc}
 use Rattle.std.specs.List.Sorted.{IsPermutation}
 use Rattle.flurry_bins.specs.declared.bin.adaptive.Shape.{Shape}
-use Rattle.flurry_model.specs.FiniteMap.{pair_at, with_all}
-use Rattle.flurry_model.specs.OneKey.{OneKey, Answers}
-use Rattle.flurry_model.specs.OneKey as one
-use Rattle.flurry_model.specs.Sizes.{IsGrown}
-use Rattle.flurry_model.specs.declared.reply.KeptReply.{KeptReply}
-use Rattle.flurry_model.specs.declared.reply.KeptReply.TheVariants as kept
+use Rattle.flurry_base.specs.FiniteMap.{pair_at, with_all}
+use Rattle.flurry_base.specs.OneKey.{OneKey, Answers}
+use Rattle.flurry_base.specs.OneKey as one
+use Rattle.flurry_base.specs.Sizes.{IsGrown}
+use Rattle.flurry_base.specs.declared.reply.KeptReply.{KeptReply}
+use Rattle.flurry_base.specs.declared.reply.KeptReply.TheVariants as kept
 use Rattle.flurry_seq.specs.Contents.{Contents, SamePairs, with_pairs, asked_for, first_bins, IsLeftByReserve}
 use Rattle.flurry_seq.specs.Equality.{maps_eq}
 use Rattle.flurry_seq.specs.Retain.{Retains}

@@ -1,7 +1,7 @@
 -- What an owned map is seen as.
 use Rattle.std.specs.Prelude.{◌≡◌, ◌⊎◌, ◌==◌, ◌+◌, ◌-◌, ◌^◌, min, length, ℕ, List, refl, if◌then◌else◌}
 use Rattle.std.specs.Coded.{Coded, code_by, coded×, coded_list, coded_ℕ}
-use Rattle.flurry_model.specs.Sizes.{wanted_of, IsOnTheWay}
+use Rattle.flurry_base.specs.Sizes.{wanted_of, IsOnTheWay}
 
 -- the pairs, which are a finite map; the number of bins, 0 without a table; and the hasher
 pub record Contents (K V S : Type 0) : Type 0 where

@@ -5,7 +5,7 @@ use Rattle.std.specs.Ordering.{is_eq}
 use Rattle.std.specs.Cmp.{IsTotalOrder, IsPartialEquivalence, IsEquivalence, eq_by_cmp_equiv, partial_equiv_from_equiv, on_per, on_equiv, and_per, and_equiv}
 use Rattle.std.specs.Cmp.Lexicographic.{pointwise, lists_per, lists_equiv}
 use Rattle.std.specs.Option.{option_eq}
-use Rattle.flurry_model.specs.FiniteMap.{value_at}
+use Rattle.flurry_base.specs.FiniteMap.{value_at}
 use Rattle.flurry_seq.specs.Contents.{Contents}
 
 module _ {K V : Type 0} (cmp : K → K → Ordering) (eq : V → V → Bool) where

@@ -1,7 +1,7 @@
 -- How many bins a table may have after keys were put.
 use Rattle.std.specs.Prelude.{◌≡◌, ℕ, ◌+◌, ◌*◌, ◌^◌, ◌<◌, ◌≤◌, ◌⊎◌, ◌==◌, if◌then◌else◌}
-use Rattle.flurry_model.specs.Sizes.{wanted_of, threshold_of, IsOnTheWay}
-use Rattle.flurry_model.specs.declared.sizes.TheConstants.{GREATEST_TABLE, LONG_LIST, LEAST_FOR_TREES}
+use Rattle.flurry_base.specs.Sizes.{wanted_of, threshold_of, IsOnTheWay}
+use Rattle.flurry_base.specs.declared.sizes.TheConstants.{MAX_TABLE, TREEIFY_LEN, MIN_TREEIFY_BINS}
 
 -- the bins that a table has which is made for so many pairs; none for none
 abbrev pub bins_for : ℕ → ℕ
@@ -11,7 +11,7 @@ bins_for count = if count == 0 then 0 else wanted_of count
 -- bins for trees, and there are more pairs than a long list has, as where one bin has more: then n was doubled some times, on the way
 -- to twice the least for trees
 abbrev pub IsTableFrom : ℕ → ℕ → ℕ → Type 0
-IsTableFrom n count m = (m ≡ n) ⊎ ((n < LEAST_FOR_TREES) × (LONG_LIST < count) × IsOnTheWay n (2 * LEAST_FOR_TREES) m)
+IsTableFrom n count m = (m ≡ n) ⊎ ((n < MIN_TREEIFY_BINS) × (TREEIFY_LEN < count) × IsOnTheWay n (2 * MIN_TREEIFY_BINS) m)
 
 -- what a table of n bins may be once a new key made so many pairs: first the key's bin may have had it doubled so, and then the
 -- count, while it was no less than the threshold
@@ -20,4 +20,4 @@ IsTableAfter n count m = (mid : ℕ) × IsTableFrom n count mid × IsOnTheWay mi
 
 -- n bins have room for so many pairs, and the count never has them doubled
 abbrev pub HasRoom : ℕ → ℕ → Type 0
-HasRoom n count = (count ≡ 0) ⊎ ((0 < n) × ((count < threshold_of n) ⊎ (2 ^ GREATEST_TABLE ≤ n)))
+HasRoom n count = (count ≡ 0) ⊎ ((0 < n) × ((count < threshold_of n) ⊎ (2 ^ MAX_TABLE ≤ n)))

@@ -2,10 +2,10 @@
 use Rattle.std.specs.Prelude.{◌≡◌, ℕ, suc, ◌≤◌, ◌^◌, ◌⊎◌, List, [], ◌∷◌, length}
 use Rattle.std.specs.declared.cmp.Ordering.{Ordering}
 use Rattle.std.specs.List.{AllByRecursion}
-use Rattle.flurry_model.specs.FiniteMap.{IsFiniteMap, map_of_pairs}
-use Rattle.flurry_model.specs.HashOrder.{hash_then_key}
+use Rattle.flurry_base.specs.FiniteMap.{IsFiniteMap, map_of_pairs}
+use Rattle.flurry_base.specs.HashOrder.{hash_then_key}
 use Rattle.flurry_seq.specs.Table.{all_pairs, bin_of}
-use Rattle.flurry_model.specs.declared.sizes.TheConstants.{GREATEST_TABLE, MOST_PAIRS}
+use Rattle.flurry_base.specs.declared.sizes.TheConstants.{MAX_TABLE, MAX_LEN}
 
 module _ {K V : Type 0} (cmp : K → K → Ordering) (hash : K → ℕ) where
   -- the bin at place i of n: its entries ascend, and each has its key's hash and lies in its bin
@@ -20,9 +20,9 @@ module _ {K V : Type 0} (cmp : K → K → Ordering) (hash : K → ℕ) where
 
 -- no table, or one of 2^e bins
 abbrev pub IsTableSize : ℕ → Type 0
-IsTableSize n = (n ≡ 0) ⊎ ((e : ℕ) × (e ≤ GREATEST_TABLE) × (n ≡ 2 ^ e))
+IsTableSize n = (n ≡ 0) ⊎ ((e : ℕ) × (e ≤ MAX_TABLE) × (n ≡ 2 ^ e))
 
 pub record IsTable {K V : Type 0} (cmp : K → K → Ordering) (hash : K → ℕ) (bins : List (List ((ℕ × K) × V))) (len : ℕ) : Type 0 where
   pub placed : AreBinsFrom cmp hash (length bins) 0 bins
   pub count : len ≡ length (map_of_pairs cmp (all_pairs bins))
-  pub few : len ≤ MOST_PAIRS
+  pub few : len ≤ MAX_LEN

@@ -3,8 +3,8 @@ use Rattle.std.specs.Prelude.{◌≡◌, ℕ, Bool, List, [], ◌∷◌}
 use Rattle.std.specs.declared.cmp.Ordering.{Ordering}
 use Rattle.std.specs.Borrow.{Bor}
 use Rattle.std.specs.List.Sorted.{IsPermutation}
-use Rattle.flurry_model.specs.FiniteMap.{map_of_pairs}
-use Rattle.flurry_model.specs.Keeps.{Keeps, CalledAtPair}
+use Rattle.flurry_base.specs.FiniteMap.{map_of_pairs}
+use Rattle.flurry_base.specs.Keeps.{Keeps, CalledAtPair}
 use Rattle.flurry_seq.specs.Contents.{Contents, with_pairs}
 use Rattle.flurry_seq.specs.Table.{pair_of}
 

@@ -1,6 +1,6 @@
 -- What the shape of a bin says.
 use Rattle.std.specs.Prelude.{ℕ, ◌<◌, ◌≤◌}
-use Rattle.flurry_model.specs.declared.sizes.TheConstants.{MOST_IN_LIST, LEAST_IN_TREE}
+use Rattle.flurry_base.specs.declared.sizes.TheConstants.{MAX_LIST_LEN, MIN_TREE_LEN}
 use Rattle.flurry_bins.specs.declared.bin.adaptive.Shape.{Shape}
 use Rattle.flurry_bins.specs.declared.bin.adaptive.Shape.TheVariants as shape
 
@@ -13,5 +13,5 @@ count_in (shape.Tree n) = n
 -- a list has from one entry to the most of a list, and a tree at least the least of a tree
 abbrev pub IsFit : Shape → Type 0
 IsFit shape.Empty = Unit {0}
-IsFit (shape.List n) = (0 < n) × (n ≤ MOST_IN_LIST)
-IsFit (shape.Tree n) = LEAST_IN_TREE ≤ n
+IsFit (shape.List n) = (0 < n) × (n ≤ MAX_LIST_LEN)
+IsFit (shape.Tree n) = MIN_TREE_LEN ≤ n

@@ -1,8 +1,8 @@
 -- A table: its bins in order, each a finite map whose key is the hash and the key.
 use Rattle.std.specs.Prelude.{ℕ, ◌*◌, ◌%◌, nat_lt, not, List, [], ◌∷◌, ◌++◌, length, map, filter, slice_index_or, slice_set, Bool, true, false, Option, if◌then◌else◌}
 use Rattle.std.specs.declared.cmp.Ordering.{Ordering}
-use Rattle.flurry_model.specs.FiniteMap.{pair_at, with_pair, without}
-use Rattle.flurry_model.specs.HashOrder.{hash_then_key}
+use Rattle.flurry_base.specs.FiniteMap.{pair_at, with_pair, without}
+use Rattle.flurry_base.specs.HashOrder.{hash_then_key}
 
 -- the bin of a hash in a table of n bins
 abbrev pub bin_of : ℕ → ℕ → ℕ

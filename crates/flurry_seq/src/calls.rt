@@ -2,11 +2,11 @@
 ghost use Rattle.std.specs.Prelude.{◌≡◌, Option, OnErr, IfOk};
 ghost use Rattle.std.specs.Borrow.{Bor};
 
-use crate::owners::{owner_of, owners_of_keys, owners_of_pair, owners_of_pairs, owners_of_values};
+use crate::owners::{clone_arc, clone_keys, clone_pair, clone_pairs, clone_values};
 use crate::seq_map::SeqMap;
+use flurry_base::hash::{DefaultHashBuilder, KeyHasher};
+use flurry_base::try_insert::TryInsertError;
 use flurry_bins::bin::Shape;
-use flurry_model::hash::{DefaultHashBuilder, KeyHasher};
-use flurry_model::try_insert::TryInsertError;
 use std::alloc::{AllocError, Allocator, Global};
 use std::collections::VecDeque;
 use std::sync::Arc;
@@ -16,7 +16,7 @@ use std::sync::Arc;
 ///
 /// The constructors and [`SeqMap::from_list`] make the map on which a list of calls starts, and [`SeqMap::into_bins`] consumes the map that
 /// a list of calls leaves, so none of these is a call on a map. [`SeqMap::allocator`] and [`SeqMap::hasher`] say nothing about the pairs.
-/// [`SeqMap::insert_shared`] and [`SeqMap::insert_node`] do what `Insert` does. Every other public call of [`SeqMap`] is here.
+/// [`SeqMap::insert_arc`] and [`SeqMap::insert_node`] do what `Insert` does. Every other public call of [`SeqMap`] is here.
 ///
 /// ```
 /// let mut calls = VecDeque::new(alloc);
@@ -113,7 +113,7 @@ pub enum Reply<K: Ord, V, S: KeyHasher<K> = DefaultHashBuilder, A: Allocator = G
 }
 
 impl<K: Ord + Drop, V: Drop, S: KeyHasher<K>, A: Allocator + Copy> SeqMap<K, V, S, A> {
-    ghost use Rattle.flurry_model.specs.FiniteMap.{IsFiniteMap};
+    ghost use Rattle.flurry_base.specs.FiniteMap.{IsFiniteMap};
     ghost use Rattle.flurry_seq.specs.Calls.{CallAnswers, CallRefused};
     ghost use Rattle.flurry_seq.specs.CallLists.{RunsTo, EndsEarly};
     ghost use Rattle.flurry_seq.specs.Kinds.{Reads, Shares, Writes, ChangesMany};
@@ -215,11 +215,11 @@ impl<K: Ord + Drop, V: Drop, S: KeyHasher<K>, A: Allocator + Copy> SeqMap<K, V, 
         ensures ascend { IsFiniteMap K.cmp self.now.pairs }
     {
         match call {
-            Call::Get(key) => Ok(Reply::Value(owner_of(self.get(&key))?)),
-            Call::GetKeyValue(key) => Ok(Reply::Pair(owners_of_pair(self.get_key_value(&key))?)),
-            Call::Pairs => Ok(Reply::Pairs(owners_of_pairs(*self.allocator(), self.iter())?)),
-            Call::Keys => Ok(Reply::Keys(owners_of_keys(*self.allocator(), self.keys())?)),
-            Call::Values => Ok(Reply::Values(owners_of_values(*self.allocator(), self.values())?)),
+            Call::Get(key) => Ok(Reply::Value(clone_arc(self.get(&key))?)),
+            Call::GetKeyValue(key) => Ok(Reply::Pair(clone_pair(self.get_key_value(&key))?)),
+            Call::Pairs => Ok(Reply::Pairs(clone_pairs(*self.allocator(), self.iter())?)),
+            Call::Keys => Ok(Reply::Keys(clone_keys(*self.allocator(), self.keys())?)),
+            Call::Values => Ok(Reply::Values(clone_values(*self.allocator(), self.values())?)),
             Call::TryClone => Ok(Reply::Map(self.try_clone()?)),
             _ => unreachable!(),
         }

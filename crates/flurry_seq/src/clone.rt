@@ -2,12 +2,12 @@
 ghost use Rattle.std.specs.Prelude.{◌≡◌, length, IfOk};
 ghost use Rattle.std.specs.Arc.{arc_value};
 ghost use Rattle.flurry_bins.specs.Chain.{entry_of};
-ghost use Rattle.flurry_model.specs.FiniteMap.{IsFiniteMap};
+ghost use Rattle.flurry_base.specs.FiniteMap.{IsFiniteMap};
 ghost use Rattle.flurry_seq.specs.Growth.{bins_for, IsTableFrom};
 
 use crate::seq_map::SeqMap;
+use flurry_base::hash::KeyHasher;
 use flurry_bins::bin::{Entry, Node};
-use flurry_model::hash::KeyHasher;
 use std::alloc::{AllocError, Allocator};
 use std::sync::Arc;
 

@@ -1,11 +1,11 @@
 //! Equality of owned maps.
 ghost use Rattle.std.specs.Prelude.{◌≡◌, ◌↔◌, IsTrue};
 ghost use Rattle.std.specs.Option.{option_eq};
-ghost use Rattle.flurry_model.specs.FiniteMap.{IsFiniteMap, value_at};
+ghost use Rattle.flurry_base.specs.FiniteMap.{IsFiniteMap, value_at};
 ghost use Rattle.flurry_seq.specs.Equality.{maps_eq, maps_eq_per, maps_eq_equiv, has_pair};
 
 use crate::seq_map::SeqMap;
-use flurry_model::hash::KeyHasher;
+use flurry_base::hash::KeyHasher;
 use std::alloc::Allocator;
 
 // Whether the map has an equal value at the key.

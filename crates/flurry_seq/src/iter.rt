@@ -3,7 +3,7 @@ ghost use Rattle.std.specs.Prelude.{◌≡◌, length, map, IfSome, IsPermutatio
 ghost use Rattle.std.specs.Iterator.{YieldsFirstBy, UpTo, at_most, item_count};
 ghost use Rattle.std.specs.Iterator.SizeHint.{IsWithinCount};
 ghost use Rattle.flurry_bins.specs.Entries.{lent_bound};
-ghost use Rattle.flurry_model.specs.FiniteMap.{IsFiniteMap, map_of_pairs};
+ghost use Rattle.flurry_base.specs.FiniteMap.{IsFiniteMap, map_of_pairs};
 ghost use Rattle.flurry_bins.specs.PlainEntries.{pair_of_entry};
 ghost use Rattle.flurry_seq.specs.Iter.{pair_of_item, value_of_item, place_of};
 ghost use Rattle.flurry_seq.specs.Table.{all_entries, pair_of};
@@ -11,8 +11,8 @@ ghost use Rattle.flurry_seq.specs.Apart.{AreApart, AreHashed};
 ghost use Rattle.flurry_seq.specs.MapsOfBins.{maps_of_bins};
 
 use crate::seq_map::SeqMap;
+use flurry_base::hash::KeyHasher;
 use flurry_bins::bin::{Bin, Entry, Ordered};
-use flurry_model::hash::KeyHasher;
 use std::alloc::{Allocator, Global};
 use std::marker::Model;
 use std::sync::Arc;

@@ -14,7 +14,7 @@ use std::sync::Arc;
 /// # Errors
 ///
 /// Returns [`AllocError`] if the `Arc` has as many owners as can be counted.
-pub fn owner_of<T, A: Allocator + Copy>(
+pub fn clone_arc<T, A: Allocator + Copy>(
     lent: Option<&Arc<T, A>>,
 ) -> Result<Option<Arc<T, A>>, AllocError>
     ensures { IfOk result (λ owner. option_map arc_value owner ≡ option_map value_of_item lent.entry) }
@@ -30,7 +30,7 @@ pub fn owner_of<T, A: Allocator + Copy>(
 /// # Errors
 ///
 /// Returns [`AllocError`] if the `Arc` of the key or of the value has as many owners as can be counted.
-pub fn owners_of_pair<K: Drop, V: Drop, A: Allocator + Copy>(
+pub fn clone_pair<K: Drop, V: Drop, A: Allocator + Copy>(
     lent: Option<(&Arc<K, A>, &Arc<V, A>)>,
 ) -> Result<Option<(Arc<K, A>, Arc<V, A>)>, AllocError>
     ensures { IfOk result (λ owners. option_map plain_pair owners ≡ option_map pair_of_item lent.entry) }
@@ -48,7 +48,7 @@ pub fn owners_of_pair<K: Drop, V: Drop, A: Allocator + Copy>(
 ///
 /// Returns [`AllocError`] if memory for the list cannot be allocated, or if the `Arc` of a key or of a value has as many owners as can be
 /// counted.
-pub fn owners_of_pairs<K: Ord + Drop, V: Drop, A: Allocator + Copy>(
+pub fn clone_pairs<K: Ord + Drop, V: Drop, A: Allocator + Copy>(
     alloc: A,
     pairs: Iter<'_, K, V, A>,
 ) -> Result<Vec<(Arc<K, A>, Arc<V, A>), A>, AllocError>
@@ -66,7 +66,7 @@ pub fn owners_of_pairs<K: Ord + Drop, V: Drop, A: Allocator + Copy>(
 /// # Errors
 ///
 /// Returns [`AllocError`] if memory for the list cannot be allocated, or if the `Arc` of a key has as many owners as can be counted.
-pub fn owners_of_keys<K: Ord + Drop, V: Drop, A: Allocator + Copy>(
+pub fn clone_keys<K: Ord + Drop, V: Drop, A: Allocator + Copy>(
     alloc: A,
     keys: Keys<'_, K, V, A>,
 ) -> Result<Vec<Arc<K, A>, A>, AllocError>
@@ -84,7 +84,7 @@ pub fn owners_of_keys<K: Ord + Drop, V: Drop, A: Allocator + Copy>(
 /// # Errors
 ///
 /// Returns [`AllocError`] if memory for the list cannot be allocated, or if the `Arc` of a value has as many owners as can be counted.
-pub fn owners_of_values<K: Ord + Drop, V: Drop, A: Allocator + Copy>(
+pub fn clone_values<K: Ord + Drop, V: Drop, A: Allocator + Copy>(
     alloc: A,
     values: Values<'_, K, V, A>,
 ) -> Result<Vec<Arc<V, A>, A>, AllocError>

@@ -1,15 +1,15 @@
 //! The owned map: a hash map with one owner.
 ghost use Rattle.std.specs.Prelude.{◌≡◌, [], ◌<◌, ◌≤◌, ◌+◌, length, count_by, IfOk, ◌==◌, if◌then◌else◌};
-ghost use Rattle.flurry_model.specs.FiniteMap.{IsFiniteMap};
-ghost use Rattle.flurry_model.specs.Hashing.{seed_of};
-ghost use Rattle.flurry_model.specs.Sizes.{wanted_of};
+ghost use Rattle.flurry_base.specs.FiniteMap.{IsFiniteMap};
+ghost use Rattle.flurry_base.specs.Hashing.{seed_of};
+ghost use Rattle.flurry_base.specs.Sizes.{wanted_of};
 ghost use Rattle.flurry_seq.specs.HandedOut.{AreBinsOf};
 ghost use Rattle.flurry_seq.specs.Numbers.{BinsBearZero};
 ghost use Rattle.flurry_seq.specs.MapsOfBins.{maps_of_bins};
 ghost use Rattle.flurry_seq.specs.Shapes.{count_in, IsFit};
 ghost use Rattle.flurry_seq.specs.Table.{bin_of};
 ghost use Rattle.flurry_seq.specs.Contents.{contents};
-ghost use Rattle.flurry_model.specs.declared.sizes.TheConstants.{MOST_PAIRS};
+ghost use Rattle.flurry_base.specs.declared.sizes.TheConstants.{MAX_LEN};
 
 mod bulk;
 mod capacity;
@@ -20,9 +20,9 @@ mod remove;
 mod retain;
 
 use crate::table::Table;
+use flurry_base::hash::{DefaultHashBuilder, KeyHasher};
+pub use flurry_base::sizes::MAX_LEN;
 use flurry_bins::bin::{Bin, Shape};
-use flurry_model::hash::{DefaultHashBuilder, KeyHasher};
-pub use flurry_model::sizes::MOST_PAIRS;
 use std::alloc::{AllocError, Allocator, Global};
 use std::hash::Hash;
 use std::marker::Model;
@@ -50,7 +50,7 @@ pub struct SeqMap<K: Ord, V, S: KeyHasher<K> = DefaultHashBuilder, A: Allocator 
 
 impl<K: Ord, V, S: KeyHasher<K>, A: Allocator> Model for SeqMap<K, V, S, A> {
     ghost use Rattle.std.specs.Prelude.{length};
-    ghost use Rattle.flurry_model.specs.FiniteMap.{map_of_pairs};
+    ghost use Rattle.flurry_base.specs.FiniteMap.{map_of_pairs};
     ghost use Rattle.flurry_seq.specs.Contents.{Contents, contents, contents_code};
     ghost use Rattle.flurry_seq.specs.Table.{all_pairs};
     ghost use Rattle.flurry_seq.specs.Invariant.{IsTable};
@@ -146,7 +146,7 @@ impl<K: Ord + Drop, V: Drop, S: KeyHasher<K>, A: Allocator> SeqMap<K, V, S, A> {
     pub fn len(&self) -> usize
         ensures pairs { result ≡ length self.now.pairs }
         ensures ascend { IsFiniteMap K.cmp self.now.pairs }
-        ensures few { result ≤ MOST_PAIRS }
+        ensures few { result ≤ MAX_LEN }
     {
         self.len
     }

@@ -6,20 +6,20 @@ ghost use Rattle.std.specs.Arc.{arc_value};
 ghost use Rattle.flurry_bins.specs.Bin.{entries_of_bin, is_tree};
 ghost use Rattle.flurry_bins.specs.Chain.{entry_of};
 ghost use Rattle.flurry_bins.specs.Entries.{IsInsertion};
-ghost use Rattle.flurry_model.specs.BinSizes.{asks_for_growth};
+ghost use Rattle.flurry_base.specs.BinSizes.{asks_for_growth};
 ghost use Rattle.flurry_bins.specs.PlainEntries.{pair_of_entry};
 ghost use Rattle.flurry_seq.specs.Invariant.{IsTableSize};
 ghost use Rattle.flurry_seq.specs.Numbers.{BinsBearZero};
 ghost use Rattle.flurry_seq.specs.MapsOfBins.{maps_of_bins};
 ghost use Rattle.flurry_seq.specs.Shapes.{count_in, IsFit};
 ghost use Rattle.flurry_seq.specs.Table.{bin_of, bin_at, entry_in, bins_with, bins_without, bins_doubled};
-ghost use Rattle.flurry_model.specs.declared.sizes.TheConstants.{GREATEST_TABLE, LEAST_FOR_TREES, LONG_LIST, MOST_PAIRS};
+ghost use Rattle.flurry_base.specs.declared.sizes.TheConstants.{MAX_TABLE, MIN_TREEIFY_BINS, TREEIFY_LEN, MAX_LEN};
 
 mod retain;
 
+use flurry_base::sizes::bin_index;
 use flurry_bins::bin::{Bin, Entry, Node, Ordered, Shape};
-use flurry_insertion::table::{Inserted, insert_in_table, put_in_table};
-use flurry_model::sizes::bin_index;
+use flurry_bins_insertion::table::{Inserted, insert_pair_in_bin, put_node_in_bin};
 use std::alloc::{AllocError, Allocator};
 use std::marker::Model;
 use std::mem;
@@ -130,17 +130,17 @@ impl<K: Ord + Drop, V: Drop, A: Allocator> Table<K, V, A> {
     pub(crate) fn put(&mut self, node: Box<Node<K, V, A>, A>) -> bool
         requires table { 0 < length self.old }
         requires number { (entry_of node.value).number ≡ 0 }
-        requires room { length (bin_at self.old (entry_of node.value).hash) < MOST_PAIRS }
+        requires room { length (bin_at self.old (entry_of node.value).hash) < MAX_LEN }
         requires absent { let e = entry_of node.value in entry_in K.cmp self.old e.hash (arc_value e.key) ≡ None }
         ensures after { let e = entry_of node.value in
             self.new ≡ bins_with K.cmp self.old e.hash (arc_value e.key) (arc_value e.value) }
         ensures asks { IsTrue result
-            → (length self.old < LEAST_FOR_TREES) × (length (bin_at self.old (entry_of node.value).hash) ≡ LONG_LIST) }
+            → (length self.old < MIN_TREEIFY_BINS) × (length (bin_at self.old (entry_of node.value).hash) ≡ TREEIFY_LEN) }
     {
         let count = self.bins.len();
         let at = place(&self.bins, node.entry().hash);
         let bin = &mut self.bins[at];
-        put_in_table(bin, node, count)
+        put_node_in_bin(bin, node, count)
     }
 
     // Removes the entry of a hash and a key from its bin, and returns it.
@@ -180,14 +180,14 @@ fn insert_in_bin<K: Ord + Drop, V: Drop, A: Allocator + Copy>(
     value: Arc<V, A>,
     bins: usize,
 ) -> Result<(Option<Arc<V, A>>, bool), AllocError>
-    requires { length (entries_of_bin bin.old) < MOST_PAIRS }
+    requires { length (entries_of_bin bin.old) < MAX_LEN }
     ensures entries { IfOk result (λ r.
         IsInsertion K.cmp hash key value 0 r.0 (entries_of_bin bin.old) (entries_of_bin bin.new)) }
     ensures asks { IfOk result (λ r. r.1
         ≡ (not (is_some r.0) && asks_for_growth bins (is_tree bin.old) (length (entries_of_bin bin.old)))) }
     ensures err { OnErr result (entries_of_bin bin.new ≡ entries_of_bin bin.old) }
 {
-    match insert_in_table(bin, alloc, hash, key, value, 0, bins) {
+    match insert_pair_in_bin(bin, alloc, hash, key, value, 0, bins) {
         Ok(Inserted::New { asks_for_growth }) => Ok((None, asks_for_growth)),
         Ok(Inserted::Replaced(replaced)) => Ok((Some(replaced.old), false)),
         Err(_) => Err(AllocError),
@@ -203,12 +203,12 @@ impl<K: Ord + Drop, V: Drop, A: Allocator + Copy> Table<K, V, A> {
         value: Arc<V, A>,
     ) -> Result<(Option<Arc<V, A>>, bool), AllocError>
         requires table { 0 < length self.old }
-        requires room { length (bin_at self.old hash) < MOST_PAIRS }
+        requires room { length (bin_at self.old hash) < MAX_LEN }
         ensures old { IfOk result
             (λ r. option_map arc_value r.0 ≡ option_map (λ e. e.1) (entry_in K.cmp self.old hash key)) }
         ensures after { OnOk result (self.new ≡ bins_with K.cmp self.old hash key (arc_value value)) }
         ensures asks { IfOk result (λ r. IsTrue r.1
-            → (length self.old < LEAST_FOR_TREES) × (length (bin_at self.old hash) ≡ LONG_LIST)) }
+            → (length self.old < MIN_TREEIFY_BINS) × (length (bin_at self.old hash) ≡ TREEIFY_LEN)) }
         ensures err { OnErr result (self.new ≡ self.old) }
     {
         let alloc = *self.bins.allocator();
@@ -235,7 +235,7 @@ impl<K: Ord + Drop, V: Drop, A: Allocator + Copy> Table<K, V, A> {
     // Doubles the number of bins, and moves each entry to its bin.
     pub(crate) fn double(&mut self) -> Result<(), AllocError>
         requires some { 0 < length self.old }
-        requires less { length self.old < 2 ^ GREATEST_TABLE }
+        requires less { length self.old < 2 ^ MAX_TABLE }
         ensures ok { OnOk result (self.new ≡ bins_doubled self.old) }
         ensures err { OnErr result (self.new ≡ self.old) }
     {

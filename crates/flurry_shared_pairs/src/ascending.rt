@@ -1,6 +1,6 @@
 //! Lists in ascending order.
-ghost use Rattle.flurry_model.specs.FiniteMap.{IsFiniteMap};
-ghost use Rattle.flurry_model.specs.FiniteSet.{IsFiniteSet};
+ghost use Rattle.flurry_base.specs.FiniteMap.{IsFiniteMap};
+ghost use Rattle.flurry_base.specs.FiniteSet.{IsFiniteSet};
 
 use std::alloc::Allocator;
 

@@ -1,11 +1,11 @@
 //! The pairs of a shared map.
 ghost use Rattle.std.specs.Prelude.{IfOk};
-ghost use Rattle.flurry_model.specs.FiniteMap.{IsFiniteMap};
+ghost use Rattle.flurry_base.specs.FiniteMap.{IsFiniteMap};
 
 use crate::map_ref;
-use flurry_map::HashMap;
-use flurry_model::hash::KeyHasher;
-use flurry_pairs::SortedPairs;
+use flurry_base::hash::KeyHasher;
+use flurry_seq_pairs::SortedPairs;
+use flurry_shared::HashMap;
 use std::alloc::{AllocError, Allocator};
 use std::sync::Wait;
 

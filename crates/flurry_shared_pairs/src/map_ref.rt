@@ -1,13 +1,13 @@
 //! The pairs of a shared map, by its view.
 ghost use Rattle.std.specs.Prelude.{IfOk, OnOk};
-ghost use Rattle.flurry_map_ref.specs.Walks.{Begins, HasEnded};
-ghost use Rattle.flurry_model.specs.FiniteMap.{IsFiniteMap};
+ghost use Rattle.flurry_shared_view.specs.Walks.{Begins, HasEnded};
+ghost use Rattle.flurry_base.specs.FiniteMap.{IsFiniteMap};
 
 use crate::ascending::ascending_pairs;
-use flurry_map_ref::HashMapRef;
-use flurry_map_ref::iter::Iter;
-use flurry_model::hash::KeyHasher;
-use flurry_pairs::SortedPairs;
+use flurry_base::hash::KeyHasher;
+use flurry_seq_pairs::SortedPairs;
+use flurry_shared_view::HashMapRef;
+use flurry_shared_view::iter::Iter;
 use std::alloc::{AllocError, Allocator};
 use std::sync::Wait;
 

@@ -1,10 +1,10 @@
 //! The elements of a shared set.
 ghost use Rattle.std.specs.Prelude.{IfOk};
-ghost use Rattle.flurry_model.specs.FiniteSet.{IsFiniteSet};
+ghost use Rattle.flurry_base.specs.FiniteSet.{IsFiniteSet};
 
 use crate::set_ref;
-use flurry_model::hash::KeyHasher;
-use flurry_pairs::SortedItems;
+use flurry_base::hash::KeyHasher;
+use flurry_seq_pairs::SortedItems;
 use flurry_shared_set::HashSet;
 use std::alloc::{AllocError, Allocator};
 use std::sync::Wait;

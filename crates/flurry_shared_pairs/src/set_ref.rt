@@ -1,13 +1,13 @@
 //! The elements of a shared set, by its view.
 ghost use Rattle.std.specs.Prelude.{IfOk, OnOk};
-ghost use Rattle.flurry_map_ref.specs.Walks.{Begins, HasEnded};
-ghost use Rattle.flurry_model.specs.FiniteSet.{IsFiniteSet};
+ghost use Rattle.flurry_shared_view.specs.Walks.{Begins, HasEnded};
+ghost use Rattle.flurry_base.specs.FiniteSet.{IsFiniteSet};
 
 use crate::ascending::ascending_elements;
-use flurry_map_ref::iter::Keys;
-use flurry_model::hash::KeyHasher;
-use flurry_pairs::SortedItems;
+use flurry_base::hash::KeyHasher;
+use flurry_seq_pairs::SortedItems;
 use flurry_shared_set::HashSetRef;
+use flurry_shared_view::iter::Keys;
 use std::alloc::{AllocError, Allocator};
 use std::sync::Wait;
 

@@ -12,4 +12,4 @@ pub mod set;
 pub mod set_ref;
 mod workers;
 
-pub use workers::MOST_WORKERS;
+pub use workers::MAX_WORKERS;

@@ -1,14 +1,14 @@
 //! The call that extends a shared map by several threads at once.
 
 use crate::map_ref;
-use flurry_map::HashMap;
-use flurry_model::hash::KeyHasher;
+use flurry_base::hash::KeyHasher;
+use flurry_shared::HashMap;
 use std::alloc::{AllocError, Allocator};
 use std::sync::Wait;
 use std::thread::Threads;
 
 /// Inserts the pairs of `list` by several threads at once. It starts as many threads as the map has processors, but at least 1 and at most
-/// [`crate::MOST_WORKERS`]; [`HashMap::with_processors`] sets that number. The threads take pieces of `list`, of `part` pairs each, until
+/// [`crate::MAX_WORKERS`]; [`HashMap::with_processors`] sets that number. The threads take pieces of `list`, of `part` pairs each, until
 /// none is left; a `part` of `0` means 1. If a key comes twice, any one of its values stays. All threads have ended when the call returns.
 ///
 /// One insertion for each pair. Takes the locks of [`HashMap::insert`] for each pair, and memory for each piece besides.

@@ -1,11 +1,11 @@
 //! The call that extends a shared map, by its view, by several threads at once.
-ghost use Rattle.flurry_map_ref.specs.SharedAnswers.{IsAnswerOf, or_refused, value_answer};
-ghost use Rattle.flurry_model.specs.declared.call.Call.TheVariants.{Insert};
+ghost use Rattle.flurry_shared_view.specs.SharedAnswers.{IsAnswerOf, or_refused, value_answer};
+ghost use Rattle.flurry_base.specs.declared.call.Call.TheVariants.{Insert};
 ghost use Rattle.flurry_shared_par.specs.Answers.{IsWithoutValue};
 
 use crate::workers::{Put, put_all};
-use flurry_map_ref::HashMapRef;
-use flurry_model::hash::KeyHasher;
+use flurry_base::hash::KeyHasher;
+use flurry_shared_view::HashMapRef;
 use std::alloc::{AllocError, Allocator};
 use std::sync::Wait;
 use std::thread::Threads;

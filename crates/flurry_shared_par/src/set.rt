@@ -1,7 +1,7 @@
 //! The call that extends a shared set by several threads at once.
 
 use crate::set_ref;
-use flurry_model::hash::KeyHasher;
+use flurry_base::hash::KeyHasher;
 use flurry_shared_set::HashSet;
 use std::alloc::{AllocError, Allocator};
 use std::sync::Wait;

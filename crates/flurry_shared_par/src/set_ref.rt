@@ -1,11 +1,11 @@
 //! The call that extends a shared set, by its view, by several threads at once.
-ghost use Rattle.flurry_map_ref.specs.SharedAnswers.{IsAnswerOf, or_refused};
-ghost use Rattle.flurry_model.specs.declared.call.Call.TheVariants.{TryInsert};
+ghost use Rattle.flurry_shared_view.specs.SharedAnswers.{IsAnswerOf, or_refused};
+ghost use Rattle.flurry_base.specs.declared.call.Call.TheVariants.{TryInsert};
 ghost use Rattle.flurry_shared_par.specs.Answers.{IsWithoutValue};
 ghost use Rattle.flurry_shared_set.specs.ElementAnswers.{inserted_answer};
 
 use crate::workers::{Put, put_all};
-use flurry_model::hash::KeyHasher;
+use flurry_base::hash::KeyHasher;
 use flurry_shared_set::HashSetRef;
 use std::alloc::{AllocError, Allocator};
 use std::sync::Wait;

@@ -9,7 +9,7 @@ use std::thread;
 use std::thread::Threads;
 
 /// The greatest number of workers that one call starts.
-pub const MOST_WORKERS: usize = 64;
+pub const MAX_WORKERS: usize = 64;
 
 // What threads insert items into.
 pub(crate) trait Put<T> {
@@ -23,9 +23,9 @@ pub(crate) trait Put<T> {
 
 // Returns the number of workers that are started for `processors`; `0` means 1.
 fn workers_for(processors: usize) -> usize
-    ensures { result ≡ min (max processors 1) MOST_WORKERS }
+    ensures { result ≡ min (max processors 1) MAX_WORKERS }
 {
-    processors.max(1).min(MOST_WORKERS)
+    processors.max(1).min(MAX_WORKERS)
 }
 
 // Inserts the items of `list`, by as many workers as are started for `processors`. They take pieces of `part` items, where `0` means 1,

@@ -7,9 +7,9 @@ use Rattle.std.specs.declared.alloc.Allocator.{Ghosts}
 use Rattle.std.specs.declared.cmp.Ord as ord
 use Rattle.std.specs.declared.cmp.PartialEq as eq
 use Rattle.std.specs.declared.cmp.PartialOrd as partial
-use Rattle.flurry_map.proofs.Crossing.{map_send, map_sync}
-use Rattle.flurry_map_ref.proofs.Crossing.{view_send, view_sync}
-use Rattle.flurry_model.specs.declared.hash.KeyHasher as hasher
+use Rattle.flurry_shared.proofs.Crossing.{map_send, map_sync}
+use Rattle.flurry_shared_view.proofs.Crossing.{view_send, view_sync}
+use Rattle.flurry_base.specs.declared.hash.KeyHasher as hasher
 use Rattle.flurry_shared_set.specs.contracts.set.HashSet as HashSet
 use Rattle.flurry_shared_set.specs.contracts.set_ref.HashSetRef as HashSetRef
 

@@ -3,8 +3,8 @@ use Rattle.std.specs.Prelude.{Bool, true, false, Option, Some, None}
 use Rattle.std.specs.Option.{option_map}
 use Rattle.std.specs.Arc.{arc_value}
 use Rattle.std.specs.declared.sync.Arc.{Arc}
-use Rattle.flurry_model.specs.declared.reply.KeptReply.TheVariants.{Value, Pair, New, Exists}
-use Rattle.flurry_calls.specs.Outcome.{Outcome, OutcomeReply}
+use Rattle.flurry_base.specs.declared.reply.KeptReply.TheVariants.{Value, Pair, New, Exists}
+use Rattle.flurry_steps_sweep.specs.Outcome.{Outcome, OutcomeReply}
 
 module _ {T A : Type 0} where
   -- a stored element, or that there is none

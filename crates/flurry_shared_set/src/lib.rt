@@ -1,6 +1,6 @@
 //! The set that threads share.
 //!
-//! A [`HashSet`] is a [`flurry_map::HashMap`] whose values are `()`. Its view, a [`HashSetRef`], is written over the public calls of the
+//! A [`HashSet`] is a [`flurry_shared::HashMap`] whose values are `()`. Its view, a [`HashSetRef`], is written over the public calls of the
 //! map's view alone.
 #![tactic(auto)]
 

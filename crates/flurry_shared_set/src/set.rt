@@ -1,15 +1,15 @@
 //! The shared set.
 ghost use Rattle.std.specs.Prelude.{◌≡◌, IfOk};
-ghost use Rattle.flurry_map_ref.specs.SharedAnswers.{IsAnswerOf, contains_answer, ended_answer, or_refused};
-ghost use Rattle.flurry_map_ref.specs.Walks.{Begins};
-ghost use Rattle.flurry_model.specs.Hashing.{seed_of};
-ghost use Rattle.flurry_model.specs.declared.call.Call.TheVariants.{GetKeyValue, ContainsKey, TryInsert, Remove, RemoveEntry, Reserve, Clear};
+ghost use Rattle.flurry_shared_view.specs.SharedAnswers.{IsAnswerOf, contains_answer, ended_answer, or_refused};
+ghost use Rattle.flurry_shared_view.specs.Walks.{Begins};
+ghost use Rattle.flurry_base.specs.Hashing.{seed_of};
+ghost use Rattle.flurry_base.specs.declared.call.Call.TheVariants.{GetKeyValue, ContainsKey, TryInsert, Remove, RemoveEntry, Reserve, Clear};
 ghost use Rattle.flurry_shared_set.specs.ElementAnswers.{element_answer, inserted_answer, removed_answer};
 
 use crate::HashSetRef;
-use flurry_map::HashMap;
-use flurry_map::iter::Keys;
-use flurry_model::hash::{DefaultHashBuilder, KeyHasher};
+use flurry_base::hash::{DefaultHashBuilder, KeyHasher};
+use flurry_shared::HashMap;
+use flurry_shared::iter::Keys;
 use std::alloc::{AllocError, Allocator, Global};
 use std::hash::Hash;
 use std::marker::Model;
@@ -29,7 +29,7 @@ pub struct HashSet<T: Ord, S: KeyHasher<T> = DefaultHashBuilder, A: Allocator = 
 }
 
 impl<T: Ord, S: KeyHasher<T>, A: Allocator> Model for HashSet<T, S, A> {
-    ghost use Rattle.flurry_map_ref.specs.SharedAnswers.{MapSettings};
+    ghost use Rattle.flurry_shared_view.specs.SharedAnswers.{MapSettings};
 
     ghost Value = { MapSettings T (Unit {0}) S };
 

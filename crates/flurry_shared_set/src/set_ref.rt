@@ -1,13 +1,13 @@
 //! The view of a shared set.
 ghost use Rattle.std.specs.Prelude.{◌≡◌, IfOk, OnOk, true};
-ghost use Rattle.flurry_map_ref.specs.SharedAnswers.{IsAnswerOf, contains_answer, ended_answer, or_refused};
-ghost use Rattle.flurry_map_ref.specs.Walks.{Begins, HasEnded};
-ghost use Rattle.flurry_model.specs.declared.call.Call.TheVariants.{GetKeyValue, ContainsKey, TryInsert, Remove, RemoveEntry, Reserve, Clear};
+ghost use Rattle.flurry_shared_view.specs.SharedAnswers.{IsAnswerOf, contains_answer, ended_answer, or_refused};
+ghost use Rattle.flurry_shared_view.specs.Walks.{Begins, HasEnded};
+ghost use Rattle.flurry_base.specs.declared.call.Call.TheVariants.{GetKeyValue, ContainsKey, TryInsert, Remove, RemoveEntry, Reserve, Clear};
 ghost use Rattle.flurry_shared_set.specs.ElementAnswers.{element_answer, inserted_answer, removed_answer};
 
-use flurry_map_ref::HashMapRef;
-use flurry_map_ref::iter::{Iter, Keys};
-use flurry_model::hash::{DefaultHashBuilder, KeyHasher};
+use flurry_base::hash::{DefaultHashBuilder, KeyHasher};
+use flurry_shared_view::HashMapRef;
+use flurry_shared_view::iter::{Iter, Keys};
 use std::alloc::{AllocError, Allocator, Global};
 use std::marker::Model;
 use std::sync::{Arc, Wait};
@@ -26,7 +26,7 @@ pub struct HashSetRef<'m, R, T: Ord, S: KeyHasher<T> = DefaultHashBuilder, A: Al
 }
 
 impl<'m, R, T: Ord, S: KeyHasher<T>, A: Allocator> Model for HashSetRef<'m, R, T, S, A> {
-    ghost use Rattle.flurry_map_ref.specs.SharedAnswers.{MapSettings};
+    ghost use Rattle.flurry_shared_view.specs.SharedAnswers.{MapSettings};
 
     ghost Value = { MapSettings T (Unit {0}) S };
 

@@ -2,8 +2,8 @@
 use Rattle.std.specs.Prelude.{ℕ, Bool, Option, Some, None}
 use Rattle.std.specs.declared.cmp.Ordering.{Ordering}
 use Rattle.std.proofs.Common.{inr}
-use Rattle.flurry_calls.specs.Part.{Part}
-use Rattle.flurry_calls.specs.declared.step.Event.{Event}
+use Rattle.flurry_steps_sweep.specs.Part.{Part}
+use Rattle.flurry_steps_sweep.specs.declared.step.Event.{Event}
 use Rattle.flurry_steps.specs.Field.{Loan, TurnsOrStays, ActsOrStays}
 use Rattle.flurry_steps.specs.Party.{PartyState}
 

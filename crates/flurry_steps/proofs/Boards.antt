@@ -1,13 +1,13 @@
 -- A call that needs the board of a growth, or a seat there, helps that growth.
 use Rattle.std.specs.Prelude.{◌≡◌, ℕ, Bool, true, false, if◌then◌else◌, Option, Some, None}
 use Rattle.std.proofs.Common.{refl, sym, ap, subst}
-use Rattle.flurry_claims.specs.Range.{Bounds}
-use Rattle.flurry_claims.specs.declared.range.Attempt.{Attempt}
-use Rattle.flurry_control.specs.Claim.{ClaimState, next_of}
-use Rattle.flurry_calls.specs.Part.{ControlPart, MovePart, SeatPart, BoardPart, GivePart}
-use Rattle.flurry_calls.specs.Sweep.{Errand, Reads, Wipes, SweepStage, AtOutset, OverBins, AtTotal, AtEnd, AfterEnd, part_at}
-use Rattle.flurry_calls.specs.declared.step.Event.{Event}
-use Rattle.flurry_calls.specs.declared.step.Event.TheVariants.{Silent}
+use Rattle.flurry_steps_claims.specs.Range.{Bounds}
+use Rattle.flurry_steps_claims.specs.declared.range.Attempt.{Attempt}
+use Rattle.flurry_steps_control.specs.Claim.{ClaimState, next_of}
+use Rattle.flurry_steps_sweep.specs.Part.{ControlPart, MovePart, SeatPart, BoardPart, GivePart}
+use Rattle.flurry_steps_sweep.specs.Sweep.{Errand, Reads, Wipes, SweepStage, AtOutset, OverBins, AtTotal, AtEnd, AfterEnd, part_at}
+use Rattle.flurry_steps_sweep.specs.declared.step.Event.{Event}
+use Rattle.flurry_steps_sweep.specs.declared.step.Event.TheVariants.{Silent}
 use Rattle.flurry_steps.specs.Field.{board_of}
 use Rattle.flurry_steps.specs.Party.{Task, Finds, Removes, RemovesSeen, Inserts, Adds, Computes, Help, WantsSeat, AtBoard, Moving, Publishing, GivesBack, Resume, Stage, AtLocate, AtBin, AtHelp, AtUncount, AtCount, AtRecount, AtBegin, AtGrow, AtReserve, AtSweep, AtDone, AtTaken, PartyState, bin_part, move_part, help_part, part_of, wanted_part, with_stage}
 use Rattle.flurry_steps.specs.PartyBoard.{Seated, Attempted, Reported, TakenBack, IsAttempt, HelpAsks, StageAsks, BoardStep, stage_answered, helped_answered, range_to_report, stage_unclaimed, IsAtBoard, stage_told}

@@ -3,13 +3,13 @@ use Rattle.std.specs.Prelude.{◌≡◌, ℕ, Bool, true, false, Option, Some, N
 use Rattle.std.specs.Option.{option_map_or}
 use Rattle.std.specs.declared.cmp.Ordering.{Ordering}
 use Rattle.std.proofs.Common.{sym, subst}
-use Rattle.flurry_slots.specs.Slot.{PlainEntry, Live, Content, IsLive, HasMoved, IsUnborn, is_live, ComputeOutcome, WasAbsent, WasRemoved, WasChanged, entry_of_live, take_if_reply}
-use Rattle.flurry_calls.specs.Outcome.{Outcome}
-use Rattle.flurry_steps.specs.Party.{Sought, TheValue, Task, Finds, Removes, RemovesSeen, Inserts, Adds, Computes, Stage, AtDone}
+use Rattle.flurry_bins_slots.specs.Slot.{PlainEntry, Live, Content, IsLive, HasMoved, IsUnborn, is_live, ComputeOutcome, WasAbsent, WasRemoved, WasChanged, entry_of_live, take_if_reply}
+use Rattle.flurry_steps_sweep.specs.Outcome.{Outcome}
+use Rattle.flurry_steps.specs.Party.{AnswerForm, TheValue, Task, Finds, Removes, RemovesSeen, Inserts, Adds, Computes, Stage, AtDone}
 use Rattle.flurry_steps.specs.PartySlots.{GoesOnNew, GoesOnWritten, GoesOnAdded, stage_taken, stage_computed, DecidesAt, LiveGives, ContentGives}
 use Rattle.flurry_steps.specs.PartyTally.{HasDecided}
-use Rattle.flurry_calls.specs.declared.step.Event.{Event}
-use Rattle.flurry_calls.specs.declared.step.Event.TheVariants as event
+use Rattle.flurry_steps_sweep.specs.declared.step.Event.{Event}
+use Rattle.flurry_steps_sweep.specs.declared.step.Event.TheVariants as event
 
 module _ {K V F : Type 0} where
   after_new : (e : ℕ) (r : Outcome K V) (asked : Bool) (s : Stage K V F) → GoesOnNew e r asked s → HasDecided s
@@ -24,7 +24,7 @@ module _ {K V F : Type 0} where
   after_added e None v asked s g = after_new e _ asked s g
   after_added e (Some w) v asked s g = subst HasDecided (sym g) tt
 
-  after_taken : (w : Sought) (o : Option (PlainEntry K V)) (s : Stage K V F) → s ≡ stage_taken w o → HasDecided s
+  after_taken : (w : AnswerForm) (o : Option (PlainEntry K V)) (s : Stage K V F) → s ≡ stage_taken w o → HasDecided s
   after_taken w None s is = subst HasDecided (sym is) tt
   after_taken w (Some x) s is = subst HasDecided (sym is) tt
 
@@ -59,7 +59,7 @@ module _ {K V F : Type 0} (cmp : K → K → Ordering) (changes : F → K → V 
   live_decides t e IsUnborn ev s c is g = let no : false ≡ true = is in cc
 
   -- a look-up at a live bin is done
-  look_live : (w : Sought) (k : K) (e : ℕ) (b : Live K V) (ev : Event) (s : Stage K V F) (c : Content K V) → LiveGives cmp changes h (Finds w k) e b ev s c → (r : Outcome K V) × (s ≡ AtDone r)
+  look_live : (w : AnswerForm) (k : K) (e : ℕ) (b : Live K V) (ev : Event) (s : Stage K V F) (c : Content K V) → LiveGives cmp changes h (Finds w k) e b ev s c → (r : Outcome K V) × (s ≡ AtDone r)
   look_live w k e b event.Decide s c g = (_, g.1.0)
   look_live w k e b event.Refused s c g = (_, g.0)
   look_live w k e b (event.Opened i) s c g = absurd g
@@ -70,7 +70,7 @@ module _ {K V F : Type 0} (cmp : K → K → Ordering) (changes : F → K → V 
   look_live w k e b (event.Published i) s c g = absurd g
   look_live w k e b event.Silent s c g = absurd g
 
-  pub look_done : (w : Sought) (k : K) (e : ℕ) (q : Content K V) (ev : Event) (s : Stage K V F) (c : Content K V) → is_live q ≡ true → ContentGives cmp changes h (Finds w k) e q ev s c → (r : Outcome K V) × (s ≡ AtDone r)
+  pub look_done : (w : AnswerForm) (k : K) (e : ℕ) (q : Content K V) (ev : Event) (s : Stage K V F) (c : Content K V) → is_live q ≡ true → ContentGives cmp changes h (Finds w k) e q ev s c → (r : Outcome K V) × (s ≡ AtDone r)
   look_done w k e (IsLive b) ev s c is g = look_live w k e b ev s c g
   look_done w k e HasMoved ev s c is g = let clash : false ≡ true = is in cc
   look_done w k e IsUnborn ev s c is g = let clash : false ≡ true = is in cc

@@ -2,12 +2,12 @@
 use Rattle.std.specs.Prelude.{◌≡◌, ℕ, ◌+◌, Bool, true, false, if◌then◌else◌, Option, Some, None, MatchOption, ⊤}
 use Rattle.std.specs.declared.cmp.Ordering.{Ordering}
 use Rattle.std.proofs.Common.{subst}
-use Rattle.flurry_slots.specs.Slot.{Content, IsLive, HasMoved, IsUnborn, SlotState}
-use Rattle.flurry_control.specs.Control.{ControlState, BeginGives, grows_from, is_growing}
-use Rattle.flurry_control.specs.declared.control.BeginOutcome.{BeginOutcome}
-use Rattle.flurry_control.specs.declared.control.BeginOutcome.TheVariants as outcome
-use Rattle.flurry_calls.specs.declared.step.Event.{Event}
-use Rattle.flurry_calls.specs.declared.step.Event.TheVariants as event
+use Rattle.flurry_bins_slots.specs.Slot.{Content, IsLive, HasMoved, IsUnborn, SlotState}
+use Rattle.flurry_steps_control.specs.Control.{ControlState, BeginGives, grows_from, is_growing}
+use Rattle.flurry_steps_control.specs.declared.control.BeginOutcome.{BeginOutcome}
+use Rattle.flurry_steps_control.specs.declared.control.BeginOutcome.TheVariants as outcome
+use Rattle.flurry_steps_sweep.specs.declared.step.Event.{Event}
+use Rattle.flurry_steps_sweep.specs.declared.step.Event.TheVariants as event
 use Rattle.flurry_steps.specs.Party.{Task, Finds, Removes, RemovesSeen, Inserts, Adds, Computes, GrowFor, ForInsert, ForReserve, WantsSeat, AtBoard, Moving, Publishing, GivesBack, Stage, AtLocate, AtBin, AtHelp, AtUncount, AtCount, AtRecount, AtBegin, AtGrow, AtReserve, AtSweep, AtDone, AtTaken, PartyState, IsSingle}
 use Rattle.flurry_steps.specs.PartyControl.{OpensFor, LocatesNone, MakesFor, StageAtControl, event_begun, event_growing, stage_grown, stage_growing}
 use Rattle.flurry_steps.specs.PartyBoard.{BoardAnswer, BoardStep}

@@ -1,9 +1,9 @@
 -- A step at a slot and its halves, of what is seen as a part of another thing.
 use Rattle.std.specs.Prelude.{◌≡◌}
 use Rattle.std.proofs.Common.{ap, ◌∙◌, inl, inr}
-use Rattle.flurry_slots.specs.Slot.{SlotState}
-use Rattle.flurry_calls.specs.declared.step.Event.{Event}
-use Rattle.flurry_calls.specs.declared.step.Event.TheVariants as event
+use Rattle.flurry_bins_slots.specs.Slot.{SlotState}
+use Rattle.flurry_steps_sweep.specs.declared.step.Event.{Event}
+use Rattle.flurry_steps_sweep.specs.declared.step.Event.TheVariants as event
 use Rattle.flurry_steps.specs.PartySlots.{MovesOn}
 
 module _ {P S K V : Type 0} (on : P → P) (at : S → S) (in_it : P → S) (law : (p : P) → in_it (on p) ≡ at (in_it p)) (p : P) (q low high : SlotState K V) where

@@ -1,10 +1,10 @@
 -- A call that does not go over all bins.
 use Rattle.std.specs.Prelude.{◌≡◌, ℕ, None}
 use Rattle.std.proofs.Common.{refl}
-use Rattle.flurry_calls.specs.Part.{ControlPart, LookPart, BinPart, MovePart, NoPart}
-use Rattle.flurry_calls.specs.Sweep.{Errand, Reads, Wipes, SweepStage, AtOutset, OverBins, AtTotal, AtEnd, AfterEnd, part_at}
-use Rattle.flurry_calls.specs.Outcome.{Outcome}
-use Rattle.flurry_calls.specs.declared.reply.Reply.{Reply}
+use Rattle.flurry_steps_sweep.specs.Part.{ControlPart, LookPart, BinPart, MovePart, NoPart}
+use Rattle.flurry_steps_sweep.specs.Sweep.{Errand, Reads, Wipes, SweepStage, AtOutset, OverBins, AtTotal, AtEnd, AfterEnd, part_at}
+use Rattle.flurry_steps_sweep.specs.Outcome.{Outcome}
+use Rattle.flurry_steps_sweep.specs.declared.reply.Reply.{Reply}
 use Rattle.flurry_steps.specs.Party.{AtDone, last_seen}
 use Rattle.flurry_steps.specs.PartyView.{stage_of}
 use Rattle.flurry_steps.specs.declared.party.stage.Stage.{Stage}

@@ -1,7 +1,7 @@
 -- Steps of a call, one after another.
 use Rattle.std.specs.Prelude.{Option, Some, None, MatchOption}
-use Rattle.flurry_calls.specs.Part.{Part}
-use Rattle.flurry_calls.specs.declared.step.Event.{Event}
+use Rattle.flurry_steps_sweep.specs.Part.{Part}
+use Rattle.flurry_steps_sweep.specs.declared.step.Event.{Event}
 use Rattle.flurry_steps.specs.Field.{StaysOrDone}
 use Rattle.flurry_steps.specs.Party.{PartyState}
 use Rattle.flurry_steps.specs.Turns.{Turns, further}

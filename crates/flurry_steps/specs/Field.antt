@@ -1,24 +1,24 @@
 -- What a step of a call is over a field, which lends it one part of a map.
 use Rattle.std.specs.Prelude.{◌≡◌, ◌⊎◌, ℕ, ℤ, ◌≤◌, Bool, true, Option, Some, None, MatchOption}
 use Rattle.std.specs.declared.cmp.Ordering.{Ordering}
-use Rattle.flurry_slots.specs.Slot.{SlotState, IsSlot}
-use Rattle.flurry_control.specs.Control.{ControlState}
-use Rattle.flurry_calls.specs.Part.{Part, ControlPart, LookPart, BinPart, MovePart, SeatPart, BoardPart, GivePart, NoPart}
-use Rattle.flurry_steps.specs.Party.{PartyState, with_stage, wanted_part, locates, started_stage}
+use Rattle.flurry_bins_slots.specs.Slot.{SlotState, IsSlot}
+use Rattle.flurry_steps_control.specs.Control.{ControlState}
+use Rattle.flurry_steps_sweep.specs.Part.{Part, ControlPart, LookPart, BinPart, MovePart, SeatPart, BoardPart, GivePart, NoPart}
+use Rattle.flurry_steps.specs.Party.{PartyState, with_stage, wanted_part, locates, published_stage}
 use Rattle.flurry_steps.specs.PartyControl.{ControlStep}
 use Rattle.flurry_steps.specs.PartySlots.{SlotStep, MoveStep}
 use Rattle.flurry_steps.specs.PartyTally.{TallyStep}
 use Rattle.flurry_steps.specs.PartyBoard.{BoardAnswer, BoardStep}
-use Rattle.flurry_calls.specs.declared.step.Event.{Event}
-use Rattle.flurry_calls.specs.declared.step.Event.TheVariants as event
-use Rattle.flurry_model.specs.declared.sizes.TheConstants.{GREATEST_TABLE}
+use Rattle.flurry_steps_sweep.specs.declared.step.Event.{Event}
+use Rattle.flurry_steps_sweep.specs.declared.step.Event.TheVariants as event
+use Rattle.flurry_base.specs.declared.sizes.TheConstants.{MAX_TABLE}
 
 -- what is lent to one step, before and after that step
 pub data Loan (K V R : Type 0) : Type 0 where
   -- the control, and the room where tables are made
   ControlLoan : (control_state : ControlState) (room : R) (board' : ControlState) (room' : R) → Loan K V R
   -- a table where the call may begin, in the control's place
-  StartLoan : (table : ℕ) → Loan K V R
+  PublishedLoan : (table : ℕ) → Loan K V R
   -- a tally where the call counts, in the control's place, and how many pairs may wait there before the call looks at the control's count
   TallyLoan : (most waiting waiting' : ℤ) → Loan K V R
   -- a slot to read
@@ -42,7 +42,7 @@ module _ {K V F R : Type 0} (place : R → ℕ → Option ℕ → Bool → R →
   -- and one that counts a pair may also count it at a tally
   abbrev pub StepWith : Loan K V R → PartyState K V F → Event → PartyState K V F → Type 0
   StepWith (ControlLoan b r b' r') p ev p' = (wanted_part p ≡ ControlPart) × ControlStep place p b r ev p' b' r'
-  StepWith (StartLoan d) p ev p' = (locates p.stage ≡ true) × (d ≤ GREATEST_TABLE) × (ev ≡ event.Silent) × (p' ≡ with_stage p (started_stage d p.stage))
+  StepWith (PublishedLoan d) p ev p' = (locates p.stage ≡ true) × (d ≤ MAX_TABLE) × (ev ≡ event.Silent) × (p' ≡ with_stage p (published_stage d p.stage))
   StepWith (TallyLoan m n n') p ev p' = TallyStep m p n ev p' n'
   StepWith (LookLoan q) p ev p' = (wanted_part p ≡ LookPart q.table q.index) × IsSlot cmp q × SlotStep cmp changes p q ev p' q
   StepWith (BinLoan q q') p ev p' = (wanted_part p ≡ BinPart q.table q.index) × IsSlot cmp q × SlotStep cmp changes p q ev p' q'

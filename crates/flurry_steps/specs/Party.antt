@@ -1,29 +1,29 @@
 -- A call of a shared map in progress, as plain data.
 use Rattle.std.specs.Prelude.{◌≡◌, ℕ, ◌+◌, ◌-◌, ◌%◌, ◌^◌, ◌<◌, ◌≤◌, Bool, true, false, Option, Some, None, is_some, ⊤}
 use Rattle.std.specs.Option.{option_map}
-use Rattle.flurry_model.specs.Sizes.{wanted_of}
-use Rattle.flurry_slots.specs.Slot.{PlainEntry}
-use Rattle.flurry_calls.specs.Outcome.{Outcome, OutcomeReply}
-use Rattle.flurry_calls.specs.Cursor.{at_base}
-use Rattle.flurry_model.specs.declared.call.Seen.{Seen}
-use Rattle.flurry_calls.specs.Sweep as sweep
-use Rattle.flurry_calls.specs.Sweep.{SweepState, OverBins, AfterEnd, IsAfterEnd, swept_part, swept_outcome, sets_out}
-use Rattle.flurry_calls.specs.Part.{Part, ControlPart, LookPart, BinPart, MovePart, SeatPart, BoardPart, GivePart, NoPart}
-use Rattle.flurry_model.specs.declared.reply.KeptReply.{KeptReply}
-use Rattle.flurry_model.specs.declared.reply.KeptReply.TheVariants.{Value, Pair, Contains}
-use Rattle.flurry_control.specs.Claim.{ClaimState, next_of}
-use Rattle.flurry_model.specs.declared.sizes.TheConstants.{GREATEST_TABLE}
+use Rattle.flurry_base.specs.Sizes.{wanted_of}
+use Rattle.flurry_bins_slots.specs.Slot.{PlainEntry}
+use Rattle.flurry_steps_sweep.specs.Outcome.{Outcome, OutcomeReply}
+use Rattle.flurry_steps_sweep.specs.Cursor.{at_base}
+use Rattle.flurry_base.specs.declared.call.Seen.{Seen}
+use Rattle.flurry_steps_sweep.specs.Sweep as sweep
+use Rattle.flurry_steps_sweep.specs.Sweep.{SweepState, OverBins, AfterEnd, IsAfterEnd, swept_part, swept_outcome, sets_out}
+use Rattle.flurry_steps_sweep.specs.Part.{Part, ControlPart, LookPart, BinPart, MovePart, SeatPart, BoardPart, GivePart, NoPart}
+use Rattle.flurry_base.specs.declared.reply.KeptReply.{KeptReply}
+use Rattle.flurry_base.specs.declared.reply.KeptReply.TheVariants.{Value, Pair, Contains}
+use Rattle.flurry_steps_control.specs.Claim.{ClaimState, next_of}
+use Rattle.flurry_base.specs.declared.sizes.TheConstants.{MAX_TABLE}
 
 -- what of the entry of a key a call answers: its value, the stored key and the value, or whether there is one
-pub data Sought : Type 0 where
-  TheValue : Sought
-  ThePair : Sought
-  Presence : Sought
+pub data AnswerForm : Type 0 where
+  TheValue : AnswerForm
+  ThePair : AnswerForm
+  Presence : AnswerForm
 
 -- a call of one key that did not decide yet
 pub data Task (K V F : Type 0) : Type 0 where
-  Finds : Sought → K → Task K V F
-  Removes : Sought → K → Task K V F
+  Finds : AnswerForm → K → Task K V F
+  Removes : AnswerForm → K → Task K V F
   RemovesSeen : Seen K V → Task K V F
   Inserts : K → V → Task K V F
   Adds : K → V → Task K V F
@@ -138,7 +138,7 @@ helped_table (GivesBack e) = e
 -- it helps the growth from a table after which there is another; a claim keeps that of its own
 abbrev pub HelpIsReady : Help → Type 0
 HelpIsReady (Moving c) = ⊤
-HelpIsReady h = helped_table h < GREATEST_TABLE
+HelpIsReady h = helped_table h < MAX_TABLE
 
 abbrev pub GrowForIsReady : {K V : Type 0} → GrowFor K V → Type 0
 GrowForIsReady (ForInsert r) = IsDecided r
@@ -150,26 +150,26 @@ module _ {K V F : Type 0} (ready : F → Type 0) where
   TaskIsReady _ = ⊤
 
   abbrev pub ResumeIsReady : Resume K V F → Type 0
-  ResumeIsReady (ThenBin t e) = TaskIsReady t × (e ≤ GREATEST_TABLE)
+  ResumeIsReady (ThenBin t e) = TaskIsReady t × (e ≤ MAX_TABLE)
   ResumeIsReady (ThenRecount r) = IsDecided r
-  ResumeIsReady (ThenGrow w g) = (w ≤ GREATEST_TABLE) × GrowForIsReady g
+  ResumeIsReady (ThenGrow w g) = (w ≤ MAX_TABLE) × GrowForIsReady g
 
   abbrev pub StageIsReady : Stage K V F → Type 0
   StageIsReady (AtLocate t) = TaskIsReady t
-  StageIsReady (AtBin t e) = TaskIsReady t × (e ≤ GREATEST_TABLE)
+  StageIsReady (AtBin t e) = TaskIsReady t × (e ≤ MAX_TABLE)
   StageIsReady (AtHelp h a) = HelpIsReady h × ResumeIsReady a
   StageIsReady (AtUncount r) = IsDecided r
   StageIsReady (AtCount r) = IsDecided r
   StageIsReady (AtRecount r) = IsDecided r
-  StageIsReady (AtBegin e r) = (e ≤ GREATEST_TABLE) × IsDecided r
-  StageIsReady (AtGrow w g) = (w ≤ GREATEST_TABLE) × GrowForIsReady g
+  StageIsReady (AtBegin e r) = (e ≤ MAX_TABLE) × IsDecided r
+  StageIsReady (AtGrow w g) = (w ≤ MAX_TABLE) × GrowForIsReady g
   StageIsReady _ = ⊤
 
 -- ---- replies
 
 module _ {K V : Type 0} where
   -- what a call that seeks this answers of an entry, or of an absent key
-  abbrev pub reply_for : Sought → Option (PlainEntry K V) → KeptReply K V
+  abbrev pub reply_for : AnswerForm → Option (PlainEntry K V) → KeptReply K V
   reply_for TheValue e = Value (option_map (λ (x : PlainEntry K V). x.1.0) e)
   reply_for ThePair e = Pair (option_map (λ (x : PlainEntry K V). (x.0.1, x.1.0)) e)
   reply_for Presence e = Contains (is_some e)
@@ -231,8 +231,8 @@ module _ {K V F : Type 0} where
 
 -- how many steps a look-up has left at most, where no bin that it meets is unborn: one at the control, and one in each of 31 tables
 abbrev pub steps_left : {K V F : Type 0} → Stage K V F → ℕ
-steps_left (AtLocate t) = GREATEST_TABLE + 2
-steps_left (AtBin t e) = GREATEST_TABLE + 1 - e
+steps_left (AtLocate t) = MAX_TABLE + 2
+steps_left (AtBin t e) = MAX_TABLE + 1 - e
 steps_left _ = 0
 
 -- a call of one key that only looks for it
@@ -279,12 +279,12 @@ locates (AtSweep w) = sets_out w.stage
 locates _ = false
 
 -- that step, at a table that is published
-abbrev pub started_stage : {K V F : Type 0} → ℕ → Stage K V F → Stage K V F
-started_stage d (AtLocate t) = AtBin t d
-started_stage d (AtSweep w) = AtSweep (sweep.with_stage w (OverBins (at_base d 0)))
-started_stage d s = s
+abbrev pub published_stage : {K V F : Type 0} → ℕ → Stage K V F → Stage K V F
+published_stage d (AtLocate t) = AtBin t d
+published_stage d (AtSweep w) = AtSweep (sweep.with_stage w (OverBins (at_base d 0)))
+published_stage d s = s
 
 -- the exponent w of the table that is made for so many pairs
 pub record IsTableFor (pairs w : ℕ) : Type 0 where
   pub bins : 2 ^ w ≡ wanted_of pairs
-  pub within : w ≤ GREATEST_TABLE
+  pub within : w ≤ MAX_TABLE

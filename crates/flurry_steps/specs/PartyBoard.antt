@@ -1,11 +1,11 @@
 -- What a step of a call is at the board of a growth that it helps, or at the seats there.
 use Rattle.std.specs.Prelude.{◌≡◌, ℕ, Bool, true, if◌then◌else◌, Option, Some, None, ⊤}
-use Rattle.flurry_claims.specs.Range.{Bounds, IsRange}
-use Rattle.flurry_claims.specs.declared.range.Attempt.{Attempt}
-use Rattle.flurry_claims.specs.declared.range.Attempt.TheVariants.{Got, Lost, Nothing}
-use Rattle.flurry_control.specs.Claim.{whole_claim, moved_range}
-use Rattle.flurry_calls.specs.declared.step.Event.{Event}
-use Rattle.flurry_calls.specs.declared.step.Event.TheVariants.{Silent}
+use Rattle.flurry_steps_claims.specs.Range.{Bounds, IsRange}
+use Rattle.flurry_steps_claims.specs.declared.range.Attempt.{Attempt}
+use Rattle.flurry_steps_claims.specs.declared.range.Attempt.TheVariants.{Got, Lost, Nothing}
+use Rattle.flurry_steps_control.specs.Claim.{whole_claim, moved_range}
+use Rattle.flurry_steps_sweep.specs.declared.step.Event.{Event}
+use Rattle.flurry_steps_sweep.specs.declared.step.Event.TheVariants.{Silent}
 use Rattle.flurry_steps.specs.Party.{Help, WantsSeat, AtBoard, Moving, Publishing, GivesBack, Resume, Stage, AtHelp, PartyState, helped_table, resumed_stage}
 
 -- what a call is answered

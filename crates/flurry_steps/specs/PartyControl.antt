@@ -1,17 +1,17 @@
 -- What a step of a call is at the control.
 use Rattle.std.specs.Prelude.{◌≡◌, ℕ, pos, negsuc, ◌+◌, ◌-◌, ◌^◌, ◌==◌, min, Bool, true, false, if◌then◌else◌, Option, Some, None, MatchOption}
-use Rattle.flurry_model.specs.declared.reply.KeptReply.TheVariants.{Value}
-use Rattle.flurry_control.specs.Control.{ControlState, is_growing, after_publish, after_count, advice_of, count_of, after_open, BeginGives, grows_from}
-use Rattle.flurry_calls.specs.Outcome.{Outcome, OutcomeReply, OutcomeEnded, OutcomeRefused}
-use Rattle.flurry_calls.specs.Sweep.{SweepState, SweepControl}
+use Rattle.flurry_base.specs.declared.reply.KeptReply.TheVariants.{Value}
+use Rattle.flurry_steps_control.specs.Control.{ControlState, is_growing, after_publish, after_count, advice_of, count_of, after_open, BeginGives, grows_from}
+use Rattle.flurry_steps_sweep.specs.Outcome.{Outcome, OutcomeReply, OutcomeEnded, OutcomeRefused}
+use Rattle.flurry_steps_sweep.specs.Sweep.{SweepState, SweepControl}
 use Rattle.flurry_steps.specs.Party.{Task, Finds, Removes, RemovesSeen, Inserts, Adds, Computes, GrowFor, ForInsert, ForReserve, AtBoard, WantsSeat, Publishing, GivesBack, ThenRecount, ThenGrow, Stage, AtLocate, AtBin, AtHelp, AtUncount, AtCount, AtRecount, AtBegin, AtGrow, AtReserve, AtSweep, AtDone, PartyState, reply_for, IsTableFor}
-use Rattle.flurry_calls.specs.declared.step.Event.{Event}
-use Rattle.flurry_calls.specs.declared.step.Event.TheVariants.{Decide, Refused, Opened, Placed, Published, Silent}
-use Rattle.flurry_control.specs.declared.control.Advice.{Advice}
-use Rattle.flurry_control.specs.declared.control.Advice.TheVariants.{Enough, Join, Begin}
-use Rattle.flurry_control.specs.declared.control.BeginOutcome.{BeginOutcome}
-use Rattle.flurry_control.specs.declared.control.BeginOutcome.TheVariants as begin
-use Rattle.flurry_model.specs.declared.sizes.TheConstants.{FIRST_TABLE}
+use Rattle.flurry_steps_sweep.specs.declared.step.Event.{Event}
+use Rattle.flurry_steps_sweep.specs.declared.step.Event.TheVariants.{Decide, Refused, Opened, Placed, Published, Silent}
+use Rattle.flurry_steps_control.specs.declared.control.Advice.{Advice}
+use Rattle.flurry_steps_control.specs.declared.control.Advice.TheVariants.{Enough, Join, Begin}
+use Rattle.flurry_steps_control.specs.declared.control.BeginOutcome.{BeginOutcome}
+use Rattle.flurry_steps_control.specs.declared.control.BeginOutcome.TheVariants as begin
+use Rattle.flurry_base.specs.declared.sizes.TheConstants.{FIRST_TABLE}
 
 -- the growth from table e is the one that the call helped last
 abbrev pub has_helped : ℕ → Option ℕ → Bool

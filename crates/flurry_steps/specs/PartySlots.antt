@@ -1,15 +1,15 @@
 -- What a step of a call is at a bin, and at a bin that moves with its two halves.
 use Rattle.std.specs.Prelude.{◌≡◌, ℕ, ◌+◌, ◌*◌, ◌^◌, Bool, true, false, Option, Some, None, IsSome, Result, Ok, Err, ⊤, ◌⊎◌}
 use Rattle.std.specs.declared.cmp.Ordering.{Ordering}
-use Rattle.flurry_slots.specs.Slot as slot
-use Rattle.flurry_slots.specs.Slot.{PlainEntry, Live, Content, IsLive, HasMoved, IsUnborn, SlotState, ComputeOutcome, WasAbsent, WasRemoved, WasChanged, entry_of_live, after_write, write_reply, after_add, add_reply, after_take, after_take_if, take_if_reply, ComputesInVain, HasMovedInto, Clashes}
-use Rattle.flurry_model.specs.declared.reply.KeptReply.TheVariants.{Value, New, Exists}
-use Rattle.flurry_control.specs.Claim.{moved_on}
-use Rattle.flurry_calls.specs.Outcome.{Outcome, OutcomeReply, OutcomeRefused}
-use Rattle.flurry_calls.specs.Sweep.{SweepState, SweepGives}
-use Rattle.flurry_steps.specs.Party.{Sought, TheValue, Presence, Task, Finds, Removes, RemovesSeen, Inserts, Adds, Computes, ForInsert, Help, WantsSeat, Moving, ThenBin, Stage, AtLocate, AtBin, AtHelp, AtUncount, AtCount, AtGrow, AtSweep, AtDone, PartyState, reply_for, with_stage, IsTableFor}
-use Rattle.flurry_calls.specs.declared.step.Event.{Event}
-use Rattle.flurry_calls.specs.declared.step.Event.TheVariants.{Decide, Refused, Moved, Silent}
+use Rattle.flurry_bins_slots.specs.Slot as slot
+use Rattle.flurry_bins_slots.specs.Slot.{PlainEntry, Live, Content, IsLive, HasMoved, IsUnborn, SlotState, ComputeOutcome, WasAbsent, WasRemoved, WasChanged, entry_of_live, after_write, write_reply, after_add, add_reply, after_take, after_take_if, take_if_reply, ComputesInVain, HasMovedInto, Clashes}
+use Rattle.flurry_base.specs.declared.reply.KeptReply.TheVariants.{Value, New, Exists}
+use Rattle.flurry_steps_control.specs.Claim.{moved_on}
+use Rattle.flurry_steps_sweep.specs.Outcome.{Outcome, OutcomeReply, OutcomeRefused}
+use Rattle.flurry_steps_sweep.specs.Sweep.{SweepState, SweepGives}
+use Rattle.flurry_steps.specs.Party.{AnswerForm, TheValue, Presence, Task, Finds, Removes, RemovesSeen, Inserts, Adds, Computes, ForInsert, Help, WantsSeat, Moving, ThenBin, Stage, AtLocate, AtBin, AtHelp, AtUncount, AtCount, AtGrow, AtSweep, AtDone, PartyState, reply_for, with_stage, IsTableFor}
+use Rattle.flurry_steps_sweep.specs.declared.step.Event.{Event}
+use Rattle.flurry_steps_sweep.specs.declared.step.Event.TheVariants.{Decide, Refused, Moved, Silent}
 
 module _ {K V F : Type 0} where
   -- a call that put a new key, and has this reply: where the bin asks for growth, a table is made larger for twice the bins of its
@@ -29,7 +29,7 @@ module _ {K V F : Type 0} where
   GoesOnAdded e (Err (current, v)) s = s ≡ AtDone (OutcomeReply (Exists current v))
 
   -- a call that took an entry out, or found none
-  abbrev pub stage_taken : Sought → Option (PlainEntry K V) → Stage K V F
+  abbrev pub stage_taken : AnswerForm → Option (PlainEntry K V) → Stage K V F
   stage_taken w None = AtDone (OutcomeReply (reply_for w None))
   stage_taken w (Some x) = AtUncount (OutcomeReply (reply_for w (Some x)))
 
@@ -45,7 +45,7 @@ module _ {K V F : Type 0} where
   stage_moved t e = AtHelp (WantsSeat e) (ThenBin t (e + 1))
 
 -- a look-up that answers what an entry owns is refused only where the key is present
-abbrev pub FindCanBeRefused : {K V : Type 0} → Sought → Option (PlainEntry K V) → Type 0
+abbrev pub FindCanBeRefused : {K V : Type 0} → AnswerForm → Option (PlainEntry K V) → Type 0
 FindCanBeRefused Presence x = ⊥
 FindCanBeRefused _ x = IsSome x
 

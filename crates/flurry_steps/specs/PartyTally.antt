@@ -1,13 +1,13 @@
 -- What a step of a call is at a tally.
 use Rattle.std.specs.Prelude.{◌≡◌, ℤ, pos, negsuc, Bool, true, false, if◌then◌else◌, int_le, ◌≤◌, ⊤}
-use Rattle.flurry_control.specs.Control.{count_after}
-use Rattle.flurry_calls.specs.Outcome.{Outcome}
+use Rattle.flurry_steps_control.specs.Control.{count_after}
+use Rattle.flurry_steps_sweep.specs.Outcome.{Outcome}
 use Rattle.flurry_steps.specs.Party.{Stage, AtUncount, AtCount, AtRecount, AtGrow, AtDone, ForInsert, IsDecided, PartyState}
-use Rattle.flurry_calls.specs.declared.step.Event.{Event}
-use Rattle.flurry_calls.specs.declared.step.Event.TheVariants as event
+use Rattle.flurry_steps_sweep.specs.declared.step.Event.{Event}
+use Rattle.flurry_steps_sweep.specs.declared.step.Event.TheVariants as event
 use Rattle.flurry_steps.specs.declared.party.ending.Rest.{Rest}
 use Rattle.flurry_steps.specs.declared.party.ending.Rest.TheVariants as rest
-use Rattle.flurry_model.specs.declared.sizes.TheConstants.{GREATEST_TABLE}
+use Rattle.flurry_base.specs.declared.sizes.TheConstants.{MAX_TABLE}
 
 module _ {K V F : Type 0} where
   -- the next step counts a pair
@@ -60,7 +60,7 @@ module _ {K V F : Type 0} where
 -- a call that has more to do has decided, and there is a table that it grows to
 abbrev pub RestIsReady : {K V : Type 0} → Rest → Outcome K V → Type 0
 RestIsReady rest.Nothing r = ⊤
-RestIsReady (rest.Grow w) r = (w ≤ GREATEST_TABLE) × IsDecided r
+RestIsReady (rest.Grow w) r = (w ≤ MAX_TABLE) × IsDecided r
 RestIsReady _ r = IsDecided r
 
 -- the step of p at that tally

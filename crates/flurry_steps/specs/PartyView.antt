@@ -1,9 +1,9 @@
 -- What contracts see of a call in progress.
 use Rattle.std.specs.Prelude.{⊤}
 use Rattle.std.specs.Arc.{arc_value}
-use Rattle.flurry_model.specs.Given.{given_of}
-use Rattle.flurry_calls.specs.OutcomeView.{outcome_of}
-use Rattle.flurry_calls.specs.Sweep.{Reads, Wipes, fresh_sweep}
+use Rattle.flurry_base.specs.Given.{given_of}
+use Rattle.flurry_steps_sweep.specs.OutcomeView.{outcome_of}
+use Rattle.flurry_steps_sweep.specs.Sweep.{Reads, Wipes, fresh_sweep}
 use Rattle.flurry_steps.specs.Party as abstract
 use Rattle.flurry_steps.specs.Party.{PartyState}
 use Rattle.flurry_steps.specs.declared.party.call.Key.{Key}
@@ -12,8 +12,8 @@ use Rattle.flurry_steps.specs.declared.party.call.Call.{Call}
 use Rattle.flurry_steps.specs.declared.party.call.Call.TheVariants as call
 use Rattle.flurry_steps.specs.declared.party.call.OwnedCall.{OwnedCall}
 use Rattle.flurry_steps.specs.declared.party.call.OwnedCall.TheVariants as owned_call
-use Rattle.flurry_steps.specs.declared.party.call.Sought.{Sought}
-use Rattle.flurry_steps.specs.declared.party.call.Sought.TheVariants as sought
+use Rattle.flurry_steps.specs.declared.party.call.AnswerForm.{AnswerForm}
+use Rattle.flurry_steps.specs.declared.party.call.AnswerForm.TheVariants as sought
 use Rattle.flurry_steps.specs.declared.party.call.Task.{Task}
 use Rattle.flurry_steps.specs.declared.party.call.Task.TheVariants as task
 use Rattle.flurry_steps.specs.declared.party.stage.Help.{Help}
@@ -24,15 +24,15 @@ use Rattle.flurry_steps.specs.declared.party.stage.Resume.{Resume}
 use Rattle.flurry_steps.specs.declared.party.stage.Resume.TheVariants as after
 use Rattle.flurry_steps.specs.declared.party.stage.Stage.{Stage}
 use Rattle.flurry_steps.specs.declared.party.stage.Stage.TheVariants as stage
-use Rattle.flurry_steps.specs.declared.party.first.Keyless.{Keyless}
-use Rattle.flurry_steps.specs.declared.party.first.Keyless.TheVariants as keyless
+use Rattle.flurry_steps.specs.declared.party.first.WholeMapCall.{WholeMapCall}
+use Rattle.flurry_steps.specs.declared.party.first.WholeMapCall.TheVariants as keyless
 use Rattle.flurry_steps.specs.declared.party.single.Single.TheInside.{Inside}
 
 abbrev pub key_of : {K : Type 0} → Key K → K
 key_of (key.Lent k) = k.now
 key_of (key.Own k) = k
 
-abbrev pub sought_of : Sought → abstract.Sought
+abbrev pub sought_of : AnswerForm → abstract.AnswerForm
 sought_of sought.Value = abstract.TheValue
 sought_of sought.Pair = abstract.ThePair
 sought_of sought.Presence = abstract.Presence
@@ -63,7 +63,7 @@ module _ {K V F A : Type 0} where
 
 module _ {K V F : Type 0} where
   -- that of a call without a key
-  abbrev pub keyless_stage : Keyless → abstract.Stage K V F
+  abbrev pub keyless_stage : WholeMapCall → abstract.Stage K V F
   keyless_stage (keyless.Reserve a) = abstract.AtReserve a
   keyless_stage keyless.Clear = abstract.AtSweep (fresh_sweep (Wipes 0))
   keyless_stage keyless.Walk = abstract.AtSweep (fresh_sweep Reads)

@@ -1,8 +1,8 @@
 -- Steps of a call, one after another.
 use Rattle.std.specs.Prelude.{◌≡◌, Some}
-use Rattle.flurry_calls.specs.Outcome.{Outcome}
+use Rattle.flurry_steps_sweep.specs.Outcome.{Outcome}
 use Rattle.flurry_steps.specs.Party.{PartyState, final_outcome, taken_stage, with_stage}
-use Rattle.flurry_calls.specs.declared.step.Event.{Event}
+use Rattle.flurry_steps_sweep.specs.declared.step.Event.{Event}
 
 -- steps of a relation, one after another
 pub data Turns {S P E : Type 0} (step : S → P → E → S → P → Type 0) : S → P → S → P → Type 0 where

@@ -1,14 +1,14 @@
 //! Where a call finds the parts of a map that its steps need.
 ghost use Rattle.std.specs.Prelude.{◌≡◌};
-ghost use Rattle.flurry_calls.specs.Part.{Part, ControlPart, LookPart, BinPart, MovePart, SeatPart, BoardPart, GivePart};
-ghost use Rattle.flurry_calls.specs.OutcomeView.{outcome_of};
+ghost use Rattle.flurry_steps_sweep.specs.Part.{Part, ControlPart, LookPart, BinPart, MovePart, SeatPart, BoardPart, GivePart};
+ghost use Rattle.flurry_steps_sweep.specs.OutcomeView.{outcome_of};
 ghost use Rattle.flurry_steps.specs.Party.{IsTaken, wanted_part};
 ghost use Rattle.flurry_steps.specs.Field.{Loan, Turn, TurnsOrStays, ActsOrStays};
 ghost use Rattle.flurry_steps.specs.Turns.{TurnsTo};
 
 use crate::party::{Event, Party, Reply, Want};
-use flurry_control::Room;
-use flurry_slots::ComputeFn;
+use flurry_bins_slots::ComputeFn;
+use flurry_steps_control::Room;
 use std::alloc::Allocator;
 use std::sync::Wait;
 

@@ -5,18 +5,18 @@
 //! between.
 ghost use Rattle.std.specs.Prelude.{◌≡◌, ◌<◌, ◌≤◌, ◌⊎◌, IsSome, IfNone, IfSome, IfOk, OnErr, None, true};
 ghost use Rattle.std.specs.Option.{option_map, option_copied};
-ghost use Rattle.flurry_slots.specs.Slot.{IsSlot, IsUnborn};
-ghost use Rattle.flurry_calls.specs.Part.{LookPart, BinPart, MovePart, ControlPart};
-ghost use Rattle.flurry_calls.specs.PartView.{part_of_want};
-ghost use Rattle.flurry_calls.specs.OutcomeView.{outcome_of};
-ghost use Rattle.flurry_calls.specs.Sweep.{pair_seen};
-ghost use Rattle.flurry_steps.specs.Party.{locates, started_stage, taken_stage, wanted_part, with_stage, outcome_in, final_outcome, last_seen, steps_left, LooksUp, StageIsReady};
+ghost use Rattle.flurry_bins_slots.specs.Slot.{IsSlot, IsUnborn};
+ghost use Rattle.flurry_steps_sweep.specs.Part.{LookPart, BinPart, MovePart, ControlPart};
+ghost use Rattle.flurry_steps_sweep.specs.PartView.{part_of_want};
+ghost use Rattle.flurry_steps_sweep.specs.OutcomeView.{outcome_of};
+ghost use Rattle.flurry_steps_sweep.specs.Sweep.{pair_seen};
+ghost use Rattle.flurry_steps.specs.Party.{locates, published_stage, taken_stage, wanted_part, with_stage, outcome_in, final_outcome, last_seen, steps_left, LooksUp, StageIsReady};
 ghost use Rattle.flurry_steps.specs.PartyControl.{ControlStep};
 ghost use Rattle.flurry_steps.specs.PartySlots.{SlotStep, MoveStep};
 ghost use Rattle.flurry_steps.specs.PartyTally.{TallyStep, counts};
 ghost use Rattle.flurry_steps.specs.PartyBoard.{Seated, Attempted, TakenBack, StageAsks, BoardStep, range_to_report, stage_unclaimed, IsAtBoard, stage_told, lost};
 ghost use Rattle.flurry_steps.specs.PartyView.{first_stage, owned_stage, stage_of, CallIsReady, OwnedIsReady, keyless_stage};
-ghost use Rattle.flurry_model.specs.declared.sizes.TheConstants.{GREATEST_TABLE};
+ghost use Rattle.flurry_base.specs.declared.sizes.TheConstants.{MAX_TABLE};
 
 mod at_control;
 mod at_slot;
@@ -30,12 +30,12 @@ mod stage;
 
 pub use call::{Call, OwnedCall};
 pub use ending::{Ending, Rest};
-use first::{Keyless, task_for, task_of_owned};
-use flurry_calls::{Seen, Sweep};
-pub use flurry_calls::{Event, Reply, Want};
-use flurry_claims::{Attempt, Range};
-use flurry_control::{Control, PublishedTable, Room, Tally};
-use flurry_slots::{ComputeFn, Slot};
+use first::{WholeMapCall, task_for, task_of_owned};
+use flurry_bins_slots::{ComputeFn, Slot};
+use flurry_steps_claims::{Attempt, Range};
+use flurry_steps_control::{Control, PublishedTable, Room, Tally};
+use flurry_steps_sweep::{Seen, Sweep};
+pub use flurry_steps_sweep::{Event, Reply, Want};
 use left::Left;
 pub use left::Remains;
 use single::Single;
@@ -56,12 +56,12 @@ use std::marker::Model;
 /// ```
 #[derive(Drop)]
 pub struct Party<'k, K, V, F: ComputeFn<K, V>, A: Allocator = Global> {
-    course: Course<'k, K, V, F, A>,
+    course: PartyKind<'k, K, V, F, A>,
 }
 
 /// The two kinds of calls. The frames of a sweep would lengthen the proofs of all other steps, so the two kinds are of two types.
 #[derive(Drop)]
-pub(crate) enum Course<'k, K, V, F: ComputeFn<K, V>, A: Allocator> {
+pub(crate) enum PartyKind<'k, K, V, F: ComputeFn<K, V>, A: Allocator> {
     /// A one-key call, or a call that makes room.
     Single(Single<'k, K, V, F, A>),
     /// A walk or a clear, with the hash and the number of processors that it was given; it reads neither.
@@ -85,7 +85,7 @@ impl<'k, K, V, F: ComputeFn<K, V>, A: Allocator> Party<'k, K, V, F, A> {
             ≡ record { hash = hash; processors = processors; helped = None; stage = stage_of stage.entry } }
     {
         Party {
-            course: Course::Single(Single {
+            course: PartyKind::Single(Single {
                 hash,
                 processors,
                 helped: None,
@@ -98,22 +98,22 @@ impl<'k, K, V, F: ComputeFn<K, V>, A: Allocator> Party<'k, K, V, F, A> {
 
 impl<'k, K: Drop, V: Drop, F: ComputeFn<K, V>, A: Allocator> Party<'k, K, V, F, A> {
     // Creates a call without a key, before its first step.
-    fn of_keyless(call: Keyless, hash: u64, processors: usize) -> Self
+    fn of_keyless(call: WholeMapCall, hash: u64, processors: usize) -> Self
         ensures { result
             ≡ record { hash = hash; processors = processors; helped = None; stage = keyless_stage call } }
     {
         match call {
-            Keyless::Reserve(more) => {
+            WholeMapCall::Reserve(more) => {
                 return Party::of_stage(Stage::Reserve(more), hash, processors);
             }
-            Keyless::Clear => {
+            WholeMapCall::Clear => {
                 return Party {
-                    course: Course::Sweep(hash, processors, Sweep::clear()),
+                    course: PartyKind::Sweep(hash, processors, Sweep::clear()),
                 };
             }
-            Keyless::Walk => {
+            WholeMapCall::Walk => {
                 return Party {
-                    course: Course::Sweep(hash, processors, Sweep::walk()),
+                    course: PartyKind::Sweep(hash, processors, Sweep::walk()),
                 };
             }
         }
@@ -161,8 +161,8 @@ impl<'k, K: Drop, V: Drop, F: ComputeFn<K, V>, A: Allocator> Party<'k, K, V, F, 
         ensures { part_of_want result ≡ wanted_part self.now }
     {
         match &self.course {
-            Course::Single(single) => single.want(),
-            Course::Sweep(_, _, sweep) => sweep.want(),
+            PartyKind::Single(single) => single.want(),
+            PartyKind::Sweep(_, _, sweep) => sweep.want(),
         }
     }
 
@@ -173,8 +173,8 @@ impl<'k, K: Drop, V: Drop, F: ComputeFn<K, V>, A: Allocator> Party<'k, K, V, F, 
         ensures { option_map outcome_of (option_copied result) ≡ outcome_in self.now.stage }
     {
         match &self.course {
-            Course::Single(single) => single.reply(),
-            Course::Sweep(_, _, sweep) => sweep.reply(),
+            PartyKind::Single(single) => single.reply(),
+            PartyKind::Sweep(_, _, sweep) => sweep.reply(),
         }
     }
 
@@ -188,8 +188,8 @@ impl<'k, K: Drop, V: Drop, F: ComputeFn<K, V>, A: Allocator> Party<'k, K, V, F, 
         ensures some { IfSome result (λ _. self.new ≡ with_stage self.old (taken_stage self.old.stage)) }
     {
         match &mut self.course {
-            Course::Single(single) => return single.take_reply(),
-            Course::Sweep(_, _, sweep) => return sweep.take_reply(),
+            PartyKind::Single(single) => return single.take_reply(),
+            PartyKind::Sweep(_, _, sweep) => return sweep.take_reply(),
         }
     }
 
@@ -201,8 +201,8 @@ impl<'k, K: Drop, V: Drop, F: ComputeFn<K, V>, A: Allocator> Party<'k, K, V, F, 
         ensures { option_map (λ p. (p.0.now, p.1.now)) result ≡ option_map pair_seen (last_seen self.now.stage) }
     {
         match &self.course {
-            Course::Single(single) => single.last_read(),
-            Course::Sweep(_, _, sweep) => sweep.last_read(),
+            PartyKind::Single(single) => single.last_read(),
+            PartyKind::Sweep(_, _, sweep) => sweep.last_read(),
         }
     }
 
@@ -219,8 +219,8 @@ impl<'k, K: Drop, V: Drop, F: ComputeFn<K, V>, A: Allocator> Party<'k, K, V, F, 
         ensures err { OnErr result (IsSome (last_seen self.now.stage)) }
     {
         match &self.course {
-            Course::Single(single) => Ok(single.seen()),
-            Course::Sweep(_, _, sweep) => sweep.seen(),
+            PartyKind::Single(single) => Ok(single.seen()),
+            PartyKind::Sweep(_, _, sweep) => sweep.seen(),
         }
     }
 
@@ -232,8 +232,8 @@ impl<'k, K: Drop, V: Drop, F: ComputeFn<K, V>, A: Allocator> Party<'k, K, V, F, 
         ensures { self.new ≡ self.old }
     {
         match &mut self.course {
-            Course::Single(single) => single.release(),
-            Course::Sweep(_, _, sweep) => sweep.release(),
+            PartyKind::Single(single) => single.release(),
+            PartyKind::Sweep(_, _, sweep) => sweep.release(),
         }
     }
 
@@ -245,8 +245,8 @@ impl<'k, K: Drop, V: Drop, F: ComputeFn<K, V>, A: Allocator> Party<'k, K, V, F, 
         ensures { ControlStep R.place_gives self.old control.old room.old result self.new control.new room.new }
     {
         match &mut self.course {
-            Course::Single(single) => return single.on_control(control, room),
-            Course::Sweep(_, _, sweep) => return sweep.on_control(control),
+            PartyKind::Single(single) => return single.on_control(control, room),
+            PartyKind::Sweep(_, _, sweep) => return sweep.on_control(control),
         }
     }
 
@@ -258,8 +258,8 @@ impl<'k, K: Drop, V: Drop, F: ComputeFn<K, V>, A: Allocator> Party<'k, K, V, F, 
         ensures { result ≡ locates self.now.stage }
     {
         match &self.course {
-            Course::Single(single) => single.locates(),
-            Course::Sweep(_, _, sweep) => sweep.sets_out(),
+            PartyKind::Single(single) => single.locates(),
+            PartyKind::Sweep(_, _, sweep) => sweep.sets_out(),
         }
     }
 
@@ -268,15 +268,15 @@ impl<'k, K: Drop, V: Drop, F: ComputeFn<K, V>, A: Allocator> Party<'k, K, V, F, 
     ///
     /// Constant time.
     #[inline]
-    pub fn on_start(&mut self, start: &PublishedTable) -> Event
+    pub fn on_published(&mut self, start: &PublishedTable) -> Event
         requires { locates self.old.stage ≡ true }
-        ensures within { start.now ≤ GREATEST_TABLE }
+        ensures within { start.now ≤ MAX_TABLE }
         ensures silent { result ≡ Event.Silent }
-        ensures at { self.new ≡ with_stage self.old (started_stage start.now self.old.stage) }
+        ensures at { self.new ≡ with_stage self.old (published_stage start.now self.old.stage) }
     {
         match &mut self.course {
-            Course::Single(single) => return single.on_start(start),
-            Course::Sweep(_, _, sweep) => return sweep.on_start(start),
+            PartyKind::Single(single) => return single.on_published(start),
+            PartyKind::Sweep(_, _, sweep) => return sweep.on_published(start),
         }
     }
 
@@ -288,8 +288,8 @@ impl<'k, K: Drop, V: Drop, F: ComputeFn<K, V>, A: Allocator> Party<'k, K, V, F, 
         ensures { result ≡ counts self.now.stage }
     {
         match &self.course {
-            Course::Single(single) => single.counts(),
-            Course::Sweep(_, _, _) => false,
+            PartyKind::Single(single) => single.counts(),
+            PartyKind::Sweep(_, _, _) => false,
         }
     }
 
@@ -302,8 +302,8 @@ impl<'k, K: Drop, V: Drop, F: ComputeFn<K, V>, A: Allocator> Party<'k, K, V, F, 
         ensures { TallyStep most self.old tally.old result self.new tally.new }
     {
         match &mut self.course {
-            Course::Single(single) => return single.on_tally(tally, most),
-            Course::Sweep(_, _, _) => unreachable!(),
+            PartyKind::Single(single) => return single.on_tally(tally, most),
+            PartyKind::Sweep(_, _, _) => unreachable!(),
         }
     }
 
@@ -316,8 +316,8 @@ impl<'k, K: Drop, V: Drop, F: ComputeFn<K, V>, A: Allocator> Party<'k, K, V, F, 
         ensures { BoardStep self.old (Seated got) result self.new }
     {
         match &mut self.course {
-            Course::Single(single) => return single.on_seat(got),
-            Course::Sweep(_, _, _) => unreachable!(),
+            PartyKind::Single(single) => return single.on_seat(got),
+            PartyKind::Sweep(_, _, _) => unreachable!(),
         }
     }
 
@@ -332,8 +332,8 @@ impl<'k, K: Drop, V: Drop, F: ComputeFn<K, V>, A: Allocator> Party<'k, K, V, F, 
         ensures some { IfSome result (λ _. self.new ≡ with_stage self.old (stage_unclaimed self.old.stage)) }
     {
         match &mut self.course {
-            Course::Single(single) => return single.take_range(),
-            Course::Sweep(_, _, _) => return None,
+            PartyKind::Single(single) => return single.take_range(),
+            PartyKind::Sweep(_, _, _) => return None,
         }
     }
 
@@ -347,8 +347,8 @@ impl<'k, K: Drop, V: Drop, F: ComputeFn<K, V>, A: Allocator> Party<'k, K, V, F, 
         ensures told { self.new ≡ with_stage self.old (stage_told last self.old.stage) }
     {
         match &mut self.course {
-            Course::Single(single) => return single.on_report(last),
-            Course::Sweep(_, _, _) => unreachable!(),
+            PartyKind::Single(single) => return single.on_report(last),
+            PartyKind::Sweep(_, _, _) => unreachable!(),
         }
     }
 
@@ -362,8 +362,8 @@ impl<'k, K: Drop, V: Drop, F: ComputeFn<K, V>, A: Allocator> Party<'k, K, V, F, 
         ensures { BoardStep self.old (Attempted attempt) result self.new }
     {
         match &mut self.course {
-            Course::Single(single) => return single.on_attempt(attempt),
-            Course::Sweep(_, _, _) => unreachable!(),
+            PartyKind::Single(single) => return single.on_attempt(attempt),
+            PartyKind::Sweep(_, _, _) => unreachable!(),
         }
     }
 
@@ -375,8 +375,8 @@ impl<'k, K: Drop, V: Drop, F: ComputeFn<K, V>, A: Allocator> Party<'k, K, V, F, 
         ensures { BoardStep self.old TakenBack result self.new }
     {
         match &mut self.course {
-            Course::Single(single) => return single.on_give(),
-            Course::Sweep(_, _, _) => unreachable!(),
+            PartyKind::Single(single) => return single.on_give(),
+            PartyKind::Sweep(_, _, _) => unreachable!(),
         }
     }
 
@@ -387,7 +387,7 @@ impl<'k, K: Drop, V: Drop, F: ComputeFn<K, V>, A: Allocator> Party<'k, K, V, F, 
     pub fn lose(&mut self)
         ensures { self.new ≡ lost self.old }
     {
-        if let Course::Single(single) = &mut self.course {
+        if let PartyKind::Single(single) = &mut self.course {
             single.lose();
         }
     }
@@ -400,8 +400,8 @@ impl<'k, K: Drop, V: Drop, F: ComputeFn<K, V>, A: Allocator> Party<'k, K, V, F, 
         ensures { result ≡ self.now.hash }
     {
         match &self.course {
-            Course::Single(single) => single.hash(),
-            Course::Sweep(hash, _, _) => *hash,
+            PartyKind::Single(single) => single.hash(),
+            PartyKind::Sweep(hash, _, _) => *hash,
         }
     }
 }
@@ -418,8 +418,8 @@ impl<'k, K: Ord + Drop, V: Drop, F: ComputeFn<K, V>, A: Allocator> Party<'k, K, 
         ensures step { SlotStep K.cmp F.changes self.old slot.now result self.new slot.now }
     {
         match &mut self.course {
-            Course::Single(single) => return single.on_look(slot),
-            Course::Sweep(_, _, sweep) => return sweep.on_look(slot),
+            PartyKind::Single(single) => return single.on_look(slot),
+            PartyKind::Sweep(_, _, sweep) => return sweep.on_look(slot),
         }
     }
 
@@ -437,8 +437,8 @@ impl<'k, K: Ord + Drop, V: Drop, F: ComputeFn<K, V>, A: Allocator> Party<'k, K, 
         ensures step { MoveStep self.old old.old low.old high.old result self.new old.new low.new high.new }
     {
         match &mut self.course {
-            Course::Single(single) => return single.on_move(old, low, high),
-            Course::Sweep(_, _, _) => unreachable!(),
+            PartyKind::Single(single) => return single.on_move(old, low, high),
+            PartyKind::Sweep(_, _, _) => unreachable!(),
         }
     }
 }
@@ -453,8 +453,8 @@ impl<'k, K: Ord + Drop, V: Drop, F: ComputeFn<K, V>, A: Allocator + Copy> Party<
         ensures step { SlotStep K.cmp F.changes self.old slot.old result self.new slot.new }
     {
         match &mut self.course {
-            Course::Single(single) => return single.on_bin(alloc, slot),
-            Course::Sweep(_, _, sweep) => return sweep.on_bin(slot),
+            PartyKind::Single(single) => return single.on_bin(alloc, slot),
+            PartyKind::Sweep(_, _, sweep) => return sweep.on_bin(slot),
         }
     }
 }

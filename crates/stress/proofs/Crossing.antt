@@ -8,9 +8,9 @@ use Rattle.std.specs.declared.alloc.Allocator.{Ghosts}
 use Rattle.std.specs.contracts.prelude.U64Ord.TheImpl as ord
 use Rattle.std.specs.contracts.prelude.U64PartialEq.TheImpl as eq
 use Rattle.std.specs.contracts.prelude.U64PartialOrd.TheImpl as partial
-use Rattle.flurry_map.proofs.Crossing.{map_sync}
-use Rattle.flurry_map.specs.contracts.map.HashMap as HashMap
-use Rattle.flurry_model.specs.declared.hash.KeyHasher as hasher
+use Rattle.flurry_shared.proofs.Crossing.{map_sync}
+use Rattle.flurry_shared.specs.contracts.map.HashMap as HashMap
+use Rattle.flurry_base.specs.declared.hash.KeyHasher as hasher
 
 module _ (S A : RattleType) (h : hasher.Ghosts S.Denot ℕ) (g : Ghosts A.Denot) where
   -- a shared map of numbers

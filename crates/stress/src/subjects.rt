@@ -1,7 +1,7 @@
 //! The maps that are stressed.
 
-use flurry_map::HashMap;
-use flurry_model::hash::KeyHasher;
+use flurry_base::hash::KeyHasher;
+use flurry_shared::HashMap;
 use std::alloc::{AllocError, Global};
 use std::sync::{Arc, Wait};
 use stress_judge::calls::{Call, Reply};

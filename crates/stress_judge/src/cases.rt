@@ -5,10 +5,10 @@ use crate::calls::Event;
 use std::alloc::{AllocError, Global};
 
 // The greatest number of cases that are looked at when a call ends.
-const MOST_CASES: u64 = 4096;
+const MAX_CASES: u64 = 4096;
 
 /// The number of threads that a history can have.
-pub const MOST_THREADS: u64 = 64;
+pub const MAX_THREADS: u64 = 64;
 
 /// What one order of the calls so far has led to: the value of the key, and which of the open calls the order has, by the bits of their
 /// threads.
@@ -20,7 +20,7 @@ pub struct Case {
 
 // The bit of a thread.
 fn bit(thread: u64) -> u64 {
-    1 << (thread % MOST_THREADS)
+    1 << (thread % MAX_THREADS)
 }
 
 impl Case {
@@ -123,7 +123,7 @@ impl Cases {
     ///
     /// Returns [`AllocError`] if memory for the call cannot be allocated.
     pub fn start(&mut self, event: Event) -> Result<bool, AllocError> {
-        if event.thread >= MOST_THREADS || self.open.iter().any(|o| o.thread == event.thread) {
+        if event.thread >= MAX_THREADS || self.open.iter().any(|o| o.thread == event.thread) {
             return Ok(false);
         }
         self.open.push(event)?;
@@ -142,7 +142,7 @@ impl Cases {
         let mut found: Vec<Case> = Vec::new(alloc);
         found.extend_from_slice(&self.cases)?;
         let mut left = Vec::new(alloc);
-        for index in 0..MOST_CASES {
+        for index in 0..MAX_CASES {
             let Some(case) = found.get(index as usize).copied() else {
                 self.open.retain(|open| open.thread != thread);
                 self.cases = left;

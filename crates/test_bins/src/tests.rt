@@ -6,11 +6,11 @@ ghost use Rattle.flurry_bins.specs.Chain.{entry_of};
 mod insertions;
 mod slots;
 
-use flurry_bins::bin::{Bin, Entry, ListBin, Node, Ordered, Shape, TreeBin};
-use flurry_model::hash::{
+use flurry_base::hash::{
     DefaultHashBuilder, KeyHasher, LowHashBuilder, MaxHashBuilder, ZeroHashBuilder,
 };
-use flurry_model::sizes::stride;
+use flurry_base::sizes::stride;
+use flurry_bins::bin::{Bin, Entry, ListBin, Node, Ordered, Shape, TreeBin};
 use std::fmt::Debug;
 use std::hash::{Hash, Hasher};
 use std::process::Abort;

@@ -8,7 +8,7 @@ mod quiet;
 mod sets;
 mod tables;
 
-use flurry_model::hash::{KeyHasher, LowHashBuilder};
+use flurry_base::hash::{KeyHasher, LowHashBuilder};
 use flurry_seq::SeqMap;
 use metered_alloc::Metered;
 use std::alloc::Global;
@@ -23,7 +23,7 @@ type Memory = &'static Metered<Global>;
 type NumberMap<S> = SeqMap<u64, u64, S, Memory>;
 
 // More requests than any call makes.
-const MOST_REQUESTS: u64 = 100;
+const MAX_REQUESTS: u64 = 100;
 
 // Asserts that a value is the expected one. A test with many assertions calls this, because each `assert_eq!` in its own body makes its
 // proof longer.
@@ -50,7 +50,7 @@ fn metered(rt: &impl Abort, alloc: Global) -> Memory {
 // Makes each request of a call fail in turn. The call makes at least one request, and every block is deallocated.
 fn refuse_each<C: Refused>(rt: &impl Abort, alloc: Global, call: &C) {
     let memory = metered(rt, alloc);
-    for k in 0..MOST_REQUESTS {
+    for k in 0..MAX_REQUESTS {
         let refused = call.once(rt, memory, k);
         same_at(rt, k, memory.blocks(), 0);
         if !refused {

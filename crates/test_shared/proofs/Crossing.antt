@@ -6,18 +6,29 @@ use mir.Syntax.{w64}
 use Rattle.std.proofs.Crossing.{crosses}
 use Rattle.std.proofs.Common.{ℕ}
 use Rattle.std.specs.declared.alloc.Allocator.{Ghosts}
+use Rattle.std.specs.contracts.sync.atomic.AtomicBool as AtomicBool
 use Rattle.std.specs.contracts.sync.atomic.AtomicU64 as AtomicU64
 use Rattle.std.specs.contracts.prelude.U64Ord.TheImpl as ord
 use Rattle.std.specs.contracts.prelude.U64PartialEq.TheImpl as eq
 use Rattle.std.specs.contracts.prelude.U64PartialOrd.TheImpl as partial
-use Rattle.flurry_map.proofs.Crossing.{map_sync}
-use Rattle.flurry_map.specs.contracts.map.HashMap as HashMap
-use Rattle.flurry_model.specs.declared.hash.KeyHasher as hasher
+use Rattle.flurry_shared.proofs.Crossing.{map_send, map_sync}
+use Rattle.flurry_shared.specs.contracts.map.HashMap as HashMap
+use Rattle.flurry_base.specs.declared.hash.KeyHasher as hasher
 
-module _ (S A : RattleType) (h : hasher.Ghosts S.Denot ℕ) (g : Ghosts A.Denot) (sa : IsSend A) (ya : IsSync A) (f : Frees g g.dealloc_token) where
+module _ (S A : RattleType) (h : hasher.Ghosts S.Denot ℕ) (g : Ghosts A.Denot) where
   -- a map of numbers
-  pub numbers_sync : IsSync S → IsSync (HashMap.the_row (UInt w64) (UInt w64) S A ord.ghosts eq.ghosts partial.ghosts h g)
-  numbers_sync ys = search (map_sync, sendable) depth 30
+  abbrev pub numbers : RattleType
+  numbers = HashMap.the_row (UInt w64) (UInt w64) S A ord.ghosts eq.ghosts partial.ghosts h g
+
+  module _ (sa : IsSend A) (ya : IsSync A) (f : Frees g g.dealloc_token) where
+    pub numbers_send : IsSend S → IsSend numbers
+    numbers_send ss = search (map_send, sendable) depth 30
+
+    pub numbers_sync : IsSync S → IsSync numbers
+    numbers_sync ys = search (map_sync, sendable) depth 30
+
+pub flag_sync : IsSync AtomicBool.the_row
+flag_sync = search (crosses, sendable) depth 30
 
 pub count_sync : IsSync AtomicU64.the_row
 count_sync = search (crosses, sendable) depth 30

@@ -1,4 +1,4 @@
-//! Tests of walks of the shared map, and of the calls that visit many pairs.
+//! Tests of the shared map: each call in one thread, and calls of several threads at the same time.
 #![tactic(auto)]
 
 #[cfg(test)]

@@ -1,27 +1,23 @@
-//! Tests of walks and of calls over many pairs, and what they share.
+//! Tests of the shared map, and what they share.
 
-mod beside;
-mod bulk;
-mod drops;
-mod kept;
+mod calls;
+mod order;
+mod owned;
 mod refused;
-mod views;
-mod walks;
+mod removals;
+mod rows;
+mod threads;
+mod workers;
 
-use flurry_map::HashMap;
-use flurry_map::iter::Iter;
-use flurry_model::hash::{KeyHasher, LowHashBuilder};
-use std::alloc::{AllocError, Allocator};
+use flurry_base::hash::KeyHasher;
+use flurry_shared::HashMap;
+use std::alloc::AllocError;
 use std::fmt::Debug;
 use std::process::Abort;
 use std::sync::{Arc, Wait};
-use std::test::Fail;
 
-// The greatest number of pairs that a walk of a test gives.
-const MOST_READ: u32 = 100_000;
-
-// A map of numbers, in which the hash of each key is the key.
-type Numbers = HashMap<u64, u64, LowHashBuilder>;
+// The greatest number of turns that one thread waits for another.
+const TURNS: u32 = 1_000_000;
 
 // Asserts that a value is the expected one. A test with many assertions calls this, because each `assert_eq!` in its own body makes its
 // proof longer.
@@ -34,70 +30,11 @@ fn taken(value: Option<Arc<u64>>) -> Option<u64> {
     value.map(|value| *value)
 }
 
-// Inserts the keys from `from` to `to`, without `to`, each with itself as its value. Returns for how many of them memory could not be
-// allocated.
-fn insert_all<S: KeyHasher<u64>, A: Allocator + Copy, R: Wait>(
+// Returns the number at a key, or `None` if the key is absent.
+fn number_at<K: Ord + Drop, S: KeyHasher<K>, R: Wait>(
     rt: &R,
-    map: &HashMap<u64, u64, S, A>,
-    from: u64,
-    to: u64,
-) -> u64 {
-    let mut refused = 0u64;
-    for key in from..to {
-        if map.insert(rt, key, key).is_err() {
-            refused = refused.saturating_add(1);
-        }
-    }
-    refused
-}
-
-// Returns a map of the keys below `count`, each with itself as its value and its hash.
-fn numbers<A: Allocator + Copy, R: Wait>(
-    rt: &R,
-    alloc: A,
-    count: u64,
-) -> HashMap<u64, u64, LowHashBuilder, A> {
-    let map = HashMap::with_hasher(alloc, LowHashBuilder);
-    insert_all(rt, &map, 0, count);
-    map
-}
-
-// Returns the number of pairs that an iterator gives up to its end, and the sums of their keys and of their values.
-fn read_all<A: Allocator + Copy, R: Wait>(
-    pairs: Iter<'_, R, u64, u64, A>,
-) -> Result<(u64, u64, u64), AllocError> {
-    let mut pairs = pairs;
-    let sums = read_rest(&mut pairs);
-    drop(pairs);
-    sums
-}
-
-// Returns the number of pairs that are left in an iterator, and the sums of their keys and of their values. It borrows the iterator,
-// because a body that owns it has a proof of its drop at each way out.
-fn read_rest<A: Allocator + Copy, R: Wait>(
-    pairs: &mut Iter<'_, R, u64, u64, A>,
-) -> Result<(u64, u64, u64), AllocError> {
-    let mut count = 0u64;
-    let mut keys = 0u64;
-    let mut values = 0u64;
-    for _ in 0..MOST_READ {
-        let Some((key, value)) = pairs.next()? else {
-            break;
-        };
-        count = count.saturating_add(1);
-        keys = keys.saturating_add(*key);
-        values = values.saturating_add(*value);
-    }
-    Ok((count, keys, values))
-}
-
-// Asserts that `wanted` is the number of pairs of a map, and the sums of their keys and of their values.
-fn has_sums<S: KeyHasher<u64>, A: Allocator + Copy, R: Abort + Wait>(
-    rt: &R,
-    map: &HashMap<u64, u64, S, A>,
-    wanted: (u64, u64, u64),
-) -> Result<(), Fail> {
-    same(rt, read_all(map.iter(rt))?, wanted);
-    same(rt, map.len(rt) as u64, wanted.0);
-    Ok(())
+    map: &HashMap<K, u64, S>,
+    key: &K,
+) -> Result<Option<u64>, AllocError> {
+    Ok(taken(map.get(rt, key)?))
 }

@@ -1,8 +1,8 @@
 //! Lists of maps and sets that no other thread changes, and each request for memory that making a list makes, which fails in turn.
 
-use flurry_map::HashMap;
-use flurry_model::hash::LowHashBuilder;
-use flurry_pairs::{SortedItems, SortedPairs};
+use flurry_base::hash::LowHashBuilder;
+use flurry_seq_pairs::{SortedItems, SortedPairs};
+use flurry_shared::HashMap;
 use flurry_shared_pairs::{map, map_ref, set, set_ref};
 use flurry_shared_set::HashSet;
 use metered_alloc::Metered;
@@ -13,7 +13,7 @@ use std::sync::Wait;
 use std::test::Fail;
 
 // More requests than any call makes.
-const MOST_REQUESTS: u64 = 100;
+const MAX_REQUESTS: u64 = 100;
 
 // Asserts that a value is the expected one. A test with many assertions calls this, because each `assert_eq!` in its own body makes its
 // proof longer.
@@ -116,7 +116,7 @@ fn elements_without(
 fn refused_pairs(rt: HostRuntime) -> Result<(), Fail> {
     let memory = Metered::new(rt.alloc());
     let map = three_pairs(&rt, rt.alloc())?;
-    for k in 0..MOST_REQUESTS {
+    for k in 0..MAX_REQUESTS {
         let refused = pairs_without(&rt, &memory, &map, k);
         same(&rt, memory.blocks(), 0);
         if !refused {
@@ -131,7 +131,7 @@ fn refused_pairs(rt: HostRuntime) -> Result<(), Fail> {
 fn refused_elements(rt: HostRuntime) -> Result<(), Fail> {
     let memory = Metered::new(rt.alloc());
     let set = three_elements(&rt, rt.alloc())?;
-    for k in 0..MOST_REQUESTS {
+    for k in 0..MAX_REQUESTS {
         let refused = elements_without(&rt, &memory, &set, k);
         same(&rt, memory.blocks(), 0);
         if !refused {

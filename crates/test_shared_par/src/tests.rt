@@ -5,9 +5,9 @@ mod elements;
 mod pairs;
 mod refused;
 
-use flurry_map::HashMap;
-use flurry_map::iter::Iter;
-use flurry_model::hash::KeyHasher;
+use flurry_base::hash::KeyHasher;
+use flurry_shared::HashMap;
+use flurry_shared::iter::Iter;
 use std::alloc::{AllocError, Allocator};
 use std::fmt::Debug;
 use std::process::Abort;
@@ -15,7 +15,7 @@ use std::sync::{Arc, Wait};
 use std::test::Fail;
 
 // The greatest number of pairs that a walk of a test gives.
-const MOST_READ: u32 = 10_000;
+const MAX_READ: u32 = 10_000;
 
 // Asserts that a value is the expected one. A test with many assertions calls this, because each `assert_eq!` in its own body makes its
 // proof longer.
@@ -75,7 +75,7 @@ fn read_rest<A: Allocator + Copy, R: Wait>(
     let mut count = 0u64;
     let mut keys = 0u64;
     let mut values = 0u64;
-    for _ in 0..MOST_READ {
+    for _ in 0..MAX_READ {
         let Some((key, value)) = pairs.next()? else {
             break;
         };

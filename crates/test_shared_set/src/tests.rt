@@ -7,8 +7,8 @@ mod refused;
 mod relations;
 mod views;
 
-use flurry_map::iter::Keys;
-use flurry_model::hash::LowHashBuilder;
+use flurry_base::hash::LowHashBuilder;
+use flurry_shared::iter::Keys;
 use flurry_shared_set::HashSet;
 use std::alloc::{AllocError, Allocator};
 use std::fmt::Debug;
@@ -17,7 +17,7 @@ use std::sync::Wait;
 use std::test::Fail;
 
 // The greatest number of elements that a walk of a test gives.
-const MOST_READ: u32 = 10_000;
+const MAX_READ: u32 = 10_000;
 
 // Asserts that a value is the expected one. A test with many assertions calls this, because each `assert_eq!` in its own body makes its
 // proof longer.
@@ -55,7 +55,7 @@ fn read_rest<A: Allocator + Copy, R: Wait>(
 ) -> Result<(u64, u64), AllocError> {
     let mut count = 0u64;
     let mut sum = 0u64;
-    for _ in 0..MOST_READ {
+    for _ in 0..MAX_READ {
         let Some(element) = elements.next()? else {
             break;
         };

@@ -3,14 +3,14 @@ ghost use Rattle.std.specs.Prelude.{◌≡◌, ◌<◌, ◌⊎◌, ◌||◌, ◌
 ghost use Rattle.std.specs.Option.{option_map};
 ghost use Rattle.std.specs.Arc.{arc_value};
 ghost use Rattle.flurry_bins.specs.Chain.{chain, entry_of};
-ghost use Rattle.flurry_model.specs.Given.{IsNotInserted, old_of};
+ghost use Rattle.flurry_base.specs.Given.{IsNotInserted, old_of};
 ghost use Rattle.flurry_bins.specs.Entries.{entry_at, with_entry, with_value_at, without, with_bit, IsInsertion};
-ghost use Rattle.flurry_model.specs.Greatest.{greatest};
+ghost use Rattle.flurry_base.specs.Greatest.{greatest};
 ghost use Rattle.flurry_bins.specs.Tree.{shape, inorder};
 ghost use Rattle.flurry_bins.specs.WayBound.{way_bound};
 ghost use Rattle.flurry_bins.specs.Kind.{kind_entries, kind_is_tree};
-ghost use Rattle.flurry_model.specs.BinSizes.{IsSized, IsSized-prop};
-ghost use Rattle.flurry_model.specs.declared.sizes.TheConstants.{LEAST_IN_TREE, MOST_IN_LIST, MOST_PAIRS};
+ghost use Rattle.flurry_base.specs.BinSizes.{IsSized, IsSized-prop};
+ghost use Rattle.flurry_base.specs.declared.sizes.TheConstants.{MIN_TREE_LEN, MAX_LIST_LEN, MAX_LEN};
 
 mod kind;
 mod nodes;
@@ -21,8 +21,8 @@ use super::list::{self, ListBin};
 use super::node::{BoxedNode, Link, Node};
 use super::ordered::Ordered;
 use super::tree;
-use flurry_model::given::{NotInserted, Replaced};
-use flurry_model::sizes::{LEAST_IN_TREE, MOST_IN_LIST};
+use flurry_base::given::{NotInserted, Replaced};
+use flurry_base::sizes::{MAX_LIST_LEN, MIN_TREE_LEN};
 use kind::Kind;
 use nodes::{LoneNode, NodeList, NodeTree};
 use std::alloc::{Allocator, Global};
@@ -127,7 +127,7 @@ impl<K: Ord + Drop, V: Drop, A: Allocator> Bin<K, V, A> {
     /// Turns a list of nine nodes into a tree, and leaves any other bin as it is. Constant time. Takes no memory.
     pub fn plant(&mut self)
         ensures entries { entries_of_bin self.new ≡ entries_of_bin self.old }
-        ensures kind { is_tree self.new ≡ (is_tree self.old || nat_le MOST_IN_LIST (length (entries_of_bin self.old))) }
+        ensures kind { is_tree self.new ≡ (is_tree self.old || nat_le MAX_LIST_LEN (length (entries_of_bin self.old))) }
     {
         let kind = mem::replace(&mut self.kind, Kind::Empty);
         self.kind = kind.plant();
@@ -155,14 +155,14 @@ impl<K: Ord + Drop, V: Drop, A: Allocator + Copy> Bin<K, V, A> {
         value: Arc<V, A>,
         number: u64,
     ) -> Result<Option<Replaced<K, V, A>>, NotInserted<K, V, A>>
-        requires { length (entries_of_bin self.old) < MOST_PAIRS }
+        requires { length (entries_of_bin self.old) < MAX_LEN }
         ensures ok { IfOk result (λ r.
             IsInsertion K.cmp hash key value number (old_of r) (entries_of_bin self.old) (entries_of_bin self.new)) }
         ensures key { IfOk result (λ r. IfSome r (λ it. it.key ≡ key)) }
         ensures err { IfErr result (λ n. IsNotInserted key (arc_value value) n) }
         ensures same { OnErr result (entries_of_bin self.new ≡ entries_of_bin self.old) }
         ensures kind { is_tree self.new
-            ≡ (is_tree self.old || nat_le (MOST_IN_LIST + 1) (length (entries_of_bin self.new))) }
+            ≡ (is_tree self.old || nat_le (MAX_LIST_LEN + 1) (length (entries_of_bin self.new))) }
     {
         let kind = mem::replace(&mut self.kind, Kind::Empty);
         let (kind, reply) = kind.insert(alloc, hash, key, value, number);
@@ -255,9 +255,9 @@ impl<K: Ord + Drop, V: Drop, A: Allocator> Ordered<K, V, A> for Bin<K, V, A> {
     fn put_node(&mut self, node: BoxedNode<K, V, A>)
         requires absent { let e = entry_of node.value in
             IsNone (entry_at K.cmp e.hash (arc_value e.key) (entries_of_bin self.old)) }
-        requires room { length (entries_of_bin self.old) < MOST_PAIRS }
+        requires room { length (entries_of_bin self.old) < MAX_LEN }
         ensures after { entries_of_bin self.new ≡ with_entry K.cmp (entry_of node.value) (entries_of_bin self.old) }
-        ensures kind { is_tree self.new ≡ (is_tree self.old || nat_le MOST_IN_LIST (length (entries_of_bin self.old))) }
+        ensures kind { is_tree self.new ≡ (is_tree self.old || nat_le MAX_LIST_LEN (length (entries_of_bin self.old))) }
     {
         let kind = mem::replace(&mut self.kind, Kind::Empty);
         self.kind = kind.put_node(node);
@@ -269,7 +269,7 @@ impl<K: Ord + Drop, V: Drop, A: Allocator> Ordered<K, V, A> for Bin<K, V, A> {
             ≡ entry_at K.cmp hash key.now (entries_of_bin self.old) }
         ensures after { entries_of_bin self.new ≡ without K.cmp hash key.now (entries_of_bin self.old) }
         ensures kind { is_tree self.new
-            ≡ (is_tree self.old && nat_le LEAST_IN_TREE (length (entries_of_bin self.new))) }
+            ≡ (is_tree self.old && nat_le MIN_TREE_LEN (length (entries_of_bin self.new))) }
     {
         let kind = mem::replace(&mut self.kind, Kind::Empty);
         let (kind, node) = kind.remove(hash, key);
@@ -283,9 +283,9 @@ impl<K: Ord + Drop, V: Drop, A: Allocator> Ordered<K, V, A> for Bin<K, V, A> {
         ensures low { entries_of_bin result.0 ≡ with_bit bit 0 (entries_of_bin self) }
         ensures high { entries_of_bin result.1 ≡ with_bit bit 1 (entries_of_bin self) }
         ensures low_kind { is_tree result.0
-            ≡ (is_tree self && nat_le LEAST_IN_TREE (length (entries_of_bin result.0))) }
+            ≡ (is_tree self && nat_le MIN_TREE_LEN (length (entries_of_bin result.0))) }
         ensures high_kind { is_tree result.1
-            ≡ (is_tree self && nat_le LEAST_IN_TREE (length (entries_of_bin result.1))) }
+            ≡ (is_tree self && nat_le MIN_TREE_LEN (length (entries_of_bin result.1))) }
     {
         let Bin { kind } = self;
         let (low, high) = kind.split(bit);
@@ -300,10 +300,10 @@ impl<K: Ord + Drop, V: Drop, A: Allocator> Ordered<K, V, A> for Bin<K, V, A> {
     // More than nine nodes become a tree.
     fn from_list(list: ListBin<K, V, A>) -> Self
         ensures entries { entries_of_bin result ≡ entries_of_list list }
-        ensures kind { is_tree result ≡ nat_le (MOST_IN_LIST + 1) (length (entries_of_list list)) }
+        ensures kind { is_tree result ≡ nat_le (MAX_LIST_LEN + 1) (length (entries_of_list list)) }
     {
         Bin {
-            kind: Kind::from_list(list, MOST_IN_LIST + 1),
+            kind: Kind::from_list(list, MAX_LIST_LEN + 1),
         }
     }
 }

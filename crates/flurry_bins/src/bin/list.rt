@@ -2,19 +2,19 @@
 ghost use Rattle.std.specs.Prelude.{◌≡◌, ◌+◌, ◌<◌, ◌≤◌, ◌++◌, ◌∷◌, [], length, map, reverse, MatchOption, Option, Some, None, IsSome, IsNone, IfOk, OnErr, IfErr, IfSome};
 ghost use Rattle.std.specs.Option.{option_map, option_copied};
 ghost use Rattle.std.specs.Arc.{arc_value};
-ghost use Rattle.flurry_model.specs.Given.{IsNotInserted, old_of};
+ghost use Rattle.flurry_base.specs.Given.{IsNotInserted, old_of};
 ghost use Rattle.flurry_bins.specs.Entries.{IsAscending, IsAscending-prop, AllBefore, NotBefore, list_way, entry_at, first_past, lent_bound, with_entry, with_value_at, IsInsertion};
-ghost use Rattle.flurry_model.specs.Greatest.{greatest};
+ghost use Rattle.flurry_base.specs.Greatest.{greatest};
 ghost use Rattle.flurry_bins.specs.Short.{list_way-short};
 ghost use Rattle.flurry_bins.specs.Chain.{chain, chain_from, node_chain, entry_of};
-ghost use Rattle.flurry_model.specs.declared.sizes.TheConstants.{MOST_PAIRS};
+ghost use Rattle.flurry_base.specs.declared.sizes.TheConstants.{MAX_LEN};
 
 mod retain;
 
 use super::entry::Entry;
 use super::node::{BoxedNode, Link, Node, follow};
 use super::ordered::Ordered;
-use flurry_model::given::{NotInserted, Replaced};
+use flurry_base::given::{NotInserted, Replaced};
 use std::alloc::{AllocError, Allocator, Global};
 use std::cmp::Ordering;
 use std::mem;
@@ -33,7 +33,7 @@ pub struct ListBin<K: Ord, V, A: Allocator = Global> {
     len: usize,
     ghost ascending: { IsAscending K.cmp (chain head) } by { IsAscending-prop K.cmp (chain head) },
     ghost counted: { len ≡ length (chain head) },
-    ghost short: { len ≤ MOST_PAIRS },
+    ghost short: { len ≤ MAX_LEN },
 }
 
 impl<K: Ord, V, A: Allocator> ListBin<K, V, A> {
@@ -56,7 +56,7 @@ impl<K: Ord, V, A: Allocator> ListBin<K, V, A> {
     pub(crate) fn from_chain(head: Link<K, V, A>, len: usize) -> Self
         requires ascending { IsAscending K.cmp (chain head) }
         requires counted { len ≡ length (chain head) }
-        requires short { len ≤ MOST_PAIRS }
+        requires short { len ≤ MAX_LEN }
         ensures { chain result.head ≡ chain head }
     {
         ListBin { head, len }
@@ -65,7 +65,7 @@ impl<K: Ord, V, A: Allocator> ListBin<K, V, A> {
     pub(crate) fn into_chain(self) -> (Link<K, V, A>, usize)
         ensures head { chain result.0 ≡ chain self.head }
         ensures len { result.1 ≡ length (chain self.head) }
-        ensures short { result.1 ≤ MOST_PAIRS }
+        ensures short { result.1 ≤ MAX_LEN }
         ensures ascending { IsAscending K.cmp (chain self.head) }
     {
         let ListBin { head, len } = self;
@@ -184,7 +184,7 @@ pub(crate) fn find_in<'a, K: Ord, V, A: Allocator>(
     key: &K,
 ) -> (Option<&'a Entry<K, V, A>>, u64)
     requires ascending { IsAscending K.cmp (chain_from first) }
-    requires short { length (chain_from first) ≤ MOST_PAIRS }
+    requires short { length (chain_from first) ≤ MAX_LEN }
     ensures found { option_copied result.0 ≡ entry_at K.cmp hash key.now (chain_from first.entry) }
     ensures visits { result.1 ≡ length (list_way K.cmp hash key.now (chain_from first.entry)) }
 {
@@ -244,7 +244,7 @@ impl<K: Ord + Drop, V: Drop, A: Allocator + Copy> ListBin<K, V, A> {
         value: Arc<V, A>,
         number: u64,
     ) -> Result<Option<Replaced<K, V, A>>, NotInserted<K, V, A>>
-        requires { length (entries_of_list self.old) < MOST_PAIRS }
+        requires { length (entries_of_list self.old) < MAX_LEN }
         ensures ok { IfOk result (λ r.
             IsInsertion K.cmp hash key value number (old_of r) (entries_of_list self.old) (entries_of_list self.new)) }
         ensures key { IfOk result (λ r. IfSome r (λ it. it.key ≡ key)) }
@@ -328,7 +328,7 @@ impl<K: Ord + Drop, V: Drop, A: Allocator> Ordered<K, V, A> for ListBin<K, V, A>
     fn put_node(&mut self, node: BoxedNode<K, V, A>)
         requires absent { let e = entry_of node.value in
             IsNone (entry_at K.cmp e.hash (arc_value e.key) (entries_of_list self.old)) }
-        requires room { length (entries_of_list self.old) < MOST_PAIRS }
+        requires room { length (entries_of_list self.old) < MAX_LEN }
         ensures { entries_of_list self.new ≡ with_entry K.cmp (entry_of node.value) (entries_of_list self.old) }
     {
         let entry = node.entry();

@@ -2,12 +2,12 @@
 ghost use Rattle.std.specs.Prelude.{◌≡◌, IfOk, IfErr};
 ghost use Rattle.std.specs.Arc.{arc_value};
 ghost use Rattle.flurry_bins.specs.Chain.{chain, chain_from, entry_of, with_entry};
-ghost use Rattle.flurry_model.specs.Given.{IsNotInserted};
+ghost use Rattle.flurry_base.specs.Given.{IsNotInserted};
 ghost use Rattle.flurry_bins.specs.Entries.{IsEntryOf, with_hash, with_value};
 ghost use Rattle.flurry_bins.specs.Tree.{shape, shape_from};
 
 use super::entry::Entry;
-use flurry_model::given::{Given, NotInserted};
+use flurry_base::given::{Given, NotInserted};
 use std::alloc::{AllocError, Allocator, Global};
 use std::mem;
 use std::sync::Arc;

@@ -5,7 +5,7 @@ ghost use Rattle.std.specs.Arc.{arc_value};
 ghost use Rattle.flurry_bins.specs.Entries.{IsAscending, entry_at, first_past, lent_bound, with_entry, with_value_at, without, with_bit};
 ghost use Rattle.std.specs.declared.sync.Arc.{Arc};
 ghost use Rattle.flurry_bins.specs.declared.bin.entry.Entry.{Entry};
-ghost use Rattle.flurry_model.specs.declared.sizes.TheConstants.{MOST_PAIRS};
+ghost use Rattle.flurry_base.specs.declared.sizes.TheConstants.{MAX_LEN};
 
 use super::entry::Entry;
 use std::alloc::Allocator;
@@ -77,7 +77,7 @@ pub trait Ordered<K: Ord, V, A: Allocator>: Sized {
     fn put_node(&mut self, node: Self::Boxed)
         requires absent { let e = entry_in node in
             IsNone (entry_at K.cmp e.hash (arc_value e.key) (entries self.old)) }
-        requires room { length (entries self.old) < MOST_PAIRS }
+        requires room { length (entries self.old) < MAX_LEN }
         ensures { entries self.new ≡ with_entry K.cmp (entry_in node) (entries self.old) };
 
     /// Removes the node of a hash and a key, and returns it, or `None` if there is none. As many steps as a look-up.
@@ -102,7 +102,7 @@ pub trait Ordered<K: Ord, V, A: Allocator>: Sized {
 
     ghost ascending: { (s : Self) → IsAscending K.cmp (entries s) };
 
-    ghost short: { (s : Self) → length (entries s) ≤ MOST_PAIRS };
+    ghost short: { (s : Self) → length (entries s) ≤ MAX_LEN };
 
     ghost met_bounded: { (s : Self) (h : ℕ) (k : K) → length (way s h k) ≤ most_met (length (entries s)) };
 }

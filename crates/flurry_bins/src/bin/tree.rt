@@ -2,24 +2,24 @@
 ghost use Rattle.std.specs.Prelude.{◌≡◌, ◌^◌, ◌*◌, ◌+◌, ◌<◌, ◌≤◌, ◌++◌, length, map, Option, Some, None, IfSome, IsSome, IsNone, IfOk, OnErr, IfErr};
 ghost use Rattle.std.specs.Option.{option_map, option_copied};
 ghost use Rattle.std.specs.Arc.{arc_value};
-ghost use Rattle.flurry_model.specs.Given.{IsNotInserted, old_of};
+ghost use Rattle.flurry_base.specs.Given.{IsNotInserted, old_of};
 ghost use Rattle.flurry_bins.specs.Entries.{IsAscending, IsAscending-prop, AllHashed, last_of, entry_at, first_past, lent_bound, with_entry, with_value_at, IsInsertion};
 ghost use Rattle.flurry_bins.specs.Chain.{chain, entry_of, colour_of};
-ghost use Rattle.flurry_model.specs.Greatest.{greatest};
+ghost use Rattle.flurry_base.specs.Greatest.{greatest};
 ghost use Rattle.flurry_bins.specs.Balance.{red_root, red_over_red, leans_left, leans_right, with_black_root, balance_left, balance_right, balanced_left, balanced_right, put_tree};
 ghost use Rattle.flurry_bins.specs.Tree as tree;
 ghost use Rattle.flurry_bins.specs.Tree.{shape, shape_from, node_shape, inorder, IsRedBlack, IsRedBlack-prop, black_height, tree_way};
 ghost use Rattle.flurry_bins.specs.WayBound.{way_bound, way_within};
 ghost use Rattle.flurry_bins.specs.Rewrite.{tree_with_value, tree_value};
 ghost use Rattle.flurry_bins.specs.TreeInsertion.{IsTreeInsertion};
-ghost use Rattle.flurry_model.specs.declared.sizes.TheConstants.{MOST_PAIRS};
+ghost use Rattle.flurry_base.specs.declared.sizes.TheConstants.{MAX_LEN};
 
 use super::entry::Entry;
 use super::list::{ListBin, detach_tail, prepend};
 use super::node::{BoxedNode, Colour, Link, Node, follow};
 use super::ordered::Ordered;
 use super::removal::remove_in;
-use flurry_model::given::{NotInserted, Replaced};
+use flurry_base::given::{NotInserted, Replaced};
 use std::alloc::{AllocError, Allocator, Global};
 use std::cmp::Ordering;
 use std::sync::Arc;
@@ -39,7 +39,7 @@ pub struct TreeBin<K: Ord, V, A: Allocator = Global> {
     ghost ascending: { IsAscending K.cmp (inorder (shape root)) } by { IsAscending-prop K.cmp (inorder (shape root)) },
     ghost balanced: { IsRedBlack (shape root) } by { IsRedBlack-prop (shape root) },
     ghost counted: { len ≡ length (inorder (shape root)) },
-    ghost short: { len ≤ MOST_PAIRS },
+    ghost short: { len ≤ MAX_LEN },
 }
 
 // The entry at a place in the tree below a node, and the number of nodes that were visited.
@@ -49,7 +49,7 @@ pub(crate) fn find_in<'a, K: Ord, V, A: Allocator>(
     key: &K,
 ) -> (Option<&'a Entry<K, V, A>>, u64)
     requires ascending { IsAscending K.cmp (inorder (shape_from root)) }
-    requires short { length (inorder (shape_from root)) ≤ MOST_PAIRS }
+    requires short { length (inorder (shape_from root)) ≤ MAX_LEN }
     ensures found { option_copied result.0 ≡ entry_at K.cmp hash key.now (inorder (shape_from root.entry)) }
     ensures visits { result.1 ≡ length (tree_way K.cmp hash key.now (shape_from root.entry)) }
 {
@@ -397,7 +397,7 @@ impl<K: Ord + Drop, V: Drop, A: Allocator + Copy> TreeBin<K, V, A> {
         value: Arc<V, A>,
         number: u64,
     ) -> Result<Option<Replaced<K, V, A>>, NotInserted<K, V, A>>
-        requires { length (entries_of_tree self.old) < MOST_PAIRS }
+        requires { length (entries_of_tree self.old) < MAX_LEN }
         ensures ok { IfOk result (λ r.
             IsInsertion K.cmp hash key value number (old_of r) (entries_of_tree self.old) (entries_of_tree self.new)) }
         ensures key { IfOk result (λ r. IfSome r (λ it. it.key ≡ key)) }
@@ -513,7 +513,7 @@ impl<K: Ord + Drop, V: Drop, A: Allocator> Ordered<K, V, A> for TreeBin<K, V, A>
     fn put_node(&mut self, node: BoxedNode<K, V, A>)
         requires absent { let e = entry_of node.value in
             IsNone (entry_at K.cmp e.hash (arc_value e.key) (entries_of_tree self.old)) }
-        requires room { length (entries_of_tree self.old) < MOST_PAIRS }
+        requires room { length (entries_of_tree self.old) < MAX_LEN }
         ensures { entries_of_tree self.new ≡ with_entry K.cmp (entry_of node.value) (entries_of_tree self.old) }
     {
         put_in(&mut self.root, node);

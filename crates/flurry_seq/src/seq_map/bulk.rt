@@ -1,10 +1,10 @@
 //! Owned maps and lists of pairs.
 ghost use Rattle.std.specs.Prelude.{◌≡◌, [], ◌<◌, ◌+◌, ◌++◌, List, length, OnOk, OnErr, IfOk, Ok};
-ghost use Rattle.flurry_model.specs.FiniteMap.{IsFiniteMap, with_all};
+ghost use Rattle.flurry_base.specs.FiniteMap.{IsFiniteMap, with_all};
 ghost use Rattle.flurry_seq.specs.Growth.{bins_for, IsTableFrom, HasRoom};
 
 use super::SeqMap;
-use flurry_model::hash::KeyHasher;
+use flurry_base::hash::KeyHasher;
 use std::alloc::{AllocError, Allocator};
 
 impl<K: Ord + Drop, V: Drop, S: KeyHasher<K>, A: Allocator + Copy> SeqMap<K, V, S, A> {

@@ -1,15 +1,15 @@
 //! The table of an owned map: how it is made, and how it grows.
 ghost use Rattle.std.specs.Prelude.{◌≡◌, ◌⊎◌, [], ◌<◌, ◌≤◌, ◌+◌, ◌*◌, ◌^◌, length, OnOk, OnErr, IfOk, IsTrue, ◌==◌, if◌then◌else◌};
-ghost use Rattle.flurry_model.specs.FiniteMap.{IsFiniteMap};
-ghost use Rattle.flurry_model.specs.Sizes.{wanted_of, threshold_of, IsOnTheWay, IsGrown};
+ghost use Rattle.flurry_base.specs.FiniteMap.{IsFiniteMap};
+ghost use Rattle.flurry_base.specs.Sizes.{wanted_of, threshold_of, IsOnTheWay, IsGrown};
 ghost use Rattle.flurry_seq.specs.Growth.{IsTableAfter};
 ghost use Rattle.flurry_seq.specs.Invariant.{IsTableSize};
 ghost use Rattle.flurry_seq.specs.Contents.{contents, SamePairs, asked_for, first_bins, IsLeftByReserve};
-ghost use Rattle.flurry_model.specs.declared.sizes.TheConstants.{GREATEST_TABLE, LEAST_FOR_TREES, LONG_LIST};
+ghost use Rattle.flurry_base.specs.declared.sizes.TheConstants.{MAX_TABLE, MIN_TREEIFY_BINS, TREEIFY_LEN};
 
 use super::SeqMap;
-use flurry_model::hash::KeyHasher;
-use flurry_model::sizes::{MOST_BINS, threshold, wanted};
+use flurry_base::hash::KeyHasher;
+use flurry_base::sizes::{MAX_BINS, threshold, wanted};
 use std::alloc::{AllocError, Allocator};
 
 impl<K: Ord + Drop, V: Drop, S: KeyHasher<K>, A: Allocator> SeqMap<K, V, S, A> {
@@ -20,7 +20,7 @@ impl<K: Ord + Drop, V: Drop, S: KeyHasher<K>, A: Allocator> SeqMap<K, V, S, A> {
         ensures bins { result ≡ self.now.bins }
         ensures ascend { IsFiniteMap K.cmp self.now.pairs }
         ensures size { IsTableSize result }
-        ensures most { result ≤ 2 ^ GREATEST_TABLE }
+        ensures most { result ≤ 2 ^ MAX_TABLE }
     {
         self.table.len()
     }
@@ -53,7 +53,7 @@ impl<K: Ord + Drop, V: Drop, S: KeyHasher<K>, A: Allocator + Copy> SeqMap<K, V, 
 
     /// Grows the table so that `additional` more pairs fit. The number of bins asked for is [`wanted`] of the length plus `additional`, a
     /// sum that saturates at `usize::MAX`. If there is no table, one with that number of bins is made first. The table is then doubled
-    /// until its [`threshold`] is at least that number, or it has [`MOST_BINS`] bins.
+    /// until its [`threshold`] is at least that number, or it has [`MAX_BINS`] bins.
     ///
     /// Each doubling moves every pair.
     ///
@@ -98,7 +98,7 @@ impl<K: Ord + Drop, V: Drop, S: KeyHasher<K>, A: Allocator + Copy> SeqMap<K, V, 
     // Enlarges the table if that is due after a new key was added; `asks` says whether the key's bin asks for it.
     pub(super) fn grow(&mut self, asks: bool)
         requires table { 0 < self.old.bins }
-        requires asks { IsTrue asks → (self.old.bins < LEAST_FOR_TREES) × (LONG_LIST < length self.old.pairs) }
+        requires asks { IsTrue asks → (self.old.bins < MIN_TREEIFY_BINS) × (TREEIFY_LEN < length self.old.pairs) }
         ensures same { SamePairs self.old self.new }
         ensures bins { IsTableAfter self.old.bins (length self.new.pairs) self.new.bins }
     {
@@ -108,14 +108,14 @@ impl<K: Ord + Drop, V: Drop, S: KeyHasher<K>, A: Allocator + Copy> SeqMap<K, V, 
         self.grow_while_full();
     }
 
-    // Doubles the table while its threshold is below `least`, and it has fewer than `MOST_BINS` bins.
+    // Doubles the table while its threshold is below `least`, and it has fewer than `MAX_BINS` bins.
     fn grow_to(&mut self, least: usize) -> Result<(), AllocError>
         requires { 0 < self.old.bins }
         ensures same { SamePairs self.old self.new }
         ensures way { IsOnTheWay self.old.bins least self.new.bins }
-        ensures ok { OnOk result ((least ≤ threshold_of self.new.bins) ⊎ (2 ^ GREATEST_TABLE ≤ self.new.bins)) }
+        ensures ok { OnOk result ((least ≤ threshold_of self.new.bins) ⊎ (2 ^ MAX_TABLE ≤ self.new.bins)) }
     {
-        while threshold(self.capacity()) < least && self.capacity() < MOST_BINS {
+        while threshold(self.capacity()) < least && self.capacity() < MAX_BINS {
             self.double()?;
         }
         Ok(())
@@ -127,7 +127,7 @@ impl<K: Ord + Drop, V: Drop, S: KeyHasher<K>, A: Allocator + Copy> SeqMap<K, V, 
         ensures same { SamePairs self.old self.new }
         ensures way { IsOnTheWay self.old.bins (length self.old.pairs + 1) self.new.bins }
     {
-        while self.len() >= threshold(self.capacity()) && self.capacity() < MOST_BINS {
+        while self.len() >= threshold(self.capacity()) && self.capacity() < MAX_BINS {
             if self.double().is_err() {
                 return;
             }
@@ -137,7 +137,7 @@ impl<K: Ord + Drop, V: Drop, S: KeyHasher<K>, A: Allocator + Copy> SeqMap<K, V, 
     // Moves the pairs to a table of twice as many bins.
     fn double(&mut self) -> Result<(), AllocError>
         requires table { 0 < self.old.bins }
-        requires less { self.old.bins < 2 ^ GREATEST_TABLE }
+        requires less { self.old.bins < 2 ^ MAX_TABLE }
         ensures ok { OnOk result (self.new ≡ contents self.old.pairs (2 * self.old.bins) self.old.hasher) }
         ensures err { OnErr result (self.new ≡ self.old) }
     {

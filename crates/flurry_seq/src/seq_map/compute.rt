@@ -3,13 +3,13 @@ ghost use Rattle.std.specs.Prelude.{◌≡◌, ◌<◌, ◌+◌, OnErr, IfSome, 
 ghost use Rattle.std.specs.Option.{option_map, ForSome};
 ghost use Rattle.std.specs.Arc.{arc_value};
 ghost use Rattle.std.specs.Borrow.{Bor};
-ghost use Rattle.flurry_model.specs.FiniteMap.{IsFiniteMap, pair_at, value_at, with_pair, without};
+ghost use Rattle.flurry_base.specs.FiniteMap.{IsFiniteMap, pair_at, value_at, with_pair, without};
 ghost use Rattle.flurry_seq.specs.Callable.{IsCallableAt};
 ghost use Rattle.flurry_seq.specs.Contents.{with_pairs};
 
 use super::SeqMap;
-use flurry_insertion::table::two_owners;
-use flurry_model::hash::KeyHasher;
+use flurry_base::hash::KeyHasher;
+use flurry_bins_insertion::table::new_arc_pair;
 use std::alloc::{AllocError, Allocator};
 use std::sync::Arc;
 
@@ -75,7 +75,7 @@ impl<K: Ord + Drop, V: Drop, S: KeyHasher<K>, A: Allocator + Copy> SeqMap<K, V, 
             None => return Ok(None),
         };
         match computed {
-            Some(value) => match two_owners(*self.allocator(), value) {
+            Some(value) => match new_arc_pair(*self.allocator(), value) {
                 Ok((value, answer)) => {
                     let _ = self.swap_value(hash, key, value);
                     Ok(Some(answer))

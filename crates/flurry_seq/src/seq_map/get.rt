@@ -2,11 +2,11 @@
 ghost use Rattle.std.specs.Prelude.{◌≡◌, ◌<◌, ◌+◌, Option, Some, None, is_some};
 ghost use Rattle.std.specs.Option.{option_map};
 ghost use Rattle.std.specs.Arc.{arc_value};
-ghost use Rattle.flurry_model.specs.FiniteMap.{IsFiniteMap, pair_at, value_at};
+ghost use Rattle.flurry_base.specs.FiniteMap.{IsFiniteMap, pair_at, value_at};
 
 use super::SeqMap;
+use flurry_base::hash::KeyHasher;
 use flurry_bins::bin::Entry;
-use flurry_model::hash::KeyHasher;
 use std::alloc::Allocator;
 use std::sync::Arc;
 

@@ -3,16 +3,16 @@ ghost use Rattle.std.specs.Prelude.{◌≡◌, ◌<◌, ◌+◌, length, OnOk, O
 ghost use Rattle.std.specs.Option.{option_map};
 ghost use Rattle.std.specs.Arc.{arc_value};
 ghost use Rattle.flurry_bins.specs.Chain.{entry_of};
-ghost use Rattle.flurry_model.specs.FiniteMap.{IsFiniteMap, pair_at, value_at, with_pair};
+ghost use Rattle.flurry_base.specs.FiniteMap.{IsFiniteMap, pair_at, value_at, with_pair};
 ghost use Rattle.flurry_seq.specs.Growth.{IsTableAfter};
 ghost use Rattle.flurry_seq.specs.Contents.{first_bins};
-ghost use Rattle.flurry_model.specs.declared.sizes.TheConstants.{FIRST_BINS, LEAST_FOR_TREES, LONG_LIST, MOST_PAIRS};
+ghost use Rattle.flurry_base.specs.declared.sizes.TheConstants.{FIRST_BINS, MIN_TREEIFY_BINS, TREEIFY_LEN, MAX_LEN};
 
 use super::SeqMap;
+use flurry_base::TryInsertError;
+use flurry_base::hash::KeyHasher;
+use flurry_base::sizes::{FIRST_BINS, MAX_LEN};
 use flurry_bins::bin::{Entry, Node};
-use flurry_model::TryInsertError;
-use flurry_model::hash::KeyHasher;
-use flurry_model::sizes::{FIRST_BINS, MOST_PAIRS};
 use std::alloc::{AllocError, Allocator};
 use std::sync::Arc;
 
@@ -31,7 +31,7 @@ impl<K: Ord + Drop, V: Drop, S: KeyHasher<K>, A: Allocator + Copy> SeqMap<K, V, 
     /// # Errors
     ///
     /// Returns [`AllocError`] if memory for the pair or for a first table cannot be allocated, or if the key is new and the map has
-    /// [`MOST_PAIRS`] pairs. The map is unchanged, and the key and the value are dropped.
+    /// [`MAX_LEN`] pairs. The map is unchanged, and the key and the value are dropped.
     pub fn insert(&mut self, key: K, value: V) -> Result<Option<Arc<V, A>>, AllocError>
         ensures old { IfOk result (λ old. option_map arc_value old ≡ value_at K.cmp self.old.pairs key) }
         ensures pairs { OnOk result (self.new.pairs ≡ with_pair K.cmp self.old.pairs key value) }
@@ -43,11 +43,11 @@ impl<K: Ord + Drop, V: Drop, S: KeyHasher<K>, A: Allocator + Copy> SeqMap<K, V, 
         ensures ascend { IsFiniteMap K.cmp self.old.pairs }
     {
         let hash = self.hash_of(&key);
-        if self.capacity() == 0 || self.len() == MOST_PAIRS {
+        if self.capacity() == 0 || self.len() == MAX_LEN {
             return self.look_and_insert(hash, key, value);
         }
         let value = Arc::new(*self.allocator(), value)?;
-        self.insert_in_table(hash, key, value)
+        self.insert_pair_in_bin(hash, key, value)
     }
 
     // Sets the value of a key whose hash is `hash`, when there may be no table or no room. Looks for the key before it allocates memory.
@@ -76,7 +76,7 @@ impl<K: Ord + Drop, V: Drop, S: KeyHasher<K>, A: Allocator + Copy> SeqMap<K, V, 
     }
 
     // Sets the value of a key whose hash is `hash`, when there is a table and room, in one pass down the key's bin.
-    fn insert_in_table(
+    fn insert_pair_in_bin(
         &mut self,
         hash: u64,
         key: K,
@@ -84,7 +84,7 @@ impl<K: Ord + Drop, V: Drop, S: KeyHasher<K>, A: Allocator + Copy> SeqMap<K, V, 
     ) -> Result<Option<Arc<V, A>>, AllocError>
         requires hash { hash ≡ S.hash_of self.old.hasher key }
         requires table { 0 < self.old.bins }
-        requires room { length self.old.pairs < MOST_PAIRS }
+        requires room { length self.old.pairs < MAX_LEN }
         ensures old { IfOk result (λ old. option_map arc_value old ≡ value_at K.cmp self.old.pairs key) }
         ensures pairs { OnOk result (self.new.pairs ≡ with_pair K.cmp self.old.pairs key (arc_value value)) }
         ensures hasher { self.new.hasher ≡ self.old.hasher }
@@ -109,8 +109,8 @@ impl<K: Ord + Drop, V: Drop, S: KeyHasher<K>, A: Allocator + Copy> SeqMap<K, V, 
     /// # Errors
     ///
     /// Returns [`AllocError`] if memory for the pair's node or for a first table cannot be allocated, or if the key is new and the map has
-    /// [`MOST_PAIRS`] pairs. The map is unchanged.
-    pub fn insert_shared(
+    /// [`MAX_LEN`] pairs. The map is unchanged.
+    pub fn insert_arc(
         &mut self,
         key: Arc<K, A>,
         value: Arc<V, A>,
@@ -146,7 +146,7 @@ impl<K: Ord + Drop, V: Drop, S: KeyHasher<K>, A: Allocator + Copy> SeqMap<K, V, 
     ///
     /// # Errors
     ///
-    /// Returns [`AllocError`] if memory for a first table cannot be allocated, or if the key is new and the map has [`MOST_PAIRS`] pairs.
+    /// Returns [`AllocError`] if memory for a first table cannot be allocated, or if the key is new and the map has [`MAX_LEN`] pairs.
     /// The map is unchanged, and the node is dropped.
     pub fn insert_node(
         &mut self,
@@ -249,12 +249,12 @@ impl<K: Ord + Drop, V: Drop, S: KeyHasher<K>, A: Allocator + Copy> SeqMap<K, V, 
             OnOk result (self.new.pairs ≡ with_pair K.cmp self.old.pairs (arc_value e.key) (arc_value e.value)) }
         ensures bins { OnOk result (self.new.bins ≡ first_bins self.old.bins FIRST_BINS) }
         ensures asks { IfOk result (λ asks. IsTrue asks
-            → (self.new.bins < LEAST_FOR_TREES) × (LONG_LIST < length self.new.pairs)) }
+            → (self.new.bins < MIN_TREEIFY_BINS) × (TREEIFY_LEN < length self.new.pairs)) }
         ensures table { OnOk result (0 < self.new.bins) }
         ensures hasher { self.new.hasher ≡ self.old.hasher }
         ensures err { OnErr result (self.new ≡ self.old) }
     {
-        if self.len == MOST_PAIRS {
+        if self.len == MAX_LEN {
             return Err(AllocError);
         }
         self.ensure_table(FIRST_BINS)?;

@@ -1,9 +1,9 @@
 //! Keeping some of the pairs of an owned map.
-ghost use Rattle.flurry_model.specs.FiniteMap.{IsFiniteMap};
+ghost use Rattle.flurry_base.specs.FiniteMap.{IsFiniteMap};
 ghost use Rattle.flurry_seq.specs.Retain.{Retains};
 
 use super::SeqMap;
-use flurry_model::hash::KeyHasher;
+use flurry_base::hash::KeyHasher;
 use std::alloc::Allocator;
 
 impl<K: Ord + Drop, V: Drop, S: KeyHasher<K>, A: Allocator> SeqMap<K, V, S, A> {

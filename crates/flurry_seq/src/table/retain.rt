@@ -2,7 +2,7 @@
 ghost use Rattle.std.specs.Prelude.{◌≡◌, ◌≤◌, length};
 ghost use Rattle.flurry_seq.specs.Table.{all_pairs};
 ghost use Rattle.flurry_seq.specs.Retain.{KeepsBins};
-ghost use Rattle.flurry_model.specs.declared.sizes.TheConstants.{MOST_PAIRS};
+ghost use Rattle.flurry_base.specs.declared.sizes.TheConstants.{MAX_LEN};
 
 use super::Table;
 use flurry_bins::bin::Ordered;
@@ -12,7 +12,7 @@ impl<K: Ord + Drop, V: Drop, A: Allocator> Table<K, V, A> {
     // Keeps the entries for whose key and value `keep` returns `true`, and returns their number.
     pub(crate) fn retain<F: FnMut(&K, &V) -> bool>(&mut self, keep: &mut F) -> usize
         requires callable { F.IsAlwaysCallable keep.old }
-        requires few { length (all_pairs self.old) ≤ MOST_PAIRS }
+        requires few { length (all_pairs self.old) ≤ MAX_LEN }
         ensures kept { KeepsBins F.step keep.old self.old self.new keep.new }
         ensures len { result ≡ length (all_pairs self.new) }
     {

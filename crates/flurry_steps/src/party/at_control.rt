@@ -1,19 +1,19 @@
 //! The steps of a call at the control.
 ghost use Rattle.std.specs.Prelude.{◌≡◌, ◌<◌, ◌≤◌, None};
-ghost use Rattle.flurry_control.specs.Control.{after_count, advice_of, after_publish};
-ghost use Rattle.flurry_calls.specs.Outcome.{OutcomeReply};
+ghost use Rattle.flurry_steps_control.specs.Control.{after_count, advice_of, after_publish};
+ghost use Rattle.flurry_steps_sweep.specs.Outcome.{OutcomeReply};
 ghost use Rattle.flurry_steps.specs.Party.{ResumeIsReady, IsDecided, GrowForIsReady, StageIsReady, TaskIsReady, IsAtControl, AtLocate, AtBegin, AtGrow, AtHelp, GivesBack, AtReserve, reply_for};
 ghost use Rattle.flurry_steps.specs.PartyControl.{StageAtControl, stage_advised, event_published};
-ghost use Rattle.flurry_calls.specs.OutcomeView.{outcome_of};
+ghost use Rattle.flurry_steps_sweep.specs.OutcomeView.{outcome_of};
 ghost use Rattle.flurry_steps.specs.PartyView.{resume_of, stage_of, task_of, grow_for_of, sought_of};
-ghost use Rattle.flurry_model.specs.declared.sizes.TheConstants.{GREATEST_TABLE};
+ghost use Rattle.flurry_base.specs.declared.sizes.TheConstants.{MAX_TABLE};
 
-use super::call::{Sought, Task};
+use super::call::{AnswerForm, Task};
 use super::stage::{GrowFor, Help, Resume, Stage};
 use super::{Event, Reply};
-use flurry_control::{Advice, BeginOutcome, Control, Room, wanted_table};
-use flurry_model::sizes::FIRST_TABLE;
-use flurry_slots::ComputeFn;
+use flurry_base::sizes::FIRST_TABLE;
+use flurry_bins_slots::ComputeFn;
+use flurry_steps_control::{Advice, BeginOutcome, Control, Room, wanted_table};
 use std::alloc::Allocator;
 
 // Does the step of a call that is at the control, and has helped the growth from `helped` last. Returns the stage after it, and what the
@@ -48,13 +48,13 @@ pub(super) fn step_control<'k, K: Drop, V: Drop, F: ComputeFn<K, V>, A: Allocato
 }
 
 // The reply of a call that looks for `sought` if the key is absent.
-pub(super) fn absent_reply<K, V, A: Allocator>(sought: Sought) -> Reply<K, V, A>
+pub(super) fn absent_reply<K, V, A: Allocator>(sought: AnswerForm) -> Reply<K, V, A>
     ensures { outcome_of result ≡ OutcomeReply (reply_for (sought_of sought) None) }
 {
     match sought {
-        Sought::Value => Reply::Value(None),
-        Sought::Pair => Reply::Pair(None),
-        Sought::Presence => Reply::Contains(false),
+        AnswerForm::Value => Reply::Value(None),
+        AnswerForm::Pair => Reply::Pair(None),
+        AnswerForm::Presence => Reply::Contains(false),
     }
 }
 
@@ -144,7 +144,7 @@ fn begin<'k, K, V, F: ComputeFn<K, V>, A: Allocator, R: Room>(
     control: &mut Control,
     room: &mut R,
 ) -> (Stage<'k, K, V, F, A>, Event)
-    requires table { table ≤ GREATEST_TABLE }
+    requires table { table ≤ MAX_TABLE }
     requires decided { IsDecided (outcome_of reply) }
     ensures ready { StageIsReady F.can_change (stage_of result.0) }
     ensures step { StageAtControl {K = K} {F = F} R.place_gives processors None
@@ -167,7 +167,7 @@ fn grow<'k, K: Drop, V: Drop, F: ComputeFn<K, V>, A: Allocator, R: Room>(
     control: &mut Control,
     room: &mut R,
 ) -> (Stage<'k, K, V, F, A>, Event)
-    requires table { wanted ≤ GREATEST_TABLE }
+    requires table { wanted ≤ MAX_TABLE }
     requires decided { GrowForIsReady (grow_for_of growing) }
     ensures ready { StageIsReady F.can_change (stage_of result.0) }
     ensures step { StageAtControl {K = K} {F = F} R.place_gives processors None
@@ -194,7 +194,7 @@ fn publish<'k, K, V, F: ComputeFn<K, V>, A: Allocator>(
     after: Resume<'k, K, V, F, A>,
     control: &mut Control,
 ) -> (Stage<'k, K, V, F, A>, Event)
-    requires table { table < GREATEST_TABLE }
+    requires table { table < MAX_TABLE }
     requires callable { ResumeIsReady F.can_change (resume_of after) }
     ensures ready { StageIsReady F.can_change (stage_of result.0) }
     ensures stage { stage_of result.0 ≡ AtHelp (GivesBack table) (resume_of after.entry) }

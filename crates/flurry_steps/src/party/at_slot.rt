@@ -1,31 +1,31 @@
 //! The steps of a call at a bin.
 ghost use Rattle.std.specs.Prelude.{◌≡◌, ◌+◌, ◌-◌, ◌<◌, ◌≤◌, ◌⊎◌, Some, IfOk, OnErr};
-ghost use Rattle.flurry_model.specs.Given.{given_of};
-ghost use Rattle.flurry_slots.specs.LiveView.{view_of_inserted, view_of_added, outcome};
+ghost use Rattle.flurry_base.specs.Given.{given_of};
+ghost use Rattle.flurry_bins_slots.specs.LiveView.{view_of_inserted, view_of_added, outcome};
 ghost use Rattle.flurry_bins.specs.PlainEntries.{numbered_pair};
-ghost use Rattle.flurry_slots.specs.Slot.{IsSlot, IsUnborn, LiesIn};
-ghost use Rattle.flurry_calls.specs.Outcome.{OutcomeReply};
+ghost use Rattle.flurry_bins_slots.specs.Slot.{IsSlot, IsUnborn, LiesIn};
+ghost use Rattle.flurry_steps_sweep.specs.Outcome.{OutcomeReply};
 ghost use Rattle.flurry_steps.specs.Party.{StageIsReady, TaskIsReady, IsWriter, IsDecided, steps_left, Finds, Removes, RemovesSeen, Inserts, Adds, Computes, reply_for};
 ghost use Rattle.flurry_steps.specs.PartySlots.{ContentGives, GoesOnNew, GoesOnWritten, GoesOnAdded, FindCanBeRefused, stage_computed};
-ghost use Rattle.flurry_calls.specs.OutcomeView.{outcome_of};
+ghost use Rattle.flurry_steps_sweep.specs.OutcomeView.{outcome_of};
 ghost use Rattle.flurry_steps.specs.PartyView.{key_of, stage_of, task_of, sought_of};
-ghost use Rattle.flurry_model.specs.declared.sizes.TheConstants.{GREATEST_TABLE};
+ghost use Rattle.flurry_base.specs.declared.sizes.TheConstants.{MAX_TABLE};
 
 use super::at_control::absent_reply;
-use super::call::{Key, Sought, Task};
+use super::call::{AnswerForm, Key, Task};
 use super::left::Left;
 use super::stage::{GrowFor, Help, Resume, Stage};
 use super::{Event, Reply};
 use flurry_bins::bin::Entry;
-use flurry_calls::Seen;
-use flurry_control::wanted_table;
-use flurry_slots::{Added, Answer, ComputeFn, Computed, Given, Inserted, Replaced, Slot};
+use flurry_bins_slots::{Added, Answer, ComputeFn, Computed, Given, Inserted, Replaced, Slot};
+use flurry_steps_control::wanted_table;
+use flurry_steps_sweep::Seen;
 use std::alloc::{AllocError, Allocator};
 use std::sync::Arc;
 
 // The reply of a look-up that finds `entry`.
 fn reply_of<K: Drop, V: Drop, A: Allocator>(
-    sought: Sought,
+    sought: AnswerForm,
     entry: &Entry<K, V, A>,
 ) -> Result<Reply<K, V, A>, AllocError>
     ensures reply { IfOk result
@@ -33,20 +33,20 @@ fn reply_of<K: Drop, V: Drop, A: Allocator>(
     ensures refused { OnErr result (FindCanBeRefused (sought_of sought) (Some (numbered_pair entry.now))) }
 {
     match sought {
-        Sought::Value => Ok(Reply::Value(Some(Arc::try_clone(&entry.value)?))),
-        Sought::Pair => {
+        AnswerForm::Value => Ok(Reply::Value(Some(Arc::try_clone(&entry.value)?))),
+        AnswerForm::Pair => {
             let key = Arc::try_clone(&entry.key)?;
             let value = Arc::try_clone(&entry.value)?;
             Ok(Reply::Pair(Some((key, value))))
         }
-        Sought::Presence => Ok(Reply::Contains(true)),
+        AnswerForm::Presence => Ok(Reply::Contains(true)),
     }
 }
 
 // Does the step of a look-up. Returns the stage after it, what the step did, and what it leaves behind.
 pub(super) fn step_lookup<'k, K: Ord + Drop, V: Drop, F: ComputeFn<K, V>, A: Allocator>(
     hash: u64,
-    sought: Sought,
+    sought: AnswerForm,
     key: Key<'k, K>,
     table: u8,
     slot: &Slot<K, V, A>,
@@ -55,7 +55,7 @@ pub(super) fn step_lookup<'k, K: Ord + Drop, V: Drop, F: ComputeFn<K, V>, A: All
     requires at { table ≡ slot.now.table }
     ensures ready { StageIsReady F.can_change (stage_of result.0) }
     ensures within { IsSlot K.cmp slot.now }
-    ensures nearer { (slot.now.content ≡ IsUnborn) ⊎ (steps_left (stage_of result.0) < GREATEST_TABLE + 1 - table) }
+    ensures nearer { (slot.now.content ≡ IsUnborn) ⊎ (steps_left (stage_of result.0) < MAX_TABLE + 1 - table) }
     ensures step { ContentGives K.cmp F.changes hash
         (Finds (sought_of sought) (key_of key.entry)) table slot.now.content result.1
         (stage_of result.0) slot.now.content }
@@ -123,7 +123,7 @@ pub(super) fn step_write<'k, K: Ord + Drop, V: Drop, F: ComputeFn<K, V>, A: Allo
 
 // The reply of a removal that has removed `entry`, and what of the entry is not in the reply.
 fn owned_reply<'k, K: Drop, V: Drop, F: Drop, A: Allocator>(
-    sought: Sought,
+    sought: AnswerForm,
     key: Key<'k, K>,
     entry: Entry<K, V, A>,
 ) -> (Reply<K, V, A>, Left<'k, K, V, F, A>)
@@ -135,15 +135,15 @@ fn owned_reply<'k, K: Drop, V: Drop, F: Drop, A: Allocator>(
         ..
     } = entry;
     match sought {
-        Sought::Value => (
+        AnswerForm::Value => (
             Reply::Value(Some(value)),
             Left::Stored(key, Some(stored), None),
         ),
-        Sought::Pair => (
+        AnswerForm::Pair => (
             Reply::Pair(Some((stored, value))),
             Left::Stored(key, None, None),
         ),
-        Sought::Presence => (
+        AnswerForm::Presence => (
             Reply::Contains(true),
             Left::Stored(key, Some(stored), Some(value)),
         ),
@@ -152,7 +152,7 @@ fn owned_reply<'k, K: Drop, V: Drop, F: Drop, A: Allocator>(
 
 fn remove<'k, K: Ord + Drop, V: Drop, F: ComputeFn<K, V>, A: Allocator>(
     hash: u64,
-    sought: Sought,
+    sought: AnswerForm,
     key: Key<'k, K>,
     table: u8,
     slot: &mut Slot<K, V, A>,
@@ -244,7 +244,7 @@ fn after_new_pair<'k, K, V, F: ComputeFn<K, V>, A: Allocator>(
     reply: Reply<K, V, A>,
     asks_for_growth: bool,
 ) -> Stage<'k, K, V, F, A>
-    requires table { table ≤ GREATEST_TABLE }
+    requires table { table ≤ MAX_TABLE }
     requires decided { IsDecided (outcome_of reply) }
     ensures ready { StageIsReady F.can_change (stage_of result) }
     ensures stage { GoesOnNew table (outcome_of reply) asks_for_growth (stage_of result) }
@@ -261,7 +261,7 @@ fn after_write<'k, K: Drop, V: Drop, F: ComputeFn<K, V>, A: Allocator>(
     table: u8,
     inserted: Inserted<K, V, A>,
 ) -> (Stage<'k, K, V, F, A>, Left<'k, K, V, F, A>)
-    requires { table ≤ GREATEST_TABLE }
+    requires { table ≤ MAX_TABLE }
     ensures ready { StageIsReady F.can_change (stage_of result.0) }
     ensures stage { GoesOnWritten table (view_of_inserted inserted) (stage_of result.0) }
 {
@@ -323,7 +323,7 @@ fn after_try<'k, K: Drop, V: Drop, F: ComputeFn<K, V>, A: Allocator>(
     table: u8,
     added: Added<K, V, A>,
 ) -> (Stage<'k, K, V, F, A>, Left<'k, K, V, F, A>)
-    requires { table ≤ GREATEST_TABLE }
+    requires { table ≤ MAX_TABLE }
     ensures ready { StageIsReady F.can_change (stage_of result.0) }
     ensures stage { GoesOnAdded table (view_of_added added) (stage_of result.0) }
 {

@@ -6,8 +6,8 @@ ghost use Rattle.flurry_steps.specs.PartyView.{stage_of};
 
 use super::ending::Ending;
 use super::stage::Stage;
-use flurry_control::Tally;
-use flurry_slots::ComputeFn;
+use flurry_bins_slots::ComputeFn;
+use flurry_steps_control::Tally;
 use std::alloc::Allocator;
 
 // Does the step at a tally, and returns the stage after it.

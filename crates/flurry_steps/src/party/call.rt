@@ -2,8 +2,8 @@
 ghost use Rattle.std.specs.Prelude.{◌≡◌};
 ghost use Rattle.flurry_steps.specs.PartyView.{key_of};
 
-use flurry_calls::Seen;
-use flurry_slots::Given;
+use flurry_bins_slots::Given;
+use flurry_steps_sweep::Seen;
 use std::alloc::{Allocator, Global};
 use std::sync::Arc;
 
@@ -99,7 +99,7 @@ impl<'k, K> Key<'k, K> {
 
 /// What a call returns of the entry of a key.
 #[derive(Clone, Copy, Drop)]
-pub(crate) enum Sought {
+pub(crate) enum AnswerForm {
     /// The value.
     Value,
     /// The stored key and the value.
@@ -111,8 +111,8 @@ pub(crate) enum Sought {
 /// A one-key call that has not decided yet.
 #[derive(Drop)]
 pub(crate) enum Task<'k, K, V, F, A: Allocator> {
-    Find(Sought, Key<'k, K>),
-    Remove(Sought, Key<'k, K>),
+    Find(AnswerForm, Key<'k, K>),
+    Remove(AnswerForm, Key<'k, K>),
     RemoveSeen(Seen<K, V, A>),
     Insert(K, Given<V, A>),
     Add(K, V),

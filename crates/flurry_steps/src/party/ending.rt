@@ -2,14 +2,14 @@
 ghost use Rattle.std.specs.Prelude.{◌≡◌, MatchResult, None, true};
 ghost use Rattle.flurry_steps.specs.Party.{StageIsReady};
 ghost use Rattle.flurry_steps.specs.PartyTally.{HasDecided, StageAtTally, ending_stage, has_to_count};
-ghost use Rattle.flurry_calls.specs.OutcomeView.{outcome_of};
+ghost use Rattle.flurry_steps_sweep.specs.OutcomeView.{outcome_of};
 ghost use Rattle.flurry_steps.specs.PartyView.{stage_of};
 ghost use Rattle.flurry_steps.specs.declared.party.ending.Rest.TheVariants as rest;
 
 use super::stage::{GrowFor, Stage};
 use super::{Party, Reply};
-use flurry_control::Tally;
-use flurry_slots::ComputeFn;
+use flurry_bins_slots::ComputeFn;
+use flurry_steps_control::Tally;
 use std::alloc::{Allocator, Global};
 use std::marker::Model;
 
@@ -57,7 +57,7 @@ pub struct Ending<K, V, A: Allocator = Global> {
 impl<K, V, A: Allocator> Model for Ending<K, V, A> {
     ghost use Rattle.flurry_steps.specs.EndingView.{ending_of};
     ghost use Rattle.flurry_steps.specs.PartyTally.{EndingState, RestIsReady};
-    ghost use Rattle.flurry_calls.specs.OutcomeView.{outcome_of};
+    ghost use Rattle.flurry_steps_sweep.specs.OutcomeView.{outcome_of};
 
     ghost Value = { EndingState K V };
 

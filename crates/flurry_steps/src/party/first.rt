@@ -1,26 +1,26 @@
 //! The first two steps of a call, done at once.
 ghost use Rattle.std.specs.Prelude.{◌≡◌, MatchResult, true};
-ghost use Rattle.flurry_slots.specs.Slot.{IsSlot, is_live};
+ghost use Rattle.flurry_bins_slots.specs.Slot.{IsSlot, is_live};
 ghost use Rattle.flurry_steps.specs.FirstSteps.{BeginsAt, begun_at};
-ghost use Rattle.flurry_calls.specs.Part.{LookPart, BinPart};
+ghost use Rattle.flurry_steps_sweep.specs.Part.{LookPart, BinPart};
 ghost use Rattle.flurry_steps.specs.Party.{wanted_part, LooksUp, BeginsToWrite, AtLocate, AtDone};
 ghost use Rattle.flurry_steps.specs.PartyTally.{ending_stage};
-ghost use Rattle.flurry_calls.specs.OutcomeView.{outcome_of};
+ghost use Rattle.flurry_steps_sweep.specs.OutcomeView.{outcome_of};
 ghost use Rattle.flurry_steps.specs.PartyView.{CallIsReady, first_stage, keyless_stage, owned_stage, task_of};
 
 use super::at_slot::{step_lookup, step_write};
-use super::call::{Call, Key, OwnedCall, Sought, Task};
+use super::call::{AnswerForm, Call, Key, OwnedCall, Task};
 use super::ending::Ending;
 use super::left::Remains;
 use super::stage::Stage;
 use super::{Party, Reply};
-use flurry_control::PublishedTable;
-use flurry_slots::{ComputeFn, Given, Slot};
+use flurry_bins_slots::{ComputeFn, Given, Slot};
+use flurry_steps_control::PublishedTable;
 use std::alloc::Allocator;
 
 // A call without a key.
 #[derive(Clone, Copy, Drop)]
-pub(crate) enum Keyless {
+pub(crate) enum WholeMapCall {
     Reserve(usize),
     Clear,
     Walk,
@@ -29,45 +29,45 @@ pub(crate) enum Keyless {
 // The task of a one-key call, or the call without a key.
 pub(super) fn task_for<'k, K, V, F, A: Allocator>(
     call: Call<'k, K, V, F, A>,
-) -> Result<Task<'k, K, V, F, A>, Keyless>
+) -> Result<Task<'k, K, V, F, A>, WholeMapCall>
     ensures { MatchResult result (λ t. first_stage call.entry ≡ AtLocate (task_of t))
         (λ c. first_stage call.entry ≡ keyless_stage c) }
 {
     match call {
-        Call::Get(key) => Ok(Task::Find(Sought::Value, Key::Lent(key))),
-        Call::GetKeyValue(key) => Ok(Task::Find(Sought::Pair, Key::Lent(key))),
-        Call::ContainsKey(key) => Ok(Task::Find(Sought::Presence, Key::Lent(key))),
-        Call::Remove(key) => Ok(Task::Remove(Sought::Value, Key::Lent(key))),
-        Call::RemoveEntry(key) => Ok(Task::Remove(Sought::Pair, Key::Lent(key))),
+        Call::Get(key) => Ok(Task::Find(AnswerForm::Value, Key::Lent(key))),
+        Call::GetKeyValue(key) => Ok(Task::Find(AnswerForm::Pair, Key::Lent(key))),
+        Call::ContainsKey(key) => Ok(Task::Find(AnswerForm::Presence, Key::Lent(key))),
+        Call::Remove(key) => Ok(Task::Remove(AnswerForm::Value, Key::Lent(key))),
+        Call::RemoveEntry(key) => Ok(Task::Remove(AnswerForm::Pair, Key::Lent(key))),
         Call::RemoveSeen(seen) => Ok(Task::RemoveSeen(seen)),
         Call::Insert(key, value) => Ok(Task::Insert(key, Given::Shared(value))),
         Call::TryInsert(key, value) => Ok(Task::Add(key, value)),
         Call::Compute(key, f) => Ok(Task::Compute(Key::Lent(key), f)),
-        Call::Reserve(more) => Err(Keyless::Reserve(more)),
-        Call::Clear => Err(Keyless::Clear),
-        Call::Walk => Err(Keyless::Walk),
+        Call::Reserve(more) => Err(WholeMapCall::Reserve(more)),
+        Call::Clear => Err(WholeMapCall::Clear),
+        Call::Walk => Err(WholeMapCall::Walk),
     }
 }
 
 // The task of a one-key call that owns its key, or the call without a key.
 pub(super) fn task_of_owned<'k, K, V, F, A: Allocator>(
     call: OwnedCall<K, V, F>,
-) -> Result<Task<'k, K, V, F, A>, Keyless>
+) -> Result<Task<'k, K, V, F, A>, WholeMapCall>
     ensures { MatchResult result (λ t. owned_stage call ≡ AtLocate (task_of t))
         (λ c. owned_stage call ≡ keyless_stage c) }
 {
     match call {
-        OwnedCall::Get(key) => Ok(Task::Find(Sought::Value, Key::Own(key))),
-        OwnedCall::GetKeyValue(key) => Ok(Task::Find(Sought::Pair, Key::Own(key))),
-        OwnedCall::ContainsKey(key) => Ok(Task::Find(Sought::Presence, Key::Own(key))),
-        OwnedCall::Remove(key) => Ok(Task::Remove(Sought::Value, Key::Own(key))),
-        OwnedCall::RemoveEntry(key) => Ok(Task::Remove(Sought::Pair, Key::Own(key))),
+        OwnedCall::Get(key) => Ok(Task::Find(AnswerForm::Value, Key::Own(key))),
+        OwnedCall::GetKeyValue(key) => Ok(Task::Find(AnswerForm::Pair, Key::Own(key))),
+        OwnedCall::ContainsKey(key) => Ok(Task::Find(AnswerForm::Presence, Key::Own(key))),
+        OwnedCall::Remove(key) => Ok(Task::Remove(AnswerForm::Value, Key::Own(key))),
+        OwnedCall::RemoveEntry(key) => Ok(Task::Remove(AnswerForm::Pair, Key::Own(key))),
         OwnedCall::Insert(key, value) => Ok(Task::Insert(key, Given::Plain(value))),
         OwnedCall::TryInsert(key, value) => Ok(Task::Add(key, value)),
         OwnedCall::Compute(key, f) => Ok(Task::Compute(Key::Own(key), f)),
-        OwnedCall::Reserve(more) => Err(Keyless::Reserve(more)),
-        OwnedCall::Clear => Err(Keyless::Clear),
-        OwnedCall::Walk => Err(Keyless::Walk),
+        OwnedCall::Reserve(more) => Err(WholeMapCall::Reserve(more)),
+        OwnedCall::Clear => Err(WholeMapCall::Clear),
+        OwnedCall::Walk => Err(WholeMapCall::Walk),
     }
 }
 

@@ -1,8 +1,8 @@
 //! What a step at a bin leaves behind.
 
 use super::call::Key;
-use flurry_calls::Seen;
-use flurry_slots::{Given, NotInserted};
+use flurry_bins_slots::{Given, NotInserted};
+use flurry_steps_sweep::Seen;
 use std::alloc::{Allocator, Global};
 use std::sync::Arc;
 

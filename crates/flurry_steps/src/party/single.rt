@@ -1,17 +1,17 @@
 //! A one-key call in progress, or a call in progress that makes room.
 ghost use Rattle.std.specs.Prelude.{◌≡◌, ◌<◌, ◌≤◌, ◌⊎◌, IfNone, IfSome, true};
 ghost use Rattle.std.specs.Option.{option_map, option_copied};
-ghost use Rattle.flurry_slots.specs.Slot.{IsSlot, IsUnborn};
-ghost use Rattle.flurry_calls.specs.Part.{LookPart, BinPart, MovePart, ControlPart};
-ghost use Rattle.flurry_calls.specs.PartView.{part_of_want};
-ghost use Rattle.flurry_calls.specs.OutcomeView.{outcome_of};
-ghost use Rattle.flurry_calls.specs.Sweep.{pair_seen};
-ghost use Rattle.flurry_steps.specs.Party.{locates, started_stage, taken_stage, wanted_part, with_stage, outcome_in, final_outcome, last_seen, steps_left, LooksUp};
+ghost use Rattle.flurry_bins_slots.specs.Slot.{IsSlot, IsUnborn};
+ghost use Rattle.flurry_steps_sweep.specs.Part.{LookPart, BinPart, MovePart, ControlPart};
+ghost use Rattle.flurry_steps_sweep.specs.PartView.{part_of_want};
+ghost use Rattle.flurry_steps_sweep.specs.OutcomeView.{outcome_of};
+ghost use Rattle.flurry_steps_sweep.specs.Sweep.{pair_seen};
+ghost use Rattle.flurry_steps.specs.Party.{locates, published_stage, taken_stage, wanted_part, with_stage, outcome_in, final_outcome, last_seen, steps_left, LooksUp};
 ghost use Rattle.flurry_steps.specs.PartyControl.{ControlStep};
 ghost use Rattle.flurry_steps.specs.PartySlots.{SlotStep, MoveStep};
 ghost use Rattle.flurry_steps.specs.PartyTally.{TallyStep, counts};
 ghost use Rattle.flurry_steps.specs.PartyBoard.{Seated, Attempted, TakenBack, StageAsks, BoardStep, range_to_report, stage_unclaimed, IsAtBoard, stage_told, lost};
-ghost use Rattle.flurry_model.specs.declared.sizes.TheConstants.{GREATEST_TABLE};
+ghost use Rattle.flurry_base.specs.declared.sizes.TheConstants.{MAX_TABLE};
 
 use super::at_control::step_control;
 use super::at_slot::{step_lookup, step_write};
@@ -20,11 +20,11 @@ use super::call::Task;
 use super::left::Left;
 use super::stage::{GrowFor, Help, Resume, Stage};
 use super::{Event, Reply, Want};
-use flurry_calls::Seen;
-use flurry_claims::{Attempt, Range};
-use flurry_control::{Claim, Control, PublishedTable, Room, Tally};
-use flurry_model::sizes::bin_index;
-use flurry_slots::{ComputeFn, Slot};
+use flurry_base::sizes::bin_index;
+use flurry_bins_slots::{ComputeFn, Slot};
+use flurry_steps_claims::{Attempt, Range};
+use flurry_steps_control::{Claim, Control, PublishedTable, Room, Tally};
+use flurry_steps_sweep::Seen;
 use std::alloc::Allocator;
 use std::marker::Model;
 use std::mem;
@@ -154,11 +154,11 @@ impl<'k, K: Drop, V: Drop, F: ComputeFn<K, V>, A: Allocator> Single<'k, K, V, F,
 
     // Does the step that asks for the published table, at the published table `start`. The call goes on to its bin in that table.
     #[inline]
-    pub(super) fn on_start(&mut self, start: &PublishedTable) -> Event
+    pub(super) fn on_published(&mut self, start: &PublishedTable) -> Event
         requires { locates self.old.stage ≡ true }
-        ensures within { start.now ≤ GREATEST_TABLE }
+        ensures within { start.now ≤ MAX_TABLE }
         ensures silent { result ≡ Event.Silent }
-        ensures at { self.new ≡ with_stage self.old (started_stage start.now self.old.stage) }
+        ensures at { self.new ≡ with_stage self.old (published_stage start.now self.old.stage) }
     {
         match mem::replace(&mut self.stage, Stage::Taken) {
             Stage::Locate(task) => {

@@ -1,8 +1,8 @@
 //! The stages of a call between its steps.
 ghost use Rattle.std.specs.Prelude.{◌≡◌, IfNone, IfSome};
-ghost use Rattle.flurry_slots.specs.Slot.{IsSlot};
-ghost use Rattle.flurry_calls.specs.Part.{MovePart};
-ghost use Rattle.flurry_calls.specs.PartView.{part_of_want};
+ghost use Rattle.flurry_bins_slots.specs.Slot.{IsSlot};
+ghost use Rattle.flurry_steps_sweep.specs.Part.{MovePart};
+ghost use Rattle.flurry_steps_sweep.specs.PartView.{part_of_want};
 ghost use Rattle.flurry_steps.specs.Party.{StageIsReady, GrowForIsReady, HelpIsReady, help_part};
 ghost use Rattle.flurry_steps.specs.PartyBoard.{help_range, unclaimed};
 ghost use Rattle.flurry_steps.specs.PartySlots.{MovesOn, moved_help};
@@ -11,9 +11,9 @@ ghost use Rattle.flurry_steps.specs.PartyView.{help_of, resume_of, grow_for_of, 
 
 use super::call::Task;
 use super::{Event, Reply, Want};
-use flurry_claims::Range;
-use flurry_control::Claim;
-use flurry_slots::{ComputeFn, MoveAnswer, Slot};
+use flurry_bins_slots::{ComputeFn, MoveAnswer, Slot};
+use flurry_steps_claims::Range;
+use flurry_steps_control::Claim;
 use std::alloc::Allocator;
 
 /// What a table is made larger for.

@@ -2,7 +2,7 @@
 
 use super::same;
 use flurry_bins::bin::{Bin, Ordered, Shape};
-use flurry_insertion::table::{Inserted, insert_in_table};
+use flurry_bins_insertion::table::{Inserted, insert_pair_in_bin};
 use metered_alloc::Metered;
 use std::alloc::{AllocError, Allocator, Global};
 use std::process::Abort;
@@ -25,7 +25,7 @@ fn insert<A: Allocator + Copy>(
         return Err(AllocError);
     }
     let value = Arc::new(memory, value)?;
-    match insert_in_table(bin, memory, 3, key, value, 0, bins) {
+    match insert_pair_in_bin(bin, memory, 3, key, value, 0, bins) {
         Ok(Inserted::New { asks_for_growth }) => Ok((None, asks_for_growth)),
         Ok(Inserted::Replaced(replaced)) => Ok((Some(*replaced.old), false)),
         Err(_) => Err(AllocError),

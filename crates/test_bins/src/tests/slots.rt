@@ -1,13 +1,15 @@
 //! Slots: each step where the bin is live, where it has moved, and where it is unborn.
 
 ghost use Rattle.std.specs.Prelude.{OnOk};
-ghost use Rattle.flurry_slots.specs.Slot.{LiesIn};
+ghost use Rattle.flurry_bins_slots.specs.Slot.{LiesIn};
 
 use super::same;
+use flurry_base::sizes::bin_index;
 use flurry_bins::bin::Bin;
-use flurry_model::sizes::bin_index;
-use flurry_slots::clones::{Cloning, NoCloning};
-use flurry_slots::{Added, Answer, Computed, Given, Inserted, MoveAnswer, NoFn, Receipt, Slot};
+use flurry_bins_slots::clones::{CloneProbe, NotClone};
+use flurry_bins_slots::{
+    Added, Answer, Computed, Given, Inserted, MoveAnswer, NoFn, Receipt, Slot,
+};
 use std::alloc::{AllocError, Global};
 
 // Why a step was not done at a live bin.
@@ -305,6 +307,6 @@ fn the_ninth_entry_asks_for_growth(rt: HostRuntime) {
 // So no two holders can have the receipt of one move.
 #[test]
 fn a_receipt_cannot_be_cloned(rt: HostRuntime) {
-    assert!(rt; Cloning::<u64>::is_there());
-    assert!(rt; !Cloning::<Receipt>::is_there());
+    assert!(rt; CloneProbe::<u64>::is_there());
+    assert!(rt; !CloneProbe::<Receipt>::is_there());
 }

@@ -2,8 +2,8 @@
 
 use super::steps::{Step, run, three_pairs};
 use super::{lent, queue_of, same, same_at, taken};
+use flurry_base::hash::LowHashBuilder;
 use flurry_bins::bin::{Ordered, Shape};
-use flurry_model::hash::LowHashBuilder;
 use flurry_seq::SeqMap;
 use flurry_seq::calls::{Call, Reply};
 use std::alloc::Global;

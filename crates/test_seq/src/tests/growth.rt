@@ -2,9 +2,9 @@
 
 use super::same_at;
 use super::steps::{Step, on_map_for, on_map_with, on_new_map};
+use flurry_base::hash::{LowHashBuilder, ZeroHashBuilder};
+use flurry_base::sizes::{threshold, wanted};
 use flurry_bins::bin::Shape;
-use flurry_model::hash::{LowHashBuilder, ZeroHashBuilder};
-use flurry_model::sizes::{threshold, wanted};
 
 // The twelfth pair, with the key 10, fills three quarters of 16 bins.
 #[test]

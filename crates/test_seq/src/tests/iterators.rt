@@ -3,7 +3,7 @@
 use super::keys::Tagged;
 use super::same;
 use super::steps::{Step, run};
-use flurry_model::hash::{DefaultHashBuilder, KeyHasher, LowHashBuilder, ZeroHashBuilder};
+use flurry_base::hash::{DefaultHashBuilder, KeyHasher, LowHashBuilder, ZeroHashBuilder};
 use flurry_seq::SeqMap;
 use std::alloc::Global;
 use std::process::Abort;

@@ -1,7 +1,7 @@
 //! Many keys.
 
 use super::{same, same_at};
-use flurry_model::hash::{DefaultHashBuilder, KeyHasher, MaxHashBuilder, ZeroHashBuilder};
+use flurry_base::hash::{DefaultHashBuilder, KeyHasher, MaxHashBuilder, ZeroHashBuilder};
 use flurry_seq::SeqMap;
 use std::process::Abort;
 

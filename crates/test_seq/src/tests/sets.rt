@@ -3,11 +3,11 @@
 use super::calls::{line, text_of_numbers};
 use super::keys::Tagged;
 use super::{queue_of, same};
+use flurry_base::hash::{KeyHasher, LowHashBuilder, ZeroHashBuilder};
 use flurry_bins::bin::Node;
-use flurry_model::hash::{KeyHasher, LowHashBuilder, ZeroHashBuilder};
 use flurry_seq::SeqMap;
-use flurry_set::SeqSet;
-use flurry_set::set_calls::{SetCall, SetReply};
+use flurry_seq_set::SeqSet;
+use flurry_seq_set::set_calls::{SetCall, SetReply};
 use std::alloc::Global;
 use std::process::Abort;
 

@@ -2,8 +2,8 @@
 
 use super::keys::{Backward, Number, Tagged};
 use super::steps::{Step, on_map_for, run};
+use flurry_base::hash::ZeroHashBuilder;
 use flurry_bins::bin::Shape;
-use flurry_model::hash::ZeroHashBuilder;
 use flurry_seq::SeqMap;
 use std::process::Abort;
 

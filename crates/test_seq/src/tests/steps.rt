@@ -2,8 +2,8 @@
 
 use super::keys::Number;
 use super::{lent, same_at, taken};
+use flurry_base::hash::{KeyHasher, LowHashBuilder};
 use flurry_bins::bin::{Node, Shape};
-use flurry_model::hash::{KeyHasher, LowHashBuilder};
 use flurry_seq::SeqMap;
 use std::alloc::Global;
 use std::process::Abort;

@@ -4,7 +4,7 @@ use super::{
     Memory, NumberMap, Refused, adds, map_of, metered, number_at, refuse_each, same, same_at,
     size_of, taken,
 };
-use flurry_model::hash::LowHashBuilder;
+use flurry_base::hash::LowHashBuilder;
 use std::process::Abort;
 
 // Computes `value` at a key. Returns whether the function was called, and the number that was returned, or `None` if the call failed.

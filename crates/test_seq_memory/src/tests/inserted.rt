@@ -4,9 +4,9 @@ use super::{
     Memory, NumberMap, Refused, map_of, metered, number_at, refuse_each, same, same_at, size_of,
     taken,
 };
+use flurry_base::hash::LowHashBuilder;
+use flurry_base::reply::KeptReply;
 use flurry_bins::bin::Node;
-use flurry_model::hash::LowHashBuilder;
-use flurry_model::reply::KeptReply;
 use std::alloc::AllocError;
 use std::process::Abort;
 use std::sync::Arc;
@@ -16,7 +16,7 @@ use std::sync::Arc;
 enum Write {
     Insert(u64, u64),
     TryInsert(u64, u64),
-    InsertShared(u64, u64),
+    InsertArc(u64, u64),
     InsertNode(u64, u64),
 }
 
@@ -33,14 +33,14 @@ fn owners(
 
 // Inserts a key and a value that are each in an `Arc`, and returns the old value. It also fails if memory for one of the `Arc`s cannot be
 // allocated.
-fn insert_shared(
+fn insert_arc(
     map: &mut NumberMap<LowHashBuilder>,
     key: u64,
     value: u64,
 ) -> Result<Option<u64>, AllocError> {
     let memory = *map.allocator();
     let (key, value) = owners(memory, key, value)?;
-    let old = map.insert_shared(key, value)?;
+    let old = map.insert_arc(key, value)?;
     Ok(taken(old))
 }
 
@@ -87,7 +87,7 @@ fn reply_of(map: &mut NumberMap<LowHashBuilder>, write: Write) -> Option<KeptRep
     let answer = match write {
         Write::Insert(key, value) => insert(map, key, value),
         Write::TryInsert(key, value) => return try_insert(map, key, value),
-        Write::InsertShared(key, value) => insert_shared(map, key, value),
+        Write::InsertArc(key, value) => insert_arc(map, key, value),
         Write::InsertNode(key, value) => insert_node(map, key, value),
     };
     match answer {
@@ -180,7 +180,7 @@ fn insert_into_a_table(rt: HostRuntime) {
 fn insert_shared_into_a_new_map(rt: HostRuntime) {
     let call = Inserts {
         keys: 0,
-        write: Write::InsertShared(1, 5),
+        write: Write::InsertArc(1, 5),
         kept: ((0, 0), [None, None, None]),
         reply: KeptReply::Value(None),
         written: ((16, 1), [None, Some(5), None]),

@@ -3,7 +3,7 @@
 use super::{
     Memory, NumberMap, Refused, map_of, number_at, queue_of, refuse_each, same, same_at, size_of,
 };
-use flurry_model::hash::LowHashBuilder;
+use flurry_base::hash::LowHashBuilder;
 use flurry_seq::SeqMap;
 use flurry_seq::calls::Call;
 use std::process::Abort;

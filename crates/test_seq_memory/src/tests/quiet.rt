@@ -1,8 +1,8 @@
 //! Calls that take no memory.
 
 use super::{Memory, NumberMap, lent, map_of, metered, same, size_of};
+use flurry_base::hash::LowHashBuilder;
 use flurry_bins::bin::{Ordered, Shape};
-use flurry_model::hash::LowHashBuilder;
 use std::process::Abort;
 
 // Reads the map of nine pairs.

@@ -1,10 +1,10 @@
 //! The calls of a set that take memory.
 
 use super::{Memory, Refused, metered, queue_of, refuse_each, same, same_at};
+use flurry_base::hash::LowHashBuilder;
 use flurry_bins::bin::Node;
-use flurry_model::hash::LowHashBuilder;
-use flurry_set::SeqSet;
-use flurry_set::set_calls::SetCall;
+use flurry_seq_set::SeqSet;
+use flurry_seq_set::set_calls::SetCall;
 use std::process::Abort;
 
 type Set = SeqSet<u64, LowHashBuilder, Memory>;

@@ -4,8 +4,8 @@ use super::{
     Memory, NumberMap, Refused, adds, map_of, metered, number_at, refuse_each, same, same_at,
     size_of, taken,
 };
+use flurry_base::hash::{DefaultHashBuilder, KeyHasher, LowHashBuilder, ZeroHashBuilder};
 use flurry_bins::bin::Shape;
-use flurry_model::hash::{DefaultHashBuilder, KeyHasher, LowHashBuilder, ZeroHashBuilder};
 use flurry_seq::SeqMap;
 use std::alloc::AllocError;
 use std::process::Abort;

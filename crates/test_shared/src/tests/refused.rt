@@ -1,186 +1,346 @@
-//! Each request for memory of a walk, or of a call over many pairs, fails in turn.
+//! Calls of a shared map in which a request for memory fails.
 
-use super::bulk::list;
-use super::{numbers, read_all, same};
-use flurry_map::HashMap;
-use flurry_model::hash::LowHashBuilder;
+use super::same;
+use super::threads::insert_in_threads;
+use super::workers::count_own;
+use flurry_base::hash::{DefaultHashBuilder, LowHashBuilder};
+use flurry_seq::SeqMap;
+use flurry_shared::HashMap;
 use metered_alloc::Metered;
-use std::alloc::{Allocator, Global};
+use std::alloc::{AllocError, Allocator, Global};
 use std::process::Abort;
 use std::sync::Wait;
 use std::test::Fail;
+use std::thread::Threads;
 
 type Memory = &'static Metered<Global>;
 
 // A map of numbers. Its allocator is a parameter, because a proof over `Memory` would have to unfold it in each step.
 type Numbers<A> = HashMap<u64, u64, LowHashBuilder, A>;
 
+type DefaultNumbers<A> = HashMap<u64, u64, DefaultHashBuilder, A>;
+
+// An owned map of numbers.
+type Owned<A> = SeqMap<u64, u64, LowHashBuilder, A>;
+
 // A call that may fail to allocate memory.
-#[derive(Clone, Copy, Debug, PartialEq)]
+#[derive(Clone, Copy)]
 enum Call {
-    Walk,
-    Retain,
-    RetainForce,
-    Extend,
-    FromList,
-    Equals,
-    TryClone,
+    Insert,
+    Replace,
+    TryInsert,
+    Compute,
+    Get,
+    Reserve,
 }
 
-// Makes the call, of a map or of a list, and returns whether it succeeded.
-fn is_done<A: Allocator + Copy, R: Wait>(
-    rt: &R,
-    map: &Numbers<A>,
-    list: Vec<(u64, u64), A>,
-    call: Call,
-) -> bool {
+// Makes the call, of key 99 or of the key 0, and returns whether it succeeded.
+fn is_done<A: Allocator + Copy, R: Wait>(rt: &R, map: &Numbers<A>, call: Call) -> bool {
     match call {
-        Call::Walk => read_all(map.iter(rt)).is_ok(),
-        Call::Retain => map.retain(rt, |key, _| *key < 2).is_ok(),
-        Call::RetainForce => map.retain_force(rt, |key, _| *key < 2).is_ok(),
-        Call::Extend => map.extend(rt, list).is_ok(),
-        Call::FromList => HashMap::from_list(rt, list, LowHashBuilder).is_ok(),
-        Call::Equals => map.equals(rt, map).is_ok(),
-        Call::TryClone => map.try_clone(rt).is_ok(),
+        Call::Insert => map.insert(rt, 99, 1).is_ok(),
+        Call::Replace => map.insert(rt, 0, 1).is_ok(),
+        Call::TryInsert => map.try_insert(rt, 99, 1).is_ok(),
+        Call::Compute => map.compute_if_present(rt, &0, |_, _| Some(1)).is_ok(),
+        Call::Get => map.get(rt, &0).is_ok(),
+        Call::Reserve => map.reserve(rt, 100).is_ok(),
     }
 }
 
-// Returns the number of pairs that a walk gives, which must be the count of the map.
-fn count_there<A: Allocator + Copy, R: Wait>(rt: &R, map: &Numbers<A>) -> Result<usize, Fail> {
-    let there = read_all(map.iter(rt))?.0 as usize;
-    if there == map.len(rt) {
-        Ok(there)
-    } else {
-        Err(Fail::from("the count is that of the pairs"))
+// Returns a map of the keys below `count`, each with itself as its value.
+fn numbers<A: Allocator + Copy, R: Wait>(
+    rt: &R,
+    alloc: A,
+    count: u64,
+) -> Result<Numbers<A>, AllocError> {
+    let map = HashMap::with_hasher(alloc, LowHashBuilder);
+    for key in 0..count {
+        map.insert(rt, key, key)?;
     }
+    Ok(map)
 }
 
-// Makes the call while the request numbered `k` fails, of a map and a list in this memory. Returns whether the request was made, whether
-// the call succeeded, and the number of pairs afterwards.
+// Makes the call while the request numbered `k` fails, on a map of `keys` keys in this memory. Returns whether that request was made,
+// whether the call succeeded, whether the earlier pairs are present, and the number of pairs.
 fn refuse_in<A: Allocator + Copy, R: Wait>(
     rt: &R,
     memory: &Metered<Global>,
     k: u64,
     map: &Numbers<A>,
-    list: Vec<(u64, u64), A>,
+    keys: u64,
     call: Call,
-) -> Result<(bool, bool, usize), Fail> {
+) -> (bool, bool, bool, usize) {
     memory.refuse_at(k);
-    let done = is_done(rt, map, list, call);
+    let done = is_done(rt, map, call);
     let refused = memory.refused();
     memory.refuse_nothing();
-    Ok((refused, done, count_there(rt, map)?))
+    let stand = count_own(rt, map, 0, keys) == keys;
+    (refused, done, stand, map.len(rt))
 }
 
-// Does the same as `refuse_in`, with a map of the keys 0 to 2 and a list of the keys 10 to 12.
+// Does the same as `refuse_in`, on a map that is created for the call.
 fn call_without<R: Wait>(
     rt: &R,
     memory: Memory,
+    keys: u64,
     call: Call,
     k: u64,
-) -> Result<(bool, bool, usize), Fail> {
-    let list = list(memory, 10, 13, 0)?;
-    let map = numbers(rt, memory, 3);
-    refuse_in(rt, memory, k, &map, list, call)
+) -> Result<(bool, bool, bool, usize), AllocError> {
+    let map = numbers(rt, memory, keys)?;
+    Ok(refuse_in(rt, memory, k, &map, keys, call))
 }
 
-// Makes each of `requests` requests fail in turn: the call then fails, and leaves three pairs. If no request fails, it leaves `left` pairs.
+// Makes each of `requests` requests of the call fail in turn, on a map of `keys` keys: the call fails, and the pairs stay.
 fn refuse_each<R: Abort + Wait>(
     rt: &R,
     memory: Memory,
+    keys: u64,
     call: Call,
     requests: u64,
-    left: usize,
 ) -> Result<(), Fail> {
     for k in 0..requests {
-        let seen = call_without(rt, memory, call, k)?;
-        same(rt, (call, k, seen), (call, k, (true, false, 3)));
+        let seen = call_without(rt, memory, keys, call, k)?;
+        same(rt, (k, seen), (k, (true, false, true, keys as usize)));
         same(rt, memory.blocks(), 0);
     }
-    let seen = call_without(rt, memory, call, requests)?;
-    same(
-        rt,
-        (call, requests, seen),
-        (call, requests, (false, true, left)),
-    );
-    same(rt, memory.blocks(), 0);
+    let (refused, done, _, _) = call_without(rt, memory, keys, call, requests)?;
+    same(rt, (refused, done), (false, true));
     Ok(())
 }
 
+// A table takes two requests, and the board and the seats of the growth that fills it five more. Room for 100 pairs is 256 bins and one
+// growth, or five growths from 16 bins.
 #[test]
-fn calls_without_a_request(rt: HostRuntime) -> Result<(), Fail> {
+fn each_request_of_a_call(rt: HostRuntime) -> Result<(), Fail> {
     let memory = Metered::leaked(rt.alloc())?;
-    refuse_each(&rt, memory, Call::Walk, 0, 3)?;
-    refuse_each(&rt, memory, Call::Retain, 0, 2)?;
-    refuse_each(&rt, memory, Call::RetainForce, 0, 2)?;
-    refuse_each(&rt, memory, Call::Equals, 0, 3)
+    refuse_each(&rt, memory, 0, Call::Insert, 5)?;
+    refuse_each(&rt, memory, 1, Call::Insert, 3)?;
+    refuse_each(&rt, memory, 1, Call::Replace, 1)?;
+    refuse_each(&rt, memory, 0, Call::TryInsert, 5)?;
+    refuse_each(&rt, memory, 1, Call::TryInsert, 3)?;
+    refuse_each(&rt, memory, 0, Call::Compute, 0)?;
+    refuse_each(&rt, memory, 1, Call::Compute, 1)?;
+    refuse_each(&rt, memory, 1, Call::Get, 0)?;
+    refuse_each(&rt, memory, 0, Call::Reserve, 9)?;
+    refuse_each(&rt, memory, 1, Call::Reserve, 35)
 }
 
-// The requests are for a table and its slots, and three for each pair. A clone of a map shares its keys and values, and is built in a table
-// of its own first.
+// If memory for the larger table, its board or a seat cannot be allocated, the insertion is done in the old table.
 #[test]
-fn maps_that_are_made(rt: HostRuntime) -> Result<(), Fail> {
+fn a_larger_table_of_an_insertion(rt: HostRuntime) -> Result<(), Fail> {
     let memory = Metered::leaked(rt.alloc())?;
-    refuse_each(&rt, memory, Call::FromList, 11, 3)?;
-    refuse_each(&rt, memory, Call::TryClone, 6, 3)
-}
-
-// An extension keeps the pairs that it inserted before the request that failed.
-#[test]
-fn an_extension(rt: HostRuntime) -> Result<(), Fail> {
-    let memory = Metered::leaked(rt.alloc())?;
-    for k in 0..9u64 {
-        let seen = call_without(&rt, memory, Call::Extend, k)?;
-        same(&rt, (k, seen), (k, (true, false, 3 + k as usize / 3)));
-        same(&rt, memory.blocks(), 0);
+    for k in 3..10u64 {
+        let seen = call_without(&rt, memory, 11, Call::Insert, k)?;
+        same(&rt, (k, seen), (k, (true, true, true, 12)));
     }
-    same(
-        &rt,
-        call_without(&rt, memory, Call::Extend, 9)?,
-        (false, true, 6),
-    );
     Ok(())
 }
 
-// Makes the call, of a map or of a list in this memory. Returns whether it succeeded, and how many requests it made.
-fn asked_in<A: Allocator + Copy, R: Wait>(
+// Makes room for another pair while the request numbered `k` fails, and then with memory. Returns whether the first attempt failed and the
+// second one succeeded, and how many requests the second one made.
+fn requests_after<A: Allocator + Copy, R: Wait>(
     rt: &R,
     memory: &Metered<Global>,
+    k: u64,
     map: &Numbers<A>,
-    list: Vec<(u64, u64), A>,
-    call: Call,
 ) -> (bool, u64) {
+    memory.refuse_at(k);
+    let refused = map.reserve(rt, 1).is_err();
     memory.refuse_nothing();
-    let done = is_done(rt, map, list, call);
-    (done, memory.asked())
+    let done = map.reserve(rt, 1).is_ok();
+    (refused && done, memory.asked())
 }
 
-// Does the same as `asked_in`, with a map of the keys below `pairs` and a list of `others` greater keys.
-fn asked_by<R: Wait>(
+// Does the same as `requests_after`, on a map of eleven keys in 16 bins that is created for the call.
+fn requests_after_a_refusal<R: Wait>(
     rt: &R,
     memory: Memory,
-    pairs: u64,
-    others: u64,
-    call: Call,
-) -> Result<(bool, u64), Fail> {
-    let list = list(memory, 100, others.saturating_add(100), 0)?;
-    let map = numbers(rt, memory, pairs);
-    Ok(asked_in(rt, memory, &map, list, call))
+    k: u64,
+) -> Result<(bool, u64), AllocError> {
+    let map = numbers(rt, memory, 11)?;
+    Ok(requests_after(rt, memory, k, &map))
 }
 
-// Room is made first: a hundred pairs ask for the tables of that room, one of them by a growth with its board and seats, and for three
-// blocks each. A map that is not empty makes room for half of a list: for a map of one pair in 16 bins and a list of eight, that is no
-// further table.
+// Two growths, to 32 and to 64 bins, take seven requests each. A growth that is refused leaves neither a table nor a board nor seats: the
+// next attempt makes all of its requests.
 #[test]
-fn room_is_made_first(rt: HostRuntime) -> Result<(), Fail> {
+fn a_refused_growth_leaves_nothing(rt: HostRuntime) -> Result<(), Fail> {
     let memory = Metered::leaked(rt.alloc())?;
-    let asked = asked_by(&rt, memory, 0, 100, Call::FromList)?;
-    same(&rt, asked, (true, 302));
-    let asked = asked_by(&rt, memory, 100, 0, Call::TryClone)?;
-    same(&rt, asked, (true, 103));
-    let asked = asked_by(&rt, memory, 0, 100, Call::Extend)?;
-    same(&rt, asked, (true, 309));
-    let asked = asked_by(&rt, memory, 1, 8, Call::Extend)?;
-    same(&rt, asked, (true, 24));
+    for k in 0..14u64 {
+        let asked = if k < 7 { 14 } else { 7 };
+        let seen = requests_after_a_refusal(&rt, memory, k)?;
+        same(&rt, (k, seen), (k, (true, asked)));
+    }
+    Ok(())
+}
+
+// Returns a map with room for `capacity` numbers.
+fn map_with_room<A: Allocator + Copy>(
+    memory: A,
+    capacity: usize,
+) -> Result<Numbers<A>, AllocError> {
+    HashMap::with_capacity_and_hasher(memory, capacity, LowHashBuilder)
+}
+
+// Returns a map with room for five numbers, and the default hasher.
+fn map_with_room_by_default<A: Allocator + Copy>(
+    memory: A,
+) -> Result<DefaultNumbers<A>, AllocError> {
+    HashMap::with_capacity(memory, 5)
+}
+
+#[test]
+fn a_map_with_room(rt: HostRuntime) -> Result<(), Fail> {
+    let memory = Metered::leaked(rt.alloc())?;
+    for k in 0..3u64 {
+        memory.refuse_at(k);
+        same(&rt, (k, map_with_room(memory, 5).is_ok()), (k, k == 2));
+        memory.refuse_nothing();
+        same(&rt, memory.blocks(), 0);
+    }
+    Ok(())
+}
+
+// A map with room and the default hasher, which takes no memory.
+#[test]
+fn a_map_with_room_by_default(rt: HostRuntime) -> Result<(), Fail> {
+    let memory = Metered::leaked(rt.alloc())?;
+    for k in 0..3u64 {
+        memory.refuse_at(k);
+        same(
+            &rt,
+            (k, map_with_room_by_default(memory).is_ok()),
+            (k, k == 2),
+        );
+        memory.refuse_nothing();
+        same(&rt, memory.blocks(), 0);
+    }
+    Ok(())
+}
+
+// Returns an owned map of three keys, each with itself as its value.
+fn three_keys<A: Allocator + Copy>(alloc: A) -> Result<Owned<A>, AllocError> {
+    let mut map = SeqMap::with_hasher(alloc, LowHashBuilder);
+    for key in 0..3u64 {
+        map.insert(key, key)?;
+    }
+    Ok(map)
+}
+
+// Asserts that the map that could not be shared still has its room and its three keys.
+fn has_three_keys<A: Allocator + Copy>(
+    rt: &impl Abort,
+    alloc: A,
+    map: &Owned<A>,
+    k: u64,
+) -> Result<(), AllocError> {
+    same(rt, (k, map.len(), map.capacity()), (k, 3, 16));
+    same(rt, *map == three_keys(alloc)?, true);
+    Ok(())
+}
+
+// Shares an owned map of three keys while the request numbered `k` fails, and checks that it comes back with its pairs.
+fn share_without<R: Abort + Wait>(rt: &R, memory: Memory, k: u64) -> Result<(), Fail> {
+    let map = three_keys(memory)?;
+    memory.refuse_at(k);
+    let answer = HashMap::from_seq(rt, map);
+    memory.refuse_nothing();
+    match answer {
+        Ok(_) => Err(Fail::from("the request was refused")),
+        Err(map) => Ok(has_three_keys(rt, memory, &map, k)?),
+    }
+}
+
+// Memory for each of the two tables of a shared map cannot be allocated.
+#[test]
+fn the_tables_of_a_shared_map(rt: HostRuntime) -> Result<(), Fail> {
+    let memory = Metered::leaked(rt.alloc())?;
+    for k in 0..2u64 {
+        share_without(&rt, memory, k)?;
+    }
+    same(&rt, memory.blocks(), 0);
+    Ok(())
+}
+
+// Turns a shared map into an owned one, and returns whether that succeeded.
+fn is_owned_again<A: Allocator + Copy, R: Wait>(rt: &R, map: Numbers<A>) -> bool {
+    map.into_seq(rt).is_ok()
+}
+
+// The owned map that a shared map becomes requests memory for its table and for a node of each pair.
+#[test]
+fn the_requests_of_an_owned_map_again(rt: HostRuntime) -> Result<(), Fail> {
+    let memory = Metered::leaked(rt.alloc())?;
+    for k in 0..5u64 {
+        let map = numbers(&rt, memory, 3)?;
+        memory.refuse_at(k);
+        let done = is_owned_again(&rt, map);
+        memory.refuse_nothing();
+        same(&rt, (k, done), (k, k == 4));
+        same(&rt, memory.blocks(), 0);
+    }
+    Ok(())
+}
+
+// Four threads insert into a map of sixteen pairs while this memory runs out.
+fn run_out<A: Allocator + Copy + Send + Sync, R: Abort + Threads + Wait + Sync>(
+    rt: &R,
+    memory: &Metered<Global>,
+    k: u64,
+    map: &Numbers<A>,
+) {
+    memory.refuse_from(k);
+    insert_in_threads(rt, map, 4, 1000, 1000);
+    memory.refuse_nothing();
+    same(rt, (k, count_own(rt, map, 0, 16)), (k, 16));
+    let there = count_own(rt, map, 0, 4000);
+    same(rt, (k, map.len(rt) as u64), (k, there));
+}
+
+// Four threads insert while memory runs out. The earlier pairs stay, and the count is that of the keys that are present.
+#[test]
+fn threads_without_memory(rt: HostRuntime) -> Result<(), Fail> {
+    let memory = Metered::leaked(rt.alloc())?;
+    for k in [0u64, 100, 1000] {
+        let map = numbers(&rt, memory, 16)?;
+        run_out(&rt, memory, k, &map);
+        drop(map);
+        same(&rt, memory.blocks(), 0);
+    }
+    Ok(())
+}
+
+// Inserts a thousand pairs.
+fn fill<A: Allocator + Copy, R: Wait>(rt: &R, map: &Numbers<A>) -> Result<(), AllocError> {
+    for key in 0..1000u64 {
+        map.insert(rt, key, key)?;
+    }
+    Ok(())
+}
+
+// Makes an owned map of a map.
+fn becomes_owned<A: Allocator + Copy, R: Wait>(rt: &R, map: Numbers<A>) -> bool {
+    map.into_seq(rt).is_ok()
+}
+
+// A map with room for a thousand pairs asks for no further table, nor does the owned one that it becomes.
+#[test]
+fn room_is_made_once(rt: HostRuntime) -> Result<(), Fail> {
+    let memory = Metered::leaked(rt.alloc())?;
+    memory.refuse_nothing();
+    let map = map_with_room(memory, 1000)?;
+    fill(&rt, &map)?;
+    same(&rt, memory.asked(), 3002);
+    memory.refuse_nothing();
+    same(&rt, becomes_owned(&rt, map), true);
+    same(&rt, memory.asked(), 1001);
+    Ok(())
+}
+
+// Large tables are made, where there is memory.
+#[test]
+fn much_room(rt: HostRuntime) -> Result<(), Fail> {
+    let map: HashMap<u64, u64> = HashMap::with_capacity(rt.alloc(), 5000)?;
+    map.reserve(&rt, 40_000)?;
+    same(&rt, map.len(&rt), 0);
     Ok(())
 }

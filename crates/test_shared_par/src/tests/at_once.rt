@@ -1,8 +1,8 @@
 //! Pieces that are inserted at once.
 
 use super::{has_sums, same};
-use flurry_map::HashMap;
-use flurry_model::hash::KeyHasher;
+use flurry_base::hash::KeyHasher;
+use flurry_shared::HashMap;
 use flurry_shared_par::{map, set};
 use flurry_shared_set::HashSet;
 use std::sync::atomic::{AtomicBool, AtomicU64, Ordering};
@@ -53,7 +53,7 @@ struct CrowdHasher<'m> {
 }
 
 impl<'m> KeyHasher<u64> for CrowdHasher<'m> {
-    ghost use Rattle.flurry_model.specs.Hashing.{same_number};
+    ghost use Rattle.flurry_base.specs.Hashing.{same_number};
 
     ghost hash_of = { λ s k. k };
 

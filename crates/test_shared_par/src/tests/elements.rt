@@ -1,7 +1,7 @@
 //! Elements that several threads insert.
 
 use super::{pairs_from_100, same};
-use flurry_model::hash::KeyHasher;
+use flurry_base::hash::KeyHasher;
 use flurry_shared_par::{set, set_ref};
 use flurry_shared_set::HashSet;
 use std::process::Abort;

@@ -1,8 +1,8 @@
 //! Pairs that several threads insert.
 
 use super::{has_sums, insert_two, pairs_from_100, same, values_at};
-use flurry_map::HashMap;
-use flurry_model::hash::LowHashBuilder;
+use flurry_base::hash::LowHashBuilder;
+use flurry_shared::HashMap;
 use flurry_shared_par::{map, map_ref};
 use std::process::Abort;
 use std::sync::Wait;

@@ -1,8 +1,8 @@
 //! Calls in which a request for memory fails.
 
 use super::{insert_two, pairs_from_100, read_all, same, values_at};
-use flurry_map::HashMap;
-use flurry_model::hash::LowHashBuilder;
+use flurry_base::hash::LowHashBuilder;
+use flurry_shared::HashMap;
 use flurry_shared_par::{map, set, set_ref};
 use flurry_shared_set::HashSet;
 use metered_alloc::Metered;

@@ -1,7 +1,7 @@
 //! The ways in which sets are created.
 
 use super::{has_sums, list, same, set_of};
-use flurry_model::hash::{KeyHasher, LowHashBuilder, ZeroHashBuilder};
+use flurry_base::hash::{KeyHasher, LowHashBuilder, ZeroHashBuilder};
 use flurry_shared_set::HashSet;
 use std::alloc::{AllocError, Allocator};
 use std::process::Abort;

@@ -1,7 +1,7 @@
 //! Each request for memory of a call that may fail, which fails in turn.
 
 use super::{list, read_all, same, set_of};
-use flurry_model::hash::{DefaultHashBuilder, LowHashBuilder};
+use flurry_base::hash::{DefaultHashBuilder, LowHashBuilder};
 use flurry_shared_set::HashSet;
 use metered_alloc::Metered;
 use std::alloc::{AllocError, Allocator, Global};

@@ -1,7 +1,7 @@
 //! Relations of two sets, and of their views.
 
 use super::{has_sums, same, set_of};
-use flurry_model::hash::LowHashBuilder;
+use flurry_base::hash::LowHashBuilder;
 use flurry_shared_set::{HashSet, HashSetRef};
 use std::alloc::{AllocError, Allocator, Global};
 use std::process::Abort;

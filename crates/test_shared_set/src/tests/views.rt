@@ -1,7 +1,7 @@
 //! The calls of a view.
 
 use super::{has_sums, read_all, same, set_of};
-use flurry_model::hash::LowHashBuilder;
+use flurry_base::hash::LowHashBuilder;
 use flurry_shared_set::{HashSet, HashSetRef};
 use std::alloc::Allocator;
 use std::process::Abort;

@@ -1,17 +1,17 @@
 //! The first two steps of a call, done at once at a live bin of a published table.
 ghost use Rattle.std.specs.Prelude.{◌≡◌, true, ⊤};
-ghost use Rattle.flurry_slots.specs.Slot.{is_live};
-ghost use Rattle.flurry_calls.specs.Part.{BinPart};
+ghost use Rattle.flurry_bins_slots.specs.Slot.{is_live};
+ghost use Rattle.flurry_steps_sweep.specs.Part.{BinPart};
 ghost use Rattle.flurry_steps.specs.FirstSteps.{begun_at};
 ghost use Rattle.flurry_steps.specs.Party.{wanted_part, BeginsToWrite};
 ghost use Rattle.flurry_steps.specs.PartyView.{CallIsReady, first_stage};
 
 use super::same;
 use flurry_bins::bin::Bin;
-use flurry_control::{Control, PublishedTable, Room};
-use flurry_slots::{ComputeFn, NoFn, Slot};
+use flurry_bins_slots::{ComputeFn, NoFn, Slot};
 use flurry_steps::Party;
 use flurry_steps::party::{Call, Ending, Reply};
+use flurry_steps_control::{Control, PublishedTable, Room};
 use std::alloc::{AllocError, Global};
 use std::process::Abort;
 use std::sync::Arc;

@@ -3,7 +3,7 @@
 //! A function that owns a call in progress passes it to another function by reference, and then drops it explicitly. If it were dropped at
 //! the end of a body, the proof would go through everything that it can hold.
 ghost use Rattle.std.specs.Prelude.{◌≡◌, ⊤};
-ghost use Rattle.flurry_calls.specs.Part.{LookPart, BinPart, MovePart, SeatPart, BoardPart, GivePart};
+ghost use Rattle.flurry_steps_sweep.specs.Part.{LookPart, BinPart, MovePart, SeatPart, BoardPart, GivePart};
 ghost use Rattle.flurry_steps.specs.Party.{wanted_part};
 ghost use Rattle.flurry_steps.specs.PartyBoard.{IsAttempt};
 ghost use Rattle.flurry_steps.specs.PartyView.{CallIsReady};
@@ -17,13 +17,13 @@ mod sweeps;
 mod tallies;
 
 use super::{same, same_at};
+use flurry_base::reply::KeptReply;
 use flurry_bins::bin::Bin;
-use flurry_calls::Seen;
-use flurry_claims::{Attempt, PlainBoard, Range};
-use flurry_control::{Control, Room};
-use flurry_model::reply::KeptReply;
-use flurry_slots::{ComputeFn, Slot};
+use flurry_bins_slots::{ComputeFn, Slot};
 use flurry_steps::party::{Call, Event, OwnedCall, Party, Reply, Want};
+use flurry_steps_claims::{Attempt, PlainBoard, Range};
+use flurry_steps_control::{Control, Room};
+use flurry_steps_sweep::Seen;
 use std::alloc::{AllocError, Global};
 use std::process::Abort;
 use std::sync::Arc;
@@ -552,7 +552,7 @@ fn begins_at_a_start<'k, F: ComputeFn<u64, u64>>(
     let start = map.control.start().expect(rt, "a table is published");
     assert!(rt; party.locates(), "a call locates first");
     same(rt, party.want(), Want::Control);
-    same(rt, party.on_start(&start), Event::Silent);
+    same(rt, party.on_published(&start), Event::Silent);
     same(rt, party.locates(), false);
 }
 

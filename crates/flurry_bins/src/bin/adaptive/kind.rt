@@ -3,19 +3,19 @@ ghost use Rattle.std.specs.Prelude.{◌≡◌, ◌<◌, ◌≤◌, ◌||◌, ◌
 ghost use Rattle.std.specs.Option.{option_map};
 ghost use Rattle.std.specs.Arc.{arc_value};
 ghost use Rattle.flurry_bins.specs.Chain.{chain, entry_of};
-ghost use Rattle.flurry_model.specs.Given.{IsNotInserted, old_of};
+ghost use Rattle.flurry_base.specs.Given.{IsNotInserted, old_of};
 ghost use Rattle.flurry_bins.specs.Entries.{entry_at, with_entry, with_value_at, without, with_bit, IsInsertion};
 ghost use Rattle.flurry_bins.specs.Tree.{shape, node_shape, inorder};
 ghost use Rattle.flurry_bins.specs.Kind.{kind_entries, kind_is_tree};
-ghost use Rattle.flurry_model.specs.BinSizes.{IsSized};
-ghost use Rattle.flurry_model.specs.declared.sizes.TheConstants.{LEAST_IN_TREE, MOST_IN_LIST, MOST_PAIRS};
+ghost use Rattle.flurry_base.specs.BinSizes.{IsSized};
+ghost use Rattle.flurry_base.specs.declared.sizes.TheConstants.{MIN_TREE_LEN, MAX_LIST_LEN, MAX_LEN};
 
 use super::nodes::{LoneNode, NodeList, NodeTree};
 use crate::bin::list::{ListBin, prepend};
 use crate::bin::node::{BoxedNode, Link};
 use crate::bin::tree::{self, TreeBin};
-use flurry_model::given::{NotInserted, Replaced};
-use flurry_model::sizes::{LEAST_IN_TREE, MOST_IN_LIST};
+use flurry_base::given::{NotInserted, Replaced};
+use flurry_base::sizes::{MAX_LIST_LEN, MIN_TREE_LEN};
 use std::alloc::{Allocator, Global};
 use std::sync::Arc;
 
@@ -88,12 +88,12 @@ impl<K: Ord + Drop, V: Drop, A: Allocator> Kind<K, V, A> {
     // Turns a list of nine nodes into a tree, and leaves anything else as it is.
     pub(super) fn plant(self) -> Kind<K, V, A>
         ensures entries { kind_entries result ≡ kind_entries self }
-        ensures kind { kind_is_tree result ≡ (kind_is_tree self || nat_le MOST_IN_LIST (length (kind_entries self))) }
+        ensures kind { kind_is_tree result ≡ (kind_is_tree self || nat_le MAX_LIST_LEN (length (kind_entries self))) }
     {
         match self {
             Kind::Empty => Kind::Empty,
             Kind::One(lone) => Kind::One(lone),
-            Kind::AsList(list) => Kind::from_list(list.into_list(), MOST_IN_LIST),
+            Kind::AsList(list) => Kind::from_list(list.into_list(), MAX_LIST_LEN),
             Kind::AsTree(tree) => Kind::AsTree(tree),
         }
     }
@@ -102,9 +102,9 @@ impl<K: Ord + Drop, V: Drop, A: Allocator> Kind<K, V, A> {
     pub(super) fn put_node(self, node: BoxedNode<K, V, A>) -> Kind<K, V, A>
         requires absent { let e = entry_of node.value in
             IsNone (entry_at K.cmp e.hash (arc_value e.key) (kind_entries self)) }
-        requires room { length (kind_entries self) < MOST_PAIRS }
+        requires room { length (kind_entries self) < MAX_LEN }
         ensures entries { kind_entries result ≡ with_entry K.cmp (entry_of node.value) (kind_entries self) }
-        ensures kind { kind_is_tree result ≡ (kind_is_tree self || nat_le MOST_IN_LIST (length (kind_entries self))) }
+        ensures kind { kind_is_tree result ≡ (kind_is_tree self || nat_le MAX_LIST_LEN (length (kind_entries self))) }
     {
         match self {
             Kind::Empty => {
@@ -120,7 +120,7 @@ impl<K: Ord + Drop, V: Drop, A: Allocator> Kind<K, V, A> {
             Kind::AsList(list) => {
                 let mut list = list.into_list();
                 list.put_node(node);
-                Kind::from_list(list, MOST_IN_LIST + 1)
+                Kind::from_list(list, MAX_LIST_LEN + 1)
             }
             Kind::AsTree(tree) => {
                 let mut tree = tree.into_tree();
@@ -135,7 +135,7 @@ impl<K: Ord + Drop, V: Drop, A: Allocator> Kind<K, V, A> {
         ensures removed { option_map (λ b. entry_of b.value) result.1 ≡ entry_at K.cmp hash key.now (kind_entries self) }
         ensures entries { kind_entries result.0 ≡ without K.cmp hash key.now (kind_entries self) }
         ensures kind { kind_is_tree result.0
-            ≡ (kind_is_tree self && nat_le LEAST_IN_TREE (length (kind_entries result.0))) }
+            ≡ (kind_is_tree self && nat_le MIN_TREE_LEN (length (kind_entries result.0))) }
     {
         match self {
             Kind::Empty => (Kind::Empty, None),
@@ -154,7 +154,7 @@ impl<K: Ord + Drop, V: Drop, A: Allocator> Kind<K, V, A> {
             Kind::AsTree(tree) => {
                 let mut tree = tree.into_tree();
                 let node = tree.remove(hash, key);
-                if tree.len() < LEAST_IN_TREE {
+                if tree.len() < MIN_TREE_LEN {
                     (Kind::of_list(tree.into_list()), node)
                 } else {
                     (Kind::of_tree(tree), node)
@@ -204,9 +204,9 @@ impl<K: Ord + Drop, V: Drop, A: Allocator> Kind<K, V, A> {
         ensures low { kind_entries result.0 ≡ with_bit bit 0 (kind_entries self) }
         ensures high { kind_entries result.1 ≡ with_bit bit 1 (kind_entries self) }
         ensures low_kind { kind_is_tree result.0
-            ≡ (kind_is_tree self && nat_le LEAST_IN_TREE (length (kind_entries result.0))) }
+            ≡ (kind_is_tree self && nat_le MIN_TREE_LEN (length (kind_entries result.0))) }
         ensures high_kind { kind_is_tree result.1
-            ≡ (kind_is_tree self && nat_le LEAST_IN_TREE (length (kind_entries result.1))) }
+            ≡ (kind_is_tree self && nat_le MIN_TREE_LEN (length (kind_entries result.1))) }
     {
         match self {
             Kind::Empty => (Kind::Empty, Kind::Empty),
@@ -240,14 +240,14 @@ impl<K: Ord + Drop, V: Drop, A: Allocator + Copy> Kind<K, V, A> {
         Kind<K, V, A>,
         Result<Option<Replaced<K, V, A>>, NotInserted<K, V, A>>,
     )
-        requires { length (kind_entries self) < MOST_PAIRS }
+        requires { length (kind_entries self) < MAX_LEN }
         ensures ok { IfOk result.1 (λ r.
             IsInsertion K.cmp hash key value number (old_of r) (kind_entries self) (kind_entries result.0)) }
         ensures key { IfOk result.1 (λ r. IfSome r (λ it. it.key ≡ key)) }
         ensures err { IfErr result.1 (λ n. IsNotInserted key (arc_value value) n) }
         ensures same { OnErr result.1 (kind_entries result.0 ≡ kind_entries self) }
         ensures kind { kind_is_tree result.0
-            ≡ (kind_is_tree self || nat_le (MOST_IN_LIST + 1) (length (kind_entries result.0))) }
+            ≡ (kind_is_tree self || nat_le (MAX_LIST_LEN + 1) (length (kind_entries result.0))) }
     {
         match self {
             Kind::AsTree(tree) => {
@@ -258,7 +258,7 @@ impl<K: Ord + Drop, V: Drop, A: Allocator + Copy> Kind<K, V, A> {
             few => {
                 let mut list = few.into_list();
                 let reply = list.insert(alloc, hash, key, value, number);
-                (Kind::from_list(list, MOST_IN_LIST + 1), reply)
+                (Kind::from_list(list, MAX_LIST_LEN + 1), reply)
             }
         }
     }
@@ -269,17 +269,17 @@ impl<K: Ord + Drop, V: Drop, A: Allocator> NodeTree<K, V, A> {
     // least seven nodes, and a list otherwise. A tree whose entries have one hash goes to one side as it is.
     fn split(self, bit: u8) -> (Kind<K, V, A>, Kind<K, V, A>)
         requires bit { bit < 64 }
-        requires sized { LEAST_IN_TREE ≤ length (inorder (node_shape self.root.value)) }
+        requires sized { MIN_TREE_LEN ≤ length (inorder (node_shape self.root.value)) }
         ensures low { kind_entries result.0 ≡ with_bit bit 0 (inorder (node_shape self.root.value)) }
         ensures high { kind_entries result.1 ≡ with_bit bit 1 (inorder (node_shape self.root.value)) }
-        ensures low_kind { kind_is_tree result.0 ≡ nat_le LEAST_IN_TREE (length (kind_entries result.0)) }
-        ensures high_kind { kind_is_tree result.1 ≡ nat_le LEAST_IN_TREE (length (kind_entries result.1)) }
+        ensures low_kind { kind_is_tree result.0 ≡ nat_le MIN_TREE_LEN (length (kind_entries result.0)) }
+        ensures high_kind { kind_is_tree result.1 ≡ nat_le MIN_TREE_LEN (length (kind_entries result.1)) }
     {
         let Some(hash) = tree::only_hash(Some(self.root.as_ref())) else {
             let (low, high) = self.into_tree().into_list().split(bit);
             return (
-                Kind::from_list(low, LEAST_IN_TREE),
-                Kind::from_list(high, LEAST_IN_TREE),
+                Kind::from_list(low, MIN_TREE_LEN),
+                Kind::from_list(high, MIN_TREE_LEN),
             );
         };
         if (hash >> bit) & 1 == 0 {

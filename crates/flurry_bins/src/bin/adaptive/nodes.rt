@@ -3,7 +3,7 @@ ghost use Rattle.std.specs.Prelude.{◌≡◌, ◌<◌, ◌≤◌, length};
 ghost use Rattle.flurry_bins.specs.Chain.{chain, node_chain, entry_of};
 ghost use Rattle.flurry_bins.specs.Entries.{IsAscending, IsAscending-prop, is_at};
 ghost use Rattle.flurry_bins.specs.Tree.{shape, node_shape, inorder, IsRedBlack, IsRedBlack-prop};
-ghost use Rattle.flurry_model.specs.declared.sizes.TheConstants.{MOST_PAIRS};
+ghost use Rattle.flurry_base.specs.declared.sizes.TheConstants.{MAX_LEN};
 
 use crate::bin::list::ListBin;
 use crate::bin::node::{BoxedNode, Node};
@@ -36,7 +36,7 @@ pub(super) struct NodeList<K: Ord, V, A: Allocator = Global> {
     pub(super) head: BoxedNode<K, V, A>,
     ghost ascending: { IsAscending K.cmp (node_chain head.value) } by { IsAscending-prop K.cmp (node_chain head.value) },
     ghost counted: { len ≡ length (node_chain head.value) },
-    ghost short: { len ≤ MOST_PAIRS },
+    ghost short: { len ≤ MAX_LEN },
 }
 
 impl<K: Ord, V, A: Allocator> NodeList<K, V, A> {
@@ -55,7 +55,7 @@ pub(super) struct NodeTree<K: Ord, V, A: Allocator = Global> {
     ghost ascending: { IsAscending K.cmp (inorder (node_shape root.value)) } by { IsAscending-prop K.cmp (inorder (node_shape root.value)) },
     ghost balanced: { IsRedBlack (node_shape root.value) } by { IsRedBlack-prop (node_shape root.value) },
     ghost counted: { len ≡ length (inorder (node_shape root.value)) },
-    ghost short: { len ≤ MOST_PAIRS },
+    ghost short: { len ≤ MAX_LEN },
 }
 
 impl<K: Ord, V, A: Allocator> NodeTree<K, V, A> {

@@ -1,9 +1,9 @@
 //! Keeping some of the entries of a list.
 ghost use Rattle.std.specs.Prelude.{◌≡◌, ◌≤◌, length};
 ghost use Rattle.flurry_bins.specs.Chain.{chain};
-ghost use Rattle.flurry_model.specs.Keeps.{Keeps};
+ghost use Rattle.flurry_base.specs.Keeps.{Keeps};
 ghost use Rattle.flurry_bins.specs.EntryCall.{CalledAtEntry};
-ghost use Rattle.flurry_model.specs.declared.sizes.TheConstants.{MOST_PAIRS};
+ghost use Rattle.flurry_base.specs.declared.sizes.TheConstants.{MAX_LEN};
 
 use super::{ListBin, detach_tail, prepend, prepend_reversed};
 use crate::bin::node::{Link, Node};
@@ -16,7 +16,7 @@ fn retained<K: Drop, V: Drop, A: Allocator, F: FnMut(&K, &V) -> bool>(
     keep: &mut F,
 ) -> (Link<K, V, A>, usize)
     requires callable { F.IsAlwaysCallable keep.old }
-    requires short { length (chain head) ≤ MOST_PAIRS }
+    requires short { length (chain head) ≤ MAX_LEN }
     ensures kept { Keeps (CalledAtEntry F.step) keep.old (chain head) (chain result.0) keep.new }
     ensures len { result.1 ≡ length (chain result.0) }
     ensures callable { F.IsAlwaysCallable keep.new }

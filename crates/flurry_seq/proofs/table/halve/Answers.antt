@@ -1,7 +1,7 @@
 use Rattle.std.proofs.Common.{◌≡◌, [], ◌∷◌, set, length, ◌∙◌, arith}
 use Rattle.std.proofs.lemmas.List.{length-map}
 use Rattle.flurry_bins.specs.Bin.{entries_of_bin}
-use Rattle.flurry_model.proofs.ListParts.{all_append}
+use Rattle.flurry_base.proofs.ListParts.{all_append}
 use Rattle.flurry_seq.proofs.NumberLemmas.{all_at, all_filter, all_set}
 use Rattle.flurry_seq.specs.MapsOfBins.{plain_bin, maps_of_bins}
 use Rattle.flurry_seq.proofs.MapsOfBinsLemmas.{halved_here}

@@ -4,7 +4,7 @@ use Rattle.std.proofs.lemmas.Cmp.{on_total}
 use Rattle.std.proofs.lemmas.Fn.{always_returns_same, dedup_same}
 use Rattle.std.proofs.lemmas.List.Kept.{IsStrictlySortedBy-dedup}
 use Rattle.std.proofs.lemmas.List.Sorted.{ranks_by}
-use Rattle.flurry_pairs.proofs.SortedLaws.{keys_ascend}
+use Rattle.flurry_seq_pairs.proofs.SortedLaws.{keys_ascend}
 use Rattle.flurry_shared_pairs.proofs.ascending.ascending_pairs.Goals as goal
 
 pub returns : goal.returns

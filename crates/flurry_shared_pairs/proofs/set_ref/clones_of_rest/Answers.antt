@@ -1,5 +1,5 @@
 use Rattle.std.proofs.Common.{Ok, ◌∙◌, ap}
-use Rattle.flurry_map_ref.proofs.WalkLaws.{opens, stays_open}
+use Rattle.flurry_shared_view.proofs.WalkLaws.{opens, stays_open}
 use Rattle.flurry_shared_pairs.proofs.set_ref.clones_of_rest.Goals as goal
 
 pub loop-list-init : goal.loop-list-init

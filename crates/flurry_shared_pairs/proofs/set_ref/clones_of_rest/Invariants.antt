@@ -1,6 +1,6 @@
 use Rattle.std.proofs.Common.{◌-◌, ◌^◌}
 use Rattle.std.specs.Vec.{vec_len}
-use Rattle.flurry_map_ref.specs.Walks.{IsOpen}
+use Rattle.flurry_shared_view.specs.Walks.{IsOpen}
 use Rattle.flurry_shared_pairs.proofs.set_ref.clones_of_rest.Given as goal
 
 abbrev pub invariant-loop-list : goal.invariant-loop-list

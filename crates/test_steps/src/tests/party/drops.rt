@@ -4,9 +4,9 @@ use super::super::same;
 use super::{
     Map, NONE, ONE_AND_SEVENTEEN, Row, Told, empty_map, go_on, run, seen_by, steps, value,
 };
-use flurry_calls::Seen;
-use flurry_slots::{ComputeFn, NoFn};
+use flurry_bins_slots::{ComputeFn, NoFn};
 use flurry_steps::party::{Call, Event, OwnedCall, Party};
+use flurry_steps_sweep::Seen;
 use std::process::Abort;
 
 // Makes the map of one and seventeen, and returns what a walk of it reads first, which is key 1.

@@ -2,7 +2,7 @@
 
 use super::super::same;
 use super::{Act, Map, NONE, Row, Told, empty_map, follows, go_on, goes_through, value};
-use flurry_model::reply::KeptReply;
+use flurry_base::reply::KeptReply;
 use flurry_steps::party::{Event, OwnedCall, Want};
 use std::process::Abort;
 

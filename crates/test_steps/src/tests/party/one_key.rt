@@ -5,7 +5,7 @@ use super::{
     Act, Becomes, INSERTS_THREE, Map, NONE, Row, Told, empty_map, follows, go_on, goes_through,
     run, value,
 };
-use flurry_model::reply::KeptReply;
+use flurry_base::reply::KeptReply;
 use flurry_steps::party::{Call, Event, OwnedCall, Want};
 use std::cell::Cell;
 use std::process::Abort;

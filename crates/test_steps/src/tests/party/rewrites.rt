@@ -1,7 +1,7 @@
 //! A key that is written again and again: while there is memory, no call fails at any write number.
 
 use super::{Asked, Becomes, INSERTS_THREE, Map, Row, Told, empty_map, go_on, value};
-use flurry_model::reply::KeptReply;
+use flurry_base::reply::KeptReply;
 use flurry_steps::party::{Event, OwnedCall};
 use std::process::Abort;
 

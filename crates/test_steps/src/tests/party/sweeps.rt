@@ -1,16 +1,16 @@
 //! Walks and clears, between the steps of other calls. Each of them is dropped explicitly, as calls in progress are.
 ghost use Rattle.std.specs.Prelude.{◌≡◌};
-ghost use Rattle.flurry_calls.specs.Part.{LookPart, BinPart};
-ghost use Rattle.flurry_calls.specs.Sweep.{swept_part};
+ghost use Rattle.flurry_steps_sweep.specs.Part.{LookPart, BinPart};
+ghost use Rattle.flurry_steps_sweep.specs.Sweep.{swept_part};
 
 use super::super::{same, same_at};
 use super::{
     Act, Map, NONE, ONE_AND_SEVENTEEN, Row, Told, does, empty_map, follows, go_on, goes_through,
     lent, plain, value,
 };
-use flurry_calls::{Seen, Sweep};
-use flurry_slots::Slot;
+use flurry_bins_slots::Slot;
 use flurry_steps::party::{Event, OwnedCall, Want};
+use flurry_steps_sweep::{Seen, Sweep};
 use std::process::Abort;
 
 // Does the step of a walk that needs to read a slot.
@@ -72,7 +72,7 @@ fn reads(rt: &impl Abort, walk: &mut Sweep<u64, u64>, map: &mut Map, key: u64, v
 fn starts(rt: &impl Abort, sweep: &mut Sweep<u64, u64>, map: &Map) {
     let start = map.control.start().expect(rt, "there is a table");
     assert!(rt; sweep.sets_out());
-    same(rt, sweep.on_start(&start), Event::Silent);
+    same(rt, sweep.on_published(&start), Event::Silent);
     same(rt, sweep.sets_out(), false);
 }
 

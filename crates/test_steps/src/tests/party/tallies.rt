@@ -3,10 +3,10 @@ ghost use Rattle.flurry_steps.specs.PartyView.{CallIsReady};
 
 use super::super::{same, same_at};
 use super::{Asked, Map, NONE, Row, Told, call_of, empty_map, end, go_on, step, value};
-use flurry_control::Tally;
-use flurry_model::reply::KeptReply;
-use flurry_slots::ComputeFn;
+use flurry_base::reply::KeptReply;
+use flurry_bins_slots::ComputeFn;
 use flurry_steps::party::{Call, Event, OwnedCall, Party, Want};
+use flurry_steps_control::Tally;
 use std::process::Abort;
 
 // Does the steps of a call that counts at the tally. Returns what the call needs after that, and its reply.

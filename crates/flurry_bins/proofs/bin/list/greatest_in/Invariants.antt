@@ -1,6 +1,6 @@
 use Rattle.std.proofs.Common.{◌≡◌, length, map, max}
 use Rattle.flurry_bins.specs.Chain.{chain_from}
-use Rattle.flurry_model.specs.Greatest.{greatest}
+use Rattle.flurry_base.specs.Greatest.{greatest}
 use Rattle.flurry_bins.proofs.bin.list.greatest_in.Given as goal
 
 abbrev pub invariant-loop-link : goal.invariant-loop-link

@@ -2,7 +2,7 @@ use Rattle.std.proofs.Common.{sym, ap, ◌∙◌, arith}
 use Rattle.std.specs.Option.{option_or, option_copied}
 use Rattle.flurry_bins.specs.Entries.{lent_bound, entry_cmp}
 use Rattle.flurry_bins.specs.Tree.{tree_size}
-use Rattle.flurry_model.proofs.ListParts.{sorted_front, sorted_back, sorted_tail}
+use Rattle.flurry_base.proofs.ListParts.{sorted_front, sorted_back, sorted_tail}
 use Rattle.flurry_bins.proofs.Trees.{step_to_left, step_to_right, next_left, next_right}
 use Rattle.flurry_bins.proofs.bin.tree.next_in.Goals as goal
 

@@ -1,7 +1,7 @@
 use Rattle.std.proofs.Common.{[], length, ap}
 use Rattle.flurry_seq.specs.Contents.{contents}
 use Rattle.flurry_seq.proofs.GrowthLemmas.{IsTable-empty, all_pairs-empty, length-empty}
-use Rattle.flurry_model.proofs.FiniteMapLaws.{IsFiniteMap-map_of_pairs}
+use Rattle.flurry_base.proofs.FiniteMapLaws.{IsFiniteMap-map_of_pairs}
 use Rattle.flurry_seq.specs.Table.{all_pairs}
 use Rattle.flurry_seq.proofs.seq_map.SeqMap.clear.Goals as goal
 

@@ -1,7 +1,7 @@
 use Rattle.std.proofs.Common.{length, sym, ap, ◌∙◌}
 use Rattle.std.proofs.lemmas.List.{length-map}
 use Rattle.std.proofs.lemmas.List.Sorted.{length_permutation}
-use Rattle.flurry_model.specs.FiniteMap.{map_of_pairs}
+use Rattle.flurry_base.specs.FiniteMap.{map_of_pairs}
 use Rattle.flurry_seq.specs.Table.{pair_of, all_pairs, all_entries}
 use Rattle.flurry_seq.proofs.IterLaws.{pairs_permute, all_apart}
 use Rattle.flurry_seq.proofs.RemainingLemmas.{all_pairs-of_entries, all_hashed}

@@ -1,7 +1,7 @@
 use Rattle.std.proofs.Common.{◌≡◌, ◌+◌, List, [], ◌∷◌, Ordering, length, inl, subst, ap, ◌∙◌, arith}
 use Rattle.std.specs.Cmp.{IsTotalOrder}
-use Rattle.flurry_model.specs.FiniteMap.{IsFiniteMap, with_all, with_pair}
-use Rattle.flurry_model.proofs.FiniteMapLaws.{IsFiniteMap-with_pair}
+use Rattle.flurry_base.specs.FiniteMap.{IsFiniteMap, with_all, with_pair}
+use Rattle.flurry_base.proofs.FiniteMapLaws.{IsFiniteMap-with_pair}
 use Rattle.flurry_seq.specs.Growth.{bins_for, HasRoom}
 use Rattle.flurry_seq.proofs.RoomLaws.{room_for}
 use Rattle.flurry_seq.proofs.seq_map.SeqMap.from_list.Goals as goal

@@ -1,5 +1,5 @@
 use Rattle.std.proofs.Common.{◌*◌, length, inl, inr, refl, subst}
-use Rattle.flurry_model.specs.Sizes.{wanted_of, IsOnTheWay}
+use Rattle.flurry_base.specs.Sizes.{wanted_of, IsOnTheWay}
 use Rattle.flurry_seq.specs.Growth.{IsTableFrom}
 use Rattle.flurry_seq.specs.Invariant.{IsTableSize}
 use Rattle.flurry_seq.proofs.RoomLaws.{way_up, asked_most}

@@ -1,10 +1,10 @@
 use Rattle.std.proofs.Common.{◌≡◌, ◌^◌, ◌+◌, ◌*◌, ◌<◌, ◌≤◌, length, refl, sym, ap, ◌∙◌, arith}
-use Rattle.flurry_model.specs.Sizes.{threshold_of}
-use Rattle.flurry_model.proofs.SizeLaws.{way_start, way_more}
+use Rattle.flurry_base.specs.Sizes.{threshold_of}
+use Rattle.flurry_base.proofs.SizeLaws.{way_start, way_more}
 use Rattle.flurry_seq.proofs.RoomLaws.{of_ok}
 use Rattle.flurry_seq.specs.Contents.{contents}
 use Rattle.flurry_seq.proofs.seq_map.SeqMap.grow_while_full.Goals as goal
-use Rattle.flurry_model.specs.declared.sizes.TheConstants.{GREATEST_TABLE}
+use Rattle.flurry_base.specs.declared.sizes.TheConstants.{MAX_TABLE}
 
 pub loop-self-init : goal.loop-self-init
 loop-self-init g c = record { same = (refl, refl); some = c.requires; way = way_start c.args.self.now.bins (length c.args.self.now.pairs + 1) }
@@ -12,7 +12,7 @@ loop-self-init g c = record { same = (refl, refl); some = c.requires; way = way_
 pub loop-self-preserved : goal.loop-self-preserved
 loop-self-preserved g c =
     let full : threshold_of c.loop-self.self.bins ≤ c.len.result = rw (c.threshold.ensures, c.capacity.ensures.bins) at c.loop-self-test.true in
-    let less : c.loop-self.self.bins < 2 ^ GREATEST_TABLE = rw c.capacity-in-loop-self.ensures.bins at c.if-capacity-lt-MOST_BINS.true in
+    let less : c.loop-self.self.bins < 2 ^ MAX_TABLE = rw c.capacity-in-loop-self.ensures.bins at c.if-capacity-lt-MAX_BINS.true in
     let many = ap length c.loop-self.invariant.same.0 in
     let done : c.double.new.self ≡ contents c.loop-self.self.pairs (2 * c.loop-self.self.bins) c.loop-self.self.hasher = of_ok c.double.result _ (sym c.is_err.ensures.value ∙ c.if-is_err.false) c.double.ensures.ok in
     rw done (record {

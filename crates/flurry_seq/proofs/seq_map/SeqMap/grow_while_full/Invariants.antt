@@ -1,8 +1,8 @@
 use Rattle.std.proofs.Common.{◌+◌, ◌-◌, ◌^◌, ◌<◌, length}
-use Rattle.flurry_model.specs.Sizes.{IsOnTheWay}
+use Rattle.flurry_base.specs.Sizes.{IsOnTheWay}
 use Rattle.flurry_seq.specs.Contents.{SamePairs}
 use Rattle.flurry_seq.proofs.seq_map.SeqMap.grow_while_full.Given as goal
-use Rattle.flurry_model.specs.declared.sizes.TheConstants.{GREATEST_TABLE}
+use Rattle.flurry_base.specs.declared.sizes.TheConstants.{MAX_TABLE}
 
 abbrev pub invariant-loop-self : goal.invariant-loop-self
 invariant-loop-self g l = record {
@@ -12,4 +12,4 @@ invariant-loop-self g l = record {
 }
 
 abbrev pub decreases-loop-self : goal.decreases-loop-self
-decreases-loop-self g l = 2 ^ GREATEST_TABLE - l.self.bins
+decreases-loop-self g l = 2 ^ MAX_TABLE - l.self.bins

@@ -1,4 +1,4 @@
-use Rattle.flurry_model.proofs.FiniteMapLaws.{IsFiniteMap-map_of_pairs}
+use Rattle.flurry_base.proofs.FiniteMapLaws.{IsFiniteMap-map_of_pairs}
 use Rattle.flurry_seq.specs.Table.{all_pairs}
 use Rattle.flurry_seq.proofs.seq_map.SeqMap.hash_of.Goals as goal
 

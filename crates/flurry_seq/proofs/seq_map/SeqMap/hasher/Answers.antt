@@ -1,5 +1,5 @@
 use Rattle.std.proofs.Common.{refl}
-use Rattle.flurry_model.proofs.FiniteMapLaws.{IsFiniteMap-map_of_pairs}
+use Rattle.flurry_base.proofs.FiniteMapLaws.{IsFiniteMap-map_of_pairs}
 use Rattle.flurry_seq.specs.Table.{all_pairs}
 use Rattle.flurry_seq.proofs.seq_map.SeqMap.hasher.Goals as goal
 

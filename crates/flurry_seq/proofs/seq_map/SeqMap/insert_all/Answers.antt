@@ -1,7 +1,7 @@
 use Rattle.std.proofs.Common.{◌∷◌, [], ◌++◌, length, is_some, sym, ap, ◌∙◌, append_assoc}
 use Rattle.std.specs.Vec.Iter.{into_iter_items}
-use Rattle.flurry_model.specs.FiniteMap.{pair_at, with_pair}
-use Rattle.flurry_model.proofs.FiniteMapLaws.{length-with_pair, with_all-push}
+use Rattle.flurry_base.specs.FiniteMap.{pair_at, with_pair}
+use Rattle.flurry_base.proofs.FiniteMapLaws.{length-with_pair, with_all-push}
 use Rattle.flurry_seq.proofs.RunLaws.{on_err}
 use Rattle.flurry_seq.proofs.RoomLaws.{count_put, of_option, one_more, room_put}
 use Rattle.flurry_seq.proofs.seq_map.SeqMap.insert_all.Goals as goal

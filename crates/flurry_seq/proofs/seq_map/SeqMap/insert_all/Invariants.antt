@@ -1,6 +1,6 @@
 use Rattle.std.proofs.Common.{◌≡◌, ℕ, ◌+◌, ◌≤◌, ◌++◌, length}
 use Rattle.std.specs.Vec.Iter.{into_iter_items}
-use Rattle.flurry_model.specs.FiniteMap.{with_all}
+use Rattle.flurry_base.specs.FiniteMap.{with_all}
 use Rattle.flurry_seq.specs.Growth.{IsTableFrom, HasRoom}
 use Rattle.flurry_seq.proofs.seq_map.SeqMap.insert_all.Given as goal
 

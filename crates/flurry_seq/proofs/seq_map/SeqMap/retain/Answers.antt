@@ -1,10 +1,10 @@
 use Rattle.std.proofs.Common.{ap, arith}
-use Rattle.flurry_model.specs.FiniteMap.{map_of_pairs}
+use Rattle.flurry_base.specs.FiniteMap.{map_of_pairs}
 use Rattle.flurry_seq.specs.Contents.{contents}
 use Rattle.flurry_seq.specs.Table.{all_pairs}
 use Rattle.flurry_seq.proofs.IterLaws.{pairs_permute}
 use Rattle.flurry_seq.proofs.KeepsLemmas.{as_many, IsTable-kept, KeepsBins-length, KeepsBins-pairs}
-use Rattle.flurry_model.proofs.FiniteMapLaws.{IsFiniteMap-map_of_pairs}
+use Rattle.flurry_base.proofs.FiniteMapLaws.{IsFiniteMap-map_of_pairs}
 use Rattle.flurry_seq.proofs.seq_map.SeqMap.retain.Goals as goal
 
 pub retain-self-inside-requires-clause-few : goal.retain-self-inside-requires-clause-few

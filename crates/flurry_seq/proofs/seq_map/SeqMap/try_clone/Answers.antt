@@ -1,6 +1,6 @@
 use Rattle.std.proofs.Common.{◌≡◌, suc, ◌+◌, ◌≤◌, [], length, is_some, inl, ap, ◌∙◌, arith, rules}
-use Rattle.flurry_model.specs.FiniteMap.{pair_at}
-use Rattle.flurry_model.proofs.FiniteMapLaws.{length-with_pair}
+use Rattle.flurry_base.specs.FiniteMap.{pair_at}
+use Rattle.flurry_base.proofs.FiniteMapLaws.{length-with_pair}
 use Rattle.flurry_seq.specs.Growth.{bins_for}
 use Rattle.flurry_seq.proofs.RoomLaws.{one_more, room_for, room_more}
 use Rattle.flurry_bins.specs.PlainEntries.{pair_of_entry}

@@ -1,5 +1,5 @@
 use Rattle.std.proofs.Common.{inr, subst, sym, rules}
-use Rattle.flurry_model.proofs.FiniteMapLaws.{IsFiniteMap-nil}
+use Rattle.flurry_base.proofs.FiniteMapLaws.{IsFiniteMap-nil}
 use Rattle.flurry_seq.specs.Invariant.{IsTableSize}
 use Rattle.flurry_seq.proofs.GrowthLemmas.{wanted_size}
 use Rattle.flurry_seq.proofs.seq_map.SeqMap.with_capacity_and_hasher.Goals as goal

@@ -1,5 +1,5 @@
 use Rattle.std.proofs.Common.{rules}
-use Rattle.flurry_model.proofs.FiniteMapLaws.{IsFiniteMap-nil}
+use Rattle.flurry_base.proofs.FiniteMapLaws.{IsFiniteMap-nil}
 use Rattle.flurry_seq.proofs.seq_map.SeqMap.with_hasher.Goals as goal
 
 pub invariant_of-result : goal.invariant_of-result

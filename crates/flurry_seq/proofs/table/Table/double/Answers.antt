@@ -5,12 +5,12 @@ use Rattle.flurry_seq.specs.MapsOfBins.{plain_bin, maps_of_bins}
 use Rattle.flurry_seq.specs.Table.{bins_doubled}
 use Rattle.flurry_seq.proofs.GrowthLemmas.{size_doubled, length-doubled}
 use Rattle.flurry_seq.proofs.table.Table.double.Goals as goal
-use Rattle.flurry_model.specs.declared.sizes.TheConstants.{GREATEST_TABLE}
+use Rattle.flurry_base.specs.declared.sizes.TheConstants.{MAX_TABLE}
 
 pub invariant_of-self-2 : goal.invariant_of-self-2
 invariant_of-self-2 g c =
     let some : 0 < length c.self.inside.bins.items = rw (← c.self.view_is, length-map) at c.requires.some in
-    let less : length c.self.inside.bins.items < 2 ^ GREATEST_TABLE = rw (← c.self.view_is, length-map) at c.requires.less in
+    let less : length c.self.inside.bins.items < 2 ^ MAX_TABLE = rw (← c.self.view_is, length-map) at c.requires.less in
     let all : maps_of_bins c.halve.new.bins.items ≡ bins_doubled (maps_of_bins c.self.inside.bins.items) = c.halve.ensures.bins ∙ ap (λ l. bins_doubled (maps_of_bins l)) c.in_ok-reserve_exact.ensures.items in
     let len : length c.halve.new.bins.items ≡ 2 * length c.self.inside.bins.items =
     sym (length-map c.halve.new.bins.items plain_bin) ∙ ap length all ∙ length-doubled (maps_of_bins c.self.inside.bins.items) ∙ ap (λ n. 2 * n) (length-map c.self.inside.bins.items plain_bin) in (

@@ -1,7 +1,7 @@
 use Rattle.std.proofs.Common.{sym, ap, ◌∙◌, option_map}
 use Rattle.flurry_bins.specs.PlainEntries.{pair_of_entry}
 use Rattle.flurry_seq.proofs.MapsOfBinsLemmas.{entry_here}
-use Rattle.flurry_model.proofs.OptionLaws.{copied}
+use Rattle.flurry_base.proofs.OptionLaws.{copied}
 use Rattle.flurry_seq.proofs.table.Table.find.Goals as goal
 
 pub returns : goal.returns

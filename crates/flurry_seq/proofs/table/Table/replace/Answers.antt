@@ -2,7 +2,7 @@ use Rattle.flurry_bins.specs.Bin.{entries_of_bin}
 use Rattle.flurry_bins.specs.Entries.{entry_at}
 use Rattle.flurry_bins.specs.PlainEntries.{pair_of_entry}
 use Rattle.flurry_seq.proofs.MapsOfBinsLemmas.{entry_here, replaced_here, value_mapped, entry_some}
-use Rattle.flurry_model.proofs.OptionLaws.{some_mapped}
+use Rattle.flurry_base.proofs.OptionLaws.{some_mapped}
 use Rattle.flurry_seq.proofs.NumberLemmas.{all_at, all_set, zero-with_value_at}
 use Rattle.std.proofs.Common.{length-set}
 use Rattle.flurry_seq.proofs.table.Table.replace.Goals as goal

@@ -3,7 +3,7 @@ use Rattle.std.proofs.lemmas.List.{length-map}
 use Rattle.flurry_seq.specs.Invariant.{IsTableSize}
 use Rattle.flurry_seq.specs.MapsOfBins.{maps_of_bins}
 use Rattle.flurry_bins.specs.Bin.{entries_of_bin}
-use Rattle.flurry_model.proofs.KeepsLaws.{Keeps-all}
+use Rattle.flurry_base.proofs.KeepsLaws.{Keeps-all}
 use Rattle.flurry_seq.proofs.NumberLemmas.{all_at, all_set}
 use Rattle.flurry_seq.proofs.KeepsLemmas.{KeepsBefore-all, keeps_here, seen_length, front_len-all}
 use Rattle.flurry_seq.proofs.table.Table.retain.Goals as goal

@@ -1,5 +1,5 @@
 use Rattle.std.proofs.Common.{Ok, ◌∙◌, ap}
-use Rattle.flurry_map_ref.proofs.WalkLaws.{opens, stays_open, comes_to_end}
+use Rattle.flurry_shared_view.proofs.WalkLaws.{opens, stays_open, comes_to_end}
 use Rattle.flurry_shared_set.proofs.set_ref.HashSetRef.each_left_is.Goals as goal
 
 pub loop-init : goal.loop-init

@@ -1,4 +1,4 @@
-use Rattle.flurry_map_ref.specs.Walks.{IsOpen}
+use Rattle.flurry_shared_view.specs.Walks.{IsOpen}
 use Rattle.flurry_shared_set.proofs.set_ref.HashSetRef.each_left_is.Given as goal
 
 abbrev pub invariant-loop : goal.invariant-loop

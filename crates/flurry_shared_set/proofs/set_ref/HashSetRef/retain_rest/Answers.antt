@@ -1,6 +1,6 @@
 use denote.Param.Always.{mut_next}
 use Rattle.std.proofs.Common.{rules, Ok, ◌∙◌, ap}
-use Rattle.flurry_map_ref.proofs.WalkLaws.{opens, stays_open, comes_to_end}
+use Rattle.flurry_shared_view.proofs.WalkLaws.{opens, stays_open, comes_to_end}
 use Rattle.flurry_shared_set.proofs.set_ref.HashSetRef.retain_rest.Goals as goal
 
 pub loop-init : goal.loop-init

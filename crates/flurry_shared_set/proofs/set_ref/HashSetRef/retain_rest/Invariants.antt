@@ -1,5 +1,5 @@
 use denote.Param.Always.{always_mut}
-use Rattle.flurry_map_ref.specs.Walks.{IsOpen}
+use Rattle.flurry_shared_view.specs.Walks.{IsOpen}
 use Rattle.flurry_shared_set.proofs.set_ref.HashSetRef.retain_rest.Given as goal
 
 abbrev pub invariant-loop : goal.invariant-loop

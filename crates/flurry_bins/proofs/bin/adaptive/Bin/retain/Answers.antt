@@ -2,8 +2,8 @@ use Rattle.std.proofs.Common.{◌≤◌, length}
 use Rattle.flurry_bins.specs.Kind.{kind_entries, kind_is_tree}
 use Rattle.flurry_bins.specs.EntryCall.{CalledAtEntry}
 use Rattle.flurry_bins.specs.Bin.{entries_of_bin, is_tree}
-use Rattle.flurry_model.proofs.BinSizeLaws.{IsSized-kept}
-use Rattle.flurry_model.proofs.KeepsLaws.{Keeps-length}
+use Rattle.flurry_base.proofs.BinSizeLaws.{IsSized-kept}
+use Rattle.flurry_base.proofs.KeepsLaws.{Keeps-length}
 use Rattle.flurry_bins.proofs.bin.adaptive.Bin.retain.Goals as goal
 
 pub invariant_of-self : goal.invariant_of-self

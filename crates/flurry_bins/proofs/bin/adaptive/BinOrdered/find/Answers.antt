@@ -1,5 +1,5 @@
 use Rattle.std.proofs.Common.{◌≡◌, ◌≤◌, ℕ, [], ◌∷◌, length, true, false, cond, Ordering, refl, ap, ◌∙◌, arith}
-use Rattle.flurry_model.proofs.ListParts.{sorted_cons, sorted_nil}
+use Rattle.flurry_base.proofs.ListParts.{sorted_cons, sorted_nil}
 use Rattle.flurry_bins.specs.declared.bin.entry.Entry.{Entry}
 use Rattle.flurry_bins.specs.Chain.{node_chain, entry_of}
 use Rattle.flurry_bins.specs.Entries.{entry_at, is_before, list_way}

@@ -4,7 +4,7 @@ use Rattle.flurry_bins.specs.Kind.{kind_entries, kind_is_tree, kind_ascending}
 use Rattle.flurry_bins.specs.Entries.{with_entry}
 use Rattle.flurry_bins.specs.Bin.{entries_of_bin, is_tree}
 use Rattle.flurry_bins.proofs.Insertion.{with_entry-ok}
-use Rattle.flurry_model.proofs.BinSizeLaws.{IsSized-grown}
+use Rattle.flurry_base.proofs.BinSizeLaws.{IsSized-grown}
 use Rattle.flurry_bins.proofs.bin.adaptive.BinOrdered.put_node.Goals as goal
 
 pub invariant_of-self : goal.invariant_of-self

@@ -2,7 +2,7 @@ use Rattle.std.proofs.Common.{◌≤◌, ◌∙◌, not, ap, length, arith}
 use Rattle.flurry_bins.specs.Kind.{kind_entries, kind_is_tree}
 use Rattle.flurry_bins.specs.Entries.{is_at, without}
 use Rattle.flurry_bins.specs.Bin.{entries_of_bin, is_tree}
-use Rattle.flurry_model.proofs.BinSizeLaws.{filter_no_longer, IsSized-kept}
+use Rattle.flurry_base.proofs.BinSizeLaws.{filter_no_longer, IsSized-kept}
 use Rattle.flurry_bins.proofs.bin.adaptive.BinOrdered.remove.Goals as goal
 
 pub invariant_of-self : goal.invariant_of-self

@@ -1,7 +1,7 @@
 use Rattle.std.proofs.Common.{◌==◌, ap, length, ◌≤◌, arith}
 use Rattle.std.specs.Int.{bit_at}
 use Rattle.flurry_bins.specs.Kind.{kind_entries, kind_is_tree}
-use Rattle.flurry_model.proofs.BinSizeLaws.{filter_no_longer, IsSized-kept}
+use Rattle.flurry_base.proofs.BinSizeLaws.{filter_no_longer, IsSized-kept}
 use Rattle.flurry_bins.proofs.bin.adaptive.BinOrdered.split.Goals as goal
 
 pub invariant_of-result : goal.invariant_of-result

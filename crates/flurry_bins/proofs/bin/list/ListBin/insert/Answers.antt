@@ -1,7 +1,7 @@
 use Rattle.std.proofs.Common.{not, ap, ◌∙◌, arith}
 use Rattle.flurry_bins.specs.Chain.{chain}
-use Rattle.flurry_model.specs.Given.{old_of}
-use Rattle.flurry_bins.proofs.Edits.{IsCut}
+use Rattle.flurry_base.specs.Given.{old_of}
+use Rattle.flurry_bins.proofs.Edits.{IsPartition}
 use Rattle.flurry_bins.proofs.Insertions.{old_of-some, cut_ascending, insertion-joined, insertion-ascending, insertion-longer, insertion-as_long}
 use Rattle.flurry_bins.proofs.bin.list.ListBin.insert.Goals as goal
 use Rattle.flurry_bins.proofs.bin.list.ListBin.insert.Goals.{then-is_none, else-is_none}
@@ -17,7 +17,7 @@ invariant_of-self-then-is_none g c =
     let old = c.args.self.now in
     let o = g.met.K.Ord.total in
     let sides = c.split_before-front.ensures in
-    let cut : IsCut g.K.Ord.cmp c.args.hash c.args.key (chain old.head) (chain c.split_before-front.result.0) (chain c.split_before-front.result.1) = record { whole = sides.whole ∙ ap chain c.take.ensures.value; before = sides.before; stops = sides.stops } in
+    let cut : IsPartition g.K.Ord.cmp c.args.hash c.args.key (chain old.head) (chain c.split_before-front.result.0) (chain c.split_before-front.result.1) = record { whole = sides.whole ∙ ap chain c.take.ensures.value; before = sides.before; stops = sides.stops } in
     let all = insertion-joined o c.args.hash c.args.key c.args.value c.args.number (old_of c.in_ok-replaced.replaced) (chain old.head) (chain c.split_before-front.result.0) (chain c.split_before-front.result.1) (chain c.insert_first-reply.new.rest) (chain c.prepend_reversed.result) cut c.in_ok-replaced.ensures.ok c.prepend_reversed.ensures in
     let longer = insertion-longer o c.args.hash c.args.key c.args.value c.args.number (old_of c.in_ok-replaced.replaced) (chain old.head) (chain c.prepend_reversed.result) (old_of-some _ (c.is_none.ensures ∙ ap not c.if-is_none.true)) old.ascending all in
     record {
@@ -31,7 +31,7 @@ invariant_of-self-else-is_none g c =
     let old = c.args.self.now in
     let o = g.met.K.Ord.total in
     let sides = c.split_before-front.ensures in
-    let cut : IsCut g.K.Ord.cmp c.args.hash c.args.key (chain old.head) (chain c.split_before-front.result.0) (chain c.split_before-front.result.1) = record { whole = sides.whole ∙ ap chain c.take.ensures.value; before = sides.before; stops = sides.stops } in
+    let cut : IsPartition g.K.Ord.cmp c.args.hash c.args.key (chain old.head) (chain c.split_before-front.result.0) (chain c.split_before-front.result.1) = record { whole = sides.whole ∙ ap chain c.take.ensures.value; before = sides.before; stops = sides.stops } in
     let all = insertion-joined o c.args.hash c.args.key c.args.value c.args.number (old_of c.in_ok-replaced.replaced) (chain old.head) (chain c.split_before-front.result.0) (chain c.split_before-front.result.1) (chain c.insert_first-reply.new.rest) (chain c.prepend_reversed.result) cut c.in_ok-replaced.ensures.ok c.prepend_reversed.ensures in
     let as_long = insertion-as_long o c.args.hash c.args.key c.args.value c.args.number (old_of c.in_ok-replaced.replaced) (chain old.head) (chain c.prepend_reversed.result) (old_of-some _ (c.is_none.ensures ∙ ap not c.if-is_none.false)) all in
     record {
@@ -45,6 +45,6 @@ returns-clause-ok g c =
     let old = c.args.self.now in
     let o = g.met.K.Ord.total in
     let sides = c.split_before-front.ensures in
-    let cut : IsCut g.K.Ord.cmp c.args.hash c.args.key (chain old.head) (chain c.split_before-front.result.0) (chain c.split_before-front.result.1) = record { whole = sides.whole ∙ ap chain c.take.ensures.value; before = sides.before; stops = sides.stops } in
+    let cut : IsPartition g.K.Ord.cmp c.args.hash c.args.key (chain old.head) (chain c.split_before-front.result.0) (chain c.split_before-front.result.1) = record { whole = sides.whole ∙ ap chain c.take.ensures.value; before = sides.before; stops = sides.stops } in
     let all = insertion-joined o c.args.hash c.args.key c.args.value c.args.number (old_of c.in_ok-replaced.replaced) (chain old.head) (chain c.split_before-front.result.0) (chain c.split_before-front.result.1) (chain c.insert_first-reply.new.rest) (chain c.prepend_reversed.result) cut c.in_ok-replaced.ensures.ok c.prepend_reversed.ensures in
     elim c.if-is_none.branch [ then-is_none w ↦ rw w.self-is all | else-is_none w ↦ rw w.self-is all ]

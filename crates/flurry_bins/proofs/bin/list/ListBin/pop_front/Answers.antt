@@ -1,5 +1,5 @@
 use Rattle.std.proofs.Common.{◌≡◌, ◌∷◌, ◌∙◌, sym, ap, length, arith}
-use Rattle.flurry_model.proofs.ListParts.{sorted_tail}
+use Rattle.flurry_base.proofs.ListParts.{sorted_tail}
 use Rattle.flurry_bins.specs.Chain.{chain, entry_of}
 use Rattle.flurry_bins.proofs.bin.list.ListBin.pop_front.Goals as goal
 

@@ -2,7 +2,7 @@ use Rattle.std.proofs.Common.{length, ap, ◌∙◌, arith}
 use Rattle.flurry_bins.specs.Chain.{chain}
 use Rattle.flurry_bins.specs.Entries.{entry_cmp}
 use Rattle.flurry_bins.specs.EntryCall.{CalledAtEntry}
-use Rattle.flurry_model.proofs.KeepsLaws.{Keeps-length, Keeps-sorted}
+use Rattle.flurry_base.proofs.KeepsLaws.{Keeps-length, Keeps-sorted}
 use Rattle.flurry_bins.proofs.bin.list.ListBin.retain.Goals as goal
 
 pub from_chain-requires-clause-ascending : goal.from_chain-requires-clause-ascending

@@ -1,7 +1,7 @@
 use Rattle.std.proofs.Common.{◌≡◌, ◌∷◌, ap, ◌∙◌, length, of_calls, arith}
 use Rattle.flurry_bins.specs.Chain.{chain, node_chain, entry_of}
 use Rattle.flurry_bins.specs.EntryCall.{CalledAtEntry}
-use Rattle.flurry_model.proofs.KeepsLaws.{KeepsOn-true, KeepsOn-false}
+use Rattle.flurry_base.proofs.KeepsLaws.{KeepsOn-true, KeepsOn-false}
 use Rattle.flurry_bins.proofs.EntryCallLaws.{CalledAtEntry-from}
 use Rattle.flurry_bins.proofs.bin.list.retain.retained.Goals as goal
 

@@ -1,6 +1,6 @@
 use Rattle.std.proofs.Common.{◌≡◌, length, not, ap, ◌∙◌, arith}
 use Rattle.flurry_bins.specs.Balance.{with_black_root}
-use Rattle.flurry_model.specs.Given.{old_of}
+use Rattle.flurry_base.specs.Given.{old_of}
 use Rattle.flurry_bins.specs.Tree.{shape, inorder}
 use Rattle.flurry_bins.proofs.Insertions.{old_of-some, balanced-put, balanced-written, tree_insertion, insertion-ascending, insertion-longer, insertion-as_long}
 use Rattle.flurry_bins.proofs.RedBlack.{inorder-with_black_root}

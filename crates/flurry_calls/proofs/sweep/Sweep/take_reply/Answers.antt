@@ -1,5 +1,0 @@
-use Rattle.std.proofs.Common.{rules}
-use Rattle.flurry_calls.proofs.sweep.Sweep.take_reply.Goals as goal
-
-pub returns-in-End-clause-some : goal.returns-in-End-clause-some
-returns-in-End-clause-some g c = search rules

@@ -1,5 +1,0 @@
-use Rattle.std.proofs.Common.{rules}
-use Rattle.flurry_calls.proofs.sweep.Sweep.want.Goals as goal
-
-pub returns-in-Read : goal.returns-in-Read
-returns-in-Read g c = search rules

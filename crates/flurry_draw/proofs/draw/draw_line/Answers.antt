@@ -1,5 +1,0 @@
-use Rattle.std.proofs.Common.{rules}
-use Rattle.flurry_draw.proofs.draw.draw_line.Goals as goal
-
-pub returns : goal.returns
-returns g = search rules

@@ -1,5 +1,0 @@
-use Rattle.std.proofs.Common.{rules}
-use Rattle.flurry_draw.proofs.draw.draw_mark.Goals as goal
-
-pub returns-then-is_small : goal.returns-then-is_small
-returns-then-is_small g = search rules

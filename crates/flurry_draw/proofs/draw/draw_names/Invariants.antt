@@ -1,5 +1,0 @@
-use Rattle.flurry_draw.specs.ReaderState.{AddsNames}
-use Rattle.flurry_draw.proofs.draw.draw_names.Given as goal
-
-abbrev pub invariant-loop-lane : goal.invariant-loop-lane
-invariant-loop-lane l = AddsNames l.fn.page l.page

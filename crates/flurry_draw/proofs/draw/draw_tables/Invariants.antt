@@ -1,5 +1,0 @@
-use Rattle.flurry_draw.specs.ReaderState.{AddsNames}
-use Rattle.flurry_draw.proofs.draw.draw_tables.Given as goal
-
-abbrev pub invariant-loop-table : goal.invariant-loop-table
-invariant-loop-table l = AddsNames l.fn.page l.page

@@ -1,5 +1,0 @@
-use Rattle.flurry_draw.specs.ReaderState.{BeginsTag}
-use Rattle.flurry_draw.proofs.page.tag_of.Given as goal
-
-abbrev pub invariant-loop-byte : goal.invariant-loop-byte
-invariant-loop-byte l = BeginsTag l.tag.items

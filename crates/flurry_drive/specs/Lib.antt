@@ -1,2 +1,0 @@
-pub mod Tells
-pub mod Exact

@@ -1,9 +1,0 @@
-use Rattle.flurry_world.specs.declared.world.Step.TheVariants as step
-use Rattle.flurry_lines.proofs.ScheduleLemmas.{not_done}
-use Rattle.flurry_lines.proofs.world.begin.Goals as goal
-
-pub returns-in_ok-out_of_memory-in-Err-clause-answer : goal.returns-in_ok-out_of_memory-in-Err-clause-answer
-returns-in_ok-out_of_memory-in-Err-clause-answer g c =
-    not_done g.F.ComputeFn.changes c.in_ok-out_of_memory-in-Err.field-0 c.args.world.now c.begin.new.self (step.Begin c.args.call)
-    (g.W.Sink.contents c.args.writer.now) (g.W.Sink.contents c.out_of_memory.new.writer)
-    c.in-Err.ensures.err c.in_ok-out_of_memory-in-Err.ensures.status c.in_ok-out_of_memory-in-Err.ensures.bytes

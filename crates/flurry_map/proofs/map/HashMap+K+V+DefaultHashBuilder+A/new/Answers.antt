@@ -1,5 +1,0 @@
-use Rattle.std.proofs.Common.{rules}
-use Rattle.flurry_map.proofs.map.HashMap+K+V+DefaultHashBuilder+A.new.Goals as goal
-
-pub returns-clause-seed : goal.returns-clause-seed
-returns-clause-seed g c = search rules

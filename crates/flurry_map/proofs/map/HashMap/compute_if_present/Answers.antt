@@ -1,4 +1,0 @@
-use Rattle.flurry_map.proofs.map.HashMap.compute_if_present.Goals as goal
-
-pub returns-clause-answer : goal.returns-clause-answer
-returns-clause-answer g c = rw c.pin.ensures at c.compute_if_present.ensures.answer

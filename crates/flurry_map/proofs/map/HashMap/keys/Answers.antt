@@ -1,5 +1,0 @@
-use Rattle.std.proofs.Common.{rules}
-use Rattle.flurry_map.proofs.map.HashMap.keys.Goals as goal
-
-pub returns : goal.returns
-returns g c = search rules

@@ -1,5 +1,0 @@
-use Rattle.std.proofs.Common.{rules}
-use Rattle.flurry_model.proofs.sizes.stride.Goals as goal
-
-pub returns-else-processors-le1 : goal.returns-else-processors-le1
-returns-else-processors-le1 c = search rules

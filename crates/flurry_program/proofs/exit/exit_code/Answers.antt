@@ -1,5 +1,0 @@
-use Rattle.std.proofs.Common.{rules}
-use Rattle.flurry_program.proofs.exit.exit_code.Goals as goal
-
-pub returns : goal.returns
-returns c = search rules

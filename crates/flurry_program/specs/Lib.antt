@@ -1,6 +1,0 @@
-pub mod Arguments
-pub mod Threads
-pub use Rattle.flurry_lines.specs.Endings
-pub use Rattle.flurry_lines.specs.Runs
-pub use Rattle.flurry_lines.specs.ScheduleRuns
-pub use Rattle.flurry_lines.specs.SeqReplies

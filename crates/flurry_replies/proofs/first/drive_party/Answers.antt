@@ -1,5 +1,0 @@
-use Rattle.flurry_replies.proofs.LenderLaws.{driven_reply}
-use Rattle.flurry_replies.proofs.first.drive_party.Goals as goal
-
-pub returns : goal.returns
-returns g c = driven_reply g.K.Ord.cmp g.F.ComputeFn.changes _ _ c.finish-reply.ensures

@@ -1,0 +1,36 @@
+use Rattle.std.proofs.Common.{[], ◌∷◌, ◌++◌, sym, ap, ◌∙◌, append_assoc}
+use Rattle.std.specs.Vec.Iter.{into_iter_items}
+use Rattle.flurry_bins.specs.Bin.{entries_of_bin}
+use Rattle.flurry_base.specs.FiniteMap.{with_all}
+use Rattle.flurry_seq.proofs.RunLaws.{on_err}
+use Rattle.flurry_seq_par.specs.Joins.{pairs_in, pairs_of_bins}
+use Rattle.flurry_seq_par.proofs.Fronts.{pairs_of_bins-append, pairs_of_bins-push, front_later}
+use Rattle.flurry_seq_par.proofs.Joining.{with_all-append}
+use Rattle.flurry_seq_par.proofs.map.join_bins.Goals as goal
+
+pub loop-bin-preserved : goal.loop-bin-preserved
+loop-bin-preserved g c =
+    let cmp = g.K.Ord.cmp in
+    let old = c.args.left.now.pairs in
+    let bin = c.in-Some.bin in
+    let before = c.loop-bin.yielded in
+    record {
+      pairs =
+          c.in_ok-join_list.ensures.ok ∙ ap (λ es. with_all cmp c.loop-bin.left.pairs (pairs_in es)) c.into_list.ensures ∙ ap (λ m. with_all cmp m (pairs_in (entries_of_bin bin))) c.loop-bin.invariant.pairs
+          ∙ sym (with_all-append cmp old (pairs_of_bins before) (pairs_in (entries_of_bin bin)))
+          ∙ ap (with_all cmp old) (sym (pairs_of_bins-push before bin));
+      numbers = (rw c.in-Some.ensures.steps.0 at c.loop-bin.invariant.numbers).1;
+      hasher = c.in_ok-join_list.ensures.hasher ∙ c.loop-bin.invariant.hasher;
+      split = append_assoc before (bin ∷ []) (into_iter_items c.next.new.self) ∙ ap (λ l. before ++ l) (sym c.in-Some.ensures.steps.0) ∙ c.loop-bin.invariant.split;
+    }
+
+pub returns-in_err-join_list-clause-err : goal.returns-in_err-join_list-clause-err
+returns-in_err-join_list-clause-err g c =
+    let cmp = g.K.Ord.cmp in
+    let bin = c.in-Some.bin in
+    let before = c.loop-bin.yielded in
+    let after = into_iter_items c.next.new.self in
+    let all = ap pairs_of_bins (sym (ap (λ l. before ++ l) (sym c.in-Some.ensures.steps.0) ∙ c.loop-bin.invariant.split)) ∙ pairs_of_bins-append before (bin ∷ after) in
+    let here = rw c.into_list.ensures at c.in_err-join_list.ensures.err in
+    on_err c.from_residual.result _
+    (front_later (with_all cmp) (with_all-append cmp) c.args.left.now.pairs c.loop-bin.left.pairs c.join_list.new.left.pairs (pairs_of_bins c.args.bins.items) (pairs_of_bins before) (pairs_in (entries_of_bin bin)) (pairs_of_bins after) all c.loop-bin.invariant.pairs here)

@@ -1,0 +1,12 @@
+pub mod SetCalls
+pub mod SetContents
+pub mod SetKinds
+pub mod SetRetain
+pub use Rattle.flurry_base.specs.FiniteMap
+pub use Rattle.flurry_base.specs.FiniteSet
+pub use Rattle.flurry_base.specs.Hashing
+pub use Rattle.flurry_base.specs.Keeps
+pub use Rattle.flurry_base.specs.Sizes
+pub use Rattle.flurry_seq.specs.CallLists
+pub use Rattle.flurry_seq.specs.Contents
+pub use Rattle.flurry_seq.specs.Growth

@@ -1,5 +1,0 @@
-use Rattle.std.proofs.Common.{rules}
-use Rattle.flurry_set.proofs.seq_set.SeqSet+T+DefaultHashBuilder+A.with_capacity.Goals as goal
-
-pub returns-clause-bins : goal.returns-clause-bins
-returns-clause-bins g c = search rules

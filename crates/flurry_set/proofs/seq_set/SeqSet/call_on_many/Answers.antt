@@ -1,4 +1,0 @@
-use Rattle.flurry_set.proofs.seq_set.SeqSet.call_on_many.Goals as goal
-
-pub retain-requires : goal.retain-requires
-retain-requires g c = c.requires.tests c.in-Retain.test

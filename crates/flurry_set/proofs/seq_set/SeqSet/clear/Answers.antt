@@ -1,5 +1,0 @@
-use Rattle.flurry_model.proofs.FiniteMapLaws.{IsFiniteMap-nil}
-use Rattle.flurry_set.proofs.seq_set.SeqSet.clear.Goals as goal
-
-pub invariant_of-self : goal.invariant_of-self
-invariant_of-self g c = rw c.clear.ensures.after (IsFiniteMap-nil (Unit {0}) g.T.Ord.cmp)

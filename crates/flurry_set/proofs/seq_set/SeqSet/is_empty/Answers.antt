@@ -1,6 +1,0 @@
-use Rattle.std.proofs.Common.{arith}
-use Rattle.std.proofs.lemmas.Grind.{common_steps}
-use Rattle.flurry_set.proofs.seq_set.SeqSet.is_empty.Goals as goal
-
-pub returns-clause-empty : goal.returns-clause-empty
-returns-clause-empty g c = grind (arith, common_steps)

@@ -1,0 +1,120 @@
+-- The first steps of a call at once are its own.
+use Rattle.std.proofs.Common.{◌≡◌, ℕ, ℤ, ◌%◌, ◌^◌, ◌≤◌, true, Option, refl, subst}
+use Rattle.std.specs.declared.cmp.Ordering.{Ordering}
+use Rattle.flurry_steps.specs.Turns.{Turns, still, further}
+use Rattle.flurry_shared_replies.specs.Replies.{GoesTo, IsReplyOf, new_party}
+use Rattle.flurry_base.specs.declared.sizes.TheConstants.{MAX_TABLE}
+use Rattle.flurry_bins_slots.specs.Slot.{SlotState, IsSlot}
+use Rattle.flurry_steps.specs.Field.{PublishedLoan, TallyLoan, LookLoan, BinLoan}
+use Rattle.flurry_steps.specs.FirstSteps.{BeginsAt, begun_at}
+use Rattle.flurry_steps_sweep.specs.Outcome.{Outcome}
+use Rattle.flurry_steps_sweep.specs.Part.{LookPart, BinPart}
+use Rattle.flurry_steps.specs.Party.{PartyState, Stage, AtDone, AtTaken, wanted_part, locates, LooksUp, BeginsToWrite}
+use Rattle.flurry_steps.specs.PartyTally.{StageAtTally}
+use Rattle.flurry_steps.specs.PartyView.{first_stage}
+use Rattle.flurry_steps_sweep.specs.declared.step.Event.{Event}
+use Rattle.flurry_steps_sweep.specs.declared.step.Event.TheVariants as event
+use Rattle.flurry_steps.specs.declared.party.call.Call.{Call}
+use Rattle.flurry_steps.specs.declared.party.call.Call.TheVariants as call
+
+-- a look-up that did no step yet asks for the published table
+pub look_locates : {K V F A : Type 0} (c : Call K V F A) → LooksUp (first_stage c) → locates (first_stage c) ≡ true
+look_locates (call.Get k) h = refl
+look_locates (call.GetKeyValue k) h = refl
+look_locates (call.ContainsKey k) h = refl
+look_locates (call.Remove k) h = absurd h
+look_locates (call.RemoveEntry k) h = absurd h
+look_locates (call.RemoveSeen z) h = absurd h
+look_locates (call.Insert k v) h = absurd h
+look_locates (call.TryInsert k v) h = absurd h
+look_locates (call.Compute k f) h = absurd h
+look_locates (call.Reserve a) h = absurd h
+look_locates call.Clear h = absurd h
+look_locates call.Walk h = absurd h
+
+-- and then it looks at its bin there
+pub look_wants : {K V F A : Type 0} (c : Call K V F A) (d h n : ℕ) → LooksUp (first_stage c) → wanted_part (begun_at d h n (first_stage c)) ≡ LookPart d (h % 2 ^ d)
+look_wants (call.Get k) d h n looks = refl
+look_wants (call.GetKeyValue k) d h n looks = refl
+look_wants (call.ContainsKey k) d h n looks = refl
+look_wants (call.Remove k) d h n looks = absurd looks
+look_wants (call.RemoveEntry k) d h n looks = absurd looks
+look_wants (call.RemoveSeen z) d h n looks = absurd looks
+look_wants (call.Insert k v) d h n looks = absurd looks
+look_wants (call.TryInsert k v) d h n looks = absurd looks
+look_wants (call.Compute k f) d h n looks = absurd looks
+look_wants (call.Reserve a) d h n looks = absurd looks
+look_wants call.Clear d h n looks = absurd looks
+look_wants call.Walk d h n looks = absurd looks
+
+-- and so does a call that may change its bin
+pub write_locates : {K V F A : Type 0} (c : Call K V F A) → BeginsToWrite (first_stage c) → locates (first_stage c) ≡ true
+write_locates (call.Get k) h = absurd h
+write_locates (call.GetKeyValue k) h = absurd h
+write_locates (call.ContainsKey k) h = absurd h
+write_locates (call.Remove k) h = refl
+write_locates (call.RemoveEntry k) h = refl
+write_locates (call.RemoveSeen z) h = refl
+write_locates (call.Insert k v) h = refl
+write_locates (call.TryInsert k v) h = refl
+write_locates (call.Compute k f) h = refl
+write_locates (call.Reserve a) h = absurd h
+write_locates call.Clear h = absurd h
+write_locates call.Walk h = absurd h
+
+pub write_wants : {K V F A : Type 0} (c : Call K V F A) (d h n : ℕ) → BeginsToWrite (first_stage c) → wanted_part (begun_at d h n (first_stage c)) ≡ BinPart d (h % 2 ^ d)
+write_wants (call.Get k) d h n writes = absurd writes
+write_wants (call.GetKeyValue k) d h n writes = absurd writes
+write_wants (call.ContainsKey k) d h n writes = absurd writes
+write_wants (call.Remove k) d h n writes = refl
+write_wants (call.RemoveEntry k) d h n writes = refl
+write_wants (call.RemoveSeen z) d h n writes = refl
+write_wants (call.Insert k v) d h n writes = refl
+write_wants (call.TryInsert k v) d h n writes = refl
+write_wants (call.Compute k f) d h n writes = refl
+write_wants (call.Reserve a) d h n writes = absurd writes
+write_wants call.Clear d h n writes = absurd writes
+write_wants call.Walk d h n writes = absurd writes
+
+module _ {S K V F : Type 0} {step : S → PartyState K V F → Event → S → PartyState K V F → Type 0} where
+  both : {s s' s'' : S} {p p' p'' : PartyState K V F} → Turns step s p s' p' → Turns step s' p' s'' p'' → Turns step s p s'' p''
+  both first still = first
+  both first (further ev turns turn) = further ev (both first turns) turn
+
+module _ {K V F : Type 0} (cmp : K → K → Ordering) (changes : F → K → V → Option V → Type 0) where
+  module _ (h n d : ℕ) (s s' : Stage K V F) (asks : locates s ≡ true) (within : d ≤ MAX_TABLE) where
+    -- a call that began at a published table, and did the step at its bin there
+    pub look_begun : (q : SlotState K V) → wanted_part (begun_at d h n s) ≡ LookPart q.table q.index → IsSlot cmp q → BeginsAt cmp changes h d s q s' q
+        → GoesTo cmp changes (new_party h n s) (new_party h n s')
+    look_begun q wants slot b =
+        further b.event (further event.Silent still (record { loan = PublishedLoan d; lent = refl; step = (asks, within, refl, refl) }))
+        (record { loan = LookLoan q; lent = refl; step = (wants, slot, record { hash = refl; processors = refl; helped = refl; table = refl; index = refl; step = b.step }) })
+
+    pub write_begun : (q q' : SlotState K V) → wanted_part (begun_at d h n s) ≡ BinPart q.table q.index → IsSlot cmp q → BeginsAt cmp changes h d s q s' q'
+        → GoesTo cmp changes (new_party h n s) (new_party h n s')
+    write_begun q q' wants slot b =
+        further b.event (further event.Silent still (record { loan = PublishedLoan d; lent = refl; step = (asks, within, refl, refl) }))
+        (record { loan = BinLoan q q'; lent = refl; step = (wants, slot, record { hash = refl; processors = refl; helped = refl; table = b.table; index = b.index; step = b.step }) })
+
+  -- and one that did the step at a tally
+  pub counted_at : (h n : ℕ) (s s' : Stage K V F) (most t t' : ℤ) → StageAtTally most s t s' t' → GoesTo cmp changes (new_party h n s) (new_party h n s')
+  counted_at h n s s' most t t' b = further event.Silent still (record { loan = TallyLoan most t t'; lent = refl; step = record { hash = refl; processors = refl; helped = refl; silent = refl; step = b } })
+
+  module _ (r : Outcome K V) where
+    -- a call that steps lead to its end
+    pub done_by : (h n : ℕ) (p : PartyState K V F) → GoesTo cmp changes p (new_party h n (AtDone r)) → IsReplyOf cmp changes p r
+    done_by h n p turns = record {
+      last = new_party h n AtTaken;
+      turns = record { last = new_party h n (AtDone r); turns = turns; done = refl; after = refl };
+    }
+
+    -- the reply of a call that goes on after steps is the whole call's
+    pub goes_on : (p q : PartyState K V F) → GoesTo cmp changes p q → IsReplyOf cmp changes q r → IsReplyOf cmp changes p r
+    goes_on p q first x = record {
+      last = x.last;
+      turns = record { last = x.turns.last; turns = both first x.turns.turns; done = x.turns.done; after = x.turns.after };
+    }
+
+    -- of an equal state
+    pub of_equal : (p q : PartyState K V F) → p ≡ q → IsReplyOf cmp changes p r → IsReplyOf cmp changes q r
+    of_equal p q e x = subst (λ z. IsReplyOf cmp changes z r) e x

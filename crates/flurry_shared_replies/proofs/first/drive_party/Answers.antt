@@ -1,0 +1,5 @@
+use Rattle.flurry_shared_replies.proofs.LenderLaws.{driven_reply}
+use Rattle.flurry_shared_replies.proofs.first.drive_party.Goals as goal
+
+pub returns : goal.returns
+returns g c = driven_reply g.K.Ord.cmp g.F.ComputeFn.changes _ _ c.finish-reply.ensures

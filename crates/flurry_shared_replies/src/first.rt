@@ -1,0 +1,197 @@
+//! The steps of a call over the locks: its first ones in one go, if its table is known without the control's lock.
+ghost use Rattle.flurry_shared_replies.specs.Replies.{BeginsOrStays, IsReplyOf, RepliesFrom};
+ghost use Rattle.flurry_steps.specs.Party.{BeginsToWrite, IsTaken, LooksUp};
+ghost use Rattle.flurry_steps.specs.PartyTally.{ending_stage};
+ghost use Rattle.flurry_steps_sweep.specs.OutcomeView.{outcome_of};
+ghost use Rattle.flurry_steps.specs.PartyView.{CallIsReady, first_stage};
+
+use flurry_base::sizes::bin_index;
+use flurry_bins_slots::ComputeFn;
+use flurry_shared_locks::{CallLender, Lender};
+use flurry_steps::party::{Call, Ending, Remains, Reply};
+use flurry_steps::{Party, finish};
+use flurry_steps_control::PublishedTable;
+use std::alloc::Allocator;
+use std::sync::Wait;
+
+/// Runs a call over the locks of a map, and returns its reply. `hash` is the hash of the call's key; a call without a key does not read it.
+/// A growth is divided among `processors` threads; `0` means 1. The function is copied into its callers, and then need not test which call
+/// it runs.
+///
+/// As many steps as the call needs, each of which waits for the locks of its part.
+// If a table is known to be published, and the bin there is live, a one-key call does its first two steps in one go. No party is made if
+// these are all, or if the step at a tally is the last.
+#[inline(always)]
+pub fn reply_to<K: Ord + Drop, V: Drop, F: ComputeFn<K, V>, A: Allocator + Copy, R: Wait>(
+    lender: &Lender<'_, R, K, V, A>,
+    call: Call<'_, K, V, F, A>,
+    hash: u64,
+    processors: usize,
+) -> Reply<K, V, A>
+    requires { CallIsReady F.can_change call }
+    ensures { RepliesFrom K.cmp F.changes hash processors (first_stage call.entry) result }
+{
+    let Some(start) = lender.newest() else {
+        return drive_call(lender, call, hash, processors);
+    };
+    match &call {
+        Call::Reserve(_) | Call::Clear | Call::Walk => {
+            return drive_call(lender, call, hash, processors);
+        }
+        Call::Get(_) | Call::GetKeyValue(_) | Call::ContainsKey(_) => {
+            return look(lender, start, call, hash, processors);
+        }
+        _ => return write(lender, start, call, hash, processors),
+    }
+}
+
+// Runs a look-up that starts at the table `start`, and returns its reply.
+fn look<K: Ord + Drop, V: Drop, F: ComputeFn<K, V>, A: Allocator + Copy, R: Wait>(
+    lender: &Lender<'_, R, K, V, A>,
+    start: &PublishedTable,
+    call: Call<'_, K, V, F, A>,
+    hash: u64,
+    processors: usize,
+) -> Reply<K, V, A>
+    requires ready { CallIsReady F.can_change call }
+    requires looks { LooksUp (first_stage call) }
+    ensures { RepliesFrom K.cmp F.changes hash processors (first_stage call.entry) result }
+{
+    let table = start.table();
+    let index = bin_index(hash, table);
+    if let Some(lock) = lender.slot(table, index) {
+        let slot = lock.read(lender.runtime());
+        if slot.at() == (table, index) && slot.is_live() {
+            return Party::look_first(call, hash, start, &*slot);
+        }
+    }
+    drive_call(lender, call, hash, processors)
+}
+
+// Runs a call that may change its bin and that starts at the table `start`, and returns its reply.
+#[inline(always)]
+fn write<K: Ord + Drop, V: Drop, F: ComputeFn<K, V>, A: Allocator + Copy, R: Wait>(
+    lender: &Lender<'_, R, K, V, A>,
+    start: &PublishedTable,
+    call: Call<'_, K, V, F, A>,
+    hash: u64,
+    processors: usize,
+) -> Reply<K, V, A>
+    requires ready { CallIsReady F.can_change call }
+    requires writes { BeginsToWrite (first_stage call) }
+    ensures { RepliesFrom K.cmp F.changes hash processors (first_stage call.entry) result }
+{
+    match write_bin(lender, start, call, hash) {
+        Ok((ending, remains)) => {
+            drop(remains);
+            return end::<K, V, F, A, R>(lender, ending, hash, processors);
+        }
+        Err(call) => return drive_call(lender, call, hash, processors),
+    }
+}
+
+// Does the first two steps of a call that may change its bin. Returns the call, and what these steps left behind. If the call cannot start
+// so, it has done no step, and is returned.
+#[inline(always)]
+fn write_bin<'k, K: Ord + Drop, V: Drop, F: ComputeFn<K, V>, A: Allocator + Copy, R: Wait>(
+    lender: &Lender<'_, R, K, V, A>,
+    start: &PublishedTable,
+    call: Call<'k, K, V, F, A>,
+    hash: u64,
+) -> Result<(Ending<K, V, A>, Remains<'k, K, V, F, A>), Call<'k, K, V, F, A>>
+    requires ready { CallIsReady F.can_change call }
+    requires writes { BeginsToWrite (first_stage call) }
+    ensures { BeginsOrStays K.cmp F.changes hash call.entry result }
+{
+    let table = start.table();
+    let index = bin_index(hash, table);
+    if let Some(lock) = lender.slot(table, index) {
+        let mut slot = lock.write(lender.runtime());
+        if slot.at() == (table, index) && slot.is_live() {
+            return Ok(Party::write_first(call, hash, start, lender.allocator(), &mut *slot));
+        }
+    }
+    Err(call)
+}
+
+// Finishes a call that has done its deciding step or has failed, and returns its reply.
+#[inline(always)]
+fn end<K: Ord + Drop, V: Drop, F: ComputeFn<K, V>, A: Allocator + Copy, R: Wait>(
+    lender: &Lender<'_, R, K, V, A>,
+    ending: Ending<K, V, A>,
+    hash: u64,
+    processors: usize,
+) -> Reply<K, V, A>
+    ensures { RepliesFrom K.cmp F.changes hash processors (ending_stage ending) result }
+{
+    match ending.into_reply() {
+        Ok(reply) => return reply,
+        Err(ending) => return count::<K, V, F, A, R>(lender, ending, hash, processors),
+    }
+}
+
+// Finishes a call that has more to do, and returns its reply. If the call counts a pair next, and pairs may wait at a tally, it counts
+// there.
+#[inline(always)]
+fn count<K: Ord + Drop, V: Drop, F: ComputeFn<K, V>, A: Allocator + Copy, R: Wait>(
+    lender: &Lender<'_, R, K, V, A>,
+    ending: Ending<K, V, A>,
+    hash: u64,
+    processors: usize,
+) -> Reply<K, V, A>
+    ensures { RepliesFrom K.cmp F.changes hash processors (ending_stage ending) result }
+{
+    if ending.counts() {
+        if let Some((tally, most)) = lender.tally(hash) {
+            let mut counted = ending;
+            counted.on_tally::<F>(&mut *tally.lock(lender.runtime()), most);
+            match counted.into_reply() {
+                Ok(reply) => return reply,
+                Err(ending) => return drive_ending::<K, V, F, A, R>(
+                    lender, ending, hash, processors,
+                ),
+            }
+        }
+    }
+    drive_ending::<K, V, F, A, R>(lender, ending, hash, processors)
+}
+
+// Does all steps of a call, one after another, and returns its reply.
+fn drive_call<K: Ord + Drop, V: Drop, F: ComputeFn<K, V>, A: Allocator + Copy, R: Wait>(
+    lender: &Lender<'_, R, K, V, A>,
+    call: Call<'_, K, V, F, A>,
+    hash: u64,
+    processors: usize,
+) -> Reply<K, V, A>
+    requires { CallIsReady F.can_change call }
+    ensures { RepliesFrom K.cmp F.changes hash processors (first_stage call.entry) result }
+{
+    drive_party(lender, Party::new(call, hash, processors))
+}
+
+// Does the steps that are left of a call that has done its deciding step, and returns its reply.
+fn drive_ending<K: Ord + Drop, V: Drop, F: ComputeFn<K, V>, A: Allocator + Copy, R: Wait>(
+    lender: &Lender<'_, R, K, V, A>,
+    ending: Ending<K, V, A>,
+    hash: u64,
+    processors: usize,
+) -> Reply<K, V, A>
+    ensures { RepliesFrom K.cmp F.changes hash processors (ending_stage ending) result }
+{
+    drive_party(lender, ending.into_party::<F>(hash, processors))
+}
+
+// Does the steps that are left of a call, and returns its reply.
+fn drive_party<K: Ord + Drop, V: Drop, F: ComputeFn<K, V>, A: Allocator + Copy, R: Wait>(
+    lender: &Lender<'_, R, K, V, A>,
+    party: Party<'_, K, V, F, A>,
+) -> Reply<K, V, A>
+    requires { IsTaken party.stage → ⊥ }
+    ensures { IsReplyOf K.cmp F.changes party.entry (outcome_of result) }
+{
+    let mut party = party;
+    let mut call_lender = CallLender::new(lender);
+    let reply = finish(lender.runtime(), &mut party, &mut call_lender);
+    drop(party);
+    reply
+}

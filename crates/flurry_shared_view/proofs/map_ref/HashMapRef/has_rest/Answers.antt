@@ -1,0 +1,12 @@
+use Rattle.std.proofs.Common.{Ok, ◌∙◌, ap}
+use Rattle.flurry_shared_view.proofs.WalkLaws.{opens, stays_open, comes_to_end}
+use Rattle.flurry_shared_view.proofs.map_ref.HashMapRef.has_rest.Goals as goal
+
+pub loop-init : goal.loop-init
+loop-init g c = opens g.K.Ord.cmp _ c.requires
+
+pub returns-in_default : goal.returns-in_default
+returns-in_default g c = λ e. comes_to_end g.K.Ord.cmp _ _ _ _ c.next-in-loop.result (c.in_ok-key.was ∙ ap Ok c.in_default.is) c.loop.invariant c.next-in-loop.ensures
+
+pub loop-preserved : goal.loop-preserved
+loop-preserved g c = stays_open g.K.Ord.cmp _ _ _ _ c.next-in-loop.result _ (c.in_ok-key.was ∙ ap Ok c.in-Some-2.is) c.loop.invariant c.next-in-loop.ensures

@@ -1,0 +1,2 @@
+pub mod IsExclusive
+pub mod Exact

@@ -1,0 +1,5 @@
+use Rattle.std.proofs.Common.{rules}
+use Rattle.flurry_steps_sweep.proofs.cursor.Cursor.at.Goals as goal
+
+pub returns : goal.returns
+returns g c = search rules

@@ -1,5 +1,0 @@
-use Rattle.std.proofs.Common.{rules}
-use Rattle.flurry_world.proofs.party_record.theory_call.Goals as goal
-
-pub returns-in-Clear : goal.returns-in-Clear
-returns-in-Clear g c = search rules

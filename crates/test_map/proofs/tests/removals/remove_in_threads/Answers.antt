@@ -1,6 +1,0 @@
-use denote.Param.Send.{sendable}
-use Rattle.flurry_map.proofs.Crossing.{map_sync}
-use Rattle.test_map.proofs.tests.removals.remove_in_threads.Goals as goal
-
-pub join-requires-send-F : goal.join-requires-send-F
-join-requires-send-F g c κs within = search (map_sync, sendable) depth 30

@@ -1,0 +1,31 @@
+//! The tests, and what they share.
+
+mod maps;
+mod memory;
+mod sets;
+mod texts;
+
+use flurry_base::hash::LowHashBuilder;
+use flurry_seq::SeqMap;
+use std::fmt::Debug;
+use std::process::Abort;
+
+// Asserts that a value is the expected one. A test with many assertions calls this, because each `assert_eq!` in its own body makes its
+// proof longer.
+fn same<T: PartialEq + Debug + Drop>(rt: &impl Abort, seen: T, wanted: T) {
+    assert_eq!(rt; seen, wanted);
+}
+
+// Returns the map of `pairs`. Of a key that comes twice, it has the later value.
+fn map_of<const N: usize>(
+    rt: &(impl Abort + AllocGlobal),
+    pairs: [(u64, u64); N],
+) -> SeqMap<u64, u64, LowHashBuilder> {
+    let list = Vec::from_array(rt.alloc(), pairs).expect(rt, "memory for the pairs");
+    SeqMap::from_list(rt.alloc(), list, LowHashBuilder).expect(rt, "memory for the map")
+}
+
+// Returns the map that is written and read back.
+fn five(rt: &(impl Abort + AllocGlobal)) -> SeqMap<u64, u64, LowHashBuilder> {
+    map_of(rt, [(0, 4), (1, 3), (2, 2), (3, 1), (4, 0)])
+}

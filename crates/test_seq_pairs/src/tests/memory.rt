@@ -1,0 +1,145 @@
+//! Each request for memory fails in turn. A call that fails deallocates all that it has allocated.
+
+use super::same;
+use flurry_base::hash::LowHashBuilder;
+use flurry_seq::SeqMap;
+use flurry_seq_pairs::map::{from_pairs, to_sorted_pairs};
+use flurry_seq_pairs::set::{from_items, to_sorted_items};
+use flurry_seq_pairs::{FromPairsError, SortedItems, SortedPairs};
+use flurry_seq_set::SeqSet;
+use metered_alloc::Metered;
+use std::alloc::Global;
+use std::process::Abort;
+
+type Memory = &'static Metered<Global>;
+
+// A map of numbers to lists, whose clones take memory.
+type ListMap = SeqMap<u64, Vec<u64, Memory>, LowHashBuilder, Memory>;
+
+type NumberSet = SeqSet<u64, LowHashBuilder, Memory>;
+
+// More requests than any call makes.
+const MAX_REQUESTS: u64 = 100;
+
+// A call whose requests fail in turn.
+trait Refused {
+    // Makes the call while the request numbered `k` fails, checks what it did, and returns whether it made that request.
+    fn once(&self, rt: &impl Abort, memory: Memory, k: u64) -> bool;
+}
+
+// Makes each request of a call fail in turn. The call makes at least one request, and every block is deallocated.
+fn refuse_each<C: Refused>(rt: &impl Abort, alloc: Global, call: &C) {
+    let memory = Metered::leaked(alloc).expect(rt, "memory for the allocator");
+    for k in 0..MAX_REQUESTS {
+        let refused = call.once(rt, memory, k);
+        same(rt, memory.blocks(), 0);
+        if !refused {
+            same(rt, k > 0, true);
+            return;
+        }
+    }
+    panic!(rt; "it makes fewer requests");
+}
+
+// Returns a map of three pairs, in which each value is a list of its key.
+fn lists(rt: &impl Abort, memory: Memory) -> ListMap {
+    let mut map = SeqMap::with_hasher(memory, LowHashBuilder);
+    for key in 0..3u64 {
+        let list = Vec::from_array(memory, [key]).expect(rt, "memory for the list");
+        map.insert(key, list).expect(rt, "memory for the pair");
+    }
+    map
+}
+
+// The making of the list of a map of three pairs.
+struct ListsPairs;
+
+impl Refused for ListsPairs {
+    fn once(&self, rt: &impl Abort, memory: Memory, k: u64) -> bool {
+        let map = lists(rt, memory);
+        memory.refuse_at(k);
+        let count = to_sorted_pairs(&map).ok().map(|list| list.0.len());
+        let refused = memory.refused();
+        memory.refuse_nothing();
+        same(rt, count, if refused { None } else { Some(3) });
+        refused
+    }
+}
+
+#[test]
+fn pairs_of_a_map(rt: HostRuntime) {
+    refuse_each(&rt, rt.alloc(), &ListsPairs);
+}
+
+// The making of a map of three pairs.
+struct MakesMap;
+
+impl Refused for MakesMap {
+    fn once(&self, rt: &impl Abort, memory: Memory, k: u64) -> bool {
+        let list = Vec::from_array(memory, [(2u64, 0u64), (1, 1), (0, 2)]).expect(
+            rt,
+            "memory for the list",
+        );
+        memory.refuse_at(k);
+        let answer = from_pairs(SortedPairs(list), LowHashBuilder);
+        let refused = memory.refused();
+        memory.refuse_nothing();
+        let wanted = if refused {
+            Some(FromPairsError::NoMemory)
+        } else {
+            None
+        };
+        same(rt, answer.err(), wanted);
+        refused
+    }
+}
+
+#[test]
+fn a_map_of_pairs(rt: HostRuntime) {
+    refuse_each(&rt, rt.alloc(), &MakesMap);
+}
+
+// The making of the list of a set of three elements.
+struct ListsElements;
+
+impl Refused for ListsElements {
+    fn once(&self, rt: &impl Abort, memory: Memory, k: u64) -> bool {
+        let mut set: NumberSet = SeqSet::with_hasher(memory, LowHashBuilder);
+        for element in 0..3u64 {
+            same(rt, set.insert(element), Ok(true));
+        }
+        memory.refuse_at(k);
+        let count = to_sorted_items(&set).ok().map(|list| list.0.len());
+        let refused = memory.refused();
+        memory.refuse_nothing();
+        same(rt, count, if refused { None } else { Some(3) });
+        refused
+    }
+}
+
+#[test]
+fn elements_of_a_set(rt: HostRuntime) {
+    refuse_each(&rt, rt.alloc(), &ListsElements);
+}
+
+// The making of a set of two elements, one of which comes twice.
+struct MakesSet;
+
+impl Refused for MakesSet {
+    fn once(&self, rt: &impl Abort, memory: Memory, k: u64) -> bool {
+        let list = Vec::from_array(memory, [2u64, 1, 2]).expect(rt, "memory for the list");
+        memory.refuse_at(k);
+        let count = from_items(SortedItems(list), LowHashBuilder)
+            .ok()
+            .map(|set| set.len());
+        let refused = memory.refused();
+        memory.refuse_nothing();
+        same(rt, count, if refused { None } else { Some(2) });
+        refused
+    }
+}
+
+#[test]
+fn a_set_of_elements(rt: HostRuntime) {
+    refuse_each(&rt, rt.alloc(), &MakesSet);
+}

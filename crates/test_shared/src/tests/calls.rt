@@ -1,0 +1,189 @@
+//! Each call once, in one thread.
+//!
+//! A test creates a map and passes it to the calls by reference, because a body that owns a map has a proof of its drop at each way out.
+
+use super::{number_at, same, taken};
+use flurry_base::TryInsertError;
+use flurry_base::hash::{DefaultHashBuilder, LowHashBuilder};
+use flurry_shared::HashMap;
+use std::process::Abort;
+use std::sync::{Arc, Wait};
+use std::test::Fail;
+
+type Numbers = HashMap<u64, u64, LowHashBuilder>;
+
+// Returns the map with the value 1 at key 10 and the value 2 at key 20.
+fn two_pairs<R: Wait + AllocGlobal>(rt: &R) -> Result<Numbers, Fail> {
+    let map = HashMap::with_hasher(rt.alloc(), LowHashBuilder);
+    map.insert(rt, 10, 1)?;
+    map.insert(rt, 20, 2)?;
+    Ok(map)
+}
+
+// Returns the numbers of a pair that a call returned.
+fn pair_of(pair: Option<(Arc<u64>, Arc<u64>)>) -> Option<(u64, u64)> {
+    pair.map(|pair| (*pair.0, *pair.1))
+}
+
+fn inserts<R: Abort + Wait>(rt: &R, map: &Numbers) -> Result<(), Fail> {
+    same(rt, taken(map.insert(rt, 10, 3)?), Some(1));
+    same(rt, taken(map.insert(rt, 30, 4)?), None);
+    same(rt, number_at(rt, map, &10)?, Some(3));
+    same(rt, number_at(rt, map, &30)?, Some(4));
+    same(rt, map.len(rt), 3);
+    Ok(())
+}
+
+#[test]
+fn insertions(rt: HostRuntime) -> Result<(), Fail> {
+    inserts(&rt, &two_pairs(&rt)?)
+}
+
+// Returns the value that was inserted, or the value that is present and the value that was not inserted.
+fn put_or_kept(answer: Result<Arc<u64>, TryInsertError<u64>>) -> Result<u64, (u64, u64)> {
+    match answer {
+        Ok(new) => Ok(*new),
+        Err(error) => Err((*error.current, error.not_inserted)),
+    }
+}
+
+fn inserts_once<R: Abort + Wait>(rt: &R, map: &Numbers) -> Result<(), Fail> {
+    same(rt, put_or_kept(map.try_insert(rt, 30, 3)?), Ok(3));
+    same(rt, put_or_kept(map.try_insert(rt, 30, 4)?), Err((3, 4)));
+    same(rt, number_at(rt, map, &30)?, Some(3));
+    same(rt, map.len(rt), 3);
+    Ok(())
+}
+
+#[test]
+fn insertions_at_absent_keys_alone(rt: HostRuntime) -> Result<(), Fail> {
+    inserts_once(&rt, &two_pairs(&rt)?)
+}
+
+fn looks_up<R: Abort + Wait>(rt: &R, map: &Numbers) -> Result<(), Fail> {
+    same(rt, pair_of(map.get_key_value(rt, &20)?), Some((20, 2)));
+    same(rt, map.get_key_value(rt, &30)?.is_none(), true);
+    same(rt, number_at(rt, map, &10)?, Some(1));
+    same(rt, number_at(rt, map, &30)?, None);
+    same(rt, map.contains_key(rt, &10), true);
+    same(rt, map.contains_key(rt, &30), false);
+    Ok(())
+}
+
+#[test]
+fn look_ups(rt: HostRuntime) -> Result<(), Fail> {
+    looks_up(&rt, &two_pairs(&rt)?)
+}
+
+fn removes<R: Abort + Wait>(rt: &R, map: &Numbers) {
+    same(rt, taken(map.remove(rt, &10)), Some(1));
+    same(rt, taken(map.remove(rt, &10)), None);
+    same(rt, pair_of(map.remove_entry(rt, &20)), Some((20, 2)));
+    same(rt, map.remove_entry(rt, &20).is_none(), true);
+    same(rt, map.is_empty(rt), true);
+}
+
+#[test]
+fn removals(rt: HostRuntime) -> Result<(), Fail> {
+    removes(&rt, &two_pairs(&rt)?);
+    Ok(())
+}
+
+fn computes<R: Abort + Wait>(rt: &R, map: &Numbers) -> Result<(), Fail> {
+    let doubled = map.compute_if_present(rt, &20, |key, value| Some(key.wrapping_add(*value)))?;
+    same(rt, taken(doubled), Some(22));
+    same(rt, number_at(rt, map, &20)?, Some(22));
+    let absent = map.compute_if_present(rt, &30, |_, _| Some(9))?;
+    same(rt, taken(absent), None);
+    let gone = map.compute_if_present(rt, &20, |_, _| None)?;
+    same(rt, taken(gone), None);
+    same(rt, map.contains_key(rt, &20), false);
+    same(rt, map.len(rt), 1);
+    Ok(())
+}
+
+#[test]
+fn computations(rt: HostRuntime) -> Result<(), Fail> {
+    computes(&rt, &two_pairs(&rt)?)
+}
+
+// An empty map makes room, and then takes a pair.
+fn makes_room<R: Abort + Wait>(rt: &R, map: &HashMap<u64, u64>) -> Result<(), Fail> {
+    same(rt, map.is_empty(rt), true);
+    map.reserve(rt, 100)?;
+    same(rt, taken(map.insert(rt, 7, 8)?), None);
+    same(rt, number_at(rt, map, &7)?, Some(8));
+    Ok(())
+}
+
+// A map that was created with room for five pairs takes a thousand.
+fn takes_a_thousand<R: Abort + Wait>(rt: &R, map: &HashMap<u64, u64>) -> Result<(), Fail> {
+    for key in 0..1000 {
+        map.insert(rt, key, key)?;
+    }
+    same(rt, map.len(rt), 1000);
+    Ok(())
+}
+
+// Maps that are created with room, and make room.
+#[test]
+fn rooms(rt: HostRuntime) -> Result<(), Fail> {
+    for capacity in [0usize, 1, 5, 16, 1000] {
+        makes_room(&rt, &HashMap::with_capacity(rt.alloc(), capacity)?)?;
+    }
+    let map = HashMap::with_capacity_and_hasher(rt.alloc(), 5, DefaultHashBuilder::with_seed(3))?;
+    takes_a_thousand(&rt, &map.with_processors(4))
+}
+
+// Inserts a thousand keys, each of which is new, and removes them all.
+fn grows_and_clears<R: Abort + Wait>(rt: &R, map: &Numbers) -> Result<(), Fail> {
+    for key in 0..1000 {
+        same(rt, taken(map.insert(rt, key, key)?), None);
+    }
+    map.clear(rt);
+    same(rt, map.is_empty(rt), true);
+    Ok(())
+}
+
+// Asserts that none of the thousand keys is present.
+fn has_none<R: Abort + Wait>(rt: &R, map: &Numbers) {
+    for key in 0..1000 {
+        same(rt, map.contains_key(rt, &key), false);
+    }
+}
+
+fn clears_two_pairs<R: Abort + Wait>(rt: &R, map: &Numbers) -> Result<(), Fail> {
+    map.clear(rt);
+    same(rt, map.len(rt), 0);
+    same(rt, map.contains_key(rt, &10), false);
+    grows_and_clears(rt, map)?;
+    has_none(rt, map);
+    Ok(())
+}
+
+// Clears a map without a table, a map with two pairs, and a map that has grown.
+#[test]
+fn clears(rt: HostRuntime) -> Result<(), Fail> {
+    let empty: HashMap<u64, u64> = HashMap::new(rt.alloc());
+    empty.clear(&rt);
+    same(&rt, empty.is_empty(&rt), true);
+    clears_two_pairs(&rt, &two_pairs(&rt)?)
+}
+
+// Returns whether a map is empty and how many pairs it has, by itself and by a view of it.
+fn sizes<R: Wait>(rt: &R, map: &Numbers) -> ((bool, usize), (bool, usize)) {
+    let view = map.pin(rt);
+    (
+        (map.is_empty(rt), map.len(rt)),
+        (view.is_empty(), view.len()),
+    )
+}
+
+#[test]
+fn a_map_of_one_pair_is_not_empty(rt: HostRuntime) -> Result<(), Fail> {
+    let map = HashMap::with_hasher(rt.alloc(), LowHashBuilder);
+    same(&rt, sizes(&rt, &map), ((true, 0), (true, 0)));
+    map.insert(&rt, 1, 1)?;
+    same(&rt, sizes(&rt, &map), ((false, 1), (false, 1)));
+    Ok(())
+}

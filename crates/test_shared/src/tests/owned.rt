@@ -1,0 +1,126 @@
+//! An owned map that threads share, and that becomes an owned map again.
+
+use super::workers::{count_own, insert_all, remove_even};
+use super::{same, taken};
+use flurry_base::hash::{DefaultHashBuilder, KeyHasher, LowHashBuilder, ZeroHashBuilder};
+use flurry_seq::SeqMap;
+use flurry_shared::HashMap;
+use std::alloc::Global;
+use std::process::Abort;
+use std::sync::{Arc, Wait};
+use std::test::Fail;
+
+// Returns an owned map of the keys below `count`, each with itself as its value.
+fn owned<S: KeyHasher<u64> + Drop>(
+    alloc: Global,
+    hasher: S,
+    count: u64,
+) -> Result<SeqMap<u64, u64, S>, Fail> {
+    let mut map = SeqMap::with_hasher(alloc, hasher);
+    for key in 0..count {
+        map.insert(key, key)?;
+    }
+    Ok(map)
+}
+
+// Returns how many of the odd keys below `below` have themselves as values in an owned map.
+fn count_odd<S: KeyHasher<u64>>(map: &SeqMap<u64, u64, S>, below: u64) -> u64 {
+    let mut own = 0u64;
+    for half in 0..below / 2 {
+        let key = half.saturating_mul(2).saturating_add(1);
+        if let Some(value) = map.get(&key) {
+            if **value == key {
+                own = own.saturating_add(1);
+            }
+        }
+    }
+    own
+}
+
+// Returns the shared map that an owned map becomes.
+fn shared<S: KeyHasher<u64> + Drop, R: Wait>(
+    rt: &R,
+    map: SeqMap<u64, u64, S>,
+) -> Result<HashMap<u64, u64, S>, Fail> {
+    match HashMap::from_seq(rt, map) {
+        Ok(map) => Ok(map),
+        Err(_) => Err(Fail::from("there is memory")),
+    }
+}
+
+// Half of the keys below `count` are removed from the shared map. The owned map that it becomes has the others.
+fn halve_and_own<S: KeyHasher<u64> + Drop, R: Abort + Wait>(
+    rt: &R,
+    map: HashMap<u64, u64, S>,
+    count: u64,
+) -> Result<(), Fail> {
+    same(rt, map.len(rt) as u64, count);
+    same(rt, count_own(rt, &map, 0, count), count);
+    same(rt, remove_even(rt, &map, count), count.div_ceil(2));
+    let map = map.into_seq(rt)?;
+    same(rt, map.len() as u64, count / 2);
+    same(rt, count_odd(&map, count), count / 2);
+    Ok(())
+}
+
+#[test]
+fn owned_and_shared_and_owned_again(rt: HostRuntime) -> Result<(), Fail> {
+    let map = owned(rt.alloc(), DefaultHashBuilder::default(), 10_000)?;
+    halve_and_own(&rt, shared(&rt, map)?, 10_000)?;
+    let map = owned(rt.alloc(), ZeroHashBuilder, 100)?;
+    halve_and_own(&rt, shared(&rt, map)?, 100)?;
+    for count in 0..2u64 {
+        let map = owned(rt.alloc(), LowHashBuilder, count)?;
+        halve_and_own(&rt, shared(&rt, map)?, count)?;
+    }
+    Ok(())
+}
+
+// The shared map grows from the owned map's table on.
+#[test]
+fn a_shared_map_of_an_owned_one_grows(rt: HostRuntime) -> Result<(), Fail> {
+    let map = shared(&rt, owned(rt.alloc(), LowHashBuilder, 100)?)?;
+    same(&rt, insert_all(&rt, &map, 100, 1000), 0);
+    same(&rt, map.len(&rt), 1000);
+    same(&rt, count_own(&rt, &map, 0, 1000), 1000);
+    Ok(())
+}
+
+// Returns a clone of the `Arc` of the value of the key 0.
+fn value_at_0(map: &SeqMap<u64, u64, LowHashBuilder>) -> Result<Arc<u64>, Fail> {
+    match map.get(&0) {
+        Some(value) => Ok(Arc::try_clone(value)?),
+        None => Err(Fail::from("the key is present")),
+    }
+}
+
+// Shares a map, sets the value of the key 0, and returns the owned map that it becomes again.
+fn set_while_shared<R: Abort + Wait>(
+    rt: &R,
+    map: SeqMap<u64, u64, LowHashBuilder>,
+) -> Result<SeqMap<u64, u64, LowHashBuilder>, Fail> {
+    let map = shared(rt, map)?;
+    same(rt, taken(map.insert(rt, 0, 7)?), Some(0));
+    Ok(map.into_seq(rt)?)
+}
+
+// A value that was returned before stays with its owner.
+#[test]
+fn a_value_has_its_other_owner_still(rt: HostRuntime) -> Result<(), Fail> {
+    let map = owned(rt.alloc(), LowHashBuilder, 1)?;
+    let value = value_at_0(&map)?;
+    let map = set_while_shared(&rt, map)?;
+    same(&rt, map.get(&0).map(|value| **value), Some(7));
+    same(&rt, *value, 0);
+    Ok(())
+}
+
+// What was written to a shared map of an owned one goes by a `retain`, as in any other.
+#[test]
+fn a_written_pair_of_an_owned_map_goes(rt: HostRuntime) -> Result<(), Fail> {
+    let map = shared(&rt, owned(rt.alloc(), LowHashBuilder, 3)?)?;
+    same(&rt, taken(map.insert(&rt, 1, 7)?), Some(1));
+    map.retain(&rt, |_, _| false)?;
+    same(&rt, map.is_empty(&rt), true);
+    Ok(())
+}

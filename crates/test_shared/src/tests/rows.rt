@@ -1,0 +1,162 @@
+//! Worked rows, in one thread.
+
+use super::{number_at, same, taken};
+use flurry_base::hash::{KeyHasher, MaxHashBuilder, ZeroHashBuilder};
+use flurry_shared::HashMap;
+use flurry_shared::iter::{Iter, Keys, Values};
+use std::alloc::AllocError;
+use std::process::Abort;
+use std::sync::Wait;
+use std::test::Fail;
+
+type Words = HashMap<&'static str, u64>;
+
+fn takes_a_new_value<R: Abort + Wait>(rt: &R, map: &Words) -> Result<(), Fail> {
+    same(rt, taken(map.insert(rt, "foo", 0)?), None);
+    same(rt, taken(map.insert(rt, "foo", 1)?), Some(0));
+    same(rt, number_at(rt, map, &"foo")?, Some(1));
+    same(rt, map.len(rt), 1);
+    Ok(())
+}
+
+// A present key takes the new value, and the old value is returned.
+#[test]
+fn row_01(rt: HostRuntime) -> Result<(), Fail> {
+    takes_a_new_value(&rt, &HashMap::new(rt.alloc()))
+}
+
+fn has_no_key<R: Abort + Wait>(rt: &R, map: &Words) -> Result<(), Fail> {
+    same(rt, number_at(rt, map, &"foo")?, None);
+    same(rt, taken(map.remove(rt, &"foo")), None);
+    Ok(())
+}
+
+// A new map has no key.
+#[test]
+fn row_02(rt: HostRuntime) -> Result<(), Fail> {
+    has_no_key(&rt, &HashMap::new(rt.alloc()))
+}
+
+// Inserts the keys below a thousand, each of which is new.
+fn insert_a_thousand<S: KeyHasher<i32>, R: Abort + Wait>(
+    rt: &R,
+    map: &HashMap<i32, i32, S>,
+) -> Result<(), Fail> {
+    for key in 0..1000i32 {
+        same(rt, (key, map.insert(rt, key, key)?.is_none()), (key, true));
+    }
+    same(rt, map.len(rt), 1000);
+    Ok(())
+}
+
+// Asserts that these keys are present, and no others.
+fn has_a_thousand<S: KeyHasher<i32>, R: Abort + Wait>(rt: &R, map: &HashMap<i32, i32, S>) {
+    for key in 0..1000i32 {
+        same(rt, (key, map.contains_key(rt, &key)), (key, true));
+    }
+    same(rt, map.contains_key(rt, &-1), false);
+    same(rt, map.contains_key(rt, &1000), false);
+    same(rt, map.contains_key(rt, &i32::MIN), false);
+    same(rt, map.contains_key(rt, &i32::MAX), false);
+}
+
+fn row_08_with<S: KeyHasher<i32>, R: Abort + Wait>(
+    rt: &R,
+    map: &HashMap<i32, i32, S>,
+) -> Result<(), Fail> {
+    insert_a_thousand(rt, map)?;
+    has_a_thousand(rt, map);
+    Ok(())
+}
+
+// A thousand signed keys, with different hashes and with one hash for all.
+#[test]
+fn row_08(rt: HostRuntime) -> Result<(), Fail> {
+    row_08_with(&rt, &HashMap::new(rt.alloc()))?;
+    row_08_with(&rt, &HashMap::with_hasher(rt.alloc(), ZeroHashBuilder))?;
+    row_08_with(&rt, &HashMap::with_hasher(rt.alloc(), MaxHashBuilder))
+}
+
+const KEYS: u64 = 50_000;
+
+// Inserts all keys, and returns how many of them were new.
+fn insert_all<R: Wait>(rt: &R, map: &HashMap<u64, u64>) -> Result<u64, Fail> {
+    let mut new = 0u64;
+    for key in 0..KEYS {
+        if map.insert(rt, key, key)?.is_none() {
+            new = new.saturating_add(1);
+        }
+    }
+    Ok(new)
+}
+
+// Removes every second key, from the last but one down, and returns how many were present.
+fn remove_half<R: Wait>(rt: &R, map: &HashMap<u64, u64>) -> u64 {
+    let mut removed = 0u64;
+    for half in 1..=KEYS / 2 {
+        if map.remove(rt, &(KEYS - 2 * half)).is_some() {
+            removed = removed.saturating_add(1);
+        }
+    }
+    removed
+}
+
+// How many pairs an iterator has left. It borrows it, since each way out of a body that owns it has a proof of its drop.
+fn count_pairs<R: Wait>(pairs: &mut Iter<'_, R, u64, u64>) -> Result<u64, AllocError> {
+    let mut count = 0u64;
+    for _ in 0..=KEYS {
+        if pairs.next()?.is_none() {
+            break;
+        }
+        count = count.saturating_add(1);
+    }
+    Ok(count)
+}
+
+// How many keys an iterator has left.
+fn count_keys<R: Wait>(keys: &mut Keys<'_, R, u64, u64>) -> Result<u64, AllocError> {
+    let mut count = 0u64;
+    for _ in 0..=KEYS {
+        if keys.next()?.is_none() {
+            break;
+        }
+        count = count.saturating_add(1);
+    }
+    Ok(count)
+}
+
+// How many values an iterator has left.
+fn count_values<R: Wait>(values: &mut Values<'_, R, u64, u64>) -> Result<u64, AllocError> {
+    let mut count = 0u64;
+    for _ in 0..=KEYS {
+        if values.next()?.is_none() {
+            break;
+        }
+        count = count.saturating_add(1);
+    }
+    Ok(count)
+}
+
+// How many pairs, keys and values the iterators of a map give.
+fn counts<R: Wait>(rt: &R, map: &HashMap<u64, u64>) -> Result<(u64, u64, u64), AllocError> {
+    let pairs = count_pairs(&mut map.iter(rt))?;
+    let keys = count_keys(&mut map.keys(rt))?;
+    let values = count_values(&mut map.values(rt))?;
+    Ok((pairs, keys, values))
+}
+
+fn halves_and_fills<R: Abort + Wait>(rt: &R, map: &HashMap<u64, u64>) -> Result<(), Fail> {
+    same(rt, insert_all(rt, map)?, 50_000);
+    same(rt, insert_all(rt, map)?, 0);
+    same(rt, remove_half(rt, map), 25_000);
+    same(rt, insert_all(rt, map)?, 25_000);
+    same(rt, map.len(rt), 50_000);
+    same(rt, counts(rt, map)?, (50_000, 50_000, 50_000));
+    Ok(())
+}
+
+// Fifty thousand keys, half of which are removed and inserted again.
+#[test]
+fn row_09(rt: HostRuntime) -> Result<(), Fail> {
+    halves_and_fills(&rt, &HashMap::new(rt.alloc()))
+}

@@ -1,0 +1,91 @@
+//! Locks in threads, with numbers as keys and values.
+
+mod calls;
+mod growths;
+mod order;
+mod readers;
+mod threads;
+
+use calls::{first_step, put_all};
+use flurry_bins_slots::NoFn;
+use flurry_shared_locks::{Lender, Locks};
+use flurry_steps::party::{Event, OwnedCall};
+use std::alloc::{Allocator, Global};
+use std::fmt::Debug;
+use std::process::Abort;
+use std::sync::Wait;
+use std::test::Fail;
+use threads::{count_in_thread, put_in_threads};
+
+// Asserts that a value is the expected one. A test with many assertions calls this, because each `assert_eq!` in its own body makes its
+// proof longer.
+fn same<T: PartialEq + Debug + Drop>(rt: &impl Abort, seen: T, wanted: T) {
+    assert_eq!(rt; seen, wanted);
+}
+
+// Returns the exponent of the table that was published last, as far as it is known.
+fn newest_of<A: Allocator, R>(rt: &R, locks: &Locks<u64, u64, A>) -> Option<u8> {
+    let lender = Lender::new(rt, locks);
+    lender.newest().map(|start| start.table())
+}
+
+// Looks a key up, and inserts it, by one step each.
+fn does_first_steps<A: Allocator + Copy, R: Abort + Wait>(rt: &R, locks: &Locks<u64, u64, A>) {
+    let look: OwnedCall<u64, u64, NoFn> = OwnedCall::Get(7);
+    same(rt, first_step(rt, locks, 7, look), Some(Event::Decide));
+    let insertion: OwnedCall<u64, u64, NoFn> = OwnedCall::Insert(7, 0);
+    same(
+        rt,
+        first_step(rt, locks, 7, insertion),
+        Some(Event::Opened(4)),
+    );
+}
+
+#[test]
+fn first_steps(rt: HostRuntime) -> Result<(), Fail> {
+    let locks = Locks::new(rt.alloc());
+    does_first_steps(&rt, &locks);
+    Ok(())
+}
+
+// The length includes the pairs that are still counted at tallies, and the table grows by them.
+#[test]
+fn four_threads_put_pairs_in(rt: HostRuntime) -> Result<(), Fail> {
+    let locks: Locks<u64, u64, Global> = Locks::new(rt.alloc());
+
+    put_in_threads(&rt, &locks, 500);
+
+    assert_eq!(rt; Lender::new(&rt, &locks).len(), 2000);
+    let newest = newest_of(&rt, &locks);
+    assert_eq!(rt;
+        newest,
+        Some(12),
+        "2,000 pairs are more than three for four of 2^11 bins"
+    );
+    Ok(())
+}
+
+// A call for the length collects what is counted at tallies. The table grows all the same.
+#[test]
+fn a_table_grows_between_lengths(rt: HostRuntime) -> Result<(), Fail> {
+    let locks: Locks<u64, u64, Global> = Locks::new(rt.alloc());
+
+    for number in 0..2000u64 {
+        put_all(&rt, &locks, number, number + 1);
+        assert_eq!(rt; Lender::new(&rt, &locks).len() as u64, number + 1);
+    }
+
+    let newest = newest_of(&rt, &locks);
+    assert_eq!(rt; newest, Some(12));
+    Ok(())
+}
+
+#[test]
+fn a_thread_owns_locks(rt: HostRuntime) -> Result<(), Fail> {
+    let locks: Locks<u64, u64, Global> = Locks::new(rt.alloc());
+
+    put_in_threads(&rt, &locks, 25);
+
+    assert_eq!(rt; count_in_thread(&rt, locks, 200), Some(100));
+    Ok(())
+}

@@ -1,0 +1,87 @@
+//! Calls over the locks of a shared map, from their first step to their last.
+
+use flurry_bins_slots::{ComputeFn, NoFn};
+use flurry_shared_locks::{CallLender, Lender, Locks};
+use flurry_steps::party::{Event, OwnedCall, Reply};
+use flurry_steps::{Party, act};
+use std::alloc::Allocator;
+use std::sync::Wait;
+
+// A key or a value with a number.
+pub(super) trait Numbered {
+    // Returns the key or the value with this number.
+    fn of(number: u64) -> Self;
+}
+
+impl Numbered for u64 {
+    fn of(number: u64) -> Self {
+        number
+    }
+}
+
+// Does the steps of a call until it is done, and returns its reply.
+pub(super) fn reply_of<K: Ord + Drop, V: Drop, A: Allocator + Copy, F: ComputeFn<K, V>, R: Wait>(
+    rt: &R,
+    locks: &Locks<K, V, A>,
+    hash: u64,
+    call: OwnedCall<K, V, F>,
+) -> Reply<K, V, A>
+    requires { (f : F) → F.can_change f }
+{
+    let mut party = Party::from_owned(call, hash, 4);
+    let mut lender = CallLender::new(&Lender::new(rt, locks));
+    for _ in rt.forever() {
+        if act(&mut party, &mut lender).is_some() {
+            continue;
+        }
+        if let Some(reply) = party.take_reply() {
+            drop(party);
+            return reply;
+        }
+    }
+    unreachable!()
+}
+
+// Does the first step of a call, and returns what it was.
+pub(super) fn first_step<K: Ord + Drop, V: Drop, A: Allocator + Copy, F: ComputeFn<K, V>, R: Wait>(
+    rt: &R,
+    locks: &Locks<K, V, A>,
+    hash: u64,
+    call: OwnedCall<K, V, F>,
+) -> Option<Event>
+    requires { (f : F) → F.can_change f }
+{
+    let mut party = Party::from_owned(call, hash, 4);
+    let mut lender = CallLender::new(&Lender::new(rt, locks));
+    act(&mut party, &mut lender)
+}
+
+// Inserts the pairs of the numbers from `from` to `to`, each with its number as its hash.
+pub(super) fn put_all<K: Ord + Drop + Numbered, V: Drop + Numbered, A: Allocator + Copy, R: Wait>(
+    rt: &R,
+    locks: &Locks<K, V, A>,
+    from: u64,
+    to: u64,
+) {
+    for number in from..to {
+        let call: OwnedCall<K, V, NoFn> = OwnedCall::Insert(K::of(number), V::of(number));
+        drop(reply_of(rt, locks, number, call));
+    }
+}
+
+// Returns how many of the pairs of the numbers from `from` to `to` are present.
+pub(super) fn count_found<K: Ord + Drop + Numbered, V: Drop, A: Allocator + Copy, R: Wait>(
+    rt: &R,
+    locks: &Locks<K, V, A>,
+    from: u64,
+    to: u64,
+) -> usize {
+    let mut found = 0usize;
+    for number in from..to {
+        let call: OwnedCall<K, V, NoFn> = OwnedCall::ContainsKey(K::of(number));
+        if let Reply::Contains(true) = reply_of(rt, locks, number, call) {
+            found = found.saturating_add(1);
+        }
+    }
+    found
+}

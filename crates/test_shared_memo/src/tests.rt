@@ -1,0 +1,194 @@
+//! Tests of the memos.
+ghost use Rattle.std.specs.Prelude.{◌≤◌};
+
+use flurry_base::hash::LowHashBuilder;
+use flurry_shared_memo::{Memo, MemoCore};
+use metered_alloc::Metered;
+use std::alloc::{AllocError, Allocator, Global};
+use std::process::Abort;
+use std::sync::Wait;
+use std::test::Fail;
+use std::thread::{self, Threads};
+
+type Numbers<A> = Memo<u64, u64, LowHashBuilder, A>;
+
+type Memory = &'static Metered<Global>;
+
+// More requests than any call makes.
+const MAX_REQUESTS: u64 = 100;
+
+#[test]
+fn one_owner(rt: HostRuntime) -> Result<(), Fail> {
+    let mut memo = MemoCore::with_hasher(rt.alloc(), LowHashBuilder);
+    let four = memo.get_or_compute(3, |key: &u64| -> u64 { key.saturating_add(1) })?;
+    assert_eq!(rt; *four, 4);
+    let kept = memo.get_or_compute(3, |key: &u64| -> u64 { key.saturating_add(9) })?;
+    assert_eq!(rt; *kept, 4);
+    assert_eq!(rt; memo.len(), 1);
+    Ok(())
+}
+
+#[test]
+fn shared(rt: HostRuntime) -> Result<(), Fail> {
+    let memo = Memo::with_hasher(rt.alloc(), LowHashBuilder);
+    let four = memo.get_or_compute(&rt, 3, |key: &u64| -> u64 { key.saturating_add(1) })?;
+    assert_eq!(rt; *four, 4);
+    let kept = memo.get_or_compute(&rt, 3, |key: &u64| -> u64 { key.saturating_add(9) })?;
+    assert_eq!(rt; *kept, 4);
+    assert_eq!(rt; memo.len(&rt), 1);
+    Ok(())
+}
+
+// The values at the keys from 0 on, which are `value` where nobody has computed one.
+fn values<A: Allocator + Copy>(
+    rt: &impl Wait,
+    alloc: A,
+    memo: &Numbers<A>,
+    keys: u64,
+    value: u64,
+) -> Result<Vec<u64, A>, AllocError> {
+    let mut all = Vec::new(alloc);
+    for key in 0..keys {
+        let kept = memo.get_or_compute(rt, key, |_: &u64| -> u64 { value })?;
+        all.push(*kept)?;
+    }
+    Ok(all)
+}
+
+// The values that two threads get, if they get the same. The first computes `value`, the other one more.
+fn agreed_by_two<A: Allocator + Copy + Send + Sync, R: Threads + Wait + Sync>(
+    rt: &R,
+    alloc: A,
+    memo: &Numbers<A>,
+    keys: u64,
+    value: u64,
+) -> Option<Vec<u64, A>> {
+    let (one, two) = thread::join(
+        rt,
+        move || values(rt, alloc, memo, keys, value).ok(),
+        move || values(rt, alloc, memo, keys, value.saturating_add(1)).ok(),
+    );
+    let (one, two) = (one?, two?);
+    if one == two { Some(one) } else { None }
+}
+
+// The same, of four threads.
+fn agreed_by_four<A: Allocator + Copy + Send + Sync, R: Threads + Wait + Sync>(
+    rt: &R,
+    alloc: A,
+    memo: &Numbers<A>,
+    keys: u64,
+    value: u64,
+) -> Option<Vec<u64, A>> {
+    let (one, two) = thread::join(
+        rt,
+        move || agreed_by_two(rt, alloc, memo, keys, value),
+        move || agreed_by_two(rt, alloc, memo, keys, value.saturating_add(2)),
+    );
+    let (one, two) = (one?, two?);
+    if one == two { Some(one) } else { None }
+}
+
+// The same, of eight threads.
+fn agreed_by_eight<A: Allocator + Copy + Send + Sync, R: Threads + Wait + Sync>(
+    rt: &R,
+    alloc: A,
+    memo: &Numbers<A>,
+    keys: u64,
+) -> Option<Vec<u64, A>> {
+    let (one, two) = thread::join(
+        rt,
+        move || agreed_by_four(rt, alloc, memo, keys, 0),
+        move || agreed_by_four(rt, alloc, memo, keys, 4),
+    );
+    let (one, two) = (one?, two?);
+    if one == two { Some(one) } else { None }
+}
+
+#[test]
+fn two_threads_get_one_value(rt: HostRuntime) {
+    let memo = Memo::with_hasher(rt.alloc(), LowHashBuilder);
+    let Some(values) = agreed_by_two(&rt, rt.alloc(), &memo, 1, 1) else {
+        panic!(rt; "both get the same value")
+    };
+    assert!(rt; values[..] == [1] || values[..] == [2]);
+    assert_eq!(rt; memo.len(&rt), 1);
+}
+
+#[test]
+fn eight_threads_agree_on_a_hundred_keys(rt: HostRuntime) {
+    let memo = Memo::with_hasher(rt.alloc(), LowHashBuilder);
+    let values = agreed_by_eight(&rt, rt.alloc(), &memo, 100);
+    assert_eq!(rt; values.map(|values| values.len()), Some(100));
+    assert_eq!(rt; memo.len(&rt), 100);
+}
+
+// The Fibonacci number `n`, whose value is computed of those of the two numbers below.
+fn fibonacci<R: Wait>(rt: &R, memo: &Numbers<Global>, n: u64) -> u64 {
+    if n < 2 {
+        return n;
+    }
+    let computed = memo.get_or_compute(
+        rt,
+        n,
+        |_: &u64| -> u64
+            requires { 2 ≤ n }
+        { fibonacci(rt, memo, n - 1).saturating_add(fibonacci(rt, memo, n - 2)) },
+    );
+    computed.map_or(0, |value| *value)
+}
+
+#[test]
+fn function_calls_the_memo(rt: HostRuntime) {
+    let memo = Memo::with_hasher(rt.alloc(), LowHashBuilder);
+    assert_eq!(rt; fibonacci(&rt, &memo, 80), 23_416_728_348_467_685);
+    assert_eq!(rt; memo.len(&rt), 79);
+}
+
+// Whether an owned memo computes a value with the request numbered `k` refused. Then nothing is kept.
+fn owned_is_refused(rt: &impl Abort, memory: Memory, k: u64) -> bool {
+    let mut memo: MemoCore<u64, u64, LowHashBuilder, Memory> = MemoCore::with_hasher(
+        memory,
+        LowHashBuilder,
+    );
+    memory.refuse_at(k);
+    let is_kept = memo.get_or_compute(7, |key: &u64| -> u64 { *key }).is_ok();
+    let is_refused = memory.refused();
+    memory.refuse_nothing();
+    assert_eq!(rt; is_kept, !is_refused, "at {k}");
+    assert_eq!(rt; memo.len(), usize::from(is_kept), "at {k}");
+    is_refused
+}
+
+// The same, of a shared memo.
+fn shared_is_refused<R: Wait + Abort>(rt: &R, memory: Memory, k: u64) -> bool {
+    let memo: Memo<u64, u64, LowHashBuilder, Memory> = Memo::with_hasher(memory, LowHashBuilder);
+    memory.refuse_at(k);
+    let is_kept = memo
+        .get_or_compute(rt, 7, |key: &u64| -> u64 { *key })
+        .is_ok();
+    let is_refused = memory.refused();
+    memory.refuse_nothing();
+    assert_eq!(rt; is_kept, !is_refused, "at {k}");
+    assert_eq!(rt; memo.len(rt), usize::from(is_kept), "at {k}");
+    is_refused
+}
+
+#[test]
+fn each_request_is_refused(rt: HostRuntime) -> Result<(), Fail> {
+    let memory = Metered::leaked(rt.alloc())?;
+    for k in 0..MAX_REQUESTS {
+        if !owned_is_refused(&rt, memory, k) {
+            assert_eq!(rt; k, 4);
+            break;
+        }
+    }
+    for k in 0..MAX_REQUESTS {
+        if !shared_is_refused(&rt, memory, k) {
+            assert_eq!(rt; k, 5);
+            break;
+        }
+    }
+    assert_eq!(rt; memory.blocks(), 0);
+    Ok(())
+}

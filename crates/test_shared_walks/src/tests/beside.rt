@@ -1,0 +1,208 @@
+//! Walks, and calls over many pairs, while other threads work.
+
+use super::{insert_all, numbers, read_all, same};
+use flurry_base::hash::{KeyHasher, ZeroHashBuilder};
+use flurry_shared::HashMap;
+use flurry_shared::iter::Keys;
+use std::alloc::Allocator;
+use std::sync::Wait;
+use std::sync::atomic::{AtomicU64, Ordering};
+use std::test::Fail;
+use std::thread;
+use std::thread::Threads;
+
+// The number of keys that are present before the threads start.
+const STANDING: usize = 1000;
+
+// The work of one thread.
+#[derive(Clone, Copy)]
+enum Work {
+    // Inserts the keys from the first number to the second, without the second, each with itself as its value.
+    Insert(u64, u64),
+    // Removes the keys from the first number to the second, without the second.
+    Remove(u64, u64),
+    // Looks up the keys from the first number to the second, without the second.
+    Look(u64, u64),
+    // Walks this number of times, and fails if a walk does not give each of the earlier keys once.
+    Walk(u32),
+    // Keeps the even keys.
+    KeepEven,
+}
+
+// Does the work of one thread, and counts what fails.
+fn do_work<S: KeyHasher<u64>, A: Allocator + Copy, R: Wait>(
+    rt: &R,
+    map: &HashMap<u64, u64, S, A>,
+    work: Work,
+    failures: &AtomicU64,
+) {
+    let failed = match work {
+        Work::Insert(from, to) => insert_all(rt, map, from, to),
+        Work::Remove(from, to) => remove_all(rt, map, from, to),
+        Work::Look(from, to) => look_all(rt, map, from, to),
+        Work::Walk(times) => walk_often(rt, map, times),
+        Work::KeepEven => u64::from(map.retain(rt, |key, _| *key % 2 == 0).is_err()),
+    };
+    failures.fetch_add(failed, Ordering::SeqCst);
+}
+
+// Removes keys, and returns how many had a value other than themselves.
+fn remove_all<S: KeyHasher<u64>, A: Allocator + Copy, R: Wait>(
+    rt: &R,
+    map: &HashMap<u64, u64, S, A>,
+    from: u64,
+    to: u64,
+) -> u64 {
+    let mut others = 0u64;
+    for key in from..to {
+        if let Some(value) = map.remove(rt, &key) {
+            others = others.saturating_add(u64::from(*value != key));
+        }
+    }
+    others
+}
+
+// Looks keys up, and returns how many had a value other than themselves.
+fn look_all<S: KeyHasher<u64>, A: Allocator + Copy, R: Wait>(
+    rt: &R,
+    map: &HashMap<u64, u64, S, A>,
+    from: u64,
+    to: u64,
+) -> u64 {
+    let mut others = 0u64;
+    for key in from..to {
+        match map.get(rt, &key) {
+            Ok(Some(value)) => others = others.saturating_add(u64::from(*value != key)),
+            Ok(None) => {}
+            Err(_) => others = others.saturating_add(1),
+        }
+    }
+    others
+}
+
+// Walks `times` times, and returns how many of the earlier keys were not given once.
+fn walk_often<S: KeyHasher<u64>, A: Allocator + Copy, R: Wait>(
+    rt: &R,
+    map: &HashMap<u64, u64, S, A>,
+    times: u32,
+) -> u64 {
+    let mut failed = 0u64;
+    for _ in 0..times {
+        failed = failed.saturating_add(walk_once(rt, map));
+    }
+    failed
+}
+
+// Returns how many of the earlier keys one walk does not give once.
+fn walk_once<S: KeyHasher<u64>, A: Allocator + Copy, R: Wait>(
+    rt: &R,
+    map: &HashMap<u64, u64, S, A>,
+) -> u64 {
+    let mut given = [0u8; STANDING];
+    let mut keys = map.keys(rt);
+    count_given(&mut keys, &mut given);
+    drop(keys);
+    given.iter().filter(|times| **times != 1).count() as u64
+}
+
+// Counts how often a walk gives each of the earlier keys.
+fn count_given<A: Allocator + Copy, R: Wait>(
+    keys: &mut Keys<'_, R, u64, u64, A>,
+    given: &mut [u8; STANDING],
+) {
+    for _ in 0..super::MAX_READ {
+        let Ok(Some(key)) = keys.next() else {
+            break;
+        };
+        if let Some(times) = given.get_mut(*key as usize) {
+            *times = times.saturating_add(1);
+        }
+    }
+}
+
+// Does each of `works` in a thread of its own, and returns how much failed.
+fn work_in_threads<
+    S: KeyHasher<u64> + Sync,
+    A: Allocator + Copy + Send + Sync,
+    R: Threads + Wait + Sync,
+>(rt: &R, map: &HashMap<u64, u64, S, A>, works: &[Work]) -> u64 {
+    let failures = AtomicU64::new(0);
+    let failed = &failures;
+    thread::scope(thread::scope_env(), rt, |scope| {
+        for work in works {
+            let work = *work;
+            if scope.spawn(move || do_work(rt, map, work, failed)).is_err() {
+                do_work(rt, map, work, failed);
+            }
+        }
+    });
+    failures.load(Ordering::SeqCst)
+}
+
+// Each walk gives each key that was present before it started once, while the table is doubled several times.
+#[test]
+fn walks_beside_insertions(rt: HostRuntime) -> Result<(), Fail> {
+    let map = numbers(&rt, rt.alloc(), STANDING as u64).with_processors(4);
+    let works = [
+        Work::Insert(1000, 11_000),
+        Work::Insert(11_000, 21_000),
+        Work::Walk(2),
+        Work::Walk(2),
+        Work::Walk(2),
+    ];
+
+    same(&rt, work_in_threads(&rt, &map, &works), 0);
+
+    same(&rt, map.len(&rt), 21_000);
+    same(&rt, walk_once(&rt, &map), 0);
+    Ok(())
+}
+
+// After all threads have ended, the count is that of the pairs that a walk gives.
+#[test]
+fn writers_removers_and_readers_of_one_bin(rt: HostRuntime) -> Result<(), Fail> {
+    let map = HashMap::with_hasher(rt.alloc(), ZeroHashBuilder);
+    let works = [
+        Work::Insert(0, 1000),
+        Work::Remove(0, 1000),
+        Work::Look(0, 1000),
+        Work::Look(0, 1000),
+        Work::Insert(0, 1000),
+        Work::Remove(0, 1000),
+        Work::Look(0, 1000),
+        Work::Look(0, 1000),
+        Work::Insert(0, 1000),
+        Work::Remove(0, 1000),
+        Work::Look(0, 1000),
+        Work::Look(0, 1000),
+        Work::Insert(0, 1000),
+        Work::Remove(0, 1000),
+        Work::Look(0, 1000),
+        Work::Look(0, 1000),
+    ];
+
+    same(&rt, work_in_threads(&rt, &map, &works), 0);
+
+    same(&rt, read_all(map.iter(&rt))?.0, map.len(&rt) as u64);
+    Ok(())
+}
+
+// The even keys stay, and of the earlier keys the odd ones are removed.
+#[test]
+fn a_retain_beside_insertions(rt: HostRuntime) -> Result<(), Fail> {
+    let map = numbers(&rt, rt.alloc(), STANDING as u64);
+    let works = [
+        Work::KeepEven,
+        Work::Insert(1000, 3000),
+        Work::KeepEven,
+        Work::Insert(3000, 5000),
+    ];
+
+    same(&rt, work_in_threads(&rt, &map, &works), 0);
+
+    same(&rt, walk_once(&rt, &map), 500);
+    map.retain(&rt, |key, _| *key % 2 == 0)?;
+    same(&rt, map.len(&rt), 2500);
+    same(&rt, read_all(map.iter(&rt))?, (2500, 6_247_500, 6_247_500));
+    Ok(())
+}

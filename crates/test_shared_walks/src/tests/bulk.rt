@@ -1,0 +1,152 @@
+//! Maps that are made from lists, their clones, and equal maps.
+
+use super::walks::sums_of_later_pairs;
+use super::{Numbers, has_sums, numbers, same};
+use flurry_base::hash::{DefaultHashBuilder, KeyHasher, LowHashBuilder, ZeroHashBuilder};
+use flurry_shared::HashMap;
+use std::alloc::{AllocError, Allocator};
+use std::process::Abort;
+use std::sync::Wait;
+use std::test::Fail;
+
+// Returns a list of the keys from `from` to `to`, without `to`. The value of a key is the key plus `more`.
+pub(super) fn list<A: Allocator>(
+    alloc: A,
+    from: u64,
+    to: u64,
+    more: u64,
+) -> Result<Vec<(u64, u64), A>, AllocError> {
+    let mut list = Vec::new(alloc);
+    for key in from..to {
+        list.push((key, key.saturating_add(more)))?;
+    }
+    Ok(list)
+}
+
+// Extends a map by the pairs of a list, and checks the map's sums afterwards.
+fn extends_to<S: KeyHasher<u64>, R: Abort + Wait + AllocGlobal>(
+    rt: &R,
+    map: &HashMap<u64, u64, S>,
+    further: (u64, u64, u64),
+    wanted: (u64, u64, u64),
+) -> Result<(), Fail> {
+    map.extend(rt, list(rt.alloc(), further.0, further.1, further.2)?)?;
+    has_sums(rt, map, wanted)
+}
+
+fn lists_of_many_bins<R: Abort + Wait + AllocGlobal>(rt: &R) -> Result<(), Fail> {
+    let map = HashMap::from_list(rt, list(rt.alloc(), 0, 100, 0)?, LowHashBuilder)?;
+    has_sums(rt, &map, (100, 4950, 4950))?;
+    extends_to(rt, &map, (90, 110, 1), (110, 5995, 6015))
+}
+
+fn lists_of_one_bin<R: Abort + Wait + AllocGlobal>(rt: &R) -> Result<(), Fail> {
+    let map = HashMap::with_hasher(rt.alloc(), ZeroHashBuilder);
+    extends_to(rt, &map, (0, 50, 0), (50, 1225, 1225))?;
+    extends_to(rt, &map, (0, 0, 0), (50, 1225, 1225))
+}
+
+#[test]
+fn lists(rt: HostRuntime) -> Result<(), Fail> {
+    lists_of_many_bins(&rt)?;
+    lists_of_one_bin(&rt)
+}
+
+// An empty list makes no table: a walk that starts before the first pair gives no pairs.
+#[test]
+fn an_empty_list(rt: HostRuntime) -> Result<(), Fail> {
+    let map = HashMap::from_list(&rt, list(rt.alloc(), 0, 0, 0)?, LowHashBuilder)?;
+    same(&rt, sums_of_later_pairs(&rt, &map)?, (0, 0, 0));
+    has_sums(&rt, &map, (10, 45, 45))
+}
+
+// Inserts a pair into the clone of a map of a hundred pairs, and removes a pair from the map. Neither changes the other.
+fn are_apart<R: Abort + Wait>(rt: &R, map: &Numbers, copy: &Numbers) -> Result<(), Fail> {
+    copy.insert(rt, 200, 0)?;
+    map.remove(rt, &3);
+    has_sums(rt, copy, (101, 5150, 4950))?;
+    has_sums(rt, map, (99, 4947, 4947))
+}
+
+// A clone of a map has the map's pairs, and is a map of its own.
+#[test]
+fn a_further_map(rt: HostRuntime) -> Result<(), Fail> {
+    let map = numbers(&rt, rt.alloc(), 100);
+    let copy = map.try_clone(&rt)?;
+    are_apart(&rt, &map, &copy)
+}
+
+// Returns a map of the keys below `to`, with the hasher of `seed`. The value of a key is the key plus `more`.
+fn seeded<R: Wait + AllocGlobal>(
+    rt: &R,
+    to: u64,
+    more: u64,
+    seed: u64,
+) -> Result<HashMap<u64, u64>, AllocError> {
+    let list = list(rt.alloc(), 0, to, more)?;
+    HashMap::from_list(rt, list, DefaultHashBuilder::with_seed(seed))
+}
+
+// Returns whether a map is equal to the map of the keys below `to`, in which the value of a key is the key plus `more`.
+fn equals_further<R: Wait + AllocGlobal>(
+    rt: &R,
+    map: &HashMap<u64, u64>,
+    to: u64,
+    more: u64,
+) -> Result<bool, AllocError> {
+    let further = seeded(rt, to, more, 1)?;
+    map.equals(rt, &further)
+}
+
+// A map of twenty pairs is equal to itself and to another map of these pairs, and to no other map.
+fn equals_its_like<R: Abort + Wait + AllocGlobal>(
+    rt: &R,
+    map: &HashMap<u64, u64>,
+    other: &HashMap<u64, u64>,
+) -> Result<(), Fail> {
+    same(rt, map.equals(rt, other)?, true);
+    same(rt, map.equals(rt, map)?, true);
+    same(rt, equals_further(rt, map, 19, 0)?, false);
+    same(rt, equals_further(rt, map, 21, 0)?, false);
+    same(rt, equals_further(rt, map, 20, 1)?, false);
+    Ok(())
+}
+
+// The other map has another key in place of one key.
+fn differs_by_a_key<R: Abort + Wait>(
+    rt: &R,
+    map: &HashMap<u64, u64>,
+    other: &HashMap<u64, u64>,
+) -> Result<(), Fail> {
+    other.remove(rt, &3);
+    other.insert(rt, 30, 3)?;
+    same(rt, map.equals(rt, other)?, false);
+    same(rt, other.equals(rt, map)?, false);
+    Ok(())
+}
+
+// Compares a map with an equal one, and then with one that has another key.
+fn compares<R: Abort + Wait + AllocGlobal>(
+    rt: &R,
+    map: &HashMap<u64, u64>,
+    other: &HashMap<u64, u64>,
+) -> Result<(), Fail> {
+    equals_its_like(rt, map, other)?;
+    differs_by_a_key(rt, map, other)
+}
+
+#[test]
+fn equal_maps(rt: HostRuntime) -> Result<(), Fail> {
+    let map = seeded(&rt, 20, 0, 1)?;
+    compares(&rt, &map, &seeded(&rt, 20, 0, 2)?)
+}
+
+// Pairs are inserted in their order: of a key that comes twice the last value stands.
+#[test]
+fn a_doubled_key_in_a_list(rt: HostRuntime) -> Result<(), Fail> {
+    let pairs = Vec::from_array(rt.alloc(), [(1u64, 10u64), (2, 20), (1, 30)])?;
+    let map = HashMap::from_list(&rt, pairs, LowHashBuilder)?;
+    has_sums(&rt, &map, (2, 3, 50))?;
+    map.extend(&rt, Vec::from_array(rt.alloc(), [(2u64, 1u64), (2, 2)])?)?;
+    has_sums(&rt, &map, (2, 3, 32))
+}

@@ -1,0 +1,186 @@
+//! Each request for memory of a walk, or of a call over many pairs, fails in turn.
+
+use super::bulk::list;
+use super::{numbers, read_all, same};
+use flurry_base::hash::LowHashBuilder;
+use flurry_shared::HashMap;
+use metered_alloc::Metered;
+use std::alloc::{Allocator, Global};
+use std::process::Abort;
+use std::sync::Wait;
+use std::test::Fail;
+
+type Memory = &'static Metered<Global>;
+
+// A map of numbers. Its allocator is a parameter, because a proof over `Memory` would have to unfold it in each step.
+type Numbers<A> = HashMap<u64, u64, LowHashBuilder, A>;
+
+// A call that may fail to allocate memory.
+#[derive(Clone, Copy, Debug, PartialEq)]
+enum Call {
+    Walk,
+    Retain,
+    RetainForce,
+    Extend,
+    FromList,
+    Equals,
+    TryClone,
+}
+
+// Makes the call, of a map or of a list, and returns whether it succeeded.
+fn is_done<A: Allocator + Copy, R: Wait>(
+    rt: &R,
+    map: &Numbers<A>,
+    list: Vec<(u64, u64), A>,
+    call: Call,
+) -> bool {
+    match call {
+        Call::Walk => read_all(map.iter(rt)).is_ok(),
+        Call::Retain => map.retain(rt, |key, _| *key < 2).is_ok(),
+        Call::RetainForce => map.retain_force(rt, |key, _| *key < 2).is_ok(),
+        Call::Extend => map.extend(rt, list).is_ok(),
+        Call::FromList => HashMap::from_list(rt, list, LowHashBuilder).is_ok(),
+        Call::Equals => map.equals(rt, map).is_ok(),
+        Call::TryClone => map.try_clone(rt).is_ok(),
+    }
+}
+
+// Returns the number of pairs that a walk gives, which must be the count of the map.
+fn count_there<A: Allocator + Copy, R: Wait>(rt: &R, map: &Numbers<A>) -> Result<usize, Fail> {
+    let there = read_all(map.iter(rt))?.0 as usize;
+    if there == map.len(rt) {
+        Ok(there)
+    } else {
+        Err(Fail::from("the count is that of the pairs"))
+    }
+}
+
+// Makes the call while the request numbered `k` fails, of a map and a list in this memory. Returns whether the request was made, whether
+// the call succeeded, and the number of pairs afterwards.
+fn refuse_in<A: Allocator + Copy, R: Wait>(
+    rt: &R,
+    memory: &Metered<Global>,
+    k: u64,
+    map: &Numbers<A>,
+    list: Vec<(u64, u64), A>,
+    call: Call,
+) -> Result<(bool, bool, usize), Fail> {
+    memory.refuse_at(k);
+    let done = is_done(rt, map, list, call);
+    let refused = memory.refused();
+    memory.refuse_nothing();
+    Ok((refused, done, count_there(rt, map)?))
+}
+
+// Does the same as `refuse_in`, with a map of the keys 0 to 2 and a list of the keys 10 to 12.
+fn call_without<R: Wait>(
+    rt: &R,
+    memory: Memory,
+    call: Call,
+    k: u64,
+) -> Result<(bool, bool, usize), Fail> {
+    let list = list(memory, 10, 13, 0)?;
+    let map = numbers(rt, memory, 3);
+    refuse_in(rt, memory, k, &map, list, call)
+}
+
+// Makes each of `requests` requests fail in turn: the call then fails, and leaves three pairs. If no request fails, it leaves `left` pairs.
+fn refuse_each<R: Abort + Wait>(
+    rt: &R,
+    memory: Memory,
+    call: Call,
+    requests: u64,
+    left: usize,
+) -> Result<(), Fail> {
+    for k in 0..requests {
+        let seen = call_without(rt, memory, call, k)?;
+        same(rt, (call, k, seen), (call, k, (true, false, 3)));
+        same(rt, memory.blocks(), 0);
+    }
+    let seen = call_without(rt, memory, call, requests)?;
+    same(
+        rt,
+        (call, requests, seen),
+        (call, requests, (false, true, left)),
+    );
+    same(rt, memory.blocks(), 0);
+    Ok(())
+}
+
+#[test]
+fn calls_without_a_request(rt: HostRuntime) -> Result<(), Fail> {
+    let memory = Metered::leaked(rt.alloc())?;
+    refuse_each(&rt, memory, Call::Walk, 0, 3)?;
+    refuse_each(&rt, memory, Call::Retain, 0, 2)?;
+    refuse_each(&rt, memory, Call::RetainForce, 0, 2)?;
+    refuse_each(&rt, memory, Call::Equals, 0, 3)
+}
+
+// The requests are for a table and its slots, and three for each pair. A clone of a map shares its keys and values, and is built in a table
+// of its own first.
+#[test]
+fn maps_that_are_made(rt: HostRuntime) -> Result<(), Fail> {
+    let memory = Metered::leaked(rt.alloc())?;
+    refuse_each(&rt, memory, Call::FromList, 11, 3)?;
+    refuse_each(&rt, memory, Call::TryClone, 6, 3)
+}
+
+// An extension keeps the pairs that it inserted before the request that failed.
+#[test]
+fn an_extension(rt: HostRuntime) -> Result<(), Fail> {
+    let memory = Metered::leaked(rt.alloc())?;
+    for k in 0..9u64 {
+        let seen = call_without(&rt, memory, Call::Extend, k)?;
+        same(&rt, (k, seen), (k, (true, false, 3 + k as usize / 3)));
+        same(&rt, memory.blocks(), 0);
+    }
+    same(
+        &rt,
+        call_without(&rt, memory, Call::Extend, 9)?,
+        (false, true, 6),
+    );
+    Ok(())
+}
+
+// Makes the call, of a map or of a list in this memory. Returns whether it succeeded, and how many requests it made.
+fn asked_in<A: Allocator + Copy, R: Wait>(
+    rt: &R,
+    memory: &Metered<Global>,
+    map: &Numbers<A>,
+    list: Vec<(u64, u64), A>,
+    call: Call,
+) -> (bool, u64) {
+    memory.refuse_nothing();
+    let done = is_done(rt, map, list, call);
+    (done, memory.asked())
+}
+
+// Does the same as `asked_in`, with a map of the keys below `pairs` and a list of `others` greater keys.
+fn asked_by<R: Wait>(
+    rt: &R,
+    memory: Memory,
+    pairs: u64,
+    others: u64,
+    call: Call,
+) -> Result<(bool, u64), Fail> {
+    let list = list(memory, 100, others.saturating_add(100), 0)?;
+    let map = numbers(rt, memory, pairs);
+    Ok(asked_in(rt, memory, &map, list, call))
+}
+
+// Room is made first: a hundred pairs ask for the tables of that room, one of them by a growth with its board and seats, and for three
+// blocks each. A map that is not empty makes room for half of a list: for a map of one pair in 16 bins and a list of eight, that is no
+// further table.
+#[test]
+fn room_is_made_first(rt: HostRuntime) -> Result<(), Fail> {
+    let memory = Metered::leaked(rt.alloc())?;
+    let asked = asked_by(&rt, memory, 0, 100, Call::FromList)?;
+    same(&rt, asked, (true, 302));
+    let asked = asked_by(&rt, memory, 100, 0, Call::TryClone)?;
+    same(&rt, asked, (true, 103));
+    let asked = asked_by(&rt, memory, 0, 100, Call::Extend)?;
+    same(&rt, asked, (true, 309));
+    let asked = asked_by(&rt, memory, 1, 8, Call::Extend)?;
+    same(&rt, asked, (true, 24));
+    Ok(())
+}

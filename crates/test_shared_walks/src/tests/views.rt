@@ -1,0 +1,125 @@
+//! The calls of a view.
+
+use super::{numbers, read_all, same, taken};
+use flurry_base::hash::{DefaultHashBuilder, LowHashBuilder};
+use flurry_shared::HashMap;
+use flurry_shared_view::HashMapRef;
+use std::alloc::{AllocError, Global};
+use std::process::Abort;
+use std::sync::Wait;
+use std::test::Fail;
+
+type DefaultRef<'m, R> = HashMapRef<'m, R, u64, u64, DefaultHashBuilder, Global>;
+
+// Inserts one key twice, but not a third time.
+fn inserts_a_key<R: Abort + Wait>(rt: &R, view: &DefaultRef<'_, R>) -> Result<(), Fail> {
+    same(rt, view.is_empty(), true);
+    same(rt, taken(view.insert(7, 0)?), None);
+    same(rt, taken(view.insert(7, 1)?), Some(0));
+    same(rt, view.try_insert(7, 2)?.is_err(), true);
+    Ok(())
+}
+
+// Looks up the key, and doubles its value.
+fn doubles_its_value<R: Abort + Wait>(rt: &R, view: &DefaultRef<'_, R>) -> Result<(), Fail> {
+    same(rt, taken(view.get(&7)?), Some(1));
+    same(rt, view.get_key_value(&7)?.is_some(), true);
+    let doubled = view.compute_if_present(&7, |_, value| value.checked_mul(2))?;
+    same(rt, taken(doubled), Some(2));
+    Ok(())
+}
+
+// Removes the key, once.
+fn removes_it<R: Abort + Wait>(rt: &R, view: &DefaultRef<'_, R>) {
+    same(rt, (view.contains_key(&7), view.len()), (true, 1));
+    same(rt, taken(view.remove(&7)), Some(2));
+    same(rt, view.remove_entry(&7).is_none(), true);
+}
+
+// Inserts a key, doubles its value, and removes it.
+fn comes_and_goes<R: Abort + Wait>(rt: &R, view: &DefaultRef<'_, R>) -> Result<(), Fail> {
+    inserts_a_key(rt, view)?;
+    doubles_its_value(rt, view)?;
+    removes_it(rt, view);
+    Ok(())
+}
+
+#[test]
+fn calls_of_one_key(rt: HostRuntime) -> Result<(), Fail> {
+    let map: HashMap<u64, u64> = HashMap::new(rt.alloc());
+    comes_and_goes(&rt, &map.pin(&rt))?;
+    same(&rt, map.is_empty(&rt), true);
+    Ok(())
+}
+
+type NumbersRef<'m, R> = HashMapRef<'m, R, u64, u64, LowHashBuilder, Global>;
+
+// Returns whether a view gives at least one key.
+fn has_a_key<R: Wait>(view: &NumbersRef<'_, R>) -> Result<bool, AllocError> {
+    let mut keys = view.keys();
+    let first = keys.next();
+    drop(keys);
+    Ok(first?.is_some())
+}
+
+// Returns whether a view gives at least one value.
+fn has_a_value<R: Wait>(view: &NumbersRef<'_, R>) -> Result<bool, AllocError> {
+    let mut values = view.values();
+    let first = values.next();
+    drop(values);
+    Ok(first?.is_some())
+}
+
+// Keeps five of ten pairs by another view of the same map, and then two.
+fn keeps_two<R: Abort + Wait>(rt: &R, view: &NumbersRef<'_, R>) -> Result<(), Fail> {
+    let other = view.again();
+    view.reserve(100)?;
+    same(rt, view.equals(&other)?, true);
+    other.retain(|key, _| *key < 5)?;
+    same(rt, read_all(view.iter())?, (5, 10, 10));
+    other.retain_force(|key, _| *key < 2)?;
+    same(rt, view.len(), 2);
+    Ok(())
+}
+
+// Asserts that a view has keys and values.
+fn is_not_empty<R: Abort + Wait>(rt: &R, view: &NumbersRef<'_, R>) -> Result<(), Fail> {
+    same(rt, has_a_key(view)?, true);
+    same(rt, has_a_value(view)?, true);
+    Ok(())
+}
+
+// Asserts that a view is not equal to a view of an empty map.
+fn differs_from_none<R: Abort + Wait + AllocGlobal>(
+    rt: &R,
+    view: &NumbersRef<'_, R>,
+) -> Result<(), Fail> {
+    let empty = HashMap::with_hasher(rt.alloc(), LowHashBuilder);
+    same(rt, view.equals(&empty.pin(rt))?, false);
+    Ok(())
+}
+
+// Removes all pairs. Another view of the map then has none.
+fn clears<R: Abort + Wait>(rt: &R, view: &NumbersRef<'_, R>) -> Result<(), Fail> {
+    let other = view.again();
+    view.clear();
+    same(rt, read_all(other.iter())?, (0, 0, 0));
+    Ok(())
+}
+
+// Keeps some of ten pairs, compares the view, and clears the map.
+fn keeps_and_clears<R: Abort + Wait + AllocGlobal>(
+    rt: &R,
+    view: &NumbersRef<'_, R>,
+) -> Result<(), Fail> {
+    keeps_two(rt, view)?;
+    is_not_empty(rt, view)?;
+    differs_from_none(rt, view)?;
+    clears(rt, view)
+}
+
+#[test]
+fn calls_of_many_pairs(rt: HostRuntime) -> Result<(), Fail> {
+    let map = numbers(&rt, rt.alloc(), 10);
+    keeps_and_clears(&rt, &map.pin(&rt))
+}

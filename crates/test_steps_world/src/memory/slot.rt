@@ -1,0 +1,190 @@
+//! Each request of a slot's steps fails in turn.
+ghost use Rattle.flurry_bins_slots.specs.Slot.{LiesIn};
+
+use super::{Memory, same, same_at};
+use flurry_base::sizes::bin_index;
+use flurry_bins::bin::Bin;
+use flurry_bins_slots::{Answer, Computed, Given, Slot};
+use metered_alloc::Metered;
+use std::alloc::{Allocator, Global};
+use std::process::Abort;
+use std::test::Fail;
+
+type NumberSlot = Slot<u64, u64, Memory>;
+
+// What happened when one request failed: whether the call made that request, whether the call failed, and the value and the write number at
+// the key of the tests afterwards.
+type Seen = (bool, bool, Option<(u64, u64)>);
+
+// Returns a live slot of an empty bin, to which the key of the tests belongs.
+fn empty_slot() -> NumberSlot {
+    Slot::live(4, 3, Bin::new())
+}
+
+// Asserts that the hash of the tests lies in the region of the slot.
+fn lies_in(rt: &impl Abort, slot: &NumberSlot)
+    ensures { LiesIn 3 slot.now }
+{
+    let (table, index) = slot.at();
+    assert!(rt; bin_index(3, table) == index);
+}
+
+// Returns the value of the key of the tests and its write number, if the bin is live.
+fn found(rt: &impl Abort, slot: &NumberSlot) -> Option<(u64, u64)> {
+    lies_in(rt, slot);
+    match slot.find(3, &3) {
+        Answer::Here(entry) => entry.map(|entry| (*entry.value, entry.number)),
+        _ => None,
+    }
+}
+
+// Sets the value of the key of the tests while one request fails, and returns what happened.
+fn put_at(rt: &impl Abort, memory: Memory, slot: &mut NumberSlot, k: u64, value: u64) -> Seen {
+    lies_in(rt, slot);
+    memory.refuse_at(k);
+    let failed = slot.put(memory, 3, 3, Given::Plain(value)).is_err();
+    let refused = memory.refused();
+    memory.refuse_nothing();
+    (refused, failed, found(rt, slot))
+}
+
+// Returns a slot in which the key of the tests has the value 10.
+fn slot_of_ten(rt: &impl Abort, memory: Memory) -> NumberSlot {
+    let mut slot = empty_slot();
+    let seen = put_at(rt, memory, &mut slot, u64::MAX, 10);
+    same(rt, seen, (false, false, Some((10, 1))));
+    slot
+}
+
+// A new key makes requests for its key, its value and its node.
+#[test]
+fn put_of_a_new_key(rt: HostRuntime) -> Result<(), Fail> {
+    let memory = Metered::leaked(rt.alloc())?;
+    for k in 0..4u64 {
+        let refused = k < 3;
+        let stands = if refused { None } else { Some((10, 1)) };
+        let seen = put_at(&rt, memory, &mut empty_slot(), k, 10);
+        same_at(&rt, k, seen, (refused, refused, stands));
+        same_at(&rt, k, memory.blocks(), 0);
+    }
+    Ok(())
+}
+
+// A present key makes a request for the value alone.
+#[test]
+fn put_of_a_present_key(rt: HostRuntime) -> Result<(), Fail> {
+    let memory = Metered::leaked(rt.alloc())?;
+    for k in 0..2u64 {
+        let refused = k < 1;
+        let stands = if refused { (10, 1) } else { (11, 2) };
+        let seen = put_at(&rt, memory, &mut slot_of_ten(&rt, memory), k, 11);
+        same_at(&rt, k, seen, (refused, refused, Some(stands)));
+        same_at(&rt, k, memory.blocks(), 0);
+    }
+    Ok(())
+}
+
+// Adds a value at the key of the tests while one request fails, and returns what happened.
+fn add_at(rt: &impl Abort, memory: Memory, slot: &mut NumberSlot, k: u64, value: u64) -> Seen {
+    lies_in(rt, slot);
+    memory.refuse_at(k);
+    let failed = slot.put_absent(memory, 3, 3, value).is_err();
+    let refused = memory.refused();
+    memory.refuse_nothing();
+    (refused, failed, found(rt, slot))
+}
+
+// At a present key, an addition makes no request to the allocator: cloning the value's `Arc` fails only at a count of about 2^63.
+#[test]
+fn put_absent(rt: HostRuntime) -> Result<(), Fail> {
+    let memory = Metered::leaked(rt.alloc())?;
+    for k in 0..4u64 {
+        let mut slot = empty_slot();
+        let refused = k < 3;
+        let stands = if refused { None } else { Some((10, 1)) };
+        let seen = add_at(&rt, memory, &mut slot, k, 10);
+        same_at(&rt, k, seen, (refused, refused, stands));
+        if !refused {
+            // Not even a first request is made.
+            let seen = add_at(&rt, memory, &mut slot, 0, 11);
+            same_at(&rt, k, seen, (false, false, stands));
+        }
+        drop(slot);
+        same_at(&rt, k, memory.blocks(), 0);
+    }
+    Ok(())
+}
+
+// Halves the value of the key of the tests while one request fails, and returns what happened.
+fn halve_at(rt: &impl Abort, memory: Memory, slot: &mut NumberSlot, k: u64) -> Seen {
+    lies_in(rt, slot);
+    memory.refuse_at(k);
+    let answer = slot.compute(memory, 3, &3, |_: &u64, value: &u64| Some(*value / 2));
+    let failed = answer.is_err();
+    drop(answer);
+    let refused = memory.refused();
+    memory.refuse_nothing();
+    (refused, failed, found(rt, slot))
+}
+
+// Returns whether a function that returns `None` removed the key of the tests while every request fails.
+fn is_removed(rt: &impl Abort, memory: Memory, slot: &mut NumberSlot) -> bool {
+    lies_in(rt, slot);
+    memory.refuse_from(0);
+    let answer = slot.compute(memory, 3, &3, |_: &u64, _: &u64| None);
+    memory.refuse_nothing();
+    matches!(&answer, Ok(Answer::Here(Computed::Removed(_))))
+}
+
+// Returns whether a function was not called because the key of the tests is absent, while every request fails.
+fn is_absent(rt: &impl Abort, memory: Memory, slot: &mut NumberSlot) -> bool {
+    lies_in(rt, slot);
+    memory.refuse_from(0);
+    let answer = slot.compute(memory, 3, &3, |_: &u64, _: &u64| Some(0));
+    memory.refuse_nothing();
+    matches!(&answer, Ok(Answer::Here(Computed::Absent(_))))
+}
+
+// A computed value makes a request for its memory. A function that returns `None` makes none, and for an absent key the function is not
+// called.
+#[test]
+fn compute(rt: HostRuntime) -> Result<(), Fail> {
+    let memory = Metered::leaked(rt.alloc())?;
+    for k in 0..2u64 {
+        let mut slot = slot_of_ten(&rt, memory);
+        let refused = k < 1;
+        let stands = if refused { (10, 1) } else { (5, 2) };
+        let seen = halve_at(&rt, memory, &mut slot, k);
+        same_at(&rt, k, seen, (refused, refused, Some(stands)));
+        same_at(&rt, k, is_removed(&rt, memory, &mut slot), true);
+        same_at(&rt, k, is_absent(&rt, memory, &mut slot), true);
+        drop(slot);
+        same_at(&rt, k, memory.blocks(), 0);
+    }
+    Ok(())
+}
+
+// Does the steps of a slot that are not those above.
+fn does_other_steps<A: Allocator + Copy>(rt: &impl Abort, metered: &Metered<Global>, memory: A) {
+    let mut slot: Slot<u64, u64, A> = Slot::live(4, 3, Bin::new());
+    let first = slot.put(memory, 3, 3, Given::Plain(10));
+    drop(first.ok().expect(rt, "memory"));
+    let second = slot.put(memory, 19, 19, Given::Plain(11));
+    drop(second.ok().expect(rt, "memory"));
+    metered.refuse_from(0);
+    let mut low: Slot<u64, u64, A> = Slot::unborn(5, 3);
+    let mut high: Slot<u64, u64, A> = Slot::unborn(5, 19);
+    drop(slot.take_if(19, &19, 1));
+    drop(slot.next_after(None));
+    drop(slot.move_into(&mut low, &mut high));
+    drop(low.take(3, &3));
+    drop(high.wipe());
+}
+
+#[test]
+fn the_other_steps_ask_for_nothing(rt: HostRuntime) -> Result<(), Fail> {
+    let memory = Metered::leaked(rt.alloc())?;
+    does_other_steps(&rt, memory, memory);
+    same(&rt, (memory.asked(), memory.blocks()), (0, 0));
+    Ok(())
+}
