@@ -10,7 +10,7 @@ use Rattle.flurry_base.specs.declared.try_insert.TryInsertError.{TryInsertError}
 use Rattle.flurry_base.specs.declared.reply.KeptReply.{KeptReply}
 use Rattle.flurry_base.specs.declared.reply.KeptReply.TheVariants as kept
 use Rattle.flurry_base.specs.FiniteMap.{pair_at, value_at, with_pair, without}
-use Rattle.flurry_base.specs.OneKey as one
+use Rattle.flurry_base.specs.declared.call.Call.TheVariants as plain
 use Rattle.flurry_seq.specs.Contents.{Contents, with_pairs}
 use Rattle.flurry_seq.specs.Calls.{OneKeyAnswers, CallRefused}
 use Rattle.flurry_seq.specs.declared.calls.Call.{Call}
@@ -24,7 +24,7 @@ module _ {K V A S F : Type 0} (cmp : K → K → Ordering) (gives : F → K → 
       MatchOption (value_at cmp m.pairs k) (IsOkAnd r (λ new. arc_value new ≡ v) × (n.pairs ≡ with_pair cmp m.pairs k v))
       (λ current. IsErrAnd r (λ e. (arc_value e.current ≡ current) × (e.not_inserted ≡ v)) × (n ≡ m))
 
-  pub try_put : (v : V) (w : Arc V A) → TryReplies v (Ok w) → n.hasher ≡ m.hasher → OneKeyAnswers cmp gives (one.TryInsert k v) m (New w) n
+  pub try_put : (v : V) (w : Arc V A) → TryReplies v (Ok w) → n.hasher ≡ m.hasher → OneKeyAnswers cmp gives (plain.TryInsert k v) m (New w) n
   try_put v w h same = (kept.New (arc_value w), refl, by_pair (pair_at cmp m.pairs k) h, same)
     where
       by_pair : (o : Option (K × V))
@@ -33,7 +33,7 @@ module _ {K V A S F : Type 0} (cmp : K → K → Ordering) (gives : F → K → 
       by_pair None h = (ap (λ x. kept.New x) h.0, h.1)
       by_pair (Some p) h = absurd h.0
 
-  pub try_met : (v : V) (e : TryInsertError V A) → TryReplies v (Err e) → n.hasher ≡ m.hasher → OneKeyAnswers cmp gives (one.TryInsert k v) m (Exists e) n
+  pub try_met : (v : V) (e : TryInsertError V A) → TryReplies v (Err e) → n.hasher ≡ m.hasher → OneKeyAnswers cmp gives (plain.TryInsert k v) m (Exists e) n
   try_met v e h same = (kept.Exists (arc_value e.current) e.not_inserted, refl, by_pair (pair_at cmp m.pairs k) h, same)
     where
       by_pair : (o : Option (K × V))
@@ -57,7 +57,7 @@ module _ {K V A S F : Type 0} (cmp : K → K → Ordering) (gives : F → K → 
       IfSome (pair_at cmp m.pairs k) (λ p. (o : Option V) × gives f p.0 p.1 o
       × MatchOption o ((◌≡◌ {A = Result (Option (Arc V A)) AllocError} (Ok r) (Ok None)) × (n ≡ with_pairs m (without cmp m.pairs k))) (λ w. (option_map arc_value r ≡ Some w) × (n ≡ with_pairs m (with_pair cmp m.pairs k w))))
 
-  pub computed : (f : F) (r : Option (Arc V A)) → (pair_at cmp m.pairs k ≡ None → (◌≡◌ {A = Result (Option (Arc V A)) AllocError} (Ok r) (Ok None)) × (n ≡ m)) → ComputeReplies f r → n.hasher ≡ m.hasher → OneKeyAnswers cmp gives (one.Compute k f) m (Value r) n
+  pub computed : (f : F) (r : Option (Arc V A)) → (pair_at cmp m.pairs k ≡ None → (◌≡◌ {A = Result (Option (Arc V A)) AllocError} (Ok r) (Ok None)) × (n ≡ m)) → ComputeReplies f r → n.hasher ≡ m.hasher → OneKeyAnswers cmp gives (plain.Compute k f) m (Value r) n
   computed f r absent present same = (kept.Value (option_map arc_value r), refl, by_pair (pair_at cmp m.pairs k) absent present, same)
     where
       by_answer : (p : K × V) (o : Option V) → MatchOption o ((◌≡◌ {A = Result (Option (Arc V A)) AllocError} (Ok r) (Ok None)) × (n ≡ with_pairs m (without cmp m.pairs k))) (λ w. (option_map arc_value r ≡ Some w) × (n ≡ with_pairs m (with_pair cmp m.pairs k w)))

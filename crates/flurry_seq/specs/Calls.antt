@@ -6,8 +6,9 @@ use Rattle.std.specs.declared.sync.Arc.{Arc}
 use Rattle.std.specs.List.Sorted.{IsPermutation}
 use Rattle.flurry_bins.specs.declared.bin.adaptive.Shape.{Shape}
 use Rattle.flurry_base.specs.FiniteMap.{pair_at, with_all}
-use Rattle.flurry_base.specs.OneKey.{OneKey, Answers}
-use Rattle.flurry_base.specs.OneKey as one
+use Rattle.flurry_base.specs.OneKey.{Answers}
+use Rattle.flurry_base.specs.declared.call.Call as plain_call
+use Rattle.flurry_base.specs.declared.call.Call.TheVariants as plain
 use Rattle.flurry_base.specs.Sizes.{IsGrown}
 use Rattle.flurry_base.specs.declared.reply.KeptReply.{KeptReply}
 use Rattle.flurry_base.specs.declared.reply.KeptReply.TheVariants as kept
@@ -53,16 +54,16 @@ module _ {K V A : Type 0} where
 
     module _ {F : Type 0} (cmp : K → K → Ordering) (gives : F → K → V → Option V → Type 0) where
       -- a call of one key
-      abbrev pub OneKeyAnswers : OneKey K V F → Contents K V S → Reply K V S A → Contents K V S → Type 0
+      abbrev pub OneKeyAnswers : plain_call.Call K V F → Contents K V S → Reply K V S A → Contents K V S → Type 0
       OneKeyAnswers call m r n = (k : KeptReply K V) × (kept_reply r ≡ Some k) × Answers cmp gives call m.pairs k n.pairs × (n.hasher ≡ m.hasher)
 
     module _ {F P : Type 0} (cmp : K → K → Ordering) (eq : V → V → Bool) (hash : S → K → ℕ) (gives : F → K → V → Option V → Type 0) (tests : P → Bor K → Bor V → Bool → P → Type 0) where
       -- on the map m the call may reply r and leave the map n. The bins stay, but that an added key, a `reserve` and an `extend` may
       -- make the table larger
       abbrev pub CallAnswers : Call K V S F P A → Contents K V S → Reply K V S A → Contents K V S → Type 0
-      CallAnswers (Get k) m r n = OneKeyAnswers cmp gives (one.Get k) m r n × (n.bins ≡ m.bins)
-      CallAnswers (GetKeyValue k) m r n = OneKeyAnswers cmp gives (one.GetKeyValue k) m r n × (n.bins ≡ m.bins)
-      CallAnswers (ContainsKey k) m r n = OneKeyAnswers cmp gives (one.ContainsKey k) m r n × (n.bins ≡ m.bins)
+      CallAnswers (Get k) m r n = OneKeyAnswers cmp gives (plain.Get k) m r n × (n.bins ≡ m.bins)
+      CallAnswers (GetKeyValue k) m r n = OneKeyAnswers cmp gives (plain.GetKeyValue k) m r n × (n.bins ≡ m.bins)
+      CallAnswers (ContainsKey k) m r n = OneKeyAnswers cmp gives (plain.ContainsKey k) m r n × (n.bins ≡ m.bins)
       CallAnswers Len m r n = (r ≡ Number (length m.pairs)) × (n ≡ m)
       CallAnswers IsEmpty m r n = (r ≡ Truth (length m.pairs == 0)) × (n ≡ m)
       CallAnswers Capacity m r n = (r ≡ Number m.bins) × (n ≡ m)
@@ -73,11 +74,11 @@ module _ {K V A : Type 0} where
       CallAnswers Values m r n = (vs : List V) × (listed_values r ≡ Some vs) × IsPermutation (map (λ p. p.1) m.pairs) vs × (n ≡ m)
       CallAnswers (Equals other) m r n = (r ≡ Truth (maps_eq cmp eq m other)) × (n ≡ m)
       CallAnswers TryClone m r n = (copy : Contents K V S) × (r ≡ reply.Map copy) × SamePairs m copy × (n ≡ m)
-      CallAnswers (Insert k v) m r n = OneKeyAnswers cmp gives (one.Insert k v) m r n × (IsSome (pair_at cmp m.pairs k) → n.bins ≡ m.bins)
-      CallAnswers (TryInsert k v) m r n = OneKeyAnswers cmp gives (one.TryInsert k v) m r n × (IsSome (pair_at cmp m.pairs k) → n.bins ≡ m.bins)
-      CallAnswers (ComputeIfPresent k f) m r n = OneKeyAnswers cmp gives (one.Compute k f) m r n × (n.bins ≡ m.bins)
-      CallAnswers (Remove k) m r n = OneKeyAnswers cmp gives (one.Remove k) m r n × (n.bins ≡ m.bins)
-      CallAnswers (RemoveEntry k) m r n = OneKeyAnswers cmp gives (one.RemoveEntry k) m r n × (n.bins ≡ m.bins)
+      CallAnswers (Insert k v) m r n = OneKeyAnswers cmp gives (plain.Insert k v) m r n × (IsSome (pair_at cmp m.pairs k) → n.bins ≡ m.bins)
+      CallAnswers (TryInsert k v) m r n = OneKeyAnswers cmp gives (plain.TryInsert k v) m r n × (IsSome (pair_at cmp m.pairs k) → n.bins ≡ m.bins)
+      CallAnswers (ComputeIfPresent k f) m r n = OneKeyAnswers cmp gives (plain.Compute k f) m r n × (n.bins ≡ m.bins)
+      CallAnswers (Remove k) m r n = OneKeyAnswers cmp gives (plain.Remove k) m r n × (n.bins ≡ m.bins)
+      CallAnswers (RemoveEntry k) m r n = OneKeyAnswers cmp gives (plain.RemoveEntry k) m r n × (n.bins ≡ m.bins)
       CallAnswers (Retain p) m r n = (r ≡ Done) × Retains tests cmp p m n
       CallAnswers (RetainForce p) m r n = (r ≡ Done) × Retains tests cmp p m n
       CallAnswers Clear m r n = (r ≡ Done) × (n ≡ with_pairs m [])

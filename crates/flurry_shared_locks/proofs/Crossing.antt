@@ -16,7 +16,7 @@ use Rattle.flurry_steps_claims.specs.contracts.helpers.Helpers as Helpers
 use Rattle.flurry_bins_slots.proofs.Crossing.{slot_send, slot_sync}
 use Rattle.flurry_bins_slots.specs.contracts.slot.Slot as Slot
 use Rattle.flurry_shared_locks.proofs.shared_control.SharedControl.TheSendSync as control
-use Rattle.flurry_shared_locks.proofs.starts.PublishedTables.TheSendSync as starts
+use Rattle.flurry_shared_locks.proofs.published_tables.PublishedTables.TheSendSync as published_tables
 use Rattle.flurry_shared_locks.specs.contracts.locks.Locks as Locks
 use Rattle.flurry_shared_locks.specs.contracts.tables.Tables as Tables
 
@@ -50,7 +50,7 @@ module _ (K V A : RattleType) (g : Ghosts A.Denot) (sk : IsSend K) (yk : IsSync 
   tables_sync = let s = table_send in let y = table_sync in let t = helpers_send in let u = helpers_sync in search (once.the_sync, sendable) depth 20
 
   pub locks_send : IsSend (Locks.the_field K V A o e p g).row
-  locks_send = let t = tables_send in search (starts.the_field_send, control.the_field_send, sendable) depth 20
+  locks_send = let t = tables_send in search (published_tables.the_field_send, control.the_field_send, sendable) depth 20
 
   pub locks_sync : IsSync (Locks.the_field K V A o e p g).row
-  locks_sync = let t = tables_sync in search (starts.the_field_sync, control.the_field_sync, sendable) depth 20
+  locks_sync = let t = tables_sync in search (published_tables.the_field_sync, control.the_field_sync, sendable) depth 20

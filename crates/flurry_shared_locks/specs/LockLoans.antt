@@ -24,5 +24,5 @@ LockLacks s ControlPart = ⊥
 LockLacks s _ = ⊤
 
 -- a table that is made under the control's lock is known by its place alone
-abbrev pub MakerStays : {M : Type 0} → M → ℕ → Option ℕ → Bool → M → Type 0
-MakerStays m e p ok m' = m' ≡ m
+abbrev pub RoomStays : {M : Type 0} → M → ℕ → Option ℕ → Bool → M → Type 0
+RoomStays m e p ok m' = m' ≡ m

@@ -1,7 +1,7 @@
 //! A lender for one call, which keeps the helper that the call has.
 ghost use Rattle.std.specs.Prelude.{◌≡◌};
 ghost use Rattle.flurry_steps_sweep.specs.Part.{ControlPart};
-ghost use Rattle.flurry_shared_locks.specs.LockLoans.{CallLends, KeepsLocks, LockLacks, MakerStays};
+ghost use Rattle.flurry_shared_locks.specs.LockLoans.{CallLends, KeepsLocks, LockLacks, RoomStays};
 ghost use Rattle.flurry_shared_locks.specs.declared.tables.LockRoom.{LockRoom};
 ghost use Rattle.flurry_steps.specs.Field.{Turn};
 ghost use Rattle.flurry_steps.specs.Party.{wanted_part};
@@ -110,7 +110,7 @@ impl<'m, R: Wait, K: Ord + Drop, V: Drop, A: Allocator + Copy> CallLender<'m, R,
     // one: the control's lock is held until then.
     fn at_locked_control<F: ComputeFn<K, V>>(&mut self, party: &mut Party<'_, K, V, F, A>) -> Event
         requires { wanted_part party.old ≡ ControlPart }
-        ensures { Turn (MakerStays {M = LockRoom K V A}) K.cmp F.changes CallLends self.old party.old result self.new party.new }
+        ensures { Turn (RoomStays {M = LockRoom K V A}) K.cmp F.changes CallLends self.old party.old result self.new party.new }
     {
         let locks = self.locks;
         let mut room = LockRoom::new(&locks.tables, locks.alloc);
@@ -118,7 +118,7 @@ impl<'m, R: Wait, K: Ord + Drop, V: Drop, A: Allocator + Copy> CallLender<'m, R,
         let event = party.on_control(&mut *control, &mut room);
         if let Event::Opened(_) | Event::Published(_) = event {
             if let Some(start) = control.start() {
-                locks.starts.add(start);
+                locks.published_tables.add(start);
             }
         }
         if let Want::Board(table) = party.want() {
@@ -142,12 +142,15 @@ impl<'m, R: Wait, K: Ord + Drop, V: Drop, A: Allocator + Copy> Field<K, V, A>
     ) -> Option<Event> {
         let locks = self.locks;
         if party.locates() {
-            if let Some(start) = locks.starts.newest() {
+            if let Some(start) = locks.published_tables.newest() {
                 return Some(party.on_published(start));
             }
         }
         if party.counts() {
-            if let Some((tally, most)) = locks.control.tally(party.hash(), locks.starts.newest()) {
+            if let Some((tally, most)) = locks
+                .control
+                .tally(party.hash(), locks.published_tables.newest())
+            {
                 return Some(party.on_tally(&mut *tally.lock(self.rt), most));
             }
         }

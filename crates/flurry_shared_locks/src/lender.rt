@@ -56,14 +56,16 @@ impl<'m, R, K: Ord, V, A: Allocator> Lender<'m, R, K, V, A> {
     /// Returns the exponent of the table that was published last, as far as that is known without the control's lock, or `None` if no table
     /// is known. Constant time.
     pub fn newest(&self) -> Option<&PublishedTable> {
-        self.locks.starts.newest()
+        self.locks.published_tables.newest()
     }
 
     /// Returns the tally where a call with the hash `hash` counts a pair, and how many pairs may wait there before a call that inserted one
     /// looks at the control's count. Returns `None` if calls count at the control: if the table is small, and as long as a growth is due.
     /// Constant time.
     pub fn tally(&self, hash: u64) -> Option<(&Mutex<Tally>, i64)> {
-        self.locks.control.tally(hash, self.locks.starts.newest())
+        self.locks
+            .control
+            .tally(hash, self.locks.published_tables.newest())
     }
 
     /// Returns the lock of the slot at `table` and `index`, or `None` if that table was not made or has no such slot. Whoever takes the
@@ -110,7 +112,7 @@ impl<'m, R: Wait, K: Ord + Drop, V: Drop, A: Allocator> Lender<'m, R, K, V, A> {
         ensures { WalkTurn K.cmp walk.old result walk.new }
     {
         if walk.sets_out() {
-            if let Some(start) = self.locks.starts.newest() {
+            if let Some(start) = self.locks.published_tables.newest() {
                 return walk.on_published(start);
             }
         }

@@ -6,8 +6,8 @@
 pub mod call_lender;
 pub mod lender;
 pub mod locks;
+mod published_tables;
 mod shared_control;
-mod starts;
 mod tables;
 
 pub use call_lender::CallLender;

@@ -2,8 +2,8 @@
 ghost use Rattle.std.specs.Prelude.{◌≤◌};
 ghost use Rattle.flurry_base.specs.declared.sizes.TheConstants.{MAX_TABLE};
 
+use crate::published_tables::PublishedTables;
 use crate::shared_control::SharedControl;
-use crate::starts::PublishedTables;
 use crate::tables::{LockRoom, Tables};
 use flurry_steps_control::Control;
 use std::alloc::{AllocError, Allocator, Global};
@@ -25,7 +25,7 @@ use std::alloc::{AllocError, Allocator, Global};
 #[derive(Drop)]
 pub struct Locks<K: Ord, V, A: Allocator = Global> {
     pub(crate) tables: Tables<K, V, A>,
-    pub(crate) starts: PublishedTables,
+    pub(crate) published_tables: PublishedTables,
     pub(crate) control: SharedControl,
     pub(crate) alloc: A,
 }
@@ -36,7 +36,7 @@ impl<K: Ord, V, A: Allocator> Locks<K, V, A> {
     pub fn new(alloc: A) -> Self {
         Locks {
             tables: Tables::new(),
-            starts: PublishedTables::new(),
+            published_tables: PublishedTables::new(),
             control: SharedControl::new(Control::new()),
             alloc,
         }
@@ -53,15 +53,15 @@ impl<K: Ord + Drop, V: Drop, A: Allocator + Copy> Locks<K, V, A> {
         requires { table ≤ MAX_TABLE }
     {
         let tables = Tables::new();
-        let starts = PublishedTables::new();
+        let published_tables = PublishedTables::new();
         let mut control = Control::new();
         control.open(table, &mut LockRoom::new(&tables, alloc))?;
         if let Some(start) = control.start() {
-            starts.add(start);
+            published_tables.add(start);
         }
         Ok(Locks {
             tables,
-            starts,
+            published_tables,
             control: SharedControl::new(control),
             alloc,
         })

@@ -92,9 +92,9 @@ impl<'m, K: Ord, V, A: Allocator> LockRoom<'m, K, V, A> {
 }
 
 impl<'m, K: Ord + Drop, V: Drop, A: Allocator + Copy> Room for LockRoom<'m, K, V, A> {
-    ghost use Rattle.flurry_shared_locks.specs.LockLoans.{MakerStays};
+    ghost use Rattle.flurry_shared_locks.specs.LockLoans.{RoomStays};
 
-    ghost place_gives = { MakerStays };
+    ghost place_gives = { RoomStays };
 
     fn place(&mut self, table: u8, for_growth: Option<usize>) -> Result<(), AllocError> {
         let tables = self.tables;

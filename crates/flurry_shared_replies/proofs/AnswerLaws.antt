@@ -15,12 +15,12 @@ use Rattle.flurry_steps_sweep.specs.Sweep as sweep
 use Rattle.flurry_steps_sweep.specs.Sweep.{Errand, Reads, Wipes, SweepStage, AtOutset, OverBins, AtTotal, AtEnd, AfterEnd, BinGives, WalkGives, ClearGives, ReadGives, SplitGives, set_out_at, stage_walked, stage_cleared, more_wiped, swept_outcome, sets_out}
 use Rattle.flurry_steps_sweep.specs.Cursor.{CursorState, after_top}
 use Rattle.flurry_steps.specs.Party as party
-use Rattle.flurry_steps.specs.Party.{AnswerForm, TheValue, ThePair, Presence, Task, Finds, Removes, RemovesSeen, Inserts, Adds, Computes, GrowFor, ForInsert, ForReserve, Help, WantsSeat, AtBoard, Moving, Publishing, GivesBack, Resume, ThenBin, ThenRecount, ThenGrow, Stage, AtLocate, AtBin, AtHelp, AtUncount, AtCount, AtRecount, AtBegin, AtGrow, AtReserve, AtSweep, AtDone, AtTaken, PartyState, reply_for, resumed_stage, published_stage, final_outcome, with_stage}
+use Rattle.flurry_steps.specs.Party.{AnswerForm, TheValue, ThePair, Presence, Task, Finds, Removes, RemovesSeen, Inserts, Adds, Computes, GrowFor, ForInsert, ForReserve, Help, WantsSeat, AtBoard, Moving, Publishing, GivesBack, Resume, ThenBin, ThenRecount, ThenGrow, Stage, AtLocate, AtBin, AtHelp, AtUncount, AtCount, AtRecount, AtBegin, AtGrow, AtReserve, AtSweep, AtDone, AtTaken, PartyState, reply_for, resumed_stage, published_stage, final_outcome, with_stage, stage_of_call}
 use Rattle.flurry_steps.specs.PartyControl.{has_helped, begin_at, stage_advised, stage_begun, stage_grown, stage_not_grown, stage_growing, OpensFor, LocatesNone, MakesFor, event_growing, StageAtControl}
 use Rattle.flurry_steps.specs.PartySlots.{GoesOnNew, GoesOnWritten, GoesOnAdded, stage_taken, stage_computed, stage_moved, FindCanBeRefused, CanBeRefused, DecidesAt, LiveGives, ContentGives, StageAtSlot, moved_stage, MoveGives}
 use Rattle.flurry_steps.specs.PartyBoard.{BoardAnswer, stage_helping, stage_answered}
 use Rattle.flurry_steps.specs.PartyTally.{StageAtTally}
-use Rattle.flurry_steps.specs.PartyView.{first_stage}
+use Rattle.flurry_steps.specs.PartyView.{plain_call}
 use Rattle.flurry_steps_control.specs.declared.control.Advice.{Advice}
 use Rattle.flurry_steps_control.specs.declared.control.Advice.TheVariants as advice
 use Rattle.flurry_steps_control.specs.declared.control.BeginOutcome.{BeginOutcome}
@@ -31,10 +31,10 @@ use Rattle.flurry_steps.specs.declared.party.call.Call.TheVariants as call
 use Rattle.flurry_steps_sweep.specs.declared.step.Event.TheVariants as event
 
 -- what tells of an entry is of its sort
-sought : {K V : Type 0} (w : AnswerForm) (e : Option (PlainEntry K V)) → HasForm w (reply_for w e)
-sought TheValue e = tt
-sought ThePair e = tt
-sought Presence e = tt
+has_form : {K V : Type 0} (w : AnswerForm) (e : Option (PlainEntry K V)) → HasForm w (reply_for w e)
+has_form TheValue e = tt
+has_form ThePair e = tt
+has_form Presence e = tt
 
 -- only what hands out a further owner is refused
 needs_owner : {K V : Type 0} (w : AnswerForm) (e : Option (PlainEntry K V)) → FindCanBeRefused w e → NeedsOwner w
@@ -216,8 +216,8 @@ module _ {K V F : Type 0} (changes : F → K → V → Option V → Type 0) (ans
     opens t h r event.Silent g = absurd g
 
     none : (t : Task K V F) (ev : Event) → Serves t → LocatesNone place p m t b s ev st b' s' → StageServes st
-    none (Finds w k) ev h g = subst StageServes (sym g.1) (h (OutcomeReply (reply_for w None)) (sought w None))
-    none (Removes w k) ev h g = subst StageServes (sym g.1) (h (OutcomeReply (reply_for w None)) (sought w None))
+    none (Finds w k) ev h g = subst StageServes (sym g.1) (h (OutcomeReply (reply_for w None)) (has_form w None))
+    none (Removes w k) ev h g = subst StageServes (sym g.1) (h (OutcomeReply (reply_for w None)) (has_form w None))
     none (RemovesSeen z) ev h g = subst StageServes (sym g.1) (h (OutcomeReply (reply_for TheValue None)) tt)
     none (Inserts k v) ev h g = opens (Inserts k v) h tt ev g
     none (Adds k v) ev h g = opens (Adds k v) h tt ev g
@@ -316,8 +316,8 @@ module _ {K V F : Type 0} (changes : F → K → V → Option V → Type 0) (ans
   after_added e (Some w) asked s k v h g = subst StageServes (sym g) (h _ refl)
 
   after_taken : (w : AnswerForm) (k : K) (o : Option (PlainEntry K V)) → Serves (Removes w k) → StageServes (stage_taken w o)
-  after_taken w k None h = h _ (sought w None)
-  after_taken w k (Some x) h = h _ (sought w (Some x))
+  after_taken w k None h = h _ (has_form w None)
+  after_taken w k (Some x) h = h _ (has_form w (Some x))
 
   after_drop : (z : Seen K V) (o : Option (PlainEntry K V)) → Serves (RemovesSeen z) → StageServes (stage_taken TheValue o)
   after_drop z None h = h _ tt
@@ -330,7 +330,7 @@ module _ {K V F : Type 0} (changes : F → K → V → Option V → Type 0) (ans
     after_computed k f bins b c (WasChanged w) h g = h _ (g.0.0.1, g.0.1.0, g.2)
 
     decides : (t : Task K V F) (e : ℕ) (b d : Live K V) (s : Stage K V F) → Serves t → DecidesAt cmp changes n t e b s d → StageServes s
-    decides (Finds w k) e b d s h g = subst StageServes (sym g.0) (h _ (sought w _))
+    decides (Finds w k) e b d s h g = subst StageServes (sym g.0) (h _ (has_form w _))
     decides (Removes w k) e b d s h g = subst StageServes (sym g.0) (after_taken w k _ h)
     decides (RemovesSeen z) e b d s h g = subst StageServes (sym g.0) (after_drop z _ h)
     decides (Inserts k v) e b d s h g = after_written e _ _ s k v h g.0
@@ -465,7 +465,7 @@ module _ {K V F : Type 0} (changes : F → K → V → Option V → Type 0) (ans
     all_turns {p' = p'} h (further {p' = e} ev turns turn) = with_loan turn.loan e p' ev (all_turns h turns) turn.step
 
 -- a call that did no step yet can answer what its first stage can
-first_serves : {K V F A : Type 0} (changes : F → K → V → Option V → Type 0) (c : Call K V F A) → StageServes changes (CanAnswerFrom changes (first_stage c)) (first_stage c)
+first_serves : {K V F A : Type 0} (changes : F → K → V → Option V → Type 0) (c : Call K V F A) → StageServes changes (CanAnswerFrom changes (stage_of_call (plain_call c))) (stage_of_call (plain_call c))
 first_serves changes (call.Get k) = λ r h. h
 first_serves changes (call.GetKeyValue k) = λ r h. h
 first_serves changes (call.ContainsKey k) = λ r h. h
@@ -481,5 +481,5 @@ first_serves changes call.Walk = λ r h. h
 
 module _ {S R K V F : Type 0} (place : R → ℕ → Option ℕ → Bool → R → Type 0) (cmp : K → K → Ordering) (changes : F → K → V → Option V → Type 0) (lends : S → Loan K V R → S → Type 0) {s s' : S} {p p' : PartyState K V F} {r : Outcome K V} (turns : TurnsTo (Turn place cmp changes lends) s p r s' p') where
   -- the reply to which steps take a call is one that it can answer
-  pub can_answer : {A : Type 0} (c : Call K V F A) → p.stage ≡ first_stage c → CanAnswerFrom changes (first_stage c) r
-  can_answer c e = served changes (CanAnswerFrom changes (first_stage c)) turns.last.stage r (all_turns changes (CanAnswerFrom changes (first_stage c)) place cmp lends (subst (StageServes changes (CanAnswerFrom changes (first_stage c))) (sym e) (first_serves changes c)) turns.turns) turns.done
+  pub can_answer : {A : Type 0} (c : Call K V F A) → p.stage ≡ stage_of_call (plain_call c) → CanAnswerFrom changes (stage_of_call (plain_call c)) r
+  can_answer c e = served changes (CanAnswerFrom changes (stage_of_call (plain_call c))) turns.last.stage r (all_turns changes (CanAnswerFrom changes (stage_of_call (plain_call c))) place cmp lends (subst (StageServes changes (CanAnswerFrom changes (stage_of_call (plain_call c)))) (sym e) (first_serves changes c)) turns.turns) turns.done

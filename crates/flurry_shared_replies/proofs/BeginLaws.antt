@@ -9,16 +9,16 @@ use Rattle.flurry_steps.specs.Field.{PublishedLoan, TallyLoan, LookLoan, BinLoan
 use Rattle.flurry_steps.specs.FirstSteps.{BeginsAt, begun_at}
 use Rattle.flurry_steps_sweep.specs.Outcome.{Outcome}
 use Rattle.flurry_steps_sweep.specs.Part.{LookPart, BinPart}
-use Rattle.flurry_steps.specs.Party.{PartyState, Stage, AtDone, AtTaken, wanted_part, locates, LooksUp, BeginsToWrite}
+use Rattle.flurry_steps.specs.Party.{PartyState, Stage, AtDone, AtTaken, wanted_part, locates, LooksUp, BeginsToWrite, stage_of_call}
 use Rattle.flurry_steps.specs.PartyTally.{StageAtTally}
-use Rattle.flurry_steps.specs.PartyView.{first_stage}
+use Rattle.flurry_steps.specs.PartyView.{plain_call}
 use Rattle.flurry_steps_sweep.specs.declared.step.Event.{Event}
 use Rattle.flurry_steps_sweep.specs.declared.step.Event.TheVariants as event
 use Rattle.flurry_steps.specs.declared.party.call.Call.{Call}
 use Rattle.flurry_steps.specs.declared.party.call.Call.TheVariants as call
 
 -- a look-up that did no step yet asks for the published table
-pub look_locates : {K V F A : Type 0} (c : Call K V F A) → LooksUp (first_stage c) → locates (first_stage c) ≡ true
+pub look_locates : {K V F A : Type 0} (c : Call K V F A) → LooksUp (stage_of_call (plain_call c)) → locates (stage_of_call (plain_call c)) ≡ true
 look_locates (call.Get k) h = refl
 look_locates (call.GetKeyValue k) h = refl
 look_locates (call.ContainsKey k) h = refl
@@ -33,7 +33,7 @@ look_locates call.Clear h = absurd h
 look_locates call.Walk h = absurd h
 
 -- and then it looks at its bin there
-pub look_wants : {K V F A : Type 0} (c : Call K V F A) (d h n : ℕ) → LooksUp (first_stage c) → wanted_part (begun_at d h n (first_stage c)) ≡ LookPart d (h % 2 ^ d)
+pub look_wants : {K V F A : Type 0} (c : Call K V F A) (d h n : ℕ) → LooksUp (stage_of_call (plain_call c)) → wanted_part (begun_at d h n (stage_of_call (plain_call c))) ≡ LookPart d (h % 2 ^ d)
 look_wants (call.Get k) d h n looks = refl
 look_wants (call.GetKeyValue k) d h n looks = refl
 look_wants (call.ContainsKey k) d h n looks = refl
@@ -48,7 +48,7 @@ look_wants call.Clear d h n looks = absurd looks
 look_wants call.Walk d h n looks = absurd looks
 
 -- and so does a call that may change its bin
-pub write_locates : {K V F A : Type 0} (c : Call K V F A) → BeginsToWrite (first_stage c) → locates (first_stage c) ≡ true
+pub write_locates : {K V F A : Type 0} (c : Call K V F A) → BeginsToWrite (stage_of_call (plain_call c)) → locates (stage_of_call (plain_call c)) ≡ true
 write_locates (call.Get k) h = absurd h
 write_locates (call.GetKeyValue k) h = absurd h
 write_locates (call.ContainsKey k) h = absurd h
@@ -62,7 +62,7 @@ write_locates (call.Reserve a) h = absurd h
 write_locates call.Clear h = absurd h
 write_locates call.Walk h = absurd h
 
-pub write_wants : {K V F A : Type 0} (c : Call K V F A) (d h n : ℕ) → BeginsToWrite (first_stage c) → wanted_part (begun_at d h n (first_stage c)) ≡ BinPart d (h % 2 ^ d)
+pub write_wants : {K V F A : Type 0} (c : Call K V F A) (d h n : ℕ) → BeginsToWrite (stage_of_call (plain_call c)) → wanted_part (begun_at d h n (stage_of_call (plain_call c))) ≡ BinPart d (h % 2 ^ d)
 write_wants (call.Get k) d h n writes = absurd writes
 write_wants (call.GetKeyValue k) d h n writes = absurd writes
 write_wants (call.ContainsKey k) d h n writes = absurd writes

@@ -5,7 +5,7 @@ use Rattle.flurry_steps.specs.Turns.{Turns, TurnsTo, still, further}
 use Rattle.flurry_steps.specs.Field.{Loan, ControlLoan, PublishedLoan, TallyLoan, LookLoan, BinLoan, MoveLoan, BoardLoan, StepWith, Turn}
 use Rattle.flurry_steps.specs.Party.{PartyState}
 use Rattle.flurry_steps.proofs.Rooms.{control_in}
-use Rattle.flurry_shared_locks.specs.LockLoans.{LockLends, MakerStays}
+use Rattle.flurry_shared_locks.specs.LockLoans.{LockLends, RoomStays}
 use Rattle.flurry_steps_sweep.specs.Outcome.{Outcome}
 use Rattle.flurry_steps_sweep.specs.declared.step.Event.{Event}
 use Rattle.flurry_shared_replies.specs.Replies.{IsReplyOf}
@@ -21,8 +21,8 @@ module _ {K V F M N : Type 0} (room : M → N) (cmp : K → K → Ordering) (cha
   loan_in (MoveLoan q low high q' low' high') = MoveLoan q low high q' low' high'
   loan_in (BoardLoan e x) = BoardLoan e x
 
-  step_in : (l : Loan K V M) (p : PartyState K V F) (ev : Event) (p' : PartyState K V F) → StepWith (MakerStays {M = M}) cmp changes l p ev p' → StepWith (MakerStays {M = N}) cmp changes (loan_in l) p ev p'
-  step_in (ControlLoan b m b' m') p ev p' h = (h.0, control_in (MakerStays {M = M}) (MakerStays {M = N}) room (λ r e growth ok r' stays. ap room stays) p b m ev p' b' m' h.1)
+  step_in : (l : Loan K V M) (p : PartyState K V F) (ev : Event) (p' : PartyState K V F) → StepWith (RoomStays {M = M}) cmp changes l p ev p' → StepWith (RoomStays {M = N}) cmp changes (loan_in l) p ev p'
+  step_in (ControlLoan b m b' m') p ev p' h = (h.0, control_in (RoomStays {M = M}) (RoomStays {M = N}) room (λ r e growth ok r' stays. ap room stays) p b m ev p' b' m' h.1)
   step_in (PublishedLoan d) p ev p' h = h
   step_in (TallyLoan most n n') p ev p' h = h
   step_in (LookLoan q) p ev p' h = h
@@ -31,18 +31,18 @@ module _ {K V F M N : Type 0} (room : M → N) (cmp : K → K → Ordering) (cha
   step_in (BoardLoan e x) p ev p' h = h
 
   module _ {L : Type 0} {lends : L → Loan K V M → L → Type 0} where
-    turns_in : {l l' : L} {p p' : PartyState K V F} → Turns (Turn (MakerStays {M = M}) cmp changes lends) l p l' p' → Turns {S = Unit {0}} (Turn (MakerStays {M = N}) cmp changes LockLends) tt p tt p'
+    turns_in : {l l' : L} {p p' : PartyState K V F} → Turns (Turn (RoomStays {M = M}) cmp changes lends) l p l' p' → Turns {S = Unit {0}} (Turn (RoomStays {M = N}) cmp changes LockLends) tt p tt p'
     turns_in still = still
     turns_in {p' = p'} (further {p' = e} ev turns turn) = further ev (turns_in turns) (record { loan = loan_in turn.loan; lent = refl; step = step_in turn.loan e ev p' turn.step })
 
-    reply_in : {l l' : L} {p p' : PartyState K V F} {r : Outcome K V} → TurnsTo (Turn (MakerStays {M = M}) cmp changes lends) l p r l' p' → TurnsTo {S = Unit {0}} (Turn (MakerStays {M = N}) cmp changes LockLends) tt p r tt p'
+    reply_in : {l l' : L} {p p' : PartyState K V F} {r : Outcome K V} → TurnsTo (Turn (RoomStays {M = M}) cmp changes lends) l p r l' p' → TurnsTo {S = Unit {0}} (Turn (RoomStays {M = N}) cmp changes LockLends) tt p r tt p'
     reply_in t = record { last = t.last; turns = turns_in t.turns; done = t.done; after = t.after }
 
 module _ {K V F M : Type 0} (cmp : K → K → Ordering) (changes : F → K → V → Option V → Type 0) (p : PartyState K V F) (r : Outcome K V) where
   -- the reply to which steps lead whose parts anybody lends, and whose tables are made anywhere
-  pub driven_reply : {L : Type 0} {lends : L → Loan K V M → L → Type 0} {l l' : L} {p' : PartyState K V F} → TurnsTo (Turn (MakerStays {M = M}) cmp changes lends) l p r l' p' → IsReplyOf cmp changes p r
+  pub driven_reply : {L : Type 0} {lends : L → Loan K V M → L → Type 0} {l l' : L} {p' : PartyState K V F} → TurnsTo (Turn (RoomStays {M = M}) cmp changes lends) l p r l' p' → IsReplyOf cmp changes p r
   driven_reply {p' = p'} t = record { last = p'; turns = reply_in (λ m. tt) cmp changes t }
 
   -- and steps lead to that reply whose tables are made in any given place
-  pub reply_driven : M → IsReplyOf cmp changes p r → (p' : PartyState K V F) × TurnsTo {S = Unit {0}} (Turn (MakerStays {M = M}) cmp changes LockLends) tt p r tt p'
+  pub reply_driven : M → IsReplyOf cmp changes p r → (p' : PartyState K V F) × TurnsTo {S = Unit {0}} (Turn (RoomStays {M = M}) cmp changes LockLends) tt p r tt p'
   reply_driven m x = (x.last, reply_in (λ u. m) cmp changes x.turns)

@@ -1,9 +1,9 @@
 //! The steps of a call over the locks: its first ones in one go, if its table is known without the control's lock.
 ghost use Rattle.flurry_shared_replies.specs.Replies.{BeginsOrStays, IsReplyOf, RepliesFrom};
-ghost use Rattle.flurry_steps.specs.Party.{BeginsToWrite, IsTaken, LooksUp};
+ghost use Rattle.flurry_steps.specs.Party.{BeginsToWrite, IsTaken, LooksUp, stage_of_call};
 ghost use Rattle.flurry_steps.specs.PartyTally.{ending_stage};
 ghost use Rattle.flurry_steps_sweep.specs.OutcomeView.{outcome_of};
-ghost use Rattle.flurry_steps.specs.PartyView.{CallIsReady, first_stage};
+ghost use Rattle.flurry_steps.specs.PartyView.{CallIsReady, plain_call};
 
 use flurry_base::sizes::bin_index;
 use flurry_bins_slots::ComputeFn;
@@ -29,7 +29,7 @@ pub fn reply_to<K: Ord + Drop, V: Drop, F: ComputeFn<K, V>, A: Allocator + Copy,
     processors: usize,
 ) -> Reply<K, V, A>
     requires { CallIsReady F.can_change call }
-    ensures { RepliesFrom K.cmp F.changes hash processors (first_stage call.entry) result }
+    ensures { RepliesFrom K.cmp F.changes hash processors (stage_of_call (plain_call call.entry)) result }
 {
     let Some(start) = lender.newest() else {
         return drive_call(lender, call, hash, processors);
@@ -54,8 +54,8 @@ fn look<K: Ord + Drop, V: Drop, F: ComputeFn<K, V>, A: Allocator + Copy, R: Wait
     processors: usize,
 ) -> Reply<K, V, A>
     requires ready { CallIsReady F.can_change call }
-    requires looks { LooksUp (first_stage call) }
-    ensures { RepliesFrom K.cmp F.changes hash processors (first_stage call.entry) result }
+    requires looks { LooksUp (stage_of_call (plain_call call)) }
+    ensures { RepliesFrom K.cmp F.changes hash processors (stage_of_call (plain_call call.entry)) result }
 {
     let table = start.table();
     let index = bin_index(hash, table);
@@ -78,8 +78,8 @@ fn write<K: Ord + Drop, V: Drop, F: ComputeFn<K, V>, A: Allocator + Copy, R: Wai
     processors: usize,
 ) -> Reply<K, V, A>
     requires ready { CallIsReady F.can_change call }
-    requires writes { BeginsToWrite (first_stage call) }
-    ensures { RepliesFrom K.cmp F.changes hash processors (first_stage call.entry) result }
+    requires writes { BeginsToWrite (stage_of_call (plain_call call)) }
+    ensures { RepliesFrom K.cmp F.changes hash processors (stage_of_call (plain_call call.entry)) result }
 {
     match write_bin(lender, start, call, hash) {
         Ok((ending, remains)) => {
@@ -100,7 +100,7 @@ fn write_bin<'k, K: Ord + Drop, V: Drop, F: ComputeFn<K, V>, A: Allocator + Copy
     hash: u64,
 ) -> Result<(Ending<K, V, A>, Remains<'k, K, V, F, A>), Call<'k, K, V, F, A>>
     requires ready { CallIsReady F.can_change call }
-    requires writes { BeginsToWrite (first_stage call) }
+    requires writes { BeginsToWrite (stage_of_call (plain_call call)) }
     ensures { BeginsOrStays K.cmp F.changes hash call.entry result }
 {
     let table = start.table();
@@ -164,7 +164,7 @@ fn drive_call<K: Ord + Drop, V: Drop, F: ComputeFn<K, V>, A: Allocator + Copy, R
     processors: usize,
 ) -> Reply<K, V, A>
     requires { CallIsReady F.can_change call }
-    ensures { RepliesFrom K.cmp F.changes hash processors (first_stage call.entry) result }
+    ensures { RepliesFrom K.cmp F.changes hash processors (stage_of_call (plain_call call.entry)) result }
 {
     drive_party(lender, Party::new(call, hash, processors))
 }

@@ -2,7 +2,7 @@
 use Rattle.std.proofs.Common.{◌≡◌, ℕ, Option, Some, None, IsSome, MatchOption, Result, Ok, Err, false, refl, sym, ◌∙◌, ap, subst}
 use Rattle.std.specs.declared.cmp.Ordering.{Ordering}
 use Rattle.flurry_steps.specs.Turns.{Turns, still, further}
-use Rattle.flurry_shared_locks.specs.LockLoans.{LockLends, MakerStays}
+use Rattle.flurry_shared_locks.specs.LockLoans.{LockLends, RoomStays}
 use Rattle.flurry_shared_locks.specs.WalkTurns.{WalkTurn, WalksOrStays, AtControl, AtStart, AtSlot}
 use Rattle.flurry_base.specs.declared.call.Seen.{Seen}
 use Rattle.flurry_shared_replies.specs.Replies.{GoesTo, new_party}
@@ -66,7 +66,7 @@ module _ {K V : Type 0} (cmp : K → K → Ordering) where
   turn_sees p p' (AtSlot q wants slot step) = bin_read cmp p.last p' q.content p.errand p.stage q.content step.step
 
   -- a step of a walk is one of the party
-  pub turn_of : (p p' : SweepState K V) (ev : Event) → WalkTurn cmp p ev p' → Turn (MakerStays {M = Unit {0}}) cmp no_changes (LockLends {S = Unit {0}}) tt (party_of p) ev tt (party_of p')
+  pub turn_of : (p p' : SweepState K V) (ev : Event) → WalkTurn cmp p ev p' → Turn (RoomStays {M = Unit {0}}) cmp no_changes (LockLends {S = Unit {0}}) tt (party_of p) ev tt (party_of p')
   turn_of p p' ev (AtControl b b' wants step) = record { loan = ControlLoan b tt b' tt; lent = refl; step = (wants, record { hash = refl; processors = refl; helped = refl; step = (p', refl, step, refl) }) }
   turn_of p p' ev (AtStart d asks within silent after) = record { loan = PublishedLoan d; lent = refl; step = (asks, within, silent, ap party_of after) }
   turn_of p p' ev (AtSlot q wants slot step) = record { loan = LookLoan q; lent = refl; step = (wants, slot, record { hash = refl; processors = refl; helped = refl; table = refl; index = refl; step = (p', refl, step.step) }) }
@@ -89,7 +89,7 @@ module _ {K V : Type 0} (cmp : K → K → Ordering) where
   -- a walk that ends has ended well, or was refused
   pub can_end : (p p' : SweepState K V) (r : Outcome K V) → IsUnderWay cmp p → EndsWith cmp p r p' → CanWalk r
   can_end p p' r h t =
-      can_answer (MakerStays {M = Unit {0}}) cmp no_changes (LockLends {S = Unit {0}}) {s = tt} {s' = tt} {p' = party_of p'} {r = r}
+      can_answer (RoomStays {M = Unit {0}}) cmp no_changes (LockLends {S = Unit {0}}) {s = tt} {s' = tt} {p' = party_of p'} {r = r}
       (record { last = party_of t.last; turns = turns_of (others_after h t.others); done = t.done; after = ap party_of t.after }) {A = Unit {0}} call.Walk refl
 
   -- a walk that did no step yet does one

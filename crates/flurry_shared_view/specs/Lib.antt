@@ -1,3 +1,2 @@
-pub mod KeyHash
 pub mod SharedAnswers
 pub mod Walks

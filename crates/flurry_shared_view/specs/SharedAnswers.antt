@@ -4,15 +4,14 @@ use Rattle.std.specs.Option.{option_map}
 use Rattle.std.specs.Arc.{arc_value}
 use Rattle.std.specs.declared.cmp.Ordering.{Ordering}
 use Rattle.std.specs.declared.sync.Arc.{Arc}
+use Rattle.flurry_base.specs.OneKey.{hash_of_call}
 use Rattle.flurry_base.specs.declared.call.Call.{Call}
-use Rattle.flurry_base.specs.declared.call.Call.TheVariants as call
 use Rattle.flurry_base.specs.declared.reply.KeptReply.TheVariants as kept
 use Rattle.flurry_base.specs.declared.try_insert.TryInsertError.{TryInsertError}
 use Rattle.flurry_bins_slots.specs.declared.compute_fn.NoFn.{NoFn}
 use Rattle.flurry_steps_sweep.specs.Outcome.{Outcome, OutcomeReply, OutcomeEnded, OutcomeRefused}
 use Rattle.flurry_steps_sweep.specs.OutcomeView.{pair_value}
-use Rattle.flurry_steps_sweep.specs.Sweep.{Reads, Wipes, fresh_sweep}
-use Rattle.flurry_steps.specs.Party.{PartyState, Stage, Task, TheValue, ThePair, Presence, Finds, Removes, RemovesSeen, Inserts, Adds, Computes, AtLocate, AtReserve, AtSweep}
+use Rattle.flurry_steps.specs.Party.{PartyState, stage_of_call}
 use Rattle.flurry_shared_replies.specs.Replies.{IsReplyOf, new_party}
 
 -- what of a shared map of such keys and values stays as it is
@@ -56,27 +55,9 @@ module _ {K V : Type 0} where
 abbrev pub no_changes : {K V : Type 0} → NoFn → K → V → Option V → Type 0
 no_changes f k v o = o ≡ None
 
-module _ {K V F S : Type 0} (hash_of : S → K → ℕ) (m : MapSettings K V S) where
-  abbrev pub fresh_task : K → Task K V F → PartyState K V F
-  fresh_task k t = new_party (hash_of m.hasher k) m.processors (AtLocate t)
-
-  abbrev pub fresh_keyless : Stage K V F → PartyState K V F
-  fresh_keyless s = new_party 0 m.processors s
-
-  -- a call of the map before its first step; it has the hash of its key, or 0 if it has no key
-  abbrev pub fresh_call : Call K V F → PartyState K V F
-  fresh_call (call.Get k) = fresh_task k (Finds TheValue k)
-  fresh_call (call.GetKeyValue k) = fresh_task k (Finds ThePair k)
-  fresh_call (call.ContainsKey k) = fresh_task k (Finds Presence k)
-  fresh_call (call.Insert k v) = fresh_task k (Inserts k v)
-  fresh_call (call.TryInsert k v) = fresh_task k (Adds k v)
-  fresh_call (call.Compute k f) = fresh_task k (Computes k f)
-  fresh_call (call.Remove k) = fresh_task k (Removes TheValue k)
-  fresh_call (call.RemoveEntry k) = fresh_task k (Removes ThePair k)
-  fresh_call (call.RemoveSeen z) = fresh_task z.key (RemovesSeen z)
-  fresh_call (call.Reserve n) = fresh_keyless (AtReserve n)
-  fresh_call call.Clear = fresh_keyless (AtSweep (fresh_sweep (Wipes 0)))
-  fresh_call call.Walk = fresh_keyless (AtSweep (fresh_sweep Reads))
+-- a call of the map before its first step; it has the hash of its key, or 0 if it has no key
+abbrev pub fresh_call : {K V F S : Type 0} → (S → K → ℕ) → MapSettings K V S → Call K V F → PartyState K V F
+fresh_call hash_of m c = new_party (hash_of_call (hash_of m.hasher) c) m.processors (stage_of_call c)
 
 -- The answer r is one that the own steps of the call c can give, over a map of the settings m. Each step is done at a part of the map
 -- that is lent to it under the part's lock; what other threads do between two steps may have left there anything of its type.

@@ -1,13 +1,14 @@
 //! The view of a shared map.
 ghost use Rattle.std.specs.Prelude.{◌≡◌};
 ghost use Rattle.flurry_steps_sweep.specs.OutcomeView.{outcome_of};
-ghost use Rattle.flurry_shared_view.specs.KeyHash.{hash_in};
+ghost use Rattle.flurry_base.specs.OneKey.{hash_of_call};
 ghost use Rattle.flurry_shared_view.specs.SharedAnswers.{IsAnswerOf, IsAnswerWith, added_answer, contains_answer, ended_answer, or_refused, pair_answer, value_answer};
 ghost use Rattle.flurry_base.specs.declared.call.Call.TheVariants.{Get, GetKeyValue, ContainsKey, Insert, TryInsert, Compute, Remove, RemoveEntry, RemoveSeen, Reserve, Clear};
 ghost use Rattle.flurry_shared_replies.specs.Answers.{CanAnswerFrom, CanAdd, CanCompute};
 ghost use Rattle.flurry_shared_replies.specs.Replies.{RepliesFrom};
 ghost use Rattle.flurry_bins_slots.specs.ComputeFn.{AnswersAtPair};
-ghost use Rattle.flurry_steps.specs.PartyView.{CallIsReady, first_stage};
+ghost use Rattle.flurry_steps.specs.PartyView.{CallIsReady, plain_call};
+ghost use Rattle.flurry_steps.specs.Party.{stage_of_call};
 
 use flurry_base::hash::{DefaultHashBuilder, KeyHasher};
 use flurry_base::try_insert::TryInsertError;
@@ -389,18 +390,11 @@ impl<'m, R: Wait, K: Ord + Drop, V: Drop, S: KeyHasher<K>, A: Allocator + Copy> 
     // Returns the hash of the key of `call`, or 0 if it has no key.
     #[inline]
     fn hash_of<F>(&self, call: &Call<'_, K, V, F, A>) -> u64
-        ensures { result ≡ hash_in (S.hash_of self.now.hasher) call.now }
+        ensures { result ≡ hash_of_call (S.hash_of self.now.hasher) (plain_call call.now) }
     {
-        match call {
-            Call::Get(key)
-            | Call::GetKeyValue(key)
-            | Call::ContainsKey(key)
-            | Call::Remove(key)
-            | Call::RemoveEntry(key)
-            | Call::Compute(key, _) => self.hasher.hash_one(key),
-            Call::RemoveSeen(seen) => self.hasher.hash_one(seen.key()),
-            Call::Insert(key, _) | Call::TryInsert(key, _) => self.hasher.hash_one(key),
-            Call::Reserve(_) | Call::Clear | Call::Walk => 0,
+        match call.key() {
+            Some(key) => self.hasher.hash_one(key),
+            None => 0,
         }
     }
 
@@ -409,9 +403,9 @@ impl<'m, R: Wait, K: Ord + Drop, V: Drop, S: KeyHasher<K>, A: Allocator + Copy> 
     #[inline(always)]
     fn run<F: ComputeFn<K, V>>(&self, call: Call<'_, K, V, F, A>) -> Reply<K, V, A>
         requires { CallIsReady F.can_change call }
-        ensures driven { RepliesFrom K.cmp F.changes (hash_in (S.hash_of self.now.hasher) call.entry)
-            self.now.processors (first_stage call.entry) result }
-        ensures answers { CanAnswerFrom F.changes (first_stage call.entry) (outcome_of result) }
+        ensures driven { RepliesFrom K.cmp F.changes (hash_of_call (S.hash_of self.now.hasher) (plain_call call.entry))
+            self.now.processors (stage_of_call (plain_call call.entry)) result }
+        ensures answers { CanAnswerFrom F.changes (stage_of_call (plain_call call.entry)) (outcome_of result) }
     {
         let hash = self.hash_of(&call);
         reply_to(&self.lender, call, hash, self.processors)

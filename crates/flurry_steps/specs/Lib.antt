@@ -1,6 +1,6 @@
 pub mod Party
 pub mod PartyView
-pub mod CourseView
+pub mod PartyKindView
 pub mod PartySlots
 pub mod PartyTally
 pub mod PartyBoard

@@ -5,9 +5,11 @@ use Rattle.flurry_base.specs.Sizes.{wanted_of}
 use Rattle.flurry_bins_slots.specs.Slot.{PlainEntry}
 use Rattle.flurry_steps_sweep.specs.Outcome.{Outcome, OutcomeReply}
 use Rattle.flurry_steps_sweep.specs.Cursor.{at_base}
+use Rattle.flurry_base.specs.declared.call.Call.{Call}
+use Rattle.flurry_base.specs.declared.call.Call.TheVariants as call
 use Rattle.flurry_base.specs.declared.call.Seen.{Seen}
 use Rattle.flurry_steps_sweep.specs.Sweep as sweep
-use Rattle.flurry_steps_sweep.specs.Sweep.{SweepState, OverBins, AfterEnd, IsAfterEnd, swept_part, swept_outcome, sets_out}
+use Rattle.flurry_steps_sweep.specs.Sweep.{SweepState, Reads, Wipes, fresh_sweep, OverBins, AfterEnd, IsAfterEnd, swept_part, swept_outcome, sets_out}
 use Rattle.flurry_steps_sweep.specs.Part.{Part, ControlPart, LookPart, BinPart, MovePart, SeatPart, BoardPart, GivePart, NoPart}
 use Rattle.flurry_base.specs.declared.reply.KeptReply.{KeptReply}
 use Rattle.flurry_base.specs.declared.reply.KeptReply.TheVariants.{Value, Pair, Contains}
@@ -79,6 +81,32 @@ pub data Stage (K V F : Type 0) : Type 0 where
   AtDone : Outcome K V → Stage K V F
   -- its reply was taken
   AtTaken : Stage K V F
+
+-- ---- a call before its first step
+
+module _ {K V F : Type 0} where
+  -- where it stands
+  abbrev pub stage_of_call : Call K V F → Stage K V F
+  stage_of_call (call.Get k) = AtLocate (Finds TheValue k)
+  stage_of_call (call.GetKeyValue k) = AtLocate (Finds ThePair k)
+  stage_of_call (call.ContainsKey k) = AtLocate (Finds Presence k)
+  stage_of_call (call.Insert k v) = AtLocate (Inserts k v)
+  stage_of_call (call.TryInsert k v) = AtLocate (Adds k v)
+  stage_of_call (call.Compute k f) = AtLocate (Computes k f)
+  stage_of_call (call.Remove k) = AtLocate (Removes TheValue k)
+  stage_of_call (call.RemoveEntry k) = AtLocate (Removes ThePair k)
+  stage_of_call (call.RemoveSeen z) = AtLocate (RemovesSeen z)
+  stage_of_call (call.Reserve n) = AtReserve n
+  stage_of_call call.Clear = AtSweep (fresh_sweep (Wipes 0))
+  stage_of_call call.Walk = AtSweep (fresh_sweep Reads)
+
+  abbrev pub located_task : Stage K V F → Option (Task K V F)
+  located_task (AtLocate t) = Some t
+  located_task _ = None
+
+  -- what a one-key call has to do at its bin
+  abbrev pub task_of_call : Call K V F → Option (Task K V F)
+  task_of_call c = located_task (stage_of_call c)
 
 -- a call in progress: the hash of its key, how many processors share the work of a growth, the growth that it helped last or found no
 -- seat for, and where it stands

@@ -2,8 +2,9 @@
 use Rattle.std.specs.Prelude.{⊤}
 use Rattle.std.specs.Arc.{arc_value}
 use Rattle.flurry_base.specs.Given.{given_of}
+use Rattle.flurry_base.specs.declared.call.Call as plain_call_type
+use Rattle.flurry_base.specs.declared.call.Call.TheVariants as plain
 use Rattle.flurry_steps_sweep.specs.OutcomeView.{outcome_of}
-use Rattle.flurry_steps_sweep.specs.Sweep.{Reads, Wipes, fresh_sweep}
 use Rattle.flurry_steps.specs.Party as abstract
 use Rattle.flurry_steps.specs.Party.{PartyState}
 use Rattle.flurry_steps.specs.declared.party.call.Key.{Key}
@@ -11,9 +12,9 @@ use Rattle.flurry_steps.specs.declared.party.call.Key.TheVariants as key
 use Rattle.flurry_steps.specs.declared.party.call.Call.{Call}
 use Rattle.flurry_steps.specs.declared.party.call.Call.TheVariants as call
 use Rattle.flurry_steps.specs.declared.party.call.OwnedCall.{OwnedCall}
-use Rattle.flurry_steps.specs.declared.party.call.OwnedCall.TheVariants as owned_call
+use Rattle.flurry_steps.specs.declared.party.call.OwnedCall.TheVariants as owned
 use Rattle.flurry_steps.specs.declared.party.call.AnswerForm.{AnswerForm}
-use Rattle.flurry_steps.specs.declared.party.call.AnswerForm.TheVariants as sought
+use Rattle.flurry_steps.specs.declared.party.call.AnswerForm.TheVariants as form
 use Rattle.flurry_steps.specs.declared.party.call.Task.{Task}
 use Rattle.flurry_steps.specs.declared.party.call.Task.TheVariants as task
 use Rattle.flurry_steps.specs.declared.party.stage.Help.{Help}
@@ -25,62 +26,62 @@ use Rattle.flurry_steps.specs.declared.party.stage.Resume.TheVariants as after
 use Rattle.flurry_steps.specs.declared.party.stage.Stage.{Stage}
 use Rattle.flurry_steps.specs.declared.party.stage.Stage.TheVariants as stage
 use Rattle.flurry_steps.specs.declared.party.first.WholeMapCall.{WholeMapCall}
-use Rattle.flurry_steps.specs.declared.party.first.WholeMapCall.TheVariants as keyless
+use Rattle.flurry_steps.specs.declared.party.first.WholeMapCall.TheVariants as whole
 use Rattle.flurry_steps.specs.declared.party.single.Single.TheInside.{Inside}
 
-abbrev pub key_of : {K : Type 0} → Key K → K
-key_of (key.Lent k) = k.now
-key_of (key.Own k) = k
+abbrev pub plain_key : {K : Type 0} → Key K → K
+plain_key (key.Lent k) = k.now
+plain_key (key.Own k) = k
 
-abbrev pub sought_of : AnswerForm → abstract.AnswerForm
-sought_of sought.Value = abstract.TheValue
-sought_of sought.Pair = abstract.ThePair
-sought_of sought.Presence = abstract.Presence
+abbrev pub form_of : AnswerForm → abstract.AnswerForm
+form_of form.Value = abstract.TheValue
+form_of form.Pair = abstract.ThePair
+form_of form.Presence = abstract.Presence
 
 module _ {K V F A : Type 0} where
   abbrev pub task_of : Task K V F A → abstract.Task K V F
-  task_of (task.Find w k) = abstract.Finds (sought_of w) (key_of k)
-  task_of (task.Remove w k) = abstract.Removes (sought_of w) (key_of k)
+  task_of (task.Find w k) = abstract.Finds (form_of w) (plain_key k)
+  task_of (task.Remove w k) = abstract.Removes (form_of w) (plain_key k)
   task_of (task.RemoveSeen z) = abstract.RemovesSeen z
   task_of (task.Insert k v) = abstract.Inserts k (given_of v)
   task_of (task.Add k v) = abstract.Adds k v
-  task_of (task.Compute k f) = abstract.Computes (key_of k) f
+  task_of (task.Compute k f) = abstract.Computes (plain_key k) f
 
-  -- the stage before the first step
-  abbrev pub first_stage : Call K V F A → abstract.Stage K V F
-  first_stage (call.Get k) = abstract.AtLocate (abstract.Finds abstract.TheValue k.now)
-  first_stage (call.GetKeyValue k) = abstract.AtLocate (abstract.Finds abstract.ThePair k.now)
-  first_stage (call.ContainsKey k) = abstract.AtLocate (abstract.Finds abstract.Presence k.now)
-  first_stage (call.Remove k) = abstract.AtLocate (abstract.Removes abstract.TheValue k.now)
-  first_stage (call.RemoveEntry k) = abstract.AtLocate (abstract.Removes abstract.ThePair k.now)
-  first_stage (call.RemoveSeen z) = abstract.AtLocate (abstract.RemovesSeen z)
-  first_stage (call.Insert k v) = abstract.AtLocate (abstract.Inserts k (arc_value v))
-  first_stage (call.TryInsert k v) = abstract.AtLocate (abstract.Adds k v)
-  first_stage (call.Compute k f) = abstract.AtLocate (abstract.Computes k.now f)
-  first_stage (call.Reserve a) = abstract.AtReserve a
-  first_stage call.Clear = abstract.AtSweep (fresh_sweep (Wipes 0))
-  first_stage call.Walk = abstract.AtSweep (fresh_sweep Reads)
+  -- the call as plain data
+  abbrev pub plain_call : Call K V F A → plain_call_type.Call K V F
+  plain_call (call.Get k) = plain.Get k.now
+  plain_call (call.GetKeyValue k) = plain.GetKeyValue k.now
+  plain_call (call.ContainsKey k) = plain.ContainsKey k.now
+  plain_call (call.Remove k) = plain.Remove k.now
+  plain_call (call.RemoveEntry k) = plain.RemoveEntry k.now
+  plain_call (call.RemoveSeen z) = plain.RemoveSeen z
+  plain_call (call.Insert k v) = plain.Insert k (arc_value v)
+  plain_call (call.TryInsert k v) = plain.TryInsert k v
+  plain_call (call.Compute k f) = plain.Compute k.now f
+  plain_call (call.Reserve n) = plain.Reserve n
+  plain_call call.Clear = plain.Clear
+  plain_call call.Walk = plain.Walk
 
 module _ {K V F : Type 0} where
   -- that of a call without a key
-  abbrev pub keyless_stage : WholeMapCall → abstract.Stage K V F
-  keyless_stage (keyless.Reserve a) = abstract.AtReserve a
-  keyless_stage keyless.Clear = abstract.AtSweep (fresh_sweep (Wipes 0))
-  keyless_stage keyless.Walk = abstract.AtSweep (fresh_sweep Reads)
+  abbrev pub plain_of_whole : WholeMapCall → plain_call_type.Call K V F
+  plain_of_whole (whole.Reserve n) = plain.Reserve n
+  plain_of_whole whole.Clear = plain.Clear
+  plain_of_whole whole.Walk = plain.Walk
 
   -- and of a call that has its key
-  abbrev pub owned_stage : OwnedCall K V F → abstract.Stage K V F
-  owned_stage (owned_call.Get k) = abstract.AtLocate (abstract.Finds abstract.TheValue k)
-  owned_stage (owned_call.GetKeyValue k) = abstract.AtLocate (abstract.Finds abstract.ThePair k)
-  owned_stage (owned_call.ContainsKey k) = abstract.AtLocate (abstract.Finds abstract.Presence k)
-  owned_stage (owned_call.Remove k) = abstract.AtLocate (abstract.Removes abstract.TheValue k)
-  owned_stage (owned_call.RemoveEntry k) = abstract.AtLocate (abstract.Removes abstract.ThePair k)
-  owned_stage (owned_call.Insert k v) = abstract.AtLocate (abstract.Inserts k v)
-  owned_stage (owned_call.TryInsert k v) = abstract.AtLocate (abstract.Adds k v)
-  owned_stage (owned_call.Compute k f) = abstract.AtLocate (abstract.Computes k f)
-  owned_stage (owned_call.Reserve a) = abstract.AtReserve a
-  owned_stage owned_call.Clear = abstract.AtSweep (fresh_sweep (Wipes 0))
-  owned_stage owned_call.Walk = abstract.AtSweep (fresh_sweep Reads)
+  abbrev pub plain_of_owned : OwnedCall K V F → plain_call_type.Call K V F
+  plain_of_owned (owned.Get k) = plain.Get k
+  plain_of_owned (owned.GetKeyValue k) = plain.GetKeyValue k
+  plain_of_owned (owned.ContainsKey k) = plain.ContainsKey k
+  plain_of_owned (owned.Remove k) = plain.Remove k
+  plain_of_owned (owned.RemoveEntry k) = plain.RemoveEntry k
+  plain_of_owned (owned.Insert k v) = plain.Insert k v
+  plain_of_owned (owned.TryInsert k v) = plain.TryInsert k v
+  plain_of_owned (owned.Compute k f) = plain.Compute k f
+  plain_of_owned (owned.Reserve n) = plain.Reserve n
+  plain_of_owned owned.Clear = plain.Clear
+  plain_of_owned owned.Walk = plain.Walk
 
   -- its function, if it has one, may be called
   abbrev pub CallIsReady : {A : Type 0} → (F → Type 0) → Call K V F A → Type 0
@@ -89,7 +90,7 @@ module _ {K V F : Type 0} where
 
   -- its function, if it has one, may be called
   abbrev pub OwnedIsReady : (F → Type 0) → OwnedCall K V F → Type 0
-  OwnedIsReady ready (owned_call.Compute k f) = ready f
+  OwnedIsReady ready (owned.Compute k f) = ready f
   OwnedIsReady ready _ = ⊤
 
 abbrev pub help_of : Help → abstract.Help

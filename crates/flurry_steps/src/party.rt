@@ -10,12 +10,12 @@ ghost use Rattle.flurry_steps_sweep.specs.Part.{LookPart, BinPart, MovePart, Con
 ghost use Rattle.flurry_steps_sweep.specs.PartView.{part_of_want};
 ghost use Rattle.flurry_steps_sweep.specs.OutcomeView.{outcome_of};
 ghost use Rattle.flurry_steps_sweep.specs.Sweep.{pair_seen};
-ghost use Rattle.flurry_steps.specs.Party.{locates, published_stage, taken_stage, wanted_part, with_stage, outcome_in, final_outcome, last_seen, steps_left, LooksUp, StageIsReady};
+ghost use Rattle.flurry_steps.specs.Party.{locates, published_stage, taken_stage, wanted_part, with_stage, outcome_in, final_outcome, last_seen, steps_left, LooksUp, StageIsReady, stage_of_call};
 ghost use Rattle.flurry_steps.specs.PartyControl.{ControlStep};
 ghost use Rattle.flurry_steps.specs.PartySlots.{SlotStep, MoveStep};
 ghost use Rattle.flurry_steps.specs.PartyTally.{TallyStep, counts};
 ghost use Rattle.flurry_steps.specs.PartyBoard.{Seated, Attempted, TakenBack, StageAsks, BoardStep, range_to_report, stage_unclaimed, IsAtBoard, stage_told, lost};
-ghost use Rattle.flurry_steps.specs.PartyView.{first_stage, owned_stage, stage_of, CallIsReady, OwnedIsReady, keyless_stage};
+ghost use Rattle.flurry_steps.specs.PartyView.{stage_of, CallIsReady, OwnedIsReady, plain_call, plain_of_owned, plain_of_whole};
 ghost use Rattle.flurry_base.specs.declared.sizes.TheConstants.{MAX_TABLE};
 
 mod at_control;
@@ -56,7 +56,7 @@ use std::marker::Model;
 /// ```
 #[derive(Drop)]
 pub struct Party<'k, K, V, F: ComputeFn<K, V>, A: Allocator = Global> {
-    course: PartyKind<'k, K, V, F, A>,
+    kind: PartyKind<'k, K, V, F, A>,
 }
 
 /// The two kinds of calls. The frames of a sweep would lengthen the proofs of all other steps, so the two kinds are of two types.
@@ -70,7 +70,7 @@ pub(crate) enum PartyKind<'k, K, V, F: ComputeFn<K, V>, A: Allocator> {
 
 impl<'k, K, V, F: ComputeFn<K, V>, A: Allocator> Model for Party<'k, K, V, F, A> {
     ghost use Rattle.flurry_steps.specs.Party.{PartyState};
-    ghost use Rattle.flurry_steps.specs.CourseView.{party_state_of};
+    ghost use Rattle.flurry_steps.specs.PartyKindView.{party_state_of};
 
     ghost Value = { PartyState K V F };
 
@@ -85,7 +85,7 @@ impl<'k, K, V, F: ComputeFn<K, V>, A: Allocator> Party<'k, K, V, F, A> {
             ≡ record { hash = hash; processors = processors; helped = None; stage = stage_of stage.entry } }
     {
         Party {
-            course: PartyKind::Single(Single {
+            kind: PartyKind::Single(Single {
                 hash,
                 processors,
                 helped: None,
@@ -98,9 +98,9 @@ impl<'k, K, V, F: ComputeFn<K, V>, A: Allocator> Party<'k, K, V, F, A> {
 
 impl<'k, K: Drop, V: Drop, F: ComputeFn<K, V>, A: Allocator> Party<'k, K, V, F, A> {
     // Creates a call without a key, before its first step.
-    fn of_keyless(call: WholeMapCall, hash: u64, processors: usize) -> Self
+    fn of_whole_map(call: WholeMapCall, hash: u64, processors: usize) -> Self
         ensures { result
-            ≡ record { hash = hash; processors = processors; helped = None; stage = keyless_stage call } }
+            ≡ record { hash = hash; processors = processors; helped = None; stage = stage_of_call (plain_of_whole call) } }
     {
         match call {
             WholeMapCall::Reserve(more) => {
@@ -108,12 +108,12 @@ impl<'k, K: Drop, V: Drop, F: ComputeFn<K, V>, A: Allocator> Party<'k, K, V, F, 
             }
             WholeMapCall::Clear => {
                 return Party {
-                    course: PartyKind::Sweep(hash, processors, Sweep::clear()),
+                    kind: PartyKind::Sweep(hash, processors, Sweep::clear()),
                 };
             }
             WholeMapCall::Walk => {
                 return Party {
-                    course: PartyKind::Sweep(hash, processors, Sweep::walk()),
+                    kind: PartyKind::Sweep(hash, processors, Sweep::walk()),
                 };
             }
         }
@@ -128,11 +128,11 @@ impl<'k, K: Drop, V: Drop, F: ComputeFn<K, V>, A: Allocator> Party<'k, K, V, F, 
     pub fn new(call: Call<'k, K, V, F, A>, hash: u64, processors: usize) -> Self
         requires { CallIsReady F.can_change call }
         ensures { result
-            ≡ record { hash = hash; processors = processors; helped = None; stage = first_stage call.entry } }
+            ≡ record { hash = hash; processors = processors; helped = None; stage = stage_of_call (plain_call call.entry) } }
     {
         match task_for(call) {
             Ok(task) => return Party::of_stage(Stage::Locate(task), hash, processors),
-            Err(call) => return Party::of_keyless(call, hash, processors),
+            Err(call) => return Party::of_whole_map(call, hash, processors),
         }
     }
 
@@ -145,11 +145,11 @@ impl<'k, K: Drop, V: Drop, F: ComputeFn<K, V>, A: Allocator> Party<'k, K, V, F, 
     pub fn from_owned(call: OwnedCall<K, V, F>, hash: u64, processors: usize) -> Self
         requires { OwnedIsReady F.can_change call }
         ensures { result
-            ≡ record { hash = hash; processors = processors; helped = None; stage = owned_stage call } }
+            ≡ record { hash = hash; processors = processors; helped = None; stage = stage_of_call (plain_of_owned call) } }
     {
         match task_of_owned(call) {
             Ok(task) => return Party::of_stage(Stage::Locate(task), hash, processors),
-            Err(call) => return Party::of_keyless(call, hash, processors),
+            Err(call) => return Party::of_whole_map(call, hash, processors),
         }
     }
 
@@ -160,7 +160,7 @@ impl<'k, K: Drop, V: Drop, F: ComputeFn<K, V>, A: Allocator> Party<'k, K, V, F, 
     pub fn want(&self) -> Want
         ensures { part_of_want result ≡ wanted_part self.now }
     {
-        match &self.course {
+        match &self.kind {
             PartyKind::Single(single) => single.want(),
             PartyKind::Sweep(_, _, sweep) => sweep.want(),
         }
@@ -172,7 +172,7 @@ impl<'k, K: Drop, V: Drop, F: ComputeFn<K, V>, A: Allocator> Party<'k, K, V, F, 
     pub fn reply(&self) -> Option<&Reply<K, V, A>>
         ensures { option_map outcome_of (option_copied result) ≡ outcome_in self.now.stage }
     {
-        match &self.course {
+        match &self.kind {
             PartyKind::Single(single) => single.reply(),
             PartyKind::Sweep(_, _, sweep) => sweep.reply(),
         }
@@ -187,7 +187,7 @@ impl<'k, K: Drop, V: Drop, F: ComputeFn<K, V>, A: Allocator> Party<'k, K, V, F, 
         ensures none { IfNone result (self.new ≡ self.old) }
         ensures some { IfSome result (λ _. self.new ≡ with_stage self.old (taken_stage self.old.stage)) }
     {
-        match &mut self.course {
+        match &mut self.kind {
             PartyKind::Single(single) => return single.take_reply(),
             PartyKind::Sweep(_, _, sweep) => return sweep.take_reply(),
         }
@@ -200,7 +200,7 @@ impl<'k, K: Drop, V: Drop, F: ComputeFn<K, V>, A: Allocator> Party<'k, K, V, F, 
     pub fn last_read(&self) -> Option<(&K, &V)>
         ensures { option_map (λ p. (p.0.now, p.1.now)) result ≡ option_map pair_seen (last_seen self.now.stage) }
     {
-        match &self.course {
+        match &self.kind {
             PartyKind::Single(single) => single.last_read(),
             PartyKind::Sweep(_, _, sweep) => sweep.last_read(),
         }
@@ -218,7 +218,7 @@ impl<'k, K: Drop, V: Drop, F: ComputeFn<K, V>, A: Allocator> Party<'k, K, V, F, 
         ensures ok { IfOk result (λ s. s ≡ last_seen self.now.stage) }
         ensures err { OnErr result (IsSome (last_seen self.now.stage)) }
     {
-        match &self.course {
+        match &self.kind {
             PartyKind::Single(single) => Ok(single.seen()),
             PartyKind::Sweep(_, _, sweep) => sweep.seen(),
         }
@@ -231,7 +231,7 @@ impl<'k, K: Drop, V: Drop, F: ComputeFn<K, V>, A: Allocator> Party<'k, K, V, F, 
     pub fn release(&mut self)
         ensures { self.new ≡ self.old }
     {
-        match &mut self.course {
+        match &mut self.kind {
             PartyKind::Single(single) => single.release(),
             PartyKind::Sweep(_, _, sweep) => sweep.release(),
         }
@@ -244,7 +244,7 @@ impl<'k, K: Drop, V: Drop, F: ComputeFn<K, V>, A: Allocator> Party<'k, K, V, F, 
         requires { wanted_part self.old ≡ ControlPart }
         ensures { ControlStep R.place_gives self.old control.old room.old result self.new control.new room.new }
     {
-        match &mut self.course {
+        match &mut self.kind {
             PartyKind::Single(single) => return single.on_control(control, room),
             PartyKind::Sweep(_, _, sweep) => return sweep.on_control(control),
         }
@@ -257,7 +257,7 @@ impl<'k, K: Drop, V: Drop, F: ComputeFn<K, V>, A: Allocator> Party<'k, K, V, F, 
     pub fn locates(&self) -> bool
         ensures { result ≡ locates self.now.stage }
     {
-        match &self.course {
+        match &self.kind {
             PartyKind::Single(single) => single.locates(),
             PartyKind::Sweep(_, _, sweep) => sweep.sets_out(),
         }
@@ -274,7 +274,7 @@ impl<'k, K: Drop, V: Drop, F: ComputeFn<K, V>, A: Allocator> Party<'k, K, V, F, 
         ensures silent { result ≡ Event.Silent }
         ensures at { self.new ≡ with_stage self.old (published_stage start.now self.old.stage) }
     {
-        match &mut self.course {
+        match &mut self.kind {
             PartyKind::Single(single) => return single.on_published(start),
             PartyKind::Sweep(_, _, sweep) => return sweep.on_published(start),
         }
@@ -287,7 +287,7 @@ impl<'k, K: Drop, V: Drop, F: ComputeFn<K, V>, A: Allocator> Party<'k, K, V, F, 
     pub fn counts(&self) -> bool
         ensures { result ≡ counts self.now.stage }
     {
-        match &self.course {
+        match &self.kind {
             PartyKind::Single(single) => single.counts(),
             PartyKind::Sweep(_, _, _) => false,
         }
@@ -301,7 +301,7 @@ impl<'k, K: Drop, V: Drop, F: ComputeFn<K, V>, A: Allocator> Party<'k, K, V, F, 
         requires { counts self.old.stage ≡ true }
         ensures { TallyStep most self.old tally.old result self.new tally.new }
     {
-        match &mut self.course {
+        match &mut self.kind {
             PartyKind::Single(single) => return single.on_tally(tally, most),
             PartyKind::Sweep(_, _, _) => unreachable!(),
         }
@@ -315,7 +315,7 @@ impl<'k, K: Drop, V: Drop, F: ComputeFn<K, V>, A: Allocator> Party<'k, K, V, F, 
         requires { StageAsks self.old.stage (Seated got) }
         ensures { BoardStep self.old (Seated got) result self.new }
     {
-        match &mut self.course {
+        match &mut self.kind {
             PartyKind::Single(single) => return single.on_seat(got),
             PartyKind::Sweep(_, _, _) => unreachable!(),
         }
@@ -331,7 +331,7 @@ impl<'k, K: Drop, V: Drop, F: ComputeFn<K, V>, A: Allocator> Party<'k, K, V, F, 
         ensures none { IfNone result (self.new ≡ self.old) }
         ensures some { IfSome result (λ _. self.new ≡ with_stage self.old (stage_unclaimed self.old.stage)) }
     {
-        match &mut self.course {
+        match &mut self.kind {
             PartyKind::Single(single) => return single.take_range(),
             PartyKind::Sweep(_, _, _) => return None,
         }
@@ -346,7 +346,7 @@ impl<'k, K: Drop, V: Drop, F: ComputeFn<K, V>, A: Allocator> Party<'k, K, V, F, 
         ensures silent { result ≡ Event.Silent }
         ensures told { self.new ≡ with_stage self.old (stage_told last self.old.stage) }
     {
-        match &mut self.course {
+        match &mut self.kind {
             PartyKind::Single(single) => return single.on_report(last),
             PartyKind::Sweep(_, _, _) => unreachable!(),
         }
@@ -361,7 +361,7 @@ impl<'k, K: Drop, V: Drop, F: ComputeFn<K, V>, A: Allocator> Party<'k, K, V, F, 
         requires { StageAsks self.old.stage (Attempted attempt) }
         ensures { BoardStep self.old (Attempted attempt) result self.new }
     {
-        match &mut self.course {
+        match &mut self.kind {
             PartyKind::Single(single) => return single.on_attempt(attempt),
             PartyKind::Sweep(_, _, _) => unreachable!(),
         }
@@ -374,7 +374,7 @@ impl<'k, K: Drop, V: Drop, F: ComputeFn<K, V>, A: Allocator> Party<'k, K, V, F, 
         requires { StageAsks self.old.stage TakenBack }
         ensures { BoardStep self.old TakenBack result self.new }
     {
-        match &mut self.course {
+        match &mut self.kind {
             PartyKind::Single(single) => return single.on_give(),
             PartyKind::Sweep(_, _, _) => unreachable!(),
         }
@@ -387,7 +387,7 @@ impl<'k, K: Drop, V: Drop, F: ComputeFn<K, V>, A: Allocator> Party<'k, K, V, F, 
     pub fn lose(&mut self)
         ensures { self.new ≡ lost self.old }
     {
-        if let PartyKind::Single(single) = &mut self.course {
+        if let PartyKind::Single(single) = &mut self.kind {
             single.lose();
         }
     }
@@ -399,7 +399,7 @@ impl<'k, K: Drop, V: Drop, F: ComputeFn<K, V>, A: Allocator> Party<'k, K, V, F, 
     pub fn hash(&self) -> u64
         ensures { result ≡ self.now.hash }
     {
-        match &self.course {
+        match &self.kind {
             PartyKind::Single(single) => single.hash(),
             PartyKind::Sweep(hash, _, _) => *hash,
         }
@@ -417,7 +417,7 @@ impl<'k, K: Ord + Drop, V: Drop, F: ComputeFn<K, V>, A: Allocator> Party<'k, K, 
             ((slot.now.content ≡ IsUnborn) ⊎ (steps_left self.new.stage < steps_left self.old.stage)) }
         ensures step { SlotStep K.cmp F.changes self.old slot.now result self.new slot.now }
     {
-        match &mut self.course {
+        match &mut self.kind {
             PartyKind::Single(single) => return single.on_look(slot),
             PartyKind::Sweep(_, _, sweep) => return sweep.on_look(slot),
         }
@@ -436,7 +436,7 @@ impl<'k, K: Ord + Drop, V: Drop, F: ComputeFn<K, V>, A: Allocator> Party<'k, K, 
         ensures within { IsSlot K.cmp old.old }
         ensures step { MoveStep self.old old.old low.old high.old result self.new old.new low.new high.new }
     {
-        match &mut self.course {
+        match &mut self.kind {
             PartyKind::Single(single) => return single.on_move(old, low, high),
             PartyKind::Sweep(_, _, _) => unreachable!(),
         }
@@ -452,7 +452,7 @@ impl<'k, K: Ord + Drop, V: Drop, F: ComputeFn<K, V>, A: Allocator + Copy> Party<
         ensures within { IsSlot K.cmp slot.old }
         ensures step { SlotStep K.cmp F.changes self.old slot.old result self.new slot.new }
     {
-        match &mut self.course {
+        match &mut self.kind {
             PartyKind::Single(single) => return single.on_bin(alloc, slot),
             PartyKind::Sweep(_, _, sweep) => return sweep.on_bin(slot),
         }

@@ -7,11 +7,9 @@ use Rattle.std.proofs.lemmas.Bool.{ltb-true, ltb-false}
 use Rattle.std.proofs.lemmas.Int.{ints}
 use Rattle.std.proofs.lemmas.List.{reverse-append}
 use Rattle.flurry_bins_slots.specs.Slot.{Content, IsLive, HasMoved, IsUnborn}
-use Rattle.flurry_steps.specs.Party.{Task, AtLocate, PartyState, last_seen}
-use Rattle.flurry_steps.specs.PartyView.{owned_stage}
-use Rattle.flurry_steps.specs.declared.party.call.OwnedCall.{OwnedCall}
-use Rattle.flurry_steps.specs.declared.party.call.OwnedCall.TheVariants as owned
-use Rattle.flurry_steps_theory.specs.Map.{Pairs, same, key_of}
+use Rattle.flurry_steps.specs.Party.{Task, AtLocate, PartyState, last_seen, stage_of_call, task_of_call}
+use Rattle.flurry_base.specs.OneKey.{key_of}
+use Rattle.flurry_steps_theory.specs.Map.{Pairs, same}
 use Rattle.flurry_steps_theory.specs.Machine as machine
 use Rattle.flurry_steps_theory.specs.Machine.{WasPublished}
 use Rattle.flurry_steps_theory.specs.Trace.{decision, has_replied, has_closed}
@@ -20,34 +18,26 @@ use Rattle.flurry_base.specs.declared.call.Call.TheVariants as call
 use Rattle.flurry_steps_theory.specs.declared.Label.TheVariants as label
 use Rattle.flurry_steps_world.specs.Entries.{slot_of}
 use Rattle.flurry_steps_world.specs.Parts.{Parts, IsPublishedTable}
-use Rattle.flurry_steps_world.specs.Runs.{theory_call}
 use Rattle.flurry_steps_world.specs.Steps.{with_party_record}
 use Rattle.flurry_steps_world.specs.Tables.{content_at}
-use Rattle.flurry_steps_world.specs.World.{PartyRecord, WorldState, Near, state_of, mode_of_stage, task_of_call, FollowsStage, IsWorld, history}
+use Rattle.flurry_steps_world.specs.World.{PartyRecord, WorldState, Near, state_of, mode_of_stage, FollowsStage, IsWorld, history}
 use Rattle.flurry_steps_world.proofs.StateLaws.{held_of_stage}
 use Rattle.flurry_steps_world.proofs.BeginLaws.{IsBeginning}
 use Rattle.flurry_steps_world.proofs.WorldLaws.{began, get_append}
-use Rattle.flurry_steps_drive.specs.Exact.{Holds, IsFirst, IsFresh}
+use Rattle.flurry_steps_drive.specs.Exact.{Holds, IsFresh}
 use Rattle.flurry_steps_drive.proofs.Trace.{itself}
 use Rattle.flurry_base.specs.declared.sizes.TheConstants.{MAX_LABELS}
 
 module _ {K V F : Type 0} where
-  -- a call that has its key stands where the machine's call does
-  pub owned_first : (c : OwnedCall K V F) → IsFirst (theory_call c) (owned_stage c)
-  owned_first (owned.Reserve a) = refl
-  owned_first owned.Clear = refl
-  owned_first owned.Walk = refl
-  owned_first c = (_, refl, refl)
-
   module _ (hash : K → ℕ) where
     at_task : (d : Call K V F) (q : PartyState K V F) → ((k : K) → key_of d ≡ Some k → q.hash ≡ hash k) → (t : Task K V F) → task_of_call d ≡ Some t → q.stage ≡ AtLocate t → IsBeginning hash d q
     at_task d q own t is e = record { own_hash = own; follows = subst (FollowsStage hash d) (sym e) is; mode = ap mode_of_stage e; held = ap held_of_stage e; unread = ap last_seen e }
 
-    first_begins : (d : Call K V F) (q : PartyState K V F) → ((k : K) → key_of d ≡ Some k → q.hash ≡ hash k) → IsFirst d q.stage → IsBeginning hash d q
+    first_begins : (d : Call K V F) (q : PartyState K V F) → ((k : K) → key_of d ≡ Some k → q.hash ≡ hash k) → q.stage ≡ stage_of_call d → IsBeginning hash d q
     first_begins (call.Reserve a) q own e = record { own_hash = own; follows = subst (FollowsStage hash (call.Reserve a)) (sym e) refl; mode = ap mode_of_stage e; held = ap held_of_stage e; unread = ap last_seen e }
     first_begins call.Clear q own e = record { own_hash = own; follows = subst (FollowsStage hash call.Clear) (sym e) ((refl, refl), refl); mode = ap mode_of_stage e; held = ap held_of_stage e; unread = ap last_seen e }
     first_begins call.Walk q own e = record { own_hash = own; follows = subst (FollowsStage hash call.Walk) (sym e) (refl, tt); mode = ap mode_of_stage e; held = ap held_of_stage e; unread = ap last_seen e }
-    first_begins d q own (t, is, e) = at_task d q own t is e
+    first_begins d q own e = at_task d q own _ refl e
 
 module _ {K V F : Type 0} (cmp : K → K → Ordering) (hash : K → ℕ) (gives : F → K → V → Option V → Type 0) where
   -- a table where a call may begin was published

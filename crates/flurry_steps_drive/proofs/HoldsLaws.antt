@@ -1,25 +1,24 @@
 -- Parts that hold a map, and calls before their first step.
+use Rattle.flurry_base.specs.OneKey.{hash_of_call}
 use Rattle.std.specs.Prelude.{◌≡◌, ℕ, [], Option, None}
 use Rattle.std.specs.Cmp.{IsTotalOrder}
 use Rattle.std.specs.declared.cmp.Ordering.{Ordering}
 use Rattle.std.specs.declared.cmp.Ordering.TheVariants.{Equal}
 use Rattle.std.proofs.Common.{arith, refl, sym, ◌∙◌, ap, subst}
 use Rattle.std.proofs.lemmas.Int.{ints}
-use Rattle.flurry_steps.specs.Party.{PartyState}
-use Rattle.flurry_steps.specs.PartyView.{owned_stage}
+use Rattle.flurry_steps.specs.Party.{PartyState, stage_of_call}
+use Rattle.flurry_steps.specs.PartyView.{plain_of_owned}
 use Rattle.flurry_steps.specs.declared.party.call.OwnedCall.{OwnedCall}
 use Rattle.flurry_steps_theory.specs.Trace.{pairs}
 use Rattle.flurry_steps_world.specs.Parts.{OwnLends, OwnLacks, no_parts}
-use Rattle.flurry_steps_world.specs.Runs.{theory_call, hash_for}
 use Rattle.flurry_steps_world.specs.Steps.{fresh_world}
 use Rattle.flurry_steps_world.specs.Tables.{PlaceGives, no_tables}
 use Rattle.flurry_steps_world.specs.World.{WorldState, Near, IsWorld, history}
 use Rattle.flurry_steps_world.proofs.BeginLaws.{own_hash}
 use Rattle.flurry_steps_world.proofs.NewLaws.{new_without}
 use Rattle.flurry_steps_world.proofs.WorldSteps.{alike_class}
-use Rattle.flurry_steps_drive.specs.Exact.{Holds, IsFirst, IsFresh}
+use Rattle.flurry_steps_drive.specs.Exact.{Holds, IsFresh}
 use Rattle.flurry_steps_drive.specs.IsExclusive.{IsExclusive}
-use Rattle.flurry_steps_drive.proofs.Begins.{owned_first}
 
 -- who is alone with the parts is told them
 pub own_tells : {K V : Type 0} → IsExclusive {K = K} {V = V} (λ s. s) (λ r. r) PlaceGives OwnLends OwnLacks
@@ -27,8 +26,8 @@ own_tells = record { places = λ r e growth ok r' h. h; lends_own = λ s l s' h.
 
 module _ {K V F : Type 0} (cmp : K → K → Ordering) (hash : K → ℕ) (changes : F → K → V → Option V → Type 0) where
   -- a call that has its key, before its first step
-  pub fresh : (c : OwnedCall K V F) (i n : ℕ) (p : PartyState K V F) → p ≡ record { hash = i; processors = n; helped = None; stage = owned_stage c } → i ≡ hash_for hash c → IsFresh cmp hash changes (theory_call c) p
-  fresh c i n p is hashed = record { stage = subst (λ z. IsFirst (theory_call c) z.stage) (sym is) (owned_first c); hash_is = λ k h. ap (λ z. z.hash) is ∙ hashed ∙ own_hash hash c k h }
+  pub fresh : (c : OwnedCall K V F) (i n : ℕ) (p : PartyState K V F) → p ≡ record { hash = i; processors = n; helped = None; stage = stage_of_call (plain_of_owned c) } → i ≡ hash_of_call hash (plain_of_owned c) → IsFresh cmp hash changes (plain_of_owned c) p
+  fresh c i n p is hashed = record { stage = ap (λ z. z.stage) is; hash_is = λ k h. ap (λ z. z.hash) is ∙ hashed ∙ own_hash hash c k h }
 
   -- the parts of a world hold its map
   pub holds_world : {S : Type 0} (w : WorldState K V F S) (n : ℕ) → IsWorld cmp hash changes w → Near n w.control_state.count → Holds cmp hash changes n (record { control_state = w.control_state; tables = w.tables }) (pairs cmp hash (history w))

@@ -8,7 +8,7 @@ use Rattle.std.proofs.lemmas.List.{reverse-append}
 use Rattle.std.proofs.lemmas.Option.{slice_get_within}
 use Rattle.flurry_steps_control.specs.Control.{ControlState}
 use Rattle.flurry_steps_sweep.specs.Outcome.{OutcomeReply, OutcomeEnded, OutcomeRefused, Outcome}
-use Rattle.flurry_steps.specs.Party.{Stage, AtLocate, AtBin, AtHelp, AtUncount, AtCount, AtRecount, AtBegin, AtGrow, AtReserve, AtSweep, IsSingle, final_outcome, AtDone, AtTaken, PartyState, wanted_part, with_stage, published_stage, locates, outcome_in, last_seen}
+use Rattle.flurry_steps.specs.Party.{Stage, AtLocate, AtBin, AtHelp, AtUncount, AtCount, AtRecount, AtBegin, AtGrow, AtReserve, AtSweep, IsSingle, final_outcome, AtDone, AtTaken, PartyState, wanted_part, with_stage, published_stage, locates, outcome_in, last_seen, task_of_call, stage_of_call}
 use Rattle.flurry_steps_sweep.specs.declared.step.Event.{Event}
 use Rattle.flurry_steps_sweep.specs.declared.step.Event.TheVariants as event
 use Rattle.flurry_steps_sweep.specs.Sweep.{Errand, Reads, Wipes}
@@ -23,7 +23,7 @@ use Rattle.flurry_base.specs.declared.call.Call.{Call}
 use Rattle.flurry_base.specs.declared.call.Call.TheVariants as call
 use Rattle.flurry_steps_world.specs.Tables.{Tables, PlaceGives}
 use Rattle.flurry_steps_world.specs.Parts.{PartStep}
-use Rattle.flurry_steps_world.specs.World.{PartyRecord, WorldState, Near, state_of, mode_of_stage, task_of_call, FollowsErrand, FollowsStage, IsWorld, history}
+use Rattle.flurry_steps_world.specs.World.{PartyRecord, WorldState, Near, state_of, mode_of_stage, FollowsErrand, FollowsStage, IsWorld, history}
 use Rattle.flurry_steps_world.specs.Steps.{with_step, with_party_record, label_of, decide_label}
 use Rattle.flurry_steps_world.proofs.StateLaws.{held_of_stage, get_set}
 use Rattle.flurry_steps_world.proofs.CallLaws.{found_task}
@@ -34,7 +34,7 @@ use Rattle.flurry_steps_world.proofs.WorldLaws.{goes_on}
 use Rattle.flurry_steps.proofs.Events.{IsSweepEvent, single_at_control, single_at_slot, single_at_move, single_at_board}
 use Rattle.flurry_steps_sweep.specs.Part.{Part, ControlPart, LookPart, BinPart, MovePart, SeatPart, BoardPart, GivePart, NoPart}
 use Rattle.flurry_steps_world.specs.Parts.{Parts, PartStep, IsPublishedTable}
-use Rattle.flurry_steps_drive.specs.Exact.{Holds, Answers, EndsOn, IsFirst, IsFresh, most_counted}
+use Rattle.flurry_steps_drive.specs.Exact.{Holds, Answers, EndsOn, IsFresh, most_counted}
 use Rattle.flurry_steps_drive.proofs.Begins.{was_published, begun}
 use Rattle.flurry_steps_drive.proofs.Trace.{IsOwnLabel, ByEnd, Alone, alone_more, alone_began, itself}
 use Rattle.flurry_steps_drive.proofs.CountLaws.{left, left_most, Room, near_of, room_left}
@@ -254,7 +254,7 @@ module _ {K V F : Type 0} (cmp : K → K → Ordering) (total : IsTotalOrder cmp
 
 module _ {K V F : Type 0} where
   -- it counts what it has left to count, at most
-  first_left : (d : Call K V F) (m : Pairs K V) (s : Stage K V F) → IsPlain d → IsFirst d s → left s ≤ most_counted d m
+  first_left : (d : Call K V F) (m : Pairs K V) (s : Stage K V F) → IsPlain d → s ≡ stage_of_call d → left s ≤ most_counted d m
   first_left (call.Reserve a) m s plain h = omega (arith, ap left h)
   first_left call.Clear m s plain h = absurd plain
   first_left call.Walk m s plain h = absurd plain

@@ -5,26 +5,19 @@ use Rattle.std.specs.declared.cmp.Ordering.TheVariants.{Equal}
 use Rattle.flurry_steps.specs.Field.{Loan}
 use Rattle.flurry_steps_sweep.specs.Outcome.{Outcome, OutcomeReply, OutcomeEnded, OutcomeRefused}
 use Rattle.flurry_steps_sweep.specs.Part.{Part}
-use Rattle.flurry_steps_sweep.specs.Sweep.{Reads, Wipes, fresh_sweep}
-use Rattle.flurry_steps.specs.Party.{Task, Stage, AtLocate, AtReserve, AtSweep, PartyState}
-use Rattle.flurry_steps_theory.specs.Map.{Pairs, key_of, after, Allows, CanBeRefused}
+use Rattle.flurry_steps.specs.Party.{PartyState, stage_of_call}
+use Rattle.flurry_base.specs.OneKey.{key_of}
+use Rattle.flurry_steps_theory.specs.Map.{Pairs, after, Allows, CanBeRefused}
 use Rattle.flurry_steps_theory.specs.Trace.{pairs}
 use Rattle.flurry_base.specs.declared.call.Call.{Call}
 use Rattle.flurry_base.specs.declared.call.Call.TheVariants as call
 use Rattle.flurry_steps_world.specs.Parts.{Parts}
 use Rattle.flurry_steps_world.specs.Tables.{Tables}
-use Rattle.flurry_steps_world.specs.World.{WorldState, Near, task_of_call, IsWorld, history}
+use Rattle.flurry_steps_world.specs.World.{WorldState, Near, IsWorld, history}
 use Rattle.flurry_steps_drive.specs.IsExclusive.{IsExclusive}
 use Rattle.flurry_base.specs.declared.sizes.TheConstants.{MAX_LABELS}
 
 module _ {K V F : Type 0} where
-  -- the call stands there before its first step
-  abbrev pub IsFirst : Call K V F → Stage K V F → Type 0
-  IsFirst (call.Reserve a) s = s ≡ AtReserve a
-  IsFirst call.Clear s = s ≡ AtSweep (fresh_sweep (Wipes 0))
-  IsFirst call.Walk s = s ≡ AtSweep (fresh_sweep Reads)
-  IsFirst c s = (t : Task K V F) × (task_of_call c ≡ Some t) × (s ≡ AtLocate t)
-
   -- how many pairs the call counts at most, on the map m
   abbrev pub most_counted : Call K V F → Pairs K V → ℕ
   most_counted (call.Reserve a) m = 0
@@ -59,7 +52,7 @@ module _ {K V F : Type 0} (cmp : K → K → Ordering) (hash : K → ℕ) (chang
 
   -- the call c before its first step, with the hash of its key
   pub record IsFresh (c : Call K V F) (p : PartyState K V F) : Type 0 where
-    pub stage : IsFirst c p.stage
+    pub stage : p.stage ≡ stage_of_call c
     pub hash_is : (k : K) → key_of c ≡ Some k → p.hash ≡ hash k
 
   -- driven over the parts s, the call c answers r and leaves the parts s'

@@ -7,10 +7,9 @@ ghost use Rattle.flurry_steps.specs.Field.{Turn};
 ghost use Rattle.flurry_steps.specs.Party.{IsTaken};
 ghost use Rattle.flurry_steps.specs.Turns.{TurnsTo};
 ghost use Rattle.flurry_steps_sweep.specs.OutcomeView.{outcome_of};
-ghost use Rattle.flurry_steps.specs.PartyView.{OwnedIsReady};
+ghost use Rattle.flurry_steps.specs.PartyView.{OwnedIsReady, plain_of_owned};
 ghost use Rattle.flurry_steps_theory.specs.Map.{Pairs};
 ghost use Rattle.flurry_steps_world.specs.Parts.{OwnLends, OwnLacks, no_parts};
-ghost use Rattle.flurry_steps_world.specs.Runs.{theory_call};
 ghost use Rattle.flurry_steps_world.specs.Tables.{PlaceGives};
 ghost use Rattle.flurry_base.specs.declared.sizes.TheConstants.{MAX_LABELS};
 
@@ -73,9 +72,9 @@ pub fn drive_alone<
     parts: &mut Parts<K, V, A>,
 ) -> Reply<K, V, A>
     requires { OwnedIsReady F.can_change call }
-    ensures { (n : ℕ) (m : Pairs K V) → n + most_counted (theory_call call) m ≤ MAX_LABELS
+    ensures { (n : ℕ) (m : Pairs K V) → n + most_counted (plain_of_owned call) m ≤ MAX_LABELS
         → Holds K.cmp (S.hash_of hasher.now) F.changes n parts.old m
-        → DrivesTo K.cmp (S.hash_of hasher.now) F.changes (theory_call call) n parts.old m
+        → DrivesTo K.cmp (S.hash_of hasher.now) F.changes (plain_of_owned call) n parts.old m
         (outcome_of result) parts.new }
 {
     let hash = hash_for(hasher, &call);

@@ -9,7 +9,8 @@ use Rattle.std.proofs.lemmas.Cmp.{eq_by_cmp_equiv, then_total, on_total, nat_cmp
 use Rattle.std.proofs.lemmas.Nat.{mod-pow-add, mod_below, pow_pos, mod_low}
 use Rattle.std.proofs.lemmas.Grind.{common_steps, pow_more}
 use Rattle.std.proofs.lemmas.Bool.{eqb-true, eq-eqb, ne_eqb}
-use Rattle.flurry_steps_theory.specs.Map.{Pairs, same, find, without, after, Allows, CanBeRefused, key_of}
+use Rattle.flurry_base.specs.OneKey.{key_of}
+use Rattle.flurry_steps_theory.specs.Map.{Pairs, same, find, without, after, Allows, CanBeRefused}
 use Rattle.flurry_steps_theory.specs.Trace.{in_region}
 use Rattle.flurry_steps_theory.specs.Bin.{Entry, pairs_of, order, past, first_past, Above, IsAscending, InRegion, half}
 use Rattle.flurry_base.specs.declared.call.Call.{Call}

@@ -1,5 +1,5 @@
 -- The labels of one party.
-use Rattle.std.specs.Prelude.{ℕ, ◌≤◌, ◌==◌, Bool, true, false, cond, ◌||◌, ◌∷◌, ◌+◌, ◌-◌, length, Option, Some, None, is_some, ◌≡◌, ◌⊎◌, ⊤}
+use Rattle.std.specs.Prelude.{ℕ, ◌≤◌, ◌==◌, Bool, true, false, cond, ◌||◌, ◌∷◌, ◌+◌, length, Option, Some, None, is_some, ◌≡◌, ◌⊎◌, ⊤}
 use Rattle.std.specs.declared.cmp.Ordering.{Ordering}
 use Rattle.std.specs.Cmp.{IsTotalOrder}
 use Rattle.std.proofs.Common.{arith, refl, sym, ◌∙◌, ap, subst, inl, inr}

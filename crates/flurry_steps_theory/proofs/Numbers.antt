@@ -6,7 +6,8 @@ use Rattle.std.proofs.Common.{arith, refl, sym, ◌∙◌, ap, subst, inl, inr}
 use Rattle.std.proofs.lemmas.Grind.{common_steps}
 use Rattle.std.proofs.lemmas.Bool.{eqb-true, eqb-false, eq-eqb, ne_eqb, cases_Bool, and_parts, and_from, and_cases, lt-ltb, ltb-true}
 use Rattle.std.proofs.lemmas.Nat.{mod_below, pow_pos}
-use Rattle.flurry_steps_theory.specs.Map.{same, key_of, Allows}
+use Rattle.flurry_base.specs.OneKey.{key_of}
+use Rattle.flurry_steps_theory.specs.Map.{same, Allows}
 use Rattle.flurry_steps_theory.specs.Trace.{Trace, begins, call_begun_by, decision, last_read, read_before}
 use Rattle.flurry_steps_theory.specs.Bin.{Entry, number_of, bump, has_number, past, first_past, IsAscending, InRegion, half}
 use Rattle.flurry_steps_theory.specs.Machine.{State, Slot, Claim, Transition, Can, does, label, at_bin, at_place, Live, Frame, Begins, Opens, DecidesEmpty, Decides, Moves, Reads, Wipes}

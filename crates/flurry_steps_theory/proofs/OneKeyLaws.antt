@@ -1,21 +1,20 @@
 -- The finite map in the order of its keys and the pairs of a trace agree on each one-key call.
-use Rattle.std.specs.Prelude.{◌≡◌, ◌⊎◌, ⊤, List, [], ◌∷◌, Option, Some, None, option_map, unwrap_or, MatchOption}
+use Rattle.std.specs.Prelude.{◌≡◌, ◌⊎◌, List, [], ◌∷◌, Option, Some, None, option_map, unwrap_or, MatchOption}
 use Rattle.std.specs.declared.cmp.Ordering.{Ordering}
 use Rattle.std.specs.Cmp.{IsTotalOrder}
 use Rattle.std.specs.Option.{option_map_or}
-use Rattle.std.proofs.Common.{arith, refl, subst, ◌∙◌, inl, inr}
+use Rattle.std.proofs.Common.{arith, refl, ◌∙◌, inl, inr}
 use Rattle.flurry_base.specs.FiniteMap as ordered
 use Rattle.flurry_base.specs.FiniteMap.{IsFiniteMap, with_pair, stored_key, map_of_pairs}
-use Rattle.flurry_base.specs.OneKey.{OneKey}
 use Rattle.flurry_base.proofs.FiniteMapLaws.{pair_at-with_pair, pair_at-without, IsFiniteMap-with_pair, IsFiniteMap-without, without_none, IsFiniteMap-map_of_pairs, pair_at-map_of_pairs}
 use Rattle.flurry_base.specs.declared.reply.KeptReply.{KeptReply}
 use Rattle.flurry_base.specs.declared.reply.KeptReply.TheVariants.{Value, New, Exists}
 use Rattle.flurry_steps_theory.specs.Map.{Pairs, find, value_at, without, put, write}
-use Rattle.flurry_steps_theory.specs.OneKeyCalls.{one_key_of, HasSamePairs, IsMapAfter, AgreesOn}
+use Rattle.flurry_steps_theory.specs.OneKeyCalls.{HasSamePairs, IsMapAfter, AgreesOn}
 use Rattle.flurry_steps_theory.proofs.Bins.{one_class, find-without, stored_class}
 use Rattle.flurry_base.specs.declared.call.Seen.{Seen}
 use Rattle.flurry_base.specs.declared.call.Call.{Call}
-use Rattle.flurry_base.specs.declared.call.Call.TheVariants.{Get, GetKeyValue, ContainsKey, Insert, TryInsert, Compute, Remove, RemoveEntry, RemoveSeen, Reserve, Clear, Walk}
+use Rattle.flurry_base.specs.declared.call.Call.TheVariants.{Get, GetKeyValue, ContainsKey, Insert, TryInsert, Compute, Remove, RemoveEntry, RemoveSeen}
 
 module _ {K V : Type 0} (cmp : K → K → Ordering) (total : IsTotalOrder cmp) where
   -- a list has one pair at a class, from whichever side the keys are compared
@@ -105,34 +104,29 @@ module _ {K V : Type 0} (cmp : K → K → Ordering) (total : IsTotalOrder cmp) 
           let t = taken s a (find cmp n s.key) refl in
           (inr a, (rw (h.1) (t.0), rw (h.1) (t.1)))
 
-      agrees : (c : Call K V F) → MatchOption (one_key_of c) ⊤ (λ o. AgreesOn cmp gives c o m n r)
-      agrees (Get k) = record { answered = λ a. (m, (rw (alike k) a, refl), (finite, alike)); allowed = λ l h. (rw (alike k) at (h.0), (rw (h.1) finite, rw (h.1) alike)) }
-      agrees (GetKeyValue k) = record { answered = λ a. (m, (rw (alike k) a, refl), (finite, alike)); allowed = λ l h. (rw (alike k) at (h.0), (rw (h.1) finite, rw (h.1) alike)) }
-      agrees (ContainsKey k) = record { answered = λ a. (m, (rw (alike k) a, refl), (finite, alike)); allowed = λ l h. (rw (alike k) at (h.0), (rw (h.1) finite, rw (h.1) alike)) }
-      agrees (Insert k v) = record {
+      pub one_key_agrees : (c : Call K V F) → AgreesOn cmp gives c m n r
+      one_key_agrees (Get k) = record { answered = λ a. (m, (rw (alike k) a, refl), (finite, alike)); allowed = λ l h. (rw (alike k) at (h.0), (rw (h.1) finite, rw (h.1) alike)) }
+      one_key_agrees (GetKeyValue k) = record { answered = λ a. (m, (rw (alike k) a, refl), (finite, alike)); allowed = λ l h. (rw (alike k) at (h.0), (rw (h.1) finite, rw (h.1) alike)) }
+      one_key_agrees (ContainsKey k) = record { answered = λ a. (m, (rw (alike k) a, refl), (finite, alike)); allowed = λ l h. (rw (alike k) at (h.0), (rw (h.1) finite, rw (h.1) alike)) }
+      one_key_agrees (Insert k v) = record {
         answered = λ a. (with_pair cmp m k v, (rw (alike k) a, refl), (IsFiniteMap-with_pair total m k v finite, written k v));
         allowed = λ l h. (rw (alike k) at (h.0), (rw (h.1) (IsFiniteMap-with_pair total m k v finite), rw (h.1) (written k v)));
       }
-      agrees (TryInsert k v) = record {
+      one_key_agrees (TryInsert k v) = record {
         answered = λ a. rw (alike k) (tried k v (find cmp n k) refl a);
         allowed = λ l h. tries k v (find cmp n k) refl l (rw (alike k) at h);
       }
-      agrees (Compute k f) = record {
+      one_key_agrees (Compute k f) = record {
         answered = λ a. rw (alike k) (computed k f (find cmp n k) refl a);
         allowed = λ l h. computes k f (find cmp n k) refl l (rw (alike k) at h);
       }
-      agrees (Remove k) = record {
+      one_key_agrees (Remove k) = record {
         answered = λ a. (ordered.without cmp m k, (rw (alike k) a, refl), (IsFiniteMap-without total m k finite, removed k));
         allowed = λ l h. (rw (alike k) at (h.0), (rw (h.1) (IsFiniteMap-without total m k finite), rw (h.1) (removed k)));
       }
-      agrees (RemoveEntry k) = record {
+      one_key_agrees (RemoveEntry k) = record {
         answered = λ a. (ordered.without cmp m k, (rw (alike k) a, refl), (IsFiniteMap-without total m k finite, removed k));
         allowed = λ l h. (rw (alike k) at (h.0), (rw (h.1) (IsFiniteMap-without total m k finite), rw (h.1) (removed k)));
       }
-      agrees (RemoveSeen s) = record { answered = seen s; allowed = sees s }
-      agrees (Reserve a) = tt
-      agrees Clear = tt
-      agrees Walk = tt
-
-      pub one_key_agrees : (c : Call K V F) (o : OneKey K V F) → one_key_of c ≡ Some o → AgreesOn cmp gives c o m n r
-      one_key_agrees c o e = subst (λ x. MatchOption x ⊤ (λ p. AgreesOn cmp gives c p m n r)) e (agrees c)
+      one_key_agrees (RemoveSeen s) = record { answered = seen s; allowed = sees s }
+      one_key_agrees c = record { answered = λ h. absurd h; allowed = λ l h. absurd h }

@@ -4,7 +4,8 @@ use Rattle.std.specs.declared.cmp.Ordering.{Ordering}
 use Rattle.std.specs.Cmp.{IsTotalOrder}
 use Rattle.std.proofs.Common.{arith, refl, sym, ◌∙◌, ap, subst, inl, inr}
 use Rattle.std.proofs.lemmas.Bool.{eqb-true, eq-eqb, and_parts, lt-ltb}
-use Rattle.flurry_steps_theory.specs.Map.{Pairs, same, key_of, Allows}
+use Rattle.flurry_base.specs.OneKey.{key_of}
+use Rattle.flurry_steps_theory.specs.Map.{Pairs, same, Allows}
 use Rattle.flurry_steps_theory.specs.Trace.{names, pairs}
 use Rattle.flurry_steps_theory.specs.Bin.{pairs_of}
 use Rattle.flurry_steps_theory.specs.Machine.{State, Transition, Can, does, label, halves, Moved, Locating, Looking, Walking, Clearing, Done, Begins, Counts, Finds, Opens, FindsNothing, IsRefused, DecidesEmpty, Passes, Decides, Publishes, Reads, Leaves, Splits, Wipes, SplitsClear, Replies, Ends}

@@ -5,7 +5,8 @@ use Rattle.std.specs.Cmp.{IsTotalOrder}
 use Rattle.std.proofs.Common.{arith, refl, sym, ◌∙◌, ap, subst}
 use Rattle.std.proofs.lemmas.Bool.{eqb-true, eqb-false, eq-eqb, ne_eqb, cases_order, cond-true, cond-false, false_from_ne_true, and_parts, or_cases, and_from, and_cases, lt-ltb, ltb-true}
 use Rattle.std.proofs.lemmas.Nat.{mod_below, pow_pos}
-use Rattle.flurry_steps_theory.specs.Map.{same, find, after, key_of, Allows}
+use Rattle.flurry_base.specs.OneKey.{key_of}
+use Rattle.flurry_steps_theory.specs.Map.{same, find, after, Allows}
 use Rattle.flurry_steps_theory.specs.Trace.{map_after_decision, in_region, was_moved_in, pairs, at}
 use Rattle.flurry_steps_theory.specs.Bin.{Entry, pairs_of, IsAscending, InRegion, half}
 use Rattle.flurry_steps_theory.specs.Machine.{State, Slot, Claim, Transition, Adds, Can, does, at_bin, Live, Moved, Unborn, Frame, Opens, DecidesEmpty, Decides, Moves, Publishes, Wipes}

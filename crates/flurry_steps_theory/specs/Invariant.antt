@@ -1,7 +1,8 @@
 -- What is true of every state that the machine reaches.
 use Rattle.std.specs.Prelude.{⊤, length, ℕ, pos, ◌+ℤ◌, ◌-ℤ◌, suc, ◌+◌, ◌-◌, ◌%◌, ◌^◌, ◌<◌, ◌≤◌, ◌==◌, ◌&&◌, nat_le, nat_lt, if◌then◌else◌, Bool, true, false, List, [], ◌∷◌, Option, Some, None, is_some, option_map, ◌≡◌, ◌⊎◌}
 use Rattle.std.specs.declared.cmp.Ordering.{Ordering}
-use Rattle.flurry_steps_theory.specs.Map.{Unique, find, key_of}
+use Rattle.flurry_base.specs.OneKey.{key_of}
+use Rattle.flurry_steps_theory.specs.Map.{Unique, find}
 use Rattle.flurry_steps_theory.specs.Trace.{Trace, is_lookup, call_begun_by, decision, has_replied, has_closed, published_in, was_placed, was_moved_in, names, last_read, read_before, pairs, at}
 use Rattle.flurry_steps_theory.specs.Legal.{is_untouched, untouched_for, RemovalMay, HasRead, HasLacked, EachMay, Legal}
 use Rattle.flurry_steps_theory.specs.Bin.{Entry, number_of, pairs_of, IsAscending, InRegion, past}

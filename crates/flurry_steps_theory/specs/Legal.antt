@@ -1,7 +1,8 @@
 -- The laws of a trace: for each label, what has to hold of the labels before it. The list has the newest label first.
 use Rattle.std.specs.Prelude.{⊤, length, ℕ, suc, Bool, true, false, not, ◌&&◌, ◌||◌, [], ◌∷◌, Option, Some, None, if◌then◌else◌, IfSome, IsSome, IsNone, IsTrue, ◌≡◌, ◌==◌, ◌^◌, ◌<◌, ◌⊎◌}
 use Rattle.std.specs.declared.cmp.Ordering.{Ordering}
-use Rattle.flurry_steps_theory.specs.Map.{same, key_of, Allows, CanBeRefused}
+use Rattle.flurry_base.specs.OneKey.{key_of}
+use Rattle.flurry_steps_theory.specs.Map.{same, Allows, CanBeRefused}
 use Rattle.flurry_steps_theory.specs.Trace.{Trace, in_region, call_begun_by, decision, has_replied, has_closed, begins, names, last_read, read_before, published_in, was_placed, was_moved_in, pairs, at}
 use Rattle.flurry_base.specs.declared.call.Call.{Call}
 use Rattle.flurry_base.specs.declared.call.Call.TheVariants.{Insert, TryInsert, Compute, Remove, RemoveEntry, RemoveSeen, Clear, Walk}

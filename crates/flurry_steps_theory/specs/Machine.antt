@@ -2,7 +2,8 @@
 -- party counts, and for whom, when it helps or begins a growth, and whether memory is refused where it may be.
 use Rattle.std.specs.Prelude.{⊤, length, ℕ, ℤ, pos, ◌+ℤ◌, ◌-ℤ◌, zero, suc, ◌+◌, ◌-◌, ◌%◌, ◌^◌, ◌<◌, ◌≤◌, ◌==◌, nat_lt, Bool, true, false, ◌&&◌, List, [], ◌∷◌, Option, Some, None, is_some, IsSome, IsNone, if◌then◌else◌, ◌≡◌, ◌⊎◌}
 use Rattle.std.specs.declared.cmp.Ordering.{Ordering}
-use Rattle.flurry_steps_theory.specs.Map.{same, find, key_of, after, Allows, CanBeRefused}
+use Rattle.flurry_base.specs.OneKey.{key_of}
+use Rattle.flurry_steps_theory.specs.Map.{same, find, after, Allows, CanBeRefused}
 use Rattle.flurry_steps_theory.specs.Trace.{is_lookup, Trace}
 use Rattle.flurry_steps_theory.specs.Bin.{Entry, number_of, bump, has_number, pairs_of, first_past, IsAscending, InRegion, half}
 use Rattle.flurry_steps_theory.specs.Legal.{IsOneKey, IsWalk, IsClear, changes, removes}

@@ -17,19 +17,6 @@ answers {K} {V} g f k v o = (x : Bor K) × (y : Bor V) × (x.now ≡ k) × (y.no
 abbrev pub Pairs : Type 0 → Type 0 → Type 0
 Pairs K V = List (K × V)
 
--- the key of a one-key call; none for a reserve, a clear or a walk
-abbrev pub key_of : {K V F : Type 0} → Call K V F → Option K
-key_of (Get k) = Some k
-key_of (GetKeyValue k) = Some k
-key_of (ContainsKey k) = Some k
-key_of (Insert k v) = Some k
-key_of (TryInsert k v) = Some k
-key_of (Compute k f) = Some k
-key_of (Remove k) = Some k
-key_of (RemoveEntry k) = Some k
-key_of (RemoveSeen s) = Some s.key
-key_of _ = None
-
 module _ {K : Type 0} (cmp : K → K → Ordering) where
   -- the two keys are of one class
   abbrev pub same : K → K → Bool

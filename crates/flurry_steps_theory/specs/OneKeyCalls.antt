@@ -1,26 +1,11 @@
 -- The one-key calls of a trace, as the calls on a finite map that is kept in the order of its keys.
-use Rattle.std.specs.Prelude.{◌≡◌, List, Option, Some, None}
+use Rattle.std.specs.Prelude.{◌≡◌, List, Option}
 use Rattle.std.specs.declared.cmp.Ordering.{Ordering}
 use Rattle.flurry_base.specs.FiniteMap.{IsFiniteMap, pair_at}
-use Rattle.flurry_base.specs.OneKey as one
-use Rattle.flurry_base.specs.OneKey.{OneKey, Answers}
+use Rattle.flurry_base.specs.OneKey.{Answers}
 use Rattle.flurry_base.specs.declared.reply.KeptReply.{KeptReply}
 use Rattle.flurry_steps_theory.specs.Map.{Pairs, find, after, Allows}
 use Rattle.flurry_base.specs.declared.call.Call.{Call}
-use Rattle.flurry_base.specs.declared.call.Call.TheVariants as call
-
--- the call, if it is one of one key
-abbrev pub one_key_of : {K V F : Type 0} → Call K V F → Option (OneKey K V F)
-one_key_of (call.Get k) = Some (one.Get k)
-one_key_of (call.GetKeyValue k) = Some (one.GetKeyValue k)
-one_key_of (call.ContainsKey k) = Some (one.ContainsKey k)
-one_key_of (call.Insert k v) = Some (one.Insert k v)
-one_key_of (call.TryInsert k v) = Some (one.TryInsert k v)
-one_key_of (call.Compute k f) = Some (one.Compute k f)
-one_key_of (call.Remove k) = Some (one.Remove k)
-one_key_of (call.RemoveEntry k) = Some (one.RemoveEntry k)
-one_key_of (call.RemoveSeen s) = Some (one.RemoveSeen s.key)
-one_key_of _ = None
 
 module _ {K V : Type 0} (cmp : K → K → Ordering) where
   -- the list m has at each class what the pairs n have there
@@ -32,10 +17,10 @@ module _ {K V : Type 0} (cmp : K → K → Ordering) where
     abbrev pub IsMapAfter : Call K V F → KeptReply K V → Pairs K V → List (K × V) → Type 0
     IsMapAfter c r n m = IsFiniteMap cmp m × HasSamePairs m (after cmp c r n)
 
-    -- The call c of a trace, on the pairs n, and the call o of one key, on the finite map m: either may reply r where the other may,
-    -- and leaves the same.
-    pub record AgreesOn (gives : F → K → V → Option V → Type 0) (c : Call K V F) (o : OneKey K V F) (m : List (K × V)) (n : Pairs K V) (r : KeptReply K V) : Type 0 where
+    -- The call c of a trace, on the pairs n, and the same call on the finite map m: either may reply r where the other may, and leaves
+    -- the same.
+    pub record AgreesOn (gives : F → K → V → Option V → Type 0) (c : Call K V F) (m : List (K × V)) (n : Pairs K V) (r : KeptReply K V) : Type 0 where
       -- whatever a trace allows, the finite map replies
-      pub answered : Allows cmp gives c n r → (l : List (K × V)) × Answers cmp gives o m r l × IsMapAfter c r n l
+      pub answered : Allows cmp gives c n r → (l : List (K × V)) × Answers cmp gives c m r l × IsMapAfter c r n l
       -- whatever the finite map replies, a trace allows, and however the finite map is left, the trace has these pairs
-      pub allowed : (l : List (K × V)) → Answers cmp gives o m r l → Allows cmp gives c n r × IsMapAfter c r n l
+      pub allowed : (l : List (K × V)) → Answers cmp gives c m r l → Allows cmp gives c n r × IsMapAfter c r n l

@@ -2,10 +2,9 @@
 ghost use Rattle.std.specs.Prelude.{◌≡◌, ℕ, pos, neg_ℤ, ◌≤ℤ◌, Bool, true, ◌<◌, ◌≤◌, List, ◌++◌, length, Option, Some, None, if◌then◌else◌};
 ghost use Rattle.flurry_base.specs.declared.reply.KeptReply.{KeptReply};
 ghost use Rattle.flurry_base.specs.FiniteMap.{IsFiniteMap, map_of_pairs};
-ghost use Rattle.flurry_base.specs.OneKey.{OneKey};
 ghost use Rattle.flurry_base.specs.declared.call.Call.{Call};
 ghost use Rattle.flurry_steps_theory.specs.Map.{Pairs, same, answers};
-ghost use Rattle.flurry_steps_theory.specs.OneKeyCalls.{one_key_of, HasSamePairs, AgreesOn};
+ghost use Rattle.flurry_steps_theory.specs.OneKeyCalls.{HasSamePairs, AgreesOn};
 ghost use Rattle.flurry_steps_theory.specs.Trace.{pairs};
 ghost use Rattle.flurry_steps_theory.specs.Machine.{Finished, Transition, WasPublished};
 ghost use Rattle.flurry_steps_theory.specs.Invariant.{Inv, CanAll, after_all, new_world};
@@ -71,9 +70,9 @@ pub fn count_stays_within_labels<K: Ord, V, F: Fn(&K, &V) -> Option<V>>()
 /// If both have the same pair at each class, each may reply exactly what the other may, and both have the same pairs after the call. Any
 /// pairs are those of some finite map, and a list that is looked up in either way has the same pair at each class.
 pub fn one_key_calls_agree<K: Ord, V, F: Fn(&K, &V) -> Option<V>>()
-    ensures calls { (c : Call K V F) (o : OneKey K V F) (m : List (K × V)) (n : Pairs K V) (r : KeptReply K V)
-        → one_key_of c ≡ Some o → IsFiniteMap K.cmp m → HasSamePairs K.cmp m n
-        → AgreesOn K.cmp (answers F.Fn) c o m n r }
+    ensures calls { (c : Call K V F) (m : List (K × V)) (n : Pairs K V) (r : KeptReply K V)
+        → IsFiniteMap K.cmp m → HasSamePairs K.cmp m n
+        → AgreesOn K.cmp (answers F.Fn) c m n r }
     ensures maps { (n : Pairs K V) → IsFiniteMap K.cmp (map_of_pairs K.cmp n)
         × HasSamePairs K.cmp (map_of_pairs K.cmp n) n }
     ensures lookups { (m : List (K × V)) → HasSamePairs K.cmp m m }

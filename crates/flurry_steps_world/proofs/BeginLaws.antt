@@ -1,16 +1,15 @@
 -- A call before its first step.
 use Rattle.std.specs.Prelude.{◌≡◌, ℕ, List, slice_get, Some, None}
 use Rattle.std.proofs.Common.{refl, sym, ◌∙◌, ap}
-use Rattle.flurry_steps.specs.Party.{RemovesSeen, AtLocate, PartyState, last_seen}
-use Rattle.flurry_steps.specs.PartyView.{owned_stage}
+use Rattle.flurry_steps.specs.Party.{RemovesSeen, AtLocate, PartyState, last_seen, stage_of_call}
+use Rattle.flurry_steps.specs.PartyView.{plain_of_owned}
 use Rattle.flurry_steps.specs.declared.party.call.OwnedCall.{OwnedCall}
 use Rattle.flurry_steps.specs.declared.party.call.OwnedCall.TheVariants as owned
 use Rattle.flurry_base.specs.declared.call.Call.{Call}
 use Rattle.flurry_base.specs.declared.call.Call.TheVariants as call
 use Rattle.flurry_base.specs.declared.call.Seen.{Seen}
 use Rattle.flurry_steps_theory.specs.Machine.{Locating}
-use Rattle.flurry_steps_theory.specs.Map.{key_of}
-use Rattle.flurry_steps_world.specs.Runs.{theory_call, hash_for}
+use Rattle.flurry_base.specs.OneKey.{key_of, hash_of_call}
 use Rattle.flurry_steps_world.specs.World.{PartyRecord, seen_in, mode_of_stage, FollowsStage}
 use Rattle.flurry_steps_world.proofs.StateLaws.{held_of_stage, same_some}
 
@@ -24,21 +23,21 @@ pub record IsBeginning {K V F : Type 0} (hash : K → ℕ) (d : Call K V F) (c :
 
 module _ {K V F : Type 0} where
   -- the stage of a call that has its key
-  pub fresh_stage : (hash : K → ℕ) (c : OwnedCall K V F) → FollowsStage hash (theory_call c) (owned_stage c) × (mode_of_stage (owned_stage c) ≡ Locating) × (held_of_stage (owned_stage c) ≡ (None, None)) × (last_seen (owned_stage c) ≡ None)
+  pub fresh_stage : (hash : K → ℕ) (c : OwnedCall K V F) → FollowsStage hash (plain_of_owned c) (stage_of_call (plain_of_owned c)) × (mode_of_stage (stage_of_call (plain_of_owned c)) ≡ Locating) × (held_of_stage (stage_of_call (plain_of_owned c)) ≡ (None, None)) × (last_seen (stage_of_call (plain_of_owned c)) ≡ None)
   fresh_stage hash (owned.Get j) = (refl, refl, refl, refl)
   fresh_stage hash owned.Clear = (((refl, refl), refl), refl, refl, refl)
   fresh_stage hash owned.Walk = ((refl, tt), refl, refl, refl)
   fresh_stage hash c = (refl, refl, refl, refl)
 
   -- it goes by its key's hash
-  pub own_hash : (hash : K → ℕ) (c : OwnedCall K V F) (k : K) → key_of (theory_call c) ≡ Some k → hash_for hash c ≡ hash k
+  pub own_hash : (hash : K → ℕ) (c : OwnedCall K V F) (k : K) → key_of (plain_of_owned c) ≡ Some k → hash_of_call hash (plain_of_owned c) ≡ hash k
   own_hash hash (owned.Reserve n) k h = cc
   own_hash hash owned.Clear k h = cc
   own_hash hash owned.Walk k h = cc
   own_hash hash c k h = ap hash (same_some h)
 
   -- a call that has its key
-  pub owned_begins : (hash : K → ℕ) (n : ℕ) (c : OwnedCall K V F) → IsBeginning hash (theory_call c) (record { hash = hash_for hash c; processors = n; helped = None; stage = owned_stage c })
+  pub owned_begins : (hash : K → ℕ) (n : ℕ) (c : OwnedCall K V F) → IsBeginning hash (plain_of_owned c) (record { hash = hash_of_call hash (plain_of_owned c); processors = n; helped = None; stage = stage_of_call (plain_of_owned c) })
   owned_begins hash n c =
       let (follows, mode, held, unread) = fresh_stage hash c in
       record { own_hash = own_hash hash c; follows = follows; mode = mode; held = held; unread = unread }

@@ -5,11 +5,11 @@ use Rattle.std.proofs.Common.{refl, sym, ap, subst, inl}
 use Rattle.flurry_base.specs.declared.reply.KeptReply.{KeptReply}
 use Rattle.flurry_base.specs.declared.reply.KeptReply.TheVariants.{Value}
 use Rattle.flurry_steps_theory.specs.Machine.{Looking, mode_at_table, MayOpen, Adds as AddsPair}
-use Rattle.flurry_steps_theory.specs.Map.{key_of, Allows}
+use Rattle.flurry_base.specs.OneKey.{key_of}
+use Rattle.flurry_steps_theory.specs.Map.{Allows}
 use Rattle.flurry_base.specs.declared.call.Call.{Call}
 use Rattle.flurry_base.specs.declared.call.Call.TheVariants.{Insert, TryInsert, RemoveSeen, Reserve, Clear, Walk}
-use Rattle.flurry_steps.specs.Party.{Task, Finds, Removes, Inserts, Adds, reply_for}
-use Rattle.flurry_steps_world.specs.World.{task_of_call}
+use Rattle.flurry_steps.specs.Party.{Task, Finds, Removes, Inserts, Adds, reply_for, task_of_call}
 
 -- it adds nothing to an empty map
 abbrev pub AddsNothing : {K V F : Type 0} → Task K V F → Type 0

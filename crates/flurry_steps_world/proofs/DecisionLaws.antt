@@ -16,10 +16,11 @@ use Rattle.flurry_base.proofs.HashOrderLaws.{hash_then_key_total}
 use Rattle.flurry_bins_slots.specs.Slot as slot
 use Rattle.flurry_bins_slots.specs.Slot.{PlainEntry, Live, ComputeOutcome, WasAbsent, WasRemoved, WasChanged, next_number, entry_of_live, after_write, after_take, asks, is_unwritten_since}
 use Rattle.flurry_steps_sweep.specs.Outcome.{OutcomeReply}
-use Rattle.flurry_steps.specs.Party.{AnswerForm, TheValue, ThePair, Presence, Task, Finds, Removes, RemovesSeen, Inserts, Adds, Computes, Stage, AtDone, reply_for, outcome_in, IsWriter}
+use Rattle.flurry_steps.specs.Party.{AnswerForm, TheValue, ThePair, Presence, Task, Finds, Removes, RemovesSeen, Inserts, Adds, Computes, Stage, AtDone, reply_for, outcome_in, IsWriter, task_of_call}
 use Rattle.flurry_steps.specs.PartySlots as party
 use Rattle.flurry_steps.specs.PartySlots.{DecidesAt, GoesOnNew, GoesOnWritten, GoesOnAdded, stage_taken, stage_computed, stage_moved}
-use Rattle.flurry_steps_theory.specs.Map.{same, find, key_of, Allows, CanBeRefused}
+use Rattle.flurry_base.specs.OneKey.{key_of}
+use Rattle.flurry_steps_theory.specs.Map.{same, find, Allows, CanBeRefused}
 use Rattle.flurry_steps_theory.specs.Trace.{is_lookup}
 use Rattle.flurry_steps_theory.specs.Bin.{Entry, pairs_of, bump, number_of, has_number, InRegion, leave_out, bin_after}
 use Rattle.flurry_steps_theory.specs.Machine.{BinDid, Looking, Done}
@@ -29,7 +30,7 @@ use Rattle.flurry_base.specs.declared.call.Call.{Call}
 use Rattle.flurry_base.specs.declared.call.Call.TheVariants.{Get, GetKeyValue, ContainsKey, Insert, TryInsert, Compute, Remove, RemoveEntry, RemoveSeen, Clear}
 use Rattle.flurry_steps_theory.proofs.BinSteps.{bin_did}
 use Rattle.flurry_steps_world.specs.Entries.{entries_of_held, IsHashed}
-use Rattle.flurry_steps_world.specs.World.{task_of_call, mode_of_stage, HasDecided, FollowsStage}
+use Rattle.flurry_steps_world.specs.World.{mode_of_stage, HasDecided, FollowsStage}
 use Rattle.flurry_steps_world.proofs.StateLaws.{held_of_stage}
 use Rattle.flurry_steps_world.proofs.EntryLaws.{next_number-bump, length-entries_of_held, InRegion-entries, IsAscending-entries, find-entries, number-entries, place-entries, rewrite-entries, write-entries, leave_out-none, leave_out-entries, IsHashed-with_pair, IsHashed-without}
 

@@ -8,7 +8,7 @@ use Rattle.flurry_bins_slots.specs.Slot.{IsLive}
 use Rattle.std.proofs.lemmas.List.{set-get_or}
 use Rattle.flurry_steps_control.specs.Control.{ControlState, after_open, GrowthIsIn}
 use Rattle.flurry_steps_sweep.specs.Outcome.{OutcomeReply, OutcomeRefused}
-use Rattle.flurry_steps.specs.Party.{Task, Finds, Removes, RemovesSeen, Inserts, Adds, Computes, ForReserve, Stage, AtLocate, AtBin, AtGrow, AtReserve, AtDone, PartyState, reply_for}
+use Rattle.flurry_steps.specs.Party.{Task, Finds, Removes, RemovesSeen, Inserts, Adds, Computes, ForReserve, Stage, AtLocate, AtBin, AtGrow, AtReserve, AtDone, PartyState, reply_for, task_of_call}
 use Rattle.flurry_steps.specs.PartyControl.{OpensFor, LocatesNone, MakesFor, ReservesFor}
 use Rattle.flurry_steps_sweep.specs.declared.step.Event.{Event}
 use Rattle.flurry_steps_sweep.specs.declared.step.Event.TheVariants as event
@@ -20,7 +20,7 @@ use Rattle.flurry_steps_theory.specs.declared.Label.{Label}
 use Rattle.flurry_steps_theory.specs.declared.Label.TheVariants as label
 use Rattle.flurry_steps_world.specs.Entries.{slot_of, IsHashed}
 use Rattle.flurry_steps_world.specs.Tables.{Tables, content_at, is_made, fresh, with_table, MadeGives, PlaceGives}
-use Rattle.flurry_steps_world.specs.World.{PartyRecord, WorldState, state_of, task_of_call, mode_of_stage, FollowsStage, IsWorld, history}
+use Rattle.flurry_steps_world.specs.World.{PartyRecord, WorldState, state_of, mode_of_stage, FollowsStage, IsWorld, history}
 use Rattle.flurry_steps_world.specs.Steps.{label_of}
 use Rattle.flurry_steps_world.proofs.StateLaws.{held_of_stage}
 use Rattle.flurry_steps_world.proofs.CallLaws.{AddsNothing, empty_reply, found_task, key_of_task, opens_first, empty_allowed}

@@ -100,8 +100,8 @@ module _ {K V F R : Type 0} (place : R → ℕ → Option ℕ → Bool → R →
 
 module _ {K V F : Type 0} (cmp : K → K → Ordering) (changes : F → K → V → Option V → Type 0) (p : ℕ) (c : PartyState K V F) (s : Parts K V) (ev : Event) (s' : Parts K V) (c' : PartyState K V F) where
   -- a turn over one owner's parts is what a world does in one step of a party
-  pub course_step : Turn PlaceGives cmp changes OwnLends s c ev s' c' → StepByStage cmp changes p c.stage c s.control_state s.tables (label_of p ev c'.stage) c' s'.control_state s'.tables
-  course_step turn = by_stage c.stage refl
+  pub step_of_turn : Turn PlaceGives cmp changes OwnLends s c ev s' c' → StepByStage cmp changes p c.stage c s.control_state s.tables (label_of p ev c'.stage) c' s'.control_state s'.tables
+  step_of_turn turn = by_stage c.stage refl
     where
       part : PartStep cmp changes (wanted_part c) c s.control_state s.tables ev c' s'.control_state s'.tables
       part = own_part PlaceGives cmp changes (λ r. r) (λ r e g ok r' h. h) s s' c c' ev turn.loan turn.lent.0 turn.lent.1 turn.step

@@ -6,18 +6,19 @@ use Rattle.std.proofs.Common.{arith, refl, sym, ◌∙◌, ap, subst}
 use Rattle.std.proofs.lemmas.Bool.{eqb-true}
 use Rattle.flurry_bins_slots.specs.Slot as slots
 use Rattle.flurry_bins_slots.specs.Slot.{SlotState, Content, IsLive, HasMoved, IsUnborn, IsLiveIn, IsContent}
-use Rattle.flurry_steps.specs.Party.{Task, AtBin, PartyState, outcome_in}
+use Rattle.flurry_steps.specs.Party.{Task, AtBin, PartyState, outcome_in, task_of_call}
 use Rattle.flurry_steps.specs.PartySlots as party
 use Rattle.flurry_steps.specs.PartySlots.{DecidesAt, LiveGives, ContentGives}
 use Rattle.flurry_steps_sweep.specs.declared.step.Event.{Event}
 use Rattle.flurry_steps_sweep.specs.declared.step.Event.TheVariants as event
-use Rattle.flurry_steps_theory.specs.Map.{same, key_of}
+use Rattle.flurry_base.specs.OneKey.{key_of}
+use Rattle.flurry_steps_theory.specs.Map.{same}
 use Rattle.flurry_steps_theory.specs.Machine.{Live, Looking, Decides, Passes, IsRefused, RefusedAt, at_bin}
 use Rattle.flurry_steps_theory.specs.Invariant.{is_live, key_in, writes_in, NamesNoUnborn}
 use Rattle.flurry_steps_theory.proofs.NoUnbornBin.{looks_at}
 use Rattle.flurry_steps_world.specs.Entries.{slot_of, entries_of_held, IsHashed}
 use Rattle.flurry_steps_world.specs.Tables.{Tables, AreTables, slots_of, content_at}
-use Rattle.flurry_steps_world.specs.World.{PartyRecord, WorldState, state_of, task_of_call, mode_of_stage, FollowsStage, IsWorld}
+use Rattle.flurry_steps_world.specs.World.{PartyRecord, WorldState, state_of, mode_of_stage, FollowsStage, IsWorld}
 use Rattle.flurry_steps_world.specs.Steps.{label_of, decide_label}
 use Rattle.flurry_steps_world.proofs.StateLaws.{held_of_stage}
 use Rattle.flurry_steps_world.proofs.CallLaws.{key_of_task}

@@ -2,13 +2,13 @@
 use Rattle.std.specs.Prelude.{◌≡◌, ℕ, false, Option, Some, None, IsNone, IsSome, ⊤}
 use Rattle.std.proofs.Common.{arith, refl, sym, ◌∙◌, ap, subst}
 use Rattle.flurry_steps_sweep.specs.Sweep.{Errand, Reads, Wipes}
-use Rattle.flurry_steps.specs.Party.{ForInsert, ForReserve, Resume, ThenBin, ThenRecount, ThenGrow, Stage, AtLocate, AtBin, AtHelp, AtGrow, AtReserve, AtSweep, AtDone, AtTaken, last_seen, IsSingle}
-use Rattle.flurry_steps_theory.specs.Map.{key_of}
+use Rattle.flurry_steps.specs.Party.{ForInsert, ForReserve, Resume, ThenBin, ThenRecount, ThenGrow, Stage, AtLocate, AtBin, AtHelp, AtGrow, AtReserve, AtSweep, AtDone, AtTaken, last_seen, IsSingle, task_of_call}
+use Rattle.flurry_base.specs.OneKey.{key_of}
 use Rattle.flurry_steps_theory.specs.Trace.{is_lookup}
 use Rattle.flurry_base.specs.declared.call.Call.{Call}
 use Rattle.flurry_base.specs.declared.call.Call.TheVariants as call
 use Rattle.flurry_base.specs.declared.call.Seen.{Seen}
-use Rattle.flurry_steps_world.specs.World.{task_of_call, FollowsResume, FollowsErrand, FollowsStage}
+use Rattle.flurry_steps_world.specs.World.{FollowsResume, FollowsErrand, FollowsStage}
 
 -- the call does not go over all bins, and has not ended
 abbrev pub IsGoingSingle : {K V F : Type 0} → Stage K V F → Type 0
@@ -56,9 +56,9 @@ module _ {K V F : Type 0} where
   single_unread s h = refl
 
   -- a walk and a clear have no key
-  pub keyless : (c : Call K V F) (w : Errand) (z : Option (Seen K V)) → FollowsErrand c w z → IsNone (key_of c)
-  keyless c Reads z f = subst (λ d. IsNone (key_of d)) (sym f) refl
-  keyless c (Wipes n) z f = subst (λ d. IsNone (key_of d)) (sym f.0) refl
+  pub no_key : (c : Call K V F) (w : Errand) (z : Option (Seen K V)) → FollowsErrand c w z → IsNone (key_of c)
+  no_key c Reads z f = subst (λ d. IsNone (key_of d)) (sym f) refl
+  no_key c (Wipes n) z f = subst (λ d. IsNone (key_of d)) (sym f.0) refl
 
   -- and look nothing up
   pub looks_not : (c : Call K V F) (w : Errand) (z : Option (Seen K V)) → FollowsErrand c w z → is_lookup (Some c) ≡ false

@@ -10,7 +10,8 @@ use Rattle.flurry_steps_sweep.specs.Cursor.{CursorState}
 use Rattle.flurry_steps_sweep.specs.Sweep as swept
 use Rattle.flurry_steps_sweep.specs.Sweep.{Errand, Reads, Wipes, SweepStage, AtOutset, OverBins, AtTotal, AtEnd, AfterEnd, SweepState, IsUnderWay}
 use Rattle.flurry_steps.specs.Party.{Task, Finds, Removes, RemovesSeen, Inserts, Adds, Computes, Moving, Resume, Stage, AtBin, AtHelp, AtSweep, AtDone, AtTaken, part_of, wanted_part, bin_part, move_part}
-use Rattle.flurry_steps_theory.specs.Map.{same, key_of}
+use Rattle.flurry_base.specs.OneKey.{key_of}
+use Rattle.flurry_steps_theory.specs.Map.{same}
 use Rattle.flurry_steps_theory.specs.Invariant.{is_live, key_in, NamesNoUnborn}
 use Rattle.flurry_steps_theory.proofs.Bins.{double}
 use Rattle.flurry_steps_theory.proofs.NoUnbornBin.{looks_at}

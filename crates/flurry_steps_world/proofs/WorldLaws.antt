@@ -10,7 +10,8 @@ use Rattle.flurry_steps_sweep.specs.Outcome.{Outcome, OutcomeReply, OutcomeEnded
 use Rattle.flurry_steps_sweep.specs.Sweep as sweep
 use Rattle.flurry_steps_sweep.specs.Sweep.{SweepState, SweepStage, AtOutset, OverBins, AtTotal, AtEnd, AfterEnd}
 use Rattle.flurry_steps.specs.Party.{Stage, AtSweep, AtDone, AtTaken, PartyState, with_stage, taken_stage, last_seen, part_of, IsSingle}
-use Rattle.flurry_steps_theory.specs.Map.{same, key_of}
+use Rattle.flurry_base.specs.OneKey.{key_of}
+use Rattle.flurry_steps_theory.specs.Map.{same}
 use Rattle.flurry_steps_theory.specs.Machine.{Can, Locating, Done, Finished, Begins, Quiet, Loses, Replies, Ends, at_place, does}
 use Rattle.flurry_steps_theory.specs.Invariant.{Inv}
 use Rattle.flurry_base.specs.declared.call.Call.{Call}
@@ -27,7 +28,7 @@ use Rattle.flurry_steps_world.specs.Steps.{with_label, with_loss, with_step, wit
 use Rattle.flurry_steps_world.proofs.StateLaws.{held_of_stage, same_place, same_some, get_set, read_set}
 use Rattle.flurry_steps_world.proofs.TransitionLaws.{is_quiet, is_replied, is_ended}
 use Rattle.flurry_steps_world.proofs.Frames.{same_frame, StepOf, step_of, does_one, kept}
-use Rattle.flurry_steps_world.proofs.SweepLaws.{IsGoingSingle, no_walk, no_seen, single_unread, keyless}
+use Rattle.flurry_steps_world.proofs.SweepLaws.{IsGoingSingle, no_walk, no_seen, single_unread, no_key}
 use Rattle.flurry_steps_world.proofs.SweepCases.{swept_step}
 use Rattle.flurry_steps_world.proofs.Cases.{calls, in_mode, in_claim}
 use Rattle.flurry_steps_world.proofs.PartyCases.{taken}
@@ -269,7 +270,7 @@ module _ {K V F S : Type 0} (cmp : K → K → Ordering) (total : IsTotalOrder c
 
         swept : (q : Outcome K V) → u.stage ≡ AtEnd q → StepOf cmp hash gives w p x w.control_state w.tables after (closing_label p q)
         swept (OutcomeReply q) h = absurd (subst (λ z. FollowsSweep hash z u.errand) h own.1)
-        swept OutcomeEnded h = ends p x at (AtSweep u) e (ap (λ z. mode_of_sweep z u.errand) h) refl (keyless x.call u.errand u.last own.0) after refl stays (ap mode_of_stage to) (ap held_of_stage to) follows_on
+        swept OutcomeEnded h = ends p x at (AtSweep u) e (ap (λ z. mode_of_sweep z u.errand) h) refl (no_key x.call u.errand u.last own.0) after refl stays (ap mode_of_stage to) (ap held_of_stage to) follows_on
         swept OutcomeRefused h = finished p x at (AtSweep u) e (ap (λ z. mode_of_sweep z u.errand) h) refl after refl stays (ap mode_of_stage to) (ap held_of_stage to) follows_on
     sweeps u e AfterEnd f l c b t (g, y, z, v) = rw (g, y, z, v) (finished p x at (AtSweep u) e (ap (λ z. mode_of_sweep z u.errand) f) refl x.party_state refl refl (ap mode_of_stage e ∙ ap (λ z. mode_of_sweep z u.errand) f) (ap held_of_stage e) (k.party_records p x at).stage)
 

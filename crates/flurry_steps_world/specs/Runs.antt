@@ -1,12 +1,11 @@
 -- How a world begins, how calls begin in it, and what a list of steps does.
 use Rattle.std.specs.Prelude.{◌≡◌, ◌⊎◌, ℕ, ◌^◌, ◌≤◌, ◌++◌, List, [], ◌∷◌, length, slice_get, Option, Some, None, MatchOption, ⊤}
 use Rattle.std.specs.declared.cmp.Ordering.{Ordering}
+use Rattle.flurry_base.specs.OneKey.{hash_of_call}
 use Rattle.flurry_base.specs.Sizes.{wanted_of}
-use Rattle.flurry_steps.specs.Party.{RemovesSeen, AtLocate}
-use Rattle.flurry_steps.specs.PartyView.{owned_stage, OwnedIsReady}
+use Rattle.flurry_steps.specs.Party.{RemovesSeen, AtLocate, stage_of_call}
+use Rattle.flurry_steps.specs.PartyView.{OwnedIsReady, plain_of_owned}
 use Rattle.flurry_steps.specs.declared.party.call.OwnedCall.{OwnedCall}
-use Rattle.flurry_steps.specs.declared.party.call.OwnedCall.TheVariants as owned
-use Rattle.flurry_base.specs.declared.call.Call.{Call}
 use Rattle.flurry_base.specs.declared.call.Call.TheVariants as call
 use Rattle.flurry_base.specs.declared.call.Seen.{Seen}
 use Rattle.flurry_steps_world.specs.Tables.{no_tables, with_table}
@@ -17,32 +16,6 @@ use Rattle.flurry_steps_world.specs.declared.world.Step.TheVariants as step
 use Rattle.flurry_base.specs.declared.sizes.TheConstants.{MAX_TABLE}
 
 module _ {K V F : Type 0} where
-  -- the call as labels keep it
-  abbrev pub theory_call : OwnedCall K V F → Call K V F
-  theory_call (owned.Get k) = call.Get k
-  theory_call (owned.GetKeyValue k) = call.GetKeyValue k
-  theory_call (owned.ContainsKey k) = call.ContainsKey k
-  theory_call (owned.Remove k) = call.Remove k
-  theory_call (owned.RemoveEntry k) = call.RemoveEntry k
-  theory_call (owned.Insert k v) = call.Insert k v
-  theory_call (owned.TryInsert k v) = call.TryInsert k v
-  theory_call (owned.Compute k f) = call.Compute k f
-  theory_call (owned.Reserve n) = call.Reserve n
-  theory_call owned.Clear = call.Clear
-  theory_call owned.Walk = call.Walk
-
-  -- the hash by which it goes: that of its key; a call without a key has none
-  abbrev pub hash_for : (K → ℕ) → OwnedCall K V F → ℕ
-  hash_for hash (owned.Get k) = hash k
-  hash_for hash (owned.GetKeyValue k) = hash k
-  hash_for hash (owned.ContainsKey k) = hash k
-  hash_for hash (owned.Remove k) = hash k
-  hash_for hash (owned.RemoveEntry k) = hash k
-  hash_for hash (owned.Insert k v) = hash k
-  hash_for hash (owned.TryInsert k v) = hash k
-  hash_for hash (owned.Compute k f) = hash k
-  hash_for hash _ = 0
-
   -- the function of a call that begins, if it has one, may be called
   abbrev pub StepIsReady : (F → Type 0) → Step K V F → Type 0
   StepIsReady ready (step.Begin c) = OwnedIsReady ready c
@@ -59,7 +32,7 @@ module _ {K V F S : Type 0} where
 
   -- the world after a call began, before its first step
   abbrev pub begun_with : (K → ℕ) → WorldState K V F S → OwnedCall K V F → WorldState K V F S
-  begun_with hash w c = with_party_record w (theory_call c) None (record { hash = hash_for hash c; processors = w.processors; helped = None; stage = owned_stage c })
+  begun_with hash w c = with_party_record w (plain_of_owned c) None (record { hash = hash_of_call hash (plain_of_owned c); processors = w.processors; helped = None; stage = stage_of_call (plain_of_owned c) })
 
   -- the world after the removal of the pair z, which walk p had read last, has begun
   abbrev pub begun_to_drop : (K → ℕ) → WorldState K V F S → ℕ → Seen K V → WorldState K V F S

@@ -11,10 +11,10 @@ use Rattle.flurry_steps_sweep.specs.Outcome.{Outcome, OutcomeReply, OutcomeEnded
 use Rattle.flurry_steps_sweep.specs.Cursor as cursor
 use Rattle.flurry_steps_sweep.specs.Cursor.{CursorState}
 use Rattle.flurry_steps_sweep.specs.Sweep.{Errand, Reads, Wipes, SweepStage, AtOutset, OverBins, AtTotal, AtEnd, AfterEnd}
-use Rattle.flurry_steps.specs.Party.{TheValue, ThePair, Presence, Task, Finds, Removes, RemovesSeen, Inserts, Adds, Computes, GrowFor, ForInsert, ForReserve, Help, Moving, Publishing, Resume, ThenBin, ThenRecount, ThenGrow, Stage, AtLocate, AtBin, AtHelp, AtUncount, AtCount, AtRecount, AtBegin, AtGrow, AtReserve, AtSweep, AtDone, AtTaken, PartyState, last_seen}
+use Rattle.flurry_steps.specs.Party.{GrowFor, ForInsert, ForReserve, Help, Moving, Publishing, Resume, ThenBin, ThenRecount, ThenGrow, Stage, AtLocate, AtBin, AtHelp, AtUncount, AtCount, AtRecount, AtBegin, AtGrow, AtReserve, AtSweep, AtDone, AtTaken, PartyState, last_seen, task_of_call}
 use Rattle.flurry_steps_theory.specs.Machine as machine
 use Rattle.flurry_steps_theory.specs.Machine.{State, Mode, Locating, Looking, Walking, Clearing, Done, Finished}
-use Rattle.flurry_steps_theory.specs.Map.{key_of}
+use Rattle.flurry_base.specs.OneKey.{key_of}
 use Rattle.flurry_steps_theory.specs.Trace.{Trace, is_lookup}
 use Rattle.flurry_steps_theory.specs.Invariant.{Inv}
 use Rattle.flurry_base.specs.declared.call.Call.{Call}
@@ -46,20 +46,6 @@ pub record WorldState (K V F S : Type 0) : Type 0 where
   pub trace : List (Label K V F)
 
 -- ---- the machine's view of a call in progress
-
-module _ {K V F : Type 0} where
-  -- what a call of one key has to do
-  abbrev pub task_of_call : Call K V F → Option (Task K V F)
-  task_of_call (call.Get k) = Some (Finds TheValue k)
-  task_of_call (call.GetKeyValue k) = Some (Finds ThePair k)
-  task_of_call (call.ContainsKey k) = Some (Finds Presence k)
-  task_of_call (call.Insert k v) = Some (Inserts k v)
-  task_of_call (call.TryInsert k v) = Some (Adds k v)
-  task_of_call (call.Compute k f) = Some (Computes k f)
-  task_of_call (call.Remove k) = Some (Removes TheValue k)
-  task_of_call (call.RemoveEntry k) = Some (Removes ThePair k)
-  task_of_call (call.RemoveSeen z) = Some (RemovesSeen z)
-  task_of_call _ = None
 
 module _ {K : Type 0} where
   -- the part of a bin that is left to a walk or a clear: the machine's bound is a key alone

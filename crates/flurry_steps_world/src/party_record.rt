@@ -1,8 +1,9 @@
 //! A call of a world.
 ghost use Rattle.std.specs.Prelude.{◌≡◌, None, Some};
+ghost use Rattle.flurry_base.specs.OneKey.{hash_of_call};
+ghost use Rattle.flurry_steps.specs.PartyView.{plain_of_owned};
 ghost use Rattle.flurry_base.specs.declared.call.Call.TheVariants as call;
 ghost use Rattle.flurry_steps.specs.Party.{RemovesSeen, AtLocate};
-ghost use Rattle.flurry_steps_world.specs.Runs.{theory_call, hash_for};
 
 use flurry_base::call::Seen as KeptSeen;
 use flurry_base::hash::KeyHasher;
@@ -63,8 +64,8 @@ impl<'k, K: Copy + Drop, V: Copy + Drop, F: ComputeFn<K, V>, A: Allocator> Party
 }
 
 // The call as labels keep it.
-pub(crate) fn theory_call<K, V, F>(call: OwnedCall<K, V, F>) -> Call<K, V, F>
-    ensures { result ≡ theory_call call }
+pub(crate) fn plain_of_owned<K, V, F>(call: OwnedCall<K, V, F>) -> Call<K, V, F>
+    ensures { result ≡ plain_of_owned call }
 {
     match call {
         OwnedCall::Get(key) => Call::Get(key),
@@ -85,17 +86,10 @@ pub(crate) fn theory_call<K, V, F>(call: OwnedCall<K, V, F>) -> Call<K, V, F>
 ///
 /// Computes one hash of a key.
 pub fn hash_for<K: Ord, V, F, S: KeyHasher<K>>(hasher: &S, call: &OwnedCall<K, V, F>) -> u64
-    ensures { result ≡ hash_for (S.hash_of hasher.now) call.now }
+    ensures { result ≡ hash_of_call (S.hash_of hasher.now) (plain_of_owned call.now) }
 {
-    match call {
-        OwnedCall::Get(key)
-        | OwnedCall::GetKeyValue(key)
-        | OwnedCall::ContainsKey(key)
-        | OwnedCall::Remove(key)
-        | OwnedCall::RemoveEntry(key)
-        | OwnedCall::Insert(key, _)
-        | OwnedCall::TryInsert(key, _)
-        | OwnedCall::Compute(key, _) => hasher.hash_one(key),
-        OwnedCall::Reserve(_) | OwnedCall::Clear | OwnedCall::Walk => 0,
+    match call.key() {
+        Some(key) => hasher.hash_one(key),
+        None => 0,
     }
 }

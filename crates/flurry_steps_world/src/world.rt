@@ -9,7 +9,7 @@ ghost use Rattle.flurry_steps_world.specs.World.{DoesTransition, IsWorld, IsBoun
 ghost use Rattle.flurry_base.specs.declared.sizes.TheConstants.{MAX_LABELS};
 
 use crate::parts::Parts;
-use crate::party_record::{PartyRecord, hash_for, theory_call};
+use crate::party_record::{PartyRecord, hash_for, plain_of_owned};
 use crate::step::step_party;
 use flurry_base::hash::KeyHasher;
 pub use flurry_base::sizes::MAX_LABELS;
@@ -164,7 +164,7 @@ impl<
         make_room(&mut self.party_records)?;
         let party = self.party_records.len();
         let hash = hash_for(&self.hasher, &call);
-        let kept = theory_call(call);
+        let kept = plain_of_owned(call);
         self.party_records.push_reserved(PartyRecord {
             call: kept,
             began_from: None,

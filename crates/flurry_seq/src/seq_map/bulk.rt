@@ -1,5 +1,5 @@
 //! Owned maps and lists of pairs.
-ghost use Rattle.std.specs.Prelude.{◌≡◌, [], ◌<◌, ◌+◌, ◌++◌, List, length, OnOk, OnErr, IfOk, Ok};
+ghost use Rattle.std.specs.Prelude.{◌≡◌, [], ◌<◌, ◌+◌, ◌++◌, List, ℕ, length, OnOk, OnErr, IfOk, Ok};
 ghost use Rattle.flurry_base.specs.FiniteMap.{IsFiniteMap, with_all};
 ghost use Rattle.flurry_seq.specs.Growth.{bins_for, IsTableFrom, HasRoom};
 

@@ -5,7 +5,7 @@ ghost use Rattle.flurry_steps_sweep.specs.Outcome.{OutcomeReply};
 ghost use Rattle.flurry_steps.specs.Party.{ResumeIsReady, IsDecided, GrowForIsReady, StageIsReady, TaskIsReady, IsAtControl, AtLocate, AtBegin, AtGrow, AtHelp, GivesBack, AtReserve, reply_for};
 ghost use Rattle.flurry_steps.specs.PartyControl.{StageAtControl, stage_advised, event_published};
 ghost use Rattle.flurry_steps_sweep.specs.OutcomeView.{outcome_of};
-ghost use Rattle.flurry_steps.specs.PartyView.{resume_of, stage_of, task_of, grow_for_of, sought_of};
+ghost use Rattle.flurry_steps.specs.PartyView.{resume_of, stage_of, task_of, grow_for_of, form_of};
 ghost use Rattle.flurry_base.specs.declared.sizes.TheConstants.{MAX_TABLE};
 
 use super::call::{AnswerForm, Task};
@@ -47,11 +47,11 @@ pub(super) fn step_control<'k, K: Drop, V: Drop, F: ComputeFn<K, V>, A: Allocato
     }
 }
 
-// The reply of a call that looks for `sought` if the key is absent.
-pub(super) fn absent_reply<K, V, A: Allocator>(sought: AnswerForm) -> Reply<K, V, A>
-    ensures { outcome_of result ≡ OutcomeReply (reply_for (sought_of sought) None) }
+// The reply of a call that looks for `form` if the key is absent.
+pub(super) fn absent_reply<K, V, A: Allocator>(form: AnswerForm) -> Reply<K, V, A>
+    ensures { outcome_of result ≡ OutcomeReply (reply_for (form_of form) None) }
 {
-    match sought {
+    match form {
         AnswerForm::Value => Reply::Value(None),
         AnswerForm::Pair => Reply::Pair(None),
         AnswerForm::Presence => Reply::Contains(false),
@@ -72,8 +72,8 @@ fn locate<'k, K: Drop, V: Drop, F: ComputeFn<K, V>, A: Allocator, R: Room>(
         return (Stage::Bin(task, table), Event::Silent);
     }
     match task {
-        Task::Find(sought, _) => (Stage::Done(absent_reply(sought)), Event::Decide),
-        Task::Remove(sought, _) => (Stage::Done(absent_reply(sought)), Event::Decide),
+        Task::Find(form, _) => (Stage::Done(absent_reply(form)), Event::Decide),
+        Task::Remove(form, _) => (Stage::Done(absent_reply(form)), Event::Decide),
         Task::RemoveSeen(_) => (Stage::Done(Reply::Value(None)), Event::Decide),
         Task::Compute(_, _) => (Stage::Done(Reply::Value(None)), Event::Decide),
         Task::Insert(key, value) => match control.open(FIRST_TABLE, room) {

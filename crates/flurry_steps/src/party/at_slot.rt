@@ -8,7 +8,7 @@ ghost use Rattle.flurry_steps_sweep.specs.Outcome.{OutcomeReply};
 ghost use Rattle.flurry_steps.specs.Party.{StageIsReady, TaskIsReady, IsWriter, IsDecided, steps_left, Finds, Removes, RemovesSeen, Inserts, Adds, Computes, reply_for};
 ghost use Rattle.flurry_steps.specs.PartySlots.{ContentGives, GoesOnNew, GoesOnWritten, GoesOnAdded, FindCanBeRefused, stage_computed};
 ghost use Rattle.flurry_steps_sweep.specs.OutcomeView.{outcome_of};
-ghost use Rattle.flurry_steps.specs.PartyView.{key_of, stage_of, task_of, sought_of};
+ghost use Rattle.flurry_steps.specs.PartyView.{plain_key, stage_of, task_of, form_of};
 ghost use Rattle.flurry_base.specs.declared.sizes.TheConstants.{MAX_TABLE};
 
 use super::at_control::absent_reply;
@@ -25,14 +25,14 @@ use std::sync::Arc;
 
 // The reply of a look-up that finds `entry`.
 fn reply_of<K: Drop, V: Drop, A: Allocator>(
-    sought: AnswerForm,
+    form: AnswerForm,
     entry: &Entry<K, V, A>,
 ) -> Result<Reply<K, V, A>, AllocError>
     ensures reply { IfOk result
-        (λ r. outcome_of r ≡ OutcomeReply (reply_for (sought_of sought) (Some (numbered_pair entry.now)))) }
-    ensures refused { OnErr result (FindCanBeRefused (sought_of sought) (Some (numbered_pair entry.now))) }
+        (λ r. outcome_of r ≡ OutcomeReply (reply_for (form_of form) (Some (numbered_pair entry.now)))) }
+    ensures refused { OnErr result (FindCanBeRefused (form_of form) (Some (numbered_pair entry.now))) }
 {
-    match sought {
+    match form {
         AnswerForm::Value => Ok(Reply::Value(Some(Arc::try_clone(&entry.value)?))),
         AnswerForm::Pair => {
             let key = Arc::try_clone(&entry.key)?;
@@ -46,7 +46,7 @@ fn reply_of<K: Drop, V: Drop, A: Allocator>(
 // Does the step of a look-up. Returns the stage after it, what the step did, and what it leaves behind.
 pub(super) fn step_lookup<'k, K: Ord + Drop, V: Drop, F: ComputeFn<K, V>, A: Allocator>(
     hash: u64,
-    sought: AnswerForm,
+    form: AnswerForm,
     key: Key<'k, K>,
     table: u8,
     slot: &Slot<K, V, A>,
@@ -57,11 +57,11 @@ pub(super) fn step_lookup<'k, K: Ord + Drop, V: Drop, F: ComputeFn<K, V>, A: All
     ensures within { IsSlot K.cmp slot.now }
     ensures nearer { (slot.now.content ≡ IsUnborn) ⊎ (steps_left (stage_of result.0) < MAX_TABLE + 1 - table) }
     ensures step { ContentGives K.cmp F.changes hash
-        (Finds (sought_of sought) (key_of key.entry)) table slot.now.content result.1
+        (Finds (form_of form) (plain_key key.entry)) table slot.now.content result.1
         (stage_of result.0) slot.now.content }
 {
     match slot.find(hash, key.get()) {
-        Answer::Here(Some(entry)) => match reply_of(sought, entry) {
+        Answer::Here(Some(entry)) => match reply_of(form, entry) {
             Ok(reply) => (
                 Stage::Done(reply),
                 Event::Decide,
@@ -74,17 +74,17 @@ pub(super) fn step_lookup<'k, K: Ord + Drop, V: Drop, F: ComputeFn<K, V>, A: All
             ),
         },
         Answer::Here(None) => (
-            Stage::Done(absent_reply(sought)),
+            Stage::Done(absent_reply(form)),
             Event::Decide,
             Left::Stored(key, None, None),
         ),
         Answer::Moved(()) => (
-            Stage::Bin(Task::Find(sought, key), table + 1),
+            Stage::Bin(Task::Find(form, key), table + 1),
             Event::Silent,
             Left::Nothing,
         ),
         Answer::Unborn(()) => (
-            Stage::Locate(Task::Find(sought, key)),
+            Stage::Locate(Task::Find(form, key)),
             Event::Silent,
             Left::Nothing,
         ),
@@ -112,7 +112,7 @@ pub(super) fn step_write<'k, K: Ord + Drop, V: Drop, F: ComputeFn<K, V>, A: Allo
         (stage_of result.0) slot.new.content }
 {
     match task {
-        Task::Remove(sought, key) => return remove(hash, sought, key, table, slot),
+        Task::Remove(form, key) => return remove(hash, form, key, table, slot),
         Task::RemoveSeen(seen) => return remove_seen(hash, seen, table, slot),
         Task::Insert(key, value) => return insert(alloc, hash, key, value, table, slot),
         Task::Add(key, value) => return try_insert(alloc, hash, key, value, table, slot),
@@ -123,18 +123,18 @@ pub(super) fn step_write<'k, K: Ord + Drop, V: Drop, F: ComputeFn<K, V>, A: Allo
 
 // The reply of a removal that has removed `entry`, and what of the entry is not in the reply.
 fn owned_reply<'k, K: Drop, V: Drop, F: Drop, A: Allocator>(
-    sought: AnswerForm,
+    form: AnswerForm,
     key: Key<'k, K>,
     entry: Entry<K, V, A>,
 ) -> (Reply<K, V, A>, Left<'k, K, V, F, A>)
-    ensures { outcome_of result.0 ≡ OutcomeReply (reply_for (sought_of sought) (Some (numbered_pair entry))) }
+    ensures { outcome_of result.0 ≡ OutcomeReply (reply_for (form_of form) (Some (numbered_pair entry))) }
 {
     let Entry {
         key: stored,
         value,
         ..
     } = entry;
-    match sought {
+    match form {
         AnswerForm::Value => (
             Reply::Value(Some(value)),
             Left::Stored(key, Some(stored), None),
@@ -152,7 +152,7 @@ fn owned_reply<'k, K: Drop, V: Drop, F: Drop, A: Allocator>(
 
 fn remove<'k, K: Ord + Drop, V: Drop, F: ComputeFn<K, V>, A: Allocator>(
     hash: u64,
-    sought: AnswerForm,
+    form: AnswerForm,
     key: Key<'k, K>,
     table: u8,
     slot: &mut Slot<K, V, A>,
@@ -164,29 +164,29 @@ fn remove<'k, K: Ord + Drop, V: Drop, F: ComputeFn<K, V>, A: Allocator>(
     ensures table { slot.new.table ≡ slot.old.table }
     ensures index { slot.new.index ≡ slot.old.index }
     ensures step { ContentGives K.cmp F.changes hash
-        (Removes (sought_of sought) (key_of key.entry)) table slot.old.content result.1
+        (Removes (form_of form) (plain_key key.entry)) table slot.old.content result.1
         (stage_of result.0) slot.new.content }
 {
     match slot.take(hash, key.get()) {
         Answer::Here(Some(entry)) => {
-            let (reply, left) = owned_reply(sought, key, entry);
+            let (reply, left) = owned_reply(form, key, entry);
             (Stage::Uncount(reply), Event::Decide, left)
         }
         Answer::Here(None) => (
-            Stage::Done(absent_reply(sought)),
+            Stage::Done(absent_reply(form)),
             Event::Decide,
             Left::Stored(key, None, None),
         ),
         Answer::Moved(()) => (
             Stage::Help(
                 Help::Seat(table),
-                Resume::Bin(Task::Remove(sought, key), table + 1),
+                Resume::Bin(Task::Remove(form, key), table + 1),
             ),
             Event::Silent,
             Left::Nothing,
         ),
         Answer::Unborn(()) => (
-            Stage::Locate(Task::Remove(sought, key)),
+            Stage::Locate(Task::Remove(form, key)),
             Event::Silent,
             Left::Nothing,
         ),
@@ -431,7 +431,7 @@ fn compute<'k, K: Ord + Drop, V: Drop, F: ComputeFn<K, V>, A: Allocator + Copy>(
     ensures within { IsSlot K.cmp slot.old }
     ensures table { slot.new.table ≡ slot.old.table }
     ensures index { slot.new.index ≡ slot.old.index }
-    ensures step { ContentGives K.cmp F.changes hash (Computes (key_of key.entry) f) table slot.old.content result.1
+    ensures step { ContentGives K.cmp F.changes hash (Computes (plain_key key.entry) f) table slot.old.content result.1
         (stage_of result.0) slot.new.content }
 {
     match slot.compute(alloc, hash, key.get(), f) {

@@ -1,6 +1,7 @@
 //! The calls of a shared map.
-ghost use Rattle.std.specs.Prelude.{◌≡◌};
-ghost use Rattle.flurry_steps.specs.PartyView.{key_of};
+ghost use Rattle.std.specs.Prelude.{◌≡◌, option_map};
+ghost use Rattle.flurry_base.specs.OneKey.{key_of};
+ghost use Rattle.flurry_steps.specs.PartyView.{plain_call, plain_key, plain_of_owned};
 
 use flurry_bins_slots::Given;
 use flurry_steps_sweep::Seen;
@@ -45,6 +46,26 @@ pub enum Call<'k, K, V, F, A: Allocator = Global> {
     Walk,
 }
 
+impl<'k, K: Drop, V: Drop, F, A: Allocator> Call<'k, K, V, F, A> {
+    /// Returns the key of the call, or `None` if it has no key. Constant time.
+    #[inline]
+    pub fn key(&self) -> Option<&K>
+        ensures { option_map (λ k. k.now) result ≡ key_of (plain_call self.now) }
+    {
+        match self {
+            Call::Get(key)
+            | Call::GetKeyValue(key)
+            | Call::ContainsKey(key)
+            | Call::Remove(key)
+            | Call::RemoveEntry(key)
+            | Call::Compute(key, _) => Some(*key),
+            Call::RemoveSeen(seen) => Some(seen.key()),
+            Call::Insert(key, _) | Call::TryInsert(key, _) => Some(key),
+            Call::Reserve(_) | Call::Clear | Call::Walk => None,
+        }
+    }
+}
+
 /// A call of a shared map that owns its key, as a list of calls keeps it.
 ///
 /// ```
@@ -79,6 +100,25 @@ pub enum OwnedCall<K, V, F> {
     Walk,
 }
 
+impl<K, V, F> OwnedCall<K, V, F> {
+    /// Returns the key of the call, or `None` if it has no key. Constant time.
+    pub fn key(&self) -> Option<&K>
+        ensures { option_map (λ k. k.now) result ≡ key_of (plain_of_owned self.now) }
+    {
+        match self {
+            OwnedCall::Get(key)
+            | OwnedCall::GetKeyValue(key)
+            | OwnedCall::ContainsKey(key)
+            | OwnedCall::Remove(key)
+            | OwnedCall::RemoveEntry(key)
+            | OwnedCall::Insert(key, _)
+            | OwnedCall::TryInsert(key, _)
+            | OwnedCall::Compute(key, _) => Some(key),
+            OwnedCall::Reserve(_) | OwnedCall::Clear | OwnedCall::Walk => None,
+        }
+    }
+}
+
 /// A key that is borrowed for the time of a call, or that the call owns.
 #[derive(Drop)]
 pub(crate) enum Key<'k, K> {
@@ -88,7 +128,7 @@ pub(crate) enum Key<'k, K> {
 
 impl<'k, K> Key<'k, K> {
     pub(crate) fn get(&self) -> &K
-        ensures { result.now ≡ key_of self.now }
+        ensures { result.now ≡ plain_key self.now }
     {
         match self {
             Key::Lent(key) => key,

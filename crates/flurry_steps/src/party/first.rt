@@ -3,10 +3,10 @@ ghost use Rattle.std.specs.Prelude.{◌≡◌, MatchResult, true};
 ghost use Rattle.flurry_bins_slots.specs.Slot.{IsSlot, is_live};
 ghost use Rattle.flurry_steps.specs.FirstSteps.{BeginsAt, begun_at};
 ghost use Rattle.flurry_steps_sweep.specs.Part.{LookPart, BinPart};
-ghost use Rattle.flurry_steps.specs.Party.{wanted_part, LooksUp, BeginsToWrite, AtLocate, AtDone};
+ghost use Rattle.flurry_steps.specs.Party.{wanted_part, LooksUp, BeginsToWrite, AtLocate, AtDone, stage_of_call};
 ghost use Rattle.flurry_steps.specs.PartyTally.{ending_stage};
 ghost use Rattle.flurry_steps_sweep.specs.OutcomeView.{outcome_of};
-ghost use Rattle.flurry_steps.specs.PartyView.{CallIsReady, first_stage, keyless_stage, owned_stage, task_of};
+ghost use Rattle.flurry_steps.specs.PartyView.{CallIsReady, task_of, plain_call, plain_of_owned, plain_of_whole};
 
 use super::at_slot::{step_lookup, step_write};
 use super::call::{AnswerForm, Call, Key, OwnedCall, Task};
@@ -30,8 +30,8 @@ pub(crate) enum WholeMapCall {
 pub(super) fn task_for<'k, K, V, F, A: Allocator>(
     call: Call<'k, K, V, F, A>,
 ) -> Result<Task<'k, K, V, F, A>, WholeMapCall>
-    ensures { MatchResult result (λ t. first_stage call.entry ≡ AtLocate (task_of t))
-        (λ c. first_stage call.entry ≡ keyless_stage c) }
+    ensures { MatchResult result (λ t. stage_of_call (plain_call call.entry) ≡ AtLocate (task_of t))
+        (λ c. stage_of_call (plain_call call.entry) ≡ stage_of_call (plain_of_whole c)) }
 {
     match call {
         Call::Get(key) => Ok(Task::Find(AnswerForm::Value, Key::Lent(key))),
@@ -53,8 +53,8 @@ pub(super) fn task_for<'k, K, V, F, A: Allocator>(
 pub(super) fn task_of_owned<'k, K, V, F, A: Allocator>(
     call: OwnedCall<K, V, F>,
 ) -> Result<Task<'k, K, V, F, A>, WholeMapCall>
-    ensures { MatchResult result (λ t. owned_stage call ≡ AtLocate (task_of t))
-        (λ c. owned_stage call ≡ keyless_stage c) }
+    ensures { MatchResult result (λ t. stage_of_call (plain_of_owned call) ≡ AtLocate (task_of t))
+        (λ c. stage_of_call (plain_of_owned call) ≡ stage_of_call (plain_of_whole c)) }
 {
     match call {
         OwnedCall::Get(key) => Ok(Task::Find(AnswerForm::Value, Key::Own(key))),
@@ -82,18 +82,18 @@ impl<'k, K: Ord + Drop, V: Drop, F: ComputeFn<K, V>, A: Allocator> Party<'k, K, 
         start: &PublishedTable,
         slot: &Slot<K, V, A>,
     ) -> Reply<K, V, A>
-        requires looks { LooksUp (first_stage call) }
-        requires part { wanted_part (begun_at start.now hash 0 (first_stage call))
+        requires looks { LooksUp (stage_of_call (plain_call call)) }
+        requires part { wanted_part (begun_at start.now hash 0 (stage_of_call (plain_call call)))
             ≡ LookPart slot.now.table slot.now.index }
         requires live { is_live slot.now.content ≡ true }
         ensures within { IsSlot K.cmp slot.now }
-        ensures steps { BeginsAt K.cmp F.changes hash start.now (first_stage call.entry) slot.now
+        ensures steps { BeginsAt K.cmp F.changes hash start.now (stage_of_call (plain_call call.entry)) slot.now
             (AtDone (outcome_of result)) slot.now }
     {
-        let Ok(Task::Find(sought, key)) = task_for(call) else {
+        let Ok(Task::Find(form, key)) = task_for(call) else {
             unreachable!()
         };
-        let (stage, _, _) = step_lookup::<K, V, F, A>(hash, sought, key, start.table(), slot);
+        let (stage, _, _) = step_lookup::<K, V, F, A>(hash, form, key, start.table(), slot);
         match stage {
             Stage::Done(reply) => reply,
             _ => unreachable!(),
@@ -116,12 +116,12 @@ impl<'k, K: Ord + Drop, V: Drop, F: ComputeFn<K, V>, A: Allocator + Copy> Party<
         slot: &mut Slot<K, V, A>,
     ) -> (Ending<K, V, A>, Remains<'k, K, V, F, A>)
         requires ready { CallIsReady F.can_change call }
-        requires writes { BeginsToWrite (first_stage call) }
-        requires part { wanted_part (begun_at start.now hash 0 (first_stage call))
+        requires writes { BeginsToWrite (stage_of_call (plain_call call)) }
+        requires part { wanted_part (begun_at start.now hash 0 (stage_of_call (plain_call call)))
             ≡ BinPart slot.old.table slot.old.index }
         requires live { is_live slot.old.content ≡ true }
         ensures within { IsSlot K.cmp slot.old }
-        ensures steps { BeginsAt K.cmp F.changes hash start.now (first_stage call.entry) slot.old
+        ensures steps { BeginsAt K.cmp F.changes hash start.now (stage_of_call (plain_call call.entry)) slot.old
             (ending_stage result.0) slot.new }
     {
         let Ok(task) = task_for(call) else {

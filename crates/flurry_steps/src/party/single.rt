@@ -184,10 +184,10 @@ impl<'k, K: Ord + Drop, V: Drop, F: ComputeFn<K, V>, A: Allocator> Single<'k, K,
         let Stage::Bin(task, table) = stage else {
             unreachable!()
         };
-        let Task::Find(sought, key) = task else {
+        let Task::Find(form, key) = task else {
             unreachable!()
         };
-        let (stage, event, left) = step_lookup(self.hash, sought, key, table, slot);
+        let (stage, event, left) = step_lookup(self.hash, form, key, table, slot);
         drop(mem::replace(&mut self.stage, stage));
         drop(mem::replace(&mut self.left, left));
         event

@@ -177,7 +177,7 @@ fn insert_into_a_table(rt: HostRuntime) {
 }
 
 #[test]
-fn insert_shared_into_a_new_map(rt: HostRuntime) {
+fn insert_arc_into_a_new_map(rt: HostRuntime) {
     let call = Inserts {
         keys: 0,
         write: Write::InsertArc(1, 5),

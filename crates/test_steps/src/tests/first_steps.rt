@@ -3,8 +3,8 @@ ghost use Rattle.std.specs.Prelude.{◌≡◌, true, ⊤};
 ghost use Rattle.flurry_bins_slots.specs.Slot.{is_live};
 ghost use Rattle.flurry_steps_sweep.specs.Part.{BinPart};
 ghost use Rattle.flurry_steps.specs.FirstSteps.{begun_at};
-ghost use Rattle.flurry_steps.specs.Party.{wanted_part, BeginsToWrite};
-ghost use Rattle.flurry_steps.specs.PartyView.{CallIsReady, first_stage};
+ghost use Rattle.flurry_steps.specs.Party.{wanted_part, BeginsToWrite, stage_of_call};
+ghost use Rattle.flurry_steps.specs.PartyView.{CallIsReady, plain_call};
 
 use super::same;
 use flurry_bins::bin::Bin;
@@ -37,8 +37,8 @@ fn begun<'k, F: ComputeFn<u64, u64>>(
     slot: &mut Slot<u64, u64>,
 ) -> Ending<u64, u64>
     requires ready { CallIsReady F.can_change call }
-    requires writes { BeginsToWrite (first_stage call) }
-    requires part { wanted_part (begun_at start.now hash 0 (first_stage call))
+    requires writes { BeginsToWrite (stage_of_call (plain_call call)) }
+    requires part { wanted_part (begun_at start.now hash 0 (stage_of_call (plain_call call)))
         ≡ BinPart slot.old.table slot.old.index }
     requires live { is_live slot.old.content ≡ true }
 {

@@ -13,6 +13,7 @@ ghost use Rattle.flurry_base.specs.declared.sizes.TheConstants.{MIN_TREE_LEN, MA
 use super::nodes::{LoneNode, NodeList, NodeTree};
 use crate::bin::list::{ListBin, prepend};
 use crate::bin::node::{BoxedNode, Link};
+use crate::bin::ordered::Ordered;
 use crate::bin::tree::{self, TreeBin};
 use flurry_base::given::{NotInserted, Replaced};
 use flurry_base::sizes::{MAX_LIST_LEN, MIN_TREE_LEN};

@@ -9,6 +9,6 @@ pub returns-in-AsList-clause-kind : goal.returns-in-AsList-clause-kind
 returns-in-AsList-clause-kind g c =
     let list = c.in-AsList.list in
     let x = entry_of c.args.node.value in
-    let put = c.put_node-in-AsList.ensures ∙ ap (with_entry g.K.Ord.cmp x) c.into_list-list.ensures in
+    let put = c.put_node-in-AsList.ensures ∙ ap (with_entry g.K.Ord.cmp x) c.into_list-list-in-AsList.ensures in
     let more = ap length put ∙ length-with_entry g.met.K.Ord.total x (node_chain list.head.value) list.ascending (rw c.in-AsList.is at c.requires.absent) in
     rw c.in-AsList.is (c.from_list.ensures.kind ∙ ap (nat_le 10) more ∙ one_more_than_nine (length (node_chain list.head.value)))

@@ -9,7 +9,7 @@ pub returns-in-AsTree-clause-kind : goal.returns-in-AsTree-clause-kind
 returns-in-AsTree-clause-kind g c = search rules
 
 pub returns-in_default-clause-kept : goal.returns-in_default-clause-kept
-returns-in_default-clause-kept g c = rw (c.of_list.ensures.entries, ← c.into_list-list.ensures) c.retain-in_default.ensures.kept
+returns-in_default-clause-kept g c = rw (c.of_list.ensures.entries, ← c.into_list-list-in_default.ensures) c.retain-in_default.ensures.kept
 
 pub returns-in_default-clause-kind : goal.returns-in_default-clause-kind
 returns-in_default-clause-kind g c = rw (not_tree c.args.self c.in_default.not-AsTree) c.of_list.ensures.kind

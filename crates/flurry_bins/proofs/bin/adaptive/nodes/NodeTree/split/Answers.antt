@@ -3,7 +3,7 @@ use Rattle.std.specs.Int.{bit_at}
 use Rattle.std.proofs.lemmas.Nat.Bits.{bit_at-lt, shr_and_one}
 use Rattle.flurry_bins.specs.Tree.{node_shape, inorder}
 use Rattle.flurry_bins.proofs.OneHash.{with_bit-all, with_bit-none}
-use Rattle.flurry_bins.proofs.bin.adaptive.kind.NodeTree.split.Goals as goal
+use Rattle.flurry_bins.proofs.bin.adaptive.nodes.NodeTree.split.Goals as goal
 
 pub returns-then-hash-bit-eq0-clause-low : goal.returns-then-hash-bit-eq0-clause-low
 returns-then-hash-bit-eq0-clause-low g c =
