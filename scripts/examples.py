@@ -3,7 +3,7 @@
 
     examples.py REPOSITORY
 
-The lines of an example, without their indentation, have to stand in one file of a crate of tests, one after another. So have those of each
+The lines of an example, without their indentation, have to stand in one file of a test_ or docs_ crate, one after another. So have those of each
 paragraph of a page's code, or in a file of a crate that shows a use; what a page imports is left out. Where a line ends makes no difference:
 the formatter may divide a long pattern.
 """
@@ -73,7 +73,7 @@ def main():
     status = 0
     for path, number, lines, texts in examples:
         if not any(is_in(joined(lines), text) for text in texts):
-            print(f"test: the example at {path}:{number} is no code of a crate of tests", file=sys.stderr)
+            print(f"test: the example at {path}:{number} is no code of a test_ or docs_ crate", file=sys.stderr)
             status = 1
     return status
 

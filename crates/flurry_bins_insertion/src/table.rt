@@ -1,4 +1,4 @@
-//! Insertion into a bin of a table, and a value with two owners. The sizes of tables, the place of a hash in a table and the replies of
+//! Insertion into a bin of a table, and two `Arc`s of one value. The sizes of tables, the place of a hash in a table and the replies of
 //! calls are re-exported from [`flurry_base`].
 ghost use Rattle.std.specs.Prelude.{◌≡◌, ◌<◌, ◌==◌, ◌&&◌, not, length, IfErr, IfOk, OnErr, IsNone, is_some, if◌then◌else◌};
 ghost use Rattle.std.specs.Arc.{arc_value};

@@ -12,7 +12,7 @@ NeedsOwner Presence = ⊥
 NeedsOwner _ = ⊤
 
 module _ {K V : Type 0} where
-  -- a reply that says of an entry what is has_form
+  -- a reply of that form
   abbrev pub HasForm : AnswerForm → KeptReply K V → Type 0
   HasForm TheValue (Value v) = ⊤
   HasForm ThePair (Pair p) = ⊤

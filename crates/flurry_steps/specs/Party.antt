@@ -196,7 +196,7 @@ module _ {K V F : Type 0} (ready : F → Type 0) where
 -- ---- replies
 
 module _ {K V : Type 0} where
-  -- what a call that seeks this answers of an entry, or of an absent key
+  -- what a call of this form answers of an entry, or of an absent key
   abbrev pub reply_for : AnswerForm → Option (PlainEntry K V) → KeptReply K V
   reply_for TheValue e = Value (option_map (λ (x : PlainEntry K V). x.1.0) e)
   reply_for ThePair e = Pair (option_map (λ (x : PlainEntry K V). (x.0.1, x.1.0)) e)

@@ -1,4 +1,4 @@
--- A call that is driven over a field that tells its parts.
+-- A call that is driven over an exclusive field.
 use Rattle.std.specs.Prelude.{◌≡◌, ℕ, ◌+◌, ◌≤◌, Bool, true, length, Option, Some}
 use Rattle.std.specs.declared.cmp.Ordering.{Ordering}
 use Rattle.std.specs.Cmp.{IsTotalOrder}

@@ -1,4 +1,4 @@
--- What a driven call answers and leaves, over a field that tells its parts and that nobody else changes.
+-- What a driven call answers and leaves, over an exclusive field, whose parts nobody else changes.
 use Rattle.std.specs.Prelude.{◌≡◌, ℕ, ◌+◌, ◌≤◌, Bool, [], length, Option, Some}
 use Rattle.std.specs.declared.cmp.Ordering.{Ordering}
 use Rattle.std.specs.declared.cmp.Ordering.TheVariants.{Equal}
@@ -59,7 +59,7 @@ module _ {K V F : Type 0} (cmp : K → K → Ordering) (hash : K → ℕ) (chang
   abbrev pub DrivesTo : Call K V F → ℕ → Parts K V → Pairs K V → Outcome K V → Parts K V → Type 0
   DrivesTo c n s m r s' = (m' : Pairs K V) × Answers c m r m' × Holds (n + most_counted c m) s' m'
 
--- over a field that tells its parts, which stand as a world keeps them, a call that did no step yet does what the finite map does
+-- over an exclusive field, whose parts stand as a world keeps them, a call that did no step yet does what the finite map does
 abbrev pub IsExact : {S R K V F : Type 0} (place : R → ℕ → Option ℕ → Bool → R → Type 0) (cmp : K → K → Ordering) (changes : F → K → V → Option V → Type 0) (lends : S → Loan K V R → S → Type 0) (lacks : S → Part → Type 0) → S → PartyState K V F → Outcome K V → S → Type 0
 IsExact {S} {R} {K} {V} {F} place cmp changes lends lacks s p r s' =
     (parts : S → Parts K V) (room : R → Tables K V) → IsExclusive parts room place lends lacks

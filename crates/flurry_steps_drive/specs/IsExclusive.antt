@@ -1,4 +1,4 @@
--- Fields that tell their parts.
+-- Exclusive fields.
 use Rattle.std.specs.Prelude.{◌≡◌, ◌⊎◌, ℕ, Bool, true, Option}
 use Rattle.std.specs.declared.cmp.Ordering.{Ordering}
 use Rattle.flurry_steps.specs.Field.{Loan}

@@ -24,7 +24,7 @@ use std::sync::Wait;
 /// Does the steps of `party` until it is done, and returns its reply, which is then taken from it. A step whose part `field` does not
 /// pass is tried again, so a call whose part never comes does not end.
 ///
-/// A field tells its parts if what it passes is its own, and what it does not pass is not there. Over such a field, whose parts hold a
+/// A field is exclusive if what it passes is its own, and what it does not pass is not there. Over such a field, whose parts hold a
 /// finite map and which nobody else changes, a call before its first step behaves as it does on that map. A one-key call, also a
 /// conditional removal, returns a reply that the map allows, and the parts then hold the map after the call. A walk and a reserve leave
 /// the map unchanged, and a clear leaves no pair. Any call that fails for lack of memory leaves the map unchanged; a clear never fails
@@ -84,7 +84,7 @@ pub fn drive_alone<
     reply
 }
 
-/// States that the parts of one owner are a field that tells its parts: what it passes is its own, and what it does not pass is not
+/// States that the parts of one owner are an exclusive field: what it passes is its own, and what it does not pass is not
 /// there. Does nothing; its contract is a law.
 pub fn own_parts_are_exclusive<K: Ord, V>()
     ensures { IsExclusive {K = K} {V = V} (λ s. s) (λ r. r) PlaceGives OwnLends OwnLacks }

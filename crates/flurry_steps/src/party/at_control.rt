@@ -47,7 +47,7 @@ pub(super) fn step_control<'k, K: Drop, V: Drop, F: ComputeFn<K, V>, A: Allocato
     }
 }
 
-// The reply of a call that looks for `form` if the key is absent.
+// The reply of a call of this form if the key is absent.
 pub(super) fn absent_reply<K, V, A: Allocator>(form: AnswerForm) -> Reply<K, V, A>
     ensures { outcome_of result ≡ OutcomeReply (reply_for (form_of form) None) }
 {

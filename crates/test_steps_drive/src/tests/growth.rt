@@ -40,7 +40,7 @@ fn hundred_keys_over_own_parts(rt: HostRuntime) -> Result<(), Fail> {
     Ok(())
 }
 
-// The start stays at the table of 16 bins, which the map leaves long before the end.
+// The published table stays that of 16 bins, which the map leaves long before the end.
 #[test]
 fn hundred_keys_beside_a_start(rt: HostRuntime) -> Result<(), Fail> {
     let mut field = beside_sixteen(rt.alloc())?;
