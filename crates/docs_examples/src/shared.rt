@@ -110,5 +110,5 @@ pub fn visit<R: Wait>(rt: &R, seen: &HashSet<u64>, x: u64) -> Result<bool, Alloc
 pub fn processors_of_view<R: Wait>(rt: &R, set: &HashSet<u64>) -> usize
     ensures { result ≡ set.now.processors }
 {
-    set.pin(rt).again().processors()
+    set.pin(rt).reborrow().processors()
 }

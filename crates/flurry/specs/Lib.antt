@@ -6,6 +6,7 @@ pub use Rattle.flurry_base.specs.FiniteMap
 pub use Rattle.flurry_base.specs.FiniteSet
 pub use Rattle.flurry_base.specs.Hashing
 pub use Rattle.flurry_base.specs.Keeps
+pub use Rattle.flurry_base.specs.Occurrences
 pub use Rattle.flurry_base.specs.OneKey
 pub use Rattle.flurry_base.specs.Sizes
 pub use Rattle.flurry_base.specs.TryInsert
@@ -40,7 +41,7 @@ pub use Rattle.flurry_seq_set.specs.SetRetain
 -- Words for callers of the shared forms: what a call over the locks can return.
 pub use Rattle.flurry_steps_drive.specs.Exact
 pub use Rattle.flurry_steps_drive.specs.IsExclusive
-pub use Rattle.flurry_steps.specs.Turns
+pub use Rattle.flurry_steps.specs.StepClosure
 pub use Rattle.flurry_shared_view.specs.SharedAnswers
 pub use Rattle.flurry_shared_view.specs.Walks
 pub use Rattle.flurry_shared_memo.specs.Memo

@@ -10,3 +10,5 @@ pub mod Given
 pub mod Keeps
 pub mod Greatest
 pub mod TryInsert
+pub mod Occurrences
+pub mod Changes

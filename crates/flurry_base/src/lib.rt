@@ -5,6 +5,7 @@
 #![tactic(auto)]
 
 pub mod call;
+pub mod change;
 pub mod given;
 pub mod hash;
 pub mod reply;
@@ -12,6 +13,7 @@ pub mod sizes;
 pub mod try_insert;
 
 pub use call::{Call, Seen};
+pub use change::Change;
 pub use given::{Given, NotInserted, Replaced};
 pub use reply::KeptReply;
 pub use try_insert::TryInsertError;

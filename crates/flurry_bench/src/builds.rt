@@ -31,7 +31,7 @@ pub fn measure_builds<R: Threads + Wait + Clock + Sync>(
         trial,
         Kind::SeqFromList,
         Measure::Build,
-        wrong_in(&map, trial.keys),
+        count_wrong(&map, trial.keys),
         elapsed,
     )?;
     drop(map);
@@ -45,7 +45,7 @@ pub fn measure_builds<R: Threads + Wait + Clock + Sync>(
         trial,
         Kind::SeqFromParList,
         Measure::Build,
-        wrong_in(&map, trial.keys),
+        count_wrong(&map, trial.keys),
         elapsed,
     )
 }
@@ -60,7 +60,7 @@ fn pairs(alloc: Global, keys: u64) -> Result<Vec<(u64, u64)>, AllocError> {
 }
 
 // Returns the number of keys that have no value in the map, or a value other than their index.
-fn wrong_in(map: &Seq, keys: u64) -> u64 {
+fn count_wrong(map: &Seq, keys: u64) -> u64 {
     let mut wrong = 0u64;
     for index in 0..keys {
         if map.get(&key_of(index)).map(|value| **value) != Some(index) {

@@ -6,7 +6,7 @@ use crate::trials::{Bench, Trial};
 use flurry_base::hash::DefaultHashBuilder as Sip;
 use flurry_seq::SeqMap;
 use flurry_shared::HashMap as SharedMap;
-use metered_alloc::Metered;
+use metered_alloc::MeteredAlloc;
 use std::alloc::Global;
 use std::cell::RefCell;
 use std::collections::{BTreeMap, HashMap};
@@ -22,7 +22,7 @@ type Hash<B, A = Global> = HashMap<u64, u64, B, A>;
 
 type BTree<A = Global> = BTreeMap<u64, u64, A>;
 
-type Memory = &'static Metered<Global>;
+type Memory = &'static MeteredAlloc<Global>;
 
 /// Measures the maps that threads share, and the owned maps whose lock they share.
 pub fn measure_shared<R: Threads + Wait + Clock + Sync>(

@@ -7,7 +7,7 @@ use crate::subjects::{Make, Subject};
 use crate::words::Words;
 use crate::workloads::Work;
 use anyhow::ensure;
-use metered_alloc::Metered;
+use metered_alloc::MeteredAlloc;
 use std::alloc::Global;
 use std::sync::Wait;
 use std::thread::Threads;
@@ -172,18 +172,18 @@ impl<'r, R: Threads + Wait + Clock + Sync> Bench<'r, R> {
 
     /// Measures how many bytes of memory a map of one kind holds for each pair, in tenths of a byte, if this is asked for. One thread
     /// inserts the pairs.
-    pub fn bytes<S: Subject + Make<&'static Metered<Global>> + Drop>(
+    pub fn bytes<S: Subject + Make<&'static MeteredAlloc<Global>> + Drop>(
         &mut self,
         trial: Trial<'_>,
         kind: Kind,
     ) -> anyhow::Result<()> {
         let measure = Measure::BytesAPair;
         if trial.words.want(&[measure]) {
-            let memory = Metered::leaked(self.alloc)?;
+            let memory = MeteredAlloc::leak(self.alloc)?;
             let map = S::make(memory, 0, 1)?;
             let wrong = work_alone(self.rt, &map, measure.work(), trial.size(measure));
             ensure_right(wrong, kind, measure)?;
-            let tenths = memory.bytes().saturating_mul(10) / trial.keys.max(1);
+            let tenths = memory.live_bytes().saturating_mul(10) / trial.keys.max(1);
             self.board.add(trial.cell(kind, measure), tenths)?;
         }
         Ok(())

@@ -26,9 +26,9 @@ use Rattle.flurry_bins.proofs.PlainEntryLaws.{paired-entry_at, paired-without, p
 abbrev pub value_and_number : {K V A : Type 0} → Entry K V A → V × ℕ
 value_and_number d = (arc_value d.value, d.number)
 
-live_alike : {K V : Type 0} {held held' : List (PlainEntry K V)} {tree tree' : Bool} (writes : ℕ) → held ≡ held' → tree ≡ tree'
-    → ◌≡◌ {A = Live K V} (record { held = held; tree = tree; writes = writes }) (record { held = held'; tree = tree'; writes = writes })
-live_alike {held = held} {held' = held'} {tree = tree} writes e f = ap (λ x. record { held = x; tree = tree; writes = writes }) e ∙ ap (λ x. record { held = held'; tree = x; writes = writes }) f
+live_alike : {K V : Type 0} {plain_entries plain_entries' : List (PlainEntry K V)} {tree tree' : Bool} (writes : ℕ) → plain_entries ≡ plain_entries' → tree ≡ tree'
+    → ◌≡◌ {A = Live K V} (record { plain_entries = plain_entries; tree = tree; writes = writes }) (record { plain_entries = plain_entries'; tree = tree'; writes = writes })
+live_alike {plain_entries = plain_entries} {plain_entries' = plain_entries'} {tree = tree} writes e f = ap (λ x. record { plain_entries = x; tree = tree; writes = writes }) e ∙ ap (λ x. record { plain_entries = plain_entries'; tree = x; writes = writes }) f
 
 region_of_held : {K V A : Type 0} (table index : ℕ) (es : List (Entry K V A)) → AllByRecursion (λ (q : ℕ × K). InRegion table index q.0) (keys_of (numbered_pairs es)) → AllInRegion table index es
 region_of_held table index [] h = tt

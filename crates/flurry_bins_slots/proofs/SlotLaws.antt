@@ -26,17 +26,17 @@ all_tested P Q test (e ∷ m) f h = by_test (test e) refl (all_tested P Q test m
 -- ---- what the steps keep
 
 module _ {K V : Type 0} {cmp : K → K → Ordering} (o : IsTotalOrder cmp) where
-  live_in_shrunk : (e i : ℕ) (b : Live K V) (held : List (PlainEntry K V)) → IsSized b.tree (length b.held) → IsFiniteMap (hash_then_key cmp) held → length held ≤ length b.held
-      → AllByRecursion (λ (k : ℕ × K). InRegion e i k.0) (keys_of held) → IsLiveIn cmp e i (with_fewer b held)
-  live_in_shrunk e i b held sized up le all = record { ascends = up; sized = IsSized-kept b.tree (length b.held) (length held) sized le; region = all }
+  live_in_shrunk : (e i : ℕ) (b : Live K V) (plain_entries : List (PlainEntry K V)) → IsSized b.tree (length b.plain_entries) → IsFiniteMap (hash_then_key cmp) plain_entries → length plain_entries ≤ length b.plain_entries
+      → AllByRecursion (λ (k : ℕ × K). InRegion e i k.0) (keys_of plain_entries) → IsLiveIn cmp e i (with_fewer b plain_entries)
+  live_in_shrunk e i b plain_entries sized up le all = record { ascends = up; sized = IsSized-kept b.tree (length b.plain_entries) (length plain_entries) sized le; region = all }
 
   pub live_in_taken : (e i : ℕ) (b : Live K V) (h : ℕ) (k : K) → IsLiveIn cmp e i b → IsLiveIn cmp e i (after_take cmp b h k)
   live_in_taken e i b h k l =
-      live_in_shrunk e i b _ l.sized (IsFiniteMap-without (hash_then_key_total o) b.held (h, k) l.ascends)
-      (by_found (pair_at (hash_then_key cmp) b.held (h, k)) (length-without (hash_then_key_total o) b.held (h, k)))
-      (all_without (hash_then_key_total o) (λ (j : ℕ × K). InRegion e i j.0) b.held (h, k) l.region)
+      live_in_shrunk e i b _ l.sized (IsFiniteMap-without (hash_then_key_total o) b.plain_entries (h, k) l.ascends)
+      (by_found (pair_at (hash_then_key cmp) b.plain_entries (h, k)) (length-without (hash_then_key_total o) b.plain_entries (h, k)))
+      (all_without (hash_then_key_total o) (λ (j : ℕ × K). InRegion e i j.0) b.plain_entries (h, k) l.region)
     where
-      by_found : (found : Option (PlainEntry K V)) → length (without (hash_then_key cmp) b.held (h, k)) ≡ cond (is_some found) (length b.held - 1) (length b.held) → length (without (hash_then_key cmp) b.held (h, k)) ≤ length b.held
+      by_found : (found : Option (PlainEntry K V)) → length (without (hash_then_key cmp) b.plain_entries (h, k)) ≡ cond (is_some found) (length b.plain_entries - 1) (length b.plain_entries) → length (without (hash_then_key cmp) b.plain_entries (h, k)) ≤ length b.plain_entries
       by_found None p = omega arith
       by_found (Some x) p = omega arith
 
@@ -46,13 +46,13 @@ module _ {K V : Type 0} {cmp : K → K → Ordering} (o : IsTotalOrder cmp) wher
 
   pub live_in_written : (e i bins : ℕ) (b : Live K V) (h : ℕ) (k : K) (v : V) → InRegion e i h → IsLiveIn cmp e i b → IsLiveIn cmp e i (after_write cmp bins b h k v)
   live_in_written e i bins b h k v here l = record {
-    ascends = IsFiniteMap-with_pair (hash_then_key_total o) b.held (h, k) _ l.ascends;
-    sized = by_found (pair_at (hash_then_key cmp) b.held (h, k)) _ (length-with_pair (hash_then_key_total o) b.held (h, k) _ l.ascends);
-    region = all_with_pair (hash_then_key_total o) (λ (j : ℕ × K). InRegion e i j.0) b.held (h, k) _ here l.region;
+    ascends = IsFiniteMap-with_pair (hash_then_key_total o) b.plain_entries (h, k) _ l.ascends;
+    sized = by_found (pair_at (hash_then_key cmp) b.plain_entries (h, k)) _ (length-with_pair (hash_then_key_total o) b.plain_entries (h, k) _ l.ascends);
+    region = all_with_pair (hash_then_key_total o) (λ (j : ℕ × K). InRegion e i j.0) b.plain_entries (h, k) _ here l.region;
   }
     where
-      by_found : (found : Option (PlainEntry K V)) (m : ℕ) → m ≡ cond (is_some found) (length b.held) (length b.held + 1) → IsSized (cond (is_none found) (grows_into_tree bins b.tree (length b.held)) b.tree) m
-      by_found None m p = IsSized-put bins b.tree (length b.held) m l.sized p
+      by_found : (found : Option (PlainEntry K V)) (m : ℕ) → m ≡ cond (is_some found) (length b.plain_entries) (length b.plain_entries + 1) → IsSized (cond (is_none found) (grows_into_tree bins b.tree (length b.plain_entries)) b.tree) m
+      by_found None m p = IsSized-put bins b.tree (length b.plain_entries) m l.sized p
       by_found (Some x) m p = subst (IsSized b.tree) (sym p) l.sized
 
   pub live_in_added : (e i bins : ℕ) (b : Live K V) (h : ℕ) (k : K) (v : V) → InRegion e i h → IsLiveIn cmp e i b → IsLiveIn cmp e i (after_add cmp bins b h k v)
@@ -69,10 +69,10 @@ module _ {K V : Type 0} {cmp : K → K → Ordering} (o : IsTotalOrder cmp) wher
 
   pub live_in_low : (e i : ℕ) (b : Live K V) → IsLiveIn cmp e i b → IsLiveIn cmp (e + 1) i (half e 0 b)
   live_in_low e i b l =
-      live_in_shrunk (e + 1) i b _ l.sized (IsFiniteMap-filter (hash_then_key_total o) _ b.held l.ascends) (filter_no_longer _ b.held)
-      (all_tested (λ (j : ℕ × K). InRegion e i j.0) (λ (j : ℕ × K). InRegion (e + 1) i j.0) _ b.held (λ x p q. region_low e i x.0.0 q p) l.region)
+      live_in_shrunk (e + 1) i b _ l.sized (IsFiniteMap-filter (hash_then_key_total o) _ b.plain_entries l.ascends) (filter_no_longer _ b.plain_entries)
+      (all_tested (λ (j : ℕ × K). InRegion e i j.0) (λ (j : ℕ × K). InRegion (e + 1) i j.0) _ b.plain_entries (λ x p q. region_low e i x.0.0 q p) l.region)
 
   pub live_in_high : (e i : ℕ) (b : Live K V) → IsLiveIn cmp e i b → IsLiveIn cmp (e + 1) (i + 2 ^ e) (half e 1 b)
   live_in_high e i b l =
-      live_in_shrunk (e + 1) (i + 2 ^ e) b _ l.sized (IsFiniteMap-filter (hash_then_key_total o) _ b.held l.ascends) (filter_no_longer _ b.held)
-      (all_tested (λ (j : ℕ × K). InRegion e i j.0) (λ (j : ℕ × K). InRegion (e + 1) (i + 2 ^ e) j.0) _ b.held (λ x p q. region_high e i x.0.0 q p) l.region)
+      live_in_shrunk (e + 1) (i + 2 ^ e) b _ l.sized (IsFiniteMap-filter (hash_then_key_total o) _ b.plain_entries l.ascends) (filter_no_longer _ b.plain_entries)
+      (all_tested (λ (j : ℕ × K). InRegion e i j.0) (λ (j : ℕ × K). InRegion (e + 1) (i + 2 ^ e) j.0) _ b.plain_entries (λ x p q. region_high e i x.0.0 q p) l.region)

@@ -16,7 +16,7 @@ use Rattle.flurry_bins_slots.specs.Slot.{Live, PlainEntry, ComputeOutcome, WasAb
 
 -- a bin with its count of writes
 abbrev pub live_of : {K V A : Type 0} {o : _} {e : _} {p : _} → Bin K V A o e p → ℕ → Live K V
-live_of b writes = record { held = numbered_pairs (entries_of_bin b); tree = is_tree b; writes = writes }
+live_of b writes = record { plain_entries = numbered_pairs (entries_of_bin b); tree = is_tree b; writes = writes }
 
 -- an entry of this hash, key, value and write number
 abbrev pub IsEntryWith : {K V A : Type 0} → ℕ → K → V → ℕ → Entry K V A → Type 0

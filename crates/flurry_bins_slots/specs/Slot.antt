@@ -18,7 +18,7 @@ PlainEntry K V = (ℕ × K) × (V × ℕ)
 -- a bin that is live: its entries are a finite map whose key is the hash and the key; it is a list or a tree; and so many values
 -- were written to it
 pub record Live (K V : Type 0) : Type 0 where
-  pub held : List (PlainEntry K V)
+  pub plain_entries : List (PlainEntry K V)
   pub tree : Bool
   pub writes : ℕ
 
@@ -51,20 +51,20 @@ next_number n = min (n + 1) (2 ^ 64 - 1)
 module _ {K V : Type 0} where
   -- the bin with other entries, fewer: a tree of fewer than seven is a list
   abbrev pub with_fewer : Live K V → List (PlainEntry K V) → Live K V
-  with_fewer b held = record { held = held; tree = b.tree && nat_le MIN_TREE_LEN (length held); writes = b.writes }
+  with_fewer b plain_entries = record { plain_entries = plain_entries; tree = b.tree && nat_le MIN_TREE_LEN (length plain_entries); writes = b.writes }
 
   -- the entries whose hash has this bit at this place, as a bin with the same count of writes
   abbrev pub half : ℕ → ℕ → Live K V → Live K V
-  half place bit b = with_fewer b (filter (λ e. bit_at e.0.0 place == bit) b.held)
+  half place bit b = with_fewer b (filter (λ e. bit_at e.0.0 place == bit) b.plain_entries)
 
   -- no entry is left; the count of writes stays
   abbrev pub after_wipe : Live K V → Live K V
-  after_wipe b = record { held = []; tree = false; writes = b.writes }
+  after_wipe b = record { plain_entries = []; tree = false; writes = b.writes }
 
   module _ (cmp : K → K → Ordering) where
     -- the entry of a hash and a key
     abbrev pub entry_of_live : Live K V → ℕ → K → Option (PlainEntry K V)
-    entry_of_live b h k = pair_at (hash_then_key cmp) b.held (h, k)
+    entry_of_live b h k = pair_at (hash_then_key cmp) b.plain_entries (h, k)
 
     -- its value
     abbrev pub value_of_live : Live K V → ℕ → K → Option V
@@ -72,19 +72,19 @@ module _ {K V : Type 0} where
 
     -- the first entry past a bound, or with no bound the first
     abbrev pub next_of_live : Option (ℕ × K) → Live K V → Option (PlainEntry K V)
-    next_of_live bound b = find (is_pair_past cmp bound) b.held
+    next_of_live bound b = find (is_pair_past cmp bound) b.plain_entries
 
     -- in a table of so many bins: a value is written; the key that is stored stays, and a new one comes to its place
     abbrev pub after_write : ℕ → Live K V → ℕ → K → V → Live K V
     after_write bins b h k v = record {
-      held = with_pair (hash_then_key cmp) b.held (h, k) (v, next_number b.writes);
-      tree = if is_none (entry_of_live b h k) then grows_into_tree bins b.tree (length b.held) else b.tree;
+      plain_entries = with_pair (hash_then_key cmp) b.plain_entries (h, k) (v, next_number b.writes);
+      tree = if is_none (entry_of_live b h k) then grows_into_tree bins b.tree (length b.plain_entries) else b.tree;
       writes = next_number b.writes;
     }
 
     -- whether that asks for a larger table
     abbrev pub asks : ℕ → Live K V → ℕ → K → Bool
-    asks bins b h k = is_none (entry_of_live b h k) && asks_for_growth bins b.tree (length b.held)
+    asks bins b h k = is_none (entry_of_live b h k) && asks_for_growth bins b.tree (length b.plain_entries)
 
     -- what a write answers: the value before, and that
     abbrev pub write_reply : ℕ → Live K V → ℕ → K → Option V × Bool
@@ -92,7 +92,7 @@ module _ {K V : Type 0} where
 
     -- the bin without the entry of a hash and a key
     abbrev pub after_take : Live K V → ℕ → K → Live K V
-    after_take b h k = with_fewer b (without (hash_then_key cmp) b.held (h, k))
+    after_take b h k = with_fewer b (without (hash_then_key cmp) b.plain_entries (h, k))
 
     -- a value is written where the key is absent
     abbrev pub after_add : ℕ → Live K V → ℕ → K → V → Live K V
@@ -126,8 +126,8 @@ module _ {K V : Type 0} where
       ComputesInVain b h k w = (e : PlainEntry K V) × (entry_of_live b h k ≡ Some e) × changes e.0.1 e.1.0 (Some w)
 
   -- a hash lies in the region of the slot
-  abbrev pub LiesIn : ℕ → SlotState K V → Type 0
-  LiesIn h p = InRegion p.table p.index h
+  abbrev pub LiesInBin : ℕ → SlotState K V → Type 0
+  LiesInBin h p = InRegion p.table p.index h
 
   -- the slot with its live bin changed
   abbrev pub content_with : (Live K V → Live K V) → Content K V → Content K V
@@ -167,9 +167,9 @@ module _ {K V : Type 0} where
   -- What each live bin keeps: its entries ascend strictly by hash and key, a tree has at least seven and a list at most nine, and
   -- the hashes lie in the bin's region.
   pub record IsLiveIn (cmp : K → K → Ordering) (table index : ℕ) (b : Live K V) : Type 0 where
-    pub ascends : IsFiniteMap (hash_then_key cmp) b.held
-    pub sized : IsSized b.tree (length b.held)
-    pub region : AllByRecursion (λ (k : ℕ × K). InRegion table index k.0) (keys_of b.held)
+    pub ascends : IsFiniteMap (hash_then_key cmp) b.plain_entries
+    pub sized : IsSized b.tree (length b.plain_entries)
+    pub region : AllByRecursion (λ (k : ℕ × K). InRegion table index k.0) (keys_of b.plain_entries)
 
   -- the largest table moves no bin
   abbrev pub IsContent : (K → K → Ordering) → ℕ → ℕ → Content K V → Type 0

@@ -96,7 +96,7 @@ impl<K: Ord + Drop, V: Drop, A: Allocator> LiveBin<K, V, A> {
     }
 
     pub(crate) fn len(&self) -> usize
-        ensures { result ≡ length self.now.held }
+        ensures { result ≡ length self.now.plain_entries }
     {
         self.bin.len()
     }
@@ -126,7 +126,7 @@ impl<K: Ord + Drop, V: Drop, A: Allocator> LiveBin<K, V, A> {
     // Inserts a node, of the next write number, whose hash and key are absent. Returns whether the bin asks for a larger table.
     fn add(&mut self, bins: usize, node: BoxedNode<K, V, A>) -> bool
         requires absent { let e = entry_of node.value in entry_of_live K.cmp self.old e.hash (arc_value e.key) ≡ None }
-        requires room { length self.old.held < MAX_LEN }
+        requires room { length self.old.plain_entries < MAX_LEN }
         requires number { (entry_of node.value).number ≡ next_number self.old.writes }
         ensures asks { let e = entry_of node.value in
             result ≡ asks K.cmp bins self.old e.hash (arc_value e.key) }
@@ -161,7 +161,7 @@ impl<K: Ord + Drop, V: Drop, A: Allocator> LiveBin<K, V, A> {
 
     // Removes all entries, and returns them.
     pub(crate) fn drain(&mut self) -> Bin<K, V, A>
-        ensures entries { numbered_pairs (entries_of_bin result) ≡ self.old.held }
+        ensures entries { numbered_pairs (entries_of_bin result) ≡ self.old.plain_entries }
         ensures after { self.new ≡ after_wipe self.old }
     {
         mem::replace(&mut self.bin, Bin::new())
@@ -197,7 +197,7 @@ impl<K: Ord + Drop, V: Drop, A: Allocator + Copy> LiveBin<K, V, A> {
         value: V,
     ) -> Result<BoxedNode<K, V, A>, NotInserted<K, V, A>>
         ensures node { IfOk result (λ b. IsEntryWith hash key value (next_number self.now.writes) (entry_of b.value)) }
-        ensures room { OnOk result (length self.now.held < MAX_LEN) }
+        ensures room { OnOk result (length self.now.plain_entries < MAX_LEN) }
         ensures err { IfErr result (λ n. IsNotInserted key value n) }
     {
         if self.len() >= MAX_LEN {
@@ -253,7 +253,7 @@ impl<K: Ord + Drop, V: Drop, A: Allocator + Copy> LiveBin<K, V, A> {
         key: K,
         value: Arc<V, A>,
     ) -> Result<Inserted<K, V, A>, NotInserted<K, V, A>>
-        requires { length self.old.held < MAX_LEN }
+        requires { length self.old.plain_entries < MAX_LEN }
         ensures reply { IfOk result (λ w. view_of_inserted w ≡ write_reply K.cmp bins self.old hash key) }
         ensures after { OnOk result (self.new ≡ after_write K.cmp bins self.old hash key (arc_value value)) }
         ensures key { IfOk result (λ w. IfReplaced w (λ it. it.key ≡ key)) }

@@ -10,7 +10,7 @@ ghost use Rattle.flurry_bins_insertion.specs.Inserted.{IfReplaced};
 ghost use Rattle.flurry_bins_slots.specs.LiveView.{live_of, view_of_inserted, view_of_added, IfPresent, outcome, IfAbsent, IsLeftOf};
 ghost use Rattle.flurry_bins.specs.PlainEntries.{numbered_pair, numbered_pairs};
 ghost use Rattle.flurry_bins.specs.PlainEntries.{AllInRegion};
-ghost use Rattle.flurry_bins_slots.specs.Slot.{SlotState, IsLive, HasMoved, IsUnborn, IsSlot, LiesIn, IfLive, is_live, slot_with, entry_of_live, next_of_live, after_write, write_reply, after_add, add_reply, after_take, after_take_if, take_if_reply, after_wipe, Computes, ComputesInVain, HasMovedInto, Clashes};
+ghost use Rattle.flurry_bins_slots.specs.Slot.{SlotState, IsLive, HasMoved, IsUnborn, IsSlot, LiesInBin, IfLive, is_live, slot_with, entry_of_live, next_of_live, after_write, write_reply, after_add, add_reply, after_take, after_take_if, take_if_reply, after_wipe, Computes, ComputesInVain, HasMovedInto, Clashes};
 ghost use Rattle.flurry_bins_slots.specs.SlotView.{place_of, answer_with, answer_map, IfHere, IfAway, IsAway, IfDone, IfAlready, IfClash, IfNotDone};
 ghost use Rattle.flurry_base.specs.declared.sizes.TheConstants.{MAX_TABLE};
 
@@ -219,7 +219,7 @@ impl<K: Ord + Drop, V: Drop, A: Allocator> Slot<K, V, A> {
 
     /// Finds the entry of a hash and a key, if there is one. As many steps as a look-up in the bin.
     pub fn find(&self, hash: u64, key: &K) -> Answer<Option<&Entry<K, V, A>>, ()>
-        requires { LiesIn hash self.now }
+        requires { LiesInBin hash self.now }
         ensures reply { answer_map (option_map (λ e. numbered_pair e.now)) result
             ≡ answer_with self.now.content (λ b. entry_of_live K.cmp b hash key.now) tt }
         ensures within { IsSlot K.cmp self.now }
@@ -247,7 +247,7 @@ impl<K: Ord + Drop, V: Drop, A: Allocator> Slot<K, V, A> {
     #[tactic(auto, using(crate::proofs::SlotLaws::live_in_taken))]
     /// Removes the entry of a hash and a key, if there is one, and returns it. As many steps as a look-up in the bin; takes no memory.
     pub fn take(&mut self, hash: u64, key: &K) -> Answer<Option<Entry<K, V, A>>, ()>
-        requires { LiesIn hash self.old }
+        requires { LiesInBin hash self.old }
         ensures reply { answer_map (option_map numbered_pair) result
             ≡ answer_with self.old.content (λ b. entry_of_live K.cmp b hash key.now) tt }
         ensures after { self.new ≡ slot_with (λ b. after_take K.cmp b hash key.now) self.old }
@@ -264,7 +264,7 @@ impl<K: Ord + Drop, V: Drop, A: Allocator> Slot<K, V, A> {
     /// Removes the entry of a hash and a key, and returns it, if and only if its value still has the write number `number`, and `number` is
     /// below `u64::MAX`. As many steps as a look-up in the bin; takes no memory.
     pub fn take_if(&mut self, hash: u64, key: &K, number: u64) -> Answer<Option<Entry<K, V, A>>, ()>
-        requires { LiesIn hash self.old }
+        requires { LiesInBin hash self.old }
         ensures reply { answer_map (option_map numbered_pair) result
             ≡ answer_with self.old.content (λ b. take_if_reply K.cmp number b hash key.now) tt }
         ensures after { self.new ≡ slot_with (λ b. after_take_if K.cmp number b hash key.now) self.old }
@@ -281,7 +281,7 @@ impl<K: Ord + Drop, V: Drop, A: Allocator> Slot<K, V, A> {
     /// Removes all entries, and returns them as a bin. Constant time; takes no memory.
     pub fn drain(&mut self) -> Answer<Bin<K, V, A>, ()>
         ensures reply { answer_map (λ b. numbered_pairs (entries_of_bin b)) result
-            ≡ answer_with self.old.content (λ b. b.held) tt }
+            ≡ answer_with self.old.content (λ b. b.plain_entries) tt }
         ensures after { self.new ≡ slot_with after_wipe self.old }
         ensures within { IsSlot K.cmp self.old }
     {
@@ -294,7 +294,7 @@ impl<K: Ord + Drop, V: Drop, A: Allocator> Slot<K, V, A> {
 
     /// Removes all entries, and returns how many there were. Linear in the number of entries; takes no memory.
     pub fn wipe(&mut self) -> Answer<usize, ()>
-        ensures reply { result ≡ answer_with self.old.content (λ b. length b.held) tt }
+        ensures reply { result ≡ answer_with self.old.content (λ b. length b.plain_entries) tt }
         ensures after { self.new ≡ slot_with after_wipe self.old }
         ensures within { IsSlot K.cmp self.old }
     {
@@ -380,7 +380,7 @@ impl<K: Ord + Drop, V: Drop, A: Allocator + Copy> Slot<K, V, A> {
         key: K,
         value: Given<V, A>,
     ) -> Result<Answer<Inserted<K, V, A>, (K, Given<V, A>)>, NotInserted<K, V, A>>
-        requires { LiesIn hash self.old }
+        requires { LiesInBin hash self.old }
         ensures reply { IfOk result
             (λ a. answer_map view_of_inserted a
             ≡ answer_with self.old.content (λ b. write_reply K.cmp (2 ^ self.old.table) b hash key) (key, value)) }
@@ -416,7 +416,7 @@ impl<K: Ord + Drop, V: Drop, A: Allocator + Copy> Slot<K, V, A> {
         key: K,
         value: V,
     ) -> Result<Answer<Added<K, V, A>, (K, V)>, NotInserted<K, V, A>>
-        requires { LiesIn hash self.old }
+        requires { LiesInBin hash self.old }
         ensures reply { IfOk result
             (λ a. answer_map view_of_added a
             ≡ answer_with self.old.content (λ b. add_reply K.cmp (2 ^ self.old.table) b hash key value) (key, value)) }
@@ -451,7 +451,7 @@ impl<K: Ord + Drop, V: Drop, A: Allocator + Copy> Slot<K, V, A> {
         key: &K,
         f: F,
     ) -> Result<Answer<Computed<K, V, F, A>, F>, Given<V, A>>
-        requires region { LiesIn hash self.old }
+        requires region { LiesInBin hash self.old }
         requires callable { F.can_change f }
         ensures back { IfOk result (λ a. IsAway a self.old.content f) }
         ensures absent { IfOk result (λ a. IfHere a (λ c. IfAbsent c (λ g. g ≡ f))) }

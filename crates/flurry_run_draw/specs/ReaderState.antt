@@ -34,8 +34,8 @@ abbrev pub between_tags : List ℕ → ReaderState
 between_tags shown = record { place = Text; shown = shown }
 
 -- after all bytes of a picture
-abbrev pub reads : List ℕ → ReaderState
-reads bytes = reads_on (between_tags []) bytes
+abbrev pub reader_after : List ℕ → ReaderState
+reader_after bytes = reads_on (between_tags []) bytes
 
 -- between tags, they show this text, and end between tags
 abbrev pub Shows : List ℕ → List ℕ → Type 0

@@ -1,6 +1,6 @@
 //! A picture that is written from its start to its end.
 ghost use Rattle.std.specs.Prelude.{◌≡◌, [], ◌++◌, OnOk, OnErr, IfOk};
-ghost use Rattle.flurry_run_draw.specs.ReaderState.{reads, between_tags, Shows};
+ghost use Rattle.flurry_run_draw.specs.ReaderState.{reader_after, between_tags, Shows};
 
 use std::alloc::{AllocError, Global};
 use std::marker::Model;
@@ -13,13 +13,13 @@ pub struct Page {
 
 impl Model for Page {
     ghost use Rattle.std.specs.Prelude.{◌≡◌, ℕ, List};
-    ghost use Rattle.flurry_run_draw.specs.ReaderState.{reads, Text};
+    ghost use Rattle.flurry_run_draw.specs.ReaderState.{reader_after, Text};
 
     ghost Value = { List ℕ };
 
-    ghost view = { λ p. (reads p.bytes.items).shown };
+    ghost view = { λ p. (reader_after p.bytes.items).shown };
 
-    ghost invariant = { λ p. (reads p.bytes.items).place ≡ Text };
+    ghost invariant = { λ p. (reader_after p.bytes.items).place ≡ Text };
 }
 
 impl Page {
@@ -59,7 +59,7 @@ impl Page {
 
     /// Returns the bytes of the picture.
     pub fn into_bytes(self) -> Vec<u8>
-        ensures { reads result.items ≡ between_tags self }
+        ensures { reader_after result.items ≡ between_tags self }
     {
         let Page { bytes } = self;
         bytes

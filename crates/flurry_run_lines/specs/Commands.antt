@@ -5,13 +5,13 @@ use Rattle.flurry_run_lines.specs.declared.command.Command.{Command}
 use Rattle.flurry_run_lines.specs.declared.command.Command.TheVariants.{Insert, Try, Get, Remove, Len, Bins}
 
 -- a command as it is written, without its line end
-abbrev pub text_of : Command → List ℕ
-text_of (Insert k v) = codes "insert " ++ (decimal k ++ 32 ∷ decimal v)
-text_of (Try k v) = codes "try " ++ (decimal k ++ 32 ∷ decimal v)
-text_of (Get k) = codes "get " ++ decimal k
-text_of (Remove k) = codes "remove " ++ decimal k
-text_of Len = codes "len"
-text_of Bins = codes "bins"
+abbrev pub command_text : Command → List ℕ
+command_text (Insert k v) = codes "insert " ++ (decimal k ++ 32 ∷ decimal v)
+command_text (Try k v) = codes "try " ++ (decimal k ++ 32 ∷ decimal v)
+command_text (Get k) = codes "get " ++ decimal k
+command_text (Remove k) = codes "remove " ++ decimal k
+command_text Len = codes "len"
+command_text Bins = codes "bins"
 
 -- its numbers have 64 bits
 abbrev pub IsCommand : Command → Type 0
@@ -23,5 +23,5 @@ IsCommand Len = Unit {0}
 IsCommand Bins = Unit {0}
 
 -- no command is written so
-abbrev pub IsNoCommand : List ℕ → Type 0
-IsNoCommand line = (c : Command) → IsCommand c → line ≢ text_of c
+abbrev pub IsNoSeqCommand : List ℕ → Type 0
+IsNoSeqCommand line = (c : Command) → IsCommand c → line ≢ command_text c

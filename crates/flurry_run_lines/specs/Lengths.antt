@@ -12,7 +12,7 @@ use Rattle.flurry_run_lines.specs.Schedules as schedule
 short : (n : ℕ) → n < 2 ^ 64 → length (decimal n) ≤ 20
 short n h = length-decimal-le 20 n (omega arith) (omega arith) h
 
-pub short_command : (c : Command) → command.IsCommand c → length (command.text_of c) ≤ 64
+pub short_command : (c : Command) → command.IsCommand c → length (command.command_text c) ≤ 64
 short_command (Insert k v) h = let a = short k h.0 in let b = short v h.1 in simp length-append (omega arith)
 short_command (Try k v) h = let a = short k h.0 in let b = short v h.1 in simp length-append (omega arith)
 short_command (Get k) h = let a = short k h in simp length-append (omega arith)
@@ -20,7 +20,7 @@ short_command (Remove k) h = let a = short k h in simp length-append (omega arit
 short_command Len h = omega arith
 short_command Bins h = omega arith
 
-pub short_line : (l : Line) → schedule.IsLine l → length (schedule.text_of l) ≤ 64
+pub short_line : (l : Line) → schedule.IsLine l → length (schedule.line_text l) ≤ 64
 short_line (line.World p c) h = let a = short p h.0 in let b = short c h.1 in simp length-append (omega arith)
 short_line (line.Insert k v) h = let a = short k h.0 in let b = short v h.1 in simp length-append (omega arith)
 short_line (line.Try k v) h = let a = short k h.0 in let b = short v h.1 in simp length-append (omega arith)

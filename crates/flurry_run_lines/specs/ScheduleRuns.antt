@@ -15,7 +15,7 @@ use Rattle.flurry_run_lines.specs.declared.schedule.Line.{Line}
 use Rattle.flurry_run_lines.specs.declared.schedule.Line.TheVariants.{World, Insert, Try, Get, Remove, Reserve, Clear, Walk, Drop, Step, Lose}
 use Rattle.flurry_run_lines.specs.Endings.{bad_line_text, out_of_memory_text}
 use Rattle.flurry_run_lines.specs.Labels.{label_text}
-use Rattle.flurry_run_lines.specs.Schedules.{text_of, IsLine}
+use Rattle.flurry_run_lines.specs.Schedules.{line_text, IsLine}
 use Rattle.flurry_run_lines.specs.Runs.{Script}
 
 module _ {F : Type 0} where
@@ -88,7 +88,7 @@ module _ {F S : Type 0} where
 
     -- the lines of a schedule
     abbrev pub of_a_world : Script (Option (WorldState ℕ ℕ F S)) Line
-    of_a_world = record { text_of = text_of; IsCommand = IsLine; Does = DoesLine; Stops = StopsAtLine }
+    of_a_world = record { text_of = line_text; IsCommand = IsLine; Does = DoesLine; Stops = StopsAtLine }
 
 -- the same of calls of which none has a function
 abbrev pub of_a_schedule : Script (Option (WorldState ℕ ℕ NoFn LowHashBuilder)) Line

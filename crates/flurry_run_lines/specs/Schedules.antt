@@ -5,18 +5,18 @@ use Rattle.flurry_run_lines.specs.declared.schedule.Line.{Line}
 use Rattle.flurry_run_lines.specs.declared.schedule.Line.TheVariants.{World, Insert, Try, Get, Remove, Reserve, Clear, Walk, Drop, Step, Lose}
 
 -- a line as it is written, without its line end
-abbrev pub text_of : Line → List ℕ
-text_of (World p c) = codes "world " ++ (decimal p ++ 32 ∷ decimal c)
-text_of (Insert k v) = codes "begin insert " ++ (decimal k ++ 32 ∷ decimal v)
-text_of (Try k v) = codes "begin try " ++ (decimal k ++ 32 ∷ decimal v)
-text_of (Get k) = codes "begin get " ++ decimal k
-text_of (Remove k) = codes "begin remove " ++ decimal k
-text_of (Reserve n) = codes "begin reserve " ++ decimal n
-text_of Clear = codes "begin clear"
-text_of Walk = codes "begin walk"
-text_of (Drop p) = codes "begin drop " ++ decimal p
-text_of (Step p n) = codes "step " ++ (decimal p ++ 32 ∷ decimal n)
-text_of (Lose p) = codes "lose " ++ decimal p
+abbrev pub line_text : Line → List ℕ
+line_text (World p c) = codes "world " ++ (decimal p ++ 32 ∷ decimal c)
+line_text (Insert k v) = codes "begin insert " ++ (decimal k ++ 32 ∷ decimal v)
+line_text (Try k v) = codes "begin try " ++ (decimal k ++ 32 ∷ decimal v)
+line_text (Get k) = codes "begin get " ++ decimal k
+line_text (Remove k) = codes "begin remove " ++ decimal k
+line_text (Reserve n) = codes "begin reserve " ++ decimal n
+line_text Clear = codes "begin clear"
+line_text Walk = codes "begin walk"
+line_text (Drop p) = codes "begin drop " ++ decimal p
+line_text (Step p n) = codes "step " ++ (decimal p ++ 32 ∷ decimal n)
+line_text (Lose p) = codes "lose " ++ decimal p
 
 -- its numbers have 64 bits, and it asks for 100000 steps at most
 abbrev pub IsLine : Line → Type 0
@@ -34,7 +34,7 @@ IsLine (Lose p) = p < 2 ^ 64
 
 -- no line of a schedule is written so
 abbrev pub IsNoLine : List ℕ → Type 0
-IsNoLine line = (l : Line) → IsLine l → line ≢ text_of l
+IsNoLine line = (l : Line) → IsLine l → line ≢ line_text l
 
 -- no line of a schedule begins a call in these words
 abbrev pub IsNoCall : List ℕ → Type 0

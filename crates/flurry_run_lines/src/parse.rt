@@ -1,7 +1,7 @@
 //! Parsing of a line as a command.
 ghost use Rattle.std.specs.Prelude.{◌≡◌, ◌≢◌, ℕ, ◌<◌, ◌^◌, List, ◌∷◌, ◌++◌, MatchOption, IsTrue, ◌↔◌};
 ghost use Rattle.std.specs.Fmt.{decimal};
-ghost use Rattle.flurry_run_lines.specs.Commands.{text_of, IsCommand, IsNoCommand};
+ghost use Rattle.flurry_run_lines.specs.Commands.{command_text, IsCommand, IsNoSeqCommand};
 ghost use Rattle.flurry_run_lines.specs.Words.{HasNoSpace, IsDigits};
 
 use crate::command::Command;
@@ -11,7 +11,7 @@ use std::str;
 ///
 /// Linear in the length of the line.
 pub fn parse(line: &[u8]) -> Option<Command>
-    ensures { MatchOption result (IsNoCommand line.now) (λ c. IsCommand c × (line.now ≡ text_of c)) }
+    ensures { MatchOption result (IsNoSeqCommand line.now) (λ c. IsCommand c × (line.now ≡ command_text c)) }
 {
     if line == b"len".as_slice() {
         Some(Command::Len)

@@ -1,7 +1,7 @@
 //! Parsing of a line of a schedule.
 ghost use Rattle.std.specs.Prelude.{◌≡◌, ◌≢◌, ℕ, ◌<◌, ◌≤◌, ◌^◌, ◌∷◌, ◌++◌, codes, MatchOption};
 ghost use Rattle.std.specs.Fmt.{decimal};
-ghost use Rattle.flurry_run_lines.specs.Schedules.{text_of, IsLine, IsNoLine, IsNoCall};
+ghost use Rattle.flurry_run_lines.specs.Schedules.{line_text, IsLine, IsNoLine, IsNoCall};
 
 use crate::parse::{number, strip, two_numbers};
 
@@ -46,7 +46,7 @@ pub enum Line {
 ///
 /// Linear in the length of the line.
 pub fn parse_line(line: &[u8]) -> Option<Line>
-    ensures { MatchOption result (IsNoLine line.now) (λ l. IsLine l × (line.now ≡ text_of l)) }
+    ensures { MatchOption result (IsNoLine line.now) (λ l. IsLine l × (line.now ≡ line_text l)) }
 {
     if let Some(rest) = strip(line, b"begin ") {
         parse_call(rest)
@@ -88,7 +88,7 @@ fn party_and_steps(words: &[u8]) -> Option<(u64, u64)>
 
 // Parses the words that follow `begin` in a line that begins a call.
 fn parse_call(words: &[u8]) -> Option<Line>
-    ensures { MatchOption result (IsNoCall words.now) (λ l. IsLine l × (codes "begin " ++ words.now ≡ text_of l)) }
+    ensures { MatchOption result (IsNoCall words.now) (λ l. IsLine l × (codes "begin " ++ words.now ≡ line_text l)) }
 {
     if words == b"clear".as_slice() {
         Some(Line::Clear)

@@ -1,7 +1,7 @@
 //! Lines that are commands on one owned map.
 ghost use Rattle.std.specs.Prelude.{ℕ, [], ◌∷◌, ◌++◌, List, OnOk, OnErr, IsTrue};
 ghost use Rattle.std.specs.Io.KnownBytes.{Appends};
-ghost use Rattle.flurry_run_lines.specs.SeqReplies.{option_text, of_one_map, Answers};
+ghost use Rattle.flurry_run_lines.specs.SeqReplies.{option_text, of_one_map, LineAnswers};
 ghost use Rattle.flurry_run_lines.specs.Runs.{RunsLines, FailsForCause};
 ghost use Rattle.flurry_run_lines.specs.declared.command.Command.{Command};
 ghost use Rattle.flurry_run_lines.specs.Lengths.{short_command};
@@ -88,7 +88,7 @@ fn answer<W: Sink, A: Allocator + Copy>(
     writer: &mut W,
 ) -> io::Result<()>
     ensures failed { OnErr result (IsTrue (W.has_failed writer.new)) }
-    ensures answer { OnOk result ((answer : List ℕ) × Answers command map.old.pairs answer map.new.pairs
+    ensures answer { OnOk result ((answer : List ℕ) × LineAnswers command map.old.pairs answer map.new.pairs
         × Appends (W.contents writer.old) (W.contents writer.new) (answer ++ 10 ∷ [])) }
 {
     match command {
@@ -115,7 +115,7 @@ fn answer_try<W: Sink, A: Allocator + Copy>(
     writer: &mut W,
 ) -> io::Result<()>
     ensures failed { OnErr result (IsTrue (W.has_failed writer.new)) }
-    ensures answer { OnOk result ((answer : List ℕ) × Answers (Command.Try key value) map.old.pairs answer map.new.pairs
+    ensures answer { OnOk result ((answer : List ℕ) × LineAnswers (Command.Try key value) map.old.pairs answer map.new.pairs
         × Appends (W.contents writer.old) (W.contents writer.new) (answer ++ 10 ∷ [])) }
 {
     match map.try_insert(key, value) {

@@ -10,12 +10,12 @@ abbrev pub texts : List (Bor (List ℕ)) → List (List ℕ)
 texts words = map (λ (word : Bor (List ℕ)). word.now) words
 
 -- they ask for the lines of one owned map
-abbrev pub IsSeq : List (Bor (List ℕ)) → Type 0
-IsSeq words = texts words ≡ codes "seq" ∷ []
+abbrev pub IsSeqWords : List (Bor (List ℕ)) → Type 0
+IsSeqWords words = texts words ≡ codes "seq" ∷ []
 
 -- they ask for the steps of a world
-abbrev pub IsWorld : List (Bor (List ℕ)) → Type 0
-IsWorld words = texts words ≡ codes "world" ∷ []
+abbrev pub IsWorldWords : List (Bor (List ℕ)) → Type 0
+IsWorldWords words = texts words ≡ codes "world" ∷ []
 
 -- they ask for so many threads, each with so many keys
 abbrev pub AsksThreads : List (Bor (List ℕ)) → ℕ → ℕ → Type 0

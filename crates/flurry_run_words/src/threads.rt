@@ -40,7 +40,7 @@ pub fn thread_lines<R: Threads + Wait + Sync, W: Sink, A: Allocator + Send + Syn
 {
     // The map borrows the allocator, so that it has the same size for any allocator.
     let map = HashMap::new(&alloc).with_processors(threads as usize);
-    match tell_length(fill(rt, map, threads, keys), writer) {
+    match print_len(fill(rt, map, threads, keys), writer) {
         Ok(status) => match writer.flush() {
             Ok(()) => status,
             Err(_) => 1,
@@ -50,7 +50,7 @@ pub fn thread_lines<R: Threads + Wait + Sync, W: Sink, A: Allocator + Send + Syn
 }
 
 // Writes the number of keys, or that memory could not be allocated.
-fn tell_length<W: Sink>(length: Option<usize>, writer: &mut W) -> io::Result<u8>
+fn print_len<W: Sink>(length: Option<usize>, writer: &mut W) -> io::Result<u8>
     ensures failed { OnErr result (IsTrue (W.has_failed writer.new)) }
     ensures length { IfOk result (TellsLength (W.contents writer.old) (W.contents writer.new)) }
 {

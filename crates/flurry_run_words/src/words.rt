@@ -1,7 +1,7 @@
 //! The words that the program is run with.
 ghost use Rattle.std.specs.Prelude.{◌≡◌, ◌≢◌, ◌≤◌, ℕ, [], None, MatchOption};
 ghost use Rattle.std.specs.Fmt.{decimal};
-ghost use Rattle.flurry_run_words.specs.Arguments.{IsSeq, IsWorld, AsksThreads, TellsUsage};
+ghost use Rattle.flurry_run_words.specs.Arguments.{IsSeqWords, IsWorldWords, AsksThreads, TellsUsage};
 ghost use Rattle.flurry_run_lines.specs.SeqReplies.{of_one_map};
 ghost use Rattle.flurry_run_lines.specs.Runs.{UnlessWriteFailed, RunsLines, FailsForCause};
 ghost use Rattle.flurry_run_lines.specs.ScheduleRuns.{of_a_schedule};
@@ -27,20 +27,20 @@ pub fn run_words<T: Threads + Wait + Sync, R: Source, W: Sink, A: Allocator + Co
     reader: &mut R,
     writer: &mut W,
 ) -> u8
-    ensures seq { IsSeq words.now
+    ensures seq { IsSeqWords words.now
         → RunsLines of_one_map [] (R.remaining reader.old) (W.contents writer.old) (W.flushed writer.new)
         (W.has_failed writer.new) result }
-    ensures cause { IsSeq words.now
+    ensures cause { IsSeqWords words.now
         → FailsForCause (R.remaining reader.old) (R.has_failed reader.new) (W.has_failed writer.new) result }
-    ensures world_status { IsWorld words.now → result ≤ 3 }
-    ensures world { IsWorld words.now → RunsLines of_a_schedule None
+    ensures world_status { IsWorldWords words.now → result ≤ 3 }
+    ensures world { IsWorldWords words.now → RunsLines of_a_schedule None
         (R.remaining reader.old) (W.contents writer.old) (W.flushed writer.new) (W.has_failed writer.new) result }
-    ensures world_cause { IsWorld words.now
+    ensures world_cause { IsWorldWords words.now
         → FailsForCause (R.remaining reader.old) (R.has_failed reader.new) (W.has_failed writer.new) result }
     ensures threads { (n m : ℕ) → AsksThreads words.now n m
         → UnlessWriteFailed (W.has_failed writer.new) result
         (TellsLength (W.contents writer.old) (W.flushed writer.new) result) }
-    ensures other { ¬ IsSeq words.now → ¬ IsWorld words.now → ((n m : ℕ) → ¬ AsksThreads words.now n m)
+    ensures other { ¬ IsSeqWords words.now → ¬ IsWorldWords words.now → ((n m : ℕ) → ¬ AsksThreads words.now n m)
         → UnlessWriteFailed (W.has_failed writer.new) result
         (TellsUsage (W.contents writer.old) (W.flushed writer.new) result) }
 {
@@ -49,7 +49,7 @@ pub fn run_words<T: Threads + Wait + Sync, R: Source, W: Sink, A: Allocator + Co
         ["world"] => world_lines(alloc, reader, writer),
         _ => match threads_and_keys(words) {
             Some((threads, keys)) => thread_lines(rt, alloc, threads, keys, writer),
-            None => tell_usage(writer),
+            None => print_usage(writer),
         },
     }
 }
@@ -80,7 +80,7 @@ fn number_within(word: &str, least: u64, most: u64) -> Option<u64>
 }
 
 // Writes the line of usage, and returns status 2, or 1 if the write fails.
-fn tell_usage<W: Sink>(writer: &mut W) -> u8
+fn print_usage<W: Sink>(writer: &mut W) -> u8
     ensures { UnlessWriteFailed (W.has_failed writer.new) result
         (TellsUsage (W.contents writer.old) (W.flushed writer.new) result) }
 {

@@ -20,7 +20,7 @@ use Rattle.flurry_seq.specs.Apart.{AreHashed}
 use Rattle.flurry_seq.specs.Invariant.{AreBinsFrom}
 use Rattle.flurry_seq.specs.Table.{pair_of, all_pairs, all_entries}
 use Rattle.flurry_seq.specs.MapsOfBins.{maps_of_bins}
-use Rattle.flurry_seq.specs.Iter.{place_of, entries_left}
+use Rattle.flurry_seq.specs.Iter.{iter_place, entries_left}
 
 same_option : {X : Type 0} {x y : X} → Some x ≡ Some y → x ≡ y
 same_option e = cc
@@ -90,17 +90,17 @@ module _ {K V A : Type 0} {o : _} {e : _} {p : _} where
 
   -- b stands before the other bins
   module _ (all : List (Bin K V A o e p)) (b : Bin K V A o e p) (bins : List (Bin K V A o e p)) (is : all ≡ b ∷ bins) (last : Option (Bor (Entry K V A))) where
-    pub left_after : IsTotalOrder o.cmp → (x : Bor (Entry K V A)) → Some x.now ≡ first_past o.cmp (place_of last) (entries_of_bin b)
+    pub left_after : IsTotalOrder o.cmp → (x : Bor (Entry K V A)) → Some x.now ≡ first_past o.cmp (iter_place last) (entries_of_bin b)
         → entries_left o.cmp all last ≡ pair_of_entry x.now ∷ entries_left o.cmp all (Some x)
     left_after total x f =
         rw is
         (ap (λ es. pairs_of_entries es ++ all_entries (maps_of_bins bins))
-        (past_first (entry_total total) (is_past_bound o.cmp (place_of last)) (bound_further total (place_of last)) (entries_of_bin b) x.now (ascending_of_bin b) (sym f)))
+        (past_first (entry_total total) (is_past_bound o.cmp (iter_place last)) (bound_further total (iter_place last)) (entries_of_bin b) x.now (ascending_of_bin b) (sym f)))
 
-    pub left_behind : None ≡ first_past o.cmp (place_of last) (entries_of_bin b) → entries_left o.cmp all last ≡ entries_left o.cmp bins None
+    pub left_behind : None ≡ first_past o.cmp (iter_place last) (entries_of_bin b) → entries_left o.cmp all last ≡ entries_left o.cmp bins None
     left_behind f =
         rw is
-        (ap (λ es. pairs_of_entries es ++ all_entries (maps_of_bins bins)) (none_found (is_past_bound o.cmp (place_of last)) (entries_of_bin b) (sym f)) ∙ sym (all_left bins))
+        (ap (λ es. pairs_of_entries es ++ all_entries (maps_of_bins bins)) (none_found (is_past_bound o.cmp (iter_place last)) (entries_of_bin b) (sym f)) ∙ sym (all_left bins))
 
 -- the entries of a table's bins lie under their keys' hashes
 pub all_hashed : {K V : Type 0} (cmp : K → K → Ordering) (hash : K → ℕ) (n i : ℕ) (bins : List (List ((ℕ × K) × V))) → AreBinsFrom cmp hash n i bins → AreHashed hash (all_entries bins)

@@ -21,10 +21,10 @@ abbrev pub value_of_item : {V A : Type 0} → Bor (Arc V A) → V
 value_of_item item = arc_value item.now
 
 -- the hash and the key of an entry
-abbrev pub place_of : {K V A : Type 0} → Option (Bor (Entry K V A)) → Option (ℕ × K)
-place_of e = option_map (λ e. (e.now.hash, arc_value e.now.key)) e
+abbrev pub iter_place : {K V A : Type 0} → Option (Bor (Entry K V A)) → Option (ℕ × K)
+iter_place e = option_map (λ e. (e.now.hash, arc_value e.now.key)) e
 
 -- of the first bin the entries past the last one, and all entries of the other bins
 abbrev pub entries_left : {K V A : Type 0} {o : _} {e : _} {p : _} → (K → K → Ordering) → List (Bin K V A o e p) → Option (Bor (Entry K V A)) → List ((ℕ × K) × V)
 entries_left cmp [] last = []
-entries_left cmp (b ∷ bins) last = pairs_of_entries (filter (is_past_bound cmp (place_of last)) (entries_of_bin b)) ++ all_entries (maps_of_bins bins)
+entries_left cmp (b ∷ bins) last = pairs_of_entries (filter (is_past_bound cmp (iter_place last)) (entries_of_bin b)) ++ all_entries (maps_of_bins bins)

@@ -5,7 +5,7 @@ ghost use Rattle.std.specs.Iterator.SizeHint.{IsWithinCount};
 ghost use Rattle.flurry_bins.specs.Entries.{lent_bound};
 ghost use Rattle.flurry_base.specs.FiniteMap.{IsFiniteMap, map_of_pairs};
 ghost use Rattle.flurry_bins.specs.PlainEntries.{pair_of_entry};
-ghost use Rattle.flurry_seq.specs.Iter.{pair_of_item, value_of_item, place_of};
+ghost use Rattle.flurry_seq.specs.Iter.{pair_of_item, value_of_item, iter_place};
 ghost use Rattle.flurry_seq.specs.Table.{all_entries, pair_of};
 ghost use Rattle.flurry_seq.specs.Apart.{AreApart, AreHashed};
 ghost use Rattle.flurry_seq.specs.MapsOfBins.{maps_of_bins};
@@ -39,7 +39,7 @@ impl<'a, K: Ord, V, A: Allocator> Model for Entries<'a, K, V, A> {
 
 // The place of an entry: its hash and its key.
 fn place_of_last<'a, K, V, A: Allocator>(last: Option<&'a Entry<K, V, A>>) -> Option<(u64, &'a K)>
-    ensures { lent_bound result ≡ place_of last.entry }
+    ensures { lent_bound result ≡ iter_place last.entry }
 {
     match last {
         Some(entry) => Some((entry.hash, entry.key.as_ref())),

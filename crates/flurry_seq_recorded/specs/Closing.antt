@@ -1,5 +1,6 @@
 -- When the shares that are handed back fit a book.
 use Rattle.std.specs.Prelude.{◌≡◌, ◌==◌, ◌≤◌, ◌<◌, ◌&&◌, ℕ, Bool, false, List, map, length, count_by, All, slice_get, IsTrue}
+use Rattle.flurry_base.specs.Occurrences.{occurrences}
 use Rattle.std.specs.List.{flat_map}
 use Rattle.std.specs.List.Sorted.{IsStrictlyIncreasing}
 use Rattle.std.specs.Option.{option_map_or}
@@ -13,13 +14,9 @@ use Rattle.flurry_seq_recorded.specs.declared.kept.KeptCall.{KeptCall}
 use Rattle.flurry_seq_recorded.specs.declared.kept.KeptEntry.{KeptEntry}
 use Rattle.flurry_seq_recorded.specs.declared.share.Receipt.{Receipt}
 
--- how often a number stands in a list
-abbrev pub times : ℕ → List ℕ → ℕ
-times x xs = count_by (λ y. y == x) xs
-
 -- no number comes twice
 abbrev pub AreDistinct : List ℕ → Type 0
-AreDistinct xs = (x : ℕ) → times x xs ≤ 1
+AreDistinct xs = (x : ℕ) → occurrences x xs ≤ 1
 
 module _ {K V : Type 0} where
   -- the receipts of all shares, one share after another

@@ -10,7 +10,7 @@ use flurry_base::sizes::{MAX_BINS, MAX_LEN, TABLES};
 use flurry_bins::bin::Bin;
 use flurry_bins_slots::{Answer, Slot};
 use flurry_seq::SeqMap;
-use flurry_shared_locks::{Lender, Locks};
+use flurry_shared_locks::{LockField, Locks};
 use std::alloc::{AllocError, Allocator};
 use std::sync::{Arc, Wait};
 
@@ -37,10 +37,10 @@ impl<K: Ord + Drop, V: Drop, S: KeyHasher<K>, A: Allocator + Copy> HashMap<K, V,
         let Ok(locks) = Locks::with_table(alloc, table) else {
             return Err(map);
         };
-        let lender = Lender::new(rt, &locks);
-        lender.count(map.len() as i64);
+        let lock_field = LockField::new(rt, &locks);
+        lock_field.count(map.len() as i64);
         let (bins, hasher) = map.into_bins();
-        put_bins(&lender, table, bins);
+        put_bins(&lock_field, table, bins);
         Ok(HashMap::of_locks(locks, hasher))
     }
 
@@ -60,7 +60,7 @@ impl<K: Ord + Drop, V: Drop, S: KeyHasher<K>, A: Allocator + Copy> HashMap<K, V,
     {
         let pairs = self.len(rt);
         let HashMap { locks, hasher, .. } = self;
-        collect(&Lender::new(rt, &locks), pairs, hasher)
+        collect(&LockField::new(rt, &locks), pairs, hasher)
     }
 
     /// Creates another map, of the pairs that are found while other calls run, with the same hasher and the same number of processors. It
@@ -78,7 +78,7 @@ impl<K: Ord + Drop, V: Drop, S: KeyHasher<K>, A: Allocator + Copy> HashMap<K, V,
         S: Copy + Drop,
         ensures { IfOk result (λ m. m ≡ self.now) }
     {
-        let copy = collect(&Lender::new(rt, &self.locks), self.len(rt), self.hasher)?;
+        let copy = collect(&LockField::new(rt, &self.locks), self.len(rt), self.hasher)?;
         match HashMap::from_seq(rt, copy) {
             Ok(map) => Ok(map.with_processors(self.processors)),
             Err(_) => Err(AllocError),
@@ -86,17 +86,17 @@ impl<K: Ord + Drop, V: Drop, S: KeyHasher<K>, A: Allocator + Copy> HashMap<K, V,
     }
 }
 
-// Collects the pairs that are under the locks of `lender` in a map of one owner, which starts with room for `pairs` pairs.
+// Collects the pairs that are under the locks of `lock_field` in a map of one owner, which starts with room for `pairs` pairs.
 fn collect<K: Ord + Drop, V: Drop, S: KeyHasher<K> + Drop, A: Allocator + Copy, R: Wait>(
-    lender: &Lender<'_, R, K, V, A>,
+    lock_field: &LockField<'_, R, K, V, A>,
     pairs: usize,
     hasher: S,
 ) -> Result<SeqMap<K, V, S, A>, AllocError>
     ensures { IfOk result (λ m. m.hasher ≡ hasher) }
 {
-    let mut map = SeqMap::with_capacity_and_hasher(lender.allocator(), pairs, hasher)?;
+    let mut map = SeqMap::with_capacity_and_hasher(lock_field.allocator(), pairs, hasher)?;
     for table in 0..TABLES {
-        add_table(lender, table as u8, &mut map)?;
+        add_table(lock_field, table as u8, &mut map)?;
     }
     Ok(map)
 }
@@ -113,7 +113,7 @@ fn exponent(bins: usize) -> u8
 
 // Puts each of `bins` into its slot of a table that has as many slots.
 fn put_bins<K: Ord + Drop, V: Drop, A: Allocator + Copy, R: Wait>(
-    lender: &Lender<'_, R, K, V, A>,
+    lock_field: &LockField<'_, R, K, V, A>,
     table: u8,
     bins: Vec<Bin<K, V, A>, A>,
 )
@@ -123,8 +123,8 @@ fn put_bins<K: Ord + Drop, V: Drop, A: Allocator + Copy, R: Wait>(
 {
     let mut index = 0;
     for bin in bins {
-        if let Some(slot) = lender.slot(table, index) {
-            *slot.write(lender.runtime()) = Slot::live(table, index, bin);
+        if let Some(slot) = lock_field.slot(table, index) {
+            *slot.write(lock_field.runtime()) = Slot::live(table, index, bin);
         }
         index += 1;
     }
@@ -132,17 +132,17 @@ fn put_bins<K: Ord + Drop, V: Drop, A: Allocator + Copy, R: Wait>(
 
 // Adds the pairs of a table's live bins to `map`.
 fn add_table<K: Ord + Drop, V: Drop, S: KeyHasher<K>, A: Allocator + Copy, R: Wait>(
-    lender: &Lender<'_, R, K, V, A>,
+    lock_field: &LockField<'_, R, K, V, A>,
     table: u8,
     map: &mut SeqMap<K, V, S, A>,
 ) -> Result<(), AllocError>
     ensures { map.new.hasher ≡ map.old.hasher }
 {
     for index in 0..MAX_BINS {
-        let Some(slot) = lender.slot(table, index) else {
+        let Some(slot) = lock_field.slot(table, index) else {
             return Ok(());
         };
-        add_bin(&*slot.read(lender.runtime()), map)?;
+        add_bin(&*slot.read(lock_field.runtime()), map)?;
     }
     Ok(())
 }

@@ -1,2 +1,2 @@
 pub mod LockLoans
-pub mod WalkTurns
+pub mod WalkSteps

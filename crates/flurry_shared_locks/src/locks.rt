@@ -13,14 +13,14 @@ use std::alloc::{AllocError, Allocator, Global};
 /// until the control collects them.
 ///
 /// Each lock keeps what the type of its part keeps: the exponents of a control, the seats of a growth, and the order, the region and the
-/// sizes of a slot's bin. A [`Lender`](crate::Lender) takes the locks.
+/// sizes of a slot's bin. A [`LockField`](crate::LockField) takes the locks.
 ///
 /// ```
 /// let locks: Locks<u64, u64, Global> = Locks::new(rt.alloc());
 ///
 /// put_in_threads(&rt, &locks, 500);
 ///
-/// assert_eq!(rt; Lender::new(&rt, &locks).len(), 2000);
+/// assert_eq!(rt; LockField::new(&rt, &locks).len(), 2000);
 /// ```
 #[derive(Drop)]
 pub struct Locks<K: Ord, V, A: Allocator = Global> {

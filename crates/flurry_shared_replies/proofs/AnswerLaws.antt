@@ -3,16 +3,16 @@ use Rattle.std.specs.Prelude.{◌≡◌, ◌⊎◌, ℕ, ℤ, Bool, true, false,
 use Rattle.std.specs.Option.{option_map_or}
 use Rattle.std.specs.declared.cmp.Ordering.{Ordering}
 use Rattle.std.proofs.Common.{refl, sym, subst, inl, inr}
-use Rattle.flurry_steps.specs.Turns.{Turns, still, further, TurnsTo}
+use Rattle.flurry_steps.specs.StepClosure.{StepClosure, still, further, StepsToReply}
 use Rattle.flurry_base.specs.declared.call.Seen.{Seen}
 use Rattle.flurry_shared_replies.specs.Answers.{CanReserve, CanSweep, CanAnswer, CanAnswerFrom, NeedsOwner, HasForm}
 use Rattle.flurry_bins_slots.specs.Slot as slot
 use Rattle.flurry_bins_slots.specs.Slot.{PlainEntry, SlotState, Live, Content, IsLive, HasMoved, IsUnborn, ComputeOutcome, WasAbsent, WasRemoved, WasChanged, Clashes, next_of_live}
 use Rattle.flurry_steps_control.specs.Control.{ControlState, BeginGives, grows_from}
-use Rattle.flurry_steps.specs.Field.{Loan, ControlLoan, PublishedLoan, TallyLoan, LookLoan, BinLoan, MoveLoan, BoardLoan, StepWith, Turn}
+use Rattle.flurry_steps.specs.Field.{Loan, ControlLoan, PublishedLoan, TallyLoan, LookLoan, BinLoan, MoveLoan, BoardLoan, StepWith, FieldStep}
 use Rattle.flurry_steps_sweep.specs.Outcome.{Outcome, OutcomeReply, OutcomeEnded, OutcomeRefused}
 use Rattle.flurry_steps_sweep.specs.Sweep as sweep
-use Rattle.flurry_steps_sweep.specs.Sweep.{Errand, Reads, Wipes, SweepStage, AtOutset, OverBins, AtTotal, AtEnd, AfterEnd, BinGives, WalkGives, ClearGives, ReadGives, SplitGives, set_out_at, stage_walked, stage_cleared, more_wiped, swept_outcome, sets_out}
+use Rattle.flurry_steps_sweep.specs.Sweep.{SweepKind, Reads, Wipes, SweepStage, AtSweepStart, OverBins, AtTotal, AtEnd, AfterEnd, BinGives, WalkGives, ClearGives, ReadGives, SplitGives, start_stage_at, stage_walked, stage_cleared, more_wiped, swept_outcome, is_at_start}
 use Rattle.flurry_steps_sweep.specs.Cursor.{CursorState, after_top}
 use Rattle.flurry_steps.specs.Party as party
 use Rattle.flurry_steps.specs.Party.{AnswerForm, TheValue, ThePair, Presence, Task, Finds, Removes, RemovesSeen, Inserts, Adds, Computes, GrowFor, ForInsert, ForReserve, Help, WantsSeat, AtBoard, Moving, Publishing, GivesBack, Resume, ThenBin, ThenRecount, ThenGrow, Stage, AtLocate, AtBin, AtHelp, AtUncount, AtCount, AtRecount, AtBegin, AtGrow, AtReserve, AtSweep, AtDone, AtTaken, PartyState, reply_for, resumed_stage, published_stage, final_outcome, with_stage, stage_of_call}
@@ -60,10 +60,10 @@ module _ {K V F : Type 0} (changes : F → K → V → Option V → Type 0) (ans
   ResumeServes (ThenGrow w g) = GrowForServes g
 
   -- a call that goes over all bins, which may answer what such a call can until it has ended
-  abbrev Sweeps : Errand → Type 0
+  abbrev Sweeps : SweepKind → Type 0
   Sweeps w = (r : Outcome K V) → CanSweep w r → answers r
 
-  abbrev SweepServes : SweepStage K V → Errand → Type 0
+  abbrev SweepServes : SweepStage K V → SweepKind → Type 0
   SweepServes (AtEnd r) w = answers r
   SweepServes s w = Sweeps w
 
@@ -77,7 +77,7 @@ module _ {K V F : Type 0} (changes : F → K → V → Option V → Type 0) (ans
   StageServes (AtBegin e r) = answers r
   StageServes (AtGrow w g) = GrowForServes g
   StageServes (AtReserve a) = Reserves
-  StageServes (AtSweep w) = SweepServes w.stage w.errand
+  StageServes (AtSweep w) = SweepServes w.stage w.kind
   StageServes (AtDone r) = answers r
   StageServes AtTaken = ⊥
 
@@ -95,8 +95,8 @@ module _ {K V F : Type 0} (changes : F → K → V → Option V → Type 0) (ans
   served (AtReserve a) r h e = cc
   served (AtSweep w) r h e = by_end w.stage h e
     where
-      by_end : (z : SweepStage K V) → SweepServes z w.errand → swept_outcome z ≡ Some r → answers r
-      by_end AtOutset h e = cc
+      by_end : (z : SweepStage K V) → SweepServes z w.kind → swept_outcome z ≡ Some r → answers r
+      by_end AtSweepStart h e = cc
       by_end (OverBins c) h e = cc
       by_end AtTotal h e = cc
       by_end (AtEnd q) h e = let one : q ≡ r = cc in subst answers one h
@@ -172,14 +172,14 @@ module _ {K V F : Type 0} (changes : F → K → V → Option V → Type 0) (ans
   with_moved (AtDone r) h = h
   with_moved AtTaken h = h
 
-  at_outset : (w : Errand) (z : SweepStage K V) → sets_out z ≡ true → SweepServes z w → Sweeps w
-  at_outset w AtOutset yet h = h
+  at_outset : (w : SweepKind) (z : SweepStage K V) → is_at_start z ≡ true → SweepServes z w → Sweeps w
+  at_outset w AtSweepStart yet h = h
   at_outset w (OverBins c) yet h = cc
   at_outset w AtTotal yet h = cc
   at_outset w (AtEnd r) yet h = cc
   at_outset w AfterEnd yet h = cc
 
-  after_start : (d : ℕ) (s : Stage K V F) → party.locates s ≡ true → StageServes s → StageServes (published_stage d s)
+  after_start : (d : ℕ) (s : Stage K V F) → party.is_locating s ≡ true → StageServes s → StageServes (published_stage d s)
   after_start d (AtLocate t) yet h = h
   after_start d (AtBin t e) yet h = h
   after_start d (AtHelp k a) yet h = h
@@ -189,7 +189,7 @@ module _ {K V F : Type 0} (changes : F → K → V → Option V → Type 0) (ans
   after_start d (AtBegin e r) yet h = h
   after_start d (AtGrow w g) yet h = h
   after_start d (AtReserve a) yet h = h
-  after_start d (AtSweep w) yet h = at_outset w.errand w.stage yet h
+  after_start d (AtSweep w) yet h = at_outset w.kind w.stage yet h
   after_start d (AtDone r) yet h = h
   after_start d AtTaken yet h = h
 
@@ -234,9 +234,9 @@ module _ {K V F : Type 0} (changes : F → K → V → Option V → Type 0) (ans
     makes w (event.Published e) h g = absurd g
     makes w event.Silent h g = absurd g
 
-    locates : (t : Task K V F) (ev : Event) (o : Option ℕ) → Serves t → MatchOption o (LocatesNone place p m t b s ev st b' s') (λ e. (ev ≡ event.Silent) × (st ≡ AtBin t e) × (b' ≡ b) × (s' ≡ s)) → StageServes st
-    locates t ev None h g = none t ev h g
-    locates t ev (Some e) h g = subst StageServes (sym g.1) h
+    is_locating : (t : Task K V F) (ev : Event) (o : Option ℕ) → Serves t → MatchOption o (LocatesNone place p m t b s ev st b' s') (λ e. (ev ≡ event.Silent) × (st ≡ AtBin t e) × (b' ≡ b) × (s' ≡ s)) → StageServes st
+    is_locating t ev None h g = none t ev h g
+    is_locating t ev (Some e) h g = subst StageServes (sym g.1) h
 
     reserves : (w : ℕ) (ev : Event) (o : Option ℕ) → Reserves → MatchOption o (MakesFor place p m w b s ev st b' s') (λ e. (ev ≡ event.Silent) × (st ≡ AtGrow w ForReserve) × (b' ≡ b) × (s' ≡ s)) → StageServes st
     reserves w ev None h g = makes w ev h g
@@ -248,7 +248,7 @@ module _ {K V F : Type 0} (changes : F → K → V → Option V → Type 0) (ans
     grows w g ev (Some e) h x = subst StageServes (sym x.3) (after_growing e w g x.0 h)
 
     at_control : (c : Stage K V F) (ev : Event) → StageServes c → StageAtControl place p m c b s ev st b' s' → StageServes st
-    at_control (AtLocate t) ev h g = locates t ev b.published h g
+    at_control (AtLocate t) ev h g = is_locating t ev b.published h g
     at_control (AtBin t e) ev h g = absurd g
     at_control (AtHelp (WantsSeat e) a) ev h g = absurd g
     at_control (AtHelp (AtBoard e) a) ev h g = absurd g
@@ -261,15 +261,15 @@ module _ {K V F : Type 0} (changes : F → K → V → Option V → Type 0) (ans
     at_control (AtBegin e r) ev h g = subst StageServes (sym g.3) (after_begun e r g.0 h)
     at_control (AtGrow w x) ev h g = grows w x ev (grows_from w b) h g
     at_control (AtReserve a) ev h g = reserves g.0 ev b.published h g.2
-    at_control (AtSweep w) ev h (w', same, g, _) = subst StageServes (sym same) (subst (SweepServes w'.stage) (sym g.errand) (after_control w.errand w.stage h g.step))
+    at_control (AtSweep w) ev h (w', same, g, _) = subst StageServes (sym same) (subst (SweepServes w'.stage) (sym g.kind) (after_control w.kind w.stage h g.step))
       where
-        set_out : (u : Errand) (o : Option ℕ) → Sweeps u → CanSweep {K = K} {V = V} u OutcomeEnded → SweepServes (set_out_at o) u
-        set_out u None h can = h OutcomeEnded can
-        set_out u (Some e) h can = h
+        start_stage : (u : SweepKind) (o : Option ℕ) → Sweeps u → CanSweep {K = K} {V = V} u OutcomeEnded → SweepServes (start_stage_at o) u
+        start_stage u None h can = h OutcomeEnded can
+        start_stage u (Some e) h can = h
 
-        after_control : (u : Errand) (z : SweepStage K V) → SweepServes z u → sweep.StageAtControl u z b w'.stage b' → SweepServes w'.stage u
-        after_control Reads AtOutset h g = subst (λ z. SweepServes z Reads) (sym g.0) (set_out Reads b.published h tt)
-        after_control (Wipes n) AtOutset h g = subst (λ z. SweepServes z (Wipes n)) (sym g.0) (set_out (Wipes n) b.published h tt)
+        after_control : (u : SweepKind) (z : SweepStage K V) → SweepServes z u → sweep.StageAtControl u z b w'.stage b' → SweepServes w'.stage u
+        after_control Reads AtSweepStart h g = subst (λ z. SweepServes z Reads) (sym g.0) (start_stage Reads b.published h tt)
+        after_control (Wipes n) AtSweepStart h g = subst (λ z. SweepServes z (Wipes n)) (sym g.0) (start_stage (Wipes n) b.published h tt)
         after_control (Wipes n) AtTotal h g = subst (λ z. SweepServes z (Wipes n)) (sym g.0) (h OutcomeEnded tt)
         after_control Reads AtTotal h g = absurd g
         after_control Reads (OverBins f) h g = absurd g
@@ -371,11 +371,11 @@ module _ {K V F : Type 0} (changes : F → K → V → Option V → Type 0) (ans
     at_slot (AtBegin e r) q ev s' c h g = absurd g
     at_slot (AtGrow w x) q ev s' c h g = absurd g
     at_slot (AtReserve a) q ev s' c h g = absurd g
-    at_slot (AtSweep w) q ev s' c h (w', same, g) = subst StageServes (sym same) (after_bin w.errand w.stage h g)
+    at_slot (AtSweep w) q ev s' c h (w', same, g) = subst StageServes (sym same) (after_bin w.kind w.stage h g)
       where
-        walk_on : (o : Option (CursorState K)) → Sweeps Reads → SweepServes (stage_walked o) Reads
-        walk_on None h = h OutcomeEnded tt
-        walk_on (Some f) h = h
+        step_walk : (o : Option (CursorState K)) → Sweeps Reads → SweepServes (stage_walked o) Reads
+        step_walk None h = h OutcomeEnded tt
+        step_walk (Some f) h = h
 
         clear_on : (n : ℕ) (o : Option (CursorState K)) → Sweeps (Wipes n) → SweepServes (stage_cleared o) (Wipes n)
         clear_on n None h = h
@@ -404,7 +404,7 @@ module _ {K V F : Type 0} (changes : F → K → V → Option V → Type 0) (ans
         at_moved f (event.Published _) h g = absurd g
 
         at_next : (f : CursorState K) (o : Option (PlainEntry K V)) → Sweeps Reads → MatchOption o ((ev ≡ event.Silent) × (w'.stage ≡ stage_walked (after_top f)) × (w'.last ≡ w.last)) (λ x. ReadGives f x w.last ev w'.stage w'.last) → SweepServes w'.stage Reads
-        at_next f None h g = subst (λ z. SweepServes z Reads) (sym g.1) (walk_on (after_top f) h)
+        at_next f None h g = subst (λ z. SweepServes z Reads) (sym g.1) (step_walk (after_top f) h)
         at_next f (Some x) h g = at_entry f x ev h g
 
         walks : (f : CursorState K) (z : Content K V) → Sweeps Reads → WalkGives cmp f z w.last ev w'.stage w'.last → SweepServes w'.stage Reads
@@ -412,16 +412,16 @@ module _ {K V F : Type 0} (changes : F → K → V → Option V → Type 0) (ans
         walks f HasMoved h g = at_moved f ev h g.0
         walks f IsUnborn h g = subst (λ z. SweepServes z Reads) (sym g.1) h
 
-        clears : (n : ℕ) (f : CursorState K) (z : Content K V) → Sweeps (Wipes n) → ClearGives n f z ev w'.errand w'.stage c → SweepServes w'.stage w'.errand
-        clears n f (IsLive b) h g = subst (SweepServes w'.stage) (sym g.1) (subst (λ z. SweepServes z (Wipes (more_wiped n (length b.held)))) (sym g.2) (clear_on _ (after_top f) h))
+        clears : (n : ℕ) (f : CursorState K) (z : Content K V) → Sweeps (Wipes n) → ClearGives n f z ev w'.kind w'.stage c → SweepServes w'.stage w'.kind
+        clears n f (IsLive b) h g = subst (SweepServes w'.stage) (sym g.1) (subst (λ z. SweepServes z (Wipes (more_wiped n (length b.plain_entries)))) (sym g.2) (clear_on _ (after_top f) h))
         clears n f HasMoved h g = subst (SweepServes w'.stage) (sym g.1) (subst (λ z. SweepServes z (Wipes n)) (sym g.2) h)
         clears n f IsUnborn h g = subst (SweepServes w'.stage) (sym g.1) (subst (λ z. SweepServes z (Wipes n)) (sym g.2) h)
 
-        after_bin : (u : Errand) (z : SweepStage K V) → SweepServes z u → BinGives cmp u z w.last q ev w' c → SweepServes w'.stage w'.errand
+        after_bin : (u : SweepKind) (z : SweepStage K V) → SweepServes z u → BinGives cmp u z w.last q ev w' c → SweepServes w'.stage w'.kind
         after_bin Reads (OverBins f) h g = subst (SweepServes w'.stage) (sym g.0) (walks f q h g.1)
         after_bin (Wipes n) (OverBins f) h g = clears n f q h g.1
-        after_bin Reads AtOutset h g = absurd g
-        after_bin (Wipes n) AtOutset h g = absurd g
+        after_bin Reads AtSweepStart h g = absurd g
+        after_bin (Wipes n) AtSweepStart h g = absurd g
         after_bin Reads AtTotal h g = absurd g
         after_bin (Wipes n) AtTotal h g = absurd g
         after_bin Reads (AtEnd r) h g = absurd g
@@ -460,9 +460,9 @@ module _ {K V F : Type 0} (changes : F → K → V → Option V → Type 0) (ans
     with_loan (MoveLoan q low high q' low' high') p p' ev h g = at_move p p' q low high q' low' high' ev h g.2.step
     with_loan (BoardLoan e x) p p' ev h g = subst (λ z. StageServes z.stage) (sym g.1.after) (after_answer x p.stage h)
 
-    all_turns : {s s' : S} {p p' : PartyState K V F} → StageServes p.stage → Turns (Turn place cmp changes lends) s p s' p' → StageServes p'.stage
+    all_turns : {s s' : S} {p p' : PartyState K V F} → StageServes p.stage → StepClosure (FieldStep place cmp changes lends) s p s' p' → StageServes p'.stage
     all_turns h still = h
-    all_turns {p' = p'} h (further {p' = e} ev turns turn) = with_loan turn.loan e p' ev (all_turns h turns) turn.step
+    all_turns {p' = p'} h (further {p' = e} ev field_steps field_step) = with_loan field_step.loan e p' ev (all_turns h field_steps) field_step.step
 
 -- a call that did no step yet can answer what its first stage can
 first_serves : {K V F A : Type 0} (changes : F → K → V → Option V → Type 0) (c : Call K V F A) → StageServes changes (CanAnswerFrom changes (stage_of_call (plain_call c))) (stage_of_call (plain_call c))
@@ -479,7 +479,7 @@ first_serves changes (call.Reserve a) = λ r h. h
 first_serves changes call.Clear = λ r h. h
 first_serves changes call.Walk = λ r h. h
 
-module _ {S R K V F : Type 0} (place : R → ℕ → Option ℕ → Bool → R → Type 0) (cmp : K → K → Ordering) (changes : F → K → V → Option V → Type 0) (lends : S → Loan K V R → S → Type 0) {s s' : S} {p p' : PartyState K V F} {r : Outcome K V} (turns : TurnsTo (Turn place cmp changes lends) s p r s' p') where
+module _ {S R K V F : Type 0} (place : R → ℕ → Option ℕ → Bool → R → Type 0) (cmp : K → K → Ordering) (changes : F → K → V → Option V → Type 0) (lends : S → Loan K V R → S → Type 0) {s s' : S} {p p' : PartyState K V F} {r : Outcome K V} (field_steps : StepsToReply (FieldStep place cmp changes lends) s p r s' p') where
   -- the reply to which steps take a call is one that it can answer
   pub can_answer : {A : Type 0} (c : Call K V F A) → p.stage ≡ stage_of_call (plain_call c) → CanAnswerFrom changes (stage_of_call (plain_call c)) r
-  can_answer c e = served changes (CanAnswerFrom changes (stage_of_call (plain_call c))) turns.last.stage r (all_turns changes (CanAnswerFrom changes (stage_of_call (plain_call c))) place cmp lends (subst (StageServes changes (CanAnswerFrom changes (stage_of_call (plain_call c)))) (sym e) (first_serves changes c)) turns.turns) turns.done
+  can_answer c e = served changes (CanAnswerFrom changes (stage_of_call (plain_call c))) field_steps.last.stage r (all_turns changes (CanAnswerFrom changes (stage_of_call (plain_call c))) place cmp lends (subst (StageServes changes (CanAnswerFrom changes (stage_of_call (plain_call c)))) (sym e) (first_serves changes c)) field_steps.field_steps) field_steps.done

@@ -1,7 +1,7 @@
 -- The first steps of a call at once are its own.
 use Rattle.std.proofs.Common.{◌≡◌, ℕ, ℤ, ◌%◌, ◌^◌, ◌≤◌, true, Option, refl, subst}
 use Rattle.std.specs.declared.cmp.Ordering.{Ordering}
-use Rattle.flurry_steps.specs.Turns.{Turns, still, further}
+use Rattle.flurry_steps.specs.StepClosure.{StepClosure, still, further}
 use Rattle.flurry_shared_replies.specs.Replies.{GoesTo, IsReplyOf, new_party}
 use Rattle.flurry_base.specs.declared.sizes.TheConstants.{MAX_TABLE}
 use Rattle.flurry_bins_slots.specs.Slot.{SlotState, IsSlot}
@@ -9,7 +9,7 @@ use Rattle.flurry_steps.specs.Field.{PublishedLoan, TallyLoan, LookLoan, BinLoan
 use Rattle.flurry_steps.specs.FirstSteps.{BeginsAt, begun_at}
 use Rattle.flurry_steps_sweep.specs.Outcome.{Outcome}
 use Rattle.flurry_steps_sweep.specs.Part.{LookPart, BinPart}
-use Rattle.flurry_steps.specs.Party.{PartyState, Stage, AtDone, AtTaken, wanted_part, locates, LooksUp, BeginsToWrite, stage_of_call}
+use Rattle.flurry_steps.specs.Party.{PartyState, Stage, AtDone, AtTaken, wanted_part, is_locating, LooksUp, BeginsToWrite, stage_of_call}
 use Rattle.flurry_steps.specs.PartyTally.{StageAtTally}
 use Rattle.flurry_steps.specs.PartyView.{plain_call}
 use Rattle.flurry_steps_sweep.specs.declared.step.Event.{Event}
@@ -18,7 +18,7 @@ use Rattle.flurry_steps.specs.declared.party.call.Call.{Call}
 use Rattle.flurry_steps.specs.declared.party.call.Call.TheVariants as call
 
 -- a look-up that did no step yet asks for the published table
-pub look_locates : {K V F A : Type 0} (c : Call K V F A) → LooksUp (stage_of_call (plain_call c)) → locates (stage_of_call (plain_call c)) ≡ true
+pub look_locates : {K V F A : Type 0} (c : Call K V F A) → LooksUp (stage_of_call (plain_call c)) → is_locating (stage_of_call (plain_call c)) ≡ true
 look_locates (call.Get k) h = refl
 look_locates (call.GetKeyValue k) h = refl
 look_locates (call.ContainsKey k) h = refl
@@ -48,7 +48,7 @@ look_wants call.Clear d h n looks = absurd looks
 look_wants call.Walk d h n looks = absurd looks
 
 -- and so does a call that may change its bin
-pub write_locates : {K V F A : Type 0} (c : Call K V F A) → BeginsToWrite (stage_of_call (plain_call c)) → locates (stage_of_call (plain_call c)) ≡ true
+pub write_locates : {K V F A : Type 0} (c : Call K V F A) → BeginsToWrite (stage_of_call (plain_call c)) → is_locating (stage_of_call (plain_call c)) ≡ true
 write_locates (call.Get k) h = absurd h
 write_locates (call.GetKeyValue k) h = absurd h
 write_locates (call.ContainsKey k) h = absurd h
@@ -77,12 +77,12 @@ write_wants call.Clear d h n writes = absurd writes
 write_wants call.Walk d h n writes = absurd writes
 
 module _ {S K V F : Type 0} {step : S → PartyState K V F → Event → S → PartyState K V F → Type 0} where
-  both : {s s' s'' : S} {p p' p'' : PartyState K V F} → Turns step s p s' p' → Turns step s' p' s'' p'' → Turns step s p s'' p''
+  both : {s s' s'' : S} {p p' p'' : PartyState K V F} → StepClosure step s p s' p' → StepClosure step s' p' s'' p'' → StepClosure step s p s'' p''
   both first still = first
-  both first (further ev turns turn) = further ev (both first turns) turn
+  both first (further ev field_steps field_step) = further ev (both first field_steps) field_step
 
 module _ {K V F : Type 0} (cmp : K → K → Ordering) (changes : F → K → V → Option V → Type 0) where
-  module _ (h n d : ℕ) (s s' : Stage K V F) (asks : locates s ≡ true) (within : d ≤ MAX_TABLE) where
+  module _ (h n d : ℕ) (s s' : Stage K V F) (asks : is_locating s ≡ true) (within : d ≤ MAX_TABLE) where
     -- a call that began at a published table, and did the step at its bin there
     pub look_begun : (q : SlotState K V) → wanted_part (begun_at d h n s) ≡ LookPart q.table q.index → IsSlot cmp q → BeginsAt cmp changes h d s q s' q
         → GoesTo cmp changes (new_party h n s) (new_party h n s')
@@ -103,16 +103,16 @@ module _ {K V F : Type 0} (cmp : K → K → Ordering) (changes : F → K → V 
   module _ (r : Outcome K V) where
     -- a call that steps lead to its end
     pub done_by : (h n : ℕ) (p : PartyState K V F) → GoesTo cmp changes p (new_party h n (AtDone r)) → IsReplyOf cmp changes p r
-    done_by h n p turns = record {
+    done_by h n p field_steps = record {
       last = new_party h n AtTaken;
-      turns = record { last = new_party h n (AtDone r); turns = turns; done = refl; after = refl };
+      field_steps = record { last = new_party h n (AtDone r); field_steps = field_steps; done = refl; after = refl };
     }
 
     -- the reply of a call that goes on after steps is the whole call's
     pub goes_on : (p q : PartyState K V F) → GoesTo cmp changes p q → IsReplyOf cmp changes q r → IsReplyOf cmp changes p r
     goes_on p q first x = record {
       last = x.last;
-      turns = record { last = x.turns.last; turns = both first x.turns.turns; done = x.turns.done; after = x.turns.after };
+      field_steps = record { last = x.field_steps.last; field_steps = both first x.field_steps.field_steps; done = x.field_steps.done; after = x.field_steps.after };
     }
 
     -- of an equal state

@@ -1,4 +1,4 @@
 pub mod AnswerLaws
 pub mod BeginLaws
-pub mod LenderLaws
+pub mod FieldLaws
 pub mod RefusalLaws

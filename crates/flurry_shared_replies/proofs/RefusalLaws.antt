@@ -12,7 +12,7 @@ use Rattle.flurry_shared_replies.proofs.BeginLaws.{write_begun, done_by}
 module _ {K V F : Type 0} (cmp : K → K → Ordering) (changes : F → K → V → Option V → Type 0) (h n : ℕ) (k : K) (v : V) where
   -- the empty bin of a table of one bin
   abbrev sole : SlotState K V
-  sole = record { table = 0; index = h % 2 ^ 0; content = IsLive (record { held = []; tree = false; writes = 0 }) }
+  sole = record { table = 0; index = h % 2 ^ 0; content = IsLive (record { plain_entries = []; tree = false; writes = 0 }) }
 
   sole-ok : IsSlot cmp sole
   sole-ok = record {

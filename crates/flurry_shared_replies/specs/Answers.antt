@@ -3,7 +3,7 @@ use Rattle.std.specs.Prelude.{◌≡◌, Option, Some, None, ⊤}
 use Rattle.flurry_base.specs.declared.reply.KeptReply.{KeptReply}
 use Rattle.flurry_base.specs.declared.reply.KeptReply.TheVariants.{Value, Pair, Contains, New, Exists}
 use Rattle.flurry_steps_sweep.specs.Outcome.{Outcome, OutcomeReply, OutcomeEnded, OutcomeRefused}
-use Rattle.flurry_steps_sweep.specs.Sweep.{Errand, Reads, Wipes}
+use Rattle.flurry_steps_sweep.specs.Sweep.{SweepKind, Reads, Wipes}
 use Rattle.flurry_steps.specs.Party.{AnswerForm, TheValue, ThePair, Presence, Task, Finds, Removes, RemovesSeen, Inserts, Adds, Computes, Stage, AtLocate, AtReserve, AtSweep}
 
 -- what is told by a further owner can want memory
@@ -62,7 +62,7 @@ module _ {K V : Type 0} where
   CanClear OutcomeEnded = ⊤
   CanClear OutcomeRefused = ⊥
 
-  abbrev pub CanSweep : Errand → Outcome K V → Type 0
+  abbrev pub CanSweep : SweepKind → Outcome K V → Type 0
   CanSweep Reads r = CanWalk r
   CanSweep (Wipes n) r = CanClear r
 
@@ -92,5 +92,5 @@ module _ {K V F : Type 0} (changes : F → K → V → Option V → Type 0) wher
   abbrev pub CanAnswerFrom : Stage K V F → Outcome K V → Type 0
   CanAnswerFrom (AtLocate t) r = CanAnswer t r
   CanAnswerFrom (AtReserve a) r = CanReserve r
-  CanAnswerFrom (AtSweep w) r = CanSweep w.errand r
+  CanAnswerFrom (AtSweep w) r = CanSweep w.kind r
   CanAnswerFrom _ r = ⊥

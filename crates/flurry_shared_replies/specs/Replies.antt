@@ -1,9 +1,9 @@
 -- What contracts say of the reply of a call over the locks.
 use Rattle.std.specs.Prelude.{◌≡◌, ℕ, Option, None, Result, Ok, Err}
 use Rattle.std.specs.declared.cmp.Ordering.{Ordering}
-use Rattle.flurry_steps.specs.Turns.{Turns, TurnsTo}
+use Rattle.flurry_steps.specs.StepClosure.{StepClosure, StepsToReply}
 use Rattle.flurry_shared_locks.specs.LockLoans.{LockLends, RoomStays}
-use Rattle.flurry_steps.specs.Field.{Turn}
+use Rattle.flurry_steps.specs.Field.{FieldStep}
 use Rattle.flurry_steps.specs.PartyTally.{EndingState, ending_stage}
 use Rattle.flurry_steps_sweep.specs.Outcome.{Outcome}
 use Rattle.flurry_steps_sweep.specs.OutcomeView.{outcome_of}
@@ -21,7 +21,7 @@ new_party h n s = record { hash = h; processors = n; helped = None; stage = s }
 -- of where tables are made.
 pub record IsReplyOf {K V F : Type 0} (cmp : K → K → Ordering) (changes : F → K → V → Option V → Type 0) (p : PartyState K V F) (r : Outcome K V) : Type 0 where
   pub last : PartyState K V F
-  pub turns : TurnsTo {S = Unit {0}} (Turn (RoomStays {M = Unit {0}}) cmp changes LockLends) tt p r tt last
+  pub field_steps : StepsToReply {S = Unit {0}} (FieldStep (RoomStays {M = Unit {0}}) cmp changes LockLends) tt p r tt last
 
 -- the reply is that of a call of that hash at that stage, for so many processors
 abbrev pub RepliesFrom : {K V F A : Type 0} → (K → K → Ordering) → (F → K → V → Option V → Type 0) → ℕ → ℕ → Stage K V F → Reply K V A → Type 0
@@ -29,7 +29,7 @@ RepliesFrom cmp changes h n s r = IsReplyOf cmp changes (new_party h n s) (outco
 
 -- steps of the very call lead from p to p'
 abbrev pub GoesTo : {K V F : Type 0} → (K → K → Ordering) → (F → K → V → Option V → Type 0) → PartyState K V F → PartyState K V F → Type 0
-GoesTo cmp changes p p' = Turns {S = Unit {0}} (Turn (RoomStays {M = Unit {0}}) cmp changes LockLends) tt p tt p'
+GoesTo cmp changes p p' = StepClosure {S = Unit {0}} (FieldStep (RoomStays {M = Unit {0}}) cmp changes LockLends) tt p tt p'
 
 -- a call of that hash has begun, for however many processors, whatever it left behind; or it has done no step, and comes back
 abbrev pub BeginsOrStays : {K V F A B : Type 0} → (K → K → Ordering) → (F → K → V → Option V → Type 0) → ℕ → Call K V F A → Result (EndingState K V × B) (Call K V F A) → Type 0

@@ -7,7 +7,7 @@ ghost use Rattle.flurry_steps.specs.PartyView.{CallIsReady, plain_call};
 
 use flurry_base::sizes::bin_index;
 use flurry_bins_slots::ComputeFn;
-use flurry_shared_locks::{CallLender, Lender};
+use flurry_shared_locks::{CallField, LockField};
 use flurry_steps::party::{Call, Ending, Remains, Reply};
 use flurry_steps::{Party, finish};
 use flurry_steps_control::PublishedTable;
@@ -23,7 +23,7 @@ use std::sync::Wait;
 // these are all, or if the step at a tally is the last.
 #[inline(always)]
 pub fn reply_to<K: Ord + Drop, V: Drop, F: ComputeFn<K, V>, A: Allocator + Copy, R: Wait>(
-    lender: &Lender<'_, R, K, V, A>,
+    lock_field: &LockField<'_, R, K, V, A>,
     call: Call<'_, K, V, F, A>,
     hash: u64,
     processors: usize,
@@ -31,23 +31,23 @@ pub fn reply_to<K: Ord + Drop, V: Drop, F: ComputeFn<K, V>, A: Allocator + Copy,
     requires { CallIsReady F.can_change call }
     ensures { RepliesFrom K.cmp F.changes hash processors (stage_of_call (plain_call call.entry)) result }
 {
-    let Some(start) = lender.newest() else {
-        return drive_call(lender, call, hash, processors);
+    let Some(start) = lock_field.newest() else {
+        return drive_call(lock_field, call, hash, processors);
     };
     match &call {
         Call::Reserve(_) | Call::Clear | Call::Walk => {
-            return drive_call(lender, call, hash, processors);
+            return drive_call(lock_field, call, hash, processors);
         }
         Call::Get(_) | Call::GetKeyValue(_) | Call::ContainsKey(_) => {
-            return look(lender, start, call, hash, processors);
+            return look_up_at_table(lock_field, start, call, hash, processors);
         }
-        _ => return write(lender, start, call, hash, processors),
+        _ => return write_at_table(lock_field, start, call, hash, processors),
     }
 }
 
 // Runs a look-up that starts at the table `start`, and returns its reply.
-fn look<K: Ord + Drop, V: Drop, F: ComputeFn<K, V>, A: Allocator + Copy, R: Wait>(
-    lender: &Lender<'_, R, K, V, A>,
+fn look_up_at_table<K: Ord + Drop, V: Drop, F: ComputeFn<K, V>, A: Allocator + Copy, R: Wait>(
+    lock_field: &LockField<'_, R, K, V, A>,
     start: &PublishedTable,
     call: Call<'_, K, V, F, A>,
     hash: u64,
@@ -59,19 +59,19 @@ fn look<K: Ord + Drop, V: Drop, F: ComputeFn<K, V>, A: Allocator + Copy, R: Wait
 {
     let table = start.table();
     let index = bin_index(hash, table);
-    if let Some(lock) = lender.slot(table, index) {
-        let slot = lock.read(lender.runtime());
+    if let Some(lock) = lock_field.slot(table, index) {
+        let slot = lock.read(lock_field.runtime());
         if slot.at() == (table, index) && slot.is_live() {
             return Party::look_first(call, hash, start, &*slot);
         }
     }
-    drive_call(lender, call, hash, processors)
+    drive_call(lock_field, call, hash, processors)
 }
 
 // Runs a call that may change its bin and that starts at the table `start`, and returns its reply.
 #[inline(always)]
-fn write<K: Ord + Drop, V: Drop, F: ComputeFn<K, V>, A: Allocator + Copy, R: Wait>(
-    lender: &Lender<'_, R, K, V, A>,
+fn write_at_table<K: Ord + Drop, V: Drop, F: ComputeFn<K, V>, A: Allocator + Copy, R: Wait>(
+    lock_field: &LockField<'_, R, K, V, A>,
     start: &PublishedTable,
     call: Call<'_, K, V, F, A>,
     hash: u64,
@@ -81,20 +81,20 @@ fn write<K: Ord + Drop, V: Drop, F: ComputeFn<K, V>, A: Allocator + Copy, R: Wai
     requires writes { BeginsToWrite (stage_of_call (plain_call call)) }
     ensures { RepliesFrom K.cmp F.changes hash processors (stage_of_call (plain_call call.entry)) result }
 {
-    match write_bin(lender, start, call, hash) {
+    match try_write_bin(lock_field, start, call, hash) {
         Ok((ending, remains)) => {
             drop(remains);
-            return end::<K, V, F, A, R>(lender, ending, hash, processors);
+            return finish_call::<K, V, F, A, R>(lock_field, ending, hash, processors);
         }
-        Err(call) => return drive_call(lender, call, hash, processors),
+        Err(call) => return drive_call(lock_field, call, hash, processors),
     }
 }
 
 // Does the first two steps of a call that may change its bin. Returns the call, and what these steps left behind. If the call cannot start
 // so, it has done no step, and is returned.
 #[inline(always)]
-fn write_bin<'k, K: Ord + Drop, V: Drop, F: ComputeFn<K, V>, A: Allocator + Copy, R: Wait>(
-    lender: &Lender<'_, R, K, V, A>,
+fn try_write_bin<'k, K: Ord + Drop, V: Drop, F: ComputeFn<K, V>, A: Allocator + Copy, R: Wait>(
+    lock_field: &LockField<'_, R, K, V, A>,
     start: &PublishedTable,
     call: Call<'k, K, V, F, A>,
     hash: u64,
@@ -105,10 +105,10 @@ fn write_bin<'k, K: Ord + Drop, V: Drop, F: ComputeFn<K, V>, A: Allocator + Copy
 {
     let table = start.table();
     let index = bin_index(hash, table);
-    if let Some(lock) = lender.slot(table, index) {
-        let mut slot = lock.write(lender.runtime());
+    if let Some(lock) = lock_field.slot(table, index) {
+        let mut slot = lock.write_at_table(lock_field.runtime());
         if slot.at() == (table, index) && slot.is_live() {
-            return Ok(Party::write_first(call, hash, start, lender.allocator(), &mut *slot));
+            return Ok(Party::write_first(call, hash, start, lock_field.allocator(), &mut *slot));
         }
     }
     Err(call)
@@ -116,8 +116,8 @@ fn write_bin<'k, K: Ord + Drop, V: Drop, F: ComputeFn<K, V>, A: Allocator + Copy
 
 // Finishes a call that has done its deciding step or has failed, and returns its reply.
 #[inline(always)]
-fn end<K: Ord + Drop, V: Drop, F: ComputeFn<K, V>, A: Allocator + Copy, R: Wait>(
-    lender: &Lender<'_, R, K, V, A>,
+fn finish_call<K: Ord + Drop, V: Drop, F: ComputeFn<K, V>, A: Allocator + Copy, R: Wait>(
+    lock_field: &LockField<'_, R, K, V, A>,
     ending: Ending<K, V, A>,
     hash: u64,
     processors: usize,
@@ -126,39 +126,41 @@ fn end<K: Ord + Drop, V: Drop, F: ComputeFn<K, V>, A: Allocator + Copy, R: Wait>
 {
     match ending.into_reply() {
         Ok(reply) => return reply,
-        Err(ending) => return count::<K, V, F, A, R>(lender, ending, hash, processors),
+        Err(ending) => return count_and_finish::<K, V, F, A, R>(
+            lock_field, ending, hash, processors,
+        ),
     }
 }
 
 // Finishes a call that has more to do, and returns its reply. If the call counts a pair next, and pairs may wait at a tally, it counts
 // there.
 #[inline(always)]
-fn count<K: Ord + Drop, V: Drop, F: ComputeFn<K, V>, A: Allocator + Copy, R: Wait>(
-    lender: &Lender<'_, R, K, V, A>,
+fn count_and_finish<K: Ord + Drop, V: Drop, F: ComputeFn<K, V>, A: Allocator + Copy, R: Wait>(
+    lock_field: &LockField<'_, R, K, V, A>,
     ending: Ending<K, V, A>,
     hash: u64,
     processors: usize,
 ) -> Reply<K, V, A>
     ensures { RepliesFrom K.cmp F.changes hash processors (ending_stage ending) result }
 {
-    if ending.counts() {
-        if let Some((tally, most)) = lender.tally(hash) {
+    if ending.is_counting() {
+        if let Some((tally, most)) = lock_field.tally(hash) {
             let mut counted = ending;
-            counted.on_tally::<F>(&mut *tally.lock(lender.runtime()), most);
+            counted.on_tally::<F>(&mut *tally.lock(lock_field.runtime()), most);
             match counted.into_reply() {
                 Ok(reply) => return reply,
                 Err(ending) => return drive_ending::<K, V, F, A, R>(
-                    lender, ending, hash, processors,
+                    lock_field, ending, hash, processors,
                 ),
             }
         }
     }
-    drive_ending::<K, V, F, A, R>(lender, ending, hash, processors)
+    drive_ending::<K, V, F, A, R>(lock_field, ending, hash, processors)
 }
 
 // Does all steps of a call, one after another, and returns its reply.
 fn drive_call<K: Ord + Drop, V: Drop, F: ComputeFn<K, V>, A: Allocator + Copy, R: Wait>(
-    lender: &Lender<'_, R, K, V, A>,
+    lock_field: &LockField<'_, R, K, V, A>,
     call: Call<'_, K, V, F, A>,
     hash: u64,
     processors: usize,
@@ -166,32 +168,32 @@ fn drive_call<K: Ord + Drop, V: Drop, F: ComputeFn<K, V>, A: Allocator + Copy, R
     requires { CallIsReady F.can_change call }
     ensures { RepliesFrom K.cmp F.changes hash processors (stage_of_call (plain_call call.entry)) result }
 {
-    drive_party(lender, Party::new(call, hash, processors))
+    drive_party(lock_field, Party::new(call, hash, processors))
 }
 
 // Does the steps that are left of a call that has done its deciding step, and returns its reply.
 fn drive_ending<K: Ord + Drop, V: Drop, F: ComputeFn<K, V>, A: Allocator + Copy, R: Wait>(
-    lender: &Lender<'_, R, K, V, A>,
+    lock_field: &LockField<'_, R, K, V, A>,
     ending: Ending<K, V, A>,
     hash: u64,
     processors: usize,
 ) -> Reply<K, V, A>
     ensures { RepliesFrom K.cmp F.changes hash processors (ending_stage ending) result }
 {
-    drive_party(lender, ending.into_party::<F>(hash, processors))
+    drive_party(lock_field, ending.into_party::<F>(hash, processors))
 }
 
 // Does the steps that are left of a call, and returns its reply.
 fn drive_party<K: Ord + Drop, V: Drop, F: ComputeFn<K, V>, A: Allocator + Copy, R: Wait>(
-    lender: &Lender<'_, R, K, V, A>,
+    lock_field: &LockField<'_, R, K, V, A>,
     party: Party<'_, K, V, F, A>,
 ) -> Reply<K, V, A>
     requires { IsTaken party.stage → ⊥ }
     ensures { IsReplyOf K.cmp F.changes party.entry (outcome_of result) }
 {
     let mut party = party;
-    let mut call_lender = CallLender::new(lender);
-    let reply = finish(lender.runtime(), &mut party, &mut call_lender);
+    let mut call_field = CallField::new(lock_field);
+    let reply = finish(lock_field.runtime(), &mut party, &mut call_field);
     drop(party);
     reply
 }

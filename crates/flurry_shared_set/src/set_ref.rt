@@ -18,7 +18,7 @@ use std::sync::{Arc, Wait};
 /// the call of [`HashMapRef`] that it makes.
 ///
 /// ```
-/// set.pin(rt).again().processors()
+/// set.pin(rt).reborrow().processors()
 /// ```
 #[derive(Drop)]
 pub struct HashSetRef<'m, R, T: Ord, S: KeyHasher<T> = DefaultHashBuilder, A: Allocator = Global> {
@@ -54,11 +54,11 @@ impl<'m, R, T: Ord, S: KeyHasher<T>, A: Allocator> HashSetRef<'m, R, T, S, A> {
     }
 
     /// Returns another view of the same set. Constant time; takes no memory.
-    pub fn again(&self) -> Self
+    pub fn reborrow(&self) -> Self
         ensures { result ≡ self.now }
     {
         HashSetRef {
-            map: self.map.again(),
+            map: self.map.reborrow(),
         }
     }
 }

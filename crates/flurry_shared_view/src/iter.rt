@@ -4,11 +4,11 @@ ghost use Rattle.std.specs.Option.{option_map};
 ghost use Rattle.std.specs.Arc.{arc_value};
 ghost use Rattle.flurry_steps_sweep.specs.OutcomeView.{outcome_of, pair_value};
 ghost use Rattle.flurry_steps_sweep.specs.Sweep.{pair_seen};
-ghost use Rattle.flurry_shared_view.specs.Walks.{Answers, Begins, Gives, IsUnderWay, ReadsOn, has_ended_after};
+ghost use Rattle.flurry_shared_view.specs.Walks.{WalkAnswers, Begins, Gives, IsWalkUnderWay, ReadsOn, has_ended_after};
 
 use crate::HashMapRef;
 use flurry_base::hash::KeyHasher;
-use flurry_shared_locks::Lender;
+use flurry_shared_locks::LockField;
 use flurry_steps_sweep::{Event, Reply, Seen, Sweep};
 use std::alloc::{AllocError, Allocator, Global};
 use std::marker::Model;
@@ -26,32 +26,32 @@ use std::sync::{Arc, Wait};
 #[derive(Drop)]
 pub struct Iter<'m, R, K: Ord, V, A: Allocator = Global> {
     walk: Sweep<K, V, A>,
-    lender: Lender<'m, R, K, V, A>,
+    lock_field: LockField<'m, R, K, V, A>,
     has_ended: bool,
 }
 
 impl<'m, R, K: Ord, V, A: Allocator> Model for Iter<'m, R, K, V, A> {
     ghost use Rattle.std.specs.Prelude.{◌≡◌, false};
-    ghost use Rattle.flurry_shared_view.specs.Walks.{IteratorState, IsUnderWay};
+    ghost use Rattle.flurry_shared_view.specs.Walks.{IteratorState, IsWalkUnderWay};
 
     ghost Value = { IteratorState K V };
 
     ghost view = { λ it. record { walk = it.walk; has_ended = it.has_ended } };
 
-    ghost invariant = { λ it. it.has_ended ≡ false → IsUnderWay K.cmp it.walk };
+    ghost invariant = { λ it. it.has_ended ≡ false → IsWalkUnderWay K.cmp it.walk };
 }
 
 impl<'m, R: Wait, K: Ord + Drop, V: Drop, A: Allocator + Copy> Iter<'m, R, K, V, A> {
-    // Creates an iterator over the parts to which `lender` gives access. Its walk has done its first step, by which it starts at the
+    // Creates an iterator over the parts to which `lock_field` gives access. Its walk has done its first step, by which it starts at the
     // published table.
-    pub(crate) fn new(lender: Lender<'m, R, K, V, A>) -> Self
+    pub(crate) fn new(lock_field: LockField<'m, R, K, V, A>) -> Self
         ensures { Begins K.cmp result }
     {
         let mut walk = Sweep::walk();
-        let _ = lender.walk_on(&mut walk);
+        let _ = lock_field.step_walk(&mut walk);
         Iter {
             walk,
-            lender,
+            lock_field,
             has_ended: false,
         }
     }
@@ -88,7 +88,7 @@ impl<'m, R: Wait, K: Ord + Drop, V: Drop, A: Allocator + Copy> Iter<'m, R, K, V,
         if self.has_ended {
             return Ok(None);
         }
-        let answer = see_next(&mut self.walk, &self.lender);
+        let answer = see_next(&mut self.walk, &self.lock_field);
         self.has_ended = is_last(&answer);
         answer
     }
@@ -108,12 +108,12 @@ fn is_last<X, E>(answer: &Result<Option<X>, E>) -> bool
 // failed.
 fn see_next<R: Wait, K: Ord + Drop, V: Drop, A: Allocator + Copy>(
     walk: &mut Sweep<K, V, A>,
-    lender: &Lender<'_, R, K, V, A>,
+    lock_field: &LockField<'_, R, K, V, A>,
 ) -> Result<Option<Seen<K, V, A>>, AllocError>
-    requires { IsUnderWay K.cmp walk.old }
-    ensures { Answers K.cmp (λ s. s) (λ s. s) walk.old result walk.new }
+    requires { IsWalkUnderWay K.cmp walk.old }
+    ensures { WalkAnswers K.cmp (λ s. s) (λ s. s) walk.old result walk.new }
 {
-    if let Some(reply) = read_next(walk, lender) {
+    if let Some(reply) = read_next(walk, lock_field) {
         match reply {
             Reply::Ended => return Ok(None),
             Reply::Refused => return Err(AllocError),
@@ -129,12 +129,12 @@ fn see_next<R: Wait, K: Ord + Drop, V: Drop, A: Allocator + Copy>(
 // Does the steps of `walk` up to its next read, and returns `None`. If the walk ends before that, it takes the walk's reply and returns it.
 fn read_next<R: Wait, K: Ord + Drop, V: Drop, A: Allocator + Copy>(
     walk: &mut Sweep<K, V, A>,
-    lender: &Lender<'_, R, K, V, A>,
+    lock_field: &LockField<'_, R, K, V, A>,
 ) -> Option<Reply<K, V, A>>
     ensures { ReadsOn K.cmp walk.old (option_map outcome_of result) walk.new }
 {
-    for _ in lender.runtime().forever() {
-        if let Some(event) = lender.walk_on(walk) {
+    for _ in lock_field.runtime().forever() {
+        if let Some(event) = lock_field.step_walk(walk) {
             match event {
                 Event::Read => return None,
                 _ => continue,
@@ -162,7 +162,7 @@ impl<'m, R: Wait, K: Ord + Drop, V: Drop, S: KeyHasher<K>, A: Allocator + Copy> 
     pub fn iter(&self) -> Iter<'m, R, K, V, A>
         ensures { Begins K.cmp result }
     {
-        Iter::new(self.lender.again())
+        Iter::new(self.lock_field.reborrow())
     }
 
     /// Returns an iterator over the keys. It visits the pairs as [`HashMapRef::iter`] does.

@@ -13,7 +13,7 @@ ghost use Rattle.flurry_steps.specs.Party.{stage_of_call};
 use flurry_base::hash::{DefaultHashBuilder, KeyHasher};
 use flurry_base::try_insert::TryInsertError;
 use flurry_bins_slots::{ComputeFn, NoFn};
-use flurry_shared_locks::{Lender, Locks};
+use flurry_shared_locks::{LockField, Locks};
 use flurry_shared_replies::reply_to;
 use flurry_steps::party::{Call, Reply};
 use flurry_steps_sweep::Seen;
@@ -41,7 +41,7 @@ pub struct HashMapRef<
     S: KeyHasher<K> = DefaultHashBuilder,
     A: Allocator = Global,
 > {
-    pub(crate) lender: Lender<'m, R, K, V, A>,
+    pub(crate) lock_field: LockField<'m, R, K, V, A>,
     hasher: &'m S,
     processors: usize,
 }
@@ -61,7 +61,7 @@ impl<'m, R, K: Ord, V, S: KeyHasher<K>, A: Allocator> HashMapRef<'m, R, K, V, S,
         ensures { result ≡ record { hasher = hasher.now; processors = processors } }
     {
         HashMapRef {
-            lender: Lender::new(rt, locks),
+            lock_field: LockField::new(rt, locks),
             hasher,
             processors,
         }
@@ -69,7 +69,7 @@ impl<'m, R, K: Ord, V, S: KeyHasher<K>, A: Allocator> HashMapRef<'m, R, K, V, S,
 
     /// Returns the runtime by which the view's calls wait. Constant time.
     pub fn runtime(&self) -> &'m R {
-        self.lender.runtime()
+        self.lock_field.runtime()
     }
 
     /// Returns the number of threads among which a growth is divided; `0` means 1. Constant time.
@@ -80,11 +80,11 @@ impl<'m, R, K: Ord, V, S: KeyHasher<K>, A: Allocator> HashMapRef<'m, R, K, V, S,
     }
 
     /// Returns another view of the same map. Constant time; takes no memory.
-    pub fn again(&self) -> Self
+    pub fn reborrow(&self) -> Self
         ensures { result ≡ self.now }
     {
         HashMapRef {
-            lender: self.lender.again(),
+            lock_field: self.lock_field.reborrow(),
             hasher: self.hasher,
             processors: self.processors,
         }
@@ -98,7 +98,7 @@ impl<'m, R: Wait, K: Ord, V, S: KeyHasher<K>, A: Allocator> HashMapRef<'m, R, K,
     /// Takes the control's lock, then the lock of each tally in turn. Constant time.
     // No contract specifies the count, since other threads change it.
     pub fn len(&self) -> usize {
-        self.lender.len()
+        self.lock_field.len()
     }
 
     /// Returns `true` if the map has no pairs. They are counted as by [`HashMapRef::len`].
@@ -255,7 +255,7 @@ impl<'m, R: Wait, K: Ord + Drop, V: Drop, S: KeyHasher<K>, A: Allocator + Copy> 
     pub fn insert<'s>(&'s self, key: K, value: V) -> Result<Option<Arc<V, A>>, AllocError>
         ensures { IsAnswerOf K.cmp S.hash_of self.now (Insert key value) (or_refused value_answer result) }
     {
-        let Ok(value) = Arc::new(self.lender.allocator(), value) else {
+        let Ok(value) = Arc::new(self.lock_field.allocator(), value) else {
             return Err(AllocError);
         };
         let call: Call<'s, K, V, NoFn, A> = Call::Insert(key, value);
@@ -408,6 +408,6 @@ impl<'m, R: Wait, K: Ord + Drop, V: Drop, S: KeyHasher<K>, A: Allocator + Copy> 
         ensures answers { CanAnswerFrom F.changes (stage_of_call (plain_call call.entry)) (outcome_of result) }
     {
         let hash = self.hash_of(&call);
-        reply_to(&self.lender, call, hash, self.processors)
+        reply_to(&self.lock_field, call, hash, self.processors)
     }
 }

@@ -5,7 +5,7 @@ use Rattle.flurry_steps_claims.specs.Range.{Bounds}
 use Rattle.flurry_steps_claims.specs.declared.range.Attempt.{Attempt}
 use Rattle.flurry_steps_control.specs.Claim.{ClaimState, next_of}
 use Rattle.flurry_steps_sweep.specs.Part.{ControlPart, MovePart, SeatPart, BoardPart, GivePart}
-use Rattle.flurry_steps_sweep.specs.Sweep.{Errand, Reads, Wipes, SweepStage, AtOutset, OverBins, AtTotal, AtEnd, AfterEnd, part_at}
+use Rattle.flurry_steps_sweep.specs.Sweep.{SweepKind, Reads, Wipes, SweepStage, AtSweepStart, OverBins, AtTotal, AtEnd, AfterEnd, part_at}
 use Rattle.flurry_steps_sweep.specs.declared.step.Event.{Event}
 use Rattle.flurry_steps_sweep.specs.declared.step.Event.TheVariants.{Silent}
 use Rattle.flurry_steps.specs.Field.{board_of}
@@ -20,8 +20,8 @@ no_bin (Inserts k v) e i d same = cc
 no_bin (Adds k v) e i d same = cc
 no_bin (Computes k f) e i d same = cc
 
-no_sweep : {K V : Type 0} (w : Errand) (s : SweepStage K V) (d : ℕ) → board_of (part_at w s) ≡ Some d → ⊥
-no_sweep w AtOutset d same = cc
+no_sweep : {K V : Type 0} (w : SweepKind) (s : SweepStage K V) (d : ℕ) → board_of (part_at w s) ≡ Some d → ⊥
+no_sweep w AtSweepStart d same = cc
 no_sweep Reads (OverBins c) d same = cc
 no_sweep (Wipes n) (OverBins c) d same = cc
 no_sweep w AtTotal d same = cc
@@ -40,7 +40,7 @@ module _ {K V F : Type 0} (h : ℕ) where
   helper (AtBegin d r) e same = let clash : None ≡ Some e = same in cc
   helper (AtGrow w g) e same = let clash : None ≡ Some e = same in cc
   helper (AtReserve n) e same = let clash : None ≡ Some e = same in cc
-  helper (AtSweep w) e same = absurd (no_sweep w.errand w.stage e same)
+  helper (AtSweep w) e same = absurd (no_sweep w.kind w.stage e same)
   helper (AtDone r) e same = let clash : None ≡ Some e = same in cc
   helper AtTaken e same = let clash : None ≡ Some e = same in cc
 

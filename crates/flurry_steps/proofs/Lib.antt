@@ -5,4 +5,4 @@ pub mod Events
 pub mod Moves
 pub mod Rooms
 pub mod Singles
-pub mod TurnLaws
+pub mod ClosureLaws

@@ -2,7 +2,7 @@
 use Rattle.std.specs.Prelude.{◌≡◌, ℕ, None}
 use Rattle.std.proofs.Common.{refl}
 use Rattle.flurry_steps_sweep.specs.Part.{ControlPart, LookPart, BinPart, MovePart, NoPart}
-use Rattle.flurry_steps_sweep.specs.Sweep.{Errand, Reads, Wipes, SweepStage, AtOutset, OverBins, AtTotal, AtEnd, AfterEnd, part_at}
+use Rattle.flurry_steps_sweep.specs.Sweep.{SweepKind, Reads, Wipes, SweepStage, AtSweepStart, OverBins, AtTotal, AtEnd, AfterEnd, part_at}
 use Rattle.flurry_steps_sweep.specs.Outcome.{Outcome}
 use Rattle.flurry_steps_sweep.specs.declared.reply.Reply.{Reply}
 use Rattle.flurry_steps.specs.Party.{AtDone, last_seen}
@@ -25,8 +25,8 @@ none_read (stage.Done r) = refl
 none_read stage.Taken = refl
 
 -- and it alone moves bins
-pub no_move : {K V : Type 0} (w : Errand) (s : SweepStage K V) (e i : ℕ) → part_at w s ≡ MovePart e i → ⊥
-no_move w AtOutset e i same = let clash : ControlPart ≡ MovePart e i = same in cc
+pub no_move : {K V : Type 0} (w : SweepKind) (s : SweepStage K V) (e i : ℕ) → part_at w s ≡ MovePart e i → ⊥
+no_move w AtSweepStart e i same = let clash : ControlPart ≡ MovePart e i = same in cc
 no_move Reads (OverBins c) e i same = let clash : LookPart c.top.table c.top.index ≡ MovePart e i = same in cc
 no_move (Wipes n) (OverBins c) e i same = let clash : BinPart c.top.table c.top.index ≡ MovePart e i = same in cc
 no_move w AtTotal e i same = let clash : ControlPart ≡ MovePart e i = same in cc

@@ -4,7 +4,7 @@ use Rattle.std.specs.declared.cmp.Ordering.{Ordering}
 use Rattle.flurry_bins_slots.specs.Slot.{SlotState, IsSlot}
 use Rattle.flurry_steps_control.specs.Control.{ControlState}
 use Rattle.flurry_steps_sweep.specs.Part.{Part, ControlPart, LookPart, BinPart, MovePart, SeatPart, BoardPart, GivePart, NoPart}
-use Rattle.flurry_steps.specs.Party.{PartyState, with_stage, wanted_part, locates, published_stage}
+use Rattle.flurry_steps.specs.Party.{PartyState, with_stage, wanted_part, is_locating, published_stage}
 use Rattle.flurry_steps.specs.PartyControl.{ControlStep}
 use Rattle.flurry_steps.specs.PartySlots.{SlotStep, MoveStep}
 use Rattle.flurry_steps.specs.PartyTally.{TallyStep}
@@ -42,7 +42,7 @@ module _ {K V F R : Type 0} (place : R → ℕ → Option ℕ → Bool → R →
   -- and one that counts a pair may also count it at a tally
   abbrev pub StepWith : Loan K V R → PartyState K V F → Event → PartyState K V F → Type 0
   StepWith (ControlLoan b r b' r') p ev p' = (wanted_part p ≡ ControlPart) × ControlStep place p b r ev p' b' r'
-  StepWith (PublishedLoan d) p ev p' = (locates p.stage ≡ true) × (d ≤ MAX_TABLE) × (ev ≡ event.Silent) × (p' ≡ with_stage p (published_stage d p.stage))
+  StepWith (PublishedLoan d) p ev p' = (is_locating p.stage ≡ true) × (d ≤ MAX_TABLE) × (ev ≡ event.Silent) × (p' ≡ with_stage p (published_stage d p.stage))
   StepWith (TallyLoan m n n') p ev p' = TallyStep m p n ev p' n'
   StepWith (LookLoan q) p ev p' = (wanted_part p ≡ LookPart q.table q.index) × IsSlot cmp q × SlotStep cmp changes p q ev p' q
   StepWith (BinLoan q q') p ev p' = (wanted_part p ≡ BinPart q.table q.index) × IsSlot cmp q × SlotStep cmp changes p q ev p' q'
@@ -51,7 +51,7 @@ module _ {K V F R : Type 0} (place : R → ℕ → Option ℕ → Bool → R →
   StepWith (BoardLoan e x) p ev p' = (board_of (wanted_part p) ≡ Some e) × BoardStep p x ev p'
 
   -- one step of p, with one loan of the field
-  pub record Turn {S : Type 0} (lends : S → Loan K V R → S → Type 0) (s : S) (p : PartyState K V F) (ev : Event) (s' : S) (p' : PartyState K V F) : Type 0 where
+  pub record FieldStep {S : Type 0} (lends : S → Loan K V R → S → Type 0) (s : S) (p : PartyState K V F) (ev : Event) (s' : S) (p' : PartyState K V F) : Type 0 where
     pub loan : Loan K V R
     pub lent : lends s loan s'
     pub step : StepWith loan p ev p'
@@ -70,9 +70,9 @@ pub record StaysOrDone {S K V F : Type 0} (lacks : S → Part → Type 0) (s : S
 
 module _ {S K V F R : Type 0} (place : R → ℕ → Option ℕ → Bool → R → Type 0) (cmp : K → K → Ordering) (changes : F → K → V → Option V → Type 0) (lends : S → Loan K V R → S → Type 0) (lacks : S → Part → Type 0) where
   -- what a field does with a call that wants a part: it lends the part to one step of the call, or both stay
-  abbrev pub TurnsOrStays : S → PartyState K V F → Option Event → S → PartyState K V F → Type 0
-  TurnsOrStays s p o s' p' = MatchOption o (Stays lacks s p s' p') (λ ev. Turn place cmp changes lends s p ev s' p')
+  abbrev pub StepsOrStays : S → PartyState K V F → Option Event → S → PartyState K V F → Type 0
+  StepsOrStays s p o s' p' = MatchOption o (Stays lacks s p s' p') (λ ev. FieldStep place cmp changes lends s p ev s' p')
 
   -- what `act` does: one step of the call, or both stay
   abbrev pub ActsOrStays : S → PartyState K V F → Option Event → S → PartyState K V F → Type 0
-  ActsOrStays s p o s' p' = MatchOption o (StaysOrDone lacks s p s' p') (λ ev. Turn place cmp changes lends s p ev s' p')
+  ActsOrStays s p o s' p' = MatchOption o (StaysOrDone lacks s p s' p') (λ ev. FieldStep place cmp changes lends s p ev s' p')

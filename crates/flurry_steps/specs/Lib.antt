@@ -8,4 +8,4 @@ pub mod EndingView
 pub mod PartyControl
 pub mod Field
 pub mod FirstSteps
-pub mod Turns
+pub mod StepClosure

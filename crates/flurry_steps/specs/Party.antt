@@ -9,7 +9,7 @@ use Rattle.flurry_base.specs.declared.call.Call.{Call}
 use Rattle.flurry_base.specs.declared.call.Call.TheVariants as call
 use Rattle.flurry_base.specs.declared.call.Seen.{Seen}
 use Rattle.flurry_steps_sweep.specs.Sweep as sweep
-use Rattle.flurry_steps_sweep.specs.Sweep.{SweepState, Reads, Wipes, fresh_sweep, OverBins, AfterEnd, IsAfterEnd, swept_part, swept_outcome, sets_out}
+use Rattle.flurry_steps_sweep.specs.Sweep.{SweepState, Reads, Wipes, fresh_sweep, OverBins, AfterEnd, IsAfterEnd, swept_part, swept_outcome, is_at_start}
 use Rattle.flurry_steps_sweep.specs.Part.{Part, ControlPart, LookPart, BinPart, MovePart, SeatPart, BoardPart, GivePart, NoPart}
 use Rattle.flurry_base.specs.declared.reply.KeptReply.{KeptReply}
 use Rattle.flurry_base.specs.declared.reply.KeptReply.TheVariants.{Value, Pair, Contains}
@@ -301,10 +301,10 @@ IsAtControl AtTaken = ⊥
 IsAtControl _ = ⊤
 
 -- the next step only asks the control for the published table
-abbrev pub locates : {K V F : Type 0} → Stage K V F → Bool
-locates (AtLocate t) = true
-locates (AtSweep w) = sets_out w.stage
-locates _ = false
+abbrev pub is_locating : {K V F : Type 0} → Stage K V F → Bool
+is_locating (AtLocate t) = true
+is_locating (AtSweep w) = is_at_start w.stage
+is_locating _ = false
 
 -- that step, at a table that is published
 abbrev pub published_stage : {K V F : Type 0} → ℕ → Stage K V F → Stage K V F

@@ -11,10 +11,10 @@ use Rattle.flurry_base.specs.declared.sizes.TheConstants.{MAX_TABLE}
 
 module _ {K V F : Type 0} where
   -- the next step counts a pair
-  abbrev pub counts : Stage K V F → Bool
-  counts (AtUncount r) = true
-  counts (AtCount r) = true
-  counts _ = false
+  abbrev pub is_counting : Stage K V F → Bool
+  is_counting (AtUncount r) = true
+  is_counting (AtCount r) = true
+  is_counting _ = false
 
   -- a call that put a pair looks at the control's count once so many pairs wait at its tally
   abbrev pub stage_tallied : ℤ → ℤ → Outcome K V → Stage K V F

@@ -3,8 +3,8 @@ ghost use Rattle.std.specs.Prelude.{◌≡◌};
 ghost use Rattle.flurry_steps_sweep.specs.Part.{Part, ControlPart, LookPart, BinPart, MovePart, SeatPart, BoardPart, GivePart};
 ghost use Rattle.flurry_steps_sweep.specs.OutcomeView.{outcome_of};
 ghost use Rattle.flurry_steps.specs.Party.{IsTaken, wanted_part};
-ghost use Rattle.flurry_steps.specs.Field.{Loan, Turn, TurnsOrStays, ActsOrStays};
-ghost use Rattle.flurry_steps.specs.Turns.{TurnsTo};
+ghost use Rattle.flurry_steps.specs.Field.{Loan, FieldStep, StepsOrStays, ActsOrStays};
+ghost use Rattle.flurry_steps.specs.StepClosure.{StepsToReply};
 
 use crate::party::{Event, Party, Reply, Want};
 use flurry_bins_slots::ComputeFn;
@@ -40,7 +40,7 @@ pub trait Field<K: Ord + Drop, V: Drop, A: Allocator + Copy> {
     /// counts a pair.
     fn at_control<F: ComputeFn<K, V>>(&mut self, party: &mut Party<'_, K, V, F, A>) -> Option<Event>
         requires { wanted_part party.old ≡ ControlPart }
-        ensures { TurnsOrStays Self.Room.place_gives K.cmp F.changes lends lacks self.old party.old
+        ensures { StepsOrStays Self.Room.place_gives K.cmp F.changes lends lacks self.old party.old
             result self.new party.new };
 
     /// Passes the slot of `table` and `index`, to read it, to the next step of `party`. Returns what the step did, or `None` if no step
@@ -52,7 +52,7 @@ pub trait Field<K: Ord + Drop, V: Drop, A: Allocator + Copy> {
         party: &mut Party<'_, K, V, F, A>,
     ) -> Option<Event>
         requires { wanted_part party.old ≡ LookPart table index }
-        ensures { TurnsOrStays Self.Room.place_gives K.cmp F.changes lends lacks self.old party.old
+        ensures { StepsOrStays Self.Room.place_gives K.cmp F.changes lends lacks self.old party.old
             result self.new party.new };
 
     /// Passes the slot of `table` and `index`, to write it, to the next step of `party`. Returns what the step did, or `None` if no step
@@ -64,7 +64,7 @@ pub trait Field<K: Ord + Drop, V: Drop, A: Allocator + Copy> {
         party: &mut Party<'_, K, V, F, A>,
     ) -> Option<Event>
         requires { wanted_part party.old ≡ BinPart table index }
-        ensures { TurnsOrStays Self.Room.place_gives K.cmp F.changes lends lacks self.old party.old
+        ensures { StepsOrStays Self.Room.place_gives K.cmp F.changes lends lacks self.old party.old
             result self.new party.new };
 
     /// Passes the slot of `table` and `index`, and its two halves in the next table, to the next step of `party`, which moves the bin of
@@ -76,7 +76,7 @@ pub trait Field<K: Ord + Drop, V: Drop, A: Allocator + Copy> {
         party: &mut Party<'_, K, V, F, A>,
     ) -> Option<Event>
         requires { wanted_part party.old ≡ MovePart table index }
-        ensures { TurnsOrStays Self.Room.place_gives K.cmp F.changes lends lacks self.old party.old
+        ensures { StepsOrStays Self.Room.place_gives K.cmp F.changes lends lacks self.old party.old
             result self.new party.new };
 
     /// Takes a seat at the board of the growth from `table`, and passes to the next step of `party` whether there was one. Returns what
@@ -87,7 +87,7 @@ pub trait Field<K: Ord + Drop, V: Drop, A: Allocator + Copy> {
         party: &mut Party<'_, K, V, F, A>,
     ) -> Option<Event>
         requires { wanted_part party.old ≡ SeatPart table }
-        ensures { TurnsOrStays Self.Room.place_gives K.cmp F.changes lends lacks self.old party.old
+        ensures { StepsOrStays Self.Room.place_gives K.cmp F.changes lends lacks self.old party.old
             result self.new party.new };
 
     /// Reports the range whose bins `party` has moved to the board of the growth from `table`, or tries to claim one there if it has none,
@@ -98,7 +98,7 @@ pub trait Field<K: Ord + Drop, V: Drop, A: Allocator + Copy> {
         party: &mut Party<'_, K, V, F, A>,
     ) -> Option<Event>
         requires { wanted_part party.old ≡ BoardPart table }
-        ensures { TurnsOrStays Self.Room.place_gives K.cmp F.changes lends lacks self.old party.old
+        ensures { StepsOrStays Self.Room.place_gives K.cmp F.changes lends lacks self.old party.old
             result self.new party.new };
 
     /// Takes back the seat of `party` at the board of the growth from `table`, and does the step of `party` that gives it back. Returns
@@ -109,7 +109,7 @@ pub trait Field<K: Ord + Drop, V: Drop, A: Allocator + Copy> {
         party: &mut Party<'_, K, V, F, A>,
     ) -> Option<Event>
         requires { wanted_part party.old ≡ GivePart table }
-        ensures { TurnsOrStays Self.Room.place_gives K.cmp F.changes lends lacks self.old party.old
+        ensures { StepsOrStays Self.Room.place_gives K.cmp F.changes lends lacks self.old party.old
             result self.new party.new };
 }
 
@@ -151,7 +151,7 @@ pub fn finish<
     R: Wait,
 >(rt: &R, party: &mut Party<'_, K, V, F, A>, field: &mut X) -> Reply<K, V, A>
     requires { IsTaken party.old.stage → ⊥ }
-    ensures { TurnsTo (Turn X.Room.place_gives K.cmp F.changes X.lends) field.old party.old
+    ensures { StepsToReply (FieldStep X.Room.place_gives K.cmp F.changes X.lends) field.old party.old
         (outcome_of result) field.new party.new }
 {
     for _ in rt.forever() {

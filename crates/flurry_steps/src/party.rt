@@ -10,10 +10,10 @@ ghost use Rattle.flurry_steps_sweep.specs.Part.{LookPart, BinPart, MovePart, Con
 ghost use Rattle.flurry_steps_sweep.specs.PartView.{part_of_want};
 ghost use Rattle.flurry_steps_sweep.specs.OutcomeView.{outcome_of};
 ghost use Rattle.flurry_steps_sweep.specs.Sweep.{pair_seen};
-ghost use Rattle.flurry_steps.specs.Party.{locates, published_stage, taken_stage, wanted_part, with_stage, outcome_in, final_outcome, last_seen, steps_left, LooksUp, StageIsReady, stage_of_call};
+ghost use Rattle.flurry_steps.specs.Party.{is_locating, published_stage, taken_stage, wanted_part, with_stage, outcome_in, final_outcome, last_seen, steps_left, LooksUp, StageIsReady, stage_of_call};
 ghost use Rattle.flurry_steps.specs.PartyControl.{ControlStep};
 ghost use Rattle.flurry_steps.specs.PartySlots.{SlotStep, MoveStep};
-ghost use Rattle.flurry_steps.specs.PartyTally.{TallyStep, counts};
+ghost use Rattle.flurry_steps.specs.PartyTally.{TallyStep, is_counting};
 ghost use Rattle.flurry_steps.specs.PartyBoard.{Seated, Attempted, TakenBack, StageAsks, BoardStep, range_to_report, stage_unclaimed, IsAtBoard, stage_told, lost};
 ghost use Rattle.flurry_steps.specs.PartyView.{stage_of, CallIsReady, OwnedIsReady, plain_call, plain_of_owned, plain_of_whole};
 ghost use Rattle.flurry_base.specs.declared.sizes.TheConstants.{MAX_TABLE};
@@ -254,12 +254,12 @@ impl<'k, K: Drop, V: Drop, F: ComputeFn<K, V>, A: Allocator> Party<'k, K, V, F, 
     ///
     /// Constant time.
     #[inline]
-    pub fn locates(&self) -> bool
-        ensures { result ≡ locates self.now.stage }
+    pub fn is_locating(&self) -> bool
+        ensures { result ≡ is_locating self.now.stage }
     {
         match &self.kind {
-            PartyKind::Single(single) => single.locates(),
-            PartyKind::Sweep(_, _, sweep) => sweep.sets_out(),
+            PartyKind::Single(single) => single.is_locating(),
+            PartyKind::Sweep(_, _, sweep) => sweep.is_at_start(),
         }
     }
 
@@ -269,7 +269,7 @@ impl<'k, K: Drop, V: Drop, F: ComputeFn<K, V>, A: Allocator> Party<'k, K, V, F, 
     /// Constant time.
     #[inline]
     pub fn on_published(&mut self, start: &PublishedTable) -> Event
-        requires { locates self.old.stage ≡ true }
+        requires { is_locating self.old.stage ≡ true }
         ensures within { start.now ≤ MAX_TABLE }
         ensures silent { result ≡ Event.Silent }
         ensures at { self.new ≡ with_stage self.old (published_stage start.now self.old.stage) }
@@ -284,11 +284,11 @@ impl<'k, K: Drop, V: Drop, F: ComputeFn<K, V>, A: Allocator> Party<'k, K, V, F, 
     ///
     /// Constant time.
     #[inline]
-    pub fn counts(&self) -> bool
-        ensures { result ≡ counts self.now.stage }
+    pub fn is_counting(&self) -> bool
+        ensures { result ≡ is_counting self.now.stage }
     {
         match &self.kind {
-            PartyKind::Single(single) => single.counts(),
+            PartyKind::Single(single) => single.is_counting(),
             PartyKind::Sweep(_, _, _) => false,
         }
     }
@@ -298,7 +298,7 @@ impl<'k, K: Drop, V: Drop, F: ComputeFn<K, V>, A: Allocator> Party<'k, K, V, F, 
     ///
     /// Constant time.
     pub fn on_tally(&mut self, tally: &mut Tally, most: i64) -> Event
-        requires { counts self.old.stage ≡ true }
+        requires { is_counting self.old.stage ≡ true }
         ensures { TallyStep most self.old tally.old result self.new tally.new }
     {
         match &mut self.kind {

@@ -6,7 +6,8 @@ use mathlib.Core.Option.{some, some-injective, some-ne-none}
 use lib.ListN.{get_elem?}
 use Rattle.atomic_table.proofs.Lists.{at_set, at_snoc, set_else}
 use Rattle.flurry_steps_claims.specs.declared.seat_notes.SeatNotes.{SeatNotes}
-use Rattle.flurry_steps_claims.specs.SeatNotes.{times, MayReport, new_notes, joint_notes, with_next, after_claim, after_report}
+use Rattle.flurry_base.specs.Occurrences.{occurrences}
+use Rattle.flurry_steps_claims.specs.SeatNotes.{MayReport, new_notes, joint_notes, with_next, after_claim, notes_after_report}
 use Rattle.flurry_steps_claims.specs.BoardRule.{claim_count, report_count, last_report_count, one_below, IsSeat, IsBoard, AllClaimed, AllReported}
 use Rattle.flurry_steps_claims.proofs.SumLaws.{bit, item_le, sum_set, sum_le, sum_lt, up_to, up_to_le, up_to_lacks, up_to_ones, reports_all}
 
@@ -22,15 +23,15 @@ once_under n k h = grind (arith, nat_tests)
 once_more : (n k : ℕ) → one_below (n + 1) k ≡ one_below n k + cond (eqb n k) 1 0
 once_more n k = grind (arith, nat_tests)
 
-pub times_push : (k : ℕ) (xs : List ℕ) (y : ℕ) → times k (xs ++ y ∷ []) ≡ times k xs + cond (eqb y k) 1 0
+pub times_push : (k : ℕ) (xs : List ℕ) (y : ℕ) → occurrences k (xs ++ y ∷ []) ≡ occurrences k xs + cond (eqb y k) 1 0
 times_push k xs y = sum_by_push (λ (x : ℕ). cond (eqb x k) 1 0) xs y
 
-pub times-append : (k : ℕ) (xs ys : List ℕ) → times k (xs ++ ys) ≡ times k xs + times k ys
-times-append k xs ys = sum_by-append (λ (x : ℕ). cond (eqb x k) 1 0) xs ys
+pub occurrences-append : (k : ℕ) (xs ys : List ℕ) → occurrences k (xs ++ ys) ≡ occurrences k xs + occurrences k ys
+occurrences-append k xs ys = sum_by-append (λ (x : ℕ). cond (eqb x k) 1 0) xs ys
 
 module _ (ranges next reports : ℕ) (seats : List SeatNotes) (board : IsBoard ranges next reports seats) where
   reports_le_claims : (k : ℕ) → report_count k seats ≤ claim_count k seats
-  reports_le_claims k = sum_le (λ (v : SeatNotes). times k v.reports) (λ (v : SeatNotes). times k v.claims) seats (λ i v e. (board.seat i v e).reports k)
+  reports_le_claims k = sum_le (λ (v : SeatNotes). occurrences k v.reports) (λ (v : SeatNotes). occurrences k v.claims) seats (λ i v e. (board.seat i v e).reports k)
 
   reports_at_most_once : (k : ℕ) → report_count k seats ≤ 1
   reports_at_most_once k = omega (arith, reports_le_claims k, board.claims k, once_le next k)
@@ -54,8 +55,8 @@ module _ (ranges next reports : ℕ) (seats : List SeatNotes) (board : IsBoard r
       two n h = grind arith
 
   -- one seat claimed no range twice
-  pub claims_le : (seat : ℕ) (v : SeatNotes) → get_elem? seats seat ≡ some v → (k : ℕ) → times k v.claims ≤ 1
-  claims_le seat v at k = omega (arith, item_le (λ (u : SeatNotes). times k u.claims) seats seat v at, board.claims k, once_le next k)
+  pub claims_le : (seat : ℕ) (v : SeatNotes) → get_elem? seats seat ≡ some v → (k : ℕ) → occurrences k v.claims ≤ 1
+  claims_le seat v at k = omega (arith, item_le (λ (u : SeatNotes). occurrences k u.claims) seats seat v at, board.claims k, once_le next k)
 
   -- nor was it told twice that its report was the last
   pub last_reports_le : (seat : ℕ) (v : SeatNotes) → get_elem? seats seat ≡ some v → v.last_reports ≤ 1
@@ -72,9 +73,9 @@ module _ (ranges next reports : ℕ) (seats : List SeatNotes) (board : IsBoard r
   all_claimed full k less = board.claims k ∙ once_under next k (omega arith)
 
   -- where a seat claimed a range and did not report it, some range is not reported
-  pub not_last : (seat k : ℕ) (v : SeatNotes) → get_elem? seats seat ≡ some v → times k v.reports < times k v.claims → reports < ranges
+  pub not_last : (seat k : ℕ) (v : SeatNotes) → get_elem? seats seat ≡ some v → occurrences k v.reports < occurrences k v.claims → reports < ranges
   not_last seat k v at less =
-      let short = sum_lt (λ (u : SeatNotes). times k u.reports) (λ (u : SeatNotes). times k u.claims) seats (λ i u e. (board.seat i u e).reports k) seat v at less in
+      let short = sum_lt (λ (u : SeatNotes). occurrences k u.reports) (λ (u : SeatNotes). occurrences k u.claims) seats (λ i u e. (board.seat i u e).reports k) seat v at less in
       let got = board.claims k in
       let most = once_le next k in
       let none : report_count k seats ≡ 0 = omega arith in
@@ -94,8 +95,8 @@ module _ (ranges next reports : ℕ) (seats : List SeatNotes) (board : IsBoard r
   pub may_report : (seat : ℕ) (v : SeatNotes) → get_elem? seats seat ≡ some v → MayReport (after_claim v next) next
   may_report seat v at =
       let none : claim_count next seats ≡ 0 = board.claims next ∙ once_above next next (omega arith) in
-      let got : times next v.claims ≡ 0 = omega (arith, item_le (λ (u : SeatNotes). times next u.claims) seats seat v at) in
-      let reported : times next v.reports ≡ 0 = omega (arith, (board.seat seat v at).reports next) in
+      let got : occurrences next v.claims ≡ 0 = omega (arith, item_le (λ (u : SeatNotes). occurrences next u.claims) seats seat v at) in
+      let reported : occurrences next v.reports ≡ 0 = omega (arith, (board.seat seat v at).reports next) in
       (omega (arith, times_push next v.claims next, same next), reported)
     where
       same : (k : ℕ) → bit (eqb k k) ≡ 1
@@ -107,7 +108,7 @@ module _ (ranges next reports : ℕ) (seats : List SeatNotes) (board : IsBoard r
       let w = with_next v next in
       record {
         within = board.within;
-        claims = λ k. omega (arith, board.claims k, sum_set (λ (u : SeatNotes). times k u.claims) seats seat v w at);
+        claims = λ k. omega (arith, board.claims k, sum_set (λ (u : SeatNotes). occurrences k u.claims) seats seat v w at);
         seat = set_seat next seat w (omega arith) record { reports = (board.seat seat v at).reports; next = omega arith };
         count = omega (arith, board.count, sum_set (λ (u : SeatNotes). length u.reports) seats seat v w at);
         last = omega (arith, board.last, sum_set (λ (u : SeatNotes). u.last_reports) seats seat v w at);
@@ -119,47 +120,47 @@ module _ (ranges next reports : ℕ) (seats : List SeatNotes) (board : IsBoard r
       let w = after_claim v next in
       record {
         within = omega arith;
-        claims = λ k. omega (arith, board.claims k, sum_set (λ (u : SeatNotes). times k u.claims) seats seat v w at, times_push k v.claims next, once_more next k);
+        claims = λ k. omega (arith, board.claims k, sum_set (λ (u : SeatNotes). occurrences k u.claims) seats seat v w at, times_push k v.claims next, once_more next k);
         seat = set_seat (next + 1) seat w (omega arith) record { reports = λ k. omega (arith, (board.seat seat v at).reports k, times_push k v.claims next); next = omega arith };
         count = omega (arith, board.count, sum_set (λ (u : SeatNotes). length u.reports) seats seat v w at);
         last = omega (arith, board.last, sum_set (λ (u : SeatNotes). u.last_reports) seats seat v w at);
       }
 
   -- a seat reports a range
-  pub report_keeps : (seat k : ℕ) (v : SeatNotes) → get_elem? seats seat ≡ some v → times k v.reports < times k v.claims
-      → IsBoard ranges next (reports + 1) (set seats seat (after_report v k (eqb (reports + 1) ranges)))
+  pub report_keeps : (seat k : ℕ) (v : SeatNotes) → get_elem? seats seat ≡ some v → occurrences k v.reports < occurrences k v.claims
+      → IsBoard ranges next (reports + 1) (set seats seat (notes_after_report v k (eqb (reports + 1) ranges)))
   report_keeps seat k v at less =
-      let w = after_report v k (eqb (reports + 1) ranges) in
+      let w = notes_after_report v k (eqb (reports + 1) ranges) in
       let short = not_last seat k v at less in
       record {
         within = board.within;
-        claims = λ j. omega (arith, board.claims j, sum_set (λ (u : SeatNotes). times j u.claims) seats seat v w at);
+        claims = λ j. omega (arith, board.claims j, sum_set (λ (u : SeatNotes). occurrences j u.claims) seats seat v w at);
         seat = set_seat next seat w (omega arith) record { reports = λ j. once j; next = (board.seat seat v at).next };
         count = omega (arith, board.count, sum_set (λ (u : SeatNotes). length u.reports) seats seat v w at, length-append v.reports (k ∷ []));
         last = last_is_one short;
       }
     where
-      once : (j : ℕ) → times j (v.reports ++ k ∷ []) ≤ times j v.claims
+      once : (j : ℕ) → occurrences j (v.reports ++ k ∷ []) ≤ occurrences j v.claims
       once j = ⊎_elim
-          (λ (t : (k ≡ j) × (bit (eqb k j) ≡ 1)). let here : times j v.reports < times j v.claims = subst (λ i. times i v.reports < times i v.claims) t.0 less in omega (arith, t.1, times_push j v.reports k))
+          (λ (t : (k ≡ j) × (bit (eqb k j) ≡ 1)). let here : occurrences j v.reports < occurrences j v.claims = subst (λ i. occurrences i v.reports < occurrences i v.claims) t.0 less in omega (arith, t.1, times_push j v.reports k))
           (λ (t : bit (eqb k j) ≡ 0). omega (arith, t, times_push j v.reports k, (board.seat seat v at).reports j))
           (which j)
         where
           which : (i : ℕ) → ((k ≡ i) × (bit (eqb k i) ≡ 1)) ⊎ (bit (eqb k i) ≡ 0)
           which i = grind (arith, nat_tests)
 
-      last_is_one : reports < ranges → last_report_count (set seats seat (after_report v k (eqb (reports + 1) ranges))) ≡ cond (eqb (reports + 1) ranges) 1 0
+      last_is_one : reports < ranges → last_report_count (set seats seat (notes_after_report v k (eqb (reports + 1) ranges))) ≡ cond (eqb (reports + 1) ranges) 1 0
       last_is_one room =
           let none : bit (eqb reports ranges) ≡ 0 = grind (arith, nat_tests) in
           let before = board.last in
-          let sum = sum_set (λ (u : SeatNotes). u.last_reports) seats seat v (after_report v k (eqb (reports + 1) ranges)) at in
+          let sum = sum_set (λ (u : SeatNotes). u.last_reports) seats seat v (notes_after_report v k (eqb (reports + 1) ranges)) at in
           omega arith
 
   -- a new seat
   pub sit_keeps : IsBoard ranges next reports (seats ++ new_notes ∷ [])
   sit_keeps = record {
     within = board.within;
-    claims = λ k. omega (arith, board.claims k, sum_by_push (λ (u : SeatNotes). times k u.claims) seats new_notes);
+    claims = λ k. omega (arith, board.claims k, sum_by_push (λ (u : SeatNotes). occurrences k u.claims) seats new_notes);
     seat = λ j u e. ⊎_elim (λ old. board.seat j u old) (λ (new : new_notes ≡ u). subst (IsSeat next) new record { reports = λ k. omega arith; next = omega arith }) (at_snoc seats new_notes u j e);
     count = omega (arith, board.count, sum_by_push (λ (u : SeatNotes). length u.reports) seats new_notes);
     last = omega (arith, board.last, sum_by_push (λ (u : SeatNotes). u.last_reports) seats new_notes);
@@ -175,7 +176,7 @@ module _ (ranges next reports : ℕ) (seats : List SeatNotes) (board : IsBoard r
       let still : get_elem? mid other ≡ some w = set_else seats seat other both apart ∙ there in
       record {
         within = board.within;
-        claims = λ k. omega (arith, board.claims k, sum_set (λ (u : SeatNotes). times k u.claims) seats seat v both at, sum_set (λ (u : SeatNotes). times k u.claims) mid other w new_notes still, times-append k v.claims w.claims);
+        claims = λ k. omega (arith, board.claims k, sum_set (λ (u : SeatNotes). occurrences k u.claims) seats seat v both at, sum_set (λ (u : SeatNotes). occurrences k u.claims) mid other w new_notes still, occurrences-append k v.claims w.claims);
         seat = λ j u e. ⊎_elim
             (λ (t : (j ≡ other) × (new_notes ≡ u)). subst (IsSeat next) t.1 record { reports = λ k. omega arith; next = omega arith })
             (λ (t : (j ≢ other) × (get_elem? mid j ≡ some u)). set_seat ranges next reports seats board next seat both (omega arith) joint_seat j u t.1)
@@ -188,7 +189,7 @@ module _ (ranges next reports : ℕ) (seats : List SeatNotes) (board : IsBoard r
       joint_seat =
           let a = board.seat seat v at in
           let b = board.seat other w there in
-          record { reports = λ k. omega (arith, a.reports k, b.reports k, times-append k v.reports w.reports, times-append k v.claims w.claims); next = omega (arith, a.next, b.next) }
+          record { reports = λ k. omega (arith, a.reports k, b.reports k, occurrences-append k v.reports w.reports, occurrences-append k v.claims w.claims); next = omega (arith, a.next, b.next) }
 
 -- a new board
 pub begins : (ranges : ℕ) → 0 < ranges → IsBoard ranges 0 0 (new_notes ∷ [])

@@ -8,7 +8,8 @@ use prog.Atomic.{either}
 use Rattle.atomic_table.specs.Table.{State, step, keeps, stepped, Allows, Enters, Joins}
 use Rattle.atomic_table.proofs.Lists.{set_else}
 use Rattle.flurry_steps_claims.specs.declared.seat_notes.SeatNotes.{SeatNotes}
-use Rattle.flurry_steps_claims.specs.SeatNotes.{times, MayReport, new_notes, joint_notes, with_next, after_claim, after_report}
+use Rattle.flurry_base.specs.Occurrences.{occurrences}
+use Rattle.flurry_steps_claims.specs.SeatNotes.{MayReport, new_notes, joint_notes, with_next, after_claim, notes_after_report}
 use Rattle.flurry_steps_claims.specs.BoardRule.{IsBoard, BoardRule}
 use Rattle.flurry_steps_claims.specs.AtomicSteps.{SeatState, SitGives, LoadGives, ExchangeGives, AddGives}
 use Rattle.flurry_steps_claims.proofs.BoardLaws.{join_keeps, may_report, load_keeps, claim_keeps, report_keeps, sit_keeps, not_last, all_reported, reports_full}
@@ -94,10 +95,10 @@ module _ (ranges : ℕ) where
   pub add_at_its_own : (slots id k : ℕ) (me : SeatState) → ranges < 2 ^ 64 → MayReport me.0 k
       → Allows (BoardRule ranges) slots id me 1 (λ n. (n + 1) % 2 ^ 64) (AddGives ranges k (step slots 1 1 0 none) me)
   add_at_its_own slots id k me small own s board _ at _ =
-      let less : times k me.0.reports < times k me.0.claims = omega (arith, own) in
+      let less : occurrences k me.0.reports < occurrences k me.0.claims = omega (arith, own) in
       let x : ℕ = get_or s.words 0 0 in
       let y : ℕ = get_or s.words 1 0 in
-      let w = after_report me.0 k (eqb (y + 1) ranges) in
+      let w = notes_after_report me.0 k (eqb (y + 1) ranges) in
       let after = report_keeps ranges x y s.views board.1 id k me.0 at less in
       let short = not_last ranges x y s.views board.1 id k me.0 at less in
       let same : y + 1 ≡ (y + 1) % 2 ^ 64 = omega arith in

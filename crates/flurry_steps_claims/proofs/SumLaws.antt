@@ -5,7 +5,7 @@ use Rattle.std.proofs.lemmas.List.Sums.{sum_by-cons}
 use mathlib.Core.Option.{some, some-injective, some-ne-none}
 use lib.ListN.{get_elem?}
 use Rattle.flurry_steps_claims.specs.declared.seat_notes.SeatNotes.{SeatNotes}
-use Rattle.flurry_steps_claims.specs.SeatNotes.{times}
+use Rattle.flurry_base.specs.Occurrences.{occurrences}
 use Rattle.flurry_steps_claims.specs.BoardRule.{report_count}
 
 module _ {X : Type 0} (f : X → ℕ) where
@@ -95,28 +95,28 @@ up_to_ones f zero h = refl
 up_to_ones f (suc n) h = let here = h n (omega arith) in let rest = up_to_ones f n (λ k less. h k (omega arith)) in omega arith
 
 -- the numbers of a list, counted by their values
-times_all : (xs : List ℕ) (n : ℕ) → ((k : ℕ) → n ≤ k → times k xs ≡ 0) → up_to (λ k. times k xs) n ≡ length xs
+times_all : (xs : List ℕ) (n : ℕ) → ((k : ℕ) → n ≤ k → occurrences k xs ≡ 0) → up_to (λ k. occurrences k xs) n ≡ length xs
 times_all [] n h = up_to_zero n
 times_all (x ∷ xs) n h =
     let parts = λ (k : ℕ). sum_by-cons (λ (y : ℕ). bit (eqb y k)) x xs in
     let rest = times_all xs n (λ k above. let a = h k above in let b = parts k in omega arith) in
-    let sums = up_to_sum (λ k. times k (x ∷ xs)) (λ k. bit (eqb x k)) (λ k. times k xs) n parts in
+    let sums = up_to_sum (λ k. occurrences k (x ∷ xs)) (λ k. bit (eqb x k)) (λ k. occurrences k xs) n parts in
     let one = up_to_one x n (low x xs n h) in
     omega arith
   where
     here : (y : ℕ) → bit (eqb y y) ≡ 1
     here y = grind (arith, nat_tests)
 
-    low : (y : ℕ) (ys : List ℕ) (m : ℕ) → ((k : ℕ) → m ≤ k → times k (y ∷ ys) ≡ 0) → y < m
+    low : (y : ℕ) (ys : List ℕ) (m : ℕ) → ((k : ℕ) → m ≤ k → occurrences k (y ∷ ys) ≡ 0) → y < m
     low y ys m none = grind (arith, none y, sum_by-cons (λ (z : ℕ). bit (eqb z y)) y ys, here y)
 
 -- the reports of all seats, counted by their numbers
 pub reports_all : (seats : List SeatNotes) (n : ℕ) → ((k : ℕ) → n ≤ k → report_count k seats ≡ 0) → up_to (λ k. report_count k seats) n ≡ sum_by (λ (v : SeatNotes). length v.reports) seats
 reports_all [] n h = up_to_zero n
 reports_all (v ∷ vs) n h =
-    let parts = λ (k : ℕ). sum_by-cons (λ (u : SeatNotes). times k u.reports) v vs in
+    let parts = λ (k : ℕ). sum_by-cons (λ (u : SeatNotes). occurrences k u.reports) v vs in
     let rest = reports_all vs n (λ k above. let a = h k above in let b = parts k in omega arith) in
     let first = times_all v.reports n (λ k above. let a = h k above in let b = parts k in omega arith) in
-    let sums = up_to_sum (λ k. report_count k (v ∷ vs)) (λ k. times k v.reports) (λ k. report_count k vs) n parts in
+    let sums = up_to_sum (λ k. report_count k (v ∷ vs)) (λ k. occurrences k v.reports) (λ k. report_count k vs) n parts in
     let all = sum_by-cons (λ (u : SeatNotes). length u.reports) v vs in
     omega arith

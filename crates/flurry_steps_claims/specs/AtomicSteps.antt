@@ -2,7 +2,7 @@
 use Rattle.std.specs.Prelude.{◌≡◌, ◌≢◌, ℕ, ◌+◌, ◌<◌, ◌≤◌, eqb, ◌↔◌, IsTrue}
 use Rattle.atomic_table.specs.Table.{Me, Step}
 use Rattle.flurry_steps_claims.specs.declared.seat_notes.SeatNotes.{SeatNotes}
-use Rattle.flurry_steps_claims.specs.SeatNotes.{MayReport, new_notes, with_next, after_claim, after_report}
+use Rattle.flurry_steps_claims.specs.SeatNotes.{MayReport, new_notes, with_next, after_claim, notes_after_report}
 use Rattle.flurry_steps_claims.specs.BoardRule.{Moment, AllReported}
 
 abbrev pub SeatState : Type 0
@@ -28,5 +28,5 @@ module _ (ranges : ℕ) where
   -- a fetch-add reports range k, and finds whether it is the last
   abbrev pub AddGives : ℕ → Step (Unit {0}) → SeatState → ℕ → SeatState → Type 0
   AddGives k st m r m' =
-      (m'.0 ≡ after_report m.0 k (eqb (r + 1) ranges)) × (r < ranges)
+      (m'.0 ≡ notes_after_report m.0 k (eqb (r + 1) ranges)) × (r < ranges)
       × ((now : Moment ranges m'.0) × (IsTrue (eqb (r + 1) ranges) ↔ AllReported ranges now.seats)) × (m'.1 ≡ m.1)

@@ -4,14 +4,14 @@ use mathlib.Core.Option.{some}
 use lib.ListN.{get_elem?}
 use Rattle.atomic_table.specs.Table.{State}
 use Rattle.flurry_steps_claims.specs.declared.seat_notes.SeatNotes.{SeatNotes}
-use Rattle.flurry_steps_claims.specs.SeatNotes.{times}
+use Rattle.flurry_base.specs.Occurrences.{occurrences}
 
 -- how often the number k was claimed, and reported, by all seats together
 abbrev pub claim_count : ℕ → List SeatNotes → ℕ
-claim_count k seats = sum_by (λ (v : SeatNotes). times k v.claims) seats
+claim_count k seats = sum_by (λ (v : SeatNotes). occurrences k v.claims) seats
 
 abbrev pub report_count : ℕ → List SeatNotes → ℕ
-report_count k seats = sum_by (λ (v : SeatNotes). times k v.reports) seats
+report_count k seats = sum_by (λ (v : SeatNotes). occurrences k v.reports) seats
 
 -- how often some seat was told that its report was the last
 abbrev pub last_report_count : List SeatNotes → ℕ
@@ -23,7 +23,7 @@ one_below n k = cond (ltb k n) 1 0
 
 -- a seat reported only ranges that it claimed, and each once, and the number that it knows was reached
 pub record IsSeat (reached : ℕ) (v : SeatNotes) : Type 0 where
-  pub reports : (k : ℕ) → times k v.reports ≤ times k v.claims
+  pub reports : (k : ℕ) → occurrences k v.reports ≤ occurrences k v.claims
   pub next : v.next ≤ reached
 
 -- The numbers that the seats claimed are those below the next one, each once, and no more than there are ranges. The reports are those of

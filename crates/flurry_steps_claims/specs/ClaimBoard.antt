@@ -8,7 +8,7 @@ use Rattle.flurry_steps_claims.specs.declared.seat_notes.SeatNotes.{SeatNotes}
 use Rattle.flurry_steps_claims.specs.declared.range.Attempt.{Attempt}
 use Rattle.flurry_steps_claims.specs.declared.range.Attempt.TheVariants.{Got, Lost, Nothing}
 use Rattle.flurry_steps_claims.specs.Range.{IsNumber, range_at, range_count}
-use Rattle.flurry_steps_claims.specs.SeatNotes.{MayReport, new_notes, with_next, after_claim, after_report}
+use Rattle.flurry_steps_claims.specs.SeatNotes.{MayReport, new_notes, with_next, after_claim, notes_after_report}
 use Rattle.flurry_steps_claims.specs.BoardRule.{Moment, AllClaimed, AllReported}
 
 -- what is known of a seat
@@ -58,4 +58,4 @@ module _ (board : BoardValue) where
 
   -- a report of range k tells whether every range is reported now
   abbrev pub Reports : SeatNotes → ℕ → Bool → SeatNotes → Type 0
-  Reports v k last w = (w ≡ after_report v k last) × ((now : Moment (ranges_of board) w) × (IsTrue last ↔ AllReported (ranges_of board) now.seats))
+  Reports v k last w = (w ≡ notes_after_report v k last) × ((now : Moment (ranges_of board) w) × (IsTrue last ↔ AllReported (ranges_of board) now.seats))

@@ -69,8 +69,8 @@ after_report b r = record {
 abbrev pub has_seat : PlainBoardState → Bool
 has_seat b = nat_lt b.out SEATS
 
-abbrev pub after_take : PlainBoardState → PlainBoardState
-after_take b = record {
+abbrev pub board_after_take : PlainBoardState → PlainBoardState
+board_after_take b = record {
   table = b.table;
   stride = b.stride;
   next = b.next;

@@ -1,14 +1,11 @@
 -- What is known of a seat, and how it changes.
 use Rattle.std.specs.Prelude.{◌≡◌, ℕ, ◌+◌, ◌≤◌, Bool, cond, max, eqb, List, [], ◌∷◌, ◌++◌, count_by}
+use Rattle.flurry_base.specs.Occurrences.{occurrences}
 use Rattle.flurry_steps_claims.specs.declared.seat_notes.SeatNotes.{SeatNotes}
-
--- how often the number k stands in a list
-abbrev pub times : ℕ → List ℕ → ℕ
-times k xs = count_by (λ x. eqb x k) xs
 
 -- the seat claimed the range of this number, once, and did not report it yet
 abbrev pub MayReport : SeatNotes → ℕ → Type 0
-MayReport v k = (times k v.claims ≡ 1) × (times k v.reports ≡ 0)
+MayReport v k = (occurrences k v.claims ≡ 1) × (occurrences k v.reports ≡ 0)
 
 -- of a new seat
 abbrev pub new_notes : SeatNotes
@@ -23,13 +20,13 @@ abbrev pub after_claim : SeatNotes → ℕ → SeatNotes
 after_claim v k = record { claims = v.claims ++ k ∷ []; reports = v.reports; next = k + 1; last_reports = v.last_reports }
 
 -- of a seat that has reported range k, and was told whether that was the last report
-abbrev pub after_report : SeatNotes → ℕ → Bool → SeatNotes
-after_report v k last = record { claims = v.claims; reports = v.reports ++ k ∷ []; next = v.next; last_reports = v.last_reports + cond last 1 0 }
+abbrev pub notes_after_report : SeatNotes → ℕ → Bool → SeatNotes
+notes_after_report v k last = record { claims = v.claims; reports = v.reports ++ k ∷ []; next = v.next; last_reports = v.last_reports + cond last 1 0 }
 
 -- of two seats that became one
 abbrev pub joint_notes : SeatNotes → SeatNotes → SeatNotes
 joint_notes v w = record { claims = v.claims ++ w.claims; reports = v.reports ++ w.reports; next = max v.next w.next; last_reports = v.last_reports + w.last_reports }
 
 -- no range was claimed by both seats, nor twice by one of them, and at most one report of theirs was the last
-abbrev pub AreApart : SeatNotes → SeatNotes → Type 0
-AreApart v w = ((k : ℕ) → times k v.claims + times k w.claims ≤ 1) × (v.last_reports + w.last_reports ≤ 1)
+abbrev pub NotesAreApart : SeatNotes → SeatNotes → Type 0
+NotesAreApart v w = ((k : ℕ) → occurrences k v.claims + occurrences k w.claims ≤ 1) × (v.last_reports + w.last_reports ≤ 1)

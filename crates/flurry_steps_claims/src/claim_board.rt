@@ -1,7 +1,7 @@
 //! The board that threads share.
 ghost use Rattle.std.specs.Prelude.{◌≡◌, ◌+◌, ◌++◌, ◌-◌, ◌*◌, ◌/◌, ◌^◌, ◌<◌, ◌≤◌, All, IfOk, vec_len, vec_capacity};
 ghost use Rattle.flurry_base.specs.declared.sizes.TheConstants.{MAX_TABLE};
-ghost use Rattle.flurry_steps_claims.specs.SeatNotes.{AreApart, MayReport};
+ghost use Rattle.flurry_steps_claims.specs.SeatNotes.{NotesAreApart, MayReport};
 ghost use Rattle.flurry_steps_claims.specs.AtomicSteps.{LoadGives, ExchangeGives, AddGives};
 ghost use Rattle.flurry_steps_claims.specs.ClaimBoard.{IsBoardFor, IsSeatOf, IsNewSeatOf, ranges_of, notes_of, Claims, Reports};
 ghost use Rattle.atomic_table.specs.Table.{step};
@@ -183,7 +183,7 @@ impl<A: Allocator> ClaimBoard<A> {
         ensures board { IsSeatOf self.now seat.new }
         ensures claims { (notes_of seat.new).claims ≡ (notes_of seat.old).claims ++ (notes_of other).claims }
         ensures reports { (notes_of seat.new).reports ≡ (notes_of seat.old).reports ++ (notes_of other).reports }
-        ensures apart { AreApart (notes_of seat.old) (notes_of other) }
+        ensures apart { NotesAreApart (notes_of seat.old) (notes_of other) }
     {
         self.words.shared.join_seat::<Both>(seat, other);
         self.load::<Brand>(seat);

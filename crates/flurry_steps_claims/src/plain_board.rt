@@ -2,7 +2,7 @@
 ghost use Rattle.std.specs.Prelude.{◌≡◌, ◌*◌, ◌^◌, ◌<◌, ◌≤◌};
 ghost use Rattle.flurry_base.specs.Sizes.{stride_of};
 ghost use Rattle.flurry_base.specs.declared.sizes.TheConstants.{MAX_TABLE};
-ghost use Rattle.flurry_steps_claims.specs.PlainBoard.{IsPlainBoard, new_plain_board, unclaimed_of, attempt_of, after_attempt, after_report, reports_last, has_seat, after_take, after_give};
+ghost use Rattle.flurry_steps_claims.specs.PlainBoard.{IsPlainBoard, new_plain_board, unclaimed_of, attempt_of, after_attempt, after_report, reports_last, has_seat, board_after_take, after_give};
 
 use crate::SEATS;
 use crate::range::{Attempt, Range, stride_of_table};
@@ -101,7 +101,7 @@ impl PlainBoard {
     /// Constant time.
     pub fn take_seat(&mut self) -> bool
         ensures value { result ≡ has_seat self.old }
-        ensures after { self.new ≡ after_take self.old }
+        ensures after { self.new ≡ board_after_take self.old }
     {
         if self.out < SEATS {
             self.out += 1;

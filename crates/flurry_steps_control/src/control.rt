@@ -223,7 +223,7 @@ impl Control {
     /// Adds the count that waits at `tally` to the count of pairs, and empties the tally.
     ///
     /// Constant time.
-    pub fn collect(&mut self, tally: &mut Tally)
+    pub fn drain_tally(&mut self, tally: &mut Tally)
         ensures after { self.new ≡ after_count tally.old self.old }
         ensures tally { tally.new ≡ pos 0 }
     {

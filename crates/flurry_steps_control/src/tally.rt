@@ -50,7 +50,7 @@ impl Tally {
     /// Returns `true` if at least `pairs` pairs wait.
     ///
     /// Constant time.
-    pub fn has(&self, pairs: i64) -> bool
+    pub fn is_at_least(&self, pairs: i64) -> bool
         ensures { result ≡ int_le pairs self.now }
     {
         pairs <= self.count

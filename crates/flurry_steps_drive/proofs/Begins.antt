@@ -31,12 +31,12 @@ use Rattle.flurry_base.specs.declared.sizes.TheConstants.{MAX_LABELS}
 module _ {K V F : Type 0} where
   module _ (hash : K → ℕ) where
     at_task : (d : Call K V F) (q : PartyState K V F) → ((k : K) → key_of d ≡ Some k → q.hash ≡ hash k) → (t : Task K V F) → task_of_call d ≡ Some t → q.stage ≡ AtLocate t → IsBeginning hash d q
-    at_task d q own t is e = record { own_hash = own; follows = subst (FollowsStage hash d) (sym e) is; mode = ap mode_of_stage e; held = ap held_of_stage e; unread = ap last_seen e }
+    at_task d q own t is e = record { own_hash = own; follows = subst (FollowsStage hash d) (sym e) is; mode = ap mode_of_stage e; plain_entries = ap held_of_stage e; unread = ap last_seen e }
 
     first_begins : (d : Call K V F) (q : PartyState K V F) → ((k : K) → key_of d ≡ Some k → q.hash ≡ hash k) → q.stage ≡ stage_of_call d → IsBeginning hash d q
-    first_begins (call.Reserve a) q own e = record { own_hash = own; follows = subst (FollowsStage hash (call.Reserve a)) (sym e) refl; mode = ap mode_of_stage e; held = ap held_of_stage e; unread = ap last_seen e }
-    first_begins call.Clear q own e = record { own_hash = own; follows = subst (FollowsStage hash call.Clear) (sym e) ((refl, refl), refl); mode = ap mode_of_stage e; held = ap held_of_stage e; unread = ap last_seen e }
-    first_begins call.Walk q own e = record { own_hash = own; follows = subst (FollowsStage hash call.Walk) (sym e) (refl, tt); mode = ap mode_of_stage e; held = ap held_of_stage e; unread = ap last_seen e }
+    first_begins (call.Reserve a) q own e = record { own_hash = own; follows = subst (FollowsStage hash (call.Reserve a)) (sym e) refl; mode = ap mode_of_stage e; plain_entries = ap held_of_stage e; unread = ap last_seen e }
+    first_begins call.Clear q own e = record { own_hash = own; follows = subst (FollowsStage hash call.Clear) (sym e) ((refl, refl), refl); mode = ap mode_of_stage e; plain_entries = ap held_of_stage e; unread = ap last_seen e }
+    first_begins call.Walk q own e = record { own_hash = own; follows = subst (FollowsStage hash call.Walk) (sym e) (refl, tt); mode = ap mode_of_stage e; plain_entries = ap held_of_stage e; unread = ap last_seen e }
     first_begins d q own e = at_task d q own _ refl e
 
 module _ {K V F : Type 0} (cmp : K → K → Ordering) (hash : K → ℕ) (gives : F → K → V → Option V → Type 0) where
@@ -61,21 +61,21 @@ module _ {K V F : Type 0} (cmp : K → K → Ordering) (hash : K → ℕ) (gives
     pub near : Near n w.control_state.count
     pub trace : reverse (w.trace ++ label.Begin (length w.party_records) d ∷ []) ≡ label.Begin (length w.party_records) d ∷ history w
     -- it was nobody before
-    pub undecided : decision (history w) (length w.party_records) ≡ None
+    pub no_decision : decision (history w) (length w.party_records) ≡ None
     pub unreplied : has_replied (history w) (length w.party_records) ≡ false
     pub going : has_closed (history w) (length w.party_records) ≡ false
 
   pub begun : (total : IsTotalOrder cmp) (lawful : (j k : K) → same cmp j k ≡ true → hash j ≡ hash k) (n : ℕ) → n ≤ MAX_LABELS → (m : Pairs K V) (s : Parts K V) (h : Holds cmp hash gives n s m) (d : Call K V F) (q : PartyState K V F) → IsFresh cmp hash gives d q → Begun n s h.world d q
   begun total lawful n few m s h d q fresh =
       let is = first_begins hash d q fresh.hash_is fresh.stage in
-      let unknown = (h.is_world.state.1.parties (length h.world.party_records)).unknown (omega arith) in
+      let unknown = (h.is_world.state.1.parties (length h.world.party_records)).beyond (omega arith) in
       record {
-        is_world = began cmp total hash lawful gives h.world h.is_world far d None (λ v e. cc) q is.mode is.held is.unread is.own_hash is.follows;
+        is_world = began cmp total hash lawful gives h.world h.is_world far d None (λ v e. cc) q is.mode is.plain_entries is.unread is.own_hash is.follows;
         at = get_append h.world.party_records new (length h.world.party_records) ∙ ap (λ z. cond z (Some new) (slice_get h.world.party_records (length h.world.party_records))) (itself (length h.world.party_records));
         parts = λ i. record { control_state = h.control_state i; tables = h.tables i };
         near = count;
         trace = reverse-append h.world.trace (label.Begin (length h.world.party_records) d ∷ []);
-        undecided = unknown.3;
+        no_decision = unknown.3;
         unreplied = unknown.4;
         going = unknown.5;
       }

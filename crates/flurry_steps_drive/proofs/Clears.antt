@@ -12,10 +12,10 @@ use Rattle.flurry_steps_sweep.specs.Cursor.{CursorState, at_base, after_split, a
 use Rattle.flurry_steps_sweep.specs.Part.{BinPart}
 use Rattle.flurry_steps_sweep.specs.Outcome.{Outcome, OutcomeEnded}
 use Rattle.flurry_steps_sweep.specs.Sweep as sweep
-use Rattle.flurry_steps_sweep.specs.Sweep.{Errand, Reads, Wipes, SweepStage, AtOutset, OverBins, AtTotal, AtEnd, AfterEnd, SweepState, ClearGives, BinGives, part_at, set_out_at, more_wiped, stage_cleared, swept_outcome, sets_out, fresh_sweep}
+use Rattle.flurry_steps_sweep.specs.Sweep.{SweepKind, Reads, Wipes, SweepStage, AtSweepStart, OverBins, AtTotal, AtEnd, AfterEnd, SweepState, ClearGives, BinGives, part_at, start_stage_at, more_wiped, stage_cleared, swept_outcome, is_at_start, fresh_sweep}
 use Rattle.flurry_steps_sweep.specs.declared.step.Event.{Event}
 use Rattle.flurry_base.specs.declared.call.Call.TheVariants as call
-use Rattle.flurry_steps.specs.Party.{AtSweep, PartyState, part_of, wanted_part, locates, published_stage, final_outcome, with_stage}
+use Rattle.flurry_steps.specs.Party.{AtSweep, PartyState, part_of, wanted_part, is_locating, published_stage, final_outcome, with_stage}
 use Rattle.flurry_steps.specs.PartyControl.{StageAtControl, ControlStep}
 use Rattle.flurry_steps.specs.PartySlots.{StageAtSlot}
 use Rattle.flurry_steps_theory.specs.Map.{Pairs, same, find}
@@ -36,7 +36,7 @@ use Rattle.flurry_steps_world.proofs.PartyCases.{put_other}
 use Rattle.flurry_steps_world.proofs.SlotCases.{Put}
 use Rattle.flurry_steps_world.proofs.Frames.{StepOf, kept}
 use Rattle.flurry_steps_world.proofs.Cases.{calls, in_mode}
-use Rattle.flurry_steps_drive.specs.Exact.{Holds, Answers, IsFresh}
+use Rattle.flurry_steps_drive.specs.Exact.{Holds, OutcomeAnswers, IsFresh}
 use Rattle.flurry_steps_drive.proofs.Begins.{was_published, begun}
 use Rattle.flurry_steps_drive.proofs.ClearSteps.{put_back, count_less, goes_to_table, finds_nothing, follows_moved, no_unborn, wiped_pairs, wipes_bin, counts_all}
 use Rattle.flurry_steps_drive.proofs.Trace.{itself}
@@ -74,7 +74,7 @@ module _ {K V F : Type 0} (cmp : K → K → Ordering) (total : IsTotalOrder cmp
   module _ (n : ℕ) (m : Pairs K V) (few : n + length m ≤ MAX_LABELS) (p : ℕ) where
     -- the pairs that are left and those that the clear wiped are as many as it began with, and the count is at most n from 0, until
     -- it has counted them
-    abbrev pub Tally : Pairs K V → ℤ → Errand → SweepStage K V → Type 0
+    abbrev pub Tally : Pairs K V → ℤ → SweepKind → SweepStage K V → Type 0
     Tally now count Reads a = ⊥
     Tally now count (Wipes i) (AtEnd r) = (r ≡ OutcomeEnded) × Near (n + length m) count
     Tally now count (Wipes i) AfterEnd = ⊥
@@ -92,19 +92,19 @@ module _ {K V F : Type 0} (cmp : K → K → Ordering) (total : IsTotalOrder cmp
       pub sweep_state : SweepState K V
       pub stage : caller.party_state.stage ≡ AtSweep sweep_state
       pub gone : StaysGone p (history world)
-      pub tally : Tally (pairs cmp hash (history world)) world.control_state.count sweep_state.errand sweep_state.stage
+      pub tally : Tally (pairs cmp hash (history world)) world.control_state.count sweep_state.kind sweep_state.stage
 
     module _ (now : Pairs K V) (count : ℤ) where
-      tally_of : (a : SweepState K V) (i : ℕ) (b : SweepStage K V) → a.errand ≡ Wipes i → a.stage ≡ b → Tally now count (Wipes i) b → Tally now count a.errand a.stage
+      tally_of : (a : SweepState K V) (i : ℕ) (b : SweepStage K V) → a.kind ≡ Wipes i → a.stage ≡ b → Tally now count (Wipes i) b → Tally now count a.kind a.stage
       tally_of a i b wipes stands h = subst₂ (λ er st. Tally now count er st) (sym wipes) (sym stands) h
 
       tally_cleared : (i : ℕ) (o : Option (CursorState K)) → (length now + i ≡ length m) × Near n count → Tally now count (Wipes i) (stage_cleared o)
       tally_cleared i None h = h
       tally_cleared i (Some f) h = h
 
-    module _ (w : WorldState K V F (Unit {0})) (k : IsWorld cmp hash gives w) (x : PartyRecord K V F) (at : slice_get w.party_records p ≡ Some x) (called : x.call ≡ call.Clear) (u : SweepState K V) (e : x.party_state.stage ≡ AtSweep u) (gone : StaysGone p (history w)) (tally : Tally (pairs cmp hash (history w)) w.control_state.count u.errand u.stage) where
+    module _ (w : WorldState K V F (Unit {0})) (k : IsWorld cmp hash gives w) (x : PartyRecord K V F) (at : slice_get w.party_records p ≡ Some x) (called : x.call ≡ call.Clear) (u : SweepState K V) (e : x.party_state.stage ≡ AtSweep u) (gone : StaysGone p (history w)) (tally : Tally (pairs cmp hash (history w)) w.control_state.count u.kind u.stage) where
       -- the world after a step
-      stepped : (c : PartyState K V F) (b : ControlState) (t : Tables K V) (l : Label K V F) (u' : SweepState K V) → c.stage ≡ AtSweep u' → StepOf cmp hash gives w p x b t c l → Lessens (history w) l → Tally (pairs cmp hash (l ∷ history w)) b.count u'.errand u'.stage → InClear (record { control_state = b; tables = t }) c
+      stepped : (c : PartyState K V F) (b : ControlState) (t : Tables K V) (l : Label K V F) (u' : SweepState K V) → c.stage ≡ AtSweep u' → StepOf cmp hash gives w p x b t c l → Lessens (history w) l → Tally (pairs cmp hash (l ∷ history w)) b.count u'.kind u'.stage → InClear (record { control_state = b; tables = t }) c
       stepped c b t l u' g step less tallied = record {
         world = with_step w p x b t c l;
         is_world = kept cmp hash gives total lawful w p x b t c l k at step;
@@ -115,35 +115,35 @@ module _ {K V F : Type 0} (cmp : K → K → Ordering) (total : IsTotalOrder cmp
         parts = refl;
         sweep_state = u';
         stage = g;
-        gone = subst (StaysGone p) (sym turned) (gone_on p (history w) l less gone);
-        tally = subst (λ r. Tally (pairs cmp hash r) b.count u'.errand u'.stage) (sym turned) tallied;
+        gone = subst (StaysGone p) (sym after_field_step) (gone_on p (history w) l less gone);
+        tally = subst (λ r. Tally (pairs cmp hash r) b.count u'.kind u'.stage) (sym after_field_step) tallied;
       }
         where
           after : PartyRecord K V F
           after = record { call = x.call; began_from = x.began_from; party_state = c; steps = suc x.steps }
 
-          turned : reverse (w.trace ++ l ∷ []) ≡ l ∷ history w
-          turned = reverse-append w.trace (l ∷ [])
+          after_field_step : reverse (w.trace ++ l ∷ []) ≡ l ∷ history w
+          after_field_step = reverse-append w.trace (l ∷ [])
 
-      module _ (i : ℕ) (wipes : u.errand ≡ Wipes i) where
-        held : (a : SweepStage K V) → u.stage ≡ a → Tally (pairs cmp hash (history w)) w.control_state.count (Wipes i) a
-        held a f = subst₂ (λ er st. Tally (pairs cmp hash (history w)) w.control_state.count er st) wipes f tally
+      module _ (i : ℕ) (wipes : u.kind ≡ Wipes i) where
+        plain_entries : (a : SweepStage K V) → u.stage ≡ a → Tally (pairs cmp hash (history w)) w.control_state.count (Wipes i) a
+        plain_entries a f = subst₂ (λ er st. Tally (pairs cmp hash (history w)) w.control_state.count er st) wipes f tally
 
         module _ (c : PartyState K V F) (hashed : c.hash ≡ x.party_state.hash) (u' : SweepState K V) (g : c.stage ≡ AtSweep u') (last : u'.last ≡ u.last) where
           -- a step that leaves the parts
-          quiet : StepOf cmp hash gives w p x w.control_state w.tables c (label.Silent p) → (a : SweepStage K V) → u'.errand ≡ Wipes i → u'.stage ≡ a → Tally (pairs cmp hash (history w)) w.control_state.count (Wipes i) a → InClear (record { control_state = w.control_state; tables = w.tables }) c
-          quiet step a errand stands tallied = stepped c w.control_state w.tables (label.Silent p) u' g step (λ j h. h) (tally_of (pairs cmp hash (history w)) w.control_state.count u' i a errand stands tallied)
+          quiet : StepOf cmp hash gives w p x w.control_state w.tables c (label.Silent p) → (a : SweepStage K V) → u'.kind ≡ Wipes i → u'.stage ≡ a → Tally (pairs cmp hash (history w)) w.control_state.count (Wipes i) a → InClear (record { control_state = w.control_state; tables = w.tables }) c
+          quiet step a kind stands tallied = stepped c w.control_state w.tables (label.Silent p) u' g step (λ j h. h) (tally_of (pairs cmp hash (history w)) w.control_state.count u' i a kind stands tallied)
 
-          sets_out_at : u.stage ≡ AtOutset → u'.errand ≡ u.errand → (o : Option ℕ) → w.control_state.published ≡ o → u'.stage ≡ set_out_at o → InClear (record { control_state = w.control_state; tables = w.tables }) c
+          sets_out_at : u.stage ≡ AtSweepStart → u'.kind ≡ u.kind → (o : Option ℕ) → w.control_state.published ≡ o → u'.stage ≡ start_stage_at o → InClear (record { control_state = w.control_state; tables = w.tables }) c
           sets_out_at f kept_errand None bare h =
               quiet (finds_nothing cmp total hash lawful gives w k p x at u e i wipes c u' g hashed last f (kept_errand ∙ wipes) bare h) (AtEnd OutcomeEnded) (kept_errand ∙ wipes) h
-              (refl, let least = (held AtOutset f).1 in record { most = omega (arith, ints, least.most); least = omega (arith, ints, least.least) })
+              (refl, let least = (plain_entries AtSweepStart f).1 in record { most = omega (arith, ints, least.most); least = omega (arith, ints, least.least) })
           sets_out_at f kept_errand (Some a) there h =
-              quiet (goes_to_table cmp total hash lawful gives w k p x at u e i wipes c u' g hashed last f (kept_errand ∙ wipes) a ((k.state.1.tables.from a there).0, a, there, omega arith) h) (OverBins (at_base a 0)) (kept_errand ∙ wipes) h (held AtOutset f)
+              quiet (goes_to_table cmp total hash lawful gives w k p x at u e i wipes c u' g hashed last f (kept_errand ∙ wipes) a ((k.state.1.tables.from a there).0, a, there, omega arith) h) (OverBins (at_base a 0)) (kept_errand ∙ wipes) h (plain_entries AtSweepStart f)
 
-          counted : u.stage ≡ AtTotal → u'.errand ≡ u.errand → u'.stage ≡ AtEnd OutcomeEnded → InClear (record { control_state = after_count (neg_ℤ (pos (min i (2 ^ 63 - 1)))) w.control_state; tables = w.tables }) c
+          counted : u.stage ≡ AtTotal → u'.kind ≡ u.kind → u'.stage ≡ AtEnd OutcomeEnded → InClear (record { control_state = after_count (neg_ℤ (pos (min i (2 ^ 63 - 1)))) w.control_state; tables = w.tables }) c
           counted f kept_errand h =
-              let (whole, within) = held AtTotal f in
+              let (whole, within) = plain_entries AtTotal f in
               let least : neg_ℤ (pos (n + length m)) ≤ℤ (w.control_state.count -ℤ pos i) = omega (arith, ints, within.least, whole) in
               let most : (w.control_state.count -ℤ pos i) ≤ℤ pos (n + length m) = omega (arith, ints, within.most) in
               let sums = count_less w.control_state.count i (omega (arith, whole, few)) (omega (arith, ints, within.most, few)) (omega (arith, ints, least, few)) in
@@ -151,32 +151,32 @@ module _ {K V F : Type 0} (cmp : K → K → Ordering) (total : IsTotalOrder cmp
               (counts_all cmp total hash lawful gives w k p x at u e i wipes c u' g hashed last f (kept_errand ∙ wipes) h sums) (λ j z. z)
               (tally_of (pairs cmp hash (history w)) _ u' i (AtEnd OutcomeEnded) (kept_errand ∙ wipes) h (refl, subst (Near (n + length m)) (sym sums) (record { most = most; least = least })))
 
-          wiped : (f : CursorState K) (over : u.stage ≡ OverBins f) (d : Live K V) (live : content_at w.tables f.top.table f.top.index ≡ IsLive d) (t : Tables K V) → Put w.tables f.top.table f.top.index (IsLive (after_wipe d)) t → u'.errand ≡ Wipes (more_wiped i (length d.held)) → u'.stage ≡ stage_cleared (after_top f) → InClear (record { control_state = w.control_state; tables = t }) c
-          wiped f over d live t put errand h =
-              let (whole, within) = held (OverBins f) over in
+          wiped : (f : CursorState K) (over : u.stage ≡ OverBins f) (d : Live K V) (live : content_at w.tables f.top.table f.top.index ≡ IsLive d) (t : Tables K V) → Put w.tables f.top.table f.top.index (IsLive (after_wipe d)) t → u'.kind ≡ Wipes (more_wiped i (length d.plain_entries)) → u'.stage ≡ stage_cleared (after_top f) → InClear (record { control_state = w.control_state; tables = t }) c
+          wiped f over d live t put kind h =
+              let (whole, within) = plain_entries (OverBins f) over in
               let lost = wiped_pairs cmp total hash lawful gives w k p x at u e i wipes c u' g hashed last f over d live in
-              let small : i + length d.held ≤ 2 ^ 64 - 1 = omega (arith, lost, whole, few) in
-              let sums : more_wiped i (length d.held) ≡ i + length d.held = grind (arith, small) in
+              let small : i + length d.plain_entries ≤ 2 ^ 64 - 1 = omega (arith, lost, whole, few) in
+              let sums : more_wiped i (length d.plain_entries) ≡ i + length d.plain_entries = grind (arith, small) in
               stepped c w.control_state t (label.Wipe p f.top.table f.top.index) u' g
-              (wipes_bin cmp total hash lawful gives w k p x at u e i wipes c u' g hashed last f over d live t put (omega (arith, whole, few)) errand h) (wipe_lessens p f.top.table f.top.index (history w))
-              (tally_of _ w.control_state.count u' (more_wiped i (length d.held)) (stage_cleared (after_top f)) errand h (tally_cleared _ w.control_state.count (more_wiped i (length d.held)) (after_top f) (omega (arith, lost, whole, sums), within)))
+              (wipes_bin cmp total hash lawful gives w k p x at u e i wipes c u' g hashed last f over d live t put (omega (arith, whole, few)) kind h) (wipe_lessens p f.top.table f.top.index (history w))
+              (tally_of _ w.control_state.count u' (more_wiped i (length d.plain_entries)) (stage_cleared (after_top f)) kind h (tally_cleared _ w.control_state.count (more_wiped i (length d.plain_entries)) (after_top f) (omega (arith, lost, whole, sums), within)))
 
-          moved : (f : CursorState K) → u.stage ≡ OverBins f → content_at w.tables f.top.table f.top.index ≡ HasMoved → u'.errand ≡ Wipes i → u'.stage ≡ OverBins (after_split f) → InClear (record { control_state = w.control_state; tables = w.tables }) c
-          moved f over has_moved errand h = quiet (follows_moved cmp total hash lawful gives w k p x at u e i wipes c u' g hashed last f over errand has_moved h) (OverBins (after_split f)) errand h (held (OverBins f) over)
+          moved : (f : CursorState K) → u.stage ≡ OverBins f → content_at w.tables f.top.table f.top.index ≡ HasMoved → u'.kind ≡ Wipes i → u'.stage ≡ OverBins (after_split f) → InClear (record { control_state = w.control_state; tables = w.tables }) c
+          moved f over has_moved kind h = quiet (follows_moved cmp total hash lawful gives w k p x at u e i wipes c u' g hashed last f over kind has_moved h) (OverBins (after_split f)) kind h (plain_entries (OverBins f) over)
 
         -- a step at the part that it wants
         module _ (c : PartyState K V F) (b : ControlState) (t : Tables K V) (ev : Event) where
-          at_control : (a : SweepStage K V) → u.stage ≡ a → (u' : SweepState K V) → c.stage ≡ AtSweep u' → c.hash ≡ x.party_state.hash → u'.errand ≡ u.errand → u'.last ≡ u.last → sweep.StageAtControl (Wipes i) a w.control_state u'.stage b → t ≡ w.tables → InClear (record { control_state = b; tables = t }) c
-          at_control AtOutset f u' g hashed errand last (h, y) z = rw (y, z) (sets_out_at c hashed u' g last f errand w.control_state.published refl h)
-          at_control (OverBins d) f u' g hashed errand last h z = absurd h
-          at_control AtTotal f u' g hashed errand last (h, y) z = rw (y, z) (counted c hashed u' g last f errand h)
-          at_control (AtEnd r) f u' g hashed errand last h z = absurd h
-          at_control AfterEnd f u' g hashed errand last h z = absurd h
+          at_control : (a : SweepStage K V) → u.stage ≡ a → (u' : SweepState K V) → c.stage ≡ AtSweep u' → c.hash ≡ x.party_state.hash → u'.kind ≡ u.kind → u'.last ≡ u.last → sweep.StageAtControl (Wipes i) a w.control_state u'.stage b → t ≡ w.tables → InClear (record { control_state = b; tables = t }) c
+          at_control AtSweepStart f u' g hashed kind last (h, y) z = rw (y, z) (sets_out_at c hashed u' g last f kind w.control_state.published refl h)
+          at_control (OverBins d) f u' g hashed kind last h z = absurd h
+          at_control AtTotal f u' g hashed kind last (h, y) z = rw (y, z) (counted c hashed u' g last f kind h)
+          at_control (AtEnd r) f u' g hashed kind last h z = absurd h
+          at_control AfterEnd f u' g hashed kind last h z = absurd h
 
           by_control : (a : SweepStage K V) → u.stage ≡ a → ControlStep PlaceGives x.party_state w.control_state w.tables ev c b t → InClear (record { control_state = b; tables = t }) c
           by_control a f h =
               let (u', g, s, z) = subst (λ z. StageAtControl PlaceGives x.party_state.processors x.party_state.helped z w.control_state w.tables ev c.stage b t) e h.step in
-              at_control a f u' g h.hash s.errand s.last (subst₂ (λ er st. sweep.StageAtControl er st w.control_state u'.stage b) wipes f s.step) z
+              at_control a f u' g h.hash s.kind s.last (subst₂ (λ er st. sweep.StageAtControl er st w.control_state u'.stage b) wipes f s.step) z
 
           at_bin : (f : CursorState K) → u.stage ≡ OverBins f → PartStep cmp gives (BinPart f.top.table f.top.index) x.party_state w.control_state w.tables ev c b t → InClear (record { control_state = b; tables = t }) c
           at_bin f over (q, q', there, inside, h, y, z) =
@@ -187,7 +187,7 @@ module _ {K V F : Type 0} (cmp : K → K → Ordering) (total : IsTotalOrder cmp
               here : content_at w.tables f.top.table f.top.index ≡ q.content
               here = content_of_place w.tables f.top.table f.top.index q there
 
-              by_content : (u' : SweepState K V) → c.stage ≡ AtSweep u' → u'.last ≡ u.last → (v : Content K V) → q.content ≡ v → ClearGives i f v ev u'.errand u'.stage q'.content → InClear (record { control_state = b; tables = t }) c
+              by_content : (u' : SweepState K V) → c.stage ≡ AtSweep u' → u'.last ≡ u.last → (v : Content K V) → q.content ≡ v → ClearGives i f v ev u'.kind u'.stage q'.content → InClear (record { control_state = b; tables = t }) c
               by_content u' g last (IsLive d) live (v, er, st, after) = rw y (wiped c h.hash u' g last f over d (here ∙ live) t (subst₂ (λ r a. Put w.tables f.top.table f.top.index r a) after (sym z) (put_other w.tables f.top.table f.top.index q q' k.tables there h.table h.index)) er st)
               by_content u' g last HasMoved has_moved (v, er, st, after) = rw (y, z ∙ same_tables) (moved c h.hash u' g last f over (here ∙ has_moved) er st)
                 where
@@ -199,48 +199,48 @@ module _ {K V F : Type 0} (cmp : K → K → Ordering) (total : IsTotalOrder cmp
               by_content u' g last IsUnborn unborn (v, er, st, after) = absurd (no_unborn cmp total hash lawful gives w k p x at u e i wipes c u' g h.hash last f over (here ∙ unborn))
 
           at_part : (a : SweepStage K V) → u.stage ≡ a → PartStep cmp gives (part_at (Wipes i) a) x.party_state w.control_state w.tables ev c b t → InClear (record { control_state = b; tables = t }) c
-          at_part AtOutset f h = by_control AtOutset f h
+          at_part AtSweepStart f h = by_control AtSweepStart f h
           at_part (OverBins d) f h = at_bin d f h
           at_part AtTotal f h = by_control AtTotal f h
           at_part (AtEnd r) f h = absurd h
           at_part AfterEnd f h = absurd h
 
-        started : (a : ℕ) (c : PartyState K V F) → sets_out u.stage ≡ true → IsPublishedTable (record { control_state = w.control_state; tables = w.tables }) a → c ≡ with_stage x.party_state (published_stage a x.party_state.stage) → InClear (record { control_state = w.control_state; tables = w.tables }) c
+        started : (a : ℕ) (c : PartyState K V F) → is_at_start u.stage ≡ true → IsPublishedTable (record { control_state = w.control_state; tables = w.tables }) a → c ≡ with_stage x.party_state (published_stage a x.party_state.stage) → InClear (record { control_state = w.control_state; tables = w.tables }) c
         started a c asks start is = by_stage u.stage refl asks
           where
-            by_stage : (b : SweepStage K V) → u.stage ≡ b → sets_out b ≡ true → InClear (record { control_state = w.control_state; tables = w.tables }) c
-            by_stage AtOutset f h =
+            by_stage : (b : SweepStage K V) → u.stage ≡ b → is_at_start b ≡ true → InClear (record { control_state = w.control_state; tables = w.tables }) c
+            by_stage AtSweepStart f h =
                 let g : c.stage ≡ AtSweep (sweep.with_stage u (OverBins (at_base a 0))) = ap (λ z. z.stage) is ∙ ap (published_stage a) e in
                 let hashed : c.hash ≡ x.party_state.hash = ap (λ z. z.hash) is in
-                quiet c hashed (sweep.with_stage u (OverBins (at_base a 0))) g refl (goes_to_table cmp total hash lawful gives w k p x at u e i wipes c (sweep.with_stage u (OverBins (at_base a 0))) g hashed refl f wipes a (was_published cmp hash gives w k a start) refl) (OverBins (at_base a 0)) wipes refl (held AtOutset f)
+                quiet c hashed (sweep.with_stage u (OverBins (at_base a 0))) g refl (goes_to_table cmp total hash lawful gives w k p x at u e i wipes c (sweep.with_stage u (OverBins (at_base a 0))) g hashed refl f wipes a (was_published cmp hash gives w k a start) refl) (OverBins (at_base a 0)) wipes refl (plain_entries AtSweepStart f)
             by_stage (OverBins d) f h = cc
             by_stage AtTotal f h = cc
             by_stage (AtEnd r) f h = cc
             by_stage AfterEnd f h = cc
 
       pub part_step : (c : PartyState K V F) (b : ControlState) (t : Tables K V) (ev : Event) → PartStep cmp gives (wanted_part x.party_state) x.party_state w.control_state w.tables ev c b t → InClear (record { control_state = b; tables = t }) c
-      part_step c b t ev h = by_errand u.errand refl
+      part_step c b t ev h = by_errand u.kind refl
         where
-          by_errand : (er : Errand) → u.errand ≡ er → InClear (record { control_state = b; tables = t }) c
+          by_errand : (er : SweepKind) → u.kind ≡ er → InClear (record { control_state = b; tables = t }) c
           by_errand Reads f = absurd (subst (λ z. Tally (pairs cmp hash (history w)) w.control_state.count z u.stage) f tally)
           by_errand (Wipes i) f = at_part i f c b t ev u.stage refl (subst (λ z. PartStep cmp gives (part_at z u.stage) x.party_state w.control_state w.tables ev c b t) f (subst (λ z. PartStep cmp gives (part_of x.party_state.hash z) x.party_state w.control_state w.tables ev c b t) e h))
 
-      pub start_step : (a : ℕ) (c : PartyState K V F) → locates x.party_state.stage ≡ true → IsPublishedTable (record { control_state = w.control_state; tables = w.tables }) a → c ≡ with_stage x.party_state (published_stage a x.party_state.stage) → InClear (record { control_state = w.control_state; tables = w.tables }) c
-      start_step a c asks start is = by_errand u.errand refl
+      pub start_step : (a : ℕ) (c : PartyState K V F) → is_locating x.party_state.stage ≡ true → IsPublishedTable (record { control_state = w.control_state; tables = w.tables }) a → c ≡ with_stage x.party_state (published_stage a x.party_state.stage) → InClear (record { control_state = w.control_state; tables = w.tables }) c
+      start_step a c asks start is = by_errand u.kind refl
         where
-          by_errand : (er : Errand) → u.errand ≡ er → InClear (record { control_state = w.control_state; tables = w.tables }) c
+          by_errand : (er : SweepKind) → u.kind ≡ er → InClear (record { control_state = w.control_state; tables = w.tables }) c
           by_errand Reads f = absurd (subst (λ z. Tally (pairs cmp hash (history w)) w.control_state.count z u.stage) f tally)
-          by_errand (Wipes i) f = started i f a c (sym (ap locates e) ∙ asks) start is
+          by_errand (Wipes i) f = started i f a c (sym (ap is_locating e) ∙ asks) start is
 
       -- the clear is done
-      pub ended : (r : Outcome K V) → final_outcome x.party_state.stage ≡ Some r → Answers cmp hash gives call.Clear m r (pairs cmp hash (history w)) × Near (n + length m) w.control_state.count
-      ended r done = by_stage u.errand refl u.stage refl (sym (ap final_outcome e) ∙ done)
+      pub ended : (r : Outcome K V) → final_outcome x.party_state.stage ≡ Some r → OutcomeAnswers cmp hash gives call.Clear m r (pairs cmp hash (history w)) × Near (n + length m) w.control_state.count
+      ended r done = by_stage u.kind refl u.stage refl (sym (ap final_outcome e) ∙ done)
         where
-          empty : {q : Outcome K V} (i : ℕ) → u.errand ≡ Wipes i → u.stage ≡ AtEnd q → q ≡ OutcomeEnded → pairs cmp hash (history w) ≡ []
+          empty : {q : Outcome K V} (i : ℕ) → u.kind ≡ Wipes i → u.stage ≡ AtEnd q → q ≡ OutcomeEnded → pairs cmp hash (history w) ≡ []
           empty i wipes f ends = none_left cmp total (pairs cmp hash (history w)) (λ j. over j (subst (λ z. HasLacked cmp hash gives (names p) (history w) p j ⊎ Remains cmp hash gives z j) mode ((k.state.1.progress p).cleared (calls cmp total hash lawful gives w k p x at x.party_state ∙ ap Some called) going j)))
             where
               mode : (state_of w).mode p ≡ Done None 0 0
-              mode = in_mode cmp total hash lawful gives w k p x at x.party_state (AtSweep u) e ∙ ap (λ z. mode_of_sweep z u.errand) (f ∙ ap AtEnd ends)
+              mode = in_mode cmp total hash lawful gives w k p x at x.party_state (AtSweep u) e ∙ ap (λ z. mode_of_sweep z u.kind) (f ∙ ap AtEnd ends)
 
               going : (state_of w).mode p ≡ Finished → ⊥
               going h = let no : ◌≡◌ {A = Mode K V} (Done None 0 0) Finished = sym mode ∙ h in cc
@@ -249,13 +249,13 @@ module _ {K V F : Type 0} (cmp : K → K → Ordering) (total : IsTotalOrder cmp
               over j (inl h) = gone j h
               over j (inr h) = absurd h
 
-          by_stage : (er : Errand) → u.errand ≡ er → (a : SweepStage K V) → u.stage ≡ a → swept_outcome a ≡ Some r → Answers cmp hash gives call.Clear m r (pairs cmp hash (history w)) × Near (n + length m) w.control_state.count
+          by_stage : (er : SweepKind) → u.kind ≡ er → (a : SweepStage K V) → u.stage ≡ a → swept_outcome a ≡ Some r → OutcomeAnswers cmp hash gives call.Clear m r (pairs cmp hash (history w)) × Near (n + length m) w.control_state.count
           by_stage Reads f a h g = absurd (subst (λ z. Tally (pairs cmp hash (history w)) w.control_state.count z u.stage) f tally)
           by_stage (Wipes i) f (AtEnd q) h g =
-              let (ends, within) = held i f (AtEnd q) h in
+              let (ends, within) = plain_entries i f (AtEnd q) h in
               let is : r ≡ OutcomeEnded = cc in
-              (subst (λ z. Answers cmp hash gives call.Clear m z (pairs cmp hash (history w))) (sym is) (empty i f h ends), within)
-          by_stage (Wipes i) f AtOutset h g = cc
+              (subst (λ z. OutcomeAnswers cmp hash gives call.Clear m z (pairs cmp hash (history w))) (sym is) (empty i f h ends), within)
+          by_stage (Wipes i) f AtSweepStart h g = cc
           by_stage (Wipes i) f (OverBins d) h g = cc
           by_stage (Wipes i) f AtTotal h g = cc
           by_stage (Wipes i) f AfterEnd h g = cc
@@ -275,7 +275,7 @@ module _ {K V F : Type 0} (cmp : K → K → Ordering) (total : IsTotalOrder cmp
         sweep_state = fresh_sweep (Wipes 0);
         stage = fresh.stage;
         gone = subst (StaysGone (length h.world.party_records)) (sym b.trace) (λ j lacked. absurd (not_yet j lacked));
-        tally = subst (λ r. Tally n m few (length h.world.party_records) (pairs cmp hash r) h.world.control_state.count (Wipes 0) AtOutset) (sym b.trace) (omega (arith, ap length h.map), b.near);
+        tally = subst (λ r. Tally n m few (length h.world.party_records) (pairs cmp hash r) h.world.control_state.count (Wipes 0) AtSweepStart) (sym b.trace) (omega (arith, ap length h.map), b.near);
       }
     where
       not_yet : (j : K) → HasLacked cmp hash gives (names (length h.world.party_records)) (label.Begin (length h.world.party_records) call.Clear ∷ history h.world) (length h.world.party_records) j → ⊥

@@ -55,8 +55,8 @@ near_of n l z r = record { most = omega (arith, ints, r.most); least = omega (ar
 fewer : (n l m : ℕ) (z y : ℤ) → y ≡ z → m ≤ l → Room n l z → Room n m y
 fewer n l m z y e h r = record { most = omega (arith, ints, r.most, h, e); least = omega (arith, ints, r.least, h, e) }
 
-counts : (n l : ℕ) (z d : ℤ) → n ≤ MAX_LABELS → d ≤ℤ pos l → neg_ℤ (pos l) ≤ℤ d → l ≤ 1 → Room n l z → Room n 0 (saturate_signed w64 (z +ℤ d))
-counts n l z d h u v w r = subst (Room n 0) (sym (in_range (z +ℤ d) (2 ^ 62) (omega arith) (omega (arith, ints, r.most, u, h, w)) (omega (arith, ints, r.least, v, h, w)))) (record { most = omega (arith, ints, r.most, u); least = omega (arith, ints, r.least, v) })
+is_counting : (n l : ℕ) (z d : ℤ) → n ≤ MAX_LABELS → d ≤ℤ pos l → neg_ℤ (pos l) ≤ℤ d → l ≤ 1 → Room n l z → Room n 0 (saturate_signed w64 (z +ℤ d))
+is_counting n l z d h u v w r = subst (Room n 0) (sym (in_range (z +ℤ d) (2 ^ 62) (omega arith) (omega (arith, ints, r.most, u, h, w)) (omega (arith, ints, r.least, v, h, w)))) (record { most = omega (arith, ints, r.most, u); least = omega (arith, ints, r.least, v) })
 
 growing_most : {K V : Type 0} (g : GrowFor K V) → left_growing g ≤ 1
 growing_most (ForInsert r) = omega arith
@@ -161,9 +161,9 @@ module _ {K V F R : Type 0} (place : R → ℕ → Option ℕ → Bool → R →
   at_control : (s : Stage K V F) → IsSingle s → StageAtControl place p helped s b r ev st b' r' → Room n (left s) b.count → Room n (left st) b'.count
   at_control (AtLocate t) single h m = fewer n 1 (left st) b.count b'.count (located b.published t h) (left_most st) m
   at_control (AtHelp (Publishing e) a) single (x, y, z, u) m = let l : left st ≡ left_after a = ap left y in fewer n (left_after a) (left st) b.count b'.count (ap (λ z. z.count) z ∙ published_count e b) (omega (arith, l)) m
-  at_control (AtUncount q) single (x, y, z, u) m = let l : left st ≡ 0 = ap left y in fewer n 0 (left st) _ b'.count (ap (λ z. z.count) z) (omega (arith, l)) (counts n 1 b.count (negsuc 0) few (omega (arith, ints)) (omega (arith, ints)) (omega arith) m)
-  at_control (AtCount q) single (x, y, z, u) m = let l : left st ≡ 0 = ap left y ∙ left_advised F helped b.published q _ in fewer n 0 (left st) _ b'.count (ap (λ z. z.count) z) (omega (arith, l)) (counts n 1 b.count (pos 1) few (omega (arith, ints)) (omega (arith, ints)) (omega arith) m)
-  at_control (AtRecount q) single (x, y, z, u) m = let l : left st ≡ 0 = ap left y ∙ left_advised F helped b.published q _ in fewer n 0 (left st) _ b'.count (ap (λ z. z.count) z) (omega (arith, l)) (counts n 0 b.count (pos 0) few (omega (arith, ints)) (omega (arith, ints)) (omega arith) m)
+  at_control (AtUncount q) single (x, y, z, u) m = let l : left st ≡ 0 = ap left y in fewer n 0 (left st) _ b'.count (ap (λ z. z.count) z) (omega (arith, l)) (is_counting n 1 b.count (negsuc 0) few (omega (arith, ints)) (omega (arith, ints)) (omega arith) m)
+  at_control (AtCount q) single (x, y, z, u) m = let l : left st ≡ 0 = ap left y ∙ left_advised F helped b.published q _ in fewer n 0 (left st) _ b'.count (ap (λ z. z.count) z) (omega (arith, l)) (is_counting n 1 b.count (pos 1) few (omega (arith, ints)) (omega (arith, ints)) (omega arith) m)
+  at_control (AtRecount q) single (x, y, z, u) m = let l : left st ≡ 0 = ap left y ∙ left_advised F helped b.published q _ in fewer n 0 (left st) _ b'.count (ap (λ z. z.count) z) (omega (arith, l)) (is_counting n 0 b.count (pos 0) few (omega (arith, ints)) (omega (arith, ints)) (omega arith) m)
   at_control (AtBegin e q) single (a, gave, x, y) m = let l : left st ≡ 0 = ap left y ∙ left_begun F e q a in fewer n 0 (left st) b.count b'.count (begin_count place p e b r a b' r' gave) (omega (arith, l)) m
   at_control (AtGrow w g) single h m = let l = grown (grows_from w b) w g h in fewer n (left_growing g) (left st) b.count b'.count l.0 (omega (arith, l.1)) m
   at_control (AtReserve a) single (w, sized, h) m = let l = reserved b.published w h in fewer n 0 (left st) b.count b'.count l.0 (omega (arith, l.1)) m

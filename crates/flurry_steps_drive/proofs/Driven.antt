@@ -3,7 +3,7 @@ use Rattle.std.specs.Prelude.{◌≡◌, ℕ, ◌+◌, ◌≤◌, Bool, true, le
 use Rattle.std.specs.declared.cmp.Ordering.{Ordering}
 use Rattle.std.specs.Cmp.{IsTotalOrder}
 use Rattle.std.proofs.Common.{refl, sym, ◌∙◌, ap, subst, inl, inr}
-use Rattle.flurry_steps.specs.Field.{Loan, Turn}
+use Rattle.flurry_steps.specs.Field.{Loan, FieldStep}
 use Rattle.flurry_steps_sweep.specs.Outcome.{Outcome}
 use Rattle.flurry_steps_sweep.specs.Part.{Part}
 use Rattle.flurry_steps.specs.Party.{PartyState, final_outcome}
@@ -16,9 +16,9 @@ use Rattle.flurry_steps_world.specs.Parts.{Parts}
 use Rattle.flurry_steps_world.specs.Tables.{Tables}
 use Rattle.flurry_steps_world.specs.World.{Near, history}
 use Rattle.flurry_steps_world.proofs.WorldSteps.{alike_class}
-use Rattle.flurry_steps.specs.Turns.{Turns, still, further}
+use Rattle.flurry_steps.specs.StepClosure.{StepClosure, still, further}
 use Rattle.flurry_steps_drive.specs.IsExclusive.{StepsIn, IsExclusive}
-use Rattle.flurry_steps_drive.specs.Exact.{Holds, Answers, IsFresh, DrivesTo, IsExact, most_counted}
+use Rattle.flurry_steps_drive.specs.Exact.{Holds, OutcomeAnswers, IsFresh, DrivesTo, IsExact, most_counted}
 use Rattle.flurry_steps_drive.proofs.OwnSteps.{own_step}
 use Rattle.flurry_steps_drive.proofs.CountLaws.{Room, left}
 use Rattle.flurry_steps_drive.proofs.Worlds.{IsPlain, InWorld, part_step, start_step, ended, begins}
@@ -29,9 +29,9 @@ use Rattle.flurry_base.specs.declared.sizes.TheConstants.{MAX_LABELS}
 
 module _ {S P E : Type 0} (step : S → P → E → S → P → Type 0) where
   -- what each step keeps, all of them keep
-  all_keep : (Kept : S → P → Type 0) → ((s s' : S) (p p' : P) (ev : E) → step s p ev s' p' → Kept s p → Kept s' p') → {s s' : S} {p p' : P} → Turns step s p s' p' → Kept s p → Kept s' p'
+  all_keep : (Kept : S → P → Type 0) → ((s s' : S) (p p' : P) (ev : E) → step s p ev s' p' → Kept s p → Kept s' p') → {s s' : S} {p p' : P} → StepClosure step s p s' p' → Kept s p → Kept s' p'
   all_keep Kept keeps still is = is
-  all_keep Kept keeps {s' = s'} {p' = p'} (further {s' = u} {p' = q} ev turns turn) is = keeps u s' q p' ev turn (all_keep Kept keeps turns is)
+  all_keep Kept keeps {s' = s'} {p' = p'} (further {s' = u} {p' = q} ev field_steps field_step) is = keeps u s' q p' ev field_step (all_keep Kept keeps field_steps is)
 
 module _ {K V F : Type 0} (cmp : K → K → Ordering) (total : IsTotalOrder cmp) (changes : F → K → V → Option V → Type 0) (hash : K → ℕ) (lawful : (j k : K) → same cmp j k ≡ true → hash j ≡ hash k) where
   -- a call that does not go over all bins
@@ -48,7 +48,7 @@ module _ {K V F : Type 0} (cmp : K → K → Ordering) (total : IsTotalOrder cmp
         by_kind (inr h) = subst (λ z. InWorld cmp total hash lawful changes (n + most_counted d m) few p d m z c') (sym h.parts) (start_step cmp total hash lawful changes (n + most_counted d m) few p d m is.world is.is_world is.caller is.at is.call is.alone (room_now s c is) is.plain h.table c' ev h.asks h.start h.silent h.party_state)
 
     -- to the call's end
-    last : (s : Parts K V) (c : PartyState K V F) (r : Outcome K V) → final_outcome c.stage ≡ Some r → InWorld cmp total hash lawful changes (n + most_counted d m) few p d m s c → (m' : Pairs K V) × Answers cmp hash changes d m r m' × Holds cmp hash changes (n + most_counted d m) s m'
+    last : (s : Parts K V) (c : PartyState K V F) (r : Outcome K V) → final_outcome c.stage ≡ Some r → InWorld cmp total hash lawful changes (n + most_counted d m) few p d m s c → (m' : Pairs K V) × OutcomeAnswers cmp hash changes d m r m' × Holds cmp hash changes (n + most_counted d m) s m'
     last s c r e is =
         let done = ended cmp total hash lawful changes (n + most_counted d m) few p d m is.world is.is_world is.caller is.at is.call is.alone (room_now s c is) is.plain r (ap (λ z. final_outcome z.stage) is.party_state ∙ e) in
         (done.0, done.1, subst (λ z. Holds cmp hash changes (n + most_counted d m) z done.0) is.parts done.2)
@@ -62,17 +62,17 @@ module _ {K V F : Type 0} (cmp : K → K → Ordering) (total : IsTotalOrder cmp
         by_kind (inl h) = clears.part_step cmp total hash lawful changes n m few p is.world is.is_world is.caller is.at is.call is.sweep_state is.stage is.gone is.tally c' s'.control_state s'.tables ev h
         by_kind (inr h) = subst (λ z. InClear cmp total hash lawful changes n m few p z c') (sym h.parts) (clears.start_step cmp total hash lawful changes n m few p is.world is.is_world is.caller is.at is.call is.sweep_state is.stage is.gone is.tally h.table c' h.asks h.start h.party_state)
 
-    clear_last : (s : Parts K V) (c : PartyState K V F) (r : Outcome K V) → final_outcome c.stage ≡ Some r → InClear cmp total hash lawful changes n m few p s c → (m' : Pairs K V) × Answers cmp hash changes call.Clear m r m' × Holds cmp hash changes (n + length m) s m'
+    clear_last : (s : Parts K V) (c : PartyState K V F) (r : Outcome K V) → final_outcome c.stage ≡ Some r → InClear cmp total hash lawful changes n m few p s c → (m' : Pairs K V) × OutcomeAnswers cmp hash changes call.Clear m r m' × Holds cmp hash changes (n + length m) s m'
     clear_last s c r e is =
         let (answers, near) = clears.ended cmp total hash lawful changes n m few p is.world is.is_world is.caller is.at is.call is.sweep_state is.stage is.gone is.tally r (ap (λ z. final_outcome z.stage) is.party_state ∙ e) in
         (pairs cmp hash (history is.world), answers, record { world = is.world; is_world = is.is_world; control_state = ap (λ z. z.control_state) is.parts; tables = ap (λ z. z.tables) is.parts; map = refl; near = subst (λ z. Near (n + length m) z.control_state.count) is.parts near })
 
 module _ {S R K V F : Type 0} (place : R → ℕ → Option ℕ → Bool → R → Type 0) (cmp : K → K → Ordering) (total : IsTotalOrder cmp) (changes : F → K → V → Option V → Type 0) (lends : S → Loan K V R → S → Type 0) (lacks : S → Part → Type 0) (parts : S → Parts K V) (room : R → Tables K V) (t : IsExclusive parts room place lends lacks) (hash : K → ℕ) (lawful : (j k : K) → same cmp j k ≡ true → hash j ≡ hash k) where
   -- what each step over the parts keeps, a run keeps
-  runs_keep : (Kept : Parts K V → PartyState K V F → Type 0) → ((s s' : Parts K V) (c c' : PartyState K V F) (ev : Event) → StepsIn cmp changes c s ev c' s' → Kept s c → Kept s' c') → {s s' : S} {c c' : PartyState K V F} → Turns (Turn place cmp changes lends) s c s' c' → Kept (parts s) c → Kept (parts s') c'
-  runs_keep Kept keeps = all_keep (Turn place cmp changes lends) (λ s c. Kept (parts s) c) (λ s s' c c' ev turn is. keeps (parts s) (parts s') c c' ev (own_step place cmp changes room t.places (parts s) (parts s') c c' ev turn.loan (t.lends_own s turn.loan s' turn.lent) turn.step) is)
+  runs_keep : (Kept : Parts K V → PartyState K V F → Type 0) → ((s s' : Parts K V) (c c' : PartyState K V F) (ev : Event) → StepsIn cmp changes c s ev c' s' → Kept s c → Kept s' c') → {s s' : S} {c c' : PartyState K V F} → StepClosure (FieldStep place cmp changes lends) s c s' c' → Kept (parts s) c → Kept (parts s') c'
+  runs_keep Kept keeps = all_keep (FieldStep place cmp changes lends) (λ s c. Kept (parts s) c) (λ s s' c c' ev field_step is. keeps (parts s) (parts s') c c' ev (own_step place cmp changes room t.places (parts s) (parts s') c c' ev field_step.loan (t.lends_own s field_step.loan s' field_step.lent) field_step.step) is)
 
-  module _ (s s' : S) (c c' : PartyState K V F) (runs : Turns (Turn place cmp changes lends) s c s' c') (r : Outcome K V) (done : final_outcome c'.stage ≡ Some r) (n : ℕ) (m : Pairs K V) (h : Holds cmp hash changes n (parts s) m) where
+  module _ (s s' : S) (c c' : PartyState K V F) (runs : StepClosure (FieldStep place cmp changes lends) s c s' c') (r : Outcome K V) (done : final_outcome c'.stage ≡ Some r) (n : ℕ) (m : Pairs K V) (h : Holds cmp hash changes n (parts s) m) where
     plain_exact : (d : Call K V F) → n + most_counted d m ≤ MAX_LABELS → IsFresh cmp hash changes d c → IsPlain d → DrivesTo cmp hash changes d n (parts s) m r (parts s')
     plain_exact d few fresh plain =
         let p = length h.world.party_records in
@@ -87,5 +87,5 @@ module _ {S R K V F : Type 0} (place : R → ℕ → Option ℕ → Bool → R �
 
 -- a run to the reply is exact
 pub exact : {S R K V F : Type 0} (place : R → ℕ → Option ℕ → Bool → R → Type 0) (cmp : K → K → Ordering) (total : IsTotalOrder cmp) (changes : F → K → V → Option V → Type 0) (lends : S → Loan K V R → S → Type 0) (lacks : S → Part → Type 0) (s s' : S) (c c' : PartyState K V F) (r : Outcome K V)
-    → Turns (Turn place cmp changes lends) s c s' c' → final_outcome c'.stage ≡ Some r → IsExact place cmp changes lends lacks s c r s'
+    → StepClosure (FieldStep place cmp changes lends) s c s' c' → final_outcome c'.stage ≡ Some r → IsExact place cmp changes lends lacks s c r s'
 exact place cmp total changes lends lacks s s' c c' r runs done parts room t hash alike d fresh n m few h = by_call place cmp total changes lends lacks parts room t hash (alike_class cmp hash alike) s s' c c' runs r done n m h d few fresh

@@ -33,7 +33,7 @@ module _ {K V F : Type 0} (cmp : K → K → Ordering) (hash : K → ℕ) (chang
   pub holds_world : {S : Type 0} (w : WorldState K V F S) (n : ℕ) → IsWorld cmp hash changes w → Near n w.control_state.count → Holds cmp hash changes n (record { control_state = w.control_state; tables = w.tables }) (pairs cmp hash (history w))
   holds_world w n k near = record {
     world = record { hasher = tt; processors = w.processors; first = w.first; control_state = w.control_state; tables = w.tables; party_records = w.party_records; trace = w.trace };
-    is_world = record { state = k.state; party_records = k.party_records; hashed = k.hashed; control_state = k.control_state; tables = k.tables; unmade = k.unmade; next = k.next; running = k.running; over = k.over };
+    is_world = record { state = k.state; party_records = k.party_records; hashed = k.hashed; control_state = k.control_state; tables = k.tables; no_table = k.no_table; next = k.next; running = k.running; over = k.over };
     control_state = refl;
     tables = refl;
     map = refl;

@@ -1,4 +1,4 @@
--- A turn over an exclusive field, as a step over these.
+-- A step at an exclusive field, as a step over these.
 use Rattle.std.specs.Prelude.{ℕ, Bool, Option}
 use Rattle.std.specs.declared.cmp.Ordering.{Ordering}
 use Rattle.std.proofs.Common.{inl, inr}

@@ -75,8 +75,8 @@ module _ {K V F : Type 0} (cmp : K → K → Ordering) (hash : K → ℕ) (gives
 
   -- p began
   pub alone_began : (t : Trace K V F) → has_replied t p ≡ false → decision t p ≡ None → has_closed t p ≡ false → pairs cmp hash t ≡ m → Alone (label.Begin p d ∷ t)
-  alone_began t no_reply undecided going is = record {
+  alone_began t no_reply no_decision going is = record {
     began = ap (λ b. if b then Some d else call_begun_by t p) (itself p);
     open_yet = no_reply;
-    end = subst (λ o. ByEnd o (has_closed t p) (pairs cmp hash t)) (sym undecided) (subst (λ b. ByEnd None b (pairs cmp hash t)) (sym going) is);
+    end = subst (λ o. ByEnd o (has_closed t p) (pairs cmp hash t)) (sym no_decision) (subst (λ b. ByEnd None b (pairs cmp hash t)) (sym going) is);
   }

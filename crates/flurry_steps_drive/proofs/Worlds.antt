@@ -8,10 +8,10 @@ use Rattle.std.proofs.lemmas.List.{reverse-append}
 use Rattle.std.proofs.lemmas.Option.{slice_get_within}
 use Rattle.flurry_steps_control.specs.Control.{ControlState}
 use Rattle.flurry_steps_sweep.specs.Outcome.{OutcomeReply, OutcomeEnded, OutcomeRefused, Outcome}
-use Rattle.flurry_steps.specs.Party.{Stage, AtLocate, AtBin, AtHelp, AtUncount, AtCount, AtRecount, AtBegin, AtGrow, AtReserve, AtSweep, IsSingle, final_outcome, AtDone, AtTaken, PartyState, wanted_part, with_stage, published_stage, locates, outcome_in, last_seen, task_of_call, stage_of_call}
+use Rattle.flurry_steps.specs.Party.{Stage, AtLocate, AtBin, AtHelp, AtUncount, AtCount, AtRecount, AtBegin, AtGrow, AtReserve, AtSweep, IsSingle, final_outcome, AtDone, AtTaken, PartyState, wanted_part, with_stage, published_stage, is_locating, outcome_in, last_seen, task_of_call, stage_of_call}
 use Rattle.flurry_steps_sweep.specs.declared.step.Event.{Event}
 use Rattle.flurry_steps_sweep.specs.declared.step.Event.TheVariants as event
-use Rattle.flurry_steps_sweep.specs.Sweep.{Errand, Reads, Wipes}
+use Rattle.flurry_steps_sweep.specs.Sweep.{SweepKind, Reads, Wipes}
 use Rattle.flurry_base.specs.declared.call.Seen.{Seen}
 use Rattle.flurry_base.specs.declared.reply.KeptReply.{KeptReply}
 use Rattle.flurry_steps_theory.specs.Map.{Pairs, same, after, Allows, CanBeRefused}
@@ -23,7 +23,7 @@ use Rattle.flurry_base.specs.declared.call.Call.{Call}
 use Rattle.flurry_base.specs.declared.call.Call.TheVariants as call
 use Rattle.flurry_steps_world.specs.Tables.{Tables, PlaceGives}
 use Rattle.flurry_steps_world.specs.Parts.{PartStep}
-use Rattle.flurry_steps_world.specs.World.{PartyRecord, WorldState, Near, state_of, mode_of_stage, FollowsErrand, FollowsStage, IsWorld, history}
+use Rattle.flurry_steps_world.specs.World.{PartyRecord, WorldState, Near, state_of, mode_of_stage, FollowsKind, FollowsStage, IsWorld, history}
 use Rattle.flurry_steps_world.specs.Steps.{with_step, with_party_record, label_of, decide_label}
 use Rattle.flurry_steps_world.proofs.StateLaws.{held_of_stage, get_set}
 use Rattle.flurry_steps_world.proofs.CallLaws.{found_task}
@@ -34,7 +34,7 @@ use Rattle.flurry_steps_world.proofs.WorldLaws.{goes_on}
 use Rattle.flurry_steps.proofs.Events.{IsSweepEvent, single_at_control, single_at_slot, single_at_move, single_at_board}
 use Rattle.flurry_steps_sweep.specs.Part.{Part, ControlPart, LookPart, BinPart, MovePart, SeatPart, BoardPart, GivePart, NoPart}
 use Rattle.flurry_steps_world.specs.Parts.{Parts, PartStep, IsPublishedTable}
-use Rattle.flurry_steps_drive.specs.Exact.{Holds, Answers, EndsOn, IsFresh, most_counted}
+use Rattle.flurry_steps_drive.specs.Exact.{Holds, OutcomeAnswers, EndsOn, IsFresh, most_counted}
 use Rattle.flurry_steps_drive.proofs.Begins.{was_published, begun}
 use Rattle.flurry_steps_drive.proofs.Trace.{IsOwnLabel, ByEnd, Alone, alone_more, alone_began, itself}
 use Rattle.flurry_steps_drive.proofs.CountLaws.{left, left_most, Room, near_of, room_left}
@@ -47,12 +47,12 @@ IsPlain call.Walk = ⊥
 IsPlain d = ⊤
 
 -- a stage of such a call does not go over all bins either
-errand_plain : {K V F : Type 0} (d : Call K V F) (w : Errand) (z : Option (Seen K V)) → IsPlain d → FollowsErrand d w z → ⊥
+errand_plain : {K V F : Type 0} (d : Call K V F) (w : SweepKind) (z : Option (Seen K V)) → IsPlain d → FollowsKind d w z → ⊥
 errand_plain d Reads z plain f = subst IsPlain f plain
 errand_plain d (Wipes n) z plain f = subst IsPlain f.0 plain
 
 follows_single : {K V F : Type 0} (hash : K → ℕ) (d : Call K V F) (s : Stage K V F) → IsPlain d → FollowsStage hash d s → IsSingle s
-follows_single hash d (AtSweep w) plain h = errand_plain d w.errand w.last plain h.0
+follows_single hash d (AtSweep w) plain h = errand_plain d w.kind w.last plain h.0
 follows_single hash d s plain h = tt
 
 -- so its step at a part reads and wipes nothing
@@ -117,18 +117,18 @@ module _ {K V F : Type 0} (cmp : K → K → Ordering) (total : IsTotalOrder cmp
       plain = plain;
       party_state = refl;
       parts = refl;
-      alone = subst (Alone cmp hash gives p d m) (sym turned) (alone_more cmp hash gives p d m (history w) alone (label_of p ev c.stage) (own_label p ev c.stage other) may);
+      alone = subst (Alone cmp hash gives p d m) (sym after_field_step) (alone_more cmp hash gives p d m (history w) alone (label_of p ev c.stage) (own_label p ev c.stage other) may);
       room = counted;
     }
       where
         new : PartyRecord K V F
         new = record { call = x.call; began_from = x.began_from; party_state = c; steps = suc x.steps }
 
-        turned : reverse (w.trace ++ label_of p ev c.stage ∷ []) ≡ label_of p ev c.stage ∷ history w
-        turned = reverse-append w.trace (label_of p ev c.stage ∷ [])
+        after_field_step : reverse (w.trace ++ label_of p ev c.stage ∷ []) ≡ label_of p ev c.stage ∷ history w
+        after_field_step = reverse-append w.trace (label_of p ev c.stage ∷ [])
 
         may : CallMay cmp hash gives (history w) (label_of p ev c.stage)
-        may = (subst (EachMay (CallMay cmp hash gives)) turned after.state.1.legal.calls).0
+        may = (subst (EachMay (CallMay cmp hash gives)) after_field_step after.state.1.legal.calls).0
 
     -- a step at the part that the call wants
     pub part_step : (c : PartyState K V F) (b : ControlState) (t : Tables K V) (ev : Event) → PartStep cmp gives (wanted_part x.party_state) x.party_state w.control_state w.tables ev c b t → InWorld (record { control_state = b; tables = t }) c
@@ -137,10 +137,10 @@ module _ {K V F : Type 0} (cmp : K → K → Ordering) (total : IsTotalOrder cmp
         (room_left cmp gives n few x.party_state w.control_state w.tables ev c b t room single (wanted_part x.party_state) h)
 
     -- a step at a number that was published
-    pub start_step : (e : ℕ) (c : PartyState K V F) (ev : Event) → locates x.party_state.stage ≡ true → IsPublishedTable (record { control_state = w.control_state; tables = w.tables }) e → ev ≡ event.Silent → c ≡ with_stage x.party_state (published_stage e x.party_state.stage) → InWorld (record { control_state = w.control_state; tables = w.tables }) c
+    pub start_step : (e : ℕ) (c : PartyState K V F) (ev : Event) → is_locating x.party_state.stage ≡ true → IsPublishedTable (record { control_state = w.control_state; tables = w.tables }) e → ev ≡ event.Silent → c ≡ with_stage x.party_state (published_stage e x.party_state.stage) → InWorld (record { control_state = w.control_state; tables = w.tables }) c
     start_step e c ev loc start silent is = by_stage x.party_state.stage refl
       where
-        not_there : locates x.party_state.stage ≡ false → ⊥
+        not_there : is_locating x.party_state.stage ≡ false → ⊥
         not_there h = let no : true ≡ false = sym loc ∙ h in cc
 
         by_stage : (s : Stage K V F) → x.party_state.stage ≡ s → InWorld (record { control_state = w.control_state; tables = w.tables }) c
@@ -160,20 +160,20 @@ module _ {K V F : Type 0} (cmp : K → K → Ordering) (total : IsTotalOrder cmp
 
             stands : c.stage ≡ AtBin t e
             stands = ap (λ r. r.stage) is ∙ ap (published_stage e) f
-        by_stage (AtBin t g) f = absurd (not_there (ap locates f))
-        by_stage (AtHelp r a) f = absurd (not_there (ap locates f))
-        by_stage (AtUncount r) f = absurd (not_there (ap locates f))
-        by_stage (AtCount r) f = absurd (not_there (ap locates f))
-        by_stage (AtRecount r) f = absurd (not_there (ap locates f))
-        by_stage (AtBegin g r) f = absurd (not_there (ap locates f))
-        by_stage (AtGrow g r) f = absurd (not_there (ap locates f))
-        by_stage (AtReserve a) f = absurd (not_there (ap locates f))
+        by_stage (AtBin t g) f = absurd (not_there (ap is_locating f))
+        by_stage (AtHelp r a) f = absurd (not_there (ap is_locating f))
+        by_stage (AtUncount r) f = absurd (not_there (ap is_locating f))
+        by_stage (AtCount r) f = absurd (not_there (ap is_locating f))
+        by_stage (AtRecount r) f = absurd (not_there (ap is_locating f))
+        by_stage (AtBegin g r) f = absurd (not_there (ap is_locating f))
+        by_stage (AtGrow g r) f = absurd (not_there (ap is_locating f))
+        by_stage (AtReserve a) f = absurd (not_there (ap is_locating f))
         by_stage (AtSweep z) f = absurd (subst IsSingle f single)
-        by_stage (AtDone r) f = absurd (not_there (ap locates f))
-        by_stage AtTaken f = absurd (not_there (ap locates f))
+        by_stage (AtDone r) f = absurd (not_there (ap is_locating f))
+        by_stage AtTaken f = absurd (not_there (ap is_locating f))
 
     -- the call is done
-    pub ended : (r : Outcome K V) → final_outcome x.party_state.stage ≡ Some r → (m' : Pairs K V) × Answers cmp hash gives d m r m' × Holds cmp hash gives n (record { control_state = w.control_state; tables = w.tables }) m'
+    pub ended : (r : Outcome K V) → final_outcome x.party_state.stage ≡ Some r → (m' : Pairs K V) × OutcomeAnswers cmp hash gives d m r m' × Holds cmp hash gives n (record { control_state = w.control_state; tables = w.tables }) m'
     ended r f = (
       pairs cmp hash (history w),
       answers r (done x.party_state.stage refl f),
@@ -198,10 +198,10 @@ module _ {K V F : Type 0} (cmp : K → K → Ordering) (total : IsTotalOrder cmp
         mode : (q : Outcome K V) → x.party_state.stage ≡ AtDone q → (state_of w).mode p ≡ mode_of_stage {F = F} (AtDone q)
         mode q e = in_mode cmp total hash lawful gives w k p x at x.party_state (AtDone q) e
 
-        answers : (q : Outcome K V) → x.party_state.stage ≡ AtDone q → Answers cmp hash gives d m q (pairs cmp hash (history w))
+        answers : (q : Outcome K V) → x.party_state.stage ≡ AtDone q → OutcomeAnswers cmp hash gives d m q (pairs cmp hash (history w))
         answers (OutcomeReply q) e = subst (λ o. ByEnd cmp hash gives p d m o (has_closed (history w) p) (pairs cmp hash (history w))) (ok.decided q 0 0 (mode (OutcomeReply q) e)) alone.end
         answers OutcomeEnded e =
-            let none : decision (history w) p ≡ None = ok.undecided (λ z a b h. other (sym (mode OutcomeEnded e) ∙ h)) (λ h. going (sym (mode OutcomeEnded e) ∙ h)) in
+            let none : decision (history w) p ≡ None = ok.no_decision (λ z a b h. other (sym (mode OutcomeEnded e) ∙ h)) (λ h. going (sym (mode OutcomeEnded e) ∙ h)) in
             let open_yet : has_closed (history w) p ≡ false = (ok.going (λ h. going (sym (mode OutcomeEnded e) ∙ h))).1 in
             let (a, is) = subst (FollowsStage hash x.call) e (k.party_records p x at).stage in
             subst (λ c. EndsOn c m (pairs cmp hash (history w))) (sym is ∙ called) (subst (λ b. ByEnd cmp hash gives p d m None b (pairs cmp hash (history w))) open_yet (subst (λ o. ByEnd cmp hash gives p d m o (has_closed (history w) p) (pairs cmp hash (history w))) none alone.end))
@@ -214,7 +214,7 @@ module _ {K V F : Type 0} (cmp : K → K → Ordering) (total : IsTotalOrder cmp
         answers OutcomeRefused e = by_end (decision (history w) p) refl (has_closed (history w) p) refl
           where
             finished : (has_replied (history w) p ≡ true) ⊎ (has_closed (history w) p ≡ true)
-            finished = ok.finished (mode OutcomeRefused e) (ap is_some (calls cmp total hash lawful gives w k p x at x.party_state))
+            finished = ok.end_label (mode OutcomeRefused e) (ap is_some (calls cmp total hash lawful gives w k p x at x.party_state))
 
             not_both : {b : Bool} → b ≡ true → b ≡ false → ⊥
             not_both h g = let no : true ≡ false = sym h ∙ g in cc
@@ -275,6 +275,6 @@ module _ {K V F : Type 0} (cmp : K → K → Ordering) (total : IsTotalOrder cmp
         plain = plain;
         party_state = refl;
         parts = b.parts;
-        alone = subst (Alone cmp hash gives (length h.world.party_records) d m) (sym b.trace) (alone_began cmp hash gives (length h.world.party_records) d m (history h.world) b.unreplied b.undecided b.going h.map);
+        alone = subst (Alone cmp hash gives (length h.world.party_records) d m) (sym b.trace) (alone_began cmp hash gives (length h.world.party_records) d m (history h.world) b.unreplied b.no_decision b.going h.map);
         room = record { most = omega (arith, ints, h.near.most, more); least = omega (arith, ints, h.near.least, more) };
       }

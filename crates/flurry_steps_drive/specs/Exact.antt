@@ -45,10 +45,10 @@ module _ {K V F : Type 0} (cmp : K → K → Ordering) (hash : K → ℕ) (chang
 
   -- the call c, on the map m, answers r and leaves m'. A call of one key replies and leaves what the finite map does; any call that is
   -- refused leaves the map, and may be refused.
-  abbrev pub Answers : Call K V F → Pairs K V → Outcome K V → Pairs K V → Type 0
-  Answers c m (OutcomeReply r) m' = Allows cmp changes c m r × (m' ≡ after cmp c r m)
-  Answers c m OutcomeEnded m' = EndsOn c m m'
-  Answers c m OutcomeRefused m' = CanBeRefused cmp changes c m × (m' ≡ m)
+  abbrev pub OutcomeAnswers : Call K V F → Pairs K V → Outcome K V → Pairs K V → Type 0
+  OutcomeAnswers c m (OutcomeReply r) m' = Allows cmp changes c m r × (m' ≡ after cmp c r m)
+  OutcomeAnswers c m OutcomeEnded m' = EndsOn c m m'
+  OutcomeAnswers c m OutcomeRefused m' = CanBeRefused cmp changes c m × (m' ≡ m)
 
   -- the call c before its first step, with the hash of its key
   pub record IsFresh (c : Call K V F) (p : PartyState K V F) : Type 0 where
@@ -57,7 +57,7 @@ module _ {K V F : Type 0} (cmp : K → K → Ordering) (hash : K → ℕ) (chang
 
   -- driven over the parts s, the call c answers r and leaves the parts s'
   abbrev pub DrivesTo : Call K V F → ℕ → Parts K V → Pairs K V → Outcome K V → Parts K V → Type 0
-  DrivesTo c n s m r s' = (m' : Pairs K V) × Answers c m r m' × Holds (n + most_counted c m) s' m'
+  DrivesTo c n s m r s' = (m' : Pairs K V) × OutcomeAnswers c m r m' × Holds (n + most_counted c m) s' m'
 
 -- over an exclusive field, whose parts stand as a world keeps them, a call that did no step yet does what the finite map does
 abbrev pub IsExact : {S R K V F : Type 0} (place : R → ℕ → Option ℕ → Bool → R → Type 0) (cmp : K → K → Ordering) (changes : F → K → V → Option V → Type 0) (lends : S → Loan K V R → S → Type 0) (lacks : S → Part → Type 0) → S → PartyState K V F → Outcome K V → S → Type 0

@@ -3,9 +3,9 @@ ghost use Rattle.std.specs.Prelude.{◌≡◌, ◌+◌, ◌≤◌, ℕ, []};
 ghost use Rattle.std.specs.declared.cmp.Ordering.TheVariants.{Equal};
 ghost use Rattle.flurry_steps_drive.specs.Exact.{Holds, DrivesTo, IsExact, most_counted};
 ghost use Rattle.flurry_steps_drive.specs.IsExclusive.{IsExclusive};
-ghost use Rattle.flurry_steps.specs.Field.{Turn};
+ghost use Rattle.flurry_steps.specs.Field.{FieldStep};
 ghost use Rattle.flurry_steps.specs.Party.{IsTaken};
-ghost use Rattle.flurry_steps.specs.Turns.{TurnsTo};
+ghost use Rattle.flurry_steps.specs.StepClosure.{StepsToReply};
 ghost use Rattle.flurry_steps_sweep.specs.OutcomeView.{outcome_of};
 ghost use Rattle.flurry_steps.specs.PartyView.{OwnedIsReady, plain_of_owned};
 ghost use Rattle.flurry_steps_theory.specs.Map.{Pairs};
@@ -41,7 +41,7 @@ pub fn drive<
     R: Wait,
 >(rt: &R, party: &mut Party<'_, K, V, F, A>, field: &mut X) -> Reply<K, V, A>
     requires { IsTaken party.old.stage → ⊥ }
-    ensures turns { TurnsTo (Turn X.Room.place_gives K.cmp F.changes X.lends) field.old party.old
+    ensures field_steps { StepsToReply (FieldStep X.Room.place_gives K.cmp F.changes X.lends) field.old party.old
         (outcome_of result) field.new party.new }
     ensures exact { IsExact X.Room.place_gives K.cmp F.changes X.lends X.lacks field.old party.old
         (outcome_of result) field.new }

@@ -12,14 +12,14 @@ use Rattle.flurry_steps_sweep.specs.declared.step.Event.TheVariants.{Read, Wipe,
 use Rattle.flurry_steps_sweep.specs.Cursor.{Frame, CursorState, at_base, with_top, with_bound, after_split, after_top}
 
 -- what it does at each bin: it reads the pairs, or wipes them, and has wiped so many
-pub data Errand : Type 0 where
-  Reads : Errand
-  Wipes : ℕ → Errand
+pub data SweepKind : Type 0 where
+  Reads : SweepKind
+  Wipes : ℕ → SweepKind
 
 -- where it stands
 pub data SweepStage (K V : Type 0) : Type 0 where
   -- it asks for the published table
-  AtOutset : SweepStage K V
+  AtSweepStart : SweepStage K V
   -- it goes over the bins, and is to stand there
   OverBins : CursorState K → SweepStage K V
   -- a clear counts the pairs that it wiped
@@ -31,16 +31,16 @@ pub data SweepStage (K V : Type 0) : Type 0 where
 
 -- such a call: what it does, where it stands, and as a walk what it read last
 pub record SweepState (K V : Type 0) : Type 0 where
-  pub errand : Errand
+  pub kind : SweepKind
   pub stage : SweepStage K V
   pub last : Option (Seen K V)
 
 -- before its first step
-abbrev pub fresh_sweep : {K V : Type 0} → Errand → SweepState K V
-fresh_sweep w = record { errand = w; stage = AtOutset; last = None }
+abbrev pub fresh_sweep : {K V : Type 0} → SweepKind → SweepState K V
+fresh_sweep w = record { kind = w; stage = AtSweepStart; last = None }
 
 abbrev pub with_stage : {K V : Type 0} → SweepState K V → SweepStage K V → SweepState K V
-with_stage p s = record { errand = p.errand; stage = s; last = p.last }
+with_stage p s = record { kind = p.kind; stage = s; last = p.last }
 
 -- the key and the value that were seen
 abbrev pub pair_seen : {K V : Type 0} → Seen K V → K × V
@@ -52,19 +52,19 @@ seen_at x = record { key = x.0.1; value = x.1.0; number = x.1.1 }
 
 -- ---- what a call wants
 
-abbrev pub bin_part : {K : Type 0} → Errand → Frame K → Part
+abbrev pub bin_part : {K : Type 0} → SweepKind → Frame K → Part
 bin_part Reads f = LookPart f.table f.index
 bin_part (Wipes n) f = BinPart f.table f.index
 
 module _ {K V : Type 0} where
-  abbrev pub part_at : Errand → SweepStage K V → Part
+  abbrev pub part_at : SweepKind → SweepStage K V → Part
   part_at w (OverBins c) = bin_part w c.top
   part_at w (AtEnd r) = NoPart
   part_at w AfterEnd = NoPart
   part_at w _ = ControlPart
 
   abbrev pub swept_part : SweepState K V → Part
-  swept_part p = part_at p.errand p.stage
+  swept_part p = part_at p.kind p.stage
 
   -- the reply, from the end on until it is taken
   abbrev pub swept_outcome : SweepStage K V → Option (Outcome K V)
@@ -83,9 +83,9 @@ module _ {K V : Type 0} where
   IsAfterEnd _ = ⊥
 
   -- the next step only asks for the published table
-  abbrev pub sets_out : SweepStage K V → Bool
-  sets_out AtOutset = true
-  sets_out _ = false
+  abbrev pub is_at_start : SweepStage K V → Bool
+  is_at_start AtSweepStart = true
+  is_at_start _ = false
 
 -- ---- what each such call keeps
 
@@ -95,7 +95,7 @@ pub record HasNoBound {K : Type 0} (c : CursorState K) : Type 0 where
   pub below : AllByRecursion (λ (f : Frame K). f.bound ≡ None) c.below
 
 -- a clear goes over each bin as a whole, and it alone counts
-abbrev pub SweepIsReady : {K V : Type 0} → Errand → SweepStage K V → Type 0
+abbrev pub SweepIsReady : {K V : Type 0} → SweepKind → SweepStage K V → Type 0
 SweepIsReady (Wipes n) (OverBins c) = HasNoBound c
 SweepIsReady Reads AtTotal = ⊥
 SweepIsReady _ _ = ⊤
@@ -104,21 +104,21 @@ SweepIsReady _ _ = ⊤
 
 module _ {K V : Type 0} where
   -- the call begins at the first bin of the published table, and ends where there is none
-  abbrev pub set_out_at : Option ℕ → SweepStage K V
-  set_out_at None = AtEnd OutcomeEnded
-  set_out_at (Some e) = OverBins (at_base e 0)
+  abbrev pub start_stage_at : Option ℕ → SweepStage K V
+  start_stage_at None = AtEnd OutcomeEnded
+  start_stage_at (Some e) = OverBins (at_base e 0)
 
-  abbrev pub StageAtControl : Errand → SweepStage K V → ControlState → SweepStage K V → ControlState → Type 0
-  StageAtControl w AtOutset b s' b' = (s' ≡ set_out_at b.published) × (b' ≡ b)
+  abbrev pub StageAtControl : SweepKind → SweepStage K V → ControlState → SweepStage K V → ControlState → Type 0
+  StageAtControl w AtSweepStart b s' b' = (s' ≡ start_stage_at b.published) × (b' ≡ b)
   StageAtControl (Wipes n) AtTotal b s' b' = (s' ≡ AtEnd OutcomeEnded) × (b' ≡ after_count (neg_ℤ (pos (min n (2 ^ 63 - 1)))) b)
   StageAtControl w _ b s' b' = ⊥
 
 -- the step of p at the control b answers ev, and leaves p' and b'
 pub record SweepControl {K V : Type 0} (p : SweepState K V) (b : ControlState) (ev : Event) (p' : SweepState K V) (b' : ControlState) : Type 0 where
-  pub errand : p'.errand ≡ p.errand
+  pub kind : p'.kind ≡ p.kind
   pub last : p'.last ≡ p.last
   pub silent : ev ≡ Silent
-  pub step : StageAtControl p.errand p.stage b p'.stage b'
+  pub step : StageAtControl p.kind p.stage b p'.stage b'
 
 -- ---- a walk's step at a bin
 
@@ -161,9 +161,9 @@ module _ {K V : Type 0} where
   stage_cleared None = AtTotal
 
   -- a live bin is wiped, one that has moved is followed, and one that is not there yet is met again
-  abbrev pub ClearGives : ℕ → CursorState K → Content K V → Event → Errand → SweepStage K V → Content K V → Type 0
+  abbrev pub ClearGives : ℕ → CursorState K → Content K V → Event → SweepKind → SweepStage K V → Content K V → Type 0
   ClearGives n f (IsLive b) ev w s c =
-      (ev ≡ Wipe f.top.table f.top.index) × (w ≡ Wipes (more_wiped n (length b.held))) × (s ≡ stage_cleared (after_top f)) × (c ≡ IsLive (after_wipe b))
+      (ev ≡ Wipe f.top.table f.top.index) × (w ≡ Wipes (more_wiped n (length b.plain_entries))) × (s ≡ stage_cleared (after_top f)) × (c ≡ IsLive (after_wipe b))
   ClearGives n f HasMoved ev w s c = (ev ≡ Silent) × (w ≡ Wipes n) × (s ≡ OverBins (after_split f)) × (c ≡ HasMoved)
   ClearGives n f IsUnborn ev w s c = (ev ≡ Silent) × (w ≡ Wipes n) × (s ≡ OverBins f) × (c ≡ IsUnborn)
 
@@ -171,13 +171,13 @@ module _ {K V : Type 0} where
 
 module _ {K V : Type 0} (cmp : K → K → Ordering) where
   -- by what it does, where it stands, and what was read last
-  abbrev pub BinGives : Errand → SweepStage K V → Option (Seen K V) → Content K V → Event → SweepState K V → Content K V → Type 0
-  BinGives Reads (OverBins f) l c ev p' c' = (p'.errand ≡ Reads) × WalkGives cmp f c l ev p'.stage p'.last × (c' ≡ c)
-  BinGives (Wipes n) (OverBins f) l c ev p' c' = (p'.last ≡ l) × ClearGives n f c ev p'.errand p'.stage c'
+  abbrev pub BinGives : SweepKind → SweepStage K V → Option (Seen K V) → Content K V → Event → SweepState K V → Content K V → Type 0
+  BinGives Reads (OverBins f) l c ev p' c' = (p'.kind ≡ Reads) × WalkGives cmp f c l ev p'.stage p'.last × (c' ≡ c)
+  BinGives (Wipes n) (OverBins f) l c ev p' c' = (p'.last ≡ l) × ClearGives n f c ev p'.kind p'.stage c'
   BinGives _ _ l c ev p' c' = ⊥
 
   abbrev pub SweepGives : SweepState K V → Content K V → Event → SweepState K V → Content K V → Type 0
-  SweepGives p c ev p' c' = BinGives p.errand p.stage p.last c ev p' c'
+  SweepGives p c ev p' c' = BinGives p.kind p.stage p.last c ev p' c'
 
 -- the step of p at the slot q answers ev, and leaves p' and q'
 pub record SweepStep {K V : Type 0} (cmp : K → K → Ordering) (p : SweepState K V) (q : SlotState K V) (ev : Event) (p' : SweepState K V) (q' : SlotState K V) : Type 0 where

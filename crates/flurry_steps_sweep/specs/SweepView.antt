@@ -5,26 +5,26 @@ use Rattle.flurry_steps_sweep.specs.declared.reply.Reply.{Reply}
 use Rattle.flurry_steps_sweep.specs.Cursor.{CursorState}
 use Rattle.flurry_steps_sweep.specs.Sweep as abstract
 use Rattle.flurry_steps_sweep.specs.Sweep.{SweepState}
-use Rattle.flurry_steps_sweep.specs.declared.sweep.Errand.{Errand}
-use Rattle.flurry_steps_sweep.specs.declared.sweep.Errand.TheVariants as errand
+use Rattle.flurry_steps_sweep.specs.declared.sweep.SweepKind.{SweepKind}
+use Rattle.flurry_steps_sweep.specs.declared.sweep.SweepKind.TheVariants as kind
 use Rattle.flurry_steps_sweep.specs.declared.sweep.Stage.{Stage}
 use Rattle.flurry_steps_sweep.specs.declared.sweep.Stage.TheVariants as stage
 use Rattle.flurry_steps_sweep.specs.declared.sweep.Sweep.TheInside.{Inside}
 
-abbrev pub errand_of : Errand → abstract.Errand
-errand_of errand.Read = abstract.Reads
-errand_of (errand.Wipe n) = abstract.Wipes n
+abbrev pub kind_of : SweepKind → abstract.SweepKind
+kind_of kind.Read = abstract.Reads
+kind_of (kind.Wipe n) = abstract.Wipes n
 
 module _ {K V A : Type 0} where
   abbrev pub stage_of : Stage K V A → abstract.SweepStage K V
-  stage_of stage.Outset = abstract.AtOutset
+  stage_of stage.Start = abstract.AtSweepStart
   stage_of (stage.Bins c) = abstract.OverBins c
   stage_of stage.Total = abstract.AtTotal
   stage_of (stage.End r c) = abstract.AtEnd (outcome_of r)
   stage_of stage.Taken = abstract.AfterEnd
 
   abbrev pub sweep_state_of : Inside K V A → SweepState K V
-  sweep_state_of s = record { errand = errand_of s.errand; stage = stage_of s.stage; last = s.last }
+  sweep_state_of s = record { kind = kind_of s.kind; stage = stage_of s.stage; last = s.last }
 
   -- a walk goes on there, or has ended with that reply
   abbrev pub walked_to : CursorState K → Option (Reply K V A) → abstract.SweepStage K V

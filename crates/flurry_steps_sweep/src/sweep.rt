@@ -6,7 +6,7 @@ ghost use Rattle.flurry_bins_slots.specs.Slot.{IsSlot};
 ghost use Rattle.flurry_steps_sweep.specs.Part.{ControlPart, LookPart, BinPart};
 ghost use Rattle.flurry_steps_sweep.specs.OutcomeView.{outcome_of};
 ghost use Rattle.flurry_steps_sweep.specs.PartView.{part_of_want};
-ghost use Rattle.flurry_steps_sweep.specs.Sweep.{Reads, Wipes, AtEnd, AfterEnd, OverBins, fresh_sweep, with_stage, pair_seen, swept_part, swept_outcome, sets_out, set_out_at, SweepControl, SweepStep};
+ghost use Rattle.flurry_steps_sweep.specs.Sweep.{Reads, Wipes, AtEnd, AfterEnd, OverBins, fresh_sweep, with_stage, pair_seen, swept_part, swept_outcome, is_at_start, start_stage_at, SweepControl, SweepStep};
 ghost use Rattle.flurry_steps_sweep.specs.SweepView.{stage_of};
 ghost use Rattle.flurry_steps_sweep.specs.Cursor.{at_base};
 
@@ -29,7 +29,7 @@ const MAX_COUNTED: usize = i64::MAX as usize;
 
 /// What a sweep does at each bin.
 #[derive(Clone, Copy, Drop)]
-pub(crate) enum Errand {
+pub(crate) enum SweepKind {
     /// A walk, which reads the pairs.
     Read,
     /// A clear, which removes the pairs, with the number of pairs that it has removed.
@@ -40,7 +40,7 @@ pub(crate) enum Errand {
 #[derive(Drop)]
 pub(crate) enum Stage<K, V, A: Allocator> {
     /// Asking for the published table.
-    Outset,
+    Start,
     /// Visiting the bins; the cursor is at the next one.
     Bins(Cursor<K, A>),
     /// Counting the pairs that the clear removed.
@@ -66,7 +66,7 @@ pub(crate) enum Stage<K, V, A: Allocator> {
 /// ```
 #[derive(Drop)]
 pub struct Sweep<K, V, A: Allocator = Global> {
-    errand: Errand,
+    kind: SweepKind,
     // A stage is set by `mem::replace`, and the stage before is passed to `drop`: for an assignment the proof would go through everything
     // that a stage can hold.
     stage: Stage<K, V, A>,
@@ -95,13 +95,13 @@ impl<K, V, A: Allocator> Spent<K, V, A> {
 
 impl<K, V, A: Allocator> Model for Sweep<K, V, A> {
     ghost use Rattle.flurry_steps_sweep.specs.Sweep.{SweepState, SweepIsReady};
-    ghost use Rattle.flurry_steps_sweep.specs.SweepView.{sweep_state_of, errand_of, stage_of};
+    ghost use Rattle.flurry_steps_sweep.specs.SweepView.{sweep_state_of, kind_of, stage_of};
 
     ghost Value = { SweepState K V };
 
     ghost view = { sweep_state_of };
 
-    ghost invariant = { λ s. SweepIsReady (errand_of s.errand) (stage_of s.stage) };
+    ghost invariant = { λ s. SweepIsReady (kind_of s.kind) (stage_of s.stage) };
 }
 
 impl<K: Drop, V: Drop, A: Allocator> Sweep<K, V, A> {
@@ -112,8 +112,8 @@ impl<K: Drop, V: Drop, A: Allocator> Sweep<K, V, A> {
         ensures { result ≡ fresh_sweep Reads }
     {
         Sweep {
-            errand: Errand::Read,
-            stage: Stage::Outset,
+            kind: SweepKind::Read,
+            stage: Stage::Start,
             last: None,
             spent: Spent::new(),
         }
@@ -126,8 +126,8 @@ impl<K: Drop, V: Drop, A: Allocator> Sweep<K, V, A> {
         ensures { result ≡ fresh_sweep (Wipes 0) }
     {
         Sweep {
-            errand: Errand::Wipe(0),
-            stage: Stage::Outset,
+            kind: SweepKind::Wipe(0),
+            stage: Stage::Start,
             last: None,
             spent: Spent::new(),
         }
@@ -156,9 +156,9 @@ impl<K: Drop, V: Drop, A: Allocator> Sweep<K, V, A> {
         match &self.stage {
             Stage::Bins(cursor) => {
                 let (table, index) = cursor.at();
-                match self.errand {
-                    Errand::Read => Want::Look(table, index),
-                    Errand::Wipe(_) => Want::Bin(table, index),
+                match self.kind {
+                    SweepKind::Read => Want::Look(table, index),
+                    SweepKind::Wipe(_) => Want::Bin(table, index),
                 }
             }
             Stage::End(_, _) | Stage::Taken => Want::Done,
@@ -236,9 +236,9 @@ impl<K: Drop, V: Drop, A: Allocator> Sweep<K, V, A> {
         requires { swept_part self.old ≡ ControlPart }
         ensures { SweepControl self.old control.old result self.new control.new }
     {
-        let stage = match (&self.stage, self.errand) {
-            (Stage::Outset, _) => set_out(control.locate()),
-            (Stage::Total, Errand::Wipe(pairs)) => {
+        let stage = match (&self.stage, self.kind) {
+            (Stage::Start, _) => start_stage(control.locate()),
+            (Stage::Total, SweepKind::Wipe(pairs)) => {
                 let _advice = control.count(-(pairs.min(MAX_COUNTED) as i64));
                 Stage::End(Reply::Ended, None)
             }
@@ -251,10 +251,10 @@ impl<K: Drop, V: Drop, A: Allocator> Sweep<K, V, A> {
     /// Returns `true` if the next step only asks the control for the published table.
     ///
     /// Constant time.
-    pub fn sets_out(&self) -> bool
-        ensures { result ≡ sets_out self.now.stage }
+    pub fn is_at_start(&self) -> bool
+        ensures { result ≡ is_at_start self.now.stage }
     {
-        matches!(self.stage, Stage::Outset)
+        matches!(self.stage, Stage::Start)
     }
 
     /// Does the step that asks for the published table, at the published table `start` instead of the control. The call goes on to the
@@ -262,7 +262,7 @@ impl<K: Drop, V: Drop, A: Allocator> Sweep<K, V, A> {
     ///
     /// Constant time.
     pub fn on_published(&mut self, start: &PublishedTable) -> Event
-        requires { sets_out self.old.stage ≡ true }
+        requires { is_at_start self.old.stage ≡ true }
         ensures within { start.now ≤ MAX_TABLE }
         ensures silent { result ≡ Event.Silent }
         ensures at { self.new ≡ with_stage self.old (OverBins (at_base start.now 0)) }
@@ -306,7 +306,7 @@ impl<K: Ord + Drop, V: Drop, A: Allocator> Sweep<K, V, A> {
         let Stage::Bins(cursor) = &mut self.stage else {
             unreachable!()
         };
-        let Errand::Wipe(wiped) = &mut self.errand else {
+        let SweepKind::Wipe(wiped) = &mut self.kind else {
             unreachable!()
         };
         let (goes_on, event, nodes) = step_clear(cursor, wiped, slot);
@@ -319,9 +319,9 @@ impl<K: Ord + Drop, V: Drop, A: Allocator> Sweep<K, V, A> {
 }
 
 // The stage at the first bin of the published table, or the end of the call if there is no such table.
-fn set_out<K: Drop, V: Drop, A: Allocator>(published: Option<u8>) -> Stage<K, V, A>
+fn start_stage<K: Drop, V: Drop, A: Allocator>(published: Option<u8>) -> Stage<K, V, A>
     requires { IfSome published (λ e. e ≤ MAX_TABLE) }
-    ensures { stage_of result ≡ set_out_at published }
+    ensures { stage_of result ≡ start_stage_at published }
 {
     match published {
         Some(table) => Stage::Bins(Cursor::new(table)),

@@ -7,7 +7,7 @@ pub mod Walks
 pub mod Count
 pub mod Counts
 pub mod Origins
-pub mod Numbers
+pub mod WriteNumbers
 pub mod OwnSteps
 pub mod Settled
 pub mod Refusals

@@ -7,7 +7,7 @@ use Rattle.std.proofs.lemmas.Bool.{cases_eq}
 use Rattle.flurry_steps_theory.specs.Map.{same}
 use Rattle.flurry_steps_theory.specs.Trace.{decision, has_replied, has_closed, is_lookup}
 use Rattle.flurry_steps_theory.specs.Legal.{IsWalk, IsClear}
-use Rattle.flurry_steps_theory.specs.Machine.{State, Transition, Can, does, steps_after, at_place, found_by, Mode, Locating, Looking, Walking, Clearing, Done, Finished, Begins, Quiet, Loses, Finds, Opens, FindsNothing, IsRefused, DecidesEmpty, Passes, Decides, Replies, Ends}
+use Rattle.flurry_steps_theory.specs.Machine.{State, Transition, Enabled, next_state, steps_after, update, found_by, Mode, Locating, Looking, Walking, Clearing, Done, Finished, Begins, Quiet, Loses, Finds, Opens, FindsNothing, IsRefused, DecidesEmpty, Passes, Decides, Replies, Ends}
 use Rattle.flurry_steps_theory.specs.Invariant.{IsParty, Tables, IsPartition, NamesNoUnborn, key_in, one_key, Waits, LooksUp}
 use Rattle.flurry_steps_theory.proofs.Refusals.{refused_at_work}
 use Rattle.flurry_steps_theory.proofs.Ranges.{home_limit, place_here, place_other}
@@ -47,7 +47,7 @@ module _ {K V F : Type 0} (cmp : K → K → Ordering) (total : IsTotalOrder cmp
   raised None n h = absurd (grind (arith, h))
   raised (Some c) n h = refl
 
-  own_waits : (s : State K V F) (p : ℕ) (l : Transition K V F) → Can cmp hash gives s p l → IsParty s p → Waits (s.call p) (s.mode p) (s.steps p) → Waits (next_call cmp total hash lawful gives s p l) (next_mode cmp total hash lawful gives s p l) (steps_after cmp hash gives s p l)
+  own_waits : (s : State K V F) (p : ℕ) (l : Transition K V F) → Enabled cmp hash gives s p l → IsParty s p → Waits (s.call p) (s.mode p) (s.steps p) → Waits (next_call cmp total hash lawful gives s p l) (next_mode cmp total hash lawful gives s p l) (steps_after cmp hash gives s p l)
   unfolding next_mode next_call
   own_waits s p (Begins c y) can o w = λ h. (λ m. refl, λ d m. absurd (grind (arith, m)), λ a b m. grind (arith, m))
   own_waits s p Quiet can o w = λ h. (λ m. absurd (grind (arith, m, can h)), λ d m. absurd (grind (arith, m, can h)), λ a b m. grind (arith, m, can h))
@@ -63,10 +63,10 @@ module _ {K V F : Type 0} (cmp : K → K → Ordering) (total : IsTotalOrder cmp
   own_waits s p Ends can o w = λ h. (λ m. absurd (grind (arith, m)), λ d m. absurd (grind (arith, m)), λ a b m. grind (arith, m))
   own_waits s p l can o w = λ h. absurd (grind (arith, h, can, o.walking, o.clearing))
 
-  pub waits_ok : (s : State K V F) (p q : ℕ) (l : Transition K V F) → Can cmp hash gives s p l → IsParty s p → ((q : ℕ) → Waits (s.call q) (s.mode q) (s.steps q)) → Waits ((does cmp hash gives s p l).call q) ((does cmp hash gives s p l).mode q) ((does cmp hash gives s p l).steps q)
-  waits_ok s p q l can o w = own_or_other cmp total hash lawful gives (λ q c m. Waits c m (at_place s.steps p (steps_after cmp hash gives s p l) q)) s p q l
+  pub waits_ok : (s : State K V F) (p q : ℕ) (l : Transition K V F) → Enabled cmp hash gives s p l → IsParty s p → ((q : ℕ) → Waits (s.call q) (s.mode q) (s.steps q)) → Waits ((next_state cmp hash gives s p l).call q) ((next_state cmp hash gives s p l).mode q) ((next_state cmp hash gives s p l).steps q)
+  waits_ok s p q l can o w = own_or_other cmp total hash lawful gives (λ q c m. Waits c m (update s.steps p (steps_after cmp hash gives s p l) q)) s p q l
       (subst (Waits (next_call cmp total hash lawful gives s p l) (next_mode cmp total hash lawful gives s p l)) (sym (place_here s.steps p (steps_after cmp hash gives s p l))) (own_waits s p l can o (w p)))
-      (λ ne. other_keeps cmp total hash lawful gives (λ m. Waits (s.call q) m (at_place s.steps p (steps_after cmp hash gives s p l) q)) (waits_settled (s.call q) (at_place s.steps p (steps_after cmp hash gives s p l) q)) l q (s.mode q)
+      (λ ne. other_keeps cmp total hash lawful gives (λ m. Waits (s.call q) m (update s.steps p (steps_after cmp hash gives s p l) q)) (waits_settled (s.call q) (update s.steps p (steps_after cmp hash gives s p l) q)) l q (s.mode q)
       (subst (Waits (s.call q) (s.mode q)) (sym (place_other s.steps p q (steps_after cmp hash gives s p l) ne)) (w q)))
 
   -- a transition is one step at most
@@ -79,11 +79,11 @@ module _ {K V F : Type 0} (cmp : K → K → Ordering) (total : IsTotalOrder cmp
   one_step s p Loses = omega arith
   one_step s p l = by_call (s.call p) (s.steps p)
 
-  pub steps_ok : (s : State K V F) (p q : ℕ) (l : Transition K V F) → ((q : ℕ) → s.steps q ≤ length s.trace) → (does cmp hash gives s p l).steps q ≤ suc (length s.trace)
+  pub steps_ok : (s : State K V F) (p q : ℕ) (l : Transition K V F) → ((q : ℕ) → s.steps q ≤ length s.trace) → (next_state cmp hash gives s p l).steps q ≤ suc (length s.trace)
   steps_ok s p q l h = go (cases_eq q p)
     where
-      go : (q ≡ p) ⊎ (q ≡ p → ⊥) → at_place s.steps p (steps_after cmp hash gives s p l) q ≤ suc (length s.trace)
-      go (inl e) = omega (arith, ap (at_place s.steps p (steps_after cmp hash gives s p l)) e, place_here s.steps p (steps_after cmp hash gives s p l), one_step s p l, h p)
+      go : (q ≡ p) ⊎ (q ≡ p → ⊥) → update s.steps p (steps_after cmp hash gives s p l) q ≤ suc (length s.trace)
+      go (inl e) = omega (arith, ap (update s.steps p (steps_after cmp hash gives s p l)) e, place_here s.steps p (steps_after cmp hash gives s p l), one_step s p l, h p)
       go (inr ne) = omega (arith, place_other s.steps p q (steps_after cmp hash gives s p l) ne, h q)
 
   -- THE LAW
@@ -92,7 +92,7 @@ module _ {K V F : Type 0} (cmp : K → K → Ordering) (total : IsTotalOrder cmp
   in_time home s p o t u nm w h d c = go (s.mode p) refl
     where
       over : (has_replied s.trace p ≡ true) ⊎ (has_closed s.trace p ≡ true) → ⊥
-      over (inl r) = grind (arith, d, o.settled r)
+      over (inl r) = grind (arith, d, o.reply_decision r)
       over (inr r) = grind (arith, c, r)
 
       go : (m : Mode K V) → s.mode p ≡ m → s.steps p < TABLES + 1
@@ -105,25 +105,25 @@ module _ {K V F : Type 0} (cmp : K → K → Ordering) (total : IsTotalOrder cmp
       go (Clearing wiped i j fs) e = absurd (grind (arith, h, o.clearing wiped i j fs e))
       go (Done None x y) e = absurd ((w h).2 x y e)
       go (Done (Some r) x y) e = absurd (grind (arith, d, o.decided r x y e))
-      go Finished e = absurd (over (o.finished e (lookup_begun (s.call p) h)))
+      go Finished e = absurd (over (o.end_label e (lookup_begun (s.call p) h)))
 
-  next_reply : (s : State K V F) (p : ℕ) → IsParty s p → is_lookup (s.call p) ≡ true → (r : KeptReply K V) → decision s.trace p ≡ Some r → has_replied s.trace p ≡ false → (l : Transition K V F) → Can cmp hash gives s p l → (l ≡ Replies r) ⊎ (l ≡ Loses)
-  next_reply s p o h r d rp (Begins c y) can = absurd (grind (arith, h, (o.unknown (omega (arith, can.0))).0))
-  next_reply s p o h r d rp Quiet can = absurd (over (o.finished (can h) (lookup_begun (s.call p) h)))
+  next_reply : (s : State K V F) (p : ℕ) → IsParty s p → is_lookup (s.call p) ≡ true → (r : KeptReply K V) → decision s.trace p ≡ Some r → has_replied s.trace p ≡ false → (l : Transition K V F) → Enabled cmp hash gives s p l → (l ≡ Replies r) ⊎ (l ≡ Loses)
+  next_reply s p o h r d rp (Begins c y) can = absurd (grind (arith, h, (o.beyond (omega (arith, can.0))).0))
+  next_reply s p o h r d rp Quiet can = absurd (over (o.end_label (can h) (lookup_begun (s.call p) h)))
     where
       over : (has_replied s.trace p ≡ true) ⊎ (has_closed s.trace p ≡ true) → ⊥
       over (inl q) = grind (arith, rp, q)
       over (inr q) = grind (arith, d, o.refused q (lookup_one_key (s.call p) h))
   next_reply s p o h r d rp Loses can = inr refl
-  next_reply s p o h r d rp IsRefused can = absurd (grind (arith, d, o.undecided (refused_at_work cmp hash gives s p can).1 (refused_at_work cmp hash gives s p can).0))
-  next_reply s p o h r d rp (DecidesEmpty c q) can = absurd (grind (arith, d, o.undecided (λ _ _ _ z. grind (arith, z, can.1)) (λ z. grind (arith, z, can.1))))
-  next_reply s p o h r d rp (Passes e) can = absurd (grind (arith, d, o.undecided (λ _ _ _ z. grind (arith, z, can.4)) (λ z. grind (arith, z, can.4))))
+  next_reply s p o h r d rp IsRefused can = absurd (grind (arith, d, o.no_decision (refused_at_work cmp hash gives s p can).1 (refused_at_work cmp hash gives s p can).0))
+  next_reply s p o h r d rp (DecidesEmpty c q) can = absurd (grind (arith, d, o.no_decision (λ _ _ _ z. grind (arith, z, can.1)) (λ z. grind (arith, z, can.1))))
+  next_reply s p o h r d rp (Passes e) can = absurd (grind (arith, d, o.no_decision (λ _ _ _ z. grind (arith, z, can.4)) (λ z. grind (arith, z, can.4))))
   next_reply s p o h r d rp (Replies q) can = inl (ap Replies (same_some (sym (o.decided q 0 0 can.3) ∙ d)))
   next_reply s p o h r d rp Ends can = absurd (grind (arith, can.2, lookup_one_key (Some can.0) (subst (λ c. is_lookup c ≡ true) can.1 h)))
-  next_reply s p o h r d rp (Finds e) can = absurd (grind (arith, d, o.undecided (λ _ _ _ z. grind (arith, z, can.2)) (λ z. grind (arith, z, can.2))))
-  next_reply s p o h r d rp (Opens e) can = absurd (grind (arith, d, o.undecided (λ _ _ _ z. grind (arith, z, can.2)) (λ z. grind (arith, z, can.2))))
-  next_reply s p o h r d rp FindsNothing can = absurd (grind (arith, d, o.undecided (λ _ _ _ z. grind (arith, z, can.2)) (λ z. grind (arith, z, can.2))))
-  next_reply s p o h r d rp (Decides c k e es n q fs m) can = absurd (grind (arith, d, o.undecided (λ _ _ _ z. grind (arith, z, can.2)) (λ z. grind (arith, z, can.2))))
+  next_reply s p o h r d rp (Finds e) can = absurd (grind (arith, d, o.no_decision (λ _ _ _ z. grind (arith, z, can.2)) (λ z. grind (arith, z, can.2))))
+  next_reply s p o h r d rp (Opens e) can = absurd (grind (arith, d, o.no_decision (λ _ _ _ z. grind (arith, z, can.2)) (λ z. grind (arith, z, can.2))))
+  next_reply s p o h r d rp FindsNothing can = absurd (grind (arith, d, o.no_decision (λ _ _ _ z. grind (arith, z, can.2)) (λ z. grind (arith, z, can.2))))
+  next_reply s p o h r d rp (Decides c k e es n q fs m) can = absurd (grind (arith, d, o.no_decision (λ _ _ _ z. grind (arith, z, can.2)) (λ z. grind (arith, z, can.2))))
   next_reply s p o h r d rp l can = absurd (grind (arith, h, can, o.walking, o.clearing))
 
   pub looks_up : (home : ℕ → ℕ) (s : State K V F) (p : ℕ) → IsParty s p → Tables cmp hash home s → IsPartition s → NamesNoUnborn hash (is_some s.published) home s.start (s.call p) (s.mode p) → Waits (s.call p) (s.mode p) (s.steps p) → LooksUp cmp hash gives s p

@@ -6,7 +6,7 @@ use Rattle.std.proofs.Common.{arith, refl, sym, ◌∙◌, ap, subst, inl, inr}
 use Rattle.std.proofs.lemmas.Bool.{eqb-true, cases_eq, ltb-true}
 use Rattle.std.proofs.lemmas.Nat.{pow_pos}
 use Rattle.flurry_steps_theory.specs.Map.{same}
-use Rattle.flurry_steps_theory.specs.Machine.{State, Transition, Can, does, found_by, onward, halves, Moved, Unborn, Mode, Looking, Walking, Clearing, Done, Frame, Quiet, Loses, Counts, Finds, Opens, Passes, Places, Claims, Moves, Reports, Publishes, Reads, Leaves, Splits, Wipes, SplitsClear}
+use Rattle.flurry_steps_theory.specs.Machine.{State, Transition, Enabled, next_state, found_by, onward, halves, Moved, Unborn, Mode, Looking, Walking, Clearing, Done, Frame, Quiet, Loses, Counts, Finds, Opens, Passes, Places, Claims, Moves, Reports, Publishes, Reads, Leaves, Splits, Wipes, SplitsClear}
 use Rattle.flurry_steps_theory.specs.Invariant.{Tables, home_after, key_in, AreNotUnborn, NamesNoUnborn}
 use Rattle.flurry_steps_theory.proofs.Bins.{in_low_half, in_high_half, double}
 use Rattle.flurry_steps_theory.proofs.Tables.{same_some, homes}
@@ -17,12 +17,12 @@ use Rattle.flurry_steps_theory.proofs.OwnSteps.{next_mode, next_call, other_keep
 
 module _ {K V F : Type 0} (cmp : K → K → Ordering) (total : IsTotalOrder cmp) (hash : K → ℕ) (lawful : (j k : K) → same cmp j k ≡ true → hash j ≡ hash k) (gives : F → K → V → Option V → Type 0) where
   -- homes only rise
-  risen : (home : ℕ → ℕ) (s : State K V F) (p : ℕ) (l : Transition K V F) → Can cmp hash gives s p l → Tables cmp hash home s → is_some s.published ≡ true → (h : ℕ) → home h ≤ home_after home l h
+  risen : (home : ℕ → ℕ) (s : State K V F) (p : ℕ) (l : Transition K V F) → Enabled cmp hash gives s p l → Tables cmp hash home s → is_some s.published ≡ true → (h : ℕ) → home h ≤ home_after home l h
   risen home s p (Opens e) can t md h = absurd (grind (arith, md, can.3))
   risen home s p (Moves a i es n) can t md h = grind (arith, eqb-true, homes cmp total hash lawful gives home s a.table i es n h t can.3)
   risen home s p l can t md h = omega arith
 
-  same_start : (s : State K V F) (p : ℕ) (l : Transition K V F) → Can cmp hash gives s p l → is_some s.published ≡ true → ((does cmp hash gives s p l).start ≡ s.start) × (is_some (does cmp hash gives s p l).published ≡ true)
+  same_start : (s : State K V F) (p : ℕ) (l : Transition K V F) → Enabled cmp hash gives s p l → is_some s.published ≡ true → ((next_state cmp hash gives s p l).start ≡ s.start) × (is_some (next_state cmp hash gives s p l).published ≡ true)
   same_start s p (Opens e) can md = absurd (grind (arith, md, can.3))
   same_start s p (Publishes e gr) can md = (refl, refl)
   same_start s p l can md = (refl, md)
@@ -32,8 +32,8 @@ module _ {K V F : Type 0} (cmp : K → K → Ordering) (total : IsTotalOrder cmp
   born_on home home' start (f ∷ fs) r b = ((b.0.0, b.0.1, λ h g. omega (arith, r h, b.0.2 h g)), born_on home home' start fs r b.1)
 
   -- a party that does no step
-  stays_named : (home : ℕ → ℕ) (s : State K V F) (p : ℕ) (l : Transition K V F) → Can cmp hash gives s p l → Tables cmp hash home s → (call : Option (Call K V F)) (m : Mode K V) → NamesNoUnborn hash (is_some s.published) home s.start call m
-      → NamesNoUnborn hash (is_some (does cmp hash gives s p l).published) (home_after home l) (does cmp hash gives s p l).start call m
+  stays_named : (home : ℕ → ℕ) (s : State K V F) (p : ℕ) (l : Transition K V F) → Enabled cmp hash gives s p l → Tables cmp hash home s → (call : Option (Call K V F)) (m : Mode K V) → NamesNoUnborn hash (is_some s.published) home s.start call m
+      → NamesNoUnborn hash (is_some (next_state cmp hash gives s p l).published) (home_after home l) (next_state cmp hash gives s p l).start call m
   stays_named home s p l can t call (Looking e) n = ((same_start s p l can n.0).1, omega (arith, n.1, (same_start s p l can n.0).0), λ k h. omega (arith, n.2 k h, risen home s p l can t n.0 (hash k)))
   stays_named home s p l can t call (Walking e i fs) n = ((same_start s p l can n.0).1, omega (arith, n.1, (same_start s p l can n.0).0), (λ h. omega (arith, n.2 h, risen home s p l can t n.0 h)), rw (same_start s p l can n.0).0 (born_on home (home_after home l) s.start fs (risen home s p l can t n.0) n.3))
   stays_named home s p l can t call (Clearing wiped e i fs) n = ((same_start s p l can n.0).1, omega (arith, n.1, (same_start s p l can n.0).0), (λ h. omega (arith, n.2 h, risen home s p l can t n.0 h)), rw (same_start s p l can n.0).0 (born_on home (home_after home l) s.start fs (risen home s p l can t n.0) n.3))
@@ -73,8 +73,8 @@ module _ {K V F : Type 0} (cmp : K → K → Ordering) (total : IsTotalOrder cmp
         ((omega (arith, b.0.0), omega (arith, b.0.1, double f.table), λ h g. up h (in_high_half h f.table f.index b.0.1 g)), b.1),
       )
 
-  own_named : (home : ℕ → ℕ) (s : State K V F) (p : ℕ) (l : Transition K V F) → Can cmp hash gives s p l → Tables cmp hash home s → NamesNoUnborn hash (is_some s.published) home s.start (s.call p) (s.mode p)
-      → NamesNoUnborn hash (is_some (does cmp hash gives s p l).published) (home_after home l) (does cmp hash gives s p l).start (next_call cmp total hash lawful gives s p l) (next_mode cmp total hash lawful gives s p l)
+  own_named : (home : ℕ → ℕ) (s : State K V F) (p : ℕ) (l : Transition K V F) → Enabled cmp hash gives s p l → Tables cmp hash home s → NamesNoUnborn hash (is_some s.published) home s.start (s.call p) (s.mode p)
+      → NamesNoUnborn hash (is_some (next_state cmp hash gives s p l).published) (home_after home l) (next_state cmp hash gives s p l).start (next_call cmp total hash lawful gives s p l) (next_mode cmp total hash lawful gives s p l)
   unfolding next_mode next_call
   own_named home s p Quiet can t nm = stays_named home s p Quiet can t (s.call p) (s.mode p) nm
   own_named home s p Loses can t nm = stays_named home s p Loses can t (s.call p) (s.mode p) nm
@@ -94,13 +94,13 @@ module _ {K V F : Type 0} (cmp : K → K → Ordering) (total : IsTotalOrder cmp
   own_named home s p (SplitsClear wiped e i f fs) can t nm = let q : NamesNoUnborn hash (is_some s.published) home s.start (s.call p) (Clearing wiped e i (f ∷ fs)) = (subst (λ m. NamesNoUnborn hash (is_some s.published) home s.start (s.call p) m) can.0 nm) in (q.0, q.1, q.2, split_born home s f fs t q.0 can.1 q.3)
   own_named home s p l can t nm = tt
 
-  pub named_ok : (home : ℕ → ℕ) (s : State K V F) (p q : ℕ) (l : Transition K V F) → Can cmp hash gives s p l → Tables cmp hash home s → ((q : ℕ) → NamesNoUnborn hash (is_some s.published) home s.start (s.call q) (s.mode q))
-      → NamesNoUnborn hash (is_some (does cmp hash gives s p l).published) (home_after home l) (does cmp hash gives s p l).start ((does cmp hash gives s p l).call q) ((does cmp hash gives s p l).mode q)
+  pub named_ok : (home : ℕ → ℕ) (s : State K V F) (p q : ℕ) (l : Transition K V F) → Enabled cmp hash gives s p l → Tables cmp hash home s → ((q : ℕ) → NamesNoUnborn hash (is_some s.published) home s.start (s.call q) (s.mode q))
+      → NamesNoUnborn hash (is_some (next_state cmp hash gives s p l).published) (home_after home l) (next_state cmp hash gives s p l).start ((next_state cmp hash gives s p l).call q) ((next_state cmp hash gives s p l).mode q)
   named_ok home s p q l can t n = own_or_other cmp total hash lawful gives (λ _ c m. Named c m) s p q l (own_named home s p l can t (n p))
-      (λ ne. other_keeps cmp total hash lawful gives (Named (s.call q)) (named_settled hash (is_some (does cmp hash gives s p l).published) (home_after home l) (does cmp hash gives s p l).start (s.call q)) l q (s.mode q) (stays_named home s p l can t (s.call q) (s.mode q) (n q)))
+      (λ ne. other_keeps cmp total hash lawful gives (Named (s.call q)) (named_settled hash (is_some (next_state cmp hash gives s p l).published) (home_after home l) (next_state cmp hash gives s p l).start (s.call q)) l q (s.mode q) (stays_named home s p l can t (s.call q) (s.mode q) (n q)))
     where
       Named : Option (Call K V F) → Mode K V → Type 0
-      Named = NamesNoUnborn hash (is_some (does cmp hash gives s p l).published) (home_after home l) (does cmp hash gives s p l).start
+      Named = NamesNoUnborn hash (is_some (next_state cmp hash gives s p l).published) (home_after home l) (next_state cmp hash gives s p l).start
 
   -- so the bin that a party looks at is there
   pub looks_at : (home : ℕ → ℕ) (s : State K V F) (p e : ℕ) (k : K) → Tables cmp hash home s → NamesNoUnborn hash (is_some s.published) home s.start (s.call p) (s.mode p) → s.mode p ≡ Looking e → key_in (s.call p) ≡ Some k → s.slot e (hash k % 2 ^ e) ≡ Unborn → ⊥

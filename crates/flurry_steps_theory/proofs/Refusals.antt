@@ -6,11 +6,11 @@ use Rattle.std.proofs.Common.{arith, refl, sym, ◌∙◌, subst}
 use Rattle.flurry_steps_theory.specs.Map.{Pairs, same, CanBeRefused}
 use Rattle.flurry_steps_theory.specs.Trace.{pairs}
 use Rattle.flurry_steps_theory.specs.Bin.{pairs_of}
-use Rattle.flurry_steps_theory.specs.Machine.{State, Can, RefusedAt, MayOpen, Mode, Locating, Looking, Walking, Clearing, Done, Finished, IsRefused}
+use Rattle.flurry_steps_theory.specs.Machine.{State, Enabled, RefusedAt, MayOpen, Mode, Locating, Looking, Walking, Clearing, Done, Finished, IsRefused}
 use Rattle.flurry_steps_theory.specs.Invariant.{IsParty, Tables}
 use Rattle.flurry_steps_theory.proofs.Bins.{CanBeRefused-same}
 use Rattle.flurry_steps_theory.proofs.Tables.{same_some}
-use Rattle.flurry_steps_theory.proofs.Walks.{held}
+use Rattle.flurry_steps_theory.proofs.Walks.{bin_content}
 use Rattle.flurry_base.specs.declared.call.Call.{Call}
 use Rattle.flurry_base.specs.declared.call.Call.TheVariants.{Insert, TryInsert, Reserve}
 use Rattle.flurry_base.specs.declared.reply.KeptReply.{KeptReply}
@@ -23,7 +23,7 @@ module _ {K V F : Type 0} (cmp : K → K → Ordering) (hash : K → ℕ) (gives
   at_work s c Finished h = absurd h
   at_work s c m h = (λ e. grind (arith, e), λ r a b e. grind (arith, e))
 
-  pub refused_at_work : (s : State K V F) (p : ℕ) → Can cmp hash gives s p IsRefused → (s.mode p ≡ Finished → ⊥) × ((r : KeptReply K V) (a b : ℕ) → s.mode p ≡ Done (Some r) a b → ⊥)
+  pub refused_at_work : (s : State K V F) (p : ℕ) → Enabled cmp hash gives s p IsRefused → (s.mode p ≡ Finished → ⊥) × ((r : KeptReply K V) (a b : ℕ) → s.mode p ≡ Done (Some r) a b → ⊥)
   refused_at_work s p can = at_work s can.0 (s.mode p) can.3
 
   -- a call that may open the first table may be refused
@@ -35,10 +35,10 @@ module _ {K V F : Type 0} (cmp : K → K → Ordering) (hash : K → ℕ) (gives
 
 module _ {K V F : Type 0} (cmp : K → K → Ordering) (total : IsTotalOrder cmp) (hash : K → ℕ) (lawful : (j k : K) → same cmp j k ≡ true → hash j ≡ hash k) (gives : F → K → V → Option V → Type 0) where
   at_bin_refused : (home : ℕ → ℕ) (s : State K V F) (p e : ℕ) (c : Call K V F) → Tables cmp hash home s → RefusedAt cmp hash gives s c (Looking e) → CanBeRefused cmp gives c (pairs cmp hash s.trace)
-  at_bin_refused home s p e c t h = CanBeRefused-same cmp total gives c (pairs_of h.1) (pairs cmp hash s.trace) h.0 h.3 (held cmp total hash lawful gives home s e (hash h.0 % 2 ^ e) h.1 h.2 h.0 t h.4 refl) h.5
+  at_bin_refused home s p e c t h = CanBeRefused-same cmp total gives c (pairs_of h.1) (pairs cmp hash s.trace) h.0 h.3 (bin_content cmp total hash lawful gives home s e (hash h.0 % 2 ^ e) h.1 h.2 h.0 t h.4 refl) h.5
 
   -- what is refused is what the map lets be refused
-  pub refused_now : (home : ℕ → ℕ) (s : State K V F) (p : ℕ) → Can cmp hash gives s p IsRefused → IsParty s p → Tables cmp hash home s → (c : Call K V F) × (s.call p ≡ Some c) × CanBeRefused cmp gives c (pairs cmp hash s.trace)
+  pub refused_now : (home : ℕ → ℕ) (s : State K V F) (p : ℕ) → Enabled cmp hash gives s p IsRefused → IsParty s p → Tables cmp hash home s → (c : Call K V F) × (s.call p ≡ Some c) × CanBeRefused cmp gives c (pairs cmp hash s.trace)
   refused_now home s p can o t = (can.0, can.1, go (s.mode p) refl can.3)
     where
       go : (m : Mode K V) → s.mode p ≡ m → RefusedAt cmp hash gives s can.0 m → CanBeRefused cmp gives can.0 (pairs cmp hash s.trace)

@@ -8,7 +8,7 @@ use Rattle.std.proofs.lemmas.Bool.{eqb-true}
 use Rattle.flurry_steps_theory.specs.Map.{same}
 use Rattle.flurry_steps_theory.specs.Trace.{pairs}
 use Rattle.flurry_steps_theory.specs.Bin.{Entry, number_of, has_number}
-use Rattle.flurry_steps_theory.specs.Machine.{State, Claim, Growth, Transition, Can, BinDid, Frame, Begins, Loses, Counts, Finds, Opens, IsRefused, Decides, Places, Claims, Moves, Reports, Publishes, Reads, Leaves, Replies}
+use Rattle.flurry_steps_theory.specs.Machine.{State, Claim, Growth, Transition, Enabled, BinDid, Frame, Begins, Loses, Counts, Finds, Opens, IsRefused, Decides, Places, Claims, Moves, Reports, Publishes, Reads, Leaves, Replies}
 use Rattle.flurry_steps_theory.specs.Invariant.{new_world, after_all, CanAll}
 use Rattle.flurry_steps_theory.proofs.BinSteps.{bin_did}
 use Rattle.flurry_steps_theory.proofs.Origins.{same_seen}
@@ -60,7 +60,7 @@ insert_replies : CanDo inserted
 insert_replies = (Insert 3 4, refl, refl, refl, refl) ⊗ refl ⊗ insert_decides
 
 -- it does not reply before what it owes is counted
-no_early_reply : Can nat_cmp its_own none_given (after_steps decided) 0 (Replies (Value None)) → ⊥
+no_early_reply : Enabled nat_cmp its_own none_given (after_steps decided) 0 (Replies (Value None)) → ⊥
 no_early_reply h = grind (arith, h.3)
 
 -- COUNTED BY ANOTHER: party 1 inserts 5 6 while party 0 has decided and not counted. It counts what party 0 owes, which then replies.
@@ -71,7 +71,7 @@ other_replies : CanDo counted_for
 other_replies = (Insert 3 4, refl, refl, refl, refl) ⊗ refl ⊗ (refl, refl, refl, refl, refl, bin_did nat_cmp nat_cmp_total its_own its_own_lawful none_given (Insert 5 6) (Value None) [] 0 tt refl (λ z h. absurd (grind (arith, h))), (refl, tt)) ⊗ (Insert 5 6, refl, refl, (omega arith, 4, refl, omega arith)) ⊗ (refl, λ w h. absurd (grind (arith, h))) ⊗ insert_decides
 
 -- it still owes its own pair, and does not reply
-still_owes : Can nat_cmp its_own none_given (after_steps counted_for) 1 (Replies (Value None)) → ⊥
+still_owes : Enabled nat_cmp its_own none_given (after_steps counted_for) 1 (Replies (Value None)) → ⊥
 still_owes h = grind (arith, h.3)
 
 -- Once its own is counted too, it replies, and the count is the number of pairs.
@@ -98,13 +98,13 @@ walk_reads = (refl, refl, refl) ⊗ (refl, refl, refl) ⊗ (refl, refl, refl) �
 abbrev looking : ℕ → Steps
 looking k = (2, Finds 4) ∷ (2, Begins (Get k) None) ∷ walked
 
-lookup_refused : Can nat_cmp its_own none_given (after_steps (looking 3)) 2 IsRefused
+lookup_refused : Enabled nat_cmp its_own none_given (after_steps (looking 3)) 2 IsRefused
 lookup_refused = (Get 3, refl, refl, (3, written ∷ [], 1, refl, refl, refl))
 
-absent_not_refused : Can nat_cmp its_own none_given (after_steps (looking 19)) 2 IsRefused → ⊥
+absent_not_refused : Enabled nat_cmp its_own none_given (after_steps (looking 19)) 2 IsRefused → ⊥
 absent_not_refused h = grind (arith, h)
 
-no_table_placed : Can nat_cmp its_own none_given (after_steps (looking 3)) 2 (Places 4) → ⊥
+no_table_placed : Enabled nat_cmp its_own none_given (after_steps (looking 3)) 2 (Places 4) → ⊥
 no_table_placed h = grind (arith, h.3)
 
 one_step_done : (after_steps (looking 3)).steps 2 ≡ 1
@@ -147,11 +147,11 @@ growth_reported : CanDo reported
 growth_reported = (refl, refl, refl, refl) ⊗ (refl, omega arith, refl, refl, refl) ⊗ (refl, omega arith, refl, refl, omega arith, refl) ⊗ (refl, refl, omega arith, refl) ⊗ (refl, λ w h. absurd (grind (arith, h))) ⊗ (Reserve 1, refl, refl, refl, omega arith) ⊗ (refl, λ w h. absurd (grind (arith, h))) ⊗ tt
 
 -- nobody publishes it before the report; after it party 0 does, and party 1 does not
-unreported_stays : Can nat_cmp its_own none_given (after_steps moved) 0 (Publishes 0 (growth 0 0)) → ⊥
+unreported_stays : Enabled nat_cmp its_own none_given (after_steps moved) 0 (Publishes 0 (growth 0 0)) → ⊥
 unreported_stays h = grind (arith, h.0)
 
 reporter_publishes : CanDo ((0, Publishes 0 (growth 0 1)) ∷ reported)
 reporter_publishes = (refl, refl, refl, refl) ⊗ growth_reported
 
-other_does_not : Can nat_cmp its_own none_given (after_steps reported) 1 (Publishes 0 (growth 0 1)) → ⊥
+other_does_not : Enabled nat_cmp its_own none_given (after_steps reported) 1 (Publishes 0 (growth 0 1)) → ⊥
 other_does_not h = grind (arith, h.0)

@@ -12,14 +12,14 @@ module _ {K V F : Type 0} where
   pub party_settled : (whose : ℕ → Bool) (s : State K V F) (q : ℕ) → IsParty s q → IsParty (settle whose s) q
   party_settled whose s q h = record {
     call = h.call;
-    unknown = grind (arith, common_steps, h.unknown);
+    beyond = grind (arith, common_steps, h.beyond);
     going = grind (arith, common_steps, h.going);
-    undecided = grind (arith, common_steps, h.undecided);
+    no_decision = grind (arith, common_steps, h.no_decision);
     decided = grind (arith, common_steps, h.decided);
     looking = grind (arith, common_steps, h.looking);
     walking = grind (arith, common_steps, h.walking);
-    finished = grind (arith, common_steps, h.finished);
-    settled = h.settled;
+    end_label = grind (arith, common_steps, h.end_label);
+    reply_decision = h.reply_decision;
     refused = h.refused;
     clearing = grind (arith, common_steps, h.clearing);
   }

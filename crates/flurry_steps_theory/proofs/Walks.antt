@@ -8,11 +8,11 @@ use Rattle.std.proofs.lemmas.Nat.{mod_below, pow_pos}
 use Rattle.flurry_steps_theory.specs.Map.{same, find}
 use Rattle.flurry_steps_theory.specs.Trace.{Trace, begins, names, in_region, pairs, at}
 use Rattle.flurry_steps_theory.specs.Bin.{Entry, pairs_of, past, IsAscending, InRegion}
-use Rattle.flurry_steps_theory.specs.Machine.{State, Can, found_by, onward, halves, Live, Mode, Locating, Looking, Walking, Clearing, Done, Finished, Frame, Reads, Leaves, Wipes}
+use Rattle.flurry_steps_theory.specs.Machine.{State, Enabled, found_by, onward, halves, Live, Mode, Locating, Looking, Walking, Clearing, Done, Finished, Frame, Reads, Leaves, Wipes}
 use Rattle.flurry_steps_theory.specs.Invariant.{Tables, Progress, Remains, InFrame, InFrames, Off, Within, Apart, AreFrames}
 use Rattle.flurry_steps_theory.proofs.Bins.{find-wiped, region-first_past, past_trans, past_differs, find-first_past, find-none_past, found-first_past, in_a_half, in_low_half, in_high_half}
 use Rattle.flurry_steps_theory.proofs.Tables.{homes, content_at}
-use Rattle.flurry_steps_theory.specs.Legal.{HasRead, HasLacked, Stays, WalkMay}
+use Rattle.flurry_steps_theory.specs.Legal.{HasRead, HasLacked, StaysPresent, WalkMay}
 use Rattle.flurry_base.specs.declared.call.Call.{Call}
 use Rattle.flurry_base.specs.declared.call.Call.TheVariants.{Reserve, Clear, Walk}
 use Rattle.flurry_steps_theory.specs.declared.Label.{Label}
@@ -42,7 +42,7 @@ module _ {K V F : Type 0} (cmp : K → K → Ordering) (hash : K → ℕ) (gives
   missing_now test t l p k b y h = (b, inl (y, grind (arith, h)))
 
   -- a class that stayed was not missing
-  pub stays_not_missing : (test : Label K V F → Bool) (t : Trace K V F) (p : ℕ) (k : K) → Stays cmp hash gives t p k → HasLacked cmp hash gives test t p k → ⊥
+  pub stays_not_missing : (test : Label K V F → Bool) (t : Trace K V F) (p : ℕ) (k : K) → StaysPresent cmp hash gives t p k → HasLacked cmp hash gives test t p k → ⊥
   stays_not_missing test [] p k h m = h
   stays_not_missing test (l ∷ t) p k (h, inl b) (m, n) = grind (arith, b, m)
   stays_not_missing test (l ∷ t) p k (h, inr b) (m, inl n) = grind (arith, h, n)
@@ -169,15 +169,15 @@ module _ {K V F : Type 0} (cmp : K → K → Ordering) (hash : K → ℕ) (gives
 module _ {K V F : Type 0} (cmp : K → K → Ordering) (total : IsTotalOrder cmp) (hash : K → ℕ) (lawful : (j k : K) → same cmp j k ≡ true → hash j ≡ hash k) (gives : F → K → V → Option V → Type 0) where
   -- STEPS
   -- what a live bin has at the classes of its region
-  pub held : (home : ℕ → ℕ) (s : State K V F) (d j : ℕ) (es : List (Entry K V)) (n : ℕ) (k : K) → Tables cmp hash home s → s.slot d j ≡ Live es n → hash k % 2 ^ d ≡ j → find cmp (pairs_of es) k ≡ at cmp hash s.trace k
-  held home s d j es n k t l r = content_at cmp total hash lawful gives home s k d j es n t (homes cmp total hash lawful gives home s d j es n (hash k) t l r) r l
+  pub bin_content : (home : ℕ → ℕ) (s : State K V F) (d j : ℕ) (es : List (Entry K V)) (n : ℕ) (k : K) → Tables cmp hash home s → s.slot d j ≡ Live es n → hash k % 2 ^ d ≡ j → find cmp (pairs_of es) k ≡ at cmp hash s.trace k
+  bin_content home s d j es n k t l r = content_at cmp total hash lawful gives home s k d j es n t (homes cmp total hash lawful gives home s d j es n (hash k) t l r) r l
 
   off_frames : (f : Frame K) (fs : List (Frame K)) (k : K) → Off cmp hash gives f fs → hash k % 2 ^ f.table ≡ f.index → InFrames cmp hash gives fs k → ⊥
   off_frames f [] k o r h = h
   off_frames f (g ∷ fs) k o r (inl h) = o.0 (hash k) r h.0
   off_frames f (g ∷ fs) k o r (inr h) = off_frames f fs k o.1 r h
 
-  pub reads : (home : ℕ → ℕ) (s : State K V F) (p e i : ℕ) (f : Frame K) (fs : List (Frame K)) (es : List (Entry K V)) (n : ℕ) (x : Entry K V) → Can cmp hash gives s p (Reads e i f fs es n x) → Tables cmp hash home s → s.call p ≡ Some Walk
+  pub reads : (home : ℕ → ℕ) (s : State K V F) (p e i : ℕ) (f : Frame K) (fs : List (Frame K)) (es : List (Entry K V)) (n : ℕ) (x : Entry K V) → Enabled cmp hash gives s p (Reads e i f fs es n x) → Tables cmp hash home s → s.call p ≡ Some Walk
       → Progress cmp hash gives (s.call p) (Walking e i (f ∷ fs)) s.trace p → Progress cmp hash gives (s.call p) (Walking e i (record { table = f.table; index = f.index; bound = Some x.key } ∷ fs)) (Read p x.key x.value ∷ s.trace) p
   reads home s p e i f fs es n x can t w g = record {
     unbegun = λ h. absurd (grind (arith, h, w));
@@ -205,7 +205,7 @@ module _ {K V F : Type 0} (cmp : K → K → Ordering) (total : IsTotalOrder cmp
         where
           go : (same cmp x.key k ≡ true) ⊎ (find cmp (pairs_of es) k ≡ None) → HasRead cmp hash gives (Read p x.key x.value ∷ s.trace) p k ⊎ (HasLacked cmp hash gives (λ _. true) (Read p x.key x.value ∷ s.trace) p k ⊎ Remains cmp hash gives (Walking e i (record { table = f.table; index = f.index; bound = Some x.key } ∷ fs)) k)
           go (inl h) = inl (inl (refl, h))
-          go (inr h) = inr (inl (missing_now cmp hash gives (λ _. true) s.trace (Read p x.key x.value) p k refl refl (sym (held home s f.table f.index es n k t can.1 r) ∙ h)))
+          go (inr h) = inr (inl (missing_now cmp hash gives (λ _. true) s.trace (Read p x.key x.value) p k refl refl (sym (bin_content home s f.table f.index es n k t can.1 r) ∙ h)))
 
       seen : (k : K) → HasRead cmp hash gives s.trace p k ⊎ (HasLacked cmp hash gives (λ _. true) s.trace p k ⊎ Remains cmp hash gives (Walking e i (f ∷ fs)) k)
           → HasRead cmp hash gives (Read p x.key x.value ∷ s.trace) p k ⊎ (HasLacked cmp hash gives (λ _. true) (Read p x.key x.value ∷ s.trace) p k ⊎ Remains cmp hash gives (Walking e i (record { table = f.table; index = f.index; bound = Some x.key } ∷ fs)) k)
@@ -221,24 +221,24 @@ module _ {K V F : Type 0} (cmp : K → K → Ordering) (total : IsTotalOrder cmp
       unread k (inr (inl r)) (inl h) = grind (arith, past_differs cmp total hash lawful x.key k r.1, h.1)
       unread k (inr (inr r)) (inl h) = off_frames f fs k g.frames.0.0 (sym (ap (λ n. n % 2 ^ f.table) (lawful x.key k h.1)) ∙ place) r
 
-  pub read_lawful : (home : ℕ → ℕ) (s : State K V F) (p e i : ℕ) (f : Frame K) (fs : List (Frame K)) (es : List (Entry K V)) (n : ℕ) (x : Entry K V) → Can cmp hash gives s p (Reads e i f fs es n x) → Tables cmp hash home s → s.call p ≡ Some Walk
+  pub read_lawful : (home : ℕ → ℕ) (s : State K V F) (p e i : ℕ) (f : Frame K) (fs : List (Frame K)) (es : List (Entry K V)) (n : ℕ) (x : Entry K V) → Enabled cmp hash gives s p (Reads e i f fs es n x) → Tables cmp hash home s → s.call p ≡ Some Walk
       → Progress cmp hash gives (s.call p) (Walking e i (f ∷ fs)) s.trace p → WalkMay cmp hash gives s.trace (Read p x.key x.value)
   read_lawful home s p e i f fs es n x can t w g =
       let asc : IsAscending cmp hash es × InRegion hash f.table f.index es = t.ascending f.table f.index es n can.1 in
       let place : hash x.key % 2 ^ f.table ≡ f.index = region-first_past cmp total hash lawful f.bound es x f.table f.index asc.1 can.2 in
       let there : (find cmp (pairs_of es) x.key ≡ Some (x.key, x.value)) × (past cmp hash f.bound x.key ≡ true) = found-first_past cmp total hash lawful f.bound es x asc.0 can.2 in
-      (sym (held home s f.table f.index es n x.key t can.1 place) ∙ there.0, g.unread w (λ z. grind (arith, z)) x.key (inr (inl (place, there.1))))
+      (sym (bin_content home s f.table f.index es n x.key t can.1 place) ∙ there.0, g.unread w (λ z. grind (arith, z)) x.key (inr (inl (place, there.1))))
 
-  pub leaves : (home : ℕ → ℕ) (s : State K V F) (p e i : ℕ) (f : Frame K) (fs : List (Frame K)) (es : List (Entry K V)) (n : ℕ) → Can cmp hash gives s p (Leaves e i f fs es n) → Tables cmp hash home s → s.call p ≡ Some Walk
+  pub leaves : (home : ℕ → ℕ) (s : State K V F) (p e i : ℕ) (f : Frame K) (fs : List (Frame K)) (es : List (Entry K V)) (n : ℕ) → Enabled cmp hash gives s p (Leaves e i f fs es n) → Tables cmp hash home s → s.call p ≡ Some Walk
       → Progress cmp hash gives (s.call p) (Walking e i (f ∷ fs)) s.trace p → Progress cmp hash gives (s.call p) (onward Walking (Done None 0 0) e i fs) (Silent p ∷ s.trace) p
   leaves home s p e i f fs es n can t w g = advance cmp hash gives (s.call p) (Walking e i (f ∷ fs)) (onward Walking (Done None 0 0) e i fs) s.trace (Silent p) p refl (λ k h. h) (λ h. grind (arith, h))
       (λ _ k r. go k (rest cmp hash gives Walking (Done None 0 0) e i f fs k (λ _ _ h. h) r)) (λ h. absurd (grind (arith, h, w))) (λ k r. fewer cmp hash gives Walking (Done None 0 0) e i f fs k (λ _ _ h. h) (λ h. h) r) (frames cmp hash gives Walking (Done None 0 0) e i f fs (λ _ _ h. h) tt g.frames) g
     where
       go : (k : K) → InFrame cmp hash gives f k ⊎ Remains cmp hash gives (onward Walking (Done None 0 0) e i fs) k → HasRead cmp hash gives (Silent p ∷ s.trace) p k ⊎ (HasLacked cmp hash gives (λ _. true) (Silent p ∷ s.trace) p k ⊎ Remains cmp hash gives (onward Walking (Done None 0 0) e i fs) k)
       go k (inr h) = inr (inr h)
-      go k (inl h) = inr (inl (missing_now cmp hash gives (λ _. true) s.trace (Silent p) p k refl refl (sym (held home s f.table f.index es n k t can.1 h.0) ∙ find-none_past cmp total hash lawful f.bound es k can.2 h.1)))
+      go k (inl h) = inr (inl (missing_now cmp hash gives (λ _. true) s.trace (Silent p) p k refl refl (sym (bin_content home s f.table f.index es n k t can.1 h.0) ∙ find-none_past cmp total hash lawful f.bound es k can.2 h.1)))
 
-  pub wipes : (home : ℕ → ℕ) (s : State K V F) (p wiped e i : ℕ) (f : Frame K) (fs : List (Frame K)) (es : List (Entry K V)) (n : ℕ) → Can cmp hash gives s p (Wipes wiped e i f fs es n) → s.call p ≡ Some Clear
+  pub wipes : (home : ℕ → ℕ) (s : State K V F) (p wiped e i : ℕ) (f : Frame K) (fs : List (Frame K)) (es : List (Entry K V)) (n : ℕ) → Enabled cmp hash gives s p (Wipes wiped e i f fs es n) → s.call p ≡ Some Clear
       → Progress cmp hash gives (s.call p) (Clearing wiped e i (f ∷ fs)) s.trace p → Progress cmp hash gives (s.call p) (onward (Clearing (wiped + length es)) (Done None 0 (wiped + length es)) e i fs) (Wipe p f.table f.index ∷ s.trace) p
   wipes home s p wiped e i f fs es n can w g = advance cmp hash gives (s.call p) (Clearing wiped e i (f ∷ fs)) (onward (Clearing (wiped + length es)) (Done None 0 (wiped + length es)) e i fs) s.trace (Wipe p f.table f.index) p refl (λ k h. h) (λ h. grind (arith, h))
       (λ h. absurd (grind (arith, h, w))) (λ _ k r. go k (rest cmp hash gives (Clearing (wiped + length es)) (Done None 0 (wiped + length es)) e i f fs k (λ _ _ h. h) r)) (λ k r. fewer cmp hash gives (Clearing (wiped + length es)) (Done None 0 (wiped + length es)) e i f fs k (λ _ _ h. h) (λ h. h) r) (frames cmp hash gives (Clearing (wiped + length es)) (Done None 0 (wiped + length es)) e i f fs (λ _ _ h. h) tt g.frames) g

@@ -6,7 +6,7 @@ use Rattle.flurry_steps_theory.specs.Map.{Unique, find}
 use Rattle.flurry_steps_theory.specs.Trace.{Trace, is_lookup, call_begun_by, decision, has_replied, has_closed, published_in, was_placed, was_moved_in, names, last_read, read_before, pairs, at}
 use Rattle.flurry_steps_theory.specs.Legal.{is_untouched, untouched_for, RemovalMay, HasRead, HasLacked, EachMay, Legal}
 use Rattle.flurry_steps_theory.specs.Bin.{Entry, number_of, pairs_of, IsAscending, InRegion, past}
-use Rattle.flurry_steps_theory.specs.Machine.{total, owes_added, owes_removed, State, Slot, Transition, Opens, Moves, Claim, Growth, Can, does, Live, Moved, Unborn, Mode, Locating, Looking, Walking, Clearing, Done, Finished, Frame, Replies, Loses}
+use Rattle.flurry_steps_theory.specs.Machine.{total, owes_added, owes_removed, State, Slot, Transition, Opens, Moves, Claim, Growth, Enabled, next_state, Live, Moved, Unborn, Mode, Locating, Looking, Walking, Clearing, Done, Finished, Frame, Replies, Loses}
 use Rattle.flurry_base.specs.declared.call.Call.{Call}
 use Rattle.flurry_base.specs.declared.call.Call.TheVariants.{RemoveSeen, Walk, Clear}
 use Rattle.flurry_base.specs.declared.call.Seen.{Seen}
@@ -22,14 +22,14 @@ module _ {K V F : Type 0} where
   -- what a party's mode says of its call and its labels so far
   pub record IsParty (s : State K V F) (p : ℕ) : Type 0 where
     pub call : call_begun_by s.trace p ≡ s.call p
-    pub unknown : s.parties ≤ p → (s.call p ≡ None) × (s.mode p ≡ Finished) × (s.claim p ≡ None) × (decision s.trace p ≡ None) × (has_replied s.trace p ≡ false) × (has_closed s.trace p ≡ false) × (s.told p ≡ None)
+    pub beyond : s.parties ≤ p → (s.call p ≡ None) × (s.mode p ≡ Finished) × (s.claim p ≡ None) × (decision s.trace p ≡ None) × (has_replied s.trace p ≡ false) × (has_closed s.trace p ≡ false) × (s.told p ≡ None)
     pub going : (s.mode p ≡ Finished → ⊥) → (has_replied s.trace p ≡ false) × (has_closed s.trace p ≡ false) × (is_some (s.call p) ≡ true)
-    pub undecided : ((r : KeptReply K V) (added removed : ℕ) → s.mode p ≡ Done (Some r) added removed → ⊥) → (s.mode p ≡ Finished → ⊥) → decision s.trace p ≡ None
+    pub no_decision : ((r : KeptReply K V) (added removed : ℕ) → s.mode p ≡ Done (Some r) added removed → ⊥) → (s.mode p ≡ Finished → ⊥) → decision s.trace p ≡ None
     pub decided : (r : KeptReply K V) (added removed : ℕ) → s.mode p ≡ Done (Some r) added removed → decision s.trace p ≡ Some r
     pub looking : (e : ℕ) → s.mode p ≡ Looking e → one_key (s.call p) ≡ true
     pub walking : (e i : ℕ) (fs : List (Frame K)) → s.mode p ≡ Walking e i fs → s.call p ≡ Some Walk
-    pub finished : s.mode p ≡ Finished → is_some (s.call p) ≡ true → (has_replied s.trace p ≡ true) ⊎ (has_closed s.trace p ≡ true)
-    pub settled : has_replied s.trace p ≡ true → is_some (decision s.trace p) ≡ true
+    pub end_label : s.mode p ≡ Finished → is_some (s.call p) ≡ true → (has_replied s.trace p ≡ true) ⊎ (has_closed s.trace p ≡ true)
+    pub reply_decision : has_replied s.trace p ≡ true → is_some (decision s.trace p) ≡ true
     pub refused : has_closed s.trace p ≡ true → one_key (s.call p) ≡ true → decision s.trace p ≡ None
     pub clearing : (wiped e i : ℕ) (fs : List (Frame K)) → s.mode p ≡ Clearing wiped e i fs → s.call p ≡ Some Clear
 
@@ -42,7 +42,7 @@ is_live Unborn = false
 module _ {K V F : Type 0} (cmp : K → K → Ordering) (hash : K → ℕ) where
   -- home h is the table in which the bin of hash h is live
   pub record Tables (home : ℕ → ℕ) (s : State K V F) : Type 0 where
-    pub unmade : s.published ≡ None → (d j : ℕ) → s.slot d j ≡ Unborn
+    pub no_table : s.published ≡ None → (d j : ℕ) → s.slot d j ≡ Unborn
     pub from : (f : ℕ) → s.published ≡ Some f → (s.start ≤ f) × ((h : ℕ) → f ≤ home h)
     pub live : is_some s.published ≡ true → (h : ℕ) → is_live (s.slot (home h) (h % 2 ^ home h)) ≡ true
     pub below : is_some s.published ≡ true → (h d : ℕ) → s.start ≤ d → d < home h → s.slot d (h % 2 ^ d) ≡ Moved
@@ -68,9 +68,9 @@ size None = 0
 size (Some a) = a.high - a.low
 
 -- bin i is in the claim's range
-abbrev pub holds : Option Claim → ℕ → Bool
-holds None i = false
-holds (Some a) i = nat_le a.low i && nat_lt i a.high
+abbrev pub claim_holds : Option Claim → ℕ → Bool
+claim_holds None i = false
+claim_holds (Some a) i = nat_le a.low i && nat_lt i a.high
 
 module _ {K V F : Type 0} where
   -- the unclaimed, the claimed and the reported bins cut the growing table; once all are reported, one party is told to publish
@@ -87,7 +87,7 @@ module _ {K V F : Type 0} where
     pub rest_moved : (p : ℕ) (a : Claim) (i : ℕ) → s.claim p ≡ Some a → a.left ≤ i → i < a.high → s.slot a.table i ≡ Moved
     pub unclaimed_live : (e i : ℕ) (g : Growth) → s.published ≡ Some e → s.growth ≡ Some g → (g.unclaimed ≤ 2 ^ e) × (i < g.unclaimed → is_live (s.slot e i) ≡ true)
     pub apart : (p q : ℕ) (a b : Claim) → (p ≡ q → ⊥) → s.claim p ≡ Some a → s.claim q ≡ Some b → (a.high ≤ b.low) ⊎ (b.high ≤ a.low)
-    pub cover : (e i : ℕ) (g : Growth) → s.published ≡ Some e → s.growth ≡ Some g → i < 2 ^ e → (s.slot e i ≡ Moved) ⊎ ((i < g.unclaimed) ⊎ ((p : ℕ) × (holds (s.claim p) i ≡ true)))
+    pub cover : (e i : ℕ) (g : Growth) → s.published ≡ Some e → s.growth ≡ Some g → i < 2 ^ e → (s.slot e i ≡ Moved) ⊎ ((i < g.unclaimed) ⊎ ((p : ℕ) × (claim_holds (s.claim p) i ≡ true)))
     pub sum : (e : ℕ) (g : Growth) → s.published ≡ Some e → s.growth ≡ Some g → g.unclaimed + g.reported + total (λ p. size (s.claim p)) s.parties ≡ 2 ^ e
     -- where a party is told to publish, that growth runs, and every bin is reported
     pub told : (p e : ℕ) → s.told p ≡ Some e → (s.published ≡ Some e) × (g : Growth) × (s.growth ≡ Some g) × (g.reported ≡ 2 ^ e)
@@ -198,7 +198,7 @@ module _ {K V F : Type 0} (cmp : K → K → Ordering) (hash : K → ℕ) (gives
     pub new_number : b ≡ false → (newer number z.number ≡ true) ⊎ (number ≡ Some (2 ^ 64 - 1))
 
   -- a class's number is at most the count of its bin's writes, and every read is judged by it
-  pub record Numbers (home : ℕ → ℕ) (s : State K V F) : Type 0 where
+  pub record WriteNumbers (home : ℕ → ℕ) (s : State K V F) : Type 0 where
     pub bounded : (k : K) (m : ℕ) → number_at home s k ≡ Some m → m ≤ writes_at home s k
     pub limit : (k : K) → writes_at home s k ≤ 2 ^ 64 - 1
     pub small : (k : K) → writes_at home s k ≤ length s.trace
@@ -230,8 +230,8 @@ module _ {K V F : Type 0} (cmp : K → K → Ordering) (hash : K → ℕ) where
     pub unique : Unique cmp (pairs cmp hash s.trace)
     pub balance : pos (length (pairs cmp hash s.trace)) ≡ s.count +ℤ pos (total (λ p. owes_added (s.mode p)) s.parties) -ℤ pos (total (λ p. owes_removed (s.mode p)) s.parties)
     -- a label adds one pair at most, so neither side outgrows the labels
-    pub held : length (pairs cmp hash s.trace) + total (λ p. owes_removed (s.mode p)) s.parties ≤ length s.trace
-    pub owed : total (λ p. owes_added (s.mode p)) s.parties ≤ length s.trace
+    pub size_bound : length (pairs cmp hash s.trace) + total (λ p. owes_removed (s.mode p)) s.parties ≤ length s.trace
+    pub debt_bound : total (λ p. owes_added (s.mode p)) s.parties ≤ length s.trace
 
 -- LOOK-UPS
 module _ {K V F : Type 0} where
@@ -245,7 +245,7 @@ module _ {K V F : Type 0} (cmp : K → K → Ordering) (hash : K → ℕ) (gives
   pub record LooksUp (s : State K V F) (p : ℕ) : Type 0 where
     pub in_time : is_lookup (s.call p) ≡ true → decision s.trace p ≡ None → has_closed s.trace p ≡ false → s.steps p < TABLES + 1
     pub replies_next : is_lookup (s.call p) ≡ true → (r : KeptReply K V) → decision s.trace p ≡ Some r → has_replied s.trace p ≡ false
-        → (l : Transition K V F) → Can cmp hash gives s p l → (l ≡ Replies r) ⊎ (l ≡ Loses)
+        → (l : Transition K V F) → Enabled cmp hash gives s p l → (l ≡ Replies r) ⊎ (l ≡ Loses)
 
 -- ALL OF IT
 module _ {K V F : Type 0} (cmp : K → K → Ordering) (hash : K → ℕ) (gives : F → K → V → Option V → Type 0) where
@@ -264,7 +264,7 @@ module _ {K V F : Type 0} (cmp : K → K → Ordering) (hash : K → ℕ) (gives
     pub few_steps : (p : ℕ) → s.steps p ≤ length s.trace
     pub legal : Legal cmp hash gives first s.trace
     pub origins : Origins s
-    pub numbers : Numbers cmp hash gives home s
+    pub numbers : WriteNumbers cmp hash gives home s
     -- conditional removals, of which the trace alone does not tell with which walk they began
     pub removals : EachMay (RemovalMay cmp hash gives s.began_from) s.trace
 
@@ -293,9 +293,9 @@ module _ {K V F : Type 0} (cmp : K → K → Ordering) (hash : K → ℕ) (gives
   -- the state after these steps of parties, the newest first
   abbrev pub after_all : State K V F → List (ℕ × Transition K V F) → State K V F
   after_all s [] = s
-  after_all s (x ∷ steps) = does cmp hash gives (after_all s steps) x.0 x.1
+  after_all s (x ∷ steps) = next_state cmp hash gives (after_all s steps) x.0 x.1
 
   -- each of these steps can be done after those before it
   abbrev pub CanAll : State K V F → List (ℕ × Transition K V F) → Type 0
   CanAll s [] = ⊤
-  CanAll s (x ∷ steps) = Can cmp hash gives (after_all s steps) x.0 x.1 × CanAll s steps
+  CanAll s (x ∷ steps) = Enabled cmp hash gives (after_all s steps) x.0 x.1 × CanAll s steps

@@ -61,14 +61,14 @@ module _ {K V F : Type 0} where
     HasRead (l ∷ t) p k = HasRead t p k
 
     -- the map has had k's class after every label from p's Begin on
-    abbrev pub Stays : Trace K V F → ℕ → K → Type 0
-    Stays [] p k = ⊥
-    Stays (l ∷ t) p k = IsSome (at cmp hash (l ∷ t) k) × ((begins p l ≡ true) ⊎ Stays t p k)
+    abbrev pub StaysPresent : Trace K V F → ℕ → K → Type 0
+    StaysPresent [] p k = ⊥
+    StaysPresent (l ∷ t) p k = IsSome (at cmp hash (l ∷ t) k) × ((begins p l ≡ true) ⊎ StaysPresent t p k)
 
     -- A walk reads pairs that the map has, no class twice, and at its End has read every class that stayed since its Begin.
     abbrev pub WalkMay : Trace K V F → Label K V F → Type 0
     WalkMay t (Read p k v) = (at cmp hash t k ≡ Some (k, v)) × (HasRead t p k → ⊥)
-    WalkMay t (End p) = Began IsWalk t p → (k : K) → Stays t p k → HasRead t p k
+    WalkMay t (End p) = Began IsWalk t p → (k : K) → StaysPresent t p k → HasRead t p k
     WalkMay t l = ⊤
 
     -- CLEARS

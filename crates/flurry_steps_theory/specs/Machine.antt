@@ -79,12 +79,12 @@ pub record State (K V F : Type 0) : Type 0 where
   pub trace : Trace K V F  -- the newest label first
 
 -- f with another value at one place
-abbrev pub at_place : {X : Type 0} → (ℕ → X) → ℕ → X → ℕ → X
-at_place f p x q = if p == q then x else f q
+abbrev pub update : {X : Type 0} → (ℕ → X) → ℕ → X → ℕ → X
+update f p x q = if p == q then x else f q
 
 -- f with another value at one bin of one table
-abbrev pub at_bin : {X : Type 0} → (ℕ → ℕ → X) → ℕ → ℕ → X → ℕ → ℕ → X
-at_bin f e i x d j = if e == d && i == j then x else f d j
+abbrev pub update2 : {X : Type 0} → (ℕ → ℕ → X) → ℕ → ℕ → X → ℕ → ℕ → X
+update2 f e i x d j = if e == d && i == j then x else f d j
 
 -- the sum of f at the numbers below n
 abbrev pub total : (ℕ → ℕ) → ℕ → ℕ
@@ -204,30 +204,30 @@ module _ {K V F : Type 0} where
     RefusedAt s c m = ⊥
 
     -- when party p may do this transition
-    abbrev pub Can : State K V F → ℕ → Transition K V F → Type 0
-    Can s p (Begins c from) = (p ≡ s.parties) × ((w : ℕ) → from ≡ Some w → (z : Seen K V) × (s.seen w ≡ Some z) × (c ≡ RemoveSeen z))
-    Can s p Quiet = is_lookup (s.call p) ≡ true → s.mode p ≡ Finished
-    Can s p Loses = ⊤
-    Can s p (Counts whose) = is_lookup (s.call p) ≡ false
-    Can s p (Finds e) = (c : Call K V F) × (s.call p ≡ Some c) × (s.mode p ≡ Locating) × WasPublished s e
-    Can s p (Opens e) = (c : Call K V F) × (s.call p ≡ Some c) × (s.mode p ≡ Locating) × (s.published ≡ None) × MayOpen c e
-    Can s p FindsNothing = (c : Call K V F) × (s.call p ≡ Some c) × (s.mode p ≡ Locating) × (s.published ≡ None) × (IsWalk c ⊎ IsClear c)
-    Can s p IsRefused = (c : Call K V F) × (s.call p ≡ Some c) × (s.claim p ≡ None) × RefusedAt s c (s.mode p)
-    Can s p (DecidesEmpty c r) = (s.call p ≡ Some c) × (s.mode p ≡ Locating) × (s.published ≡ None) × (Adds c → ⊥) × Allows cmp gives c [] r
-    Can s p (Passes e) = (c : Call K V F) × (k : K) × (s.call p ≡ Some c) × (key_of c ≡ Some k) × (s.mode p ≡ Looking e) × (s.slot e (hash k % 2 ^ e) ≡ Moved)
-    Can s p (Decides c k e es n r fs m) = (s.call p ≡ Some c) × (key_of c ≡ Some k) × (s.mode p ≡ Looking e) × (s.claim p ≡ None) × (s.slot e (hash k % 2 ^ e) ≡ Live es n) × BinDid c r es n fs m × InRegion hash e (hash k % 2 ^ e) fs
-    Can s p (Places e) = (s.published ≡ Some e) × (s.growth ≡ None) × (e < MAX_TABLE) × (is_lookup (s.call p) ≡ false)
-    Can s p (Claims e g low) = (s.claim p ≡ None) × (p < s.parties) × (s.published ≡ Some e) × (s.growth ≡ Some g) × (low < g.unclaimed) × (is_lookup (s.call p) ≡ false)
-    Can s p (Moves a i es n) = (s.claim p ≡ Some a) × (a.low ≤ i) × (a.left ≡ suc i) × (s.slot a.table i ≡ Live es n) × (is_lookup (s.call p) ≡ false)
-    Can s p (Reports a g) = (s.claim p ≡ Some a) × (a.left ≡ a.low) × (s.growth ≡ Some g) × (is_lookup (s.call p) ≡ false)
-    Can s p (Publishes e g) = (s.told p ≡ Some e) × (s.published ≡ Some e) × (s.growth ≡ Some g) × (is_lookup (s.call p) ≡ false)
-    Can s p (Reads e i f fs es n x) = (s.mode p ≡ Walking e i (f ∷ fs)) × (s.slot f.table f.index ≡ Live es n) × (first_past cmp hash f.bound es ≡ Some x)
-    Can s p (Leaves e i f fs es n) = (s.mode p ≡ Walking e i (f ∷ fs)) × (s.slot f.table f.index ≡ Live es n) × (first_past cmp hash f.bound es ≡ None)
-    Can s p (Splits e i f fs) = (s.mode p ≡ Walking e i (f ∷ fs)) × (s.slot f.table f.index ≡ Moved)
-    Can s p (Wipes wiped e i f fs es n) = (s.mode p ≡ Clearing wiped e i (f ∷ fs)) × (s.slot f.table f.index ≡ Live es n)
-    Can s p (SplitsClear wiped e i f fs) = (s.mode p ≡ Clearing wiped e i (f ∷ fs)) × (s.slot f.table f.index ≡ Moved)
-    Can s p (Replies r) = (c : Call K V F) × (s.call p ≡ Some c) × IsOneKey c × (s.mode p ≡ Done (Some r) 0 0) × (s.claim p ≡ None)
-    Can s p Ends = (c : Call K V F) × (s.call p ≡ Some c) × IsNone (key_of c) × (s.mode p ≡ Done None 0 0) × (s.claim p ≡ None)
+    abbrev pub Enabled : State K V F → ℕ → Transition K V F → Type 0
+    Enabled s p (Begins c from) = (p ≡ s.parties) × ((w : ℕ) → from ≡ Some w → (z : Seen K V) × (s.seen w ≡ Some z) × (c ≡ RemoveSeen z))
+    Enabled s p Quiet = is_lookup (s.call p) ≡ true → s.mode p ≡ Finished
+    Enabled s p Loses = ⊤
+    Enabled s p (Counts whose) = is_lookup (s.call p) ≡ false
+    Enabled s p (Finds e) = (c : Call K V F) × (s.call p ≡ Some c) × (s.mode p ≡ Locating) × WasPublished s e
+    Enabled s p (Opens e) = (c : Call K V F) × (s.call p ≡ Some c) × (s.mode p ≡ Locating) × (s.published ≡ None) × MayOpen c e
+    Enabled s p FindsNothing = (c : Call K V F) × (s.call p ≡ Some c) × (s.mode p ≡ Locating) × (s.published ≡ None) × (IsWalk c ⊎ IsClear c)
+    Enabled s p IsRefused = (c : Call K V F) × (s.call p ≡ Some c) × (s.claim p ≡ None) × RefusedAt s c (s.mode p)
+    Enabled s p (DecidesEmpty c r) = (s.call p ≡ Some c) × (s.mode p ≡ Locating) × (s.published ≡ None) × (Adds c → ⊥) × Allows cmp gives c [] r
+    Enabled s p (Passes e) = (c : Call K V F) × (k : K) × (s.call p ≡ Some c) × (key_of c ≡ Some k) × (s.mode p ≡ Looking e) × (s.slot e (hash k % 2 ^ e) ≡ Moved)
+    Enabled s p (Decides c k e es n r fs m) = (s.call p ≡ Some c) × (key_of c ≡ Some k) × (s.mode p ≡ Looking e) × (s.claim p ≡ None) × (s.slot e (hash k % 2 ^ e) ≡ Live es n) × BinDid c r es n fs m × InRegion hash e (hash k % 2 ^ e) fs
+    Enabled s p (Places e) = (s.published ≡ Some e) × (s.growth ≡ None) × (e < MAX_TABLE) × (is_lookup (s.call p) ≡ false)
+    Enabled s p (Claims e g low) = (s.claim p ≡ None) × (p < s.parties) × (s.published ≡ Some e) × (s.growth ≡ Some g) × (low < g.unclaimed) × (is_lookup (s.call p) ≡ false)
+    Enabled s p (Moves a i es n) = (s.claim p ≡ Some a) × (a.low ≤ i) × (a.left ≡ suc i) × (s.slot a.table i ≡ Live es n) × (is_lookup (s.call p) ≡ false)
+    Enabled s p (Reports a g) = (s.claim p ≡ Some a) × (a.left ≡ a.low) × (s.growth ≡ Some g) × (is_lookup (s.call p) ≡ false)
+    Enabled s p (Publishes e g) = (s.told p ≡ Some e) × (s.published ≡ Some e) × (s.growth ≡ Some g) × (is_lookup (s.call p) ≡ false)
+    Enabled s p (Reads e i f fs es n x) = (s.mode p ≡ Walking e i (f ∷ fs)) × (s.slot f.table f.index ≡ Live es n) × (first_past cmp hash f.bound es ≡ Some x)
+    Enabled s p (Leaves e i f fs es n) = (s.mode p ≡ Walking e i (f ∷ fs)) × (s.slot f.table f.index ≡ Live es n) × (first_past cmp hash f.bound es ≡ None)
+    Enabled s p (Splits e i f fs) = (s.mode p ≡ Walking e i (f ∷ fs)) × (s.slot f.table f.index ≡ Moved)
+    Enabled s p (Wipes wiped e i f fs es n) = (s.mode p ≡ Clearing wiped e i (f ∷ fs)) × (s.slot f.table f.index ≡ Live es n)
+    Enabled s p (SplitsClear wiped e i f fs) = (s.mode p ≡ Clearing wiped e i (f ∷ fs)) × (s.slot f.table f.index ≡ Moved)
+    Enabled s p (Replies r) = (c : Call K V F) × (s.call p ≡ Some c) × IsOneKey c × (s.mode p ≡ Done (Some r) 0 0) × (s.claim p ≡ None)
+    Enabled s p Ends = (c : Call K V F) × (s.call p ≡ Some c) × IsNone (key_of c) × (s.mode p ≡ Done None 0 0) × (s.claim p ≡ None)
 
     -- where a party goes on that has found table e; nowhere without a call
     abbrev pub found_by : Option (Call K V F) → ℕ → Mode K V
@@ -236,45 +236,45 @@ module _ {K V F : Type 0} where
 
     -- the party in another mode
     abbrev pub goes : State K V F → ℕ → Mode K V → State K V F
-    goes s p m = record s { mode = at_place s.mode p m }
+    goes s p m = record s { mode = update s.mode p m }
 
     -- what the transition does, beside its label
     abbrev pub effect : State K V F → ℕ → Transition K V F → State K V F
     effect s p (Begins c from) = record s {
-      seen = at_place s.seen p None;
-      began_from = at_place s.began_from p from;
+      seen = update s.seen p None;
+      began_from = update s.began_from p from;
       parties = suc p;
-      call = at_place s.call p (Some c);
-      mode = at_place s.mode p Locating;
-      claim = at_place s.claim p None;
-      told = at_place s.told p None;
+      call = update s.call p (Some c);
+      mode = update s.mode p Locating;
+      claim = update s.claim p None;
+      told = update s.told p None;
     }
     effect s p Quiet = s
     effect s p Loses = s
     effect s p (Counts whose) = settle whose s
     effect s p (Finds e) = goes s p (found_by (s.call p) e)
-    effect s p (Opens e) = record s { start = e; published = Some e; slot = λ d j. if e == d && nat_lt j (2 ^ e) then Live [] 0 else s.slot d j; mode = at_place s.mode p (found_by (s.call p) e) }
+    effect s p (Opens e) = record s { start = e; published = Some e; slot = λ d j. if e == d && nat_lt j (2 ^ e) then Live [] 0 else s.slot d j; mode = update s.mode p (found_by (s.call p) e) }
     effect s p FindsNothing = goes s p (Done None 0 0)
     effect s p IsRefused = goes s p Finished
     effect s p (DecidesEmpty c r) = goes s p (Done (Some r) 0 0)
     effect s p (Passes e) = goes s p (Looking (suc e))
-    effect s p (Decides c k e es n r fs m) = record s { slot = at_bin s.slot e (hash k % 2 ^ e) (Live fs m); mode = at_place s.mode p (Done (Some r) (length fs - length es) (length es - length fs)) }
+    effect s p (Decides c k e es n r fs m) = record s { slot = update2 s.slot e (hash k % 2 ^ e) (Live fs m); mode = update s.mode p (Done (Some r) (length fs - length es) (length es - length fs)) }
     effect s p (Places e) = record s { growth = Some (record { unclaimed = 2 ^ e; reported = 0 }) }
-    effect s p (Claims e g low) = record s { growth = Some (record { unclaimed = low; reported = g.reported }); claim = at_place s.claim p (Some (record { table = e; low = low; left = g.unclaimed; high = g.unclaimed })) }
+    effect s p (Claims e g low) = record s { growth = Some (record { unclaimed = low; reported = g.reported }); claim = update s.claim p (Some (record { table = e; low = low; left = g.unclaimed; high = g.unclaimed })) }
     effect s p (Moves a i es n) = record s {
-      slot = at_bin (at_bin (at_bin s.slot a.table i Moved) (suc a.table) i (Live (half hash (suc a.table) i es) n)) (suc a.table) (i + 2 ^ a.table) (Live (half hash (suc a.table) (i + 2 ^ a.table) es) n);
-      claim = at_place s.claim p (Some (record { table = a.table; low = a.low; left = i; high = a.high }));
+      slot = update2 (update2 (update2 s.slot a.table i Moved) (suc a.table) i (Live (half hash (suc a.table) i es) n)) (suc a.table) (i + 2 ^ a.table) (Live (half hash (suc a.table) (i + 2 ^ a.table) es) n);
+      claim = update s.claim p (Some (record { table = a.table; low = a.low; left = i; high = a.high }));
     }
     effect s p (Reports a g) = record s {
       growth = Some (with_report g a);
-      claim = at_place s.claim p None;
-      told = if is_complete a.table (with_report g a) then at_place s.told p (Some a.table) else s.told;
+      claim = update s.claim p None;
+      told = if is_complete a.table (with_report g a) then update s.told p (Some a.table) else s.told;
     }
-    effect s p (Publishes e g) = record s { published = Some (suc e); growth = None; told = at_place s.told p None }
-    effect s p (Reads e i f fs es n x) = record s { seen = at_place s.seen p (Some (record { key = x.key; value = x.value; number = x.number })); mode = at_place s.mode p (Walking e i (record { table = f.table; index = f.index; bound = Some x.key } ∷ fs)) }
+    effect s p (Publishes e g) = record s { published = Some (suc e); growth = None; told = update s.told p None }
+    effect s p (Reads e i f fs es n x) = record s { seen = update s.seen p (Some (record { key = x.key; value = x.value; number = x.number })); mode = update s.mode p (Walking e i (record { table = f.table; index = f.index; bound = Some x.key } ∷ fs)) }
     effect s p (Leaves e i f fs es n) = goes s p (onward Walking (Done None 0 0) e i fs)
     effect s p (Splits e i f fs) = goes s p (Walking e i (halves f fs))
-    effect s p (Wipes wiped e i f fs es n) = record s { slot = at_bin s.slot f.table f.index (Live [] n); mode = at_place s.mode p (onward (Clearing (wiped + length es)) (Done None 0 (wiped + length es)) e i fs) }
+    effect s p (Wipes wiped e i f fs es n) = record s { slot = update2 s.slot f.table f.index (Live [] n); mode = update s.mode p (onward (Clearing (wiped + length es)) (Done None 0 (wiped + length es)) e i fs) }
     effect s p (SplitsClear wiped e i f fs) = goes s p (Clearing wiped e i (halves f fs))
     effect s p (Replies r) = goes s p Finished
     effect s p Ends = goes s p Finished
@@ -302,9 +302,9 @@ module _ {K V F : Type 0} where
     steps_after s p l = if is_some (s.call p) then suc (s.steps p) else s.steps p
 
     -- the transition, as it is done: what it does, the steps of its party, and its label
-    abbrev pub does : State K V F → ℕ → Transition K V F → State K V F
-    does s p l = record (effect s p l) { steps = at_place s.steps p (steps_after s p l); trace = label p l ∷ s.trace }
+    abbrev pub next_state : State K V F → ℕ → Transition K V F → State K V F
+    next_state s p l = record (effect s p l) { steps = update s.steps p (steps_after s p l); trace = label p l ∷ s.trace }
 
     -- one step of party p, or its beginning
     abbrev pub Steps : State K V F → ℕ → State K V F → Type 0
-    Steps s p z = (l : Transition K V F) × Can s p l × (z ≡ does s p l)
+    Steps s p z = (l : Transition K V F) × Enabled s p l × (z ≡ next_state s p l)

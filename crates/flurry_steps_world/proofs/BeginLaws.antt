@@ -18,7 +18,7 @@ pub record IsBeginning {K V F : Type 0} (hash : K → ℕ) (d : Call K V F) (c :
   pub own_hash : (k : K) → key_of d ≡ Some k → c.hash ≡ hash k
   pub follows : FollowsStage hash d c.stage
   pub mode : mode_of_stage c.stage ≡ Locating
-  pub held : held_of_stage c.stage ≡ (None, None)
+  pub plain_entries : held_of_stage c.stage ≡ (None, None)
   pub unread : last_seen c.stage ≡ None
 
 module _ {K V F : Type 0} where
@@ -39,12 +39,12 @@ module _ {K V F : Type 0} where
   -- a call that has its key
   pub owned_begins : (hash : K → ℕ) (n : ℕ) (c : OwnedCall K V F) → IsBeginning hash (plain_of_owned c) (record { hash = hash_of_call hash (plain_of_owned c); processors = n; helped = None; stage = stage_of_call (plain_of_owned c) })
   owned_begins hash n c =
-      let (follows, mode, held, unread) = fresh_stage hash c in
-      record { own_hash = own_hash hash c; follows = follows; mode = mode; held = held; unread = unread }
+      let (follows, mode, plain_entries, unread) = fresh_stage hash c in
+      record { own_hash = own_hash hash c; follows = follows; mode = mode; plain_entries = plain_entries; unread = unread }
 
   -- the removal of a pair that a walk has read
   pub drop_begins : (hash : K → ℕ) (n : ℕ) (z : Seen K V) → IsBeginning {F = F} hash (call.RemoveSeen z) (record { hash = hash z.key; processors = n; helped = None; stage = AtLocate (RemovesSeen z) })
-  drop_begins hash n z = record { own_hash = λ k h. ap hash (same_some h); follows = refl; mode = refl; held = refl; unread = refl }
+  drop_begins hash n z = record { own_hash = λ k h. ap hash (same_some h); follows = refl; mode = refl; plain_entries = refl; unread = refl }
 
   -- the walk with whose last read it begins has read that pair
   pub drop_origin : (xs : List (PartyRecord K V F)) (w : ℕ) (z : Seen K V) → seen_in (slice_get xs w) ≡ Some z → (v : ℕ) → Some w ≡ Some v → (y : Seen K V) × (seen_in (slice_get xs v) ≡ Some y) × (◌≡◌ {A = Call K V F} (call.RemoveSeen z) (call.RemoveSeen y))

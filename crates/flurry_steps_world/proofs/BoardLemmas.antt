@@ -2,7 +2,7 @@
 use Rattle.std.proofs.Common.{◌≡◌, ℕ, ◌+◌, ◌<◌, ◌≤◌, Bool, true, false, List, length, set, get_or, Option, Some, None, refl, sym, ap, subst, ◌∙◌, arith}
 use Rattle.std.specs.Prelude.{MatchOption, nat_lt, if◌then◌else◌}
 use Rattle.std.proofs.lemmas.List.{get_or_past, length-map}
-use Rattle.flurry_steps_claims.specs.PlainBoard.{PlainBoardState, unclaimed_of, has_seat, attempt_of, reports_last, after_take, after_attempt, after_report, after_give}
+use Rattle.flurry_steps_claims.specs.PlainBoard.{PlainBoardState, unclaimed_of, has_seat, attempt_of, reports_last, board_after_take, after_attempt, after_report, after_give}
 use Rattle.flurry_steps_claims.specs.Range.{Bounds, range_at}
 use Rattle.flurry_steps_claims.specs.declared.range.Attempt.{Attempt}
 use Rattle.flurry_steps_claims.specs.declared.range.Attempt.TheVariants.{Got, Nothing}
@@ -24,7 +24,7 @@ attempt_is d e same = by_left (nat_lt 0 (unclaimed_of d))
 module _ {K V : Type 0} where
   module _ (t t' : Tables K V) (e : ℕ) where
     pub no_seat : board_at t e ≡ None → t' ≡ t → BoardGives e (Seated false) t t'
-    no_seat none stays = subst (λ o. MatchOption o ((false ≡ false) × (t' ≡ t)) (λ d. (false ≡ has_seat d) × (t' ≡ put_board t e (after_take d)))) (sym none) (refl, stays)
+    no_seat none stays = subst (λ o. MatchOption o ((false ≡ false) × (t' ≡ t)) (λ d. (false ≡ has_seat d) × (t' ≡ put_board t e (board_after_take d)))) (sym none) (refl, stays)
 
     pub no_claim : board_at t e ≡ None → t' ≡ t → BoardGives e (Attempted Nothing) t t'
     no_claim none stays = subst (λ o. MatchOption o ((Nothing ≡ Nothing) × (t' ≡ t)) (λ d. (Nothing ≡ attempt_of d) × (t' ≡ put_board t e (after_attempt d)))) (sym none) (refl, stays)
@@ -36,8 +36,8 @@ module _ {K V : Type 0} where
     no_give none stays = subst (λ o. MatchOption o (t' ≡ t) (λ d. t' ≡ put_board t e (after_give d))) (sym none) stays
 
     module _ (d : PlainBoardState) (at : board_at t e ≡ Some d) where
-      pub seat_taken : (got : Bool) → got ≡ has_seat d → t' ≡ put_board t e (after_take d) → BoardGives e (Seated got) t t'
-      seat_taken got is after = subst (λ o. MatchOption o ((got ≡ false) × (t' ≡ t)) (λ d. (got ≡ has_seat d) × (t' ≡ put_board t e (after_take d)))) (sym at) (is, after)
+      pub seat_taken : (got : Bool) → got ≡ has_seat d → t' ≡ put_board t e (board_after_take d) → BoardGives e (Seated got) t t'
+      seat_taken got is after = subst (λ o. MatchOption o ((got ≡ false) × (t' ≡ t)) (λ d. (got ≡ has_seat d) × (t' ≡ put_board t e (board_after_take d)))) (sym at) (is, after)
 
       pub attempted : (x : Attempt) → x ≡ attempt_of d → t' ≡ put_board t e (after_attempt d) → BoardGives e (Attempted x) t t'
       attempted x is after = subst (λ o. MatchOption o ((x ≡ Nothing) × (t' ≡ t)) (λ d. (x ≡ attempt_of d) × (t' ≡ put_board t e (after_attempt d)))) (sym at) (is, after)

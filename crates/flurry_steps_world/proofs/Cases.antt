@@ -59,10 +59,10 @@ module _ {K V F S : Type 0} (cmp : K → K → Ordering) (total : IsTotalOrder c
   }
 
   -- a step that counts
-  pub counts : (s : Stage K V F) (r : Outcome K V) (added removed : ℕ) (d : ℤ) → x.party_state.stage ≡ s → mode_of_stage s ≡ Done (reply_in r) added removed → held_of_stage s ≡ (None, None) → Near (2 ^ 62) w.control_state.count → d ≡ pos added -ℤ pos removed → added + removed ≤ 1
+  pub is_counting : (s : Stage K V F) (r : Outcome K V) (added removed : ℕ) (d : ℤ) → x.party_state.stage ≡ s → mode_of_stage s ≡ Done (reply_in r) added removed → held_of_stage s ≡ (None, None) → Near (2 ^ 62) w.control_state.count → d ≡ pos added -ℤ pos removed → added + removed ≤ 1
       → mode_of_stage c.stage ≡ Done (reply_in r) 0 0 → held_of_stage c.stage ≡ (None, None) → is_lookup (Some x.call) ≡ false → FollowsStage hash x.call c.stage
       → IsStep cmp hash gives w p x (control.after_count d w.control_state) w.tables c (label.Silent p)
-  counts s r added removed d e before none near delta small mode claim lookup follows = record {
+  is_counting s r added removed d e before none near delta small mode claim lookup follows = record {
     transition = Counts (λ q. p == q);
     can = no_lookup lookup;
     is = is_counted cmp hash gives w p x at c (reply_in r) added removed _ (in_mode s e ∙ before) summed mode (claim ∙ sym (ap held_of_stage e ∙ none));

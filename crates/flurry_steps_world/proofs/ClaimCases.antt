@@ -5,7 +5,7 @@ use Rattle.std.specs.Cmp.{IsTotalOrder}
 use Rattle.std.proofs.Common.{arith, refl, sym, ◌∙◌, ap, subst, inl, inr}
 use Rattle.std.proofs.lemmas.Bool.{cases_eq, eq-eqb, ltb-true, ltb-false, le-leb}
 use Rattle.std.proofs.lemmas.Option.{slice_get_within}
-use Rattle.flurry_steps_claims.specs.PlainBoard.{PlainBoardState, unclaimed_of, attempt_of, has_seat, can_report, reports_last, after_take, after_attempt, after_report, after_give}
+use Rattle.flurry_steps_claims.specs.PlainBoard.{PlainBoardState, unclaimed_of, attempt_of, has_seat, can_report, reports_last, board_after_take, after_attempt, after_report, after_give}
 use Rattle.flurry_steps_claims.specs.Range.{Bounds, range_at}
 use Rattle.flurry_steps_claims.specs.declared.range.Attempt.{Attempt}
 use Rattle.flurry_steps_claims.specs.declared.range.Attempt.TheVariants.{Got, Nothing}
@@ -69,8 +69,8 @@ module _ {K V F S : Type 0} (cmp : K → K → Ordering) (order : IsTotalOrder c
     module _ (h : Help) (f : x.party_state.stage ≡ AtHelp h a) (none : held_of_stage {F = F} (AtHelp h a) ≡ (None, None)) where
       rests : (o : Option Help) → c.stage ≡ stage_helping o a → held_of_stage {F = F} (stage_helping o a) ≡ (None, None) → GoesTo w.tables
       rests None g free =
-          let (mode, held, follows) = resumed_as hash x.call a had in
-          quiet cmp order hash lawful gives w k p x at c (AtHelp h a) f (ap mode_of_stage g ∙ mode) (ap held_of_stage g ∙ held ∙ sym none) (helper_writes x.call a had) (subst (FollowsStage hash x.call) (sym g) follows)
+          let (mode, plain_entries, follows) = resumed_as hash x.call a had in
+          quiet cmp order hash lawful gives w k p x at c (AtHelp h a) f (ap mode_of_stage g ∙ mode) (ap held_of_stage g ∙ plain_entries ∙ sym none) (helper_writes x.call a had) (subst (FollowsStage hash x.call) (sym g) follows)
       rests (Some n) g free =
           quiet cmp order hash lawful gives w k p x at c (AtHelp h a) f (ap mode_of_stage g) (ap held_of_stage g ∙ free ∙ sym none) (helper_writes x.call a had) (subst (FollowsStage hash x.call) (sym g) had)
 
@@ -93,9 +93,9 @@ module _ {K V F S : Type 0} (cmp : K → K → Ordering) (order : IsTotalOrder c
         free true = refl
         free false = (resumed_as hash x.call a had).1
 
-        by_board : (o : Option PlainBoardState) → board_at w.tables e ≡ o → MatchOption o ((got ≡ false) × (t' ≡ w.tables)) (λ d. (got ≡ has_seat d) × (t' ≡ put_board w.tables e (after_take d))) → GoesTo t'
+        by_board : (o : Option PlainBoardState) → board_at w.tables e ≡ o → MatchOption o ((got ≡ false) × (t' ≡ w.tables)) (λ d. (got ≡ has_seat d) × (t' ≡ put_board w.tables e (board_after_take d))) → GoesTo t'
         by_board None is h = subst GoesTo (sym h.1) (rests (WantsSeat e) f refl _ g (free got))
-        by_board (Some d) is h = subst GoesTo (sym h.1) (rests_at (WantsSeat e) f refl _ g (free got) e d (after_take d) is refl refl)
+        by_board (Some d) is h = subst GoesTo (sym h.1) (rests_at (WantsSeat e) f refl _ g (free got) e d (board_after_take d) is refl refl)
 
     gives_back : (e : ℕ) (t' : Tables K V) → x.party_state.stage ≡ AtHelp (GivesBack e) a → c.stage ≡ resumed_stage a → BoardGives e TakenBack w.tables t' → GoesTo t'
     gives_back e t' f g gave = by_board (board_at w.tables e) refl gave
@@ -262,7 +262,7 @@ module _ {K V F S : Type 0} (cmp : K → K → Ordering) (order : IsTotalOrder c
             hashed = k.hashed;
             control_state = record { published = omega (arith, below); growth = tt };
             tables = k.tables;
-            unmade = λ z. cc;
+            no_table = λ z. cc;
             next = λ d z. cc;
             running = λ d z. cc;
             over = λ d r there _. all_claimed d r there (cases_eq d e);

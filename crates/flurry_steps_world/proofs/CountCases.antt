@@ -30,7 +30,7 @@ use Rattle.flurry_steps_world.proofs.TransitionLaws.{is_placed, is_refused}
 use Rattle.flurry_steps_world.proofs.PlaceLaws.{refused_place}
 use Rattle.flurry_steps_world.proofs.TableLaws.{AreTables-placed, not_made, is_made-placed, content_at-placed, board_at-begun, board_at-begun_other}
 use Rattle.flurry_steps_world.proofs.Frames.{same_frame, IsStep}
-use Rattle.flurry_steps_world.proofs.Cases.{calls, in_mode, in_claim, no_lookup, settled, quiet, counts}
+use Rattle.flurry_steps_world.proofs.Cases.{calls, in_mode, in_claim, no_lookup, settled, quiet, is_counting}
 use Rattle.flurry_base.specs.declared.sizes.TheConstants.{MAX_TABLE}
 
 -- a growth that can begin
@@ -86,7 +86,7 @@ module _ {K V F S : Type 0} (cmp : K → K → Ordering) (total : IsTotalOrder c
           hashed = λ d i l h. k.hashed d i l (sym (contents d i) ∙ h);
           control_state = record { published = k.control_state.published; growth = (may.0, may.2) };
           tables = AreTables-placed w.tables (e + 1) (Some n) true t k.tables (omega (arith, may.2)) made;
-          unmade = λ h. let no : None ≡ Some e = sym h ∙ may.0 in cc;
+          no_table = λ h. let no : None ≡ Some e = sym h ∙ may.0 in cc;
           next = λ d h g. not_made (slots_of t (e + 1)) (is_made-placed w.tables (e + 1) (Some n) t k.tables (omega (arith, may.2)) made) (subst (λ n. slots_of t n ≡ []) (ap suc (sym (same_some h)) ∙ sym next_table) g);
           running = λ d h. ap is_some (ap (board_at t) (sym (same_some h)) ∙ board);
           over = λ d r there idle. left d r there (λ here. idle (ap Some (sym here)));
@@ -115,21 +115,21 @@ module _ {K V F S : Type 0} (cmp : K → K → Ordering) (total : IsTotalOrder c
     pub uncounts : (r : Outcome K V) → x.party_state.stage ≡ AtUncount r → HasDecided x.call r → Near (2 ^ 62) w.control_state.count → (ev ≡ event.Silent) × (c.stage ≡ AtDone r) × (b ≡ after_count (negsuc 0) w.control_state) × (t' ≡ w.tables) → IsStep cmp hash gives w p x b t' c (label_of p ev c.stage)
     uncounts r f had near h =
         settled cmp total hash lawful gives w k p x at c ev event.Silent (AtDone r) b (after_count (negsuc 0) w.control_state) t' w.tables h.0 h.1 h.2 h.3
-        (counts cmp total hash lawful gives w k p x at c (AtUncount r) r 0 1 (negsuc 0) f refl refl near refl (omega arith) (ap mode_of_stage h.1 ∙ done_mode x.call r had.reply) (ap held_of_stage h.1) had.writes (subst (FollowsStage hash x.call) (sym h.1) (done_follows hash x.call r had)))
+        (is_counting cmp total hash lawful gives w k p x at c (AtUncount r) r 0 1 (negsuc 0) f refl refl near refl (omega arith) (ap mode_of_stage h.1 ∙ done_mode x.call r had.reply) (ap held_of_stage h.1) had.writes (subst (FollowsStage hash x.call) (sym h.1) (done_follows hash x.call r had)))
 
     pub counts_one : (r : Outcome K V) → x.party_state.stage ≡ AtCount r → HasDecided x.call r → Near (2 ^ 62) w.control_state.count → (ev ≡ event.Silent) × (c.stage ≡ stage_advised x.party_state.helped w.control_state.published r (control.advice_of (after_count (pos 1) w.control_state))) × (b ≡ after_count (pos 1) w.control_state) × (t' ≡ w.tables)
         → IsStep cmp hash gives w p x b t' c (label_of p ev c.stage)
     counts_one r f had near h =
         let (mode, claim, follows) = advised hash x.call x.party_state.helped w.control_state.published r (control.advice_of (after_count (pos 1) w.control_state)) had in
         settled cmp total hash lawful gives w k p x at c ev event.Silent _ b (after_count (pos 1) w.control_state) t' w.tables h.0 h.1 h.2 h.3
-        (counts cmp total hash lawful gives w k p x at c (AtCount r) r 1 0 (pos 1) f refl refl near refl (omega arith) (ap mode_of_stage h.1 ∙ mode) (ap held_of_stage h.1 ∙ claim) had.writes (subst (FollowsStage hash x.call) (sym h.1) follows))
+        (is_counting cmp total hash lawful gives w k p x at c (AtCount r) r 1 0 (pos 1) f refl refl near refl (omega arith) (ap mode_of_stage h.1 ∙ mode) (ap held_of_stage h.1 ∙ claim) had.writes (subst (FollowsStage hash x.call) (sym h.1) follows))
 
     pub recounts : (r : Outcome K V) → x.party_state.stage ≡ AtRecount r → HasDecided x.call r → Near (2 ^ 62) w.control_state.count → (ev ≡ event.Silent) × (c.stage ≡ stage_advised x.party_state.helped w.control_state.published r (control.advice_of (after_count (pos 0) w.control_state))) × (b ≡ after_count (pos 0) w.control_state) × (t' ≡ w.tables)
         → IsStep cmp hash gives w p x b t' c (label_of p ev c.stage)
     recounts r f had near h =
         let (mode, claim, follows) = advised hash x.call x.party_state.helped w.control_state.published r (control.advice_of (after_count (pos 0) w.control_state)) had in
         settled cmp total hash lawful gives w k p x at c ev event.Silent _ b (after_count (pos 0) w.control_state) t' w.tables h.0 h.1 h.2 h.3
-        (counts cmp total hash lawful gives w k p x at c (AtRecount r) r 0 0 (pos 0) f refl refl near refl (omega arith) (ap mode_of_stage h.1 ∙ mode) (ap held_of_stage h.1 ∙ claim) had.writes (subst (FollowsStage hash x.call) (sym h.1) follows))
+        (is_counting cmp total hash lawful gives w k p x at c (AtRecount r) r 0 0 (pos 0) f refl refl near refl (omega arith) (ap mode_of_stage h.1 ∙ mode) (ap held_of_stage h.1 ∙ claim) had.writes (subst (FollowsStage hash x.call) (sym h.1) follows))
 
     -- a growth that was advised
     pub begins : (e : ℕ) (r : Outcome K V) → x.party_state.stage ≡ AtBegin e r → HasDecided x.call r → (a : BeginOutcome) × BeginGives PlaceGives x.party_state.processors e w.control_state w.tables a b t' × (ev ≡ event_begun e a) × (c.stage ≡ stage_begun e r a) → IsStep cmp hash gives w p x b t' c (label_of p ev c.stage)

@@ -29,10 +29,10 @@ use Rattle.flurry_base.specs.declared.call.Seen.{Seen}
 use Rattle.flurry_base.specs.declared.call.Call.{Call}
 use Rattle.flurry_base.specs.declared.call.Call.TheVariants.{Get, GetKeyValue, ContainsKey, Insert, TryInsert, Compute, Remove, RemoveEntry, RemoveSeen, Clear}
 use Rattle.flurry_steps_theory.proofs.BinSteps.{bin_did}
-use Rattle.flurry_steps_world.specs.Entries.{entries_of_held, IsHashed}
+use Rattle.flurry_steps_world.specs.Entries.{machine_entries, IsHashed}
 use Rattle.flurry_steps_world.specs.World.{mode_of_stage, HasDecided, FollowsStage}
 use Rattle.flurry_steps_world.proofs.StateLaws.{held_of_stage}
-use Rattle.flurry_steps_world.proofs.EntryLaws.{next_number-bump, length-entries_of_held, InRegion-entries, IsAscending-entries, find-entries, number-entries, place-entries, rewrite-entries, write-entries, leave_out-none, leave_out-entries, IsHashed-with_pair, IsHashed-without}
+use Rattle.flurry_steps_world.proofs.EntryLaws.{next_number-bump, length-machine_entries, InRegion-entries, IsAscending-entries, find-entries, number-entries, place-entries, rewrite-entries, write-entries, leave_out-none, leave_out-entries, IsHashed-with_pair, IsHashed-without}
 
 -- ---- where a call stands that has decided
 
@@ -66,10 +66,10 @@ module _ {K V F : Type 0} (hash : K → ℕ) where
 pub record Decision {K V F : Type 0} (cmp : K → K → Ordering) (hash : K → ℕ) (gives : F → K → V → Option V → Type 0) (c : Call K V F) (b : Live K V) (s : Stage K V F) (d : Live K V) (e i : ℕ) : Type 0 where
   pub reply : KeptReply K V
   pub said : outcome_in s ≡ Some (OutcomeReply reply)
-  pub did : BinDid cmp hash gives c reply (entries_of_held b.held) b.writes (entries_of_held d.held) d.writes
-  pub in_region : InRegion hash e i (entries_of_held d.held)
-  pub hashed : IsHashed hash d.held
-  pub mode : mode_of_stage s ≡ Done (Some reply) (length (entries_of_held d.held) - length (entries_of_held b.held)) (length (entries_of_held b.held) - length (entries_of_held d.held))
+  pub did : BinDid cmp hash gives c reply (machine_entries b.plain_entries) b.writes (machine_entries d.plain_entries) d.writes
+  pub in_region : InRegion hash e i (machine_entries d.plain_entries)
+  pub hashed : IsHashed hash d.plain_entries
+  pub mode : mode_of_stage s ≡ Done (Some reply) (length (machine_entries d.plain_entries) - length (machine_entries b.plain_entries)) (length (machine_entries b.plain_entries) - length (machine_entries d.plain_entries))
   pub claim : held_of_stage s ≡ (None, None)
   pub follows : FollowsStage hash c s
 
@@ -91,33 +91,33 @@ module _ {K V : Type 0} where
 
 module _ {K V F : Type 0} (cmp : K → K → Ordering) (total : IsTotalOrder cmp) (hash : K → ℕ) (lawful : (j k : K) → same cmp j k ≡ true → hash j ≡ hash k) (gives : F → K → V → Option V → Type 0) where
   -- a live bin whose entries ascend, each at the hash of its key, in region (e, i), and whose count of writes is at most the greatest
-  module _ (b : Live K V) (e i : ℕ) (up : IsFiniteMap (hash_then_key cmp) b.held) (hd : IsHashed hash b.held) (room : b.writes ≤ 2 ^ 64 - 1) (lies : AllByRecursion (λ (k : ℕ × K). region.InRegion e i k.0) (keys_of b.held)) where
+  module _ (b : Live K V) (e i : ℕ) (up : IsFiniteMap (hash_then_key cmp) b.plain_entries) (hd : IsHashed hash b.plain_entries) (room : b.writes ≤ 2 ^ 64 - 1) (lies : AllByRecursion (λ (k : ℕ × K). region.InRegion e i k.0) (keys_of b.plain_entries)) where
     -- a conditional removal removes exactly if the number is the one that was seen
     abbrev IsJudged : Call K V F → KeptReply K V → Type 0
-    IsJudged c r = (z : Seen K V) → c ≡ RemoveSeen z → removes cmp hash gives r ≡ has_number (number_of cmp (entries_of_held b.held) z.key) z.number
+    IsJudged c r = (z : Seen K V) → c ≡ RemoveSeen z → removes cmp hash gives r ≡ has_number (number_of cmp (machine_entries b.plain_entries) z.key) z.number
 
     -- no other call is asked
     unjudged : (c : Call K V F) (r : KeptReply K V) → is_conditional c ≡ false → IsJudged c r
     unjudged c r other z h = let no : true ≡ false = ap is_conditional (sym h) ∙ other in cc
 
     -- the machine's bin after the call is this one
-    did_at : (c : Call K V F) (r : KeptReply K V) (d : Live K V) → IsJudged c r → Allows cmp gives c (pairs_of (entries_of_held b.held)) r → bin_after cmp hash c r (entries_of_held b.held) b.writes ≡ (entries_of_held d.held, d.writes)
-        → BinDid cmp hash gives c r (entries_of_held b.held) b.writes (entries_of_held d.held) d.writes
+    did_at : (c : Call K V F) (r : KeptReply K V) (d : Live K V) → IsJudged c r → Allows cmp gives c (pairs_of (machine_entries b.plain_entries)) r → bin_after cmp hash c r (machine_entries b.plain_entries) b.writes ≡ (machine_entries d.plain_entries, d.writes)
+        → BinDid cmp hash gives c r (machine_entries b.plain_entries) b.writes (machine_entries d.plain_entries) d.writes
     did_at c r d judged allowed after =
-        subst (λ (p : List (Entry K V) × ℕ). BinDid cmp hash gives c r (entries_of_held b.held) b.writes p.0 p.1) after
-        (bin_did cmp total hash lawful gives c r (entries_of_held b.held) b.writes (IsAscending-entries cmp total hash lawful b.held up hd) allowed judged)
+        subst (λ (p : List (Entry K V) × ℕ). BinDid cmp hash gives c r (machine_entries b.plain_entries) b.writes p.0 p.1) after
+        (bin_did cmp total hash lawful gives c r (machine_entries b.plain_entries) b.writes (IsAscending-entries cmp total hash lawful b.plain_entries up hd) allowed judged)
 
     -- ---- the bin stays
 
-    decision_kept : (c : Call K V F) (r : KeptReply K V) (s : Stage K V F) → HasReply hash c r s 0 0 → IsJudged c r → Allows cmp gives c (pairs_of (entries_of_held b.held)) r
-        → bin_after cmp hash c r (entries_of_held b.held) b.writes ≡ (entries_of_held b.held, b.writes) → Decision cmp hash gives c b s b e i
+    decision_kept : (c : Call K V F) (r : KeptReply K V) (s : Stage K V F) → HasReply hash c r s 0 0 → IsJudged c r → Allows cmp gives c (pairs_of (machine_entries b.plain_entries)) r
+        → bin_after cmp hash c r (machine_entries b.plain_entries) b.writes ≡ (machine_entries b.plain_entries, b.writes) → Decision cmp hash gives c b s b e i
     decision_kept c r s stands judged allowed after =
-        let same_length : length (entries_of_held b.held) - length (entries_of_held b.held) ≡ 0 = omega arith in
+        let same_length : length (machine_entries b.plain_entries) - length (machine_entries b.plain_entries) ≡ 0 = omega arith in
         record {
           reply = r;
           said = stands.said;
           did = did_at c r b judged allowed after;
-          in_region = InRegion-entries hash e i b.held hd lies;
+          in_region = InRegion-entries hash e i b.plain_entries hd lies;
           hashed = hd;
           mode = rw same_length (stands.mode);
           claim = stands.claim;
@@ -126,30 +126,30 @@ module _ {K V F : Type 0} (cmp : K → K → Ordering) (total : IsTotalOrder cmp
 
     -- ---- an entry is taken out, if it is there
 
-    lost_by : (k : K) → length (entries_of_held b.held) - length (entries_of_held (after_take cmp b (hash k) k).held) ≡ cond (is_some (entry_of_live cmp b (hash k) k)) 1 0
-    lost_by k = rw (length-entries_of_held b.held, length-entries_of_held (after_take cmp b (hash k) k).held) (by_found (entry_of_live cmp b (hash k) k) refl (length-without (hash_then_key_total total) b.held (hash k, k)))
+    lost_by : (k : K) → length (machine_entries b.plain_entries) - length (machine_entries (after_take cmp b (hash k) k).plain_entries) ≡ cond (is_some (entry_of_live cmp b (hash k) k)) 1 0
+    lost_by k = rw (length-machine_entries b.plain_entries, length-machine_entries (after_take cmp b (hash k) k).plain_entries) (by_found (entry_of_live cmp b (hash k) k) refl (length-without (hash_then_key_total total) b.plain_entries (hash k, k)))
       where
-        by_found : (o : Option (PlainEntry K V)) → entry_of_live cmp b (hash k) k ≡ o → length (without (hash_then_key cmp) b.held (hash k, k)) ≡ cond (is_some (entry_of_live cmp b (hash k) k)) (length b.held - 1) (length b.held)
-            → length b.held - length (without (hash_then_key cmp) b.held (hash k, k)) ≡ cond (is_some (entry_of_live cmp b (hash k) k)) 1 0
+        by_found : (o : Option (PlainEntry K V)) → entry_of_live cmp b (hash k) k ≡ o → length (without (hash_then_key cmp) b.plain_entries (hash k, k)) ≡ cond (is_some (entry_of_live cmp b (hash k) k)) (length b.plain_entries - 1) (length b.plain_entries)
+            → length b.plain_entries - length (without (hash_then_key cmp) b.plain_entries (hash k, k)) ≡ cond (is_some (entry_of_live cmp b (hash k) k)) 1 0
         by_found None p n = let m = rw p at n in rw p (omega arith)
-        by_found (Some x) p n = let m = rw p at n in let some = found_in (hash_then_key_total total) b.held (hash k, k) x p in rw p (omega arith)
+        by_found (Some x) p n = let m = rw p at n in let some = found_in (hash_then_key_total total) b.plain_entries (hash k, k) x p in rw p (omega arith)
 
-    none_gained : (k : K) → length (entries_of_held (after_take cmp b (hash k) k).held) - length (entries_of_held b.held) ≡ 0
-    none_gained k = rw (length-entries_of_held b.held, length-entries_of_held (after_take cmp b (hash k) k).held) (by_found (is_some (entry_of_live cmp b (hash k) k)) (length-without (hash_then_key_total total) b.held (hash k, k)))
+    none_gained : (k : K) → length (machine_entries (after_take cmp b (hash k) k).plain_entries) - length (machine_entries b.plain_entries) ≡ 0
+    none_gained k = rw (length-machine_entries b.plain_entries, length-machine_entries (after_take cmp b (hash k) k).plain_entries) (by_found (is_some (entry_of_live cmp b (hash k) k)) (length-without (hash_then_key_total total) b.plain_entries (hash k, k)))
       where
-        by_found : (t : Bool) → length (without (hash_then_key cmp) b.held (hash k, k)) ≡ cond t (length b.held - 1) (length b.held) → length (without (hash_then_key cmp) b.held (hash k, k)) - length b.held ≡ 0
+        by_found : (t : Bool) → length (without (hash_then_key cmp) b.plain_entries (hash k, k)) ≡ cond t (length b.plain_entries - 1) (length b.plain_entries) → length (without (hash_then_key cmp) b.plain_entries (hash k, k)) - length b.plain_entries ≡ 0
         by_found true n = omega arith
         by_found false n = omega arith
 
-    decision_taken : (c : Call K V F) (r : KeptReply K V) (s : Stage K V F) (k : K) → HasReply hash c r s 0 (cond (is_some (entry_of_live cmp b (hash k) k)) 1 0) → IsJudged c r → Allows cmp gives c (pairs_of (entries_of_held b.held)) r
-        → bin_after cmp hash c r (entries_of_held b.held) b.writes ≡ (leave_out cmp hash k (entries_of_held b.held), b.writes) → Decision cmp hash gives c b s (after_take cmp b (hash k) k) e i
+    decision_taken : (c : Call K V F) (r : KeptReply K V) (s : Stage K V F) (k : K) → HasReply hash c r s 0 (cond (is_some (entry_of_live cmp b (hash k) k)) 1 0) → IsJudged c r → Allows cmp gives c (pairs_of (machine_entries b.plain_entries)) r
+        → bin_after cmp hash c r (machine_entries b.plain_entries) b.writes ≡ (leave_out cmp hash k (machine_entries b.plain_entries), b.writes) → Decision cmp hash gives c b s (after_take cmp b (hash k) k) e i
     decision_taken c r s k stands judged allowed after =
-        let hashed : IsHashed hash (after_take cmp b (hash k) k).held = IsHashed-without cmp total hash lawful b.held k hd in
+        let hashed : IsHashed hash (after_take cmp b (hash k) k).plain_entries = IsHashed-without cmp total hash lawful b.plain_entries k hd in
         record {
           reply = r;
           said = stands.said;
-          did = did_at c r (after_take cmp b (hash k) k) judged allowed (after ∙ ap (λ (es : List (Entry K V)). (es, b.writes)) (sym (leave_out-entries cmp total hash lawful b.held k up hd)));
-          in_region = InRegion-entries hash e i (after_take cmp b (hash k) k).held hashed (all_without (hash_then_key_total total) (λ (q : ℕ × K). region.InRegion e i q.0) b.held (hash k, k) lies);
+          did = did_at c r (after_take cmp b (hash k) k) judged allowed (after ∙ ap (λ (es : List (Entry K V)). (es, b.writes)) (sym (leave_out-entries cmp total hash lawful b.plain_entries k up hd)));
+          in_region = InRegion-entries hash e i (after_take cmp b (hash k) k).plain_entries hashed (all_without (hash_then_key_total total) (λ (q : ℕ × K). region.InRegion e i q.0) b.plain_entries (hash k, k) lies);
           hashed = hashed;
           mode = rw (none_gained k, lost_by k) (stands.mode);
           claim = stands.claim;
@@ -158,36 +158,36 @@ module _ {K V F : Type 0} (cmp : K → K → Ordering) (total : IsTotalOrder cmp
 
     -- ---- a value is written
 
-    lengths_written : (k : K) (u : V × ℕ) → length (with_pair (hash_then_key cmp) b.held (hash k, k) u) ≡ cond (is_some (entry_of_live cmp b (hash k) k)) (length b.held) (length b.held + 1)
-    lengths_written k u = length-with_pair (hash_then_key_total total) b.held (hash k, k) u up
+    lengths_written : (k : K) (u : V × ℕ) → length (with_pair (hash_then_key cmp) b.plain_entries (hash k, k) u) ≡ cond (is_some (entry_of_live cmp b (hash k) k)) (length b.plain_entries) (length b.plain_entries + 1)
+    lengths_written k u = length-with_pair (hash_then_key_total total) b.plain_entries (hash k, k) u up
 
-    gained_by : (bins : ℕ) (k : K) (v : V) → length (entries_of_held (after_write cmp bins b (hash k) k v).held) - length (entries_of_held b.held) ≡ cond (is_some (entry_of_live cmp b (hash k) k)) 0 1
-    gained_by bins k v = rw (length-entries_of_held b.held, length-entries_of_held (after_write cmp bins b (hash k) k v).held) (by_found (is_some (entry_of_live cmp b (hash k) k)) (lengths_written k (v, next_number b.writes)))
+    gained_by : (bins : ℕ) (k : K) (v : V) → length (machine_entries (after_write cmp bins b (hash k) k v).plain_entries) - length (machine_entries b.plain_entries) ≡ cond (is_some (entry_of_live cmp b (hash k) k)) 0 1
+    gained_by bins k v = rw (length-machine_entries b.plain_entries, length-machine_entries (after_write cmp bins b (hash k) k v).plain_entries) (by_found (is_some (entry_of_live cmp b (hash k) k)) (lengths_written k (v, next_number b.writes)))
       where
-        by_found : (t : Bool) → length (with_pair (hash_then_key cmp) b.held (hash k, k) (v, next_number b.writes)) ≡ cond t (length b.held) (length b.held + 1)
-            → length (with_pair (hash_then_key cmp) b.held (hash k, k) (v, next_number b.writes)) - length b.held ≡ cond t 0 1
+        by_found : (t : Bool) → length (with_pair (hash_then_key cmp) b.plain_entries (hash k, k) (v, next_number b.writes)) ≡ cond t (length b.plain_entries) (length b.plain_entries + 1)
+            → length (with_pair (hash_then_key cmp) b.plain_entries (hash k, k) (v, next_number b.writes)) - length b.plain_entries ≡ cond t 0 1
         by_found true n = omega arith
         by_found false n = omega arith
 
-    none_lost : (bins : ℕ) (k : K) (v : V) → length (entries_of_held b.held) - length (entries_of_held (after_write cmp bins b (hash k) k v).held) ≡ 0
-    none_lost bins k v = rw (length-entries_of_held b.held, length-entries_of_held (after_write cmp bins b (hash k) k v).held) (by_found (is_some (entry_of_live cmp b (hash k) k)) (lengths_written k (v, next_number b.writes)))
+    none_lost : (bins : ℕ) (k : K) (v : V) → length (machine_entries b.plain_entries) - length (machine_entries (after_write cmp bins b (hash k) k v).plain_entries) ≡ 0
+    none_lost bins k v = rw (length-machine_entries b.plain_entries, length-machine_entries (after_write cmp bins b (hash k) k v).plain_entries) (by_found (is_some (entry_of_live cmp b (hash k) k)) (lengths_written k (v, next_number b.writes)))
       where
-        by_found : (t : Bool) → length (with_pair (hash_then_key cmp) b.held (hash k, k) (v, next_number b.writes)) ≡ cond t (length b.held) (length b.held + 1)
-            → length b.held - length (with_pair (hash_then_key cmp) b.held (hash k, k) (v, next_number b.writes)) ≡ 0
+        by_found : (t : Bool) → length (with_pair (hash_then_key cmp) b.plain_entries (hash k, k) (v, next_number b.writes)) ≡ cond t (length b.plain_entries) (length b.plain_entries + 1)
+            → length b.plain_entries - length (with_pair (hash_then_key cmp) b.plain_entries (hash k, k) (v, next_number b.writes)) ≡ 0
         by_found true n = omega arith
         by_found false n = omega arith
 
     decision_written : (c : Call K V F) (r : KeptReply K V) (s : Stage K V F) (bins : ℕ) (k : K) (v : V) → HasReply hash c r s (cond (is_some (entry_of_live cmp b (hash k) k)) 0 1) 0 → IsJudged c r
-        → Allows cmp gives c (pairs_of (entries_of_held b.held)) r → region.InRegion e i (hash k)
-        → bin_after cmp hash c r (entries_of_held b.held) b.writes ≡ (entries_of_held (with_pair (hash_then_key cmp) b.held (hash k, k) (v, bump b.writes)), bump b.writes)
+        → Allows cmp gives c (pairs_of (machine_entries b.plain_entries)) r → region.InRegion e i (hash k)
+        → bin_after cmp hash c r (machine_entries b.plain_entries) b.writes ≡ (machine_entries (with_pair (hash_then_key cmp) b.plain_entries (hash k, k) (v, bump b.writes)), bump b.writes)
         → Decision cmp hash gives c b s (after_write cmp bins b (hash k) k v) e i
     decision_written c r s bins k v stands judged allowed here after =
-        let hashed : IsHashed hash (after_write cmp bins b (hash k) k v).held = IsHashed-with_pair cmp total hash lawful b.held k v (next_number b.writes) hd in
+        let hashed : IsHashed hash (after_write cmp bins b (hash k) k v).plain_entries = IsHashed-with_pair cmp total hash lawful b.plain_entries k v (next_number b.writes) hd in
         record {
           reply = r;
           said = stands.said;
-          did = did_at c r (after_write cmp bins b (hash k) k v) judged allowed (after ∙ ap (λ (n : ℕ). (entries_of_held (with_pair (hash_then_key cmp) b.held (hash k, k) (v, n)), n)) (sym (next_number-bump b.writes room)));
-          in_region = InRegion-entries hash e i (after_write cmp bins b (hash k) k v).held hashed (all_with_pair (hash_then_key_total total) (λ (q : ℕ × K). region.InRegion e i q.0) b.held (hash k, k) (v, next_number b.writes) here lies);
+          did = did_at c r (after_write cmp bins b (hash k) k v) judged allowed (after ∙ ap (λ (n : ℕ). (machine_entries (with_pair (hash_then_key cmp) b.plain_entries (hash k, k) (v, n)), n)) (sym (next_number-bump b.writes room)));
+          in_region = InRegion-entries hash e i (after_write cmp bins b (hash k) k v).plain_entries hashed (all_with_pair (hash_then_key_total total) (λ (q : ℕ × K). region.InRegion e i q.0) b.plain_entries (hash k, k) (v, next_number b.writes) here lies);
           hashed = hashed;
           mode = rw (gained_by bins k v, none_lost bins k v) (stands.mode);
           claim = stands.claim;
@@ -197,39 +197,39 @@ module _ {K V F : Type 0} (cmp : K → K → Ordering) (total : IsTotalOrder cmp
     -- ---- each call
 
     -- the machine finds what the bin has
-    found_at : (k : K) (o : Option (PlainEntry K V)) → entry_of_live cmp b (hash k) k ≡ o → find cmp (pairs_of (entries_of_held b.held)) k ≡ option_map (λ (x : PlainEntry K V). (x.0.1, x.1.0)) o
-    found_at k o q = find-entries cmp total hash lawful b.held k hd ∙ ap (option_map (λ (x : PlainEntry K V). (x.0.1, x.1.0))) q
+    found_at : (k : K) (o : Option (PlainEntry K V)) → entry_of_live cmp b (hash k) k ≡ o → find cmp (pairs_of (machine_entries b.plain_entries)) k ≡ option_map (λ (x : PlainEntry K V). (x.0.1, x.1.0)) o
+    found_at k o q = find-entries cmp total hash lawful b.plain_entries k hd ∙ ap (option_map (λ (x : PlainEntry K V). (x.0.1, x.1.0))) q
 
-    value_allowed : (k : K) → option_map (λ (x : PlainEntry K V). x.1.0) (entry_of_live cmp b (hash k) k) ≡ option_map (λ (x : K × V). x.1) (find cmp (pairs_of (entries_of_held b.held)) k)
-    value_allowed k = value_found (entry_of_live cmp b (hash k) k) ∙ ap (option_map (λ (x : K × V). x.1)) (sym (find-entries cmp total hash lawful b.held k hd))
+    value_allowed : (k : K) → option_map (λ (x : PlainEntry K V). x.1.0) (entry_of_live cmp b (hash k) k) ≡ option_map (λ (x : K × V). x.1) (find cmp (pairs_of (machine_entries b.plain_entries)) k)
+    value_allowed k = value_found (entry_of_live cmp b (hash k) k) ∙ ap (option_map (λ (x : K × V). x.1)) (sym (find-entries cmp total hash lawful b.plain_entries k hd))
 
     finds_value : (k : K) (s : Stage K V F) (d : Live K V) → DecidesAt cmp gives (hash k) (Finds TheValue k) e b s d → Decision cmp hash gives (Get k) b s d e i
     finds_value k s d p = rw (p.0, p.1) (decision_kept (Get k) _ _ (reply_done hash (Get k) (reply_for TheValue (entry_of_live cmp b (hash k) k)) refl) (unjudged (Get k) (reply_for TheValue (entry_of_live cmp b (hash k) k)) refl) (ap Value (value_allowed k)) refl)
 
     finds_pair : (k : K) (s : Stage K V F) (d : Live K V) → DecidesAt cmp gives (hash k) (Finds ThePair k) e b s d → Decision cmp hash gives (GetKeyValue k) b s d e i
-    finds_pair k s d p = rw (p.0, p.1) (decision_kept (GetKeyValue k) _ _ (reply_done hash (GetKeyValue k) (reply_for ThePair (entry_of_live cmp b (hash k) k)) refl) (unjudged (GetKeyValue k) (reply_for ThePair (entry_of_live cmp b (hash k) k)) refl) (ap Pair (sym (find-entries cmp total hash lawful b.held k hd))) refl)
+    finds_pair k s d p = rw (p.0, p.1) (decision_kept (GetKeyValue k) _ _ (reply_done hash (GetKeyValue k) (reply_for ThePair (entry_of_live cmp b (hash k) k)) refl) (unjudged (GetKeyValue k) (reply_for ThePair (entry_of_live cmp b (hash k) k)) refl) (ap Pair (sym (find-entries cmp total hash lawful b.plain_entries k hd))) refl)
 
     finds_presence : (k : K) (s : Stage K V F) (d : Live K V) → DecidesAt cmp gives (hash k) (Finds Presence k) e b s d → Decision cmp hash gives (ContainsKey k) b s d e i
     finds_presence k s d p =
         rw (p.0, p.1)
         (decision_kept (ContainsKey k) _ _ (reply_done hash (ContainsKey k) (reply_for Presence (entry_of_live cmp b (hash k) k)) refl) (unjudged (ContainsKey k) (reply_for Presence (entry_of_live cmp b (hash k) k)) refl)
-        (ap Contains (presence_found (entry_of_live cmp b (hash k) k) ∙ ap is_some (sym (find-entries cmp total hash lawful b.held k hd)))) refl)
+        (ap Contains (presence_found (entry_of_live cmp b (hash k) k) ∙ ap is_some (sym (find-entries cmp total hash lawful b.plain_entries k hd)))) refl)
 
     removes_value : (k : K) (s : Stage K V F) (d : Live K V) → DecidesAt cmp gives (hash k) (Removes TheValue k) e b s d → Decision cmp hash gives (Remove k) b s d e i
     removes_value k s d p = rw (p.0, p.1) (decision_taken (Remove k) _ _ k (reply_taken hash (Remove k) TheValue (entry_of_live cmp b (hash k) k) refl refl) (unjudged (Remove k) (reply_for TheValue (entry_of_live cmp b (hash k) k)) refl) (ap Value (value_allowed k)) refl)
 
     removes_pair : (k : K) (s : Stage K V F) (d : Live K V) → DecidesAt cmp gives (hash k) (Removes ThePair k) e b s d → Decision cmp hash gives (RemoveEntry k) b s d e i
-    removes_pair k s d p = rw (p.0, p.1) (decision_taken (RemoveEntry k) _ _ k (reply_taken hash (RemoveEntry k) ThePair (entry_of_live cmp b (hash k) k) refl refl) (unjudged (RemoveEntry k) (reply_for ThePair (entry_of_live cmp b (hash k) k)) refl) (ap Pair (sym (find-entries cmp total hash lawful b.held k hd))) refl)
+    removes_pair k s d p = rw (p.0, p.1) (decision_taken (RemoveEntry k) _ _ k (reply_taken hash (RemoveEntry k) ThePair (entry_of_live cmp b (hash k) k) refl refl) (unjudged (RemoveEntry k) (reply_for ThePair (entry_of_live cmp b (hash k) k)) refl) (ap Pair (sym (find-entries cmp total hash lawful b.plain_entries k hd))) refl)
 
     -- the pair is still as it was read, so it is taken out; or it is not, and stays
     removes_seen : (z : Seen K V) (s : Stage K V F) (d : Live K V) → DecidesAt cmp gives (hash z.key) (RemovesSeen z) e b s d → Decision cmp hash gives (RemoveSeen z) b s d e i
     removes_seen z s d p = rw (p.0, p.1) (by_test (entry_of_live cmp b (hash z.key) z.key) refl (is_unwritten_since cmp z.number b (hash z.key) z.key) refl)
       where
-        judged_at : (o : Option (PlainEntry K V)) → entry_of_live cmp b (hash z.key) z.key ≡ o → has_number (number_of cmp (entries_of_held b.held) z.key) z.number ≡ has_number (option_map (λ (x : PlainEntry K V). x.1.1) o) z.number
-        judged_at o q = ap (λ m. has_number m z.number) (number-entries cmp total hash lawful b.held z.key hd ∙ ap (option_map (λ (x : PlainEntry K V). x.1.1)) q)
+        judged_at : (o : Option (PlainEntry K V)) → entry_of_live cmp b (hash z.key) z.key ≡ o → has_number (number_of cmp (machine_entries b.plain_entries) z.key) z.number ≡ has_number (option_map (λ (x : PlainEntry K V). x.1.1) o) z.number
+        judged_at o q = ap (λ m. has_number m z.number) (number-entries cmp total hash lawful b.plain_entries z.key hd ∙ ap (option_map (λ (x : PlainEntry K V). x.1.1)) q)
 
-        judged : (r : KeptReply K V) (t : Bool) → removes cmp hash gives r ≡ t → has_number (number_of cmp (entries_of_held b.held) z.key) z.number ≡ t → IsJudged (RemoveSeen z) r
-        judged r t says has y h = let same_seen : z ≡ y = cc in subst (λ (u : Seen K V). removes cmp hash gives r ≡ has_number (number_of cmp (entries_of_held b.held) u.key) u.number) same_seen (says ∙ sym has)
+        judged : (r : KeptReply K V) (t : Bool) → removes cmp hash gives r ≡ t → has_number (number_of cmp (machine_entries b.plain_entries) z.key) z.number ≡ t → IsJudged (RemoveSeen z) r
+        judged r t says has y h = let same_seen : z ≡ y = cc in subst (λ (u : Seen K V). removes cmp hash gives r ≡ has_number (number_of cmp (machine_entries b.plain_entries) u.key) u.number) same_seen (says ∙ sym has)
 
         by_test : (o : Option (PlainEntry K V)) → entry_of_live cmp b (hash z.key) z.key ≡ o → (t : Bool) → option_map_or (λ (x : PlainEntry K V). x.1.1 == z.number && nat_lt z.number (2 ^ 64 - 1)) o false ≡ t
             → Decision cmp hash gives (RemoveSeen z) b (stage_taken TheValue (cond t o None)) (cond t (after_take cmp b (hash z.key) z.key) b) e i
@@ -244,7 +244,7 @@ module _ {K V F : Type 0} (cmp : K → K → Ordering) (total : IsTotalOrder cmp
     inserts k v s d here p =
         rw (p.1)
         (decision_written (Insert k v) _ s (2 ^ e) k v (by_found (entry_of_live cmp b (hash k) k) (asks cmp (2 ^ e) b (hash k) k) (p.0)) (unjudged (Insert k v) (Value (option_map (λ (x : PlainEntry K V). x.1.0) (entry_of_live cmp b (hash k) k))) refl) (ap Value (value_allowed k)) here
-        (ap (λ (es : List (Entry K V)). (es, bump b.writes)) (sym (write-entries cmp total hash lawful b.held k v (bump b.writes) up hd))))
+        (ap (λ (es : List (Entry K V)). (es, bump b.writes)) (sym (write-entries cmp total hash lawful b.plain_entries k v (bump b.writes) up hd))))
       where
         by_found : (o : Option (PlainEntry K V)) (asked : Bool) → GoesOnWritten e (option_map (λ (x : PlainEntry K V). x.1.0) o, asked) s → HasReply hash (Insert k v) (Value (option_map (λ (x : PlainEntry K V). x.1.0) o)) s (cond (is_some o) 0 1) 0
         by_found None asked g = reply_new hash (Insert k v) (Value None) e asked s refl refl g
@@ -258,7 +258,7 @@ module _ {K V F : Type 0} (cmp : K → K → Ordering) (total : IsTotalOrder cmp
             → Decision cmp hash gives (TryInsert k v) b s (cond (is_none o) (after_write cmp (2 ^ e) b (hash k) k v) b) e i
         by_found None q asked g =
             decision_written (TryInsert k v) (New v) s (2 ^ e) k v (rw q (reply_new hash (TryInsert k v) (New v) e asked s refl refl g)) (unjudged (TryInsert k v) (New v) refl) (rw (found_at k None q) refl) here
-            (ap (λ (es : List (Entry K V)). (es, bump b.writes)) (sym (place-entries cmp total hash lawful b.held k v (bump b.writes) hd q)))
+            (ap (λ (es : List (Entry K V)). (es, bump b.writes)) (sym (place-entries cmp total hash lawful b.plain_entries k v (bump b.writes) hd q)))
         by_found (Some x) q asked g = rw g (decision_kept (TryInsert k v) (Exists x.1.0 v) _ (reply_done hash (TryInsert k v) (Exists x.1.0 v) refl) (unjudged (TryInsert k v) (Exists x.1.0 v) refl) (rw (found_at k (Some x) q) refl) refl)
 
     computes : (k : K) (f : F) (s : Stage K V F) (d : Live K V) → region.InRegion e i (hash k) → DecidesAt cmp gives (hash k) (Computes k f) e b s d → Decision cmp hash gives (Compute k f) b s d e i
@@ -268,7 +268,7 @@ module _ {K V F : Type 0} (cmp : K → K → Ordering) (total : IsTotalOrder cmp
         by_outcome WasAbsent q g =
             rw (q.1, g)
             (decision_kept (Compute k f) (Value None) _ (reply_done hash (Compute k f) (Value None) refl) (unjudged (Compute k f) (Value None) refl) (rw (found_at k None (q.0)) refl)
-            (ap (λ (es : List (Entry K V)). (es, b.writes)) (leave_out-none cmp total hash lawful b.held k hd (q.0))))
+            (ap (λ (es : List (Entry K V)). (es, b.writes)) (leave_out-none cmp total hash lawful b.plain_entries k hd (q.0))))
         by_outcome WasRemoved q g =
             rw (q.3, g)
             (decision_taken (Compute k f) (Value None) _ k (rw (q.1) (record { said = refl; mode = refl; claim = refl; follows = has_decided hash (Compute k f) (Value None) refl refl })) (unjudged (Compute k f) (Value None) refl)
@@ -276,7 +276,7 @@ module _ {K V F : Type 0} (cmp : K → K → Ordering) (total : IsTotalOrder cmp
         by_outcome (WasChanged w) q g =
             rw (q.3, g)
             (decision_written (Compute k f) (Value (Some w)) _ (2 ^ e) k w (rw (q.1) (reply_done hash (Compute k f) (Value (Some w)) refl)) (unjudged (Compute k f) (Value (Some w)) refl) (rw (found_at k (Some q.0) (q.1)) (Some w, q.2, refl)) here
-            (ap (λ (es : List (Entry K V)). (es, bump b.writes)) (sym (rewrite-entries cmp total hash lawful b.held k w (bump b.writes) (q.0) up hd (q.1)))))
+            (ap (λ (es : List (Entry K V)). (es, bump b.writes)) (sym (rewrite-entries cmp total hash lawful b.plain_entries k w (bump b.writes) (q.0) up hd (q.1)))))
 
     -- each call that decides there does what the machine's does
     pub decides : (c : Call K V F) (t : Task K V F) (k : K) (s : Stage K V F) (d : Live K V) → task_of_call c ≡ Some t → key_of c ≡ Some k → region.InRegion e i (hash k) → DecidesAt cmp gives (hash k) t e b s d → Decision cmp hash gives c b s d e i
@@ -293,17 +293,17 @@ module _ {K V F : Type 0} (cmp : K → K → Ordering) (total : IsTotalOrder cmp
 
   -- ---- memory that is wanting at a live bin
 
-  module _ (b : Live K V) (hd : IsHashed hash b.held) where
-    present : (k : K) → IsSome (entry_of_live cmp b (hash k) k) → IsSome (find cmp (pairs_of (entries_of_held b.held)) k)
-    present k there = ap is_some (find-entries cmp total hash lawful b.held k hd) ∙ sym (presence_found (entry_of_live cmp b (hash k) k)) ∙ there
+  module _ (b : Live K V) (hd : IsHashed hash b.plain_entries) where
+    present : (k : K) → IsSome (entry_of_live cmp b (hash k) k) → IsSome (find cmp (pairs_of (machine_entries b.plain_entries)) k)
+    present k there = ap is_some (find-entries cmp total hash lawful b.plain_entries k hd) ∙ sym (presence_found (entry_of_live cmp b (hash k) k)) ∙ there
 
-    compute_refused : (k : K) (f : F) → (w : V) × slot.ComputesInVain cmp (gives f) b (hash k) k w → CanBeRefused cmp gives (Compute k f) (pairs_of (entries_of_held b.held))
+    compute_refused : (k : K) (f : F) → (w : V) × slot.ComputesInVain cmp (gives f) b (hash k) k w → CanBeRefused cmp gives (Compute k f) (pairs_of (machine_entries b.plain_entries))
     compute_refused k f p =
-        let found : find cmp (pairs_of (entries_of_held b.held)) k ≡ Some (p.1.0.0.1, p.1.0.1.0) = find-entries cmp total hash lawful b.held k hd ∙ ap (option_map (λ (x : PlainEntry K V). (x.0.1, x.1.0))) (p.1.1) in
+        let found : find cmp (pairs_of (machine_entries b.plain_entries)) k ≡ Some (p.1.0.0.1, p.1.0.1.0) = find-entries cmp total hash lawful b.plain_entries k hd ∙ ap (option_map (λ (x : PlainEntry K V). (x.0.1, x.1.0))) (p.1.1) in
         rw found (p.0, p.1.2)
 
     -- the machine's call can be refused there too
-    pub refused : (c : Call K V F) (t : Task K V F) (k : K) → task_of_call c ≡ Some t → key_of c ≡ Some k → party.CanBeRefused cmp gives (hash k) t b → CanBeRefused cmp gives c (pairs_of (entries_of_held b.held))
+    pub refused : (c : Call K V F) (t : Task K V F) (k : K) → task_of_call c ≡ Some t → key_of c ≡ Some k → party.CanBeRefused cmp gives (hash k) t b → CanBeRefused cmp gives c (pairs_of (machine_entries b.plain_entries))
     refused (Get j) t k task key p = let same_task : t ≡ Finds TheValue j = cc in let same_key : k ≡ j = cc in present j (rw (same_task, same_key) at p)
     refused (GetKeyValue j) t k task key p = let same_task : t ≡ Finds ThePair j = cc in let same_key : k ≡ j = cc in present j (rw (same_task, same_key) at p)
     refused (ContainsKey j) t k task key p = let same_task : t ≡ Finds Presence j = cc in rw same_task at p

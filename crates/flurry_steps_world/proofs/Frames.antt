@@ -11,7 +11,7 @@ use Rattle.flurry_steps_claims.specs.PlainBoard.{PlainBoardState, unclaimed_of}
 use Rattle.flurry_steps_control.specs.Control.{ControlState, IsControl, after_count}
 use Rattle.flurry_steps.specs.Party.{PartyState, last_seen}
 use Rattle.flurry_steps_theory.specs.Map.{same}
-use Rattle.flurry_steps_theory.specs.Machine.{Transition, Can, does}
+use Rattle.flurry_steps_theory.specs.Machine.{Transition, Enabled, next_state}
 use Rattle.flurry_steps_theory.specs.Invariant.{Inv, home_after}
 use Rattle.flurry_steps_theory.specs.declared.Label.{Label}
 use Rattle.flurry_steps_theory.proofs.Step.{inv_step}
@@ -49,17 +49,17 @@ module _ {K V : Type 0} where
 module _ {K V : Type 0} (hash : K → ℕ) where
   -- what a board and tables keep, beside the machine's invariant
   pub record Frame (b : ControlState) (t : Tables K V) : Type 0 where
-    pub hashed : (e i : ℕ) (l : Live K V) → content_at t e i ≡ IsLive l → IsHashed hash l.held
+    pub hashed : (e i : ℕ) (l : Live K V) → content_at t e i ≡ IsLive l → IsHashed hash l.plain_entries
     pub control_state : IsControl b
     pub tables : AreTables t
-    pub unmade : b.published ≡ None → (e : ℕ) → slots_of t e ≡ []
+    pub no_table : b.published ≡ None → (e : ℕ) → slots_of t e ≡ []
     pub next : (e : ℕ) → b.growth ≡ Some e → (slots_of t (suc e) ≡ [] → ⊥)
     pub running : (e : ℕ) → b.growth ≡ Some e → IsSome (board_at t e)
     pub over : (e : ℕ) (d : PlainBoardState) → board_at t e ≡ Some d → (b.growth ≡ Some e → ⊥) → unclaimed_of d ≡ 0
 
 module _ {K V F S : Type 0} (cmp : K → K → Ordering) (hash : K → ℕ) (gives : F → K → V → Option V → Type 0) where
   pub same_frame : (w : WorldState K V F S) → IsWorld cmp hash gives w → Frame hash w.control_state w.tables
-  same_frame w k = record { hashed = k.hashed; control_state = k.control_state; tables = k.tables; unmade = k.unmade; next = k.next; running = k.running; over = k.over }
+  same_frame w k = record { hashed = k.hashed; control_state = k.control_state; tables = k.tables; no_table = k.no_table; next = k.next; running = k.running; over = k.over }
 
   -- the same once pairs are counted
   pub counted_frame : (w : WorldState K V F S) (d : ℤ) → IsWorld cmp hash gives w → Frame hash (after_count d w.control_state) w.tables
@@ -67,7 +67,7 @@ module _ {K V F S : Type 0} (cmp : K → K → Ordering) (hash : K → ℕ) (giv
     hashed = k.hashed;
     control_state = record { published = k.control_state.published; growth = k.control_state.growth };
     tables = k.tables;
-    unmade = k.unmade;
+    no_table = k.no_table;
     next = k.next;
     running = k.running;
     over = k.over;
@@ -87,7 +87,7 @@ module _ {K V F S : Type 0} (cmp : K → K → Ordering) (hash : K → ℕ) (giv
     hashed = k.hashed;
     control_state = k.control_state;
     tables = AreTables-put_board w.tables e d' d k.tables at table;
-    unmade = k.unmade;
+    no_table = k.no_table;
     next = k.next;
     running = λ n h. runs n h (cases_eq n e);
     over = λ n r there idle. ends n r there idle (cases_eq n e);
@@ -109,7 +109,7 @@ module _ {K V F S : Type 0} (cmp : K → K → Ordering) (hash : K → ℕ) (giv
   -- a transition of the machine that is a step of party p, which was x, and leaves the control b, the tables t and its call at c
   pub record IsStep (w : WorldState K V F S) (p : ℕ) (x : PartyRecord K V F) (b : ControlState) (t : Tables K V) (c : PartyState K V F) (lab : Label K V F) : Type 0 where
     pub transition : Transition K V F
-    pub can : Can cmp hash gives (state_of w) p transition
+    pub can : Enabled cmp hash gives (state_of w) p transition
     pub is : IsTransition cmp hash gives w p b t c lab transition
     pub follows : FollowsStage hash x.call c.stage
     pub frame : Frame hash b t
@@ -118,8 +118,8 @@ module _ {K V F S : Type 0} (cmp : K → K → Ordering) (hash : K → ℕ) (giv
   pub record StepOf (w : WorldState K V F S) (p : ℕ) (x : PartyRecord K V F) (b : ControlState) (t : Tables K V) (c : PartyState K V F) (lab : Label K V F) : Type 0 where
     pub hash_stays : c.hash ≡ x.party_state.hash
     pub transition : Transition K V F
-    pub can : Can cmp hash gives (state_of w) p transition
-    pub after : state_of (with_step w p x b t c lab) ≡ does cmp hash gives (state_of w) p transition
+    pub can : Enabled cmp hash gives (state_of w) p transition
+    pub after : state_of (with_step w p x b t c lab) ≡ next_state cmp hash gives (state_of w) p transition
     pub follows : FollowsStage hash x.call c.stage
     pub frame : Frame hash b t
 
@@ -140,7 +140,7 @@ module _ {K V F S : Type 0} (cmp : K → K → Ordering) (hash : K → ℕ) (giv
     hashed = s.frame.hashed;
     control_state = s.frame.control_state;
     tables = s.frame.tables;
-    unmade = s.frame.unmade;
+    no_table = s.frame.no_table;
     next = s.frame.next;
     running = s.frame.running;
     over = s.frame.over;

@@ -37,10 +37,10 @@ module _ {K V F S : Type 0} (cmp : K → K → Ordering) (total : IsTotalOrder c
 
     -- a party in another mode has not decided
     other_mode : (m : Mode K V) → (state_of w).mode p ≡ m → ((q : KeptReply K V) (a b : ℕ) → m ≡ Done (Some q) a b → ⊥) → (m ≡ Finished → ⊥) → ⊥
-    other_mode m e no_reply going = let none : decision (history w) p ≡ None = ok.undecided (λ q a b h. no_reply q a b (sym e ∙ h)) (λ h. going (sym e ∙ h)) in cc
+    other_mode m e no_reply going = let none : decision (history w) p ≡ None = ok.no_decision (λ q a b h. no_reply q a b (sym e ∙ h)) (λ h. going (sym e ∙ h)) in cc
 
     over : (state_of w).mode p ≡ Finished → ⊥
-    over e = by_end (ok.finished e (ap is_some (calls cmp total hash lawful gives w k p x at x.party_state)))
+    over e = by_end (ok.end_label e (ap is_some (calls cmp total hash lawful gives w k p x at x.party_state)))
       where
         by_end : (has_replied (history w) p ≡ true) ⊎ (has_closed (history w) p ≡ true) → ⊥
         by_end (inl h) = not_both h open_yet
@@ -54,7 +54,7 @@ module _ {K V F S : Type 0} (cmp : K → K → Ordering) (total : IsTotalOrder c
     by_stage (AtBin t n) e f = absurd (other_mode (Looking n) (in_mode cmp total hash lawful gives w k p x at x.party_state (AtBin t n) e) (λ q a b h. cc) (λ h. cc))
     by_stage (AtHelp h a) e f = absurd (writes_not (helper_writes x.call a f))
     by_stage (AtGrow n ForReserve) e (m, f) = absurd (writes_not (ap (λ d. is_lookup (Some d)) f))
-    by_stage (AtSweep u) e f = absurd (writes_not (looks_not x.call u.errand u.last f.0))
+    by_stage (AtSweep u) e f = absurd (writes_not (looks_not x.call u.kind u.last f.0))
     by_stage (AtReserve n) e f = absurd (writes_not (ap (λ d. is_lookup (Some d)) f))
     by_stage (AtDone (OutcomeReply q)) e f = let same_reply : Some q ≡ Some r = sym (ok.decided q 0 0 (in_mode cmp total hash lawful gives w k p x at x.party_state (AtDone (OutcomeReply q)) e)) ∙ decided in e ∙ ap (λ o. AtDone (OutcomeReply (unwrap_or o q))) same_reply
     by_stage (AtDone OutcomeEnded) e (m, f) = absurd (writes_not (ap (λ d. is_lookup (Some d)) f))

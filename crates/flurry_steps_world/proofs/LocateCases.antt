@@ -68,7 +68,7 @@ module _ {K V F S : Type 0} (cmp : K → K → Ordering) (total : IsTotalOrder c
       hashed = λ d i l h. hashed_in d i l (e == d && nat_lt i (2 ^ e)) (sym (contents d i) ∙ h);
       control_state = record { published = le; growth = subst (GrowthIsIn (Some e)) (sym (idle_without w.control_state.published w.control_state.growth bare k.control_state.growth)) tt };
       tables = AreTables-placed w.tables e None true t k.tables le gives_table;
-      unmade = λ h. cc;
+      no_table = λ h. cc;
       next = λ d h. absurd (grind (arith, h, idle_without w.control_state.published w.control_state.growth bare k.control_state.growth));
       running = running_on cmp hash gives w t k boards;
       over = over_on cmp hash gives w t k boards;
@@ -79,7 +79,7 @@ module _ {K V F S : Type 0} (cmp : K → K → Ordering) (total : IsTotalOrder c
       first = none_first w.first (history w) (k.state.1.grown.number ∙ bare)
 
       made : t ≡ with_table w.tables e None
-      made = subst (λ b. MadeGives b w.tables e None true t) (ap is_made (k.unmade bare e)) gives_table
+      made = subst (λ b. MadeGives b w.tables e None true t) (ap is_made (k.no_table bare e)) gives_table
 
       boards : t.boards ≡ w.tables.boards
       boards = ap (λ u. u.boards) made ∙ set-get_or w.tables.boards e None
@@ -94,8 +94,8 @@ module _ {K V F S : Type 0} (cmp : K → K → Ordering) (total : IsTotalOrder c
           through true = refl
           through false = refl
 
-      hashed_in : (d i : ℕ) (l : slots.Live K V) (b : Bool) → (if b then fresh true else content_at w.tables d i) ≡ IsLive l → IsHashed hash l.held
-      hashed_in d i l true h = subst (λ z. IsHashed hash z.held) (same_live h) tt
+      hashed_in : (d i : ℕ) (l : slots.Live K V) (b : Bool) → (if b then fresh true else content_at w.tables d i) ≡ IsLive l → IsHashed hash l.plain_entries
+      hashed_in d i l true h = subst (λ z. IsHashed hash z.plain_entries) (same_live h) tt
       hashed_in d i l false h = k.hashed d i l h
 
   -- or is refused it
@@ -146,9 +146,9 @@ module _ {K V F S : Type 0} (cmp : K → K → Ordering) (total : IsTotalOrder c
     locates_none (Adds j v) f bare task h = opens_for (Adds j v) f bare task (λ n. n) h
     locates_none (Computes j g) f bare task h = settled cmp total hash lawful gives w k p x at c ev event.Decide (AtDone (OutcomeReply (empty_reply (Computes j g)))) b w.control_state t' w.tables h.0 h.1 h.2 h.3 (decides_empty (Computes j g) f bare task tt h.1)
 
-    pub locates : (t : Task K V F) → x.party_state.stage ≡ AtLocate t → FollowsStage hash x.call (AtLocate t)
+    pub is_locating : (t : Task K V F) → x.party_state.stage ≡ AtLocate t → FollowsStage hash x.call (AtLocate t)
         → MatchOption w.control_state.published (LocatesNone PlaceGives x.party_state.processors x.party_state.helped t w.control_state w.tables ev c.stage b t') (λ e. (ev ≡ event.Silent) × (c.stage ≡ AtBin t e) × (b ≡ w.control_state) × (t' ≡ w.tables)) → IsStep cmp hash gives w p x b t' c (label_of p ev c.stage)
-    locates t f task h = by_table w.control_state.published refl h
+    is_locating t f task h = by_table w.control_state.published refl h
       where
         by_table : (o : Option ℕ) → w.control_state.published ≡ o → MatchOption o (LocatesNone PlaceGives x.party_state.processors x.party_state.helped t w.control_state w.tables ev c.stage b t') (λ e. (ev ≡ event.Silent) × (c.stage ≡ AtBin t e) × (b ≡ w.control_state) × (t' ≡ w.tables)) → IsStep cmp hash gives w p x b t' c (label_of p ev c.stage)
         by_table None q g = locates_none t f q task g

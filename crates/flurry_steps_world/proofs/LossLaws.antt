@@ -18,5 +18,5 @@ module _ {K V F : Type 0} where
   resumed_unseen a = refl
 
   pub lost_as : (hash : K → ℕ) (c : Call K V F) (s : Stage K V F) → FollowsStage hash c s → StandsAlike hash c s (stage_lost s)
-  lost_as hash c (AtHelp (WantsSeat e) a) f = let (mode, held, follows) = resumed_as hash c a f in (mode, held, resumed_unseen a, follows)
+  lost_as hash c (AtHelp (WantsSeat e) a) f = let (mode, plain_entries, follows) = resumed_as hash c a f in (mode, plain_entries, resumed_unseen a, follows)
   lost_as hash c s f = (refl, refl, refl, f)

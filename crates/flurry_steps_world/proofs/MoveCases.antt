@@ -15,10 +15,10 @@ use Rattle.flurry_steps_sweep.specs.declared.step.Event.TheVariants as event
 use Rattle.flurry_steps_theory.specs.Map.{same}
 use Rattle.flurry_steps_theory.specs.Bin as bin
 use Rattle.flurry_steps_theory.specs.Machine as machine
-use Rattle.flurry_steps_theory.specs.Machine.{Live, Moved, Moves, at_bin}
+use Rattle.flurry_steps_theory.specs.Machine.{Live, Moved, Moves, update2}
 use Rattle.flurry_steps_theory.specs.Invariant.{is_live}
 use Rattle.flurry_steps_theory.specs.declared.Label.TheVariants as label
-use Rattle.flurry_steps_world.specs.Entries.{slot_of, entries_of_held, IsHashed}
+use Rattle.flurry_steps_world.specs.Entries.{slot_of, machine_entries, IsHashed}
 use Rattle.flurry_steps_world.specs.Tables.{Tables, slots_of, place_at, content_at, put_place}
 use Rattle.flurry_steps_world.specs.World.{PartyRecord, WorldState, state_of, mode_of_stage, machine_claim, told_of_stage, FollowsResume, FollowsStage, IsWorld}
 use Rattle.flurry_steps_world.specs.Steps.{label_of}
@@ -41,14 +41,14 @@ no_slots a (y ∷ b) h e = let none : length a ≡ 0 = ap length e in absurd (om
 module _ {K V F S : Type 0} (cmp : K → K → Ordering) (total : IsTotalOrder cmp) (hash : K → ℕ) (lawful : (j k : K) → same cmp j k ≡ true → hash j ≡ hash k) (gives : F → K → V → Option V → Type 0) (w : WorldState K V F S) (k : IsWorld cmp hash gives w) (p : ℕ) (x : PartyRecord K V F) (at : slice_get w.party_records p ≡ Some x) (c : PartyState K V F) where
   module _ (m : ClaimState) (a : Resume K V F) (f : x.party_state.stage ≡ AtHelp (Moving m) a) (had : FollowsResume x.call a) (e i : ℕ) (next : next_of m ≡ Some (e, i)) (q low high : SlotState K V)
       (q_at : place_at w.tables e i ≡ Some q) (low_at : place_at w.tables (e + 1) i ≡ Some low) (high_at : place_at w.tables (e + 1) (i + 2 ^ e) ≡ Some high) (inside : IsSlot cmp q) where
-    abbrev held : machine.Claim
-    held = machine_claim m
+    abbrev plain_entries : machine.Claim
+    plain_entries = machine_claim m
 
-    holds : (state_of w).claim p ≡ Some held
+    holds : (state_of w).claim p ≡ Some plain_entries
     holds = in_claim cmp total hash lawful gives w k p x at c (AtHelp (Moving m) a) f
 
     claim_ok : (w.control_state.published ≡ Some m.range.table) × (m.range.low < m.range.high) × (m.range.low ≤ m.left) × (m.left ≤ m.range.high) × (m.range.high ≤ 2 ^ m.range.table)
-    claim_ok = k.state.1.cut.claims p held holds
+    claim_ok = k.state.1.cut.claims p plain_entries holds
 
     -- the bin that is moved next
     pub record IsNext : Type 0 where
@@ -91,7 +91,7 @@ module _ {K V F S : Type 0} (cmp : K → K → Ordering) (total : IsTotalOrder c
     from = (k.state.1.tables.from e at_table).0
 
     bin_live : is_live ((state_of w).slot e i) ≡ true
-    bin_live = subst (λ n. is_live ((state_of w).slot n i) ≡ true) (sym is_next.table) (k.state.1.cut.left_live p held i holds is_next.above (omega (arith, is_next.left)))
+    bin_live = subst (λ n. is_live ((state_of w).slot n i) ≡ true) (sym is_next.table) (k.state.1.cut.left_live p plain_entries i holds is_next.above (omega (arith, is_next.left)))
 
     q_here : content_at w.tables e i ≡ q.content
     q_here = content_of_place w.tables e i q q_at
@@ -152,15 +152,15 @@ module _ {K V F S : Type 0} (cmp : K → K → Ordering) (total : IsTotalOrder c
       moves : (b : slots.Live K V) (t' : Tables K V) → q.content ≡ IsLive b → t' ≡ moved_tables → q' ≡ record q { content = HasMoved } → low' ≡ record low { content = IsLive (half q.table 0 b) } → high' ≡ record high { content = IsLive (half q.table 1 b) }
           → c ≡ with_stage x.party_state (moved_stage x.party_state.stage) → IsStep cmp hash gives w p x w.control_state t' c (label.Moved e i)
       moves b t' live after q_after low_after high_after goes = subst (λ z. IsStep cmp hash gives w p x w.control_state z c (label.Moved e i)) (sym after) (subst (λ z. IsStep cmp hash gives w p x w.control_state moved_tables c (label.Moved z i)) (sym is_next.table) (record {
-        transition = Moves held i (entries_of_held b.held) b.writes;
+        transition = Moves plain_entries i (machine_entries b.plain_entries) b.writes;
         can = (holds, is_next.above, is_next.left, ap (λ n. slot_of (content_at w.tables n i)) (sym is_next.table) ∙ ap slot_of (q_here ∙ live), no_lookup cmp total hash lawful gives w k p x at c (helper_writes x.call a had));
-        is = is_moved cmp hash gives w p x at c held i (entries_of_held b.held) b.writes moved_tables (same_growth w.control_state.growth w.tables moved_tables refl) (λ d j. subst (λ n. slot_of (content_at moved_tables d j) ≡ at_bin (at_bin (at_bin (state_of w).slot n i Moved) (suc n) i (Live (bin.half hash (suc n) i (entries_of_held b.held)) b.writes)) (suc n) (i + 2 ^ n) (Live (bin.half hash (suc n) (i + 2 ^ n) (entries_of_held b.held)) b.writes) d j) is_next.table (slots_after d j)) (mode_after) claim_after;
+        is = is_moved cmp hash gives w p x at c plain_entries i (machine_entries b.plain_entries) b.writes moved_tables (same_growth w.control_state.growth w.tables moved_tables refl) (λ d j. subst (λ n. slot_of (content_at moved_tables d j) ≡ update2 (update2 (update2 (state_of w).slot n i Moved) (suc n) i (Live (bin.half hash (suc n) i (machine_entries b.plain_entries)) b.writes)) (suc n) (i + 2 ^ n) (Live (bin.half hash (suc n) (i + 2 ^ n) (machine_entries b.plain_entries)) b.writes) d j) is_next.table (slots_after d j)) (mode_after) claim_after;
         follows = subst (FollowsStage hash x.call) (sym stage_after) had;
         frame = record {
           hashed = λ d j l h. hashed_in d j l (e + 1 == d && i + 2 ^ e == j) (e + 1 == d && i == j) (e == d && i == j) (sym (contents d j) ∙ h);
           control_state = k.control_state;
           tables = AreTables-put _ (e + 1) (i + 2 ^ e) high' high (AreTables-put _ (e + 1) i low' low (AreTables-put w.tables e i q' q k.tables q_at (ap (λ z. z.table) q_after) (ap (λ z. z.index) q_after)) low_there (ap (λ z. z.table) low_after) (ap (λ z. z.index) low_after)) high_there (ap (λ z. z.table) high_after) (ap (λ z. z.index) high_after);
-          unmade = λ h. absurd (none_is_not_some (sym h ∙ at_table));
+          no_table = λ h. absurd (none_is_not_some (sym h ∙ at_table));
           next = λ g h z. k.next g h (no_slots _ _ (sizes (suc g)) z);
           running = k.running;
           over = k.over;
@@ -184,34 +184,34 @@ module _ {K V F S : Type 0} (cmp : K → K → Ordering) (total : IsTotalOrder c
           lies : IsLiveIn cmp e i b
           lies = subst (λ n. IsLiveIn cmp n i b) q_is.0 (subst (λ n. IsLiveIn cmp q.table n b) q_is.1 inside_live)
 
-          hashes : IsHashed hash b.held
+          hashes : IsHashed hash b.plain_entries
           hashes = k.hashed e i b (q_here ∙ live)
 
-          low_content : slot_of low'.content ≡ Live (bin.half hash (suc e) i (entries_of_held b.held)) b.writes
-          low_content = ap (λ z. slot_of z.content) low_after ∙ ap (λ n. slot_of (IsLive (half n 0 b))) q_is.0 ∙ ap (λ es. Live es b.writes) (low-entries hash e i b.held hashes lies.region)
+          low_content : slot_of low'.content ≡ Live (bin.half hash (suc e) i (machine_entries b.plain_entries)) b.writes
+          low_content = ap (λ z. slot_of z.content) low_after ∙ ap (λ n. slot_of (IsLive (half n 0 b))) q_is.0 ∙ ap (λ es. Live es b.writes) (low-entries hash e i b.plain_entries hashes lies.region)
 
-          high_content : slot_of high'.content ≡ Live (bin.half hash (suc e) (i + 2 ^ e) (entries_of_held b.held)) b.writes
-          high_content = ap (λ z. slot_of z.content) high_after ∙ ap (λ n. slot_of (IsLive (half n 1 b))) q_is.0 ∙ ap (λ es. Live es b.writes) (high-entries hash e i b.held hashes lies.region)
+          high_content : slot_of high'.content ≡ Live (bin.half hash (suc e) (i + 2 ^ e) (machine_entries b.plain_entries)) b.writes
+          high_content = ap (λ z. slot_of z.content) high_after ∙ ap (λ n. slot_of (IsLive (half n 1 b))) q_is.0 ∙ ap (λ es. Live es b.writes) (high-entries hash e i b.plain_entries hashes lies.region)
 
-          slots_after : (d j : ℕ) → slot_of (content_at moved_tables d j) ≡ at_bin (at_bin (at_bin (state_of w).slot e i Moved) (suc e) i (Live (bin.half hash (suc e) i (entries_of_held b.held)) b.writes)) (suc e) (i + 2 ^ e) (Live (bin.half hash (suc e) (i + 2 ^ e) (entries_of_held b.held)) b.writes) d j
-          slots_after d j = ap slot_of (contents d j) ∙ through (e + 1 == d && i + 2 ^ e == j) (e + 1 == d && i == j) (e == d && i == j) ∙ ap (λ n. if n == d && i + 2 ^ e == j then Live (bin.half hash (suc e) (i + 2 ^ e) (entries_of_held b.held)) b.writes else (if n == d && i == j then Live (bin.half hash (suc e) i (entries_of_held b.held)) b.writes else (if e == d && i == j then Moved else (state_of w).slot d j))) next_table
+          slots_after : (d j : ℕ) → slot_of (content_at moved_tables d j) ≡ update2 (update2 (update2 (state_of w).slot e i Moved) (suc e) i (Live (bin.half hash (suc e) i (machine_entries b.plain_entries)) b.writes)) (suc e) (i + 2 ^ e) (Live (bin.half hash (suc e) (i + 2 ^ e) (machine_entries b.plain_entries)) b.writes) d j
+          slots_after d j = ap slot_of (contents d j) ∙ through (e + 1 == d && i + 2 ^ e == j) (e + 1 == d && i == j) (e == d && i == j) ∙ ap (λ n. if n == d && i + 2 ^ e == j then Live (bin.half hash (suc e) (i + 2 ^ e) (machine_entries b.plain_entries)) b.writes else (if n == d && i == j then Live (bin.half hash (suc e) i (machine_entries b.plain_entries)) b.writes else (if e == d && i == j then Moved else (state_of w).slot d j))) next_table
             where
               through : (y z u : Bool) → slot_of (if y then high'.content else (if z then low'.content else (if u then q'.content else content_at w.tables d j)))
-                  ≡ (if y then Live (bin.half hash (suc e) (i + 2 ^ e) (entries_of_held b.held)) b.writes else (if z then Live (bin.half hash (suc e) i (entries_of_held b.held)) b.writes else (if u then Moved else (state_of w).slot d j)))
+                  ≡ (if y then Live (bin.half hash (suc e) (i + 2 ^ e) (machine_entries b.plain_entries)) b.writes else (if z then Live (bin.half hash (suc e) i (machine_entries b.plain_entries)) b.writes else (if u then Moved else (state_of w).slot d j)))
               through true z u = high_content
               through false true u = low_content
               through false false true = ap (λ z. slot_of z.content) q_after
               through false false false = refl
 
-          hashed_in : (d j : ℕ) (l : slots.Live K V) (y z u : Bool) → (if y then high'.content else (if z then low'.content else (if u then q'.content else content_at w.tables d j))) ≡ IsLive l → IsHashed hash l.held
-          hashed_in d j l true z u h = same_hashed (half q.table 1 b) (ap (λ z. z.content) (sym high_after) ∙ h) (IsHashed-filter hash _ b.held hashes)
+          hashed_in : (d j : ℕ) (l : slots.Live K V) (y z u : Bool) → (if y then high'.content else (if z then low'.content else (if u then q'.content else content_at w.tables d j))) ≡ IsLive l → IsHashed hash l.plain_entries
+          hashed_in d j l true z u h = same_hashed (half q.table 1 b) (ap (λ z. z.content) (sym high_after) ∙ h) (IsHashed-filter hash _ b.plain_entries hashes)
             where
-              same_hashed : (y : slots.Live K V) → IsLive y ≡ IsLive l → IsHashed hash y.held → IsHashed hash l.held
-              same_hashed y g s = let one : y ≡ l = cc in subst (λ z. IsHashed hash z.held) one s
-          hashed_in d j l false true u h = same_hashed (half q.table 0 b) (ap (λ z. z.content) (sym low_after) ∙ h) (IsHashed-filter hash _ b.held hashes)
+              same_hashed : (y : slots.Live K V) → IsLive y ≡ IsLive l → IsHashed hash y.plain_entries → IsHashed hash l.plain_entries
+              same_hashed y g s = let one : y ≡ l = cc in subst (λ z. IsHashed hash z.plain_entries) one s
+          hashed_in d j l false true u h = same_hashed (half q.table 0 b) (ap (λ z. z.content) (sym low_after) ∙ h) (IsHashed-filter hash _ b.plain_entries hashes)
             where
-              same_hashed : (y : slots.Live K V) → IsLive y ≡ IsLive l → IsHashed hash y.held → IsHashed hash l.held
-              same_hashed y g s = let one : y ≡ l = cc in subst (λ z. IsHashed hash z.held) one s
+              same_hashed : (y : slots.Live K V) → IsLive y ≡ IsLive l → IsHashed hash y.plain_entries → IsHashed hash l.plain_entries
+              same_hashed y g s = let one : y ≡ l = cc in subst (λ z. IsHashed hash z.plain_entries) one s
           hashed_in d j l false false true h = let no : HasMoved ≡ IsLive l = ap (λ z. z.content) (sym q_after) ∙ h in cc
           hashed_in d j l false false false h = k.hashed d j l h
 

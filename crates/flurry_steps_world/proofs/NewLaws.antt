@@ -58,7 +58,7 @@ module _ {K V F S : Type 0} (cmp : K → K → Ordering) (total : IsTotalOrder c
     hashed = λ e i b h. absurd (unborn (sym (nothing e i) ∙ h));
     control_state = record { published = tt; growth = tt };
     tables = AreTables-no_tables;
-    unmade = λ _ e. slots_of-none TABLES e;
+    no_table = λ _ e. slots_of-none TABLES e;
     next = λ e h. cc;
     running = λ e h. cc;
     over = λ e d h _. let no : None ≡ Some d = sym (no_board TABLES (e + 1)) ∙ h in cc;
@@ -93,7 +93,7 @@ module _ {K V F S : Type 0} (cmp : K → K → Ordering) (total : IsTotalOrder c
     hashed = λ d i b h. hashed_in b (e == d && nat_lt i (2 ^ e)) (sym (contents d i) ∙ h);
     control_state = record { published = le; growth = tt };
     tables = AreTables-made no_tables e None AreTables-no_tables le;
-    unmade = λ h. cc;
+    no_table = λ h. cc;
     next = λ d h. cc;
     running = λ d h. cc;
     over = λ d b h _. let no : None ≡ Some b = sym (ap (λ bs. get_or bs (d + 1) None) (set-get_or (no_tables {K = K} {V = V}).boards e None) ∙ no_board TABLES (d + 1)) ∙ h in cc;
@@ -102,8 +102,8 @@ module _ {K V F S : Type 0} (cmp : K → K → Ordering) (total : IsTotalOrder c
       contents : (d j : ℕ) → content_at (with_table (no_tables {K = K} {V = V}) e None) d j ≡ (if e == d && nat_lt j (2 ^ e) then fresh true else IsUnborn)
       contents d j = content_at-made no_tables e None AreTables-no_tables le d j ∙ ap (λ c. if e == d && nat_lt j (2 ^ e) then fresh true else c) (nothing d j)
 
-      hashed_in : (b : slots.Live K V) (z : Bool) → (if z then fresh true else IsUnborn) ≡ IsLive b → IsHashed hash b.held
-      hashed_in b true h = let one : record { held = []; tree = false; writes = 0 } ≡ b = cc in subst (λ l. IsHashed hash l.held) one tt
+      hashed_in : (b : slots.Live K V) (z : Bool) → (if z then fresh true else IsUnborn) ≡ IsLive b → IsHashed hash b.plain_entries
+      hashed_in b true h = let one : record { plain_entries = []; tree = false; writes = 0 } ≡ b = cc in subst (λ l. IsHashed hash l.plain_entries) one tt
       hashed_in b false h = cc
 
       filled : (d j : ℕ) (z : Bool) → slot_of {K = K} {V = V} (if z then fresh true else IsUnborn) ≡ (if z then Live [] 0 else Unborn)

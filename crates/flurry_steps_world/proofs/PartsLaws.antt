@@ -1,4 +1,4 @@
--- A step at the parts of one owner, as a turn over them.
+-- A step at the parts of one owner, as a step at a field of them.
 use Rattle.std.specs.Prelude.{◌≡◌, ◌⊎◌, ℕ, ◌+◌, ◌^◌, ◌≤◌, ◌<◌, Bool, true, Option, Some, None, IsSome, is_some}
 use Rattle.std.specs.declared.cmp.Ordering.{Ordering}
 use Rattle.std.proofs.Common.{arith, inl, inr, refl, sym, ◌∙◌, ap, subst}
@@ -7,27 +7,27 @@ use Rattle.flurry_steps_control.specs.Control.{ControlState}
 use Rattle.flurry_steps_sweep.specs.Part.{Part, ControlPart, LookPart, BinPart, MovePart, SeatPart, BoardPart, GivePart, NoPart}
 use Rattle.flurry_steps.specs.Party.{Stage, AtLocate, AtBin, AtHelp, AtUncount, AtCount, AtRecount, AtBegin, AtGrow, AtReserve, AtSweep, AtDone, AtTaken, PartyState, part_of, wanted_part}
 use Rattle.flurry_steps.specs.PartyControl.{ControlStep}
-use Rattle.flurry_steps.specs.Field.{Loan, ControlLoan, PublishedLoan, TallyLoan, LookLoan, BinLoan, MoveLoan, BoardLoan, board_of, StepWith, Turn}
+use Rattle.flurry_steps.specs.Field.{Loan, ControlLoan, PublishedLoan, TallyLoan, LookLoan, BinLoan, MoveLoan, BoardLoan, board_of, StepWith, FieldStep}
 use Rattle.flurry_steps_sweep.specs.declared.step.Event.{Event}
 use Rattle.flurry_steps.proofs.Rooms.{control_in}
 use Rattle.flurry_steps_world.specs.Tables.{Tables, AreTables, place_at, put_place, PlaceGives}
 use Rattle.flurry_steps_world.specs.Parts.{Parts, IsOwn, IsPart, OwnLends, AtBoardOf, PartStep, IsThere}
-use Rattle.flurry_steps_sweep.specs.Sweep.{SweepState, SweepStage, AtOutset, OverBins, AtTotal, AtEnd, AfterEnd, part_at}
-use Rattle.flurry_steps_world.specs.Steps.{label_of, GoesOn, StepBySweep, StepByStage}
+use Rattle.flurry_steps_sweep.specs.Sweep.{SweepState, SweepStage, AtSweepStart, OverBins, AtTotal, AtEnd, AfterEnd, part_at}
+use Rattle.flurry_steps_world.specs.Steps.{label_of, GoesOn, SweepStageStep, StageStep}
 use Rattle.flurry_steps_world.proofs.TableLaws.{place_in, index_within}
 use Rattle.flurry_steps_world.proofs.StateLaws.{same_some}
 use Rattle.flurry_base.specs.declared.sizes.TheConstants.{MAX_TABLE}
 
 module _ {K V F : Type 0} (cmp : K → K → Ordering) (changes : F → K → V → Option V → Type 0) (c : PartyState K V F) (b : ControlState) (t : Tables K V) (are : AreTables t) (ev : Event) (c' : PartyState K V F) (b' : ControlState) (t' : Tables K V) where
-  abbrev pub PartTurn : Type 0
-  PartTurn = Turn PlaceGives cmp changes OwnLends (record { control_state = b; tables = t }) c ev (record { control_state = b'; tables = t' }) c'
+  abbrev pub PartFieldStep : Type 0
+  PartFieldStep = FieldStep PlaceGives cmp changes OwnLends (record { control_state = b; tables = t }) c ev (record { control_state = b'; tables = t' }) c'
 
-  at_board : (e : ℕ) → board_of (wanted_part c) ≡ Some e → AtBoardOf e c b t ev c' b' t' → PartTurn
+  at_board : (e : ℕ) → board_of (wanted_part c) ≡ Some e → AtBoardOf e c b t ev c' b' t' → PartFieldStep
   at_board e want (x, h, gives, same) = record { loan = BoardLoan e x; lent = (tt, (gives, same)); step = (want, h) }
 
-  pub turn_of : (a : Part) → wanted_part c ≡ a → PartStep cmp changes a c b t ev c' b' t' → PartTurn
-  turn_of ControlPart want h = record { loan = ControlLoan b t b' t'; lent = (tt, (refl, refl)); step = (want, h) }
-  turn_of (LookPart e i) want (q, there, inside, h, y, z) = record {
+  pub field_step_of : (a : Part) → wanted_part c ≡ a → PartStep cmp changes a c b t ev c' b' t' → PartFieldStep
+  field_step_of ControlPart want h = record { loan = ControlLoan b t b' t'; lent = (tt, (refl, refl)); step = (want, h) }
+  field_step_of (LookPart e i) want (q, there, inside, h, y, z) = record {
     loan = LookLoan q;
     lent = (tt, (there_own e i q there, λ j. record { control_state = y j; tables = z j }));
     step = (want ∙ (λ j. LookPart (sym (are.order e i q there).0 j) (sym (are.order e i q there).1 j)), inside, h);
@@ -35,17 +35,17 @@ module _ {K V F : Type 0} (cmp : K → K → Ordering) (changes : F → K → V 
     where
       there_own : (e i : ℕ) (q : SlotState K V) → place_at t e i ≡ Some q → place_at t q.table q.index ≡ Some q
       there_own e i q there = let is = are.order e i q there in subst (λ n. place_at t n q.index ≡ Some q) (sym is.0) (subst (λ n. place_at t e n ≡ Some q) (sym is.1) there)
-  turn_of (BinPart e i) want (q, q', there, inside, h, y, z) = by_place (are.order e i q there)
+  field_step_of (BinPart e i) want (q, q', there, inside, h, y, z) = by_place (are.order e i q there)
     where
-      by_place : (q.table ≡ e) × (q.index ≡ i) → PartTurn
+      by_place : (q.table ≡ e) × (q.index ≡ i) → PartFieldStep
       by_place (f, g) = record {
         loan = BinLoan q q';
         lent = (tt, (subst (λ n. place_at t n q.index ≡ Some q) (sym f) (subst (λ n. place_at t e n ≡ Some q) (sym g) there), λ j. record { control_state = y j; tables = (z ∙ (λ k. put_place t (sym f k) (sym g k) q')) j }));
         step = (want ∙ (λ j. BinPart (sym f j) (sym g j)), inside, h);
       }
-  turn_of (MovePart e i) want (q, low, high, q', low', high', there, low_at, high_at, inside, h, y, z) = by_place (are.order e i q there)
+  field_step_of (MovePart e i) want (q, low, high, q', low', high', there, low_at, high_at, inside, h, y, z) = by_place (are.order e i q there)
     where
-      by_place : (q.table ≡ e) × (q.index ≡ i) → PartTurn
+      by_place : (q.table ≡ e) × (q.index ≡ i) → PartFieldStep
       by_place (f, g) = record {
         loan = MoveLoan q low high q' low' high';
         lent = (
@@ -59,10 +59,10 @@ module _ {K V F : Type 0} (cmp : K → K → Ordering) (changes : F → K → V 
         );
         step = (want ∙ (λ j. MovePart (sym f j) (sym g j)), inside, h);
       }
-  turn_of (SeatPart e) want h = at_board e (ap board_of want) h
-  turn_of (BoardPart e) want h = at_board e (ap board_of want) h
-  turn_of (GivePart e) want h = at_board e (ap board_of want) h
-  turn_of NoPart want h = absurd h
+  field_step_of (SeatPart e) want h = at_board e (ap board_of want) h
+  field_step_of (BoardPart e) want h = at_board e (ap board_of want) h
+  field_step_of (GivePart e) want h = at_board e (ap board_of want) h
+  field_step_of NoPart want h = absurd h
 
 -- the greatest table has no halves, and neither has a slot past the table's end
 pub no_halves : {K V : Type 0} (t : Tables K V) (e i : ℕ) → AreTables t → (MAX_TABLE ≤ e) ⊎ (2 ^ e ≤ i) → IsThere t (MovePart e i) → ⊥
@@ -77,7 +77,7 @@ no_halves {K} {V} t e i are (inr past) (here, low, high) = by_place (place_at t 
     by_place None is some = cc
     by_place (Some q) is some = let below = index_within t e i q are is in omega (arith, below, past)
 
--- ---- a turn over parts, as a step at these
+-- ---- a field step over parts, as a step at these
 
 module _ {K V F R : Type 0} (place : R → ℕ → Option ℕ → Bool → R → Type 0) (cmp : K → K → Ordering) (changes : F → K → V → Option V → Type 0) (room : R → Tables K V) (places : (r : R) (e : ℕ) (g : Option ℕ) (ok : Bool) (r' : R) → place r e g ok r' → PlaceGives (room r) e g ok (room r')) (s s' : Parts K V) (c c' : PartyState K V F) (ev : Event) where
   -- a step at a board, whichever of its parts is wanted
@@ -99,24 +99,24 @@ module _ {K V F R : Type 0} (place : R → ℕ → Option ℕ → Bool → R →
   own_part (BoardLoan e x) i (gives, same) (want, h) = board_part (wanted_part c) e want (x, h, gives, same)
 
 module _ {K V F : Type 0} (cmp : K → K → Ordering) (changes : F → K → V → Option V → Type 0) (p : ℕ) (c : PartyState K V F) (s : Parts K V) (ev : Event) (s' : Parts K V) (c' : PartyState K V F) where
-  -- a turn over one owner's parts is what a world does in one step of a party
-  pub step_of_turn : Turn PlaceGives cmp changes OwnLends s c ev s' c' → StepByStage cmp changes p c.stage c s.control_state s.tables (label_of p ev c'.stage) c' s'.control_state s'.tables
-  step_of_turn turn = by_stage c.stage refl
+  -- a field step over one owner's parts is what a world does in one step of a party
+  pub step_of_turn : FieldStep PlaceGives cmp changes OwnLends s c ev s' c' → StageStep cmp changes p c.stage c s.control_state s.tables (label_of p ev c'.stage) c' s'.control_state s'.tables
+  step_of_turn field_step = by_stage c.stage refl
     where
       part : PartStep cmp changes (wanted_part c) c s.control_state s.tables ev c' s'.control_state s'.tables
-      part = own_part PlaceGives cmp changes (λ r. r) (λ r e g ok r' h. h) s s' c c' ev turn.loan turn.lent.0 turn.lent.1 turn.step
+      part = own_part PlaceGives cmp changes (λ r. r) (λ r e g ok r' h. h) s s' c c' ev field_step.loan field_step.lent.0 field_step.lent.1 field_step.step
 
       going : GoesOn cmp changes p c s.control_state s.tables (label_of p ev c'.stage) c' s'.control_state s'.tables
       going = record { event = ev; part = part; label_is = refl }
 
-      by_sweep : (w : SweepState K V) (z : SweepStage K V) → w.stage ≡ z → c.stage ≡ AtSweep w → StepBySweep cmp changes p z c s.control_state s.tables (label_of p ev c'.stage) c' s'.control_state s'.tables
-      by_sweep w AtOutset f e = going
+      by_sweep : (w : SweepState K V) (z : SweepStage K V) → w.stage ≡ z → c.stage ≡ AtSweep w → SweepStageStep cmp changes p z c s.control_state s.tables (label_of p ev c'.stage) c' s'.control_state s'.tables
+      by_sweep w AtSweepStart f e = going
       by_sweep w (OverBins u) f e = going
       by_sweep w AtTotal f e = going
-      by_sweep w (AtEnd r) f e = absurd (subst (λ z. PartStep cmp changes (part_at w.errand z) c s.control_state s.tables ev c' s'.control_state s'.tables) f (subst (λ z. PartStep cmp changes (part_of c.hash z) c s.control_state s.tables ev c' s'.control_state s'.tables) e part))
-      by_sweep w AfterEnd f e = absurd (subst (λ z. PartStep cmp changes (part_at w.errand z) c s.control_state s.tables ev c' s'.control_state s'.tables) f (subst (λ z. PartStep cmp changes (part_of c.hash z) c s.control_state s.tables ev c' s'.control_state s'.tables) e part))
+      by_sweep w (AtEnd r) f e = absurd (subst (λ z. PartStep cmp changes (part_at w.kind z) c s.control_state s.tables ev c' s'.control_state s'.tables) f (subst (λ z. PartStep cmp changes (part_of c.hash z) c s.control_state s.tables ev c' s'.control_state s'.tables) e part))
+      by_sweep w AfterEnd f e = absurd (subst (λ z. PartStep cmp changes (part_at w.kind z) c s.control_state s.tables ev c' s'.control_state s'.tables) f (subst (λ z. PartStep cmp changes (part_of c.hash z) c s.control_state s.tables ev c' s'.control_state s'.tables) e part))
 
-      by_stage : (u : Stage K V F) → c.stage ≡ u → StepByStage cmp changes p u c s.control_state s.tables (label_of p ev c'.stage) c' s'.control_state s'.tables
+      by_stage : (u : Stage K V F) → c.stage ≡ u → StageStep cmp changes p u c s.control_state s.tables (label_of p ev c'.stage) c' s'.control_state s'.tables
       by_stage (AtLocate t) e = going
       by_stage (AtBin t n) e = going
       by_stage (AtHelp h a) e = going

@@ -21,7 +21,7 @@ use Rattle.flurry_steps_world.specs.Steps.{label_of}
 use Rattle.flurry_steps_world.proofs.TableLaws.{content_of_place, AreTables-put, length_of_put_slots}
 use Rattle.flurry_steps_world.proofs.HomeLaws.{put_content}
 use Rattle.flurry_steps_world.proofs.Frames.{IsStep}
-use Rattle.flurry_steps_world.proofs.LocateCases.{locates, reserves}
+use Rattle.flurry_steps_world.proofs.LocateCases.{is_locating, reserves}
 use Rattle.flurry_steps_world.proofs.CountCases.{uncounts, counts_one, recounts, begins, grows}
 use Rattle.flurry_steps_world.proofs.ClaimCases.{helps_at, publishes}
 use Rattle.flurry_steps_world.proofs.SlotCases.{Put, at_bin_step}
@@ -30,7 +30,7 @@ use Rattle.flurry_steps_world.proofs.MoveCases.{at_move, no_slots}
 module _ {K V : Type 0} where
   -- tables with the same content at a slot
   pub put_same : (t : Tables K V) (e i : ℕ) (q : SlotState K V) → AreTables t → place_at t e i ≡ Some q → Put t e i q.content t
-  put_same t e i q are at = record { contents = λ d j. by_place d j (e == d && i == j) refl; tables = are; boards = refl; made = λ d h. h; unmade = λ d h. h }
+  put_same t e i q are at = record { contents = λ d j. by_place d j (e == d && i == j) refl; tables = are; boards = refl; made = λ d h. h; no_table = λ d h. h }
     where
       by_place : (d j : ℕ) (b : Bool) → (e == d && i == j) ≡ b → content_at t d j ≡ (if b then q.content else content_at t d j)
       by_place d j true h = let here = and_parts (e == d) (i == j) h in subst (λ n. content_at t n j ≡ q.content) (eqb-true e d here.0) (subst (λ n. content_at t e n ≡ q.content) (eqb-true i j here.1) (content_of_place t e i q at))
@@ -43,7 +43,7 @@ module _ {K V : Type 0} where
     tables = AreTables-put t e i q' q are at table index;
     boards = refl;
     made = λ d h. no_slots _ _ (length_of_put_slots t e i q' d) h;
-    unmade = λ d h. no_slots _ _ (sym (length_of_put_slots t e i q' d)) h;
+    no_table = λ d h. no_slots _ _ (sym (length_of_put_slots t e i q' d)) h;
   }
 
 module _ {K V F S : Type 0} (cmp : K → K → Ordering) (total : IsTotalOrder cmp) (hash : K → ℕ) (lawful : (j k : K) → same cmp j k ≡ true → hash j ≡ hash k) (gives : F → K → V → Option V → Type 0) (w : WorldState K V F S) (k : IsWorld cmp hash gives w) (near : Near (2 ^ 62) w.control_state.count) (p : ℕ) (x : PartyRecord K V F) (at : slice_get w.party_records p ≡ Some x) (c : PartyState K V F) (ev : Event) (b : ControlState) (t' : Tables K V) where
@@ -56,7 +56,7 @@ module _ {K V F S : Type 0} (cmp : K → K → Ordering) (total : IsTotalOrder c
   follows = (k.party_records p x at).stage
 
   at_control : (s : Stage K V F) → x.party_state.stage ≡ s → IsSingle s → part_of x.party_state.hash s ≡ ControlPart → StageAtControl PlaceGives x.party_state.processors x.party_state.helped s w.control_state w.tables ev c.stage b t' → IsStep cmp hash gives w p x b t' c (label_of p ev c.stage)
-  at_control (AtLocate t) e single q h = locates cmp total hash lawful gives w k p x at c ev b t' t e (subst (FollowsStage hash x.call) e follows) h
+  at_control (AtLocate t) e single q h = is_locating cmp total hash lawful gives w k p x at c ev b t' t e (subst (FollowsStage hash x.call) e follows) h
   at_control (AtHelp (Publishing n) a) e single q h = publishes cmp total hash lawful gives w k p x at c ev b t' n a e (subst (FollowsStage hash x.call) e follows) h
   at_control (AtUncount r) e single q h = uncounts cmp total hash lawful gives w k p x at c ev b t' r e (subst (FollowsStage hash x.call) e follows) near h
   at_control (AtCount r) e single q h = counts_one cmp total hash lawful gives w k p x at c ev b t' r e (subst (FollowsStage hash x.call) e follows) near h

@@ -13,10 +13,10 @@ use Rattle.flurry_steps_sweep.specs.declared.step.Event.{Event}
 use Rattle.flurry_steps_sweep.specs.declared.step.Event.TheVariants as event
 use Rattle.flurry_base.specs.OneKey.{key_of}
 use Rattle.flurry_steps_theory.specs.Map.{same}
-use Rattle.flurry_steps_theory.specs.Machine.{Live, Looking, Decides, Passes, IsRefused, RefusedAt, at_bin}
+use Rattle.flurry_steps_theory.specs.Machine.{Live, Looking, Decides, Passes, IsRefused, RefusedAt, update2}
 use Rattle.flurry_steps_theory.specs.Invariant.{is_live, key_in, writes_in, NamesNoUnborn}
 use Rattle.flurry_steps_theory.proofs.NoUnbornBin.{looks_at}
-use Rattle.flurry_steps_world.specs.Entries.{slot_of, entries_of_held, IsHashed}
+use Rattle.flurry_steps_world.specs.Entries.{slot_of, machine_entries, IsHashed}
 use Rattle.flurry_steps_world.specs.Tables.{Tables, AreTables, slots_of, content_at}
 use Rattle.flurry_steps_world.specs.World.{PartyRecord, WorldState, state_of, mode_of_stage, FollowsStage, IsWorld}
 use Rattle.flurry_steps_world.specs.Steps.{label_of, decide_label}
@@ -35,7 +35,7 @@ pub record Put {K V : Type 0} (t : Tables K V) (e i : ℕ) (c : Content K V) (t'
   pub tables : AreTables t'
   pub boards : t'.boards ≡ t.boards
   pub made : (d : ℕ) → slots_of t' d ≡ [] → slots_of t d ≡ []
-  pub unmade : (d : ℕ) → slots_of t d ≡ [] → slots_of t' d ≡ []
+  pub no_table : (d : ℕ) → slots_of t d ≡ [] → slots_of t' d ≡ []
 
 -- where that is what stood there, each slot has what it had
 pub put_nothing : {K V : Type 0} (t : Tables K V) (e i : ℕ) (c : Content K V) (t' : Tables K V) → Put t e i c t' → c ≡ content_at t e i → (d j : ℕ) → content_at t' d j ≡ content_at t d j
@@ -63,15 +63,15 @@ module _ {K V F S : Type 0} (cmp : K → K → Ordering) (total : IsTotalOrder c
     -- the bin that it decides at
     decides_live : (j : K) (b d : slots.Live K V) (t' : Tables K V) → key_of x.call ≡ Some j → q.content ≡ IsLive b → DecidesAt cmp gives x.party_state.hash t e b c.stage d → Put w.tables e (x.party_state.hash % 2 ^ e) (IsLive d) t' → IsStep cmp hash gives w p x w.control_state t' c (decide_label p (outcome_in c.stage))
     decides_live j b d t' key live did put = subst (λ z. IsStep cmp hash gives w p x w.control_state t' c (decide_label p z)) (sym decision.said) (record {
-      transition = Decides x.call j e (entries_of_held b.held) b.writes decision.reply (entries_of_held d.held) d.writes;
+      transition = Decides x.call j e (machine_entries b.plain_entries) b.writes decision.reply (machine_entries d.plain_entries) d.writes;
       can = (of_call, key, looking, free, at_slot, decision.did, decision.in_region);
-      is = is_decided cmp hash gives w p x at c x.call j e (entries_of_held b.held) b.writes decision.reply (entries_of_held d.held) d.writes t' (same_growth w.control_state.growth w.tables t' put.boards) slots_after decision.mode (decision.claim ∙ sym (ap held_of_stage f));
+      is = is_decided cmp hash gives w p x at c x.call j e (machine_entries b.plain_entries) b.writes decision.reply (machine_entries d.plain_entries) d.writes t' (same_growth w.control_state.growth w.tables t' put.boards) slots_after decision.mode (decision.claim ∙ sym (ap held_of_stage f));
       follows = decision.follows;
       frame = record {
         hashed = λ g i l h. hashed_in g i l (e == g && x.party_state.hash % 2 ^ e == i) (sym (put.contents g i) ∙ h);
         control_state = k.control_state;
         tables = put.tables;
-        unmade = λ h g. put.unmade g (k.unmade h g);
+        no_table = λ h g. put.no_table g (k.no_table h g);
         next = λ g h z. k.next g h (put.made (suc g) z);
         running = running_on cmp hash gives w t' k put.boards;
         over = over_on cmp hash gives w t' k put.boards;
@@ -84,13 +84,13 @@ module _ {K V F S : Type 0} (cmp : K → K → Ordering) (total : IsTotalOrder c
         index : x.party_state.hash % 2 ^ e ≡ hash j % 2 ^ e
         index = ap (λ n. n % 2 ^ e) own
 
-        at_slot : (state_of w).slot e (hash j % 2 ^ e) ≡ Live (entries_of_held b.held) b.writes
+        at_slot : (state_of w).slot e (hash j % 2 ^ e) ≡ Live (machine_entries b.plain_entries) b.writes
         at_slot = ap (λ n. slot_of (content_at w.tables e n)) (sym index) ∙ ap slot_of (here ∙ live)
 
-        held : IsLiveIn cmp e (x.party_state.hash % 2 ^ e) b
-        held = subst (IsContent cmp e (x.party_state.hash % 2 ^ e)) live inside
+        plain_entries : IsLiveIn cmp e (x.party_state.hash % 2 ^ e) b
+        plain_entries = subst (IsContent cmp e (x.party_state.hash % 2 ^ e)) live inside
 
-        hashes : IsHashed hash b.held
+        hashes : IsHashed hash b.plain_entries
         hashes = k.hashed e (x.party_state.hash % 2 ^ e) b (here ∙ live)
 
         homed : k.state.0 (hash j) ≡ e
@@ -101,17 +101,17 @@ module _ {K V F S : Type 0} (cmp : K → K → Ordering) (total : IsTotalOrder c
             subst (λ n. n ≤ 2 ^ 64 - 1) (ap (λ n. writes_in ((state_of w).slot n (hash j % 2 ^ n))) homed ∙ ap writes_in at_slot) most
 
         decision : Decision cmp hash gives x.call b c.stage d e (hash j % 2 ^ e)
-        decision = decides cmp total hash lawful gives b e (hash j % 2 ^ e) held.ascends hashes room (subst (λ n. slots.IsLiveIn cmp e n b) index held).region x.call t j c.stage d task key refl (subst (λ n. DecidesAt cmp gives n t e b c.stage d) own did)
+        decision = decides cmp total hash lawful gives b e (hash j % 2 ^ e) plain_entries.ascends hashes room (subst (λ n. slots.IsLiveIn cmp e n b) index plain_entries).region x.call t j c.stage d task key refl (subst (λ n. DecidesAt cmp gives n t e b c.stage d) own did)
 
-        slots_after : (g i : ℕ) → slot_of (content_at t' g i) ≡ at_bin (state_of w).slot e (hash j % 2 ^ e) (Live (entries_of_held d.held) d.writes) g i
-        slots_after g i = ap slot_of (put.contents g i) ∙ through (e == g && x.party_state.hash % 2 ^ e == i) ∙ ap (λ n. at_bin (state_of w).slot e n (Live (entries_of_held d.held) d.writes) g i) index
+        slots_after : (g i : ℕ) → slot_of (content_at t' g i) ≡ update2 (state_of w).slot e (hash j % 2 ^ e) (Live (machine_entries d.plain_entries) d.writes) g i
+        slots_after g i = ap slot_of (put.contents g i) ∙ through (e == g && x.party_state.hash % 2 ^ e == i) ∙ ap (λ n. update2 (state_of w).slot e n (Live (machine_entries d.plain_entries) d.writes) g i) index
           where
-            through : (b : Bool) → slot_of (if b then IsLive d else content_at w.tables g i) ≡ (if b then Live (entries_of_held d.held) d.writes else slot_of (content_at w.tables g i))
+            through : (b : Bool) → slot_of (if b then IsLive d else content_at w.tables g i) ≡ (if b then Live (machine_entries d.plain_entries) d.writes else slot_of (content_at w.tables g i))
             through true = refl
             through false = refl
 
-        hashed_in : (g i : ℕ) (l : slots.Live K V) (z : Bool) → (if z then IsLive d else content_at w.tables g i) ≡ IsLive l → IsHashed hash l.held
-        hashed_in g i l true h = subst (λ z. IsHashed hash z.held) (same_live h) decision.hashed
+        hashed_in : (g i : ℕ) (l : slots.Live K V) (z : Bool) → (if z then IsLive d else content_at w.tables g i) ≡ IsLive l → IsHashed hash l.plain_entries
+        hashed_in g i l true h = subst (λ z. IsHashed hash z.plain_entries) (same_live h) decision.hashed
         hashed_in g i l false h = k.hashed g i l h
 
     module _ (ev : Event) (content : Content K V) (t' : Tables K V) (put : Put w.tables e (x.party_state.hash % 2 ^ e) content t') where
@@ -140,7 +140,7 @@ module _ {K V F S : Type 0} (cmp : K → K → Ordering) (total : IsTotalOrder c
           hashed = λ d i l h. k.hashed d i l (sym (as_before d i) ∙ h);
           control_state = k.control_state;
           tables = put.tables;
-          unmade = λ h g. put.unmade g (k.unmade h g);
+          no_table = λ h g. put.no_table g (k.no_table h g);
           next = λ g h z. k.next g h (put.made (suc g) z);
           running = running_on cmp hash gives w t' k put.boards;
           over = over_on cmp hash gives w t' k put.boards;
@@ -167,7 +167,7 @@ module _ {K V F S : Type 0} (cmp : K → K → Ordering) (total : IsTotalOrder c
               free,
               subst (RefusedAt cmp hash gives (state_of w) x.call) (sym looking) (
                 j,
-                entries_of_held b.held,
+                machine_entries b.plain_entries,
                 b.writes,
                 key,
                 ap (λ n. slot_of (content_at w.tables e (n % 2 ^ e))) (sym own) ∙ ap slot_of (here ∙ live),

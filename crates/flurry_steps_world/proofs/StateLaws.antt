@@ -5,7 +5,7 @@ use Rattle.std.proofs.Common.{arith, refl, sym, ◌∙◌, ap}
 use Rattle.std.proofs.lemmas.Bool.{eqb-true, eqb-false, eq-eqb, ne_eqb}
 use Rattle.std.proofs.lemmas.List.{reverse-append, length-set}
 use Rattle.std.proofs.lemmas.Option.{slice_get_within}
-use Rattle.flurry_steps_theory.specs.Machine.{State, Claim, Transition, at_place, effect, does, label, steps_after, Begins, Loses}
+use Rattle.flurry_steps_theory.specs.Machine.{State, Claim, Transition, update, effect, next_state, label, steps_after, Begins, Loses}
 use Rattle.flurry_base.specs.declared.call.Call.{Call}
 use Rattle.flurry_steps_theory.specs.declared.Label.{Label}
 use Rattle.flurry_steps_control.specs.Control.{ControlState}
@@ -30,7 +30,7 @@ get_set (y ∷ ys) (suc p) zero x l = grind (arith, eqb-true)
 get_set (y ∷ ys) (suc p) (suc q) x l = get_set ys p q x (omega (arith, l)) ∙ ap (λ b. cond b (Some x) (slice_get ys q)) (eqb_suc p q)
 
 -- what is read of one that was set
-pub read_set : {X Y : Type 0} (f : Option X → Y) (xs : List X) (p q : ℕ) (x : X) → p < length xs → f (slice_get (slice_set xs p x) q) ≡ at_place (λ n. f (slice_get xs n)) p (f (Some x)) q
+pub read_set : {X Y : Type 0} (f : Option X → Y) (xs : List X) (p q : ℕ) (x : X) → p < length xs → f (slice_get (slice_set xs p x) q) ≡ update (λ n. f (slice_get xs n)) p (f (Some x)) q
 read_set f xs p q x l = ap f (get_set xs p q x l) ∙ through (p == q)
   where
     through : (b : Bool) → f (cond b (Some x) (slice_get xs q)) ≡ cond b (f (Some x)) (f (slice_get xs q))
@@ -38,7 +38,7 @@ read_set f xs p q x l = ap f (get_set xs p q x l) ∙ through (p == q)
     through false = refl
 
 -- what is at its place already
-pub same_place : {Y : Type 0} (f : ℕ → Y) (p : ℕ) (y : Y) → f p ≡ y → (q : ℕ) → at_place f p y q ≡ f q
+pub same_place : {Y : Type 0} (f : ℕ → Y) (p : ℕ) (y : Y) → f p ≡ y → (q : ℕ) → update f p y q ≡ f q
 same_place f p y h q = through (p == q) refl
   where
     through : (b : Bool) → (p == q) ≡ b → cond b y (f q) ≡ f q
@@ -73,17 +73,17 @@ module _ {K V F S : Type 0} (cmp : K → K → Ordering) (hash : K → ℕ) (giv
     pub slot : (d j : ℕ) → slot_of (content_at t d j) ≡ (effect cmp hash gives (state_of w) p l).slot d j
     pub parties : (state_of w).parties ≡ (effect cmp hash gives (state_of w) p l).parties
     pub call : (q : ℕ) → (state_of w).call q ≡ (effect cmp hash gives (state_of w) p l).call q
-    pub mode : (q : ℕ) → at_place (state_of w).mode p (mode_of_stage c.stage) q ≡ (effect cmp hash gives (state_of w) p l).mode q
-    pub claim : (q : ℕ) → at_place (state_of w).claim p (claim_of_stage c.stage) q ≡ (effect cmp hash gives (state_of w) p l).claim q
-    pub told : (q : ℕ) → at_place (state_of w).told p (told_of_stage c.stage) q ≡ (effect cmp hash gives (state_of w) p l).told q
+    pub mode : (q : ℕ) → update (state_of w).mode p (mode_of_stage c.stage) q ≡ (effect cmp hash gives (state_of w) p l).mode q
+    pub claim : (q : ℕ) → update (state_of w).claim p (claim_of_stage c.stage) q ≡ (effect cmp hash gives (state_of w) p l).claim q
+    pub told : (q : ℕ) → update (state_of w).told p (told_of_stage c.stage) q ≡ (effect cmp hash gives (state_of w) p l).told q
     pub count : b.count ≡ (effect cmp hash gives (state_of w) p l).count
     pub seen : (q : ℕ) → (state_of w).seen q ≡ (effect cmp hash gives (state_of w) p l).seen q
     pub began_from : (q : ℕ) → (state_of w).began_from q ≡ (effect cmp hash gives (state_of w) p l).began_from q
 
   pub does_transition : (w : WorldState K V F S) (p : ℕ) (x : PartyRecord K V F) (b : ControlState) (t : Tables K V) (c : PartyState K V F) (lab : Label K V F) (l : Transition K V F) → slice_get w.party_records p ≡ Some x → last_seen c.stage ≡ last_seen x.party_state.stage → IsTransition w p b t c lab l
-      → state_of (with_step w p x b t c lab) ≡ does cmp hash gives (state_of w) p l
+      → state_of (with_step w p x b t c lab) ≡ next_state cmp hash gives (state_of w) p l
   does_transition w p x b t c lab l h last is = λ i. record {
-    start = (ap (start_of w.first) turned ∙ is.start) i;
+    start = (ap (start_of w.first) after_field_step ∙ is.start) i;
     published = is.published i;
     growth = is.growth i;
     slot = λ d j. is.slot d j i;
@@ -95,8 +95,8 @@ module _ {K V F S : Type 0} (cmp : K → K → Ordering) (hash : K → ℕ) (giv
     count = is.count i;
     seen = λ q. (read_set seen_in w.party_records p q y below ∙ same_place (state_of w).seen p (last_seen c.stage) (ap seen_in h ∙ sym last) q ∙ is.seen q) i;
     began_from = λ q. (read_set began_from_in w.party_records p q y below ∙ same_place (state_of w).began_from p x.began_from (ap began_from_in h) q ∙ is.began_from q) i;
-    steps = λ q. (read_set steps_in w.party_records p q y below ∙ ap (λ n. at_place (state_of w).steps p n q) (ap suc (sym (ap steps_in h)) ∙ sym is.steps_are)) i;
-    trace = (turned ∙ ap (λ m. m ∷ history w) is.label_is) i;
+    steps = λ q. (read_set steps_in w.party_records p q y below ∙ ap (λ n. update (state_of w).steps p n q) (ap suc (sym (ap steps_in h)) ∙ sym is.steps_are)) i;
+    trace = (after_field_step ∙ ap (λ m. m ∷ history w) is.label_is) i;
   }
     where
       y : PartyRecord K V F
@@ -105,8 +105,8 @@ module _ {K V F S : Type 0} (cmp : K → K → Ordering) (hash : K → ℕ) (giv
       below : p < length w.party_records
       below = slice_get_within w.party_records p x h
 
-      turned : reverse (w.trace ++ lab ∷ []) ≡ lab ∷ history w
-      turned = reverse-append w.trace (lab ∷ [])
+      after_field_step : reverse (w.trace ++ lab ∷ []) ≡ lab ∷ history w
+      after_field_step = reverse-append w.trace (lab ∷ [])
 
       calls : (q : ℕ) → option_map (λ (z : PartyRecord K V F). z.call) (slice_get (slice_set w.party_records p y) q) ≡ (state_of w).call q
       calls q = read_set (option_map (λ (z : PartyRecord K V F). z.call)) w.party_records p q y below ∙ same_place (state_of w).call p (Some x.call) (ap (option_map (λ (z : PartyRecord K V F). z.call)) h) q

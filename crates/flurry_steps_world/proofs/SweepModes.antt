@@ -11,15 +11,15 @@ use Rattle.flurry_base.specs.declared.call.Seen.{Seen}
 use Rattle.flurry_bins_slots.specs.Slot.{PlainEntry}
 use Rattle.flurry_steps_sweep.specs.Cursor as cursor
 use Rattle.flurry_steps_sweep.specs.Cursor.{CursorState, at_base, after_split}
-use Rattle.flurry_steps_sweep.specs.Sweep.{Errand, Reads, Wipes, stage_walked, stage_cleared}
+use Rattle.flurry_steps_sweep.specs.Sweep.{SweepKind, Reads, Wipes, stage_walked, stage_cleared}
 use Rattle.flurry_steps_theory.specs.Map.{same}
 use Rattle.flurry_steps_theory.specs.Bin.{past, first_past}
 use Rattle.flurry_steps_theory.specs.Machine.{State, Walking, Clearing, Done, Unborn, Frame, halves, owes_removed, mode_at_table}
 use Rattle.flurry_steps_theory.specs.Machine as machine
 use Rattle.flurry_steps_theory.specs.Invariant.{Tables, AreNotUnborn}
 use Rattle.flurry_steps_theory.proofs.Bins.{small_mod}
-use Rattle.flurry_steps_world.specs.Entries.{entry_of_held, entries_of_held, IsHashed}
-use Rattle.flurry_steps_world.specs.World.{frame_of, frames_of, mode_over, mode_of_sweep, IsOwnHash, AreHashed, FollowsErrand, IsFresh, FollowsSweep}
+use Rattle.flurry_steps_world.specs.Entries.{entry_of_held, machine_entries, IsHashed}
+use Rattle.flurry_steps_world.specs.World.{frame_of, frames_of, mode_over, mode_of_sweep, IsOwnHash, AreHashed, FollowsKind, IsFreshKind, FollowsSweep}
 use Rattle.flurry_steps_world.proofs.EntryLaws.{order_at}
 
 one_more : (n : ℕ) → n + 1 ≡ suc n
@@ -27,7 +27,7 @@ one_more n = omega arith
 
 module _ {K V F : Type 0} where
   -- where the call begins in table a
-  pub begins_over : (c : Call K V F) (w : Errand) (z : Option (Seen K V)) (a : ℕ) → FollowsErrand c w z → IsFresh w → mode_over {V = V} w (at_base a 0) ≡ mode_at_table a c
+  pub begins_over : (c : Call K V F) (w : SweepKind) (z : Option (Seen K V)) (a : ℕ) → FollowsKind c w z → IsFreshKind w → mode_over {V = V} w (at_base a 0) ≡ mode_at_table a c
   begins_over c Reads z a f fresh = sym (ap (mode_at_table a) f)
   begins_over c (Wipes n) z a f fresh = ap (λ m. Clearing m a 0 (frames_of (at_base a 0))) fresh ∙ sym (ap (mode_at_table a) f.0)
 
@@ -66,7 +66,7 @@ module _ (K V : Type 0) where
 
 module _ {K : Type 0} (V : Type 0) (hash : K → ℕ) where
   -- bounds have their keys' hashes
-  pub walked_hashed : (e i : ℕ) (fs : List (cursor.Frame K)) (w : Errand) → AreHashed hash fs → FollowsSweep {V = V} hash (stage_walked (cursor.onward e i fs)) w
+  pub walked_hashed : (e i : ℕ) (fs : List (cursor.Frame K)) (w : SweepKind) → AreHashed hash fs → FollowsSweep {V = V} hash (stage_walked (cursor.onward e i fs)) w
   walked_hashed e i [] w h = by_end (nat_lt (i + 1) (2 ^ e))
     where
       by_end : (b : Bool) → FollowsSweep {V = V} hash (stage_walked (if b then Some (at_base e (i + 1)) else None)) w
@@ -84,11 +84,11 @@ module _ {K : Type 0} (V : Type 0) (hash : K → ℕ) where
 
 module _ {K V : Type 0} (hash : K → ℕ) where
   -- an entry that is found has its key's hash
-  pub found_hashed : (test : PlainEntry K V → Bool) (held : List (PlainEntry K V)) (y : PlainEntry K V) → IsHashed hash held → find test held ≡ Some y → y.0.0 ≡ hash y.0.1
+  pub found_hashed : (test : PlainEntry K V → Bool) (plain_entries : List (PlainEntry K V)) (y : PlainEntry K V) → IsHashed hash plain_entries → find test plain_entries ≡ Some y → y.0.0 ≡ hash y.0.1
   found_hashed test [] y hd h = cc
-  found_hashed test (x ∷ held) y hd h = by_test (test x) refl (found_hashed test held y hd.1)
+  found_hashed test (x ∷ plain_entries) y hd h = by_test (test x) refl (found_hashed test plain_entries y hd.1)
     where
-      by_test : (b : Bool) → test x ≡ b → (find test held ≡ Some y → y.0.0 ≡ hash y.0.1) → y.0.0 ≡ hash y.0.1
+      by_test : (b : Bool) → test x ≡ b → (find test plain_entries ≡ Some y → y.0.0 ≡ hash y.0.1) → y.0.0 ≡ hash y.0.1
       by_test true t ih = let same : Some x ≡ Some y = rw t at h in grind (arith, same, hd.0)
       by_test false t ih = ih (rw t at h)
 
@@ -98,11 +98,11 @@ module _ {K V : Type 0} (cmp : K → K → Ordering) (total : IsTotalOrder cmp) 
   past_alike (Some b) x own hd = sym (ap is_lt (order_at cmp total hash lawful b x.0 own hd))
 
   -- the next entry past a bound
-  pub next_entry : (bound : Option (ℕ × K)) (held : List (PlainEntry K V)) → IsOwnHash hash bound → IsHashed hash held → first_past cmp hash (option_map (λ b. b.1) bound) (entries_of_held held) ≡ option_map entry_of_held (find (is_pair_past cmp bound) held)
+  pub next_entry : (bound : Option (ℕ × K)) (plain_entries : List (PlainEntry K V)) → IsOwnHash hash bound → IsHashed hash plain_entries → first_past cmp hash (option_map (λ b. b.1) bound) (machine_entries plain_entries) ≡ option_map entry_of_held (find (is_pair_past cmp bound) plain_entries)
   next_entry bound [] own hd = refl
-  next_entry bound (x ∷ held) own hd = by_test (is_pair_past cmp bound x) refl (next_entry bound held own hd.1)
+  next_entry bound (x ∷ plain_entries) own hd = by_test (is_pair_past cmp bound x) refl (next_entry bound plain_entries own hd.1)
     where
-      by_test : (b : Bool) → is_pair_past cmp bound x ≡ b → first_past cmp hash (option_map (λ b. b.1) bound) (entries_of_held held) ≡ option_map entry_of_held (find (is_pair_past cmp bound) held) → first_past cmp hash (option_map (λ b. b.1) bound) (entries_of_held (x ∷ held)) ≡ option_map entry_of_held (find (is_pair_past cmp bound) (x ∷ held))
+      by_test : (b : Bool) → is_pair_past cmp bound x ≡ b → first_past cmp hash (option_map (λ b. b.1) bound) (machine_entries plain_entries) ≡ option_map entry_of_held (find (is_pair_past cmp bound) plain_entries) → first_past cmp hash (option_map (λ b. b.1) bound) (machine_entries (x ∷ plain_entries)) ≡ option_map entry_of_held (find (is_pair_past cmp bound) (x ∷ plain_entries))
       by_test true t ih = rw (past_alike bound x own hd.0, t) refl
       by_test false t ih = rw (past_alike bound x own hd.0, t) ih
 

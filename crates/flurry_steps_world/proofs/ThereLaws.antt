@@ -8,7 +8,7 @@ use Rattle.flurry_bins_slots.specs.Slot.{Content, IsUnborn}
 use Rattle.flurry_steps_control.specs.Claim.{ClaimState}
 use Rattle.flurry_steps_sweep.specs.Cursor.{CursorState}
 use Rattle.flurry_steps_sweep.specs.Sweep as swept
-use Rattle.flurry_steps_sweep.specs.Sweep.{Errand, Reads, Wipes, SweepStage, AtOutset, OverBins, AtTotal, AtEnd, AfterEnd, SweepState, IsUnderWay}
+use Rattle.flurry_steps_sweep.specs.Sweep.{SweepKind, Reads, Wipes, SweepStage, AtSweepStart, OverBins, AtTotal, AtEnd, AfterEnd, SweepState, IsUnderWay}
 use Rattle.flurry_steps.specs.Party.{Task, Finds, Removes, RemovesSeen, Inserts, Adds, Computes, Moving, Resume, Stage, AtBin, AtHelp, AtSweep, AtDone, AtTaken, part_of, wanted_part, bin_part, move_part}
 use Rattle.flurry_base.specs.OneKey.{key_of}
 use Rattle.flurry_steps_theory.specs.Map.{same}
@@ -85,23 +85,23 @@ module _ {K V F S : Type 0} (cmp : K → K → Ordering) (total : IsTotalOrder c
 
   -- the bin that a walk or a clear goes over is not unborn
   pub frame_is_there : (u : SweepState K V) → x.party_state.stage ≡ AtSweep u → (f : CursorState K) → u.stage ≡ OverBins f → content_at w.tables f.top.table f.top.index ≡ IsUnborn → ⊥
-  frame_is_there u e f over unborn = by_errand u.errand named
+  frame_is_there u e f over unborn = by_errand u.kind named
     where
-      in_stage : (state_of w).mode p ≡ mode_over u.errand f
-      in_stage = in_mode cmp total hash lawful gives w k p x at x.party_state (AtSweep u) e ∙ ap (λ z. mode_of_sweep z u.errand) over
+      in_stage : (state_of w).mode p ≡ mode_over u.kind f
+      in_stage = in_mode cmp total hash lawful gives w k p x at x.party_state (AtSweep u) e ∙ ap (λ z. mode_of_sweep z u.kind) over
 
-      named : NamesNoUnborn {F = F} hash (is_some w.control_state.published) k.state.0 (state_of w).start ((state_of w).call p) (mode_over u.errand f)
+      named : NamesNoUnborn {F = F} hash (is_some w.control_state.published) k.state.0 (state_of w).start ((state_of w).call p) (mode_over u.kind f)
       named = subst (λ m. NamesNoUnborn {F = F} hash (is_some w.control_state.published) k.state.0 (state_of w).start ((state_of w).call p) m) in_stage (k.state.1.named p)
 
-      by_errand : (r : Errand) → NamesNoUnborn {F = F} hash (is_some w.control_state.published) k.state.0 (state_of w).start ((state_of w).call p) (mode_over r f) → ⊥
+      by_errand : (r : SweepKind) → NamesNoUnborn {F = F} hash (is_some w.control_state.published) k.state.0 (state_of w).start ((state_of w).call p) (mode_over r f) → ⊥
       by_errand Reads n = frame_is_born cmp hash k.state.0 (state_of w) (frame_of f.top) (map frame_of f.below) k.state.1.tables n.0 n.3 (ap slot_of unborn)
       by_errand (Wipes m) n = frame_is_born cmp hash k.state.0 (state_of w) (frame_of f.top) (map frame_of f.below) k.state.1.tables n.0 n.3 (ap slot_of unborn)
 
   there_frame : (u : SweepState K V) → x.party_state.stage ≡ AtSweep u → (f : CursorState K) → u.stage ≡ OverBins f → IsSome (place_at w.tables f.top.table f.top.index)
   there_frame u e f over = place_of_content w.tables f.top.table f.top.index (frame_is_there u e f over)
 
-  there_sweep : (u : SweepState K V) → x.party_state.stage ≡ AtSweep u → (s : SweepStage K V) (er : Errand) → u.stage ≡ s → u.errand ≡ er → IsUnderWay s → IsThere w.tables (swept.part_at er s)
-  there_sweep u e AtOutset er h q g = tt
+  there_sweep : (u : SweepState K V) → x.party_state.stage ≡ AtSweep u → (s : SweepStage K V) (er : SweepKind) → u.stage ≡ s → u.kind ≡ er → IsUnderWay s → IsThere w.tables (swept.part_at er s)
+  there_sweep u e AtSweepStart er h q g = tt
   there_sweep u e (OverBins f) Reads h q g = there_frame u e f h
   there_sweep u e (OverBins f) (Wipes n) h q g = there_frame u e f h
   there_sweep u e AtTotal er h q g = tt
@@ -111,7 +111,7 @@ module _ {K V F S : Type 0} (cmp : K → K → Ordering) (total : IsTotalOrder c
   there : (s : Stage K V F) → x.party_state.stage ≡ s → IsGoing s → IsThere w.tables (part_of x.party_state.hash s)
   there (AtBin t n) e g = there_bin t n e
   there (AtHelp (Moving m) a) e g = there_move m a e (nat_lt m.range.low m.left) refl
-  there (AtSweep u) e g = there_sweep u e u.stage u.errand refl refl g
+  there (AtSweep u) e g = there_sweep u e u.stage u.kind refl refl g
   there (AtDone r) e g = absurd g
   there AtTaken e g = absurd g
   there s e g = tt

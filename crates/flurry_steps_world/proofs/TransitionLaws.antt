@@ -10,7 +10,7 @@ use Rattle.flurry_steps_theory.proofs.Ranges.{place_here, total-change, total-ze
 use Rattle.flurry_base.specs.declared.reply.KeptReply.{KeptReply}
 use Rattle.flurry_steps_theory.specs.Bin.{Entry, half}
 use Rattle.flurry_steps_theory.specs.Machine as machine
-use Rattle.flurry_steps_theory.specs.Machine.{Mode, Done, Live, Moved, Transition, total, owes_added, owes_removed, mode_after_count, at_place, at_bin, effect, does, goes, label, is_complete, with_report, Quiet, Counts, Finds, Opens, IsRefused, DecidesEmpty, Passes, Decides, Places, Claims, Moves, Reports, Publishes, Replies, Ends, found_by}
+use Rattle.flurry_steps_theory.specs.Machine.{Mode, Done, Live, Moved, Transition, total, owes_added, owes_removed, mode_after_count, update, update2, effect, next_state, goes, label, is_complete, with_report, Quiet, Counts, Finds, Opens, IsRefused, DecidesEmpty, Passes, Decides, Places, Claims, Moves, Reports, Publishes, Replies, Ends, found_by}
 use Rattle.flurry_base.specs.declared.call.Call.{Call}
 use Rattle.flurry_steps_theory.specs.declared.Label.{Label}
 use Rattle.flurry_steps_theory.specs.declared.Label.TheVariants as label
@@ -26,7 +26,7 @@ total-own : (f : ℕ → ℕ) (p n : ℕ) → p < n → total (λ q. if p == q t
 total-own f p n l = omega (arith, total-change (λ q. if p == q then f q else 0) (λ _. 0) p n l (λ q ne. grind (arith, eqb-true p q, ne)), total-zero (λ _. 0) n (λ _. refl), place_here (λ _. 0) p (f p))
 
 -- the mode of one party alone is settled
-own_settled : {K V : Type 0} (f : ℕ → Mode K V) (p : ℕ) (m : Mode K V) → mode_after_count (f p) ≡ m → (q : ℕ) → at_place f p m q ≡ cond (p == q) (mode_after_count (f q)) (f q)
+own_settled : {K V : Type 0} (f : ℕ → Mode K V) (p : ℕ) (m : Mode K V) → mode_after_count (f p) ≡ m → (q : ℕ) → update f p m q ≡ cond (p == q) (mode_after_count (f q)) (f q)
 own_settled f p m h q = through (p == q) refl
   where
     through : (b : Bool) → (p == q) ≡ b → cond b m (f q) ≡ cond b (mode_after_count (f q)) (f q)
@@ -40,14 +40,14 @@ module _ {K V F S : Type 0} (cmp : K → K → Ordering) (hash : K → ℕ) (giv
   below : p < length w.party_records
   below = slice_get_within w.party_records p x at
 
-  same_claim : held_of_stage c.stage ≡ held_of_stage x.party_state.stage → (q : ℕ) → at_place (state_of w).claim p (claim_of_stage c.stage) q ≡ (state_of w).claim q
-  same_claim held q = same_place (state_of w).claim p (claim_of_stage c.stage) (ap claim_in at ∙ sym (ap (λ h. h.0) held)) q
+  same_claim : held_of_stage c.stage ≡ held_of_stage x.party_state.stage → (q : ℕ) → update (state_of w).claim p (claim_of_stage c.stage) q ≡ (state_of w).claim q
+  same_claim plain_entries q = same_place (state_of w).claim p (claim_of_stage c.stage) (ap claim_in at ∙ sym (ap (λ h. h.0) plain_entries)) q
 
-  same_told : held_of_stage c.stage ≡ held_of_stage x.party_state.stage → (q : ℕ) → at_place (state_of w).told p (told_of_stage c.stage) q ≡ (state_of w).told q
-  same_told held q = same_place (state_of w).told p (told_of_stage c.stage) (ap told_in at ∙ sym (ap (λ h. h.1) held)) q
+  same_told : held_of_stage c.stage ≡ held_of_stage x.party_state.stage → (q : ℕ) → update (state_of w).told p (told_of_stage c.stage) q ≡ (state_of w).told q
+  same_told plain_entries q = same_place (state_of w).told p (told_of_stage c.stage) (ap told_in at ∙ sym (ap (λ h. h.1) plain_entries)) q
 
   -- nobody is told that was not before
-  none_told : told_of_stage c.stage ≡ told_of_stage x.party_state.stage → (q : ℕ) → at_place (state_of w).told p (told_of_stage c.stage) q ≡ (state_of w).told q
+  none_told : told_of_stage c.stage ≡ told_of_stage x.party_state.stage → (q : ℕ) → update (state_of w).told p (told_of_stage c.stage) q ≡ (state_of w).told q
   none_told same q = same_place (state_of w).told p (told_of_stage c.stage) (ap told_in at ∙ sym same) q
 
   stepped : (l : Transition K V F) → is_step l ≡ true → machine.steps_after cmp hash gives (state_of w) p l ≡ suc ((state_of w).steps p)
@@ -65,7 +65,7 @@ module _ {K V F S : Type 0} (cmp : K → K → Ordering) (hash : K → ℕ) (giv
     slot = λ d j. ap (λ z. z.slot d j) (sym e);
     parties = ap (λ z. z.parties) (sym e);
     call = λ q. ap (λ z. z.call q) (sym e);
-    mode = λ q. ap (λ n. at_place (state_of w).mode p n q) mode ∙ ap (λ z. z.mode q) (sym e);
+    mode = λ q. ap (λ n. update (state_of w).mode p n q) mode ∙ ap (λ z. z.mode q) (sym e);
     claim = λ q. same_claim claim q ∙ ap (λ z. z.claim q) (sym e);
     told = λ q. same_told claim q ∙ ap (λ z. z.told q) (sym e);
     count = ap (λ z. z.count) (sym e);
@@ -127,7 +127,7 @@ module _ {K V F S : Type 0} (cmp : K → K → Ordering) (hash : K → ℕ) (giv
     slot = slot;
     parties = refl;
     call = λ q. refl;
-    mode = λ q. ap (λ m. at_place (state_of w).mode p m q) (mode ∙ ap (λ o. found_by cmp hash gives o e) (sym begun));
+    mode = λ q. ap (λ m. update (state_of w).mode p m q) (mode ∙ ap (λ o. found_by cmp hash gives o e) (sym begun));
     claim = λ q. same_claim claim q;
     told = λ q. same_told claim q;
     count = refl;
@@ -180,7 +180,7 @@ module _ {K V F S : Type 0} (cmp : K → K → Ordering) (hash : K → ℕ) (giv
     pub is_claimed : (low : ℕ) → growth_of w.control_state.growth t ≡ Some (record { unclaimed = low; reported = g.reported })
         → held_of_stage c.stage ≡ (Some (record { table = e; low = low; left = g.unclaimed; high = g.unclaimed }), told_of_stage x.party_state.stage)
         → IsTransition cmp hash gives w p w.control_state t c (label.Silent p) (Claims e g low)
-    is_claimed low after held = record {
+    is_claimed low after plain_entries = record {
       label_is = refl;
       steps_are = stepped (Claims e g low) refl;
       start = refl;
@@ -190,8 +190,8 @@ module _ {K V F S : Type 0} (cmp : K → K → Ordering) (hash : K → ℕ) (giv
       parties = refl;
       call = λ q. refl;
       mode = λ q. same_place (state_of w).mode p (mode_of_stage c.stage) (sym mode) q;
-      claim = λ q. ap (λ a. at_place (state_of w).claim p a q) (ap (λ h. h.0) held);
-      told = λ q. none_told (ap (λ h. h.1) held) q;
+      claim = λ q. ap (λ a. update (state_of w).claim p a q) (ap (λ h. h.0) plain_entries);
+      told = λ q. none_told (ap (λ h. h.1) plain_entries) q;
       count = refl;
       seen = λ q. refl;
       began_from = λ q. refl;
@@ -201,7 +201,7 @@ module _ {K V F S : Type 0} (cmp : K → K → Ordering) (hash : K → ℕ) (giv
     pub is_reported : (a : machine.Claim) → growth_of w.control_state.growth t ≡ Some (with_report g a) → told_of_stage x.party_state.stage ≡ None
         → held_of_stage c.stage ≡ (None, (if is_complete a.table (with_report g a) then Some a.table else None))
         → IsTransition cmp hash gives w p w.control_state t c (label.Silent p) (Reports a g)
-    is_reported a after untold held = record {
+    is_reported a after untold plain_entries = record {
       label_is = refl;
       steps_are = stepped (Reports a g) refl;
       start = refl;
@@ -211,21 +211,21 @@ module _ {K V F S : Type 0} (cmp : K → K → Ordering) (hash : K → ℕ) (giv
       parties = refl;
       call = λ q. refl;
       mode = λ q. same_place (state_of w).mode p (mode_of_stage c.stage) (sym mode) q;
-      claim = λ q. ap (λ a. at_place (state_of w).claim p a q) (ap (λ h. h.0) held);
-      told = λ q. ap (λ o. at_place (state_of w).told p o q) (ap (λ h. h.1) held) ∙ by_last (is_complete a.table (with_report g a)) q;
+      claim = λ q. ap (λ a. update (state_of w).claim p a q) (ap (λ h. h.0) plain_entries);
+      told = λ q. ap (λ o. update (state_of w).told p o q) (ap (λ h. h.1) plain_entries) ∙ by_last (is_complete a.table (with_report g a)) q;
       count = refl;
       seen = λ q. refl;
       began_from = λ q. refl;
     }
       where
-        by_last : (b : Bool) (q : ℕ) → at_place (state_of w).told p (if b then Some a.table else None) q ≡ cond b (at_place (state_of w).told p (Some a.table)) (state_of w).told q
+        by_last : (b : Bool) (q : ℕ) → update (state_of w).told p (if b then Some a.table else None) q ≡ cond b (update (state_of w).told p (Some a.table)) (state_of w).told q
         by_last true q = refl
         by_last false q = same_place (state_of w).told p None (ap told_in at ∙ untold) q
 
   -- the next table is published
   pub is_published : (e : ℕ) (g : machine.Growth) → mode_of_stage c.stage ≡ (state_of w).mode p → held_of_stage c.stage ≡ (claim_of_stage x.party_state.stage, None)
       → IsTransition cmp hash gives w p (record { published = Some (suc e); growth = None; count = w.control_state.count }) w.tables c (label.Published (suc e)) (Publishes e g)
-  is_published e g mode held = record {
+  is_published e g mode plain_entries = record {
     label_is = refl;
     steps_are = stepped (Publishes e g) refl;
     start = refl;
@@ -235,8 +235,8 @@ module _ {K V F S : Type 0} (cmp : K → K → Ordering) (hash : K → ℕ) (giv
     parties = refl;
     call = λ q. refl;
     mode = λ q. same_place (state_of w).mode p (mode_of_stage c.stage) (sym mode) q;
-    claim = λ q. same_place (state_of w).claim p (claim_of_stage c.stage) (ap claim_in at ∙ sym (ap (λ h. h.0) held)) q;
-    told = λ q. ap (λ o. at_place (state_of w).told p o q) (ap (λ h. h.1) held);
+    claim = λ q. same_place (state_of w).claim p (claim_of_stage c.stage) (ap claim_in at ∙ sym (ap (λ h. h.0) plain_entries)) q;
+    told = λ q. ap (λ o. update (state_of w).told p o q) (ap (λ h. h.1) plain_entries);
     count = refl;
     seen = λ q. refl;
     began_from = λ q. refl;
@@ -244,7 +244,7 @@ module _ {K V F S : Type 0} (cmp : K → K → Ordering) (hash : K → ℕ) (giv
 
   -- the next bin of its claim has moved
   pub is_moved : (a : machine.Claim) (i : ℕ) (es : List (Entry K V)) (n : ℕ) (t : Tables K V) → growth_of w.control_state.growth t ≡ growth_of w.control_state.growth w.tables
-      → ((d j : ℕ) → slot_of (content_at t d j) ≡ at_bin (at_bin (at_bin (state_of w).slot a.table i Moved) (suc a.table) i (Live (half hash (suc a.table) i es) n)) (suc a.table) (i + 2 ^ a.table) (Live (half hash (suc a.table) (i + 2 ^ a.table) es) n) d j)
+      → ((d j : ℕ) → slot_of (content_at t d j) ≡ update2 (update2 (update2 (state_of w).slot a.table i Moved) (suc a.table) i (Live (half hash (suc a.table) i es) n)) (suc a.table) (i + 2 ^ a.table) (Live (half hash (suc a.table) (i + 2 ^ a.table) es) n) d j)
       → mode_of_stage c.stage ≡ (state_of w).mode p → held_of_stage c.stage ≡ (Some (record { table = a.table; low = a.low; left = i; high = a.high }), told_of_stage x.party_state.stage)
       → IsTransition cmp hash gives w p w.control_state t c (label.Moved a.table i) (Moves a i es n)
   is_moved a i es n t same slot mode claim = record {
@@ -257,7 +257,7 @@ module _ {K V F S : Type 0} (cmp : K → K → Ordering) (hash : K → ℕ) (giv
     parties = refl;
     call = λ q. refl;
     mode = λ q. same_place (state_of w).mode p (mode_of_stage c.stage) (sym mode) q;
-    claim = λ q. ap (λ a. at_place (state_of w).claim p a q) (ap (λ h. h.0) claim);
+    claim = λ q. ap (λ a. update (state_of w).claim p a q) (ap (λ h. h.0) claim);
     told = λ q. none_told (ap (λ h. h.1) claim) q;
     count = refl;
     seen = λ q. refl;
@@ -266,7 +266,7 @@ module _ {K V F S : Type 0} (cmp : K → K → Ordering) (hash : K → ℕ) (giv
 
   -- it decides at its bin
   pub is_decided : (d : Call K V F) (k : K) (e : ℕ) (es : List (Entry K V)) (n : ℕ) (r : KeptReply K V) (fs : List (Entry K V)) (m : ℕ) (t : Tables K V) → growth_of w.control_state.growth t ≡ growth_of w.control_state.growth w.tables
-      → ((g j : ℕ) → slot_of (content_at t g j) ≡ at_bin (state_of w).slot e (hash k % 2 ^ e) (Live fs m) g j)
+      → ((g j : ℕ) → slot_of (content_at t g j) ≡ update2 (state_of w).slot e (hash k % 2 ^ e) (Live fs m) g j)
       → mode_of_stage c.stage ≡ Done (Some r) (length fs - length es) (length es - length fs) → held_of_stage c.stage ≡ held_of_stage x.party_state.stage
       → IsTransition cmp hash gives w p w.control_state t c (label.Decide p r) (Decides d k e es n r fs m)
   is_decided d k e es n r fs m t same slot mode claim = record {
@@ -278,7 +278,7 @@ module _ {K V F S : Type 0} (cmp : K → K → Ordering) (hash : K → ℕ) (giv
     slot = slot;
     parties = refl;
     call = λ q. refl;
-    mode = λ q. ap (λ m. at_place (state_of w).mode p m q) mode;
+    mode = λ q. ap (λ m. update (state_of w).mode p m q) mode;
     claim = λ q. same_claim claim q;
     told = λ q. same_told claim q;
     count = refl;
@@ -288,7 +288,7 @@ module _ {K V F S : Type 0} (cmp : K → K → Ordering) (hash : K → ℕ) (giv
 
   -- a clear wipes a bin
   pub is_wiped : (d e i : ℕ) (f : machine.Frame K) (fs : List (machine.Frame K)) (es : List (Entry K V)) (n : ℕ) (t : Tables K V) → growth_of w.control_state.growth t ≡ growth_of w.control_state.growth w.tables
-      → ((g j : ℕ) → slot_of (content_at t g j) ≡ at_bin (state_of w).slot f.table f.index (Live [] n) g j)
+      → ((g j : ℕ) → slot_of (content_at t g j) ≡ update2 (state_of w).slot f.table f.index (Live [] n) g j)
       → mode_of_stage c.stage ≡ machine.onward (machine.Clearing (d + length es)) (Done None 0 (d + length es)) e i fs → held_of_stage c.stage ≡ held_of_stage x.party_state.stage
       → IsTransition cmp hash gives w p w.control_state t c (label.Wipe p f.table f.index) (machine.Wipes d e i f fs es n)
   is_wiped d e i f fs es n t same slot mode claim = record {
@@ -300,7 +300,7 @@ module _ {K V F S : Type 0} (cmp : K → K → Ordering) (hash : K → ℕ) (giv
     slot = slot;
     parties = refl;
     call = λ q. refl;
-    mode = λ q. ap (λ m. at_place (state_of w).mode p m q) mode;
+    mode = λ q. ap (λ m. update (state_of w).mode p m q) mode;
     claim = λ q. same_claim claim q;
     told = λ q. same_told claim q;
     count = refl;
@@ -311,26 +311,26 @@ module _ {K V F S : Type 0} (cmp : K → K → Ordering) (hash : K → ℕ) (giv
   -- a walk reads an entry
   pub does_read : (e i : ℕ) (f : machine.Frame K) (fs : List (machine.Frame K)) (es : List (Entry K V)) (n : ℕ) (y : Entry K V)
       → mode_of_stage c.stage ≡ machine.Walking e i (record { table = f.table; index = f.index; bound = Some y.key } ∷ fs) → held_of_stage c.stage ≡ held_of_stage x.party_state.stage → last_seen c.stage ≡ Some (record { key = y.key; value = y.value; number = y.number })
-      → state_of (with_step w p x w.control_state w.tables c (label.Read p y.key y.value)) ≡ does cmp hash gives (state_of w) p (machine.Reads e i f fs es n y)
+      → state_of (with_step w p x w.control_state w.tables c (label.Read p y.key y.value)) ≡ next_state cmp hash gives (state_of w) p (machine.Reads e i f fs es n y)
   does_read e i f fs es n y mode claim seen = λ j. record {
-    start = ap (start_of w.first) turned j;
+    start = ap (start_of w.first) after_field_step j;
     published = w.control_state.published;
     growth = (state_of w).growth;
     slot = (state_of w).slot;
     parties = length-set w.party_records p z j;
     call = λ q. (read_set (option_map (λ (r : PartyRecord K V F). r.call)) w.party_records p q z below ∙ same_place (state_of w).call p (Some x.call) begun q) j;
-    mode = λ q. (read_set mode_in w.party_records p q z below ∙ ap (λ m. at_place (state_of w).mode p m q) mode) j;
+    mode = λ q. (read_set mode_in w.party_records p q z below ∙ ap (λ m. update (state_of w).mode p m q) mode) j;
     claim = λ q. (read_set claim_in w.party_records p q z below ∙ same_claim claim q) j;
     told = λ q. (read_set told_in w.party_records p q z below ∙ same_told claim q) j;
     count = w.control_state.count;
-    seen = λ q. (read_set seen_in w.party_records p q z below ∙ ap (λ m. at_place (state_of w).seen p m q) seen) j;
+    seen = λ q. (read_set seen_in w.party_records p q z below ∙ ap (λ m. update (state_of w).seen p m q) seen) j;
     began_from = λ q. (read_set began_from_in w.party_records p q z below ∙ same_place (state_of w).began_from p x.began_from (ap began_from_in at) q) j;
-    steps = λ q. (read_set steps_in w.party_records p q z below ∙ ap (λ m. at_place (state_of w).steps p m q) (ap suc (sym (ap steps_in at)) ∙ sym (stepped (machine.Reads e i f fs es n y) refl))) j;
-    trace = turned j;
+    steps = λ q. (read_set steps_in w.party_records p q z below ∙ ap (λ m. update (state_of w).steps p m q) (ap suc (sym (ap steps_in at)) ∙ sym (stepped (machine.Reads e i f fs es n y) refl))) j;
+    trace = after_field_step j;
   }
     where
       z : PartyRecord K V F
       z = record { call = x.call; began_from = x.began_from; party_state = c; steps = suc x.steps }
 
-      turned : reverse (w.trace ++ label.Read p y.key y.value ∷ []) ≡ label.Read p y.key y.value ∷ history w
-      turned = reverse-append w.trace (label.Read p y.key y.value ∷ [])
+      after_field_step : reverse (w.trace ++ label.Read p y.key y.value ∷ []) ≡ label.Read p y.key y.value ∷ history w
+      after_field_step = reverse-append w.trace (label.Read p y.key y.value ∷ [])

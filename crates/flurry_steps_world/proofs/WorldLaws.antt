@@ -8,11 +8,11 @@ use Rattle.std.proofs.lemmas.List.{reverse-append, length-append, length-set}
 use Rattle.flurry_steps_control.specs.Control.{ControlState}
 use Rattle.flurry_steps_sweep.specs.Outcome.{Outcome, OutcomeReply, OutcomeEnded, OutcomeRefused}
 use Rattle.flurry_steps_sweep.specs.Sweep as sweep
-use Rattle.flurry_steps_sweep.specs.Sweep.{SweepState, SweepStage, AtOutset, OverBins, AtTotal, AtEnd, AfterEnd}
+use Rattle.flurry_steps_sweep.specs.Sweep.{SweepState, SweepStage, AtSweepStart, OverBins, AtTotal, AtEnd, AfterEnd}
 use Rattle.flurry_steps.specs.Party.{Stage, AtSweep, AtDone, AtTaken, PartyState, with_stage, taken_stage, last_seen, part_of, IsSingle}
 use Rattle.flurry_base.specs.OneKey.{key_of}
 use Rattle.flurry_steps_theory.specs.Map.{same}
-use Rattle.flurry_steps_theory.specs.Machine.{Can, Locating, Done, Finished, Begins, Quiet, Loses, Replies, Ends, at_place, does}
+use Rattle.flurry_steps_theory.specs.Machine.{Enabled, Locating, Done, Finished, Begins, Quiet, Loses, Replies, Ends, update, next_state}
 use Rattle.flurry_steps_theory.specs.Invariant.{Inv}
 use Rattle.flurry_base.specs.declared.call.Call.{Call}
 use Rattle.flurry_base.specs.declared.call.Call.TheVariants as call
@@ -24,7 +24,7 @@ use Rattle.flurry_steps_theory.proofs.Step.{inv_step}
 use Rattle.flurry_steps_world.specs.Tables.{Tables}
 use Rattle.flurry_steps_world.specs.World.{PartyRecord, WorldState, Near, state_of, start_of, mode_in, claim_in, told_in, seen_in, began_from_in, steps_in, mode_of_stage, mode_of_sweep, FollowsSweep, FollowsStage, Follows, IsWorld, DoesTransition, history}
 use Rattle.flurry_steps_world.specs.Parts.{PartStep}
-use Rattle.flurry_steps_world.specs.Steps.{with_label, with_loss, with_step, with_party_record, closing_label, GoesOn, StepBySweep, StepByStage}
+use Rattle.flurry_steps_world.specs.Steps.{with_label, with_loss, with_step, with_party_record, closing_label, GoesOn, SweepStageStep, StageStep}
 use Rattle.flurry_steps_world.proofs.StateLaws.{held_of_stage, same_place, same_some, get_set, read_set}
 use Rattle.flurry_steps_world.proofs.TransitionLaws.{is_quiet, is_replied, is_ended}
 use Rattle.flurry_steps_world.proofs.Frames.{same_frame, StepOf, step_of, does_one, kept}
@@ -47,7 +47,7 @@ get_append (x ∷ xs) y (suc q) = get_append xs y q ∙ ap (λ b. cond b (Some y
     by_test false h = h ∙ sym (ne_eqb (suc (length xs)) (suc q) (λ g. eqb-false (length xs) q h (omega (arith, g))))
 
 -- what is read of the list with one more
-read_append : {X Y : Type 0} (f : Option X → Y) (xs : List X) (y : X) (q : ℕ) → f (slice_get (xs ++ y ∷ []) q) ≡ at_place (λ n. f (slice_get xs n)) (length xs) (f (Some y)) q
+read_append : {X Y : Type 0} (f : Option X → Y) (xs : List X) (y : X) (q : ℕ) → f (slice_get (xs ++ y ∷ []) q) ≡ update (λ n. f (slice_get xs n)) (length xs) (f (Some y)) q
 read_append f xs y q = ap f (get_append xs y q) ∙ through (length xs == q)
   where
     through : (b : Bool) → f (cond b (Some y) (slice_get xs q)) ≡ cond b (f (Some y)) (f (slice_get xs q))
@@ -57,9 +57,9 @@ read_append f xs y q = ap f (get_append xs y q) ∙ through (length xs == q)
 module _ {K V F S : Type 0} (cmp : K → K → Ordering) (total : IsTotalOrder cmp) (hash : K → ℕ) (lawful : (j k : K) → same cmp j k ≡ true → hash j ≡ hash k) (gives : F → K → V → Option V → Type 0) (w : WorldState K V F S) (k : IsWorld cmp hash gives w) (near : Near (2 ^ 62) w.control_state.count) where
   -- an unknown party's step
   module _ (p : ℕ) (unknown : slice_get w.party_records p ≡ None) where
-    silent_after : state_of (with_label w (label.Silent p)) ≡ does cmp hash gives (state_of w) p Quiet
+    silent_after : state_of (with_label w (label.Silent p)) ≡ next_state cmp hash gives (state_of w) p Quiet
     silent_after = λ i. record {
-      start = ap (start_of w.first) turned i;
+      start = ap (start_of w.first) after_field_step i;
       published = w.control_state.published;
       growth = (state_of w).growth;
       slot = (state_of w).slot;
@@ -71,12 +71,12 @@ module _ {K V F S : Type 0} (cmp : K → K → Ordering) (total : IsTotalOrder c
       count = w.control_state.count;
       seen = (state_of w).seen;
       began_from = (state_of w).began_from;
-      steps = λ q. (sym (same_place (state_of w).steps p ((state_of w).steps p) refl q) ∙ ap (λ b. at_place (state_of w).steps p (if b then suc ((state_of w).steps p) else (state_of w).steps p) q) (sym (ap is_some uncalled))) i;
-      trace = turned i;
+      steps = λ q. (sym (same_place (state_of w).steps p ((state_of w).steps p) refl q) ∙ ap (λ b. update (state_of w).steps p (if b then suc ((state_of w).steps p) else (state_of w).steps p) q) (sym (ap is_some uncalled))) i;
+      trace = after_field_step i;
     }
       where
-        turned : reverse (w.trace ++ label.Silent p ∷ []) ≡ label.Silent p ∷ history w
-        turned = reverse-append w.trace (label.Silent p ∷ [])
+        after_field_step : reverse (w.trace ++ label.Silent p ∷ []) ≡ label.Silent p ∷ history w
+        after_field_step = reverse-append w.trace (label.Silent p ∷ [])
 
         uncalled : (state_of w).call p ≡ None
         uncalled = ap (option_map (λ (z : PartyRecord K V F). z.call)) unknown
@@ -91,7 +91,7 @@ module _ {K V F S : Type 0} (cmp : K → K → Ordering) (total : IsTotalOrder c
       hashed = k.hashed;
       control_state = k.control_state;
       tables = k.tables;
-      unmade = k.unmade;
+      no_table = k.no_table;
       next = k.next;
       running = k.running;
       over = k.over;
@@ -105,9 +105,9 @@ module _ {K V F S : Type 0} (cmp : K → K → Ordering) (total : IsTotalOrder c
     stays : (mode_of_stage (stage_lost x.party_state.stage) ≡ mode_of_stage x.party_state.stage) × (held_of_stage (stage_lost x.party_state.stage) ≡ held_of_stage x.party_state.stage) × (last_seen (stage_lost x.party_state.stage) ≡ last_seen x.party_state.stage) × FollowsStage hash x.call (stage_lost x.party_state.stage)
     stays = lost_as hash x.call x.party_state.stage (k.party_records p x at).stage
 
-    loss_after : state_of (with_loss w p x) ≡ does cmp hash gives (state_of w) p Loses
+    loss_after : state_of (with_loss w p x) ≡ next_state cmp hash gives (state_of w) p Loses
     loss_after = λ i. record {
-      start = ap (start_of w.first) turned i;
+      start = ap (start_of w.first) after_field_step i;
       published = w.control_state.published;
       growth = (state_of w).growth;
       slot = (state_of w).slot;
@@ -120,11 +120,11 @@ module _ {K V F S : Type 0} (cmp : K → K → Ordering) (total : IsTotalOrder c
       seen = λ q. as_read seen_in (stays.2 ∙ sym (ap seen_in at)) q i;
       began_from = λ q. as_read began_from_in (sym (ap began_from_in at)) q i;
       steps = λ q. (as_read steps_in (sym (ap steps_in at)) q ∙ sym (same_place (state_of w).steps p ((state_of w).steps p) refl q)) i;
-      trace = turned i;
+      trace = after_field_step i;
     }
       where
-        turned : reverse (w.trace ++ label.Silent p ∷ []) ≡ label.Silent p ∷ history w
-        turned = reverse-append w.trace (label.Silent p ∷ [])
+        after_field_step : reverse (w.trace ++ label.Silent p ∷ []) ≡ label.Silent p ∷ history w
+        after_field_step = reverse-append w.trace (label.Silent p ∷ [])
 
         -- what is read of the party as before
         as_read : {Y : Type 0} (f : Option (PartyRecord K V F) → Y) → f (Some loser) ≡ f (slice_get w.party_records p) → (q : ℕ) → f (slice_get (slice_set w.party_records p loser) q) ≡ f (slice_get w.party_records q)
@@ -140,7 +140,7 @@ module _ {K V F S : Type 0} (cmp : K → K → Ordering) (total : IsTotalOrder c
       hashed = k.hashed;
       control_state = k.control_state;
       tables = k.tables;
-      unmade = k.unmade;
+      no_table = k.no_table;
       next = k.next;
       running = k.running;
       over = k.over;
@@ -151,32 +151,32 @@ module _ {K V F S : Type 0} (cmp : K → K → Ordering) (total : IsTotalOrder c
         by_place q y false e h = k.party_records q y h
 
   -- a call begins
-  module _ (d : Call K V F) (from : Option ℕ) (origin : (v : ℕ) → from ≡ Some v → (z : Seen K V) × (seen_in (slice_get w.party_records v) ≡ Some z) × (d ≡ call.RemoveSeen z)) (c : PartyState K V F) (mode : mode_of_stage c.stage ≡ Locating) (held : held_of_stage c.stage ≡ (None, None)) (unread : last_seen c.stage ≡ None) where
+  module _ (d : Call K V F) (from : Option ℕ) (origin : (v : ℕ) → from ≡ Some v → (z : Seen K V) × (seen_in (slice_get w.party_records v) ≡ Some z) × (d ≡ call.RemoveSeen z)) (c : PartyState K V F) (mode : mode_of_stage c.stage ≡ Locating) (plain_entries : held_of_stage c.stage ≡ (None, None)) (unread : last_seen c.stage ≡ None) where
     abbrev new : PartyRecord K V F
     new = record { call = d; began_from = from; party_state = c; steps = 0 }
 
-    begin_after : state_of (with_party_record w d from c) ≡ does cmp hash gives (state_of w) (length w.party_records) (Begins d from)
+    begin_after : state_of (with_party_record w d from c) ≡ next_state cmp hash gives (state_of w) (length w.party_records) (Begins d from)
     begin_after = λ i. record {
-      start = ap (start_of w.first) turned i;
+      start = ap (start_of w.first) after_field_step i;
       published = w.control_state.published;
       growth = (state_of w).growth;
       slot = (state_of w).slot;
       parties = (length-append w.party_records (new ∷ []) ∙ (let one : length w.party_records + 1 ≡ suc (length w.party_records) = omega arith in one)) i;
       call = λ q. read_append (option_map (λ (z : PartyRecord K V F). z.call)) w.party_records new q i;
-      mode = λ q. (read_append mode_in w.party_records new q ∙ ap (λ m. at_place (state_of w).mode (length w.party_records) m q) mode) i;
-      claim = λ q. (read_append claim_in w.party_records new q ∙ ap (λ m. at_place (state_of w).claim (length w.party_records) m q) (ap (λ h. h.0) held)) i;
-      told = λ q. (read_append told_in w.party_records new q ∙ ap (λ m. at_place (state_of w).told (length w.party_records) m q) (ap (λ h. h.1) held)) i;
+      mode = λ q. (read_append mode_in w.party_records new q ∙ ap (λ m. update (state_of w).mode (length w.party_records) m q) mode) i;
+      claim = λ q. (read_append claim_in w.party_records new q ∙ ap (λ m. update (state_of w).claim (length w.party_records) m q) (ap (λ h. h.0) plain_entries)) i;
+      told = λ q. (read_append told_in w.party_records new q ∙ ap (λ m. update (state_of w).told (length w.party_records) m q) (ap (λ h. h.1) plain_entries)) i;
       count = w.control_state.count;
-      seen = λ q. (read_append seen_in w.party_records new q ∙ ap (λ m. at_place (state_of w).seen (length w.party_records) m q) unread) i;
+      seen = λ q. (read_append seen_in w.party_records new q ∙ ap (λ m. update (state_of w).seen (length w.party_records) m q) unread) i;
       began_from = λ q. read_append began_from_in w.party_records new q i;
       steps = λ q. read_append steps_in w.party_records new q i;
-      trace = turned i;
+      trace = after_field_step i;
     }
       where
-        turned : reverse (w.trace ++ label.Begin (length w.party_records) d ∷ []) ≡ label.Begin (length w.party_records) d ∷ history w
-        turned = reverse-append w.trace (label.Begin (length w.party_records) d ∷ [])
+        after_field_step : reverse (w.trace ++ label.Begin (length w.party_records) d ∷ []) ≡ label.Begin (length w.party_records) d ∷ history w
+        after_field_step = reverse-append w.trace (label.Begin (length w.party_records) d ∷ [])
 
-    begin_can : Can cmp hash gives (state_of w) (length w.party_records) (Begins d from)
+    begin_can : Enabled cmp hash gives (state_of w) (length w.party_records) (Begins d from)
     begin_can = (refl, origin)
 
     pub begin_line : DoesTransition cmp hash gives w (length w.party_records) (with_party_record w d from c)
@@ -189,7 +189,7 @@ module _ {K V F S : Type 0} (cmp : K → K → Ordering) (total : IsTotalOrder c
       hashed = k.hashed;
       control_state = k.control_state;
       tables = k.tables;
-      unmade = k.unmade;
+      no_table = k.no_table;
       next = k.next;
       running = k.running;
       over = k.over;
@@ -247,8 +247,8 @@ module _ {K V F S : Type 0} (cmp : K → K → Ordering) (total : IsTotalOrder c
     sweep_step u e l c b t s = subst (StepOf cmp hash gives w p x b t c) (sym s.label_is) (swept_step cmp total hash lawful gives w k near few p x at c s.event b t u e (subst (λ z. PartStep cmp gives (part_of x.party_state.hash z) x.party_state w.control_state w.tables s.event c b t) e s.part))
 
     -- and each of its steps
-    sweeps : (u : SweepState K V) → x.party_state.stage ≡ AtSweep u → (s : SweepStage K V) → u.stage ≡ s → (l : Label K V F) (c : PartyState K V F) (b : ControlState) (t : Tables K V) → StepBySweep cmp gives p s x.party_state w.control_state w.tables l c b t → StepOf cmp hash gives w p x b t c l
-    sweeps u e AtOutset f l c b t s = sweep_step u e l c b t s
+    sweeps : (u : SweepState K V) → x.party_state.stage ≡ AtSweep u → (s : SweepStage K V) → u.stage ≡ s → (l : Label K V F) (c : PartyState K V F) (b : ControlState) (t : Tables K V) → SweepStageStep cmp gives p s x.party_state w.control_state w.tables l c b t → StepOf cmp hash gives w p x b t c l
+    sweeps u e AtSweepStart f l c b t s = sweep_step u e l c b t s
     sweeps u e (OverBins d) f l c b t s = sweep_step u e l c b t s
     sweeps u e AtTotal f l c b t s = sweep_step u e l c b t s
     sweeps u e (AtEnd r) f l c b t (g, y, z, v) = rw (g, y, z, v) (swept r f)
@@ -269,10 +269,10 @@ module _ {K V F S : Type 0} (cmp : K → K → Ordering) (total : IsTotalOrder c
         follows_on = subst (FollowsStage hash x.call) (sym to) (own.0, tt)
 
         swept : (q : Outcome K V) → u.stage ≡ AtEnd q → StepOf cmp hash gives w p x w.control_state w.tables after (closing_label p q)
-        swept (OutcomeReply q) h = absurd (subst (λ z. FollowsSweep hash z u.errand) h own.1)
-        swept OutcomeEnded h = ends p x at (AtSweep u) e (ap (λ z. mode_of_sweep z u.errand) h) refl (no_key x.call u.errand u.last own.0) after refl stays (ap mode_of_stage to) (ap held_of_stage to) follows_on
-        swept OutcomeRefused h = finished p x at (AtSweep u) e (ap (λ z. mode_of_sweep z u.errand) h) refl after refl stays (ap mode_of_stage to) (ap held_of_stage to) follows_on
-    sweeps u e AfterEnd f l c b t (g, y, z, v) = rw (g, y, z, v) (finished p x at (AtSweep u) e (ap (λ z. mode_of_sweep z u.errand) f) refl x.party_state refl refl (ap mode_of_stage e ∙ ap (λ z. mode_of_sweep z u.errand) f) (ap held_of_stage e) (k.party_records p x at).stage)
+        swept (OutcomeReply q) h = absurd (subst (λ z. FollowsSweep hash z u.kind) h own.1)
+        swept OutcomeEnded h = ends p x at (AtSweep u) e (ap (λ z. mode_of_sweep z u.kind) h) refl (no_key x.call u.kind u.last own.0) after refl stays (ap mode_of_stage to) (ap held_of_stage to) follows_on
+        swept OutcomeRefused h = finished p x at (AtSweep u) e (ap (λ z. mode_of_sweep z u.kind) h) refl after refl stays (ap mode_of_stage to) (ap held_of_stage to) follows_on
+    sweeps u e AfterEnd f l c b t (g, y, z, v) = rw (g, y, z, v) (finished p x at (AtSweep u) e (ap (λ z. mode_of_sweep z u.kind) f) refl x.party_state refl refl (ap mode_of_stage e ∙ ap (λ z. mode_of_sweep z u.kind) f) (ap held_of_stage e) (k.party_records p x at).stage)
 
     single_at : {s : Stage K V F} → x.party_state.stage ≡ s → IsSingle s → IsSingle x.party_state.stage
     single_at e h = subst IsSingle (sym e) h
@@ -280,16 +280,16 @@ module _ {K V F S : Type 0} (cmp : K → K → Ordering) (total : IsTotalOrder c
     no_walk_at : {s : Stage K V F} → x.party_state.stage ≡ s → IsGoingSingle s → x.call ≡ call.Walk → ⊥
     no_walk_at {s} e h = no_walk hash x.call s h (subst (FollowsStage hash x.call) e (k.party_records p x at).stage)
 
-    by_stage : (s : Stage K V F) → x.party_state.stage ≡ s → (l : Label K V F) (c : PartyState K V F) (b : ControlState) (t : Tables K V) → StepByStage cmp gives p s x.party_state w.control_state w.tables l c b t → StepOf cmp hash gives w p x b t c l
+    by_stage : (s : Stage K V F) → x.party_state.stage ≡ s → (l : Label K V F) (c : PartyState K V F) (b : ControlState) (t : Tables K V) → StageStep cmp gives p s x.party_state w.control_state w.tables l c b t → StepOf cmp hash gives w p x b t c l
     by_stage (AtSweep u) e l c b t h = sweeps u e u.stage refl l c b t h
     by_stage (AtDone r) e l c b t (g, y, z, u) = rw (g, y, z, u) (closes p x at r e)
     by_stage AtTaken e l c b t (g, y, z, u) = rw (g, y, z, u) (finished p x at AtTaken e refl refl x.party_state refl refl (ap mode_of_stage e) (ap held_of_stage e) (subst (FollowsStage hash x.call) (sym e) tt))
     by_stage s e l c b t h = goes_by p x at (single_at e tt) (no_walk_at e tt) l c b t h
 
     -- each step of a party is a transition of the machine
-    pub one_line : (l : Label K V F) (c : PartyState K V F) (b : ControlState) (t : Tables K V) → StepByStage cmp gives p x.party_state.stage x.party_state w.control_state w.tables l c b t → DoesTransition cmp hash gives w p (with_step w p x b t c l)
+    pub one_line : (l : Label K V F) (c : PartyState K V F) (b : ControlState) (t : Tables K V) → StageStep cmp gives p x.party_state.stage x.party_state w.control_state w.tables l c b t → DoesTransition cmp hash gives w p (with_step w p x b t c l)
     one_line l c b t h = does_one cmp hash gives w p x b t c l (by_stage x.party_state.stage refl l c b t h)
 
     -- and keeps the world
-    pub stepped : (l : Label K V F) (c : PartyState K V F) (b : ControlState) (t : Tables K V) → StepByStage cmp gives p x.party_state.stage x.party_state w.control_state w.tables l c b t → IsWorld cmp hash gives (with_step w p x b t c l)
+    pub stepped : (l : Label K V F) (c : PartyState K V F) (b : ControlState) (t : Tables K V) → StageStep cmp gives p x.party_state.stage x.party_state w.control_state w.tables l c b t → IsWorld cmp hash gives (with_step w p x b t c l)
     stepped l c b t h = kept cmp hash gives total lawful w p x b t c l k at (by_stage x.party_state.stage refl l c b t h)

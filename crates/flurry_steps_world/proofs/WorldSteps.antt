@@ -20,7 +20,7 @@ use Rattle.flurry_steps_theory.specs.declared.Label.TheVariants as label
 use Rattle.flurry_steps_world.specs.Tables.{Tables}
 use Rattle.flurry_steps_world.specs.Parts.{IsGoing, IsThere}
 use Rattle.flurry_steps_world.specs.World.{PartyRecord, WorldState, Near, state_of, seen_in, steps_in, IsWorld, IsBounded, DoesTransition, history}
-use Rattle.flurry_steps_world.specs.Steps.{with_label, with_party_record, with_loss, with_step, StepByStage, RecordStep, WorldStep, WorldLoses}
+use Rattle.flurry_steps_world.specs.Steps.{with_label, with_party_record, with_loss, with_step, StageStep, RecordStep, WorldStep, WorldLoses}
 use Rattle.flurry_steps_world.proofs.BeginLaws.{IsBeginning}
 use Rattle.flurry_steps_world.proofs.WorldLaws.{silent, silent_line, loses, loss_line, began, begin_line, stepped, one_line}
 use Rattle.flurry_steps_world.proofs.ThereLaws.{is_there}
@@ -124,14 +124,14 @@ module _ {K V F S : Type 0} (cmp : K → K → Ordering) (total : IsTotalOrder c
   part_there p x at g = is_there cmp total hash (alike_class cmp hash alike) gives w k.world p x at g
 
   -- a party's step
-  pub party_step : (before : List (Label K V F)) → before ≡ w.trace → length before < MAX_LABELS → (p : ℕ) (x : PartyRecord K V F) → slice_get w.party_records p ≡ Some x → (c : PartyState K V F) (b : ControlState) (t : Tables K V) (l : Label K V F) → StepByStage cmp gives p x.party_state.stage x.party_state w.control_state w.tables l c b t
+  pub party_step : (before : List (Label K V F)) → before ≡ w.trace → length before < MAX_LABELS → (p : ℕ) (x : PartyRecord K V F) → slice_get w.party_records p ≡ Some x → (c : PartyState K V F) (b : ControlState) (t : Tables K V) (l : Label K V F) → StageStep cmp gives p x.party_state.stage x.party_state w.control_state w.tables l c b t
       → (party_records : List (PartyRecord K V F)) → party_records ≡ slice_set w.party_records p (record { call = x.call; began_from = x.began_from; party_state = c; steps = x.steps + 1 }) → (trace : List (Label K V F)) → trace ≡ before ++ l ∷ []
       → IsBounded cmp hash gives (record { hasher = w.hasher; processors = w.processors; first = w.first; control_state = b; tables = t; party_records = party_records; trace = trace })
       × WorldStep cmp gives w p (record { hasher = w.hasher; processors = w.processors; first = w.first; control_state = b; tables = t; party_records = party_records; trace = trace })
       × DoesTransition cmp hash gives w p (record { hasher = w.hasher; processors = w.processors; first = w.first; control_state = b; tables = t; party_records = party_records; trace = trace })
   party_step before is short p x at c b t l does party_records d trace added = (
     subst (IsBounded cmp hash gives) (sym after) (record { world = stepped cmp total hash (alike_class cmp hash alike) gives w k.world near k.few p x at l c b t does; few = omega (arith, length-append w.trace (l ∷ []), few) }),
-    subst (λ o. MatchOption o (shown ≡ with_label w (label.Silent p)) (λ x. RecordStep cmp gives w p x shown)) (sym at) (record { step_label = l; party_state = c; control_state = b; tables = t; does = does; after = after }),
+    subst (λ o. MatchOption o (shown ≡ with_label w (label.Silent p)) (λ x. RecordStep cmp gives w p x shown)) (sym at) (record { step_label = l; party_state = c; control_state = b; tables = t; stage_step = does; after = after }),
     subst (DoesTransition cmp hash gives w p) (sym after) (one_line cmp total hash (alike_class cmp hash alike) gives w k.world near k.few p x at l c b t does),
   )
     where
@@ -162,7 +162,7 @@ module _ {K V F S : Type 0} (cmp : K → K → Ordering) (total : IsTotalOrder c
     party_begins before is short parties are party_records put n number trace added = (
       subst (IsBounded cmp hash gives) (sym after) (record { world = begins; few = omega (arith, length-append w.trace (label.Begin (length w.party_records) d ∷ []), few) }),
       after,
-      subst (DoesTransition cmp hash gives w n) (sym after) (subst (λ m. DoesTransition cmp hash gives w m (with_party_record w d from c)) (sym number) (begin_line cmp total hash (alike_class cmp hash alike) gives w k.world near d from origin c fresh.mode fresh.held fresh.unread)),
+      subst (DoesTransition cmp hash gives w n) (sym after) (subst (λ m. DoesTransition cmp hash gives w m (with_party_record w d from c)) (sym number) (begin_line cmp total hash (alike_class cmp hash alike) gives w k.world near d from origin c fresh.mode fresh.plain_entries fresh.unread)),
     )
       where
         few : length w.trace < MAX_LABELS
@@ -174,4 +174,4 @@ module _ {K V F S : Type 0} (cmp : K → K → Ordering) (total : IsTotalOrder c
             (added ∙ ap (λ u. u ++ label.Begin n d ∷ []) is ∙ ap (λ m. w.trace ++ label.Begin m d ∷ []) number)
 
         begins : IsWorld cmp hash gives (with_party_record w d from c)
-        begins = began cmp total hash (alike_class cmp hash alike) gives w k.world near d from origin c fresh.mode fresh.held fresh.unread fresh.own_hash fresh.follows
+        begins = began cmp total hash (alike_class cmp hash alike) gives w k.world near d from origin c fresh.mode fresh.plain_entries fresh.unread fresh.own_hash fresh.follows

@@ -11,14 +11,14 @@ module _ {K V : Type 0} where
   abbrev pub entry_of_held : PlainEntry K V → Entry K V
   entry_of_held x = record { key = x.0.1; value = x.1.0; number = x.1.1 }
 
-  abbrev pub entries_of_held : List (PlainEntry K V) → List (Entry K V)
-  entries_of_held held = map entry_of_held held
+  abbrev pub machine_entries : List (PlainEntry K V) → List (Entry K V)
+  machine_entries plain_entries = map entry_of_held plain_entries
 
   -- each entry has its key's hash
   abbrev pub IsHashed : (K → ℕ) → List (PlainEntry K V) → Type 0
-  IsHashed hash held = AllByRecursion (λ (k : ℕ × K). k.0 ≡ hash k.1) (keys_of held)
+  IsHashed hash plain_entries = AllByRecursion (λ (k : ℕ × K). k.0 ≡ hash k.1) (keys_of plain_entries)
 
   abbrev pub slot_of : Content K V → Slot K V
-  slot_of (IsLive b) = Live (entries_of_held b.held) b.writes
+  slot_of (IsLive b) = Live (machine_entries b.plain_entries) b.writes
   slot_of HasMoved = Moved
   slot_of IsUnborn = Unborn

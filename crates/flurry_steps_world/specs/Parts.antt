@@ -2,7 +2,7 @@
 use Rattle.std.specs.Prelude.{◌≡◌, ℕ, pos, ◌+◌, ◌^◌, ◌≤◌, false, List, slice_get, slice_set, Option, Some, None, IsSome, MatchOption, ⊤}
 use Rattle.std.specs.declared.cmp.Ordering.{Ordering}
 use Rattle.flurry_bins_slots.specs.Slot.{SlotState, IsSlot, IsUnborn}
-use Rattle.flurry_steps_claims.specs.PlainBoard.{has_seat, attempt_of, reports_last, after_take, after_attempt, after_report, after_give}
+use Rattle.flurry_steps_claims.specs.PlainBoard.{has_seat, attempt_of, reports_last, board_after_take, after_attempt, after_report, after_give}
 use Rattle.flurry_steps_claims.specs.declared.range.Attempt.TheVariants.{Nothing}
 use Rattle.flurry_steps_control.specs.Control.{ControlState}
 use Rattle.flurry_steps.specs.Field.{Loan, ControlLoan, PublishedLoan, TallyLoan, LookLoan, BinLoan, MoveLoan, BoardLoan}
@@ -43,7 +43,7 @@ IsThere t _ = ⊤
 -- what a call is answered at the board of the growth from table e, and at the seats there, and what stays of the board; where there is none,
 -- it finds no seat and nothing to claim, and no report is the last
 abbrev pub BoardGives : {K V : Type 0} → ℕ → BoardAnswer → Tables K V → Tables K V → Type 0
-BoardGives e (Seated got) t t' = MatchOption (board_at t e) ((got ≡ false) × (t' ≡ t)) (λ d. (got ≡ has_seat d) × (t' ≡ put_board t e (after_take d)))
+BoardGives e (Seated got) t t' = MatchOption (board_at t e) ((got ≡ false) × (t' ≡ t)) (λ d. (got ≡ has_seat d) × (t' ≡ put_board t e (board_after_take d)))
 BoardGives e (Attempted x) t t' = MatchOption (board_at t e) ((x ≡ Nothing) × (t' ≡ t)) (λ d. (x ≡ attempt_of d) × (t' ≡ put_board t e (after_attempt d)))
 BoardGives e (Reported r last) t t' = MatchOption (board_at t e) ((last ≡ false) × (t' ≡ t)) (λ d. (last ≡ reports_last d r) × (t' ≡ put_board t e (after_report d r)))
 BoardGives e TakenBack t t' = MatchOption (board_at t e) (t' ≡ t) (λ d. t' ≡ put_board t e (after_give d))

@@ -53,18 +53,18 @@ module _ {K V F : Type 0} where
       pub label_is : l ≡ label_of p event c'.stage
 
     -- the same of a call that goes over all bins
-    abbrev pub StepBySweep : SweepStage K V → PartyState K V F → ControlState → Tables K V → Label K V F → PartyState K V F → ControlState → Tables K V → Type 0
-    StepBySweep (AtEnd r) c b t l c' b' t' = (l ≡ closing_label p r) × (c' ≡ with_stage c (taken_stage c.stage)) × (b' ≡ b) × (t' ≡ t)
-    StepBySweep AfterEnd c b t l c' b' t' = (l ≡ label.Silent p) × (c' ≡ c) × (b' ≡ b) × (t' ≡ t)
-    StepBySweep _ c b t l c' b' t' = GoesOn c b t l c' b' t'
+    abbrev pub SweepStageStep : SweepStage K V → PartyState K V F → ControlState → Tables K V → Label K V F → PartyState K V F → ControlState → Tables K V → Type 0
+    SweepStageStep (AtEnd r) c b t l c' b' t' = (l ≡ closing_label p r) × (c' ≡ with_stage c (taken_stage c.stage)) × (b' ≡ b) × (t' ≡ t)
+    SweepStageStep AfterEnd c b t l c' b' t' = (l ≡ label.Silent p) × (c' ≡ c) × (b' ≡ b) × (t' ≡ t)
+    SweepStageStep _ c b t l c' b' t' = GoesOn c b t l c' b' t'
 
     -- A step of party p, whose call stands at c, over the control b and the tables t: a call in progress does its step; one that is
     -- done replies or ends; one that has replied, has ended or was refused does nothing.
-    abbrev pub StepByStage : Stage K V F → PartyState K V F → ControlState → Tables K V → Label K V F → PartyState K V F → ControlState → Tables K V → Type 0
-    StepByStage (AtSweep w) c b t l c' b' t' = StepBySweep w.stage c b t l c' b' t'
-    StepByStage (AtDone r) c b t l c' b' t' = (l ≡ closing_label p r) × (c' ≡ with_stage c AtTaken) × (b' ≡ b) × (t' ≡ t)
-    StepByStage AtTaken c b t l c' b' t' = (l ≡ label.Silent p) × (c' ≡ c) × (b' ≡ b) × (t' ≡ t)
-    StepByStage _ c b t l c' b' t' = GoesOn c b t l c' b' t'
+    abbrev pub StageStep : Stage K V F → PartyState K V F → ControlState → Tables K V → Label K V F → PartyState K V F → ControlState → Tables K V → Type 0
+    StageStep (AtSweep w) c b t l c' b' t' = SweepStageStep w.stage c b t l c' b' t'
+    StageStep (AtDone r) c b t l c' b' t' = (l ≡ closing_label p r) × (c' ≡ with_stage c AtTaken) × (b' ≡ b) × (t' ≡ t)
+    StageStep AtTaken c b t l c' b' t' = (l ≡ label.Silent p) × (c' ≡ c) × (b' ≡ b) × (t' ≡ t)
+    StageStep _ c b t l c' b' t' = GoesOn c b t l c' b' t'
 
 module _ {K V F S : Type 0} where
   -- a world with these tables, where nobody has begun
@@ -138,7 +138,7 @@ module _ {K V F S : Type 0} where
       pub party_state : PartyState K V F
       pub control_state : ControlState
       pub tables : Tables K V
-      pub does : StepByStage cmp changes p x.party_state.stage x.party_state w.control_state w.tables step_label party_state control_state tables
+      pub stage_step : StageStep cmp changes p x.party_state.stage x.party_state w.control_state w.tables step_label party_state control_state tables
       pub after : w' ≡ with_step w p x control_state tables party_state step_label
 
     -- a step of any party; an unknown one does nothing

@@ -4,7 +4,7 @@ use Rattle.std.specs.Prelude.{◌≡◌, ℕ, zero, suc, ◌+◌, ◌-◌, ◌^�
 use Rattle.std.specs.Option.{option_map_or}
 use Rattle.flurry_base.specs.Sizes.{stride_of}
 use Rattle.flurry_bins_slots.specs.Slot.{Content, IsLive, IsUnborn, SlotState}
-use Rattle.flurry_steps_claims.specs.PlainBoard.{PlainBoardState, new_plain_board, after_take}
+use Rattle.flurry_steps_claims.specs.PlainBoard.{PlainBoardState, new_plain_board, board_after_take}
 use Rattle.flurry_base.specs.declared.sizes.TheConstants.{TABLES}
 
 pub record Tables (K V : Type 0) : Type 0 where
@@ -44,7 +44,7 @@ module _ {K V : Type 0} where
 
   -- what stands at a slot of a new table: an empty bin, or none yet
   abbrev pub fresh : Bool → Content K V
-  fresh true = IsLive (record { held = []; tree = false; writes = 0 })
+  fresh true = IsLive (record { plain_entries = []; tree = false; writes = 0 })
   fresh false = IsUnborn
 
   -- the first n slots of a new table e
@@ -63,7 +63,7 @@ module _ {K V : Type 0} where
 
 -- the board of a growth from table e, which p processors share, when it begins: the party that begins it has a seat
 abbrev pub begun_board : ℕ → ℕ → PlainBoardState
-begun_board e p = after_take (new_plain_board e (stride_of (2 ^ e) p))
+begun_board e p = board_after_take (new_plain_board e (stride_of (2 ^ e) p))
 
 -- the board at the place of table e, where that table is asked for: a growth into it has a new one
 abbrev pub board_for : ℕ → Option ℕ → Option PlainBoardState → Option PlainBoardState

@@ -10,7 +10,7 @@ use Rattle.flurry_steps_control.specs.Control.{ControlState, IsControl}
 use Rattle.flurry_steps_sweep.specs.Outcome.{Outcome, OutcomeReply, OutcomeEnded, OutcomeRefused}
 use Rattle.flurry_steps_sweep.specs.Cursor as cursor
 use Rattle.flurry_steps_sweep.specs.Cursor.{CursorState}
-use Rattle.flurry_steps_sweep.specs.Sweep.{Errand, Reads, Wipes, SweepStage, AtOutset, OverBins, AtTotal, AtEnd, AfterEnd}
+use Rattle.flurry_steps_sweep.specs.Sweep.{SweepKind, Reads, Wipes, SweepStage, AtSweepStart, OverBins, AtTotal, AtEnd, AfterEnd}
 use Rattle.flurry_steps.specs.Party.{GrowFor, ForInsert, ForReserve, Help, Moving, Publishing, Resume, ThenBin, ThenRecount, ThenGrow, Stage, AtLocate, AtBin, AtHelp, AtUncount, AtCount, AtRecount, AtBegin, AtGrow, AtReserve, AtSweep, AtDone, AtTaken, PartyState, last_seen, task_of_call}
 use Rattle.flurry_steps_theory.specs.Machine as machine
 use Rattle.flurry_steps_theory.specs.Machine.{State, Mode, Locating, Looking, Walking, Clearing, Done, Finished}
@@ -72,17 +72,17 @@ module _ {K V : Type 0} where
   mode_of_end OutcomeEnded = Done None 0 0
   mode_of_end OutcomeRefused = Finished
 
-  abbrev pub mode_over : Errand → CursorState K → Mode K V
+  abbrev pub mode_over : SweepKind → CursorState K → Mode K V
   mode_over Reads c = Walking c.base c.index (frames_of c)
   mode_over (Wipes n) c = Clearing n c.base c.index (frames_of c)
 
   -- a walk has nothing to count
-  abbrev pub mode_at_total : Errand → Mode K V
+  abbrev pub mode_at_total : SweepKind → Mode K V
   mode_at_total Reads = Finished
   mode_at_total (Wipes n) = Done None 0 n
 
-  abbrev pub mode_of_sweep : SweepStage K V → Errand → Mode K V
-  mode_of_sweep AtOutset w = Locating
+  abbrev pub mode_of_sweep : SweepStage K V → SweepKind → Mode K V
+  mode_of_sweep AtSweepStart w = Locating
   mode_of_sweep (OverBins c) w = mode_over w c
   mode_of_sweep AtTotal w = mode_at_total w
   mode_of_sweep (AtEnd r) w = mode_of_end r
@@ -115,7 +115,7 @@ module _ {K V F : Type 0} where
   mode_of_stage (AtBegin e r) = Done (reply_in r) 0 0
   mode_of_stage (AtGrow w g) = mode_of_grow_for g
   mode_of_stage (AtReserve a) = Locating
-  mode_of_stage (AtSweep w) = mode_of_sweep w.stage w.errand
+  mode_of_stage (AtSweep w) = mode_of_sweep w.stage w.kind
   mode_of_stage (AtDone r) = mode_of_end r
   mode_of_stage AtTaken = Finished
 
@@ -132,11 +132,11 @@ module _ {K V F : Type 0} where
 -- ---- what a walk and a clear keep
 
 -- nothing is wiped before the first bin, and a clear alone counts
-abbrev pub IsFresh : Errand → Type 0
-IsFresh Reads = ⊤
-IsFresh (Wipes n) = n ≡ 0
+abbrev pub IsFreshKind : SweepKind → Type 0
+IsFreshKind Reads = ⊤
+IsFreshKind (Wipes n) = n ≡ 0
 
-abbrev pub IsOfClear : Errand → Type 0
+abbrev pub IsOfClear : SweepKind → Type 0
 IsOfClear Reads = ⊥
 IsOfClear (Wipes n) = ⊤
 
@@ -156,8 +156,8 @@ module _ {K V : Type 0} where
   HasNoReply OutcomeEnded = ⊤
   HasNoReply OutcomeRefused = ⊤
 
-  abbrev pub FollowsSweep : (K → ℕ) → SweepStage K V → Errand → Type 0
-  FollowsSweep hash AtOutset w = IsFresh w
+  abbrev pub FollowsSweep : (K → ℕ) → SweepStage K V → SweepKind → Type 0
+  FollowsSweep hash AtSweepStart w = IsFreshKind w
   FollowsSweep hash (OverBins c) w = AreHashed hash (c.top ∷ c.below)
   FollowsSweep hash AtTotal w = IsOfClear w
   FollowsSweep hash (AtEnd r) w = HasNoReply r
@@ -261,9 +261,9 @@ module _ {K V F : Type 0} where
   FollowsEnd c OutcomeRefused = ⊤
 
   -- what it does at each bin is what the call asks for
-  abbrev pub FollowsErrand : Call K V F → Errand → Option (Seen K V) → Type 0
-  FollowsErrand c Reads z = c ≡ call.Walk
-  FollowsErrand c (Wipes n) z = (c ≡ call.Clear) × (z ≡ None)
+  abbrev pub FollowsKind : Call K V F → SweepKind → Option (Seen K V) → Type 0
+  FollowsKind c Reads z = c ≡ call.Walk
+  FollowsKind c (Wipes n) z = (c ≡ call.Clear) × (z ≡ None)
 
   module _ (hash : K → ℕ) where
     -- the stage is one of this call
@@ -277,7 +277,7 @@ module _ {K V F : Type 0} where
     FollowsStage c (AtBegin e r) = HasDecided c r
     FollowsStage c (AtGrow w g) = FollowsGrowFor c g
     FollowsStage c (AtReserve a) = c ≡ call.Reserve a
-    FollowsStage c (AtSweep w) = FollowsErrand c w.errand w.last × FollowsSweep hash w.stage w.errand
+    FollowsStage c (AtSweep w) = FollowsKind c w.kind w.last × FollowsSweep hash w.stage w.kind
     FollowsStage c (AtDone r) = FollowsEnd c r
     FollowsStage c AtTaken = ⊤
 
@@ -293,10 +293,10 @@ module _ {K V F : Type 0} where
     pub record IsWorld (w : WorldState K V F S) : Type 0 where
       pub state : (home : ℕ → ℕ) × Inv cmp hash gives w.first home (state_of w)
       pub party_records : (p : ℕ) (x : PartyRecord K V F) → slice_get w.party_records p ≡ Some x → Follows hash x
-      pub hashed : (e i : ℕ) (b : Live K V) → content_at w.tables e i ≡ IsLive b → IsHashed hash b.held
+      pub hashed : (e i : ℕ) (b : Live K V) → content_at w.tables e i ≡ IsLive b → IsHashed hash b.plain_entries
       pub control_state : IsControl w.control_state
       pub tables : AreTables w.tables
-      pub unmade : w.control_state.published ≡ None → (e : ℕ) → slots_of w.tables e ≡ []
+      pub no_table : w.control_state.published ≡ None → (e : ℕ) → slots_of w.tables e ≡ []
       pub next : (e : ℕ) → w.control_state.growth ≡ Some e → (slots_of w.tables (suc e) ≡ [] → ⊥)
       pub running : (e : ℕ) → w.control_state.growth ≡ Some e → IsSome (board_at w.tables e)
       pub over : (e : ℕ) (d : PlainBoardState) → board_at w.tables e ≡ Some d → (w.control_state.growth ≡ Some e → ⊥) → unclaimed_of d ≡ 0
@@ -308,4 +308,4 @@ module _ {K V F : Type 0} where
 
     -- party p takes the world w to w' by one transition of the machine
     abbrev pub DoesTransition : WorldState K V F S → ℕ → WorldState K V F S → Type 0
-    DoesTransition w p w' = (transition : machine.Transition K V F) × machine.Can cmp hash gives (state_of w) p transition × (state_of w' ≡ machine.does cmp hash gives (state_of w) p transition)
+    DoesTransition w p w' = (transition : machine.Transition K V F) × machine.Enabled cmp hash gives (state_of w) p transition × (state_of w' ≡ machine.next_state cmp hash gives (state_of w) p transition)

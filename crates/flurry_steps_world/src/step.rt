@@ -3,7 +3,7 @@ ghost use Rattle.std.specs.Prelude.{◌≡◌};
 ghost use Rattle.flurry_steps.specs.Party.{wanted_part};
 ghost use Rattle.flurry_steps_sweep.specs.OutcomeView.{outcome_of};
 ghost use Rattle.flurry_steps_world.specs.Parts.{IsGoing, IsThere};
-ghost use Rattle.flurry_steps_world.specs.Steps.{StepByStage, closing_label, label_of};
+ghost use Rattle.flurry_steps_world.specs.Steps.{StageStep, closing_label, label_of};
 ghost use Rattle.flurry_steps_world.specs.World.{reply_in};
 
 use crate::parts::Parts;
@@ -89,7 +89,7 @@ pub(crate) fn step_party<
     A: Allocator + Copy,
 >(party: usize, call: &mut Party<'_, K, V, F, A>, parts: &mut Parts<K, V, A>) -> Label<K, V, F>
     requires { IsGoing call.old.stage → IsThere parts.old.tables (wanted_part call.old) }
-    ensures { StepByStage K.cmp F.changes party call.old.stage call.old parts.old.control_state parts.old.tables
+    ensures { StageStep K.cmp F.changes party call.old.stage call.old parts.old.control_state parts.old.tables
         result call.new parts.new.control_state parts.new.tables }
 {
     match act(call, parts) {

@@ -58,17 +58,17 @@ impl Budget {
 
 /// An allocator that passes each request on to another one, except for the requests that it makes fail.
 ///
-/// A test passes it by reference: `&Metered<Global>` is an allocator too, and is `Copy`.
+/// A test passes it by reference: `&MeteredAlloc<Global>` is an allocator too, and is `Copy`.
 #[derive(Drop)]
-pub struct Metered<A: Allocator> {
+pub struct MeteredAlloc<A: Allocator> {
     inner: A,
     budget: Budget,
 }
 
-impl<A: Allocator> Metered<A> {
+impl<A: Allocator> MeteredAlloc<A> {
     /// Creates an allocator over `inner`, which makes no request fail until it is told to.
-    pub fn new(inner: A) -> Metered<A> {
-        Metered {
+    pub fn new(inner: A) -> MeteredAlloc<A> {
+        MeteredAlloc {
             inner,
             budget: Budget::new(),
         }
@@ -99,47 +99,47 @@ impl<A: Allocator> Metered<A> {
     {
         self.refuse_at(k);
         let answer = call();
-        let refused = self.refused();
+        let refused = self.was_refused();
         self.refuse_nothing();
         (answer, refused)
     }
 
     /// Returns the number of requests since the count last started from 0.
-    pub fn asked(&self) -> u64 {
+    pub fn requests(&self) -> u64 {
         self.budget.asked.load(Ordering::SeqCst)
     }
 
     /// Returns `true` if the allocator has made a request fail since the count last started from 0.
-    pub fn refused(&self) -> bool {
-        self.budget.first.load(Ordering::SeqCst) < self.asked()
+    pub fn was_refused(&self) -> bool {
+        self.budget.first.load(Ordering::SeqCst) < self.requests()
     }
 
     /// Returns the number of blocks that were allocated and not yet deallocated, provided that the inner allocator never fails.
-    pub fn blocks(&self) -> u64 {
+    pub fn live_blocks(&self) -> u64 {
         self.budget.blocks.load(Ordering::SeqCst)
     }
 
     /// Returns the number of bytes that were requested for the blocks that were allocated and not yet deallocated, provided that the inner
     /// allocator never fails.
-    pub fn bytes(&self) -> u64 {
+    pub fn live_bytes(&self) -> u64 {
         self.budget.bytes.load(Ordering::SeqCst)
     }
 }
 
-impl Metered<Global> {
+impl MeteredAlloc<Global> {
     /// Creates an allocator that lives until the end of the process, so that a test need not name a lifetime.
     ///
     /// # Errors
     ///
     /// Returns [`AllocError`] if memory for the allocator itself cannot be allocated.
-    pub fn leaked(inner: Global) -> Result<&'static Metered<Global>, AllocError> {
-        let boxed = Box::new(inner, Metered::new(inner))?;
-        let leaked: &'static Metered<Global> = Box::leak(boxed);
+    pub fn leak(inner: Global) -> Result<&'static MeteredAlloc<Global>, AllocError> {
+        let boxed = Box::new(inner, MeteredAlloc::new(inner))?;
+        let leaked: &'static MeteredAlloc<Global> = Box::leak(boxed);
         Ok(leaked)
     }
 }
 
-unsafe impl<A: Allocator> Allocator for Metered<A> {
+unsafe impl<A: Allocator> Allocator for MeteredAlloc<A> {
     ghost dealloc_token = { λ heap ty ptr. A.dealloc_token heap.inner ty ptr };
 
     fn allocate(&self, size: usize, align: usize) -> Result<*mut u8, AllocError> {
@@ -197,25 +197,25 @@ mod tests {
 
     // Asserts that a value is the expected one. A test with many assertions calls this, because each `assert_eq!` in its own body makes its
     // proof longer.
-    fn same<T: PartialEq + Debug + Drop>(rt: &impl Abort, seen: T, wanted: T) {
+    fn assert_same<T: PartialEq + Debug + Drop>(rt: &impl Abort, seen: T, wanted: T) {
         assert_eq!(rt; seen, wanted);
     }
 
     // Returns what `three` returns if the request numbered `k` fails, and whether it made that request.
-    fn three_without(memory: &Metered<Global>, k: u64) -> (Result<usize, AllocError>, bool) {
+    fn three_without(memory: &MeteredAlloc<Global>, k: u64) -> (Result<usize, AllocError>, bool) {
         memory.refuse_during(k, || three(memory))
     }
 
     // `three` makes four requests.
     #[test]
     fn each_request_is_refused_in_turn(rt: HostRuntime) {
-        let memory = Metered::new(rt.alloc());
+        let memory = MeteredAlloc::new(rt.alloc());
         for k in 0..4u64 {
             let seen = three_without(&memory, k);
-            same(&rt, (k, seen), (k, (Err(AllocError), true)));
-            same(&rt, memory.blocks(), 0);
+            assert_same(&rt, (k, seen), (k, (Err(AllocError), true)));
+            assert_same(&rt, memory.live_blocks(), 0);
         }
-        same(&rt, three_without(&memory, 4), (Ok(10), false));
+        assert_same(&rt, three_without(&memory, 4), (Ok(10), false));
     }
 
     // A list of nine numbers.
@@ -230,44 +230,48 @@ mod tests {
     // Asserts that each request of some calls fails.
     fn refuses_all(
         rt: &impl Abort,
-        memory: &Metered<Global>,
-        numbers: &mut Vec<u8, &Metered<Global>>,
+        memory: &MeteredAlloc<Global>,
+        numbers: &mut Vec<u8, &MeteredAlloc<Global>>,
     ) {
-        same(rt, (memory.asked(), memory.refused()), (2, false));
-        same(rt, Box::new(memory, 1u8).is_err(), true);
-        same(rt, Box::new(memory, 1u8).is_err(), true);
-        same(rt, numbers.reserve(100).is_err(), true);
-        same(rt, (numbers.len(), memory.refused()), (9, true));
+        assert_same(rt, (memory.requests(), memory.was_refused()), (2, false));
+        assert_same(rt, Box::new(memory, 1u8).is_err(), true);
+        assert_same(rt, Box::new(memory, 1u8).is_err(), true);
+        assert_same(rt, numbers.reserve(100).is_err(), true);
+        assert_same(rt, (numbers.len(), memory.was_refused()), (9, true));
     }
 
     #[test]
     fn all_from_one_on_are_refused(rt: HostRuntime) {
-        let memory = Metered::new(rt.alloc());
+        let memory = MeteredAlloc::new(rt.alloc());
         memory.refuse_from(2);
         let mut numbers = nine(&memory).expect(&rt, "two requests");
         refuses_all(&rt, &memory, &mut numbers);
         memory.refuse_nothing();
-        same(&rt, numbers.reserve(100).is_err(), false);
-        same(&rt, memory.asked(), 1);
+        assert_same(&rt, numbers.reserve(100).is_err(), false);
+        assert_same(&rt, memory.requests(), 1);
     }
 
     // Creates a `Link`, which takes two requests, while the request numbered `k` fails, and checks what was created.
-    fn makes_link(rt: &impl Abort, memory: &Metered<Global>, k: u64) {
+    fn makes_link(rt: &impl Abort, memory: &MeteredAlloc<Global>, k: u64) {
         let (answer, refused) = memory.refuse_during(k, || Link::new(memory, 7u64));
-        same(rt, (refused, answer.is_err()), (k < 2, k < 2));
+        assert_same(rt, (refused, answer.is_err()), (k < 2, k < 2));
         if let Ok(link) = answer {
-            same(rt, (memory.blocks(), memory.bytes() > 16), (2, true));
-            same(rt, (*link.key, link.next.is_some()), (7, true));
+            assert_same(
+                rt,
+                (memory.live_blocks(), memory.live_bytes() > 16),
+                (2, true),
+            );
+            assert_same(rt, (*link.key, link.next.is_some()), (7, true));
         }
     }
 
     #[test]
     fn a_type_of_ones_own(rt: HostRuntime) {
-        let memory = Metered::new(rt.alloc());
+        let memory = MeteredAlloc::new(rt.alloc());
         for k in 0..3u64 {
             makes_link(&rt, &memory, k);
         }
-        same(&rt, memory.blocks(), 0);
+        assert_same(&rt, memory.live_blocks(), 0);
     }
 
     fn on_two<A: Allocator + Copy + Send + Sync>(
@@ -287,7 +291,7 @@ mod tests {
     // Returns what `on_two` returns if the request numbered `k` fails, and whether that request was made.
     fn on_two_without(
         rt: &impl Threads,
-        memory: &Metered<Global>,
+        memory: &MeteredAlloc<Global>,
         k: u64,
     ) -> (Result<(u64, u64), AllocError>, bool) {
         memory.refuse_during(k, || on_two(rt, memory))
@@ -296,20 +300,20 @@ mod tests {
     // `on_two` makes three requests.
     #[test]
     fn threads_share_it(rt: HostRuntime) {
-        let memory = Metered::new(rt.alloc());
+        let memory = MeteredAlloc::new(rt.alloc());
         for k in 0..3u64 {
             let seen = on_two_without(&rt, &memory, k);
-            same(&rt, (k, seen), (k, (Err(AllocError), true)));
+            assert_same(&rt, (k, seen), (k, (Err(AllocError), true)));
         }
-        same(&rt, on_two_without(&rt, &memory, 3), (Ok((3, 3)), false));
+        assert_same(&rt, on_two_without(&rt, &memory, 3), (Ok((3, 3)), false));
     }
 
     #[test]
     fn a_leaked_one_goes_to_a_spawned_thread(rt: HostRuntime) -> Result<(), Fail> {
-        let memory = Metered::leaked(rt.alloc())?;
+        let memory = MeteredAlloc::leak(rt.alloc())?;
         memory.refuse_at(1);
         let child = thread::spawn(&rt, move || (boxed(memory, 1), boxed(memory, 2)))?;
-        same(&rt, child.join(&rt), (Ok(1), Err(AllocError)));
+        assert_same(&rt, child.join(&rt), (Ok(1), Err(AllocError)));
         Ok(())
     }
 
@@ -351,13 +355,13 @@ mod tests {
 
     #[test]
     fn threads_share_a_type_over_it(rt: HostRuntime) -> Result<(), Fail> {
-        let memory = Metered::leaked(rt.alloc())?;
-        let shelf: Shelf<u64, &'static Metered<Global>> = Shelf::new(memory);
+        let memory = MeteredAlloc::leak(rt.alloc())?;
+        let shelf: Shelf<u64, &'static MeteredAlloc<Global>> = Shelf::new(memory);
         memory.refuse_at(2);
         let (one, two) = thread::join(&rt, || shelf.put(&rt, 1), || shelf.put(&rt, 2));
-        same(&rt, one.is_err() != two.is_err(), true);
-        same(&rt, memory.refused(), true);
-        same(&rt, one_put(&rt, &shelf), Ok(2));
+        assert_same(&rt, one.is_err() != two.is_err(), true);
+        assert_same(&rt, memory.was_refused(), true);
+        assert_same(&rt, one_put(&rt, &shelf), Ok(2));
         Ok(())
     }
 }

@@ -18,7 +18,7 @@ use std::sync::Arc;
 
 // Asserts that a value is the expected one. A test with many assertions calls this, because each `assert_eq!` in its own body makes its
 // proof longer.
-fn same<T: PartialEq + Debug + Drop>(rt: &impl Abort, seen: T, wanted: T) {
+fn assert_same<T: PartialEq + Debug + Drop>(rt: &impl Abort, seen: T, wanted: T) {
     assert_eq!(rt; seen, wanted);
 }
 
@@ -119,15 +119,15 @@ fn list_keeps_order(rt: HostRuntime) {
             list.put_node(node(&rt, 0, key));
         }
     }
-    same(&rt, list.len(), 9);
+    assert_same(&rt, list.len(), 9);
     let (_, visits) = list.find(0, &8);
-    same(&rt, visits, 9);
+    assert_same(&rt, visits, 9);
     let gone = list.remove(0, &3);
-    same(&rt, gone.is_some(), true);
-    same(&rt, list.len(), 8);
+    assert_same(&rt, gone.is_some(), true);
+    assert_same(&rt, list.len(), 8);
     let (low, high) = list.split(0);
-    same(&rt, low.len(), 8);
-    same(&rt, high.len(), 0);
+    assert_same(&rt, low.len(), 8);
+    assert_same(&rt, high.len(), 0);
 }
 
 // Returns the key of a node, if there is one.
@@ -142,80 +142,80 @@ fn key_of(node: Option<Box<Node<u64, u64>>>) -> Option<u64> {
 #[test]
 fn nodes_of_a_list(rt: HostRuntime) {
     let mut list = list_of(&rt, 2);
-    same(&rt, key_of(list.pop_front()), Some(0));
-    same(&rt, list.len(), 1);
-    same(&rt, key_of(list.pop_front()), Some(1));
-    same(&rt, key_of(list.pop_front()), None);
-    same(&rt, list.len(), 0);
+    assert_same(&rt, key_of(list.pop_front()), Some(0));
+    assert_same(&rt, list.len(), 1);
+    assert_same(&rt, key_of(list.pop_front()), Some(1));
+    assert_same(&rt, key_of(list.pop_front()), None);
+    assert_same(&rt, list.len(), 0);
 }
 
 #[test]
 fn a_node_with_another_hash(rt: HostRuntime) {
     let mut lone = node(&rt, 3, 5u64);
     lone.rehash(9);
-    same(&rt, (lone.entry().hash, *lone.entry().key), (9, 5));
+    assert_same(&rt, (lone.entry().hash, *lone.entry().key), (9, 5));
 }
 
 #[test]
 fn tree_stays_shallow(rt: HostRuntime) {
     let mut tree = tree_of(&rt, 50_000);
-    same(&rt, tree.len(), 50_000);
+    assert_same(&rt, tree.len(), 50_000);
     let visits = most_visits(&tree, 50_000, false).expect(&rt, "each key is there");
-    same(&rt, visits <= 32, true);
+    assert_same(&rt, visits <= 32, true);
     remove_even(&mut tree, 50_000);
-    same(&rt, tree.len(), 25_000);
-    same(&rt, tree.find(7, &0).0.is_none(), true);
+    assert_same(&rt, tree.len(), 25_000);
+    assert_same(&rt, tree.find(7, &0).0.is_none(), true);
     let visits = most_visits(&tree, 50_000, true).expect(&rt, "each odd key is there");
-    same(&rt, visits <= 30, true);
-    same(&rt, tree.into_list().len(), 25_000);
+    assert_same(&rt, visits <= 30, true);
+    assert_same(&rt, tree.into_list().len(), 25_000);
 }
 
 #[test]
 fn signed_keys_in_one_bin(rt: HostRuntime) {
     let bin = signed_bin(&rt);
-    same(&rt, bin.shape(), Shape::Tree(1000));
+    assert_same(&rt, bin.shape(), Shape::Tree(1000));
     for key in 0i32..1000 {
         let (found, visits) = bin.find(0, &key);
-        same(&rt, found.is_some(), true);
-        same(&rt, visits <= 20, true);
+        assert_same(&rt, found.is_some(), true);
+        assert_same(&rt, visits <= 20, true);
     }
 }
 
 #[test]
 fn shapes_of_a_bin_that_grows_and_shrinks(rt: HostRuntime) {
     let mut bin: Bin<u64, u64> = Bin::new();
-    same(&rt, bin.shape(), Shape::Empty);
+    assert_same(&rt, bin.shape(), Shape::Empty);
     put_below(&rt, &mut bin, 8);
     bin.plant();
-    same(&rt, bin.shape(), Shape::List(8));
+    assert_same(&rt, bin.shape(), Shape::List(8));
     put_below(&rt, &mut bin, 9);
-    same(&rt, bin.shape(), Shape::List(9));
+    assert_same(&rt, bin.shape(), Shape::List(9));
     put_below(&rt, &mut bin, 10);
-    same(&rt, bin.shape(), Shape::Tree(10));
+    assert_same(&rt, bin.shape(), Shape::Tree(10));
     remove_below(&mut bin, 3);
-    same(&rt, bin.shape(), Shape::Tree(7));
+    assert_same(&rt, bin.shape(), Shape::Tree(7));
     remove_below(&mut bin, 3);
-    same(&rt, bin.shape(), Shape::Tree(7));
+    assert_same(&rt, bin.shape(), Shape::Tree(7));
     remove_below(&mut bin, 4);
-    same(&rt, bin.shape(), Shape::List(6));
+    assert_same(&rt, bin.shape(), Shape::List(6));
     put_below(&rt, &mut bin, 3);
-    same(&rt, bin.shape(), Shape::List(9));
+    assert_same(&rt, bin.shape(), Shape::List(9));
     bin.plant();
-    same(&rt, bin.shape(), Shape::Tree(9));
+    assert_same(&rt, bin.shape(), Shape::Tree(9));
 }
 
 #[test]
 fn shapes_of_halves_and_of_lists(rt: HostRuntime) {
     let few: Bin<u64, u64> = Bin::from_list(list_of(&rt, 9));
-    same(&rt, few.shape(), Shape::List(9));
+    assert_same(&rt, few.shape(), Shape::List(9));
     let (low, high) = few.split(0);
-    same(&rt, low.shape(), Shape::List(9));
-    same(&rt, high.shape(), Shape::Empty);
+    assert_same(&rt, low.shape(), Shape::List(9));
+    assert_same(&rt, high.shape(), Shape::Empty);
     let many: Bin<u64, u64> = Bin::from_list(list_of(&rt, 10));
-    same(&rt, many.shape(), Shape::Tree(10));
+    assert_same(&rt, many.shape(), Shape::Tree(10));
     let (low, high) = many.split(63);
-    same(&rt, low.shape(), Shape::Tree(10));
-    same(&rt, high.shape(), Shape::Empty);
+    assert_same(&rt, low.shape(), Shape::Tree(10));
+    assert_same(&rt, high.shape(), Shape::Empty);
 }
 
 // Returns a bin of twelve keys, after it has kept those below `bound`.
@@ -227,11 +227,11 @@ fn kept_below(rt: &(impl Abort + AllocGlobal), bound: u64) -> Bin<u64, u64> {
 
 #[test]
 fn shapes_of_what_is_kept(rt: HostRuntime) {
-    same(&rt, kept_below(&rt, 12).shape(), Shape::Tree(12));
-    same(&rt, kept_below(&rt, 8).shape(), Shape::Tree(8));
-    same(&rt, kept_below(&rt, 7).shape(), Shape::Tree(7));
-    same(&rt, kept_below(&rt, 6).shape(), Shape::List(6));
-    same(&rt, kept_below(&rt, 0).shape(), Shape::Empty);
+    assert_same(&rt, kept_below(&rt, 12).shape(), Shape::Tree(12));
+    assert_same(&rt, kept_below(&rt, 8).shape(), Shape::Tree(8));
+    assert_same(&rt, kept_below(&rt, 7).shape(), Shape::Tree(7));
+    assert_same(&rt, kept_below(&rt, 6).shape(), Shape::List(6));
+    assert_same(&rt, kept_below(&rt, 0).shape(), Shape::Empty);
 }
 
 #[test]
@@ -239,38 +239,38 @@ fn values_of_a_bin(rt: HostRuntime) {
     let mut bin: Bin<u64, u64> = Bin::from_list(list_of(&rt, 12));
     if bin.find(0, &5).0.is_some() {
         let old = bin.replace(0, &5, Arc::new(rt.alloc(), 50).expect(&rt, "memory"), 2);
-        same(&rt, *old, 1);
+        assert_same(&rt, *old, 1);
     }
     let entry = bin.find(0, &5).0.expect(&rt, "the entry is there");
-    same(&rt, *entry.value, 50);
-    same(&rt, entry.number, 2);
+    assert_same(&rt, *entry.value, 50);
+    assert_same(&rt, entry.number, 2);
     let next = bin.next_after(Some((0, &5)));
-    same(&rt, *next.expect(&rt, "an entry follows").key, 6);
-    same(&rt, bin.into_list().len(), 12);
+    assert_same(&rt, *next.expect(&rt, "an entry follows").key, 6);
+    assert_same(&rt, bin.into_list().len(), 12);
 }
 
 #[test]
 fn a_million_nodes_are_dropped(rt: HostRuntime) {
     let list = list_of(&rt, 1_000_000);
-    same(&rt, list.len(), 1_000_000);
+    assert_same(&rt, list.len(), 1_000_000);
     let bin: Bin<u64, u64> = Bin::from_list(list);
-    same(&rt, bin.shape(), Shape::Tree(1_000_000));
+    assert_same(&rt, bin.shape(), Shape::Tree(1_000_000));
     drop(bin);
     let list = list_of(&rt, 1_000_000);
-    same(&rt, list.len(), 1_000_000);
+    assert_same(&rt, list.len(), 1_000_000);
     drop(list);
 }
 
 #[test]
 fn hashes(rt: HostRuntime) {
-    same(&rt, LowHashBuilder.hash_one(&7), 7);
-    same(&rt, ZeroHashBuilder.hash_one(&7u8), 0);
-    same(&rt, MaxHashBuilder.hash_one(&7u8), u64::MAX);
+    assert_same(&rt, LowHashBuilder.hash_one(&7), 7);
+    assert_same(&rt, ZeroHashBuilder.hash_one(&7u8), 0);
+    assert_same(&rt, MaxHashBuilder.hash_one(&7u8), u64::MAX);
     let builder = DefaultHashBuilder::with_seed(3);
-    same(&rt, builder.hash_one(&5u32), builder.hash_one(&5u32));
+    assert_same(&rt, builder.hash_one(&5u32), builder.hash_one(&5u32));
     let mut hasher = builder.build_hasher();
     5u32.hash(&mut hasher);
-    same(&rt, builder.hash_one(&5u32), hasher.finish());
+    assert_same(&rt, builder.hash_one(&5u32), hasher.finish());
 }
 
 #[test]
@@ -286,7 +286,7 @@ fn debug_text_of_a_builder(rt: HostRuntime) {
         ),
     ] {
         let text = format!(in rt.alloc(); "{builder:?}").expect(&rt, "memory");
-        same(&rt, text.as_str(), wanted);
+        assert_same(&rt, text.as_str(), wanted);
     }
 }
 
@@ -299,15 +299,15 @@ fn the_greatest_number_of_a_bin(rt: HostRuntime) {
             bin.put_node(made.expect(&rt, "memory for the node"));
         }
     }
-    same(&rt, bin.greatest_number(), 19);
+    assert_same(&rt, bin.greatest_number(), 19);
     let empty: Bin<u64, u64> = Bin::new();
-    same(&rt, empty.greatest_number(), 0);
+    assert_same(&rt, empty.greatest_number(), 0);
 }
 
 #[test]
 fn strides(rt: HostRuntime) {
-    same(&rt, stride(1024, 4), 32);
-    same(&rt, stride(1024, 1), 1024);
-    same(&rt, stride(1024, 0), 1024);
-    same(&rt, stride(8, 1), 16);
+    assert_same(&rt, stride(1024, 4), 32);
+    assert_same(&rt, stride(1024, 1), 1024);
+    assert_same(&rt, stride(1024, 0), 1024);
+    assert_same(&rt, stride(8, 1), 16);
 }

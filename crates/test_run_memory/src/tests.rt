@@ -1,7 +1,7 @@
 //! What a run writes and the status that it ends with if a request fails, and that every block is deallocated.
 
 use flurry_run_words::{Output, run_words};
-use metered_alloc::Metered;
+use metered_alloc::MeteredAlloc;
 use std::alloc::Global;
 use std::io;
 use std::process::Abort;
@@ -9,7 +9,7 @@ use std::sync::Wait;
 use std::test::Fail;
 use std::thread::Threads;
 
-type Memory = &'static Metered<Global>;
+type Memory = &'static MeteredAlloc<Global>;
 
 // The status of a run, and what it wrote.
 type End<'a> = (u8, &'a [u8]);
@@ -30,7 +30,7 @@ fn run_without(
     let mut output = Output::new(rt.alloc(), Vec::new(rt.alloc()))?;
     memory.refuse_at(k);
     let status = run_words(rt, memory, words, &mut lines, &mut output);
-    let refused = memory.refused();
+    let refused = memory.was_refused();
     memory.refuse_nothing();
     Ok((status, output, refused))
 }
@@ -43,7 +43,7 @@ fn refuse_each(
     lines: &[u8],
     ends: &[End<'_>],
 ) -> Result<u64, Fail> {
-    let memory = Metered::leaked(rt.alloc())?;
+    let memory = MeteredAlloc::leak(rt.alloc())?;
     let mut place = 0usize;
     for k in 0..MAX_REQUESTS {
         let (status, output, refused) = run_without(rt, memory, k, words, lines)?;
@@ -52,7 +52,7 @@ fn refuse_each(
             place = place.saturating_add(1);
         }
         assert_eq!(rt; ends.get(place), Some(&end), "at {k}");
-        assert_eq!(rt; memory.blocks(), 0, "at {k}");
+        assert_eq!(rt; memory.live_blocks(), 0, "at {k}");
         if !refused {
             assert_eq!(rt; place.saturating_add(1), ends.len());
             return Ok(k);

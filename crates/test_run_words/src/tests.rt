@@ -49,7 +49,7 @@ impl Write for FailsFirst {
 
 // Asserts that a value is the expected one. A test with many assertions calls this, because each `assert_eq!` in its own body makes its
 // proof longer.
-fn same<T: PartialEq + Debug + Drop>(rt: &impl Abort, seen: T, wanted: T) {
+fn assert_same<T: PartialEq + Debug + Drop>(rt: &impl Abort, seen: T, wanted: T) {
     assert_eq!(rt; seen, wanted);
 }
 
@@ -61,8 +61,8 @@ fn output(rt: &(impl Abort + AllocGlobal)) -> Output<Vec<u8>> {
 fn answers(rt: &(impl Abort + AllocGlobal), lines: &[u8], status: u8, want: &[u8]) {
     let mut lines = lines;
     let mut output = output(rt);
-    same(rt, seq_lines(rt.alloc(), &mut lines, &mut output), status);
-    same(rt, output.get_ref().as_slice(), want);
+    assert_same(rt, seq_lines(rt.alloc(), &mut lines, &mut output), status);
+    assert_same(rt, output.get_ref().as_slice(), want);
 }
 
 #[test]
@@ -142,12 +142,12 @@ fn fails_after(
     let made = Input::new(rt.alloc(), FailsAfter(line));
     let mut input = made.expect(rt, "memory for the input");
     let mut output = output(rt);
-    same(
+    assert_same(
         rt,
         run_words(rt, rt.alloc(), &[word], &mut input, &mut output),
         1,
     );
-    same(rt, output.get_ref().as_slice(), want);
+    assert_same(rt, output.get_ref().as_slice(), want);
 }
 
 #[test]
@@ -177,14 +177,14 @@ fn fails_first(rt: &(impl Abort + AllocGlobal + Threads + Wait + Sync), words: &
     };
     let made = Output::new(rt.alloc(), &mut writer);
     let mut output = made.expect(rt, "memory for the output");
-    same(
+    assert_same(
         rt,
         run_words(rt, rt.alloc(), words, &mut lines, &mut output),
         1,
     );
     drop(output);
-    same(rt, writer.failed, true);
-    same(rt, writer.taken.as_slice(), b"".as_slice());
+    assert_same(rt, writer.failed, true);
+    assert_same(rt, writer.taken.as_slice(), b"".as_slice());
 }
 
 #[test]
@@ -202,13 +202,13 @@ fn failed_write(rt: HostRuntime) {
 fn tells_usage(rt: &(impl Abort + AllocGlobal + Threads + Wait + Sync), words: &[&str]) {
     let mut lines = b"len\n".as_slice();
     let mut output = output(rt);
-    same(
+    assert_same(
         rt,
         run_words(rt, rt.alloc(), words, &mut lines, &mut output),
         2,
     );
     let want = b"usage: flurry-run seq | world | threads N M\n".as_slice();
-    same(rt, output.get_ref().as_slice(), want);
+    assert_same(rt, output.get_ref().as_slice(), want);
 }
 
 #[test]

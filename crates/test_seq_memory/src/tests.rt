@@ -10,14 +10,14 @@ mod tables;
 
 use flurry_base::hash::{KeyHasher, LowHashBuilder};
 use flurry_seq::SeqMap;
-use metered_alloc::Metered;
+use metered_alloc::MeteredAlloc;
 use std::alloc::Global;
 use std::collections::VecDeque;
 use std::fmt::Debug;
 use std::process::Abort;
 use std::sync::Arc;
 
-type Memory = &'static Metered<Global>;
+type Memory = &'static MeteredAlloc<Global>;
 
 // A map of numbers.
 type NumberMap<S> = SeqMap<u64, u64, S, Memory>;
@@ -27,34 +27,34 @@ const MAX_REQUESTS: u64 = 100;
 
 // Asserts that a value is the expected one. A test with many assertions calls this, because each `assert_eq!` in its own body makes its
 // proof longer.
-fn same<T: PartialEq + Debug + Drop>(rt: &impl Abort, seen: T, wanted: T) {
+fn assert_same<T: PartialEq + Debug + Drop>(rt: &impl Abort, seen: T, wanted: T) {
     assert_eq!(rt; seen, wanted);
 }
 
 // Asserts that a value is the expected one after the request numbered `k` has failed.
-fn same_at<T: PartialEq + Debug + Drop>(rt: &impl Abort, k: u64, seen: T, wanted: T) {
+fn assert_same_at<T: PartialEq + Debug + Drop>(rt: &impl Abort, k: u64, seen: T, wanted: T) {
     assert_eq!(rt; seen, wanted, "at {k}");
 }
 
 // A call whose requests fail in turn.
 trait Refused {
     // Makes the call while the request numbered `k` fails, checks what it did, and returns whether it made that request.
-    fn once(&self, rt: &impl Abort, memory: Memory, k: u64) -> bool;
+    fn run_refusing(&self, rt: &impl Abort, memory: Memory, k: u64) -> bool;
 }
 
 // Returns an allocator that can be told which requests fail.
 fn metered(rt: &impl Abort, alloc: Global) -> Memory {
-    Metered::leaked(alloc).expect(rt, "memory for the allocator")
+    MeteredAlloc::leak(alloc).expect(rt, "memory for the allocator")
 }
 
 // Makes each request of a call fail in turn. The call makes at least one request, and every block is deallocated.
 fn refuse_each<C: Refused>(rt: &impl Abort, alloc: Global, call: &C) {
     let memory = metered(rt, alloc);
     for k in 0..MAX_REQUESTS {
-        let refused = call.once(rt, memory, k);
-        same_at(rt, k, memory.blocks(), 0);
+        let refused = call.run_refusing(rt, memory, k);
+        assert_same_at(rt, k, memory.live_blocks(), 0);
         if !refused {
-            same(rt, k > 0, true);
+            assert_same(rt, k > 0, true);
             return;
         }
     }
@@ -64,7 +64,7 @@ fn refuse_each<C: Refused>(rt: &impl Abort, alloc: Global, call: &C) {
 // Inserts an absent key.
 fn adds<S: KeyHasher<u64>>(rt: &impl Abort, map: &mut NumberMap<S>, key: u64, value: u64) {
     let old = map.insert(key, value).expect(rt, "memory for the pair");
-    same(rt, taken(old), None);
+    assert_same(rt, taken(old), None);
 }
 
 // Returns the map of the keys below `count`, each with itself as its value.

@@ -12,7 +12,7 @@ use std::process::Abort;
 
 // Asserts that a value is the expected one. A test with many assertions calls this, because each `assert_eq!` in its own body makes its
 // proof longer.
-fn same<T: PartialEq + Debug + Drop>(rt: &impl Abort, seen: T, wanted: T) {
+fn assert_same<T: PartialEq + Debug + Drop>(rt: &impl Abort, seen: T, wanted: T) {
     assert_eq!(rt; seen, wanted);
 }
 

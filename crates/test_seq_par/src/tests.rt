@@ -16,7 +16,7 @@ use std::thread::Threads;
 
 // Asserts that a value is the expected one. A test with many assertions calls this, because each `assert_eq!` in its own body makes its
 // proof longer.
-fn same<T: PartialEq + Debug + Drop>(rt: &impl Abort, seen: T, wanted: T) {
+fn assert_same<T: PartialEq + Debug + Drop>(rt: &impl Abort, seen: T, wanted: T) {
     assert_eq!(rt; seen, wanted);
 }
 
@@ -44,8 +44,8 @@ fn doubled(rt: &(impl Abort + AllocGlobal + Threads + Sync), part: usize) -> Res
 
 // Asserts that the map has two pairs, and the last value of the key that came twice.
 fn has_the_last(rt: &impl Abort, map: &Numbers) {
-    same(rt, map.len(), 2);
-    same(
+    assert_same(rt, map.len(), 2);
+    assert_same(
         rt,
         (lent(map.get(&1)), lent(map.get(&2))),
         (Some(30), Some(20)),
@@ -60,7 +60,7 @@ fn row_10(rt: HostRuntime) -> Result<(), Fail> {
     for part in [0, 2, 3, usize::MAX] {
         let map = doubled(&rt, part)?;
         has_the_last(&rt, &map);
-        same(&rt, map == one, true);
+        assert_same(&rt, map == one, true);
     }
     Ok(())
 }
@@ -68,8 +68,8 @@ fn row_10(rt: HostRuntime) -> Result<(), Fail> {
 #[test]
 fn a_hundred_pairs(rt: HostRuntime) -> Result<(), Fail> {
     let built = map::from_par_list(&rt, rt.alloc(), pairs(&rt), LowHashBuilder, 7)?;
-    same(&rt, built.len(), 100);
-    same(
+    assert_same(&rt, built.len(), 100);
+    assert_same(
         &rt,
         (lent(built.get(&100)), lent(built.get(&199))),
         (Some(0), Some(990)),
@@ -82,10 +82,10 @@ fn pairs_into_a_map(rt: HostRuntime) -> Result<(), Fail> {
     let list = Vec::from_array(rt.alloc(), [(1u64, 2u64), (3, 4)])?;
     let mut map = SeqMap::from_list(rt.alloc(), list, LowHashBuilder)?;
     map::par_extend(&rt, &mut map, Vec::new(rt.alloc()), 7)?;
-    same(&rt, map.len(), 2);
+    assert_same(&rt, map.len(), 2);
     map::par_extend(&rt, &mut map, pairs(&rt), 7)?;
-    same(&rt, map.len(), 102);
-    same(
+    assert_same(&rt, map.len(), 102);
+    assert_same(
         &rt,
         (lent(map.get(&3)), lent(map.get(&199))),
         (Some(4), Some(990)),
@@ -112,11 +112,11 @@ fn joined(rt: HostRuntime) -> Result<(), Fail> {
     let _ = right.insert(second, 2)?;
     let _ = right.insert(Tagged { id: 2, tag: 30 }, 3)?;
     map::join(&mut left, right)?;
-    same(&rt, left.len(), 2);
+    assert_same(&rt, left.len(), 2);
     let (key, value) = left
         .get_key_value(&second)
         .expect(&rt, "the key is present");
-    same(&rt, (key.tag, **value), (10, 2));
+    assert_same(&rt, (key.tag, **value), (10, 2));
     Ok(())
 }
 
@@ -129,15 +129,15 @@ fn sets_of_pairs(rt: HostRuntime) -> Result<(), Fail> {
         ZeroHashBuilder,
         7,
     )?;
-    same(&rt, built.len(), 100);
-    same(
+    assert_same(&rt, built.len(), 100);
+    assert_same(
         &rt,
         (built.contains(&(100, 0)), built.contains(&(100, 10000))),
         (true, false),
     );
     let more = Vec::from_array(rt.alloc(), [(100, 0), (100, 10000)])?;
     set::par_extend(&rt, &mut built, more, 1)?;
-    same(
+    assert_same(
         &rt,
         (built.len(), built.contains(&(100, 10000))),
         (101, true),

@@ -17,7 +17,7 @@ type NumberShare = Share<u64, u64>;
 
 // Asserts that a value is the expected one. A test with many assertions calls this, because each `assert_eq!` in its own body makes its
 // proof longer.
-fn same<T: PartialEq + Debug + Drop>(rt: &impl Abort, seen: T, wanted: T) {
+fn assert_same<T: PartialEq + Debug + Drop>(rt: &impl Abort, seen: T, wanted: T) {
     assert_eq!(rt; seen, wanted);
 }
 
@@ -53,5 +53,5 @@ fn ends<const N: usize>(
     wanted: Result<End, CloseFault>,
 ) {
     let shares = Vec::from_array(rt.alloc(), shares).expect(rt, "memory for the shares");
-    same(rt, end_of(map, shares), wanted);
+    assert_same(rt, end_of(map, shares), wanted);
 }

@@ -2,13 +2,13 @@
 
 use flurry_base::hash::LowHashBuilder;
 use flurry_seq_recorded::{Book, CloseFault, KeptCall, KeptReply, Recorded, Share};
-use metered_alloc::Metered;
+use metered_alloc::MeteredAlloc;
 use std::alloc::Global;
 use std::fmt::Debug;
 use std::process::Abort;
 use std::sync::Wait;
 
-type Memory = &'static Metered<Global>;
+type Memory = &'static MeteredAlloc<Global>;
 
 type Numbers = Recorded<u64, u64, LowHashBuilder, Memory>;
 
@@ -20,7 +20,7 @@ type NumberCall = KeptCall<u64, u64>;
 const MAX_REQUESTS: u64 = 100;
 
 // Asserts that a value is the expected one after the request numbered `k` has failed.
-fn same_at<T: PartialEq + Debug + Drop>(rt: &impl Abort, k: u64, seen: T, wanted: T) {
+fn assert_same_at<T: PartialEq + Debug + Drop>(rt: &impl Abort, k: u64, seen: T, wanted: T) {
     assert_eq!(rt; seen, wanted, "at {k}");
 }
 
@@ -34,7 +34,7 @@ fn map_with_share<R: Wait + Abort>(rt: &R, memory: Memory) -> (Numbers, NumberSh
     let map = Numbers::with_hasher(memory, LowHashBuilder);
     let mut share = share_of(rt, &map);
     let reply = map.insert(rt, &mut share, 7, 0);
-    same_at(rt, 0, reply, Ok(KeptReply::Value(None)));
+    assert_same_at(rt, 0, reply, Ok(KeptReply::Value(None)));
     (map, share)
 }
 
@@ -83,20 +83,20 @@ fn call_is_refused<R: Wait + Abort>(
     let mut share = share_of(rt, &map);
     memory.refuse_at(k);
     let reply = make(rt, &map, &mut share, call);
-    let refused = memory.refused();
+    let refused = memory.was_refused();
     memory.refuse_nothing();
     let (wanted, calls) = if refused {
         (None, 0)
     } else {
         (Some(wanted), 1)
     };
-    same_at(
+    assert_same_at(
         rt,
         k,
         (call, reply, share.receipts().len()),
         (call, wanted, calls),
     );
-    same_at(rt, k, end(map, list_of(rt, memory, share)), Some(calls));
+    assert_same_at(rt, k, end(map, list_of(rt, memory, share)), Some(calls));
     refused
 }
 
@@ -109,7 +109,7 @@ fn refuse_each<R: Wait + Abort>(
 ) {
     for k in 0..MAX_REQUESTS {
         if !call_is_refused(rt, memory, call, wanted, k) {
-            same_at(rt, k, k > 0, true);
+            assert_same_at(rt, k, k > 0, true);
             return;
         }
     }
@@ -118,7 +118,7 @@ fn refuse_each<R: Wait + Abort>(
 
 #[test]
 fn each_request_of_a_call(rt: HostRuntime) {
-    let memory = Metered::leaked(rt.alloc()).expect(&rt, "memory for the allocator");
+    let memory = MeteredAlloc::leak(rt.alloc()).expect(&rt, "memory for the allocator");
     for (call, wanted) in [
         (KeptCall::Get(7), KeptReply::Value(None)),
         (KeptCall::GetKeyValue(7), KeptReply::Pair(None)),
@@ -138,23 +138,23 @@ fn end_is_refused<R: Wait + Abort>(rt: &R, memory: Memory, k: u64) -> bool {
     let shares = list_of(rt, memory, share);
     memory.refuse_at(k);
     let fault = map.close(shares).err();
-    let refused = memory.refused();
+    let refused = memory.was_refused();
     memory.refuse_nothing();
     let wanted = if refused {
         Some(CloseFault::NoMemory)
     } else {
         None
     };
-    same_at(rt, k, (fault, memory.blocks()), (wanted, 0));
+    assert_same_at(rt, k, (fault, memory.live_blocks()), (wanted, 0));
     refused
 }
 
 #[test]
 fn end_with_an_honest_share(rt: HostRuntime) {
-    let memory = Metered::leaked(rt.alloc()).expect(&rt, "memory for the allocator");
+    let memory = MeteredAlloc::leak(rt.alloc()).expect(&rt, "memory for the allocator");
     for k in 0..MAX_REQUESTS {
         if !end_is_refused(&rt, memory, k) {
-            same_at(&rt, k, k > 0, true);
+            assert_same_at(&rt, k, k > 0, true);
             return;
         }
     }
@@ -164,18 +164,18 @@ fn end_with_an_honest_share(rt: HostRuntime) {
 // Each request of a further share is refused in turn: it has the number that the refused one would have had.
 #[test]
 fn each_request_of_a_share(rt: HostRuntime) {
-    let memory = Metered::leaked(rt.alloc()).expect(&rt, "memory for the allocator");
+    let memory = MeteredAlloc::leak(rt.alloc()).expect(&rt, "memory for the allocator");
     let map = Numbers::with_hasher(memory, LowHashBuilder);
     for k in 0..MAX_REQUESTS {
         memory.refuse_at(k);
         let number = map.share(&rt).map(|share| share.number()).ok();
-        let refused = memory.refused();
+        let refused = memory.was_refused();
         memory.refuse_nothing();
         if !refused {
-            same_at(&rt, k, (k > 0, number), (true, Some(0)));
+            assert_same_at(&rt, k, (k > 0, number), (true, Some(0)));
             return;
         }
-        same_at(&rt, k, number, None);
+        assert_same_at(&rt, k, number, None);
     }
     panic!(&rt; "it makes fewer requests");
 }
@@ -183,16 +183,16 @@ fn each_request_of_a_share(rt: HostRuntime) {
 // Each request of a call and of a share of a book by itself is refused in turn, which leaves the book as it was.
 #[test]
 fn each_request_of_a_book(rt: HostRuntime) {
-    let memory = Metered::leaked(rt.alloc()).expect(&rt, "memory for the allocator");
+    let memory = MeteredAlloc::leak(rt.alloc()).expect(&rt, "memory for the allocator");
     for k in 0..MAX_REQUESTS {
         let mut book = Book::new(memory, LowHashBuilder);
         memory.refuse_at(k);
         let number = book.share().ok();
         let reply = book.call(KeptCall::Insert(7u64, 1u64)).ok();
-        let refused = memory.refused();
+        let refused = memory.was_refused();
         memory.refuse_nothing();
         if !refused {
-            same_at(
+            assert_same_at(
                 &rt,
                 k,
                 (k > 0, number, reply),
@@ -200,11 +200,11 @@ fn each_request_of_a_book(rt: HostRuntime) {
             );
             return;
         }
-        same_at(&rt, k, number.is_none() || reply.is_none(), true);
-        same_at(&rt, k, book.share().ok(), Some(number.map_or(0, |_| 1)));
+        assert_same_at(&rt, k, number.is_none() || reply.is_none(), true);
+        assert_same_at(&rt, k, book.share().ok(), Some(number.map_or(0, |_| 1)));
         let again = reply.map_or(0, |_| 1);
         let old = reply.map_or(None, |_| Some(1));
-        same_at(
+        assert_same_at(
             &rt,
             k,
             book.call(KeptCall::Insert(7, 1)).ok(),

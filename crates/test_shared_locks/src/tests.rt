@@ -8,7 +8,7 @@ mod threads;
 
 use calls::{first_step, put_all};
 use flurry_bins_slots::NoFn;
-use flurry_shared_locks::{Lender, Locks};
+use flurry_shared_locks::{LockField, Locks};
 use flurry_steps::party::{Event, OwnedCall};
 use std::alloc::{Allocator, Global};
 use std::fmt::Debug;
@@ -19,22 +19,22 @@ use threads::{count_in_thread, put_in_threads};
 
 // Asserts that a value is the expected one. A test with many assertions calls this, because each `assert_eq!` in its own body makes its
 // proof longer.
-fn same<T: PartialEq + Debug + Drop>(rt: &impl Abort, seen: T, wanted: T) {
+fn assert_same<T: PartialEq + Debug + Drop>(rt: &impl Abort, seen: T, wanted: T) {
     assert_eq!(rt; seen, wanted);
 }
 
 // Returns the exponent of the table that was published last, as far as it is known.
 fn newest_of<A: Allocator, R>(rt: &R, locks: &Locks<u64, u64, A>) -> Option<u8> {
-    let lender = Lender::new(rt, locks);
-    lender.newest().map(|start| start.table())
+    let lock_field = LockField::new(rt, locks);
+    lock_field.newest().map(|start| start.table())
 }
 
 // Looks a key up, and inserts it, by one step each.
 fn does_first_steps<A: Allocator + Copy, R: Abort + Wait>(rt: &R, locks: &Locks<u64, u64, A>) {
     let look: OwnedCall<u64, u64, NoFn> = OwnedCall::Get(7);
-    same(rt, first_step(rt, locks, 7, look), Some(Event::Decide));
+    assert_same(rt, first_step(rt, locks, 7, look), Some(Event::Decide));
     let insertion: OwnedCall<u64, u64, NoFn> = OwnedCall::Insert(7, 0);
-    same(
+    assert_same(
         rt,
         first_step(rt, locks, 7, insertion),
         Some(Event::Opened(4)),
@@ -55,7 +55,7 @@ fn four_threads_put_pairs_in(rt: HostRuntime) -> Result<(), Fail> {
 
     put_in_threads(&rt, &locks, 500);
 
-    assert_eq!(rt; Lender::new(&rt, &locks).len(), 2000);
+    assert_eq!(rt; LockField::new(&rt, &locks).len(), 2000);
     let newest = newest_of(&rt, &locks);
     assert_eq!(rt;
         newest,
@@ -72,7 +72,7 @@ fn a_table_grows_between_lengths(rt: HostRuntime) -> Result<(), Fail> {
 
     for number in 0..2000u64 {
         put_all(&rt, &locks, number, number + 1);
-        assert_eq!(rt; Lender::new(&rt, &locks).len() as u64, number + 1);
+        assert_eq!(rt; LockField::new(&rt, &locks).len() as u64, number + 1);
     }
 
     let newest = newest_of(&rt, &locks);

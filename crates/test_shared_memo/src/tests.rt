@@ -3,7 +3,7 @@ ghost use Rattle.std.specs.Prelude.{◌≤◌};
 
 use flurry_base::hash::LowHashBuilder;
 use flurry_shared_memo::{Memo, MemoCore};
-use metered_alloc::Metered;
+use metered_alloc::MeteredAlloc;
 use std::alloc::{AllocError, Allocator, Global};
 use std::process::Abort;
 use std::sync::Wait;
@@ -12,7 +12,7 @@ use std::thread::{self, Threads};
 
 type Numbers<A> = Memo<u64, u64, LowHashBuilder, A>;
 
-type Memory = &'static Metered<Global>;
+type Memory = &'static MeteredAlloc<Global>;
 
 // More requests than any call makes.
 const MAX_REQUESTS: u64 = 100;
@@ -153,7 +153,7 @@ fn owned_is_refused(rt: &impl Abort, memory: Memory, k: u64) -> bool {
     );
     memory.refuse_at(k);
     let is_kept = memo.get_or_compute(7, |key: &u64| -> u64 { *key }).is_ok();
-    let is_refused = memory.refused();
+    let is_refused = memory.was_refused();
     memory.refuse_nothing();
     assert_eq!(rt; is_kept, !is_refused, "at {k}");
     assert_eq!(rt; memo.len(), usize::from(is_kept), "at {k}");
@@ -167,7 +167,7 @@ fn shared_is_refused<R: Wait + Abort>(rt: &R, memory: Memory, k: u64) -> bool {
     let is_kept = memo
         .get_or_compute(rt, 7, |key: &u64| -> u64 { *key })
         .is_ok();
-    let is_refused = memory.refused();
+    let is_refused = memory.was_refused();
     memory.refuse_nothing();
     assert_eq!(rt; is_kept, !is_refused, "at {k}");
     assert_eq!(rt; memo.len(rt), usize::from(is_kept), "at {k}");
@@ -176,7 +176,7 @@ fn shared_is_refused<R: Wait + Abort>(rt: &R, memory: Memory, k: u64) -> bool {
 
 #[test]
 fn each_request_is_refused(rt: HostRuntime) -> Result<(), Fail> {
-    let memory = Metered::leaked(rt.alloc())?;
+    let memory = MeteredAlloc::leak(rt.alloc())?;
     for k in 0..MAX_REQUESTS {
         if !owned_is_refused(&rt, memory, k) {
             assert_eq!(rt; k, 4);
@@ -189,6 +189,6 @@ fn each_request_is_refused(rt: HostRuntime) -> Result<(), Fail> {
             break;
         }
     }
-    assert_eq!(rt; memory.blocks(), 0);
+    assert_eq!(rt; memory.live_blocks(), 0);
     Ok(())
 }

@@ -5,7 +5,7 @@ use flurry_seq_pairs::{SortedItems, SortedPairs};
 use flurry_shared::HashMap;
 use flurry_shared_pairs::{map, map_ref, set, set_ref};
 use flurry_shared_set::HashSet;
-use metered_alloc::Metered;
+use metered_alloc::MeteredAlloc;
 use std::alloc::{AllocError, Allocator, Global};
 use std::fmt::Debug;
 use std::process::Abort;
@@ -17,7 +17,7 @@ const MAX_REQUESTS: u64 = 100;
 
 // Asserts that a value is the expected one. A test with many assertions calls this, because each `assert_eq!` in its own body makes its
 // proof longer.
-fn same<T: PartialEq + Debug + Drop>(rt: &impl Abort, seen: T, wanted: T) {
+fn assert_same<T: PartialEq + Debug + Drop>(rt: &impl Abort, seen: T, wanted: T) {
     assert_eq!(rt; seen, wanted);
 }
 
@@ -48,8 +48,8 @@ fn three_elements<A: Allocator + Copy, R: Wait>(
 fn pairs_of_a_map(rt: HostRuntime) -> Result<(), Fail> {
     let map = three_pairs(&rt, rt.alloc())?;
     let wanted = SortedPairs(Vec::from_array(rt.alloc(), [(0u64, 0u64), (1, 10), (2, 20)])?);
-    same(&rt, &map::to_sorted_pairs(&rt, rt.alloc(), &map)?, &wanted);
-    same(
+    assert_same(&rt, &map::to_sorted_pairs(&rt, rt.alloc(), &map)?, &wanted);
+    assert_same(
         &rt,
         &map_ref::to_sorted_pairs(rt.alloc(), &map.pin(&rt))?,
         &wanted,
@@ -61,7 +61,7 @@ fn pairs_of_a_map(rt: HostRuntime) -> Result<(), Fail> {
 fn no_pairs(rt: HostRuntime) -> Result<(), Fail> {
     let map: HashMap<u64, u64, LowHashBuilder> = HashMap::with_hasher(rt.alloc(), LowHashBuilder);
     let list = map::to_sorted_pairs(&rt, rt.alloc(), &map)?;
-    same(&rt, list.0.len(), 0);
+    assert_same(&rt, list.0.len(), 0);
     Ok(())
 }
 
@@ -69,8 +69,8 @@ fn no_pairs(rt: HostRuntime) -> Result<(), Fail> {
 fn elements_of_a_set(rt: HostRuntime) -> Result<(), Fail> {
     let set = three_elements(&rt, rt.alloc())?;
     let wanted = SortedItems(Vec::from_array(rt.alloc(), [0u64, 1, 2])?);
-    same(&rt, &set::to_sorted_items(&rt, rt.alloc(), &set)?, &wanted);
-    same(
+    assert_same(&rt, &set::to_sorted_items(&rt, rt.alloc(), &set)?, &wanted);
+    assert_same(
         &rt,
         &set_ref::to_sorted_items(rt.alloc(), &set.pin(&rt))?,
         &wanted,
@@ -81,7 +81,7 @@ fn elements_of_a_set(rt: HostRuntime) -> Result<(), Fail> {
 // Makes the list of a map while the request numbered `k` fails, and returns whether that request was made.
 fn pairs_without(
     rt: &(impl Abort + Wait),
-    memory: &Metered<Global>,
+    memory: &MeteredAlloc<Global>,
     map: &HashMap<u64, u64, LowHashBuilder>,
     k: u64,
 ) -> bool {
@@ -89,16 +89,16 @@ fn pairs_without(
     let count = map::to_sorted_pairs(rt, memory, map)
         .ok()
         .map(|list| list.0.len());
-    let refused = memory.refused();
+    let refused = memory.was_refused();
     memory.refuse_nothing();
-    same(rt, count, if refused { None } else { Some(3) });
+    assert_same(rt, count, if refused { None } else { Some(3) });
     refused
 }
 
 // Makes the list of a set while the request numbered `k` fails, and returns whether that request was made.
 fn elements_without(
     rt: &(impl Abort + Wait),
-    memory: &Metered<Global>,
+    memory: &MeteredAlloc<Global>,
     set: &HashSet<u64, LowHashBuilder>,
     k: u64,
 ) -> bool {
@@ -106,21 +106,21 @@ fn elements_without(
     let count = set::to_sorted_items(rt, memory, set)
         .ok()
         .map(|list| list.0.len());
-    let refused = memory.refused();
+    let refused = memory.was_refused();
     memory.refuse_nothing();
-    same(rt, count, if refused { None } else { Some(3) });
+    assert_same(rt, count, if refused { None } else { Some(3) });
     refused
 }
 
 #[test]
 fn refused_pairs(rt: HostRuntime) -> Result<(), Fail> {
-    let memory = Metered::new(rt.alloc());
+    let memory = MeteredAlloc::new(rt.alloc());
     let map = three_pairs(&rt, rt.alloc())?;
     for k in 0..MAX_REQUESTS {
         let refused = pairs_without(&rt, &memory, &map, k);
-        same(&rt, memory.blocks(), 0);
+        assert_same(&rt, memory.live_blocks(), 0);
         if !refused {
-            same(&rt, k > 0, true);
+            assert_same(&rt, k > 0, true);
             return Ok(());
         }
     }
@@ -129,13 +129,13 @@ fn refused_pairs(rt: HostRuntime) -> Result<(), Fail> {
 
 #[test]
 fn refused_elements(rt: HostRuntime) -> Result<(), Fail> {
-    let memory = Metered::new(rt.alloc());
+    let memory = MeteredAlloc::new(rt.alloc());
     let set = three_elements(&rt, rt.alloc())?;
     for k in 0..MAX_REQUESTS {
         let refused = elements_without(&rt, &memory, &set, k);
-        same(&rt, memory.blocks(), 0);
+        assert_same(&rt, memory.live_blocks(), 0);
         if !refused {
-            same(&rt, k > 0, true);
+            assert_same(&rt, k > 0, true);
             return Ok(());
         }
     }
@@ -151,12 +151,12 @@ fn a_thousand_of_each(rt: HostRuntime) -> Result<(), Fail> {
         map.insert(&rt, key, key)?;
         set.insert(&rt, key)?;
     }
-    same(
+    assert_same(
         &rt,
         map::to_sorted_pairs(&rt, rt.alloc(), &map)?.0.len(),
         1000,
     );
-    same(
+    assert_same(
         &rt,
         set::to_sorted_items(&rt, rt.alloc(), &set)?.0.len(),
         1000,

@@ -19,7 +19,7 @@ const MAX_READ: u32 = 10_000;
 
 // Asserts that a value is the expected one. A test with many assertions calls this, because each `assert_eq!` in its own body makes its
 // proof longer.
-fn same<T: PartialEq + Debug + Drop>(rt: &impl Abort, seen: T, wanted: T) {
+fn assert_same<T: PartialEq + Debug + Drop>(rt: &impl Abort, seen: T, wanted: T) {
     assert_eq!(rt; seen, wanted);
 }
 
@@ -92,7 +92,7 @@ fn has_sums<S: KeyHasher<u64>, A: Allocator + Copy, R: Abort + Wait>(
     map: &HashMap<u64, u64, S, A>,
     wanted: (u64, u64, u64),
 ) -> Result<(), Fail> {
-    same(rt, read_all(map.iter(rt))?, wanted);
-    same(rt, map.len(rt) as u64, wanted.0);
+    assert_same(rt, read_all(map.iter(rt))?, wanted);
+    assert_same(rt, map.len(rt) as u64, wanted.0);
     Ok(())
 }

@@ -21,7 +21,7 @@ const MAX_READ: u32 = 10_000;
 
 // Asserts that a value is the expected one. A test with many assertions calls this, because each `assert_eq!` in its own body makes its
 // proof longer.
-fn same<T: PartialEq + Debug + Drop>(rt: &impl Abort, seen: T, wanted: T) {
+fn assert_same<T: PartialEq + Debug + Drop>(rt: &impl Abort, seen: T, wanted: T) {
     assert_eq!(rt; seen, wanted);
 }
 
@@ -70,21 +70,21 @@ fn puts_and_finds<A: Allocator + Copy, R: Abort + Wait>(
     rt: &R,
     set: &HashSet<u64, LowHashBuilder, A>,
 ) -> Result<(), Fail> {
-    same(rt, set.insert(rt, 7)?, true);
-    same(rt, set.insert(rt, 7)?, false);
-    same(rt, set.insert(rt, 8)?, true);
-    same(rt, set.contains(rt, &7), true);
-    same(rt, set.contains(rt, &9), false);
-    same(rt, set.get(rt, &7)?.map(|element| *element), Some(7));
+    assert_same(rt, set.insert(rt, 7)?, true);
+    assert_same(rt, set.insert(rt, 7)?, false);
+    assert_same(rt, set.insert(rt, 8)?, true);
+    assert_same(rt, set.contains(rt, &7), true);
+    assert_same(rt, set.contains(rt, &9), false);
+    assert_same(rt, set.get(rt, &7)?.map(|element| *element), Some(7));
     Ok(())
 }
 
 // Removes the elements again.
 fn takes_out<A: Allocator + Copy, R: Abort + Wait>(rt: &R, set: &HashSet<u64, LowHashBuilder, A>) {
-    same(rt, set.take(rt, &7).map(|element| *element), Some(7));
-    same(rt, set.take(rt, &7).is_none(), true);
-    same(rt, set.remove(rt, &8), true);
-    same(rt, set.remove(rt, &8), false);
+    assert_same(rt, set.take(rt, &7).map(|element| *element), Some(7));
+    assert_same(rt, set.take(rt, &7).is_none(), true);
+    assert_same(rt, set.remove(rt, &8), true);
+    assert_same(rt, set.remove(rt, &8), false);
 }
 
 // Inserts elements into an empty set, finds them and removes them.
@@ -92,11 +92,11 @@ fn comes_and_goes<A: Allocator + Copy, R: Abort + Wait>(
     rt: &R,
     set: &HashSet<u64, LowHashBuilder, A>,
 ) -> Result<(), Fail> {
-    same(rt, set.is_empty(rt), true);
+    assert_same(rt, set.is_empty(rt), true);
     puts_and_finds(rt, set)?;
-    same(rt, set.len(rt), 2);
+    assert_same(rt, set.len(rt), 2);
     takes_out(rt, set);
-    same(rt, set.is_empty(rt), true);
+    assert_same(rt, set.is_empty(rt), true);
     Ok(())
 }
 
@@ -111,8 +111,8 @@ fn has_sums<A: Allocator + Copy, R: Abort + Wait>(
     set: &HashSet<u64, LowHashBuilder, A>,
     wanted: (u64, u64),
 ) -> Result<(), Fail> {
-    same(rt, read_all(set.iter(rt))?, wanted);
-    same(rt, set.len(rt) as u64, wanted.0);
+    assert_same(rt, read_all(set.iter(rt))?, wanted);
+    assert_same(rt, set.len(rt) as u64, wanted.0);
     Ok(())
 }
 

@@ -8,12 +8,12 @@ use std::process::Abort;
 
 // Asserts that a value is the expected one. A test with many assertions calls this, because each `assert_eq!` in its own body makes its
 // proof longer. The proof of the caller does not learn of the value.
-fn same<T: PartialEq + Debug + Drop>(rt: &impl Abort, seen: T, wanted: T) {
+fn assert_same<T: PartialEq + Debug + Drop>(rt: &impl Abort, seen: T, wanted: T) {
     assert_eq!(rt; seen, wanted);
 }
 
 // Asserts that a value is the expected one. A failure also reports `at`.
-fn same_at<T: PartialEq + Debug + Drop>(
+fn assert_same_at<T: PartialEq + Debug + Drop>(
     rt: &impl Abort,
     at: impl Display + Drop,
     seen: T,

@@ -1,7 +1,7 @@
 //! What a caller can prove of two threads at one board.
 ghost use Rattle.std.specs.Prelude.{ℕ, ◌+◌, ◌≤◌, true, false, ◌≡◌, IfOk};
 ghost use Rattle.flurry_steps_claims.specs.ClaimBoard.{notes_of};
-ghost use Rattle.flurry_steps_claims.specs.SeatNotes.{times};
+ghost use Rattle.flurry_base.specs.Occurrences.{occurrences};
 ghost use Rattle.flurry_steps_claims.specs.ClaimBoard.{IsSeatOf, IsNewSeatOf};
 ghost use Rattle.test_steps_claims.specs.Pair.{IsShareOf};
 
@@ -53,7 +53,7 @@ pub fn two_shares<R: Threads + Sync>(
     processors: usize,
 ) -> Result<(Share, Share), AllocError>
     requires { table ≤ 30 }
-    ensures ranges { IfOk result (λ r. (k : ℕ) → times k r.0.numbers.items + times k r.1.numbers.items ≤ 1) }
+    ensures ranges { IfOk result (λ r. (k : ℕ) → occurrences k r.0.numbers.items + occurrences k r.1.numbers.items ≤ 1) }
     ensures last { IfOk result (λ r. r.0.was_last ≡ true → r.1.was_last ≡ false) }
 {
     let (board, mut seats) = ClaimBoard::new(alloc, table, processors, 2)?;

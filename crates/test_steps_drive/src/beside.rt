@@ -30,7 +30,7 @@ impl<K: Ord + Drop, V: Drop, A: Allocator + Copy> Beside<K, V, A> {
 }
 
 // Returns `true` if a call may start at `table`: it has been published, and its bins are no longer unborn.
-fn is_start<'s, K: Ord + Drop + 's, V: Drop, A: Allocator + Copy>(
+fn is_published_table<'s, K: Ord + Drop + 's, V: Drop, A: Allocator + Copy>(
     parts: &'s Parts<K, V, A>,
     table: u8,
 ) -> bool
@@ -62,7 +62,7 @@ impl<K: Ord + Drop, V: Drop, A: Allocator + Copy> Field<K, V, A> for Beside<K, V
         &mut self,
         party: &mut Party<'_, K, V, F, A>,
     ) -> Option<Event> {
-        if party.locates() && is_start(&self.parts, self.start.table()) {
+        if party.is_locating() && is_published_table(&self.parts, self.start.table()) {
             return Some(party.on_published(&self.start));
         }
         self.parts.at_control(party)
@@ -121,6 +121,6 @@ impl<K: Ord + Drop, V: Drop, A: Allocator + Copy> Field<K, V, A> for Beside<K, V
 }
 
 /// Parts beside a published table are a field of which `IsExclusive` holds. The function does nothing: its contract is a law.
-pub fn beside_tells<K: Ord, V, A: Allocator>()
+pub fn beside_is_exclusive<K: Ord, V, A: Allocator>()
     ensures { IsExclusive (parts_of {K = K} {V = V} {A = A}) (λ r. r) PlaceGives BesideLends BesideLacks }
 {}

@@ -27,7 +27,7 @@ enum Plain {
 }
 
 // Asserts that a value is the expected one. The proof of the caller does not learn of the value, so it stays short.
-fn same<T: PartialEq + Debug + Drop>(rt: &impl Abort, seen: T, wanted: T) {
+fn assert_same<T: PartialEq + Debug + Drop>(rt: &impl Abort, seen: T, wanted: T) {
     assert_eq!(rt; seen, wanted);
 }
 
@@ -79,5 +79,5 @@ fn answers<F: ComputeFn<u64, u64>, A: Allocator + Copy, X: Field<u64, u64, A>, R
 )
     requires { (f : F) → F.can_change f }
 {
-    same(rt, reply_of(rt, field, call), wanted);
+    assert_same(rt, reply_of(rt, field, call), wanted);
 }

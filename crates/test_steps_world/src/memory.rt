@@ -8,23 +8,23 @@ mod world;
 mod world_rows;
 
 use flurry_bins::bin::{Bin, Entry, ListBin, Node, Ordered, Shape, TreeBin};
-use metered_alloc::Metered;
+use metered_alloc::MeteredAlloc;
 use std::alloc::{AllocError, Allocator, Global};
 use std::fmt::Debug;
 use std::process::Abort;
 use std::sync::Arc;
 use std::test::Fail;
 
-type Memory = &'static Metered<Global>;
+type Memory = &'static MeteredAlloc<Global>;
 
 // Asserts that a value is the expected one. A test with many assertions calls this, because each `assert_eq!` in its own body makes its
 // proof longer.
-fn same<T: PartialEq + Debug + Drop>(rt: &impl Abort, seen: T, wanted: T) {
+fn assert_same<T: PartialEq + Debug + Drop>(rt: &impl Abort, seen: T, wanted: T) {
     assert_eq!(rt; seen, wanted);
 }
 
 // Asserts that a value is the expected one after the request numbered `k` has failed.
-fn same_at<T: PartialEq + Debug + Drop>(rt: &impl Abort, k: u64, seen: T, wanted: T) {
+fn assert_same_at<T: PartialEq + Debug + Drop>(rt: &impl Abort, k: u64, seen: T, wanted: T) {
     assert_eq!(rt; seen, wanted, "at {k}");
 }
 
@@ -77,7 +77,7 @@ fn list_of<A: Allocator>(nodes: Vec<BoxedNode<A>, A>) -> ListBin<u64, u64, A> {
 
 // Makes the node of an entry while its only request fails. Returns whether the request was made, and whether there is no node.
 fn refused_node<A: Allocator + Copy>(
-    metered: &Metered<Global>,
+    metered: &MeteredAlloc<Global>,
     memory: A,
 ) -> Result<(bool, bool), AllocError> {
     let entry = Entry {
@@ -88,40 +88,40 @@ fn refused_node<A: Allocator + Copy>(
     };
     metered.refuse_at(0);
     let failed = Node::new(memory, entry).is_err();
-    let refused = metered.refused();
+    let refused = metered.was_refused();
     metered.refuse_nothing();
     Ok((refused, failed))
 }
 
 // Makes an entry and its node while the request numbered `k` fails. Returns whether the request was made, and whether there is no node.
 fn refused_entry<A: Allocator + Copy>(
-    metered: &Metered<Global>,
+    metered: &MeteredAlloc<Global>,
     memory: A,
     k: u64,
 ) -> (bool, bool) {
     metered.refuse_at(k);
     let failed = node(memory, 7).is_err();
-    let refused = metered.refused();
+    let refused = metered.was_refused();
     metered.refuse_nothing();
     (refused, failed)
 }
 
 #[test]
 fn a_node(rt: HostRuntime) -> Result<(), Fail> {
-    let memory = Metered::leaked(rt.alloc())?;
-    same(&rt, refused_node(memory, memory)?, (true, true));
-    same(&rt, memory.blocks(), 0);
+    let memory = MeteredAlloc::leak(rt.alloc())?;
+    assert_same(&rt, refused_node(memory, memory)?, (true, true));
+    assert_same(&rt, memory.live_blocks(), 0);
     for k in 0..4u64 {
         let refused = k < 3;
-        same_at(&rt, k, refused_entry(memory, memory, k), (refused, refused));
-        same_at(&rt, k, memory.blocks(), 0);
+        assert_same_at(&rt, k, refused_entry(memory, memory, k), (refused, refused));
+        assert_same_at(&rt, k, memory.live_blocks(), 0);
     }
     Ok(())
 }
 
 // Returns a bin into which the nodes of the keys below `count` were inserted while every request fails.
 fn bin_of<A: Allocator + Copy>(
-    metered: &Metered<Global>,
+    metered: &MeteredAlloc<Global>,
     memory: A,
     count: u64,
 ) -> Result<NumberBin<A>, AllocError> {
@@ -143,85 +143,85 @@ fn replaced<A: Allocator>(bin: &mut NumberBin<A>, value: Arc<u64, A>) -> Option<
 // Splits a bin of 23 keys, and makes a bin of the list of its lower half.
 fn splits_a_bin<A: Allocator>(rt: &impl Abort, bin: NumberBin<A>) {
     let (low, high) = bin.split(0);
-    same(
+    assert_same(
         rt,
         (low.shape(), high.shape()),
         (Shape::Tree(12), Shape::Tree(11)),
     );
     let list = low.into_list();
-    same(rt, list.len(), 12);
+    assert_same(rt, list.len(), 12);
     let low: NumberBin<A> = Bin::from_list(list);
-    same(rt, low.shape(), Shape::Tree(12));
+    assert_same(rt, low.shape(), Shape::Tree(12));
 }
 
 // Calls of a bin of 24 keys.
 fn calls_of_a_bin<A: Allocator + Copy>(
     rt: &impl Abort,
-    metered: &Metered<Global>,
+    metered: &MeteredAlloc<Global>,
     memory: A,
 ) -> Result<(), AllocError> {
     let value = Arc::new(memory, 50)?;
     let mut bin = bin_of(metered, memory, 24)?;
-    same(rt, bin.shape(), Shape::Tree(24));
-    same(rt, bin.next_after(Some((0, &4))).is_some(), true);
-    same(rt, replaced(&mut bin, value), Some(4));
-    same(rt, bin.remove(1, &5).is_some(), true);
+    assert_same(rt, bin.shape(), Shape::Tree(24));
+    assert_same(rt, bin.next_after(Some((0, &4))).is_some(), true);
+    assert_same(rt, replaced(&mut bin, value), Some(4));
+    assert_same(rt, bin.remove(1, &5).is_some(), true);
     splits_a_bin(rt, bin);
     Ok(())
 }
 
 #[test]
 fn a_bin_asks_for_nothing(rt: HostRuntime) -> Result<(), Fail> {
-    let memory = Metered::leaked(rt.alloc())?;
+    let memory = MeteredAlloc::leak(rt.alloc())?;
     calls_of_a_bin(&rt, memory, memory)?;
-    same(&rt, (memory.asked(), memory.blocks()), (0, 0));
+    assert_same(&rt, (memory.requests(), memory.live_blocks()), (0, 0));
     Ok(())
 }
 
 // Makes a tree of a bin of 9 keys, and a list again.
 fn plants<A: Allocator>(rt: &impl Abort, bin: &mut NumberBin<A>) {
-    same(rt, bin.shape(), Shape::List(9));
+    assert_same(rt, bin.shape(), Shape::List(9));
     bin.plant();
-    same(rt, bin.shape(), Shape::Tree(9));
+    assert_same(rt, bin.shape(), Shape::Tree(9));
     for key in [0, 2, 4] {
-        same(rt, bin.remove(0, &key).is_some(), true);
+        assert_same(rt, bin.remove(0, &key).is_some(), true);
     }
-    same(rt, bin.shape(), Shape::List(6));
+    assert_same(rt, bin.shape(), Shape::List(6));
 }
 
 #[test]
 fn planting_asks_for_nothing(rt: HostRuntime) -> Result<(), Fail> {
-    let memory = Metered::leaked(rt.alloc())?;
+    let memory = MeteredAlloc::leak(rt.alloc())?;
     plants(&rt, &mut bin_of(memory, memory, 9)?);
-    same(&rt, (memory.asked(), memory.blocks()), (0, 0));
+    assert_same(&rt, (memory.requests(), memory.live_blocks()), (0, 0));
     Ok(())
 }
 
 // Splits a tree of 18 keys, and the list of its higher half.
 fn splits_a_tree<A: Allocator>(rt: &impl Abort, tree: TreeBin<u64, u64, A>) {
     let (low, high) = tree.split(0);
-    same(rt, (low.len(), high.len()), (8, 10));
+    assert_same(rt, (low.len(), high.len()), (8, 10));
     let (none, list) = high.into_list().split(0);
-    same(rt, (none.len(), list.len()), (0, 10));
+    assert_same(rt, (none.len(), list.len()), (0, 10));
 }
 
 // Calls of a list of 20 nodes, and of the tree that is made of it.
 fn calls_of_a_list<A: Allocator>(rt: &impl Abort, nodes: Vec<BoxedNode<A>, A>) {
     let mut list = list_of(nodes);
-    same(rt, list.find(1, &19).1, 20);
-    same(rt, list.remove(0, &0).is_some(), true);
+    assert_same(rt, list.find(1, &19).1, 20);
+    assert_same(rt, list.remove(0, &0).is_some(), true);
     let mut tree: TreeBin<u64, u64, A> = TreeBin::from_list(list);
-    same(rt, tree.len(), 19);
-    same(rt, tree.remove(0, &2).is_some(), true);
+    assert_same(rt, tree.len(), 19);
+    assert_same(rt, tree.remove(0, &2).is_some(), true);
     splits_a_tree(rt, tree);
 }
 
 #[test]
 fn lists_and_trees_ask_for_nothing(rt: HostRuntime) -> Result<(), Fail> {
-    let memory = Metered::leaked(rt.alloc())?;
+    let memory = MeteredAlloc::leak(rt.alloc())?;
     let nodes = nodes(memory, 20)?;
     memory.refuse_from(0);
     calls_of_a_list(&rt, nodes);
-    same(&rt, (memory.asked(), memory.blocks()), (0, 0));
+    assert_same(&rt, (memory.requests(), memory.live_blocks()), (0, 0));
     Ok(())
 }

@@ -39,7 +39,7 @@ enum Line {
 
 // Asserts that a value is the expected one. A test with many assertions calls this, because each `assert_eq!` in its own body makes its
 // proof longer.
-fn same<T: PartialEq + Debug + Drop>(rt: &impl Abort, seen: T, wanted: T) {
+fn assert_same<T: PartialEq + Debug + Drop>(rt: &impl Abort, seen: T, wanted: T) {
     assert_eq!(rt; seen, wanted);
 }
 
@@ -102,7 +102,7 @@ fn lose<'k, F: ComputeFn<u64, u64> + Copy>(
     party: usize,
 ) {
     world.lose(party).expect(rt, "memory for the label");
-    same(rt, last_line(rt, world), Line::Silent(party));
+    assert_same(rt, last_line(rt, world), Line::Silent(party));
 }
 
 // Asserts that `lines` are the labels of the party's next steps.
@@ -113,7 +113,7 @@ fn assert_steps<'k, F: ComputeFn<u64, u64> + Copy>(
     lines: &[Line],
 ) {
     for line in lines {
-        same(rt, step(rt, world, party), *line);
+        assert_same(rt, step(rt, world, party), *line);
     }
 }
 
@@ -138,8 +138,8 @@ fn assert_call<'k, F: ComputeFn<u64, u64> + Copy>(
 )
     requires { (f : F) → F.can_change f }
 {
-    same(rt, begin(rt, world, call), party);
-    same(rt, last_line(rt, world), Line::Begin(party));
+    assert_same(rt, begin(rt, world, call), party);
+    assert_same(rt, last_line(rt, world), Line::Begin(party));
     assert_steps(rt, world, party, lines);
 }
 
@@ -168,5 +168,5 @@ fn assert_reply<'k, F: ComputeFn<u64, u64> + Copy>(
     requires { (f : F) → F.can_change f }
 {
     let party = begin(rt, world, call);
-    same(rt, end_of(rt, world, party), Line::Reply(party, reply));
+    assert_same(rt, end_of(rt, world, party), Line::Reply(party, reply));
 }

@@ -6,12 +6,12 @@ use Rattle.std.specs.Map.{update}
 use Rattle.std.proofs.lemmas.Bool.{cases_eq}
 use Rattle.std.proofs.lemmas.Map.{update_here, update_apart}
 use Rattle.flurry.specs.FiniteMap.{value_at}
-use Rattle.use_cache.specs.Cache.{Keeps}
+use Rattle.use_cache.specs.Cache.{IsLastOrNone}
 use Rattle.use_cache.specs.Calls.{AreLawful}
 use Rattle.use_cache.specs.declared.cache.Call.{Call}
 use Rattle.use_cache.specs.declared.cache.Call.TheVariants.{Put, Get}
 
-keeps_more : (x y z : Option ℕ) → Keeps x y → Keeps y z → Keeps x z
+keeps_more : (x y z : Option ℕ) → IsLastOrNone x y → IsLastOrNone y z → IsLastOrNone x z
 keeps_more x y z (inl e) (inl f) = inl (f ∙ e)
 keeps_more x y z (inl e) (inr f) = inr f
 keeps_more x y z (inr e) (inl f) = inr (f ∙ e)
@@ -21,21 +21,21 @@ keeps_more x y z (inr e) (inr f) = inr f
 -- calls that are left make lawful replies to all
 pub record Follows (all left : List Call) (m : List (ℕ × ℕ)) (rs : List (Option ℕ)) : Type 0 where
   pub last : ℕ → Option ℕ
-  pub known : (q : ℕ) → Keeps (last q) (value_at nat_cmp m q)
+  pub known : (q : ℕ) → IsLastOrNone (last q) (value_at nat_cmp m q)
   pub told : (more : List (Option ℕ)) → AreLawful last left more → AreLawful (λ _. None) all (rs ++ more)
 
 pub follows_at_first : (all : List Call) → Follows all all [] []
 follows_at_first all = record { last = λ _. None; known = λ q. inl refl; told = λ more h. h }
 
 pub follows_put : (all left : List Call) (k v : ℕ) (m n : List (ℕ × ℕ)) (rs : List (Option ℕ)) → Follows all (Put k v ∷ left) m rs → value_at nat_cmp n k ≡ Some v
-    → ((q : ℕ) → q ≢ k → Keeps (value_at nat_cmp m q) (value_at nat_cmp n q)) → Follows all left n rs
+    → ((q : ℕ) → q ≢ k → IsLastOrNone (value_at nat_cmp m q) (value_at nat_cmp n q)) → Follows all left n rs
 follows_put all left k v m n rs f put others = record {
   last = update nat_eq f.last k (Some v);
   known = λ q. by_case q (cases_eq q k);
   told = f.told;
 }
   where
-    by_case : (q : ℕ) → (q ≡ k) ⊎ (q ≡ k → ⊥) → Keeps (update nat_eq f.last k (Some v) q) (value_at nat_cmp n q)
+    by_case : (q : ℕ) → (q ≡ k) ⊎ (q ≡ k → ⊥) → IsLastOrNone (update nat_eq f.last k (Some v) q) (value_at nat_cmp n q)
     by_case q (inl e) = rw e (inl (put ∙ sym (update_here f.last k (Some v))))
     by_case q (inr ne) = rw (update_apart f.last k (Some v) q ne) (keeps_more _ _ _ (f.known q) (others q ne))
 

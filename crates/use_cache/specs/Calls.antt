@@ -1,7 +1,7 @@
 -- What a list of calls on a cache may reply.
 use Rattle.std.specs.Prelude.{◌≡◌, ℕ, List, [], ◌∷◌, Option, Some, nat_eq}
 use Rattle.std.specs.Map.{update}
-use Rattle.use_cache.specs.Cache.{Keeps}
+use Rattle.use_cache.specs.Cache.{IsLastOrNone}
 use Rattle.use_cache.specs.declared.cache.Call.{Call}
 use Rattle.use_cache.specs.declared.cache.Call.TheVariants.{Put, Get}
 
@@ -10,4 +10,4 @@ abbrev pub AreLawful : (ℕ → Option ℕ) → List Call → List (Option ℕ) 
 AreLawful last [] rs = rs ≡ []
 AreLawful last (Put k v ∷ cs) rs = AreLawful (update nat_eq last k (Some v)) cs rs
 AreLawful last (Get k ∷ cs) [] = ⊥
-AreLawful last (Get k ∷ cs) (r ∷ rs) = Keeps (last k) r × AreLawful last cs rs
+AreLawful last (Get k ∷ cs) (r ∷ rs) = IsLastOrNone (last k) r × AreLawful last cs rs

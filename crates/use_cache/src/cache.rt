@@ -3,7 +3,7 @@
 ghost use Rattle.std.specs.Prelude.{◌≡◌, ◌≢◌, ◌≤◌, ◌<◌, ℕ, [], length, Some, None, IfOk, OnOk, OnErr};
 ghost use Rattle.std.specs.Ordering.{nat_cmp};
 ghost use Rattle.flurry.specs.FiniteMap.{IsFiniteMap, value_at};
-ghost use Rattle.use_cache.specs.Cache.{Keeps};
+ghost use Rattle.use_cache.specs.Cache.{IsLastOrNone};
 ghost use Rattle.use_cache.specs.Calls.{AreLawful};
 
 use flurry::SeqMap;
@@ -62,8 +62,8 @@ impl Cache {
     pub fn put(&mut self, key: u64, value: u64) -> Result<(), AllocError>
         ensures put { OnOk result (value_at nat_cmp self.new.pairs key ≡ Some value) }
         ensures others { (q : ℕ) → q ≢ key
-            → Keeps (value_at nat_cmp self.old.pairs q) (value_at nat_cmp self.new.pairs q) }
-        ensures err { OnErr result (Keeps (value_at nat_cmp self.old.pairs key) (value_at nat_cmp self.new.pairs key)) }
+            → IsLastOrNone (value_at nat_cmp self.old.pairs q) (value_at nat_cmp self.new.pairs q) }
+        ensures err { OnErr result (IsLastOrNone (value_at nat_cmp self.old.pairs key) (value_at nat_cmp self.new.pairs key)) }
         ensures bound { self.new.bound ≡ self.old.bound }
         ensures room { length self.new.pairs ≤ self.new.bound }
     {
@@ -82,7 +82,7 @@ fn make_room(map: &mut SeqMap<u64, u64>, order: &mut VecDeque<u64>, bound: usize
     requires { 0 < bound }
     ensures room { length map.new.pairs < bound }
     ensures ascend { IsFiniteMap nat_cmp map.new.pairs }
-    ensures keeps { (q : ℕ) → Keeps (value_at nat_cmp map.old.pairs q) (value_at nat_cmp map.new.pairs q) }
+    ensures keeps { (q : ℕ) → IsLastOrNone (value_at nat_cmp map.old.pairs q) (value_at nat_cmp map.new.pairs q) }
 {
     while map.len() >= bound {
         match order.pop_front() {

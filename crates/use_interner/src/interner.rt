@@ -5,7 +5,7 @@ ghost use Rattle.std.specs.Global.{Global};
 ghost use Rattle.std.specs.Arc.{arc_value};
 ghost use Rattle.std.specs.String.{string_cmp};
 ghost use Rattle.flurry.specs.FiniteSet.{element_at};
-ghost use Rattle.use_interner.specs.Interner.{IsKept};
+ghost use Rattle.use_interner.specs.Interner.{IsInterned};
 
 use flurry::SeqSet;
 use std::alloc::{AllocError, Global};
@@ -42,7 +42,7 @@ impl Interner {
     #[tactic(auto, using(flurry::proofs::CallerLaws::text_elements))]
     pub fn intern(&mut self, text: &str) -> Result<Arc<String>, AllocError>
         ensures text { IfOk result (λ shared. string_bytes (arc_value shared) ≡ text.now) }
-        ensures stored { IfOk result (λ shared. IsKept self.new.texts.elements (arc_value shared)) }
+        ensures stored { IfOk result (λ shared. IsInterned self.new.texts.elements (arc_value shared)) }
         // No text is lost, even if memory cannot be allocated.
         ensures kept { (q : String Global) → IsSome (element_at string_cmp self.old.texts.elements q)
             → element_at string_cmp self.new.texts.elements q ≡ element_at string_cmp self.old.texts.elements q }

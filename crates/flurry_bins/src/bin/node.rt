@@ -1,7 +1,7 @@
 //! A boxed entry, with room for two links and a colour, so that the same node serves in a list and in a tree.
 ghost use Rattle.std.specs.Prelude.{◌≡◌, IfOk, IfErr};
 ghost use Rattle.std.specs.Arc.{arc_value};
-ghost use Rattle.flurry_bins.specs.Chain.{chain, chain_from, entry_of, with_entry};
+ghost use Rattle.flurry_bins.specs.Chain.{chain, chain_from, entry_of, node_with_entry};
 ghost use Rattle.flurry_base.specs.Given.{IsNotInserted};
 ghost use Rattle.flurry_bins.specs.Entries.{IsEntryOf, with_hash, with_value};
 ghost use Rattle.flurry_bins.specs.Tree.{shape, shape_from};
@@ -175,7 +175,7 @@ impl<K: Drop, V: Drop, A: Allocator> Node<K, V, A> {
     // Replaces the value and its write number, and returns the old value.
     pub(crate) fn write(&mut self, value: Arc<V, A>, number: u64) -> Arc<V, A>
         ensures old { result ≡ (entry_of self.old).value }
-        ensures after { self.new ≡ with_entry self.old (with_value (entry_of self.old) value number) }
+        ensures after { self.new ≡ node_with_entry self.old (with_value (entry_of self.old) value number) }
     {
         let entry = &mut self.entry;
         entry.number = number;
@@ -184,7 +184,7 @@ impl<K: Drop, V: Drop, A: Allocator> Node<K, V, A> {
 
     /// Sets the hash of the entry. Constant time.
     pub fn rehash(&mut self, hash: u64)
-        ensures { self.new ≡ with_entry self.old (with_hash (entry_of self.old) hash) }
+        ensures { self.new ≡ node_with_entry self.old (with_hash (entry_of self.old) hash) }
     {
         let entry = &mut self.entry;
         entry.hash = hash;

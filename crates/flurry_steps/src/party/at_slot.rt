@@ -3,7 +3,7 @@ ghost use Rattle.std.specs.Prelude.{◌≡◌, ◌+◌, ◌-◌, ◌<◌, ◌≤
 ghost use Rattle.flurry_base.specs.Given.{given_of};
 ghost use Rattle.flurry_bins_slots.specs.LiveView.{view_of_inserted, view_of_added, outcome};
 ghost use Rattle.flurry_bins.specs.PlainEntries.{numbered_pair};
-ghost use Rattle.flurry_bins_slots.specs.Slot.{IsSlot, IsUnborn, LiesIn};
+ghost use Rattle.flurry_bins_slots.specs.Slot.{IsSlot, IsUnborn, LiesInBin};
 ghost use Rattle.flurry_steps_sweep.specs.Outcome.{OutcomeReply};
 ghost use Rattle.flurry_steps.specs.Party.{StageIsReady, TaskIsReady, IsWriter, IsDecided, steps_left, Finds, Removes, RemovesSeen, Inserts, Adds, Computes, reply_for};
 ghost use Rattle.flurry_steps.specs.PartySlots.{ContentGives, GoesOnNew, GoesOnWritten, GoesOnAdded, FindCanBeRefused, stage_computed};
@@ -51,7 +51,7 @@ pub(super) fn step_lookup<'k, K: Ord + Drop, V: Drop, F: ComputeFn<K, V>, A: All
     table: u8,
     slot: &Slot<K, V, A>,
 ) -> (Stage<'k, K, V, F, A>, Event, Left<'k, K, V, F, A>)
-    requires region { LiesIn hash slot.now }
+    requires region { LiesInBin hash slot.now }
     requires at { table ≡ slot.now.table }
     ensures ready { StageIsReady F.can_change (stage_of result.0) }
     ensures within { IsSlot K.cmp slot.now }
@@ -100,7 +100,7 @@ pub(super) fn step_write<'k, K: Ord + Drop, V: Drop, F: ComputeFn<K, V>, A: Allo
     table: u8,
     slot: &mut Slot<K, V, A>,
 ) -> (Stage<'k, K, V, F, A>, Event, Left<'k, K, V, F, A>)
-    requires region { LiesIn hash slot.old }
+    requires region { LiesInBin hash slot.old }
     requires at { table ≡ slot.old.table }
     requires writer { IsWriter (task_of task) }
     requires callable { TaskIsReady F.can_change (task_of task) }
@@ -157,7 +157,7 @@ fn remove<'k, K: Ord + Drop, V: Drop, F: ComputeFn<K, V>, A: Allocator>(
     table: u8,
     slot: &mut Slot<K, V, A>,
 ) -> (Stage<'k, K, V, F, A>, Event, Left<'k, K, V, F, A>)
-    requires region { LiesIn hash slot.old }
+    requires region { LiesInBin hash slot.old }
     requires at { table ≡ slot.old.table }
     ensures ready { StageIsReady F.can_change (stage_of result.0) }
     ensures within { IsSlot K.cmp slot.old }
@@ -199,7 +199,7 @@ fn remove_seen<'k, K: Ord + Drop, V: Drop, F: ComputeFn<K, V>, A: Allocator>(
     table: u8,
     slot: &mut Slot<K, V, A>,
 ) -> (Stage<'k, K, V, F, A>, Event, Left<'k, K, V, F, A>)
-    requires region { LiesIn hash slot.old }
+    requires region { LiesInBin hash slot.old }
     requires at { table ≡ slot.old.table }
     ensures ready { StageIsReady F.can_change (stage_of result.0) }
     ensures within { IsSlot K.cmp slot.old }
@@ -284,7 +284,7 @@ fn insert<'k, K: Ord + Drop, V: Drop, F: ComputeFn<K, V>, A: Allocator + Copy>(
     table: u8,
     slot: &mut Slot<K, V, A>,
 ) -> (Stage<'k, K, V, F, A>, Event, Left<'k, K, V, F, A>)
-    requires region { LiesIn hash slot.old }
+    requires region { LiesInBin hash slot.old }
     requires at { table ≡ slot.old.table }
     ensures ready { StageIsReady F.can_change (stage_of result.0) }
     ensures within { IsSlot K.cmp slot.old }
@@ -347,7 +347,7 @@ fn try_insert<'k, K: Ord + Drop, V: Drop, F: ComputeFn<K, V>, A: Allocator + Cop
     table: u8,
     slot: &mut Slot<K, V, A>,
 ) -> (Stage<'k, K, V, F, A>, Event, Left<'k, K, V, F, A>)
-    requires region { LiesIn hash slot.old }
+    requires region { LiesInBin hash slot.old }
     requires at { table ≡ slot.old.table }
     ensures ready { StageIsReady F.can_change (stage_of result.0) }
     ensures within { IsSlot K.cmp slot.old }
@@ -424,7 +424,7 @@ fn compute<'k, K: Ord + Drop, V: Drop, F: ComputeFn<K, V>, A: Allocator + Copy>(
     table: u8,
     slot: &mut Slot<K, V, A>,
 ) -> (Stage<'k, K, V, F, A>, Event, Left<'k, K, V, F, A>)
-    requires region { LiesIn hash slot.old }
+    requires region { LiesInBin hash slot.old }
     requires at { table ≡ slot.old.table }
     requires callable { F.can_change f }
     ensures ready { StageIsReady F.can_change (stage_of result.0) }

@@ -1,7 +1,7 @@
 //! The step of a call that counts a pair at a tally.
 ghost use Rattle.std.specs.Prelude.{◌≡◌, true};
 ghost use Rattle.flurry_steps.specs.Party.{StageIsReady};
-ghost use Rattle.flurry_steps.specs.PartyTally.{StageAtTally, counts};
+ghost use Rattle.flurry_steps.specs.PartyTally.{StageAtTally, is_counting};
 ghost use Rattle.flurry_steps.specs.PartyView.{stage_of};
 
 use super::ending::Ending;
@@ -16,7 +16,7 @@ pub(super) fn step_tally<'k, K: Drop, V: Drop, F: ComputeFn<K, V>, A: Allocator>
     tally: &mut Tally,
     most: i64,
 ) -> Stage<'k, K, V, F, A>
-    requires counts { counts (stage_of stage) ≡ true }
+    requires is_counting { is_counting (stage_of stage) ≡ true }
     requires callable { StageIsReady F.can_change (stage_of stage) }
     ensures ready { StageIsReady F.can_change (stage_of result) }
     ensures step { StageAtTally most (stage_of stage.entry) tally.old (stage_of result) tally.new }

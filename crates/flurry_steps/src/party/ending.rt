@@ -103,7 +103,7 @@ impl<K, V, A: Allocator> Ending<K, V, A> {
     ///
     /// Constant time.
     #[inline]
-    pub fn counts(&self) -> bool
+    pub fn is_counting(&self) -> bool
         ensures { result ≡ has_to_count self.now.rest }
     {
         matches!(self.rest, Rest::Count | Rest::Uncount)
@@ -119,7 +119,7 @@ impl<K, V, A: Allocator> Ending<K, V, A> {
     {
         if let Rest::Count = self.rest {
             tally.count(1);
-            self.rest = if tally.has(most) {
+            self.rest = if tally.is_at_least(most) {
                 Rest::Recount
             } else {
                 Rest::Nothing

@@ -6,10 +6,10 @@ ghost use Rattle.flurry_steps_sweep.specs.Part.{LookPart, BinPart, MovePart, Con
 ghost use Rattle.flurry_steps_sweep.specs.PartView.{part_of_want};
 ghost use Rattle.flurry_steps_sweep.specs.OutcomeView.{outcome_of};
 ghost use Rattle.flurry_steps_sweep.specs.Sweep.{pair_seen};
-ghost use Rattle.flurry_steps.specs.Party.{locates, published_stage, taken_stage, wanted_part, with_stage, outcome_in, final_outcome, last_seen, steps_left, LooksUp};
+ghost use Rattle.flurry_steps.specs.Party.{is_locating, published_stage, taken_stage, wanted_part, with_stage, outcome_in, final_outcome, last_seen, steps_left, LooksUp};
 ghost use Rattle.flurry_steps.specs.PartyControl.{ControlStep};
 ghost use Rattle.flurry_steps.specs.PartySlots.{SlotStep, MoveStep};
-ghost use Rattle.flurry_steps.specs.PartyTally.{TallyStep, counts};
+ghost use Rattle.flurry_steps.specs.PartyTally.{TallyStep, is_counting};
 ghost use Rattle.flurry_steps.specs.PartyBoard.{Seated, Attempted, TakenBack, StageAsks, BoardStep, range_to_report, stage_unclaimed, IsAtBoard, stage_told, lost};
 ghost use Rattle.flurry_base.specs.declared.sizes.TheConstants.{MAX_TABLE};
 
@@ -146,8 +146,8 @@ impl<'k, K: Drop, V: Drop, F: ComputeFn<K, V>, A: Allocator> Single<'k, K, V, F,
 
     // Whether the next step only asks the control for the published table.
     #[inline]
-    pub(super) fn locates(&self) -> bool
-        ensures { result ≡ locates self.now.stage }
+    pub(super) fn is_locating(&self) -> bool
+        ensures { result ≡ is_locating self.now.stage }
     {
         matches!(self.stage, Stage::Locate(_))
     }
@@ -155,7 +155,7 @@ impl<'k, K: Drop, V: Drop, F: ComputeFn<K, V>, A: Allocator> Single<'k, K, V, F,
     // Does the step that asks for the published table, at the published table `start`. The call goes on to its bin in that table.
     #[inline]
     pub(super) fn on_published(&mut self, start: &PublishedTable) -> Event
-        requires { locates self.old.stage ≡ true }
+        requires { is_locating self.old.stage ≡ true }
         ensures within { start.now ≤ MAX_TABLE }
         ensures silent { result ≡ Event.Silent }
         ensures at { self.new ≡ with_stage self.old (published_stage start.now self.old.stage) }
@@ -233,8 +233,8 @@ impl<'k, K: Ord + Drop, V: Drop, F: ComputeFn<K, V>, A: Allocator + Copy> Single
 impl<'k, K: Drop, V: Drop, F: ComputeFn<K, V>, A: Allocator> Single<'k, K, V, F, A> {
     // Whether the next step counts one pair, which the call has inserted or removed.
     #[inline]
-    pub(super) fn counts(&self) -> bool
-        ensures { result ≡ counts self.now.stage }
+    pub(super) fn is_counting(&self) -> bool
+        ensures { result ≡ is_counting self.now.stage }
     {
         matches!(self.stage, Stage::Count(_) | Stage::Uncount(_))
     }
@@ -242,7 +242,7 @@ impl<'k, K: Drop, V: Drop, F: ComputeFn<K, V>, A: Allocator> Single<'k, K, V, F,
     // Does the step that counts one pair, at a tally instead of the control. If the call inserted a pair and at least `most` pairs then
     // wait at the tally, it looks at the control's count next; otherwise the call is done.
     pub(super) fn on_tally(&mut self, tally: &mut Tally, most: i64) -> Event
-        requires { counts self.old.stage ≡ true }
+        requires { is_counting self.old.stage ≡ true }
         ensures { TallyStep most self.old tally.old result self.new tally.new }
     {
         let stage = mem::replace(&mut self.stage, Stage::Taken);

@@ -3,7 +3,7 @@
 use super::same;
 use flurry_bins::bin::{Bin, Ordered, Shape};
 use flurry_bins_insertion::table::{Inserted, insert_pair_in_bin};
-use metered_alloc::Metered;
+use metered_alloc::MeteredAlloc;
 use std::alloc::{AllocError, Allocator, Global};
 use std::process::Abort;
 use std::sync::Arc;
@@ -59,16 +59,16 @@ fn insert_more<A: Allocator + Copy>(
     bin: &mut Bin<u64, u64, A>,
     memory: A,
 ) -> Result<(), AllocError> {
-    same(rt, bin.shape(), Shape::List(8));
-    same(rt, insert(bin, memory, 6, 60, 16)?, (Some(6), false));
-    same(rt, insert(bin, memory, 7, 7, 16)?, (None, true));
-    same(rt, bin.shape(), Shape::List(9));
-    same(rt, insert(bin, memory, 1, 1, 16)?, (None, false));
-    same(rt, bin.shape(), Shape::Tree(10));
-    same(rt, insert(bin, memory, 6, 61, 16)?, (Some(60), false));
-    same(rt, bin.shape(), Shape::Tree(10));
-    same(rt, value_at(bin, 6), Some(61));
-    same(rt, value_at(bin, 7), Some(7));
+    assert_same(rt, bin.shape(), Shape::List(8));
+    assert_same(rt, insert(bin, memory, 6, 60, 16)?, (Some(6), false));
+    assert_same(rt, insert(bin, memory, 7, 7, 16)?, (None, true));
+    assert_same(rt, bin.shape(), Shape::List(9));
+    assert_same(rt, insert(bin, memory, 1, 1, 16)?, (None, false));
+    assert_same(rt, bin.shape(), Shape::Tree(10));
+    assert_same(rt, insert(bin, memory, 6, 61, 16)?, (Some(60), false));
+    assert_same(rt, bin.shape(), Shape::Tree(10));
+    assert_same(rt, value_at(bin, 6), Some(61));
+    assert_same(rt, value_at(bin, 7), Some(7));
     Ok(())
 }
 
@@ -81,8 +81,8 @@ fn shape_of<A: Allocator + Copy>(memory: A, count: u64, bins: usize) -> Result<S
 #[test]
 fn a_bin_that_grows_by_insertions(rt: HostRuntime) -> Result<(), Fail> {
     insert_more(&rt, &mut bin_of(rt.alloc(), 8, 16)?, rt.alloc())?;
-    same(&rt, shape_of(rt.alloc(), 8, 64)?, Shape::List(8));
-    same(&rt, shape_of(rt.alloc(), 9, 64)?, Shape::Tree(9));
+    assert_same(&rt, shape_of(rt.alloc(), 8, 64)?, Shape::List(8));
+    assert_same(&rt, shape_of(rt.alloc(), 9, 64)?, Shape::Tree(9));
     Ok(())
 }
 
@@ -90,30 +90,30 @@ fn a_bin_that_grows_by_insertions(rt: HostRuntime) -> Result<(), Fail> {
 // was, the bin is unchanged.
 fn refused<A: Allocator + Copy>(
     rt: &impl Abort,
-    metered: &Metered<Global>,
+    metered: &MeteredAlloc<Global>,
     memory: A,
     (count, key, k): (u64, u64, u64),
 ) -> Result<bool, Fail> {
     let mut bin = bin_of(memory, count, 64)?;
-    let before = (bin.shape(), value_at(&bin, key), metered.blocks());
+    let before = (bin.shape(), value_at(&bin, key), metered.live_blocks());
     metered.refuse_at(k);
     let reply = insert(&mut bin, memory, key, 1000, 64);
-    let refused = metered.refused();
+    let refused = metered.was_refused();
     metered.refuse_nothing();
     if refused {
-        same(rt, reply.is_err(), true);
-        same(
+        assert_same(rt, reply.is_err(), true);
+        assert_same(
             rt,
-            (bin.shape(), value_at(&bin, key), metered.blocks()),
+            (bin.shape(), value_at(&bin, key), metered.live_blocks()),
             before,
         );
         for i in 0..count {
             let even = i.wrapping_mul(2);
-            same(rt, value_at(&bin, even), Some(even));
+            assert_same(rt, value_at(&bin, even), Some(even));
         }
     } else {
-        same(rt, reply.ok(), Some((before.1, false)));
-        same(rt, value_at(&bin, key), Some(1000));
+        assert_same(rt, reply.ok(), Some((before.1, false)));
+        assert_same(rt, value_at(&bin, key), Some(1000));
     }
     Ok(refused)
 }
@@ -121,12 +121,12 @@ fn refused<A: Allocator + Copy>(
 // Each request of an insertion fails in turn: there are three for an absent key, and one for a present one.
 #[test]
 fn refused_insertions(rt: HostRuntime) -> Result<(), Fail> {
-    let memory = Metered::leaked(rt.alloc())?;
+    let memory = MeteredAlloc::leak(rt.alloc())?;
     for count in [0u64, 1, 2, 8, 9, 30] {
         for key in [1u64, 4] {
             let wanted = if key == 4 && count > 2 { 1u64 } else { 3 };
             for k in 0u64..4 {
-                same(
+                assert_same(
                     &rt,
                     refused(&rt, memory, memory, (count, key, k))?,
                     k < wanted,
@@ -134,6 +134,6 @@ fn refused_insertions(rt: HostRuntime) -> Result<(), Fail> {
             }
         }
     }
-    same(&rt, memory.blocks(), 0);
+    assert_same(&rt, memory.live_blocks(), 0);
     Ok(())
 }

@@ -1,7 +1,7 @@
 //! Slots: each step where the bin is live, where it has moved, and where it is unborn.
 
 ghost use Rattle.std.specs.Prelude.{OnOk};
-ghost use Rattle.flurry_bins_slots.specs.Slot.{LiesIn};
+ghost use Rattle.flurry_bins_slots.specs.Slot.{LiesInBin};
 
 use super::same;
 use flurry_base::sizes::bin_index;
@@ -23,7 +23,7 @@ enum Away {
 
 // Checks that a hash lies in the region of the slot.
 fn lies_in(slot: &Slot<u64, u64>, hash: u64) -> Result<(), Away>
-    ensures { OnOk result (LiesIn hash slot.now) }
+    ensures { OnOk result (LiesInBin hash slot.now) }
 {
     let (table, index) = slot.at();
     if bin_index(hash, table) == index {
@@ -149,61 +149,61 @@ fn moved(answer: MoveAnswer) -> (u64, Option<(u8, usize)>) {
 #[test]
 fn writes_are_numbered_up_to_the_greatest(rt: HostRuntime) {
     let mut slot: Slot<u64, u64> = Slot::live_at(4, 5, Bin::new(), u64::MAX - 2);
-    same(&rt, put(rt.alloc(), &mut slot, 5, 5, 1), Ok((None, false)));
-    same(&rt, find(&slot, 5, 5), Ok(Some((1, u64::MAX - 1))));
-    same(&rt, take_if(&mut slot, 5, 5, u64::MAX - 2), Ok(None));
-    same(
+    assert_same(&rt, put(rt.alloc(), &mut slot, 5, 5, 1), Ok((None, false)));
+    assert_same(&rt, find(&slot, 5, 5), Ok(Some((1, u64::MAX - 1))));
+    assert_same(&rt, take_if(&mut slot, 5, 5, u64::MAX - 2), Ok(None));
+    assert_same(
         &rt,
         take_if(&mut slot, 5, 5, u64::MAX - 1),
         Ok(Some((1, u64::MAX - 1))),
     );
-    same(&rt, find(&slot, 5, 5), Ok(None));
+    assert_same(&rt, find(&slot, 5, 5), Ok(None));
 }
 
 // At the greatest number the count stays, and no conditional removal takes the pair.
 #[test]
 fn the_greatest_number_is_never_taken_on_condition(rt: HostRuntime) {
     let mut slot: Slot<u64, u64> = Slot::live_at(4, 5, Bin::new(), u64::MAX - 1);
-    same(&rt, put(rt.alloc(), &mut slot, 5, 5, 1), Ok((None, false)));
-    same(&rt, find(&slot, 5, 5), Ok(Some((1, u64::MAX))));
-    same(&rt, take_if(&mut slot, 5, 5, u64::MAX), Ok(None));
-    same(
+    assert_same(&rt, put(rt.alloc(), &mut slot, 5, 5, 1), Ok((None, false)));
+    assert_same(&rt, find(&slot, 5, 5), Ok(Some((1, u64::MAX))));
+    assert_same(&rt, take_if(&mut slot, 5, 5, u64::MAX), Ok(None));
+    assert_same(
         &rt,
         put(rt.alloc(), &mut slot, 5, 5, 2),
         Ok((Some(1), false)),
     );
-    same(&rt, find(&slot, 5, 5), Ok(Some((2, u64::MAX))));
-    same(&rt, take(&mut slot, 5, 5), Ok(Some((2, u64::MAX))));
+    assert_same(&rt, find(&slot, 5, 5), Ok(Some((2, u64::MAX))));
+    assert_same(&rt, take(&mut slot, 5, 5), Ok(Some((2, u64::MAX))));
 }
 
 #[test]
 fn steps_at_a_live_bin(rt: HostRuntime) {
     let mut slot: Slot<u64, u64> = Slot::live(4, 3, Bin::new());
-    same(&rt, slot.at(), (4, 3));
-    same(&rt, put_absent(rt.alloc(), &mut slot, 3, 3, 10), Ok(Ok(10)));
-    same(
+    assert_same(&rt, slot.at(), (4, 3));
+    assert_same(&rt, put_absent(rt.alloc(), &mut slot, 3, 3, 10), Ok(Ok(10)));
+    assert_same(
         &rt,
         put_absent(rt.alloc(), &mut slot, 3, 3, 11),
         Ok(Err((10, 11))),
     );
-    same(&rt, find(&slot, 3, 3), Ok(Some((10, 1))));
-    same(&rt, halve(rt.alloc(), &mut slot, 19, 19), Ok(None));
-    same(&rt, halve(rt.alloc(), &mut slot, 3, 3), Ok(Some(Some(5))));
-    same(&rt, find(&slot, 3, 3), Ok(Some((5, 2))));
-    same(
+    assert_same(&rt, find(&slot, 3, 3), Ok(Some((10, 1))));
+    assert_same(&rt, halve(rt.alloc(), &mut slot, 19, 19), Ok(None));
+    assert_same(&rt, halve(rt.alloc(), &mut slot, 3, 3), Ok(Some(Some(5))));
+    assert_same(&rt, find(&slot, 3, 3), Ok(Some((5, 2))));
+    assert_same(
         &rt,
         put(rt.alloc(), &mut slot, 19, 19, 12),
         Ok((None, false)),
     );
-    same(&rt, next_after(&slot, None), Ok(Some((5, 2))));
-    same(&rt, next_after(&slot, Some((3, &3))), Ok(Some((12, 3))));
-    same(&rt, next_after(&slot, Some((19, &19))), Ok(None));
-    same(&rt, remove(rt.alloc(), &mut slot, 3, 3), Ok(true));
-    same(&rt, take(&mut slot, 3, 3), Ok(None));
-    same(&rt, here(slot.wipe()), Ok(1));
-    same(&rt, here(slot.wipe()), Ok(0));
-    same(&rt, put(rt.alloc(), &mut slot, 3, 3, 13), Ok((None, false)));
-    same(&rt, find(&slot, 3, 3), Ok(Some((13, 4))));
+    assert_same(&rt, next_after(&slot, None), Ok(Some((5, 2))));
+    assert_same(&rt, next_after(&slot, Some((3, &3))), Ok(Some((12, 3))));
+    assert_same(&rt, next_after(&slot, Some((19, &19))), Ok(None));
+    assert_same(&rt, remove(rt.alloc(), &mut slot, 3, 3), Ok(true));
+    assert_same(&rt, take(&mut slot, 3, 3), Ok(None));
+    assert_same(&rt, here(slot.wipe()), Ok(1));
+    assert_same(&rt, here(slot.wipe()), Ok(0));
+    assert_same(&rt, put(rt.alloc(), &mut slot, 3, 3, 13), Ok((None, false)));
+    assert_same(&rt, find(&slot, 3, 3), Ok(Some((13, 4))));
 }
 
 #[test]
@@ -214,23 +214,23 @@ fn steps_where_no_bin_is_yet(rt: HostRuntime) {
         .ok()
         .expect(&rt, "memory for the pair")
     {
-        Answer::Unborn((key, Given::Plain(value))) => same(&rt, (key, value), (7, 8)),
+        Answer::Unborn((key, Given::Plain(value))) => assert_same(&rt, (key, value), (7, 8)),
         _ => panic!(rt; "no bin is there"),
     }
-    same(&rt, slot.at(), (4, 3));
-    same(&rt, slot.is_live(), false);
-    same(&rt, find(&slot, 3, 3), Err(Away::Unborn));
-    same(&rt, next_after(&slot, None), Err(Away::Unborn));
-    same(&rt, put(rt.alloc(), &mut slot, 3, 3, 1), Err(Away::Unborn));
-    same(
+    assert_same(&rt, slot.at(), (4, 3));
+    assert_same(&rt, slot.is_live(), false);
+    assert_same(&rt, find(&slot, 3, 3), Err(Away::Unborn));
+    assert_same(&rt, next_after(&slot, None), Err(Away::Unborn));
+    assert_same(&rt, put(rt.alloc(), &mut slot, 3, 3, 1), Err(Away::Unborn));
+    assert_same(
         &rt,
         put_absent(rt.alloc(), &mut slot, 3, 3, 1),
         Err(Away::Unborn),
     );
-    same(&rt, remove(rt.alloc(), &mut slot, 3, 3), Err(Away::Unborn));
-    same(&rt, take(&mut slot, 3, 3), Err(Away::Unborn));
-    same(&rt, take_if(&mut slot, 3, 3, 1), Err(Away::Unborn));
-    same(&rt, here(slot.wipe()), Err(Away::Unborn));
+    assert_same(&rt, remove(rt.alloc(), &mut slot, 3, 3), Err(Away::Unborn));
+    assert_same(&rt, take(&mut slot, 3, 3), Err(Away::Unborn));
+    assert_same(&rt, take_if(&mut slot, 3, 3, 1), Err(Away::Unborn));
+    assert_same(&rt, here(slot.wipe()), Err(Away::Unborn));
 }
 
 #[test]
@@ -238,38 +238,38 @@ fn a_bin_moves_into_its_halves(rt: HostRuntime) {
     let mut slot: Slot<u64, u64> = Slot::live(4, 3, Bin::new());
     for key in [3, 19, 35] {
         let seen = put(rt.alloc(), &mut slot, key, key, key);
-        same(&rt, seen, Ok((None, false)));
+        assert_same(&rt, seen, Ok((None, false)));
     }
     let mut low: Slot<u64, u64> = Slot::unborn(5, 3);
     let mut high: Slot<u64, u64> = Slot::unborn(5, 19);
     let mut other: Slot<u64, u64> = Slot::unborn(5, 20);
-    same(&rt, moved(slot.move_into(&mut high, &mut low)), (2, None));
-    same(&rt, moved(slot.move_into(&mut low, &mut other)), (2, None));
-    same(&rt, moved(low.move_into(&mut slot, &mut high)), (2, None));
-    same(
+    assert_same(&rt, moved(slot.move_into(&mut high, &mut low)), (2, None));
+    assert_same(&rt, moved(slot.move_into(&mut low, &mut other)), (2, None));
+    assert_same(&rt, moved(low.move_into(&mut slot, &mut high)), (2, None));
+    assert_same(
         &rt,
         moved(slot.move_into(&mut low, &mut high)),
         (0, Some((4, 3))),
     );
-    same(
+    assert_same(
         &rt,
         moved(slot.move_into(&mut low, &mut high)),
         (1, Some((4, 3))),
     );
-    same(&rt, (slot.is_live(), low.is_live()), (false, true));
-    same(&rt, find(&slot, 3, 3), Err(Away::Moved));
-    same(&rt, put(rt.alloc(), &mut slot, 3, 3, 0), Err(Away::Moved));
-    same(&rt, here(slot.wipe()), Err(Away::Moved));
-    same(&rt, find(&low, 3, 3), Ok(Some((3, 1))));
-    same(&rt, find(&low, 35, 35), Ok(Some((35, 3))));
-    same(&rt, find(&high, 19, 19), Ok(Some((19, 2))));
-    same(
+    assert_same(&rt, (slot.is_live(), low.is_live()), (false, true));
+    assert_same(&rt, find(&slot, 3, 3), Err(Away::Moved));
+    assert_same(&rt, put(rt.alloc(), &mut slot, 3, 3, 0), Err(Away::Moved));
+    assert_same(&rt, here(slot.wipe()), Err(Away::Moved));
+    assert_same(&rt, find(&low, 3, 3), Ok(Some((3, 1))));
+    assert_same(&rt, find(&low, 35, 35), Ok(Some((35, 3))));
+    assert_same(&rt, find(&high, 19, 19), Ok(Some((19, 2))));
+    assert_same(
         &rt,
         put(rt.alloc(), &mut high, 19, 19, 0),
         Ok((Some(19), false)),
     );
-    same(&rt, find(&high, 19, 19), Ok(Some((0, 4))));
-    same(&rt, next_after(&low, None), Ok(Some((3, 1))));
+    assert_same(&rt, find(&high, 19, 19), Ok(Some((0, 4))));
+    assert_same(&rt, next_after(&low, None), Ok(Some((3, 1))));
 }
 
 #[test]
@@ -277,11 +277,11 @@ fn a_half_that_has_a_bin_is_not_moved_into(rt: HostRuntime) {
     let mut slot: Slot<u64, u64> = Slot::live(4, 3, Bin::new());
     let mut low: Slot<u64, u64> = Slot::live(5, 3, Bin::new());
     let mut high: Slot<u64, u64> = Slot::unborn(5, 19);
-    same(&rt, put(rt.alloc(), &mut slot, 3, 3, 1), Ok((None, false)));
-    same(&rt, moved(slot.move_into(&mut low, &mut high)), (2, None));
-    same(&rt, find(&slot, 3, 3), Ok(Some((1, 1))));
-    same(&rt, find(&low, 3, 3), Ok(None));
-    same(&rt, find(&high, 19, 19), Err(Away::Unborn));
+    assert_same(&rt, put(rt.alloc(), &mut slot, 3, 3, 1), Ok((None, false)));
+    assert_same(&rt, moved(slot.move_into(&mut low, &mut high)), (2, None));
+    assert_same(&rt, find(&slot, 3, 3), Ok(Some((1, 1))));
+    assert_same(&rt, find(&low, 3, 3), Ok(None));
+    assert_same(&rt, find(&high, 19, 19), Err(Away::Unborn));
 }
 
 // The ninth entry of a list asks for a larger table if the table has fewer than 64 bins, and no other entry does.
@@ -294,14 +294,14 @@ fn the_ninth_entry_asks_for_growth(rt: HostRuntime) {
         let in_small = put(rt.alloc(), &mut small, 3, key, 0);
         let in_large = put(rt.alloc(), &mut large, 3, key, 0);
         let wanted = (key, Ok((None, asks)), Ok((None, false)));
-        same(&rt, (key, in_small, in_large), wanted);
+        assert_same(&rt, (key, in_small, in_large), wanted);
     }
-    same(
+    assert_same(
         &rt,
         put(rt.alloc(), &mut small, 3, 8, 1),
         Ok((Some(0), false)),
     );
-    same(&rt, here(small.wipe()), Ok(12));
+    assert_same(&rt, here(small.wipe()), Ok(12));
 }
 
 // So no two holders can have the receipt of one move.

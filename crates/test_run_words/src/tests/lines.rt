@@ -62,26 +62,26 @@ fn written_line(alloc: Global, number: u64) -> io::Result<Output<Vec<u8>>> {
 
 #[test]
 fn what_lines_ask_for(rt: HostRuntime) {
-    same(&rt, key_in(b"insert 7 0".as_slice()), Some(7));
-    same(&rt, key_in(b"remove 8".as_slice()), Some(8));
-    same(&rt, key_in(b"len".as_slice()), None);
-    same(&rt, steps_in(b"step 0 4".as_slice()), Some(4));
-    same(&rt, steps_in(b"begin clear".as_slice()), None);
+    assert_same(&rt, key_in(b"insert 7 0".as_slice()), Some(7));
+    assert_same(&rt, key_in(b"remove 8".as_slice()), Some(8));
+    assert_same(&rt, key_in(b"len".as_slice()), None);
+    assert_same(&rt, steps_in(b"step 0 4".as_slice()), Some(4));
+    assert_same(&rt, steps_in(b"begin clear".as_slice()), None);
 }
 
 #[test]
 fn lines_of_bytes(rt: HostRuntime) -> Result<(), Fail> {
     let mut bytes = b"len\nbins".as_slice();
-    same(&rt, first_byte(rt.alloc(), bytes)?, Some(b'l'));
-    same(&rt, has_line_feed(&mut bytes)?, true);
-    same(&rt, has_line_feed(&mut bytes)?, false);
-    same(&rt, is_at_end(&mut bytes)?, true);
+    assert_same(&rt, first_byte(rt.alloc(), bytes)?, Some(b'l'));
+    assert_same(&rt, has_line_feed(&mut bytes)?, true);
+    assert_same(&rt, has_line_feed(&mut bytes)?, false);
+    assert_same(&rt, is_at_end(&mut bytes)?, true);
     Ok(())
 }
 
 #[test]
 fn a_line_that_is_written(rt: HostRuntime) -> Result<(), Fail> {
     let output = written_line(rt.alloc(), 7)?;
-    same(&rt, output.get_ref().as_slice(), b"some 7\n".as_slice());
+    assert_same(&rt, output.get_ref().as_slice(), b"some 7\n".as_slice());
     Ok(())
 }

@@ -62,9 +62,9 @@ fn three_threads_at_once(rt: HostRuntime) {
         missed: AtomicBool::new(false),
     };
     let map = HashMap::with_hasher(rt.alloc(), CrowdHasher { crowd: &crowd });
-    same(&rt, insert_in_threads(&rt, &map, 3, 1), true);
-    same(&rt, map.len(&rt), 3);
-    same(&rt, crowd.missed.load(Ordering::SeqCst), false);
+    assert_same(&rt, insert_in_threads(&rt, &map, 3, 1), true);
+    assert_same(&rt, map.len(&rt), 3);
+    assert_same(&rt, crowd.missed.load(Ordering::SeqCst), false);
 }
 
 // Asserts that `threads` threads with `keys` keys each leave a map of the length `length`.
@@ -77,12 +77,12 @@ fn leave(
     let mut lines = b"".as_slice();
     let mut output = output(rt);
     let words = ["threads", threads, keys];
-    same(
+    assert_same(
         rt,
         run_words(rt, rt.alloc(), &words, &mut lines, &mut output),
         0,
     );
-    same(rt, output.get_ref().as_slice(), length);
+    assert_same(rt, output.get_ref().as_slice(), length);
 }
 
 #[test]

@@ -63,14 +63,14 @@ fn writes_before(
     let mut input = made.expect(rt, "memory for the input");
     let made = Output::new(rt.alloc(), Counts(&out));
     let mut output = made.expect(rt, "memory for the output");
-    same(
+    assert_same(
         rt,
         run_words(rt, rt.alloc(), &[word], &mut input, &mut output),
         0,
     );
     drop(input);
-    same(rt, reader.on_time, true);
-    same(rt, reader.given, pieces.len());
+    assert_same(rt, reader.on_time, true);
+    assert_same(rt, reader.given, pieces.len());
 }
 
 #[test]

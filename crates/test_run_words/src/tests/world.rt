@@ -8,8 +8,8 @@ use std::process::Abort;
 fn answers(rt: &(impl Abort + AllocGlobal), lines: &[u8], status: u8, want: &[u8]) {
     let mut lines = lines;
     let mut output = output(rt);
-    same(rt, world_lines(rt.alloc(), &mut lines, &mut output), status);
-    same(rt, output.get_ref().as_slice(), want);
+    assert_same(rt, world_lines(rt.alloc(), &mut lines, &mut output), status);
+    assert_same(rt, output.get_ref().as_slice(), want);
 }
 
 #[test]

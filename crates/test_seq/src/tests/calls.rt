@@ -33,7 +33,7 @@ fn calls_of_a_present_and_an_absent_key(rt: HostRuntime) {
     ];
     run(&rt, &mut map, &steps);
     let present = map.compute_if_present(&4, |key, value| Some(*value % 7 + *key % 7));
-    same(&rt, taken(present.expect(&rt, "memory")), Some(9));
+    assert_same(&rt, taken(present.expect(&rt, "memory")), Some(9));
     let steps = [
         Step::ComputeSame(5, None, 0),
         Step::Remove(4, Some(9)),
@@ -55,9 +55,9 @@ fn values_of(map: &SeqMap<u64, u64, LowHashBuilder>) -> [u64; 4] {
 #[test]
 fn pairs_keys_and_values(rt: HostRuntime) {
     let map = three_pairs(&rt, rt.alloc());
-    same(&rt, values_of(&map), [0, 10, 20, 30]);
-    same(&rt, lent(map.keys().max()), Some(3));
-    same(&rt, lent(map.values().min()), Some(10));
+    assert_same(&rt, values_of(&map), [0, 10, 20, 30]);
+    assert_same(&rt, lent(map.keys().max()), Some(3));
+    assert_same(&rt, lent(map.values().min()), Some(10));
 }
 
 #[test]
@@ -65,12 +65,12 @@ fn equality(rt: HostRuntime) {
     let map = three_pairs(&rt, rt.alloc());
     let made = SeqMap::with_capacity_and_hasher(rt.alloc(), 100, LowHashBuilder);
     let mut other = made.expect(&rt, "memory");
-    same(&rt, map != other, true);
+    assert_same(&rt, map != other, true);
     let list = Vec::from_array(rt.alloc(), [(3, 30), (1, 11), (2, 20)]).expect(&rt, "memory");
     other.extend(list).expect(&rt, "memory");
-    same(&rt, map != other, true);
+    assert_same(&rt, map != other, true);
     run(&rt, &mut other, &[Step::Insert(1, 10, Some(11))]);
-    same(&rt, map == other, true);
+    assert_same(&rt, map == other, true);
 }
 
 #[test]
@@ -85,8 +85,8 @@ fn clear_and_into_bins(rt: HostRuntime) {
     run(&rt, &mut map, &steps);
     let (bins, _) = map.into_bins();
     assert_eq!(rt; bins.len(), 8);
-    same(&rt, bins[1].shape(), Shape::List(1));
-    same(&rt, bins[2].len(), 0);
+    assert_same(&rt, bins[1].shape(), Shape::List(1));
+    assert_same(&rt, bins[2].len(), 0);
 }
 
 // The function that the calls as values pass to `compute_if_present`.
@@ -176,7 +176,7 @@ fn read_as(
     replies: &[Reply<u64, u64, LowHashBuilder>],
     lines: &str,
 ) {
-    same(rt, text_of(rt, rt.alloc(), replies).as_str(), lines);
+    assert_same(rt, text_of(rt, rt.alloc(), replies).as_str(), lines);
 }
 
 #[test]
@@ -229,9 +229,9 @@ fn times_computed(rt: &impl Abort, map: &mut SeqMap<u64, u64, LowHashBuilder>, k
 #[test]
 fn computes_at_a_present_key_alone(rt: HostRuntime) {
     let mut map = three_pairs(&rt, rt.alloc());
-    same_at(&rt, 3, times_computed(&rt, &mut map, 3), 1);
-    same_at(&rt, 4, times_computed(&rt, &mut map, 4), 0);
-    same(&rt, map.len(), 3);
+    assert_same_at(&rt, 3, times_computed(&rt, &mut map, 3), 1);
+    assert_same_at(&rt, 4, times_computed(&rt, &mut map, 4), 0);
+    assert_same(&rt, map.len(), 3);
 }
 
 // Makes a call as a value that computes by a function, and one that keeps pairs by a function.
@@ -276,7 +276,7 @@ fn removing_calls_as_values(rt: HostRuntime) {
     let replies = map.run(rt.alloc(), calls).expect(&rt, "memory");
     let want = "value 10\npair 2 20\nno pair\ndone\n0\ndone\n128\ndone\nvalue 50\ndone\nno value\n";
     read_as(&rt, replies.as_slice(), want);
-    same(&rt, lent(map.get(&5)), Some(50));
+    assert_same(&rt, lent(map.get(&5)), Some(50));
 }
 
 #[test]
@@ -310,5 +310,5 @@ fn reading_calls_as_values(rt: HostRuntime) {
     let Some(Reply::Map(copy)) = replies.get(7) else {
         panic!(rt; "the eighth reply is a map");
     };
-    same(&rt, *copy == three_pairs(&rt, rt.alloc()), true);
+    assert_same(&rt, *copy == three_pairs(&rt, rt.alloc()), true);
 }

@@ -56,7 +56,7 @@ fn row_19(rt: HostRuntime) {
         ((1 << 29) - 1, most),
         (usize::MAX, most),
     ] {
-        same_at(&rt, pairs, wanted(pairs), bins);
+        assert_same_at(&rt, pairs, wanted(pairs), bins);
     }
     for (bins, pairs) in [
         (1, 1),
@@ -66,7 +66,7 @@ fn row_19(rt: HostRuntime) {
         (16, 12),
         (most, 805_306_368),
     ] {
-        same_at(&rt, bins, threshold(bins), pairs);
+        assert_same_at(&rt, bins, threshold(bins), pairs);
     }
 }
 

@@ -9,14 +9,14 @@ fn row_08_with<S: KeyHasher<i32> + Drop>(rt: &(impl Abort + AllocGlobal), hasher
     let mut map = SeqMap::with_hasher(rt.alloc(), hasher);
     for key in 0..1000i32 {
         let old = map.insert(key, key).expect(rt, "memory");
-        same_at(rt, key, old.is_none(), true);
+        assert_same_at(rt, key, old.is_none(), true);
     }
-    same(rt, map.len(), 1000);
+    assert_same(rt, map.len(), 1000);
     for key in 0..1000i32 {
-        same_at(rt, key, map.contains_key(&key), true);
+        assert_same_at(rt, key, map.contains_key(&key), true);
     }
     for key in [-1, 1000, i32::MIN, i32::MAX] {
-        same_at(rt, key, map.contains_key(&key), false);
+        assert_same_at(rt, key, map.contains_key(&key), false);
     }
 }
 
@@ -61,10 +61,10 @@ fn counts(map: &SeqMap<u64, u64>) -> (usize, usize, usize) {
 #[test]
 fn row_09(rt: HostRuntime) {
     let mut map = SeqMap::new(rt.alloc());
-    same(&rt, insert_all(&rt, &mut map), 50_000);
-    same(&rt, (map.capacity(), map.len()), (131_072, 50_000));
-    same(&rt, insert_all(&rt, &mut map), 0);
-    same(&rt, remove_half(&mut map), 25_000);
-    same(&rt, insert_all(&rt, &mut map), 25_000);
-    same(&rt, counts(&map), (50_000, 50_000, 50_000));
+    assert_same(&rt, insert_all(&rt, &mut map), 50_000);
+    assert_same(&rt, (map.capacity(), map.len()), (131_072, 50_000));
+    assert_same(&rt, insert_all(&rt, &mut map), 0);
+    assert_same(&rt, remove_half(&mut map), 25_000);
+    assert_same(&rt, insert_all(&rt, &mut map), 25_000);
+    assert_same(&rt, counts(&map), (50_000, 50_000, 50_000));
 }

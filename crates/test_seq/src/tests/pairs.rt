@@ -48,7 +48,7 @@ fn nodes_of_pairs(rt: HostRuntime) {
         Step::Len(1),
     ];
     run(&rt, &mut map, &steps);
-    same(&rt, map.hasher().hash_one(&3), 3);
+    assert_same(&rt, map.hasher().hash_one(&3), 3);
 }
 
 // If the function returns `None`, the pair is removed, and the table stays.
@@ -86,8 +86,8 @@ fn row_16_text(rt: HostRuntime) {
     let error = answer.expect_err(&rt, "the key is present");
     let text = format!(in rt.alloc(); "{error}").expect(&rt, "memory");
     let want = "Insert of \"1\" failed as key was already present with value \"0\"";
-    same(&rt, text.as_str(), want);
-    same(&rt, lent(map.get(&7)), Some(0));
+    assert_same(&rt, text.as_str(), want);
+    assert_same(&rt, lent(map.get(&7)), Some(0));
 }
 
 // Returns the error of `try_insert` of the value 1 at key 7, which has the value `stands`.
@@ -102,8 +102,8 @@ fn failed(rt: &(impl Abort + AllocGlobal), stands: u64) -> TryInsertError<u64> {
 #[test]
 fn errors_that_differ_in_the_value_that_stands(rt: HostRuntime) {
     let first = failed(&rt, 0);
-    same(&rt, first == failed(&rt, 0), true);
-    same(&rt, first != failed(&rt, 2), true);
+    assert_same(&rt, first == failed(&rt, 0), true);
+    assert_same(&rt, first != failed(&rt, 2), true);
 }
 
 #[test]
@@ -114,7 +114,7 @@ fn debug_text_of_an_error(rt: HostRuntime) {
     ] {
         let error = failed(&rt, stands);
         let text = format!(in rt.alloc(); "{error:?}").expect(&rt, "memory");
-        same(&rt, text.as_str(), wanted);
+        assert_same(&rt, text.as_str(), wanted);
     }
 }
 
@@ -127,17 +127,17 @@ fn whole_owned_table(rt: HostRuntime) {
     );
     let first = Tagged { id: 1, tag: 10 };
     let second = Tagged { id: 1, tag: 20 };
-    same(&rt, taken(map.insert(first, 0).expect(&rt, "memory")), None);
-    same(
+    assert_same(&rt, taken(map.insert(first, 0).expect(&rt, "memory")), None);
+    assert_same(
         &rt,
         taken(map.insert(second, 5).expect(&rt, "memory")),
         Some(0),
     );
     let (key, value) = map.get_key_value(&second).expect(&rt, "the key is present");
-    same(&rt, (key.tag, **value), (10, 5));
+    assert_same(&rt, (key.tag, **value), (10, 5));
     let (key, value) = map.remove_entry(&second).expect(&rt, "the key is present");
-    same(&rt, (key.tag, *value), (10, 5));
-    same(&rt, map.is_empty(), true);
+    assert_same(&rt, (key.tag, *value), (10, 5));
+    assert_same(&rt, map.is_empty(), true);
 }
 
 // A map without pairs makes room for each pair of the list, and at least one bin.
@@ -204,7 +204,7 @@ fn whole_owned_table_of_clones(rt: HostRuntime) {
     ];
     on_new_map::<u64>(&rt, &steps);
     let map: SeqMap<u64, u64> = SeqMap::with_capacity(rt.alloc(), 5).expect(&rt, "memory");
-    same(&rt, (map.capacity(), map.len()), (8, 0));
+    assert_same(&rt, (map.capacity(), map.len()), (8, 0));
 }
 
 // A clone starts with room for its pairs alone.

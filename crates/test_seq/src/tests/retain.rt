@@ -14,12 +14,12 @@ fn keeps_even_values(rt: HostRuntime) {
         calls = calls.wrapping_add(1);
         *value % 2 == 0
     });
-    same(&rt, calls, 100);
-    same(&rt, map.len(), 50);
-    same(&rt, map.capacity(), bins);
+    assert_same(&rt, calls, 100);
+    assert_same(&rt, map.len(), 50);
+    assert_same(&rt, map.capacity(), bins);
     for key in 0u64..100 {
-        same(&rt, map.contains_key(&key), key % 2 == 0);
+        assert_same(&rt, map.contains_key(&key), key % 2 == 0);
     }
     map.retain_force(|key: &u64, _: &u64| *key < 10);
-    same(&rt, map.len(), 5);
+    assert_same(&rt, map.len(), 5);
 }

@@ -38,13 +38,13 @@ fn row_21(rt: HostRuntime) {
     let mut small = set_of(&rt, rt.alloc(), 1, 3);
     let large = set_of(&rt, rt.alloc(), 1, 4);
     let other = set_of(&rt, rt.alloc(), 4, 5);
-    same(&rt, relations(&small, &large), (true, false, false));
-    same(&rt, relations(&large, &small), (false, true, false));
-    same(&rt, relations(&small, &other), (false, false, true));
-    same(&rt, small.insert(1).expect(&rt, "memory"), false);
-    same(&rt, small.take(&1).map(|element| *element), Some(1));
-    same(&rt, small.len(), 1);
-    same(&rt, small.contains(&2), true);
+    assert_same(&rt, relations(&small, &large), (true, false, false));
+    assert_same(&rt, relations(&large, &small), (false, true, false));
+    assert_same(&rt, relations(&small, &other), (false, false, true));
+    assert_same(&rt, small.insert(1).expect(&rt, "memory"), false);
+    assert_same(&rt, small.take(&1).map(|element| *element), Some(1));
+    assert_same(&rt, small.len(), 1);
+    assert_same(&rt, small.contains(&2), true);
 }
 
 // The element that was stored first stays.
@@ -52,19 +52,19 @@ fn row_21(rt: HostRuntime) {
 fn stored_elements_stay(rt: HostRuntime) {
     let mut set: SeqSet<Tagged, ZeroHashBuilder> = SeqSet::with_hasher(rt.alloc(), ZeroHashBuilder);
     let second = Tagged { id: 1, tag: 20 };
-    same(
+    assert_same(
         &rt,
         set.insert(Tagged { id: 1, tag: 10 }).expect(&rt, "memory"),
         true,
     );
-    same(
+    assert_same(
         &rt,
         !set.insert(Tagged { id: 1, tag: 20 }).expect(&rt, "memory"),
         true,
     );
-    same(&rt, set.get(&second).map(|element| element.tag), Some(10));
-    same(&rt, set.remove(&second), true);
-    same(&rt, set.is_empty(), true);
+    assert_same(&rt, set.get(&second).map(|element| element.tag), Some(10));
+    assert_same(&rt, set.remove(&second), true);
+    assert_same(&rt, set.is_empty(), true);
 }
 
 // Inserts a node of an element, which is made under another hash. Returns whether its class is new.
@@ -84,9 +84,9 @@ fn elements_of_maps_and_nodes(rt: HostRuntime) {
     let pairs = Vec::from_array(rt.alloc(), [(1u64, ()), (2, ())]).expect(&rt, "memory");
     let map = SeqMap::from_list(rt.alloc(), pairs, LowHashBuilder).expect(&rt, "memory");
     let mut set = SeqSet::from_map(map);
-    same(&rt, insert_node(&rt, rt.alloc(), &mut set, 3), true);
-    same(&rt, insert_node(&rt, rt.alloc(), &mut set, 3), false);
-    same(&rt, (set.len(), sum_of(&set)), (3, 6));
+    assert_same(&rt, insert_node(&rt, rt.alloc(), &mut set, 3), true);
+    assert_same(&rt, insert_node(&rt, rt.alloc(), &mut set, 3), false);
+    assert_same(&rt, (set.len(), sum_of(&set)), (3, 6));
 }
 
 // Returns the id and the tag of the element that is stored after a call of `get_or_insert`.
@@ -99,26 +99,26 @@ fn stored(rt: &impl Abort, set: &mut SeqSet<Tagged>, id: u64, tag: u64) -> (u64,
 #[test]
 fn one_element_for_equal_ones(rt: HostRuntime) {
     let mut set: SeqSet<Tagged> = SeqSet::new(rt.alloc());
-    same(&rt, stored(&rt, &mut set, 1, 10), (1, 10));
-    same(&rt, stored(&rt, &mut set, 1, 20), (1, 10));
-    same(&rt, stored(&rt, &mut set, 2, 30), (2, 30));
-    same(&rt, set.len(), 2);
+    assert_same(&rt, stored(&rt, &mut set, 1, 10), (1, 10));
+    assert_same(&rt, stored(&rt, &mut set, 1, 20), (1, 10));
+    assert_same(&rt, stored(&rt, &mut set, 2, 30), (2, 30));
+    assert_same(&rt, set.len(), 2);
 }
 
 #[test]
 fn copies_and_what_is_kept(rt: HostRuntime) {
     let mut set = low_set_of(&rt, rt.alloc(), [1, 2, 1, 3]);
-    same(&rt, set.len(), 3);
+    assert_same(&rt, set.len(), 3);
     let copy = set.try_clone().expect(&rt, "memory");
-    same(&rt, copy == set, true);
+    assert_same(&rt, copy == set, true);
     set.extend(Vec::from_array(rt.alloc(), [3, 4, 5]).expect(&rt, "memory"))
         .expect(&rt, "memory");
-    same(&rt, copy != set, true);
-    same(&rt, sum_of(&set), 15);
+    assert_same(&rt, copy != set, true);
+    assert_same(&rt, sum_of(&set), 15);
     set.retain(|element: &u64| *element < 4);
-    same(&rt, copy == set, true);
+    assert_same(&rt, copy == set, true);
     set.clear();
-    same(&rt, set.is_empty(), true);
+    assert_same(&rt, set.is_empty(), true);
 }
 
 // Returns the sum of the elements.
@@ -134,7 +134,7 @@ fn sum_of(set: &SeqSet<u64, LowHashBuilder>) -> u64 {
 fn room_for_elements(rt: HostRuntime) {
     let mut roomy: SeqSet<u64> = SeqSet::with_capacity(rt.alloc(), 5).expect(&rt, "memory");
     roomy.reserve(100).expect(&rt, "memory");
-    same(&rt, roomy.len(), 0);
+    assert_same(&rt, roomy.len(), 0);
 }
 
 // The function that the calls as values pass to `retain`.
@@ -169,7 +169,7 @@ fn read_as<S: KeyHasher<u64>>(
         text.push_str(line_of(rt, rt.alloc(), reply).as_str())
             .expect(rt, "memory");
     }
-    same(rt, text.as_str(), lines);
+    assert_same(rt, text.as_str(), lines);
 }
 
 #[test]

@@ -112,14 +112,24 @@ fn write<K: Number, S: KeyHasher<K> + Copy + Drop>(
     step: Step,
 ) {
     match step {
-        Step::Insert(key, value, old) => same_at(rt, at, insert(rt, map, key, value), old),
-        Step::InsertNode(key, value, old) => same_at(rt, at, insert_node(rt, map, key, value), old),
-        Step::InsertNew(first, end) => same_at(rt, at, insert_new(rt, map, first, end), None),
+        Step::Insert(key, value, old) => assert_same_at(rt, at, insert(rt, map, key, value), old),
+        Step::InsertNode(key, value, old) => assert_same_at(
+            rt,
+            at,
+            insert_node(rt, map, key, value),
+            old,
+        ),
+        Step::InsertNew(first, end) => assert_same_at(
+            rt,
+            at,
+            insert_new(rt, map, first, end),
+            None,
+        ),
         Step::InsertEach(first, end, value, bins) => {
-            same_at(rt, at, insert_each(rt, map, first, end, value, bins), None)
+            assert_same_at(rt, at, insert_each(rt, map, first, end, value, bins), None)
         }
         Step::TryInsert(key, value, Some(current)) => {
-            same_at(
+            assert_same_at(
                 rt,
                 at,
                 try_insert(rt, map, key, value),
@@ -127,18 +137,23 @@ fn write<K: Number, S: KeyHasher<K> + Copy + Drop>(
             )
         }
         Step::TryInsert(key, value, None) => {
-            same_at(rt, at, try_insert(rt, map, key, value), Ok(value))
+            assert_same_at(rt, at, try_insert(rt, map, key, value), Ok(value))
         }
         Step::Extend(first, end, times) => extend(rt, map, first, end, times),
-        Step::Remove(key, value) => same_at(rt, at, taken(map.remove(&K::of(key))), value),
+        Step::Remove(key, value) => assert_same_at(rt, at, taken(map.remove(&K::of(key))), value),
         Step::RemovePair(key, wanted) => {
-            same_at(rt, at, map.remove_entry(&K::of(key)).is_some(), wanted)
+            assert_same_at(rt, at, map.remove_entry(&K::of(key)).is_some(), wanted)
         }
-        Step::RemoveEach(first, end) => same_at(rt, at, remove_each(map, first, end), None),
+        Step::RemoveEach(first, end) => assert_same_at(rt, at, remove_each(map, first, end), None),
         Step::ComputeSame(key, value, calls) => {
-            same_at(rt, at, compute_same(rt, map, key), (value, calls))
+            assert_same_at(rt, at, compute_same(rt, map, key), (value, calls))
         }
-        Step::ComputeNone(first, end) => same_at(rt, at, compute_none(rt, map, first, end), None),
+        Step::ComputeNone(first, end) => assert_same_at(
+            rt,
+            at,
+            compute_none(rt, map, first, end),
+            None,
+        ),
         Step::Reserve(pairs) => map.reserve(pairs).expect(rt, "memory"),
         Step::Clear => map.clear(),
         _ => read(rt, map, at, step),
@@ -153,21 +168,31 @@ fn read<K: Number, S: KeyHasher<K> + Copy + Drop>(
     step: Step,
 ) {
     match step {
-        Step::Get(key, value) => same_at(rt, at, lent(map.get(&K::of(key))), value),
-        Step::Contains(key, wanted) => same_at(rt, at, map.contains_key(&K::of(key)), wanted),
+        Step::Get(key, value) => assert_same_at(rt, at, lent(map.get(&K::of(key))), value),
+        Step::Contains(key, wanted) => assert_same_at(
+            rt,
+            at,
+            map.contains_key(&K::of(key)),
+            wanted,
+        ),
         Step::HasPair(key, wanted) => {
-            same_at(rt, at, map.get_key_value(&K::of(key)).is_some(), wanted)
+            assert_same_at(rt, at, map.get_key_value(&K::of(key)).is_some(), wanted)
         }
-        Step::IsEmpty(wanted) => same_at(rt, at, map.is_empty(), wanted),
-        Step::Len(pairs) => same_at(rt, at, map.len(), pairs),
-        Step::Bins(bins) => same_at(rt, at, map.capacity(), bins),
-        Step::Holds(bins, pairs) => same_at(rt, at, (map.capacity(), map.len()), (bins, pairs)),
-        Step::Shape(shape) => same_at(rt, at, map.shape_of(0), shape),
+        Step::IsEmpty(wanted) => assert_same_at(rt, at, map.is_empty(), wanted),
+        Step::Len(pairs) => assert_same_at(rt, at, map.len(), pairs),
+        Step::Bins(bins) => assert_same_at(rt, at, map.capacity(), bins),
+        Step::Holds(bins, pairs) => assert_same_at(
+            rt,
+            at,
+            (map.capacity(), map.len()),
+            (bins, pairs),
+        ),
+        Step::Shape(shape) => assert_same_at(rt, at, map.shape_of(0), shape),
         Step::Stands(bins, shape) => {
-            same_at(rt, at, (map.capacity(), map.shape_of(0)), (bins, shape))
+            assert_same_at(rt, at, (map.capacity(), map.shape_of(0)), (bins, shape))
         }
         Step::Clone(bins, pairs, key, value) => {
-            same_at(rt, at, clone(rt, map, key), (true, bins, pairs, value))
+            assert_same_at(rt, at, clone(rt, map, key), (true, bins, pairs, value))
         }
         _ => panic!(rt; "the row at {at} is for no call"),
     }

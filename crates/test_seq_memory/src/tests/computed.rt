@@ -30,36 +30,36 @@ fn compute_at_an_absent_key(rt: HostRuntime) {
     let mut map = map_of(&rt, memory, 2);
     memory.refuse_from(0);
     let seen = compute(&mut map, 7, Some(9));
-    let asked = memory.asked();
+    let asked = memory.requests();
     memory.refuse_nothing();
-    same(&rt, (asked, seen), (0, (false, Some(None))));
-    same(&rt, map.len(), 2);
+    assert_same(&rt, (asked, seen), (0, (false, Some(None))));
+    assert_same(&rt, map.len(), 2);
 }
 
 // The computation of the value 9 at the key 7, whose value is 0.
 struct ComputesNine;
 
 impl Refused for ComputesNine {
-    fn once(&self, rt: &impl Abort, memory: Memory, k: u64) -> bool {
+    fn run_refusing(&self, rt: &impl Abort, memory: Memory, k: u64) -> bool {
         let mut map = map_of(rt, memory, 0);
         adds(rt, &mut map, 7, 0);
-        let before = memory.blocks();
+        let before = memory.live_blocks();
         memory.refuse_at(k);
         let seen = compute(&mut map, 7, Some(9));
-        let refused = memory.refused();
+        let refused = memory.was_refused();
         memory.refuse_nothing();
         let (answer, stands) = if refused {
             (None, 0)
         } else {
             (Some(Some(9)), 9)
         };
-        same_at(
+        assert_same_at(
             rt,
             k,
             (seen, number_at(&map, 7)),
             ((true, answer), Some(stands)),
         );
-        same_at(rt, k, memory.blocks(), before);
+        assert_same_at(rt, k, memory.live_blocks(), before);
         refused
     }
 }
@@ -75,9 +75,9 @@ fn compute_of_none(rt: HostRuntime) {
     let mut map = map_of(&rt, memory, 2);
     memory.refuse_from(0);
     let seen = compute(&mut map, 1, None);
-    let asked = memory.asked();
+    let asked = memory.requests();
     memory.refuse_nothing();
-    same(&rt, (asked, seen), (0, (true, Some(None))));
-    same(&rt, size_of(&map), (16, 1));
-    same(&rt, number_at(&map, 1), None);
+    assert_same(&rt, (asked, seen), (0, (true, Some(None))));
+    assert_same(&rt, size_of(&map), (16, 1));
+    assert_same(&rt, number_at(&map, 1), None);
 }

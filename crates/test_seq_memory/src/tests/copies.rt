@@ -7,19 +7,19 @@ use std::process::Abort;
 struct Copies;
 
 impl Refused for Copies {
-    fn once(&self, rt: &impl Abort, memory: Memory, k: u64) -> bool {
+    fn run_refusing(&self, rt: &impl Abort, memory: Memory, k: u64) -> bool {
         let map = map_of(rt, memory, 3);
-        let before = memory.blocks();
+        let before = memory.live_blocks();
         memory.refuse_at(k);
         let answer = map.try_clone();
-        let refused = memory.refused();
+        let refused = memory.was_refused();
         memory.refuse_nothing();
         let is_equal = match answer {
             Ok(copy) => Some(copy == map),
             Err(_) => None,
         };
         let wanted = if refused { None } else { Some(true) };
-        same_at(rt, k, (is_equal, memory.blocks()), (wanted, before));
+        assert_same_at(rt, k, (is_equal, memory.live_blocks()), (wanted, before));
         refused
     }
 }

@@ -118,19 +118,19 @@ struct Inserts {
 }
 
 impl Refused for Inserts {
-    fn once(&self, rt: &impl Abort, memory: Memory, k: u64) -> bool {
+    fn run_refusing(&self, rt: &impl Abort, memory: Memory, k: u64) -> bool {
         let mut map = map_of(rt, memory, self.keys);
-        let before = memory.blocks();
+        let before = memory.live_blocks();
         memory.refuse_at(k);
         let mut reply = reply_of(&mut map, self.write);
-        let refused = memory.refused();
+        let refused = memory.was_refused();
         memory.refuse_nothing();
         if refused {
-            same_at(rt, k, (reply, stands(&map)), (None, self.kept));
-            same_at(rt, k, memory.blocks(), before);
+            assert_same_at(rt, k, (reply, stands(&map)), (None, self.kept));
+            assert_same_at(rt, k, memory.live_blocks(), before);
             reply = reply_of(&mut map, self.write);
         }
-        same_at(
+        assert_same_at(
             rt,
             k,
             (reply, stands(&map)),
@@ -219,11 +219,11 @@ fn try_insert_of_a_present_key(rt: HostRuntime) {
     let mut map = map_of(&rt, memory, 2);
     memory.refuse_from(0);
     let reply = reply_of(&mut map, Write::TryInsert(1, 5));
-    let asked = memory.asked();
+    let asked = memory.requests();
     memory.refuse_nothing();
     let exists = KeptReply::Exists {
         current: 1,
         not_inserted: 5,
     };
-    same(&rt, (asked, reply), (0, Some(exists)));
+    assert_same(&rt, (asked, reply), (0, Some(exists)));
 }

@@ -19,13 +19,13 @@ fn has_a_front(rt: &impl Abort, map: &NumberMap<LowHashBuilder>, first: usize) {
     for key in 5..8u64 {
         let number = number_at(map, key);
         if count < map.len() {
-            same(rt, number, Some(key));
+            assert_same(rt, number, Some(key));
             count += 1;
         } else {
-            same(rt, number, None);
+            assert_same(rt, number, None);
         }
     }
-    same(rt, count, map.len());
+    assert_same(rt, count, map.len());
 }
 
 // Extends a map of `first` pairs while the request numbered `k` fails, and returns whether that request was made.
@@ -39,10 +39,10 @@ fn extended(
     let list = three_pairs(rt, memory);
     memory.refuse_at(k);
     let failed = map.extend(list).is_err();
-    let refused = memory.refused();
+    let refused = memory.was_refused();
     memory.refuse_nothing();
     has_a_front(rt, map, first);
-    same_at(rt, k, failed, refused);
+    assert_same_at(rt, k, failed, refused);
     refused
 }
 
@@ -50,11 +50,11 @@ fn extended(
 struct Extends;
 
 impl Refused for Extends {
-    fn once(&self, rt: &impl Abort, memory: Memory, k: u64) -> bool {
+    fn run_refusing(&self, rt: &impl Abort, memory: Memory, k: u64) -> bool {
         let mut map = map_of(rt, memory, 2);
         let refused = extended(rt, memory, &mut map, k, 2);
         let first = (number_at(&map, 0), number_at(&map, 1));
-        same_at(rt, k, first, (Some(0), Some(1)));
+        assert_same_at(rt, k, first, (Some(0), Some(1)));
         refused
     }
 }
@@ -68,7 +68,7 @@ fn extend(rt: HostRuntime) {
 struct ExtendsNew;
 
 impl Refused for ExtendsNew {
-    fn once(&self, rt: &impl Abort, memory: Memory, k: u64) -> bool {
+    fn run_refusing(&self, rt: &impl Abort, memory: Memory, k: u64) -> bool {
         let mut map = map_of(rt, memory, 0);
         let refused = extended(rt, memory, &mut map, k, 0);
         let bins = match k {
@@ -76,7 +76,7 @@ impl Refused for ExtendsNew {
             1 => 8,
             _ => 16,
         };
-        same_at(rt, k, map.capacity(), bins);
+        assert_same_at(rt, k, map.capacity(), bins);
         refused
     }
 }
@@ -90,19 +90,19 @@ fn extend_of_a_new_map(rt: HostRuntime) {
 struct MakesOfList;
 
 impl Refused for MakesOfList {
-    fn once(&self, rt: &impl Abort, memory: Memory, k: u64) -> bool {
+    fn run_refusing(&self, rt: &impl Abort, memory: Memory, k: u64) -> bool {
         let list = three_pairs(rt, memory);
         memory.refuse_at(k);
         let answer = SeqMap::from_list(memory, list, LowHashBuilder);
-        let refused = memory.refused();
+        let refused = memory.was_refused();
         memory.refuse_nothing();
-        same_at(rt, k, answer.is_err(), refused);
+        assert_same_at(rt, k, answer.is_err(), refused);
         match answer {
             Ok(map) => {
                 has_a_front(rt, &map, 0);
-                same(rt, size_of(&map), (8, 3));
+                assert_same(rt, size_of(&map), (8, 3));
             }
-            Err(_) => same_at(rt, k, memory.blocks(), 0),
+            Err(_) => assert_same_at(rt, k, memory.live_blocks(), 0),
         }
         refused
     }
@@ -127,7 +127,7 @@ fn is_own_value(key: &u64, value: &u64) -> bool {
 struct Runs;
 
 impl Refused for Runs {
-    fn once(&self, rt: &impl Abort, memory: Memory, k: u64) -> bool {
+    fn run_refusing(&self, rt: &impl Abort, memory: Memory, k: u64) -> bool {
         let mut map = map_of(rt, memory, 0);
         let calls = queue_of(
             rt,
@@ -146,11 +146,11 @@ impl Refused for Runs {
         );
         memory.refuse_at(k);
         let failed = map.run(memory, calls).is_err();
-        let refused = memory.refused();
+        let refused = memory.was_refused();
         memory.refuse_nothing();
         has_a_front(rt, &map, 0);
-        same_at(rt, k, failed, refused);
-        same_at(rt, k, refused || map.len() == 3, true);
+        assert_same_at(rt, k, failed, refused);
+        assert_same_at(rt, k, refused || map.len() == 3, true);
         refused
     }
 }

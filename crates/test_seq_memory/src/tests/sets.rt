@@ -27,29 +27,29 @@ fn has_a_front(rt: &impl Abort, set: &Set, first: usize) {
     let mut count = first;
     for element in 5..8u64 {
         let is_in_front = count < set.len();
-        same(rt, set.contains(&element), is_in_front);
+        assert_same(rt, set.contains(&element), is_in_front);
         if is_in_front {
             count += 1;
         }
     }
-    same(rt, count, set.len());
+    assert_same(rt, count, set.len());
 }
 
 // An insertion into a new set. A second insertion, and taking the element, request no memory.
 struct InsertsOne;
 
 impl Refused for InsertsOne {
-    fn once(&self, rt: &impl Abort, memory: Memory, k: u64) -> bool {
+    fn run_refusing(&self, rt: &impl Abort, memory: Memory, k: u64) -> bool {
         let mut set = set_of(rt, memory, 0);
         memory.refuse_at(k);
         let failed = set.insert(1).is_err();
-        let refused = memory.refused();
+        let refused = memory.was_refused();
         memory.refuse_from(0);
-        same_at(rt, k, (failed, set.contains(&1)), (refused, !refused));
+        assert_same_at(rt, k, (failed, set.contains(&1)), (refused, !refused));
         if !refused {
-            same(rt, set.insert(1), Ok(false));
-            same(rt, set.take(&1).is_some(), true);
-            same(rt, memory.asked(), 0);
+            assert_same(rt, set.insert(1), Ok(false));
+            assert_same(rt, set.take(&1).is_some(), true);
+            assert_same(rt, memory.requests(), 0);
         }
         memory.refuse_nothing();
         refused
@@ -74,18 +74,18 @@ fn put_node(set: &mut Set) -> Option<bool> {
 struct InsertsNode;
 
 impl Refused for InsertsNode {
-    fn once(&self, rt: &impl Abort, memory: Memory, k: u64) -> bool {
+    fn run_refusing(&self, rt: &impl Abort, memory: Memory, k: u64) -> bool {
         let mut set = set_of(rt, memory, 0);
         memory.refuse_at(k);
         let mut new = put_node(&mut set);
-        let refused = memory.refused();
+        let refused = memory.was_refused();
         memory.refuse_nothing();
         if refused {
-            same_at(rt, k, (new, set.len(), memory.blocks()), (None, 0, 0));
+            assert_same_at(rt, k, (new, set.len(), memory.live_blocks()), (None, 0, 0));
             new = put_node(&mut set);
         }
-        same_at(rt, k, (new, set.contains(&1)), (Some(true), true));
-        same_at(rt, k, (put_node(&mut set), set.len()), (Some(false), 1));
+        assert_same_at(rt, k, (new, set.contains(&1)), (Some(true), true));
+        assert_same_at(rt, k, (put_node(&mut set), set.len()), (Some(false), 1));
         refused
     }
 }
@@ -99,16 +99,16 @@ fn set_insert_node(rt: HostRuntime) {
 struct GetsOrInserts;
 
 impl Refused for GetsOrInserts {
-    fn once(&self, rt: &impl Abort, memory: Memory, k: u64) -> bool {
+    fn run_refusing(&self, rt: &impl Abort, memory: Memory, k: u64) -> bool {
         let mut set = set_of(rt, memory, 0);
         memory.refuse_at(k);
         let failed = set.get_or_insert(1).is_err();
-        let refused = memory.refused();
+        let refused = memory.was_refused();
         memory.refuse_from(0);
-        same_at(rt, k, (failed, set.contains(&1)), (refused, !refused));
+        assert_same_at(rt, k, (failed, set.contains(&1)), (refused, !refused));
         if !refused {
-            same(rt, set.get_or_insert(1).map(|stored| *stored), Ok(1));
-            same(rt, memory.asked(), 0);
+            assert_same(rt, set.get_or_insert(1).map(|stored| *stored), Ok(1));
+            assert_same(rt, memory.requests(), 0);
         }
         memory.refuse_nothing();
         refused
@@ -133,26 +133,26 @@ fn is_empty_for(memory: Memory, capacity: usize) -> Option<bool> {
 fn set_with_capacity(rt: HostRuntime) {
     let memory = metered(&rt, rt.alloc());
     memory.refuse_from(0);
-    same(&rt, is_empty_for(memory, 0), Some(true));
-    same(&rt, memory.asked(), 0);
-    same(&rt, is_empty_for(memory, 5), None);
+    assert_same(&rt, is_empty_for(memory, 0), Some(true));
+    assert_same(&rt, memory.requests(), 0);
+    assert_same(&rt, is_empty_for(memory, 5), None);
     let refused: Result<SeqSet<u64, _, Memory>, _> = SeqSet::with_capacity(memory, 5);
-    same(&rt, refused.is_err(), true);
-    same(&rt, memory.blocks(), 0);
+    assert_same(&rt, refused.is_err(), true);
+    assert_same(&rt, memory.live_blocks(), 0);
 }
 
 // A call of `reserve` for 32 more elements in a set of one. It requests tables of 32, 64 and 128 bins.
 struct Reserves;
 
 impl Refused for Reserves {
-    fn once(&self, rt: &impl Abort, memory: Memory, k: u64) -> bool {
+    fn run_refusing(&self, rt: &impl Abort, memory: Memory, k: u64) -> bool {
         let mut set = set_of(rt, memory, 1);
         memory.refuse_at(k);
         let failed = set.reserve(32).is_err();
-        let refused = memory.refused();
+        let refused = memory.was_refused();
         memory.refuse_nothing();
-        same_at(rt, k, (failed, refused), (k < 3, k < 3));
-        same_at(rt, k, (set.len(), set.contains(&0)), (1, true));
+        assert_same_at(rt, k, (failed, refused), (k < 3, k < 3));
+        assert_same_at(rt, k, (set.len(), set.contains(&0)), (1, true));
         refused
     }
 }
@@ -166,16 +166,16 @@ fn set_reserve(rt: HostRuntime) {
 struct Extends;
 
 impl Refused for Extends {
-    fn once(&self, rt: &impl Abort, memory: Memory, k: u64) -> bool {
+    fn run_refusing(&self, rt: &impl Abort, memory: Memory, k: u64) -> bool {
         let mut set = set_of(rt, memory, 2);
         let list = three_elements(rt, memory);
         memory.refuse_at(k);
         let failed = set.extend(list).is_err();
-        let refused = memory.refused();
+        let refused = memory.was_refused();
         memory.refuse_nothing();
-        same_at(rt, k, failed, refused);
+        assert_same_at(rt, k, failed, refused);
         has_a_front(rt, &set, 2);
-        same_at(rt, k, set.contains(&0) && set.contains(&1), true);
+        assert_same_at(rt, k, set.contains(&0) && set.contains(&1), true);
         refused
     }
 }
@@ -189,19 +189,19 @@ fn set_extend(rt: HostRuntime) {
 struct MakesOfList;
 
 impl Refused for MakesOfList {
-    fn once(&self, rt: &impl Abort, memory: Memory, k: u64) -> bool {
+    fn run_refusing(&self, rt: &impl Abort, memory: Memory, k: u64) -> bool {
         let list = three_elements(rt, memory);
         memory.refuse_at(k);
         let answer = SeqSet::from_list(memory, list, LowHashBuilder);
-        let refused = memory.refused();
+        let refused = memory.was_refused();
         memory.refuse_nothing();
-        same_at(rt, k, answer.is_err(), refused);
+        assert_same_at(rt, k, answer.is_err(), refused);
         match answer {
             Ok(set) => {
                 has_a_front(rt, &set, 0);
-                same(rt, set.len(), 3);
+                assert_same(rt, set.len(), 3);
             }
-            Err(_) => same_at(rt, k, memory.blocks(), 0),
+            Err(_) => assert_same_at(rt, k, memory.live_blocks(), 0),
         }
         refused
     }
@@ -216,19 +216,19 @@ fn set_from_list(rt: HostRuntime) {
 struct Copies;
 
 impl Refused for Copies {
-    fn once(&self, rt: &impl Abort, memory: Memory, k: u64) -> bool {
+    fn run_refusing(&self, rt: &impl Abort, memory: Memory, k: u64) -> bool {
         let set = set_of(rt, memory, 3);
-        let before = memory.blocks();
+        let before = memory.live_blocks();
         memory.refuse_at(k);
         let answer = set.try_clone();
-        let refused = memory.refused();
+        let refused = memory.was_refused();
         memory.refuse_nothing();
         let is_equal = match answer {
             Ok(copy) => Some(copy == set),
             Err(_) => None,
         };
         let wanted = if refused { None } else { Some(true) };
-        same_at(rt, k, (is_equal, memory.blocks()), (wanted, before));
+        assert_same_at(rt, k, (is_equal, memory.live_blocks()), (wanted, before));
         refused
     }
 }
@@ -247,7 +247,7 @@ fn is_below_nine(element: &u64) -> bool {
 struct Runs;
 
 impl Refused for Runs {
-    fn once(&self, rt: &impl Abort, memory: Memory, k: u64) -> bool {
+    fn run_refusing(&self, rt: &impl Abort, memory: Memory, k: u64) -> bool {
         let mut set = set_of(rt, memory, 0);
         let calls = queue_of(
             rt,
@@ -264,11 +264,11 @@ impl Refused for Runs {
         );
         memory.refuse_at(k);
         let failed = set.run(memory, calls).is_err();
-        let refused = memory.refused();
+        let refused = memory.was_refused();
         memory.refuse_nothing();
         has_a_front(rt, &set, 0);
-        same_at(rt, k, failed, refused);
-        same_at(rt, k, refused || set.len() == 3, true);
+        assert_same_at(rt, k, failed, refused);
+        assert_same_at(rt, k, refused || set.len() == 3, true);
         refused
     }
 }

@@ -27,7 +27,7 @@ fn fault<const N: usize>(
 
 #[test]
 fn a_key_that_stood_before(rt: HostRuntime) {
-    same(
+    assert_same(
         &rt,
         fault(&rt, [(1, 2), (1, 3)]),
         Some(FromPairsError::DoubledKey(1)),
@@ -36,7 +36,7 @@ fn a_key_that_stood_before(rt: HostRuntime) {
 
 #[test]
 fn the_first_of_two_keys_that_stood_before(rt: HostRuntime) {
-    same(
+    assert_same(
         &rt,
         fault(&rt, [(2, 0), (1, 0), (2, 0), (1, 0)]),
         Some(FromPairsError::DoubledKey(2)),
@@ -45,8 +45,8 @@ fn the_first_of_two_keys_that_stood_before(rt: HostRuntime) {
 
 #[test]
 fn pairs_of_no_key_twice(rt: HostRuntime) {
-    same(&rt, fault(&rt, [(2, 0), (1, 0), (0, 0)]), None);
-    same(&rt, fault(&rt, []), None);
+    assert_same(&rt, fault(&rt, [(2, 0), (1, 0), (0, 0)]), None);
+    assert_same(&rt, fault(&rt, []), None);
 }
 
 // The list of a hundred pairs, whose keys are those below a hundred, but for one at a place.
@@ -65,10 +65,10 @@ fn hundred(rt: &(impl Abort + AllocGlobal), place: usize, key: u64) -> Vec<(u64,
 fn a_hundred_pairs(rt: HostRuntime) {
     for place in [6, 50, 99] {
         let fault = from_pairs(SortedPairs(hundred(&rt, place, 3)), LowHashBuilder).err();
-        same(&rt, fault, Some(FromPairsError::DoubledKey(place)));
+        assert_same(&rt, fault, Some(FromPairsError::DoubledKey(place)));
     }
     let map = from_pairs(SortedPairs(hundred(&rt, 50, 50)), LowHashBuilder);
-    same(&rt, map.map(|map| map.len()).ok(), Some(100));
+    assert_same(&rt, map.map(|map| map.len()).ok(), Some(100));
 }
 
 #[test]
@@ -76,9 +76,9 @@ fn there_and_back(rt: HostRuntime) {
     let map = five(&rt);
     let list = listed(&map).expect(&rt, "memory for the list");
     let wanted = Vec::from_array(rt.alloc(), [(0u64, 4u64), (1, 3), (2, 2), (3, 1), (4, 0)]);
-    same(&rt, Some(&list.0), wanted.ok().as_ref());
+    assert_same(&rt, Some(&list.0), wanted.ok().as_ref());
     let back = from_pairs(list, LowHashBuilder).expect(&rt, "memory for the map");
-    same(&rt, back == map, true);
+    assert_same(&rt, back == map, true);
 }
 
 #[test]
@@ -88,13 +88,13 @@ fn any_order_is_read(rt: HostRuntime) {
         "memory for the pairs",
     );
     let map = from_pairs(SortedPairs(list), LowHashBuilder).expect(&rt, "memory for the map");
-    same(&rt, map == map_of(&rt, [(0, 0), (1, 10), (2, 20)]), true);
+    assert_same(&rt, map == map_of(&rt, [(0, 0), (1, 10), (2, 20)]), true);
 }
 
 // Checks the text of a fault.
 fn prints(rt: &(impl Abort + AllocGlobal), fault: FromPairsError, wanted: &str) {
     let text = format!(in rt.alloc(); "{fault}").expect(rt, "memory for the text");
-    same(rt, text.as_str(), wanted);
+    assert_same(rt, text.as_str(), wanted);
 }
 
 #[test]

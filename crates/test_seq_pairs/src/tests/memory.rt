@@ -7,11 +7,11 @@ use flurry_seq_pairs::map::{from_pairs, to_sorted_pairs};
 use flurry_seq_pairs::set::{from_items, to_sorted_items};
 use flurry_seq_pairs::{FromPairsError, SortedItems, SortedPairs};
 use flurry_seq_set::SeqSet;
-use metered_alloc::Metered;
+use metered_alloc::MeteredAlloc;
 use std::alloc::Global;
 use std::process::Abort;
 
-type Memory = &'static Metered<Global>;
+type Memory = &'static MeteredAlloc<Global>;
 
 // A map of numbers to lists, whose clones take memory.
 type ListMap = SeqMap<u64, Vec<u64, Memory>, LowHashBuilder, Memory>;
@@ -24,17 +24,17 @@ const MAX_REQUESTS: u64 = 100;
 // A call whose requests fail in turn.
 trait Refused {
     // Makes the call while the request numbered `k` fails, checks what it did, and returns whether it made that request.
-    fn once(&self, rt: &impl Abort, memory: Memory, k: u64) -> bool;
+    fn run_refusing(&self, rt: &impl Abort, memory: Memory, k: u64) -> bool;
 }
 
 // Makes each request of a call fail in turn. The call makes at least one request, and every block is deallocated.
 fn refuse_each<C: Refused>(rt: &impl Abort, alloc: Global, call: &C) {
-    let memory = Metered::leaked(alloc).expect(rt, "memory for the allocator");
+    let memory = MeteredAlloc::leak(alloc).expect(rt, "memory for the allocator");
     for k in 0..MAX_REQUESTS {
-        let refused = call.once(rt, memory, k);
-        same(rt, memory.blocks(), 0);
+        let refused = call.run_refusing(rt, memory, k);
+        assert_same(rt, memory.live_blocks(), 0);
         if !refused {
-            same(rt, k > 0, true);
+            assert_same(rt, k > 0, true);
             return;
         }
     }
@@ -55,13 +55,13 @@ fn lists(rt: &impl Abort, memory: Memory) -> ListMap {
 struct ListsPairs;
 
 impl Refused for ListsPairs {
-    fn once(&self, rt: &impl Abort, memory: Memory, k: u64) -> bool {
+    fn run_refusing(&self, rt: &impl Abort, memory: Memory, k: u64) -> bool {
         let map = lists(rt, memory);
         memory.refuse_at(k);
         let count = to_sorted_pairs(&map).ok().map(|list| list.0.len());
-        let refused = memory.refused();
+        let refused = memory.was_refused();
         memory.refuse_nothing();
-        same(rt, count, if refused { None } else { Some(3) });
+        assert_same(rt, count, if refused { None } else { Some(3) });
         refused
     }
 }
@@ -75,21 +75,21 @@ fn pairs_of_a_map(rt: HostRuntime) {
 struct MakesMap;
 
 impl Refused for MakesMap {
-    fn once(&self, rt: &impl Abort, memory: Memory, k: u64) -> bool {
+    fn run_refusing(&self, rt: &impl Abort, memory: Memory, k: u64) -> bool {
         let list = Vec::from_array(memory, [(2u64, 0u64), (1, 1), (0, 2)]).expect(
             rt,
             "memory for the list",
         );
         memory.refuse_at(k);
         let answer = from_pairs(SortedPairs(list), LowHashBuilder);
-        let refused = memory.refused();
+        let refused = memory.was_refused();
         memory.refuse_nothing();
         let wanted = if refused {
             Some(FromPairsError::NoMemory)
         } else {
             None
         };
-        same(rt, answer.err(), wanted);
+        assert_same(rt, answer.err(), wanted);
         refused
     }
 }
@@ -103,16 +103,16 @@ fn a_map_of_pairs(rt: HostRuntime) {
 struct ListsElements;
 
 impl Refused for ListsElements {
-    fn once(&self, rt: &impl Abort, memory: Memory, k: u64) -> bool {
+    fn run_refusing(&self, rt: &impl Abort, memory: Memory, k: u64) -> bool {
         let mut set: NumberSet = SeqSet::with_hasher(memory, LowHashBuilder);
         for element in 0..3u64 {
-            same(rt, set.insert(element), Ok(true));
+            assert_same(rt, set.insert(element), Ok(true));
         }
         memory.refuse_at(k);
         let count = to_sorted_items(&set).ok().map(|list| list.0.len());
-        let refused = memory.refused();
+        let refused = memory.was_refused();
         memory.refuse_nothing();
-        same(rt, count, if refused { None } else { Some(3) });
+        assert_same(rt, count, if refused { None } else { Some(3) });
         refused
     }
 }
@@ -126,15 +126,15 @@ fn elements_of_a_set(rt: HostRuntime) {
 struct MakesSet;
 
 impl Refused for MakesSet {
-    fn once(&self, rt: &impl Abort, memory: Memory, k: u64) -> bool {
+    fn run_refusing(&self, rt: &impl Abort, memory: Memory, k: u64) -> bool {
         let list = Vec::from_array(memory, [2u64, 1, 2]).expect(rt, "memory for the list");
         memory.refuse_at(k);
         let count = from_items(SortedItems(list), LowHashBuilder)
             .ok()
             .map(|set| set.len());
-        let refused = memory.refused();
+        let refused = memory.was_refused();
         memory.refuse_nothing();
-        same(rt, count, if refused { None } else { Some(2) });
+        assert_same(rt, count, if refused { None } else { Some(2) });
         refused
     }
 }

@@ -34,7 +34,7 @@ fn read(rt: &impl Abort, alloc: Global, text: &str) -> SortedPairs<u64, u64> {
 fn the_text_of_a_map_ascends(rt: HostRuntime) {
     let list = listed(&rt, &map_of(&rt, [(1, 3), (0, 4)]));
     let text = text_of(&rt, rt.alloc(), &list);
-    same(&rt, text.as_str(), "[[0,4],[1,3]]");
+    assert_same(&rt, text.as_str(), "[[0,4],[1,3]]");
 }
 
 #[test]
@@ -43,25 +43,25 @@ fn a_map_through_text(rt: HostRuntime) {
     let list = listed(&rt, &map);
     let text = text_of(&rt, rt.alloc(), &list);
     let again = read(&rt, rt.alloc(), text.as_str());
-    same(&rt, &again, &list);
+    assert_same(&rt, &again, &list);
     let back = from_pairs(again, LowHashBuilder).expect(&rt, "memory for the map");
-    same(&rt, back == map, true);
+    assert_same(&rt, back == map, true);
 }
 
 #[test]
 fn a_text_with_a_key_twice(rt: HostRuntime) {
     let list = read(&rt, rt.alloc(), "[[1,2],[1,3]]");
     let fault = from_pairs(list, LowHashBuilder).err();
-    same(&rt, fault, Some(FromPairsError::DoubledKey(1)));
+    assert_same(&rt, fault, Some(FromPairsError::DoubledKey(1)));
 }
 
 #[test]
 fn malformed_texts(rt: HostRuntime) {
-    same(&rt, is_no_list(rt.alloc(), "[[0,4],[1,3]]"), false);
-    same(&rt, is_no_list(rt.alloc(), "[[0,4],[1,3]"), true);
-    same(&rt, is_no_list(rt.alloc(), "[[0,4],[1]]"), true);
-    same(&rt, is_no_list(rt.alloc(), "[[0,\"4\"]]"), true);
-    same(&rt, is_no_list(rt.alloc(), "{\"0\":4}"), true);
+    assert_same(&rt, is_no_list(rt.alloc(), "[[0,4],[1,3]]"), false);
+    assert_same(&rt, is_no_list(rt.alloc(), "[[0,4],[1,3]"), true);
+    assert_same(&rt, is_no_list(rt.alloc(), "[[0,4],[1]]"), true);
+    assert_same(&rt, is_no_list(rt.alloc(), "[[0,\"4\"]]"), true);
+    assert_same(&rt, is_no_list(rt.alloc(), "{\"0\":4}"), true);
 }
 
 // Returns the set that a text gives.
@@ -75,7 +75,7 @@ fn a_set_through_text(rt: HostRuntime) {
     let set = read_set(&rt, rt.alloc(), "[2,1,2]");
     let list = to_sorted_items(&set).expect(&rt, "memory for the list");
     let text = serde_json::to_string(rt.alloc(), &list).expect(&rt, "a text");
-    same(&rt, text.as_str(), "[1,2]");
+    assert_same(&rt, text.as_str(), "[1,2]");
 }
 
 // Lists that are read from values instead of texts.
@@ -85,8 +85,8 @@ fn lists_from_values(rt: HostRuntime) {
     let pairs: SortedPairs<u64, u64> = serde_json::from_value(rt.alloc(), value).expect(
         &rt, "a list",
     );
-    same(&rt, pairs.0.as_slice(), [(2u64, 1u64), (0, 0)].as_slice());
+    assert_same(&rt, pairs.0.as_slice(), [(2u64, 1u64), (0, 0)].as_slice());
     let value = serde_json::from_str(rt.alloc(), "[2,1,2]").expect(&rt, "a value");
     let items: SortedItems<u64> = serde_json::from_value(rt.alloc(), value).expect(&rt, "a list");
-    same(&rt, items.0.as_slice(), [2u64, 1, 2].as_slice());
+    assert_same(&rt, items.0.as_slice(), [2u64, 1, 2].as_slice());
 }

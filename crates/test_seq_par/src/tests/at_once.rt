@@ -68,8 +68,8 @@ fn pieces_at_once(rt: HostRuntime) -> Result<(), Fail> {
     let hasher = PairHasher { pair: &pair };
     let list = Vec::from_array(rt.alloc(), [(0u64, 5u64), (1, 7)])?;
     let built = map::from_par_list(&rt, rt.alloc(), list, hasher, 1)?;
-    same(&rt, pair.has_met(), true);
-    same(&rt, built.len(), 2);
+    assert_same(&rt, pair.has_met(), true);
+    assert_same(&rt, built.len(), 2);
     Ok(())
 }
 
@@ -79,7 +79,7 @@ fn elements_at_once(rt: HostRuntime) -> Result<(), Fail> {
     let hasher = PairHasher { pair: &pair };
     let list = Vec::from_array(rt.alloc(), [0u64, 1])?;
     let built = set::from_par_list(&rt, rt.alloc(), list, hasher, 1)?;
-    same(&rt, pair.has_met(), true);
-    same(&rt, built.len(), 2);
+    assert_same(&rt, pair.has_met(), true);
+    assert_same(&rt, built.len(), 2);
     Ok(())
 }

@@ -9,13 +9,13 @@ use super::{lent, same};
 use flurry_base::hash::LowHashBuilder;
 use flurry_seq::SeqMap;
 use flurry_seq_par::map;
-use metered_alloc::Metered;
+use metered_alloc::MeteredAlloc;
 use std::alloc::{AllocError, Global};
 use std::process::Abort;
 use std::test::Fail;
 use std::thread::Threads;
 
-type Memory = &'static Metered<Global>;
+type Memory = &'static MeteredAlloc<Global>;
 
 type Numbers = SeqMap<u64, u64, LowHashBuilder, Memory>;
 
@@ -60,9 +60,9 @@ fn refuse_in_turn(
 ) -> Result<(), Fail> {
     for k in 0..MAX_REQUESTS {
         let refused = make(rt, memory, call, k, all)?;
-        same(rt, (k, memory.blocks()), (k, 0));
+        assert_same(rt, (k, memory.live_blocks()), (k, 0));
         if !refused {
-            same(rt, k > 0, true);
+            assert_same(rt, k > 0, true);
             return Ok(());
         }
     }
@@ -71,7 +71,7 @@ fn refuse_in_turn(
 
 // Makes each request fail, alone and with all later ones.
 fn refuse_each(rt: &(impl Abort + Threads + Sync), alloc: Global, call: Call) -> Result<(), Fail> {
-    let memory = Metered::leaked(alloc)?;
+    let memory = MeteredAlloc::leak(alloc)?;
     refuse_in_turn(rt, memory, call, false)?;
     refuse_in_turn(rt, memory, call, true)
 }
@@ -116,19 +116,19 @@ fn holds(rt: &impl Abort, map: &Numbers, old: u64, new: bool) {
         } else {
             None
         };
-        same(rt, (key, lent(map.get(&key))), (key, wanted));
+        assert_same(rt, (key, lent(map.get(&key))), (key, wanted));
         if wanted.is_some() {
             count = count.wrapping_add(1);
         }
     }
-    same(rt, map.len(), count);
+    assert_same(rt, map.len(), count);
 }
 
 // Asserts that a building succeeds if no request failed, and fails if its first request did. If a later request failed, it may be one that
 // `rayon` does without.
 fn refused_or_done(rt: &impl Abort, k: u64, refused: bool, done: bool) {
-    same(rt, (k, refused || done), (k, true));
-    same(rt, (k, done && k == 0), (k, false));
+    assert_same(rt, (k, refused || done), (k, true));
+    assert_same(rt, (k, done && k == 0), (k, false));
 }
 
 // Makes a map from three pieces of a list.
@@ -141,7 +141,7 @@ fn build(
     let list = list(memory, 2, 6, 100)?;
     refuse(memory, k, all);
     let answer = map::from_par_list(rt, memory, list, LowHashBuilder, 2);
-    let refused = memory.refused();
+    let refused = memory.was_refused();
     memory.refuse_nothing();
     refused_or_done(rt, k, refused, answer.is_ok());
     if let Ok(map) = answer {
@@ -168,7 +168,7 @@ fn extend(
     let list = list(memory, 2, 6, 100)?;
     refuse(memory, k, all);
     let answer = map::par_extend(rt, &mut map, list, 2);
-    let refused = memory.refused();
+    let refused = memory.was_refused();
     memory.refuse_nothing();
     refused_or_done(rt, k, refused, answer.is_ok());
     holds(rt, &map, old, answer.is_ok());
@@ -193,9 +193,9 @@ fn join_to(
     let right = SeqMap::from_list(memory, list(memory, 2, 6, 100)?, LowHashBuilder)?;
     refuse(memory, k, all);
     let answer = map::join(&mut left, right);
-    let refused = memory.refused();
+    let refused = memory.was_refused();
     memory.refuse_nothing();
-    same(rt, (k, answer.is_err()), (k, old == 0 && all && k == 0));
+    assert_same(rt, (k, answer.is_err()), (k, old == 0 && all && k == 0));
     holds(rt, &left, old, answer.is_ok());
     Ok(refused)
 }

@@ -14,12 +14,12 @@ fn insert<R: Wait + Abort>(
     value: u64,
     old: Option<u64>,
 ) {
-    same(rt, map.insert(rt, share, 7, value), Ok(reply(old)));
+    assert_same(rt, map.insert(rt, share, 7, value), Ok(reply(old)));
 }
 
 // Looks up the key 7, and checks its value.
 fn look<R: Wait + Abort>(rt: &R, map: &Numbers, share: &mut NumberShare, value: u64) {
-    same(rt, map.get(rt, share, 7), Ok(reply(Some(value))));
+    assert_same(rt, map.get(rt, share, 7), Ok(reply(Some(value))));
 }
 
 // Makes `insert(7, 0)` for a first share, `insert(7, 1)` for a second one, and `get(7)` for the first one again.
@@ -54,7 +54,7 @@ fn three_shares_fit(rt: HostRuntime) {
     let (first, second) = three_calls(&rt, &map);
     let mut third = share_of(&rt, &map);
     look(&rt, &map, &mut third, 1);
-    same(
+    assert_same(
         &rt,
         [first.number(), second.number(), third.number()],
         [0, 1, 2],
@@ -96,7 +96,7 @@ fn a_share_of_another_map(rt: HostRuntime) {
 fn another_reply(rt: HostRuntime) {
     let map = Numbers::with_hasher(rt.alloc(), LowHashBuilder);
     let (mut first, second) = three_calls(&rt, &map);
-    same(&rt, first.replace_receipt(1, 2, reply(None)), true);
+    assert_same(&rt, first.replace_receipt(1, 2, reply(None)), true);
     ends(&rt, map, [first, second], Err(CloseFault::ReceiptsDiffer));
 }
 
@@ -104,7 +104,7 @@ fn another_reply(rt: HostRuntime) {
 fn one_place_twice(rt: HostRuntime) {
     let map = Numbers::with_hasher(rt.alloc(), LowHashBuilder);
     let mut share = insert_and_look_twice(&rt, &map);
-    same(&rt, share.replace_receipt(2, 1, reply(Some(0))), true);
+    assert_same(&rt, share.replace_receipt(2, 1, reply(Some(0))), true);
     ends(&rt, map, [share], Err(CloseFault::PlacesDiffer));
 }
 
@@ -112,8 +112,8 @@ fn one_place_twice(rt: HostRuntime) {
 fn places_out_of_order(rt: HostRuntime) {
     let map = Numbers::with_hasher(rt.alloc(), LowHashBuilder);
     let mut share = insert_and_look_twice(&rt, &map);
-    same(&rt, share.replace_receipt(1, 2, reply(Some(0))), true);
-    same(&rt, share.replace_receipt(2, 1, reply(Some(0))), true);
+    assert_same(&rt, share.replace_receipt(1, 2, reply(Some(0))), true);
+    assert_same(&rt, share.replace_receipt(2, 1, reply(Some(0))), true);
     ends(&rt, map, [share], Err(CloseFault::PlacesDiffer));
 }
 
@@ -121,6 +121,6 @@ fn places_out_of_order(rt: HostRuntime) {
 fn no_receipt_to_replace(rt: HostRuntime) {
     let map = Numbers::with_hasher(rt.alloc(), LowHashBuilder);
     let mut share = insert_and_look_twice(&rt, &map);
-    same(&rt, share.replace_receipt(3, 0, reply(None)), false);
+    assert_same(&rt, share.replace_receipt(3, 0, reply(None)), false);
     ends(&rt, map, [share], Ok((3, 1, Some(0))));
 }

@@ -85,7 +85,7 @@ fn another_reply_to_a_thread(rt: HostRuntime) {
     let (mut first, second) = shares_of_threads(&rt, &map);
     let place = first.receipts().get(40).map_or(0, |receipt| receipt.place);
     let damaged = first.replace_receipt(40, place, KeptReply::Contains(true));
-    same(&rt, damaged, true);
+    assert_same(&rt, damaged, true);
     ends(&rt, map, [first, second], Err(CloseFault::ReceiptsDiffer));
 }
 
@@ -110,7 +110,7 @@ fn place_of(share: &NumberShare, at: usize) -> usize {
 
 // Gives one of a share's last two receipts, which have one reply, this place.
 fn set_place(rt: &impl Abort, share: &mut NumberShare, at: usize, place: usize) {
-    same(rt, share.replace_receipt(at, place, reply(None)), true);
+    assert_same(rt, share.replace_receipt(at, place, reply(None)), true);
 }
 
 #[test]

@@ -26,11 +26,11 @@ fn pair_of(pair: Option<(Arc<u64>, Arc<u64>)>) -> Option<(u64, u64)> {
 }
 
 fn inserts<R: Abort + Wait>(rt: &R, map: &Numbers) -> Result<(), Fail> {
-    same(rt, taken(map.insert(rt, 10, 3)?), Some(1));
-    same(rt, taken(map.insert(rt, 30, 4)?), None);
-    same(rt, number_at(rt, map, &10)?, Some(3));
-    same(rt, number_at(rt, map, &30)?, Some(4));
-    same(rt, map.len(rt), 3);
+    assert_same(rt, taken(map.insert(rt, 10, 3)?), Some(1));
+    assert_same(rt, taken(map.insert(rt, 30, 4)?), None);
+    assert_same(rt, number_at(rt, map, &10)?, Some(3));
+    assert_same(rt, number_at(rt, map, &30)?, Some(4));
+    assert_same(rt, map.len(rt), 3);
     Ok(())
 }
 
@@ -48,10 +48,10 @@ fn put_or_kept(answer: Result<Arc<u64>, TryInsertError<u64>>) -> Result<u64, (u6
 }
 
 fn inserts_once<R: Abort + Wait>(rt: &R, map: &Numbers) -> Result<(), Fail> {
-    same(rt, put_or_kept(map.try_insert(rt, 30, 3)?), Ok(3));
-    same(rt, put_or_kept(map.try_insert(rt, 30, 4)?), Err((3, 4)));
-    same(rt, number_at(rt, map, &30)?, Some(3));
-    same(rt, map.len(rt), 3);
+    assert_same(rt, put_or_kept(map.try_insert(rt, 30, 3)?), Ok(3));
+    assert_same(rt, put_or_kept(map.try_insert(rt, 30, 4)?), Err((3, 4)));
+    assert_same(rt, number_at(rt, map, &30)?, Some(3));
+    assert_same(rt, map.len(rt), 3);
     Ok(())
 }
 
@@ -61,12 +61,12 @@ fn insertions_at_absent_keys_alone(rt: HostRuntime) -> Result<(), Fail> {
 }
 
 fn looks_up<R: Abort + Wait>(rt: &R, map: &Numbers) -> Result<(), Fail> {
-    same(rt, pair_of(map.get_key_value(rt, &20)?), Some((20, 2)));
-    same(rt, map.get_key_value(rt, &30)?.is_none(), true);
-    same(rt, number_at(rt, map, &10)?, Some(1));
-    same(rt, number_at(rt, map, &30)?, None);
-    same(rt, map.contains_key(rt, &10), true);
-    same(rt, map.contains_key(rt, &30), false);
+    assert_same(rt, pair_of(map.get_key_value(rt, &20)?), Some((20, 2)));
+    assert_same(rt, map.get_key_value(rt, &30)?.is_none(), true);
+    assert_same(rt, number_at(rt, map, &10)?, Some(1));
+    assert_same(rt, number_at(rt, map, &30)?, None);
+    assert_same(rt, map.contains_key(rt, &10), true);
+    assert_same(rt, map.contains_key(rt, &30), false);
     Ok(())
 }
 
@@ -76,11 +76,11 @@ fn look_ups(rt: HostRuntime) -> Result<(), Fail> {
 }
 
 fn removes<R: Abort + Wait>(rt: &R, map: &Numbers) {
-    same(rt, taken(map.remove(rt, &10)), Some(1));
-    same(rt, taken(map.remove(rt, &10)), None);
-    same(rt, pair_of(map.remove_entry(rt, &20)), Some((20, 2)));
-    same(rt, map.remove_entry(rt, &20).is_none(), true);
-    same(rt, map.is_empty(rt), true);
+    assert_same(rt, taken(map.remove(rt, &10)), Some(1));
+    assert_same(rt, taken(map.remove(rt, &10)), None);
+    assert_same(rt, pair_of(map.remove_entry(rt, &20)), Some((20, 2)));
+    assert_same(rt, map.remove_entry(rt, &20).is_none(), true);
+    assert_same(rt, map.is_empty(rt), true);
 }
 
 #[test]
@@ -91,14 +91,14 @@ fn removals(rt: HostRuntime) -> Result<(), Fail> {
 
 fn computes<R: Abort + Wait>(rt: &R, map: &Numbers) -> Result<(), Fail> {
     let doubled = map.compute_if_present(rt, &20, |key, value| Some(key.wrapping_add(*value)))?;
-    same(rt, taken(doubled), Some(22));
-    same(rt, number_at(rt, map, &20)?, Some(22));
+    assert_same(rt, taken(doubled), Some(22));
+    assert_same(rt, number_at(rt, map, &20)?, Some(22));
     let absent = map.compute_if_present(rt, &30, |_, _| Some(9))?;
-    same(rt, taken(absent), None);
+    assert_same(rt, taken(absent), None);
     let gone = map.compute_if_present(rt, &20, |_, _| None)?;
-    same(rt, taken(gone), None);
-    same(rt, map.contains_key(rt, &20), false);
-    same(rt, map.len(rt), 1);
+    assert_same(rt, taken(gone), None);
+    assert_same(rt, map.contains_key(rt, &20), false);
+    assert_same(rt, map.len(rt), 1);
     Ok(())
 }
 
@@ -109,10 +109,10 @@ fn computations(rt: HostRuntime) -> Result<(), Fail> {
 
 // An empty map makes room, and then takes a pair.
 fn makes_room<R: Abort + Wait>(rt: &R, map: &HashMap<u64, u64>) -> Result<(), Fail> {
-    same(rt, map.is_empty(rt), true);
+    assert_same(rt, map.is_empty(rt), true);
     map.reserve(rt, 100)?;
-    same(rt, taken(map.insert(rt, 7, 8)?), None);
-    same(rt, number_at(rt, map, &7)?, Some(8));
+    assert_same(rt, taken(map.insert(rt, 7, 8)?), None);
+    assert_same(rt, number_at(rt, map, &7)?, Some(8));
     Ok(())
 }
 
@@ -121,7 +121,7 @@ fn takes_a_thousand<R: Abort + Wait>(rt: &R, map: &HashMap<u64, u64>) -> Result<
     for key in 0..1000 {
         map.insert(rt, key, key)?;
     }
-    same(rt, map.len(rt), 1000);
+    assert_same(rt, map.len(rt), 1000);
     Ok(())
 }
 
@@ -138,24 +138,24 @@ fn rooms(rt: HostRuntime) -> Result<(), Fail> {
 // Inserts a thousand keys, each of which is new, and removes them all.
 fn grows_and_clears<R: Abort + Wait>(rt: &R, map: &Numbers) -> Result<(), Fail> {
     for key in 0..1000 {
-        same(rt, taken(map.insert(rt, key, key)?), None);
+        assert_same(rt, taken(map.insert(rt, key, key)?), None);
     }
     map.clear(rt);
-    same(rt, map.is_empty(rt), true);
+    assert_same(rt, map.is_empty(rt), true);
     Ok(())
 }
 
 // Asserts that none of the thousand keys is present.
 fn has_none<R: Abort + Wait>(rt: &R, map: &Numbers) {
     for key in 0..1000 {
-        same(rt, map.contains_key(rt, &key), false);
+        assert_same(rt, map.contains_key(rt, &key), false);
     }
 }
 
 fn clears_two_pairs<R: Abort + Wait>(rt: &R, map: &Numbers) -> Result<(), Fail> {
     map.clear(rt);
-    same(rt, map.len(rt), 0);
-    same(rt, map.contains_key(rt, &10), false);
+    assert_same(rt, map.len(rt), 0);
+    assert_same(rt, map.contains_key(rt, &10), false);
     grows_and_clears(rt, map)?;
     has_none(rt, map);
     Ok(())
@@ -166,7 +166,7 @@ fn clears_two_pairs<R: Abort + Wait>(rt: &R, map: &Numbers) -> Result<(), Fail> 
 fn clears(rt: HostRuntime) -> Result<(), Fail> {
     let empty: HashMap<u64, u64> = HashMap::new(rt.alloc());
     empty.clear(&rt);
-    same(&rt, empty.is_empty(&rt), true);
+    assert_same(&rt, empty.is_empty(&rt), true);
     clears_two_pairs(&rt, &two_pairs(&rt)?)
 }
 
@@ -182,8 +182,8 @@ fn sizes<R: Wait>(rt: &R, map: &Numbers) -> ((bool, usize), (bool, usize)) {
 #[test]
 fn a_map_of_one_pair_is_not_empty(rt: HostRuntime) -> Result<(), Fail> {
     let map = HashMap::with_hasher(rt.alloc(), LowHashBuilder);
-    same(&rt, sizes(&rt, &map), ((true, 0), (true, 0)));
+    assert_same(&rt, sizes(&rt, &map), ((true, 0), (true, 0)));
     map.insert(&rt, 1, 1)?;
-    same(&rt, sizes(&rt, &map), ((false, 1), (false, 1)));
+    assert_same(&rt, sizes(&rt, &map), ((false, 1), (false, 1)));
     Ok(())
 }

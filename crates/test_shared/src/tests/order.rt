@@ -67,8 +67,8 @@ fn holds_two_bins<R: Abort + Threads + Wait + Sync>(
 ) -> Result<(), Fail> {
     map.insert(rt, 1, 11)?;
     map.insert(rt, 2, 12)?;
-    same(rt, hold_and_insert(rt, map), (true, true));
-    same(rt, number_at(rt, map, &2)?, Some(22));
+    assert_same(rt, hold_and_insert(rt, map), (true, true));
+    assert_same(rt, number_at(rt, map, &2)?, Some(22));
     Ok(())
 }
 
@@ -154,7 +154,7 @@ fn lent_parts(rt: HostRuntime) -> Result<(), Fail> {
     let map = HashMap::with_capacity_and_hasher(rt.alloc(), 10, LowHashBuilder)?.with_processors(2);
     let map = Arc::new(rt.alloc(), map)?;
     for phase in [Phase::Fill, Phase::Halve, Phase::LookAfter] {
-        same(&rt, in_thread(rt, rt.alloc(), &map, phase)?, Some(true));
+        assert_same(&rt, in_thread(rt, rt.alloc(), &map, phase)?, Some(true));
     }
     Ok(())
 }

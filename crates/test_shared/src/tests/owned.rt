@@ -54,12 +54,12 @@ fn halve_and_own<S: KeyHasher<u64> + Drop, R: Abort + Wait>(
     map: HashMap<u64, u64, S>,
     count: u64,
 ) -> Result<(), Fail> {
-    same(rt, map.len(rt) as u64, count);
-    same(rt, count_own(rt, &map, 0, count), count);
-    same(rt, remove_even(rt, &map, count), count.div_ceil(2));
+    assert_same(rt, map.len(rt) as u64, count);
+    assert_same(rt, count_own(rt, &map, 0, count), count);
+    assert_same(rt, remove_even(rt, &map, count), count.div_ceil(2));
     let map = map.into_seq(rt)?;
-    same(rt, map.len() as u64, count / 2);
-    same(rt, count_odd(&map, count), count / 2);
+    assert_same(rt, map.len() as u64, count / 2);
+    assert_same(rt, count_odd(&map, count), count / 2);
     Ok(())
 }
 
@@ -80,9 +80,9 @@ fn owned_and_shared_and_owned_again(rt: HostRuntime) -> Result<(), Fail> {
 #[test]
 fn a_shared_map_of_an_owned_one_grows(rt: HostRuntime) -> Result<(), Fail> {
     let map = shared(&rt, owned(rt.alloc(), LowHashBuilder, 100)?)?;
-    same(&rt, insert_all(&rt, &map, 100, 1000), 0);
-    same(&rt, map.len(&rt), 1000);
-    same(&rt, count_own(&rt, &map, 0, 1000), 1000);
+    assert_same(&rt, insert_all(&rt, &map, 100, 1000), 0);
+    assert_same(&rt, map.len(&rt), 1000);
+    assert_same(&rt, count_own(&rt, &map, 0, 1000), 1000);
     Ok(())
 }
 
@@ -100,7 +100,7 @@ fn set_while_shared<R: Abort + Wait>(
     map: SeqMap<u64, u64, LowHashBuilder>,
 ) -> Result<SeqMap<u64, u64, LowHashBuilder>, Fail> {
     let map = shared(rt, map)?;
-    same(rt, taken(map.insert(rt, 0, 7)?), Some(0));
+    assert_same(rt, taken(map.insert(rt, 0, 7)?), Some(0));
     Ok(map.into_seq(rt)?)
 }
 
@@ -110,8 +110,8 @@ fn a_value_has_its_other_owner_still(rt: HostRuntime) -> Result<(), Fail> {
     let map = owned(rt.alloc(), LowHashBuilder, 1)?;
     let value = value_at_0(&map)?;
     let map = set_while_shared(&rt, map)?;
-    same(&rt, map.get(&0).map(|value| **value), Some(7));
-    same(&rt, *value, 0);
+    assert_same(&rt, map.get(&0).map(|value| **value), Some(7));
+    assert_same(&rt, *value, 0);
     Ok(())
 }
 
@@ -119,8 +119,8 @@ fn a_value_has_its_other_owner_still(rt: HostRuntime) -> Result<(), Fail> {
 #[test]
 fn a_written_pair_of_an_owned_map_goes(rt: HostRuntime) -> Result<(), Fail> {
     let map = shared(&rt, owned(rt.alloc(), LowHashBuilder, 3)?)?;
-    same(&rt, taken(map.insert(&rt, 1, 7)?), Some(1));
+    assert_same(&rt, taken(map.insert(&rt, 1, 7)?), Some(1));
     map.retain(&rt, |_, _| false)?;
-    same(&rt, map.is_empty(&rt), true);
+    assert_same(&rt, map.is_empty(&rt), true);
     Ok(())
 }

@@ -6,14 +6,14 @@ use super::workers::count_own;
 use flurry_base::hash::{DefaultHashBuilder, LowHashBuilder};
 use flurry_seq::SeqMap;
 use flurry_shared::HashMap;
-use metered_alloc::Metered;
+use metered_alloc::MeteredAlloc;
 use std::alloc::{AllocError, Allocator, Global};
 use std::process::Abort;
 use std::sync::Wait;
 use std::test::Fail;
 use std::thread::Threads;
 
-type Memory = &'static Metered<Global>;
+type Memory = &'static MeteredAlloc<Global>;
 
 // A map of numbers. Its allocator is a parameter, because a proof over `Memory` would have to unfold it in each step.
 type Numbers<A> = HashMap<u64, u64, LowHashBuilder, A>;
@@ -63,7 +63,7 @@ fn numbers<A: Allocator + Copy, R: Wait>(
 // whether the call succeeded, whether the earlier pairs are present, and the number of pairs.
 fn refuse_in<A: Allocator + Copy, R: Wait>(
     rt: &R,
-    memory: &Metered<Global>,
+    memory: &MeteredAlloc<Global>,
     k: u64,
     map: &Numbers<A>,
     keys: u64,
@@ -71,7 +71,7 @@ fn refuse_in<A: Allocator + Copy, R: Wait>(
 ) -> (bool, bool, bool, usize) {
     memory.refuse_at(k);
     let done = is_done(rt, map, call);
-    let refused = memory.refused();
+    let refused = memory.was_refused();
     memory.refuse_nothing();
     let stand = count_own(rt, map, 0, keys) == keys;
     (refused, done, stand, map.len(rt))
@@ -99,11 +99,11 @@ fn refuse_each<R: Abort + Wait>(
 ) -> Result<(), Fail> {
     for k in 0..requests {
         let seen = call_without(rt, memory, keys, call, k)?;
-        same(rt, (k, seen), (k, (true, false, true, keys as usize)));
-        same(rt, memory.blocks(), 0);
+        assert_same(rt, (k, seen), (k, (true, false, true, keys as usize)));
+        assert_same(rt, memory.live_blocks(), 0);
     }
     let (refused, done, _, _) = call_without(rt, memory, keys, call, requests)?;
-    same(rt, (refused, done), (false, true));
+    assert_same(rt, (refused, done), (false, true));
     Ok(())
 }
 
@@ -111,7 +111,7 @@ fn refuse_each<R: Abort + Wait>(
 // growth, or five growths from 16 bins.
 #[test]
 fn each_request_of_a_call(rt: HostRuntime) -> Result<(), Fail> {
-    let memory = Metered::leaked(rt.alloc())?;
+    let memory = MeteredAlloc::leak(rt.alloc())?;
     refuse_each(&rt, memory, 0, Call::Insert, 5)?;
     refuse_each(&rt, memory, 1, Call::Insert, 3)?;
     refuse_each(&rt, memory, 1, Call::Replace, 1)?;
@@ -127,10 +127,10 @@ fn each_request_of_a_call(rt: HostRuntime) -> Result<(), Fail> {
 // If memory for the larger table, its board or a seat cannot be allocated, the insertion is done in the old table.
 #[test]
 fn a_larger_table_of_an_insertion(rt: HostRuntime) -> Result<(), Fail> {
-    let memory = Metered::leaked(rt.alloc())?;
+    let memory = MeteredAlloc::leak(rt.alloc())?;
     for k in 3..10u64 {
         let seen = call_without(&rt, memory, 11, Call::Insert, k)?;
-        same(&rt, (k, seen), (k, (true, true, true, 12)));
+        assert_same(&rt, (k, seen), (k, (true, true, true, 12)));
     }
     Ok(())
 }
@@ -139,7 +139,7 @@ fn a_larger_table_of_an_insertion(rt: HostRuntime) -> Result<(), Fail> {
 // second one succeeded, and how many requests the second one made.
 fn requests_after<A: Allocator + Copy, R: Wait>(
     rt: &R,
-    memory: &Metered<Global>,
+    memory: &MeteredAlloc<Global>,
     k: u64,
     map: &Numbers<A>,
 ) -> (bool, u64) {
@@ -147,7 +147,7 @@ fn requests_after<A: Allocator + Copy, R: Wait>(
     let refused = map.reserve(rt, 1).is_err();
     memory.refuse_nothing();
     let done = map.reserve(rt, 1).is_ok();
-    (refused && done, memory.asked())
+    (refused && done, memory.requests())
 }
 
 // Does the same as `requests_after`, on a map of eleven keys in 16 bins that is created for the call.
@@ -164,11 +164,11 @@ fn requests_after_a_refusal<R: Wait>(
 // next attempt makes all of its requests.
 #[test]
 fn a_refused_growth_leaves_nothing(rt: HostRuntime) -> Result<(), Fail> {
-    let memory = Metered::leaked(rt.alloc())?;
+    let memory = MeteredAlloc::leak(rt.alloc())?;
     for k in 0..14u64 {
         let asked = if k < 7 { 14 } else { 7 };
         let seen = requests_after_a_refusal(&rt, memory, k)?;
-        same(&rt, (k, seen), (k, (true, asked)));
+        assert_same(&rt, (k, seen), (k, (true, asked)));
     }
     Ok(())
 }
@@ -190,12 +190,12 @@ fn map_with_room_by_default<A: Allocator + Copy>(
 
 #[test]
 fn a_map_with_room(rt: HostRuntime) -> Result<(), Fail> {
-    let memory = Metered::leaked(rt.alloc())?;
+    let memory = MeteredAlloc::leak(rt.alloc())?;
     for k in 0..3u64 {
         memory.refuse_at(k);
-        same(&rt, (k, map_with_room(memory, 5).is_ok()), (k, k == 2));
+        assert_same(&rt, (k, map_with_room(memory, 5).is_ok()), (k, k == 2));
         memory.refuse_nothing();
-        same(&rt, memory.blocks(), 0);
+        assert_same(&rt, memory.live_blocks(), 0);
     }
     Ok(())
 }
@@ -203,16 +203,16 @@ fn a_map_with_room(rt: HostRuntime) -> Result<(), Fail> {
 // A map with room and the default hasher, which takes no memory.
 #[test]
 fn a_map_with_room_by_default(rt: HostRuntime) -> Result<(), Fail> {
-    let memory = Metered::leaked(rt.alloc())?;
+    let memory = MeteredAlloc::leak(rt.alloc())?;
     for k in 0..3u64 {
         memory.refuse_at(k);
-        same(
+        assert_same(
             &rt,
             (k, map_with_room_by_default(memory).is_ok()),
             (k, k == 2),
         );
         memory.refuse_nothing();
-        same(&rt, memory.blocks(), 0);
+        assert_same(&rt, memory.live_blocks(), 0);
     }
     Ok(())
 }
@@ -233,8 +233,8 @@ fn has_three_keys<A: Allocator + Copy>(
     map: &Owned<A>,
     k: u64,
 ) -> Result<(), AllocError> {
-    same(rt, (k, map.len(), map.capacity()), (k, 3, 16));
-    same(rt, *map == three_keys(alloc)?, true);
+    assert_same(rt, (k, map.len(), map.capacity()), (k, 3, 16));
+    assert_same(rt, *map == three_keys(alloc)?, true);
     Ok(())
 }
 
@@ -253,11 +253,11 @@ fn share_without<R: Abort + Wait>(rt: &R, memory: Memory, k: u64) -> Result<(), 
 // Memory for each of the two tables of a shared map cannot be allocated.
 #[test]
 fn the_tables_of_a_shared_map(rt: HostRuntime) -> Result<(), Fail> {
-    let memory = Metered::leaked(rt.alloc())?;
+    let memory = MeteredAlloc::leak(rt.alloc())?;
     for k in 0..2u64 {
         share_without(&rt, memory, k)?;
     }
-    same(&rt, memory.blocks(), 0);
+    assert_same(&rt, memory.live_blocks(), 0);
     Ok(())
 }
 
@@ -269,14 +269,14 @@ fn is_owned_again<A: Allocator + Copy, R: Wait>(rt: &R, map: Numbers<A>) -> bool
 // The owned map that a shared map becomes requests memory for its table and for a node of each pair.
 #[test]
 fn the_requests_of_an_owned_map_again(rt: HostRuntime) -> Result<(), Fail> {
-    let memory = Metered::leaked(rt.alloc())?;
+    let memory = MeteredAlloc::leak(rt.alloc())?;
     for k in 0..5u64 {
         let map = numbers(&rt, memory, 3)?;
         memory.refuse_at(k);
         let done = is_owned_again(&rt, map);
         memory.refuse_nothing();
-        same(&rt, (k, done), (k, k == 4));
-        same(&rt, memory.blocks(), 0);
+        assert_same(&rt, (k, done), (k, k == 4));
+        assert_same(&rt, memory.live_blocks(), 0);
     }
     Ok(())
 }
@@ -284,27 +284,27 @@ fn the_requests_of_an_owned_map_again(rt: HostRuntime) -> Result<(), Fail> {
 // Four threads insert into a map of sixteen pairs while this memory runs out.
 fn run_out<A: Allocator + Copy + Send + Sync, R: Abort + Threads + Wait + Sync>(
     rt: &R,
-    memory: &Metered<Global>,
+    memory: &MeteredAlloc<Global>,
     k: u64,
     map: &Numbers<A>,
 ) {
     memory.refuse_from(k);
     insert_in_threads(rt, map, 4, 1000, 1000);
     memory.refuse_nothing();
-    same(rt, (k, count_own(rt, map, 0, 16)), (k, 16));
+    assert_same(rt, (k, count_own(rt, map, 0, 16)), (k, 16));
     let there = count_own(rt, map, 0, 4000);
-    same(rt, (k, map.len(rt) as u64), (k, there));
+    assert_same(rt, (k, map.len(rt) as u64), (k, there));
 }
 
 // Four threads insert while memory runs out. The earlier pairs stay, and the count is that of the keys that are present.
 #[test]
 fn threads_without_memory(rt: HostRuntime) -> Result<(), Fail> {
-    let memory = Metered::leaked(rt.alloc())?;
+    let memory = MeteredAlloc::leak(rt.alloc())?;
     for k in [0u64, 100, 1000] {
         let map = numbers(&rt, memory, 16)?;
         run_out(&rt, memory, k, &map);
         drop(map);
-        same(&rt, memory.blocks(), 0);
+        assert_same(&rt, memory.live_blocks(), 0);
     }
     Ok(())
 }
@@ -325,14 +325,14 @@ fn becomes_owned<A: Allocator + Copy, R: Wait>(rt: &R, map: Numbers<A>) -> bool 
 // A map with room for a thousand pairs asks for no further table, nor does the owned one that it becomes.
 #[test]
 fn room_is_made_once(rt: HostRuntime) -> Result<(), Fail> {
-    let memory = Metered::leaked(rt.alloc())?;
+    let memory = MeteredAlloc::leak(rt.alloc())?;
     memory.refuse_nothing();
     let map = map_with_room(memory, 1000)?;
     fill(&rt, &map)?;
-    same(&rt, memory.asked(), 3002);
+    assert_same(&rt, memory.requests(), 3002);
     memory.refuse_nothing();
-    same(&rt, becomes_owned(&rt, map), true);
-    same(&rt, memory.asked(), 1001);
+    assert_same(&rt, becomes_owned(&rt, map), true);
+    assert_same(&rt, memory.requests(), 1001);
     Ok(())
 }
 
@@ -341,6 +341,6 @@ fn room_is_made_once(rt: HostRuntime) -> Result<(), Fail> {
 fn much_room(rt: HostRuntime) -> Result<(), Fail> {
     let map: HashMap<u64, u64> = HashMap::with_capacity(rt.alloc(), 5000)?;
     map.reserve(&rt, 40_000)?;
-    same(&rt, map.len(&rt), 0);
+    assert_same(&rt, map.len(&rt), 0);
     Ok(())
 }

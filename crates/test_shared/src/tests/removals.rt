@@ -84,9 +84,9 @@ fn has_none<K: Ord + Drop, S: KeyHasher<K>, A: Allocator + Copy, R: Abort + Wait
     keys: &[K],
 ) {
     for key in keys {
-        same(rt, map.contains_key(rt, key), false);
+        assert_same(rt, map.contains_key(rt, key), false);
     }
-    same(rt, map.is_empty(rt), true);
+    assert_same(rt, map.is_empty(rt), true);
 }
 
 // Inserts all keys. Two threads then remove each of them once, with its own number.
@@ -96,8 +96,8 @@ fn come_and_go<R: Abort + Threads + Wait + Sync>(
     keys: &[&'static str],
 ) -> Result<(), AllocError> {
     insert_all(rt, map, keys)?;
-    same(rt, map.len(rt), 64);
-    same(rt, remove_in_threads(rt, map, keys), (64, 0));
+    assert_same(rt, map.len(rt), 64);
+    assert_same(rt, remove_in_threads(rt, map, keys), (64, 0));
     has_none(rt, map, keys);
     Ok(())
 }

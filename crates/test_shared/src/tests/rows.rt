@@ -12,10 +12,10 @@ use std::test::Fail;
 type Words = HashMap<&'static str, u64>;
 
 fn takes_a_new_value<R: Abort + Wait>(rt: &R, map: &Words) -> Result<(), Fail> {
-    same(rt, taken(map.insert(rt, "foo", 0)?), None);
-    same(rt, taken(map.insert(rt, "foo", 1)?), Some(0));
-    same(rt, number_at(rt, map, &"foo")?, Some(1));
-    same(rt, map.len(rt), 1);
+    assert_same(rt, taken(map.insert(rt, "foo", 0)?), None);
+    assert_same(rt, taken(map.insert(rt, "foo", 1)?), Some(0));
+    assert_same(rt, number_at(rt, map, &"foo")?, Some(1));
+    assert_same(rt, map.len(rt), 1);
     Ok(())
 }
 
@@ -26,8 +26,8 @@ fn row_01(rt: HostRuntime) -> Result<(), Fail> {
 }
 
 fn has_no_key<R: Abort + Wait>(rt: &R, map: &Words) -> Result<(), Fail> {
-    same(rt, number_at(rt, map, &"foo")?, None);
-    same(rt, taken(map.remove(rt, &"foo")), None);
+    assert_same(rt, number_at(rt, map, &"foo")?, None);
+    assert_same(rt, taken(map.remove(rt, &"foo")), None);
     Ok(())
 }
 
@@ -43,21 +43,21 @@ fn insert_a_thousand<S: KeyHasher<i32>, R: Abort + Wait>(
     map: &HashMap<i32, i32, S>,
 ) -> Result<(), Fail> {
     for key in 0..1000i32 {
-        same(rt, (key, map.insert(rt, key, key)?.is_none()), (key, true));
+        assert_same(rt, (key, map.insert(rt, key, key)?.is_none()), (key, true));
     }
-    same(rt, map.len(rt), 1000);
+    assert_same(rt, map.len(rt), 1000);
     Ok(())
 }
 
 // Asserts that these keys are present, and no others.
 fn has_a_thousand<S: KeyHasher<i32>, R: Abort + Wait>(rt: &R, map: &HashMap<i32, i32, S>) {
     for key in 0..1000i32 {
-        same(rt, (key, map.contains_key(rt, &key)), (key, true));
+        assert_same(rt, (key, map.contains_key(rt, &key)), (key, true));
     }
-    same(rt, map.contains_key(rt, &-1), false);
-    same(rt, map.contains_key(rt, &1000), false);
-    same(rt, map.contains_key(rt, &i32::MIN), false);
-    same(rt, map.contains_key(rt, &i32::MAX), false);
+    assert_same(rt, map.contains_key(rt, &-1), false);
+    assert_same(rt, map.contains_key(rt, &1000), false);
+    assert_same(rt, map.contains_key(rt, &i32::MIN), false);
+    assert_same(rt, map.contains_key(rt, &i32::MAX), false);
 }
 
 fn row_08_with<S: KeyHasher<i32>, R: Abort + Wait>(
@@ -146,12 +146,12 @@ fn counts<R: Wait>(rt: &R, map: &HashMap<u64, u64>) -> Result<(u64, u64, u64), A
 }
 
 fn halves_and_fills<R: Abort + Wait>(rt: &R, map: &HashMap<u64, u64>) -> Result<(), Fail> {
-    same(rt, insert_all(rt, map)?, 50_000);
-    same(rt, insert_all(rt, map)?, 0);
-    same(rt, remove_half(rt, map), 25_000);
-    same(rt, insert_all(rt, map)?, 25_000);
-    same(rt, map.len(rt), 50_000);
-    same(rt, counts(rt, map)?, (50_000, 50_000, 50_000));
+    assert_same(rt, insert_all(rt, map)?, 50_000);
+    assert_same(rt, insert_all(rt, map)?, 0);
+    assert_same(rt, remove_half(rt, map), 25_000);
+    assert_same(rt, insert_all(rt, map)?, 25_000);
+    assert_same(rt, map.len(rt), 50_000);
+    assert_same(rt, counts(rt, map)?, (50_000, 50_000, 50_000));
     Ok(())
 }
 

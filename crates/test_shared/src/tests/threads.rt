@@ -45,8 +45,8 @@ fn eight_threads_insert_the_same_keys(rt: HostRuntime) -> Result<(), Fail> {
 
     insert_in_threads(&rt, &map, 8, 0, 1000);
 
-    same(&rt, map.len(&rt), 1000);
-    same(&rt, count_own(&rt, &map, 0, 1000), 1000);
+    assert_same(&rt, map.len(&rt), 1000);
+    assert_same(&rt, count_own(&rt, &map, 0, 1000), 1000);
     Ok(())
 }
 
@@ -56,8 +56,8 @@ fn four_threads_insert_keys_of_one_hash(rt: HostRuntime) -> Result<(), Fail> {
 
     insert_in_threads(&rt, &map, 4, 100, 100);
 
-    same(&rt, map.len(&rt), 400);
-    same(&rt, count_own(&rt, &map, 0, 400), 400);
+    assert_same(&rt, map.len(&rt), 400);
+    assert_same(&rt, count_own(&rt, &map, 0, 400), 400);
     Ok(())
 }
 
@@ -97,8 +97,8 @@ fn two_threads_read_each_other(rt: HostRuntime) -> Result<(), Fail> {
 
     let found = insert_and_read_in_threads(&rt, &map);
 
-    same(&rt, found, (64, 64));
-    same(&rt, map.len(&rt), 128);
+    assert_same(&rt, found, (64, 64));
+    assert_same(&rt, map.len(&rt), 128);
     Ok(())
 }
 
@@ -139,10 +139,10 @@ fn eight_threads_look_while_a_ninth_makes_room(rt: HostRuntime) -> Result<(), Fa
     let map = HashMap::with_hasher(rt.alloc(), LowHashBuilder);
     insert_all(&rt, &map, 0, 16);
 
-    same(&rt, look_while_it_grows(&rt, &map, 4096, 0), 0);
+    assert_same(&rt, look_while_it_grows(&rt, &map, 4096, 0), 0);
 
-    same(&rt, map.len(&rt), 16);
-    same(&rt, count_own(&rt, &map, 0, 16), 16);
+    assert_same(&rt, map.len(&rt), 16);
+    assert_same(&rt, count_own(&rt, &map, 0, 16), 16);
     Ok(())
 }
 
@@ -152,10 +152,10 @@ fn eight_threads_look_while_a_ninth_inserts(rt: HostRuntime) -> Result<(), Fail>
     let map = HashMap::new(rt.alloc()).with_processors(4);
     insert_all(&rt, &map, 0, 16);
 
-    same(&rt, look_while_it_grows(&rt, &map, 0, 5000), 0);
+    assert_same(&rt, look_while_it_grows(&rt, &map, 0, 5000), 0);
 
-    same(&rt, map.len(&rt), 5016);
-    same(&rt, count_own(&rt, &map, 0, 5016), 5016);
+    assert_same(&rt, map.len(&rt), 5016);
+    assert_same(&rt, count_own(&rt, &map, 0, 5016), 5016);
     Ok(())
 }
 
@@ -179,6 +179,6 @@ fn a_thread_owns_a_map(rt: HostRuntime) -> Result<(), Fail> {
     let map = HashMap::new(rt.alloc());
     insert_all(&rt, &map, 0, 100);
 
-    same(&rt, count_in_thread(&rt, map, 200), Some(100));
+    assert_same(&rt, count_in_thread(&rt, map, 200), Some(100));
     Ok(())
 }

@@ -1,7 +1,7 @@
 //! Calls over the locks of a shared map, from their first step to their last.
 
 use flurry_bins_slots::{ComputeFn, NoFn};
-use flurry_shared_locks::{CallLender, Lender, Locks};
+use flurry_shared_locks::{CallField, LockField, Locks};
 use flurry_steps::party::{Event, OwnedCall, Reply};
 use flurry_steps::{Party, act};
 use std::alloc::Allocator;
@@ -29,9 +29,9 @@ pub(super) fn reply_of<K: Ord + Drop, V: Drop, A: Allocator + Copy, F: ComputeFn
     requires { (f : F) → F.can_change f }
 {
     let mut party = Party::from_owned(call, hash, 4);
-    let mut lender = CallLender::new(&Lender::new(rt, locks));
+    let mut lock_field = CallField::new(&LockField::new(rt, locks));
     for _ in rt.forever() {
-        if act(&mut party, &mut lender).is_some() {
+        if act(&mut party, &mut lock_field).is_some() {
             continue;
         }
         if let Some(reply) = party.take_reply() {
@@ -52,8 +52,8 @@ pub(super) fn first_step<K: Ord + Drop, V: Drop, A: Allocator + Copy, F: Compute
     requires { (f : F) → F.can_change f }
 {
     let mut party = Party::from_owned(call, hash, 4);
-    let mut lender = CallLender::new(&Lender::new(rt, locks));
-    act(&mut party, &mut lender)
+    let mut lock_field = CallField::new(&LockField::new(rt, locks));
+    act(&mut party, &mut lock_field)
 }
 
 // Inserts the pairs of the numbers from `from` to `to`, each with its number as its hash.

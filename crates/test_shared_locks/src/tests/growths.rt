@@ -3,7 +3,7 @@
 use super::calls::{count_found, put_all};
 use super::{newest_of, same};
 use flurry_bins_slots::{ComputeFn, NoFn};
-use flurry_shared_locks::{CallLender, Lender, Locks};
+use flurry_shared_locks::{CallField, LockField, Locks};
 use flurry_steps::party::{Event, OwnedCall};
 use flurry_steps::{Party, act};
 use std::alloc::Allocator;
@@ -66,10 +66,10 @@ fn do_steps<K: Ord + Drop, V: Drop, A: Allocator + Copy, F: ComputeFn<K, V>, R: 
     requires { (f : F) → F.can_change f }
 {
     let mut party = Party::from_owned(call, hash, 4);
-    let mut lender = CallLender::new(&Lender::new(rt, locks));
+    let mut lock_field = CallField::new(&LockField::new(rt, locks));
     let mut last = None;
     for _ in 0..most {
-        let Some(event) = act(&mut party, &mut lender) else {
+        let Some(event) = act(&mut party, &mut lock_field) else {
             break;
         };
         work.note(event);
@@ -136,11 +136,11 @@ fn each_bin_is_moved_once<A: Allocator + Copy + Send + Sync, R: Abort + Threads 
     let work = Work::new();
     let inserted = AtomicU64::new(0);
     grow_in_threads(rt, locks, threads.saturating_sub(1), &work, &inserted);
-    same(rt, work.moved.load(Ordering::SeqCst), 1 << TABLE);
-    same(rt, work.published.load(Ordering::SeqCst), 1);
-    same(rt, newest_of(rt, locks), Some(TABLE + 1));
-    let pairs = Lender::new(rt, locks).len() as u64;
-    same(rt, pairs, inserted.load(Ordering::SeqCst));
+    assert_same(rt, work.moved.load(Ordering::SeqCst), 1 << TABLE);
+    assert_same(rt, work.published.load(Ordering::SeqCst), 1);
+    assert_same(rt, newest_of(rt, locks), Some(TABLE + 1));
+    let pairs = LockField::new(rt, locks).len() as u64;
+    assert_same(rt, pairs, inserted.load(Ordering::SeqCst));
 }
 
 #[test]
@@ -198,7 +198,7 @@ fn goes_on_without_a_helper<A: Allocator + Copy + Send + Sync, R: Abort + Thread
     locks: &Locks<u64, u64, A>,
 ) {
     put_all(rt, locks, 0, 20);
-    same(
+    assert_same(
         rt,
         stop_in_a_thread(rt, locks, 40),
         Some(Event::Moved(6, 63)),
@@ -206,10 +206,10 @@ fn goes_on_without_a_helper<A: Allocator + Copy + Send + Sync, R: Abort + Thread
     put_all(rt, locks, 20, 200);
     let work = Work::new();
     do_call(rt, locks, 0, OwnedCall::Reserve(1000), &work);
-    same(rt, newest_of(rt, locks), Some(6));
-    same(rt, work.published.load(Ordering::SeqCst), 0);
-    same(rt, count_found(rt, locks, 0, 200), 200);
-    same(rt, Lender::new(rt, locks).len(), 200);
+    assert_same(rt, newest_of(rt, locks), Some(6));
+    assert_same(rt, work.published.load(Ordering::SeqCst), 0);
+    assert_same(rt, count_found(rt, locks, 0, 200), 200);
+    assert_same(rt, LockField::new(rt, locks).len(), 200);
 }
 
 #[test]
@@ -237,7 +237,7 @@ fn twenty_calls_have_a_seat<A: Allocator + Copy, R: Abort + Wait>(
     rt: &R,
     locks: &Locks<u64, u64, A>,
 ) {
-    same(
+    assert_same(
         rt,
         stop_in_a_growth(rt, locks, 40),
         Some(Event::Moved(6, 63)),
@@ -245,9 +245,9 @@ fn twenty_calls_have_a_seat<A: Allocator + Copy, R: Abort + Wait>(
     let _moves_the_rest = steps_of(rt, locks, 63, OwnedCall::Insert(0, 0));
     for number in 1..20u64 {
         let stopped = stop(rt, locks, 63, OwnedCall::Insert(number, 0), 3);
-        same(rt, stopped, Some(Event::Silent));
+        assert_same(rt, stopped, Some(Event::Silent));
         let steps = steps_of(rt, locks, 63, OwnedCall::Insert(number, 0));
-        same(rt, steps, 7);
+        assert_same(rt, steps, 7);
     }
 }
 
@@ -260,9 +260,9 @@ fn seats_come_back(rt: HostRuntime) -> Result<(), Fail> {
 
 // Returns whether calls count at the control, once it was locked.
 fn is_growth_due<A: Allocator + Copy, R: Wait>(rt: &R, locks: &Locks<u64, u64, A>) -> bool {
-    let lender = Lender::new(rt, locks);
-    let _pairs = lender.len();
-    lender.tally(0).is_none()
+    let lock_field = LockField::new(rt, locks);
+    let _pairs = lock_field.len();
+    lock_field.tally(0).is_none()
 }
 
 // Calls count at the control while a growth of 1,024 bins is to be helped, and at tallies again once one has found nothing to claim.
@@ -270,16 +270,16 @@ fn is_due_until_nothing_is_left<A: Allocator + Copy, R: Abort + Wait>(
     rt: &R,
     locks: &Locks<u64, u64, A>,
 ) {
-    same(rt, is_growth_due(rt, locks), false);
-    same(
+    assert_same(rt, is_growth_due(rt, locks), false);
+    assert_same(
         rt,
         stop_in_a_growth(rt, locks, 600),
         Some(Event::Moved(10, 1023)),
     );
-    same(rt, is_growth_due(rt, locks), true);
+    assert_same(rt, is_growth_due(rt, locks), true);
     let _moves_the_rest = steps_of(rt, locks, 1023, OwnedCall::Insert(0, 0));
-    same(rt, is_growth_due(rt, locks), false);
-    same(rt, newest_of(rt, locks), Some(10));
+    assert_same(rt, is_growth_due(rt, locks), false);
+    assert_same(rt, newest_of(rt, locks), Some(10));
 }
 
 #[test]

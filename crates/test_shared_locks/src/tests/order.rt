@@ -2,7 +2,7 @@
 
 use super::calls::reply_of;
 use flurry_bins_slots::{ComputeFn, NoFn};
-use flurry_shared_locks::{Lender, Locks};
+use flurry_shared_locks::{LockField, Locks};
 use flurry_steps::party::OwnedCall;
 use std::alloc::Allocator;
 use std::sync::Wait;
@@ -74,7 +74,7 @@ fn count<A: Allocator + Copy, R: Wait>(rt: &R, locks: &Locks<u64, u64, A>, flags
     for _ in 0..1_000u32 {
         thread::yield_now();
     }
-    let _ = Lender::new(rt, locks).len();
+    let _ = LockField::new(rt, locks).len();
     flags.has_counted.store(true, Ordering::SeqCst);
 }
 

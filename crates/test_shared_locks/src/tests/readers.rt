@@ -6,7 +6,7 @@ ghost use Rattle.std.specs.Ordering.{nat_cmp, on, as_partial_cmp};
 
 use super::calls::reply_of;
 use flurry_bins_slots::NoFn;
-use flurry_shared_locks::{Lender, Locks};
+use flurry_shared_locks::{LockField, Locks};
 use flurry_shared_replies::reply_to;
 use flurry_steps::party::{Call, OwnedCall, Reply};
 use std::alloc::{Allocator, Global};
@@ -118,7 +118,7 @@ fn finds<K: Ord + Copy + Drop, A: Allocator + Copy, R: Wait>(
     let reply = match way {
         Way::AtOnce => {
             let call: Call<'_, K, u64, NoFn, A> = Call::ContainsKey(key);
-            reply_to(&Lender::new(rt, locks), call, HASH, 1)
+            reply_to(&LockField::new(rt, locks), call, HASH, 1)
         }
         Way::Driven => {
             let call: OwnedCall<K, u64, NoFn> = OwnedCall::ContainsKey(*key);

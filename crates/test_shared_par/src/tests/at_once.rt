@@ -74,7 +74,7 @@ fn pieces_at_once(rt: HostRuntime) -> Result<(), Fail> {
 
     map::par_extend(&map, &rt, list, 1)?;
 
-    same(&rt, crowd.has_met(), true);
+    assert_same(&rt, crowd.has_met(), true);
     has_sums(&rt, &map, (2, 1, 12))
 }
 
@@ -88,7 +88,7 @@ fn three_pieces_at_once(rt: HostRuntime) -> Result<(), Fail> {
 
     map::par_extend(&map, &rt, list, 1)?;
 
-    same(&rt, crowd.has_met(), true);
+    assert_same(&rt, crowd.has_met(), true);
     has_sums(&rt, &map, (3, 3, 21))
 }
 
@@ -101,7 +101,7 @@ fn elements_at_once(rt: HostRuntime) -> Result<(), Fail> {
 
     set::par_extend(&set, &rt, list, 1)?;
 
-    same(&rt, crowd.has_met(), true);
-    same(&rt, set.len(&rt), 2);
+    assert_same(&rt, crowd.has_met(), true);
+    assert_same(&rt, set.len(&rt), 2);
     Ok(())
 }

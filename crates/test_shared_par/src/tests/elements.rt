@@ -11,10 +11,10 @@ use std::thread::Threads;
 
 // Asserts that a set has the hundred pairs as elements, and no others.
 fn has_a_hundred<S: KeyHasher<(u64, u64)>, R: Abort + Wait>(rt: &R, set: &HashSet<(u64, u64), S>) {
-    same(rt, set.len(rt), 100);
-    same(rt, set.contains(rt, &(100, 0)), true);
-    same(rt, set.contains(rt, &(199, 990)), true);
-    same(rt, set.contains(rt, &(100, 10)), false);
+    assert_same(rt, set.len(rt), 100);
+    assert_same(rt, set.contains(rt, &(100, 0)), true);
+    assert_same(rt, set.contains(rt, &(199, 990)), true);
+    assert_same(rt, set.contains(rt, &(100, 10)), false);
 }
 
 // Extends a set by no elements, by a hundred, and by half of these again.
@@ -23,7 +23,7 @@ fn extends<R: Abort + AllocGlobal + Threads + Wait + Sync>(
     set: &HashSet<(u64, u64)>,
 ) -> Result<(), Fail> {
     set::par_extend(set, rt, Vec::new(rt.alloc()), 7)?;
-    same(rt, set.is_empty(rt), true);
+    assert_same(rt, set.is_empty(rt), true);
     set::par_extend(set, rt, pairs_from_100(rt.alloc(), 100)?, 7)?;
     has_a_hundred(rt, set);
     set::par_extend(set, rt, pairs_from_100(rt.alloc(), 50)?, 1)?;
@@ -42,7 +42,7 @@ fn extends_by_a_view<R: Abort + AllocGlobal + Threads + Wait + Sync>(
     set: &HashSet<(u64, u64)>,
 ) -> Result<(), Fail> {
     set_ref::par_extend(&set.pin(rt), Vec::new(rt.alloc()), 7)?;
-    same(rt, set.is_empty(rt), true);
+    assert_same(rt, set.is_empty(rt), true);
     set_ref::par_extend(&set.pin(rt), pairs_from_100(rt.alloc(), 100)?, 7)?;
     has_a_hundred(rt, set);
     set_ref::par_extend(&set.pin(rt), pairs_from_100(rt.alloc(), 50)?, 1)?;

@@ -12,7 +12,7 @@ use std::thread::Threads;
 // Asserts that a map has a hundred pairs besides the two earlier ones.
 fn has_a_hundred_more<R: Abort + Wait>(rt: &R, map: &HashMap<u64, u64>) -> Result<(), Fail> {
     has_sums(rt, map, (102, 14_954, 49_506))?;
-    same(rt, values_at(rt, map, 100, 199)?, (Some(0), Some(990)));
+    assert_same(rt, values_at(rt, map, 100, 199)?, (Some(0), Some(990)));
     Ok(())
 }
 
@@ -79,10 +79,10 @@ fn has_one_of_two<R: Abort + AllocGlobal + Threads + Wait + Sync>(
 ) -> Result<(), Fail> {
     let list = Vec::from_array(rt.alloc(), [(1u64, 10u64), (2, 20), (1, 30)])?;
     map::par_extend(map, rt, list, part)?;
-    same(rt, map.len(rt), 2);
+    assert_same(rt, map.len(rt), 2);
     let (value, other) = values_at(rt, map, 1, 2)?;
-    same(rt, other, Some(20));
-    same(rt, value == Some(10) || value == Some(30), true);
+    assert_same(rt, other, Some(20));
+    assert_same(rt, value == Some(10) || value == Some(30), true);
     Ok(())
 }
 
@@ -99,6 +99,6 @@ fn a_doubled_key(rt: HostRuntime) -> Result<(), Fail> {
 fn a_thousand_pieces(rt: HostRuntime) -> Result<(), Fail> {
     let map = HashMap::with_hasher(rt.alloc(), LowHashBuilder);
     map::par_extend(&map, &rt, pairs_from_100(rt.alloc(), 1000)?, 1)?;
-    same(&rt, map.len(&rt), 1000);
+    assert_same(&rt, map.len(&rt), 1000);
     Ok(())
 }

@@ -5,13 +5,13 @@ use flurry_base::hash::LowHashBuilder;
 use flurry_shared::HashMap;
 use flurry_shared_par::{map, set, set_ref};
 use flurry_shared_set::HashSet;
-use metered_alloc::Metered;
+use metered_alloc::MeteredAlloc;
 use std::alloc::{AllocError, Allocator, Global};
 use std::sync::Wait;
 use std::test::Fail;
 use std::thread::Threads;
 
-type Memory = &'static Metered<Global>;
+type Memory = &'static MeteredAlloc<Global>;
 
 // A map of numbers. Its allocator is a parameter, because a proof over `Memory` would have to unfold it in each step.
 type Numbers<A> = HashMap<u64, u64, LowHashBuilder, A>;
@@ -26,14 +26,14 @@ fn is_whole<A: Allocator + Copy, R: Wait>(rt: &R, map: &Numbers<A>) -> Result<bo
 // call succeeded, whether the map is whole, and the number of its pairs.
 fn refuse_in<A: Allocator + Copy + Send + Sync, R: Threads + Wait + Sync>(
     rt: &R,
-    memory: &Metered<Global>,
+    memory: &MeteredAlloc<Global>,
     k: u64,
     map: &Numbers<A>,
     list: Vec<(u64, u64), A>,
 ) -> Result<(bool, bool, bool, usize), AllocError> {
     memory.refuse_at(k);
     let done = map::par_extend(map, rt, list, 2).is_ok();
-    let refused = memory.refused();
+    let refused = memory.was_refused();
     memory.refuse_nothing();
     Ok((refused, done, is_whole(rt, map)?, map.len(rt)))
 }
@@ -53,16 +53,16 @@ fn extend_without<R: Threads + Wait + Sync>(
 // There is a request for each of three pieces, and three for each pair. If one of them fails, the call fails, and the earlier pairs stay.
 #[test]
 fn each_request(rt: HostRuntime) -> Result<(), Fail> {
-    let memory = Metered::leaked(rt.alloc())?;
+    let memory = MeteredAlloc::leak(rt.alloc())?;
     for k in 0..21u64 {
         let (refused, done, whole, len) = extend_without(&rt, memory, k)?;
-        same(&rt, (k, refused, done, whole), (k, true, false, true));
-        same(&rt, len < 8, true);
-        same(&rt, memory.blocks(), 0);
+        assert_same(&rt, (k, refused, done, whole), (k, true, false, true));
+        assert_same(&rt, len < 8, true);
+        assert_same(&rt, memory.live_blocks(), 0);
     }
     let seen = extend_without(&rt, memory, 21)?;
-    same(&rt, seen, (false, true, true, 8));
-    same(&rt, memory.blocks(), 0);
+    assert_same(&rt, seen, (false, true, true, 8));
+    assert_same(&rt, memory.live_blocks(), 0);
     Ok(())
 }
 
@@ -70,7 +70,7 @@ fn each_request(rt: HostRuntime) -> Result<(), Fail> {
 // request was made, whether the call succeeded, and the number of elements.
 fn refuse_in_set<A: Allocator + Copy + Send + Sync, R: Threads + Wait + Sync>(
     rt: &R,
-    memory: &Metered<Global>,
+    memory: &MeteredAlloc<Global>,
     k: u64,
     set: &HashSet<u64, LowHashBuilder, A>,
     list: Vec<u64, A>,
@@ -82,7 +82,7 @@ fn refuse_in_set<A: Allocator + Copy + Send + Sync, R: Threads + Wait + Sync>(
     } else {
         set::par_extend(set, rt, list, 2).is_ok()
     };
-    let refused = memory.refused();
+    let refused = memory.was_refused();
     memory.refuse_nothing();
     (refused, done, set.len(rt))
 }
@@ -105,15 +105,15 @@ fn extend_set_without<R: Threads + Wait + Sync>(
 // The same requests as of a map, of a set and of its view.
 #[test]
 fn each_request_of_a_set(rt: HostRuntime) -> Result<(), Fail> {
-    let memory = Metered::leaked(rt.alloc())?;
+    let memory = MeteredAlloc::leak(rt.alloc())?;
     for by_view in [false, true] {
         for k in 0..21u64 {
             let (refused, done, len) = extend_set_without(&rt, memory, k, by_view)?;
-            same(&rt, (k, refused, done, len < 6), (k, true, false, true));
-            same(&rt, memory.blocks(), 0);
+            assert_same(&rt, (k, refused, done, len < 6), (k, true, false, true));
+            assert_same(&rt, memory.live_blocks(), 0);
         }
         let seen = extend_set_without(&rt, memory, 21, by_view)?;
-        same(&rt, seen, (false, true, 6));
+        assert_same(&rt, seen, (false, true, 6));
     }
     Ok(())
 }
@@ -122,7 +122,7 @@ fn each_request_of_a_set(rt: HostRuntime) -> Result<(), Fail> {
 // whether the map is whole.
 fn refuse_from<A: Allocator + Copy + Send + Sync, R: Threads + Wait + Sync>(
     rt: &R,
-    memory: &Metered<Global>,
+    memory: &MeteredAlloc<Global>,
     k: u64,
     map: &Numbers<A>,
     list: Vec<(u64, u64), A>,
@@ -148,10 +148,10 @@ fn run_out<R: Threads + Wait + Sync>(
 // Four threads insert a thousand pairs while memory runs out: the call fails, and the earlier pairs stay.
 #[test]
 fn memory_that_runs_out(rt: HostRuntime) -> Result<(), Fail> {
-    let memory = Metered::leaked(rt.alloc())?;
+    let memory = MeteredAlloc::leak(rt.alloc())?;
     for k in [0u64, 100, 1000] {
-        same(&rt, (k, run_out(&rt, memory, k)?), (k, (true, true)));
-        same(&rt, (k, memory.blocks()), (k, 0));
+        assert_same(&rt, (k, run_out(&rt, memory, k)?), (k, (true, true)));
+        assert_same(&rt, (k, memory.live_blocks()), (k, 0));
     }
     Ok(())
 }

@@ -39,9 +39,9 @@ fn is_empty_at_first<S: KeyHasher<u64>, A: Allocator + Copy, R: Abort + Wait>(
     rt: &R,
     set: &HashSet<u64, S, A>,
 ) -> Result<(), AllocError> {
-    same(rt, set.is_empty(rt), true);
-    same(rt, set.insert(rt, 1)?, true);
-    same(rt, set.is_empty(rt), false);
+    assert_same(rt, set.is_empty(rt), true);
+    assert_same(rt, set.insert(rt, 1)?, true);
+    assert_same(rt, set.is_empty(rt), false);
     Ok(())
 }
 
@@ -125,7 +125,7 @@ fn equal_elements_of_a_list(rt: HostRuntime) -> Result<(), Fail> {
         Tagged { id: 2, tag: 50 },
     ];
     set.extend(&rt, Vec::from_array(rt.alloc(), more)?)?;
-    same(&rt, tag_of(&rt, &set, 1)?, Some(10));
-    same(&rt, tag_of(&rt, &set, 2)?, Some(40));
+    assert_same(&rt, tag_of(&rt, &set, 1)?, Some(10));
+    assert_same(&rt, tag_of(&rt, &set, 2)?, Some(40));
     Ok(())
 }

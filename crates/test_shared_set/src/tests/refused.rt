@@ -3,13 +3,13 @@
 use super::{list, read_all, same, set_of};
 use flurry_base::hash::{DefaultHashBuilder, LowHashBuilder};
 use flurry_shared_set::HashSet;
-use metered_alloc::Metered;
+use metered_alloc::MeteredAlloc;
 use std::alloc::{AllocError, Allocator, Global};
 use std::process::Abort;
 use std::sync::Wait;
 use std::test::Fail;
 
-type Memory = &'static Metered<Global>;
+type Memory = &'static MeteredAlloc<Global>;
 
 // A set of numbers. Its allocator is a parameter, because a proof over `Memory` would have to unfold it in each step.
 type Numbers<A> = HashSet<u64, LowHashBuilder, A>;
@@ -60,7 +60,7 @@ fn are_related<A: Allocator + Copy, R: Wait>(rt: &R, set: &Numbers<A>) -> bool {
 // the call succeeded, and the number of elements afterwards.
 fn refuse_in<A: Allocator + Copy, R: Wait>(
     rt: &R,
-    memory: &Metered<Global>,
+    memory: &MeteredAlloc<Global>,
     k: u64,
     set: &Numbers<A>,
     list: Vec<u64, A>,
@@ -68,7 +68,7 @@ fn refuse_in<A: Allocator + Copy, R: Wait>(
 ) -> Result<(bool, bool, u64), AllocError> {
     memory.refuse_at(k);
     let done = is_done(rt, set, list, call);
-    let refused = memory.refused();
+    let refused = memory.was_refused();
     memory.refuse_nothing();
     Ok((refused, done, read_all(set.iter(rt))?.0))
 }
@@ -96,22 +96,22 @@ fn refuse_each<R: Abort + Wait>(
 ) -> Result<(), Fail> {
     for k in 0..requests {
         let seen = call_without(rt, memory, call, k)?;
-        same(rt, (call, k, seen), (call, k, (true, false, 2)));
-        same(rt, memory.blocks(), 0);
+        assert_same(rt, (call, k, seen), (call, k, (true, false, 2)));
+        assert_same(rt, memory.live_blocks(), 0);
     }
     let seen = call_without(rt, memory, call, requests)?;
-    same(
+    assert_same(
         rt,
         (call, requests, seen),
         (call, requests, (false, true, left)),
     );
-    same(rt, memory.blocks(), 0);
+    assert_same(rt, memory.live_blocks(), 0);
     Ok(())
 }
 
 #[test]
 fn calls_without_a_request(rt: HostRuntime) -> Result<(), Fail> {
-    let memory = Metered::leaked(rt.alloc())?;
+    let memory = MeteredAlloc::leak(rt.alloc())?;
     refuse_each(&rt, memory, Call::Get, 0, 2)?;
     refuse_each(&rt, memory, Call::Retain, 0, 1)?;
     refuse_each(&rt, memory, Call::Relations, 0, 2)
@@ -119,7 +119,7 @@ fn calls_without_a_request(rt: HostRuntime) -> Result<(), Fail> {
 
 #[test]
 fn calls_with_requests(rt: HostRuntime) -> Result<(), Fail> {
-    let memory = Metered::leaked(rt.alloc())?;
+    let memory = MeteredAlloc::leak(rt.alloc())?;
     refuse_each(&rt, memory, Call::Insert, 3, 3)?;
     refuse_each(&rt, memory, Call::Reserve, 35, 2)?;
     refuse_each(&rt, memory, Call::FromList, 8, 2)?;
@@ -129,13 +129,13 @@ fn calls_with_requests(rt: HostRuntime) -> Result<(), Fail> {
 // An extension keeps the elements that it inserted before the request that failed.
 #[test]
 fn an_extension(rt: HostRuntime) -> Result<(), Fail> {
-    let memory = Metered::leaked(rt.alloc())?;
+    let memory = MeteredAlloc::leak(rt.alloc())?;
     for k in 0..6u64 {
         let seen = call_without(&rt, memory, Call::Extend, k)?;
-        same(&rt, (k, seen), (k, (true, false, 2 + k / 3)));
-        same(&rt, memory.blocks(), 0);
+        assert_same(&rt, (k, seen), (k, (true, false, 2 + k / 3)));
+        assert_same(&rt, memory.live_blocks(), 0);
     }
-    same(
+    assert_same(
         &rt,
         call_without(&rt, memory, Call::Extend, 6)?,
         (false, true, 4),
@@ -160,12 +160,12 @@ fn set_with_room_by_default<A: Allocator + Copy>(
 
 #[test]
 fn a_set_with_room(rt: HostRuntime) -> Result<(), Fail> {
-    let memory = Metered::leaked(rt.alloc())?;
+    let memory = MeteredAlloc::leak(rt.alloc())?;
     for k in 0..3u64 {
         memory.refuse_at(k);
-        same(&rt, (k, set_with_room(memory, 5).is_ok()), (k, k == 2));
+        assert_same(&rt, (k, set_with_room(memory, 5).is_ok()), (k, k == 2));
         memory.refuse_nothing();
-        same(&rt, memory.blocks(), 0);
+        assert_same(&rt, memory.live_blocks(), 0);
     }
     Ok(())
 }
@@ -173,16 +173,16 @@ fn a_set_with_room(rt: HostRuntime) -> Result<(), Fail> {
 // A set with room and the default hasher, which takes no memory.
 #[test]
 fn a_set_with_room_by_default(rt: HostRuntime) -> Result<(), Fail> {
-    let memory = Metered::leaked(rt.alloc())?;
+    let memory = MeteredAlloc::leak(rt.alloc())?;
     for k in 0..3u64 {
         memory.refuse_at(k);
-        same(
+        assert_same(
             &rt,
             (k, set_with_room_by_default(memory).is_ok()),
             (k, k == 2),
         );
         memory.refuse_nothing();
-        same(&rt, memory.blocks(), 0);
+        assert_same(&rt, memory.live_blocks(), 0);
     }
     Ok(())
 }
@@ -190,27 +190,27 @@ fn a_set_with_room_by_default(rt: HostRuntime) -> Result<(), Fail> {
 // Inserts a hundred numbers one after another, and returns how many requests that makes.
 fn requests_of_insertions<A: Allocator + Copy, R: Wait>(
     rt: &R,
-    memory: &Metered<Global>,
+    memory: &MeteredAlloc<Global>,
     set: &Numbers<A>,
 ) -> Result<u64, AllocError> {
     memory.refuse_nothing();
     for number in 0..100u64 {
         set.insert(rt, number)?;
     }
-    Ok(memory.asked())
+    Ok(memory.requests())
 }
 
 // Makes the call, of a set or of a list in this memory. Returns whether it succeeded, and how many requests it made.
 fn asked_in<A: Allocator + Copy, R: Wait>(
     rt: &R,
-    memory: &Metered<Global>,
+    memory: &MeteredAlloc<Global>,
     set: &Numbers<A>,
     list: Vec<u64, A>,
     call: Call,
 ) -> (bool, u64) {
     memory.refuse_nothing();
     let done = is_done(rt, set, list, call);
-    (done, memory.asked())
+    (done, memory.requests())
 }
 
 // Does the same as `asked_in`, with an empty set and a list of a hundred numbers.
@@ -223,10 +223,10 @@ fn asked_by<R: Wait>(rt: &R, memory: Memory, call: Call) -> Result<(bool, u64), 
 // A set with room makes no further table: a hundred elements ask for three blocks each.
 #[test]
 fn room_is_made_first(rt: HostRuntime) -> Result<(), Fail> {
-    let memory = Metered::leaked(rt.alloc())?;
+    let memory = MeteredAlloc::leak(rt.alloc())?;
     let asked = requests_of_insertions(&rt, memory, &set_with_room(memory, 100)?)?;
-    same(&rt, asked, 300);
-    same(&rt, asked_by(&rt, memory, Call::FromList)?, (true, 302));
-    same(&rt, asked_by(&rt, memory, Call::Extend)?, (true, 309));
+    assert_same(&rt, asked, 300);
+    assert_same(&rt, asked_by(&rt, memory, Call::FromList)?, (true, 302));
+    assert_same(&rt, asked_by(&rt, memory, Call::Extend)?, (true, 309));
     Ok(())
 }

@@ -77,8 +77,8 @@ fn stand_so<A: Allocator + Copy, R: Abort + Wait>(
     right: &HashSet<u64, LowHashBuilder, A>,
     wanted: Relations,
 ) -> Result<(), AllocError> {
-    same(rt, of_sets(rt, left, right)?, wanted);
-    same(rt, of_views(&left.pin(rt), &right.pin(rt))?, wanted);
+    assert_same(rt, of_sets(rt, left, right)?, wanted);
+    assert_same(rt, of_views(&left.pin(rt), &right.pin(rt))?, wanted);
     Ok(())
 }
 
@@ -100,8 +100,8 @@ fn leaves_two<A: Allocator + Copy, R: Abort + Wait>(
     rt: &R,
     set: &HashSet<u64, LowHashBuilder, A>,
 ) -> Result<(), Fail> {
-    same(rt, set.insert(rt, 1)?, false);
-    same(rt, set.take(rt, &1).map(|element| *element), Some(1));
+    assert_same(rt, set.insert(rt, 1)?, false);
+    assert_same(rt, set.take(rt, &1).map(|element| *element), Some(1));
     has_sums(rt, set, (1, 2))
 }
 

@@ -13,13 +13,13 @@ fn puts_by_another<A: Allocator + Copy, R: Abort + Wait>(
     rt: &R,
     view: &HashSetRef<'_, R, u64, LowHashBuilder, A>,
 ) -> Result<(), Fail> {
-    let other = view.again();
-    same(rt, view.insert(2)?, false);
-    same(rt, other.insert(3)?, true);
-    same(rt, view.len(), 3);
-    same(rt, view.is_empty(), false);
-    same(rt, view.contains(&3), true);
-    same(rt, view.get(&4)?.is_none(), true);
+    let other = view.reborrow();
+    assert_same(rt, view.insert(2)?, false);
+    assert_same(rt, other.insert(3)?, true);
+    assert_same(rt, view.len(), 3);
+    assert_same(rt, view.is_empty(), false);
+    assert_same(rt, view.contains(&3), true);
+    assert_same(rt, view.get(&4)?.is_none(), true);
     Ok(())
 }
 
@@ -30,7 +30,7 @@ fn keeps_two<A: Allocator + Copy, R: Abort + Wait>(
 ) -> Result<(), Fail> {
     view.reserve(100)?;
     view.retain(|element| *element != 1)?;
-    same(rt, read_all(view.iter())?, (2, 5));
+    assert_same(rt, read_all(view.iter())?, (2, 5));
     Ok(())
 }
 
@@ -39,9 +39,9 @@ fn takes_out<A: Allocator + Copy, R: Abort + Wait>(
     rt: &R,
     view: &HashSetRef<'_, R, u64, LowHashBuilder, A>,
 ) {
-    same(rt, view.remove(&2), true);
-    same(rt, view.take(&2).is_none(), true);
-    same(rt, view.take(&3).map(|element| *element), Some(3));
+    assert_same(rt, view.remove(&2), true);
+    assert_same(rt, view.take(&2).is_none(), true);
+    assert_same(rt, view.take(&3).map(|element| *element), Some(3));
     view.clear();
 }
 
@@ -69,7 +69,7 @@ fn calls_of_a_view(rt: HostRuntime) -> Result<(), Fail> {
 fn a_set_of_one_element(rt: HostRuntime) -> Result<(), Fail> {
     let set = set_of(&rt, rt.alloc(), &[7])?;
     let view = set.pin(&rt);
-    same(&rt, (set.is_empty(&rt), view.is_empty()), (false, false));
-    same(&rt, (set.len(&rt), view.len()), (1, 1));
+    assert_same(&rt, (set.is_empty(&rt), view.is_empty()), (false, false));
+    assert_same(&rt, (set.len(&rt), view.len()), (1, 1));
     Ok(())
 }

@@ -151,10 +151,10 @@ fn walks_beside_insertions(rt: HostRuntime) -> Result<(), Fail> {
         Work::Walk(2),
     ];
 
-    same(&rt, work_in_threads(&rt, &map, &works), 0);
+    assert_same(&rt, work_in_threads(&rt, &map, &works), 0);
 
-    same(&rt, map.len(&rt), 21_000);
-    same(&rt, walk_once(&rt, &map), 0);
+    assert_same(&rt, map.len(&rt), 21_000);
+    assert_same(&rt, walk_once(&rt, &map), 0);
     Ok(())
 }
 
@@ -181,9 +181,9 @@ fn writers_removers_and_readers_of_one_bin(rt: HostRuntime) -> Result<(), Fail> 
         Work::Look(0, 1000),
     ];
 
-    same(&rt, work_in_threads(&rt, &map, &works), 0);
+    assert_same(&rt, work_in_threads(&rt, &map, &works), 0);
 
-    same(&rt, read_all(map.iter(&rt))?.0, map.len(&rt) as u64);
+    assert_same(&rt, read_all(map.iter(&rt))?.0, map.len(&rt) as u64);
     Ok(())
 }
 
@@ -198,11 +198,11 @@ fn a_retain_beside_insertions(rt: HostRuntime) -> Result<(), Fail> {
         Work::Insert(3000, 5000),
     ];
 
-    same(&rt, work_in_threads(&rt, &map, &works), 0);
+    assert_same(&rt, work_in_threads(&rt, &map, &works), 0);
 
-    same(&rt, walk_once(&rt, &map), 500);
+    assert_same(&rt, walk_once(&rt, &map), 500);
     map.retain(&rt, |key, _| *key % 2 == 0)?;
-    same(&rt, map.len(&rt), 2500);
-    same(&rt, read_all(map.iter(&rt))?, (2500, 6_247_500, 6_247_500));
+    assert_same(&rt, map.len(&rt), 2500);
+    assert_same(&rt, read_all(map.iter(&rt))?, (2500, 6_247_500, 6_247_500));
     Ok(())
 }

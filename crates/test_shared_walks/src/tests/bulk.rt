@@ -56,7 +56,7 @@ fn lists(rt: HostRuntime) -> Result<(), Fail> {
 #[test]
 fn an_empty_list(rt: HostRuntime) -> Result<(), Fail> {
     let map = HashMap::from_list(&rt, list(rt.alloc(), 0, 0, 0)?, LowHashBuilder)?;
-    same(&rt, sums_of_later_pairs(&rt, &map)?, (0, 0, 0));
+    assert_same(&rt, sums_of_later_pairs(&rt, &map)?, (0, 0, 0));
     has_sums(&rt, &map, (10, 45, 45))
 }
 
@@ -104,11 +104,11 @@ fn equals_its_like<R: Abort + Wait + AllocGlobal>(
     map: &HashMap<u64, u64>,
     other: &HashMap<u64, u64>,
 ) -> Result<(), Fail> {
-    same(rt, map.equals(rt, other)?, true);
-    same(rt, map.equals(rt, map)?, true);
-    same(rt, equals_further(rt, map, 19, 0)?, false);
-    same(rt, equals_further(rt, map, 21, 0)?, false);
-    same(rt, equals_further(rt, map, 20, 1)?, false);
+    assert_same(rt, map.equals(rt, other)?, true);
+    assert_same(rt, map.equals(rt, map)?, true);
+    assert_same(rt, equals_further(rt, map, 19, 0)?, false);
+    assert_same(rt, equals_further(rt, map, 21, 0)?, false);
+    assert_same(rt, equals_further(rt, map, 20, 1)?, false);
     Ok(())
 }
 
@@ -120,8 +120,8 @@ fn differs_by_a_key<R: Abort + Wait>(
 ) -> Result<(), Fail> {
     other.remove(rt, &3);
     other.insert(rt, 30, 3)?;
-    same(rt, map.equals(rt, other)?, false);
-    same(rt, other.equals(rt, map)?, false);
+    assert_same(rt, map.equals(rt, other)?, false);
+    assert_same(rt, other.equals(rt, map)?, false);
     Ok(())
 }
 

@@ -301,24 +301,24 @@ fn meets<R: Threads + Wait + Sync>(rt: &R, alloc: Global, deed: Deed, who: Who) 
 
 #[test]
 fn clear(rt: HostRuntime) {
-    same(&rt, meets(&rt, rt.alloc(), Deed::Clear, Who::Key), true);
-    same(&rt, meets(&rt, rt.alloc(), Deed::Clear, Who::Value), true);
+    assert_same(&rt, meets(&rt, rt.alloc(), Deed::Clear, Who::Key), true);
+    assert_same(&rt, meets(&rt, rt.alloc(), Deed::Clear, Who::Value), true);
 }
 
 #[test]
 fn compute_if_present_of_a_value(rt: HostRuntime) {
-    same(&rt, meets(&rt, rt.alloc(), Deed::Replace, Who::Value), true);
+    assert_same(&rt, meets(&rt, rt.alloc(), Deed::Replace, Who::Value), true);
 }
 
 #[test]
 fn compute_if_present_of_none(rt: HostRuntime) {
-    same(&rt, meets(&rt, rt.alloc(), Deed::Erase, Who::Key), true);
-    same(&rt, meets(&rt, rt.alloc(), Deed::Erase, Who::Value), true);
+    assert_same(&rt, meets(&rt, rt.alloc(), Deed::Erase, Who::Key), true);
+    assert_same(&rt, meets(&rt, rt.alloc(), Deed::Erase, Who::Value), true);
 }
 
 #[test]
 fn compute_if_present_of_an_absent_key(rt: HostRuntime) {
-    same(
+    assert_same(
         &rt,
         meets(&rt, rt.alloc(), Deed::ComputeNowhere, Who::Function),
         true,
@@ -327,17 +327,17 @@ fn compute_if_present_of_an_absent_key(rt: HostRuntime) {
 
 #[test]
 fn remove(rt: HostRuntime) {
-    same(&rt, meets(&rt, rt.alloc(), Deed::Remove, Who::Key), true);
+    assert_same(&rt, meets(&rt, rt.alloc(), Deed::Remove, Who::Key), true);
 }
 
 #[test]
 fn insert(rt: HostRuntime) {
-    same(&rt, meets(&rt, rt.alloc(), Deed::Insert, Who::NewKey), true);
+    assert_same(&rt, meets(&rt, rt.alloc(), Deed::Insert, Who::NewKey), true);
 }
 
 #[test]
 fn try_insert(rt: HostRuntime) {
-    same(
+    assert_same(
         &rt,
         meets(&rt, rt.alloc(), Deed::TryInsert, Who::NewKey),
         true,
@@ -346,18 +346,18 @@ fn try_insert(rt: HostRuntime) {
 
 #[test]
 fn retain(rt: HostRuntime) {
-    same(&rt, meets(&rt, rt.alloc(), Deed::Retain, Who::Key), true);
-    same(&rt, meets(&rt, rt.alloc(), Deed::Retain, Who::Value), true);
+    assert_same(&rt, meets(&rt, rt.alloc(), Deed::Retain, Who::Key), true);
+    assert_same(&rt, meets(&rt, rt.alloc(), Deed::Retain, Who::Value), true);
 }
 
 #[test]
 fn retain_force(rt: HostRuntime) {
-    same(
+    assert_same(
         &rt,
         meets(&rt, rt.alloc(), Deed::RetainForce, Who::Key),
         true,
     );
-    same(
+    assert_same(
         &rt,
         meets(&rt, rt.alloc(), Deed::RetainForce, Who::Value),
         true,
@@ -366,7 +366,7 @@ fn retain_force(rt: HostRuntime) {
 
 #[test]
 fn next(rt: HostRuntime) {
-    same(&rt, meets(&rt, rt.alloc(), Deed::Read, Who::Value), true);
+    assert_same(&rt, meets(&rt, rt.alloc(), Deed::Read, Who::Value), true);
 }
 
 // What is done in a set of the elements 1 and 2.
@@ -440,8 +440,8 @@ fn meets_in_set<R: Threads + Wait + Sync>(rt: &R, alloc: Global, deed: SetDeed) 
 
 #[test]
 fn calls_of_a_set(rt: HostRuntime) {
-    same(&rt, meets_in_set(&rt, rt.alloc(), SetDeed::Clear), true);
-    same(&rt, meets_in_set(&rt, rt.alloc(), SetDeed::Remove), true);
-    same(&rt, meets_in_set(&rt, rt.alloc(), SetDeed::Insert), true);
-    same(&rt, meets_in_set(&rt, rt.alloc(), SetDeed::Retain), true);
+    assert_same(&rt, meets_in_set(&rt, rt.alloc(), SetDeed::Clear), true);
+    assert_same(&rt, meets_in_set(&rt, rt.alloc(), SetDeed::Remove), true);
+    assert_same(&rt, meets_in_set(&rt, rt.alloc(), SetDeed::Insert), true);
+    assert_same(&rt, meets_in_set(&rt, rt.alloc(), SetDeed::Retain), true);
 }

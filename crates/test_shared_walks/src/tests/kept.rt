@@ -13,7 +13,7 @@ fn keeps_less<R: Abort + Wait>(rt: &R, map: &Numbers) -> Result<(), Fail> {
     map.retain_force(rt, |_, value| *value % 4 == 0)?;
     has_sums(rt, map, (25, 1200, 1200))?;
     map.retain(rt, |_, _| false)?;
-    same(rt, map.is_empty(rt), true);
+    assert_same(rt, map.is_empty(rt), true);
     Ok(())
 }
 
@@ -32,7 +32,7 @@ fn keeps_what_is_written<R: Abort + Wait>(rt: &R, map: &Numbers) -> Result<(), F
     map.retain(rt, |key, _| write_and_refuse(rt, map, *key))?;
     has_sums(rt, map, (20, 190, 2000))?;
     map.retain_force(rt, |key, _| write_and_refuse(rt, map, *key))?;
-    same(rt, map.is_empty(rt), true);
+    assert_same(rt, map.is_empty(rt), true);
     Ok(())
 }
 
@@ -50,7 +50,7 @@ fn put_again_and_refuse<R: Wait>(rt: &R, map: &Numbers, key: u64, value: u64) ->
 // A pair that is removed and inserted again during the call is another pair.
 fn keeps_what_is_put_again<R: Abort + Wait>(rt: &R, map: &Numbers) -> Result<(), Fail> {
     map.retain(rt, |key, value| put_again_and_refuse(rt, map, *key, *value))?;
-    same(rt, taken(map.get(rt, &0)?), Some(0));
+    assert_same(rt, taken(map.get(rt, &0)?), Some(0));
     Ok(())
 }
 
@@ -72,9 +72,9 @@ fn remove_as_read<R: Abort + Wait>(
         return Err(Fail::from("two pairs stand"));
     };
     map.insert(rt, *second.key(), 9)?;
-    same(rt, taken(map.remove_seen(rt, first.try_clone()?)), Some(0));
-    same(rt, map.remove_seen(rt, first).is_none(), true);
-    same(rt, map.remove_seen(rt, second).is_none(), true);
+    assert_same(rt, taken(map.remove_seen(rt, first.try_clone()?)), Some(0));
+    assert_same(rt, map.remove_seen(rt, first).is_none(), true);
+    assert_same(rt, map.remove_seen(rt, second).is_none(), true);
     Ok(())
 }
 

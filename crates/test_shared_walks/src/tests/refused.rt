@@ -4,13 +4,13 @@ use super::bulk::list;
 use super::{numbers, read_all, same};
 use flurry_base::hash::LowHashBuilder;
 use flurry_shared::HashMap;
-use metered_alloc::Metered;
+use metered_alloc::MeteredAlloc;
 use std::alloc::{Allocator, Global};
 use std::process::Abort;
 use std::sync::Wait;
 use std::test::Fail;
 
-type Memory = &'static Metered<Global>;
+type Memory = &'static MeteredAlloc<Global>;
 
 // A map of numbers. Its allocator is a parameter, because a proof over `Memory` would have to unfold it in each step.
 type Numbers<A> = HashMap<u64, u64, LowHashBuilder, A>;
@@ -59,7 +59,7 @@ fn count_there<A: Allocator + Copy, R: Wait>(rt: &R, map: &Numbers<A>) -> Result
 // the call succeeded, and the number of pairs afterwards.
 fn refuse_in<A: Allocator + Copy, R: Wait>(
     rt: &R,
-    memory: &Metered<Global>,
+    memory: &MeteredAlloc<Global>,
     k: u64,
     map: &Numbers<A>,
     list: Vec<(u64, u64), A>,
@@ -67,7 +67,7 @@ fn refuse_in<A: Allocator + Copy, R: Wait>(
 ) -> Result<(bool, bool, usize), Fail> {
     memory.refuse_at(k);
     let done = is_done(rt, map, list, call);
-    let refused = memory.refused();
+    let refused = memory.was_refused();
     memory.refuse_nothing();
     Ok((refused, done, count_there(rt, map)?))
 }
@@ -94,22 +94,22 @@ fn refuse_each<R: Abort + Wait>(
 ) -> Result<(), Fail> {
     for k in 0..requests {
         let seen = call_without(rt, memory, call, k)?;
-        same(rt, (call, k, seen), (call, k, (true, false, 3)));
-        same(rt, memory.blocks(), 0);
+        assert_same(rt, (call, k, seen), (call, k, (true, false, 3)));
+        assert_same(rt, memory.live_blocks(), 0);
     }
     let seen = call_without(rt, memory, call, requests)?;
-    same(
+    assert_same(
         rt,
         (call, requests, seen),
         (call, requests, (false, true, left)),
     );
-    same(rt, memory.blocks(), 0);
+    assert_same(rt, memory.live_blocks(), 0);
     Ok(())
 }
 
 #[test]
 fn calls_without_a_request(rt: HostRuntime) -> Result<(), Fail> {
-    let memory = Metered::leaked(rt.alloc())?;
+    let memory = MeteredAlloc::leak(rt.alloc())?;
     refuse_each(&rt, memory, Call::Walk, 0, 3)?;
     refuse_each(&rt, memory, Call::Retain, 0, 2)?;
     refuse_each(&rt, memory, Call::RetainForce, 0, 2)?;
@@ -120,7 +120,7 @@ fn calls_without_a_request(rt: HostRuntime) -> Result<(), Fail> {
 // of its own first.
 #[test]
 fn maps_that_are_made(rt: HostRuntime) -> Result<(), Fail> {
-    let memory = Metered::leaked(rt.alloc())?;
+    let memory = MeteredAlloc::leak(rt.alloc())?;
     refuse_each(&rt, memory, Call::FromList, 11, 3)?;
     refuse_each(&rt, memory, Call::TryClone, 6, 3)
 }
@@ -128,13 +128,13 @@ fn maps_that_are_made(rt: HostRuntime) -> Result<(), Fail> {
 // An extension keeps the pairs that it inserted before the request that failed.
 #[test]
 fn an_extension(rt: HostRuntime) -> Result<(), Fail> {
-    let memory = Metered::leaked(rt.alloc())?;
+    let memory = MeteredAlloc::leak(rt.alloc())?;
     for k in 0..9u64 {
         let seen = call_without(&rt, memory, Call::Extend, k)?;
-        same(&rt, (k, seen), (k, (true, false, 3 + k as usize / 3)));
-        same(&rt, memory.blocks(), 0);
+        assert_same(&rt, (k, seen), (k, (true, false, 3 + k as usize / 3)));
+        assert_same(&rt, memory.live_blocks(), 0);
     }
-    same(
+    assert_same(
         &rt,
         call_without(&rt, memory, Call::Extend, 9)?,
         (false, true, 6),
@@ -145,14 +145,14 @@ fn an_extension(rt: HostRuntime) -> Result<(), Fail> {
 // Makes the call, of a map or of a list in this memory. Returns whether it succeeded, and how many requests it made.
 fn asked_in<A: Allocator + Copy, R: Wait>(
     rt: &R,
-    memory: &Metered<Global>,
+    memory: &MeteredAlloc<Global>,
     map: &Numbers<A>,
     list: Vec<(u64, u64), A>,
     call: Call,
 ) -> (bool, u64) {
     memory.refuse_nothing();
     let done = is_done(rt, map, list, call);
-    (done, memory.asked())
+    (done, memory.requests())
 }
 
 // Does the same as `asked_in`, with a map of the keys below `pairs` and a list of `others` greater keys.
@@ -173,14 +173,14 @@ fn asked_by<R: Wait>(
 // further table.
 #[test]
 fn room_is_made_first(rt: HostRuntime) -> Result<(), Fail> {
-    let memory = Metered::leaked(rt.alloc())?;
+    let memory = MeteredAlloc::leak(rt.alloc())?;
     let asked = asked_by(&rt, memory, 0, 100, Call::FromList)?;
-    same(&rt, asked, (true, 302));
+    assert_same(&rt, asked, (true, 302));
     let asked = asked_by(&rt, memory, 100, 0, Call::TryClone)?;
-    same(&rt, asked, (true, 103));
+    assert_same(&rt, asked, (true, 103));
     let asked = asked_by(&rt, memory, 0, 100, Call::Extend)?;
-    same(&rt, asked, (true, 309));
+    assert_same(&rt, asked, (true, 309));
     let asked = asked_by(&rt, memory, 1, 8, Call::Extend)?;
-    same(&rt, asked, (true, 24));
+    assert_same(&rt, asked, (true, 24));
     Ok(())
 }

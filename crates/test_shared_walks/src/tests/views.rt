@@ -13,27 +13,27 @@ type DefaultRef<'m, R> = HashMapRef<'m, R, u64, u64, DefaultHashBuilder, Global>
 
 // Inserts one key twice, but not a third time.
 fn inserts_a_key<R: Abort + Wait>(rt: &R, view: &DefaultRef<'_, R>) -> Result<(), Fail> {
-    same(rt, view.is_empty(), true);
-    same(rt, taken(view.insert(7, 0)?), None);
-    same(rt, taken(view.insert(7, 1)?), Some(0));
-    same(rt, view.try_insert(7, 2)?.is_err(), true);
+    assert_same(rt, view.is_empty(), true);
+    assert_same(rt, taken(view.insert(7, 0)?), None);
+    assert_same(rt, taken(view.insert(7, 1)?), Some(0));
+    assert_same(rt, view.try_insert(7, 2)?.is_err(), true);
     Ok(())
 }
 
 // Looks up the key, and doubles its value.
 fn doubles_its_value<R: Abort + Wait>(rt: &R, view: &DefaultRef<'_, R>) -> Result<(), Fail> {
-    same(rt, taken(view.get(&7)?), Some(1));
-    same(rt, view.get_key_value(&7)?.is_some(), true);
+    assert_same(rt, taken(view.get(&7)?), Some(1));
+    assert_same(rt, view.get_key_value(&7)?.is_some(), true);
     let doubled = view.compute_if_present(&7, |_, value| value.checked_mul(2))?;
-    same(rt, taken(doubled), Some(2));
+    assert_same(rt, taken(doubled), Some(2));
     Ok(())
 }
 
 // Removes the key, once.
 fn removes_it<R: Abort + Wait>(rt: &R, view: &DefaultRef<'_, R>) {
-    same(rt, (view.contains_key(&7), view.len()), (true, 1));
-    same(rt, taken(view.remove(&7)), Some(2));
-    same(rt, view.remove_entry(&7).is_none(), true);
+    assert_same(rt, (view.contains_key(&7), view.len()), (true, 1));
+    assert_same(rt, taken(view.remove(&7)), Some(2));
+    assert_same(rt, view.remove_entry(&7).is_none(), true);
 }
 
 // Inserts a key, doubles its value, and removes it.
@@ -48,7 +48,7 @@ fn comes_and_goes<R: Abort + Wait>(rt: &R, view: &DefaultRef<'_, R>) -> Result<(
 fn calls_of_one_key(rt: HostRuntime) -> Result<(), Fail> {
     let map: HashMap<u64, u64> = HashMap::new(rt.alloc());
     comes_and_goes(&rt, &map.pin(&rt))?;
-    same(&rt, map.is_empty(&rt), true);
+    assert_same(&rt, map.is_empty(&rt), true);
     Ok(())
 }
 
@@ -72,20 +72,20 @@ fn has_a_value<R: Wait>(view: &NumbersRef<'_, R>) -> Result<bool, AllocError> {
 
 // Keeps five of ten pairs by another view of the same map, and then two.
 fn keeps_two<R: Abort + Wait>(rt: &R, view: &NumbersRef<'_, R>) -> Result<(), Fail> {
-    let other = view.again();
+    let other = view.reborrow();
     view.reserve(100)?;
-    same(rt, view.equals(&other)?, true);
+    assert_same(rt, view.equals(&other)?, true);
     other.retain(|key, _| *key < 5)?;
-    same(rt, read_all(view.iter())?, (5, 10, 10));
+    assert_same(rt, read_all(view.iter())?, (5, 10, 10));
     other.retain_force(|key, _| *key < 2)?;
-    same(rt, view.len(), 2);
+    assert_same(rt, view.len(), 2);
     Ok(())
 }
 
 // Asserts that a view has keys and values.
 fn is_not_empty<R: Abort + Wait>(rt: &R, view: &NumbersRef<'_, R>) -> Result<(), Fail> {
-    same(rt, has_a_key(view)?, true);
-    same(rt, has_a_value(view)?, true);
+    assert_same(rt, has_a_key(view)?, true);
+    assert_same(rt, has_a_value(view)?, true);
     Ok(())
 }
 
@@ -95,15 +95,15 @@ fn differs_from_none<R: Abort + Wait + AllocGlobal>(
     view: &NumbersRef<'_, R>,
 ) -> Result<(), Fail> {
     let empty = HashMap::with_hasher(rt.alloc(), LowHashBuilder);
-    same(rt, view.equals(&empty.pin(rt))?, false);
+    assert_same(rt, view.equals(&empty.pin(rt))?, false);
     Ok(())
 }
 
 // Removes all pairs. Another view of the map then has none.
 fn clears<R: Abort + Wait>(rt: &R, view: &NumbersRef<'_, R>) -> Result<(), Fail> {
-    let other = view.again();
+    let other = view.reborrow();
     view.clear();
-    same(rt, read_all(other.iter())?, (0, 0, 0));
+    assert_same(rt, read_all(other.iter())?, (0, 0, 0));
     Ok(())
 }
 

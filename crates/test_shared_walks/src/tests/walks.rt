@@ -43,11 +43,11 @@ fn keys_and_values(rt: HostRuntime) -> Result<(), Fail> {
     let mut keys = map.keys(&rt);
     let sum = sum_of_keys(&mut keys);
     drop(keys);
-    same(&rt, sum?, 4950);
+    assert_same(&rt, sum?, 4950);
     let mut values = map.values(&rt);
     let sum = sum_of_values(&mut values);
     drop(values);
-    same(&rt, sum?, 9900);
+    assert_same(&rt, sum?, 9900);
     Ok(())
 }
 
@@ -57,7 +57,7 @@ fn walk_over<S: KeyHasher<u64> + Drop, R: Abort + Wait>(
     map: HashMap<u64, u64, S>,
     count: u64,
 ) -> Result<(), Fail> {
-    same(rt, insert_all(rt, &map, 0, count), 0);
+    assert_same(rt, insert_all(rt, &map, 0, count), 0);
     let sum = count.saturating_mul(count.saturating_sub(1)) / 2;
     has_sums(rt, &map, (count, sum, sum))
 }
@@ -93,7 +93,7 @@ pub(super) fn sums_of_later_pairs<A: Allocator + Copy, R: Wait>(
 #[test]
 fn a_walk_without_a_table(rt: HostRuntime) -> Result<(), Fail> {
     let map = numbers(&rt, rt.alloc(), 0);
-    same(&rt, sums_of_later_pairs(&rt, &map)?, (0, 0, 0));
+    assert_same(&rt, sums_of_later_pairs(&rt, &map)?, (0, 0, 0));
     has_sums(&rt, &map, (10, 45, 45))
 }
 
@@ -103,10 +103,10 @@ fn read_past_the_end<R: Abort + Wait>(
     map: &Numbers,
     pairs: &mut Iter<'_, R, u64, u64>,
 ) -> Result<(), Fail> {
-    same(rt, pairs.next()?.is_some(), true);
-    same(rt, pairs.next()?.is_none(), true);
+    assert_same(rt, pairs.next()?.is_some(), true);
+    assert_same(rt, pairs.next()?.is_none(), true);
     insert_all(rt, map, 1, 100);
-    same(rt, pairs.next()?.is_none(), true);
+    assert_same(rt, pairs.next()?.is_none(), true);
     Ok(())
 }
 
@@ -126,9 +126,9 @@ fn next_pair<R: Wait>(pairs: &mut Iter<'_, R, u64, u64>) -> Result<Option<(u64, 
 
 // Replaces the values of the keys 0 and 1, and removes the key 2.
 fn write_and_remove<R: Abort + Wait>(rt: &R, map: &Numbers) -> Result<(), AllocError> {
-    same(rt, taken(map.insert(rt, 0, 7)?), Some(0));
-    same(rt, taken(map.insert(rt, 1, 8)?), Some(1));
-    same(rt, taken(map.remove(rt, &2)), Some(2));
+    assert_same(rt, taken(map.insert(rt, 0, 7)?), Some(0));
+    assert_same(rt, taken(map.insert(rt, 1, 8)?), Some(1));
+    assert_same(rt, taken(map.remove(rt, &2)), Some(2));
     Ok(())
 }
 
@@ -141,12 +141,12 @@ fn read_beside_writes<R: Abort + Wait>(
     let Some((key, value)) = pairs.next()? else {
         return Err(Fail::from("there are pairs"));
     };
-    same(rt, (*key, *value), (0, 0));
+    assert_same(rt, (*key, *value), (0, 0));
     write_and_remove(rt, map)?;
-    same(rt, *value, 0);
-    same(rt, next_pair(pairs)?, Some((1, 8)));
-    same(rt, next_pair(pairs)?, Some((3, 3)));
-    same(rt, next_pair(pairs)?, None);
+    assert_same(rt, *value, 0);
+    assert_same(rt, next_pair(pairs)?, Some((1, 8)));
+    assert_same(rt, next_pair(pairs)?, Some((3, 3)));
+    assert_same(rt, next_pair(pairs)?, None);
     Ok(())
 }
 

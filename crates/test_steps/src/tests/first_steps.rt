@@ -65,8 +65,8 @@ fn an_insertion_of_a_new_key(rt: HostRuntime) {
     let value = Arc::new(rt.alloc(), 50u64).expect(&rt, "memory for the value");
     let call: Call<'_, u64, u64, NoFn> = Call::Insert(5, value);
     let ending = begun(call, 5, &start, rt.alloc(), &mut slot);
-    same(&rt, ending.counts(), true);
-    same(
+    assert_same(&rt, ending.is_counting(), true);
+    assert_same(
         &rt,
         matches!(ending.into_reply(), Ok(Reply::Refused)),
         false,

@@ -335,10 +335,10 @@ fn reply_of<'k, F: ComputeFn<u64, u64>>(
     rt: &impl Abort,
     party: &mut Party<'k, u64, u64, F>,
 ) -> Told {
-    same(rt, party.reply().is_some(), true);
+    assert_same(rt, party.reply().is_some(), true);
     let told = plain(party.take_reply().expect(rt, "the call is done"));
-    same(rt, party.want(), Want::Done);
-    same(
+    assert_same(rt, party.want(), Want::Done);
+    assert_same(
         rt,
         party.reply().is_some() || party.take_reply().is_some(),
         false,
@@ -439,7 +439,7 @@ fn inserts_each(
     for key in 0..count {
         let hash = if has_one_hash { 0 } else { key };
         let (events, told) = call(rt, map, hash, OwnedCall::Insert(key, 0));
-        same_at(rt, key, (events.len(), told), (steps, value(None)));
+        assert_same_at(rt, key, (events.len(), told), (steps, value(None)));
     }
 }
 
@@ -447,7 +447,7 @@ fn inserts_each(
 fn removes_each(rt: &(impl Abort + AllocGlobal), map: &mut Map, count: u64) {
     for key in 0..count {
         let (_events, told) = call(rt, map, key, OwnedCall::Remove(key));
-        same_at(rt, key, told, value(Some(0)));
+        assert_same_at(rt, key, told, value(Some(0)));
     }
 }
 
@@ -456,22 +456,22 @@ fn does(rt: &(impl Abort + AllocGlobal), map: &mut Map, at: usize, row: Row<'_>)
     match row {
         Row::Answers(hash, asked, events, reply) => {
             let (seen, told) = call(rt, map, hash, asked);
-            same_at(rt, at, (seen.as_slice(), told), (events, reply));
+            assert_same_at(rt, at, (seen.as_slice(), told), (events, reply));
         }
         Row::Takes(hash, asked, steps, reply) => {
             let (seen, told) = call(rt, map, hash, asked);
-            same_at(rt, at, (seen.len(), told), (steps, reply));
+            assert_same_at(rt, at, (seen.len(), told), (steps, reply));
         }
         Row::Replies(hash, asked, reply) => {
             let (_events, told) = call(rt, map, hash, asked);
-            same_at(rt, at, told, reply);
+            assert_same_at(rt, at, told, reply);
         }
         Row::InsertsEach(count, steps) => inserts_each(rt, map, count, false, steps),
         Row::InsertsAtOneHash(count, steps) => inserts_each(rt, map, count, true, steps),
         Row::RemovesEach(count) => removes_each(rt, map, count),
-        Row::Table(table) => same_at(rt, at, map.control.locate(), table),
-        Row::Pairs(count) => same_at(rt, at, map.control.len(), count),
-        Row::Requests(count) => same_at(rt, at, map.tables.requests, count),
+        Row::Table(table) => assert_same_at(rt, at, map.control.locate(), table),
+        Row::Pairs(count) => assert_same_at(rt, at, map.control.len(), count),
+        Row::Requests(count) => assert_same_at(rt, at, map.tables.requests, count),
     }
 }
 
@@ -537,9 +537,9 @@ fn moves<'k, F: ComputeFn<u64, u64>>(
     count: usize,
 ) {
     for index in (0..count).rev() {
-        same_at(rt, index, party.want(), Want::Move(table, index));
+        assert_same_at(rt, index, party.want(), Want::Move(table, index));
         let event = step(rt, party, map);
-        same_at(rt, index, event, Event::Moved(table, index));
+        assert_same_at(rt, index, event, Event::Moved(table, index));
     }
 }
 
@@ -550,10 +550,10 @@ fn begins_at_a_start<'k, F: ComputeFn<u64, u64>>(
     map: &Map,
 ) {
     let start = map.control.start().expect(rt, "a table is published");
-    assert!(rt; party.locates(), "a call locates first");
-    same(rt, party.want(), Want::Control);
-    same(rt, party.on_published(&start), Event::Silent);
-    same(rt, party.locates(), false);
+    assert!(rt; party.is_locating(), "a call is_locating first");
+    assert_same(rt, party.want(), Want::Control);
+    assert_same(rt, party.on_published(&start), Event::Silent);
+    assert_same(rt, party.is_locating(), false);
 }
 
 // Returns the pair that a walk has read last.
@@ -582,28 +582,28 @@ fn acts<'k, F: ComputeFn<u64, u64>>(
     act: Act<'_>,
 ) {
     match act {
-        Act::Step(event) => same_at(rt, at, step(rt, party, map), event),
+        Act::Step(event) => assert_same_at(rt, at, step(rt, party, map), event),
         Act::GoesOnTo(count, event) => {
             let seen = steps(rt, party, map, count);
-            same_at(rt, at, seen.last(), Some(&event));
+            assert_same_at(rt, at, seen.last(), Some(&event));
         }
         Act::Ends(count) => {
             let seen = steps(rt, party, map, 10000);
-            same_at(rt, at, seen.len(), count);
+            assert_same_at(rt, at, seen.len(), count);
         }
         Act::Moves(table, count) => moves(rt, party, map, table, count),
         Act::Starts => begins_at_a_start(rt, party, map),
-        Act::Wants(want) => same_at(rt, at, party.want(), want),
+        Act::Wants(want) => assert_same_at(rt, at, party.want(), want),
         Act::KeepsReply => {
             let is_kept = party.reply().is_some() && party.take_reply().is_none();
-            same_at(rt, at, is_kept, true);
+            assert_same_at(rt, at, is_kept, true);
         }
-        Act::Replies(reply) => same_at(rt, at, reply_of(rt, party), reply),
-        Act::LastRead(pair) => same_at(rt, at, last_read(party), pair),
+        Act::Replies(reply) => assert_same_at(rt, at, reply_of(rt, party), reply),
+        Act::LastRead(pair) => assert_same_at(rt, at, last_read(party), pair),
         Act::Seen(key, value, number) => {
             let seen = seen_by(rt, party);
             let pair = (*seen.key(), *seen.value(), seen.number());
-            same_at(rt, at, pair, (key, value, number));
+            assert_same_at(rt, at, pair, (key, value, number));
         }
         Act::Map(row) => does(rt, map, at, row),
     }

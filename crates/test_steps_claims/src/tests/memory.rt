@@ -1,12 +1,12 @@
 //! Boards when memory cannot be allocated.
 
 use flurry_steps_claims::{ClaimBoard, Helpers, SEATS};
-use metered_alloc::Metered;
+use metered_alloc::MeteredAlloc;
 use std::alloc::Global;
 use std::process::Abort;
 use std::test::Fail;
 
-type Memory = &'static Metered<Global>;
+type Memory = &'static MeteredAlloc<Global>;
 
 // What is made.
 #[derive(Clone, Copy)]
@@ -29,7 +29,7 @@ fn is_made(memory: Memory, made: Made) -> bool {
 fn is_refused(rt: &impl Abort, memory: Memory, made: Made, k: u64) -> bool {
     let (ok, refused) = memory.refuse_during(k, || is_made(memory, made));
     assert_eq!(rt; ok, !refused, "at {k}");
-    assert_eq!(rt; memory.blocks(), 0, "at {k}");
+    assert_eq!(rt; memory.live_blocks(), 0, "at {k}");
     refused
 }
 
@@ -45,7 +45,7 @@ fn requests(rt: &impl Abort, memory: Memory, made: Made) -> u64 {
 
 #[test]
 fn each_request_is_refused(rt: HostRuntime) -> Result<(), Fail> {
-    let memory = Metered::leaked(rt.alloc())?;
+    let memory = MeteredAlloc::leak(rt.alloc())?;
     assert_eq!(rt; requests(&rt, memory, Made::Board), 3);
     assert_eq!(rt; requests(&rt, memory, Made::Helpers), 4);
     Ok(())

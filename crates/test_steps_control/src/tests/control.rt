@@ -53,14 +53,14 @@ fn opened(rt: &(impl Abort + AllocGlobal), table: u8, refused: u8) -> (Control, 
     let first = control
         .open(table, &mut room)
         .expect(rt, "memory for the table");
-    same(rt, first, table);
+    assert_same(rt, first, table);
     (control, room)
 }
 
 // Returns a control that grows from `table`, for two processors, and the room that has its two tables.
 fn growing(rt: &(impl Abort + AllocGlobal), table: u8) -> (Control, Tables) {
     let (mut control, mut room) = opened(rt, table, 0);
-    same(rt, control.begin(table, 2, &mut room), BeginOutcome::Begun);
+    assert_same(rt, control.begin(table, 2, &mut room), BeginOutcome::Begun);
     (control, room)
 }
 

@@ -9,8 +9,8 @@ use std::sync::Arc;
 // Asserts which bins a cursor meets from its place to its end.
 fn rest_of(rt: &impl Abort, cursor: &mut Cursor<u64>, bins: &[(u8, usize)]) {
     for at in 0..bins.len() {
-        same_at(rt, at, cursor.at(), bins[at]);
-        same_at(rt, at, cursor.leave(), at + 1 < bins.len());
+        assert_same_at(rt, at, cursor.at(), bins[at]);
+        assert_same_at(rt, at, cursor.leave(), at + 1 < bins.len());
     }
 }
 
@@ -18,8 +18,8 @@ fn rest_of(rt: &impl Abort, cursor: &mut Cursor<u64>, bins: &[(u8, usize)]) {
 fn a_cursor_goes_over_each_bin_of_its_table(rt: HostRuntime) {
     let mut cursor = Cursor::new(2);
     rest_of(&rt, &mut cursor, &[(2, 0), (2, 1), (2, 2), (2, 3)]);
-    same(&rt, cursor.at(), (2, 3));
-    same(&rt, cursor.leave(), false);
+    assert_same(&rt, cursor.at(), (2, 3));
+    assert_same(&rt, cursor.leave(), false);
     drop(cursor);
 }
 
@@ -27,13 +27,13 @@ fn a_cursor_goes_over_each_bin_of_its_table(rt: HostRuntime) {
 #[test]
 fn a_bin_that_has_moved_is_followed_to_its_halves(rt: HostRuntime) {
     let mut cursor: Cursor<u64> = Cursor::new(1);
-    same(&rt, cursor.leave(), true);
-    same(&rt, cursor.at(), (1, 1));
-    same(&rt, cursor.split().is_ok(), true);
-    same(&rt, cursor.at(), (2, 1));
-    same(&rt, cursor.leave(), true);
-    same(&rt, cursor.at(), (2, 3));
-    same(&rt, cursor.split().is_ok(), true);
+    assert_same(&rt, cursor.leave(), true);
+    assert_same(&rt, cursor.at(), (1, 1));
+    assert_same(&rt, cursor.split().is_ok(), true);
+    assert_same(&rt, cursor.at(), (2, 1));
+    assert_same(&rt, cursor.leave(), true);
+    assert_same(&rt, cursor.at(), (2, 3));
+    assert_same(&rt, cursor.split().is_ok(), true);
     rest_of(&rt, &mut cursor, &[(3, 3), (3, 7)]);
     drop(cursor);
 }
@@ -42,16 +42,16 @@ fn a_bin_that_has_moved_is_followed_to_its_halves(rt: HostRuntime) {
 #[test]
 fn both_halves_begin_at_the_bound(rt: HostRuntime) {
     let mut cursor = Cursor::new(0);
-    same(&rt, cursor.bound().is_none(), true);
+    assert_same(&rt, cursor.bound().is_none(), true);
     let key: Arc<u64> = Arc::new(rt.alloc(), 7).expect(&rt, "memory for the key");
     cursor.pass(9, key);
-    same(&rt, cursor.bound(), Some((9, &7)));
-    same(&rt, cursor.split().is_ok(), true);
-    same(&rt, cursor.bound(), Some((9, &7)));
-    same(&rt, cursor.leave(), true);
-    same(&rt, cursor.at(), (1, 1));
-    same(&rt, cursor.bound(), Some((9, &7)));
-    same(&rt, cursor.leave(), false);
+    assert_same(&rt, cursor.bound(), Some((9, &7)));
+    assert_same(&rt, cursor.split().is_ok(), true);
+    assert_same(&rt, cursor.bound(), Some((9, &7)));
+    assert_same(&rt, cursor.leave(), true);
+    assert_same(&rt, cursor.at(), (1, 1));
+    assert_same(&rt, cursor.bound(), Some((9, &7)));
+    assert_same(&rt, cursor.leave(), false);
     drop(cursor);
 }
 
@@ -59,7 +59,7 @@ fn both_halves_begin_at_the_bound(rt: HostRuntime) {
 fn split(rt: &impl Abort, cursor: &mut Cursor<u64>) {
     let (table, _) = cursor.at();
     if table < MAX_TABLE {
-        same_at(rt, table, cursor.split().is_ok(), true);
+        assert_same_at(rt, table, cursor.split().is_ok(), true);
     }
 }
 
@@ -68,15 +68,15 @@ fn split(rt: &impl Abort, cursor: &mut Cursor<u64>) {
 fn a_cursor_follows_a_bin_through_all_tables(rt: HostRuntime) {
     let mut cursor: Cursor<u64> = Cursor::new(0);
     for table in 0..30u8 {
-        same_at(&rt, table, cursor.at(), (table, 0));
+        assert_same_at(&rt, table, cursor.at(), (table, 0));
         split(&rt, &mut cursor);
     }
-    same(&rt, cursor.at(), (30, 0));
+    assert_same(&rt, cursor.at(), (30, 0));
     for left in 0..30u8 {
         let table = 30 - left;
-        same_at(&rt, table, cursor.leave(), true);
-        same_at(&rt, table, cursor.at(), (table, 1 << (table - 1)));
+        assert_same_at(&rt, table, cursor.leave(), true);
+        assert_same_at(&rt, table, cursor.at(), (table, 1 << (table - 1)));
     }
-    same(&rt, cursor.leave(), false);
+    assert_same(&rt, cursor.leave(), false);
     drop(cursor);
 }

@@ -1,5 +1,5 @@
 //! Slots: how often a computation calls its function, and bins that have one owner again.
-ghost use Rattle.flurry_bins_slots.specs.Slot.{LiesIn};
+ghost use Rattle.flurry_bins_slots.specs.Slot.{LiesInBin};
 
 use super::same;
 use flurry_base::sizes::bin_index;
@@ -10,7 +10,7 @@ use std::process::Abort;
 
 // Asserts that the hash of the tests lies in the region of the slot.
 fn lies_in(rt: &impl Abort, slot: &Slot<u64, u64>)
-    ensures { LiesIn 3 slot.now }
+    ensures { LiesInBin 3 slot.now }
 {
     let (table, index) = slot.at();
     assert!(rt; bin_index(3, table) == index);
@@ -23,7 +23,7 @@ fn put(rt: &(impl Abort + AllocGlobal), slot: &mut Slot<u64, u64>, key: u64, val
         .put(rt.alloc(), 3, key, Given::Plain(value))
         .ok()
         .expect(rt, "memory for the pair");
-    same(rt, matches!(&answer, Answer::Here(_)), true);
+    assert_same(rt, matches!(&answer, Answer::Here(_)), true);
 }
 
 // Returns the value of a key and its write number, if the bin is live.
@@ -50,16 +50,16 @@ fn calls_at(rt: &(impl Abort + AllocGlobal), slot: &mut Slot<u64, u64>, key: u64
 #[test]
 fn function_is_called_at_a_present_key_alone(rt: HostRuntime) {
     let mut slot: Slot<u64, u64> = Slot::live(4, 3, Bin::new());
-    same(&rt, calls_at(&rt, &mut slot, 3), 0);
+    assert_same(&rt, calls_at(&rt, &mut slot, 3), 0);
     put(&rt, &mut slot, 19, 10);
-    same(&rt, calls_at(&rt, &mut slot, 3), 0);
-    same(&rt, calls_at(&rt, &mut slot, 19), 1);
+    assert_same(&rt, calls_at(&rt, &mut slot, 3), 0);
+    assert_same(&rt, calls_at(&rt, &mut slot, 19), 1);
 }
 
 #[test]
 fn function_is_not_called_where_no_bin_is(rt: HostRuntime) {
     let mut slot: Slot<u64, u64> = Slot::unborn(4, 3);
-    same(&rt, calls_at(&rt, &mut slot, 3), 0);
+    assert_same(&rt, calls_at(&rt, &mut slot, 3), 0);
 }
 
 // Takes the bin out of a slot, and puts it into another slot at the same place.
@@ -76,10 +76,10 @@ fn a_live_bin_is_owned_again(rt: HostRuntime) {
     put(&rt, &mut slot, 19, 11);
     put(&rt, &mut slot, 3, 12);
     let mut slot = owned_again(slot).expect(&rt, "the bin is live");
-    same(&rt, find(&rt, &slot, 3), Some((12, 3)));
-    same(&rt, find(&rt, &slot, 19), Some((11, 2)));
+    assert_same(&rt, find(&rt, &slot, 3), Some((12, 3)));
+    assert_same(&rt, find(&rt, &slot, 19), Some((11, 2)));
     put(&rt, &mut slot, 19, 13);
-    same(&rt, find(&rt, &slot, 19), Some((13, 4)));
+    assert_same(&rt, find(&rt, &slot, 19), Some((13, 4)));
 }
 
 #[test]
@@ -88,9 +88,9 @@ fn other_slots_have_no_bin_to_give(rt: HostRuntime) {
     let mut low: Slot<u64, u64> = Slot::unborn(5, 3);
     let mut high: Slot<u64, u64> = Slot::unborn(5, 19);
     let done = matches!(slot.move_into(&mut low, &mut high), MoveAnswer::Done(_));
-    same(&rt, done, true);
-    same(&rt, slot.into_bin().is_none(), true);
-    same(&rt, low.into_bin().map(|bin| bin.len()), Some(0));
+    assert_same(&rt, done, true);
+    assert_same(&rt, slot.into_bin().is_none(), true);
+    assert_same(&rt, low.into_bin().map(|bin| bin.len()), Some(0));
     let other: Slot<u64, u64> = Slot::unborn(4, 3);
-    same(&rt, other.into_bin().is_none(), true);
+    assert_same(&rt, other.into_bin().is_none(), true);
 }

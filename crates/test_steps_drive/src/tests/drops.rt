@@ -49,9 +49,9 @@ fn removed<F: ComputeFn<u64, u64>, R: Wait + Abort>(
     answers::<F, _, _, _>(rt, parts, OwnedCall::Insert(5, 2), value(None));
     let seen = walked::<F, _>(rt, parts)?;
     let further = seen.try_clone()?;
-    same(rt, (*seen.key(), *seen.value()), (5, 2));
-    same(rt, removal::<F, _>(rt, parts, seen), value(Some(2)));
-    same(rt, removal::<F, _>(rt, parts, further), value(None));
+    assert_same(rt, (*seen.key(), *seen.value()), (5, 2));
+    assert_same(rt, removal::<F, _>(rt, parts, seen), value(Some(2)));
+    assert_same(rt, removal::<F, _>(rt, parts, further), value(None));
     answers::<F, _, _, _>(rt, parts, OwnedCall::Get(5), value(None));
     answers::<F, _, _, _>(rt, parts, OwnedCall::Get(3), value(Some(1)));
     Ok(())
@@ -67,7 +67,7 @@ fn rewritten<F: ComputeFn<u64, u64>, R: Wait + Abort>(
     answers::<F, _, _, _>(rt, parts, OwnedCall::Insert(5, 2), value(None));
     let seen = walked::<F, _>(rt, parts)?;
     answers::<F, _, _, _>(rt, parts, OwnedCall::Insert(5, 2), value(Some(2)));
-    same(rt, removal::<F, _>(rt, parts, seen), value(None));
+    assert_same(rt, removal::<F, _>(rt, parts, seen), value(None));
     answers::<F, _, _, _>(rt, parts, OwnedCall::Get(5), value(Some(2)));
     Ok(())
 }
@@ -76,7 +76,7 @@ fn rewritten<F: ComputeFn<u64, u64>, R: Wait + Abort>(
 fn removes_what_was_read(rt: HostRuntime) -> Result<(), Fail> {
     let mut parts: Parts<u64, u64> = Parts::new(rt.alloc())?;
     removed::<NoFn, _>(&rt, &mut parts)?;
-    same(&rt, parts.control().len(), 1);
+    assert_same(&rt, parts.control().len(), 1);
     Ok(())
 }
 
@@ -84,6 +84,6 @@ fn removes_what_was_read(rt: HostRuntime) -> Result<(), Fail> {
 fn keeps_what_was_written_anew(rt: HostRuntime) -> Result<(), Fail> {
     let mut parts: Parts<u64, u64> = Parts::new(rt.alloc())?;
     rewritten::<NoFn, _>(&rt, &mut parts)?;
-    same(&rt, parts.control().len(), 1);
+    assert_same(&rt, parts.control().len(), 1);
     Ok(())
 }

@@ -35,7 +35,7 @@ fn each_call_over_own_parts(rt: HostRuntime) -> Result<(), Fail> {
 }
 
 #[test]
-fn each_call_beside_a_start(rt: HostRuntime) -> Result<(), Fail> {
+fn each_call_beside_a_published_table(rt: HostRuntime) -> Result<(), Fail> {
     let mut field = beside_sixteen(rt.alloc())?;
     each_call(&rt, &mut field, |_key: &u64, value: &u64| two_more(*value));
     Ok(())

@@ -35,14 +35,14 @@ fn hundred_keys<F: ComputeFn<u64, u64>, X: Field<u64, u64, Global>, R: Wait + Ab
 fn hundred_keys_over_own_parts(rt: HostRuntime) -> Result<(), Fail> {
     let mut parts: Parts<u64, u64> = Parts::new(rt.alloc())?;
     hundred_keys::<NoFn, _, _>(&rt, &mut parts);
-    same(&rt, parts.control().len(), 100);
-    same(&rt, parts.control().locate(), Some(8));
+    assert_same(&rt, parts.control().len(), 100);
+    assert_same(&rt, parts.control().locate(), Some(8));
     Ok(())
 }
 
 // The published table stays that of 16 bins, which the map leaves long before the end.
 #[test]
-fn hundred_keys_beside_a_start(rt: HostRuntime) -> Result<(), Fail> {
+fn hundred_keys_beside_a_published_table(rt: HostRuntime) -> Result<(), Fail> {
     let mut field = beside_sixteen(rt.alloc())?;
     hundred_keys::<NoFn, _, _>(&rt, &mut field);
     Ok(())
@@ -53,10 +53,10 @@ fn twice_alone<F: ComputeFn<u64, u64>, R: Wait + Abort>(rt: &R, parts: &mut Part
 {
     let put: OwnedCall<u64, u64, F> = OwnedCall::Insert(7, 1);
     let reply = drive_alone(rt, put, &LowHashBuilder, 1, parts);
-    same(rt, without_owners(reply), value(None));
+    assert_same(rt, without_owners(reply), value(None));
     let look: OwnedCall<u64, u64, F> = OwnedCall::Get(7);
     let reply = drive_alone(rt, look, &LowHashBuilder, 1, parts);
-    same(rt, without_owners(reply), value(Some(1)));
+    assert_same(rt, without_owners(reply), value(Some(1)));
 }
 
 #[test]

@@ -4,13 +4,13 @@ use super::{Plain, reply_of, same, value};
 use flurry_bins_slots::{ComputeFn, NoFn};
 use flurry_steps::party::OwnedCall;
 use flurry_steps_world::Parts;
-use metered_alloc::Metered;
+use metered_alloc::MeteredAlloc;
 use std::alloc::Global;
 use std::process::Abort;
 use std::sync::Wait;
 use std::test::Fail;
 
-type Memory = &'static Metered<Global>;
+type Memory = &'static MeteredAlloc<Global>;
 
 // Returns the reply of an insertion whose request numbered `k` fails, the reply of a look-up with enough memory, and whether that request
 // was made.
@@ -26,7 +26,7 @@ fn insertion<F: ComputeFn<u64, u64>, R: Wait + Abort>(
     let look: OwnedCall<u64, u64, F> = OwnedCall::Get(7);
     memory.refuse_at(k);
     let reply = reply_of(rt, &mut parts, put);
-    let refused = memory.refused();
+    let refused = memory.was_refused();
     memory.refuse_nothing();
     Ok((reply, reply_of(rt, &mut parts, look), refused))
 }
@@ -34,18 +34,18 @@ fn insertion<F: ComputeFn<u64, u64>, R: Wait + Abort>(
 // The requests are for a table, the key, the value and the node. If one of them fails, the map is empty afterwards.
 #[test]
 fn refused_insertions(rt: HostRuntime) -> Result<(), Fail> {
-    let memory = Metered::leaked(rt.alloc())?;
+    let memory = MeteredAlloc::leak(rt.alloc())?;
     for k in 0..5u64 {
         let (reply, look, refused) = insertion::<NoFn, _>(&rt, memory, k)?;
-        same(&rt, refused, k < 4);
+        assert_same(&rt, refused, k < 4);
         let (answer, found) = if refused {
             (Plain::Refused, None)
         } else {
             (value(None), Some(1))
         };
-        same(&rt, reply, answer);
-        same(&rt, look, value(found));
-        same(&rt, memory.blocks(), 0);
+        assert_same(&rt, reply, answer);
+        assert_same(&rt, look, value(found));
+        assert_same(&rt, memory.live_blocks(), 0);
     }
     Ok(())
 }

@@ -60,12 +60,12 @@ fn walked_and_cleared<F: ComputeFn<u64, u64>, X: Field<u64, u64, Global>, R: Wai
 fn sweeps_over_own_parts(rt: HostRuntime) -> Result<(), Fail> {
     let mut parts: Parts<u64, u64> = Parts::new(rt.alloc())?;
     walked_and_cleared::<NoFn, _, _>(&rt, &mut parts);
-    same(&rt, parts.control().len(), 1);
+    assert_same(&rt, parts.control().len(), 1);
     Ok(())
 }
 
 #[test]
-fn sweeps_beside_a_start(rt: HostRuntime) -> Result<(), Fail> {
+fn sweeps_beside_a_published_table(rt: HostRuntime) -> Result<(), Fail> {
     let mut field = beside_sixteen(rt.alloc())?;
     walked_and_cleared::<NoFn, _, _>(&rt, &mut field);
     Ok(())

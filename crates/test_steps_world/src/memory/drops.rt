@@ -4,7 +4,7 @@ use super::same_at;
 use super::world::{Numbers, begins, label_count, step_to, world_for};
 use flurry_bins_slots::{ComputeFn, NoFn};
 use flurry_steps::party::OwnedCall;
-use metered_alloc::Metered;
+use metered_alloc::MeteredAlloc;
 use std::alloc::{Allocator, Global};
 use std::process::Abort;
 use std::test::Fail;
@@ -32,7 +32,7 @@ fn has_read<F: ComputeFn<u64, u64> + Copy, A: Allocator + Copy>(
 // removal is the next party.
 fn drops_at<F: ComputeFn<u64, u64> + Copy, A: Allocator + Copy>(
     rt: &impl Abort,
-    metered: &Metered<Global>,
+    metered: &MeteredAlloc<Global>,
     memory: A,
     more: u64,
 ) -> bool
@@ -42,15 +42,15 @@ fn drops_at<F: ComputeFn<u64, u64> + Copy, A: Allocator + Copy>(
     let before = label_count(&world);
     metered.refuse_at(0);
     let failed = world.begin_remove_seen(1).is_err();
-    let refused = metered.refused();
+    let refused = metered.was_refused();
     metered.refuse_nothing();
-    same_at(rt, more, failed, refused);
+    assert_same_at(rt, more, failed, refused);
     if refused {
-        same_at(rt, more, label_count(&world), before);
+        assert_same_at(rt, more, label_count(&world), before);
         let began = world.begin_remove_seen(1).expect(rt, "memory for the call");
-        same_at(rt, more, began, Some(3));
+        assert_same_at(rt, more, began, Some(3));
     }
-    same_at(rt, more, begins(rt, &mut world, OwnedCall::Get(1)), 4);
+    assert_same_at(rt, more, begins(rt, &mut world, OwnedCall::Get(1)), 4);
     drop(world);
     refused
 }
@@ -58,13 +58,13 @@ fn drops_at<F: ComputeFn<u64, u64> + Copy, A: Allocator + Copy>(
 // The list of labels grows now and then, so some of these worlds need room for it.
 #[test]
 fn removals_of_what_was_read(rt: HostRuntime) -> Result<(), Fail> {
-    let memory = Metered::leaked(rt.alloc())?;
+    let memory = MeteredAlloc::leak(rt.alloc())?;
     let mut refused = 0u64;
     for more in 0..16u64 {
         if drops_at::<NoFn, _>(&rt, memory, memory, more) {
             refused = refused.saturating_add(1);
         }
-        same_at(&rt, more, memory.blocks(), 0);
+        assert_same_at(&rt, more, memory.live_blocks(), 0);
     }
     assert!(&rt; refused > 0 && refused < 16, "{refused}");
     Ok(())

@@ -5,7 +5,7 @@ use super::world::{Close, Numbers, Told, refused_at, reply, value, world_of};
 use flurry_base::reply::KeptReply;
 use flurry_bins_slots::{ComputeFn, NoFn};
 use flurry_steps::party::OwnedCall;
-use metered_alloc::Metered;
+use metered_alloc::MeteredAlloc;
 use std::alloc::{Allocator, Global};
 use std::process::Abort;
 use std::test::Fail;
@@ -46,7 +46,7 @@ fn row_of<F>(
 // own request fails is refused and changes nothing; a step that gets no room for its label is repeated.
 fn told_at<F: ComputeFn<u64, u64> + Copy, A: Allocator + Copy>(
     rt: &impl Abort,
-    metered: &Metered<Global>,
+    metered: &MeteredAlloc<Global>,
     memory: A,
     row: Row<F>,
     k: u64,
@@ -60,7 +60,7 @@ fn told_at<F: ComputeFn<u64, u64> + Copy, A: Allocator + Copy>(
             Told::Call => (Close::Refused, reply(row.before)),
             _ => (row.close, reply(row.after)),
         };
-        same_at(rt, k, (close, value(rt, &mut world, row.key)), wanted);
+        assert_same_at(rt, k, (close, value(rt, &mut world, row.key)), wanted);
     }
     drop(world);
     seen.map(|seen| seen.0)
@@ -69,7 +69,7 @@ fn told_at<F: ComputeFn<u64, u64> + Copy, A: Allocator + Copy>(
 // Makes the call of a row once for each of its requests.
 fn refuses_each<F: ComputeFn<u64, u64> + Copy, A: Allocator + Copy>(
     rt: &impl Abort,
-    metered: &Metered<Global>,
+    metered: &MeteredAlloc<Global>,
     memory: A,
     row: Row<F>,
 )
@@ -78,14 +78,14 @@ fn refuses_each<F: ComputeFn<u64, u64> + Copy, A: Allocator + Copy>(
     let mut own = 0u64;
     for k in 0..MOST {
         let told = told_at(rt, metered, memory, row, k);
-        same_at(rt, k, metered.blocks(), 0);
+        assert_same_at(rt, k, metered.live_blocks(), 0);
         match told {
             None => {
-                same_at(rt, k, own, row.own);
+                assert_same_at(rt, k, own, row.own);
                 return;
             }
             Some(Told::Call) => own = own.saturating_add(1),
-            _ => same_at(rt, k, told, Some(Told::Step)),
+            _ => assert_same_at(rt, k, told, Some(Told::Step)),
         }
     }
     panic!(rt; "it makes fewer requests")
@@ -93,7 +93,7 @@ fn refuses_each<F: ComputeFn<u64, u64> + Copy, A: Allocator + Copy>(
 
 fn refuses_writes<F: ComputeFn<u64, u64> + Copy, A: Allocator + Copy>(
     rt: &impl Abort,
-    metered: &Metered<Global>,
+    metered: &MeteredAlloc<Global>,
     memory: A,
     change: F,
 )
@@ -119,7 +119,7 @@ fn refuses_writes<F: ComputeFn<u64, u64> + Copy, A: Allocator + Copy>(
 
 fn refuses_removals<F: ComputeFn<u64, u64> + Copy, A: Allocator + Copy>(
     rt: &impl Abort,
-    metered: &Metered<Global>,
+    metered: &MeteredAlloc<Global>,
     memory: A,
 )
     requires { (f : F) → F.can_change f }
@@ -149,7 +149,7 @@ fn refuses_removals<F: ComputeFn<u64, u64> + Copy, A: Allocator + Copy>(
 
 fn refuses_walk<F: ComputeFn<u64, u64> + Copy, A: Allocator + Copy>(
     rt: &impl Abort,
-    metered: &Metered<Global>,
+    metered: &MeteredAlloc<Global>,
     memory: A,
 )
     requires { (f : F) → F.can_change f }
@@ -165,7 +165,7 @@ fn refuses_walk<F: ComputeFn<u64, u64> + Copy, A: Allocator + Copy>(
 
 #[test]
 fn calls_that_write(rt: HostRuntime) -> Result<(), Fail> {
-    let memory = Metered::leaked(rt.alloc())?;
+    let memory = MeteredAlloc::leak(rt.alloc())?;
     refuses_writes(
         &rt,
         memory,
@@ -177,7 +177,7 @@ fn calls_that_write(rt: HostRuntime) -> Result<(), Fail> {
 
 #[test]
 fn calls_that_take_nothing(rt: HostRuntime) -> Result<(), Fail> {
-    let memory = Metered::leaked(rt.alloc())?;
+    let memory = MeteredAlloc::leak(rt.alloc())?;
     refuses_removals::<NoFn, _>(&rt, memory, memory);
     refuses_walk::<NoFn, _>(&rt, memory, memory);
     Ok(())

@@ -1,11 +1,11 @@
 //! Each request of a slot's steps fails in turn.
-ghost use Rattle.flurry_bins_slots.specs.Slot.{LiesIn};
+ghost use Rattle.flurry_bins_slots.specs.Slot.{LiesInBin};
 
 use super::{Memory, same, same_at};
 use flurry_base::sizes::bin_index;
 use flurry_bins::bin::Bin;
 use flurry_bins_slots::{Answer, Computed, Given, Slot};
-use metered_alloc::Metered;
+use metered_alloc::MeteredAlloc;
 use std::alloc::{Allocator, Global};
 use std::process::Abort;
 use std::test::Fail;
@@ -23,7 +23,7 @@ fn empty_slot() -> NumberSlot {
 
 // Asserts that the hash of the tests lies in the region of the slot.
 fn lies_in(rt: &impl Abort, slot: &NumberSlot)
-    ensures { LiesIn 3 slot.now }
+    ensures { LiesInBin 3 slot.now }
 {
     let (table, index) = slot.at();
     assert!(rt; bin_index(3, table) == index);
@@ -43,7 +43,7 @@ fn put_at(rt: &impl Abort, memory: Memory, slot: &mut NumberSlot, k: u64, value:
     lies_in(rt, slot);
     memory.refuse_at(k);
     let failed = slot.put(memory, 3, 3, Given::Plain(value)).is_err();
-    let refused = memory.refused();
+    let refused = memory.was_refused();
     memory.refuse_nothing();
     (refused, failed, found(rt, slot))
 }
@@ -52,20 +52,20 @@ fn put_at(rt: &impl Abort, memory: Memory, slot: &mut NumberSlot, k: u64, value:
 fn slot_of_ten(rt: &impl Abort, memory: Memory) -> NumberSlot {
     let mut slot = empty_slot();
     let seen = put_at(rt, memory, &mut slot, u64::MAX, 10);
-    same(rt, seen, (false, false, Some((10, 1))));
+    assert_same(rt, seen, (false, false, Some((10, 1))));
     slot
 }
 
 // A new key makes requests for its key, its value and its node.
 #[test]
 fn put_of_a_new_key(rt: HostRuntime) -> Result<(), Fail> {
-    let memory = Metered::leaked(rt.alloc())?;
+    let memory = MeteredAlloc::leak(rt.alloc())?;
     for k in 0..4u64 {
         let refused = k < 3;
         let stands = if refused { None } else { Some((10, 1)) };
         let seen = put_at(&rt, memory, &mut empty_slot(), k, 10);
-        same_at(&rt, k, seen, (refused, refused, stands));
-        same_at(&rt, k, memory.blocks(), 0);
+        assert_same_at(&rt, k, seen, (refused, refused, stands));
+        assert_same_at(&rt, k, memory.live_blocks(), 0);
     }
     Ok(())
 }
@@ -73,13 +73,13 @@ fn put_of_a_new_key(rt: HostRuntime) -> Result<(), Fail> {
 // A present key makes a request for the value alone.
 #[test]
 fn put_of_a_present_key(rt: HostRuntime) -> Result<(), Fail> {
-    let memory = Metered::leaked(rt.alloc())?;
+    let memory = MeteredAlloc::leak(rt.alloc())?;
     for k in 0..2u64 {
         let refused = k < 1;
         let stands = if refused { (10, 1) } else { (11, 2) };
         let seen = put_at(&rt, memory, &mut slot_of_ten(&rt, memory), k, 11);
-        same_at(&rt, k, seen, (refused, refused, Some(stands)));
-        same_at(&rt, k, memory.blocks(), 0);
+        assert_same_at(&rt, k, seen, (refused, refused, Some(stands)));
+        assert_same_at(&rt, k, memory.live_blocks(), 0);
     }
     Ok(())
 }
@@ -89,7 +89,7 @@ fn add_at(rt: &impl Abort, memory: Memory, slot: &mut NumberSlot, k: u64, value:
     lies_in(rt, slot);
     memory.refuse_at(k);
     let failed = slot.put_absent(memory, 3, 3, value).is_err();
-    let refused = memory.refused();
+    let refused = memory.was_refused();
     memory.refuse_nothing();
     (refused, failed, found(rt, slot))
 }
@@ -97,20 +97,20 @@ fn add_at(rt: &impl Abort, memory: Memory, slot: &mut NumberSlot, k: u64, value:
 // At a present key, an addition makes no request to the allocator: cloning the value's `Arc` fails only at a count of about 2^63.
 #[test]
 fn put_absent(rt: HostRuntime) -> Result<(), Fail> {
-    let memory = Metered::leaked(rt.alloc())?;
+    let memory = MeteredAlloc::leak(rt.alloc())?;
     for k in 0..4u64 {
         let mut slot = empty_slot();
         let refused = k < 3;
         let stands = if refused { None } else { Some((10, 1)) };
         let seen = add_at(&rt, memory, &mut slot, k, 10);
-        same_at(&rt, k, seen, (refused, refused, stands));
+        assert_same_at(&rt, k, seen, (refused, refused, stands));
         if !refused {
             // Not even a first request is made.
             let seen = add_at(&rt, memory, &mut slot, 0, 11);
-            same_at(&rt, k, seen, (false, false, stands));
+            assert_same_at(&rt, k, seen, (false, false, stands));
         }
         drop(slot);
-        same_at(&rt, k, memory.blocks(), 0);
+        assert_same_at(&rt, k, memory.live_blocks(), 0);
     }
     Ok(())
 }
@@ -122,7 +122,7 @@ fn halve_at(rt: &impl Abort, memory: Memory, slot: &mut NumberSlot, k: u64) -> S
     let answer = slot.compute(memory, 3, &3, |_: &u64, value: &u64| Some(*value / 2));
     let failed = answer.is_err();
     drop(answer);
-    let refused = memory.refused();
+    let refused = memory.was_refused();
     memory.refuse_nothing();
     (refused, failed, found(rt, slot))
 }
@@ -149,23 +149,27 @@ fn is_absent(rt: &impl Abort, memory: Memory, slot: &mut NumberSlot) -> bool {
 // called.
 #[test]
 fn compute(rt: HostRuntime) -> Result<(), Fail> {
-    let memory = Metered::leaked(rt.alloc())?;
+    let memory = MeteredAlloc::leak(rt.alloc())?;
     for k in 0..2u64 {
         let mut slot = slot_of_ten(&rt, memory);
         let refused = k < 1;
         let stands = if refused { (10, 1) } else { (5, 2) };
         let seen = halve_at(&rt, memory, &mut slot, k);
-        same_at(&rt, k, seen, (refused, refused, Some(stands)));
-        same_at(&rt, k, is_removed(&rt, memory, &mut slot), true);
-        same_at(&rt, k, is_absent(&rt, memory, &mut slot), true);
+        assert_same_at(&rt, k, seen, (refused, refused, Some(stands)));
+        assert_same_at(&rt, k, is_removed(&rt, memory, &mut slot), true);
+        assert_same_at(&rt, k, is_absent(&rt, memory, &mut slot), true);
         drop(slot);
-        same_at(&rt, k, memory.blocks(), 0);
+        assert_same_at(&rt, k, memory.live_blocks(), 0);
     }
     Ok(())
 }
 
 // Does the steps of a slot that are not those above.
-fn does_other_steps<A: Allocator + Copy>(rt: &impl Abort, metered: &Metered<Global>, memory: A) {
+fn does_other_steps<A: Allocator + Copy>(
+    rt: &impl Abort,
+    metered: &MeteredAlloc<Global>,
+    memory: A,
+) {
     let mut slot: Slot<u64, u64, A> = Slot::live(4, 3, Bin::new());
     let first = slot.put(memory, 3, 3, Given::Plain(10));
     drop(first.ok().expect(rt, "memory"));
@@ -183,8 +187,8 @@ fn does_other_steps<A: Allocator + Copy>(rt: &impl Abort, metered: &Metered<Glob
 
 #[test]
 fn the_other_steps_ask_for_nothing(rt: HostRuntime) -> Result<(), Fail> {
-    let memory = Metered::leaked(rt.alloc())?;
+    let memory = MeteredAlloc::leak(rt.alloc())?;
     does_other_steps(&rt, memory, memory);
-    same(&rt, (memory.asked(), memory.blocks()), (0, 0));
+    assert_same(&rt, (memory.requests(), memory.live_blocks()), (0, 0));
     Ok(())
 }

@@ -8,7 +8,7 @@ use flurry_steps::party::OwnedCall;
 use flurry_steps_theory::Label;
 use flurry_steps_world::World;
 use flurry_steps_world::world::Step;
-use metered_alloc::Metered;
+use metered_alloc::MeteredAlloc;
 use std::alloc::{AllocError, Allocator, Global};
 use std::fmt::Debug;
 use std::process::Abort;
@@ -86,7 +86,7 @@ fn finish<F: ComputeFn<u64, u64> + Copy, A: Allocator + Copy>(
         let before = label_count(world);
         if world.step(party).is_err() {
             refused = true;
-            same(rt, label_count(world), before);
+            assert_same(rt, label_count(world), before);
         } else if let Some(close) = last_close(world) {
             return (close, refused);
         }
@@ -185,7 +185,7 @@ pub(super) fn world_of<F: ComputeFn<u64, u64> + Copy, A: Allocator + Copy>(
 // Makes the call while one request fails. Returns what that did to the call, and how the call closed, or `None` if it made no such request.
 pub(super) fn refused_at<F: ComputeFn<u64, u64> + Copy, A: Allocator + Copy>(
     rt: &impl Abort,
-    metered: &Metered<Global>,
+    metered: &MeteredAlloc<Global>,
     world: &mut Numbers<F, A>,
     call: OwnedCall<u64, u64, F>,
     request: u64,
@@ -195,7 +195,7 @@ pub(super) fn refused_at<F: ComputeFn<u64, u64> + Copy, A: Allocator + Copy>(
     let party = begins(rt, world, call);
     metered.refuse_at(request);
     let (close, again) = finish(rt, world, party);
-    let refused = metered.refused();
+    let refused = metered.was_refused();
     metered.refuse_nothing();
     if !refused {
         return None;
@@ -222,7 +222,7 @@ fn a_world_with_a_table(rt: HostRuntime) -> Result<(), Fail> {
 
 // Creates a world while the request numbered `k` fails. Returns whether that request was made, and whether there is no world.
 fn refused_world<F: ComputeFn<u64, u64> + Copy, A: Allocator + Copy>(
-    metered: &Metered<Global>,
+    metered: &MeteredAlloc<Global>,
     memory: A,
     capacity: usize,
     k: u64,
@@ -231,7 +231,7 @@ fn refused_world<F: ComputeFn<u64, u64> + Copy, A: Allocator + Copy>(
     let answer: Result<Numbers<F, A>, AllocError> = World::new(memory, capacity, LowHashBuilder, 1);
     let failed = answer.is_err();
     drop(answer);
-    let refused = metered.refused();
+    let refused = metered.was_refused();
     metered.refuse_nothing();
     (refused, failed)
 }
@@ -243,16 +243,16 @@ fn requests_of_a_new_world<F: ComputeFn<u64, u64> + Copy>(
     capacity: usize,
     requests: u64,
 ) -> Result<(), Fail> {
-    let memory = Metered::leaked(alloc)?;
+    let memory = MeteredAlloc::leak(alloc)?;
     for k in 0..=requests {
         let refused = k < requests;
-        same_at(
+        assert_same_at(
             rt,
             k,
             refused_world::<F, _>(memory, memory, capacity, k),
             (refused, refused),
         );
-        same_at(rt, k, memory.blocks(), 0);
+        assert_same_at(rt, k, memory.live_blocks(), 0);
     }
     Ok(())
 }
@@ -261,17 +261,17 @@ fn requests_of_a_new_world<F: ComputeFn<u64, u64> + Copy>(
 // number.
 #[test]
 fn begin(rt: HostRuntime) -> Result<(), Fail> {
-    let memory = Metered::leaked(rt.alloc())?;
+    let memory = MeteredAlloc::leak(rt.alloc())?;
     for k in 0..3u64 {
         begins_at::<NoFn, _>(&rt, memory, memory, k);
-        same_at(&rt, k, memory.blocks(), 0);
+        assert_same_at(&rt, k, memory.live_blocks(), 0);
     }
     Ok(())
 }
 
 fn begins_at<F: ComputeFn<u64, u64> + Copy, A: Allocator + Copy>(
     rt: &impl Abort,
-    metered: &Metered<Global>,
+    metered: &MeteredAlloc<Global>,
     memory: A,
     k: u64,
 )
@@ -280,26 +280,26 @@ fn begins_at<F: ComputeFn<u64, u64> + Copy, A: Allocator + Copy>(
     let mut world: Numbers<F, A> = world_for(rt, memory, 0);
     metered.refuse_at(k);
     let failed = world.begin(OwnedCall::Insert(3, 10)).is_err();
-    let refused = metered.refused();
+    let refused = metered.was_refused();
     metered.refuse_nothing();
     let seen = (refused, failed, label_count(&world) == 0);
-    same_at(rt, k, seen, (k < 2, refused, refused));
+    assert_same_at(rt, k, seen, (k < 2, refused, refused));
     let (next, found) = if refused { (0, None) } else { (1, Some(10)) };
-    same_at(rt, k, begins(rt, &mut world, OwnedCall::Get(3)), next);
-    same_at(rt, k, finish(rt, &mut world, 0).0, reply(None));
-    same_at(rt, k, value(rt, &mut world, 3), reply(found));
+    assert_same_at(rt, k, begins(rt, &mut world, OwnedCall::Get(3)), next);
+    assert_same_at(rt, k, finish(rt, &mut world, 0).0, reply(None));
+    assert_same_at(rt, k, value(rt, &mut world, 3), reply(found));
     drop(world);
 }
 
 // An insertion makes requests for the first table, its key, its value and its node, and then for room for the label of its reply.
 #[test]
 fn insertion_into_a_new_world(rt: HostRuntime) -> Result<(), Fail> {
-    let memory = Metered::leaked(rt.alloc())?;
+    let memory = MeteredAlloc::leak(rt.alloc())?;
     for k in 0..MOST {
         let refused = inserts_at::<NoFn, _>(&rt, rt.alloc(), memory, memory, k);
-        same_at(&rt, k, memory.blocks(), 0);
+        assert_same_at(&rt, k, memory.live_blocks(), 0);
         if !refused {
-            same(&rt, k, 5);
+            assert_same(&rt, k, 5);
             return Ok(());
         }
     }
@@ -325,7 +325,7 @@ fn text_of_an_insertion<F: ComputeFn<u64, u64> + Copy + Debug, A: Allocator + Co
 fn inserts_at<F: ComputeFn<u64, u64> + Copy + Debug, A: Allocator + Copy>(
     rt: &impl Abort,
     alloc: Global,
-    metered: &Metered<Global>,
+    metered: &MeteredAlloc<Global>,
     memory: A,
     k: u64,
 ) -> bool
@@ -353,28 +353,28 @@ fn inserted_at<F: ComputeFn<u64, u64> + Copy + Debug, A: Allocator + Copy>(
 {
     let none = reply(None);
     if k < 4 {
-        same_at(rt, k, seen, (Told::Call, Close::Refused));
-        same_at(rt, k, value(rt, world, 3), none);
-        same_at(rt, k, whole(rt, world, OwnedCall::Insert(3, 11)), none);
+        assert_same_at(rt, k, seen, (Told::Call, Close::Refused));
+        assert_same_at(rt, k, value(rt, world, 3), none);
+        assert_same_at(rt, k, whole(rt, world, OwnedCall::Insert(3, 11)), none);
     } else {
-        same_at(rt, k, seen, (Told::Step, none));
+        assert_same_at(rt, k, seen, (Told::Step, none));
         let plain = text_of_an_insertion::<F, A>(rt, alloc, memory);
-        same_at(rt, k, labels_from(rt, alloc, world, 0), plain);
+        assert_same_at(rt, k, labels_from(rt, alloc, world, 0), plain);
     }
     let found = if k < 4 { 11 } else { 10 };
-    same_at(rt, k, value(rt, world, 3), reply(Some(found)));
+    assert_same_at(rt, k, value(rt, world, 3), reply(Some(found)));
 }
 
 // The insertion that reaches the threshold also makes a request for a larger table. If that fails, the insertion continues, and the next
 // one makes the request again.
 #[test]
 fn insertion_that_grows(rt: HostRuntime) -> Result<(), Fail> {
-    let memory = Metered::leaked(rt.alloc())?;
+    let memory = MeteredAlloc::leak(rt.alloc())?;
     for k in 0..MOST {
         let refused = grows_at::<NoFn, _>(&rt, rt.alloc(), memory, memory, k);
-        same_at(&rt, k, memory.blocks(), 0);
+        assert_same_at(&rt, k, memory.live_blocks(), 0);
         if !refused {
-            same(&rt, k, 5);
+            assert_same(&rt, k, 5);
             return Ok(());
         }
     }
@@ -385,7 +385,7 @@ fn insertion_that_grows(rt: HostRuntime) -> Result<(), Fail> {
 fn grows_at<F: ComputeFn<u64, u64> + Copy + Debug, A: Allocator + Copy>(
     rt: &impl Abort,
     alloc: Global,
-    metered: &Metered<Global>,
+    metered: &MeteredAlloc<Global>,
     memory: A,
     k: u64,
 ) -> bool
@@ -416,33 +416,33 @@ fn grown_at<F: ComputeFn<u64, u64> + Copy + Debug, A: Allocator + Copy>(
         3 => ((Told::Nothing, none), Some(5)),
         _ => ((Told::Step, none), Some(5)),
     };
-    same_at(rt, k, seen, wanted);
-    same_at(rt, k, say(rt, alloc, world, "Placed(5)"), k == 4);
-    same_at(rt, k, value(rt, world, 20), reply(found));
-    same_at(rt, k, whole(rt, world, OwnedCall::Insert(21, 6)), none);
-    same_at(rt, k, whole(rt, world, OwnedCall::Insert(22, 7)), none);
-    same_at(rt, k, say(rt, alloc, world, "Published(5)"), true);
+    assert_same_at(rt, k, seen, wanted);
+    assert_same_at(rt, k, say(rt, alloc, world, "Placed(5)"), k == 4);
+    assert_same_at(rt, k, value(rt, world, 20), reply(found));
+    assert_same_at(rt, k, whole(rt, world, OwnedCall::Insert(21, 6)), none);
+    assert_same_at(rt, k, whole(rt, world, OwnedCall::Insert(22, 7)), none);
+    assert_same_at(rt, k, say(rt, alloc, world, "Published(5)"), true);
 }
 
 // A look-up makes a request for room for its labels, and no other.
 #[test]
 fn look_up(rt: HostRuntime) -> Result<(), Fail> {
-    let memory = Metered::leaked(rt.alloc())?;
+    let memory = MeteredAlloc::leak(rt.alloc())?;
     for k in 0..MOST {
         let seen = looks_up_at::<NoFn, _>(&rt, memory, memory, k);
-        same_at(&rt, k, memory.blocks(), 0);
+        assert_same_at(&rt, k, memory.live_blocks(), 0);
         if seen.is_none() {
-            same(&rt, k, 1);
+            assert_same(&rt, k, 1);
             return Ok(());
         }
-        same_at(&rt, k, seen, Some((Told::Step, reply(Some(0)))));
+        assert_same_at(&rt, k, seen, Some((Told::Step, reply(Some(0)))));
     }
     Err(Fail::from("it makes fewer requests"))
 }
 
 fn looks_up_at<F: ComputeFn<u64, u64> + Copy, A: Allocator + Copy>(
     rt: &impl Abort,
-    metered: &Metered<Global>,
+    metered: &MeteredAlloc<Global>,
     memory: A,
     k: u64,
 ) -> Option<(Told, Close)>
@@ -458,15 +458,15 @@ fn looks_up_at<F: ComputeFn<u64, u64> + Copy, A: Allocator + Copy>(
 // the one of 512 bins, the first whose threshold is at least 256.
 #[test]
 fn reserve_in_a_new_world(rt: HostRuntime) -> Result<(), Fail> {
-    let memory = Metered::leaked(rt.alloc())?;
-    same(&rt, refusals_of_a_reserve(&rt, memory, 0), 2);
+    let memory = MeteredAlloc::leak(rt.alloc())?;
+    assert_same(&rt, refusals_of_a_reserve(&rt, memory, 0), 2);
     Ok(())
 }
 
 #[test]
 fn reserve_in_a_world_of_16_bins(rt: HostRuntime) -> Result<(), Fail> {
-    let memory = Metered::leaked(rt.alloc())?;
-    same(&rt, refusals_of_a_reserve(&rt, memory, 1), 5);
+    let memory = MeteredAlloc::leak(rt.alloc())?;
+    assert_same(&rt, refusals_of_a_reserve(&rt, memory, 1), 5);
     Ok(())
 }
 
@@ -475,11 +475,11 @@ fn refusals_of_a_reserve(rt: &impl Abort, memory: Memory, count: u64) -> u64 {
     let mut refusals = 0u64;
     for k in 0..MOST {
         let seen = reserves_at::<NoFn, _>(rt, memory, memory, count, k);
-        same_at(rt, k, memory.blocks(), 0);
+        assert_same_at(rt, k, memory.live_blocks(), 0);
         match seen {
             None => return refusals,
             Some((Told::Call, Close::Refused)) => refusals = refusals.saturating_add(1),
-            _ => same_at(rt, k, seen, Some((Told::Step, Close::End))),
+            _ => assert_same_at(rt, k, seen, Some((Told::Step, Close::End))),
         }
     }
     panic!(rt; "it makes fewer requests")
@@ -488,7 +488,7 @@ fn refusals_of_a_reserve(rt: &impl Abort, memory: Memory, count: u64) -> u64 {
 // Returns what the failure of one request did to a reserve. The pairs stay, and a second reserve succeeds.
 fn reserves_at<F: ComputeFn<u64, u64> + Copy, A: Allocator + Copy>(
     rt: &impl Abort,
-    metered: &Metered<Global>,
+    metered: &MeteredAlloc<Global>,
     memory: A,
     count: u64,
     k: u64,
@@ -498,8 +498,8 @@ fn reserves_at<F: ComputeFn<u64, u64> + Copy, A: Allocator + Copy>(
     let mut world: Numbers<F, A> = world_of(rt, memory, count);
     let seen = refused_at(rt, metered, &mut world, OwnedCall::Reserve(100), k);
     let found = if count == 0 { None } else { Some(0) };
-    same_at(rt, k, value(rt, &mut world, 0), reply(found));
-    same_at(
+    assert_same_at(rt, k, value(rt, &mut world, 0), reply(found));
+    assert_same_at(
         rt,
         k,
         whole(rt, &mut world, OwnedCall::Reserve(100)),
@@ -553,12 +553,12 @@ fn text_of_steps<F: ComputeFn<u64, u64> + Copy + Debug, A: Allocator + Copy>(
 // any other.
 #[test]
 fn run(rt: HostRuntime) -> Result<(), Fail> {
-    let memory = Metered::leaked(rt.alloc())?;
+    let memory = MeteredAlloc::leak(rt.alloc())?;
     for k in 0..MOST {
         let refused = runs_at::<NoFn, _>(&rt, rt.alloc(), memory, memory, k);
-        same_at(&rt, k, memory.blocks(), 0);
+        assert_same_at(&rt, k, memory.live_blocks(), 0);
         if !refused {
-            same(&rt, k, 9);
+            assert_same(&rt, k, 9);
             return Ok(());
         }
     }
@@ -570,7 +570,7 @@ fn run(rt: HostRuntime) -> Result<(), Fail> {
 fn runs_at<F: ComputeFn<u64, u64> + Copy + Debug, A: Allocator + Copy>(
     rt: &impl Abort,
     alloc: Global,
-    metered: &Metered<Global>,
+    metered: &MeteredAlloc<Global>,
     memory: A,
     k: u64,
 ) -> bool
@@ -580,18 +580,18 @@ fn runs_at<F: ComputeFn<u64, u64> + Copy + Debug, A: Allocator + Copy>(
     let steps = steps_from(rt, memory, 0);
     metered.refuse_at(k);
     let ran = world.run(steps).is_ok();
-    let refused = metered.refused();
+    let refused = metered.was_refused();
     metered.refuse_nothing();
     let done = label_count(&world);
     let whole = !refused || 3 <= k && k < 7;
-    same_at(rt, k, (ran, done == STEPS), (whole, whole));
+    assert_same_at(rt, k, (ran, done == STEPS), (whole, whole));
     world
         .run(steps_from(rt, memory, done))
         .expect(rt, "memory for the rest");
-    same_at(rt, k, label_count(&world), STEPS);
+    assert_same_at(rt, k, label_count(&world), STEPS);
     let plain = text_of_steps::<F, A>(rt, alloc, memory);
     let is_plain = labels_from(rt, alloc, &world, 0) == plain;
     drop(world);
-    same_at(rt, k, is_plain, !refused || !whole);
+    assert_same_at(rt, k, is_plain, !refused || !whole);
     refused
 }

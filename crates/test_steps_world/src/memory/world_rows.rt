@@ -4,7 +4,7 @@ use super::same;
 use super::world::{Numbers, begins, label_count, labels_from, step_to, world_for};
 use flurry_bins_slots::{ComputeFn, NoFn};
 use flurry_steps::party::OwnedCall;
-use metered_alloc::Metered;
+use metered_alloc::MeteredAlloc;
 use std::alloc::{Allocator, Global};
 use std::fmt::Debug;
 use std::process::Abort;
@@ -18,12 +18,12 @@ fn shows<F: ComputeFn<u64, u64> + Copy + Debug, A: Allocator + Copy>(
     first: usize,
     labels: &str,
 ) {
-    same(rt, labels_from(rt, alloc, world, first).as_str(), labels);
+    assert_same(rt, labels_from(rt, alloc, world, first).as_str(), labels);
 }
 
 #[test]
 fn first_table_refused(rt: HostRuntime) -> Result<(), Fail> {
-    let memory = Metered::leaked(rt.alloc())?;
+    let memory = MeteredAlloc::leak(rt.alloc())?;
     refuses_first_table::<NoFn, _>(&rt, rt.alloc(), memory, memory);
     Ok(())
 }
@@ -31,7 +31,7 @@ fn first_table_refused(rt: HostRuntime) -> Result<(), Fail> {
 fn refuses_first_table<F: ComputeFn<u64, u64> + Copy + Debug, A: Allocator + Copy>(
     rt: &impl Abort,
     alloc: Global,
-    metered: &Metered<Global>,
+    metered: &MeteredAlloc<Global>,
     memory: A,
 )
     requires { (f : F) → F.can_change f }
@@ -54,7 +54,7 @@ fn refuses_first_table<F: ComputeFn<u64, u64> + Copy + Debug, A: Allocator + Cop
 
 #[test]
 fn larger_table_of_an_insertion_refused(rt: HostRuntime) -> Result<(), Fail> {
-    let memory = Metered::leaked(rt.alloc())?;
+    let memory = MeteredAlloc::leak(rt.alloc())?;
     refuses_larger_table::<NoFn, _>(&rt, rt.alloc(), memory, memory);
     Ok(())
 }
@@ -78,21 +78,21 @@ fn eleven_keys<F: ComputeFn<u64, u64> + Copy, A: Allocator + Copy>(
 fn refuses_larger_table<F: ComputeFn<u64, u64> + Copy + Debug, A: Allocator + Copy>(
     rt: &impl Abort,
     alloc: Global,
-    metered: &Metered<Global>,
+    metered: &MeteredAlloc<Global>,
     memory: A,
 )
     requires { (f : F) → F.can_change f }
 {
     let mut world: Numbers<F, A> = eleven_keys(rt, memory);
-    same(rt, begins(rt, &mut world, OwnedCall::Insert(11, 11)), 11);
+    assert_same(rt, begins(rt, &mut world, OwnedCall::Insert(11, 11)), 11);
     metered.refuse_at(3);
     step_to(rt, &mut world, 11, 61);
-    same(rt, metered.refused(), true);
+    assert_same(rt, metered.was_refused(), true);
     metered.refuse_nothing();
     let labels =
         "[Silent(11), Decide(11, Value(None)), Silent(11), Silent(11), Reply(11, Value(None))]";
     shows(rt, alloc, &world, 56, labels);
-    same(rt, begins(rt, &mut world, OwnedCall::Insert(12, 12)), 12);
+    assert_same(rt, begins(rt, &mut world, OwnedCall::Insert(12, 12)), 12);
     step_to(rt, &mut world, 12, 66);
     let labels = "[Silent(12), Decide(12, Value(None)), Silent(12), Placed(5)]";
     shows(rt, alloc, &world, 62, labels);
@@ -101,7 +101,7 @@ fn refuses_larger_table<F: ComputeFn<u64, u64> + Copy + Debug, A: Allocator + Co
 
 #[test]
 fn larger_table_of_a_reserve_refused(rt: HostRuntime) -> Result<(), Fail> {
-    let memory = Metered::leaked(rt.alloc())?;
+    let memory = MeteredAlloc::leak(rt.alloc())?;
     refuses_reserve::<NoFn, _>(&rt, rt.alloc(), memory, memory);
     Ok(())
 }
@@ -109,7 +109,7 @@ fn larger_table_of_a_reserve_refused(rt: HostRuntime) -> Result<(), Fail> {
 fn refuses_reserve<F: ComputeFn<u64, u64> + Copy + Debug, A: Allocator + Copy>(
     rt: &impl Abort,
     alloc: Global,
-    metered: &Metered<Global>,
+    metered: &MeteredAlloc<Global>,
     memory: A,
 )
     requires { (f : F) → F.can_change f }
@@ -118,7 +118,7 @@ fn refuses_reserve<F: ComputeFn<u64, u64> + Copy + Debug, A: Allocator + Copy>(
     let _ = begins(rt, &mut world, OwnedCall::Reserve(16));
     metered.refuse_at(0);
     step_to(rt, &mut world, 0, 3);
-    same(rt, metered.refused(), true);
+    assert_same(rt, metered.was_refused(), true);
     metered.refuse_nothing();
     shows(rt, alloc, &world, 1, "[Silent(0), Refused(0)]");
     drop(world);

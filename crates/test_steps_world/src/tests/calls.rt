@@ -68,7 +68,7 @@ fn absent_key<'k, F: ComputeFn<u64, u64> + Copy>(
     assert_reply(rt, world, OwnedCall::RemoveEntry(3), KeptReply::Pair(None));
     assert_reply(rt, world, OwnedCall::Compute(3, change), none);
     let party = begin(rt, world, OwnedCall::Reserve(40));
-    same(rt, end_of(rt, world, party), Line::End(party));
+    assert_same(rt, end_of(rt, world, party), Line::End(party));
 }
 
 #[test]
@@ -234,9 +234,9 @@ fn assert_trace<'k, F: ComputeFn<u64, u64> + Copy>(
     world: &Numbers<'k, F>,
     lines: &[Line],
 ) {
-    same(rt, label_count(world), lines.len());
+    assert_same(rt, label_count(world), lines.len());
     for (label, line) in world.trace().iter().zip(lines) {
-        same(rt, line_of(label), *line);
+        assert_same(rt, line_of(label), *line);
     }
 }
 
@@ -277,7 +277,7 @@ fn begins_with<'k, F: ComputeFn<u64, u64> + Copy>(
 {
     let lines = [Line::Silent(0), Line::Decide(0, value(None))];
     assert_call(rt, world, 0, OwnedCall::Insert(0, 0), &lines);
-    same(rt, end_of(rt, world, 0), Line::Reply(0, value(None)));
+    assert_same(rt, end_of(rt, world, 0), Line::Reply(0, value(None)));
     let lines = [Line::Silent(1), Line::Placed(table.saturating_add(1))];
     assert_call(rt, world, 1, OwnedCall::Reserve(64), &lines);
 }

@@ -47,8 +47,8 @@ fn drops<'k, F: ComputeFn<u64, u64> + Copy>(
     party: usize,
 ) {
     let began = world.begin_remove_seen(1).expect(rt, "memory for the call");
-    same(rt, began, Some(party));
-    same(rt, last_line(rt, world), Line::Begin(party));
+    assert_same(rt, began, Some(party));
+    assert_same(rt, last_line(rt, world), Line::Begin(party));
 }
 
 // Asserts that no removal of what the party has read begins, and that no label is added.
@@ -61,8 +61,8 @@ fn drops_nothing<'k, F: ComputeFn<u64, u64> + Copy>(
     let began = world
         .begin_remove_seen(party)
         .expect(rt, "memory for nothing");
-    same(rt, began, None);
-    same(rt, label_count(world), labels);
+    assert_same(rt, began, None);
+    assert_same(rt, label_count(world), labels);
 }
 
 #[test]

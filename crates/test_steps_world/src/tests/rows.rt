@@ -95,7 +95,7 @@ fn insertion_and_look_up<'k, F: ComputeFn<u64, u64> + Copy>(
     let lines = inserted(0, Line::Opened(4));
     assert_call(rt, world, 0, OwnedCall::Insert(3, 4), &lines);
     assert_call(rt, world, 1, OwnedCall::Get(3), &found(1, 4));
-    same(rt, label_count(world), 11);
+    assert_same(rt, label_count(world), 11);
 }
 
 #[test]
@@ -159,7 +159,7 @@ fn moves_range<'k, F: ComputeFn<u64, u64> + Copy>(
 ) {
     for index in (0..16usize).rev() {
         let moved = Line::Moved(6, low.saturating_add(index));
-        same(rt, step(rt, world, party), moved);
+        assert_same(rt, step(rt, world, party), moved);
     }
 }
 
@@ -167,7 +167,7 @@ fn moves_range<'k, F: ComputeFn<u64, u64> + Copy>(
 fn nothing_published<'k, F: ComputeFn<u64, u64> + Copy>(rt: &impl Abort, world: &Numbers<'k, F>) {
     for label in world.trace() {
         let published = matches!(&line_of(label), Line::Published(_));
-        same(rt, published, false);
+        assert_same(rt, published, false);
     }
 }
 
@@ -208,7 +208,7 @@ fn stops_for_good<'k, F: ComputeFn<u64, u64> + Copy>(rt: &impl Abort, world: &mu
     assert_call(rt, world, 4, OwnedCall::Get(2), &found_further_on(4, 2));
     let lines = [Line::Silent(5), Line::Decide(5, value(None))];
     assert_call(rt, world, 5, OwnedCall::Insert(114, 1), &lines);
-    same(rt, end_of(rt, world, 5), Line::Reply(5, value(None)));
+    assert_same(rt, end_of(rt, world, 5), Line::Reply(5, value(None)));
     others_end(rt, world);
     nothing_published(rt, world);
 }
@@ -235,7 +235,7 @@ fn ends<'k, F: ComputeFn<u64, u64> + Copy>(
     requires { (f : F) → F.can_change f }
 {
     let party = begin(rt, world, call);
-    same(rt, end_of(rt, world, party), Line::End(party));
+    assert_same(rt, end_of(rt, world, party), Line::End(party));
 }
 
 #[test]
@@ -256,7 +256,7 @@ fn does_nothing<'k, F: ComputeFn<u64, u64> + Copy>(rt: &impl Abort, world: &mut 
     ];
     assert_call(rt, world, 0, OwnedCall::Get(1), &lines);
     assert_steps(rt, world, usize::MAX, &[Line::Silent(usize::MAX)]);
-    same(rt, label_count(world), 8);
+    assert_same(rt, label_count(world), 8);
 }
 
 #[test]

@@ -35,7 +35,7 @@ fn rests<'k, F: ComputeFn<u64, u64> + Copy>(
     steps: u64,
 ) {
     for _ in 0..steps {
-        same(rt, step(rt, world, party), Line::Silent(party));
+        assert_same(rt, step(rt, world, party), Line::Silent(party));
     }
 }
 
@@ -49,7 +49,7 @@ fn ends_after<'k, F: ComputeFn<u64, u64> + Copy>(
     for _ in 1..steps {
         assert!(rt; step(rt, world, party) != Line::End(party));
     }
-    same(rt, step(rt, world, party), Line::End(party));
+    assert_same(rt, step(rt, world, party), Line::End(party));
 }
 
 // In a world of 16 bins, with the keys 1 and 17 in one of them, party 2 walks and has read 1.
@@ -170,7 +170,7 @@ fn clears_while_growing<'k, F: ComputeFn<u64, u64> + Copy>(
     assert_call(rt, world, 2, OwnedCall::Reserve(30), &lines);
     assert_call(rt, world, 3, OwnedCall::Clear, &[Line::Silent(3)]);
     for index in 0..63usize {
-        same(rt, step(rt, world, 3), Line::Wipe(3, 6, index));
+        assert_same(rt, step(rt, world, 3), Line::Wipe(3, 6, index));
     }
     let lines = [
         Line::Silent(3),
@@ -194,5 +194,5 @@ fn sweeps_nothing<'k, F: ComputeFn<u64, u64> + Copy>(rt: &impl Abort, world: &mu
     let lines = [Line::Silent(0), Line::End(0), Line::Silent(0)];
     assert_call(rt, world, 0, OwnedCall::Walk, &lines);
     let clear = begin(rt, world, OwnedCall::Clear);
-    same(rt, end_of(rt, world, clear), Line::End(clear));
+    assert_same(rt, end_of(rt, world, clear), Line::End(clear));
 }

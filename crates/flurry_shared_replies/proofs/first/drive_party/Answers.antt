@@ -1,4 +1,4 @@
-use Rattle.flurry_shared_replies.proofs.LenderLaws.{driven_reply}
+use Rattle.flurry_shared_replies.proofs.FieldLaws.{driven_reply}
 use Rattle.flurry_shared_replies.proofs.first.drive_party.Goals as goal
 
 pub returns : goal.returns

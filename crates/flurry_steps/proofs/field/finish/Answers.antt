@@ -1,13 +1,13 @@
 use Rattle.std.proofs.Common.{rules}
-use Rattle.flurry_steps.specs.Turns.{still}
-use Rattle.flurry_steps.proofs.TurnLaws.{turns_on}
+use Rattle.flurry_steps.specs.StepClosure.{still}
+use Rattle.flurry_steps.proofs.ClosureLaws.{steps_on}
 use Rattle.flurry_steps.proofs.field.finish.Goals as goal
 
 pub loop-init : goal.loop-init
 loop-init g c = (tt, tt, still)
 
 pub loop-preserved-then-is_some : goal.loop-preserved-then-is_some
-loop-preserved-then-is_some g c = (tt, tt, turns_on _ g.X.Field.lacks _ _ _ _ _ _ c.act.result c.act.ensures c.loop.invariant.2)
+loop-preserved-then-is_some g c = (tt, tt, steps_on _ g.X.Field.lacks _ _ _ _ _ _ c.act.result c.act.ensures c.loop.invariant.2)
 
 pub returns-in-Some-take_reply : goal.returns-in-Some-take_reply
 returns-in-Some-take_reply g c = search rules

@@ -26,12 +26,12 @@ fn holds(rt: &impl Abort, set: &Elements, old: u64, new: bool) {
     let mut count = 0usize;
     for element in 0..8u64 {
         let wanted = element < old || new && element >= 2;
-        same(rt, (element, set.contains(&element)), (element, wanted));
+        assert_same(rt, (element, set.contains(&element)), (element, wanted));
         if wanted {
             count = count.wrapping_add(1);
         }
     }
-    same(rt, set.len(), count);
+    assert_same(rt, set.len(), count);
 }
 
 // Makes a set from three pieces of a list.
@@ -44,7 +44,7 @@ pub(super) fn build(
     let list = list(memory, 2, 8)?;
     refuse(memory, k, all);
     let answer = set::from_par_list(rt, memory, list, LowHashBuilder, 2);
-    let refused = memory.refused();
+    let refused = memory.was_refused();
     memory.refuse_nothing();
     refused_or_done(rt, k, refused, answer.is_ok());
     if let Ok(set) = answer {
@@ -70,7 +70,7 @@ pub(super) fn extend(
     let list = list(memory, 2, 8)?;
     refuse(memory, k, all);
     let answer = set::par_extend(rt, &mut set, list, 2);
-    let refused = memory.refused();
+    let refused = memory.was_refused();
     memory.refuse_nothing();
     refused_or_done(rt, k, refused, answer.is_ok());
     holds(rt, &set, old, answer.is_ok());

@@ -17,14 +17,14 @@ fn first_read<F: ComputeFn<u64, u64>>(
     go_on(rt, map, &ONE_AND_SEVENTEEN);
     let mut walk: Party<'_, u64, u64, F> = Party::new(Call::Walk, 0, 1);
     let events = steps(rt, &mut walk, map, 3);
-    same(
+    assert_same(
         rt,
         events.as_slice(),
         &[Event::Silent, Event::Silent, Event::Read],
     );
     let seen = seen_by(rt, &walk);
     drop(walk);
-    same(rt, (seen.key(), seen.value(), seen.number()), (&1, &0, 1));
+    assert_same(rt, (seen.key(), seen.value(), seen.number()), (&1, &0, 1));
     seen
 }
 
@@ -52,9 +52,9 @@ fn reads_and_removes(
     go_on(rt, &mut map, before);
     let (seen_events, told) = removes(rt, &mut map, seen);
     if !events.is_empty() {
-        same(rt, seen_events.as_slice(), events);
+        assert_same(rt, seen_events.as_slice(), events);
     }
-    same(rt, told, reply);
+    assert_same(rt, told, reply);
     go_on(rt, &mut map, after);
     drop(map);
 }
@@ -87,10 +87,10 @@ fn a_pair_that_came_again_stays(rt: HostRuntime) {
     let removed = Row::Replies(1, OwnedCall::Remove(1), value(Some(0)));
     go_on(&rt, &mut map, &[removed]);
     let further = seen.try_clone().expect(&rt, "a further owner");
-    same(&rt, removes(&rt, &mut map, further).1, NONE);
+    assert_same(&rt, removes(&rt, &mut map, further).1, NONE);
     let inserted = Row::Replies(1, OwnedCall::Insert(1, 0), NONE);
     go_on(&rt, &mut map, &[inserted]);
-    same(&rt, removes(&rt, &mut map, seen).1, NONE);
+    assert_same(&rt, removes(&rt, &mut map, seen).1, NONE);
     go_on(&rt, &mut map, &[Row::Pairs(2)]);
     drop(map);
 }
@@ -109,7 +109,7 @@ fn a_map_without_a_table_has_no_such_pair(rt: HostRuntime) {
     drop(read);
     let mut map = empty_map(rt.alloc(), 1, 0);
     let (events, told) = removes(&rt, &mut map, seen);
-    same(&rt, (events.as_slice(), told), (&[Event::Decide], NONE));
+    assert_same(&rt, (events.as_slice(), told), (&[Event::Decide], NONE));
     go_on(&rt, &mut map, &[Row::Table(None)]);
     drop(map);
 }

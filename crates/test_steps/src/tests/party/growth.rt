@@ -101,7 +101,7 @@ fn list_of_eight_grows_before_the_count(rt: HostRuntime) {
 fn insertion_helps(rt: HostRuntime) {
     let mut map = empty_map(rt.alloc(), 2, 0);
     let table = map.control.open(6, &mut map.tables);
-    same(&rt, table.expect(&rt, "memory for the table"), 6);
+    assert_same(&rt, table.expect(&rt, "memory for the table"), 6);
     let finds_nothing = [
         Event::Silent,
         Event::Silent,

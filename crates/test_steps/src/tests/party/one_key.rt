@@ -129,10 +129,10 @@ fn adds(rt: &(impl Abort + AllocGlobal), map: &mut Map, key: u64) -> (u64, Told)
 #[test]
 fn function_is_called_for_a_present_key_alone(rt: HostRuntime) {
     let mut map = empty_map(rt.alloc(), 1, 0);
-    same(&rt, adds(&rt, &mut map, 3), (0, NONE));
+    assert_same(&rt, adds(&rt, &mut map, 3), (0, NONE));
     go_on(&rt, &mut map, &[INSERTS_THREE]);
-    same(&rt, adds(&rt, &mut map, 19), (0, NONE));
-    same(&rt, adds(&rt, &mut map, 3), (1, value(Some(3))));
+    assert_same(&rt, adds(&rt, &mut map, 19), (0, NONE));
+    assert_same(&rt, adds(&rt, &mut map, 3), (1, value(Some(3))));
     drop(map);
 }
 

@@ -58,32 +58,32 @@ fn step(rt: &impl Abort, sweep: &mut Sweep<u64, u64>, map: &mut Map) -> Event {
 // Does `count` steps, in which nothing is read or wiped.
 fn silent(rt: &impl Abort, sweep: &mut Sweep<u64, u64>, map: &mut Map, count: u64) {
     for at in 0..count {
-        same_at(rt, at, step(rt, sweep, map), Event::Silent);
+        assert_same_at(rt, at, step(rt, sweep, map), Event::Silent);
     }
 }
 
 // Does a step that reads the pair of `key` and `value`.
 fn reads(rt: &impl Abort, walk: &mut Sweep<u64, u64>, map: &mut Map, key: u64, value: u64) {
-    same(rt, step(rt, walk, map), Event::Read);
-    same(rt, walk.last_read(), Some((&key, &value)));
+    assert_same(rt, step(rt, walk, map), Event::Read);
+    assert_same(rt, walk.last_read(), Some((&key, &value)));
 }
 
-// Does the step that sets out from a table that is known to have been published.
+// Does the step that starts at a table that is known to have been published.
 fn starts(rt: &impl Abort, sweep: &mut Sweep<u64, u64>, map: &Map) {
     let start = map.control.start().expect(rt, "there is a table");
-    assert!(rt; sweep.sets_out());
-    same(rt, sweep.on_published(&start), Event::Silent);
-    same(rt, sweep.sets_out(), false);
+    assert!(rt; sweep.is_at_start());
+    assert_same(rt, sweep.on_published(&start), Event::Silent);
+    assert_same(rt, sweep.is_at_start(), false);
 }
 
 // Asserts that the call has ended, and that its reply can be taken only once.
 fn has_ended(rt: &impl Abort, sweep: &mut Sweep<u64, u64>) {
     let seen = (sweep.want(), sweep.reply().is_some());
-    same(rt, seen, (Want::Done, true));
+    assert_same(rt, seen, (Want::Done, true));
     let reply = sweep.take_reply().expect(rt, "the call has ended");
     let seen = (plain(reply), sweep.want());
-    same(rt, seen, (Told::Ended, Want::Done));
-    same(
+    assert_same(rt, seen, (Told::Ended, Want::Done));
+    assert_same(
         rt,
         sweep.reply().is_some() || sweep.take_reply().is_some(),
         false,
@@ -125,7 +125,7 @@ fn wipes(
     end: usize,
 ) {
     for index in first..end {
-        same_at(rt, index, step(rt, clear, map), Event::Wipe(table, index));
+        assert_same_at(rt, index, step(rt, clear, map), Event::Wipe(table, index));
     }
 }
 
@@ -148,16 +148,16 @@ fn makes(
         Stride::Reads(key, value) => reads(rt, sweep, map, key, value),
         Stride::Wipes(table, first, end) => wipes(rt, sweep, map, table, first, end),
         Stride::Starts => starts(rt, sweep, map),
-        Stride::Wants(want) => same_at(rt, at, sweep.want(), want),
+        Stride::Wants(want) => assert_same_at(rt, at, sweep.want(), want),
         Stride::HasNoReply => {
             let has_reply = sweep.reply().is_some() || sweep.take_reply().is_some();
-            same_at(rt, at, has_reply, false);
+            assert_same_at(rt, at, has_reply, false);
         }
         Stride::HasEnded => has_ended(rt, sweep),
         Stride::LastRead(Some((key, value))) => {
-            same_at(rt, at, sweep.last_read(), Some((&key, &value)))
+            assert_same_at(rt, at, sweep.last_read(), Some((&key, &value)))
         }
-        Stride::LastRead(None) => same_at(rt, at, sweep.last_read().is_none(), true),
+        Stride::LastRead(None) => assert_same_at(rt, at, sweep.last_read().is_none(), true),
         Stride::FirstIsUnborn => first_is_unborn(rt, map),
         Stride::Map(row) => does(rt, map, at, row),
     }
@@ -253,7 +253,7 @@ fn what_was_read_stays(rt: HostRuntime) {
     let seen = seen_before_a_write(&rt, &mut map);
     let further = seen.try_clone().expect(&rt, "a further owner");
     drop(seen);
-    same(&rt, (further.key(), further.value()), (&1, &0));
+    assert_same(&rt, (further.key(), further.value()), (&1, &0));
     drop(further);
     drop(map);
 }

@@ -17,14 +17,14 @@ fn counts_at<'k, F: ComputeFn<u64, u64>>(
     tally: &mut Tally,
 ) -> (Want, Told) {
     for _ in 0..3u8 {
-        if party.counts() {
+        if party.is_counting() {
             break;
         }
         step(rt, party, map);
     }
-    assert!(rt; party.counts(), "the call put or removed a pair");
-    same(rt, party.on_tally(tally, 2), Event::Silent);
-    same(rt, party.counts(), false);
+    assert!(rt; party.is_counting(), "the call put or removed a pair");
+    assert_same(rt, party.on_tally(tally, 2), Event::Silent);
+    assert_same(rt, party.is_counting(), false);
     let wanted = party.want();
     let (_, reply) = end(rt, party, map);
     (wanted, reply)
@@ -40,14 +40,14 @@ fn counted<'k, F: ComputeFn<u64, u64>>(
     requires { CallIsReady F.can_change call }
 {
     let mut party = Party::new(call, 3, 1);
-    same(rt, party.hash(), 3);
+    assert_same(rt, party.hash(), 3);
     let seen = counts_at(rt, &mut party, map, tally);
     drop(party);
     seen
 }
 
 // Runs the call of a row, which counts at the tally. Returns what it needs after that, and its reply.
-fn counts(
+fn is_counting(
     rt: &(impl Abort + AllocGlobal),
     map: &mut Map,
     tally: &mut Tally,
@@ -72,7 +72,12 @@ fn pairs_wait_at_a_tally(rt: HostRuntime) {
         (OwnedCall::TryInsert(4, 40), (looks, new)),
     ];
     for (at, (asked, wanted)) in rows.into_iter().enumerate() {
-        same_at(&rt, at, counts(&rt, &mut map, &mut tally, asked), wanted);
+        assert_same_at(
+            &rt,
+            at,
+            is_counting(&rt, &mut map, &mut tally, asked),
+            wanted,
+        );
         // The control has counted nothing yet.
         go_on(&rt, &mut map, &[Row::Pairs(0)]);
     }
@@ -89,11 +94,11 @@ fn removals_wait_at_a_tally(rt: HostRuntime) {
     let mut map = empty_map(rt.alloc(), 1, 0);
     let _advice = map.control.count(5);
     let mut first = Tally::new();
-    let seen = counts(&rt, &mut map, &mut first, OwnedCall::Insert(1, 10));
-    same(&rt, seen, (Want::Done, NONE));
+    let seen = is_counting(&rt, &mut map, &mut first, OwnedCall::Insert(1, 10));
+    assert_same(&rt, seen, (Want::Done, NONE));
     let mut second = Tally::new();
-    let seen = counts(&rt, &mut map, &mut second, OwnedCall::Remove(1));
-    same(&rt, seen, (Want::Done, value(Some(10))));
+    let seen = is_counting(&rt, &mut map, &mut second, OwnedCall::Remove(1));
+    assert_same(&rt, seen, (Want::Done, value(Some(10))));
     map.control.collect(&mut second);
     go_on(&rt, &mut map, &[Row::Pairs(4)]);
     map.control.collect(&mut first);

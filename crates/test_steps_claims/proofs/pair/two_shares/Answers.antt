@@ -1,12 +1,12 @@
 use Rattle.std.proofs.Common.{◌≡◌, ap, arith, true, false, refl}
-use Rattle.flurry_steps_claims.specs.SeatNotes.{times}
+use Rattle.flurry_base.specs.Occurrences.{occurrences}
 use Rattle.test_steps_claims.proofs.pair.two_shares.Goals as goal
 
 pub returns-clause-ranges : goal.returns-clause-ranges
 returns-clause-ranges g c k =
     let one = rw c.in_ok-one.was at c.join-first.ensures.first in
     let two = rw c.in_ok-two.was at c.join-first.ensures.second in
-    omega (arith, c.merge.ensures.apart.0 k, ap (times k) one.1.0, ap (times k) two.1.0)
+    omega (arith, c.merge.ensures.apart.0 k, ap (occurrences k) one.1.0, ap (occurrences k) two.1.0)
 
 pub returns-clause-last : goal.returns-clause-last
 returns-clause-last g c is =

@@ -9,8 +9,8 @@ use flurry_steps_control::{Advice, Control, wanted_table};
 fn count_advises_at_the_threshold(rt: HostRuntime) {
     let mut room = empty_room(rt.alloc(), 0);
     let mut control = Control::new();
-    same(&rt, control.count(20), Advice::Enough);
-    same(&rt, control.open(4, &mut room).expect(&rt, "memory"), 4);
+    assert_same(&rt, control.count(20), Advice::Enough);
+    assert_same(&rt, control.open(4, &mut room).expect(&rt, "memory"), 4);
     for (delta, advice, len) in [
         (-9, Advice::Enough, 11),
         (1, Advice::Begin, 12),
@@ -21,24 +21,24 @@ fn count_advises_at_the_threshold(rt: HostRuntime) {
         (1, Advice::Enough, 0),
         (12, Advice::Begin, 12),
     ] {
-        same_at(&rt, delta, control.count(delta), advice);
-        same_at(&rt, delta, control.len(), len);
+        assert_same_at(&rt, delta, control.count(delta), advice);
+        assert_same_at(&rt, delta, control.len(), len);
     }
 }
 
 #[test]
 fn count_stays_in_its_range(rt: HostRuntime) {
     let mut control = Control::new();
-    same(&rt, control.len(), 0);
+    assert_same(&rt, control.len(), 0);
     let _advice = control.count(i64::MAX);
     let _advice = control.count(1);
-    same(&rt, control.len(), i64::MAX as usize);
+    assert_same(&rt, control.len(), i64::MAX as usize);
     let _advice = control.count(i64::MIN);
-    same(&rt, control.len(), 0);
+    assert_same(&rt, control.len(), 0);
     let _advice = control.count(i64::MIN);
     let _advice = control.count(i64::MAX);
     let _advice = control.count(2);
-    same(&rt, control.len(), 1);
+    assert_same(&rt, control.len(), 1);
 }
 
 #[test]
@@ -53,7 +53,7 @@ fn sizes(rt: HostRuntime) {
         ((1 << 29) - 1, 30),
         (usize::MAX, 30),
     ] {
-        same_at(&rt, pairs, wanted_table(pairs), table);
+        assert_same_at(&rt, pairs, wanted_table(pairs), table);
     }
 }
 
@@ -67,6 +67,6 @@ fn strides(rt: HostRuntime) {
         (64, 2, 16),
     ] {
         let seen = (bins, processors, stride(bins, processors));
-        same(&rt, seen, (bins, processors, range));
+        assert_same(&rt, seen, (bins, processors, range));
     }
 }

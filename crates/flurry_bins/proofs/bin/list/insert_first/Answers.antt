@@ -1,7 +1,7 @@
 use Rattle.std.proofs.Common.{◌≡◌, ◌∷◌, [], Some, sym, ap, ◌∙◌}
 use Rattle.flurry_bins.specs.Chain.{chain, node_chain, entry_of}
 use Rattle.flurry_bins.specs.declared.bin.node.Node.{out-Node}
-use Rattle.flurry_bins.proofs.Chains.{node_chain-out, node_chain-with_entry}
+use Rattle.flurry_bins.proofs.Chains.{node_chain-out, node_chain-node_with_entry}
 use Rattle.flurry_bins.proofs.Insertions.{insertion-at, insertion-before, insertion-past}
 use Rattle.flurry_bins.proofs.bin.list.insert_first.Goals as goal
 use Rattle.flurry_bins.proofs.bin.list.insert_first.Goals.{in-Some+else-is_at, in_default}
@@ -11,7 +11,7 @@ returns-then-is_at-clause-ok g c =
     let n = c.in-Some.first.value in
     let rest = chain (out-Node _ _ _ n).right in
     let back : chain c.args.rest.now ≡ entry_of n ∷ rest = ap chain c.in-Some.is ∙ node_chain-out n in
-    let behind = ap node_chain (rw c.deref_mut.ensures.value at c.write-old.ensures.after) ∙ node_chain-with_entry n _ in
+    let behind = ap node_chain (rw c.deref_mut.ensures.value at c.write-old.ensures.after) ∙ node_chain-node_with_entry n _ in
     let i = insertion-at g.met.K.Ord.total c.args.hash c.args.key c.args.value c.args.number (entry_of n) rest (rw back at c.requires.ascending) (sym (rw c.deref.ensures at c.if-is_at.ensures)) in
     rw back (i.0 ∙ ap Some (sym (rw c.deref_mut.ensures.value at c.write-old.ensures.old)), behind ∙ i.1)
 

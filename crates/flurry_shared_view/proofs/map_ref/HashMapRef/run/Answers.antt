@@ -17,4 +17,4 @@ returns-clause-driven g c =
     c.reply_to.ensures
 
 pub returns-clause-answers : goal.returns-clause-answers
-returns-clause-answers g c = can_answer RoomStays g.K.Ord.cmp g.F.ComputeFn.changes LockLends c.reply_to.ensures.turns c.args.call refl
+returns-clause-answers g c = can_answer RoomStays g.K.Ord.cmp g.F.ComputeFn.changes LockLends c.reply_to.ensures.field_steps c.args.call refl

@@ -1,8 +1,8 @@
 use Rattle.std.proofs.Common.{rules, ap, ◌∙◌, arith}
 use Rattle.flurry_steps_claims.specs.declared.seat_notes.SeatNotes.{SeatNotes}
-use Rattle.flurry_steps_claims.specs.SeatNotes.{times}
+use Rattle.flurry_base.specs.Occurrences.{occurrences}
 use Rattle.flurry_steps_claims.specs.ClaimBoard.{notes_of, ranges_of}
-use Rattle.flurry_steps_claims.proofs.BoardLaws.{claims_le, last_reports_le, times-append}
+use Rattle.flurry_steps_claims.proofs.BoardLaws.{claims_le, last_reports_le, occurrences-append}
 use Rattle.flurry_steps_claims.proofs.StepLaws.{join_allowed}
 use Rattle.flurry_steps_claims.proofs.claim_board.ClaimBoard.merge.Goals as goal
 
@@ -26,6 +26,6 @@ returns-clause-apart g c =
     let last_reports = ap (λ v. v.last_reports) gives.0 ∙ ap (λ (m : SeatNotes × _). m.0.last_reports) both in
     let after = notes_of c.load.new.seat in
     let ranges = ranges_of c.args.self.now in (
-      (λ k. omega (arith, claims_le ranges now.next now.reports now.seats now.board now.place after now.is_there k, ap (times k) claims, times-append k v.claims w.claims)),
+      (λ k. omega (arith, claims_le ranges now.next now.reports now.seats now.board now.place after now.is_there k, ap (occurrences k) claims, occurrences-append k v.claims w.claims)),
       omega (arith, last_reports_le ranges now.next now.reports now.seats now.board now.place after now.is_there, last_reports),
     )

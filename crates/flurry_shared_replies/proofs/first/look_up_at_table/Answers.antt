@@ -1,0 +1,23 @@
+use Rattle.std.proofs.lemmas.Grind.{common_steps}
+use Rattle.std.proofs.Common.{◌≡◌, ◌%◌, ◌^◌, ◌≤◌, arith, rules}
+use Rattle.flurry_base.specs.declared.sizes.TheConstants.{MAX_TABLE}
+use Rattle.flurry_steps.specs.FirstSteps.{begun_at}
+use Rattle.flurry_steps_sweep.specs.Part.{LookPart}
+use Rattle.flurry_steps.specs.Party.{wanted_part, stage_of_call}
+use Rattle.flurry_steps_sweep.specs.OutcomeView.{outcome_of}
+use Rattle.flurry_steps.specs.PartyView.{plain_call}
+use Rattle.flurry_shared_replies.proofs.BeginLaws.{look_locates, look_wants, look_begun, done_by}
+use Rattle.flurry_shared_replies.proofs.first.look_up_at_table.Goals as goal
+
+pub returns-then-is_live : goal.returns-then-is_live
+returns-then-is_live g c =
+    let q = c.deref-then-is_live.result.now in
+    let same : q ≡ c.deref.result.now = search rules in
+    let equal = c.if-eq.ensures {u = tt} in
+    let table : c.deref.result.now.table ≡ c.args.start.now = grind (arith, common_steps, equal, c.at.ensures.at, c.table-table.ensures.value) in
+    let index : c.deref.result.now.index ≡ c.args.hash % 2 ^ c.args.start.now = grind (arith, common_steps, equal, c.at.ensures.at, c.table-table.ensures.value, c.bin_index-index.ensures.place) in
+    let within : c.args.start.now ≤ MAX_TABLE = omega (arith, c.table-table.ensures.value, c.table-table.ensures.within) in
+    let wants : wanted_part (begun_at c.args.start.now c.args.hash c.args.processors (stage_of_call (plain_call c.args.call))) ≡ LookPart q.table q.index =
+    rw (same, table, index) (look_wants c.args.call c.args.start.now c.args.hash c.args.processors c.requires.looks) in
+    done_by g.K.Ord.cmp g.F.ComputeFn.changes (outcome_of c.look_first.result) _ _ _
+    (look_begun g.K.Ord.cmp g.F.ComputeFn.changes c.args.hash c.args.processors c.args.start.now _ _ (look_locates c.args.call c.requires.looks) within q wants c.look_first.ensures.within c.look_first.ensures.steps)

@@ -1,7 +1,0 @@
-use Rattle.flurry_steps_sweep.specs.OutcomeView.{outcome_of}
-use Rattle.flurry_shared_replies.proofs.BeginLaws.{goes_on}
-use Rattle.flurry_shared_replies.proofs.first.write.Goals as goal
-
-pub returns-in-Ok : goal.returns-in-Ok
-returns-in-Ok g c =
-    goes_on g.K.Ord.cmp g.F.ComputeFn.changes (outcome_of c.end.result) _ _ ((rw c.in-Ok.is at c.write_bin.ensures) c.args.processors) c.end.ensures

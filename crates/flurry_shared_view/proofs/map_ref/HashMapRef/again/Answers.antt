@@ -1,5 +1,0 @@
-use Rattle.std.proofs.Common.{rules}
-use Rattle.flurry_shared_view.proofs.map_ref.HashMapRef.again.Goals as goal
-
-pub returns : goal.returns
-returns g c = search rules

@@ -1,5 +1,0 @@
-use Rattle.std.proofs.Common.{rules}
-use Rattle.flurry_steps.proofs.party.single.Single.counts.Goals as goal
-
-pub returns-in_default : goal.returns-in_default
-returns-in_default g c = search rules

@@ -1,5 +1,0 @@
-use Rattle.std.proofs.Common.{rules}
-use Rattle.flurry_steps.proofs.party.single.Single.locates.Goals as goal
-
-pub returns-in-Locate : goal.returns-in-Locate
-returns-in-Locate g c = search rules

@@ -1,5 +1,0 @@
-use Rattle.std.proofs.Common.{rules}
-use Rattle.flurry_steps_control.proofs.control.Control.collect.Goals as goal
-
-pub returns-clause-after : goal.returns-clause-after
-returns-clause-after c = search rules

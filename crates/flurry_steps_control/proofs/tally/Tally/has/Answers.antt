@@ -1,5 +1,0 @@
-use Rattle.std.proofs.Common.{rules}
-use Rattle.flurry_steps_control.proofs.tally.Tally.has.Goals as goal
-
-pub returns : goal.returns
-returns c = search rules
