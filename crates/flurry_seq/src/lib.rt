@@ -8,6 +8,7 @@
 
 pub mod calls;
 mod clone;
+mod debug;
 mod equality;
 pub mod iter;
 pub mod owners;

@@ -1,5 +1,5 @@
 -- When the shares that are handed back fit a book.
-use Rattle.std.specs.Prelude.{◌≡◌, ◌==◌, ◌≤◌, ◌<◌, ◌&&◌, ℕ, Bool, false, List, map, length, count_by, All, slice_get, IsTrue}
+use Rattle.std.specs.Prelude.{◌≡◌, ◌≤◌, ◌<◌, ◌&&◌, ℕ, Bool, false, List, map, length, All, slice_get, IsTrue}
 use Rattle.flurry_base.specs.Occurrences.{occurrences}
 use Rattle.std.specs.List.{flat_map}
 use Rattle.std.specs.List.Sorted.{IsStrictlyIncreasing}

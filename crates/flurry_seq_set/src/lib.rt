@@ -5,6 +5,7 @@
 //! element that was stored first.
 #![tactic(auto)]
 
+mod debug;
 pub mod seq_set;
 pub mod set_calls;
 

@@ -4,8 +4,10 @@
 #![tactic(auto)]
 
 mod bulk;
+mod debug;
 pub mod map;
 mod owned;
+mod visit;
 
 pub use flurry_shared_view::iter;
 pub use map::HashMap;

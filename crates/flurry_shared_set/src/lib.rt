@@ -4,6 +4,7 @@
 //! map's view alone.
 #![tactic(auto)]
 
+mod debug;
 pub mod set;
 pub mod set_ref;
 

@@ -1,2 +1,3 @@
 pub mod SharedAnswers
 pub mod Walks
+pub mod Visits

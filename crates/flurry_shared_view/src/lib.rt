@@ -4,9 +4,11 @@
 //! world runs in any order.
 #![tactic(auto)]
 
+mod debug;
 mod equality;
 pub mod iter;
 pub mod map_ref;
 mod retain;
+mod visit;
 
 pub use map_ref::HashMapRef;
