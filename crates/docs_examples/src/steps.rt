@@ -96,7 +96,7 @@ pub fn count_at_tally(control: &mut Control) -> usize
 {
     let mut tally = Tally::new();
     tally.count(1);
-    control.collect(&mut tally);
+    control.drain_tally(&mut tally);
     control.len()
 }
 

@@ -40,7 +40,7 @@ impl SharedControl {
     pub(crate) fn lock<R: Wait>(&self, rt: &R) -> MutexGuard<'_, Control> {
         let mut control = self.control.lock(rt);
         for tally in &self.tallies {
-            control.collect(&mut *tally.lock(rt));
+            control.drain_tally(&mut *tally.lock(rt));
         }
         let is_due = match control.count(0) {
             Advice::Enough => false,

@@ -106,7 +106,7 @@ fn try_write_bin<'k, K: Ord + Drop, V: Drop, F: ComputeFn<K, V>, A: Allocator + 
     let table = start.table();
     let index = bin_index(hash, table);
     if let Some(lock) = lock_field.slot(table, index) {
-        let mut slot = lock.write_at_table(lock_field.runtime());
+        let mut slot = lock.write(lock_field.runtime());
         if slot.at() == (table, index) && slot.is_live() {
             return Ok(Party::write_first(call, hash, start, lock_field.allocator(), &mut *slot));
         }

@@ -12,7 +12,7 @@ use std::marker::Model;
 /// ```
 /// let mut tally = Tally::new();
 /// tally.count(1);
-/// control.collect(&mut tally);
+/// control.drain_tally(&mut tally);
 /// control.len()
 /// ```
 #[derive(Drop)]

@@ -122,3 +122,38 @@ fn with_processors(rt: HostRuntime) -> Result<(), Fail> {
     assert_eq!(rt; found, Some(10));
     Ok(())
 }
+
+#[test]
+fn for_each(rt: HostRuntime) -> Result<(), Fail> {
+    let map: HashMap<u64, u64> = HashMap::new(rt.alloc());
+    map.insert(&rt, 37, 1)?;
+    map.insert(&rt, 38, 2)?;
+    let mut sum: u64 = 0;
+    map.for_each(
+        &rt,
+        |_key: &u64, value: &u64| sum = sum.wrapping_add(*value),
+    )?;
+    assert_eq!(rt; sum, 3);
+    Ok(())
+}
+
+#[test]
+fn any(rt: HostRuntime) -> Result<(), Fail> {
+    let map: HashMap<u64, u64> = HashMap::new(rt.alloc());
+    map.insert(&rt, 37, 1)?;
+    assert!(rt; map.any(&rt, |key: &u64, _value: &u64| -> bool { *key == 37 })?);
+    assert!(rt; !map.any(&rt, |_key: &u64, value: &u64| -> bool { *value > 1 })?);
+    Ok(())
+}
+
+#[test]
+fn fold(rt: HostRuntime) -> Result<(), Fail> {
+    let map: HashMap<u64, u64> = HashMap::new(rt.alloc());
+    map.insert(&rt, 37, 1)?;
+    map.insert(&rt, 38, 2)?;
+    let greatest = map.fold(&rt, 0, |seen: u64, _key: &u64, value: &u64| -> u64 {
+        seen.max(*value)
+    })?;
+    assert_eq!(rt; greatest, 2);
+    Ok(())
+}

@@ -92,3 +92,38 @@ fn clear(rt: HostRuntime) -> Result<(), Fail> {
     assert!(rt; view.is_empty());
     Ok(())
 }
+
+#[test]
+fn for_each(rt: HostRuntime) -> Result<(), Fail> {
+    let map: HashMap<u64, u64> = HashMap::new(rt.alloc());
+    let view = map.pin(&rt);
+    view.insert(37, 1)?;
+    view.insert(38, 2)?;
+    let mut sum: u64 = 0;
+    view.for_each(|_key: &u64, value: &u64| sum = sum.wrapping_add(*value))?;
+    assert_eq!(rt; sum, 3);
+    Ok(())
+}
+
+#[test]
+fn any(rt: HostRuntime) -> Result<(), Fail> {
+    let map: HashMap<u64, u64> = HashMap::new(rt.alloc());
+    let view = map.pin(&rt);
+    view.insert(37, 1)?;
+    assert!(rt; view.any(|key: &u64, _value: &u64| -> bool { *key == 37 })?);
+    assert!(rt; !view.any(|_key: &u64, value: &u64| -> bool { *value > 1 })?);
+    Ok(())
+}
+
+#[test]
+fn fold(rt: HostRuntime) -> Result<(), Fail> {
+    let map: HashMap<u64, u64> = HashMap::new(rt.alloc());
+    let view = map.pin(&rt);
+    view.insert(37, 1)?;
+    view.insert(38, 2)?;
+    let greatest = view.fold(0, |seen: u64, _key: &u64, value: &u64| -> u64 {
+        seen.max(*value)
+    })?;
+    assert_eq!(rt; greatest, 2);
+    Ok(())
+}
