@@ -17,7 +17,10 @@ impl<K: Ord + Drop, V: Drop, S: KeyHasher<K>, A: Allocator + Copy> HashMap<K, V,
     /// map.insert(&rt, 37, 1)?;
     /// map.insert(&rt, 38, 2)?;
     /// let mut sum: u64 = 0;
-    /// map.for_each(&rt, |_key: &u64, value: &u64| { sum = sum.wrapping_add(*value); })?;
+    /// map.for_each(
+    ///     &rt,
+    ///     |_key: &u64, value: &u64| sum = sum.wrapping_add(*value),
+    /// )?;
     /// assert_eq!(rt; sum, 3);
     /// ```
     ///
@@ -66,7 +69,9 @@ impl<K: Ord + Drop, V: Drop, S: KeyHasher<K>, A: Allocator + Copy> HashMap<K, V,
     /// let map: HashMap<u64, u64> = HashMap::new(rt.alloc());
     /// map.insert(&rt, 37, 1)?;
     /// map.insert(&rt, 38, 2)?;
-    /// let greatest = map.fold(&rt, 0, |greatest: u64, _key: &u64, value: &u64| -> u64 { greatest.max(*value) })?;
+    /// let greatest = map.fold(&rt, 0, |seen: u64, _key: &u64, value: &u64| -> u64 {
+    ///     seen.max(*value)
+    /// })?;
     /// assert_eq!(rt; greatest, 2);
     /// ```
     ///

@@ -27,7 +27,7 @@ impl<'m, R: Wait, K: Ord + Drop, V: Drop, S: KeyHasher<K>, A: Allocator + Copy> 
     /// view.insert(37, 1)?;
     /// view.insert(38, 2)?;
     /// let mut sum: u64 = 0;
-    /// view.for_each(|_key: &u64, value: &u64| { sum = sum.wrapping_add(*value); })?;
+    /// view.for_each(|_key: &u64, value: &u64| sum = sum.wrapping_add(*value))?;
     /// assert_eq!(rt; sum, 3);
     /// ```
     ///
@@ -129,7 +129,9 @@ impl<'m, R: Wait, K: Ord + Drop, V: Drop, S: KeyHasher<K>, A: Allocator + Copy> 
     /// let view = map.pin(&rt);
     /// view.insert(37, 1)?;
     /// view.insert(38, 2)?;
-    /// let greatest = view.fold(0, |greatest: u64, _key: &u64, value: &u64| -> u64 { greatest.max(*value) })?;
+    /// let greatest = view.fold(0, |seen: u64, _key: &u64, value: &u64| -> u64 {
+    ///     seen.max(*value)
+    /// })?;
     /// assert_eq!(rt; greatest, 2);
     /// ```
     ///

@@ -1,6 +1,6 @@
 //! Insertions that go one way down a bin.
 
-use super::same;
+use super::assert_same;
 use flurry_bins::bin::{Bin, Ordered, Shape};
 use flurry_bins_insertion::table::{Inserted, insert_pair_in_bin};
 use metered_alloc::MeteredAlloc;

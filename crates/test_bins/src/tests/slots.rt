@@ -3,7 +3,7 @@
 ghost use Rattle.std.specs.Prelude.{OnOk};
 ghost use Rattle.flurry_bins_slots.specs.Slot.{LiesInBin};
 
-use super::same;
+use super::assert_same;
 use flurry_base::sizes::bin_index;
 use flurry_bins::bin::Bin;
 use flurry_bins_slots::clones::{CloneProbe, NotClone};

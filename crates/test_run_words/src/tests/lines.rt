@@ -1,6 +1,6 @@
 //! Lines that are read from a reader, what they ask for, and lines that are written.
 
-use super::same;
+use super::assert_same;
 use flurry_run_lines::command::Command;
 use flurry_run_lines::input::{LineEnd, read_line};
 use flurry_run_lines::parse::parse;

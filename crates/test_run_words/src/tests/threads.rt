@@ -1,6 +1,6 @@
 //! Threads that insert into one shared map.
 
-use super::{output, same, tells_usage};
+use super::{assert_same, output, tells_usage};
 use flurry_base::hash::KeyHasher;
 use flurry_run_words::run_words;
 use flurry_run_words::threads::insert_in_threads;

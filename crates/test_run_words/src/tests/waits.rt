@@ -1,6 +1,6 @@
 //! Answers are flushed before a read that may wait.
 
-use super::same;
+use super::assert_same;
 use flurry_run_words::{Input, Output, run_words};
 use std::cell::Cell;
 use std::io::{self, Read, Write};

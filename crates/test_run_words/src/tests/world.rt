@@ -1,6 +1,6 @@
 //! Schedules over bytes in memory.
 
-use super::{output, same};
+use super::{assert_same, output};
 use flurry_run_lines::world_lines;
 use std::process::Abort;
 

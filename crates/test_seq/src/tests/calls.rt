@@ -1,7 +1,7 @@
 //! The calls that no row names, and calls as values.
 
 use super::steps::{Step, run, three_pairs};
-use super::{lent, queue_of, same, same_at, taken};
+use super::{assert_same, assert_same_at, lent, queue_of, taken};
 use flurry_base::hash::LowHashBuilder;
 use flurry_bins::bin::{Ordered, Shape};
 use flurry_seq::SeqMap;

@@ -1,6 +1,6 @@
 //! The number of bins.
 
-use super::same_at;
+use super::assert_same_at;
 use super::steps::{Step, on_map_for, on_map_with, on_new_map};
 use flurry_base::hash::{LowHashBuilder, ZeroHashBuilder};
 use flurry_base::sizes::{threshold, wanted};

@@ -1,7 +1,7 @@
 //! Iterators, equality and copies of maps, through maps whose sums are known.
 
+use super::assert_same;
 use super::keys::Tagged;
-use super::same;
 use super::steps::{Step, run};
 use flurry_base::hash::{DefaultHashBuilder, KeyHasher, LowHashBuilder, ZeroHashBuilder};
 use flurry_seq::SeqMap;

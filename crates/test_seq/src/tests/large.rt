@@ -1,6 +1,6 @@
 //! Many keys.
 
-use super::{same, same_at};
+use super::{assert_same, assert_same_at};
 use flurry_base::hash::{DefaultHashBuilder, KeyHasher, MaxHashBuilder, ZeroHashBuilder};
 use flurry_seq::SeqMap;
 use std::process::Abort;

@@ -2,7 +2,7 @@
 
 use super::keys::{Backward, Number, Tagged};
 use super::steps::{Step, list_of, on_map_with, on_new_map, run, three_pairs};
-use super::{lent, same, taken};
+use super::{assert_same, lent, taken};
 use flurry_base::hash::{KeyHasher, LowHashBuilder, ZeroHashBuilder};
 use flurry_base::try_insert::TryInsertError;
 use flurry_seq::SeqMap;

@@ -1,5 +1,5 @@
 //! The pairs that a map keeps of a hundred.
-use super::same;
+use super::assert_same;
 use flurry_seq::SeqMap;
 
 #[test]

@@ -2,7 +2,7 @@
 
 use super::calls::{line, text_of_numbers};
 use super::keys::Tagged;
-use super::{queue_of, same};
+use super::{assert_same, queue_of};
 use flurry_base::hash::{KeyHasher, LowHashBuilder, ZeroHashBuilder};
 use flurry_bins::bin::Node;
 use flurry_seq::SeqMap;

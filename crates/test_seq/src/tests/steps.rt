@@ -1,7 +1,7 @@
 //! The calls of a map of numbers as rows of a table.
 
 use super::keys::Number;
-use super::{lent, same_at, taken};
+use super::{assert_same_at, lent, taken};
 use flurry_base::hash::{KeyHasher, LowHashBuilder};
 use flurry_bins::bin::{Node, Shape};
 use flurry_seq::SeqMap;

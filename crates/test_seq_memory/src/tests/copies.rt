@@ -1,6 +1,6 @@
 //! Clones of a map, with the same pairs.
 
-use super::{Memory, Refused, map_of, refuse_each, same_at};
+use super::{Memory, Refused, assert_same_at, map_of, refuse_each};
 use std::process::Abort;
 
 // The cloning of a map of three pairs.

@@ -1,8 +1,8 @@
 //! Insertions.
 
 use super::{
-    Memory, NumberMap, Refused, map_of, metered, number_at, refuse_each, same, same_at, size_of,
-    taken,
+    Memory, NumberMap, Refused, assert_same, assert_same_at, map_of, metered, number_at,
+    refuse_each, size_of, taken,
 };
 use flurry_base::hash::LowHashBuilder;
 use flurry_base::reply::KeptReply;

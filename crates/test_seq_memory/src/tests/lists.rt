@@ -1,7 +1,8 @@
 //! Lists of pairs and of calls.
 
 use super::{
-    Memory, NumberMap, Refused, map_of, number_at, queue_of, refuse_each, same, same_at, size_of,
+    Memory, NumberMap, Refused, assert_same, assert_same_at, map_of, number_at, queue_of,
+    refuse_each, size_of,
 };
 use flurry_base::hash::LowHashBuilder;
 use flurry_seq::SeqMap;

@@ -1,6 +1,6 @@
 //! Calls that take no memory.
 
-use super::{Memory, NumberMap, lent, map_of, metered, same, size_of};
+use super::{Memory, NumberMap, assert_same, lent, map_of, metered, size_of};
 use flurry_base::hash::LowHashBuilder;
 use flurry_bins::bin::{Ordered, Shape};
 use std::process::Abort;

@@ -1,6 +1,6 @@
 //! The calls of a set that take memory.
 
-use super::{Memory, Refused, metered, queue_of, refuse_each, same, same_at};
+use super::{Memory, Refused, assert_same, assert_same_at, metered, queue_of, refuse_each};
 use flurry_base::hash::LowHashBuilder;
 use flurry_bins::bin::Node;
 use flurry_seq_set::SeqSet;

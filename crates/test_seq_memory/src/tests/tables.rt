@@ -1,8 +1,8 @@
 //! First tables and larger ones.
 
 use super::{
-    Memory, NumberMap, Refused, adds, map_of, metered, number_at, refuse_each, same, same_at,
-    size_of, taken,
+    Memory, NumberMap, Refused, adds, assert_same, assert_same_at, map_of, metered, number_at,
+    refuse_each, size_of, taken,
 };
 use flurry_base::hash::{DefaultHashBuilder, KeyHasher, LowHashBuilder, ZeroHashBuilder};
 use flurry_bins::bin::Shape;

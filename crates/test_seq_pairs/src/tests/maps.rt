@@ -1,7 +1,7 @@
 //! Maps as lists of pairs, and back.
 ghost use Rattle.std.specs.Prelude.{◌≡◌, IfOk};
 
-use super::{five, map_of, same};
+use super::{assert_same, five, map_of};
 use flurry_base::hash::LowHashBuilder;
 use flurry_seq::SeqMap;
 use flurry_seq_pairs::map::{from_pairs, to_sorted_pairs};

@@ -1,6 +1,6 @@
 //! Each request for memory fails in turn. A call that fails deallocates all that it has allocated.
 
-use super::same;
+use super::assert_same;
 use flurry_base::hash::LowHashBuilder;
 use flurry_seq::SeqMap;
 use flurry_seq_pairs::map::{from_pairs, to_sorted_pairs};

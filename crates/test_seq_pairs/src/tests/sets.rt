@@ -1,7 +1,7 @@
 //! Sets as lists of elements, and back.
 ghost use Rattle.std.specs.Prelude.{◌≡◌, IfOk};
 
-use super::same;
+use super::assert_same;
 use flurry_base::hash::LowHashBuilder;
 use flurry_seq_pairs::SortedItems;
 use flurry_seq_pairs::set::{from_items, to_sorted_items};

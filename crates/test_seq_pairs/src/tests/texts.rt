@@ -1,6 +1,6 @@
 //! Lists as texts of `serde_json`.
 
-use super::{five, map_of, same};
+use super::{assert_same, five, map_of};
 use flurry_base::hash::LowHashBuilder;
 use flurry_seq::SeqMap;
 use flurry_seq_pairs::map::{from_pairs, to_sorted_pairs};

@@ -1,6 +1,6 @@
 //! Pieces that are built at once.
 
-use super::same;
+use super::assert_same;
 use flurry_base::hash::KeyHasher;
 use flurry_seq_par::{map, set};
 use std::sync::atomic::{AtomicBool, AtomicU64, Ordering};

@@ -5,7 +5,7 @@
 
 mod sets;
 
-use super::{lent, same};
+use super::{assert_same, lent};
 use flurry_base::hash::LowHashBuilder;
 use flurry_seq::SeqMap;
 use flurry_seq_par::map;

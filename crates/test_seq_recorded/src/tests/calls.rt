@@ -1,6 +1,6 @@
 //! Each call of a recorded map, and the texts of its faults.
 
-use super::{NumberShare, Numbers, reply, same, share_of};
+use super::{NumberShare, Numbers, assert_same, reply, share_of};
 use flurry_base::hash::LowHashBuilder;
 use flurry_seq_recorded::{Book, CloseFault, KeptCall, KeptReply};
 use std::process::Abort;

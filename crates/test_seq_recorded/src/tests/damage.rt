@@ -1,6 +1,6 @@
 //! Shares that fit their map, and shares that were damaged.
 
-use super::{NumberShare, Numbers, ends, reply, same, share_of};
+use super::{NumberShare, Numbers, assert_same, ends, reply, share_of};
 use flurry_base::hash::LowHashBuilder;
 use flurry_seq_recorded::CloseFault;
 use std::process::Abort;

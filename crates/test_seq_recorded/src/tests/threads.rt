@@ -1,6 +1,6 @@
 //! Two threads with a share each.
 
-use super::{NumberShare, Numbers, ends, reply, same, share_of};
+use super::{NumberShare, Numbers, assert_same, ends, reply, share_of};
 use flurry_base::hash::{KeyHasher, LowHashBuilder};
 use flurry_seq_recorded::{CloseFault, KeptReply, Recorded, Share};
 use std::alloc::Allocator;

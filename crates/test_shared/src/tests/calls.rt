@@ -2,7 +2,7 @@
 //!
 //! A test creates a map and passes it to the calls by reference, because a body that owns a map has a proof of its drop at each way out.
 
-use super::{number_at, same, taken};
+use super::{assert_same, number_at, taken};
 use flurry_base::TryInsertError;
 use flurry_base::hash::{DefaultHashBuilder, LowHashBuilder};
 use flurry_shared::HashMap;

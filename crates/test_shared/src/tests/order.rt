@@ -2,7 +2,7 @@
 
 use super::threads::is_set_in_time;
 use super::workers::{count_own, insert_all, remove_even};
-use super::{number_at, same};
+use super::{assert_same, number_at};
 use flurry_base::hash::{KeyHasher, LowHashBuilder};
 use flurry_shared::HashMap;
 use std::alloc::{AllocError, Allocator};

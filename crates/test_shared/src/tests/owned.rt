@@ -1,7 +1,7 @@
 //! An owned map that threads share, and that becomes an owned map again.
 
 use super::workers::{count_own, insert_all, remove_even};
-use super::{same, taken};
+use super::{assert_same, taken};
 use flurry_base::hash::{DefaultHashBuilder, KeyHasher, LowHashBuilder, ZeroHashBuilder};
 use flurry_seq::SeqMap;
 use flurry_shared::HashMap;

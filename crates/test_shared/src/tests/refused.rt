@@ -1,6 +1,6 @@
 //! Calls of a shared map in which a request for memory fails.
 
-use super::same;
+use super::assert_same;
 use super::threads::insert_in_threads;
 use super::workers::count_own;
 use flurry_base::hash::{DefaultHashBuilder, LowHashBuilder};

@@ -1,6 +1,6 @@
 //! Threads that remove the same keys.
 
-use super::same;
+use super::assert_same;
 use flurry_base::hash::KeyHasher;
 use flurry_shared::HashMap;
 use std::alloc::{AllocError, Allocator};

@@ -1,6 +1,6 @@
 //! Worked rows, in one thread.
 
-use super::{number_at, same, taken};
+use super::{assert_same, number_at, taken};
 use flurry_base::hash::{KeyHasher, MaxHashBuilder, ZeroHashBuilder};
 use flurry_shared::HashMap;
 use flurry_shared::iter::{Iter, Keys, Values};

@@ -1,7 +1,7 @@
 //! Calls of several threads at the same time.
 
 use super::workers::{count_missed, count_own, insert_all};
-use super::{TURNS, same};
+use super::{TURNS, assert_same};
 use flurry_base::hash::{KeyHasher, LowHashBuilder, ZeroHashBuilder};
 use flurry_shared::HashMap;
 use std::alloc::Allocator;

@@ -1,7 +1,7 @@
 //! Growths that several threads help, and a helper that stops in the middle of one.
 
 use super::calls::{count_found, put_all};
-use super::{newest_of, same};
+use super::{assert_same, newest_of};
 use flurry_bins_slots::{ComputeFn, NoFn};
 use flurry_shared_locks::{CallField, LockField, Locks};
 use flurry_steps::party::{Event, OwnedCall};

@@ -1,6 +1,6 @@
 //! Pieces that are inserted at once.
 
-use super::{has_sums, same};
+use super::{assert_same, has_sums};
 use flurry_base::hash::KeyHasher;
 use flurry_shared::HashMap;
 use flurry_shared_par::{map, set};

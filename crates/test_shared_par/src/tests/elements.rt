@@ -1,6 +1,6 @@
 //! Elements that several threads insert.
 
-use super::{pairs_from_100, same};
+use super::{assert_same, pairs_from_100};
 use flurry_base::hash::KeyHasher;
 use flurry_shared_par::{set, set_ref};
 use flurry_shared_set::HashSet;

@@ -1,6 +1,6 @@
 //! Pairs that several threads insert.
 
-use super::{has_sums, insert_two, pairs_from_100, same, values_at};
+use super::{assert_same, has_sums, insert_two, pairs_from_100, values_at};
 use flurry_base::hash::LowHashBuilder;
 use flurry_shared::HashMap;
 use flurry_shared_par::{map, map_ref};

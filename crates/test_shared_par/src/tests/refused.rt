@@ -1,6 +1,6 @@
 //! Calls in which a request for memory fails.
 
-use super::{insert_two, pairs_from_100, read_all, same, values_at};
+use super::{assert_same, insert_two, pairs_from_100, read_all, values_at};
 use flurry_base::hash::LowHashBuilder;
 use flurry_shared::HashMap;
 use flurry_shared_par::{map, set, set_ref};

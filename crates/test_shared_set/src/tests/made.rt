@@ -1,6 +1,6 @@
 //! The ways in which sets are created.
 
-use super::{has_sums, list, same, set_of};
+use super::{assert_same, has_sums, list, set_of};
 use flurry_base::hash::{KeyHasher, LowHashBuilder, ZeroHashBuilder};
 use flurry_shared_set::HashSet;
 use std::alloc::{AllocError, Allocator};

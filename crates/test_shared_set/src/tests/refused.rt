@@ -1,6 +1,6 @@
 //! Each request for memory of a call that may fail, which fails in turn.
 
-use super::{list, read_all, same, set_of};
+use super::{assert_same, list, read_all, set_of};
 use flurry_base::hash::{DefaultHashBuilder, LowHashBuilder};
 use flurry_shared_set::HashSet;
 use metered_alloc::MeteredAlloc;

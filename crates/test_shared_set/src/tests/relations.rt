@@ -1,6 +1,6 @@
 //! Relations of two sets, and of their views.
 
-use super::{has_sums, same, set_of};
+use super::{assert_same, has_sums, set_of};
 use flurry_base::hash::LowHashBuilder;
 use flurry_shared_set::{HashSet, HashSetRef};
 use std::alloc::{AllocError, Allocator, Global};

@@ -1,6 +1,6 @@
 //! The calls of a view.
 
-use super::{has_sums, read_all, same, set_of};
+use super::{assert_same, has_sums, read_all, set_of};
 use flurry_base::hash::LowHashBuilder;
 use flurry_shared_set::{HashSet, HashSetRef};
 use std::alloc::Allocator;

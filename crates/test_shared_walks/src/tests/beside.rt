@@ -1,6 +1,6 @@
 //! Walks, and calls over many pairs, while other threads work.
 
-use super::{insert_all, numbers, read_all, same};
+use super::{assert_same, insert_all, numbers, read_all};
 use flurry_base::hash::{KeyHasher, ZeroHashBuilder};
 use flurry_shared::HashMap;
 use flurry_shared::iter::Keys;

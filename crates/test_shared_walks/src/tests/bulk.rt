@@ -1,7 +1,7 @@
 //! Maps that are made from lists, their clones, and equal maps.
 
 use super::walks::sums_of_later_pairs;
-use super::{Numbers, has_sums, numbers, same};
+use super::{Numbers, assert_same, has_sums, numbers};
 use flurry_base::hash::{DefaultHashBuilder, KeyHasher, LowHashBuilder, ZeroHashBuilder};
 use flurry_shared::HashMap;
 use std::alloc::{AllocError, Allocator};

@@ -4,7 +4,7 @@ ghost use Rattle.std.specs.Cmp.{partial_order_from_own_ties};
 ghost use Rattle.std.specs.Cmp.Rules.{comparing};
 ghost use Rattle.std.specs.Ordering.{nat_cmp, on, as_partial_cmp};
 
-use super::same;
+use super::assert_same;
 use flurry_base::hash::ZeroHashBuilder;
 use flurry_shared::HashMap;
 use flurry_shared::iter::Iter;

@@ -1,6 +1,6 @@
 //! Calls that keep some of the pairs.
 
-use super::{Numbers, has_sums, numbers, same, taken};
+use super::{Numbers, assert_same, has_sums, numbers, taken};
 use flurry_shared::iter::Iter;
 use std::process::Abort;
 use std::sync::Wait;

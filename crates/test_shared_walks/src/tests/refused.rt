@@ -1,7 +1,7 @@
 //! Each request for memory of a walk, or of a call over many pairs, fails in turn.
 
 use super::bulk::list;
-use super::{numbers, read_all, same};
+use super::{assert_same, numbers, read_all};
 use flurry_base::hash::LowHashBuilder;
 use flurry_shared::HashMap;
 use metered_alloc::MeteredAlloc;

@@ -1,6 +1,6 @@
 //! The calls of a view.
 
-use super::{numbers, read_all, same, taken};
+use super::{assert_same, numbers, read_all, taken};
 use flurry_base::hash::{DefaultHashBuilder, LowHashBuilder};
 use flurry_shared::HashMap;
 use flurry_shared_view::HashMapRef;

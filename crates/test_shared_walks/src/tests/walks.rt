@@ -1,6 +1,6 @@
 //! Iterators in one thread.
 
-use super::{Numbers, has_sums, insert_all, numbers, read_all, same, taken};
+use super::{Numbers, assert_same, has_sums, insert_all, numbers, read_all, taken};
 use flurry_base::hash::{DefaultHashBuilder, KeyHasher, LowHashBuilder, ZeroHashBuilder};
 use flurry_shared::HashMap;
 use flurry_shared::iter::{Iter, Keys, Values};

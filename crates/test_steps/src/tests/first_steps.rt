@@ -6,7 +6,7 @@ ghost use Rattle.flurry_steps.specs.FirstSteps.{begun_at};
 ghost use Rattle.flurry_steps.specs.Party.{wanted_part, BeginsToWrite, stage_of_call};
 ghost use Rattle.flurry_steps.specs.PartyView.{CallIsReady, plain_call};
 
-use super::same;
+use super::assert_same;
 use flurry_bins::bin::Bin;
 use flurry_bins_slots::{ComputeFn, NoFn, Slot};
 use flurry_steps::Party;

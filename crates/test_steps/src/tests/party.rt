@@ -16,7 +16,7 @@ mod rewrites;
 mod sweeps;
 mod tallies;
 
-use super::{same, same_at};
+use super::{assert_same, assert_same_at};
 use flurry_base::reply::KeptReply;
 use flurry_bins::bin::Bin;
 use flurry_bins_slots::{ComputeFn, Slot};

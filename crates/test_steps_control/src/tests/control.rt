@@ -6,7 +6,7 @@ mod count;
 mod growth;
 mod publication;
 
-use super::same;
+use super::assert_same;
 use flurry_bins::bin::Bin;
 use flurry_bins_slots::{MoveAnswer, Receipt, Slot};
 use flurry_steps_claims::{Attempt, PlainBoard};

@@ -1,6 +1,6 @@
 //! Cursors over all bins.
 
-use super::{same, same_at};
+use super::{assert_same, assert_same_at};
 use flurry_base::sizes::MAX_TABLE;
 use flurry_steps_sweep::Cursor;
 use std::process::Abort;

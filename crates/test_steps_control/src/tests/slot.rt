@@ -1,7 +1,7 @@
 //! Slots: how often a computation calls its function, and bins that have one owner again.
 ghost use Rattle.flurry_bins_slots.specs.Slot.{LiesInBin};
 
-use super::same;
+use super::assert_same;
 use flurry_base::sizes::bin_index;
 use flurry_bins::bin::{Bin, Ordered};
 use flurry_bins_slots::{Answer, Given, MoveAnswer, Slot};

@@ -1,6 +1,6 @@
 //! Driven removals of the pair that a driven walk read last.
 
-use super::{Plain, answers, same, value, without_owners};
+use super::{Plain, answers, assert_same, value, without_owners};
 use flurry_base::hash::{KeyHasher, LowHashBuilder};
 use flurry_bins_slots::{ComputeFn, NoFn};
 use flurry_steps::Party;

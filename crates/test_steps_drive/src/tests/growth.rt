@@ -1,7 +1,7 @@
 //! Many keys, whose calls help the growths that they meet.
 
 use super::each_call::beside_sixteen;
-use super::{answers, same, value, without_owners};
+use super::{answers, assert_same, value, without_owners};
 use flurry_base::hash::LowHashBuilder;
 use flurry_bins_slots::{ComputeFn, NoFn};
 use flurry_steps::Field;

@@ -1,6 +1,6 @@
 //! Each request of a driven insertion fails in turn.
 
-use super::{Plain, reply_of, same, value};
+use super::{Plain, assert_same, reply_of, value};
 use flurry_bins_slots::{ComputeFn, NoFn};
 use flurry_steps::party::OwnedCall;
 use flurry_steps_world::Parts;

@@ -1,7 +1,7 @@
 //! Walks and clears, driven over both fields, with and without a table.
 
 use super::each_call::beside_sixteen;
-use super::{Plain, answers, same, value};
+use super::{Plain, answers, assert_same, value};
 use flurry_bins_slots::{ComputeFn, NoFn};
 use flurry_steps::Field;
 use flurry_steps::party::OwnedCall;

@@ -1,6 +1,6 @@
 //! Each request of a removal that begins with what a walk has read fails in turn.
 
-use super::same_at;
+use super::assert_same_at;
 use super::world::{Numbers, begins, label_count, step_to, world_for};
 use flurry_bins_slots::{ComputeFn, NoFn};
 use flurry_steps::party::OwnedCall;

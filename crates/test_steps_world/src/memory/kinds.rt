@@ -1,6 +1,6 @@
 //! Each request of each other kind of a world's calls fails in turn.
 
-use super::same_at;
+use super::assert_same_at;
 use super::world::{Close, Numbers, Told, refused_at, reply, value, world_of};
 use flurry_base::reply::KeptReply;
 use flurry_bins_slots::{ComputeFn, NoFn};

@@ -1,7 +1,7 @@
 //! Each request of a slot's steps fails in turn.
 ghost use Rattle.flurry_bins_slots.specs.Slot.{LiesInBin};
 
-use super::{Memory, same, same_at};
+use super::{Memory, assert_same, assert_same_at};
 use flurry_base::sizes::bin_index;
 use flurry_bins::bin::Bin;
 use flurry_bins_slots::{Answer, Computed, Given, Slot};

@@ -1,6 +1,6 @@
 //! Each request of a world's calls fails in turn.
 
-use super::{Memory, same, same_at};
+use super::{Memory, assert_same, assert_same_at};
 use flurry_base::hash::LowHashBuilder;
 use flurry_base::reply::KeptReply;
 use flurry_bins_slots::{ComputeFn, NoFn};

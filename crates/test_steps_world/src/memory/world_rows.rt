@@ -1,6 +1,6 @@
 //! Worked schedules in which memory for a table cannot be allocated, label by label.
 
-use super::same;
+use super::assert_same;
 use super::world::{Numbers, begins, label_count, labels_from, step_to, world_for};
 use flurry_bins_slots::{ComputeFn, NoFn};
 use flurry_steps::party::OwnedCall;

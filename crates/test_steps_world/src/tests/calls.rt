@@ -1,8 +1,8 @@
 //! Each call once, a list of steps, and the first table of a new world.
 
 use super::{
-    Line, Numbers, assert_call, assert_reply, begin, end_of, label_count, line_of, same, value,
-    world_for,
+    Line, Numbers, assert_call, assert_reply, assert_same, begin, end_of, label_count, line_of,
+    value, world_for,
 };
 use flurry_base::reply::KeptReply;
 use flurry_bins_slots::{ComputeFn, NoFn};

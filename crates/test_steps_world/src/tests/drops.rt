@@ -1,8 +1,8 @@
 //! Removals of a pair that a walk has read, label by label.
 
 use super::{
-    Line, Numbers, assert_call, assert_reply, assert_steps, begin, label_count, last_line, same,
-    value, world_for,
+    Line, Numbers, assert_call, assert_reply, assert_same, assert_steps, begin, label_count,
+    last_line, value, world_for,
 };
 use flurry_bins_slots::{ComputeFn, NoFn};
 use flurry_steps::party::OwnedCall;

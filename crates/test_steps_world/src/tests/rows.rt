@@ -1,8 +1,8 @@
 //! Worked schedules, label by label.
 
 use super::{
-    Line, Numbers, assert_call, assert_reply, assert_steps, begin, end_of, label_count, line_of,
-    lose, same, step, value, world_for,
+    Line, Numbers, assert_call, assert_reply, assert_same, assert_steps, begin, end_of,
+    label_count, line_of, lose, step, value, world_for,
 };
 use flurry_bins_slots::{ComputeFn, NoFn};
 use flurry_steps::party::OwnedCall;

@@ -1,8 +1,8 @@
 //! Walks and clears between the steps of other calls, label by label.
 
 use super::{
-    Line, Numbers, assert_call, assert_reply, assert_steps, begin, end_of, same, step, value,
-    world_for,
+    Line, Numbers, assert_call, assert_reply, assert_same, assert_steps, begin, end_of, step,
+    value, world_for,
 };
 use flurry_bins_slots::{ComputeFn, NoFn};
 use flurry_steps::party::OwnedCall;

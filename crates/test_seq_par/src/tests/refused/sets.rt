@@ -1,7 +1,7 @@
 //! The requests of sets.
 
 use super::{Call, Memory, refuse, refuse_each, refused_or_done};
-use crate::tests::same;
+use crate::tests::assert_same;
 use flurry_base::hash::LowHashBuilder;
 use flurry_seq_par::set;
 use flurry_seq_set::SeqSet;

@@ -1,6 +1,6 @@
 //! Removals of a pair that a walk has read.
 
-use super::super::same;
+use super::super::assert_same;
 use super::{
     Map, NONE, ONE_AND_SEVENTEEN, Row, Told, empty_map, go_on, run, seen_by, steps, value,
 };

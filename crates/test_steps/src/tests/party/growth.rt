@@ -1,6 +1,6 @@
 //! Calls that make the table larger, and calls that meet the growth of another call.
 
-use super::super::same;
+use super::super::assert_same;
 use super::{Act, Map, NONE, Row, Told, empty_map, follows, go_on, goes_through, value};
 use flurry_base::reply::KeptReply;
 use flurry_steps::party::{Event, OwnedCall, Want};

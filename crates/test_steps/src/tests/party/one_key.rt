@@ -1,6 +1,6 @@
 //! One-key calls, in a table that does not grow.
 
-use super::super::same;
+use super::super::assert_same;
 use super::{
     Act, Becomes, INSERTS_THREE, Map, NONE, Row, Told, empty_map, follows, go_on, goes_through,
     run, value,

@@ -3,7 +3,7 @@ ghost use Rattle.std.specs.Prelude.{◌≡◌};
 ghost use Rattle.flurry_steps_sweep.specs.Part.{LookPart, BinPart};
 ghost use Rattle.flurry_steps_sweep.specs.Sweep.{swept_part};
 
-use super::super::{same, same_at};
+use super::super::{assert_same, assert_same_at};
 use super::{
     Act, Map, NONE, ONE_AND_SEVENTEEN, Row, Told, does, empty_map, follows, go_on, goes_through,
     lent, plain, value,

@@ -1,7 +1,7 @@
 //! Pairs that calls count at a tally.
 ghost use Rattle.flurry_steps.specs.PartyView.{CallIsReady};
 
-use super::super::{same, same_at};
+use super::super::{assert_same, assert_same_at};
 use super::{Asked, Map, NONE, Row, Told, call_of, empty_map, end, go_on, step, value};
 use flurry_base::reply::KeptReply;
 use flurry_bins_slots::ComputeFn;

@@ -1,6 +1,6 @@
 //! The bins of a claim, how a claim goes on, and the range that it gives back.
 
-use super::super::{same, same_at};
+use super::super::{assert_same, assert_same_at};
 use super::{claimed, move_all, receipt_of};
 use flurry_steps_claims::{PlainBoard, Range};
 use flurry_steps_control::Claim;

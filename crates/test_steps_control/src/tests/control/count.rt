@@ -1,6 +1,6 @@
 //! The count of pairs, what it advises, and sizes.
 
-use super::super::{same, same_at};
+use super::super::{assert_same, assert_same_at};
 use super::empty_room;
 use flurry_base::sizes::stride;
 use flurry_steps_control::{Advice, Control, wanted_table};

@@ -1,6 +1,6 @@
 //! The first table, and how growths start.
 
-use super::super::same;
+use super::super::assert_same;
 use super::{empty_room, growing, opened};
 use flurry_steps_control::{Advice, BeginOutcome, Control};
 

@@ -1,6 +1,6 @@
 //! The end of a growth, and publications that change nothing.
 
-use super::super::{same, same_at};
+use super::super::{assert_same, assert_same_at};
 use super::{growing, opened};
 use flurry_steps_control::{Advice, BeginOutcome, Control};
 
