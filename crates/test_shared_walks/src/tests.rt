@@ -6,6 +6,7 @@ mod drops;
 mod kept;
 mod refused;
 mod views;
+mod visits;
 mod walks;
 
 use flurry_base::hash::{KeyHasher, LowHashBuilder};

@@ -1,0 +1,121 @@
+//! Calls that go over all pairs and change none: `for_each`, `any` and `fold`, and the `Debug` forms.
+
+use super::{assert_same, insert_all, numbers};
+use flurry_base::hash::LowHashBuilder;
+use flurry_shared::HashMap;
+use flurry_shared_set::HashSet;
+use std::alloc::{Allocator, Global};
+use std::fmt::Debug;
+use std::process::Abort;
+use std::sync::Wait;
+use std::thread;
+use std::thread::Threads;
+
+// The number of keys that are present before a thread inserts others.
+const STANDING: u64 = 500;
+
+// Returns how many of the keys that were present before one `fold` gives, and how many times `for_each` gives one of them.
+fn standing<A: Allocator + Copy, R: Wait>(
+    rt: &R,
+    map: &HashMap<u64, u64, LowHashBuilder, A>,
+) -> (u64, u64) {
+    let folded = map.fold(rt, 0, |count: u64, key: &u64, _value: &u64| -> u64 {
+        count.saturating_add(u64::from(*key < STANDING))
+    });
+    let mut calls = 0u64;
+    let ended = map.for_each(rt, |key: &u64, _value: &u64| {
+        calls = calls.saturating_add(u64::from(*key < STANDING));
+    });
+    (folded.unwrap_or(0), if ended.is_ok() { calls } else { 0 })
+}
+
+// Folds while another thread inserts, and returns what `standing` then gives.
+fn fold_beside<A: Allocator + Copy + Send + Sync, R: Threads + Wait + Sync>(
+    rt: &R,
+    map: &HashMap<u64, u64, LowHashBuilder, A>,
+) -> (u64, u64) {
+    thread::scope(thread::scope_env(), rt, |scope| {
+        let spawned = scope.spawn(move || insert_all(rt, map, 1000, 9000));
+        let seen = standing(rt, map);
+        drop(spawned);
+        seen
+    })
+}
+
+// Returns the `Debug` form of a value.
+fn debug_of<T: Debug>(rt: &impl Abort, alloc: Global, value: &T) -> String {
+    format!(in alloc; "{value:?}").expect(rt, "memory for a text")
+}
+
+#[test]
+fn for_each_calls_once_at_each_pair(rt: HostRuntime) {
+    let map = numbers(&rt, rt.alloc(), 50);
+    let (mut calls, mut sum) = (0u64, 0u64);
+    let ended = map.for_each(&rt, |_key: &u64, value: &u64| {
+        calls = calls.saturating_add(1);
+        sum = sum.saturating_add(*value);
+    });
+    assert_same(&rt, (ended.is_ok(), calls, sum), (true, 50, 1225));
+}
+
+#[test]
+fn fold_passes_on_what_each_call_returns(rt: HostRuntime) {
+    let map = numbers(&rt, rt.alloc(), 50);
+    let greatest = map.fold(&rt, 0, |seen: u64, key: &u64, _value: &u64| -> u64 {
+        seen.max(*key)
+    });
+    assert_same(&rt, greatest.ok(), Some(49));
+}
+
+#[test]
+fn any_looks_for_a_pair(rt: HostRuntime) {
+    let map = numbers(&rt, rt.alloc(), 50);
+    for (wanted, found) in [(0, true), (49, true), (50, false)] {
+        let seen = map.any(&rt, |key: &u64, _value: &u64| -> bool { *key == wanted });
+        assert_same(&rt, (wanted, seen.ok()), (wanted, Some(found)));
+    }
+}
+
+#[test]
+fn any_calls_no_further_than_it_needs(rt: HostRuntime) {
+    let map = numbers(&rt, rt.alloc(), 50);
+    let mut calls = 0u64;
+    let found = map.any(&rt, |_key: &u64, _value: &u64| -> bool {
+        calls = calls.saturating_add(1);
+        calls == 3
+    });
+    assert_same(&rt, (found.ok(), calls), (Some(true), 3));
+}
+
+#[test]
+fn a_map_without_a_table_has_nothing_to_visit(rt: HostRuntime) {
+    let map = numbers(&rt, rt.alloc(), 0);
+    assert_same(&rt, standing(&rt, &map), (0, 0));
+    let found = map.any(&rt, |_key: &u64, _value: &u64| -> bool { true });
+    assert_same(&rt, found.ok(), Some(false));
+}
+
+#[test]
+fn keys_that_stay_are_visited_beside_insertions(rt: HostRuntime) {
+    let map = numbers(&rt, rt.alloc(), STANDING);
+    assert_same(&rt, fold_beside(&rt, &map), (STANDING, STANDING));
+    assert_same(&rt, standing(&rt, &map), (STANDING, STANDING));
+}
+
+#[test]
+fn views_print_how_many(rt: HostRuntime) {
+    let map = numbers(&rt, rt.alloc(), 2);
+    let text = debug_of(&rt, rt.alloc(), &map.pin(&rt));
+    assert_same(&rt, text.as_str(), "HashMapRef { len: 2, .. }");
+    let text = debug_of(&rt, rt.alloc(), &map);
+    assert_same(&rt, text.as_str(), "HashMap { .. }");
+}
+
+#[test]
+fn views_of_sets_print_how_many(rt: HostRuntime) {
+    let set: HashSet<u64> = HashSet::new(rt.alloc());
+    let text = debug_of(&rt, rt.alloc(), &set.pin(&rt));
+    assert_same(&rt, text.as_str(), "HashSetRef { len: 0, .. }");
+    let text = debug_of(&rt, rt.alloc(), &set);
+    assert_same(&rt, text.as_str(), "HashSet { .. }");
+}
