@@ -2,6 +2,7 @@
 pub use Rattle.flurry_bins.specs.Bin
 pub use Rattle.flurry_bins.specs.Chain
 pub use Rattle.flurry_bins.specs.Entries
+pub use Rattle.flurry_base.specs.Changes
 pub use Rattle.flurry_base.specs.FiniteMap
 pub use Rattle.flurry_base.specs.FiniteSet
 pub use Rattle.flurry_base.specs.Hashing
@@ -43,6 +44,7 @@ pub use Rattle.flurry_steps_drive.specs.Exact
 pub use Rattle.flurry_steps_drive.specs.IsExclusive
 pub use Rattle.flurry_steps.specs.StepClosure
 pub use Rattle.flurry_shared_view.specs.SharedAnswers
+pub use Rattle.flurry_shared_view.specs.Visits
 pub use Rattle.flurry_shared_view.specs.Walks
 pub use Rattle.flurry_shared_memo.specs.Memo
 pub use Rattle.flurry_base.specs.declared.call.Call.TheVariants as Call

@@ -24,7 +24,7 @@ pub mod steps;
 pub mod world;
 
 pub use flurry_base::hash::{DefaultHashBuilder, DefaultHasher};
-pub use flurry_base::{TryInsertError, hash};
+pub use flurry_base::{Change, TryInsertError, hash};
 pub use flurry_bins::bin;
 pub use flurry_bins_insertion::table;
 pub use flurry_seq::{SeqMap, calls, iter as seq_iter, seq_map};
