@@ -90,6 +90,14 @@ pub fn sum<R: Wait>(rt: &R, map: &Shared) -> Result<u64, AllocError> {
     Ok(sum)
 }
 
+/// Returns the sum of the values that a walk gives, by a function that adds one value after another.
+pub fn sum_by_fold<R: Wait>(rt: &R, map: &Shared) -> Result<u64, AllocError> {
+    let sum = map.fold(rt, 0, |sum: u64, _key: &u64, value: &u64| -> u64 {
+        sum.saturating_add(*value)
+    })?;
+    Ok(sum)
+}
+
 /// Takes a token of a key, and returns `true` if there was one. The function reports this through a captured `&mut`.
 pub fn take_token<R: Wait>(rt: &R, map: &Shared, key: u64) -> Result<bool, AllocError> {
     let mut was_taken = false;

@@ -46,7 +46,7 @@ pub use Rattle.flurry_steps.specs.StepClosure
 pub use Rattle.flurry_shared_view.specs.SharedAnswers
 pub use Rattle.flurry_shared_view.specs.Visits
 pub use Rattle.flurry_shared_view.specs.Walks
-pub use Rattle.flurry_shared_memo.specs.Memo
+pub use Rattle.flurry_shared_view.specs.Insertions
 pub use Rattle.flurry_base.specs.declared.call.Call.TheVariants as Call
 pub use Rattle.flurry_shared_replies.specs.Answers
 pub use Rattle.flurry_shared_set.specs.ElementAnswers

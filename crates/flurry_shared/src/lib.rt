@@ -5,6 +5,7 @@
 
 mod bulk;
 mod debug;
+mod insert_with;
 pub mod map;
 mod owned;
 mod visit;

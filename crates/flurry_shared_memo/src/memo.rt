@@ -1,9 +1,9 @@
 //! Values that are computed once, shared by threads.
-ghost use Rattle.std.specs.Prelude.{◌≡◌, IfOk};
+ghost use Rattle.std.specs.Prelude.{◌≡◌, IfOk, OnErr};
 ghost use Rattle.std.specs.Arc.{arc_value};
 ghost use Rattle.std.specs.Borrow.{Bor};
 ghost use Rattle.flurry_shared_view.specs.SharedAnswers.{IsAnswerOf};
-ghost use Rattle.flurry_shared_memo.specs.Memo.{IsKept};
+ghost use Rattle.flurry_shared_view.specs.Insertions.{FailsToGetOrInsert, GetsOrInserts};
 
 use flurry_base::hash::{DefaultHashBuilder, KeyHasher};
 use flurry_shared::HashMap;
@@ -65,7 +65,7 @@ impl<K: Ord + Drop, V: Drop, S: KeyHasher<K>, A: Allocator + Copy> Memo<K, V, S,
     ///
     /// No lock is held while `f` runs, so it may call the memo itself.
     ///
-    /// As [`HashMap::get`], and as [`HashMap::try_insert`] besides if there is none.
+    /// As [`HashMap::get_or_insert_with`].
     ///
     /// # Errors
     ///
@@ -80,16 +80,11 @@ impl<K: Ord + Drop, V: Drop, S: KeyHasher<K>, A: Allocator + Copy> Memo<K, V, S,
     where
         F: Drop,
         requires { (k : Bor K) → k.now ≡ key → F.pre f k }
-        ensures { IfOk result (λ kept. IsKept (IsAnswerOf K.cmp S.hash_of self.now) key
-            (λ v. (k : Bor K) × (k.now ≡ key) × F.post f k v) (arc_value kept)) }
+        ensures value { IfOk result (λ value. GetsOrInserts (IsAnswerOf K.cmp S.hash_of self.now) key
+            (λ v. (k : Bor K) × (k.now ≡ key) × F.post f k v) (arc_value value)) }
+        ensures err { OnErr result (FailsToGetOrInsert (IsAnswerOf K.cmp S.hash_of self.now) key
+            (λ v. (k : Bor K) × (k.now ≡ key) × F.post f k v)) }
     {
-        if let Some(value) = self.map.get(rt, &key)? {
-            return Ok(value);
-        }
-        let computed = f(&key);
-        match self.map.try_insert(rt, key, computed)? {
-            Ok(value) => Ok(value),
-            Err(present) => Ok(present.current),
-        }
+        self.map.get_or_insert_with(rt, key, f)
     }
 }

@@ -1,3 +1,4 @@
 pub mod SharedAnswers
 pub mod Walks
 pub mod Visits
+pub mod Insertions

@@ -6,6 +6,7 @@
 
 mod debug;
 mod equality;
+mod insert_with;
 pub mod iter;
 pub mod map_ref;
 mod retain;

@@ -18,8 +18,8 @@ on_err (Err e) P p = p
 module _ {K V F S : Type 0} (cmp : K → K → Ordering) (hash : K → ℕ) (changes : F → K → V → Option V → Type 0) where
   -- one step more
   pub runs_more : (front : List (Step K V F)) (w v u : WorldState K V F S) (s : Step K V F) → Runs cmp hash changes front w v → DoesStep cmp hash changes s v u → Runs cmp hash changes (front ++ s ∷ []) w u
-  runs_more [] w v u s ran stage_step = (u, subst (λ z. DoesStep cmp hash changes s z u) ran next_state, refl)
-  runs_more (t ∷ front) w v u s (m, first, rest) stage_step = (m, first, runs_more front m v u s rest does)
+  runs_more [] w v u s ran did = (u, subst (λ z. DoesStep cmp hash changes s z u) ran did, refl)
+  runs_more (t ∷ front) w v u s (m, first, rest) did = (m, first, runs_more front m v u s rest did)
 
 -- the first of a list, and the rest
 module _ {X : Type 0} (P : X → Type 0) (x : X) (xs : List X) (all : All P (x ∷ xs)) where

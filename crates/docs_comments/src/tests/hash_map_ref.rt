@@ -127,3 +127,14 @@ fn fold(rt: HostRuntime) -> Result<(), Fail> {
     assert_eq!(rt; greatest, 2);
     Ok(())
 }
+
+#[test]
+fn get_or_insert_with(rt: HostRuntime) -> Result<(), Fail> {
+    let map: HashMap<u64, u64> = HashMap::new(rt.alloc());
+    let view = map.pin(&rt);
+    let new = view.get_or_insert_with(37, |key: &u64| -> u64 { key.saturating_add(1) })?;
+    assert_eq!(rt; *new, 38);
+    let present = view.get_or_insert_with(37, |_key: &u64| -> u64 { 0 })?;
+    assert_eq!(rt; *present, 38);
+    Ok(())
+}

@@ -81,9 +81,9 @@ fn pairs_wait_at_a_tally(rt: HostRuntime) {
         // The control has counted nothing yet.
         go_on(&rt, &mut map, &[Row::Pairs(0)]);
     }
-    map.control.collect(&mut tally);
+    map.control.drain_tally(&mut tally);
     go_on(&rt, &mut map, &[Row::Pairs(2)]);
-    map.control.collect(&mut tally);
+    map.control.drain_tally(&mut tally);
     go_on(&rt, &mut map, &[Row::Pairs(2)]);
     drop(map);
 }
@@ -99,9 +99,9 @@ fn removals_wait_at_a_tally(rt: HostRuntime) {
     let mut second = Tally::new();
     let seen = is_counting(&rt, &mut map, &mut second, OwnedCall::Remove(1));
     assert_same(&rt, seen, (Want::Done, value(Some(10))));
-    map.control.collect(&mut second);
+    map.control.drain_tally(&mut second);
     go_on(&rt, &mut map, &[Row::Pairs(4)]);
-    map.control.collect(&mut first);
+    map.control.drain_tally(&mut first);
     go_on(&rt, &mut map, &[Row::Pairs(5)]);
     drop(map);
 }
