@@ -13,6 +13,7 @@ ghost use Rattle.flurry_base.specs.declared.sizes.TheConstants.{MAX_LEN};
 
 mod bulk;
 mod capacity;
+mod change;
 mod compute;
 mod get;
 mod insert;
