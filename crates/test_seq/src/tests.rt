@@ -1,6 +1,7 @@
 //! Tests by topic, and what they share.
 
 mod calls;
+mod change;
 mod growth;
 mod iterators;
 mod keys;

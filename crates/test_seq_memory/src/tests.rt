@@ -1,5 +1,6 @@
 //! Failed requests by topic, and what the tests share.
 
+mod change;
 mod computed;
 mod copies;
 mod inserted;
