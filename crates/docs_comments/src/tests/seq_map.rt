@@ -1,6 +1,6 @@
 //! The examples of the owned map's doc comments.
 
-use flurry::SeqMap;
+use flurry::{Change, SeqMap};
 use std::test::Fail;
 
 #[test]
@@ -80,6 +80,88 @@ fn compute_if_present(rt: HostRuntime) -> Result<(), Fail> {
     // `None` removes the pair
     map.compute_if_present(&37, |_key: &u64, _value: &u64| -> Option<u64> { None })?;
     assert!(rt; map.is_empty());
+    Ok(())
+}
+
+#[test]
+fn compute(rt: HostRuntime) -> Result<(), Fail> {
+    let mut map: SeqMap<u64, u64> = SeqMap::new(rt.alloc());
+    for _ in 0..3 {
+        map.compute(37, |_key: &u64, old: Option<&u64>| -> Option<u64> {
+            match old {
+                Some(count) => count.checked_add(1),
+                None => Some(1),
+            }
+        })?;
+    }
+    assert_eq!(rt; map.get(&37).map(|count| **count), Some(3));
+
+    // `None` removes the pair
+    let change = map.compute(37, |_key: &u64, _old: Option<&u64>| -> Option<u64> { None })?;
+    assert!(rt; matches!(change, Change::Removed(_)));
+    assert!(rt; map.is_empty());
+    Ok(())
+}
+
+#[test]
+fn merge(rt: HostRuntime) -> Result<(), Fail> {
+    let mut map: SeqMap<u64, u64> = SeqMap::new(rt.alloc());
+    for amount in [20, 22] {
+        map.merge(37, amount, |old: &u64, new: u64| -> Option<u64> {
+            old.checked_add(new)
+        })?;
+    }
+    assert_eq!(rt; map.get(&37).map(|sum| **sum), Some(42));
+
+    // `None` removes the pair
+    let change = map.merge(37, 1, |_old: &u64, _new: u64| -> Option<u64> { None })?;
+    assert!(rt; matches!(change, Change::Removed(_)));
+    assert!(rt; map.is_empty());
+    Ok(())
+}
+
+#[test]
+fn update(rt: HostRuntime) -> Result<(), Fail> {
+    let mut map: SeqMap<u64, u64> = SeqMap::new(rt.alloc());
+    map.insert(37, 1)?;
+    let new = map.update(&37, |key: &u64, _value: &u64| -> u64 { *key / 2 })?;
+    assert_eq!(rt; new.map(|new| *new), Some(18));
+    let absent = map.update(&38, |_key: &u64, value: &u64| -> u64 { *value })?;
+    assert!(rt; absent.is_none());
+    Ok(())
+}
+
+#[test]
+fn get_or_insert_with(rt: HostRuntime) -> Result<(), Fail> {
+    let mut map: SeqMap<u64, u64> = SeqMap::new(rt.alloc());
+    let new = map.get_or_insert_with(37, |key: &u64| -> u64 { *key / 2 })?;
+    assert_eq!(rt; *new, 18);
+    let old = map.get_or_insert_with(37, |_key: &u64| -> u64 { 0 })?;
+    assert_eq!(rt; *old, 18);
+    Ok(())
+}
+
+#[test]
+fn remove_if(rt: HostRuntime) -> Result<(), Fail> {
+    let mut map: SeqMap<u64, u64> = SeqMap::new(rt.alloc());
+    map.insert(37, 1)?;
+    let kept = map.remove_if(&37, |_key: &u64, value: &u64| -> bool { *value > 1 });
+    assert!(rt; kept.is_none());
+    let removed = map.remove_if(&37, |_key: &u64, value: &u64| -> bool { *value == 1 });
+    assert_eq!(rt; removed.map(|value| *value), Some(1));
+    assert!(rt; map.is_empty());
+    Ok(())
+}
+
+#[test]
+fn replace_if(rt: HostRuntime) -> Result<(), Fail> {
+    let mut map: SeqMap<u64, u64> = SeqMap::new(rt.alloc());
+    map.insert(37, 1)?;
+    let old = map.replace_if(&37, |_key: &u64, value: &u64| -> bool { *value == 1 }, 2)?;
+    assert_eq!(rt; old.ok().map(|old| *old), Some(1));
+    let kept = map.replace_if(&37, |_key: &u64, value: &u64| -> bool { *value == 1 }, 3)?;
+    assert_eq!(rt; kept.err(), Some(3));
+    assert_eq!(rt; map.get(&37).map(|value| **value), Some(2));
     Ok(())
 }
 
