@@ -18,6 +18,7 @@ pub use Rattle.flurry_bins.specs.Bin
 pub use Rattle.flurry_bins.specs.Entries
 pub use Rattle.flurry_bins.specs.PlainEntries
 pub use Rattle.flurry_base.specs.BinSizes
+pub use Rattle.flurry_base.specs.Changes
 pub use Rattle.flurry_base.specs.FiniteMap
 pub use Rattle.flurry_base.specs.HashOrder
 pub use Rattle.flurry_base.specs.Hashing

@@ -19,9 +19,9 @@ use std::alloc::{AllocError, Allocator};
 use std::sync::Arc;
 
 impl<K: Ord + Drop, V: Drop, S: KeyHasher<K>, A: Allocator> SeqMap<K, V, S, A> {
-    /// Calls `test` once on the stored key and the value of `key`, if it is present. If `test` returns `true`, removes the pair, and returns
-    /// its value. Otherwise the map is unchanged, and `None` is returned; if the key is absent, `test` is not called. The size of the table
-    /// does not change. The precondition of `test` needs to hold for that one pair only.
+    /// Calls `test` once on the stored key and the value of `key`, if it is present. If `test` returns `true`, removes the pair, and
+    /// returns its value. Otherwise the map is unchanged, and `None` is returned; if the key is absent, `test` is not called. The size of
+    /// the table does not change. The precondition of `test` needs to hold for that one pair only.
     ///
     /// ```
     /// let mut map: SeqMap<u64, u64> = SeqMap::new(rt.alloc());
@@ -69,10 +69,10 @@ impl<K: Ord + Drop, V: Drop, S: KeyHasher<K>, A: Allocator> SeqMap<K, V, S, A> {
 }
 
 impl<K: Ord + Drop, V: Drop, S: KeyHasher<K>, A: Allocator + Copy> SeqMap<K, V, S, A> {
-    /// Calls `f` once: on the stored key and `Some` of the value, if the key is present, or else on `key` and `None`. What `f` returns becomes
-    /// the key's value. If `f` returns `None`, the pair is removed, or none is inserted. Returns what was done, with a clone of the `Arc` of a
-    /// new value, or with the value that was removed. If the key is present, the stored key stays, and `key` is dropped. Only a new key may
-    /// enlarge the table, as in [`SeqMap::insert`]. The precondition of `f` needs to hold for that one call only.
+    /// Calls `f` once: on the stored key and `Some` of the value, if the key is present, or else on `key` and `None`. What `f` returns
+    /// becomes the key's value. If `f` returns `None`, the pair is removed, or none is inserted. Returns what was done, with a clone of the
+    /// `Arc` of a new value, or with the value that was removed. If the key is present, the stored key stays, and `key` is dropped. Only a
+    /// new key may enlarge the table, as in [`SeqMap::insert`]. The precondition of `f` needs to hold for that one call only.
     ///
     /// ```
     /// let mut map: SeqMap<u64, u64> = SeqMap::new(rt.alloc());
@@ -94,11 +94,8 @@ impl<K: Ord + Drop, V: Drop, S: KeyHasher<K>, A: Allocator + Copy> SeqMap<K, V, 
     ///
     /// # Errors
     ///
-    /// Returns [`AllocError`] if memory for the new value, for a new pair or for a first table cannot be allocated, if cloning the `Arc` of the
-    /// new value fails, or if the key is new and the map has [`MAX_LEN`] pairs. `f` has been called by then; the value that it returned is
-    /// dropped, and the map is unchanged. If `f` returns `None`, there is no error.
-    ///
-    /// [`MAX_LEN`]: super::MAX_LEN
+    /// Returns [`AllocError`] in the cases of [`SeqMap::insert`], and also if cloning the `Arc` of the new value fails. `f` has been called
+    /// by then; the value that it returned is dropped, and the map is unchanged. If `f` returns `None`, there is no error.
     pub fn compute<F: FnOnce(&K, Option<&V>) -> Option<V>>(
         &mut self,
         key: K,
@@ -151,9 +148,9 @@ impl<K: Ord + Drop, V: Drop, S: KeyHasher<K>, A: Allocator + Copy> SeqMap<K, V, 
         }
     }
 
-    /// Returns a clone of the `Arc` of the key's value. If the key is absent, calls `f` once on it first, and inserts what `f` returns; a new
-    /// key may enlarge the table, as in [`SeqMap::insert`]. If the key is present, `f` is not called, nothing changes, and `key` is dropped.
-    /// The precondition of `f` needs to hold for `key` only, and only if it is absent.
+    /// Returns a clone of the `Arc` of the key's value. If the key is absent, calls `f` once on it first, and inserts what `f` returns; a
+    /// new key may enlarge the table, as in [`SeqMap::insert`]. If the key is present, `f` is not called, nothing changes, and `key` is
+    /// dropped. The precondition of `f` needs to hold for `key` only, and only if it is absent.
     ///
     /// ```
     /// let mut map: SeqMap<u64, u64> = SeqMap::new(rt.alloc());
@@ -165,11 +162,8 @@ impl<K: Ord + Drop, V: Drop, S: KeyHasher<K>, A: Allocator + Copy> SeqMap<K, V, 
     ///
     /// # Errors
     ///
-    /// Returns [`AllocError`] if memory for a new pair or for a first table cannot be allocated, if the key is new and the map has [`MAX_LEN`]
-    /// pairs, or if cloning the `Arc` of the value fails. The map is unchanged. If the key is absent, `f` has been called by then, and the
-    /// value that it returned is dropped.
-    ///
-    /// [`MAX_LEN`]: super::MAX_LEN
+    /// Returns [`AllocError`] in the cases of [`SeqMap::insert`] if the key is absent, and also if cloning the `Arc` of the value fails.
+    /// The map is unchanged. If the key is absent, `f` has been called by then, and the value that it returned is dropped.
     pub fn get_or_insert_with<F: FnOnce(&K) -> V>(
         &mut self,
         key: K,
@@ -198,9 +192,9 @@ impl<K: Ord + Drop, V: Drop, S: KeyHasher<K>, A: Allocator + Copy> SeqMap<K, V, 
         self.add_pair(hash, key, value)
     }
 
-    /// Calls `f` once on the stored key and the value of `key`, if it is present. What `f` returns becomes the new value, and a clone of its
-    /// `Arc` is returned. If the key is absent, `f` is not called, nothing changes, and `None` is returned. The size of the table does not
-    /// change. The precondition of `f` needs to hold for that one pair only.
+    /// Calls `f` once on the stored key and the value of `key`, if it is present. What `f` returns becomes the new value, and a clone of
+    /// its `Arc` is returned. If the key is absent, `f` is not called, nothing changes, and `None` is returned. The size of the table does
+    /// not change. The precondition of `f` needs to hold for that one pair only.
     ///
     /// ```
     /// let mut map: SeqMap<u64, u64> = SeqMap::new(rt.alloc());
@@ -243,8 +237,8 @@ impl<K: Ord + Drop, V: Drop, S: KeyHasher<K>, A: Allocator + Copy> SeqMap<K, V, 
 
     /// Inserts `value`, if the key is absent. If it is present, calls `f` once on its value and `value`: what `f` returns becomes the new
     /// value, and if `f` returns `None`, the pair is removed. Returns what was done, with a clone of the `Arc` of a new value, or with the
-    /// value that was removed. If the key is present, the stored key stays, and `key` is dropped. Only a new key may enlarge the table, as in
-    /// [`SeqMap::insert`]. The precondition of `f` needs to hold for those two values only.
+    /// value that was removed. If the key is present, the stored key stays, and `key` is dropped. Only a new key may enlarge the table, as
+    /// in [`SeqMap::insert`]. The precondition of `f` needs to hold for those two values only.
     ///
     /// ```
     /// let mut map: SeqMap<u64, u64> = SeqMap::new(rt.alloc());
@@ -261,11 +255,9 @@ impl<K: Ord + Drop, V: Drop, S: KeyHasher<K>, A: Allocator + Copy> SeqMap<K, V, 
     ///
     /// # Errors
     ///
-    /// Returns [`AllocError`] if memory for the new value, for a new pair or for a first table cannot be allocated, if cloning the `Arc` of the
-    /// new value fails, or if the key is new and the map has [`MAX_LEN`] pairs. If the key is present, `f` has been called by then. The value
-    /// that was to be stored is dropped, and the map is unchanged. If `f` returns `None`, there is no error.
-    ///
-    /// [`MAX_LEN`]: super::MAX_LEN
+    /// Returns [`AllocError`] in the cases of [`SeqMap::insert`], and also if cloning the `Arc` of the new value fails. If the key is
+    /// present, `f` has been called by then. The value that was to be stored is dropped, and the map is unchanged. If `f` returns `None`,
+    /// there is no error.
     pub fn merge<F: FnOnce(&V, V) -> Option<V>>(
         &mut self,
         key: K,
@@ -295,9 +287,9 @@ impl<K: Ord + Drop, V: Drop, S: KeyHasher<K>, A: Allocator + Copy> SeqMap<K, V, 
         self.change_present(hash, &key, merged)
     }
 
-    /// Calls `test` once on the stored key and the value of `key`, if it is present. If `test` returns `true`, `value` takes the place of the
-    /// old value, which is returned. Otherwise nothing changes, and `value` comes back, in an inner `Err`; if the key is absent, `test` is not
-    /// called. The size of the table does not change. The precondition of `test` needs to hold for that one pair only.
+    /// Calls `test` once on the stored key and the value of `key`, if it is present. If `test` returns `true`, `value` takes the place of
+    /// the old value, which is returned. Otherwise nothing changes, and `value` comes back, in an inner `Err`; if the key is absent, `test`
+    /// is not called. The size of the table does not change. The precondition of `test` needs to hold for that one pair only.
     ///
     /// ```
     /// let mut map: SeqMap<u64, u64> = SeqMap::new(rt.alloc());
