@@ -7,7 +7,7 @@ ghost use Rattle.flurry.specs.FiniteMap.{value_at};
 ghost use Rattle.flurry.specs.Invariant.{IsTableSize};
 ghost use Rattle.flurry.specs.TheConstants.{MAX_LEN};
 
-use flurry::SeqMap;
+use flurry::{Change, SeqMap};
 use std::alloc::AllocError;
 use std::hash::Hash;
 
@@ -37,6 +37,20 @@ pub fn drop_exact_len(map: &mut Map, key: u64) -> bool
     ensures { let n = length map.new.pairs in length map.old.pairs ≡ (if result then n + 1 else n) }
 {
     map.remove(&key).is_some()
+}
+
+/// Puts, changes or removes the pair of a key as `f` says, and returns the value that the key then has.
+pub fn value_after<F: FnOnce(&u64, Option<&u64>) -> Option<u64> + Drop>(
+    map: &mut Map,
+    key: u64,
+    f: F,
+) -> Result<Option<u64>, AllocError>
+    requires { F.IsAlwaysCallable f }
+{
+    match map.compute(key, f)? {
+        Change::Added(new) | Change::Changed(new) => Ok(Some(*new)),
+        Change::Absent | Change::Removed(_) => Ok(None),
+    }
 }
 
 /// Removes a key of any type, which is then absent.
