@@ -1,6 +1,7 @@
 //! The map that threads share.
 //!
-//! A [`HashMap`] has the locks of the map's parts and a hasher. Its calls are those of its view, a [`flurry_shared_view::HashMapRef`].
+//! A [`HashMap`] has the locks of the map's parts and a hasher. Its calls are those of its view, a [`HashMapRef`]. A crate that wants this
+//! map alone names this crate alone: the hashers are in [`hash`], and the words of its contracts in this crate's `specs`.
 #![tactic(auto)]
 
 mod bulk;
@@ -10,5 +11,6 @@ pub mod map;
 mod owned;
 mod visit;
 
-pub use flurry_shared_view::iter;
+pub use flurry_base::{TryInsertError, hash};
+pub use flurry_shared_view::{HashMapRef, iter, map_ref};
 pub use map::HashMap;
