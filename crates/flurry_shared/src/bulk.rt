@@ -1,12 +1,13 @@
 //! Calls of a shared map that visit many pairs.
-ghost use Rattle.std.specs.Prelude.{◌≡◌, IfOk};
+ghost use Rattle.std.specs.Prelude.{◌≡◌, IfOk, true};
+ghost use Rattle.flurry_shared_view.specs.Visits.{FoldsWalk, LooksUpEqual};
 
 use crate::HashMap;
 use flurry_base::hash::KeyHasher;
 use std::alloc::{AllocError, Allocator};
 use std::sync::Wait;
 
-// No contract specifies which pairs these calls find and leave, since other threads change them meanwhile.
+// No contract specifies which pairs an insertion of a list leaves, since other threads change them meanwhile.
 impl<K: Ord + Drop, V: Drop, S: KeyHasher<K>, A: Allocator + Copy> HashMap<K, V, S, A> {
     /// Inserts the pairs of `list` in their order: if a key comes twice, its last value is inserted last. First it makes room, for as many
     /// pairs as `list` has if the map is empty, and for half as many, rounded up, if it is not.
@@ -67,6 +68,8 @@ impl<K: Ord + Drop, V: Drop, S: KeyHasher<K>, A: Allocator + Copy> HashMap<K, V,
     pub fn equals<R: Wait>(&self, rt: &R, other: &Self) -> Result<bool, AllocError>
     where
         V: PartialEq,
+        ensures { IfOk result (λ are_equal. are_equal ≡ true
+            → FoldsWalk K.cmp (LooksUpEqual K.cmp S.hash_of other.now V.eq true) tt tt) }
     {
         self.pin(rt).equals(&other.pin(rt))
     }

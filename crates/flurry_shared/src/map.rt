@@ -1,6 +1,7 @@
 //! The shared map.
-ghost use Rattle.std.specs.Prelude.{◌≡◌, IfOk};
+ghost use Rattle.std.specs.Prelude.{◌≡◌, IfOk, OnOk};
 ghost use Rattle.flurry_shared_view.specs.SharedAnswers.{IsAnswerOf, IsAnswerWith, added_answer, contains_answer, ended_answer, or_refused, pair_answer, value_answer};
+ghost use Rattle.flurry_shared_view.specs.Visits.{FoldsWalk, KeepsOrRemoves, RemovesKey, RemovesSeen};
 ghost use Rattle.flurry_shared_view.specs.Walks.{Begins};
 ghost use Rattle.flurry_base.specs.Hashing.{seed_of};
 ghost use Rattle.flurry_base.specs.declared.call.Call.TheVariants.{Get, GetKeyValue, ContainsKey, Insert, TryInsert, Compute, Remove, RemoveEntry, RemoveSeen, Reserve, Clear};
@@ -405,11 +406,12 @@ impl<K: Ord + Drop, V: Drop, S: KeyHasher<K>, A: Allocator + Copy> HashMap<K, V,
     /// # Errors
     ///
     /// Returns [`AllocError`] if cloning an `Arc` fails. The pairs that were already removed stay removed.
-    // No contract specifies which pairs it finds and leaves, since other threads change them meanwhile.
     pub fn retain<F: FnMut(&K, &V) -> bool, R: Wait>(&self, rt: &R, f: F) -> Result<(), AllocError>
     where
         F: Drop,
         requires { F.IsAlwaysCallable f }
+        ensures { OnOk result ((last : F)
+            × FoldsWalk K.cmp (KeepsOrRemoves F.step (RemovesSeen K.cmp S.hash_of self.now)) f last) }
     {
         self.pin(rt).retain(f)
     }
@@ -424,7 +426,6 @@ impl<K: Ord + Drop, V: Drop, S: KeyHasher<K>, A: Allocator + Copy> HashMap<K, V,
     /// # Errors
     ///
     /// Returns [`AllocError`] if cloning an `Arc` fails. The pairs that were already removed stay removed.
-    // No contract specifies which pairs it finds and leaves, since other threads change them meanwhile.
     pub fn retain_force<F: FnMut(&K, &V) -> bool, R: Wait>(
         &self,
         rt: &R,
@@ -433,6 +434,8 @@ impl<K: Ord + Drop, V: Drop, S: KeyHasher<K>, A: Allocator + Copy> HashMap<K, V,
     where
         F: Drop,
         requires { F.IsAlwaysCallable f }
+        ensures { OnOk result ((last : F)
+            × FoldsWalk K.cmp (KeepsOrRemoves F.step (RemovesKey K.cmp S.hash_of self.now)) f last) }
     {
         self.pin(rt).retain_force(f)
     }

@@ -1,6 +1,11 @@
 //! Equality of shared maps.
-ghost use Rattle.std.specs.Prelude.{◌≡◌, true, IfOk};
-ghost use Rattle.flurry_shared_view.specs.Walks.{Begins, HasEnded};
+ghost use Rattle.std.specs.Prelude.{◌≡◌, true, IfOk, Option};
+ghost use Rattle.flurry_base.specs.declared.call.Call.TheVariants.{Get};
+ghost use Rattle.flurry_base.specs.declared.reply.KeptReply.TheVariants.{Value};
+ghost use Rattle.flurry_steps_sweep.specs.Outcome.{OutcomeReply};
+ghost use Rattle.flurry_shared_view.specs.SharedAnswers.{IsAnswerOf};
+ghost use Rattle.flurry_shared_view.specs.Visits.{FoldsWalk, LooksUpEqual, is_equal_to};
+ghost use Rattle.flurry_shared_view.specs.Walks.{Begins};
 
 use crate::HashMapRef;
 use crate::iter::Iter;
@@ -8,7 +13,7 @@ use flurry_base::hash::KeyHasher;
 use std::alloc::{AllocError, Allocator};
 use std::sync::Wait;
 
-// No contract specifies which pairs these calls find, since other threads change them meanwhile.
+// No contract specifies when a map is unequal, since its length is one that other threads may change meanwhile.
 impl<'m, R: Wait, K: Ord + Drop, V: Drop, S: KeyHasher<K>, A: Allocator + Copy> HashMapRef<
     'm,
     R,
@@ -29,6 +34,8 @@ impl<'m, R: Wait, K: Ord + Drop, V: Drop, S: KeyHasher<K>, A: Allocator + Copy> 
     pub fn equals(&self, other: &Self) -> Result<bool, AllocError>
     where
         V: PartialEq,
+        ensures { IfOk result (λ are_equal. are_equal ≡ true
+            → FoldsWalk K.cmp (LooksUpEqual K.cmp S.hash_of other.now V.eq true) tt tt) }
     {
         if self.len() != other.len() {
             return Ok(false);
@@ -45,7 +52,8 @@ impl<'m, R: Wait, K: Ord + Drop, V: Drop, S: KeyHasher<K>, A: Allocator + Copy> 
     where
         V: PartialEq,
         requires { Begins K.cmp pairs.old }
-        ensures { IfOk result (λ has_all. has_all ≡ true → HasEnded K.cmp pairs.new) }
+        ensures { IfOk result (λ has_all. has_all ≡ true
+            → FoldsWalk K.cmp (LooksUpEqual K.cmp S.hash_of self.now V.eq true) tt tt) }
     {
         for _ in self.runtime().forever() {
             let Some((key, value)) = pairs.next()? else {
@@ -62,6 +70,9 @@ impl<'m, R: Wait, K: Ord + Drop, V: Drop, S: KeyHasher<K>, A: Allocator + Copy> 
     fn has(&self, key: &K, value: &V) -> Result<bool, AllocError>
     where
         V: PartialEq,
+        ensures { IfOk result (λ has_pair. (found : Option V)
+            × IsAnswerOf K.cmp S.hash_of self.now (Get key.now) (OutcomeReply (Value found))
+            × (is_equal_to V.eq value.now found ≡ has_pair)) }
     {
         match self.get(key)? {
             Some(found) => Ok(*value == *found),

@@ -1,6 +1,7 @@
 //! Calls that keep some of the pairs of a shared map.
 ghost use Rattle.std.specs.Prelude.{OnOk};
-ghost use Rattle.flurry_shared_view.specs.Walks.{Begins, HasEnded};
+ghost use Rattle.flurry_shared_view.specs.Visits.{FoldsWalk, KeepsOrRemoves, RemovesKey, RemovesSeen};
+ghost use Rattle.flurry_shared_view.specs.Walks.{Begins};
 
 use crate::HashMapRef;
 use crate::iter::Iter;
@@ -8,7 +9,7 @@ use flurry_base::hash::KeyHasher;
 use std::alloc::{AllocError, Allocator};
 use std::sync::Wait;
 
-// No contract specifies which pairs a walk reads, and which are present when they are removed, since other threads change them meanwhile.
+// No contract specifies which pairs are present when they are removed, since other threads change them meanwhile.
 impl<'m, R: Wait, K: Ord + Drop, V: Drop, S: KeyHasher<K>, A: Allocator + Copy> HashMapRef<
     'm,
     R,
@@ -40,6 +41,8 @@ impl<'m, R: Wait, K: Ord + Drop, V: Drop, S: KeyHasher<K>, A: Allocator + Copy> 
     where
         F: Drop,
         requires { F.IsAlwaysCallable f }
+        ensures { OnOk result ((last : F)
+            × FoldsWalk K.cmp (KeepsOrRemoves F.step (RemovesSeen K.cmp S.hash_of self.now)) f last) }
     {
         let mut keep = f;
         let mut pairs = self.iter();
@@ -57,7 +60,8 @@ impl<'m, R: Wait, K: Ord + Drop, V: Drop, S: KeyHasher<K>, A: Allocator + Copy> 
     where
         requires callable { F.IsAlwaysCallable keep.old }
         requires begun { Begins K.cmp pairs.old }
-        ensures { OnOk result (HasEnded K.cmp pairs.new) }
+        ensures { OnOk result
+            (FoldsWalk K.cmp (KeepsOrRemoves F.step (RemovesSeen K.cmp S.hash_of self.now)) keep.old keep.new) }
     {
         for _ in self.runtime().forever() {
             let Some(seen) = pairs.next_seen()? else {
@@ -84,6 +88,8 @@ impl<'m, R: Wait, K: Ord + Drop, V: Drop, S: KeyHasher<K>, A: Allocator + Copy> 
     where
         F: Drop,
         requires { F.IsAlwaysCallable f }
+        ensures { OnOk result ((last : F)
+            × FoldsWalk K.cmp (KeepsOrRemoves F.step (RemovesKey K.cmp S.hash_of self.now)) f last) }
     {
         let mut keep = f;
         let mut pairs = self.iter();
@@ -102,7 +108,8 @@ impl<'m, R: Wait, K: Ord + Drop, V: Drop, S: KeyHasher<K>, A: Allocator + Copy> 
     where
         requires callable { F.IsAlwaysCallable keep.old }
         requires begun { Begins K.cmp pairs.old }
-        ensures { OnOk result (HasEnded K.cmp pairs.new) }
+        ensures { OnOk result
+            (FoldsWalk K.cmp (KeepsOrRemoves F.step (RemovesKey K.cmp S.hash_of self.now)) keep.old keep.new) }
     {
         for _ in self.runtime().forever() {
             let Some((key, value)) = pairs.next()? else {

@@ -1,6 +1,7 @@
 use denote.Param.Always.{always_mut}
-use Rattle.flurry_shared_view.specs.Walks.{IsOpen}
+use Rattle.flurry_shared_view.specs.Visits.{KeepsOrRemoves, RemovesKey}
+use Rattle.flurry_shared_view.proofs.VisitLaws.{HasVisited}
 use Rattle.flurry_shared_view.proofs.map_ref.HashMapRef.retain_force_rest.Given as goal
 
 abbrev pub invariant-loop : goal.invariant-loop
-invariant-loop g l = always_mut g.F.FnMut l.keep × IsOpen g.K.Ord.cmp l.pairs
+invariant-loop g l = always_mut g.F.FnMut l.keep × HasVisited g.K.Ord.cmp (KeepsOrRemoves (goal.F-step g) (RemovesKey g.K.Ord.cmp g.S.KeyHasher.hash_of l.fn.self)) l.initial.keep l.keep l.pairs

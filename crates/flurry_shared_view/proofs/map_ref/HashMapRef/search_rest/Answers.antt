@@ -1,22 +1,24 @@
 use denote.Param.Always.{mut_next}
 use Rattle.std.proofs.Common.{rules, Ok, ◌∙◌, ap}
-use Rattle.flurry_shared_view.proofs.VisitLaws.{has_visited_none, has_visited_more, has_visited_all, finds_pair, answers_at_pair}
+use Rattle.flurry_shared_view.proofs.VisitLaws.{has_visited_none, has_visited_more, has_visited_all, stops_at, says_of_pair}
 use Rattle.flurry_shared_view.proofs.map_ref.HashMapRef.search_rest.Goals as goal
 
 pub loop-init : goal.loop-init
 loop-init g c = (search rules, has_visited_none g.K.Ord.cmp _ _ _ c.requires.begun)
 
 pub returns-in_default : goal.returns-in_default
-returns-in_default g c = (_, has_visited_all g.K.Ord.cmp _ _ _ c.next-in-loop.result c.next-in-loop.ensures (c.in_ok-key.was ∙ ap Ok c.in_default.is) _ _ c.loop.invariant.1)
+returns-in_default g c = (_, has_visited_all g.K.Ord.cmp _ _ _ _ _ c.next-in-loop.result c.next-in-loop.ensures (c.in_ok-key.was ∙ ap Ok c.in_default.is) _ _ c.loop.invariant.1)
 
 pub returns-then-test : goal.returns-then-test
-returns-then-test g c =
-    finds_pair g.K.Ord.cmp (goal.F-step g) _ _ c.next-in-loop.result c.next-in-loop.ensures _ (c.in_ok-key.was ∙ ap Ok c.in-Some-2.is) _ _ _ c.loop.invariant.1
-    (answers_at_pair (goal.F-step g) c.deref.ensures c.deref-in-loop.ensures c.if-test.true c.test.ensures)
+returns-then-test g c = (
+  _,
+  stops_at g.K.Ord.cmp _ _ _ _ _ c.next-in-loop.result c.next-in-loop.ensures _ _ (c.in_ok-key.was ∙ ap Ok c.in-Some-2.is) _ _ _ c.loop.invariant.1
+      (λ y same. says_of_pair c.deref.ensures c.deref-in-loop.ensures y same (goal.F-step g) _ _ _ _ c.if-test.true c.test.ensures),
+)
 
 pub loop-preserved : goal.loop-preserved
 loop-preserved g c = (
   search (mut_next, c.loop.invariant.0, rules),
-  has_visited_more g.K.Ord.cmp _ _ _ c.next-in-loop.result c.next-in-loop.ensures _ (c.in_ok-key.was ∙ ap Ok c.in-Some-2.is) _ _ _ c.loop.invariant.1
-      (answers_at_pair (goal.F-step g) c.deref.ensures c.deref-in-loop.ensures c.if-test.false c.test.ensures),
+  has_visited_more g.K.Ord.cmp _ _ _ _ _ c.next-in-loop.result c.next-in-loop.ensures _ (c.in_ok-key.was ∙ ap Ok c.in-Some-2.is) _ _ _ c.loop.invariant.1
+      (λ y same. says_of_pair c.deref.ensures c.deref-in-loop.ensures y same (goal.F-step g) _ _ _ _ c.if-test.false c.test.ensures),
 )
