@@ -2,6 +2,7 @@
 
 mod calls;
 mod change;
+mod forms;
 mod growth;
 mod iterators;
 mod keys;
