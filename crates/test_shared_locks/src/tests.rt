@@ -6,15 +6,15 @@ mod order;
 mod readers;
 mod threads;
 
-use calls::{first_step, put_all};
-use flurry_bins_slots::NoFn;
+use calls::put_all;
 use flurry_shared_locks::{LockField, Locks};
 use flurry_steps::party::{Event, OwnedCall};
+use growths::stop;
 use std::alloc::{Allocator, Global};
 use std::fmt::Debug;
 use std::process::Abort;
 use std::sync::Wait;
-use std::test::Fail;
+use std::thread::Threads;
 use threads::{count_in_thread, put_in_threads};
 
 // Asserts that a value is the expected one. A test with many assertions calls this, because each `assert_eq!` in its own body makes its
@@ -31,61 +31,58 @@ fn newest_of<A: Allocator, R>(rt: &R, locks: &Locks<u64, u64, A>) -> Option<u8> 
 
 // Looks a key up, and inserts it, by one step each.
 fn does_first_steps<A: Allocator + Copy, R: Abort + Wait>(rt: &R, locks: &Locks<u64, u64, A>) {
-    let look: OwnedCall<u64, u64, NoFn> = OwnedCall::Get(7);
-    assert_same(rt, first_step(rt, locks, 7, look), Some(Event::Decide));
-    let insertion: OwnedCall<u64, u64, NoFn> = OwnedCall::Insert(7, 0);
-    assert_same(
-        rt,
-        first_step(rt, locks, 7, insertion),
-        Some(Event::Opened(4)),
-    );
+    let look = stop(rt, locks, 7, OwnedCall::Get(7), 1);
+    assert_same(rt, look, Some(Event::Decide));
+    let insertion = stop(rt, locks, 7, OwnedCall::Insert(7, 0), 1);
+    assert_same(rt, insertion, Some(Event::Opened(4)));
 }
 
 #[test]
-fn first_steps(rt: HostRuntime) -> Result<(), Fail> {
+fn first_steps(rt: HostRuntime) {
     let locks = Locks::new(rt.alloc());
     does_first_steps(&rt, &locks);
-    Ok(())
 }
 
-// The length includes the pairs that are still counted at tallies, and the table grows by them.
+// Asserts how many pairs there are.
+fn holds<A: Allocator + Copy, R: Abort + Wait>(rt: &R, locks: &Locks<u64, u64, A>, pairs: u64) {
+    assert_same(rt, LockField::new(rt, locks).len() as u64, pairs);
+}
+
+// The length includes the pairs that are still counted at tallies, and the table grows by them: 2,000 pairs are more than three for four of
+// 2^11 bins.
+fn grows_by_tallies<A: Allocator + Copy + Send + Sync, R: Abort + Threads + Wait + Sync>(
+    rt: &R,
+    locks: &Locks<u64, u64, A>,
+) {
+    put_in_threads(rt, locks, 500);
+    holds(rt, locks, 2000);
+    assert_same(rt, newest_of(rt, locks), Some(12));
+}
+
 #[test]
-fn four_threads_put_pairs_in(rt: HostRuntime) -> Result<(), Fail> {
-    let locks: Locks<u64, u64, Global> = Locks::new(rt.alloc());
-
-    put_in_threads(&rt, &locks, 500);
-
-    assert_eq!(rt; LockField::new(&rt, &locks).len(), 2000);
-    let newest = newest_of(&rt, &locks);
-    assert_eq!(rt;
-        newest,
-        Some(12),
-        "2,000 pairs are more than three for four of 2^11 bins"
-    );
-    Ok(())
+fn four_threads_put_pairs_in(rt: HostRuntime) {
+    let locks = Locks::new(rt.alloc());
+    grows_by_tallies(&rt, &locks);
 }
 
 // A call for the length collects what is counted at tallies. The table grows all the same.
-#[test]
-fn a_table_grows_between_lengths(rt: HostRuntime) -> Result<(), Fail> {
-    let locks: Locks<u64, u64, Global> = Locks::new(rt.alloc());
-
+fn grows_between_lengths<A: Allocator + Copy, R: Abort + Wait>(rt: &R, locks: &Locks<u64, u64, A>) {
     for number in 0..2000u64 {
-        put_all(&rt, &locks, number, number + 1);
-        assert_eq!(rt; LockField::new(&rt, &locks).len() as u64, number + 1);
+        put_all(rt, locks, number, number + 1);
+        holds(rt, locks, number + 1);
     }
-
-    let newest = newest_of(&rt, &locks);
-    assert_eq!(rt; newest, Some(12));
-    Ok(())
+    assert_same(rt, newest_of(rt, locks), Some(12));
 }
 
 #[test]
-fn a_thread_owns_locks(rt: HostRuntime) -> Result<(), Fail> {
+fn a_table_grows_between_lengths(rt: HostRuntime) {
+    let locks = Locks::new(rt.alloc());
+    grows_between_lengths(&rt, &locks);
+}
+
+#[test]
+fn a_thread_owns_locks(rt: HostRuntime) {
     let locks: Locks<u64, u64, Global> = Locks::new(rt.alloc());
-
     put_in_threads(&rt, &locks, 25);
-
-    assert_eq!(rt; count_in_thread(&rt, locks, 200), Some(100));
-    Ok(())
+    assert_same(&rt, count_in_thread(&rt, locks, 200), Some(100));
 }

@@ -2,8 +2,8 @@
 
 use flurry_bins_slots::{ComputeFn, NoFn};
 use flurry_shared_locks::{CallField, LockField, Locks};
-use flurry_steps::party::{Event, OwnedCall, Reply};
-use flurry_steps::{Party, act};
+use flurry_steps::party::{OwnedCall, Reply};
+use flurry_steps::{Party, finish};
 use std::alloc::Allocator;
 use std::sync::Wait;
 
@@ -30,30 +30,17 @@ pub(super) fn reply_of<K: Ord + Drop, V: Drop, A: Allocator + Copy, F: ComputeFn
 {
     let mut party = Party::from_owned(call, hash, 4);
     let mut lock_field = CallField::new(&LockField::new(rt, locks));
-    for _ in rt.forever() {
-        if act(&mut party, &mut lock_field).is_some() {
-            continue;
-        }
-        if let Some(reply) = party.take_reply() {
-            drop(party);
-            return reply;
-        }
-    }
-    unreachable!()
+    let reply = finish(rt, &mut party, &mut lock_field);
+    drop(lock_field);
+    drop(party);
+    reply
 }
 
-// Does the first step of a call, and returns what it was.
-pub(super) fn first_step<K: Ord + Drop, V: Drop, A: Allocator + Copy, F: ComputeFn<K, V>, R: Wait>(
-    rt: &R,
-    locks: &Locks<K, V, A>,
-    hash: u64,
-    call: OwnedCall<K, V, F>,
-) -> Option<Event>
-    requires { (f : F) → F.can_change f }
-{
-    let mut party = Party::from_owned(call, hash, 4);
-    let mut lock_field = CallField::new(&LockField::new(rt, locks));
-    act(&mut party, &mut lock_field)
+// Returns whether a reply says that a key is present.
+pub(super) fn is_present<K: Ord + Drop, V: Drop, A: Allocator + Copy>(
+    reply: &Reply<K, V, A>,
+) -> bool {
+    matches!(reply, Reply::Contains(true))
 }
 
 // Inserts the pairs of the numbers from `from` to `to`, each with its number as its hash.
@@ -79,9 +66,11 @@ pub(super) fn count_found<K: Ord + Drop + Numbered, V: Drop, A: Allocator + Copy
     let mut found = 0usize;
     for number in from..to {
         let call: OwnedCall<K, V, NoFn> = OwnedCall::ContainsKey(K::of(number));
-        if let Reply::Contains(true) = reply_of(rt, locks, number, call) {
+        let reply = reply_of(rt, locks, number, call);
+        if is_present(&reply) {
             found = found.saturating_add(1);
         }
+        drop(reply);
     }
     found
 }

@@ -55,11 +55,11 @@ impl Work {
 
 // Does the first steps of a call, at most `most`, and notes what they are. Returns what the last of them was. The call is then dropped,
 // wherever it is.
-fn do_steps<K: Ord + Drop, V: Drop, A: Allocator + Copy, F: ComputeFn<K, V>, R: Wait>(
+fn do_steps<A: Allocator + Copy, F: ComputeFn<u64, u64>, R: Wait>(
     rt: &R,
-    locks: &Locks<K, V, A>,
+    locks: &Locks<u64, u64, A>,
     hash: u64,
-    call: OwnedCall<K, V, F>,
+    call: OwnedCall<u64, u64, F>,
     most: u64,
     work: &Work,
 ) -> Option<Event>
@@ -67,15 +67,27 @@ fn do_steps<K: Ord + Drop, V: Drop, A: Allocator + Copy, F: ComputeFn<K, V>, R: 
 {
     let mut party = Party::from_owned(call, hash, 4);
     let mut lock_field = CallField::new(&LockField::new(rt, locks));
+    let last = acts(&mut party, &mut lock_field, most, work);
+    drop(lock_field);
+    drop(party);
+    last
+}
+
+// Does the next steps of a call, which is lent, since a proof goes through all that a loop owns.
+fn acts<A: Allocator + Copy, F: ComputeFn<u64, u64>, R: Wait>(
+    party: &mut Party<'_, u64, u64, F, A>,
+    lock_field: &mut CallField<'_, R, u64, u64, A>,
+    most: u64,
+    work: &Work,
+) -> Option<Event> {
     let mut last = None;
     for _ in 0..most {
-        let Some(event) = act(&mut party, &mut lock_field) else {
+        let Some(event) = act(party, lock_field) else {
             break;
         };
         work.note(event);
         last = Some(event);
     }
-    drop(party);
     last
 }
 
@@ -158,7 +170,7 @@ fn eight_threads_grow_a_table(rt: HostRuntime) -> Result<(), Fail> {
 }
 
 // Does the first steps of a call, `steps` of them, and then stops for good. Returns what the last of them was.
-fn stop<A: Allocator + Copy, R: Wait>(
+pub(super) fn stop<A: Allocator + Copy, R: Wait>(
     rt: &R,
     locks: &Locks<u64, u64, A>,
     hash: u64,

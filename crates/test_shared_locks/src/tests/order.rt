@@ -7,7 +7,6 @@ use flurry_steps::party::OwnedCall;
 use std::alloc::Allocator;
 use std::sync::Wait;
 use std::sync::atomic::{AtomicBool, Ordering};
-use std::test::Fail;
 use std::thread;
 use std::thread::Threads;
 
@@ -93,19 +92,26 @@ fn in_three_threads<A: Allocator + Copy + Send + Sync, R: Threads + Wait + Sync>
     });
 }
 
-// A call that waits for a bin holds no lock of the control: the pairs can be counted meanwhile.
-#[test]
-fn pairs_are_counted_while_a_call_waits_for_a_bin(rt: HostRuntime) -> Result<(), Fail> {
+// Does all three, with locks that have the key 1.
+fn counts_in_time<A: Allocator + Copy + Send + Sync, R: Threads + Wait + Sync>(
+    rt: &R,
+    locks: &Locks<u64, u64, A>,
+) -> bool {
     let flags = Flags {
         holds: AtomicBool::new(false),
         asks: AtomicBool::new(false),
         has_counted: AtomicBool::new(false),
         was_in_time: AtomicBool::new(false),
     };
-    let locks = Locks::new(rt.alloc());
     let call: OwnedCall<u64, u64, NoFn> = OwnedCall::Insert(1, 1);
-    drop(reply_of(&rt, &locks, 1, call));
-    in_three_threads(&rt, &locks, &flags);
-    assert!(rt; flags.was_in_time.load(Ordering::SeqCst));
-    Ok(())
+    drop(reply_of(rt, locks, 1, call));
+    in_three_threads(rt, locks, &flags);
+    flags.was_in_time.load(Ordering::SeqCst)
+}
+
+// A call that waits for a bin holds no lock of the control: the pairs can be counted meanwhile.
+#[test]
+fn pairs_are_counted_while_a_call_waits_for_a_bin(rt: HostRuntime) {
+    let locks = Locks::new(rt.alloc());
+    assert!(rt; counts_in_time(&rt, &locks));
 }

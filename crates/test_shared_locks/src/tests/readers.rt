@@ -4,11 +4,11 @@ ghost use Rattle.std.specs.Cmp.{partial_order_from_own_ties};
 ghost use Rattle.std.specs.Cmp.Rules.{comparing};
 ghost use Rattle.std.specs.Ordering.{nat_cmp, on, as_partial_cmp};
 
-use super::calls::reply_of;
+use super::calls::{is_present, reply_of};
 use flurry_bins_slots::NoFn;
 use flurry_shared_locks::{LockField, Locks};
 use flurry_shared_replies::reply_to;
-use flurry_steps::party::{Call, OwnedCall, Reply};
+use flurry_steps::party::{Call, OwnedCall};
 use std::alloc::{Allocator, Global};
 use std::cmp::Ordering;
 use std::process::Abort;
@@ -125,7 +125,9 @@ fn finds<K: Ord + Copy + Drop, A: Allocator + Copy, R: Wait>(
             reply_of(rt, locks, HASH, call)
         }
     };
-    matches!(reply, Reply::Contains(true))
+    let found = is_present(&reply);
+    drop(reply);
+    found
 }
 
 // Looks a key up in two threads, and returns whether each found it.
