@@ -6,15 +6,16 @@ mod growth;
 mod refused;
 mod sweeps;
 
+use crate::Beside;
 use flurry_base::hash::LowHashBuilder;
 use flurry_base::reply::KeptReply;
 use flurry_bins_slots::ComputeFn;
 use flurry_steps::party::{OwnedCall, Reply};
 use flurry_steps::{Field, Party};
 use flurry_steps_drive::drive;
-use flurry_steps_world::hash_for;
-use std::alloc::Allocator;
-use std::fmt::Debug;
+use flurry_steps_world::{Parts, hash_for};
+use std::alloc::{Allocator, Global};
+use std::fmt::{Debug, Display};
 use std::process::Abort;
 use std::sync::Wait;
 
@@ -29,6 +30,16 @@ enum Plain {
 // Asserts that a value is the expected one. The proof of the caller does not learn of the value, so it stays short.
 fn assert_same<T: PartialEq + Debug + Drop>(rt: &impl Abort, seen: T, wanted: T) {
     assert_eq!(rt; seen, wanted);
+}
+
+// Asserts that a value is the expected one. A failure also reports `at`.
+fn assert_same_at<T: PartialEq + Debug + Drop>(
+    rt: &impl Abort,
+    at: impl Display + Drop,
+    seen: T,
+    wanted: T,
+) {
+    assert_eq!(rt; seen, wanted, "at {at}");
 }
 
 // Returns the reply of a value, or of `None`.
@@ -70,14 +81,94 @@ fn reply_of<F: ComputeFn<u64, u64>, A: Allocator + Copy, X: Field<u64, u64, A>, 
     without_owners(reply)
 }
 
-// Drives a call, and asserts that its reply is `wanted`.
-fn answers<F: ComputeFn<u64, u64>, A: Allocator + Copy, X: Field<u64, u64, A>, R: Wait + Abort>(
+// What is done over a field.
+#[derive(Clone, Copy)]
+enum Do<F> {
+    // A call has this reply.
+    Call(OwnedCall<u64, u64, F>, Plain),
+    // The keys below this number are inserted, each of which is absent, with itself as its value.
+    Put(u64),
+    // Each key from the first number to the second, without it, has itself as its value.
+    Find(u64, u64),
+    // Each key from the first number to the second, without it, is absent.
+    Miss(u64, u64),
+}
+
+// Does what the rows say. A failure reports the place of the row.
+fn does_all<
+    F: ComputeFn<u64, u64> + Copy,
+    A: Allocator + Copy,
+    X: Field<u64, u64, A>,
+    R: Wait + Abort,
+>(rt: &R, field: &mut X, rows: &[Do<F>])
+    requires { (f : F) → F.can_change f }
+{
+    for (at, row) in rows.iter().enumerate() {
+        match row {
+            Do::Call(call, wanted) => assert_same_at(rt, at, reply_of(rt, field, *call), *wanted),
+            Do::Put(end) => puts::<F, A, X, R>(rt, field, at, *end),
+            Do::Find(first, end) => finds::<F, A, X, R>(rt, field, at, *first, *end, true),
+            Do::Miss(first, end) => finds::<F, A, X, R>(rt, field, at, *first, *end, false),
+        }
+    }
+}
+
+fn puts<F: ComputeFn<u64, u64>, A: Allocator + Copy, X: Field<u64, u64, A>, R: Wait + Abort>(
     rt: &R,
     field: &mut X,
-    call: OwnedCall<u64, u64, F>,
-    wanted: Plain,
+    at: usize,
+    end: u64,
 )
     requires { (f : F) → F.can_change f }
 {
-    assert_same(rt, reply_of(rt, field, call), wanted);
+    for key in 0..end {
+        let put: OwnedCall<u64, u64, F> = OwnedCall::Insert(key, key);
+        assert_same_at(rt, at, reply_of(rt, field, put), value(None));
+    }
+}
+
+fn finds<F: ComputeFn<u64, u64>, A: Allocator + Copy, X: Field<u64, u64, A>, R: Wait + Abort>(
+    rt: &R,
+    field: &mut X,
+    at: usize,
+    first: u64,
+    end: u64,
+    there: bool,
+)
+    requires { (f : F) → F.can_change f }
+{
+    for key in first..end {
+        let found = if there { Some(key) } else { None };
+        let look: OwnedCall<u64, u64, F> = OwnedCall::Get(key);
+        assert_same_at(rt, at, reply_of(rt, field, look), value(found));
+    }
+}
+
+// Does what the rows say over the parts of a map without a table. Returns how many pairs are there then, and the table.
+fn over_own_parts<F: ComputeFn<u64, u64> + Copy, R: Wait + Abort>(
+    rt: &R,
+    alloc: Global,
+    rows: &[Do<F>],
+) -> (usize, Option<u8>)
+    requires { (f : F) → F.can_change f }
+{
+    let mut parts: Parts<u64, u64> = Parts::new(alloc).expect(rt, "memory for the parts");
+    does_all(rt, &mut parts, rows);
+    (parts.control().len(), parts.control().locate())
+}
+
+// Does what the rows say over the parts of a map with a table of 16 bins, beside the number of that table. The published table stays that
+// one, also if the map leaves it.
+fn over_a_published_table<F: ComputeFn<u64, u64> + Copy, R: Wait + Abort>(
+    rt: &R,
+    alloc: Global,
+    rows: &[Do<F>],
+)
+    requires { (f : F) → F.can_change f }
+{
+    let mut parts: Parts<u64, u64> = Parts::new(alloc).expect(rt, "memory for the parts");
+    parts.open(4).expect(rt, "memory for the table");
+    let start = parts.control().start().expect(rt, "a table is published");
+    let mut field = Beside::new(parts, start);
+    does_all(rt, &mut field, rows);
 }

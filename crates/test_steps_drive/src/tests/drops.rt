@@ -1,6 +1,6 @@
 //! Driven removals of the pair that a driven walk read last.
 
-use super::{Plain, answers, assert_same, value, without_owners};
+use super::{Plain, assert_same, reply_of, value, without_owners};
 use flurry_base::hash::{KeyHasher, LowHashBuilder};
 use flurry_bins_slots::{ComputeFn, NoFn};
 use flurry_steps::Party;
@@ -8,21 +8,31 @@ use flurry_steps::party::{Call, OwnedCall};
 use flurry_steps_drive::drive;
 use flurry_steps_sweep::Seen;
 use flurry_steps_world::Parts;
+use std::alloc::Global;
 use std::process::Abort;
 use std::sync::Wait;
-use std::test::Fail;
 
 // Drives a walk, and returns what it read last.
-fn walked<F: ComputeFn<u64, u64>, R: Wait>(
+fn walked<F: ComputeFn<u64, u64>, R: Wait + Abort>(
     rt: &R,
     parts: &mut Parts<u64, u64>,
-) -> Result<Seen<u64, u64>, Fail> {
+) -> Seen<u64, u64>
+    requires { (f : F) → F.can_change f }
+{
     let mut walk: Party<'_, u64, u64, F> = Party::from_owned(OwnedCall::Walk, 0, 1);
     drop(drive(rt, &mut walk, parts));
-    match walk.seen()? {
-        Some(seen) => Ok(seen),
-        None => Err(Fail::from("the walk has read a pair")),
-    }
+    let seen = seen_by(rt, &walk);
+    drop(walk);
+    seen
+}
+
+fn seen_by<F: ComputeFn<u64, u64>>(
+    rt: &impl Abort,
+    walk: &Party<'_, u64, u64, F>,
+) -> Seen<u64, u64> {
+    walk.seen()
+        .expect(rt, "memory for the pair")
+        .expect(rt, "the walk has read a pair")
 }
 
 // Drives the removal of the pair that a walk has read, and returns the reply.
@@ -39,51 +49,83 @@ fn removal<F: ComputeFn<u64, u64>, R: Wait>(
 }
 
 // The pair is as it was read, and is removed. A second removal of it finds nothing.
-fn removed<F: ComputeFn<u64, u64>, R: Wait + Abort>(
-    rt: &R,
-    parts: &mut Parts<u64, u64>,
-) -> Result<(), Fail>
+fn removed<F: ComputeFn<u64, u64>, R: Wait + Abort>(rt: &R, parts: &mut Parts<u64, u64>)
     requires { (f : F) → F.can_change f }
 {
-    answers::<F, _, _, _>(rt, parts, OwnedCall::Insert(3, 1), value(None));
-    answers::<F, _, _, _>(rt, parts, OwnedCall::Insert(5, 2), value(None));
-    let seen = walked::<F, _>(rt, parts)?;
-    let further = seen.try_clone()?;
+    puts::<F, R>(rt, parts, 3, 1, None);
+    puts::<F, R>(rt, parts, 5, 2, None);
+    let seen = walked::<F, R>(rt, parts);
+    let further = seen.try_clone().expect(rt, "memory for the pair");
     assert_same(rt, (*seen.key(), *seen.value()), (5, 2));
-    assert_same(rt, removal::<F, _>(rt, parts, seen), value(Some(2)));
-    assert_same(rt, removal::<F, _>(rt, parts, further), value(None));
-    answers::<F, _, _, _>(rt, parts, OwnedCall::Get(5), value(None));
-    answers::<F, _, _, _>(rt, parts, OwnedCall::Get(3), value(Some(1)));
-    Ok(())
+    assert_same(rt, removal::<F, R>(rt, parts, seen), value(Some(2)));
+    assert_same(rt, removal::<F, R>(rt, parts, further), value(None));
+    finds::<F, R>(rt, parts, 5, None);
+    finds::<F, R>(rt, parts, 3, Some(1));
 }
 
 // The same value was written again after the pair was read, so the pair stays.
-fn rewritten<F: ComputeFn<u64, u64>, R: Wait + Abort>(
-    rt: &R,
-    parts: &mut Parts<u64, u64>,
-) -> Result<(), Fail>
+fn rewritten<F: ComputeFn<u64, u64>, R: Wait + Abort>(rt: &R, parts: &mut Parts<u64, u64>)
     requires { (f : F) → F.can_change f }
 {
-    answers::<F, _, _, _>(rt, parts, OwnedCall::Insert(5, 2), value(None));
-    let seen = walked::<F, _>(rt, parts)?;
-    answers::<F, _, _, _>(rt, parts, OwnedCall::Insert(5, 2), value(Some(2)));
-    assert_same(rt, removal::<F, _>(rt, parts, seen), value(None));
-    answers::<F, _, _, _>(rt, parts, OwnedCall::Get(5), value(Some(2)));
-    Ok(())
+    puts::<F, R>(rt, parts, 5, 2, None);
+    let seen = walked::<F, R>(rt, parts);
+    puts::<F, R>(rt, parts, 5, 2, Some(2));
+    assert_same(rt, removal::<F, R>(rt, parts, seen), value(None));
+    finds::<F, R>(rt, parts, 5, Some(2));
+}
+
+// Inserts a key, and asserts that this was its value.
+fn puts<F: ComputeFn<u64, u64>, R: Wait + Abort>(
+    rt: &R,
+    parts: &mut Parts<u64, u64>,
+    key: u64,
+    new: u64,
+    old: Option<u64>,
+)
+    requires { (f : F) → F.can_change f }
+{
+    let put: OwnedCall<u64, u64, F> = OwnedCall::Insert(key, new);
+    assert_same(rt, reply_of(rt, parts, put), value(old));
+}
+
+// Looks a key up, and asserts that this is its value.
+fn finds<F: ComputeFn<u64, u64>, R: Wait + Abort>(
+    rt: &R,
+    parts: &mut Parts<u64, u64>,
+    key: u64,
+    wanted: Option<u64>,
+)
+    requires { (f : F) → F.can_change f }
+{
+    let look: OwnedCall<u64, u64, F> = OwnedCall::Get(key);
+    assert_same(rt, reply_of(rt, parts, look), value(wanted));
+}
+
+// What is done with the pair that was read.
+#[derive(Clone, Copy)]
+enum Pair {
+    Removed,
+    Rewritten,
+}
+
+// Reads a pair and removes what was read. One pair is left.
+fn goes_through<F: ComputeFn<u64, u64>, R: Wait + Abort>(rt: &R, alloc: Global, pair: Pair)
+    requires { (f : F) → F.can_change f }
+{
+    let mut parts: Parts<u64, u64> = Parts::new(alloc).expect(rt, "memory for the parts");
+    match pair {
+        Pair::Removed => removed::<F, R>(rt, &mut parts),
+        Pair::Rewritten => rewritten::<F, R>(rt, &mut parts),
+    }
+    assert_same(rt, parts.control().len(), 1);
 }
 
 #[test]
-fn removes_what_was_read(rt: HostRuntime) -> Result<(), Fail> {
-    let mut parts: Parts<u64, u64> = Parts::new(rt.alloc())?;
-    removed::<NoFn, _>(&rt, &mut parts)?;
-    assert_same(&rt, parts.control().len(), 1);
-    Ok(())
+fn removes_what_was_read(rt: HostRuntime) {
+    goes_through::<NoFn, _>(&rt, rt.alloc(), Pair::Removed);
 }
 
 #[test]
-fn keeps_what_was_written_anew(rt: HostRuntime) -> Result<(), Fail> {
-    let mut parts: Parts<u64, u64> = Parts::new(rt.alloc())?;
-    rewritten::<NoFn, _>(&rt, &mut parts)?;
-    assert_same(&rt, parts.control().len(), 1);
-    Ok(())
+fn keeps_what_was_written_anew(rt: HostRuntime) {
+    goes_through::<NoFn, _>(&rt, rt.alloc(), Pair::Rewritten);
 }

@@ -1,51 +1,30 @@
 //! Many keys, whose calls help the growths that they meet.
 
-use super::each_call::beside_sixteen;
-use super::{answers, assert_same, value, without_owners};
+use super::{Do, assert_same, over_a_published_table, over_own_parts, value, without_owners};
 use flurry_base::hash::LowHashBuilder;
 use flurry_bins_slots::{ComputeFn, NoFn};
-use flurry_steps::Field;
 use flurry_steps::party::OwnedCall;
 use flurry_steps_drive::drive_alone;
 use flurry_steps_world::Parts;
-use std::alloc::Global;
 use std::process::Abort;
 use std::sync::Wait;
 use std::test::Fail;
 
-// Inserts the keys 0 to 99, and checks that each of them is found and that the key 100 is not.
-fn hundred_keys<F: ComputeFn<u64, u64>, X: Field<u64, u64, Global>, R: Wait + Abort>(
-    rt: &R,
-    field: &mut X,
-)
-    requires { (f : F) → F.can_change f }
-{
-    for key in 0..100u64 {
-        let call: OwnedCall<u64, u64, F> = OwnedCall::Insert(key, key);
-        answers(rt, field, call, value(None));
-    }
-    for key in 0..101u64 {
-        let there = if key < 100 { Some(key) } else { None };
-        let call: OwnedCall<u64, u64, F> = OwnedCall::Get(key);
-        answers(rt, field, call, value(there));
-    }
+// Returns the insertions of the keys 0 to 99, after which each of them is found, and the key 100 is not.
+fn hundred_keys() -> [Do<NoFn>; 3] {
+    [Do::Put(100), Do::Find(0, 100), Do::Miss(100, 101)]
 }
 
 #[test]
-fn hundred_keys_over_own_parts(rt: HostRuntime) -> Result<(), Fail> {
-    let mut parts: Parts<u64, u64> = Parts::new(rt.alloc())?;
-    hundred_keys::<NoFn, _, _>(&rt, &mut parts);
-    assert_same(&rt, parts.control().len(), 100);
-    assert_same(&rt, parts.control().locate(), Some(8));
-    Ok(())
+fn hundred_keys_over_own_parts(rt: HostRuntime) {
+    let seen = over_own_parts(&rt, rt.alloc(), &hundred_keys());
+    assert_same(&rt, seen, (100, Some(8)));
 }
 
-// The published table stays that of 16 bins, which the map leaves long before the end.
+// The map leaves the table of 16 bins long before the end.
 #[test]
-fn hundred_keys_beside_a_published_table(rt: HostRuntime) -> Result<(), Fail> {
-    let mut field = beside_sixteen(rt.alloc())?;
-    hundred_keys::<NoFn, _, _>(&rt, &mut field);
-    Ok(())
+fn hundred_keys_beside_a_published_table(rt: HostRuntime) {
+    over_a_published_table(&rt, rt.alloc(), &hundred_keys());
 }
 
 fn twice_alone<F: ComputeFn<u64, u64>, R: Wait + Abort>(rt: &R, parts: &mut Parts<u64, u64>)
