@@ -14,7 +14,6 @@ use std::alloc::{AllocError, Allocator};
 use std::fmt::Debug;
 use std::process::Abort;
 use std::sync::Wait;
-use std::test::Fail;
 
 // The greatest number of elements that a walk of a test gives.
 const MAX_READ: u32 = 10_000;
@@ -69,14 +68,17 @@ fn read_rest<A: Allocator + Copy, R: Wait>(
 fn puts_and_finds<A: Allocator + Copy, R: Abort + Wait>(
     rt: &R,
     set: &HashSet<u64, LowHashBuilder, A>,
-) -> Result<(), Fail> {
-    assert_same(rt, set.insert(rt, 7)?, true);
-    assert_same(rt, set.insert(rt, 7)?, false);
-    assert_same(rt, set.insert(rt, 8)?, true);
+) {
+    assert_same(rt, set.insert(rt, 7).expect(rt, "memory"), true);
+    assert_same(rt, set.insert(rt, 7).expect(rt, "memory"), false);
+    assert_same(rt, set.insert(rt, 8).expect(rt, "memory"), true);
     assert_same(rt, set.contains(rt, &7), true);
     assert_same(rt, set.contains(rt, &9), false);
-    assert_same(rt, set.get(rt, &7)?.map(|element| *element), Some(7));
-    Ok(())
+    assert_same(
+        rt,
+        set.get(rt, &7).expect(rt, "memory").map(|element| *element),
+        Some(7),
+    );
 }
 
 // Removes the elements again.
@@ -91,18 +93,17 @@ fn takes_out<A: Allocator + Copy, R: Abort + Wait>(rt: &R, set: &HashSet<u64, Lo
 fn comes_and_goes<A: Allocator + Copy, R: Abort + Wait>(
     rt: &R,
     set: &HashSet<u64, LowHashBuilder, A>,
-) -> Result<(), Fail> {
+) {
     assert_same(rt, set.is_empty(rt), true);
-    puts_and_finds(rt, set)?;
+    puts_and_finds(rt, set);
     assert_same(rt, set.len(rt), 2);
     takes_out(rt, set);
     assert_same(rt, set.is_empty(rt), true);
-    Ok(())
 }
 
 #[test]
-fn calls_of_one_element(rt: HostRuntime) -> Result<(), Fail> {
-    comes_and_goes(&rt, &set_of(&rt, rt.alloc(), &[])?)
+fn calls_of_one_element(rt: HostRuntime) {
+    comes_and_goes(&rt, &set_of(&rt, rt.alloc(), &[]).expect(&rt, "memory"))
 }
 
 // Asserts that `wanted` is the number of elements of a set, and their sum.
@@ -110,27 +111,27 @@ fn has_sums<A: Allocator + Copy, R: Abort + Wait>(
     rt: &R,
     set: &HashSet<u64, LowHashBuilder, A>,
     wanted: (u64, u64),
-) -> Result<(), Fail> {
-    assert_same(rt, read_all(set.iter(rt))?, wanted);
+) {
+    assert_same(rt, read_all(set.iter(rt)).expect(rt, "memory"), wanted);
     assert_same(rt, set.len(rt) as u64, wanted.0);
-    Ok(())
 }
 
 // Keeps the even elements of five, and then none.
-fn keeps_less<A: Allocator + Copy, R: Abort + Wait>(
-    rt: &R,
-    set: &HashSet<u64, LowHashBuilder, A>,
-) -> Result<(), Fail> {
-    has_sums(rt, set, (5, 10))?;
-    set.retain(rt, |element| *element % 2 == 0)?;
-    has_sums(rt, set, (3, 6))?;
+fn keeps_less<A: Allocator + Copy, R: Abort + Wait>(rt: &R, set: &HashSet<u64, LowHashBuilder, A>) {
+    has_sums(rt, set, (5, 10));
+    set.retain(rt, |element| *element % 2 == 0)
+        .expect(rt, "memory");
+    has_sums(rt, set, (3, 6));
     set.clear(rt);
     has_sums(rt, set, (0, 0))
 }
 
 #[test]
-fn calls_of_many_elements(rt: HostRuntime) -> Result<(), Fail> {
-    keeps_less(&rt, &set_of(&rt, rt.alloc(), &[0, 1, 2, 3, 4])?)
+fn calls_of_many_elements(rt: HostRuntime) {
+    keeps_less(
+        &rt,
+        &set_of(&rt, rt.alloc(), &[0, 1, 2, 3, 4]).expect(&rt, "memory"),
+    )
 }
 
 // Keeps the elements 2 and 4. While a walk shows the 4, it is removed and inserted again.
@@ -145,9 +146,9 @@ fn keeps_what_is_put_again<A: Allocator + Copy, R: Wait>(
 
 // An element that is removed and inserted again during the call stays.
 #[test]
-fn elements_are_kept(rt: HostRuntime) -> Result<(), Fail> {
-    let set = set_of(&rt, rt.alloc(), &[0, 1, 2, 3, 4])?;
-    keeps_what_is_put_again(&rt, &set)?;
+fn elements_are_kept(rt: HostRuntime) {
+    let set = set_of(&rt, rt.alloc(), &[0, 1, 2, 3, 4]).expect(&rt, "memory");
+    keeps_what_is_put_again(&rt, &set).expect(&rt, "memory");
     has_sums(&rt, &set, (2, 6))
 }
 
@@ -161,8 +162,9 @@ fn list<A: Allocator + Copy>(alloc: A, from: u64, to: u64) -> Result<Vec<u64, A>
 }
 
 #[test]
-fn a_list_of_a_hundred(rt: HostRuntime) -> Result<(), Fail> {
-    let set = set_of(&rt, rt.alloc(), &[0, 1])?;
-    set.extend(&rt, list(rt.alloc(), 0, 100)?)?;
+fn a_list_of_a_hundred(rt: HostRuntime) {
+    let set = set_of(&rt, rt.alloc(), &[0, 1]).expect(&rt, "memory");
+    set.extend(&rt, list(rt.alloc(), 0, 100).expect(&rt, "memory"))
+        .expect(&rt, "memory");
     has_sums(&rt, &set, (100, 4950))
 }

@@ -16,7 +16,6 @@ use std::alloc::{AllocError, Allocator};
 use std::fmt::Debug;
 use std::process::Abort;
 use std::sync::{Arc, Wait};
-use std::test::Fail;
 
 // The greatest number of pairs that a walk of a test gives.
 const MAX_READ: u32 = 100_000;
@@ -97,8 +96,7 @@ fn has_sums<S: KeyHasher<u64>, A: Allocator + Copy, R: Abort + Wait>(
     rt: &R,
     map: &HashMap<u64, u64, S, A>,
     wanted: (u64, u64, u64),
-) -> Result<(), Fail> {
-    assert_same(rt, read_all(map.iter(rt))?, wanted);
+) {
+    assert_same(rt, read_all(map.iter(rt)).expect(rt, "memory"), wanted);
     assert_same(rt, map.len(rt) as u64, wanted.0);
-    Ok(())
 }

@@ -9,7 +9,6 @@ use std::alloc::{AllocError, Allocator};
 use std::process::Abort;
 use std::sync::atomic::{AtomicBool, Ordering};
 use std::sync::{Arc, Wait};
-use std::test::Fail;
 use std::thread;
 use std::thread::Threads;
 
@@ -64,18 +63,19 @@ fn hold_and_insert<
 fn holds_two_bins<R: Abort + Threads + Wait + Sync>(
     rt: &R,
     map: &HashMap<u64, u64, LowHashBuilder>,
-) -> Result<(), Fail> {
-    map.insert(rt, 1, 11)?;
-    map.insert(rt, 2, 12)?;
+) {
+    map.insert(rt, 1, 11).expect(rt, "memory");
+    map.insert(rt, 2, 12).expect(rt, "memory");
     assert_same(rt, hold_and_insert(rt, map), (true, true));
-    assert_same(rt, number_at(rt, map, &2)?, Some(22));
-    Ok(())
+    assert_same(rt, number_at(rt, map, &2).expect(rt, "memory"), Some(22));
 }
 
 // A key is inserted while another thread holds the bin of another key.
 #[test]
-fn two_bins_at_once(rt: HostRuntime) -> Result<(), Fail> {
-    let map = HashMap::with_capacity_and_hasher(rt.alloc(), 10, LowHashBuilder)?;
+fn two_bins_at_once(rt: HostRuntime) {
+    let map = HashMap::with_capacity_and_hasher(rt.alloc(), 10, LowHashBuilder).expect(
+        &rt, "memory",
+    );
     holds_two_bins(&rt, &map)
 }
 
@@ -150,11 +150,16 @@ fn in_thread<
 
 // Threads that run one after another see what earlier threads did, while the table is doubled four times.
 #[test]
-fn lent_parts(rt: HostRuntime) -> Result<(), Fail> {
-    let map = HashMap::with_capacity_and_hasher(rt.alloc(), 10, LowHashBuilder)?.with_processors(2);
-    let map = Arc::new(rt.alloc(), map)?;
+fn lent_parts(rt: HostRuntime) {
+    let map = HashMap::with_capacity_and_hasher(rt.alloc(), 10, LowHashBuilder)
+        .expect(&rt, "memory")
+        .with_processors(2);
+    let map = Arc::new(rt.alloc(), map).expect(&rt, "memory");
     for phase in [Phase::Fill, Phase::Halve, Phase::LookAfter] {
-        assert_same(&rt, in_thread(rt, rt.alloc(), &map, phase)?, Some(true));
+        assert_same(
+            &rt,
+            in_thread(rt, rt.alloc(), &map, phase).expect(&rt, "memory"),
+            Some(true),
+        );
     }
-    Ok(())
 }

@@ -3,10 +3,9 @@
 use super::assert_same;
 use flurry_base::hash::KeyHasher;
 use flurry_shared::HashMap;
-use std::alloc::{AllocError, Allocator};
+use std::alloc::Allocator;
 use std::process::Abort;
 use std::sync::Wait;
-use std::test::Fail;
 use std::thread;
 use std::thread::Threads;
 
@@ -54,27 +53,26 @@ fn remove_in_threads<
 }
 
 // Returns the keys, each of one sign.
-fn signs<A: Allocator>(alloc: A) -> Result<Vec<&'static str, A>, Fail> {
+fn signs<A: Allocator>(rt: &impl Abort, alloc: A) -> Vec<&'static str, A> {
     let mut keys = Vec::new(alloc);
     for place in 0..KEYS {
-        let Some(key) = SIGNS.get(place..place.saturating_add(1)) else {
-            return Err(Fail::from("there are so many signs"));
-        };
-        keys.push(key)?;
+        let key = SIGNS
+            .get(place..place.saturating_add(1))
+            .expect(rt, "there are so many signs");
+        keys.push(key).expect(rt, "memory");
     }
-    Ok(keys)
+    keys
 }
 
 // Inserts keys, each with its place in the list.
-fn insert_all<K: Ord + Drop + Copy, S: KeyHasher<K>, A: Allocator + Copy, R: Wait>(
+fn insert_all<K: Ord + Drop + Copy, S: KeyHasher<K>, A: Allocator + Copy, R: Abort + Wait>(
     rt: &R,
     map: &HashMap<K, u64, S, A>,
     keys: &[K],
-) -> Result<(), AllocError> {
+) {
     for (place, key) in keys.iter().enumerate() {
-        map.insert(rt, *key, place as u64)?;
+        map.insert(rt, *key, place as u64).expect(rt, "memory");
     }
-    Ok(())
 }
 
 // Asserts that none of these keys is present, and no other.
@@ -94,18 +92,16 @@ fn come_and_go<R: Abort + Threads + Wait + Sync>(
     rt: &R,
     map: &HashMap<&'static str, u64>,
     keys: &[&'static str],
-) -> Result<(), AllocError> {
-    insert_all(rt, map, keys)?;
+) {
+    insert_all(rt, map, keys);
     assert_same(rt, map.len(rt), 64);
     assert_same(rt, remove_in_threads(rt, map, keys), (64, 0));
     has_none(rt, map, keys);
-    Ok(())
 }
 
 // Each key is removed once, with its own number.
 #[test]
-fn two_threads_remove_the_same_keys(rt: HostRuntime) -> Result<(), Fail> {
-    let keys = signs(rt.alloc())?;
-    come_and_go(&rt, &HashMap::new(rt.alloc()), &keys)?;
-    Ok(())
+fn two_threads_remove_the_same_keys(rt: HostRuntime) {
+    let keys = signs(&rt, rt.alloc());
+    come_and_go(&rt, &HashMap::new(rt.alloc()), &keys);
 }

@@ -7,46 +7,51 @@ use flurry_shared::iter::{Iter, Keys, Values};
 use std::alloc::AllocError;
 use std::process::Abort;
 use std::sync::Wait;
-use std::test::Fail;
 
 type Words = HashMap<&'static str, u64>;
 
-fn takes_a_new_value<R: Abort + Wait>(rt: &R, map: &Words) -> Result<(), Fail> {
-    assert_same(rt, taken(map.insert(rt, "foo", 0)?), None);
-    assert_same(rt, taken(map.insert(rt, "foo", 1)?), Some(0));
-    assert_same(rt, number_at(rt, map, &"foo")?, Some(1));
+fn takes_a_new_value<R: Abort + Wait>(rt: &R, map: &Words) {
+    assert_same(
+        rt,
+        taken(map.insert(rt, "foo", 0).expect(rt, "memory")),
+        None,
+    );
+    assert_same(
+        rt,
+        taken(map.insert(rt, "foo", 1).expect(rt, "memory")),
+        Some(0),
+    );
+    assert_same(rt, number_at(rt, map, &"foo").expect(rt, "memory"), Some(1));
     assert_same(rt, map.len(rt), 1);
-    Ok(())
 }
 
 // A present key takes the new value, and the old value is returned.
 #[test]
-fn row_01(rt: HostRuntime) -> Result<(), Fail> {
+fn row_01(rt: HostRuntime) {
     takes_a_new_value(&rt, &HashMap::new(rt.alloc()))
 }
 
-fn has_no_key<R: Abort + Wait>(rt: &R, map: &Words) -> Result<(), Fail> {
-    assert_same(rt, number_at(rt, map, &"foo")?, None);
+fn has_no_key<R: Abort + Wait>(rt: &R, map: &Words) {
+    assert_same(rt, number_at(rt, map, &"foo").expect(rt, "memory"), None);
     assert_same(rt, taken(map.remove(rt, &"foo")), None);
-    Ok(())
 }
 
 // A new map has no key.
 #[test]
-fn row_02(rt: HostRuntime) -> Result<(), Fail> {
+fn row_02(rt: HostRuntime) {
     has_no_key(&rt, &HashMap::new(rt.alloc()))
 }
 
 // Inserts the keys below a thousand, each of which is new.
-fn insert_a_thousand<S: KeyHasher<i32>, R: Abort + Wait>(
-    rt: &R,
-    map: &HashMap<i32, i32, S>,
-) -> Result<(), Fail> {
+fn insert_a_thousand<S: KeyHasher<i32>, R: Abort + Wait>(rt: &R, map: &HashMap<i32, i32, S>) {
     for key in 0..1000i32 {
-        assert_same(rt, (key, map.insert(rt, key, key)?.is_none()), (key, true));
+        assert_same(
+            rt,
+            (key, map.insert(rt, key, key).expect(rt, "memory").is_none()),
+            (key, true),
+        );
     }
     assert_same(rt, map.len(rt), 1000);
-    Ok(())
 }
 
 // Asserts that these keys are present, and no others.
@@ -60,34 +65,31 @@ fn has_a_thousand<S: KeyHasher<i32>, R: Abort + Wait>(rt: &R, map: &HashMap<i32,
     assert_same(rt, map.contains_key(rt, &i32::MAX), false);
 }
 
-fn row_08_with<S: KeyHasher<i32>, R: Abort + Wait>(
-    rt: &R,
-    map: &HashMap<i32, i32, S>,
-) -> Result<(), Fail> {
-    insert_a_thousand(rt, map)?;
+fn row_08_with<S: KeyHasher<i32>, R: Abort + Wait>(rt: &R, map: &HashMap<i32, i32, S>) {
+    insert_a_thousand(rt, map);
     has_a_thousand(rt, map);
-    Ok(())
 }
 
 // A thousand signed keys, with different hashes and with one hash for all.
 #[test]
-fn row_08(rt: HostRuntime) -> Result<(), Fail> {
-    row_08_with(&rt, &HashMap::new(rt.alloc()))?;
-    row_08_with(&rt, &HashMap::with_hasher(rt.alloc(), ZeroHashBuilder))?;
+fn row_08(rt: HostRuntime) {
+    row_08_with(&rt, &HashMap::new(rt.alloc()));
+    row_08_with(&rt, &HashMap::with_hasher(rt.alloc(), ZeroHashBuilder));
     row_08_with(&rt, &HashMap::with_hasher(rt.alloc(), MaxHashBuilder))
 }
 
 const KEYS: u64 = 50_000;
 
 // Inserts all keys, and returns how many of them were new.
-fn insert_all<R: Wait>(rt: &R, map: &HashMap<u64, u64>) -> Result<u64, Fail> {
+fn insert_all<R: Abort + Wait>(rt: &R, map: &HashMap<u64, u64>) -> u64 {
     let mut new = 0u64;
     for key in 0..KEYS {
-        if map.insert(rt, key, key)?.is_none() {
+        let old = map.insert(rt, key, key).expect(rt, "memory");
+        if old.is_none() {
             new = new.saturating_add(1);
         }
     }
-    Ok(new)
+    new
 }
 
 // Removes every second key, from the last but one down, and returns how many were present.
@@ -145,18 +147,21 @@ fn counts<R: Wait>(rt: &R, map: &HashMap<u64, u64>) -> Result<(u64, u64, u64), A
     Ok((pairs, keys, values))
 }
 
-fn halves_and_fills<R: Abort + Wait>(rt: &R, map: &HashMap<u64, u64>) -> Result<(), Fail> {
-    assert_same(rt, insert_all(rt, map)?, 50_000);
-    assert_same(rt, insert_all(rt, map)?, 0);
+fn halves_and_fills<R: Abort + Wait>(rt: &R, map: &HashMap<u64, u64>) {
+    assert_same(rt, insert_all(rt, map), 50_000);
+    assert_same(rt, insert_all(rt, map), 0);
     assert_same(rt, remove_half(rt, map), 25_000);
-    assert_same(rt, insert_all(rt, map)?, 25_000);
+    assert_same(rt, insert_all(rt, map), 25_000);
     assert_same(rt, map.len(rt), 50_000);
-    assert_same(rt, counts(rt, map)?, (50_000, 50_000, 50_000));
-    Ok(())
+    assert_same(
+        rt,
+        counts(rt, map).expect(rt, "memory"),
+        (50_000, 50_000, 50_000),
+    );
 }
 
 // Fifty thousand keys, half of which are removed and inserted again.
 #[test]
-fn row_09(rt: HostRuntime) -> Result<(), Fail> {
+fn row_09(rt: HostRuntime) {
     halves_and_fills(&rt, &HashMap::new(rt.alloc()))
 }

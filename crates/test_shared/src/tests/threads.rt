@@ -7,7 +7,6 @@ use flurry_shared::HashMap;
 use std::alloc::Allocator;
 use std::sync::Wait;
 use std::sync::atomic::{AtomicBool, AtomicU64, Ordering};
-use std::test::Fail;
 use std::thread;
 use std::thread::Threads;
 
@@ -40,25 +39,23 @@ pub(super) fn insert_in_threads<
 }
 
 #[test]
-fn eight_threads_insert_the_same_keys(rt: HostRuntime) -> Result<(), Fail> {
+fn eight_threads_insert_the_same_keys(rt: HostRuntime) {
     let map = HashMap::new(rt.alloc());
 
     insert_in_threads(&rt, &map, 8, 0, 1000);
 
     assert_same(&rt, map.len(&rt), 1000);
     assert_same(&rt, count_own(&rt, &map, 0, 1000), 1000);
-    Ok(())
 }
 
 #[test]
-fn four_threads_insert_keys_of_one_hash(rt: HostRuntime) -> Result<(), Fail> {
+fn four_threads_insert_keys_of_one_hash(rt: HostRuntime) {
     let map = HashMap::with_hasher(rt.alloc(), ZeroHashBuilder);
 
     insert_in_threads(&rt, &map, 4, 100, 100);
 
     assert_same(&rt, map.len(&rt), 400);
     assert_same(&rt, count_own(&rt, &map, 0, 400), 400);
-    Ok(())
 }
 
 // Inserts 64 keys, waits until the other thread has done so, and returns how many of its keys are found.
@@ -92,14 +89,13 @@ fn insert_and_read_in_threads<
 }
 
 #[test]
-fn two_threads_read_each_other(rt: HostRuntime) -> Result<(), Fail> {
+fn two_threads_read_each_other(rt: HostRuntime) {
     let map = HashMap::new(rt.alloc());
 
     let found = insert_and_read_in_threads(&rt, &map);
 
     assert_same(&rt, found, (64, 64));
     assert_same(&rt, map.len(&rt), 128);
-    Ok(())
 }
 
 // Makes room, and then inserts `keys` keys from 16 on.
@@ -135,7 +131,7 @@ fn look_while_it_grows<
 }
 
 #[test]
-fn eight_threads_look_while_a_ninth_makes_room(rt: HostRuntime) -> Result<(), Fail> {
+fn eight_threads_look_while_a_ninth_makes_room(rt: HostRuntime) {
     let map = HashMap::with_hasher(rt.alloc(), LowHashBuilder);
     insert_all(&rt, &map, 0, 16);
 
@@ -143,12 +139,11 @@ fn eight_threads_look_while_a_ninth_makes_room(rt: HostRuntime) -> Result<(), Fa
 
     assert_same(&rt, map.len(&rt), 16);
     assert_same(&rt, count_own(&rt, &map, 0, 16), 16);
-    Ok(())
 }
 
 // Look-ups that start at a table that is old by the time they look.
 #[test]
-fn eight_threads_look_while_a_ninth_inserts(rt: HostRuntime) -> Result<(), Fail> {
+fn eight_threads_look_while_a_ninth_inserts(rt: HostRuntime) {
     let map = HashMap::new(rt.alloc()).with_processors(4);
     insert_all(&rt, &map, 0, 16);
 
@@ -156,7 +151,6 @@ fn eight_threads_look_while_a_ninth_inserts(rt: HostRuntime) -> Result<(), Fail>
 
     assert_same(&rt, map.len(&rt), 5016);
     assert_same(&rt, count_own(&rt, &map, 0, 5016), 5016);
-    Ok(())
 }
 
 // Moves a map into a thread of its own, which counts the keys below `below` and drops the map. Returns `None` if the thread cannot be
@@ -175,10 +169,9 @@ fn count_in_thread<
 }
 
 #[test]
-fn a_thread_owns_a_map(rt: HostRuntime) -> Result<(), Fail> {
+fn a_thread_owns_a_map(rt: HostRuntime) {
     let map = HashMap::new(rt.alloc());
     insert_all(&rt, &map, 0, 100);
 
     assert_same(&rt, count_in_thread(&rt, map, 200), Some(100));
-    Ok(())
 }

