@@ -6,15 +6,14 @@ mod order;
 mod readers;
 mod threads;
 
-use calls::put_all;
+use calls::{first_step, put_all};
+use flurry_bins_slots::NoFn;
 use flurry_shared_locks::{LockField, Locks};
 use flurry_steps::party::{Event, OwnedCall};
-use growths::stop;
 use std::alloc::{Allocator, Global};
 use std::fmt::Debug;
 use std::process::Abort;
 use std::sync::Wait;
-use std::thread::Threads;
 use threads::{count_in_thread, put_in_threads};
 
 // Asserts that a value is the expected one. A test with many assertions calls this, because each `assert_eq!` in its own body makes its
@@ -31,10 +30,11 @@ fn newest_of<A: Allocator, R>(rt: &R, locks: &Locks<u64, u64, A>) -> Option<u8> 
 
 // Looks a key up, and inserts it, by one step each.
 fn does_first_steps<A: Allocator + Copy, R: Abort + Wait>(rt: &R, locks: &Locks<u64, u64, A>) {
-    let look = stop(rt, locks, 7, OwnedCall::Get(7), 1);
-    assert_same(rt, look, Some(Event::Decide));
-    let insertion = stop(rt, locks, 7, OwnedCall::Insert(7, 0), 1);
-    assert_same(rt, insertion, Some(Event::Opened(4)));
+    let look: OwnedCall<u64, u64, NoFn> = OwnedCall::Get(7);
+    assert_same(rt, first_step(rt, locks, 7, look), Some(Event::Decide));
+    let insertion: OwnedCall<u64, u64, NoFn> = OwnedCall::Insert(7, 0);
+    let opened = first_step(rt, locks, 7, insertion);
+    assert_same(rt, opened, Some(Event::Opened(4)));
 }
 
 #[test]
@@ -50,19 +50,14 @@ fn holds<A: Allocator + Copy, R: Abort + Wait>(rt: &R, locks: &Locks<u64, u64, A
 
 // The length includes the pairs that are still counted at tallies, and the table grows by them: 2,000 pairs are more than three for four of
 // 2^11 bins.
-fn grows_by_tallies<A: Allocator + Copy + Send + Sync, R: Abort + Threads + Wait + Sync>(
-    rt: &R,
-    locks: &Locks<u64, u64, A>,
-) {
-    put_in_threads(rt, locks, 500);
-    holds(rt, locks, 2000);
-    assert_same(rt, newest_of(rt, locks), Some(12));
-}
-
 #[test]
 fn four_threads_put_pairs_in(rt: HostRuntime) {
-    let locks = Locks::new(rt.alloc());
-    grows_by_tallies(&rt, &locks);
+    let locks: Locks<u64, u64, Global> = Locks::new(rt.alloc());
+
+    put_in_threads(&rt, &locks, 500);
+
+    assert_eq!(rt; LockField::new(&rt, &locks).len(), 2000);
+    assert_same(&rt, newest_of(&rt, &locks), Some(12));
 }
 
 // A call for the length collects what is counted at tallies. The table grows all the same.

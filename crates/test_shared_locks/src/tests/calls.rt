@@ -2,8 +2,8 @@
 
 use flurry_bins_slots::{ComputeFn, NoFn};
 use flurry_shared_locks::{CallField, LockField, Locks};
-use flurry_steps::party::{OwnedCall, Reply};
-use flurry_steps::{Party, finish};
+use flurry_steps::party::{Event, OwnedCall, Reply};
+use flurry_steps::{Party, act, finish};
 use std::alloc::Allocator;
 use std::sync::Wait;
 
@@ -34,6 +34,20 @@ pub(super) fn reply_of<K: Ord + Drop, V: Drop, A: Allocator + Copy, F: ComputeFn
     drop(lock_field);
     drop(party);
     reply
+}
+
+// Does the first step of a call, and returns what it was.
+pub(super) fn first_step<K: Ord + Drop, V: Drop, A: Allocator + Copy, F: ComputeFn<K, V>, R: Wait>(
+    rt: &R,
+    locks: &Locks<K, V, A>,
+    hash: u64,
+    call: OwnedCall<K, V, F>,
+) -> Option<Event>
+    requires { (f : F) → F.can_change f }
+{
+    let mut party = Party::from_owned(call, hash, 4);
+    let mut lock_field = CallField::new(&LockField::new(rt, locks));
+    act(&mut party, &mut lock_field)
 }
 
 // Returns whether a reply says that a key is present.
