@@ -1,0 +1,10 @@
+-- What the threads share may cross threads.
+use denote.Param.Send.{IsSync}
+use Rattle.flurry.proofs.Sharing.{shares}
+use Rattle.docs_shapes.specs.contracts.CountedVisits as CountedVisits
+use Rattle.docs_shapes.proofs.fn.share_count.scope.Goals as goal
+
+pub spawn-child-requires-send-F : goal.spawn-child-requires-send-F
+spawn-child-requires-send-F g c κs within =
+    let shared : IsSync CountedVisits.the_row = search shares depth 60 in
+    search shares depth 60

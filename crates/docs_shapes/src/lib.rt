@@ -1,0 +1,128 @@
+//! Threads that share a map in a struct of the caller's, one function for each shape. The answer beside each shows that what its threads
+//! share or own may cross threads.
+#![tactic(auto)]
+
+use crossbeam_channel::{Receiver, Sender};
+use flurry::HashMap;
+use std::sync::atomic::{AtomicU64, Ordering};
+use std::sync::{Condvar, Mutex, Wait};
+use std::thread;
+use std::thread::Threads;
+
+/// A map in a struct.
+#[derive(Drop)]
+pub struct Visits {
+    map: HashMap<u64, u64>,
+}
+
+impl Visits {
+    /// Notes a visit, and returns `true` if it was the first one.
+    pub fn visit<R: Wait>(&self, rt: &R, id: u64, time: u64) -> bool {
+        matches!(self.map.insert(rt, id, time), Ok(None))
+    }
+}
+
+/// Notes each visit in a thread of its own.
+pub fn share_struct<R: Threads + Wait + Sync>(rt: &R, visits: &Visits, ids: &[u64]) {
+    thread::scope(thread::scope_env(), rt, |scope| {
+        for id in ids {
+            let id = *id;
+            let child = scope.spawn(move || visits.visit(rt, id, 1));
+            drop(child);
+        }
+    });
+}
+
+/// A map in a struct, with an atomic number beside it.
+#[derive(Drop)]
+pub struct CountedVisits {
+    visits: Visits,
+    first: AtomicU64,
+}
+
+impl CountedVisits {
+    /// Notes a visit, and counts it if it was the first one.
+    pub fn visit<R: Wait>(&self, rt: &R, id: u64, time: u64) {
+        if self.visits.visit(rt, id, time) {
+            self.first.fetch_add(1, Ordering::SeqCst);
+        }
+    }
+}
+
+/// Notes and counts each visit in a thread of its own.
+pub fn share_count<R: Threads + Wait + Sync>(rt: &R, visits: &CountedVisits, ids: &[u64]) {
+    thread::scope(thread::scope_env(), rt, |scope| {
+        for id in ids {
+            let id = *id;
+            let child = scope.spawn(move || visits.visit(rt, id, 1));
+            drop(child);
+        }
+    });
+}
+
+/// A map in a struct, with a lock and a condition beside it.
+#[derive(Drop)]
+pub struct AwaitedVisits {
+    visits: Visits,
+    done: Mutex<u64>,
+    changed: Condvar,
+}
+
+impl AwaitedVisits {
+    /// Notes a visit, and wakes who waits for it.
+    pub fn visit<R: Wait>(&self, rt: &R, id: u64, time: u64) {
+        self.visits.visit(rt, id, time);
+        let mut done = self.done.lock(rt);
+        *done = (*done).saturating_add(1);
+        drop(done);
+        self.changed.notify_all();
+    }
+
+    /// Waits until `visits` visits are noted.
+    pub fn wait_for<R: Wait>(&self, rt: &R, visits: u64) {
+        let done = self
+            .changed
+            .wait_while(rt, self.done.lock(rt), |done| *done < visits);
+        drop(done);
+    }
+}
+
+/// Notes each visit in a thread of its own, which waits until the first one is noted.
+pub fn share_lock<R: Threads + Wait + Sync>(rt: &R, visits: &AwaitedVisits, ids: &[u64]) {
+    thread::scope(thread::scope_env(), rt, |scope| {
+        for id in ids {
+            let id = *id;
+            let child = scope.spawn(move || {
+                visits.visit(rt, id, 1);
+                visits.wait_for(rt, 1)
+            });
+            drop(child);
+        }
+    });
+}
+
+/// What one thread owns: where its visits come from, and where those that are first go.
+#[derive(Drop)]
+pub struct Ends {
+    visits: Receiver<u64>,
+    first: Sender<u64>,
+}
+
+/// Notes the visits that come, and hands on those that are first.
+pub fn note_all<R: Wait>(rt: &R, visits: &Visits, ends: Ends) {
+    for id in ends.visits.iter(rt) {
+        if visits.visit(rt, id, 1) {
+            let _ = ends.first.send(rt, id);
+        }
+    }
+}
+
+/// Notes visits in threads, each of which owns ends of channels.
+pub fn own_ends<R: Threads + Wait + Sync>(rt: &R, visits: &Visits, ends: Vec<Ends>) {
+    thread::scope(thread::scope_env(), rt, move |scope| {
+        for ends in ends {
+            let child = scope.spawn(move || note_all(rt, visits, ends));
+            drop(child);
+        }
+    });
+}
