@@ -30,6 +30,7 @@ check_makers() {
 check_libraries() {
     local crate libraries library status=0
     while IFS=: read -r crate libraries; do
+        crate=${crate%% *}
         for library in $libraries; do
             if ! grep -rqsE "\b(Rattle\.$library\b|$library::|use $library\b)" "crates/$crate"/{src,specs,proofs,must-fail}; then
                 echo "test: crates.txt lists $library for $crate, whose texts do not name it" >&2

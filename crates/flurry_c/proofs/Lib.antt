@@ -1,0 +1,4 @@
+pub mod BufferLaws
+pub mod ByteLaws
+pub mod ByteWalkLaws
+pub mod Walk

@@ -1,0 +1,10 @@
+pub mod Buffers
+pub mod ByteAnswers
+pub mod ByteWalks
+pub mod BytesLent
+pub mod BytesOwned
+pub mod WordAnswers
+pub mod WordWalks
+pub mod WordsLent
+pub mod WordsOwned
+pub use Rattle.flurry_seq.specs.FiniteMap

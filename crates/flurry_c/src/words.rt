@@ -1,0 +1,36 @@
+//! What C keeps of a map of numbers: its address.
+ghost use Rattle.std.specs.Prelude.{◌≡◌};
+ghost use Rattle.flurry_c.specs.declared.word_map.WordMap.{WordMap};
+ghost use Rattle.flurry_c.specs.WordsOwned.{words_own, map_coded};
+
+mod lend;
+
+use crate::loose::Loose;
+use crate::word_map::WordMap;
+use std::alloc::Global;
+use std::marker::Model;
+
+/// The address of a map of numbers, and the right to free it.
+#[repr(C)]
+pub struct Words {
+    at: *mut u8,
+    alloc: Global,
+    pub ghost map: { WordMap } by { map_coded },
+}
+
+impl Model for Words {
+    ghost also_owns = { λ w. words_own w.alloc w.at w.map };
+}
+
+impl Words {
+    // What it owns, as a box does.
+    pub(crate) fn into_loose(self) -> Loose<WordMap, Global>
+        ensures { result.value ≡ self.map }
+    {
+        let Words { at, alloc } = self;
+        Loose {
+            at: at as *mut WordMap,
+            alloc,
+        }
+    }
+}
