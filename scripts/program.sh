@@ -1,10 +1,10 @@
 # shellcheck shell=bash
-# Sourced by the scripts at the top that run a program of this repository. A fault of these scripts has the status 126, or 127 where there
-# is no `rt`; the statuses from 0 on are the program's.
+# Sourced by the scripts at the top that run a program of this repository, or build a static library. A fault of these scripts has the
+# status 126, or 127 where there is no `rt`; the statuses from 0 on are the program's.
 
-# The repository, the name that messages begin with, the program's crate, a word with which the program ends at once, and the folder where
-# it is built.
-root='' name='' crate='' word='' room=''
+# The repository, the name that messages begin with, the crate, what is made of it, as messages call it, and its file, a word with which the
+# program ends at once, and the folder where it is built.
+root='' name='' crate='' kind='program' file='' word='' room=''
 # What below.awk says of the program's crate; its crates, each after those on which it stands; by crate, these, and its line in crates.txt.
 lines='' crates=()
 declare -A below=() line=()
@@ -70,7 +70,8 @@ is_fresh() {
 # Whether the program is there, and nothing that it stands on has changed, lines of crates.txt among them.
 is_program_fresh() {
     local out=$root/crates/$crate/out
-    [[ -x $out/$crate && -f $out/lines && $(<"$out/lines") == "$lines" ]] && is_fresh "$out/$crate" "${crates[@]}"
+    [[ $kind != program || -x $out/$file ]] || return 1
+    [[ -f $out/$file && -f $out/lines && $(<"$out/lines") == "$lines" ]] && is_fresh "$out/$file" "${crates[@]}"
 }
 
 # (`rt` writes the file `stamp` of a library last)
@@ -86,7 +87,7 @@ check_writable() {
     for it in "${crates[@]}"; do
         it=$root/crates/$it
         if [[ ! -w $it || (-e $it/out && ! -w $it/out) ]]; then
-            fail "the program is not built, or older than its sources, and cannot be built: there is no permission to write in $it"
+            fail "the $kind is not built, or older than its sources, and cannot be built: there is no permission to write in $it"
         fi
     done
 }
@@ -142,6 +143,7 @@ keep_work() {
 start() {
     local it at=$root behind=0 jobs=4
     local -a those command=(rt run ${word:+-- "$word"})
+    [[ $kind == program ]] || command=(rt lib)
     for it in "${crates[@]}"; do
         [[ $it != "$1" ]] || break
         [[ -z ${builder[$it]-} ]] || behind=10 jobs=2
@@ -172,12 +174,12 @@ end() {
     wait "${builder[$1]}" || status=$?
     [[ $1 == "$crate" ]] || keep_work "$1"
     unset "builder[$1]"
-    if ((status)) || [[ $1 == "$crate" && ! -x $out/$1 ]]; then
+    if ((status)) || [[ $1 == "$crate" && ! -f $out/$file ]]; then
         cat -- "$room/$1/log" >&2
-        fail "the program could not be proved and built (status $status of 'rt' in crates/$1)"
+        fail "the $kind could not be proved and built (status $status of 'rt' in crates/$1)"
     fi
     if [[ $1 == "$crate" ]]; then
-        touch -r "$room/$1/started" -- "$out/$1"
+        touch -r "$room/$1/started" -- "$out/$file"
         echo "$lines" >"$out/lines"
     fi
     built[$1]=yes
@@ -252,7 +254,7 @@ build_crates() {
 build() {
     local out=$root/crates/$crate/out
     if ! command -v rt >/dev/null 2>&1; then
-        fail "the program is not built, or older than its sources, and the command 'rt' of the Rattle kit, which proves and builds it, is not on the PATH" 127
+        fail "the $kind is not built, or older than its sources, and the command 'rt' of the Rattle kit, which proves and builds it, is not on the PATH" 127
     fi
     check_writable
     exec 8<"$root/crates"
@@ -261,7 +263,7 @@ build() {
     exec 7<"$root/crates/$crate"
     lock 7 "another rt in crates/$crate"
     if ! is_program_fresh; then
-        say "proving and building the program; the first time takes minutes"
+        say "proving and building the $kind; the first time takes minutes"
         mkdir -p -- "$out"
         # (what was left by a start that was killed)
         rm -rf -- "$out"/building.* || :
@@ -273,17 +275,29 @@ build() {
     exec 7<&- 8<&-
 }
 
-# run_program ROOT NAME CRATE WORD ARG..: becomes the program of the crate with these arguments. It is proved and built first where it is
-# not there, or where what it stands on has changed. WORD is one with which the program ends at once with status 0, or empty where it does
-# so with none.
-run_program() {
-    root=$1 name=$2 crate=$3 word=$4
-    shift 4
+# Proves and builds where what is made of the crate is not there, or where what it stands on has changed.
+freshen() {
     trap finish EXIT
     trap 'exit 129' HUP
     trap 'exit 130' INT
     trap 'exit 143' TERM
     read_crates
     is_program_fresh || build
+}
+
+# run_program ROOT NAME CRATE WORD ARG..: becomes the program of the crate with these arguments. It is proved and built first where it is
+# not there, or where what it stands on has changed. WORD is one with which the program ends at once with status 0, or empty where it does
+# so with none.
+run_program() {
+    root=$1 name=$2 crate=$3 word=$4 kind='program' file=$3
+    shift 4
+    freshen
     exec "$root/crates/$crate/out/$crate" "$@"
+}
+
+# build_archive ROOT NAME CRATE: proves and builds the static library of the crate in the same cases. Returns once it is there.
+build_archive() {
+    root=$1 name=$2 crate=$3 word='' kind='static library' file=lib$3.a
+    freshen
+    trap - EXIT HUP INT TERM
 }

@@ -1,0 +1,153 @@
+/* Maps of one owner, proved: see README. Link lib/libflurry.a.
+ *
+ * Each function does to the finite map what is said of it here. That is proved for callers that keep the duties below; nothing checks that
+ * they do:
+ *
+ *   - A `flurry_words *` points to a struct in which flurry_words_new said FLURRY_DONE, a `flurry_bytes *` to one of flurry_bytes_new.
+ *     Nobody else writes to it. It may be copied to another place, but is then used at that place alone, and is freed once. After
+ *     flurry_.._free nothing is done with it.
+ *   - A map is used by one call at a time; calls that only read count too. Threads that share one take turns by a lock of their own. Any
+ *     thread may make, use and free a map.
+ *   - A pointer to a number, or to a buffer of `len` items, is valid for the call: nobody else writes there, and nobody reads what a call
+ *     writes. Numbers, buffers and the struct of the map do not overlap. A buffer of no items may be null.
+ *   - A buffer is aligned as its type is, and has fewer than 2^63 bytes.
+ *   - malloc, realloc and free are of one allocator, and align a block to each power of two up to 16 that divides its size.
+ *   - No function is called from a signal handler, or in the child after a fork of a process with threads.
+ *
+ * No function ends the process or waits. Where memory cannot be allocated, a function says FLURRY_NO_MEMORY, and the map is as it was.
+ * Keys of the default hasher are not protected against a choice of keys that collide; a bin of many is a tree, so a call then takes
+ * logarithmic time.
+ */
+#ifndef FLURRY_H
+#define FLURRY_H
+
+#include <stdbool.h>
+#include <stddef.h>
+#include <stdint.h>
+
+#ifdef __cplusplus
+extern "C" {
+#endif
+
+/* What a function says. */
+typedef uint8_t flurry_status;
+enum {
+    FLURRY_ABSENT = 0,    /* the key was absent */
+    FLURRY_PRESENT = 1,   /* the key was present */
+    FLURRY_DONE = 2,      /* the call did what it is for */
+    FLURRY_NO_MEMORY = 3, /* memory could not be allocated */
+    FLURRY_NO_ROOM = 4    /* a buffer is too small */
+};
+
+/* ---- From numbers to numbers ---- */
+
+/* The map: the address of what it owns. */
+typedef struct flurry_words {
+    void *at;
+} flurry_words;
+
+/* A key and its value. */
+typedef struct flurry_word_pair {
+    uint64_t key;
+    uint64_t value;
+} flurry_word_pair;
+
+/* Makes an empty map in `words` and says FLURRY_DONE; or FLURRY_NO_MEMORY, and `words` is as it was. No map may be there before, since it
+ * would be lost; what else is there does not matter. */
+flurry_status flurry_words_new(flurry_words *words);
+
+/* Frees the map. */
+void flurry_words_free(flurry_words words);
+
+/* The number of pairs. */
+size_t flurry_words_len(flurry_words *words);
+
+/* Whether the key is present. */
+bool flurry_words_contains(flurry_words *words, uint64_t key);
+
+/* Writes the key's value to `value`, and says FLURRY_PRESENT; or FLURRY_ABSENT, and writes nothing. */
+flurry_status flurry_words_get(flurry_words *words, uint64_t key, uint64_t *value);
+
+/* Inserts a pair. Says FLURRY_PRESENT if the key was present, and writes the value that it had to `old`; else FLURRY_ABSENT, and writes
+ * nothing. Says FLURRY_NO_MEMORY if memory cannot be allocated, or if the key is new and the map has as many pairs as it can: nothing
+ * changed and nothing was written. */
+flurry_status flurry_words_insert(flurry_words *words, uint64_t key, uint64_t value, uint64_t *old);
+
+/* Inserts a pair if the key is absent, and says FLURRY_ABSENT. If the key is present, says FLURRY_PRESENT and writes its value to
+ * `current`; nothing changed. FLURRY_NO_MEMORY as in flurry_words_insert. */
+flurry_status flurry_words_try_insert(flurry_words *words, uint64_t key, uint64_t value, uint64_t *current);
+
+/* Removes the key's pair, writes its value to `old`, and says FLURRY_PRESENT; or FLURRY_ABSENT, and writes nothing. */
+flurry_status flurry_words_remove(flurry_words *words, uint64_t key, uint64_t *old);
+
+/* Removes all pairs. The map keeps the memory of its table. */
+void flurry_words_clear(flurry_words *words);
+
+/* Makes room in the table for so many more pairs, and says FLURRY_DONE; or FLURRY_NO_MEMORY. The pairs stay. An insertion still allocates
+ * for its pair. */
+flurry_status flurry_words_reserve(flurry_words *words, size_t additional);
+
+/* Writes all pairs, each once, in no order that is promised, to the first places of `pairs`, which has `len` places, and says FLURRY_DONE.
+ * If the map has more than `len` pairs, says FLURRY_NO_ROOM and writes nothing. */
+flurry_status flurry_words_pairs(flurry_words *words, flurry_word_pair *pairs, size_t len);
+
+/* ---- From bytes to bytes ----
+ *
+ * A key or a value is any number of bytes, also none. The map keeps copies. Each call of one key copies the key first, and so can say
+ * FLURRY_NO_MEMORY: nothing changed then, and nothing was written. */
+
+typedef struct flurry_bytes {
+    void *at;
+} flurry_bytes;
+
+/* How many bytes a key and its value have. */
+typedef struct flurry_byte_pair {
+    size_t key;
+    size_t value;
+} flurry_byte_pair;
+
+/* Makes an empty map in `bytes`, as flurry_words_new does. */
+flurry_status flurry_bytes_new(flurry_bytes *bytes);
+
+/* Frees the map, with its keys and values. */
+void flurry_bytes_free(flurry_bytes bytes);
+
+/* The number of pairs. */
+size_t flurry_bytes_len(flurry_bytes *bytes);
+
+/* Says FLURRY_PRESENT or FLURRY_ABSENT. */
+flurry_status flurry_bytes_contains(flurry_bytes *bytes, const void *key, size_t key_len);
+
+/* Copies the key's value to the beginning of `value`, which has room for `room` bytes, and as much of it as there is room for. Writes the
+ * length of the whole value to `value_len`, and says FLURRY_PRESENT. Or says FLURRY_ABSENT, and writes nothing. */
+flurry_status flurry_bytes_get(flurry_bytes *bytes, const void *key, size_t key_len, void *value, size_t room, size_t *value_len);
+
+/* Inserts a pair. Says FLURRY_PRESENT if the key was present, and its value is replaced; else FLURRY_ABSENT. Says FLURRY_NO_MEMORY also if
+ * the key is new and the map has as many pairs as it can. */
+flurry_status flurry_bytes_insert(flurry_bytes *bytes, const void *key, size_t key_len, const void *value, size_t value_len);
+
+/* Inserts a pair if the key is absent, and says FLURRY_ABSENT. If the key is present, says FLURRY_PRESENT; nothing changed. */
+flurry_status flurry_bytes_try_insert(flurry_bytes *bytes, const void *key, size_t key_len, const void *value, size_t value_len);
+
+/* Removes the key's pair, and says FLURRY_PRESENT; or FLURRY_ABSENT. */
+flurry_status flurry_bytes_remove(flurry_bytes *bytes, const void *key, size_t key_len);
+
+/* Removes all pairs. The map keeps the memory of its table. */
+void flurry_bytes_clear(flurry_bytes *bytes);
+
+/* As flurry_words_reserve. */
+flurry_status flurry_bytes_reserve(flurry_bytes *bytes, size_t additional);
+
+/* How many bytes all keys and values have together; SIZE_MAX if they have more. */
+size_t flurry_bytes_size(flurry_bytes *bytes);
+
+/* Writes all pairs, each once, in no order that is promised, and says FLURRY_DONE: to the first places of `pairs`, which has `len` places,
+ * how many bytes each pair's key and value have; and to the beginning of `text`, which has room for `room` bytes, each pair's key and then
+ * its value, pair after pair in the same order, without gaps. If `len` is less than flurry_bytes_len says, or `room` less than
+ * flurry_bytes_size, says FLURRY_NO_ROOM and writes nothing. */
+flurry_status flurry_bytes_pairs(flurry_bytes *bytes, flurry_byte_pair *pairs, size_t len, void *text, size_t room);
+
+#ifdef __cplusplus
+}
+#endif
+#endif

@@ -1,0 +1,66 @@
+#!/usr/bin/env bash
+# Tries libflurry.a from C and from Rust, over what `./flurry-c` leaves. Says what is not tried, where there is no `cc` or no `cargo`. Each
+# fault is told, and the status is then 1.
+#
+# In C: the names in the header; the example of README, also as C++; and calls of which each request for memory is refused in turn, under
+# the address sanitizer. In Rust: the tests of rust/flurry-shards and the examples in its comments.
+set -euo pipefail
+
+here=$(CDPATH='' cd -- "$(dirname -- "$(readlink -f -- "${BASH_SOURCE[0]}")")/.." && pwd -P)
+cd -- "$here"
+room=$(mktemp -d -t flurry-foreign.XXXXXX)
+trap 'rm -rf -- "$room"' EXIT
+status=0
+
+# fault TEXT
+fault() {
+    echo "foreign: $1" >&2
+    status=1
+}
+
+# The header declares what the archive has, by name.
+try_names() {
+    if ! diff -u --label flurry.h --label libflurry.a <(grep -oE '\bflurry_[a-z_]+\(' lib/flurry.h | tr -d '(' | sort -u) \
+        <(nm -g --defined-only lib/libflurry.a | awk '$2 == "T" && $3 ~ /^flurry_/ { print $3 }' | sort -u) >&2; then
+        fault "lib/flurry.h does not declare the functions of lib/libflurry.a"
+    fi
+}
+
+# The example of README is the file that is compiled here.
+try_example() {
+    if ! diff -u --label README.md --label c/first.c <(awk '/^```c$/ { inside = 1; next } /^```$/ && inside { exit } inside' README.md) c/first.c >&2; then
+        fault "the C example of README is not c/first.c"
+    fi
+    if ! cc -std=c99 -Wall -Wextra -Wpedantic -Werror -Ilib c/first.c lib/libflurry.a -o "$room/first"; then
+        fault "c/first.c does not compile"
+    elif [[ $("$room/first") != $'was 41\nis 42, of 1' ]]; then
+        fault "c/first.c writes something else"
+    fi
+    if command -v c++ >/dev/null 2>&1 && ! c++ -std=c++11 -Wall -Wextra -Werror -x c++ -fsyntax-only -Ilib c/first.c; then
+        fault "c/first.c does not compile as C++"
+    fi
+}
+
+try_refusals() {
+    local -a words=(-std=c11 -g -O1 -Wall -Wextra -Werror -Ilib '-Wl,--wrap=malloc' '-Wl,--wrap=realloc' '-Wl,--wrap=free')
+    if ! cc "${words[@]}" -fsanitize=address,undefined -fno-sanitize-recover c/refused.c lib/libflurry.a -o "$room/refused"; then
+        fault "c/refused.c does not compile"
+    elif ! "$room/refused"; then
+        fault "c/refused.c found a fault"
+    fi
+}
+
+./flurry-c
+if command -v cc >/dev/null 2>&1; then
+    try_names
+    try_example
+    try_refusals
+else
+    echo "foreign: there is no 'cc', so nothing was tried in C" >&2
+fi
+if command -v cargo >/dev/null 2>&1; then
+    FLURRY_LIB=$here/lib cargo test --quiet --release --offline --manifest-path rust/flurry-shards/Cargo.toml || fault "a test of rust/flurry-shards fails"
+else
+    echo "foreign: there is no 'cargo', so nothing was tried in Rust" >&2
+fi
+exit "$status"
