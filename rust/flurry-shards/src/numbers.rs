@@ -1,0 +1,176 @@
+//! Maps from `u64` to `u64`.
+
+use crate::library::Words;
+use crate::shards::Shards;
+use crate::OutOfMemory;
+
+/// A map of one owner. Each call does what it says to a finite map: that is proved.
+///
+/// ```
+/// use flurry_shards::numbers::OwnedMap;
+///
+/// let mut map = OwnedMap::new()?;
+/// assert_eq!(map.insert(7, 0)?, None);
+/// assert_eq!(map.insert(7, 1)?, Some(0));
+/// assert_eq!(map.get(7), Some(1));
+/// assert_eq!(map.remove(7), Some(1));
+/// assert_eq!(map.len(), 0);
+/// # Ok::<(), flurry_shards::OutOfMemory>(())
+/// ```
+pub struct OwnedMap(Words);
+
+impl OwnedMap {
+    /// Creates an empty map.
+    ///
+    /// # Errors
+    ///
+    /// Returns [`OutOfMemory`] if memory cannot be allocated.
+    pub fn new() -> Result<Self, OutOfMemory> {
+        Words::new().map(OwnedMap)
+    }
+
+    /// Returns the number of pairs.
+    pub fn len(&mut self) -> usize {
+        self.0.len()
+    }
+
+    /// Returns `true` if there are no pairs.
+    pub fn is_empty(&mut self) -> bool {
+        self.len() == 0
+    }
+
+    /// Returns `true` if the key is present.
+    pub fn contains(&mut self, key: u64) -> bool {
+        self.0.contains(key)
+    }
+
+    /// Returns the value of the key, or `None` if the key is absent.
+    pub fn get(&mut self, key: u64) -> Option<u64> {
+        self.0.get(key)
+    }
+
+    /// Inserts a pair, and returns the value that the key had, or `None` if the key was absent.
+    ///
+    /// # Errors
+    ///
+    /// Returns [`OutOfMemory`] if memory cannot be allocated. The map is unchanged.
+    pub fn insert(&mut self, key: u64, value: u64) -> Result<Option<u64>, OutOfMemory> {
+        self.0.insert(key, value)
+    }
+
+    /// Inserts a pair if the key is absent, and returns `None`. If the key is present, returns its value, and nothing changes.
+    ///
+    /// # Errors
+    ///
+    /// Returns [`OutOfMemory`] if memory cannot be allocated. The map is unchanged.
+    pub fn try_insert(&mut self, key: u64, value: u64) -> Result<Option<u64>, OutOfMemory> {
+        self.0.try_insert(key, value)
+    }
+
+    /// Removes the pair of the key, and returns its value, or `None` if the key was absent.
+    pub fn remove(&mut self, key: u64) -> Option<u64> {
+        self.0.remove(key)
+    }
+
+    /// Sets the value of the key to what `f` returns for the present one, and returns it.
+    ///
+    /// # Errors
+    ///
+    /// Returns [`OutOfMemory`] if memory cannot be allocated. The map is unchanged.
+    pub fn update(&mut self, key: u64, f: impl FnOnce(Option<u64>) -> u64) -> Result<u64, OutOfMemory> {
+        let value = f(self.get(key));
+        self.insert(key, value)?;
+        Ok(value)
+    }
+
+    /// Removes all pairs.
+    pub fn clear(&mut self) {
+        self.0.clear();
+    }
+
+    /// Makes room in the table for `additional` more pairs.
+    ///
+    /// # Errors
+    ///
+    /// Returns [`OutOfMemory`] if memory cannot be allocated. The pairs stay.
+    pub fn reserve(&mut self, additional: usize) -> Result<(), OutOfMemory> {
+        self.0.reserve(additional)
+    }
+
+    /// Calls `f` for each pair once, in any order. The pairs are copied first.
+    pub fn for_each(&mut self, mut f: impl FnMut(u64, u64)) {
+        for (key, value) in self.0.pairs() {
+            f(key, value);
+        }
+    }
+}
+
+/// A map that threads share: owned maps behind locks, by a hash of the key.
+///
+/// A call of one key holds one lock while it runs, and so is atomic. [`len`](SharedMap::len), [`clear`](SharedMap::clear) and
+/// [`for_each`](SharedMap::for_each) go from lock to lock. A function that is passed to [`update`](SharedMap::update) runs under the lock of
+/// its key: it may not call the same map.
+pub struct SharedMap(Shards<OwnedMap>);
+
+impl SharedMap {
+    /// Creates an empty map behind as many locks as `shards`, rounded up to a power of two.
+    ///
+    /// # Errors
+    ///
+    /// Returns [`OutOfMemory`] if memory cannot be allocated.
+    pub fn new(shards: usize) -> Result<Self, OutOfMemory> {
+        Shards::new(shards, OwnedMap::new).map(SharedMap)
+    }
+
+    /// Returns the number of pairs, counted lock by lock.
+    pub fn len(&self) -> usize {
+        self.0.each().map(|mut map| map.len()).sum()
+    }
+
+    /// Returns `true` if no pair is found, lock by lock.
+    pub fn is_empty(&self) -> bool {
+        self.0.each().all(|mut map| map.is_empty())
+    }
+
+    /// As [`OwnedMap::contains`].
+    pub fn contains(&self, key: u64) -> bool {
+        self.0.of(&key).contains(key)
+    }
+
+    /// As [`OwnedMap::get`].
+    pub fn get(&self, key: u64) -> Option<u64> {
+        self.0.of(&key).get(key)
+    }
+
+    /// As [`OwnedMap::insert`].
+    pub fn insert(&self, key: u64, value: u64) -> Result<Option<u64>, OutOfMemory> {
+        self.0.of(&key).insert(key, value)
+    }
+
+    /// As [`OwnedMap::try_insert`].
+    pub fn try_insert(&self, key: u64, value: u64) -> Result<Option<u64>, OutOfMemory> {
+        self.0.of(&key).try_insert(key, value)
+    }
+
+    /// As [`OwnedMap::remove`].
+    pub fn remove(&self, key: u64) -> Option<u64> {
+        self.0.of(&key).remove(key)
+    }
+
+    /// As [`OwnedMap::update`]; no other call of the key comes between.
+    pub fn update(&self, key: u64, f: impl FnOnce(Option<u64>) -> u64) -> Result<u64, OutOfMemory> {
+        self.0.of(&key).update(key, f)
+    }
+
+    /// Removes the pairs behind each lock, one lock after the other.
+    pub fn clear(&self) {
+        self.0.each().for_each(|mut map| map.clear());
+    }
+
+    /// Calls `f` once for each pair that is behind a lock when that lock is taken. No lock is held while `f` runs.
+    pub fn for_each(&self, mut f: impl FnMut(u64, u64)) {
+        for pairs in self.0.each().map(|mut map| map.0.pairs()) {
+            pairs.into_iter().for_each(|(key, value)| f(key, value));
+        }
+    }
+}
