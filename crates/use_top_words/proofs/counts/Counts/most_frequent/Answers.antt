@@ -10,4 +10,4 @@ wanting p = 2 ^ 64 - 1 - p.1
 
 pub returns-clause-order : goal.returns-clause-order
 returns-clause-order c = subst (IsNonDecreasingBy wanting) (sym c.truncate.ensures.items)
-    (IsNonDecreasingBy-take wanting c.args.number _ (IsNonDecreasingBy-from_sort_by_key wanting _ c.in_ok-sort_by_key.ensures.sorted (λ a r q k. search rules)))
+    (IsNonDecreasingBy-take wanting _ _ (IsNonDecreasingBy-from_sort_by_key wanting _ c.in_ok-sort_by_key.ensures.sorted (λ a r q k. search rules)))
