@@ -126,3 +126,29 @@ pub fn own_ends<R: Threads + Wait + Sync>(rt: &R, visits: &Visits, ends: Vec<End
         }
     });
 }
+
+/// A lock and an atomic number, without a map.
+#[derive(Drop)]
+pub struct Progress {
+    noted: AtomicU64,
+    last: Mutex<u64>,
+}
+
+/// Hands on all visits, and notes how many there were and which was the last.
+pub fn hand_on_all<R: Wait>(rt: &R, progress: &Progress, ends: Ends) {
+    for id in ends.visits.iter(rt) {
+        progress.noted.fetch_add(1, Ordering::SeqCst);
+        *progress.last.lock(rt) = id;
+        let _ = ends.first.send(rt, id);
+    }
+}
+
+/// Hands on visits in threads, each of which owns ends of channels. No map crosses, so there is no answer.
+pub fn share_no_map<R: Threads + Wait + Sync>(rt: &R, progress: &Progress, ends: Vec<Ends>) {
+    thread::scope(thread::scope_env(), rt, move |scope| {
+        for ends in ends {
+            let child = scope.spawn(move || hand_on_all(rt, progress, ends));
+            drop(child);
+        }
+    });
+}
