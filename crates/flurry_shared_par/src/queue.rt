@@ -25,16 +25,20 @@ impl<T: Drop, A: Allocator + Copy> Queue<T, A> {
         }
     }
 
-    // Takes the next piece. Returns `None` if nothing is left, or if something has failed.
+    // Takes the next piece. Returns `None` if nothing is left, or if something has failed. If memory for the piece cannot be allocated, it says
+    // so before it unlocks the rest, so that no other thread takes a further piece.
     pub(crate) fn take<R: Wait>(&self, rt: &R) -> Result<Option<Vec<T, A>>, AllocError> {
+        let mut rest = self.rest.lock(rt);
         if self.is_refused() {
             return Ok(None);
         }
-        let piece = take_piece(&mut self.rest.lock(rt), self.part)?;
-        if piece.is_empty() {
-            Ok(None)
-        } else {
-            Ok(Some(piece))
+        match take_piece(&mut rest, self.part) {
+            Ok(piece) if piece.is_empty() => Ok(None),
+            Ok(piece) => Ok(Some(piece)),
+            Err(error) => {
+                self.refuse();
+                Err(error)
+            }
         }
     }
 
