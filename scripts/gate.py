@@ -9,6 +9,8 @@ taken of what earlier runs on this machine passed. The last line is 'N passed, M
 """
 import argparse
 import collections
+import importlib.machinery
+import importlib.util
 import os
 import pathlib
 import re
@@ -134,6 +136,26 @@ def tell_times(parts, crates, started):
     print(f"test: the dearest crates: {', '.join(f'{crate} {seconds / 60:.1f}' for crate, seconds in crates.most_common(10))}")
 
 
+def hand_over(copy, repository, name):
+    """Puts the libraries below a crate, which `rt ci` built in the copy, where `rt lib` looks for them in the repository, with the kit's stamp
+    of what they are made from: so it does not prove them again. Does nothing where the repository has its own, or the kit is another."""
+    libraries = wrong_bodies.libraries_of(repository)
+    those = [it for it in wrong_bodies.below(name, libraries) if not (repository / "crates" / it / "out").exists()]
+    try:
+        loader = importlib.machinery.SourceFileLoader("kit", str(wrong_bodies.kit_folder() / "bin/rt"))
+        kit = importlib.util.module_from_spec(importlib.util.spec_from_loader("kit", loader))
+        loader.exec_module(kit)
+        os.chdir(repository)
+        kit.Crate.allowed = kit.handles_of(str(repository))
+        stamps = {it.name: it.stamp() for it in kit.crates_of(str(repository)) if it.name in those}
+    except (AttributeError, ImportError, OSError, TypeError):
+        return
+    for it, stamp in stamps.items():
+        place = repository / "crates" / it / "out/rlib"
+        shutil.copytree(copy / "crates" / it / "out/rlib", place)
+        (place / "stamp").write_text(stamp, encoding="utf-8")
+
+
 def try_each(repository, words, started):
     """The kit's own gate, whole."""
     status, lines, parts, crates = run_ci(repository, words)
@@ -162,6 +184,8 @@ def try_many(repository, words, started):
                 crates[crate.name] += crate.seconds
             lost = wrong_bodies.failed_of(outcomes)
             passed, failed = passed + len(outcomes) - len(lost), failed + len(lost)
+        if not status and not failed:
+            hand_over(copy, repository, "flurry_c")
         tell_times(parts, crates, started)
         print(f"{passed} passed, {failed} failed")
         return 1 if status or failed else 0
