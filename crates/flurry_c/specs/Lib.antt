@@ -1,10 +1,4 @@
-pub mod Buffers
 pub mod ByteAnswers
-pub mod ByteWalks
-pub mod BytesLent
-pub mod BytesOwned
+pub mod Presence
 pub mod WordAnswers
-pub mod WordWalks
-pub mod WordsLent
-pub mod WordsOwned
-pub use Rattle.flurry_seq.specs.FiniteMap
+pub use Rattle.flurry_c_base.specs.FiniteMap

@@ -3,7 +3,7 @@ use Rattle.std.specs.Prelude.{◌≡◌, ℕ, List, Option, MatchOption}
 use Rattle.std.specs.Ordering.{nat_cmp}
 use Rattle.flurry_base.specs.FiniteMap.{value_at, with_pair}
 use Rattle.flurry_c.specs.declared.statuses.TheConstants.{ABSENT, PRESENT}
-use Rattle.flurry_c.specs.declared.words.Words.{Words}
+use Rattle.flurry_c_base.specs.declared.words.Words.{Words}
 
 -- the finite map behind the address
 abbrev pub pairs_of : Words → List (ℕ × ℕ)

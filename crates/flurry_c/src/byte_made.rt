@@ -1,13 +1,13 @@
 //! Maps of bytes: made and freed.
 ghost use Rattle.std.specs.Prelude.{◌≡◌, ◌⊎◌, [], None, IsSomeAnd};
-ghost use Rattle.flurry_c.specs.ByteAnswers.{bytes_in};
+ghost use Rattle.flurry_c_base.specs.ByteMaps.{bytes_in};
 ghost use Rattle.flurry_c.specs.declared.statuses.TheConstants.{DONE, NO_MEMORY};
 
-use crate::byte_map::ByteMap;
-use crate::byte_slot::ByteSlot;
-use crate::bytes::Bytes;
-use crate::loose::Loose;
 use crate::statuses::{DONE, NO_MEMORY};
+use flurry_c_base::byte_map::ByteMap;
+use flurry_c_base::byte_slot::ByteSlot;
+use flurry_c_base::bytes::Bytes;
+use flurry_c_base::loose::Loose;
 use std::alloc::Global;
 
 /// Makes an empty map, whose address is then in `bytes`, and returns [`DONE`].

@@ -1,11 +1,12 @@
 //! Maps of bytes: reads.
 ghost use Rattle.std.specs.Prelude.{◌≡◌, ◌⊎◌, length};
-ghost use Rattle.flurry_c.specs.ByteAnswers.{pairs_of, value_of, Finds, Copies};
+ghost use Rattle.flurry_c.specs.ByteAnswers.{pairs_of, value_of, Copies};
+ghost use Rattle.flurry_c.specs.Presence.{Finds};
 ghost use Rattle.flurry_c.specs.declared.statuses.TheConstants.{NO_MEMORY};
 
-use crate::bytes::Bytes;
-use crate::copying::copy_out;
 use crate::statuses::{ABSENT, NO_MEMORY, PRESENT};
+use flurry_c_base::bytes::Bytes;
+use flurry_c_base::copying::copy_out;
 use std::alloc::Global;
 
 /// Returns the number of pairs.

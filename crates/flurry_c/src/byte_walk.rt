@@ -1,12 +1,12 @@
 //! Maps of bytes: all pairs, and how many bytes they have.
 ghost use Rattle.std.specs.Prelude.{◌≡◌, ◌⊎◌, ◌-◌, ◌^◌, ◌<◌, length, min, sum_by};
 ghost use Rattle.flurry_c.specs.ByteAnswers.{pairs_of};
-ghost use Rattle.flurry_c.specs.ByteWalks.{size_of, ListsPairs};
+ghost use Rattle.flurry_c_base.specs.ByteWalks.{size_of, ListsPairs};
 ghost use Rattle.flurry_c.specs.declared.statuses.TheConstants.{DONE, NO_ROOM};
 
-use crate::byte_pair::BytePair;
-use crate::bytes::Bytes;
 use crate::statuses::{DONE, NO_ROOM};
+use flurry_c_base::byte_pair::BytePair;
+use flurry_c_base::bytes::Bytes;
 
 /// Returns how many bytes all keys and values have together, or `usize::MAX` if they have more.
 #[unsafe(no_mangle)]

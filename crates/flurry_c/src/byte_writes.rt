@@ -3,11 +3,14 @@ ghost use Rattle.std.specs.Prelude.{◌≡◌, ◌⊎◌, []};
 ghost use Rattle.flurry_base.specs.FiniteMap.{with_pair, without};
 ghost use Rattle.flurry_base.specs.Sizes.{IsGrown};
 ghost use Rattle.flurry_seq.specs.Contents.{asked_for, first_bins};
-ghost use Rattle.flurry_c.specs.ByteAnswers.{byte_order, pairs_of, value_of, Finds, KeepsOrAdds};
+ghost use Rattle.flurry_c_base.specs.ByteMaps.{KeepsOrAdds};
+ghost use Rattle.flurry_c_base.specs.ByteStrings.{byte_order};
+ghost use Rattle.flurry_c.specs.ByteAnswers.{pairs_of, value_of};
+ghost use Rattle.flurry_c.specs.Presence.{Finds};
 ghost use Rattle.flurry_c.specs.declared.statuses.TheConstants.{DONE, NO_MEMORY};
 
-use crate::bytes::Bytes;
 use crate::statuses::{ABSENT, DONE, NO_MEMORY, PRESENT};
+use flurry_c_base::bytes::Bytes;
 use std::alloc::Global;
 
 /// Inserts a pair, of which the map keeps copies. Returns [`PRESENT`] if the key was present, and its value is replaced, or [`ABSENT`].

@@ -5,22 +5,11 @@
 #![tactic(auto)]
 
 mod byte_made;
-mod byte_map;
-mod byte_pair;
 mod byte_reads;
-mod byte_slot;
 mod byte_walk;
 mod byte_writes;
-mod bytes;
-mod copying;
-mod crossing;
-mod loose;
 mod statuses;
 mod word_made;
-mod word_map;
-mod word_pair;
 mod word_reads;
-mod word_slot;
 mod word_walk;
 mod word_writes;
-mod words;

@@ -2,11 +2,11 @@
 ghost use Rattle.std.specs.Prelude.{◌≡◌, ◌⊎◌, [], None, IsSomeAnd};
 ghost use Rattle.flurry_c.specs.declared.statuses.TheConstants.{DONE, NO_MEMORY};
 
-use crate::loose::Loose;
 use crate::statuses::{DONE, NO_MEMORY};
-use crate::word_map::WordMap;
-use crate::word_slot::WordSlot;
-use crate::words::Words;
+use flurry_c_base::loose::Loose;
+use flurry_c_base::word_map::WordMap;
+use flurry_c_base::word_slot::WordSlot;
+use flurry_c_base::words::Words;
 use std::alloc::Global;
 
 /// Makes an empty map, whose address is then in `words`, and returns [`DONE`].

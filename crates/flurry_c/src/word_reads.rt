@@ -3,7 +3,7 @@ ghost use Rattle.std.specs.Prelude.{◌≡◌, length, is_some};
 ghost use Rattle.flurry_c.specs.WordAnswers.{pairs_of, value_of, Tells};
 
 use crate::statuses::{ABSENT, PRESENT};
-use crate::words::Words;
+use flurry_c_base::words::Words;
 
 /// Returns the number of pairs.
 #[unsafe(no_mangle)]

@@ -8,7 +8,7 @@ ghost use Rattle.flurry_c.specs.WordAnswers.{pairs_of, value_of, Tells, KeepsOrA
 ghost use Rattle.flurry_c.specs.declared.statuses.TheConstants.{DONE, NO_MEMORY};
 
 use crate::statuses::{ABSENT, DONE, NO_MEMORY, PRESENT};
-use crate::words::Words;
+use flurry_c_base::words::Words;
 
 /// Inserts a pair. Writes the value that the key had to `old` and returns [`PRESENT`], or returns [`ABSENT`] and writes nothing.
 ///

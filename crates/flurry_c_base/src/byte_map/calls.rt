@@ -1,0 +1,82 @@
+//! The calls of one key. Each copies the key first.
+ghost use Rattle.std.specs.Prelude.{◌≡◌, IfOk, OnErr, is_some};
+ghost use Rattle.std.specs.Option.{option_map};
+ghost use Rattle.flurry_base.specs.FiniteMap.{value_at, with_pair, without};
+ghost use Rattle.flurry_c_base.specs.ByteMaps.{bytes_in, KeepsOrAdds};
+ghost use Rattle.flurry_c_base.specs.ByteStrings.{byte_order};
+
+use super::ByteMap;
+use std::alloc::{AllocError, Global};
+
+impl ByteMap {
+    /// Returns the bytes of the value of `key`, or `None` if it is absent.
+    ///
+    /// # Errors
+    ///
+    /// Returns [`AllocError`] if memory for a copy of the key cannot be allocated.
+    #[tactic(auto, using(crate::proofs::ByteLaws::value_at_bytes))]
+    pub fn get(&self, alloc: Global, key: &[u8]) -> Result<Option<&[u8]>, AllocError>
+        ensures { IfOk result
+            (λ found. option_map (λ v. v.now) found ≡ value_at byte_order (bytes_in self.now) key.now) }
+    {
+        let key = key.to_vec(alloc)?;
+        match self.map.get(&key) {
+            Some(found) => Ok(Some(found.as_slice())),
+            None => Ok(None),
+        }
+    }
+
+    /// Inserts a copy of the pair, and returns `true` if `key` was present, whose value is replaced.
+    ///
+    /// # Errors
+    ///
+    /// Returns [`AllocError`] if memory cannot be allocated, or if the key is new and the map has as many pairs as it can. The map is
+    /// unchanged.
+    #[tactic(auto, using(crate::proofs::ByteLaws::value_at_bytes, crate::proofs::ByteLaws::with_pair_bytes))]
+    pub fn insert(&mut self, alloc: Global, key: &[u8], value: &[u8]) -> Result<bool, AllocError>
+        ensures found { IfOk result (λ found. found ≡ is_some (value_at byte_order (bytes_in self.old) key.now)) }
+        ensures pairs { IfOk result
+            (λ _. bytes_in self.new ≡ with_pair byte_order (bytes_in self.old) key.now value.now) }
+        ensures err { OnErr result (self.new ≡ self.old) }
+    {
+        let key = key.to_vec(alloc)?;
+        let value = value.to_vec(alloc)?;
+        Ok(self.map.insert(key, value)?.is_some())
+    }
+
+    /// Inserts a copy of the pair if `key` is absent. Returns `true` if it was present, and so nothing changed.
+    ///
+    /// # Errors
+    ///
+    /// Returns [`AllocError`] as [`ByteMap::insert`] does.
+    #[tactic(auto, using(crate::proofs::ByteLaws::value_at_bytes, crate::proofs::ByteLaws::with_pair_bytes))]
+    pub fn try_insert(
+        &mut self,
+        alloc: Global,
+        key: &[u8],
+        value: &[u8],
+    ) -> Result<bool, AllocError>
+        ensures found { IfOk result (λ found. found ≡ is_some (value_at byte_order (bytes_in self.old) key.now)) }
+        ensures pairs { IfOk result (λ _. KeepsOrAdds (bytes_in self.old) key.now value.now (bytes_in self.new)) }
+        ensures err { OnErr result (self.new ≡ self.old) }
+    {
+        let key = key.to_vec(alloc)?;
+        let value = value.to_vec(alloc)?;
+        Ok(self.map.try_insert(key, value)?.is_err())
+    }
+
+    /// Removes the pair of `key`, and returns `true` if there was one.
+    ///
+    /// # Errors
+    ///
+    /// Returns [`AllocError`] if memory for a copy of the key cannot be allocated. The map is unchanged.
+    #[tactic(auto, using(crate::proofs::ByteLaws::value_at_bytes, crate::proofs::ByteLaws::without_bytes))]
+    pub fn remove(&mut self, alloc: Global, key: &[u8]) -> Result<bool, AllocError>
+        ensures found { IfOk result (λ found. found ≡ is_some (value_at byte_order (bytes_in self.old) key.now)) }
+        ensures pairs { IfOk result (λ _. bytes_in self.new ≡ without byte_order (bytes_in self.old) key.now) }
+        ensures err { OnErr result (self.new ≡ self.old) }
+    {
+        let key = key.to_vec(alloc)?;
+        Ok(self.map.remove(&key).is_some())
+    }
+}
