@@ -1,21 +1,22 @@
-/* Maps of one owner, proved: see README. Link lib/libflurry.a.
+/* Maps and sets of one owner, proved: see README. Link lib/libflurry.a.
  *
- * Each function does to the finite map what is said of it here. That is proved for callers that keep the duties below; nothing checks that
+ * Each function does to the finite map or set what is said of it here. That is proved for callers that keep the duties below; nothing checks that
  * they do:
  *
- *   - A `flurry_words *` points to a struct in which flurry_words_new said FLURRY_DONE, a `flurry_bytes *` to one of flurry_bytes_new.
- *     Nobody else writes to it. It may be copied to another place, but is then used at that place alone, and is freed once. After
- *     flurry_.._free nothing is done with it.
- *   - A map is used by one call at a time; calls that only read count too. Threads that share one take turns by a lock of their own. Any
- *     thread may make, use and free a map.
+ *   - A `flurry_words *` points to a struct in which flurry_words_new said FLURRY_DONE, a `flurry_bytes *` to one of flurry_bytes_new, a
+ *     `flurry_word_set *` to one of flurry_word_set_new, and a `flurry_byte_set *` to one of flurry_byte_set_new. Nobody else writes to
+ *     it. It may be copied to another place, but is then used at that place alone, and is freed once. After flurry_.._free nothing is done
+ *     with it.
+ *   - A map or a set is used by one call at a time; calls that only read count too. Threads that share one take turns by a lock of their
+ *     own. Any thread may make, use and free one.
  *   - A pointer to a number, or to a buffer of `len` items, is valid for the call: nobody else writes there, and nobody reads what a call
- *     writes. Numbers, buffers and the struct of the map do not overlap. A buffer of no items may be null.
+ *     writes. Numbers, buffers and the struct of the map or set do not overlap. A buffer of no items may be null.
  *   - A buffer is aligned as its type is, and has fewer than 2^63 bytes.
  *   - malloc, realloc and free are of one allocator, and align a block to each power of two up to 16 that divides its size.
  *   - No function is called from a signal handler, or in the child after a fork of a process with threads.
  *
- * No function ends the process or waits. Where memory cannot be allocated, a function says FLURRY_NO_MEMORY, and the map is as it was.
- * Keys of the default hasher are not protected against a choice of keys that collide; a bin of many is a tree, so a call then takes
+ * No function ends the process or waits. Where memory cannot be allocated, a function says FLURRY_NO_MEMORY, and the map or set is as
+ * it was. Keys and elements of the default hasher are not protected against a choice of those that collide; a bin of many is a tree, so a call then takes
  * logarithmic time.
  */
 #ifndef FLURRY_H
@@ -32,8 +33,8 @@ extern "C" {
 /* What a function says. */
 typedef uint8_t flurry_status;
 enum {
-    FLURRY_ABSENT = 0,    /* the key was absent */
-    FLURRY_PRESENT = 1,   /* the key was present */
+    FLURRY_ABSENT = 0,    /* the key or element was absent */
+    FLURRY_PRESENT = 1,   /* the key or element was present */
     FLURRY_DONE = 2,      /* the call did what it is for */
     FLURRY_NO_MEMORY = 3, /* memory could not be allocated */
     FLURRY_NO_ROOM = 4    /* a buffer is too small */
@@ -146,6 +147,87 @@ size_t flurry_bytes_size(flurry_bytes *bytes);
  * its value, pair after pair in the same order, without gaps. If `len` is less than flurry_bytes_len says, or `room` less than
  * flurry_bytes_size, says FLURRY_NO_ROOM and writes nothing. */
 flurry_status flurry_bytes_pairs(flurry_bytes *bytes, flurry_byte_pair *pairs, size_t len, void *text, size_t room);
+
+/* ---- Sets of numbers ---- */
+
+/* The set: the address of what it owns. */
+typedef struct flurry_word_set {
+    void *at;
+} flurry_word_set;
+
+/* Makes an empty set in `set` and says FLURRY_DONE; or FLURRY_NO_MEMORY, and `set` is as it was. No set may be there before, since it would
+ * be lost; what else is there does not matter. */
+flurry_status flurry_word_set_new(flurry_word_set *set);
+
+/* Frees the set. */
+void flurry_word_set_free(flurry_word_set set);
+
+/* The number of elements. */
+size_t flurry_word_set_len(flurry_word_set *set);
+
+/* Whether the element is present. */
+bool flurry_word_set_contains(flurry_word_set *set, uint64_t element);
+
+/* Inserts an element, and says FLURRY_ABSENT, since it was absent. If it was present, says FLURRY_PRESENT; nothing changed. Says
+ * FLURRY_NO_MEMORY if memory cannot be allocated, or if the element is new and the set has as many elements as it can: nothing changed. */
+flurry_status flurry_word_set_insert(flurry_word_set *set, uint64_t element);
+
+/* Removes the element, and says FLURRY_PRESENT; or FLURRY_ABSENT. */
+flurry_status flurry_word_set_remove(flurry_word_set *set, uint64_t element);
+
+/* Removes all elements. The set keeps the memory of its table. */
+void flurry_word_set_clear(flurry_word_set *set);
+
+/* Makes room in the table for so many more elements, and says FLURRY_DONE; or FLURRY_NO_MEMORY. The elements stay. An insertion still
+ * allocates for its element. */
+flurry_status flurry_word_set_reserve(flurry_word_set *set, size_t additional);
+
+/* Writes all elements, each once, in no order that is promised, to the first places of `elements`, which has `len` places, and says
+ * FLURRY_DONE. If the set has more than `len` elements, says FLURRY_NO_ROOM and writes nothing. */
+flurry_status flurry_word_set_elements(flurry_word_set *set, uint64_t *elements, size_t len);
+
+/* ---- Sets of byte strings ----
+ *
+ * An element is any number of bytes, also none. The set keeps copies. Each call of one element copies it first, and so can say
+ * FLURRY_NO_MEMORY: nothing changed then. */
+
+typedef struct flurry_byte_set {
+    void *at;
+} flurry_byte_set;
+
+/* Makes an empty set in `set`, as flurry_word_set_new does. */
+flurry_status flurry_byte_set_new(flurry_byte_set *set);
+
+/* Frees the set, with its elements. */
+void flurry_byte_set_free(flurry_byte_set set);
+
+/* The number of elements. */
+size_t flurry_byte_set_len(flurry_byte_set *set);
+
+/* Says FLURRY_PRESENT or FLURRY_ABSENT. */
+flurry_status flurry_byte_set_contains(flurry_byte_set *set, const void *element, size_t element_len);
+
+/* Inserts an element, and says FLURRY_ABSENT, since it was absent. If it was present, says FLURRY_PRESENT; nothing changed. Says
+ * FLURRY_NO_MEMORY also if the element is new and the set has as many elements as it can. */
+flurry_status flurry_byte_set_insert(flurry_byte_set *set, const void *element, size_t element_len);
+
+/* Removes the element, and says FLURRY_PRESENT; or FLURRY_ABSENT. */
+flurry_status flurry_byte_set_remove(flurry_byte_set *set, const void *element, size_t element_len);
+
+/* Removes all elements. The set keeps the memory of its table. */
+void flurry_byte_set_clear(flurry_byte_set *set);
+
+/* As flurry_word_set_reserve. */
+flurry_status flurry_byte_set_reserve(flurry_byte_set *set, size_t additional);
+
+/* How many bytes all elements have together; SIZE_MAX if they have more. */
+size_t flurry_byte_set_size(flurry_byte_set *set);
+
+/* Writes all elements, each once, in no order that is promised, and says FLURRY_DONE: to the first places of `lengths`, which has `len`
+ * places, how many bytes each element has; and to the beginning of `text`, which has room for `room` bytes, element after element in the
+ * same order, without gaps. If `len` is less than flurry_byte_set_len says, or `room` less than flurry_byte_set_size, says FLURRY_NO_ROOM
+ * and writes nothing. */
+flurry_status flurry_byte_set_elements(flurry_byte_set *set, size_t *lengths, size_t len, void *text, size_t room);
 
 #ifdef __cplusplus
 }

@@ -1,4 +1,4 @@
--- What C is told of a key.
+-- What C is told of a key or an element.
 use Rattle.std.specs.Prelude.{◌≡◌, ℕ, Option, MatchOption}
 use Rattle.flurry_c.specs.declared.statuses.TheConstants.{ABSENT, PRESENT}
 

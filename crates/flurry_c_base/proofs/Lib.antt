@@ -1,4 +1,6 @@
 pub mod BufferLaws
 pub mod ByteLaws
+pub mod ByteSetLaws
 pub mod ByteWalkLaws
+pub mod SetInsertionLaws
 pub mod Walk

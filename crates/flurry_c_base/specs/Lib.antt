@@ -1,8 +1,13 @@
 pub mod Buffers
 pub mod ByteMaps
+pub mod ByteSetWalks
+pub mod ByteSets
 pub mod ByteStrings
 pub mod ByteWalks
 pub mod Lent
 pub mod Owned
+pub mod SetInsertions
+pub mod WordSetWalks
 pub mod WordWalks
-pub use Rattle.flurry_seq.specs.FiniteMap
+pub use Rattle.flurry_seq_set.specs.FiniteMap
+pub use Rattle.flurry_seq_set.specs.FiniteSet

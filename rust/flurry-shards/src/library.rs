@@ -1,4 +1,4 @@
-//! The functions of libflurry.a, as `include/flurry.h` declares them, and the maps behind them. All `unsafe` of this crate is here.
+//! The functions of libflurry.a for maps, as `include/flurry.h` declares them, and the maps behind them. All `unsafe` of this crate is here.
 
 use crate::OutOfMemory;
 use std::ffi::c_void;

@@ -1,0 +1,69 @@
+//! Sets of numbers: calls that change them.
+ghost use Rattle.std.specs.Ordering.{nat_cmp};
+ghost use Rattle.std.specs.Prelude.{◌≡◌, ◌⊎◌, []};
+ghost use Rattle.flurry_base.specs.FiniteSet.{without_element};
+ghost use Rattle.flurry_base.specs.Sizes.{IsGrown};
+ghost use Rattle.flurry_seq.specs.Contents.{first_bins};
+ghost use Rattle.flurry_seq_set.specs.SetContents.{asked_for};
+ghost use Rattle.flurry_c_base.specs.SetInsertions.{AddsOrKeeps};
+ghost use Rattle.flurry_c.specs.Presence.{Finds};
+ghost use Rattle.flurry_c.specs.WordSetAnswers.{elements_of, found_in};
+ghost use Rattle.flurry_c.specs.declared.statuses.TheConstants.{DONE, NO_MEMORY};
+
+use crate::statuses::{ABSENT, DONE, NO_MEMORY, PRESENT};
+use flurry_c_base::held_word_set::HeldWordSet;
+
+/// Inserts an element, and returns [`ABSENT`]. If it is present, nothing changes, and [`PRESENT`] is returned.
+///
+/// Returns [`NO_MEMORY`] if memory cannot be allocated, or if the element is new and the set has as many elements as it can. The set is
+/// unchanged then.
+#[unsafe(no_mangle)]
+pub extern "C" fn flurry_word_set_insert(set: &mut HeldWordSet, element: u64) -> u8
+    ensures { ((result ≡ NO_MEMORY) × (set.new.set ≡ set.old.set))
+        ⊎ (Finds (found_in set.old element) result
+        × AddsOrKeeps nat_cmp (elements_of set.old) element (elements_of set.new)) }
+{
+    match set.lend().insert(element) {
+        Ok(true) => ABSENT,
+        Ok(false) => PRESENT,
+        Err(_) => NO_MEMORY,
+    }
+}
+
+/// Removes the element, and returns [`PRESENT`], or [`ABSENT`] if there was none.
+#[unsafe(no_mangle)]
+pub extern "C" fn flurry_word_set_remove(set: &mut HeldWordSet, element: u64) -> u8
+    ensures found { Finds (found_in set.old element) result }
+    ensures elements { elements_of set.new ≡ without_element nat_cmp (elements_of set.old) element }
+{
+    if set.lend().set.remove(&element) {
+        PRESENT
+    } else {
+        ABSENT
+    }
+}
+
+/// Removes all elements. The set keeps the memory of its table.
+#[unsafe(no_mangle)]
+pub extern "C" fn flurry_word_set_clear(set: &mut HeldWordSet)
+    ensures elements { elements_of set.new ≡ [] }
+    ensures bins { set.new.set.set.bins ≡ set.old.set.set.bins }
+{
+    set.lend().set.clear();
+}
+
+/// Makes room in the table for `additional` more elements, and returns [`DONE`]. The elements stay.
+///
+/// Returns [`NO_MEMORY`] if memory cannot be allocated.
+#[unsafe(no_mangle)]
+pub extern "C" fn flurry_word_set_reserve(set: &mut HeldWordSet, additional: usize) -> u8
+    ensures elements { elements_of set.new ≡ elements_of set.old }
+    ensures room { (result ≡ NO_MEMORY) ⊎ ((result ≡ DONE)
+        × (let old = set.old.set.set in let bins = asked_for old additional in
+        IsGrown (first_bins old.bins bins) bins set.new.set.set.bins)) }
+{
+    match set.lend().set.reserve(additional) {
+        Ok(()) => DONE,
+        Err(_) => NO_MEMORY,
+    }
+}
