@@ -1,47 +1,8 @@
 /* Calls of which each request for memory is refused in turn: the first, then the second, until the call has all that it asks for. After
- * each refusal the map is as it was, and at the end no block is left. Linked with -Wl,--wrap=malloc,--wrap=realloc,--wrap=free. */
+ * each refusal the map or set is as it was, and at the end no block is left. */
 #include "flurry.h"
-#include <stdio.h>
-#include <stdlib.h>
+#include "requests.h"
 #include <string.h>
-
-#define CHECK(holds) ((holds) ? (void)0 : (printf("line %d: %s does not hold\n", __LINE__, #holds), exit(1)))
-
-void *__real_malloc(size_t size);
-void *__real_realloc(void *at, size_t size);
-void __real_free(void *at);
-
-static long refuse_after = -1, blocks, refusals;
-
-static int refuses(void) {
-    if (refuse_after < 0) return 0;
-    if (refuse_after-- > 0) return 0;
-    refusals++;
-    return 1;
-}
-
-void *__wrap_malloc(size_t size) {
-    void *at = refuses() ? NULL : __real_malloc(size);
-    blocks += at != NULL;
-    return at;
-}
-
-void *__wrap_realloc(void *at, size_t size) {
-    void *moved = refuses() ? NULL : __real_realloc(at, size);
-    blocks += at == NULL && moved != NULL;
-    return moved;
-}
-
-void __wrap_free(void *at) {
-    blocks -= at != NULL;
-    __real_free(at);
-}
-
-static uint64_t draw(uint64_t below) {
-    static uint64_t seed = 1;
-    seed = seed * 6364136223846793005u + 1442695040888963407u;
-    return (seed >> 33) % below;
-}
 
 enum { KEYS = 301, MOST = 300, CALLS = 4000 };
 
@@ -156,9 +117,76 @@ static void of_bytes(void) {
     flurry_bytes_free(map);
 }
 
+static int elements[KEYS];
+
+static void of_number_set(void) {
+    flurry_word_set set;
+    flurry_status status;
+    size_t count = 0;
+    IN_TURN(status, flurry_word_set_new(&set), 1);
+    for (int call = 0; call < CALLS; call++) {
+        uint64_t element = draw(KEYS);
+        int was = elements[element], kind = (int)draw(8);
+#define SAME_NUMBERS (flurry_word_set_contains(&set, element) == elements[element] && flurry_word_set_len(&set) == count)
+        if (kind < 5) {
+            IN_TURN(status, flurry_word_set_insert(&set, element), SAME_NUMBERS);
+        } else if (kind == 5) {
+            IN_TURN(status, flurry_word_set_reserve(&set, draw(2000)), SAME_NUMBERS);
+            CHECK(status == FLURRY_DONE && SAME_NUMBERS);
+            continue;
+        } else {
+            refuse_after = 0; /* a removal asks for no memory */
+            status = flurry_word_set_remove(&set, element);
+            CHECK(refuse_after == 0);
+            refuse_after = -1;
+        }
+        CHECK(status == (was ? FLURRY_PRESENT : FLURRY_ABSENT));
+        elements[element] = kind < 5;
+        count += elements[element] - was;
+        CHECK(SAME_NUMBERS);
+    }
+    for (uint64_t element = 0; element < KEYS; element++) CHECK(flurry_word_set_contains(&set, element) == elements[element]);
+    flurry_word_set_free(set);
+}
+
+static int strings[KEYS];
+
+static void of_byte_set(void) {
+    flurry_byte_set set;
+    flurry_status status;
+    size_t count = 0;
+    IN_TURN(status, flurry_byte_set_new(&set), 1);
+    for (int call = 0; call < CALLS; call++) {
+        unsigned char element[MOST];
+        uint64_t number = draw(KEYS);
+        size_t len = key_of(number, element);
+        int was = strings[number], kind = (int)draw(8);
+#define SAME_STRINGS \
+    (flurry_byte_set_contains(&set, element, len) == (strings[number] ? FLURRY_PRESENT : FLURRY_ABSENT) && flurry_byte_set_len(&set) == count)
+        if (kind < 4) {
+            IN_TURN(status, flurry_byte_set_insert(&set, element, len), SAME_STRINGS);
+        } else if (kind == 4) {
+            IN_TURN(status, flurry_byte_set_contains(&set, element, len), SAME_STRINGS);
+        } else if (kind == 5) {
+            IN_TURN(status, flurry_byte_set_reserve(&set, draw(2000)), SAME_STRINGS);
+            CHECK(status == FLURRY_DONE && SAME_STRINGS);
+            continue;
+        } else {
+            IN_TURN(status, flurry_byte_set_remove(&set, element, len), SAME_STRINGS);
+        }
+        CHECK(status == (was ? FLURRY_PRESENT : FLURRY_ABSENT));
+        strings[number] = kind < 4 || (kind == 4 && was);
+        count += strings[number] - was;
+        CHECK(SAME_STRINGS);
+    }
+    flurry_byte_set_free(set);
+}
+
 int main(void) {
     of_numbers();
     of_bytes();
-    printf("%d calls, %ld refusals, %ld blocks left\n", 2 * CALLS, refusals, blocks);
+    of_number_set();
+    of_byte_set();
+    printf("%d calls, %ld refusals, %ld blocks left\n", 4 * CALLS, refusals, blocks);
     return blocks != 0;
 }

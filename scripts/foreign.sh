@@ -2,8 +2,9 @@
 # Tries libflurry.a from C and from Rust, over what `./flurry-c` leaves. Says what is not tried, where there is no `cc` or no `cargo`. Each
 # fault is told, and the status is then 1.
 #
-# In C: the names in the header; the example of README, also as C++; and calls of which each request for memory is refused in turn, under
-# the address sanitizer. In Rust: the tests of rust/flurry-shards and the examples in its comments.
+# In C: the names in the header; the example of README, also as C++; and, under the address sanitizer, calls of which each request for
+# memory is refused in turn, and random calls of sets beside arrays of flags. In Rust: the tests of rust/flurry-shards and the examples in
+# its comments.
 set -euo pipefail
 
 here=$(CDPATH='' cd -- "$(dirname -- "$(readlink -f -- "${BASH_SOURCE[0]}")")/.." && pwd -P)
@@ -41,12 +42,13 @@ try_example() {
     fi
 }
 
-try_refusals() {
+# try_test NAME: c/NAME.c under the address sanitizer, with its requests for memory counted.
+try_test() {
     local -a words=(-std=c11 -g -O1 -Wall -Wextra -Werror -Ilib '-Wl,--wrap=malloc' '-Wl,--wrap=realloc' '-Wl,--wrap=free')
-    if ! cc "${words[@]}" -fsanitize=address,undefined -fno-sanitize-recover c/refused.c lib/libflurry.a -o "$room/refused"; then
-        fault "c/refused.c does not compile"
-    elif ! "$room/refused"; then
-        fault "c/refused.c found a fault"
+    if ! cc "${words[@]}" -fsanitize=address,undefined -fno-sanitize-recover "c/$1.c" lib/libflurry.a -o "$room/$1"; then
+        fault "c/$1.c does not compile"
+    elif ! "$room/$1"; then
+        fault "c/$1.c found a fault"
     fi
 }
 
@@ -54,7 +56,8 @@ try_refusals() {
 if command -v cc >/dev/null 2>&1; then
     try_names
     try_example
-    try_refusals
+    try_test refused
+    try_test sets
 else
     echo "foreign: there is no 'cc', so nothing was tried in C" >&2
 fi

@@ -1,0 +1,43 @@
+/* For tests: requests for memory, one of which is refused where a test asks for that, and how many blocks are not given back; draws; and a
+ * check. Linked with -Wl,--wrap=malloc,--wrap=realloc,--wrap=free. */
+#include <stdint.h>
+#include <stdio.h>
+#include <stdlib.h>
+
+#define CHECK(holds) ((holds) ? (void)0 : (printf("line %d: %s does not hold\n", __LINE__, #holds), exit(1)))
+
+void *__real_malloc(size_t size);
+void *__real_realloc(void *at, size_t size);
+void __real_free(void *at);
+
+static long refuse_after = -1, blocks, refusals;
+
+static int refuses(void) {
+    if (refuse_after < 0) return 0;
+    if (refuse_after-- > 0) return 0;
+    refusals++;
+    return 1;
+}
+
+void *__wrap_malloc(size_t size) {
+    void *at = refuses() ? NULL : __real_malloc(size);
+    blocks += at != NULL;
+    return at;
+}
+
+void *__wrap_realloc(void *at, size_t size) {
+    void *moved = refuses() ? NULL : __real_realloc(at, size);
+    blocks += at == NULL && moved != NULL;
+    return moved;
+}
+
+void __wrap_free(void *at) {
+    blocks -= at != NULL;
+    __real_free(at);
+}
+
+static uint64_t draw(uint64_t below) {
+    static uint64_t seed = 1;
+    seed = seed * 6364136223846793005u + 1442695040888963407u;
+    return (seed >> 33) % below;
+}
