@@ -2,7 +2,7 @@
 ghost use Rattle.std.specs.Prelude.{◌≡◌, ◌⊎◌, []};
 ghost use Rattle.flurry_base.specs.FiniteSet.{without_element};
 ghost use Rattle.flurry_base.specs.Sizes.{IsGrown};
-ghost use Rattle.flurry_seq.specs.Contents.{first_bins};
+ghost use Rattle.flurry_seq.specs.Contents.{first_bins, IsLeftByReserve};
 ghost use Rattle.flurry_seq_set.specs.SetContents.{asked_for};
 ghost use Rattle.flurry_c_base.specs.ByteStrings.{byte_order};
 ghost use Rattle.flurry_c_base.specs.SetInsertions.{AddsOrKeeps};
@@ -59,13 +59,13 @@ pub extern "C" fn flurry_byte_set_clear(set: &mut HeldByteSet)
 
 /// Makes room in the table for `additional` more elements, and returns [`DONE`]. The elements stay.
 ///
-/// Returns [`NO_MEMORY`] if memory cannot be allocated.
+/// Returns [`NO_MEMORY`] if memory cannot be allocated. The table is then as it was, or was doubled some times on the way.
 #[unsafe(no_mangle)]
 pub extern "C" fn flurry_byte_set_reserve(set: &mut HeldByteSet, additional: usize) -> u8
     ensures elements { elements_of set.new ≡ elements_of set.old }
-    ensures room { (result ≡ NO_MEMORY) ⊎ ((result ≡ DONE)
-        × (let old = set.old.set.set in let bins = asked_for old additional in
-        IsGrown (first_bins old.bins bins) bins set.new.set.set.bins)) }
+    ensures room { let old = set.old.set.set in let bins = asked_for old additional in
+        ((result ≡ NO_MEMORY) × IsLeftByReserve old.bins bins set.new.set.set.bins)
+        ⊎ ((result ≡ DONE) × IsGrown (first_bins old.bins bins) bins set.new.set.set.bins) }
 {
     match set.lend().set.reserve(additional) {
         Ok(()) => DONE,

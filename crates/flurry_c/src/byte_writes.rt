@@ -2,7 +2,7 @@
 ghost use Rattle.std.specs.Prelude.{◌≡◌, ◌⊎◌, []};
 ghost use Rattle.flurry_base.specs.FiniteMap.{with_pair, without};
 ghost use Rattle.flurry_base.specs.Sizes.{IsGrown};
-ghost use Rattle.flurry_seq.specs.Contents.{asked_for, first_bins};
+ghost use Rattle.flurry_seq.specs.Contents.{asked_for, first_bins, IsLeftByReserve};
 ghost use Rattle.flurry_c_base.specs.ByteMaps.{KeepsOrAdds};
 ghost use Rattle.flurry_c_base.specs.ByteStrings.{byte_order};
 ghost use Rattle.flurry_c.specs.ByteAnswers.{pairs_of, value_of};
@@ -82,13 +82,13 @@ pub extern "C" fn flurry_bytes_clear(bytes: &mut Bytes)
 
 /// Makes room in the table for `additional` more pairs, and returns [`DONE`]. The pairs stay.
 ///
-/// Returns [`NO_MEMORY`] if memory cannot be allocated.
+/// Returns [`NO_MEMORY`] if memory cannot be allocated. The table is then as it was, or was doubled some times on the way.
 #[unsafe(no_mangle)]
 pub extern "C" fn flurry_bytes_reserve(bytes: &mut Bytes, additional: usize) -> u8
     ensures pairs { pairs_of bytes.new ≡ pairs_of bytes.old }
-    ensures room { (result ≡ NO_MEMORY) ⊎ ((result ≡ DONE)
-        × (let old = bytes.old.map.map in let bins = asked_for old additional in
-        IsGrown (first_bins old.bins bins) bins bytes.new.map.map.bins)) }
+    ensures room { let old = bytes.old.map.map in let bins = asked_for old additional in
+        ((result ≡ NO_MEMORY) × IsLeftByReserve old.bins bins bytes.new.map.map.bins)
+        ⊎ ((result ≡ DONE) × IsGrown (first_bins old.bins bins) bins bytes.new.map.map.bins) }
 {
     match bytes.lend().map.reserve(additional) {
         Ok(()) => DONE,

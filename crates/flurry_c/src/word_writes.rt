@@ -3,7 +3,7 @@ ghost use Rattle.std.specs.Prelude.{◌≡◌, ◌⊎◌, []};
 ghost use Rattle.std.specs.Ordering.{nat_cmp};
 ghost use Rattle.flurry_base.specs.FiniteMap.{with_pair, without};
 ghost use Rattle.flurry_base.specs.Sizes.{IsGrown};
-ghost use Rattle.flurry_seq.specs.Contents.{asked_for, first_bins};
+ghost use Rattle.flurry_seq.specs.Contents.{asked_for, first_bins, IsLeftByReserve};
 ghost use Rattle.flurry_c.specs.WordAnswers.{pairs_of, value_of, Tells, KeepsOrAdds};
 ghost use Rattle.flurry_c.specs.declared.statuses.TheConstants.{DONE, NO_MEMORY};
 
@@ -80,13 +80,13 @@ pub extern "C" fn flurry_words_clear(words: &mut Words)
 
 /// Makes room for `additional` more pairs, and returns [`DONE`]. The pairs stay.
 ///
-/// Returns [`NO_MEMORY`] if memory cannot be allocated.
+/// Returns [`NO_MEMORY`] if memory cannot be allocated. The table is then as it was, or was doubled some times on the way.
 #[unsafe(no_mangle)]
 pub extern "C" fn flurry_words_reserve(words: &mut Words, additional: usize) -> u8
     ensures pairs { pairs_of words.new ≡ pairs_of words.old }
-    ensures room { (result ≡ NO_MEMORY) ⊎ ((result ≡ DONE)
-        × (let old = words.old.map.map in let bins = asked_for old additional in
-        IsGrown (first_bins old.bins bins) bins words.new.map.map.bins)) }
+    ensures room { let old = words.old.map.map in let bins = asked_for old additional in
+        ((result ≡ NO_MEMORY) × IsLeftByReserve old.bins bins words.new.map.map.bins)
+        ⊎ ((result ≡ DONE) × IsGrown (first_bins old.bins bins) bins words.new.map.map.bins) }
 {
     match words.lend().map.reserve(additional) {
         Ok(()) => DONE,
