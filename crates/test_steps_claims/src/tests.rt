@@ -1,7 +1,16 @@
-//! Tests of the boards of a growth.
+//! Tests of the boards of a growth, and what they share.
 
 mod boards;
 mod helpers;
 mod memory;
 mod plain_board;
 mod threads;
+
+use std::fmt::Debug;
+use std::process::Abort;
+
+// Asserts that a value is the expected one. A test with many assertions calls this, because each `assert_eq!` in its own body makes its
+// proof longer.
+fn assert_same<T: PartialEq + Debug + Drop>(rt: &impl Abort, seen: T, wanted: T) {
+    assert_eq!(rt; seen, wanted);
+}

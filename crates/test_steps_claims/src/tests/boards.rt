@@ -2,6 +2,7 @@
 ghost use Rattle.std.specs.Prelude.{◌≤◌};
 ghost use Rattle.flurry_steps_claims.specs.ClaimBoard.{IsSeatOf};
 
+use super::assert_same;
 use flurry_steps_claims::{Attempt, ClaimBoard, Seat};
 use std::alloc::{AllocError, Global};
 use std::process::Abort;
@@ -15,7 +16,7 @@ fn next(rt: &impl Abort, board: &ClaimBoard, seat: &mut Seat) -> Option<(usize, 
     match board.try_claim(seat) {
         Attempt::Got(range) => {
             let bins = (range.low(), range.high());
-            assert_eq!(rt; range.table(), board.table());
+            assert_same(rt, range.table(), board.table());
             Some((bins.0, bins.1, board.report(seat, range)))
         }
         Attempt::Lost => panic!(rt; "nobody else claims"),
@@ -28,12 +29,12 @@ fn four_ranges_of_64_bins(rt: HostRuntime) -> Result<(), Fail> {
     let (board, mut seats) = ClaimBoard::new(rt.alloc(), 6, 2, 8)?;
     assert_eq!(rt; seats.len(), 8);
     let seat = &mut seats[0];
-    assert_eq!(rt; next(&rt, &board, seat), Some((48, 64, false)));
-    assert_eq!(rt; next(&rt, &board, seat), Some((32, 48, false)));
-    assert_eq!(rt; next(&rt, &board, seat), Some((16, 32, false)));
-    assert_eq!(rt; next(&rt, &board, seat), Some((0, 16, true)));
-    assert_eq!(rt; next(&rt, &board, seat), None);
-    assert_eq!(rt; next(&rt, &board, seat), None);
+    assert_same(&rt, next(&rt, &board, seat), Some((48, 64, false)));
+    assert_same(&rt, next(&rt, &board, seat), Some((32, 48, false)));
+    assert_same(&rt, next(&rt, &board, seat), Some((16, 32, false)));
+    assert_same(&rt, next(&rt, &board, seat), Some((0, 16, true)));
+    assert_same(&rt, next(&rt, &board, seat), None);
+    assert_same(&rt, next(&rt, &board, seat), None);
     Ok(())
 }
 
@@ -106,7 +107,7 @@ fn tables_are_cut_by_their_strides(rt: HostRuntime) -> Result<(), Fail> {
             first,
             last,
         };
-        assert_eq!(rt; how_cut(&rt, rt.alloc(), table, processors)?, wanted);
+        assert_same(&rt, how_cut(&rt, rt.alloc(), table, processors)?, wanted);
     }
     Ok(())
 }
@@ -114,9 +115,13 @@ fn tables_are_cut_by_their_strides(rt: HostRuntime) -> Result<(), Fail> {
 #[test]
 fn the_largest_table_has_ranges(rt: HostRuntime) -> Result<(), Fail> {
     let (board, mut seats) = ClaimBoard::new(rt.alloc(), 30, 1, 1)?;
-    assert_eq!(rt; next(&rt, &board, &mut seats[0]), Some((0, 1 << 30, true)));
+    assert_same(
+        &rt,
+        next(&rt, &board, &mut seats[0]),
+        Some((0, 1 << 30, true)),
+    );
     let (board, mut seats) = ClaimBoard::new(rt.alloc(), 30, 8, 1)?;
     let top = next(&rt, &board, &mut seats[0]);
-    assert_eq!(rt; top, Some(((1 << 30) - (1 << 24), 1 << 30, false)));
+    assert_same(&rt, top, Some(((1 << 30) - (1 << 24), 1 << 30, false)));
     Ok(())
 }

@@ -1,12 +1,18 @@
 //! Helpers that wait under a lock while no thread uses them.
 ghost use Rattle.std.specs.Prelude.{◌≤◌};
 
+use super::assert_same;
 use flurry_steps_claims::{Attempt, Helper, Helpers, Range, SEATS};
 use std::alloc::{AllocError, Allocator, Global};
 use std::process::Abort;
 use std::sync::Wait;
 use std::test::Fail;
 use std::thread::{self, Threads};
+
+// A helper that is left.
+fn taken<A: Allocator, R: Abort + Wait>(rt: &R, helpers: &Helpers<A>) -> Helper<A> {
+    helpers.take(rt).expect(rt, "a helper is left")
+}
 
 // The range that a helper claims.
 fn claimed(rt: &impl Abort, helper: &mut Helper) -> Range {
@@ -69,42 +75,65 @@ fn four_threads_share_the_helpers(rt: HostRuntime) -> Result<(), Fail> {
     let all = help_by_four(&rt, rt.alloc(), &helpers)?;
     assert_eq!(rt; all.len(), 32);
     for (place, low) in all.iter().enumerate() {
-        assert_eq!(rt; *low, 32 * place);
+        assert_same(&rt, *low, 32 * place);
     }
     Ok(())
 }
 
-#[test]
-fn eight_helpers_can_be_out(rt: HostRuntime) -> Result<(), Fail> {
-    let helpers = Helpers::new(rt.alloc(), 6, 2)?;
-    assert_eq!(rt; helpers.board().table(), 6);
-    let mut out = Vec::new(rt.alloc());
+// Takes each helper.
+fn take_all<A: Allocator, R: Abort + Wait>(
+    rt: &R,
+    alloc: Global,
+    helpers: &Helpers<A>,
+) -> Vec<Helper<A>> {
+    let mut out = Vec::new(alloc);
     for _ in 0..SEATS {
-        let Some(helper) = helpers.take(&rt) else {
-            panic!(rt; "a helper is left")
-        };
-        out.push(helper)?;
+        out.push(taken(rt, helpers)).expect(rt, "memory");
     }
-    assert!(rt; helpers.take(&rt).is_none());
+    out
+}
+
+// Gives helpers back.
+fn give_all<A: Allocator, R: Wait>(rt: &R, helpers: &Helpers<A>, out: Vec<Helper<A>>) {
     for helper in out {
-        helpers.give(&rt, helper);
+        helpers.give(rt, helper);
     }
-    assert!(rt; helpers.take(&rt).is_some());
-    Ok(())
 }
 
 #[test]
-fn helper_reports_its_range_alone(rt: HostRuntime) -> Result<(), Fail> {
-    let helpers = Helpers::new(rt.alloc(), 5, 2)?;
-    let (Some(mut one), Some(mut two)) = (helpers.take(&rt), helpers.take(&rt)) else {
-        panic!(rt; "two helpers are left")
-    };
-    let upper = claimed(&rt, &mut one);
-    let lower = claimed(&rt, &mut two);
-    assert_eq!(rt; (upper.low(), lower.low()), (16, 0));
-    assert!(rt; !two.report(upper));
-    assert!(rt; !two.report(lower));
-    Ok(())
+fn eight_helpers_can_be_out(rt: HostRuntime) {
+    let helpers = Helpers::new(rt.alloc(), 6, 2).expect(&rt, "memory");
+    assert_same(&rt, helpers.board().table(), 6);
+    let out = take_all(&rt, rt.alloc(), &helpers);
+    assert_same(&rt, helpers.take(&rt).is_none(), true);
+    give_all(&rt, &helpers, out);
+    assert_same(&rt, helpers.take(&rt).is_some(), true);
+}
+
+// Two helpers claim a range each, and one of them reports both.
+fn reports_its_own(rt: &impl Abort, one: &mut Helper, two: &mut Helper) {
+    let upper = claimed(rt, one);
+    let lower = claimed(rt, two);
+    assert_same(rt, (upper.low(), lower.low()), (16, 0));
+    assert_same(rt, two.report(upper), false);
+    assert_same(rt, two.report(lower), false);
+}
+
+#[test]
+fn helper_reports_its_range_alone(rt: HostRuntime) {
+    let helpers = Helpers::new(rt.alloc(), 5, 2).expect(&rt, "memory");
+    let mut one = taken(&rt, &helpers);
+    let mut two = taken(&rt, &helpers);
+    reports_its_own(&rt, &mut one, &mut two);
+}
+
+// Moves the three ranges that are left.
+fn moves_three(rt: &impl Abort, helper: &mut Helper) {
+    for is_last in [false, false, true] {
+        assert_same(rt, moves_one(helper), is_last);
+    }
+    let is_done = matches!(helper.try_claim(), Attempt::Nothing);
+    assert_same(rt, is_done, true);
 }
 
 #[test]
@@ -118,27 +147,15 @@ fn helper_goes_on_where_it_was(rt: HostRuntime) -> Result<(), Fail> {
     };
     assert!(rt; !helper.report(range));
     helpers.give(&rt, helper);
-    let Some(mut helper) = helpers.take(&rt) else {
-        panic!(rt; "a helper is left")
-    };
-    assert!(rt; !moves_one(&mut helper));
-    assert!(rt; !moves_one(&mut helper));
-    assert!(rt; moves_one(&mut helper));
-    assert!(rt; matches!(helper.try_claim(), Attempt::Nothing));
+    moves_three(&rt, &mut taken(&rt, &helpers));
     Ok(())
 }
 
 #[test]
-fn ninth_helper_is_dropped(rt: HostRuntime) -> Result<(), Fail> {
-    let helpers = Helpers::new(rt.alloc(), 5, 2)?;
-    let others = Helpers::new(rt.alloc(), 6, 2)?;
-    let Some(ninth) = others.take(&rt) else {
-        panic!(rt; "a helper is left")
-    };
-    helpers.give(&rt, ninth);
-    let Some(mut helper) = helpers.take(&rt) else {
-        panic!(rt; "a helper is left")
-    };
-    assert_eq!(rt; claimed(&rt, &mut helper).table(), 5);
-    Ok(())
+fn ninth_helper_is_dropped(rt: HostRuntime) {
+    let helpers = Helpers::new(rt.alloc(), 5, 2).expect(&rt, "memory");
+    let others = Helpers::new(rt.alloc(), 6, 2).expect(&rt, "memory");
+    helpers.give(&rt, taken(&rt, &others));
+    let range = claimed(&rt, &mut taken(&rt, &helpers));
+    assert_same(&rt, range.table(), 5);
 }

@@ -2,6 +2,7 @@
 ghost use Rattle.std.specs.Prelude.{◌≤◌};
 ghost use Rattle.flurry_steps_claims.specs.ClaimBoard.{IsSeatOf};
 
+use super::assert_same;
 use flurry_steps_claims::{Attempt, ClaimBoard, PlainBoard, Range, SEATS, Seat};
 use std::alloc::{AllocError, Global};
 use std::process::Abort;
@@ -45,7 +46,7 @@ fn table_of_one_range(rt: HostRuntime) {
         panic!(rt; "a range is left")
     };
     assert!(rt; board.report(range));
-    assert!(rt; !moves_one(&mut board));
+    assert_same(&rt, moves_one(&mut board), false);
 }
 
 #[test]
@@ -53,11 +54,11 @@ fn four_ranges_of_64_bins(rt: HostRuntime) {
     let mut board = PlainBoard::new(6, 2);
     for (number, low) in [(0, 48), (1, 32), (2, 16), (3, 0)] {
         let range = claimed(&rt, &mut board);
-        assert_eq!(rt; bins_of(&range), (6, number, low, low + 16));
-        assert_eq!(rt; board.report(range), low == 0);
+        assert_same(&rt, bins_of(&range), (6, number, low, low + 16));
+        assert_same(&rt, board.report(range), low == 0);
     }
-    assert!(rt; matches!(board.try_claim(), Attempt::Nothing));
-    assert!(rt; matches!(board.try_claim(), Attempt::Nothing));
+    assert_same(&rt, matches!(board.try_claim(), Attempt::Nothing), true);
+    assert_same(&rt, matches!(board.try_claim(), Attempt::Nothing), true);
 }
 
 #[test]
@@ -65,15 +66,15 @@ fn ranges_that_are_reported_in_another_order(rt: HostRuntime) {
     let mut board = PlainBoard::new(10, 3);
     let upper = claimed(&rt, &mut board);
     let second = claimed(&rt, &mut board);
-    assert_eq!(rt; bins_of(&second), (10, 1, 940, 982));
-    assert!(rt; !board.report(second));
-    assert!(rt; !board.report(upper));
+    assert_same(&rt, bins_of(&second), (10, 1, 940, 982));
+    assert_same(&rt, board.report(second), false);
+    assert_same(&rt, board.report(upper), false);
     for number in 2..25u64 {
         let range = claimed(&rt, &mut board);
-        assert_eq!(rt; range.number(), number);
-        assert_eq!(rt; board.report(range), number == 24);
+        assert_same(&rt, range.number(), number);
+        assert_same(&rt, board.report(range), number == 24);
     }
-    assert!(rt; matches!(board.try_claim(), Attempt::Nothing));
+    assert_same(&rt, matches!(board.try_claim(), Attempt::Nothing), true);
 }
 
 #[test]
@@ -81,10 +82,10 @@ fn range_of_another_board_is_not_reported(rt: HostRuntime) {
     let mut board = PlainBoard::new(5, 1);
     let mut smaller = PlainBoard::new(4, 1);
     let mut same = PlainBoard::new(5, 1);
-    assert!(rt; !board.report(claimed(&rt, &mut smaller)));
-    assert!(rt; !board.report(claimed(&rt, &mut same)));
+    assert_same(&rt, board.report(claimed(&rt, &mut smaller)), false);
+    assert_same(&rt, board.report(claimed(&rt, &mut same)), false);
     let range = claimed(&rt, &mut board);
-    assert!(rt; board.report(range));
+    assert_same(&rt, board.report(range), true);
 }
 
 #[test]
@@ -92,12 +93,12 @@ fn eight_seats_can_be_out(rt: HostRuntime) {
     let mut board = PlainBoard::new(4, 1);
     board.give_seat();
     for _ in 0..SEATS {
-        assert!(rt; board.take_seat());
+        assert_same(&rt, board.take_seat(), true);
     }
-    assert!(rt; !board.take_seat());
+    assert_same(&rt, board.take_seat(), false);
     board.give_seat();
-    assert!(rt; board.take_seat());
-    assert!(rt; !board.take_seat());
+    assert_same(&rt, board.take_seat(), true);
+    assert_same(&rt, board.take_seat(), false);
 }
 
 // Claims a range at both boards and reports it. Whether the ranges and the reports are alike; `None` if neither board has a range.
@@ -137,7 +138,7 @@ fn cut_alike(alloc: Global, table: u8, processors: usize) -> Result<bool, AllocE
 fn both_boards_cut_a_table_alike(rt: HostRuntime) -> Result<(), Fail> {
     for table in 0..11 {
         for processors in 0..6 {
-            assert!(rt; cut_alike(rt.alloc(), table, processors)?);
+            assert_same(&rt, cut_alike(rt.alloc(), table, processors)?, true);
         }
     }
     Ok(())

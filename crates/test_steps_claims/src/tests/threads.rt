@@ -1,6 +1,7 @@
 //! Threads that claim and report at one board.
 ghost use Rattle.flurry_steps_claims.specs.ClaimBoard.{IsSeatOf};
 
+use super::assert_same;
 use crate::pair::two_shares;
 use flurry_steps_claims::{Attempt, ClaimBoard, Seat};
 use std::alloc::{AllocError, Global};
@@ -66,10 +67,10 @@ fn moved_by_four<R: Threads + Sync>(
 fn four_threads_get_each_range_once(rt: HostRuntime) -> Result<(), Fail> {
     for _ in 0..1000 {
         let all = moved_by_four(&rt, rt.alloc(), 4)?;
-        assert_eq!(rt; all.last_reports, 1);
+        assert_same(&rt, all.last_reports, 1);
         assert_eq!(rt; all.lows.len(), 32);
         for (place, low) in all.lows.iter().enumerate() {
-            assert_eq!(rt; *low, 32 * place);
+            assert_same(&rt, *low, 32 * place);
         }
     }
     Ok(())
@@ -79,11 +80,11 @@ fn four_threads_get_each_range_once(rt: HostRuntime) -> Result<(), Fail> {
 fn four_threads_get_a_short_range_once(rt: HostRuntime) -> Result<(), Fail> {
     for _ in 0..100 {
         let all = moved_by_four(&rt, rt.alloc(), 3)?;
-        assert_eq!(rt; all.last_reports, 1);
+        assert_same(&rt, all.last_reports, 1);
         assert_eq!(rt; all.lows.len(), 25);
-        assert_eq!(rt; all.lows[0], 0);
+        assert_same(&rt, all.lows[0], 0);
         for (place, low) in all.lows.iter().enumerate().skip(1) {
-            assert_eq!(rt; *low, 42 * place - 26);
+            assert_same(&rt, *low, 42 * place - 26);
         }
     }
     Ok(())
@@ -92,7 +93,7 @@ fn four_threads_get_a_short_range_once(rt: HostRuntime) -> Result<(), Fail> {
 #[test]
 fn two_threads_share_a_table(rt: HostRuntime) -> Result<(), Fail> {
     let (one, two) = two_shares(&rt, rt.alloc(), 10, 4)?;
-    assert_eq!(rt; one.numbers.len().saturating_add(two.numbers.len()), 32);
-    assert!(rt; one.was_last != two.was_last);
+    assert_same(&rt, one.numbers.len().saturating_add(two.numbers.len()), 32);
+    assert_same(&rt, one.was_last != two.was_last, true);
     Ok(())
 }
