@@ -12,6 +12,6 @@ int main(void) {
     if (flurry_words_get(&ages, 7, &age) == FLURRY_PRESENT) {
         printf("is %llu, of %zu\n", (unsigned long long)age, flurry_words_len(&ages));
     }
-    flurry_words_free(ages);
+    flurry_words_free(&ages);
     return 0;
 }

@@ -1,5 +1,5 @@
 /* Calls of which each request for memory is refused in turn: the first, then the second, until the call has all that it asks for. After
- * each refusal the map or set is as it was, and at the end no block is left. */
+ * each refusal the map or set is as it was, and at the end no block is left. To free what was not made, or was freed, does nothing. */
 #include "flurry.h"
 #include "requests.h"
 #include <string.h>
@@ -34,7 +34,7 @@ static void of_numbers(void) {
     flurry_words map;
     flurry_status status;
     size_t count = 0;
-    IN_TURN(status, flurry_words_new(&map), 1);
+    IN_TURN(status, flurry_words_new(&map), map.at == NULL && (flurry_words_free(&map), map.at == NULL));
     for (int call = 0; call < CALLS; call++) {
         uint64_t key = draw(KEYS), told = 77;
         int was = numbers[key].present, kind = (int)draw(8);
@@ -59,7 +59,9 @@ static void of_numbers(void) {
         CHECK(is_number(&map, key) && flurry_words_len(&map) == count);
     }
     for (uint64_t key = 0; key < KEYS; key++) CHECK(is_number(&map, key));
-    flurry_words_free(map);
+    flurry_words_free(&map);
+    CHECK(map.at == NULL);
+    flurry_words_free(&map);
 }
 
 static struct {
@@ -87,7 +89,7 @@ static void of_bytes(void) {
     flurry_bytes map;
     flurry_status status;
     size_t count = 0;
-    IN_TURN(status, flurry_bytes_new(&map), 1);
+    IN_TURN(status, flurry_bytes_new(&map), map.at == NULL && (flurry_bytes_free(&map), map.at == NULL));
     for (int call = 0; call < CALLS; call++) {
         unsigned char key[MOST], value[MOST];
         uint64_t number = draw(KEYS);
@@ -114,7 +116,9 @@ static void of_bytes(void) {
         CHECK(SAME);
     }
     for (uint64_t number = 0; number < KEYS; number++) CHECK(is_text(&map, number));
-    flurry_bytes_free(map);
+    flurry_bytes_free(&map);
+    CHECK(map.at == NULL);
+    flurry_bytes_free(&map);
 }
 
 static int elements[KEYS];
@@ -123,7 +127,7 @@ static void of_number_set(void) {
     flurry_word_set set;
     flurry_status status;
     size_t count = 0;
-    IN_TURN(status, flurry_word_set_new(&set), 1);
+    IN_TURN(status, flurry_word_set_new(&set), set.at == NULL && (flurry_word_set_free(&set), set.at == NULL));
     for (int call = 0; call < CALLS; call++) {
         uint64_t element = draw(KEYS);
         int was = elements[element], kind = (int)draw(8);
@@ -146,7 +150,9 @@ static void of_number_set(void) {
         CHECK(SAME_NUMBERS);
     }
     for (uint64_t element = 0; element < KEYS; element++) CHECK(flurry_word_set_contains(&set, element) == elements[element]);
-    flurry_word_set_free(set);
+    flurry_word_set_free(&set);
+    CHECK(set.at == NULL);
+    flurry_word_set_free(&set);
 }
 
 static int strings[KEYS];
@@ -155,7 +161,7 @@ static void of_byte_set(void) {
     flurry_byte_set set;
     flurry_status status;
     size_t count = 0;
-    IN_TURN(status, flurry_byte_set_new(&set), 1);
+    IN_TURN(status, flurry_byte_set_new(&set), set.at == NULL && (flurry_byte_set_free(&set), set.at == NULL));
     for (int call = 0; call < CALLS; call++) {
         unsigned char element[MOST];
         uint64_t number = draw(KEYS);
@@ -179,7 +185,9 @@ static void of_byte_set(void) {
         count += strings[number] - was;
         CHECK(SAME_STRINGS);
     }
-    flurry_byte_set_free(set);
+    flurry_byte_set_free(&set);
+    CHECK(set.at == NULL);
+    flurry_byte_set_free(&set);
 }
 
 int main(void) {

@@ -64,7 +64,7 @@ static void of_numbers(void) {
     for (int call = 0; call < CALLS; call++) call_numbers(&set, &count);
     for (uint64_t flag = 0; flag < NUMBERS; flag++) CHECK(flurry_word_set_contains(&set, number_of(flag)) == number_flags[flag]);
     see_numbers(&set, count);
-    flurry_word_set_free(set);
+    flurry_word_set_free(&set);
 }
 
 /* ---- Byte strings ---- */
@@ -144,7 +144,7 @@ static void of_strings(void) {
     CHECK(flurry_byte_set_new(&set) == FLURRY_DONE && flurry_byte_set_len(&set) == 0);
     for (int call = 0; call < CALLS; call++) call_strings(&set, &count);
     see_strings(&set, count);
-    flurry_byte_set_free(set);
+    flurry_byte_set_free(&set);
 }
 
 int main(void) {

@@ -4,9 +4,9 @@
  * they do:
  *
  *   - A `flurry_words *` points to a struct in which flurry_words_new said FLURRY_DONE, a `flurry_bytes *` to one of flurry_bytes_new, a
- *     `flurry_word_set *` to one of flurry_word_set_new, and a `flurry_byte_set *` to one of flurry_byte_set_new. Nobody else writes to
- *     it. It may be copied to another place, but is then used at that place alone, and is freed once. After flurry_.._free nothing is done
- *     with it.
+ *     `flurry_word_set *` to one of flurry_word_set_new, and a `flurry_byte_set *` to one of flurry_byte_set_new, and which was not freed
+ *     since. Nobody else writes to it. It may be copied to another place, but is then used and freed at that place alone. flurry_.._new and
+ *     flurry_.._free ask for less, as is said there.
  *   - A map or a set is used by one call at a time; calls that only read count too. Threads that share one take turns by a lock of their
  *     own. Any thread may make, use and free one.
  *   - A pointer to a number, or to a buffer of `len` items, is valid for the call: nobody else writes there, and nobody reads what a call
@@ -53,12 +53,13 @@ typedef struct flurry_word_pair {
     uint64_t value;
 } flurry_word_pair;
 
-/* Makes an empty map in `words` and says FLURRY_DONE; or FLURRY_NO_MEMORY, and `words` is as it was. No map may be there before, since it
+/* Makes an empty map in `words` and says FLURRY_DONE; or FLURRY_NO_MEMORY, and `words->at` is null. No map may be there before, since it
  * would be lost; what else is there does not matter. */
 flurry_status flurry_words_new(flurry_words *words);
 
-/* Frees the map. */
-void flurry_words_free(flurry_words words);
+/* Frees the map and makes `words->at` null. Does nothing if it is null, as after flurry_words_free, and where flurry_words_new said
+ * FLURRY_NO_MEMORY. */
+void flurry_words_free(flurry_words *words);
 
 /* The number of pairs. */
 size_t flurry_words_len(flurry_words *words);
@@ -110,8 +111,8 @@ typedef struct flurry_byte_pair {
 /* Makes an empty map in `bytes`, as flurry_words_new does. */
 flurry_status flurry_bytes_new(flurry_bytes *bytes);
 
-/* Frees the map, with its keys and values. */
-void flurry_bytes_free(flurry_bytes bytes);
+/* Frees the map, with its keys and values, as flurry_words_free does. */
+void flurry_bytes_free(flurry_bytes *bytes);
 
 /* The number of pairs. */
 size_t flurry_bytes_len(flurry_bytes *bytes);
@@ -155,12 +156,13 @@ typedef struct flurry_word_set {
     void *at;
 } flurry_word_set;
 
-/* Makes an empty set in `set` and says FLURRY_DONE; or FLURRY_NO_MEMORY, and `set` is as it was. No set may be there before, since it would
+/* Makes an empty set in `set` and says FLURRY_DONE; or FLURRY_NO_MEMORY, and `set->at` is null. No set may be there before, since it would
  * be lost; what else is there does not matter. */
 flurry_status flurry_word_set_new(flurry_word_set *set);
 
-/* Frees the set. */
-void flurry_word_set_free(flurry_word_set set);
+/* Frees the set and makes `set->at` null. Does nothing if it is null, as after flurry_word_set_free, and where flurry_word_set_new said
+ * FLURRY_NO_MEMORY. */
+void flurry_word_set_free(flurry_word_set *set);
 
 /* The number of elements. */
 size_t flurry_word_set_len(flurry_word_set *set);
@@ -198,8 +200,8 @@ typedef struct flurry_byte_set {
 /* Makes an empty set in `set`, as flurry_word_set_new does. */
 flurry_status flurry_byte_set_new(flurry_byte_set *set);
 
-/* Frees the set, with its elements. */
-void flurry_byte_set_free(flurry_byte_set set);
+/* Frees the set, with its elements, as flurry_word_set_free does. */
+void flurry_byte_set_free(flurry_byte_set *set);
 
 /* The number of elements. */
 size_t flurry_byte_set_len(flurry_byte_set *set);

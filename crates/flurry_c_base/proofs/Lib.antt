@@ -3,4 +3,5 @@ pub mod ByteLaws
 pub mod ByteSetLaws
 pub mod ByteWalkLaws
 pub mod SetInsertionLaws
+pub mod Slots
 pub mod Walk

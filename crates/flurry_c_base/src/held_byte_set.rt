@@ -1,13 +1,10 @@
 //! What C keeps of a set of byte strings: its address.
-ghost use Rattle.std.specs.Prelude.{◌≡◌};
 ghost use Rattle.flurry_c_base.specs.declared.byte_set.ByteSet.{ByteSet};
 ghost use Rattle.flurry_c_base.specs.Owned.{owns};
 ghost use Rattle.flurry_c_base.specs.contracts.byte_set.ByteSet.{the_row};
 
 mod lend;
 
-use crate::byte_set::ByteSet;
-use crate::loose::Loose;
 use std::alloc::Global;
 use std::marker::Model;
 
@@ -21,17 +18,4 @@ pub struct HeldByteSet {
 
 impl Model for HeldByteSet {
     ghost also_owns = { λ s. owns the_row s.alloc s.at s.set };
-}
-
-impl HeldByteSet {
-    /// Returns what it owns, as a box does.
-    pub fn into_loose(self) -> Loose<ByteSet, Global>
-        ensures { result.value ≡ self.set }
-    {
-        let HeldByteSet { at, alloc } = self;
-        Loose {
-            at: at as *mut ByteSet,
-            alloc,
-        }
-    }
 }

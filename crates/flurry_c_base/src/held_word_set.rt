@@ -1,13 +1,10 @@
 //! What C keeps of a set of numbers: its address.
-ghost use Rattle.std.specs.Prelude.{◌≡◌};
 ghost use Rattle.flurry_c_base.specs.declared.word_set.WordSet.{WordSet};
 ghost use Rattle.flurry_c_base.specs.Owned.{owns};
 ghost use Rattle.flurry_c_base.specs.contracts.word_set.WordSet.{the_row};
 
 mod lend;
 
-use crate::loose::Loose;
-use crate::word_set::WordSet;
 use std::alloc::Global;
 use std::marker::Model;
 
@@ -21,17 +18,4 @@ pub struct HeldWordSet {
 
 impl Model for HeldWordSet {
     ghost also_owns = { λ s. owns the_row s.alloc s.at s.set };
-}
-
-impl HeldWordSet {
-    /// Returns what it owns, as a box does.
-    pub fn into_loose(self) -> Loose<WordSet, Global>
-        ensures { result.value ≡ self.set }
-    {
-        let HeldWordSet { at, alloc } = self;
-        Loose {
-            at: at as *mut WordSet,
-            alloc,
-        }
-    }
 }

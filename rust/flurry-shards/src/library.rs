@@ -32,7 +32,7 @@ unsafe extern "C" {
     safe fn flurry_words_remove(words: &mut Handle, key: u64, old: &mut u64) -> u8;
     safe fn flurry_words_clear(words: &mut Handle);
     safe fn flurry_words_reserve(words: &mut Handle, additional: usize) -> u8;
-    fn flurry_words_free(words: Handle);
+    fn flurry_words_free(words: &mut Handle);
     fn flurry_words_pairs(words: &mut Handle, pairs: *mut Pair, len: usize) -> u8;
 
     safe fn flurry_bytes_new(at: &mut *mut c_void) -> u8;
@@ -40,7 +40,7 @@ unsafe extern "C" {
     safe fn flurry_bytes_clear(bytes: &mut Handle);
     safe fn flurry_bytes_reserve(bytes: &mut Handle, additional: usize) -> u8;
     safe fn flurry_bytes_size(bytes: &mut Handle) -> usize;
-    fn flurry_bytes_free(bytes: Handle);
+    fn flurry_bytes_free(bytes: &mut Handle);
     fn flurry_bytes_contains(bytes: &mut Handle, key: *const u8, key_len: usize) -> u8;
     fn flurry_bytes_get(bytes: &mut Handle, key: *const u8, key_len: usize, value: *mut u8, room: usize, len: &mut usize) -> u8;
     fn flurry_bytes_insert(bytes: &mut Handle, key: *const u8, key_len: usize, value: *const u8, value_len: usize) -> u8;
@@ -123,7 +123,7 @@ impl Words {
 impl Drop for Words {
     fn drop(&mut self) {
         // SAFETY: the owner of the map ends here, so nothing is done with it afterwards.
-        unsafe { flurry_words_free(Handle { at: self.0.at }) }
+        unsafe { flurry_words_free(&mut self.0) }
     }
 }
 
@@ -194,6 +194,6 @@ impl Bytes {
 impl Drop for Bytes {
     fn drop(&mut self) {
         // SAFETY: as for `Words`.
-        unsafe { flurry_bytes_free(Handle { at: self.0.at }) }
+        unsafe { flurry_bytes_free(&mut self.0) }
     }
 }
