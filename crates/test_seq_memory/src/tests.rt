@@ -12,7 +12,7 @@ mod tables;
 use flurry_base::hash::{KeyHasher, LowHashBuilder};
 use flurry_seq::SeqMap;
 use metered_alloc::MeteredAlloc;
-use std::alloc::Global;
+use std::alloc::{Allocator, Global};
 use std::collections::VecDeque;
 use std::fmt::Debug;
 use std::process::Abort;
@@ -20,8 +20,8 @@ use std::sync::Arc;
 
 type Memory = &'static MeteredAlloc<Global>;
 
-// A map of numbers.
-type NumberMap<S> = SeqMap<u64, u64, S, Memory>;
+// A map of numbers. Its allocator is a parameter, because a proof over `Memory` unfolds it in each step.
+type NumberMap<S, A> = SeqMap<u64, u64, S, A>;
 
 // More requests than any call makes.
 const MAX_REQUESTS: u64 = 100;
@@ -39,8 +39,14 @@ fn assert_same_at<T: PartialEq + Debug + Drop>(rt: &impl Abort, k: u64, seen: T,
 
 // A call whose requests fail in turn.
 trait Refused {
-    // Makes the call while the request numbered `k` fails, checks what it did, and returns whether it made that request.
-    fn run_refusing(&self, rt: &impl Abort, memory: Memory, k: u64) -> bool;
+    // Makes the call while the request numbered `k` of this memory fails, checks what it did, and returns whether it made that request.
+    fn run_refusing<A: Allocator + Copy>(
+        &self,
+        rt: &impl Abort,
+        metered: &MeteredAlloc<Global>,
+        memory: A,
+        k: u64,
+    ) -> bool;
 }
 
 // Returns an allocator that can be told which requests fail.
@@ -52,7 +58,7 @@ fn metered(rt: &impl Abort, alloc: Global) -> Memory {
 fn refuse_each<C: Refused>(rt: &impl Abort, alloc: Global, call: &C) {
     let memory = metered(rt, alloc);
     for k in 0..MAX_REQUESTS {
-        let refused = call.run_refusing(rt, memory, k);
+        let refused = call.run_refusing(rt, memory, memory, k);
         assert_same_at(rt, k, memory.live_blocks(), 0);
         if !refused {
             assert_same(rt, k > 0, true);
@@ -63,13 +69,22 @@ fn refuse_each<C: Refused>(rt: &impl Abort, alloc: Global, call: &C) {
 }
 
 // Inserts an absent key.
-fn adds<S: KeyHasher<u64>>(rt: &impl Abort, map: &mut NumberMap<S>, key: u64, value: u64) {
+fn adds<S: KeyHasher<u64>, A: Allocator + Copy>(
+    rt: &impl Abort,
+    map: &mut NumberMap<S, A>,
+    key: u64,
+    value: u64,
+) {
     let old = map.insert(key, value).expect(rt, "memory for the pair");
     assert_same(rt, taken(old), None);
 }
 
 // Returns the map of the keys below `count`, each with itself as its value.
-fn map_of(rt: &impl Abort, memory: Memory, count: u64) -> NumberMap<LowHashBuilder> {
+fn map_of<A: Allocator + Copy>(
+    rt: &impl Abort,
+    memory: A,
+    count: u64,
+) -> NumberMap<LowHashBuilder, A> {
     let mut map = SeqMap::with_hasher(memory, LowHashBuilder);
     for key in 0..count {
         adds(rt, &mut map, key, key);
@@ -78,7 +93,7 @@ fn map_of(rt: &impl Abort, memory: Memory, count: u64) -> NumberMap<LowHashBuild
 }
 
 // Returns the number in a value to which a call returned a reference.
-fn lent(value: Option<&Arc<u64, Memory>>) -> Option<u64> {
+fn lent<A: Allocator>(value: Option<&Arc<u64, A>>) -> Option<u64> {
     match value {
         Some(value) => Some(**value),
         None => None,
@@ -86,7 +101,7 @@ fn lent(value: Option<&Arc<u64, Memory>>) -> Option<u64> {
 }
 
 // Returns the number in a value that a call returned.
-fn taken(value: Option<Arc<u64, Memory>>) -> Option<u64> {
+fn taken<A: Allocator>(value: Option<Arc<u64, A>>) -> Option<u64> {
     match value {
         Some(value) => Some(*value),
         None => None,
@@ -94,24 +109,19 @@ fn taken(value: Option<Arc<u64, Memory>>) -> Option<u64> {
 }
 
 // Returns the number at a key, or `None` if the key is absent.
-fn number_at<S: KeyHasher<u64>>(map: &NumberMap<S>, key: u64) -> Option<u64> {
+fn number_at<S: KeyHasher<u64>, A: Allocator + Copy>(
+    map: &NumberMap<S, A>,
+    key: u64,
+) -> Option<u64> {
     lent(map.get(&key))
 }
 
-// Returns a queue of calls as values, in their order.
-fn queue_of<T: Drop, const N: usize>(
-    rt: &impl Abort,
-    memory: Memory,
-    calls: [T; N],
-) -> VecDeque<T, Memory> {
-    let mut queue = VecDeque::new(memory);
-    for call in Vec::from_array(memory, calls).expect(rt, "memory for the list") {
-        queue.push_back(call).expect(rt, "memory for the call");
-    }
-    queue
+// Adds a call as a value to a queue.
+fn push_call<T: Drop, A: Allocator + Copy>(rt: &impl Abort, calls: &mut VecDeque<T, A>, call: T) {
+    calls.push_back(call).expect(rt, "memory for the call");
 }
 
 // Returns the numbers of bins and pairs.
-fn size_of<S: KeyHasher<u64>>(map: &NumberMap<S>) -> (usize, usize) {
+fn size_of<S: KeyHasher<u64>, A: Allocator + Copy>(map: &NumberMap<S, A>) -> (usize, usize) {
     (map.capacity(), map.len())
 }

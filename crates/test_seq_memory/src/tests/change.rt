@@ -1,11 +1,13 @@
 //! Calls that change a pair by a function. By the bound on it, a function is called at most once.
 
 use super::{
-    Memory, NumberMap, Refused, adds, assert_same, assert_same_at, map_of, metered, number_at,
-    refuse_each, size_of, taken,
+    NumberMap, Refused, adds, assert_same, assert_same_at, map_of, metered, number_at, refuse_each,
+    size_of, taken,
 };
 use flurry_base::Change;
 use flurry_base::hash::LowHashBuilder;
+use metered_alloc::MeteredAlloc;
+use std::alloc::{Allocator, Global};
 use std::process::Abort;
 use std::sync::Arc;
 
@@ -27,7 +29,7 @@ fn note<T>(called: &mut bool, answer: T) -> T {
 }
 
 // Returns the number in a change.
-fn changed(change: Change<u64, Memory>) -> Option<u64> {
+fn changed<A: Allocator>(change: Change<u64, A>) -> Option<u64> {
     match change {
         Change::Absent => None,
         Change::Added(number) | Change::Changed(number) | Change::Removed(number) => Some(*number),
@@ -35,7 +37,7 @@ fn changed(change: Change<u64, Memory>) -> Option<u64> {
 }
 
 // Returns the number that was replaced, or the one that came back.
-fn replaced(answer: Result<Arc<u64, Memory>, u64>) -> Option<u64> {
+fn replaced<A: Allocator>(answer: Result<Arc<u64, A>, u64>) -> Option<u64> {
     match answer {
         Ok(old) => Some(*old),
         Err(value) => Some(value),
@@ -43,7 +45,10 @@ fn replaced(answer: Result<Arc<u64, Memory>, u64>) -> Option<u64> {
 }
 
 // Makes a call. Returns whether its function was called, and the number that was returned, or `None` if the call failed.
-fn reply_of(map: &mut NumberMap<LowHashBuilder>, call: Write) -> (bool, Option<Option<u64>>) {
+fn reply_of<A: Allocator + Copy>(
+    map: &mut NumberMap<LowHashBuilder, A>,
+    call: Write,
+) -> (bool, Option<Option<u64>>) {
     let mut called = false;
     let answer = match call {
         Write::Compute(answer) => {
@@ -79,7 +84,11 @@ fn reply_of(map: &mut NumberMap<LowHashBuilder>, call: Write) -> (bool, Option<O
 struct Row(Write, Option<u64>, bool, Option<u64>, Option<u64>);
 
 // Returns the map of the key 7, or of none.
-fn map_before(rt: &impl Abort, memory: Memory, value: Option<u64>) -> NumberMap<LowHashBuilder> {
+fn map_before<A: Allocator + Copy>(
+    rt: &impl Abort,
+    memory: A,
+    value: Option<u64>,
+) -> NumberMap<LowHashBuilder, A> {
     let mut map = map_of(rt, memory, 0);
     if let Some(value) = value {
         adds(rt, &mut map, 7, value);
@@ -88,17 +97,23 @@ fn map_before(rt: &impl Abort, memory: Memory, value: Option<u64>) -> NumberMap<
 }
 
 impl Refused for Row {
-    fn run_refusing(&self, rt: &impl Abort, memory: Memory, k: u64) -> bool {
+    fn run_refusing<A: Allocator + Copy>(
+        &self,
+        rt: &impl Abort,
+        metered: &MeteredAlloc<Global>,
+        memory: A,
+        k: u64,
+    ) -> bool {
         let Row(call, value, called, answer, after) = *self;
         let mut map = map_before(rt, memory, value);
-        let before = (size_of(&map), memory.live_blocks());
-        memory.refuse_at(k);
+        let before = (size_of(&map), metered.live_blocks());
+        metered.refuse_at(k);
         let seen = reply_of(&mut map, call);
-        let refused = memory.was_refused();
-        memory.refuse_nothing();
+        let refused = metered.was_refused();
+        metered.refuse_nothing();
         if refused {
             assert_same_at(rt, k, (seen, number_at(&map, 7)), ((called, None), value));
-            assert_same_at(rt, k, (size_of(&map), memory.live_blocks()), before);
+            assert_same_at(rt, k, (size_of(&map), metered.live_blocks()), before);
         } else {
             let wanted = ((called, Some(answer)), after);
             assert_same_at(rt, k, (seen, number_at(&map, 7)), wanted);
@@ -122,10 +137,27 @@ fn each_request_of_a_call(rt: HostRuntime) {
     }
 }
 
+// Makes the call of a row, which requests nothing.
+fn requests_nothing<A: Allocator + Copy>(
+    rt: &impl Abort,
+    metered: &MeteredAlloc<Global>,
+    memory: A,
+    row: Row,
+) {
+    let Row(call, value, called, answer, after) = row;
+    let mut map = map_before(rt, memory, value);
+    metered.refuse_from(0);
+    let seen = reply_of(&mut map, call);
+    let asked = metered.requests();
+    metered.refuse_nothing();
+    let wanted = (0, (called, Some(answer)), after);
+    assert_same(rt, (asked, seen, number_at(&map, 7)), wanted);
+}
+
 #[test]
 fn calls_that_request_nothing(rt: HostRuntime) {
     let memory = metered(&rt, rt.alloc());
-    for Row(call, value, called, answer, after) in [
+    for row in [
         Row(Write::Compute(None), None, true, None, None),
         Row(Write::Compute(None), Some(0), true, Some(0), None),
         Row(Write::Merge(None), Some(0), true, Some(0), None),
@@ -137,12 +169,6 @@ fn calls_that_request_nothing(rt: HostRuntime) {
         Row(Write::ReplaceIf(true), None, false, Some(9), None),
         Row(Write::ReplaceIf(false), Some(0), true, Some(9), Some(0)),
     ] {
-        let mut map = map_before(&rt, memory, value);
-        memory.refuse_from(0);
-        let seen = reply_of(&mut map, call);
-        let asked = memory.requests();
-        memory.refuse_nothing();
-        let wanted = (0, (called, Some(answer)), after);
-        assert_same(&rt, (asked, seen, number_at(&map, 7)), wanted);
+        requests_nothing(&rt, memory, memory, row);
     }
 }

@@ -1,13 +1,14 @@
 //! Insertions.
 
 use super::{
-    Memory, NumberMap, Refused, assert_same, assert_same_at, map_of, metered, number_at,
-    refuse_each, size_of, taken,
+    NumberMap, Refused, assert_same, assert_same_at, map_of, metered, number_at, refuse_each,
+    size_of, taken,
 };
 use flurry_base::hash::LowHashBuilder;
 use flurry_base::reply::KeptReply;
 use flurry_bins::bin::Node;
-use std::alloc::AllocError;
+use metered_alloc::MeteredAlloc;
+use std::alloc::{AllocError, Allocator, Global};
 use std::process::Abort;
 use std::sync::Arc;
 
@@ -21,11 +22,11 @@ enum Write {
 }
 
 // Returns a key and a value, each in an `Arc`.
-fn owners(
-    memory: Memory,
+fn owners<A: Allocator + Copy>(
+    memory: A,
     key: u64,
     value: u64,
-) -> Result<(Arc<u64, Memory>, Arc<u64, Memory>), AllocError> {
+) -> Result<(Arc<u64, A>, Arc<u64, A>), AllocError> {
     let key = Arc::new(memory, key)?;
     let value = Arc::new(memory, value)?;
     Ok((key, value))
@@ -33,8 +34,8 @@ fn owners(
 
 // Inserts a key and a value that are each in an `Arc`, and returns the old value. It also fails if memory for one of the `Arc`s cannot be
 // allocated.
-fn insert_arc(
-    map: &mut NumberMap<LowHashBuilder>,
+fn insert_arc<A: Allocator + Copy>(
+    map: &mut NumberMap<LowHashBuilder, A>,
     key: u64,
     value: u64,
 ) -> Result<Option<u64>, AllocError> {
@@ -46,8 +47,8 @@ fn insert_arc(
 
 // Inserts a key and a value by a node, which is made under another hash, and returns the old value. It also fails if memory for the node
 // cannot be allocated.
-fn insert_node(
-    map: &mut NumberMap<LowHashBuilder>,
+fn insert_node<A: Allocator + Copy>(
+    map: &mut NumberMap<LowHashBuilder, A>,
     key: u64,
     value: u64,
 ) -> Result<Option<u64>, AllocError> {
@@ -57,8 +58,8 @@ fn insert_node(
 }
 
 // Inserts a key and a value, and returns the old value.
-fn insert(
-    map: &mut NumberMap<LowHashBuilder>,
+fn insert<A: Allocator + Copy>(
+    map: &mut NumberMap<LowHashBuilder, A>,
     key: u64,
     value: u64,
 ) -> Result<Option<u64>, AllocError> {
@@ -67,8 +68,8 @@ fn insert(
 }
 
 // Returns the reply of `try_insert`, or `None` if it fails.
-fn try_insert(
-    map: &mut NumberMap<LowHashBuilder>,
+fn try_insert<A: Allocator + Copy>(
+    map: &mut NumberMap<LowHashBuilder, A>,
     key: u64,
     value: u64,
 ) -> Option<KeptReply<u64, u64>> {
@@ -83,7 +84,10 @@ fn try_insert(
 }
 
 // Returns the reply of an insertion, or `None` if it fails.
-fn reply_of(map: &mut NumberMap<LowHashBuilder>, write: Write) -> Option<KeptReply<u64, u64>> {
+fn reply_of<A: Allocator + Copy>(
+    map: &mut NumberMap<LowHashBuilder, A>,
+    write: Write,
+) -> Option<KeptReply<u64, u64>> {
     let answer = match write {
         Write::Insert(key, value) => insert(map, key, value),
         Write::TryInsert(key, value) => return try_insert(map, key, value),
@@ -99,7 +103,7 @@ fn reply_of(map: &mut NumberMap<LowHashBuilder>, write: Write) -> Option<KeptRep
 // The numbers of bins and pairs, and the numbers at the keys 0, 1 and 2.
 type Stands = ((usize, usize), [Option<u64>; 3]);
 
-fn stands(map: &NumberMap<LowHashBuilder>) -> Stands {
+fn stands<A: Allocator + Copy>(map: &NumberMap<LowHashBuilder, A>) -> Stands {
     (
         size_of(map),
         [number_at(map, 0), number_at(map, 1), number_at(map, 2)],
@@ -118,16 +122,22 @@ struct Inserts {
 }
 
 impl Refused for Inserts {
-    fn run_refusing(&self, rt: &impl Abort, memory: Memory, k: u64) -> bool {
+    fn run_refusing<A: Allocator + Copy>(
+        &self,
+        rt: &impl Abort,
+        metered: &MeteredAlloc<Global>,
+        memory: A,
+        k: u64,
+    ) -> bool {
         let mut map = map_of(rt, memory, self.keys);
-        let before = memory.live_blocks();
-        memory.refuse_at(k);
+        let before = metered.live_blocks();
+        metered.refuse_at(k);
         let mut reply = reply_of(&mut map, self.write);
-        let refused = memory.was_refused();
-        memory.refuse_nothing();
+        let refused = metered.was_refused();
+        metered.refuse_nothing();
         if refused {
             assert_same_at(rt, k, (reply, stands(&map)), (None, self.kept));
-            assert_same_at(rt, k, memory.live_blocks(), before);
+            assert_same_at(rt, k, metered.live_blocks(), before);
             reply = reply_of(&mut map, self.write);
         }
         assert_same_at(
@@ -212,18 +222,27 @@ fn try_insert_of_a_new_key(rt: HostRuntime) {
     refuse_each(&rt, rt.alloc(), &call);
 }
 
+// Inserts a present key while every request fails. Returns how many requests that makes, and the reply.
+fn try_without<A: Allocator + Copy>(
+    rt: &impl Abort,
+    metered: &MeteredAlloc<Global>,
+    memory: A,
+) -> (u64, Option<KeptReply<u64, u64>>) {
+    let mut map = map_of(rt, memory, 2);
+    metered.refuse_from(0);
+    let reply = reply_of(&mut map, Write::TryInsert(1, 5));
+    let asked = metered.requests();
+    metered.refuse_nothing();
+    (asked, reply)
+}
+
 // It makes a clone of the `Arc` of the value that is present, and takes no memory.
 #[test]
 fn try_insert_of_a_present_key(rt: HostRuntime) {
     let memory = metered(&rt, rt.alloc());
-    let mut map = map_of(&rt, memory, 2);
-    memory.refuse_from(0);
-    let reply = reply_of(&mut map, Write::TryInsert(1, 5));
-    let asked = memory.requests();
-    memory.refuse_nothing();
     let exists = KeptReply::Exists {
         current: 1,
         not_inserted: 5,
     };
-    assert_same(&rt, (asked, reply), (0, Some(exists)));
+    assert_same(&rt, try_without(&rt, memory, memory), (0, Some(exists)));
 }

@@ -1,21 +1,28 @@
 //! Lists of pairs and of calls.
 
 use super::{
-    Memory, NumberMap, Refused, assert_same, assert_same_at, map_of, number_at, queue_of,
-    refuse_each, size_of,
+    NumberMap, Refused, assert_same, assert_same_at, map_of, number_at, push_call, refuse_each,
+    size_of,
 };
 use flurry_base::hash::LowHashBuilder;
 use flurry_seq::SeqMap;
 use flurry_seq::calls::Call;
+use metered_alloc::MeteredAlloc;
+use std::alloc::{Allocator, Global};
+use std::collections::VecDeque;
 use std::process::Abort;
 
-fn three_pairs(rt: &impl Abort, memory: Memory) -> Vec<(u64, u64), Memory> {
+fn three_pairs<A: Allocator + Copy>(rt: &impl Abort, memory: A) -> Vec<(u64, u64), A> {
     Vec::from_array(memory, [(5, 5), (6, 6), (7, 7)]).expect(rt, "memory for the list")
 }
 
 // Asserts that the map has a front of the keys from 5 on, each with itself as its value, and as many of them as it has pairs beside its
 // `first` ones.
-fn has_a_front(rt: &impl Abort, map: &NumberMap<LowHashBuilder>, first: usize) {
+fn has_a_front<A: Allocator + Copy>(
+    rt: &impl Abort,
+    map: &NumberMap<LowHashBuilder, A>,
+    first: usize,
+) {
     let mut count = first;
     for key in 5..8u64 {
         let number = number_at(map, key);
@@ -30,18 +37,18 @@ fn has_a_front(rt: &impl Abort, map: &NumberMap<LowHashBuilder>, first: usize) {
 }
 
 // Extends a map of `first` pairs while the request numbered `k` fails, and returns whether that request was made.
-fn extended(
+fn extended<A: Allocator + Copy>(
     rt: &impl Abort,
-    memory: Memory,
-    map: &mut NumberMap<LowHashBuilder>,
+    metered: &MeteredAlloc<Global>,
+    map: &mut NumberMap<LowHashBuilder, A>,
     k: u64,
     first: usize,
 ) -> bool {
-    let list = three_pairs(rt, memory);
-    memory.refuse_at(k);
+    let list = three_pairs(rt, *map.allocator());
+    metered.refuse_at(k);
     let failed = map.extend(list).is_err();
-    let refused = memory.was_refused();
-    memory.refuse_nothing();
+    let refused = metered.was_refused();
+    metered.refuse_nothing();
     has_a_front(rt, map, first);
     assert_same_at(rt, k, failed, refused);
     refused
@@ -51,9 +58,15 @@ fn extended(
 struct Extends;
 
 impl Refused for Extends {
-    fn run_refusing(&self, rt: &impl Abort, memory: Memory, k: u64) -> bool {
+    fn run_refusing<A: Allocator + Copy>(
+        &self,
+        rt: &impl Abort,
+        metered: &MeteredAlloc<Global>,
+        memory: A,
+        k: u64,
+    ) -> bool {
         let mut map = map_of(rt, memory, 2);
-        let refused = extended(rt, memory, &mut map, k, 2);
+        let refused = extended(rt, metered, &mut map, k, 2);
         let first = (number_at(&map, 0), number_at(&map, 1));
         assert_same_at(rt, k, first, (Some(0), Some(1)));
         refused
@@ -69,9 +82,15 @@ fn extend(rt: HostRuntime) {
 struct ExtendsNew;
 
 impl Refused for ExtendsNew {
-    fn run_refusing(&self, rt: &impl Abort, memory: Memory, k: u64) -> bool {
+    fn run_refusing<A: Allocator + Copy>(
+        &self,
+        rt: &impl Abort,
+        metered: &MeteredAlloc<Global>,
+        memory: A,
+        k: u64,
+    ) -> bool {
         let mut map = map_of(rt, memory, 0);
-        let refused = extended(rt, memory, &mut map, k, 0);
+        let refused = extended(rt, metered, &mut map, k, 0);
         let bins = match k {
             0 => 0,
             1 => 8,
@@ -91,19 +110,25 @@ fn extend_of_a_new_map(rt: HostRuntime) {
 struct MakesOfList;
 
 impl Refused for MakesOfList {
-    fn run_refusing(&self, rt: &impl Abort, memory: Memory, k: u64) -> bool {
+    fn run_refusing<A: Allocator + Copy>(
+        &self,
+        rt: &impl Abort,
+        metered: &MeteredAlloc<Global>,
+        memory: A,
+        k: u64,
+    ) -> bool {
         let list = three_pairs(rt, memory);
-        memory.refuse_at(k);
+        metered.refuse_at(k);
         let answer = SeqMap::from_list(memory, list, LowHashBuilder);
-        let refused = memory.was_refused();
-        memory.refuse_nothing();
+        let refused = metered.was_refused();
+        metered.refuse_nothing();
         assert_same_at(rt, k, answer.is_err(), refused);
         match answer {
             Ok(map) => {
                 has_a_front(rt, &map, 0);
                 assert_same(rt, size_of(&map), (8, 3));
             }
-            Err(_) => assert_same_at(rt, k, memory.live_blocks(), 0),
+            Err(_) => assert_same_at(rt, k, metered.live_blocks(), 0),
         }
         refused
     }
@@ -128,27 +153,28 @@ fn is_own_value(key: &u64, value: &u64) -> bool {
 struct Runs;
 
 impl Refused for Runs {
-    fn run_refusing(&self, rt: &impl Abort, memory: Memory, k: u64) -> bool {
+    fn run_refusing<A: Allocator + Copy>(
+        &self,
+        rt: &impl Abort,
+        metered: &MeteredAlloc<Global>,
+        memory: A,
+        k: u64,
+    ) -> bool {
         let mut map = map_of(rt, memory, 0);
-        let calls = queue_of(
-            rt,
-            memory,
-            [
-                Call::Insert(5, 5),
-                Call::Insert(6, 6),
-                Call::ComputeIfPresent(6, unchanged),
-                Call::Retain(is_own_value),
-                Call::Insert(7, 7),
-                Call::Pairs,
-                Call::Keys,
-                Call::Values,
-                Call::TryClone,
-            ],
-        );
-        memory.refuse_at(k);
+        let mut calls = VecDeque::new(memory);
+        push_call(rt, &mut calls, Call::Insert(5, 5));
+        push_call(rt, &mut calls, Call::Insert(6, 6));
+        push_call(rt, &mut calls, Call::ComputeIfPresent(6, unchanged));
+        push_call(rt, &mut calls, Call::Retain(is_own_value));
+        push_call(rt, &mut calls, Call::Insert(7, 7));
+        push_call(rt, &mut calls, Call::Pairs);
+        push_call(rt, &mut calls, Call::Keys);
+        push_call(rt, &mut calls, Call::Values);
+        push_call(rt, &mut calls, Call::TryClone);
+        metered.refuse_at(k);
         let failed = map.run(memory, calls).is_err();
-        let refused = memory.was_refused();
-        memory.refuse_nothing();
+        let refused = metered.was_refused();
+        metered.refuse_nothing();
         has_a_front(rt, &map, 0);
         assert_same_at(rt, k, failed, refused);
         assert_same_at(rt, k, refused || map.len() == 3, true);

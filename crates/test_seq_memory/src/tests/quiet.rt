@@ -1,12 +1,14 @@
 //! Calls that take no memory.
 
-use super::{Memory, NumberMap, assert_same, lent, map_of, metered, size_of};
+use super::{NumberMap, assert_same, lent, map_of, metered, size_of};
 use flurry_base::hash::LowHashBuilder;
 use flurry_bins::bin::{Ordered, Shape};
+use metered_alloc::MeteredAlloc;
+use std::alloc::{Allocator, Global};
 use std::process::Abort;
 
 // Reads the map of nine pairs.
-fn reads(rt: &impl Abort, map: &NumberMap<LowHashBuilder>) {
+fn reads<A: Allocator + Copy>(rt: &impl Abort, map: &NumberMap<LowHashBuilder, A>) {
     assert_same(rt, lent(map.get(&3)), Some(3));
     assert_same(
         rt,
@@ -19,7 +21,7 @@ fn reads(rt: &impl Abort, map: &NumberMap<LowHashBuilder>) {
 }
 
 // Removes pairs from the map, and at last all of them.
-fn removes(rt: &impl Abort, map: &mut NumberMap<LowHashBuilder>) {
+fn removes<A: Allocator + Copy>(rt: &impl Abort, map: &mut NumberMap<LowHashBuilder, A>) {
     assert_same(
         rt,
         map.remove(&3).is_some() && map.remove_entry(&4).is_some(),
@@ -34,21 +36,30 @@ fn removes(rt: &impl Abort, map: &mut NumberMap<LowHashBuilder>) {
 }
 
 // Takes the map apart into its bins.
-fn gives_its_bins(rt: &impl Abort, map: NumberMap<LowHashBuilder>) {
+fn gives_its_bins<A: Allocator + Copy>(rt: &impl Abort, map: NumberMap<LowHashBuilder, A>) {
     let (bins, _) = map.into_bins();
     assert_same(rt, bins.len(), 16);
     assert_same(rt, bins.iter().filter(|bin| bin.len() > 0).count(), 9);
 }
 
+// Makes these calls of two equal maps while every request fails.
+fn takes_no_memory<A: Allocator + Copy>(
+    rt: &impl Abort,
+    metered: &MeteredAlloc<Global>,
+    memory: A,
+) {
+    let mut map = map_of(rt, memory, 9);
+    let other = map_of(rt, memory, 9);
+    metered.refuse_from(0);
+    reads(rt, &map);
+    assert_same(rt, map == other, true);
+    removes(rt, &mut map);
+    gives_its_bins(rt, other);
+}
+
 #[test]
 fn calls_that_take_no_memory(rt: HostRuntime) {
     let memory = metered(&rt, rt.alloc());
-    let mut map = map_of(&rt, memory, 9);
-    let other = map_of(&rt, memory, 9);
-    memory.refuse_from(0);
-    reads(&rt, &map);
-    assert_same(&rt, map == other, true);
-    removes(&rt, &mut map);
-    gives_its_bins(&rt, other);
+    takes_no_memory(&rt, memory, memory);
     assert_same(&rt, memory.requests(), 0);
 }

@@ -1,16 +1,19 @@
 //! The calls of a set that take memory.
 
-use super::{Memory, Refused, assert_same, assert_same_at, metered, queue_of, refuse_each};
-use flurry_base::hash::LowHashBuilder;
+use super::{Refused, assert_same, assert_same_at, metered, push_call, refuse_each};
+use flurry_base::hash::{DefaultHashBuilder, LowHashBuilder};
 use flurry_bins::bin::Node;
 use flurry_seq_set::SeqSet;
 use flurry_seq_set::set_calls::SetCall;
+use metered_alloc::MeteredAlloc;
+use std::alloc::{AllocError, Allocator, Global};
+use std::collections::VecDeque;
 use std::process::Abort;
 
-type Set = SeqSet<u64, LowHashBuilder, Memory>;
+type Set<A> = SeqSet<u64, LowHashBuilder, A>;
 
 // Returns the set of the elements below `count`.
-fn set_of(rt: &impl Abort, memory: Memory, count: u64) -> Set {
+fn set_of<A: Allocator + Copy>(rt: &impl Abort, memory: A, count: u64) -> Set<A> {
     let mut set = SeqSet::with_hasher(memory, LowHashBuilder);
     for element in 0..count {
         let _ = set.insert(element).expect(rt, "memory for the element");
@@ -18,12 +21,12 @@ fn set_of(rt: &impl Abort, memory: Memory, count: u64) -> Set {
     set
 }
 
-fn three_elements(rt: &impl Abort, memory: Memory) -> Vec<u64, Memory> {
+fn three_elements<A: Allocator + Copy>(rt: &impl Abort, memory: A) -> Vec<u64, A> {
     Vec::from_array(memory, [5, 6, 7]).expect(rt, "memory for the list")
 }
 
 // Asserts that the set has a front of the elements from 5 on, and as many of them as it has elements beside its `first` ones.
-fn has_a_front(rt: &impl Abort, set: &Set, first: usize) {
+fn has_a_front<A: Allocator + Copy>(rt: &impl Abort, set: &Set<A>, first: usize) {
     let mut count = first;
     for element in 5..8u64 {
         let is_in_front = count < set.len();
@@ -39,19 +42,25 @@ fn has_a_front(rt: &impl Abort, set: &Set, first: usize) {
 struct InsertsOne;
 
 impl Refused for InsertsOne {
-    fn run_refusing(&self, rt: &impl Abort, memory: Memory, k: u64) -> bool {
+    fn run_refusing<A: Allocator + Copy>(
+        &self,
+        rt: &impl Abort,
+        metered: &MeteredAlloc<Global>,
+        memory: A,
+        k: u64,
+    ) -> bool {
         let mut set = set_of(rt, memory, 0);
-        memory.refuse_at(k);
+        metered.refuse_at(k);
         let failed = set.insert(1).is_err();
-        let refused = memory.was_refused();
-        memory.refuse_from(0);
+        let refused = metered.was_refused();
+        metered.refuse_from(0);
         assert_same_at(rt, k, (failed, set.contains(&1)), (refused, !refused));
         if !refused {
             assert_same(rt, set.insert(1), Ok(false));
             assert_same(rt, set.take(&1).is_some(), true);
-            assert_same(rt, memory.requests(), 0);
+            assert_same(rt, metered.requests(), 0);
         }
-        memory.refuse_nothing();
+        metered.refuse_nothing();
         refused
     }
 }
@@ -63,7 +72,7 @@ fn set_insert(rt: HostRuntime) {
 
 // Inserts a node of the element 1 into a set. Returns whether its class is new, or `None` if memory for the node or for a table cannot be
 // allocated.
-fn put_node(set: &mut Set) -> Option<bool> {
+fn put_node<A: Allocator + Copy>(set: &mut Set<A>) -> Option<bool> {
     match Node::of_pair(*set.allocator(), 77, 1u64, (), 0) {
         Ok(node) => set.insert_node(node).ok(),
         Err(_) => None,
@@ -74,14 +83,20 @@ fn put_node(set: &mut Set) -> Option<bool> {
 struct InsertsNode;
 
 impl Refused for InsertsNode {
-    fn run_refusing(&self, rt: &impl Abort, memory: Memory, k: u64) -> bool {
+    fn run_refusing<A: Allocator + Copy>(
+        &self,
+        rt: &impl Abort,
+        metered: &MeteredAlloc<Global>,
+        memory: A,
+        k: u64,
+    ) -> bool {
         let mut set = set_of(rt, memory, 0);
-        memory.refuse_at(k);
+        metered.refuse_at(k);
         let mut new = put_node(&mut set);
-        let refused = memory.was_refused();
-        memory.refuse_nothing();
+        let refused = metered.was_refused();
+        metered.refuse_nothing();
         if refused {
-            assert_same_at(rt, k, (new, set.len(), memory.live_blocks()), (None, 0, 0));
+            assert_same_at(rt, k, (new, set.len(), metered.live_blocks()), (None, 0, 0));
             new = put_node(&mut set);
         }
         assert_same_at(rt, k, (new, set.contains(&1)), (Some(true), true));
@@ -99,18 +114,24 @@ fn set_insert_node(rt: HostRuntime) {
 struct GetsOrInserts;
 
 impl Refused for GetsOrInserts {
-    fn run_refusing(&self, rt: &impl Abort, memory: Memory, k: u64) -> bool {
+    fn run_refusing<A: Allocator + Copy>(
+        &self,
+        rt: &impl Abort,
+        metered: &MeteredAlloc<Global>,
+        memory: A,
+        k: u64,
+    ) -> bool {
         let mut set = set_of(rt, memory, 0);
-        memory.refuse_at(k);
+        metered.refuse_at(k);
         let failed = set.get_or_insert(1).is_err();
-        let refused = memory.was_refused();
-        memory.refuse_from(0);
+        let refused = metered.was_refused();
+        metered.refuse_from(0);
         assert_same_at(rt, k, (failed, set.contains(&1)), (refused, !refused));
         if !refused {
             assert_same(rt, set.get_or_insert(1).map(|stored| *stored), Ok(1));
-            assert_same(rt, memory.requests(), 0);
+            assert_same(rt, metered.requests(), 0);
         }
-        memory.refuse_nothing();
+        metered.refuse_nothing();
         refused
     }
 }
@@ -121,12 +142,20 @@ fn set_get_or_insert(rt: HostRuntime) {
 }
 
 // Creates a set with room for `capacity` elements, and returns whether it is empty, or `None` if this fails.
-fn is_empty_for(memory: Memory, capacity: usize) -> Option<bool> {
-    let set: Result<Set, _> = SeqSet::with_capacity_and_hasher(memory, capacity, LowHashBuilder);
+fn is_empty_for<A: Allocator + Copy>(memory: A, capacity: usize) -> Option<bool> {
+    let set: Result<Set<A>, _> = SeqSet::with_capacity_and_hasher(memory, capacity, LowHashBuilder);
     match set {
         Ok(set) => Some(set.is_empty()),
         Err(_) => None,
     }
+}
+
+// Creates a set with room for five elements and the default hasher, and returns whether this fails.
+fn default_is_refused<A: Allocator + Copy>(memory: A) -> bool {
+    let set: Result<SeqSet<u64, DefaultHashBuilder, A>, AllocError> = SeqSet::with_capacity(
+        memory, 5,
+    );
+    set.is_err()
 }
 
 #[test]
@@ -136,8 +165,7 @@ fn set_with_capacity(rt: HostRuntime) {
     assert_same(&rt, is_empty_for(memory, 0), Some(true));
     assert_same(&rt, memory.requests(), 0);
     assert_same(&rt, is_empty_for(memory, 5), None);
-    let refused: Result<SeqSet<u64, _, Memory>, _> = SeqSet::with_capacity(memory, 5);
-    assert_same(&rt, refused.is_err(), true);
+    assert_same(&rt, default_is_refused(memory), true);
     assert_same(&rt, memory.live_blocks(), 0);
 }
 
@@ -145,12 +173,18 @@ fn set_with_capacity(rt: HostRuntime) {
 struct Reserves;
 
 impl Refused for Reserves {
-    fn run_refusing(&self, rt: &impl Abort, memory: Memory, k: u64) -> bool {
+    fn run_refusing<A: Allocator + Copy>(
+        &self,
+        rt: &impl Abort,
+        metered: &MeteredAlloc<Global>,
+        memory: A,
+        k: u64,
+    ) -> bool {
         let mut set = set_of(rt, memory, 1);
-        memory.refuse_at(k);
+        metered.refuse_at(k);
         let failed = set.reserve(32).is_err();
-        let refused = memory.was_refused();
-        memory.refuse_nothing();
+        let refused = metered.was_refused();
+        metered.refuse_nothing();
         assert_same_at(rt, k, (failed, refused), (k < 3, k < 3));
         assert_same_at(rt, k, (set.len(), set.contains(&0)), (1, true));
         refused
@@ -166,13 +200,19 @@ fn set_reserve(rt: HostRuntime) {
 struct Extends;
 
 impl Refused for Extends {
-    fn run_refusing(&self, rt: &impl Abort, memory: Memory, k: u64) -> bool {
+    fn run_refusing<A: Allocator + Copy>(
+        &self,
+        rt: &impl Abort,
+        metered: &MeteredAlloc<Global>,
+        memory: A,
+        k: u64,
+    ) -> bool {
         let mut set = set_of(rt, memory, 2);
         let list = three_elements(rt, memory);
-        memory.refuse_at(k);
+        metered.refuse_at(k);
         let failed = set.extend(list).is_err();
-        let refused = memory.was_refused();
-        memory.refuse_nothing();
+        let refused = metered.was_refused();
+        metered.refuse_nothing();
         assert_same_at(rt, k, failed, refused);
         has_a_front(rt, &set, 2);
         assert_same_at(rt, k, set.contains(&0) && set.contains(&1), true);
@@ -189,19 +229,25 @@ fn set_extend(rt: HostRuntime) {
 struct MakesOfList;
 
 impl Refused for MakesOfList {
-    fn run_refusing(&self, rt: &impl Abort, memory: Memory, k: u64) -> bool {
+    fn run_refusing<A: Allocator + Copy>(
+        &self,
+        rt: &impl Abort,
+        metered: &MeteredAlloc<Global>,
+        memory: A,
+        k: u64,
+    ) -> bool {
         let list = three_elements(rt, memory);
-        memory.refuse_at(k);
+        metered.refuse_at(k);
         let answer = SeqSet::from_list(memory, list, LowHashBuilder);
-        let refused = memory.was_refused();
-        memory.refuse_nothing();
+        let refused = metered.was_refused();
+        metered.refuse_nothing();
         assert_same_at(rt, k, answer.is_err(), refused);
         match answer {
             Ok(set) => {
                 has_a_front(rt, &set, 0);
                 assert_same(rt, set.len(), 3);
             }
-            Err(_) => assert_same_at(rt, k, memory.live_blocks(), 0),
+            Err(_) => assert_same_at(rt, k, metered.live_blocks(), 0),
         }
         refused
     }
@@ -216,19 +262,25 @@ fn set_from_list(rt: HostRuntime) {
 struct Copies;
 
 impl Refused for Copies {
-    fn run_refusing(&self, rt: &impl Abort, memory: Memory, k: u64) -> bool {
+    fn run_refusing<A: Allocator + Copy>(
+        &self,
+        rt: &impl Abort,
+        metered: &MeteredAlloc<Global>,
+        memory: A,
+        k: u64,
+    ) -> bool {
         let set = set_of(rt, memory, 3);
-        let before = memory.live_blocks();
-        memory.refuse_at(k);
+        let before = metered.live_blocks();
+        metered.refuse_at(k);
         let answer = set.try_clone();
-        let refused = memory.was_refused();
-        memory.refuse_nothing();
+        let refused = metered.was_refused();
+        metered.refuse_nothing();
         let is_equal = match answer {
             Ok(copy) => Some(copy == set),
             Err(_) => None,
         };
         let wanted = if refused { None } else { Some(true) };
-        assert_same_at(rt, k, (is_equal, memory.live_blocks()), (wanted, before));
+        assert_same_at(rt, k, (is_equal, metered.live_blocks()), (wanted, before));
         refused
     }
 }
@@ -247,25 +299,26 @@ fn is_below_nine(element: &u64) -> bool {
 struct Runs;
 
 impl Refused for Runs {
-    fn run_refusing(&self, rt: &impl Abort, memory: Memory, k: u64) -> bool {
+    fn run_refusing<A: Allocator + Copy>(
+        &self,
+        rt: &impl Abort,
+        metered: &MeteredAlloc<Global>,
+        memory: A,
+        k: u64,
+    ) -> bool {
         let mut set = set_of(rt, memory, 0);
-        let calls = queue_of(
-            rt,
-            memory,
-            [
-                SetCall::Insert(5),
-                SetCall::Get(5),
-                SetCall::Insert(6),
-                SetCall::Retain(is_below_nine),
-                SetCall::Insert(7),
-                SetCall::Elements,
-                SetCall::TryClone,
-            ],
-        );
-        memory.refuse_at(k);
+        let mut calls = VecDeque::new(memory);
+        push_call(rt, &mut calls, SetCall::Insert(5));
+        push_call(rt, &mut calls, SetCall::Get(5));
+        push_call(rt, &mut calls, SetCall::Insert(6));
+        push_call(rt, &mut calls, SetCall::Retain(is_below_nine));
+        push_call(rt, &mut calls, SetCall::Insert(7));
+        push_call(rt, &mut calls, SetCall::Elements);
+        push_call(rt, &mut calls, SetCall::TryClone);
+        metered.refuse_at(k);
         let failed = set.run(memory, calls).is_err();
-        let refused = memory.was_refused();
-        memory.refuse_nothing();
+        let refused = metered.was_refused();
+        metered.refuse_nothing();
         has_a_front(rt, &set, 0);
         assert_same_at(rt, k, failed, refused);
         assert_same_at(rt, k, refused || set.len() == 3, true);

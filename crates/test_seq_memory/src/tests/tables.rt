@@ -1,17 +1,18 @@
 //! First tables and larger ones.
 
 use super::{
-    Memory, NumberMap, Refused, adds, assert_same, assert_same_at, map_of, metered, number_at,
-    refuse_each, size_of, taken,
+    NumberMap, Refused, adds, assert_same, assert_same_at, map_of, metered, number_at, refuse_each,
+    size_of, taken,
 };
 use flurry_base::hash::{DefaultHashBuilder, KeyHasher, LowHashBuilder, ZeroHashBuilder};
 use flurry_bins::bin::Shape;
 use flurry_seq::SeqMap;
-use std::alloc::AllocError;
+use metered_alloc::MeteredAlloc;
+use std::alloc::{AllocError, Allocator, Global};
 use std::process::Abort;
 
 // Creates a map with room for `capacity` pairs, and returns the numbers of its bins and pairs, or `None` if this fails.
-fn size_for(memory: Memory, capacity: usize) -> Option<(usize, usize)> {
+fn size_for<A: Allocator + Copy>(memory: A, capacity: usize) -> Option<(usize, usize)> {
     match SeqMap::with_capacity_and_hasher(memory, capacity, LowHashBuilder) {
         Ok(map) => Some(size_of(&map)),
         Err(_) => None,
@@ -31,44 +32,66 @@ fn with_capacity(rt: HostRuntime) {
     assert_same(&rt, memory.requests(), 1);
 }
 
+// Creates a map with room for five pairs and the default hasher, and returns whether this fails.
+fn default_is_refused<A: Allocator + Copy>(memory: A) -> bool {
+    let map: Result<SeqMap<u64, u64, DefaultHashBuilder, A>, AllocError> = SeqMap::with_capacity(
+        memory, 5,
+    );
+    map.is_err()
+}
+
 // The same with the default hasher.
 #[test]
 fn with_capacity_and_the_default_hasher(rt: HostRuntime) {
     let memory = metered(&rt, rt.alloc());
     memory.refuse_from(0);
-    let map: Result<SeqMap<u64, u64, DefaultHashBuilder, Memory>, AllocError> =
-        SeqMap::with_capacity(memory, 5);
-    assert_same(&rt, map.is_err(), true);
+    assert_same(&rt, default_is_refused(memory), true);
     assert_same(&rt, memory.live_blocks(), 0);
 }
 
 // Reserves room for 32 pairs while the request numbered `k` fails. Returns whether that request was made and the call failed.
-fn reserve_is_refused(memory: Memory, map: &mut NumberMap<LowHashBuilder>, k: u64) -> bool {
-    memory.refuse_at(k);
+fn reserve_is_refused<A: Allocator + Copy>(
+    metered: &MeteredAlloc<Global>,
+    map: &mut NumberMap<LowHashBuilder, A>,
+    k: u64,
+) -> bool {
+    metered.refuse_at(k);
     let failed = map.reserve(32).is_err();
-    let refused = memory.was_refused();
-    memory.refuse_nothing();
+    let refused = metered.was_refused();
+    metered.refuse_nothing();
     refused && failed
 }
 
 // Checks the number of bins, and the shape of the bin of the hash 0.
-fn has_shape(rt: &impl Abort, map: &NumberMap<ZeroHashBuilder>, k: u64, bins: usize, shape: Shape) {
+fn has_shape<A: Allocator + Copy>(
+    rt: &impl Abort,
+    map: &NumberMap<ZeroHashBuilder, A>,
+    k: u64,
+    bins: usize,
+    shape: Shape,
+) {
     assert_same_at(rt, k, (map.capacity(), map.shape_of(0)), (bins, shape));
 }
 
 // Asserts that a map of 16 bins and one pair has `bins` bins after a `reserve` whose request numbered `k` failed, and 128 bins after a
 // second `reserve`.
-fn keeps_the_doublings(rt: &impl Abort, memory: Memory, k: u64, bins: usize) {
+fn keeps_the_doublings<A: Allocator + Copy>(
+    rt: &impl Abort,
+    metered: &MeteredAlloc<Global>,
+    memory: A,
+    k: u64,
+    bins: usize,
+) {
     let mut map = map_of(rt, memory, 1);
-    let before = memory.live_blocks();
-    assert_same_at(rt, k, reserve_is_refused(memory, &mut map, k), true);
+    let before = metered.live_blocks();
+    assert_same_at(rt, k, reserve_is_refused(metered, &mut map, k), true);
     assert_same_at(
         rt,
         k,
         (size_of(&map), number_at(&map, 0)),
         ((bins, 1), Some(0)),
     );
-    assert_same_at(rt, k, memory.live_blocks(), before);
+    assert_same_at(rt, k, metered.live_blocks(), before);
     map.reserve(32).expect(rt, "memory for the tables");
     assert_same_at(rt, k, map.capacity(), 128);
 }
@@ -77,15 +100,21 @@ fn keeps_the_doublings(rt: &impl Abort, memory: Memory, k: u64, bins: usize) {
 fn reserve_keeps_the_doublings_done(rt: HostRuntime) {
     let memory = metered(&rt, rt.alloc());
     for (k, bins) in [(0, 16), (1, 32), (2, 64)] {
-        keeps_the_doublings(&rt, memory, k, bins);
+        keeps_the_doublings(&rt, memory, memory, k, bins);
     }
     assert_same(&rt, memory.live_blocks(), 0);
 }
 
 // Asserts that a new map has `bins` bins after a `reserve` whose request numbered `k` failed.
-fn keeps_the_first_table(rt: &impl Abort, memory: Memory, k: u64, bins: usize) {
+fn keeps_the_first_table<A: Allocator + Copy>(
+    rt: &impl Abort,
+    metered: &MeteredAlloc<Global>,
+    memory: A,
+    k: u64,
+    bins: usize,
+) {
     let mut map = map_of(rt, memory, 0);
-    assert_same_at(rt, k, reserve_is_refused(memory, &mut map, k), true);
+    assert_same_at(rt, k, reserve_is_refused(metered, &mut map, k), true);
     assert_same_at(rt, k, size_of(&map), (bins, 0));
 }
 
@@ -93,52 +122,63 @@ fn keeps_the_first_table(rt: &impl Abort, memory: Memory, k: u64, bins: usize) {
 fn reserve_of_a_new_map(rt: HostRuntime) {
     let memory = metered(&rt, rt.alloc());
     for (k, bins) in [(0, 0), (1, 64)] {
-        keeps_the_first_table(&rt, memory, k, bins);
+        keeps_the_first_table(&rt, memory, memory, k, bins);
     }
     assert_same(&rt, memory.live_blocks(), 0);
 }
 
 // Inserts an absent key while the request numbered `k`, which is for a larger table, fails. The insertion does not fail.
-fn adds_without_a_table<S: KeyHasher<u64>>(
+fn adds_without_a_table<S: KeyHasher<u64>, A: Allocator + Copy>(
     rt: &impl Abort,
-    memory: Memory,
-    map: &mut NumberMap<S>,
+    metered: &MeteredAlloc<Global>,
+    map: &mut NumberMap<S, A>,
     (key, value): (u64, u64),
     k: u64,
 ) {
-    memory.refuse_at(k);
+    metered.refuse_at(k);
     let answer = map.insert(key, value);
-    let refused = memory.was_refused();
-    memory.refuse_nothing();
+    let refused = metered.was_refused();
+    metered.refuse_nothing();
     assert_same_at(rt, k, refused, true);
     assert_same_at(rt, k, taken(answer.expect(rt, "memory for the pair")), None);
+}
+
+// Fills a map up to its threshold, and past it while memory for the larger table is refused.
+fn fills_a_table<A: Allocator + Copy>(rt: &impl Abort, metered: &MeteredAlloc<Global>, memory: A) {
+    let mut map: NumberMap<LowHashBuilder, A> = SeqMap::with_hasher(memory, LowHashBuilder);
+    adds(rt, &mut map, 42, 0);
+    for key in 0..10u64 {
+        adds(rt, &mut map, key, 42);
+    }
+    let before = metered.live_blocks();
+    adds_without_a_table(rt, metered, &mut map, (10, 42), 3);
+    assert_same(rt, size_of(&map), (16, 12));
+    assert_same(rt, metered.live_blocks().checked_sub(before), Some(3));
+    assert_same(rt, number_at(&map, 10), Some(42));
+    adds(rt, &mut map, 11, 42);
+    assert_same(rt, size_of(&map), (32, 13));
 }
 
 // The twelfth pair makes requests for its key, its value and its node, and then for the larger table.
 #[test]
 fn row_15(rt: HostRuntime) {
     let memory = metered(&rt, rt.alloc());
-    let mut map: NumberMap<LowHashBuilder> = SeqMap::with_hasher(memory, LowHashBuilder);
-    adds(&rt, &mut map, 42, 0);
-    for key in 0..10u64 {
-        adds(&rt, &mut map, key, 42);
-    }
-    let before = memory.live_blocks();
-    adds_without_a_table(&rt, memory, &mut map, (10, 42), 3);
-    assert_same(&rt, size_of(&map), (16, 12));
-    assert_same(&rt, memory.live_blocks().checked_sub(before), Some(3));
-    assert_same(&rt, number_at(&map, 10), Some(42));
-    adds(&rt, &mut map, 11, 42);
-    assert_same(&rt, size_of(&map), (32, 13));
+    fills_a_table(&rt, memory, memory);
 }
 
 // Asserts that after the ninth key of one hash, whose request numbered `k` fails, the map has `bins` bins, and after the tenth key as well.
-fn grows_in_part(rt: &impl Abort, memory: Memory, k: u64, bins: usize) {
-    let mut map: NumberMap<ZeroHashBuilder> = SeqMap::with_hasher(memory, ZeroHashBuilder);
+fn grows_in_part<A: Allocator + Copy>(
+    rt: &impl Abort,
+    metered: &MeteredAlloc<Global>,
+    memory: A,
+    k: u64,
+    bins: usize,
+) {
+    let mut map: NumberMap<ZeroHashBuilder, A> = SeqMap::with_hasher(memory, ZeroHashBuilder);
     for key in 0..8u64 {
         adds(rt, &mut map, key, key);
     }
-    adds_without_a_table(rt, memory, &mut map, (8, 8), k);
+    adds_without_a_table(rt, metered, &mut map, (8, 8), k);
     has_shape(rt, &map, k, bins, Shape::List(9));
     assert_same_at(rt, k, number_at(&map, 8), Some(8));
     adds(rt, &mut map, 9, 9);
@@ -150,9 +190,20 @@ fn grows_in_part(rt: &impl Abort, memory: Memory, k: u64, bins: usize) {
 fn refused_growth_keeps_insert(rt: HostRuntime) {
     let memory = metered(&rt, rt.alloc());
     for (k, bins) in [(3, 16), (4, 32), (5, 64)] {
-        grows_in_part(&rt, memory, k, bins);
+        grows_in_part(&rt, memory, memory, k, bins);
     }
     assert_same(&rt, memory.live_blocks(), 0);
+}
+
+// Fills one bin of a map, whose growth is refused.
+fn fills_a_bin<A: Allocator + Copy>(rt: &impl Abort, metered: &MeteredAlloc<Global>, memory: A) {
+    let mut map = map_of(rt, memory, 4);
+    for k in 1..8u64 {
+        adds(rt, &mut map, 16 * k, k);
+    }
+    assert_same(rt, size_of(&map), (16, 11));
+    adds_without_a_table(rt, metered, &mut map, (128, 8), 3);
+    assert_same(rt, size_of(&map), (32, 12));
 }
 
 // Of eleven pairs in 16 bins, eight are in one bin. The ninth of that bin asks for 128 bins, and the first doubling fails. Then the count,
@@ -160,13 +211,24 @@ fn refused_growth_keeps_insert(rt: HostRuntime) {
 #[test]
 fn count_grows_after_a_refused_growth(rt: HostRuntime) {
     let memory = metered(&rt, rt.alloc());
-    let mut map = map_of(&rt, memory, 4);
-    for k in 1..8u64 {
-        adds(&rt, &mut map, 16 * k, k);
+    fills_a_bin(&rt, memory, memory);
+}
+
+// Fills a map past its threshold while memory for a larger table is refused, and then once with it.
+fn fills_without_room<A: Allocator + Copy>(
+    rt: &impl Abort,
+    metered: &MeteredAlloc<Global>,
+    memory: A,
+) {
+    let mut map = map_of(rt, memory, 11);
+    for key in 11..24u64 {
+        metered.refuse_from(3);
+        adds(rt, &mut map, key, key);
+        metered.refuse_nothing();
     }
-    assert_same(&rt, size_of(&map), (16, 11));
-    adds_without_a_table(&rt, memory, &mut map, (128, 8), 3);
-    assert_same(&rt, size_of(&map), (32, 12));
+    assert_same(rt, size_of(&map), (16, 24));
+    adds(rt, &mut map, 24, 24);
+    assert_same(rt, size_of(&map), (64, 25));
 }
 
 // Thirteen insertions reach or pass the threshold of 16 bins, and for none of them memory for a larger table can be allocated. The next
@@ -174,30 +236,28 @@ fn count_grows_after_a_refused_growth(rt: HostRuntime) {
 #[test]
 fn count_grows_until_there_is_room(rt: HostRuntime) {
     let memory = metered(&rt, rt.alloc());
-    let mut map = map_of(&rt, memory, 11);
-    for key in 11..24u64 {
-        memory.refuse_from(3);
-        adds(&rt, &mut map, key, key);
-        memory.refuse_nothing();
-    }
-    assert_same(&rt, size_of(&map), (16, 24));
-    adds(&rt, &mut map, 24, 24);
-    assert_same(&rt, size_of(&map), (64, 25));
+    fills_without_room(&rt, memory, memory);
 }
 
 // The insertion that grows a map of eleven pairs to 32 bins.
 struct Grows;
 
 impl Refused for Grows {
-    fn run_refusing(&self, rt: &impl Abort, memory: Memory, k: u64) -> bool {
+    fn run_refusing<A: Allocator + Copy>(
+        &self,
+        rt: &impl Abort,
+        metered: &MeteredAlloc<Global>,
+        memory: A,
+        k: u64,
+    ) -> bool {
         let mut map = map_of(rt, memory, 11);
-        memory.refuse_at(k);
+        metered.refuse_at(k);
         let is_new = match map.insert(11, 11) {
             Ok(old) => Some(old.is_none()),
             Err(_) => None,
         };
-        let refused = memory.was_refused();
-        memory.refuse_nothing();
+        let refused = metered.was_refused();
+        metered.refuse_nothing();
         let len = if is_new.is_none() { 11 } else { 12 };
         let bins = if refused { 16 } else { 32 };
         assert_same_at(rt, k, size_of(&map), (bins, len));

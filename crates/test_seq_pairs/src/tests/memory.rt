@@ -8,30 +8,35 @@ use flurry_seq_pairs::set::{from_items, to_sorted_items};
 use flurry_seq_pairs::{FromPairsError, SortedItems, SortedPairs};
 use flurry_seq_set::SeqSet;
 use metered_alloc::MeteredAlloc;
-use std::alloc::Global;
+use std::alloc::{Allocator, Global};
 use std::process::Abort;
 
-type Memory = &'static MeteredAlloc<Global>;
+// A map of numbers to lists, whose clones take memory. Its allocator is a parameter, because a proof over `&'static MeteredAlloc<Global>`
+// unfolds it in each step.
+type ListMap<A> = SeqMap<u64, Vec<u64, A>, LowHashBuilder, A>;
 
-// A map of numbers to lists, whose clones take memory.
-type ListMap = SeqMap<u64, Vec<u64, Memory>, LowHashBuilder, Memory>;
-
-type NumberSet = SeqSet<u64, LowHashBuilder, Memory>;
+type NumberSet<A> = SeqSet<u64, LowHashBuilder, A>;
 
 // More requests than any call makes.
 const MAX_REQUESTS: u64 = 100;
 
 // A call whose requests fail in turn.
 trait Refused {
-    // Makes the call while the request numbered `k` fails, checks what it did, and returns whether it made that request.
-    fn run_refusing(&self, rt: &impl Abort, memory: Memory, k: u64) -> bool;
+    // Makes the call while the request numbered `k` of this memory fails, checks what it did, and returns whether it made that request.
+    fn run_refusing<A: Allocator + Copy>(
+        &self,
+        rt: &impl Abort,
+        metered: &MeteredAlloc<Global>,
+        memory: A,
+        k: u64,
+    ) -> bool;
 }
 
 // Makes each request of a call fail in turn. The call makes at least one request, and every block is deallocated.
 fn refuse_each<C: Refused>(rt: &impl Abort, alloc: Global, call: &C) {
     let memory = MeteredAlloc::leak(alloc).expect(rt, "memory for the allocator");
     for k in 0..MAX_REQUESTS {
-        let refused = call.run_refusing(rt, memory, k);
+        let refused = call.run_refusing(rt, memory, memory, k);
         assert_same(rt, memory.live_blocks(), 0);
         if !refused {
             assert_same(rt, k > 0, true);
@@ -42,7 +47,7 @@ fn refuse_each<C: Refused>(rt: &impl Abort, alloc: Global, call: &C) {
 }
 
 // Returns a map of three pairs, in which each value is a list of its key.
-fn lists(rt: &impl Abort, memory: Memory) -> ListMap {
+fn lists<A: Allocator + Copy>(rt: &impl Abort, memory: A) -> ListMap<A> {
     let mut map = SeqMap::with_hasher(memory, LowHashBuilder);
     for key in 0..3u64 {
         let list = Vec::from_array(memory, [key]).expect(rt, "memory for the list");
@@ -55,12 +60,18 @@ fn lists(rt: &impl Abort, memory: Memory) -> ListMap {
 struct ListsPairs;
 
 impl Refused for ListsPairs {
-    fn run_refusing(&self, rt: &impl Abort, memory: Memory, k: u64) -> bool {
+    fn run_refusing<A: Allocator + Copy>(
+        &self,
+        rt: &impl Abort,
+        metered: &MeteredAlloc<Global>,
+        memory: A,
+        k: u64,
+    ) -> bool {
         let map = lists(rt, memory);
-        memory.refuse_at(k);
+        metered.refuse_at(k);
         let count = to_sorted_pairs(&map).ok().map(|list| list.0.len());
-        let refused = memory.was_refused();
-        memory.refuse_nothing();
+        let refused = metered.was_refused();
+        metered.refuse_nothing();
         assert_same(rt, count, if refused { None } else { Some(3) });
         refused
     }
@@ -75,15 +86,21 @@ fn pairs_of_a_map(rt: HostRuntime) {
 struct MakesMap;
 
 impl Refused for MakesMap {
-    fn run_refusing(&self, rt: &impl Abort, memory: Memory, k: u64) -> bool {
+    fn run_refusing<A: Allocator + Copy>(
+        &self,
+        rt: &impl Abort,
+        metered: &MeteredAlloc<Global>,
+        memory: A,
+        k: u64,
+    ) -> bool {
         let list = Vec::from_array(memory, [(2u64, 0u64), (1, 1), (0, 2)]).expect(
             rt,
             "memory for the list",
         );
-        memory.refuse_at(k);
+        metered.refuse_at(k);
         let answer = from_pairs(SortedPairs(list), LowHashBuilder);
-        let refused = memory.was_refused();
-        memory.refuse_nothing();
+        let refused = metered.was_refused();
+        metered.refuse_nothing();
         let wanted = if refused {
             Some(FromPairsError::NoMemory)
         } else {
@@ -103,15 +120,21 @@ fn a_map_of_pairs(rt: HostRuntime) {
 struct ListsElements;
 
 impl Refused for ListsElements {
-    fn run_refusing(&self, rt: &impl Abort, memory: Memory, k: u64) -> bool {
-        let mut set: NumberSet = SeqSet::with_hasher(memory, LowHashBuilder);
+    fn run_refusing<A: Allocator + Copy>(
+        &self,
+        rt: &impl Abort,
+        metered: &MeteredAlloc<Global>,
+        memory: A,
+        k: u64,
+    ) -> bool {
+        let mut set: NumberSet<A> = SeqSet::with_hasher(memory, LowHashBuilder);
         for element in 0..3u64 {
             assert_same(rt, set.insert(element), Ok(true));
         }
-        memory.refuse_at(k);
+        metered.refuse_at(k);
         let count = to_sorted_items(&set).ok().map(|list| list.0.len());
-        let refused = memory.was_refused();
-        memory.refuse_nothing();
+        let refused = metered.was_refused();
+        metered.refuse_nothing();
         assert_same(rt, count, if refused { None } else { Some(3) });
         refused
     }
@@ -126,14 +149,20 @@ fn elements_of_a_set(rt: HostRuntime) {
 struct MakesSet;
 
 impl Refused for MakesSet {
-    fn run_refusing(&self, rt: &impl Abort, memory: Memory, k: u64) -> bool {
+    fn run_refusing<A: Allocator + Copy>(
+        &self,
+        rt: &impl Abort,
+        metered: &MeteredAlloc<Global>,
+        memory: A,
+        k: u64,
+    ) -> bool {
         let list = Vec::from_array(memory, [2u64, 1, 2]).expect(rt, "memory for the list");
-        memory.refuse_at(k);
+        metered.refuse_at(k);
         let count = from_items(SortedItems(list), LowHashBuilder)
             .ok()
             .map(|set| set.len());
-        let refused = memory.was_refused();
-        memory.refuse_nothing();
+        let refused = metered.was_refused();
+        metered.refuse_nothing();
         assert_same(rt, count, if refused { None } else { Some(2) });
         refused
     }

@@ -10,14 +10,12 @@ use flurry_base::hash::LowHashBuilder;
 use flurry_seq::SeqMap;
 use flurry_seq_par::map;
 use metered_alloc::MeteredAlloc;
-use std::alloc::{AllocError, Global};
+use std::alloc::{Allocator, Global};
 use std::process::Abort;
-use std::test::Fail;
 use std::thread::Threads;
 
-type Memory = &'static MeteredAlloc<Global>;
-
-type Numbers = SeqMap<u64, u64, LowHashBuilder, Memory>;
+// A map of numbers. Its allocator is a parameter, because a proof over `&'static MeteredAlloc<Global>` unfolds it in each step.
+type Numbers<A> = SeqMap<u64, u64, LowHashBuilder, A>;
 
 // More requests than any call makes.
 const MAX_REQUESTS: u64 = 200;
@@ -32,81 +30,93 @@ enum Call {
     ExtendsSet { old: u64 },
 }
 
-// Makes the call while the request numbered `k` fails, or that request and all later ones. Checks what the call did, and returns whether it
-// made that request.
-fn make(
-    rt: &(impl Abort + Threads + Sync),
-    memory: Memory,
-    call: Call,
+// Which requests fail.
+#[derive(Clone, Copy)]
+struct Refusal {
+    // The number of the first one.
     k: u64,
+    // Whether all later ones fail too.
     all: bool,
-) -> Result<bool, AllocError> {
+}
+
+// Makes the call while requests of this memory fail. Checks what the call did, and returns whether it made the first of those requests.
+fn make<A: Allocator + Copy + Send + Sync, R: Abort + Threads + Sync>(
+    rt: &R,
+    metered: &MeteredAlloc<Global>,
+    memory: A,
+    call: Call,
+    refusal: Refusal,
+) -> bool {
     match call {
-        Call::Builds => build(rt, memory, k, all),
-        Call::Extends { old } => extend(rt, memory, old, k, all),
-        Call::Joins { old } => join_to(rt, memory, old, k, all),
-        Call::BuildsSet => sets::build(rt, memory, k, all),
-        Call::ExtendsSet { old } => sets::extend(rt, memory, old, k, all),
+        Call::Builds => build(rt, metered, memory, refusal),
+        Call::Extends { old } => extend(rt, metered, memory, old, refusal),
+        Call::Joins { old } => join_to(rt, metered, memory, old, refusal),
+        Call::BuildsSet => sets::build(rt, metered, memory, refusal),
+        Call::ExtendsSet { old } => sets::extend(rt, metered, memory, old, refusal),
     }
 }
 
 // Makes each request of a call fail in turn, alone or with all later ones. The call makes at least one request, and every block is
 // deallocated.
-fn refuse_in_turn(
-    rt: &(impl Abort + Threads + Sync),
-    memory: Memory,
+fn refuse_in_turn<A: Allocator + Copy + Send + Sync, R: Abort + Threads + Sync>(
+    rt: &R,
+    metered: &MeteredAlloc<Global>,
+    memory: A,
     call: Call,
     all: bool,
-) -> Result<(), Fail> {
+) {
     for k in 0..MAX_REQUESTS {
-        let refused = make(rt, memory, call, k, all)?;
-        assert_same(rt, (k, memory.live_blocks()), (k, 0));
+        let refused = make(rt, metered, memory, call, Refusal { k, all });
+        assert_same(rt, (k, metered.live_blocks()), (k, 0));
         if !refused {
             assert_same(rt, k > 0, true);
-            return Ok(());
+            return;
         }
     }
-    Err(Fail::from("it makes fewer requests"))
+    panic!(rt; "it makes fewer requests");
 }
 
 // Makes each request fail, alone and with all later ones.
-fn refuse_each(rt: &(impl Abort + Threads + Sync), alloc: Global, call: Call) -> Result<(), Fail> {
-    let memory = MeteredAlloc::leak(alloc)?;
-    refuse_in_turn(rt, memory, call, false)?;
-    refuse_in_turn(rt, memory, call, true)
+fn refuse_each(rt: &(impl Abort + Threads + Sync), alloc: Global, call: Call) {
+    let memory = MeteredAlloc::leak(alloc).expect(rt, "memory for the allocator");
+    refuse_in_turn(rt, memory, memory, call, false);
+    refuse_in_turn(rt, memory, memory, call, true);
 }
 
-// Makes the request numbered `k` fail from now on, or that request and all later ones.
-fn refuse(memory: Memory, k: u64, all: bool) {
-    if all {
-        memory.refuse_from(k);
+// Makes requests fail from now on.
+fn refuse(metered: &MeteredAlloc<Global>, refusal: Refusal) {
+    if refusal.all {
+        metered.refuse_from(refusal.k);
     } else {
-        memory.refuse_at(k);
+        metered.refuse_at(refusal.k);
     }
 }
 
 // Returns a list of `count` keys from `from` on. The value of a key is the key plus `add`.
-fn list(
-    memory: Memory,
-    from: u64,
-    count: u64,
-    add: u64,
-) -> Result<Vec<(u64, u64), Memory>, AllocError> {
+fn list<A: Allocator>(
+    rt: &impl Abort,
+    memory: A,
+    (from, count, add): (u64, u64, u64),
+) -> Vec<(u64, u64), A> {
     let mut list = Vec::new(memory);
     for i in 0..count {
         let key = from.wrapping_add(i);
-        list.push((key, key.wrapping_add(add)))?;
+        list.push((key, key.wrapping_add(add)))
+            .expect(rt, "memory for the list");
     }
-    Ok(list)
+    list
 }
 
-fn numbers(memory: Memory, count: u64) -> Result<Numbers, AllocError> {
-    SeqMap::from_list(memory, list(memory, 0, count, 0)?, LowHashBuilder)
+fn numbers<A: Allocator + Copy>(rt: &impl Abort, memory: A, pairs: (u64, u64, u64)) -> Numbers<A> {
+    SeqMap::from_list(memory, list(rt, memory, pairs), LowHashBuilder).expect(
+        rt,
+        "memory for the map",
+    )
 }
 
 // Asserts that the map has the keys below `old`, each with itself as its value. If `new` is `true`, it also has the keys 2 to 7 with their
 // new values.
-fn holds(rt: &impl Abort, map: &Numbers, old: u64, new: bool) {
+fn holds<A: Allocator + Copy>(rt: &impl Abort, map: &Numbers<A>, old: u64, new: bool) {
     let mut count = 0usize;
     for key in 0..8u64 {
         let wanted = if new && key >= 2 {
@@ -132,76 +142,77 @@ fn refused_or_done(rt: &impl Abort, k: u64, refused: bool, done: bool) {
 }
 
 // Makes a map from three pieces of a list.
-fn build(
-    rt: &(impl Abort + Threads + Sync),
-    memory: Memory,
-    k: u64,
-    all: bool,
-) -> Result<bool, AllocError> {
-    let list = list(memory, 2, 6, 100)?;
-    refuse(memory, k, all);
+fn build<A: Allocator + Copy + Send + Sync, R: Abort + Threads + Sync>(
+    rt: &R,
+    metered: &MeteredAlloc<Global>,
+    memory: A,
+    refusal: Refusal,
+) -> bool {
+    let list = list(rt, memory, (2, 6, 100));
+    refuse(metered, refusal);
     let answer = map::from_par_list(rt, memory, list, LowHashBuilder, 2);
-    let refused = memory.was_refused();
-    memory.refuse_nothing();
-    refused_or_done(rt, k, refused, answer.is_ok());
+    let refused = metered.was_refused();
+    metered.refuse_nothing();
+    refused_or_done(rt, refusal.k, refused, answer.is_ok());
     if let Ok(map) = answer {
         holds(rt, &map, 0, true);
     }
-    Ok(refused)
+    refused
 }
 
 #[test]
-fn from_par_list(rt: HostRuntime) -> Result<(), Fail> {
-    refuse_each(&rt, rt.alloc(), Call::Builds)
+fn from_par_list(rt: HostRuntime) {
+    refuse_each(&rt, rt.alloc(), Call::Builds);
 }
 
 // Extends a map of `old` pairs by the list. If the map has a table, only the building can fail. If it has none, joining may also fail,
 // before the first pair. In either case the map is unchanged.
-fn extend(
-    rt: &(impl Abort + Threads + Sync),
-    memory: Memory,
+fn extend<A: Allocator + Copy + Send + Sync, R: Abort + Threads + Sync>(
+    rt: &R,
+    metered: &MeteredAlloc<Global>,
+    memory: A,
     old: u64,
-    k: u64,
-    all: bool,
-) -> Result<bool, AllocError> {
-    let mut map = numbers(memory, old)?;
-    let list = list(memory, 2, 6, 100)?;
-    refuse(memory, k, all);
-    let answer = map::par_extend(rt, &mut map, list, 2);
-    let refused = memory.was_refused();
-    memory.refuse_nothing();
-    refused_or_done(rt, k, refused, answer.is_ok());
-    holds(rt, &map, old, answer.is_ok());
-    Ok(refused)
+    refusal: Refusal,
+) -> bool {
+    let mut map = numbers(rt, memory, (0, old, 0));
+    let list = list(rt, memory, (2, 6, 100));
+    refuse(metered, refusal);
+    let done = map::par_extend(rt, &mut map, list, 2).is_ok();
+    let refused = metered.was_refused();
+    metered.refuse_nothing();
+    refused_or_done(rt, refusal.k, refused, done);
+    holds(rt, &map, old, done);
+    refused
 }
 
 #[test]
-fn par_extend(rt: HostRuntime) -> Result<(), Fail> {
-    refuse_each(&rt, rt.alloc(), Call::Extends { old: 4 })?;
-    refuse_each(&rt, rt.alloc(), Call::Extends { old: 0 })
+fn par_extend(rt: HostRuntime) {
+    refuse_each(&rt, rt.alloc(), Call::Extends { old: 4 });
+    refuse_each(&rt, rt.alloc(), Call::Extends { old: 0 });
 }
 
 // Joins another map to a map of `old` pairs. This fails only if the map has no table and all requests fail, and the map is then unchanged.
-fn join_to(
+fn join_to<A: Allocator + Copy>(
     rt: &impl Abort,
-    memory: Memory,
+    metered: &MeteredAlloc<Global>,
+    memory: A,
     old: u64,
-    k: u64,
-    all: bool,
-) -> Result<bool, AllocError> {
-    let mut left = numbers(memory, old)?;
-    let right = SeqMap::from_list(memory, list(memory, 2, 6, 100)?, LowHashBuilder)?;
-    refuse(memory, k, all);
-    let answer = map::join(&mut left, right);
-    let refused = memory.was_refused();
-    memory.refuse_nothing();
-    assert_same(rt, (k, answer.is_err()), (k, old == 0 && all && k == 0));
-    holds(rt, &left, old, answer.is_ok());
-    Ok(refused)
+    refusal: Refusal,
+) -> bool {
+    let mut left = numbers(rt, memory, (0, old, 0));
+    let right = numbers(rt, memory, (2, 6, 100));
+    refuse(metered, refusal);
+    let done = map::join(&mut left, right).is_ok();
+    let refused = metered.was_refused();
+    metered.refuse_nothing();
+    let Refusal { k, all } = refusal;
+    assert_same(rt, (k, !done), (k, old == 0 && all && k == 0));
+    holds(rt, &left, old, done);
+    refused
 }
 
 #[test]
-fn join(rt: HostRuntime) -> Result<(), Fail> {
-    refuse_each(&rt, rt.alloc(), Call::Joins { old: 4 })?;
-    refuse_each(&rt, rt.alloc(), Call::Joins { old: 0 })
+fn join(rt: HostRuntime) {
+    refuse_each(&rt, rt.alloc(), Call::Joins { old: 4 });
+    refuse_each(&rt, rt.alloc(), Call::Joins { old: 0 });
 }

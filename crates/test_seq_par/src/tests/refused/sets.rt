@@ -1,28 +1,28 @@
 //! The requests of sets.
 
-use super::{Call, Memory, refuse, refuse_each, refused_or_done};
+use super::{Call, Refusal, refuse, refuse_each, refused_or_done};
 use crate::tests::assert_same;
 use flurry_base::hash::LowHashBuilder;
 use flurry_seq_par::set;
 use flurry_seq_set::SeqSet;
-use std::alloc::AllocError;
+use metered_alloc::MeteredAlloc;
+use std::alloc::{Allocator, Global};
 use std::process::Abort;
-use std::test::Fail;
 use std::thread::Threads;
 
-type Elements = SeqSet<u64, LowHashBuilder, Memory>;
+type Elements<A> = SeqSet<u64, LowHashBuilder, A>;
 
 // Returns a list of the numbers from `from` to `to`, without `to`.
-fn list(memory: Memory, from: u64, to: u64) -> Result<Vec<u64, Memory>, AllocError> {
+fn list<A: Allocator>(rt: &impl Abort, memory: A, from: u64, to: u64) -> Vec<u64, A> {
     let mut list = Vec::new(memory);
     for element in from..to {
-        list.push(element)?;
+        list.push(element).expect(rt, "memory for the list");
     }
-    Ok(list)
+    list
 }
 
 // Asserts that the set has the elements below `old`, and if `new` is `true` also the elements 2 to 7.
-fn holds(rt: &impl Abort, set: &Elements, old: u64, new: bool) {
+fn holds<A: Allocator + Copy>(rt: &impl Abort, set: &Elements<A>, old: u64, new: bool) {
     let mut count = 0usize;
     for element in 0..8u64 {
         let wanted = element < old || new && element >= 2;
@@ -35,50 +35,53 @@ fn holds(rt: &impl Abort, set: &Elements, old: u64, new: bool) {
 }
 
 // Makes a set from three pieces of a list.
-pub(super) fn build(
-    rt: &(impl Abort + Threads + Sync),
-    memory: Memory,
-    k: u64,
-    all: bool,
-) -> Result<bool, AllocError> {
-    let list = list(memory, 2, 8)?;
-    refuse(memory, k, all);
+pub(super) fn build<A: Allocator + Copy + Send + Sync, R: Abort + Threads + Sync>(
+    rt: &R,
+    metered: &MeteredAlloc<Global>,
+    memory: A,
+    refusal: Refusal,
+) -> bool {
+    let list = list(rt, memory, 2, 8);
+    refuse(metered, refusal);
     let answer = set::from_par_list(rt, memory, list, LowHashBuilder, 2);
-    let refused = memory.was_refused();
-    memory.refuse_nothing();
-    refused_or_done(rt, k, refused, answer.is_ok());
+    let refused = metered.was_refused();
+    metered.refuse_nothing();
+    refused_or_done(rt, refusal.k, refused, answer.is_ok());
     if let Ok(set) = answer {
         holds(rt, &set, 0, true);
     }
-    Ok(refused)
+    refused
 }
 
 #[test]
-fn from_par_list(rt: HostRuntime) -> Result<(), Fail> {
-    refuse_each(&rt, rt.alloc(), Call::BuildsSet)
+fn from_par_list(rt: HostRuntime) {
+    refuse_each(&rt, rt.alloc(), Call::BuildsSet);
 }
 
 // Extends a set of `old` elements by the list. If the call fails, the set is unchanged.
-pub(super) fn extend(
-    rt: &(impl Abort + Threads + Sync),
-    memory: Memory,
+pub(super) fn extend<A: Allocator + Copy + Send + Sync, R: Abort + Threads + Sync>(
+    rt: &R,
+    metered: &MeteredAlloc<Global>,
+    memory: A,
     old: u64,
-    k: u64,
-    all: bool,
-) -> Result<bool, AllocError> {
-    let mut set = SeqSet::from_list(memory, list(memory, 0, old)?, LowHashBuilder)?;
-    let list = list(memory, 2, 8)?;
-    refuse(memory, k, all);
-    let answer = set::par_extend(rt, &mut set, list, 2);
-    let refused = memory.was_refused();
-    memory.refuse_nothing();
-    refused_or_done(rt, k, refused, answer.is_ok());
-    holds(rt, &set, old, answer.is_ok());
-    Ok(refused)
+    refusal: Refusal,
+) -> bool {
+    let mut set = SeqSet::from_list(memory, list(rt, memory, 0, old), LowHashBuilder).expect(
+        rt,
+        "memory for the set",
+    );
+    let list = list(rt, memory, 2, 8);
+    refuse(metered, refusal);
+    let done = set::par_extend(rt, &mut set, list, 2).is_ok();
+    let refused = metered.was_refused();
+    metered.refuse_nothing();
+    refused_or_done(rt, refusal.k, refused, done);
+    holds(rt, &set, old, done);
+    refused
 }
 
 #[test]
-fn par_extend(rt: HostRuntime) -> Result<(), Fail> {
-    refuse_each(&rt, rt.alloc(), Call::ExtendsSet { old: 4 })?;
-    refuse_each(&rt, rt.alloc(), Call::ExtendsSet { old: 0 })
+fn par_extend(rt: HostRuntime) {
+    refuse_each(&rt, rt.alloc(), Call::ExtendsSet { old: 4 });
+    refuse_each(&rt, rt.alloc(), Call::ExtendsSet { old: 0 });
 }
