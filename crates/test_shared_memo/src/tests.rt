@@ -5,6 +5,7 @@ use flurry_base::hash::LowHashBuilder;
 use flurry_shared_memo::{Memo, MemoCore};
 use metered_alloc::MeteredAlloc;
 use std::alloc::{AllocError, Allocator, Global};
+use std::fmt::Debug;
 use std::process::Abort;
 use std::sync::Wait;
 use std::test::Fail;
@@ -17,6 +18,13 @@ type Memory = &'static MeteredAlloc<Global>;
 // More requests than any call makes.
 const MAX_REQUESTS: u64 = 100;
 
+// Asserts that a value is the expected one. A test with many assertions calls this, because each `assert_eq!` in its own body makes its
+// proof longer.
+fn assert_same<T: PartialEq + Debug + Drop>(rt: &impl Abort, seen: T, wanted: T) {
+    assert_eq!(rt; seen, wanted);
+}
+
+// The two examples of the doc comments, word for word.
 #[test]
 fn one_owner(rt: HostRuntime) -> Result<(), Fail> {
     let mut memo = MemoCore::with_hasher(rt.alloc(), LowHashBuilder);
@@ -111,16 +119,16 @@ fn two_threads_get_one_value(rt: HostRuntime) {
     let Some(values) = agreed_by_two(&rt, rt.alloc(), &memo, 1, 1) else {
         panic!(rt; "both get the same value")
     };
-    assert!(rt; values[..] == [1] || values[..] == [2]);
-    assert_eq!(rt; memo.len(&rt), 1);
+    assert_same(&rt, values[..] == [1] || values[..] == [2], true);
+    assert_same(&rt, memo.len(&rt), 1);
 }
 
 #[test]
 fn eight_threads_agree_on_a_hundred_keys(rt: HostRuntime) {
     let memo = Memo::with_hasher(rt.alloc(), LowHashBuilder);
     let values = agreed_by_eight(&rt, rt.alloc(), &memo, 100);
-    assert_eq!(rt; values.map(|values| values.len()), Some(100));
-    assert_eq!(rt; memo.len(&rt), 100);
+    assert_same(&rt, values.map(|values| values.len()), Some(100));
+    assert_same(&rt, memo.len(&rt), 100);
 }
 
 // The Fibonacci number `n`, whose value is computed of those of the two numbers below.
@@ -141,36 +149,42 @@ fn fibonacci<R: Wait>(rt: &R, memo: &Numbers<Global>, n: u64) -> u64 {
 #[test]
 fn function_calls_the_memo(rt: HostRuntime) {
     let memo = Memo::with_hasher(rt.alloc(), LowHashBuilder);
-    assert_eq!(rt; fibonacci(&rt, &memo, 80), 23_416_728_348_467_685);
-    assert_eq!(rt; memo.len(&rt), 79);
+    assert_same(&rt, fibonacci(&rt, &memo, 80), 23_416_728_348_467_685);
+    assert_same(&rt, memo.len(&rt), 79);
 }
 
-// Whether an owned memo computes a value with the request numbered `k` refused. Then nothing is kept.
-fn owned_is_refused(rt: &impl Abort, memory: Memory, k: u64) -> bool {
-    let mut memo: MemoCore<u64, u64, LowHashBuilder, Memory> = MemoCore::with_hasher(
+// Whether an owned memo computes a value with the request numbered `k` refused. Then nothing is kept. Its allocator is a parameter, because a
+// proof over `Memory` unfolds it in each step.
+fn owned_is_refused<A: Allocator + Copy>(
+    rt: &impl Abort,
+    metered: &MeteredAlloc<Global>,
+    memory: A,
+    k: u64,
+) -> bool {
+    let mut memo: MemoCore<u64, u64, LowHashBuilder, A> = MemoCore::with_hasher(
         memory,
         LowHashBuilder,
     );
-    memory.refuse_at(k);
+    metered.refuse_at(k);
     let is_kept = memo.get_or_compute(7, |key: &u64| -> u64 { *key }).is_ok();
-    let is_refused = memory.was_refused();
-    memory.refuse_nothing();
-    assert_eq!(rt; is_kept, !is_refused, "at {k}");
-    assert_eq!(rt; memo.len(), usize::from(is_kept), "at {k}");
+    let is_refused = metered.was_refused();
+    metered.refuse_nothing();
+    let wanted = (k, !is_refused, usize::from(is_kept));
+    assert_same(rt, (k, is_kept, memo.len()), wanted);
     is_refused
 }
 
 // The same, of a shared memo.
-fn shared_is_refused<R: Wait + Abort>(rt: &R, memory: Memory, k: u64) -> bool {
-    let memo: Memo<u64, u64, LowHashBuilder, Memory> = Memo::with_hasher(memory, LowHashBuilder);
+fn shared_is_refused<R: Abort + Wait>(rt: &R, memory: Memory, k: u64) -> bool {
+    let memo: Numbers<Memory> = Memo::with_hasher(memory, LowHashBuilder);
     memory.refuse_at(k);
     let is_kept = memo
         .get_or_compute(rt, 7, |key: &u64| -> u64 { *key })
         .is_ok();
     let is_refused = memory.was_refused();
     memory.refuse_nothing();
-    assert_eq!(rt; is_kept, !is_refused, "at {k}");
-    assert_eq!(rt; memo.len(rt), usize::from(is_kept), "at {k}");
+    let wanted = (k, !is_refused, usize::from(is_kept));
+    assert_same(rt, (k, is_kept, memo.len(rt)), wanted);
     is_refused
 }
 
@@ -178,17 +192,17 @@ fn shared_is_refused<R: Wait + Abort>(rt: &R, memory: Memory, k: u64) -> bool {
 fn each_request_is_refused(rt: HostRuntime) -> Result<(), Fail> {
     let memory = MeteredAlloc::leak(rt.alloc())?;
     for k in 0..MAX_REQUESTS {
-        if !owned_is_refused(&rt, memory, k) {
-            assert_eq!(rt; k, 4);
+        if !owned_is_refused(&rt, memory, memory, k) {
+            assert_same(&rt, k, 4);
             break;
         }
     }
     for k in 0..MAX_REQUESTS {
         if !shared_is_refused(&rt, memory, k) {
-            assert_eq!(rt; k, 5);
+            assert_same(&rt, k, 5);
             break;
         }
     }
-    assert_eq!(rt; memory.live_blocks(), 0);
+    assert_same(&rt, memory.live_blocks(), 0);
     Ok(())
 }

@@ -12,7 +12,6 @@ use std::alloc::{AllocError, Allocator};
 use std::fmt::Debug;
 use std::process::Abort;
 use std::sync::{Arc, Wait};
-use std::test::Fail;
 
 // The greatest number of pairs that a walk of a test gives.
 const MAX_READ: u32 = 10_000;
@@ -29,32 +28,41 @@ fn taken<A: Allocator>(value: Option<Arc<u64, A>>) -> Option<u64> {
 }
 
 // Returns `count` pairs: the keys from 100 on, each with ten times its distance from 100 as its value.
-fn pairs_from_100<A: Allocator>(alloc: A, count: u64) -> Result<Vec<(u64, u64), A>, AllocError> {
+fn pairs_from_100<A: Allocator>(rt: &impl Abort, alloc: A, count: u64) -> Vec<(u64, u64), A> {
     let mut list = Vec::new(alloc);
     for i in 0..count {
-        list.push((i.saturating_add(100), i.saturating_mul(10)))?;
+        list.push((i.saturating_add(100), i.saturating_mul(10)))
+            .expect(rt, "memory");
     }
-    Ok(list)
+    list
 }
 
 // Inserts the earlier pairs of a test: the key 1 with the value 2, and the key 3 with the value 4.
-fn insert_two<S: KeyHasher<u64>, A: Allocator + Copy, R: Wait>(
+fn insert_two<S: KeyHasher<u64>, A: Allocator + Copy, R: Abort + Wait>(
     rt: &R,
     map: &HashMap<u64, u64, S, A>,
-) -> Result<(), AllocError> {
-    map.insert(rt, 1, 2)?;
-    map.insert(rt, 3, 4)?;
-    Ok(())
+) {
+    map.insert(rt, 1, 2).expect(rt, "memory");
+    map.insert(rt, 3, 4).expect(rt, "memory");
+}
+
+// Returns the value of a key.
+fn value_at<S: KeyHasher<u64>, A: Allocator + Copy, R: Abort + Wait>(
+    rt: &R,
+    map: &HashMap<u64, u64, S, A>,
+    key: u64,
+) -> Option<u64> {
+    taken(map.get(rt, &key).expect(rt, "memory"))
 }
 
 // Returns the values of two keys.
-fn values_at<S: KeyHasher<u64>, A: Allocator + Copy, R: Wait>(
+fn values_at<S: KeyHasher<u64>, A: Allocator + Copy, R: Abort + Wait>(
     rt: &R,
     map: &HashMap<u64, u64, S, A>,
     first: u64,
     second: u64,
-) -> Result<(Option<u64>, Option<u64>), AllocError> {
-    Ok((taken(map.get(rt, &first)?), taken(map.get(rt, &second)?)))
+) -> (Option<u64>, Option<u64>) {
+    (value_at(rt, map, first), value_at(rt, map, second))
 }
 
 // Returns the number of pairs that an iterator gives up to its end, and the sums of their keys and of their values.
@@ -91,8 +99,7 @@ fn has_sums<S: KeyHasher<u64>, A: Allocator + Copy, R: Abort + Wait>(
     rt: &R,
     map: &HashMap<u64, u64, S, A>,
     wanted: (u64, u64, u64),
-) -> Result<(), Fail> {
-    assert_same(rt, read_all(map.iter(rt))?, wanted);
+) {
+    assert_same(rt, read_all(map.iter(rt)).expect(rt, "memory"), wanted);
     assert_same(rt, map.len(rt) as u64, wanted.0);
-    Ok(())
 }

@@ -24,17 +24,26 @@ fn assert_same<T: PartialEq + Debug + Drop>(rt: &impl Abort, seen: T, wanted: T)
     assert_eq!(rt; seen, wanted);
 }
 
+// Inserts each number of a list.
+fn insert_each<A: Allocator + Copy, R: Abort + Wait>(
+    rt: &R,
+    set: &HashSet<u64, LowHashBuilder, A>,
+    numbers: &[u64],
+) {
+    for number in numbers {
+        set.insert(rt, *number).expect(rt, "memory");
+    }
+}
+
 // Returns a set of the numbers of a list, in which the hash of each number is the number.
-fn set_of<A: Allocator + Copy, R: Wait>(
+fn set_of<A: Allocator + Copy, R: Abort + Wait>(
     rt: &R,
     alloc: A,
     numbers: &[u64],
-) -> Result<HashSet<u64, LowHashBuilder, A>, AllocError> {
+) -> HashSet<u64, LowHashBuilder, A> {
     let set = HashSet::with_hasher(alloc, LowHashBuilder);
-    for number in numbers {
-        set.insert(rt, *number)?;
-    }
-    Ok(set)
+    insert_each(rt, &set, numbers);
+    set
 }
 
 // Returns the number of elements that an iterator gives up to its end, and their sum.
@@ -103,7 +112,7 @@ fn comes_and_goes<A: Allocator + Copy, R: Abort + Wait>(
 
 #[test]
 fn calls_of_one_element(rt: HostRuntime) {
-    comes_and_goes(&rt, &set_of(&rt, rt.alloc(), &[]).expect(&rt, "memory"))
+    comes_and_goes(&rt, &set_of(&rt, rt.alloc(), &[]))
 }
 
 // Asserts that `wanted` is the number of elements of a set, and their sum.
@@ -128,10 +137,7 @@ fn keeps_less<A: Allocator + Copy, R: Abort + Wait>(rt: &R, set: &HashSet<u64, L
 
 #[test]
 fn calls_of_many_elements(rt: HostRuntime) {
-    keeps_less(
-        &rt,
-        &set_of(&rt, rt.alloc(), &[0, 1, 2, 3, 4]).expect(&rt, "memory"),
-    )
+    keeps_less(&rt, &set_of(&rt, rt.alloc(), &[0, 1, 2, 3, 4]))
 }
 
 // Keeps the elements 2 and 4. While a walk shows the 4, it is removed and inserted again.
@@ -147,24 +153,24 @@ fn keeps_what_is_put_again<A: Allocator + Copy, R: Wait>(
 // An element that is removed and inserted again during the call stays.
 #[test]
 fn elements_are_kept(rt: HostRuntime) {
-    let set = set_of(&rt, rt.alloc(), &[0, 1, 2, 3, 4]).expect(&rt, "memory");
+    let set = set_of(&rt, rt.alloc(), &[0, 1, 2, 3, 4]);
     keeps_what_is_put_again(&rt, &set).expect(&rt, "memory");
     has_sums(&rt, &set, (2, 6))
 }
 
 // Returns the list of the numbers from `from` to `to`, without `to`.
-fn list<A: Allocator + Copy>(alloc: A, from: u64, to: u64) -> Result<Vec<u64, A>, AllocError> {
+fn list<A: Allocator + Copy>(rt: &impl Abort, alloc: A, from: u64, to: u64) -> Vec<u64, A> {
     let mut list = Vec::new(alloc);
     for number in from..to {
-        list.push(number)?;
+        list.push(number).expect(rt, "memory");
     }
-    Ok(list)
+    list
 }
 
 #[test]
 fn a_list_of_a_hundred(rt: HostRuntime) {
-    let set = set_of(&rt, rt.alloc(), &[0, 1]).expect(&rt, "memory");
-    set.extend(&rt, list(rt.alloc(), 0, 100).expect(&rt, "memory"))
+    let set = set_of(&rt, rt.alloc(), &[0, 1]);
+    set.extend(&rt, list(&rt, rt.alloc(), 0, 100))
         .expect(&rt, "memory");
     has_sums(&rt, &set, (100, 4950))
 }

@@ -8,19 +8,19 @@ use flurry_shared::HashMap;
 use std::alloc::Global;
 use std::process::Abort;
 use std::sync::{Arc, Wait};
-use std::test::Fail;
 
 // Returns an owned map of the keys below `count`, each with itself as its value.
 fn owned<S: KeyHasher<u64> + Drop>(
+    rt: &impl Abort,
     alloc: Global,
     hasher: S,
     count: u64,
-) -> Result<SeqMap<u64, u64, S>, Fail> {
+) -> SeqMap<u64, u64, S> {
     let mut map = SeqMap::with_hasher(alloc, hasher);
     for key in 0..count {
-        map.insert(key, key)?;
+        map.insert(key, key).expect(rt, "memory");
     }
-    Ok(map)
+    map
 }
 
 // Returns how many of the odd keys below `below` have themselves as values in an owned map.
@@ -38,13 +38,13 @@ fn count_odd<S: KeyHasher<u64>>(map: &SeqMap<u64, u64, S>, below: u64) -> u64 {
 }
 
 // Returns the shared map that an owned map becomes.
-fn shared<S: KeyHasher<u64> + Drop, R: Wait>(
+fn shared<S: KeyHasher<u64> + Drop, R: Abort + Wait>(
     rt: &R,
     map: SeqMap<u64, u64, S>,
-) -> Result<HashMap<u64, u64, S>, Fail> {
+) -> HashMap<u64, u64, S> {
     match HashMap::from_seq(rt, map) {
-        Ok(map) => Ok(map),
-        Err(_) => Err(Fail::from("there is memory")),
+        Ok(map) => map,
+        Err(_) => panic!(rt; "there is memory"),
     }
 }
 
@@ -53,74 +53,69 @@ fn halve_and_own<S: KeyHasher<u64> + Drop, R: Abort + Wait>(
     rt: &R,
     map: HashMap<u64, u64, S>,
     count: u64,
-) -> Result<(), Fail> {
+) {
     assert_same(rt, map.len(rt) as u64, count);
     assert_same(rt, count_own(rt, &map, 0, count), count);
     assert_same(rt, remove_even(rt, &map, count), count.div_ceil(2));
-    let map = map.into_seq(rt)?;
+    let map = map.into_seq(rt).expect(rt, "memory");
     assert_same(rt, map.len() as u64, count / 2);
     assert_same(rt, count_odd(&map, count), count / 2);
-    Ok(())
 }
 
 #[test]
-fn owned_and_shared_and_owned_again(rt: HostRuntime) -> Result<(), Fail> {
-    let map = owned(rt.alloc(), DefaultHashBuilder::default(), 10_000)?;
-    halve_and_own(&rt, shared(&rt, map)?, 10_000)?;
-    let map = owned(rt.alloc(), ZeroHashBuilder, 100)?;
-    halve_and_own(&rt, shared(&rt, map)?, 100)?;
+fn owned_and_shared_and_owned_again(rt: HostRuntime) {
+    let map = owned(&rt, rt.alloc(), DefaultHashBuilder::default(), 10_000);
+    halve_and_own(&rt, shared(&rt, map), 10_000);
+    let map = owned(&rt, rt.alloc(), ZeroHashBuilder, 100);
+    halve_and_own(&rt, shared(&rt, map), 100);
     for count in 0..2u64 {
-        let map = owned(rt.alloc(), LowHashBuilder, count)?;
-        halve_and_own(&rt, shared(&rt, map)?, count)?;
+        let map = owned(&rt, rt.alloc(), LowHashBuilder, count);
+        halve_and_own(&rt, shared(&rt, map), count);
     }
-    Ok(())
 }
 
 // The shared map grows from the owned map's table on.
 #[test]
-fn a_shared_map_of_an_owned_one_grows(rt: HostRuntime) -> Result<(), Fail> {
-    let map = shared(&rt, owned(rt.alloc(), LowHashBuilder, 100)?)?;
+fn a_shared_map_of_an_owned_one_grows(rt: HostRuntime) {
+    let map = shared(&rt, owned(&rt, rt.alloc(), LowHashBuilder, 100));
     assert_same(&rt, insert_all(&rt, &map, 100, 1000), 0);
     assert_same(&rt, map.len(&rt), 1000);
     assert_same(&rt, count_own(&rt, &map, 0, 1000), 1000);
-    Ok(())
 }
 
 // Returns a clone of the `Arc` of the value of the key 0.
-fn value_at_0(map: &SeqMap<u64, u64, LowHashBuilder>) -> Result<Arc<u64>, Fail> {
-    match map.get(&0) {
-        Some(value) => Ok(Arc::try_clone(value)?),
-        None => Err(Fail::from("the key is present")),
-    }
+fn value_at_0(rt: &impl Abort, map: &SeqMap<u64, u64, LowHashBuilder>) -> Arc<u64> {
+    let value = map.get(&0).expect(rt, "the key is present");
+    Arc::try_clone(value).expect(rt, "a further owner")
 }
 
 // Shares a map, sets the value of the key 0, and returns the owned map that it becomes again.
 fn set_while_shared<R: Abort + Wait>(
     rt: &R,
     map: SeqMap<u64, u64, LowHashBuilder>,
-) -> Result<SeqMap<u64, u64, LowHashBuilder>, Fail> {
-    let map = shared(rt, map)?;
-    assert_same(rt, taken(map.insert(rt, 0, 7)?), Some(0));
-    Ok(map.into_seq(rt)?)
+) -> SeqMap<u64, u64, LowHashBuilder> {
+    let map = shared(rt, map);
+    let old = map.insert(rt, 0, 7).expect(rt, "memory");
+    assert_same(rt, taken(old), Some(0));
+    map.into_seq(rt).expect(rt, "memory")
 }
 
 // A value that was returned before stays with its owner.
 #[test]
-fn a_value_has_its_other_owner_still(rt: HostRuntime) -> Result<(), Fail> {
-    let map = owned(rt.alloc(), LowHashBuilder, 1)?;
-    let value = value_at_0(&map)?;
-    let map = set_while_shared(&rt, map)?;
+fn a_value_has_its_other_owner_still(rt: HostRuntime) {
+    let map = owned(&rt, rt.alloc(), LowHashBuilder, 1);
+    let value = value_at_0(&rt, &map);
+    let map = set_while_shared(&rt, map);
     assert_same(&rt, map.get(&0).map(|value| **value), Some(7));
     assert_same(&rt, *value, 0);
-    Ok(())
 }
 
 // What was written to a shared map of an owned one goes by a `retain`, as in any other.
 #[test]
-fn a_written_pair_of_an_owned_map_goes(rt: HostRuntime) -> Result<(), Fail> {
-    let map = shared(&rt, owned(rt.alloc(), LowHashBuilder, 3)?)?;
-    assert_same(&rt, taken(map.insert(&rt, 1, 7)?), Some(1));
-    map.retain(&rt, |_, _| false)?;
+fn a_written_pair_of_an_owned_map_goes(rt: HostRuntime) {
+    let map = shared(&rt, owned(&rt, rt.alloc(), LowHashBuilder, 3));
+    let old = map.insert(&rt, 1, 7).expect(&rt, "memory");
+    assert_same(&rt, taken(old), Some(1));
+    map.retain(&rt, |_, _| false).expect(&rt, "memory");
     assert_same(&rt, map.is_empty(&rt), true);
-    Ok(())
 }

@@ -46,17 +46,18 @@ fn is_done<A: Allocator + Copy, R: Wait>(rt: &R, map: &Numbers<A>, call: Call) -
     }
 }
 
-// Returns a map of the keys below `count`, each with itself as its value.
-fn numbers<A: Allocator + Copy, R: Wait>(
-    rt: &R,
-    alloc: A,
-    count: u64,
-) -> Result<Numbers<A>, AllocError> {
-    let map = HashMap::with_hasher(alloc, LowHashBuilder);
+// Inserts the keys below `count`, each with itself as its value.
+fn fill<A: Allocator + Copy, R: Abort + Wait>(rt: &R, map: &Numbers<A>, count: u64) {
     for key in 0..count {
-        map.insert(rt, key, key)?;
+        map.insert(rt, key, key).expect(rt, "memory for the pair");
     }
-    Ok(map)
+}
+
+// Returns a map of the keys below `count`, each with itself as its value.
+fn numbers<A: Allocator + Copy, R: Abort + Wait>(rt: &R, alloc: A, count: u64) -> Numbers<A> {
+    let map = HashMap::with_hasher(alloc, LowHashBuilder);
+    fill(rt, &map, count);
+    map
 }
 
 // Makes the call while the request numbered `k` fails, on a map of `keys` keys in this memory. Returns whether that request was made,
@@ -78,33 +79,24 @@ fn refuse_in<A: Allocator + Copy, R: Wait>(
 }
 
 // Does the same as `refuse_in`, on a map that is created for the call.
-fn call_without<R: Wait>(
+fn call_without<R: Abort + Wait>(
     rt: &R,
     memory: Memory,
-    keys: u64,
-    call: Call,
+    (keys, call): (u64, Call),
     k: u64,
-) -> Result<(bool, bool, bool, usize), AllocError> {
-    let map = numbers(rt, memory, keys)?;
-    Ok(refuse_in(rt, memory, k, &map, keys, call))
+) -> (bool, bool, bool, usize) {
+    refuse_in(rt, memory, k, &numbers(rt, memory, keys), keys, call)
 }
 
 // Makes each of `requests` requests of the call fail in turn, on a map of `keys` keys: the call fails, and the pairs stay.
-fn refuse_each<R: Abort + Wait>(
-    rt: &R,
-    memory: Memory,
-    keys: u64,
-    call: Call,
-    requests: u64,
-) -> Result<(), Fail> {
+fn refuse_each<R: Abort + Wait>(rt: &R, memory: Memory, (keys, call): (u64, Call), requests: u64) {
     for k in 0..requests {
-        let seen = call_without(rt, memory, keys, call, k)?;
+        let seen = call_without(rt, memory, (keys, call), k);
         assert_same(rt, (k, seen), (k, (true, false, true, keys as usize)));
         assert_same(rt, memory.live_blocks(), 0);
     }
-    let (refused, done, _, _) = call_without(rt, memory, keys, call, requests)?;
+    let (refused, done, _, _) = call_without(rt, memory, (keys, call), requests);
     assert_same(rt, (refused, done), (false, true));
-    Ok(())
 }
 
 // A table takes two requests, and the board and the seats of the growth that fills it five more. Room for 100 pairs is 256 bins and one
@@ -112,16 +104,21 @@ fn refuse_each<R: Abort + Wait>(
 #[test]
 fn each_request_of_a_call(rt: HostRuntime) -> Result<(), Fail> {
     let memory = MeteredAlloc::leak(rt.alloc())?;
-    refuse_each(&rt, memory, 0, Call::Insert, 5)?;
-    refuse_each(&rt, memory, 1, Call::Insert, 3)?;
-    refuse_each(&rt, memory, 1, Call::Replace, 1)?;
-    refuse_each(&rt, memory, 0, Call::TryInsert, 5)?;
-    refuse_each(&rt, memory, 1, Call::TryInsert, 3)?;
-    refuse_each(&rt, memory, 0, Call::Compute, 0)?;
-    refuse_each(&rt, memory, 1, Call::Compute, 1)?;
-    refuse_each(&rt, memory, 1, Call::Get, 0)?;
-    refuse_each(&rt, memory, 0, Call::Reserve, 9)?;
-    refuse_each(&rt, memory, 1, Call::Reserve, 35)
+    for (keys, call, requests) in [
+        (0, Call::Insert, 5),
+        (1, Call::Insert, 3),
+        (1, Call::Replace, 1),
+        (0, Call::TryInsert, 5),
+        (1, Call::TryInsert, 3),
+        (0, Call::Compute, 0),
+        (1, Call::Compute, 1),
+        (1, Call::Get, 0),
+        (0, Call::Reserve, 9),
+        (1, Call::Reserve, 35),
+    ] {
+        refuse_each(&rt, memory, (keys, call), requests);
+    }
+    Ok(())
 }
 
 // If memory for the larger table, its board or a seat cannot be allocated, the insertion is done in the old table.
@@ -129,7 +126,7 @@ fn each_request_of_a_call(rt: HostRuntime) -> Result<(), Fail> {
 fn a_larger_table_of_an_insertion(rt: HostRuntime) -> Result<(), Fail> {
     let memory = MeteredAlloc::leak(rt.alloc())?;
     for k in 3..10u64 {
-        let seen = call_without(&rt, memory, 11, Call::Insert, k)?;
+        let seen = call_without(&rt, memory, (11, Call::Insert), k);
         assert_same(&rt, (k, seen), (k, (true, true, true, 12)));
     }
     Ok(())
@@ -151,13 +148,8 @@ fn requests_after<A: Allocator + Copy, R: Wait>(
 }
 
 // Does the same as `requests_after`, on a map of eleven keys in 16 bins that is created for the call.
-fn requests_after_a_refusal<R: Wait>(
-    rt: &R,
-    memory: Memory,
-    k: u64,
-) -> Result<(bool, u64), AllocError> {
-    let map = numbers(rt, memory, 11)?;
-    Ok(requests_after(rt, memory, k, &map))
+fn requests_after_a_refusal<R: Abort + Wait>(rt: &R, memory: Memory, k: u64) -> (bool, u64) {
+    requests_after(rt, memory, k, &numbers(rt, memory, 11))
 }
 
 // Two growths, to 32 and to 64 bins, take seven requests each. A growth that is refused leaves neither a table nor a board nor seats: the
@@ -167,7 +159,7 @@ fn a_refused_growth_leaves_nothing(rt: HostRuntime) -> Result<(), Fail> {
     let memory = MeteredAlloc::leak(rt.alloc())?;
     for k in 0..14u64 {
         let asked = if k < 7 { 14 } else { 7 };
-        let seen = requests_after_a_refusal(&rt, memory, k)?;
+        let seen = requests_after_a_refusal(&rt, memory, k);
         assert_same(&rt, (k, seen), (k, (true, asked)));
     }
     Ok(())
@@ -218,35 +210,29 @@ fn a_map_with_room_by_default(rt: HostRuntime) -> Result<(), Fail> {
 }
 
 // Returns an owned map of three keys, each with itself as its value.
-fn three_keys<A: Allocator + Copy>(alloc: A) -> Result<Owned<A>, AllocError> {
+fn three_keys<A: Allocator + Copy>(rt: &impl Abort, alloc: A) -> Owned<A> {
     let mut map = SeqMap::with_hasher(alloc, LowHashBuilder);
     for key in 0..3u64 {
-        map.insert(key, key)?;
+        map.insert(key, key).expect(rt, "memory for the pair");
     }
-    Ok(map)
+    map
 }
 
 // Asserts that the map that could not be shared still has its room and its three keys.
-fn has_three_keys<A: Allocator + Copy>(
-    rt: &impl Abort,
-    alloc: A,
-    map: &Owned<A>,
-    k: u64,
-) -> Result<(), AllocError> {
+fn has_three_keys<A: Allocator + Copy>(rt: &impl Abort, map: &Owned<A>, k: u64) {
     assert_same(rt, (k, map.len(), map.capacity()), (k, 3, 16));
-    assert_same(rt, *map == three_keys(alloc)?, true);
-    Ok(())
+    assert_same(rt, *map == three_keys(rt, *map.allocator()), true);
 }
 
 // Shares an owned map of three keys while the request numbered `k` fails, and checks that it comes back with its pairs.
-fn share_without<R: Abort + Wait>(rt: &R, memory: Memory, k: u64) -> Result<(), Fail> {
-    let map = three_keys(memory)?;
+fn share_without<R: Abort + Wait>(rt: &R, memory: Memory, k: u64) {
+    let map = three_keys(rt, memory);
     memory.refuse_at(k);
     let answer = HashMap::from_seq(rt, map);
     memory.refuse_nothing();
     match answer {
-        Ok(_) => Err(Fail::from("the request was refused")),
-        Err(map) => Ok(has_three_keys(rt, memory, &map, k)?),
+        Ok(_) => panic!(rt; "the request was refused"),
+        Err(map) => has_three_keys(rt, &map, k),
     }
 }
 
@@ -255,15 +241,24 @@ fn share_without<R: Abort + Wait>(rt: &R, memory: Memory, k: u64) -> Result<(), 
 fn the_tables_of_a_shared_map(rt: HostRuntime) -> Result<(), Fail> {
     let memory = MeteredAlloc::leak(rt.alloc())?;
     for k in 0..2u64 {
-        share_without(&rt, memory, k)?;
+        share_without(&rt, memory, k);
     }
     assert_same(&rt, memory.live_blocks(), 0);
     Ok(())
 }
 
-// Turns a shared map into an owned one, and returns whether that succeeded.
+// Makes an owned map of a shared one, and returns whether that succeeded.
 fn is_owned_again<A: Allocator + Copy, R: Wait>(rt: &R, map: Numbers<A>) -> bool {
     map.into_seq(rt).is_ok()
+}
+
+// Does the same with a map of three keys while the request numbered `k` fails.
+fn is_owned_without<R: Abort + Wait>(rt: &R, memory: Memory, k: u64) -> bool {
+    let map = numbers(rt, memory, 3);
+    memory.refuse_at(k);
+    let done = is_owned_again(rt, map);
+    memory.refuse_nothing();
+    done
 }
 
 // The owned map that a shared map becomes requests memory for its table and for a node of each pair.
@@ -271,10 +266,7 @@ fn is_owned_again<A: Allocator + Copy, R: Wait>(rt: &R, map: Numbers<A>) -> bool
 fn the_requests_of_an_owned_map_again(rt: HostRuntime) -> Result<(), Fail> {
     let memory = MeteredAlloc::leak(rt.alloc())?;
     for k in 0..5u64 {
-        let map = numbers(&rt, memory, 3)?;
-        memory.refuse_at(k);
-        let done = is_owned_again(&rt, map);
-        memory.refuse_nothing();
+        let done = is_owned_without(&rt, memory, k);
         assert_same(&rt, (k, done), (k, k == 4));
         assert_same(&rt, memory.live_blocks(), 0);
     }
@@ -301,38 +293,33 @@ fn run_out<A: Allocator + Copy + Send + Sync, R: Abort + Threads + Wait + Sync>(
 fn threads_without_memory(rt: HostRuntime) -> Result<(), Fail> {
     let memory = MeteredAlloc::leak(rt.alloc())?;
     for k in [0u64, 100, 1000] {
-        let map = numbers(&rt, memory, 16)?;
-        run_out(&rt, memory, k, &map);
-        drop(map);
+        run_out(&rt, memory, k, &numbers(&rt, memory, 16));
         assert_same(&rt, memory.live_blocks(), 0);
     }
     Ok(())
 }
 
-// Inserts a thousand pairs.
-fn fill<A: Allocator + Copy, R: Wait>(rt: &R, map: &Numbers<A>) -> Result<(), AllocError> {
-    for key in 0..1000u64 {
-        map.insert(rt, key, key)?;
+// Fills a map with room for a thousand pairs, and makes an owned map of it. Returns how many requests each of the two makes, if both
+// succeed.
+fn requests_with_room<R: Abort + Wait>(rt: &R, memory: Memory) -> Option<(u64, u64)> {
+    memory.refuse_nothing();
+    let map = map_with_room(memory, 1000).expect(rt, "memory for the map");
+    fill(rt, &map, 1000);
+    let asked = memory.requests();
+    memory.refuse_nothing();
+    if is_owned_again(rt, map) {
+        Some((asked, memory.requests()))
+    } else {
+        None
     }
-    Ok(())
-}
-
-// Makes an owned map of a map.
-fn becomes_owned<A: Allocator + Copy, R: Wait>(rt: &R, map: Numbers<A>) -> bool {
-    map.into_seq(rt).is_ok()
 }
 
 // A map with room for a thousand pairs asks for no further table, nor does the owned one that it becomes.
 #[test]
 fn room_is_made_once(rt: HostRuntime) -> Result<(), Fail> {
     let memory = MeteredAlloc::leak(rt.alloc())?;
-    memory.refuse_nothing();
-    let map = map_with_room(memory, 1000)?;
-    fill(&rt, &map)?;
-    assert_same(&rt, memory.requests(), 3002);
-    memory.refuse_nothing();
-    assert_same(&rt, becomes_owned(&rt, map), true);
-    assert_same(&rt, memory.requests(), 1001);
+    let asked = requests_with_room(&rt, memory);
+    assert_same(&rt, asked, Some((3002, 1001)));
     Ok(())
 }
 

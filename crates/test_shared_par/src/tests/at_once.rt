@@ -6,7 +6,6 @@ use flurry_shared::HashMap;
 use flurry_shared_par::{map, set};
 use flurry_shared_set::HashSet;
 use std::sync::atomic::{AtomicBool, AtomicU64, Ordering};
-use std::test::Fail;
 use std::thread;
 
 // The most turns that one hash waits for the others.
@@ -66,42 +65,41 @@ impl<'m> KeyHasher<u64> for CrowdHasher<'m> {
 }
 
 #[test]
-fn pieces_at_once(rt: HostRuntime) -> Result<(), Fail> {
+fn pieces_at_once(rt: HostRuntime) {
     let crowd = Crowd::new(2);
     let hasher = CrowdHasher { crowd: &crowd };
     let map = HashMap::with_hasher(rt.alloc(), hasher).with_processors(2);
-    let list = Vec::from_array(rt.alloc(), [(0u64, 5u64), (1, 7)])?;
+    let list = Vec::from_array(rt.alloc(), [(0u64, 5u64), (1, 7)]).expect(&rt, "memory");
 
-    map::par_extend(&map, &rt, list, 1)?;
+    map::par_extend(&map, &rt, list, 1).expect(&rt, "memory");
 
     assert_same(&rt, crowd.has_met(), true);
-    has_sums(&rt, &map, (2, 1, 12))
+    has_sums(&rt, &map, (2, 1, 12));
 }
 
 // As many threads take pieces as the map has processors.
 #[test]
-fn three_pieces_at_once(rt: HostRuntime) -> Result<(), Fail> {
+fn three_pieces_at_once(rt: HostRuntime) {
     let crowd = Crowd::new(3);
     let hasher = CrowdHasher { crowd: &crowd };
     let map = HashMap::with_hasher(rt.alloc(), hasher).with_processors(3);
-    let list = Vec::from_array(rt.alloc(), [(0u64, 5u64), (1, 7), (2, 9)])?;
+    let list = Vec::from_array(rt.alloc(), [(0u64, 5u64), (1, 7), (2, 9)]).expect(&rt, "memory");
 
-    map::par_extend(&map, &rt, list, 1)?;
+    map::par_extend(&map, &rt, list, 1).expect(&rt, "memory");
 
     assert_same(&rt, crowd.has_met(), true);
-    has_sums(&rt, &map, (3, 3, 21))
+    has_sums(&rt, &map, (3, 3, 21));
 }
 
 #[test]
-fn elements_at_once(rt: HostRuntime) -> Result<(), Fail> {
+fn elements_at_once(rt: HostRuntime) {
     let crowd = Crowd::new(2);
     let hasher = CrowdHasher { crowd: &crowd };
     let set = HashSet::with_hasher(rt.alloc(), hasher).with_processors(2);
-    let list = Vec::from_array(rt.alloc(), [0u64, 1])?;
+    let list = Vec::from_array(rt.alloc(), [0u64, 1]).expect(&rt, "memory");
 
-    set::par_extend(&set, &rt, list, 1)?;
+    set::par_extend(&set, &rt, list, 1).expect(&rt, "memory");
 
     assert_same(&rt, crowd.has_met(), true);
     assert_same(&rt, set.len(&rt), 2);
-    Ok(())
 }

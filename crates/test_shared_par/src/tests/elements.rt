@@ -6,7 +6,6 @@ use flurry_shared_par::{set, set_ref};
 use flurry_shared_set::HashSet;
 use std::process::Abort;
 use std::sync::Wait;
-use std::test::Fail;
 use std::thread::Threads;
 
 // Asserts that a set has the hundred pairs as elements, and no others.
@@ -18,39 +17,36 @@ fn has_a_hundred<S: KeyHasher<(u64, u64)>, R: Abort + Wait>(rt: &R, set: &HashSe
 }
 
 // Extends a set by no elements, by a hundred, and by half of these again.
-fn extends<R: Abort + AllocGlobal + Threads + Wait + Sync>(
-    rt: &R,
-    set: &HashSet<(u64, u64)>,
-) -> Result<(), Fail> {
-    set::par_extend(set, rt, Vec::new(rt.alloc()), 7)?;
+fn extends<R: Abort + AllocGlobal + Threads + Wait + Sync>(rt: &R, set: &HashSet<(u64, u64)>) {
+    set::par_extend(set, rt, Vec::new(rt.alloc()), 7).expect(rt, "memory");
     assert_same(rt, set.is_empty(rt), true);
-    set::par_extend(set, rt, pairs_from_100(rt.alloc(), 100)?, 7)?;
-    has_a_hundred(rt, set);
-    set::par_extend(set, rt, pairs_from_100(rt.alloc(), 50)?, 1)?;
-    has_a_hundred(rt, set);
-    Ok(())
+    for (count, part) in [(100, 7), (50, 1)] {
+        let list = pairs_from_100(rt, rt.alloc(), count);
+        set::par_extend(set, rt, list, part).expect(rt, "memory");
+        has_a_hundred(rt, set);
+    }
 }
 
 #[test]
-fn a_hundred_elements(rt: HostRuntime) -> Result<(), Fail> {
-    extends(&rt, &HashSet::new(rt.alloc()).with_processors(4))
+fn a_hundred_elements(rt: HostRuntime) {
+    extends(&rt, &HashSet::new(rt.alloc()).with_processors(4));
 }
 
 // Extends a set by a view, by no elements, by a hundred, and by half of these again.
 fn extends_by_a_view<R: Abort + AllocGlobal + Threads + Wait + Sync>(
     rt: &R,
     set: &HashSet<(u64, u64)>,
-) -> Result<(), Fail> {
-    set_ref::par_extend(&set.pin(rt), Vec::new(rt.alloc()), 7)?;
+) {
+    set_ref::par_extend(&set.pin(rt), Vec::new(rt.alloc()), 7).expect(rt, "memory");
     assert_same(rt, set.is_empty(rt), true);
-    set_ref::par_extend(&set.pin(rt), pairs_from_100(rt.alloc(), 100)?, 7)?;
-    has_a_hundred(rt, set);
-    set_ref::par_extend(&set.pin(rt), pairs_from_100(rt.alloc(), 50)?, 1)?;
-    has_a_hundred(rt, set);
-    Ok(())
+    for (count, part) in [(100, 7), (50, 1)] {
+        let list = pairs_from_100(rt, rt.alloc(), count);
+        set_ref::par_extend(&set.pin(rt), list, part).expect(rt, "memory");
+        has_a_hundred(rt, set);
+    }
 }
 
 #[test]
-fn a_hundred_elements_by_a_view(rt: HostRuntime) -> Result<(), Fail> {
-    extends_by_a_view(&rt, &HashSet::new(rt.alloc()).with_processors(4))
+fn a_hundred_elements_by_a_view(rt: HostRuntime) {
+    extends_by_a_view(&rt, &HashSet::new(rt.alloc()).with_processors(4));
 }

@@ -3,7 +3,7 @@
 use super::{assert_same, has_sums, list, set_of};
 use flurry_base::hash::{KeyHasher, LowHashBuilder, ZeroHashBuilder};
 use flurry_shared_set::HashSet;
-use std::alloc::{AllocError, Allocator};
+use std::alloc::{AllocError, Allocator, Global};
 use std::process::Abort;
 use std::sync::Wait;
 
@@ -14,16 +14,16 @@ fn takes_one<A: Allocator + Copy, R: Abort + Wait>(rt: &R, set: &HashSet<u64, Lo
     has_sums(rt, set, (1, 5))
 }
 
+// Makes a set with room, into which it inserts a number.
+fn has_room<R: Abort + Wait>(rt: &R, alloc: Global, capacity: usize) {
+    let set = HashSet::with_capacity_and_hasher(alloc, capacity, LowHashBuilder);
+    takes_one(rt, &set.expect(rt, "memory"));
+}
+
 #[test]
 fn sets_with_room(rt: HostRuntime) {
-    takes_one(
-        &rt,
-        &HashSet::with_capacity_and_hasher(rt.alloc(), 100, LowHashBuilder).expect(&rt, "memory"),
-    );
-    takes_one(
-        &rt,
-        &HashSet::with_capacity_and_hasher(rt.alloc(), 0, LowHashBuilder).expect(&rt, "memory"),
-    );
+    has_room(&rt, rt.alloc(), 100);
+    has_room(&rt, rt.alloc(), 0);
     takes_one(
         &rt,
         &HashSet::from_list(&rt, Vec::new(rt.alloc()), LowHashBuilder).expect(&rt, "memory"),
@@ -34,31 +34,26 @@ fn sets_with_room(rt: HostRuntime) {
 fn is_empty_at_first<S: KeyHasher<u64>, A: Allocator + Copy, R: Abort + Wait>(
     rt: &R,
     set: &HashSet<u64, S, A>,
-) -> Result<(), AllocError> {
+) {
     assert_same(rt, set.is_empty(rt), true);
-    assert_same(rt, set.insert(rt, 1)?, true);
+    assert_same(rt, set.insert(rt, 1).expect(rt, "memory"), true);
     assert_same(rt, set.is_empty(rt), false);
-    Ok(())
 }
 
 #[test]
 fn sets_of_other_hashers(rt: HostRuntime) {
     let plain: HashSet<u64> = HashSet::new(rt.alloc());
-    is_empty_at_first(&rt, &plain).expect(&rt, "memory");
+    is_empty_at_first(&rt, &plain);
     drop(plain);
     let sized: HashSet<u64> = HashSet::with_capacity(rt.alloc(), 100).expect(&rt, "memory");
-    is_empty_at_first(&rt, &sized).expect(&rt, "memory");
+    is_empty_at_first(&rt, &sized);
     drop(sized);
-    is_empty_at_first(&rt, &HashSet::with_hasher(rt.alloc(), ZeroHashBuilder)).expect(
-        &rt, "memory",
-    );
+    is_empty_at_first(&rt, &HashSet::with_hasher(rt.alloc(), ZeroHashBuilder));
 }
 
 #[test]
 fn a_set_of_four_processors(rt: HostRuntime) {
-    let set = set_of(&rt, rt.alloc(), &[1, 2])
-        .expect(&rt, "memory")
-        .with_processors(4);
+    let set = set_of(&rt, rt.alloc(), &[1, 2]).with_processors(4);
     set.reserve(&rt, 1000).expect(&rt, "memory");
     has_sums(&rt, &set, (2, 3))
 }
@@ -66,7 +61,7 @@ fn a_set_of_four_processors(rt: HostRuntime) {
 // Of a class, the element that was stored first stays.
 #[test]
 fn a_set_of_a_list(rt: HostRuntime) {
-    let mut numbers = list(rt.alloc(), 1, 4).expect(&rt, "memory");
+    let mut numbers = list(&rt, rt.alloc(), 1, 4);
     numbers.push(2).expect(&rt, "memory");
     let set = HashSet::from_list(&rt, numbers, LowHashBuilder).expect(&rt, "memory");
     has_sums(&rt, &set, (3, 6))
@@ -87,7 +82,7 @@ fn are_apart<A: Allocator + Copy, R: Abort + Wait>(
 // A clone of a set has the set's elements, and is a set of its own.
 #[test]
 fn a_further_set(rt: HostRuntime) {
-    let set = set_of(&rt, rt.alloc(), &[1, 2]).expect(&rt, "memory");
+    let set = set_of(&rt, rt.alloc(), &[1, 2]);
     are_apart(&rt, &set, &set.try_clone(&rt).expect(&rt, "memory"))
 }
 

@@ -58,72 +58,61 @@ fn are_related<A: Allocator + Copy, R: Wait>(rt: &R, set: &Numbers<A>) -> bool {
 
 // Makes the call while the request numbered `k` fails, of a set and a list in this memory. Returns whether the request was made, whether
 // the call succeeded, and the number of elements afterwards.
-fn refuse_in<A: Allocator + Copy, R: Wait>(
+fn refuse_in<A: Allocator + Copy, R: Abort + Wait>(
     rt: &R,
-    memory: &MeteredAlloc<Global>,
+    metered: &MeteredAlloc<Global>,
     k: u64,
     set: &Numbers<A>,
     list: Vec<u64, A>,
     call: Call,
-) -> Result<(bool, bool, u64), AllocError> {
-    memory.refuse_at(k);
+) -> (bool, bool, u64) {
+    metered.refuse_at(k);
     let done = is_done(rt, set, list, call);
-    let refused = memory.was_refused();
-    memory.refuse_nothing();
-    Ok((refused, done, read_all(set.iter(rt))?.0))
+    let refused = metered.was_refused();
+    metered.refuse_nothing();
+    let (count, _) = read_all(set.iter(rt)).expect(rt, "memory for the walk");
+    (refused, done, count)
 }
 
 // Does the same as `refuse_in`, with a set of 1 and 2 and a list of 10 and 11.
-fn call_without<R: Wait>(
-    rt: &R,
-    memory: Memory,
-    call: Call,
-    k: u64,
-) -> Result<(bool, bool, u64), AllocError> {
-    let list = list(memory, 10, 12)?;
-    let set = set_of(rt, memory, &[1, 2])?;
-    refuse_in(rt, memory, k, &set, list, call)
+fn call_without<R: Abort + Wait>(rt: &R, memory: Memory, call: Call, k: u64) -> (bool, bool, u64) {
+    let list = list(rt, memory, 10, 12);
+    refuse_in(rt, memory, k, &set_of(rt, memory, &[1, 2]), list, call)
 }
 
 // Makes each of `requests` requests fail in turn: the call then fails, and leaves two elements. If no request fails, it leaves `left`
 // elements.
-fn refuse_each<R: Abort + Wait>(
-    rt: &R,
-    memory: Memory,
-    call: Call,
-    requests: u64,
-    left: u64,
-) -> Result<(), Fail> {
+fn refuse_each<R: Abort + Wait>(rt: &R, memory: Memory, (call, requests, left): (Call, u64, u64)) {
     for k in 0..requests {
-        let seen = call_without(rt, memory, call, k)?;
+        let seen = call_without(rt, memory, call, k);
         assert_same(rt, (call, k, seen), (call, k, (true, false, 2)));
         assert_same(rt, memory.live_blocks(), 0);
     }
-    let seen = call_without(rt, memory, call, requests)?;
+    let seen = call_without(rt, memory, call, requests);
     assert_same(
         rt,
         (call, requests, seen),
         (call, requests, (false, true, left)),
     );
     assert_same(rt, memory.live_blocks(), 0);
+}
+
+// The first three make no request.
+#[test]
+fn each_request_of_a_call(rt: HostRuntime) -> Result<(), Fail> {
+    let memory = MeteredAlloc::leak(rt.alloc())?;
+    for row in [
+        (Call::Get, 0, 2),
+        (Call::Retain, 0, 1),
+        (Call::Relations, 0, 2),
+        (Call::Insert, 3, 3),
+        (Call::Reserve, 35, 2),
+        (Call::FromList, 8, 2),
+        (Call::TryClone, 5, 2),
+    ] {
+        refuse_each(&rt, memory, row);
+    }
     Ok(())
-}
-
-#[test]
-fn calls_without_a_request(rt: HostRuntime) -> Result<(), Fail> {
-    let memory = MeteredAlloc::leak(rt.alloc())?;
-    refuse_each(&rt, memory, Call::Get, 0, 2)?;
-    refuse_each(&rt, memory, Call::Retain, 0, 1)?;
-    refuse_each(&rt, memory, Call::Relations, 0, 2)
-}
-
-#[test]
-fn calls_with_requests(rt: HostRuntime) -> Result<(), Fail> {
-    let memory = MeteredAlloc::leak(rt.alloc())?;
-    refuse_each(&rt, memory, Call::Insert, 3, 3)?;
-    refuse_each(&rt, memory, Call::Reserve, 35, 2)?;
-    refuse_each(&rt, memory, Call::FromList, 8, 2)?;
-    refuse_each(&rt, memory, Call::TryClone, 5, 2)
 }
 
 // An extension keeps the elements that it inserted before the request that failed.
@@ -131,13 +120,13 @@ fn calls_with_requests(rt: HostRuntime) -> Result<(), Fail> {
 fn an_extension(rt: HostRuntime) -> Result<(), Fail> {
     let memory = MeteredAlloc::leak(rt.alloc())?;
     for k in 0..6u64 {
-        let seen = call_without(&rt, memory, Call::Extend, k)?;
+        let seen = call_without(&rt, memory, Call::Extend, k);
         assert_same(&rt, (k, seen), (k, (true, false, 2 + k / 3)));
         assert_same(&rt, memory.live_blocks(), 0);
     }
     assert_same(
         &rt,
-        call_without(&rt, memory, Call::Extend, 6)?,
+        call_without(&rt, memory, Call::Extend, 6),
         (false, true, 4),
     );
     Ok(())
@@ -188,45 +177,47 @@ fn a_set_with_room_by_default(rt: HostRuntime) -> Result<(), Fail> {
 }
 
 // Inserts a hundred numbers one after another, and returns how many requests that makes.
-fn requests_of_insertions<A: Allocator + Copy, R: Wait>(
+fn requests_of_insertions<A: Allocator + Copy, R: Abort + Wait>(
     rt: &R,
-    memory: &MeteredAlloc<Global>,
+    metered: &MeteredAlloc<Global>,
     set: &Numbers<A>,
-) -> Result<u64, AllocError> {
-    memory.refuse_nothing();
+) -> u64 {
+    metered.refuse_nothing();
     for number in 0..100u64 {
-        set.insert(rt, number)?;
+        set.insert(rt, number).expect(rt, "memory");
     }
-    Ok(memory.requests())
+    metered.requests()
 }
 
 // Makes the call, of a set or of a list in this memory. Returns whether it succeeded, and how many requests it made.
 fn asked_in<A: Allocator + Copy, R: Wait>(
     rt: &R,
-    memory: &MeteredAlloc<Global>,
+    metered: &MeteredAlloc<Global>,
     set: &Numbers<A>,
     list: Vec<u64, A>,
     call: Call,
 ) -> (bool, u64) {
-    memory.refuse_nothing();
+    metered.refuse_nothing();
     let done = is_done(rt, set, list, call);
-    (done, memory.requests())
+    (done, metered.requests())
 }
 
 // Does the same as `asked_in`, with an empty set and a list of a hundred numbers.
-fn asked_by<R: Wait>(rt: &R, memory: Memory, call: Call) -> Result<(bool, u64), AllocError> {
-    let list = list(memory, 0, 100)?;
-    let set = set_of(rt, memory, &[])?;
-    Ok(asked_in(rt, memory, &set, list, call))
+fn asked_by<R: Abort + Wait>(rt: &R, memory: Memory, call: Call) -> (bool, u64) {
+    let list = list(rt, memory, 0, 100);
+    asked_in(rt, memory, &set_of(rt, memory, &[]), list, call)
 }
 
 // A set with room makes no further table: a hundred elements ask for three blocks each.
 #[test]
 fn room_is_made_first(rt: HostRuntime) -> Result<(), Fail> {
     let memory = MeteredAlloc::leak(rt.alloc())?;
-    let asked = requests_of_insertions(&rt, memory, &set_with_room(memory, 100)?)?;
-    assert_same(&rt, asked, 300);
-    assert_same(&rt, asked_by(&rt, memory, Call::FromList)?, (true, 302));
-    assert_same(&rt, asked_by(&rt, memory, Call::Extend)?, (true, 309));
+    let set = set_with_room(memory, 100)?;
+    assert_same(&rt, requests_of_insertions(&rt, memory, &set), 300);
+    drop(set);
+    let asked = asked_by(&rt, memory, Call::FromList);
+    assert_same(&rt, asked, (true, 302));
+    let asked = asked_by(&rt, memory, Call::Extend);
+    assert_same(&rt, asked, (true, 309));
     Ok(())
 }

@@ -75,23 +75,16 @@ fn stand_so<A: Allocator + Copy, R: Abort + Wait>(
     left: &HashSet<u64, LowHashBuilder, A>,
     right: &HashSet<u64, LowHashBuilder, A>,
     wanted: Relations,
-) -> Result<(), AllocError> {
-    assert_same(rt, of_sets(rt, left, right)?, wanted);
-    assert_same(rt, of_views(&left.pin(rt), &right.pin(rt))?, wanted);
-    Ok(())
+) {
+    assert_same(rt, of_sets(rt, left, right).expect(rt, "memory"), wanted);
+    let seen = of_views(&left.pin(rt), &right.pin(rt)).expect(rt, "memory");
+    assert_same(rt, seen, wanted);
 }
 
 // Asserts that `wanted` are the relations of the sets of these numbers, and of their views.
-fn related<R: Abort + Wait>(
-    rt: &R,
-    alloc: Global,
-    left: &[u64],
-    right: &[u64],
-    wanted: Relations,
-) -> Result<(), AllocError> {
-    let left = set_of(rt, alloc, left)?;
-    let right = set_of(rt, alloc, right)?;
-    stand_so(rt, &left, &right, wanted)
+fn related<R: Abort + Wait>(rt: &R, alloc: Global, left: &[u64], right: &[u64], wanted: Relations) {
+    let (left, right) = (set_of(rt, alloc, left), set_of(rt, alloc, right));
+    stand_so(rt, &left, &right, wanted);
 }
 
 // Inserts 1, which is present, and takes it: of 1 and 2, 2 is left.
@@ -103,20 +96,20 @@ fn leaves_two<A: Allocator + Copy, R: Abort + Wait>(rt: &R, set: &HashSet<u64, L
 
 #[test]
 fn row_21(rt: HostRuntime) {
-    related(&rt, rt.alloc(), &[1, 2], &[1, 2, 3], LESS).expect(&rt, "memory");
-    related(&rt, rt.alloc(), &[1, 2, 3], &[1, 2], MORE).expect(&rt, "memory");
-    related(&rt, rt.alloc(), &[1, 2], &[4], APART).expect(&rt, "memory");
-    leaves_two(&rt, &set_of(&rt, rt.alloc(), &[1, 2]).expect(&rt, "memory"))
+    related(&rt, rt.alloc(), &[1, 2], &[1, 2, 3], LESS);
+    related(&rt, rt.alloc(), &[1, 2, 3], &[1, 2], MORE);
+    related(&rt, rt.alloc(), &[1, 2], &[4], APART);
+    leaves_two(&rt, &set_of(&rt, rt.alloc(), &[1, 2]))
 }
 
 #[test]
 fn other_sets(rt: HostRuntime) {
-    related(&rt, rt.alloc(), &[1, 2], &[2, 1], EQUAL).expect(&rt, "memory");
+    related(&rt, rt.alloc(), &[1, 2], &[2, 1], EQUAL);
     let beside = Relations {
         is_disjoint: false,
         ..APART
     };
-    related(&rt, rt.alloc(), &[1, 2], &[2, 3], beside).expect(&rt, "memory");
+    related(&rt, rt.alloc(), &[1, 2], &[2, 3], beside);
 }
 
 // The empty set is a subset of every set, and is disjoint from every set, including itself.
@@ -126,15 +119,15 @@ fn the_empty_set(rt: HostRuntime) {
         is_disjoint: true,
         ..LESS
     };
-    related(&rt, rt.alloc(), &[], &[1], less).expect(&rt, "memory");
+    related(&rt, rt.alloc(), &[], &[1], less);
     let more = Relations {
         is_disjoint: true,
         ..MORE
     };
-    related(&rt, rt.alloc(), &[1], &[], more).expect(&rt, "memory");
+    related(&rt, rt.alloc(), &[1], &[], more);
     let equal = Relations {
         is_disjoint: true,
         ..EQUAL
     };
-    related(&rt, rt.alloc(), &[], &[], equal).expect(&rt, "memory");
+    related(&rt, rt.alloc(), &[], &[], equal);
 }

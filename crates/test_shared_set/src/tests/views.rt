@@ -57,14 +57,14 @@ fn changes_the_set<A: Allocator + Copy, R: Abort + Wait>(
 
 #[test]
 fn calls_of_a_view(rt: HostRuntime) {
-    let set = set_of(&rt, rt.alloc(), &[1, 2]).expect(&rt, "memory");
+    let set = set_of(&rt, rt.alloc(), &[1, 2]);
     changes_the_set(&rt, &set, &set.pin(&rt))
 }
 
 // A set of one element is not empty, nor is its view.
 #[test]
 fn a_set_of_one_element(rt: HostRuntime) {
-    let set = set_of(&rt, rt.alloc(), &[7]).expect(&rt, "memory");
+    let set = set_of(&rt, rt.alloc(), &[7]);
     let view = set.pin(&rt);
     assert_same(&rt, (set.is_empty(&rt), view.is_empty()), (false, false));
     assert_same(&rt, (set.len(&rt), view.len()), (1, 1));

@@ -13,6 +13,9 @@ use std::thread::Threads;
 // The number of keys that are present before the threads start.
 const STANDING: usize = 1000;
 
+// The number of keys that are counted.
+const COUNTED: usize = 21_000;
+
 // The work of one thread.
 #[derive(Clone, Copy)]
 enum Work {
@@ -22,7 +25,7 @@ enum Work {
     Remove(u64, u64),
     // Looks up the keys from the first number to the second, without the second.
     Look(u64, u64),
-    // Walks this number of times, and fails if a walk does not give each of the earlier keys once.
+    // Walks this number of times, and fails if a walk does not give each of the earlier keys once, or gives another key twice.
     Walk(u32),
     // Folds this number of times, and fails if a fold does not count each of the earlier keys once.
     Fold(u32),
@@ -82,7 +85,7 @@ fn look_all<S: KeyHasher<u64>, A: Allocator + Copy, R: Wait>(
     others
 }
 
-// Walks `times` times, and returns how many of the earlier keys were not given once.
+// Walks `times` times, and returns how many keys were given otherwise than `walk_once` says.
 fn walk_often<S: KeyHasher<u64>, A: Allocator + Copy, R: Wait>(
     rt: &R,
     map: &HashMap<u64, u64, S, A>,
@@ -111,22 +114,24 @@ fn fold_often<S: KeyHasher<u64>, A: Allocator + Copy, R: Wait>(
     failed
 }
 
-// Returns how many of the earlier keys one walk does not give once.
+// Returns how many of the earlier keys one walk does not give once, and how many other keys it gives more than once.
 fn walk_once<S: KeyHasher<u64>, A: Allocator + Copy, R: Wait>(
     rt: &R,
     map: &HashMap<u64, u64, S, A>,
 ) -> u64 {
-    let mut given = [0u8; STANDING];
+    let mut given = [0u8; COUNTED];
     let mut keys = map.keys(rt);
     count_given(&mut keys, &mut given);
     drop(keys);
-    given.iter().filter(|times| **times != 1).count() as u64
+    let earlier = given.iter().take(STANDING).filter(|times| **times != 1);
+    let others = given.iter().skip(STANDING).filter(|times| **times > 1);
+    (earlier.count() as u64).saturating_add(others.count() as u64)
 }
 
-// Counts how often a walk gives each of the earlier keys.
+// Counts how often a walk gives each key.
 fn count_given<A: Allocator + Copy, R: Wait>(
     keys: &mut Keys<'_, R, u64, u64, A>,
-    given: &mut [u8; STANDING],
+    given: &mut [u8; COUNTED],
 ) {
     for _ in 0..super::MAX_READ {
         let Ok(Some(key)) = keys.next() else {
@@ -157,13 +162,15 @@ fn work_in_threads<
     failures.load(Ordering::SeqCst)
 }
 
-// Each walk and each fold gives each key that was present before it started once, while the table is doubled several times.
+// Each walk and each fold gives each key that was present before it started once, while the table is doubled several times. No walk gives a
+// key twice.
 #[test]
 fn walks_beside_insertions(rt: HostRuntime) {
     let map = numbers(&rt, rt.alloc(), STANDING as u64).with_processors(4);
     let works = [
         Work::Insert(1000, 11_000),
         Work::Insert(11_000, 21_000),
+        Work::Walk(2),
         Work::Walk(2),
         Work::Walk(2),
         Work::Fold(2),

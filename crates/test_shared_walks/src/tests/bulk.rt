@@ -4,22 +4,22 @@ use super::walks::sums_of_later_pairs;
 use super::{Numbers, assert_same, has_sums, numbers};
 use flurry_base::hash::{DefaultHashBuilder, KeyHasher, LowHashBuilder, ZeroHashBuilder};
 use flurry_shared::HashMap;
-use std::alloc::{AllocError, Allocator};
+use std::alloc::Allocator;
 use std::process::Abort;
 use std::sync::Wait;
 
 // Returns a list of the keys from `from` to `to`, without `to`. The value of a key is the key plus `more`.
 pub(super) fn list<A: Allocator>(
+    rt: &impl Abort,
     alloc: A,
-    from: u64,
-    to: u64,
-    more: u64,
-) -> Result<Vec<(u64, u64), A>, AllocError> {
+    (from, to, more): (u64, u64, u64),
+) -> Vec<(u64, u64), A> {
     let mut list = Vec::new(alloc);
     for key in from..to {
-        list.push((key, key.saturating_add(more)))?;
+        list.push((key, key.saturating_add(more)))
+            .expect(rt, "memory");
     }
-    Ok(list)
+    list
 }
 
 // Extends a map by the pairs of a list, and checks the map's sums afterwards.
@@ -29,21 +29,14 @@ fn extends_to<S: KeyHasher<u64>, R: Abort + Wait + AllocGlobal>(
     further: (u64, u64, u64),
     wanted: (u64, u64, u64),
 ) {
-    map.extend(
-        rt,
-        list(rt.alloc(), further.0, further.1, further.2).expect(rt, "memory"),
-    )
-    .expect(rt, "memory");
+    map.extend(rt, list(rt, rt.alloc(), further))
+        .expect(rt, "memory");
     has_sums(rt, map, wanted)
 }
 
 fn lists_of_many_bins<R: Abort + Wait + AllocGlobal>(rt: &R) {
-    let map = HashMap::from_list(
-        rt,
-        list(rt.alloc(), 0, 100, 0).expect(rt, "memory"),
-        LowHashBuilder,
-    )
-    .expect(rt, "memory");
+    let pairs = list(rt, rt.alloc(), (0, 100, 0));
+    let map = HashMap::from_list(rt, pairs, LowHashBuilder).expect(rt, "memory");
     has_sums(rt, &map, (100, 4950, 4950));
     extends_to(rt, &map, (90, 110, 1), (110, 5995, 6015))
 }
@@ -63,12 +56,8 @@ fn lists(rt: HostRuntime) {
 // An empty list makes no table: a walk that starts before the first pair gives no pairs.
 #[test]
 fn an_empty_list(rt: HostRuntime) {
-    let map = HashMap::from_list(
-        &rt,
-        list(rt.alloc(), 0, 0, 0).expect(&rt, "memory"),
-        LowHashBuilder,
-    )
-    .expect(&rt, "memory");
+    let pairs = list(&rt, rt.alloc(), (0, 0, 0));
+    let map = HashMap::from_list(&rt, pairs, LowHashBuilder).expect(&rt, "memory");
     assert_same(
         &rt,
         sums_of_later_pairs(&rt, &map).expect(&rt, "memory"),
@@ -94,25 +83,25 @@ fn a_further_map(rt: HostRuntime) {
 }
 
 // Returns a map of the keys below `to`, with the hasher of `seed`. The value of a key is the key plus `more`.
-fn seeded<R: Wait + AllocGlobal>(
+fn seeded<R: Abort + Wait + AllocGlobal>(
     rt: &R,
     to: u64,
     more: u64,
     seed: u64,
-) -> Result<HashMap<u64, u64>, AllocError> {
-    let list = list(rt.alloc(), 0, to, more)?;
-    HashMap::from_list(rt, list, DefaultHashBuilder::with_seed(seed))
+) -> HashMap<u64, u64> {
+    let list = list(rt, rt.alloc(), (0, to, more));
+    HashMap::from_list(rt, list, DefaultHashBuilder::with_seed(seed)).expect(rt, "memory")
 }
 
 // Returns whether a map is equal to the map of the keys below `to`, in which the value of a key is the key plus `more`.
-fn equals_further<R: Wait + AllocGlobal>(
+fn equals_further<R: Abort + Wait + AllocGlobal>(
     rt: &R,
     map: &HashMap<u64, u64>,
     to: u64,
     more: u64,
-) -> Result<bool, AllocError> {
-    let further = seeded(rt, to, more, 1)?;
-    map.equals(rt, &further)
+) -> bool {
+    map.equals(rt, &seeded(rt, to, more, 1))
+        .expect(rt, "memory")
 }
 
 // A map of twenty pairs is equal to itself and to another map of these pairs, and to no other map.
@@ -123,21 +112,10 @@ fn equals_its_like<R: Abort + Wait + AllocGlobal>(
 ) {
     assert_same(rt, map.equals(rt, other).expect(rt, "memory"), true);
     assert_same(rt, map.equals(rt, map).expect(rt, "memory"), true);
-    assert_same(
-        rt,
-        equals_further(rt, map, 19, 0).expect(rt, "memory"),
-        false,
-    );
-    assert_same(
-        rt,
-        equals_further(rt, map, 21, 0).expect(rt, "memory"),
-        false,
-    );
-    assert_same(
-        rt,
-        equals_further(rt, map, 20, 1).expect(rt, "memory"),
-        false,
-    );
+    for (to, more) in [(19, 0), (21, 0), (20, 1)] {
+        let equal = equals_further(rt, map, to, more);
+        assert_same(rt, (to, more, equal), (to, more, false));
+    }
 }
 
 // The other map has another key in place of one key.
@@ -160,8 +138,8 @@ fn compares<R: Abort + Wait + AllocGlobal>(
 
 #[test]
 fn equal_maps(rt: HostRuntime) {
-    let map = seeded(&rt, 20, 0, 1).expect(&rt, "memory");
-    compares(&rt, &map, &seeded(&rt, 20, 0, 2).expect(&rt, "memory"))
+    let map = seeded(&rt, 20, 0, 1);
+    compares(&rt, &map, &seeded(&rt, 20, 0, 2))
 }
 
 // Pairs are inserted in their order: of a key that comes twice the last value stands.

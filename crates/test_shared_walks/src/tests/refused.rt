@@ -46,83 +46,76 @@ fn is_done<A: Allocator + Copy, R: Wait>(
 }
 
 // Returns the number of pairs that a walk gives, which must be the count of the map.
-fn count_there<A: Allocator + Copy, R: Wait>(rt: &R, map: &Numbers<A>) -> Result<usize, Fail> {
-    let there = read_all(map.iter(rt))?.0 as usize;
-    if there == map.len(rt) {
-        Ok(there)
-    } else {
-        Err(Fail::from("the count is that of the pairs"))
-    }
+fn count_there<A: Allocator + Copy, R: Abort + Wait>(rt: &R, map: &Numbers<A>) -> usize {
+    let there = read_all(map.iter(rt)).expect(rt, "memory").0 as usize;
+    assert_same(rt, there, map.len(rt));
+    there
 }
 
 // Makes the call while the request numbered `k` fails, of a map and a list in this memory. Returns whether the request was made, whether
 // the call succeeded, and the number of pairs afterwards.
-fn refuse_in<A: Allocator + Copy, R: Wait>(
+fn refuse_in<A: Allocator + Copy, R: Abort + Wait>(
     rt: &R,
-    memory: &MeteredAlloc<Global>,
+    metered: &MeteredAlloc<Global>,
     k: u64,
     map: &Numbers<A>,
     list: Vec<(u64, u64), A>,
     call: Call,
-) -> Result<(bool, bool, usize), Fail> {
-    memory.refuse_at(k);
+) -> (bool, bool, usize) {
+    metered.refuse_at(k);
     let done = is_done(rt, map, list, call);
-    let refused = memory.was_refused();
-    memory.refuse_nothing();
-    Ok((refused, done, count_there(rt, map)?))
+    let refused = metered.was_refused();
+    metered.refuse_nothing();
+    (refused, done, count_there(rt, map))
 }
 
 // Does the same as `refuse_in`, with a map of the keys 0 to 2 and a list of the keys 10 to 12.
-fn call_without<R: Wait>(
+fn call_without<R: Abort + Wait>(
     rt: &R,
     memory: Memory,
     call: Call,
     k: u64,
-) -> Result<(bool, bool, usize), Fail> {
-    let list = list(memory, 10, 13, 0)?;
-    let map = numbers(rt, memory, 3);
-    refuse_in(rt, memory, k, &map, list, call)
+) -> (bool, bool, usize) {
+    let list = list(rt, memory, (10, 13, 0));
+    refuse_in(rt, memory, k, &numbers(rt, memory, 3), list, call)
 }
 
 // Makes each of `requests` requests fail in turn: the call then fails, and leaves three pairs. If no request fails, it leaves `left` pairs.
 fn refuse_each<R: Abort + Wait>(
     rt: &R,
     memory: Memory,
-    call: Call,
-    requests: u64,
-    left: usize,
-) -> Result<(), Fail> {
+    (call, requests, left): (Call, u64, usize),
+) {
     for k in 0..requests {
-        let seen = call_without(rt, memory, call, k)?;
+        let seen = call_without(rt, memory, call, k);
         assert_same(rt, (call, k, seen), (call, k, (true, false, 3)));
         assert_same(rt, memory.live_blocks(), 0);
     }
-    let seen = call_without(rt, memory, call, requests)?;
+    let seen = call_without(rt, memory, call, requests);
     assert_same(
         rt,
         (call, requests, seen),
         (call, requests, (false, true, left)),
     );
     assert_same(rt, memory.live_blocks(), 0);
+}
+
+// The first four make no request. The requests of the others are for a table and its slots, and three for each pair. A clone of a map
+// shares its keys and values, and is built in a table of its own first.
+#[test]
+fn each_request_of_a_call(rt: HostRuntime) -> Result<(), Fail> {
+    let memory = MeteredAlloc::leak(rt.alloc())?;
+    for row in [
+        (Call::Walk, 0, 3),
+        (Call::Retain, 0, 2),
+        (Call::RetainForce, 0, 2),
+        (Call::Equals, 0, 3),
+        (Call::FromList, 11, 3),
+        (Call::TryClone, 6, 3),
+    ] {
+        refuse_each(&rt, memory, row);
+    }
     Ok(())
-}
-
-#[test]
-fn calls_without_a_request(rt: HostRuntime) -> Result<(), Fail> {
-    let memory = MeteredAlloc::leak(rt.alloc())?;
-    refuse_each(&rt, memory, Call::Walk, 0, 3)?;
-    refuse_each(&rt, memory, Call::Retain, 0, 2)?;
-    refuse_each(&rt, memory, Call::RetainForce, 0, 2)?;
-    refuse_each(&rt, memory, Call::Equals, 0, 3)
-}
-
-// The requests are for a table and its slots, and three for each pair. A clone of a map shares its keys and values, and is built in a table
-// of its own first.
-#[test]
-fn maps_that_are_made(rt: HostRuntime) -> Result<(), Fail> {
-    let memory = MeteredAlloc::leak(rt.alloc())?;
-    refuse_each(&rt, memory, Call::FromList, 11, 3)?;
-    refuse_each(&rt, memory, Call::TryClone, 6, 3)
 }
 
 // An extension keeps the pairs that it inserted before the request that failed.
@@ -130,13 +123,13 @@ fn maps_that_are_made(rt: HostRuntime) -> Result<(), Fail> {
 fn an_extension(rt: HostRuntime) -> Result<(), Fail> {
     let memory = MeteredAlloc::leak(rt.alloc())?;
     for k in 0..9u64 {
-        let seen = call_without(&rt, memory, Call::Extend, k)?;
+        let seen = call_without(&rt, memory, Call::Extend, k);
         assert_same(&rt, (k, seen), (k, (true, false, 3 + k as usize / 3)));
         assert_same(&rt, memory.live_blocks(), 0);
     }
     assert_same(
         &rt,
-        call_without(&rt, memory, Call::Extend, 9)?,
+        call_without(&rt, memory, Call::Extend, 9),
         (false, true, 6),
     );
     Ok(())
@@ -145,27 +138,25 @@ fn an_extension(rt: HostRuntime) -> Result<(), Fail> {
 // Makes the call, of a map or of a list in this memory. Returns whether it succeeded, and how many requests it made.
 fn asked_in<A: Allocator + Copy, R: Wait>(
     rt: &R,
-    memory: &MeteredAlloc<Global>,
+    metered: &MeteredAlloc<Global>,
     map: &Numbers<A>,
     list: Vec<(u64, u64), A>,
     call: Call,
 ) -> (bool, u64) {
-    memory.refuse_nothing();
+    metered.refuse_nothing();
     let done = is_done(rt, map, list, call);
-    (done, memory.requests())
+    (done, metered.requests())
 }
 
 // Does the same as `asked_in`, with a map of the keys below `pairs` and a list of `others` greater keys.
-fn asked_by<R: Wait>(
+fn asked_by<R: Abort + Wait>(
     rt: &R,
     memory: Memory,
-    pairs: u64,
-    others: u64,
+    (pairs, others): (u64, u64),
     call: Call,
-) -> Result<(bool, u64), Fail> {
-    let list = list(memory, 100, others.saturating_add(100), 0)?;
-    let map = numbers(rt, memory, pairs);
-    Ok(asked_in(rt, memory, &map, list, call))
+) -> (bool, u64) {
+    let list = list(rt, memory, (100, others.saturating_add(100), 0));
+    asked_in(rt, memory, &numbers(rt, memory, pairs), list, call)
 }
 
 // Room is made first: a hundred pairs ask for the tables of that room, one of them by a growth with its board and seats, and for three
@@ -174,13 +165,14 @@ fn asked_by<R: Wait>(
 #[test]
 fn room_is_made_first(rt: HostRuntime) -> Result<(), Fail> {
     let memory = MeteredAlloc::leak(rt.alloc())?;
-    let asked = asked_by(&rt, memory, 0, 100, Call::FromList)?;
-    assert_same(&rt, asked, (true, 302));
-    let asked = asked_by(&rt, memory, 100, 0, Call::TryClone)?;
-    assert_same(&rt, asked, (true, 103));
-    let asked = asked_by(&rt, memory, 0, 100, Call::Extend)?;
-    assert_same(&rt, asked, (true, 309));
-    let asked = asked_by(&rt, memory, 1, 8, Call::Extend)?;
-    assert_same(&rt, asked, (true, 24));
+    for (sizes, call, requests) in [
+        ((0, 100), Call::FromList, 302),
+        ((100, 0), Call::TryClone, 103),
+        ((0, 100), Call::Extend, 309),
+        ((1, 8), Call::Extend, 24),
+    ] {
+        let asked = asked_by(&rt, memory, sizes, call);
+        assert_same(&rt, (call, asked), (call, (true, requests)));
+    }
     Ok(())
 }
