@@ -46,8 +46,12 @@ pub(super) fn first_step<K: Ord + Drop, V: Drop, A: Allocator + Copy, F: Compute
     requires { (f : F) → F.can_change f }
 {
     let mut party = Party::from_owned(call, hash, 4);
-    let mut lock_field = CallField::new(&LockField::new(rt, locks));
-    act(&mut party, &mut lock_field)
+    let event = {
+        let mut lock_field = CallField::new(&LockField::new(rt, locks));
+        act(&mut party, &mut lock_field)
+    };
+    drop(party);
+    event
 }
 
 // Returns whether a reply says that a key is present.
