@@ -2,9 +2,9 @@
 # Sourced by `test`, at the top of the repository: what is seen in the sources before anything is proved, since no proof sees it. Each
 # fault is told on standard error.
 
-# The first example of README is the code of `docs_first`, which is proved and run. So it cannot go stale.
+# The first example of README is the code of a file of `docs_comments`, which is proved and run. So it cannot go stale.
 check_first_example() {
-    local code=crates/docs_first/src/tests.rt
+    local code=crates/docs_comments/src/tests/first.rt
     # The first block of README, and the file from its first line that is code.
     if ! diff -u --label README.md --label "$code" \
         <(awk '/^```rust$/ { inside = 1; next } /^```$/ && inside { exit } inside' README.md) \

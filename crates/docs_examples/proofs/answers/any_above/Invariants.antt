@@ -1,6 +1,6 @@
 use Rattle.std.proofs.Common.{◌≤◌}
 use Rattle.std.specs.List.{All}
-use Rattle.docs_retain.proofs.any_above.Given as goal
+use Rattle.docs_examples.proofs.answers.any_above.Given as goal
 
 -- where no value that is left is above the number, none is
 abbrev pub invariant-loop-value : goal.invariant-loop-value

@@ -2,7 +2,7 @@ use Rattle.std.proofs.Common.{arith, ◌≤◌, ℕ, subst, sym}
 use Rattle.std.specs.List.{All}
 use Rattle.std.proofs.lemmas.List.Elements.{All-cons, All-nil}
 use Rattle.std.proofs.lemmas.List.Sorted.{All-permutation, IsPermutation-sym}
-use Rattle.docs_retain.proofs.any_above.Goals as goal
+use Rattle.docs_examples.proofs.answers.any_above.Goals as goal
 
 abbrev IsWithin : ℕ → ℕ × ℕ → Type 0
 IsWithin bound p = p.1 ≤ bound

@@ -1,7 +1,7 @@
 use Rattle.std.proofs.Common.{rules, ◌≡◌, ltb}
 use Rattle.std.proofs.lemmas.Cmp.{nat_cmp_total}
 use Rattle.flurry.proofs.RetainLaws.{retained_by_test}
-use Rattle.docs_retain.proofs.keep_below.Goals as goal
+use Rattle.docs_examples.proofs.answers.keep_below.Goals as goal
 
 -- the bound that the function keeps stays as it is, and each call answers whether the value is below it
 pub returns : goal.returns

@@ -1,7 +1,7 @@
 use Rattle.std.proofs.Common.{arith, ◌≡◌, ◌∙◌, ℕ, List, map, sum, sum_by}
 use Rattle.std.proofs.lemmas.Grind.{common_steps}
 use Rattle.std.proofs.lemmas.List.Sorted.{sum_by-IsPermutation}
-use Rattle.docs_retain.proofs.sum_of.Goals as goal
+use Rattle.docs_examples.proofs.answers.sum_of.Goals as goal
 
 sum_map : (pairs : List (ℕ × ℕ)) → sum (map (λ p. p.1) pairs) ≡ sum_by (λ p. p.1) pairs
 sum_map pairs = grind (arith, common_steps)

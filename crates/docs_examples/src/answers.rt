@@ -1,7 +1,5 @@
 //! Callers whose proofs need answers: `retain` with a function that is a test of the key and the value, where one answer names the test,
 //! and loops over all pairs.
-#![tactic(auto)]
-
 ghost use Rattle.std.specs.Prelude.{◌≡◌, ◌≤◌, ◌<◌, ◌^◌, All, false, ltb, sum_by};
 ghost use Rattle.std.specs.List.{filter};
 

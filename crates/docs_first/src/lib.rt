@@ -1,5 +1,0 @@
-//! The first example of README, as a test.
-#![tactic(auto)]
-
-#[cfg(test)]
-mod tests;
