@@ -5,7 +5,8 @@ use flurry::TryInsertError;
 use flurry::bin::node::Colour;
 use flurry::bin::{Bin, BoxedNode, Entry, ListBin, Node, Ordered, TreeBin};
 use flurry::slots::{
-    Added, Answer, Computed, Given, Inserted, MoveAnswer, NotInserted, Replaced, Slot,
+    Added, Altered, Answer, Computed, Given, Inserted, MoveAnswer, NotInserted, Replaced, Slot,
+    Verdict,
 };
 use std::alloc::{AllocError, Global};
 use std::sync::Arc;
@@ -115,6 +116,27 @@ pub fn value_computed<F: Drop>(answer: Answer<Computed<u64, u64, F, Global>, F>)
     match answer {
         Answer::Here(Computed::Changed { new, .. }) => Some(*new),
         _ => None,
+    }
+}
+
+/// Returns the value that an alteration wrote.
+pub fn value_altered(answer: Answer<(Altered<u64, u64, Global>, Option<u64>), u64>) -> Option<u64>
+    ensures { (key : ℕ) → answer ≡ Answer.Moved key → result ≡ None }
+{
+    match answer {
+        Answer::Here((Altered::Added { value, .. }, _)) => Some(*value),
+        Answer::Here((Altered::Changed { new, .. }, _)) => Some(*new),
+        _ => None,
+    }
+}
+
+/// Returns the value that a verdict sets.
+pub fn value_set(verdict: Verdict<u64>) -> Option<u64>
+    ensures { (v : ℕ) → verdict ≡ Verdict.Set v → result ≡ Some v }
+{
+    match verdict {
+        Verdict::Set(value) => Some(value),
+        Verdict::Keep | Verdict::Remove => None,
     }
 }
 

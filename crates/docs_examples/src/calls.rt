@@ -36,6 +36,7 @@ pub fn value_in(reply: KeptReply<u64, u64>) -> Option<u64>
         KeptReply::Pair(pair) => pair.map(|(_, value)| value),
         KeptReply::Contains(_) => None,
         KeptReply::New(value) => Some(value),
+        KeptReply::Changed { new, .. } => Some(new),
         KeptReply::Exists { current, .. } => Some(current),
     }
 }

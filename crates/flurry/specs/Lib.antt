@@ -11,6 +11,7 @@ pub use Rattle.flurry_base.specs.Occurrences
 pub use Rattle.flurry_base.specs.OneKey
 pub use Rattle.flurry_base.specs.Sizes
 pub use Rattle.flurry_base.specs.TryInsert
+pub use Rattle.flurry_base.specs.Verdicts
 pub use Rattle.flurry_base.specs.declared.sizes.TheConstants
 pub use Rattle.flurry_seq_pairs.specs.Clones
 pub use Rattle.flurry_seq_pairs.specs.Doubles
@@ -46,6 +47,7 @@ pub use Rattle.flurry_steps.specs.StepClosure
 pub use Rattle.flurry_shared_view.specs.SharedAnswers
 pub use Rattle.flurry_shared_view.specs.Visits
 pub use Rattle.flurry_shared_view.specs.Walks
+pub use Rattle.flurry_shared_view.specs.Alterations
 pub use Rattle.flurry_shared_view.specs.Insertions
 pub use Rattle.flurry_base.specs.declared.call.Call.TheVariants as Call
 pub use Rattle.flurry_shared_replies.specs.Answers

@@ -1,6 +1,6 @@
 //! The slots of a table, and the steps that are done at one slot.
 
 pub use flurry_bins_slots::{
-    Added, Answer, ComputeFn, Computed, Given, Inserted, MoveAnswer, NoFn, NotInserted, Receipt,
-    Replaced, Slot,
+    Added, Altered, Answer, ComputeFn, Computed, Given, Inserted, MoveAnswer, NoFn, NotInserted,
+    Receipt, Replaced, Slot, Verdict,
 };

@@ -12,3 +12,4 @@ pub mod Greatest
 pub mod TryInsert
 pub mod Occurrences
 pub mod Changes
+pub mod Verdicts

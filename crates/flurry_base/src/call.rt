@@ -42,6 +42,15 @@ pub enum Call<K, V, F> {
     TryInsert(K, V),
     /// A call of a function on the pair of a key. The value that it returns is written; if it returns `None`, the pair is removed.
     Compute(K, F),
+    /// A call of a function on the value of a key, or on none. The pair becomes what the function returns, a [`Verdict`](crate::Verdict).
+    Alter {
+        /// The key.
+        key: K,
+        /// Whether a pair may be added. If it is `false`, the function is not called if the key is absent.
+        may_add: bool,
+        /// The function.
+        f: F,
+    },
     /// A removal of the pair of a key, which returns the value.
     Remove(K),
     /// A removal of the pair of a key, which returns the stored key and the value.

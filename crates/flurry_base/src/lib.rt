@@ -11,9 +11,11 @@ pub mod hash;
 pub mod reply;
 pub mod sizes;
 pub mod try_insert;
+pub mod verdict;
 
 pub use call::{Call, Seen};
 pub use change::Change;
 pub use given::{Given, NotInserted, Replaced};
 pub use reply::KeptReply;
 pub use try_insert::TryInsertError;
+pub use verdict::Verdict;

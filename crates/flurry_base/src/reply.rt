@@ -8,6 +8,7 @@
 ///     KeptReply::Pair(pair) => pair.map(|(_, value)| value),
 ///     KeptReply::Contains(_) => None,
 ///     KeptReply::New(value) => Some(value),
+///     KeptReply::Changed { new, .. } => Some(new),
 ///     KeptReply::Exists { current, .. } => Some(current),
 /// }
 /// ```
@@ -21,6 +22,13 @@ pub enum KeptReply<K, V> {
     Contains(bool),
     /// The value that was inserted at an absent key.
     New(V),
+    /// The value that a present key has now, and the value that it had.
+    Changed {
+        /// The value that the key has now.
+        new: V,
+        /// The value that the key had.
+        old: V,
+    },
     /// The value that a present key has, and the value that was not inserted.
     Exists {
         /// The value that the key has.

@@ -8,7 +8,9 @@ use Rattle.flurry_base.specs.FiniteMap.{IsFiniteMap, pair_at, without}
 use Rattle.flurry_base.specs.HashOrder.{hash_then_key}
 use Rattle.flurry_base.specs.BinSizes.{IsSized, grows_into_tree}
 use Rattle.flurry_base.specs.HashOrder.{InRegion}
-use Rattle.flurry_bins_slots.specs.Slot.{PlainEntry, Live, ComputeOutcome, WasAbsent, WasRemoved, WasChanged, Computes, IsLiveIn, entry_of_live, after_write, after_take, with_fewer, half, after_wipe, after_add, after_take_if, is_unwritten_since}
+use Rattle.flurry_base.specs.declared.verdict.Verdict.{Verdict}
+use Rattle.flurry_base.specs.declared.verdict.Verdict.TheVariants.{Keep, Set, Remove}
+use Rattle.flurry_bins_slots.specs.Slot.{PlainEntry, Live, ComputeOutcome, WasAbsent, WasRemoved, WasChanged, AlterOutcome, Computes, Alters, after_verdict, IsLiveIn, entry_of_live, after_write, after_take, with_fewer, half, after_wipe, after_add, after_take_if, is_unwritten_since}
 use Rattle.flurry_base.proofs.BinSizeLaws.{IsSized-kept, IsSized-put, filter_no_longer}
 use Rattle.flurry_base.proofs.RegionLaws.{region_low, region_high}
 use Rattle.flurry_base.proofs.HashOrderLaws.{hash_then_key_total}
@@ -59,10 +61,20 @@ module _ {K V : Type 0} {cmp : K → K → Ordering} (o : IsTotalOrder cmp) wher
   live_in_added e i bins b h k v here l =
       elim (is_none (entry_of_live cmp b h k)) as (λ t. IsLiveIn cmp e i (cond t (after_write cmp bins b h k v) b)) [ true ↦ live_in_written e i bins b h k v here l | false ↦ l ]
 
-  pub live_in_computed : (e i bins : ℕ) (changes : K → V → Option V → Type 0) (b c : Live K V) (h : ℕ) (k : K) (w : ComputeOutcome V) → InRegion e i h → IsLiveIn cmp e i b → Computes cmp changes bins b h k w c → IsLiveIn cmp e i c
+  pub live_in_computed : (e i bins : ℕ) (changes : K → Option V → Verdict V → Type 0) (b c : Live K V) (h : ℕ) (k : K) (w : ComputeOutcome V) → InRegion e i h → IsLiveIn cmp e i b → Computes cmp changes bins b h k w c → IsLiveIn cmp e i c
   live_in_computed e i bins changes b c h k WasAbsent here l d = rw d.1 l
   live_in_computed e i bins changes b c h k WasRemoved here l d = rw d.3 (live_in_taken e i b h k l)
   live_in_computed e i bins changes b c h k (WasChanged v) here l d = rw d.3 (live_in_written e i bins b h k v here l)
+
+  live_in_judged : (e i bins : ℕ) (b : Live K V) (h : ℕ) (k : K) (x : Option (PlainEntry K V)) (v : Verdict V) → InRegion e i h → IsLiveIn cmp e i b → IsLiveIn cmp e i (after_verdict cmp bins b h k x v)
+  live_in_judged e i bins b h k x Keep here l = l
+  live_in_judged e i bins b h k x (Set w) here l = live_in_written e i bins b h k w here l
+  live_in_judged e i bins b h k None Remove here l = l
+  live_in_judged e i bins b h k (Some x) Remove here l = live_in_taken e i b h k l
+
+  pub live_in_altered : {F : Type 0} (e i bins : ℕ) (changes : F → K → Option V → Verdict V → Type 0) (f : F) (may_add : Bool) (b c : Live K V) (h : ℕ) (k : K) (o : AlterOutcome K V)
+      → InRegion e i h → IsLiveIn cmp e i b → Alters cmp changes f may_add bins b h k o c → IsLiveIn cmp e i c
+  live_in_altered e i bins changes f may_add b c h k o here l d = rw d.3 (live_in_judged e i bins b h k (entry_of_live cmp b h k) d.0 here l)
 
   pub live_in_wiped : (e i : ℕ) (b : Live K V) → IsLiveIn cmp e i (after_wipe b)
   live_in_wiped e i b = record { ascends = IsFiniteMap-nil (V × ℕ) (hash_then_key cmp); sized = omega arith; region = tt }

@@ -1,5 +1,5 @@
 -- A live bin, and what its steps answer, as plain data.
-use Rattle.std.specs.Prelude.{◌≡◌, ℕ, Bool, Option, Some, Result, Ok, Err, ⊤}
+use Rattle.std.specs.Prelude.{◌≡◌, ℕ, Bool, Option, Some, None, Result, Ok, Err, ⊤}
 use Rattle.std.specs.Option.{option_map}
 use Rattle.std.specs.Arc.{arc_value}
 use Rattle.flurry_bins.specs.declared.bin.adaptive.Bin.{Bin}
@@ -9,10 +9,12 @@ use Rattle.flurry_bins_insertion.specs.Inserted.{replaced_by, asks_by}
 use Rattle.flurry_bins_slots.specs.declared.live.Added.{Added}
 use Rattle.flurry_bins_slots.specs.declared.live.Added.TheVariants.{New, Present}
 use Rattle.flurry_bins_slots.specs.declared.live.Computed.{Computed}
+use Rattle.flurry_bins_slots.specs.declared.live.alter.Altered.{Altered}
+use Rattle.flurry_bins_slots.specs.declared.live.alter.Altered.TheVariants as altered
 use Rattle.flurry_bins_slots.specs.declared.live.Computed.TheVariants.{Absent, Removed, Changed}
 use Rattle.flurry_bins.specs.Bin.{entries_of_bin, is_tree}
 use Rattle.flurry_bins.specs.PlainEntries.{numbered_pair, numbered_pairs}
-use Rattle.flurry_bins_slots.specs.Slot.{Live, PlainEntry, ComputeOutcome, WasAbsent, WasRemoved, WasChanged}
+use Rattle.flurry_bins_slots.specs.Slot.{Live, PlainEntry, ComputeOutcome, WasAbsent, WasRemoved, WasChanged, AlterOutcome, StayedAbsent, WasAdded, WasKept, WasTaken, WasSet}
 
 -- a bin with its count of writes
 abbrev pub live_of : {K V A : Type 0} {o : _} {e : _} {p : _} → Bin K V A o e p → ℕ → Live K V
@@ -51,3 +53,20 @@ abbrev pub IsLeftOf : {K V F A : Type 0} → Option (PlainEntry K V) → Compute
 IsLeftOf there (Absent f) = ⊤
 IsLeftOf there (Removed e) = there ≡ Some (numbered_pair e)
 IsLeftOf there (Changed new old) = option_map (λ (e : PlainEntry _ _). e.1.0) there ≡ Some (arc_value old)
+
+abbrev pub alteration : {K V A : Type 0} → Altered K V A → AlterOutcome K V
+alteration altered.Absent = StayedAbsent
+alteration (altered.Added v asks) = WasAdded (arc_value v) asks
+alteration altered.Kept = WasKept
+alteration (altered.Removed e) = WasTaken (numbered_pair e)
+alteration (altered.Changed new old) = WasSet (arc_value new) (arc_value old)
+
+-- that of a function which was not called, since the key is absent
+abbrev pub alteration_if_present : {K V F A : Type 0} → Result (Altered K V A) F → AlterOutcome K V
+alteration_if_present (Ok a) = alteration a
+alteration_if_present (Err f) = StayedAbsent
+
+-- the key that was passed in comes back, unless it was added
+abbrev pub key_back : {K V : Type 0} → K → AlterOutcome K V → Option K
+key_back k (WasAdded v asks) = None
+key_back k _ = Some k

@@ -10,10 +10,17 @@ use Rattle.flurry_base.specs.HashOrder.{hash_then_key, is_pair_past}
 use Rattle.flurry_base.specs.BinSizes.{IsSized, grows_into_tree, asks_for_growth}
 use Rattle.flurry_base.specs.HashOrder.{InRegion}
 use Rattle.flurry_base.specs.declared.sizes.TheConstants.{MAX_TABLE, MIN_TREE_LEN}
+use Rattle.flurry_base.specs.Verdicts.{Judges, verdict_of}
+use Rattle.flurry_base.specs.declared.verdict.Verdict.{Verdict}
+use Rattle.flurry_base.specs.declared.verdict.Verdict.TheVariants.{Keep, Set, Remove}
 
 -- an entry: at a hash and a key, the value and its write number
 abbrev pub PlainEntry : Type 0 → Type 0 → Type 0
 PlainEntry K V = (ℕ × K) × (V × ℕ)
+
+-- its key and value
+abbrev pub pair_of_entry : {K V : Type 0} → PlainEntry K V → K × V
+pair_of_entry e = (e.0.1, e.1.0)
 
 -- a bin that is live: its entries are a finite map whose key is the hash and the key; it is a list or a tree; and so many values
 -- were written to it
@@ -44,6 +51,15 @@ pub data ComputeOutcome (V : Type 0) : Type 0 where
   WasRemoved : ComputeOutcome V
   WasChanged : V → ComputeOutcome V
 
+-- what an alteration at a live bin did: the key is absent as it was, or was added with a value, and whether a larger table is asked
+-- for; or its pair was kept, or was removed, or has a new value in place of an old one
+pub data AlterOutcome (K V : Type 0) : Type 0 where
+  StayedAbsent : AlterOutcome K V
+  WasAdded : V → Bool → AlterOutcome K V
+  WasKept : AlterOutcome K V
+  WasTaken : PlainEntry K V → AlterOutcome K V
+  WasSet : V → V → AlterOutcome K V
+
 -- the next write number: one more, up to the greatest number
 abbrev pub next_number : ℕ → ℕ
 next_number n = min (n + 1) (2 ^ 64 - 1)
@@ -52,6 +68,14 @@ module _ {K V : Type 0} where
   -- the bin with other entries, fewer: a tree of fewer than seven is a list
   abbrev pub with_fewer : Live K V → List (PlainEntry K V) → Live K V
   with_fewer b plain_entries = record { plain_entries = plain_entries; tree = b.tree && nat_le MIN_TREE_LEN (length plain_entries); writes = b.writes }
+
+  -- what comes of a verdict on this entry, or on none
+  abbrev pub verdict_outcome : Bool → Option (PlainEntry K V) → Verdict V → AlterOutcome K V
+  verdict_outcome asked None (Set w) = WasAdded w asked
+  verdict_outcome asked None _ = StayedAbsent
+  verdict_outcome asked (Some e) Keep = WasKept
+  verdict_outcome asked (Some e) (Set w) = WasSet w e.1.0
+  verdict_outcome asked (Some e) Remove = WasTaken e
 
   -- the entries whose hash has this bit at this place, as a bin with the same count of writes
   abbrev pub half : ℕ → ℕ → Live K V → Live K V
@@ -113,17 +137,34 @@ module _ {K V : Type 0} where
     abbrev pub take_if_reply : ℕ → Live K V → ℕ → K → Option (PlainEntry K V)
     take_if_reply n b h k = if is_unwritten_since n b h k then entry_of_live b h k else None
 
-    -- `changes k v o` says that the function may answer o at the pair of k and v. It is called once, on a pair that is there; what
-    -- it answers is written, and where it answers none the pair is taken out.
-    module _ (changes : K → V → Option V → Type 0) where
+    -- `changes k x v` says that the function may make v of the pair of k, which is x or none. It is called once, on a pair that is
+    -- there; what it answers is written, and where it answers none the pair is taken out.
+    module _ (changes : K → Option V → Verdict V → Type 0) where
       abbrev pub Computes : ℕ → Live K V → ℕ → K → ComputeOutcome V → Live K V → Type 0
       Computes bins b h k WasAbsent c = (entry_of_live b h k ≡ None) × (c ≡ b)
-      Computes bins b h k WasRemoved c = (e : PlainEntry K V) × (entry_of_live b h k ≡ Some e) × changes e.0.1 e.1.0 None × (c ≡ after_take b h k)
-      Computes bins b h k (WasChanged w) c = (e : PlainEntry K V) × (entry_of_live b h k ≡ Some e) × changes e.0.1 e.1.0 (Some w) × (c ≡ after_write bins b h k w)
+      Computes bins b h k WasRemoved c = (e : PlainEntry K V) × (entry_of_live b h k ≡ Some e) × changes e.0.1 (Some e.1.0) (verdict_of None) × (c ≡ after_take b h k)
+      Computes bins b h k (WasChanged w) c = (e : PlainEntry K V) × (entry_of_live b h k ≡ Some e) × changes e.0.1 (Some e.1.0) (verdict_of (Some w)) × (c ≡ after_write bins b h k w)
 
       -- memory could not be allocated for this value, which the function returned
       abbrev pub ComputesInVain : Live K V → ℕ → K → V → Type 0
-      ComputesInVain b h k w = (e : PlainEntry K V) × (entry_of_live b h k ≡ Some e) × changes e.0.1 e.1.0 (Some w)
+      ComputesInVain b h k w = (e : PlainEntry K V) × (entry_of_live b h k ≡ Some e) × changes e.0.1 (Some e.1.0) (verdict_of (Some w))
+
+    -- the bin after a verdict on this entry of it, or on none
+    abbrev pub after_verdict : ℕ → Live K V → ℕ → K → Option (PlainEntry K V) → Verdict V → Live K V
+    after_verdict bins b h k e Keep = b
+    after_verdict bins b h k e (Set w) = after_write bins b h k w
+    after_verdict bins b h k None Remove = b
+    after_verdict bins b h k (Some e) Remove = after_take b h k
+
+    -- The function f is called once, on the pair that is there; or, if a pair may be added, on none. What it makes of the pair is done.
+    module _ {F : Type 0} (changes : F → K → Option V → Verdict V → Type 0) (f : F) (may_add : Bool) where
+      -- it may make that of the entry of a hash and a key
+      abbrev pub JudgesAt : Live K V → ℕ → K → Verdict V → Type 0
+      JudgesAt b h k v = Judges changes f k may_add (option_map pair_of_entry (entry_of_live b h k)) v
+
+      abbrev pub Alters : ℕ → Live K V → ℕ → K → AlterOutcome K V → Live K V → Type 0
+      Alters bins b h k o c = (v : Verdict V) × JudgesAt b h k v
+          × (o ≡ verdict_outcome (asks bins b h k) (entry_of_live b h k) v) × (c ≡ after_verdict bins b h k (entry_of_live b h k) v)
 
   -- a hash lies in the region of the slot
   abbrev pub LiesInBin : ℕ → SlotState K V → Type 0

@@ -11,7 +11,8 @@ pub(crate) mod live;
 pub mod slot;
 
 pub use compute_fn::{ComputeFn, NoFn};
+pub use flurry_base::Verdict;
 pub use flurry_base::given::{Given, NotInserted, Replaced};
 pub use flurry_bins_insertion::table::Inserted;
-pub use live::{Added, Computed};
+pub use live::{Added, Altered, Computed};
 pub use slot::{Answer, MoveAnswer, Receipt, Slot};

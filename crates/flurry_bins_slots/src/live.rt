@@ -12,9 +12,13 @@ ghost use Rattle.flurry_bins_slots.specs.Slot.{half, after_wipe, next_number, en
 ghost use Rattle.flurry_bins_slots.specs.LiveView.{live_of, view_of_inserted, view_of_added, IfPresent, outcome, IfAbsent, IsLeftOf, IsEntryWith};
 ghost use Rattle.flurry_base.specs.declared.sizes.TheConstants.{MAX_LEN};
 
+mod alter;
+
 use crate::compute_fn::ComputeFn;
-use flurry_base::TryInsertError;
+pub use alter::Altered;
+use alter::judge;
 use flurry_base::sizes::MAX_LEN;
+use flurry_base::{TryInsertError, Verdict};
 use flurry_bins::bin::{Bin, BoxedNode, Entry, Given, Node, NotInserted, Ordered};
 use flurry_bins_insertion::table::{Inserted, insert_pair_in_bin, new_arc_pair, put_node_in_bin};
 use std::alloc::Allocator;
@@ -295,15 +299,38 @@ impl<K: Ord + Drop, V: Drop, A: Allocator + Copy> LiveBin<K, V, A> {
                 }),
             };
         }
-        let node = self.new_node(alloc, hash, key, value)?;
-        let Ok(value) = Arc::try_clone(&node.entry().value) else {
-            return Err(Box::into_inner(node).into_not_inserted());
-        };
-        let asks_for_growth = self.add(bins, node);
+        let (value, asks_for_growth) = self.add_pair(alloc, bins, hash, key, value)?;
         Ok(Added::New {
             value,
             asks_for_growth,
         })
+    }
+
+    // Inserts a pair whose hash and key are absent. Returns a clone of the value's `Arc`, and whether the bin asks for a larger table.
+    fn add_pair(
+        &mut self,
+        alloc: A,
+        bins: usize,
+        hash: u64,
+        key: K,
+        value: V,
+    ) -> Result<(Arc<V, A>, bool), NotInserted<K, V, A>>
+        requires { entry_of_live K.cmp self.old hash key ≡ None }
+        ensures value { IfOk result (λ r. arc_value r.0 ≡ value) }
+        ensures asks { IfOk result (λ r. r.1 ≡ asks K.cmp bins self.old hash key) }
+        ensures after { OnOk result (self.new ≡ after_write K.cmp bins self.old hash key value) }
+        ensures err { IfErr result (λ n. IsNotInserted key value n) }
+        ensures refused { OnErr result (self.new ≡ self.old) }
+    {
+        let node = match self.new_node(alloc, hash, key, value) {
+            Ok(node) => node,
+            Err(pair) => return Err(pair),
+        };
+        let Ok(value) = Arc::try_clone(&node.entry().value) else {
+            return Err(Box::into_inner(node).into_not_inserted());
+        };
+        let asks_for_growth = self.add(bins, node);
+        Ok((value, asks_for_growth))
     }
 
     pub(crate) fn compute<F: ComputeFn<K, V>>(
@@ -314,29 +341,31 @@ impl<K: Ord + Drop, V: Drop, A: Allocator + Copy> LiveBin<K, V, A> {
         key: &K,
         f: F,
     ) -> Result<Computed<K, V, F, A>, Given<V, A>>
-        requires { F.can_change f }
+        requires callable { F.can_change f }
+        requires changes { F.never_keeps f }
         ensures back { IfOk result (λ c. IfAbsent c (λ g. g ≡ f)) }
         ensures done { IfOk result (λ c. Computes K.cmp (F.changes f) bins self.old hash key.now (outcome c) self.new) }
         ensures left { IfOk result (λ c. IsLeftOf (entry_of_live K.cmp self.old hash key.now) c) }
         ensures refused { OnErr result (self.new ≡ self.old) }
         ensures in_vain { IfErr result (λ g. ComputesInVain K.cmp (F.changes f) self.old hash key.now (given_of g)) }
     {
-        let computed = match self.find(hash, key) {
-            Some(entry) => f.change(&entry.key, &entry.value),
+        let verdict = match self.find(hash, key) {
+            Some(entry) => judge(f, entry),
             None => return Ok(Computed::Absent(f)),
         };
-        match computed {
-            Some(value) => match new_arc_pair(alloc, value) {
+        match verdict {
+            Verdict::Set(value) => match new_arc_pair(alloc, value) {
                 Ok((value, new)) => {
                     let old = self.rewrite(bins, hash, key, value);
                     Ok(Computed::Changed { new, old })
                 }
                 Err(value) => Err(value),
             },
-            None => match self.take(hash, key) {
+            Verdict::Remove => match self.take(hash, key) {
                 Some(entry) => Ok(Computed::Removed(entry)),
                 None => unreachable!(),
             },
+            Verdict::Keep => unreachable!(),
         }
     }
 }

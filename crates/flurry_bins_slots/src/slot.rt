@@ -1,5 +1,5 @@
 //! A slot of a table, which is the place of one bin, and the steps that are done at one slot.
-ghost use Rattle.std.specs.Prelude.{◌≡◌, ℕ, ◌+◌, ◌^◌, ◌<◌, ◌≤◌, ◌⊎◌, ⊤, length, map, IfErr, IfNone, IfOk, IfSome, OnErr, OnOk, IsTrue, false, ◌↔◌};
+ghost use Rattle.std.specs.Prelude.{◌≡◌, ℕ, ◌+◌, ◌^◌, ◌<◌, ◌≤◌, ◌⊎◌, ⊤, length, map, IfErr, IfNone, IfOk, IfSome, OnErr, OnOk, IsTrue, true, false, ◌↔◌};
 ghost use Rattle.std.specs.Option.{option_map};
 ghost use Rattle.std.specs.Arc.{arc_value};
 ghost use Rattle.flurry_bins.specs.Bin.{entries_of_bin};
@@ -7,16 +7,17 @@ ghost use Rattle.flurry_bins.specs.Entries.{lent_bound};
 ghost use Rattle.flurry_base.specs.Greatest.{greatest};
 ghost use Rattle.flurry_base.specs.Given.{given_of, IsNotInserted};
 ghost use Rattle.flurry_bins_insertion.specs.Inserted.{IfReplaced};
-ghost use Rattle.flurry_bins_slots.specs.LiveView.{live_of, view_of_inserted, view_of_added, IfPresent, outcome, IfAbsent, IsLeftOf};
+ghost use Rattle.flurry_bins_slots.specs.LiveView.{live_of, view_of_inserted, view_of_added, IfPresent, outcome, IfAbsent, IsLeftOf, alteration, alteration_if_present, key_back};
 ghost use Rattle.flurry_bins.specs.PlainEntries.{numbered_pair, numbered_pairs};
 ghost use Rattle.flurry_bins.specs.PlainEntries.{AllInRegion};
-ghost use Rattle.flurry_bins_slots.specs.Slot.{SlotState, IsLive, HasMoved, IsUnborn, IsSlot, LiesInBin, IfLive, is_live, slot_with, entry_of_live, next_of_live, after_write, write_reply, after_add, add_reply, after_take, after_take_if, take_if_reply, after_wipe, Computes, ComputesInVain, HasMovedInto, Clashes};
+ghost use Rattle.flurry_bins_slots.specs.Slot.{SlotState, IsLive, HasMoved, IsUnborn, IsSlot, LiesInBin, IfLive, is_live, slot_with, entry_of_live, next_of_live, after_write, write_reply, after_add, add_reply, after_take, after_take_if, take_if_reply, after_wipe, Computes, ComputesInVain, Alters, JudgesAt, HasMovedInto, Clashes};
 ghost use Rattle.flurry_bins_slots.specs.SlotView.{place_of, answer_with, answer_map, IfHere, IfAway, IsAway, IfDone, IfAlready, IfClash, IfNotDone};
+ghost use Rattle.flurry_base.specs.declared.verdict.Verdict.TheVariants.{Set};
 ghost use Rattle.flurry_base.specs.declared.sizes.TheConstants.{MAX_TABLE};
 
 use crate::clones::{CloneProbe, NotClone};
 use crate::compute_fn::ComputeFn;
-use crate::live::{Added, Computed, LiveBin};
+use crate::live::{Added, Altered, Computed, LiveBin};
 use flurry_bins::bin::{Bin, Entry, Given, NotInserted, Ordered};
 use flurry_bins_insertion::table::Inserted;
 use std::alloc::{Allocator, Global};
@@ -453,6 +454,7 @@ impl<K: Ord + Drop, V: Drop, A: Allocator + Copy> Slot<K, V, A> {
     ) -> Result<Answer<Computed<K, V, F, A>, F>, Given<V, A>>
         requires region { LiesInBin hash self.old }
         requires callable { F.can_change f }
+        requires changes { F.never_keeps f }
         ensures back { IfOk result (λ a. IsAway a self.old.content f) }
         ensures absent { IfOk result (λ a. IfHere a (λ c. IfAbsent c (λ g. g ≡ f))) }
         ensures here { IfOk result (λ a. IfHere a (λ c. IfLive self.old.content (λ b. IfLive self.new.content (λ d.
@@ -469,6 +471,76 @@ impl<K: Ord + Drop, V: Drop, A: Allocator + Copy> Slot<K, V, A> {
         let bins = 1usize << self.table;
         match self.state {
             State::Live => Ok(Answer::Here(self.live.compute(alloc, bins, hash, key, f)?)),
+            State::Moved => Ok(Answer::Moved(f)),
+            State::Unborn => Ok(Answer::Unborn(f)),
+        }
+    }
+
+    /// Calls `f` once: on the stored key and `Some` of its value if the key is present, or else on `key` and `None`. Does what the verdict
+    /// says to the pair. The result also has `key`, unless it was added. As many steps as a look-up in the bin. Memory is taken for a value
+    /// that is set, and at an absent key also for the key and a node.
+    ///
+    /// # Errors
+    ///
+    /// Returns the key and the value that `f` set if memory cannot be allocated, if the bin has 2^62 entries, or if cloning the `Arc` of
+    /// the value fails. The bin is unchanged.
+    pub fn alter<F: ComputeFn<K, V>>(
+        &mut self,
+        alloc: A,
+        hash: u64,
+        key: K,
+        f: F,
+    ) -> Result<Answer<(Altered<K, V, A>, Option<K>), (K, F)>, NotInserted<K, V, A>>
+        requires region { LiesInBin hash self.old }
+        requires callable { F.can_change f }
+        ensures back { IfOk result (λ a. IsAway a self.old.content (key, f)) }
+        ensures here { IfOk result (λ a. IfHere a (λ r. IfLive self.old.content (λ b. IfLive self.new.content (λ d.
+            Alters K.cmp F.changes f true (2 ^ self.old.table) b hash key (alteration r.0) d
+            × (self.new ≡ slot_with (λ _. d) self.old))))) }
+        ensures key { IfOk result (λ a. IfHere a (λ r. r.1 ≡ key_back key (alteration r.0))) }
+        ensures same { IfOk result (λ a. IfAway a (self.new ≡ self.old)) }
+        ensures refused { OnErr result (self.new ≡ self.old) }
+        ensures in_vain { IfErr result (λ n. (w : _) × IsNotInserted key w n
+            × IfLive self.old.content (λ b. JudgesAt K.cmp F.changes f true b hash key (Set w))) }
+        ensures within { IsSlot K.cmp self.old }
+    {
+        let bins = 1usize << self.table;
+        match self.state {
+            State::Live => Ok(Answer::Here(self.live.alter(alloc, bins, hash, key, f)?)),
+            State::Moved => Ok(Answer::Moved((key, f))),
+            State::Unborn => Ok(Answer::Unborn((key, f))),
+        }
+    }
+
+    /// Calls `f` once on the stored key and `Some` of its value if the key is present, and does what the verdict says to the pair. If the
+    /// key is absent, `f` is not called, and comes back in the inner `Err`. As many steps as a look-up in the bin.
+    ///
+    /// # Errors
+    ///
+    /// Returns the value that `f` set if memory for it cannot be allocated, or if cloning its `Arc` fails. The bin is unchanged.
+    pub fn alter_present<F: ComputeFn<K, V>>(
+        &mut self,
+        alloc: A,
+        hash: u64,
+        key: &K,
+        f: F,
+    ) -> Result<Answer<Result<Altered<K, V, A>, F>, F>, Given<V, A>>
+        requires region { LiesInBin hash self.old }
+        requires callable { F.can_change f }
+        ensures back { IfOk result (λ a. IsAway a self.old.content f) }
+        ensures absent { IfOk result (λ a. IfHere a (λ r. IfErr r (λ g. g ≡ f))) }
+        ensures here { IfOk result (λ a. IfHere a (λ r. IfLive self.old.content (λ b. IfLive self.new.content (λ d.
+            Alters K.cmp F.changes f false (2 ^ self.old.table) b hash key.now (alteration_if_present r) d
+            × (self.new ≡ slot_with (λ _. d) self.old))))) }
+        ensures same { IfOk result (λ a. IfAway a (self.new ≡ self.old)) }
+        ensures refused { OnErr result (self.new ≡ self.old) }
+        ensures in_vain { IfErr result (λ g.
+            IfLive self.old.content (λ b. JudgesAt K.cmp F.changes f false b hash key.now (Set (given_of g)))) }
+        ensures within { IsSlot K.cmp self.old }
+    {
+        let bins = 1usize << self.table;
+        match self.state {
+            State::Live => Ok(Answer::Here(self.live.alter_present(alloc, bins, hash, key, f)?)),
             State::Moved => Ok(Answer::Moved(f)),
             State::Unborn => Ok(Answer::Unborn(f)),
         }

@@ -19,6 +19,7 @@ use Rattle.flurry_run_lines.specs.Labels.{label_text}
 use Rattle.flurry_run_lines.specs.Runs.{IsAnswered}
 use Rattle.flurry_run_lines.specs.ScheduleRuns.{labels_text, drop_text, Tells, AnswersDrop, AnswersSteps, of_a_world}
 use Rattle.flurry_run_lines.specs.declared.schedule.Line.TheVariants as line
+use Rattle.flurry_base.specs.declared.verdict.Verdict.{Verdict}
 
 labels_text-append : {F : Type 0} (a b : List (Label ℕ ℕ F)) → labels_text (a ++ b) ≡ labels_text a ++ labels_text b
 labels_text-append [] b = refl
@@ -37,7 +38,7 @@ module _ {F S : Type 0} where
   tells_more w v u first rest a b =
       (a.0 ++ b.0, b.1 ∙ ap (λ t. t ++ b.0) a.1 ∙ append_assoc w.trace a.0 b.0, rw (a.2, b.2) (sym (labels_text-append a.0 b.0)))
 
-  module _ (changes : F → ℕ → ℕ → Option ℕ → Type 0) where
+  module _ (changes : F → ℕ → Option ℕ → Verdict ℕ → Type 0) where
     -- ---- steps
 
     -- the label of a step

@@ -2,12 +2,13 @@
 use Rattle.std.specs.Prelude.{ℕ, true, false, List, ◌∷◌, ◌++◌, codes, None, Some}
 use Rattle.std.specs.Fmt.{decimal}
 use Rattle.flurry_base.specs.declared.reply.KeptReply.{KeptReply}
-use Rattle.flurry_base.specs.declared.reply.KeptReply.TheVariants.{Value, Pair, Contains, New, Exists}
+use Rattle.flurry_base.specs.declared.reply.KeptReply.TheVariants.{Value, Pair, Contains, New, Changed, Exists}
 use Rattle.flurry_steps_theory.specs.declared.Label.{Label}
 use Rattle.flurry_steps_theory.specs.declared.Label.TheVariants.{Begin, Decide, Reply, Refused, Wipe, Read, End, Opened, Placed, Moved, Published, Silent}
 use Rattle.flurry_run_lines.specs.SeqReplies.{option_text}
 
--- a reply: a value or none, whether a key is present, the value that was put, or the one that stands
+-- a reply: a value or none, whether a key is present, the value that was put, the one that took the place of another, or the one that
+-- stands
 abbrev pub reply_text : KeptReply ℕ ℕ → List ℕ
 reply_text (Value v) = option_text v
 reply_text (Pair None) = codes "none"
@@ -15,6 +16,7 @@ reply_text (Pair (Some p)) = codes "some " ++ decimal p.1
 reply_text (Contains true) = codes "true"
 reply_text (Contains false) = codes "false"
 reply_text (New v) = codes "new " ++ decimal v
+reply_text (Changed w v) = codes "changed " ++ decimal w
 reply_text (Exists v w) = codes "exists " ++ decimal v
 
 -- a label, without its line end

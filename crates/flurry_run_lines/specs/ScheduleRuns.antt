@@ -4,6 +4,8 @@ use Rattle.std.specs.Fmt.{decimal}
 use Rattle.std.specs.Ordering.{nat_cmp}
 use Rattle.std.specs.Io.KnownBytes.{Appends}
 use Rattle.flurry_base.specs.declared.hash.LowHashBuilder.{LowHashBuilder}
+use Rattle.flurry_base.specs.declared.verdict.Verdict.{Verdict}
+use Rattle.flurry_base.specs.declared.verdict.Verdict.TheVariants.{Remove}
 use Rattle.flurry_bins_slots.specs.declared.compute_fn.NoFn.{NoFn}
 use Rattle.flurry_steps.specs.declared.party.call.OwnedCall.TheVariants as owned
 use Rattle.flurry_steps_theory.specs.declared.Label.{Label}
@@ -56,7 +58,7 @@ module _ {F S : Type 0} where
   abbrev pub Tells : WorldState ℕ ℕ F S → WorldState ℕ ℕ F S → List ℕ → Type 0
   Tells w v printed = (labels : List (Label ℕ ℕ F)) × (v.trace ≡ w.trace ++ labels) × (printed ≡ labels_text labels)
 
-  module _ (changes : F → ℕ → ℕ → Option ℕ → Type 0) where
+  module _ (changes : F → ℕ → Option ℕ → Verdict ℕ → Type 0) where
     -- the first line makes a world, in which each key is its own hash; each other line begins a call in it, does steps or
     -- makes a party lose, and the labels of that are written; a removal of what a walk has read says also where none begins
     abbrev pub DoesLine : Line → Option (WorldState ℕ ℕ F S) → List ℕ → Option (WorldState ℕ ℕ F S) → Type 0
@@ -92,4 +94,4 @@ module _ {F S : Type 0} where
 
 -- the same of calls of which none has a function
 abbrev pub of_a_schedule : Script (Option (WorldState ℕ ℕ NoFn LowHashBuilder)) Line
-of_a_schedule = of_a_world (λ _ _ _ reply. reply ≡ None)
+of_a_schedule = of_a_world (λ _ _ _ verdict. verdict ≡ Remove)

@@ -61,6 +61,9 @@ fn write_reply<W: Sink>(
         }
         KeptReply::Contains(there) => writer.write_line(format_args!("{word} {party} {there}")),
         KeptReply::New(value) => writer.write_line(format_args!("{word} {party} new {value}")),
+        KeptReply::Changed { new, .. } => {
+            writer.write_line(format_args!("{word} {party} changed {new}"))
+        }
         KeptReply::Exists { current, .. } => {
             writer.write_line(format_args!("{word} {party} exists {current}"))
         }

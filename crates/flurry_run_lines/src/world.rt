@@ -211,7 +211,7 @@ fn begin<F: ComputeFn<u64, u64> + Copy, W: Sink, A: Allocator + Copy>(
     call: OwnedCall<u64, u64, F>,
     writer: &mut W,
 ) -> io::Result<Option<u8>>
-    requires { OwnedIsReady F.can_change call }
+    requires { OwnedIsReady F.can_change F.never_keeps call }
     ensures failed { OnErr result (IsTrue (W.has_failed writer.new)) }
     ensures status { IfOk result (λ ended. IfSome ended (λ status. status ≡ 3)) }
     ensures answer { IfOk result

@@ -10,6 +10,8 @@ use Rattle.flurry_base.specs.declared.try_insert.TryInsertError.{TryInsertError}
 use Rattle.flurry_base.specs.declared.reply.KeptReply.{KeptReply}
 use Rattle.flurry_base.specs.declared.reply.KeptReply.TheVariants as kept
 use Rattle.flurry_base.specs.FiniteMap.{pair_at, value_at, with_pair, without}
+use Rattle.flurry_base.specs.Verdicts.{verdict_of, with_verdict}
+use Rattle.flurry_seq.specs.Callable.{if_present}
 use Rattle.flurry_base.specs.declared.call.Call.TheVariants as plain
 use Rattle.flurry_seq.specs.Contents.{Contents, with_pairs}
 use Rattle.flurry_seq.specs.Calls.{OneKeyAnswers, CallRefused}
@@ -61,7 +63,7 @@ module _ {K V A S F : Type 0} (cmp : K → K → Ordering) (gives : F → K → 
   computed f r absent present same = (kept.Value (option_map arc_value r), refl, by_pair (pair_at cmp m.pairs k) absent present, same)
     where
       by_answer : (p : K × V) (o : Option V) → MatchOption o ((◌≡◌ {A = Result (Option (Arc V A)) AllocError} (Ok r) (Ok None)) × (n ≡ with_pairs m (without cmp m.pairs k))) (λ w. (option_map arc_value r ≡ Some w) × (n ≡ with_pairs m (with_pair cmp m.pairs k w)))
-          → (◌≡◌ {A = KeptReply K V} (kept.Value (option_map arc_value r)) (kept.Value o)) × MatchOption o (n.pairs ≡ without cmp m.pairs k) (λ w. n.pairs ≡ with_pair cmp m.pairs k w)
+          → (◌≡◌ {A = KeptReply K V} (kept.Value (option_map arc_value r)) (kept.Value o)) × (n.pairs ≡ with_verdict cmp m.pairs k (verdict_of o))
       by_answer p None h = let none : r ≡ None = let e = h.0 in cc in (ap (λ x. kept.Value (option_map arc_value x)) none, ap (λ x. x.pairs) h.1)
       by_answer p (Some w) h = (ap (λ x. kept.Value x) h.0, ap (λ x. x.pairs) h.1)
 
@@ -69,9 +71,9 @@ module _ {K V A S F : Type 0} (cmp : K → K → Ordering) (gives : F → K → 
           → IfSome o (λ p. (o : Option V) × gives f p.0 p.1 o
           × MatchOption o ((◌≡◌ {A = Result (Option (Arc V A)) AllocError} (Ok r) (Ok None)) × (n ≡ with_pairs m (without cmp m.pairs k))) (λ w. (option_map arc_value r ≡ Some w) × (n ≡ with_pairs m (with_pair cmp m.pairs k w))))
           → MatchOption o ((◌≡◌ {A = KeptReply K V} (kept.Value (option_map arc_value r)) (kept.Value None)) × (n.pairs ≡ m.pairs))
-          (λ p. (o : Option V) × gives f p.0 p.1 o × (◌≡◌ {A = KeptReply K V} (kept.Value (option_map arc_value r)) (kept.Value o)) × MatchOption o (n.pairs ≡ without cmp m.pairs k) (λ w. n.pairs ≡ with_pair cmp m.pairs k w))
+          (λ p. (o : Option V) × if_present gives f p.0 (Some p.1) (verdict_of o) × (◌≡◌ {A = KeptReply K V} (kept.Value (option_map arc_value r)) (kept.Value o)) × (n.pairs ≡ with_verdict cmp m.pairs k (verdict_of o)))
       by_pair None a h = let none : r ≡ None = let e = (a refl).0 in cc in (ap (λ x. kept.Value (option_map arc_value x)) none, ap (λ x. x.pairs) (a refl).1)
-      by_pair (Some p) a h = let done = by_answer p h.0 h.2 in (h.0, h.1, done.0, done.1)
+      by_pair (Some p) a h = let done = by_answer p h.0 h.2 in (h.0, (h.0, refl, h.1), done.0, done.1)
 
   pub compute_stays : (f : F) (r : Option (Arc V A)) → (pair_at cmp m.pairs k ≡ None → (◌≡◌ {A = Result (Option (Arc V A)) AllocError} (Ok r) (Ok None)) × (n ≡ m)) → ComputeReplies f r → n.bins ≡ m.bins
   compute_stays f r absent present = by_pair (pair_at cmp m.pairs k) absent present

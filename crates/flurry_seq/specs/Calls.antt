@@ -12,6 +12,7 @@ use Rattle.flurry_base.specs.declared.call.Call.TheVariants as plain
 use Rattle.flurry_base.specs.Sizes.{IsGrown}
 use Rattle.flurry_base.specs.declared.reply.KeptReply.{KeptReply}
 use Rattle.flurry_base.specs.declared.reply.KeptReply.TheVariants as kept
+use Rattle.flurry_seq.specs.Callable.{if_present}
 use Rattle.flurry_seq.specs.Contents.{Contents, SamePairs, with_pairs, asked_for, first_bins, IsLeftByReserve}
 use Rattle.flurry_seq.specs.Equality.{maps_eq}
 use Rattle.flurry_seq.specs.Retain.{Retains}
@@ -55,7 +56,7 @@ module _ {K V A : Type 0} where
     module _ {F : Type 0} (cmp : K → K → Ordering) (gives : F → K → V → Option V → Type 0) where
       -- a call of one key
       abbrev pub OneKeyAnswers : plain_call.Call K V F → Contents K V S → Reply K V S A → Contents K V S → Type 0
-      OneKeyAnswers call m r n = (k : KeptReply K V) × (kept_reply r ≡ Some k) × Answers cmp gives call m.pairs k n.pairs × (n.hasher ≡ m.hasher)
+      OneKeyAnswers call m r n = (k : KeptReply K V) × (kept_reply r ≡ Some k) × Answers cmp (if_present gives) call m.pairs k n.pairs × (n.hasher ≡ m.hasher)
 
     module _ {F P : Type 0} (cmp : K → K → Ordering) (eq : V → V → Bool) (hash : S → K → ℕ) (gives : F → K → V → Option V → Type 0) (tests : P → Bor K → Bor V → Bool → P → Type 0) where
       -- on the map m the call may reply r and leave the map n. The bins stay, but that an added key, a `reserve` and an `extend` may

@@ -5,12 +5,13 @@
 #![tactic(auto)]
 
 mod bulk;
+mod change;
 mod debug;
 mod insert_with;
 pub mod map;
 mod owned;
 mod visit;
 
-pub use flurry_base::{TryInsertError, hash};
+pub use flurry_base::{Change, TryInsertError, hash};
 pub use flurry_shared_view::{HashMapRef, iter, map_ref};
 pub use map::HashMap;

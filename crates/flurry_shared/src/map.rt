@@ -6,7 +6,7 @@ ghost use Rattle.flurry_shared_view.specs.Walks.{Begins};
 ghost use Rattle.flurry_base.specs.Hashing.{seed_of};
 ghost use Rattle.flurry_base.specs.declared.call.Call.TheVariants.{Get, GetKeyValue, ContainsKey, Insert, TryInsert, Compute, Remove, RemoveEntry, RemoveSeen, Reserve, Clear};
 ghost use Rattle.flurry_shared_replies.specs.Answers.{CanAdd, CanCompute};
-ghost use Rattle.flurry_bins_slots.specs.ComputeFn.{AnswersAtPair};
+ghost use Rattle.flurry_bins_slots.specs.ComputeFn.{AnswersIfPresent};
 
 use flurry_base::hash::{DefaultHashBuilder, KeyHasher};
 use flurry_base::try_insert::TryInsertError;
@@ -350,9 +350,9 @@ impl<K: Ord + Drop, V: Drop, S: KeyHasher<K>, A: Allocator + Copy> HashMap<K, V,
         f: F,
     ) -> Result<Option<Arc<V, A>>, AllocError>
         requires { F.IsAlwaysCallable f }
-        ensures answer { IsAnswerWith (AnswersAtPair F.FnOnce) K.cmp S.hash_of self.now
+        ensures answer { IsAnswerWith (AnswersIfPresent F.FnOnce) K.cmp S.hash_of self.now
             (Compute key.now f) (or_refused value_answer result) }
-        ensures computed { CanCompute (AnswersAtPair F.FnOnce f) (or_refused value_answer result) }
+        ensures computed { CanCompute (AnswersIfPresent F.FnOnce f) (or_refused value_answer result) }
     {
         self.pin(rt).compute_if_present(key, f)
     }

@@ -3,15 +3,17 @@ ghost use Rattle.std.specs.Prelude.{◌≡◌};
 ghost use Rattle.flurry_steps_sweep.specs.Part.{ControlPart};
 ghost use Rattle.flurry_shared_locks.specs.LockLoans.{CallLends, KeepsLocks, LockLacks, RoomStays};
 ghost use Rattle.flurry_shared_locks.specs.declared.tables.LockRoom.{LockRoom};
-ghost use Rattle.flurry_steps.specs.Field.{FieldStep};
-ghost use Rattle.flurry_steps.specs.Party.{wanted_part};
+ghost use Rattle.flurry_steps.specs.Field.{ActsOrStays, FieldStep};
+ghost use Rattle.flurry_steps.specs.Party.{wanted_part, IsTaken};
+ghost use Rattle.flurry_steps.specs.StepClosure.{StepsToReply};
+ghost use Rattle.flurry_steps_sweep.specs.OutcomeView.{outcome_of};
 ghost use Rattle.flurry_steps.specs.PartyBoard.{IsAttempt};
 
 use crate::lock_field::LockField;
 use crate::locks::Locks;
 use crate::tables::LockRoom;
 use flurry_bins_slots::ComputeFn;
-use flurry_steps::party::{Event, Want};
+use flurry_steps::party::{Event, Reply, Want};
 use flurry_steps::{Field, Party};
 use flurry_steps_claims::{Attempt, Helper, Range};
 use std::alloc::{Allocator, Global};
@@ -27,7 +29,7 @@ use std::sync::Wait;
 ///
 /// ```
 /// let mut lock_field = CallField::new(&LockField::new(rt, locks));
-/// act(&mut party, &mut lock_field)
+/// lock_field.act(&mut party)
 /// ```
 pub struct CallField<'m, R: Wait, K: Ord, V, A: Allocator = Global> {
     rt: &'m R,
@@ -234,5 +236,52 @@ impl<'m, R: Wait, K: Ord + Drop, V: Drop, A: Allocator + Copy> Field<K, V, A>
     ) -> Option<Event> {
         self.give_back();
         Some(party.on_give())
+    }
+}
+
+impl<'m, R: Wait, K: Ord + Drop, V: Drop, A: Allocator + Copy> CallField<'m, R, K, V, A> {
+    /// Does the next step of `party`, and returns what the step did. If the call is done, or a part cannot be had, returns `None`, and both
+    /// are unchanged. It drops first what the step before took out of its bin, while no lock is held.
+    ///
+    /// Takes as many steps as the call's step, and what its locks take.
+    #[inline(always)]
+    pub fn act<F: ComputeFn<K, V>>(&mut self, party: &mut Party<'_, K, V, F, A>) -> Option<Event>
+        ensures { ActsOrStays (RoomStays {M = LockRoom K V A}) K.cmp F.changes CallLends LockLacks self.old party.old
+            result self.new party.new }
+    {
+        party.release();
+        match party.want() {
+            Want::Control => self.at_control(party),
+            Want::Look(table, index) => self.at_look(table, index, party),
+            Want::Bin(table, index) => self.at_bin(table, index, party),
+            Want::Move(table, index) => self.at_move(table, index, party),
+            Want::Seat(table) => self.at_seat(table, party),
+            Want::Board(table) => self.at_board(table, party),
+            Want::Give(table) => self.at_give(table, party),
+            Want::Done => None,
+        }
+    }
+
+    /// Does the steps of a call until it is done, takes its reply, and returns it.
+    ///
+    /// Takes as many steps as the call needs, and what its locks take.
+    pub fn finish<F: ComputeFn<K, V>>(
+        &mut self,
+        party: &mut Party<'_, K, V, F, A>,
+    ) -> Reply<K, V, A>
+        requires { IsTaken party.old.stage → ⊥ }
+        ensures { StepsToReply (FieldStep (RoomStays {M = LockRoom K V A}) K.cmp F.changes CallLends) self.old party.old
+            (outcome_of result) self.new party.new }
+    {
+        let rt = self.rt;
+        for _ in rt.forever() {
+            if self.act(party).is_some() {
+                continue;
+            }
+            if let Some(reply) = party.take_reply() {
+                return reply;
+            }
+        }
+        unreachable!()
     }
 }

@@ -1,13 +1,16 @@
 -- What a call of a shared map can answer.
 use Rattle.std.specs.Prelude.{◌≡◌, ◌⊎◌, ℕ, ℤ, Bool, true, false, if◌then◌else◌, Option, Some, None, MatchOption, Ok, Err, length}
-use Rattle.std.specs.Option.{option_map_or}
+use Rattle.std.specs.Option.{option_map, option_map_or}
 use Rattle.std.specs.declared.cmp.Ordering.{Ordering}
 use Rattle.std.proofs.Common.{refl, sym, subst, inl, inr}
 use Rattle.flurry_steps.specs.StepClosure.{StepClosure, still, further, StepsToReply}
 use Rattle.flurry_base.specs.declared.call.Seen.{Seen}
+use Rattle.flurry_base.specs.Verdicts.{Judges}
+use Rattle.flurry_base.specs.declared.verdict.Verdict.{Verdict}
+use Rattle.flurry_base.specs.declared.verdict.Verdict.TheVariants.{Keep, Set, Remove}
 use Rattle.flurry_shared_replies.specs.Answers.{CanReserve, CanSweep, CanAnswer, CanAnswerFrom, NeedsOwner, HasForm}
 use Rattle.flurry_bins_slots.specs.Slot as slot
-use Rattle.flurry_bins_slots.specs.Slot.{PlainEntry, SlotState, Live, Content, IsLive, HasMoved, IsUnborn, ComputeOutcome, WasAbsent, WasRemoved, WasChanged, Clashes, next_of_live}
+use Rattle.flurry_bins_slots.specs.Slot.{PlainEntry, SlotState, Live, Content, IsLive, HasMoved, IsUnborn, ComputeOutcome, WasAbsent, WasRemoved, WasChanged, verdict_outcome, pair_of_entry, entry_of_live, Clashes, next_of_live}
 use Rattle.flurry_steps_control.specs.Control.{ControlState, BeginGives, grows_from}
 use Rattle.flurry_steps.specs.Field.{Loan, ControlLoan, PublishedLoan, TallyLoan, LookLoan, BinLoan, MoveLoan, BoardLoan, StepWith, FieldStep}
 use Rattle.flurry_steps_sweep.specs.Outcome.{Outcome, OutcomeReply, OutcomeEnded, OutcomeRefused}
@@ -15,9 +18,9 @@ use Rattle.flurry_steps_sweep.specs.Sweep as sweep
 use Rattle.flurry_steps_sweep.specs.Sweep.{SweepKind, Reads, Wipes, SweepStage, AtSweepStart, OverBins, AtTotal, AtEnd, AfterEnd, BinGives, WalkGives, ClearGives, ReadGives, SplitGives, start_stage_at, stage_walked, stage_cleared, more_wiped, swept_outcome, is_at_start}
 use Rattle.flurry_steps_sweep.specs.Cursor.{CursorState, after_top}
 use Rattle.flurry_steps.specs.Party as party
-use Rattle.flurry_steps.specs.Party.{AnswerForm, TheValue, ThePair, Presence, Task, Finds, Removes, RemovesSeen, Inserts, Adds, Computes, GrowFor, ForInsert, ForReserve, Help, WantsSeat, AtBoard, Moving, Publishing, GivesBack, Resume, ThenBin, ThenRecount, ThenGrow, Stage, AtLocate, AtBin, AtHelp, AtUncount, AtCount, AtRecount, AtBegin, AtGrow, AtReserve, AtSweep, AtDone, AtTaken, PartyState, reply_for, resumed_stage, published_stage, final_outcome, with_stage, stage_of_call}
+use Rattle.flurry_steps.specs.Party.{AnswerForm, TheValue, ThePair, Presence, Task, Finds, Removes, RemovesSeen, Inserts, Adds, Computes, Alters, GrowFor, ForInsert, ForReserve, Help, WantsSeat, AtBoard, Moving, Publishing, GivesBack, Resume, ThenBin, ThenRecount, ThenGrow, Stage, AtLocate, AtBin, AtHelp, AtUncount, AtCount, AtRecount, AtBegin, AtGrow, AtReserve, AtSweep, AtDone, AtTaken, PartyState, reply_for, resumed_stage, published_stage, final_outcome, with_stage, stage_of_call}
 use Rattle.flurry_steps.specs.PartyControl.{has_helped, begin_at, stage_advised, stage_begun, stage_grown, stage_not_grown, stage_growing, OpensFor, LocatesNone, MakesFor, event_growing, StageAtControl}
-use Rattle.flurry_steps.specs.PartySlots.{GoesOnNew, GoesOnWritten, GoesOnAdded, stage_taken, stage_computed, stage_moved, FindCanBeRefused, CanBeRefused, DecidesAt, LiveGives, ContentGives, StageAtSlot, moved_stage, MoveGives}
+use Rattle.flurry_steps.specs.PartySlots.{GoesOnNew, GoesOnWritten, GoesOnAdded, GoesOnAltered, stage_taken, stage_computed, stage_moved, FindCanBeRefused, CanBeRefused, DecidesAt, LiveGives, ContentGives, StageAtSlot, moved_stage, MoveGives}
 use Rattle.flurry_steps.specs.PartyBoard.{BoardAnswer, stage_helping, stage_answered}
 use Rattle.flurry_steps.specs.PartyTally.{StageAtTally}
 use Rattle.flurry_steps.specs.PartyView.{plain_call}
@@ -42,7 +45,7 @@ needs_owner TheValue e h = tt
 needs_owner ThePair e h = tt
 needs_owner Presence e h = h
 
-module _ {K V F : Type 0} (changes : F → K → V → Option V → Type 0) (answers : Outcome K V → Type 0) where
+module _ {K V F : Type 0} (changes : F → K → Option V → Verdict V → Type 0) (answers : Outcome K V → Type 0) where
   -- the call can still answer what its task can, or its reply is among the answers
   abbrev Serves : Task K V F → Type 0
   Serves t = (r : Outcome K V) → CanAnswer changes t r → answers r
@@ -200,6 +203,7 @@ module _ {K V F : Type 0} (changes : F → K → V → Option V → Type 0) (ans
   after_moved (Inserts k v) e h = h
   after_moved (Adds k v) e h = h
   after_moved (Computes k f) e h = h
+  after_moved (Alters k may_add f) e h = h
 
   -- ---- at the control
 
@@ -222,6 +226,8 @@ module _ {K V F : Type 0} (changes : F → K → V → Option V → Type 0) (ans
     none (Inserts k v) ev h g = opens (Inserts k v) h tt ev g
     none (Adds k v) ev h g = opens (Adds k v) h tt ev g
     none (Computes k f) ev h g = subst StageServes (sym g.1) (h _ tt)
+    none (Alters k true f) ev h g = opens (Alters k true f) h tt ev g
+    none (Alters k false f) ev h g = subst StageServes (sym g.1) (h _ tt)
 
     makes : (w : ℕ) (ev : Event) → Reserves → MakesFor place p m w b s ev st b' s' → StageServes st
     makes w (event.Opened e) h g = subst StageServes (sym g.1) h
@@ -323,6 +329,23 @@ module _ {K V F : Type 0} (changes : F → K → V → Option V → Type 0) (ans
   after_drop z None h = h _ tt
   after_drop z (Some x) h = h _ tt
 
+  after_altered : (k : K) (may_add : Bool) (f : F) (e : ℕ) (asked : Bool) (x : Option (PlainEntry K V)) (v : Verdict V) (s : Stage K V F)
+      → Serves (Alters k may_add f) → Judges changes f k may_add (option_map pair_of_entry x) v → GoesOnAltered e (verdict_outcome asked x v) s → StageServes s
+  after_altered k true f e asked None Keep s h j g = subst StageServes (sym g) (h _ (inl j))
+  after_altered k true f e asked None (Set w) s h j g = after_new e _ asked s (h _ (refl, j)) g
+  after_altered k true f e asked None Remove s h j g = subst StageServes (sym g) (h _ (inr j))
+  after_altered k false f e asked None Keep s h j g = subst StageServes (sym g) (h _ tt)
+  after_altered k false f e asked None (Set w) s h j g = let clash : Set w ≡ Keep = j in cc
+  after_altered k false f e asked None Remove s h j g = let clash : ◌≡◌ {A = Verdict V} Remove Keep = j in cc
+  after_altered k may_add f e asked (Some x) Keep s h j g = subst StageServes (sym g) (h _ (x.0.1, x.1.0, j))
+  after_altered k may_add f e asked (Some x) (Set w) s h j g = subst StageServes (sym g) (h _ (x.0.1, j))
+  after_altered k may_add f e asked (Some x) Remove s h j g = subst StageServes (sym g) (h _ j)
+
+  -- an alteration of a present pair is refused only where the function set a value
+  alter_refused : (k : K) (f : F) (x : Option (PlainEntry K V)) (w : V) → Judges changes f k false (option_map pair_of_entry x) (Set w) → CanAnswer changes (Alters k false f) OutcomeRefused
+  alter_refused k f None w j = let clash : Set w ≡ Keep = j in cc
+  alter_refused k f (Some x) w j = (x.0.1, x.1.0, w, j)
+
   module _ (cmp : K → K → Ordering) (n : ℕ) where
     after_computed : (k : K) (f : F) (bins : ℕ) (b c : Live K V) (o : ComputeOutcome V) → Serves (Computes k f) → slot.Computes cmp (changes f) bins b n k o c → StageServes (stage_computed o)
     after_computed k f bins b c WasAbsent h g = h _ tt
@@ -336,6 +359,8 @@ module _ {K V F : Type 0} (changes : F → K → V → Option V → Type 0) (ans
     decides (Inserts k v) e b d s h g = after_written e _ _ s k v h g.0
     decides (Adds k v) e b d s h g = after_added e _ _ s k v h g.0
     decides (Computes k f) e b d s h g = subst StageServes (sym g.2) (after_computed k f _ b d g.0 h g.1)
+    decides (Alters k may_add f) e b d s h (o, (v, judged, is, _), goes) =
+        after_altered k may_add f e _ (entry_of_live cmp b n k) v s h judged (subst (λ o. GoesOnAltered e o s) is goes)
 
     refused : (t : Task K V F) (b : Live K V) → CanBeRefused cmp changes n t b → CanAnswer changes t OutcomeRefused
     refused (Finds w k) b g = needs_owner w _ g
@@ -344,6 +369,8 @@ module _ {K V F : Type 0} (changes : F → K → V → Option V → Type 0) (ans
     refused (Inserts k v) b g = tt
     refused (Adds k v) b g = tt
     refused (Computes k f) b g = (g.1.0.0.1, g.1.0.1.0, g.0, g.1.2)
+    refused (Alters k true f) b g = tt
+    refused (Alters k false f) b g = alter_refused k f (entry_of_live cmp b n k) g.0 g.1
 
     live : (t : Task K V F) (e : ℕ) (b : Live K V) (ev : Event) (s : Stage K V F) (c : Content K V) → Serves t → LiveGives cmp changes n t e b ev s c → StageServes s
     live t e b event.Decide s c h g = decides t e b g.0 s h g.1
@@ -465,7 +492,7 @@ module _ {K V F : Type 0} (changes : F → K → V → Option V → Type 0) (ans
     all_turns {p' = p'} h (further {p' = e} ev field_steps field_step) = with_loan field_step.loan e p' ev (all_turns h field_steps) field_step.step
 
 -- a call that did no step yet can answer what its first stage can
-first_serves : {K V F A : Type 0} (changes : F → K → V → Option V → Type 0) (c : Call K V F A) → StageServes changes (CanAnswerFrom changes (stage_of_call (plain_call c))) (stage_of_call (plain_call c))
+first_serves : {K V F A : Type 0} (changes : F → K → Option V → Verdict V → Type 0) (c : Call K V F A) → StageServes changes (CanAnswerFrom changes (stage_of_call (plain_call c))) (stage_of_call (plain_call c))
 first_serves changes (call.Get k) = λ r h. h
 first_serves changes (call.GetKeyValue k) = λ r h. h
 first_serves changes (call.ContainsKey k) = λ r h. h
@@ -475,11 +502,13 @@ first_serves changes (call.RemoveSeen z) = λ r h. h
 first_serves changes (call.Insert k v) = λ r h. h
 first_serves changes (call.TryInsert k v) = λ r h. h
 first_serves changes (call.Compute k f) = λ r h. h
+first_serves changes (call.Alter k f) = λ r h. h
+first_serves changes (call.AlterPresent k f) = λ r h. h
 first_serves changes (call.Reserve a) = λ r h. h
 first_serves changes call.Clear = λ r h. h
 first_serves changes call.Walk = λ r h. h
 
-module _ {S R K V F : Type 0} (place : R → ℕ → Option ℕ → Bool → R → Type 0) (cmp : K → K → Ordering) (changes : F → K → V → Option V → Type 0) (lends : S → Loan K V R → S → Type 0) {s s' : S} {p p' : PartyState K V F} {r : Outcome K V} (field_steps : StepsToReply (FieldStep place cmp changes lends) s p r s' p') where
+module _ {S R K V F : Type 0} (place : R → ℕ → Option ℕ → Bool → R → Type 0) (cmp : K → K → Ordering) (changes : F → K → Option V → Verdict V → Type 0) (lends : S → Loan K V R → S → Type 0) {s s' : S} {p p' : PartyState K V F} {r : Outcome K V} (field_steps : StepsToReply (FieldStep place cmp changes lends) s p r s' p') where
   -- the reply to which steps take a call is one that it can answer
   pub can_answer : {A : Type 0} (c : Call K V F A) → p.stage ≡ stage_of_call (plain_call c) → CanAnswerFrom changes (stage_of_call (plain_call c)) r
   can_answer c e = served changes (CanAnswerFrom changes (stage_of_call (plain_call c))) field_steps.last.stage r (all_turns changes (CanAnswerFrom changes (stage_of_call (plain_call c))) place cmp lends (subst (StageServes changes (CanAnswerFrom changes (stage_of_call (plain_call c)))) (sym e) (first_serves changes c)) field_steps.field_steps) field_steps.done

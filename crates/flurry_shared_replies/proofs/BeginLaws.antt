@@ -4,6 +4,7 @@ use Rattle.std.specs.declared.cmp.Ordering.{Ordering}
 use Rattle.flurry_steps.specs.StepClosure.{StepClosure, still, further}
 use Rattle.flurry_shared_replies.specs.Replies.{GoesTo, IsReplyOf, new_party}
 use Rattle.flurry_base.specs.declared.sizes.TheConstants.{MAX_TABLE}
+use Rattle.flurry_base.specs.declared.verdict.Verdict.{Verdict}
 use Rattle.flurry_bins_slots.specs.Slot.{SlotState, IsSlot}
 use Rattle.flurry_steps.specs.Field.{PublishedLoan, TallyLoan, LookLoan, BinLoan}
 use Rattle.flurry_steps.specs.FirstSteps.{BeginsAt, begun_at}
@@ -28,6 +29,8 @@ look_locates (call.RemoveSeen z) h = absurd h
 look_locates (call.Insert k v) h = absurd h
 look_locates (call.TryInsert k v) h = absurd h
 look_locates (call.Compute k f) h = absurd h
+look_locates (call.Alter k f) h = absurd h
+look_locates (call.AlterPresent k f) h = absurd h
 look_locates (call.Reserve a) h = absurd h
 look_locates call.Clear h = absurd h
 look_locates call.Walk h = absurd h
@@ -43,6 +46,8 @@ look_wants (call.RemoveSeen z) d h n looks = absurd looks
 look_wants (call.Insert k v) d h n looks = absurd looks
 look_wants (call.TryInsert k v) d h n looks = absurd looks
 look_wants (call.Compute k f) d h n looks = absurd looks
+look_wants (call.Alter k f) d h n looks = absurd looks
+look_wants (call.AlterPresent k f) d h n looks = absurd looks
 look_wants (call.Reserve a) d h n looks = absurd looks
 look_wants call.Clear d h n looks = absurd looks
 look_wants call.Walk d h n looks = absurd looks
@@ -58,6 +63,8 @@ write_locates (call.RemoveSeen z) h = refl
 write_locates (call.Insert k v) h = refl
 write_locates (call.TryInsert k v) h = refl
 write_locates (call.Compute k f) h = refl
+write_locates (call.Alter k f) h = refl
+write_locates (call.AlterPresent k f) h = refl
 write_locates (call.Reserve a) h = absurd h
 write_locates call.Clear h = absurd h
 write_locates call.Walk h = absurd h
@@ -72,6 +79,8 @@ write_wants (call.RemoveSeen z) d h n writes = refl
 write_wants (call.Insert k v) d h n writes = refl
 write_wants (call.TryInsert k v) d h n writes = refl
 write_wants (call.Compute k f) d h n writes = refl
+write_wants (call.Alter k f) d h n writes = refl
+write_wants (call.AlterPresent k f) d h n writes = refl
 write_wants (call.Reserve a) d h n writes = absurd writes
 write_wants call.Clear d h n writes = absurd writes
 write_wants call.Walk d h n writes = absurd writes
@@ -81,7 +90,7 @@ module _ {S K V F : Type 0} {step : S → PartyState K V F → Event → S → P
   both first still = first
   both first (further ev field_steps field_step) = further ev (both first field_steps) field_step
 
-module _ {K V F : Type 0} (cmp : K → K → Ordering) (changes : F → K → V → Option V → Type 0) where
+module _ {K V F : Type 0} (cmp : K → K → Ordering) (changes : F → K → Option V → Verdict V → Type 0) where
   module _ (h n d : ℕ) (s s' : Stage K V F) (asks : is_locating s ≡ true) (within : d ≤ MAX_TABLE) where
     -- a call that began at a published table, and did the step at its bin there
     pub look_begun : (q : SlotState K V) → wanted_part (begun_at d h n s) ≡ LookPart q.table q.index → IsSlot cmp q → BeginsAt cmp changes h d s q s' q

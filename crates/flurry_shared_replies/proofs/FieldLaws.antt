@@ -9,8 +9,9 @@ use Rattle.flurry_shared_locks.specs.LockLoans.{LockLends, RoomStays}
 use Rattle.flurry_steps_sweep.specs.Outcome.{Outcome}
 use Rattle.flurry_steps_sweep.specs.declared.step.Event.{Event}
 use Rattle.flurry_shared_replies.specs.Replies.{IsReplyOf}
+use Rattle.flurry_base.specs.declared.verdict.Verdict.{Verdict}
 
-module _ {K V F M N : Type 0} (room : M → N) (cmp : K → K → Ordering) (changes : F → K → V → Option V → Type 0) where
+module _ {K V F M N : Type 0} (room : M → N) (cmp : K → K → Ordering) (changes : F → K → Option V → Verdict V → Type 0) where
   -- a loan whose tables are made elsewhere
   abbrev loan_in : Loan K V M → Loan K V N
   loan_in (ControlLoan b m b' m') = ControlLoan b (room m) b' (room m')
@@ -38,7 +39,7 @@ module _ {K V F M N : Type 0} (room : M → N) (cmp : K → K → Ordering) (cha
     reply_in : {l l' : L} {p p' : PartyState K V F} {r : Outcome K V} → StepsToReply (FieldStep (RoomStays {M = M}) cmp changes lends) l p r l' p' → StepsToReply {S = Unit {0}} (FieldStep (RoomStays {M = N}) cmp changes LockLends) tt p r tt p'
     reply_in t = record { last = t.last; field_steps = steps_in t.field_steps; done = t.done; after = t.after }
 
-module _ {K V F M : Type 0} (cmp : K → K → Ordering) (changes : F → K → V → Option V → Type 0) (p : PartyState K V F) (r : Outcome K V) where
+module _ {K V F M : Type 0} (cmp : K → K → Ordering) (changes : F → K → Option V → Verdict V → Type 0) (p : PartyState K V F) (r : Outcome K V) where
   -- the reply to which steps lead whose parts anybody lends, and whose tables are made anywhere
   pub driven_reply : {L : Type 0} {lends : L → Loan K V M → L → Type 0} {l l' : L} {p' : PartyState K V F} → StepsToReply (FieldStep (RoomStays {M = M}) cmp changes lends) l p r l' p' → IsReplyOf cmp changes p r
   driven_reply {p' = p'} t = record { last = p'; field_steps = reply_in (λ m. tt) cmp changes t }

@@ -2,6 +2,7 @@
 use Rattle.std.proofs.Common.{ℕ, ◌%◌, ◌^◌, false, [], Option, refl, arith}
 use Rattle.std.specs.declared.cmp.Ordering.{Ordering}
 use Rattle.flurry_base.proofs.ListParts.{sorted_nil}
+use Rattle.flurry_base.specs.declared.verdict.Verdict.{Verdict}
 use Rattle.flurry_bins_slots.specs.Slot.{SlotState, IsSlot, IsLive}
 use Rattle.flurry_steps_sweep.specs.Outcome.{OutcomeRefused}
 use Rattle.flurry_steps_sweep.specs.declared.step.Event.TheVariants.{Refused}
@@ -9,7 +10,7 @@ use Rattle.flurry_steps.specs.Party.{Inserts, AtLocate, AtDone}
 use Rattle.flurry_shared_replies.specs.Replies.{IsReplyOf, new_party}
 use Rattle.flurry_shared_replies.proofs.BeginLaws.{write_begun, done_by}
 
-module _ {K V F : Type 0} (cmp : K → K → Ordering) (changes : F → K → V → Option V → Type 0) (h n : ℕ) (k : K) (v : V) where
+module _ {K V F : Type 0} (cmp : K → K → Ordering) (changes : F → K → Option V → Verdict V → Type 0) (h n : ℕ) (k : K) (v : V) where
   -- the empty bin of a table of one bin
   abbrev sole : SlotState K V
   sole = record { table = 0; index = h % 2 ^ 0; content = IsLive (record { plain_entries = []; tree = false; writes = 0 }) }

@@ -1,10 +1,12 @@
 -- What a call of a shared map can answer, whatever other calls do between its steps.
-use Rattle.std.specs.Prelude.{◌≡◌, Option, Some, None, ⊤}
+use Rattle.std.specs.Prelude.{◌≡◌, ◌⊎◌, Bool, true, false, Option, Some, None, MatchBool, ⊤}
 use Rattle.flurry_base.specs.declared.reply.KeptReply.{KeptReply}
-use Rattle.flurry_base.specs.declared.reply.KeptReply.TheVariants.{Value, Pair, Contains, New, Exists}
+use Rattle.flurry_base.specs.declared.reply.KeptReply.TheVariants.{Value, Pair, Contains, New, Changed, Exists}
+use Rattle.flurry_base.specs.declared.verdict.Verdict.{Verdict}
+use Rattle.flurry_base.specs.declared.verdict.Verdict.TheVariants.{Keep, Set, Remove}
 use Rattle.flurry_steps_sweep.specs.Outcome.{Outcome, OutcomeReply, OutcomeEnded, OutcomeRefused}
 use Rattle.flurry_steps_sweep.specs.Sweep.{SweepKind, Reads, Wipes}
-use Rattle.flurry_steps.specs.Party.{AnswerForm, TheValue, ThePair, Presence, Task, Finds, Removes, RemovesSeen, Inserts, Adds, Computes, Stage, AtLocate, AtReserve, AtSweep}
+use Rattle.flurry_steps.specs.Party.{AnswerForm, TheValue, ThePair, Presence, Task, Finds, Removes, RemovesSeen, Inserts, Adds, Computes, Alters, Stage, AtLocate, AtReserve, AtSweep}
 
 -- what is told by a further owner can want memory
 abbrev pub NeedsOwner : AnswerForm → Type 0
@@ -66,19 +68,36 @@ module _ {K V : Type 0} where
   CanSweep Reads r = CanWalk r
   CanSweep (Wipes n) r = CanClear r
 
-  -- `changes k v o` says that the function may answer o at the pair of k and v: a value that is answered is one that it answered
-  module _ (changes : K → V → Option V → Type 0) where
+  -- `changes k x v` says that the function may make v of the pair of k, which is x or none: a value that is answered is one that it
+  -- answered
+  module _ (changes : K → Option V → Verdict V → Type 0) where
     abbrev pub IsComputed : KeptReply K V → Type 0
     IsComputed (Value None) = ⊤
-    IsComputed (Value (Some w)) = (k : K) × (v : V) × changes k v (Some w)
+    IsComputed (Value (Some w)) = (k : K) × (v : V) × changes k (Some v) (Set w)
     IsComputed _ = ⊥
 
     abbrev pub CanCompute : Outcome K V → Type 0
     CanCompute (OutcomeReply r) = IsComputed r
     CanCompute OutcomeEnded = ⊥
-    CanCompute OutcomeRefused = (k : K) × (v w : V) × changes k v (Some w)
+    CanCompute OutcomeRefused = (k : K) × (v w : V) × changes k (Some v) (Set w)
 
-module _ {K V F : Type 0} (changes : F → K → V → Option V → Type 0) where
+    -- what is answered is what came of a verdict of the function, on the key that was handed in and none, or on a stored pair
+    abbrev pub IsAltered : K → Bool → KeptReply K V → Type 0
+    IsAltered k may_add (Contains false) = MatchBool may_add (changes k None Keep ⊎ changes k None Remove) ⊤
+    IsAltered k may_add (Contains true) = (j : K) × (v : V) × changes j (Some v) Keep
+    IsAltered k may_add (New w) = (may_add ≡ true) × changes k None (Set w)
+    IsAltered k may_add (Changed w v) = (j : K) × changes j (Some v) (Set w)
+    IsAltered k may_add (Pair (Some p)) = changes p.0 (Some p.1) Remove
+    IsAltered k may_add _ = ⊥
+
+    -- where a pair may be added, memory can be wanting also for a first table
+    abbrev pub CanAlter : K → Bool → Outcome K V → Type 0
+    CanAlter k may_add (OutcomeReply r) = IsAltered k may_add r
+    CanAlter k may_add OutcomeEnded = ⊥
+    CanAlter k true OutcomeRefused = ⊤
+    CanAlter k false OutcomeRefused = (j : K) × (v w : V) × changes j (Some v) (Set w)
+
+module _ {K V F : Type 0} (changes : F → K → Option V → Verdict V → Type 0) where
   -- what a call of one key can answer
   abbrev pub CanAnswer : Task K V F → Outcome K V → Type 0
   CanAnswer (Finds w k) r = CanFind w r
@@ -87,6 +106,7 @@ module _ {K V F : Type 0} (changes : F → K → V → Option V → Type 0) wher
   CanAnswer (Inserts k v) r = CanInsert r
   CanAnswer (Adds k v) r = CanAdd v r
   CanAnswer (Computes k f) r = CanCompute (changes f) r
+  CanAnswer (Alters k may_add f) r = CanAlter (changes f) k may_add r
 
   -- what a call can answer that has not done a step yet
   abbrev pub CanAnswerFrom : Stage K V F → Outcome K V → Type 0

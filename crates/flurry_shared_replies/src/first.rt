@@ -8,8 +8,8 @@ ghost use Rattle.flurry_steps.specs.PartyView.{CallIsReady, plain_call};
 use flurry_base::sizes::bin_index;
 use flurry_bins_slots::ComputeFn;
 use flurry_shared_locks::{CallField, LockField};
+use flurry_steps::Party;
 use flurry_steps::party::{Call, Ending, Remains, Reply};
-use flurry_steps::{Party, finish};
 use flurry_steps_control::PublishedTable;
 use std::alloc::Allocator;
 use std::sync::Wait;
@@ -28,7 +28,7 @@ pub fn reply_to<K: Ord + Drop, V: Drop, F: ComputeFn<K, V>, A: Allocator + Copy,
     hash: u64,
     processors: usize,
 ) -> Reply<K, V, A>
-    requires { CallIsReady F.can_change call }
+    requires { CallIsReady F.can_change F.never_keeps call }
     ensures { RepliesFrom K.cmp F.changes hash processors (stage_of_call (plain_call call.entry)) result }
 {
     let Some(start) = lock_field.newest() else {
@@ -53,7 +53,7 @@ fn look_up_at_table<K: Ord + Drop, V: Drop, F: ComputeFn<K, V>, A: Allocator + C
     hash: u64,
     processors: usize,
 ) -> Reply<K, V, A>
-    requires ready { CallIsReady F.can_change call }
+    requires ready { CallIsReady F.can_change F.never_keeps call }
     requires looks { LooksUp (stage_of_call (plain_call call)) }
     ensures { RepliesFrom K.cmp F.changes hash processors (stage_of_call (plain_call call.entry)) result }
 {
@@ -77,7 +77,7 @@ fn write_at_table<K: Ord + Drop, V: Drop, F: ComputeFn<K, V>, A: Allocator + Cop
     hash: u64,
     processors: usize,
 ) -> Reply<K, V, A>
-    requires ready { CallIsReady F.can_change call }
+    requires ready { CallIsReady F.can_change F.never_keeps call }
     requires writes { BeginsToWrite (stage_of_call (plain_call call)) }
     ensures { RepliesFrom K.cmp F.changes hash processors (stage_of_call (plain_call call.entry)) result }
 {
@@ -99,7 +99,7 @@ fn try_write_bin<'k, K: Ord + Drop, V: Drop, F: ComputeFn<K, V>, A: Allocator + 
     call: Call<'k, K, V, F, A>,
     hash: u64,
 ) -> Result<(Ending<K, V, A>, Remains<'k, K, V, F, A>), Call<'k, K, V, F, A>>
-    requires ready { CallIsReady F.can_change call }
+    requires ready { CallIsReady F.can_change F.never_keeps call }
     requires writes { BeginsToWrite (stage_of_call (plain_call call)) }
     ensures { BeginsOrStays K.cmp F.changes hash call.entry result }
 {
@@ -165,7 +165,7 @@ fn drive_call<K: Ord + Drop, V: Drop, F: ComputeFn<K, V>, A: Allocator + Copy, R
     hash: u64,
     processors: usize,
 ) -> Reply<K, V, A>
-    requires { CallIsReady F.can_change call }
+    requires { CallIsReady F.can_change F.never_keeps call }
     ensures { RepliesFrom K.cmp F.changes hash processors (stage_of_call (plain_call call.entry)) result }
 {
     drive_party(lock_field, Party::new(call, hash, processors))
@@ -192,8 +192,7 @@ fn drive_party<K: Ord + Drop, V: Drop, F: ComputeFn<K, V>, A: Allocator + Copy, 
     ensures { IsReplyOf K.cmp F.changes party.entry (outcome_of result) }
 {
     let mut party = party;
-    let mut call_field = CallField::new(lock_field);
-    let reply = finish(lock_field.runtime(), &mut party, &mut call_field);
+    let reply = CallField::new(lock_field).finish(&mut party);
     drop(party);
     reply
 }

@@ -134,6 +134,7 @@ no_other (reply.Value v) h ended refused = h
 no_other (reply.Pair p) h ended refused = h
 no_other (reply.Contains b) h ended refused = h
 no_other (reply.New v) h ended refused = h
+no_other (reply.Changed new old) h ended refused = h
 no_other (reply.Exists e) h ended refused = h
 no_other reply.Ended h ended refused = ended refl
 no_other reply.Refused h ended refused = refused refl

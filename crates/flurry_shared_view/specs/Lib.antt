@@ -2,3 +2,4 @@ pub mod SharedAnswers
 pub mod Walks
 pub mod Visits
 pub mod Insertions
+pub mod Alterations

@@ -8,6 +8,8 @@ use Rattle.flurry_base.specs.OneKey.{hash_of_call}
 use Rattle.flurry_base.specs.declared.call.Call.{Call}
 use Rattle.flurry_base.specs.declared.reply.KeptReply.TheVariants as kept
 use Rattle.flurry_base.specs.declared.try_insert.TryInsertError.{TryInsertError}
+use Rattle.flurry_base.specs.declared.verdict.Verdict.{Verdict}
+use Rattle.flurry_base.specs.declared.verdict.Verdict.TheVariants.{Remove}
 use Rattle.flurry_bins_slots.specs.declared.compute_fn.NoFn.{NoFn}
 use Rattle.flurry_steps_sweep.specs.Outcome.{Outcome, OutcomeReply, OutcomeEnded, OutcomeRefused}
 use Rattle.flurry_steps_sweep.specs.OutcomeView.{pair_value}
@@ -52,8 +54,8 @@ module _ {K V : Type 0} where
 -- ---- the answers that a call can give
 
 -- what a call without a function changes
-abbrev pub no_changes : {K V : Type 0} → NoFn → K → V → Option V → Type 0
-no_changes f k v o = o ≡ None
+abbrev pub no_changes : {K V : Type 0} → NoFn → K → Option V → Verdict V → Type 0
+no_changes f k x v = v ≡ Remove
 
 -- a call of the map before its first step; it has the hash of its key, or 0 if it has no key
 abbrev pub fresh_call : {K V F S : Type 0} → (S → K → ℕ) → MapSettings K V S → Call K V F → PartyState K V F
@@ -61,8 +63,8 @@ fresh_call hash_of m c = new_party (hash_of_call (hash_of m.hasher) c) m.process
 
 -- The answer r is one that the own steps of the call c can give, over a map of the settings m. Each step is done at a part of the map
 -- that is lent to it under the part's lock; what other threads do between two steps may have left there anything of its type.
--- `changes f k v o` says that the function f of the call, called on a stored key and its value, may return o.
-abbrev pub IsAnswerWith : {K V F S : Type 0} → (F → K → V → Option V → Type 0) → (K → K → Ordering) → (S → K → ℕ) → MapSettings K V S → Call K V F → Outcome K V → Type 0
+-- `changes f k x v` says that the function f of the call, called on a key and on its value or none, may make v of the pair.
+abbrev pub IsAnswerWith : {K V F S : Type 0} → (F → K → Option V → Verdict V → Type 0) → (K → K → Ordering) → (S → K → ℕ) → MapSettings K V S → Call K V F → Outcome K V → Type 0
 IsAnswerWith changes cmp hash_of m c r = IsReplyOf cmp changes (fresh_call hash_of m c) r
 
 -- the same of a call without a function

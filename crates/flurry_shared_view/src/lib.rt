@@ -4,8 +4,10 @@
 //! world runs in any order.
 #![tactic(auto)]
 
+mod change;
 mod debug;
 mod equality;
+mod functions;
 mod insert_with;
 pub mod iter;
 pub mod map_ref;

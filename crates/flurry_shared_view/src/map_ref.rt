@@ -6,7 +6,7 @@ ghost use Rattle.flurry_shared_view.specs.SharedAnswers.{IsAnswerOf, IsAnswerWit
 ghost use Rattle.flurry_base.specs.declared.call.Call.TheVariants.{Get, GetKeyValue, ContainsKey, Insert, TryInsert, Compute, Remove, RemoveEntry, RemoveSeen, Reserve, Clear};
 ghost use Rattle.flurry_shared_replies.specs.Answers.{CanAnswerFrom, CanAdd, CanCompute};
 ghost use Rattle.flurry_shared_replies.specs.Replies.{RepliesFrom};
-ghost use Rattle.flurry_bins_slots.specs.ComputeFn.{AnswersAtPair};
+ghost use Rattle.flurry_bins_slots.specs.ComputeFn.{AnswersIfPresent};
 ghost use Rattle.flurry_steps.specs.PartyView.{CallIsReady, plain_call};
 ghost use Rattle.flurry_steps.specs.Party.{stage_of_call};
 
@@ -335,9 +335,9 @@ impl<'m, R: Wait, K: Ord + Drop, V: Drop, S: KeyHasher<K>, A: Allocator + Copy> 
         f: F,
     ) -> Result<Option<Arc<V, A>>, AllocError>
         requires { F.IsAlwaysCallable f }
-        ensures answer { IsAnswerWith (AnswersAtPair F.FnOnce) K.cmp S.hash_of self.now
+        ensures answer { IsAnswerWith (AnswersIfPresent F.FnOnce) K.cmp S.hash_of self.now
             (Compute key.now f) (or_refused value_answer result) }
-        ensures computed { CanCompute (AnswersAtPair F.FnOnce f) (or_refused value_answer result) }
+        ensures computed { CanCompute (AnswersIfPresent F.FnOnce f) (or_refused value_answer result) }
     {
         match self.run(Call::Compute(key, f)) {
             Reply::Value(value) => Ok(value),
@@ -401,8 +401,8 @@ impl<'m, R: Wait, K: Ord + Drop, V: Drop, S: KeyHasher<K>, A: Allocator + Copy> 
     // Does the steps of `call` over the locks. It is copied into each caller together with its first steps, which then do not ask which
     // call it is.
     #[inline(always)]
-    fn run<F: ComputeFn<K, V>>(&self, call: Call<'_, K, V, F, A>) -> Reply<K, V, A>
-        requires { CallIsReady F.can_change call }
+    pub(crate) fn run<F: ComputeFn<K, V>>(&self, call: Call<'_, K, V, F, A>) -> Reply<K, V, A>
+        requires { CallIsReady F.can_change F.never_keeps call }
         ensures driven { RepliesFrom K.cmp F.changes (hash_of_call (S.hash_of self.now.hasher) (plain_call call.entry))
             self.now.processors (stage_of_call (plain_call call.entry)) result }
         ensures answers { CanAnswerFrom F.changes (stage_of_call (plain_call call.entry)) (outcome_of result) }

@@ -9,7 +9,7 @@ use Rattle.flurry_steps_sweep.specs.Sweep.{SweepKind, Reads, Wipes, SweepStage, 
 use Rattle.flurry_steps_sweep.specs.declared.step.Event.{Event}
 use Rattle.flurry_steps_sweep.specs.declared.step.Event.TheVariants.{Silent}
 use Rattle.flurry_steps.specs.Field.{board_of}
-use Rattle.flurry_steps.specs.Party.{Task, Finds, Removes, RemovesSeen, Inserts, Adds, Computes, Help, WantsSeat, AtBoard, Moving, Publishing, GivesBack, Resume, Stage, AtLocate, AtBin, AtHelp, AtUncount, AtCount, AtRecount, AtBegin, AtGrow, AtReserve, AtSweep, AtDone, AtTaken, PartyState, bin_part, move_part, help_part, part_of, wanted_part, with_stage}
+use Rattle.flurry_steps.specs.Party.{Task, Finds, Removes, RemovesSeen, Inserts, Adds, Computes, Alters, Help, WantsSeat, AtBoard, Moving, Publishing, GivesBack, Resume, Stage, AtLocate, AtBin, AtHelp, AtUncount, AtCount, AtRecount, AtBegin, AtGrow, AtReserve, AtSweep, AtDone, AtTaken, PartyState, bin_part, move_part, help_part, part_of, wanted_part, with_stage}
 use Rattle.flurry_steps.specs.PartyBoard.{Seated, Attempted, Reported, TakenBack, IsAttempt, HelpAsks, StageAsks, BoardStep, stage_answered, helped_answered, range_to_report, stage_unclaimed, IsAtBoard, stage_told}
 
 no_bin : {K V F : Type 0} (t : Task K V F) (e i d : ℕ) → board_of (bin_part t e i) ≡ Some d → ⊥
@@ -19,6 +19,7 @@ no_bin (RemovesSeen z) e i d same = cc
 no_bin (Inserts k v) e i d same = cc
 no_bin (Adds k v) e i d same = cc
 no_bin (Computes k f) e i d same = cc
+no_bin (Alters k may_add f) e i d same = cc
 
 no_sweep : {K V : Type 0} (w : SweepKind) (s : SweepStage K V) (d : ℕ) → board_of (part_at w s) ≡ Some d → ⊥
 no_sweep w AtSweepStart d same = cc

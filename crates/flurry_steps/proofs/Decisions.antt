@@ -3,13 +3,14 @@ use Rattle.std.specs.Prelude.{◌≡◌, ℕ, Bool, true, false, Option, Some, N
 use Rattle.std.specs.Option.{option_map_or}
 use Rattle.std.specs.declared.cmp.Ordering.{Ordering}
 use Rattle.std.proofs.Common.{sym, subst}
-use Rattle.flurry_bins_slots.specs.Slot.{PlainEntry, Live, Content, IsLive, HasMoved, IsUnborn, is_live, ComputeOutcome, WasAbsent, WasRemoved, WasChanged, entry_of_live, take_if_reply}
+use Rattle.flurry_bins_slots.specs.Slot.{PlainEntry, Live, Content, IsLive, HasMoved, IsUnborn, is_live, ComputeOutcome, WasAbsent, WasRemoved, WasChanged, AlterOutcome, StayedAbsent, WasAdded, WasKept, WasTaken, WasSet, entry_of_live, take_if_reply}
 use Rattle.flurry_steps_sweep.specs.Outcome.{Outcome}
-use Rattle.flurry_steps.specs.Party.{AnswerForm, TheValue, Task, Finds, Removes, RemovesSeen, Inserts, Adds, Computes, Stage, AtDone}
-use Rattle.flurry_steps.specs.PartySlots.{GoesOnNew, GoesOnWritten, GoesOnAdded, stage_taken, stage_computed, DecidesAt, LiveGives, ContentGives}
+use Rattle.flurry_steps.specs.Party.{AnswerForm, TheValue, Task, Finds, Removes, RemovesSeen, Inserts, Adds, Computes, Alters, Stage, AtDone}
+use Rattle.flurry_steps.specs.PartySlots.{GoesOnNew, GoesOnWritten, GoesOnAdded, GoesOnAltered, stage_taken, stage_computed, DecidesAt, LiveGives, ContentGives}
 use Rattle.flurry_steps.specs.PartyTally.{HasDecided}
 use Rattle.flurry_steps_sweep.specs.declared.step.Event.{Event}
 use Rattle.flurry_steps_sweep.specs.declared.step.Event.TheVariants as event
+use Rattle.flurry_base.specs.declared.verdict.Verdict.{Verdict}
 
 module _ {K V F : Type 0} where
   after_new : (e : ℕ) (r : Outcome K V) (asked : Bool) (s : Stage K V F) → GoesOnNew e r asked s → HasDecided s
@@ -33,7 +34,14 @@ module _ {K V F : Type 0} where
   after_computed WasRemoved s is = subst HasDecided (sym is) tt
   after_computed (WasChanged v) s is = subst HasDecided (sym is) tt
 
-module _ {K V F : Type 0} (cmp : K → K → Ordering) (changes : F → K → V → Option V → Type 0) (h : ℕ) where
+  after_altered : (e : ℕ) (o : AlterOutcome K V) (s : Stage K V F) → GoesOnAltered e o s → HasDecided s
+  after_altered e StayedAbsent s g = subst HasDecided (sym g) tt
+  after_altered e (WasAdded v asked) s g = after_new e _ asked s g
+  after_altered e WasKept s g = subst HasDecided (sym g) tt
+  after_altered e (WasTaken x) s g = subst HasDecided (sym g) tt
+  after_altered e (WasSet w v) s g = subst HasDecided (sym g) tt
+
+module _ {K V F : Type 0} (cmp : K → K → Ordering) (changes : F → K → Option V → Verdict V → Type 0) (h : ℕ) where
   decides : (t : Task K V F) (e : ℕ) (b d : Live K V) (s : Stage K V F) → DecidesAt cmp changes h t e b s d → HasDecided s
   decides (Finds w k) e b d s g = subst HasDecided (sym g.0) tt
   decides (Removes w k) e b d s g = after_taken w (entry_of_live cmp b h k) s g.0
@@ -41,6 +49,7 @@ module _ {K V F : Type 0} (cmp : K → K → Ordering) (changes : F → K → V 
   decides (Inserts k v) e b d s g = after_written e _ _ s g.0
   decides (Adds k v) e b d s g = after_added e _ v _ s g.0
   decides (Computes k f) e b d s g = after_computed g.0 s g.2
+  decides (Alters k may_add f) e b d s g = after_altered e g.0 s g.2
 
   live : (t : Task K V F) (e : ℕ) (b : Live K V) (ev : Event) (s : Stage K V F) (c : Content K V) → LiveGives cmp changes h t e b ev s c → HasDecided s
   live t e b event.Decide s c g = decides t e b g.0 s g.1

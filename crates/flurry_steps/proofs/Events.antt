@@ -8,10 +8,11 @@ use Rattle.flurry_steps_control.specs.declared.control.BeginOutcome.{BeginOutcom
 use Rattle.flurry_steps_control.specs.declared.control.BeginOutcome.TheVariants as outcome
 use Rattle.flurry_steps_sweep.specs.declared.step.Event.{Event}
 use Rattle.flurry_steps_sweep.specs.declared.step.Event.TheVariants as event
-use Rattle.flurry_steps.specs.Party.{Task, Finds, Removes, RemovesSeen, Inserts, Adds, Computes, GrowFor, ForInsert, ForReserve, WantsSeat, AtBoard, Moving, Publishing, GivesBack, Stage, AtLocate, AtBin, AtHelp, AtUncount, AtCount, AtRecount, AtBegin, AtGrow, AtReserve, AtSweep, AtDone, AtTaken, PartyState, IsSingle}
+use Rattle.flurry_steps.specs.Party.{Task, Finds, Removes, RemovesSeen, Inserts, Adds, Computes, Alters, GrowFor, ForInsert, ForReserve, WantsSeat, AtBoard, Moving, Publishing, GivesBack, Stage, AtLocate, AtBin, AtHelp, AtUncount, AtCount, AtRecount, AtBegin, AtGrow, AtReserve, AtSweep, AtDone, AtTaken, PartyState, IsSingle}
 use Rattle.flurry_steps.specs.PartyControl.{OpensFor, LocatesNone, MakesFor, StageAtControl, event_begun, event_growing, stage_grown, stage_growing}
 use Rattle.flurry_steps.specs.PartyBoard.{BoardAnswer, BoardStep}
 use Rattle.flurry_steps.specs.PartySlots.{LiveGives, ContentGives, StageAtSlot, MoveGives}
+use Rattle.flurry_base.specs.declared.verdict.Verdict.{Verdict}
 
 abbrev pub IsSweepEvent : Event → Type 0
 IsSweepEvent event.Read = ⊤
@@ -50,6 +51,8 @@ module _ {K V F R : Type 0} (place : R → ℕ → Option ℕ → Bool → R →
   none_yet (Inserts k v) h = opens_for (Inserts k v) h
   none_yet (Adds k v) h = opens_for (Adds k v) h
   none_yet (Computes k f) h = is_event ev event.Decide (λ u. u) h.0
+  none_yet (Alters k true f) h = opens_for (Alters k true f) h
+  none_yet (Alters k false f) h = is_event ev event.Decide (λ u. u) h.0
 
   located : (o : Option ℕ) (t : Task K V F) → MatchOption o (LocatesNone place p m t b r ev st b' r') (λ e. (ev ≡ event.Silent) × (st ≡ AtBin t e) × (b' ≡ b) × (r' ≡ r)) → IsSweepEvent ev → ⊥
   located None t h = none_yet t h
@@ -97,7 +100,7 @@ module _ {K V F R : Type 0} (place : R → ℕ → Option ℕ → Bool → R →
   single_at_control (AtDone q) one h = absurd h
   single_at_control AtTaken one h = absurd h
 
-module _ {K V F : Type 0} (cmp : K → K → Ordering) (changes : F → K → V → Option V → Type 0) (n : ℕ) (ev : Event) (st : Stage K V F) (c' : Content K V) where
+module _ {K V F : Type 0} (cmp : K → K → Ordering) (changes : F → K → Option V → Verdict V → Type 0) (n : ℕ) (ev : Event) (st : Stage K V F) (c' : Content K V) where
   content : (t : Task K V F) (e : ℕ) (c : Content K V) → ContentGives cmp changes n t e c ev st c' → IsSweepEvent ev → ⊥
   content t e (IsLive b) h = other_event (λ v. LiveGives cmp changes n t e b v st c') (λ h. h) (λ e i h. h) ev h
   content t e HasMoved h = is_event ev event.Silent (λ u. u) h.0

@@ -1,3 +1,4 @@
+mod AtLiveBin
 pub mod Acts
 pub mod Boards
 pub mod Decisions

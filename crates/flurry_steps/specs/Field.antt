@@ -12,6 +12,7 @@ use Rattle.flurry_steps.specs.PartyBoard.{BoardAnswer, BoardStep}
 use Rattle.flurry_steps_sweep.specs.declared.step.Event.{Event}
 use Rattle.flurry_steps_sweep.specs.declared.step.Event.TheVariants as event
 use Rattle.flurry_base.specs.declared.sizes.TheConstants.{MAX_TABLE}
+use Rattle.flurry_base.specs.declared.verdict.Verdict.{Verdict}
 
 -- what is lent to one step, before and after that step
 pub data Loan (K V R : Type 0) : Type 0 where
@@ -37,7 +38,7 @@ board_of (BoardPart e) = Some e
 board_of (GivePart e) = Some e
 board_of _ = None
 
-module _ {K V F R : Type 0} (place : R → ℕ → Option ℕ → Bool → R → Type 0) (cmp : K → K → Ordering) (changes : F → K → V → Option V → Type 0) where
+module _ {K V F R : Type 0} (place : R → ℕ → Option ℕ → Bool → R → Type 0) (cmp : K → K → Ordering) (changes : F → K → Option V → Verdict V → Type 0) where
   -- the step of p with that loan, which is of the part that p wants: a call that asks for the published table may also be told a table,
   -- and one that counts a pair may also count it at a tally
   abbrev pub StepWith : Loan K V R → PartyState K V F → Event → PartyState K V F → Type 0
@@ -68,7 +69,7 @@ pub record StaysOrDone {S K V F : Type 0} (lacks : S → Part → Type 0) (s : S
   pub field : s' ≡ s
   pub party : p' ≡ p
 
-module _ {S K V F R : Type 0} (place : R → ℕ → Option ℕ → Bool → R → Type 0) (cmp : K → K → Ordering) (changes : F → K → V → Option V → Type 0) (lends : S → Loan K V R → S → Type 0) (lacks : S → Part → Type 0) where
+module _ {S K V F R : Type 0} (place : R → ℕ → Option ℕ → Bool → R → Type 0) (cmp : K → K → Ordering) (changes : F → K → Option V → Verdict V → Type 0) (lends : S → Loan K V R → S → Type 0) (lacks : S → Part → Type 0) where
   -- what a field does with a call that wants a part: it lends the part to one step of the call, or both stay
   abbrev pub StepsOrStays : S → PartyState K V F → Option Event → S → PartyState K V F → Type 0
   StepsOrStays s p o s' p' = MatchOption o (Stays lacks s p s' p') (λ ev. FieldStep place cmp changes lends s p ev s' p')

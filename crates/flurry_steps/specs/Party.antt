@@ -30,6 +30,8 @@ pub data Task (K V F : Type 0) : Type 0 where
   Inserts : K → V → Task K V F
   Adds : K → V → Task K V F
   Computes : K → F → Task K V F
+  -- whether a pair may be added
+  Alters : K → Bool → F → Task K V F
 
 -- what a table is made larger for: an insertion that has its reply, or a reserve
 pub data GrowFor (K V : Type 0) : Type 0 where
@@ -93,6 +95,7 @@ module _ {K V F : Type 0} where
   stage_of_call (call.Insert k v) = AtLocate (Inserts k v)
   stage_of_call (call.TryInsert k v) = AtLocate (Adds k v)
   stage_of_call (call.Compute k f) = AtLocate (Computes k f)
+  stage_of_call (call.Alter k may_add f) = AtLocate (Alters k may_add f)
   stage_of_call (call.Remove k) = AtLocate (Removes TheValue k)
   stage_of_call (call.RemoveEntry k) = AtLocate (Removes ThePair k)
   stage_of_call (call.RemoveSeen z) = AtLocate (RemovesSeen z)
@@ -172,9 +175,10 @@ abbrev pub GrowForIsReady : {K V : Type 0} → GrowFor K V → Type 0
 GrowForIsReady (ForInsert r) = IsDecided r
 GrowForIsReady ForReserve = ⊤
 
-module _ {K V F : Type 0} (ready : F → Type 0) where
+module _ {K V F : Type 0} (can_change never_keeps : F → Type 0) where
   abbrev pub TaskIsReady : Task K V F → Type 0
-  TaskIsReady (Computes k f) = ready f
+  TaskIsReady (Computes k f) = can_change f × never_keeps f
+  TaskIsReady (Alters k may_add f) = can_change f
   TaskIsReady _ = ⊤
 
   abbrev pub ResumeIsReady : Resume K V F → Type 0

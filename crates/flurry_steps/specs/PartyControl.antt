@@ -1,10 +1,10 @@
 -- What a step of a call is at the control.
 use Rattle.std.specs.Prelude.{◌≡◌, ℕ, pos, negsuc, ◌+◌, ◌-◌, ◌^◌, ◌==◌, min, Bool, true, false, if◌then◌else◌, Option, Some, None, MatchOption}
-use Rattle.flurry_base.specs.declared.reply.KeptReply.TheVariants.{Value}
+use Rattle.flurry_base.specs.declared.reply.KeptReply.TheVariants.{Value, Contains}
 use Rattle.flurry_steps_control.specs.Control.{ControlState, is_growing, after_publish, after_count, advice_of, count_of, after_open, BeginGives, grows_from}
 use Rattle.flurry_steps_sweep.specs.Outcome.{Outcome, OutcomeReply, OutcomeEnded, OutcomeRefused}
 use Rattle.flurry_steps_sweep.specs.Sweep.{SweepState, SweepControl}
-use Rattle.flurry_steps.specs.Party.{Task, Finds, Removes, RemovesSeen, Inserts, Adds, Computes, GrowFor, ForInsert, ForReserve, AtBoard, WantsSeat, Publishing, GivesBack, ThenRecount, ThenGrow, Stage, AtLocate, AtBin, AtHelp, AtUncount, AtCount, AtRecount, AtBegin, AtGrow, AtReserve, AtSweep, AtDone, PartyState, reply_for, IsTableFor}
+use Rattle.flurry_steps.specs.Party.{Task, Finds, Removes, RemovesSeen, Inserts, Adds, Computes, Alters, GrowFor, ForInsert, ForReserve, AtBoard, WantsSeat, Publishing, GivesBack, ThenRecount, ThenGrow, Stage, AtLocate, AtBin, AtHelp, AtUncount, AtCount, AtRecount, AtBegin, AtGrow, AtReserve, AtSweep, AtDone, PartyState, reply_for, IsTableFor}
 use Rattle.flurry_steps_sweep.specs.declared.step.Event.{Event}
 use Rattle.flurry_steps_sweep.specs.declared.step.Event.TheVariants.{Decide, Refused, Opened, Placed, Published, Silent}
 use Rattle.flurry_steps_control.specs.declared.control.Advice.{Advice}
@@ -79,13 +79,15 @@ module _ {K V F R : Type 0} (place : R → ℕ → Option ℕ → Bool → R →
   OpensFor t b s Refused st b' s' = (st ≡ AtDone OutcomeRefused) × (b' ≡ b) × place s FIRST_TABLE None false s'
   OpensFor t b s _ st b' s' = ⊥
 
-  -- on a map without a table an insertion makes one, and another call decides on the empty map
+  -- on a map without a table a call that may add a pair makes one, and another call decides on the empty map
   abbrev pub LocatesNone : Task K V F → ControlState → R → Event → Stage K V F → ControlState → R → Type 0
   LocatesNone (Finds w k) b s ev st b' s' = (ev ≡ Decide) × (st ≡ AtDone (OutcomeReply (reply_for w None))) × (b' ≡ b) × (s' ≡ s)
   LocatesNone (Removes w k) b s ev st b' s' = (ev ≡ Decide) × (st ≡ AtDone (OutcomeReply (reply_for w None))) × (b' ≡ b) × (s' ≡ s)
   LocatesNone (RemovesSeen z) b s ev st b' s' = (ev ≡ Decide) × (st ≡ AtDone (OutcomeReply (Value None))) × (b' ≡ b) × (s' ≡ s)
   LocatesNone (Inserts k v) b s ev st b' s' = OpensFor (Inserts k v) b s ev st b' s'
   LocatesNone (Adds k v) b s ev st b' s' = OpensFor (Adds k v) b s ev st b' s'
+  LocatesNone (Alters k true f) b s ev st b' s' = OpensFor (Alters k true f) b s ev st b' s'
+  LocatesNone (Alters k false f) b s ev st b' s' = (ev ≡ Decide) × (st ≡ AtDone (OutcomeReply (Contains false))) × (b' ≡ b) × (s' ≡ s)
   LocatesNone (Computes k f) b s ev st b' s' = (ev ≡ Decide) × (st ≡ AtDone (OutcomeReply (Value None))) × (b' ≡ b) × (s' ≡ s)
 
   -- a reserve makes the first table, or is refused

@@ -2,12 +2,14 @@
 use Rattle.std.specs.Prelude.{◌≡◌, ℕ, ◌+◌, ◌*◌, ◌^◌, Bool, true, false, Option, Some, None, IsSome, Result, Ok, Err, ⊤, ◌⊎◌}
 use Rattle.std.specs.declared.cmp.Ordering.{Ordering}
 use Rattle.flurry_bins_slots.specs.Slot as slot
-use Rattle.flurry_bins_slots.specs.Slot.{PlainEntry, Live, Content, IsLive, HasMoved, IsUnborn, SlotState, ComputeOutcome, WasAbsent, WasRemoved, WasChanged, entry_of_live, after_write, write_reply, after_add, add_reply, after_take, after_take_if, take_if_reply, ComputesInVain, HasMovedInto, Clashes}
-use Rattle.flurry_base.specs.declared.reply.KeptReply.TheVariants.{Value, New, Exists}
+use Rattle.flurry_bins_slots.specs.Slot.{PlainEntry, Live, Content, IsLive, HasMoved, IsUnborn, SlotState, ComputeOutcome, WasAbsent, WasRemoved, WasChanged, entry_of_live, after_write, write_reply, after_add, add_reply, after_take, after_take_if, take_if_reply, ComputesInVain, AlterOutcome, StayedAbsent, WasAdded, WasKept, WasTaken, WasSet, JudgesAt, pair_of_entry, HasMovedInto, Clashes}
+use Rattle.flurry_base.specs.declared.reply.KeptReply.TheVariants.{Value, Pair, Contains, New, Changed, Exists}
+use Rattle.flurry_base.specs.declared.verdict.Verdict.TheVariants.{Set}
+use Rattle.flurry_base.specs.declared.verdict.Verdict.{Verdict}
 use Rattle.flurry_steps_control.specs.Claim.{moved_on}
 use Rattle.flurry_steps_sweep.specs.Outcome.{Outcome, OutcomeReply, OutcomeRefused}
 use Rattle.flurry_steps_sweep.specs.Sweep.{SweepState, SweepGives}
-use Rattle.flurry_steps.specs.Party.{AnswerForm, TheValue, Presence, Task, Finds, Removes, RemovesSeen, Inserts, Adds, Computes, ForInsert, Help, WantsSeat, Moving, ThenBin, Stage, AtLocate, AtBin, AtHelp, AtUncount, AtCount, AtGrow, AtSweep, AtDone, PartyState, reply_for, with_stage, IsTableFor}
+use Rattle.flurry_steps.specs.Party.{AnswerForm, TheValue, Presence, Task, Finds, Removes, RemovesSeen, Inserts, Adds, Computes, Alters, ForInsert, Help, WantsSeat, Moving, ThenBin, Stage, AtLocate, AtBin, AtHelp, AtUncount, AtCount, AtGrow, AtSweep, AtDone, PartyState, reply_for, with_stage, IsTableFor}
 use Rattle.flurry_steps_sweep.specs.declared.step.Event.{Event}
 use Rattle.flurry_steps_sweep.specs.declared.step.Event.TheVariants.{Decide, Refused, Moved, Silent}
 
@@ -39,6 +41,14 @@ module _ {K V F : Type 0} where
   stage_computed WasRemoved = AtUncount (OutcomeReply (Value None))
   stage_computed (WasChanged v) = AtDone (OutcomeReply (Value (Some v)))
 
+  -- a call that altered
+  abbrev pub GoesOnAltered : ℕ → AlterOutcome K V → Stage K V F → Type 0
+  GoesOnAltered e StayedAbsent s = s ≡ AtDone (OutcomeReply (Contains false))
+  GoesOnAltered e (WasAdded v asked) s = GoesOnNew e (OutcomeReply (New v)) asked s
+  GoesOnAltered e WasKept s = s ≡ AtDone (OutcomeReply (Contains true))
+  GoesOnAltered e (WasTaken x) s = s ≡ AtUncount (OutcomeReply (Pair (Some (pair_of_entry x))))
+  GoesOnAltered e (WasSet w v) s = s ≡ AtDone (OutcomeReply (Changed w v))
+
   -- a call whose bin of table e has moved: a look-up goes on to the next table, and another call helps the growth from e first
   abbrev pub stage_moved : Task K V F → ℕ → Stage K V F
   stage_moved (Finds w k) e = AtBin (Finds w k) (e + 1)
@@ -49,7 +59,7 @@ abbrev pub FindCanBeRefused : {K V : Type 0} → AnswerForm → Option (PlainEnt
 FindCanBeRefused Presence x = ⊥
 FindCanBeRefused _ x = IsSome x
 
-module _ {K V F : Type 0} (cmp : K → K → Ordering) (changes : F → K → V → Option V → Type 0) (h : ℕ) where
+module _ {K V F : Type 0} (cmp : K → K → Ordering) (changes : F → K → Option V → Verdict V → Type 0) (h : ℕ) where
   -- the call decides at a live bin of table e, which it leaves as the second one
   abbrev pub DecidesAt : Task K V F → ℕ → Live K V → Stage K V F → Live K V → Type 0
   DecidesAt (Finds w k) e b s c = (s ≡ AtDone (OutcomeReply (reply_for w (entry_of_live cmp b h k)))) × (c ≡ b)
@@ -58,9 +68,10 @@ module _ {K V F : Type 0} (cmp : K → K → Ordering) (changes : F → K → V 
   DecidesAt (Inserts k v) e b s c = GoesOnWritten e (write_reply cmp (2 ^ e) b h k) s × (c ≡ after_write cmp (2 ^ e) b h k v)
   DecidesAt (Adds k v) e b s c = GoesOnAdded e (add_reply cmp (2 ^ e) b h k v) s × (c ≡ after_add cmp (2 ^ e) b h k v)
   DecidesAt (Computes k f) e b s c = (o : ComputeOutcome V) × slot.Computes cmp (changes f) (2 ^ e) b h k o c × (s ≡ stage_computed o)
+  DecidesAt (Alters k may_add f) e b s c = (o : AlterOutcome K V) × slot.Alters cmp changes f may_add (2 ^ e) b h k o c × GoesOnAltered e o s
 
-  -- memory can be wanting for the call at this bin: an insertion takes some, a removal none, and a computation only where its
-  -- function was called and answered a value
+  -- memory can be wanting for the call at this bin: an insertion takes some, a removal none, and a computation or an
+  -- alteration only where its function was called and answered a value
   abbrev pub CanBeRefused : Task K V F → Live K V → Type 0
   CanBeRefused (Finds w k) b = FindCanBeRefused w (entry_of_live cmp b h k)
   CanBeRefused (Removes w k) b = ⊥
@@ -68,6 +79,7 @@ module _ {K V F : Type 0} (cmp : K → K → Ordering) (changes : F → K → V 
   CanBeRefused (Inserts k v) b = ⊤
   CanBeRefused (Adds k v) b = ⊤
   CanBeRefused (Computes k f) b = (w : V) × ComputesInVain cmp (changes f) b h k w
+  CanBeRefused (Alters k may_add f) b = (w : V) × JudgesAt cmp changes f may_add b h k (Set w)
 
   -- at a live bin the call decides, or it is refused and changes nothing
   abbrev pub LiveGives : Task K V F → ℕ → Live K V → Event → Stage K V F → Content K V → Type 0
@@ -87,7 +99,7 @@ module _ {K V F : Type 0} (cmp : K → K → Ordering) (changes : F → K → V 
   StageAtSlot _ c ev s' c' = ⊥
 
 -- the step of p at the slot q answers ev, and leaves p' and q'
-pub record SlotStep {K V F : Type 0} (cmp : K → K → Ordering) (changes : F → K → V → Option V → Type 0) (p : PartyState K V F) (q : SlotState K V) (ev : Event) (p' : PartyState K V F) (q' : SlotState K V) : Type 0 where
+pub record SlotStep {K V F : Type 0} (cmp : K → K → Ordering) (changes : F → K → Option V → Verdict V → Type 0) (p : PartyState K V F) (q : SlotState K V) (ev : Event) (p' : PartyState K V F) (q' : SlotState K V) : Type 0 where
   pub hash : p'.hash ≡ p.hash
   pub processors : p'.processors ≡ p.processors
   pub helped : p'.helped ≡ p.helped

@@ -1,5 +1,5 @@
 -- What contracts see of a call in progress.
-use Rattle.std.specs.Prelude.{⊤}
+use Rattle.std.specs.Prelude.{true, false, ⊤}
 use Rattle.std.specs.Arc.{arc_value}
 use Rattle.flurry_base.specs.Given.{given_of}
 use Rattle.flurry_base.specs.declared.call.Call as plain_call_type
@@ -46,6 +46,8 @@ module _ {K V F A : Type 0} where
   task_of (task.Insert k v) = abstract.Inserts k (given_of v)
   task_of (task.Add k v) = abstract.Adds k v
   task_of (task.Compute k f) = abstract.Computes (plain_key k) f
+  task_of (task.Alter k f) = abstract.Alters k true f
+  task_of (task.AlterPresent k f) = abstract.Alters (plain_key k) false f
 
   -- the call as plain data
   abbrev pub plain_call : Call K V F A → plain_call_type.Call K V F
@@ -58,6 +60,8 @@ module _ {K V F A : Type 0} where
   plain_call (call.Insert k v) = plain.Insert k (arc_value v)
   plain_call (call.TryInsert k v) = plain.TryInsert k v
   plain_call (call.Compute k f) = plain.Compute k.now f
+  plain_call (call.Alter k f) = plain.Alter k true f
+  plain_call (call.AlterPresent k f) = plain.Alter k.now false f
   plain_call (call.Reserve n) = plain.Reserve n
   plain_call call.Clear = plain.Clear
   plain_call call.Walk = plain.Walk
@@ -79,19 +83,25 @@ module _ {K V F : Type 0} where
   plain_of_owned (owned.Insert k v) = plain.Insert k v
   plain_of_owned (owned.TryInsert k v) = plain.TryInsert k v
   plain_of_owned (owned.Compute k f) = plain.Compute k f
+  plain_of_owned (owned.Alter k f) = plain.Alter k true f
+  plain_of_owned (owned.AlterPresent k f) = plain.Alter k false f
   plain_of_owned (owned.Reserve n) = plain.Reserve n
   plain_of_owned owned.Clear = plain.Clear
   plain_of_owned owned.Walk = plain.Walk
 
-  -- its function, if it has one, may be called
-  abbrev pub CallIsReady : {A : Type 0} → (F → Type 0) → Call K V F A → Type 0
-  CallIsReady ready (call.Compute k f) = ready f
-  CallIsReady ready _ = ⊤
+  -- its function, if it has one, may be called, and for a computation keeps no pair
+  abbrev pub CallIsReady : {A : Type 0} → (F → Type 0) → (F → Type 0) → Call K V F A → Type 0
+  CallIsReady can_change never_keeps (call.Compute k f) = can_change f × never_keeps f
+  CallIsReady can_change never_keeps (call.Alter k f) = can_change f
+  CallIsReady can_change never_keeps (call.AlterPresent k f) = can_change f
+  CallIsReady can_change never_keeps _ = ⊤
 
-  -- its function, if it has one, may be called
-  abbrev pub OwnedIsReady : (F → Type 0) → OwnedCall K V F → Type 0
-  OwnedIsReady ready (owned.Compute k f) = ready f
-  OwnedIsReady ready _ = ⊤
+  -- its function, if it has one, may be called, and for a computation keeps no pair
+  abbrev pub OwnedIsReady : (F → Type 0) → (F → Type 0) → OwnedCall K V F → Type 0
+  OwnedIsReady can_change never_keeps (owned.Compute k f) = can_change f × never_keeps f
+  OwnedIsReady can_change never_keeps (owned.Alter k f) = can_change f
+  OwnedIsReady can_change never_keeps (owned.AlterPresent k f) = can_change f
+  OwnedIsReady can_change never_keeps _ = ⊤
 
 abbrev pub help_of : Help → abstract.Help
 help_of (help.Seat e) = abstract.WantsSeat e

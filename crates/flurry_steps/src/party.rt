@@ -80,7 +80,7 @@ impl<'k, K, V, F: ComputeFn<K, V>, A: Allocator> Model for Party<'k, K, V, F, A>
 impl<'k, K, V, F: ComputeFn<K, V>, A: Allocator> Party<'k, K, V, F, A> {
     // Creates a call that does not visit all bins, at the given stage.
     fn of_stage(stage: Stage<'k, K, V, F, A>, hash: u64, processors: usize) -> Self
-        requires { StageIsReady F.can_change (stage_of stage) }
+        requires { StageIsReady F.can_change F.never_keeps (stage_of stage) }
         ensures { result
             ≡ record { hash = hash; processors = processors; helped = None; stage = stage_of stage.entry } }
     {
@@ -126,7 +126,7 @@ impl<'k, K: Drop, V: Drop, F: ComputeFn<K, V>, A: Allocator> Party<'k, K, V, F, 
     ///
     /// Constant time. Takes no memory.
     pub fn new(call: Call<'k, K, V, F, A>, hash: u64, processors: usize) -> Self
-        requires { CallIsReady F.can_change call }
+        requires { CallIsReady F.can_change F.never_keeps call }
         ensures { result
             ≡ record { hash = hash; processors = processors; helped = None; stage = stage_of_call (plain_call call.entry) } }
     {
@@ -143,7 +143,7 @@ impl<'k, K: Drop, V: Drop, F: ComputeFn<K, V>, A: Allocator> Party<'k, K, V, F, 
     ///
     /// Constant time. Takes no memory.
     pub fn from_owned(call: OwnedCall<K, V, F>, hash: u64, processors: usize) -> Self
-        requires { OwnedIsReady F.can_change call }
+        requires { OwnedIsReady F.can_change F.never_keeps call }
         ensures { result
             ≡ record { hash = hash; processors = processors; helped = None; stage = stage_of_call (plain_of_owned call) } }
     {

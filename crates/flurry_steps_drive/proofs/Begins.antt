@@ -27,6 +27,7 @@ use Rattle.flurry_steps_world.proofs.WorldLaws.{began, get_append}
 use Rattle.flurry_steps_drive.specs.Exact.{Holds, IsFresh}
 use Rattle.flurry_steps_drive.proofs.Trace.{itself}
 use Rattle.flurry_base.specs.declared.sizes.TheConstants.{MAX_LABELS}
+use Rattle.flurry_base.specs.declared.verdict.Verdict.{Verdict}
 
 module _ {K V F : Type 0} where
   module _ (hash : K → ℕ) where
@@ -39,7 +40,7 @@ module _ {K V F : Type 0} where
     first_begins call.Walk q own e = record { own_hash = own; follows = subst (FollowsStage hash call.Walk) (sym e) (refl, tt); mode = ap mode_of_stage e; plain_entries = ap held_of_stage e; unread = ap last_seen e }
     first_begins d q own e = at_task d q own _ refl e
 
-module _ {K V F : Type 0} (cmp : K → K → Ordering) (hash : K → ℕ) (gives : F → K → V → Option V → Type 0) where
+module _ {K V F : Type 0} (cmp : K → K → Ordering) (hash : K → ℕ) (gives : F → K → Option V → Verdict V → Type 0) where
   -- a table where a call may begin was published
   pub was_published : (w : WorldState K V F (Unit {0})) → IsWorld cmp hash gives w → (e : ℕ) → IsPublishedTable (record { control_state = w.control_state; tables = w.tables }) e → WasPublished cmp hash gives (state_of w) e
   was_published w k e start = (not_early (nat_lt e (state_of w).start) refl, start.newest, start.published, start.within)

@@ -37,6 +37,7 @@ use Rattle.flurry_steps_world.proofs.SlotCases.{Put}
 use Rattle.flurry_steps_world.proofs.SweepModes.{halved_frames, cleared, owes_onward, cleared_hashed, frame_is_born}
 use Rattle.flurry_steps_world.proofs.Cases.{calls, in_mode}
 use Rattle.flurry_base.specs.declared.sizes.TheConstants.{MAX_LABELS}
+use Rattle.flurry_base.specs.declared.verdict.Verdict.{Verdict}
 
 -- a slot that is put where it stands
 pub put_back : {K V : Type 0} (t : Tables K V) (e i : ℕ) (q : SlotState K V) → place_at t e i ≡ Some q → put_place t e i q ≡ t
@@ -60,7 +61,7 @@ module _ (K V : Type 0) where
   adds_onward m e i [] = adds_on m e (suc i) (nat_lt (suc i) (2 ^ e))
   adds_onward m e i (f ∷ fs) = refl
 
-module _ {K V F : Type 0} (cmp : K → K → Ordering) (total : IsTotalOrder cmp) (hash : K → ℕ) (lawful : (j k : K) → same cmp j k ≡ true → hash j ≡ hash k) (gives : F → K → V → Option V → Type 0) where
+module _ {K V F : Type 0} (cmp : K → K → Ordering) (total : IsTotalOrder cmp) (hash : K → ℕ) (lawful : (j k : K) → same cmp j k ≡ true → hash j ≡ hash k) (gives : F → K → Option V → Verdict V → Type 0) where
   -- the pairs of a bin that is wiped are as many as the map has lost
   pub wiped_away : (first : Option ℕ) (home : ℕ → ℕ) (s : State K V F) → Inv cmp hash gives first home s → (p : ℕ) → p < s.parties → (wiped e i : ℕ) (f : Frame K) (fs : List (Frame K)) (es : List (Entry K V)) (n : ℕ) → Enabled cmp hash gives s p (WipesBin wiped e i f fs es n)
       → length (pairs cmp hash (label.Wipe p f.table f.index ∷ s.trace)) + length es ≡ length (pairs cmp hash s.trace)
@@ -89,7 +90,7 @@ module _ {K V F : Type 0} (cmp : K → K → Ordering) (total : IsTotalOrder cmp
       changed owes = total-change (λ q. owes (update s.mode p after q)) (λ q. owes (s.mode q)) p s.parties known (λ q other. ap owes (place_other s.mode p q after other))
 
 -- party p of the world w is a clear that has wiped n pairs, and stands at u; after a step it stands at u'
-module _ {K V F S : Type 0} (cmp : K → K → Ordering) (total : IsTotalOrder cmp) (hash : K → ℕ) (lawful : (j k : K) → same cmp j k ≡ true → hash j ≡ hash k) (gives : F → K → V → Option V → Type 0) (w : WorldState K V F S) (k : IsWorld cmp hash gives w) (p : ℕ) (x : PartyRecord K V F) (at : slice_get w.party_records p ≡ Some x) (u : SweepState K V) (e : x.party_state.stage ≡ AtSweep u) (n : ℕ) (wipes : u.kind ≡ Wipes n) (c : PartyState K V F) (u' : SweepState K V) (g : c.stage ≡ AtSweep u') (hashed : c.hash ≡ x.party_state.hash) (last : u'.last ≡ u.last) where
+module _ {K V F S : Type 0} (cmp : K → K → Ordering) (total : IsTotalOrder cmp) (hash : K → ℕ) (lawful : (j k : K) → same cmp j k ≡ true → hash j ≡ hash k) (gives : F → K → Option V → Verdict V → Type 0) (w : WorldState K V F S) (k : IsWorld cmp hash gives w) (p : ℕ) (x : PartyRecord K V F) (at : slice_get w.party_records p ≡ Some x) (u : SweepState K V) (e : x.party_state.stage ≡ AtSweep u) (n : ℕ) (wipes : u.kind ≡ Wipes n) (c : PartyState K V F) (u' : SweepState K V) (g : c.stage ≡ AtSweep u') (hashed : c.hash ≡ x.party_state.hash) (last : u'.last ≡ u.last) where
   own : FollowsStage hash x.call (AtSweep u)
   own = subst (FollowsStage hash x.call) e (k.party_records p x at).stage
 

@@ -41,6 +41,7 @@ use Rattle.flurry_steps_drive.proofs.Begins.{was_published, begun}
 use Rattle.flurry_steps_drive.proofs.ClearSteps.{put_back, count_less, goes_to_table, finds_nothing, follows_moved, no_unborn, wiped_pairs, wipes_bin, counts_all}
 use Rattle.flurry_steps_drive.proofs.Trace.{itself}
 use Rattle.flurry_base.specs.declared.sizes.TheConstants.{MAX_LABELS}
+use Rattle.flurry_base.specs.declared.verdict.Verdict.{Verdict}
 
 is_gone : {X : Type 0} (o : Option X) → IsNone o → o ≡ None
 is_gone None h = refl
@@ -51,7 +52,7 @@ none_left : {K V : Type 0} (cmp : K → K → Ordering) → IsTotalOrder cmp →
 none_left cmp total [] h = refl
 none_left cmp total (x ∷ m) h = absurd (grind (arith, h x.0, (one_class cmp total).refl x.0))
 
-module _ {K V F : Type 0} (cmp : K → K → Ordering) (total : IsTotalOrder cmp) (hash : K → ℕ) (lawful : (j k : K) → same cmp j k ≡ true → hash j ≡ hash k) (gives : F → K → V → Option V → Type 0) where
+module _ {K V F : Type 0} (cmp : K → K → Ordering) (total : IsTotalOrder cmp) (hash : K → ℕ) (lawful : (j k : K) → same cmp j k ≡ true → hash j ≡ hash k) (gives : F → K → Option V → Verdict V → Type 0) where
   -- what the map lacks after the labels t it lacks after the next one too
   abbrev pub Lessens : Trace K V F → Label K V F → Type 0
   Lessens t l = (j : K) → find cmp (pairs cmp hash t) j ≡ None → find cmp (pairs cmp hash (l ∷ t)) j ≡ None

@@ -7,7 +7,7 @@ use Rattle.std.proofs.lemmas.Int.{ints}
 use Rattle.flurry_steps_control.specs.Control.{ControlState, BeginGives, after_publish, is_growing, grows_from}
 use Rattle.flurry_steps_sweep.specs.Outcome.{Outcome}
 use Rattle.flurry_steps_sweep.specs.Part.{Part, ControlPart, LookPart, BinPart, MovePart, SeatPart, BoardPart, GivePart, NoPart}
-use Rattle.flurry_steps.specs.Party.{Task, Inserts, Adds, GrowFor, ForInsert, ForReserve, Help, WantsSeat, Publishing, Resume, ThenBin, ThenRecount, ThenGrow, Stage, AtLocate, AtBin, AtHelp, AtUncount, AtCount, AtRecount, AtBegin, AtGrow, AtReserve, AtSweep, IsSingle, AtDone, PartyState, resumed_stage}
+use Rattle.flurry_steps.specs.Party.{Task, Inserts, Adds, Alters, GrowFor, ForInsert, ForReserve, Help, WantsSeat, Publishing, Resume, ThenBin, ThenRecount, ThenGrow, Stage, AtLocate, AtBin, AtHelp, AtUncount, AtCount, AtRecount, AtBegin, AtGrow, AtReserve, AtSweep, IsSingle, AtDone, PartyState, resumed_stage}
 use Rattle.flurry_steps.specs.PartyControl.{OpensFor, LocatesNone, MakesFor, StageAtControl, has_helped, stage_grown, event_growing, stage_growing, stage_begun, stage_advised}
 use Rattle.flurry_steps.specs.PartyBoard.{BoardAnswer, BoardStep, help_after, stage_helping, stage_answered}
 use Rattle.flurry_steps.specs.PartySlots.{MoveGives, StageAtSlot, moved_stage}
@@ -23,6 +23,7 @@ use Rattle.flurry_steps_world.specs.Parts.{PartStep}
 use Rattle.flurry_steps_world.specs.World.{Near}
 use Rattle.flurry_steps_world.proofs.Frames.{in_range}
 use Rattle.flurry_base.specs.declared.sizes.TheConstants.{MAX_LABELS}
+use Rattle.flurry_base.specs.declared.verdict.Verdict.{Verdict}
 
 abbrev pub left_growing : {K V : Type 0} → GrowFor K V → ℕ
 left_growing (ForInsert r) = 1
@@ -137,6 +138,7 @@ module _ {K V F R : Type 0} (place : R → ℕ → Option ℕ → Bool → R →
   locates_none : (t : Task K V F) → LocatesNone place p helped t b r ev st b' r' → b'.count ≡ b.count
   locates_none (Inserts k v) h = opens_for (Inserts k v) ev h
   locates_none (Adds k v) h = opens_for (Adds k v) ev h
+  locates_none (Alters k true f) h = opens_for (Alters k true f) ev h
   locates_none t (x, y, z, u) = ap (λ z. z.count) z
 
   located : (o : Option ℕ) (t : Task K V F) → MatchOption o (LocatesNone place p helped t b r ev st b' r') (λ e. (ev ≡ event.Silent) × (st ≡ AtBin t e) × (b' ≡ b) × (r' ≡ r)) → b'.count ≡ b.count
@@ -170,7 +172,7 @@ module _ {K V F R : Type 0} (place : R → ℕ → Option ℕ → Bool → R →
   at_control (AtSweep w) single h m = absurd single
   at_control s single h m = absurd h
 
-module _ {K V F : Type 0} (cmp : K → K → Ordering) (changes : F → K → V → Option V → Type 0) (n : ℕ) (few : n ≤ MAX_LABELS) (c : PartyState K V F) (b : ControlState) (t : Tables K V) (ev : Event) (c' : PartyState K V F) (b' : ControlState) (t' : Tables K V) (m : Room n (left c.stage) b.count) where
+module _ {K V F : Type 0} (cmp : K → K → Ordering) (changes : F → K → Option V → Verdict V → Type 0) (n : ℕ) (few : n ≤ MAX_LABELS) (c : PartyState K V F) (b : ControlState) (t : Tables K V) (ev : Event) (c' : PartyState K V F) (b' : ControlState) (t' : Tables K V) (m : Room n (left c.stage) b.count) where
   at_slot : (q q' : SlotState K V) (s : Stage K V F) → c.stage ≡ s → IsSingle s → StageAtSlot cmp changes c.hash s q.content ev c'.stage q'.content → b' ≡ b → Room n (left c'.stage) b'.count
   at_slot q q' (AtBin u e) f single h y = fewer n (left c.stage) (left c'.stage) b.count b'.count (ap (λ z. z.count) y) (omega (arith, left_most c'.stage, ap left f)) m
   at_slot q q' (AtSweep w) f single h y = absurd single

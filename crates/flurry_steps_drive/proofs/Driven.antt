@@ -26,6 +26,7 @@ use Rattle.flurry_steps_drive.proofs.Walks.{walk_step, walk_begins, walk_ends}
 use Rattle.flurry_steps_drive.proofs.Clears as clears
 use Rattle.flurry_steps_drive.proofs.Clears.{InClear, clear_begins}
 use Rattle.flurry_base.specs.declared.sizes.TheConstants.{MAX_LABELS}
+use Rattle.flurry_base.specs.declared.verdict.Verdict.{Verdict}
 
 module _ {S P E : Type 0} (step : S → P → E → S → P → Type 0) where
   -- what each step keeps, all of them keep
@@ -33,7 +34,7 @@ module _ {S P E : Type 0} (step : S → P → E → S → P → Type 0) where
   all_keep Kept keeps still is = is
   all_keep Kept keeps {s' = s'} {p' = p'} (further {s' = u} {p' = q} ev field_steps field_step) is = keeps u s' q p' ev field_step (all_keep Kept keeps field_steps is)
 
-module _ {K V F : Type 0} (cmp : K → K → Ordering) (total : IsTotalOrder cmp) (changes : F → K → V → Option V → Type 0) (hash : K → ℕ) (lawful : (j k : K) → same cmp j k ≡ true → hash j ≡ hash k) where
+module _ {K V F : Type 0} (cmp : K → K → Ordering) (total : IsTotalOrder cmp) (changes : F → K → Option V → Verdict V → Type 0) (hash : K → ℕ) (lawful : (j k : K) → same cmp j k ≡ true → hash j ≡ hash k) where
   -- a call that does not go over all bins
   module _ (n : ℕ) (d : Call K V F) (m : Pairs K V) (few : n + most_counted d m ≤ MAX_LABELS) (p : ℕ) where
     room_now : (s : Parts K V) (c : PartyState K V F) (is : InWorld cmp total hash lawful changes (n + most_counted d m) few p d m s c) → Room (n + most_counted d m) (left is.caller.party_state.stage) is.world.control_state.count
@@ -67,7 +68,7 @@ module _ {K V F : Type 0} (cmp : K → K → Ordering) (total : IsTotalOrder cmp
         let (answers, near) = clears.ended cmp total hash lawful changes n m few p is.world is.is_world is.caller is.at is.call is.sweep_state is.stage is.gone is.tally r (ap (λ z. final_outcome z.stage) is.party_state ∙ e) in
         (pairs cmp hash (history is.world), answers, record { world = is.world; is_world = is.is_world; control_state = ap (λ z. z.control_state) is.parts; tables = ap (λ z. z.tables) is.parts; map = refl; near = subst (λ z. Near (n + length m) z.control_state.count) is.parts near })
 
-module _ {S R K V F : Type 0} (place : R → ℕ → Option ℕ → Bool → R → Type 0) (cmp : K → K → Ordering) (total : IsTotalOrder cmp) (changes : F → K → V → Option V → Type 0) (lends : S → Loan K V R → S → Type 0) (lacks : S → Part → Type 0) (parts : S → Parts K V) (room : R → Tables K V) (t : IsExclusive parts room place lends lacks) (hash : K → ℕ) (lawful : (j k : K) → same cmp j k ≡ true → hash j ≡ hash k) where
+module _ {S R K V F : Type 0} (place : R → ℕ → Option ℕ → Bool → R → Type 0) (cmp : K → K → Ordering) (total : IsTotalOrder cmp) (changes : F → K → Option V → Verdict V → Type 0) (lends : S → Loan K V R → S → Type 0) (lacks : S → Part → Type 0) (parts : S → Parts K V) (room : R → Tables K V) (t : IsExclusive parts room place lends lacks) (hash : K → ℕ) (lawful : (j k : K) → same cmp j k ≡ true → hash j ≡ hash k) where
   -- what each step over the parts keeps, a run keeps
   runs_keep : (Kept : Parts K V → PartyState K V F → Type 0) → ((s s' : Parts K V) (c c' : PartyState K V F) (ev : Event) → StepsIn cmp changes c s ev c' s' → Kept s c → Kept s' c') → {s s' : S} {c c' : PartyState K V F} → StepClosure (FieldStep place cmp changes lends) s c s' c' → Kept (parts s) c → Kept (parts s') c'
   runs_keep Kept keeps = all_keep (FieldStep place cmp changes lends) (λ s c. Kept (parts s) c) (λ s s' c c' ev field_step is. keeps (parts s) (parts s') c c' ev (own_step place cmp changes room t.places (parts s) (parts s') c c' ev field_step.loan (t.lends_own s field_step.loan s' field_step.lent) field_step.step) is)
@@ -86,6 +87,6 @@ module _ {S R K V F : Type 0} (place : R → ℕ → Option ℕ → Bool → R �
     by_call d few fresh = plain_exact d few fresh tt
 
 -- a run to the reply is exact
-pub exact : {S R K V F : Type 0} (place : R → ℕ → Option ℕ → Bool → R → Type 0) (cmp : K → K → Ordering) (total : IsTotalOrder cmp) (changes : F → K → V → Option V → Type 0) (lends : S → Loan K V R → S → Type 0) (lacks : S → Part → Type 0) (s s' : S) (c c' : PartyState K V F) (r : Outcome K V)
+pub exact : {S R K V F : Type 0} (place : R → ℕ → Option ℕ → Bool → R → Type 0) (cmp : K → K → Ordering) (total : IsTotalOrder cmp) (changes : F → K → Option V → Verdict V → Type 0) (lends : S → Loan K V R → S → Type 0) (lacks : S → Part → Type 0) (s s' : S) (c c' : PartyState K V F) (r : Outcome K V)
     → StepClosure (FieldStep place cmp changes lends) s c s' c' → final_outcome c'.stage ≡ Some r → IsExact place cmp changes lends lacks s c r s'
 exact place cmp total changes lends lacks s s' c c' r runs done parts room t hash alike d fresh n m few h = by_call place cmp total changes lends lacks parts room t hash (alike_class cmp hash alike) s s' c c' runs r done n m h d few fresh

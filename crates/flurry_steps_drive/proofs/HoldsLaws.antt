@@ -1,5 +1,6 @@
 -- Parts that hold a map, and calls before their first step.
 use Rattle.flurry_base.specs.OneKey.{hash_of_call}
+use Rattle.flurry_base.specs.declared.verdict.Verdict.{Verdict}
 use Rattle.std.specs.Prelude.{◌≡◌, ℕ, [], Option, None}
 use Rattle.std.specs.Cmp.{IsTotalOrder}
 use Rattle.std.specs.declared.cmp.Ordering.{Ordering}
@@ -24,7 +25,7 @@ use Rattle.flurry_steps_drive.specs.IsExclusive.{IsExclusive}
 pub own_tells : {K V : Type 0} → IsExclusive {K = K} {V = V} (λ s. s) (λ r. r) PlaceGives OwnLends OwnLacks
 own_tells = record { places = λ r e growth ok r' h. h; lends_own = λ s l s' h. h.1; lacks_only = λ s p h. h }
 
-module _ {K V F : Type 0} (cmp : K → K → Ordering) (hash : K → ℕ) (changes : F → K → V → Option V → Type 0) where
+module _ {K V F : Type 0} (cmp : K → K → Ordering) (hash : K → ℕ) (changes : F → K → Option V → Verdict V → Type 0) where
   -- a call that has its key, before its first step
   pub fresh : (c : OwnedCall K V F) (i n : ℕ) (p : PartyState K V F) → p ≡ record { hash = i; processors = n; helped = None; stage = stage_of_call (plain_of_owned c) } → i ≡ hash_of_call hash (plain_of_owned c) → IsFresh cmp hash changes (plain_of_owned c) p
   fresh c i n p is hashed = record { stage = ap (λ z. z.stage) is; hash_is = λ k h. ap (λ z. z.hash) is ∙ hashed ∙ own_hash hash c k h }

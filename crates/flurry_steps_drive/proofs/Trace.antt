@@ -8,6 +8,7 @@ use Rattle.flurry_steps_theory.specs.Map.{Pairs, after, Allows, CanBeRefused}
 use Rattle.flurry_steps_theory.specs.Trace.{Trace, call_begun_by, decision, has_closed, has_replied, map_after_decision, pairs}
 use Rattle.flurry_steps_theory.specs.Legal.{CallMay}
 use Rattle.flurry_base.specs.declared.call.Call.{Call}
+use Rattle.flurry_base.specs.declared.verdict.Verdict.{Verdict}
 use Rattle.flurry_steps_theory.specs.declared.Label.{Label}
 use Rattle.flurry_steps_theory.specs.declared.Label.TheVariants as label
 use Rattle.flurry_steps_world.proofs.StateLaws.{same_some}
@@ -27,7 +28,7 @@ module _ {K V F : Type 0} where
   IsOwnLabel p (label.Silent q) = ⊤
   IsOwnLabel p _ = ⊥
 
-module _ {K V F : Type 0} (cmp : K → K → Ordering) (hash : K → ℕ) (gives : F → K → V → Option V → Type 0) (p : ℕ) (d : Call K V F) (m : Pairs K V) where
+module _ {K V F : Type 0} (cmp : K → K → Ordering) (hash : K → ℕ) (gives : F → K → Option V → Verdict V → Type 0) (p : ℕ) (d : Call K V F) (m : Pairs K V) where
   -- by p's decision and whether it was refused: what the map is, which was m when p began
   abbrev pub ByEnd : Option (KeptReply K V) → Bool → Pairs K V → Type 0
   ByEnd None false n = n ≡ m

@@ -12,6 +12,7 @@ use Rattle.flurry_steps_sweep.specs.declared.step.Event.{Event}
 use Rattle.flurry_steps_sweep.specs.declared.step.Event.TheVariants as event
 use Rattle.flurry_base.specs.declared.call.Call.TheVariants as call
 use Rattle.flurry_base.specs.declared.call.Seen.{Seen}
+use Rattle.flurry_base.specs.declared.verdict.Verdict.{Verdict}
 use Rattle.flurry_steps.specs.Party.{AtSweep, PartyState, part_of, published_stage, final_outcome}
 use Rattle.flurry_steps.specs.PartyControl.{StageAtControl}
 use Rattle.flurry_steps.specs.PartySlots.{StageAtSlot}
@@ -66,7 +67,7 @@ module _ {K V F : Type 0} where
     pub bare : EndsBare sweep_state.stage
     pub parts : s ≡ began
 
-module _ {K V F : Type 0} (cmp : K → K → Ordering) (changes : F → K → V → Option V → Type 0) (began s s' : Parts K V) (c c' : PartyState K V F) (ev : Event) where
+module _ {K V F : Type 0} (cmp : K → K → Ordering) (changes : F → K → Option V → Verdict V → Type 0) (began s s' : Parts K V) (c c' : PartyState K V F) (ev : Event) where
   module _ (u : SweepState K V) (e : c.stage ≡ AtSweep u) (reads : u.kind ≡ Reads) where
     at_part : (a : SweepStage K V) → u.stage ≡ a → PartStep cmp changes (part_at Reads a) c s.control_state s.tables ev c' s'.control_state s'.tables → IsWalking s s' c'
     at_part AtSweepStart f h =
@@ -103,7 +104,7 @@ module _ {K V F : Type 0} (cmp : K → K → Ordering) (changes : F → K → V 
       by_kind (inl h) = at_part is.sweep_state is.stage is.reads is.sweep_state.stage refl (subst (λ w. PartStep cmp changes (part_at w is.sweep_state.stage) c s.control_state s.tables ev c' s'.control_state s'.tables) is.reads (subst (λ z. PartStep cmp changes (part_of c.hash z) c s.control_state s.tables ev c' s'.control_state s'.tables) is.stage h))
       by_kind (inr h) = started is h
 
-module _ {K V F : Type 0} (cmp : K → K → Ordering) (hash : K → ℕ) (changes : F → K → V → Option V → Type 0) where
+module _ {K V F : Type 0} (cmp : K → K → Ordering) (hash : K → ℕ) (changes : F → K → Option V → Verdict V → Type 0) where
   -- a walk before its first step
   pub walk_begins : (s : Parts K V) (c : PartyState K V F) → IsFresh cmp hash changes call.Walk c → IsWalking s s c
   walk_begins s c fresh = record { sweep_state = sweep.fresh_sweep Reads; stage = fresh.stage; reads = refl; bare = tt; parts = refl }

@@ -39,6 +39,7 @@ use Rattle.flurry_steps_drive.proofs.Begins.{was_published, begun}
 use Rattle.flurry_steps_drive.proofs.Trace.{IsOwnLabel, ByEnd, Alone, alone_more, alone_began, itself}
 use Rattle.flurry_steps_drive.proofs.CountLaws.{left, left_most, Room, near_of, room_left}
 use Rattle.flurry_base.specs.declared.sizes.TheConstants.{MAX_LABELS}
+use Rattle.flurry_base.specs.declared.verdict.Verdict.{Verdict}
 
 -- the call does not go over all bins
 abbrev pub IsPlain : {K V F : Type 0} → Call K V F → Type 0
@@ -56,7 +57,7 @@ follows_single hash d (AtSweep w) plain h = errand_plain d w.kind w.last plain h
 follows_single hash d s plain h = tt
 
 -- so its step at a part reads and wipes nothing
-module _ {K V F : Type 0} (cmp : K → K → Ordering) (changes : F → K → V → Option V → Type 0) (c : PartyState K V F) (b : ControlState) (t : Tables K V) (ev : Event) (c' : PartyState K V F) (b' : ControlState) (t' : Tables K V) (single : IsSingle c.stage) where
+module _ {K V F : Type 0} (cmp : K → K → Ordering) (changes : F → K → Option V → Verdict V → Type 0) (c : PartyState K V F) (b : ControlState) (t : Tables K V) (ev : Event) (c' : PartyState K V F) (b' : ControlState) (t' : Tables K V) (single : IsSingle c.stage) where
   single_part : (a : Part) → PartStep cmp changes a c b t ev c' b' t' → IsSweepEvent ev → ⊥
   single_part ControlPart h = single_at_control PlaceGives c.processors c.helped b t ev c'.stage b' t' c.stage single h.step
   single_part (LookPart e i) (q, there, inside, h, y, z) = single_at_slot cmp changes c.hash ev c'.stage q.content c.stage q.content single h.step
@@ -81,7 +82,7 @@ own_label p (event.Wipe e i) s other = absurd (other tt)
 own_label p event.Refused s other = refl
 own_label p ev s other = tt
 
-module _ {K V F : Type 0} (cmp : K → K → Ordering) (total : IsTotalOrder cmp) (hash : K → ℕ) (lawful : (j k : K) → same cmp j k ≡ true → hash j ≡ hash k) (gives : F → K → V → Option V → Type 0) (n : ℕ) (few : n ≤ MAX_LABELS) (p : ℕ) (d : Call K V F) (m : Pairs K V) where
+module _ {K V F : Type 0} (cmp : K → K → Ordering) (total : IsTotalOrder cmp) (hash : K → ℕ) (lawful : (j k : K) → same cmp j k ≡ true → hash j ≡ hash k) (gives : F → K → Option V → Verdict V → Type 0) (n : ℕ) (few : n ≤ MAX_LABELS) (p : ℕ) (d : Call K V F) (m : Pairs K V) where
   -- the parts s are those of a world, in which party p is a caller with the call d, which began on the map m, was alone since, and
   -- stands at c
   pub record InWorld (s : Parts K V) (c : PartyState K V F) : Type 0 where
@@ -233,6 +234,7 @@ module _ {K V F : Type 0} (cmp : K → K → Ordering) (total : IsTotalOrder cmp
             no_reply (call.Insert j v) q l h a = cc
             no_reply (call.TryInsert j v) q l h a = cc
             no_reply (call.Compute j g) q l h a = cc
+            no_reply (call.Alter j may_add g) q l h a = cc
             no_reply (call.Remove j) q l h a = cc
             no_reply (call.RemoveEntry j) q l h a = cc
             no_reply (call.RemoveSeen z) q l h a = cc
@@ -260,7 +262,7 @@ module _ {K V F : Type 0} where
   first_left call.Walk m s plain h = absurd plain
   first_left d m s plain h = left_most s
 
-module _ {K V F : Type 0} (cmp : K → K → Ordering) (total : IsTotalOrder cmp) (hash : K → ℕ) (lawful : (j k : K) → same cmp j k ≡ true → hash j ≡ hash k) (gives : F → K → V → Option V → Type 0) where
+module _ {K V F : Type 0} (cmp : K → K → Ordering) (total : IsTotalOrder cmp) (hash : K → ℕ) (lawful : (j k : K) → same cmp j k ≡ true → hash j ≡ hash k) (gives : F → K → Option V → Verdict V → Type 0) where
   -- it begins as one more caller of the world
   pub begins : (n : ℕ) (d : Call K V F) (m : Pairs K V) (few : n + most_counted d m ≤ MAX_LABELS) (s : Parts K V) (h : Holds cmp hash gives n s m) (q : PartyState K V F) → IsFresh cmp hash gives d q → IsPlain d → InWorld cmp total hash lawful gives (n + most_counted d m) few (length h.world.party_records) d m s q
   begins n d m few s h q fresh plain =

@@ -16,6 +16,7 @@ use Rattle.flurry_steps_world.specs.Tables.{Tables}
 use Rattle.flurry_steps_world.specs.World.{WorldState, Near, IsWorld, history}
 use Rattle.flurry_steps_drive.specs.IsExclusive.{IsExclusive}
 use Rattle.flurry_base.specs.declared.sizes.TheConstants.{MAX_LABELS}
+use Rattle.flurry_base.specs.declared.verdict.Verdict.{Verdict}
 
 module _ {K V F : Type 0} where
   -- how many pairs the call counts at most, on the map m
@@ -32,7 +33,7 @@ module _ {K V F : Type 0} where
   EndsOn call.Walk m m' = m' ≡ m
   EndsOn c m m' = ⊥
 
-module _ {K V F : Type 0} (cmp : K → K → Ordering) (hash : K → ℕ) (changes : F → K → V → Option V → Type 0) where
+module _ {K V F : Type 0} (cmp : K → K → Ordering) (hash : K → ℕ) (changes : F → K → Option V → Verdict V → Type 0) where
   -- The parts stand as a world keeps them, whatever calls have begun there and wherever these stand. They hold the map m, and their
   -- count of pairs is at most n from 0.
   pub record Holds (n : ℕ) (s : Parts K V) (m : Pairs K V) : Type 0 where
@@ -60,7 +61,7 @@ module _ {K V F : Type 0} (cmp : K → K → Ordering) (hash : K → ℕ) (chang
   DrivesTo c n s m r s' = (m' : Pairs K V) × OutcomeAnswers c m r m' × Holds (n + most_counted c m) s' m'
 
 -- over an exclusive field, whose parts stand as a world keeps them, a call that did no step yet does what the finite map does
-abbrev pub IsExact : {S R K V F : Type 0} (place : R → ℕ → Option ℕ → Bool → R → Type 0) (cmp : K → K → Ordering) (changes : F → K → V → Option V → Type 0) (lends : S → Loan K V R → S → Type 0) (lacks : S → Part → Type 0) → S → PartyState K V F → Outcome K V → S → Type 0
+abbrev pub IsExact : {S R K V F : Type 0} (place : R → ℕ → Option ℕ → Bool → R → Type 0) (cmp : K → K → Ordering) (changes : F → K → Option V → Verdict V → Type 0) (lends : S → Loan K V R → S → Type 0) (lacks : S → Part → Type 0) → S → PartyState K V F → Outcome K V → S → Type 0
 IsExact {S} {R} {K} {V} {F} place cmp changes lends lacks s p r s' =
     (parts : S → Parts K V) (room : R → Tables K V) → IsExclusive parts room place lends lacks
     → (hash : K → ℕ) → ((j k : K) → cmp j k ≡ Equal → hash j ≡ hash k)

@@ -8,9 +8,10 @@ use Rattle.flurry_steps_sweep.specs.declared.step.Event.{Event}
 use Rattle.flurry_steps_sweep.specs.declared.step.Event.TheVariants as event
 use Rattle.flurry_steps_world.specs.Parts.{Parts, IsPublishedTable, IsOwn, IsThere, PartStep}
 use Rattle.flurry_steps_world.specs.Tables.{Tables, PlaceGives}
+use Rattle.flurry_base.specs.declared.verdict.Verdict.{Verdict}
 
 module _ {K V : Type 0} where
-  module _ {F : Type 0} (cmp : K → K → Ordering) (changes : F → K → V → Option V → Type 0) where
+  module _ {F : Type 0} (cmp : K → K → Ordering) (changes : F → K → Option V → Verdict V → Type 0) where
     -- a call that only asks for the published table goes on at a table where a call may begin
     pub record PublishedTableStep (c : PartyState K V F) (s : Parts K V) (ev : Event) (c' : PartyState K V F) (s' : Parts K V) : Type 0 where
       pub table : ℕ

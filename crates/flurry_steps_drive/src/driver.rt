@@ -71,7 +71,7 @@ pub fn drive_alone<
     processors: usize,
     parts: &mut Parts<K, V, A>,
 ) -> Reply<K, V, A>
-    requires { OwnedIsReady F.can_change call }
+    requires { OwnedIsReady F.can_change F.never_keeps call }
     ensures { (n : ℕ) (m : Pairs K V) → n + most_counted (plain_of_owned call) m ≤ MAX_LABELS
         → Holds K.cmp (S.hash_of hasher.now) F.changes n parts.old m
         → DrivesTo K.cmp (S.hash_of hasher.now) F.changes (plain_of_owned call) n parts.old m

@@ -17,6 +17,7 @@ module _ {K V A : Type 0} where
   outcome_of (reply.Pair p) = OutcomeReply (kept.Pair (option_map pair_value p))
   outcome_of (reply.Contains b) = OutcomeReply (kept.Contains b)
   outcome_of (reply.New v) = OutcomeReply (kept.New (arc_value v))
+  outcome_of (reply.Changed new old) = OutcomeReply (kept.Changed (arc_value new) (arc_value old))
   outcome_of (reply.Exists e) = OutcomeReply (kept.Exists (arc_value e.current) e.not_inserted)
   outcome_of reply.Ended = OutcomeEnded
   outcome_of reply.Refused = OutcomeRefused

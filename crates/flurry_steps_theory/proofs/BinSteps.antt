@@ -4,16 +4,20 @@ use Rattle.std.specs.declared.cmp.Ordering.{Ordering}
 use Rattle.std.specs.declared.cmp.Ordering.TheVariants.{Less, Equal, Greater}
 use Rattle.std.specs.Ordering.{is_lt}
 use Rattle.std.specs.Cmp.{IsTotalOrder}
-use Rattle.std.proofs.Common.{arith, refl, sym, ◌∙◌, ap, subst, inl, inr}
+use Rattle.std.proofs.Common.{arith, refl, sym, ◌∙◌, ap, inl, inr}
 use Rattle.std.proofs.lemmas.Grind.{common_steps}
-use Rattle.flurry_steps_theory.specs.Map.{same, find, write, Allows}
+use Rattle.flurry_steps_theory.specs.Map.{Pairs, same, find, without, put, write, after, Allows}
 use Rattle.flurry_steps_theory.specs.Bin.{place, rewrite, leave_out, write_entry, bin_after, number_of, bump, has_number, Entry, pairs_of, order, Above, IsAscending}
 use Rattle.flurry_base.specs.declared.call.Call.{Call}
-use Rattle.flurry_base.specs.declared.call.Call.TheVariants.{Insert, TryInsert, Compute, Remove, RemoveEntry, RemoveSeen}
+use Rattle.flurry_base.specs.declared.call.Call.TheVariants.{Insert, TryInsert, Compute, Alter, Remove, RemoveEntry, RemoveSeen}
 use Rattle.flurry_base.specs.declared.reply.KeptReply.{KeptReply}
-use Rattle.flurry_base.specs.declared.reply.KeptReply.TheVariants.{Value, New, Exists}
+use Rattle.flurry_base.specs.declared.reply.KeptReply.TheVariants.{Value, Pair, New, Changed, Exists}
+use Rattle.flurry_base.specs.declared.verdict.Verdict.{Verdict}
+use Rattle.flurry_base.specs.declared.verdict.Verdict.TheVariants.{Keep, Set, Remove as Removed}
+use Rattle.flurry_base.specs.OneKey.{key_of}
+use Rattle.flurry_base.specs.Verdicts.{verdict_of, verdict_reply}
 use Rattle.flurry_steps_theory.specs.Machine.{BinDid}
-use Rattle.flurry_steps_theory.specs.Legal.{removes}
+use Rattle.flurry_steps_theory.specs.Legal.{changes, removes}
 use Rattle.flurry_base.specs.declared.call.Seen.{Seen}
 use Rattle.flurry_steps_theory.proofs.Bins.{one_class, find-class, find-without, order_total, same-order, ordered}
 
@@ -110,7 +114,7 @@ module _ {K V : Type 0} (cmp : K → K → Ordering) (total : IsTotalOrder cmp) 
       go more false e = rw e (above-leave_out x.key k es a.0, more)
 
   -- THE CALLS
-  module _ {F : Type 0} (gives : F → K → V → Option V → Type 0) where
+  module _ {F : Type 0} (gives : F → K → Option V → Verdict V → Type 0) where
     -- which class is stored
     class_of : (es : List (Entry K V)) (k : K) (x : K × V) → find cmp (pairs_of es) k ≡ Some x → same cmp x.0 k ≡ true
     class_of [] k x h = grind (arith, h)
@@ -146,47 +150,85 @@ module _ {K V : Type 0} (cmp : K → K → Ordering) (total : IsTotalOrder cmp) 
     key_is : {k j : K} → Some k ≡ Some j → k ≡ j
     key_is {k} h = ap (λ o. unwrap_or o k) h
 
-    try_did : (k : K) (v w : V) (es : List (Entry K V)) (n : ℕ) → IsAscending cmp hash es → Allows cmp gives (TryInsert k v) (pairs_of es) (New w) → ((z : Seen K V) → ◌≡◌ {A = Call K V F} (TryInsert k v) (RemoveSeen z) → removes cmp hash gives (New w) ≡ has_number (number_of cmp es z.key) z.number) → BinDid cmp hash gives (TryInsert k v) (New w) es n (place cmp hash (record { key = k; value = v; number = bump n }) es) (bump n)
-    try_did k v w es n s a q = go (find cmp (pairs_of es) k) refl
-      where
-        go : (o : Option (K × V)) → find cmp (pairs_of es) k ≡ o → BinDid cmp hash gives (TryInsert k v) (New w) es n (place cmp hash (record { key = k; value = v; number = bump n }) es) (bump n)
-        go (Some x) e = absurd (grind (arith, subst (λ o. MatchOption o (◌≡◌ {A = KeptReply K V} (New w) (New v)) (λ x. ◌≡◌ {A = KeptReply K V} (New w) (Exists x.1 v))) e a))
-        go None e =
-            let h : number_of cmp es k ≡ None = grind (arith, e, number-find es k) in
-            record {
-              allowed = a;
-              ascending = ascending-place (record { key = k; value = v; number = bump n }) es h s;
-              after = λ j. grind (arith, e, find-place (record { key = k; value = v; number = bump n }) es j h, find-without cmp total (pairs_of es) k j);
-              count = inr refl;
-              other_numbers = λ i j g f. grind (arith, key_is g, f, number-place (record { key = k; value = v; number = bump n }) es j h);
-              kept_numbers = λ g. absurd (grind (arith, g));
-              new_number = λ _ i g. inr (grind (arith, key_is g, number-place (record { key = k; value = v; number = bump n }) es i h, (one_class cmp total).refl i), refl);
-              conditional = q;
-            }
+    -- what is asked of a conditional removal
+    abbrev Conditional : Call K V F → KeptReply K V → List (Entry K V) → Type 0
+    Conditional c r es = (z : Seen K V) → c ≡ RemoveSeen z → removes cmp hash gives r ≡ has_number (number_of cmp es z.key) z.number
 
-    compute_did : (k : K) (f : F) (w : V) (es : List (Entry K V)) (n : ℕ) → IsAscending cmp hash es → Allows cmp gives (Compute k f) (pairs_of es) (Value (Some w)) → ((z : Seen K V) → ◌≡◌ {A = Call K V F} (Compute k f) (RemoveSeen z) → removes cmp hash gives (Value (Some w)) ≡ has_number (number_of cmp es z.key) z.number) → BinDid cmp hash gives (Compute k f) (Value (Some w)) es n (rewrite cmp hash k w (bump n) es) (bump n)
-    compute_did k f w es n s a q = go (find cmp (pairs_of es) k) refl
-      where
-        go : (o : Option (K × V)) → find cmp (pairs_of es) k ≡ o → BinDid cmp hash gives (Compute k f) (Value (Some w)) es n (rewrite cmp hash k w (bump n) es) (bump n)
-        go None e = absurd (grind (arith, subst (λ o. MatchOption o (◌≡◌ {A = KeptReply K V} (Value (Some w)) (Value None)) (λ x. (u : Option V) × gives f x.0 x.1 u × (◌≡◌ {A = KeptReply K V} (Value (Some w)) (Value u)))) e a))
-        go (Some x) e = record {
+    -- a new entry at its place
+    placed_did : (c : Call K V F) (r : KeptReply K V) (k : K) (w : V) (es : List (Entry K V)) (n : ℕ) → key_of c ≡ Some k → changes cmp hash gives c r ≡ true → ((m : Pairs K V) → after cmp c r m ≡ put cmp m k w) → find cmp (pairs_of es) k ≡ None → IsAscending cmp hash es → Allows cmp gives c (pairs_of es) r → Conditional c r es
+        → BinDid cmp hash gives c r es n (place cmp hash (record { key = k; value = w; number = bump n }) es) (bump n)
+    placed_did c r k w es n key change left e s a q =
+        let h : number_of cmp es k ≡ None = grind (arith, e, number-find es k) in
+        record {
           allowed = a;
-          ascending = ascending-rewrite k w (bump n) es s;
-          after = λ j. grind (arith, e, find-rewrite k w (bump n) es j, find-write es k w j x e);
+          ascending = ascending-place (record { key = k; value = w; number = bump n }) es h s;
+          after = λ j. rw (left (pairs_of es)) (grind (arith, e, find-place (record { key = k; value = w; number = bump n }) es j h, find-without cmp total (pairs_of es) k j));
           count = inr refl;
-          other_numbers = λ i j g f. grind (arith, key_is g, f, number-rewrite k w (bump n) es j);
-          kept_numbers = λ g. absurd (grind (arith, g));
-          new_number = λ _ i g. inr (grind (arith, key_is g, e, number-find es k, number-rewrite k w (bump n) es i, (one_class cmp total).refl i), refl);
+          other_numbers = λ i j g f. grind (arith, key_is (sym key ∙ g), f, number-place (record { key = k; value = w; number = bump n }) es j h);
+          kept_numbers = λ g. absurd (grind (arith, g, change));
+          new_number = λ _ i g. inr (grind (arith, key_is (sym key ∙ g), number-place (record { key = k; value = w; number = bump n }) es i h, (one_class cmp total).refl i), refl);
           conditional = q;
         }
+
+    -- another value at a class that is there
+    rewritten_did : (c : Call K V F) (r : KeptReply K V) (k : K) (w : V) (x : K × V) (es : List (Entry K V)) (n : ℕ) → key_of c ≡ Some k → changes cmp hash gives c r ≡ true → ((m : Pairs K V) → after cmp c r m ≡ write cmp m k w) → find cmp (pairs_of es) k ≡ Some x → IsAscending cmp hash es → Allows cmp gives c (pairs_of es) r → Conditional c r es
+        → BinDid cmp hash gives c r es n (rewrite cmp hash k w (bump n) es) (bump n)
+    rewritten_did c r k w x es n key change left e s a q = record {
+      allowed = a;
+      ascending = ascending-rewrite k w (bump n) es s;
+      after = λ j. rw (left (pairs_of es)) (grind (arith, e, find-rewrite k w (bump n) es j, find-write es k w j x e));
+      count = inr refl;
+      other_numbers = λ i j g f. grind (arith, key_is (sym key ∙ g), f, number-rewrite k w (bump n) es j);
+      kept_numbers = λ g. absurd (grind (arith, g, change));
+      new_number = λ _ i g. inr (grind (arith, key_is (sym key ∙ g), e, number-find es k, number-rewrite k w (bump n) es i, (one_class cmp total).refl i), refl);
+      conditional = q;
+    }
+
+    -- the class left out
+    left_out_did : (c : Call K V F) (r : KeptReply K V) (k : K) (es : List (Entry K V)) (n : ℕ) → key_of c ≡ Some k → changes cmp hash gives c r ≡ true → ((m : Pairs K V) → after cmp c r m ≡ without cmp m k) → IsAscending cmp hash es → Allows cmp gives c (pairs_of es) r → Conditional c r es
+        → BinDid cmp hash gives c r es n (leave_out cmp hash k es) n
+    left_out_did c r k es n key change left s a q = record {
+      allowed = a;
+      ascending = ascending-leave_out k es s;
+      after = λ j. rw (left (pairs_of es)) (find-leave_out k es j ∙ sym (find-without cmp total (pairs_of es) k j));
+      count = inl refl;
+      other_numbers = λ i j g f. grind (arith, key_is (sym key ∙ g), f, number-leave_out k es j);
+      kept_numbers = λ g. absurd (grind (arith, g, change));
+      new_number = λ _ i g. inl (grind (arith, key_is (sym key ∙ g), number-leave_out k es i, (one_class cmp total).refl i));
+      conditional = q;
+    }
+
+    -- what a reply tells of the class before it
+    new_absent : (k : K) (v w : V) (x : Option (K × V)) → MatchOption x (◌≡◌ {A = KeptReply K V} (New w) (New v)) (λ p. ◌≡◌ {A = KeptReply K V} (New w) (Exists p.1 v)) → x ≡ None
+    new_absent k v w None h = refl
+    new_absent k v w (Some x) h = absurd (grind (arith, h))
+
+    value_present : (f : F) (w : V) (x : Option (K × V)) → MatchOption x (◌≡◌ {A = KeptReply K V} (Value (Some w)) (Value None)) (λ p. (o : Option V) × gives f p.0 (Some p.1) (verdict_of o) × (◌≡◌ {A = KeptReply K V} (Value (Some w)) (Value o))) → (p : K × V) × (x ≡ Some p)
+    value_present f w None h = absurd (grind (arith, h))
+    value_present f w (Some x) h = (x, refl)
+
+    added_absent : (w : V) (x : Option (K × V)) (v : Verdict V) → ◌≡◌ {A = KeptReply K V} (New w) (verdict_reply x v) → x ≡ None
+    added_absent w None v h = refl
+    added_absent w (Some x) Keep h = absurd (grind (arith, h))
+    added_absent w (Some x) (Set u) h = absurd (grind (arith, h))
+    added_absent w (Some x) Removed h = absurd (grind (arith, h))
+
+    changed_present : (w o : V) (x : Option (K × V)) (v : Verdict V) → ◌≡◌ {A = KeptReply K V} (Changed w o) (verdict_reply x v) → (p : K × V) × (x ≡ Some p)
+    changed_present w o None Keep h = absurd (grind (arith, h))
+    changed_present w o None (Set u) h = absurd (grind (arith, h))
+    changed_present w o None Removed h = absurd (grind (arith, h))
+    changed_present w o (Some x) v h = (x, refl)
 
     -- each call does at a bin what the machine says
     pub bin_did : (c : Call K V F) (r : KeptReply K V) (es : List (Entry K V)) (n : ℕ) → IsAscending cmp hash es → Allows cmp gives c (pairs_of es) r → ((z : Seen K V) → c ≡ RemoveSeen z → removes cmp hash gives r ≡ has_number (number_of cmp es z.key) z.number) → BinDid cmp hash gives c r es n (bin_after cmp hash c r es n).0 (bin_after cmp hash c r es n).1
     bin_did (Insert k v) r es n s a q = record { allowed = a; ascending = ascending-write es k v (bump n) s; after = λ j. writes es k v (bump n) j; count = inr refl; other_numbers = λ i j h g. grind (arith, key_is h, g, number-write es k v (bump n) j); kept_numbers = λ h. absurd (grind (arith, h)); new_number = λ _ i h. inr (grind (arith, key_is h, number-write es k v (bump n) i, (one_class cmp total).refl i), refl); conditional = q }
-    bin_did (TryInsert k v) (New w) es n s a q = try_did k v w es n s a q
-    bin_did (Compute k f) (Value None) es n s a q = record { allowed = a; ascending = ascending-leave_out k es s; after = λ j. find-leave_out k es j ∙ sym (find-without cmp total (pairs_of es) k j); count = inl refl; other_numbers = λ i j h g. grind (arith, key_is h, g, number-leave_out k es j); kept_numbers = λ h. absurd (grind (arith, h)); new_number = λ _ i h. inl (grind (arith, key_is h, number-leave_out k es i, (one_class cmp total).refl i)); conditional = q }
-    bin_did (Compute k f) (Value (Some w)) es n s a q = compute_did k f w es n s a q
-    bin_did (Remove k) r es n s a q = record { allowed = a; ascending = ascending-leave_out k es s; after = λ j. find-leave_out k es j ∙ sym (find-without cmp total (pairs_of es) k j); count = inl refl; other_numbers = λ i j h g. grind (arith, key_is h, g, number-leave_out k es j); kept_numbers = λ h. absurd (grind (arith, h)); new_number = λ _ i h. inl (grind (arith, key_is h, number-leave_out k es i, (one_class cmp total).refl i)); conditional = q }
-    bin_did (RemoveEntry k) r es n s a q = record { allowed = a; ascending = ascending-leave_out k es s; after = λ j. find-leave_out k es j ∙ sym (find-without cmp total (pairs_of es) k j); count = inl refl; other_numbers = λ i j h g. grind (arith, key_is h, g, number-leave_out k es j); kept_numbers = λ h. absurd (grind (arith, h)); new_number = λ _ i h. inl (grind (arith, key_is h, number-leave_out k es i, (one_class cmp total).refl i)); conditional = q }
-    bin_did (RemoveSeen y) (Value (Some w)) es n s a q = record { allowed = a; ascending = ascending-leave_out y.key es s; after = λ j. find-leave_out y.key es j ∙ sym (find-without cmp total (pairs_of es) y.key j); count = inl refl; other_numbers = λ i j h g. grind (arith, key_is h, g, number-leave_out y.key es j); kept_numbers = λ h. absurd (grind (arith, h)); new_number = λ _ i h. inl (grind (arith, key_is h, number-leave_out y.key es i, (one_class cmp total).refl i)); conditional = q }
+    bin_did (TryInsert k v) (New w) es n s a q = placed_did (TryInsert k v) (New w) k v es n refl refl (λ _. refl) (new_absent k v w (find cmp (pairs_of es) k) a) s a q
+    bin_did (Compute k f) (Value None) es n s a q = left_out_did (Compute k f) (Value None) k es n refl refl (λ _. refl) s a q
+    bin_did (Compute k f) (Value (Some w)) es n s a q = let there = value_present f w (find cmp (pairs_of es) k) a in rewritten_did (Compute k f) (Value (Some w)) k w there.0 es n refl refl (λ _. refl) there.1 s a q
+    bin_did (Alter k b f) (New w) es n s a q = placed_did (Alter k b f) (New w) k w es n refl refl (λ _. refl) (added_absent w (find cmp (pairs_of es) k) a.0 a.2) s a q
+    bin_did (Alter k b f) (Changed w o) es n s a q = let there = changed_present w o (find cmp (pairs_of es) k) a.0 a.2 in rewritten_did (Alter k b f) (Changed w o) k w there.0 es n refl refl (λ _. refl) there.1 s a q
+    bin_did (Alter k b f) (Pair (Some x)) es n s a q = left_out_did (Alter k b f) (Pair (Some x)) k es n refl refl (λ _. refl) s a q
+    bin_did (Remove k) r es n s a q = left_out_did (Remove k) r k es n refl refl (λ _. refl) s a q
+    bin_did (RemoveEntry k) r es n s a q = left_out_did (RemoveEntry k) r k es n refl refl (λ _. refl) s a q
+    bin_did (RemoveSeen z) (Value (Some w)) es n s a q = left_out_did (RemoveSeen z) (Value (Some w)) z.key es n refl refl (λ _. refl) s a q
     bin_did c r es n s a q = record { allowed = a; ascending = s; after = λ j. refl; count = inl refl; other_numbers = λ k j _ _. refl; kept_numbers = λ _ j. refl; new_number = λ h. absurd (grind (arith, h)); conditional = q }

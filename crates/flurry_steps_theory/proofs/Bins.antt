@@ -1,5 +1,5 @@
 -- What a bin's entries and the map's pairs have at a key.
-use Rattle.std.specs.Prelude.{unwrap_or, if◌then◌else◌, ℕ, suc, zero, ◌+◌, ◌*◌, ◌/◌, ◌%◌, ◌^◌, ◌<◌, Bool, true, false, not, cond, List, [], ◌∷◌, filter, Option, Some, None, option_map, IsSome, MatchOption, ◌≡◌, ◌⊎◌}
+use Rattle.std.specs.Prelude.{unwrap_or, if◌then◌else◌, ℕ, suc, zero, ◌+◌, ◌*◌, ◌/◌, ◌%◌, ◌^◌, ◌<◌, Bool, true, false, not, cond, List, [], ◌∷◌, filter, Option, Some, None, option_map, IsSome, IsTrue, MatchOption, ◌≡◌, ◌⊎◌}
 use Rattle.std.specs.declared.cmp.Ordering.{Ordering}
 use Rattle.std.specs.declared.cmp.Ordering.TheVariants.{Less, Equal, Greater}
 use Rattle.std.specs.Ordering.{ordering_then, ordering_reverse, nat_cmp, is_lt}
@@ -14,9 +14,12 @@ use Rattle.flurry_steps_theory.specs.Map.{Pairs, same, find, without, after, All
 use Rattle.flurry_steps_theory.specs.Trace.{in_region}
 use Rattle.flurry_steps_theory.specs.Bin.{Entry, pairs_of, order, past, first_past, Above, IsAscending, InRegion, half}
 use Rattle.flurry_base.specs.declared.call.Call.{Call}
-use Rattle.flurry_base.specs.declared.call.Call.TheVariants.{Get, GetKeyValue, Insert, TryInsert, Compute, Remove, RemoveEntry, RemoveSeen, Reserve, Clear, Walk}
+use Rattle.flurry_base.specs.declared.call.Call.TheVariants.{Get, GetKeyValue, Insert, TryInsert, Compute, Alter, Remove, RemoveEntry, RemoveSeen, Reserve, Clear, Walk}
 use Rattle.flurry_base.specs.declared.reply.KeptReply.{KeptReply}
-use Rattle.flurry_base.specs.declared.reply.KeptReply.TheVariants.{Value, New, Exists}
+use Rattle.flurry_base.specs.declared.reply.KeptReply.TheVariants.{Value, Pair, New, Changed, Exists}
+use Rattle.flurry_base.specs.declared.verdict.Verdict.{Verdict}
+use Rattle.flurry_base.specs.declared.verdict.Verdict.TheVariants.{Set}
+use Rattle.flurry_base.specs.Verdicts.{Judges, verdict_of, verdict_reply}
 
 pub one_class : {K : Type 0} (cmp : K → K → Ordering) → IsTotalOrder cmp → IsEquivalence (same cmp)
 one_class cmp total = eq_by_cmp_equiv total
@@ -45,6 +48,9 @@ module _ {K V : Type 0} (cmp : K → K → Ordering) (total : IsTotalOrder cmp) 
   find-after (TryInsert k v) (New w) m n j g h = grind (arith, h, g k refl, find-without m k j, find-without n k j)
   find-after (Compute k f) (Value (Some w)) m n j g h = grind (arith, h, g k refl, find-without m k j, find-without n k j)
   find-after (Compute k f) (Value None) m n j g h = grind (arith, h, g k refl, find-without m k j, find-without n k j)
+  find-after (Alter k b f) (New w) m n j g h = grind (arith, h, g k refl, find-without m k j, find-without n k j)
+  find-after (Alter k b f) (Changed w o) m n j g h = grind (arith, h, g k refl, find-without m k j, find-without n k j)
+  find-after (Alter k b f) (Pair (Some x)) m n j g h = grind (arith, h, g k refl, find-without m k j, find-without n k j)
   find-after (Remove k) r m n j g h = grind (arith, h, g k refl, find-without m k j, find-without n k j)
   find-after (RemoveEntry k) r m n j g h = grind (arith, h, g k refl, find-without m k j, find-without n k j)
   find-after (RemoveSeen s) (Value (Some w)) m n j g h = grind (arith, h, g s.key refl, find-without m s.key j, find-without n s.key j)
@@ -56,26 +62,31 @@ module _ {K V : Type 0} (cmp : K → K → Ordering) (total : IsTotalOrder cmp) 
   find-after_other (TryInsert i v) (New w) m k j e f = grind (arith, find-without m i j, e, f)
   find-after_other (Compute i g) (Value (Some w)) m k j e f = grind (arith, find-without m i j, (one_class cmp total).congr _ i j (stored_class m i), e, f)
   find-after_other (Compute i g) (Value None) m k j e f = grind (arith, find-without m i j)
+  find-after_other (Alter i b g) (New w) m k j e f = grind (arith, find-without m i j, e, f)
+  find-after_other (Alter i b g) (Changed w o) m k j e f = grind (arith, find-without m i j, (one_class cmp total).congr _ i j (stored_class m i), e, f)
+  find-after_other (Alter i b g) (Pair (Some x)) m k j e f = grind (arith, find-without m i j)
   find-after_other (Remove i) r m k j e f = grind (arith, find-without m i j)
   find-after_other (RemoveEntry i) r m k j e f = grind (arith, find-without m i j)
   find-after_other (RemoveSeen s) (Value (Some w)) m k j e f = grind (arith, find-without m s.key j)
   find-after_other c r m k j e f = refl
 
   -- whether memory may be refused hangs on what the map has at the key's class
-  pub CanBeRefused-same : {F : Type 0} (gives : F → K → V → Option V → Type 0) (c : Call K V F) (m n : Pairs K V) (k : K) → key_of c ≡ Some k → find cmp m k ≡ find cmp n k → CanBeRefused cmp gives c m → CanBeRefused cmp gives c n
+  pub CanBeRefused-same : {F : Type 0} (gives : F → K → Option V → Verdict V → Type 0) (c : Call K V F) (m n : Pairs K V) (k : K) → key_of c ≡ Some k → find cmp m k ≡ find cmp n k → CanBeRefused cmp gives c m → CanBeRefused cmp gives c n
   CanBeRefused-same gives (Get j) m n k e h a = subst (λ o. IsSome o) (at_key j k m n e h) a
   CanBeRefused-same gives (GetKeyValue j) m n k e h a = subst (λ o. IsSome o) (at_key j k m n e h) a
   CanBeRefused-same gives (Insert j v) m n k e h a = tt
   CanBeRefused-same gives (TryInsert j v) m n k e h a = tt
-  CanBeRefused-same gives (Compute j f) m n k e h a = subst (λ o. MatchOption o ⊥ (λ x. (w : V) × gives f x.0 x.1 (Some w))) (at_key j k m n e h) a
+  CanBeRefused-same gives (Compute j f) m n k e h a = subst (λ o. MatchOption o ⊥ (λ x. (w : V) × gives f x.0 (Some x.1) (Set w))) (at_key j k m n e h) a
+  CanBeRefused-same gives (Alter j b f) m n k e h a = subst (λ o. MatchOption o (IsTrue b) (λ x. (w : V) × gives f x.0 (Some x.1) (Set w))) (at_key j k m n e h) a
   CanBeRefused-same gives (Reserve j) m n k e h a = tt
   CanBeRefused-same gives Walk m n k e h a = tt
   CanBeRefused-same gives c m n k e h a = a
 
   -- what may be replied hangs on what the map has at the key's class
-  pub Allows-same : {F : Type 0} (gives : F → K → V → Option V → Type 0) (c : Call K V F) (r : KeptReply K V) (m n : Pairs K V) (k : K) → key_of c ≡ Some k → find cmp m k ≡ find cmp n k → Allows cmp gives c m r → Allows cmp gives c n r
+  pub Allows-same : {F : Type 0} (gives : F → K → Option V → Verdict V → Type 0) (c : Call K V F) (r : KeptReply K V) (m n : Pairs K V) (k : K) → key_of c ≡ Some k → find cmp m k ≡ find cmp n k → Allows cmp gives c m r → Allows cmp gives c n r
   Allows-same gives (TryInsert j v) r m n k e h a = subst (λ o. MatchOption o (r ≡ New v) (λ x. r ≡ Exists x.1 v)) (at_key j k m n e h) a
-  Allows-same gives (Compute j f) r m n k e h a = subst (λ o. MatchOption o (r ≡ Value None) (λ x. (w : Option V) × gives f x.0 x.1 w × (r ≡ Value w))) (at_key j k m n e h) a
+  Allows-same gives (Compute j f) r m n k e h a = subst (λ o. MatchOption o (r ≡ Value None) (λ x. (w : Option V) × gives f x.0 (Some x.1) (verdict_of w) × (r ≡ Value w))) (at_key j k m n e h) a
+  Allows-same gives (Alter j b f) r m n k e h a = subst (λ o. (v : Verdict V) × Judges gives f j b o v × (r ≡ verdict_reply o v)) (at_key j k m n e h) a
   Allows-same gives (Reserve j) r m n k e h a = a
   Allows-same gives Clear r m n k e h a = a
   Allows-same gives Walk r m n k e h a = a

@@ -16,6 +16,7 @@ use Rattle.flurry_steps_theory.proofs.Settled.{party_settled}
 use Rattle.flurry_base.specs.declared.call.Call.{Call}
 use Rattle.flurry_base.specs.declared.call.Call.TheVariants.{Reserve, Walk, Clear}
 use Rattle.flurry_base.specs.declared.reply.KeptReply.{KeptReply}
+use Rattle.flurry_base.specs.declared.verdict.Verdict.{Verdict}
 use Rattle.flurry_steps_theory.specs.declared.Label.{Label}
 use Rattle.flurry_steps_theory.specs.declared.Label.TheVariants.{Begin, Decide, Refused, End, Reply as Replied}
 
@@ -139,7 +140,7 @@ module _ {K V F : Type 0} where
         none : decision z.trace p ≡ None
         none = t.1 ∙ o.no_decision (λ r a b x. grind (arith, open_yet, x)) (unfinished open_yet)
 
-module _ {K V F : Type 0} (cmp : K → K → Ordering) (total : IsTotalOrder cmp) (hash : K → ℕ) (lawful : (j k : K) → same cmp j k ≡ true → hash j ≡ hash k) (gives : F → K → V → Option V → Type 0) where
+module _ {K V F : Type 0} (cmp : K → K → Ordering) (total : IsTotalOrder cmp) (hash : K → ℕ) (lawful : (j k : K) → same cmp j k ≡ true → hash j ≡ hash k) (gives : F → K → Option V → Verdict V → Type 0) where
   -- a party that has begun stays so
   more_parties : (s : State K V F) (p q : ℕ) (l : Transition K V F) → Enabled cmp hash gives s p l → (next_state cmp hash gives s p l).parties ≤ q → s.parties ≤ q
   more_parties s p q (Begins c w) can m = omega (arith, can.0, m)

@@ -6,14 +6,14 @@ use Rattle.std.proofs.Common.{arith, refl, sym, ◌∙◌}
 use Rattle.std.proofs.lemmas.Grind.{common_steps}
 use Rattle.std.proofs.lemmas.Bool.{eqb-true, eqb-false, cond-true}
 use Rattle.std.proofs.lemmas.List.Filters.{length-filter_both}
-use Rattle.flurry_steps_theory.specs.Map.{Pairs, Unique, same, find, without, write, after}
+use Rattle.flurry_steps_theory.specs.Map.{Pairs, Unique, same, find, without, put, write, after}
 use Rattle.flurry_steps_theory.specs.Trace.{in_region}
 use Rattle.flurry_steps_theory.specs.Bin.{Entry, pairs_of, IsAscending, InRegion}
 use Rattle.flurry_steps_theory.proofs.Bins.{one_class, find-class, find-without, absent_below, absent_elsewhere}
 use Rattle.flurry_base.specs.declared.call.Call.{Call}
-use Rattle.flurry_base.specs.declared.call.Call.TheVariants.{Insert, TryInsert, Compute, Remove, RemoveEntry, RemoveSeen}
+use Rattle.flurry_base.specs.declared.call.Call.TheVariants.{Insert, TryInsert, Compute, Alter, Remove, RemoveEntry, RemoveSeen}
 use Rattle.flurry_base.specs.declared.reply.KeptReply.{KeptReply}
-use Rattle.flurry_base.specs.declared.reply.KeptReply.TheVariants.{Value, New}
+use Rattle.flurry_base.specs.declared.reply.KeptReply.TheVariants.{Value, Pair, New, Changed}
 
 module _ {K V : Type 0} (cmp : K → K → Ordering) (total : IsTotalOrder cmp) where
   none-filter : (p : K × V → Bool) (m : Pairs K V) (k : K) → find cmp m k ≡ None → find cmp (filter p m) k ≡ None
@@ -59,6 +59,9 @@ module _ {K V : Type 0} (cmp : K → K → Ordering) (total : IsTotalOrder cmp) 
       stored [] k = (one_class cmp total).refl k
       stored (x ∷ m) k = grind (arith, stored m k)
 
+  unique-put : (m : Pairs K V) (k : K) (v : V) → Unique cmp m → Unique cmp (put cmp m k v)
+  unique-put m k v u = (gone m k k ((one_class cmp total).refl k), unique-filter (λ z. not (same cmp z.0 k)) m u)
+
   fewer-without : (m : Pairs K V) (k : K) → length (without cmp m k) ≤ length m
   fewer-without [] k = omega arith
   fewer-without (x ∷ m) k = grind (arith, fewer-without m k)
@@ -69,6 +72,9 @@ module _ {K V : Type 0} (cmp : K → K → Ordering) (total : IsTotalOrder cmp) 
   length-after (TryInsert k v) (New w) m = omega (arith, fewer-without m k)
   length-after (Compute k f) (Value None) m = omega (arith, fewer-without m k)
   length-after (Compute k f) (Value (Some w)) m = omega (arith, fewer-without m k)
+  length-after (Alter k b f) (New w) m = omega (arith, fewer-without m k)
+  length-after (Alter k b f) (Changed w o) m = omega (arith, fewer-without m k)
+  length-after (Alter k b f) (Pair (Some x)) m = omega (arith, fewer-without m k)
   length-after (Remove k) r m = omega (arith, fewer-without m k)
   length-after (RemoveEntry k) r m = omega (arith, fewer-without m k)
   length-after (RemoveSeen s) (Value (Some w)) m = omega (arith, fewer-without m s.key)
@@ -76,9 +82,12 @@ module _ {K V : Type 0} (cmp : K → K → Ordering) (total : IsTotalOrder cmp) 
 
   pub unique-after : {F : Type 0} (c : Call K V F) (r : KeptReply K V) (m : Pairs K V) → Unique cmp m → Unique cmp (after cmp c r m)
   unique-after (Insert k v) r m u = unique-write m k v u
-  unique-after (TryInsert k v) (New w) m u = (gone m k k ((one_class cmp total).refl k), unique-filter (λ z. not (same cmp z.0 k)) m u)
+  unique-after (TryInsert k v) (New w) m u = unique-put m k v u
   unique-after (Compute k f) (Value None) m u = unique-filter (λ z. not (same cmp z.0 k)) m u
   unique-after (Compute k f) (Value (Some w)) m u = unique-write m k w u
+  unique-after (Alter k b f) (New w) m u = unique-put m k w u
+  unique-after (Alter k b f) (Changed w o) m u = unique-write m k w u
+  unique-after (Alter k b f) (Pair (Some x)) m u = unique-filter (λ z. not (same cmp z.0 k)) m u
   unique-after (Remove k) r m u = unique-filter (λ z. not (same cmp z.0 k)) m u
   unique-after (RemoveEntry k) r m u = unique-filter (λ z. not (same cmp z.0 k)) m u
   unique-after (RemoveSeen s) (Value (Some w)) m u = unique-filter (λ z. not (same cmp z.0 s.key)) m u

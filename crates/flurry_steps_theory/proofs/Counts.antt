@@ -16,6 +16,7 @@ use Rattle.flurry_steps_theory.proofs.Ranges.{place_here, place_other, total-cha
 use Rattle.flurry_steps_theory.proofs.Count.{length-after, unique-filter, unique-after, same_length, balance}
 use Rattle.flurry_base.specs.declared.call.Call.{Call}
 use Rattle.flurry_base.specs.declared.reply.KeptReply.{KeptReply}
+use Rattle.flurry_base.specs.declared.verdict.Verdict.{Verdict}
 use Rattle.flurry_steps_theory.specs.declared.Label.TheVariants.{Decide, Wipe}
 use Rattle.flurry_steps_theory.proofs.Walks.{bin_content}
 use Rattle.flurry_steps_theory.proofs.OwnSteps.{onward_is}
@@ -47,7 +48,7 @@ settled_removed m = refl
 begun_owed : {K V : Type 0} (owes : Mode K V → ℕ) (modes : ℕ → Mode K V) (n : ℕ) (m : Mode K V) → owes m ≡ 0 → total (λ q. owes (update modes n m q)) (suc n) ≡ total (λ q. owes (modes q)) n
 begun_owed owes modes n m z = omega (arith, z, total-same (λ q. owes (update modes n m q)) (λ q. owes (modes q)) n (λ q l. ap owes (place_other modes n q m (λ e. omega (arith, e, l)))), ap owes (place_here modes n m))
 
-module _ {K V F : Type 0} (cmp : K → K → Ordering) (total_order : IsTotalOrder cmp) (hash : K → ℕ) (lawful : (j k : K) → same cmp j k ≡ true → hash j ≡ hash k) (gives : F → K → V → Option V → Type 0) where
+module _ {K V F : Type 0} (cmp : K → K → Ordering) (total_order : IsTotalOrder cmp) (hash : K → ℕ) (lawful : (j k : K) → same cmp j k ≡ true → hash j ≡ hash k) (gives : F → K → Option V → Verdict V → Type 0) where
   known : (s : State K V F) (p : ℕ) → IsParty s p → (s.mode p ≡ Finished → ⊥) → p < s.parties
   known s p o h = go (cases_lt p s.parties)
     where

@@ -1,12 +1,14 @@
 -- Small traces by hand: what the laws allow and what they refuse. Keys and values are numbers, and a key is its own hash.
-use Rattle.std.specs.Prelude.{⊤, ℕ, ◌-◌, ◌^◌, false, [], ◌∷◌, Option, Some, None, ◌==◌, if◌then◌else◌, ◌≡◌, refl}
+use Rattle.std.specs.Prelude.{⊤, ℕ, ◌+◌, ◌-◌, true, ◌^◌, false, [], ◌∷◌, Option, Some, None, ◌==◌, if◌then◌else◌, ◌≡◌, refl}
 use Rattle.std.specs.Ordering.{nat_cmp}
 use Rattle.std.proofs.Common.{arith, inl}
 use Rattle.flurry_steps_theory.specs.Trace.{Trace, pairs}
 use Rattle.flurry_steps_theory.specs.Bin.{has_number}
 use Rattle.flurry_steps_theory.specs.Legal.{EachMay, CallMay, WalkMay, ClearMay, RemovalMay, GrowthMay}
-use Rattle.flurry_base.specs.declared.call.Call.TheVariants.{Get, ContainsKey, Insert, Compute, Remove, RemoveSeen, Clear, Walk}
-use Rattle.flurry_base.specs.declared.reply.KeptReply.TheVariants.{Value}
+use Rattle.flurry_base.specs.declared.call.Call.TheVariants.{Get, ContainsKey, Insert, Compute, Alter, Remove, RemoveSeen, Clear, Walk}
+use Rattle.flurry_base.specs.declared.reply.KeptReply.TheVariants.{Value, Contains, New, Changed}
+use Rattle.flurry_base.specs.declared.verdict.Verdict.{Verdict}
+use Rattle.flurry_base.specs.declared.verdict.Verdict.TheVariants.{Keep, Set}
 use Rattle.flurry_steps_theory.specs.declared.Label.TheVariants.{Begin, Decide, Reply as Replied, Refused, Read, End, Opened, Placed, Published, Silent}
 
 abbrev Numbers : Type 0
@@ -15,8 +17,8 @@ Numbers = Trace ℕ ℕ ⊤
 abbrev its_own : ℕ → ℕ
 its_own k = k
 
-abbrev none_given : ⊤ → ℕ → ℕ → Option ℕ → Type 0
-none_given f k v o = ⊥
+abbrev none_given : ⊤ → ℕ → Option ℕ → Verdict ℕ → Type 0
+none_given f k o v = ⊥
 
 abbrev Calls : Numbers → Type 0
 Calls = EachMay (CallMay nat_cmp its_own none_given)
@@ -48,6 +50,33 @@ the_map = refl
 -- a reply that is not the map's is refused
 wrong_reply : Calls (Decide 1 (Value (Some 5)) ∷ Silent 1 ∷ Begin 1 (Get 3) ∷ Silent 0 ∷ Replied 0 (Value None) ∷ Silent 0 ∷ Decide 0 (Value None) ∷ Opened 4 ∷ Begin 0 (Insert 3 4) ∷ []) → ⊥
 wrong_reply h = grind (arith, h)
+
+-- ALTER, by a function that counts how often it is called on a key: it adds 1 at an absent key, and writes 2 at the next call.
+abbrev counts_up : ⊤ → ℕ → Option ℕ → Verdict ℕ → Type 0
+counts_up f k None v = v ≡ Set 1
+counts_up f k (Some n) v = v ≡ Set (n + 1)
+
+abbrev Counted : Numbers → Type 0
+Counted = EachMay (CallMay nat_cmp its_own counts_up)
+
+abbrev counted_once : Numbers
+counted_once = Decide 0 (New 1) ∷ Begin 0 (Alter 3 true tt) ∷ []
+
+abbrev counted_twice : Numbers
+counted_twice = Decide 1 (Changed 2 1) ∷ Begin 1 (Alter 3 true tt) ∷ counted_once
+
+legal_counts : Counted counted_twice
+legal_counts = ((Alter 3 true tt, refl, (Set 2, refl, refl)), refl, refl) ⊗ refl ⊗ ((Alter 3 true tt, refl, (Set 1, refl, refl)), refl, refl) ⊗ refl ⊗ tt
+
+counted_pairs : pairs nat_cmp its_own counted_twice ≡ (3, 2) ∷ []
+counted_pairs = refl
+
+-- where none may be added, it is not called on an absent key, and nothing is added
+not_called : Counted (Decide 0 (Contains false) ∷ Begin 0 (Alter 3 false tt) ∷ [])
+not_called = ((Alter 3 false tt, refl, (Keep, refl, refl)), refl, refl) ⊗ refl ⊗ tt
+
+not_added : Counted (Decide 0 (New 1) ∷ Begin 0 (Alter 3 false tt) ∷ []) → ⊥
+not_added h = grind (arith, h.0)
 
 -- A walk beside two inserts, as it reads both pairs and ends; then the same walk, which lacks one, and one that reads a class twice.
 abbrev two_pairs : Numbers
@@ -99,6 +128,14 @@ other_class_removed h = grind (arith, h.0)
 touched_removed : Removals (Decide 4 (Value (Some 5)) ∷ Decide 5 (Value (Some 17)) ∷ Begin 5 (Insert 17 5) ∷ Begin 4 (RemoveSeen (record { key = 17; value = 17; number = 1 })) ∷ read_both) → ⊥
 touched_removed h = grind (arith, h.0.1, h.0.2 refl)
 
+-- nor what a function has written
+altered_removed : Removals (Decide 4 (Value (Some 5)) ∷ Decide 5 (Changed 5 17) ∷ Begin 5 (Alter 17 true tt) ∷ Begin 4 (RemoveSeen (record { key = 17; value = 17; number = 1 })) ∷ read_both) → ⊥
+altered_removed h = grind (arith, h.0.1, h.0.2 refl)
+
+-- but what a function has kept is
+kept_removed : Removals (Decide 4 (Value (Some 17)) ∷ Decide 5 (Contains true) ∷ Begin 5 (Alter 17 true tt) ∷ Begin 4 (RemoveSeen (record { key = 17; value = 17; number = 1 })) ∷ read_both)
+kept_removed = ((17, 17), refl, (λ _. refl), λ _ _. refl) ⊗ tt ⊗ tt ⊗ ((17, 17), refl, refl) ⊗ tt ⊗ tt ⊗ tt ⊗ tt ⊗ tt ⊗ tt ⊗ tt ⊗ tt ⊗ tt ⊗ tt ⊗ tt
+
 -- and what nothing touched is not left
 untouched_left : Removals (Decide 4 (Value None) ∷ Begin 4 (RemoveSeen (record { key = 17; value = 17; number = 1 })) ∷ read_both) → ⊥
 untouched_left h = grind (arith, h.0.3 (omega arith) refl)
@@ -107,9 +144,12 @@ untouched_left h = grind (arith, h.0.3 (omega arith) refl)
 at_greatest : has_number (Some (2 ^ 64 - 1)) (2 ^ 64 - 1) ≡ false
 at_greatest = refl
 
--- REFUSALS. A look-up may be refused where the class is there, and an insertion anywhere.
+-- REFUSALS. A look-up may be refused where the class is there, an insertion anywhere, and a function's call where it may add a pair.
 get_refused : CallMay nat_cmp its_own none_given (Begin 2 (Get 1) ∷ two_pairs) (Refused 2)
 get_refused = ((Get 1, refl, refl), refl, refl)
+
+alter_refused : Calls (Refused 0 ∷ Begin 0 (Alter 1 true tt) ∷ [])
+alter_refused = ((Alter 1 true tt, refl, refl), refl, refl) ⊗ refl ⊗ tt
 
 insert_refused : Calls (Refused 0 ∷ Begin 0 (Insert 1 1) ∷ [])
 insert_refused = ((Insert 1 1, refl, tt), refl, refl) ⊗ refl ⊗ tt
@@ -129,6 +169,12 @@ clear_refused h = grind (arith, h.0)
 
 compute_refused : CallMay nat_cmp its_own none_given (Begin 2 (Compute 1 tt) ∷ two_pairs) (Refused 2) → ⊥
 compute_refused h = grind (arith, h.0)
+
+nothing_altered_refused : CallMay nat_cmp its_own none_given (Begin 2 (Alter 1 true tt) ∷ two_pairs) (Refused 2) → ⊥
+nothing_altered_refused h = grind (arith, h.0)
+
+none_added_refused : Calls (Refused 0 ∷ Begin 0 (Alter 1 false tt) ∷ []) → ⊥
+none_added_refused h = grind (arith, h.0)
 
 -- CLEARS. On an empty map the label of a clear's first step will do, but not its End.
 cleared_empty : Clears (End 0 ∷ Silent 0 ∷ Begin 0 Clear ∷ [])

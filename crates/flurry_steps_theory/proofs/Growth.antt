@@ -14,9 +14,10 @@ use Rattle.flurry_steps_theory.specs.Legal.{CallMay, GrowthMay}
 use Rattle.flurry_base.specs.declared.call.Call.{Call}
 use Rattle.flurry_base.specs.declared.call.Call.TheVariants.{Clear, Walk}
 use Rattle.flurry_base.specs.declared.reply.KeptReply.{KeptReply}
+use Rattle.flurry_base.specs.declared.verdict.Verdict.{Verdict}
 use Rattle.flurry_steps_theory.specs.declared.Label.TheVariants.{Refused}
 
-module _ {K V F : Type 0} (cmp : K → K → Ordering) (hash : K → ℕ) (gives : F → K → V → Option V → Type 0) where
+module _ {K V F : Type 0} (cmp : K → K → Ordering) (hash : K → ℕ) (gives : F → K → Option V → Verdict V → Type 0) where
   pub grown_ok : (first : Option ℕ) (s : State K V F) (p : ℕ) (l : Transition K V F) → Enabled cmp hash gives s p l → IsPartition s → HasGrown first s → HasGrown first (next_state cmp hash gives s p l)
   grown_ok first s p (Opens e) can u w = record { number = refl; placed_next = λ d z h y. absurd (grind (arith, can.3, u.made z y)); unplaced = λ h. absurd (grind (arith, h)); unplaced_idle = λ _ j _ _ _. w.unplaced can.3 j; unplaced_above = λ _ j _ _. w.unplaced can.3 j }
   grown_ok first s p (Places e) can u w = record {

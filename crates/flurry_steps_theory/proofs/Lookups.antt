@@ -17,9 +17,10 @@ use Rattle.flurry_steps_theory.proofs.OwnSteps.{next_mode, next_call, other_keep
 use Rattle.flurry_base.specs.declared.call.Call.{Call}
 use Rattle.flurry_base.specs.declared.call.Call.TheVariants.{Get, GetKeyValue, ContainsKey}
 use Rattle.flurry_base.specs.declared.reply.KeptReply.{KeptReply}
+use Rattle.flurry_base.specs.declared.verdict.Verdict.{Verdict}
 use Rattle.flurry_base.specs.declared.sizes.TheConstants.{TABLES}
 
-module _ {K V F : Type 0} (cmp : K → K → Ordering) (total : IsTotalOrder cmp) (hash : K → ℕ) (lawful : (j k : K) → same cmp j k ≡ true → hash j ≡ hash k) (gives : F → K → V → Option V → Type 0) where
+module _ {K V F : Type 0} (cmp : K → K → Ordering) (total : IsTotalOrder cmp) (hash : K → ℕ) (lawful : (j k : K) → same cmp j k ≡ true → hash j ≡ hash k) (gives : F → K → Option V → Verdict V → Type 0) where
   -- a look-up has a key, and goes on where it found a table
   lookup_key : (call : Option (Call K V F)) → is_lookup call ≡ true → (k : K) × (key_in call ≡ Some k) × ((e : ℕ) → found_by cmp hash gives call e ≡ Looking e)
   lookup_key (Some (Get k)) h = (k, refl, λ e. refl)

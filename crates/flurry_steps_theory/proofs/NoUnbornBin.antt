@@ -12,10 +12,11 @@ use Rattle.flurry_steps_theory.proofs.Bins.{in_low_half, in_high_half, double}
 use Rattle.flurry_steps_theory.proofs.Tables.{same_some, homes}
 use Rattle.flurry_base.specs.declared.call.Call.{Call}
 use Rattle.flurry_base.specs.declared.call.Call.TheVariants.{Reserve, Clear, Walk}
+use Rattle.flurry_base.specs.declared.verdict.Verdict.{Verdict}
 use Rattle.flurry_steps_theory.proofs.Settled.{named_settled}
 use Rattle.flurry_steps_theory.proofs.OwnSteps.{next_mode, next_call, other_keeps, if_settled, own_or_other}
 
-module _ {K V F : Type 0} (cmp : K → K → Ordering) (total : IsTotalOrder cmp) (hash : K → ℕ) (lawful : (j k : K) → same cmp j k ≡ true → hash j ≡ hash k) (gives : F → K → V → Option V → Type 0) where
+module _ {K V F : Type 0} (cmp : K → K → Ordering) (total : IsTotalOrder cmp) (hash : K → ℕ) (lawful : (j k : K) → same cmp j k ≡ true → hash j ≡ hash k) (gives : F → K → Option V → Verdict V → Type 0) where
   -- homes only rise
   risen : (home : ℕ → ℕ) (s : State K V F) (p : ℕ) (l : Transition K V F) → Enabled cmp hash gives s p l → Tables cmp hash home s → is_some s.published ≡ true → (h : ℕ) → home h ≤ home_after home l h
   risen home s p (Opens e) can t md h = absurd (grind (arith, md, can.3))

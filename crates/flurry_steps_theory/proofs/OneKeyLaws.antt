@@ -1,5 +1,5 @@
 -- The finite map in the order of its keys and the pairs of a trace agree on each one-key call.
-use Rattle.std.specs.Prelude.{◌≡◌, ◌⊎◌, List, [], ◌∷◌, Option, Some, None, option_map, unwrap_or, MatchOption}
+use Rattle.std.specs.Prelude.{◌≡◌, ◌⊎◌, Bool, List, [], ◌∷◌, Option, Some, None, option_map, unwrap_or, MatchOption}
 use Rattle.std.specs.declared.cmp.Ordering.{Ordering}
 use Rattle.std.specs.Cmp.{IsTotalOrder}
 use Rattle.std.specs.Option.{option_map_or}
@@ -9,12 +9,15 @@ use Rattle.flurry_base.specs.FiniteMap.{IsFiniteMap, with_pair, stored_key, map_
 use Rattle.flurry_base.proofs.FiniteMapLaws.{pair_at-with_pair, pair_at-without, IsFiniteMap-with_pair, IsFiniteMap-without, without_none, IsFiniteMap-map_of_pairs, pair_at-map_of_pairs}
 use Rattle.flurry_base.specs.declared.reply.KeptReply.{KeptReply}
 use Rattle.flurry_base.specs.declared.reply.KeptReply.TheVariants.{Value, New, Exists}
+use Rattle.flurry_base.specs.declared.verdict.Verdict.{Verdict}
+use Rattle.flurry_base.specs.declared.verdict.Verdict.TheVariants.{Keep, Set, Remove as Removed}
+use Rattle.flurry_base.specs.Verdicts.{Judges, verdict_of, verdict_reply, with_verdict}
 use Rattle.flurry_steps_theory.specs.Map.{Pairs, find, value_at, without, put, write}
 use Rattle.flurry_steps_theory.specs.OneKeyCalls.{HasSamePairs, IsMapAfter, AgreesOn}
 use Rattle.flurry_steps_theory.proofs.Bins.{one_class, find-without, stored_class}
 use Rattle.flurry_base.specs.declared.call.Seen.{Seen}
 use Rattle.flurry_base.specs.declared.call.Call.{Call}
-use Rattle.flurry_base.specs.declared.call.Call.TheVariants.{Get, GetKeyValue, ContainsKey, Insert, TryInsert, Compute, Remove, RemoveEntry, RemoveSeen}
+use Rattle.flurry_base.specs.declared.call.Call.TheVariants.{Get, GetKeyValue, ContainsKey, Insert, TryInsert, Compute, Alter, Remove, RemoveEntry, RemoveSeen}
 
 module _ {K V : Type 0} (cmp : K → K → Ordering) (total : IsTotalOrder cmp) where
   -- a list has one pair at a class, from whichever side the keys are compared
@@ -55,7 +58,7 @@ module _ {K V : Type 0} (cmp : K → K → Ordering) (total : IsTotalOrder cmp) 
     unchanged : (k : K) → find cmp n k ≡ None → HasSamePairs cmp m (without cmp n k)
     unchanged k e = rw (without_none cmp k m (alike k ∙ e)) at (removed k)
 
-    module _ {F : Type 0} (gives : F → K → V → Option V → Type 0) (r : KeptReply K V) where
+    module _ {F : Type 0} (gives : F → K → Option V → Verdict V → Type 0) (r : KeptReply K V) where
       -- after the call c the finite map is l
       abbrev Leaves : Call K V F → List (K × V) → Type 0
       Leaves c l = IsMapAfter cmp c r n l
@@ -65,7 +68,10 @@ module _ {K V : Type 0} (cmp : K → K → Ordering) (total : IsTotalOrder cmp) 
       Tries k v x l = MatchOption x ((r ≡ New v) × (l ≡ with_pair cmp m k v)) (λ p. (r ≡ Exists p.1 v) × (l ≡ m))
 
       abbrev Computes : K → F → Option (K × V) → List (K × V) → Type 0
-      Computes k f x l = MatchOption x ((r ≡ Value None) × (l ≡ m)) (λ p. (o : Option V) × gives f p.0 p.1 o × (r ≡ Value o) × MatchOption o (l ≡ ordered.without cmp m k) (λ w. l ≡ with_pair cmp m k w))
+      Computes k f x l = MatchOption x ((r ≡ Value None) × (l ≡ m)) (λ p. (o : Option V) × gives f p.0 (Some p.1) (verdict_of o) × (r ≡ Value o) × (l ≡ with_verdict cmp m k (verdict_of o)))
+
+      abbrev Alters : K → Bool → F → Option (K × V) → List (K × V) → Type 0
+      Alters k b f x l = (v : Verdict V) × Judges gives f k b x v × (r ≡ verdict_reply x v) × (l ≡ with_verdict cmp m k v)
 
       abbrev Takes : K → List (K × V) → Type 0
       Takes k l = ((r ≡ Value None) × (l ≡ m)) ⊎ ((r ≡ Value (ordered.value_at cmp m k)) × (l ≡ ordered.without cmp m k))
@@ -78,15 +84,30 @@ module _ {K V : Type 0} (cmp : K → K → Ordering) (total : IsTotalOrder cmp) 
       tries k v None e l h = (h.0, (rw (h.1) (IsFiniteMap-with_pair total m k v finite), rw (h.0, h.1) (added k v e)))
       tries k v (Some x) e l h = (h.0, (rw (h.1) finite, rw (h.0, h.1) alike))
 
-      computed : (k : K) (f : F) (x : Option (K × V)) → find cmp n k ≡ x → MatchOption x (r ≡ Value None) (λ p. (o : Option V) × gives f p.0 p.1 o × (r ≡ Value o)) → (l : List (K × V)) × Computes k f x l × Leaves (Compute k f) l
+      computed : (k : K) (f : F) (x : Option (K × V)) → find cmp n k ≡ x → MatchOption x (r ≡ Value None) (λ p. (o : Option V) × gives f p.0 (Some p.1) (verdict_of o) × (r ≡ Value o)) → (l : List (K × V)) × Computes k f x l × Leaves (Compute k f) l
       computed k f None e h = (m, (h, refl), (finite, rw h (unchanged k e)))
       computed k f (Some x) e (None, g, h) = (ordered.without cmp m k, (None, g, h, refl), (IsFiniteMap-without total m k finite, rw h (removed k)))
       computed k f (Some x) e (Some w, g, h) = (with_pair cmp m k w, (Some w, g, h, refl), (IsFiniteMap-with_pair total m k w finite, rw h (written k w)))
 
-      computes : (k : K) (f : F) (x : Option (K × V)) → find cmp n k ≡ x → (l : List (K × V)) → Computes k f x l → MatchOption x (r ≡ Value None) (λ p. (o : Option V) × gives f p.0 p.1 o × (r ≡ Value o)) × Leaves (Compute k f) l
+      computes : (k : K) (f : F) (x : Option (K × V)) → find cmp n k ≡ x → (l : List (K × V)) → Computes k f x l → MatchOption x (r ≡ Value None) (λ p. (o : Option V) × gives f p.0 (Some p.1) (verdict_of o) × (r ≡ Value o)) × Leaves (Compute k f) l
       computes k f None e l h = (h.0, (rw (h.1) finite, rw (h.0, h.1) (unchanged k e)))
       computes k f (Some x) e l (None, g, h, i) = ((None, g, h), (rw i (IsFiniteMap-without total m k finite), rw (h, i) (removed k)))
       computes k f (Some x) e l (Some w, g, h, i) = ((Some w, g, h), (rw i (IsFiniteMap-with_pair total m k w finite), rw (h, i) (written k w)))
+
+      -- what a verdict leaves
+      judged : (k : K) (b : Bool) (f : F) (x : Option (K × V)) (v : Verdict V) → find cmp n k ≡ x → r ≡ verdict_reply x v → Leaves (Alter k b f) (with_verdict cmp m k v)
+      judged k b f None Keep e h = (finite, rw h alike)
+      judged k b f None (Set w) e h = (IsFiniteMap-with_pair total m k w finite, rw h (added k w e))
+      judged k b f None Removed e h = (IsFiniteMap-without total m k finite, rw (h, without_none cmp k m (alike k ∙ e)) alike)
+      judged k b f (Some x) Keep e h = (finite, rw h alike)
+      judged k b f (Some x) (Set w) e h = (IsFiniteMap-with_pair total m k w finite, rw h (written k w))
+      judged k b f (Some x) Removed e h = (IsFiniteMap-without total m k finite, rw h (removed k))
+
+      altered : (k : K) (b : Bool) (f : F) (x : Option (K × V)) → find cmp n k ≡ x → (v : Verdict V) × Judges gives f k b x v × (r ≡ verdict_reply x v) → (l : List (K × V)) × Alters k b f x l × Leaves (Alter k b f) l
+      altered k b f x e (v, g, h) = (with_verdict cmp m k v, (v, g, h, refl), judged k b f x v e h)
+
+      alters : (k : K) (b : Bool) (f : F) (x : Option (K × V)) → find cmp n k ≡ x → (l : List (K × V)) → Alters k b f x l → ((v : Verdict V) × Judges gives f k b x v × (r ≡ verdict_reply x v)) × Leaves (Alter k b f) l
+      alters k b f x e l (v, g, h, i) = ((v, g, h), rw i (judged k b f x v e h))
 
       -- the conditional removal answers the value, if there is one
       taken : (s : Seen K V) → r ≡ Value (value_at cmp n s.key) → (x : Option (K × V)) → find cmp n s.key ≡ x → Leaves (RemoveSeen s) (ordered.without cmp m s.key)
@@ -119,6 +140,10 @@ module _ {K V : Type 0} (cmp : K → K → Ordering) (total : IsTotalOrder cmp) 
       one_key_agrees (Compute k f) = record {
         answered = λ a. rw (alike k) (computed k f (find cmp n k) refl a);
         allowed = λ l h. computes k f (find cmp n k) refl l (rw (alike k) at h);
+      }
+      one_key_agrees (Alter k b f) = record {
+        answered = λ a. rw (alike k) (altered k b f (find cmp n k) refl a);
+        allowed = λ l h. alters k b f (find cmp n k) refl l (rw (alike k) at h);
       }
       one_key_agrees (Remove k) = record {
         answered = λ a. (ordered.without cmp m k, (rw (alike k) a, refl), (IsFiniteMap-without total m k finite, removed k));

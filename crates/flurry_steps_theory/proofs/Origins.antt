@@ -11,8 +11,9 @@ use Rattle.flurry_steps_theory.proofs.Ranges.{place_other}
 use Rattle.flurry_base.specs.declared.call.Seen.{Seen}
 use Rattle.flurry_base.specs.declared.call.Call.{Call}
 use Rattle.flurry_base.specs.declared.call.Call.TheVariants.{RemoveSeen}
+use Rattle.flurry_base.specs.declared.verdict.Verdict.{Verdict}
 
-module _ {K V F : Type 0} (cmp : K → K → Ordering) (hash : K → ℕ) (gives : F → K → V → Option V → Type 0) where
+module _ {K V F : Type 0} (cmp : K → K → Ordering) (hash : K → ℕ) (gives : F → K → Option V → Verdict V → Type 0) where
   pub same_seen : {z y : Seen K V} → ◌≡◌ {A = Call K V F} (RemoveSeen z) (RemoveSeen y) → z ≡ y
   same_seen {z} h = ap (λ (c : Call K V F). seen_of c) h
     where

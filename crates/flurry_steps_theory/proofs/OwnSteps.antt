@@ -8,6 +8,7 @@ use Rattle.flurry_steps_theory.specs.Map.{same}
 use Rattle.flurry_steps_theory.specs.Trace.{names}
 use Rattle.flurry_steps_theory.specs.Machine.{State, Transition, effect, label, found_by, onward, halves, Frame, mode_after_count, Mode, Locating, Looking, Walking, Clearing, Done, Finished, Begins, Quiet, Loses, Counts, Finds, Opens, FindsNothing, IsRefused, DecidesEmpty, Passes, Decides, Places, Claims, Moves, Reports, Publishes, Reads, Leaves, Splits, Wipes, SplitsClear, Replies, Ends}
 use Rattle.flurry_base.specs.declared.call.Call.{Call}
+use Rattle.flurry_base.specs.declared.verdict.Verdict.{Verdict}
 
 -- what a settled mode keeps, a mode keeps that may have been settled
 pub if_settled : {K V : Type 0} (P : Mode K V → Type 0) → ((m : Mode K V) → P m → P (mode_after_count m)) → (b : Bool) (m : Mode K V) → P m → P (cond b (mode_after_count m) m)
@@ -23,7 +24,7 @@ onward_is P to end e i [] h g = go (nat_lt (suc i) (2 ^ e))
     go true = h (suc i) (record { table = e; index = suc i; bound = None } ∷ [])
     go false = g
 
-module _ {K V F : Type 0} (cmp : K → K → Ordering) (total : IsTotalOrder cmp) (hash : K → ℕ) (lawful : (j k : K) → same cmp j k ≡ true → hash j ≡ hash k) (gives : F → K → V → Option V → Type 0) where
+module _ {K V F : Type 0} (cmp : K → K → Ordering) (total : IsTotalOrder cmp) (hash : K → ℕ) (lawful : (j k : K) → same cmp j k ≡ true → hash j ≡ hash k) (gives : F → K → Option V → Verdict V → Type 0) where
   -- the party's own mode and call after its transition
   unfoldable pub next_mode : State K V F → ℕ → Transition K V F → Mode K V
   next_mode s p (Begins c w) = Locating

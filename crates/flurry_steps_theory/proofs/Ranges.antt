@@ -11,7 +11,8 @@ use Rattle.flurry_steps_theory.specs.Invariant.{IsParty, is_live, Tables, size, 
 use Rattle.flurry_steps_theory.proofs.Bins.{small_mod}
 use Rattle.flurry_steps_theory.proofs.Tables.{placing, update2_elim, dead_stays}
 use Rattle.flurry_base.specs.declared.call.Call.{Call}
-use Rattle.flurry_base.specs.declared.call.Call.TheVariants.{Insert, TryInsert, Reserve}
+use Rattle.flurry_base.specs.declared.call.Call.TheVariants.{Insert, TryInsert, Alter, Reserve}
+use Rattle.flurry_base.specs.declared.verdict.Verdict.{Verdict}
 use Rattle.flurry_base.specs.declared.sizes.TheConstants.{MAX_TABLE}
 
 pub place_here : {X : Type 0} (f : ℕ → X) (p : ℕ) (x : X) → update f p x p ≡ x
@@ -58,7 +59,7 @@ part-total f p (suc n) l = go (part-total f p n) (cases_order n p)
     go more (inr (inl e)) = absurd (omega (arith, l, e))
     go more (inr (inr e)) = omega (arith, more e)
 
-module _ {K V F : Type 0} (cmp : K → K → Ordering) (hash : K → ℕ) (gives : F → K → V → Option V → Type 0) where
+module _ {K V F : Type 0} (cmp : K → K → Ordering) (hash : K → ℕ) (gives : F → K → Option V → Verdict V → Type 0) where
   -- a party that holds a claim has begun
   claims_known : (s : State K V F) (p : ℕ) (a : Claim) → IsParty s p → s.claim p ≡ Some a → p < s.parties
   claims_known s p a o h = go (cases_lt p s.parties)
@@ -145,6 +146,7 @@ module _ {K V F : Type 0} (cmp : K → K → Ordering) (hash : K → ℕ) (gives
   opening_limit : (c : Call K V F) (e : ℕ) → MayOpen c e → e ≤ MAX_TABLE
   opening_limit (Insert k v) e h = omega (arith, h)
   opening_limit (TryInsert k v) e h = omega (arith, h)
+  opening_limit (Alter k true f) e h = omega (arith, h)
   opening_limit (Reserve n) e h = h
   opening_limit c e h = absurd h
 

@@ -16,12 +16,13 @@ use Rattle.flurry_steps_theory.proofs.Tables.{same_some}
 use Rattle.flurry_base.specs.declared.call.Seen.{Seen}
 use Rattle.flurry_base.specs.declared.call.Call.TheVariants.{Get, Insert, RemoveSeen, Reserve, Walk}
 use Rattle.flurry_base.specs.declared.reply.KeptReply.TheVariants.{Value}
+use Rattle.flurry_base.specs.declared.verdict.Verdict.{Verdict}
 
 abbrev its_own : ℕ → ℕ
 its_own k = k
 
-abbrev none_given : ⊤ → ℕ → ℕ → Option ℕ → Type 0
-none_given f k v o = ⊥
+abbrev none_given : ⊤ → ℕ → Option ℕ → Verdict ℕ → Type 0
+none_given f k o v = ⊥
 
 its_own_lawful : (j k : ℕ) → same nat_cmp j k ≡ true → its_own j ≡ its_own k
 its_own_lawful j k h = eqb-true j k (sym (unsigned_tied j k) ∙ h)

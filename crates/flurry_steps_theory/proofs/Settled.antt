@@ -7,6 +7,7 @@ use Rattle.flurry_steps_theory.specs.Trace.{Trace}
 use Rattle.flurry_steps_theory.specs.Machine.{State, settle, mode_after_count, Mode, Locating, Clearing, Done}
 use Rattle.flurry_steps_theory.specs.Invariant.{IsParty, Progress, NamesNoUnborn, Waits}
 use Rattle.flurry_base.specs.declared.call.Call.{Call}
+use Rattle.flurry_base.specs.declared.verdict.Verdict.{Verdict}
 
 module _ {K V F : Type 0} where
   pub party_settled : (whose : ℕ → Bool) (s : State K V F) (q : ℕ) → IsParty s q → IsParty (settle whose s) q
@@ -34,7 +35,7 @@ module _ {K V F : Type 0} (hash : K → ℕ) where
   named_settled made home start call Locating n = n
   named_settled made home start call m n = n
 
-module _ {K V F : Type 0} (cmp : K → K → Ordering) (hash : K → ℕ) (gives : F → K → V → Option V → Type 0) where
+module _ {K V F : Type 0} (cmp : K → K → Ordering) (hash : K → ℕ) (gives : F → K → Option V → Verdict V → Type 0) where
   pub progress_settled : (call : Option (Call K V F)) (t : Trace K V F) (p : ℕ) (m : Mode K V) → Progress cmp hash gives call m t p → Progress cmp hash gives call (mode_after_count m) t p
   progress_settled call t p (Clearing wiped e i fs) g = record { unbegun = g.unbegun; seen = λ c _. g.seen c (λ h. grind (arith, h)); unread = λ c _. g.unread c (λ h. grind (arith, h)); cleared = λ c _. g.cleared c (λ h. grind (arith, h)); frames = g.frames }
   progress_settled call t p (Done r x y) g = record { unbegun = g.unbegun; seen = λ c _. g.seen c (λ h. grind (arith, h)); unread = λ c _. g.unread c (λ h. grind (arith, h)); cleared = λ c _. g.cleared c (λ h. grind (arith, h)); frames = tt }

@@ -9,8 +9,9 @@ use Rattle.flurry_steps_theory.specs.Invariant.{Inv, IsPartition, CanAll, after_
 use Rattle.flurry_steps_theory.proofs.Tables.{same_some}
 use Rattle.flurry_steps_theory.proofs.Step.{inv_after}
 use Rattle.flurry_base.specs.declared.sizes.TheConstants.{MAX_TABLE}
+use Rattle.flurry_base.specs.declared.verdict.Verdict.{Verdict}
 
-module _ {K V F : Type 0} (cmp : K → K → Ordering) (total : IsTotalOrder cmp) (hash : K → ℕ) (lawful : (j k : K) → same cmp j k ≡ true → hash j ≡ hash k) (gives : F → K → V → Option V → Type 0) where
+module _ {K V F : Type 0} (cmp : K → K → Ordering) (total : IsTotalOrder cmp) (hash : K → ℕ) (lawful : (j k : K) → same cmp j k ≡ true → hash j ≡ hash k) (gives : F → K → Option V → Verdict V → Type 0) where
   was_step : (s : State K V F) (p : ℕ) (l : Transition K V F) (e : ℕ) → Enabled cmp hash gives s p l → IsPartition s → WasPublished cmp hash gives s e → WasPublished cmp hash gives (next_state cmp hash gives s p l) e
   was_step s p (Opens d) e can u o = absurd (grind (arith, can.3, o.2))
   was_step s p (Publishes d gr) e can u o = (o.0, suc d, refl, omega (arith, o.3, same_some (sym o.2 ∙ can.1)))

@@ -17,6 +17,7 @@ use Rattle.flurry_steps_theory.specs.Legal.{HasRead, HasLacked, WalkMay, ClearMa
 use Rattle.flurry_base.specs.declared.call.Call.{Call}
 use Rattle.flurry_base.specs.declared.call.Call.TheVariants.{Reserve, Clear, Walk}
 use Rattle.flurry_base.specs.declared.reply.KeptReply.{KeptReply}
+use Rattle.flurry_base.specs.declared.verdict.Verdict.{Verdict}
 use Rattle.flurry_steps_theory.specs.declared.Label.TheVariants.{Decide, Refused, End, Opened, Silent, Reply as Replied}
 use Rattle.flurry_steps_theory.proofs.Calls.{party_ok}
 use Rattle.flurry_steps_theory.proofs.Tables.{tables_ok, new_tables}
@@ -33,7 +34,7 @@ use Rattle.flurry_steps_theory.proofs.Settled.{progress_settled}
 use Rattle.flurry_steps_theory.proofs.OwnSteps.{next_mode, next_call, other_keeps, if_settled, own_or_other, names_own}
 use Rattle.flurry_base.specs.declared.sizes.TheConstants.{MAX_TABLE}
 
-module _ {K V F : Type 0} (cmp : K → K → Ordering) (total : IsTotalOrder cmp) (hash : K → ℕ) (lawful : (j k : K) → same cmp j k ≡ true → hash j ≡ hash k) (gives : F → K → V → Option V → Type 0) where
+module _ {K V F : Type 0} (cmp : K → K → Ordering) (total : IsTotalOrder cmp) (hash : K → ℕ) (lawful : (j k : K) → same cmp j k ≡ true → hash j ≡ hash k) (gives : F → K → Option V → Verdict V → Type 0) where
   no_key : (c : Call K V F) (k : K) (w : Call K V F) → key_of w ≡ None → key_of c ≡ Some k → (call : Option (Call K V F)) → call ≡ Some c → call ≡ Some w → ⊥
   no_key c k w n h call e f = grind (arith, sym (subst (λ c. key_of c ≡ Some k) (same_some (sym e ∙ f)) h) ∙ n)
 

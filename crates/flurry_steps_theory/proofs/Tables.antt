@@ -13,9 +13,10 @@ use Rattle.flurry_steps_theory.specs.Machine.{State, Slot, Claim, Transition, Ad
 use Rattle.flurry_steps_theory.specs.Invariant.{IsParty, is_live, Tables, home_after, new_world}
 use Rattle.flurry_steps_theory.proofs.Bins.{find-after, find-after_other, find-half, ascending-half, region-half, find-wiped, in_a_half, in_low_half, in_high_half, small_mod, high_mod, double}
 use Rattle.flurry_base.specs.declared.call.Call.{Call}
-use Rattle.flurry_base.specs.declared.call.Call.TheVariants.{Insert, TryInsert, Compute, RemoveSeen}
+use Rattle.flurry_base.specs.declared.call.Call.TheVariants.{Insert, TryInsert, Compute, Alter, RemoveSeen}
 use Rattle.flurry_base.specs.declared.reply.KeptReply.{KeptReply}
-use Rattle.flurry_base.specs.declared.reply.KeptReply.TheVariants.{Value}
+use Rattle.flurry_base.specs.declared.reply.KeptReply.TheVariants.{Value, Pair, New, Changed}
+use Rattle.flurry_base.specs.declared.verdict.Verdict.{Verdict}
 use Rattle.flurry_steps_theory.specs.declared.Label.{Label}
 use Rattle.flurry_steps_theory.specs.declared.Label.TheVariants.{Decide, Wipe}
 
@@ -51,7 +52,7 @@ dead_stays f e i es n fs m there d j v dead = update2_elim f e i (Live fs m) (λ
 pub dead_before : {K V : Type 0} (f : ℕ → ℕ → Slot K V) (e i : ℕ) (fs : List (Entry K V)) (m : ℕ) (d j : ℕ) (v : Slot K V) → is_live v ≡ false → update2 f e i (Live fs m) d j ≡ v → f d j ≡ v
 dead_before f e i fs m d j v dead = update2_elim f e i (Live fs m) (λ d j w. w ≡ v → f d j ≡ v) d j (λ h. absurd (grind (arith, h, dead))) (λ _ h. h)
 
-module _ {K V F : Type 0} (cmp : K → K → Ordering) (total : IsTotalOrder cmp) (hash : K → ℕ) (lawful : (j k : K) → same cmp j k ≡ true → hash j ≡ hash k) (gives : F → K → V → Option V → Type 0) where
+module _ {K V F : Type 0} (cmp : K → K → Ordering) (total : IsTotalOrder cmp) (hash : K → ℕ) (lawful : (j k : K) → same cmp j k ≡ true → hash j ≡ hash k) (gives : F → K → Option V → Verdict V → Type 0) where
   -- a hash has one live bin
   pub only : (home : ℕ → ℕ) (s : State K V F) (h d : ℕ) → Tables cmp hash home s → is_live (s.slot d (h % 2 ^ d)) ≡ true → home h ≡ d
   only home s h d t l = grind (arith, l, t.no_table, t.below, t.above, t.early, cases_order (home h) d)
@@ -140,6 +141,10 @@ module _ {K V F : Type 0} (cmp : K → K → Ordering) (total : IsTotalOrder cmp
   empty_after (Insert i v) r k h a = absurd (h tt)
   empty_after (TryInsert i v) r k h a = absurd (h tt)
   empty_after (Compute i g) (Value (Some w)) k h a = grind (arith, a)
+  empty_after (Alter i true g) r k h a = absurd (h tt)
+  empty_after (Alter i false g) (New w) k h a = grind (arith, a)
+  empty_after (Alter i false g) (Changed w o) k h a = grind (arith, a)
+  empty_after (Alter i false g) (Pair (Some x)) k h a = refl
   empty_after (RemoveSeen z) (Value (Some w)) k h a = refl
   empty_after c r k h a = refl
 

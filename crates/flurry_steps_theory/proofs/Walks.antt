@@ -15,10 +15,11 @@ use Rattle.flurry_steps_theory.proofs.Tables.{homes, content_at}
 use Rattle.flurry_steps_theory.specs.Legal.{HasRead, HasLacked, StaysPresent, WalkMay}
 use Rattle.flurry_base.specs.declared.call.Call.{Call}
 use Rattle.flurry_base.specs.declared.call.Call.TheVariants.{Reserve, Clear, Walk}
+use Rattle.flurry_base.specs.declared.verdict.Verdict.{Verdict}
 use Rattle.flurry_steps_theory.specs.declared.Label.{Label}
 use Rattle.flurry_steps_theory.specs.declared.Label.TheVariants.{Begin, Wipe, Read, Silent}
 
-module _ {K V F : Type 0} (cmp : K → K → Ordering) (hash : K → ℕ) (gives : F → K → V → Option V → Type 0) where
+module _ {K V F : Type 0} (cmp : K → K → Ordering) (hash : K → ℕ) (gives : F → K → Option V → Verdict V → Type 0) where
   read_more : (t : Trace K V F) (l : Label K V F) (p : ℕ) (k : K) → HasRead cmp hash gives t p k → HasRead cmp hash gives (l ∷ t) p k
   read_more t (Read q j v) p k h = inr h
   read_more t l p k h = h
@@ -166,7 +167,7 @@ module _ {K V F : Type 0} (cmp : K → K → Ordering) (hash : K → ℕ) (gives
         ((λ u a. h.1.0 u (in_low_half u f.table f.index l a)), ((λ u a. h.1.0 u (in_high_half u f.table f.index l a)), h.1.1)),
       )
 
-module _ {K V F : Type 0} (cmp : K → K → Ordering) (total : IsTotalOrder cmp) (hash : K → ℕ) (lawful : (j k : K) → same cmp j k ≡ true → hash j ≡ hash k) (gives : F → K → V → Option V → Type 0) where
+module _ {K V F : Type 0} (cmp : K → K → Ordering) (total : IsTotalOrder cmp) (hash : K → ℕ) (lawful : (j k : K) → same cmp j k ≡ true → hash j ≡ hash k) (gives : F → K → Option V → Verdict V → Type 0) where
   -- STEPS
   -- what a live bin has at the classes of its region
   pub bin_content : (home : ℕ → ℕ) (s : State K V F) (d j : ℕ) (es : List (Entry K V)) (n : ℕ) (k : K) → Tables cmp hash home s → s.slot d j ≡ Live es n → hash k % 2 ^ d ≡ j → find cmp (pairs_of es) k ≡ at cmp hash s.trace k

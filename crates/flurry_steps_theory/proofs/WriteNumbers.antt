@@ -22,6 +22,7 @@ use Rattle.flurry_base.specs.declared.call.Seen.{Seen}
 use Rattle.flurry_base.specs.declared.call.Call.{Call}
 use Rattle.flurry_base.specs.declared.call.Call.TheVariants.{RemoveSeen}
 use Rattle.flurry_base.specs.declared.reply.KeptReply.{KeptReply}
+use Rattle.flurry_base.specs.declared.verdict.Verdict.{Verdict}
 use Rattle.flurry_steps_theory.specs.declared.Label.{Label}
 use Rattle.flurry_steps_theory.specs.declared.Label.TheVariants.{Begin, Decide, Wipe, Moved as MovedBin}
 use Rattle.flurry_base.specs.declared.sizes.TheConstants.{MAX_LABELS}
@@ -40,7 +41,7 @@ bump_new n l = grind (arith, l, lt-ltb n (2 ^ 64 - 1))
 update2_cases : {X : Type 0} (f : ℕ → ℕ → X) (e i : ℕ) (x : X) (d j : ℕ) → ((update2 f e i x d j ≡ x) × (e ≡ d) × (i ≡ j)) ⊎ ((update2 f e i x d j ≡ f d j) × (e ≡ d → i ≡ j → ⊥))
 update2_cases f e i x d j = update2_elim f e i x (λ d j v. ((v ≡ x) × (e ≡ d) × (i ≡ j)) ⊎ ((v ≡ f d j) × (e ≡ d → i ≡ j → ⊥))) d j (inl (refl, refl, refl)) (λ ne. inr (refl, ne))
 
-module _ {K V F : Type 0} (cmp : K → K → Ordering) (total : IsTotalOrder cmp) (hash : K → ℕ) (lawful : (j k : K) → same cmp j k ≡ true → hash j ≡ hash k) (gives : F → K → V → Option V → Type 0) where
+module _ {K V F : Type 0} (cmp : K → K → Ordering) (total : IsTotalOrder cmp) (hash : K → ℕ) (lawful : (j k : K) → same cmp j k ≡ true → hash j ≡ hash k) (gives : F → K → Option V → Verdict V → Type 0) where
   number-class : (es : List (Entry K V)) (j k : K) → same cmp j k ≡ true → number_of cmp es j ≡ number_of cmp es k
   number-class [] j k h = refl
   number-class (x ∷ es) j k h = grind (arith, number-class es j k h, (one_class cmp total).symm x.key j, (one_class cmp total).symm x.key k, (one_class cmp total).congr j k x.key h)

@@ -6,9 +6,9 @@ use Rattle.std.specs.Ordering.{nat_cmp, on, then_cmp, is_lt}
 use Rattle.flurry_steps_theory.specs.Map.{Pairs, same}
 use Rattle.flurry_steps_theory.specs.Trace.{in_region}
 use Rattle.flurry_base.specs.declared.call.Call.{Call}
-use Rattle.flurry_base.specs.declared.call.Call.TheVariants.{Insert, TryInsert, Compute, Remove, RemoveEntry, RemoveSeen}
+use Rattle.flurry_base.specs.declared.call.Call.TheVariants.{Insert, TryInsert, Compute, Alter, Remove, RemoveEntry, RemoveSeen}
 use Rattle.flurry_base.specs.declared.reply.KeptReply.{KeptReply}
-use Rattle.flurry_base.specs.declared.reply.KeptReply.TheVariants.{Value, New}
+use Rattle.flurry_base.specs.declared.reply.KeptReply.TheVariants.{Value, Pair, New, Changed}
 
 -- a key and its value, with the write number of the value
 pub record Entry (K V : Type 0) : Type 0 where
@@ -97,6 +97,9 @@ module _ {K V : Type 0} (cmp : K → K → Ordering) (hash : K → ℕ) where
   bin_after (TryInsert k v) (New w) es n = (place (record { key = k; value = v; number = bump n }) es, bump n)
   bin_after (Compute k f) (Value (Some w)) es n = (rewrite k w (bump n) es, bump n)
   bin_after (Compute k f) (Value None) es n = (leave_out k es, n)
+  bin_after (Alter k may_add f) (New w) es n = (place (record { key = k; value = w; number = bump n }) es, bump n)
+  bin_after (Alter k may_add f) (Changed w o) es n = (rewrite k w (bump n) es, bump n)
+  bin_after (Alter k may_add f) (Pair (Some x)) es n = (leave_out k es, n)
   bin_after (Remove k) r es n = (leave_out k es, n)
   bin_after (RemoveEntry k) r es n = (leave_out k es, n)
   bin_after (RemoveSeen z) (Value (Some w)) es n = (leave_out z.key es, n)

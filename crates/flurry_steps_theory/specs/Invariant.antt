@@ -11,6 +11,7 @@ use Rattle.flurry_base.specs.declared.call.Call.{Call}
 use Rattle.flurry_base.specs.declared.call.Call.TheVariants.{RemoveSeen, Walk, Clear}
 use Rattle.flurry_base.specs.declared.call.Seen.{Seen}
 use Rattle.flurry_base.specs.declared.reply.KeptReply.{KeptReply}
+use Rattle.flurry_base.specs.declared.verdict.Verdict.{Verdict}
 use Rattle.flurry_base.specs.declared.sizes.TheConstants.{MAX_TABLE, TABLES}
 
 -- the call is one of these
@@ -105,7 +106,7 @@ module _ {K V F : Type 0} where
     pub unplaced_above : (e d : ℕ) → s.published ≡ Some e → suc e < d → was_placed s.trace d ≡ false
 
 -- WALKS AND CLEARS
-module _ {K V F : Type 0} (cmp : K → K → Ordering) (hash : K → ℕ) (gives : F → K → V → Option V → Type 0) where
+module _ {K V F : Type 0} (cmp : K → K → Ordering) (hash : K → ℕ) (gives : F → K → Option V → Verdict V → Type 0) where
   -- k lies in the frame's region, past its bound
   abbrev pub InFrame : Frame K → K → Type 0
   InFrame f k = (hash k % 2 ^ f.table ≡ f.index) × (past cmp hash f.bound k ≡ true)
@@ -181,7 +182,7 @@ abbrev pub newer : Option ℕ → ℕ → Bool
 newer None m = true
 newer (Some n) m = nat_lt m n
 
-module _ {K V F : Type 0} (cmp : K → K → Ordering) (hash : K → ℕ) (gives : F → K → V → Option V → Type 0) where
+module _ {K V F : Type 0} (cmp : K → K → Ordering) (hash : K → ℕ) (gives : F → K → Option V → Verdict V → Type 0) where
   -- the write number of k's class, and the count of writes of its bin
   abbrev pub number_at : (ℕ → ℕ) → State K V F → K → Option ℕ
   number_at home s k = number_in cmp (s.slot (home (hash k)) (hash k % 2 ^ home (hash k))) k
@@ -239,7 +240,7 @@ module _ {K V F : Type 0} where
   abbrev pub Waits : Option (Call K V F) → Mode K V → ℕ → Type 0
   Waits call mode steps = is_lookup call ≡ true → (mode ≡ Locating → steps ≡ 0) × ((e : ℕ) → mode ≡ Looking e → steps ≤ suc e) × ((added removed : ℕ) → mode ≡ Done None added removed → ⊥)
 
-module _ {K V F : Type 0} (cmp : K → K → Ordering) (hash : K → ℕ) (gives : F → K → V → Option V → Type 0) where
+module _ {K V F : Type 0} (cmp : K → K → Ordering) (hash : K → ℕ) (gives : F → K → Option V → Verdict V → Type 0) where
   -- A look-up has decided or was refused by its 32nd step, one to find a table and one at each table, and its step after the decision
   -- is its reply. An attempt that was lost is no step.
   pub record LooksUp (s : State K V F) (p : ℕ) : Type 0 where
@@ -248,7 +249,7 @@ module _ {K V F : Type 0} (cmp : K → K → Ordering) (hash : K → ℕ) (gives
         → (l : Transition K V F) → Enabled cmp hash gives s p l → (l ≡ Replies r) ⊎ (l ≡ Loses)
 
 -- ALL OF IT
-module _ {K V F : Type 0} (cmp : K → K → Ordering) (hash : K → ℕ) (gives : F → K → V → Option V → Type 0) where
+module _ {K V F : Type 0} (cmp : K → K → Ordering) (hash : K → ℕ) (gives : F → K → Option V → Verdict V → Type 0) where
   -- what is true of every state: its parties, tables, ranges, labels, walks, counts, look-ups, laws, write numbers and removals
   pub record Inv (first : Option ℕ) (home : ℕ → ℕ) (s : State K V F) : Type 0 where
     pub parties : (p : ℕ) → IsParty s p
@@ -289,7 +290,7 @@ new_world e b = record {
 }
 
 -- RUNS
-module _ {K V F : Type 0} (cmp : K → K → Ordering) (hash : K → ℕ) (gives : F → K → V → Option V → Type 0) where
+module _ {K V F : Type 0} (cmp : K → K → Ordering) (hash : K → ℕ) (gives : F → K → Option V → Verdict V → Type 0) where
   -- the state after these steps of parties, the newest first
   abbrev pub after_all : State K V F → List (ℕ × Transition K V F) → State K V F
   after_all s [] = s

@@ -5,9 +5,10 @@ use Rattle.flurry_base.specs.OneKey.{key_of}
 use Rattle.flurry_steps_theory.specs.Map.{same, Allows, CanBeRefused}
 use Rattle.flurry_steps_theory.specs.Trace.{Trace, in_region, call_begun_by, decision, has_replied, has_closed, begins, names, last_read, read_before, published_in, was_placed, was_moved_in, pairs, at}
 use Rattle.flurry_base.specs.declared.call.Call.{Call}
-use Rattle.flurry_base.specs.declared.call.Call.TheVariants.{Insert, TryInsert, Compute, Remove, RemoveEntry, RemoveSeen, Clear, Walk}
+use Rattle.flurry_base.specs.declared.call.Call.TheVariants.{Insert, TryInsert, Compute, Alter, Remove, RemoveEntry, RemoveSeen, Clear, Walk}
 use Rattle.flurry_base.specs.declared.reply.KeptReply.{KeptReply}
-use Rattle.flurry_base.specs.declared.reply.KeptReply.TheVariants.{Value, New}
+use Rattle.flurry_base.specs.declared.reply.KeptReply.TheVariants.{Value, Pair, New, Changed}
+use Rattle.flurry_base.specs.declared.verdict.Verdict.{Verdict}
 use Rattle.flurry_steps_theory.specs.declared.Label.{Label}
 use Rattle.flurry_steps_theory.specs.declared.Label.TheVariants.{Begin, Decide, Reply as Replied, Refused, Wipe, Read, End, Opened, Placed, Moved, Published}
 use Rattle.flurry_base.specs.declared.sizes.TheConstants.{MAX_LABELS}
@@ -39,7 +40,7 @@ module _ {K V F : Type 0} where
   abbrev pub Began : (Call K V F → Type 0) → Trace K V F → ℕ → Type 0
   Began P t p = (c : Call K V F) × (call_begun_by t p ≡ Some c) × P c
 
-  module _ (cmp : K → K → Ordering) (hash : K → ℕ) (gives : F → K → V → Option V → Type 0) where
+  module _ (cmp : K → K → Ordering) (hash : K → ℕ) (gives : F → K → Option V → Verdict V → Type 0) where
     -- CALLS. A party begins once, and only then has other labels than Silent. A one-key call decides once at most, as the
     -- map before it allows, and replies what it decided. A call is refused once at most, undecided, and only where the map before it
     -- lets memory be refused to it. Other calls end or are refused once at most.
@@ -88,6 +89,9 @@ module _ {K V F : Type 0} where
     changes (Insert k v) r = true
     changes (TryInsert k v) (New w) = true
     changes (Compute k f) (Value o) = true
+    changes (Alter k may_add f) (New w) = true
+    changes (Alter k may_add f) (Changed w o) = true
+    changes (Alter k may_add f) (Pair (Some x)) = true
     changes (Remove k) r = true
     changes (RemoveEntry k) r = true
     changes (RemoveSeen s) (Value (Some w)) = true
@@ -145,7 +149,7 @@ module _ {K V F : Type 0} where
   GrowthMay first t l = ⊤
 
   -- ALL OF IT
-  module _ (cmp : K → K → Ordering) (hash : K → ℕ) (gives : F → K → V → Option V → Type 0) where
+  module _ (cmp : K → K → Ordering) (hash : K → ℕ) (gives : F → K → Option V → Verdict V → Type 0) where
     -- The laws of a trace: each of its labels may follow those before it. first is as for a growth.
     pub record Legal (first : Option ℕ) (t : Trace K V F) : Type 0 where
       pub calls : EachMay (CallMay cmp hash gives) t

@@ -9,8 +9,9 @@ use Rattle.flurry_steps_theory.specs.Bin.{Entry, number_of, bump, has_number, pa
 use Rattle.flurry_steps_theory.specs.Legal.{IsOneKey, IsWalk, IsClear, changes, removes}
 use Rattle.flurry_base.specs.declared.call.Seen.{Seen}
 use Rattle.flurry_base.specs.declared.call.Call.{Call}
-use Rattle.flurry_base.specs.declared.call.Call.TheVariants.{RemoveSeen, Insert, TryInsert, Reserve, Clear, Walk}
+use Rattle.flurry_base.specs.declared.call.Call.TheVariants.{RemoveSeen, Insert, TryInsert, Alter, Reserve, Clear, Walk}
 use Rattle.flurry_base.specs.declared.reply.KeptReply.{KeptReply}
+use Rattle.flurry_base.specs.declared.verdict.Verdict.{Verdict}
 use Rattle.flurry_steps_theory.specs.declared.Label.{Label}
 use Rattle.flurry_steps_theory.specs.declared.Label.TheVariants.{Begin, Decide, Reply as Replied, Refused, Wipe, Read, End, Opened, Placed, Moved as MovedBin, Published, Silent}
 use Rattle.flurry_base.specs.declared.sizes.TheConstants.{FIRST_TABLE, MAX_TABLE}
@@ -160,6 +161,7 @@ module _ {K V F : Type 0} where
   abbrev pub MayOpen : Call K V F → ℕ → Type 0
   MayOpen (Insert k v) e = e ≡ FIRST_TABLE
   MayOpen (TryInsert k v) e = e ≡ FIRST_TABLE
+  MayOpen (Alter k true f) e = e ≡ FIRST_TABLE
   MayOpen (Reserve n) e = e ≤ MAX_TABLE
   MayOpen c e = ⊥
 
@@ -170,13 +172,14 @@ module _ {K V F : Type 0} where
     mode = λ q. if whose q then mode_after_count (s.mode q) else s.mode q;
   }
 
-  -- a call that adds nothing to an empty map
+  -- a call that may add a pair to an empty map
   abbrev pub Adds : Call K V F → Type 0
   Adds (Insert k v) = ⊤
   Adds (TryInsert k v) = ⊤
+  Adds (Alter k true f) = ⊤
   Adds c = ⊥
 
-  module _ (cmp : K → K → Ordering) (hash : K → ℕ) (gives : F → K → V → Option V → Type 0) where
+  module _ (cmp : K → K → Ordering) (hash : K → ℕ) (gives : F → K → Option V → Verdict V → Type 0) where
     -- A call's step at a live bin, with this reply: the bin's pairs become what the call leaves of them. A written value bears the
     -- count of writes after it; a conditional removal removes exactly if the number is the one seen, below the greatest.
     pub record BinDid (c : Call K V F) (r : KeptReply K V) (es : List (Entry K V)) (n : ℕ) (fs : List (Entry K V)) (m : ℕ) : Type 0 where

@@ -4,6 +4,7 @@ use Rattle.std.specs.declared.cmp.Ordering.{Ordering}
 use Rattle.flurry_base.specs.FiniteMap.{IsFiniteMap, pair_at}
 use Rattle.flurry_base.specs.OneKey.{Answers}
 use Rattle.flurry_base.specs.declared.reply.KeptReply.{KeptReply}
+use Rattle.flurry_base.specs.declared.verdict.Verdict.{Verdict}
 use Rattle.flurry_steps_theory.specs.Map.{Pairs, find, after, Allows}
 use Rattle.flurry_base.specs.declared.call.Call.{Call}
 
@@ -19,7 +20,7 @@ module _ {K V : Type 0} (cmp : K → K → Ordering) where
 
     -- The call c of a trace, on the pairs n, and the same call on the finite map m: either may reply r where the other may, and leaves
     -- the same.
-    pub record AgreesOn (gives : F → K → V → Option V → Type 0) (c : Call K V F) (m : List (K × V)) (n : Pairs K V) (r : KeptReply K V) : Type 0 where
+    pub record AgreesOn (gives : F → K → Option V → Verdict V → Type 0) (c : Call K V F) (m : List (K × V)) (n : Pairs K V) (r : KeptReply K V) : Type 0 where
       -- whatever a trace allows, the finite map replies
       pub answered : Allows cmp gives c n r → (l : List (K × V)) × Answers cmp gives c m r l × IsMapAfter c r n l
       -- whatever the finite map replies, a trace allows, and however the finite map is left, the trace has these pairs

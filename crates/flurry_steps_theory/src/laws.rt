@@ -10,6 +10,8 @@ ghost use Rattle.flurry_steps_theory.specs.Machine.{Finished, Transition, WasPub
 ghost use Rattle.flurry_steps_theory.specs.Invariant.{Inv, CanAll, after_all, new_world};
 ghost use Rattle.flurry_base.specs.declared.sizes.TheConstants.{MAX_TABLE};
 
+use flurry_base::Verdict;
+
 /// States that the trace is lawful, whichever steps the parties do, and in any order. Does nothing; its contract is a law.
 ///
 /// Each reply is that of the finite map at the deciding step of its call. Growths move each bin once and publish complete tables. Walks
@@ -19,7 +21,7 @@ ghost use Rattle.flurry_base.specs.declared.sizes.TheConstants.{MAX_TABLE};
 /// walk read it, and, within the first 2^62 labels, it removes every such pair. A call fails for lack of memory only if the map allows
 /// that failure. A look-up decides or fails by its 32nd step, and replies at the next one. The number of pairs is the count plus what is
 /// still to be counted.
-pub fn every_interleaving<K: Ord, V, F: Fn(&K, &V) -> Option<V>>()
+pub fn every_interleaving<K: Ord, V, F: Fn(&K, Option<&V>) -> Verdict<V>>()
     ensures { (hash : K → ℕ) → ((j k : K) → same K.cmp j k ≡ true → hash j ≡ hash k)
         → (e : ℕ) (b : Bool) → e ≤ MAX_TABLE → (steps : List (ℕ × Transition K V F))
         → CanAll K.cmp hash (answers F.Fn) (new_world e b) steps
@@ -30,7 +32,7 @@ pub fn every_interleaving<K: Ord, V, F: Fn(&K, &V) -> Option<V>>()
 
 /// States that a call may start at an exponent that was published after some steps of a run, also after any further steps. So a party may
 /// take the exponent from wherever it was written down, without the control's lock. Does nothing; its contract is a law.
-pub fn exponents_stay_published<K: Ord, V, F: Fn(&K, &V) -> Option<V>>()
+pub fn exponents_stay_published<K: Ord, V, F: Fn(&K, Option<&V>) -> Verdict<V>>()
     ensures { (hash : K → ℕ) → ((j k : K) → same K.cmp j k ≡ true → hash j ≡ hash k)
         → (e : ℕ) (b : Bool) → e ≤ MAX_TABLE → (more steps : List (ℕ × Transition K V F))
         → CanAll K.cmp hash (answers F.Fn) (new_world e b) (more ++ steps)
@@ -41,7 +43,7 @@ pub fn exponents_stay_published<K: Ord, V, F: Fn(&K, &V) -> Option<V>>()
 
 /// States that the count is the number of pairs once every party that started has finished, whichever party counted for which: no party
 /// replies, ends or fails while pairs that it added or removed are still to be counted. Does nothing; its contract is a law.
-pub fn count_is_exact<K: Ord, V, F: Fn(&K, &V) -> Option<V>>()
+pub fn count_is_exact<K: Ord, V, F: Fn(&K, Option<&V>) -> Verdict<V>>()
     ensures { (hash : K → ℕ) → ((j k : K) → same K.cmp j k ≡ true → hash j ≡ hash k)
         → (e : ℕ) (b : Bool) → e ≤ MAX_TABLE → (steps : List (ℕ × Transition K V F))
         → CanAll K.cmp hash (answers F.Fn) (new_world e b) steps
@@ -53,7 +55,7 @@ pub fn count_is_exact<K: Ord, V, F: Fn(&K, &V) -> Option<V>>()
 
 /// States that the count is never further from 0 than the number of labels, so that 64 bits hold it in any run of fewer than 2^63 steps.
 /// Does nothing; its contract is a law.
-pub fn count_stays_within_labels<K: Ord, V, F: Fn(&K, &V) -> Option<V>>()
+pub fn count_stays_within_labels<K: Ord, V, F: Fn(&K, Option<&V>) -> Verdict<V>>()
     ensures { (hash : K → ℕ) → ((j k : K) → same K.cmp j k ≡ true → hash j ≡ hash k)
         → (e : ℕ) (b : Bool) → e ≤ MAX_TABLE → (steps : List (ℕ × Transition K V F))
         → CanAll K.cmp hash (answers F.Fn) (new_world e b) steps
@@ -69,7 +71,7 @@ pub fn count_stays_within_labels<K: Ord, V, F: Fn(&K, &V) -> Option<V>>()
 /// A one-key call has one definition on the owned map, in the order of its keys, and one on the pairs along a trace, which have no order.
 /// If both have the same pair at each class, each may reply exactly what the other may, and both have the same pairs after the call. Any
 /// pairs are those of some finite map, and a list that is looked up in either way has the same pair at each class.
-pub fn one_key_calls_agree<K: Ord, V, F: Fn(&K, &V) -> Option<V>>()
+pub fn one_key_calls_agree<K: Ord, V, F: Fn(&K, Option<&V>) -> Verdict<V>>()
     ensures calls { (c : Call K V F) (m : List (K × V)) (n : Pairs K V) (r : KeptReply K V)
         → IsFiniteMap K.cmp m → HasSamePairs K.cmp m n
         → AgreesOn K.cmp (answers F.Fn) c m n r }

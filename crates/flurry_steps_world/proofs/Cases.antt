@@ -20,8 +20,9 @@ use Rattle.flurry_steps_world.specs.Steps.{label_of}
 use Rattle.flurry_steps_world.proofs.StateLaws.{held_of_stage}
 use Rattle.flurry_steps_world.proofs.TransitionLaws.{is_quiet, is_counted}
 use Rattle.flurry_steps_world.proofs.Frames.{same_frame, counted_frame, IsStep, in_range}
+use Rattle.flurry_base.specs.declared.verdict.Verdict.{Verdict}
 
-module _ {K V F S : Type 0} (cmp : K → K → Ordering) (total : IsTotalOrder cmp) (hash : K → ℕ) (lawful : (j k : K) → same cmp j k ≡ true → hash j ≡ hash k) (gives : F → K → V → Option V → Type 0) (w : WorldState K V F S) (k : IsWorld cmp hash gives w) (p : ℕ) (x : PartyRecord K V F) (at : slice_get w.party_records p ≡ Some x) (c : PartyState K V F) where
+module _ {K V F S : Type 0} (cmp : K → K → Ordering) (total : IsTotalOrder cmp) (hash : K → ℕ) (lawful : (j k : K) → same cmp j k ≡ true → hash j ≡ hash k) (gives : F → K → Option V → Verdict V → Type 0) (w : WorldState K V F S) (k : IsWorld cmp hash gives w) (p : ℕ) (x : PartyRecord K V F) (at : slice_get w.party_records p ≡ Some x) (c : PartyState K V F) where
   -- the machine's view of the party
   pub calls : (state_of w).call p ≡ Some x.call
   calls = ap (option_map (λ (z : PartyRecord K V F). z.call)) at

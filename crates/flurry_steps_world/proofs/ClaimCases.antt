@@ -24,6 +24,7 @@ use Rattle.flurry_steps_theory.specs.Invariant.{size}
 use Rattle.flurry_steps_theory.proofs.Ranges.{part-total}
 use Rattle.flurry_base.specs.declared.call.Call.{Call}
 use Rattle.flurry_base.specs.declared.sizes.TheConstants.{MAX_TABLE}
+use Rattle.flurry_base.specs.declared.verdict.Verdict.{Verdict}
 use Rattle.flurry_steps_theory.specs.declared.Label.TheVariants as label
 use Rattle.flurry_steps_world.specs.Tables.{Tables, board_at, put_board}
 use Rattle.flurry_steps_world.specs.Parts.{BoardGives, AtBoardOf}
@@ -52,7 +53,7 @@ module _ {K V F : Type 0} where
 pub growing_is : (p g : Option ℕ) (e : ℕ) → g ≡ Some e → GrowthIsIn p g → p ≡ Some e
 growing_is p g e is inside = (subst (GrowthIsIn p) is inside).0
 
-module _ {K V F S : Type 0} (cmp : K → K → Ordering) (order : IsTotalOrder cmp) (hash : K → ℕ) (lawful : (j k : K) → same cmp j k ≡ true → hash j ≡ hash k) (gives : F → K → V → Option V → Type 0) (w : WorldState K V F S) (k : IsWorld cmp hash gives w) (p : ℕ) (x : PartyRecord K V F) (at : slice_get w.party_records p ≡ Some x) (c : PartyState K V F) where
+module _ {K V F S : Type 0} (cmp : K → K → Ordering) (order : IsTotalOrder cmp) (hash : K → ℕ) (lawful : (j k : K) → same cmp j k ≡ true → hash j ≡ hash k) (gives : F → K → Option V → Verdict V → Type 0) (w : WorldState K V F S) (k : IsWorld cmp hash gives w) (p : ℕ) (x : PartyRecord K V F) (at : slice_get w.party_records p ≡ Some x) (c : PartyState K V F) where
   -- where the machine has a growth, the control has the growth from the published table
   growth_runs : (e : ℕ) → w.control_state.published ≡ Some e → ((state_of w).growth ≡ None → ⊥) → w.control_state.growth ≡ Some e
   growth_runs e there some = by_growth w.control_state.growth refl

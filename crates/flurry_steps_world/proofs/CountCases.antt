@@ -32,6 +32,7 @@ use Rattle.flurry_steps_world.proofs.TableLaws.{AreTables-placed, not_made, is_m
 use Rattle.flurry_steps_world.proofs.Frames.{same_frame, IsStep}
 use Rattle.flurry_steps_world.proofs.Cases.{calls, in_mode, in_claim, no_lookup, settled, quiet, is_counting}
 use Rattle.flurry_base.specs.declared.sizes.TheConstants.{MAX_TABLE}
+use Rattle.flurry_base.specs.declared.verdict.Verdict.{Verdict}
 
 -- a growth that can begin
 can_begin_is : (e : ℕ) (q : Option ℕ) (g : Option ℕ) → can_begin e q g ≡ true → (q ≡ Some e) × (g ≡ None) × (e < MAX_TABLE)
@@ -72,7 +73,7 @@ module _ {K V F : Type 0} where
   growing_writes c (ForInsert r) h = h.writes
   growing_writes c ForReserve (n, h) = ap (λ d. is_lookup (Some d)) h
 
-module _ {K V F S : Type 0} (cmp : K → K → Ordering) (total : IsTotalOrder cmp) (hash : K → ℕ) (lawful : (j k : K) → same cmp j k ≡ true → hash j ≡ hash k) (gives : F → K → V → Option V → Type 0) (w : WorldState K V F S) (k : IsWorld cmp hash gives w) (p : ℕ) (x : PartyRecord K V F) (at : slice_get w.party_records p ≡ Some x) (c : PartyState K V F) where
+module _ {K V F S : Type 0} (cmp : K → K → Ordering) (total : IsTotalOrder cmp) (hash : K → ℕ) (lawful : (j k : K) → same cmp j k ≡ true → hash j ≡ hash k) (gives : F → K → Option V → Verdict V → Type 0) (w : WorldState K V F S) (k : IsWorld cmp hash gives w) (p : ℕ) (x : PartyRecord K V F) (at : slice_get w.party_records p ≡ Some x) (c : PartyState K V F) where
   -- a party begins a growth, which so many processors share
   places : (s : Stage K V F) (e n : ℕ) (t : Tables K V) → x.party_state.stage ≡ s → can_begin e w.control_state.published w.control_state.growth ≡ true → PlaceGives w.tables (e + 1) (Some n) true t → held_of_stage s ≡ (None, None)
       → mode_of_stage c.stage ≡ mode_of_stage s → held_of_stage c.stage ≡ (None, None) → is_lookup (Some x.call) ≡ false → FollowsStage hash x.call c.stage → IsStep cmp hash gives w p x (after_begin e w.control_state) t c (label.Placed (e + 1))

@@ -1,5 +1,5 @@
 -- A call's step at a live bin, or at one that has moved, is the machine's.
-use Rattle.std.specs.Prelude.{◌≡◌, ℕ, suc, ◌+◌, ◌-◌, ◌^◌, ◌≤◌, ◌==◌, ◌&&◌, nat_lt, Bool, true, false, cond, List, length, Option, Some, None, option_map, is_some, is_none, IsSome, Ok, Err}
+use Rattle.std.specs.Prelude.{◌≡◌, ℕ, suc, ◌+◌, ◌-◌, ◌^◌, ◌≤◌, ◌==◌, ◌&&◌, nat_lt, Bool, true, false, cond, List, length, Option, Some, None, option_map, is_some, is_none, IsSome, IsTrue, MatchOption, Ok, Err}
 use Rattle.std.specs.declared.cmp.Ordering.{Ordering}
 use Rattle.std.specs.Cmp.{IsTotalOrder}
 use Rattle.std.specs.List.{AllByRecursion}
@@ -10,15 +10,15 @@ use Rattle.flurry_base.specs.FiniteMap.{IsFiniteMap, with_pair, without}
 use Rattle.flurry_base.specs.HashOrder.{hash_then_key}
 use Rattle.flurry_base.specs.HashOrder as region
 use Rattle.flurry_base.specs.declared.reply.KeptReply.{KeptReply}
-use Rattle.flurry_base.specs.declared.reply.KeptReply.TheVariants.{Value, Pair, Contains, New, Exists}
+use Rattle.flurry_base.specs.declared.reply.KeptReply.TheVariants.{Value, Pair, Contains, New, Changed, Exists}
 use Rattle.flurry_base.proofs.FiniteMapLaws.{all_with_pair, all_without, length-with_pair, length-without, found_in}
 use Rattle.flurry_base.proofs.HashOrderLaws.{hash_then_key_total}
 use Rattle.flurry_bins_slots.specs.Slot as slot
-use Rattle.flurry_bins_slots.specs.Slot.{PlainEntry, Live, ComputeOutcome, WasAbsent, WasRemoved, WasChanged, next_number, entry_of_live, after_write, after_take, asks, is_unwritten_since}
+use Rattle.flurry_bins_slots.specs.Slot.{PlainEntry, Live, ComputeOutcome, WasAbsent, WasRemoved, WasChanged, pair_of_entry, verdict_outcome, next_number, entry_of_live, after_write, after_take, after_verdict, asks, is_unwritten_since}
 use Rattle.flurry_steps_sweep.specs.Outcome.{OutcomeReply}
-use Rattle.flurry_steps.specs.Party.{AnswerForm, TheValue, ThePair, Presence, Task, Finds, Removes, RemovesSeen, Inserts, Adds, Computes, Stage, AtDone, reply_for, outcome_in, IsWriter, task_of_call}
+use Rattle.flurry_steps.specs.Party.{AnswerForm, TheValue, ThePair, Presence, Task, Finds, Removes, RemovesSeen, Inserts, Adds, Computes, Alters, Stage, AtDone, reply_for, outcome_in, IsWriter, task_of_call}
 use Rattle.flurry_steps.specs.PartySlots as party
-use Rattle.flurry_steps.specs.PartySlots.{DecidesAt, GoesOnNew, GoesOnWritten, GoesOnAdded, stage_taken, stage_computed, stage_moved}
+use Rattle.flurry_steps.specs.PartySlots.{DecidesAt, GoesOnNew, GoesOnWritten, GoesOnAdded, GoesOnAltered, stage_taken, stage_computed, stage_moved}
 use Rattle.flurry_base.specs.OneKey.{key_of}
 use Rattle.flurry_steps_theory.specs.Map.{same, find, Allows, CanBeRefused}
 use Rattle.flurry_steps_theory.specs.Trace.{is_lookup}
@@ -27,7 +27,10 @@ use Rattle.flurry_steps_theory.specs.Machine.{BinDid, Looking, Done}
 use Rattle.flurry_steps_theory.specs.Legal.{removes}
 use Rattle.flurry_base.specs.declared.call.Seen.{Seen}
 use Rattle.flurry_base.specs.declared.call.Call.{Call}
-use Rattle.flurry_base.specs.declared.call.Call.TheVariants.{Get, GetKeyValue, ContainsKey, Insert, TryInsert, Compute, Remove, RemoveEntry, RemoveSeen, Clear}
+use Rattle.flurry_base.specs.declared.call.Call.TheVariants.{Get, GetKeyValue, ContainsKey, Insert, TryInsert, Compute, Alter, Remove, RemoveEntry, RemoveSeen, Clear}
+use Rattle.flurry_base.specs.declared.verdict.Verdict.{Verdict}
+use Rattle.flurry_base.specs.declared.verdict.Verdict.TheVariants.{Keep, Set, Remove as Removed}
+use Rattle.flurry_base.specs.Verdicts.{Judges, verdict_reply}
 use Rattle.flurry_steps_theory.proofs.BinSteps.{bin_did}
 use Rattle.flurry_steps_world.specs.Entries.{machine_entries, IsHashed}
 use Rattle.flurry_steps_world.specs.World.{mode_of_stage, HasDecided, FollowsStage}
@@ -63,7 +66,7 @@ module _ {K V F : Type 0} (hash : K → ℕ) where
 
 -- The call c decides at the live bin b, goes on at the stage s, and leaves the bin as d, in region (e, i): its reply is what s has to
 -- say, the machine's call does the same at the bin's entries, and s is to count what became more or less.
-pub record Decision {K V F : Type 0} (cmp : K → K → Ordering) (hash : K → ℕ) (gives : F → K → V → Option V → Type 0) (c : Call K V F) (b : Live K V) (s : Stage K V F) (d : Live K V) (e i : ℕ) : Type 0 where
+pub record Decision {K V F : Type 0} (cmp : K → K → Ordering) (hash : K → ℕ) (gives : F → K → Option V → Verdict V → Type 0) (c : Call K V F) (b : Live K V) (s : Stage K V F) (d : Live K V) (e i : ℕ) : Type 0 where
   pub reply : KeptReply K V
   pub said : outcome_in s ≡ Some (OutcomeReply reply)
   pub did : BinDid cmp hash gives c reply (machine_entries b.plain_entries) b.writes (machine_entries d.plain_entries) d.writes
@@ -89,7 +92,7 @@ module _ {K V : Type 0} where
   presence_found None = refl
   presence_found (Some x) = refl
 
-module _ {K V F : Type 0} (cmp : K → K → Ordering) (total : IsTotalOrder cmp) (hash : K → ℕ) (lawful : (j k : K) → same cmp j k ≡ true → hash j ≡ hash k) (gives : F → K → V → Option V → Type 0) where
+module _ {K V F : Type 0} (cmp : K → K → Ordering) (total : IsTotalOrder cmp) (hash : K → ℕ) (lawful : (j k : K) → same cmp j k ≡ true → hash j ≡ hash k) (gives : F → K → Option V → Verdict V → Type 0) where
   -- a live bin whose entries ascend, each at the hash of its key, in region (e, i), and whose count of writes is at most the greatest
   module _ (b : Live K V) (e i : ℕ) (up : IsFiniteMap (hash_then_key cmp) b.plain_entries) (hd : IsHashed hash b.plain_entries) (room : b.writes ≤ 2 ^ 64 - 1) (lies : AllByRecursion (λ (k : ℕ × K). region.InRegion e i k.0) (keys_of b.plain_entries)) where
     -- a conditional removal removes exactly if the number is the one that was seen
@@ -278,6 +281,33 @@ module _ {K V F : Type 0} (cmp : K → K → Ordering) (total : IsTotalOrder cmp
             (decision_written (Compute k f) (Value (Some w)) _ (2 ^ e) k w (rw (q.1) (reply_done hash (Compute k f) (Value (Some w)) refl)) (unjudged (Compute k f) (Value (Some w)) refl) (rw (found_at k (Some q.0) (q.1)) (Some w, q.2, refl)) here
             (ap (λ (es : List (Entry K V)). (es, bump b.writes)) (sym (rewrite-entries cmp total hash lawful b.plain_entries k w (bump b.writes) (q.0) up hd (q.1)))))
 
+    -- what a verdict says is done: an absent pair stays absent or is added, and a present one stays, has another value or is taken out
+    alters : (k : K) (may_add : Bool) (f : F) (s : Stage K V F) (d : Live K V) → region.InRegion e i (hash k) → DecidesAt cmp gives (hash k) (Alters k may_add f) e b s d → Decision cmp hash gives (Alter k may_add f) b s d e i
+    alters k may_add f s d here p = rw (p.1.3) (by_verdict (entry_of_live cmp b (hash k) k) refl (asks cmp (2 ^ e) b (hash k) k) (p.1.0) (p.1.1) (subst (λ o. GoesOnAltered e o s) (p.1.2) (p.2)))
+      where
+        call : Call K V F
+        call = Alter k may_add f
+
+        allowed : (x : Option (PlainEntry K V)) (v : Verdict V) → entry_of_live cmp b (hash k) k ≡ x → Judges gives f k may_add (option_map pair_of_entry x) v → Allows cmp gives call (pairs_of (machine_entries b.plain_entries)) (verdict_reply (option_map pair_of_entry x) v)
+        allowed x v q j = rw (found_at k x q) (v, j, refl)
+
+        by_verdict : (x : Option (PlainEntry K V)) → entry_of_live cmp b (hash k) k ≡ x → (asked : Bool) (v : Verdict V) → Judges gives f k may_add (option_map pair_of_entry x) v → GoesOnAltered e (verdict_outcome asked x v) s
+            → Decision cmp hash gives call b s (after_verdict cmp (2 ^ e) b (hash k) k x v) e i
+        by_verdict None q asked Keep j g = rw g (decision_kept call (Contains false) _ (reply_done hash call (Contains false) refl) (unjudged call (Contains false) refl) (allowed None Keep q j) refl)
+        by_verdict None q asked (Set w) j g =
+            decision_written call (New w) s (2 ^ e) k w (rw q (reply_new hash call (New w) e asked s refl refl g)) (unjudged call (New w) refl) (allowed None (Set w) q j) here
+            (ap (λ (es : List (Entry K V)). (es, bump b.writes)) (sym (place-entries cmp total hash lawful b.plain_entries k w (bump b.writes) hd q)))
+        by_verdict None q asked Removed j g = rw g (decision_kept call (Contains false) _ (reply_done hash call (Contains false) refl) (unjudged call (Contains false) refl) (allowed None Removed q j) refl)
+        by_verdict (Some x) q asked Keep j g = rw g (decision_kept call (Contains true) _ (reply_done hash call (Contains true) refl) (unjudged call (Contains true) refl) (allowed (Some x) Keep q j) refl)
+        by_verdict (Some x) q asked (Set w) j g =
+            rw g
+            (decision_written call (Changed w x.1.0) _ (2 ^ e) k w (rw q (reply_done hash call (Changed w x.1.0) refl)) (unjudged call (Changed w x.1.0) refl) (allowed (Some x) (Set w) q j) here
+            (ap (λ (es : List (Entry K V)). (es, bump b.writes)) (sym (rewrite-entries cmp total hash lawful b.plain_entries k w (bump b.writes) x up hd q))))
+        by_verdict (Some x) q asked Removed j g =
+            rw g
+            (decision_taken call (Pair (Some (pair_of_entry x))) _ k (rw q (record { said = refl; mode = refl; claim = refl; follows = has_decided hash call (Pair (Some (pair_of_entry x))) refl refl })) (unjudged call (Pair (Some (pair_of_entry x))) refl)
+            (allowed (Some x) Removed q j) refl)
+
     -- each call that decides there does what the machine's does
     pub decides : (c : Call K V F) (t : Task K V F) (k : K) (s : Stage K V F) (d : Live K V) → task_of_call c ≡ Some t → key_of c ≡ Some k → region.InRegion e i (hash k) → DecidesAt cmp gives (hash k) t e b s d → Decision cmp hash gives c b s d e i
     decides (Get j) t k s d task key here p = let same_task : t ≡ Finds TheValue j = cc in let same_key : k ≡ j = cc in finds_value j s d (rw (same_task, same_key) at p)
@@ -286,6 +316,7 @@ module _ {K V F : Type 0} (cmp : K → K → Ordering) (total : IsTotalOrder cmp
     decides (Insert j v) t k s d task key here p = let same_task : t ≡ Inserts j v = cc in let same_key : k ≡ j = cc in inserts j v s d (rw same_key at here) (rw (same_task, same_key) at p)
     decides (TryInsert j v) t k s d task key here p = let same_task : t ≡ Adds j v = cc in let same_key : k ≡ j = cc in adds j v s d (rw same_key at here) (rw (same_task, same_key) at p)
     decides (Compute j f) t k s d task key here p = let same_task : t ≡ Computes j f = cc in let same_key : k ≡ j = cc in computes j f s d (rw same_key at here) (rw (same_task, same_key) at p)
+    decides (Alter j may_add f) t k s d task key here p = let same_task : t ≡ Alters j may_add f = cc in let same_key : k ≡ j = cc in alters j may_add f s d (rw same_key at here) (rw (same_task, same_key) at p)
     decides (Remove j) t k s d task key here p = let same_task : t ≡ Removes TheValue j = cc in let same_key : k ≡ j = cc in removes_value j s d (rw (same_task, same_key) at p)
     decides (RemoveEntry j) t k s d task key here p = let same_task : t ≡ Removes ThePair j = cc in let same_key : k ≡ j = cc in removes_pair j s d (rw (same_task, same_key) at p)
     decides (RemoveSeen z) t k s d task key here p = let same_task : t ≡ RemovesSeen z = cc in let same_key : k ≡ z.key = cc in removes_seen z s d (rw (same_task, same_key) at p)
@@ -302,12 +333,21 @@ module _ {K V F : Type 0} (cmp : K → K → Ordering) (total : IsTotalOrder cmp
         let found : find cmp (pairs_of (machine_entries b.plain_entries)) k ≡ Some (p.1.0.0.1, p.1.0.1.0) = find-entries cmp total hash lawful b.plain_entries k hd ∙ ap (option_map (λ (x : PlainEntry K V). (x.0.1, x.1.0))) (p.1.1) in
         rw found (p.0, p.1.2)
 
+    alter_refused : (k : K) (may_add : Bool) (f : F) → (w : V) × slot.JudgesAt cmp gives f may_add b (hash k) k (Set w) → CanBeRefused cmp gives (Alter k may_add f) (pairs_of (machine_entries b.plain_entries))
+    alter_refused k may_add f p = rw (find-entries cmp total hash lawful b.plain_entries k hd) (by_found (entry_of_live cmp b (hash k) k) may_add (p.0) (p.1))
+      where
+        by_found : (x : Option (PlainEntry K V)) (add : Bool) (w : V) → Judges gives f k add (option_map pair_of_entry x) (Set w) → MatchOption (option_map pair_of_entry x) (IsTrue add) (λ y. (u : V) × gives f y.0 (Some y.1) (Set u))
+        by_found None true w j = refl
+        by_found None false w j = cc
+        by_found (Some x) add w j = (w, j)
+
     -- the machine's call can be refused there too
     pub refused : (c : Call K V F) (t : Task K V F) (k : K) → task_of_call c ≡ Some t → key_of c ≡ Some k → party.CanBeRefused cmp gives (hash k) t b → CanBeRefused cmp gives c (pairs_of (machine_entries b.plain_entries))
     refused (Get j) t k task key p = let same_task : t ≡ Finds TheValue j = cc in let same_key : k ≡ j = cc in present j (rw (same_task, same_key) at p)
     refused (GetKeyValue j) t k task key p = let same_task : t ≡ Finds ThePair j = cc in let same_key : k ≡ j = cc in present j (rw (same_task, same_key) at p)
     refused (ContainsKey j) t k task key p = let same_task : t ≡ Finds Presence j = cc in rw same_task at p
     refused (Compute j f) t k task key p = let same_task : t ≡ Computes j f = cc in let same_key : k ≡ j = cc in compute_refused j f (rw (same_task, same_key) at p)
+    refused (Alter j may_add f) t k task key p = let same_task : t ≡ Alters j may_add f = cc in let same_key : k ≡ j = cc in alter_refused j may_add f (rw (same_task, same_key) at p)
     refused (Remove j) t k task key p = let same_task : t ≡ Removes TheValue j = cc in rw same_task at p
     refused (RemoveEntry j) t k task key p = let same_task : t ≡ Removes ThePair j = cc in rw same_task at p
     refused (RemoveSeen z) t k task key p = let same_task : t ≡ RemovesSeen z = cc in rw same_task at p

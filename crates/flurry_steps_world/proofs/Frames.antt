@@ -23,6 +23,7 @@ use Rattle.flurry_steps_world.proofs.TableLaws.{board_in, board_at-put, board_at
 use Rattle.flurry_steps_world.proofs.StateLaws.{IsTransition, does_transition, get_set, same_some}
 use Rattle.std.proofs.lemmas.Option.{slice_get_within}
 use Rattle.flurry_base.specs.declared.sizes.TheConstants.{MAX_LABELS}
+use Rattle.flurry_base.specs.declared.verdict.Verdict.{Verdict}
 
 -- a count within so many labels is not cut off
 pub in_range : (z : ℤ) (n : ℕ) → n ≤ MAX_LABELS → z ≤ℤ pos (suc n) → neg_ℤ (pos (suc n)) ≤ℤ z → saturate_signed w64 z ≡ z
@@ -57,7 +58,7 @@ module _ {K V : Type 0} (hash : K → ℕ) where
     pub running : (e : ℕ) → b.growth ≡ Some e → IsSome (board_at t e)
     pub over : (e : ℕ) (d : PlainBoardState) → board_at t e ≡ Some d → (b.growth ≡ Some e → ⊥) → unclaimed_of d ≡ 0
 
-module _ {K V F S : Type 0} (cmp : K → K → Ordering) (hash : K → ℕ) (gives : F → K → V → Option V → Type 0) where
+module _ {K V F S : Type 0} (cmp : K → K → Ordering) (hash : K → ℕ) (gives : F → K → Option V → Verdict V → Type 0) where
   pub same_frame : (w : WorldState K V F S) → IsWorld cmp hash gives w → Frame hash w.control_state w.tables
   same_frame w k = record { hashed = k.hashed; control_state = k.control_state; tables = k.tables; no_table = k.no_table; next = k.next; running = k.running; over = k.over }
 

@@ -14,6 +14,7 @@ use Rattle.flurry_steps_theory.specs.Invariant.{IsParty, one_key}
 use Rattle.flurry_base.specs.declared.call.Call.{Call}
 use Rattle.flurry_base.specs.declared.call.Call.TheVariants as call
 use Rattle.flurry_base.specs.declared.sizes.TheConstants.{TABLES}
+use Rattle.flurry_base.specs.declared.verdict.Verdict.{Verdict}
 use Rattle.flurry_steps_world.specs.World.{PartyRecord, WorldState, state_of, steps_in, FollowsStage, IsWorld, history}
 use Rattle.flurry_steps_world.specs.Lawful.{IsLawful}
 use Rattle.flurry_steps_world.proofs.SweepLaws.{looks_not}
@@ -30,7 +31,7 @@ lookup_has_key c h = refl
 not_both : {b : Bool} → b ≡ true → b ≡ false → ⊥
 not_both h g = let no : true ≡ false = sym h ∙ g in cc
 
-module _ {K V F S : Type 0} (cmp : K → K → Ordering) (total : IsTotalOrder cmp) (hash : K → ℕ) (lawful : (j k : K) → same cmp j k ≡ true → hash j ≡ hash k) (gives : F → K → V → Option V → Type 0) (w : WorldState K V F S) (k : IsWorld cmp hash gives w) where
+module _ {K V F S : Type 0} (cmp : K → K → Ordering) (total : IsTotalOrder cmp) (hash : K → ℕ) (lawful : (j k : K) → same cmp j k ≡ true → hash j ≡ hash k) (gives : F → K → Option V → Verdict V → Type 0) (w : WorldState K V F S) (k : IsWorld cmp hash gives w) where
   module _ (p : ℕ) (x : PartyRecord K V F) (at : slice_get w.party_records p ≡ Some x) (lookup : is_lookup (Some x.call) ≡ true) (r : KeptReply K V) (decided : decision (history w) p ≡ Some r) (open_yet : has_replied (history w) p ≡ false) where
     ok : IsParty (state_of w) p
     ok = k.state.1.parties p

@@ -8,7 +8,7 @@ use Rattle.flurry_bins_slots.specs.Slot.{IsLive}
 use Rattle.std.proofs.lemmas.List.{set-get_or}
 use Rattle.flurry_steps_control.specs.Control.{ControlState, after_open, GrowthIsIn}
 use Rattle.flurry_steps_sweep.specs.Outcome.{OutcomeReply, OutcomeRefused}
-use Rattle.flurry_steps.specs.Party.{Task, Finds, Removes, RemovesSeen, Inserts, Adds, Computes, ForReserve, Stage, AtLocate, AtBin, AtGrow, AtReserve, AtDone, PartyState, reply_for, task_of_call}
+use Rattle.flurry_steps.specs.Party.{Task, Finds, Removes, RemovesSeen, Inserts, Adds, Computes, Alters, ForReserve, Stage, AtLocate, AtBin, AtGrow, AtReserve, AtDone, PartyState, reply_for, task_of_call}
 use Rattle.flurry_steps.specs.PartyControl.{OpensFor, LocatesNone, MakesFor, ReservesFor}
 use Rattle.flurry_steps_sweep.specs.declared.step.Event.{Event}
 use Rattle.flurry_steps_sweep.specs.declared.step.Event.TheVariants as event
@@ -30,6 +30,7 @@ use Rattle.flurry_steps_world.proofs.TableLaws.{content_at-made, AreTables-place
 use Rattle.flurry_steps_world.proofs.Frames.{same_growth, same_frame, running_on, over_on, IsStep}
 use Rattle.flurry_steps_world.proofs.Cases.{calls, in_mode, in_claim, settled}
 use Rattle.flurry_base.specs.declared.sizes.TheConstants.{MAX_TABLE}
+use Rattle.flurry_base.specs.declared.verdict.Verdict.{Verdict}
 
 -- a trace that publishes nothing began with nothing
 none_first : {K V F : Type 0} (first : Option ℕ) (t : List (Label K V F)) → published_in first t ≡ None → first ≡ None
@@ -44,7 +45,7 @@ idle_without None None h i = refl
 idle_without None (Some e) h i = let no : None ≡ Some e = i.0 in cc
 idle_without (Some e) g h i = cc
 
-module _ {K V F S : Type 0} (cmp : K → K → Ordering) (total : IsTotalOrder cmp) (hash : K → ℕ) (lawful : (j k : K) → same cmp j k ≡ true → hash j ≡ hash k) (gives : F → K → V → Option V → Type 0) (w : WorldState K V F S) (k : IsWorld cmp hash gives w) (p : ℕ) (x : PartyRecord K V F) (at : slice_get w.party_records p ≡ Some x) (c : PartyState K V F) where
+module _ {K V F S : Type 0} (cmp : K → K → Ordering) (total : IsTotalOrder cmp) (hash : K → ℕ) (lawful : (j k : K) → same cmp j k ≡ true → hash j ≡ hash k) (gives : F → K → Option V → Verdict V → Type 0) (w : WorldState K V F S) (k : IsWorld cmp hash gives w) (p : ℕ) (x : PartyRecord K V F) (at : slice_get w.party_records p ≡ Some x) (c : PartyState K V F) where
   -- a party that locates goes on at the published table
   pub finds : (s : Stage K V F) (e : ℕ) → x.party_state.stage ≡ s → mode_of_stage s ≡ Locating → held_of_stage s ≡ (None, None) → w.control_state.published ≡ Some e → mode_of_stage c.stage ≡ mode_at_table e x.call → held_of_stage c.stage ≡ (None, None) → FollowsStage hash x.call c.stage
       → IsStep cmp hash gives w p x w.control_state w.tables c (label.Silent p)
@@ -119,7 +120,7 @@ module _ {K V F S : Type 0} (cmp : K → K → Ordering) (total : IsTotalOrder c
   }
 
   module _ (ev : Event) (b : ControlState) (t' : Tables K V) where
-    -- an insertion without a table
+    -- a call that may add a pair, without a table
     opens_for : (t : Task K V F) → x.party_state.stage ≡ AtLocate t → w.control_state.published ≡ None → task_of_call x.call ≡ Some t → (AddsNothing t → ⊥) → OpensFor PlaceGives x.party_state.processors x.party_state.helped t w.control_state w.tables ev c.stage b t' → IsStep cmp hash gives w p x b t' c (label_of p ev c.stage)
     opens_for t f bare task adds h = by_event ev refl h
       where
@@ -145,6 +146,8 @@ module _ {K V F S : Type 0} (cmp : K → K → Ordering) (total : IsTotalOrder c
     locates_none (Inserts j v) f bare task h = opens_for (Inserts j v) f bare task (λ n. n) h
     locates_none (Adds j v) f bare task h = opens_for (Adds j v) f bare task (λ n. n) h
     locates_none (Computes j g) f bare task h = settled cmp total hash lawful gives w k p x at c ev event.Decide (AtDone (OutcomeReply (empty_reply (Computes j g)))) b w.control_state t' w.tables h.0 h.1 h.2 h.3 (decides_empty (Computes j g) f bare task tt h.1)
+    locates_none (Alters j true g) f bare task h = opens_for (Alters j true g) f bare task (λ n. n) h
+    locates_none (Alters j false g) f bare task h = settled cmp total hash lawful gives w k p x at c ev event.Decide (AtDone (OutcomeReply (empty_reply (Alters j false g)))) b w.control_state t' w.tables h.0 h.1 h.2 h.3 (decides_empty (Alters j false g) f bare task tt h.1)
 
     pub is_locating : (t : Task K V F) → x.party_state.stage ≡ AtLocate t → FollowsStage hash x.call (AtLocate t)
         → MatchOption w.control_state.published (LocatesNone PlaceGives x.party_state.processors x.party_state.helped t w.control_state w.tables ev c.stage b t') (λ e. (ev ≡ event.Silent) × (c.stage ≡ AtBin t e) × (b ≡ w.control_state) × (t' ≡ w.tables)) → IsStep cmp hash gives w p x b t' c (label_of p ev c.stage)

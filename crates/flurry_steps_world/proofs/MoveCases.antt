@@ -30,6 +30,7 @@ use Rattle.flurry_steps_world.proofs.HomeLaws.{low_unborn, high_unborn, unborn_c
 use Rattle.flurry_steps_world.proofs.ClaimCases.{helper_writes}
 use Rattle.flurry_steps_world.proofs.Frames.{same_growth, IsStep}
 use Rattle.flurry_steps_world.proofs.Cases.{in_mode, in_claim, no_lookup}
+use Rattle.flurry_base.specs.declared.verdict.Verdict.{Verdict}
 
 none_is_not_some : {e : ℕ} → None ≡ Some e → ⊥
 none_is_not_some h = cc
@@ -38,7 +39,7 @@ pub no_slots : {X : Type 0} (a b : List X) → length a ≡ length b → a ≡ [
 no_slots a [] h e = refl
 no_slots a (y ∷ b) h e = let none : length a ≡ 0 = ap length e in absurd (omega (arith, h, none))
 
-module _ {K V F S : Type 0} (cmp : K → K → Ordering) (total : IsTotalOrder cmp) (hash : K → ℕ) (lawful : (j k : K) → same cmp j k ≡ true → hash j ≡ hash k) (gives : F → K → V → Option V → Type 0) (w : WorldState K V F S) (k : IsWorld cmp hash gives w) (p : ℕ) (x : PartyRecord K V F) (at : slice_get w.party_records p ≡ Some x) (c : PartyState K V F) where
+module _ {K V F S : Type 0} (cmp : K → K → Ordering) (total : IsTotalOrder cmp) (hash : K → ℕ) (lawful : (j k : K) → same cmp j k ≡ true → hash j ≡ hash k) (gives : F → K → Option V → Verdict V → Type 0) (w : WorldState K V F S) (k : IsWorld cmp hash gives w) (p : ℕ) (x : PartyRecord K V F) (at : slice_get w.party_records p ≡ Some x) (c : PartyState K V F) where
   module _ (m : ClaimState) (a : Resume K V F) (f : x.party_state.stage ≡ AtHelp (Moving m) a) (had : FollowsResume x.call a) (e i : ℕ) (next : next_of m ≡ Some (e, i)) (q low high : SlotState K V)
       (q_at : place_at w.tables e i ≡ Some q) (low_at : place_at w.tables (e + 1) i ≡ Some low) (high_at : place_at w.tables (e + 1) (i + 2 ^ e) ≡ Some high) (inside : IsSlot cmp q) where
     abbrev plain_entries : machine.Claim

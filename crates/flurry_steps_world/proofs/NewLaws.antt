@@ -20,6 +20,7 @@ use Rattle.flurry_steps_world.specs.World.{state_of, mode_in, told_in, IsWorld}
 use Rattle.flurry_steps_world.specs.Steps.{fresh_world}
 use Rattle.flurry_steps_world.proofs.TableLaws.{AreTables-none, AreTables-made, content_at-made}
 use Rattle.flurry_base.specs.declared.sizes.TheConstants.{MAX_TABLE, TABLES}
+use Rattle.flurry_base.specs.declared.verdict.Verdict.{Verdict}
 
 no_board : (n e : ℕ) → get_or (replicate {A = Option PlainBoardState} n None) e None ≡ None
 no_board zero e = refl
@@ -49,7 +50,7 @@ module _ {K V : Type 0} where
   nothing : (d j : ℕ) → content_at (no_tables {K = K} {V = V}) d j ≡ IsUnborn
   nothing d j = ap (λ s. option_map_or (λ (p : SlotState K V). p.content) (slice_get s j) IsUnborn) (slots_of-none TABLES d)
 
-module _ {K V F S : Type 0} (cmp : K → K → Ordering) (total : IsTotalOrder cmp) (hash : K → ℕ) (lawful : (j k : K) → same cmp j k ≡ true → hash j ≡ hash k) (gives : F → K → V → Option V → Type 0) (hasher : S) (processors : ℕ) where
+module _ {K V F S : Type 0} (cmp : K → K → Ordering) (total : IsTotalOrder cmp) (hash : K → ℕ) (lawful : (j k : K) → same cmp j k ≡ true → hash j ≡ hash k) (gives : F → K → Option V → Verdict V → Type 0) (hasher : S) (processors : ℕ) where
   -- without a table
   pub new_without : IsWorld cmp hash gives (fresh_world {K = K} {V = V} {F = F} hasher processors None no_tables)
   new_without = record {

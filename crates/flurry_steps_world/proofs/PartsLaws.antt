@@ -17,8 +17,9 @@ use Rattle.flurry_steps_world.specs.Steps.{label_of, GoesOn, SweepStageStep, Sta
 use Rattle.flurry_steps_world.proofs.TableLaws.{place_in, index_within}
 use Rattle.flurry_steps_world.proofs.StateLaws.{same_some}
 use Rattle.flurry_base.specs.declared.sizes.TheConstants.{MAX_TABLE}
+use Rattle.flurry_base.specs.declared.verdict.Verdict.{Verdict}
 
-module _ {K V F : Type 0} (cmp : K → K → Ordering) (changes : F → K → V → Option V → Type 0) (c : PartyState K V F) (b : ControlState) (t : Tables K V) (are : AreTables t) (ev : Event) (c' : PartyState K V F) (b' : ControlState) (t' : Tables K V) where
+module _ {K V F : Type 0} (cmp : K → K → Ordering) (changes : F → K → Option V → Verdict V → Type 0) (c : PartyState K V F) (b : ControlState) (t : Tables K V) (are : AreTables t) (ev : Event) (c' : PartyState K V F) (b' : ControlState) (t' : Tables K V) where
   abbrev pub PartFieldStep : Type 0
   PartFieldStep = FieldStep PlaceGives cmp changes OwnLends (record { control_state = b; tables = t }) c ev (record { control_state = b'; tables = t' }) c'
 
@@ -79,7 +80,7 @@ no_halves {K} {V} t e i are (inr past) (here, low, high) = by_place (place_at t 
 
 -- ---- a field step over parts, as a step at these
 
-module _ {K V F R : Type 0} (place : R → ℕ → Option ℕ → Bool → R → Type 0) (cmp : K → K → Ordering) (changes : F → K → V → Option V → Type 0) (room : R → Tables K V) (places : (r : R) (e : ℕ) (g : Option ℕ) (ok : Bool) (r' : R) → place r e g ok r' → PlaceGives (room r) e g ok (room r')) (s s' : Parts K V) (c c' : PartyState K V F) (ev : Event) where
+module _ {K V F R : Type 0} (place : R → ℕ → Option ℕ → Bool → R → Type 0) (cmp : K → K → Ordering) (changes : F → K → Option V → Verdict V → Type 0) (room : R → Tables K V) (places : (r : R) (e : ℕ) (g : Option ℕ) (ok : Bool) (r' : R) → place r e g ok r' → PlaceGives (room r) e g ok (room r')) (s s' : Parts K V) (c c' : PartyState K V F) (ev : Event) where
   -- a step at a board, whichever of its parts is wanted
   board_part : (a : Part) (e : ℕ) → board_of a ≡ Some e → AtBoardOf e c s.control_state s.tables ev c' s'.control_state s'.tables → PartStep cmp changes a c s.control_state s.tables ev c' s'.control_state s'.tables
   board_part (SeatPart d) e is h = subst (λ n. AtBoardOf n c s.control_state s.tables ev c' s'.control_state s'.tables) (sym (same_some is)) h
@@ -98,7 +99,7 @@ module _ {K V F R : Type 0} (place : R → ℕ → Option ℕ → Bool → R →
   own_part (MoveLoan q low high q' low' high') i (x, xl, xh, y) (want, inside, h) = subst (λ z. PartStep cmp changes z c s.control_state s.tables ev c' s'.control_state s'.tables) (sym want) (q, low, high, q', low', high', x, xl, xh, inside, h, ap (λ z. z.control_state) y, ap (λ z. z.tables) y)
   own_part (BoardLoan e x) i (gives, same) (want, h) = board_part (wanted_part c) e want (x, h, gives, same)
 
-module _ {K V F : Type 0} (cmp : K → K → Ordering) (changes : F → K → V → Option V → Type 0) (p : ℕ) (c : PartyState K V F) (s : Parts K V) (ev : Event) (s' : Parts K V) (c' : PartyState K V F) where
+module _ {K V F : Type 0} (cmp : K → K → Ordering) (changes : F → K → Option V → Verdict V → Type 0) (p : ℕ) (c : PartyState K V F) (s : Parts K V) (ev : Event) (s' : Parts K V) (c' : PartyState K V F) where
   -- a field step over one owner's parts is what a world does in one step of a party
   pub step_of_turn : FieldStep PlaceGives cmp changes OwnLends s c ev s' c' → StageStep cmp changes p c.stage c s.control_state s.tables (label_of p ev c'.stage) c' s'.control_state s'.tables
   step_of_turn field_step = by_stage c.stage refl

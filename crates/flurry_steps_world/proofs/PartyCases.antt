@@ -8,7 +8,7 @@ use Rattle.flurry_bins_slots.specs.Slot.{SlotState, IsSlot, IsContent}
 use Rattle.flurry_steps_control.specs.Claim.{ClaimState, next_of}
 use Rattle.flurry_steps_control.specs.Control.{ControlState}
 use Rattle.flurry_steps_sweep.specs.Part.{ControlPart, LookPart, BinPart}
-use Rattle.flurry_steps.specs.Party.{Task, Finds, Removes, RemovesSeen, Inserts, Adds, Computes, Help, WantsSeat, AtBoard, Moving, Publishing, GivesBack, Resume, Stage, AtLocate, AtBin, AtHelp, AtUncount, AtCount, AtRecount, AtBegin, AtGrow, AtReserve, AtSweep, AtDone, AtTaken, PartyState, part_of, wanted_part, move_part, helped_table, IsSingle}
+use Rattle.flurry_steps.specs.Party.{Task, Finds, Removes, RemovesSeen, Inserts, Adds, Computes, Alters, Help, WantsSeat, AtBoard, Moving, Publishing, GivesBack, Resume, Stage, AtLocate, AtBin, AtHelp, AtUncount, AtCount, AtRecount, AtBegin, AtGrow, AtReserve, AtSweep, AtDone, AtTaken, PartyState, part_of, wanted_part, move_part, helped_table, IsSingle}
 use Rattle.flurry_steps.specs.PartyControl.{StageAtControl, ControlStep}
 use Rattle.flurry_steps.specs.PartySlots.{SlotStep, MoveGives, StageAtSlot}
 use Rattle.flurry_steps_sweep.specs.declared.step.Event.{Event}
@@ -26,6 +26,7 @@ use Rattle.flurry_steps_world.proofs.CountCases.{uncounts, counts_one, recounts,
 use Rattle.flurry_steps_world.proofs.ClaimCases.{helps_at, publishes}
 use Rattle.flurry_steps_world.proofs.SlotCases.{Put, at_bin_step}
 use Rattle.flurry_steps_world.proofs.MoveCases.{at_move, no_slots}
+use Rattle.flurry_base.specs.declared.verdict.Verdict.{Verdict}
 
 module _ {K V : Type 0} where
   -- tables with the same content at a slot
@@ -46,7 +47,7 @@ module _ {K V : Type 0} where
     no_table = λ d h. no_slots _ _ (sym (length_of_put_slots t e i q' d)) h;
   }
 
-module _ {K V F S : Type 0} (cmp : K → K → Ordering) (total : IsTotalOrder cmp) (hash : K → ℕ) (lawful : (j k : K) → same cmp j k ≡ true → hash j ≡ hash k) (gives : F → K → V → Option V → Type 0) (w : WorldState K V F S) (k : IsWorld cmp hash gives w) (near : Near (2 ^ 62) w.control_state.count) (p : ℕ) (x : PartyRecord K V F) (at : slice_get w.party_records p ≡ Some x) (c : PartyState K V F) (ev : Event) (b : ControlState) (t' : Tables K V) where
+module _ {K V F S : Type 0} (cmp : K → K → Ordering) (total : IsTotalOrder cmp) (hash : K → ℕ) (lawful : (j k : K) → same cmp j k ≡ true → hash j ≡ hash k) (gives : F → K → Option V → Verdict V → Type 0) (w : WorldState K V F S) (k : IsWorld cmp hash gives w) (near : Near (2 ^ 62) w.control_state.count) (p : ℕ) (x : PartyRecord K V F) (at : slice_get w.party_records p ≡ Some x) (c : PartyState K V F) (ev : Event) (b : ControlState) (t' : Tables K V) where
   -- the step, and that the hash stays
   pub record Taken : Type 0 where
     pub hash_stays : c.hash ≡ x.party_state.hash
@@ -114,6 +115,7 @@ module _ {K V F S : Type 0} (cmp : K → K → Ordering) (total : IsTotalOrder c
   by_stage (AtBin (Inserts j v) n) e single h = writes (Inserts j v) n e h
   by_stage (AtBin (Adds j v) n) e single h = writes (Adds j v) n e h
   by_stage (AtBin (Computes j g) n) e single h = writes (Computes j g) n e h
+  by_stage (AtBin (Alters j may_add g) n) e single h = writes (Alters j may_add g) n e h
   by_stage (AtHelp (WantsSeat n) a) e single h = helps (WantsSeat n) a e h
   by_stage (AtHelp (AtBoard n) a) e single h = helps (AtBoard n) a e h
   by_stage (AtHelp (Moving m) a) e single h = moves m a e (next_of m) refl h

@@ -12,6 +12,7 @@ use Rattle.flurry_steps.specs.PartySlots.{DecidesAt, LiveGives, ContentGives}
 use Rattle.flurry_steps_sweep.specs.declared.step.Event.{Event}
 use Rattle.flurry_steps_sweep.specs.declared.step.Event.TheVariants as event
 use Rattle.flurry_base.specs.OneKey.{key_of}
+use Rattle.flurry_base.specs.declared.verdict.Verdict.{Verdict}
 use Rattle.flurry_steps_theory.specs.Map.{same}
 use Rattle.flurry_steps_theory.specs.Machine.{Live, Looking, Decides, Passes, IsRefused, RefusedAt, update2}
 use Rattle.flurry_steps_theory.specs.Invariant.{is_live, key_in, writes_in, NamesNoUnborn}
@@ -46,7 +47,7 @@ put_nothing t e i c t' put stays d j = put.contents d j ∙ by_place (e == d) (i
     by_place true false g h = refl
     by_place false b g h = refl
 
-module _ {K V F S : Type 0} (cmp : K → K → Ordering) (total : IsTotalOrder cmp) (hash : K → ℕ) (lawful : (j k : K) → same cmp j k ≡ true → hash j ≡ hash k) (gives : F → K → V → Option V → Type 0) (w : WorldState K V F S) (k : IsWorld cmp hash gives w) (p : ℕ) (x : PartyRecord K V F) (at : slice_get w.party_records p ≡ Some x) (c : PartyState K V F) where
+module _ {K V F S : Type 0} (cmp : K → K → Ordering) (total : IsTotalOrder cmp) (hash : K → ℕ) (lawful : (j k : K) → same cmp j k ≡ true → hash j ≡ hash k) (gives : F → K → Option V → Verdict V → Type 0) (w : WorldState K V F S) (k : IsWorld cmp hash gives w) (p : ℕ) (x : PartyRecord K V F) (at : slice_get w.party_records p ≡ Some x) (c : PartyState K V F) where
   module _ (t : Task K V F) (e : ℕ) (f : x.party_state.stage ≡ AtBin t e) (task : task_of_call x.call ≡ Some t) (q : SlotState K V) (here : content_at w.tables e (x.party_state.hash % 2 ^ e) ≡ q.content) (inside : IsContent cmp e (x.party_state.hash % 2 ^ e) q.content) where
     looking : (state_of w).mode p ≡ Looking e
     looking = in_mode cmp total hash lawful gives w k p x at c (AtBin t e) f

@@ -7,6 +7,7 @@ use Rattle.std.proofs.lemmas.List.{reverse-append, length-set}
 use Rattle.std.proofs.lemmas.Option.{slice_get_within}
 use Rattle.flurry_steps_theory.specs.Machine.{State, Claim, Transition, update, effect, next_state, label, steps_after, Begins, Loses}
 use Rattle.flurry_base.specs.declared.call.Call.{Call}
+use Rattle.flurry_base.specs.declared.verdict.Verdict.{Verdict}
 use Rattle.flurry_steps_theory.specs.declared.Label.{Label}
 use Rattle.flurry_steps_control.specs.Control.{ControlState}
 use Rattle.flurry_steps.specs.Party.{Stage, PartyState, last_seen}
@@ -55,14 +56,14 @@ is_step (Begins c from) = false
 is_step Loses = false
 is_step l = true
 
-module _ {K V F : Type 0} (cmp : K → K → Ordering) (hash : K → ℕ) (gives : F → K → V → Option V → Type 0) where
+module _ {K V F : Type 0} (cmp : K → K → Ordering) (hash : K → ℕ) (gives : F → K → Option V → Verdict V → Type 0) where
   -- any other transition is one more step of its party
   pub one_more_step : (s : State K V F) (p n : ℕ) (c : Call K V F) (l : Transition K V F) → s.call p ≡ Some c → s.steps p ≡ n → is_step l ≡ true → steps_after cmp hash gives s p l ≡ suc n
   one_more_step s p n c (Begins d f) h k own = absurd (grind (arith, own))
   one_more_step s p n c Loses h k own = absurd (grind (arith, own))
   one_more_step s p n c l h k own = grind (arith, h, k)
 
-module _ {K V F S : Type 0} (cmp : K → K → Ordering) (hash : K → ℕ) (gives : F → K → V → Option V → Type 0) where
+module _ {K V F S : Type 0} (cmp : K → K → Ordering) (hash : K → ℕ) (gives : F → K → Option V → Verdict V → Type 0) where
   -- what a transition has to do, so that it is a step of party p that leaves the control b, the tables t and its call at c
   pub record IsTransition (w : WorldState K V F S) (p : ℕ) (b : ControlState) (t : Tables K V) (c : PartyState K V F) (lab : Label K V F) (l : Transition K V F) : Type 0 where
     pub label_is : lab ≡ label cmp hash gives p l

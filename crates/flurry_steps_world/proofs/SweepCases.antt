@@ -11,6 +11,7 @@ use Rattle.flurry_base.specs.HashOrder.{is_pair_past}
 use Rattle.flurry_base.specs.declared.call.Call.TheVariants as call
 use Rattle.flurry_base.specs.declared.call.Seen.{Seen}
 use Rattle.flurry_base.specs.declared.sizes.TheConstants.{MAX_LABELS}
+use Rattle.flurry_base.specs.declared.verdict.Verdict.{Verdict}
 use Rattle.flurry_bins_slots.specs.Slot as slots
 use Rattle.flurry_bins_slots.specs.Slot.{PlainEntry, Content, IsLive, HasMoved, IsUnborn, after_wipe}
 use Rattle.flurry_steps_control.specs.Control as control
@@ -51,7 +52,7 @@ use Rattle.flurry_steps_world.proofs.SweepLaws.{looks_not}
 use Rattle.flurry_steps_world.proofs.SweepModes.{begins_over, halved_frames, walked, cleared, owes_onward, walked_hashed, cleared_hashed, found_hashed, next_entry}
 use Rattle.flurry_steps_world.proofs.Cases.{calls, in_mode, in_claim}
 
-module _ {K V F S : Type 0} (cmp : K → K → Ordering) (total : IsTotalOrder cmp) (hash : K → ℕ) (lawful : (j k : K) → same cmp j k ≡ true → hash j ≡ hash k) (gives : F → K → V → Option V → Type 0) (w : WorldState K V F S) (k : IsWorld cmp hash gives w) (near : Near (2 ^ 62) w.control_state.count) (few : length w.trace ≤ MAX_LABELS) (p : ℕ) (x : PartyRecord K V F) (at : slice_get w.party_records p ≡ Some x) (c : PartyState K V F) (ev : Event) (b : ControlState) (t' : Tables K V) (u : SweepState K V) (e : x.party_state.stage ≡ AtSweep u) where
+module _ {K V F S : Type 0} (cmp : K → K → Ordering) (total : IsTotalOrder cmp) (hash : K → ℕ) (lawful : (j k : K) → same cmp j k ≡ true → hash j ≡ hash k) (gives : F → K → Option V → Verdict V → Type 0) (w : WorldState K V F S) (k : IsWorld cmp hash gives w) (near : Near (2 ^ 62) w.control_state.count) (few : length w.trace ≤ MAX_LABELS) (p : ℕ) (x : PartyRecord K V F) (at : slice_get w.party_records p ≡ Some x) (c : PartyState K V F) (ev : Event) (b : ControlState) (t' : Tables K V) (u : SweepState K V) (e : x.party_state.stage ≡ AtSweep u) where
   own : FollowsStage hash x.call (AtSweep u)
   own = subst (FollowsStage hash x.call) e (k.party_records p x at).stage
 

@@ -9,8 +9,9 @@ use Rattle.flurry_steps_control.specs.Claim.{ClaimState}
 use Rattle.flurry_steps_sweep.specs.Cursor.{CursorState}
 use Rattle.flurry_steps_sweep.specs.Sweep as swept
 use Rattle.flurry_steps_sweep.specs.Sweep.{SweepKind, Reads, Wipes, SweepStage, AtSweepStart, OverBins, AtTotal, AtEnd, AfterEnd, SweepState, IsUnderWay}
-use Rattle.flurry_steps.specs.Party.{Task, Finds, Removes, RemovesSeen, Inserts, Adds, Computes, Moving, Resume, Stage, AtBin, AtHelp, AtSweep, AtDone, AtTaken, part_of, wanted_part, bin_part, move_part}
+use Rattle.flurry_steps.specs.Party.{Task, Finds, Removes, RemovesSeen, Inserts, Adds, Computes, Alters, Moving, Resume, Stage, AtBin, AtHelp, AtSweep, AtDone, AtTaken, part_of, wanted_part, bin_part, move_part}
 use Rattle.flurry_base.specs.OneKey.{key_of}
+use Rattle.flurry_base.specs.declared.verdict.Verdict.{Verdict}
 use Rattle.flurry_steps_theory.specs.Map.{same}
 use Rattle.flurry_steps_theory.specs.Invariant.{is_live, key_in, NamesNoUnborn}
 use Rattle.flurry_steps_theory.proofs.Bins.{double}
@@ -27,7 +28,7 @@ use Rattle.flurry_steps_world.proofs.Cases.{calls, in_mode, in_claim}
 use Rattle.flurry_steps_world.proofs.ClaimCases.{growing_is}
 use Rattle.flurry_steps_world.proofs.StateLaws.{same_some}
 
-module _ {K V F S : Type 0} (cmp : K → K → Ordering) (total : IsTotalOrder cmp) (hash : K → ℕ) (lawful : (j k : K) → same cmp j k ≡ true → hash j ≡ hash k) (gives : F → K → V → Option V → Type 0) (w : WorldState K V F S) (k : IsWorld cmp hash gives w) (p : ℕ) (x : PartyRecord K V F) (at : slice_get w.party_records p ≡ Some x) where
+module _ {K V F S : Type 0} (cmp : K → K → Ordering) (total : IsTotalOrder cmp) (hash : K → ℕ) (lawful : (j k : K) → same cmp j k ≡ true → hash j ≡ hash k) (gives : F → K → Option V → Verdict V → Type 0) (w : WorldState K V F S) (k : IsWorld cmp hash gives w) (p : ℕ) (x : PartyRecord K V F) (at : slice_get w.party_records p ≡ Some x) where
   -- the bin of a party's key is not unborn
   pub bin_is_there : (t : Task K V F) (e : ℕ) → x.party_state.stage ≡ AtBin t e → content_at w.tables e (x.party_state.hash % 2 ^ e) ≡ IsUnborn → ⊥
   bin_is_there t e f unborn = by_key (key_of x.call) refl (key_of_task x.call t (subst (FollowsStage hash x.call) f (k.party_records p x at).stage))
@@ -48,6 +49,7 @@ module _ {K V F S : Type 0} (cmp : K → K → Ordering) (total : IsTotalOrder c
       by_task (Inserts j v) h = h
       by_task (Adds j v) h = h
       by_task (Computes j g) h = h
+      by_task (Alters j may_add g) h = h
 
   there_move : (m : ClaimState) (a : Resume K V F) → x.party_state.stage ≡ AtHelp (Moving m) a → (d : Bool) → nat_lt m.range.low m.left ≡ d → IsThere w.tables (move_part m.range.table (cond {A = Option (ℕ × ℕ)} d (Some (m.range.table, m.left - 1)) None))
   there_move m a f false h = tt

@@ -12,6 +12,7 @@ use Rattle.flurry_steps_theory.specs.Bin.{Entry, half}
 use Rattle.flurry_steps_theory.specs.Machine as machine
 use Rattle.flurry_steps_theory.specs.Machine.{Mode, Done, Live, Moved, Transition, total, owes_added, owes_removed, mode_after_count, update, update2, effect, next_state, goes, label, is_complete, with_report, Quiet, Counts, Finds, Opens, IsRefused, DecidesEmpty, Passes, Decides, Places, Claims, Moves, Reports, Publishes, Replies, Ends, found_by}
 use Rattle.flurry_base.specs.declared.call.Call.{Call}
+use Rattle.flurry_base.specs.declared.verdict.Verdict.{Verdict}
 use Rattle.flurry_steps_theory.specs.declared.Label.{Label}
 use Rattle.flurry_steps_theory.specs.declared.Label.TheVariants as label
 use Rattle.flurry_steps.specs.Party.{PartyState, last_seen}
@@ -33,7 +34,7 @@ own_settled f p m h q = through (p == q) refl
     through true e = sym h ∙ ap (λ n. mode_after_count (f n)) (eqb-true p q e)
     through false e = refl
 
-module _ {K V F S : Type 0} (cmp : K → K → Ordering) (hash : K → ℕ) (gives : F → K → V → Option V → Type 0) (w : WorldState K V F S) (p : ℕ) (x : PartyRecord K V F) (at : slice_get w.party_records p ≡ Some x) (c : PartyState K V F) where
+module _ {K V F S : Type 0} (cmp : K → K → Ordering) (hash : K → ℕ) (gives : F → K → Option V → Verdict V → Type 0) (w : WorldState K V F S) (p : ℕ) (x : PartyRecord K V F) (at : slice_get w.party_records p ≡ Some x) (c : PartyState K V F) where
   begun : (state_of w).call p ≡ Some x.call
   begun = ap (option_map (λ (z : PartyRecord K V F). z.call)) at
 

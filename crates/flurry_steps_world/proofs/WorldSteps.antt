@@ -25,6 +25,7 @@ use Rattle.flurry_steps_world.proofs.BeginLaws.{IsBeginning}
 use Rattle.flurry_steps_world.proofs.WorldLaws.{silent, silent_line, loses, loss_line, began, begin_line, stepped, one_line}
 use Rattle.flurry_steps_world.proofs.ThereLaws.{is_there}
 use Rattle.flurry_base.specs.declared.sizes.TheConstants.{MAX_LABELS}
+use Rattle.flurry_base.specs.declared.verdict.Verdict.{Verdict}
 
 -- keys that compare as equal are of one class
 pub alike_class : {K : Type 0} (cmp : K → K → Ordering) (hash : K → ℕ) → ((j k : K) → cmp j k ≡ Equal → hash j ≡ hash k) → (j k : K) → same cmp j k ≡ true → hash j ≡ hash k
@@ -39,7 +40,7 @@ alike_class cmp hash alike j k h = by_order (cmp j k) refl
 pub lent_at : {X : Type 0} (xs : List X) (p : ℕ) (x y : X) → p < length xs → x ≡ slice_index_or xs p x → y ≡ x → slice_get xs p ≡ Some y
 lent_at xs p x y l is shows = slice_get-get_or xs p x l ∙ ap Some (sym is ∙ sym shows)
 
-module _ {K V F S : Type 0} (cmp : K → K → Ordering) (total : IsTotalOrder cmp) (hash : K → ℕ) (alike : (j k : K) → cmp j k ≡ Equal → hash j ≡ hash k) (gives : F → K → V → Option V → Type 0) (w : WorldState K V F S) (k : IsBounded cmp hash gives w) where
+module _ {K V F S : Type 0} (cmp : K → K → Ordering) (total : IsTotalOrder cmp) (hash : K → ℕ) (alike : (j k : K) → cmp j k ≡ Equal → hash j ≡ hash k) (gives : F → K → Option V → Verdict V → Type 0) (w : WorldState K V F S) (k : IsBounded cmp hash gives w) where
   -- the count is at most as far from 0 as there are labels
   pub near : Near (2 ^ 62) w.control_state.count
   near =

@@ -3,6 +3,7 @@ use Rattle.std.specs.Prelude.{◌≡◌, ℕ, ◌+◌, pos, ◌+ℤ◌, ◌-ℤ�
 use Rattle.std.specs.declared.cmp.Ordering.{Ordering}
 use Rattle.flurry_base.specs.declared.reply.KeptReply.{KeptReply}
 use Rattle.flurry_base.specs.declared.sizes.TheConstants.{TABLES}
+use Rattle.flurry_base.specs.declared.verdict.Verdict.{Verdict}
 use Rattle.flurry_bins_slots.specs.Slot.{IsUnborn}
 use Rattle.flurry_steps_sweep.specs.Cursor.{CursorState}
 use Rattle.flurry_steps_sweep.specs.Outcome.{OutcomeReply}
@@ -14,7 +15,7 @@ use Rattle.flurry_steps_theory.specs.Legal.{EachMay, RemovalMay, Legal}
 use Rattle.flurry_steps_world.specs.Tables.{content_at}
 use Rattle.flurry_steps_world.specs.World.{PartyRecord, WorldState, mode_in, began_from_in, history}
 
-module _ {K V F S : Type 0} (cmp : K → K → Ordering) (hash : K → ℕ) (changes : F → K → V → Option V → Type 0) (w : WorldState K V F S) where
+module _ {K V F S : Type 0} (cmp : K → K → Ordering) (hash : K → ℕ) (changes : F → K → Option V → Verdict V → Type 0) (w : WorldState K V F S) where
   -- the pairs that the calls in progress have added, or removed, and not counted yet
   abbrev pub owed_added : ℕ
   owed_added = total (λ p. owes_added (mode_in (slice_get w.party_records p))) (length w.party_records)

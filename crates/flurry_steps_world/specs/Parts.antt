@@ -14,6 +14,7 @@ use Rattle.flurry_steps.specs.PartyControl.{ControlStep}
 use Rattle.flurry_steps.specs.PartySlots.{SlotStep, MoveStep}
 use Rattle.flurry_steps_sweep.specs.declared.step.Event.{Event}
 use Rattle.flurry_steps_world.specs.Tables.{Tables, no_tables, place_at, content_at, put_place, board_at, put_board, PlaceGives}
+use Rattle.flurry_base.specs.declared.verdict.Verdict.{Verdict}
 
 -- all parts of a map
 pub record Parts (K V : Type 0) : Type 0 where
@@ -52,7 +53,7 @@ BoardGives e TakenBack t t' = MatchOption (board_at t e) (t' ≡ t) (λ d. t' �
 abbrev pub AtBoardOf : {K V F : Type 0} → ℕ → PartyState K V F → ControlState → Tables K V → Event → PartyState K V F → ControlState → Tables K V → Type 0
 AtBoardOf e c b t ev c' b' t' = (x : BoardAnswer) × BoardStep c x ev c' × BoardGives e x t t' × (b' ≡ b)
 
-module _ {K V F : Type 0} (cmp : K → K → Ordering) (changes : F → K → V → Option V → Type 0) where
+module _ {K V F : Type 0} (cmp : K → K → Ordering) (changes : F → K → Option V → Verdict V → Type 0) where
   -- The call c does its step at that part, of the control b and the tables t, with that event. Every other part stays.
   abbrev pub PartStep : Part → PartyState K V F → ControlState → Tables K V → Event → PartyState K V F → ControlState → Tables K V → Type 0
   PartStep ControlPart c b t ev c' b' t' = ControlStep PlaceGives c b t ev c' b' t'

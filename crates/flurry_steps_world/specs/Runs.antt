@@ -14,14 +14,15 @@ use Rattle.flurry_steps_world.specs.Steps.{fresh_world, with_party_record, World
 use Rattle.flurry_steps_world.specs.declared.world.Step.{Step}
 use Rattle.flurry_steps_world.specs.declared.world.Step.TheVariants as step
 use Rattle.flurry_base.specs.declared.sizes.TheConstants.{MAX_TABLE}
+use Rattle.flurry_base.specs.declared.verdict.Verdict.{Verdict}
 
 module _ {K V F : Type 0} where
   -- the function of a call that begins, if it has one, may be called
-  abbrev pub StepIsReady : (F → Type 0) → Step K V F → Type 0
-  StepIsReady ready (step.Begin c) = OwnedIsReady ready c
-  StepIsReady ready (step.Drop p) = ⊤
-  StepIsReady ready (step.Step p) = ⊤
-  StepIsReady ready (step.Lose p) = ⊤
+  abbrev pub StepIsReady : (F → Type 0) → (F → Type 0) → Step K V F → Type 0
+  StepIsReady can_change never_keeps (step.Begin c) = OwnedIsReady can_change never_keeps c
+  StepIsReady can_change never_keeps (step.Drop p) = ⊤
+  StepIsReady can_change never_keeps (step.Step p) = ⊤
+  StepIsReady can_change never_keeps (step.Lose p) = ⊤
 
 module _ {K V F S : Type 0} where
   -- no table for no pairs, else one of the wanted number of bins, which are live and empty
@@ -42,7 +43,7 @@ module _ {K V F S : Type 0} where
   abbrev pub Drops : (K → ℕ) → WorldState K V F S → ℕ → Option ℕ → WorldState K V F S → Type 0
   Drops hash w p q v = MatchOption (seen_in (slice_get w.party_records p)) ((q ≡ None) × (v ≡ w)) (λ z. (q ≡ Some (length w.party_records)) × (v ≡ begun_to_drop hash w p z))
 
-  module _ (cmp : K → K → Ordering) (hash : K → ℕ) (changes : F → K → V → Option V → Type 0) where
+  module _ (cmp : K → K → Ordering) (hash : K → ℕ) (changes : F → K → Option V → Verdict V → Type 0) where
     -- one step of a list
     abbrev pub DoesStep : Step K V F → WorldState K V F S → WorldState K V F S → Type 0
     DoesStep (step.Begin c) w v = v ≡ begun_with hash w c

@@ -10,6 +10,7 @@ use Rattle.flurry_steps_sweep.specs.declared.step.Event.{Event}
 use Rattle.flurry_steps_sweep.specs.declared.step.Event.TheVariants.{Decide, Read, Wipe, Refused, Opened, Placed, Moved, Published, Silent}
 use Rattle.flurry_base.specs.declared.call.Call.{Call}
 use Rattle.flurry_base.specs.declared.call.Seen.{Seen}
+use Rattle.flurry_base.specs.declared.verdict.Verdict.{Verdict}
 use Rattle.flurry_steps_theory.specs.declared.Label.{Label}
 use Rattle.flurry_steps_theory.specs.declared.Label.TheVariants as label
 use Rattle.flurry_steps_world.specs.Tables.{Tables}
@@ -45,7 +46,7 @@ module _ {K V F : Type 0} where
   closing_label p OutcomeEnded = label.End p
   closing_label p OutcomeRefused = label.Silent p
 
-  module _ (cmp : K → K → Ordering) (changes : F → K → V → Option V → Type 0) (p : ℕ) where
+  module _ (cmp : K → K → Ordering) (changes : F → K → Option V → Verdict V → Type 0) (p : ℕ) where
     -- party p does its step at the part that it wants
     pub record GoesOn (c : PartyState K V F) (b : ControlState) (t : Tables K V) (l : Label K V F) (c' : PartyState K V F) (b' : ControlState) (t' : Tables K V) : Type 0 where
       pub event : Event
@@ -131,7 +132,7 @@ module _ {K V F S : Type 0} where
     trace = w.trace ++ l ∷ [];
   }
 
-  module _ (cmp : K → K → Ordering) (changes : F → K → V → Option V → Type 0) where
+  module _ (cmp : K → K → Ordering) (changes : F → K → Option V → Verdict V → Type 0) where
     -- a step of party p, which is x: everything beside its call, the control and the tables stays, and there is one more label
     pub record RecordStep (w : WorldState K V F S) (p : ℕ) (x : PartyRecord K V F) (w' : WorldState K V F S) : Type 0 where
       pub step_label : Label K V F

@@ -25,6 +25,7 @@ use Rattle.flurry_steps_theory.specs.declared.Label.TheVariants as label
 use Rattle.flurry_steps_world.specs.Entries.{slot_of, IsHashed}
 use Rattle.flurry_steps_world.specs.Tables.{Tables, AreTables, slots_of, content_at, board_at}
 use Rattle.flurry_base.specs.declared.sizes.TheConstants.{MAX_LABELS}
+use Rattle.flurry_base.specs.declared.verdict.Verdict.{Verdict}
 
 -- a call that began, the walk with whose last read it began, if it is a removal of that pair, where it stands, and how many steps it has
 -- done
@@ -286,7 +287,7 @@ module _ {K V F : Type 0} where
     pub own_hash : (k : K) → key_of x.call ≡ Some k → x.party_state.hash ≡ hash k
     pub stage : FollowsStage hash x.call x.party_state.stage
 
-  module _ {S : Type 0} (cmp : K → K → Ordering) (hash : K → ℕ) (gives : F → K → V → Option V → Type 0) where
+  module _ {S : Type 0} (cmp : K → K → Ordering) (hash : K → ℕ) (gives : F → K → Option V → Verdict V → Type 0) where
     -- The machine's invariant holds of it; its calls stand where calls of their kind can stand; each entry has its key's hash; there is no
     -- table before one is published, and the next one, with its board, while the published one is moved; and no other board has bins that
     -- are left to claim.

@@ -76,6 +76,16 @@ pub(crate) fn plain_of_owned<K, V, F>(call: OwnedCall<K, V, F>) -> Call<K, V, F>
         OwnedCall::Insert(key, value) => Call::Insert(key, value),
         OwnedCall::TryInsert(key, value) => Call::TryInsert(key, value),
         OwnedCall::Compute(key, f) => Call::Compute(key, f),
+        OwnedCall::Alter(key, f) => Call::Alter {
+            key,
+            may_add: true,
+            f,
+        },
+        OwnedCall::AlterPresent(key, f) => Call::Alter {
+            key,
+            may_add: false,
+            f,
+        },
         OwnedCall::Reserve(more) => Call::Reserve(more),
         OwnedCall::Clear => Call::Clear,
         OwnedCall::Walk => Call::Walk,

@@ -27,6 +27,10 @@ fn kept<K: Copy + Drop, V: Copy + Drop, A: Allocator>(
         Reply::Pair(Some((key, value))) => Some(KeptReply::Pair(Some((**key, **value)))),
         Reply::Contains(there) => Some(KeptReply::Contains(*there)),
         Reply::New(value) => Some(KeptReply::New(**value)),
+        Reply::Changed { new, old } => Some(KeptReply::Changed {
+            new: **new,
+            old: **old,
+        }),
         Reply::Exists(error) => Some(KeptReply::Exists {
             current: *error.current,
             not_inserted: error.not_inserted,

@@ -153,7 +153,7 @@ impl<
     /// Returns [`AllocError`] if memory for the party or its label cannot be allocated, or if the world has [`MAX_LABELS`] labels. The
     /// world is unchanged, and the call is dropped.
     pub fn begin(&mut self, call: OwnedCall<K, V, F>) -> Result<usize, AllocError>
-        requires { OwnedIsReady F.can_change call }
+        requires { OwnedIsReady F.can_change F.never_keeps call }
         ensures party { IfOk result (λ p. p ≡ length self.old.party_records) }
         ensures ok { OnOk result (self.new ≡ begun_with (S.hash_of self.old.hasher) self.old call) }
         ensures transition { IfOk result
@@ -282,7 +282,7 @@ impl<
     /// world has [`MAX_LABELS`] labels. Then the steps before the one that failed have been done, and the world is as it was after the
     /// last of their labels.
     pub fn run(&mut self, steps: Vec<Step<K, V, F>, A>) -> Result<(), AllocError>
-        requires { All (StepIsReady F.can_change) steps.items }
+        requires { All (StepIsReady F.can_change F.never_keeps) steps.items }
         ensures ok { OnOk result (Runs K.cmp (S.hash_of self.old.hasher) F.changes steps.items self.old self.new) }
         ensures lawful { OnOk result (IsLawful K.cmp (S.hash_of self.old.hasher) F.changes self.new) }
         ensures err { OnErr result
@@ -297,7 +297,7 @@ impl<
     }
 
     fn do_step(&mut self, step: Step<K, V, F>) -> Result<(), AllocError>
-        requires { StepIsReady F.can_change step }
+        requires { StepIsReady F.can_change F.never_keeps step }
         ensures ok { OnOk result (DoesStep K.cmp (S.hash_of self.old.hasher) F.changes step self.old self.new) }
         ensures hasher { self.new.hasher ≡ self.old.hasher }
         ensures err { OnErr result (self.new ≡ self.old) }

@@ -1,6 +1,7 @@
 //! Tests of the shared map, and what they share.
 
 mod calls;
+mod change;
 mod order;
 mod owned;
 mod refused;

@@ -56,6 +56,10 @@ fn without_owners<A: Allocator>(reply: Reply<u64, u64, A>) -> Plain {
         Reply::Pair(Some((key, value))) => KeptReply::Pair(Some((*key, *value))),
         Reply::Contains(there) => KeptReply::Contains(there),
         Reply::New(value) => KeptReply::New(*value),
+        Reply::Changed { new, old } => KeptReply::Changed {
+            new: *new,
+            old: *old,
+        },
         Reply::Exists(error) => KeptReply::Exists {
             current: *error.current,
             not_inserted: error.not_inserted,
@@ -72,7 +76,7 @@ fn reply_of<F: ComputeFn<u64, u64>, A: Allocator + Copy, X: Field<u64, u64, A>, 
     field: &mut X,
     call: OwnedCall<u64, u64, F>,
 ) -> Plain
-    requires { (f : F) → F.can_change f }
+    requires { (f : F) → F.can_change f × F.never_keeps f }
 {
     let hash = hash_for(&LowHashBuilder, &call);
     let mut party = Party::from_owned(call, hash, 1);
@@ -101,7 +105,7 @@ fn does_all<
     X: Field<u64, u64, A>,
     R: Wait + Abort,
 >(rt: &R, field: &mut X, rows: &[Do<F>])
-    requires { (f : F) → F.can_change f }
+    requires { (f : F) → F.can_change f × F.never_keeps f }
 {
     for (at, row) in rows.iter().enumerate() {
         match row {
@@ -119,7 +123,7 @@ fn puts<F: ComputeFn<u64, u64>, A: Allocator + Copy, X: Field<u64, u64, A>, R: W
     at: usize,
     end: u64,
 )
-    requires { (f : F) → F.can_change f }
+    requires { (f : F) → F.can_change f × F.never_keeps f }
 {
     for key in 0..end {
         let put: OwnedCall<u64, u64, F> = OwnedCall::Insert(key, key);
@@ -135,7 +139,7 @@ fn finds<F: ComputeFn<u64, u64>, A: Allocator + Copy, X: Field<u64, u64, A>, R: 
     end: u64,
     there: bool,
 )
-    requires { (f : F) → F.can_change f }
+    requires { (f : F) → F.can_change f × F.never_keeps f }
 {
     for key in first..end {
         let found = if there { Some(key) } else { None };
@@ -150,7 +154,7 @@ fn over_own_parts<F: ComputeFn<u64, u64> + Copy, R: Wait + Abort>(
     alloc: Global,
     rows: &[Do<F>],
 ) -> (usize, Option<u8>)
-    requires { (f : F) → F.can_change f }
+    requires { (f : F) → F.can_change f × F.never_keeps f }
 {
     let mut parts: Parts<u64, u64> = Parts::new(alloc).expect(rt, "memory for the parts");
     does_all(rt, &mut parts, rows);
@@ -164,7 +168,7 @@ fn over_a_published_table<F: ComputeFn<u64, u64> + Copy, R: Wait + Abort>(
     alloc: Global,
     rows: &[Do<F>],
 )
-    requires { (f : F) → F.can_change f }
+    requires { (f : F) → F.can_change f × F.never_keeps f }
 {
     let mut parts: Parts<u64, u64> = Parts::new(alloc).expect(rt, "memory for the parts");
     parts.open(4).expect(rt, "memory for the table");

@@ -123,7 +123,7 @@ fn begin<'k, F: ComputeFn<u64, u64> + Copy>(
     world: &mut Numbers<'k, F>,
     call: OwnedCall<u64, u64, F>,
 ) -> usize
-    requires { (f : F) → F.can_change f }
+    requires { (f : F) → F.can_change f × F.never_keeps f }
 {
     world.begin(call).expect(rt, "memory for the call")
 }
@@ -136,7 +136,7 @@ fn assert_call<'k, F: ComputeFn<u64, u64> + Copy>(
     call: OwnedCall<u64, u64, F>,
     lines: &[Line],
 )
-    requires { (f : F) → F.can_change f }
+    requires { (f : F) → F.can_change f × F.never_keeps f }
 {
     assert_same(rt, begin(rt, world, call), party);
     assert_same(rt, last_line(rt, world), Line::Begin(party));
@@ -165,7 +165,7 @@ fn assert_reply<'k, F: ComputeFn<u64, u64> + Copy>(
     call: OwnedCall<u64, u64, F>,
     reply: KeptReply<u64, u64>,
 )
-    requires { (f : F) → F.can_change f }
+    requires { (f : F) → F.can_change f × F.never_keeps f }
 {
     let party = begin(rt, world, call);
     assert_same(rt, end_of(rt, world, party), Line::Reply(party, reply));

@@ -40,39 +40,23 @@ impl Limiter {
     ) -> Result<bool, AllocError> {
         let key = String::from_str(alloc, key)?;
         let rules = self.rules;
-        for _ in rt.forever() {
-            if let Some(is_granted) = self.take(rt, &key, now)? {
-                self.granted
-                    .fetch_add(u64::from(is_granted), Ordering::SeqCst);
-                return Ok(is_granted);
-            }
-            // If another thread evicts the bucket before a token is taken, it is inserted again.
-            self.buckets
-                .get_or_insert_with(rt, key.clone()?, move |_key: &String| -> Bucket {
-                    Bucket::full(rules, now)
-                })?;
-        }
-        unreachable!()
-    }
-
-    // Takes a token of `key` if it has a bucket, and returns `true` if there was one, or `None` if the key has no bucket.
-    fn take<R: Wait>(&self, rt: &R, key: &String, now: u64) -> Result<Option<bool>, AllocError> {
-        let mut is_taken = false;
-        let taken = &mut is_taken;
-        let bucket = self.buckets.compute_if_present(
+        let mut is_granted = false;
+        let granted = &mut is_granted;
+        self.buckets.compute(
             rt,
             key,
-            move |_key: &String, bucket: &Bucket| -> Option<Bucket> {
-                let mut bucket = bucket.at(now);
-                *taken = bucket.take();
+            move |_key: &String, bucket: Option<&Bucket>| -> Option<Bucket> {
+                let mut bucket = match bucket {
+                    Some(bucket) => bucket.at(now),
+                    None => Bucket::full(rules, now),
+                };
+                *granted = bucket.take();
                 Some(bucket)
             },
         )?;
-        Ok(if bucket.is_some() {
-            Some(is_taken)
-        } else {
-            None
-        })
+        self.granted
+            .fetch_add(u64::from(is_granted), Ordering::SeqCst);
+        Ok(is_granted)
     }
 
     /// Removes the buckets that are full at the time `now`. Since a new bucket is full too, no key gets more tokens by that.

@@ -1,6 +1,6 @@
 //! The examples of the shared map's doc comments.
 
-use flurry::HashMap;
+use flurry::{Change, HashMap};
 use std::test::Fail;
 
 #[test]
@@ -165,5 +165,84 @@ fn get_or_insert_with(rt: HostRuntime) -> Result<(), Fail> {
     assert_eq!(rt; *new, 38);
     let present = map.get_or_insert_with(&rt, 37, |_key: &u64| -> u64 { 0 })?;
     assert_eq!(rt; *present, 38);
+    Ok(())
+}
+
+#[test]
+fn compute(rt: HostRuntime) -> Result<(), Fail> {
+    let map: HashMap<u64, u64> = HashMap::new(rt.alloc());
+    for _ in 0..3 {
+        map.compute(&rt, 37, |_key: &u64, old: Option<&u64>| -> Option<u64> {
+            match old {
+                Some(count) => count.checked_add(1),
+                None => Some(1),
+            }
+        })?;
+    }
+    assert_eq!(rt; map.get(&rt, &37)?.map(|count| *count), Some(3));
+
+    // `None` removes the pair
+    let change = map.compute(&rt, 37, |_key: &u64, _old: Option<&u64>| -> Option<u64> {
+        None
+    })?;
+    assert!(rt; matches!(change, Change::Removed(_)));
+    assert!(rt; map.is_empty(&rt));
+    Ok(())
+}
+
+#[test]
+fn merge(rt: HostRuntime) -> Result<(), Fail> {
+    let map: HashMap<u64, u64> = HashMap::new(rt.alloc());
+    for amount in [20, 22] {
+        map.merge(&rt, 37, amount, |old: &u64, new: u64| -> Option<u64> {
+            old.checked_add(new)
+        })?;
+    }
+    assert_eq!(rt; map.get(&rt, &37)?.map(|sum| *sum), Some(42));
+    Ok(())
+}
+
+#[test]
+fn update(rt: HostRuntime) -> Result<(), Fail> {
+    let map: HashMap<u64, u64> = HashMap::new(rt.alloc());
+    map.insert(&rt, 37, 1)?;
+    let new = map.update(&rt, &37, |key: &u64, _value: &u64| -> u64 { *key / 2 })?;
+    assert_eq!(rt; new.map(|new| *new), Some(18));
+    let absent = map.update(&rt, &38, |_key: &u64, value: &u64| -> u64 { *value })?;
+    assert!(rt; absent.is_none());
+    Ok(())
+}
+
+#[test]
+fn remove_if(rt: HostRuntime) -> Result<(), Fail> {
+    let map: HashMap<u64, u64> = HashMap::new(rt.alloc());
+    map.insert(&rt, 37, 1)?;
+    let kept = map.remove_if(&rt, &37, |_key: &u64, value: &u64| -> bool { *value > 1 });
+    assert!(rt; kept.is_none());
+    let removed = map.remove_if(&rt, &37, |_key: &u64, value: &u64| -> bool { *value == 1 });
+    assert_eq!(rt; removed.map(|value| *value), Some(1));
+    assert!(rt; map.is_empty(&rt));
+    Ok(())
+}
+
+#[test]
+fn replace_if(rt: HostRuntime) -> Result<(), Fail> {
+    let map: HashMap<u64, u64> = HashMap::new(rt.alloc());
+    map.insert(&rt, 37, 1)?;
+    let old = map.replace_if(
+        &rt,
+        &37,
+        |_key: &u64, value: &u64| -> bool { *value == 1 },
+        2,
+    )?;
+    assert_eq!(rt; old.map(|old| *old), Some(1));
+    let kept = map.replace_if(
+        &rt,
+        &37,
+        |_key: &u64, value: &u64| -> bool { *value == 1 },
+        3,
+    )?;
+    assert!(rt; kept.is_none());
+    assert_eq!(rt; map.get(&rt, &37)?.map(|value| *value), Some(2));
     Ok(())
 }

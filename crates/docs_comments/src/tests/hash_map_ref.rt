@@ -1,6 +1,6 @@
 //! The examples of the shared map's view.
 
-use flurry::HashMap;
+use flurry::{Change, HashMap};
 use std::test::Fail;
 
 #[test]
@@ -136,5 +136,77 @@ fn get_or_insert_with(rt: HostRuntime) -> Result<(), Fail> {
     assert_eq!(rt; *new, 38);
     let present = view.get_or_insert_with(37, |_key: &u64| -> u64 { 0 })?;
     assert_eq!(rt; *present, 38);
+    Ok(())
+}
+
+#[test]
+fn compute(rt: HostRuntime) -> Result<(), Fail> {
+    let map: HashMap<u64, u64> = HashMap::new(rt.alloc());
+    let view = map.pin(&rt);
+    for _ in 0..3 {
+        view.compute(37, |_key: &u64, old: Option<&u64>| -> Option<u64> {
+            match old {
+                Some(count) => count.checked_add(1),
+                None => Some(1),
+            }
+        })?;
+    }
+    assert_eq!(rt; view.get(&37)?.map(|count| *count), Some(3));
+
+    // `None` removes the pair
+    let change = view.compute(37, |_key: &u64, _old: Option<&u64>| -> Option<u64> { None })?;
+    assert!(rt; matches!(change, Change::Removed(_)));
+    assert!(rt; view.is_empty());
+    Ok(())
+}
+
+#[test]
+fn merge(rt: HostRuntime) -> Result<(), Fail> {
+    let map: HashMap<u64, u64> = HashMap::new(rt.alloc());
+    let view = map.pin(&rt);
+    for amount in [20, 22] {
+        view.merge(37, amount, |old: &u64, new: u64| -> Option<u64> {
+            old.checked_add(new)
+        })?;
+    }
+    assert_eq!(rt; view.get(&37)?.map(|sum| *sum), Some(42));
+    Ok(())
+}
+
+#[test]
+fn update(rt: HostRuntime) -> Result<(), Fail> {
+    let map: HashMap<u64, u64> = HashMap::new(rt.alloc());
+    let view = map.pin(&rt);
+    view.insert(37, 1)?;
+    let new = view.update(&37, |key: &u64, _value: &u64| -> u64 { *key / 2 })?;
+    assert_eq!(rt; new.map(|new| *new), Some(18));
+    let absent = view.update(&38, |_key: &u64, value: &u64| -> u64 { *value })?;
+    assert!(rt; absent.is_none());
+    Ok(())
+}
+
+#[test]
+fn remove_if(rt: HostRuntime) -> Result<(), Fail> {
+    let map: HashMap<u64, u64> = HashMap::new(rt.alloc());
+    let view = map.pin(&rt);
+    view.insert(37, 1)?;
+    let kept = view.remove_if(&37, |_key: &u64, value: &u64| -> bool { *value > 1 });
+    assert!(rt; kept.is_none());
+    let removed = view.remove_if(&37, |_key: &u64, value: &u64| -> bool { *value == 1 });
+    assert_eq!(rt; removed.map(|value| *value), Some(1));
+    assert!(rt; view.is_empty());
+    Ok(())
+}
+
+#[test]
+fn replace_if(rt: HostRuntime) -> Result<(), Fail> {
+    let map: HashMap<u64, u64> = HashMap::new(rt.alloc());
+    let view = map.pin(&rt);
+    view.insert(37, 1)?;
+    let old = view.replace_if(&37, |_key: &u64, value: &u64| -> bool { *value == 1 }, 2)?;
+    assert_eq!(rt; old.map(|old| *old), Some(1));
+    let kept = view.replace_if(&37, |_key: &u64, value: &u64| -> bool { *value == 1 }, 3)?;
+    assert!(rt; kept.is_none());
+    assert_eq!(rt; view.get(&37)?.map(|value| *value), Some(2));
     Ok(())
 }

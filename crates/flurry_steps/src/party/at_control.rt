@@ -26,8 +26,8 @@ pub(super) fn step_control<'k, K: Drop, V: Drop, F: ComputeFn<K, V>, A: Allocato
     room: &mut R,
 ) -> (Stage<'k, K, V, F, A>, Event)
     requires part { IsAtControl (stage_of stage) }
-    requires callable { StageIsReady F.can_change (stage_of stage) }
-    ensures ready { StageIsReady F.can_change (stage_of result.0) }
+    requires callable { StageIsReady F.can_change F.never_keeps (stage_of stage) }
+    ensures ready { StageIsReady F.can_change F.never_keeps (stage_of result.0) }
     ensures step { StageAtControl R.place_gives processors helped (stage_of stage.entry) control.old room.old result.1
         (stage_of result.0) control.new room.new }
 {
@@ -63,8 +63,8 @@ fn locate<'k, K: Drop, V: Drop, F: ComputeFn<K, V>, A: Allocator, R: Room>(
     control: &mut Control,
     room: &mut R,
 ) -> (Stage<'k, K, V, F, A>, Event)
-    requires { TaskIsReady F.can_change (task_of task) }
-    ensures ready { StageIsReady F.can_change (stage_of result.0) }
+    requires { TaskIsReady F.can_change F.never_keeps (task_of task) }
+    ensures ready { StageIsReady F.can_change F.never_keeps (stage_of result.0) }
     ensures step { StageAtControl R.place_gives 0 None (AtLocate (task_of task.entry)) control.old room.old result.1
         (stage_of result.0) control.new room.new }
 {
@@ -76,6 +76,7 @@ fn locate<'k, K: Drop, V: Drop, F: ComputeFn<K, V>, A: Allocator, R: Room>(
         Task::Remove(form, _) => (Stage::Done(absent_reply(form)), Event::Decide),
         Task::RemoveSeen(_) => (Stage::Done(Reply::Value(None)), Event::Decide),
         Task::Compute(_, _) => (Stage::Done(Reply::Value(None)), Event::Decide),
+        Task::AlterPresent(_, _) => (Stage::Done(Reply::Contains(false)), Event::Decide),
         Task::Insert(key, value) => match control.open(FIRST_TABLE, room) {
             Ok(table) => (
                 Stage::Bin(Task::Insert(key, value), table),
@@ -90,6 +91,10 @@ fn locate<'k, K: Drop, V: Drop, F: ComputeFn<K, V>, A: Allocator, R: Room>(
             ),
             Err(_) => (Stage::Done(Reply::Refused), Event::Refused),
         },
+        Task::Alter(key, f) => match control.open(FIRST_TABLE, room) {
+            Ok(table) => (Stage::Bin(Task::Alter(key, f), table), Event::Opened(table)),
+            Err(_) => (Stage::Done(Reply::Refused), Event::Refused),
+        },
     }
 }
 
@@ -98,7 +103,7 @@ fn reserve<'k, K, V, F: ComputeFn<K, V>, A: Allocator, R: Room>(
     control: &mut Control,
     room: &mut R,
 ) -> (Stage<'k, K, V, F, A>, Event)
-    ensures ready { StageIsReady F.can_change (stage_of result.0) }
+    ensures ready { StageIsReady F.can_change F.never_keeps (stage_of result.0) }
     ensures step { StageAtControl {K = K} {V = V} {F = F} R.place_gives 0 None
         (AtReserve more) control.old room.old result.1 (stage_of result.0) control.new room.new }
 {
@@ -119,7 +124,7 @@ fn count<'k, K, V, F: ComputeFn<K, V>, A: Allocator>(
     reply: Reply<K, V, A>,
 ) -> Stage<'k, K, V, F, A>
     requires { IsDecided (outcome_of reply) }
-    ensures ready { StageIsReady F.can_change (stage_of result) }
+    ensures ready { StageIsReady F.can_change F.never_keeps (stage_of result) }
     ensures after { control.new ≡ after_count delta control.old }
     ensures stage { stage_of result
         ≡ stage_advised helped control.old.published (outcome_of reply) (advice_of (after_count delta control.old)) }
@@ -146,7 +151,7 @@ fn begin<'k, K, V, F: ComputeFn<K, V>, A: Allocator, R: Room>(
 ) -> (Stage<'k, K, V, F, A>, Event)
     requires table { table ≤ MAX_TABLE }
     requires decided { IsDecided (outcome_of reply) }
-    ensures ready { StageIsReady F.can_change (stage_of result.0) }
+    ensures ready { StageIsReady F.can_change F.never_keeps (stage_of result.0) }
     ensures step { StageAtControl {K = K} {F = F} R.place_gives processors None
         (AtBegin table (outcome_of reply)) control.old room.old result.1 (stage_of result.0) control.new room.new }
 {
@@ -169,7 +174,7 @@ fn grow<'k, K: Drop, V: Drop, F: ComputeFn<K, V>, A: Allocator, R: Room>(
 ) -> (Stage<'k, K, V, F, A>, Event)
     requires table { wanted ≤ MAX_TABLE }
     requires decided { GrowForIsReady (grow_for_of growing) }
-    ensures ready { StageIsReady F.can_change (stage_of result.0) }
+    ensures ready { StageIsReady F.can_change F.never_keeps (stage_of result.0) }
     ensures step { StageAtControl {K = K} {F = F} R.place_gives processors None
         (AtGrow wanted (grow_for_of growing)) control.old room.old result.1 (stage_of result.0) control.new room.new }
 {
@@ -195,8 +200,8 @@ fn publish<'k, K, V, F: ComputeFn<K, V>, A: Allocator>(
     control: &mut Control,
 ) -> (Stage<'k, K, V, F, A>, Event)
     requires table { table < MAX_TABLE }
-    requires callable { ResumeIsReady F.can_change (resume_of after) }
-    ensures ready { StageIsReady F.can_change (stage_of result.0) }
+    requires callable { ResumeIsReady F.can_change F.never_keeps (resume_of after) }
+    ensures ready { StageIsReady F.can_change F.never_keeps (stage_of result.0) }
     ensures stage { stage_of result.0 ≡ AtHelp (GivesBack table) (resume_of after.entry) }
     ensures event { result.1 ≡ event_published table control.old }
     ensures after { control.new ≡ after_publish table control.old }

@@ -1,12 +1,12 @@
 //! The steps of a call at a bin.
-ghost use Rattle.std.specs.Prelude.{◌≡◌, ◌+◌, ◌-◌, ◌<◌, ◌≤◌, ◌⊎◌, Some, IfOk, OnErr};
+ghost use Rattle.std.specs.Prelude.{◌≡◌, ◌+◌, ◌-◌, ◌<◌, ◌≤◌, ◌⊎◌, true, false, Some, IfOk, OnErr};
 ghost use Rattle.flurry_base.specs.Given.{given_of};
-ghost use Rattle.flurry_bins_slots.specs.LiveView.{view_of_inserted, view_of_added, outcome};
+ghost use Rattle.flurry_bins_slots.specs.LiveView.{view_of_inserted, view_of_added, outcome, alteration, alteration_if_present};
 ghost use Rattle.flurry_bins.specs.PlainEntries.{numbered_pair};
 ghost use Rattle.flurry_bins_slots.specs.Slot.{IsSlot, IsUnborn, LiesInBin};
 ghost use Rattle.flurry_steps_sweep.specs.Outcome.{OutcomeReply};
-ghost use Rattle.flurry_steps.specs.Party.{StageIsReady, TaskIsReady, IsWriter, IsDecided, steps_left, Finds, Removes, RemovesSeen, Inserts, Adds, Computes, reply_for};
-ghost use Rattle.flurry_steps.specs.PartySlots.{ContentGives, GoesOnNew, GoesOnWritten, GoesOnAdded, FindCanBeRefused, stage_computed};
+ghost use Rattle.flurry_steps.specs.Party.{StageIsReady, TaskIsReady, IsWriter, IsDecided, steps_left, Finds, Removes, RemovesSeen, Inserts, Adds, Computes, Alters, reply_for};
+ghost use Rattle.flurry_steps.specs.PartySlots.{ContentGives, GoesOnNew, GoesOnWritten, GoesOnAdded, GoesOnAltered, FindCanBeRefused, stage_computed};
 ghost use Rattle.flurry_steps_sweep.specs.OutcomeView.{outcome_of};
 ghost use Rattle.flurry_steps.specs.PartyView.{plain_key, stage_of, task_of, form_of};
 ghost use Rattle.flurry_base.specs.declared.sizes.TheConstants.{MAX_TABLE};
@@ -17,7 +17,9 @@ use super::left::Left;
 use super::stage::{GrowFor, Help, Resume, Stage};
 use super::{Event, Reply};
 use flurry_bins::bin::Entry;
-use flurry_bins_slots::{Added, Answer, ComputeFn, Computed, Given, Inserted, Replaced, Slot};
+use flurry_bins_slots::{
+    Added, Altered, Answer, ComputeFn, Computed, Given, Inserted, Replaced, Slot,
+};
 use flurry_steps_control::wanted_table;
 use flurry_steps_sweep::Seen;
 use std::alloc::{AllocError, Allocator};
@@ -53,7 +55,7 @@ pub(super) fn step_lookup<'k, K: Ord + Drop, V: Drop, F: ComputeFn<K, V>, A: All
 ) -> (Stage<'k, K, V, F, A>, Event, Left<'k, K, V, F, A>)
     requires region { LiesInBin hash slot.now }
     requires at { table ≡ slot.now.table }
-    ensures ready { StageIsReady F.can_change (stage_of result.0) }
+    ensures ready { StageIsReady F.can_change F.never_keeps (stage_of result.0) }
     ensures within { IsSlot K.cmp slot.now }
     ensures nearer { (slot.now.content ≡ IsUnborn) ⊎ (steps_left (stage_of result.0) < MAX_TABLE + 1 - table) }
     ensures step { ContentGives K.cmp F.changes hash
@@ -103,8 +105,8 @@ pub(super) fn step_write<'k, K: Ord + Drop, V: Drop, F: ComputeFn<K, V>, A: Allo
     requires region { LiesInBin hash slot.old }
     requires at { table ≡ slot.old.table }
     requires writer { IsWriter (task_of task) }
-    requires callable { TaskIsReady F.can_change (task_of task) }
-    ensures ready { StageIsReady F.can_change (stage_of result.0) }
+    requires callable { TaskIsReady F.can_change F.never_keeps (task_of task) }
+    ensures ready { StageIsReady F.can_change F.never_keeps (stage_of result.0) }
     ensures within { IsSlot K.cmp slot.old }
     ensures table { slot.new.table ≡ slot.old.table }
     ensures index { slot.new.index ≡ slot.old.index }
@@ -117,6 +119,8 @@ pub(super) fn step_write<'k, K: Ord + Drop, V: Drop, F: ComputeFn<K, V>, A: Allo
         Task::Insert(key, value) => return insert(alloc, hash, key, value, table, slot),
         Task::Add(key, value) => return try_insert(alloc, hash, key, value, table, slot),
         Task::Compute(key, f) => return compute(alloc, hash, key, f, table, slot),
+        Task::Alter(key, f) => return alter(alloc, hash, key, f, table, slot),
+        Task::AlterPresent(key, f) => return alter_present(alloc, hash, key, f, table, slot),
         Task::Find(_, _) => unreachable!(),
     }
 }
@@ -159,7 +163,7 @@ fn remove<'k, K: Ord + Drop, V: Drop, F: ComputeFn<K, V>, A: Allocator>(
 ) -> (Stage<'k, K, V, F, A>, Event, Left<'k, K, V, F, A>)
     requires region { LiesInBin hash slot.old }
     requires at { table ≡ slot.old.table }
-    ensures ready { StageIsReady F.can_change (stage_of result.0) }
+    ensures ready { StageIsReady F.can_change F.never_keeps (stage_of result.0) }
     ensures within { IsSlot K.cmp slot.old }
     ensures table { slot.new.table ≡ slot.old.table }
     ensures index { slot.new.index ≡ slot.old.index }
@@ -201,7 +205,7 @@ fn remove_seen<'k, K: Ord + Drop, V: Drop, F: ComputeFn<K, V>, A: Allocator>(
 ) -> (Stage<'k, K, V, F, A>, Event, Left<'k, K, V, F, A>)
     requires region { LiesInBin hash slot.old }
     requires at { table ≡ slot.old.table }
-    ensures ready { StageIsReady F.can_change (stage_of result.0) }
+    ensures ready { StageIsReady F.can_change F.never_keeps (stage_of result.0) }
     ensures within { IsSlot K.cmp slot.old }
     ensures table { slot.new.table ≡ slot.old.table }
     ensures index { slot.new.index ≡ slot.old.index }
@@ -246,7 +250,7 @@ fn after_new_pair<'k, K, V, F: ComputeFn<K, V>, A: Allocator>(
 ) -> Stage<'k, K, V, F, A>
     requires table { table ≤ MAX_TABLE }
     requires decided { IsDecided (outcome_of reply) }
-    ensures ready { StageIsReady F.can_change (stage_of result) }
+    ensures ready { StageIsReady F.can_change F.never_keeps (stage_of result) }
     ensures stage { GoesOnNew table (outcome_of reply) asks_for_growth (stage_of result) }
 {
     if asks_for_growth {
@@ -262,7 +266,7 @@ fn after_write<'k, K: Drop, V: Drop, F: ComputeFn<K, V>, A: Allocator>(
     inserted: Inserted<K, V, A>,
 ) -> (Stage<'k, K, V, F, A>, Left<'k, K, V, F, A>)
     requires { table ≤ MAX_TABLE }
-    ensures ready { StageIsReady F.can_change (stage_of result.0) }
+    ensures ready { StageIsReady F.can_change F.never_keeps (stage_of result.0) }
     ensures stage { GoesOnWritten table (view_of_inserted inserted) (stage_of result.0) }
 {
     match inserted {
@@ -286,7 +290,7 @@ fn insert<'k, K: Ord + Drop, V: Drop, F: ComputeFn<K, V>, A: Allocator + Copy>(
 ) -> (Stage<'k, K, V, F, A>, Event, Left<'k, K, V, F, A>)
     requires region { LiesInBin hash slot.old }
     requires at { table ≡ slot.old.table }
-    ensures ready { StageIsReady F.can_change (stage_of result.0) }
+    ensures ready { StageIsReady F.can_change F.never_keeps (stage_of result.0) }
     ensures within { IsSlot K.cmp slot.old }
     ensures table { slot.new.table ≡ slot.old.table }
     ensures index { slot.new.index ≡ slot.old.index }
@@ -324,7 +328,7 @@ fn after_try<'k, K: Drop, V: Drop, F: ComputeFn<K, V>, A: Allocator>(
     added: Added<K, V, A>,
 ) -> (Stage<'k, K, V, F, A>, Left<'k, K, V, F, A>)
     requires { table ≤ MAX_TABLE }
-    ensures ready { StageIsReady F.can_change (stage_of result.0) }
+    ensures ready { StageIsReady F.can_change F.never_keeps (stage_of result.0) }
     ensures stage { GoesOnAdded table (view_of_added added) (stage_of result.0) }
 {
     match added {
@@ -349,7 +353,7 @@ fn try_insert<'k, K: Ord + Drop, V: Drop, F: ComputeFn<K, V>, A: Allocator + Cop
 ) -> (Stage<'k, K, V, F, A>, Event, Left<'k, K, V, F, A>)
     requires region { LiesInBin hash slot.old }
     requires at { table ≡ slot.old.table }
-    ensures ready { StageIsReady F.can_change (stage_of result.0) }
+    ensures ready { StageIsReady F.can_change F.never_keeps (stage_of result.0) }
     ensures within { IsSlot K.cmp slot.old }
     ensures table { slot.new.table ≡ slot.old.table }
     ensures index { slot.new.index ≡ slot.old.index }
@@ -387,7 +391,7 @@ fn after_compute<'k, K: Drop, V: Drop, F: ComputeFn<K, V>, A: Allocator>(
     key: Key<'k, K>,
     computed: Computed<K, V, F, A>,
 ) -> (Stage<'k, K, V, F, A>, Event, Left<'k, K, V, F, A>)
-    ensures ready { StageIsReady F.can_change (stage_of result.0) }
+    ensures ready { StageIsReady F.can_change F.never_keeps (stage_of result.0) }
     ensures decides { result.1 ≡ Event.Decide }
     ensures stage { stage_of result.0 ≡ stage_computed (outcome computed) }
 {
@@ -427,7 +431,8 @@ fn compute<'k, K: Ord + Drop, V: Drop, F: ComputeFn<K, V>, A: Allocator + Copy>(
     requires region { LiesInBin hash slot.old }
     requires at { table ≡ slot.old.table }
     requires callable { F.can_change f }
-    ensures ready { StageIsReady F.can_change (stage_of result.0) }
+    requires changes { F.never_keeps f }
+    ensures ready { StageIsReady F.can_change F.never_keeps (stage_of result.0) }
     ensures within { IsSlot K.cmp slot.old }
     ensures table { slot.new.table ≡ slot.old.table }
     ensures index { slot.new.index ≡ slot.old.index }
@@ -446,6 +451,140 @@ fn compute<'k, K: Ord + Drop, V: Drop, F: ComputeFn<K, V>, A: Allocator + Copy>(
         ),
         Ok(Answer::Unborn(f)) => (
             Stage::Locate(Task::Compute(key, f)),
+            Event::Silent,
+            Left::Nothing,
+        ),
+        Err(value) => (
+            Stage::Done(Reply::Refused),
+            Event::Refused,
+            Left::NotStored(key, value),
+        ),
+    }
+}
+
+// The stage of a call that altered at a live bin of `table`.
+fn after_alter<'k, K: Drop, V: Drop, F: ComputeFn<K, V>, A: Allocator>(
+    table: u8,
+    altered: Altered<K, V, A>,
+) -> Stage<'k, K, V, F, A>
+    requires { table ≤ MAX_TABLE }
+    ensures ready { StageIsReady F.can_change F.never_keeps (stage_of result) }
+    ensures stage { GoesOnAltered table (alteration altered) (stage_of result) }
+{
+    match altered {
+        Altered::Absent => Stage::Done(Reply::Contains(false)),
+        Altered::Added {
+            value,
+            asks_for_growth,
+        } => after_new_pair(table, Reply::New(value), asks_for_growth),
+        Altered::Kept => Stage::Done(Reply::Contains(true)),
+        Altered::Removed(Entry { key, value, .. }) => {
+            Stage::Uncount(Reply::Pair(Some((key, value))))
+        }
+        Altered::Changed { new, old } => Stage::Done(Reply::Changed { new, old }),
+    }
+}
+
+// What a call leaves behind that did not keep its key.
+fn left_key<'k, K, V, F, A: Allocator>(key: Option<K>) -> Left<'k, K, V, F, A> {
+    match key {
+        Some(key) => Left::Key(key),
+        None => Left::Nothing,
+    }
+}
+
+fn alter<'k, K: Ord + Drop, V: Drop, F: ComputeFn<K, V>, A: Allocator + Copy>(
+    alloc: A,
+    hash: u64,
+    key: K,
+    f: F,
+    table: u8,
+    slot: &mut Slot<K, V, A>,
+) -> (Stage<'k, K, V, F, A>, Event, Left<'k, K, V, F, A>)
+    requires region { LiesInBin hash slot.old }
+    requires at { table ≡ slot.old.table }
+    requires callable { F.can_change f }
+    ensures ready { StageIsReady F.can_change F.never_keeps (stage_of result.0) }
+    ensures within { IsSlot K.cmp slot.old }
+    ensures table { slot.new.table ≡ slot.old.table }
+    ensures index { slot.new.index ≡ slot.old.index }
+    ensures step { ContentGives K.cmp F.changes hash (Alters key true f) table slot.old.content result.1
+        (stage_of result.0) slot.new.content }
+{
+    match slot.alter(alloc, hash, key, f) {
+        Ok(Answer::Here((altered, key))) => {
+            (after_alter(table, altered), Event::Decide, left_key(key))
+        }
+        Ok(Answer::Moved((key, f))) => (
+            Stage::Help(
+                Help::Seat(table),
+                Resume::Bin(Task::Alter(key, f), table + 1),
+            ),
+            Event::Silent,
+            Left::Nothing,
+        ),
+        Ok(Answer::Unborn((key, f))) => (
+            Stage::Locate(Task::Alter(key, f)),
+            Event::Silent,
+            Left::Nothing,
+        ),
+        Err(pair) => (
+            Stage::Done(Reply::Refused),
+            Event::Refused,
+            Left::NotInserted(pair),
+        ),
+    }
+}
+
+// The stage of an alteration of a present pair that was done at a live bin of `table`, and what it leaves behind.
+fn after_alter_present<'k, K: Drop, V: Drop, F: ComputeFn<K, V>, A: Allocator>(
+    table: u8,
+    key: Key<'k, K>,
+    altered: Result<Altered<K, V, A>, F>,
+) -> (Stage<'k, K, V, F, A>, Left<'k, K, V, F, A>)
+    requires { table ≤ MAX_TABLE }
+    ensures ready { StageIsReady F.can_change F.never_keeps (stage_of result.0) }
+    ensures stage { GoesOnAltered table (alteration_if_present altered) (stage_of result.0) }
+{
+    match altered {
+        Ok(altered) => (after_alter(table, altered), Left::Stored(key, None, None)),
+        Err(f) => (Stage::Done(Reply::Contains(false)), Left::Function(key, f)),
+    }
+}
+
+fn alter_present<'k, K: Ord + Drop, V: Drop, F: ComputeFn<K, V>, A: Allocator + Copy>(
+    alloc: A,
+    hash: u64,
+    key: Key<'k, K>,
+    f: F,
+    table: u8,
+    slot: &mut Slot<K, V, A>,
+) -> (Stage<'k, K, V, F, A>, Event, Left<'k, K, V, F, A>)
+    requires region { LiesInBin hash slot.old }
+    requires at { table ≡ slot.old.table }
+    requires callable { F.can_change f }
+    ensures ready { StageIsReady F.can_change F.never_keeps (stage_of result.0) }
+    ensures within { IsSlot K.cmp slot.old }
+    ensures table { slot.new.table ≡ slot.old.table }
+    ensures index { slot.new.index ≡ slot.old.index }
+    ensures step { ContentGives K.cmp F.changes hash (Alters (plain_key key.entry) false f) table slot.old.content
+        result.1 (stage_of result.0) slot.new.content }
+{
+    match slot.alter_present(alloc, hash, key.get(), f) {
+        Ok(Answer::Here(altered)) => {
+            let (stage, left) = after_alter_present(table, key, altered);
+            (stage, Event::Decide, left)
+        }
+        Ok(Answer::Moved(f)) => (
+            Stage::Help(
+                Help::Seat(table),
+                Resume::Bin(Task::AlterPresent(key, f), table + 1),
+            ),
+            Event::Silent,
+            Left::Nothing,
+        ),
+        Ok(Answer::Unborn(f)) => (
+            Stage::Locate(Task::AlterPresent(key, f)),
             Event::Silent,
             Left::Nothing,
         ),

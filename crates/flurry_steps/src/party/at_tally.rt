@@ -17,8 +17,8 @@ pub(super) fn step_tally<'k, K: Drop, V: Drop, F: ComputeFn<K, V>, A: Allocator>
     most: i64,
 ) -> Stage<'k, K, V, F, A>
     requires is_counting { is_counting (stage_of stage) ≡ true }
-    requires callable { StageIsReady F.can_change (stage_of stage) }
-    ensures ready { StageIsReady F.can_change (stage_of result) }
+    requires callable { StageIsReady F.can_change F.never_keeps (stage_of stage) }
+    ensures ready { StageIsReady F.can_change F.never_keeps (stage_of result) }
     ensures step { StageAtTally most (stage_of stage.entry) tally.old (stage_of result) tally.new }
 {
     let mut ending = Ending::of_stage(stage);

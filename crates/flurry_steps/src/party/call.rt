@@ -38,6 +38,11 @@ pub enum Call<'k, K, V, F, A: Allocator = Global> {
     /// A call of the function on the pair of a present key. The value that it returns replaces the value of the key; if it returns
     /// `None`, the pair is removed. The call returns the new value.
     Compute(&'k K, F),
+    /// A call of the function on the value of a key, or on `None`. The pair becomes what the function returns, and may be added.
+    Alter(K, F),
+    /// A call of the function on the value of a present key. The pair becomes what the function returns. If the key is absent, the function
+    /// is not called.
+    AlterPresent(&'k K, F),
     /// A reservation of room for the given number of additional pairs.
     Reserve(usize),
     /// A removal of all pairs, one bin after another.
@@ -58,9 +63,10 @@ impl<'k, K: Drop, V: Drop, F, A: Allocator> Call<'k, K, V, F, A> {
             | Call::ContainsKey(key)
             | Call::Remove(key)
             | Call::RemoveEntry(key)
-            | Call::Compute(key, _) => Some(*key),
+            | Call::Compute(key, _)
+            | Call::AlterPresent(key, _) => Some(*key),
             Call::RemoveSeen(seen) => Some(seen.key()),
-            Call::Insert(key, _) | Call::TryInsert(key, _) => Some(key),
+            Call::Insert(key, _) | Call::TryInsert(key, _) | Call::Alter(key, _) => Some(key),
             Call::Reserve(_) | Call::Clear | Call::Walk => None,
         }
     }
@@ -92,6 +98,10 @@ pub enum OwnedCall<K, V, F> {
     TryInsert(K, V),
     /// A call of a function on the pair of a present key, as [`Call::Compute`].
     Compute(K, F),
+    /// A call of a function on the value of a key, or on `None`, as [`Call::Alter`].
+    Alter(K, F),
+    /// A call of a function on the value of a present key, as [`Call::AlterPresent`].
+    AlterPresent(K, F),
     /// A reservation of room for the given number of additional pairs, as [`Call::Reserve`].
     Reserve(usize),
     /// A removal of all pairs, as [`Call::Clear`].
@@ -113,7 +123,9 @@ impl<K, V, F> OwnedCall<K, V, F> {
             | OwnedCall::RemoveEntry(key)
             | OwnedCall::Insert(key, _)
             | OwnedCall::TryInsert(key, _)
-            | OwnedCall::Compute(key, _) => Some(key),
+            | OwnedCall::Compute(key, _)
+            | OwnedCall::Alter(key, _)
+            | OwnedCall::AlterPresent(key, _) => Some(key),
             OwnedCall::Reserve(_) | OwnedCall::Clear | OwnedCall::Walk => None,
         }
     }
@@ -157,4 +169,6 @@ pub(crate) enum Task<'k, K, V, F, A: Allocator> {
     Insert(K, Given<V, A>),
     Add(K, V),
     Compute(Key<'k, K>, F),
+    Alter(K, F),
+    AlterPresent(Key<'k, K>, F),
 }

@@ -69,7 +69,7 @@ impl<K, V, A: Allocator> Model for Ending<K, V, A> {
 impl<K, V, A: Allocator> Ending<K, V, A> {
     // Creates the ending of a call at the given stage.
     pub(super) fn of_stage<'k, F: ComputeFn<K, V>>(stage: Stage<'k, K, V, F, A>) -> Self
-        requires ready { StageIsReady F.can_change (stage_of stage) }
+        requires ready { StageIsReady F.can_change F.never_keeps (stage_of stage) }
         requires decided { HasDecided (stage_of stage) }
         ensures { ending_stage result ≡ stage_of stage.entry }
     {
@@ -86,7 +86,7 @@ impl<K, V, A: Allocator> Ending<K, V, A> {
 
     // The stage of the call.
     pub(super) fn into_stage<'k, F: ComputeFn<K, V>>(self) -> Stage<'k, K, V, F, A>
-        ensures ready { StageIsReady F.can_change (stage_of result) }
+        ensures ready { StageIsReady F.can_change F.never_keeps (stage_of result) }
         ensures stage { stage_of result ≡ ending_stage self }
     {
         let Ending { rest, reply } = self;

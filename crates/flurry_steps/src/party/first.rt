@@ -43,6 +43,8 @@ pub(super) fn task_for<'k, K, V, F, A: Allocator>(
         Call::Insert(key, value) => Ok(Task::Insert(key, Given::Shared(value))),
         Call::TryInsert(key, value) => Ok(Task::Add(key, value)),
         Call::Compute(key, f) => Ok(Task::Compute(Key::Lent(key), f)),
+        Call::Alter(key, f) => Ok(Task::Alter(key, f)),
+        Call::AlterPresent(key, f) => Ok(Task::AlterPresent(Key::Lent(key), f)),
         Call::Reserve(more) => Err(WholeMapCall::Reserve(more)),
         Call::Clear => Err(WholeMapCall::Clear),
         Call::Walk => Err(WholeMapCall::Walk),
@@ -65,6 +67,8 @@ pub(super) fn task_of_owned<'k, K, V, F, A: Allocator>(
         OwnedCall::Insert(key, value) => Ok(Task::Insert(key, Given::Plain(value))),
         OwnedCall::TryInsert(key, value) => Ok(Task::Add(key, value)),
         OwnedCall::Compute(key, f) => Ok(Task::Compute(Key::Own(key), f)),
+        OwnedCall::Alter(key, f) => Ok(Task::Alter(key, f)),
+        OwnedCall::AlterPresent(key, f) => Ok(Task::AlterPresent(Key::Own(key), f)),
         OwnedCall::Reserve(more) => Err(WholeMapCall::Reserve(more)),
         OwnedCall::Clear => Err(WholeMapCall::Clear),
         OwnedCall::Walk => Err(WholeMapCall::Walk),
@@ -115,7 +119,7 @@ impl<'k, K: Ord + Drop, V: Drop, F: ComputeFn<K, V>, A: Allocator + Copy> Party<
         alloc: A,
         slot: &mut Slot<K, V, A>,
     ) -> (Ending<K, V, A>, Remains<'k, K, V, F, A>)
-        requires ready { CallIsReady F.can_change call }
+        requires ready { CallIsReady F.can_change F.never_keeps call }
         requires writes { BeginsToWrite (stage_of_call (plain_call call)) }
         requires part { wanted_part (begun_at start.now hash 0 (stage_of_call (plain_call call)))
             ≡ BinPart slot.old.table slot.old.index }

@@ -51,7 +51,7 @@ impl<'k, K, V, F: ComputeFn<K, V>, A: Allocator> Model for Single<'k, K, V, F, A
 
     ghost view = { single_state_of };
 
-    ghost invariant = { λ p. StageIsReady F.can_change (stage_of p.stage) };
+    ghost invariant = { λ p. StageIsReady F.can_change F.never_keeps (stage_of p.stage) };
 }
 
 impl<'k, K: Drop, V: Drop, F: ComputeFn<K, V>, A: Allocator> Single<'k, K, V, F, A> {

@@ -164,7 +164,7 @@ impl<K, V, A: Allocator> GrowFor<K, V, A> {
     // The stage at which the call goes on when growing ends.
     pub(super) fn end<'k, F: ComputeFn<K, V>>(self) -> Stage<'k, K, V, F, A>
         requires { GrowForIsReady (grow_for_of self) }
-        ensures ready { StageIsReady F.can_change (stage_of result) }
+        ensures ready { StageIsReady F.can_change F.never_keeps (stage_of result) }
         ensures stage { stage_of result ≡ stage_grown (grow_for_of self) }
     {
         match self {

@@ -1,6 +1,7 @@
 //! Slots: each step where the bin is live, where it has moved, and where it is unborn.
 
-ghost use Rattle.std.specs.Prelude.{OnOk};
+ghost use Rattle.std.specs.Prelude.{◌≡◌, ⊤, OnOk};
+ghost use Rattle.flurry_base.specs.declared.verdict.Verdict.TheVariants.{Keep};
 ghost use Rattle.flurry_bins_slots.specs.Slot.{LiesInBin};
 
 use super::assert_same;
@@ -8,7 +9,8 @@ use flurry_base::sizes::bin_index;
 use flurry_bins::bin::Bin;
 use flurry_bins_slots::clones::{CloneProbe, NotClone};
 use flurry_bins_slots::{
-    Added, Answer, Computed, Given, Inserted, MoveAnswer, NoFn, Receipt, Slot,
+    Added, Altered, Answer, ComputeFn, Computed, Given, Inserted, MoveAnswer, NoFn, Receipt, Slot,
+    Verdict,
 };
 use std::alloc::{AllocError, Global};
 
@@ -174,6 +176,110 @@ fn the_greatest_number_is_never_taken_on_condition(rt: HostRuntime) {
     );
     assert_same(&rt, find(&slot, 5, 5), Ok(Some((2, u64::MAX))));
     assert_same(&rt, take(&mut slot, 5, 5), Ok(Some((2, u64::MAX))));
+}
+
+// A function that makes this of any pair.
+#[derive(Clone, Copy)]
+struct Says(Verdict<u64>);
+
+impl ComputeFn<u64, u64> for Says {
+    ghost can_change = { λ _. ⊤ };
+
+    ghost never_keeps = { λ f. f.0 ≡ Keep → ⊥ };
+
+    ghost changes = { λ f _ _ v. v ≡ f.0 };
+
+    fn change<'a>(self, _key: &'a u64, _value: Option<&'a u64>) -> Verdict<u64> {
+        self.0
+    }
+}
+
+// What an alteration did, with the numbers in the `Arc`s.
+#[derive(Clone, Copy, Debug, PartialEq, Eq)]
+enum Did {
+    NotAdded,
+    Added(u64, bool),
+    Kept,
+    Removed(u64),
+    Changed(u64, u64),
+}
+
+fn what_was_done(altered: Altered<u64, u64, Global>) -> Did {
+    match altered {
+        Altered::Absent => Did::NotAdded,
+        Altered::Added {
+            value,
+            asks_for_growth,
+        } => Did::Added(*value, asks_for_growth),
+        Altered::Kept => Did::Kept,
+        Altered::Removed(entry) => Did::Removed(*entry.value),
+        Altered::Changed { new, old } => Did::Changed(*new, *old),
+    }
+}
+
+// Alters the pair of a key. Returns what was done, and whether the key came back.
+fn alter(
+    alloc: Global,
+    slot: &mut Slot<u64, u64>,
+    key: u64,
+    verdict: Verdict<u64>,
+) -> Result<(Did, bool), Away> {
+    lies_in(slot, key)?;
+    let (altered, back) = given(slot.alter(alloc, key, key, Says(verdict)))?;
+    Ok((what_was_done(altered), back == Some(key)))
+}
+
+// Alters the pair of a key if it is present. Returns what was done, or `None` if the function was not called.
+fn alter_present(
+    alloc: Global,
+    slot: &mut Slot<u64, u64>,
+    key: u64,
+    verdict: Verdict<u64>,
+) -> Result<Option<Did>, Away> {
+    lies_in(slot, key)?;
+    let altered = given(slot.alter_present(alloc, key, &key, Says(verdict)))?;
+    Ok(altered.ok().map(|altered| what_was_done(altered)))
+}
+
+#[test]
+fn alterations_at_a_live_bin(rt: HostRuntime) {
+    let mut slot: Slot<u64, u64> = Slot::live(4, 3, Bin::new());
+    for (verdict, did, back) in [
+        (Verdict::Keep, Did::NotAdded, true),
+        (Verdict::Remove, Did::NotAdded, true),
+        (Verdict::Set(10), Did::Added(10, false), false),
+        (Verdict::Keep, Did::Kept, true),
+        (Verdict::Set(11), Did::Changed(11, 10), true),
+        (Verdict::Remove, Did::Removed(11), true),
+    ] {
+        let seen = alter(rt.alloc(), &mut slot, 3, verdict);
+        assert_same(&rt, seen, Ok((did, back)));
+    }
+}
+
+#[test]
+fn alterations_of_a_present_pair(rt: HostRuntime) {
+    let mut slot: Slot<u64, u64> = Slot::live(4, 3, Bin::new());
+    let seen = alter_present(rt.alloc(), &mut slot, 3, Verdict::Set(9));
+    assert_same(&rt, seen, Ok(None));
+    assert_same(&rt, put(rt.alloc(), &mut slot, 3, 3, 10), Ok((None, false)));
+    for (verdict, did) in [
+        (Verdict::Keep, Did::Kept),
+        (Verdict::Set(11), Did::Changed(11, 10)),
+        (Verdict::Remove, Did::Removed(11)),
+    ] {
+        let seen = alter_present(rt.alloc(), &mut slot, 3, verdict);
+        assert_same(&rt, seen, Ok(Some(did)));
+    }
+}
+
+#[test]
+fn alterations_where_no_bin_is_live(rt: HostRuntime) {
+    let mut slot: Slot<u64, u64> = Slot::unborn(4, 3);
+    let seen = alter(rt.alloc(), &mut slot, 3, Verdict::Set(1));
+    assert_same(&rt, seen, Err(Away::Unborn));
+    let seen = alter_present(rt.alloc(), &mut slot, 3, Verdict::Set(1));
+    assert_same(&rt, seen, Err(Away::Unborn));
 }
 
 #[test]

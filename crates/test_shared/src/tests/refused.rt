@@ -30,6 +30,11 @@ enum Call {
     Replace,
     TryInsert,
     Compute,
+    ComputeNew,
+    MergeNew,
+    Merge,
+    Update,
+    ReplaceIf,
     Get,
     Reserve,
 }
@@ -41,6 +46,11 @@ fn is_done<A: Allocator + Copy, R: Wait>(rt: &R, map: &Numbers<A>, call: Call) -
         Call::Replace => map.insert(rt, 0, 1).is_ok(),
         Call::TryInsert => map.try_insert(rt, 99, 1).is_ok(),
         Call::Compute => map.compute_if_present(rt, &0, |_, _| Some(1)).is_ok(),
+        Call::ComputeNew => map.compute(rt, 99, |_, _| Some(1)).is_ok(),
+        Call::MergeNew => map.merge(rt, 99, 1, |_, _| None).is_ok(),
+        Call::Merge => map.merge(rt, 0, 1, |_, new| Some(new)).is_ok(),
+        Call::Update => map.update(rt, &0, |_, _| 1).is_ok(),
+        Call::ReplaceIf => map.replace_if(rt, &0, |_, _| true, 1).is_ok(),
         Call::Get => map.get(rt, &0).is_ok(),
         Call::Reserve => map.reserve(rt, 100).is_ok(),
     }
@@ -115,6 +125,26 @@ fn each_request_of_a_call(rt: HostRuntime) -> Result<(), Fail> {
         (1, Call::Get, 0),
         (0, Call::Reserve, 9),
         (1, Call::Reserve, 35),
+    ] {
+        refuse_each(&rt, memory, (keys, call), requests);
+    }
+    Ok(())
+}
+
+// A new key takes what an insertion of it takes, and a present one the `Arc` of its new value.
+#[test]
+fn each_request_of_a_call_by_a_function(rt: HostRuntime) -> Result<(), Fail> {
+    let memory = MeteredAlloc::leak(rt.alloc())?;
+    for (keys, call, requests) in [
+        (0, Call::ComputeNew, 5),
+        (1, Call::ComputeNew, 3),
+        (0, Call::MergeNew, 5),
+        (1, Call::MergeNew, 3),
+        (1, Call::Merge, 1),
+        (0, Call::Update, 0),
+        (1, Call::Update, 1),
+        (0, Call::ReplaceIf, 0),
+        (1, Call::ReplaceIf, 1),
     ] {
         refuse_each(&rt, memory, (keys, call), requests);
     }

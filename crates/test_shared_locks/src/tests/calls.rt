@@ -2,8 +2,8 @@
 
 use flurry_bins_slots::{ComputeFn, NoFn};
 use flurry_shared_locks::{CallField, LockField, Locks};
+use flurry_steps::Party;
 use flurry_steps::party::{Event, OwnedCall, Reply};
-use flurry_steps::{Party, act, finish};
 use std::alloc::Allocator;
 use std::sync::Wait;
 
@@ -26,11 +26,11 @@ pub(super) fn reply_of<K: Ord + Drop, V: Drop, A: Allocator + Copy, F: ComputeFn
     hash: u64,
     call: OwnedCall<K, V, F>,
 ) -> Reply<K, V, A>
-    requires { (f : F) → F.can_change f }
+    requires { (f : F) → F.can_change f × F.never_keeps f }
 {
     let mut party = Party::from_owned(call, hash, 4);
     let mut lock_field = CallField::new(&LockField::new(rt, locks));
-    let reply = finish(rt, &mut party, &mut lock_field);
+    let reply = lock_field.finish(&mut party);
     drop(lock_field);
     drop(party);
     reply
@@ -43,12 +43,12 @@ pub(super) fn first_step<K: Ord + Drop, V: Drop, A: Allocator + Copy, F: Compute
     hash: u64,
     call: OwnedCall<K, V, F>,
 ) -> Option<Event>
-    requires { (f : F) → F.can_change f }
+    requires { (f : F) → F.can_change f × F.never_keeps f }
 {
     let mut party = Party::from_owned(call, hash, 4);
     let event = {
         let mut lock_field = CallField::new(&LockField::new(rt, locks));
-        act(&mut party, &mut lock_field)
+        lock_field.act(&mut party)
     };
     drop(party);
     event

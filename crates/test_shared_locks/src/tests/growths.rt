@@ -4,8 +4,8 @@ use super::calls::{count_found, put_all};
 use super::{assert_same, newest_of};
 use flurry_bins_slots::{ComputeFn, NoFn};
 use flurry_shared_locks::{CallField, LockField, Locks};
+use flurry_steps::Party;
 use flurry_steps::party::{Event, OwnedCall};
-use flurry_steps::{Party, act};
 use std::alloc::Allocator;
 use std::process::Abort;
 use std::sync::Wait;
@@ -63,7 +63,7 @@ fn do_steps<A: Allocator + Copy, F: ComputeFn<u64, u64>, R: Wait>(
     most: u64,
     work: &Work,
 ) -> Option<Event>
-    requires { (f : F) → F.can_change f }
+    requires { (f : F) → F.can_change f × F.never_keeps f }
 {
     let mut party = Party::from_owned(call, hash, 4);
     let mut lock_field = CallField::new(&LockField::new(rt, locks));
@@ -82,7 +82,7 @@ fn acts<A: Allocator + Copy, F: ComputeFn<u64, u64>, R: Wait>(
 ) -> Option<Event> {
     let mut last = None;
     for _ in 0..most {
-        let Some(event) = act(party, lock_field) else {
+        let Some(event) = lock_field.act(party) else {
             break;
         };
         work.note(event);

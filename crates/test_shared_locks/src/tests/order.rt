@@ -1,7 +1,7 @@
 //! No step holds the lock of a bin and that of the control.
 
 use super::calls::reply_of;
-use flurry_bins_slots::{ComputeFn, NoFn};
+use flurry_bins_slots::{ComputeFn, NoFn, Verdict};
 use flurry_shared_locks::{LockField, Locks};
 use flurry_steps::party::OwnedCall;
 use std::alloc::Allocator;
@@ -43,13 +43,18 @@ struct Lasting<'m> {
 impl<'m> ComputeFn<u64, u64> for Lasting<'m> {
     ghost can_change = { λ _. Unit {0} };
 
+    ghost never_keeps = { λ _. Unit {0} };
+
     ghost changes = { λ _ _ _ _. Unit {0} };
 
-    fn change(self, _key: &u64, value: &u64) -> Option<u64> {
+    fn change<'a>(self, _key: &'a u64, value: Option<&'a u64>) -> Verdict<u64> {
         self.flags.holds.store(true, Ordering::SeqCst);
         let was_in_time = is_set_in_time(&self.flags.has_counted);
         self.flags.was_in_time.store(was_in_time, Ordering::SeqCst);
-        Some(*value)
+        match value {
+            Some(value) => Verdict::Set(*value),
+            None => Verdict::Remove,
+        }
     }
 }
 

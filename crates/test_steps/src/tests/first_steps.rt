@@ -36,7 +36,7 @@ fn begun<'k, F: ComputeFn<u64, u64>>(
     alloc: Global,
     slot: &mut Slot<u64, u64>,
 ) -> Ending<u64, u64>
-    requires ready { CallIsReady F.can_change call }
+    requires ready { CallIsReady F.can_change F.never_keeps call }
     requires writes { BeginsToWrite (stage_of_call (plain_call call)) }
     requires part { wanted_part (begun_at start.now hash 0 (stage_of_call (plain_call call)))
         ≡ BinPart slot.old.table slot.old.index }

@@ -3,6 +3,7 @@
 //! A function that owns a call in progress passes it to another function by reference, and then drops it explicitly. If it were dropped at
 //! the end of a body, the proof would go through everything that it can hold.
 ghost use Rattle.std.specs.Prelude.{◌≡◌, ⊤};
+ghost use Rattle.flurry_base.specs.Verdicts.{verdict_of};
 ghost use Rattle.flurry_steps_sweep.specs.Part.{LookPart, BinPart, MovePart, SeatPart, BoardPart, GivePart};
 ghost use Rattle.flurry_steps.specs.Party.{wanted_part};
 ghost use Rattle.flurry_steps.specs.PartyBoard.{IsAttempt};
@@ -19,7 +20,7 @@ mod tallies;
 use super::{assert_same, assert_same_at};
 use flurry_base::reply::KeptReply;
 use flurry_bins::bin::Bin;
-use flurry_bins_slots::{ComputeFn, Slot};
+use flurry_bins_slots::{ComputeFn, Slot, Verdict};
 use flurry_steps::party::{Call, Event, OwnedCall, Party, Reply, Want};
 use flurry_steps_claims::{Attempt, PlainBoard, Range};
 use flurry_steps_control::{Control, Room};
@@ -138,17 +139,22 @@ fn empty_map(alloc: Global, processors: usize, refused: u8) -> Map {
     }
 }
 
-// A function that returns this result for any pair.
+// A function that sets this value, or that removes the pair, at any key.
 #[derive(Clone, Copy)]
 struct Becomes(Option<u64>);
 
 impl ComputeFn<u64, u64> for Becomes {
     ghost can_change = { λ _. ⊤ };
 
-    ghost changes = { λ f _ _ r. r ≡ f.0 };
+    ghost never_keeps = { λ _. ⊤ };
 
-    fn change(self, _key: &u64, _value: &u64) -> Option<u64> {
-        self.0
+    ghost changes = { λ f _ _ v. v ≡ verdict_of f.0 };
+
+    fn change<'a>(self, _key: &'a u64, _value: Option<&'a u64>) -> Verdict<u64> {
+        match self.0 {
+            Some(value) => Verdict::Set(value),
+            None => Verdict::Remove,
+        }
     }
 }
 
@@ -168,6 +174,10 @@ fn plain(reply: Reply<u64, u64>) -> Told {
         Reply::Pair(Some((key, value))) => Told::Key(KeptReply::Pair(Some((*key, *value)))),
         Reply::Contains(present) => Told::Key(KeptReply::Contains(present)),
         Reply::New(value) => Told::Key(KeptReply::New(*value)),
+        Reply::Changed { new, old } => Told::Key(KeptReply::Changed {
+            new: *new,
+            old: *old,
+        }),
         Reply::Exists(error) => Told::Key(KeptReply::Exists {
             current: *error.current,
             not_inserted: error.not_inserted,
@@ -364,7 +374,7 @@ fn run<'k, F: ComputeFn<u64, u64>>(
     hash: u64,
     call: Call<'k, u64, u64, F>,
 ) -> (Vec<Event>, Told)
-    requires { CallIsReady F.can_change call }
+    requires { CallIsReady F.can_change F.never_keeps call }
 {
     let mut party = Party::new(call, hash, map.processors);
     let ended = end(rt, &mut party, map);
@@ -389,6 +399,8 @@ fn call_of<'k>(rt: &(impl Abort + AllocGlobal), asked: &'k Asked) -> Call<'k, u6
         }
         OwnedCall::TryInsert(key, value) => Call::TryInsert(*key, *value),
         OwnedCall::Compute(key, change) => Call::Compute(key, *change),
+        OwnedCall::Alter(key, change) => Call::Alter(*key, *change),
+        OwnedCall::AlterPresent(key, change) => Call::AlterPresent(key, *change),
         OwnedCall::Reserve(count) => Call::Reserve(*count),
         OwnedCall::Clear => Call::Clear,
         OwnedCall::Walk => Call::Walk,
@@ -617,7 +629,7 @@ fn follows_call<'k, F: ComputeFn<u64, u64>>(
     call: Call<'k, u64, u64, F>,
     acts_on: &[Act<'_>],
 )
-    requires { CallIsReady F.can_change call }
+    requires { CallIsReady F.can_change F.never_keeps call }
 {
     let mut party = Party::new(call, hash, map.processors);
     for at in 0..acts_on.len() {

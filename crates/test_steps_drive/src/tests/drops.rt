@@ -17,7 +17,7 @@ fn walked<F: ComputeFn<u64, u64>, R: Wait + Abort>(
     rt: &R,
     parts: &mut Parts<u64, u64>,
 ) -> Seen<u64, u64>
-    requires { (f : F) → F.can_change f }
+    requires { (f : F) → F.can_change f × F.never_keeps f }
 {
     let mut walk: Party<'_, u64, u64, F> = Party::from_owned(OwnedCall::Walk, 0, 1);
     drop(drive(rt, &mut walk, parts));
@@ -50,7 +50,7 @@ fn removal<F: ComputeFn<u64, u64>, R: Wait>(
 
 // The pair is as it was read, and is removed. A second removal of it finds nothing.
 fn removed<F: ComputeFn<u64, u64>, R: Wait + Abort>(rt: &R, parts: &mut Parts<u64, u64>)
-    requires { (f : F) → F.can_change f }
+    requires { (f : F) → F.can_change f × F.never_keeps f }
 {
     puts::<F, R>(rt, parts, 3, 1, None);
     puts::<F, R>(rt, parts, 5, 2, None);
@@ -65,7 +65,7 @@ fn removed<F: ComputeFn<u64, u64>, R: Wait + Abort>(rt: &R, parts: &mut Parts<u6
 
 // The same value was written again after the pair was read, so the pair stays.
 fn rewritten<F: ComputeFn<u64, u64>, R: Wait + Abort>(rt: &R, parts: &mut Parts<u64, u64>)
-    requires { (f : F) → F.can_change f }
+    requires { (f : F) → F.can_change f × F.never_keeps f }
 {
     puts::<F, R>(rt, parts, 5, 2, None);
     let seen = walked::<F, R>(rt, parts);
@@ -82,7 +82,7 @@ fn puts<F: ComputeFn<u64, u64>, R: Wait + Abort>(
     new: u64,
     old: Option<u64>,
 )
-    requires { (f : F) → F.can_change f }
+    requires { (f : F) → F.can_change f × F.never_keeps f }
 {
     let put: OwnedCall<u64, u64, F> = OwnedCall::Insert(key, new);
     assert_same(rt, reply_of(rt, parts, put), value(old));
@@ -95,7 +95,7 @@ fn finds<F: ComputeFn<u64, u64>, R: Wait + Abort>(
     key: u64,
     wanted: Option<u64>,
 )
-    requires { (f : F) → F.can_change f }
+    requires { (f : F) → F.can_change f × F.never_keeps f }
 {
     let look: OwnedCall<u64, u64, F> = OwnedCall::Get(key);
     assert_same(rt, reply_of(rt, parts, look), value(wanted));
@@ -110,7 +110,7 @@ enum Pair {
 
 // Reads a pair and removes what was read. One pair is left.
 fn goes_through<F: ComputeFn<u64, u64>, R: Wait + Abort>(rt: &R, alloc: Global, pair: Pair)
-    requires { (f : F) → F.can_change f }
+    requires { (f : F) → F.can_change f × F.never_keeps f }
 {
     let mut parts: Parts<u64, u64> = Parts::new(alloc).expect(rt, "memory for the parts");
     match pair {

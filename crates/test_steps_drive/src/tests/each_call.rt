@@ -1,9 +1,30 @@
 //! Each kind of call, driven over both fields, with its reply and the map after it.
+ghost use Rattle.std.specs.Prelude.{◌≡◌, ⊤};
+ghost use Rattle.flurry_base.specs.Verdicts.{verdict_of};
 
 use super::{Do, Plain, assert_same, over_a_published_table, over_own_parts, value};
 use flurry_base::reply::KeptReply;
-use flurry_bins_slots::ComputeFn;
+use flurry_bins_slots::{ComputeFn, Verdict};
 use flurry_steps::party::OwnedCall;
+
+// A function that sets this value, or that removes the pair, at any key.
+#[derive(Clone, Copy)]
+struct Becomes(Option<u64>);
+
+impl ComputeFn<u64, u64> for Becomes {
+    ghost can_change = { λ _. ⊤ };
+
+    ghost never_keeps = { λ _. ⊤ };
+
+    ghost changes = { λ f _ _ v. v ≡ verdict_of f.0 };
+
+    fn change<'a>(self, _key: &'a u64, _value: Option<&'a u64>) -> Verdict<u64> {
+        match self.0 {
+            Some(value) => Verdict::Set(value),
+            None => Verdict::Remove,
+        }
+    }
+}
 
 // Adds 2 to a value, or removes the pair if the result would be 10 or more.
 fn two_more(value: u64) -> Option<u64> {
@@ -22,7 +43,44 @@ fn each_call_beside_a_published_table(rt: HostRuntime) {
     over_a_published_table(&rt, rt.alloc(), &rows);
 }
 
-// Returns each of the nine kinds of call, on an empty map.
+#[test]
+fn each_alteration_over_own_parts(rt: HostRuntime) {
+    assert_same(
+        &rt,
+        over_own_parts(&rt, rt.alloc(), &each_alteration()).0,
+        0,
+    );
+}
+
+#[test]
+fn each_alteration_beside_a_published_table(rt: HostRuntime) {
+    over_a_published_table(&rt, rt.alloc(), &each_alteration());
+}
+
+// Returns both kinds of alteration, at absent and at present keys, on an empty map.
+fn each_alteration() -> [Do<Becomes>; 11] {
+    let absent = Plain::OutcomeReply(KeptReply::Contains(false));
+    let new = Plain::OutcomeReply(KeptReply::New(5));
+    let six = Plain::OutcomeReply(KeptReply::Changed { new: 6, old: 5 });
+    let seven = Plain::OutcomeReply(KeptReply::Changed { new: 7, old: 6 });
+    let had_seven = Plain::OutcomeReply(KeptReply::Pair(Some((3, 7))));
+    let had_five = Plain::OutcomeReply(KeptReply::Pair(Some((3, 5))));
+    [
+        Do::Call(OwnedCall::AlterPresent(3, Becomes(Some(5))), absent),
+        Do::Call(OwnedCall::Alter(3, Becomes(None)), absent),
+        Do::Call(OwnedCall::Alter(3, Becomes(Some(5))), new),
+        Do::Call(OwnedCall::Alter(3, Becomes(Some(6))), six),
+        Do::Call(OwnedCall::AlterPresent(3, Becomes(Some(7))), seven),
+        Do::Call(OwnedCall::AlterPresent(19, Becomes(Some(7))), absent),
+        Do::Call(OwnedCall::Get(3), value(Some(7))),
+        Do::Call(OwnedCall::AlterPresent(3, Becomes(None)), had_seven),
+        Do::Call(OwnedCall::Alter(3, Becomes(Some(5))), new),
+        Do::Call(OwnedCall::Alter(3, Becomes(None)), had_five),
+        Do::Call(OwnedCall::Get(3), value(None)),
+    ]
+}
+
+// Returns each of the other kinds of call, on an empty map.
 fn each_call<F: ComputeFn<u64, u64> + Copy>(change: F) -> [Do<F>; 22] {
     let no_pair = Plain::OutcomeReply(KeptReply::Pair(None));
     let absent = Plain::OutcomeReply(KeptReply::Contains(false));

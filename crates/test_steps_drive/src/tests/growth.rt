@@ -28,7 +28,7 @@ fn hundred_keys_beside_a_published_table(rt: HostRuntime) {
 }
 
 fn twice_alone<F: ComputeFn<u64, u64>, R: Wait + Abort>(rt: &R, parts: &mut Parts<u64, u64>)
-    requires { (f : F) → F.can_change f }
+    requires { (f : F) → F.can_change f × F.never_keeps f }
 {
     let put: OwnedCall<u64, u64, F> = OwnedCall::Insert(7, 1);
     let reply = drive_alone(rt, put, &LowHashBuilder, 1, parts);

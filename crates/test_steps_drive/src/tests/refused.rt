@@ -18,7 +18,7 @@ fn insertion<F: ComputeFn<u64, u64>, A: Allocator + Copy, R: Wait + Abort>(
     memory: A,
     k: u64,
 ) -> (Plain, Plain, bool)
-    requires { (f : F) → F.can_change f }
+    requires { (f : F) → F.can_change f × F.never_keeps f }
 {
     let mut parts: Parts<u64, u64, A> = Parts::new(memory).expect(rt, "memory for the parts");
     let put: OwnedCall<u64, u64, F> = OwnedCall::Insert(7, 1);
@@ -35,7 +35,7 @@ fn refuses_each<F: ComputeFn<u64, u64>, A: Allocator + Copy, R: Wait + Abort>(
     metered: &MeteredAlloc<Global>,
     memory: A,
 )
-    requires { (f : F) → F.can_change f }
+    requires { (f : F) → F.can_change f × F.never_keeps f }
 {
     for k in 0..5u64 {
         let wanted = if k < 4 {

@@ -16,7 +16,7 @@ fn has_read<F: ComputeFn<u64, u64> + Copy, A: Allocator + Copy>(
     memory: A,
     more: usize,
 ) -> Numbers<F, A>
-    requires { (f : F) → F.can_change f }
+    requires { (f : F) → F.can_change f × F.never_keeps f }
 {
     let mut world = world_for(rt, memory, 8);
     let party = begins(rt, &mut world, OwnedCall::Insert(1, 1));
@@ -36,7 +36,7 @@ fn drops_at<F: ComputeFn<u64, u64> + Copy, A: Allocator + Copy>(
     memory: A,
     more: u64,
 ) -> bool
-    requires { (f : F) → F.can_change f }
+    requires { (f : F) → F.can_change f × F.never_keeps f }
 {
     let mut world: Numbers<F, A> = has_read(rt, memory, more as usize);
     let before = label_count(&world);

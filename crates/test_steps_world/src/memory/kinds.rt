@@ -51,7 +51,7 @@ fn told_at<F: ComputeFn<u64, u64> + Copy, A: Allocator + Copy>(
     row: Row<F>,
     k: u64,
 ) -> Option<Told>
-    requires { (f : F) → F.can_change f }
+    requires { (f : F) → F.can_change f × F.never_keeps f }
 {
     let mut world: Numbers<F, A> = world_of(rt, memory, 3);
     let seen = refused_at(rt, metered, &mut world, row.call, k);
@@ -73,7 +73,7 @@ fn refuses_each<F: ComputeFn<u64, u64> + Copy, A: Allocator + Copy>(
     memory: A,
     row: Row<F>,
 )
-    requires { (f : F) → F.can_change f }
+    requires { (f : F) → F.can_change f × F.never_keeps f }
 {
     let mut own = 0u64;
     for k in 0..MOST {
@@ -97,7 +97,7 @@ fn refuses_writes<F: ComputeFn<u64, u64> + Copy, A: Allocator + Copy>(
     memory: A,
     change: F,
 )
-    requires { (f : F) → F.can_change f }
+    requires { (f : F) → F.can_change f × F.never_keeps f }
 {
     let new = Close::Reply(KeptReply::New(5));
     let values = (20, None, Some(5));
@@ -122,7 +122,7 @@ fn refuses_removals<F: ComputeFn<u64, u64> + Copy, A: Allocator + Copy>(
     metered: &MeteredAlloc<Global>,
     memory: A,
 )
-    requires { (f : F) → F.can_change f }
+    requires { (f : F) → F.can_change f × F.never_keeps f }
 {
     let values = (1, Some(1), None);
     let one = reply(Some(1));
@@ -152,7 +152,7 @@ fn refuses_walk<F: ComputeFn<u64, u64> + Copy, A: Allocator + Copy>(
     metered: &MeteredAlloc<Global>,
     memory: A,
 )
-    requires { (f : F) → F.can_change f }
+    requires { (f : F) → F.can_change f × F.never_keeps f }
 {
     let values = (1, Some(1), Some(1));
     refuses_each::<F, A>(

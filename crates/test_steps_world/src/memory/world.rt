@@ -69,7 +69,7 @@ pub(super) fn begins<F: ComputeFn<u64, u64> + Copy, A: Allocator + Copy>(
     world: &mut Numbers<F, A>,
     call: OwnedCall<u64, u64, F>,
 ) -> usize
-    requires { (f : F) → F.can_change f }
+    requires { (f : F) → F.can_change f × F.never_keeps f }
 {
     world.begin(call).expect(rt, "memory for the call")
 }
@@ -100,7 +100,7 @@ fn whole<F: ComputeFn<u64, u64> + Copy, A: Allocator + Copy>(
     world: &mut Numbers<F, A>,
     call: OwnedCall<u64, u64, F>,
 ) -> Close
-    requires { (f : F) → F.can_change f }
+    requires { (f : F) → F.can_change f × F.never_keeps f }
 {
     let party = begins(rt, world, call);
     finish(rt, world, party).0
@@ -112,7 +112,7 @@ pub(super) fn value<F: ComputeFn<u64, u64> + Copy, A: Allocator + Copy>(
     world: &mut Numbers<F, A>,
     key: u64,
 ) -> Close
-    requires { (f : F) → F.can_change f }
+    requires { (f : F) → F.can_change f × F.never_keeps f }
 {
     whole(rt, world, OwnedCall::Get(key))
 }
@@ -173,7 +173,7 @@ pub(super) fn world_of<F: ComputeFn<u64, u64> + Copy, A: Allocator + Copy>(
     memory: A,
     count: u64,
 ) -> Numbers<F, A>
-    requires { (f : F) → F.can_change f }
+    requires { (f : F) → F.can_change f × F.never_keeps f }
 {
     let mut world = world_for(rt, memory, 0);
     for key in 0..count {
@@ -190,7 +190,7 @@ pub(super) fn refused_at<F: ComputeFn<u64, u64> + Copy, A: Allocator + Copy>(
     call: OwnedCall<u64, u64, F>,
     request: u64,
 ) -> Option<(Told, Close)>
-    requires { (f : F) → F.can_change f }
+    requires { (f : F) → F.can_change f × F.never_keeps f }
 {
     let party = begins(rt, world, call);
     metered.refuse_at(request);
@@ -275,7 +275,7 @@ fn begins_at<F: ComputeFn<u64, u64> + Copy, A: Allocator + Copy>(
     memory: A,
     k: u64,
 )
-    requires { (f : F) → F.can_change f }
+    requires { (f : F) → F.can_change f × F.never_keeps f }
 {
     let mut world: Numbers<F, A> = world_for(rt, memory, 0);
     metered.refuse_at(k);
@@ -312,7 +312,7 @@ fn text_of_an_insertion<F: ComputeFn<u64, u64> + Copy + Debug, A: Allocator + Co
     alloc: Global,
     memory: A,
 ) -> String
-    requires { (f : F) → F.can_change f }
+    requires { (f : F) → F.can_change f × F.never_keeps f }
 {
     let mut world: Numbers<F, A> = world_for(rt, memory, 0);
     let _ = whole(rt, &mut world, OwnedCall::Insert(3, 10));
@@ -329,7 +329,7 @@ fn inserts_at<F: ComputeFn<u64, u64> + Copy + Debug, A: Allocator + Copy>(
     memory: A,
     k: u64,
 ) -> bool
-    requires { (f : F) → F.can_change f }
+    requires { (f : F) → F.can_change f × F.never_keeps f }
 {
     let mut world: Numbers<F, A> = world_for(rt, memory, 0);
     let seen = refused_at(rt, metered, &mut world, OwnedCall::Insert(3, 10), k);
@@ -349,7 +349,7 @@ fn inserted_at<F: ComputeFn<u64, u64> + Copy + Debug, A: Allocator + Copy>(
     k: u64,
     seen: (Told, Close),
 )
-    requires { (f : F) → F.can_change f }
+    requires { (f : F) → F.can_change f × F.never_keeps f }
 {
     let none = reply(None);
     if k < 4 {
@@ -389,7 +389,7 @@ fn grows_at<F: ComputeFn<u64, u64> + Copy + Debug, A: Allocator + Copy>(
     memory: A,
     k: u64,
 ) -> bool
-    requires { (f : F) → F.can_change f }
+    requires { (f : F) → F.can_change f × F.never_keeps f }
 {
     let mut world: Numbers<F, A> = world_of(rt, memory, 11);
     let seen = refused_at(rt, metered, &mut world, OwnedCall::Insert(20, 5), k);
@@ -408,7 +408,7 @@ fn grown_at<F: ComputeFn<u64, u64> + Copy + Debug, A: Allocator + Copy>(
     k: u64,
     seen: (Told, Close),
 )
-    requires { (f : F) → F.can_change f }
+    requires { (f : F) → F.can_change f × F.never_keeps f }
 {
     let none = reply(None);
     let (wanted, found) = match k {
@@ -446,7 +446,7 @@ fn looks_up_at<F: ComputeFn<u64, u64> + Copy, A: Allocator + Copy>(
     memory: A,
     k: u64,
 ) -> Option<(Told, Close)>
-    requires { (f : F) → F.can_change f }
+    requires { (f : F) → F.can_change f × F.never_keeps f }
 {
     let mut world: Numbers<F, A> = world_of(rt, memory, 1);
     let seen = refused_at(rt, metered, &mut world, OwnedCall::Get(0), k);
@@ -493,7 +493,7 @@ fn reserves_at<F: ComputeFn<u64, u64> + Copy, A: Allocator + Copy>(
     count: u64,
     k: u64,
 ) -> Option<(Told, Close)>
-    requires { (f : F) → F.can_change f }
+    requires { (f : F) → F.can_change f × F.never_keeps f }
 {
     let mut world: Numbers<F, A> = world_of(rt, memory, count);
     let seen = refused_at(rt, metered, &mut world, OwnedCall::Reserve(100), k);
@@ -538,7 +538,7 @@ fn text_of_steps<F: ComputeFn<u64, u64> + Copy + Debug, A: Allocator + Copy>(
     alloc: Global,
     memory: A,
 ) -> String
-    requires { (f : F) → F.can_change f }
+    requires { (f : F) → F.can_change f × F.never_keeps f }
 {
     let mut world: Numbers<F, A> = world_for(rt, memory, 0);
     world
@@ -574,7 +574,7 @@ fn runs_at<F: ComputeFn<u64, u64> + Copy + Debug, A: Allocator + Copy>(
     memory: A,
     k: u64,
 ) -> bool
-    requires { (f : F) → F.can_change f }
+    requires { (f : F) → F.can_change f × F.never_keeps f }
 {
     let mut world: Numbers<F, A> = world_for(rt, memory, 0);
     let steps = steps_from(rt, memory, 0);

@@ -34,7 +34,7 @@ fn refuses_first_table<F: ComputeFn<u64, u64> + Copy + Debug, A: Allocator + Cop
     metered: &MeteredAlloc<Global>,
     memory: A,
 )
-    requires { (f : F) → F.can_change f }
+    requires { (f : F) → F.can_change f × F.never_keeps f }
 {
     let mut world: Numbers<F, A> = world_for(rt, memory, 0);
     let _ = begins(rt, &mut world, OwnedCall::Insert(3, 4));
@@ -64,7 +64,7 @@ fn eleven_keys<F: ComputeFn<u64, u64> + Copy, A: Allocator + Copy>(
     rt: &impl Abort,
     memory: A,
 ) -> Numbers<F, A>
-    requires { (f : F) → F.can_change f }
+    requires { (f : F) → F.can_change f × F.never_keeps f }
 {
     let mut world = world_for(rt, memory, 8);
     for key in 0..11u64 {
@@ -81,7 +81,7 @@ fn refuses_larger_table<F: ComputeFn<u64, u64> + Copy + Debug, A: Allocator + Co
     metered: &MeteredAlloc<Global>,
     memory: A,
 )
-    requires { (f : F) → F.can_change f }
+    requires { (f : F) → F.can_change f × F.never_keeps f }
 {
     let mut world: Numbers<F, A> = eleven_keys(rt, memory);
     assert_same(rt, begins(rt, &mut world, OwnedCall::Insert(11, 11)), 11);
@@ -112,7 +112,7 @@ fn refuses_reserve<F: ComputeFn<u64, u64> + Copy + Debug, A: Allocator + Copy>(
     metered: &MeteredAlloc<Global>,
     memory: A,
 )
-    requires { (f : F) → F.can_change f }
+    requires { (f : F) → F.can_change f × F.never_keeps f }
 {
     let mut world: Numbers<F, A> = world_for(rt, memory, 8);
     let _ = begins(rt, &mut world, OwnedCall::Reserve(16));

@@ -27,7 +27,7 @@ enum Row {
 // Goes through a row in a world of its own, which it passes by reference: where a world is dropped, the proof goes through everything that
 // it can hold.
 fn goes_through<F: ComputeFn<u64, u64> + Copy>(rt: &impl Abort, alloc: Global, row: Row, change: F)
-    requires { (f : F) → F.can_change f }
+    requires { (f : F) → F.can_change f × F.never_keeps f }
 {
     let capacity = match row {
         Row::AbsentKey | Row::OneKey => 0,
@@ -57,7 +57,7 @@ fn absent_key<'k, F: ComputeFn<u64, u64> + Copy>(
     world: &mut Numbers<'k, F>,
     change: F,
 )
-    requires { (f : F) → F.can_change f }
+    requires { (f : F) → F.can_change f × F.never_keeps f }
 {
     let none = value(None);
     let absent = KeptReply::Contains(false);
@@ -81,7 +81,7 @@ fn one_key<'k, F: ComputeFn<u64, u64> + Copy>(
     world: &mut Numbers<'k, F>,
     change: F,
 )
-    requires { (f : F) → F.can_change f }
+    requires { (f : F) → F.can_change f × F.never_keeps f }
 {
     puts(rt, world);
     assert_reply(rt, world, OwnedCall::Compute(3, change), value(Some(7)));
@@ -92,7 +92,7 @@ fn one_key<'k, F: ComputeFn<u64, u64> + Copy>(
 
 // Sets the value of key 3 to 5, and the value of key 19 to 6.
 fn puts<'k, F: ComputeFn<u64, u64> + Copy>(rt: &impl Abort, world: &mut Numbers<'k, F>)
-    requires { (f : F) → F.can_change f }
+    requires { (f : F) → F.can_change f × F.never_keeps f }
 {
     let exists = KeptReply::Exists {
         current: 6,
@@ -107,7 +107,7 @@ fn puts<'k, F: ComputeFn<u64, u64> + Copy>(rt: &impl Abort, world: &mut Numbers<
 
 // Removes key 3, whose value is 7, while key 19 is absent.
 fn removes<'k, F: ComputeFn<u64, u64> + Copy>(rt: &impl Abort, world: &mut Numbers<'k, F>)
-    requires { (f : F) → F.can_change f }
+    requires { (f : F) → F.can_change f × F.never_keeps f }
 {
     let pair = KeptReply::Pair(Some((3, 7)));
     assert_reply(
@@ -155,7 +155,7 @@ fn step_at<F>(at: usize) -> Step<u64, u64, F> {
 
 // Does the steps in a world of its own, as a list or one by one.
 fn runs_a_list<F: ComputeFn<u64, u64> + Copy>(rt: &impl Abort, alloc: Global, listed: bool)
-    requires { (f : F) → F.can_change f }
+    requires { (f : F) → F.can_change f × F.never_keeps f }
 {
     let mut world: Numbers<'_, F> = world_for(rt, alloc, 0, 1);
     if listed {
@@ -174,7 +174,7 @@ fn does_listed<'k, F: ComputeFn<u64, u64> + Copy>(
     alloc: Global,
     world: &mut Numbers<'k, F>,
 )
-    requires { (f : F) → F.can_change f }
+    requires { (f : F) → F.can_change f × F.never_keeps f }
 {
     let mut list = Vec::new(alloc);
     for at in 0..STEPS {
@@ -185,7 +185,7 @@ fn does_listed<'k, F: ComputeFn<u64, u64> + Copy>(
 
 // Does the steps one by one, each by the call that does it.
 fn does_singly<'k, F: ComputeFn<u64, u64> + Copy>(rt: &impl Abort, world: &mut Numbers<'k, F>)
-    requires { (f : F) → F.can_change f }
+    requires { (f : F) → F.can_change f × F.never_keeps f }
 {
     for at in 0..STEPS {
         match step_at(at) {
@@ -255,7 +255,7 @@ fn has_first_table<F: ComputeFn<u64, u64> + Copy>(
     capacity: usize,
     table: u8,
 )
-    requires { (f : F) → F.can_change f }
+    requires { (f : F) → F.can_change f × F.never_keeps f }
 {
     let mut world: Numbers<'_, F> = world_for(rt, alloc, capacity, 1);
     if capacity == 0 {
@@ -273,7 +273,7 @@ fn begins_with<'k, F: ComputeFn<u64, u64> + Copy>(
     world: &mut Numbers<'k, F>,
     table: u8,
 )
-    requires { (f : F) → F.can_change f }
+    requires { (f : F) → F.can_change f × F.never_keeps f }
 {
     let lines = [Line::Silent(0), Line::Decide(0, value(None))];
     assert_call(rt, world, 0, OwnedCall::Insert(0, 0), &lines);
@@ -294,7 +294,7 @@ fn rewrites<'k, F: ComputeFn<u64, u64> + Copy>(
     world: &mut Numbers<'k, F>,
     change: F,
 )
-    requires { (f : F) → F.can_change f }
+    requires { (f : F) → F.can_change f × F.never_keeps f }
 {
     assert_reply(rt, world, OwnedCall::Insert(8191, 0), value(None));
     for _ in 0..10u8 {

@@ -1,7 +1,7 @@
 //! A checker of labels. From the labels alone it keeps a plain map, the call of each party and the state of the tables.
 
 use flurry_base::reply::KeptReply;
-use flurry_bins_slots::ComputeFn;
+use flurry_bins_slots::{ComputeFn, Verdict};
 use flurry_steps_theory::{Call, Label};
 use std::alloc::Global;
 use std::process::Abort;
@@ -57,7 +57,8 @@ fn key_of<F>(call: &Call<u64, u64, F>) -> Option<u64> {
         | Call::RemoveEntry(key)
         | Call::Insert(key, _)
         | Call::TryInsert(key, _)
-        | Call::Compute(key, _) => Some(*key),
+        | Call::Compute(key, _)
+        | Call::Alter { key, .. } => Some(*key),
         Call::RemoveSeen(seen) => Some(seen.key),
         Call::Reserve(_) | Call::Clear | Call::Walk => None,
     }
@@ -69,7 +70,32 @@ fn touches<F>(call: &Call<u64, u64, F>, reply: KeptReply<u64, u64>) -> bool {
         Call::Insert(_, _) | Call::Compute(_, _) | Call::Remove(_) | Call::RemoveEntry(_) => true,
         Call::TryInsert(_, _) => matches!(reply, KeptReply::New(_)),
         Call::RemoveSeen(_) => matches!(reply, KeptReply::Value(Some(_))),
+        Call::Alter { .. } => !matches!(reply, KeptReply::Contains(_)),
         _ => false,
+    }
+}
+
+// Returns the value that a verdict sets.
+fn set_by(verdict: Verdict<u64>) -> Option<u64> {
+    match verdict {
+        Verdict::Set(value) => Some(value),
+        Verdict::Keep | Verdict::Remove => None,
+    }
+}
+
+// Returns the reply of an alteration with this verdict, and the value of the key after it.
+fn after_verdict(
+    verdict: Verdict<u64>,
+    key: u64,
+    value: Option<u64>,
+) -> (KeptReply<u64, u64>, Option<u64>) {
+    match (verdict, value) {
+        (Verdict::Keep, _) | (Verdict::Remove, None) => {
+            (KeptReply::Contains(value.is_some()), value)
+        }
+        (Verdict::Remove, Some(old)) => (KeptReply::Pair(Some((key, old))), None),
+        (Verdict::Set(new), None) => (KeptReply::New(new), Some(new)),
+        (Verdict::Set(new), Some(old)) => (KeptReply::Changed { new, old }, Some(new)),
     }
 }
 
@@ -79,7 +105,7 @@ fn outcome<F: ComputeFn<u64, u64>>(
     key: u64,
     value: Option<u64>,
 ) -> Option<(KeptReply<u64, u64>, Option<u64>)>
-    requires { (f : F) → F.can_change f }
+    requires { (f : F) → F.can_change f × F.never_keeps f }
 {
     let pair = value.map(|value| (key, value));
     match call {
@@ -104,10 +130,16 @@ fn outcome<F: ComputeFn<u64, u64>>(
         },
         Call::Compute(_, change) => {
             let after = match value {
-                Some(value) => change.change(&key, &value),
+                Some(value) => set_by(change.change(&key, Some(&value))),
                 None => None,
             };
             Some((KeptReply::Value(after), after))
+        }
+        Call::Alter { may_add, f, .. } => {
+            if value.is_none() && !may_add {
+                return Some((KeptReply::Contains(false), None));
+            }
+            Some(after_verdict(f.change(&key, value.as_ref()), key, value))
         }
         Call::RemoveSeen(_) | Call::Reserve(_) | Call::Clear | Call::Walk => None,
     }
@@ -208,7 +240,7 @@ impl<F: ComputeFn<u64, u64> + Copy> Checker<F> {
 
     /// Takes the next label, and checks that it may follow the labels before it.
     pub(super) fn check(&mut self, rt: &impl Abort, label: &Label<u64, u64, F>)
-        requires { (f : F) → F.can_change f }
+        requires { (f : F) → F.can_change f × F.never_keeps f }
     {
         match label {
             Label::Begin(party, call) => self.begins(rt, *party, *call),
@@ -279,7 +311,7 @@ impl<F: ComputeFn<u64, u64> + Copy> Checker<F> {
     }
 
     fn decides(&mut self, rt: &impl Abort, party: usize, reply: KeptReply<u64, u64>)
-        requires { (f : F) → F.can_change f }
+        requires { (f : F) → F.can_change f × F.never_keeps f }
     {
         let known = self.known(rt, party);
         ensure(rt, known.decided.is_none(), "a call decides once");

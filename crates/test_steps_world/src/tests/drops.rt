@@ -11,7 +11,7 @@ use std::process::Abort;
 
 // Makes a world of 16 bins with the pair of 1 and 1, which party 1, a walk, has read.
 fn reads_one<'k, F: ComputeFn<u64, u64> + Copy>(rt: &impl Abort, world: &mut Numbers<'k, F>)
-    requires { (f : F) → F.can_change f }
+    requires { (f : F) → F.can_change f × F.never_keeps f }
 {
     assert_reply(rt, world, OwnedCall::Insert(1, 1), value(None));
     let lines = [Line::Silent(1), Line::Silent(1), Line::Read(1, 1, 1)];
@@ -28,7 +28,7 @@ enum Pair {
 
 // Reads the pair in a world of its own, and removes what was read.
 fn goes_through<F: ComputeFn<u64, u64> + Copy>(rt: &impl Abort, alloc: Global, pair: Pair)
-    requires { (f : F) → F.can_change f }
+    requires { (f : F) → F.can_change f × F.never_keeps f }
 {
     let mut world: Numbers<'_, F> = world_for(rt, alloc, 8, 1);
     reads_one(rt, &mut world);
@@ -74,7 +74,7 @@ fn keeps_what_was_rewritten<'k, F: ComputeFn<u64, u64> + Copy>(
     rt: &impl Abort,
     world: &mut Numbers<'k, F>,
 )
-    requires { (f : F) → F.can_change f }
+    requires { (f : F) → F.can_change f × F.never_keeps f }
 {
     assert_reply(rt, world, OwnedCall::Insert(1, 9), value(Some(1)));
     drops(rt, world, 3);
@@ -97,7 +97,7 @@ fn removes_what_stayed<'k, F: ComputeFn<u64, u64> + Copy>(
     rt: &impl Abort,
     world: &mut Numbers<'k, F>,
 )
-    requires { (f : F) → F.can_change f }
+    requires { (f : F) → F.can_change f × F.never_keeps f }
 {
     assert_reply(rt, world, OwnedCall::Insert(17, 17), value(None));
     drops(rt, world, 3);
@@ -125,7 +125,7 @@ fn removal_of_nothing(rt: HostRuntime) {
 }
 
 fn removes_nothing<'k, F: ComputeFn<u64, u64> + Copy>(rt: &impl Abort, world: &mut Numbers<'k, F>)
-    requires { (f : F) → F.can_change f }
+    requires { (f : F) → F.can_change f × F.never_keeps f }
 {
     let walk = begin(rt, world, OwnedCall::Walk);
     let clear = begin(rt, world, OwnedCall::Clear);

@@ -1,9 +1,9 @@
 //! Random schedules, in which each label is checked.
-ghost use Rattle.std.specs.Prelude.{◌<◌};
+ghost use Rattle.std.specs.Prelude.{◌<◌, ⊤};
 
 use super::checker::{Checker, KEYS};
 use super::{Numbers, begin, label_count, world_for};
-use flurry_bins_slots::ComputeFn;
+use flurry_bins_slots::{ComputeFn, Verdict};
 use flurry_steps::party::OwnedCall;
 use flurry_steps_control::wanted_table;
 use std::alloc::Global;
@@ -34,7 +34,7 @@ impl Random {
 fn random_call<F: ComputeFn<u64, u64>>(random: &mut Random, change: F) -> OwnedCall<u64, u64, F> {
     let key = random.below(KEYS);
     let value = random.below(1000);
-    match random.below(19) {
+    match random.below(22) {
         0 | 1 => OwnedCall::Get(key),
         2 => OwnedCall::GetKeyValue(key),
         3 => OwnedCall::ContainsKey(key),
@@ -45,6 +45,8 @@ fn random_call<F: ComputeFn<u64, u64>>(random: &mut Random, change: F) -> OwnedC
         13 | 14 => OwnedCall::Compute(key, change),
         15 => OwnedCall::Reserve(random.below(65) as usize),
         16 => OwnedCall::Clear,
+        17 | 18 => OwnedCall::Alter(key, change),
+        19 => OwnedCall::AlterPresent(key, change),
         _ => OwnedCall::Walk,
     }
 }
@@ -77,14 +79,14 @@ impl<'k, F: ComputeFn<u64, u64> + Copy> Checked<'k, F> {
     }
 
     fn check_last(&mut self, rt: &impl Abort)
-        requires { (f : F) → F.can_change f }
+        requires { (f : F) → F.can_change f × F.never_keeps f }
     {
         let label = self.world.trace().last().expect(rt, "a label was added");
         self.checker.check(rt, label);
     }
 
     fn begin(&mut self, rt: &impl Abort, call: OwnedCall<u64, u64, F>) -> usize
-        requires { (f : F) → F.can_change f }
+        requires { (f : F) → F.can_change f × F.never_keeps f }
     {
         let party = begin(rt, &mut self.world, call);
         self.check_last(rt);
@@ -103,7 +105,7 @@ impl<'k, F: ComputeFn<u64, u64> + Copy> Checked<'k, F> {
 
     // Begins the removal of what a party has read last, if it is a walk that has read. Returns whether a removal began.
     fn drop_seen(&mut self, rt: &impl Abort, walk: usize) -> bool
-        requires { (f : F) → F.can_change f }
+        requires { (f : F) → F.can_change f × F.never_keeps f }
     {
         let labels = label_count(&self.world);
         let began = self
@@ -124,7 +126,7 @@ impl<'k, F: ComputeFn<u64, u64> + Copy> Checked<'k, F> {
 
     // Does a step of a party. A look-up must have decided after 32 steps.
     fn step(&mut self, rt: &impl Abort, party: usize)
-        requires { (f : F) → F.can_change f }
+        requires { (f : F) → F.can_change f × F.never_keeps f }
     {
         self.world.step(party).expect(rt, "memory for the step");
         let was_closed = self.checker.is_closed(party);
@@ -140,7 +142,7 @@ impl<'k, F: ComputeFn<u64, u64> + Copy> Checked<'k, F> {
 
     // Makes a party lose, which is no step of it.
     fn lose(&mut self, rt: &impl Abort, party: usize)
-        requires { (f : F) → F.can_change f }
+        requires { (f : F) → F.can_change f × F.never_keeps f }
     {
         self.world.lose(party).expect(rt, "memory for the label");
         self.check_last(rt);
@@ -148,7 +150,7 @@ impl<'k, F: ComputeFn<u64, u64> + Copy> Checked<'k, F> {
 
     // Looks up each key. The results of these calls are checked with their labels.
     fn look_all_up(&mut self, rt: &impl Abort)
-        requires { (f : F) → F.can_change f }
+        requires { (f : F) → F.can_change f × F.never_keeps f }
     {
         for key in 0..KEYS {
             let party = self.begin(rt, OwnedCall::Get(key));
@@ -158,7 +160,7 @@ impl<'k, F: ComputeFn<u64, u64> + Copy> Checked<'k, F> {
 
     // Does the steps of a look-up until it replies.
     fn close(&mut self, rt: &impl Abort, party: usize)
-        requires { (f : F) → F.can_change f }
+        requires { (f : F) → F.can_change f × F.never_keeps f }
     {
         for _ in 0..33u64 {
             self.step(rt, party);
@@ -189,7 +191,7 @@ fn random_steps<'k, F: ComputeFn<u64, u64> + Copy>(
     random: &mut Random,
     change: F,
 )
-    requires { (f : F) → F.can_change f }
+    requires { (f : F) → F.can_change f × F.never_keeps f }
 {
     let mut going = checked.begin(rt, random_call(random, change));
     let mut parties = 1u64;
@@ -222,7 +224,7 @@ fn steps_of_four<'k, F: ComputeFn<u64, u64> + Copy>(
     change: F,
     losses: u64,
 )
-    requires { (f : F) → F.can_change f }
+    requires { (f : F) → F.can_change f × F.never_keeps f }
 {
     let mut places = [usize::MAX; 4];
     for _ in 0..200u64 {
@@ -275,7 +277,7 @@ fn schedules<F: ComputeFn<u64, u64> + Copy>(
     drawing: Drawing,
     change: F,
 ) -> Totals
-    requires { (f : F) → F.can_change f }
+    requires { (f : F) → F.can_change f × F.never_keeps f }
 {
     let mut random = Random { state: seed };
     let mut totals = Totals {
@@ -302,12 +304,34 @@ fn schedules<F: ComputeFn<u64, u64> + Copy>(
     totals
 }
 
-// Doubles an even value, and removes the pair of an odd one.
-fn double_or_remove(_key: &u64, value: &u64) -> Option<u64> {
-    if *value % 2 == 0 {
-        Some(value.wrapping_mul(2))
-    } else {
-        None
+// Doubles an even value, and removes the pair of an odd one. An even key that is absent gets itself as its value.
+#[derive(Clone, Copy)]
+struct DoubleOrRemove;
+
+impl ComputeFn<u64, u64> for DoubleOrRemove {
+    ghost can_change = { λ _. ⊤ };
+
+    ghost never_keeps = { λ _. ⊤ };
+
+    ghost changes = { λ _ _ _ _. ⊤ };
+
+    fn change<'a>(self, key: &'a u64, value: Option<&'a u64>) -> Verdict<u64> {
+        match value {
+            Some(value) => {
+                if *value % 2 == 0 {
+                    Verdict::Set(value.wrapping_mul(2))
+                } else {
+                    Verdict::Remove
+                }
+            }
+            None => {
+                if *key % 2 == 0 {
+                    Verdict::Set(*key)
+                } else {
+                    Verdict::Keep
+                }
+            }
+        }
     }
 }
 
@@ -334,7 +358,7 @@ fn random_schedules(rt: HostRuntime) {
         rt.alloc(),
         88_172_645_463_325_252,
         Drawing::Any,
-        double_or_remove,
+        DoubleOrRemove,
     );
     did(&rt, totals, 15_000, 300, 100);
 }
@@ -346,7 +370,7 @@ fn random_schedules_of_four_parties(rt: HostRuntime) {
         rt.alloc(),
         88_172_645_463_325_252,
         Drawing::Four,
-        double_or_remove,
+        DoubleOrRemove,
     );
     did(&rt, totals, 15_000, 300, 100);
 }
@@ -358,7 +382,7 @@ fn random_schedules_with_losses(rt: HostRuntime) {
         rt.alloc(),
         88_172_645_463_325_252,
         Drawing::FourThatLose,
-        double_or_remove,
+        DoubleOrRemove,
     );
     did(&rt, totals, 12_000, 200, 80);
 }

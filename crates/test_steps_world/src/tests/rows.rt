@@ -57,7 +57,7 @@ enum Row {
 // Goes through a row in a world of its own, which it passes by reference: where a world is dropped, the proof goes through everything that
 // it can hold.
 fn goes_through<F: ComputeFn<u64, u64> + Copy>(rt: &impl Abort, alloc: Global, row: Row)
-    requires { (f : F) → F.can_change f }
+    requires { (f : F) → F.can_change f × F.never_keeps f }
 {
     let (capacity, processors) = match row {
         Row::StopsAndGoesOn
@@ -90,7 +90,7 @@ fn insertion_and_look_up<'k, F: ComputeFn<u64, u64> + Copy>(
     rt: &impl Abort,
     world: &mut Numbers<'k, F>,
 )
-    requires { (f : F) → F.can_change f }
+    requires { (f : F) → F.can_change f × F.never_keeps f }
 {
     let lines = inserted(0, Line::Opened(4));
     assert_call(rt, world, 0, OwnedCall::Insert(3, 4), &lines);
@@ -104,7 +104,7 @@ fn reserve_of_nothing(rt: HostRuntime) {
 }
 
 fn reserves_nothing<'k, F: ComputeFn<u64, u64> + Copy>(rt: &impl Abort, world: &mut Numbers<'k, F>)
-    requires { (f : F) → F.can_change f }
+    requires { (f : F) → F.can_change f × F.never_keeps f }
 {
     let lines = [Line::Opened(0), Line::Silent(0), Line::End(0)];
     assert_call(rt, world, 0, OwnedCall::Reserve(0), &lines);
@@ -113,7 +113,7 @@ fn reserves_nothing<'k, F: ComputeFn<u64, u64> + Copy>(rt: &impl Abort, world: &
 // In a world of two processors, a table of 64 bins grows. Party 0 has inserted key 50. Party 1 has started the growth, holds the bins 48 to
 // 63 and has moved none of them. Party 2 has inserted key 2, and has moved all other bins.
 fn half_grows<'k, F: ComputeFn<u64, u64> + Copy>(rt: &impl Abort, world: &mut Numbers<'k, F>)
-    requires { (f : F) → F.can_change f }
+    requires { (f : F) → F.can_change f × F.never_keeps f }
 {
     let lines = inserted(0, Line::Silent(0));
     assert_call(rt, world, 0, OwnedCall::Insert(50, 50), &lines);
@@ -127,7 +127,7 @@ fn puts_two_and_helps<'k, F: ComputeFn<u64, u64> + Copy>(
     rt: &impl Abort,
     world: &mut Numbers<'k, F>,
 )
-    requires { (f : F) → F.can_change f }
+    requires { (f : F) → F.can_change f × F.never_keeps f }
 {
     let lines = [
         Line::Silent(2),
@@ -177,7 +177,7 @@ fn helper_that_stops_and_goes_on(rt: HostRuntime) {
 }
 
 fn stops_and_goes_on<'k, F: ComputeFn<u64, u64> + Copy>(rt: &impl Abort, world: &mut Numbers<'k, F>)
-    requires { (f : F) → F.can_change f }
+    requires { (f : F) → F.can_change f × F.never_keeps f }
 {
     half_grows(rt, world);
     nothing_published(rt, world);
@@ -201,7 +201,7 @@ fn helper_that_stops_for_good(rt: HostRuntime) {
 
 // Bin 50 of 64, which is also the bin of key 114, has not moved, so the insertion of key 114 decides there.
 fn stops_for_good<'k, F: ComputeFn<u64, u64> + Copy>(rt: &impl Abort, world: &mut Numbers<'k, F>)
-    requires { (f : F) → F.can_change f }
+    requires { (f : F) → F.can_change f × F.never_keeps f }
 {
     half_grows(rt, world);
     assert_call(rt, world, 3, OwnedCall::Get(50), &found(3, 50));
@@ -215,7 +215,7 @@ fn stops_for_good<'k, F: ComputeFn<u64, u64> + Copy>(rt: &impl Abort, world: &mu
 
 // Makes further calls, while party 1 does no step.
 fn others_end<'k, F: ComputeFn<u64, u64> + Copy>(rt: &impl Abort, world: &mut Numbers<'k, F>)
-    requires { (f : F) → F.can_change f }
+    requires { (f : F) → F.can_change f × F.never_keeps f }
 {
     assert_reply(rt, world, OwnedCall::Insert(3, 3), value(None));
     assert_reply(rt, world, OwnedCall::Remove(2), value(Some(2)));
@@ -232,7 +232,7 @@ fn ends<'k, F: ComputeFn<u64, u64> + Copy>(
     world: &mut Numbers<'k, F>,
     call: OwnedCall<u64, u64, F>,
 )
-    requires { (f : F) → F.can_change f }
+    requires { (f : F) → F.can_change f × F.never_keeps f }
 {
     let party = begin(rt, world, call);
     assert_same(rt, end_of(rt, world, party), Line::End(party));
@@ -244,7 +244,7 @@ fn unknown_and_finished_parties(rt: HostRuntime) {
 }
 
 fn does_nothing<'k, F: ComputeFn<u64, u64> + Copy>(rt: &impl Abort, world: &mut Numbers<'k, F>)
-    requires { (f : F) → F.can_change f }
+    requires { (f : F) → F.can_change f × F.never_keeps f }
 {
     assert_steps(rt, world, 7, &[Line::Silent(7)]);
     assert_steps(rt, world, 0, &[Line::Silent(0)]);
@@ -266,7 +266,7 @@ fn attempts_that_are_lost(rt: HostRuntime) {
 
 // Party 0, which is to claim a range, loses, and claims one at its next step. Party 1, which is to take a seat, loses, and does not help.
 fn loses<'k, F: ComputeFn<u64, u64> + Copy>(rt: &impl Abort, world: &mut Numbers<'k, F>)
-    requires { (f : F) → F.can_change f }
+    requires { (f : F) → F.can_change f × F.never_keeps f }
 {
     let lines = [Line::Silent(0), Line::Placed(7)];
     assert_call(rt, world, 0, OwnedCall::Reserve(33), &lines);
@@ -288,7 +288,7 @@ fn puts_a_pair<'k, F: ComputeFn<u64, u64> + Copy>(
     world: &mut Numbers<'k, F>,
     party: usize,
 )
-    requires { (f : F) → F.can_change f }
+    requires { (f : F) → F.can_change f × F.never_keeps f }
 {
     let lines = [
         Line::Silent(party),
@@ -306,7 +306,7 @@ fn helpers_without_a_seat(rt: HostRuntime) {
 // Party 0 begins a growth, and has the first seat. Parties 1 to 7 take the others. Party 8 finds none, and does not help. Party 7 moves all
 // bins and publishes. Party 1, whose growth is then over, finds nothing to claim.
 fn nine_help<'k, F: ComputeFn<u64, u64> + Copy>(rt: &impl Abort, world: &mut Numbers<'k, F>)
-    requires { (f : F) → F.can_change f }
+    requires { (f : F) → F.can_change f × F.never_keeps f }
 {
     let lines = [Line::Silent(0), Line::Placed(7)];
     assert_call(rt, world, 0, OwnedCall::Reserve(33), &lines);
@@ -335,7 +335,7 @@ fn moves_all<'k, F: ComputeFn<u64, u64> + Copy>(
     world: &mut Numbers<'k, F>,
     party: usize,
 )
-    requires { (f : F) → F.can_change f }
+    requires { (f : F) → F.can_change f × F.never_keeps f }
 {
     for low in [48, 32, 16, 0] {
         assert_steps(rt, world, party, &[Line::Silent(party)]);
@@ -353,7 +353,7 @@ fn helper_of_a_growth_that_is_over(rt: HostRuntime) {
 // Party 0 has found table 6. Party 1 then grows it into table 7, all alone. Party 0 meets a bin that has moved: it takes a seat at the board
 // of that growth, finds nothing to claim, gives the seat back, and decides in table 7.
 fn helps_late<'k, F: ComputeFn<u64, u64> + Copy>(rt: &impl Abort, world: &mut Numbers<'k, F>)
-    requires { (f : F) → F.can_change f }
+    requires { (f : F) → F.can_change f × F.never_keeps f }
 {
     assert_call(rt, world, 0, OwnedCall::Insert(2, 2), &[Line::Silent(0)]);
     let lines = [Line::Silent(1), Line::Placed(7)];

@@ -16,7 +16,7 @@ fn puts<'k, F: ComputeFn<u64, u64> + Copy>(
     party: usize,
     number: u64,
 )
-    requires { (f : F) → F.can_change f }
+    requires { (f : F) → F.can_change f × F.never_keeps f }
 {
     let lines = [
         Line::Silent(party),
@@ -54,7 +54,7 @@ fn ends_after<'k, F: ComputeFn<u64, u64> + Copy>(
 
 // In a world of 16 bins, with the keys 1 and 17 in one of them, party 2 walks and has read 1.
 fn walks_half_a_bin<'k, F: ComputeFn<u64, u64> + Copy>(rt: &impl Abort, world: &mut Numbers<'k, F>)
-    requires { (f : F) → F.can_change f }
+    requires { (f : F) → F.can_change f × F.never_keeps f }
 {
     puts(rt, world, 0, 1);
     puts(rt, world, 1, 17);
@@ -75,7 +75,7 @@ enum Row {
 // Goes through a row in a world of its own, which it passes by reference: where a world is dropped, the proof goes through everything that
 // it can hold.
 fn goes_through<F: ComputeFn<u64, u64> + Copy>(rt: &impl Abort, alloc: Global, row: Row)
-    requires { (f : F) → F.can_change f }
+    requires { (f : F) → F.can_change f × F.never_keeps f }
 {
     let (capacity, processors) = match row {
         Row::TwoDoublings | Row::KeyComesAgain => (8, 1),
@@ -103,7 +103,7 @@ fn walks_across_doublings<'k, F: ComputeFn<u64, u64> + Copy>(
     rt: &impl Abort,
     world: &mut Numbers<'k, F>,
 )
-    requires { (f : F) → F.can_change f }
+    requires { (f : F) → F.can_change f × F.never_keeps f }
 {
     walks_half_a_bin(rt, world);
     let grower = begin(rt, world, OwnedCall::Reserve(16));
@@ -120,7 +120,7 @@ fn walk_beside_a_key_that_comes_again(rt: HostRuntime) {
 }
 
 fn walks_past_a_key<'k, F: ComputeFn<u64, u64> + Copy>(rt: &impl Abort, world: &mut Numbers<'k, F>)
-    requires { (f : F) → F.can_change f }
+    requires { (f : F) → F.can_change f × F.never_keeps f }
 {
     walks_half_a_bin(rt, world);
     assert_reply(rt, world, OwnedCall::Remove(1), value(Some(1)));
@@ -136,7 +136,7 @@ fn walk_beside_five_doublings(rt: HostRuntime) {
 }
 
 fn walks_across_five<'k, F: ComputeFn<u64, u64> + Copy>(rt: &impl Abort, world: &mut Numbers<'k, F>)
-    requires { (f : F) → F.can_change f }
+    requires { (f : F) → F.can_change f × F.never_keeps f }
 {
     puts(rt, world, 0, 2);
     assert_call(rt, world, 1, OwnedCall::Walk, &[Line::Silent(1)]);
@@ -157,7 +157,7 @@ fn clears_while_growing<'k, F: ComputeFn<u64, u64> + Copy>(
     rt: &impl Abort,
     world: &mut Numbers<'k, F>,
 )
-    requires { (f : F) → F.can_change f }
+    requires { (f : F) → F.can_change f × F.never_keeps f }
 {
     puts(rt, world, 0, 50);
     puts(rt, world, 1, 2);
@@ -189,7 +189,7 @@ fn sweeps_without_a_table(rt: HostRuntime) {
 }
 
 fn sweeps_nothing<'k, F: ComputeFn<u64, u64> + Copy>(rt: &impl Abort, world: &mut Numbers<'k, F>)
-    requires { (f : F) → F.can_change f }
+    requires { (f : F) → F.can_change f × F.never_keeps f }
 {
     let lines = [Line::Silent(0), Line::End(0), Line::Silent(0)];
     assert_call(rt, world, 0, OwnedCall::Walk, &lines);

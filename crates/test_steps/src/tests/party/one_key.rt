@@ -92,6 +92,38 @@ fn writes(rt: HostRuntime) {
     with_three(&rt, &rows);
 }
 
+// Of a call that may add a pair, also on a map without a table, which it makes first.
+#[test]
+fn alterations(rt: HostRuntime) {
+    let absent = Told::Key(KeptReply::Contains(false));
+    let one = Becomes(Some(1));
+    let two = Becomes(Some(2));
+    let new = Told::Key(KeptReply::New(1));
+    let changed = Told::Key(KeptReply::Changed { new: 2, old: 1 });
+    let pair = Told::Key(KeptReply::Pair(Some((19, 2))));
+    let opens = [Event::Opened(4), Event::Decide];
+    let rows = [
+        Row::Answers(
+            3,
+            OwnedCall::AlterPresent(19, one),
+            &[Event::Decide],
+            absent,
+        ),
+        Row::Table(None),
+        Row::Answers(3, OwnedCall::Alter(19, Becomes(None)), &opens, absent),
+        Row::Pairs(0),
+        Row::Takes(3, OwnedCall::AlterPresent(19, one), 2, absent),
+        Row::Pairs(0),
+        Row::Takes(3, OwnedCall::Alter(19, one), 3, new),
+        Row::Pairs(1),
+        Row::Takes(3, OwnedCall::Alter(19, two), 2, changed),
+        Row::Pairs(1),
+        Row::Takes(3, OwnedCall::AlterPresent(19, Becomes(None)), 3, pair),
+        Row::Pairs(0),
+    ];
+    goes_through(&rt, 0, &rows);
+}
+
 #[test]
 fn computations(rt: HostRuntime) {
     let one = Becomes(Some(1));

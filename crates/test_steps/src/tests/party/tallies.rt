@@ -37,7 +37,7 @@ fn counted<'k, F: ComputeFn<u64, u64>>(
     tally: &mut Tally,
     call: Call<'k, u64, u64, F>,
 ) -> (Want, Told)
-    requires { CallIsReady F.can_change call }
+    requires { CallIsReady F.can_change F.never_keeps call }
 {
     let mut party = Party::new(call, 3, 1);
     assert_same(rt, party.hash(), 3);

@@ -6,24 +6,19 @@ use Rattle.flurry_steps_sweep.specs.Outcome.{OutcomeRefused}
 use Rattle.flurry_steps.specs.Party.{Stage, Computes, AtDone}
 use Rattle.flurry_steps.specs.PartySlots.{ContentGives, stage_computed}
 use Rattle.flurry_steps_sweep.specs.declared.step.Event.TheVariants.{Decide, Refused}
+use Rattle.flurry_steps.proofs.AtLiveBin.{without_rest}
 use Rattle.flurry_steps.proofs.party.at_slot.compute.Goals as goal
+use Rattle.flurry_base.specs.declared.verdict.Verdict.{Verdict}
 
 -- a computation in vain is refused
-refused_at : {K V F : Type 0} (cmp : K → K → Ordering) (changes : F → K → V → Option V → Type 0) (h : ℕ) (k : K) (f : F) (e : ℕ) (c : Content K V) (w : V)
+refused_at : {K V F : Type 0} (cmp : K → K → Ordering) (changes : F → K → Option V → Verdict V → Type 0) (h : ℕ) (k : K) (f : F) (e : ℕ) (c : Content K V) (w : V)
     → IfLive c (λ b. ComputesInVain cmp (changes f) b h k w) → ContentGives cmp changes h (Computes k f) e c Refused (AtDone OutcomeRefused) c
 refused_at cmp changes h k f e (IsLive b) w v = (refl, refl, (w, v))
 refused_at cmp changes h k f e HasMoved w v = absurd v
 refused_at cmp changes h k f e IsUnborn w v = absurd v
 
-without_rest : {K V : Type 0} (P R : Live K V → Live K V → Type 0) (c c' : Content K V) → IfLive c (λ b. IfLive c' (λ d. P b d × R b d)) → IfLive c (λ b. IfLive c' (P b))
-without_rest P R (IsLive b) (IsLive d) here = here.0
-without_rest P R (IsLive b) HasMoved here = absurd here
-without_rest P R (IsLive b) IsUnborn here = absurd here
-without_rest P R HasMoved c' here = absurd here
-without_rest P R IsUnborn c' here = absurd here
-
 -- a computation that was done at a live bin decides
-decided_at : {K V F : Type 0} (cmp : K → K → Ordering) (changes : F → K → V → Option V → Type 0) (h : ℕ) (k : K) (f : F) (e : ℕ) (c c' : Content K V) (o : ComputeOutcome V) (s : Stage K V F)
+decided_at : {K V F : Type 0} (cmp : K → K → Ordering) (changes : F → K → Option V → Verdict V → Type 0) (h : ℕ) (k : K) (f : F) (e : ℕ) (c c' : Content K V) (o : ComputeOutcome V) (s : Stage K V F)
     → IfLive c (λ b. IfLive c' (λ d. slot.Computes cmp (changes f) (2 ^ e) b h k o d)) → s ≡ stage_computed o → ContentGives cmp changes h (Computes k f) e c Decide s c'
 decided_at cmp changes h k f e (IsLive b) (IsLive d) o s here is = (d, (o, here, is), refl)
 decided_at cmp changes h k f e (IsLive b) HasMoved o s here is = absurd here

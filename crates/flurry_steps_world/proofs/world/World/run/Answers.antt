@@ -10,7 +10,7 @@ loop-step-init g c = record {
   ran = refl;
   hasher = refl;
   split = c.into_iter-step-iterator.ensures.into_iter_gives.0;
-  ready = subst (All (StepIsReady g.F.ComputeFn.can_change)) (sym c.into_iter-step-iterator.ensures.into_iter_gives.0) c.requires;
+  ready = subst (All (StepIsReady g.F.ComputeFn.can_change g.F.ComputeFn.never_keeps)) (sym c.into_iter-step-iterator.ensures.into_iter_gives.0) c.requires;
 }
 
 pub loop-step-preserved : goal.loop-step-preserved
@@ -22,11 +22,11 @@ loop-step-preserved g c = record {
   split =
       append_assoc c.loop-step.yielded (c.in-Some.step ∷ []) (into_iter_items c.next.new.self)
       ∙ ap (λ l. c.loop-step.yielded ++ l) (sym c.in-Some.ensures.steps.0) ∙ c.loop-step.invariant.split;
-  ready = all_tail (StepIsReady g.F.ComputeFn.can_change) c.in-Some.step _ (subst (All (StepIsReady g.F.ComputeFn.can_change)) c.in-Some.ensures.steps.0 c.loop-step.invariant.ready);
+  ready = all_tail (StepIsReady g.F.ComputeFn.can_change g.F.ComputeFn.never_keeps) c.in-Some.step _ (subst (All (StepIsReady g.F.ComputeFn.can_change g.F.ComputeFn.never_keeps)) c.in-Some.ensures.steps.0 c.loop-step.invariant.ready);
 }
 
 pub do_step-requires : goal.do_step-requires
-do_step-requires g c = all_head (StepIsReady g.F.ComputeFn.can_change) c.in-Some.step _ (subst (All (StepIsReady g.F.ComputeFn.can_change)) c.in-Some.ensures.steps.0 c.loop-step.invariant.ready)
+do_step-requires g c = all_head (StepIsReady g.F.ComputeFn.can_change g.F.ComputeFn.never_keeps) c.in-Some.step _ (subst (All (StepIsReady g.F.ComputeFn.can_change g.F.ComputeFn.never_keeps)) c.in-Some.ensures.steps.0 c.loop-step.invariant.ready)
 
 pub returns-in_err-do_step-clause-err : goal.returns-in_err-do_step-clause-err
 returns-in_err-do_step-clause-err g c =

@@ -8,5 +8,5 @@ invariant-loop-step g l = record {
   ran : Runs g.K.Ord.cmp (g.S.KeyHasher.hash_of l.initial.self.hasher) g.F.ComputeFn.changes l.yielded l.initial.self l.self;
   hasher : l.self.hasher ≡ l.initial.self.hasher;
   split : l.yielded ++ into_iter_items l.step-iterator ≡ l.fn.steps.items;
-  ready : All (StepIsReady g.F.ComputeFn.can_change) (into_iter_items l.step-iterator);
+  ready : All (StepIsReady g.F.ComputeFn.can_change g.F.ComputeFn.never_keeps) (into_iter_items l.step-iterator);
 }

@@ -1,0 +1,14 @@
+use Rattle.std.proofs.Common.{true}
+use Rattle.flurry_steps.proofs.AtLiveBin.{without_rest, refused_alteration, decided_alteration}
+use Rattle.flurry_steps.proofs.party.at_slot.alter.Goals as goal
+
+pub returns-in-Err-clause-step : goal.returns-in-Err-clause-step
+returns-in-Err-clause-step g c =
+    let vain = c.in-Err.ensures.in_vain in
+    rw c.in-Err.ensures.refused (refused_alteration g.K.Ord.cmp g.F.ComputeFn.changes c.args.hash c.args.key true c.args.f c.args.table _ vain.0 vain.2)
+
+pub returns-in-Ok-Here-clause-step : goal.returns-in-Ok-Here-clause-step
+returns-in-Ok-Here-clause-step g c =
+    let here = rw (c.in-Ok-Here.field-0-is) at c.in-Ok-Here.ensures.here in
+    let live = without_rest _ _ c.args.slot.now.content c.alter.new.self.content here in
+    decided_alteration g.K.Ord.cmp g.F.ComputeFn.changes c.args.hash c.args.key true c.args.f c.args.table _ _ _ _ (rw (← c.requires.at) at live) c.after_alter.ensures.stage

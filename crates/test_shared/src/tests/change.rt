@@ -1,0 +1,263 @@
+//! Calls that change a pair by a function, which is called while the bin of the key is locked.
+
+use super::workers::insert_all;
+use super::{assert_same, number_at, taken};
+use flurry_base::Change;
+use flurry_base::hash::LowHashBuilder;
+use flurry_shared::HashMap;
+use std::alloc::{Allocator, Global};
+use std::process::Abort;
+use std::sync::Wait;
+use std::thread;
+use std::thread::Threads;
+
+// A map of numbers, in which the hash of each key is the key.
+type Numbers = HashMap<u64, u64, LowHashBuilder>;
+
+// What a call did, with the number in the `Arc`.
+#[derive(Clone, Copy, Debug, PartialEq)]
+enum Done {
+    Absent,
+    Added(u64),
+    Changed(u64),
+    Removed(u64),
+}
+
+// Returns what a call did.
+fn what_was_done(change: Change<u64>) -> Done {
+    match change {
+        Change::Absent => Done::Absent,
+        Change::Added(new) => Done::Added(*new),
+        Change::Changed(new) => Done::Changed(*new),
+        Change::Removed(old) => Done::Removed(*old),
+    }
+}
+
+// Returns a map of the keys 1, 2 and 3, each with ten times itself as its value.
+fn three_pairs<R: Abort + Wait>(rt: &R, alloc: Global) -> Numbers {
+    let map = HashMap::with_hasher(alloc, LowHashBuilder);
+    for key in 1..4u64 {
+        map.insert(rt, key, key.wrapping_mul(10))
+            .expect(rt, "memory");
+    }
+    map
+}
+
+// Asserts the value at a key, and that the map has so many pairs.
+fn assert_stands<R: Abort + Wait>(rt: &R, map: &Numbers, key: u64, value: Option<u64>, len: usize) {
+    let seen = number_at(rt, map, &key).expect(rt, "memory");
+    assert_same(rt, (seen, map.len(rt)), (value, len));
+}
+
+// Computes the answer at a key. Returns the key and the value on which the function was called, and what was done.
+fn compute<R: Abort + Wait>(
+    rt: &R,
+    map: &Numbers,
+    key: u64,
+    answer: Option<u64>,
+) -> (Option<(u64, Option<u64>)>, Done) {
+    let mut seen = None;
+    let change = map.compute(rt, key, |key, value| {
+        seen = Some((*key, value.copied()));
+        answer
+    });
+    (seen, what_was_done(change.expect(rt, "memory")))
+}
+
+#[test]
+fn computations_at_present_and_absent_keys(rt: HostRuntime) {
+    let map = three_pairs(&rt, rt.alloc());
+    for (answer, before, wanted, len) in [
+        (Some(21), Some(20), Done::Changed(21), 3),
+        (None, Some(21), Done::Removed(21), 2),
+        (None, None, Done::Absent, 2),
+        (Some(22), None, Done::Added(22), 3),
+    ] {
+        let seen = compute(&rt, &map, 2, answer);
+        assert_same(&rt, seen, (Some((2, before)), wanted));
+        assert_stands(&rt, &map, 2, answer, len);
+    }
+}
+
+// On a map that has no table yet.
+#[test]
+fn computations_on_a_new_map(rt: HostRuntime) {
+    let map = HashMap::with_hasher(rt.alloc(), LowHashBuilder);
+    assert_same(&rt, compute(&rt, &map, 2, None).1, Done::Absent);
+    assert_same(&rt, compute(&rt, &map, 2, Some(20)).1, Done::Added(20));
+    assert_stands(&rt, &map, 2, Some(20), 1);
+}
+
+// Merges a value at a key, with the answer. Returns the values on which the function was called, if it was, and what was done.
+fn merge<R: Abort + Wait>(
+    rt: &R,
+    map: &Numbers,
+    key: u64,
+    value: u64,
+    answer: Option<u64>,
+) -> (Option<(u64, u64)>, Done) {
+    let mut seen = None;
+    let change = map.merge(rt, key, value, |old, new| {
+        seen = Some((*old, new));
+        answer
+    });
+    (seen, what_was_done(change.expect(rt, "memory")))
+}
+
+#[test]
+fn merges_at_present_and_absent_keys(rt: HostRuntime) {
+    let map = three_pairs(&rt, rt.alloc());
+    for (value, answer, called, wanted, stands, len) in [
+        (5, Some(25), Some((20, 5)), Done::Changed(25), Some(25), 3),
+        (6, None, Some((25, 6)), Done::Removed(25), None, 2),
+        (7, None, None, Done::Added(7), Some(7), 3),
+    ] {
+        let seen = merge(&rt, &map, 2, value, answer);
+        assert_same(&rt, seen, (called, wanted));
+        assert_stands(&rt, &map, 2, stands, len);
+    }
+}
+
+// Updates the value of a key. Returns the pair on which the function was called, if it was, and the number that was returned.
+fn update<R: Abort + Wait>(
+    rt: &R,
+    map: &Numbers,
+    key: u64,
+    value: u64,
+) -> (Option<(u64, u64)>, Option<u64>) {
+    let mut seen = None;
+    let new = map.update(rt, &key, |key, old| {
+        seen = Some((*key, *old));
+        value
+    });
+    (seen, taken(new.expect(rt, "memory")))
+}
+
+#[test]
+fn updates_of_present_and_absent_keys(rt: HostRuntime) {
+    let map = three_pairs(&rt, rt.alloc());
+    assert_same(&rt, update(&rt, &map, 2, 21), (Some((2, 20)), Some(21)));
+    assert_stands(&rt, &map, 2, Some(21), 3);
+    assert_same(&rt, update(&rt, &map, 4, 40), (None, None));
+    assert_stands(&rt, &map, 4, None, 3);
+}
+
+// Removes a key if the test says so. Returns the pair on which the test was called, if it was, and the value that was removed.
+fn remove_if<R: Wait>(
+    rt: &R,
+    map: &Numbers,
+    key: u64,
+    says: bool,
+) -> (Option<(u64, u64)>, Option<u64>) {
+    let mut seen = None;
+    let old = map.remove_if(rt, &key, |key, value| {
+        seen = Some((*key, *value));
+        says
+    });
+    (seen, taken(old))
+}
+
+#[test]
+fn removals_if_a_test_passes(rt: HostRuntime) {
+    let map = three_pairs(&rt, rt.alloc());
+    assert_same(&rt, remove_if(&rt, &map, 2, false), (Some((2, 20)), None));
+    assert_stands(&rt, &map, 2, Some(20), 3);
+    assert_same(
+        &rt,
+        remove_if(&rt, &map, 2, true),
+        (Some((2, 20)), Some(20)),
+    );
+    assert_stands(&rt, &map, 2, None, 2);
+    assert_same(&rt, remove_if(&rt, &map, 2, true), (None, None));
+}
+
+// Replaces the value of a key if the test says so. Returns the pair on which the test was called, if it was, and the old value.
+fn replace_if<R: Abort + Wait>(
+    rt: &R,
+    map: &Numbers,
+    key: u64,
+    says: bool,
+) -> (Option<(u64, u64)>, Option<u64>) {
+    let mut seen = None;
+    let test = |key: &u64, value: &u64| -> bool {
+        seen = Some((*key, *value));
+        says
+    };
+    let old = map.replace_if(rt, &key, test, 99);
+    (seen, taken(old.expect(rt, "memory")))
+}
+
+#[test]
+fn replacements_if_a_test_passes(rt: HostRuntime) {
+    let map = three_pairs(&rt, rt.alloc());
+    assert_same(&rt, replace_if(&rt, &map, 2, false), (Some((2, 20)), None));
+    assert_stands(&rt, &map, 2, Some(20), 3);
+    assert_same(
+        &rt,
+        replace_if(&rt, &map, 2, true),
+        (Some((2, 20)), Some(20)),
+    );
+    assert_stands(&rt, &map, 2, Some(99), 3);
+    assert_same(&rt, replace_if(&rt, &map, 4, true), (None, None));
+}
+
+// The calls of a view are those of its map.
+#[test]
+fn calls_of_a_view(rt: HostRuntime) {
+    let map = three_pairs(&rt, rt.alloc());
+    let view = map.pin(&rt);
+    let computed = view.compute(4, |_, _| Some(40)).expect(&rt, "memory");
+    assert_same(&rt, what_was_done(computed), Done::Added(40));
+    let merged = view
+        .merge(4, 2, |old, new| old.checked_add(new))
+        .expect(&rt, "memory");
+    assert_same(&rt, what_was_done(merged), Done::Changed(42));
+    let updated = view.update(&4, |_, _| 43).expect(&rt, "memory");
+    assert_same(&rt, taken(updated), Some(43));
+    let replaced = view.replace_if(&4, |_, _| true, 44).expect(&rt, "memory");
+    assert_same(&rt, taken(replaced), Some(43));
+    assert_same(
+        &rt,
+        taken(view.remove_if(&4, |_, value| *value == 44)),
+        Some(44),
+    );
+}
+
+// Adds one to the number at each of eight keys, so many times.
+fn count_up<A: Allocator + Copy, R: Abort + Wait>(
+    rt: &R,
+    map: &HashMap<u64, u64, LowHashBuilder, A>,
+    times: u64,
+) {
+    for time in 0..times {
+        let key = time % 8;
+        let _ = map
+            .merge(rt, key, 1, |old, new| old.checked_add(new))
+            .expect(rt, "memory");
+    }
+}
+
+// Adds to the same eight numbers in each of four threads, while this one inserts other keys, for which the table grows.
+fn add_in_threads<A: Allocator + Copy + Send + Sync, R: Abort + Threads + Wait + Sync>(
+    rt: &R,
+    map: &HashMap<u64, u64, LowHashBuilder, A>,
+) {
+    thread::scope(thread::scope_env(), rt, |scope| {
+        for _ in 0..4u64 {
+            if scope.spawn(move || count_up(rt, map, 2000)).is_err() {
+                count_up(rt, map, 2000);
+            }
+        }
+        insert_all(rt, map, 8, 2000);
+    });
+}
+
+// No addition is lost, whoever adds the key.
+#[test]
+fn four_threads_add_to_the_same_numbers(rt: HostRuntime) {
+    let map: Numbers = HashMap::with_hasher(rt.alloc(), LowHashBuilder);
+    add_in_threads(&rt, &map);
+    for key in 0..8u64 {
+        assert_stands(&rt, &map, key, Some(1000), 2000);
+    }
+}
