@@ -44,7 +44,7 @@ pub fn first_of_claim() -> Option<(u8, usize)>
 pub fn first_want<F: ComputeFn<u64, u64>>(key: u64) -> Want
     ensures { result ≡ Want.Control }
 {
-    let party: Party<'_, u64, u64, F> = Party::from_owned(OwnedCall::Get(key), key, 1);
+    let party: Party<&u64, u64, u64, F> = Party::from_owned(OwnedCall::Get(key), key, 1);
     let want = party.want();
     drop(party);
     want
@@ -114,7 +114,7 @@ pub fn begin_growth(control: &mut Control, table: u8) -> bool
 pub fn first_want_of_borrowed<F: ComputeFn<u64, u64>>(key: &u64) -> Want
     ensures { result ≡ Want.Control }
 {
-    let party: Party<'_, u64, u64, F> = Party::new(Call::ContainsKey(key), *key, 1);
+    let party: Party<&u64, u64, u64, F> = Party::new(Call::ContainsKey(key), *key, 1);
     let want = party.want();
     drop(party);
     want
@@ -157,7 +157,7 @@ pub fn owed_count(rest: Rest) -> i64
 pub fn rest_of_call<'k, F: ComputeFn<u64, u64>>(
     ending: Ending<u64, u64>,
     hash: u64,
-) -> Option<Party<'k, u64, u64, F>>
+) -> Option<Party<&'k u64, u64, u64, F>>
     ensures { IfSome result (λ party. party.hash ≡ hash) }
 {
     match ending.into_reply() {

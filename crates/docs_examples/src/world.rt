@@ -64,7 +64,7 @@ pub fn insert_driven<R: Wait>(rt: &R, parts: &mut Parts<u64, u64>, key: u64, val
 /// Does the next step of a call, over any field that gives it the parts of its map. The contract promises safety alone, because what a step
 /// does depends on the field.
 pub fn next_step<F: ComputeFn<u64, u64>, X: Field<u64, u64, Global>>(
-    party: &mut Party<'_, u64, u64, F>,
+    party: &mut Party<&u64, u64, u64, F>,
     field: &mut X,
 ) -> Option<Event> {
     act(party, field)

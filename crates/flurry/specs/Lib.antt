@@ -10,6 +10,7 @@ pub use Rattle.flurry_base.specs.Keeps
 pub use Rattle.flurry_base.specs.Occurrences
 pub use Rattle.flurry_base.specs.OneKey
 pub use Rattle.flurry_base.specs.Sizes
+pub use Rattle.flurry_base.specs.Texts
 pub use Rattle.flurry_base.specs.TryInsert
 pub use Rattle.flurry_base.specs.Verdicts
 pub use Rattle.flurry_base.specs.declared.sizes.TheConstants

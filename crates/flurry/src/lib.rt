@@ -6,7 +6,8 @@
 //! [`steps`], and every interleaving of calls, run one step at a time, in [`world`].
 //!
 //! [`SeqMap`] and [`SeqSet`] are the map and the set of one owner. More about them is in [`seq_map`], [`calls`] and [`seq_iter`], and in
-//! [`seq_set`] and [`set_calls`]. Bins, hashers and sizes of tables are in [`bin`], [`hash`] and [`table`].
+//! [`seq_set`] and [`set_calls`]. Bins, hashers and sizes of tables are in [`bin`], [`hash`] and [`table`]; what a key is looked up by is in
+//! [`query`].
 //!
 //! [`claims`] has the boards at which threads share the work of a growth.
 //!
@@ -24,7 +25,7 @@ pub mod steps;
 pub mod world;
 
 pub use flurry_base::hash::{DefaultHashBuilder, DefaultHasher};
-pub use flurry_base::{Change, TryInsertError, hash};
+pub use flurry_base::{Change, TryInsertError, hash, query};
 pub use flurry_bins::bin;
 pub use flurry_bins_insertion::table;
 pub use flurry_seq::{SeqMap, calls, iter as seq_iter, seq_map};

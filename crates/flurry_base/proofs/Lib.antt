@@ -6,3 +6,4 @@ pub mod RegionLaws
 pub mod SizeLaws
 pub mod BinSizeLaws
 pub mod KeepsLaws
+pub mod TextLaws

@@ -13,3 +13,4 @@ pub mod TryInsert
 pub mod Occurrences
 pub mod Changes
 pub mod Verdicts
+pub mod Texts

@@ -17,6 +17,7 @@ mod alter;
 use crate::compute_fn::ComputeFn;
 pub use alter::Altered;
 use alter::judge;
+use flurry_base::query::Query;
 use flurry_base::sizes::MAX_LEN;
 use flurry_base::{TryInsertError, Verdict};
 use flurry_bins::bin::{Bin, BoxedNode, Entry, Given, Node, NotInserted, Ordered};
@@ -105,8 +106,8 @@ impl<K: Ord + Drop, V: Drop, A: Allocator> LiveBin<K, V, A> {
         self.bin.len()
     }
 
-    pub(crate) fn find(&self, hash: u64, key: &K) -> Option<&Entry<K, V, A>>
-        ensures { option_map (λ e. numbered_pair e.now) result ≡ entry_of_live K.cmp self.now hash key.now }
+    pub(crate) fn find<Q: Query<K>>(&self, hash: u64, key: Q) -> Option<&Entry<K, V, A>>
+        ensures { option_map (λ e. numbered_pair e.now) result ≡ entry_of_live K.cmp self.now hash (Q.stands_for key) }
     {
         self.bin.find(hash, key).0
     }
@@ -118,13 +119,19 @@ impl<K: Ord + Drop, V: Drop, A: Allocator> LiveBin<K, V, A> {
     }
 
     // Writes another value at a hash and a key that are present, and returns the old value.
-    fn rewrite(&mut self, bins: usize, hash: u64, key: &K, value: Arc<V, A>) -> Arc<V, A>
-        requires { IsSome (entry_of_live K.cmp self.old hash key.now) }
-        ensures old { value_of_live K.cmp self.old hash key.now ≡ Some (arc_value result) }
-        ensures after { self.new ≡ after_write K.cmp bins self.old hash key.now (arc_value value) }
+    fn rewrite<Q: Query<K>>(
+        &mut self,
+        bins: usize,
+        hash: u64,
+        key: Q,
+        value: Arc<V, A>,
+    ) -> Arc<V, A>
+        requires { IsSome (entry_of_live K.cmp self.old hash (Q.stands_for key)) }
+        ensures old { value_of_live K.cmp self.old hash (Q.stands_for key) ≡ Some (arc_value result) }
+        ensures after { self.new ≡ after_write K.cmp bins self.old hash (Q.stands_for key) (arc_value value) }
     {
         self.writes = self.writes.saturating_add(1);
-        self.bin.replace(hash, key, value, self.writes)
+        self.bin.write(hash, key, value, self.writes)
     }
 
     // Inserts a node, of the next write number, whose hash and key are absent. Returns whether the bin asks for a larger table.
@@ -141,9 +148,9 @@ impl<K: Ord + Drop, V: Drop, A: Allocator> LiveBin<K, V, A> {
         put_node_in_bin(&mut self.bin, node, bins)
     }
 
-    pub(crate) fn take(&mut self, hash: u64, key: &K) -> Option<Entry<K, V, A>>
-        ensures entry { option_map numbered_pair result ≡ entry_of_live K.cmp self.old hash key.now }
-        ensures after { self.new ≡ after_take K.cmp self.old hash key.now }
+    pub(crate) fn take<Q: Query<K>>(&mut self, hash: u64, key: Q) -> Option<Entry<K, V, A>>
+        ensures entry { option_map numbered_pair result ≡ entry_of_live K.cmp self.old hash (Q.stands_for key) }
+        ensures after { self.new ≡ after_take K.cmp self.old hash (Q.stands_for key) }
     {
         match self.bin.remove(hash, key) {
             Some(node) => Some(Box::into_inner(node).into_entry()),
@@ -151,9 +158,14 @@ impl<K: Ord + Drop, V: Drop, A: Allocator> LiveBin<K, V, A> {
         }
     }
 
-    pub(crate) fn take_if(&mut self, hash: u64, key: &K, number: u64) -> Option<Entry<K, V, A>>
-        ensures entry { option_map numbered_pair result ≡ take_if_reply K.cmp number self.old hash key.now }
-        ensures after { self.new ≡ after_take_if K.cmp number self.old hash key.now }
+    pub(crate) fn take_if<Q: Query<K>>(
+        &mut self,
+        hash: u64,
+        key: Q,
+        number: u64,
+    ) -> Option<Entry<K, V, A>>
+        ensures entry { option_map numbered_pair result ≡ take_if_reply K.cmp number self.old hash (Q.stands_for key) }
+        ensures after { self.new ≡ after_take_if K.cmp number self.old hash (Q.stands_for key) }
     {
         let entry = self.find(hash, key)?;
         if entry.number == number && number < u64::MAX {
@@ -333,21 +345,23 @@ impl<K: Ord + Drop, V: Drop, A: Allocator + Copy> LiveBin<K, V, A> {
         Ok((value, asks_for_growth))
     }
 
-    pub(crate) fn compute<F: ComputeFn<K, V>>(
+    pub(crate) fn compute<Q: Query<K>, F: ComputeFn<K, V>>(
         &mut self,
         alloc: A,
         bins: usize,
         hash: u64,
-        key: &K,
+        key: Q,
         f: F,
     ) -> Result<Computed<K, V, F, A>, Given<V, A>>
         requires callable { F.can_change f }
         requires changes { F.never_keeps f }
         ensures back { IfOk result (λ c. IfAbsent c (λ g. g ≡ f)) }
-        ensures done { IfOk result (λ c. Computes K.cmp (F.changes f) bins self.old hash key.now (outcome c) self.new) }
-        ensures left { IfOk result (λ c. IsLeftOf (entry_of_live K.cmp self.old hash key.now) c) }
+        ensures done { IfOk result (λ c. Computes K.cmp (F.changes f) bins self.old hash (Q.stands_for key)
+            (outcome c) self.new) }
+        ensures left { IfOk result (λ c. IsLeftOf (entry_of_live K.cmp self.old hash (Q.stands_for key)) c) }
         ensures refused { OnErr result (self.new ≡ self.old) }
-        ensures in_vain { IfErr result (λ g. ComputesInVain K.cmp (F.changes f) self.old hash key.now (given_of g)) }
+        ensures in_vain { IfErr result (λ g. ComputesInVain K.cmp (F.changes f) self.old hash (Q.stands_for key)
+            (given_of g)) }
     {
         let verdict = match self.find(hash, key) {
             Some(entry) => judge(f, entry),

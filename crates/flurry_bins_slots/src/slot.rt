@@ -18,6 +18,7 @@ ghost use Rattle.flurry_base.specs.declared.sizes.TheConstants.{MAX_TABLE};
 use crate::clones::{CloneProbe, NotClone};
 use crate::compute_fn::ComputeFn;
 use crate::live::{Added, Altered, Computed, LiveBin};
+use flurry_base::query::Query;
 use flurry_bins::bin::{Bin, Entry, Given, NotInserted, Ordered};
 use flurry_bins_insertion::table::Inserted;
 use std::alloc::{Allocator, Global};
@@ -219,10 +220,10 @@ impl<K: Ord + Drop, V: Drop, A: Allocator> Slot<K, V, A> {
     }
 
     /// Finds the entry of a hash and a key, if there is one. As many steps as a look-up in the bin.
-    pub fn find(&self, hash: u64, key: &K) -> Answer<Option<&Entry<K, V, A>>, ()>
+    pub fn find<Q: Query<K>>(&self, hash: u64, key: Q) -> Answer<Option<&Entry<K, V, A>>, ()>
         requires { LiesInBin hash self.now }
         ensures reply { answer_map (option_map (λ e. numbered_pair e.now)) result
-            ≡ answer_with self.now.content (λ b. entry_of_live K.cmp b hash key.now) tt }
+            ≡ answer_with self.now.content (λ b. entry_of_live K.cmp b hash (Q.stands_for key)) tt }
         ensures within { IsSlot K.cmp self.now }
     {
         match self.state {
@@ -247,11 +248,11 @@ impl<K: Ord + Drop, V: Drop, A: Allocator> Slot<K, V, A> {
 
     #[tactic(auto, using(crate::proofs::SlotLaws::live_in_taken))]
     /// Removes the entry of a hash and a key, if there is one, and returns it. As many steps as a look-up in the bin; takes no memory.
-    pub fn take(&mut self, hash: u64, key: &K) -> Answer<Option<Entry<K, V, A>>, ()>
+    pub fn take<Q: Query<K>>(&mut self, hash: u64, key: Q) -> Answer<Option<Entry<K, V, A>>, ()>
         requires { LiesInBin hash self.old }
         ensures reply { answer_map (option_map numbered_pair) result
-            ≡ answer_with self.old.content (λ b. entry_of_live K.cmp b hash key.now) tt }
-        ensures after { self.new ≡ slot_with (λ b. after_take K.cmp b hash key.now) self.old }
+            ≡ answer_with self.old.content (λ b. entry_of_live K.cmp b hash (Q.stands_for key)) tt }
+        ensures after { self.new ≡ slot_with (λ b. after_take K.cmp b hash (Q.stands_for key)) self.old }
         ensures within { IsSlot K.cmp self.old }
     {
         match self.state {
@@ -264,11 +265,16 @@ impl<K: Ord + Drop, V: Drop, A: Allocator> Slot<K, V, A> {
     #[tactic(auto, using(crate::proofs::SlotLaws::live_in_taken_if))]
     /// Removes the entry of a hash and a key, and returns it, if and only if its value still has the write number `number`, and `number` is
     /// below `u64::MAX`. As many steps as a look-up in the bin; takes no memory.
-    pub fn take_if(&mut self, hash: u64, key: &K, number: u64) -> Answer<Option<Entry<K, V, A>>, ()>
+    pub fn take_if<Q: Query<K>>(
+        &mut self,
+        hash: u64,
+        key: Q,
+        number: u64,
+    ) -> Answer<Option<Entry<K, V, A>>, ()>
         requires { LiesInBin hash self.old }
         ensures reply { answer_map (option_map numbered_pair) result
-            ≡ answer_with self.old.content (λ b. take_if_reply K.cmp number b hash key.now) tt }
-        ensures after { self.new ≡ slot_with (λ b. after_take_if K.cmp number b hash key.now) self.old }
+            ≡ answer_with self.old.content (λ b. take_if_reply K.cmp number b hash (Q.stands_for key)) tt }
+        ensures after { self.new ≡ slot_with (λ b. after_take_if K.cmp number b hash (Q.stands_for key)) self.old }
         ensures within { IsSlot K.cmp self.old }
     {
         match self.state {
@@ -445,11 +451,11 @@ impl<K: Ord + Drop, V: Drop, A: Allocator + Copy> Slot<K, V, A> {
     /// # Errors
     ///
     /// Returns the value that `f` returned if memory for it cannot be allocated, or if cloning its `Arc` fails. The bin is unchanged.
-    pub fn compute<F: ComputeFn<K, V>>(
+    pub fn compute<Q: Query<K>, F: ComputeFn<K, V>>(
         &mut self,
         alloc: A,
         hash: u64,
-        key: &K,
+        key: Q,
         f: F,
     ) -> Result<Answer<Computed<K, V, F, A>, F>, Given<V, A>>
         requires region { LiesInBin hash self.old }
@@ -458,14 +464,14 @@ impl<K: Ord + Drop, V: Drop, A: Allocator + Copy> Slot<K, V, A> {
         ensures back { IfOk result (λ a. IsAway a self.old.content f) }
         ensures absent { IfOk result (λ a. IfHere a (λ c. IfAbsent c (λ g. g ≡ f))) }
         ensures here { IfOk result (λ a. IfHere a (λ c. IfLive self.old.content (λ b. IfLive self.new.content (λ d.
-            Computes K.cmp (F.changes f) (2 ^ self.old.table) b hash key.now (outcome c) d
+            Computes K.cmp (F.changes f) (2 ^ self.old.table) b hash (Q.stands_for key) (outcome c) d
             × (self.new ≡ slot_with (λ _. d) self.old))))) }
         ensures left { IfOk result (λ a. IfHere a (λ c.
-            IfLive self.old.content (λ b. IsLeftOf (entry_of_live K.cmp b hash key.now) c))) }
+            IfLive self.old.content (λ b. IsLeftOf (entry_of_live K.cmp b hash (Q.stands_for key)) c))) }
         ensures same { IfOk result (λ a. IfAway a (self.new ≡ self.old)) }
         ensures refused { OnErr result (self.new ≡ self.old) }
         ensures in_vain { IfErr result (λ g.
-            IfLive self.old.content (λ b. ComputesInVain K.cmp (F.changes f) b hash key.now (given_of g))) }
+            IfLive self.old.content (λ b. ComputesInVain K.cmp (F.changes f) b hash (Q.stands_for key) (given_of g))) }
         ensures within { IsSlot K.cmp self.old }
     {
         let bins = 1usize << self.table;
@@ -518,11 +524,11 @@ impl<K: Ord + Drop, V: Drop, A: Allocator + Copy> Slot<K, V, A> {
     /// # Errors
     ///
     /// Returns the value that `f` set if memory for it cannot be allocated, or if cloning its `Arc` fails. The bin is unchanged.
-    pub fn alter_present<F: ComputeFn<K, V>>(
+    pub fn alter_present<Q: Query<K>, F: ComputeFn<K, V>>(
         &mut self,
         alloc: A,
         hash: u64,
-        key: &K,
+        key: Q,
         f: F,
     ) -> Result<Answer<Result<Altered<K, V, A>, F>, F>, Given<V, A>>
         requires region { LiesInBin hash self.old }
@@ -530,12 +536,13 @@ impl<K: Ord + Drop, V: Drop, A: Allocator + Copy> Slot<K, V, A> {
         ensures back { IfOk result (λ a. IsAway a self.old.content f) }
         ensures absent { IfOk result (λ a. IfHere a (λ r. IfErr r (λ g. g ≡ f))) }
         ensures here { IfOk result (λ a. IfHere a (λ r. IfLive self.old.content (λ b. IfLive self.new.content (λ d.
-            Alters K.cmp F.changes f false (2 ^ self.old.table) b hash key.now (alteration_if_present r) d
+            Alters K.cmp F.changes f false (2 ^ self.old.table) b hash (Q.stands_for key) (alteration_if_present r) d
             × (self.new ≡ slot_with (λ _. d) self.old))))) }
         ensures same { IfOk result (λ a. IfAway a (self.new ≡ self.old)) }
         ensures refused { OnErr result (self.new ≡ self.old) }
         ensures in_vain { IfErr result (λ g.
-            IfLive self.old.content (λ b. JudgesAt K.cmp F.changes f false b hash key.now (Set (given_of g)))) }
+            IfLive self.old.content (λ b. JudgesAt K.cmp F.changes f false b hash (Q.stands_for key)
+            (Set (given_of g)))) }
         ensures within { IsSlot K.cmp self.old }
     {
         let bins = 1usize << self.table;

@@ -17,6 +17,7 @@ ghost use Rattle.flurry_base.specs.declared.sizes.TheConstants.{MAX_TABLE, MIN_T
 
 mod retain;
 
+use flurry_base::query::Query;
 use flurry_base::sizes::bin_index;
 use flurry_bins::bin::{Bin, Entry, Node, Ordered, Shape};
 use flurry_bins_insertion::table::{Inserted, insert_pair_in_bin, put_node_in_bin};
@@ -84,8 +85,8 @@ impl<K: Ord + Drop, V: Drop, A: Allocator> Table<K, V, A> {
     // The entry of a hash and a key. The function is inlined into each caller, so that the found entry is passed on by a branch: a pointer
     // that is selected by the result of the comparison of keys would have to wait for it.
     #[inline(always)]
-    pub(crate) fn find(&self, hash: u64, key: &K) -> Option<&Entry<K, V, A>>
-        ensures { option_map (λ e. pair_of_entry e.now) result ≡ entry_in K.cmp self.now hash key.now }
+    pub(crate) fn find<Q: Query<K>>(&self, hash: u64, key: Q) -> Option<&Entry<K, V, A>>
+        ensures { option_map (λ e. pair_of_entry e.now) result ≡ entry_in K.cmp self.now hash (Q.stands_for key) }
     {
         if self.bins.is_empty() {
             return None;
@@ -116,14 +117,15 @@ impl<K: Ord + Drop, V: Drop, A: Allocator> Table<K, V, A> {
     }
 
     // Replaces the value at a hash and a key that are present, and returns the old value.
-    pub(crate) fn replace(&mut self, hash: u64, key: &K, value: Arc<V, A>) -> Arc<V, A>
-        requires { IsSome (entry_in K.cmp self.old hash key.now) }
-        ensures old { option_map (λ e. e.1) (entry_in K.cmp self.old hash key.now) ≡ Some (arc_value result) }
-        ensures after { self.new ≡ bins_with K.cmp self.old hash key.now (arc_value value) }
+    pub(crate) fn replace<Q: Query<K>>(&mut self, hash: u64, key: Q, value: Arc<V, A>) -> Arc<V, A>
+        requires { IsSome (entry_in K.cmp self.old hash (Q.stands_for key)) }
+        ensures old { option_map (λ e. e.1) (entry_in K.cmp self.old hash (Q.stands_for key))
+            ≡ Some (arc_value result) }
+        ensures after { self.new ≡ bins_with K.cmp self.old hash (Q.stands_for key) (arc_value value) }
     {
         let at = place(&self.bins, hash);
         let bin = &mut self.bins[at];
-        bin.replace(hash, key, value, 0)
+        bin.write(hash, key, value, 0)
     }
 
     // Inserts a node whose hash and key are absent. Returns whether the bin asks for a larger table.
@@ -144,9 +146,9 @@ impl<K: Ord + Drop, V: Drop, A: Allocator> Table<K, V, A> {
     }
 
     // Removes the entry of a hash and a key from its bin, and returns it.
-    pub(crate) fn remove(&mut self, hash: u64, key: &K) -> Option<Entry<K, V, A>>
-        ensures entry { option_map pair_of_entry result ≡ entry_in K.cmp self.old hash key.now }
-        ensures after { self.new ≡ bins_without K.cmp self.old hash key.now }
+    pub(crate) fn remove<Q: Query<K>>(&mut self, hash: u64, key: Q) -> Option<Entry<K, V, A>>
+        ensures entry { option_map pair_of_entry result ≡ entry_in K.cmp self.old hash (Q.stands_for key) }
+        ensures after { self.new ≡ bins_without K.cmp self.old hash (Q.stands_for key) }
     {
         if self.bins.is_empty() {
             return None;

@@ -14,6 +14,7 @@ ghost use Rattle.flurry_seq_set.specs.SetRetain.{RetainsElements};
 ghost use Rattle.flurry_base.specs.declared.sizes.TheConstants.{FIRST_BINS, MAX_LEN};
 
 use flurry_base::hash::{DefaultHashBuilder, KeyHasher};
+use flurry_base::query::HashedQuery;
 use flurry_bins::bin::Node;
 use flurry_bins_insertion::table::new_arc_pair;
 use flurry_seq::{Keys, SeqMap};
@@ -158,8 +159,8 @@ impl<T: Ord + Drop, S: KeyHasher<T>, A: Allocator> SeqSet<T, S, A> {
     /// assert!(rt; set.contains(&37));
     /// assert!(rt; !set.contains(&38));
     /// ```
-    pub fn contains(&self, element: &T) -> bool
-        ensures found { result ≡ is_some (element_at T.cmp self.now.elements element.now) }
+    pub fn contains<Q: HashedQuery<T, S>>(&self, element: Q) -> bool
+        ensures found { result ≡ is_some (element_at T.cmp self.now.elements (Q.stands_for element)) }
         ensures ascend { IsFiniteSet T.cmp self.now.elements }
     {
         self.map.contains_key(element)
@@ -173,8 +174,9 @@ impl<T: Ord + Drop, S: KeyHasher<T>, A: Allocator> SeqSet<T, S, A> {
     /// assert_eq!(rt; set.get(&37).map(|element| **element), Some(37));
     /// assert!(rt; set.get(&38).is_none());
     /// ```
-    pub fn get(&self, element: &T) -> Option<&Arc<T, A>>
-        ensures element { option_map (λ x. arc_value x.now) result ≡ element_at T.cmp self.now.elements element.now }
+    pub fn get<Q: HashedQuery<T, S>>(&self, element: Q) -> Option<&Arc<T, A>>
+        ensures element { option_map (λ x. arc_value x.now) result
+            ≡ element_at T.cmp self.now.elements (Q.stands_for element) }
         ensures ascend { IsFiniteSet T.cmp self.now.elements }
     {
         let (stored, _) = self.map.get_key_value(element)?;
@@ -189,18 +191,18 @@ impl<T: Ord + Drop, S: KeyHasher<T>, A: Allocator> SeqSet<T, S, A> {
     /// assert!(rt; set.remove(&37));
     /// assert!(rt; !set.remove(&37));
     /// ```
-    pub fn remove(&mut self, element: &T) -> bool
-        ensures found { result ≡ is_some (element_at T.cmp self.old.elements element.now) }
-        ensures after { self.new ≡ set_with self.old (without_element T.cmp self.old.elements element.now) }
+    pub fn remove<Q: HashedQuery<T, S>>(&mut self, element: Q) -> bool
+        ensures found { result ≡ is_some (element_at T.cmp self.old.elements (Q.stands_for element)) }
+        ensures after { self.new ≡ set_with self.old (without_element T.cmp self.old.elements (Q.stands_for element)) }
         ensures ascend { IsFiniteSet T.cmp self.old.elements }
     {
         self.map.remove(element).is_some()
     }
 
     /// Removes the element equal to `element`, and returns it, or `None` if there is none. The size of the table does not change.
-    pub fn take(&mut self, element: &T) -> Option<Arc<T, A>>
-        ensures element { option_map arc_value result ≡ element_at T.cmp self.old.elements element.now }
-        ensures after { self.new ≡ set_with self.old (without_element T.cmp self.old.elements element.now) }
+    pub fn take<Q: HashedQuery<T, S>>(&mut self, element: Q) -> Option<Arc<T, A>>
+        ensures element { option_map arc_value result ≡ element_at T.cmp self.old.elements (Q.stands_for element) }
+        ensures after { self.new ≡ set_with self.old (without_element T.cmp self.old.elements (Q.stands_for element)) }
         ensures ascend { IsFiniteSet T.cmp self.old.elements }
     {
         let (stored, _) = self.map.remove_entry(element)?;

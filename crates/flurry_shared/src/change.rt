@@ -8,6 +8,7 @@ ghost use Rattle.flurry_shared_view.specs.SharedAnswers.{IsAnswerWith};
 use crate::HashMap;
 use flurry_base::Change;
 use flurry_base::hash::KeyHasher;
+use flurry_base::query::HashedQuery;
 use std::alloc::{AllocError, Allocator};
 use std::sync::{Arc, Wait};
 
@@ -109,15 +110,15 @@ impl<K: Ord + Drop, V: Drop, S: KeyHasher<K>, A: Allocator + Copy> HashMap<K, V,
     ///
     /// Returns [`AllocError`] if memory for the new value cannot be allocated, or if cloning its `Arc` fails. `f` has been called then; the
     /// value that it returned is dropped, and the pair is unchanged.
-    pub fn update<F: FnOnce(&K, &V) -> V + Drop, R: Wait>(
+    pub fn update<Q: HashedQuery<K, S>, F: FnOnce(&K, &V) -> V + Drop, R: Wait>(
         &self,
         rt: &R,
-        key: &K,
+        key: Q,
         f: F,
     ) -> Result<Option<Arc<V, A>>, AllocError>
         requires { F.IsAlwaysCallable f }
-        ensures { (r : _) × TellsUpdate result r × CanAlter (UpdatesBy F.FnOnce f) key.now false r
-            × IsAnswerWith (UpdatesBy F.FnOnce) K.cmp S.hash_of self.now (Alter key.now false f) r }
+        ensures { (r : _) × TellsUpdate result r × CanAlter (UpdatesBy F.FnOnce f) (Q.stands_for key) false r
+            × IsAnswerWith (UpdatesBy F.FnOnce) K.cmp S.hash_of self.now (Alter (Q.stands_for key) false f) r }
     {
         self.pin(rt).update(key, f)
     }
@@ -138,15 +139,15 @@ impl<K: Ord + Drop, V: Drop, S: KeyHasher<K>, A: Allocator + Copy> HashMap<K, V,
     /// assert_eq!(rt; removed.map(|value| *value), Some(1));
     /// assert!(rt; map.is_empty(&rt));
     /// ```
-    pub fn remove_if<F: FnOnce(&K, &V) -> bool + Drop, R: Wait>(
+    pub fn remove_if<Q: HashedQuery<K, S>, F: FnOnce(&K, &V) -> bool + Drop, R: Wait>(
         &self,
         rt: &R,
-        key: &K,
+        key: Q,
         test: F,
     ) -> Option<Arc<V, A>>
         requires { F.IsAlwaysCallable test }
-        ensures { (r : _) × TellsRemoval result r × CanAlter (RemovesIf F.FnOnce test) key.now false r
-            × IsAnswerWith (RemovesIf F.FnOnce) K.cmp S.hash_of self.now (Alter key.now false test) r }
+        ensures { (r : _) × TellsRemoval result r × CanAlter (RemovesIf F.FnOnce test) (Q.stands_for key) false r
+            × IsAnswerWith (RemovesIf F.FnOnce) K.cmp S.hash_of self.now (Alter (Q.stands_for key) false test) r }
     {
         self.pin(rt).remove_if(key, test)
     }
@@ -172,16 +173,18 @@ impl<K: Ord + Drop, V: Drop, S: KeyHasher<K>, A: Allocator + Copy> HashMap<K, V,
     ///
     /// Returns [`AllocError`] if `test` returned `true` and memory for `value` cannot be allocated, or cloning its `Arc` fails. `value` is
     /// dropped, and the pair is unchanged.
-    pub fn replace_if<F: FnOnce(&K, &V) -> bool + Drop, R: Wait>(
+    pub fn replace_if<Q: HashedQuery<K, S>, F: FnOnce(&K, &V) -> bool + Drop, R: Wait>(
         &self,
         rt: &R,
-        key: &K,
+        key: Q,
         test: F,
         value: V,
     ) -> Result<Option<Arc<V, A>>, AllocError>
         requires { F.IsAlwaysCallable test }
-        ensures { (r : _) × TellsReplacement result r × CanAlter (ReplacesIf F.FnOnce (value, test)) key.now false r
-            × IsAnswerWith (ReplacesIf F.FnOnce) K.cmp S.hash_of self.now (Alter key.now false (value, test)) r }
+        ensures { (r : _) × TellsReplacement result r
+            × CanAlter (ReplacesIf F.FnOnce (value, test)) (Q.stands_for key) false r
+            × IsAnswerWith (ReplacesIf F.FnOnce) K.cmp S.hash_of self.now
+            (Alter (Q.stands_for key) false (value, test)) r }
     {
         self.pin(rt).replace_if(key, test, value)
     }

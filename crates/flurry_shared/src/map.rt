@@ -9,6 +9,7 @@ ghost use Rattle.flurry_shared_replies.specs.Answers.{CanAdd, CanCompute};
 ghost use Rattle.flurry_bins_slots.specs.ComputeFn.{AnswersIfPresent};
 
 use flurry_base::hash::{DefaultHashBuilder, KeyHasher};
+use flurry_base::query::HashedQuery;
 use flurry_base::try_insert::TryInsertError;
 use flurry_shared_locks::Locks;
 use flurry_shared_view::HashMapRef;
@@ -185,11 +186,24 @@ impl<K: Ord + Drop, V: Drop, S: KeyHasher<K>, A: Allocator + Copy> HashMap<K, V,
     /// assert!(rt; map.get(&rt, &38)?.is_none());
     /// ```
     ///
+    /// A key of the type `String` is found by a `&str` too, without a `String` made for it, as [`Query`](flurry_base::query::Query) tells:
+    ///
+    /// ```
+    /// let years: HashMap<String, u64> = HashMap::new(rt.alloc());
+    /// years.insert(&rt, String::from_str(rt.alloc(), "Ada")?, 1815)?;
+    /// assert_eq!(rt; years.get(&rt, "Ada")?.map(|year| *year), Some(1815));
+    /// assert!(rt; years.remove(&rt, "Alan").is_none());
+    /// ```
+    ///
     /// # Errors
     ///
     /// Returns [`AllocError`] if cloning the `Arc` fails, which it cannot if the key is absent.
-    pub fn get<R: Wait>(&self, rt: &R, key: &K) -> Result<Option<Arc<V, A>>, AllocError>
-        ensures { IsAnswerOf K.cmp S.hash_of self.now (Get key.now) (or_refused value_answer result) }
+    pub fn get<Q: HashedQuery<K, S>, R: Wait>(
+        &self,
+        rt: &R,
+        key: Q,
+    ) -> Result<Option<Arc<V, A>>, AllocError>
+        ensures { IsAnswerOf K.cmp S.hash_of self.now (Get (Q.stands_for key)) (or_refused value_answer result) }
     {
         self.pin(rt).get(key)
     }
@@ -201,12 +215,12 @@ impl<K: Ord + Drop, V: Drop, S: KeyHasher<K>, A: Allocator + Copy> HashMap<K, V,
     /// # Errors
     ///
     /// Returns [`AllocError`] if cloning an `Arc` fails, which it cannot if the key is absent.
-    pub fn get_key_value<R: Wait>(
+    pub fn get_key_value<Q: HashedQuery<K, S>, R: Wait>(
         &self,
         rt: &R,
-        key: &K,
+        key: Q,
     ) -> Result<Option<(Arc<K, A>, Arc<V, A>)>, AllocError>
-        ensures { IsAnswerOf K.cmp S.hash_of self.now (GetKeyValue key.now) (or_refused pair_answer result) }
+        ensures { IsAnswerOf K.cmp S.hash_of self.now (GetKeyValue (Q.stands_for key)) (or_refused pair_answer result) }
     {
         self.pin(rt).get_key_value(key)
     }
@@ -221,8 +235,8 @@ impl<K: Ord + Drop, V: Drop, S: KeyHasher<K>, A: Allocator + Copy> HashMap<K, V,
     /// assert!(rt; map.contains_key(&rt, &37));
     /// assert!(rt; !map.contains_key(&rt, &38));
     /// ```
-    pub fn contains_key<R: Wait>(&self, rt: &R, key: &K) -> bool
-        ensures { IsAnswerOf K.cmp S.hash_of self.now (ContainsKey key.now) (contains_answer result) }
+    pub fn contains_key<Q: HashedQuery<K, S>, R: Wait>(&self, rt: &R, key: Q) -> bool
+        ensures { IsAnswerOf K.cmp S.hash_of self.now (ContainsKey (Q.stands_for key)) (contains_answer result) }
     {
         self.pin(rt).contains_key(key)
     }
@@ -238,8 +252,8 @@ impl<K: Ord + Drop, V: Drop, S: KeyHasher<K>, A: Allocator + Copy> HashMap<K, V,
     /// assert_eq!(rt; map.remove(&rt, &37).map(|value| *value), Some(1));
     /// assert!(rt; map.remove(&rt, &37).is_none());
     /// ```
-    pub fn remove<R: Wait>(&self, rt: &R, key: &K) -> Option<Arc<V, A>>
-        ensures { IsAnswerOf K.cmp S.hash_of self.now (Remove key.now) (value_answer result) }
+    pub fn remove<Q: HashedQuery<K, S>, R: Wait>(&self, rt: &R, key: Q) -> Option<Arc<V, A>>
+        ensures { IsAnswerOf K.cmp S.hash_of self.now (Remove (Q.stands_for key)) (value_answer result) }
     {
         self.pin(rt).remove(key)
     }
@@ -247,8 +261,12 @@ impl<K: Ord + Drop, V: Drop, S: KeyHasher<K>, A: Allocator + Copy> HashMap<K, V,
     /// Removes the pair of a key, and returns the stored key and the value, or `None` if the key is absent. The table keeps its size.
     ///
     /// Takes the same locks as [`HashMap::remove`].
-    pub fn remove_entry<R: Wait>(&self, rt: &R, key: &K) -> Option<(Arc<K, A>, Arc<V, A>)>
-        ensures { IsAnswerOf K.cmp S.hash_of self.now (RemoveEntry key.now) (pair_answer result) }
+    pub fn remove_entry<Q: HashedQuery<K, S>, R: Wait>(
+        &self,
+        rt: &R,
+        key: Q,
+    ) -> Option<(Arc<K, A>, Arc<V, A>)>
+        ensures { IsAnswerOf K.cmp S.hash_of self.now (RemoveEntry (Q.stands_for key)) (pair_answer result) }
     {
         self.pin(rt).remove_entry(key)
     }
@@ -343,15 +361,15 @@ impl<K: Ord + Drop, V: Drop, S: KeyHasher<K>, A: Allocator + Copy> HashMap<K, V,
     ///
     /// Returns [`AllocError`] if memory for the new value cannot be allocated, or if cloning its `Arc` fails. `f` has been called then; the
     /// value that it computed is dropped, and the pair is unchanged.
-    pub fn compute_if_present<F: FnOnce(&K, &V) -> Option<V> + Drop, R: Wait>(
+    pub fn compute_if_present<Q: HashedQuery<K, S>, F: FnOnce(&K, &V) -> Option<V> + Drop, R: Wait>(
         &self,
         rt: &R,
-        key: &K,
+        key: Q,
         f: F,
     ) -> Result<Option<Arc<V, A>>, AllocError>
         requires { F.IsAlwaysCallable f }
         ensures answer { IsAnswerWith (AnswersIfPresent F.FnOnce) K.cmp S.hash_of self.now
-            (Compute key.now f) (or_refused value_answer result) }
+            (Compute (Q.stands_for key) f) (or_refused value_answer result) }
         ensures computed { CanCompute (AnswersIfPresent F.FnOnce f) (or_refused value_answer result) }
     {
         self.pin(rt).compute_if_present(key, f)

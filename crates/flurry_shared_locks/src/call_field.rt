@@ -12,6 +12,7 @@ ghost use Rattle.flurry_steps.specs.PartyBoard.{IsAttempt};
 use crate::lock_field::LockField;
 use crate::locks::Locks;
 use crate::tables::LockRoom;
+use flurry_base::query::Query;
 use flurry_bins_slots::ComputeFn;
 use flurry_steps::party::{Event, Reply, Want};
 use flurry_steps::{Field, Party};
@@ -110,7 +111,10 @@ impl<'m, R: Wait, K: Ord, V, A: Allocator> CallField<'m, R, K, V, A> {
 impl<'m, R: Wait, K: Ord + Drop, V: Drop, A: Allocator + Copy> CallField<'m, R, K, V, A> {
     // Passes the control to the next step of `party`. A growth that this step begins gives the call a helper, before anybody else can take
     // one: the control's lock is held until then.
-    fn at_locked_control<F: ComputeFn<K, V>>(&mut self, party: &mut Party<'_, K, V, F, A>) -> Event
+    fn at_locked_control<Q: Query<K>, F: ComputeFn<K, V>>(
+        &mut self,
+        party: &mut Party<Q, K, V, F, A>,
+    ) -> Event
         requires { wanted_part party.old ≡ ControlPart }
         ensures { FieldStep (RoomStays {M = LockRoom K V A}) K.cmp F.changes CallLends self.old party.old result self.new party.new }
     {
@@ -138,9 +142,9 @@ impl<'m, R: Wait, K: Ord + Drop, V: Drop, A: Allocator + Copy> Field<K, V, A>
 
     ghost lacks = { LockLacks };
 
-    fn at_control<F: ComputeFn<K, V>>(
+    fn at_control<Q: Query<K>, F: ComputeFn<K, V>>(
         &mut self,
-        party: &mut Party<'_, K, V, F, A>,
+        party: &mut Party<Q, K, V, F, A>,
     ) -> Option<Event> {
         let locks = self.locks;
         if party.is_locating() {
@@ -159,11 +163,11 @@ impl<'m, R: Wait, K: Ord + Drop, V: Drop, A: Allocator + Copy> Field<K, V, A>
         Some(self.at_locked_control(party))
     }
 
-    fn at_look<F: ComputeFn<K, V>>(
+    fn at_look<Q: Query<K>, F: ComputeFn<K, V>>(
         &mut self,
         table: u8,
         index: usize,
-        party: &mut Party<'_, K, V, F, A>,
+        party: &mut Party<Q, K, V, F, A>,
     ) -> Option<Event> {
         let slot = self.locks.tables.lock_of(table, index)?.read(self.rt);
         if slot.at() != (table, index) {
@@ -172,11 +176,11 @@ impl<'m, R: Wait, K: Ord + Drop, V: Drop, A: Allocator + Copy> Field<K, V, A>
         Some(party.on_look(&*slot))
     }
 
-    fn at_bin<F: ComputeFn<K, V>>(
+    fn at_bin<Q: Query<K>, F: ComputeFn<K, V>>(
         &mut self,
         table: u8,
         index: usize,
-        party: &mut Party<'_, K, V, F, A>,
+        party: &mut Party<Q, K, V, F, A>,
     ) -> Option<Event> {
         let mut slot = self.locks.tables.lock_of(table, index)?.write(self.rt);
         if slot.at() != (table, index) {
@@ -185,11 +189,11 @@ impl<'m, R: Wait, K: Ord + Drop, V: Drop, A: Allocator + Copy> Field<K, V, A>
         Some(party.on_bin(self.locks.alloc, &mut *slot))
     }
 
-    fn at_move<F: ComputeFn<K, V>>(
+    fn at_move<Q: Query<K>, F: ComputeFn<K, V>>(
         &mut self,
         table: u8,
         index: usize,
-        party: &mut Party<'_, K, V, F, A>,
+        party: &mut Party<Q, K, V, F, A>,
     ) -> Option<Event> {
         let (old, low, high) = self.locks.tables.locks_of_move(table, index)?;
         let mut old = old.write(self.rt);
@@ -201,10 +205,10 @@ impl<'m, R: Wait, K: Ord + Drop, V: Drop, A: Allocator + Copy> Field<K, V, A>
         Some(party.on_move(&mut *old, &mut *low, &mut *high))
     }
 
-    fn at_seat<F: ComputeFn<K, V>>(
+    fn at_seat<Q: Query<K>, F: ComputeFn<K, V>>(
         &mut self,
         table: u8,
-        party: &mut Party<'_, K, V, F, A>,
+        party: &mut Party<Q, K, V, F, A>,
     ) -> Option<Event> {
         let got = self.take_helper(table);
         if !got {
@@ -213,10 +217,10 @@ impl<'m, R: Wait, K: Ord + Drop, V: Drop, A: Allocator + Copy> Field<K, V, A>
         Some(party.on_seat(got))
     }
 
-    fn at_board<F: ComputeFn<K, V>>(
+    fn at_board<Q: Query<K>, F: ComputeFn<K, V>>(
         &mut self,
         table: u8,
-        party: &mut Party<'_, K, V, F, A>,
+        party: &mut Party<Q, K, V, F, A>,
     ) -> Option<Event> {
         if let Some(range) = party.take_range() {
             let last = self.report(table, range);
@@ -229,10 +233,10 @@ impl<'m, R: Wait, K: Ord + Drop, V: Drop, A: Allocator + Copy> Field<K, V, A>
         Some(party.on_attempt(attempt))
     }
 
-    fn at_give<F: ComputeFn<K, V>>(
+    fn at_give<Q: Query<K>, F: ComputeFn<K, V>>(
         &mut self,
         table: u8,
-        party: &mut Party<'_, K, V, F, A>,
+        party: &mut Party<Q, K, V, F, A>,
     ) -> Option<Event> {
         self.give_back();
         Some(party.on_give())
@@ -245,7 +249,10 @@ impl<'m, R: Wait, K: Ord + Drop, V: Drop, A: Allocator + Copy> CallField<'m, R, 
     ///
     /// Takes as many steps as the call's step, and what its locks take.
     #[inline(always)]
-    pub fn act<F: ComputeFn<K, V>>(&mut self, party: &mut Party<'_, K, V, F, A>) -> Option<Event>
+    pub fn act<Q: Query<K>, F: ComputeFn<K, V>>(
+        &mut self,
+        party: &mut Party<Q, K, V, F, A>,
+    ) -> Option<Event>
         ensures { ActsOrStays (RoomStays {M = LockRoom K V A}) K.cmp F.changes CallLends LockLacks self.old party.old
             result self.new party.new }
     {
@@ -265,9 +272,9 @@ impl<'m, R: Wait, K: Ord + Drop, V: Drop, A: Allocator + Copy> CallField<'m, R, 
     /// Does the steps of a call until it is done, takes its reply, and returns it.
     ///
     /// Takes as many steps as the call needs, and what its locks take.
-    pub fn finish<F: ComputeFn<K, V>>(
+    pub fn finish<Q: Query<K>, F: ComputeFn<K, V>>(
         &mut self,
-        party: &mut Party<'_, K, V, F, A>,
+        party: &mut Party<Q, K, V, F, A>,
     ) -> Reply<K, V, A>
         requires { IsTaken party.old.stage → ⊥ }
         ensures { StepsToReply (FieldStep (RoomStays {M = LockRoom K V A}) K.cmp F.changes CallLends) self.old party.old

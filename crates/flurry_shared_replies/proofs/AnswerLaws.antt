@@ -492,23 +492,23 @@ module _ {K V F : Type 0} (changes : F → K → Option V → Verdict V → Type
     all_turns {p' = p'} h (further {p' = e} ev field_steps field_step) = with_loan field_step.loan e p' ev (all_turns h field_steps) field_step.step
 
 -- a call that did no step yet can answer what its first stage can
-first_serves : {K V F A : Type 0} (changes : F → K → Option V → Verdict V → Type 0) (c : Call K V F A) → StageServes changes (CanAnswerFrom changes (stage_of_call (plain_call c))) (stage_of_call (plain_call c))
-first_serves changes (call.Get k) = λ r h. h
-first_serves changes (call.GetKeyValue k) = λ r h. h
-first_serves changes (call.ContainsKey k) = λ r h. h
-first_serves changes (call.Remove k) = λ r h. h
-first_serves changes (call.RemoveEntry k) = λ r h. h
-first_serves changes (call.RemoveSeen z) = λ r h. h
-first_serves changes (call.Insert k v) = λ r h. h
-first_serves changes (call.TryInsert k v) = λ r h. h
-first_serves changes (call.Compute k f) = λ r h. h
-first_serves changes (call.Alter k f) = λ r h. h
-first_serves changes (call.AlterPresent k f) = λ r h. h
-first_serves changes (call.Reserve a) = λ r h. h
-first_serves changes call.Clear = λ r h. h
-first_serves changes call.Walk = λ r h. h
+first_serves : {Q K V F A : Type 0} (changes : F → K → Option V → Verdict V → Type 0) (stands_for : Q → K) (c : Call Q K V F A) → StageServes changes (CanAnswerFrom changes (stage_of_call (plain_call stands_for c))) (stage_of_call (plain_call stands_for c))
+first_serves changes stands_for (call.Get k) = λ r h. h
+first_serves changes stands_for (call.GetKeyValue k) = λ r h. h
+first_serves changes stands_for (call.ContainsKey k) = λ r h. h
+first_serves changes stands_for (call.Remove k) = λ r h. h
+first_serves changes stands_for (call.RemoveEntry k) = λ r h. h
+first_serves changes stands_for (call.RemoveSeen z) = λ r h. h
+first_serves changes stands_for (call.Insert k v) = λ r h. h
+first_serves changes stands_for (call.TryInsert k v) = λ r h. h
+first_serves changes stands_for (call.Compute k f) = λ r h. h
+first_serves changes stands_for (call.Alter k f) = λ r h. h
+first_serves changes stands_for (call.AlterPresent k f) = λ r h. h
+first_serves changes stands_for (call.Reserve a) = λ r h. h
+first_serves changes stands_for call.Clear = λ r h. h
+first_serves changes stands_for call.Walk = λ r h. h
 
 module _ {S R K V F : Type 0} (place : R → ℕ → Option ℕ → Bool → R → Type 0) (cmp : K → K → Ordering) (changes : F → K → Option V → Verdict V → Type 0) (lends : S → Loan K V R → S → Type 0) {s s' : S} {p p' : PartyState K V F} {r : Outcome K V} (field_steps : StepsToReply (FieldStep place cmp changes lends) s p r s' p') where
   -- the reply to which steps take a call is one that it can answer
-  pub can_answer : {A : Type 0} (c : Call K V F A) → p.stage ≡ stage_of_call (plain_call c) → CanAnswerFrom changes (stage_of_call (plain_call c)) r
-  can_answer c e = served changes (CanAnswerFrom changes (stage_of_call (plain_call c))) field_steps.last.stage r (all_turns changes (CanAnswerFrom changes (stage_of_call (plain_call c))) place cmp lends (subst (StageServes changes (CanAnswerFrom changes (stage_of_call (plain_call c)))) (sym e) (first_serves changes c)) field_steps.field_steps) field_steps.done
+  pub can_answer : {Q A : Type 0} (stands_for : Q → K) (c : Call Q K V F A) → p.stage ≡ stage_of_call (plain_call stands_for c) → CanAnswerFrom changes (stage_of_call (plain_call stands_for c)) r
+  can_answer stands_for c e = served changes (CanAnswerFrom changes (stage_of_call (plain_call stands_for c))) field_steps.last.stage r (all_turns changes (CanAnswerFrom changes (stage_of_call (plain_call stands_for c))) place cmp lends (subst (StageServes changes (CanAnswerFrom changes (stage_of_call (plain_call stands_for c)))) (sym e) (first_serves changes stands_for c)) field_steps.field_steps) field_steps.done

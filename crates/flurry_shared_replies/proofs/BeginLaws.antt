@@ -19,71 +19,71 @@ use Rattle.flurry_steps.specs.declared.party.call.Call.{Call}
 use Rattle.flurry_steps.specs.declared.party.call.Call.TheVariants as call
 
 -- a look-up that did no step yet asks for the published table
-pub look_locates : {K V F A : Type 0} (c : Call K V F A) → LooksUp (stage_of_call (plain_call c)) → is_locating (stage_of_call (plain_call c)) ≡ true
-look_locates (call.Get k) h = refl
-look_locates (call.GetKeyValue k) h = refl
-look_locates (call.ContainsKey k) h = refl
-look_locates (call.Remove k) h = absurd h
-look_locates (call.RemoveEntry k) h = absurd h
-look_locates (call.RemoveSeen z) h = absurd h
-look_locates (call.Insert k v) h = absurd h
-look_locates (call.TryInsert k v) h = absurd h
-look_locates (call.Compute k f) h = absurd h
-look_locates (call.Alter k f) h = absurd h
-look_locates (call.AlterPresent k f) h = absurd h
-look_locates (call.Reserve a) h = absurd h
-look_locates call.Clear h = absurd h
-look_locates call.Walk h = absurd h
+pub look_locates : {Q K V F A : Type 0} (stands_for : Q → K) (c : Call Q K V F A) → LooksUp (stage_of_call (plain_call stands_for c)) → is_locating (stage_of_call (plain_call stands_for c)) ≡ true
+look_locates stands_for (call.Get k) h = refl
+look_locates stands_for (call.GetKeyValue k) h = refl
+look_locates stands_for (call.ContainsKey k) h = refl
+look_locates stands_for (call.Remove k) h = absurd h
+look_locates stands_for (call.RemoveEntry k) h = absurd h
+look_locates stands_for (call.RemoveSeen z) h = absurd h
+look_locates stands_for (call.Insert k v) h = absurd h
+look_locates stands_for (call.TryInsert k v) h = absurd h
+look_locates stands_for (call.Compute k f) h = absurd h
+look_locates stands_for (call.Alter k f) h = absurd h
+look_locates stands_for (call.AlterPresent k f) h = absurd h
+look_locates stands_for (call.Reserve a) h = absurd h
+look_locates stands_for call.Clear h = absurd h
+look_locates stands_for call.Walk h = absurd h
 
 -- and then it looks at its bin there
-pub look_wants : {K V F A : Type 0} (c : Call K V F A) (d h n : ℕ) → LooksUp (stage_of_call (plain_call c)) → wanted_part (begun_at d h n (stage_of_call (plain_call c))) ≡ LookPart d (h % 2 ^ d)
-look_wants (call.Get k) d h n looks = refl
-look_wants (call.GetKeyValue k) d h n looks = refl
-look_wants (call.ContainsKey k) d h n looks = refl
-look_wants (call.Remove k) d h n looks = absurd looks
-look_wants (call.RemoveEntry k) d h n looks = absurd looks
-look_wants (call.RemoveSeen z) d h n looks = absurd looks
-look_wants (call.Insert k v) d h n looks = absurd looks
-look_wants (call.TryInsert k v) d h n looks = absurd looks
-look_wants (call.Compute k f) d h n looks = absurd looks
-look_wants (call.Alter k f) d h n looks = absurd looks
-look_wants (call.AlterPresent k f) d h n looks = absurd looks
-look_wants (call.Reserve a) d h n looks = absurd looks
-look_wants call.Clear d h n looks = absurd looks
-look_wants call.Walk d h n looks = absurd looks
+pub look_wants : {Q K V F A : Type 0} (stands_for : Q → K) (c : Call Q K V F A) (d h n : ℕ) → LooksUp (stage_of_call (plain_call stands_for c)) → wanted_part (begun_at d h n (stage_of_call (plain_call stands_for c))) ≡ LookPart d (h % 2 ^ d)
+look_wants stands_for (call.Get k) d h n looks = refl
+look_wants stands_for (call.GetKeyValue k) d h n looks = refl
+look_wants stands_for (call.ContainsKey k) d h n looks = refl
+look_wants stands_for (call.Remove k) d h n looks = absurd looks
+look_wants stands_for (call.RemoveEntry k) d h n looks = absurd looks
+look_wants stands_for (call.RemoveSeen z) d h n looks = absurd looks
+look_wants stands_for (call.Insert k v) d h n looks = absurd looks
+look_wants stands_for (call.TryInsert k v) d h n looks = absurd looks
+look_wants stands_for (call.Compute k f) d h n looks = absurd looks
+look_wants stands_for (call.Alter k f) d h n looks = absurd looks
+look_wants stands_for (call.AlterPresent k f) d h n looks = absurd looks
+look_wants stands_for (call.Reserve a) d h n looks = absurd looks
+look_wants stands_for call.Clear d h n looks = absurd looks
+look_wants stands_for call.Walk d h n looks = absurd looks
 
 -- and so does a call that may change its bin
-pub write_locates : {K V F A : Type 0} (c : Call K V F A) → BeginsToWrite (stage_of_call (plain_call c)) → is_locating (stage_of_call (plain_call c)) ≡ true
-write_locates (call.Get k) h = absurd h
-write_locates (call.GetKeyValue k) h = absurd h
-write_locates (call.ContainsKey k) h = absurd h
-write_locates (call.Remove k) h = refl
-write_locates (call.RemoveEntry k) h = refl
-write_locates (call.RemoveSeen z) h = refl
-write_locates (call.Insert k v) h = refl
-write_locates (call.TryInsert k v) h = refl
-write_locates (call.Compute k f) h = refl
-write_locates (call.Alter k f) h = refl
-write_locates (call.AlterPresent k f) h = refl
-write_locates (call.Reserve a) h = absurd h
-write_locates call.Clear h = absurd h
-write_locates call.Walk h = absurd h
+pub write_locates : {Q K V F A : Type 0} (stands_for : Q → K) (c : Call Q K V F A) → BeginsToWrite (stage_of_call (plain_call stands_for c)) → is_locating (stage_of_call (plain_call stands_for c)) ≡ true
+write_locates stands_for (call.Get k) h = absurd h
+write_locates stands_for (call.GetKeyValue k) h = absurd h
+write_locates stands_for (call.ContainsKey k) h = absurd h
+write_locates stands_for (call.Remove k) h = refl
+write_locates stands_for (call.RemoveEntry k) h = refl
+write_locates stands_for (call.RemoveSeen z) h = refl
+write_locates stands_for (call.Insert k v) h = refl
+write_locates stands_for (call.TryInsert k v) h = refl
+write_locates stands_for (call.Compute k f) h = refl
+write_locates stands_for (call.Alter k f) h = refl
+write_locates stands_for (call.AlterPresent k f) h = refl
+write_locates stands_for (call.Reserve a) h = absurd h
+write_locates stands_for call.Clear h = absurd h
+write_locates stands_for call.Walk h = absurd h
 
-pub write_wants : {K V F A : Type 0} (c : Call K V F A) (d h n : ℕ) → BeginsToWrite (stage_of_call (plain_call c)) → wanted_part (begun_at d h n (stage_of_call (plain_call c))) ≡ BinPart d (h % 2 ^ d)
-write_wants (call.Get k) d h n writes = absurd writes
-write_wants (call.GetKeyValue k) d h n writes = absurd writes
-write_wants (call.ContainsKey k) d h n writes = absurd writes
-write_wants (call.Remove k) d h n writes = refl
-write_wants (call.RemoveEntry k) d h n writes = refl
-write_wants (call.RemoveSeen z) d h n writes = refl
-write_wants (call.Insert k v) d h n writes = refl
-write_wants (call.TryInsert k v) d h n writes = refl
-write_wants (call.Compute k f) d h n writes = refl
-write_wants (call.Alter k f) d h n writes = refl
-write_wants (call.AlterPresent k f) d h n writes = refl
-write_wants (call.Reserve a) d h n writes = absurd writes
-write_wants call.Clear d h n writes = absurd writes
-write_wants call.Walk d h n writes = absurd writes
+pub write_wants : {Q K V F A : Type 0} (stands_for : Q → K) (c : Call Q K V F A) (d h n : ℕ) → BeginsToWrite (stage_of_call (plain_call stands_for c)) → wanted_part (begun_at d h n (stage_of_call (plain_call stands_for c))) ≡ BinPart d (h % 2 ^ d)
+write_wants stands_for (call.Get k) d h n writes = absurd writes
+write_wants stands_for (call.GetKeyValue k) d h n writes = absurd writes
+write_wants stands_for (call.ContainsKey k) d h n writes = absurd writes
+write_wants stands_for (call.Remove k) d h n writes = refl
+write_wants stands_for (call.RemoveEntry k) d h n writes = refl
+write_wants stands_for (call.RemoveSeen z) d h n writes = refl
+write_wants stands_for (call.Insert k v) d h n writes = refl
+write_wants stands_for (call.TryInsert k v) d h n writes = refl
+write_wants stands_for (call.Compute k f) d h n writes = refl
+write_wants stands_for (call.Alter k f) d h n writes = refl
+write_wants stands_for (call.AlterPresent k f) d h n writes = refl
+write_wants stands_for (call.Reserve a) d h n writes = absurd writes
+write_wants stands_for call.Clear d h n writes = absurd writes
+write_wants stands_for call.Walk d h n writes = absurd writes
 
 module _ {S K V F : Type 0} {step : S → PartyState K V F → Event → S → PartyState K V F → Type 0} where
   both : {s s' s'' : S} {p p' p'' : PartyState K V F} → StepClosure step s p s' p' → StepClosure step s' p' s'' p'' → StepClosure step s p s'' p''

@@ -33,6 +33,6 @@ abbrev pub GoesTo : {K V F : Type 0} → (K → K → Ordering) → (F → K →
 GoesTo cmp changes p p' = StepClosure {S = Unit {0}} (FieldStep (RoomStays {M = Unit {0}}) cmp changes LockLends) tt p tt p'
 
 -- a call of that hash has begun, for however many processors, whatever it left behind; or it has done no step, and comes back
-abbrev pub BeginsOrStays : {K V F A B : Type 0} → (K → K → Ordering) → (F → K → Option V → Verdict V → Type 0) → ℕ → Call K V F A → Result (EndingState K V × B) (Call K V F A) → Type 0
-BeginsOrStays cmp changes h c (Ok (e, b)) = (n : ℕ) → GoesTo cmp changes (new_party h n (stage_of_call (plain_call c))) (new_party h n (ending_stage e))
-BeginsOrStays cmp changes h c (Err c') = c' ≡ c
+abbrev pub BeginsOrStays : {Q K V F A B : Type 0} → (Q → K) → (K → K → Ordering) → (F → K → Option V → Verdict V → Type 0) → ℕ → Call Q K V F A → Result (EndingState K V × B) (Call Q K V F A) → Type 0
+BeginsOrStays stands_for cmp changes h c (Ok (e, b)) = (n : ℕ) → GoesTo cmp changes (new_party h n (stage_of_call (plain_call stands_for c))) (new_party h n (ending_stage e))
+BeginsOrStays stands_for cmp changes h c (Err c') = c' ≡ c

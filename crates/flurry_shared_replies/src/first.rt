@@ -5,6 +5,7 @@ ghost use Rattle.flurry_steps.specs.PartyTally.{ending_stage};
 ghost use Rattle.flurry_steps_sweep.specs.OutcomeView.{outcome_of};
 ghost use Rattle.flurry_steps.specs.PartyView.{CallIsReady, plain_call};
 
+use flurry_base::query::Query;
 use flurry_base::sizes::bin_index;
 use flurry_bins_slots::ComputeFn;
 use flurry_shared_locks::{CallField, LockField};
@@ -22,14 +23,21 @@ use std::sync::Wait;
 // If a table is known to be published, and the bin there is live, a one-key call does its first two steps in one go. No party is made if
 // these are all, or if the step at a tally is the last.
 #[inline(always)]
-pub fn reply_to<K: Ord + Drop, V: Drop, F: ComputeFn<K, V>, A: Allocator + Copy, R: Wait>(
+pub fn reply_to<
+    Q: Query<K>,
+    K: Ord + Drop,
+    V: Drop,
+    F: ComputeFn<K, V>,
+    A: Allocator + Copy,
+    R: Wait,
+>(
     lock_field: &LockField<'_, R, K, V, A>,
-    call: Call<'_, K, V, F, A>,
+    call: Call<Q, K, V, F, A>,
     hash: u64,
     processors: usize,
 ) -> Reply<K, V, A>
     requires { CallIsReady F.can_change F.never_keeps call }
-    ensures { RepliesFrom K.cmp F.changes hash processors (stage_of_call (plain_call call.entry)) result }
+    ensures { RepliesFrom K.cmp F.changes hash processors (stage_of_call (plain_call Q.stands_for call)) result }
 {
     let Some(start) = lock_field.newest() else {
         return drive_call(lock_field, call, hash, processors);
@@ -46,16 +54,23 @@ pub fn reply_to<K: Ord + Drop, V: Drop, F: ComputeFn<K, V>, A: Allocator + Copy,
 }
 
 // Runs a look-up that starts at the table `start`, and returns its reply.
-fn look_up_at_table<K: Ord + Drop, V: Drop, F: ComputeFn<K, V>, A: Allocator + Copy, R: Wait>(
+fn look_up_at_table<
+    Q: Query<K>,
+    K: Ord + Drop,
+    V: Drop,
+    F: ComputeFn<K, V>,
+    A: Allocator + Copy,
+    R: Wait,
+>(
     lock_field: &LockField<'_, R, K, V, A>,
     start: &PublishedTable,
-    call: Call<'_, K, V, F, A>,
+    call: Call<Q, K, V, F, A>,
     hash: u64,
     processors: usize,
 ) -> Reply<K, V, A>
     requires ready { CallIsReady F.can_change F.never_keeps call }
-    requires looks { LooksUp (stage_of_call (plain_call call)) }
-    ensures { RepliesFrom K.cmp F.changes hash processors (stage_of_call (plain_call call.entry)) result }
+    requires looks { LooksUp (stage_of_call (plain_call Q.stands_for call)) }
+    ensures { RepliesFrom K.cmp F.changes hash processors (stage_of_call (plain_call Q.stands_for call)) result }
 {
     let table = start.table();
     let index = bin_index(hash, table);
@@ -70,16 +85,23 @@ fn look_up_at_table<K: Ord + Drop, V: Drop, F: ComputeFn<K, V>, A: Allocator + C
 
 // Runs a call that may change its bin and that starts at the table `start`, and returns its reply.
 #[inline(always)]
-fn write_at_table<K: Ord + Drop, V: Drop, F: ComputeFn<K, V>, A: Allocator + Copy, R: Wait>(
+fn write_at_table<
+    Q: Query<K>,
+    K: Ord + Drop,
+    V: Drop,
+    F: ComputeFn<K, V>,
+    A: Allocator + Copy,
+    R: Wait,
+>(
     lock_field: &LockField<'_, R, K, V, A>,
     start: &PublishedTable,
-    call: Call<'_, K, V, F, A>,
+    call: Call<Q, K, V, F, A>,
     hash: u64,
     processors: usize,
 ) -> Reply<K, V, A>
     requires ready { CallIsReady F.can_change F.never_keeps call }
-    requires writes { BeginsToWrite (stage_of_call (plain_call call)) }
-    ensures { RepliesFrom K.cmp F.changes hash processors (stage_of_call (plain_call call.entry)) result }
+    requires writes { BeginsToWrite (stage_of_call (plain_call Q.stands_for call)) }
+    ensures { RepliesFrom K.cmp F.changes hash processors (stage_of_call (plain_call Q.stands_for call)) result }
 {
     match try_write_bin(lock_field, start, call, hash) {
         Ok((ending, remains)) => {
@@ -93,15 +115,22 @@ fn write_at_table<K: Ord + Drop, V: Drop, F: ComputeFn<K, V>, A: Allocator + Cop
 // Does the first two steps of a call that may change its bin. Returns the call, and what these steps left behind. If the call cannot start
 // so, it has done no step, and is returned.
 #[inline(always)]
-fn try_write_bin<'k, K: Ord + Drop, V: Drop, F: ComputeFn<K, V>, A: Allocator + Copy, R: Wait>(
+fn try_write_bin<
+    Q: Query<K>,
+    K: Ord + Drop,
+    V: Drop,
+    F: ComputeFn<K, V>,
+    A: Allocator + Copy,
+    R: Wait,
+>(
     lock_field: &LockField<'_, R, K, V, A>,
     start: &PublishedTable,
-    call: Call<'k, K, V, F, A>,
+    call: Call<Q, K, V, F, A>,
     hash: u64,
-) -> Result<(Ending<K, V, A>, Remains<'k, K, V, F, A>), Call<'k, K, V, F, A>>
+) -> Result<(Ending<K, V, A>, Remains<Q, K, V, F, A>), Call<Q, K, V, F, A>>
     requires ready { CallIsReady F.can_change F.never_keeps call }
-    requires writes { BeginsToWrite (stage_of_call (plain_call call)) }
-    ensures { BeginsOrStays K.cmp F.changes hash call.entry result }
+    requires writes { BeginsToWrite (stage_of_call (plain_call Q.stands_for call)) }
+    ensures { BeginsOrStays Q.stands_for K.cmp F.changes hash call result }
 {
     let table = start.table();
     let index = bin_index(hash, table);
@@ -159,14 +188,21 @@ fn count_and_finish<K: Ord + Drop, V: Drop, F: ComputeFn<K, V>, A: Allocator + C
 }
 
 // Does all steps of a call, one after another, and returns its reply.
-fn drive_call<K: Ord + Drop, V: Drop, F: ComputeFn<K, V>, A: Allocator + Copy, R: Wait>(
+fn drive_call<
+    Q: Query<K>,
+    K: Ord + Drop,
+    V: Drop,
+    F: ComputeFn<K, V>,
+    A: Allocator + Copy,
+    R: Wait,
+>(
     lock_field: &LockField<'_, R, K, V, A>,
-    call: Call<'_, K, V, F, A>,
+    call: Call<Q, K, V, F, A>,
     hash: u64,
     processors: usize,
 ) -> Reply<K, V, A>
     requires { CallIsReady F.can_change F.never_keeps call }
-    ensures { RepliesFrom K.cmp F.changes hash processors (stage_of_call (plain_call call.entry)) result }
+    ensures { RepliesFrom K.cmp F.changes hash processors (stage_of_call (plain_call Q.stands_for call)) result }
 {
     drive_party(lock_field, Party::new(call, hash, processors))
 }
@@ -180,16 +216,20 @@ fn drive_ending<K: Ord + Drop, V: Drop, F: ComputeFn<K, V>, A: Allocator + Copy,
 ) -> Reply<K, V, A>
     ensures { RepliesFrom K.cmp F.changes hash processors (ending_stage ending) result }
 {
-    drive_party(lock_field, ending.into_party::<F>(hash, processors))
+    drive_party(lock_field, ending.into_party::<&K, F>(hash, processors))
 }
 
 // Does the steps that are left of a call, and returns its reply.
-fn drive_party<K: Ord + Drop, V: Drop, F: ComputeFn<K, V>, A: Allocator + Copy, R: Wait>(
-    lock_field: &LockField<'_, R, K, V, A>,
-    party: Party<'_, K, V, F, A>,
-) -> Reply<K, V, A>
+fn drive_party<
+    Q: Query<K>,
+    K: Ord + Drop,
+    V: Drop,
+    F: ComputeFn<K, V>,
+    A: Allocator + Copy,
+    R: Wait,
+>(lock_field: &LockField<'_, R, K, V, A>, party: Party<Q, K, V, F, A>) -> Reply<K, V, A>
     requires { IsTaken party.stage → ⊥ }
-    ensures { IsReplyOf K.cmp F.changes party.entry (outcome_of result) }
+    ensures { IsReplyOf K.cmp F.changes party (outcome_of result) }
 {
     let mut party = party;
     let reply = CallField::new(lock_field).finish(&mut party);

@@ -8,6 +8,7 @@ ghost use Rattle.flurry_shared_set.specs.ElementAnswers.{element_answer, inserte
 
 use crate::HashSetRef;
 use flurry_base::hash::{DefaultHashBuilder, KeyHasher};
+use flurry_base::query::HashedQuery;
 use flurry_shared::HashMap;
 use flurry_shared::iter::Keys;
 use std::alloc::{AllocError, Allocator, Global};
@@ -148,8 +149,8 @@ impl<T: Ord + Drop, S: KeyHasher<T>, A: Allocator + Copy> HashSet<T, S, A> {
     /// assert!(rt; set.contains(&rt, &37));
     /// assert!(rt; !set.contains(&rt, &38));
     /// ```
-    pub fn contains<R: Wait>(&self, rt: &R, element: &T) -> bool
-        ensures { IsAnswerOf T.cmp S.hash_of self.now (ContainsKey element.now) (contains_answer result) }
+    pub fn contains<Q: HashedQuery<T, S>, R: Wait>(&self, rt: &R, element: Q) -> bool
+        ensures { IsAnswerOf T.cmp S.hash_of self.now (ContainsKey (Q.stands_for element)) (contains_answer result) }
     {
         self.pin(rt).contains(element)
     }
@@ -166,8 +167,13 @@ impl<T: Ord + Drop, S: KeyHasher<T>, A: Allocator + Copy> HashSet<T, S, A> {
     /// # Errors
     ///
     /// Returns [`AllocError`] if cloning an `Arc` fails, which it cannot if the set has no element equal to `element`.
-    pub fn get<R: Wait>(&self, rt: &R, element: &T) -> Result<Option<Arc<T, A>>, AllocError>
-        ensures { IsAnswerOf T.cmp S.hash_of self.now (GetKeyValue element.now) (or_refused element_answer result) }
+    pub fn get<Q: HashedQuery<T, S>, R: Wait>(
+        &self,
+        rt: &R,
+        element: Q,
+    ) -> Result<Option<Arc<T, A>>, AllocError>
+        ensures { IsAnswerOf T.cmp S.hash_of self.now (GetKeyValue (Q.stands_for element))
+            (or_refused element_answer result) }
     {
         self.pin(rt).get(element)
     }
@@ -200,15 +206,15 @@ impl<T: Ord + Drop, S: KeyHasher<T>, A: Allocator + Copy> HashSet<T, S, A> {
     /// assert!(rt; set.remove(&rt, &37));
     /// assert!(rt; !set.remove(&rt, &37));
     /// ```
-    pub fn remove<R: Wait>(&self, rt: &R, element: &T) -> bool
-        ensures { IsAnswerOf T.cmp S.hash_of self.now (Remove element.now) (removed_answer result) }
+    pub fn remove<Q: HashedQuery<T, S>, R: Wait>(&self, rt: &R, element: Q) -> bool
+        ensures { IsAnswerOf T.cmp S.hash_of self.now (Remove (Q.stands_for element)) (removed_answer result) }
     {
         self.pin(rt).remove(element)
     }
 
     /// Removes the element equal to `element`, and returns it, or `None` if there is none. The table keeps its size. It takes no memory.
-    pub fn take<R: Wait>(&self, rt: &R, element: &T) -> Option<Arc<T, A>>
-        ensures { IsAnswerOf T.cmp S.hash_of self.now (RemoveEntry element.now) (element_answer result) }
+    pub fn take<Q: HashedQuery<T, S>, R: Wait>(&self, rt: &R, element: Q) -> Option<Arc<T, A>>
+        ensures { IsAnswerOf T.cmp S.hash_of self.now (RemoveEntry (Q.stands_for element)) (element_answer result) }
     {
         self.pin(rt).take(element)
     }

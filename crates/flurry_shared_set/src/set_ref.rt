@@ -6,6 +6,7 @@ ghost use Rattle.flurry_base.specs.declared.call.Call.TheVariants.{GetKeyValue, 
 ghost use Rattle.flurry_shared_set.specs.ElementAnswers.{element_answer, inserted_answer, removed_answer};
 
 use flurry_base::hash::{DefaultHashBuilder, KeyHasher};
+use flurry_base::query::HashedQuery;
 use flurry_shared_view::HashMapRef;
 use flurry_shared_view::iter::{Iter, Keys};
 use std::alloc::{AllocError, Allocator, Global};
@@ -87,8 +88,8 @@ impl<'m, R: Wait, T: Ord + Drop, S: KeyHasher<T>, A: Allocator + Copy> HashSetRe
     /// assert!(rt; view.contains(&37));
     /// assert!(rt; !view.contains(&38));
     /// ```
-    pub fn contains(&self, element: &T) -> bool
-        ensures { IsAnswerOf T.cmp S.hash_of self.now (ContainsKey element.now) (contains_answer result) }
+    pub fn contains<Q: HashedQuery<T, S>>(&self, element: Q) -> bool
+        ensures { IsAnswerOf T.cmp S.hash_of self.now (ContainsKey (Q.stands_for element)) (contains_answer result) }
     {
         self.map.contains_key(element)
     }
@@ -106,8 +107,9 @@ impl<'m, R: Wait, T: Ord + Drop, S: KeyHasher<T>, A: Allocator + Copy> HashSetRe
     /// # Errors
     ///
     /// Returns [`AllocError`] if cloning an `Arc` fails, which it cannot if the set has no element equal to `element`.
-    pub fn get(&self, element: &T) -> Result<Option<Arc<T, A>>, AllocError>
-        ensures { IsAnswerOf T.cmp S.hash_of self.now (GetKeyValue element.now) (or_refused element_answer result) }
+    pub fn get<Q: HashedQuery<T, S>>(&self, element: Q) -> Result<Option<Arc<T, A>>, AllocError>
+        ensures { IsAnswerOf T.cmp S.hash_of self.now (GetKeyValue (Q.stands_for element))
+            (or_refused element_answer result) }
     {
         match self.map.get_key_value(element)? {
             Some((stored, _)) => Ok(Some(stored)),
@@ -148,8 +150,8 @@ impl<'m, R: Wait, T: Ord + Drop, S: KeyHasher<T>, A: Allocator + Copy> HashSetRe
     /// assert!(rt; view.remove(&37));
     /// assert!(rt; !view.remove(&37));
     /// ```
-    pub fn remove(&self, element: &T) -> bool
-        ensures { IsAnswerOf T.cmp S.hash_of self.now (Remove element.now) (removed_answer result) }
+    pub fn remove<Q: HashedQuery<T, S>>(&self, element: Q) -> bool
+        ensures { IsAnswerOf T.cmp S.hash_of self.now (Remove (Q.stands_for element)) (removed_answer result) }
     {
         match self.map.remove(element) {
             Some(_) => true,
@@ -158,8 +160,8 @@ impl<'m, R: Wait, T: Ord + Drop, S: KeyHasher<T>, A: Allocator + Copy> HashSetRe
     }
 
     /// Removes the element equal to `element`, and returns it, or `None` if there is none. The table keeps its size. It takes no memory.
-    pub fn take(&self, element: &T) -> Option<Arc<T, A>>
-        ensures { IsAnswerOf T.cmp S.hash_of self.now (RemoveEntry element.now) (element_answer result) }
+    pub fn take<Q: HashedQuery<T, S>>(&self, element: Q) -> Option<Arc<T, A>>
+        ensures { IsAnswerOf T.cmp S.hash_of self.now (RemoveEntry (Q.stands_for element)) (element_answer result) }
     {
         match self.map.remove_entry(element) {
             Some((stored, _)) => Some(stored),

@@ -90,7 +90,7 @@ module _ {K V : Type 0} (cmp : K → K → Ordering) where
   pub can_end : (p p' : SweepState K V) (r : Outcome K V) → IsWalkUnderWay cmp p → EndsWith cmp p r p' → CanWalk r
   can_end p p' r h t =
       can_answer (RoomStays {M = Unit {0}}) cmp no_changes (LockLends {S = Unit {0}}) {s = tt} {s' = tt} {p' = party_of p'} {r = r}
-      (record { last = party_of t.last; field_steps = field_steps_of (others_after h t.others); done = t.done; after = ap party_of t.after }) {A = Unit {0}} call.Walk refl
+      (record { last = party_of t.last; field_steps = field_steps_of (others_after h t.others); done = t.done; after = ap party_of t.after }) {Q = K} {A = Unit {0}} (λ k. k) call.Walk refl
 
   -- a walk that did no step yet does one
   pub begins : (p p' : SweepState K V) (o : Option Event) → p ≡ fresh_sweep Reads → WalksOrStays cmp p o p' → (ev : Event) × WalkStep cmp (fresh_sweep Reads) ev p'

@@ -9,6 +9,7 @@ use crate::HashMapRef;
 use crate::functions::{Computing, Merging, Removing, Replacing, Updating};
 use flurry_base::Change;
 use flurry_base::hash::KeyHasher;
+use flurry_base::query::HashedQuery;
 use flurry_steps::party::{Call, Reply};
 use std::alloc::{AllocError, Allocator};
 use std::sync::{Arc, Wait};
@@ -62,7 +63,7 @@ impl<'m, R: Wait, K: Ord + Drop, V: Drop, S: KeyHasher<K>, A: Allocator + Copy> 
         ensures { (r : _) × TellsChange result r × CanAlter (ComputesBy F.FnOnce f) key true r
             × IsAnswerWith (ComputesBy F.FnOnce) K.cmp S.hash_of self.now (Alter key true f) r }
     {
-        let call: Call<'s, K, V, Computing<F>, A> = Call::Alter(key, Computing { f });
+        let call: Call<&K, K, V, Computing<F>, A> = Call::Alter(key, Computing { f });
         match self.run(call) {
             Reply::Contains(false) => Ok(Change::Absent),
             Reply::New(value) => Ok(Change::Added(value)),
@@ -104,7 +105,7 @@ impl<'m, R: Wait, K: Ord + Drop, V: Drop, S: KeyHasher<K>, A: Allocator + Copy> 
         ensures { (r : _) × TellsChange result r × CanAlter (MergesBy F.FnOnce (value, f)) key true r
             × IsAnswerWith (MergesBy F.FnOnce) K.cmp S.hash_of self.now (Alter key true (value, f)) r }
     {
-        let call: Call<'s, K, V, Merging<V, F>, A> = Call::Alter(key, Merging { value, f });
+        let call: Call<&K, K, V, Merging<V, F>, A> = Call::Alter(key, Merging { value, f });
         match self.run(call) {
             Reply::New(value) => Ok(Change::Added(value)),
             Reply::Changed { new, .. } => Ok(Change::Changed(new)),
@@ -134,14 +135,14 @@ impl<'m, R: Wait, K: Ord + Drop, V: Drop, S: KeyHasher<K>, A: Allocator + Copy> 
     ///
     /// Returns [`AllocError`] if memory for the new value cannot be allocated, or if cloning its `Arc` fails. `f` has been called then; the
     /// value that it returned is dropped, and the pair is unchanged.
-    pub fn update<F: FnOnce(&K, &V) -> V + Drop>(
+    pub fn update<Q: HashedQuery<K, S>, F: FnOnce(&K, &V) -> V + Drop>(
         &self,
-        key: &K,
+        key: Q,
         f: F,
     ) -> Result<Option<Arc<V, A>>, AllocError>
         requires { F.IsAlwaysCallable f }
-        ensures { (r : _) × TellsUpdate result r × CanAlter (UpdatesBy F.FnOnce f) key.now false r
-            × IsAnswerWith (UpdatesBy F.FnOnce) K.cmp S.hash_of self.now (Alter key.now false f) r }
+        ensures { (r : _) × TellsUpdate result r × CanAlter (UpdatesBy F.FnOnce f) (Q.stands_for key) false r
+            × IsAnswerWith (UpdatesBy F.FnOnce) K.cmp S.hash_of self.now (Alter (Q.stands_for key) false f) r }
     {
         match self.run(Call::AlterPresent(key, Updating { f })) {
             Reply::Contains(false) => Ok(None),
@@ -168,10 +169,14 @@ impl<'m, R: Wait, K: Ord + Drop, V: Drop, S: KeyHasher<K>, A: Allocator + Copy> 
     /// assert_eq!(rt; removed.map(|value| *value), Some(1));
     /// assert!(rt; view.is_empty());
     /// ```
-    pub fn remove_if<F: FnOnce(&K, &V) -> bool + Drop>(&self, key: &K, test: F) -> Option<Arc<V, A>>
+    pub fn remove_if<Q: HashedQuery<K, S>, F: FnOnce(&K, &V) -> bool + Drop>(
+        &self,
+        key: Q,
+        test: F,
+    ) -> Option<Arc<V, A>>
         requires { F.IsAlwaysCallable test }
-        ensures { (r : _) × TellsRemoval result r × CanAlter (RemovesIf F.FnOnce test) key.now false r
-            × IsAnswerWith (RemovesIf F.FnOnce) K.cmp S.hash_of self.now (Alter key.now false test) r }
+        ensures { (r : _) × TellsRemoval result r × CanAlter (RemovesIf F.FnOnce test) (Q.stands_for key) false r
+            × IsAnswerWith (RemovesIf F.FnOnce) K.cmp S.hash_of self.now (Alter (Q.stands_for key) false test) r }
     {
         match self.run(Call::AlterPresent(key, Removing { test })) {
             Reply::Contains(_) => None,
@@ -202,15 +207,17 @@ impl<'m, R: Wait, K: Ord + Drop, V: Drop, S: KeyHasher<K>, A: Allocator + Copy> 
     ///
     /// Returns [`AllocError`] if `test` returned `true` and memory for `value` cannot be allocated, or cloning its `Arc` fails. `value` is
     /// dropped, and the pair is unchanged.
-    pub fn replace_if<F: FnOnce(&K, &V) -> bool + Drop>(
+    pub fn replace_if<Q: HashedQuery<K, S>, F: FnOnce(&K, &V) -> bool + Drop>(
         &self,
-        key: &K,
+        key: Q,
         test: F,
         value: V,
     ) -> Result<Option<Arc<V, A>>, AllocError>
         requires { F.IsAlwaysCallable test }
-        ensures { (r : _) × TellsReplacement result r × CanAlter (ReplacesIf F.FnOnce (value, test)) key.now false r
-            × IsAnswerWith (ReplacesIf F.FnOnce) K.cmp S.hash_of self.now (Alter key.now false (value, test)) r }
+        ensures { (r : _) × TellsReplacement result r
+            × CanAlter (ReplacesIf F.FnOnce (value, test)) (Q.stands_for key) false r
+            × IsAnswerWith (ReplacesIf F.FnOnce) K.cmp S.hash_of self.now
+            (Alter (Q.stands_for key) false (value, test)) r }
     {
         match self.run(Call::AlterPresent(key, Replacing { value, test })) {
             Reply::Contains(_) => Ok(None),

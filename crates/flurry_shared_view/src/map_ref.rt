@@ -11,6 +11,7 @@ ghost use Rattle.flurry_steps.specs.PartyView.{CallIsReady, plain_call};
 ghost use Rattle.flurry_steps.specs.Party.{stage_of_call};
 
 use flurry_base::hash::{DefaultHashBuilder, KeyHasher};
+use flurry_base::query::HashedQuery;
 use flurry_base::try_insert::TryInsertError;
 use flurry_bins_slots::{ComputeFn, NoFn};
 use flurry_shared_locks::{LockField, Locks};
@@ -131,13 +132,23 @@ impl<'m, R: Wait, K: Ord + Drop, V: Drop, S: KeyHasher<K>, A: Allocator + Copy> 
     /// assert!(rt; view.get(&38)?.is_none());
     /// ```
     ///
+    /// A key of the type `String` is found by a `&str` too, without a `String` made for it, as [`Query`](flurry_base::query::Query) tells:
+    ///
+    /// ```
+    /// let years: HashMap<String, u64> = HashMap::new(rt.alloc());
+    /// let view = years.pin(&rt);
+    /// view.insert(String::from_str(rt.alloc(), "Ada")?, 1815)?;
+    /// assert_eq!(rt; view.get("Ada")?.map(|year| *year), Some(1815));
+    /// assert!(rt; view.remove("Alan").is_none());
+    /// ```
+    ///
     /// # Errors
     ///
     /// Returns [`AllocError`] if cloning the `Arc` fails, which it cannot if the key is absent.
-    pub fn get(&self, key: &K) -> Result<Option<Arc<V, A>>, AllocError>
-        ensures { IsAnswerOf K.cmp S.hash_of self.now (Get key.now) (or_refused value_answer result) }
+    pub fn get<Q: HashedQuery<K, S>>(&self, key: Q) -> Result<Option<Arc<V, A>>, AllocError>
+        ensures { IsAnswerOf K.cmp S.hash_of self.now (Get (Q.stands_for key)) (or_refused value_answer result) }
     {
-        let call: Call<'_, K, V, NoFn, A> = Call::Get(key);
+        let call: Call<Q, K, V, NoFn, A> = Call::Get(key);
         match self.run(call) {
             Reply::Value(value) => Ok(value),
             Reply::Refused => Err(AllocError),
@@ -152,10 +163,13 @@ impl<'m, R: Wait, K: Ord + Drop, V: Drop, S: KeyHasher<K>, A: Allocator + Copy> 
     /// # Errors
     ///
     /// Returns [`AllocError`] if cloning an `Arc` fails, which it cannot if the key is absent.
-    pub fn get_key_value(&self, key: &K) -> Result<Option<(Arc<K, A>, Arc<V, A>)>, AllocError>
-        ensures { IsAnswerOf K.cmp S.hash_of self.now (GetKeyValue key.now) (or_refused pair_answer result) }
+    pub fn get_key_value<Q: HashedQuery<K, S>>(
+        &self,
+        key: Q,
+    ) -> Result<Option<(Arc<K, A>, Arc<V, A>)>, AllocError>
+        ensures { IsAnswerOf K.cmp S.hash_of self.now (GetKeyValue (Q.stands_for key)) (or_refused pair_answer result) }
     {
-        let call: Call<'_, K, V, NoFn, A> = Call::GetKeyValue(key);
+        let call: Call<Q, K, V, NoFn, A> = Call::GetKeyValue(key);
         match self.run(call) {
             Reply::Pair(pair) => Ok(pair),
             Reply::Refused => Err(AllocError),
@@ -174,10 +188,10 @@ impl<'m, R: Wait, K: Ord + Drop, V: Drop, S: KeyHasher<K>, A: Allocator + Copy> 
     /// assert!(rt; view.contains_key(&37));
     /// assert!(rt; !view.contains_key(&38));
     /// ```
-    pub fn contains_key(&self, key: &K) -> bool
-        ensures { IsAnswerOf K.cmp S.hash_of self.now (ContainsKey key.now) (contains_answer result) }
+    pub fn contains_key<Q: HashedQuery<K, S>>(&self, key: Q) -> bool
+        ensures { IsAnswerOf K.cmp S.hash_of self.now (ContainsKey (Q.stands_for key)) (contains_answer result) }
     {
-        let call: Call<'_, K, V, NoFn, A> = Call::ContainsKey(key);
+        let call: Call<Q, K, V, NoFn, A> = Call::ContainsKey(key);
         match self.run(call) {
             Reply::Contains(found) => found,
             _ => unreachable!(),
@@ -196,10 +210,10 @@ impl<'m, R: Wait, K: Ord + Drop, V: Drop, S: KeyHasher<K>, A: Allocator + Copy> 
     /// assert_eq!(rt; view.remove(&37).map(|value| *value), Some(1));
     /// assert!(rt; view.remove(&37).is_none());
     /// ```
-    pub fn remove(&self, key: &K) -> Option<Arc<V, A>>
-        ensures { IsAnswerOf K.cmp S.hash_of self.now (Remove key.now) (value_answer result) }
+    pub fn remove<Q: HashedQuery<K, S>>(&self, key: Q) -> Option<Arc<V, A>>
+        ensures { IsAnswerOf K.cmp S.hash_of self.now (Remove (Q.stands_for key)) (value_answer result) }
     {
-        let call: Call<'_, K, V, NoFn, A> = Call::Remove(key);
+        let call: Call<Q, K, V, NoFn, A> = Call::Remove(key);
         match self.run(call) {
             Reply::Value(value) => value,
             _ => unreachable!(),
@@ -209,10 +223,10 @@ impl<'m, R: Wait, K: Ord + Drop, V: Drop, S: KeyHasher<K>, A: Allocator + Copy> 
     /// Removes the pair of a key, and returns the stored key and the value, or `None` if the key is absent. The table keeps its size.
     ///
     /// Takes the same locks as [`HashMapRef::remove`].
-    pub fn remove_entry(&self, key: &K) -> Option<(Arc<K, A>, Arc<V, A>)>
-        ensures { IsAnswerOf K.cmp S.hash_of self.now (RemoveEntry key.now) (pair_answer result) }
+    pub fn remove_entry<Q: HashedQuery<K, S>>(&self, key: Q) -> Option<(Arc<K, A>, Arc<V, A>)>
+        ensures { IsAnswerOf K.cmp S.hash_of self.now (RemoveEntry (Q.stands_for key)) (pair_answer result) }
     {
-        let call: Call<'_, K, V, NoFn, A> = Call::RemoveEntry(key);
+        let call: Call<Q, K, V, NoFn, A> = Call::RemoveEntry(key);
         match self.run(call) {
             Reply::Pair(pair) => pair,
             _ => unreachable!(),
@@ -226,7 +240,7 @@ impl<'m, R: Wait, K: Ord + Drop, V: Drop, S: KeyHasher<K>, A: Allocator + Copy> 
     pub fn remove_seen<'s>(&'s self, seen: Seen<K, V, A>) -> Option<Arc<V, A>>
         ensures { IsAnswerOf K.cmp S.hash_of self.now (RemoveSeen seen) (value_answer result) }
     {
-        let call: Call<'s, K, V, NoFn, A> = Call::RemoveSeen(seen);
+        let call: Call<&K, K, V, NoFn, A> = Call::RemoveSeen(seen);
         match self.run(call) {
             Reply::Value(removed) => removed,
             _ => unreachable!(),
@@ -258,7 +272,7 @@ impl<'m, R: Wait, K: Ord + Drop, V: Drop, S: KeyHasher<K>, A: Allocator + Copy> 
         let Ok(value) = Arc::new(self.lock_field.allocator(), value) else {
             return Err(AllocError);
         };
-        let call: Call<'s, K, V, NoFn, A> = Call::Insert(key, value);
+        let call: Call<&K, K, V, NoFn, A> = Call::Insert(key, value);
         match self.run(call) {
             Reply::Value(value) => Ok(value),
             Reply::Refused => Err(AllocError),
@@ -294,7 +308,7 @@ impl<'m, R: Wait, K: Ord + Drop, V: Drop, S: KeyHasher<K>, A: Allocator + Copy> 
         ensures answer { IsAnswerOf K.cmp S.hash_of self.now (TryInsert key value) (or_refused added_answer result) }
         ensures added { CanAdd {K = K} value (or_refused added_answer result) }
     {
-        let call: Call<'s, K, V, NoFn, A> = Call::TryInsert(key, value);
+        let call: Call<&K, K, V, NoFn, A> = Call::TryInsert(key, value);
         match self.run(call) {
             Reply::New(value) => Ok(Ok(value)),
             Reply::Exists(error) => Ok(Err(error)),
@@ -329,14 +343,14 @@ impl<'m, R: Wait, K: Ord + Drop, V: Drop, S: KeyHasher<K>, A: Allocator + Copy> 
     ///
     /// Returns [`AllocError`] if memory for the new value cannot be allocated, or if cloning its `Arc` fails. `f` has been called then; the
     /// value that it computed is dropped, and the pair is unchanged.
-    pub fn compute_if_present<F: FnOnce(&K, &V) -> Option<V> + Drop>(
+    pub fn compute_if_present<Q: HashedQuery<K, S>, F: FnOnce(&K, &V) -> Option<V> + Drop>(
         &self,
-        key: &K,
+        key: Q,
         f: F,
     ) -> Result<Option<Arc<V, A>>, AllocError>
         requires { F.IsAlwaysCallable f }
         ensures answer { IsAnswerWith (AnswersIfPresent F.FnOnce) K.cmp S.hash_of self.now
-            (Compute key.now f) (or_refused value_answer result) }
+            (Compute (Q.stands_for key) f) (or_refused value_answer result) }
         ensures computed { CanCompute (AnswersIfPresent F.FnOnce f) (or_refused value_answer result) }
     {
         match self.run(Call::Compute(key, f)) {
@@ -357,7 +371,7 @@ impl<'m, R: Wait, K: Ord + Drop, V: Drop, S: KeyHasher<K>, A: Allocator + Copy> 
     pub fn reserve<'s>(&'s self, additional: usize) -> Result<(), AllocError>
         ensures { IsAnswerOf K.cmp S.hash_of self.now (Reserve additional) (or_refused ended_answer result) }
     {
-        let call: Call<'s, K, V, NoFn, A> = Call::Reserve(additional);
+        let call: Call<&K, K, V, NoFn, A> = Call::Reserve(additional);
         match self.run(call) {
             Reply::Ended => Ok(()),
             Reply::Refused => Err(AllocError),
@@ -380,34 +394,28 @@ impl<'m, R: Wait, K: Ord + Drop, V: Drop, S: KeyHasher<K>, A: Allocator + Copy> 
     pub fn clear<'s>(&'s self)
         ensures { IsAnswerOf K.cmp S.hash_of self.now Clear (ended_answer tt) }
     {
-        let call: Call<'s, K, V, NoFn, A> = Call::Clear;
+        let call: Call<&K, K, V, NoFn, A> = Call::Clear;
         match self.run(call) {
             Reply::Ended => {}
             _ => unreachable!(),
         }
     }
 
-    // Returns the hash of the key of `call`, or 0 if it has no key.
-    #[inline]
-    fn hash_of<F>(&self, call: &Call<'_, K, V, F, A>) -> u64
-        ensures { result ≡ hash_of_call (S.hash_of self.now.hasher) (plain_call call.now) }
-    {
-        match call.key() {
-            Some(key) => self.hasher.hash_one(key),
-            None => 0,
-        }
-    }
-
     // Does the steps of `call` over the locks. It is copied into each caller together with its first steps, which then do not ask which
     // call it is.
     #[inline(always)]
-    pub(crate) fn run<F: ComputeFn<K, V>>(&self, call: Call<'_, K, V, F, A>) -> Reply<K, V, A>
+    pub(crate) fn run<Q: HashedQuery<K, S>, F: ComputeFn<K, V>>(
+        &self,
+        call: Call<Q, K, V, F, A>,
+    ) -> Reply<K, V, A>
         requires { CallIsReady F.can_change F.never_keeps call }
-        ensures driven { RepliesFrom K.cmp F.changes (hash_of_call (S.hash_of self.now.hasher) (plain_call call.entry))
-            self.now.processors (stage_of_call (plain_call call.entry)) result }
-        ensures answers { CanAnswerFrom F.changes (stage_of_call (plain_call call.entry)) (outcome_of result) }
+        ensures driven { RepliesFrom K.cmp F.changes (hash_of_call (S.hash_of self.now.hasher)
+            (plain_call Q.stands_for call))
+            self.now.processors (stage_of_call (plain_call Q.stands_for call)) result }
+        ensures answers { CanAnswerFrom F.changes (stage_of_call (plain_call Q.stands_for call))
+            (outcome_of result) }
     {
-        let hash = self.hash_of(&call);
+        let hash = call.hash_by(self.hasher);
         reply_to(&self.lock_field, call, hash, self.processors)
     }
 }

@@ -116,7 +116,7 @@ impl<'m, R: Wait, K: Ord + Drop, V: Drop, S: KeyHasher<K>, A: Allocator + Copy> 
                 return Ok(());
             };
             if !keep(&key, &value) {
-                self.remove(&key);
+                self.remove(key.as_ref());
             }
         }
         unreachable!()

@@ -11,18 +11,18 @@ use Rattle.flurry_steps.specs.declared.party.stage.Stage.{Stage}
 use Rattle.flurry_steps.specs.declared.party.stage.Stage.TheVariants as stage
 
 -- it has read nothing as a walk does
-pub none_read : {K V F A : Type 0} (s : Stage K V F A) → None ≡ last_seen (stage_of s)
-none_read (stage.Locate t) = refl
-none_read (stage.Bin t e) = refl
-none_read (stage.Help h a) = refl
-none_read (stage.Uncount r) = refl
-none_read (stage.Count r) = refl
-none_read (stage.Recount r) = refl
-none_read (stage.Begin e r) = refl
-none_read (stage.Grow w g) = refl
-none_read (stage.Reserve a) = refl
-none_read (stage.Done r) = refl
-none_read stage.Taken = refl
+pub none_read : {Q K V F A : Type 0} (stands_for : Q → K) (s : Stage Q K V F A) → None ≡ last_seen (stage_of stands_for s)
+none_read stands_for (stage.Locate t) = refl
+none_read stands_for (stage.Bin t e) = refl
+none_read stands_for (stage.Help h a) = refl
+none_read stands_for (stage.Uncount r) = refl
+none_read stands_for (stage.Count r) = refl
+none_read stands_for (stage.Recount r) = refl
+none_read stands_for (stage.Begin e r) = refl
+none_read stands_for (stage.Grow w g) = refl
+none_read stands_for (stage.Reserve a) = refl
+none_read stands_for (stage.Done r) = refl
+none_read stands_for stage.Taken = refl
 
 -- and it alone moves bins
 pub no_move : {K V : Type 0} (w : SweepKind) (s : SweepStage K V) (e i : ℕ) → part_at w s ≡ MovePart e i → ⊥
@@ -34,15 +34,15 @@ no_move w (AtEnd r) e i same = let clash : NoPart ≡ MovePart e i = same in cc
 no_move w AfterEnd e i same = let clash : NoPart ≡ MovePart e i = same in cc
 
 -- a stage that is seen as done is so
-pub not_done : {K V F A : Type 0} (s : Stage K V F A) → ((r : Reply K V A) → s ≡ stage.Done r → ⊥) → (o : Outcome K V) → stage_of s ≡ AtDone o → ⊥
-not_done (stage.Locate t) other o e = cc
-not_done (stage.Bin t n) other o e = cc
-not_done (stage.Help h a) other o e = cc
-not_done (stage.Uncount r) other o e = cc
-not_done (stage.Count r) other o e = cc
-not_done (stage.Recount r) other o e = cc
-not_done (stage.Begin n r) other o e = cc
-not_done (stage.Grow w g) other o e = cc
-not_done (stage.Reserve a) other o e = cc
-not_done (stage.Done r) other o e = other r refl
-not_done stage.Taken other o e = cc
+pub not_done : {Q K V F A : Type 0} (stands_for : Q → K) (s : Stage Q K V F A) → ((r : Reply K V A) → s ≡ stage.Done r → ⊥) → (o : Outcome K V) → stage_of stands_for s ≡ AtDone o → ⊥
+not_done stands_for (stage.Locate t) other o e = cc
+not_done stands_for (stage.Bin t n) other o e = cc
+not_done stands_for (stage.Help h a) other o e = cc
+not_done stands_for (stage.Uncount r) other o e = cc
+not_done stands_for (stage.Count r) other o e = cc
+not_done stands_for (stage.Recount r) other o e = cc
+not_done stands_for (stage.Begin n r) other o e = cc
+not_done stands_for (stage.Grow w g) other o e = cc
+not_done stands_for (stage.Reserve a) other o e = cc
+not_done stands_for (stage.Done r) other o e = other r refl
+not_done stands_for stage.Taken other o e = cc

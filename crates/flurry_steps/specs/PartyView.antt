@@ -29,39 +29,40 @@ use Rattle.flurry_steps.specs.declared.party.first.WholeMapCall.{WholeMapCall}
 use Rattle.flurry_steps.specs.declared.party.first.WholeMapCall.TheVariants as whole
 use Rattle.flurry_steps.specs.declared.party.single.Single.TheInside.{Inside}
 
-abbrev pub plain_key : {K : Type 0} → Key K → K
-plain_key (key.Lent k) = k.now
-plain_key (key.Own k) = k
+-- the key that a lent one stands for, or that the call owns
+abbrev pub plain_key : {Q K : Type 0} → (Q → K) → Key Q K → K
+plain_key stands_for (key.Lent q) = stands_for q
+plain_key stands_for (key.Own k) = k
 
 abbrev pub form_of : AnswerForm → abstract.AnswerForm
 form_of form.Value = abstract.TheValue
 form_of form.Pair = abstract.ThePair
 form_of form.Presence = abstract.Presence
 
-module _ {K V F A : Type 0} where
-  abbrev pub task_of : Task K V F A → abstract.Task K V F
-  task_of (task.Find w k) = abstract.Finds (form_of w) (plain_key k)
-  task_of (task.Remove w k) = abstract.Removes (form_of w) (plain_key k)
+module _ {Q K V F A : Type 0} (stands_for : Q → K) where
+  abbrev pub task_of : Task Q K V F A → abstract.Task K V F
+  task_of (task.Find w k) = abstract.Finds (form_of w) (plain_key stands_for k)
+  task_of (task.Remove w k) = abstract.Removes (form_of w) (plain_key stands_for k)
   task_of (task.RemoveSeen z) = abstract.RemovesSeen z
   task_of (task.Insert k v) = abstract.Inserts k (given_of v)
   task_of (task.Add k v) = abstract.Adds k v
-  task_of (task.Compute k f) = abstract.Computes (plain_key k) f
+  task_of (task.Compute k f) = abstract.Computes (plain_key stands_for k) f
   task_of (task.Alter k f) = abstract.Alters k true f
-  task_of (task.AlterPresent k f) = abstract.Alters (plain_key k) false f
+  task_of (task.AlterPresent k f) = abstract.Alters (plain_key stands_for k) false f
 
   -- the call as plain data
-  abbrev pub plain_call : Call K V F A → plain_call_type.Call K V F
-  plain_call (call.Get k) = plain.Get k.now
-  plain_call (call.GetKeyValue k) = plain.GetKeyValue k.now
-  plain_call (call.ContainsKey k) = plain.ContainsKey k.now
-  plain_call (call.Remove k) = plain.Remove k.now
-  plain_call (call.RemoveEntry k) = plain.RemoveEntry k.now
+  abbrev pub plain_call : Call Q K V F A → plain_call_type.Call K V F
+  plain_call (call.Get k) = plain.Get (stands_for k)
+  plain_call (call.GetKeyValue k) = plain.GetKeyValue (stands_for k)
+  plain_call (call.ContainsKey k) = plain.ContainsKey (stands_for k)
+  plain_call (call.Remove k) = plain.Remove (stands_for k)
+  plain_call (call.RemoveEntry k) = plain.RemoveEntry (stands_for k)
   plain_call (call.RemoveSeen z) = plain.RemoveSeen z
   plain_call (call.Insert k v) = plain.Insert k (arc_value v)
   plain_call (call.TryInsert k v) = plain.TryInsert k v
-  plain_call (call.Compute k f) = plain.Compute k.now f
+  plain_call (call.Compute k f) = plain.Compute (stands_for k) f
   plain_call (call.Alter k f) = plain.Alter k true f
-  plain_call (call.AlterPresent k f) = plain.Alter k.now false f
+  plain_call (call.AlterPresent k f) = plain.Alter (stands_for k) false f
   plain_call (call.Reserve n) = plain.Reserve n
   plain_call call.Clear = plain.Clear
   plain_call call.Walk = plain.Walk
@@ -90,7 +91,7 @@ module _ {K V F : Type 0} where
   plain_of_owned owned.Walk = plain.Walk
 
   -- its function, if it has one, may be called, and for a computation keeps no pair
-  abbrev pub CallIsReady : {A : Type 0} → (F → Type 0) → (F → Type 0) → Call K V F A → Type 0
+  abbrev pub CallIsReady : {Q A : Type 0} → (F → Type 0) → (F → Type 0) → Call Q K V F A → Type 0
   CallIsReady can_change never_keeps (call.Compute k f) = can_change f × never_keeps f
   CallIsReady can_change never_keeps (call.Alter k f) = can_change f
   CallIsReady can_change never_keeps (call.AlterPresent k f) = can_change f
@@ -115,15 +116,15 @@ module _ {K V A : Type 0} where
   grow_for_of (growing.Insert r) = abstract.ForInsert (outcome_of r)
   grow_for_of growing.Reserve = abstract.ForReserve
 
-module _ {K V F A : Type 0} where
-  abbrev pub resume_of : Resume K V F A → abstract.Resume K V F
-  resume_of (after.Bin t e) = abstract.ThenBin (task_of t) e
+module _ {Q K V F A : Type 0} (stands_for : Q → K) where
+  abbrev pub resume_of : Resume Q K V F A → abstract.Resume K V F
+  resume_of (after.Bin t e) = abstract.ThenBin (task_of stands_for t) e
   resume_of (after.Recount r) = abstract.ThenRecount (outcome_of r)
   resume_of (after.Grow w g) = abstract.ThenGrow w (grow_for_of g)
 
-  abbrev pub stage_of : Stage K V F A → abstract.Stage K V F
-  stage_of (stage.Locate t) = abstract.AtLocate (task_of t)
-  stage_of (stage.Bin t e) = abstract.AtBin (task_of t) e
+  abbrev pub stage_of : Stage Q K V F A → abstract.Stage K V F
+  stage_of (stage.Locate t) = abstract.AtLocate (task_of stands_for t)
+  stage_of (stage.Bin t e) = abstract.AtBin (task_of stands_for t) e
   stage_of (stage.Help h a) = abstract.AtHelp (help_of h) (resume_of a)
   stage_of (stage.Uncount r) = abstract.AtUncount (outcome_of r)
   stage_of (stage.Count r) = abstract.AtCount (outcome_of r)
@@ -134,5 +135,5 @@ module _ {K V F A : Type 0} where
   stage_of (stage.Done r) = abstract.AtDone (outcome_of r)
   stage_of stage.Taken = abstract.AtTaken
 
-  abbrev pub single_state_of : Inside K V F A → PartyState K V F
+  abbrev pub single_state_of : Inside Q K V F A → PartyState K V F
   single_state_of p = record { hash = p.hash; processors = p.processors; helped = p.helped; stage = stage_of p.stage }

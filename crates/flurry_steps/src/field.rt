@@ -7,6 +7,7 @@ ghost use Rattle.flurry_steps.specs.Field.{Loan, FieldStep, StepsOrStays, ActsOr
 ghost use Rattle.flurry_steps.specs.StepClosure.{StepsToReply};
 
 use crate::party::{Event, Party, Reply, Want};
+use flurry_base::query::Query;
 use flurry_bins_slots::ComputeFn;
 use flurry_steps_control::Room;
 use std::alloc::Allocator;
@@ -38,18 +39,21 @@ pub trait Field<K: Ord + Drop, V: Drop, A: Allocator + Copy> {
     ///
     /// Instead of the control, it may pass a published table to a call that only asks for the published table, and a tally to a call that
     /// counts a pair.
-    fn at_control<F: ComputeFn<K, V>>(&mut self, party: &mut Party<'_, K, V, F, A>) -> Option<Event>
+    fn at_control<Q: Query<K>, F: ComputeFn<K, V>>(
+        &mut self,
+        party: &mut Party<Q, K, V, F, A>,
+    ) -> Option<Event>
         requires { wanted_part party.old ≡ ControlPart }
         ensures { StepsOrStays Self.Room.place_gives K.cmp F.changes lends lacks self.old party.old
             result self.new party.new };
 
     /// Passes the slot of `table` and `index`, to read it, to the next step of `party`. Returns what the step did, or `None` if no step
     /// was done.
-    fn at_look<F: ComputeFn<K, V>>(
+    fn at_look<Q: Query<K>, F: ComputeFn<K, V>>(
         &mut self,
         table: u8,
         index: usize,
-        party: &mut Party<'_, K, V, F, A>,
+        party: &mut Party<Q, K, V, F, A>,
     ) -> Option<Event>
         requires { wanted_part party.old ≡ LookPart table index }
         ensures { StepsOrStays Self.Room.place_gives K.cmp F.changes lends lacks self.old party.old
@@ -57,11 +61,11 @@ pub trait Field<K: Ord + Drop, V: Drop, A: Allocator + Copy> {
 
     /// Passes the slot of `table` and `index`, to write it, to the next step of `party`. Returns what the step did, or `None` if no step
     /// was done.
-    fn at_bin<F: ComputeFn<K, V>>(
+    fn at_bin<Q: Query<K>, F: ComputeFn<K, V>>(
         &mut self,
         table: u8,
         index: usize,
-        party: &mut Party<'_, K, V, F, A>,
+        party: &mut Party<Q, K, V, F, A>,
     ) -> Option<Event>
         requires { wanted_part party.old ≡ BinPart table index }
         ensures { StepsOrStays Self.Room.place_gives K.cmp F.changes lends lacks self.old party.old
@@ -69,11 +73,11 @@ pub trait Field<K: Ord + Drop, V: Drop, A: Allocator + Copy> {
 
     /// Passes the slot of `table` and `index`, and its two halves in the next table, to the next step of `party`, which moves the bin of
     /// the slot into the halves. Returns what the step did, or `None` if no step was done.
-    fn at_move<F: ComputeFn<K, V>>(
+    fn at_move<Q: Query<K>, F: ComputeFn<K, V>>(
         &mut self,
         table: u8,
         index: usize,
-        party: &mut Party<'_, K, V, F, A>,
+        party: &mut Party<Q, K, V, F, A>,
     ) -> Option<Event>
         requires { wanted_part party.old ≡ MovePart table index }
         ensures { StepsOrStays Self.Room.place_gives K.cmp F.changes lends lacks self.old party.old
@@ -81,10 +85,10 @@ pub trait Field<K: Ord + Drop, V: Drop, A: Allocator + Copy> {
 
     /// Takes a seat at the board of the growth from `table`, and passes to the next step of `party` whether there was one. Returns what
     /// the step did, or `None` if no step was done.
-    fn at_seat<F: ComputeFn<K, V>>(
+    fn at_seat<Q: Query<K>, F: ComputeFn<K, V>>(
         &mut self,
         table: u8,
-        party: &mut Party<'_, K, V, F, A>,
+        party: &mut Party<Q, K, V, F, A>,
     ) -> Option<Event>
         requires { wanted_part party.old ≡ SeatPart table }
         ensures { StepsOrStays Self.Room.place_gives K.cmp F.changes lends lacks self.old party.old
@@ -92,10 +96,10 @@ pub trait Field<K: Ord + Drop, V: Drop, A: Allocator + Copy> {
 
     /// Reports the range whose bins `party` has moved to the board of the growth from `table`, or tries to claim one there if it has none,
     /// and passes the result to the next step of `party`. Returns what the step did, or `None` if no step was done.
-    fn at_board<F: ComputeFn<K, V>>(
+    fn at_board<Q: Query<K>, F: ComputeFn<K, V>>(
         &mut self,
         table: u8,
-        party: &mut Party<'_, K, V, F, A>,
+        party: &mut Party<Q, K, V, F, A>,
     ) -> Option<Event>
         requires { wanted_part party.old ≡ BoardPart table }
         ensures { StepsOrStays Self.Room.place_gives K.cmp F.changes lends lacks self.old party.old
@@ -103,10 +107,10 @@ pub trait Field<K: Ord + Drop, V: Drop, A: Allocator + Copy> {
 
     /// Takes back the seat of `party` at the board of the growth from `table`, and does the step of `party` that gives it back. Returns
     /// what the step did, or `None` if no step was done.
-    fn at_give<F: ComputeFn<K, V>>(
+    fn at_give<Q: Query<K>, F: ComputeFn<K, V>>(
         &mut self,
         table: u8,
-        party: &mut Party<'_, K, V, F, A>,
+        party: &mut Party<Q, K, V, F, A>,
     ) -> Option<Event>
         requires { wanted_part party.old ≡ GivePart table }
         ensures { StepsOrStays Self.Room.place_gives K.cmp F.changes lends lacks self.old party.old
@@ -118,10 +122,14 @@ pub trait Field<K: Ord + Drop, V: Drop, A: Allocator + Copy> {
 ///
 /// Takes as many steps as the call's step, and as many as the field needs to pass the part.
 #[inline(always)]
-pub fn act<K: Ord + Drop, V: Drop, A: Allocator + Copy, F: ComputeFn<K, V>, X: Field<K, V, A>>(
-    party: &mut Party<'_, K, V, F, A>,
-    field: &mut X,
-) -> Option<Event>
+pub fn act<
+    Q: Query<K>,
+    K: Ord + Drop,
+    V: Drop,
+    A: Allocator + Copy,
+    F: ComputeFn<K, V>,
+    X: Field<K, V, A>,
+>(party: &mut Party<Q, K, V, F, A>, field: &mut X) -> Option<Event>
     ensures { ActsOrStays X.Room.place_gives K.cmp F.changes X.lends X.lacks field.old party.old
         result field.new party.new }
 {
@@ -143,13 +151,14 @@ pub fn act<K: Ord + Drop, V: Drop, A: Allocator + Copy, F: ComputeFn<K, V>, X: F
 ///
 /// Takes as many steps as the call needs, and what the field takes to give the parts.
 pub fn finish<
+    Q: Query<K>,
     K: Ord + Drop,
     V: Drop,
     A: Allocator + Copy,
     F: ComputeFn<K, V>,
     X: Field<K, V, A>,
     R: Wait,
->(rt: &R, party: &mut Party<'_, K, V, F, A>, field: &mut X) -> Reply<K, V, A>
+>(rt: &R, party: &mut Party<Q, K, V, F, A>, field: &mut X) -> Reply<K, V, A>
     requires { IsTaken party.old.stage → ⊥ }
     ensures { StepsToReply (FieldStep X.Room.place_gives K.cmp F.changes X.lends) field.old party.old
         (outcome_of result) field.new party.new }

@@ -31,6 +31,7 @@ mod stage;
 pub use call::{Call, OwnedCall};
 pub use ending::{Ending, Rest};
 use first::{WholeMapCall, task_for, task_of_owned};
+use flurry_base::query::Query;
 use flurry_bins_slots::{ComputeFn, Slot};
 use flurry_steps_claims::{Attempt, Range};
 use flurry_steps_control::{Control, PublishedTable, Room, Tally};
@@ -49,26 +50,26 @@ use std::marker::Model;
 /// that it meets is unborn: one at the control, and one in each of 31 tables.
 ///
 /// ```
-/// let party: Party<'_, u64, u64, F> = Party::from_owned(OwnedCall::Get(key), key, 1);
+/// let party: Party<&u64, u64, u64, F> = Party::from_owned(OwnedCall::Get(key), key, 1);
 /// let want = party.want();
 /// drop(party);
 /// want
 /// ```
 #[derive(Drop)]
-pub struct Party<'k, K, V, F: ComputeFn<K, V>, A: Allocator = Global> {
-    kind: PartyKind<'k, K, V, F, A>,
+pub struct Party<Q: Query<K>, K: Ord, V, F: ComputeFn<K, V>, A: Allocator = Global> {
+    kind: PartyKind<Q, K, V, F, A>,
 }
 
 /// The two kinds of calls. The frames of a sweep would lengthen the proofs of all other steps, so the two kinds are of two types.
 #[derive(Drop)]
-pub(crate) enum PartyKind<'k, K, V, F: ComputeFn<K, V>, A: Allocator> {
+pub(crate) enum PartyKind<Q: Query<K>, K: Ord, V, F: ComputeFn<K, V>, A: Allocator> {
     /// A one-key call, or a call that makes room.
-    Single(Single<'k, K, V, F, A>),
+    Single(Single<Q, K, V, F, A>),
     /// A walk or a clear, with the hash and the number of processors that it was given; it reads neither.
     Sweep(u64, usize, Sweep<K, V, A>),
 }
 
-impl<'k, K, V, F: ComputeFn<K, V>, A: Allocator> Model for Party<'k, K, V, F, A> {
+impl<Q: Query<K>, K: Ord, V, F: ComputeFn<K, V>, A: Allocator> Model for Party<Q, K, V, F, A> {
     ghost use Rattle.flurry_steps.specs.Party.{PartyState};
     ghost use Rattle.flurry_steps.specs.PartyKindView.{party_state_of};
 
@@ -77,12 +78,17 @@ impl<'k, K, V, F: ComputeFn<K, V>, A: Allocator> Model for Party<'k, K, V, F, A>
     ghost view = { party_state_of };
 }
 
-impl<'k, K, V, F: ComputeFn<K, V>, A: Allocator> Party<'k, K, V, F, A> {
+impl<Q: Query<K>, K: Ord, V, F: ComputeFn<K, V>, A: Allocator> Party<Q, K, V, F, A> {
     // Creates a call that does not visit all bins, at the given stage.
-    fn of_stage(stage: Stage<'k, K, V, F, A>, hash: u64, processors: usize) -> Self
-        requires { StageIsReady F.can_change F.never_keeps (stage_of stage) }
+    fn of_stage(stage: Stage<Q, K, V, F, A>, hash: u64, processors: usize) -> Self
+        requires { StageIsReady F.can_change F.never_keeps (stage_of Q.stands_for stage) }
         ensures { result
-            ≡ record { hash = hash; processors = processors; helped = None; stage = stage_of stage.entry } }
+            ≡ record {
+              hash = hash;
+              processors = processors;
+              helped = None;
+              stage = stage_of Q.stands_for stage;
+            } }
     {
         Party {
             kind: PartyKind::Single(Single {
@@ -96,7 +102,7 @@ impl<'k, K, V, F: ComputeFn<K, V>, A: Allocator> Party<'k, K, V, F, A> {
     }
 }
 
-impl<'k, K: Drop, V: Drop, F: ComputeFn<K, V>, A: Allocator> Party<'k, K, V, F, A> {
+impl<Q: Query<K>, K: Ord + Drop, V: Drop, F: ComputeFn<K, V>, A: Allocator> Party<Q, K, V, F, A> {
     // Creates a call without a key, before its first step.
     fn of_whole_map(call: WholeMapCall, hash: u64, processors: usize) -> Self
         ensures { result
@@ -125,29 +131,17 @@ impl<'k, K: Drop, V: Drop, F: ComputeFn<K, V>, A: Allocator> Party<'k, K, V, F, 
     /// of a growth; `0` counts as 1.
     ///
     /// Constant time. Takes no memory.
-    pub fn new(call: Call<'k, K, V, F, A>, hash: u64, processors: usize) -> Self
+    pub fn new(call: Call<Q, K, V, F, A>, hash: u64, processors: usize) -> Self
         requires { CallIsReady F.can_change F.never_keeps call }
         ensures { result
-            ≡ record { hash = hash; processors = processors; helped = None; stage = stage_of_call (plain_call call.entry) } }
+            ≡ record {
+              hash = hash;
+              processors = processors;
+              helped = None;
+              stage = stage_of_call (plain_call Q.stands_for call);
+            } }
     {
         match task_for(call) {
-            Ok(task) => return Party::of_stage(Stage::Locate(task), hash, processors),
-            Err(call) => return Party::of_whole_map(call, hash, processors),
-        }
-    }
-
-    /// Creates a call that owns its key, and has done no step yet.
-    ///
-    /// `hash` is the hash of its key; a call without a key does not read it. `processors` is the number of processors that share the work
-    /// of a growth; `0` counts as 1.
-    ///
-    /// Constant time. Takes no memory.
-    pub fn from_owned(call: OwnedCall<K, V, F>, hash: u64, processors: usize) -> Self
-        requires { OwnedIsReady F.can_change F.never_keeps call }
-        ensures { result
-            ≡ record { hash = hash; processors = processors; helped = None; stage = stage_of_call (plain_of_owned call) } }
-    {
-        match task_of_owned(call) {
             Ok(task) => return Party::of_stage(Stage::Locate(task), hash, processors),
             Err(call) => return Party::of_whole_map(call, hash, processors),
         }
@@ -406,7 +400,26 @@ impl<'k, K: Drop, V: Drop, F: ComputeFn<K, V>, A: Allocator> Party<'k, K, V, F, 
     }
 }
 
-impl<'k, K: Ord + Drop, V: Drop, F: ComputeFn<K, V>, A: Allocator> Party<'k, K, V, F, A> {
+impl<'k, K: Ord + Drop, V: Drop, F: ComputeFn<K, V>, A: Allocator> Party<&'k K, K, V, F, A> {
+    /// Creates a call that owns its key, and has done no step yet.
+    ///
+    /// `hash` is the hash of its key; a call without a key does not read it. `processors` is the number of processors that share the work
+    /// of a growth; `0` counts as 1.
+    ///
+    /// Constant time. Takes no memory.
+    pub fn from_owned(call: OwnedCall<K, V, F>, hash: u64, processors: usize) -> Self
+        requires { OwnedIsReady F.can_change F.never_keeps call }
+        ensures { result
+            ≡ record { hash = hash; processors = processors; helped = None; stage = stage_of_call (plain_of_owned call) } }
+    {
+        match task_of_owned(call) {
+            Ok(task) => return Party::of_stage(Stage::Locate(task), hash, processors),
+            Err(call) => return Party::of_whole_map(call, hash, processors),
+        }
+    }
+}
+
+impl<Q: Query<K>, K: Ord + Drop, V: Drop, F: ComputeFn<K, V>, A: Allocator> Party<Q, K, V, F, A> {
     /// Does the step of a look-up or a walk at its slot. A look-up has fewer steps left than before, unless the bin is unborn.
     ///
     /// Takes as many steps as a look-up in the bin.
@@ -443,7 +456,13 @@ impl<'k, K: Ord + Drop, V: Drop, F: ComputeFn<K, V>, A: Allocator> Party<'k, K, 
     }
 }
 
-impl<'k, K: Ord + Drop, V: Drop, F: ComputeFn<K, V>, A: Allocator + Copy> Party<'k, K, V, F, A> {
+impl<Q: Query<K>, K: Ord + Drop, V: Drop, F: ComputeFn<K, V>, A: Allocator + Copy> Party<
+    Q,
+    K,
+    V,
+    F,
+    A,
+> {
     /// Does the step, at its slot, of a call that may change its bin.
     ///
     /// Takes as many steps as a look-up in the bin. For a clear, linear in the number of entries of the bin.

@@ -14,6 +14,7 @@ ghost use Rattle.flurry_steps_world.specs.Tables.{PlaceGives};
 ghost use Rattle.flurry_base.specs.declared.sizes.TheConstants.{MAX_LABELS};
 
 use flurry_base::hash::KeyHasher;
+use flurry_base::query::Query;
 use flurry_bins_slots::ComputeFn;
 use flurry_steps::party::{OwnedCall, Reply};
 use flurry_steps::{Field, Party, finish};
@@ -33,13 +34,14 @@ use std::sync::Wait;
 ///
 /// Takes as many steps as the call needs, and as many as the field needs to pass its parts.
 pub fn drive<
+    Q: Query<K>,
     K: Ord + Drop,
     V: Drop,
     A: Allocator + Copy,
     F: ComputeFn<K, V>,
     X: Field<K, V, A>,
     R: Wait,
->(rt: &R, party: &mut Party<'_, K, V, F, A>, field: &mut X) -> Reply<K, V, A>
+>(rt: &R, party: &mut Party<Q, K, V, F, A>, field: &mut X) -> Reply<K, V, A>
     requires { IsTaken party.old.stage → ⊥ }
     ensures field_steps { StepsToReply (FieldStep X.Room.place_gives K.cmp F.changes X.lends) field.old party.old
         (outcome_of result) field.new party.new }

@@ -6,6 +6,7 @@ ghost use Rattle.flurry_steps_world.specs.Tables.{PlaceGives};
 ghost use Rattle.flurry_base.specs.declared.sizes.TheConstants.{MAX_TABLE};
 
 use crate::tables::Tables;
+use flurry_base::query::Query;
 use flurry_bins_slots::ComputeFn;
 use flurry_steps::party::Event;
 use flurry_steps::{Field, Party};
@@ -98,18 +99,18 @@ impl<K: Ord + Drop, V: Drop, A: Allocator + Copy> Field<K, V, A> for Parts<K, V,
 
     ghost lacks = { OwnLacks };
 
-    fn at_control<F: ComputeFn<K, V>>(
+    fn at_control<Q: Query<K>, F: ComputeFn<K, V>>(
         &mut self,
-        party: &mut Party<'_, K, V, F, A>,
+        party: &mut Party<Q, K, V, F, A>,
     ) -> Option<Event> {
         Some(party.on_control(&mut self.control, &mut self.tables))
     }
 
-    fn at_look<F: ComputeFn<K, V>>(
+    fn at_look<Q: Query<K>, F: ComputeFn<K, V>>(
         &mut self,
         table: u8,
         index: usize,
-        party: &mut Party<'_, K, V, F, A>,
+        party: &mut Party<Q, K, V, F, A>,
     ) -> Option<Event> {
         if !self.tables.has(table, index) {
             return None;
@@ -117,11 +118,11 @@ impl<K: Ord + Drop, V: Drop, A: Allocator + Copy> Field<K, V, A> for Parts<K, V,
         Some(party.on_look(self.tables.slot(table, index)))
     }
 
-    fn at_bin<F: ComputeFn<K, V>>(
+    fn at_bin<Q: Query<K>, F: ComputeFn<K, V>>(
         &mut self,
         table: u8,
         index: usize,
-        party: &mut Party<'_, K, V, F, A>,
+        party: &mut Party<Q, K, V, F, A>,
     ) -> Option<Event> {
         if !self.tables.has(table, index) {
             return None;
@@ -129,11 +130,11 @@ impl<K: Ord + Drop, V: Drop, A: Allocator + Copy> Field<K, V, A> for Parts<K, V,
         Some(self.tables.lend_bin(self.alloc, table, index, party))
     }
 
-    fn at_move<F: ComputeFn<K, V>>(
+    fn at_move<Q: Query<K>, F: ComputeFn<K, V>>(
         &mut self,
         table: u8,
         index: usize,
-        party: &mut Party<'_, K, V, F, A>,
+        party: &mut Party<Q, K, V, F, A>,
     ) -> Option<Event> {
         if !self.tables.has_halves(table, index) {
             return None;
@@ -141,19 +142,19 @@ impl<K: Ord + Drop, V: Drop, A: Allocator + Copy> Field<K, V, A> for Parts<K, V,
         Some(self.tables.lend_halves(table, index, party))
     }
 
-    fn at_seat<F: ComputeFn<K, V>>(
+    fn at_seat<Q: Query<K>, F: ComputeFn<K, V>>(
         &mut self,
         table: u8,
-        party: &mut Party<'_, K, V, F, A>,
+        party: &mut Party<Q, K, V, F, A>,
     ) -> Option<Event> {
         let got = self.tables.take_seat(table);
         Some(party.on_seat(got))
     }
 
-    fn at_board<F: ComputeFn<K, V>>(
+    fn at_board<Q: Query<K>, F: ComputeFn<K, V>>(
         &mut self,
         table: u8,
-        party: &mut Party<'_, K, V, F, A>,
+        party: &mut Party<Q, K, V, F, A>,
     ) -> Option<Event> {
         match party.take_range() {
             Some(range) => {
@@ -167,10 +168,10 @@ impl<K: Ord + Drop, V: Drop, A: Allocator + Copy> Field<K, V, A> for Parts<K, V,
         }
     }
 
-    fn at_give<F: ComputeFn<K, V>>(
+    fn at_give<Q: Query<K>, F: ComputeFn<K, V>>(
         &mut self,
         table: u8,
-        party: &mut Party<'_, K, V, F, A>,
+        party: &mut Party<Q, K, V, F, A>,
     ) -> Option<Event> {
         self.tables.give_seat(table);
         Some(party.on_give())

@@ -18,14 +18,14 @@ use std::marker::Model;
 /// A call that has begun, with the walk from whose last read it began, if it is a removal of that pair, with its party, and with the
 /// number of steps that it has done.
 #[derive(Drop)]
-pub(crate) struct PartyRecord<'k, K, V, F: ComputeFn<K, V>, A: Allocator> {
+pub(crate) struct PartyRecord<'k, K: Ord, V, F: ComputeFn<K, V>, A: Allocator> {
     pub(crate) call: Call<K, V, F>,
     pub(crate) began_from: Option<usize>,
-    pub(crate) party: Party<'k, K, V, F, A>,
+    pub(crate) party: Party<&'k K, K, V, F, A>,
     pub(crate) steps: usize,
 }
 
-impl<'k, K, V, F: ComputeFn<K, V>, A: Allocator> Model for PartyRecord<'k, K, V, F, A> {
+impl<'k, K: Ord, V, F: ComputeFn<K, V>, A: Allocator> Model for PartyRecord<'k, K, V, F, A> {
     ghost use Rattle.flurry_steps_world.specs.World.{PartyRecord};
 
     ghost Value = { PartyRecord K V F };
@@ -33,7 +33,7 @@ impl<'k, K, V, F: ComputeFn<K, V>, A: Allocator> Model for PartyRecord<'k, K, V,
     ghost view = { λ c. record { call = c.call; began_from = c.began_from; party_state = c.party; steps = c.steps } };
 }
 
-impl<'k, K: Copy + Drop, V: Copy + Drop, F: ComputeFn<K, V>, A: Allocator> PartyRecord<
+impl<'k, K: Ord + Copy + Drop, V: Copy + Drop, F: ComputeFn<K, V>, A: Allocator> PartyRecord<
     'k,
     K,
     V,

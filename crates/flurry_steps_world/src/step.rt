@@ -7,6 +7,7 @@ ghost use Rattle.flurry_steps_world.specs.Steps.{StageStep, closing_label, label
 ghost use Rattle.flurry_steps_world.specs.World.{reply_in};
 
 use crate::parts::Parts;
+use flurry_base::query::Query;
 use flurry_base::reply::KeptReply;
 use flurry_bins_slots::ComputeFn;
 use flurry_steps::party::{Event, Reply};
@@ -56,10 +57,10 @@ fn closing<K: Copy + Drop, V: Copy + Drop, F, A: Allocator>(
 }
 
 // The label of a step of `party` that did `event`, where `call` is the call after that step.
-fn label_of<'k, K: Copy + Drop, V: Copy + Drop, F: ComputeFn<K, V>, A: Allocator>(
+fn label_of<Q: Query<K>, K: Ord + Copy + Drop, V: Copy + Drop, F: ComputeFn<K, V>, A: Allocator>(
     party: usize,
     event: Event,
-    call: &Party<'k, K, V, F, A>,
+    call: &Party<Q, K, V, F, A>,
 ) -> Label<K, V, F>
     ensures { result ≡ label_of party event call.now.stage }
 {
@@ -87,11 +88,12 @@ fn label_of<'k, K: Copy + Drop, V: Copy + Drop, F: ComputeFn<K, V>, A: Allocator
 
 // Does one step of a party, and returns its label.
 pub(crate) fn step_party<
+    Q: Query<K>,
     K: Ord + Copy + Drop,
     V: Copy + Drop,
     F: ComputeFn<K, V>,
     A: Allocator + Copy,
->(party: usize, call: &mut Party<'_, K, V, F, A>, parts: &mut Parts<K, V, A>) -> Label<K, V, F>
+>(party: usize, call: &mut Party<Q, K, V, F, A>, parts: &mut Parts<K, V, A>) -> Label<K, V, F>
     requires { IsGoing call.old.stage → IsThere parts.old.tables (wanted_part call.old) }
     ensures { StageStep K.cmp F.changes party call.old.stage call.old parts.old.control_state parts.old.tables
         result call.new parts.new.control_state parts.new.tables }

@@ -9,6 +9,7 @@ ghost use Rattle.flurry_steps_world.specs.Parts.{BoardGives, HalvesStep, IsThere
 ghost use Rattle.flurry_steps_world.specs.Tables.{AreTables, PlaceGives, begun_board, board_for, fresh, is_made, made_slots, new_slots, no_tables, place_at};
 ghost use Rattle.flurry_base.specs.declared.sizes.TheConstants.{MAX_TABLE};
 
+use flurry_base::query::Query;
 use flurry_base::sizes::{MAX_TABLE, TABLES};
 use flurry_bins::bin::Bin;
 use flurry_bins_slots::{ComputeFn, Slot};
@@ -155,12 +156,12 @@ impl<K: Ord + Drop, V: Drop, A: Allocator> Tables<K, V, A> {
 
 impl<K: Ord + Drop, V: Drop, A: Allocator + Copy> Tables<K, V, A> {
     // Passes the slot of `table` and `index` to the step of a call that may change its bin.
-    pub(crate) fn lend_bin<F: ComputeFn<K, V>>(
+    pub(crate) fn lend_bin<Q: Query<K>, F: ComputeFn<K, V>>(
         &mut self,
         alloc: A,
         table: u8,
         index: usize,
-        party: &mut Party<'_, K, V, F, A>,
+        party: &mut Party<Q, K, V, F, A>,
     ) -> Event
         requires wants { wanted_part party.old ≡ BinPart table index }
         requires there { IsThere self.old (BinPart table index) }
@@ -234,11 +235,11 @@ impl<K: Ord + Drop, V: Drop, A: Allocator> Tables<K, V, A> {
 
 impl<K: Ord + Drop, V: Drop, A: Allocator> Tables<K, V, A> {
     // Passes the slot of `table` and `index`, and its two halves in the next table, to the step of a helper.
-    pub(crate) fn lend_halves<F: ComputeFn<K, V>>(
+    pub(crate) fn lend_halves<Q: Query<K>, F: ComputeFn<K, V>>(
         &mut self,
         table: u8,
         index: usize,
-        party: &mut Party<'_, K, V, F, A>,
+        party: &mut Party<Q, K, V, F, A>,
     ) -> Event
         requires wants { wanted_part party.old ≡ MovePart table index }
         requires there { IsThere self.old (MovePart table index) }
@@ -255,8 +256,8 @@ impl<K: Ord + Drop, V: Drop, A: Allocator> Tables<K, V, A> {
 
 // Passes the slot `old`, and its two halves in the next table `news`, to the step of a helper. The low half is taken out of `news` for
 // the step, since both halves are borrowed at once.
-fn move_between<'k, K: Ord + Drop, V: Drop, F: ComputeFn<K, V>, A: Allocator>(
-    party: &mut Party<'k, K, V, F, A>,
+fn move_between<Q: Query<K>, K: Ord + Drop, V: Drop, F: ComputeFn<K, V>, A: Allocator>(
+    party: &mut Party<Q, K, V, F, A>,
     old: &mut Slot<K, V, A>,
     news: &mut Vec<Slot<K, V, A>, A>,
     table: u8,

@@ -238,7 +238,7 @@ fn shapes_of_what_is_kept(rt: HostRuntime) {
 fn values_of_a_bin(rt: HostRuntime) {
     let mut bin: Bin<u64, u64> = Bin::from_list(list_of(&rt, 12));
     if bin.find(0, &5).0.is_some() {
-        let old = bin.replace(0, &5, Arc::new(rt.alloc(), 50).expect(&rt, "memory"), 2);
+        let old = bin.write(0, &5, Arc::new(rt.alloc(), 50).expect(&rt, "memory"), 2);
         assert_same(&rt, *old, 1);
     }
     let entry = bin.find(0, &5).0.expect(&rt, "the entry is there");

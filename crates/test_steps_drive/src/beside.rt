@@ -5,6 +5,7 @@ ghost use Rattle.flurry_steps_world.specs.Parts.{IsPublishedTable};
 ghost use Rattle.flurry_steps_world.specs.Tables.{PlaceGives};
 ghost use Rattle.test_steps_drive.specs.Beside.{parts_of, BesideLends, BesideLacks};
 
+use flurry_base::query::Query;
 use flurry_bins_slots::{Answer, ComputeFn};
 use flurry_steps::party::Event;
 use flurry_steps::{Field, Party};
@@ -58,9 +59,9 @@ impl<K: Ord + Drop, V: Drop, A: Allocator + Copy> Field<K, V, A> for Beside<K, V
 
     ghost lacks = { BesideLacks };
 
-    fn at_control<F: ComputeFn<K, V>>(
+    fn at_control<Q: Query<K>, F: ComputeFn<K, V>>(
         &mut self,
-        party: &mut Party<'_, K, V, F, A>,
+        party: &mut Party<Q, K, V, F, A>,
     ) -> Option<Event> {
         if party.is_locating() && is_published_table(&self.parts, self.start.table()) {
             return Some(party.on_published(&self.start));
@@ -68,53 +69,53 @@ impl<K: Ord + Drop, V: Drop, A: Allocator + Copy> Field<K, V, A> for Beside<K, V
         self.parts.at_control(party)
     }
 
-    fn at_look<F: ComputeFn<K, V>>(
+    fn at_look<Q: Query<K>, F: ComputeFn<K, V>>(
         &mut self,
         table: u8,
         index: usize,
-        party: &mut Party<'_, K, V, F, A>,
+        party: &mut Party<Q, K, V, F, A>,
     ) -> Option<Event> {
         self.parts.at_look(table, index, party)
     }
 
-    fn at_bin<F: ComputeFn<K, V>>(
+    fn at_bin<Q: Query<K>, F: ComputeFn<K, V>>(
         &mut self,
         table: u8,
         index: usize,
-        party: &mut Party<'_, K, V, F, A>,
+        party: &mut Party<Q, K, V, F, A>,
     ) -> Option<Event> {
         self.parts.at_bin(table, index, party)
     }
 
-    fn at_move<F: ComputeFn<K, V>>(
+    fn at_move<Q: Query<K>, F: ComputeFn<K, V>>(
         &mut self,
         table: u8,
         index: usize,
-        party: &mut Party<'_, K, V, F, A>,
+        party: &mut Party<Q, K, V, F, A>,
     ) -> Option<Event> {
         self.parts.at_move(table, index, party)
     }
 
-    fn at_seat<F: ComputeFn<K, V>>(
+    fn at_seat<Q: Query<K>, F: ComputeFn<K, V>>(
         &mut self,
         table: u8,
-        party: &mut Party<'_, K, V, F, A>,
+        party: &mut Party<Q, K, V, F, A>,
     ) -> Option<Event> {
         self.parts.at_seat(table, party)
     }
 
-    fn at_board<F: ComputeFn<K, V>>(
+    fn at_board<Q: Query<K>, F: ComputeFn<K, V>>(
         &mut self,
         table: u8,
-        party: &mut Party<'_, K, V, F, A>,
+        party: &mut Party<Q, K, V, F, A>,
     ) -> Option<Event> {
         self.parts.at_board(table, party)
     }
 
-    fn at_give<F: ComputeFn<K, V>>(
+    fn at_give<Q: Query<K>, F: ComputeFn<K, V>>(
         &mut self,
         table: u8,
-        party: &mut Party<'_, K, V, F, A>,
+        party: &mut Party<Q, K, V, F, A>,
     ) -> Option<Event> {
         self.parts.at_give(table, party)
     }

@@ -137,7 +137,7 @@ fn replaced<A: Allocator>(bin: &mut NumberBin<A>, value: Arc<u64, A>) -> Option<
     if bin.find(0, &4).0.is_none() {
         return None;
     }
-    Some(*bin.replace(0, &4, value, 2))
+    Some(*bin.write(0, &4, value, 2))
 }
 
 // Splits a bin of 23 keys, and makes a bin of the list of its lower half.

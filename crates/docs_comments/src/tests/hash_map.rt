@@ -38,6 +38,15 @@ fn get(rt: HostRuntime) -> Result<(), Fail> {
 }
 
 #[test]
+fn get_by_text(rt: HostRuntime) -> Result<(), Fail> {
+    let years: HashMap<String, u64> = HashMap::new(rt.alloc());
+    years.insert(&rt, String::from_str(rt.alloc(), "Ada")?, 1815)?;
+    assert_eq!(rt; years.get(&rt, "Ada")?.map(|year| *year), Some(1815));
+    assert!(rt; years.remove(&rt, "Alan").is_none());
+    Ok(())
+}
+
+#[test]
 fn contains_key(rt: HostRuntime) -> Result<(), Fail> {
     let map: HashMap<u64, u64> = HashMap::new(rt.alloc());
     map.insert(&rt, 37, 1)?;

@@ -23,6 +23,16 @@ fn get(rt: HostRuntime) -> Result<(), Fail> {
 }
 
 #[test]
+fn get_by_text(rt: HostRuntime) -> Result<(), Fail> {
+    let years: HashMap<String, u64> = HashMap::new(rt.alloc());
+    let view = years.pin(&rt);
+    view.insert(String::from_str(rt.alloc(), "Ada")?, 1815)?;
+    assert_eq!(rt; view.get("Ada")?.map(|year| *year), Some(1815));
+    assert!(rt; view.remove("Alan").is_none());
+    Ok(())
+}
+
+#[test]
 fn contains_key(rt: HostRuntime) -> Result<(), Fail> {
     let map: HashMap<u64, u64> = HashMap::new(rt.alloc());
     let view = map.pin(&rt);

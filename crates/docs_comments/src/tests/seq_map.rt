@@ -39,6 +39,15 @@ fn get(rt: HostRuntime) -> Result<(), Fail> {
 }
 
 #[test]
+fn get_by_text(rt: HostRuntime) -> Result<(), Fail> {
+    let mut years: SeqMap<String, u64> = SeqMap::new(rt.alloc());
+    years.insert(String::from_str(rt.alloc(), "Ada")?, 1815)?;
+    assert_eq!(rt; years.get("Ada").map(|year| **year), Some(1815));
+    assert!(rt; years.remove("Alan").is_none());
+    Ok(())
+}
+
+#[test]
 fn contains_key(rt: HostRuntime) -> Result<(), Fail> {
     let mut map: SeqMap<u64, u64> = SeqMap::new(rt.alloc());
     map.insert(37, 1)?;

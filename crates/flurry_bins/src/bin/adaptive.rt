@@ -22,6 +22,7 @@ use super::node::{BoxedNode, Link, Node};
 use super::ordered::Ordered;
 use super::tree;
 use flurry_base::given::{NotInserted, Replaced};
+use flurry_base::query::Query;
 use flurry_base::sizes::{MAX_LIST_LEN, MIN_TREE_LEN};
 use kind::Kind;
 use nodes::{LoneNode, NodeList, NodeTree};
@@ -208,7 +209,7 @@ impl<K: Ord + Drop, V: Drop, A: Allocator> Ordered<K, V, A> for Bin<K, V, A> {
         }
     }
 
-    fn find(&self, hash: u64, key: &K) -> (Option<&Entry<K, V, A>>, u64) {
+    fn find<Q: Query<K>>(&self, hash: u64, key: Q) -> (Option<&Entry<K, V, A>>, u64) {
         match &self.kind {
             Kind::Empty => (None, 0),
             Kind::One(lone) => {
@@ -224,25 +225,19 @@ impl<K: Ord + Drop, V: Drop, A: Allocator> Ordered<K, V, A> for Bin<K, V, A> {
 
     fn next_after(&self, bound: Option<(u64, &K)>) -> Option<&Entry<K, V, A>> {
         match &self.kind {
-            Kind::Empty => None,
-            Kind::One(lone) => {
-                let entry = lone.node.entry();
-                if entry.is_past(bound) {
-                    Some(entry)
-                } else {
-                    None
-                }
-            }
+            Kind::One(lone) if lone.node.entry().is_past(bound) => Some(lone.node.entry()),
+            Kind::Empty | Kind::One(_) => None,
             Kind::AsList(list) => list::next_in(Some(list.head.as_ref()), bound),
             Kind::AsTree(tree) => tree::next_in(Some(tree.root.as_ref()), bound),
         }
     }
 
-    fn replace(&mut self, hash: u64, key: &K, value: Arc<V, A>, number: u64) -> Arc<V, A>
-        requires { IsSome (entry_at K.cmp hash key.now (entries_of_bin self.old)) }
-        ensures old { option_map (λ e. e.value) (entry_at K.cmp hash key.now (entries_of_bin self.old)) ≡ Some result }
+    fn write<Q: Query<K>>(&mut self, hash: u64, key: Q, value: Arc<V, A>, number: u64) -> Arc<V, A>
+        requires { IsSome (entry_at K.cmp hash (Q.stands_for key) (entries_of_bin self.old)) }
+        ensures old { option_map (λ e. e.value) (entry_at K.cmp hash (Q.stands_for key) (entries_of_bin self.old))
+            ≡ Some result }
         ensures after { entries_of_bin self.new
-            ≡ with_value_at K.cmp hash key.now value number (entries_of_bin self.old) }
+            ≡ with_value_at K.cmp hash (Q.stands_for key) value number (entries_of_bin self.old) }
         ensures kind { is_tree self.new ≡ is_tree self.old }
     {
         let kind = mem::replace(&mut self.kind, Kind::Empty);
@@ -264,10 +259,10 @@ impl<K: Ord + Drop, V: Drop, A: Allocator> Ordered<K, V, A> for Bin<K, V, A> {
     }
 
     // A tree that is left with six nodes becomes a list.
-    fn remove(&mut self, hash: u64, key: &K) -> Link<K, V, A>
+    fn remove<Q: Query<K>>(&mut self, hash: u64, key: Q) -> Link<K, V, A>
         ensures removed { option_map (λ b. entry_of b.value) result
-            ≡ entry_at K.cmp hash key.now (entries_of_bin self.old) }
-        ensures after { entries_of_bin self.new ≡ without K.cmp hash key.now (entries_of_bin self.old) }
+            ≡ entry_at K.cmp hash (Q.stands_for key) (entries_of_bin self.old) }
+        ensures after { entries_of_bin self.new ≡ without K.cmp hash (Q.stands_for key) (entries_of_bin self.old) }
         ensures kind { is_tree self.new
             ≡ (is_tree self.old && nat_le MIN_TREE_LEN (length (entries_of_bin self.new))) }
     {

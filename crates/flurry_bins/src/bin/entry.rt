@@ -2,6 +2,7 @@
 ghost use Rattle.std.specs.Prelude.{◌≡◌};
 ghost use Rattle.flurry_bins.specs.Entries.{place_cmp, is_at, is_past_bound, lent_bound};
 
+use flurry_base::query::Query;
 use std::alloc::{Allocator, Global};
 use std::cmp::Ordering;
 use std::sync::Arc;
@@ -28,11 +29,11 @@ impl<K: Ord, V, A: Allocator> Entry<K, V, A> {
     /// Returns how the place of `hash` and `key` compares with the place of the entry: by the hash, and then by the key.
     ///
     /// A comparison of the hashes, and one comparison of keys if the hashes are equal. Takes no memory.
-    pub fn compare_place(&self, hash: u64, key: &K) -> Ordering
-        ensures { result ≡ place_cmp K.cmp hash key.now self.now }
+    pub fn compare_place<Q: Query<K>>(&self, hash: u64, key: Q) -> Ordering
+        ensures { result ≡ place_cmp K.cmp hash (Q.stands_for key) self.now }
     {
         if hash == self.hash {
-            key.cmp(self.key.as_ref())
+            key.compare(self.key.as_ref())
         } else if hash < self.hash {
             Ordering::Less
         } else {
@@ -41,8 +42,8 @@ impl<K: Ord, V, A: Allocator> Entry<K, V, A> {
     }
 
     /// Returns `true` if the entry is the one of `hash` and `key`. At most one comparison of keys. Takes no memory.
-    pub fn is_at(&self, hash: u64, key: &K) -> bool
-        ensures { result ≡ is_at K.cmp hash key.now self.now }
+    pub fn is_at<Q: Query<K>>(&self, hash: u64, key: Q) -> bool
+        ensures { result ≡ is_at K.cmp hash (Q.stands_for key) self.now }
     {
         self.compare_place(hash, key) == Ordering::Equal
     }

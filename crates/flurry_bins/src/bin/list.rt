@@ -15,6 +15,7 @@ use super::entry::Entry;
 use super::node::{BoxedNode, Link, Node, follow};
 use super::ordered::Ordered;
 use flurry_base::given::{NotInserted, Replaced};
+use flurry_base::query::Query;
 use std::alloc::{AllocError, Allocator, Global};
 use std::cmp::Ordering;
 use std::mem;
@@ -113,14 +114,14 @@ pub(crate) fn detach_tail<K, V, A: Allocator>(
 }
 
 // The nodes before a place, in reverse order, and those from the place on.
-fn split_before<K: Ord, V, A: Allocator>(
+fn split_before<Q: Query<K>, K: Ord, V, A: Allocator>(
     head: Link<K, V, A>,
     hash: u64,
-    key: &K,
+    key: Q,
 ) -> (Link<K, V, A>, Link<K, V, A>)
     ensures whole { reverse (chain result.0) ++ chain result.1 ≡ chain head }
-    ensures before { AllBefore K.cmp hash key.now (chain result.0) }
-    ensures stops { NotBefore K.cmp hash key.now (chain result.1) }
+    ensures before { AllBefore K.cmp hash (Q.stands_for key) (chain result.0) }
+    ensures stops { NotBefore K.cmp hash (Q.stands_for key) (chain result.1) }
 {
     let mut rest = head;
     let mut front = None;
@@ -178,15 +179,15 @@ fn insert_first<K: Ord + Drop, V: Drop, A: Allocator + Copy>(
 }
 
 // The entry at a place in the chain from a node on, and the number of nodes that were visited.
-pub(crate) fn find_in<'a, K: Ord, V, A: Allocator>(
+pub(crate) fn find_in<'a, Q: Query<K>, K: Ord, V, A: Allocator>(
     first: Option<&'a Node<K, V, A>>,
     hash: u64,
-    key: &K,
+    key: Q,
 ) -> (Option<&'a Entry<K, V, A>>, u64)
     requires ascending { IsAscending K.cmp (chain_from first) }
     requires short { length (chain_from first) ≤ MAX_LEN }
-    ensures found { option_copied result.0 ≡ entry_at K.cmp hash key.now (chain_from first.entry) }
-    ensures visits { result.1 ≡ length (list_way K.cmp hash key.now (chain_from first.entry)) }
+    ensures found { option_copied result.0 ≡ entry_at K.cmp hash (Q.stands_for key) (chain_from first.entry) }
+    ensures visits { result.1 ≡ length (list_way K.cmp hash (Q.stands_for key) (chain_from first.entry)) }
 {
     let mut visits = 0;
     let mut link = first;
@@ -304,7 +305,7 @@ impl<K: Ord + Drop, V: Drop, A: Allocator> Ordered<K, V, A> for ListBin<K, V, A>
         self.len
     }
 
-    fn find(&self, hash: u64, key: &K) -> (Option<&Entry<K, V, A>>, u64) {
+    fn find<Q: Query<K>>(&self, hash: u64, key: Q) -> (Option<&Entry<K, V, A>>, u64) {
         find_in(follow(&self.head), hash, key)
     }
 
@@ -312,11 +313,12 @@ impl<K: Ord + Drop, V: Drop, A: Allocator> Ordered<K, V, A> for ListBin<K, V, A>
         next_in(follow(&self.head), bound)
     }
 
-    fn replace(&mut self, hash: u64, key: &K, value: Arc<V, A>, number: u64) -> Arc<V, A>
-        requires { IsSome (entry_at K.cmp hash key.now (entries_of_list self.old)) }
-        ensures old { option_map (λ e. e.value) (entry_at K.cmp hash key.now (entries_of_list self.old)) ≡ Some result }
+    fn write<Q: Query<K>>(&mut self, hash: u64, key: Q, value: Arc<V, A>, number: u64) -> Arc<V, A>
+        requires { IsSome (entry_at K.cmp hash (Q.stands_for key) (entries_of_list self.old)) }
+        ensures old { option_map (λ e. e.value) (entry_at K.cmp hash (Q.stands_for key) (entries_of_list self.old))
+            ≡ Some result }
         ensures after { entries_of_list self.new
-            ≡ with_value_at K.cmp hash key.now value number (entries_of_list self.old) }
+            ≡ with_value_at K.cmp hash (Q.stands_for key) value number (entries_of_list self.old) }
     {
         let (front, rest) = split_before(self.head.take(), hash, key);
         let Some(mut node) = rest else { unreachable!() };
@@ -337,7 +339,7 @@ impl<K: Ord + Drop, V: Drop, A: Allocator> Ordered<K, V, A> for ListBin<K, V, A>
         self.len += 1;
     }
 
-    fn remove(&mut self, hash: u64, key: &K) -> Link<K, V, A> {
+    fn remove<Q: Query<K>>(&mut self, hash: u64, key: Q) -> Link<K, V, A> {
         let (front, rest) = split_before(self.head.take(), hash, key);
         let Some(node) = rest else {
             self.head = prepend_reversed(front, None);

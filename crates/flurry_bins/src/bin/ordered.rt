@@ -8,6 +8,7 @@ ghost use Rattle.flurry_bins.specs.declared.bin.entry.Entry.{Entry};
 ghost use Rattle.flurry_base.specs.declared.sizes.TheConstants.{MAX_LEN};
 
 use super::entry::Entry;
+use flurry_base::query::Query;
 use std::alloc::Allocator;
 
 /// The entries of a bin, in strictly ascending order of hash and key.
@@ -56,9 +57,9 @@ pub trait Ordered<K: Ord, V, A: Allocator>: Sized {
     /// Returns the entry of `hash` and `key`, or `None` if there is none, and the number of nodes that were visited.
     ///
     /// A list visits the nodes up to the place. A tree of `n` entries visits at most twice as many nodes as `n + 1` has binary digits.
-    fn find(&self, hash: u64, key: &K) -> (Option<&Entry<K, V, A>>, u64)
-        ensures found { option_copied result.0 ≡ entry_at K.cmp hash key.now (entries self.now) }
-        ensures visits { result.1 ≡ length (way self.now hash key.now) }
+    fn find<Q: Query<K>>(&self, hash: u64, key: Q) -> (Option<&Entry<K, V, A>>, u64)
+        ensures found { option_copied result.0 ≡ entry_at K.cmp hash (Q.stands_for key) (entries self.now) }
+        ensures visits { result.1 ≡ length (way self.now hash (Q.stands_for key)) }
         ensures bounded { result.1 ≤ most_met (length (entries self.now)) };
 
     /// Returns the first entry past `bound`, or the first entry of all if there is no bound. A list visits the entries up to the one that
@@ -67,11 +68,18 @@ pub trait Ordered<K: Ord, V, A: Allocator>: Sized {
         ensures { option_copied result ≡ first_past K.cmp (lent_bound bound.entry) (entries self.now) };
 
     /// Replaces the value at a hash and a key that are present, and returns the old value. As many steps as a look-up.
-    fn replace(&mut self, hash: u64, key: &K, value: Self::Shared, number: u64) -> Self::Shared
-        requires { IsSome (entry_at K.cmp hash key.now (entries self.old)) }
-        ensures old { option_map (λ e. e.value) (entry_at K.cmp hash key.now (entries self.old))
+    fn write<Q: Query<K>>(
+        &mut self,
+        hash: u64,
+        key: Q,
+        value: Self::Shared,
+        number: u64,
+    ) -> Self::Shared
+        requires { IsSome (entry_at K.cmp hash (Q.stands_for key) (entries self.old)) }
+        ensures old { option_map (λ e. e.value) (entry_at K.cmp hash (Q.stands_for key) (entries self.old))
             ≡ Some (shared result) }
-        ensures after { entries self.new ≡ with_value_at K.cmp hash key.now (shared value) number (entries self.old) };
+        ensures after { entries self.new ≡ with_value_at K.cmp hash (Q.stands_for key) (shared value) number
+            (entries self.old) };
 
     /// Inserts a node whose hash and key are absent. As many steps as a look-up.
     fn put_node(&mut self, node: Self::Boxed)
@@ -81,10 +89,10 @@ pub trait Ordered<K: Ord, V, A: Allocator>: Sized {
         ensures { entries self.new ≡ with_entry K.cmp (entry_in node) (entries self.old) };
 
     /// Removes the node of a hash and a key, and returns it, or `None` if there is none. As many steps as a look-up.
-    fn remove(&mut self, hash: u64, key: &K) -> Option<Self::Boxed>
+    fn remove<Q: Query<K>>(&mut self, hash: u64, key: Q) -> Option<Self::Boxed>
         ensures removed { option_map entry_in result
-            ≡ entry_at K.cmp hash key.now (entries self.old) }
-        ensures after { entries self.new ≡ without K.cmp hash key.now (entries self.old) };
+            ≡ entry_at K.cmp hash (Q.stands_for key) (entries self.old) }
+        ensures after { entries self.new ≡ without K.cmp hash (Q.stands_for key) (entries self.old) };
 
     /// Splits the bin into the entries whose hash has a 0 at bit `bit`, and those whose hash has a 1 there. Linear time.
     fn split(self, bit: u8) -> (Self, Self)

@@ -7,6 +7,7 @@ ghost use Rattle.flurry_bins.specs.Removal.{short_left, short_right, fix_left, f
 
 use super::node::{BoxedNode, Colour, Link, Node};
 use super::tree::{blacken, has_red_root, link_children, take_children};
+use flurry_base::query::Query;
 use std::alloc::Allocator;
 use std::cmp::Ordering;
 
@@ -210,13 +211,14 @@ fn join_sides<K: Drop, V: Drop, A: Allocator>(
 
 // Removes the node of `hash` and `key` from a tree in place. Returns the node, or `None` if there is none, and whether the tree is then
 // short.
-pub(crate) fn remove_in<K: Ord + Drop, V: Drop, A: Allocator>(
+pub(crate) fn remove_in<Q: Query<K>, K: Ord + Drop, V: Drop, A: Allocator>(
     root: &mut Link<K, V, A>,
     hash: u64,
-    key: &K,
+    key: Q,
 ) -> (Link<K, V, A>, bool)
-    ensures tree { (shape root.new, result.1) ≡ tree_removal K.cmp hash key.now (shape root.old) }
-    ensures node { option_map (λ b. entry_of b.value) result.0 ≡ tree_entry K.cmp hash key.now (shape root.old) }
+    ensures tree { (shape root.new, result.1) ≡ tree_removal K.cmp hash (Q.stands_for key) (shape root.old) }
+    ensures node { option_map (λ b. entry_of b.value) result.0
+        ≡ tree_entry K.cmp hash (Q.stands_for key) (shape root.old) }
 {
     let Some(top) = root else {
         return (None, false);

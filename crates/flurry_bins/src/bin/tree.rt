@@ -20,6 +20,7 @@ use super::node::{BoxedNode, Colour, Link, Node, follow};
 use super::ordered::Ordered;
 use super::removal::remove_in;
 use flurry_base::given::{NotInserted, Replaced};
+use flurry_base::query::Query;
 use std::alloc::{AllocError, Allocator, Global};
 use std::cmp::Ordering;
 use std::sync::Arc;
@@ -43,15 +44,15 @@ pub struct TreeBin<K: Ord, V, A: Allocator = Global> {
 }
 
 // The entry at a place in the tree below a node, and the number of nodes that were visited.
-pub(crate) fn find_in<'a, K: Ord, V, A: Allocator>(
+pub(crate) fn find_in<'a, Q: Query<K>, K: Ord, V, A: Allocator>(
     root: Option<&'a Node<K, V, A>>,
     hash: u64,
-    key: &K,
+    key: Q,
 ) -> (Option<&'a Entry<K, V, A>>, u64)
     requires ascending { IsAscending K.cmp (inorder (shape_from root)) }
     requires short { length (inorder (shape_from root)) ≤ MAX_LEN }
-    ensures found { option_copied result.0 ≡ entry_at K.cmp hash key.now (inorder (shape_from root.entry)) }
-    ensures visits { result.1 ≡ length (tree_way K.cmp hash key.now (shape_from root.entry)) }
+    ensures found { option_copied result.0 ≡ entry_at K.cmp hash (Q.stands_for key) (inorder (shape_from root.entry)) }
+    ensures visits { result.1 ≡ length (tree_way K.cmp hash (Q.stands_for key) (shape_from root.entry)) }
 {
     let mut visits = 0;
     let mut link = root;
@@ -252,15 +253,15 @@ fn put_in<K: Ord + Drop, V: Drop, A: Allocator>(root: &mut Link<K, V, A>, node: 
 }
 
 // Replaces the value at a place, and returns the old value, or `None` if there is none.
-fn write_in<K: Ord + Drop, V: Drop, A: Allocator>(
+fn write_in<Q: Query<K>, K: Ord + Drop, V: Drop, A: Allocator>(
     root: &mut Link<K, V, A>,
     hash: u64,
-    key: &K,
+    key: Q,
     value: Arc<V, A>,
     number: u64,
 ) -> Option<Arc<V, A>>
-    ensures old { result ≡ tree_value K.cmp hash key.now (shape root.old) }
-    ensures after { shape root.new ≡ tree_with_value K.cmp hash key.now value number (shape root.old) }
+    ensures old { result ≡ tree_value K.cmp hash (Q.stands_for key) (shape root.old) }
+    ensures after { shape root.new ≡ tree_with_value K.cmp hash (Q.stands_for key) value number (shape root.old) }
 {
     let Some(node) = root else { return None };
     match node.entry.compare_place(hash, key) {
@@ -490,7 +491,7 @@ impl<K: Ord + Drop, V: Drop, A: Allocator> Ordered<K, V, A> for TreeBin<K, V, A>
         self.len
     }
 
-    fn find(&self, hash: u64, key: &K) -> (Option<&Entry<K, V, A>>, u64) {
+    fn find<Q: Query<K>>(&self, hash: u64, key: Q) -> (Option<&Entry<K, V, A>>, u64) {
         find_in(follow(&self.root), hash, key)
     }
 
@@ -498,11 +499,12 @@ impl<K: Ord + Drop, V: Drop, A: Allocator> Ordered<K, V, A> for TreeBin<K, V, A>
         next_in(follow(&self.root), bound)
     }
 
-    fn replace(&mut self, hash: u64, key: &K, value: Arc<V, A>, number: u64) -> Arc<V, A>
-        requires { IsSome (entry_at K.cmp hash key.now (entries_of_tree self.old)) }
-        ensures old { option_map (λ e. e.value) (entry_at K.cmp hash key.now (entries_of_tree self.old)) ≡ Some result }
+    fn write<Q: Query<K>>(&mut self, hash: u64, key: Q, value: Arc<V, A>, number: u64) -> Arc<V, A>
+        requires { IsSome (entry_at K.cmp hash (Q.stands_for key) (entries_of_tree self.old)) }
+        ensures old { option_map (λ e. e.value) (entry_at K.cmp hash (Q.stands_for key) (entries_of_tree self.old))
+            ≡ Some result }
         ensures after { entries_of_tree self.new
-            ≡ with_value_at K.cmp hash key.now value number (entries_of_tree self.old) }
+            ≡ with_value_at K.cmp hash (Q.stands_for key) value number (entries_of_tree self.old) }
     {
         let Some(old) = write_in(&mut self.root, hash, key, value, number) else {
             unreachable!()
@@ -521,7 +523,7 @@ impl<K: Ord + Drop, V: Drop, A: Allocator> Ordered<K, V, A> for TreeBin<K, V, A>
         self.len += 1;
     }
 
-    fn remove(&mut self, hash: u64, key: &K) -> Link<K, V, A> {
+    fn remove<Q: Query<K>>(&mut self, hash: u64, key: Q) -> Link<K, V, A> {
         let (node, _) = remove_in(&mut self.root, hash, key);
         if node.is_some() {
             self.len -= 1;

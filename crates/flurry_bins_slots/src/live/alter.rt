@@ -9,6 +9,7 @@ ghost use Rattle.flurry_bins_slots.specs.LiveView.{alteration, alteration_if_pre
 use super::LiveBin;
 use crate::compute_fn::ComputeFn;
 use flurry_base::Verdict;
+use flurry_base::query::Query;
 use flurry_bins::bin::{Entry, Given, NotInserted, Ordered};
 use flurry_bins_insertion::table::new_arc_pair;
 use std::alloc::Allocator;
@@ -48,20 +49,21 @@ pub enum Altered<K, V, A: Allocator> {
 }
 
 impl<K: Ord + Drop, V: Drop, A: Allocator + Copy> LiveBin<K, V, A> {
-    pub(crate) fn alter_present<F: ComputeFn<K, V>>(
+    pub(crate) fn alter_present<Q: Query<K>, F: ComputeFn<K, V>>(
         &mut self,
         alloc: A,
         bins: usize,
         hash: u64,
-        key: &K,
+        key: Q,
         f: F,
     ) -> Result<Result<Altered<K, V, A>, F>, Given<V, A>>
         requires { F.can_change f }
         ensures back { IfOk result (λ r. IfErr r (λ g. g ≡ f)) }
-        ensures done { IfOk result (λ r. Alters K.cmp F.changes f false bins self.old hash key.now
+        ensures done { IfOk result (λ r. Alters K.cmp F.changes f false bins self.old hash (Q.stands_for key)
             (alteration_if_present r) self.new) }
         ensures refused { OnErr result (self.new ≡ self.old) }
-        ensures in_vain { IfErr result (λ g. JudgesAt K.cmp F.changes f false self.old hash key.now (Set (given_of g))) }
+        ensures in_vain { IfErr result (λ g. JudgesAt K.cmp F.changes f false self.old hash (Q.stands_for key)
+            (Set (given_of g))) }
     {
         let verdict = match self.find(hash, key) {
             Some(entry) => judge(f, entry),
@@ -136,19 +138,20 @@ impl<K: Ord + Drop, V: Drop, A: Allocator + Copy> LiveBin<K, V, A> {
     }
 
     // Does what a verdict says to the pair of a present key.
-    fn settle(
+    fn settle<Q: Query<K>>(
         &mut self,
         alloc: A,
         bins: usize,
         hash: u64,
-        key: &K,
+        key: Q,
         verdict: Verdict<V>,
     ) -> Result<Altered<K, V, A>, Given<V, A>>
-        requires { IsSome (entry_of_live K.cmp self.old hash key.now) }
-        ensures outcome { IfOk result (λ a. alteration a ≡ verdict_outcome (asks K.cmp bins self.old hash key.now)
-            (entry_of_live K.cmp self.old hash key.now) verdict) }
-        ensures after { OnOk result (self.new ≡ after_verdict K.cmp bins self.old hash key.now
-            (entry_of_live K.cmp self.old hash key.now) verdict) }
+        requires { IsSome (entry_of_live K.cmp self.old hash (Q.stands_for key)) }
+        ensures outcome { IfOk result (λ a. alteration a
+            ≡ verdict_outcome (asks K.cmp bins self.old hash (Q.stands_for key))
+            (entry_of_live K.cmp self.old hash (Q.stands_for key)) verdict) }
+        ensures after { OnOk result (self.new ≡ after_verdict K.cmp bins self.old hash (Q.stands_for key)
+            (entry_of_live K.cmp self.old hash (Q.stands_for key)) verdict) }
         ensures refused { OnErr result (self.new ≡ self.old) }
         ensures in_vain { IfErr result (λ g. verdict ≡ Set (given_of g)) }
     {

@@ -13,6 +13,7 @@ ghost use Rattle.flurry_seq.specs.Growth.{IsTableAfter, IsTableAfterChange};
 use super::SeqMap;
 use flurry_base::Change;
 use flurry_base::hash::KeyHasher;
+use flurry_base::query::HashedQuery;
 use flurry_bins::bin::Node;
 use flurry_bins_insertion::table::new_arc_pair;
 use std::alloc::{AllocError, Allocator};
@@ -32,15 +33,20 @@ impl<K: Ord + Drop, V: Drop, S: KeyHasher<K>, A: Allocator> SeqMap<K, V, S, A> {
     /// assert_eq!(rt; removed.map(|value| *value), Some(1));
     /// assert!(rt; map.is_empty());
     /// ```
-    pub fn remove_if<F: FnOnce(&K, &V) -> bool>(&mut self, key: &K, test: F) -> Option<Arc<V, A>>
+    pub fn remove_if<Q: HashedQuery<K, S>, F: FnOnce(&K, &V) -> bool>(
+        &mut self,
+        key: Q,
+        test: F,
+    ) -> Option<Arc<V, A>>
     where
         F: Drop,
-        requires { ForSome (pair_at K.cmp self.old.pairs key.now) (IsCallableAt F.pre test) }
-        ensures absent { pair_at K.cmp self.old.pairs key.now ≡ None → (result ≡ None) × (self.new ≡ self.old) }
-        ensures present { IfSome (pair_at K.cmp self.old.pairs key.now) (λ p.
+        requires { ForSome (pair_at K.cmp self.old.pairs (Q.stands_for key)) (IsCallableAt F.pre test) }
+        ensures absent { pair_at K.cmp self.old.pairs (Q.stands_for key) ≡ None
+            → (result ≡ None) × (self.new ≡ self.old) }
+        ensures present { IfSome (pair_at K.cmp self.old.pairs (Q.stands_for key)) (λ p.
             (says : Bool) × AnswersAt F.post test p says × MatchBool says
             ((option_map arc_value result ≡ Some p.1)
-            × (self.new ≡ with_pairs self.old (without K.cmp self.old.pairs key.now)))
+            × (self.new ≡ with_pairs self.old (without K.cmp self.old.pairs (Q.stands_for key))))
             ((result ≡ None) × (self.new ≡ self.old))) }
         ensures ascend { IsFiniteMap K.cmp self.old.pairs }
     {
@@ -53,12 +59,17 @@ impl<K: Ord + Drop, V: Drop, S: KeyHasher<K>, A: Allocator> SeqMap<K, V, S, A> {
     }
 
     // Whether a key whose hash is `hash` is present, and `test` returns `true` for its pair. If the key is absent, `test` is not called.
-    fn passes<F: FnOnce(&K, &V) -> bool>(&self, hash: u64, key: &K, test: F) -> bool
+    fn passes<Q: HashedQuery<K, S>, F: FnOnce(&K, &V) -> bool>(
+        &self,
+        hash: u64,
+        key: Q,
+        test: F,
+    ) -> bool
     where
         F: Drop,
-        requires hash { hash ≡ S.hash_of self.now.hasher key.now }
-        requires callable { ForSome (pair_at K.cmp self.now.pairs key.now) (IsCallableAt F.pre test) }
-        ensures { MatchOption (pair_at K.cmp self.now.pairs key.now) (result ≡ false)
+        requires hash { hash ≡ S.hash_of self.now.hasher (Q.stands_for key) }
+        requires callable { ForSome (pair_at K.cmp self.now.pairs (Q.stands_for key)) (IsCallableAt F.pre test) }
+        ensures { MatchOption (pair_at K.cmp self.now.pairs (Q.stands_for key)) (result ≡ false)
             (λ p. AnswersAt F.post test p result) }
     {
         match self.find(hash, key) {
@@ -209,19 +220,20 @@ impl<K: Ord + Drop, V: Drop, S: KeyHasher<K>, A: Allocator + Copy> SeqMap<K, V, 
     ///
     /// Returns [`AllocError`] if memory for the new value cannot be allocated, or if cloning its `Arc` fails. `f` has been called by then;
     /// the value that it returned is dropped, and the map is unchanged.
-    pub fn update<F: FnOnce(&K, &V) -> V>(
+    pub fn update<Q: HashedQuery<K, S>, F: FnOnce(&K, &V) -> V>(
         &mut self,
-        key: &K,
+        key: Q,
         f: F,
     ) -> Result<Option<Arc<V, A>>, AllocError>
     where
         F: Drop,
-        requires { ForSome (pair_at K.cmp self.old.pairs key.now) (IsCallableAt F.pre f) }
-        ensures absent { pair_at K.cmp self.old.pairs key.now ≡ None → (result ≡ Ok None) × (self.new ≡ self.old) }
-        ensures present { IfSome (pair_at K.cmp self.old.pairs key.now) (λ p.
+        requires { ForSome (pair_at K.cmp self.old.pairs (Q.stands_for key)) (IsCallableAt F.pre f) }
+        ensures absent { pair_at K.cmp self.old.pairs (Q.stands_for key) ≡ None
+            → (result ≡ Ok None) × (self.new ≡ self.old) }
+        ensures present { IfSome (pair_at K.cmp self.old.pairs (Q.stands_for key)) (λ p.
             (answer : V) × AnswersAt F.post f p answer × MatchResult result
             (λ r. (option_map arc_value r ≡ Some answer)
-            × (self.new ≡ with_pairs self.old (with_pair K.cmp self.old.pairs key.now answer)))
+            × (self.new ≡ with_pairs self.old (with_pair K.cmp self.old.pairs (Q.stands_for key) answer)))
             (λ _. self.new ≡ self.old)) }
         ensures hasher { self.new.hasher ≡ self.old.hasher }
         ensures err { OnErr result (self.new ≡ self.old) }
@@ -305,22 +317,22 @@ impl<K: Ord + Drop, V: Drop, S: KeyHasher<K>, A: Allocator + Copy> SeqMap<K, V, 
     ///
     /// Returns [`AllocError`] if `test` returned `true` and memory for `value` cannot be allocated. `value` is dropped, and the map is
     /// unchanged.
-    pub fn replace_if<F: FnOnce(&K, &V) -> bool>(
+    pub fn replace_if<Q: HashedQuery<K, S>, F: FnOnce(&K, &V) -> bool>(
         &mut self,
-        key: &K,
+        key: Q,
         test: F,
         value: V,
     ) -> Result<Result<Arc<V, A>, V>, AllocError>
     where
         F: Drop,
-        requires { ForSome (pair_at K.cmp self.old.pairs key.now) (IsCallableAt F.pre test) }
-        ensures absent { pair_at K.cmp self.old.pairs key.now ≡ None
+        requires { ForSome (pair_at K.cmp self.old.pairs (Q.stands_for key)) (IsCallableAt F.pre test) }
+        ensures absent { pair_at K.cmp self.old.pairs (Q.stands_for key) ≡ None
             → (result ≡ Ok (Err value)) × (self.new ≡ self.old) }
-        ensures present { IfSome (pair_at K.cmp self.old.pairs key.now) (λ p.
+        ensures present { IfSome (pair_at K.cmp self.old.pairs (Q.stands_for key)) (λ p.
             (says : Bool) × AnswersAt F.post test p says × MatchBool says
             (MatchResult result
             (λ reply. IsOkAnd reply (λ old. arc_value old ≡ p.1)
-            × (self.new ≡ with_pairs self.old (with_pair K.cmp self.old.pairs key.now value)))
+            × (self.new ≡ with_pairs self.old (with_pair K.cmp self.old.pairs (Q.stands_for key) value)))
             (λ _. self.new ≡ self.old))
             ((result ≡ Ok (Err value)) × (self.new ≡ self.old))) }
         ensures hasher { self.new.hasher ≡ self.old.hasher }
@@ -336,17 +348,17 @@ impl<K: Ord + Drop, V: Drop, S: KeyHasher<K>, A: Allocator + Copy> SeqMap<K, V, 
     }
 
     // Replaces the value of a present key whose hash is `hash`, or removes its pair.
-    fn change_present(
+    fn change_present<Q: HashedQuery<K, S>>(
         &mut self,
         hash: u64,
-        key: &K,
+        key: Q,
         value: Option<V>,
     ) -> Result<Change<V, A>, AllocError>
-        requires hash { hash ≡ S.hash_of self.old.hasher key.now }
-        requires present { IsSome (pair_at K.cmp self.old.pairs key.now) }
+        requires hash { hash ≡ S.hash_of self.old.hasher (Q.stands_for key) }
+        requires present { IsSome (pair_at K.cmp self.old.pairs (Q.stands_for key)) }
         ensures reply { MatchResult result
-            (λ c. IsChange (value_at K.cmp self.old.pairs key.now) value c
-            × (self.new.pairs ≡ with_or_without K.cmp self.old.pairs key.now value))
+            (λ c. IsChange (value_at K.cmp self.old.pairs (Q.stands_for key)) value c
+            × (self.new.pairs ≡ with_or_without K.cmp self.old.pairs (Q.stands_for key) value))
             (λ _. IsSome value × (self.new ≡ self.old)) }
         ensures bins { IfOk result (λ c. IsTableAfterChange c self.old.bins (length self.new.pairs) self.new.bins) }
         ensures hasher { self.new.hasher ≡ self.old.hasher }
@@ -362,12 +374,17 @@ impl<K: Ord + Drop, V: Drop, S: KeyHasher<K>, A: Allocator + Copy> SeqMap<K, V, 
     }
 
     // Replaces the value of a present key whose hash is `hash`, and returns a clone of the `Arc` of the new one.
-    fn renew(&mut self, hash: u64, key: &K, value: V) -> Result<Arc<V, A>, AllocError>
-        requires hash { hash ≡ S.hash_of self.old.hasher key.now }
-        requires present { IsSome (pair_at K.cmp self.old.pairs key.now) }
+    fn renew<Q: HashedQuery<K, S>>(
+        &mut self,
+        hash: u64,
+        key: Q,
+        value: V,
+    ) -> Result<Arc<V, A>, AllocError>
+        requires hash { hash ≡ S.hash_of self.old.hasher (Q.stands_for key) }
+        requires present { IsSome (pair_at K.cmp self.old.pairs (Q.stands_for key)) }
         ensures value { IfOk result (λ new. arc_value new ≡ value) }
         ensures after { OnOk result
-            (self.new ≡ with_pairs self.old (with_pair K.cmp self.old.pairs key.now value)) }
+            (self.new ≡ with_pairs self.old (with_pair K.cmp self.old.pairs (Q.stands_for key) value)) }
         ensures err { OnErr result (self.new ≡ self.old) }
     {
         match new_arc_pair(*self.allocator(), value) {

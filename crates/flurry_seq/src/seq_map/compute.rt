@@ -9,17 +9,24 @@ ghost use Rattle.flurry_seq.specs.Contents.{with_pairs};
 
 use super::SeqMap;
 use flurry_base::hash::KeyHasher;
+use flurry_base::query::HashedQuery;
 use flurry_bins_insertion::table::new_arc_pair;
 use std::alloc::{AllocError, Allocator};
 use std::sync::Arc;
 
 impl<K: Ord + Drop, V: Drop, S: KeyHasher<K>, A: Allocator> SeqMap<K, V, S, A> {
     // Replaces the value of a present key whose hash is `hash`, and returns the old value.
-    pub(super) fn swap_value(&mut self, hash: u64, key: &K, value: Arc<V, A>) -> Arc<V, A>
-        requires hash { hash ≡ S.hash_of self.old.hasher key.now }
-        requires present { IsSome (pair_at K.cmp self.old.pairs key.now) }
-        ensures old { value_at K.cmp self.old.pairs key.now ≡ Some (arc_value result) }
-        ensures after { self.new ≡ with_pairs self.old (with_pair K.cmp self.old.pairs key.now (arc_value value)) }
+    pub(super) fn swap_value<Q: HashedQuery<K, S>>(
+        &mut self,
+        hash: u64,
+        key: Q,
+        value: Arc<V, A>,
+    ) -> Arc<V, A>
+        requires hash { hash ≡ S.hash_of self.old.hasher (Q.stands_for key) }
+        requires present { IsSome (pair_at K.cmp self.old.pairs (Q.stands_for key)) }
+        ensures old { value_at K.cmp self.old.pairs (Q.stands_for key) ≡ Some (arc_value result) }
+        ensures after { self.new ≡ with_pairs self.old (with_pair K.cmp self.old.pairs (Q.stands_for key)
+            (arc_value value)) }
     {
         self.table.replace(hash, key, value)
     }
@@ -48,22 +55,23 @@ impl<K: Ord + Drop, V: Drop, S: KeyHasher<K>, A: Allocator + Copy> SeqMap<K, V, 
     ///
     /// Returns [`AllocError`] if memory for the new value cannot be allocated, or if cloning its `Arc` fails. `f` has been called by then;
     /// the value that it returned is dropped, and the map is unchanged.
-    pub fn compute_if_present<F: FnOnce(&K, &V) -> Option<V>>(
+    pub fn compute_if_present<Q: HashedQuery<K, S>, F: FnOnce(&K, &V) -> Option<V>>(
         &mut self,
-        key: &K,
+        key: Q,
         f: F,
     ) -> Result<Option<Arc<V, A>>, AllocError>
     where
         F: Drop,
-        requires { ForSome (pair_at K.cmp self.old.pairs key.now) (IsCallableAt F.pre f) }
-        ensures absent { pair_at K.cmp self.old.pairs key.now ≡ None → (result ≡ Ok None) × (self.new ≡ self.old) }
-        ensures present { IfSome (pair_at K.cmp self.old.pairs key.now) (λ p.
+        requires { ForSome (pair_at K.cmp self.old.pairs (Q.stands_for key)) (IsCallableAt F.pre f) }
+        ensures absent { pair_at K.cmp self.old.pairs (Q.stands_for key) ≡ None
+            → (result ≡ Ok None) × (self.new ≡ self.old) }
+        ensures present { IfSome (pair_at K.cmp self.old.pairs (Q.stands_for key)) (λ p.
             (answer : Option V) × ((k : Bor K) × (v : Bor V) × (k.now ≡ p.0) × (v.now ≡ p.1) × F.post f k v answer)
             × MatchOption answer
-            ((result ≡ Ok None) × (self.new ≡ with_pairs self.old (without K.cmp self.old.pairs key.now)))
+            ((result ≡ Ok None) × (self.new ≡ with_pairs self.old (without K.cmp self.old.pairs (Q.stands_for key))))
             (λ w. MatchResult result
             (λ r. (option_map arc_value r ≡ Some w)
-            × (self.new ≡ with_pairs self.old (with_pair K.cmp self.old.pairs key.now w)))
+            × (self.new ≡ with_pairs self.old (with_pair K.cmp self.old.pairs (Q.stands_for key) w)))
             (λ _. self.new ≡ self.old))) }
         ensures hasher { self.new.hasher ≡ self.old.hasher }
         ensures err { OnErr result (self.new ≡ self.old) }

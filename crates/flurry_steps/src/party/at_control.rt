@@ -11,6 +11,7 @@ ghost use Rattle.flurry_base.specs.declared.sizes.TheConstants.{MAX_TABLE};
 use super::call::{AnswerForm, Task};
 use super::stage::{GrowFor, Help, Resume, Stage};
 use super::{Event, Reply};
+use flurry_base::query::Query;
 use flurry_base::sizes::FIRST_TABLE;
 use flurry_bins_slots::ComputeFn;
 use flurry_steps_control::{Advice, BeginOutcome, Control, Room, wanted_table};
@@ -18,18 +19,26 @@ use std::alloc::Allocator;
 
 // Does the step of a call that is at the control, and has helped the growth from `helped` last. Returns the stage after it, and what the
 // step did.
-pub(super) fn step_control<'k, K: Drop, V: Drop, F: ComputeFn<K, V>, A: Allocator, R: Room>(
-    stage: Stage<'k, K, V, F, A>,
+pub(super) fn step_control<
+    Q: Query<K>,
+    K: Ord + Drop,
+    V: Drop,
+    F: ComputeFn<K, V>,
+    A: Allocator,
+    R: Room,
+>(
+    stage: Stage<Q, K, V, F, A>,
     processors: usize,
     helped: Option<u8>,
     control: &mut Control,
     room: &mut R,
-) -> (Stage<'k, K, V, F, A>, Event)
-    requires part { IsAtControl (stage_of stage) }
-    requires callable { StageIsReady F.can_change F.never_keeps (stage_of stage) }
-    ensures ready { StageIsReady F.can_change F.never_keeps (stage_of result.0) }
-    ensures step { StageAtControl R.place_gives processors helped (stage_of stage.entry) control.old room.old result.1
-        (stage_of result.0) control.new room.new }
+) -> (Stage<Q, K, V, F, A>, Event)
+    requires part { IsAtControl (stage_of Q.stands_for stage) }
+    requires callable { StageIsReady F.can_change F.never_keeps (stage_of Q.stands_for stage) }
+    ensures ready { StageIsReady F.can_change F.never_keeps (stage_of Q.stands_for result.0) }
+    ensures step { StageAtControl R.place_gives processors helped (stage_of Q.stands_for stage) control.old
+        room.old result.1
+        (stage_of Q.stands_for result.0) control.new room.new }
 {
     match stage {
         Stage::Locate(task) => return locate(task, control, room),
@@ -58,15 +67,16 @@ pub(super) fn absent_reply<K, V, A: Allocator>(form: AnswerForm) -> Reply<K, V, 
     }
 }
 
-fn locate<'k, K: Drop, V: Drop, F: ComputeFn<K, V>, A: Allocator, R: Room>(
-    task: Task<'k, K, V, F, A>,
+fn locate<Q: Query<K>, K: Ord + Drop, V: Drop, F: ComputeFn<K, V>, A: Allocator, R: Room>(
+    task: Task<Q, K, V, F, A>,
     control: &mut Control,
     room: &mut R,
-) -> (Stage<'k, K, V, F, A>, Event)
-    requires { TaskIsReady F.can_change F.never_keeps (task_of task) }
-    ensures ready { StageIsReady F.can_change F.never_keeps (stage_of result.0) }
-    ensures step { StageAtControl R.place_gives 0 None (AtLocate (task_of task.entry)) control.old room.old result.1
-        (stage_of result.0) control.new room.new }
+) -> (Stage<Q, K, V, F, A>, Event)
+    requires { TaskIsReady F.can_change F.never_keeps (task_of Q.stands_for task) }
+    ensures ready { StageIsReady F.can_change F.never_keeps (stage_of Q.stands_for result.0) }
+    ensures step { StageAtControl R.place_gives 0 None (AtLocate (task_of Q.stands_for task)) control.old
+        room.old result.1
+        (stage_of Q.stands_for result.0) control.new room.new }
 {
     if let Some(table) = control.locate() {
         return (Stage::Bin(task, table), Event::Silent);
@@ -98,14 +108,14 @@ fn locate<'k, K: Drop, V: Drop, F: ComputeFn<K, V>, A: Allocator, R: Room>(
     }
 }
 
-fn reserve<'k, K, V, F: ComputeFn<K, V>, A: Allocator, R: Room>(
+fn reserve<Q: Query<K>, K: Ord, V, F: ComputeFn<K, V>, A: Allocator, R: Room>(
     more: usize,
     control: &mut Control,
     room: &mut R,
-) -> (Stage<'k, K, V, F, A>, Event)
-    ensures ready { StageIsReady F.can_change F.never_keeps (stage_of result.0) }
+) -> (Stage<Q, K, V, F, A>, Event)
+    ensures ready { StageIsReady F.can_change F.never_keeps (stage_of Q.stands_for result.0) }
     ensures step { StageAtControl {K = K} {V = V} {F = F} R.place_gives 0 None
-        (AtReserve more) control.old room.old result.1 (stage_of result.0) control.new room.new }
+        (AtReserve more) control.old room.old result.1 (stage_of Q.stands_for result.0) control.new room.new }
 {
     let wanted = wanted_table(control.len().saturating_add(more));
     if control.locate().is_some() {
@@ -117,16 +127,16 @@ fn reserve<'k, K, V, F: ComputeFn<K, V>, A: Allocator, R: Room>(
     }
 }
 
-fn count<'k, K, V, F: ComputeFn<K, V>, A: Allocator>(
+fn count<Q: Query<K>, K: Ord, V, F: ComputeFn<K, V>, A: Allocator>(
     control: &mut Control,
     delta: i64,
     helped: Option<u8>,
     reply: Reply<K, V, A>,
-) -> Stage<'k, K, V, F, A>
+) -> Stage<Q, K, V, F, A>
     requires { IsDecided (outcome_of reply) }
-    ensures ready { StageIsReady F.can_change F.never_keeps (stage_of result) }
+    ensures ready { StageIsReady F.can_change F.never_keeps (stage_of Q.stands_for result) }
     ensures after { control.new ≡ after_count delta control.old }
-    ensures stage { stage_of result
+    ensures stage { stage_of Q.stands_for result
         ≡ stage_advised helped control.old.published (outcome_of reply) (advice_of (after_count delta control.old)) }
 {
     match control.count(delta) {
@@ -142,18 +152,19 @@ fn count<'k, K, V, F: ComputeFn<K, V>, A: Allocator>(
     }
 }
 
-fn begin<'k, K, V, F: ComputeFn<K, V>, A: Allocator, R: Room>(
+fn begin<Q: Query<K>, K: Ord, V, F: ComputeFn<K, V>, A: Allocator, R: Room>(
     table: u8,
     processors: usize,
     reply: Reply<K, V, A>,
     control: &mut Control,
     room: &mut R,
-) -> (Stage<'k, K, V, F, A>, Event)
+) -> (Stage<Q, K, V, F, A>, Event)
     requires table { table ≤ MAX_TABLE }
     requires decided { IsDecided (outcome_of reply) }
-    ensures ready { StageIsReady F.can_change F.never_keeps (stage_of result.0) }
+    ensures ready { StageIsReady F.can_change F.never_keeps (stage_of Q.stands_for result.0) }
     ensures step { StageAtControl {K = K} {F = F} R.place_gives processors None
-        (AtBegin table (outcome_of reply)) control.old room.old result.1 (stage_of result.0) control.new room.new }
+        (AtBegin table (outcome_of reply)) control.old room.old result.1 (stage_of Q.stands_for result.0)
+        control.new room.new }
 {
     match control.begin(table, processors, room) {
         BeginOutcome::Begun => (
@@ -165,18 +176,19 @@ fn begin<'k, K, V, F: ComputeFn<K, V>, A: Allocator, R: Room>(
     }
 }
 
-fn grow<'k, K: Drop, V: Drop, F: ComputeFn<K, V>, A: Allocator, R: Room>(
+fn grow<Q: Query<K>, K: Ord + Drop, V: Drop, F: ComputeFn<K, V>, A: Allocator, R: Room>(
     wanted: u8,
     processors: usize,
     growing: GrowFor<K, V, A>,
     control: &mut Control,
     room: &mut R,
-) -> (Stage<'k, K, V, F, A>, Event)
+) -> (Stage<Q, K, V, F, A>, Event)
     requires table { wanted ≤ MAX_TABLE }
     requires decided { GrowForIsReady (grow_for_of growing) }
-    ensures ready { StageIsReady F.can_change F.never_keeps (stage_of result.0) }
+    ensures ready { StageIsReady F.can_change F.never_keeps (stage_of Q.stands_for result.0) }
     ensures step { StageAtControl {K = K} {F = F} R.place_gives processors None
-        (AtGrow wanted (grow_for_of growing)) control.old room.old result.1 (stage_of result.0) control.new room.new }
+        (AtGrow wanted (grow_for_of growing)) control.old room.old result.1 (stage_of Q.stands_for result.0)
+        control.new room.new }
 {
     let Some(table) = control.grows_from(wanted) else {
         return (growing.end(), Event::Silent);
@@ -194,15 +206,15 @@ fn grow<'k, K: Drop, V: Drop, F: ComputeFn<K, V>, A: Allocator, R: Room>(
     }
 }
 
-fn publish<'k, K, V, F: ComputeFn<K, V>, A: Allocator>(
+fn publish<Q: Query<K>, K: Ord, V, F: ComputeFn<K, V>, A: Allocator>(
     table: u8,
-    after: Resume<'k, K, V, F, A>,
+    after: Resume<Q, K, V, F, A>,
     control: &mut Control,
-) -> (Stage<'k, K, V, F, A>, Event)
+) -> (Stage<Q, K, V, F, A>, Event)
     requires table { table < MAX_TABLE }
-    requires callable { ResumeIsReady F.can_change F.never_keeps (resume_of after) }
-    ensures ready { StageIsReady F.can_change F.never_keeps (stage_of result.0) }
-    ensures stage { stage_of result.0 ≡ AtHelp (GivesBack table) (resume_of after.entry) }
+    requires callable { ResumeIsReady F.can_change F.never_keeps (resume_of Q.stands_for after) }
+    ensures ready { StageIsReady F.can_change F.never_keeps (stage_of Q.stands_for result.0) }
+    ensures stage { stage_of Q.stands_for result.0 ≡ AtHelp (GivesBack table) (resume_of Q.stands_for after) }
     ensures event { result.1 ≡ event_published table control.old }
     ensures after { control.new ≡ after_publish table control.old }
 {

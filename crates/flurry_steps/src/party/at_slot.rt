@@ -16,6 +16,7 @@ use super::call::{AnswerForm, Key, Task};
 use super::left::Left;
 use super::stage::{GrowFor, Help, Resume, Stage};
 use super::{Event, Reply};
+use flurry_base::query::Query;
 use flurry_bins::bin::Entry;
 use flurry_bins_slots::{
     Added, Altered, Answer, ComputeFn, Computed, Given, Inserted, Replaced, Slot,
@@ -46,23 +47,24 @@ fn reply_of<K: Drop, V: Drop, A: Allocator>(
 }
 
 // Does the step of a look-up. Returns the stage after it, what the step did, and what it leaves behind.
-pub(super) fn step_lookup<'k, K: Ord + Drop, V: Drop, F: ComputeFn<K, V>, A: Allocator>(
+pub(super) fn step_lookup<Q: Query<K>, K: Ord + Drop, V: Drop, F: ComputeFn<K, V>, A: Allocator>(
     hash: u64,
     form: AnswerForm,
-    key: Key<'k, K>,
+    key: Key<Q, K>,
     table: u8,
     slot: &Slot<K, V, A>,
-) -> (Stage<'k, K, V, F, A>, Event, Left<'k, K, V, F, A>)
+) -> (Stage<Q, K, V, F, A>, Event, Left<Q, K, V, F, A>)
     requires region { LiesInBin hash slot.now }
     requires at { table ≡ slot.now.table }
-    ensures ready { StageIsReady F.can_change F.never_keeps (stage_of result.0) }
+    ensures ready { StageIsReady F.can_change F.never_keeps (stage_of Q.stands_for result.0) }
     ensures within { IsSlot K.cmp slot.now }
-    ensures nearer { (slot.now.content ≡ IsUnborn) ⊎ (steps_left (stage_of result.0) < MAX_TABLE + 1 - table) }
+    ensures nearer { (slot.now.content ≡ IsUnborn)
+        ⊎ (steps_left (stage_of Q.stands_for result.0) < MAX_TABLE + 1 - table) }
     ensures step { ContentGives K.cmp F.changes hash
-        (Finds (form_of form) (plain_key key.entry)) table slot.now.content result.1
-        (stage_of result.0) slot.now.content }
+        (Finds (form_of form) (plain_key Q.stands_for key)) table slot.now.content result.1
+        (stage_of Q.stands_for result.0) slot.now.content }
 {
-    match slot.find(hash, key.get()) {
+    match slot.find(hash, &key) {
         Answer::Here(Some(entry)) => match reply_of(form, entry) {
             Ok(reply) => (
                 Stage::Done(reply),
@@ -95,23 +97,29 @@ pub(super) fn step_lookup<'k, K: Ord + Drop, V: Drop, F: ComputeFn<K, V>, A: All
 
 // Does the step of a call that may change its bin. Returns the stage after it, what the step did, and what it leaves behind.
 #[inline(always)]
-pub(super) fn step_write<'k, K: Ord + Drop, V: Drop, F: ComputeFn<K, V>, A: Allocator + Copy>(
+pub(super) fn step_write<
+    Q: Query<K>,
+    K: Ord + Drop,
+    V: Drop,
+    F: ComputeFn<K, V>,
+    A: Allocator + Copy,
+>(
     alloc: A,
     hash: u64,
-    task: Task<'k, K, V, F, A>,
+    task: Task<Q, K, V, F, A>,
     table: u8,
     slot: &mut Slot<K, V, A>,
-) -> (Stage<'k, K, V, F, A>, Event, Left<'k, K, V, F, A>)
+) -> (Stage<Q, K, V, F, A>, Event, Left<Q, K, V, F, A>)
     requires region { LiesInBin hash slot.old }
     requires at { table ≡ slot.old.table }
-    requires writer { IsWriter (task_of task) }
-    requires callable { TaskIsReady F.can_change F.never_keeps (task_of task) }
-    ensures ready { StageIsReady F.can_change F.never_keeps (stage_of result.0) }
+    requires writer { IsWriter (task_of Q.stands_for task) }
+    requires callable { TaskIsReady F.can_change F.never_keeps (task_of Q.stands_for task) }
+    ensures ready { StageIsReady F.can_change F.never_keeps (stage_of Q.stands_for result.0) }
     ensures within { IsSlot K.cmp slot.old }
     ensures table { slot.new.table ≡ slot.old.table }
     ensures index { slot.new.index ≡ slot.old.index }
-    ensures step { ContentGives K.cmp F.changes hash (task_of task.entry) table slot.old.content result.1
-        (stage_of result.0) slot.new.content }
+    ensures step { ContentGives K.cmp F.changes hash (task_of Q.stands_for task) table slot.old.content result.1
+        (stage_of Q.stands_for result.0) slot.new.content }
 {
     match task {
         Task::Remove(form, key) => return remove(hash, form, key, table, slot),
@@ -126,11 +134,11 @@ pub(super) fn step_write<'k, K: Ord + Drop, V: Drop, F: ComputeFn<K, V>, A: Allo
 }
 
 // The reply of a removal that has removed `entry`, and what of the entry is not in the reply.
-fn owned_reply<'k, K: Drop, V: Drop, F: Drop, A: Allocator>(
+fn owned_reply<Q: Query<K>, K: Ord + Drop, V: Drop, F: Drop, A: Allocator>(
     form: AnswerForm,
-    key: Key<'k, K>,
+    key: Key<Q, K>,
     entry: Entry<K, V, A>,
-) -> (Reply<K, V, A>, Left<'k, K, V, F, A>)
+) -> (Reply<K, V, A>, Left<Q, K, V, F, A>)
     ensures { outcome_of result.0 ≡ OutcomeReply (reply_for (form_of form) (Some (numbered_pair entry))) }
 {
     let Entry {
@@ -154,24 +162,24 @@ fn owned_reply<'k, K: Drop, V: Drop, F: Drop, A: Allocator>(
     }
 }
 
-fn remove<'k, K: Ord + Drop, V: Drop, F: ComputeFn<K, V>, A: Allocator>(
+fn remove<Q: Query<K>, K: Ord + Drop, V: Drop, F: ComputeFn<K, V>, A: Allocator>(
     hash: u64,
     form: AnswerForm,
-    key: Key<'k, K>,
+    key: Key<Q, K>,
     table: u8,
     slot: &mut Slot<K, V, A>,
-) -> (Stage<'k, K, V, F, A>, Event, Left<'k, K, V, F, A>)
+) -> (Stage<Q, K, V, F, A>, Event, Left<Q, K, V, F, A>)
     requires region { LiesInBin hash slot.old }
     requires at { table ≡ slot.old.table }
-    ensures ready { StageIsReady F.can_change F.never_keeps (stage_of result.0) }
+    ensures ready { StageIsReady F.can_change F.never_keeps (stage_of Q.stands_for result.0) }
     ensures within { IsSlot K.cmp slot.old }
     ensures table { slot.new.table ≡ slot.old.table }
     ensures index { slot.new.index ≡ slot.old.index }
     ensures step { ContentGives K.cmp F.changes hash
-        (Removes (form_of form) (plain_key key.entry)) table slot.old.content result.1
-        (stage_of result.0) slot.new.content }
+        (Removes (form_of form) (plain_key Q.stands_for key)) table slot.old.content result.1
+        (stage_of Q.stands_for result.0) slot.new.content }
 {
-    match slot.take(hash, key.get()) {
+    match slot.take(hash, &key) {
         Answer::Here(Some(entry)) => {
             let (reply, left) = owned_reply(form, key, entry);
             (Stage::Uncount(reply), Event::Decide, left)
@@ -197,20 +205,20 @@ fn remove<'k, K: Ord + Drop, V: Drop, F: ComputeFn<K, V>, A: Allocator>(
     }
 }
 
-fn remove_seen<'k, K: Ord + Drop, V: Drop, F: ComputeFn<K, V>, A: Allocator>(
+fn remove_seen<Q: Query<K>, K: Ord + Drop, V: Drop, F: ComputeFn<K, V>, A: Allocator>(
     hash: u64,
     seen: Seen<K, V, A>,
     table: u8,
     slot: &mut Slot<K, V, A>,
-) -> (Stage<'k, K, V, F, A>, Event, Left<'k, K, V, F, A>)
+) -> (Stage<Q, K, V, F, A>, Event, Left<Q, K, V, F, A>)
     requires region { LiesInBin hash slot.old }
     requires at { table ≡ slot.old.table }
-    ensures ready { StageIsReady F.can_change F.never_keeps (stage_of result.0) }
+    ensures ready { StageIsReady F.can_change F.never_keeps (stage_of Q.stands_for result.0) }
     ensures within { IsSlot K.cmp slot.old }
     ensures table { slot.new.table ≡ slot.old.table }
     ensures index { slot.new.index ≡ slot.old.index }
     ensures step { ContentGives K.cmp F.changes hash (RemovesSeen seen) table slot.old.content result.1
-        (stage_of result.0) slot.new.content }
+        (stage_of Q.stands_for result.0) slot.new.content }
 {
     match slot.take_if(hash, seen.key(), seen.number()) {
         Answer::Here(Some(entry)) => {
@@ -243,15 +251,15 @@ fn remove_seen<'k, K: Ord + Drop, V: Drop, F: ComputeFn<K, V>, A: Allocator>(
 }
 
 // The stage of a call that inserted a new key into a bin of `table`: the pair is counted, after the growth if one is asked for.
-fn after_new_pair<'k, K, V, F: ComputeFn<K, V>, A: Allocator>(
+fn after_new_pair<Q: Query<K>, K: Ord, V, F: ComputeFn<K, V>, A: Allocator>(
     table: u8,
     reply: Reply<K, V, A>,
     asks_for_growth: bool,
-) -> Stage<'k, K, V, F, A>
+) -> Stage<Q, K, V, F, A>
     requires table { table ≤ MAX_TABLE }
     requires decided { IsDecided (outcome_of reply) }
-    ensures ready { StageIsReady F.can_change F.never_keeps (stage_of result) }
-    ensures stage { GoesOnNew table (outcome_of reply) asks_for_growth (stage_of result) }
+    ensures ready { StageIsReady F.can_change F.never_keeps (stage_of Q.stands_for result) }
+    ensures stage { GoesOnNew table (outcome_of reply) asks_for_growth (stage_of Q.stands_for result) }
 {
     if asks_for_growth {
         let wanted = wanted_table(2usize << table);
@@ -261,13 +269,13 @@ fn after_new_pair<'k, K, V, F: ComputeFn<K, V>, A: Allocator>(
     }
 }
 
-fn after_write<'k, K: Drop, V: Drop, F: ComputeFn<K, V>, A: Allocator>(
+fn after_write<Q: Query<K>, K: Ord + Drop, V: Drop, F: ComputeFn<K, V>, A: Allocator>(
     table: u8,
     inserted: Inserted<K, V, A>,
-) -> (Stage<'k, K, V, F, A>, Left<'k, K, V, F, A>)
+) -> (Stage<Q, K, V, F, A>, Left<Q, K, V, F, A>)
     requires { table ≤ MAX_TABLE }
-    ensures ready { StageIsReady F.can_change F.never_keeps (stage_of result.0) }
-    ensures stage { GoesOnWritten table (view_of_inserted inserted) (stage_of result.0) }
+    ensures ready { StageIsReady F.can_change F.never_keeps (stage_of Q.stands_for result.0) }
+    ensures stage { GoesOnWritten table (view_of_inserted inserted) (stage_of Q.stands_for result.0) }
 {
     match inserted {
         Inserted::New { asks_for_growth } => {
@@ -280,22 +288,22 @@ fn after_write<'k, K: Drop, V: Drop, F: ComputeFn<K, V>, A: Allocator>(
     }
 }
 
-fn insert<'k, K: Ord + Drop, V: Drop, F: ComputeFn<K, V>, A: Allocator + Copy>(
+fn insert<Q: Query<K>, K: Ord + Drop, V: Drop, F: ComputeFn<K, V>, A: Allocator + Copy>(
     alloc: A,
     hash: u64,
     key: K,
     value: Given<V, A>,
     table: u8,
     slot: &mut Slot<K, V, A>,
-) -> (Stage<'k, K, V, F, A>, Event, Left<'k, K, V, F, A>)
+) -> (Stage<Q, K, V, F, A>, Event, Left<Q, K, V, F, A>)
     requires region { LiesInBin hash slot.old }
     requires at { table ≡ slot.old.table }
-    ensures ready { StageIsReady F.can_change F.never_keeps (stage_of result.0) }
+    ensures ready { StageIsReady F.can_change F.never_keeps (stage_of Q.stands_for result.0) }
     ensures within { IsSlot K.cmp slot.old }
     ensures table { slot.new.table ≡ slot.old.table }
     ensures index { slot.new.index ≡ slot.old.index }
     ensures step { ContentGives K.cmp F.changes hash (Inserts key (given_of value)) table slot.old.content result.1
-        (stage_of result.0) slot.new.content }
+        (stage_of Q.stands_for result.0) slot.new.content }
 {
     match slot.put(alloc, hash, key, value) {
         Ok(Answer::Here(inserted)) => {
@@ -323,13 +331,13 @@ fn insert<'k, K: Ord + Drop, V: Drop, F: ComputeFn<K, V>, A: Allocator + Copy>(
     }
 }
 
-fn after_try<'k, K: Drop, V: Drop, F: ComputeFn<K, V>, A: Allocator>(
+fn after_try<Q: Query<K>, K: Ord + Drop, V: Drop, F: ComputeFn<K, V>, A: Allocator>(
     table: u8,
     added: Added<K, V, A>,
-) -> (Stage<'k, K, V, F, A>, Left<'k, K, V, F, A>)
+) -> (Stage<Q, K, V, F, A>, Left<Q, K, V, F, A>)
     requires { table ≤ MAX_TABLE }
-    ensures ready { StageIsReady F.can_change F.never_keeps (stage_of result.0) }
-    ensures stage { GoesOnAdded table (view_of_added added) (stage_of result.0) }
+    ensures ready { StageIsReady F.can_change F.never_keeps (stage_of Q.stands_for result.0) }
+    ensures stage { GoesOnAdded table (view_of_added added) (stage_of Q.stands_for result.0) }
 {
     match added {
         Added::New {
@@ -343,22 +351,22 @@ fn after_try<'k, K: Drop, V: Drop, F: ComputeFn<K, V>, A: Allocator>(
     }
 }
 
-fn try_insert<'k, K: Ord + Drop, V: Drop, F: ComputeFn<K, V>, A: Allocator + Copy>(
+fn try_insert<Q: Query<K>, K: Ord + Drop, V: Drop, F: ComputeFn<K, V>, A: Allocator + Copy>(
     alloc: A,
     hash: u64,
     key: K,
     value: V,
     table: u8,
     slot: &mut Slot<K, V, A>,
-) -> (Stage<'k, K, V, F, A>, Event, Left<'k, K, V, F, A>)
+) -> (Stage<Q, K, V, F, A>, Event, Left<Q, K, V, F, A>)
     requires region { LiesInBin hash slot.old }
     requires at { table ≡ slot.old.table }
-    ensures ready { StageIsReady F.can_change F.never_keeps (stage_of result.0) }
+    ensures ready { StageIsReady F.can_change F.never_keeps (stage_of Q.stands_for result.0) }
     ensures within { IsSlot K.cmp slot.old }
     ensures table { slot.new.table ≡ slot.old.table }
     ensures index { slot.new.index ≡ slot.old.index }
     ensures step { ContentGives K.cmp F.changes hash (Adds key value) table slot.old.content result.1
-        (stage_of result.0) slot.new.content }
+        (stage_of Q.stands_for result.0) slot.new.content }
 {
     match slot.put_absent(alloc, hash, key, value) {
         Ok(Answer::Here(added)) => {
@@ -387,13 +395,13 @@ fn try_insert<'k, K: Ord + Drop, V: Drop, F: ComputeFn<K, V>, A: Allocator + Cop
 }
 
 // The stage of a computation that was done at a live bin.
-fn after_compute<'k, K: Drop, V: Drop, F: ComputeFn<K, V>, A: Allocator>(
-    key: Key<'k, K>,
+fn after_compute<Q: Query<K>, K: Ord + Drop, V: Drop, F: ComputeFn<K, V>, A: Allocator>(
+    key: Key<Q, K>,
     computed: Computed<K, V, F, A>,
-) -> (Stage<'k, K, V, F, A>, Event, Left<'k, K, V, F, A>)
-    ensures ready { StageIsReady F.can_change F.never_keeps (stage_of result.0) }
+) -> (Stage<Q, K, V, F, A>, Event, Left<Q, K, V, F, A>)
+    ensures ready { StageIsReady F.can_change F.never_keeps (stage_of Q.stands_for result.0) }
     ensures decides { result.1 ≡ Event.Decide }
-    ensures stage { stage_of result.0 ≡ stage_computed (outcome computed) }
+    ensures stage { stage_of Q.stands_for result.0 ≡ stage_computed (outcome computed) }
 {
     match computed {
         Computed::Absent(f) => (
@@ -420,26 +428,27 @@ fn after_compute<'k, K: Drop, V: Drop, F: ComputeFn<K, V>, A: Allocator>(
     }
 }
 
-fn compute<'k, K: Ord + Drop, V: Drop, F: ComputeFn<K, V>, A: Allocator + Copy>(
+fn compute<Q: Query<K>, K: Ord + Drop, V: Drop, F: ComputeFn<K, V>, A: Allocator + Copy>(
     alloc: A,
     hash: u64,
-    key: Key<'k, K>,
+    key: Key<Q, K>,
     f: F,
     table: u8,
     slot: &mut Slot<K, V, A>,
-) -> (Stage<'k, K, V, F, A>, Event, Left<'k, K, V, F, A>)
+) -> (Stage<Q, K, V, F, A>, Event, Left<Q, K, V, F, A>)
     requires region { LiesInBin hash slot.old }
     requires at { table ≡ slot.old.table }
     requires callable { F.can_change f }
     requires changes { F.never_keeps f }
-    ensures ready { StageIsReady F.can_change F.never_keeps (stage_of result.0) }
+    ensures ready { StageIsReady F.can_change F.never_keeps (stage_of Q.stands_for result.0) }
     ensures within { IsSlot K.cmp slot.old }
     ensures table { slot.new.table ≡ slot.old.table }
     ensures index { slot.new.index ≡ slot.old.index }
-    ensures step { ContentGives K.cmp F.changes hash (Computes (plain_key key.entry) f) table slot.old.content result.1
-        (stage_of result.0) slot.new.content }
+    ensures step { ContentGives K.cmp F.changes hash (Computes (plain_key Q.stands_for key) f) table
+        slot.old.content result.1
+        (stage_of Q.stands_for result.0) slot.new.content }
 {
-    match slot.compute(alloc, hash, key.get(), f) {
+    match slot.compute(alloc, hash, &key, f) {
         Ok(Answer::Here(computed)) => after_compute(key, computed),
         Ok(Answer::Moved(f)) => (
             Stage::Help(
@@ -463,13 +472,13 @@ fn compute<'k, K: Ord + Drop, V: Drop, F: ComputeFn<K, V>, A: Allocator + Copy>(
 }
 
 // The stage of a call that altered at a live bin of `table`.
-fn after_alter<'k, K: Drop, V: Drop, F: ComputeFn<K, V>, A: Allocator>(
+fn after_alter<Q: Query<K>, K: Ord + Drop, V: Drop, F: ComputeFn<K, V>, A: Allocator>(
     table: u8,
     altered: Altered<K, V, A>,
-) -> Stage<'k, K, V, F, A>
+) -> Stage<Q, K, V, F, A>
     requires { table ≤ MAX_TABLE }
-    ensures ready { StageIsReady F.can_change F.never_keeps (stage_of result) }
-    ensures stage { GoesOnAltered table (alteration altered) (stage_of result) }
+    ensures ready { StageIsReady F.can_change F.never_keeps (stage_of Q.stands_for result) }
+    ensures stage { GoesOnAltered table (alteration altered) (stage_of Q.stands_for result) }
 {
     match altered {
         Altered::Absent => Stage::Done(Reply::Contains(false)),
@@ -486,30 +495,30 @@ fn after_alter<'k, K: Drop, V: Drop, F: ComputeFn<K, V>, A: Allocator>(
 }
 
 // What a call leaves behind that did not keep its key.
-fn left_key<'k, K, V, F, A: Allocator>(key: Option<K>) -> Left<'k, K, V, F, A> {
+fn left_key<Q: Query<K>, K: Ord, V, F, A: Allocator>(key: Option<K>) -> Left<Q, K, V, F, A> {
     match key {
         Some(key) => Left::Key(key),
         None => Left::Nothing,
     }
 }
 
-fn alter<'k, K: Ord + Drop, V: Drop, F: ComputeFn<K, V>, A: Allocator + Copy>(
+fn alter<Q: Query<K>, K: Ord + Drop, V: Drop, F: ComputeFn<K, V>, A: Allocator + Copy>(
     alloc: A,
     hash: u64,
     key: K,
     f: F,
     table: u8,
     slot: &mut Slot<K, V, A>,
-) -> (Stage<'k, K, V, F, A>, Event, Left<'k, K, V, F, A>)
+) -> (Stage<Q, K, V, F, A>, Event, Left<Q, K, V, F, A>)
     requires region { LiesInBin hash slot.old }
     requires at { table ≡ slot.old.table }
     requires callable { F.can_change f }
-    ensures ready { StageIsReady F.can_change F.never_keeps (stage_of result.0) }
+    ensures ready { StageIsReady F.can_change F.never_keeps (stage_of Q.stands_for result.0) }
     ensures within { IsSlot K.cmp slot.old }
     ensures table { slot.new.table ≡ slot.old.table }
     ensures index { slot.new.index ≡ slot.old.index }
     ensures step { ContentGives K.cmp F.changes hash (Alters key true f) table slot.old.content result.1
-        (stage_of result.0) slot.new.content }
+        (stage_of Q.stands_for result.0) slot.new.content }
 {
     match slot.alter(alloc, hash, key, f) {
         Ok(Answer::Here((altered, key))) => {
@@ -537,14 +546,14 @@ fn alter<'k, K: Ord + Drop, V: Drop, F: ComputeFn<K, V>, A: Allocator + Copy>(
 }
 
 // The stage of an alteration of a present pair that was done at a live bin of `table`, and what it leaves behind.
-fn after_alter_present<'k, K: Drop, V: Drop, F: ComputeFn<K, V>, A: Allocator>(
+fn after_alter_present<Q: Query<K>, K: Ord + Drop, V: Drop, F: ComputeFn<K, V>, A: Allocator>(
     table: u8,
-    key: Key<'k, K>,
+    key: Key<Q, K>,
     altered: Result<Altered<K, V, A>, F>,
-) -> (Stage<'k, K, V, F, A>, Left<'k, K, V, F, A>)
+) -> (Stage<Q, K, V, F, A>, Left<Q, K, V, F, A>)
     requires { table ≤ MAX_TABLE }
-    ensures ready { StageIsReady F.can_change F.never_keeps (stage_of result.0) }
-    ensures stage { GoesOnAltered table (alteration_if_present altered) (stage_of result.0) }
+    ensures ready { StageIsReady F.can_change F.never_keeps (stage_of Q.stands_for result.0) }
+    ensures stage { GoesOnAltered table (alteration_if_present altered) (stage_of Q.stands_for result.0) }
 {
     match altered {
         Ok(altered) => (after_alter(table, altered), Left::Stored(key, None, None)),
@@ -552,25 +561,26 @@ fn after_alter_present<'k, K: Drop, V: Drop, F: ComputeFn<K, V>, A: Allocator>(
     }
 }
 
-fn alter_present<'k, K: Ord + Drop, V: Drop, F: ComputeFn<K, V>, A: Allocator + Copy>(
+fn alter_present<Q: Query<K>, K: Ord + Drop, V: Drop, F: ComputeFn<K, V>, A: Allocator + Copy>(
     alloc: A,
     hash: u64,
-    key: Key<'k, K>,
+    key: Key<Q, K>,
     f: F,
     table: u8,
     slot: &mut Slot<K, V, A>,
-) -> (Stage<'k, K, V, F, A>, Event, Left<'k, K, V, F, A>)
+) -> (Stage<Q, K, V, F, A>, Event, Left<Q, K, V, F, A>)
     requires region { LiesInBin hash slot.old }
     requires at { table ≡ slot.old.table }
     requires callable { F.can_change f }
-    ensures ready { StageIsReady F.can_change F.never_keeps (stage_of result.0) }
+    ensures ready { StageIsReady F.can_change F.never_keeps (stage_of Q.stands_for result.0) }
     ensures within { IsSlot K.cmp slot.old }
     ensures table { slot.new.table ≡ slot.old.table }
     ensures index { slot.new.index ≡ slot.old.index }
-    ensures step { ContentGives K.cmp F.changes hash (Alters (plain_key key.entry) false f) table slot.old.content
-        result.1 (stage_of result.0) slot.new.content }
+    ensures step { ContentGives K.cmp F.changes hash (Alters (plain_key Q.stands_for key) false f) table
+        slot.old.content
+        result.1 (stage_of Q.stands_for result.0) slot.new.content }
 {
-    match slot.alter_present(alloc, hash, key.get(), f) {
+    match slot.alter_present(alloc, hash, &key, f) {
         Ok(Answer::Here(altered)) => {
             let (stage, left) = after_alter_present(table, key, altered);
             (stage, Event::Decide, left)

@@ -6,20 +6,22 @@ ghost use Rattle.flurry_steps.specs.PartyView.{stage_of};
 
 use super::ending::Ending;
 use super::stage::Stage;
+use flurry_base::query::Query;
 use flurry_bins_slots::ComputeFn;
 use flurry_steps_control::Tally;
 use std::alloc::Allocator;
 
 // Does the step at a tally, and returns the stage after it.
-pub(super) fn step_tally<'k, K: Drop, V: Drop, F: ComputeFn<K, V>, A: Allocator>(
-    stage: Stage<'k, K, V, F, A>,
+pub(super) fn step_tally<Q: Query<K>, K: Ord + Drop, V: Drop, F: ComputeFn<K, V>, A: Allocator>(
+    stage: Stage<Q, K, V, F, A>,
     tally: &mut Tally,
     most: i64,
-) -> Stage<'k, K, V, F, A>
-    requires is_counting { is_counting (stage_of stage) ≡ true }
-    requires callable { StageIsReady F.can_change F.never_keeps (stage_of stage) }
-    ensures ready { StageIsReady F.can_change F.never_keeps (stage_of result) }
-    ensures step { StageAtTally most (stage_of stage.entry) tally.old (stage_of result) tally.new }
+) -> Stage<Q, K, V, F, A>
+    requires is_counting { is_counting (stage_of Q.stands_for stage) ≡ true }
+    requires callable { StageIsReady F.can_change F.never_keeps (stage_of Q.stands_for stage) }
+    ensures ready { StageIsReady F.can_change F.never_keeps (stage_of Q.stands_for result) }
+    ensures step { StageAtTally most (stage_of Q.stands_for stage) tally.old (stage_of Q.stands_for result)
+        tally.new }
 {
     let mut ending = Ending::of_stage(stage);
     ending.on_tally::<F>(tally, most);

@@ -1,33 +1,36 @@
 //! The calls of a shared map.
 ghost use Rattle.std.specs.Prelude.{◌≡◌, option_map};
-ghost use Rattle.flurry_base.specs.OneKey.{key_of};
+ghost use Rattle.flurry_base.specs.OneKey.{hash_of_call, key_of};
 ghost use Rattle.flurry_steps.specs.PartyView.{plain_call, plain_key, plain_of_owned};
 
+use flurry_base::hash::KeyHasher;
+use flurry_base::query::{HashedQuery, Query};
 use flurry_bins_slots::Given;
 use flurry_steps_sweep::Seen;
 use std::alloc::{Allocator, Global};
+use std::cmp::Ordering;
 use std::sync::Arc;
 
 /// A call of a shared map.
 ///
 /// ```
-/// let party: Party<'_, u64, u64, F> = Party::new(Call::ContainsKey(key), *key, 1);
+/// let party: Party<&u64, u64, u64, F> = Party::new(Call::ContainsKey(key), *key, 1);
 /// let want = party.want();
 /// drop(party);
 /// want
 /// ```
 #[derive(Drop)]
-pub enum Call<'k, K, V, F, A: Allocator = Global> {
+pub enum Call<Q, K, V, F, A: Allocator = Global> {
     /// A look-up of the value of a key.
-    Get(&'k K),
+    Get(Q),
     /// A look-up of the stored key and the value of a key.
-    GetKeyValue(&'k K),
+    GetKeyValue(Q),
     /// A check whether a key is present.
-    ContainsKey(&'k K),
+    ContainsKey(Q),
     /// A removal of the pair of a key, which returns the value.
-    Remove(&'k K),
+    Remove(Q),
     /// A removal of the pair of a key, which returns the stored key and the value.
-    RemoveEntry(&'k K),
+    RemoveEntry(Q),
     /// A removal of a pair that a walk has read, if and only if its value is still as it was read. It returns the value.
     RemoveSeen(Seen<K, V, A>),
     /// An insertion of a value at a key, which returns the value that the key had. The value is in an `Arc`, for which no memory has to be
@@ -37,12 +40,12 @@ pub enum Call<'k, K, V, F, A: Allocator = Global> {
     TryInsert(K, V),
     /// A call of the function on the pair of a present key. The value that it returns replaces the value of the key; if it returns
     /// `None`, the pair is removed. The call returns the new value.
-    Compute(&'k K, F),
+    Compute(Q, F),
     /// A call of the function on the value of a key, or on `None`. The pair becomes what the function returns, and may be added.
     Alter(K, F),
     /// A call of the function on the value of a present key. The pair becomes what the function returns. If the key is absent, the function
     /// is not called.
-    AlterPresent(&'k K, F),
+    AlterPresent(Q, F),
     /// A reservation of room for the given number of additional pairs.
     Reserve(usize),
     /// A removal of all pairs, one bin after another.
@@ -51,11 +54,13 @@ pub enum Call<'k, K, V, F, A: Allocator = Global> {
     Walk,
 }
 
-impl<'k, K: Drop, V: Drop, F, A: Allocator> Call<'k, K, V, F, A> {
-    /// Returns the key of the call, or `None` if it has no key. Constant time.
+impl<Q, K: Ord + Drop, V: Drop, F, A: Allocator> Call<Q, K, V, F, A> {
+    /// Returns the hash that `hasher` gives the key of the call, or 0 if it has no key. Computes one hash of a key.
     #[inline]
-    pub fn key(&self) -> Option<&K>
-        ensures { option_map (λ k. k.now) result ≡ key_of (plain_call self.now) }
+    pub fn hash_by<S: KeyHasher<K>>(&self, hasher: &S) -> u64
+    where
+        Q: HashedQuery<K, S>,
+        ensures { result ≡ hash_of_call (S.hash_of hasher.now) (plain_call Q.stands_for self.now) }
     {
         match self {
             Call::Get(key)
@@ -64,10 +69,12 @@ impl<'k, K: Drop, V: Drop, F, A: Allocator> Call<'k, K, V, F, A> {
             | Call::Remove(key)
             | Call::RemoveEntry(key)
             | Call::Compute(key, _)
-            | Call::AlterPresent(key, _) => Some(*key),
-            Call::RemoveSeen(seen) => Some(seen.key()),
-            Call::Insert(key, _) | Call::TryInsert(key, _) | Call::Alter(key, _) => Some(key),
-            Call::Reserve(_) | Call::Clear | Call::Walk => None,
+            | Call::AlterPresent(key, _) => key.hash_by(hasher),
+            Call::RemoveSeen(seen) => hasher.hash_one(seen.key()),
+            Call::Insert(key, _) | Call::TryInsert(key, _) | Call::Alter(key, _) => {
+                hasher.hash_one(key)
+            }
+            Call::Reserve(_) | Call::Clear | Call::Walk => 0,
         }
     }
 }
@@ -133,18 +140,18 @@ impl<K, V, F> OwnedCall<K, V, F> {
 
 /// A key that is borrowed for the time of a call, or that the call owns.
 #[derive(Drop)]
-pub(crate) enum Key<'k, K> {
-    Lent(&'k K),
+pub(crate) enum Key<Q, K> {
+    Lent(Q),
     Own(K),
 }
 
-impl<'k, K> Key<'k, K> {
-    pub(crate) fn get(&self) -> &K
-        ensures { result.now ≡ plain_key self.now }
-    {
+impl<Q: Query<K>, K: Ord> Query<K> for &Key<Q, K> {
+    ghost stands_for = { λ k. plain_key Q.stands_for k.now };
+
+    fn compare(self, key: &K) -> Ordering {
         match self {
-            Key::Lent(key) => key,
-            Key::Own(key) => key,
+            Key::Lent(lent) => lent.compare(key),
+            Key::Own(own) => own.cmp(key),
         }
     }
 }
@@ -162,13 +169,13 @@ pub(crate) enum AnswerForm {
 
 /// A one-key call that has not decided yet.
 #[derive(Drop)]
-pub(crate) enum Task<'k, K, V, F, A: Allocator> {
-    Find(AnswerForm, Key<'k, K>),
-    Remove(AnswerForm, Key<'k, K>),
+pub(crate) enum Task<Q, K, V, F, A: Allocator> {
+    Find(AnswerForm, Key<Q, K>),
+    Remove(AnswerForm, Key<Q, K>),
     RemoveSeen(Seen<K, V, A>),
     Insert(K, Given<V, A>),
     Add(K, V),
-    Compute(Key<'k, K>, F),
+    Compute(Key<Q, K>, F),
     Alter(K, F),
-    AlterPresent(Key<'k, K>, F),
+    AlterPresent(Key<Q, K>, F),
 }

@@ -8,6 +8,7 @@ ghost use Rattle.flurry_steps.specs.declared.party.ending.Rest.TheVariants as re
 
 use super::stage::{GrowFor, Stage};
 use super::{Party, Reply};
+use flurry_base::query::Query;
 use flurry_bins_slots::ComputeFn;
 use flurry_steps_control::Tally;
 use std::alloc::{Allocator, Global};
@@ -66,12 +67,12 @@ impl<K, V, A: Allocator> Model for Ending<K, V, A> {
     ghost invariant = { λ e. RestIsReady e.rest (outcome_of e.reply) };
 }
 
-impl<K, V, A: Allocator> Ending<K, V, A> {
+impl<K: Ord, V, A: Allocator> Ending<K, V, A> {
     // Creates the ending of a call at the given stage.
-    pub(super) fn of_stage<'k, F: ComputeFn<K, V>>(stage: Stage<'k, K, V, F, A>) -> Self
-        requires ready { StageIsReady F.can_change F.never_keeps (stage_of stage) }
-        requires decided { HasDecided (stage_of stage) }
-        ensures { ending_stage result ≡ stage_of stage.entry }
+    pub(super) fn of_stage<Q: Query<K>, F: ComputeFn<K, V>>(stage: Stage<Q, K, V, F, A>) -> Self
+        requires ready { StageIsReady F.can_change F.never_keeps (stage_of Q.stands_for stage) }
+        requires decided { HasDecided (stage_of Q.stands_for stage) }
+        ensures { ending_stage result ≡ stage_of Q.stands_for stage }
     {
         let (rest, reply) = match stage {
             Stage::Done(reply) => (Rest::Nothing, reply),
@@ -85,9 +86,9 @@ impl<K, V, A: Allocator> Ending<K, V, A> {
     }
 
     // The stage of the call.
-    pub(super) fn into_stage<'k, F: ComputeFn<K, V>>(self) -> Stage<'k, K, V, F, A>
-        ensures ready { StageIsReady F.can_change F.never_keeps (stage_of result) }
-        ensures stage { stage_of result ≡ ending_stage self }
+    pub(super) fn into_stage<Q: Query<K>, F: ComputeFn<K, V>>(self) -> Stage<Q, K, V, F, A>
+        ensures ready { StageIsReady F.can_change F.never_keeps (stage_of Q.stands_for result) }
+        ensures stage { stage_of Q.stands_for result ≡ ending_stage self }
     {
         let Ending { rest, reply } = self;
         match rest {
@@ -150,11 +151,11 @@ impl<K, V, A: Allocator> Ending<K, V, A> {
     /// Converts the call into a [`Party`], which goes on step by step. `hash` and `processors` are those with which the call started.
     ///
     /// Constant time.
-    pub fn into_party<'k, F: ComputeFn<K, V>>(
+    pub fn into_party<Q: Query<K>, F: ComputeFn<K, V>>(
         self,
         hash: u64,
         processors: usize,
-    ) -> Party<'k, K, V, F, A>
+    ) -> Party<Q, K, V, F, A>
         ensures { result ≡ record { hash = hash; processors = processors; helped = None; stage = ending_stage self } }
     {
         Party::of_stage(self.into_stage(), hash, processors)

@@ -14,6 +14,7 @@ use super::ending::Ending;
 use super::left::Remains;
 use super::stage::Stage;
 use super::{Party, Reply};
+use flurry_base::query::Query;
 use flurry_bins_slots::{ComputeFn, Given, Slot};
 use flurry_steps_control::PublishedTable;
 use std::alloc::Allocator;
@@ -27,11 +28,12 @@ pub(crate) enum WholeMapCall {
 }
 
 // The task of a one-key call, or the call without a key.
-pub(super) fn task_for<'k, K, V, F, A: Allocator>(
-    call: Call<'k, K, V, F, A>,
-) -> Result<Task<'k, K, V, F, A>, WholeMapCall>
-    ensures { MatchResult result (λ t. stage_of_call (plain_call call.entry) ≡ AtLocate (task_of t))
-        (λ c. stage_of_call (plain_call call.entry) ≡ stage_of_call (plain_of_whole c)) }
+pub(super) fn task_for<Q: Query<K>, K: Ord, V, F, A: Allocator>(
+    call: Call<Q, K, V, F, A>,
+) -> Result<Task<Q, K, V, F, A>, WholeMapCall>
+    ensures { MatchResult result (λ t. stage_of_call (plain_call Q.stands_for call)
+        ≡ AtLocate (task_of Q.stands_for t))
+        (λ c. stage_of_call (plain_call Q.stands_for call) ≡ stage_of_call (plain_of_whole c)) }
 {
     match call {
         Call::Get(key) => Ok(Task::Find(AnswerForm::Value, Key::Lent(key))),
@@ -52,10 +54,10 @@ pub(super) fn task_for<'k, K, V, F, A: Allocator>(
 }
 
 // The task of a one-key call that owns its key, or the call without a key.
-pub(super) fn task_of_owned<'k, K, V, F, A: Allocator>(
+pub(super) fn task_of_owned<Q: Query<K>, K: Ord, V, F, A: Allocator>(
     call: OwnedCall<K, V, F>,
-) -> Result<Task<'k, K, V, F, A>, WholeMapCall>
-    ensures { MatchResult result (λ t. stage_of_call (plain_of_owned call) ≡ AtLocate (task_of t))
+) -> Result<Task<Q, K, V, F, A>, WholeMapCall>
+    ensures { MatchResult result (λ t. stage_of_call (plain_of_owned call) ≡ AtLocate (task_of Q.stands_for t))
         (λ c. stage_of_call (plain_of_owned call) ≡ stage_of_call (plain_of_whole c)) }
 {
     match call {
@@ -75,29 +77,30 @@ pub(super) fn task_of_owned<'k, K, V, F, A: Allocator>(
     }
 }
 
-impl<'k, K: Ord + Drop, V: Drop, F: ComputeFn<K, V>, A: Allocator> Party<'k, K, V, F, A> {
+impl<Q: Query<K>, K: Ord + Drop, V: Drop, F: ComputeFn<K, V>, A: Allocator> Party<Q, K, V, F, A> {
     /// Does at once the first two steps of a look-up: the step at the published table `start`, and the step at the slot there, whose bin
     /// is live. Returns the reply, since these steps finish the call.
     ///
     /// Takes as many steps as a look-up in the bin.
     pub fn look_first(
-        call: Call<'k, K, V, F, A>,
+        call: Call<Q, K, V, F, A>,
         hash: u64,
         start: &PublishedTable,
         slot: &Slot<K, V, A>,
     ) -> Reply<K, V, A>
-        requires looks { LooksUp (stage_of_call (plain_call call)) }
-        requires part { wanted_part (begun_at start.now hash 0 (stage_of_call (plain_call call)))
+        requires looks { LooksUp (stage_of_call (plain_call Q.stands_for call)) }
+        requires part { wanted_part (begun_at start.now hash 0 (stage_of_call (plain_call Q.stands_for call)))
             ≡ LookPart slot.now.table slot.now.index }
         requires live { is_live slot.now.content ≡ true }
         ensures within { IsSlot K.cmp slot.now }
-        ensures steps { BeginsAt K.cmp F.changes hash start.now (stage_of_call (plain_call call.entry)) slot.now
+        ensures steps { BeginsAt K.cmp F.changes hash start.now (stage_of_call (plain_call Q.stands_for call))
+            slot.now
             (AtDone (outcome_of result)) slot.now }
     {
         let Ok(Task::Find(form, key)) = task_for(call) else {
             unreachable!()
         };
-        let (stage, _, _) = step_lookup::<K, V, F, A>(hash, form, key, start.table(), slot);
+        let (stage, _, _) = step_lookup::<Q, K, V, F, A>(hash, form, key, start.table(), slot);
         match stage {
             Stage::Done(reply) => reply,
             _ => unreachable!(),
@@ -105,7 +108,13 @@ impl<'k, K: Ord + Drop, V: Drop, F: ComputeFn<K, V>, A: Allocator> Party<'k, K, 
     }
 }
 
-impl<'k, K: Ord + Drop, V: Drop, F: ComputeFn<K, V>, A: Allocator + Copy> Party<'k, K, V, F, A> {
+impl<Q: Query<K>, K: Ord + Drop, V: Drop, F: ComputeFn<K, V>, A: Allocator + Copy> Party<
+    Q,
+    K,
+    V,
+    F,
+    A,
+> {
     /// Does at once the first two steps of a call that may change its bin: the step at the published table `start`, and the step at the
     /// slot there, whose bin is live. The call has then decided, or memory for it could not be allocated. Returns the call, and what these
     /// steps left behind, which is to be dropped while no lock is held.
@@ -113,19 +122,20 @@ impl<'k, K: Ord + Drop, V: Drop, F: ComputeFn<K, V>, A: Allocator + Copy> Party<
     /// Takes as many steps as a look-up in the bin.
     #[inline(always)]
     pub fn write_first(
-        call: Call<'k, K, V, F, A>,
+        call: Call<Q, K, V, F, A>,
         hash: u64,
         start: &PublishedTable,
         alloc: A,
         slot: &mut Slot<K, V, A>,
-    ) -> (Ending<K, V, A>, Remains<'k, K, V, F, A>)
+    ) -> (Ending<K, V, A>, Remains<Q, K, V, F, A>)
         requires ready { CallIsReady F.can_change F.never_keeps call }
-        requires writes { BeginsToWrite (stage_of_call (plain_call call)) }
-        requires part { wanted_part (begun_at start.now hash 0 (stage_of_call (plain_call call)))
+        requires writes { BeginsToWrite (stage_of_call (plain_call Q.stands_for call)) }
+        requires part { wanted_part (begun_at start.now hash 0 (stage_of_call (plain_call Q.stands_for call)))
             ≡ BinPart slot.old.table slot.old.index }
         requires live { is_live slot.old.content ≡ true }
         ensures within { IsSlot K.cmp slot.old }
-        ensures steps { BeginsAt K.cmp F.changes hash start.now (stage_of_call (plain_call call.entry)) slot.old
+        ensures steps { BeginsAt K.cmp F.changes hash start.now (stage_of_call (plain_call Q.stands_for call))
+            slot.old
             (ending_stage result.0) slot.new }
     {
         let Ok(task) = task_for(call) else {

@@ -15,17 +15,17 @@ use std::sync::Arc;
 /// ending
 /// ```
 #[derive(Drop)]
-pub struct Remains<'k, K, V, F, A: Allocator = Global> {
-    pub(super) left: Left<'k, K, V, F, A>,
+pub struct Remains<Q, K, V, F, A: Allocator = Global> {
+    pub(super) left: Left<Q, K, V, F, A>,
 }
 
 /// What a step at a bin took out of the bin and does not return, or was given and did not keep. A call keeps it until its next step or its
 /// end, when no lock is held. No contract sees it; those of a slot say what comes out.
 #[derive(Drop)]
-pub(crate) enum Left<'k, K, V, F, A: Allocator> {
+pub(crate) enum Left<Q, K, V, F, A: Allocator> {
     Nothing,
     /// The key that the call was given, and the stored key and value.
-    Stored(Key<'k, K>, Option<Arc<K, A>>, Option<Arc<V, A>>),
+    Stored(Key<Q, K>, Option<Arc<K, A>>, Option<Arc<V, A>>),
     /// The pair that was to be removed as it was read, and the stored key.
     Seen(Seen<K, V, A>, Option<Arc<K, A>>),
     /// The key of an insertion at a present key.
@@ -33,7 +33,7 @@ pub(crate) enum Left<'k, K, V, F, A: Allocator> {
     /// The key and the value of an insertion for which memory could not be allocated.
     NotInserted(NotInserted<K, V, A>),
     /// The function of a computation at an absent key.
-    Function(Key<'k, K>, F),
+    Function(Key<Q, K>, F),
     /// The value of a computation for which memory could not be allocated.
-    NotStored(Key<'k, K>, Given<V, A>),
+    NotStored(Key<Q, K>, Given<V, A>),
 }

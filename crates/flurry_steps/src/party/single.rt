@@ -20,6 +20,7 @@ use super::call::Task;
 use super::left::Left;
 use super::stage::{GrowFor, Help, Resume, Stage};
 use super::{Event, Reply, Want};
+use flurry_base::query::Query;
 use flurry_base::sizes::bin_index;
 use flurry_bins_slots::{ComputeFn, Slot};
 use flurry_steps_claims::{Attempt, Range};
@@ -31,30 +32,30 @@ use std::mem;
 
 // A call in progress that does not visit all bins: a one-key call, or a call that makes room.
 #[derive(Drop)]
-pub(crate) struct Single<'k, K, V, F: ComputeFn<K, V>, A: Allocator> {
+pub(crate) struct Single<Q: Query<K>, K: Ord, V, F: ComputeFn<K, V>, A: Allocator> {
     pub(super) hash: u64,
     pub(super) processors: usize,
     // The table of the growth that the call has helped last, or for which it found no seat.
     pub(super) helped: Option<u8>,
     // A stage is set by `mem::replace`, and the stage before is passed to `drop`: for an assignment the proof would go through everything
     // that a stage can hold.
-    pub(super) stage: Stage<'k, K, V, F, A>,
+    pub(super) stage: Stage<Q, K, V, F, A>,
     // What the last step at a bin left behind, which no contract sees.
-    pub(super) left: Left<'k, K, V, F, A>,
+    pub(super) left: Left<Q, K, V, F, A>,
 }
 
-impl<'k, K, V, F: ComputeFn<K, V>, A: Allocator> Model for Single<'k, K, V, F, A> {
+impl<Q: Query<K>, K: Ord, V, F: ComputeFn<K, V>, A: Allocator> Model for Single<Q, K, V, F, A> {
     ghost use Rattle.flurry_steps.specs.Party.{PartyState, StageIsReady};
     ghost use Rattle.flurry_steps.specs.PartyView.{single_state_of, stage_of};
 
     ghost Value = { PartyState K V F };
 
-    ghost view = { single_state_of };
+    ghost view = { single_state_of Q.stands_for };
 
-    ghost invariant = { λ p. StageIsReady F.can_change F.never_keeps (stage_of p.stage) };
+    ghost invariant = { λ p. StageIsReady F.can_change F.never_keeps (stage_of Q.stands_for p.stage) };
 }
 
-impl<'k, K: Drop, V: Drop, F: ComputeFn<K, V>, A: Allocator> Single<'k, K, V, F, A> {
+impl<Q: Query<K>, K: Ord + Drop, V: Drop, F: ComputeFn<K, V>, A: Allocator> Single<Q, K, V, F, A> {
     // The part of the map that the next step needs.
     #[inline]
     pub(super) fn want(&self) -> Want
@@ -171,7 +172,7 @@ impl<'k, K: Drop, V: Drop, F: ComputeFn<K, V>, A: Allocator> Single<'k, K, V, F,
     }
 }
 
-impl<'k, K: Ord + Drop, V: Drop, F: ComputeFn<K, V>, A: Allocator> Single<'k, K, V, F, A> {
+impl<Q: Query<K>, K: Ord + Drop, V: Drop, F: ComputeFn<K, V>, A: Allocator> Single<Q, K, V, F, A> {
     // Does the step of a look-up at its slot. Unless the bin is unborn, fewer steps are left than before.
     pub(super) fn on_look(&mut self, slot: &Slot<K, V, A>) -> Event
         requires { wanted_part self.old ≡ LookPart slot.now.table slot.now.index }
@@ -211,7 +212,13 @@ impl<'k, K: Ord + Drop, V: Drop, F: ComputeFn<K, V>, A: Allocator> Single<'k, K,
     }
 }
 
-impl<'k, K: Ord + Drop, V: Drop, F: ComputeFn<K, V>, A: Allocator + Copy> Single<'k, K, V, F, A> {
+impl<Q: Query<K>, K: Ord + Drop, V: Drop, F: ComputeFn<K, V>, A: Allocator + Copy> Single<
+    Q,
+    K,
+    V,
+    F,
+    A,
+> {
     // Does the step, at its slot, of a call that may change its bin.
     pub(super) fn on_bin(&mut self, alloc: A, slot: &mut Slot<K, V, A>) -> Event
         requires { wanted_part self.old ≡ BinPart slot.old.table slot.old.index }
@@ -230,7 +237,7 @@ impl<'k, K: Ord + Drop, V: Drop, F: ComputeFn<K, V>, A: Allocator + Copy> Single
     }
 }
 
-impl<'k, K: Drop, V: Drop, F: ComputeFn<K, V>, A: Allocator> Single<'k, K, V, F, A> {
+impl<Q: Query<K>, K: Ord + Drop, V: Drop, F: ComputeFn<K, V>, A: Allocator> Single<Q, K, V, F, A> {
     // Whether the next step counts one pair, which the call has inserted or removed.
     #[inline]
     pub(super) fn is_counting(&self) -> bool

@@ -11,6 +11,7 @@ ghost use Rattle.flurry_steps.specs.PartyView.{help_of, resume_of, grow_for_of, 
 
 use super::call::Task;
 use super::{Event, Reply, Want};
+use flurry_base::query::Query;
 use flurry_bins_slots::{ComputeFn, MoveAnswer, Slot};
 use flurry_steps_claims::Range;
 use flurry_steps_control::Claim;
@@ -41,9 +42,9 @@ pub(crate) enum Help {
 
 /// What a call goes on with when it stops helping.
 #[derive(Drop)]
-pub(crate) enum Resume<'k, K, V, F, A: Allocator> {
+pub(crate) enum Resume<Q, K, V, F, A: Allocator> {
     /// Its bin in the given table.
-    Bin(Task<'k, K, V, F, A>, u8),
+    Bin(Task<Q, K, V, F, A>, u8),
     /// Another look at the count.
     Recount(Reply<K, V, A>),
     /// Growing to the given table.
@@ -52,13 +53,13 @@ pub(crate) enum Resume<'k, K, V, F, A: Allocator> {
 
 /// The stage of a call.
 #[derive(Drop)]
-pub(crate) enum Stage<'k, K, V, F, A: Allocator> {
+pub(crate) enum Stage<Q, K, V, F, A: Allocator> {
     /// Asking for the published table.
-    Locate(Task<'k, K, V, F, A>),
+    Locate(Task<Q, K, V, F, A>),
     /// Going to its bin in the given table.
-    Bin(Task<'k, K, V, F, A>, u8),
+    Bin(Task<Q, K, V, F, A>, u8),
     /// Helping a growth.
-    Help(Help, Resume<'k, K, V, F, A>),
+    Help(Help, Resume<Q, K, V, F, A>),
     /// Counting the pair that it removed.
     Uncount(Reply<K, V, A>),
     /// Counting the pair that it inserted.
@@ -145,12 +146,12 @@ impl Help {
     }
 }
 
-impl<'k, K, V, F, A: Allocator> Resume<'k, K, V, F, A> {
+impl<Q: Query<K>, K: Ord, V, F, A: Allocator> Resume<Q, K, V, F, A> {
     ghost use Rattle.flurry_steps.specs.Party.{resumed_stage};
 
     // The stage at which the call goes on when helping ends.
-    pub(super) fn resume(self) -> Stage<'k, K, V, F, A>
-        ensures { stage_of result ≡ resumed_stage (resume_of self.entry) }
+    pub(super) fn resume(self) -> Stage<Q, K, V, F, A>
+        ensures { stage_of Q.stands_for result ≡ resumed_stage (resume_of Q.stands_for self) }
     {
         match self {
             Resume::Bin(task, table) => Stage::Bin(task, table),
@@ -160,12 +161,12 @@ impl<'k, K, V, F, A: Allocator> Resume<'k, K, V, F, A> {
     }
 }
 
-impl<K, V, A: Allocator> GrowFor<K, V, A> {
+impl<K: Ord, V, A: Allocator> GrowFor<K, V, A> {
     // The stage at which the call goes on when growing ends.
-    pub(super) fn end<'k, F: ComputeFn<K, V>>(self) -> Stage<'k, K, V, F, A>
+    pub(super) fn end<Q: Query<K>, F: ComputeFn<K, V>>(self) -> Stage<Q, K, V, F, A>
         requires { GrowForIsReady (grow_for_of self) }
-        ensures ready { StageIsReady F.can_change F.never_keeps (stage_of result) }
-        ensures stage { stage_of result ≡ stage_grown (grow_for_of self) }
+        ensures ready { StageIsReady F.can_change F.never_keeps (stage_of Q.stands_for result) }
+        ensures stage { stage_of Q.stands_for result ≡ stage_grown (grow_for_of self) }
     {
         match self {
             GrowFor::Insert(reply) => Stage::Count(reply),

@@ -75,7 +75,7 @@ fn do_steps<A: Allocator + Copy, F: ComputeFn<u64, u64>, R: Wait>(
 
 // Does the next steps of a call, which is lent, since a proof goes through all that a loop owns.
 fn acts<A: Allocator + Copy, F: ComputeFn<u64, u64>, R: Wait>(
-    party: &mut Party<'_, u64, u64, F, A>,
+    party: &mut Party<&u64, u64, u64, F, A>,
     lock_field: &mut CallField<'_, R, u64, u64, A>,
     most: u64,
     work: &Work,

@@ -117,7 +117,7 @@ fn finds<K: Ord + Copy + Drop, A: Allocator + Copy, R: Wait>(
 ) -> bool {
     let reply = match way {
         Way::AtOnce => {
-            let call: Call<'_, K, u64, NoFn, A> = Call::ContainsKey(key);
+            let call: Call<&K, K, u64, NoFn, A> = Call::ContainsKey(key);
             reply_to(&LockField::new(rt, locks), call, HASH, 1)
         }
         Way::Driven => {

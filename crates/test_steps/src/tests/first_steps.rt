@@ -30,7 +30,7 @@ impl Room for Nowhere {
 
 // Does the steps, and drops what they leave behind.
 fn begun<'k, F: ComputeFn<u64, u64>>(
-    call: Call<'k, u64, u64, F>,
+    call: Call<&'k u64, u64, u64, F>,
     hash: u64,
     start: &PublishedTable,
     alloc: Global,
@@ -63,7 +63,7 @@ fn an_insertion_of_a_new_key(rt: HostRuntime) {
     let start = start_of_sixteen(&rt);
     let mut slot = Slot::live(4, 5, Bin::new());
     let value = Arc::new(rt.alloc(), 50u64).expect(&rt, "memory for the value");
-    let call: Call<'_, u64, u64, NoFn> = Call::Insert(5, value);
+    let call: Call<&u64, u64, u64, NoFn> = Call::Insert(5, value);
     let ending = begun(call, 5, &start, rt.alloc(), &mut slot);
     assert_same(&rt, ending.is_counting(), true);
     assert_same(

@@ -212,7 +212,7 @@ fn lent(rt: &impl Abort, map: &mut Map, table: u8, index: usize) -> Slot<u64, u6
 // Does the step of a call that needs to read a slot.
 fn look<'k, F: ComputeFn<u64, u64>>(
     rt: &impl Abort,
-    party: &mut Party<'k, u64, u64, F>,
+    party: &mut Party<&'k u64, u64, u64, F>,
     map: &mut Map,
     table: u8,
     index: usize,
@@ -228,7 +228,7 @@ fn look<'k, F: ComputeFn<u64, u64>>(
 // Does the step of a call that needs to write a slot.
 fn change<'k, F: ComputeFn<u64, u64>>(
     rt: &(impl Abort + AllocGlobal),
-    party: &mut Party<'k, u64, u64, F>,
+    party: &mut Party<&'k u64, u64, u64, F>,
     map: &mut Map,
     table: u8,
     index: usize,
@@ -244,7 +244,7 @@ fn change<'k, F: ComputeFn<u64, u64>>(
 // Does the step of a call that needs to move a slot into its halves.
 fn move_bin<'k, F: ComputeFn<u64, u64>>(
     rt: &impl Abort,
-    party: &mut Party<'k, u64, u64, F>,
+    party: &mut Party<&'k u64, u64, u64, F>,
     map: &mut Map,
     table: u8,
     index: usize,
@@ -266,7 +266,7 @@ fn move_bin<'k, F: ComputeFn<u64, u64>>(
 
 // Does the step of a call that needs a seat at the board of the growth from `table`.
 fn take_seat<'k, F: ComputeFn<u64, u64>>(
-    party: &mut Party<'k, u64, u64, F>,
+    party: &mut Party<&'k u64, u64, u64, F>,
     map: &mut Map,
     table: u8,
 ) -> Event
@@ -278,7 +278,7 @@ fn take_seat<'k, F: ComputeFn<u64, u64>>(
 
 // Does the step of a call that needs the board of the growth from `table`.
 fn claim_or_report<'k, F: ComputeFn<u64, u64>>(
-    party: &mut Party<'k, u64, u64, F>,
+    party: &mut Party<&'k u64, u64, u64, F>,
     map: &mut Map,
     table: u8,
 ) -> Event
@@ -294,7 +294,7 @@ fn claim_or_report<'k, F: ComputeFn<u64, u64>>(
 
 // Does the step of a call that gives back its seat at the board of the growth from `table`.
 fn give_seat<'k, F: ComputeFn<u64, u64>>(
-    party: &mut Party<'k, u64, u64, F>,
+    party: &mut Party<&'k u64, u64, u64, F>,
     map: &mut Map,
     table: u8,
 ) -> Event
@@ -307,7 +307,7 @@ fn give_seat<'k, F: ComputeFn<u64, u64>>(
 // Does the next step of a call, at the part that it needs.
 fn step<'k, F: ComputeFn<u64, u64>>(
     rt: &(impl Abort + AllocGlobal),
-    party: &mut Party<'k, u64, u64, F>,
+    party: &mut Party<&'k u64, u64, u64, F>,
     map: &mut Map,
 ) -> Event {
     match party.want() {
@@ -325,7 +325,7 @@ fn step<'k, F: ComputeFn<u64, u64>>(
 // Does the next steps of a call, at most `count`, and returns their events.
 fn steps<'k, F: ComputeFn<u64, u64>>(
     rt: &(impl Abort + AllocGlobal),
-    party: &mut Party<'k, u64, u64, F>,
+    party: &mut Party<&'k u64, u64, u64, F>,
     map: &mut Map,
     count: u64,
 ) -> Vec<Event> {
@@ -343,7 +343,7 @@ fn steps<'k, F: ComputeFn<u64, u64>>(
 // Returns the reply of a call that is done. The call stays done, and its reply can be taken only once.
 fn reply_of<'k, F: ComputeFn<u64, u64>>(
     rt: &impl Abort,
-    party: &mut Party<'k, u64, u64, F>,
+    party: &mut Party<&'k u64, u64, u64, F>,
 ) -> Told {
     assert_same(rt, party.reply().is_some(), true);
     let told = plain(party.take_reply().expect(rt, "the call is done"));
@@ -359,7 +359,7 @@ fn reply_of<'k, F: ComputeFn<u64, u64>>(
 // Does the steps of a call to its end, and returns their events and the reply.
 fn end<'k, F: ComputeFn<u64, u64>>(
     rt: &(impl Abort + AllocGlobal),
-    party: &mut Party<'k, u64, u64, F>,
+    party: &mut Party<&'k u64, u64, u64, F>,
     map: &mut Map,
 ) -> (Vec<Event>, Told) {
     let events = steps(rt, party, map, 10000);
@@ -372,7 +372,7 @@ fn run<'k, F: ComputeFn<u64, u64>>(
     rt: &(impl Abort + AllocGlobal),
     map: &mut Map,
     hash: u64,
-    call: Call<'k, u64, u64, F>,
+    call: Call<&'k u64, u64, u64, F>,
 ) -> (Vec<Event>, Told)
     requires { CallIsReady F.can_change F.never_keeps call }
 {
@@ -386,7 +386,10 @@ fn run<'k, F: ComputeFn<u64, u64>>(
 type Asked = OwnedCall<u64, u64, Becomes>;
 
 // Returns the call of a row.
-fn call_of<'k>(rt: &(impl Abort + AllocGlobal), asked: &'k Asked) -> Call<'k, u64, u64, Becomes> {
+fn call_of<'k>(
+    rt: &(impl Abort + AllocGlobal),
+    asked: &'k Asked,
+) -> Call<&'k u64, u64, u64, Becomes> {
     match asked {
         OwnedCall::Get(key) => Call::Get(key),
         OwnedCall::GetKeyValue(key) => Call::GetKeyValue(key),
@@ -543,7 +546,7 @@ enum Act<'r> {
 // Does the steps that move `count` bins of a table, from the last one down.
 fn moves<'k, F: ComputeFn<u64, u64>>(
     rt: &(impl Abort + AllocGlobal),
-    party: &mut Party<'k, u64, u64, F>,
+    party: &mut Party<&'k u64, u64, u64, F>,
     map: &mut Map,
     table: u8,
     count: usize,
@@ -558,7 +561,7 @@ fn moves<'k, F: ComputeFn<u64, u64>>(
 // Does the first step of a call at the certificate of the published table.
 fn begins_at_a_start<'k, F: ComputeFn<u64, u64>>(
     rt: &impl Abort,
-    party: &mut Party<'k, u64, u64, F>,
+    party: &mut Party<&'k u64, u64, u64, F>,
     map: &Map,
 ) {
     let start = map.control.start().expect(rt, "a table is published");
@@ -569,7 +572,9 @@ fn begins_at_a_start<'k, F: ComputeFn<u64, u64>>(
 }
 
 // Returns the pair that a walk has read last.
-fn last_read<'k, F: ComputeFn<u64, u64>>(party: &Party<'k, u64, u64, F>) -> Option<(u64, u64)> {
+fn last_read<'k, F: ComputeFn<u64, u64>>(
+    party: &Party<&'k u64, u64, u64, F>,
+) -> Option<(u64, u64)> {
     match party.last_read() {
         Some((key, value)) => Some((*key, *value)),
         None => None,
@@ -579,7 +584,7 @@ fn last_read<'k, F: ComputeFn<u64, u64>>(party: &Party<'k, u64, u64, F>) -> Opti
 // Returns what a walk has read last.
 fn seen_by<'k, F: ComputeFn<u64, u64>>(
     rt: &impl Abort,
-    walk: &Party<'k, u64, u64, F>,
+    walk: &Party<&'k u64, u64, u64, F>,
 ) -> Seen<u64, u64> {
     let seen = walk.seen().expect(rt, "a further owner");
     seen.expect(rt, "a pair was read")
@@ -588,7 +593,7 @@ fn seen_by<'k, F: ComputeFn<u64, u64>>(
 // Does the act numbered `at` with a call in progress, and checks what it sees.
 fn acts<'k, F: ComputeFn<u64, u64>>(
     rt: &(impl Abort + AllocGlobal),
-    party: &mut Party<'k, u64, u64, F>,
+    party: &mut Party<&'k u64, u64, u64, F>,
     map: &mut Map,
     at: usize,
     act: Act<'_>,
@@ -626,7 +631,7 @@ fn follows_call<'k, F: ComputeFn<u64, u64>>(
     rt: &(impl Abort + AllocGlobal),
     map: &mut Map,
     hash: u64,
-    call: Call<'k, u64, u64, F>,
+    call: Call<&'k u64, u64, u64, F>,
     acts_on: &[Act<'_>],
 )
     requires { CallIsReady F.can_change F.never_keeps call }

@@ -19,7 +19,7 @@ fn walked<F: ComputeFn<u64, u64>, R: Wait + Abort>(
 ) -> Seen<u64, u64>
     requires { (f : F) → F.can_change f × F.never_keeps f }
 {
-    let mut walk: Party<'_, u64, u64, F> = Party::from_owned(OwnedCall::Walk, 0, 1);
+    let mut walk: Party<&u64, u64, u64, F> = Party::from_owned(OwnedCall::Walk, 0, 1);
     drop(drive(rt, &mut walk, parts));
     let seen = seen_by(rt, &walk);
     drop(walk);
@@ -28,7 +28,7 @@ fn walked<F: ComputeFn<u64, u64>, R: Wait + Abort>(
 
 fn seen_by<F: ComputeFn<u64, u64>>(
     rt: &impl Abort,
-    walk: &Party<'_, u64, u64, F>,
+    walk: &Party<&u64, u64, u64, F>,
 ) -> Seen<u64, u64> {
     walk.seen()
         .expect(rt, "memory for the pair")
@@ -42,7 +42,7 @@ fn removal<F: ComputeFn<u64, u64>, R: Wait>(
     seen: Seen<u64, u64>,
 ) -> Plain {
     let hash = LowHashBuilder.hash_one(seen.key());
-    let mut party: Party<'_, u64, u64, F> = Party::new(Call::RemoveSeen(seen), hash, 1);
+    let mut party: Party<&u64, u64, u64, F> = Party::new(Call::RemoveSeen(seen), hash, 1);
     let reply = drive(rt, &mut party, parts);
     drop(party);
     without_owners(reply)

@@ -16,6 +16,7 @@ use crate::bin::node::{BoxedNode, Link};
 use crate::bin::ordered::Ordered;
 use crate::bin::tree::{self, TreeBin};
 use flurry_base::given::{NotInserted, Replaced};
+use flurry_base::query::Query;
 use flurry_base::sizes::{MAX_LIST_LEN, MIN_TREE_LEN};
 use std::alloc::{Allocator, Global};
 use std::sync::Arc;
@@ -132,9 +133,10 @@ impl<K: Ord + Drop, V: Drop, A: Allocator> Kind<K, V, A> {
     }
 
     // Removes the node at a place, and returns the rest and the node, if there is one. A tree that is left with six nodes then becomes a list.
-    pub(super) fn remove(self, hash: u64, key: &K) -> (Kind<K, V, A>, Link<K, V, A>)
-        ensures removed { option_map (λ b. entry_of b.value) result.1 ≡ entry_at K.cmp hash key.now (kind_entries self) }
-        ensures entries { kind_entries result.0 ≡ without K.cmp hash key.now (kind_entries self) }
+    pub(super) fn remove<Q: Query<K>>(self, hash: u64, key: Q) -> (Kind<K, V, A>, Link<K, V, A>)
+        ensures removed { option_map (λ b. entry_of b.value) result.1
+            ≡ entry_at K.cmp hash (Q.stands_for key) (kind_entries self) }
+        ensures entries { kind_entries result.0 ≡ without K.cmp hash (Q.stands_for key) (kind_entries self) }
         ensures kind { kind_is_tree result.0
             ≡ (kind_is_tree self && nat_le MIN_TREE_LEN (length (kind_entries result.0))) }
     {
@@ -165,16 +167,18 @@ impl<K: Ord + Drop, V: Drop, A: Allocator> Kind<K, V, A> {
     }
 
     // Replaces the value at a place that is taken, and returns the old value.
-    pub(super) fn write(
+    pub(super) fn write<Q: Query<K>>(
         self,
         hash: u64,
-        key: &K,
+        key: Q,
         value: Arc<V, A>,
         number: u64,
     ) -> (Kind<K, V, A>, Arc<V, A>)
-        requires { IsSome (entry_at K.cmp hash key.now (kind_entries self)) }
-        ensures old { option_map (λ e. e.value) (entry_at K.cmp hash key.now (kind_entries self)) ≡ Some result.1 }
-        ensures entries { kind_entries result.0 ≡ with_value_at K.cmp hash key.now value number (kind_entries self) }
+        requires { IsSome (entry_at K.cmp hash (Q.stands_for key) (kind_entries self)) }
+        ensures old { option_map (λ e. e.value) (entry_at K.cmp hash (Q.stands_for key) (kind_entries self))
+            ≡ Some result.1 }
+        ensures entries { kind_entries result.0 ≡ with_value_at K.cmp hash (Q.stands_for key) value number
+            (kind_entries self) }
         ensures kind { kind_is_tree result.0 ≡ kind_is_tree self }
     {
         match self {
@@ -186,12 +190,12 @@ impl<K: Ord + Drop, V: Drop, A: Allocator> Kind<K, V, A> {
             }
             Kind::AsList(list) => {
                 let mut list = list.into_list();
-                let old = list.replace(hash, key, value, number);
+                let old = list.write(hash, key, value, number);
                 (Kind::of_list(list), old)
             }
             Kind::AsTree(tree) => {
                 let mut tree = tree.into_tree();
-                let old = tree.replace(hash, key, value, number);
+                let old = tree.write(hash, key, value, number);
                 (Kind::of_tree(tree), old)
             }
         }

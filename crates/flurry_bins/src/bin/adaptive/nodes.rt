@@ -8,6 +8,7 @@ ghost use Rattle.flurry_base.specs.declared.sizes.TheConstants.{MAX_LEN};
 use crate::bin::list::ListBin;
 use crate::bin::node::{BoxedNode, Node};
 use crate::bin::tree::TreeBin;
+use flurry_base::query::Query;
 use std::alloc::{Allocator, Global};
 use std::cmp::Ordering;
 
@@ -22,10 +23,10 @@ pub(super) struct LoneNode<K: Ord, V, A: Allocator = Global> {
 
 impl<K: Ord + Drop, V: Drop, A: Allocator> LoneNode<K, V, A> {
     // Whether the node is the one of a hash and a key.
-    pub(super) fn is_at(&self, hash: u64, key: &K) -> bool
-        ensures { result ≡ is_at K.cmp hash key.now (entry_of self.now.node.value) }
+    pub(super) fn is_at<Q: Query<K>>(&self, hash: u64, key: Q) -> bool
+        ensures { result ≡ is_at K.cmp hash (Q.stands_for key) (entry_of self.now.node.value) }
     {
-        self.hash == hash && key.cmp(self.node.entry().key.as_ref()) == Ordering::Equal
+        self.hash == hash && key.compare(self.node.entry().key.as_ref()) == Ordering::Equal
     }
 }
 

@@ -17,7 +17,7 @@ returns-then-is_live g c =
     let table : c.deref.result.now.table ≡ c.args.start.now = grind (arith, common_steps, equal, c.at.ensures.at, c.table-table.ensures.value) in
     let index : c.deref.result.now.index ≡ c.args.hash % 2 ^ c.args.start.now = grind (arith, common_steps, equal, c.at.ensures.at, c.table-table.ensures.value, c.bin_index-index.ensures.place) in
     let within : c.args.start.now ≤ MAX_TABLE = omega (arith, c.table-table.ensures.value, c.table-table.ensures.within) in
-    let wants : wanted_part (begun_at c.args.start.now c.args.hash c.args.processors (stage_of_call (plain_call c.args.call))) ≡ LookPart q.table q.index =
-    rw (same, table, index) (look_wants c.args.call c.args.start.now c.args.hash c.args.processors c.requires.looks) in
+    let wants : wanted_part (begun_at c.args.start.now c.args.hash c.args.processors (stage_of_call (plain_call g.Q.Query.stands_for c.args.call))) ≡ LookPart q.table q.index =
+    rw (same, table, index) (look_wants g.Q.Query.stands_for c.args.call c.args.start.now c.args.hash c.args.processors c.requires.looks) in
     done_by g.K.Ord.cmp g.F.ComputeFn.changes (outcome_of c.look_first.result) _ _ _
-    (look_begun g.K.Ord.cmp g.F.ComputeFn.changes c.args.hash c.args.processors c.args.start.now _ _ (look_locates c.args.call c.requires.looks) within q wants c.look_first.ensures.within c.look_first.ensures.steps)
+    (look_begun g.K.Ord.cmp g.F.ComputeFn.changes c.args.hash c.args.processors c.args.start.now _ _ (look_locates g.Q.Query.stands_for c.args.call c.requires.looks) within q wants c.look_first.ensures.within c.look_first.ensures.steps)

@@ -17,6 +17,6 @@ returns-then-is_live g c =
     let index : c.deref.result.now.index ≡ c.args.hash % 2 ^ c.args.start.now = grind (arith, common_steps, equal, c.at.ensures.at, c.table-table.ensures.value, c.bin_index-index.ensures.place) in
     let within : c.args.start.now ≤ MAX_TABLE = omega (arith, c.table-table.ensures.value, c.table-table.ensures.within) in
     λ n.
-    let wants : wanted_part (begun_at c.args.start.now c.args.hash n (stage_of_call (plain_call c.args.call))) ≡ BinPart q.table q.index =
-    rw (same, table, index) (write_wants c.args.call c.args.start.now c.args.hash n c.requires.writes) in
-    write_begun g.K.Ord.cmp g.F.ComputeFn.changes c.args.hash n c.args.start.now _ _ (write_locates c.args.call c.requires.writes) within q c.write_first.new.slot wants c.write_first.ensures.within c.write_first.ensures.steps
+    let wants : wanted_part (begun_at c.args.start.now c.args.hash n (stage_of_call (plain_call g.Q.Query.stands_for c.args.call))) ≡ BinPart q.table q.index =
+    rw (same, table, index) (write_wants g.Q.Query.stands_for c.args.call c.args.start.now c.args.hash n c.requires.writes) in
+    write_begun g.K.Ord.cmp g.F.ComputeFn.changes c.args.hash n c.args.start.now _ _ (write_locates g.Q.Query.stands_for c.args.call c.requires.writes) within q c.write_first.new.slot wants c.write_first.ensures.within c.write_first.ensures.steps

@@ -15,7 +15,7 @@ fn first_read<F: ComputeFn<u64, u64>>(
     map: &mut Map,
 ) -> Seen<u64, u64> {
     go_on(rt, map, &ONE_AND_SEVENTEEN);
-    let mut walk: Party<'_, u64, u64, F> = Party::new(Call::Walk, 0, 1);
+    let mut walk: Party<&u64, u64, u64, F> = Party::new(Call::Walk, 0, 1);
     let events = steps(rt, &mut walk, map, 3);
     assert_same(
         rt,
@@ -34,7 +34,7 @@ fn removes(
     map: &mut Map,
     seen: Seen<u64, u64>,
 ) -> (Vec<Event>, Told) {
-    let call: Call<'_, u64, u64, NoFn> = Call::RemoveSeen(seen);
+    let call: Call<&u64, u64, u64, NoFn> = Call::RemoveSeen(seen);
     run(rt, map, 1, call)
 }
 

@@ -12,7 +12,7 @@ use std::process::Abort;
 // Does the steps of a call that counts at the tally. Returns what the call needs after that, and its reply.
 fn counts_at<'k, F: ComputeFn<u64, u64>>(
     rt: &(impl Abort + AllocGlobal),
-    party: &mut Party<'k, u64, u64, F>,
+    party: &mut Party<&'k u64, u64, u64, F>,
     map: &mut Map,
     tally: &mut Tally,
 ) -> (Want, Told) {
@@ -35,7 +35,7 @@ fn counted<'k, F: ComputeFn<u64, u64>>(
     rt: &(impl Abort + AllocGlobal),
     map: &mut Map,
     tally: &mut Tally,
-    call: Call<'k, u64, u64, F>,
+    call: Call<&'k u64, u64, u64, F>,
 ) -> (Want, Told)
     requires { CallIsReady F.can_change F.never_keeps call }
 {

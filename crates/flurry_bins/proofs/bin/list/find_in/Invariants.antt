@@ -7,8 +7,8 @@ use Rattle.flurry_base.specs.declared.sizes.TheConstants.{MAX_LEN}
 abbrev pub invariant-loop-link : goal.invariant-loop-link
 invariant-loop-link g l = record {
   ascending : IsAscending g.K.Ord.cmp (chain_from l.link);
-  found : entry_at g.K.Ord.cmp l.hash l.key (chain_from l.link) ≡ entry_at g.K.Ord.cmp l.hash l.key (chain_from l.first);
-  visits : l.visits + length (list_way g.K.Ord.cmp l.hash l.key (chain_from l.link)) ≡ length (list_way g.K.Ord.cmp l.hash l.key (chain_from l.first));
+  found : entry_at g.K.Ord.cmp l.hash (g.Q.Query.stands_for l.key) (chain_from l.link) ≡ entry_at g.K.Ord.cmp l.hash (g.Q.Query.stands_for l.key) (chain_from l.first);
+  visits : l.visits + length (list_way g.K.Ord.cmp l.hash (g.Q.Query.stands_for l.key) (chain_from l.link)) ≡ length (list_way g.K.Ord.cmp l.hash (g.Q.Query.stands_for l.key) (chain_from l.first));
   short : l.visits + length (chain_from l.link) ≤ MAX_LEN;
 }
 

@@ -7,8 +7,8 @@ use Rattle.flurry_base.specs.declared.sizes.TheConstants.{MAX_LEN}
 abbrev pub invariant-loop-link : goal.invariant-loop-link
 invariant-loop-link g l = record {
   ascending : IsAscending g.K.Ord.cmp (inorder (shape_from l.link));
-  found : entry_at g.K.Ord.cmp l.hash l.key (inorder (shape_from l.link)) ≡ entry_at g.K.Ord.cmp l.hash l.key (inorder (shape_from l.root));
-  visits : l.visits + length (tree_way g.K.Ord.cmp l.hash l.key (shape_from l.link)) ≡ length (tree_way g.K.Ord.cmp l.hash l.key (shape_from l.root));
+  found : entry_at g.K.Ord.cmp l.hash (g.Q.Query.stands_for l.key) (inorder (shape_from l.link)) ≡ entry_at g.K.Ord.cmp l.hash (g.Q.Query.stands_for l.key) (inorder (shape_from l.root));
+  visits : l.visits + length (tree_way g.K.Ord.cmp l.hash (g.Q.Query.stands_for l.key) (shape_from l.link)) ≡ length (tree_way g.K.Ord.cmp l.hash (g.Q.Query.stands_for l.key) (shape_from l.root));
   short : l.visits + length (inorder (shape_from l.link)) ≤ MAX_LEN;
 }
 

@@ -7,4 +7,4 @@ use Rattle.flurry_bins_slots.proofs.live.LiveBin.find.Goals as goal
 pub returns : goal.returns
 returns g c =
     rw (← c.self.view_is)
-    (copied numbered_pair c.find.result.0 ∙ ap (option_map numbered_pair) c.find.ensures.found ∙ sym (live_found c.self.inside.bin c.self.inside.writes c.args.hash c.args.key.now))
+    (copied numbered_pair c.find.result.0 ∙ ap (option_map numbered_pair) c.find.ensures.found ∙ sym (live_found c.self.inside.bin c.self.inside.writes c.args.hash (g.Q.Query.stands_for c.args.key)))

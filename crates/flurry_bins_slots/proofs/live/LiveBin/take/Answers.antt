@@ -7,7 +7,7 @@ use Rattle.flurry_bins_slots.proofs.live.LiveBin.take.Goals.{in-Some, in-None}
 
 pub returns-clause-entry : goal.returns-clause-entry
 returns-clause-entry g c =
-    let here = live_found c.self.inside.bin c.self.inside.writes c.args.hash c.args.key.now in
+    let here = live_found c.self.inside.bin c.self.inside.writes c.args.hash (g.Q.Query.stands_for c.args.key) in
     rw (← c.self.view_is, here, ← c.remove.ensures.removed)
     (elim c.match-remove.branch [
       | in-Some w ↦ rw (w.result-is, w.in-Some.is) (ap (λ e. Some (numbered_pair e)) (w.into_entry.ensures ∙ ap entry_of w.into_inner.ensures))
@@ -17,4 +17,4 @@ returns-clause-entry g c =
 pub returns-clause-after : goal.returns-clause-after
 returns-clause-after g c =
     rw (← c.self.view_is)
-    (live_taken c.self.inside.bin c.self.inside.writes g.met.K.Ord.total c.remove.new.self c.args.hash c.args.key.now c.remove.ensures.after c.remove.ensures.kind)
+    (live_taken c.self.inside.bin c.self.inside.writes g.met.K.Ord.total c.remove.new.self c.args.hash (g.Q.Query.stands_for c.args.key) c.remove.ensures.after c.remove.ensures.kind)

@@ -8,5 +8,5 @@ invariant_of-self-in-Live g c =
     (record {
       table = c.self.invariant.table;
       index = c.self.invariant.index;
-      content = live_in_altered g.met.K.Ord.total c.self.inside.table c.self.inside.index (1 * 2 ^ c.self.inside.table % 18446744073709551616) g.F.ComputeFn.changes c.args.f false c.self.inside.live c.alter_present.new.self c.args.hash c.args.key.now _ (rw (← c.self.view_is) at c.requires.region) (rw c.in-Live.is at c.self.invariant.content) c.in_ok-alter_present-in-Live.ensures.done;
+      content = live_in_altered g.met.K.Ord.total c.self.inside.table c.self.inside.index (1 * 2 ^ c.self.inside.table % 18446744073709551616) g.F.ComputeFn.changes c.args.f false c.self.inside.live c.alter_present.new.self c.args.hash (g.Q.Query.stands_for c.args.key) _ (rw (← c.self.view_is) at c.requires.region) (rw c.in-Live.is at c.self.invariant.content) c.in_ok-alter_present-in-Live.ensures.done;
     })

@@ -8,7 +8,7 @@ invariant_of-self g c =
     (record {
       table = c.self.invariant.table;
       index = c.self.invariant.index;
-      content = rw c.take.ensures.after (live_in_taken g.met.K.Ord.total _ _ _ c.args.hash c.args.key.now (rw c.in-Live.is at c.self.invariant.content));
+      content = rw c.take.ensures.after (live_in_taken g.met.K.Ord.total _ _ _ c.args.hash (g.Q.Query.stands_for c.args.key) (rw c.in-Live.is at c.self.invariant.content));
     })
 
 pub returns-in-Live-clause-reply : goal.returns-in-Live-clause-reply

@@ -7,5 +7,5 @@ invariant_of-self g c =
     (record {
       table = c.self.invariant.table;
       index = c.self.invariant.index;
-      content = rw c.take_if.ensures.after (live_in_taken_if g.met.K.Ord.total _ _ c.args.number _ c.args.hash c.args.key.now (rw c.in-Live.is at c.self.invariant.content));
+      content = rw c.take_if.ensures.after (live_in_taken_if g.met.K.Ord.total _ _ c.args.number _ c.args.hash (g.Q.Query.stands_for c.args.key) (rw c.in-Live.is at c.self.invariant.content));
     })

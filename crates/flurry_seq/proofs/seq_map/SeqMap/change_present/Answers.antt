@@ -15,7 +15,7 @@ IsChange-present None w new present value = absurd (false≢true present)
 pub returns-in_ok-renew-in-Some-clause-reply : goal.returns-in_ok-renew-in-Some-clause-reply
 returns-in_ok-renew-in-Some-clause-reply g c =
     let new = c.in_ok-renew-in-Some in
-    let before = pair_at g.K.Ord.cmp c.args.self.now.pairs c.args.key.now in
+    let before = pair_at g.K.Ord.cmp c.args.self.now.pairs (g.Q.Query.stands_for c.args.key) in
     rw c.in-Some.is (
       IsChange-present before c.in-Some.value new.field-0 c.requires.present new.ensures.value,
       ap (λ m. m.pairs) new.ensures.after,

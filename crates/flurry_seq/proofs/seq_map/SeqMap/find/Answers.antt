@@ -5,6 +5,6 @@ use Rattle.flurry_seq.proofs.seq_map.SeqMap.find.Goals as goal
 
 pub returns : goal.returns
 returns g c =
-    let hash : c.args.hash ≡ g.S.KeyHasher.hash_of c.self.inside.hasher c.args.key.now = c.requires ∙ ap (λ m. g.S.KeyHasher.hash_of m.hasher c.args.key.now) (sym c.self.view_is) in
+    let hash : c.args.hash ≡ g.S.KeyHasher.hash_of c.self.inside.hasher (g.Q.Query.stands_for c.args.key) = c.requires ∙ ap (λ m. g.S.KeyHasher.hash_of m.hasher (g.Q.Query.stands_for c.args.key)) (sym c.self.view_is) in
     pairs_mapped c.find.result ∙ ap (option_map pair_of) (rw hash at c.find.ensures)
-    ∙ rw (← c.self.view_is) (sym (at_map g.met.K.Ord.total (g.S.KeyHasher.hash_of c.self.inside.hasher) (g.met.S.KeyHasher.alike c.self.inside.hasher) c.self.inside.table c.args.key.now c.self.invariant.placed))
+    ∙ rw (← c.self.view_is) (sym (at_map g.met.K.Ord.total (g.S.KeyHasher.hash_of c.self.inside.hasher) (g.met.S.KeyHasher.alike c.self.inside.hasher) c.self.inside.table (g.Q.Query.stands_for c.args.key) c.self.invariant.placed))

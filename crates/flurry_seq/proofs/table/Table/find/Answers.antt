@@ -8,4 +8,4 @@ pub returns : goal.returns
 returns g c =
     rw (← c.self.view_is)
     (copied pair_of_entry c.find.result.0 ∙ ap (option_map pair_of_entry) c.find.ensures.found
-    ∙ sym (entry_here c.self.inside.bins.items c.args.hash c.place.result c.index-bin.result.now c.place.ensures.below c.index-bin.ensures c.place.ensures.place c.args.key.now))
+    ∙ sym (entry_here c.self.inside.bins.items c.args.hash c.place.result c.index-bin.result.now c.place.ensures.below c.index-bin.ensures c.place.ensures.place (g.Q.Query.stands_for c.args.key)))

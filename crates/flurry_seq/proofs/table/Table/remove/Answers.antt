@@ -10,7 +10,7 @@ use Rattle.flurry_seq.proofs.table.Table.remove.Goals.{in-Some, in-None}
 
 pub returns-clause-entry : goal.returns-clause-entry
 returns-clause-entry g c =
-    let here = entry_here c.self.inside.bins.items c.args.hash c.place-at.result c.index_mut-bin.result.now c.place-at.ensures.below c.index_mut-bin.ensures.value c.place-at.ensures.place c.args.key.now in
+    let here = entry_here c.self.inside.bins.items c.args.hash c.place-at.result c.index_mut-bin.result.now c.place-at.ensures.below c.index_mut-bin.ensures.value c.place-at.ensures.place (g.Q.Query.stands_for c.args.key) in
     rw (← c.self.view_is, here, ← c.remove.ensures.removed)
     (elim c.match-remove.branch [
       | in-Some w ↦ rw (w.result-is, w.in-Some.is) (ap (λ e. Some (pair_of_entry e)) (w.into_entry.ensures ∙ ap entry_of w.into_inner.ensures))
@@ -21,7 +21,7 @@ pub returns-clause-after : goal.returns-clause-after
 returns-clause-after g c =
     rw (← c.self.view_is)
     (removed_here c.self.inside.bins.items c.args.hash c.place-at.result c.index_mut-bin.result.now c.place-at.ensures.below c.index_mut-bin.ensures.value c.place-at.ensures.place
-    g.met.K.Ord.total c.args.key.now c.remove.new.self c.remove.ensures.after)
+    g.met.K.Ord.total (g.Q.Query.stands_for c.args.key) c.remove.new.self c.remove.ensures.after)
 
 pub invariant_of-self : goal.invariant_of-self
 invariant_of-self g c =

@@ -21,11 +21,11 @@ loop-preserved g c = (
       (λ y same. elim c.if-not-keep.branch [
         | then-not-keep+in-Some-1 w ↦ inr (
           says_of_pair c.deref.ensures c.deref-in-loop.ensures y same (goal.F-step g) _ _ _ _ w.if-not-keep.true c.keep.ensures,
-          (option_map arc_value w.remove.result, at_key_read _ _ w.deref-then-not-keep.ensures y same (λ k. IsAnswerOf g.K.Ord.cmp g.S.KeyHasher.hash_of c.args.self.now (Remove k) (value_answer w.remove.result)) w.remove.ensures),
+          (option_map arc_value w.remove.result, at_key_read _ _ w.as_ref.ensures y same (λ k. IsAnswerOf g.K.Ord.cmp g.S.KeyHasher.hash_of c.args.self.now (Remove k) (value_answer w.remove.result)) w.remove.ensures),
         )
         | then-not-keep+in-None-1 w ↦ inr (
           says_of_pair c.deref.ensures c.deref-in-loop.ensures y same (goal.F-step g) _ _ _ _ w.if-not-keep.true c.keep.ensures,
-          (option_map arc_value w.remove.result, at_key_read _ _ w.deref-then-not-keep.ensures y same (λ k. IsAnswerOf g.K.Ord.cmp g.S.KeyHasher.hash_of c.args.self.now (Remove k) (value_answer w.remove.result)) w.remove.ensures),
+          (option_map arc_value w.remove.result, at_key_read _ _ w.as_ref.ensures y same (λ k. IsAnswerOf g.K.Ord.cmp g.S.KeyHasher.hash_of c.args.self.now (Remove k) (value_answer w.remove.result)) w.remove.ensures),
         )
         | else-not-keep w ↦ inl (says_of_pair c.deref.ensures c.deref-in-loop.ensures y same (goal.F-step g) _ _ _ _ w.if-not-keep.false c.keep.ensures)
       ]),

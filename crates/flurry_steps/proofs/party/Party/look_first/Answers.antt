@@ -14,4 +14,4 @@ returns-clause-steps g c = record {
 pub unreachable-requires-in_default-stage : goal.unreachable-requires-in_default-stage
 unreachable-requires-in_default-stage g c =
     let done = look_done g.K.Ord.cmp g.F.ComputeFn.changes _ _ _ _ _ _ _ _ c.requires.live c.step_lookup-stage.ensures.step in
-    not_done c.step_lookup-stage.result.0 c.in_default-stage.not-Done done.0 done.1
+    not_done g.Q.Query.stands_for c.step_lookup-stage.result.0 c.in_default-stage.not-Done done.0 done.1

@@ -28,10 +28,10 @@ decided_at cmp changes h k f e IsUnborn c' o s here is = absurd here
 
 pub returns-in-Err-clause-step : goal.returns-in-Err-clause-step
 returns-in-Err-clause-step g c =
-    rw c.in-Err.ensures.refused (refused_at g.K.Ord.cmp g.F.ComputeFn.changes c.args.hash _ c.args.f c.args.table _ _ (rw c.get.ensures at c.in-Err.ensures.in_vain))
+    rw c.in-Err.ensures.refused (refused_at g.K.Ord.cmp g.F.ComputeFn.changes c.args.hash _ c.args.f c.args.table _ _ c.in-Err.ensures.in_vain)
 
 pub returns-in-Ok-Here-clause-step : goal.returns-in-Ok-Here-clause-step
 returns-in-Ok-Here-clause-step g c =
     let here = rw (c.in-Ok-Here.field-0-is) at c.in-Ok-Here.ensures.here in
     let live = without_rest _ _ c.args.slot.now.content c.compute.new.self.content here in
-    rw c.after_compute.ensures.decides (decided_at g.K.Ord.cmp g.F.ComputeFn.changes c.args.hash _ c.args.f c.args.table _ _ _ _ (rw (c.get.ensures, ← c.requires.at) at live) c.after_compute.ensures.stage)
+    rw c.after_compute.ensures.decides (decided_at g.K.Ord.cmp g.F.ComputeFn.changes c.args.hash _ c.args.f c.args.table _ _ _ _ (rw (← c.requires.at) at live) c.after_compute.ensures.stage)

@@ -1,0 +1,61 @@
+//! Look-ups by text while other threads insert, and the table grows.
+
+use super::{PRESENT, assert_same, string_of};
+use flurry_shared::HashMap;
+use std::alloc::Global;
+use std::process::Abort;
+use std::sync::Wait;
+use std::sync::atomic::{AtomicU64, Ordering};
+use std::thread;
+use std::thread::Threads;
+
+// Inserts the decimal digits of each number below 500.
+fn insert_numerals<R: Abort + Wait>(rt: &R, alloc: Global, map: &HashMap<String, u64>) {
+    for number in 0..500u64 {
+        let numeral = format!(in alloc; "{number}").expect(rt, "memory");
+        map.insert(rt, numeral, number).expect(rt, "memory");
+    }
+}
+
+// Looks many times for the texts that are there throughout, and counts those that it misses.
+fn count_missed<R: Wait>(rt: &R, map: &HashMap<String, u64>, missed: &AtomicU64) {
+    for _ in 0..500u32 {
+        for text in PRESENT {
+            if !map.contains_key(rt, text) {
+                missed.fetch_add(1, Ordering::SeqCst);
+            }
+        }
+    }
+}
+
+#[test]
+fn texts_are_found_while_the_table_grows(rt: HostRuntime) {
+    let map: HashMap<String, u64> = HashMap::new(rt.alloc());
+    for text in PRESENT {
+        map.insert(&rt, string_of(&rt, rt.alloc(), text), 0)
+            .expect(&rt, "memory");
+    }
+    let missed = AtomicU64::new(0);
+    look_beside_insertions(&rt, rt.alloc(), &map, &missed);
+    assert_same(&rt, missed.load(Ordering::SeqCst), 0);
+    assert_same(&rt, map.len(&rt), 506);
+    assert_same(&rt, map.contains_key(&rt, "499"), true);
+}
+
+// Looks in two threads for the texts that are there, while a third inserts others.
+fn look_beside_insertions<R: Abort + Threads + Wait + Sync>(
+    rt: &R,
+    alloc: Global,
+    map: &HashMap<String, u64>,
+    missed: &AtomicU64,
+) {
+    thread::scope(thread::scope_env(), rt, |scope| {
+        for _ in 0..2u32 {
+            let child = scope.spawn(move || count_missed(rt, map, missed));
+            if child.is_err() {
+                count_missed(rt, map, missed);
+            }
+        }
+        insert_numerals(rt, alloc, map);
+    });
+}
