@@ -7,7 +7,7 @@ use Rattle.flurry_base.specs.declared.hash.LowHashBuilder.{LowHashBuilder}
 use Rattle.flurry_base.specs.declared.verdict.Verdict.{Verdict}
 use Rattle.flurry_base.specs.declared.verdict.Verdict.TheVariants.{Remove}
 use Rattle.flurry_bins_slots.specs.declared.compute_fn.NoFn.{NoFn}
-use Rattle.flurry_steps.specs.declared.party.call.OwnedCall.TheVariants as owned
+use Rattle.flurry_steps_stages.specs.declared.call.OwnedCall.TheVariants as owned
 use Rattle.flurry_steps_theory.specs.declared.Label.{Label}
 use Rattle.flurry_steps_world.specs.World.{WorldState}
 use Rattle.flurry_steps_world.specs.Runs.{Drops, NewGives, Runs, RunsFront}

@@ -1,7 +1,7 @@
 //! Lines that run the calls of a world.
 ghost use Rattle.std.specs.Prelude.{◌≡◌, ℕ, ◌≤◌, [], ◌∷◌, ◌++◌, Option, None, Some, List, replicate, OnOk, OnErr, IfOk, IfSome, IsTrue};
 ghost use Rattle.std.specs.Io.KnownBytes.{Appends};
-ghost use Rattle.flurry_steps.specs.PartyView.{OwnedIsReady};
+ghost use Rattle.flurry_steps_stages.specs.CallView.{OwnedIsReady};
 ghost use Rattle.flurry_steps_theory.specs.declared.Label.{Label};
 ghost use Rattle.flurry_steps_world.specs.declared.world.Step.TheVariants as step;
 ghost use Rattle.flurry_run_lines.specs.Labels.{label_text};

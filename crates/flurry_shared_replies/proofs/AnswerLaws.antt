@@ -17,20 +17,22 @@ use Rattle.flurry_steps_sweep.specs.Outcome.{Outcome, OutcomeReply, OutcomeEnded
 use Rattle.flurry_steps_sweep.specs.Sweep as sweep
 use Rattle.flurry_steps_sweep.specs.Sweep.{SweepKind, Reads, Wipes, SweepStage, AtSweepStart, OverBins, AtTotal, AtEnd, AfterEnd, BinGives, WalkGives, ClearGives, ReadGives, SplitGives, start_stage_at, stage_walked, stage_cleared, more_wiped, swept_outcome, is_at_start}
 use Rattle.flurry_steps_sweep.specs.Cursor.{CursorState, after_top}
-use Rattle.flurry_steps.specs.Party as party
-use Rattle.flurry_steps.specs.Party.{AnswerForm, TheValue, ThePair, Presence, Task, Finds, Removes, RemovesSeen, Inserts, Adds, Computes, Alters, GrowFor, ForInsert, ForReserve, Help, WantsSeat, AtBoard, Moving, Publishing, GivesBack, Resume, ThenBin, ThenRecount, ThenGrow, Stage, AtLocate, AtBin, AtHelp, AtUncount, AtCount, AtRecount, AtBegin, AtGrow, AtReserve, AtSweep, AtDone, AtTaken, PartyState, reply_for, resumed_stage, published_stage, final_outcome, with_stage, stage_of_call}
-use Rattle.flurry_steps.specs.PartyControl.{has_helped, begin_at, stage_advised, stage_begun, stage_grown, stage_not_grown, stage_growing, OpensFor, LocatesNone, MakesFor, event_growing, StageAtControl}
+use Rattle.flurry_steps_stages.specs.Stage as stage
+use Rattle.flurry_steps_stages.specs.Help.{Help, WantsSeat, AtBoard, Moving, Publishing, GivesBack}
+use Rattle.flurry_steps_stages.specs.Stage.{AnswerForm, TheValue, ThePair, Presence, Task, Finds, Removes, RemovesSeen, Inserts, Adds, Computes, Alters, GrowFor, ForInsert, ForReserve, Resume, ThenBin, ThenRecount, ThenGrow, Stage, AtLocate, AtBin, AtHelp, AtUncount, AtCount, AtRecount, AtBegin, AtGrow, AtReserve, AtSweep, AtDone, AtTaken, reply_for, resumed_stage, published_stage, final_outcome, stage_of_call, stage_grown}
+use Rattle.flurry_steps.specs.Party.{PartyState, with_stage}
+use Rattle.flurry_steps.specs.PartyControl.{has_helped, begin_at, stage_advised, stage_begun, stage_not_grown, stage_growing, OpensFor, LocatesNone, MakesFor, event_growing, StageAtControl}
 use Rattle.flurry_steps.specs.PartySlots.{GoesOnNew, GoesOnWritten, GoesOnAdded, GoesOnAltered, stage_taken, stage_computed, stage_moved, FindCanBeRefused, CanBeRefused, DecidesAt, LiveGives, ContentGives, StageAtSlot, moved_stage, MoveGives}
 use Rattle.flurry_steps.specs.PartyBoard.{BoardAnswer, stage_helping, stage_answered}
 use Rattle.flurry_steps.specs.PartyTally.{StageAtTally}
-use Rattle.flurry_steps.specs.PartyView.{plain_call}
+use Rattle.flurry_steps_stages.specs.CallView.{plain_call}
 use Rattle.flurry_steps_control.specs.declared.control.Advice.{Advice}
 use Rattle.flurry_steps_control.specs.declared.control.Advice.TheVariants as advice
 use Rattle.flurry_steps_control.specs.declared.control.BeginOutcome.{BeginOutcome}
 use Rattle.flurry_steps_control.specs.declared.control.BeginOutcome.TheVariants as began
 use Rattle.flurry_steps_sweep.specs.declared.step.Event.{Event}
-use Rattle.flurry_steps.specs.declared.party.call.Call.{Call}
-use Rattle.flurry_steps.specs.declared.party.call.Call.TheVariants as call
+use Rattle.flurry_steps_stages.specs.declared.call.Call.{Call}
+use Rattle.flurry_steps_stages.specs.declared.call.Call.TheVariants as call
 use Rattle.flurry_steps_sweep.specs.declared.step.Event.TheVariants as event
 
 -- what tells of an entry is of its sort
@@ -182,7 +184,7 @@ module _ {K V F : Type 0} (changes : F → K → Option V → Verdict V → Type
   at_outset w (AtEnd r) yet h = cc
   at_outset w AfterEnd yet h = cc
 
-  after_start : (d : ℕ) (s : Stage K V F) → party.is_locating s ≡ true → StageServes s → StageServes (published_stage d s)
+  after_start : (d : ℕ) (s : Stage K V F) → stage.is_locating s ≡ true → StageServes s → StageServes (published_stage d s)
   after_start d (AtLocate t) yet h = h
   after_start d (AtBin t e) yet h = h
   after_start d (AtHelp k a) yet h = h

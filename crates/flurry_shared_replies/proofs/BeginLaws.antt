@@ -10,13 +10,14 @@ use Rattle.flurry_steps.specs.Field.{PublishedLoan, TallyLoan, LookLoan, BinLoan
 use Rattle.flurry_steps.specs.FirstSteps.{BeginsAt, begun_at}
 use Rattle.flurry_steps_sweep.specs.Outcome.{Outcome}
 use Rattle.flurry_steps_sweep.specs.Part.{LookPart, BinPart}
-use Rattle.flurry_steps.specs.Party.{PartyState, Stage, AtDone, AtTaken, wanted_part, is_locating, LooksUp, BeginsToWrite, stage_of_call}
+use Rattle.flurry_steps_stages.specs.Stage.{Stage, AtDone, AtTaken, is_locating, LooksUp, BeginsToWrite, stage_of_call}
+use Rattle.flurry_steps.specs.Party.{PartyState, wanted_part}
 use Rattle.flurry_steps.specs.PartyTally.{StageAtTally}
-use Rattle.flurry_steps.specs.PartyView.{plain_call}
+use Rattle.flurry_steps_stages.specs.CallView.{plain_call}
 use Rattle.flurry_steps_sweep.specs.declared.step.Event.{Event}
 use Rattle.flurry_steps_sweep.specs.declared.step.Event.TheVariants as event
-use Rattle.flurry_steps.specs.declared.party.call.Call.{Call}
-use Rattle.flurry_steps.specs.declared.party.call.Call.TheVariants as call
+use Rattle.flurry_steps_stages.specs.declared.call.Call.{Call}
+use Rattle.flurry_steps_stages.specs.declared.call.Call.TheVariants as call
 
 -- a look-up that did no step yet asks for the published table
 pub look_locates : {Q K V F A : Type 0} (stands_for : Q → K) (c : Call Q K V F A) → LooksUp (stage_of_call (plain_call stands_for c)) → is_locating (stage_of_call (plain_call stands_for c)) ≡ true

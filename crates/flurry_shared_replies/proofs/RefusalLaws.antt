@@ -6,7 +6,7 @@ use Rattle.flurry_base.specs.declared.verdict.Verdict.{Verdict}
 use Rattle.flurry_bins_slots.specs.Slot.{SlotState, IsSlot, IsLive}
 use Rattle.flurry_steps_sweep.specs.Outcome.{OutcomeRefused}
 use Rattle.flurry_steps_sweep.specs.declared.step.Event.TheVariants.{Refused}
-use Rattle.flurry_steps.specs.Party.{Inserts, AtLocate, AtDone}
+use Rattle.flurry_steps_stages.specs.Stage.{Inserts, AtLocate, AtDone}
 use Rattle.flurry_shared_replies.specs.Replies.{IsReplyOf, new_party}
 use Rattle.flurry_shared_replies.proofs.BeginLaws.{write_begun, done_by}
 

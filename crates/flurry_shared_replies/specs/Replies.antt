@@ -8,9 +8,10 @@ use Rattle.flurry_steps.specs.PartyTally.{EndingState, ending_stage}
 use Rattle.flurry_steps_sweep.specs.Outcome.{Outcome}
 use Rattle.flurry_steps_sweep.specs.OutcomeView.{outcome_of}
 use Rattle.flurry_steps_sweep.specs.declared.reply.Reply.{Reply}
-use Rattle.flurry_steps.specs.Party.{PartyState, Stage, stage_of_call}
-use Rattle.flurry_steps.specs.PartyView.{plain_call}
-use Rattle.flurry_steps.specs.declared.party.call.Call.{Call}
+use Rattle.flurry_steps_stages.specs.Stage.{Stage, stage_of_call}
+use Rattle.flurry_steps.specs.Party.{PartyState}
+use Rattle.flurry_steps_stages.specs.CallView.{plain_call}
+use Rattle.flurry_steps_stages.specs.declared.call.Call.{Call}
 use Rattle.flurry_base.specs.declared.verdict.Verdict.{Verdict}
 
 -- a call of that hash at that stage, for so many processors, which has helped no growth yet

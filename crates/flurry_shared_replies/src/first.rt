@@ -1,9 +1,9 @@
 //! The steps of a call over the locks: its first ones in one go, if its table is known without the control's lock.
 ghost use Rattle.flurry_shared_replies.specs.Replies.{BeginsOrStays, IsReplyOf, RepliesFrom};
-ghost use Rattle.flurry_steps.specs.Party.{BeginsToWrite, IsTaken, LooksUp, stage_of_call};
+ghost use Rattle.flurry_steps_stages.specs.Stage.{BeginsToWrite, IsTaken, LooksUp, stage_of_call};
 ghost use Rattle.flurry_steps.specs.PartyTally.{ending_stage};
 ghost use Rattle.flurry_steps_sweep.specs.OutcomeView.{outcome_of};
-ghost use Rattle.flurry_steps.specs.PartyView.{CallIsReady, plain_call};
+ghost use Rattle.flurry_steps_stages.specs.CallView.{CallIsReady, plain_call};
 
 use flurry_base::query::Query;
 use flurry_base::sizes::bin_index;

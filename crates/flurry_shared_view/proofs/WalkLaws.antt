@@ -19,8 +19,9 @@ use Rattle.flurry_steps_sweep.specs.Sweep.{SweepKind, Reads, Wipes, SweepStage, 
 use Rattle.flurry_steps_sweep.specs.declared.step.Event.{Event}
 use Rattle.flurry_steps_sweep.specs.declared.step.Event.TheVariants as event
 use Rattle.flurry_steps.specs.Field.{FieldStep, ControlLoan, PublishedLoan, LookLoan}
-use Rattle.flurry_steps.specs.Party.{PartyState, AtSweep}
-use Rattle.flurry_steps.specs.declared.party.call.Call.TheVariants as call
+use Rattle.flurry_steps_stages.specs.Stage.{AtSweep}
+use Rattle.flurry_steps.specs.Party.{PartyState}
+use Rattle.flurry_steps_stages.specs.declared.call.Call.TheVariants as call
 use Rattle.flurry_shared_view.specs.SharedAnswers.{no_changes}
 use Rattle.flurry_shared_view.specs.Walks.{IteratorState, WalkAnswers, Begins, Gives, IsOpen, HasEnded, has_ended_after, AnyStep, OtherStep, ReadsNext, EndsWith, IsWalkUnderWay}
 

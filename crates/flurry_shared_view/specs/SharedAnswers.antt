@@ -13,7 +13,8 @@ use Rattle.flurry_base.specs.declared.verdict.Verdict.TheVariants.{Remove}
 use Rattle.flurry_bins_slots.specs.declared.compute_fn.NoFn.{NoFn}
 use Rattle.flurry_steps_sweep.specs.Outcome.{Outcome, OutcomeReply, OutcomeEnded, OutcomeRefused}
 use Rattle.flurry_steps_sweep.specs.OutcomeView.{pair_value}
-use Rattle.flurry_steps.specs.Party.{PartyState, stage_of_call}
+use Rattle.flurry_steps_stages.specs.Stage.{stage_of_call}
+use Rattle.flurry_steps.specs.Party.{PartyState}
 use Rattle.flurry_shared_replies.specs.Replies.{IsReplyOf, new_party}
 
 -- what of a shared map of such keys and values stays as it is

@@ -7,8 +7,8 @@ ghost use Rattle.flurry_base.specs.declared.call.Call.TheVariants.{Get, GetKeyVa
 ghost use Rattle.flurry_shared_replies.specs.Answers.{CanAnswerFrom, CanAdd, CanCompute};
 ghost use Rattle.flurry_shared_replies.specs.Replies.{RepliesFrom};
 ghost use Rattle.flurry_bins_slots.specs.ComputeFn.{AnswersIfPresent};
-ghost use Rattle.flurry_steps.specs.PartyView.{CallIsReady, plain_call};
-ghost use Rattle.flurry_steps.specs.Party.{stage_of_call};
+ghost use Rattle.flurry_steps_stages.specs.CallView.{CallIsReady, plain_call};
+ghost use Rattle.flurry_steps_stages.specs.Stage.{stage_of_call};
 
 use flurry_base::hash::{DefaultHashBuilder, KeyHasher};
 use flurry_base::query::HashedQuery;

@@ -7,7 +7,7 @@ use Rattle.flurry_base.specs.declared.verdict.Verdict.TheVariants.{Set}
 use Rattle.flurry_bins_slots.specs.Slot as slot
 use Rattle.flurry_bins_slots.specs.Slot.{Live, AlterOutcome, Content, IsLive, HasMoved, IsUnborn, IfLive, JudgesAt}
 use Rattle.flurry_steps_sweep.specs.Outcome.{OutcomeRefused}
-use Rattle.flurry_steps.specs.Party.{Stage, Alters, AtDone}
+use Rattle.flurry_steps_stages.specs.Stage.{Stage, Alters, AtDone}
 use Rattle.flurry_steps.specs.PartySlots.{ContentGives, GoesOnAltered}
 use Rattle.flurry_steps_sweep.specs.declared.step.Event.TheVariants.{Decide, Refused}
 

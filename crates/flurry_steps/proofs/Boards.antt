@@ -9,7 +9,9 @@ use Rattle.flurry_steps_sweep.specs.Sweep.{SweepKind, Reads, Wipes, SweepStage, 
 use Rattle.flurry_steps_sweep.specs.declared.step.Event.{Event}
 use Rattle.flurry_steps_sweep.specs.declared.step.Event.TheVariants.{Silent}
 use Rattle.flurry_steps.specs.Field.{board_of}
-use Rattle.flurry_steps.specs.Party.{Task, Finds, Removes, RemovesSeen, Inserts, Adds, Computes, Alters, Help, WantsSeat, AtBoard, Moving, Publishing, GivesBack, Resume, Stage, AtLocate, AtBin, AtHelp, AtUncount, AtCount, AtRecount, AtBegin, AtGrow, AtReserve, AtSweep, AtDone, AtTaken, PartyState, bin_part, move_part, help_part, part_of, wanted_part, with_stage}
+use Rattle.flurry_steps_stages.specs.Help.{Help, WantsSeat, AtBoard, Moving, Publishing, GivesBack, move_part, help_part}
+use Rattle.flurry_steps_stages.specs.Stage.{Task, Finds, Removes, RemovesSeen, Inserts, Adds, Computes, Alters, Resume, Stage, AtLocate, AtBin, AtHelp, AtUncount, AtCount, AtRecount, AtBegin, AtGrow, AtReserve, AtSweep, AtDone, AtTaken, bin_part, part_of}
+use Rattle.flurry_steps.specs.Party.{PartyState, wanted_part, with_stage}
 use Rattle.flurry_steps.specs.PartyBoard.{Seated, Attempted, Reported, TakenBack, IsAttempt, HelpAsks, StageAsks, BoardStep, stage_answered, helped_answered, range_to_report, stage_unclaimed, IsAtBoard, stage_told}
 
 no_bin : {K V F : Type 0} (t : Task K V F) (e i d : ℕ) → board_of (bin_part t e i) ≡ Some d → ⊥

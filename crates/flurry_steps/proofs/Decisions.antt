@@ -5,7 +5,7 @@ use Rattle.std.specs.declared.cmp.Ordering.{Ordering}
 use Rattle.std.proofs.Common.{sym, subst}
 use Rattle.flurry_bins_slots.specs.Slot.{PlainEntry, Live, Content, IsLive, HasMoved, IsUnborn, is_live, ComputeOutcome, WasAbsent, WasRemoved, WasChanged, AlterOutcome, StayedAbsent, WasAdded, WasKept, WasTaken, WasSet, entry_of_live, take_if_reply}
 use Rattle.flurry_steps_sweep.specs.Outcome.{Outcome}
-use Rattle.flurry_steps.specs.Party.{AnswerForm, TheValue, Task, Finds, Removes, RemovesSeen, Inserts, Adds, Computes, Alters, Stage, AtDone}
+use Rattle.flurry_steps_stages.specs.Stage.{AnswerForm, TheValue, Task, Finds, Removes, RemovesSeen, Inserts, Adds, Computes, Alters, Stage, AtDone}
 use Rattle.flurry_steps.specs.PartySlots.{GoesOnNew, GoesOnWritten, GoesOnAdded, GoesOnAltered, stage_taken, stage_computed, DecidesAt, LiveGives, ContentGives}
 use Rattle.flurry_steps.specs.PartyTally.{HasDecided}
 use Rattle.flurry_steps_sweep.specs.declared.step.Event.{Event}

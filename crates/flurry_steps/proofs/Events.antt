@@ -8,8 +8,10 @@ use Rattle.flurry_steps_control.specs.declared.control.BeginOutcome.{BeginOutcom
 use Rattle.flurry_steps_control.specs.declared.control.BeginOutcome.TheVariants as outcome
 use Rattle.flurry_steps_sweep.specs.declared.step.Event.{Event}
 use Rattle.flurry_steps_sweep.specs.declared.step.Event.TheVariants as event
-use Rattle.flurry_steps.specs.Party.{Task, Finds, Removes, RemovesSeen, Inserts, Adds, Computes, Alters, GrowFor, ForInsert, ForReserve, WantsSeat, AtBoard, Moving, Publishing, GivesBack, Stage, AtLocate, AtBin, AtHelp, AtUncount, AtCount, AtRecount, AtBegin, AtGrow, AtReserve, AtSweep, AtDone, AtTaken, PartyState, IsSingle}
-use Rattle.flurry_steps.specs.PartyControl.{OpensFor, LocatesNone, MakesFor, StageAtControl, event_begun, event_growing, stage_grown, stage_growing}
+use Rattle.flurry_steps_stages.specs.Help.{WantsSeat, AtBoard, Moving, Publishing, GivesBack}
+use Rattle.flurry_steps_stages.specs.Stage.{Task, Finds, Removes, RemovesSeen, Inserts, Adds, Computes, Alters, GrowFor, ForInsert, ForReserve, Stage, AtLocate, AtBin, AtHelp, AtUncount, AtCount, AtRecount, AtBegin, AtGrow, AtReserve, AtSweep, AtDone, AtTaken, IsSingle, stage_grown}
+use Rattle.flurry_steps.specs.Party.{PartyState}
+use Rattle.flurry_steps.specs.PartyControl.{OpensFor, LocatesNone, MakesFor, StageAtControl, event_begun, event_growing, stage_growing}
 use Rattle.flurry_steps.specs.PartyBoard.{BoardAnswer, BoardStep}
 use Rattle.flurry_steps.specs.PartySlots.{LiveGives, ContentGives, StageAtSlot, MoveGives}
 use Rattle.flurry_base.specs.declared.verdict.Verdict.{Verdict}

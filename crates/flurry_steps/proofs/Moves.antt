@@ -4,7 +4,7 @@ use Rattle.std.proofs.Common.{ap, ◌∙◌, inl, inr}
 use Rattle.flurry_bins_slots.specs.Slot.{SlotState}
 use Rattle.flurry_steps_sweep.specs.declared.step.Event.{Event}
 use Rattle.flurry_steps_sweep.specs.declared.step.Event.TheVariants as event
-use Rattle.flurry_steps.specs.PartySlots.{MovesOn}
+use Rattle.flurry_steps_stages.specs.Help.{MovesOn}
 
 module _ {P S K V : Type 0} (on : P → P) (at : S → S) (in_it : P → S) (law : (p : P) → in_it (on p) ≡ at (in_it p)) (p : P) (q low high : SlotState K V) where
   pub moves_in : (ev : Event) (p' : P) (q' low' high' : SlotState K V) → MovesOn on p q low high ev p' q' low' high' → MovesOn at (in_it p) q low high ev (in_it p') q' low' high'

@@ -5,10 +5,10 @@ use Rattle.flurry_steps_sweep.specs.Part.{ControlPart, LookPart, BinPart, MovePa
 use Rattle.flurry_steps_sweep.specs.Sweep.{SweepKind, Reads, Wipes, SweepStage, AtSweepStart, OverBins, AtTotal, AtEnd, AfterEnd, part_at}
 use Rattle.flurry_steps_sweep.specs.Outcome.{Outcome}
 use Rattle.flurry_steps_sweep.specs.declared.reply.Reply.{Reply}
-use Rattle.flurry_steps.specs.Party.{AtDone, last_seen}
-use Rattle.flurry_steps.specs.PartyView.{stage_of}
-use Rattle.flurry_steps.specs.declared.party.stage.Stage.{Stage}
-use Rattle.flurry_steps.specs.declared.party.stage.Stage.TheVariants as stage
+use Rattle.flurry_steps_stages.specs.Stage.{AtDone, last_seen}
+use Rattle.flurry_steps_stages.specs.StageView.{stage_of}
+use Rattle.flurry_steps_stages.specs.declared.stage.Stage.{Stage}
+use Rattle.flurry_steps_stages.specs.declared.stage.Stage.TheVariants as stage
 
 -- it has read nothing as a walk does
 pub none_read : {Q K V F A : Type 0} (stands_for : Q → K) (s : Stage Q K V F A) → None ≡ last_seen (stage_of stands_for s)

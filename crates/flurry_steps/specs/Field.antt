@@ -4,7 +4,8 @@ use Rattle.std.specs.declared.cmp.Ordering.{Ordering}
 use Rattle.flurry_bins_slots.specs.Slot.{SlotState, IsSlot}
 use Rattle.flurry_steps_control.specs.Control.{ControlState}
 use Rattle.flurry_steps_sweep.specs.Part.{Part, ControlPart, LookPart, BinPart, MovePart, SeatPart, BoardPart, GivePart, NoPart}
-use Rattle.flurry_steps.specs.Party.{PartyState, with_stage, wanted_part, is_locating, published_stage}
+use Rattle.flurry_steps_stages.specs.Stage.{is_locating, published_stage}
+use Rattle.flurry_steps.specs.Party.{PartyState, with_stage, wanted_part}
 use Rattle.flurry_steps.specs.PartyControl.{ControlStep}
 use Rattle.flurry_steps.specs.PartySlots.{SlotStep, MoveStep}
 use Rattle.flurry_steps.specs.PartyTally.{TallyStep}

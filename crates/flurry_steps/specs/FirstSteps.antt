@@ -2,7 +2,8 @@
 use Rattle.std.specs.Prelude.{◌≡◌, ℕ, Option, None}
 use Rattle.std.specs.declared.cmp.Ordering.{Ordering}
 use Rattle.flurry_bins_slots.specs.Slot.{SlotState}
-use Rattle.flurry_steps.specs.Party.{PartyState, Stage, published_stage}
+use Rattle.flurry_steps_stages.specs.Stage.{Stage, published_stage}
+use Rattle.flurry_steps.specs.Party.{PartyState}
 use Rattle.flurry_steps.specs.PartySlots.{StageAtSlot}
 use Rattle.flurry_steps_sweep.specs.declared.step.Event.{Event}
 use Rattle.flurry_base.specs.declared.verdict.Verdict.{Verdict}

@@ -1,12 +1,14 @@
 -- What a step of a call is at the board of a growth that it helps, or at the seats there.
-use Rattle.std.specs.Prelude.{◌≡◌, ℕ, Bool, true, if◌then◌else◌, Option, Some, None, ⊤}
+use Rattle.std.specs.Prelude.{◌≡◌, ℕ, Bool, true, Option, Some, None, ⊤, if◌then◌else◌}
+use Rattle.flurry_steps_control.specs.Claim.{whole_claim, moved_range}
 use Rattle.flurry_steps_claims.specs.Range.{Bounds, IsRange}
 use Rattle.flurry_steps_claims.specs.declared.range.Attempt.{Attempt}
 use Rattle.flurry_steps_claims.specs.declared.range.Attempt.TheVariants.{Got, Lost, Nothing}
-use Rattle.flurry_steps_control.specs.Claim.{whole_claim, moved_range}
 use Rattle.flurry_steps_sweep.specs.declared.step.Event.{Event}
 use Rattle.flurry_steps_sweep.specs.declared.step.Event.TheVariants.{Silent}
-use Rattle.flurry_steps.specs.Party.{Help, WantsSeat, AtBoard, Moving, Publishing, GivesBack, Resume, Stage, AtHelp, PartyState, helped_table, resumed_stage}
+use Rattle.flurry_steps_stages.specs.Help.{Help, WantsSeat, AtBoard, Moving, Publishing, GivesBack, helped_table, help_range, unclaimed}
+use Rattle.flurry_steps_stages.specs.Stage.{Resume, Stage, AtHelp, resumed_stage}
+use Rattle.flurry_steps.specs.Party.{PartyState}
 
 -- what a call is answered
 pub data BoardAnswer : Type 0 where
@@ -54,16 +56,6 @@ help_after _ _ = None
 abbrev pub helped_with : Help → Option Help → Option ℕ → Option ℕ
 helped_with h None m = Some (helped_table h)
 helped_with h (Some k) m = m
-
--- the range that a helper is to report
-abbrev pub help_range : Help → Option Bounds
-help_range (Moving c) = moved_range c
-help_range _ = None
-
--- without its claim, it goes on as if its report was not the last
-abbrev pub unclaimed : Help → Help
-unclaimed (Moving c) = AtBoard c.range.table
-unclaimed h = h
 
 module _ {K V F : Type 0} where
   abbrev pub StageAsks : Stage K V F → BoardAnswer → Type 0

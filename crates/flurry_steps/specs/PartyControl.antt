@@ -1,17 +1,19 @@
 -- What a step of a call is at the control.
-use Rattle.std.specs.Prelude.{◌≡◌, ℕ, pos, negsuc, ◌+◌, ◌-◌, ◌^◌, ◌==◌, min, Bool, true, false, if◌then◌else◌, Option, Some, None, MatchOption}
-use Rattle.flurry_base.specs.declared.reply.KeptReply.TheVariants.{Value, Contains}
-use Rattle.flurry_steps_control.specs.Control.{ControlState, is_growing, after_publish, after_count, advice_of, count_of, after_open, BeginGives, grows_from}
-use Rattle.flurry_steps_sweep.specs.Outcome.{Outcome, OutcomeReply, OutcomeEnded, OutcomeRefused}
+use Rattle.std.specs.Prelude.{◌≡◌, ℕ, ◌+◌, ◌-◌, ◌^◌, Bool, true, false, Option, Some, None, if◌then◌else◌, pos, negsuc, ◌==◌, min, MatchOption}
+use Rattle.flurry_steps_sweep.specs.Outcome.{Outcome, OutcomeReply, OutcomeRefused}
 use Rattle.flurry_steps_sweep.specs.Sweep.{SweepState, SweepControl}
-use Rattle.flurry_steps.specs.Party.{Task, Finds, Removes, RemovesSeen, Inserts, Adds, Computes, Alters, GrowFor, ForInsert, ForReserve, AtBoard, WantsSeat, Publishing, GivesBack, ThenRecount, ThenGrow, Stage, AtLocate, AtBin, AtHelp, AtUncount, AtCount, AtRecount, AtBegin, AtGrow, AtReserve, AtSweep, AtDone, PartyState, reply_for, IsTableFor}
+use Rattle.flurry_base.specs.declared.reply.KeptReply.TheVariants.{Value, Contains}
+use Rattle.flurry_base.specs.declared.sizes.TheConstants.{FIRST_TABLE}
 use Rattle.flurry_steps_sweep.specs.declared.step.Event.{Event}
-use Rattle.flurry_steps_sweep.specs.declared.step.Event.TheVariants.{Decide, Refused, Opened, Placed, Published, Silent}
+use Rattle.flurry_steps_sweep.specs.declared.step.Event.TheVariants.{Silent, Decide, Refused, Opened, Placed, Published}
+use Rattle.flurry_steps_control.specs.Control.{ControlState, is_growing, after_publish, after_count, advice_of, count_of, after_open, BeginGives, grows_from}
 use Rattle.flurry_steps_control.specs.declared.control.Advice.{Advice}
 use Rattle.flurry_steps_control.specs.declared.control.Advice.TheVariants.{Enough, Join, Begin}
 use Rattle.flurry_steps_control.specs.declared.control.BeginOutcome.{BeginOutcome}
+use Rattle.flurry_steps_stages.specs.Help.{WantsSeat, AtBoard, Publishing, GivesBack}
+use Rattle.flurry_steps_stages.specs.Stage.{Task, GrowFor, Stage, Finds, Removes, RemovesSeen, Inserts, Adds, Computes, Alters, ForInsert, ForReserve, ThenRecount, ThenGrow, AtLocate, AtBin, AtHelp, AtUncount, AtCount, AtRecount, AtBegin, AtGrow, AtReserve, AtSweep, AtDone, reply_for, stage_grown}
+use Rattle.flurry_steps.specs.Party.{PartyState, IsTableFor}
 use Rattle.flurry_steps_control.specs.declared.control.BeginOutcome.TheVariants as begin
-use Rattle.flurry_base.specs.declared.sizes.TheConstants.{FIRST_TABLE}
 
 -- the growth from table e is the one that the call helped last
 abbrev pub has_helped : ℕ → Option ℕ → Bool
@@ -35,11 +37,6 @@ module _ {K V F : Type 0} where
   stage_begun e r begin.Begun = AtHelp (AtBoard e) (ThenRecount r)
   stage_begun e r begin.Refused = AtDone r
   stage_begun e r begin.Busy = AtRecount r
-
-  -- growing ends
-  abbrev pub stage_grown : GrowFor K V → Stage K V F
-  stage_grown (ForInsert r) = AtCount r
-  stage_grown ForReserve = AtDone OutcomeEnded
 
   -- growing is refused: an insertion goes on, and a reserve is refused
   abbrev pub stage_not_grown : GrowFor K V → Stage K V F

@@ -1,6 +1,7 @@
 -- What contracts see of a call in progress, whether it goes over all bins or not.
 use Rattle.std.specs.Prelude.{None}
-use Rattle.flurry_steps.specs.Party.{PartyState, AtSweep}
+use Rattle.flurry_steps_stages.specs.Stage.{AtSweep}
+use Rattle.flurry_steps.specs.Party.{PartyState}
 use Rattle.flurry_steps.specs.declared.party.PartyKind.{PartyKind}
 use Rattle.flurry_steps.specs.declared.party.PartyKind.TheVariants as kind
 use Rattle.flurry_steps.specs.declared.party.Party.TheInside.{Inside}

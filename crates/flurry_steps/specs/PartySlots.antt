@@ -1,17 +1,18 @@
 -- What a step of a call is at a bin, and at a bin that moves with its two halves.
-use Rattle.std.specs.Prelude.{◌≡◌, ℕ, ◌+◌, ◌*◌, ◌^◌, Bool, true, false, Option, Some, None, IsSome, Result, Ok, Err, ⊤, ◌⊎◌}
-use Rattle.std.specs.declared.cmp.Ordering.{Ordering}
-use Rattle.flurry_bins_slots.specs.Slot as slot
-use Rattle.flurry_bins_slots.specs.Slot.{PlainEntry, Live, Content, IsLive, HasMoved, IsUnborn, SlotState, ComputeOutcome, WasAbsent, WasRemoved, WasChanged, entry_of_live, after_write, write_reply, after_add, add_reply, after_take, after_take_if, take_if_reply, ComputesInVain, AlterOutcome, StayedAbsent, WasAdded, WasKept, WasTaken, WasSet, JudgesAt, pair_of_entry, HasMovedInto, Clashes}
-use Rattle.flurry_base.specs.declared.reply.KeptReply.TheVariants.{Value, Pair, Contains, New, Changed, Exists}
-use Rattle.flurry_base.specs.declared.verdict.Verdict.TheVariants.{Set}
-use Rattle.flurry_base.specs.declared.verdict.Verdict.{Verdict}
-use Rattle.flurry_steps_control.specs.Claim.{moved_on}
+use Rattle.std.specs.Prelude.{◌≡◌, ℕ, ◌+◌, ◌^◌, Bool, true, false, Option, Some, None, ⊤, ◌*◌, IsSome, Result, Ok, Err}
+use Rattle.flurry_bins_slots.specs.Slot.{PlainEntry, Live, Content, IsLive, HasMoved, IsUnborn, SlotState, ComputeOutcome, WasAbsent, WasRemoved, WasChanged, entry_of_live, after_write, write_reply, after_add, add_reply, after_take, after_take_if, take_if_reply, ComputesInVain, AlterOutcome, StayedAbsent, WasAdded, WasKept, WasTaken, WasSet, JudgesAt, pair_of_entry}
 use Rattle.flurry_steps_sweep.specs.Outcome.{Outcome, OutcomeReply, OutcomeRefused}
 use Rattle.flurry_steps_sweep.specs.Sweep.{SweepState, SweepGives}
-use Rattle.flurry_steps.specs.Party.{AnswerForm, TheValue, Presence, Task, Finds, Removes, RemovesSeen, Inserts, Adds, Computes, Alters, ForInsert, Help, WantsSeat, Moving, ThenBin, Stage, AtLocate, AtBin, AtHelp, AtUncount, AtCount, AtGrow, AtSweep, AtDone, PartyState, reply_for, with_stage, IsTableFor}
+use Rattle.flurry_base.specs.declared.reply.KeptReply.TheVariants.{Value, Pair, Contains, New, Changed, Exists}
 use Rattle.flurry_steps_sweep.specs.declared.step.Event.{Event}
-use Rattle.flurry_steps_sweep.specs.declared.step.Event.TheVariants.{Decide, Refused, Moved, Silent}
+use Rattle.flurry_steps_sweep.specs.declared.step.Event.TheVariants.{Silent, Decide, Refused}
+use Rattle.std.specs.declared.cmp.Ordering.{Ordering}
+use Rattle.flurry_base.specs.declared.verdict.Verdict.TheVariants.{Set}
+use Rattle.flurry_base.specs.declared.verdict.Verdict.{Verdict}
+use Rattle.flurry_steps_stages.specs.Help.{WantsSeat, moved_help, MovesOn}
+use Rattle.flurry_steps_stages.specs.Stage.{AnswerForm, Task, Stage, TheValue, Presence, Finds, Removes, RemovesSeen, Inserts, Adds, Computes, Alters, ForInsert, ThenBin, AtLocate, AtBin, AtHelp, AtUncount, AtCount, AtGrow, AtSweep, AtDone, reply_for}
+use Rattle.flurry_steps.specs.Party.{PartyState, IsTableFor, with_stage}
+use Rattle.flurry_bins_slots.specs.Slot as slot
 
 module _ {K V F : Type 0} where
   -- a call that put a new key, and has this reply: where the bin asks for growth, a table is made larger for twice the bins of its
@@ -107,22 +108,9 @@ pub record SlotStep {K V F : Type 0} (cmp : K → K → Ordering) (changes : F �
   pub index : q'.index ≡ q.index
   pub step : StageAtSlot cmp changes p.hash p.stage q.content ev p'.stage q'.content
 
--- the next bin of the claim has moved
-abbrev pub moved_help : Help → Help
-moved_help (Moving c) = Moving (moved_on c)
-moved_help h = h
-
 abbrev pub moved_stage : {K V F : Type 0} → Stage K V F → Stage K V F
 moved_stage (AtHelp h a) = AtHelp (moved_help h) a
 moved_stage s = s
-
--- the step of p at the slot q and its halves: the bin moves, or had moved before, and p goes on; or nothing can be moved, and nothing
--- changes
-abbrev pub MovesOn : {P K V : Type 0} → (P → P) → P → SlotState K V → SlotState K V → SlotState K V → Event → P → SlotState K V → SlotState K V → SlotState K V → Type 0
-MovesOn on p q low high (Moved e i) p' q' low' high' = (e ≡ q.table) × (i ≡ q.index) × HasMovedInto q low high q' low' high' × (p' ≡ on p)
-MovesOn on p q low high Silent p' q' low' high' =
-    (q' ≡ q) × (low' ≡ low) × (high' ≡ high) × (((q.content ≡ HasMoved) × (p' ≡ on p)) ⊎ (Clashes q low high × (p' ≡ p)))
-MovesOn on p q low high _ p' q' low' high' = ⊥
 
 abbrev pub MoveGives : {K V F : Type 0} → PartyState K V F → SlotState K V → SlotState K V → SlotState K V → Event → PartyState K V F → SlotState K V → SlotState K V → SlotState K V → Type 0
 MoveGives p q low high ev p' q' low' high' = MovesOn (λ c. with_stage c (moved_stage c.stage)) p q low high ev p' q' low' high'

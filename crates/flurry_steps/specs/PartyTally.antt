@@ -2,7 +2,8 @@
 use Rattle.std.specs.Prelude.{◌≡◌, ℤ, pos, negsuc, Bool, true, false, if◌then◌else◌, int_le, ◌≤◌, ⊤}
 use Rattle.flurry_steps_control.specs.Control.{count_after}
 use Rattle.flurry_steps_sweep.specs.Outcome.{Outcome}
-use Rattle.flurry_steps.specs.Party.{Stage, AtUncount, AtCount, AtRecount, AtGrow, AtDone, ForInsert, IsDecided, PartyState}
+use Rattle.flurry_steps_stages.specs.Stage.{Stage, AtUncount, AtCount, AtRecount, AtGrow, AtDone, ForInsert, IsDecided}
+use Rattle.flurry_steps.specs.Party.{PartyState}
 use Rattle.flurry_steps_sweep.specs.declared.step.Event.{Event}
 use Rattle.flurry_steps_sweep.specs.declared.step.Event.TheVariants as event
 use Rattle.flurry_steps.specs.declared.party.ending.Rest.{Rest}

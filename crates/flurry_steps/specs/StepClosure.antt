@@ -1,7 +1,8 @@
 -- Steps of a call, one after another.
 use Rattle.std.specs.Prelude.{◌≡◌, Some}
 use Rattle.flurry_steps_sweep.specs.Outcome.{Outcome}
-use Rattle.flurry_steps.specs.Party.{PartyState, final_outcome, taken_stage, with_stage}
+use Rattle.flurry_steps_stages.specs.Stage.{final_outcome, taken_stage}
+use Rattle.flurry_steps.specs.Party.{PartyState, with_stage}
 use Rattle.flurry_steps_sweep.specs.declared.step.Event.{Event}
 
 -- steps of a relation, one after another

@@ -2,7 +2,8 @@
 ghost use Rattle.std.specs.Prelude.{◌≡◌};
 ghost use Rattle.flurry_steps_sweep.specs.Part.{Part, ControlPart, LookPart, BinPart, MovePart, SeatPart, BoardPart, GivePart};
 ghost use Rattle.flurry_steps_sweep.specs.OutcomeView.{outcome_of};
-ghost use Rattle.flurry_steps.specs.Party.{IsTaken, wanted_part};
+ghost use Rattle.flurry_steps_stages.specs.Stage.{IsTaken};
+ghost use Rattle.flurry_steps.specs.Party.{wanted_part};
 ghost use Rattle.flurry_steps.specs.Field.{Loan, FieldStep, StepsOrStays, ActsOrStays};
 ghost use Rattle.flurry_steps.specs.StepClosure.{StepsToReply};
 

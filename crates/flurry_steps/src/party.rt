@@ -10,37 +10,36 @@ ghost use Rattle.flurry_steps_sweep.specs.Part.{LookPart, BinPart, MovePart, Con
 ghost use Rattle.flurry_steps_sweep.specs.PartView.{part_of_want};
 ghost use Rattle.flurry_steps_sweep.specs.OutcomeView.{outcome_of};
 ghost use Rattle.flurry_steps_sweep.specs.Sweep.{pair_seen};
-ghost use Rattle.flurry_steps.specs.Party.{is_locating, published_stage, taken_stage, wanted_part, with_stage, outcome_in, final_outcome, last_seen, steps_left, LooksUp, StageIsReady, stage_of_call};
+ghost use Rattle.flurry_steps_stages.specs.Stage.{is_locating, published_stage, taken_stage, outcome_in, final_outcome, last_seen, steps_left, LooksUp, StageIsReady, stage_of_call};
+ghost use Rattle.flurry_steps.specs.Party.{wanted_part, with_stage};
 ghost use Rattle.flurry_steps.specs.PartyControl.{ControlStep};
 ghost use Rattle.flurry_steps.specs.PartySlots.{SlotStep, MoveStep};
 ghost use Rattle.flurry_steps.specs.PartyTally.{TallyStep, is_counting};
 ghost use Rattle.flurry_steps.specs.PartyBoard.{Seated, Attempted, TakenBack, StageAsks, BoardStep, range_to_report, stage_unclaimed, IsAtBoard, stage_told, lost};
-ghost use Rattle.flurry_steps.specs.PartyView.{stage_of, CallIsReady, OwnedIsReady, plain_call, plain_of_owned, plain_of_whole};
+ghost use Rattle.flurry_steps_stages.specs.CallView.{CallIsReady, OwnedIsReady, plain_call, plain_of_owned};
+ghost use Rattle.flurry_steps_stages.specs.StageView.{stage_of};
+ghost use Rattle.flurry_steps.specs.PartyView.{plain_of_whole};
 ghost use Rattle.flurry_base.specs.declared.sizes.TheConstants.{MAX_TABLE};
 
 mod at_control;
 mod at_slot;
 mod at_tally;
-mod call;
 mod ending;
 mod first;
-mod left;
 mod single;
-mod stage;
 
-pub use call::{Call, OwnedCall};
 pub use ending::{Ending, Rest};
+pub use first::Remains;
 use first::{WholeMapCall, task_for, task_of_owned};
 use flurry_base::query::Query;
 use flurry_bins_slots::{ComputeFn, Slot};
 use flurry_steps_claims::{Attempt, Range};
 use flurry_steps_control::{Control, PublishedTable, Room, Tally};
+pub use flurry_steps_stages::{Call, OwnedCall};
+use flurry_steps_stages::{Left, Stage};
 use flurry_steps_sweep::{Seen, Sweep};
 pub use flurry_steps_sweep::{Event, Reply, Want};
-use left::Left;
-pub use left::Remains;
 use single::Single;
-use stage::Stage;
 use std::alloc::{AllocError, Allocator, Global};
 use std::marker::Model;
 

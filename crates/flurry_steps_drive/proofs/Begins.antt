@@ -7,7 +7,8 @@ use Rattle.std.proofs.lemmas.Bool.{ltb-true, ltb-false}
 use Rattle.std.proofs.lemmas.Int.{ints}
 use Rattle.std.proofs.lemmas.List.{reverse-append}
 use Rattle.flurry_bins_slots.specs.Slot.{Content, IsLive, HasMoved, IsUnborn}
-use Rattle.flurry_steps.specs.Party.{Task, AtLocate, PartyState, last_seen, stage_of_call, task_of_call}
+use Rattle.flurry_steps_stages.specs.Stage.{Task, AtLocate, last_seen, stage_of_call, task_of_call}
+use Rattle.flurry_steps.specs.Party.{PartyState}
 use Rattle.flurry_base.specs.OneKey.{key_of}
 use Rattle.flurry_steps_theory.specs.Map.{Pairs, same}
 use Rattle.flurry_steps_theory.specs.Machine as machine

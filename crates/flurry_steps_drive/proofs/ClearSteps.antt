@@ -15,7 +15,8 @@ use Rattle.flurry_steps_control.specs.Control as control
 use Rattle.flurry_steps_sweep.specs.Outcome.{OutcomeEnded}
 use Rattle.flurry_steps_sweep.specs.Cursor.{CursorState, at_base, after_split, after_top}
 use Rattle.flurry_steps_sweep.specs.Sweep.{Wipes, SweepStage, AtSweepStart, OverBins, AtTotal, AtEnd, SweepState, more_wiped, stage_cleared}
-use Rattle.flurry_steps.specs.Party.{AtSweep, PartyState, last_seen}
+use Rattle.flurry_steps_stages.specs.Stage.{AtSweep, last_seen}
+use Rattle.flurry_steps.specs.Party.{PartyState}
 use Rattle.flurry_steps_theory.specs.Bin.{Entry}
 use Rattle.flurry_steps_theory.specs.Map.{same}
 use Rattle.flurry_steps_theory.specs.Trace.{is_lookup, pairs}

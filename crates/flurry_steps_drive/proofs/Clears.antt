@@ -15,7 +15,8 @@ use Rattle.flurry_steps_sweep.specs.Sweep as sweep
 use Rattle.flurry_steps_sweep.specs.Sweep.{SweepKind, Reads, Wipes, SweepStage, AtSweepStart, OverBins, AtTotal, AtEnd, AfterEnd, SweepState, ClearGives, BinGives, part_at, start_stage_at, more_wiped, stage_cleared, swept_outcome, is_at_start, fresh_sweep}
 use Rattle.flurry_steps_sweep.specs.declared.step.Event.{Event}
 use Rattle.flurry_base.specs.declared.call.Call.TheVariants as call
-use Rattle.flurry_steps.specs.Party.{AtSweep, PartyState, part_of, wanted_part, is_locating, published_stage, final_outcome, with_stage}
+use Rattle.flurry_steps_stages.specs.Stage.{AtSweep, part_of, is_locating, published_stage, final_outcome}
+use Rattle.flurry_steps.specs.Party.{PartyState, wanted_part, with_stage}
 use Rattle.flurry_steps.specs.PartyControl.{StageAtControl, ControlStep}
 use Rattle.flurry_steps.specs.PartySlots.{StageAtSlot}
 use Rattle.flurry_steps_theory.specs.Map.{Pairs, same, find}

@@ -7,8 +7,10 @@ use Rattle.std.proofs.lemmas.Int.{ints}
 use Rattle.flurry_steps_control.specs.Control.{ControlState, BeginGives, after_publish, is_growing, grows_from}
 use Rattle.flurry_steps_sweep.specs.Outcome.{Outcome}
 use Rattle.flurry_steps_sweep.specs.Part.{Part, ControlPart, LookPart, BinPart, MovePart, SeatPart, BoardPart, GivePart, NoPart}
-use Rattle.flurry_steps.specs.Party.{Task, Inserts, Adds, Alters, GrowFor, ForInsert, ForReserve, Help, WantsSeat, Publishing, Resume, ThenBin, ThenRecount, ThenGrow, Stage, AtLocate, AtBin, AtHelp, AtUncount, AtCount, AtRecount, AtBegin, AtGrow, AtReserve, AtSweep, IsSingle, AtDone, PartyState, resumed_stage}
-use Rattle.flurry_steps.specs.PartyControl.{OpensFor, LocatesNone, MakesFor, StageAtControl, has_helped, stage_grown, event_growing, stage_growing, stage_begun, stage_advised}
+use Rattle.flurry_steps_stages.specs.Help.{Help, WantsSeat, Publishing}
+use Rattle.flurry_steps_stages.specs.Stage.{Task, Inserts, Adds, Alters, GrowFor, ForInsert, ForReserve, Resume, ThenBin, ThenRecount, ThenGrow, Stage, AtLocate, AtBin, AtHelp, AtUncount, AtCount, AtRecount, AtBegin, AtGrow, AtReserve, AtSweep, IsSingle, AtDone, resumed_stage, stage_grown}
+use Rattle.flurry_steps.specs.Party.{PartyState}
+use Rattle.flurry_steps.specs.PartyControl.{OpensFor, LocatesNone, MakesFor, StageAtControl, has_helped, event_growing, stage_growing, stage_begun, stage_advised}
 use Rattle.flurry_steps.specs.PartyBoard.{BoardAnswer, BoardStep, help_after, stage_helping, stage_answered}
 use Rattle.flurry_steps.specs.PartySlots.{MoveGives, StageAtSlot, moved_stage}
 use Rattle.flurry_steps_sweep.specs.declared.step.Event.{Event}

@@ -6,7 +6,8 @@ use Rattle.std.proofs.Common.{refl, sym, ◌∙◌, ap, subst, inl, inr}
 use Rattle.flurry_steps.specs.Field.{Loan, FieldStep}
 use Rattle.flurry_steps_sweep.specs.Outcome.{Outcome}
 use Rattle.flurry_steps_sweep.specs.Part.{Part}
-use Rattle.flurry_steps.specs.Party.{PartyState, final_outcome}
+use Rattle.flurry_steps_stages.specs.Stage.{final_outcome}
+use Rattle.flurry_steps.specs.Party.{PartyState}
 use Rattle.flurry_steps_sweep.specs.declared.step.Event.{Event}
 use Rattle.flurry_steps_theory.specs.Map.{Pairs, same}
 use Rattle.flurry_steps_theory.specs.Trace.{pairs}

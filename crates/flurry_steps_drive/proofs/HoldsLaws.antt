@@ -7,9 +7,10 @@ use Rattle.std.specs.declared.cmp.Ordering.{Ordering}
 use Rattle.std.specs.declared.cmp.Ordering.TheVariants.{Equal}
 use Rattle.std.proofs.Common.{arith, refl, ◌∙◌, ap}
 use Rattle.std.proofs.lemmas.Int.{ints}
-use Rattle.flurry_steps.specs.Party.{PartyState, stage_of_call}
-use Rattle.flurry_steps.specs.PartyView.{plain_of_owned}
-use Rattle.flurry_steps.specs.declared.party.call.OwnedCall.{OwnedCall}
+use Rattle.flurry_steps_stages.specs.Stage.{stage_of_call}
+use Rattle.flurry_steps.specs.Party.{PartyState}
+use Rattle.flurry_steps_stages.specs.CallView.{plain_of_owned}
+use Rattle.flurry_steps_stages.specs.declared.call.OwnedCall.{OwnedCall}
 use Rattle.flurry_steps_theory.specs.Trace.{pairs}
 use Rattle.flurry_steps_world.specs.Parts.{OwnLends, OwnLacks, no_parts}
 use Rattle.flurry_steps_world.specs.Steps.{fresh_world}

@@ -13,7 +13,8 @@ use Rattle.flurry_steps_sweep.specs.declared.step.Event.TheVariants as event
 use Rattle.flurry_base.specs.declared.call.Call.TheVariants as call
 use Rattle.flurry_base.specs.declared.call.Seen.{Seen}
 use Rattle.flurry_base.specs.declared.verdict.Verdict.{Verdict}
-use Rattle.flurry_steps.specs.Party.{AtSweep, PartyState, part_of, published_stage, final_outcome}
+use Rattle.flurry_steps_stages.specs.Stage.{AtSweep, part_of, published_stage, final_outcome}
+use Rattle.flurry_steps.specs.Party.{PartyState}
 use Rattle.flurry_steps.specs.PartyControl.{StageAtControl}
 use Rattle.flurry_steps.specs.PartySlots.{StageAtSlot}
 use Rattle.flurry_steps_theory.specs.Map.{Pairs}

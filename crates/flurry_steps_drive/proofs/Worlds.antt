@@ -8,7 +8,8 @@ use Rattle.std.proofs.lemmas.List.{reverse-append}
 use Rattle.std.proofs.lemmas.Option.{slice_get_within}
 use Rattle.flurry_steps_control.specs.Control.{ControlState}
 use Rattle.flurry_steps_sweep.specs.Outcome.{OutcomeReply, OutcomeEnded, OutcomeRefused, Outcome}
-use Rattle.flurry_steps.specs.Party.{Stage, AtLocate, AtBin, AtHelp, AtUncount, AtCount, AtRecount, AtBegin, AtGrow, AtReserve, AtSweep, IsSingle, final_outcome, AtDone, AtTaken, PartyState, wanted_part, with_stage, published_stage, is_locating, outcome_in, last_seen, task_of_call, stage_of_call}
+use Rattle.flurry_steps_stages.specs.Stage.{Stage, AtLocate, AtBin, AtHelp, AtUncount, AtCount, AtRecount, AtBegin, AtGrow, AtReserve, AtSweep, IsSingle, final_outcome, AtDone, AtTaken, published_stage, is_locating, outcome_in, last_seen, task_of_call, stage_of_call}
+use Rattle.flurry_steps.specs.Party.{PartyState, wanted_part, with_stage}
 use Rattle.flurry_steps_sweep.specs.declared.step.Event.{Event}
 use Rattle.flurry_steps_sweep.specs.declared.step.Event.TheVariants as event
 use Rattle.flurry_steps_sweep.specs.Sweep.{SweepKind, Reads, Wipes}

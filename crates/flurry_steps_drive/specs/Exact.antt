@@ -5,7 +5,8 @@ use Rattle.std.specs.declared.cmp.Ordering.TheVariants.{Equal}
 use Rattle.flurry_steps.specs.Field.{Loan}
 use Rattle.flurry_steps_sweep.specs.Outcome.{Outcome, OutcomeReply, OutcomeEnded, OutcomeRefused}
 use Rattle.flurry_steps_sweep.specs.Part.{Part}
-use Rattle.flurry_steps.specs.Party.{PartyState, stage_of_call}
+use Rattle.flurry_steps_stages.specs.Stage.{stage_of_call}
+use Rattle.flurry_steps.specs.Party.{PartyState}
 use Rattle.flurry_base.specs.OneKey.{key_of}
 use Rattle.flurry_steps_theory.specs.Map.{Pairs, after, Allows, CanBeRefused}
 use Rattle.flurry_steps_theory.specs.Trace.{pairs}

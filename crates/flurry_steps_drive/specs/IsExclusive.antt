@@ -3,7 +3,8 @@ use Rattle.std.specs.Prelude.{◌≡◌, ◌⊎◌, ℕ, Bool, true, Option}
 use Rattle.std.specs.declared.cmp.Ordering.{Ordering}
 use Rattle.flurry_steps.specs.Field.{Loan}
 use Rattle.flurry_steps_sweep.specs.Part.{Part}
-use Rattle.flurry_steps.specs.Party.{PartyState, is_locating, published_stage, wanted_part, with_stage}
+use Rattle.flurry_steps_stages.specs.Stage.{is_locating, published_stage}
+use Rattle.flurry_steps.specs.Party.{PartyState, wanted_part, with_stage}
 use Rattle.flurry_steps_sweep.specs.declared.step.Event.{Event}
 use Rattle.flurry_steps_sweep.specs.declared.step.Event.TheVariants as event
 use Rattle.flurry_steps_world.specs.Parts.{Parts, IsPublishedTable, IsOwn, IsThere, PartStep}

@@ -1,10 +1,11 @@
 -- A call before its first step.
 use Rattle.std.specs.Prelude.{◌≡◌, ℕ, List, slice_get, Some, None}
 use Rattle.std.proofs.Common.{refl, sym, ◌∙◌, ap}
-use Rattle.flurry_steps.specs.Party.{RemovesSeen, AtLocate, PartyState, last_seen, stage_of_call}
-use Rattle.flurry_steps.specs.PartyView.{plain_of_owned}
-use Rattle.flurry_steps.specs.declared.party.call.OwnedCall.{OwnedCall}
-use Rattle.flurry_steps.specs.declared.party.call.OwnedCall.TheVariants as owned
+use Rattle.flurry_steps_stages.specs.Stage.{RemovesSeen, AtLocate, last_seen, stage_of_call}
+use Rattle.flurry_steps.specs.Party.{PartyState}
+use Rattle.flurry_steps_stages.specs.CallView.{plain_of_owned}
+use Rattle.flurry_steps_stages.specs.declared.call.OwnedCall.{OwnedCall}
+use Rattle.flurry_steps_stages.specs.declared.call.OwnedCall.TheVariants as owned
 use Rattle.flurry_base.specs.declared.call.Call.{Call}
 use Rattle.flurry_base.specs.declared.call.Call.TheVariants as call
 use Rattle.flurry_base.specs.declared.call.Seen.{Seen}

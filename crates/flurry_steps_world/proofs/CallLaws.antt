@@ -11,7 +11,7 @@ use Rattle.flurry_base.specs.declared.call.Call.{Call}
 use Rattle.flurry_base.specs.declared.call.Call.TheVariants.{Insert, TryInsert, Alter, RemoveSeen, Reserve, Clear, Walk}
 use Rattle.flurry_base.specs.declared.verdict.Verdict.{Verdict}
 use Rattle.flurry_base.specs.declared.verdict.Verdict.TheVariants.{Keep}
-use Rattle.flurry_steps.specs.Party.{Task, Finds, Removes, Inserts, Adds, Alters, reply_for, task_of_call}
+use Rattle.flurry_steps_stages.specs.Stage.{Task, Finds, Removes, Inserts, Adds, Alters, reply_for, task_of_call}
 
 -- it adds nothing to an empty map
 abbrev pub AddsNothing : {K V F : Type 0} → Task K V F → Type 0

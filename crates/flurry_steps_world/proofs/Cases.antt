@@ -8,7 +8,8 @@ use Rattle.std.proofs.lemmas.Int.{ints}
 use Rattle.flurry_steps_control.specs.Control as control
 use Rattle.flurry_steps_control.specs.Control.{ControlState}
 use Rattle.flurry_steps_sweep.specs.Outcome.{Outcome}
-use Rattle.flurry_steps.specs.Party.{Stage, PartyState}
+use Rattle.flurry_steps_stages.specs.Stage.{Stage}
+use Rattle.flurry_steps.specs.Party.{PartyState}
 use Rattle.flurry_steps_sweep.specs.declared.step.Event.{Event}
 use Rattle.flurry_steps_theory.specs.Machine.{Done, Quiet, Counts}
 use Rattle.flurry_steps_theory.specs.Map.{same}

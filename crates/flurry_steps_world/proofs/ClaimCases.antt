@@ -11,7 +11,9 @@ use Rattle.flurry_steps_claims.specs.declared.range.Attempt.{Attempt}
 use Rattle.flurry_steps_claims.specs.declared.range.Attempt.TheVariants.{Got, Nothing}
 use Rattle.flurry_steps_control.specs.Claim.{ClaimState, whole_claim, moved_range}
 use Rattle.flurry_steps_control.specs.Control.{ControlState, GrowthIsIn, after_publish, is_growing}
-use Rattle.flurry_steps.specs.Party.{Help, WantsSeat, AtBoard, Moving, Publishing, GivesBack, Resume, ThenBin, ThenRecount, ThenGrow, ForInsert, ForReserve, AtHelp, PartyState, helped_table, resumed_stage}
+use Rattle.flurry_steps_stages.specs.Help.{Help, WantsSeat, AtBoard, Moving, Publishing, GivesBack, helped_table}
+use Rattle.flurry_steps_stages.specs.Stage.{Resume, ThenBin, ThenRecount, ThenGrow, ForInsert, ForReserve, AtHelp, resumed_stage}
+use Rattle.flurry_steps.specs.Party.{PartyState}
 use Rattle.flurry_steps.specs.PartyBoard.{BoardAnswer, Seated, Attempted, Reported, TakenBack, HelpAsks, HasRange, StageAsks, help_after, help_attempted, stage_helping, stage_answered}
 use Rattle.flurry_steps.specs.PartyControl.{event_published}
 use Rattle.flurry_steps_sweep.specs.declared.step.Event.{Event}

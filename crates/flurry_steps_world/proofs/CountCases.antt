@@ -13,8 +13,10 @@ use Rattle.flurry_steps_control.specs.declared.control.Advice.TheVariants.{Enoug
 use Rattle.flurry_steps_control.specs.declared.control.BeginOutcome.{BeginOutcome}
 use Rattle.flurry_steps_control.specs.declared.control.BeginOutcome.TheVariants as begin
 use Rattle.flurry_steps_sweep.specs.Outcome.{Outcome, OutcomeReply, OutcomeEnded, OutcomeRefused}
-use Rattle.flurry_steps.specs.Party.{GrowFor, ForInsert, ForReserve, AtBoard, WantsSeat, ThenRecount, ThenGrow, Stage, AtHelp, AtUncount, AtCount, AtRecount, AtBegin, AtGrow, AtDone, PartyState}
-use Rattle.flurry_steps.specs.PartyControl.{has_helped, stage_advised, stage_begun, stage_grown, stage_not_grown, stage_growing, event_begun, event_growing, event_not_grown}
+use Rattle.flurry_steps_stages.specs.Help.{AtBoard, WantsSeat}
+use Rattle.flurry_steps_stages.specs.Stage.{GrowFor, ForInsert, ForReserve, ThenRecount, ThenGrow, Stage, AtHelp, AtUncount, AtCount, AtRecount, AtBegin, AtGrow, AtDone, stage_grown}
+use Rattle.flurry_steps.specs.Party.{PartyState}
+use Rattle.flurry_steps.specs.PartyControl.{has_helped, stage_advised, stage_begun, stage_not_grown, stage_growing, event_begun, event_growing, event_not_grown}
 use Rattle.flurry_steps_sweep.specs.declared.step.Event.{Event}
 use Rattle.flurry_steps_sweep.specs.declared.step.Event.TheVariants as event
 use Rattle.flurry_steps_theory.specs.Map.{same}

@@ -16,7 +16,7 @@ use Rattle.flurry_base.proofs.HashOrderLaws.{hash_then_key_total}
 use Rattle.flurry_bins_slots.specs.Slot as slot
 use Rattle.flurry_bins_slots.specs.Slot.{PlainEntry, Live, ComputeOutcome, WasAbsent, WasRemoved, WasChanged, pair_of_entry, verdict_outcome, next_number, entry_of_live, after_write, after_take, after_verdict, asks, is_unwritten_since}
 use Rattle.flurry_steps_sweep.specs.Outcome.{OutcomeReply}
-use Rattle.flurry_steps.specs.Party.{AnswerForm, TheValue, ThePair, Presence, Task, Finds, Removes, RemovesSeen, Inserts, Adds, Computes, Alters, Stage, AtDone, reply_for, outcome_in, IsWriter, task_of_call}
+use Rattle.flurry_steps_stages.specs.Stage.{AnswerForm, TheValue, ThePair, Presence, Task, Finds, Removes, RemovesSeen, Inserts, Adds, Computes, Alters, Stage, AtDone, reply_for, outcome_in, IsWriter, task_of_call}
 use Rattle.flurry_steps.specs.PartySlots as party
 use Rattle.flurry_steps.specs.PartySlots.{DecidesAt, GoesOnNew, GoesOnWritten, GoesOnAdded, GoesOnAltered, stage_taken, stage_computed, stage_moved}
 use Rattle.flurry_base.specs.OneKey.{key_of}

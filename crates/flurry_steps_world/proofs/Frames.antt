@@ -9,7 +9,8 @@ use Rattle.std.specs.Cmp.{IsTotalOrder}
 use Rattle.flurry_bins_slots.specs.Slot.{Live, IsLive}
 use Rattle.flurry_steps_claims.specs.PlainBoard.{PlainBoardState, unclaimed_of}
 use Rattle.flurry_steps_control.specs.Control.{ControlState, IsControl, after_count}
-use Rattle.flurry_steps.specs.Party.{PartyState, last_seen}
+use Rattle.flurry_steps_stages.specs.Stage.{last_seen}
+use Rattle.flurry_steps.specs.Party.{PartyState}
 use Rattle.flurry_steps_theory.specs.Map.{same}
 use Rattle.flurry_steps_theory.specs.Machine.{Transition, Enabled, next_state}
 use Rattle.flurry_steps_theory.specs.Invariant.{Inv, home_after}

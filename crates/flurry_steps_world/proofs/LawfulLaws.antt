@@ -5,7 +5,7 @@ use Rattle.std.specs.Cmp.{IsTotalOrder}
 use Rattle.std.proofs.Common.{refl, sym, ◌∙◌, ap, subst, inl, inr}
 use Rattle.flurry_base.specs.declared.reply.KeptReply.{KeptReply}
 use Rattle.flurry_steps_sweep.specs.Outcome.{OutcomeReply, OutcomeEnded, OutcomeRefused}
-use Rattle.flurry_steps.specs.Party.{ForReserve, Stage, AtLocate, AtBin, AtHelp, AtGrow, AtReserve, AtSweep, AtDone, AtTaken}
+use Rattle.flurry_steps_stages.specs.Stage.{ForReserve, Stage, AtLocate, AtBin, AtHelp, AtGrow, AtReserve, AtSweep, AtDone, AtTaken}
 use Rattle.flurry_base.specs.OneKey.{key_of}
 use Rattle.flurry_steps_theory.specs.Map.{same}
 use Rattle.flurry_steps_theory.specs.Machine.{Mode, Locating, Looking, Done, Finished}

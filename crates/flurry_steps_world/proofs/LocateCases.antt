@@ -8,7 +8,8 @@ use Rattle.flurry_bins_slots.specs.Slot.{IsLive}
 use Rattle.std.proofs.lemmas.List.{set-get_or}
 use Rattle.flurry_steps_control.specs.Control.{ControlState, after_open, GrowthIsIn}
 use Rattle.flurry_steps_sweep.specs.Outcome.{OutcomeReply, OutcomeRefused}
-use Rattle.flurry_steps.specs.Party.{Task, Finds, Removes, RemovesSeen, Inserts, Adds, Computes, Alters, ForReserve, Stage, AtLocate, AtBin, AtGrow, AtReserve, AtDone, PartyState, reply_for, task_of_call}
+use Rattle.flurry_steps_stages.specs.Stage.{Task, Finds, Removes, RemovesSeen, Inserts, Adds, Computes, Alters, ForReserve, Stage, AtLocate, AtBin, AtGrow, AtReserve, AtDone, reply_for, task_of_call}
+use Rattle.flurry_steps.specs.Party.{PartyState}
 use Rattle.flurry_steps.specs.PartyControl.{OpensFor, LocatesNone, MakesFor, ReservesFor}
 use Rattle.flurry_steps_sweep.specs.declared.step.Event.{Event}
 use Rattle.flurry_steps_sweep.specs.declared.step.Event.TheVariants as event

@@ -2,7 +2,8 @@
 use Rattle.std.specs.Prelude.{ℕ, None, ◌≡◌}
 use Rattle.std.proofs.Common.{refl}
 use Rattle.flurry_base.specs.declared.call.Call.{Call}
-use Rattle.flurry_steps.specs.Party.{WantsSeat, Resume, ThenBin, Stage, AtHelp, resumed_stage, last_seen}
+use Rattle.flurry_steps_stages.specs.Help.{WantsSeat}
+use Rattle.flurry_steps_stages.specs.Stage.{Resume, ThenBin, Stage, AtHelp, resumed_stage, last_seen}
 use Rattle.flurry_steps.specs.PartyBoard.{stage_lost}
 use Rattle.flurry_steps_world.specs.World.{mode_of_stage, FollowsStage}
 use Rattle.flurry_steps_world.proofs.StateLaws.{held_of_stage}

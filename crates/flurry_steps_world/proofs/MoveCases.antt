@@ -8,7 +8,9 @@ use Rattle.flurry_bins_slots.specs.Slot as slots
 use Rattle.flurry_bins_slots.specs.Slot.{SlotState, Content, IsLive, HasMoved, IsUnborn, IsSlot, IsLiveIn, IsContent, AreHalves, IfLive, half}
 use Rattle.flurry_steps_control.specs.Claim.{ClaimState, next_of, moved_on}
 use Rattle.flurry_steps_control.specs.Control.{ControlState}
-use Rattle.flurry_steps.specs.Party.{Resume, Moving, AtHelp, PartyState, with_stage}
+use Rattle.flurry_steps_stages.specs.Help.{Moving}
+use Rattle.flurry_steps_stages.specs.Stage.{Resume, AtHelp}
+use Rattle.flurry_steps.specs.Party.{PartyState, with_stage}
 use Rattle.flurry_steps.specs.PartySlots.{MoveGives, moved_stage}
 use Rattle.flurry_steps_sweep.specs.declared.step.Event.{Event}
 use Rattle.flurry_steps_sweep.specs.declared.step.Event.TheVariants as event

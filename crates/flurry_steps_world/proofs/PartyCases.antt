@@ -8,7 +8,9 @@ use Rattle.flurry_bins_slots.specs.Slot.{SlotState, IsSlot, IsContent}
 use Rattle.flurry_steps_control.specs.Claim.{ClaimState, next_of}
 use Rattle.flurry_steps_control.specs.Control.{ControlState}
 use Rattle.flurry_steps_sweep.specs.Part.{ControlPart, LookPart, BinPart}
-use Rattle.flurry_steps.specs.Party.{Task, Finds, Removes, RemovesSeen, Inserts, Adds, Computes, Alters, Help, WantsSeat, AtBoard, Moving, Publishing, GivesBack, Resume, Stage, AtLocate, AtBin, AtHelp, AtUncount, AtCount, AtRecount, AtBegin, AtGrow, AtReserve, AtSweep, AtDone, AtTaken, PartyState, part_of, wanted_part, move_part, helped_table, IsSingle}
+use Rattle.flurry_steps_stages.specs.Help.{Help, WantsSeat, AtBoard, Moving, Publishing, GivesBack, move_part, helped_table}
+use Rattle.flurry_steps_stages.specs.Stage.{Task, Finds, Removes, RemovesSeen, Inserts, Adds, Computes, Alters, Resume, Stage, AtLocate, AtBin, AtHelp, AtUncount, AtCount, AtRecount, AtBegin, AtGrow, AtReserve, AtSweep, AtDone, AtTaken, part_of, IsSingle}
+use Rattle.flurry_steps.specs.Party.{PartyState, wanted_part}
 use Rattle.flurry_steps.specs.PartyControl.{StageAtControl, ControlStep}
 use Rattle.flurry_steps.specs.PartySlots.{SlotStep, MoveGives, StageAtSlot}
 use Rattle.flurry_steps_sweep.specs.declared.step.Event.{Event}

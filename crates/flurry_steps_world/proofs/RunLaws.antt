@@ -3,9 +3,9 @@ use Rattle.std.specs.Prelude.{ℕ, suc, List, [], ◌∷◌, ◌++◌, All, Opti
 use Rattle.std.specs.declared.cmp.Ordering.{Ordering}
 use Rattle.std.proofs.Common.{arith, refl, subst}
 use Rattle.flurry_steps_world.specs.World.{WorldState}
-use Rattle.flurry_steps.specs.PartyView.{OwnedIsReady}
-use Rattle.flurry_steps.specs.declared.party.call.OwnedCall.{OwnedCall}
-use Rattle.flurry_steps.specs.declared.party.call.OwnedCall.TheVariants as owned
+use Rattle.flurry_steps_stages.specs.CallView.{OwnedIsReady}
+use Rattle.flurry_steps_stages.specs.declared.call.OwnedCall.{OwnedCall}
+use Rattle.flurry_steps_stages.specs.declared.call.OwnedCall.TheVariants as owned
 use Rattle.flurry_steps_world.specs.Runs.{DoesStep, Runs, StepIsReady}
 use Rattle.flurry_steps_world.specs.declared.world.Step.{Step}
 use Rattle.flurry_steps_world.specs.declared.world.Step.TheVariants as step

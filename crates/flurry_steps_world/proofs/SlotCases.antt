@@ -6,7 +6,8 @@ use Rattle.std.proofs.Common.{arith, refl, sym, ◌∙◌, ap, subst}
 use Rattle.std.proofs.lemmas.Bool.{eqb-true}
 use Rattle.flurry_bins_slots.specs.Slot as slots
 use Rattle.flurry_bins_slots.specs.Slot.{SlotState, Content, IsLive, HasMoved, IsUnborn, IsLiveIn, IsContent}
-use Rattle.flurry_steps.specs.Party.{Task, AtBin, PartyState, outcome_in, task_of_call}
+use Rattle.flurry_steps_stages.specs.Stage.{Task, AtBin, outcome_in, task_of_call}
+use Rattle.flurry_steps.specs.Party.{PartyState}
 use Rattle.flurry_steps.specs.PartySlots as party
 use Rattle.flurry_steps.specs.PartySlots.{DecidesAt, LiveGives, ContentGives}
 use Rattle.flurry_steps_sweep.specs.declared.step.Event.{Event}

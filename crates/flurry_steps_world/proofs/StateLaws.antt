@@ -10,7 +10,8 @@ use Rattle.flurry_base.specs.declared.call.Call.{Call}
 use Rattle.flurry_base.specs.declared.verdict.Verdict.{Verdict}
 use Rattle.flurry_steps_theory.specs.declared.Label.{Label}
 use Rattle.flurry_steps_control.specs.Control.{ControlState}
-use Rattle.flurry_steps.specs.Party.{Stage, PartyState, last_seen}
+use Rattle.flurry_steps_stages.specs.Stage.{Stage, last_seen}
+use Rattle.flurry_steps.specs.Party.{PartyState}
 use Rattle.flurry_steps_world.specs.Entries.{slot_of}
 use Rattle.flurry_steps_world.specs.Tables.{Tables, content_at}
 use Rattle.flurry_steps_world.specs.World.{PartyRecord, WorldState, state_of, start_of, growth_of, mode_in, claim_in, told_in, seen_in, began_from_in, steps_in, mode_of_stage, claim_of_stage, told_of_stage, history}

@@ -22,7 +22,8 @@ use Rattle.flurry_steps_sweep.specs.Sweep as sweep
 use Rattle.flurry_steps_sweep.specs.Sweep.{SweepKind, Reads, Wipes, SweepStage, AtSweepStart, OverBins, AtTotal, AtEnd, AfterEnd, SweepState, WalkGives, ClearGives, SplitGives, ReadGives, BinGives, part_at, bin_part, start_stage_at, more_wiped, stage_walked, stage_cleared}
 use Rattle.flurry_steps_sweep.specs.declared.step.Event.{Event}
 use Rattle.flurry_steps_sweep.specs.declared.step.Event.TheVariants as event
-use Rattle.flurry_steps.specs.Party.{AtSweep, PartyState, part_of, last_seen}
+use Rattle.flurry_steps_stages.specs.Stage.{AtSweep, part_of, last_seen}
+use Rattle.flurry_steps.specs.Party.{PartyState}
 use Rattle.flurry_steps.specs.PartyControl.{StageAtControl, ControlStep}
 use Rattle.flurry_steps.specs.PartySlots.{StageAtSlot}
 use Rattle.flurry_steps_theory.specs.Map.{same}

@@ -2,7 +2,7 @@
 use Rattle.std.specs.Prelude.{◌≡◌, ℕ, false, Option, Some, None, IsNone, IsSome, ⊤}
 use Rattle.std.proofs.Common.{arith, refl, sym, ◌∙◌, ap, subst}
 use Rattle.flurry_steps_sweep.specs.Sweep.{SweepKind, Reads, Wipes}
-use Rattle.flurry_steps.specs.Party.{ForInsert, ForReserve, Resume, ThenBin, ThenRecount, ThenGrow, Stage, AtLocate, AtBin, AtHelp, AtGrow, AtReserve, AtSweep, AtDone, AtTaken, last_seen, IsSingle, task_of_call}
+use Rattle.flurry_steps_stages.specs.Stage.{ForInsert, ForReserve, Resume, ThenBin, ThenRecount, ThenGrow, Stage, AtLocate, AtBin, AtHelp, AtGrow, AtReserve, AtSweep, AtDone, AtTaken, last_seen, IsSingle, task_of_call}
 use Rattle.flurry_base.specs.OneKey.{key_of}
 use Rattle.flurry_steps_theory.specs.Trace.{is_lookup}
 use Rattle.flurry_base.specs.declared.call.Call.{Call}

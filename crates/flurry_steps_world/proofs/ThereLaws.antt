@@ -9,7 +9,9 @@ use Rattle.flurry_steps_control.specs.Claim.{ClaimState}
 use Rattle.flurry_steps_sweep.specs.Cursor.{CursorState}
 use Rattle.flurry_steps_sweep.specs.Sweep as swept
 use Rattle.flurry_steps_sweep.specs.Sweep.{SweepKind, Reads, Wipes, SweepStage, AtSweepStart, OverBins, AtTotal, AtEnd, AfterEnd, SweepState, IsUnderWay}
-use Rattle.flurry_steps.specs.Party.{Task, Finds, Removes, RemovesSeen, Inserts, Adds, Computes, Alters, Moving, Resume, Stage, AtBin, AtHelp, AtSweep, AtDone, AtTaken, part_of, wanted_part, bin_part, move_part}
+use Rattle.flurry_steps_stages.specs.Help.{Moving, move_part}
+use Rattle.flurry_steps_stages.specs.Stage.{Task, Finds, Removes, RemovesSeen, Inserts, Adds, Computes, Alters, Resume, Stage, AtBin, AtHelp, AtSweep, AtDone, AtTaken, part_of, bin_part}
+use Rattle.flurry_steps.specs.Party.{wanted_part}
 use Rattle.flurry_base.specs.OneKey.{key_of}
 use Rattle.flurry_base.specs.declared.verdict.Verdict.{Verdict}
 use Rattle.flurry_steps_theory.specs.Map.{same}

@@ -9,7 +9,8 @@ use Rattle.flurry_steps_control.specs.Control.{ControlState}
 use Rattle.flurry_steps_sweep.specs.Outcome.{Outcome, OutcomeReply, OutcomeEnded, OutcomeRefused}
 use Rattle.flurry_steps_sweep.specs.Sweep as sweep
 use Rattle.flurry_steps_sweep.specs.Sweep.{SweepState, SweepStage, AtSweepStart, OverBins, AtTotal, AtEnd, AfterEnd}
-use Rattle.flurry_steps.specs.Party.{Stage, AtSweep, AtDone, AtTaken, PartyState, with_stage, taken_stage, last_seen, part_of, IsSingle}
+use Rattle.flurry_steps_stages.specs.Stage.{Stage, AtSweep, AtDone, AtTaken, taken_stage, last_seen, part_of, IsSingle}
+use Rattle.flurry_steps.specs.Party.{PartyState, with_stage}
 use Rattle.flurry_base.specs.OneKey.{key_of}
 use Rattle.flurry_steps_theory.specs.Map.{same}
 use Rattle.flurry_steps_theory.specs.Machine.{Enabled, Locating, Done, Finished, Begins, Quiet, Loses, Replies, Ends, update, next_state}

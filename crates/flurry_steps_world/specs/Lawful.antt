@@ -8,7 +8,7 @@ use Rattle.flurry_bins_slots.specs.Slot.{IsUnborn}
 use Rattle.flurry_steps_sweep.specs.Cursor.{CursorState}
 use Rattle.flurry_steps_sweep.specs.Outcome.{OutcomeReply}
 use Rattle.flurry_steps_sweep.specs.Sweep.{OverBins, SweepState}
-use Rattle.flurry_steps.specs.Party.{Task, AtBin, AtSweep, AtDone}
+use Rattle.flurry_steps_stages.specs.Stage.{Task, AtBin, AtSweep, AtDone}
 use Rattle.flurry_steps_theory.specs.Machine.{owes_added, owes_removed, total}
 use Rattle.flurry_steps_theory.specs.Trace.{is_lookup, decision, has_replied, has_closed, pairs}
 use Rattle.flurry_steps_theory.specs.Legal.{EachMay, RemovalMay, Legal}

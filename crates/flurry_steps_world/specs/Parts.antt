@@ -8,7 +8,8 @@ use Rattle.flurry_steps_control.specs.Control.{ControlState}
 use Rattle.flurry_steps.specs.Field.{Loan, ControlLoan, PublishedLoan, TallyLoan, LookLoan, BinLoan, MoveLoan, BoardLoan}
 use Rattle.flurry_steps_sweep.specs.Sweep.{IsUnderWay}
 use Rattle.flurry_steps_sweep.specs.Part.{Part, ControlPart, LookPart, BinPart, MovePart, SeatPart, BoardPart, GivePart, NoPart}
-use Rattle.flurry_steps.specs.Party.{Stage, AtSweep, AtDone, AtTaken, PartyState}
+use Rattle.flurry_steps_stages.specs.Stage.{Stage, AtSweep, AtDone, AtTaken}
+use Rattle.flurry_steps.specs.Party.{PartyState}
 use Rattle.flurry_steps.specs.PartyBoard.{BoardAnswer, Seated, Attempted, Reported, TakenBack, BoardStep}
 use Rattle.flurry_steps.specs.PartyControl.{ControlStep}
 use Rattle.flurry_steps.specs.PartySlots.{SlotStep, MoveStep}

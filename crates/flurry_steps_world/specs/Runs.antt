@@ -3,9 +3,9 @@ use Rattle.std.specs.Prelude.{◌≡◌, ◌⊎◌, ℕ, ◌^◌, ◌≤◌, ◌
 use Rattle.std.specs.declared.cmp.Ordering.{Ordering}
 use Rattle.flurry_base.specs.OneKey.{hash_of_call}
 use Rattle.flurry_base.specs.Sizes.{wanted_of}
-use Rattle.flurry_steps.specs.Party.{RemovesSeen, AtLocate, stage_of_call}
-use Rattle.flurry_steps.specs.PartyView.{OwnedIsReady, plain_of_owned}
-use Rattle.flurry_steps.specs.declared.party.call.OwnedCall.{OwnedCall}
+use Rattle.flurry_steps_stages.specs.Stage.{RemovesSeen, AtLocate, stage_of_call}
+use Rattle.flurry_steps_stages.specs.CallView.{OwnedIsReady, plain_of_owned}
+use Rattle.flurry_steps_stages.specs.declared.call.OwnedCall.{OwnedCall}
 use Rattle.flurry_base.specs.declared.call.Call.TheVariants as call
 use Rattle.flurry_base.specs.declared.call.Seen.{Seen}
 use Rattle.flurry_steps_world.specs.Tables.{no_tables, with_table}

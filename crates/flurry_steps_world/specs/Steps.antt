@@ -4,7 +4,8 @@ use Rattle.std.specs.declared.cmp.Ordering.{Ordering}
 use Rattle.flurry_steps_control.specs.Control.{ControlState}
 use Rattle.flurry_steps_sweep.specs.Outcome.{Outcome, OutcomeReply, OutcomeEnded, OutcomeRefused}
 use Rattle.flurry_steps_sweep.specs.Sweep.{SweepStage, AtEnd, AfterEnd}
-use Rattle.flurry_steps.specs.Party.{Stage, AtSweep, AtDone, AtTaken, PartyState, with_stage, taken_stage, wanted_part, outcome_in, last_seen}
+use Rattle.flurry_steps_stages.specs.Stage.{Stage, AtSweep, AtDone, AtTaken, taken_stage, outcome_in, last_seen}
+use Rattle.flurry_steps.specs.Party.{PartyState, with_stage, wanted_part}
 use Rattle.flurry_steps.specs.PartyBoard.{lost}
 use Rattle.flurry_steps_sweep.specs.declared.step.Event.{Event}
 use Rattle.flurry_steps_sweep.specs.declared.step.Event.TheVariants.{Decide, Read, Wipe, Refused, Opened, Placed, Moved, Published, Silent}

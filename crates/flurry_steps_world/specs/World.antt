@@ -11,7 +11,9 @@ use Rattle.flurry_steps_sweep.specs.Outcome.{Outcome, OutcomeReply, OutcomeEnded
 use Rattle.flurry_steps_sweep.specs.Cursor as cursor
 use Rattle.flurry_steps_sweep.specs.Cursor.{CursorState}
 use Rattle.flurry_steps_sweep.specs.Sweep.{SweepKind, Reads, Wipes, SweepStage, AtSweepStart, OverBins, AtTotal, AtEnd, AfterEnd}
-use Rattle.flurry_steps.specs.Party.{GrowFor, ForInsert, ForReserve, Help, Moving, Publishing, Resume, ThenBin, ThenRecount, ThenGrow, Stage, AtLocate, AtBin, AtHelp, AtUncount, AtCount, AtRecount, AtBegin, AtGrow, AtReserve, AtSweep, AtDone, AtTaken, PartyState, last_seen, task_of_call}
+use Rattle.flurry_steps_stages.specs.Help.{Help, Moving, Publishing}
+use Rattle.flurry_steps_stages.specs.Stage.{GrowFor, ForInsert, ForReserve, Resume, ThenBin, ThenRecount, ThenGrow, Stage, AtLocate, AtBin, AtHelp, AtUncount, AtCount, AtRecount, AtBegin, AtGrow, AtReserve, AtSweep, AtDone, AtTaken, last_seen, task_of_call}
+use Rattle.flurry_steps.specs.Party.{PartyState}
 use Rattle.flurry_steps_theory.specs.Machine as machine
 use Rattle.flurry_steps_theory.specs.Machine.{State, Mode, Locating, Looking, Walking, Clearing, Done, Finished}
 use Rattle.flurry_base.specs.OneKey.{key_of}

@@ -1,9 +1,9 @@
 //! A call of a world.
 ghost use Rattle.std.specs.Prelude.{◌≡◌, None, Some};
 ghost use Rattle.flurry_base.specs.OneKey.{hash_of_call};
-ghost use Rattle.flurry_steps.specs.PartyView.{plain_of_owned};
+ghost use Rattle.flurry_steps_stages.specs.CallView.{plain_of_owned};
 ghost use Rattle.flurry_base.specs.declared.call.Call.TheVariants as call;
-ghost use Rattle.flurry_steps.specs.Party.{RemovesSeen, AtLocate};
+ghost use Rattle.flurry_steps_stages.specs.Stage.{RemovesSeen, AtLocate};
 
 use flurry_base::call::Seen as KeptSeen;
 use flurry_base::hash::KeyHasher;

@@ -1,7 +1,7 @@
 //! A world: calls on a map, whose steps come in any order.
 ghost use Rattle.std.specs.Prelude.{◌≡◌, ◌<◌, length, pos, slice_get, None, All, OnOk, OnErr, IfOk, IfSome};
 ghost use Rattle.std.specs.Vec.{vec_len, vec_capacity};
-ghost use Rattle.flurry_steps.specs.PartyView.{OwnedIsReady};
+ghost use Rattle.flurry_steps_stages.specs.CallView.{OwnedIsReady};
 ghost use Rattle.flurry_steps_world.specs.Lawful.{IsLawful};
 ghost use Rattle.flurry_steps_world.specs.Runs.{DoesStep, Drops, NewGives, Runs, RunsFront, StepIsReady, begun_with};
 ghost use Rattle.flurry_steps_world.specs.Steps.{WorldStep, WorldLoses, fresh_world};

@@ -2,19 +2,19 @@
 ghost use Rattle.std.specs.Prelude.{◌≡◌, ◌<◌, ◌≤◌, None};
 ghost use Rattle.flurry_steps_control.specs.Control.{after_count, advice_of, after_publish};
 ghost use Rattle.flurry_steps_sweep.specs.Outcome.{OutcomeReply};
-ghost use Rattle.flurry_steps.specs.Party.{ResumeIsReady, IsDecided, GrowForIsReady, StageIsReady, TaskIsReady, IsAtControl, AtLocate, AtBegin, AtGrow, AtHelp, GivesBack, AtReserve, reply_for};
+ghost use Rattle.flurry_steps_stages.specs.Help.{GivesBack};
+ghost use Rattle.flurry_steps_stages.specs.Stage.{ResumeIsReady, IsDecided, GrowForIsReady, StageIsReady, TaskIsReady, IsAtControl, AtLocate, AtBegin, AtGrow, AtHelp, AtReserve, reply_for};
 ghost use Rattle.flurry_steps.specs.PartyControl.{StageAtControl, stage_advised, event_published};
 ghost use Rattle.flurry_steps_sweep.specs.OutcomeView.{outcome_of};
-ghost use Rattle.flurry_steps.specs.PartyView.{resume_of, stage_of, task_of, grow_for_of, form_of};
+ghost use Rattle.flurry_steps_stages.specs.StageView.{resume_of, stage_of, task_of, grow_for_of, form_of};
 ghost use Rattle.flurry_base.specs.declared.sizes.TheConstants.{MAX_TABLE};
 
-use super::call::{AnswerForm, Task};
-use super::stage::{GrowFor, Help, Resume, Stage};
 use super::{Event, Reply};
 use flurry_base::query::Query;
 use flurry_base::sizes::FIRST_TABLE;
 use flurry_bins_slots::ComputeFn;
 use flurry_steps_control::{Advice, BeginOutcome, Control, Room, wanted_table};
+use flurry_steps_stages::{AnswerForm, GrowFor, Help, Resume, Stage, Task};
 use std::alloc::Allocator;
 
 // Does the step of a call that is at the control, and has helped the growth from `helped` last. Returns the stage after it, and what the

@@ -5,16 +5,14 @@ ghost use Rattle.flurry_bins_slots.specs.LiveView.{view_of_inserted, view_of_add
 ghost use Rattle.flurry_bins.specs.PlainEntries.{numbered_pair};
 ghost use Rattle.flurry_bins_slots.specs.Slot.{IsSlot, IsUnborn, LiesInBin};
 ghost use Rattle.flurry_steps_sweep.specs.Outcome.{OutcomeReply};
-ghost use Rattle.flurry_steps.specs.Party.{StageIsReady, TaskIsReady, IsWriter, IsDecided, steps_left, Finds, Removes, RemovesSeen, Inserts, Adds, Computes, Alters, reply_for};
+ghost use Rattle.flurry_steps_stages.specs.Stage.{StageIsReady, TaskIsReady, IsWriter, IsDecided, steps_left, Finds, Removes, RemovesSeen, Inserts, Adds, Computes, Alters, reply_for};
 ghost use Rattle.flurry_steps.specs.PartySlots.{ContentGives, GoesOnNew, GoesOnWritten, GoesOnAdded, GoesOnAltered, FindCanBeRefused, stage_computed};
 ghost use Rattle.flurry_steps_sweep.specs.OutcomeView.{outcome_of};
-ghost use Rattle.flurry_steps.specs.PartyView.{plain_key, stage_of, task_of, form_of};
+ghost use Rattle.flurry_steps_stages.specs.CallView.{plain_key};
+ghost use Rattle.flurry_steps_stages.specs.StageView.{stage_of, task_of, form_of};
 ghost use Rattle.flurry_base.specs.declared.sizes.TheConstants.{MAX_TABLE};
 
 use super::at_control::absent_reply;
-use super::call::{AnswerForm, Key, Task};
-use super::left::Left;
-use super::stage::{GrowFor, Help, Resume, Stage};
 use super::{Event, Reply};
 use flurry_base::query::Query;
 use flurry_bins::bin::Entry;
@@ -22,6 +20,7 @@ use flurry_bins_slots::{
     Added, Altered, Answer, ComputeFn, Computed, Given, Inserted, Replaced, Slot,
 };
 use flurry_steps_control::wanted_table;
+use flurry_steps_stages::{AnswerForm, GrowFor, Help, Key, Left, Resume, Stage, Task};
 use flurry_steps_sweep::Seen;
 use std::alloc::{AllocError, Allocator};
 use std::sync::Arc;

@@ -1,14 +1,14 @@
 //! The step of a call that counts a pair at a tally.
 ghost use Rattle.std.specs.Prelude.{◌≡◌, true};
-ghost use Rattle.flurry_steps.specs.Party.{StageIsReady};
+ghost use Rattle.flurry_steps_stages.specs.Stage.{StageIsReady};
 ghost use Rattle.flurry_steps.specs.PartyTally.{StageAtTally, is_counting};
-ghost use Rattle.flurry_steps.specs.PartyView.{stage_of};
+ghost use Rattle.flurry_steps_stages.specs.StageView.{stage_of};
 
 use super::ending::Ending;
-use super::stage::Stage;
 use flurry_base::query::Query;
 use flurry_bins_slots::ComputeFn;
 use flurry_steps_control::Tally;
+use flurry_steps_stages::Stage;
 use std::alloc::Allocator;
 
 // Does the step at a tally, and returns the stage after it.

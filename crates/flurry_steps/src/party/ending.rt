@@ -1,16 +1,16 @@
 //! A call whose reply is known.
 ghost use Rattle.std.specs.Prelude.{◌≡◌, MatchResult, None, true};
-ghost use Rattle.flurry_steps.specs.Party.{StageIsReady};
+ghost use Rattle.flurry_steps_stages.specs.Stage.{StageIsReady};
 ghost use Rattle.flurry_steps.specs.PartyTally.{HasDecided, StageAtTally, ending_stage, has_to_count};
 ghost use Rattle.flurry_steps_sweep.specs.OutcomeView.{outcome_of};
-ghost use Rattle.flurry_steps.specs.PartyView.{stage_of};
+ghost use Rattle.flurry_steps_stages.specs.StageView.{stage_of};
 ghost use Rattle.flurry_steps.specs.declared.party.ending.Rest.TheVariants as rest;
 
-use super::stage::{GrowFor, Stage};
 use super::{Party, Reply};
 use flurry_base::query::Query;
 use flurry_bins_slots::ComputeFn;
 use flurry_steps_control::Tally;
+use flurry_steps_stages::{GrowFor, Stage};
 use std::alloc::{Allocator, Global};
 use std::marker::Model;
 

@@ -3,21 +3,35 @@ ghost use Rattle.std.specs.Prelude.{◌≡◌, MatchResult, true};
 ghost use Rattle.flurry_bins_slots.specs.Slot.{IsSlot, is_live};
 ghost use Rattle.flurry_steps.specs.FirstSteps.{BeginsAt, begun_at};
 ghost use Rattle.flurry_steps_sweep.specs.Part.{LookPart, BinPart};
-ghost use Rattle.flurry_steps.specs.Party.{wanted_part, LooksUp, BeginsToWrite, AtLocate, AtDone, stage_of_call};
+ghost use Rattle.flurry_steps_stages.specs.Stage.{LooksUp, BeginsToWrite, AtLocate, AtDone, stage_of_call};
+ghost use Rattle.flurry_steps.specs.Party.{wanted_part};
 ghost use Rattle.flurry_steps.specs.PartyTally.{ending_stage};
 ghost use Rattle.flurry_steps_sweep.specs.OutcomeView.{outcome_of};
-ghost use Rattle.flurry_steps.specs.PartyView.{CallIsReady, task_of, plain_call, plain_of_owned, plain_of_whole};
+ghost use Rattle.flurry_steps_stages.specs.CallView.{CallIsReady, plain_call, plain_of_owned};
+ghost use Rattle.flurry_steps_stages.specs.StageView.{task_of};
+ghost use Rattle.flurry_steps.specs.PartyView.{plain_of_whole};
 
 use super::at_slot::{step_lookup, step_write};
-use super::call::{AnswerForm, Call, Key, OwnedCall, Task};
 use super::ending::Ending;
-use super::left::Remains;
-use super::stage::Stage;
 use super::{Party, Reply};
 use flurry_base::query::Query;
 use flurry_bins_slots::{ComputeFn, Given, Slot};
 use flurry_steps_control::PublishedTable;
-use std::alloc::Allocator;
+use flurry_steps_stages::{AnswerForm, Call, Key, Left, OwnedCall, Stage, Task};
+use std::alloc::{Allocator, Global};
+
+/// What the first steps of a call took out of a bin and do not return, or were given and did not keep. It is to be dropped while no lock
+/// is held, since that may run code of the map's user.
+///
+/// ```
+/// let (ending, left) = Party::write_first(call, hash, start, alloc, slot);
+/// drop(left);
+/// ending
+/// ```
+#[derive(Drop)]
+pub struct Remains<Q, K, V, F, A: Allocator = Global> {
+    left: Left<Q, K, V, F, A>,
+}
 
 // A call without a key.
 #[derive(Clone, Copy, Drop)]

@@ -6,7 +6,8 @@ ghost use Rattle.flurry_steps_sweep.specs.Part.{LookPart, BinPart, MovePart, Con
 ghost use Rattle.flurry_steps_sweep.specs.PartView.{part_of_want};
 ghost use Rattle.flurry_steps_sweep.specs.OutcomeView.{outcome_of};
 ghost use Rattle.flurry_steps_sweep.specs.Sweep.{pair_seen};
-ghost use Rattle.flurry_steps.specs.Party.{is_locating, published_stage, taken_stage, wanted_part, with_stage, outcome_in, final_outcome, last_seen, steps_left, LooksUp};
+ghost use Rattle.flurry_steps_stages.specs.Stage.{is_locating, published_stage, taken_stage, outcome_in, final_outcome, last_seen, steps_left, LooksUp};
+ghost use Rattle.flurry_steps.specs.Party.{wanted_part, with_stage};
 ghost use Rattle.flurry_steps.specs.PartyControl.{ControlStep};
 ghost use Rattle.flurry_steps.specs.PartySlots.{SlotStep, MoveStep};
 ghost use Rattle.flurry_steps.specs.PartyTally.{TallyStep, is_counting};
@@ -16,15 +17,13 @@ ghost use Rattle.flurry_base.specs.declared.sizes.TheConstants.{MAX_TABLE};
 use super::at_control::step_control;
 use super::at_slot::{step_lookup, step_write};
 use super::at_tally::step_tally;
-use super::call::Task;
-use super::left::Left;
-use super::stage::{GrowFor, Help, Resume, Stage};
 use super::{Event, Reply, Want};
 use flurry_base::query::Query;
 use flurry_base::sizes::bin_index;
 use flurry_bins_slots::{ComputeFn, Slot};
 use flurry_steps_claims::{Attempt, Range};
 use flurry_steps_control::{Claim, Control, PublishedTable, Room, Tally};
+use flurry_steps_stages::{GrowFor, Help, Left, Resume, Stage, Task};
 use flurry_steps_sweep::Seen;
 use std::alloc::Allocator;
 use std::marker::Model;
@@ -45,8 +44,10 @@ pub(crate) struct Single<Q: Query<K>, K: Ord, V, F: ComputeFn<K, V>, A: Allocato
 }
 
 impl<Q: Query<K>, K: Ord, V, F: ComputeFn<K, V>, A: Allocator> Model for Single<Q, K, V, F, A> {
-    ghost use Rattle.flurry_steps.specs.Party.{PartyState, StageIsReady};
-    ghost use Rattle.flurry_steps.specs.PartyView.{single_state_of, stage_of};
+    ghost use Rattle.flurry_steps_stages.specs.Stage.{StageIsReady};
+    ghost use Rattle.flurry_steps.specs.Party.{PartyState};
+    ghost use Rattle.flurry_steps_stages.specs.StageView.{stage_of};
+    ghost use Rattle.flurry_steps.specs.PartyView.{single_state_of};
 
     ghost Value = { PartyState K V F };
 

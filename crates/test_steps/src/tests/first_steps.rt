@@ -3,10 +3,12 @@ ghost use Rattle.std.specs.Prelude.{◌≡◌, true, ⊤};
 ghost use Rattle.flurry_bins_slots.specs.Slot.{is_live};
 ghost use Rattle.flurry_steps_sweep.specs.Part.{BinPart};
 ghost use Rattle.flurry_steps.specs.FirstSteps.{begun_at};
-ghost use Rattle.flurry_steps.specs.Party.{wanted_part, BeginsToWrite, stage_of_call};
-ghost use Rattle.flurry_steps.specs.PartyView.{CallIsReady, plain_call};
+ghost use Rattle.flurry_steps_stages.specs.Stage.{BeginsToWrite, stage_of_call};
+ghost use Rattle.flurry_steps.specs.Party.{wanted_part};
+ghost use Rattle.flurry_steps_stages.specs.CallView.{CallIsReady, plain_call};
 
 use super::assert_same;
+use flurry_base::query::Query;
 use flurry_bins::bin::Bin;
 use flurry_bins_slots::{ComputeFn, NoFn, Slot};
 use flurry_steps::Party;
@@ -29,16 +31,16 @@ impl Room for Nowhere {
 }
 
 // Does the steps, and drops what they leave behind.
-fn begun<'k, F: ComputeFn<u64, u64>>(
-    call: Call<&'k u64, u64, u64, F>,
+fn begun<Q: Query<u64>, F: ComputeFn<u64, u64>>(
+    call: Call<Q, u64, u64, F>,
     hash: u64,
     start: &PublishedTable,
     alloc: Global,
     slot: &mut Slot<u64, u64>,
 ) -> Ending<u64, u64>
     requires ready { CallIsReady F.can_change F.never_keeps call }
-    requires writes { BeginsToWrite (stage_of_call (plain_call call)) }
-    requires part { wanted_part (begun_at start.now hash 0 (stage_of_call (plain_call call)))
+    requires writes { BeginsToWrite (stage_of_call (plain_call Q.stands_for call)) }
+    requires part { wanted_part (begun_at start.now hash 0 (stage_of_call (plain_call Q.stands_for call)))
         ≡ BinPart slot.old.table slot.old.index }
     requires live { is_live slot.old.content ≡ true }
 {

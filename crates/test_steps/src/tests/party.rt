@@ -7,7 +7,7 @@ ghost use Rattle.flurry_base.specs.Verdicts.{verdict_of};
 ghost use Rattle.flurry_steps_sweep.specs.Part.{LookPart, BinPart, MovePart, SeatPart, BoardPart, GivePart};
 ghost use Rattle.flurry_steps.specs.Party.{wanted_part};
 ghost use Rattle.flurry_steps.specs.PartyBoard.{IsAttempt};
-ghost use Rattle.flurry_steps.specs.PartyView.{CallIsReady};
+ghost use Rattle.flurry_steps_stages.specs.CallView.{CallIsReady};
 
 mod drops;
 mod growth;

@@ -17,15 +17,39 @@ fn insert_numerals<R: Abort + Wait>(rt: &R, alloc: Global, map: &HashMap<String,
     }
 }
 
+// What the threads share: the map, and how often a text that is there was missed.
+#[derive(Drop)]
+struct Shared {
+    map: HashMap<String, u64>,
+    missed: AtomicU64,
+}
+
 // Looks many times for the texts that are there throughout, and counts those that it misses.
-fn count_missed<R: Wait>(rt: &R, map: &HashMap<String, u64>, missed: &AtomicU64) {
+fn count_missed<R: Wait>(rt: &R, shared: &Shared) {
     for _ in 0..500u32 {
         for text in PRESENT {
-            if !map.contains_key(rt, text) {
-                missed.fetch_add(1, Ordering::SeqCst);
+            if !shared.map.contains_key(rt, text) {
+                shared.missed.fetch_add(1, Ordering::SeqCst);
             }
         }
     }
+}
+
+// Looks in two threads for the texts that are there, while a third inserts others.
+fn look_beside_insertions<R: Abort + Threads + Wait + Sync>(
+    rt: &R,
+    alloc: Global,
+    shared: &Shared,
+) {
+    thread::scope(thread::scope_env(), rt, |scope| {
+        for _ in 0..2u32 {
+            let child = scope.spawn(move || count_missed(rt, shared));
+            if child.is_err() {
+                count_missed(rt, shared);
+            }
+        }
+        insert_numerals(rt, alloc, &shared.map);
+    });
 }
 
 #[test]
@@ -35,27 +59,12 @@ fn texts_are_found_while_the_table_grows(rt: HostRuntime) {
         map.insert(&rt, string_of(&rt, rt.alloc(), text), 0)
             .expect(&rt, "memory");
     }
-    let missed = AtomicU64::new(0);
-    look_beside_insertions(&rt, rt.alloc(), &map, &missed);
-    assert_same(&rt, missed.load(Ordering::SeqCst), 0);
-    assert_same(&rt, map.len(&rt), 506);
-    assert_same(&rt, map.contains_key(&rt, "499"), true);
-}
-
-// Looks in two threads for the texts that are there, while a third inserts others.
-fn look_beside_insertions<R: Abort + Threads + Wait + Sync>(
-    rt: &R,
-    alloc: Global,
-    map: &HashMap<String, u64>,
-    missed: &AtomicU64,
-) {
-    thread::scope(thread::scope_env(), rt, |scope| {
-        for _ in 0..2u32 {
-            let child = scope.spawn(move || count_missed(rt, map, missed));
-            if child.is_err() {
-                count_missed(rt, map, missed);
-            }
-        }
-        insert_numerals(rt, alloc, map);
-    });
+    let shared = Shared {
+        map,
+        missed: AtomicU64::new(0),
+    };
+    look_beside_insertions(&rt, rt.alloc(), &shared);
+    assert_same(&rt, shared.missed.load(Ordering::SeqCst), 0);
+    assert_same(&rt, shared.map.len(&rt), 506);
+    assert_same(&rt, shared.map.contains_key(&rt, "499"), true);
 }

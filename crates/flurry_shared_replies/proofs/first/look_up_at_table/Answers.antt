@@ -3,9 +3,10 @@ use Rattle.std.proofs.Common.{◌≡◌, ◌%◌, ◌^◌, ◌≤◌, arith, rul
 use Rattle.flurry_base.specs.declared.sizes.TheConstants.{MAX_TABLE}
 use Rattle.flurry_steps.specs.FirstSteps.{begun_at}
 use Rattle.flurry_steps_sweep.specs.Part.{LookPart}
-use Rattle.flurry_steps.specs.Party.{wanted_part, stage_of_call}
+use Rattle.flurry_steps_stages.specs.Stage.{stage_of_call}
+use Rattle.flurry_steps.specs.Party.{wanted_part}
 use Rattle.flurry_steps_sweep.specs.OutcomeView.{outcome_of}
-use Rattle.flurry_steps.specs.PartyView.{plain_call}
+use Rattle.flurry_steps_stages.specs.CallView.{plain_call}
 use Rattle.flurry_shared_replies.proofs.BeginLaws.{look_locates, look_wants, look_begun, done_by}
 use Rattle.flurry_shared_replies.proofs.first.look_up_at_table.Goals as goal
 

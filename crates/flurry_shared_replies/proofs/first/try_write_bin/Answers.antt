@@ -3,8 +3,9 @@ use Rattle.std.proofs.Common.{◌≡◌, ◌%◌, ◌^◌, ◌≤◌, arith, rul
 use Rattle.flurry_base.specs.declared.sizes.TheConstants.{MAX_TABLE}
 use Rattle.flurry_steps.specs.FirstSteps.{begun_at}
 use Rattle.flurry_steps_sweep.specs.Part.{BinPart}
-use Rattle.flurry_steps.specs.Party.{wanted_part, stage_of_call}
-use Rattle.flurry_steps.specs.PartyView.{plain_call}
+use Rattle.flurry_steps_stages.specs.Stage.{stage_of_call}
+use Rattle.flurry_steps.specs.Party.{wanted_part}
+use Rattle.flurry_steps_stages.specs.CallView.{plain_call}
 use Rattle.flurry_shared_replies.proofs.BeginLaws.{write_locates, write_wants, write_begun}
 use Rattle.flurry_shared_replies.proofs.first.try_write_bin.Goals as goal
 

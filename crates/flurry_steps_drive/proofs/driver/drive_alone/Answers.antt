@@ -1,5 +1,5 @@
 use Rattle.flurry_steps_drive.proofs.HoldsLaws.{own_tells, fresh}
-use Rattle.flurry_steps.specs.PartyView.{plain_of_owned}
+use Rattle.flurry_steps_stages.specs.CallView.{plain_of_owned}
 use Rattle.flurry_steps_drive.proofs.driver.drive_alone.Goals as goal
 
 pub returns : goal.returns

@@ -1,5 +1,5 @@
 //! Pairs that calls count at a tally.
-ghost use Rattle.flurry_steps.specs.PartyView.{CallIsReady};
+ghost use Rattle.flurry_steps_stages.specs.CallView.{CallIsReady};
 
 use super::super::{assert_same, assert_same_at};
 use super::{Asked, Map, NONE, Row, Told, call_of, empty_map, end, go_on, step, value};

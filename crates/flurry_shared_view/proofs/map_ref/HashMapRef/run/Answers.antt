@@ -1,8 +1,8 @@
 use Rattle.std.proofs.Common.{◌∙◌, ap, refl}
 use Rattle.flurry_shared_locks.specs.LockLoans.{LockLends, RoomStays}
 use Rattle.flurry_steps_sweep.specs.OutcomeView.{outcome_of}
-use Rattle.flurry_steps.specs.PartyView.{plain_call}
-use Rattle.flurry_steps.specs.Party.{stage_of_call}
+use Rattle.flurry_steps_stages.specs.CallView.{plain_call}
+use Rattle.flurry_steps_stages.specs.Stage.{stage_of_call}
 use Rattle.flurry_shared_replies.specs.Replies.{new_party}
 use Rattle.flurry_shared_view.specs.SharedAnswers.{MapSettings}
 use Rattle.flurry_base.specs.OneKey.{hash_of_call}

@@ -1,6 +1,6 @@
 use Rattle.std.proofs.Common.{◌≡◌, ◌∙◌, sym, ap, None}
 use Rattle.flurry_steps.specs.PartyKindView.{kind_state}
-use Rattle.flurry_steps.specs.Party.{AtSweep}
+use Rattle.flurry_steps_stages.specs.Stage.{AtSweep}
 use Rattle.flurry_steps.proofs.Singles.{no_move}
 use Rattle.flurry_steps.proofs.party.Party.on_move.Goals as goal
 

@@ -3,7 +3,7 @@ use Rattle.std.specs.declared.cmp.Ordering.{Ordering}
 use Rattle.flurry_bins_slots.specs.Slot as slot
 use Rattle.flurry_bins_slots.specs.Slot.{Live, ComputeOutcome, Content, IsLive, HasMoved, IsUnborn, IfLive, ComputesInVain}
 use Rattle.flurry_steps_sweep.specs.Outcome.{OutcomeRefused}
-use Rattle.flurry_steps.specs.Party.{Stage, Computes, AtDone}
+use Rattle.flurry_steps_stages.specs.Stage.{Stage, Computes, AtDone}
 use Rattle.flurry_steps.specs.PartySlots.{ContentGives, stage_computed}
 use Rattle.flurry_steps_sweep.specs.declared.step.Event.TheVariants.{Decide, Refused}
 use Rattle.flurry_steps.proofs.AtLiveBin.{without_rest}

@@ -1,8 +1,8 @@
 use Rattle.flurry_base.specs.OneKey.{hash_of_call}
 use Rattle.std.proofs.Common.{◌≡◌, length, refl, ap, ◌∙◌, arith, None, rules}
 use Rattle.std.proofs.lemmas.Grind.{common_steps}
-use Rattle.flurry_steps.specs.PartyView.{plain_of_owned}
-use Rattle.flurry_steps.specs.Party.{stage_of_call}
+use Rattle.flurry_steps_stages.specs.CallView.{plain_of_owned}
+use Rattle.flurry_steps_stages.specs.Stage.{stage_of_call}
 use Rattle.flurry_steps_world.specs.WorldView.{world_state_of}
 use Rattle.flurry_steps_world.proofs.BeginLaws.{owned_begins}
 use Rattle.flurry_steps_world.proofs.WorldSteps.{party_begins}

@@ -1,7 +1,7 @@
 use Rattle.std.proofs.Common.{◌≡◌, length, slice_get, refl, sym, ap, ◌∙◌, arith, None, Some}
 use Rattle.std.proofs.lemmas.Grind.{common_steps}
 use Rattle.flurry_base.specs.declared.call.Call.TheVariants as call
-use Rattle.flurry_steps.specs.Party.{RemovesSeen, AtLocate}
+use Rattle.flurry_steps_stages.specs.Stage.{RemovesSeen, AtLocate}
 use Rattle.flurry_steps_world.specs.World.{seen_in}
 use Rattle.flurry_steps_world.specs.WorldView.{world_state_of}
 use Rattle.flurry_steps_world.proofs.BeginLaws.{drop_begins, drop_origin}

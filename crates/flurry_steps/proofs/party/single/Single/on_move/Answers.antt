@@ -1,7 +1,9 @@
 use Rattle.std.proofs.Common.{rules, ◌≡◌, refl}
-use Rattle.flurry_steps.specs.Party.{Help, AtHelp, PartyState, with_stage}
-use Rattle.flurry_steps.specs.PartySlots.{moved_help, moved_stage}
-use Rattle.flurry_steps.specs.PartyView.{help_of, resume_of}
+use Rattle.flurry_steps_stages.specs.Help.{Help, moved_help}
+use Rattle.flurry_steps_stages.specs.Stage.{AtHelp}
+use Rattle.flurry_steps.specs.Party.{PartyState, with_stage}
+use Rattle.flurry_steps.specs.PartySlots.{moved_stage}
+use Rattle.flurry_steps_stages.specs.StageView.{help_of, resume_of}
 use Rattle.flurry_steps.proofs.Moves.{moves_in}
 use Rattle.flurry_steps.proofs.party.single.Single.on_move.Goals as goal
 

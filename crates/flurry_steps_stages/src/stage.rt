@@ -3,31 +3,30 @@ ghost use Rattle.std.specs.Prelude.{◌≡◌, IfNone, IfSome};
 ghost use Rattle.flurry_bins_slots.specs.Slot.{IsSlot};
 ghost use Rattle.flurry_steps_sweep.specs.Part.{MovePart};
 ghost use Rattle.flurry_steps_sweep.specs.PartView.{part_of_want};
-ghost use Rattle.flurry_steps.specs.Party.{StageIsReady, GrowForIsReady, HelpIsReady, help_part};
-ghost use Rattle.flurry_steps.specs.PartyBoard.{help_range, unclaimed};
-ghost use Rattle.flurry_steps.specs.PartySlots.{MovesOn, moved_help};
-ghost use Rattle.flurry_steps.specs.PartyControl.{stage_grown};
-ghost use Rattle.flurry_steps.specs.PartyView.{help_of, resume_of, grow_for_of, stage_of};
+ghost use Rattle.flurry_steps_stages.specs.Help.{HelpIsReady, help_part, help_range, unclaimed, MovesOn, moved_help};
+ghost use Rattle.flurry_steps_stages.specs.Stage.{StageIsReady, GrowForIsReady, stage_grown};
+ghost use Rattle.flurry_steps_stages.specs.StageView.{help_of, resume_of, grow_for_of, stage_of};
 
 use super::call::Task;
-use super::{Event, Reply, Want};
 use flurry_base::query::Query;
 use flurry_bins_slots::{ComputeFn, MoveAnswer, Slot};
 use flurry_steps_claims::Range;
 use flurry_steps_control::Claim;
+use flurry_steps_sweep::{Event, Reply, Want};
 use std::alloc::Allocator;
 
 /// What a table is made larger for.
 #[derive(Drop)]
-pub(crate) enum GrowFor<K, V, A: Allocator> {
+pub enum GrowFor<K, V, A: Allocator> {
     /// An insertion, with its reply.
     Insert(Reply<K, V, A>),
+    /// A reserve.
     Reserve,
 }
 
 /// What a call that helps a growth does next. A growth is named by the table that it moves into the next one.
 #[derive(Drop)]
-pub(crate) enum Help {
+pub enum Help {
     /// Taking a seat at the board of the given growth.
     Seat(u8),
     /// Claiming a range there.
@@ -42,7 +41,7 @@ pub(crate) enum Help {
 
 /// What a call goes on with when it stops helping.
 #[derive(Drop)]
-pub(crate) enum Resume<Q, K, V, F, A: Allocator> {
+pub enum Resume<Q, K, V, F, A: Allocator> {
     /// Its bin in the given table.
     Bin(Task<Q, K, V, F, A>, u8),
     /// Another look at the count.
@@ -53,7 +52,7 @@ pub(crate) enum Resume<Q, K, V, F, A: Allocator> {
 
 /// The stage of a call.
 #[derive(Drop)]
-pub(crate) enum Stage<Q, K, V, F, A: Allocator> {
+pub enum Stage<Q, K, V, F, A: Allocator> {
     /// Asking for the published table.
     Locate(Task<Q, K, V, F, A>),
     /// Going to its bin in the given table.
@@ -79,8 +78,10 @@ pub(crate) enum Stage<Q, K, V, F, A: Allocator> {
 }
 
 impl Help {
-    // The part of the map that the next step of helping needs.
-    pub(super) fn want(&self) -> Want
+    /// Returns the part of the map that the next step of helping needs.
+    ///
+    /// Constant time.
+    pub fn want(&self) -> Want
         ensures { part_of_want result ≡ help_part (help_of self.now) }
     {
         match self {
@@ -95,8 +96,10 @@ impl Help {
         }
     }
 
-    // Takes out the range that is to be reported next, if there is one. Returns how helping goes on without it, and the range.
-    pub(super) fn take_range(self) -> (Self, Option<Range>)
+    /// Takes out the range that is to be reported next, if there is one. Returns how helping goes on without it, and the range.
+    ///
+    /// Constant time.
+    pub fn take_range(self) -> (Self, Option<Range>)
         requires { HelpIsReady (help_of self) }
         ensures ready { HelpIsReady (help_of result.0) }
         ensures value { result.1 ≡ help_range (help_of self) }
@@ -115,8 +118,10 @@ impl Help {
         }
     }
 
-    // Does the step of a helper at a slot and its two halves in the next table.
-    pub(super) fn on_move<K: Ord + Drop, V: Drop, A: Allocator>(
+    /// Does the step of a helper at a slot and its two halves in the next table.
+    ///
+    /// Linear in the number of the slot's entries.
+    pub fn on_move<K: Ord + Drop, V: Drop, A: Allocator>(
         &mut self,
         old: &mut Slot<K, V, A>,
         low: &mut Slot<K, V, A>,
@@ -147,10 +152,12 @@ impl Help {
 }
 
 impl<Q: Query<K>, K: Ord, V, F, A: Allocator> Resume<Q, K, V, F, A> {
-    ghost use Rattle.flurry_steps.specs.Party.{resumed_stage};
+    ghost use Rattle.flurry_steps_stages.specs.Stage.{resumed_stage};
 
-    // The stage at which the call goes on when helping ends.
-    pub(super) fn resume(self) -> Stage<Q, K, V, F, A>
+    /// Returns the stage at which the call goes on when helping ends.
+    ///
+    /// Constant time.
+    pub fn resume(self) -> Stage<Q, K, V, F, A>
         ensures { stage_of Q.stands_for result ≡ resumed_stage (resume_of Q.stands_for self) }
     {
         match self {
@@ -162,8 +169,10 @@ impl<Q: Query<K>, K: Ord, V, F, A: Allocator> Resume<Q, K, V, F, A> {
 }
 
 impl<K: Ord, V, A: Allocator> GrowFor<K, V, A> {
-    // The stage at which the call goes on when growing ends.
-    pub(super) fn end<Q: Query<K>, F: ComputeFn<K, V>>(self) -> Stage<Q, K, V, F, A>
+    /// Returns the stage at which the call goes on when growing ends.
+    ///
+    /// Constant time.
+    pub fn end<Q: Query<K>, F: ComputeFn<K, V>>(self) -> Stage<Q, K, V, F, A>
         requires { GrowForIsReady (grow_for_of self) }
         ensures ready { StageIsReady F.can_change F.never_keeps (stage_of Q.stands_for result) }
         ensures stage { stage_of Q.stands_for result ≡ stage_grown (grow_for_of self) }

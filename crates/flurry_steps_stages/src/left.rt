@@ -3,26 +3,14 @@
 use super::call::Key;
 use flurry_bins_slots::{Given, NotInserted};
 use flurry_steps_sweep::Seen;
-use std::alloc::{Allocator, Global};
+use std::alloc::Allocator;
 use std::sync::Arc;
-
-/// What the first steps of a call took out of a bin and do not return, or were given and did not keep. It is to be dropped while no lock
-/// is held, since that may run code of the map's user.
-///
-/// ```
-/// let (ending, left) = Party::write_first(call, hash, start, alloc, slot);
-/// drop(left);
-/// ending
-/// ```
-#[derive(Drop)]
-pub struct Remains<Q, K, V, F, A: Allocator = Global> {
-    pub(super) left: Left<Q, K, V, F, A>,
-}
 
 /// What a step at a bin took out of the bin and does not return, or was given and did not keep. A call keeps it until its next step or its
 /// end, when no lock is held. No contract sees it; those of a slot say what comes out.
 #[derive(Drop)]
-pub(crate) enum Left<Q, K, V, F, A: Allocator> {
+pub enum Left<Q, K, V, F, A: Allocator> {
+    /// Nothing.
     Nothing,
     /// The key that the call was given, and the stored key and value.
     Stored(Key<Q, K>, Option<Arc<K, A>>, Option<Arc<V, A>>),

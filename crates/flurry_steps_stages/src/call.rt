@@ -1,7 +1,7 @@
 //! The calls of a shared map.
 ghost use Rattle.std.specs.Prelude.{◌≡◌, option_map};
 ghost use Rattle.flurry_base.specs.OneKey.{hash_of_call, key_of};
-ghost use Rattle.flurry_steps.specs.PartyView.{plain_call, plain_key, plain_of_owned};
+ghost use Rattle.flurry_steps_stages.specs.CallView.{plain_call, plain_key, plain_of_owned};
 
 use flurry_base::hash::KeyHasher;
 use flurry_base::query::{HashedQuery, Query};
@@ -140,7 +140,7 @@ impl<K, V, F> OwnedCall<K, V, F> {
 
 /// A key that is borrowed for the time of a call, or that the call owns.
 #[derive(Drop)]
-pub(crate) enum Key<Q, K> {
+pub enum Key<Q, K> {
     Lent(Q),
     Own(K),
 }
@@ -158,7 +158,7 @@ impl<Q: Query<K>, K: Ord> Query<K> for &Key<Q, K> {
 
 /// What a call returns of the entry of a key.
 #[derive(Clone, Copy, Drop)]
-pub(crate) enum AnswerForm {
+pub enum AnswerForm {
     /// The value.
     Value,
     /// The stored key and the value.
@@ -169,7 +169,7 @@ pub(crate) enum AnswerForm {
 
 /// A one-key call that has not decided yet.
 #[derive(Drop)]
-pub(crate) enum Task<Q, K, V, F, A: Allocator> {
+pub enum Task<Q, K, V, F, A: Allocator> {
     Find(AnswerForm, Key<Q, K>),
     Remove(AnswerForm, Key<Q, K>),
     RemoveSeen(Seen<K, V, A>),

@@ -1,0 +1,4 @@
+pub mod Help
+pub mod Stage
+pub mod CallView
+pub mod StageView
