@@ -75,21 +75,66 @@ def function_at(file, text, at):
 
 
 def block_name(head):
-    """Returns what the prover calls a block: `impl<K> Trait<K> for Type<K>` is TypeTrait, `impl Type` is Type."""
-    flat = re.sub(r"\bwhere\b.*", "", without_generics(" ".join(head.split())))
+    """Returns what the prover calls a block: `impl<K> Trait<K> for Type<K>` is TypeTrait, `impl Trait<u64> for Type` is TypeTraitU64,
+    `impl<F> Trait for F` is AnyTrait, `impl Trait for &str` is RefStrTrait, and `impl Type` is Type."""
+    flat = " ".join(head.split())
     trait = re.match(r"(?:pub(?:\([a-z ]+\))? )?trait (\w+)", flat)
     if trait:
         return trait[1]
-    parts = [re.sub(r"^&('\w+ )?(mut )?", "", part.strip()) for part in re.split(r"\bfor\b", flat.removeprefix("impl"))]
-    return "".join(re.match(r"[\w:]*", part)[0].split("::")[-1] for part in reversed(parts))
+    own, rest = bracketed(flat.removeprefix("impl").strip())
+    parameters = {part.removeprefix("const ").partition(":")[0].strip() for part in parts_of(own)}
+    trait, _, owner = re.sub(r"\bwhere\b.*", "", rest).strip().rpartition(" for ")
+    path = re.match(r"[\w:]*", trait)[0]
+    name = owner_name(owner, parameters) + path.split("::")[-1]
+    for argument in parts_of(bracketed(trait[len(path) :])[0]):
+        if not re.fullmatch(r"'?\w+", argument):
+            # the prover has a word for this one, and a name that begins so is looked for
+            break
+        if argument not in parameters and not argument.startswith("'"):
+            name += capital(argument)
+    return name
 
 
-def without_generics(text):
-    """Returns the text without what stands in its brackets < and >."""
-    depth, kept = 0, []
-    for before, sign in zip(" " + text, text):
-        is_closing = sign == ">" and before not in "-="
-        depth += (sign == "<") - is_closing
-        if depth == 0 and not is_closing:
-            kept.append(sign)
-    return "".join(kept)
+def owner_name(owner, parameters):
+    """Returns what the prover calls a type, of which these are parameters of the block: nothing for a slice and the like."""
+    sign, _, is_changed, path = re.match(r"(&?)('\w+ )?(mut )?([\w:]*)", owner).groups()
+    name = path.split("::")[-1]
+    reference = "Ref" if sign and not is_changed and name else ""
+    if name in parameters:
+        return reference or "Any"
+    return reference + capital(name)
+
+
+def capital(name):
+    """Returns the name with a capital at its beginning."""
+    return name[:1].upper() + name[1:]
+
+
+def bracketed(text):
+    """Returns what stands in the brackets < and > with which the text begins, and what follows them."""
+    depth = 0
+    for at in range(len(text)):
+        depth += is_opening(text, at) - is_closing(text, at)
+        if depth == 0:
+            return (text[1:at], text[at + 1 :]) if at else ("", text)
+    return "", text
+
+
+def parts_of(text):
+    """Returns what commas part in the text, outside of brackets."""
+    depth, parts = 0, [""]
+    for at, sign in enumerate(text):
+        depth += is_opening(text, at) - is_closing(text, at)
+        if sign == "," and depth == 0:
+            parts.append("")
+        else:
+            parts[-1] += sign
+    return [part.strip() for part in parts if part.strip()]
+
+
+def is_opening(text, at):
+    return text[at] in "<(["
+
+
+def is_closing(text, at):
+    return text[at] in ")]" or (text[at] == ">" and text[at - 1 : at] not in ("-", "="))

@@ -4,6 +4,7 @@ import pathlib
 import sys
 import tempfile
 
+import edits
 import verdicts
 import wrong_bodies
 
@@ -97,6 +98,20 @@ PATHS = [
     (("hash", "LowHash", "of"), ["hash::LowHashU64::of", "hash::LowHashU32::of"], []),
 ]
 
+# What the prover calls a block, by its head.
+BLOCKS = [
+    ("impl<K: Ord, F: Fn(&K) -> bool> Map<K, F> where F: for<'a> Walk<'a> ", "Map"),
+    ("pub(crate) trait Query<K: Ord>: Copy ", "Query"),
+    ("impl<K, V, F: FnOnce(&K, &V) -> Option<V> + Drop> ComputeFn<K, V> for F ", "AnyComputeFn"),
+    ("impl<'m, K: Ord> Walk<'m, K> for map::Iter<'m, K> ", "IterWalk"),
+    ("impl<K: Ord> Query<K> for &K ", "RefQuery"),
+    ("impl Query<String> for &'static str ", "RefStrQueryString"),
+    ("impl<B: BuildHasher> KeyHasher<u64> for OfKit<B> ", "OfKitKeyHasherU64"),
+    # and how it begins or ends
+    ("impl<K, V> Put<(K, V), String> for View<K, V> ", "ViewPut"),
+    ("impl Source for &mut [u8] ", "Source"),
+]
+
 # What the prover prints where a proof file names a goal that is not there any more, in one line and in two, and where a goal is not met.
 GONE = """\
 ./proofs/one/Answers.antt:7:17: error: `returns-x`: `goal.returns-x`: module `Rattle.s.proofs.one.Goals` has no `returns-x` that can be named
@@ -123,6 +138,13 @@ fn s::tree::insert_in: not proved
 # Each of these texts with whether a goal of the function is told, and whether names are missed.
 PRINTED = [(GONE, False, True), (GONE_BELOW, False, True), (UNMET, True, False), (UNMET_IN_BLOCK, True, False), (UNMET_IN_CYCLE, True, False)]
 
+# What the prover prints of an edit that is tried alone, and what that comes to.
+UNCOVERED = """\
+fn s::one: no proof: expected `one_spec` in ./proofs/one/Proof.antt; the borrow checker does not cover this function yet
+logic=not-proved
+"""
+ALONE = [(f"{UNMET}logic=not-proved\n", wrong_bodies.REFUSED), (UNCOVERED, wrong_bodies.WRONG_REASON)]
+
 
 def make_repository(root):
     crate = root / "crates/sample"
@@ -132,22 +154,31 @@ def make_repository(root):
     (crate / "src/lib.rt").write_text(SOURCE, encoding="utf-8")
     for name, (old, new, _) in EDITS.items():
         (crate / f"must-fail/{name}.edit").write_text(f"file: src/lib.rt\nold: {old}\nnew: {new}\n", encoding="utf-8")
+    return crate
 
 
 def main():
     with tempfile.TemporaryDirectory(prefix="test-wrong-bodies-") as room:
         root = pathlib.Path(room)
-        make_repository(root)
+        crate = make_repository(root)
         _, outcomes = wrong_bodies.try_all(root, root, is_anew=True)
+        edit = edits.Edit(crate, crate / "must-fail/one_more_is_itself.edit")
     came_to = {label.removeprefix("sample/").removesuffix(".edit"): (outcome, reason) for label, outcome, reason in outcomes}
     faults = [f"{name} came to {came_to.get(name)}, not to {wanted}" for name, (_, _, wanted) in EDITS.items() if came_to.get(name, [""])[0] != wanted]
     for function, paths, wanted in PATHS:
         if verdicts.paths_of(function, paths) != wanted:
             faults.append(f"{function} is {verdicts.paths_of(function, paths)}, not {wanted}")
+    for head, wanted in BLOCKS:
+        if edits.block_name(head) != wanted:
+            faults.append(f"{head} is {edits.block_name(head)}, not {wanted}")
     for printed, has_goal, has_misses in PRINTED:
         (found,) = verdicts.verdicts_of(printed).values()
         if (bool(found.goal), bool(found.misses)) != (has_goal, has_misses):
             faults.append(f"{printed!r} is read as {found}")
+    for printed, wanted in ALONE:
+        outcome, _ = wrong_bodies.judged_alone(edit, wrong_bodies.Check(1, printed))
+        if outcome != wanted:
+            faults.append(f"{printed!r} comes to {outcome}, not to {wanted}")
     for fault in faults:
         print(f"test_wrong_bodies: {fault}", file=sys.stderr)
     print(f"test_wrong_bodies: {'FAILED' if faults else 'passed'}")

@@ -178,7 +178,8 @@ def judged_alone(edit, check):
         return BAD, unread or next((line for line in lines if "error" in line), check.last)
     told = [line for line in lines if verdicts.is_told(line)]
     goal = next((line for line in told if not verdicts.NAMES_ALONE.search(line)), "")
-    return (WRONG_REASON, told[0]) if told and not goal else (REFUSED, goal or check.last)
+    missed = next(iter(told), "") or next((line for line in lines if verdicts.NOT_COVERED in line), "")
+    return (WRONG_REASON, missed) if missed and not goal else (REFUSED, goal or check.last)
 
 
 def is_reached(check):
