@@ -11,6 +11,7 @@ import argparse
 import collections
 import importlib.machinery
 import importlib.util
+import inspect
 import os
 import pathlib
 import re
@@ -98,11 +99,18 @@ def part_of(number, root):
     return ("tests" if "--test" in words else "compiling" if "--crate-checked" in words else "crates"), crate
 
 
-def run_ci(folder, words=()):
+def ci_words(is_anew):
+    """Returns the words of a run of `rt ci`. A kit whose help has no word for it keeps nothing from run to run, so each of its runs is anew."""
+    told = subprocess.run(["rt", "help"], capture_output=True, text=True, errors="replace", check=False)
+    return ["rt", "ci", *["--anew"] * (is_anew and "--anew" in told.stdout + told.stderr)]
+
+
+def run_ci(folder, is_anew):
     """Runs `rt ci` there and shows what it prints. Returns its status, its lines, and the processor seconds by part and by crate."""
+    words = ci_words(is_anew)
     before = resource.getrusage(resource.RUSAGE_CHILDREN)
     lines = []
-    with subprocess.Popen(["rt", "ci", *words], cwd=folder, stdout=subprocess.PIPE, stderr=subprocess.STDOUT, text=True, errors="replace") as run:
+    with subprocess.Popen(words, cwd=folder, stdout=subprocess.PIPE, stderr=subprocess.STDOUT, text=True, errors="replace") as run:
         account = Account(run.pid)
         for line in run.stdout:
             lines.append(line.rstrip("\n"))
@@ -136,29 +144,41 @@ def tell_times(parts, crates, started):
     print(f"test: the dearest crates: {', '.join(f'{crate} {seconds / 60:.1f}' for crate, seconds in crates.most_common(10))}")
 
 
+def kits_crates(kit, root):
+    """Returns what the kit knows of each crate of a repository. Kit 13b has another function for it than 13f."""
+    kit.Crate.allowed = kit.handles_of(root)
+    if len(inspect.signature(kit.crates_of).parameters) == 1:
+        return kit.crates_of(root)
+    kit.rtlib.Crate = kit.Crate
+    return kit.rtlib.crates_below(root)
+
+
 def hand_over(copy, repository, name):
     """Puts the libraries below a crate, which `rt ci` built in the copy, where `rt lib` looks for them in the repository, with the kit's stamp
-    of what they are made from: so it does not prove them again. Does nothing where the repository has its own, or the kit is another."""
-    libraries = wrong_bodies.libraries_of(repository)
-    those = [it for it in wrong_bodies.below(name, libraries) if not (repository / "crates" / it / "out").exists()]
+    of what they are made from: so it does not prove them again. Does nothing where the repository has one of its own, or the kit is unknown.
+    Returns whether it did."""
+    those = wrong_bodies.below(name, wrong_bodies.libraries_of(repository))
+    if any((repository / "crates" / it / "out").exists() for it in those):
+        return False
     try:
         loader = importlib.machinery.SourceFileLoader("kit", str(wrong_bodies.kit_folder() / "bin/rt"))
         kit = importlib.util.module_from_spec(importlib.util.spec_from_loader("kit", loader))
         loader.exec_module(kit)
         os.chdir(repository)
-        kit.Crate.allowed = kit.handles_of(str(repository))
-        stamps = {it.name: it.stamp() for it in kit.crates_of(str(repository)) if it.name in those}
-    except (AttributeError, ImportError, OSError, TypeError):
-        return
+        stamps = {it.name: it.stamp() for it in kits_crates(kit, str(repository)) if it.name in those}
+    except (AttributeError, ImportError, OSError, TypeError, ValueError) as error:
+        print(f"test: the libraries below {name} are proved once more, since this kit is unknown: {error}", file=sys.stderr)
+        return False
     for it, stamp in stamps.items():
         place = repository / "crates" / it / "out/rlib"
         shutil.copytree(copy / "crates" / it / "out/rlib", place)
         (place / "stamp").write_text(stamp, encoding="utf-8")
+    return True
 
 
-def try_each(repository, words, started):
+def try_each(repository, is_anew, started):
     """The kit's own gate, whole."""
-    status, lines, parts, crates = run_ci(repository, words)
+    status, lines, parts, crates = run_ci(repository, is_anew)
     tell_times(parts, crates, started)
     wrong = [line for line in lines if NO_CONTRACT.search(line)]
     for line in wrong:
@@ -168,17 +188,17 @@ def try_each(repository, words, started):
     return 1 if status or wrong or failed else 0
 
 
-def try_many(repository, words, started):
+def try_many(repository, is_anew, started):
     """The gate: all but the wrong bodies by `rt ci`, and then these, many at a time."""
     with tempfile.TemporaryDirectory(prefix="flurry-gate-") as room:
         copy = pathlib.Path(room, "copy")
         copy_without_wrong_bodies(repository, copy)
-        status, lines, parts, crates = run_ci(copy, words)
+        status, lines, parts, crates = run_ci(copy, is_anew)
         passed, failed = counts_of(lines)
         if status:
             print("test: the wrong bodies were not tried, since all else has to pass first", file=sys.stderr)
         else:
-            tried, outcomes = wrong_bodies.try_all(repository, copy, is_anew=bool(words))
+            tried, outcomes = wrong_bodies.try_all(repository, copy, is_anew=is_anew)
             for crate in tried:
                 parts["wrong bodies"] += crate.seconds
                 crates[crate.name] += crate.seconds
@@ -197,7 +217,7 @@ def main():
     told.add_argument("--anew", action="store_true", help="takes nothing from earlier runs")
     told.add_argument("repository", type=pathlib.Path)
     given = told.parse_args()
-    return (try_each if given.each else try_many)(given.repository.resolve(), ["--anew"] * given.anew, time.time())
+    return (try_each if given.each else try_many)(given.repository.resolve(), given.anew, time.time())
 
 
 if __name__ == "__main__":
