@@ -1,6 +1,7 @@
 //! The program over bytes in memory, and over streams that fail.
 
 mod lines;
+mod memory;
 mod threads;
 mod waits;
 mod world;

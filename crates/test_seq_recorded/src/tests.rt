@@ -2,6 +2,7 @@
 
 mod calls;
 mod damage;
+mod memory;
 mod threads;
 
 use flurry_base::hash::LowHashBuilder;

@@ -63,62 +63,47 @@ fn values<A: Allocator + Copy>(
     Ok(all)
 }
 
-// The values that two threads get, if they get the same. The first computes `value`, the other one more.
-fn agreed_by_two<A: Allocator + Copy + Send + Sync, R: Threads + Wait + Sync>(
+// What each of so many threads gets at the keys from 0 on, `None` where memory ran out. The first computes the value 1, the next one 2, ..
+fn values_of_each<A: Allocator + Copy + Send + Sync, R: Abort + Threads + Wait + Sync>(
     rt: &R,
     alloc: A,
     memo: &Numbers<A>,
+    threads: usize,
     keys: u64,
-    value: u64,
-) -> Option<Vec<u64, A>> {
-    let (one, two) = thread::join(
+) -> Vec<Option<Vec<u64, A>>, A> {
+    let each = thread::map_indices(
         rt,
-        move || values(rt, alloc, memo, keys, value).ok(),
-        move || values(rt, alloc, memo, keys, value.saturating_add(1)).ok(),
+        alloc,
+        threads,
+        &|thread: usize| {
+            let value = (thread as u64).saturating_add(1);
+            values(rt, alloc, memo, keys, value).ok()
+        },
     );
-    let (one, two) = (one?, two?);
-    if one == two { Some(one) } else { None }
+    each.expect(rt, "memory for the lists")
 }
 
-// The same, of four threads.
-fn agreed_by_four<A: Allocator + Copy + Send + Sync, R: Threads + Wait + Sync>(
+// The values that all of so many threads get, if they get the same.
+fn agreed<A: Allocator + Copy + Send + Sync, R: Abort + Threads + Wait + Sync>(
     rt: &R,
     alloc: A,
     memo: &Numbers<A>,
-    keys: u64,
-    value: u64,
-) -> Option<Vec<u64, A>> {
-    let (one, two) = thread::join(
-        rt,
-        move || agreed_by_two(rt, alloc, memo, keys, value),
-        move || agreed_by_two(rt, alloc, memo, keys, value.saturating_add(2)),
-    );
-    let (one, two) = (one?, two?);
-    if one == two { Some(one) } else { None }
-}
-
-// The same, of eight threads.
-fn agreed_by_eight<A: Allocator + Copy + Send + Sync, R: Threads + Wait + Sync>(
-    rt: &R,
-    alloc: A,
-    memo: &Numbers<A>,
+    threads: usize,
     keys: u64,
 ) -> Option<Vec<u64, A>> {
-    let (one, two) = thread::join(
-        rt,
-        move || agreed_by_four(rt, alloc, memo, keys, 0),
-        move || agreed_by_four(rt, alloc, memo, keys, 4),
-    );
-    let (one, two) = (one?, two?);
-    if one == two { Some(one) } else { None }
+    let mut each = values_of_each(rt, alloc, memo, threads, keys);
+    let one = each.pop()??;
+    if each.iter().all(|other| other.as_ref() == Some(&one)) {
+        Some(one)
+    } else {
+        None
+    }
 }
 
 #[test]
 fn two_threads_get_one_value(rt: HostRuntime) {
     let memo = Memo::with_hasher(rt.alloc(), LowHashBuilder);
-    let Some(values) = agreed_by_two(&rt, rt.alloc(), &memo, 1, 1) else {
-        panic!(rt; "both get the same value")
-    };
+    let values = agreed(&rt, rt.alloc(), &memo, 2, 1).expect(&rt, "both get the same value");
     assert_same(&rt, values[..] == [1] || values[..] == [2], true);
     assert_same(&rt, memo.len(&rt), 1);
 }
@@ -126,7 +111,7 @@ fn two_threads_get_one_value(rt: HostRuntime) {
 #[test]
 fn eight_threads_agree_on_a_hundred_keys(rt: HostRuntime) {
     let memo = Memo::with_hasher(rt.alloc(), LowHashBuilder);
-    let values = agreed_by_eight(&rt, rt.alloc(), &memo, 100);
+    let values = agreed(&rt, rt.alloc(), &memo, 8, 100);
     assert_same(&rt, values.map(|values| values.len()), Some(100));
     assert_same(&rt, memo.len(&rt), 100);
 }

@@ -1,4 +1,4 @@
-//! Tests of the shared set.
+//! Tests of the shared set, and of look-ups by a `&str` in each map and set.
 #![tactic(auto)]
 
 #[cfg(test)]

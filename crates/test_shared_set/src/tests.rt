@@ -5,6 +5,7 @@
 mod made;
 mod refused;
 mod relations;
+mod texts;
 mod views;
 
 use flurry_base::hash::LowHashBuilder;

@@ -299,74 +299,28 @@ fn meets<R: Threads + Wait + Sync>(rt: &R, alloc: Global, deed: Deed, who: Who) 
     meeting.has_met()
 }
 
+// A row for each call that drops a key, a value or a function.
 #[test]
-fn clear(rt: HostRuntime) {
-    assert_same(&rt, meets(&rt, rt.alloc(), Deed::Clear, Who::Key), true);
-    assert_same(&rt, meets(&rt, rt.alloc(), Deed::Clear, Who::Value), true);
-}
-
-#[test]
-fn compute_if_present_of_a_value(rt: HostRuntime) {
-    assert_same(&rt, meets(&rt, rt.alloc(), Deed::Replace, Who::Value), true);
-}
-
-#[test]
-fn compute_if_present_of_none(rt: HostRuntime) {
-    assert_same(&rt, meets(&rt, rt.alloc(), Deed::Erase, Who::Key), true);
-    assert_same(&rt, meets(&rt, rt.alloc(), Deed::Erase, Who::Value), true);
-}
-
-#[test]
-fn compute_if_present_of_an_absent_key(rt: HostRuntime) {
-    assert_same(
-        &rt,
-        meets(&rt, rt.alloc(), Deed::ComputeNowhere, Who::Function),
-        true,
-    );
-}
-
-#[test]
-fn remove(rt: HostRuntime) {
-    assert_same(&rt, meets(&rt, rt.alloc(), Deed::Remove, Who::Key), true);
-}
-
-#[test]
-fn insert(rt: HostRuntime) {
-    assert_same(&rt, meets(&rt, rt.alloc(), Deed::Insert, Who::NewKey), true);
-}
-
-#[test]
-fn try_insert(rt: HostRuntime) {
-    assert_same(
-        &rt,
-        meets(&rt, rt.alloc(), Deed::TryInsert, Who::NewKey),
-        true,
-    );
-}
-
-#[test]
-fn retain(rt: HostRuntime) {
-    assert_same(&rt, meets(&rt, rt.alloc(), Deed::Retain, Who::Key), true);
-    assert_same(&rt, meets(&rt, rt.alloc(), Deed::Retain, Who::Value), true);
-}
-
-#[test]
-fn retain_force(rt: HostRuntime) {
-    assert_same(
-        &rt,
-        meets(&rt, rt.alloc(), Deed::RetainForce, Who::Key),
-        true,
-    );
-    assert_same(
-        &rt,
-        meets(&rt, rt.alloc(), Deed::RetainForce, Who::Value),
-        true,
-    );
-}
-
-#[test]
-fn next(rt: HostRuntime) {
-    assert_same(&rt, meets(&rt, rt.alloc(), Deed::Read, Who::Value), true);
+fn calls_of_a_map(rt: HostRuntime) {
+    for (deed, who) in [
+        (Deed::Clear, Who::Key),
+        (Deed::Clear, Who::Value),
+        (Deed::Replace, Who::Value),
+        (Deed::Erase, Who::Key),
+        (Deed::Erase, Who::Value),
+        (Deed::ComputeNowhere, Who::Function),
+        (Deed::Remove, Who::Key),
+        (Deed::Insert, Who::NewKey),
+        (Deed::TryInsert, Who::NewKey),
+        (Deed::Retain, Who::Key),
+        (Deed::Retain, Who::Value),
+        (Deed::RetainForce, Who::Key),
+        (Deed::RetainForce, Who::Value),
+        (Deed::Read, Who::Value),
+    ] {
+        let met = meets(&rt, rt.alloc(), deed, who);
+        assert_same(&rt, (deed, who, met), (deed, who, true));
+    }
 }
 
 // What is done in a set of the elements 1 and 2.
@@ -440,8 +394,13 @@ fn meets_in_set<R: Threads + Wait + Sync>(rt: &R, alloc: Global, deed: SetDeed) 
 
 #[test]
 fn calls_of_a_set(rt: HostRuntime) {
-    assert_same(&rt, meets_in_set(&rt, rt.alloc(), SetDeed::Clear), true);
-    assert_same(&rt, meets_in_set(&rt, rt.alloc(), SetDeed::Remove), true);
-    assert_same(&rt, meets_in_set(&rt, rt.alloc(), SetDeed::Insert), true);
-    assert_same(&rt, meets_in_set(&rt, rt.alloc(), SetDeed::Retain), true);
+    for deed in [
+        SetDeed::Clear,
+        SetDeed::Remove,
+        SetDeed::Insert,
+        SetDeed::Retain,
+    ] {
+        let met = meets_in_set(&rt, rt.alloc(), deed);
+        assert_same(&rt, (deed, met), (deed, true));
+    }
 }

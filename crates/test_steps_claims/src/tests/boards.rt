@@ -24,17 +24,28 @@ fn next(rt: &impl Abort, board: &ClaimBoard, seat: &mut Seat) -> Option<(usize, 
     }
 }
 
+// Checks that the board of 64 bins gives out its four ranges from the top down, and then none.
+fn gives_four(rt: &impl Abort, board: &ClaimBoard, seat: &mut Seat)
+    requires { IsSeatOf board.now seat.old }
+{
+    for wanted in [
+        Some((48, 64, false)),
+        Some((32, 48, false)),
+        Some((16, 32, false)),
+        Some((0, 16, true)),
+        None,
+        None,
+    ] {
+        assert_same(rt, next(rt, board, seat), wanted);
+    }
+}
+
 #[test]
 fn four_ranges_of_64_bins(rt: HostRuntime) -> Result<(), Fail> {
     let (board, mut seats) = ClaimBoard::new(rt.alloc(), 6, 2, 8)?;
     assert_eq!(rt; seats.len(), 8);
     let seat = &mut seats[0];
-    assert_same(&rt, next(&rt, &board, seat), Some((48, 64, false)));
-    assert_same(&rt, next(&rt, &board, seat), Some((32, 48, false)));
-    assert_same(&rt, next(&rt, &board, seat), Some((16, 32, false)));
-    assert_same(&rt, next(&rt, &board, seat), Some((0, 16, true)));
-    assert_same(&rt, next(&rt, &board, seat), None);
-    assert_same(&rt, next(&rt, &board, seat), None);
+    gives_four(&rt, &board, seat);
     Ok(())
 }
 

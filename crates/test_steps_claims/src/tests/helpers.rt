@@ -70,14 +70,13 @@ fn help_by_four<A: Allocator + Clone + Send + Sync, R: Threads + Wait + Sync>(
 }
 
 #[test]
-fn four_threads_share_the_helpers(rt: HostRuntime) -> Result<(), Fail> {
-    let helpers = Helpers::new(rt.alloc(), 10, 4)?;
-    let all = help_by_four(&rt, rt.alloc(), &helpers)?;
-    assert_eq!(rt; all.len(), 32);
+fn four_threads_share_the_helpers(rt: HostRuntime) {
+    let helpers = Helpers::new(rt.alloc(), 10, 4).expect(&rt, "memory");
+    let all = help_by_four(&rt, rt.alloc(), &helpers).expect(&rt, "memory");
+    assert_same(&rt, all.len(), 32);
     for (place, low) in all.iter().enumerate() {
-        assert_same(&rt, *low, 32 * place);
+        assert_same(&rt, *low, place.saturating_mul(32));
     }
-    Ok(())
 }
 
 // Takes each helper.

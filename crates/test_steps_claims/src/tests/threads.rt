@@ -5,6 +5,7 @@ use super::assert_same;
 use crate::pair::two_shares;
 use flurry_steps_claims::{Attempt, ClaimBoard, Seat};
 use std::alloc::{AllocError, Global};
+use std::process::Abort;
 use std::test::Fail;
 use std::thread::{self, Threads};
 
@@ -36,58 +37,57 @@ fn move_all(alloc: Global, board: &ClaimBoard, mut seat: Seat) -> Result<Moved, 
     Ok(Moved { lows, last_reports })
 }
 
-// What four threads got together, the first bins in ascending order.
-fn moved_by_four<R: Threads + Sync>(
+// What each of four threads got.
+fn moved_by_each<R: Threads + Sync>(
     rt: &R,
     alloc: Global,
     processors: usize,
-) -> Result<Moved, AllocError> {
+) -> Result<Vec<Result<Moved, AllocError>>, AllocError> {
     let (board, seats) = ClaimBoard::new(alloc, 10, processors, 4)?;
-    let each = thread::map_vec(
+    thread::map_vec(
         rt,
         seats,
         &|seat: Seat| -> Result<Moved, AllocError>
             requires { IsSeatOf board seat }
         { move_all(alloc, &board, seat) },
-    )?;
-    let mut all = Moved {
-        lows: Vec::new(alloc),
-        last_reports: 0,
-    };
-    for one in each {
-        let mut one = one?;
-        all.lows.append(&mut one.lows)?;
-        all.last_reports = all.last_reports.saturating_add(one.last_reports);
+    )
+}
+
+// What four threads got together, the first bins in ascending order.
+fn moved_by_four<R: Abort + Threads + Sync>(rt: &R, alloc: Global, processors: usize) -> Moved {
+    let mut lows = Vec::new(alloc);
+    let mut last_reports = 0u32;
+    for one in moved_by_each(rt, alloc, processors).expect(rt, "memory") {
+        let mut one = one.expect(rt, "memory");
+        lows.append(&mut one.lows).expect(rt, "memory");
+        last_reports = last_reports.saturating_add(one.last_reports);
     }
-    all.lows.sort()?;
-    Ok(all)
+    lows.sort().expect(rt, "memory");
+    Moved { lows, last_reports }
+}
+
+// Checks that there are so many ranges, of so many bins each but for the lowest one, and that one report was the last.
+fn cuts_the_table(rt: &impl Abort, all: &Moved, ranges: usize, bins: usize) {
+    assert_same(rt, (all.lows.len(), all.last_reports), (ranges, 1));
+    let mut high = 1024usize;
+    for low in all.lows.iter().rev() {
+        assert_same(rt, *low, high.saturating_sub(bins));
+        high = *low;
+    }
 }
 
 #[test]
-fn four_threads_get_each_range_once(rt: HostRuntime) -> Result<(), Fail> {
+fn four_threads_get_each_range_once(rt: HostRuntime) {
     for _ in 0..1000 {
-        let all = moved_by_four(&rt, rt.alloc(), 4)?;
-        assert_same(&rt, all.last_reports, 1);
-        assert_eq!(rt; all.lows.len(), 32);
-        for (place, low) in all.lows.iter().enumerate() {
-            assert_same(&rt, *low, 32 * place);
-        }
+        cuts_the_table(&rt, &moved_by_four(&rt, rt.alloc(), 4), 32, 32);
     }
-    Ok(())
 }
 
 #[test]
-fn four_threads_get_a_short_range_once(rt: HostRuntime) -> Result<(), Fail> {
+fn four_threads_get_a_short_range_once(rt: HostRuntime) {
     for _ in 0..100 {
-        let all = moved_by_four(&rt, rt.alloc(), 3)?;
-        assert_same(&rt, all.last_reports, 1);
-        assert_eq!(rt; all.lows.len(), 25);
-        assert_same(&rt, all.lows[0], 0);
-        for (place, low) in all.lows.iter().enumerate().skip(1) {
-            assert_same(&rt, *low, 42 * place - 26);
-        }
+        cuts_the_table(&rt, &moved_by_four(&rt, rt.alloc(), 3), 25, 42);
     }
-    Ok(())
 }
 
 #[test]

@@ -137,35 +137,42 @@ fn has_order(alloc: Global, events: &[Event]) -> Result<bool, AllocError> {
 }
 
 // Checks that what is left of an unlawful history is unlawful.
-fn check_shrunk(rt: &impl Abort, alloc: Global, events: &[Event]) -> Result<(), AllocError> {
-    let fault = shrink(alloc, events, judge(alloc, None, events)?)?;
-    let judged = judge(alloc, fault.first, &fault.events)?;
-    let is_unlawful = judged.verdict == Verdict::Unlawful && judged.until == fault.until;
+fn check_shrunk(rt: &impl Abort, alloc: Global, events: &[Event]) {
+    let judged = judge(alloc, None, events).expect(rt, "memory for the orders");
+    let fault = shrink(alloc, events, judged).expect(rt, "memory for the calls");
+    let left = judge(alloc, fault.first, &fault.events).expect(rt, "memory for the orders");
+    let is_unlawful = left.verdict == Verdict::Unlawful && left.until == fault.until;
     assert!(rt; is_unlawful, "what is left has no order");
-    Ok(())
+}
+
+// Compares the judge with all orders of a history, and returns whether one explains it.
+fn agree(rt: &impl Abort, alloc: Global, events: &[Event], number: u64) -> bool {
+    let is_explained = has_order(alloc, events).expect(rt, "memory for an order");
+    let wanted = if is_explained {
+        Verdict::Lawful
+    } else {
+        check_shrunk(rt, alloc, events);
+        Verdict::Unlawful
+    };
+    assert!(rt;
+        verdict(rt, alloc, events) == wanted,
+        "the verdict on history {number}"
+    );
+    is_explained
 }
 
 #[test]
-fn the_judge_and_all_orders_agree(rt: HostRuntime) -> Result<(), AllocError> {
-    let alloc = rt.alloc();
+fn the_judge_and_all_orders_agree(rt: HostRuntime) {
     let mut random = Random {
         state: 88_172_645_463_325_252,
     };
     let mut lawful = 0u64;
     for number in 0..2000u64 {
-        let events = random_history(alloc, &mut random)?;
-        let found = verdict(&rt, alloc, &events);
-        if has_order(alloc, &events)? {
-            lawful = lawful.saturating_add(1);
-            assert!(rt; found == Verdict::Lawful, "history {number} has an order");
-        } else {
-            assert!(rt; found == Verdict::Unlawful, "history {number} has no order");
-            check_shrunk(&rt, alloc, &events)?;
-        }
+        let events = random_history(rt.alloc(), &mut random).expect(&rt, "memory for the calls");
+        lawful = lawful.saturating_add(u64::from(agree(&rt, rt.alloc(), &events, number)));
     }
     assert!(rt;
         1000 <= lawful && lawful <= 1800,
         "{lawful} of the histories have an order"
     );
-    Ok(())
 }

@@ -1,15 +1,39 @@
 //! What is left of unlawful histories.
 
 use super::{event, get, insert, remove};
-use std::alloc::AllocError;
-use stress_judge::calls::{Call, Reply};
+use std::alloc::Global;
+use std::process::Abort;
+use stress_judge::calls::{Call, Event, Reply};
 use stress_judge::judging::judge;
-use stress_judge::shrinking::{shrink, writers};
+use stress_judge::shrinking::{Fault, shrink, writers};
+
+// What is left of an unlawful history.
+fn shrunk(rt: &impl Abort, alloc: Global, events: &[Event]) -> Fault {
+    let judged = judge(alloc, None, events).expect(rt, "memory for the orders");
+    shrink(alloc, events, judged).expect(rt, "memory for the calls")
+}
+
+// Checks that these calls are left, and the value before them.
+fn check_left(rt: &impl Abort, fault: &Fault, first: Option<u64>, left: &[Event]) {
+    let is_left = fault.first == first && fault.events.as_slice() == left;
+    assert!(rt; is_left, "other calls are left");
+}
+
+// Checks that these are the calls that wrote the values which the fault names.
+fn check_writers(
+    rt: &impl Abort,
+    alloc: Global,
+    events: &[Event],
+    fault: &Fault,
+    wanted: &[Event],
+) {
+    let wrote = writers(alloc, events, fault).expect(rt, "memory for the list");
+    assert!(rt; wrote.as_slice() == wanted, "other calls wrote the values");
+}
 
 // The stale read alone is left of seven calls, and the value that it should have found. The calls that wrote either value are told beside.
 #[test]
-fn a_stale_read_alone(rt: HostRuntime) -> Result<(), AllocError> {
-    let alloc = rt.alloc();
+fn a_stale_read_alone(rt: HostRuntime) {
     let stale = get(2, 9, 12, Some(5));
     let events = [
         insert(0, 1, 2, 5, None),
@@ -20,19 +44,16 @@ fn a_stale_read_alone(rt: HostRuntime) -> Result<(), AllocError> {
         get(1, 10, 11, Some(6)),
         remove(0, 13, 14, Some(6)),
     ];
-    let fault = shrink(alloc, &events, judge(alloc, None, &events)?)?;
-    assert!(rt; fault.first == Some(6) && fault.until == 12);
-    assert!(rt; fault.events.as_slice() == [stale].as_slice());
-    let wrote = writers(alloc, &events, &fault)?;
+    let fault = shrunk(&rt, rt.alloc(), &events);
+    check_left(&rt, &fault, Some(6), &[stale]);
+    assert!(rt; fault.until == 12);
     let both = [insert(0, 1, 2, 5, None), insert(1, 5, 6, 6, Some(5))];
-    assert!(rt; wrote.as_slice() == both.as_slice());
-    Ok(())
+    check_writers(&rt, rt.alloc(), &events, &fault, &both);
 }
 
 // Two insertions overlap and both find no value. When the first ends, no order has the second before it; so the second alone is left.
 #[test]
-fn the_second_of_two_first_insertions(rt: HostRuntime) -> Result<(), AllocError> {
-    let alloc = rt.alloc();
+fn the_second_of_two_first_insertions(rt: HostRuntime) {
     let one = insert(0, 5, 8, 6, None);
     let other = insert(1, 6, 9, 7, None);
     let events = [
@@ -42,9 +63,7 @@ fn the_second_of_two_first_insertions(rt: HostRuntime) -> Result<(), AllocError>
         other,
         event(2, 7, 10, Call::ContainsKey, Reply::Presence(true)),
     ];
-    let fault = shrink(alloc, &events, judge(alloc, None, &events)?)?;
-    assert!(rt; fault.first == Some(6) && fault.events.as_slice() == [other].as_slice());
-    let wrote = writers(alloc, &events, &fault)?;
-    assert!(rt; wrote.as_slice() == [one].as_slice());
-    Ok(())
+    let fault = shrunk(&rt, rt.alloc(), &events);
+    check_left(&rt, &fault, Some(6), &[other]);
+    check_writers(&rt, rt.alloc(), &events, &fault, &[one]);
 }
