@@ -155,10 +155,13 @@ def kits_crates(kit, root):
 
 def hand_over(copy, repository, name):
     """Puts the libraries below a crate, which `rt ci` built in the copy, where `rt lib` looks for them in the repository, with the kit's stamp
-    of what they are made from: so it does not prove them again. Does nothing where the repository has one of its own, or the kit is unknown.
-    Returns whether it did."""
-    those = wrong_bodies.below(name, wrong_bodies.libraries_of(repository))
-    if any((repository / "crates" / it / "out").exists() for it in those):
+    of what they are made from: so it does not prove them again. Returns whether it did.
+
+    Kit 13b itself gives them no stamp, since `rt ci` leaves the statements of a library without their proofs, which fit only the libraries that
+    they were built over. So all of them go together, from one run, and only to a repository in which no crate is built; never of an unknown kit."""
+    libraries = wrong_bodies.libraries_of(repository)
+    those = wrong_bodies.below(name, libraries)
+    if any((repository / "crates" / it / "out").exists() for it in libraries):
         return False
     try:
         loader = importlib.machinery.SourceFileLoader("kit", str(wrong_bodies.kit_folder() / "bin/rt"))
