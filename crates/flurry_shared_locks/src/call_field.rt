@@ -246,7 +246,7 @@ impl<'m, R: Wait, K: Ord + Drop, V: Drop, A: Allocator + Copy> Field<K, V, A>
 
 impl<'m, R: Wait, K: Ord + Drop, V: Drop, A: Allocator + Copy> CallField<'m, R, K, V, A> {
     /// Does the next step of `party`, and returns what the step did. If the call is done, or a part cannot be had, returns `None`, and both
-    /// are unchanged. It drops first what the step before took out of its bin, while no lock is held.
+    /// are unchanged. It drops first what the step before left behind, while no lock is held.
     ///
     /// Takes as many steps as the call's step, and what its locks take.
     #[inline(always)]

@@ -119,7 +119,7 @@ pub trait Field<K: Ord + Drop, V: Drop, A: Allocator + Copy> {
 }
 
 /// Does the next step of `party` over `field`, and returns what the step did. If the call is done, or the field does not pass the part,
-/// returns `None`, and both are unchanged. It drops first what the step before took out of its bin, so that the field holds no lock then.
+/// returns `None`, and both are unchanged. It drops first what the step before left behind, so that the field holds no lock then.
 ///
 /// Takes as many steps as the call's step, and as many as the field needs to pass the part.
 #[inline(always)]

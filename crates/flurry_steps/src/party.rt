@@ -217,8 +217,8 @@ impl<Q: Query<K>, K: Ord + Drop, V: Drop, F: ComputeFn<K, V>, A: Allocator> Part
         }
     }
 
-    /// Drops what the last step at a bin took out of it and did not return, or was given and did not keep. [`act`](crate::act) begins
-    /// with this, so that nothing of the kind is dropped while a lock is held.
+    /// Drops what the last step took out of a bin and did not return, or was given and did not keep. [`act`](crate::act) begins with this,
+    /// so that nothing of the kind is dropped while a lock is held.
     ///
     /// Constant time, and as long as the drops take; after a clear of a bin, linear in the number of its entries.
     pub fn release(&mut self)

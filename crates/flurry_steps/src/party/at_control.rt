@@ -4,7 +4,7 @@ ghost use Rattle.flurry_steps_control.specs.Control.{after_count, advice_of, aft
 ghost use Rattle.flurry_steps_sweep.specs.Outcome.{OutcomeReply};
 ghost use Rattle.flurry_steps_stages.specs.Help.{GivesBack};
 ghost use Rattle.flurry_steps_stages.specs.Stage.{ResumeIsReady, IsDecided, GrowForIsReady, StageIsReady, TaskIsReady, IsAtControl, AtLocate, AtBegin, AtGrow, AtHelp, AtReserve, reply_for};
-ghost use Rattle.flurry_steps.specs.PartyControl.{StageAtControl, stage_advised, event_published};
+ghost use Rattle.flurry_steps.specs.PartyControl.{OpensFor, StageAtControl, stage_advised, event_published};
 ghost use Rattle.flurry_steps_sweep.specs.OutcomeView.{outcome_of};
 ghost use Rattle.flurry_steps_stages.specs.StageView.{resume_of, stage_of, task_of, grow_for_of, form_of};
 ghost use Rattle.flurry_base.specs.declared.sizes.TheConstants.{MAX_TABLE};
@@ -14,11 +14,11 @@ use flurry_base::query::Query;
 use flurry_base::sizes::FIRST_TABLE;
 use flurry_bins_slots::ComputeFn;
 use flurry_steps_control::{Advice, BeginOutcome, Control, Room, wanted_table};
-use flurry_steps_stages::{AnswerForm, GrowFor, Help, Resume, Stage, Task};
+use flurry_steps_stages::{AnswerForm, GrowFor, Help, Left, Resume, Stage, Task};
 use std::alloc::Allocator;
 
-// Does the step of a call that is at the control, and has helped the growth from `helped` last. Returns the stage after it, and what the
-// step did.
+// Does the step of a call that is at the control, and has helped the growth from `helped` last. Returns the stage after it, what the
+// step did, and what it left behind.
 pub(super) fn step_control<
     Q: Query<K>,
     K: Ord + Drop,
@@ -32,7 +32,7 @@ pub(super) fn step_control<
     helped: Option<u8>,
     control: &mut Control,
     room: &mut R,
-) -> (Stage<Q, K, V, F, A>, Event)
+) -> (Stage<Q, K, V, F, A>, Event, Left<Q, K, V, F, A>)
     requires part { IsAtControl (stage_of Q.stands_for stage) }
     requires callable { StageIsReady F.can_change F.never_keeps (stage_of Q.stands_for stage) }
     ensures ready { StageIsReady F.can_change F.never_keeps (stage_of Q.stands_for result.0) }
@@ -42,16 +42,34 @@ pub(super) fn step_control<
 {
     match stage {
         Stage::Locate(task) => return locate(task, control, room),
-        Stage::Help(Help::Publish(table), after) => return publish(table, after, control),
+        Stage::Help(Help::Publish(table), after) => {
+            let (stage, event) = publish(table, after, control);
+            return (stage, event, Left::Nothing);
+        }
         Stage::Uncount(reply) => {
             let _advice = control.count(-1);
-            return (Stage::Done(reply), Event::Silent);
+            return (Stage::Done(reply), Event::Silent, Left::Nothing);
         }
-        Stage::Count(reply) => return (count(control, 1, helped, reply), Event::Silent),
-        Stage::Recount(reply) => return (count(control, 0, helped, reply), Event::Silent),
-        Stage::Begin(table, reply) => return begin(table, processors, reply, control, room),
-        Stage::Grow(wanted, growing) => return grow(wanted, processors, growing, control, room),
-        Stage::Reserve(more) => return reserve(more, control, room),
+        Stage::Count(reply) => {
+            let stage = count(control, 1, helped, reply);
+            return (stage, Event::Silent, Left::Nothing);
+        }
+        Stage::Recount(reply) => {
+            let stage = count(control, 0, helped, reply);
+            return (stage, Event::Silent, Left::Nothing);
+        }
+        Stage::Begin(table, reply) => {
+            let (stage, event) = begin(table, processors, reply, control, room);
+            return (stage, event, Left::Nothing);
+        }
+        Stage::Grow(wanted, growing) => {
+            let (stage, event) = grow(wanted, processors, growing, control, room);
+            return (stage, event, Left::Nothing);
+        }
+        Stage::Reserve(more) => {
+            let (stage, event) = reserve(more, control, room);
+            return (stage, event, Left::Nothing);
+        }
         _ => unreachable!(),
     }
 }
@@ -67,11 +85,13 @@ pub(super) fn absent_reply<K, V, A: Allocator>(form: AnswerForm) -> Reply<K, V, 
     }
 }
 
+// Does the first step of a call while there is no table: the call is decided, or the first table is made for it. What the call was given and
+// does not keep is left behind, since it must not be dropped under the control's lock.
 fn locate<Q: Query<K>, K: Ord + Drop, V: Drop, F: ComputeFn<K, V>, A: Allocator, R: Room>(
     task: Task<Q, K, V, F, A>,
     control: &mut Control,
     room: &mut R,
-) -> (Stage<Q, K, V, F, A>, Event)
+) -> (Stage<Q, K, V, F, A>, Event, Left<Q, K, V, F, A>)
     requires { TaskIsReady F.can_change F.never_keeps (task_of Q.stands_for task) }
     ensures ready { StageIsReady F.can_change F.never_keeps (stage_of Q.stands_for result.0) }
     ensures step { StageAtControl R.place_gives 0 None (AtLocate (task_of Q.stands_for task)) control.old
@@ -79,32 +99,38 @@ fn locate<Q: Query<K>, K: Ord + Drop, V: Drop, F: ComputeFn<K, V>, A: Allocator,
         (stage_of Q.stands_for result.0) control.new room.new }
 {
     if let Some(table) = control.locate() {
-        return (Stage::Bin(task, table), Event::Silent);
+        return (Stage::Bin(task, table), Event::Silent, Left::Nothing);
     }
-    match task {
-        Task::Find(form, _) => (Stage::Done(absent_reply(form)), Event::Decide),
-        Task::Remove(form, _) => (Stage::Done(absent_reply(form)), Event::Decide),
-        Task::RemoveSeen(_) => (Stage::Done(Reply::Value(None)), Event::Decide),
-        Task::Compute(_, _) => (Stage::Done(Reply::Value(None)), Event::Decide),
-        Task::AlterPresent(_, _) => (Stage::Done(Reply::Contains(false)), Event::Decide),
-        Task::Insert(key, value) => match control.open(FIRST_TABLE, room) {
-            Ok(table) => (
-                Stage::Bin(Task::Insert(key, value), table),
-                Event::Opened(table),
-            ),
-            Err(_) => (Stage::Done(Reply::Refused), Event::Refused),
-        },
-        Task::Add(key, value) => match control.open(FIRST_TABLE, room) {
-            Ok(table) => (
-                Stage::Bin(Task::Add(key, value), table),
-                Event::Opened(table),
-            ),
-            Err(_) => (Stage::Done(Reply::Refused), Event::Refused),
-        },
-        Task::Alter(key, f) => match control.open(FIRST_TABLE, room) {
-            Ok(table) => (Stage::Bin(Task::Alter(key, f), table), Event::Opened(table)),
-            Err(_) => (Stage::Done(Reply::Refused), Event::Refused),
-        },
+    let reply = match &task {
+        Task::Find(form, _) | Task::Remove(form, _) => absent_reply(*form),
+        Task::RemoveSeen(_) | Task::Compute(_, _) => Reply::Value(None),
+        Task::AlterPresent(_, _) => Reply::Contains(false),
+        Task::Insert(_, _) | Task::Add(_, _) | Task::Alter(_, _) => {
+            return open_for(task, control, room);
+        }
+    };
+    (Stage::Done(reply), Event::Decide, Left::Task(task))
+}
+
+// Makes the first table for a call that may add a pair.
+fn open_for<Q: Query<K>, K: Ord + Drop, V: Drop, F: ComputeFn<K, V>, A: Allocator, R: Room>(
+    task: Task<Q, K, V, F, A>,
+    control: &mut Control,
+    room: &mut R,
+) -> (Stage<Q, K, V, F, A>, Event, Left<Q, K, V, F, A>)
+    requires none { control.old.published ≡ None }
+    requires callable { TaskIsReady F.can_change F.never_keeps (task_of Q.stands_for task) }
+    ensures ready { StageIsReady F.can_change F.never_keeps (stage_of Q.stands_for result.0) }
+    ensures step { OpensFor R.place_gives 0 None (task_of Q.stands_for task) control.old room.old result.1
+        (stage_of Q.stands_for result.0) control.new room.new }
+{
+    match control.open(FIRST_TABLE, room) {
+        Ok(table) => (Stage::Bin(task, table), Event::Opened(table), Left::Nothing),
+        Err(_) => (
+            Stage::Done(Reply::Refused),
+            Event::Refused,
+            Left::Task(task),
+        ),
     }
 }
 

@@ -39,7 +39,7 @@ pub(crate) struct Single<Q: Query<K>, K: Ord, V, F: ComputeFn<K, V>, A: Allocato
     // A stage is set by `mem::replace`, and the stage before is passed to `drop`: for an assignment the proof would go through everything
     // that a stage can hold.
     pub(super) stage: Stage<Q, K, V, F, A>,
-    // What the last step at a bin left behind, which no contract sees.
+    // What the last step left behind, which no contract sees.
     pub(super) left: Left<Q, K, V, F, A>,
 }
 
@@ -133,8 +133,9 @@ impl<Q: Query<K>, K: Ord + Drop, V: Drop, F: ComputeFn<K, V>, A: Allocator> Sing
         ensures { ControlStep R.place_gives self.old control.old room.old result self.new control.new room.new }
     {
         let stage = mem::replace(&mut self.stage, Stage::Taken);
-        let (stage, event) = step_control(stage, self.processors, self.helped, control, room);
+        let (stage, event, left) = step_control(stage, self.processors, self.helped, control, room);
         drop(mem::replace(&mut self.stage, stage));
+        drop(mem::replace(&mut self.left, left));
         event
     }
 

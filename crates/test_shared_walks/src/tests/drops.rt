@@ -138,6 +138,11 @@ enum Deed {
     Clear,
     Replace,
     Erase,
+    Compute,
+    Merge,
+    Update,
+    RemoveIf,
+    ReplaceIf,
     ComputeNowhere,
     Remove,
     Insert,
@@ -176,6 +181,23 @@ fn replaces<'m, A: Allocator + Copy, R: Wait>(
 // Removes the pair at the key 1 by a computation.
 fn erases<'m, A: Allocator + Copy, R: Wait>(rt: &R, map: &Guests<'m, A>) -> Result<(), AllocError> {
     drop(map.compute_if_present(rt, &Guest::new(1), |_, _| None)?);
+    Ok(())
+}
+
+// Changes or removes the pair at the key 1, which is passed in with a meeting if that is for the new key.
+fn alters<'m, A: Allocator + Copy, R: Wait>(
+    rt: &R,
+    map: &Guests<'m, A>,
+    deed: Deed,
+    key: Guest<'m>,
+) -> Result<(), AllocError> {
+    match deed {
+        Deed::Compute => drop(map.compute(rt, key, |_, _| Some(Guest::new(3)))?),
+        Deed::Merge => drop(map.merge(rt, key, Guest::new(3), |_, new| Some(new))?),
+        Deed::Update => drop(map.update(rt, &key, |_, _| Guest::new(3))?),
+        Deed::RemoveIf => drop(map.remove_if(rt, &key, |_, _| true)),
+        _ => drop(map.replace_if(rt, &key, |_, _| true, Guest::new(3))?),
+    }
     Ok(())
 }
 
@@ -226,7 +248,7 @@ fn sweeps<'m, A: Allocator + Copy, R: Wait>(
     }
 }
 
-// Does the deed in a map of the keys 1 and 2.
+// Does the deed in a map of the keys 1 and 2, or in a new one.
 fn does<'m, A: Allocator + Copy, R: Wait>(
     rt: &R,
     map: &Guests<'m, A>,
@@ -237,6 +259,9 @@ fn does<'m, A: Allocator + Copy, R: Wait>(
     match deed {
         Deed::Replace => replaces(rt, map),
         Deed::Erase => erases(rt, map),
+        Deed::Compute | Deed::Merge | Deed::Update | Deed::RemoveIf | Deed::ReplaceIf => {
+            alters(rt, map, deed, guest_of(1, matches!(who, Who::NewKey), meeting))
+        }
         Deed::ComputeNowhere => {
             computes_nowhere(rt, map, guest_of(3, matches!(who, Who::Function), meeting))
         }
@@ -288,13 +313,31 @@ fn in_two_threads<'m, A: Allocator + Copy + Send + Sync, R: Threads + Wait + Syn
     );
 }
 
-fn meets<R: Threads + Wait + Sync>(rt: &R, alloc: Global, deed: Deed, who: Who) -> bool {
-    let meeting = Meeting::new();
-    let map: Guests<'_, Global> = HashMap::with_hasher(alloc, ZeroHashBuilder);
-    let key = guest_of(1, matches!(who, Who::Key), &meeting);
-    let value = guest_of(1, matches!(who, Who::Value), &meeting);
+// Inserts the keys 1 and 2.
+fn fill<'m, A: Allocator + Copy, R: Wait>(
+    rt: &R,
+    map: &Guests<'m, A>,
+    who: Who,
+    meeting: &'m Meeting,
+) {
+    let key = guest_of(1, matches!(who, Who::Key), meeting);
+    let value = guest_of(1, matches!(who, Who::Value), meeting);
     let _ = map.insert(rt, key, value);
     let _ = map.insert(rt, Guest::new(2), Guest::new(2));
+}
+
+fn meets<R: Threads + Wait + Sync>(
+    rt: &R,
+    alloc: Global,
+    deed: Deed,
+    who: Who,
+    is_new: bool,
+) -> bool {
+    let meeting = Meeting::new();
+    let map: Guests<'_, Global> = HashMap::with_hasher(alloc, ZeroHashBuilder);
+    if !is_new {
+        fill(rt, &map, who, &meeting);
+    }
     in_two_threads(rt, &map, deed, who, &meeting);
     meeting.has_met()
 }
@@ -308,6 +351,14 @@ fn calls_of_a_map(rt: HostRuntime) {
         (Deed::Replace, Who::Value),
         (Deed::Erase, Who::Key),
         (Deed::Erase, Who::Value),
+        (Deed::Compute, Who::NewKey),
+        (Deed::Compute, Who::Value),
+        (Deed::Merge, Who::NewKey),
+        (Deed::Merge, Who::Value),
+        (Deed::Update, Who::Value),
+        (Deed::RemoveIf, Who::Key),
+        (Deed::RemoveIf, Who::Value),
+        (Deed::ReplaceIf, Who::Value),
         (Deed::ComputeNowhere, Who::Function),
         (Deed::Remove, Who::Key),
         (Deed::Insert, Who::NewKey),
@@ -318,9 +369,16 @@ fn calls_of_a_map(rt: HostRuntime) {
         (Deed::RetainForce, Who::Value),
         (Deed::Read, Who::Value),
     ] {
-        let met = meets(&rt, rt.alloc(), deed, who);
+        let met = meets(&rt, rt.alloc(), deed, who, false);
         assert_same(&rt, (deed, who, met), (deed, who, true));
     }
+}
+
+// A map without a table decides at its control.
+#[test]
+fn a_function_that_a_new_map_drops(rt: HostRuntime) {
+    let met = meets(&rt, rt.alloc(), Deed::ComputeNowhere, Who::Function, true);
+    assert_same(&rt, met, true);
 }
 
 // What is done in a set of the elements 1 and 2.
