@@ -71,6 +71,10 @@ pub use Rattle.flurry_steps_control.specs.Control
 pub use Rattle.flurry_bins_slots.specs.ComputeFn
 pub use Rattle.flurry_bins_slots.specs.Slot
 pub use Rattle.flurry_bins_slots.specs.SlotView
+pub use Rattle.flurry_steps_stages.specs.CallView
+pub use Rattle.flurry_steps_stages.specs.Help
+pub use Rattle.flurry_steps_stages.specs.Stage
+pub use Rattle.flurry_steps_stages.specs.StageView
 pub use Rattle.flurry_steps.specs.EndingView
 pub use Rattle.flurry_steps.specs.Field
 pub use Rattle.flurry_steps.specs.FirstSteps

@@ -25,4 +25,5 @@ pub use Rattle.flurry_base.specs.Hashing
 pub use Rattle.flurry_base.specs.Keeps
 pub use Rattle.flurry_base.specs.OneKey
 pub use Rattle.flurry_base.specs.Sizes
+pub use Rattle.flurry_base.specs.Texts
 pub use Rattle.flurry_base.specs.TryInsert

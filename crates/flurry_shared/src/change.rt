@@ -156,8 +156,8 @@ impl<K: Ord + Drop, V: Drop, S: KeyHasher<K>, A: Allocator + Copy> HashMap<K, V,
     /// the old value, which is returned. Otherwise nothing changes, `value` is dropped, and `None` is returned; if the key is absent,
     /// `test` is not called. The table keeps its size.
     ///
-    /// `test` runs while the key's bin is locked, and must not call this map, as in [`HashMap::compute_if_present`]. Takes the same
-    /// locks as [`HashMap::remove`].
+    /// `test` runs while the key's bin is locked, and must not call this map, as in [`HashMap::compute_if_present`]. Nor must the `drop` of
+    /// `value`, which is dropped before the bin is unlocked if `test` returns `false`. Takes the same locks as [`HashMap::remove`].
     ///
     /// ```
     /// let map: HashMap<u64, u64> = HashMap::new(rt.alloc());

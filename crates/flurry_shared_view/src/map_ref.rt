@@ -322,8 +322,8 @@ impl<'m, R: Wait, K: Ord + Drop, V: Drop, S: KeyHasher<K>, A: Allocator + Copy> 
     /// taken, and `None` is returned. The table keeps its size.
     ///
     /// `f` runs while the key's bin is locked, as nothing else of the caller's does but the order and the equality of keys. It must not call
-    /// this map, since a call with a key of the same bin would wait for itself, nor wait for a thread that does. What is replaced or removed
-    /// is dropped after the bin is unlocked. Takes the same locks as [`HashMapRef::remove`].
+    /// this map, since a call with a key of the same bin would wait for itself, nor wait for a thread that does; nor must the `drop` of what
+    /// it captures. What is replaced or removed is dropped after the bin is unlocked. Takes the same locks as [`HashMapRef::remove`].
     ///
     /// ```
     /// let map: HashMap<u64, u64> = HashMap::new(rt.alloc());
