@@ -1,7 +1,7 @@
 //! Calls that change a pair by a function, which is called while the bin of the key is locked.
 
 use super::workers::insert_all;
-use super::{assert_same, number_at, taken};
+use super::{TURNS, assert_same, number_at, taken};
 use flurry_base::Change;
 use flurry_base::hash::LowHashBuilder;
 use flurry_shared::HashMap;
@@ -223,36 +223,149 @@ fn calls_of_a_view(rt: HostRuntime) {
     );
 }
 
+// Returns what the function of an insertion of a key returned, if it was called, and the number that then stands.
+fn get_or_insert<R: Abort + Wait>(
+    rt: &R,
+    map: &Numbers,
+    key: u64,
+    number: u64,
+) -> (Option<u64>, u64) {
+    let mut made = None;
+    let stands = map.get_or_insert_with(rt, key, |_| {
+        made = Some(number);
+        number
+    });
+    (made, *stands.expect(rt, "memory"))
+}
+
+// The function is called at an absent key alone.
+#[test]
+fn insertions_of_what_a_function_returns(rt: HostRuntime) {
+    let map = three_pairs(&rt, rt.alloc());
+    for (key, number, wanted) in [
+        (2, 99, (None, 20)),
+        (4, 99, (Some(99), 99)),
+        (4, 98, (None, 99)),
+    ] {
+        let seen = get_or_insert(&rt, &map, key, number);
+        assert_same(&rt, (key, seen), (key, wanted));
+    }
+}
+
+// A map in which threads count.
+type Counters<A> = HashMap<u64, u64, LowHashBuilder, A>;
+
+// How a thread adds one to a number.
+#[derive(Clone, Copy)]
+enum Adds {
+    Merge,
+    Compute,
+    Update,
+    ReplaceIf,
+}
+
+fn adds_by_merge<A: Allocator + Copy, R: Abort + Wait>(
+    rt: &R,
+    map: &Counters<A>,
+    key: u64,
+) -> bool {
+    let change = map.merge(rt, key, 1, |old, new| old.checked_add(new));
+    drop(change.expect(rt, "memory"));
+    true
+}
+
+fn adds_by_compute<A: Allocator + Copy, R: Abort + Wait>(
+    rt: &R,
+    map: &Counters<A>,
+    key: u64,
+) -> bool {
+    let change = map.compute(rt, key, |_, old| Some(old.map_or(1, |old| old.saturating_add(1))));
+    drop(change.expect(rt, "memory"));
+    true
+}
+
+fn adds_by_update<A: Allocator + Copy, R: Abort + Wait>(
+    rt: &R,
+    map: &Counters<A>,
+    key: u64,
+) -> bool {
+    let new = map.update(rt, &key, |_, old| old.saturating_add(1));
+    new.expect(rt, "memory").is_some()
+}
+
+// Adds one if the number is still the one that it found.
+fn adds_by_replace_if<A: Allocator + Copy, R: Abort + Wait>(
+    rt: &R,
+    map: &Counters<A>,
+    key: u64,
+) -> bool {
+    let Some(found) = map.get(rt, &key).expect(rt, "memory") else {
+        return false;
+    };
+    let new = found.saturating_add(1);
+    let old = map.replace_if(rt, &key, |_, value| *value == *found, new);
+    old.expect(rt, "memory").is_some()
+}
+
+// Adds one to the number at a key, unless the key is absent for a call that needs it, or the number is replaced meanwhile. Returns whether
+// it did.
+fn adds_one<A: Allocator + Copy, R: Abort + Wait>(
+    rt: &R,
+    map: &Counters<A>,
+    key: u64,
+    adds: Adds,
+) -> bool {
+    match adds {
+        Adds::Merge => adds_by_merge(rt, map, key),
+        Adds::Compute => adds_by_compute(rt, map, key),
+        Adds::Update => adds_by_update(rt, map, key),
+        Adds::ReplaceIf => adds_by_replace_if(rt, map, key),
+    }
+}
+
+// Tries until it adds one.
+fn add_one<A: Allocator + Copy, R: Abort + Wait>(
+    rt: &R,
+    map: &Counters<A>,
+    key: u64,
+    adds: Adds,
+) {
+    for _ in 0..TURNS {
+        if adds_one(rt, map, key, adds) {
+            return;
+        }
+        thread::yield_now();
+    }
+}
+
 // Adds one to the number at each of eight keys, so many times.
 fn count_up<A: Allocator + Copy, R: Abort + Wait>(
     rt: &R,
-    map: &HashMap<u64, u64, LowHashBuilder, A>,
+    map: &Counters<A>,
     times: u64,
+    adds: Adds,
 ) {
     for time in 0..times {
-        let key = time % 8;
-        let _ = map
-            .merge(rt, key, 1, |old, new| old.checked_add(new))
-            .expect(rt, "memory");
+        add_one(rt, map, time % 8, adds);
     }
 }
 
 // Adds to the same eight numbers in each of four threads, while this one inserts other keys, for which the table grows.
 fn add_in_threads<A: Allocator + Copy + Send + Sync, R: Abort + Threads + Wait + Sync>(
     rt: &R,
-    map: &HashMap<u64, u64, LowHashBuilder, A>,
+    map: &Counters<A>,
 ) {
     thread::scope(thread::scope_env(), rt, |scope| {
-        for _ in 0..4u64 {
-            if scope.spawn(move || count_up(rt, map, 2000)).is_err() {
-                count_up(rt, map, 2000);
+        for adds in [Adds::Merge, Adds::Compute, Adds::Update, Adds::ReplaceIf] {
+            if scope.spawn(move || count_up(rt, map, 2000, adds)).is_err() {
+                count_up(rt, map, 2000, adds);
             }
         }
         insert_all(rt, map, 8, 2000);
     });
 }
 
-// No addition is lost, whoever adds the key.
+// No addition is lost, whoever adds the key and by whichever call.
 #[test]
 fn four_threads_add_to_the_same_numbers(rt: HostRuntime) {
     let map: Numbers = HashMap::with_hasher(rt.alloc(), LowHashBuilder);

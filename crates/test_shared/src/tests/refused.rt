@@ -31,10 +31,15 @@ enum Call {
     TryInsert,
     Compute,
     ComputeNew,
+    ComputeNothing,
+    ComputePresent,
+    ComputeGone,
     MergeNew,
     Merge,
     Update,
     ReplaceIf,
+    RemoveIf,
+    GetOrInsert,
     Get,
     Reserve,
 }
@@ -47,10 +52,15 @@ fn is_done<A: Allocator + Copy, R: Wait>(rt: &R, map: &Numbers<A>, call: Call) -
         Call::TryInsert => map.try_insert(rt, 99, 1).is_ok(),
         Call::Compute => map.compute_if_present(rt, &0, |_, _| Some(1)).is_ok(),
         Call::ComputeNew => map.compute(rt, 99, |_, _| Some(1)).is_ok(),
+        Call::ComputeNothing => map.compute(rt, 99, |_, _| None).is_ok(),
+        Call::ComputePresent => map.compute(rt, 0, |_, _| Some(1)).is_ok(),
+        Call::ComputeGone => map.compute(rt, 0, |_, _| None).is_ok(),
         Call::MergeNew => map.merge(rt, 99, 1, |_, _| None).is_ok(),
         Call::Merge => map.merge(rt, 0, 1, |_, new| Some(new)).is_ok(),
         Call::Update => map.update(rt, &0, |_, _| 1).is_ok(),
         Call::ReplaceIf => map.replace_if(rt, &0, |_, _| true, 1).is_ok(),
+        Call::RemoveIf => map.remove_if(rt, &0, |_, _| true).is_some(),
+        Call::GetOrInsert => map.get_or_insert_with(rt, 99, |_| 1).is_ok(),
         Call::Get => map.get(rt, &0).is_ok(),
         Call::Reserve => map.reserve(rt, 100).is_ok(),
     }
@@ -131,13 +141,18 @@ fn each_request_of_a_call(rt: HostRuntime) -> Result<(), Fail> {
     Ok(())
 }
 
-// A new key takes what an insertion of it takes, and a present one the `Arc` of its new value.
+// A new key takes what an insertion of it takes, and a present one the `Arc` of its new value. Where no value is to stand, a computation
+// takes no more than a first table.
 #[test]
 fn each_request_of_a_call_by_a_function(rt: HostRuntime) -> Result<(), Fail> {
     let memory = MeteredAlloc::leak(rt.alloc())?;
     for (keys, call, requests) in [
         (0, Call::ComputeNew, 5),
         (1, Call::ComputeNew, 3),
+        (0, Call::ComputeNothing, 2),
+        (1, Call::ComputeNothing, 0),
+        (1, Call::ComputePresent, 1),
+        (1, Call::ComputeGone, 0),
         (0, Call::MergeNew, 5),
         (1, Call::MergeNew, 3),
         (1, Call::Merge, 1),
@@ -145,6 +160,9 @@ fn each_request_of_a_call_by_a_function(rt: HostRuntime) -> Result<(), Fail> {
         (1, Call::Update, 1),
         (0, Call::ReplaceIf, 0),
         (1, Call::ReplaceIf, 1),
+        (1, Call::RemoveIf, 0),
+        (0, Call::GetOrInsert, 5),
+        (1, Call::GetOrInsert, 3),
     ] {
         refuse_each(&rt, memory, (keys, call), requests);
     }

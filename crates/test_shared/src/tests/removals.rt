@@ -15,18 +15,34 @@ const KEYS: usize = 64;
 // The signs of the keys. Each key is one of them.
 const SIGNS: &str = "ABCDEFGHIJKLMNOPQRSTUVWXYZabcdefghijklmnopqrstuvwxyz0123456789+/";
 
+// Removes a key, by a test that passes or by itself, and returns its value.
+fn removed<K: Ord + Drop, S: KeyHasher<K>, A: Allocator + Copy, R: Wait>(
+    rt: &R,
+    map: &HashMap<K, u64, S, A>,
+    key: &K,
+    is_tested: bool,
+) -> Option<u64> {
+    let value = if is_tested {
+        map.remove_if(rt, key, |_, _| true)
+    } else {
+        map.remove(rt, key)
+    };
+    value.map(|value| *value)
+}
+
 // Removes all keys. Returns how many it removed, and how many of these had a value other than their place in the list.
 fn remove_all<K: Ord + Drop, S: KeyHasher<K>, A: Allocator + Copy, R: Wait>(
     rt: &R,
     map: &HashMap<K, u64, S, A>,
     keys: &[K],
+    is_tested: bool,
 ) -> (u64, u64) {
     let mut taken = 0u64;
     let mut others = 0u64;
     for (place, key) in keys.iter().enumerate() {
-        if let Some(value) = map.remove(rt, key) {
+        if let Some(value) = removed(rt, map, key, is_tested) {
             taken = taken.saturating_add(1);
-            if *value != place as u64 {
+            if value != place as u64 {
                 others = others.saturating_add(1);
             }
         }
@@ -34,7 +50,7 @@ fn remove_all<K: Ord + Drop, S: KeyHasher<K>, A: Allocator + Copy, R: Wait>(
     (taken, others)
 }
 
-// Removes all keys in each of two threads.
+// Removes all keys in each of two threads, in one of them by a test.
 fn remove_in_threads<
     K: Ord + Send + Sync + Drop,
     S: KeyHasher<K> + Sync,
@@ -43,8 +59,8 @@ fn remove_in_threads<
 >(rt: &R, map: &HashMap<K, u64, S, A>, keys: &[K]) -> (u64, u64) {
     let (first, second) = thread::join(
         rt,
-        || remove_all(rt, map, keys),
-        || remove_all(rt, map, keys),
+        || remove_all(rt, map, keys, false),
+        || remove_all(rt, map, keys, true),
     );
     (
         first.0.saturating_add(second.0),

@@ -4,7 +4,7 @@ use super::{assert_same, insert_all, numbers, read_all};
 use flurry_base::hash::{KeyHasher, ZeroHashBuilder};
 use flurry_shared::HashMap;
 use flurry_shared::iter::Keys;
-use std::alloc::Allocator;
+use std::alloc::{AllocError, Allocator};
 use std::sync::Wait;
 use std::sync::atomic::{AtomicU64, Ordering};
 use std::thread;
@@ -27,8 +27,8 @@ enum Work {
     Look(u64, u64),
     // Walks this number of times, and fails if a walk does not give each of the earlier keys once, or gives another key twice.
     Walk(u32),
-    // Folds this number of times, and fails if a fold does not count each of the earlier keys once.
-    Fold(u32),
+    // Visits all pairs this number of times, and fails if a visit does not count each of the earlier keys once.
+    Visit(u32),
     // Keeps the even keys.
     KeepEven,
 }
@@ -45,7 +45,7 @@ fn do_work<S: KeyHasher<u64>, A: Allocator + Copy, R: Wait>(
         Work::Remove(from, to) => remove_all(rt, map, from, to),
         Work::Look(from, to) => look_all(rt, map, from, to),
         Work::Walk(times) => walk_often(rt, map, times),
-        Work::Fold(times) => fold_often(rt, map, times),
+        Work::Visit(times) => visit_often(rt, map, times),
         Work::KeepEven => u64::from(map.retain(rt, |key, _| *key % 2 == 0).is_err()),
     };
     failures.fetch_add(failed, Ordering::SeqCst);
@@ -98,20 +98,56 @@ fn walk_often<S: KeyHasher<u64>, A: Allocator + Copy, R: Wait>(
     failed
 }
 
-// Folds `times` times, and returns how many of the earlier keys were counted too often or not at all.
-fn fold_often<S: KeyHasher<u64>, A: Allocator + Copy, R: Wait>(
+// Visits all pairs `times` times, by one call after another, and returns how many of the earlier keys were counted too often or not at all.
+fn visit_often<S: KeyHasher<u64>, A: Allocator + Copy, R: Wait>(
     rt: &R,
     map: &HashMap<u64, u64, S, A>,
     times: u32,
 ) -> u64 {
     let mut failed = 0u64;
-    for _ in 0..times {
-        let counted = map.fold(rt, 0, |count: u64, key: &u64, _value: &u64| -> u64 {
-            count.saturating_add(u64::from(*key < STANDING as u64))
-        });
+    for time in 0..times {
+        let counted = match time % 3 {
+            0 => count_by_fold(rt, map),
+            1 => count_by_for_each(rt, map),
+            _ => count_by_any(rt, map),
+        };
         failed = failed.saturating_add(counted.unwrap_or(0).abs_diff(STANDING as u64));
     }
     failed
+}
+
+// Counts the earlier keys.
+fn count_by_fold<S: KeyHasher<u64>, A: Allocator + Copy, R: Wait>(
+    rt: &R,
+    map: &HashMap<u64, u64, S, A>,
+) -> Result<u64, AllocError> {
+    map.fold(rt, 0, |count: u64, key: &u64, _value: &u64| -> u64 {
+        count.saturating_add(u64::from(*key < STANDING as u64))
+    })
+}
+
+fn count_by_for_each<S: KeyHasher<u64>, A: Allocator + Copy, R: Wait>(
+    rt: &R,
+    map: &HashMap<u64, u64, S, A>,
+) -> Result<u64, AllocError> {
+    let mut count = 0u64;
+    map.for_each(rt, |key: &u64, _value: &u64| {
+        count = count.saturating_add(u64::from(*key < STANDING as u64));
+    })?;
+    Ok(count)
+}
+
+// The test passes at no pair, and so is called at each.
+fn count_by_any<S: KeyHasher<u64>, A: Allocator + Copy, R: Wait>(
+    rt: &R,
+    map: &HashMap<u64, u64, S, A>,
+) -> Result<u64, AllocError> {
+    let mut count = 0u64;
+    map.any(rt, |key: &u64, _value: &u64| -> bool {
+        count = count.saturating_add(u64::from(*key < STANDING as u64));
+        false
+    })?;
+    Ok(count)
 }
 
 // Returns how many of the earlier keys one walk does not give once, and how many other keys it gives more than once.
@@ -162,7 +198,7 @@ fn work_in_threads<
     failures.load(Ordering::SeqCst)
 }
 
-// Each walk and each fold gives each key that was present before it started once, while the table is doubled several times. No walk gives a
+// Each walk and each visit gives each key that was present before it started once, while the table is doubled several times. No walk gives a
 // key twice.
 #[test]
 fn walks_beside_insertions(rt: HostRuntime) {
@@ -173,7 +209,7 @@ fn walks_beside_insertions(rt: HostRuntime) {
         Work::Walk(2),
         Work::Walk(2),
         Work::Walk(2),
-        Work::Fold(2),
+        Work::Visit(2),
     ];
 
     assert_same(&rt, work_in_threads(&rt, &map, &works), 0);

@@ -19,6 +19,9 @@ type Numbers<A> = HashMap<u64, u64, LowHashBuilder, A>;
 #[derive(Clone, Copy, Debug, PartialEq)]
 enum Call {
     Walk,
+    ForEach,
+    Any,
+    Fold,
     Retain,
     RetainForce,
     Extend,
@@ -36,6 +39,9 @@ fn is_done<A: Allocator + Copy, R: Wait>(
 ) -> bool {
     match call {
         Call::Walk => read_all(map.iter(rt)).is_ok(),
+        Call::ForEach => map.for_each(rt, |_, _| {}).is_ok(),
+        Call::Any => map.any(rt, |_, _| false).is_ok(),
+        Call::Fold => map.fold(rt, 0u64, |sum, _, _| sum).is_ok(),
         Call::Retain => map.retain(rt, |key, _| *key < 2).is_ok(),
         Call::RetainForce => map.retain_force(rt, |key, _| *key < 2).is_ok(),
         Call::Extend => map.extend(rt, list).is_ok(),
@@ -100,13 +106,16 @@ fn refuse_each<R: Abort + Wait>(
     assert_same(rt, memory.live_blocks(), 0);
 }
 
-// The first four make no request. The requests of the others are for a table and its slots, and three for each pair. A clone of a map
+// The first seven make no request. The requests of the others are for a table and its slots, and three for each pair. A clone of a map
 // shares its keys and values, and is built in a table of its own first.
 #[test]
 fn each_request_of_a_call(rt: HostRuntime) -> Result<(), Fail> {
     let memory = MeteredAlloc::leak(rt.alloc())?;
     for row in [
         (Call::Walk, 0, 3),
+        (Call::ForEach, 0, 3),
+        (Call::Any, 0, 3),
+        (Call::Fold, 0, 3),
         (Call::Retain, 0, 2),
         (Call::RetainForce, 0, 2),
         (Call::Equals, 0, 3),

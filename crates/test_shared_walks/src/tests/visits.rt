@@ -95,11 +95,30 @@ fn views_print_how_many(rt: HostRuntime) {
     assert_same(&rt, text.as_str(), "HashMap { .. }");
 }
 
+// A struct that has a map.
+#[derive(Debug, Drop)]
+struct Registry {
+    sessions: HashMap<u64, u64>,
+    limit: u64,
+}
+
+#[test]
+fn a_struct_with_a_map_derives_debug(rt: HostRuntime) {
+    let registry = Registry {
+        sessions: HashMap::new(rt.alloc()),
+        limit: 7,
+    };
+    let text = debug_of(&rt, rt.alloc(), &registry);
+    let wanted = "Registry { sessions: HashMap { .. }, limit: 7 }";
+    assert_same(&rt, text.as_str(), wanted);
+}
+
 #[test]
 fn views_of_sets_print_how_many(rt: HostRuntime) {
     let set: HashSet<u64> = HashSet::new(rt.alloc());
+    assert_same(&rt, set.insert(&rt, 5).ok(), Some(true));
     let text = debug_of(&rt, rt.alloc(), &set.pin(&rt));
-    assert_same(&rt, text.as_str(), "HashSetRef { len: 0, .. }");
+    assert_same(&rt, text.as_str(), "HashSetRef { len: 1, .. }");
     let text = debug_of(&rt, rt.alloc(), &set);
     assert_same(&rt, text.as_str(), "HashSet { .. }");
 }
