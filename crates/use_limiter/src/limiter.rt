@@ -26,7 +26,7 @@ impl Limiter {
         }
     }
 
-    /// Takes a token of `key` at the time `now`, and returns `true` if there was one.
+    /// Takes a token of `key` at the time `now`, and returns `true` if there was one. The text of the key is copied only if it has no bucket.
     ///
     /// # Errors
     ///
@@ -38,7 +38,25 @@ impl Limiter {
         key: &str,
         now: u64,
     ) -> Result<bool, AllocError> {
-        let key = String::from_str(alloc, key)?;
+        let mut is_granted = false;
+        let granted = &mut is_granted;
+        let present = self
+            .buckets
+            .update(rt, key, move |_key: &String, bucket: &Bucket| -> Bucket {
+                let mut bucket = bucket.at(now);
+                *granted = bucket.take();
+                bucket
+            })?;
+        if present.is_none() {
+            is_granted = self.allow_new(rt, String::from_str(alloc, key)?, now)?;
+        }
+        self.granted
+            .fetch_add(u64::from(is_granted), Ordering::SeqCst);
+        Ok(is_granted)
+    }
+
+    // Takes a token of a key that had no bucket. It gets a full one, unless another thread has made one meanwhile.
+    fn allow_new<R: Wait>(&self, rt: &R, key: String, now: u64) -> Result<bool, AllocError> {
         let rules = self.rules;
         let mut is_granted = false;
         let granted = &mut is_granted;
@@ -54,8 +72,6 @@ impl Limiter {
                 Some(bucket)
             },
         )?;
-        self.granted
-            .fetch_add(u64::from(is_granted), Ordering::SeqCst);
         Ok(is_granted)
     }
 

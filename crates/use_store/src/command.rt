@@ -14,6 +14,8 @@ pub enum Command {
     Set(String, String),
     /// `ADD key text`: stores a text if the key is absent.
     Add(String, String),
+    /// `SWAP key old new`: stores the text `new`, which may have blanks, if the text of the key is `old`.
+    Swap(String, String, String),
     /// `DEL key`: removes a key.
     Delete(String),
     /// `KEYS`: all keys.
@@ -45,10 +47,23 @@ impl Command {
                     String::from_str(alloc, text)?,
                 )
             }
+            (Some("SWAP"), Some(key), Some(texts)) => Command::swap(alloc, key, texts)?,
             (Some("KEYS"), None, None) => Command::Keys,
             _ => Command::Unknown,
         };
         Ok(command)
+    }
+
+    // Reads the two texts of a swap.
+    fn swap(alloc: Global, key: &str, texts: &str) -> Result<Self, AllocError> {
+        let Some((old, new)) = texts.split_once(' ') else {
+            return Ok(Command::Unknown);
+        };
+        Ok(Command::Swap(
+            String::from_str(alloc, key)?,
+            String::from_str(alloc, old)?,
+            String::from_str(alloc, new)?,
+        ))
     }
 
     // Returns the key that the command reads or changes, if it is one.
@@ -57,6 +72,7 @@ impl Command {
             Command::Get(key)
             | Command::Set(key, _)
             | Command::Add(key, _)
+            | Command::Swap(key, _, _)
             | Command::Delete(key) => Some(key),
             Command::Keys | Command::Unknown => None,
         }

@@ -10,9 +10,9 @@ use std::sync::{Arc, Wait};
 /// What a store replies to a command.
 #[derive(Drop)]
 pub enum Reply {
-    /// A text was stored, or a key removed.
+    /// A text was stored, or a key was removed.
     Done,
-    /// Nothing was changed: the key to be added is present, or that to be removed is absent.
+    /// Nothing was changed: the key to be added is present, that to be removed is absent, or the text to be swapped is another.
     Unchanged,
     /// The text of a key, or `None` if the key is absent.
     Text(Option<Arc<String>>),
@@ -88,6 +88,7 @@ impl Store {
                 true
             }
             Command::Add(key, text) => self.texts.try_insert(rt, key, text)?.is_ok(),
+            Command::Swap(key, old, new) => self.swap(rt, &key, &old, new)?,
             Command::Delete(key) => self.texts.remove(rt, &key).is_some(),
         };
         Ok(if is_changed {
@@ -95,5 +96,19 @@ impl Store {
         } else {
             Reply::Unchanged
         })
+    }
+
+    // Stores the text `new` if the text of the key is `old`, and returns whether it was.
+    fn swap<R: Wait>(
+        &self,
+        rt: &R,
+        key: &String,
+        old: &String,
+        new: String,
+    ) -> Result<bool, AllocError> {
+        let replaced = self
+            .texts
+            .replace_if(rt, key, |_key: &String, text: &String| text == old, new)?;
+        Ok(replaced.is_some())
     }
 }
