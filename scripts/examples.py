@@ -1,11 +1,12 @@
 #!/usr/bin/env python3
-"""Whether each example in a doc comment of a library, and in the pages on calling, is code that is proved: so it cannot go stale.
+"""Whether each example in a doc comment of a library, and in the pages on calling, is code that is proved, and each contract that a page
+quotes is one of the library: so none can go stale.
 
     examples.py REPOSITORY
 
 The lines of an example, without their indentation, have to stand in one file of a test_ or docs_ crate, one after another. So have those of each
-paragraph of a page's code, or in a file of a crate that shows a use; what a page imports is left out. Where a line ends makes no difference:
-the formatter may divide a long pattern.
+paragraph of a page's code, or in a file of a crate that shows a use; what a page imports is left out. A contract that is quoted stands in a
+file of a library. Where a line ends makes no difference: the formatter may divide a long pattern.
 """
 import pathlib
 import re
@@ -28,8 +29,8 @@ def examples_of(text):
             block[1].append(comment[1].strip())
 
 
-def paragraphs_of(page):
-    """Yields the line on which each paragraph of a page's code begins, and its lines, without what it imports."""
+def paragraphs_of(page, language):
+    """Yields the line on which each paragraph of a page's code in this language begins, and its lines, without what it imports."""
     is_code, start, lines = False, 0, []
     for number, line in enumerate(page.split("\n"), 1):
         is_fence = line.startswith("```")
@@ -37,7 +38,7 @@ def paragraphs_of(page):
             yield start, lines
             lines = []
         if is_fence:
-            is_code = not is_code and line == "```rust"
+            is_code = not is_code and line == f"```{language}"
         elif is_code and line.strip() and not line.startswith(("use ", "ghost use ", "#![")):
             start = start if lines else number
             lines.append(line.strip())
@@ -69,11 +70,15 @@ def main():
     sources = [path for path, family in family_of.items() if family not in ("docs", "test", "use")]
     pages = [repository / "CALLING.md", *sorted((repository / "docs/calling").glob("*.md"))]
     examples = [(path, *found, tests) for path in sources for found in examples_of(path.read_text(encoding="utf-8"))]
-    examples += [(path, *found, tests + uses) for path in pages for found in paragraphs_of(path.read_text(encoding="utf-8"))]
+    examples += [(path, *found, tests + uses) for path in pages for found in paragraphs_of(path.read_text(encoding="utf-8"), "rust")]
+    quotes = repository / "docs/calling/contracts.md"
+    libraries = [text_of(path) for path in sources]
+    examples += [(quotes, *found, libraries) for found in paragraphs_of(quotes.read_text(encoding="utf-8"), "text")]
     status = 0
     for path, number, lines, texts in examples:
         if not any(is_in(joined(lines), text) for text in texts):
-            print(f"test: the example at {path}:{number} is no code of a test_ or docs_ crate", file=sys.stderr)
+            what = "contract of a library" if texts is libraries else "code of a test_ or docs_ crate"
+            print(f"test: the code at {path}:{number} is no {what}", file=sys.stderr)
             status = 1
     return status
 
