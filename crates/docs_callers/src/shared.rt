@@ -1,7 +1,7 @@
 //! Callers of the map that threads share.
-ghost use Rattle.std.specs.Prelude.{◌≡◌, ◌≤◌, IfOk, IfSome};
+ghost use Rattle.std.specs.Prelude.{◌≡◌, ◌≤◌, IfOk, IfSome, leb};
 
-use flurry::HashMap;
+use flurry::{Change, HashMap};
 use std::alloc::AllocError;
 use std::sync::Wait;
 
@@ -40,4 +40,55 @@ pub fn lower<R: Wait>(rt: &R, map: &Shared, key: u64, limit: u64) -> Result<Opti
         { Some((*old).min(limit)) },
     )?;
     Ok(answer.map(|value| *value))
+}
+
+/// Raises a value to at least `limit`, and returns the new value, or `None` if the key is absent.
+pub fn raise<R: Wait>(rt: &R, map: &Shared, key: u64, limit: u64) -> Result<Option<u64>, AllocError>
+    ensures { IfOk result (λ r. IfSome r (λ v. limit ≤ v)) }
+{
+    let new = map.update(
+        rt,
+        &key,
+        move |_key: &u64, old: &u64| -> u64
+            ensures { limit ≤ result }
+        { (*old).max(limit) },
+    )?;
+    Ok(new.map(|value| *value))
+}
+
+/// Counts a key, up to `limit`, and returns the new count.
+pub fn count<R: Wait>(rt: &R, map: &Shared, key: u64, limit: u64) -> Result<u64, AllocError>
+    requires { 1 ≤ limit }
+    ensures { IfOk result (λ r. r ≤ limit) }
+{
+    let change = map.compute(
+        rt,
+        key,
+        move |_key: &u64, old: Option<&u64>| -> Option<u64>
+            ensures { IfSome result (λ v. v ≤ limit) }
+        {
+            match old {
+                Some(count) => Some((*count).saturating_add(1).min(limit)),
+                None => Some(1),
+            }
+        },
+    )?;
+    match change {
+        Change::Added(new) | Change::Changed(new) => Ok(*new),
+        Change::Absent | Change::Removed(_) => Ok(0),
+    }
+}
+
+/// Removes a pair whose value is at most `limit`, and returns that value.
+pub fn take_small<R: Wait>(rt: &R, map: &Shared, key: u64, limit: u64) -> Option<u64>
+    ensures { IfSome result (λ v. v ≤ limit) }
+{
+    let removed = map.remove_if(
+        rt,
+        &key,
+        move |_key: &u64, value: &u64| -> bool
+            ensures { result ≡ leb value.now limit }
+        { *value <= limit },
+    );
+    removed.map(|value| *value)
 }

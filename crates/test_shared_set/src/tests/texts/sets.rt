@@ -61,7 +61,14 @@ fn look_ups_in_a_shared_set(rt: HostRuntime) {
     }
     look_in(&rt, &set);
     let view = set.pin(&rt);
-    assert_same(&rt, (view.remove("ab"), view.contains("ab")), (true, false));
-    assert_same(&rt, length_of(view.take("é")), Some(2));
-    assert_same(&rt, set.len(&rt), 4);
+    assert_same(
+        &rt,
+        (set.remove(&rt, "ab"), view.contains("ab")),
+        (true, false),
+    );
+    assert_same(&rt, length_of(set.take(&rt, "é")), Some(2));
+    let seen = view.get("a").expect(&rt, "memory");
+    assert_same(&rt, (length_of(seen), view.remove("a")), (Some(1), true));
+    assert_same(&rt, length_of(view.take("b")), Some(1));
+    assert_same(&rt, set.len(&rt), 2);
 }

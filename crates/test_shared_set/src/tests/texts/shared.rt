@@ -74,13 +74,14 @@ fn look_ups_among_texts_of_one_hash(rt: HostRuntime) {
     look_for_all(&rt, rt.alloc(), &map);
 }
 
-// Changes the value at a text by each call that does so.
+// Changes the value at a text by each call that does so, of the map or of its view.
 fn changes<R: Abort + Wait>(rt: &R, map: &HashMap<String, u64>) {
-    let new = map.compute_if_present(rt, "ab", |_: &String, value: &u64| value.checked_add(10));
+    let view = map.pin(rt);
+    let new = view.compute_if_present("ab", |_: &String, value: &u64| value.checked_add(10));
     assert_same(rt, taken(new.expect(rt, "memory")), Some(12));
-    let new = map.update(rt, "ab", |_: &String, value: &u64| value.saturating_add(1));
+    let new = view.update("ab", |_: &String, value: &u64| value.saturating_add(1));
     assert_same(rt, taken(new.expect(rt, "memory")), Some(13));
-    let old = map.replace_if(rt, "ab", |_: &String, value: &u64| *value == 13, 7);
+    let old = view.replace_if("ab", |_: &String, value: &u64| *value == 13, 7);
     assert_same(rt, taken(old.expect(rt, "memory")), Some(13));
     let kept = map.remove_if(rt, "ab", |_: &String, value: &u64| *value > 7);
     assert_same(rt, taken(kept), None);
