@@ -1,5 +1,5 @@
 //! Calls of a shared map that change a pair by a function of the caller's.
-ghost use Rattle.std.specs.Prelude.{true, false};
+ghost use Rattle.std.specs.Prelude.{true, false, Some};
 ghost use Rattle.flurry_base.specs.declared.call.Call.TheVariants.{Alter};
 ghost use Rattle.flurry_shared_replies.specs.Answers.{CanAlter};
 ghost use Rattle.flurry_shared_view.specs.Alterations.{ComputesBy, MergesBy, UpdatesBy, RemovesIf, ReplacesIf, TellsChange, TellsUpdate, TellsRemoval, TellsReplacement};
@@ -156,8 +156,8 @@ impl<K: Ord + Drop, V: Drop, S: KeyHasher<K>, A: Allocator + Copy> HashMap<K, V,
     /// the old value, which is returned. Otherwise nothing changes, `value` is dropped, and `None` is returned; if the key is absent,
     /// `test` is not called. The table keeps its size.
     ///
-    /// `test` runs while the key's bin is locked, and must not call this map, as in [`HashMap::compute_if_present`]. Nor must the `drop` of
-    /// `value`, which is dropped before the bin is unlocked if `test` returns `false`. Takes the same locks as [`HashMap::remove`].
+    /// `test` runs while the key's bin is locked, and must not call this map, as in [`HashMap::compute_if_present`]. Takes the same
+    /// locks as [`HashMap::remove`]. `value` is dropped after the bin is unlocked, if it is not stored.
     ///
     /// ```
     /// let map: HashMap<u64, u64> = HashMap::new(rt.alloc());
@@ -182,9 +182,9 @@ impl<K: Ord + Drop, V: Drop, S: KeyHasher<K>, A: Allocator + Copy> HashMap<K, V,
     ) -> Result<Option<Arc<V, A>>, AllocError>
         requires { F.IsAlwaysCallable test }
         ensures { (r : _) × TellsReplacement result r
-            × CanAlter (ReplacesIf F.FnOnce (value, test)) (Q.stands_for key) false r
+            × CanAlter (ReplacesIf F.FnOnce (Some value, test)) (Q.stands_for key) false r
             × IsAnswerWith (ReplacesIf F.FnOnce) K.cmp S.hash_of self.now
-            (Alter (Q.stands_for key) false (value, test)) r }
+            (Alter (Q.stands_for key) false (Some value, test)) r }
     {
         self.pin(rt).replace_if(key, test, value)
     }

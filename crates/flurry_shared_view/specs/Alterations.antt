@@ -1,5 +1,5 @@
 -- What the functions of calls may make of the pair of a key, and what such a call returns.
-use Rattle.std.specs.Prelude.{◌≡◌, Bool, true, false, if◌then◌else◌, Option, Some, None, Result, Ok, Err, ⊤}
+use Rattle.std.specs.Prelude.{◌≡◌, Bool, false, if◌then◌else◌, Option, Some, None, Result, Ok, Err}
 use Rattle.std.specs.Option.{option_map}
 use Rattle.std.specs.Arc.{arc_value}
 use Rattle.std.specs.declared.sync.Arc.{Arc}
@@ -14,6 +14,10 @@ use Rattle.flurry_base.specs.declared.verdict.Verdict.TheVariants.{Keep, Set, Re
 use Rattle.flurry_steps_sweep.specs.Outcome.{Outcome, OutcomeReply, OutcomeRefused}
 
 -- ---- what a function may make of a pair
+
+abbrev pub replacement : {V : Type 0} → Option V → Verdict V
+replacement None = Keep
+replacement (Some w) = Set w
 
 -- a call of the function at references to a key and a value may return r
 pub record CalledAt {F K V R : Type 0} (calls : Once F (Bor K × (Bor V × Unit {0})) R) (f : F) (k : K) (x : V) (r : R) : Type 0 where
@@ -49,10 +53,10 @@ module _ {F K V : Type 0} where
   RemovesIf calls f k None v = v ≡ Keep
   RemovesIf calls f k (Some x) v = (says : Bool) × (v ≡ (if says then Remove else Keep)) × CalledAt calls f k x says
 
-  -- a value takes the place of another if the function returns true for the pair
-  abbrev pub ReplacesIf : Once F (Bor K × (Bor V × Unit {0})) Bool → V × F → K → Option V → Verdict V → Type 0
+  -- a value, if there is one, takes the place of another if the function returns true for the pair
+  abbrev pub ReplacesIf : Once F (Bor K × (Bor V × Unit {0})) Bool → Option V × F → K → Option V → Verdict V → Type 0
   ReplacesIf calls p k None v = v ≡ Keep
-  ReplacesIf calls p k (Some x) v = (says : Bool) × (v ≡ (if says then Set p.0 else Keep)) × CalledAt calls p.1 k x says
+  ReplacesIf calls p k (Some x) v = (says : Bool) × (v ≡ (if says then replacement p.0 else Keep)) × CalledAt calls p.1 k x says
 
 -- ---- what a call returns, by its answer
 

@@ -1,5 +1,5 @@
 //! Calls of a view that change a pair by a function of the caller's.
-ghost use Rattle.std.specs.Prelude.{◌≡◌, true, false};
+ghost use Rattle.std.specs.Prelude.{◌≡◌, true, false, Some};
 ghost use Rattle.flurry_base.specs.declared.call.Call.TheVariants.{Alter};
 ghost use Rattle.flurry_shared_replies.specs.Answers.{CanAlter};
 ghost use Rattle.flurry_shared_view.specs.Alterations.{ComputesBy, MergesBy, UpdatesBy, RemovesIf, ReplacesIf, TellsChange, TellsUpdate, TellsRemoval, TellsReplacement};
@@ -189,8 +189,8 @@ impl<'m, R: Wait, K: Ord + Drop, V: Drop, S: KeyHasher<K>, A: Allocator + Copy> 
     /// the old value, which is returned. Otherwise nothing changes, `value` is dropped, and `None` is returned; if the key is absent,
     /// `test` is not called. The table keeps its size.
     ///
-    /// `test` runs while the key's bin is locked, and must not call this map, as in [`HashMapRef::compute_if_present`]. Nor must the `drop` of
-    /// `value`, which is dropped before the bin is unlocked if `test` returns `false`. Takes the same locks as [`HashMapRef::remove`].
+    /// `test` runs while the key's bin is locked, and must not call this map, as in [`HashMapRef::compute_if_present`]. Takes the same
+    /// locks as [`HashMapRef::remove`]. `value` is dropped after the bin is unlocked, if it is not stored.
     ///
     /// ```
     /// let map: HashMap<u64, u64> = HashMap::new(rt.alloc());
@@ -215,11 +215,16 @@ impl<'m, R: Wait, K: Ord + Drop, V: Drop, S: KeyHasher<K>, A: Allocator + Copy> 
     ) -> Result<Option<Arc<V, A>>, AllocError>
         requires { F.IsAlwaysCallable test }
         ensures { (r : _) × TellsReplacement result r
-            × CanAlter (ReplacesIf F.FnOnce (value, test)) (Q.stands_for key) false r
+            × CanAlter (ReplacesIf F.FnOnce (Some value, test)) (Q.stands_for key) false r
             × IsAnswerWith (ReplacesIf F.FnOnce) K.cmp S.hash_of self.now
-            (Alter (Q.stands_for key) false (value, test)) r }
+            (Alter (Q.stands_for key) false (Some value, test)) r }
     {
-        match self.run(Call::AlterPresent(key, Replacing { value, test })) {
+        let mut value = Some(value);
+        let replacing = Replacing {
+            value: &mut value,
+            test,
+        };
+        match self.run(Call::AlterPresent(key, replacing)) {
             Reply::Contains(_) => Ok(None),
             Reply::Changed { old, .. } => Ok(Some(old)),
             Reply::Refused => Err(AllocError),

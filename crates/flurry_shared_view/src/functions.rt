@@ -2,7 +2,7 @@
 ghost use Rattle.std.specs.Prelude.{◌≡◌};
 ghost use Rattle.std.specs.Option.{option_copied};
 ghost use Rattle.flurry_base.specs.Verdicts.{verdict_of};
-ghost use Rattle.flurry_shared_view.specs.Alterations.{CalledOn, ComputesBy, MergesBy, UpdatesBy, RemovesIf, ReplacesIf};
+ghost use Rattle.flurry_shared_view.specs.Alterations.{CalledOn, ComputesBy, MergesBy, UpdatesBy, RemovesIf, ReplacesIf, replacement};
 
 use flurry_base::Verdict;
 use flurry_bins_slots::ComputeFn;
@@ -121,20 +121,22 @@ impl<K, V, F: FnOnce(&K, &V) -> bool + Drop> ComputeFn<K, V> for Removing<F> {
     }
 }
 
-// The test and the value of `replace_if`.
+// The test of `replace_if`, and the value, which stays the caller's until it is stored: so it is not dropped while the bin is locked.
 #[derive(Drop)]
-pub(crate) struct Replacing<V, F> {
-    pub(crate) value: V,
+pub(crate) struct Replacing<'v, V, F> {
+    pub(crate) value: &'v mut Option<V>,
     pub(crate) test: F,
 }
 
-impl<V, F> Model for Replacing<V, F> {
-    ghost Value = { V × F };
+impl<'v, V, F> Model for Replacing<'v, V, F> {
+    ghost use Rattle.std.specs.Prelude.{Option};
 
-    ghost view = { λ r. (r.value, r.test) };
+    ghost Value = { Option V × F };
+
+    ghost view = { λ r. (r.value.now, r.test) };
 }
 
-impl<K, V: Drop, F: FnOnce(&K, &V) -> bool + Drop> ComputeFn<K, V> for Replacing<V, F> {
+impl<'v, K, V: Drop, F: FnOnce(&K, &V) -> bool + Drop> ComputeFn<K, V> for Replacing<'v, V, F> {
     ghost can_change = { λ p. F.IsAlwaysCallable p.1 };
 
     ghost never_keeps = { λ _. ⊥ };
@@ -146,7 +148,7 @@ impl<K, V: Drop, F: FnOnce(&K, &V) -> bool + Drop> ComputeFn<K, V> for Replacing
         match old {
             Some(old) => {
                 if test(key, old) {
-                    Verdict::Set(value)
+                    set_or_keep(value.take())
                 } else {
                     Verdict::Keep
                 }
@@ -163,6 +165,16 @@ fn set_or_remove<V>(value: Option<V>) -> Verdict<V>
     match value {
         Some(value) => Verdict::Set(value),
         None => Verdict::Remove,
+    }
+}
+
+// What a function says of a pair by the value that is to stand, or keeps it if there is none.
+fn set_or_keep<V>(value: Option<V>) -> Verdict<V>
+    ensures { result ≡ replacement value }
+{
+    match value {
+        Some(value) => Verdict::Set(value),
+        None => Verdict::Keep,
     }
 }
 

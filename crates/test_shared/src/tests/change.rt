@@ -279,7 +279,11 @@ fn adds_by_compute<A: Allocator + Copy, R: Abort + Wait>(
     map: &Counters<A>,
     key: u64,
 ) -> bool {
-    let change = map.compute(rt, key, |_, old| Some(old.map_or(1, |old| old.saturating_add(1))));
+    let change = map.compute(
+        rt,
+        key,
+        |_, old| Some(old.map_or(1, |old| old.saturating_add(1))),
+    );
     drop(change.expect(rt, "memory"));
     true
 }
@@ -324,12 +328,7 @@ fn adds_one<A: Allocator + Copy, R: Abort + Wait>(
 }
 
 // Tries until it adds one.
-fn add_one<A: Allocator + Copy, R: Abort + Wait>(
-    rt: &R,
-    map: &Counters<A>,
-    key: u64,
-    adds: Adds,
-) {
+fn add_one<A: Allocator + Copy, R: Abort + Wait>(rt: &R, map: &Counters<A>, key: u64, adds: Adds) {
     for _ in 0..TURNS {
         if adds_one(rt, map, key, adds) {
             return;

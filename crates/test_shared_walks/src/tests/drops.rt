@@ -143,6 +143,7 @@ enum Deed {
     Update,
     RemoveIf,
     ReplaceIf,
+    ReplaceNothing,
     ComputeNowhere,
     Remove,
     Insert,
@@ -157,7 +158,7 @@ enum Deed {
 enum Who {
     Key,
     Value,
-    NewKey,
+    PassedIn,
     Function,
 }
 
@@ -184,19 +185,22 @@ fn erases<'m, A: Allocator + Copy, R: Wait>(rt: &R, map: &Guests<'m, A>) -> Resu
     Ok(())
 }
 
-// Changes or removes the pair at the key 1, which is passed in with a meeting if that is for the new key.
+// Changes, removes or keeps the pair at the key 1. The guest that is passed in is the key 1, or the value that is not stored.
 fn alters<'m, A: Allocator + Copy, R: Wait>(
     rt: &R,
     map: &Guests<'m, A>,
     deed: Deed,
-    key: Guest<'m>,
+    one: Guest<'m>,
 ) -> Result<(), AllocError> {
     match deed {
-        Deed::Compute => drop(map.compute(rt, key, |_, _| Some(Guest::new(3)))?),
-        Deed::Merge => drop(map.merge(rt, key, Guest::new(3), |_, new| Some(new))?),
-        Deed::Update => drop(map.update(rt, &key, |_, _| Guest::new(3))?),
-        Deed::RemoveIf => drop(map.remove_if(rt, &key, |_, _| true)),
-        _ => drop(map.replace_if(rt, &key, |_, _| true, Guest::new(3))?),
+        Deed::Compute => drop(map.compute(rt, one, |_, _| Some(Guest::new(3)))?),
+        Deed::Merge => drop(map.merge(rt, one, Guest::new(3), |_, new| Some(new))?),
+        Deed::Update => drop(map.update(rt, &one, |_, _| Guest::new(3))?),
+        Deed::RemoveIf => drop(map.remove_if(rt, &one, |_, _| true)),
+        Deed::ReplaceNothing => {
+            drop(map.replace_if(rt, &Guest::new(1), |_, _| false, one)?);
+        }
+        _ => drop(map.replace_if(rt, &one, |_, _| true, Guest::new(3))?),
     }
     Ok(())
 }
@@ -259,19 +263,29 @@ fn does<'m, A: Allocator + Copy, R: Wait>(
     match deed {
         Deed::Replace => replaces(rt, map),
         Deed::Erase => erases(rt, map),
-        Deed::Compute | Deed::Merge | Deed::Update | Deed::RemoveIf | Deed::ReplaceIf => {
-            alters(rt, map, deed, guest_of(1, matches!(who, Who::NewKey), meeting))
+        Deed::Compute
+        | Deed::Merge
+        | Deed::Update
+        | Deed::RemoveIf
+        | Deed::ReplaceIf
+        | Deed::ReplaceNothing => {
+            alters(
+                rt,
+                map,
+                deed,
+                guest_of(1, matches!(who, Who::PassedIn), meeting),
+            )
         }
         Deed::ComputeNowhere => {
             computes_nowhere(rt, map, guest_of(3, matches!(who, Who::Function), meeting))
         }
         Deed::Insert => {
-            let key = guest_of(1, matches!(who, Who::NewKey), meeting);
+            let key = guest_of(1, matches!(who, Who::PassedIn), meeting);
             drop(map.insert(rt, key, Guest::new(3))?);
             Ok(())
         }
         Deed::TryInsert => {
-            let key = guest_of(1, matches!(who, Who::NewKey), meeting);
+            let key = guest_of(1, matches!(who, Who::PassedIn), meeting);
             drop(map.try_insert(rt, key, Guest::new(3))?);
             Ok(())
         }
@@ -351,18 +365,19 @@ fn calls_of_a_map(rt: HostRuntime) {
         (Deed::Replace, Who::Value),
         (Deed::Erase, Who::Key),
         (Deed::Erase, Who::Value),
-        (Deed::Compute, Who::NewKey),
+        (Deed::Compute, Who::PassedIn),
         (Deed::Compute, Who::Value),
-        (Deed::Merge, Who::NewKey),
+        (Deed::Merge, Who::PassedIn),
         (Deed::Merge, Who::Value),
         (Deed::Update, Who::Value),
         (Deed::RemoveIf, Who::Key),
         (Deed::RemoveIf, Who::Value),
         (Deed::ReplaceIf, Who::Value),
+        (Deed::ReplaceNothing, Who::PassedIn),
         (Deed::ComputeNowhere, Who::Function),
         (Deed::Remove, Who::Key),
-        (Deed::Insert, Who::NewKey),
-        (Deed::TryInsert, Who::NewKey),
+        (Deed::Insert, Who::PassedIn),
+        (Deed::TryInsert, Who::PassedIn),
         (Deed::Retain, Who::Key),
         (Deed::Retain, Who::Value),
         (Deed::RetainForce, Who::Key),

@@ -120,12 +120,7 @@ fn refuses_writes<F: ComputeFn<u64, u64> + Copy, A: Allocator + Copy>(
         OwnedCall::Alter(1, change),
         OwnedCall::AlterPresent(1, change),
     ] {
-        refuses_each(
-            rt,
-            metered,
-            memory,
-            row_of(call, 1, changed, values),
-        );
+        refuses_each(rt, metered, memory, row_of(call, 1, changed, values));
     }
 }
 
