@@ -1,23 +1,29 @@
 /* Maps and sets of one owner, proved: see README. Link lib/libflurry.a.
  *
- * Each function does to the finite map or set what is said of it here. That is proved for callers that keep the duties below; nothing checks that
- * they do:
+ * Each function does to the finite map or set what is said of it here. That is proved for callers that keep the duties below; nothing
+ * checks that they do:
  *
  *   - A `flurry_words *` points to a struct in which flurry_words_new said FLURRY_DONE, a `flurry_bytes *` to one of flurry_bytes_new, a
  *     `flurry_word_set *` to one of flurry_word_set_new, and a `flurry_byte_set *` to one of flurry_byte_set_new, and which was not freed
  *     since. Nobody else writes to it. It may be copied to another place, but is then used and freed at that place alone. flurry_.._new and
  *     flurry_.._free ask for less, as is said there.
- *   - A map or a set is used by one call at a time; calls that only read count too. Threads that share one take turns by a lock of their
- *     own. Any thread may make, use and free one.
- *   - A pointer to a number, or to a buffer of `len` items, is valid for the call: nobody else writes there, and nobody reads what a call
- *     writes. Numbers, buffers and the struct of the map or set do not overlap. A buffer of no items may be null.
+ *   - A map or a set is used by one call at a time; calls that only read count too. Any thread may make, use and free one. What orders its
+ *     call after one of another thread is a lock that each holds for its call, a start or a join of a thread, or an atomic store and a load
+ *     of what was stored, both of them `memory_order_seq_cst`.
+ *   - A pointer to a number, or to a buffer of `len` items, is valid for the call: nobody else writes there, and nobody else reads what the
+ *     call writes. It is not null, also where there are no items.
+ *   - What a call writes overlaps nothing else that is passed to it: the struct of the map or set, a number or a buffer. What it only reads
+ *     may overlap, as a key and a value.
  *   - A buffer is aligned as its type is, and has fewer than 2^63 bytes.
  *   - malloc, realloc and free are of one allocator, and align a block to each power of two up to 16 that divides its size.
  *   - No function is called from a signal handler, or in the child after a fork of a process with threads.
  *
- * No function ends the process or waits. Where memory cannot be allocated, a function says FLURRY_NO_MEMORY, and the map or set is as
- * it was. Keys and elements of the default hasher are not protected against a choice of those that collide; a bin of many is a tree, so a call then takes
- * logarithmic time.
+ * No function ends the process or waits. A function says FLURRY_NO_MEMORY if memory cannot be allocated, and the map or set is then as it
+ * was, unless more is said of the function. One case is no failure: if memory for a larger table cannot be allocated, an insertion does
+ * without. It inserts, the table stays as it is, and the next insertion of a new key or element tries again.
+ *
+ * Keys and elements of the default hasher are not protected against a choice of those that collide; a bin of many is a tree, so a call
+ * then takes logarithmic time.
  */
 #ifndef FLURRY_H
 #define FLURRY_H
@@ -71,8 +77,8 @@ bool flurry_words_contains(flurry_words *words, uint64_t key);
 flurry_status flurry_words_get(flurry_words *words, uint64_t key, uint64_t *value);
 
 /* Inserts a pair. Says FLURRY_PRESENT if the key was present, and writes the value that it had to `old`; else FLURRY_ABSENT, and writes
- * nothing. Says FLURRY_NO_MEMORY if memory cannot be allocated, or if the key is new and the map has as many pairs as it can: nothing
- * changed and nothing was written. */
+ * nothing. Says FLURRY_NO_MEMORY if memory for the pair or for a first table cannot be allocated, or if the key is new and the map has as
+ * many pairs as it can: nothing changed and nothing was written. */
 flurry_status flurry_words_insert(flurry_words *words, uint64_t key, uint64_t value, uint64_t *old);
 
 /* Inserts a pair if the key is absent, and says FLURRY_ABSENT. If the key is present, says FLURRY_PRESENT and writes its value to
@@ -85,8 +91,8 @@ flurry_status flurry_words_remove(flurry_words *words, uint64_t key, uint64_t *o
 /* Removes all pairs. The map keeps the memory of its table. */
 void flurry_words_clear(flurry_words *words);
 
-/* Makes room in the table for so many more pairs, and says FLURRY_DONE; or FLURRY_NO_MEMORY, and the table is as it was, or was doubled
- * some times on the way. The pairs stay. An insertion still allocates for its pair. */
+/* Makes room in the table for so many more pairs, and says FLURRY_DONE; or FLURRY_NO_MEMORY, if memory for a table cannot be allocated, and
+ * the table is as it was, or was made or doubled some times on the way. The pairs stay. An insertion still allocates for its pair. */
 flurry_status flurry_words_reserve(flurry_words *words, size_t additional);
 
 /* Writes all pairs, each once, in no order that is promised, to the first places of `pairs`, which has `len` places, and says FLURRY_DONE.
@@ -95,8 +101,8 @@ flurry_status flurry_words_pairs(flurry_words *words, flurry_word_pair *pairs, s
 
 /* ---- From bytes to bytes ----
  *
- * A key or a value is any number of bytes, also none. The map keeps copies. Each call of one key copies the key first, and so can say
- * FLURRY_NO_MEMORY: nothing changed then, and nothing was written. */
+ * A key or a value is any number of bytes, also none. The map keeps copies. Each call of one key copies the key first, and says
+ * FLURRY_NO_MEMORY if memory for that cannot be allocated: nothing changed then, and nothing was written. */
 
 typedef struct flurry_bytes {
     void *at;
@@ -124,11 +130,12 @@ flurry_status flurry_bytes_contains(flurry_bytes *bytes, const void *key, size_t
  * length of the whole value to `value_len`, and says FLURRY_PRESENT. Or says FLURRY_ABSENT, and writes nothing. */
 flurry_status flurry_bytes_get(flurry_bytes *bytes, const void *key, size_t key_len, void *value, size_t room, size_t *value_len);
 
-/* Inserts a pair. Says FLURRY_PRESENT if the key was present, and its value is replaced; else FLURRY_ABSENT. Says FLURRY_NO_MEMORY also if
- * the key is new and the map has as many pairs as it can. */
+/* Inserts a pair. Says FLURRY_PRESENT if the key was present, and its value is replaced; else FLURRY_ABSENT. Says FLURRY_NO_MEMORY if
+ * memory for the copies, the pair or a first table cannot be allocated, or if the key is new and the map has as many pairs as it can. */
 flurry_status flurry_bytes_insert(flurry_bytes *bytes, const void *key, size_t key_len, const void *value, size_t value_len);
 
-/* Inserts a pair if the key is absent, and says FLURRY_ABSENT. If the key is present, says FLURRY_PRESENT; nothing changed. */
+/* Inserts a pair if the key is absent, and says FLURRY_ABSENT. If the key is present, says FLURRY_PRESENT; nothing changed.
+ * FLURRY_NO_MEMORY as in flurry_bytes_insert. */
 flurry_status flurry_bytes_try_insert(flurry_bytes *bytes, const void *key, size_t key_len, const void *value, size_t value_len);
 
 /* Removes the key's pair, and says FLURRY_PRESENT; or FLURRY_ABSENT. */
@@ -171,7 +178,8 @@ size_t flurry_word_set_len(flurry_word_set *set);
 bool flurry_word_set_contains(flurry_word_set *set, uint64_t element);
 
 /* Inserts an element, and says FLURRY_ABSENT, since it was absent. If it was present, says FLURRY_PRESENT; nothing changed. Says
- * FLURRY_NO_MEMORY if memory cannot be allocated, or if the element is new and the set has as many elements as it can: nothing changed. */
+ * FLURRY_NO_MEMORY if memory for the element or for a first table cannot be allocated, or if the element is new and the set has as many
+ * elements as it can: nothing changed. */
 flurry_status flurry_word_set_insert(flurry_word_set *set, uint64_t element);
 
 /* Removes the element, and says FLURRY_PRESENT; or FLURRY_ABSENT. */
@@ -180,8 +188,9 @@ flurry_status flurry_word_set_remove(flurry_word_set *set, uint64_t element);
 /* Removes all elements. The set keeps the memory of its table. */
 void flurry_word_set_clear(flurry_word_set *set);
 
-/* Makes room in the table for so many more elements, and says FLURRY_DONE; or FLURRY_NO_MEMORY, and the table is as it was, or was doubled
- * some times on the way. The elements stay. An insertion still allocates for its element. */
+/* Makes room in the table for so many more elements, and says FLURRY_DONE; or FLURRY_NO_MEMORY, if memory for a table cannot be allocated,
+ * and the table is as it was, or was made or doubled some times on the way. The elements stay. An insertion still allocates for its
+ * element. */
 flurry_status flurry_word_set_reserve(flurry_word_set *set, size_t additional);
 
 /* Writes all elements, each once, in no order that is promised, to the first places of `elements`, which has `len` places, and says
@@ -190,8 +199,8 @@ flurry_status flurry_word_set_elements(flurry_word_set *set, uint64_t *elements,
 
 /* ---- Sets of byte strings ----
  *
- * An element is any number of bytes, also none. The set keeps copies. Each call of one element copies it first, and so can say
- * FLURRY_NO_MEMORY: nothing changed then. */
+ * An element is any number of bytes, also none. The set keeps copies. Each call of one element copies it first, and says FLURRY_NO_MEMORY
+ * if memory for that cannot be allocated: nothing changed then. */
 
 typedef struct flurry_byte_set {
     void *at;
@@ -210,7 +219,8 @@ size_t flurry_byte_set_len(flurry_byte_set *set);
 flurry_status flurry_byte_set_contains(flurry_byte_set *set, const void *element, size_t element_len);
 
 /* Inserts an element, and says FLURRY_ABSENT, since it was absent. If it was present, says FLURRY_PRESENT; nothing changed. Says
- * FLURRY_NO_MEMORY also if the element is new and the set has as many elements as it can. */
+ * FLURRY_NO_MEMORY if memory for the copy, the element or a first table cannot be allocated, or if the element is new and the set has as
+ * many elements as it can. */
 flurry_status flurry_byte_set_insert(flurry_byte_set *set, const void *element, size_t element_len);
 
 /* Removes the element, and says FLURRY_PRESENT; or FLURRY_ABSENT. */
