@@ -1,6 +1,5 @@
 -- A finite map whose keys are vectors of bytes depends on their bytes alone.
-use Rattle.std.proofs.Common.{◌≡◌, ℕ, Bool, true, false, cond, List, [], ◌∷◌, length, map, ap, refl, sym, subst, ◌∙◌, Some, None, Option, MatchOption, option_map, Ordering, Less, Equal, Greater, nat_cmp, is_eq}
-use Rattle.std.specs.Cmp.Lexicographic.{slice_cmp}
+use Rattle.std.proofs.Common.{◌≡◌, ℕ, Bool, true, false, cond, List, [], ◌∷◌, length, map, ap, refl, sym, subst, ◌∙◌, Some, None, Option, MatchOption, option_map, Ordering, Less, Equal, Greater, is_eq}
 use Rattle.std.proofs.lemmas.List.{length-map}
 use Rattle.std.specs.Global.{Vec}
 use Rattle.std.specs.Ordering.{match_ordering}
@@ -8,9 +7,7 @@ use Rattle.flurry_base.specs.FiniteMap.{pair_at, value_at, with_pair, without}
 use Rattle.flurry_seq.specs.Contents.{Contents}
 use Rattle.flurry_c_base.specs.ByteMaps.{bytes_of_pair, KeepsOrAdds}
 use Rattle.flurry_c_base.specs.ByteStrings.{byte_order}
-
-abbrev pub vec_order : Vec ℕ → Vec ℕ → Ordering
-vec_order x y = slice_cmp nat_cmp x.items y.items
+use Rattle.flurry_c_base.proofs.ByteOrder.{vec_order}
 
 -- The same at the first pair, given the same at the rest: each is by a test of the first key, whatever it gives.
 module _ (p : Vec ℕ × Vec ℕ) (m : List (Vec ℕ × Vec ℕ)) (k v : Vec ℕ) where

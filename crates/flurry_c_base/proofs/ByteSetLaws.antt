@@ -1,14 +1,12 @@
 -- A finite set whose elements are vectors of bytes depends on their bytes alone.
 use Rattle.std.proofs.Common.{◌≡◌, ℕ, Bool, true, false, cond, not, List, [], ◌∷◌, IsPermutation, length, map, sum_by, ap, refl, ◌∙◌, Some, None, Option, is_none, is_some, option_map, Ordering, Less, Equal, Greater, is_eq}
 use Rattle.std.specs.Global.{Vec}
-use Rattle.std.specs.List.{AllByRecursion}
-use Rattle.std.specs.List.Sorted.{IsStrictlySortedBy}
 use Rattle.std.specs.Ordering.{match_ordering}
 use Rattle.std.proofs.lemmas.List.{length-map}
 use Rattle.std.proofs.lemmas.List.Sorted.{sum_by-IsPermutation, IsPermutation-map}
-use Rattle.flurry_base.specs.FiniteSet.{IsFiniteSet, element_at, with_element, without_element}
+use Rattle.flurry_base.specs.FiniteSet.{element_at, with_element, without_element}
 use Rattle.flurry_c_base.specs.ByteStrings.{byte_order, bytes_of}
-use Rattle.flurry_c_base.proofs.ByteLaws.{vec_order}
+use Rattle.flurry_c_base.proofs.ByteOrder.{vec_order}
 
 -- The same at the first element, given the same at the rest: each is by a test of that element, whatever it gives.
 module _ (e : Vec ℕ) (s : List (Vec ℕ)) (x : Vec ℕ) where
@@ -58,15 +56,6 @@ without_element_bytes (e ∷ s) x = without_first e s x (without_element_bytes s
 
 pub length_elements : (s : List (Vec ℕ)) → length (map bytes_of s) ≡ length s
 length_elements s = length-map s bytes_of
-
-above_bytes : (e : Vec ℕ) (s : List (Vec ℕ)) → AllByRecursion (λ y. vec_order e y ≡ Less) s → AllByRecursion (λ y. byte_order (bytes_of e) y ≡ Less) (map bytes_of s)
-above_bytes e [] all = tt
-above_bytes e (y ∷ s) all = (all.0, above_bytes e s all.1)
-
-pub ascend_bytes : (s : List (Vec ℕ)) → IsFiniteSet vec_order s → IsFiniteSet byte_order (map bytes_of s)
-unfolding IsStrictlySortedBy
-ascend_bytes [] ascend = tt
-ascend_bytes (e ∷ s) ascend = (above_bytes e s ascend.0, ascend_bytes s ascend.1)
 
 pub size_of_elements : (m n : List (Vec ℕ)) → IsPermutation m n → sum_by length (map bytes_of n) ≡ sum_by length (map bytes_of m)
 size_of_elements m n moved = sum_by-IsPermutation length (map bytes_of m) (map bytes_of n) (IsPermutation-map bytes_of m n moved)

@@ -1,5 +1,6 @@
 pub mod BufferLaws
 pub mod ByteLaws
+pub mod ByteOrder
 pub mod ByteSetLaws
 pub mod ByteWalkLaws
 pub mod SetInsertionLaws

@@ -1,6 +1,8 @@
 //! All pairs.
 ghost use Rattle.std.specs.Prelude.{◌≡◌, ◌++◌, ◌-◌, ◌^◌, ◌≤◌, drop, flat_map, length, map, min, sum_by};
+ghost use Rattle.flurry_base.specs.FiniteMap.{IsFiniteMap};
 ghost use Rattle.flurry_c_base.specs.ByteMaps.{bytes_in, bytes_of_pair};
+ghost use Rattle.flurry_c_base.specs.ByteStrings.{byte_order};
 ghost use Rattle.flurry_c_base.specs.ByteWalks.{size_of, lengths_of, text_of, ListsPairs};
 
 use super::ByteMap;
@@ -10,9 +12,10 @@ use flurry_seq::Iter;
 
 impl ByteMap {
     /// Returns the number of pairs.
-    #[tactic(auto, using(crate::proofs::ByteLaws::length_bytes))]
+    #[tactic(auto, using(crate::proofs::ByteLaws::length_bytes, crate::proofs::ByteOrder::ascend_keys))]
     pub fn len(&self) -> usize
-        ensures { result ≡ length (bytes_in self.now) }
+        ensures count { result ≡ length (bytes_in self.now) }
+        ensures ascend { IsFiniteMap byte_order (bytes_in self.now) }
     {
         self.map.len()
     }

@@ -12,7 +12,7 @@ use flurry_seq::Keys;
 
 impl ByteSet {
     /// Returns the number of elements.
-    #[tactic(auto, using(crate::proofs::ByteSetLaws::length_elements, crate::proofs::ByteSetLaws::ascend_bytes))]
+    #[tactic(auto, using(crate::proofs::ByteSetLaws::length_elements, crate::proofs::ByteOrder::ascend_bytes))]
     pub fn len(&self) -> usize
         ensures count { result ≡ length (elements_in self.now) }
         ensures ascend { IsFiniteSet byte_order (elements_in self.now) }

@@ -2,7 +2,8 @@ use Rattle.std.proofs.Common.{◌≡◌, ◌∙◌, ap, map}
 use Rattle.std.proofs.lemmas.Result.{on_ok_weaker}
 use Rattle.std.specs.Cmp.Lexicographic.{nat_list_cmp_total}
 use Rattle.flurry_c_base.specs.ByteStrings.{bytes_of}
-use Rattle.flurry_c_base.proofs.ByteSetLaws.{ascend_bytes, lacks_element_bytes, with_element_bytes}
+use Rattle.flurry_c_base.proofs.ByteOrder.{ascend_bytes}
+use Rattle.flurry_c_base.proofs.ByteSetLaws.{lacks_element_bytes, with_element_bytes}
 use Rattle.flurry_c_base.proofs.SetInsertionLaws.{adds_or_keeps}
 use Rattle.flurry_c_base.proofs.byte_set.ByteSet.insert.Goals as goal
 
