@@ -1,5 +1,5 @@
-/* For tests: requests for memory, one of which is refused where a test asks for that, and how many blocks are not given back; draws; and a
- * check. Linked with -Wl,--wrap=malloc,--wrap=realloc,--wrap=free. */
+/* For tests: requests for memory, one of which is refused where a test asks for that; how many blocks are not given back, and how large the
+ * largest request was; draws; and a check. Linked with -Wl,--wrap=malloc,--wrap=realloc,--wrap=free. */
 #include <stdint.h>
 #include <stdio.h>
 #include <stdlib.h>
@@ -11,8 +11,10 @@ void *__real_realloc(void *at, size_t size);
 void __real_free(void *at);
 
 static long refuse_after = -1, blocks, refusals;
+static size_t largest;
 
-static int refuses(void) {
+static int refuses(size_t size) {
+    if (size > largest) largest = size;
     if (refuse_after < 0) return 0;
     if (refuse_after-- > 0) return 0;
     refusals++;
@@ -20,13 +22,13 @@ static int refuses(void) {
 }
 
 void *__wrap_malloc(size_t size) {
-    void *at = refuses() ? NULL : __real_malloc(size);
+    void *at = refuses(size) ? NULL : __real_malloc(size);
     blocks += at != NULL;
     return at;
 }
 
 void *__wrap_realloc(void *at, size_t size) {
-    void *moved = refuses() ? NULL : __real_realloc(at, size);
+    void *moved = refuses(size) ? NULL : __real_realloc(at, size);
     blocks += at == NULL && moved != NULL;
     return moved;
 }

@@ -1,18 +1,13 @@
 /* Random calls of a set of numbers and of a set of byte strings, beside plain arrays of flags. At the end no block is left. */
 #include "flurry.h"
 #include "requests.h"
-#include <string.h>
+#include "keys.h"
 
-enum { CALLS = 1000000, NUMBERS = 3000, MOST = 300, KINDS = 3, STRINGS = (MOST + 1) * KINDS };
+enum { CALLS = 1000000 };
 
 /* ---- Numbers ---- */
 
 static int number_flags[NUMBERS];
-
-/* The number of a flag uses high and low bits. */
-static uint64_t number_of(uint64_t flag) {
-    return flag << 50 | flag;
-}
 
 /* All elements are told once, and a buffer that is too short stays as it is. */
 static void see_numbers(flurry_word_set *set, size_t count) {
@@ -26,8 +21,8 @@ static void see_numbers(flurry_word_set *set, size_t count) {
     for (size_t i = count; i < NUMBERS; i++) CHECK(elements[i] == 77);
     memset(seen, 0, sizeof seen);
     for (size_t i = 0; i < count; i++) {
-        uint64_t flag = elements[i] & 0xffff;
-        CHECK(flag < NUMBERS && elements[i] == number_of(flag) && number_flags[flag] && !seen[flag]);
+        uint64_t flag = place_of_number(elements[i]);
+        CHECK(number_flags[flag] && !seen[flag]);
         seen[flag] = 1;
     }
 }
@@ -71,23 +66,10 @@ static void of_numbers(void) {
 
 static int string_flags[STRINGS];
 
-/* The string of a flag: some number of bytes from 0 to 300, all but the last of which are alike. Returns how many. */
-static size_t string_of(uint64_t flag, unsigned char *bytes) {
-    size_t len = flag / KINDS;
-    memset(bytes, 200, len);
-    if (len > 0) bytes[len - 1] = (unsigned char)(flag % KINDS);
-    return len;
-}
-
-/* The flag of a string. The strings without bytes have one. */
-static uint64_t flag_of(const unsigned char *bytes, size_t len) {
-    return len == 0 ? 0 : len * KINDS + bytes[len - 1];
-}
-
 /* All elements are told once, and buffers of which one is too short stay as they are. */
 static void see_strings(flurry_byte_set *set, size_t count) {
     static size_t lengths[STRINGS];
-    static unsigned char text[STRINGS * MOST], string[MOST];
+    static unsigned char text[STRINGS * MOST];
     static int seen[STRINGS];
     size_t size = flurry_byte_set_size(set), at = 0;
     lengths[0] = 77, text[0] = 77;
@@ -99,10 +81,8 @@ static void see_strings(flurry_byte_set *set, size_t count) {
     CHECK(flurry_byte_set_elements(set, lengths, count, text, sizeof text) == FLURRY_DONE);
     memset(seen, 0, sizeof seen);
     for (size_t i = 0; i < count; i++) {
-        CHECK(lengths[i] <= MOST);
-        uint64_t flag = flag_of(text + at, lengths[i]);
-        CHECK(flag < STRINGS && string_flags[flag] && !seen[flag]);
-        CHECK(string_of(flag, string) == lengths[i] && memcmp(string, text + at, lengths[i]) == 0);
+        uint64_t flag = place_of_string(text + at, lengths[i]);
+        CHECK(string_flags[flag] && !seen[flag]);
         seen[flag] = 1;
         at += lengths[i];
     }
@@ -114,7 +94,7 @@ static void call_strings(flurry_byte_set *set, size_t *count) {
     unsigned char string[MOST];
     uint64_t drawn = draw(STRINGS), kind = draw(1000);
     size_t len = string_of(drawn, string);
-    uint64_t flag = flag_of(string, len);
+    uint64_t flag = place_of_string(string, len);
     int was = string_flags[flag];
     flurry_status told = was ? FLURRY_PRESENT : FLURRY_ABSENT;
     if (kind < 450) {
