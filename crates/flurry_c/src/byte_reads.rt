@@ -1,5 +1,7 @@
 //! Maps of bytes: reads.
 ghost use Rattle.std.specs.Prelude.{◌≡◌, ◌⊎◌, length};
+ghost use Rattle.flurry_base.specs.FiniteMap.{IsFiniteMap};
+ghost use Rattle.flurry_c_base.specs.ByteStrings.{byte_order};
 ghost use Rattle.flurry_c.specs.ByteAnswers.{pairs_of, value_of, Copies};
 ghost use Rattle.flurry_c.specs.Presence.{Finds};
 ghost use Rattle.flurry_c.specs.declared.statuses.TheConstants.{NO_MEMORY};
@@ -13,6 +15,7 @@ use std::alloc::Global;
 #[unsafe(no_mangle)]
 pub extern "C" fn flurry_bytes_len(bytes: &mut Bytes) -> usize
     ensures count { result ≡ length (pairs_of bytes.old) }
+    ensures ascend { IsFiniteMap byte_order (pairs_of bytes.old) }
     ensures same { bytes.new.map ≡ bytes.old.map }
 {
     bytes.lend().len()

@@ -1,5 +1,7 @@
 //! Maps of bytes: all pairs, and how many bytes they have.
 ghost use Rattle.std.specs.Prelude.{◌≡◌, ◌⊎◌, ◌-◌, ◌^◌, ◌<◌, length, min, sum_by};
+ghost use Rattle.flurry_base.specs.FiniteMap.{IsFiniteMap};
+ghost use Rattle.flurry_c_base.specs.ByteStrings.{byte_order};
 ghost use Rattle.flurry_c.specs.ByteAnswers.{pairs_of};
 ghost use Rattle.flurry_c_base.specs.ByteWalks.{size_of, ListsPairs};
 ghost use Rattle.flurry_c.specs.declared.statuses.TheConstants.{DONE, NO_ROOM};
@@ -31,6 +33,7 @@ pub extern "C" fn flurry_bytes_pairs(
         × ((length pairs.old < length (pairs_of bytes.old)) ⊎ (length text.old < sum_by size_of (pairs_of bytes.old)))
         × (pairs.new ≡ pairs.old) × (text.new ≡ text.old))
         ⊎ ((result ≡ DONE) × ListsPairs (pairs_of bytes.old) pairs.old pairs.new text.old text.new) }
+    ensures ascend { IsFiniteMap byte_order (pairs_of bytes.old) }
     ensures same { bytes.new.map ≡ bytes.old.map }
 {
     let held = bytes.lend();

@@ -75,7 +75,8 @@ pub extern "C" fn flurry_bytes_remove(alloc: Global, bytes: &mut Bytes, key: &[u
 /// Removes all pairs. The map keeps the memory of its table.
 #[unsafe(no_mangle)]
 pub extern "C" fn flurry_bytes_clear(bytes: &mut Bytes)
-    ensures { pairs_of bytes.new ≡ [] }
+    ensures pairs { pairs_of bytes.new ≡ [] }
+    ensures bins { bytes.new.map.map.bins ≡ bytes.old.map.map.bins }
 {
     bytes.lend().map.clear();
 }

@@ -1,5 +1,7 @@
 //! Maps of numbers: reads.
+ghost use Rattle.std.specs.Ordering.{nat_cmp};
 ghost use Rattle.std.specs.Prelude.{◌≡◌, length, is_some};
+ghost use Rattle.flurry_base.specs.FiniteMap.{IsFiniteMap};
 ghost use Rattle.flurry_c.specs.WordAnswers.{pairs_of, value_of, Tells};
 
 use crate::statuses::{ABSENT, PRESENT};
@@ -9,6 +11,7 @@ use flurry_c_base::words::Words;
 #[unsafe(no_mangle)]
 pub extern "C" fn flurry_words_len(words: &mut Words) -> usize
     ensures count { result ≡ length (pairs_of words.old) }
+    ensures ascend { IsFiniteMap nat_cmp (pairs_of words.old) }
     ensures same { words.new.map ≡ words.old.map }
 {
     words.lend().map.len()

@@ -73,7 +73,8 @@ pub extern "C" fn flurry_words_remove(words: &mut Words, key: u64, old: &mut u64
 /// Removes all pairs. The map keeps the memory of its table.
 #[unsafe(no_mangle)]
 pub extern "C" fn flurry_words_clear(words: &mut Words)
-    ensures { pairs_of words.new ≡ [] }
+    ensures pairs { pairs_of words.new ≡ [] }
+    ensures bins { words.new.map.map.bins ≡ words.old.map.map.bins }
 {
     words.lend().map.clear();
 }
