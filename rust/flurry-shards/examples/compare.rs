@@ -66,39 +66,39 @@ impl<K: Hash + Eq, V> Std<K, V> {
         Std { maps: (0..LOCKS).map(|_| Locked(Mutex::default())).collect(), hasher: RandomState::new() }
     }
 
-    fn with<T>(&self, key: &K, f: impl FnOnce(&mut HashMap<K, V>) -> T) -> T {
+    fn with<T>(&self, key: impl Hash, f: impl FnOnce(&mut HashMap<K, V>) -> T) -> T {
         f(&mut self.maps[self.hasher.hash_one(key) as usize % LOCKS].0.lock().unwrap())
     }
 }
 
 impl Map for Std<u64, u64> {
     fn insert(&self, key: u64, value: u64) {
-        self.with(&key, |map| map.insert(key, value));
+        self.with(key, |map| map.insert(key, value));
     }
 
     fn has(&self, key: u64) -> bool {
-        self.with(&key, |map| map.get(&key).copied()).is_some()
+        self.with(key, |map| map.get(&key).copied()).is_some()
     }
 
     fn remove(&self, key: u64) {
-        self.with(&key, |map| map.remove(&key));
+        self.with(key, |map| map.remove(&key));
     }
 }
 
 impl Map for Std<Vec<u8>, Vec<u8>> {
     fn insert(&self, key: u64, value: u64) {
-        let key = text(key).to_vec();
-        self.with(&key.clone(), |map| map.insert(key, text(value).to_vec()));
+        let key = text(key);
+        self.with(key, |map| map.insert(key.to_vec(), text(value).to_vec()));
     }
 
     fn has(&self, key: u64) -> bool {
-        let key = text(key).to_vec();
-        self.with(&key, |map| map.get(&key).cloned()).is_some()
+        let key = text(key);
+        self.with(key, |map| map.get(&key[..]).cloned()).is_some()
     }
 
     fn remove(&self, key: u64) {
-        let key = text(key).to_vec();
-        self.with(&key, |map| map.remove(&key));
+        let key = text(key);
+        self.with(key, |map| map.remove(&key[..]));
     }
 }
 

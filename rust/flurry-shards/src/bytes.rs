@@ -94,11 +94,13 @@ impl OwnedMap {
         self.0.remove(key)
     }
 
-    /// Sets the value of the key to what `f` returns for the present one, and returns it.
+    /// Sets the value of the key to what `f` returns for a copy of the present one, and returns it. If `f` panics, the map is unchanged and
+    /// usable.
     ///
     /// # Errors
     ///
-    /// Returns [`OutOfMemory`] if memory cannot be allocated. The map is unchanged.
+    /// Returns [`OutOfMemory`] if memory for a copy of the key cannot be allocated, before `f` runs; or if memory for the pair cannot, once
+    /// `f` has run. The map is unchanged in both cases.
     pub fn update(&mut self, key: &[u8], f: impl FnOnce(Option<Vec<u8>>) -> Vec<u8>) -> Result<Vec<u8>, OutOfMemory> {
         let value = f(self.get(key)?);
         self.insert(key, &value)?;
@@ -114,7 +116,7 @@ impl OwnedMap {
     ///
     /// # Errors
     ///
-    /// Returns [`OutOfMemory`] if memory cannot be allocated. The pairs stay.
+    /// Returns [`OutOfMemory`] if memory for a table cannot be allocated. The pairs stay, and the table may have grown on the way.
     pub fn reserve(&mut self, additional: usize) -> Result<(), OutOfMemory> {
         self.0.reserve(additional)
     }
@@ -139,8 +141,10 @@ fn each_of((lengths, text): (Vec<(usize, usize)>, Vec<u8>), mut f: impl FnMut(&[
 /// A map that threads share: owned maps behind locks, by a hash of the key.
 ///
 /// A call of one key holds one lock while it runs, and so is atomic. [`len`](SharedMap::len), [`clear`](SharedMap::clear) and
-/// [`for_each`](SharedMap::for_each) go from lock to lock. A function that is passed to [`update`](SharedMap::update) runs under the lock of
-/// its key: it may not call the same map.
+/// [`for_each`](SharedMap::for_each) go from lock to lock.
+///
+/// A function that is passed to [`update`](SharedMap::update) runs under the lock of its key: it may not call the same map. If it panics,
+/// the lock is released and not poisoned: the key has the value that it had, and all calls go on as before.
 ///
 /// ```
 /// use flurry_shards::bytes::SharedMap;
@@ -162,7 +166,7 @@ impl SharedMap {
     ///
     /// # Errors
     ///
-    /// Returns [`OutOfMemory`] if memory cannot be allocated.
+    /// Returns [`OutOfMemory`] if memory for the locks or for the maps cannot be allocated.
     pub fn new(shards: usize) -> Result<Self, OutOfMemory> {
         Shards::new(shards, OwnedMap::new).map(SharedMap)
     }
@@ -202,7 +206,7 @@ impl SharedMap {
         self.0.of(key).remove(key)
     }
 
-    /// As [`OwnedMap::update`]; no other call of the key comes between.
+    /// As [`OwnedMap::update`]; no other call of the key comes between. If `f` panics, the lock is not poisoned.
     pub fn update(&self, key: &[u8], f: impl FnOnce(Option<Vec<u8>>) -> Vec<u8>) -> Result<Vec<u8>, OutOfMemory> {
         self.0.of(key).update(key, f)
     }

@@ -1,4 +1,5 @@
-//! The functions of libflurry.a for maps, as `include/flurry.h` declares them, and the maps behind them. All `unsafe` of this crate is here.
+//! The functions of libflurry.a for maps, as `include/flurry.h` declares them, and the maps behind them. All `unsafe` of this crate is
+//! here.
 
 use crate::OutOfMemory;
 use std::ffi::c_void;
@@ -21,7 +22,8 @@ struct Pair {
 }
 
 // SAFETY: these are the functions of include/flurry.h. The `safe` ones ask for no more than their types say, since a `Handle` is a map that
-// was made, by `words` or by `bytes` below, and each of them is passed to the functions of its kind alone.
+// was made, by `Words` or by `Bytes` below, and each of them is passed to the functions of its kind alone; and since a `&mut` is not null
+// and overlaps nothing else.
 unsafe extern "C" {
     safe fn flurry_words_new(at: &mut *mut c_void) -> u8;
     safe fn flurry_words_len(words: &mut Handle) -> usize;
@@ -64,7 +66,8 @@ fn done(status: u8) -> Result<(), OutOfMemory> {
 /// A map of numbers.
 pub struct Words(Handle);
 
-// SAFETY: that another thread may have the map is proved of its type; a `Words` is its only owner, and all its calls take `&mut`.
+// SAFETY: that another thread may have the map is proved of its type; a `Words` is its only owner, and all its calls take `&mut`. So one
+// call happens before the next, in whatever thread. The header names what may order them; README says why any order of Rust's will do.
 unsafe impl Send for Words {}
 
 impl Words {
@@ -114,7 +117,7 @@ impl Words {
 
     pub fn pairs(&mut self) -> Vec<(u64, u64)> {
         let mut pairs = vec![Pair::default(); self.len()];
-        // SAFETY: it writes at most `pairs.len()` pairs of two `u64`, and `pairs` is borrowed for the call.
+        // SAFETY: it writes at most `pairs.len()` pairs of two `u64`, and `pairs` is borrowed by `&mut` for the call.
         unsafe { flurry_words_pairs(&mut self.0, pairs.as_mut_ptr(), pairs.len()) };
         pairs.into_iter().map(|pair| (pair.first, pair.second)).collect()
     }
@@ -133,7 +136,8 @@ pub struct Bytes(Handle);
 // SAFETY: as for `Words`.
 unsafe impl Send for Bytes {}
 
-// In each call below a slice is passed as its pointer and its length, and is borrowed for the call.
+// In each call below a slice is passed as its pointer, which is not null, and its length, and is borrowed for the call. What is written is
+// borrowed by `&mut`, and so overlaps nothing else. What is only read may overlap.
 impl Bytes {
     pub fn new() -> Result<Self, OutOfMemory> {
         let mut at = ptr::null_mut();
@@ -153,7 +157,7 @@ impl Bytes {
     /// The length of the whole value, of which as much is copied as `value` has room for.
     pub fn get(&mut self, key: &[u8], value: &mut [u8]) -> Result<Option<usize>, OutOfMemory> {
         let mut len = 0;
-        // SAFETY: the key is read and the value written within its slice, and no two of them overlap, as Rust's references do not.
+        // SAFETY: the key is read and the value written within its slice.
         let status = unsafe { flurry_bytes_get(&mut self.0, key.as_ptr(), key.len(), value.as_mut_ptr(), value.len(), &mut len) };
         Ok(told(status)?.then_some(len))
     }
@@ -185,7 +189,7 @@ impl Bytes {
     pub fn pairs(&mut self) -> (Vec<(usize, usize)>, Vec<u8>) {
         let mut pairs = vec![Pair::default(); self.len()];
         let mut text = vec![0; flurry_bytes_size(&mut self.0)];
-        // SAFETY: it writes at most `pairs.len()` pairs of two lengths, which are `u64` here, and `text.len()` bytes; both are borrowed.
+        // SAFETY: it writes at most `pairs.len()` pairs of two lengths, which are `u64` here, and `text.len()` bytes. They do not overlap.
         unsafe { flurry_bytes_pairs(&mut self.0, pairs.as_mut_ptr(), pairs.len(), text.as_mut_ptr(), text.len()) };
         (pairs.into_iter().map(|pair| (pair.first as usize, pair.second as usize)).collect(), text)
     }

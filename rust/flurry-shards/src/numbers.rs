@@ -72,11 +72,11 @@ impl OwnedMap {
         self.0.remove(key)
     }
 
-    /// Sets the value of the key to what `f` returns for the present one, and returns it.
+    /// Sets the value of the key to what `f` returns for the present one, and returns it. If `f` panics, the map is unchanged and usable.
     ///
     /// # Errors
     ///
-    /// Returns [`OutOfMemory`] if memory cannot be allocated. The map is unchanged.
+    /// Returns [`OutOfMemory`] if memory for the pair cannot be allocated, once `f` has run. The map is unchanged.
     pub fn update(&mut self, key: u64, f: impl FnOnce(Option<u64>) -> u64) -> Result<u64, OutOfMemory> {
         let value = f(self.get(key));
         self.insert(key, value)?;
@@ -92,7 +92,7 @@ impl OwnedMap {
     ///
     /// # Errors
     ///
-    /// Returns [`OutOfMemory`] if memory cannot be allocated. The pairs stay.
+    /// Returns [`OutOfMemory`] if memory for a table cannot be allocated. The pairs stay, and the table may have grown on the way.
     pub fn reserve(&mut self, additional: usize) -> Result<(), OutOfMemory> {
         self.0.reserve(additional)
     }
@@ -108,8 +108,10 @@ impl OwnedMap {
 /// A map that threads share: owned maps behind locks, by a hash of the key.
 ///
 /// A call of one key holds one lock while it runs, and so is atomic. [`len`](SharedMap::len), [`clear`](SharedMap::clear) and
-/// [`for_each`](SharedMap::for_each) go from lock to lock. A function that is passed to [`update`](SharedMap::update) runs under the lock of
-/// its key: it may not call the same map.
+/// [`for_each`](SharedMap::for_each) go from lock to lock.
+///
+/// A function that is passed to [`update`](SharedMap::update) runs under the lock of its key: it may not call the same map. If it panics,
+/// the lock is released and not poisoned: the key has the value that it had, and all calls go on as before.
 pub struct SharedMap(Shards<OwnedMap>);
 
 impl SharedMap {
@@ -117,7 +119,7 @@ impl SharedMap {
     ///
     /// # Errors
     ///
-    /// Returns [`OutOfMemory`] if memory cannot be allocated.
+    /// Returns [`OutOfMemory`] if memory for the locks or for the maps cannot be allocated.
     pub fn new(shards: usize) -> Result<Self, OutOfMemory> {
         Shards::new(shards, OwnedMap::new).map(SharedMap)
     }
@@ -157,7 +159,7 @@ impl SharedMap {
         self.0.of(&key).remove(key)
     }
 
-    /// As [`OwnedMap::update`]; no other call of the key comes between.
+    /// As [`OwnedMap::update`]; no other call of the key comes between. If `f` panics, the lock is not poisoned.
     pub fn update(&self, key: u64, f: impl FnOnce(Option<u64>) -> u64) -> Result<u64, OutOfMemory> {
         self.0.of(&key).update(key, f)
     }

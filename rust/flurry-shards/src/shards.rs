@@ -10,15 +10,19 @@ use std::sync::{Mutex, MutexGuard, PoisonError};
 struct Shard<M>(Mutex<M>);
 
 pub struct Shards<M> {
-    shards: Box<[Shard<M>]>,
+    shards: Vec<Shard<M>>,
     hasher: RandomState,
 }
 
 impl<M> Shards<M> {
     /// As many as `count`, rounded up to a power of two.
     pub fn new(count: usize, new: fn() -> Result<M, OutOfMemory>) -> Result<Self, OutOfMemory> {
-        let shard = |_| new().map(|map| Shard(Mutex::new(map)));
-        let shards = (0..count.max(1).next_power_of_two()).map(shard).collect::<Result<_, _>>()?;
+        let count = count.max(1).checked_next_power_of_two().ok_or(OutOfMemory)?;
+        let mut shards = Vec::new();
+        shards.try_reserve_exact(count).map_err(|_| OutOfMemory)?;
+        for _ in 0..count {
+            shards.push(Shard(Mutex::new(new()?)));
+        }
         Ok(Shards { shards, hasher: RandomState::new() })
     }
 
