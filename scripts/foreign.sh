@@ -1,10 +1,11 @@
 #!/usr/bin/env bash
-# Tries libflurry.a from C and from Rust, over what `./flurry-c` leaves. Says what is not tried, where there is no `cc` or no `cargo`. Each
-# fault is told, and the status is then 1.
+# Tries libflurry.a from C and from Rust, over what `./flurry-c` leaves. Each fault is told, and the status is then 1. Without `cargo`
+# nothing is tried in Rust. Without `cc`, by which cargo links too, nothing is tried at all, and the status is 3. Both are said.
 #
 # In C: the names in the header; the example of README, also as C++; and, under the address sanitizer, calls of which each request for
-# memory is refused in turn, and random calls of sets beside arrays of flags. In Rust: the tests of rust/flurry-shards and the examples in
-# its comments.
+# memory is refused in turn, and random calls of maps and of sets beside arrays. The sanitizer sees the blocks of the archive and what the
+# archive passes to the C library; its own reads and writes are not instrumented. In Rust: the tests of rust/flurry-shards and the examples
+# in its comments.
 set -euo pipefail
 
 here=$(CDPATH='' cd -- "$(dirname -- "$(readlink -f -- "${BASH_SOURCE[0]}")")/.." && pwd -P)
@@ -27,9 +28,13 @@ try_names() {
     fi
 }
 
+readme_example() {
+    awk '/^```c$/ { inside = 1; next } /^```$/ && inside { exit } inside' README.md
+}
+
 # The example of README is the file that is compiled here.
 try_example() {
-    if ! diff -u --label README.md --label c/first.c <(awk '/^```c$/ { inside = 1; next } /^```$/ && inside { exit } inside' README.md) c/first.c >&2; then
+    if ! diff -u --label README.md --label c/first.c <(readme_example) c/first.c >&2; then
         fault "the C example of README is not c/first.c"
     fi
     if ! cc -std=c99 -Wall -Wextra -Wpedantic -Werror -Ilib c/first.c lib/libflurry.a -o "$room/first"; then
@@ -52,18 +57,23 @@ try_test() {
     fi
 }
 
+try_rust() {
+    if ! command -v cargo >/dev/null 2>&1; then
+        echo "foreign: there is no 'cargo', so nothing was tried in Rust" >&2
+    elif ! FLURRY_LIB=$here/lib cargo test --quiet --release --offline --manifest-path rust/flurry-shards/Cargo.toml; then
+        fault "a test of rust/flurry-shards fails"
+    fi
+}
+
+if ! command -v cc >/dev/null 2>&1; then
+    echo "foreign: there is no 'cc', so nothing was tried in C or in Rust" >&2
+    exit 3
+fi
 ./flurry-c
-if command -v cc >/dev/null 2>&1; then
-    try_names
-    try_example
-    try_test refused
-    try_test sets
-else
-    echo "foreign: there is no 'cc', so nothing was tried in C" >&2
-fi
-if command -v cargo >/dev/null 2>&1; then
-    FLURRY_LIB=$here/lib cargo test --quiet --release --offline --manifest-path rust/flurry-shards/Cargo.toml || fault "a test of rust/flurry-shards fails"
-else
-    echo "foreign: there is no 'cargo', so nothing was tried in Rust" >&2
-fi
+try_names
+try_example
+try_test refused
+try_test maps
+try_test sets
+try_rust
 exit "$status"
