@@ -1,5 +1,5 @@
 /* For tests: requests for memory, one of which is refused where a test asks for that; how many blocks are not given back, and how large the
- * largest request was; draws; and a check. Linked with -Wl,--wrap=malloc,--wrap=realloc,--wrap=free. */
+ * largest was; draws; and a check. Linked with -Wl,--wrap=malloc,--wrap=realloc,--wrap=free. */
 #include <stdint.h>
 #include <stdio.h>
 #include <stdlib.h>
@@ -14,11 +14,12 @@ static long refuse_after = -1, blocks, refusals;
 static size_t largest;
 
 static int refuses(size_t size) {
+    if (refuse_after >= 0 && refuse_after-- == 0) {
+        refusals++;
+        return 1;
+    }
     if (size > largest) largest = size;
-    if (refuse_after < 0) return 0;
-    if (refuse_after-- > 0) return 0;
-    refusals++;
-    return 1;
+    return 0;
 }
 
 void *__wrap_malloc(size_t size) {
